@@ -1,0 +1,173 @@
+-- A proof by the rules of a crate's view is a proof in the linked set.
+use Rattle.std.proofs.Common.{◌≡◌, ℕ, zero, suc, Bool, true, false, List, [], ◌∷◌, ◌++◌, refl, ap, sym, ◌∙◌, ◌&&◌, ◌||◌, ◌==◌, if◌then◌else◌, subst, ◌⊎◌, inl, inr, map, filter, append_assoc}
+use Rattle.std.specs.List.{flat_map, list_any}
+use Rattle.model.specs.Label.{Label, adt, array, slice, raw_pointer, reference, param, tuple}
+use Rattle.model.specs.Trees.{Trees, none, tree}
+use Rattle.model.specs.Codes.{same_label}
+use Rattle.model.specs.Worlds.{World, Reference, StructDecl, TraitDecl, ImplDecl, structs_named, traits_named, sees, view_of}
+use Rattle.model.specs.Walks.{struct_is}
+use Rattle.model.specs.Rules.{Rule, rules, impl_rules, built_in_rules, sized_rules, copy_rules, auto_rules, auto_rules_plain, unsize_rules, is_auto, is_written, same_head, sized, copy, clone, unsize, row, last_asked, each_asked, fields_of, is_coinductive}
+use Rattle.model.specs.Proofs.{Entry, In, Every, Stands, Follows, IsProof, HasProof}
+use Rattle.model.specs.LinkedSet.{AutoAtHome}
+use Rattle.model.proofs.Members.{here, there, in-cases, in-nothing, in-filter, filter-in, some-member, member-some, in-append, in-left, in-right, in-flat, flat-in, true-or-false, not-both, so-false, same-number}
+use Rattle.model.proofs.Walking.{left, right, or-left, or-right, or-cases}
+use Rattle.model.proofs.Matching.{same-label-sound}
+use Rattle.model.proofs.Entries.{every-map, stands-more}
+use Rattle.model.proofs.Unseen.{OneEach, struct-there}
+
+struct-up : (W : World) (c s : ℕ) (x : StructDecl) → In x (structs_named (view_of W c) s) → In x (structs_named W s)
+struct-up W c s x h =
+    let a = in-filter (λ (y : StructDecl). y.name == s) (view_of W c).structs x h in
+    filter-in (λ (y : StructDecl). y.name == s) W.structs x (in-filter (λ (y : StructDecl). sees W c y.home) W.structs x a.0).0 a.1
+
+flat-up : (W : World) (c s : ℕ) (f : StructDecl → List Rule) (u : Rule) → In u (flat_map f (structs_named (view_of W c) s)) → In u (flat_map f (structs_named W s))
+flat-up W c s f u h = let m = in-flat f (structs_named (view_of W c) s) u h in flat-in f (structs_named W s) m.0 u (struct-up W c s m.0 m.1) m.2
+
+auto-up : (W : World) (c t : ℕ) → is_auto (view_of W c) t ≡ true → is_auto W t ≡ true
+auto-up W c t h =
+    let x = some-member (λ (y : TraitDecl). y.is_auto) (traits_named (view_of W c) t) h in
+    let a = in-filter (λ (y : TraitDecl). y.name == t) (view_of W c).traits x.0 x.1 in
+    member-some (λ (y : TraitDecl). y.is_auto) (traits_named W t) x.0 (filter-in (λ (y : TraitDecl). y.name == t) W.traits x.0 (in-filter (λ (y : TraitDecl). sees W c y.home) W.traits x.0 a.0).0 a.1) x.2
+
+sized-up : (W : World) (c : ℕ) (a : Trees) (u : Rule) → In u (sized_rules (view_of W c) a) → In u (sized_rules W a)
+sized-up W c none u h = h
+sized-up W c (tree (adt s) k o) u h = flat-up W c s (λ x. row 3 (last_asked sized (fields_of x k))) u h
+sized-up W c (tree l k o) u h = h
+
+plain-up : (W : World) (c t : ℕ) (a : Trees) (u : Rule) → In u (auto_rules_plain (view_of W c) t a) → In u (auto_rules_plain W t a)
+plain-up W c t none u h = h
+plain-up W c t (tree (adt s) k o) u h = flat-up W c s (λ x. row 10 (each_asked t (fields_of x k))) u h
+plain-up W c t (tree (raw_pointer _) none p) u h = h
+plain-up W c t (tree (raw_pointer _) (tree l k o) p) u h = h
+plain-up W c t (tree array none p) u h = h
+plain-up W c t (tree array (tree l k o) p) u h = h
+plain-up W c t (tree slice none p) u h = h
+plain-up W c t (tree slice (tree l k o) p) u h = h
+plain-up W c t (tree (reference _) none p) u h = h
+plain-up W c t (tree (reference _) (tree r rc none) p) u h = h
+plain-up W c t (tree (reference _) (tree r rc (tree l k o)) p) u h = h
+plain-up W c t (tree l k o) u h = h
+
+-- the struct of a rule that the view has is of the view
+struct-of : (W : World) (c t s : ℕ) (k o : Trees) (u : Rule) → In u (auto_rules_plain (view_of W c) t (tree (adt s) k o)) → (x : StructDecl) × In x W.structs × (x.name ≡ s) × (sees W c x.home ≡ true)
+struct-of W c t s k o u h =
+    let m = in-flat (λ x. row 10 (each_asked t (fields_of x k))) (structs_named (view_of W c) s) u h in
+    let a = in-filter (λ (y : StructDecl). y.name == s) (view_of W c).structs m.0 m.1 in
+    let b = in-filter (λ (y : StructDecl). sees W c y.home) W.structs m.0 a.0 in
+    (m.0, b.0, same-number m.0.name s a.1, b.1)
+
+-- an impl that switches a rule of the view off is of the view
+off : (W : World) → OneEach W → AutoAtHome W → (c t : ℕ) → is_auto W t ≡ true → (l : Label) (k o : Trees) (u : Rule) → In u (auto_rules_plain (view_of W c) t (tree l k o))
+    → is_written (view_of W c) t l ≡ false → is_written W t l ≡ false
+off W one home c t au l k o u h e = so-false _ (λ g. no (some-member (λ (i : ImplDecl). (i.header.trait == t) && same_head l i.header.args) W.impls g))
+  where
+    no : (i : ImplDecl) × In i W.impls × ((i.header.trait == t) && same_head l i.header.args ≡ true) → ⊥
+    no m = by (home i m.1 (subst (λ v. is_auto W v ≡ true) (sym tr) au))
+      where
+        i : ImplDecl
+        i = m.0
+
+        tr : i.header.trait ≡ t
+        tr = same-number i.header.trait t (left (i.header.trait == t) _ m.2)
+
+        by : (s : ℕ) × (ks : Trees) × (os : Trees) × (i.header.args ≡ tree (adt s) ks os) × (struct_is (λ x. x.home == i.home) W s ≡ true) → ⊥
+        by q = not-both (is_written (view_of W c) t l) on e
+          where
+            head : l ≡ adt q.0
+            head = same-label-sound l (adt q.0) (subst (λ z. same_head l z ≡ true) q.3 (right (i.header.trait == t) _ m.2))
+
+            x : (x : StructDecl) × In x W.structs × (x.name ≡ q.0) × (sees W c x.home ≡ true)
+            x = struct-of W c t q.0 k o u (subst (λ z. In u (auto_rules_plain (view_of W c) t (tree z k o))) head h)
+
+            y : (y : StructDecl) × In y W.structs × (y.name ≡ q.0) × ((y.home == i.home) ≡ true)
+            y = struct-there (λ z. z.home == i.home) W q.0 q.4
+
+            seen-home : sees W c i.home ≡ true
+            seen-home = subst (λ v. sees W c v ≡ true) (ap (λ (z : StructDecl). z.home) (one.0 x.0 y.0 x.1 y.1 (x.2 ∙ sym y.2)) ∙ same-number y.0.home i.home y.3) x.3
+
+            on : is_written (view_of W c) t l ≡ true
+            on = member-some (λ (j : ImplDecl). (j.header.trait == t) && same_head l j.header.args) (view_of W c).impls i (filter-in (λ (j : ImplDecl). sees W c j.home) W.impls i m.1 seen-home) m.2
+
+auto-rules-up : (W : World) → OneEach W → AutoAtHome W → (c t : ℕ) → is_auto W t ≡ true → (a : Trees) (u : Rule) → In u (auto_rules (view_of W c) t a) → In u (auto_rules W t a)
+auto-rules-up W one home c t au none u h = h
+auto-rules-up W one home c t au (tree l k o) u h = by (is_written (view_of W c) t l) (is_written W t l) refl refl h
+  where
+    by : (v w : Bool) → is_written (view_of W c) t l ≡ v → is_written W t l ≡ w → In u (if v then [] else auto_rules_plain (view_of W c) t (tree l k o))
+        → In u (if w then [] else auto_rules_plain W t (tree l k o))
+    by true w e f g = absurd (in-nothing u g)
+    by false true e f g = absurd (not-both (is_written W t l) f (off W one home c t au l k o u g e))
+    by false false e f g = plain-up W c t (tree l k o) u g
+
+ups : (us vs us' vs' : List Rule) (u : Rule) → (In u us → In u us') → (In u vs → In u vs') → In u (us ++ vs) → In u (us' ++ vs')
+ups us vs us' vs' u f g h = by (in-append u us vs h)
+  where
+    by : In u us ⊎ In u vs → In u (us' ++ vs')
+    by (inl e) = in-left u us' vs' (f e)
+    by (inr e) = in-right u us' vs' (g e)
+
+cond-up : (b d : Bool) (us vs : List Rule) (u : Rule) → (b ≡ true → d ≡ true) → (b ≡ true → In u us → In u vs) → In u (if b then us else []) → In u (if d then vs else [])
+cond-up true true us vs u f g h = g refl h
+cond-up true false us vs u f g h = let e = f refl in absurd (not-both true refl (sym e))
+cond-up false d us vs u f g h = absurd (in-nothing u h)
+
+-- the rules of a view are rules of the set
+pub rules-up : (W : World) → OneEach W → AutoAtHome W → (c : ℕ) (r : Reference) (u : Rule) → In u (rules (view_of W c) [] r) → In u (rules W [] r)
+rules-up W one home c r u =
+    ups (flat_map (impl_rules r) (view_of W c).impls) (built_in_rules (view_of W c) r ++ []) (flat_map (impl_rules r) W.impls) (built_in_rules W r ++ []) u
+    (λ h. let m = in-flat (impl_rules r) (view_of W c).impls u h in flat-in (impl_rules r) W.impls m.0 u (in-filter (λ (i : ImplDecl). sees W c i.home) W.impls m.0 m.1).0 m.2)
+    (ups (built_in_rules (view_of W c) r) [] (built_in_rules W r) [] u built (λ h. h))
+  where
+    t : ℕ
+    t = r.trait
+
+    a : Trees
+    a = r.args
+
+    s1 : World → List Rule
+    s1 V = if t == sized then sized_rules V a else []
+
+    s2 : List Rule
+    s2 = if (t == copy) || (t == clone) then copy_rules t a else []
+
+    s3 : World → List Rule
+    s3 V = if is_auto V t then auto_rules V t a else []
+
+    s4 : List Rule
+    s4 = if t == unsize then unsize_rules a else []
+
+    built : In u (built_in_rules (view_of W c) r) → In u (built_in_rules W r)
+    built =
+        ups (s1 (view_of W c)) (s2 ++ (s3 (view_of W c) ++ s4)) (s1 W) (s2 ++ (s3 W ++ s4)) u
+        (cond-up (t == sized) (t == sized) (sized_rules (view_of W c) a) (sized_rules W a) u (λ e. e) (λ e h. sized-up W c a u h))
+        (ups s2 (s3 (view_of W c) ++ s4) s2 (s3 W ++ s4) u (λ h. h)
+        (ups (s3 (view_of W c)) s4 (s3 W) s4 u
+        (cond-up (is_auto (view_of W c) t) (is_auto W t) (auto_rules (view_of W c) t a) (auto_rules W t a) u (auto-up W c t)
+        (λ e h. auto-rules-up W one home c t (auto-up W c t e) a u h))
+        (λ h. h)))
+
+-- ---- a proof by the view is a proof by the set
+coinductive-up : (W : World) (c t : ℕ) → is_coinductive (view_of W c) t ≡ true → is_coinductive W t ≡ true
+coinductive-up W c t h = by (or-cases (is_auto (view_of W c) t) (t == sized) h)
+  where
+    by : (is_auto (view_of W c) t ≡ true) ⊎ ((t == sized) ≡ true) → is_auto W t || (t == sized) ≡ true
+    by (inl e) = or-left (is_auto W t) _ (auto-up W c t e)
+    by (inr e) = or-right (is_auto W t) (t == sized) e
+
+follows-up : (W : World) → OneEach W → AutoAtHome W → (c : ℕ) (all earlier rest : List Entry) → all ≡ earlier ++ rest
+    → Follows (view_of W c) [] all earlier rest → Follows W [] all earlier rest
+follows-up W one home c all earlier [] q f = tt
+follows-up W one home c all earlier (e ∷ rest) q f = (
+  rules-up W one home c e.of e.rule f.0,
+  every-map (λ p. Stands p (if is_coinductive (view_of W c) e.of.trait then all else earlier)) (λ p. Stands p (if is_coinductive W e.of.trait then all else earlier))
+      e.rule.premises (at (is_coinductive (view_of W c) e.of.trait) (is_coinductive W e.of.trait) (coinductive-up W c e.of.trait)) f.1,
+  follows-up W one home c all (earlier ++ e ∷ []) rest (q ∙ sym (append_assoc earlier (e ∷ []) rest)) f.2,
+)
+  where
+    at : (v w : Bool) → (v ≡ true → w ≡ true) → (p : Reference) → Stands p (if v then all else earlier) → Stands p (if w then all else earlier)
+    at true true g p s = s
+    at true false g p s = absurd (not-both true refl (sym (g refl)))
+    at false true g p s = subst (Stands p) (sym q) (stands-more p earlier (e ∷ rest) s)
+    at false false g p s = s
+
+pub proof-up : (W : World) → OneEach W → AutoAtHome W → (c : ℕ) (r : Reference) → HasProof (view_of W c) [] r → HasProof W [] r
+proof-up W one home c r p = (p.0, follows-up W one home c p.0 [] p.0 refl p.1, p.2)

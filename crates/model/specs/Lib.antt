@@ -1,0 +1,10 @@
+pub mod Label
+pub mod Trees
+pub mod Codes
+pub mod Worlds
+pub mod Rules
+pub mod Proofs
+pub mod Walks
+pub mod Answers
+pub mod LinkedSet
+pub mod Texts

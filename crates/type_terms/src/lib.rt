@@ -1,0 +1,51 @@
+//! Numbers of declared items, and what a call can want.
+#![tactic(auto)]
+
+ghost use Rattle.std.specs.Prelude.{◌≤◌};
+ghost use Rattle.type_terms.specs.declared.TheConstants.{MAX_INDEX};
+
+/// Why a call gave no answer. Nothing that was there before is lost: each handle keeps its term.
+///
+/// It belongs to this project: in the original, building a term cannot fail.
+#[derive(Clone, Copy, Debug, PartialEq, Eq, thiserror::Error)]
+pub enum Fault {
+    /// A request for memory was refused.
+    #[error("out of memory")]
+    Memory,
+    /// A table holds as many entries as its limit allows, and the term that was asked for is not among them.
+    #[error("a table is full")]
+    Full,
+}
+
+/// The greatest number of an item or a variable: a number above it is never made.
+///
+/// The original keeps the rest of the range of u32 for its own use (`rustc_index::newtype_index!`).
+pub const MAX_INDEX: u32 = 0xFFFF_FF00;
+
+/// A crate, by its place in the text. The crate `core` is 0.
+#[derive(Clone, Copy, Debug, PartialEq, Eq, PartialOrd, Ord, Hash)]
+pub struct CrateId {
+    pub index: u32,
+    ghost in_range: { index ≤ MAX_INDEX },
+}
+
+/// A struct, by its place among all structs; `Box` of `core` is 0.
+#[derive(Clone, Copy, Debug, PartialEq, Eq, PartialOrd, Ord, Hash)]
+pub struct AdtId {
+    pub index: u32,
+    ghost in_range: { index ≤ MAX_INDEX },
+}
+
+/// A trait, by its place among all traits; those of `core` come first.
+#[derive(Clone, Copy, Debug, PartialEq, Eq, PartialOrd, Ord, Hash)]
+pub struct TraitId {
+    pub index: u32,
+    ghost in_range: { index ≤ MAX_INDEX },
+}
+
+/// An impl, by its place among all impls; those of `core` come first.
+#[derive(Clone, Copy, Debug, PartialEq, Eq, PartialOrd, Ord, Hash)]
+pub struct ImplId {
+    pub index: u32,
+    ghost in_range: { index ≤ MAX_INDEX },
+}
