@@ -1,14 +1,14 @@
 -- What an entry of a proof says; rules that are of an impl are of an impl of the world.
-use Rattle.std.proofs.Common.{◌≡◌, ℕ, zero, suc, Bool, true, false, List, [], ◌∷◌, ◌++◌, refl, ap, sym, ◌∙◌, ◌&&◌, ◌||◌, ◌==◌, if◌then◌else◌, subst, ◌⊎◌, inl, inr, map, append_assoc, append-nil}
+use Rattle.std.proofs.Common.{◌≡◌, ℕ, Bool, true, false, List, [], ◌∷◌, ◌++◌, refl, sym, ◌∙◌, ◌&&◌, ◌||◌, ◌==◌, not, if◌then◌else◌, subst, ◌⊎◌, inl, inr, map, append_assoc}
 use Rattle.std.specs.List.{flat_map, list_all, list_any}
-use Rattle.model.specs.Label.{Label, array, slice, raw_pointer, reference, adt, tuple, fn_ptr}
+use Rattle.model.specs.Label.{array, slice, raw_pointer, reference, adt, tuple, fn_ptr, dynamic}
 use Rattle.model.specs.Codes.{same}
 use Rattle.model.specs.Trees.{Trees, none, tree}
-use Rattle.model.specs.Worlds.{World, Reference, StructDecl, TraitDecl, ImplDecl, structs_named}
-use Rattle.model.specs.Rules.{Rule, Way, by_impl, by_clause, by_super, built_in, rules, impl_rules, built_in_rules, sized_rules, copy_rules, auto_rules, auto_rules_plain, unsize_rules, is_auto, is_written, sized, copy, clone, unsize, row, last_asked, each_asked, fields_of, is_coinductive}
-use Rattle.model.specs.Proofs.{Entry, In, Every, Stands, Follows, IsProof, HasProof, HasProofByImpl}
+use Rattle.model.specs.Worlds.{World, Reference, ImplDecl, structs_named}
+use Rattle.model.specs.Rules.{BuiltIn, sized_struct, auto_struct, fn_ptr_call, unsize_array, unsize_to_dyn, unsize_upcast, unsize_struct, object_auto, object_principal, Rule, Way, by_impl, by_clause, by_super, built_in, rules, impl_rules, built_in_rules, plain_rules, sized_rules, copy_rules, tuple_rules, fn_ptr_rules, call_rules, but_last, auto_rules, auto_rules_plain, unsize_rules, unsize_array_rules, unsize_to_dyn_rules, unsize_upcast_rules, unsize_struct_rules, last_unsizes, object_rules, object_bound_rules, is_declared, are_dyn_compatible, same_reference, elaborated, strict_supertraits, is_auto, is_written, is_fn_trait, sized, copy, clone, tuple_trait, fn_ptr_trait, unsize, row, last_asked, each_asked, fields_of, is_coinductive}
+use Rattle.model.specs.Proofs.{Entry, In, Every, Stands, Follows, IsProof, HasProof}
 use Rattle.model.proofs.Members.{here, there, in-cases, in-nothing, in-append, in-left, in-map, in-flat}
-use Rattle.model.proofs.Walking.{left, right, both}
+use Rattle.model.proofs.RuleLists.{append-all, if-all, unless-all, row-all, flat-all, member-all}
 
 pub map-in : {A B : Type 0} (f : A → B) (xs : List A) (y : B) → In y (map f xs) → (x : A) × In x xs × (f x ≡ y)
 map-in f [] y h = absurd (in-nothing y h)
@@ -51,110 +51,130 @@ entry-proved W E ps f e h =
     let m = entry-stands W E ps [] ps refl f e h in
     (m.0, every-map (λ p. Stands p ps) (HasProof W E) e.rule.premises (λ p s. (ps, f, s)) m.1)
 
--- ---- built-in rules are of no impl
+-- Built-in rules are of no impl
 abbrev way-built-in : Way → Bool
 way-built-in (built_in n) = true
 way-built-in _ = false
 
-abbrev all-built-in : List Rule → Bool
-all-built-in us = list_all (λ u. way-built-in u.way) us
+abbrev is-built-in : Rule → Bool
+is-built-in u = way-built-in u.way
 
-flat-built-in : {A : Type 0} (f : A → List Rule) (xs : List A) → ((x : A) → all-built-in (f x) ≡ true) → all-built-in (flat_map f xs) ≡ true
-flat-built-in f [] h = refl
-flat-built-in f (x ∷ xs) h = append-built-in (f x) (flat_map f xs) (h x) (flat-built-in f xs h)
+abbrev Built : List Rule → Type 0
+Built us = list_all is-built-in us ≡ true
+
+built-row : (n : BuiltIn) (ps : List Reference) → Built (row n ps)
+built-row n ps = row-all is-built-in n ps refl
+
+sized-built : (W : World) (a : Trees) → Built (sized_rules W a)
+sized-built W none = refl
+sized-built W (tree (adt s) k o) = flat-all is-built-in (λ x. row sized_struct (last_asked sized (fields_of x k))) (structs_named W s) (λ x g. refl)
+sized-built W (tree l k o) = refl
+
+copy-built : (t : ℕ) (a : Trees) → Built (copy_rules t a)
+copy-built t none = refl
+copy-built t (tree (fn_ptr _) k o) = refl
+copy-built t (tree tuple k o) = refl
+copy-built t (tree l k o) = refl
+
+tuple-built : (a : Trees) → Built (tuple_rules a)
+tuple-built none = refl
+tuple-built (tree tuple k o) = refl
+tuple-built (tree l k o) = refl
+
+fn-ptr-built : (a : Trees) → Built (fn_ptr_rules a)
+fn-ptr-built none = refl
+fn-ptr-built (tree (fn_ptr _) k o) = refl
+fn-ptr-built (tree l k o) = refl
+
+call-built : (a : Trees) → Built (call_rules a)
+call-built (tree (fn_ptr _) types (tree tuple inputs o)) = if-all is-built-in (same (but_last types) inputs) (row fn_ptr_call (last_asked sized types)) refl
+call-built a = refl
+
+plain-built : (r : Reference) → Built (plain_rules r)
+plain-built r =
+    append-all is-built-in (if (r.trait == copy) || (r.trait == clone) then copy_rules r.trait r.args else []) _
+    (if-all is-built-in ((r.trait == copy) || (r.trait == clone)) (copy_rules r.trait r.args) (copy-built r.trait r.args))
+    (append-all is-built-in (if r.trait == tuple_trait then tuple_rules r.args else []) _
+    (if-all is-built-in (r.trait == tuple_trait) (tuple_rules r.args) (tuple-built r.args))
+    (append-all is-built-in (if r.trait == fn_ptr_trait then fn_ptr_rules r.args else []) _
+    (if-all is-built-in (r.trait == fn_ptr_trait) (fn_ptr_rules r.args) (fn-ptr-built r.args))
+    (if-all is-built-in (is_fn_trait r.trait) (call_rules r.args) (call-built r.args))))
+
+auto-plain-built : (W : World) (t : ℕ) (a : Trees) → Built (auto_rules_plain W t a)
+auto-plain-built W t none = refl
+auto-plain-built W t (tree (adt s) k o) = flat-all is-built-in (λ x. row auto_struct (each_asked t (fields_of x k))) (structs_named W s) (λ x g. refl)
+auto-plain-built W t (tree (raw_pointer _) none p) = refl
+auto-plain-built W t (tree (raw_pointer _) (tree l k o) p) = refl
+auto-plain-built W t (tree array none p) = refl
+auto-plain-built W t (tree array (tree l k o) p) = refl
+auto-plain-built W t (tree slice none p) = refl
+auto-plain-built W t (tree slice (tree l k o) p) = refl
+auto-plain-built W t (tree (reference _) none p) = refl
+auto-plain-built W t (tree (reference _) (tree r rc none) p) = refl
+auto-plain-built W t (tree (reference _) (tree r rc (tree l k o)) p) = refl
+auto-plain-built W t (tree l k o) = refl
+
+auto-built : (W : World) (t : ℕ) (a : Trees) → Built (auto_rules W t a)
+auto-built W t none = refl
+auto-built W t (tree l k o) = unless-all is-built-in (is_written W t l) (auto_rules_plain W t (tree l k o)) (auto-plain-built W t (tree l k o))
+
+unsize-array-built : (a : Trees) → Built (unsize_array_rules a)
+unsize-array-built (tree array (tree l c n) (tree slice (tree m d p) o)) = if-all is-built-in (same (tree l c none) (tree m d none)) (row unsize_array []) refl
+unsize-array-built a = refl
+
+unsize-to-dyn-built : (W : World) (a : Trees) → Built (unsize_to_dyn_rules W a)
+unsize-to-dyn-built W (tree l c (tree dynamic b o)) = if-all is-built-in _ (row unsize_to_dyn _) refl
+unsize-to-dyn-built W a = refl
+
+unsize-upcast-built : (W : World) (a : Trees) → Built (unsize_upcast_rules W a)
+unsize-upcast-built W (tree dynamic a (tree dynamic b o)) = if-all is-built-in _ (row unsize_upcast []) refl
+unsize-upcast-built W a = refl
+
+unsize-struct-built : (W : World) (a : Trees) → Built (unsize_struct_rules W a)
+unsize-struct-built W (tree (adt s) a (tree (adt u) b o)) =
+    if-all is-built-in (s == u) _ (flat-all is-built-in _ (structs_named W s) (λ x g. if-all is-built-in _ (row unsize_struct (last_unsizes x.fields a b)) refl))
+unsize-struct-built W a = refl
+
+unsize-built : (W : World) (a : Trees) → Built (unsize_rules W a)
+unsize-built W a =
+    append-all is-built-in (unsize_array_rules a) _ (unsize-array-built a)
+    (append-all is-built-in (unsize_to_dyn_rules W a) _ (unsize-to-dyn-built W a)
+    (append-all is-built-in (unsize_upcast_rules W a) _ (unsize-upcast-built W a) (unsize-struct-built W a)))
+
+object-bound-built : (W : World) (r : Reference) (ps qs : List Reference) → Built (object_bound_rules W r ps qs)
+object-bound-built W r ps qs =
+    if-all is-built-in (is_declared W r.trait && are_dyn_compatible W ps) (autos ++ principal)
+    (append-all is-built-in autos principal
+    (if-all is-built-in (list_any (same_reference r) qs) (row object_auto (strict_supertraits W r)) refl)
+    (if-all is-built-in (not (r.trait == sized) && list_any (same_reference r) (elaborated W ps)) (row object_principal (strict_supertraits W r)) refl))
   where
-    append-built-in : (us vs : List Rule) → all-built-in us ≡ true → all-built-in vs ≡ true → all-built-in (us ++ vs) ≡ true
-    append-built-in [] vs e g = g
-    append-built-in (u ∷ us) vs e g = both (way-built-in u.way) _ (left (way-built-in u.way) _ e) (append-built-in us vs (right (way-built-in u.way) _ e) g)
+    autos : List Rule
+    autos = if list_any (same_reference r) qs then row object_auto (strict_supertraits W r) else []
 
-sized-built-in : (W : World) (a : Trees) → all-built-in (sized_rules W a) ≡ true
-sized-built-in W none = refl
-sized-built-in W (tree (adt s) k o) = flat-built-in (λ x. row 3 (last_asked sized (fields_of x k))) (structs_named W s) (λ x. refl)
-sized-built-in W (tree l k o) = refl
+    principal : List Rule
+    principal = if not (r.trait == sized) && list_any (same_reference r) (elaborated W ps) then row object_principal (strict_supertraits W r) else []
 
-copy-built-in : (t : ℕ) (a : Trees) → all-built-in (copy_rules t a) ≡ true
-copy-built-in t none = refl
-copy-built-in t (tree (fn_ptr _) k o) = refl
-copy-built-in t (tree tuple k o) = refl
-copy-built-in t (tree l k o) = refl
+object-built : (W : World) (r : Reference) (a : Trees) → Built (object_rules W r a)
+object-built W r none = refl
+object-built W r (tree dynamic k o) = object-bound-built W r _ _
+object-built W r (tree l k o) = refl
 
-plain-built-in : (W : World) (t : ℕ) (a : Trees) → all-built-in (auto_rules_plain W t a) ≡ true
-plain-built-in W t none = refl
-plain-built-in W t (tree (adt s) k o) = flat-built-in (λ x. row 10 (each_asked t (fields_of x k))) (structs_named W s) (λ x. refl)
-plain-built-in W t (tree (raw_pointer _) none p) = refl
-plain-built-in W t (tree (raw_pointer _) (tree l k o) p) = refl
-plain-built-in W t (tree array none p) = refl
-plain-built-in W t (tree array (tree l k o) p) = refl
-plain-built-in W t (tree slice none p) = refl
-plain-built-in W t (tree slice (tree l k o) p) = refl
-plain-built-in W t (tree (reference _) none p) = refl
-plain-built-in W t (tree (reference _) (tree r rc none) p) = refl
-plain-built-in W t (tree (reference _) (tree r rc (tree l k o)) p) = refl
-plain-built-in W t (tree l k o) = refl
+built-in-built : (W : World) (r : Reference) → Built (built_in_rules W r)
+built-in-built W r =
+    append-all is-built-in (plain_rules r) _ (plain-built r)
+    (append-all is-built-in (if r.trait == sized then sized_rules W r.args else []) _ (if-all is-built-in (r.trait == sized) (sized_rules W r.args) (sized-built W r.args))
+    (append-all is-built-in (if is_auto W r.trait then auto_rules W r.trait r.args else []) _ (if-all is-built-in (is_auto W r.trait) (auto_rules W r.trait r.args) (auto-built W r.trait r.args))
+    (append-all is-built-in (if r.trait == unsize then unsize_rules W r.args else []) _ (if-all is-built-in (r.trait == unsize) (unsize_rules W r.args) (unsize-built W r.args))
+    (object-built W r r.args))))
 
-auto-built-in : (W : World) (t : ℕ) (a : Trees) → all-built-in (auto_rules W t a) ≡ true
-auto-built-in W t none = refl
-auto-built-in W t (tree l k o) = by (is_written W t l)
-  where
-    by : (b : Bool) → all-built-in (if b then [] else auto_rules_plain W t (tree l k o)) ≡ true
-    by true = refl
-    by false = plain-built-in W t (tree l k o)
-
-unsize-built-in : (a : Trees) → all-built-in (unsize_rules a) ≡ true
-unsize-built-in (tree array (tree l c n) (tree slice (tree m d p) o)) = by (same (tree l c none) (tree m d none))
-  where
-    by : (b : Bool) → all-built-in (if b then row 11 [] else []) ≡ true
-    by true = refl
-    by false = refl
-unsize-built-in a = refl
-
-cond-built-in : (b : Bool) (us : List Rule) → all-built-in us ≡ true → all-built-in (if b then us else []) ≡ true
-cond-built-in true us h = h
-cond-built-in false us h = refl
-
-each-member : (p : Rule → Bool) (us : List Rule) → list_all p us ≡ true → (u : Rule) → In u us → p u ≡ true
-each-member p [] h u g = absurd (in-nothing u g)
-each-member p (v ∷ us) h u g = by (in-cases u v us g) (each-member p us (right (p v) _ h) u)
-  where
-    by : (v ≡ u) ⊎ In u us → (In u us → p u ≡ true) → p u ≡ true
-    by (inl q) f = ap p (sym q) ∙ left (p v) _ h
-    by (inr q) f = f q
-
-no-impl : (us : List Rule) → all-built-in us ≡ true → (u : Rule) (n : ℕ) → In u us → u.way ≡ by_impl n → ⊥
-no-impl us h u n g e = no u.way e (each-member (λ v. way-built-in v.way) us h u g)
+pub built-in-of-no-impl : (W : World) (r : Reference) (u : Rule) (n : ℕ) → In u (built_in_rules W r) → u.way ≡ by_impl n → ⊥
+built-in-of-no-impl W r u n g e = no u.way e (member-all is-built-in (built_in_rules W r) (built-in-built W r) u g)
   where
     no : (w : Way) → w ≡ by_impl n → way-built-in w ≡ true → ⊥
     no (by_impl k) q b = cc
     no (by_clause k) q b = cc
     no (by_super k j) q b = cc
     no (built_in k) q b = cc
-
-pub built-in-of-no-impl : (W : World) (r : Reference) (u : Rule) (n : ℕ) → In u (built_in_rules W r) → u.way ≡ by_impl n → ⊥
-built-in-of-no-impl W r u n h e = one (in-append u s _ h)
-  where
-    s : List Rule
-    s = if r.trait == sized then sized_rules W r.args else []
-
-    k : List Rule
-    k = if (r.trait == copy) || (r.trait == clone) then copy_rules r.trait r.args else []
-
-    a : List Rule
-    a = if is_auto W r.trait then auto_rules W r.trait r.args else []
-
-    z : List Rule
-    z = if r.trait == unsize then unsize_rules r.args else []
-
-    three : In u a ⊎ In u z → ⊥
-    three (inl g) = no-impl a (cond-built-in (is_auto W r.trait) (auto_rules W r.trait r.args) (auto-built-in W r.trait r.args)) u n g e
-    three (inr g) = no-impl z (cond-built-in (r.trait == unsize) (unsize_rules r.args) (unsize-built-in r.args)) u n g e
-
-    two : In u k ⊎ In u (a ++ z) → ⊥
-    two (inl g) = no-impl k (cond-built-in ((r.trait == copy) || (r.trait == clone)) (copy_rules r.trait r.args) (copy-built-in r.trait r.args)) u n g e
-    two (inr g) = three (in-append u a z g)
-
-    one : In u s ⊎ In u (k ++ (a ++ z)) → ⊥
-    one (inl g) = no-impl s (cond-built-in (r.trait == sized) (sized_rules W r.args) (sized-built-in W r.args)) u n g e
-    one (inr g) = two (in-append u k (a ++ z) g)
 
 -- a rule of an impl, in a list of rules without where-clauses
 pub of-an-impl : (W : World) (r : Reference) (u : Rule) (n : ℕ) → In u (rules W [] r) → u.way ≡ by_impl n → (i : ImplDecl) × In i W.impls × In u (impl_rules r i)

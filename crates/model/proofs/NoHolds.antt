@@ -1,23 +1,23 @@
 -- `no` holds in every linked set: a closed reference with short chains that has a proof in the set is possible by the view alone.
-use Rattle.std.proofs.Common.{◌≡◌, ℕ, zero, suc, ◌<◌, ◌≤◌, Bool, true, false, not, List, [], ◌∷◌, ◌++◌, refl, ap, sym, ◌∙◌, ◌&&◌, ◌||◌, ◌==◌, if◌then◌else◌, cond, subst, ◌⊎◌, inl, inr, IsTrue, map, filter, length, arith}
+use Rattle.std.proofs.Common.{◌≡◌, ℕ, zero, suc, ◌≤◌, Bool, true, false, not, List, [], ◌∷◌, ◌++◌, refl, ap, sym, ◌∙◌, ◌&&◌, ◌||◌, ◌==◌, if◌then◌else◌, cond, subst, ◌⊎◌, inl, inr, map, filter, length, arith}
 use Rattle.std.specs.List.{flat_map, list_all, list_any}
 use Rattle.model.specs.Codes.{same}
-use Rattle.model.specs.Label.{Label, Sort, param, placeholder, infer, canonical, bound, inside, shift_label, array, slice, tuple, adt, raw_pointer, reference, fn_ptr, str, never}
-use Rattle.model.specs.Trees.{Trees, none, tree, ◌+++◌, leaf, instantiate, shift, nth, some_node, arguments}
+use Rattle.model.specs.Label.{Label, param, placeholder, infer, canonical, bound, inside, shift_label, array, slice, tuple, adt, raw_pointer, reference, fn_ptr, dynamic, principal, auto_trait}
+use Rattle.model.specs.Trees.{Trees, none, tree, ◌+++◌, instantiate, shift, nth, some_node, arguments}
 use Rattle.model.specs.Worlds.{World, Reference, StructDecl, TraitDecl, ImplDecl, structs_named, traits_named, sees, view_of, with_args, all_with_args}
-use Rattle.model.specs.Walks.{is_known, is_known_in}
-use Rattle.model.specs.Rules.{Rule, rules, impl_rules, built_in_rules, sized_rules, copy_rules, auto_rules, auto_rules_plain, unsize_rules, is_auto, is_written, sized, copy, clone, unsize, row, asked, last_asked, each_asked, together, fields_of, strict_supertraits, strict_supertraits_within, written_supertraits}
+use Rattle.model.specs.Walks.{is_known_in}
+use Rattle.model.specs.Rules.{BuiltIn, sized_tuple, sized_struct, copy_tuple, auto_element, auto_tuple, auto_struct, fn_ptr_call, object_auto, object_principal, unsize_array, unsize_to_dyn, unsize_upcast, unsize_struct, Rule, rules, impl_rules, built_in_rules, plain_rules, sized_rules, copy_rules, tuple_rules, fn_ptr_rules, call_rules, but_last, auto_rules, auto_rules_plain, unsize_rules, unsize_array_rules, unsize_to_dyn_rules, unsize_upcast_rules, unsize_struct_rules, some_unsizing, with_unsizing, last_unsizes, object_rules, principal_with, autos_with, elaborated, is_declared, are_dyn_compatible, is_dyn, same_reference, is_auto, is_written, is_fn_trait, sized, copy, clone, tuple_trait, fn_ptr_trait, unsize, row, asked, last_asked, each_asked, together, fields_of, strict_supertraits, strict_supertraits_within, written_supertraits}
 use Rattle.model.specs.Proofs.{Entry, In, Every, HasProof}
-use Rattle.model.specs.Answers.{is_closed, is_open, children, short_chains, is_possible, is_bounded, written_in, FixedLeft, FixedRight}
-use Rattle.model.specs.LinkedSet.{LinkedSet, is_stray, Cleared}
-use Rattle.model.proofs.Members.{here, there, in-cases, in-nothing, in-filter, filter-in, in-append, in-left, in-right, in-flat, flat-in, in-map, true-or-false, not-both, so-false}
+use Rattle.model.specs.Answers.{is_closed, is_open, children, short_chains, is_possible, is_bounded, written_in, FixedLeft, FixedRight, IsFixedClause}
+use Rattle.model.specs.LinkedSet.{LinkedSet, Unknown, is_stray, Cleared}
+use Rattle.model.proofs.Members.{here, there, in-cases, in-nothing, in-filter, filter-in, in-append, in-left, in-right, in-flat, flat-in, in-map, not-both}
 use Rattle.model.proofs.Walking.{left, right, both, or-left, or-right}
-use Rattle.model.proofs.Fitting.{ByImpl, impl-rule, closed-arguments, not-true, or-no, no-left, no-right, append-shut, head-shut, child-shut, next-shut}
+use Rattle.model.proofs.Fitting.{impl-rule, closed-arguments, not-true, or-no, append-shut, head-shut, child-shut, next-shut}
 use Rattle.model.proofs.Entries.{map-in, entry-proved}
-use Rattle.model.proofs.OpenWorld.{Unknown, open-world}
+use Rattle.model.proofs.OpenWorld.{open-world}
 use Rattle.model.proofs.ViewKnown.{unknown-by-view}
 
-member-each : {A : Type 0} (p : A → Bool) (xs : List A) (x : A) → list_all p xs ≡ true → In x xs → p x ≡ true
+pub member-each : {A : Type 0} (p : A → Bool) (xs : List A) (x : A) → list_all p xs ≡ true → In x xs → p x ≡ true
 member-each p [] x h g = absurd (in-nothing x g)
 member-each p (y ∷ xs) x h g = by (in-cases x y xs g) (member-each p xs x (right (p y) _ h))
   where
@@ -45,7 +45,7 @@ member-some-of p (y ∷ xs) x g e = by (in-cases x y xs g) (member-some-of p xs 
     by (inl q) f = or-left (p y) _ (ap p q ∙ e)
     by (inr q) f = or-right (p y) _ (f q e)
 
--- ---- the supertraits by the view are among those by the set
+-- The supertraits by the view are among those by the set
 fewer-length : {A : Type 0} (p : A → Bool) (xs : List A) → length (filter p xs) ≤ length xs
 fewer-length p [] = omega arith
 fewer-length p (x ∷ xs) = by (p x) (fewer-length p xs)
@@ -79,7 +79,7 @@ supers-more (suc k) (suc n) l W c r s h = by (in-cases s m.0 (strict_supertraits
 pub supers-of-view : (W : World) (c : ℕ) (r s : Reference) → In s (strict_supertraits (view_of W c) r) → In s (strict_supertraits W r)
 supers-of-view W c r s h = supers-more (length (view_of W c).traits) (length W.traits) (fewer-length (λ (y : TraitDecl). sees W c y.home) W.traits) W c r s h
 
--- ---- `no` holds, where children of closed references are closed
+-- `no` holds, where children of closed references are closed
 abbrev Shut : World → ℕ → Type 0
 Shut V c = (r s : Reference) → is_closed r.args ≡ true → In s (children V c r) → is_closed s.args ≡ true
 
@@ -118,7 +118,7 @@ proved-is-possible W vs rank l c sh (suc n) r z h p =
     by (inr g) f =
         or-right _ _ (both (not (is_known_in (view_of W c) c r)) _ (ap not unknown)
         (each-member (λ x. is_possible n (view_of W c) c x) (strict_supertraits (view_of W c) r)
-        (λ x k. f x (in-unknown (view_of W c) c r x unknown k) (every-member (HasProof W []) (strict_supertraits W r) x g.supers-stand (supers-of-view W c r x k)))))
+        (λ x k. f x (in-unknown (view_of W c) c r x unknown k) (every-member (HasProof W []) (strict_supertraits W r) x g.supers_stand (supers-of-view W c r x k)))))
       where
         unknown : is_known_in (view_of W c) c r ≡ false
         unknown = unknown-by-view W (l.one_struct, l.one_trait) c r g.unknown
@@ -129,7 +129,7 @@ no-holds-if W vs rank l c sh limit r b h p =
     not-both (is_possible limit (view_of W c) c r)
     (proved-is-possible W vs rank l c sh limit r (left (is_closed r.args) _ b) (right (written_in (view_of W c) r) _ (right (is_closed r.args) _ b)) p) h
 
--- ---- children of closed references are closed
+-- Children of closed references are closed
 abbrev Shuts : Trees → Type 0
 Shuts t = some_node is_open t ≡ false
 
@@ -200,7 +200,7 @@ premises-closed us = list_all (λ u. list_all (λ p. is_closed p.args) u.premise
 closed-by : (t : Trees) → Shuts t → is_closed t ≡ true
 closed-by t h = ap not h
 
-one-asked : (t : ℕ) (l : Label) (c o : Trees) → Shuts (tree l c o) → premises-closed (row 8 (asked t (tree l c none) ∷ [])) ≡ true
+one-asked : (t : ℕ) (l : Label) (c o : Trees) → Shuts (tree l c o) → premises-closed (row auto_element (asked t (tree l c none) ∷ [])) ≡ true
 one-asked t l c o h = both _ true (both (is_closed (tree l c none)) true (closed-by (tree l c none) (head-shut is_open l c o h)) refl) refl
 
 last-closed : (t : ℕ) (a : Trees) → Shuts a → list_all (λ (p : Reference). is_closed p.args) (last_asked t a) ≡ true
@@ -212,7 +212,7 @@ each-closed : (t : ℕ) (a : Trees) → Shuts a → list_all (λ (p : Reference)
 each-closed t none h = refl
 each-closed t (tree l c o) h = both (is_closed (tree l c none)) _ (closed-by (tree l c none) (head-shut is_open l c o h)) (each-closed t o (next-shut is_open l c o h))
 
-a-row : (n : ℕ) (ps : List Reference) → list_all (λ (p : Reference). is_closed p.args) ps ≡ true → premises-closed (row n ps) ≡ true
+a-row : (n : BuiltIn) (ps : List Reference) → list_all (λ (p : Reference). is_closed p.args) ps ≡ true → premises-closed (row n ps) ≡ true
 a-row n ps h = both _ true h refl
 
 together-shut : (A : Trees) (fs : List Trees) → Shuts A → ((t : Trees) → In t fs → some_node is_stray t ≡ false) → Shuts (together (map (instantiate zero A) fs))
@@ -237,18 +237,18 @@ module _ (V : World) (fields : (x : StructDecl) (t : Trees) → In x V.structs �
 
   sized-closed : (a : Trees) → Shuts a → premises-closed (sized_rules V a) ≡ true
   sized-closed none h = refl
-  sized-closed (tree tuple k o) h = a-row 2 (last_asked sized k) (last-closed sized k (child-shut is_open tuple k o h))
+  sized-closed (tree tuple k o) h = a-row sized_tuple (last_asked sized k) (last-closed sized k (child-shut is_open tuple k o h))
   sized-closed (tree (adt s) k o) h =
-      flat-closed (λ x. row 3 (last_asked sized (fields_of x k))) (structs_named V s)
-      (λ x g. a-row 3 (last_asked sized (fields_of x k)) (last-closed sized (fields_of x k) (fields-shut s k (child-shut is_open (adt s) k o h) x g)))
+      flat-closed (λ x. row sized_struct (last_asked sized (fields_of x k))) (structs_named V s)
+      (λ x g. a-row sized_struct (last_asked sized (fields_of x k)) (last-closed sized (fields_of x k) (fields-shut s k (child-shut is_open (adt s) k o h) x g)))
   sized-closed (tree l k o) h = refl
 
   auto-closed : (t : ℕ) (a : Trees) → Shuts a → premises-closed (auto_rules_plain V t a) ≡ true
   auto-closed t none h = refl
-  auto-closed t (tree tuple k o) h = a-row 9 (each_asked t k) (each-closed t k (child-shut is_open tuple k o h))
+  auto-closed t (tree tuple k o) h = a-row auto_tuple (each_asked t k) (each-closed t k (child-shut is_open tuple k o h))
   auto-closed t (tree (adt s) k o) h =
-      flat-closed (λ x. row 10 (each_asked t (fields_of x k))) (structs_named V s)
-      (λ x g. a-row 10 (each_asked t (fields_of x k)) (each-closed t (fields_of x k) (fields-shut s k (child-shut is_open (adt s) k o h) x g)))
+      flat-closed (λ x. row auto_struct (each_asked t (fields_of x k))) (structs_named V s)
+      (λ x g. a-row auto_struct (each_asked t (fields_of x k)) (each-closed t (fields_of x k) (fields-shut s k (child-shut is_open (adt s) k o h) x g)))
   auto-closed t (tree (raw_pointer b) none p) h = refl
   auto-closed t (tree (raw_pointer b) (tree l k o) p) h = one-asked t l k o (child-shut is_open (raw_pointer b) (tree l k o) p h)
   auto-closed t (tree array none p) h = refl
@@ -272,24 +272,140 @@ module _ (V : World) (fields : (x : StructDecl) (t : Trees) → In x V.structs �
 copy-closed : (t : ℕ) (a : Trees) → Shuts a → premises-closed (copy_rules t a) ≡ true
 copy-closed t none h = refl
 copy-closed t (tree (fn_ptr n) k o) h = refl
-copy-closed t (tree tuple k o) h = a-row 5 (each_asked t k) (each-closed t k (child-shut is_open tuple k o h))
+copy-closed t (tree tuple k o) h = a-row copy_tuple (each_asked t k) (each-closed t k (child-shut is_open tuple k o h))
 copy-closed t (tree l k o) h = refl
 
-unsize-closed : (a : Trees) → premises-closed (unsize_rules a) ≡ true
-unsize-closed (tree array (tree l c n) (tree slice (tree m d p) o)) = by (same (tree l c none) (tree m d none))
+-- what a list of rules asks, where the list is there only if b is true
+if-closed : (b : Bool) (us : List Rule) → premises-closed us ≡ true → premises-closed (if b then us else []) ≡ true
+if-closed true us h = h
+if-closed false us h = refl
+
+join-closed : (us vs : List Rule) → premises-closed us ≡ true → premises-closed vs ≡ true → premises-closed (us ++ vs) ≡ true
+join-closed [] vs e g = g
+join-closed (u ∷ us) vs e g =
+    both (list_all (λ p. is_closed p.args) u.premises) _ (left (list_all (λ p. is_closed p.args) u.premises) _ e)
+    (join-closed us vs (right (list_all (λ p. is_closed p.args) u.premises) _ e) g)
+
+tuple-closed : (a : Trees) → premises-closed (tuple_rules a) ≡ true
+tuple-closed none = refl
+tuple-closed (tree tuple k o) = refl
+tuple-closed (tree l k o) = refl
+
+fn-ptr-closed : (a : Trees) → premises-closed (fn_ptr_rules a) ≡ true
+fn-ptr-closed none = refl
+fn-ptr-closed (tree (fn_ptr n) k o) = refl
+fn-ptr-closed (tree l k o) = refl
+
+call-closed : (a : Trees) → Shuts a → premises-closed (call_rules a) ≡ true
+call-closed (tree (fn_ptr n) types (tree tuple inputs o)) h =
+    if-closed (same (but_last types) inputs) (row fn_ptr_call (last_asked sized types))
+    (a-row fn_ptr_call (last_asked sized types) (last-closed sized types (child-shut is_open (fn_ptr n) types (tree tuple inputs o) h)))
+call-closed a h = refl
+
+plain-closed : (r : Reference) → Shuts r.args → premises-closed (plain_rules r) ≡ true
+plain-closed r h =
+    join-closed (if (r.trait == copy) || (r.trait == clone) then copy_rules r.trait r.args else []) _
+    (if-closed ((r.trait == copy) || (r.trait == clone)) (copy_rules r.trait r.args) (copy-closed r.trait r.args h))
+    (join-closed (if r.trait == tuple_trait then tuple_rules r.args else []) _ (if-closed (r.trait == tuple_trait) (tuple_rules r.args) (tuple-closed r.args))
+    (join-closed (if r.trait == fn_ptr_trait then fn_ptr_rules r.args else []) _ (if-closed (r.trait == fn_ptr_trait) (fn_ptr_rules r.args) (fn-ptr-closed r.args))
+    (if-closed (is_fn_trait r.trait) (call_rules r.args) (call-closed r.args h))))
+
+unsize-array-closed : (a : Trees) → premises-closed (unsize_array_rules a) ≡ true
+unsize-array-closed (tree array (tree l c n) (tree slice (tree m d p) o)) = if-closed (same (tree l c none) (tree m d none)) (row unsize_array []) refl
+unsize-array-closed a = refl
+
+unsize-upcast-closed : (V : World) (a : Trees) → premises-closed (unsize_upcast_rules V a) ≡ true
+unsize-upcast-closed V (tree dynamic k (tree dynamic b o)) = if-closed _ (row unsize_upcast []) refl
+unsize-upcast-closed V a = refl
+
+-- lists of references, all closed
+abbrev all-closed : List Reference → Bool
+all-closed ps = list_all (λ (p : Reference). is_closed p.args) ps
+
+append-closed : (ps qs : List Reference) → all-closed ps ≡ true → all-closed qs ≡ true → all-closed (ps ++ qs) ≡ true
+append-closed [] qs h g = g
+append-closed (p ∷ ps) qs h g = both (is_closed p.args) _ (left (is_closed p.args) _ h) (append-closed ps qs (right (is_closed p.args) _ h) g)
+
+principal-closed : (self b : Trees) → Shuts self → Shuts b → all-closed (principal_with self b) ≡ true
+principal-closed self none h g = refl
+principal-closed self (tree (principal n t) k o) h g =
+    both (is_closed (self +++ k)) true (closed-by (self +++ k) (append-shut is_open self k h (child-shut is_open (principal n t) k o g))) refl
+principal-closed self (tree l k o) h g = refl
+
+autos-closed : (self b : Trees) → Shuts self → all-closed (autos_with self b) ≡ true
+autos-closed self none h = refl
+autos-closed self (tree (auto_trait t) k o) h = both (is_closed self) _ (closed-by self h) (autos-closed self o h)
+autos-closed self (tree l k o) h = autos-closed self o h
+
+unsize-to-dyn-closed : (V : World) (a : Trees) → Shuts a → premises-closed (unsize_to_dyn_rules V a) ≡ true
+unsize-to-dyn-closed V (tree l k (tree dynamic b o)) h =
+    if-closed (not (is_dyn l) && are_dyn_compatible V (principal_with self b)) (row unsize_to_dyn (principal_with self b ++ (autos_with self b ++ asked sized self ∷ [])))
+    (a-row unsize_to_dyn (principal_with self b ++ (autos_with self b ++ asked sized self ∷ []))
+    (append-closed (principal_with self b) (autos_with self b ++ asked sized self ∷ []) (principal-closed self b self-shut bounds-shut)
+    (append-closed (autos_with self b) (asked sized self ∷ []) (autos-closed self b self-shut) (both (is_closed self) true (closed-by self self-shut) refl))))
   where
-    by : (b : Bool) → premises-closed (if b then row 11 [] else []) ≡ true
-    by true = refl
-    by false = refl
-unsize-closed a = refl
+    self : Trees
+    self = tree l k none
+
+    self-shut : Shuts self
+    self-shut = head-shut is_open l k (tree dynamic b o) h
+
+    bounds-shut : Shuts b
+    bounds-shut = child-shut is_open dynamic b o (next-shut is_open l k (tree dynamic b o) h)
+unsize-to-dyn-closed V a h = refl
+
+last-unsizes-closed : (fs : List Trees) (a b : Trees) → Shuts a → Shuts b → ((t : Trees) → In t fs → some_node is_stray t ≡ false) → all-closed (last_unsizes fs a b) ≡ true
+last-unsizes-closed [] a b h g f = refl
+last-unsizes-closed (t ∷ []) a b h g f =
+    both _ true
+    (closed-by (instantiate zero a t +++ instantiate zero b t)
+    (append-shut is_open (instantiate zero a t) (instantiate zero b t) (plain-shut zero a t h (f t (here t []))) (plain-shut zero b t g (f t (here t []))))) refl
+last-unsizes-closed (t ∷ v ∷ fs) a b h g f = last-unsizes-closed (v ∷ fs) a b h g (λ x k. f x (there x t (v ∷ fs) k))
+
+module _ (V : World) (fields : (x : StructDecl) (t : Trees) → In x V.structs → In t x.fields → some_node is_stray t ≡ false) where
+  unsize-struct-closed : (a : Trees) → Shuts a → premises-closed (unsize_struct_rules V a) ≡ true
+  unsize-struct-closed (tree (adt s) x (tree (adt v) y o)) h =
+      if-closed (s == v) (flat_map f (structs_named V s))
+      (flat-closed f (structs_named V s)
+      (λ d g. if-closed (some_unsizing d.fields 0 x && same (with_unsizing d.fields 0 x y) y) (row unsize_struct (last_unsizes d.fields x y))
+      (a-row unsize_struct (last_unsizes d.fields x y)
+      (last-unsizes-closed d.fields x y (child-shut is_open (adt s) x (tree (adt v) y o) h) (child-shut is_open (adt v) y o (next-shut is_open (adt s) x (tree (adt v) y o) h))
+      (λ t i. fields d t (in-filter (λ (z : StructDecl). z.name == s) V.structs d g).0 i)))))
+    where
+      f : StructDecl → List Rule
+      f d = if some_unsizing d.fields 0 x && same (with_unsizing d.fields 0 x y) y then row unsize_struct (last_unsizes d.fields x y) else []
+  unsize-struct-closed a h = refl
+
+  unsize-closed : (a : Trees) → Shuts a → premises-closed (unsize_rules V a) ≡ true
+  unsize-closed a h =
+      join-closed (unsize_array_rules a) _ (unsize-array-closed a)
+      (join-closed (unsize_to_dyn_rules V a) _ (unsize-to-dyn-closed V a h)
+      (join-closed (unsize_upcast_rules V a) _ (unsize-upcast-closed V a) (unsize-struct-closed a h)))
+
+object-closed : (V : World) (r : Reference) (a : Trees) → all-closed (strict_supertraits V r) ≡ true → premises-closed (object_rules V r a) ≡ true
+object-closed V r none h = refl
+object-closed V r (tree dynamic k o) h =
+    if-closed (is_declared V r.trait && are_dyn_compatible V p) (autos ++ principal)
+    (join-closed autos principal
+    (if-closed (list_any (same_reference r) q) (row object_auto (strict_supertraits V r)) (a-row object_auto (strict_supertraits V r) h))
+    (if-closed (not (r.trait == sized) && list_any (same_reference r) (elaborated V p)) (row object_principal (strict_supertraits V r)) (a-row object_principal (strict_supertraits V r) h)))
+  where
+    p : List Reference
+    p = principal_with (tree dynamic k none) k
+
+    q : List Reference
+    q = autos_with (tree dynamic k none) k
+
+    autos : List Rule
+    autos = if list_any (same_reference r) q then row object_auto (strict_supertraits V r) else []
+
+    principal : List Rule
+    principal = if not (r.trait == sized) && list_any (same_reference r) (elaborated V p) then row object_principal (strict_supertraits V r) else []
+object-closed V r (tree l k o) h = refl
 
 member-closed : (us : List Rule) → premises-closed us ≡ true → (u : Rule) → In u us → (p : Reference) → In p u.premises → is_closed p.args ≡ true
 member-closed us h u g p k =
     member-each (λ (q : Reference). is_closed q.args) u.premises p (member-each (λ (v : Rule). list_all (λ q. is_closed q.args) v.premises) us u h g) k
-
-if-in : (b : Bool) (us : List Rule) (u : Rule) → In u (if b then us else []) → In u us
-if-in true us u h = h
-if-in false us u h = absurd (in-nothing u h)
 
 pub shut : (W : World) (vs : List (ℕ × World)) (rank : ℕ → ℕ) → LinkedSet W vs rank → (c : ℕ) → Shut (view_of W c) c
 shut W vs rank l c r s z h = by (in-append s (flat_map (λ (u : Rule). u.premises) (rules V [] r)) (if is_known_in V c r then [] else strict_supertraits V r) h)
@@ -310,32 +426,19 @@ shut W vs rank l c r s z h = by (in-append s (flat_map (λ (u : Rule). u.premise
         pick true q = absurd (in-nothing s q)
         pick false q = q
 
+    supers-closed : list_all (λ (p : Reference). is_closed p.args) (strict_supertraits V r) ≡ true
+    supers-closed = each-member (λ (p : Reference). is_closed p.args) (strict_supertraits V r) (λ x g. closed-by x.args (supers-shut W c l.plain_bounds (length V.traits) r x rs g))
+
+    built-in-closed : premises-closed (built_in_rules V r) ≡ true
+    built-in-closed =
+        join-closed (plain_rules r) _ (plain-closed r rs)
+        (join-closed (if r.trait == sized then sized_rules V r.args else []) _ (if-closed (r.trait == sized) (sized_rules V r.args) (sized-closed V fields r.args rs))
+        (join-closed (if is_auto V r.trait then auto_rules V r.trait r.args else []) _ (if-closed (is_auto V r.trait) (auto_rules V r.trait r.args) (auto-all-closed V fields r.trait r.args rs))
+        (join-closed (if r.trait == unsize then unsize_rules V r.args else []) _ (if-closed (r.trait == unsize) (unsize_rules V r.args) (unsize-closed V fields r.args rs))
+        (object-closed V r r.args supers-closed))))
+
     of-built-in : (u : Rule) → In s u.premises → In u (built_in_rules V r) → is_closed s.args ≡ true
-    of-built-in u k g = one (in-append u _ _ g)
-      where
-        a1 : List Rule
-        a1 = if r.trait == sized then sized_rules V r.args else []
-
-        a2 : List Rule
-        a2 = if (r.trait == copy) || (r.trait == clone) then copy_rules r.trait r.args else []
-
-        a3 : List Rule
-        a3 = if is_auto V r.trait then auto_rules V r.trait r.args else []
-
-        a4 : List Rule
-        a4 = if r.trait == unsize then unsize_rules r.args else []
-
-        three : In u a3 ⊎ In u a4 → is_closed s.args ≡ true
-        three (inl q) = member-closed (auto_rules V r.trait r.args) (auto-all-closed V fields r.trait r.args rs) u (if-in (is_auto V r.trait) _ u q) s k
-        three (inr q) = member-closed (unsize_rules r.args) (unsize-closed r.args) u (if-in (r.trait == unsize) _ u q) s k
-
-        two : In u a2 ⊎ In u (a3 ++ a4) → is_closed s.args ≡ true
-        two (inl q) = member-closed (copy_rules r.trait r.args) (copy-closed r.trait r.args rs) u (if-in ((r.trait == copy) || (r.trait == clone)) _ u q) s k
-        two (inr q) = three (in-append u a3 a4 q)
-
-        one : In u a1 ⊎ In u (a2 ++ (a3 ++ a4)) → is_closed s.args ≡ true
-        one (inl q) = member-closed (sized_rules V r.args) (sized-closed V fields r.args rs) u (if-in (r.trait == sized) _ u q) s k
-        one (inr q) = two (in-append u a2 (a3 ++ a4) q)
+    of-built-in u k g = member-closed (built_in_rules V r) built-in-closed u g s k
 
     of-impl : (u : Rule) → In s u.premises → In u (flat_map (impl_rules r) V.impls) → is_closed s.args ≡ true
     of-impl u k g =
@@ -362,7 +465,7 @@ shut W vs rank l c r s z h = by (in-append s (flat_map (λ (u : Rule). u.premise
     by (inl g) = of-rules (in-flat (λ (u : Rule). u.premises) (rules V [] r) s g)
     by (inr g) = of-supers g
 
--- ---- NO HOLDS: what is bounded and not possible by c's view has no proof in any linked set in which c has that view
+-- NO HOLDS: what is bounded and not possible by c's view has no proof in any linked set in which c has that view
 pub no-holds : (W : World) (vs : List (ℕ × World)) (rank : ℕ → ℕ) → LinkedSet W vs rank → (c : ℕ) (V : World) → view_of W c ≡ V
     → (limit : ℕ) (r : Reference) → is_bounded limit V c r ≡ true → is_possible limit V c r ≡ false → HasProof W [] r → ⊥
 no-holds W vs rank l c V e limit r b h =
@@ -378,3 +481,8 @@ cleared-by-no W vs rank l c V e limit i j k r (inl f) b h m ci cj =
 cleared-by-no W vs rank l c V e limit i j k r (inr f) b h m ci cj =
     no-holds W vs rank l c V e limit r b h
     (subst (HasProof W []) (f.1 m) (every-member (HasProof W []) (map (with_args m.right) j.clauses) (with_args m.right k) cj (in-map (with_args m.right) j.clauses k f.0)))
+
+pub impossible-clears : (W : World) (vs : List (ℕ × World)) (rank : ℕ → ℕ) → LinkedSet W vs rank → (c : ℕ) (V : World) → view_of W c ≡ V
+    → (limit : ℕ) (i j : ImplDecl) (r : Reference) → IsFixedClause i j r → is_bounded limit V c r ≡ true → is_possible limit V c r ≡ false → Cleared W i j
+impossible-clears W vs rank l c V e limit i j r (inl f) b h = cleared-by-no W vs rank l c V e limit i j f.0 r (inl f.1) b h
+impossible-clears W vs rank l c V e limit i j r (inr f) b h = cleared-by-no W vs rank l c V e limit i j f.0 r (inr f.1) b h

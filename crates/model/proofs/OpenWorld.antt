@@ -1,25 +1,22 @@
--- T4 (i): in a linked set, a rule with proofs that a crate's view doesn't give concludes a reference that is unknown to the crate.
-use Rattle.std.proofs.Common.{◌≡◌, ℕ, zero, suc, Bool, true, false, List, [], ◌∷◌, ◌++◌, refl, ap, sym, ◌∙◌, ◌&&◌, ◌||◌, ◌==◌, if◌then◌else◌, subst, ◌⊎◌, inl, inr, Option, Some, None, IsTrue, map, filter, length}
+-- In a linked set, a rule with proofs that a crate's view doesn't give concludes a reference that is unknown to the crate.
+use Rattle.std.proofs.Common.{◌≡◌, ℕ, zero, suc, Bool, true, false, List, [], ◌∷◌, ◌++◌, refl, ap, sym, ◌∙◌, ◌&&◌, ◌==◌, not, if◌then◌else◌, subst, ◌⊎◌, inl, inr, None, IsTrue, filter, length}
 use Rattle.std.specs.List.{flat_map, list_all, list_any}
-use Rattle.model.specs.Label.{Label, Sort, of_type, of_const, of_lifetime, bool, char, str, never, array, slice, tuple, dynamic, static, int, uint, adt, fn_ptr, auto_trait, value, reference, raw_pointer, principal, param, placeholder, infer, canonical, bound}
-use Rattle.model.specs.Trees.{Trees, none, tree, instantiate, Fits, arguments}
-use Rattle.model.specs.Worlds.{World, Reference, StructDecl, TraitDecl, ImplDecl, structs_named, traits_named, sees, view_of, with_args, all_with_args}
-use Rattle.model.specs.Walks.{struct_is, trait_is, visited, until_decisive, open_walk, seen, is_known, is_home, Met, local, entered, struct_leaf}
-use Rattle.model.specs.Rules.{Rule, by_impl, by_clause, rules, impl_rules, built_in_rules, sized_rules, copy_rules, auto_rules, auto_rules_plain, unsize_rules, clause_rules, is_auto, is_written, same_head, sized, copy, clone, unsize, strict_supertraits, strict_supertraits_within, written_supertraits, row, last_asked, each_asked, fields_of}
+use Rattle.model.specs.Label.{array, slice, dynamic, adt, reference, raw_pointer}
+use Rattle.model.specs.Trees.{Trees, none, tree, arguments, some_node}
+use Rattle.model.specs.Worlds.{World, Reference, StructDecl, TraitDecl, ImplDecl, structs_named, traits_named, sees, view_of, all_with_args}
+use Rattle.model.specs.Walks.{struct_is, visited, until_decisive, open_walk, seen, is_known, Met, local, entered, struct_leaf}
+use Rattle.model.specs.Rules.{BuiltIn, sized_struct, auto_struct, object_auto, object_principal, unsize_struct, built_in, Rule, rules, impl_rules, built_in_rules, plain_rules, sized_rules, auto_rules, auto_rules_plain, unsize_rules, unsize_array_rules, unsize_to_dyn_rules, unsize_upcast_rules, unsize_struct_rules, some_unsizing, with_unsizing, last_unsizes, object_bound_rules, object_rules, principal_with, autos_with, same_reference, elaborated, is_declared, are_dyn_compatible, is_auto, is_written, same_head, sized, unsize, strict_supertraits, strict_supertraits_within, written_supertraits, row, last_asked, each_asked, fields_of}
 use Rattle.model.specs.Proofs.{In, Every, HasProof}
-use Rattle.model.specs.Answers.{is_closed}
-use Rattle.model.specs.LinkedSet.{LinkedSet, well_written, sees_struct, sees_trait, in_scope}
-use Rattle.model.proofs.Members.{here, in-cases, in-nothing, in-filter, filter-in, some-member, member-some, in-append, in-left, in-right, in-flat, flat-in, true-or-false, not-both, so-false, same-number, self-number}
+use Rattle.model.specs.Answers.{is_closed, is_open}
+use Rattle.model.specs.LinkedSet.{LinkedSet, Unknown, sees_struct, sees_trait, in_scope}
+use Rattle.model.proofs.Members.{here, in-cases, in-nothing, in-filter, filter-in, some-member, member-some, in-append, in-left, in-right, in-flat, flat-in, true-or-false, not-both, so-false, same-number}
 use Rattle.model.proofs.Walking.{left, right, nobody}
 use Rattle.model.proofs.Unseen.{OneEach, struct-there, trait-there, walk-lemma}
-use Rattle.model.proofs.Fitting.{ByImpl, impl-rule, closed-arguments}
+use Rattle.model.proofs.Fitting.{ByImpl, impl-rule, closed-arguments, not-true}
+use Rattle.model.proofs.DynRows.{sees-all, same-object-bounds, same-to-dyn, same-upcast, unseen-dyn, unseen-target}
+use Rattle.model.specs.Codes.{same}
 
--- what is claimed of a reference that has a rule which c's view doesn't give
-pub record Unknown (W : World) (c : ℕ) (r : Reference) : Type 0 where
-  pub unknown : is_known W c r ≡ false
-  pub supers-stand : Every (HasProof W []) (strict_supertraits W r)
-
--- ---- a trait without bounds has no supertraits
+-- A trait without bounds has no supertraits
 abbrev Bare : World → ℕ → Type 0
 Bare W t = (x : TraitDecl) → In x W.traits → x.name ≡ t → x.bounds ≡ []
 
@@ -41,7 +38,7 @@ bare-within (suc n) W t args b = ap (flat_map (λ s. s ∷ strict_supertraits_wi
 bare-supers : (W : World) (t : ℕ) (args : Trees) → Bare W t → Every (HasProof W []) (strict_supertraits W (record { trait = t; args = args }))
 bare-supers W t args b = subst (Every (HasProof W [])) (sym (bare-within (length W.traits) W t args b)) tt
 
--- ---- what c doesn't see makes a reference unknown
+-- What c doesn't see makes a reference unknown
 unseen-trait : (W : World) (c t : ℕ) (args : Trees) → sees_trait W c t ≡ false → is_known W c (record { trait = t; args = args }) ≡ false
 unseen-trait W c t args e = so-false _ (λ g. not-both (sees_trait W c t) (left (sees_trait W c t) _ g) e)
 
@@ -86,7 +83,7 @@ trait-split W one c t x h = by (true-or-false (sees W c x.home))
         no : (y : TraitDecl) × In y W.traits × (y.name ≡ t) × (sees W c y.home ≡ true) → ⊥
         no y = not-both (sees W c x.home) (subst (λ (z : TraitDecl). sees W c z.home ≡ true) (one.1 y.0 x y.1 m.0 (y.2 ∙ sym (same-number x.name t m.1))) y.3) e
 
--- ---- rules by a struct's fields
+-- Rules by a struct's fields
 by-fields : (W : World) → OneEach W → (c t s : ℕ) (k o : Trees) (f : StructDecl → List Rule) (u : Rule) → Bare W t → In u (flat_map f (structs_named W s))
     → In u (flat_map f (structs_named (view_of W c) s)) ⊎ Unknown W c (record { trait = t; args = tree (adt s) k o })
 by-fields W one c t s k o f u b h = by (struct-split W one c s m.0 m.1)
@@ -97,18 +94,18 @@ by-fields W one c t s k o f u b h = by (struct-split W one c s m.0 m.1)
     by : In m.0 (structs_named (view_of W c) s) ⊎ (sees_struct W c s ≡ false)
         → In u (flat_map f (structs_named (view_of W c) s)) ⊎ Unknown W c (record { trait = t; args = tree (adt s) k o })
     by (inl e) = inl (flat-in f (structs_named (view_of W c) s) m.0 u e m.2)
-    by (inr e) = inr (record { unknown = unseen-self W c t s k o e; supers-stand = bare-supers W t (tree (adt s) k o) b })
+    by (inr e) = inr (record { unknown = unseen-self W c t s k o e; supers_stand = bare-supers W t (tree (adt s) k o) b })
 
 sized-row : (W : World) → OneEach W → (c t : ℕ) → Bare W t → (a : Trees) (u : Rule) → In u (sized_rules W a)
     → In u (sized_rules (view_of W c) a) ⊎ Unknown W c (record { trait = t; args = a })
 sized-row W one c t b none u h = inl h
-sized-row W one c t b (tree (adt s) k o) u h = by-fields W one c t s k o (λ x. row 3 (last_asked sized (fields_of x k))) u b h
+sized-row W one c t b (tree (adt s) k o) u h = by-fields W one c t s k o (λ x. row sized_struct (last_asked sized (fields_of x k))) u b h
 sized-row W one c t b (tree l k o) u h = inl h
 
 auto-row : (W : World) → OneEach W → (c t : ℕ) → Bare W t → (a : Trees) (u : Rule) → In u (auto_rules_plain W t a)
     → In u (auto_rules_plain (view_of W c) t a) ⊎ Unknown W c (record { trait = t; args = a })
 auto-row W one c t b none u h = inl h
-auto-row W one c t b (tree (adt s) k o) u h = by-fields W one c t s k o (λ x. row 10 (each_asked t (fields_of x k))) u b h
+auto-row W one c t b (tree (adt s) k o) u h = by-fields W one c t s k o (λ x. row auto_struct (each_asked t (fields_of x k))) u b h
 auto-row W one c t b (tree (raw_pointer _) none p) u h = inl h
 auto-row W one c t b (tree (raw_pointer _) (tree l k o) p) u h = inl h
 auto-row W one c t b (tree array none p) u h = inl h
@@ -138,7 +135,7 @@ auto-rules-row W one c t b (tree l k o) u h = by (is_written W t l) (is_written 
     by false true e f g = absurd (not-both (is_written (view_of W c) t l) f (fewer (λ (i : ImplDecl). (i.header.trait == t) && same_head l i.header.args) (λ (i : ImplDecl). sees W c i.home) W.impls e))
     by false false e f g = auto-row W one c t b (tree l k o) u g
 
--- ---- all built-in rules of a linked set
+-- All built-in rules of a linked set
 when : (b : Bool) (xs ys : List Rule) (u : Rule) (X : Type 0) → (b ≡ true → In u xs → In u ys ⊎ X) → In u (if b then xs else []) → In u (if b then ys else []) ⊎ X
 when true xs ys u X f h = f refl h
 when false xs ys u X f h = absurd (in-nothing u h)
@@ -147,7 +144,7 @@ where-true : (b : Bool) (xs : List Rule) (u : Rule) → b ≡ true → In u xs �
 where-true true xs u e h = h
 where-true false xs u e h = cc
 
-was-true : (b : Bool) (xs : List Rule) (u : Rule) → In u (if b then xs else []) → (b ≡ true) × In u xs
+pub was-true : (b : Bool) (xs : List Rule) (u : Rule) → In u (if b then xs else []) → (b ≡ true) × In u xs
 was-true true xs u h = (refl, h)
 was-true false xs u h = absurd (in-nothing u h)
 
@@ -192,36 +189,151 @@ auto-part W one ab c t a u h = by (trait-split W one c t x.0 x.1)
             → In u (if is_auto (view_of W c) t then auto_rules (view_of W c) t a else []) ⊎ Unknown W c (record { trait = t; args = a })
         seen-one (inl q) = inl (where-true (is_auto (view_of W c) t) (auto_rules (view_of W c) t a) u (member-some (λ (y : TraitDecl). y.is_auto) (traits_named (view_of W c) t) x.0 e x.2) q)
         seen-one (inr q) = inr q
-    by (inr e) = inr (record { unknown = unseen-trait W c t a e; supers-stand = bare-supers W t a b })
+    by (inr e) = inr (record { unknown = unseen-trait W c t a e; supers_stand = bare-supers W t a b })
 
-built-in-split : (W : World) → OneEach W → ((x : TraitDecl) → In x W.traits → x.is_auto ≡ true → x.bounds ≡ []) → ((x : TraitDecl) → In x W.traits → x.name ≡ sized → x.bounds ≡ [])
-    → (c t : ℕ) (a : Trees) (u : Rule) → In u (built_in_rules W (record { trait = t; args = a }))
-    → In u (built_in_rules (view_of W c) (record { trait = t; args = a })) ⊎ Unknown W c (record { trait = t; args = a })
-built-in-split W one ab sb c t a u h =
-    parts X u (if t == sized then sized_rules W a else [])
-    ((if (t == copy) || (t == clone) then copy_rules t a else []) ++ ((if is_auto W t then auto_rules W t a else []) ++ (if t == unsize then unsize_rules a else [])))
-    (if t == sized then sized_rules (view_of W c) a else [])
-    ((if (t == copy) || (t == clone) then copy_rules t a else []) ++ ((if is_auto (view_of W c) t then auto_rules (view_of W c) t a else []) ++ (if t == unsize then unsize_rules a else [])))
-    (when (t == sized) (sized_rules W a) (sized_rules (view_of W c) a) u X
-    (λ e g. sized-row W one c t (λ x m n. sb x m (n ∙ same-number t sized e)) a u g))
-    (parts X u (if (t == copy) || (t == clone) then copy_rules t a else []) ((if is_auto W t then auto_rules W t a else []) ++ (if t == unsize then unsize_rules a else []))
-    (if (t == copy) || (t == clone) then copy_rules t a else []) ((if is_auto (view_of W c) t then auto_rules (view_of W c) t a else []) ++ (if t == unsize then unsize_rules a else []))
-    (λ g. inl g)
-    (parts X u (if is_auto W t then auto_rules W t a else []) (if t == unsize then unsize_rules a else [])
-    (if is_auto (view_of W c) t then auto_rules (view_of W c) t a else []) (if t == unsize then unsize_rules a else [])
-    (auto-part W one ab c t a u) (λ g. inl g)))
+-- The rows of `dyn` and of unsizing
+row-premises : (n : BuiltIn) (ps : List Reference) (u : Rule) → In u (row n ps) → u.premises ≡ ps
+row-premises n ps u h = by (in-cases u (record { way = built_in n; premises = ps }) [] h)
+  where
+    by : (record { way = built_in n; premises = ps } ≡ u) ⊎ In u [] → u.premises ≡ ps
+    by (inl e) = ap (λ (v : Rule). v.premises) (sym e)
+    by (inr e) = absurd (in-nothing u e)
+
+-- object bounds ask for the supertraits
+object-premises : (W : World) (r : Reference) (ps qs : List Reference) (u : Rule) → In u (object_bound_rules W r ps qs) → u.premises ≡ strict_supertraits W r
+object-premises W r ps qs u h = by (in-append u autos principal (was-true (is_declared W r.trait && are_dyn_compatible W ps) (autos ++ principal) u h).1)
+  where
+    autos : List Rule
+    autos = if list_any (same_reference r) qs then row object_auto (strict_supertraits W r) else []
+
+    principal : List Rule
+    principal = if not (r.trait == sized) && list_any (same_reference r) (elaborated W ps) then row object_principal (strict_supertraits W r) else []
+
+    by : In u autos ⊎ In u principal → u.premises ≡ strict_supertraits W r
+    by (inl g) = row-premises object_auto (strict_supertraits W r) u (was-true (list_any (same_reference r) qs) (row object_auto (strict_supertraits W r)) u g).1
+    by (inr g) =
+        row-premises object_principal (strict_supertraits W r) u
+        (was-true (not (r.trait == sized) && list_any (same_reference r) (elaborated W ps)) (row object_principal (strict_supertraits W r)) u g).1
+
+object-row : (W : World) (vs : List (ℕ × World)) (rank : ℕ → ℕ) (l : LinkedSet W vs rank) (c t : ℕ) (a : Trees) (u : Rule) → Every (HasProof W []) u.premises
+    → In u (object_rules W (record { trait = t; args = a }) a) → In u (object_rules (view_of W c) (record { trait = t; args = a }) a) ⊎ Unknown W c (record { trait = t; args = a })
+object-row W vs rank l c t none u ps h = inl h
+object-row W vs rank l c t (tree dynamic k o) u ps h = by (true-or-false (sees_trait W c t)) (true-or-false (sees-all W vs rank l c p))
+  where
+    r : Reference
+    r = record { trait = t; args = tree dynamic k o }
+
+    p : List Reference
+    p = principal_with (tree dynamic k none) k
+
+    q : List Reference
+    q = autos_with (tree dynamic k none) k
+
+    supers : Every (HasProof W []) (strict_supertraits W r)
+    supers = subst (Every (HasProof W [])) (object-premises W r p q u h) ps
+
+    by : (sees_trait W c t ≡ true) ⊎ (sees_trait W c t ≡ false) → (sees-all W vs rank l c p ≡ true) ⊎ (sees-all W vs rank l c p ≡ false)
+        → In u (object_bound_rules (view_of W c) r p q) ⊎ Unknown W c r
+    by (inl e) (inl f) = inl (subst (λ us. In u us) (sym (same-object-bounds W vs rank l c r p q e f)) h)
+    by (inr e) f = inr (record { unknown = unseen-trait W c t (tree dynamic k o) e; supers_stand = supers })
+    by (inl e) (inr f) = inr (record { unknown = unseen-dyn W vs rank l c t k o f; supers_stand = supers })
+object-row W vs rank l c t (tree m k o) u ps h = inl h
+
+unsize-to-dyn-row : (W : World) (vs : List (ℕ × World)) (rank : ℕ → ℕ) (l : LinkedSet W vs rank) (c t : ℕ) → Bare W t → (a : Trees) (u : Rule) → some_node is_open a ≡ false
+    → In u (unsize_to_dyn_rules W a) → In u (unsize_to_dyn_rules (view_of W c) a) ⊎ Unknown W c (record { trait = t; args = a })
+unsize-to-dyn-row W vs rank l c t b (tree m k (tree dynamic bs o)) u z h = by (true-or-false (sees-all W vs rank l c p))
+  where
+    p : List Reference
+    p = principal_with (tree m k none) bs
+
+    by : (sees-all W vs rank l c p ≡ true) ⊎ (sees-all W vs rank l c p ≡ false)
+        → In u (unsize_to_dyn_rules (view_of W c) (tree m k (tree dynamic bs o))) ⊎ Unknown W c (record { trait = t; args = tree m k (tree dynamic bs o) })
+    by (inl e) = inl (subst (λ us. In u us) (sym (same-to-dyn W vs rank l c m k bs o e)) h)
+    by (inr e) = inr (record { unknown = unseen-target W vs rank l c t m k bs o z e; supers_stand = bare-supers W t (tree m k (tree dynamic bs o)) b })
+unsize-to-dyn-row W vs rank l c t b a u z h = inl h
+
+unsize-upcast-row : (W : World) (vs : List (ℕ × World)) (rank : ℕ → ℕ) (l : LinkedSet W vs rank) (c t : ℕ) → Bare W t → (a : Trees) (u : Rule)
+    → In u (unsize_upcast_rules W a) → In u (unsize_upcast_rules (view_of W c) a) ⊎ Unknown W c (record { trait = t; args = a })
+unsize-upcast-row W vs rank l c t b (tree dynamic k (tree dynamic bs o)) u h = by (true-or-false (sees-all W vs rank l c p))
+  where
+    p : List Reference
+    p = principal_with (tree dynamic k none) k
+
+    by : (sees-all W vs rank l c p ≡ true) ⊎ (sees-all W vs rank l c p ≡ false)
+        → In u (unsize_upcast_rules (view_of W c) (tree dynamic k (tree dynamic bs o))) ⊎ Unknown W c (record { trait = t; args = tree dynamic k (tree dynamic bs o) })
+    by (inl e) = inl (subst (λ us. In u us) (sym (same-upcast W vs rank l c k bs o e)) h)
+    by (inr e) = inr (record { unknown = unseen-dyn W vs rank l c t k (tree dynamic bs o) e; supers_stand = bare-supers W t (tree dynamic k (tree dynamic bs o)) b })
+unsize-upcast-row W vs rank l c t b a u h = inl h
+
+unsize-struct-row : (W : World) → OneEach W → (c t : ℕ) → Bare W t → (a : Trees) (u : Rule)
+    → In u (unsize_struct_rules W a) → In u (unsize_struct_rules (view_of W c) a) ⊎ Unknown W c (record { trait = t; args = a })
+unsize-struct-row W one c t b (tree (adt s) x (tree (adt v) y o)) u h =
+    when (s == v) (flat_map f (structs_named W s)) (flat_map f (structs_named (view_of W c) s)) u (Unknown W c (record { trait = t; args = tree (adt s) x (tree (adt v) y o) }))
+    (λ e g. by-fields W one c t s x (tree (adt v) y o) f u b g) h
+  where
+    f : StructDecl → List Rule
+    f d = if some_unsizing d.fields 0 x && same (with_unsizing d.fields 0 x y) y then row unsize_struct (last_unsizes d.fields x y) else []
+unsize-struct-row W one c t b a u h = inl h
+
+unsize-row : (W : World) (vs : List (ℕ × World)) (rank : ℕ → ℕ) (l : LinkedSet W vs rank) (c t : ℕ) → Bare W t → (a : Trees) (u : Rule) → some_node is_open a ≡ false
+    → In u (unsize_rules W a) → In u (unsize_rules (view_of W c) a) ⊎ Unknown W c (record { trait = t; args = a })
+unsize-row W vs rank l c t b a u z h =
+    parts X u (unsize_array_rules a) (unsize_to_dyn_rules W a ++ (unsize_upcast_rules W a ++ unsize_struct_rules W a)) (unsize_array_rules a)
+    (unsize_to_dyn_rules V a ++ (unsize_upcast_rules V a ++ unsize_struct_rules V a)) (λ g. inl g)
+    (parts X u (unsize_to_dyn_rules W a) (unsize_upcast_rules W a ++ unsize_struct_rules W a) (unsize_to_dyn_rules V a) (unsize_upcast_rules V a ++ unsize_struct_rules V a)
+    (unsize-to-dyn-row W vs rank l c t b a u z)
+    (parts X u (unsize_upcast_rules W a) (unsize_struct_rules W a) (unsize_upcast_rules V a) (unsize_struct_rules V a)
+    (unsize-upcast-row W vs rank l c t b a u) (unsize-struct-row W (l.one_struct, l.one_trait) c t b a u)))
     h
   where
     X : Type 0
     X = Unknown W c (record { trait = t; args = a })
 
--- ---- (c) T4 (i), first sentence: a rule of W is a rule of c's view, or the reference is unknown to c and its supertraits have proofs
+    V : World
+    V = view_of W c
+
+built-in-split : (W : World) (vs : List (ℕ × World)) (rank : ℕ → ℕ) → LinkedSet W vs rank → (c t : ℕ) (a : Trees) (u : Rule) → some_node is_open a ≡ false → Every (HasProof W []) u.premises
+    → In u (built_in_rules W (record { trait = t; args = a }))
+    → In u (built_in_rules (view_of W c) (record { trait = t; args = a })) ⊎ Unknown W c (record { trait = t; args = a })
+built-in-split W vs rank l c t a u z ps h =
+    parts X u (plain_rules r) (s1 W ++ (s2 W ++ (s3 W ++ object_rules W r a))) (plain_rules r) (s1 V ++ (s2 V ++ (s3 V ++ object_rules V r a))) (λ g. inl g)
+    (parts X u (s1 W) (s2 W ++ (s3 W ++ object_rules W r a)) (s1 V) (s2 V ++ (s3 V ++ object_rules V r a))
+    (when (t == sized) (sized_rules W a) (sized_rules V a) u X (λ e g. sized-row W one c t (λ x m n. l.sized_bare x m (n ∙ same-number t sized e)) a u g))
+    (parts X u (s2 W) (s3 W ++ object_rules W r a) (s2 V) (s3 V ++ object_rules V r a)
+    (auto-part W one l.autos_bare c t a u)
+    (parts X u (s3 W) (object_rules W r a) (s3 V) (object_rules V r a)
+    (when (t == unsize) (unsize_rules W a) (unsize_rules V a) u X (λ e g. unsize-row W vs rank l c t (λ x m n. l.unsize_bare x m (n ∙ same-number t unsize e)) a u z g))
+    (object-row W vs rank l c t a u ps))))
+    h
+  where
+    r : Reference
+    r = record { trait = t; args = a }
+
+    X : Type 0
+    X = Unknown W c r
+
+    V : World
+    V = view_of W c
+
+    one : OneEach W
+    one = (l.one_struct, l.one_trait)
+
+    s1 : World → List Rule
+    s1 U = if t == sized then sized_rules U a else []
+
+    s2 : World → List Rule
+    s2 U = if is_auto U t then auto_rules U t a else []
+
+    s3 : World → List Rule
+    s3 U = if t == unsize then unsize_rules U a else []
+
+-- A rule of W is a rule of c's view, or the reference is unknown to c and its supertraits have proofs
 pub open-world : (W : World) (vs : List (ℕ × World)) (rank : ℕ → ℕ) → LinkedSet W vs rank → (c : ℕ) (r : Reference) → IsTrue (is_closed r.args) → (u : Rule)
     → In u (rules W [] r) → Every (HasProof W []) u.premises → In u (rules (view_of W c) [] r) ⊎ Unknown W c r
 open-world W vs rank l c r z u h ps =
     parts (Unknown W c r) u (flat_map (impl_rules r) W.impls) (built_in_rules W r ++ []) (flat_map (impl_rules r) (view_of W c).impls) (built_in_rules (view_of W c) r ++ [])
     by-an-impl
-    (parts (Unknown W c r) u (built_in_rules W r) [] (built_in_rules (view_of W c) r) [] (built-in-split W one l.autos_bare l.sized_bare c r.trait r.args u) (λ g. inl g))
+    (parts (Unknown W c r) u (built_in_rules W r) [] (built_in_rules (view_of W c) r) [] (built-in-split W vs rank l c r.trait r.args u (not-true (some_node is_open r.args) z) ps) (λ g. inl g))
     h
   where
     one : OneEach W
@@ -255,7 +367,7 @@ open-world W vs rank l c r z u h ps =
               subst (λ (q : Reference). is_known W c q ≡ false) b.is-instance
               (walk-lemma W one c i.home (sees_struct W i.home) (sees_trait W i.home) i.header A b.fitting
               (right (sees_trait W i.home i.header.trait) _ scope) (l.orphan_rule i m.1) e);
-          supers-stand =
+          supers_stand =
               subst (λ (q : Reference). Every (HasProof W []) (strict_supertraits W q)) b.is-instance
               (l.supers_proved i m.1 A (closed-arguments i.params i.header.args r.args z) b.fitting clauses);
         })

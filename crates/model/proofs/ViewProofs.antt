@@ -1,19 +1,21 @@
 -- A proof by the rules of a crate's view is a proof in the linked set.
-use Rattle.std.proofs.Common.{◌≡◌, ℕ, zero, suc, Bool, true, false, List, [], ◌∷◌, ◌++◌, refl, ap, sym, ◌∙◌, ◌&&◌, ◌||◌, ◌==◌, if◌then◌else◌, subst, ◌⊎◌, inl, inr, map, filter, append_assoc}
-use Rattle.std.specs.List.{flat_map, list_any}
-use Rattle.model.specs.Label.{Label, adt, array, slice, raw_pointer, reference, param, tuple}
+use Rattle.std.proofs.Common.{◌≡◌, ℕ, Bool, true, false, List, [], ◌∷◌, ◌++◌, refl, ap, sym, ◌∙◌, ◌&&◌, ◌||◌, ◌==◌, not, if◌then◌else◌, subst, ◌⊎◌, inl, inr, append_assoc}
+use Rattle.std.specs.List.{flat_map}
+use Rattle.model.specs.Label.{Label, adt, array, slice, raw_pointer, reference, dynamic}
 use Rattle.model.specs.Trees.{Trees, none, tree}
-use Rattle.model.specs.Codes.{same_label}
+use Rattle.model.specs.Codes.{same}
 use Rattle.model.specs.Worlds.{World, Reference, StructDecl, TraitDecl, ImplDecl, structs_named, traits_named, sees, view_of}
 use Rattle.model.specs.Walks.{struct_is}
-use Rattle.model.specs.Rules.{Rule, rules, impl_rules, built_in_rules, sized_rules, copy_rules, auto_rules, auto_rules_plain, unsize_rules, is_auto, is_written, same_head, sized, copy, clone, unsize, row, last_asked, each_asked, fields_of, is_coinductive}
-use Rattle.model.specs.Proofs.{Entry, In, Every, Stands, Follows, IsProof, HasProof}
-use Rattle.model.specs.LinkedSet.{AutoAtHome}
-use Rattle.model.proofs.Members.{here, there, in-cases, in-nothing, in-filter, filter-in, some-member, member-some, in-append, in-left, in-right, in-flat, flat-in, true-or-false, not-both, so-false, same-number}
+use Rattle.model.specs.Rules.{sized_struct, auto_struct, unsize_upcast, unsize_struct, Rule, rules, impl_rules, built_in_rules, plain_rules, sized_rules, auto_rules, auto_rules_plain, unsize_rules, unsize_array_rules, unsize_to_dyn_rules, unsize_upcast_rules, unsize_struct_rules, upcasts_principal, upcasts_autos, some_unsizing, with_unsizing, last_unsizes, object_rules, principal_with, autos_with, is_declared, are_declared, are_dyn_compatible, is_dyn, is_auto, is_written, same_head, sized, unsize, row, last_asked, each_asked, fields_of, is_coinductive}
+use Rattle.model.specs.Proofs.{Entry, In, Stands, Follows, HasProof}
+use Rattle.model.specs.LinkedSet.{LinkedSet, AutoAtHome}
+use Rattle.model.proofs.Members.{in-nothing, in-filter, filter-in, some-member, member-some, in-append, in-left, in-right, in-flat, flat-in, not-both, so-false, same-number}
 use Rattle.model.proofs.Walking.{left, right, or-left, or-right, or-cases}
 use Rattle.model.proofs.Matching.{same-label-sound}
 use Rattle.model.proofs.Entries.{every-map, stands-more}
 use Rattle.model.proofs.Unseen.{OneEach, struct-there}
+use Rattle.model.proofs.DynRows.{same-object-bounds, same-to-dyn, same-upcast, declared-seen, all-declared-seen}
+use Rattle.model.proofs.OpenWorld.{was-true}
 
 struct-up : (W : World) (c s : ℕ) (x : StructDecl) → In x (structs_named (view_of W c) s) → In x (structs_named W s)
 struct-up W c s x h =
@@ -31,12 +33,12 @@ auto-up W c t h =
 
 sized-up : (W : World) (c : ℕ) (a : Trees) (u : Rule) → In u (sized_rules (view_of W c) a) → In u (sized_rules W a)
 sized-up W c none u h = h
-sized-up W c (tree (adt s) k o) u h = flat-up W c s (λ x. row 3 (last_asked sized (fields_of x k))) u h
+sized-up W c (tree (adt s) k o) u h = flat-up W c s (λ x. row sized_struct (last_asked sized (fields_of x k))) u h
 sized-up W c (tree l k o) u h = h
 
 plain-up : (W : World) (c t : ℕ) (a : Trees) (u : Rule) → In u (auto_rules_plain (view_of W c) t a) → In u (auto_rules_plain W t a)
 plain-up W c t none u h = h
-plain-up W c t (tree (adt s) k o) u h = flat-up W c s (λ x. row 10 (each_asked t (fields_of x k))) u h
+plain-up W c t (tree (adt s) k o) u h = flat-up W c s (λ x. row auto_struct (each_asked t (fields_of x k))) u h
 plain-up W c t (tree (raw_pointer _) none p) u h = h
 plain-up W c t (tree (raw_pointer _) (tree l k o) p) u h = h
 plain-up W c t (tree array none p) u h = h
@@ -51,7 +53,7 @@ plain-up W c t (tree l k o) u h = h
 -- the struct of a rule that the view has is of the view
 struct-of : (W : World) (c t s : ℕ) (k o : Trees) (u : Rule) → In u (auto_rules_plain (view_of W c) t (tree (adt s) k o)) → (x : StructDecl) × In x W.structs × (x.name ≡ s) × (sees W c x.home ≡ true)
 struct-of W c t s k o u h =
-    let m = in-flat (λ x. row 10 (each_asked t (fields_of x k))) (structs_named (view_of W c) s) u h in
+    let m = in-flat (λ x. row auto_struct (each_asked t (fields_of x k))) (structs_named (view_of W c) s) u h in
     let a = in-filter (λ (y : StructDecl). y.name == s) (view_of W c).structs m.0 m.1 in
     let b = in-filter (λ (y : StructDecl). sees W c y.home) W.structs m.0 a.0 in
     (m.0, b.0, same-number m.0.name s a.1, b.1)
@@ -110,42 +112,115 @@ cond-up true true us vs u f g h = g refl h
 cond-up true false us vs u f g h = let e = f refl in absurd (not-both true refl (sym e))
 cond-up false d us vs u f g h = absurd (in-nothing u h)
 
--- the rules of a view are rules of the set
-pub rules-up : (W : World) → OneEach W → AutoAtHome W → (c : ℕ) (r : Reference) (u : Rule) → In u (rules (view_of W c) [] r) → In u (rules W [] r)
-rules-up W one home c r u =
-    ups (flat_map (impl_rules r) (view_of W c).impls) (built_in_rules (view_of W c) r ++ []) (flat_map (impl_rules r) W.impls) (built_in_rules W r ++ []) u
-    (λ h. let m = in-flat (impl_rules r) (view_of W c).impls u h in flat-in (impl_rules r) W.impls m.0 u (in-filter (λ (i : ImplDecl). sees W c i.home) W.impls m.0 m.1).0 m.2)
-    (ups (built_in_rules (view_of W c) r) [] (built_in_rules W r) [] u built (λ h. h))
+-- the rows of `dyn` and of unsizing: a rule that the view has says that c sees what it reads
+object-up : (W : World) (vs : List (ℕ × World)) (rank : ℕ → ℕ) (l : LinkedSet W vs rank) (c : ℕ) (r : Reference) (a : Trees) (u : Rule)
+    → In u (object_rules (view_of W c) r a) → In u (object_rules W r a)
+object-up W vs rank l c r none u h = h
+object-up W vs rank l c r (tree dynamic k o) u h =
+    subst (λ us. In u us)
+    (same-object-bounds W vs rank l c r p q (declared-seen W vs rank l c r.trait (left (is_declared (view_of W c) r.trait) _ guard))
+    (all-declared-seen W vs rank l c p (left (are_declared (view_of W c) p) _ (right (is_declared (view_of W c) r.trait) _ guard)))) h
   where
+    p : List Reference
+    p = principal_with (tree dynamic k none) k
+
+    q : List Reference
+    q = autos_with (tree dynamic k none) k
+
+    guard : is_declared (view_of W c) r.trait && are_dyn_compatible (view_of W c) p ≡ true
+    guard = (was-true (is_declared (view_of W c) r.trait && are_dyn_compatible (view_of W c) p) _ u h).0
+object-up W vs rank l c r (tree m k o) u h = h
+
+unsize-to-dyn-up : (W : World) (vs : List (ℕ × World)) (rank : ℕ → ℕ) (l : LinkedSet W vs rank) (c : ℕ) (a : Trees) (u : Rule)
+    → In u (unsize_to_dyn_rules (view_of W c) a) → In u (unsize_to_dyn_rules W a)
+unsize-to-dyn-up W vs rank l c (tree m k (tree dynamic b o)) u h =
+    subst (λ us. In u us) (same-to-dyn W vs rank l c m k b o (all-declared-seen W vs rank l c p (left (are_declared (view_of W c) p) _ (right (not (is_dyn m)) _ guard)))) h
+  where
+    p : List Reference
+    p = principal_with (tree m k none) b
+
+    guard : not (is_dyn m) && are_dyn_compatible (view_of W c) p ≡ true
+    guard = (was-true (not (is_dyn m) && are_dyn_compatible (view_of W c) p) _ u h).0
+unsize-to-dyn-up W vs rank l c a u h = h
+
+unsize-upcast-up : (W : World) (vs : List (ℕ × World)) (rank : ℕ → ℕ) (l : LinkedSet W vs rank) (c : ℕ) (a : Trees) (u : Rule)
+    → In u (unsize_upcast_rules (view_of W c) a) → In u (unsize_upcast_rules W a)
+unsize-upcast-up W vs rank l c (tree dynamic k (tree dynamic b o)) u h =
+    subst (λ us. In u us) (same-upcast W vs rank l c k b o (all-declared-seen W vs rank l c p (left (are_declared (view_of W c) p) _ guard))) h
+  where
+    p : List Reference
+    p = principal_with (tree dynamic k none) k
+
+    q : List Reference
+    q = autos_with (tree dynamic k none) k
+
+    test : Bool
+    test = upcasts_principal (view_of W c) p (principal_with (tree dynamic k none) b) && upcasts_autos (view_of W c) p q (autos_with (tree dynamic k none) b)
+
+    guard : are_declared (view_of W c) p && test ≡ true
+    guard = (was-true (are_declared (view_of W c) p && test) (row unsize_upcast []) u h).0
+unsize-upcast-up W vs rank l c a u h = h
+
+unsize-struct-up : (W : World) (c : ℕ) (a : Trees) (u : Rule) → In u (unsize_struct_rules (view_of W c) a) → In u (unsize_struct_rules W a)
+unsize-struct-up W c (tree (adt s) x (tree (adt v) y o)) u h =
+    cond-up (s == v) (s == v) (flat_map f (structs_named (view_of W c) s)) (flat_map f (structs_named W s)) u (λ e. e) (λ e g. flat-up W c s f u g) h
+  where
+    f : StructDecl → List Rule
+    f d = if some_unsizing d.fields 0 x && same (with_unsizing d.fields 0 x y) y then row unsize_struct (last_unsizes d.fields x y) else []
+unsize-struct-up W c a u h = h
+
+unsize-up : (W : World) (vs : List (ℕ × World)) (rank : ℕ → ℕ) (l : LinkedSet W vs rank) (c : ℕ) (a : Trees) (u : Rule) → In u (unsize_rules (view_of W c) a) → In u (unsize_rules W a)
+unsize-up W vs rank l c a u =
+    ups (unsize_array_rules a) (unsize_to_dyn_rules V a ++ (unsize_upcast_rules V a ++ unsize_struct_rules V a)) (unsize_array_rules a)
+    (unsize_to_dyn_rules W a ++ (unsize_upcast_rules W a ++ unsize_struct_rules W a)) u (λ h. h)
+    (ups (unsize_to_dyn_rules V a) (unsize_upcast_rules V a ++ unsize_struct_rules V a) (unsize_to_dyn_rules W a) (unsize_upcast_rules W a ++ unsize_struct_rules W a) u
+    (unsize-to-dyn-up W vs rank l c a u)
+    (ups (unsize_upcast_rules V a) (unsize_struct_rules V a) (unsize_upcast_rules W a) (unsize_struct_rules W a) u (unsize-upcast-up W vs rank l c a u) (unsize-struct-up W c a u)))
+  where
+    V : World
+    V = view_of W c
+
+-- the rules of a view are rules of the set
+pub rules-up : (W : World) (vs : List (ℕ × World)) (rank : ℕ → ℕ) → LinkedSet W vs rank → (c : ℕ) (r : Reference) (u : Rule) → In u (rules (view_of W c) [] r) → In u (rules W [] r)
+rules-up W vs rank l c r u =
+    ups (flat_map (impl_rules r) V.impls) (built_in_rules V r ++ []) (flat_map (impl_rules r) W.impls) (built_in_rules W r ++ []) u
+    (λ h. let m = in-flat (impl_rules r) V.impls u h in flat-in (impl_rules r) W.impls m.0 u (in-filter (λ (i : ImplDecl). sees W c i.home) W.impls m.0 m.1).0 m.2)
+    (ups (built_in_rules V r) [] (built_in_rules W r) [] u built (λ h. h))
+  where
+    V : World
+    V = view_of W c
+
     t : ℕ
     t = r.trait
 
     a : Trees
     a = r.args
 
-    s1 : World → List Rule
-    s1 V = if t == sized then sized_rules V a else []
+    one : OneEach W
+    one = (l.one_struct, l.one_trait)
 
-    s2 : List Rule
-    s2 = if (t == copy) || (t == clone) then copy_rules t a else []
+    s1 : World → List Rule
+    s1 U = if t == sized then sized_rules U a else []
+
+    s2 : World → List Rule
+    s2 U = if is_auto U t then auto_rules U t a else []
 
     s3 : World → List Rule
-    s3 V = if is_auto V t then auto_rules V t a else []
+    s3 U = if t == unsize then unsize_rules U a else []
 
-    s4 : List Rule
-    s4 = if t == unsize then unsize_rules a else []
-
-    built : In u (built_in_rules (view_of W c) r) → In u (built_in_rules W r)
+    built : In u (built_in_rules V r) → In u (built_in_rules W r)
     built =
-        ups (s1 (view_of W c)) (s2 ++ (s3 (view_of W c) ++ s4)) (s1 W) (s2 ++ (s3 W ++ s4)) u
-        (cond-up (t == sized) (t == sized) (sized_rules (view_of W c) a) (sized_rules W a) u (λ e. e) (λ e h. sized-up W c a u h))
-        (ups s2 (s3 (view_of W c) ++ s4) s2 (s3 W ++ s4) u (λ h. h)
-        (ups (s3 (view_of W c)) s4 (s3 W) s4 u
-        (cond-up (is_auto (view_of W c) t) (is_auto W t) (auto_rules (view_of W c) t a) (auto_rules W t a) u (auto-up W c t)
-        (λ e h. auto-rules-up W one home c t (auto-up W c t e) a u h))
-        (λ h. h)))
+        ups (plain_rules r) (s1 V ++ (s2 V ++ (s3 V ++ object_rules V r a))) (plain_rules r) (s1 W ++ (s2 W ++ (s3 W ++ object_rules W r a))) u (λ h. h)
+        (ups (s1 V) (s2 V ++ (s3 V ++ object_rules V r a)) (s1 W) (s2 W ++ (s3 W ++ object_rules W r a)) u
+        (cond-up (t == sized) (t == sized) (sized_rules V a) (sized_rules W a) u (λ e. e) (λ e h. sized-up W c a u h))
+        (ups (s2 V) (s3 V ++ object_rules V r a) (s2 W) (s3 W ++ object_rules W r a) u
+        (cond-up (is_auto V t) (is_auto W t) (auto_rules V t a) (auto_rules W t a) u (auto-up W c t)
+        (λ e h. auto-rules-up W one l.autos_at_home c t (auto-up W c t e) a u h))
+        (ups (s3 V) (object_rules V r a) (s3 W) (object_rules W r a) u
+        (cond-up (t == unsize) (t == unsize) (unsize_rules V a) (unsize_rules W a) u (λ e. e) (λ e h. unsize-up W vs rank l c a u h))
+        (object-up W vs rank l c r a u))))
 
--- ---- a proof by the view is a proof by the set
+-- A proof by the view is a proof by the set
 coinductive-up : (W : World) (c t : ℕ) → is_coinductive (view_of W c) t ≡ true → is_coinductive W t ≡ true
 coinductive-up W c t h = by (or-cases (is_auto (view_of W c) t) (t == sized) h)
   where
@@ -153,14 +228,14 @@ coinductive-up W c t h = by (or-cases (is_auto (view_of W c) t) (t == sized) h)
     by (inl e) = or-left (is_auto W t) _ (auto-up W c t e)
     by (inr e) = or-right (is_auto W t) (t == sized) e
 
-follows-up : (W : World) → OneEach W → AutoAtHome W → (c : ℕ) (all earlier rest : List Entry) → all ≡ earlier ++ rest
+follows-up : (W : World) (vs : List (ℕ × World)) (rank : ℕ → ℕ) → LinkedSet W vs rank → (c : ℕ) (all earlier rest : List Entry) → all ≡ earlier ++ rest
     → Follows (view_of W c) [] all earlier rest → Follows W [] all earlier rest
-follows-up W one home c all earlier [] q f = tt
-follows-up W one home c all earlier (e ∷ rest) q f = (
-  rules-up W one home c e.of e.rule f.0,
+follows-up W vs rank l c all earlier [] q f = tt
+follows-up W vs rank l c all earlier (e ∷ rest) q f = (
+  rules-up W vs rank l c e.of e.rule f.0,
   every-map (λ p. Stands p (if is_coinductive (view_of W c) e.of.trait then all else earlier)) (λ p. Stands p (if is_coinductive W e.of.trait then all else earlier))
       e.rule.premises (at (is_coinductive (view_of W c) e.of.trait) (is_coinductive W e.of.trait) (coinductive-up W c e.of.trait)) f.1,
-  follows-up W one home c all (earlier ++ e ∷ []) rest (q ∙ sym (append_assoc earlier (e ∷ []) rest)) f.2,
+  follows-up W vs rank l c all (earlier ++ e ∷ []) rest (q ∙ sym (append_assoc earlier (e ∷ []) rest)) f.2,
 )
   where
     at : (v w : Bool) → (v ≡ true → w ≡ true) → (p : Reference) → Stands p (if v then all else earlier) → Stands p (if w then all else earlier)
@@ -169,5 +244,5 @@ follows-up W one home c all earlier (e ∷ rest) q f = (
     at false true g p s = subst (Stands p) (sym q) (stands-more p earlier (e ∷ rest) s)
     at false false g p s = s
 
-pub proof-up : (W : World) → OneEach W → AutoAtHome W → (c : ℕ) (r : Reference) → HasProof (view_of W c) [] r → HasProof W [] r
-proof-up W one home c r p = (p.0, follows-up W one home c p.0 [] p.0 refl p.1, p.2)
+pub proof-up : (W : World) (vs : List (ℕ × World)) (rank : ℕ → ℕ) → LinkedSet W vs rank → (c : ℕ) (r : Reference) → HasProof (view_of W c) [] r → HasProof W [] r
+proof-up W vs rank l c r p = (p.0, follows-up W vs rank l c p.0 [] p.0 refl p.1, p.2)

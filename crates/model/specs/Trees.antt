@@ -1,33 +1,39 @@
--- (b) a single inductive type: first child, next sibling
-use Rattle.std.specs.Prelude.{◌≡◌, ℕ, ◌+◌, ◌<◌, ◌≤◌, Bool, true, false, cond, refl, max, pred, zero, suc, bit_or, ◌||◌, ◌&&◌, ◌==◌, if◌then◌else◌, not, Option, Some, None}
+-- Trees: types, consts, lifetimes and lists of them, by first child and next sibling. `V<u8>, bool` is
+-- tree (adt V) (tree (uint 0) none none) (tree bool none none).
+use Rattle.std.specs.Prelude.{◌≡◌, ℕ, Bool, true, false, max, pred, zero, suc, bit_or, ◌||◌, ◌&&◌, ◌==◌, if◌then◌else◌, Option, Some, None}
 use Rattle.model.specs.Label.{Label, Sort, of_type, of_const, of_lifetime, param, placeholder, infer, canonical, bound, fn_ptr, principal, value, inside, shift_label, never, static}
 
+-- No tree, or a node with its children and the trees that come after it.
 pub data Trees : Type 0 where
   none : Trees
   tree : Label → Trees → Trees → Trees
   deriving Discrete as Trees-discrete
 
 infixr 40 ◌+++◌
+-- Two lists of trees, one after the other.
 abbrev pub ◌+++◌ : Trees → Trees → Trees
 none +++ ys = ys
 (tree l c o) +++ ys = tree l c (o +++ ys)
 
+-- Every binder number that leads out of d binders, raised by a (`shift_vars`).
 abbrev pub shift : ℕ → ℕ → Trees → Trees
 shift d a none = none
 shift d a (tree l c o) = tree (shift_label d a l) (shift (inside l d) a c) (shift d a o)
 
+-- The tree at place i, alone; `!` past the end.
 abbrev pub nth : Trees → ℕ → Trees
 nth none _ = tree never none none
 nth (tree l c o) zero = tree l c none
 nth (tree l c o) (suc i) = nth o i
 
--- A's trees in place of parameters, shifted by the d binders above them
+-- The arguments A in place of the parameters, shifted by the d binders above them (`EarlyBinder::instantiate`).
+-- `V<T>` with T = u8 is `V<u8>`.
 abbrev pub instantiate : ℕ → Trees → Trees → Trees
 instantiate d A none = none
 instantiate d A (tree (param s i) c o) = shift zero d (nth A i) +++ instantiate d A o
 instantiate d A (tree l c o) = tree l (instantiate (inside l d) A c) (instantiate d A o)
 
--- the tree read up to lifetimes: each lifetime is 'static, and no binder has a count
+-- The label up to lifetimes: each lifetime is read as `'static`, and no binder counts its lifetimes.
 abbrev pub erase_label : Label → Label
 erase_label (fn_ptr _) = fn_ptr zero
 erase_label (principal _ i) = principal zero i
@@ -38,11 +44,13 @@ erase_label (canonical of_lifetime _) = static
 erase_label (bound of_lifetime _ _) = static
 erase_label l = l
 
+-- The tree up to lifetimes; references, rules and answers are meant so. `for<'a> fn(&'a u8)` and `fn(&'static u8)`
+-- erase to one tree (`erase_regions`).
 abbrev pub erase : Trees → Trees
 erase none = none
 erase (tree l c o) = tree (erase_label l) (erase c) (erase o)
 
--- the arguments fit: one tree for each parameter, of its sort
+-- The kind of argument that a tree with this label is.
 abbrev pub sort_of : Label → Sort
 sort_of (value _) = of_const
 sort_of static = of_lifetime
@@ -53,53 +61,60 @@ sort_of (canonical s _) = s
 sort_of (bound s _ _) = s
 sort_of _ = of_type
 
+-- One tree, of the sort.
 abbrev pub IsA : Sort → Trees → Type 0
 IsA s none = ⊥
 IsA of_lifetime (tree l c o) = (sort_of l ≡ of_lifetime) × (c ≡ none) × (o ≡ none)
 IsA s (tree l c o) = (sort_of l ≡ s) × (o ≡ none)
 
+-- The arguments A fit the parameters of a tree: each parameter stands for one tree of its sort. `3` does not fit the T of `V<T>`.
 abbrev pub Fits : Trees → Trees → Type 0
 Fits A none = Unit {0}
 Fits A (tree (param s i) c o) = IsA s (nth A i) × (c ≡ none) × Fits A o
 Fits A (tree l c o) = Fits A c × Fits A o
 
--- the same as tests
+-- There is no tree.
 abbrev pub is_no_tree : Trees → Bool
 is_no_tree none = true
 is_no_tree (tree l c o) = false
 
+-- Two sorts are one.
 abbrev pub is_sort : Sort → Sort → Bool
 is_sort of_type of_type = true
 is_sort of_const of_const = true
 is_sort of_lifetime of_lifetime = true
 is_sort _ _ = false
 
+-- `IsA` as a test.
 abbrev pub is_a : Sort → Trees → Bool
 is_a s none = false
 is_a of_lifetime (tree l c o) = is_sort (sort_of l) of_lifetime && (is_no_tree c && is_no_tree o)
 is_a s (tree l c o) = is_sort (sort_of l) s && is_no_tree o
 
+-- `Fits` as a test.
 abbrev pub fits : Trees → Trees → Bool
 fits A none = true
 fits A (tree (param s i) c o) = is_a s (nth A i) && (is_no_tree c && fits A o)
 fits A (tree l c o) = fits A c && fits A o
 
--- one more than the greatest binder number that leads out of the tree, or 0
+-- One more than the binder number of the label itself, or 0.
 abbrev pub own_binder : Label → ℕ
 own_binder (bound s k v) = suc k
 own_binder _ = zero
 
--- a binder number as it is outside the node
+-- How far the children's binder numbers lead out of the node.
 abbrev pub outside : Label → ℕ → ℕ
 outside (fn_ptr _) n = pred n
 outside (principal _ _) n = pred n
 outside _ n = n
 
+-- One more than the greatest binder number that leads out of the tree, or 0 (`outer_exclusive_binder`).
+-- 1 for `&'a u8` under `for<'a>`, 0 for `for<'a> fn(&'a u8)`.
 abbrev pub outer_binder : Trees → ℕ
 outer_binder none = zero
 outer_binder (tree l c o) = max (max (own_binder l) (outside l (outer_binder c))) (outer_binder o)
 
--- flags: the union over the nodes
+-- The flags of a label (`TypeFlags`): parameter, variable, placeholder, bound variable, of types, lifetimes and consts.
 abbrev pub label_flags : Label → ℕ
 label_flags (param of_type _) = 1
 label_flags (infer of_type _) = 2
@@ -116,55 +131,62 @@ label_flags (infer of_const _) = 512
 label_flags (placeholder of_const _) = 1024
 label_flags (bound of_const _ _) = 2048
 label_flags (canonical of_const _) = 2048
+label_flags (fn_ptr (suc n)) = 4096
+label_flags (principal (suc n) t) = 4096
 label_flags _ = 0
 
+-- The union of the flags of all nodes.
 abbrev pub flags : Trees → ℕ
 flags none = 0
 flags (tree l c o) = bit_or (bit_or (label_flags l) (flags c)) (flags o)
 
+-- The number of nodes on the longest way down. `V<u8>` has 2.
 abbrev pub depth : Trees → ℕ
 depth none = zero
 depth (tree l c o) = max (suc (depth c)) (depth o)
 
--- ---- a reader's words
+-- A node without children.
 abbrev pub leaf : Label → Trees
 leaf l = tree l none none
 
--- some node's label passes the test
+-- Some node's label passes the test.
 abbrev pub some_node : (Label → Bool) → Trees → Bool
 some_node p none = false
 some_node p (tree l c o) = p l || some_node p c || some_node p o
 
--- the first of two that is there
+-- The first of two that is there.
 abbrev pub first_of : Trees → Trees → Trees
 first_of none y = y
 first_of (tree l c o) y = tree l c o
 
--- what stands in t at the first place where parameter i stands in p
+-- What stands in t at the first place where parameter i stands in the pattern p. In `V<u8>` by `V<T>`: u8 for T.
 abbrev pub standing_at : ℕ → Trees → Trees → Trees
 standing_at i none t = none
 standing_at i (tree l c o) none = none
 standing_at i (tree (param s j) pc po) (tree m c o) = if i == j then tree m c none else standing_at i po o
 standing_at i (tree l pc po) (tree m c o) = first_of (standing_at i pc c) (standing_at i po o)
 
--- those of the n parameters from k on, with `!` for one that stands nowhere
+-- The arguments for the n parameters from k on, read off t by the pattern p; `!` for one that stands nowhere.
 abbrev pub arguments_from : ℕ → ℕ → Trees → Trees → Trees
 arguments_from k zero p t = none
 arguments_from k (suc n) p t = first_of (standing_at k p t) (leaf never) +++ arguments_from (suc k) n p t
 
+-- The arguments for n parameters, read off t by the pattern p. `V<u8>` by `V<T>` gives [u8].
 abbrev pub arguments : ℕ → Trees → Trees → Trees
 arguments n p t = arguments_from 0 n p t
 
--- the forest is one tree
+-- There is one tree.
 abbrev pub Single : Trees → Type 0
 Single none = ⊥
 Single (tree l c o) = o ≡ none
 
--- ---- folds: what a folder does at a node under d binders: enter it, or put trees in its place
+-- What a folder answers at a node: trees to put in its place, or the node itself, entered.
 abbrev pub placed : Option Trees → Trees → Trees
 placed None t = t
 placed (Some r) t = r
 
+-- A fold: f sees each node with the number of binders around it, and the trees that it answers stand in the node's place
+-- (`TypeFolder`).
 abbrev pub folded : (ℕ → Trees → Option Trees) → ℕ → Trees → Trees
 folded f d none = none
 folded f d (tree l c o) = placed (f d (tree l c none)) (tree l (folded f (inside l d) c) none) +++ folded f d o
