@@ -1,8 +1,18 @@
-//! Numbers of declared items, and what a call can want.
+//! Types, constants and their parts, each stored once.
 #![tactic(auto)]
 
-ghost use Rattle.std.specs.Prelude.{◌≤◌};
+pub mod flags;
+pub mod interner;
+pub mod kinds;
+mod node;
+pub mod number;
+pub mod region;
+pub mod variance;
+
+ghost use Rattle.std.specs.Prelude.{◌≡◌, ◌≤◌};
 ghost use Rattle.type_terms.specs.declared.TheConstants.{MAX_INDEX};
+
+use std::alloc::{AllocError, AllocFailed};
 
 /// Why a call gave no answer. Nothing that was there before is lost: each handle keeps its term.
 ///
@@ -15,6 +25,26 @@ pub enum Fault {
     /// A table holds as many entries as its limit allows, and the term that was asked for is not among them.
     #[error("a table is full")]
     Full,
+}
+
+impl From<AllocError> for Fault {
+    ghost use Rattle.type_terms.specs.declared.Fault.TheVariants.{Memory};
+
+    ghost from_gives = { λ _ e. e ≡ Memory };
+
+    fn from(_error: AllocError) -> Fault {
+        Fault::Memory
+    }
+}
+
+impl<T: Drop> From<AllocFailed<T>> for Fault {
+    ghost use Rattle.type_terms.specs.declared.Fault.TheVariants.{Memory};
+
+    ghost from_gives = { λ _ e. e ≡ Memory };
+
+    fn from(_error: AllocFailed<T>) -> Fault {
+        Self::Memory
+    }
 }
 
 /// The greatest number of an item or a variable: a number above it is never made.

@@ -1,0 +1,15 @@
+pub mod Lists
+pub mod PlainTokens
+pub mod GroundWorlds
+pub mod DepthWords
+pub mod StreamLemmas
+pub mod Decisions
+pub mod TextFacts
+pub mod OrphanRule
+pub mod Buckets
+pub mod PairLaws
+pub mod ProofSearch
+pub mod LineLaws
+pub mod AllBytes
+pub mod VerdictNames
+pub mod QuestionAnswers

@@ -1,0 +1,54 @@
+//! How a run ends.
+
+ghost use Rattle.std.specs.Prelude.{◌≡◌};
+ghost use Rattle.coherence.specs.declared.status.RunFault.TheVariants.{Memory};
+
+use std::alloc::AllocError;
+use type_terms::Fault;
+
+/// What a run wrote.
+#[derive(Clone, Copy, Debug, PartialEq, Eq)]
+pub enum Status {
+    /// A line for each crate but `core`, and then one for each question.
+    Done,
+    /// The line of the text's first fault, alone.
+    TextFault,
+}
+
+/// Why a run stopped: what it wrote before is a prefix of its answer.
+#[derive(Clone, Copy, Debug, PartialEq, Eq, thiserror::Error)]
+pub enum RunFault {
+    /// The reader answered an error, whatever its kind. Nothing was written.
+    #[error("the text could not be read")]
+    Read,
+    /// The writer answered an error, whatever its kind, or took no byte.
+    #[error("an answer could not be written")]
+    Write,
+    /// A request for memory was refused.
+    #[error("out of memory")]
+    Memory,
+    /// A table of terms was full.
+    #[error("a table is full")]
+    Full,
+}
+
+impl From<AllocError> for RunFault {
+    ghost from_gives = { λ _ fault. fault ≡ Memory };
+
+    fn from(_refused: AllocError) -> RunFault {
+        RunFault::Memory
+    }
+}
+
+impl From<Fault> for RunFault {
+    ghost use Rattle.coherence.specs.Faults.{of_fault};
+
+    ghost from_gives = { λ fault run_fault. run_fault ≡ of_fault fault };
+
+    fn from(fault: Fault) -> RunFault {
+        match fault {
+            Fault::Memory => RunFault::Memory,
+            Fault::Full => RunFault::Full,
+        }
+    }
+}

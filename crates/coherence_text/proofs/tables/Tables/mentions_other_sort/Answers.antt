@@ -1,0 +1,11 @@
+use Rattle.std.proofs.Common.{◌∙◌, sym, ap}
+use Rattle.std.specs.List.{list_any}
+use Rattle.text_model.specs.Faults.{is_other_sort}
+use Rattle.coherence_text.specs.Tables.{declared}
+use Rattle.coherence_text.specs.Views.{mention_of}
+use Rattle.coherence_text.proofs.Each.{list_any-map}
+use Rattle.coherence_text.proofs.tables.Tables.mentions_other_sort.Goals as goal
+
+pub returns : goal.returns
+returns c =
+    c.has_other_sort.ensures ∙ sym (list_any-map (is_other_sort (declared c.args.self.now)) mention_of c.args.found.now) ∙ ap (list_any (is_other_sort (declared c.args.self.now))) c.requires.found

@@ -1,0 +1,4 @@
+pub mod Views
+pub mod Reader
+pub mod Tables
+pub mod Refusals

@@ -1,0 +1,275 @@
+//! What is wrong with a line.
+ghost use Rattle.std.specs.Prelude.{◌≡◌, ◌<◌, IfOk, IfSome, map, is_none, length, nat_lt};
+ghost use Rattle.std.specs.List.{list_any};
+ghost use Rattle.std.specs.Option.{option_map, option_map_or};
+ghost use Rattle.text_model.specs.Mentions.{mentions};
+ghost use Rattle.text_model.specs.Declarations.{known};
+ghost use Rattle.text_model.specs.Faults.{home_of, is_core_name, belongs_to_crate, is_misplaced, is_taken, declares_taken, mentions_unknown, looking_crate, is_hidden_from, mentions_hidden, is_other_sort, mentions_other_sort, is_sort, declares_long, is_full, passes_limit, fault_of};
+ghost use Rattle.coherence_text.specs.Tables.{declared, IsConsistent};
+ghost use Rattle.coherence_text.specs.Views.{line_of, mention_of, sort_of, known_of};
+
+use crate::declared::Named;
+use crate::mention::{Mention, Sort, declared_name, mentions};
+use crate::syntax::Statement;
+use crate::tables::Tables;
+use std::alloc::{AllocError, Global};
+use type_terms::CrateId;
+
+/// The greatest length of a name.
+const NAME_LIMIT: usize = 64;
+
+/// How many crates there may be besides `core`.
+const CRATE_LIMIT: usize = 255;
+
+/// How many structs, traits and impls there may be together in a crate.
+const ITEM_LIMIT: u32 = 4096;
+
+/// How many questions there may be.
+const QUESTION_LIMIT: usize = 65_536;
+
+fn is_core_name(name: &[u8]) -> bool
+    ensures { result ≡ is_core_name name.now }
+{
+    if name == b"Sized".as_slice() {
+        return true;
+    }
+    if name == b"Clone".as_slice() {
+        return true;
+    }
+    if name == b"Copy".as_slice() {
+        return true;
+    }
+    if name == b"Tuple".as_slice() {
+        return true;
+    }
+    if name == b"FnPtr".as_slice() {
+        return true;
+    }
+    if name == b"FnOnce".as_slice() {
+        return true;
+    }
+    if name == b"FnMut".as_slice() {
+        return true;
+    }
+    if name == b"Fn".as_slice() {
+        return true;
+    }
+    if name == b"Unsize".as_slice() {
+        return true;
+    }
+    if name == b"Box".as_slice() {
+        return true;
+    }
+    false
+}
+
+fn belongs_to_crate(statement: &Statement<'_>) -> bool
+    ensures { result ≡ belongs_to_crate (line_of statement.now) }
+{
+    match statement {
+        Statement::Crate { .. } => false,
+        Statement::Struct { .. } => true,
+        Statement::Trait { .. } => true,
+        Statement::Impl { .. } => true,
+        Statement::Prove { .. } => false,
+    }
+}
+
+fn is_sort(sort: Sort, known: Named) -> bool
+    ensures { result ≡ is_sort (sort_of sort) (known_of known) }
+{
+    match (sort, known) {
+        (Sort::Crate, Named::Crate(_)) => true,
+        (Sort::Struct, Named::Struct { .. }) => true,
+        (Sort::Trait, Named::Trait { .. }) => true,
+        _ => false,
+    }
+}
+
+/// Whether the line declares a name that is too long.
+fn declares_long(statement: &Statement<'_>) -> bool
+    ensures { result ≡ declares_long (line_of statement.now) }
+{
+    match declared_name(statement) {
+        None => false,
+        Some(name) => name.len() > NAME_LIMIT,
+    }
+}
+
+/// The crate that a struct or a trait belongs to.
+fn home_of(known: Named) -> Option<CrateId>
+    ensures { option_map (λ c. c.index) result ≡ home_of (known_of known) }
+{
+    match known {
+        Named::Crate(_) => None,
+        Named::Struct { owner, .. } => Some(owner),
+        Named::Trait { owner, .. } => Some(owner),
+    }
+}
+
+impl Tables {
+    fn is_taken(&self, name: &[u8]) -> bool
+        requires { IsConsistent self.now }
+        ensures { result ≡ is_taken (declared self.now) name.now }
+    {
+        self.known(name).is_some() || is_core_name(name)
+    }
+
+    fn declares_taken(&self, statement: &Statement<'_>) -> bool
+        requires { IsConsistent self.now }
+        ensures { result ≡ declares_taken (declared self.now) (line_of statement.now) }
+    {
+        match declared_name(statement) {
+            None => false,
+            Some(name) => self.is_taken(name),
+        }
+    }
+
+    fn is_misplaced(&self, statement: &Statement<'_>) -> bool
+        ensures { result ≡ is_misplaced (declared self.now) (line_of statement.now) }
+    {
+        belongs_to_crate(statement) && self.has_no_crate()
+    }
+
+    fn has_unknown(&self, found: &[Mention<'_>]) -> bool
+        requires { IsConsistent self.now }
+        ensures { result ≡ list_any (λ m. is_none (known (declared self.now) m.name.now)) found.now }
+    {
+        found.iter().any(|m| self.known(m.name).is_none())
+    }
+
+    fn mentions_unknown(&self, statement: &Statement<'_>, found: &[Mention<'_>]) -> bool
+        requires consistent { IsConsistent self.now }
+        requires found { map mention_of found.now ≡ mentions (line_of statement.now) }
+        ensures { result ≡ mentions_unknown (declared self.now) (line_of statement.now) }
+    {
+        let _of = statement;
+        self.has_unknown(found)
+    }
+
+    /// The crate that has to see what the line mentions.
+    fn looking_crate(&self, statement: &Statement<'_>) -> Option<CrateId>
+        requires { IsConsistent self.now }
+        ensures number { option_map (λ c. c.index) result ≡ looking_crate (declared self.now) (line_of statement.now) }
+        ensures there { IfSome result (λ c. c.index < length self.now.crates.items) }
+    {
+        match statement {
+            Statement::Crate { .. } => None,
+            Statement::Struct { .. } => Some(self.last_crate()),
+            Statement::Trait { .. } => Some(self.last_crate()),
+            Statement::Impl { .. } => Some(self.last_crate()),
+            Statement::Prove { crate_name, .. } => self.crate_named(crate_name),
+        }
+    }
+
+    fn is_hidden_from(&self, looking: CrateId, mention: &Mention<'_>) -> bool
+        requires consistent { IsConsistent self.now }
+        requires there { looking.index < length self.now.crates.items }
+        ensures { result ≡ is_hidden_from (declared self.now) looking.index (mention_of mention.now) }
+    {
+        match self.known(mention.name) {
+            None => false,
+            Some(known) => match home_of(known) {
+                None => false,
+                Some(home) => !self.sees(looking, home),
+            },
+        }
+    }
+
+    fn has_hidden(&self, looking: CrateId, found: &[Mention<'_>]) -> bool
+        requires consistent { IsConsistent self.now }
+        requires there { looking.index < length self.now.crates.items }
+        ensures { result ≡ list_any (λ m. is_hidden_from (declared self.now) looking.index (mention_of m)) found.now }
+    {
+        found.iter().any(|m| self.is_hidden_from(looking, m))
+    }
+
+    fn mentions_hidden(&self, statement: &Statement<'_>, found: &[Mention<'_>]) -> bool
+        requires consistent { IsConsistent self.now }
+        requires found { map mention_of found.now ≡ mentions (line_of statement.now) }
+        ensures { result ≡ mentions_hidden (declared self.now) (line_of statement.now) }
+    {
+        match self.looking_crate(statement) {
+            None => false,
+            Some(looking) => self.has_hidden(looking, found),
+        }
+    }
+
+    fn is_other_sort(&self, mention: &Mention<'_>) -> bool
+        requires { IsConsistent self.now }
+        ensures { result ≡ is_other_sort (declared self.now) (mention_of mention.now) }
+    {
+        match self.known(mention.name) {
+            None => false,
+            Some(known) => !is_sort(mention.sort, known),
+        }
+    }
+
+    fn has_other_sort(&self, found: &[Mention<'_>]) -> bool
+        requires { IsConsistent self.now }
+        ensures { result ≡ list_any (λ m. is_other_sort (declared self.now) (mention_of m)) found.now }
+    {
+        found.iter().any(|m| self.is_other_sort(m))
+    }
+
+    fn mentions_other_sort(&self, statement: &Statement<'_>, found: &[Mention<'_>]) -> bool
+        requires consistent { IsConsistent self.now }
+        requires found { map mention_of found.now ≡ mentions (line_of statement.now) }
+        ensures { result ≡ mentions_other_sort (declared self.now) (line_of statement.now) }
+    {
+        let _of = statement;
+        self.has_other_sort(found)
+    }
+
+    /// Whether there are as many already as there may be.
+    fn is_full(&self, statement: &Statement<'_>) -> bool
+        requires { IsConsistent self.now }
+        ensures { result ≡ is_full (declared self.now) (line_of statement.now) }
+    {
+        match statement {
+            Statement::Crate { .. } => self.crates.len() > CRATE_LIMIT,
+            Statement::Prove { .. } => self.questions.len() >= QUESTION_LIMIT,
+            Statement::Struct { .. } => self.last_items >= ITEM_LIMIT,
+            Statement::Trait { .. } => self.last_items >= ITEM_LIMIT,
+            Statement::Impl { .. } => self.last_items >= ITEM_LIMIT,
+        }
+    }
+
+    fn passes_limit(&self, statement: &Statement<'_>) -> bool
+        requires { IsConsistent self.now }
+        ensures { result ≡ passes_limit (declared self.now) (line_of statement.now) }
+    {
+        declares_long(statement) || self.is_full(statement)
+    }
+
+    /// The smallest number of a fault that the line has.
+    pub fn fault_of(
+        &self,
+        alloc: Global,
+        statement: &Statement<'_>,
+    ) -> Result<Option<u8>, AllocError>
+        requires { IsConsistent self.now }
+        ensures { IfOk result (λ found. found ≡ fault_of (declared self.now) (line_of statement.now)) }
+    {
+        let found = mentions(alloc, statement)?;
+        if self.is_misplaced(statement) {
+            return Ok(Some(3));
+        }
+        if self.declares_taken(statement) {
+            return Ok(Some(4));
+        }
+        if self.mentions_unknown(statement, &found) {
+            return Ok(Some(5));
+        }
+        if self.mentions_hidden(statement, &found) {
+            return Ok(Some(6));
+        }
+        if self.mentions_other_sort(statement, &found) {
+            return Ok(Some(7));
+        }
+        if self.passes_limit(statement) {
+            return Ok(Some(16));
+        }
+        Ok(None)
+    }
+}

@@ -1,0 +1,9 @@
+use Rattle.indexmap.specs.IndexMap.{keys}
+use Rattle.type_terms.proofs.Sorts.{sorted-all}
+use Rattle.type_terms.proofs.Unique.{unique-handles}
+use Rattle.type_terms.proofs.interner.Interner.lawful.Goals as goal
+
+pub returns : goal.returns
+returns c =
+    let ns = keys c.self.inside.nodes in
+    rw (← c.self.view_is) (record { sorted = sorted-all ns; distinct = unique-handles ns c.self.invariant.older c.len.ensures.unique })

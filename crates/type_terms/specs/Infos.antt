@@ -1,0 +1,24 @@
+-- what is kept with a term: its flags, its outer binder and its depth
+use Rattle.std.specs.Prelude.{ℕ, ◌+◌, max, bit_or}
+use Rattle.model.specs.Label.{Label}
+use Rattle.model.specs.Trees.{Trees, flags, outer_binder, depth, label_flags, own_binder, outside}
+use Rattle.type_terms.specs.declared.number.BoundVarIndexKind.{BoundVarIndexKind}
+use Rattle.type_terms.specs.declared.number.BoundVarIndexKind.TheVariants.{Bound as KBinder, Canonical as KCanonical}
+use Rattle.type_terms.specs.declared.node.Info.{Info}
+
+-- of trees: what a scan finds
+abbrev pub info_of : Trees → Info
+info_of t = record { flags = flags t; outer_binder = outer_binder t; depth = depth t }
+
+-- of two lists of trees, one after the other
+abbrev pub join : Info → Info → Info
+join f g = record { flags = bit_or f.flags g.flags; outer_binder = max f.outer_binder g.outer_binder; depth = max f.depth g.depth }
+
+-- of a node over children with this info
+abbrev pub node_info : Label → Info → Info
+node_info l f = record { flags = bit_or (label_flags l) f.flags; outer_binder = max (own_binder l) (outside l f.outer_binder); depth = f.depth + 1 }
+
+-- of a bound variable: one more than its binder's number
+abbrev pub outer_of : BoundVarIndexKind → ℕ
+outer_of (KBinder k) = k.index + 1
+outer_of KCanonical = 0

@@ -1,0 +1,97 @@
+-- What a contract sees of an interner: the terms that it has, in the order in which they were made.
+use Rattle.std.specs.Prelude.{◌≡◌, ℕ, List, [], ◌∷◌, ◌++◌, Option, Some, None, refl, count_by, ◌==◌, ◌⊎◌}
+use Rattle.std.specs.List.{slice_get}
+use Rattle.std.specs.Coded.{Coded, code_by, coded×, coded_ℕ, coded_list}
+use Rattle.model.specs.Label.{of_type, of_const}
+use Rattle.model.specs.Trees.{Trees, none, IsA}
+use Rattle.model.specs.Codes.{trees_code}
+
+-- a term: which kind of handle it has, and its trees (one tree for a type or a constant)
+pub record Entry : Type 0 where
+  pub kind : ℕ
+  pub trees : Trees
+
+-- a term of this kind
+abbrev pub term : ℕ → Trees → Entry
+term kind t = record { kind = kind; trees = t }
+
+abbrev pub entry_code : Coded Entry
+entry_code = code_by (ℕ × Trees) (coded× coded_ℕ trees_code) (λ e. (e.kind, e.trees)) (λ p. record { kind = p.0; trees = p.1 }) (λ _. refl)
+
+-- the terms by rising number, the limit of each kind, and how many more fit with no allocation
+pub record Terms : Type 0 where
+  pub entries : List Entry
+  pub limit : ℕ
+  pub room : ℕ
+
+abbrev pub terms_code : Coded Terms
+terms_code =
+    code_by (List Entry × (ℕ × ℕ)) (coded× (coded_list entry_code) (coded× coded_ℕ coded_ℕ))
+    (λ e. (e.entries, (e.limit, e.room)))
+    (λ p. record { entries = p.0; limit = p.1.0; room = p.1.1 })
+    (λ _. refl)
+
+-- the kinds of handle, by number
+abbrev pub types : ℕ
+types = 0
+
+abbrev pub consts : ℕ
+consts = 1
+
+abbrev pub args_lists : ℕ
+args_lists = 2
+
+abbrev pub type_lists : ℕ
+type_lists = 3
+
+abbrev pub bounds_lists : ℕ
+bounds_lists = 4
+
+-- the handle i of this kind has these trees
+abbrev pub Is : List Entry → ℕ → ℕ → Trees → Type 0
+Is es kind i t = slice_get es i ≡ Some (term kind t)
+
+-- i is a handle of this kind
+abbrev pub Has : List Entry → ℕ → ℕ → Type 0
+Has es kind i = (t : Trees) × Is es kind i t
+
+abbrev trees_in : Option Entry → Trees
+trees_in None = none
+trees_in (Some e) = e.trees
+
+-- the trees of handle i
+abbrev pub trees_at : List Entry → ℕ → Trees
+trees_at es i = trees_in (slice_get es i)
+
+-- every old handle keeps its kind and its trees
+abbrev pub Keeps : List Entry → List Entry → Type 0
+Keeps old new = (i : ℕ) (e : Entry) → slice_get old i ≡ Some e → slice_get new i ≡ Some e
+
+-- the term is not among these
+abbrev pub Absent : Entry → List Entry → Type 0
+Absent e es = (i : ℕ) → slice_get es i ≡ Some e → ⊥
+
+-- the new terms are the old ones, with one more if it was not among them
+abbrev pub AddsAtMost : List Entry → Entry → List Entry → Type 0
+AddsAtMost old e new = (new ≡ old) ⊎ (Absent e old × (new ≡ old ++ e ∷ []))
+
+-- how many handles of this kind there are
+abbrev pub held : ℕ → List Entry → ℕ
+held kind es = count_by (λ e. e.kind == kind) es
+
+-- handles of one kind are equal exactly if their trees are
+abbrev pub Distinct : List Entry → Type 0
+Distinct es = (i j : ℕ) (e : Entry) → slice_get es i ≡ Some e → slice_get es j ≡ Some e → i ≡ j
+
+-- a type's trees are one type, and a constant's one constant
+pub record Sorted (e : Entry) : Type 0 where
+  pub as_type : e.kind ≡ types → IsA of_type e.trees
+  pub as_const : e.kind ≡ consts → IsA of_const e.trees
+
+abbrev pub AllSorted : List Entry → Type 0
+AllSorted es = (i : ℕ) (e : Entry) → slice_get es i ≡ Some e → Sorted e
+
+-- what is true of the terms of every interner
+pub record Lawful (es : List Entry) : Type 0 where
+  pub sorted : AllSorted es
+  pub distinct : Distinct es
