@@ -1,0 +1,15 @@
+pub mod ListLaws
+pub mod Scripts
+pub mod Gains
+pub mod Keeps
+pub mod Costs
+pub mod Numbers
+pub mod Frames
+pub mod Merges
+pub mod Histories
+pub mod Ends
+pub mod Unfold
+pub mod AtomTables
+pub mod RuleBooks
+pub mod ByRules
+pub mod Systems

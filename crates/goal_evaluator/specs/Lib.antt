@@ -1,0 +1,17 @@
+pub mod Lists
+pub mod Certainties
+pub mod Script
+pub mod Frame
+pub mod Table
+pub mod Rounds
+pub mod Candidate
+pub mod Law
+pub mod Handler
+pub mod Merge
+pub mod History
+pub mod Promises
+pub mod Proof
+pub mod System
+pub mod Atoms
+pub mod Toys
+pub mod ByRules

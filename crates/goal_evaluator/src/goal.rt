@@ -1,0 +1,31 @@
+//! The small parts of goals and of their evaluation.
+
+/// Where a nested goal comes from (`rustc_type_ir::solve::GoalSource`). It decides whether the step to it can be coinductive.
+#[derive(Clone, Copy, Debug, PartialEq, Eq, Hash)]
+pub enum GoalSource {
+    /// A condition of the evaluation itself, as that a supertrait holds.
+    Misc,
+    /// A where-clause of the impl, or a premise of the built-in rule, that the goal is proved by.
+    ImplWhereBound,
+}
+
+/// How goals are read (`rustc_type_ir::TypingMode`).
+#[derive(Clone, Copy, Debug, PartialEq, Eq, Hash)]
+pub enum TypingMode {
+    /// An answer has to hold in every set of crates that can be linked with this one: there may be impls that are not seen.
+    Coherence,
+    /// The impls that are seen are all that there are.
+    PostAnalysis,
+}
+
+/// The goal is refused: no rule concludes it (`rustc_type_ir::solve::NoSolution`).
+#[derive(Clone, Copy, Debug, PartialEq, Eq, thiserror::Error)]
+#[error("there is no solution")]
+pub struct NoSolution;
+
+/// Whether an answer gave values to unknowns of the goal (`rustc_next_trait_solver::solve::HasChanged`).
+#[derive(Clone, Copy, Debug, PartialEq, Eq)]
+pub enum HasChanged {
+    Yes,
+    No,
+}

@@ -1,0 +1,11 @@
+pub mod Path
+pub mod Meaning
+pub mod Shown
+pub mod Stack
+pub mod Plain
+pub mod Proof
+pub mod Answer
+pub mod Bound
+pub mod Faithful
+pub mod Toy
+pub mod ToyLaws

@@ -1,0 +1,9 @@
+pub mod FoldFacts
+pub mod Items
+pub mod KindFacts
+pub mod PieceFacts
+pub mod Replacing
+pub mod ShiftFacts
+pub mod RegionFacts
+pub mod VisitFacts
+pub mod ValidateFacts

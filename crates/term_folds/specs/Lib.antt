@@ -1,0 +1,9 @@
+pub mod Binders
+pub mod Folds
+pub mod Pieces
+pub mod Kept
+pub mod Shifts
+pub mod Regions
+pub mod Visits
+pub mod Clauses
+pub mod Validates

@@ -1,0 +1,61 @@
+-- Binder numbers shifted.
+use Rattle.std.specs.Prelude.{◌≡◌, ℕ, ◌+◌, ◌<◌, ◌≤◌, List, [], ◌∷◌, length, cond, ltb, refl, Bool, true, false}
+use Rattle.std.proofs.Common.{arith}
+use Rattle.model.specs.Label.{Label, bound, principal, auto_trait, inside}
+use Rattle.model.specs.Trees.{Trees, none, tree, outer_binder}
+use Rattle.type_terms.specs.declared.TheConstants.{MAX_INDEX}
+use Rattle.term_folds.specs.Folds.{Does, enters, puts, again, IsBound}
+use Rattle.term_folds.specs.Pieces.{Piece}
+
+-- each number that leads out of d binders, raised by a, stays below the greatest number
+abbrev pub LabelInRange : ℕ → ℕ → Label → Type 0
+LabelInRange d a (bound s k v) = d ≤ k → k + a < MAX_INDEX
+LabelInRange d a _ = Unit {0}
+
+abbrev pub ShiftInRange : ℕ → ℕ → Trees → Type 0
+ShiftInRange d a none = Unit {0}
+ShiftInRange d a (tree l c o) = LabelInRange d a l × ShiftInRange (inside l d) a c × ShiftInRange d a o
+
+abbrev pub EachInRange : ℕ → List Piece → Type 0
+EachInRange a [] = Unit {0}
+EachInRange a (p ∷ ps) = ShiftInRange (length p.counts) a p.trees × EachInRange a ps
+
+-- a binder number raised by a where it leads out of d binders and stays in range
+abbrev pub moved_number : ℕ → ℕ → ℕ → ℕ
+moved_number d a k = cond (ltb k d) k (cond (ltb (k + a) MAX_INDEX) (k + a) k)
+
+abbrev pub moved_label : ℕ → ℕ → Label → Label
+moved_label d a (bound s k v) = bound s (moved_number d a k) v
+moved_label d a l = l
+
+abbrev pub moved : ℕ → ℕ → Trees → Trees
+moved d a none = none
+moved d a (tree l c o) = tree (moved_label d a l) (moved (inside l d) a c) (moved d a o)
+
+-- what the shifting folder does: a term that no binder number leads out of stays
+abbrev pub shifting : ℕ → List ℕ → Trees → Does
+shifting a bs none = enters
+shifting a bs (tree (principal n i) c o) = enters
+shifting a bs (tree (auto_trait i) c o) = enters
+shifting a bs (tree (bound s k v) c o) = puts (tree (bound s (moved_number (length bs) a k) v) (moved (length bs) a c) none)
+shifting a bs (tree l c o) = cond (ltb (length bs) (outer_binder (tree l c none))) enters (puts (tree l c none))
+
+pub shifting-bounds : (a : ℕ) (bs : List ℕ) (t : Trees) → IsBound t → shifting a bs t ≡ enters
+shifting-bounds a bs (tree (principal n i) c o) h = refl
+shifting-bounds a bs (tree (auto_trait i) c o) h = refl
+shifting-bounds a bs none h = refl
+shifting-bounds a bs (tree l c o) h = absurd h
+
+pub shifting-once : (a : ℕ) (bs : List ℕ) (t s : Trees) → shifting a bs t ≡ again s → ⊥
+shifting-once a bs none s e = cc
+shifting-once a bs (tree (principal n i) c o) s e = cc
+shifting-once a bs (tree (auto_trait i) c o) s e = cc
+shifting-once a bs (tree (bound r k v) c o) s e = cc
+shifting-once a bs (tree l c o) s e = by (ltb (length bs) (outer_binder (tree l c none))) (tree l c none) e
+  where
+    by : (b : Bool) (t : Trees) → cond b enters (puts t) ≡ again s → ⊥
+    by true t e = cc
+    by false t e = cc
+
+pub none_above : 0 ≤ 0
+none_above = omega arith

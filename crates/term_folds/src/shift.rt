@@ -1,0 +1,143 @@
+//! Binder numbers shifted.
+ghost use Rattle.std.specs.Prelude.{◌≡◌, ℕ, ◌<◌, length, min, IfOk};
+ghost use Rattle.model.specs.Trees.{shift};
+ghost use Rattle.type_terms.specs.Terms.{Keeps};
+ghost use Rattle.type_terms.specs.declared.TheConstants.{MAX_INDEX};
+ghost use Rattle.term_folds.specs.Binders.{counts_of};
+ghost use Rattle.term_folds.specs.Pieces.{each_piece};
+ghost use Rattle.term_folds.specs.Shifts.{EachInRange, moved_number};
+
+use crate::binders::Binders;
+use crate::fold::Answer;
+use crate::foldable::TypeFoldable;
+use crate::folder::TypeFolder;
+use std::alloc::Global;
+use type_terms::interner::Interner;
+use type_terms::kinds::{Const, ConstKind, Ty, TyKind};
+use type_terms::number::{BoundVarIndexKind, DebruijnIndex};
+use type_terms::region::{Region, RegionKind};
+use type_terms::{Fault, MAX_INDEX};
+
+/// Shifts each binder number that leads out of the value.
+///
+/// The original's `Shifter`. It stops at a term that no binder number leads out of.
+#[derive(Clone, Copy)]
+struct Shifter {
+    amount: u32,
+}
+
+impl Shifter {
+    /// A binder number below these binders, as it is shifted.
+    fn moved(&self, binder: DebruijnIndex, binders: &Binders) -> DebruijnIndex
+        requires { binder.index < MAX_INDEX }
+        ensures range { result.index < MAX_INDEX }
+        ensures moved { result.index ≡ moved_number (length (counts_of binders.now)) self.now.amount binder.index }
+    {
+        if binder.index < binders.depth().index {
+            binder
+        } else if self.amount < MAX_INDEX - binder.index {
+            binder.shifted_in(self.amount)
+        } else {
+            binder
+        }
+    }
+}
+
+impl TypeFolder for Shifter {
+    ghost use Rattle.std.proofs.Common.{refl};
+    ghost use Rattle.term_folds.specs.Shifts.{none_above};
+    ghost use Rattle.term_folds.specs.Shifts.{shifting, shifting-bounds, shifting-once};
+
+    ghost ready = { λ _ _. Unit {0} };
+
+    ghost action = { λ f _ bs t. shifting f.amount bs t };
+
+    ghost fuel = { λ _ _ _. 0 };
+
+    ghost ready_kept = { λ f old new k h. tt };
+
+    ghost action_kept = { λ f old new k h. refl };
+
+    ghost fuel_kept = { λ f old new k h. refl };
+
+    ghost enters_bounds = { λ f es bs t h. shifting-bounds f.amount bs t h };
+
+    ghost falls = { λ f es bs t s h e. absurd (shifting-once f.amount bs t s e) };
+
+    ghost below_node = { λ f es l c. none_above };
+
+    ghost below_left = { λ f es x y. none_above };
+
+    ghost below_right = { λ f es x y. none_above };
+
+    fn fold_ty(&self, cx: &mut Interner, ty: Ty, binders: &Binders) -> Result<Answer<Ty>, Fault> {
+        let kind = cx.kind(ty);
+        match kind {
+            TyKind::Bound(BoundVarIndexKind::Bound(binder), var) => {
+                let moved = BoundVarIndexKind::Bound(self.moved(binder, binders));
+                Ok(Answer::Replace(cx.mk_ty(TyKind::Bound(moved, var))?))
+            }
+            _ => {
+                if binders.depth().index < cx.outer_exclusive_binder(ty).index {
+                    Ok(Answer::Enter)
+                } else {
+                    Ok(Answer::Replace(ty))
+                }
+            }
+        }
+    }
+
+    fn fold_const(
+        &self,
+        cx: &mut Interner,
+        ct: Const,
+        binders: &Binders,
+    ) -> Result<Answer<Const>, Fault> {
+        match cx.const_kind(ct) {
+            ConstKind::Bound(BoundVarIndexKind::Bound(binder), var) => {
+                let moved = BoundVarIndexKind::Bound(self.moved(binder, binders));
+                Ok(Answer::Replace(cx.mk_const(ConstKind::Bound(moved, var))?))
+            }
+            _ => Ok(Answer::Replace(ct)),
+        }
+    }
+
+    fn fold_region(
+        &self,
+        _cx: &Interner,
+        region: Region,
+        binders: &Binders,
+    ) -> Result<Answer<Region>, Fault> {
+        match region.kind {
+            RegionKind::ReBound(BoundVarIndexKind::Bound(binder), var) => {
+                let moved = BoundVarIndexKind::Bound(self.moved(binder, binders));
+                Ok(Answer::Replace(Region {
+                    kind: RegionKind::ReBound(moved, var),
+                }))
+            }
+            _ => Ok(Answer::Replace(region)),
+        }
+    }
+}
+
+/// The value with `amount` added to each binder number that leads out of it, as it is below `amount` further
+/// binders.
+///
+/// `ReBound(0, 0)` by 1 is `ReBound(1, 0)`, and the lifetime of `for<'a> fn(&'a u8)` stays. The shifted numbers
+/// have to be in range. The original's `shift_vars`.
+pub fn shift_vars<T: TypeFoldable>(
+    alloc: Global,
+    cx: &mut Interner,
+    value: T,
+    amount: u32,
+) -> Result<T, Fault>
+    requires held { T.held value cx.old.entries }
+    requires range { EachInRange amount (T.pieces value cx.old.entries) }
+    ensures keeps { Keeps cx.old.entries cx.new.entries }
+    ensures limit { cx.new.limit ≡ cx.old.limit }
+    ensures held { IfOk result (λ r. T.held r cx.new.entries) }
+    ensures outline { IfOk result (λ r. T.outline r ≡ T.outline value) }
+    ensures shifted { IfOk result (λ r. T.pieces r cx.new.entries ≡ each_piece (λ d t. shift d amount t) (T.pieces value cx.old.entries)) }
+{
+    value.fold_with(alloc, cx, &Shifter { amount })
+}
