@@ -1,5 +1,6 @@
 //! Worked headers and references, run through the plain program.
-use crate::declarations::{Reference, StructDecl, TraitDecl, World};
+use crate::declarations::{CrateDecl, ImplDecl, Reference, StructDecl, TraitDecl, World};
+use crate::instances::Stopped;
 use crate::tree::{Forest, Label, Sort};
 use crate::walk::Met;
 use std::alloc::{AllocError, Global};
@@ -144,5 +145,168 @@ fn the_open_walk_enters_own_fundamental_structs(rt: HostRuntime) -> Result<(), A
     assert!(rt; !world.is_known_in(alloc, FIRST, &scalar)?);
     assert!(rt; world.is_known_in(alloc, BASE, &scalar)?);
     assert!(rt; !parameter(alloc)?.is_closed());
+    Ok(())
+}
+
+fn scalar(alloc: Global) -> Result<Forest, AllocError> {
+    Forest::leaf(alloc, Label::Uint(0))
+}
+
+fn impl_for(alloc: Global, name: u64, self_type: Forest) -> ImplDecl {
+    ImplDecl {
+        name,
+        home: BASE,
+        params: 0,
+        header: show(self_type),
+        clauses: Vec::new(alloc),
+    }
+}
+
+// `impl<T> Show for V<T> where T: Show; impl Show for u8`: `V<V<u8>>: Show` rests on `V<u8>: Show`, `u8: Show` on nothing, and
+// `bool` has no rule; nor has the ill-sorted `V<3>`.
+#[test]
+fn impls_conclude_the_instances_of_their_headers(rt: HostRuntime) -> Result<(), Stopped> {
+    let alloc = rt.alloc();
+    let mut world = world(alloc)?;
+    world.impls.push(ImplDecl {
+        name: 100,
+        home: BASE,
+        params: 1,
+        header: show(applied(alloc, 10, parameter(alloc)?, Forest::Empty)?),
+        clauses: vec![in alloc; show(parameter(alloc)?)]?,
+    })?;
+    world.impls.push(impl_for(alloc, 101, scalar(alloc)?))?;
+    let inner = applied(alloc, 10, scalar(alloc)?, Forest::Empty)?;
+    let premise = show(inner.copy(alloc)?);
+    let nested = world.impl_rules(alloc, &show(applied(alloc, 10, inner, Forest::Empty)?))?;
+    assert_eq!(rt; nested.len(), 1);
+    assert_eq!(rt; nested[0].impl_number, 100);
+    assert_eq!(rt; nested[0].premises.len(), 1);
+    assert!(rt; nested[0].premises[0].is_same(&premise));
+    let plain = world.impl_rules(alloc, &show(scalar(alloc)?))?;
+    assert_eq!(rt; plain.len(), 1);
+    assert_eq!(rt; plain[0].impl_number, 101);
+    assert!(rt; plain[0].premises.is_empty());
+    let none = world.impl_rules(alloc, &show(Forest::leaf(alloc, Label::Bool)?))?;
+    assert!(rt; none.is_empty());
+    let three = Forest::leaf(alloc, Label::Value(3))?;
+    let ill_sorted = world.impl_rules(alloc, &show(applied(alloc, 10, three, Forest::Empty)?))?;
+    assert!(rt; ill_sorted.is_empty());
+    Ok(())
+}
+
+fn bounded_trait(alloc: Global, name: u64, bounds: &[u64]) -> Result<TraitDecl, Stopped> {
+    let mut declared = trait_of(alloc, name, BASE);
+    for bound in bounds {
+        declared.bounds.push(Reference {
+            trait_number: *bound,
+            args: parameter(alloc)?,
+        })?;
+    }
+    Ok(declared)
+}
+
+// `trait Top; trait Left: Top; trait Right: Top; trait Bottom: Left + Right`: Top stands once for each path.
+#[test]
+fn supertraits_come_by_each_path(rt: HostRuntime) -> Result<(), Stopped> {
+    let alloc = rt.alloc();
+    let mut world = world(alloc)?;
+    world.traits = vec![in alloc;
+        bounded_trait(alloc, 20, &[])?,
+        bounded_trait(alloc, 21, &[20])?,
+        bounded_trait(alloc, 22, &[20])?,
+        bounded_trait(alloc, 23, &[21, 22])?,
+    ]?;
+    let bottom = Reference {
+        trait_number: 23,
+        args: scalar(alloc)?,
+    };
+    let all = world.strict_supertraits(alloc, &bottom)?;
+    assert_eq!(rt; all.len(), 4);
+    assert_eq!(rt; all[0].trait_number, 21);
+    assert_eq!(rt; all[1].trait_number, 20);
+    assert_eq!(rt; all[2].trait_number, 22);
+    assert_eq!(rt; all[3].trait_number, 20);
+    assert!(rt; all[3].args.is_same(&scalar(alloc)?));
+    Ok(())
+}
+
+fn crate_of(alloc: Global, name: u64, uses: &[u64]) -> Result<CrateDecl, AllocError> {
+    Ok(CrateDecl {
+        name,
+        uses: Vec::from_slice(alloc, uses)?,
+    })
+}
+
+// `crate base; crate first uses base; crate second uses first`: each sees core, itself and what it uses through others.
+#[test]
+fn a_crate_sees_what_it_uses(rt: HostRuntime) -> Result<(), Stopped> {
+    let alloc = rt.alloc();
+    let mut world = world(alloc)?;
+    world.crates = vec![in alloc;
+        crate_of(alloc, 0, &[])?,
+        crate_of(alloc, BASE, &[])?,
+        crate_of(alloc, FIRST, &[BASE])?,
+        crate_of(alloc, 3, &[FIRST])?,
+    ]?;
+    world.impls.push(impl_for(alloc, 100, scalar(alloc)?))?;
+    assert!(rt; world.sees(3, BASE));
+    assert!(rt; world.sees(BASE, 0));
+    assert!(rt; !world.sees(BASE, FIRST));
+    assert!(rt; !world.sees(FIRST, 3));
+    let base = world.view_of(alloc, BASE)?;
+    assert_eq!(rt; base.crates.len(), 2);
+    assert_eq!(rt; base.structs.len(), 2);
+    assert_eq!(rt; base.traits.len(), 1);
+    assert_eq!(rt; base.impls.len(), 1);
+    let first = world.view_of(alloc, FIRST)?;
+    assert_eq!(rt; first.crates.len(), 3);
+    assert_eq!(rt; first.structs.len(), 4);
+    let core = world.view_of(alloc, 0)?;
+    assert!(rt; core.impls.is_empty());
+    Ok(())
+}
+
+// `&'a u8` with the lifetime 0 of the binder with this number.
+fn borrowed(alloc: Global, binder: u64) -> Result<Forest, AllocError> {
+    let parts = Forest::node(
+        alloc,
+        Label::Bound(Sort::Lifetime, binder, 0),
+        Forest::Empty,
+        scalar(alloc)?,
+    )?;
+    Forest::node(alloc, Label::Reference(false), parts, Forest::Empty)
+}
+
+// In `for<'b> fn(T)` with T = `&'a u8` under one binder, `'a` stands one binder deeper; and T is read off again at its place.
+#[test]
+fn an_argument_is_shifted_below_a_binder(rt: HostRuntime) -> Result<(), Stopped> {
+    let alloc = rt.alloc();
+    let pointer = Forest::node(alloc, Label::FnPtr(1), parameter(alloc)?, Forest::Empty)?;
+    let argument = borrowed(alloc, 0)?;
+    let instance = pointer.instantiate(alloc, 0, &argument)?;
+    let wanted = Forest::node(alloc, Label::FnPtr(1), borrowed(alloc, 1)?, Forest::Empty)?;
+    assert!(rt; instance.is_same(&wanted));
+    assert!(rt; !instance.is_same(&pointer));
+    let pattern = applied(alloc, 10, parameter(alloc)?, Forest::Empty)?;
+    let applied = applied(alloc, 10, borrowed(alloc, 0)?, Forest::Empty)?;
+    assert!(rt; applied.arguments(alloc, 1, &pattern)?.is_same(&argument));
+    assert!(rt; pattern.fits(&argument));
+    assert!(rt; !pattern.fits(&Forest::leaf(alloc, Label::Static)?));
+    Ok(())
+}
+
+// `impl Show for u8` twice overlap; `impl Show for bool` overlaps neither.
+#[test]
+fn closed_headers_overlap_where_they_are_one(rt: HostRuntime) -> Result<(), Stopped> {
+    let alloc = rt.alloc();
+    let one = impl_for(alloc, 100, scalar(alloc)?);
+    let two = impl_for(alloc, 101, scalar(alloc)?);
+    let other = impl_for(alloc, 102, Forest::leaf(alloc, Label::Bool)?);
+    assert!(rt; one.header.args.is_closed());
+    assert!(rt; two.header.args.is_closed());
+    assert!(rt; other.header.args.is_closed());
+    assert!(rt; two.overlaps_closed(&one));
+    assert!(rt; !other.overlaps_closed(&one));
     Ok(())
 }
