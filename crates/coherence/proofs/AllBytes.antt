@@ -1,11 +1,9 @@
 -- What a text gives is known from its first 1,048,577 bytes.
-use Rattle.std.proofs.Common.{◌≡◌, refl, ℕ, ◌+◌, ◌-◌, ◌≤◌, ◌<◌, ◌==◌, min, List, length, take, Result, Ok, Err, Some, sym, ap, ◌∙◌, subst, length-take, arith, count_by, lit≤, Option, None, inl, inr, ◌⊎◌, IfSome}
-use Rattle.std.specs.Io.KnownBytes.{Keeps}
+use Rattle.std.proofs.Common.{◌≡◌, ℕ, ◌+◌, ◌≤◌, ◌==◌, List, length, take, Result, Ok, Err, Some, sym, ap, subst, length-take, arith, count_by, lit≤, Option, None, inl, inr, IfSome}
 use Rattle.coherence.specs.Lines.{WritesOutput, WritesPrefix}
 use Rattle.std.proofs.lemmas.List.{take_all, take-take}
 use Rattle.text_model.specs.Declarations.{Declarations}
-use Rattle.text_model.specs.Text.{TextGives, too_long, fits, long_line, text_limit, LinesGive, lines_of}
-use Rattle.text_model.specs.Adding.{nothing_declared}
+use Rattle.text_model.specs.Text.{TextGives, too_long, fits, long_line}
 use Rattle.text_model.specs.Output.{Answer}
 use Rattle.coherence.specs.declared.status.Status.{Status}
 use Rattle.coherence.specs.Lines.{IsOutput, of_fault, of_answers}

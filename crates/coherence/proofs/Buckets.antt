@@ -1,8 +1,7 @@
 -- The impls of one header, in the order of the text.
-use Rattle.std.proofs.Common.{◌≡◌, refl, ℕ, zero, suc, ◌+◌, ◌-◌, ◌<◌, ◌≤◌, ◌⊎◌, inl, inr, Bool, true, false, List, [], ◌∷◌, ap, sym, ◌∙◌, subst, map, filter, length, Option, Some, None, arith, cond}
+use Rattle.std.proofs.Common.{◌≡◌, refl, ℕ, zero, suc, ◌+◌, ◌≤◌, Bool, true, false, List, [], ◌∷◌, ap, sym, subst, map, filter, Some, arith, cond}
 use Rattle.std.specs.List.{slice_get}
-use Rattle.std.proofs.lemmas.Option.{slice_get_within}
-use Rattle.model.specs.Worlds.{World, Reference, ImplDecl}
+use Rattle.model.specs.Worlds.{Reference, ImplDecl}
 use Rattle.model.specs.Rules.{same_reference}
 use Rattle.model.specs.Proofs.{In}
 use Rattle.model.proofs.Members.{in-filter, filter-in, in-map}

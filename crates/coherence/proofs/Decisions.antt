@@ -1,5 +1,5 @@
 -- Every crate has a verdict, and every question an answer.
-use Rattle.std.proofs.Common.{◌≡◌, ℕ, zero, suc, ◌+◌, ◌<◌, ◌≤◌, Bool, true, false, not, List, [], ◌∷◌, refl, ap, sym, ◌∙◌, ◌&&◌, ◌||◌, ◌==◌, subst, ◌⊎◌, inl, inr, arith, IsTrue, Some, nat_lt}
+use Rattle.std.proofs.Common.{◌≡◌, ℕ, zero, suc, ◌+◌, ◌<◌, ◌≤◌, Bool, true, false, not, List, [], ◌∷◌, refl, ap, sym, ◌∙◌, ◌&&◌, ◌||◌, ◌==◌, subst, ◌⊎◌, inl, inr, arith, Some, nat_lt}
 use Rattle.std.proofs.lemmas.Bool.Decides.{nat_tests}
 use Rattle.std.specs.List.{slice_get, list_any}
 use Rattle.model.specs.Worlds.{World, Reference, ImplDecl, view_of, sees}
@@ -7,8 +7,7 @@ use Rattle.model.specs.Rules.{same_reference}
 use Rattle.model.specs.Proofs.{In, HasProof}
 use Rattle.model.specs.Walks.{keeps_orphan_rule}
 use Rattle.model.specs.Answers.{CommonInstance}
-use Rattle.model.specs.LinkedSet.{Visited}
-use Rattle.model.proofs.Members.{some-member, member-some, true-or-false, same-number, so-false, not-both}
+use Rattle.model.proofs.Members.{some-member, member-some, true-or-false, same-number, not-both}
 use Rattle.model.proofs.Fitting.{same-reference-sound}
 use Rattle.coherence.specs.declared.session.Verdict.{Verdict}
 use Rattle.coherence.specs.declared.session.Verdict.TheVariants as verdicts

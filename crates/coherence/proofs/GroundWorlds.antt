@@ -1,19 +1,19 @@
 -- Worlds whose headers hold no parameter: a reference has a proof exactly if it is a header, and two impls overlap exactly if
 -- their headers are one.
-use Rattle.std.proofs.Common.{◌≡◌, ℕ, zero, suc, ◌+◌, ◌<◌, ◌≤◌, Bool, true, false, List, [], ◌∷◌, ◌++◌, refl, ap, sym, ◌∙◌, ◌&&◌, ◌||◌, ◌==◌, if◌then◌else◌, subst, ◌⊎◌, inl, inr, map, filter, arith, IsTrue, append-nil}
+use Rattle.std.proofs.Common.{◌≡◌, ℕ, ◌<◌, ◌≤◌, Bool, true, false, [], ◌∷◌, ◌++◌, refl, ap, sym, ◌∙◌, ◌&&◌, ◌||◌, ◌==◌, if◌then◌else◌, subst, ◌⊎◌, inl, inr, arith, IsTrue, append-nil}
 use Rattle.std.proofs.lemmas.Bool.Decides.{nat_tests}
-use Rattle.std.specs.List.{flat_map, list_any}
-use Rattle.model.specs.Label.{Label, bool, char, str, never, array, slice, tuple, dynamic, static, int, uint, adt, fn_ptr, auto_trait, value, reference, raw_pointer, principal, param, placeholder, infer, canonical, bound}
+use Rattle.std.specs.List.{flat_map}
+use Rattle.model.specs.Label.{Label, bool, char, str, never, int, uint, adt}
 use Rattle.model.specs.Codes.{same, same_label, same_numbers, numbers}
 use Rattle.model.specs.Trees.{Trees, none, tree, leaf, instantiate, fits, Fits, arguments}
-use Rattle.model.specs.Worlds.{World, Reference, StructDecl, TraitDecl, ImplDecl, with_args, view_of, sees, structs_named, traits_named}
-use Rattle.model.specs.Rules.{Rule, by_impl, rules, impl_rules, built_in_rules, plain_rules, object_rules, same_reference, is_auto, is_coinductive}
-use Rattle.model.specs.Proofs.{Entry, In, Every, Stands, HasProof}
+use Rattle.model.specs.Worlds.{World, Reference, TraitDecl, ImplDecl, with_args, view_of, sees, traits_named}
+use Rattle.model.specs.Rules.{Rule, by_impl, rules, impl_rules, built_in_rules, plain_rules, object_rules, same_reference, is_auto}
+use Rattle.model.specs.Proofs.{Entry, In, HasProof}
 use Rattle.model.specs.Walks.{local, entered, struct_leaf, until_decisive, struct_is, trait_is, keeps_orphan_rule, ends_local, walk}
-use Rattle.model.specs.Answers.{is_closed, is_possible, CommonInstance, OverlapIsReal, FixedLeft, FixedRight}
+use Rattle.model.specs.Answers.{is_possible, CommonInstance, OverlapIsReal, FixedLeft, FixedRight}
 use Rattle.model.proofs.Members.{here, in-nothing, in-append, in-left, in-flat, flat-in, in-filter, filter-in, some-member, so-false, not-both}
 use Rattle.model.proofs.Entries.{map-in, entry-proved}
-use Rattle.model.proofs.Fitting.{ByImpl, impl-rule}
+use Rattle.model.proofs.Fitting.{impl-rule}
 
 -- a type that is one leaf without open place
 abbrev pub is_plain : Label → Bool

@@ -1,5 +1,5 @@
 -- Lines, one after the other, and how a part of them goes on to a whole.
-use Rattle.std.proofs.Common.{◌≡◌, refl, ℕ, zero, suc, ◌+◌, ◌-◌, ◌≤◌, ◌<◌, ◌⊎◌, inl, inr, min, List, [], ◌∷◌, ◌++◌, length, map, take, drop, Option, Some, None, Result, Ok, Err, sym, ap, ◌∙◌, subst, append-nil, append_assoc, length-append, length-take, take-add, arith}
+use Rattle.std.proofs.Common.{◌≡◌, refl, ℕ, zero, suc, ◌+◌, ◌-◌, ◌≤◌, ◌<◌, ◌⊎◌, inl, inr, min, List, [], ◌∷◌, ◌++◌, length, map, take, Option, Some, None, sym, ap, ◌∙◌, subst, append-nil, append_assoc, arith}
 use Rattle.std.specs.List.{slice_get, flat_map}
 use Rattle.std.specs.Io.KnownBytes.{Appends, Keeps}
 use Rattle.std.proofs.Math.Seq.{take-length, take-append-add}
@@ -12,13 +12,13 @@ use Rattle.type_terms.specs.declared.CrateId.{CrateId}
 use Rattle.type_terms.specs.declared.TheConstants.{MAX_INDEX}
 use Rattle.model.specs.Worlds.{ImplDecl}
 use Rattle.model.specs.Proofs.{In}
-use Rattle.text_model.specs.Declarations.{Declarations, NamedCrate, Question, world_of, first_impl}
+use Rattle.text_model.specs.Declarations.{Declarations, NamedCrate, world_of, first_impl}
 use Rattle.text_model.specs.Numbered.{IsNumbered, IsFew}
 use Rattle.text_model.specs.Output.{Answer, output_text}
 use Rattle.coherence_text.specs.Views.{numbers_of}
 use Rattle.coherence.specs.Streams.{AppendsPrefix}
 use Rattle.coherence.specs.Sessions.{IsOfText}
-use Rattle.coherence.specs.Lines.{CrateLines, no_crates, and_crate, QuestionLines, no_questions, and_question, verdict_line, prove_line}
+use Rattle.coherence.specs.Lines.{CrateLines, and_crate, QuestionLines, no_questions, and_question, verdict_line, prove_line}
 use Rattle.coherence.specs.Progress.{WritesAnswersPrefix, WritesCratesPrefix, WritesQuestionsPrefix, WritesCrates}
 use Rattle.coherence.proofs.TextFacts.{plain-text, ground-world}
 use Rattle.coherence.proofs.Buckets.{get-map, map-get}

@@ -1,16 +1,13 @@
 -- The orphan rule of a header that the code reads, and the first that breaks it.
-use Rattle.std.proofs.Common.{◌≡◌, refl, ℕ, zero, suc, ◌+◌, ◌<◌, ◌≤◌, ◌⊎◌, inl, inr, Bool, true, false, List, [], ◌∷◌, ap, sym, ◌∙◌, ◌||◌, ◌==◌, subst, map, length, Some, arith, IsTrue}
+use Rattle.std.proofs.Common.{◌≡◌, refl, ℕ, ◌+◌, ◌<◌, ◌≤◌, ◌⊎◌, inl, inr, Bool, true, false, List, [], ◌∷◌, ap, sym, ◌∙◌, ◌||◌, ◌==◌, subst, map, length, Some, arith}
 use Rattle.std.specs.List.{slice_get, list_any}
 use Rattle.std.proofs.lemmas.Bool.{cases_lt}
 use Rattle.std.proofs.lemmas.Option.{slice_get_within}
-use Rattle.model.specs.Label.{Label}
-use Rattle.model.specs.Trees.{leaf}
-use Rattle.model.specs.Worlds.{World, ImplDecl, StructDecl, TraitDecl, structs_named, traits_named}
-use Rattle.model.specs.Walks.{keeps_orphan_rule, trait_is, struct_is}
-use Rattle.model.specs.Proofs.{In}
+use Rattle.model.specs.Worlds.{World, ImplDecl, StructDecl, TraitDecl}
+use Rattle.model.specs.Walks.{keeps_orphan_rule}
 use Rattle.text_model.specs.Declarations.{Declarations, world_of, first_impl}
-use Rattle.coherence_text.specs.declared.token.Primitive.{Primitive}
-use Rattle.coherence_text.specs.declared.token.Primitive.TheVariants as primitives
+use Rattle.coherence_text.specs.declared.Primitive.{Primitive}
+use Rattle.coherence_text.specs.declared.Primitive.TheVariants as primitives
 use Rattle.coherence_text.specs.Views.{primitive_label}
 use Rattle.coherence.specs.Sessions.{IsOfText}
 use Rattle.coherence.specs.Verdicts.{KeepsOrphanRule, BreaksOrphanRule, IsFirstOrphan}

@@ -1,9 +1,9 @@
 -- The search for a pair that overlaps.
-use Rattle.std.proofs.Common.{◌≡◌, refl, ℕ, zero, suc, ◌+◌, ◌-◌, ◌<◌, ◌≤◌, ◌⊎◌, inl, inr, Bool, true, false, List, [], ◌∷◌, ap, sym, ◌∙◌, subst, map, length, Some, arith}
+use Rattle.std.proofs.Common.{◌≡◌, refl, ℕ, ◌+◌, ◌-◌, ◌<◌, ◌≤◌, ◌⊎◌, inl, inr, true, List, ap, sym, ◌∙◌, subst, length, Some, arith}
 use Rattle.std.specs.List.{slice_get}
 use Rattle.std.proofs.lemmas.Option.{slice_get_within}
 use Rattle.std.proofs.lemmas.Bool.{cases_lt}
-use Rattle.model.specs.Worlds.{World, Reference, ImplDecl, sees}
+use Rattle.model.specs.Worlds.{Reference, ImplDecl, sees}
 use Rattle.model.specs.Proofs.{In}
 use Rattle.model.specs.Answers.{CommonInstance}
 use Rattle.type_terms.specs.declared.ImplId.{ImplId}
@@ -11,7 +11,7 @@ use Rattle.text_model.specs.Declarations.{Declarations, world_of, first_impl}
 use Rattle.coherence.specs.Sessions.{IsOfText}
 use Rattle.coherence.specs.Verdicts.{IsPair, IsEarlierPair, NoneOverlap, IsFirstOverlap}
 use Rattle.coherence.specs.Partners.{IsFirstPartner, HasNoPartner}
-use Rattle.coherence.proofs.GroundWorlds.{IsGround, common-same, real-overlap}
+use Rattle.coherence.proofs.GroundWorlds.{common-same, real-overlap}
 use Rattle.coherence.proofs.TextFacts.{plain-text, ground-world}
 use Rattle.coherence.proofs.Buckets.{IsBucket, bucket-impl, impl-bucket, bucket-rises}
 

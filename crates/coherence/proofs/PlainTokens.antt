@@ -1,13 +1,13 @@
 -- The types that a line writes are single leaves.
-use Rattle.std.proofs.Common.{◌≡◌, ℕ, Bool, true, false, List, [], ◌∷◌, ◌++◌, refl, ap, sym, ◌∙◌, ◌&&◌, ◌==◌, subst, Option, Some, None, find, if◌then◌else◌}
+use Rattle.std.proofs.Common.{◌≡◌, ℕ, Bool, true, false, List, [], ◌∷◌, refl, ◌==◌, subst, Option, Some, None, find, if◌then◌else◌}
 use Rattle.std.specs.List.{slice_get, list_all}
 use Rattle.std.specs.Str.{bytes_eq}
-use Rattle.std.specs.Option.{option_map, option_map_or, option_and_then}
+use Rattle.std.specs.Option.{option_map, option_map_or}
 use Rattle.model.specs.Label.{Label}
-use Rattle.model.specs.Proofs.{In, Every}
+use Rattle.model.specs.Proofs.{Every}
 use Rattle.text_model.specs.Words.{Keyword, primitives, primitive_named, keyword_named, is_digit, is_sign}
 use Rattle.text_model.specs.Tokens.{Token, keyword, primitive, name, lifetime, variable, number, sign, arrow, Piece, word, quoted, queried, pointing, byte, pieces, number_from, name_token, word_token, as_lifetime, as_variable, sign_token, in_front, tokens_from, tokens_of}
-use Rattle.text_model.specs.Syntax.{Line, TypeTree, of_primitive, never_type, named, crate_line, struct_line, trait_line, impl_line, prove_line, type_spelling, spelling}
+use Rattle.text_model.specs.Syntax.{Line, TypeTree, of_primitive, never_type, named, crate_line, struct_line, trait_line, impl_line, prove_line, spelling}
 use Rattle.text_model.specs.Written.{IsWritten}
 use Rattle.coherence.proofs.GroundWorlds.{is_plain}
 use Rattle.coherence.proofs.Lists.{found, each-passes}

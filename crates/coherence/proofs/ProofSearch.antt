@@ -1,14 +1,14 @@
 -- The search for an impl that proves a reference.
-use Rattle.std.proofs.Common.{◌≡◌, refl, ℕ, ◌+◌, ◌-◌, ◌<◌, ◌≤◌, ◌⊎◌, inl, inr, Bool, true, false, List, [], ◌∷◌, ap, sym, ◌∙◌, subst, length, Some, arith}
+use Rattle.std.proofs.Common.{◌≡◌, ℕ, ◌+◌, ◌-◌, ◌<◌, ◌≤◌, ◌⊎◌, inl, inr, true, List, [], ap, sym, ◌∙◌, subst, length, Some, arith}
 use Rattle.std.specs.List.{slice_get}
 use Rattle.std.proofs.lemmas.Option.{slice_get_within}
 use Rattle.std.proofs.lemmas.Bool.{cases_lt}
-use Rattle.model.specs.Worlds.{World, Reference, ImplDecl, sees, view_of}
+use Rattle.model.specs.Worlds.{Reference, ImplDecl, sees, view_of}
 use Rattle.model.specs.Proofs.{In, HasProof}
 use Rattle.type_terms.specs.declared.ImplId.{ImplId}
 use Rattle.text_model.specs.Declarations.{Declarations, Question, world_of, first_impl}
 use Rattle.coherence.specs.Sessions.{IsOfText}
-use Rattle.coherence.proofs.GroundWorlds.{IsGroundReference, view-proved, view-header}
+use Rattle.coherence.proofs.GroundWorlds.{view-proved, view-header}
 use Rattle.coherence.proofs.TextFacts.{plain-text, ground-world}
 use Rattle.coherence.proofs.Buckets.{IsBucket, bucket-impl, impl-bucket}
 use Rattle.coherence.proofs.PairLaws.{place-of}

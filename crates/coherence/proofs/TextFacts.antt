@@ -1,14 +1,14 @@
 -- What every text's declarations keep.
-use Rattle.std.proofs.Common.{◌≡◌, ℕ, zero, suc, ◌+◌, ◌<◌, ◌≤◌, Bool, true, false, not, List, [], ◌∷◌, ◌++◌, refl, ap, sym, ◌∙◌, ◌&&◌, ◌||◌, ◌==◌, subst, ◌⊎◌, inl, inr, arith, map, length, Option, Some, None, Result, Ok, Err, IfOk, is_none, is_some, find}
-use Rattle.std.specs.List.{slice_get, list_any}
+use Rattle.std.proofs.Common.{◌≡◌, ℕ, suc, ◌+◌, ◌≤◌, true, false, List, [], ◌∷◌, ◌++◌, refl, subst, arith, Option, Some, None, Result, Ok, IfOk, is_none, find}
+use Rattle.std.specs.List.{slice_get}
 use Rattle.std.specs.Str.{bytes_eq}
-use Rattle.std.specs.Option.{option_map, option_map_or, option_or}
-use Rattle.model.specs.Worlds.{Reference, TraitDecl, ImplDecl}
+use Rattle.std.specs.Option.{option_map, option_or}
+use Rattle.model.specs.Worlds.{TraitDecl, ImplDecl}
 use Rattle.model.specs.Proofs.{In}
 use Rattle.model.proofs.Members.{here, there, in-nothing, in-right, member-some, not-both}
 use Rattle.model.proofs.Entries.{map-in}
 use Rattle.text_model.specs.Declarations.{Declarations, world_of, first_impl, NamedCrate, NamedStruct, NamedTrait, Question, Known, a_crate, a_struct, a_trait, known, crate_known, struct_known, trait_known, first_trait}
-use Rattle.text_model.specs.Mentions.{Mention, Sort, trait_sort, trait_mention, crate_mention, type_mentions, mentions}
+use Rattle.text_model.specs.Mentions.{trait_sort, trait_mention, crate_mention, type_mentions, mentions}
 use Rattle.text_model.specs.Faults.{fault_of, is_faulty, mentions_unknown, mentions_other_sort, is_other_sort, is_sort}
 use Rattle.text_model.specs.Syntax.{Line, TypeTree, of_primitive, never_type, named, crate_line, struct_line, trait_line, impl_line, prove_line}
 use Rattle.text_model.specs.Adding.{added, reference_of, type_label, known_struct, known_crate, known_trait, trait_of, impl_of, nothing_declared}

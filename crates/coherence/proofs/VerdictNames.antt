@@ -1,12 +1,11 @@
 -- The impls that a verdict names are there.
-use Rattle.model.specs.Proofs.{In}
 use Rattle.text_model.specs.Declarations.{Declarations, world_of}
 use Rattle.coherence.specs.declared.session.Verdict.{Verdict}
 use Rattle.coherence.specs.declared.session.Verdict.TheVariants as verdicts
 use Rattle.std.proofs.Common.{ℕ}
 use Rattle.coherence.specs.Sessions.{IsOfText}
 use Rattle.coherence.specs.Verdicts.{IsVerdict}
-use Rattle.coherence.specs.Progress.{NamesImpls, IsImplNumber}
+use Rattle.coherence.specs.Progress.{NamesImpls}
 use Rattle.coherence.proofs.PairLaws.{place-of}
 
 pub verdict-names : (limit : ℕ) (d : Declarations) (c : ℕ) (v : Verdict) → IsOfText d → IsVerdict limit (world_of d) c v → NamesImpls d v

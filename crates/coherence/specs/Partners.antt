@@ -1,7 +1,6 @@
 -- What the search for a pair that overlaps keeps: words of the crate's own functions.
-use Rattle.std.specs.Prelude.{◌≡◌, ℕ, ◌≤◌, true}
-use Rattle.model.specs.Worlds.{World, ImplDecl, sees}
-use Rattle.model.specs.Answers.{CommonInstance}
+use Rattle.std.specs.Prelude.{◌≡◌, ℕ, ◌≤◌}
+use Rattle.model.specs.Worlds.{World, ImplDecl}
 use Rattle.coherence.specs.Verdicts.{IsPair}
 
 -- number k is that of the first impl with i's header that i is compared with

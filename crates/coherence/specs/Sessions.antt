@@ -1,5 +1,5 @@
 -- What a session asks about.
-use Rattle.std.specs.Prelude.{◌≡◌, ℕ, ◌-◌, ◌≤◌, ◌<◌, List, length, Ok, Some, slice_get, refl}
+use Rattle.std.specs.Prelude.{◌≡◌, ℕ, ◌-◌, ◌≤◌, List, Ok, Some, slice_get, refl}
 use Rattle.std.specs.Coded.{Coded, code_by, coded_ℕ, coded×}
 use Rattle.text_model.specs.Declarations.{Declarations, Question}
 use Rattle.text_model.specs.Stored.{declarations_code}

@@ -1,6 +1,6 @@
 //! Sessions.
 
-ghost use Rattle.std.specs.Prelude.{◌≡◌, ◌<◌, ◌-◌, length, ℕ, IfOk, Some, slice_get, []};
+ghost use Rattle.std.specs.Prelude.{◌≡◌, ◌≢◌, ◌<◌, ◌-◌, length, ℕ, IfOk, Some, slice_get, []};
 ghost use Rattle.model.specs.Worlds.{view_of};
 ghost use Rattle.model.specs.Answers.{IsDeterminate};
 ghost use Rattle.text_model.specs.Declarations.{world_of, Question};
@@ -82,6 +82,8 @@ impl<'w> Session<'w> {
         ensures of_crate { IfOk result (λ session. session.of_crate ≡ crate_id.index) }
         ensures depth { IfOk result (λ session. session.depth ≡ limits.depth) }
         ensures handles { IfOk result (λ session. session.handles ≡ limits.handles) }
+        // No table is there yet that could be full.
+        ensures never_full { result ≢ Err Fault.Full }
     {
         Ok(Session {
             workspace,
@@ -97,6 +99,7 @@ impl<'w> Session<'w> {
     /// and then of its own those with a smaller number. Two impls overlap where their headers have a common instance.
     pub fn check_crate(&mut self) -> Result<Verdict, Fault>
         ensures verdict { IfOk result (λ verdict. IsVerdict self.old.depth (world_of self.old.declarations) self.old.of_crate verdict) }
+        ensures never_full { result ≢ Err Fault.Full }
         ensures same { self.new ≡ self.old }
     {
         if let Some(orphan) = first_orphan(self.workspace, self.crate_id) {
@@ -114,6 +117,7 @@ impl<'w> Session<'w> {
         ensures answer { (q : Question) → Asks self.old.declarations self.old.of_crate number q → IfOk result (λ answer. IsAnswer (world_of self.old.declarations) self.old.of_crate q.asked answer) }
         // A determinate reference gets its yes.
         ensures determinate { (q : Question) (limit : ℕ) → Asks self.old.declarations self.old.of_crate number q → IsDeterminate limit (view_of (world_of self.old.declarations) self.old.of_crate) [] q.asked → IfOk result (λ answer. answer ≡ ProveAnswer.Yes) }
+        ensures never_full { result ≢ Err Fault.Full }
         ensures same { self.new ≡ self.old }
     {
         let question = question_at(self.workspace, number as usize - 1);

@@ -10,6 +10,7 @@ use std::alloc::Global;
 use std::io;
 use std::io::{Read, Write};
 use std::test::*;
+use type_terms::ImplId;
 
 /// A text with `;` for each line's end.
 fn lines(alloc: Global, text: &[u8]) -> Result<Vec<u8>, Fail> {
@@ -157,6 +158,33 @@ fn a_session_is_asked_again(rt: HostRuntime) -> Result<(), Fail> {
     let unproved = (ProveAnswer::Unproved, ProveAnswer::Unproved);
     assert!(rt; asked_twice(rt.alloc(), &workspace, 0, limits()?)? == yes);
     assert!(rt; asked_twice(rt.alloc(), &workspace, 1, limits()?)? == unproved);
+    Ok(())
+}
+
+/// The crate and the number of the impl at a place of the text, as numbers.
+fn place_of(workspace: &Workspace, place: u8) -> (u32, u32)
+    requires { place < length workspace.now.impls }
+{
+    let (owner, number) = workspace.impl_place(ImplId {
+        index: 39 + u32::from(place),
+    });
+    (owner.index, number)
+}
+
+// The 39 impls of core come before the text's own, and each crate counts its impls from 1.
+#[test]
+fn impls_count_in_their_crates(rt: HostRuntime) -> Result<(), Fail> {
+    let text = lines(
+        rt.alloc(),
+        b"crate base;trait Show;impl Show for u8;crate a uses base;struct A;impl Show for bool;impl Show for A",
+    )?;
+    let Ok(workspace) = parse(rt.alloc(), &text) else {
+        return Err("a workspace".into());
+    };
+    assert!(rt; workspace.impl_entries().len() > 2);
+    assert!(rt; place_of(&workspace, 0) == (1, 1));
+    assert!(rt; place_of(&workspace, 1) == (2, 1));
+    assert!(rt; place_of(&workspace, 2) == (2, 2));
     Ok(())
 }
 

@@ -1,12 +1,8 @@
 mod Consistent
 mod Crates
 mod Each
-mod Grammar
 mod Grouped
 mod Headers
 mod Known
-mod Lines
-mod Names
 mod Outcome
-mod Reading
 mod Texts

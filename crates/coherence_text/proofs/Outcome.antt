@@ -5,9 +5,9 @@ use Rattle.text_model.specs.Declarations.{Declarations}
 use Rattle.text_model.specs.Faults.{fault_of}
 use Rattle.text_model.specs.Adding.{added, nothing_declared}
 use Rattle.text_model.specs.Written.{IsWritten, is_ascii, is_blank}
-use Rattle.coherence_text.specs.Reader.{written_in}
+use Rattle.text_syntax.specs.Reader.{written_in}
 use Rattle.text_model.specs.Text.{LineGives, other_byte, blank, unwritten, faulty, adds, LinesGive, ends, fails, goes_on, lines_of, TextGives, too_long, fits}
-use Rattle.coherence_text.proofs.Lines.{written_takes, written_again}
+use Rattle.text_syntax.proofs.Lines.{written_takes, written_again}
 
 judged : Declarations → Line → Option ℕ → Result Declarations ℕ
 judged d l None = Ok (added d l)

@@ -1,4 +1,3 @@
 pub mod Views
-pub mod Reader
 pub mod Tables
 pub mod Refusals

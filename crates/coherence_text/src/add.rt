@@ -8,13 +8,14 @@ ghost use Rattle.text_model.specs.Numbered.{IsFew};
 ghost use Rattle.text_model.specs.Syntax.{crate_line, impl_line, prove_line};
 ghost use Rattle.text_model.specs.Adding.{known_crate, known_trait, type_label, with_crate, added};
 ghost use Rattle.coherence_text.specs.Tables.{declared, IsConsistent, will_see};
-ghost use Rattle.coherence_text.specs.Views.{line_of, type_of, name_texts, self_label, numbers_of};
+ghost use Rattle.text_syntax.specs.Views.{line_of, type_of, name_texts};
+ghost use Rattle.coherence_text.specs.Views.{self_label, numbers_of};
 
 use crate::declared::{Named, QuestionEntry, SelfType};
-use crate::syntax::{Statement, WrittenType};
 use crate::tables::Tables;
 use crate::text::ENTRY_LIMIT;
 use std::alloc::{AllocError, Global};
+use text_syntax::{Statement, WrittenType};
 use type_terms::{CrateId, TraitId};
 
 impl Tables {

@@ -1,9 +1,6 @@
-//! Why a line or a text was not taken.
+//! Why a text was not taken.
 
-ghost use Rattle.std.specs.Prelude.{◌≡◌};
-ghost use Rattle.coherence_text.specs.declared.fault.LineError.TheVariants.{Memory};
-
-use std::alloc::{AllocError, AllocFailed};
+use std::alloc::AllocError;
 
 /// The first faulty line, counted from 1, and the smallest number of a fault in it.
 #[derive(Clone, Copy, Debug, PartialEq, Eq)]
@@ -31,28 +28,5 @@ impl From<AllocError> for TextError {
 
     fn from(_e: AllocError) -> TextError {
         TextError::Memory
-    }
-}
-
-/// Why a line was not read.
-#[derive(Clone, Copy, Debug, PartialEq, Eq)]
-pub(crate) enum LineError {
-    Memory,
-    Syntax,
-}
-
-impl From<AllocError> for LineError {
-    ghost from_gives = { λ _ e. e ≡ Memory };
-
-    fn from(_e: AllocError) -> LineError {
-        LineError::Memory
-    }
-}
-
-impl<T: Drop> From<AllocFailed<T>> for LineError {
-    ghost from_gives = { λ _ e. e ≡ Memory };
-
-    fn from(_e: AllocFailed<T>) -> LineError {
-        LineError::Memory
     }
 }

@@ -5,24 +5,19 @@
 #![tactic(auto)]
 
 mod add;
-mod cursor;
 mod declared;
 mod fault;
 mod judge;
-mod line;
-mod mention;
 mod print;
-mod syntax;
 mod tables;
 mod text;
-mod token;
 mod workspace;
 
 pub use declared::{ImplEntry, Question, QuestionEntry, SelfType};
 pub use fault::{TextError, TextFault};
 pub use print::{Output, print_line};
 pub use text::{one_outcome, parse};
-pub use token::Primitive;
+pub use text_syntax::Primitive;
 pub use workspace::Workspace;
 
 #[cfg(test)]

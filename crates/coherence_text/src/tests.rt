@@ -1,7 +1,7 @@
 use super::*;
 use std::alloc::{AllocError, Global};
 use std::test::*;
-use type_terms::{AdtId, CrateId, TraitId};
+use type_terms::{AdtId, CrateId, ImplId, TraitId};
 
 const TWO_CRATES: &[u8] =
     b"// two crates\ncrate base\nstruct A\ntrait Show\nimpl Show for u8\nimpl Show for A\n\ncrate next uses base\nimpl Show for !\nprove in next u8: Show\nprove in base A : Show";
@@ -26,6 +26,24 @@ fn seen_by(alloc: Global, workspace: &Workspace, id: CrateId) -> Result<usize, A
 
 fn sees(workspace: &Workspace, seeing: CrateId, seen: CrateId) -> bool {
     seeing.index < workspace.crate_count() && workspace.sees(seeing, seen)
+}
+
+/// The crate of an impl that is there, and the impl's number in it.
+fn place_of(workspace: &Workspace, id: ImplId) -> (u32, u32) {
+    if id.index < 39 || (id.index - 39) as usize >= workspace.impl_entries().len() {
+        return (0, 0);
+    }
+    let (owner, number) = workspace.impl_place(id);
+    (owner.index, number)
+}
+
+#[test]
+fn numbers_impls_in_each_crate(rt: HostRuntime) -> Result<(), Fail> {
+    let workspace = parse(rt.alloc(), TWO_CRATES)?;
+    assert_eq!(rt; place_of(&workspace, ImplId { index: 39 }), (1, 1));
+    assert_eq!(rt; place_of(&workspace, ImplId { index: 40 }), (1, 2));
+    assert_eq!(rt; place_of(&workspace, ImplId { index: 41 }), (2, 1));
+    Ok(())
 }
 
 #[test]

@@ -6,11 +6,11 @@ ghost use Rattle.text_model.specs.Text.{LineGives, LinesGive, lines_of, TextGive
 ghost use Rattle.coherence_text.specs.Tables.{declared, IsConsistent};
 ghost use Rattle.coherence_text.specs.Refusals.{IsRefusal, IsTextError};
 
-use crate::fault::{LineError, TextError, TextFault};
-use crate::line::{is_ascii, is_blank, read_line};
+use crate::fault::{TextError, TextFault};
 use crate::tables::Tables;
 use crate::workspace::Workspace;
 use std::alloc::{AllocError, Global};
+use text_syntax::{LineError, is_ascii, is_blank, read_line};
 
 /// The greatest length of a text.
 pub const TEXT_LIMIT: usize = 1_048_576;

@@ -1,4 +1,4 @@
-use Rattle.std.proofs.Common.{◌≤◌, ◌<◌, ◌≡◌, ◌-◌, ◌+◌, get_or, arith, rules}
+use Rattle.std.proofs.Common.{◌<◌, ◌≡◌, ◌+◌, get_or, arith}
 use Rattle.std.specs.Char.{digit_value, IsAsciiDigit}
 use Rattle.std.proofs.lemmas.Str.{digit_value_digit}
 use Rattle.coherence.proofs.DepthWords.{digit-at, more-digits, more-value, no-digit}

@@ -1,4 +1,4 @@
-use Rattle.std.proofs.Common.{◌≡◌, ◌≤◌, true, false, length, ap, sym, ◌∙◌, arith}
+use Rattle.std.proofs.Common.{◌≤◌, length, ap, arith}
 use Rattle.std.proofs.lemmas.List.{length-map}
 use Rattle.coherence_text.specs.Views.{impl_of}
 use Rattle.coherence.proofs.OrphanRule.{none-below, one-more-kept, first-breaks, all-kept}

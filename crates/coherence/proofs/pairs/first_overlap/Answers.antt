@@ -1,4 +1,4 @@
-use Rattle.std.proofs.Common.{◌≡◌, ◌≤◌, length, ap, arith, subst}
+use Rattle.std.proofs.Common.{◌≤◌, length, ap, arith, subst}
 use Rattle.std.proofs.lemmas.List.{length-map}
 use Rattle.coherence_text.specs.Views.{impl_of}
 use Rattle.text_model.specs.Declarations.{world_of}

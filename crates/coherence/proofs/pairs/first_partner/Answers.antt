@@ -1,4 +1,4 @@
-use Rattle.std.proofs.Common.{◌≡◌, ◌≤◌, true, false, length, arith}
+use Rattle.std.proofs.Common.{◌≤◌, length, arith}
 use Rattle.coherence_text.specs.Views.{impl_of, impl_header}
 use Rattle.coherence.proofs.PairLaws.{id-place, all-partners, next-partners, first-partner, no-partner}
 use Rattle.coherence.proofs.pairs.first_partner.Goals as goal

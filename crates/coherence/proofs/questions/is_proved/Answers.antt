@@ -1,4 +1,4 @@
-use Rattle.std.proofs.Common.{◌≡◌, ◌≤◌, true, false, refl, length, arith}
+use Rattle.std.proofs.Common.{◌≤◌, refl, length, arith}
 use Rattle.coherence_text.specs.Views.{question_of}
 use Rattle.coherence.proofs.PairLaws.{id-place}
 use Rattle.coherence.proofs.ProofSearch.{all-seen, next-seen, seen-proves, none-proves}

@@ -1,4 +1,4 @@
-use Rattle.std.proofs.Common.{◌≤◌, ◌<◌, ◌≡◌, ◌++◌, [], length, ◌+◌, take, arith, length-append, ap}
+use Rattle.std.proofs.Common.{◌++◌, take, arith, ap}
 use Rattle.std.proofs.lemmas.Grind.{common_steps}
 use Rattle.std.proofs.KnownBytes.{Consumes-trans}
 use Rattle.coherence.proofs.StreamLemmas.{all_read, end_read}

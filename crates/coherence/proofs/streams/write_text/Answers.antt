@@ -1,4 +1,4 @@
-use Rattle.std.proofs.Common.{◌≤◌, length, ◌+◌, ◌-◌, take, drop, length-take, length-drop, arith}
+use Rattle.std.proofs.Common.{length, ◌-◌, drop, length-take, length-drop, arith}
 use Rattle.coherence.proofs.StreamLemmas.{written_more}
 use Rattle.coherence.proofs.streams.write_text.Goals as goal
 

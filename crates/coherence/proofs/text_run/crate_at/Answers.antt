@@ -1,4 +1,4 @@
-use Rattle.std.proofs.Common.{sym, ◌∙◌, ap, Some, length, arith, ◌≡◌, ◌<◌}
+use Rattle.std.proofs.Common.{sym, ◌∙◌, ap, Some, length, arith, ◌<◌}
 use Rattle.std.proofs.lemmas.List.{length-map}
 use Rattle.std.proofs.lemmas.Option.{slice_get-get_or}
 use Rattle.text_model.specs.Declarations.{NamedCrate}

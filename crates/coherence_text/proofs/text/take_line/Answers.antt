@@ -1,5 +1,5 @@
 use Rattle.std.proofs.Common.{sym, ◌∙◌, ap, Err}
-use Rattle.coherence_text.specs.Views.{line_of}
+use Rattle.text_syntax.specs.Views.{line_of}
 use Rattle.text_model.specs.Text.{other_byte, blank, unwritten, faulty, adds}
 use Rattle.coherence_text.proofs.text.take_line.Goals as goal
 

@@ -1,4 +1,4 @@
-use Rattle.std.proofs.Common.{◌≡◌, ◌-◌, ap, true, false}
+use Rattle.std.proofs.Common.{◌-◌, ap}
 use Rattle.coherence_text.specs.Views.{question_of}
 use Rattle.coherence.specs.Sessions.{Subject}
 use Rattle.coherence.proofs.ProofSearch.{same-question}

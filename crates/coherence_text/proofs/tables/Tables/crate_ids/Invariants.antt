@@ -3,7 +3,8 @@ use Rattle.std.specs.Prelude.{All}
 use Rattle.text_model.specs.Declarations.{known}
 use Rattle.text_model.specs.Adding.{known_crate}
 use Rattle.coherence_text.specs.Tables.{declared}
-use Rattle.coherence_text.specs.Views.{numbers_of, name_texts}
+use Rattle.text_syntax.specs.Views.{name_texts}
+use Rattle.coherence_text.specs.Views.{numbers_of}
 use Rattle.coherence_text.proofs.tables.Tables.crate_ids.Given as goal
 
 abbrev pub invariant-loop-name : goal.invariant-loop-name

@@ -3,7 +3,7 @@ use Rattle.std.specs.Prelude.{is_none}
 use Rattle.std.specs.List.{list_any}
 use Rattle.text_model.specs.Declarations.{known}
 use Rattle.coherence_text.specs.Tables.{declared}
-use Rattle.coherence_text.specs.Views.{mention_of}
+use Rattle.text_syntax.specs.Views.{mention_of}
 use Rattle.coherence_text.proofs.Each.{list_any-map}
 use Rattle.coherence_text.proofs.tables.Tables.mentions_unknown.Goals as goal
 

@@ -1,0 +1,4 @@
+mod Grammar
+pub mod Lines
+mod Names
+mod Reading
