@@ -1,6 +1,6 @@
 //! What a full table answers, and each call once.
 ghost use Rattle.std.specs.Prelude.{IfOk};
-ghost use Rattle.type_terms.specs.Terms.{Has, Keeps, types};
+ghost use Rattle.type_terms.specs.Terms.{Has, Keeps, types, args_lists};
 ghost use Rattle.type_terms.specs.Kinds.{RegionHeld};
 
 use super::*;
@@ -9,6 +9,16 @@ use crate::number::{BoundVar, BoundVarIndexKind, TyVid};
 use crate::{AdtId, TraitId};
 use bitflags::Flags;
 use std::test::Fail;
+
+/// What a call answers, asked once more where memory was refused: a refusal leaves everything as it was.
+macro_rules! again {
+    ($call:expr) => {
+        match $call {
+            Err(Fault::Memory) => $call,
+            answer => answer,
+        }
+    };
+}
 
 /// The type `&'a u8` with this lifetime.
 fn reference(cx: &mut Interner, kind: RegionKind) -> Result<Ty, Fault>
@@ -32,13 +42,13 @@ fn both_orders(cx: &mut Interner, alloc: Global, first: Ty, second: Ty) -> Resul
 #[test]
 fn a_full_table_still_finds_its_terms(rt: HostRuntime) -> Result<(), Fail> {
     let mut cx = Interner::new(rt.alloc(), 2);
-    let byte = cx.mk_ty(TyKind::Uint(UintTy::U8))?;
-    let again = cx.mk_ty(TyKind::Uint(UintTy::U8))?;
-    assert!(rt; byte == again);
-    let boolean = cx.mk_ty(TyKind::Bool)?;
+    let byte = again!(cx.mk_ty(TyKind::Uint(UintTy::U8)))?;
+    let same = again!(cx.mk_ty(TyKind::Uint(UintTy::U8)))?;
+    assert!(rt; byte == same);
+    let boolean = again!(cx.mk_ty(TyKind::Bool))?;
     assert!(rt; byte != boolean);
-    assert!(rt; cx.mk_ty(TyKind::Char) == Err(Fault::Full));
-    assert!(rt; cx.mk_ty(TyKind::Bool) == Ok(boolean));
+    assert!(rt; again!(cx.mk_ty(TyKind::Char)) == Err(Fault::Full));
+    assert!(rt; again!(cx.mk_ty(TyKind::Bool)) == Ok(boolean));
     Ok(())
 }
 
@@ -51,20 +61,38 @@ fn equal_constants_have_one_handle(rt: HostRuntime) -> Result<(), Fail> {
     Ok(())
 }
 
+/// A list of two lifetimes.
+fn lifetimes(
+    cx: &mut Interner,
+    alloc: Global,
+    first: Region,
+    second: Region,
+) -> Result<GenericArgs, Fault>
+    requires first { RegionHeld first.kind }
+    requires second { RegionHeld second.kind }
+    ensures { IfOk result (λ args. Has cx.new.entries args_lists args.0) }
+{
+    let first = GenericArgKind::Lifetime(first);
+    let second = GenericArgKind::Lifetime(second);
+    cx.mk_args(vec![in alloc; first, second]?)
+}
+
 #[test]
 fn equal_argument_lists_have_one_handle(rt: HostRuntime) -> Result<(), Fail> {
     let alloc = rt.alloc();
     let mut cx = Interner::new(alloc, 2);
-    let first = GenericArgKind::Lifetime(Region {
+    let first = Region {
         kind: RegionKind::ReStatic,
-    });
-    let second = GenericArgKind::Lifetime(Region {
+    };
+    let second = Region {
         kind: RegionKind::ReEarlyParam(0),
-    });
-    let there = cx.mk_args(vec![in alloc; first, second]?)?;
+    };
+    let there = again!(lifetimes(&mut cx, alloc, first, second))?;
     assert!(rt; cx.args(there).len() == 2);
-    assert!(rt; cx.mk_args(vec![in alloc; first, second]?) == Ok(there));
-    assert!(rt; cx.mk_args(vec![in alloc; second, first]?) != Ok(there));
+    let same = again!(lifetimes(&mut cx, alloc, first, second))?;
+    let back = again!(lifetimes(&mut cx, alloc, second, first))?;
+    assert!(rt; there == same);
+    assert!(rt; there != back);
     Ok(())
 }
 
