@@ -1,9 +1,11 @@
-pub mod FoldFacts
-pub mod Items
-pub mod KindFacts
-pub mod PieceFacts
 pub mod Replacing
 pub mod ShiftFacts
 pub mod RegionFacts
-pub mod VisitFacts
 pub mod ValidateFacts
+pub mod UnderFacts
+pub mod ParamFlags
+pub mod ParamFacts
+pub mod MisfitFacts
+pub mod PuttingFacts
+pub mod EndFacts
+pub mod ClosedArgs

@@ -1,11 +1,10 @@
 -- Binder numbers shifted.
 use Rattle.std.specs.Prelude.{◌≡◌, ℕ, ◌+◌, ◌<◌, ◌≤◌, List, [], ◌∷◌, length, cond, ltb, refl, Bool, true, false}
-use Rattle.std.proofs.Common.{arith}
 use Rattle.model.specs.Label.{Label, bound, principal, auto_trait, inside}
 use Rattle.model.specs.Trees.{Trees, none, tree, outer_binder}
 use Rattle.type_terms.specs.declared.TheConstants.{MAX_INDEX}
-use Rattle.term_folds.specs.Folds.{Does, enters, puts, again, IsBound}
-use Rattle.term_folds.specs.Pieces.{Piece}
+use Rattle.term_traversal.specs.Folds.{Does, enters, puts, again, IsBound}
+use Rattle.term_traversal.specs.Pieces.{Piece}
 
 -- each number that leads out of d binders, raised by a, stays below the greatest number
 abbrev pub LabelInRange : ℕ → ℕ → Label → Type 0
@@ -56,6 +55,3 @@ shifting-once a bs (tree l c o) s e = by (ltb (length bs) (outer_binder (tree l 
     by : (b : Bool) (t : Trees) → cond b enters (puts t) ≡ again s → ⊥
     by true t e = cc
     by false t e = cc
-
-pub none_above : 0 ≤ 0
-none_above = omega arith

@@ -1,14 +1,20 @@
 //! Values under binders.
-ghost use Rattle.std.specs.Prelude.{◌≡◌};
+ghost use Rattle.std.specs.Prelude.{◌≡◌, ◌↔◌, ℕ, false, IfOk, IsSome, Some};
+ghost use Rattle.model.specs.Trees.{Trees, instantiate};
+ghost use Rattle.type_terms.specs.Terms.{Keeps, Has, args_lists, trees_at};
+ghost use Rattle.term_folds.specs.Arguments.{has_param, first_misfit_in, EachArgInRange};
+ghost use Rattle.term_traversal.specs.Pieces.{each_piece};
 
-use crate::binders::Binders;
-use crate::fold::FallibleTypeFolder;
-use crate::foldable::TypeFoldable;
-use crate::visit::TypeVisitor;
-use crate::visitable::TypeVisitable;
+use crate::instantiate::{ArgFolder, InstantiateError, ParamVisitor};
 use std::alloc::Global;
 use std::ops::ControlFlow;
+use term_traversal::binders::Binders;
+use term_traversal::fold::FallibleTypeFolder;
+use term_traversal::foldable::TypeFoldable;
+use term_traversal::visit::TypeVisitor;
+use term_traversal::visitable::TypeVisitable;
 use type_terms::interner::Interner;
+use type_terms::kinds::GenericArgs;
 
 /// A value below a binder of some lifetimes: `for<'a> fn(&'a u8)` binds one.
 ///
@@ -23,7 +29,7 @@ pub struct Binder<T> {
 
 impl<T: TypeVisitable> TypeVisitable for Binder<T> {
     ghost use Rattle.std.proofs.Common.{◌∷◌, ap};
-    ghost use Rattle.term_folds.specs.Pieces.{under};
+    ghost use Rattle.term_traversal.specs.Pieces.{under};
 
     ghost held = { λ x es. T.held x.value es };
 
@@ -123,5 +129,55 @@ impl<T> EarlyBinder<T> {
         ensures { result ≡ self.value }
     {
         self.value
+    }
+}
+
+impl<T: TypeFoldable> EarlyBinder<T> {
+    /// The value with the argument in the place of each parameter, shifted in by the binders above the place.
+    ///
+    /// `V<T>` with the argument `u8` is `V<u8>`. The parameter with the number i of each sort stands for the argument
+    /// with the place i. `ParamOutOfRange` comes where there is none, `ParamKind` where it is of another sort; of
+    /// several such parameters the first counts, a node coming before its children. Then nothing was made. `Fault`
+    /// comes where a term cannot be made, and only where each parameter has its argument. A value without parameters
+    /// comes back as it is: a type after one look at its flags.
+    ///
+    /// The arguments' binder numbers, shifted, have to be in range, as those of arguments that no binder number leads
+    /// out of always are (`closed_arguments_are_in_range`).
+    pub fn instantiate(
+        self,
+        alloc: Global,
+        cx: &mut Interner,
+        args: GenericArgs,
+    ) -> Result<T, InstantiateError>
+        requires held { T.held self.value cx.old.entries }
+        requires args { Has cx.old.entries args_lists args.0 }
+        requires range { EachArgInRange (trees_at cx.old.entries args.0) (T.pieces self.value cx.old.entries) }
+        ensures keeps { Keeps cx.old.entries cx.new.entries }
+        ensures limit { cx.new.limit ≡ cx.old.limit }
+        ensures held { IfOk result (λ r. T.held r cx.new.entries) }
+        ensures outline { IfOk result (λ r. T.outline r ≡ T.outline self.value) }
+
+        // Each parameter is replaced by its argument.
+        ensures instantiated { IfOk result (λ r. T.pieces r cx.new.entries ≡ each_piece (λ d t. instantiate d (trees_at cx.old.entries args.0) t) (T.pieces self.value cx.old.entries)) }
+
+        // The first parameter without an argument of its sort names the error, and nothing else gives these two.
+        ensures out_of_range { (result ≡ Err InstantiateError.ParamOutOfRange) ↔ (first_misfit_in (trees_at cx.old.entries args.0) (T.pieces self.value cx.old.entries) ≡ Some InstantiateError.ParamOutOfRange) }
+        ensures other_kind { (result ≡ Err InstantiateError.ParamKind) ↔ (first_misfit_in (trees_at cx.old.entries args.0) (T.pieces self.value cx.old.entries) ≡ Some InstantiateError.ParamKind) }
+
+        // Then nothing was made.
+        ensures refused { IsSome (first_misfit_in (trees_at cx.old.entries args.0) (T.pieces self.value cx.old.entries)) → cx.new.entries ≡ cx.old.entries }
+
+        // A value without parameters needs no term to be made.
+        ensures plain { has_param (T.pieces self.value cx.old.entries) ≡ false → result ≡ Ok self.value }
+        ensures untouched { has_param (T.pieces self.value cx.old.entries) ≡ false → cx.new.entries ≡ cx.old.entries }
+    {
+        let mut visitor = ParamVisitor { args, met: false };
+        if let ControlFlow::Break(misfit) = self.value.visit_with(&*cx, &mut visitor) {
+            return Err(misfit);
+        }
+        if !visitor.met {
+            return Ok(self.value);
+        }
+        Ok(self.value.fold_with(alloc, cx, &ArgFolder { alloc, args })?)
     }
 }

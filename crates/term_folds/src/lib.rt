@@ -1,27 +1,21 @@
-//! Folds and visits of types, constants and lifetimes, and what is said by them.
+//! Binders, where-clauses, and the folds and visits that change or check them: shifting, free lifetimes, bound
+//! variables.
 //!
-//! A fold walks a term and asks a folder at each type, constant and lifetime. Its meaning is plain replacement
-//! on trees (`Folds`), whatever the folder skips: a folder that leaves a term alone says so by replacing it by
-//! itself, as shifting does at a term that no binder number leads out of.
-//!
-//! A term that stands in several places is folded once in each of them: a fold takes as long as the tree is
-//! large, and a tree can double at every level. The place for a memo, by handle and binders, is `fold_ty`: what
-//! it ensures is determined by the term and the binders alone, so that what a memo holds is what the fold would
-//! answer.
+//! The walks themselves are those of `term_traversal`, whose modules are handed on here.
 #![tactic(auto)]
 
 pub mod binder;
-pub mod binders;
-pub mod fold;
-pub mod foldable;
-pub mod folder;
+pub mod fn_sig;
+pub mod instantiate;
 pub mod laws;
 pub mod predicate;
+mod predicate_ext;
 pub mod regions;
 pub mod shift;
-pub mod super_fold;
 #[cfg(test)]
 mod tests;
 pub mod validate;
-pub mod visit;
-pub mod visitable;
+
+pub use term_traversal::{
+    binders, fold, foldable, folder, super_fold, visit, visitable, visitable_ext,
+};

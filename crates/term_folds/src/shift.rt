@@ -2,16 +2,17 @@
 ghost use Rattle.std.specs.Prelude.{◌≡◌, ℕ, ◌<◌, length, min, IfOk};
 ghost use Rattle.model.specs.Trees.{shift};
 ghost use Rattle.type_terms.specs.Terms.{Keeps};
+ghost use Rattle.type_terms.specs.Kinds.{RegionHeld, region_trees};
 ghost use Rattle.type_terms.specs.declared.TheConstants.{MAX_INDEX};
-ghost use Rattle.term_folds.specs.Binders.{counts_of};
-ghost use Rattle.term_folds.specs.Pieces.{each_piece};
-ghost use Rattle.term_folds.specs.Shifts.{EachInRange, moved_number};
+ghost use Rattle.term_traversal.specs.Binders.{counts_of};
+ghost use Rattle.term_traversal.specs.Pieces.{each_piece};
+ghost use Rattle.term_folds.specs.Shifts.{EachInRange, moved, moved_number};
 
-use crate::binders::Binders;
-use crate::fold::Answer;
-use crate::foldable::TypeFoldable;
-use crate::folder::TypeFolder;
 use std::alloc::Global;
+use term_traversal::binders::Binders;
+use term_traversal::fold::Answer;
+use term_traversal::foldable::TypeFoldable;
+use term_traversal::folder::TypeFolder;
 use type_terms::interner::Interner;
 use type_terms::kinds::{Const, ConstKind, Ty, TyKind};
 use type_terms::number::{BoundVarIndexKind, DebruijnIndex};
@@ -45,7 +46,7 @@ impl Shifter {
 
 impl TypeFolder for Shifter {
     ghost use Rattle.std.proofs.Common.{refl};
-    ghost use Rattle.term_folds.specs.Shifts.{none_above};
+    ghost use Rattle.term_traversal.specs.Folds.{none_above};
     ghost use Rattle.term_folds.specs.Shifts.{shifting, shifting-bounds, shifting-once};
 
     ghost ready = { λ _ _. Unit {0} };
@@ -140,4 +141,39 @@ pub fn shift_vars<T: TypeFoldable>(
     ensures shifted { IfOk result (λ r. T.pieces r cx.new.entries ≡ each_piece (λ d t. shift d amount t) (T.pieces value cx.old.entries)) }
 {
     value.fold_with(alloc, cx, &Shifter { amount })
+}
+
+/// The value with `amount` added to each binder number that leads out of it, where the sum is in range; a number
+/// whose sum is not stays.
+pub(crate) fn moved_vars<T: TypeFoldable>(
+    alloc: Global,
+    cx: &mut Interner,
+    value: T,
+    amount: u32,
+) -> Result<T, Fault>
+    requires { T.held value cx.old.entries }
+    ensures keeps { Keeps cx.old.entries cx.new.entries }
+    ensures limit { cx.new.limit ≡ cx.old.limit }
+    ensures held { IfOk result (λ r. T.held r cx.new.entries) }
+    ensures moved { IfOk result (λ r. T.pieces r cx.new.entries ≡ each_piece (λ d t. moved d amount t) (T.pieces value cx.old.entries)) }
+{
+    let shifter = Shifter { amount };
+    value.fold_with(alloc, cx, &shifter)
+}
+
+/// The same for a lifetime, which needs no interner.
+pub(crate) fn moved_region(region: Region, amount: u32) -> Region
+    requires { RegionHeld region.kind }
+    ensures held { RegionHeld result.kind }
+    ensures moved { region_trees result ≡ moved 0 amount (region_trees region) }
+{
+    match region.kind {
+        RegionKind::ReBound(BoundVarIndexKind::Bound(binder), var) => {
+            let moved = Shifter { amount }.moved(binder, &Binders::Outermost);
+            Region {
+                kind: RegionKind::ReBound(BoundVarIndexKind::Bound(moved), var),
+            }
+        }
+        _ => region,
+    }
 }

@@ -1,82 +1,26 @@
 //! Each call once.
-ghost use Rattle.std.specs.Prelude.{IfOk};
-ghost use Rattle.type_terms.specs.Terms.{Has, types};
-ghost use Rattle.type_terms.specs.Kinds.{RegionHeld};
+ghost use Rattle.std.specs.Prelude.{◌≡◌, ◌<◌, false, IfOk};
+ghost use Rattle.type_terms.specs.Terms.{Has, Is, Keeps, types};
+ghost use Rattle.type_terms.specs.Kinds.{RegionHeld, region_label};
+ghost use Rattle.model.specs.Label.{bound, of_lifetime, reference, uint};
+ghost use Rattle.model.specs.Trees.{tree, none, leaf};
 
 use crate::binder::{Binder, EarlyBinder};
-use crate::binders::Binders;
-use crate::fold::{Answer, FallibleTypeFolder};
-use crate::foldable::TypeFoldable;
-use crate::folder::TypeFolder;
+use crate::laws::{instantiating_law, shifting_laws};
+use crate::predicate::{Clause, TraitPredicate, TraitRef};
 use crate::regions::{RegionMap, fold_regions};
-use crate::super_fold::TypeSuperFoldable;
-use crate::visitable::TypeVisitable;
+use crate::shift::shift_vars;
+use crate::validate::ValidateBoundVars;
 use std::alloc::Global;
+use std::ops::ControlFlow;
 use std::test::Fail;
-use type_terms::Fault;
+use term_traversal::visitable_ext::TypeVisitableExt;
+use type_terms::flags::TypeFlags;
 use type_terms::interner::Interner;
-use type_terms::kinds::{Const, Mutability, Ty, TyKind, UintTy};
-use type_terms::number::DebruijnIndex;
+use type_terms::kinds::{GenericArgKind, Mutability, Ty, TyKind, UintTy};
+use type_terms::number::{BoundVar, BoundVarIndexKind, DebruijnIndex};
 use type_terms::region::{Region, RegionKind};
-
-/// Leaves everything as it is.
-#[derive(Clone, Copy)]
-struct Identity;
-
-impl TypeFolder for Identity {
-    ghost use Rattle.std.proofs.Common.{refl};
-    ghost use Rattle.term_folds.specs.Folds.{enters, enters-once};
-    ghost use Rattle.term_folds.specs.Shifts.{none_above};
-
-    ghost ready = { λ _ _. Unit {0} };
-
-    ghost action = { λ _ _ _ _. enters };
-
-    ghost fuel = { λ _ _ _. 0 };
-
-    ghost ready_kept = { λ f old new k h. tt };
-
-    ghost action_kept = { λ f old new k h. refl };
-
-    ghost fuel_kept = { λ f old new k h. refl };
-
-    ghost enters_bounds = { λ f es bs t h. refl };
-
-    ghost falls = { λ f es bs t s h e. absurd (enters-once s e) };
-
-    ghost below_node = { λ f es l c. none_above };
-
-    ghost below_left = { λ f es x y. none_above };
-
-    ghost below_right = { λ f es x y. none_above };
-
-    fn fold_ty(
-        &self,
-        _cx: &mut Interner,
-        _ty: Ty,
-        _binders: &Binders,
-    ) -> Result<Answer<Ty>, Fault> {
-        Ok(Answer::Enter)
-    }
-
-    fn fold_const(
-        &self,
-        _cx: &mut Interner,
-        _ct: Const,
-        _binders: &Binders,
-    ) -> Result<Answer<Const>, Fault> {
-        Ok(Answer::Enter)
-    }
-
-    fn fold_region(
-        &self,
-        _cx: &Interner,
-        _region: Region,
-        _binders: &Binders,
-    ) -> Result<Answer<Region>, Fault> {
-        Ok(Answer::Enter)
-    }
-}
+use type_terms::{Fault, TraitId};
 
 /// Each lifetime is `'static`.
 #[derive(Clone, Copy)]
@@ -94,47 +38,131 @@ impl RegionMap for AllStatic {
     }
 }
 
+/// The lifetime with this place in the list of a binder.
+fn bound_region(binder: u32, place: u32) -> RegionKind
+    requires binder { binder < 16 }
+    requires place { place < 16 }
+    ensures held { RegionHeld result }
+    ensures label { region_label result ≡ bound of_lifetime binder place }
+{
+    let binder = BoundVarIndexKind::Bound(DebruijnIndex { index: binder });
+    RegionKind::ReBound(binder, BoundVar { index: place })
+}
+
+/// The type `&'a T` with this lifetime.
+fn reference_to(cx: &mut Interner, kind: RegionKind, to: Ty) -> Result<Ty, Fault>
+    requires region { RegionHeld kind }
+    requires to { Has cx.old.entries types to.0 }
+    ensures has { IfOk result (λ ty. Has cx.new.entries types ty.0) }
+    ensures keeps { Keeps cx.old.entries cx.new.entries }
+{
+    cx.mk_ty(TyKind::Ref(Region { kind }, to, Mutability::Not))
+}
+
 /// The type `&'a u8` with this lifetime.
-fn reference(cx: &mut Interner, kind: RegionKind) -> Result<Ty, Fault>
+fn byte_reference(cx: &mut Interner, kind: RegionKind) -> Result<Ty, Fault>
     requires { RegionHeld kind }
-    ensures { IfOk result (λ ty. Has cx.new.entries types ty.0) }
+    ensures is { IfOk result (λ ty. Is cx.new.entries types ty.0 (tree (reference false) (tree (region_label kind) none (leaf (uint 0))) none)) }
+    ensures keeps { Keeps cx.old.entries cx.new.entries }
 {
     let byte = cx.mk_ty(TyKind::Uint(UintTy::U8))?;
     cx.mk_ty(TyKind::Ref(Region { kind }, byte, Mutability::Not))
 }
 
-#[test]
-fn an_identity_folder_gives_the_same_handles(rt: HostRuntime) -> Result<(), Fail> {
-    let alloc = rt.alloc();
-    let mut cx = Interner::new(alloc, 8);
-    let ty = reference(&mut cx, RegionKind::ReEarlyParam(0))?;
-    let folded = ty.fold_with(alloc, &mut cx, &Identity)?;
-    assert!(rt; folded == ty);
-    let ty = reference(&mut cx, RegionKind::ReEarlyParam(0))?;
-    let folded = ty.super_fold_with(alloc, &mut cx, &Identity)?;
-    assert!(rt; folded == ty);
-    Ok(())
+/// The type `for<'a> fn() -> &'b u8` with this lifetime for `'b`.
+fn function(alloc: Global, cx: &mut Interner, kind: RegionKind) -> Result<Ty, Fault>
+    requires { RegionHeld kind }
+    ensures { IfOk result (λ ty. Has cx.new.entries types ty.0) }
+{
+    let output = byte_reference(cx, kind)?;
+    let tys = cx.mk_tys(vec![in alloc; output]?)?;
+    cx.mk_ty(TyKind::FnPtr(1, tys))
 }
 
 #[test]
 fn free_lifetimes_become_static(rt: HostRuntime) -> Result<(), Fail> {
     let alloc = rt.alloc();
     let mut cx = Interner::new(alloc, 8);
-    let wanted = reference(&mut cx, RegionKind::ReStatic)?;
-    let ty = reference(&mut cx, RegionKind::ReEarlyParam(0))?;
-    let folded = fold_regions(alloc, &mut cx, ty, &AllStatic)?;
-    assert!(rt; folded == wanted);
+    let inner = byte_reference(&mut cx, RegionKind::ReStatic)?;
+    let wanted = reference_to(&mut cx, RegionKind::ReStatic, inner)?;
+    let inner = byte_reference(&mut cx, RegionKind::ReStatic)?;
+    let ty = reference_to(&mut cx, RegionKind::ReEarlyParam(0), inner)?;
+    assert!(rt; fold_regions(alloc, &mut cx, ty, &AllStatic)? == wanted);
     Ok(())
 }
 
 #[test]
-fn binders_are_counted_from_within(rt: HostRuntime) {
-    let outermost = Binders::Outermost;
-    let outer = Binders::Inside(3, &outermost);
-    let inner = Binders::Inside(5, &outer);
-    assert!(rt; inner.depth().index == 2);
-    assert!(rt; inner.count(DebruijnIndex { index: 1 }) == Some(3));
-    assert!(rt; inner.count(DebruijnIndex { index: 2 }) == None);
+fn lifetimes_of_the_value_stay(rt: HostRuntime) -> Result<(), Fail> {
+    let alloc = rt.alloc();
+    let mut cx = Interner::new(alloc, 16);
+    let ty = function(alloc, &mut cx, bound_region(0, 0))?;
+    assert!(rt; fold_regions(alloc, &mut cx, ty, &AllStatic)? == ty);
+    let wanted = function(alloc, &mut cx, RegionKind::ReStatic)?;
+    let ty = function(alloc, &mut cx, bound_region(1, 0))?;
+    assert!(rt; fold_regions(alloc, &mut cx, ty, &AllStatic)? == wanted);
+    Ok(())
+}
+
+#[test]
+fn a_shift_moves_outer_lifetimes(rt: HostRuntime) -> Result<(), Fail> {
+    let alloc = rt.alloc();
+    let mut cx = Interner::new(alloc, 8);
+    let wanted = byte_reference(&mut cx, bound_region(1, 0))?;
+    let ty = byte_reference(&mut cx, bound_region(0, 0))?;
+    assert!(rt; shift_vars(alloc, &mut cx, ty, 1)? == wanted);
+    let ty = byte_reference(&mut cx, bound_region(0, 0))?;
+    assert!(rt; shift_vars(alloc, &mut cx, ty, 0)? == ty);
+    shifting_laws();
+    instantiating_law();
+    Ok(())
+}
+
+#[test]
+fn a_variable_has_to_match_its_binder(rt: HostRuntime) -> Result<(), Fail> {
+    let alloc = rt.alloc();
+    let mut cx = Interner::new(alloc, 16);
+    let first = byte_reference(&mut cx, bound_region(0, 0))?;
+    let second = byte_reference(&mut cx, bound_region(0, 1))?;
+    let one = ValidateBoundVars::new(1);
+    assert!(rt; one.validate(&cx, first) == ControlFlow::Continue(()));
+    assert!(rt; one.validate(&cx, second) == ControlFlow::Break(()));
+    let inside = function(alloc, &mut cx, bound_region(0, 1))?;
+    assert!(rt; ValidateBoundVars::new(2).validate(&cx, inside) == ControlFlow::Break(()));
+    Ok(())
+}
+
+#[test]
+fn a_clause_has_the_flags_of_its_parts(rt: HostRuntime) -> Result<(), Fail> {
+    let alloc = rt.alloc();
+    let mut cx = Interner::new(alloc, 8);
+    let parameter = cx.mk_ty(TyKind::Param(0))?;
+    let args = cx.mk_args(vec![in alloc; GenericArgKind::Ty(parameter)]?)?;
+    let def_id = TraitId { index: 4 };
+    let predicate = TraitPredicate {
+        trait_ref: TraitRef { def_id, args },
+    };
+    assert!(rt; predicate.def_id() == def_id);
+    assert!(rt; predicate.has_param(&cx));
+    assert!(rt; predicate.trait_ref.has_param(&cx));
+    assert!(rt; Clause::Trait(predicate).has_param(&cx));
+    let longer = Region {
+        kind: bound_region(0, 0),
+    };
+    let shorter = Region {
+        kind: RegionKind::ReEarlyParam(0),
+    };
+    let clause = Clause::RegionOutlives(longer, shorter);
+    assert!(rt; clause.flags(&cx) == TypeFlags(128 + 16));
+    assert!(rt; clause.outer_exclusive_binder(&cx).index == 1);
+    assert!(rt; Clause::TypeOutlives(parameter, longer).flags(&cx) == TypeFlags(128 + 1));
+    assert!(rt; Binder::bind_with_vars(clause, 1).has_param(&cx));
+    assert!(rt;
+        Binder::bind_with_vars(clause, 1)
+            .outer_exclusive_binder(&cx)
+            .index
+            == 0
+    );
+    Ok(())
 }
 
 #[test]

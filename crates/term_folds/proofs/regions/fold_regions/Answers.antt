@@ -1,4 +1,4 @@
-use Rattle.term_folds.proofs.FoldFacts.{ok-map}
+use Rattle.term_traversal.proofs.FoldFacts.{ok-map}
 use Rattle.term_folds.proofs.RegionFacts.{replaced-each}
 use Rattle.term_folds.proofs.regions.fold_regions.Goals as goal
 

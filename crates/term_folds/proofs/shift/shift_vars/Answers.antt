@@ -1,4 +1,4 @@
-use Rattle.term_folds.proofs.FoldFacts.{ok-map}
+use Rattle.term_traversal.proofs.FoldFacts.{ok-map}
 use Rattle.term_folds.proofs.ShiftFacts.{shifted-each}
 use Rattle.term_folds.proofs.shift.shift_vars.Goals as goal
 

@@ -1,0 +1,243 @@
+//! Parameters replaced by arguments.
+ghost use Rattle.std.specs.Prelude.{◌≡◌, ℕ, ◌<◌, length, min, not, IfOk, IfSome, option_map};
+ghost use Rattle.model.specs.Trees.{nth, some_node};
+ghost use Rattle.type_terms.specs.Terms.{Keeps, Has, args_lists, trees_at};
+ghost use Rattle.type_terms.specs.Kinds.{ArgHeld, arg_trees};
+ghost use Rattle.term_folds.specs.Arguments.{is_param, sort_at, arg_sort};
+
+use crate::shift::{moved_region, moved_vars};
+use bitflags::Flags;
+use std::alloc::Global;
+use term_traversal::binders::Binders;
+use term_traversal::fold::Answer;
+use term_traversal::folder::TypeFolder;
+use term_traversal::visit::{Seen, TypeVisitor};
+use type_terms::Fault;
+use type_terms::flags::TypeFlags;
+use type_terms::interner::{Handle, Interner};
+use type_terms::kinds::{Const, ConstKind, GenericArgKind, GenericArgs, Ty, TyKind};
+use type_terms::region::{Region, RegionKind};
+
+#[cfg(test)]
+mod tests;
+
+/// Why a value with parameters could not be instantiated.
+///
+/// It belongs to this project: the original stops the program at a parameter without an argument of its kind, and
+/// building a term cannot fail there.
+#[derive(Clone, Copy, Debug, PartialEq, Eq, thiserror::Error)]
+pub enum InstantiateError {
+    /// The value has a parameter for whose place there is no argument.
+    #[error("a parameter has no argument")]
+    ParamOutOfRange,
+    /// The argument is of another kind, as `3` for the type parameter of `V<T>`.
+    #[error("a parameter has an argument of another kind")]
+    ParamKind,
+    /// A term could not be made.
+    #[error("{0}")]
+    Fault(Fault),
+}
+
+impl From<Fault> for InstantiateError {
+    ghost use Rattle.term_folds.specs.declared.instantiate.InstantiateError.TheVariants as error;
+
+    ghost from_gives = { λ f e. e ≡ error.Fault f };
+
+    fn from(fault: Fault) -> InstantiateError {
+        InstantiateError::Fault(fault)
+    }
+}
+
+/// The argument with this place, if there is one.
+pub(crate) fn argument(cx: &Interner, args: GenericArgs, index: u32) -> Option<GenericArgKind>
+    requires { Has cx.now.entries args_lists args.0 }
+    ensures held { IfSome result (ArgHeld cx.now.entries) }
+    ensures sort { sort_at (trees_at cx.now.entries args.0) index ≡ option_map arg_sort result }
+    ensures tree { IfSome result (λ arg. arg_trees cx.now.entries arg ≡ nth (trees_at cx.now.entries args.0) index) }
+{
+    cx.lawful();
+    cx.args(args).get(index as usize).copied()
+}
+
+/// Whether a term has a parameter: one look at its flags.
+fn has_param<H: Handle>(cx: &Interner, term: H) -> bool
+    requires { Has cx.now.entries H.handle_kind (H.handle_number term) }
+    ensures { result ≡ some_node is_param (trees_at cx.now.entries (H.handle_number term)) }
+{
+    cx.flags(term).intersects(TypeFlags::HAS_PARAM)
+}
+
+/// Looks for a parameter that has no argument of its kind, and notes whether it met any parameter.
+///
+/// A value is looked through before it is folded: so the first such parameter names the error, whatever the interner
+/// would answer, and a refusal has made nothing.
+#[derive(Clone, Copy)]
+pub(crate) struct ParamVisitor {
+    pub args: GenericArgs,
+    pub met: bool,
+}
+
+impl TypeVisitor for ParamVisitor {
+    type Break = InstantiateError;
+
+    ghost use Rattle.type_terms.specs.Terms.{Has, args_lists, trees_at};
+    ghost use Rattle.term_folds.specs.Arguments.{Looks, looking-bounds};
+
+    ghost ready = { λ v es. Has es args_lists v.args.0 };
+
+    ghost sees = { λ es bs t v w a. Looks es bs t v w a };
+
+    ghost enters_bounds = { λ v es bs t h. looking-bounds (trees_at es v.args.0) t v h };
+
+    fn visit_ty(&mut self, cx: &Interner, ty: Ty, _binders: &Binders) -> Seen<InstantiateError> {
+        match cx.kind(ty) {
+            TyKind::Param(index) => {
+                self.met = true;
+                match argument(cx, self.args, index) {
+                    Some(GenericArgKind::Ty(_)) => Seen::Pass,
+                    Some(_) => Seen::Break(InstantiateError::ParamKind),
+                    None => Seen::Break(InstantiateError::ParamOutOfRange),
+                }
+            }
+            _ => {
+                if has_param(cx, ty) {
+                    Seen::Enter
+                } else {
+                    Seen::Pass
+                }
+            }
+        }
+    }
+
+    fn visit_const(
+        &mut self,
+        cx: &Interner,
+        ct: Const,
+        _binders: &Binders,
+    ) -> Seen<InstantiateError> {
+        match cx.const_kind(ct) {
+            ConstKind::Param(index) => {
+                self.met = true;
+                match argument(cx, self.args, index) {
+                    Some(GenericArgKind::Const(_)) => Seen::Pass,
+                    Some(_) => Seen::Break(InstantiateError::ParamKind),
+                    None => Seen::Break(InstantiateError::ParamOutOfRange),
+                }
+            }
+            _ => Seen::Pass,
+        }
+    }
+
+    fn visit_region(
+        &mut self,
+        cx: &Interner,
+        region: Region,
+        _binders: &Binders,
+    ) -> Seen<InstantiateError> {
+        match region.kind {
+            RegionKind::ReEarlyParam(index) => {
+                self.met = true;
+                match argument(cx, self.args, index) {
+                    Some(GenericArgKind::Lifetime(_)) => Seen::Pass,
+                    Some(_) => Seen::Break(InstantiateError::ParamKind),
+                    None => Seen::Break(InstantiateError::ParamOutOfRange),
+                }
+            }
+            _ => Seen::Pass,
+        }
+    }
+}
+
+/// Puts arguments in the places of parameters, each shifted in by the binders above it.
+///
+/// The original's `ArgFolder`. It passes a term whose flags have no parameter, and leaves a parameter without an
+/// argument of its kind as it is, which `instantiate` has ruled out.
+#[derive(Clone, Copy)]
+pub(crate) struct ArgFolder {
+    pub alloc: Global,
+    pub args: GenericArgs,
+}
+
+impl TypeFolder for ArgFolder {
+    ghost use Rattle.std.proofs.Common.{refl, ap};
+    ghost use Rattle.type_terms.specs.Terms.{Has, args_lists, trees_at};
+    ghost use Rattle.term_traversal.specs.Kept.{has-later, trees-later};
+    ghost use Rattle.term_traversal.specs.Folds.{none_above};
+    ghost use Rattle.term_folds.specs.Arguments.{putting, putting-bounds, putting-once};
+
+    ghost ready = { λ f es. Has es args_lists f.args.0 };
+
+    ghost action = { λ f es bs t. putting (trees_at es f.args.0) bs t };
+
+    ghost fuel = { λ _ _ _. 0 };
+
+    ghost ready_kept = { λ f old new k h. has-later old new k args_lists f.args.0 h };
+
+    ghost action_kept = { λ f old new k h. ap putting (trees-later old new k args_lists f.args.0 h) };
+
+    ghost fuel_kept = { λ f old new k h. refl };
+
+    ghost enters_bounds = { λ f es bs t h. putting-bounds (trees_at es f.args.0) bs t h };
+
+    ghost falls = { λ f es bs t s h e. absurd (putting-once (trees_at es f.args.0) bs t s e) };
+
+    ghost below_node = { λ f es l c. none_above };
+
+    ghost below_left = { λ f es x y. none_above };
+
+    ghost below_right = { λ f es x y. none_above };
+
+    fn fold_ty(&self, cx: &mut Interner, ty: Ty, binders: &Binders) -> Result<Answer<Ty>, Fault> {
+        match cx.kind(ty) {
+            TyKind::Param(index) => match argument(cx, self.args, index) {
+                Some(GenericArgKind::Ty(arg)) => {
+                    let arg = moved_vars(self.alloc, cx, arg, binders.depth().index)?;
+                    Ok(Answer::Replace(arg))
+                }
+                _ => Ok(Answer::Enter),
+            },
+            _ => {
+                if has_param(cx, ty) {
+                    Ok(Answer::Enter)
+                } else {
+                    Ok(Answer::Replace(ty))
+                }
+            }
+        }
+    }
+
+    fn fold_const(
+        &self,
+        cx: &mut Interner,
+        ct: Const,
+        binders: &Binders,
+    ) -> Result<Answer<Const>, Fault> {
+        match cx.const_kind(ct) {
+            ConstKind::Param(index) => match argument(cx, self.args, index) {
+                Some(GenericArgKind::Const(arg)) => {
+                    let arg = moved_vars(self.alloc, cx, arg, binders.depth().index)?;
+                    Ok(Answer::Replace(arg))
+                }
+                _ => Ok(Answer::Enter),
+            },
+            _ => Ok(Answer::Replace(ct)),
+        }
+    }
+
+    fn fold_region(
+        &self,
+        cx: &Interner,
+        region: Region,
+        binders: &Binders,
+    ) -> Result<Answer<Region>, Fault> {
+        match region.kind {
+            RegionKind::ReEarlyParam(index) => match argument(cx, self.args, index) {
+                Some(GenericArgKind::Lifetime(arg)) => {
+                    Ok(Answer::Replace(moved_region(arg, binders.depth().index)))
+                }
+                _ => Ok(Answer::Enter),
+            },
+            _ => Ok(Answer::Replace(region)),
+        }
+    }
+}

@@ -1,0 +1,6 @@
+pub mod Binders
+pub mod Folds
+pub mod Pieces
+pub mod Kept
+pub mod Visits
+pub mod Scans
