@@ -1,17 +1,16 @@
 -- Runs that follow plain recursion.
-use Rattle.std.proofs.Common.{◌≡◌, ◌≤◌, ◌<◌, ◌+◌, ◌-◌, ℕ, suc, zero, pred, Bool, true, false, cond, ◌||◌, List, [], ◌∷◌, ◌++◌, ◌⊎◌, inl, inr, refl, sym, ◌∙◌, ap, subst, Some, slice_get, take, drop, length, min, arith}
-use Rattle.search_graph.specs.declared.path_kind.PathKind.{PathKind}
-use Rattle.search_graph.specs.declared.delegate.Request.{Request}
+use Rattle.std.proofs.Common.{◌≡◌, ◌≤◌, ◌+◌, ℕ, suc, zero, pred, Bool, true, false, cond, ◌||◌, List, [], ◌∷◌, ◌⊎◌, inl, inr, refl, subst, Some, slice_get, take, drop, length, min, arith}
+use Rattle.search_paths.specs.declared.path_kind.PathKind.{PathKind}
 use Rattle.search_graph.specs.declared.delegate.Request.TheVariants.{Evaluate, EnterCandidate, FinishCandidate, IgnoreCandidate, Done}
 use Rattle.search_graph.specs.declared.delegate.Reply.{Reply}
 use Rattle.search_graph.specs.declared.delegate.Reply.TheVariants.{Begin, Result, Entered, Finished, Ignored}
-use Rattle.search_graph.specs.declared.dependencies.CycleHead.{CycleHead}
+use Rattle.search_paths.specs.declared.dependencies.CycleHead.{CycleHead}
 use Rattle.search_graph.specs.declared.stack.StackEntry.{StackEntry}
 use Rattle.search_graph.specs.Meaning.{Meaning, finished}
 use Rattle.search_graph.specs.Stack.{path_onto, question_of}
-use Rattle.search_graph.specs.Plain.{Completes, IsPlain, IsExact, IsNotPlain, Descends, IsOnTrack}
-use Rattle.search_graph.specs.Faithful.{AllDescend, IsUntouched, IsTold, IsFaithful, IsTracking, IsOnPlainTrack, IsKept}
-use Rattle.search_graph.proofs.Graphs.{path_split, length-path_onto}
+use Rattle.search_graph.specs.Plain.{Completes, IsPlain, IsNotPlain, Descends}
+use Rattle.search_graph.specs.Faithful.{AllDescend, IsUntouched, IsTold, IsFaithful, IsOnPlainTrack, IsKept}
+use Rattle.search_graph.proofs.Graphs.{path_split}
 use Rattle.search_graph.proofs.Plains.{cycle_is_not_plain, Descends-trans, question_descends, on_track_first, on_track_done, asked, entered_next, finished_next, ignored_next}
 
 pub true_not_false : true ≡ false → ⊥

@@ -1,19 +1,20 @@
 -- Proof graphs with open ends, and the paths that stacks make.
-use Rattle.std.proofs.Common.{◌≡◌, ℕ, suc, ◌+◌, ◌<◌, ◌≤◌, Bool, true, false, cond, ◌||◌, List, [], ◌∷◌, ◌++◌, ◌⊎◌, inl, inr, refl, sym, ◌∙◌, ap, subst, Option, Some, None, MatchOption, arith, take, drop, length, min, unwrap_or}
-use Rattle.std.proofs.Common.{get_or, slice_get, rules}
+use Rattle.std.proofs.Common.{◌≡◌, ℕ, ◌+◌, ◌≤◌, Bool, true, false, cond, ◌||◌, List, [], ◌∷◌, ◌++◌, ◌⊎◌, inl, inr, refl, sym, ◌∙◌, ap, subst, Option, Some, None, MatchOption, arith, take, drop, length, min, unwrap_or}
+use Rattle.std.proofs.Common.{get_or, slice_get}
 use Rattle.std.proofs.lemmas.Option.{slice_get_within, get_or_from_slice_get, MatchOption-at_some}
 use Rattle.std.proofs.Math.Seq.{split_at}
 use Rattle.std.proofs.Math.Numerals.{add-one}
-use Rattle.search_graph.specs.declared.path_kind.PathKind.{PathKind}
-use Rattle.search_graph.specs.declared.path_kind.PathKind.TheVariants.{Inductive, Unknown, Coinductive, ForcedAmbiguity}
+use Rattle.search_paths.specs.declared.path_kind.PathKind.{PathKind}
+use Rattle.search_paths.specs.declared.path_kind.PathKind.TheVariants.{Inductive, Unknown, Coinductive, ForcedAmbiguity}
 use Rattle.search_graph.specs.declared.stack.StackEntry.{StackEntry}
 use Rattle.search_graph.specs.declared.cache.CacheEntry.{CacheEntry}
-use Rattle.search_graph.specs.Path.{is_coinductive, greater}
+use Rattle.search_paths.specs.Path.{is_coinductive, greater}
 use Rattle.search_graph.specs.declared.delegate.Request.{Request}
 use Rattle.search_graph.specs.declared.delegate.Request.TheVariants.{Evaluate, EnterCandidate, FinishCandidate, IgnoreCandidate, Done}
 use Rattle.search_graph.specs.declared.delegate.Reply.{Reply}
 use Rattle.search_graph.specs.declared.delegate.Reply.TheVariants.{Begin, Result, Entered, Finished, Ignored}
-use Rattle.search_graph.specs.Meaning.{Meaning, Keeps, IsLawful, IsFair, AreReplies, IsReplyBy, Steps, premises, premises_back, premise_of, finished, answer_count, request_of, reply_of, IsDue, IsDueAt, IsDueAfter, IsInOrder, MakesMisstep}
+use Rattle.search_graph.specs.Meaning.{Meaning, Keeps, IsLawful, IsFair, IsReplyBy, Steps, premises, premises_back, premise_of, finished, answer_count, request_of, reply_of, IsDue, IsDueAt, IsDueAfter, IsInOrder, is_open}
+use Rattle.search_graph.specs.Computed.{Hears, nothing, also, given, computed, IsGiven, HoldsNoResult, IsComputed, MakesMisstep, here}
 use Rattle.search_graph.specs.Shown.{Shown, none, loop, rule, LoopsBack}
 use Rattle.search_graph.specs.Faithful.{IsKept}
 use Rattle.search_graph.specs.Stack.{Derived, question_of, path_onto, IsStack, IsEntry, IsProvisional, IsAnswer, IsRunning, IsCached, AreCached, kind_after, yes_questions}
@@ -169,6 +170,7 @@ module _ {C I R F : Type 0} (m : Meaning C I R F) where
   initial_answers law w c d es i e x j k r at same kind stack known is = record {
     known = known;
     fair = rw is (law.initial_fair w (m.goal_of c x) j);
+    source = rw is (record { how = inl (inr (inr (j, refl))) });
     room = room_at w c es i e at stack;
     yes = λ y.
         let j_is : j ≡ Coinductive = law.initial w (m.goal_of c x) j (rw is at y) in
@@ -187,6 +189,7 @@ module _ {C I R F : Type 0} (m : Meaning C I R F) where
       record {
         known = (keeps.results r result.known).0;
         fair = rw ((keeps.results r result.known).1, ← same) result.fair;
+        source = rw ((keeps.results r result.known).1, ← same) result.source;
         room = room_at w c es i e at stack;
         yes = λ y.
             let derived = result.yes (rw (keeps.results r result.known).1 at y) in
@@ -212,6 +215,7 @@ module _ {C I R F : Type 0} (m : Meaning C I R F) where
   IsProvisional-keeps w path q low c d r keeps h = record {
     known = (keeps.results r h.known).0;
     fair = rw (keeps.results r h.known).1 h.fair;
+    source = rw (keeps.results r h.known).1 h.source;
     yes = λ y. h.yes (rw (keeps.results r h.known).1 at y);
   }
 
@@ -288,10 +292,10 @@ module _ {C I R F : Type 0} (m : Meaning C I R F) where
       rule follows (Shown-weaken (m.Follows w) (length path) ((g, k) ∷ path) anywhere below) none
 
   pub cached_answers : (w : m.World) (path : List (m.Goal × PathKind)) (g : m.Goal) (j k : PathKind) (c : C) (r : R) → IsProvisional m w [] (g, j) 0 c r → IsAnswer m w path (g, k) (length path) c r
-  cached_answers w path g j k c r h = record { known = h.known; fair = h.fair; room = omega arith; yes = λ y. derived_anywhere w path g j k (h.yes y) }
+  cached_answers w path g j k c r h = record { known = h.known; fair = h.fair; source = h.source; room = omega arith; yes = λ y. derived_anywhere w path g j k (h.yes y) }
 
   pub provisional_alone : (w : m.World) (low : ℕ) (path : List (m.Goal × PathKind)) (g : m.Goal) (j k : PathKind) (c : C) (r : R) → length path ≤ low → IsProvisional m w path (g, j) low c r → IsProvisional m w [] (g, k) 0 c r
-  provisional_alone w low path g j k c r h p = record { known = p.known; fair = p.fair; yes = λ y. derived_alone w low path g j k h (p.yes y) }
+  provisional_alone w low path g j k c r h p = record { known = p.known; fair = p.fair; source = p.source; yes = λ y. derived_alone w low path g j k h (p.yes y) }
 
   -- what stood at the context c and the stack es stands later, at the context d and a stack that is the same
   module _ (c d : C) (es now : List (StackEntry I R)) (keeps : Keeps m c d) (same : now ≡ es) (stack : IsStack m (m.world c) [] c es) where
@@ -315,7 +319,7 @@ module _ {C I R F : Type 0} (m : Meaning C I R F) where
     IsAnswer-then q low f r h = rw (keeps.world, path-now) at h
 
   pub answer_of_run : (w : m.World) (path : List (m.Goal × PathKind)) (q : m.Goal × PathKind) (low : ℕ) (c : C) (r : R) → low ≤ length path → IsProvisional m w path q low c r → IsAnswer m w path q low c r
-  answer_of_run w path q low c r room h = record { known = h.known; fair = h.fair; room = room; yes = λ y. let d = h.yes y in rule d.1 d.2 none }
+  answer_of_run w path q low c r room h = record { known = h.known; fair = h.fair; source = h.source; room = room; yes = λ y. let d = h.yes y in rule d.1 d.2 none }
 
   fair-begin : (P : m.Goal → m.Answer → Type 0) (q : Request m.Goal m.Answer) → IsReplyBy m P q Begin
   fair-begin P (Evaluate g k) = tt
@@ -383,9 +387,15 @@ module _ {C I R F : Type 0} (m : Meaning C I R F) where
     known = steps.0;
     room = room;
     fair = (refl, fair-begin (IsFair m w) (m.asks w g []), tt);
+    hears = also nothing refl tt;
     count = omega arith;
     shown = none;
   }
+
+  -- the answer to a question
+  hears_more : (w : m.World) (g q : m.Goal) (k : PathKind) (heard : List (Reply m.Answer)) (a : m.Answer) → Hears m w g heard → m.asks w g heard ≡ Evaluate q k → IsDueAfter m w g heard (Result a)
+      → IsComputed m w q a → Hears m w g (Result a ∷ heard)
+  hears_more w g q k heard a hears asks due source = elim source.how [ inl x ↦ given hears asks due x | inr y ↦ computed hears asks due y.1 y.2 y.3 ]
 
   pub running_next : IsLawful m → (w : m.World) (path : List (m.Goal × PathKind)) (g : m.Goal) (low lower : ℕ) (b c d : C) (f h : F) (asked : Request I R) (i : I) (k : PathKind) (r : R) (q : Request I R)
       → asked ≡ Evaluate i k → m.world c ≡ w → Keeps m b c → IsRunning m w path g low b f asked → IsAnswer m w path (m.goal_of b i, k) lower c r
@@ -407,6 +417,7 @@ module _ {C I R F : Type 0} (m : Meaning C I R F) where
         known = steps.0;
         room = both;
         fair = (now, rw (← request) answer.fair, running.fair);
+        hears = hears_more w g (m.goal_of b i) k running.heard (m.answer_of c r) running.hears (sym request) now answer.source;
         count = let h = (law.asks_fair w g (m.goal_of b i) k running.heard running.fair (sym request)).0 in omega arith;
         shown = rw (← request) (shown_more w (min low lower) path (yes_questions m w g running.heard) (m.goal_of b i, k) (m.is_yes (m.answer_of c r))
             (λ y. Shown-lower (m.Follows w) lower (min low lower) path ((m.goal_of b i, k) ∷ []) second both (answer.yes y))
@@ -414,12 +425,13 @@ module _ {C I R F : Type 0} (m : Meaning C I R F) where
       }
 
   pub running_done : IsLawful m → (w : m.World) (path : List (m.Goal × PathKind)) (q : m.Goal × PathKind) (low : ℕ) (c : C) (f : F) (asked : Request I R) (r : R) → asked ≡ Done r → low ≤ length path
-      → IsRunning m w (q ∷ path) q.0 low c f asked → IsProvisional m w path q low c r
-  running_done law w path q low c f asked r is room running =
+      → (running : IsRunning m w (q ∷ path) q.0 low c f asked) → is_open m running.heard ≡ false → IsProvisional m w path q low c r
+  running_done law w path q low c f asked r is room running closed =
       let request : Done (m.answer_of c r) ≡ m.asks w q.0 running.heard = rw is at running.request in
       record {
         known = rw is at running.known;
         fair = law.done_fair w q.0 running.heard (m.answer_of c r) running.fair (sym request);
+        source = record { how = inr (running.heard, running.hears, sym request, closed) };
         yes = λ y. (
           premises m w q.0 running.heard,
           law.sound w q.0 running.heard (m.answer_of c r) running.fair (sym request) y,
@@ -433,11 +445,11 @@ module _ {C I R F : Type 0} (m : Meaning C I R F) where
 
     -- after a reply on a candidate
     pub running_other : (d : C) (h : F) (reply : Reply R) (q : Request I R)
-        → IsDueAt m w g running.heard (request_of m b asked) (reply_of m b reply) → IsReplyBy m (IsFair m w) (request_of m b asked) (reply_of m b reply)
+        → IsDueAt m w g running.heard (request_of m b asked) (reply_of m b reply) → IsReplyBy m (IsFair m w) (request_of m b asked) (reply_of m b reply) → HoldsNoResult (reply_of m b reply)
         → answer_count m (reply_of m b reply ∷ running.heard) ≡ answer_count m running.heard
         → yes_questions m w g (reply_of m b reply ∷ running.heard) ≡ yes_questions m w g running.heard
         → Steps m b f reply d h q → (n : IsRunning m w path g low d h q) × (n.heard ≡ reply_of m b reply ∷ running.heard)
-    running_other d h reply q due by counts shows steps =
+    running_other d h reply q due by quiet counts shows steps =
         let now : IsDueAfter m w g running.heard (reply_of m b reply) = due_after w g running.heard (request_of m b asked) (reply_of m b reply) running.begun asked_now due in
         let there : IsDueAfter m (m.world b) g running.heard (reply_of m b reply) = rw world now in
         let count = running.count in (
@@ -449,6 +461,7 @@ module _ {C I R F : Type 0} (m : Meaning C I R F) where
             known = steps.0;
             room = running.room;
             fair = (now, rw (← asked_now) by, running.fair);
+            hears = also running.hears now quiet;
             count = rw counts count;
             shown = rw shows running.shown;
           },
@@ -464,8 +477,8 @@ module _ {C I R F : Type 0} (m : Meaning C I R F) where
     )
 
     -- a request out of order
-    pub misstep_now : (IsInOrder m w g running.heard (request_of m b asked) → ⊥) → MakesMisstep m w
-    misstep_now not = record { goal = g; heard = running.heard; fair = running.fair; misstep = λ h. not (rw asked_now h) }
+    pub misstep_now : (IsInOrder m w g running.heard (request_of m b asked) → ⊥) → MakesMisstep m w g
+    misstep_now not = here running.hears (λ h. not (rw asked_now h))
 
   pub cached_get : (c d : C) (es : List (CacheEntry I R)) (i : ℕ) (e entry : CacheEntry I R) (x : I) (r : R)
       → slice_get es i ≡ Some e → e.input ≡ x → entry ≡ get_or es i entry → r ≡ entry.result → AreCached m (m.world c) c es → Keeps m c d
@@ -489,18 +502,19 @@ module _ {C I R F : Type 0} (m : Meaning C I R F) where
   IsAnswer-keeps w path q low c d r keeps h = record {
     known = (keeps.results r h.known).0;
     fair = rw (keeps.results r h.known).1 h.fair;
+    source = rw (keeps.results r h.known).1 h.source;
     room = h.room;
     yes = λ y. h.yes (rw (keeps.results r h.known).1 at y);
   }
 
   -- an overflow stands anywhere
-  pub overflow_stands : (w : m.World) (path : List (m.Goal × PathKind)) (q : m.Goal × PathKind) (low : ℕ) (c : C) (r : R) (a : m.Answer) → m.IsResult c r → m.answer_of c r ≡ a → m.is_yes a ≡ false → IsFair m w q.0 a
+  pub overflow_stands : (w : m.World) (path : List (m.Goal × PathKind)) (q : m.Goal × PathKind) (low : ℕ) (c : C) (r : R) (a : m.Answer) → m.IsResult c r → m.answer_of c r ≡ a → m.is_yes a ≡ false → IsFair m w q.0 a → IsGiven m w q.0 a
       → IsProvisional m w path q low c r
-  overflow_stands w path q low c r a known is never fair = record { known = known; fair = rw is fair; yes = λ y. let n : true ≡ false = sym (rw is at y) ∙ never in cc }
+  overflow_stands w path q low c r a known is never fair unrun = record { known = known; fair = rw is fair; source = rw is (record { how = inl unrun }); yes = λ y. let n : true ≡ false = sym (rw is at y) ∙ never in cc }
 
-  pub overflow_answers : (w : m.World) (path : List (m.Goal × PathKind)) (q : m.Goal × PathKind) (low : ℕ) (c : C) (r : R) (a : m.Answer) → low ≤ length path → m.IsResult c r → m.answer_of c r ≡ a → m.is_yes a ≡ false → IsFair m w q.0 a
+  pub overflow_answers : (w : m.World) (path : List (m.Goal × PathKind)) (q : m.Goal × PathKind) (low : ℕ) (c : C) (r : R) (a : m.Answer) → low ≤ length path → m.IsResult c r → m.answer_of c r ≡ a → m.is_yes a ≡ false → IsFair m w q.0 a → IsGiven m w q.0 a
       → IsAnswer m w path q low c r
-  overflow_answers w path q low c r a room known is never fair = record { known = known; fair = rw is fair; room = room; yes = λ y. let n : true ≡ false = sym (rw is at y) ∙ never in cc }
+  overflow_answers w path q low c r a room known is never fair unrun = record { known = known; fair = rw is fair; source = rw is (record { how = inl unrun }); room = room; yes = λ y. let n : true ≡ false = sym (rw is at y) ∙ never in cc }
 
   pub path_length : (c : C) (es : List (StackEntry I R)) (n : ℕ) → n ≡ length es → length (path_onto m c es []) ≡ n
   path_length c es n h = omega (arith, length-path_onto c es [])

@@ -1,11 +1,11 @@
 -- Plain recursion, and runs that follow it.
-use Rattle.std.proofs.Common.{◌≡◌, ◌≤◌, ◌<◌, ℕ, suc, zero, List, [], ◌∷◌, refl, sym, ◌∙◌, ap, subst, arith, pred, length}
-use Rattle.search_graph.specs.declared.path_kind.PathKind.{PathKind}
+use Rattle.std.proofs.Common.{◌≡◌, ◌≤◌, ◌<◌, ℕ, suc, zero, List, [], ◌∷◌, refl, sym, ◌∙◌, ap, subst, arith, length}
+use Rattle.search_paths.specs.declared.path_kind.PathKind.{PathKind}
 use Rattle.search_graph.specs.declared.delegate.Request.{Request}
 use Rattle.search_graph.specs.declared.delegate.Request.TheVariants.{Evaluate, EnterCandidate, FinishCandidate, IgnoreCandidate, Done}
 use Rattle.search_graph.specs.declared.delegate.Reply.{Reply}
 use Rattle.search_graph.specs.declared.delegate.Reply.TheVariants.{Begin, Result, Entered, Finished, Ignored}
-use Rattle.search_graph.specs.Meaning.{Meaning, IsReplyTo, IsDueAt, finished}
+use Rattle.search_graph.specs.Meaning.{Meaning, IsReplyTo, finished}
 use Rattle.search_graph.specs.Plain.{Completes, IsPlain, IsExact, IsNotPlain, Descends, IsOnTrack}
 
 module _ {C I R F : Type 0} (m : Meaning C I R F) (w : m.World) where

@@ -1,7 +1,7 @@
 -- A proof graph without open ends is a proof.
-use Rattle.std.proofs.Common.{◌≡◌, ℕ, Bool, true, false, ◌||◌, List, [], ◌∷◌, ◌++◌, ◌⊎◌, inl, inr, refl, sym, ◌∙◌, ap, subst, arith}
-use Rattle.search_graph.specs.declared.path_kind.PathKind.{PathKind}
-use Rattle.search_graph.specs.Path.{is_coinductive}
+use Rattle.std.proofs.Common.{◌≡◌, ℕ, Bool, true, false, ◌||◌, List, [], ◌∷◌, ◌++◌, ◌⊎◌, inl, inr, refl, sym, subst}
+use Rattle.search_paths.specs.declared.path_kind.PathKind.{PathKind}
+use Rattle.search_paths.specs.Path.{is_coinductive}
 use Rattle.search_graph.specs.Shown.{Shown, none, loop, rule, LoopsBack}
 use Rattle.search_graph.specs.Proof.{IsAmong, Derivation, end, again, by_rule, IsDerived, HasProof}
 use Rattle.search_graph.specs.Meaning.{Meaning}

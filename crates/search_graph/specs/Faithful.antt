@@ -1,10 +1,10 @@
 -- Answers that are those of plain recursion.
-use Rattle.std.specs.Prelude.{◌≡◌, ◌≤◌, ◌+◌, ℕ, length, Bool, true, false, List, [], ◌∷◌, ◌⊎◌}
-use Rattle.search_graph.specs.declared.path_kind.PathKind.{PathKind}
+use Rattle.std.specs.Prelude.{◌≡◌, ◌≤◌, ◌+◌, ℕ, length, Bool, false, List, [], ◌∷◌, ◌⊎◌}
+use Rattle.search_paths.specs.declared.path_kind.PathKind.{PathKind}
 use Rattle.search_graph.specs.declared.delegate.Reply.{Reply}
-use Rattle.search_graph.specs.declared.dependencies.CycleHead.{CycleHead}
+use Rattle.search_paths.specs.declared.dependencies.CycleHead.{CycleHead}
 use Rattle.search_graph.specs.Meaning.{Meaning}
-use Rattle.search_graph.specs.Plain.{IsPlain, Descends, IsOnTrack, IsNotPlain}
+use Rattle.search_graph.specs.Plain.{IsPlain, Descends, IsOnTrack}
 
 module _ {C I R F : Type 0} (m : Meaning C I R F) where
   -- plain recursion on each goal of the path, from the place low on, descends to g

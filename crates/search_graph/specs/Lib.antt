@@ -1,5 +1,5 @@
-pub mod Path
 pub mod Meaning
+pub mod Computed
 pub mod Shown
 pub mod Stack
 pub mod Plain
@@ -7,5 +7,5 @@ pub mod Proof
 pub mod Answer
 pub mod Bound
 pub mod Faithful
-pub mod Toy
-pub mod ToyLaws
+pub mod SearchState
+pub mod Cache

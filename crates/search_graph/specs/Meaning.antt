@@ -1,7 +1,7 @@
 -- What a delegate means: its goals, their rules, and what its frames ask.
 use Rattle.std.specs.Prelude.{◌≡◌, ◌≤◌, ◌<◌, ◌+◌, length, ℕ, Bool, true, false, cond, List, [], ◌∷◌, ◌++◌, Some, unwrap_or, slice_get, slice_set}
-use Rattle.search_graph.specs.declared.path_kind.PathKind.{PathKind}
-use Rattle.search_graph.specs.declared.path_kind.PathKind.TheVariants.{Inductive, Unknown, Coinductive, ForcedAmbiguity}
+use Rattle.search_paths.specs.declared.path_kind.PathKind.{PathKind}
+use Rattle.search_paths.specs.declared.path_kind.PathKind.TheVariants.{Coinductive}
 use Rattle.search_graph.specs.declared.delegate.Request.{Request}
 use Rattle.search_graph.specs.declared.delegate.Request.TheVariants.{Evaluate, EnterCandidate, FinishCandidate, IgnoreCandidate, Done}
 use Rattle.search_graph.specs.declared.delegate.Reply.{Reply}
@@ -23,6 +23,7 @@ pub record Meaning (C I R F : Type 0) : Type 1 where
   -- what the frame of a goal asks after these replies
   pub asks : World → Goal → List (Reply Answer) → Request Goal Answer
   pub is_yes : Answer → Bool
+  pub is_ambiguous : Answer → Bool
   -- a goal follows from the truth of these questions
   pub Follows : World → Goal → List (Goal × PathKind) → Type 0
   pub initial : World → Goal → PathKind → Answer
@@ -180,13 +181,6 @@ module _ {C I R F : Type 0} (m : Meaning C I R F) where
   pub record IsFair (w : m.World) (g : m.Goal) (a : m.Answer) : Type 0 where
     pub covers : m.Covers w g a
     pub within : m.number_in w a ≤ m.number_of w g
-
-  -- some frame, whose questions all got fair answers, makes a request out of order
-  pub record MakesMisstep (w : m.World) : Type 0 where
-    pub goal : m.Goal
-    pub heard : List (Reply m.Answer)
-    pub fair : AreReplies (IsFair w) w goal heard
-    pub misstep : IsInOrder w goal heard (m.asks w goal heard) → ⊥
 
   -- the laws of a delegate
   pub record IsLawful : Type 0 where

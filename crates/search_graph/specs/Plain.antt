@@ -1,7 +1,6 @@
 -- Plain recursion over frames: no stack, no cycle, no rerun, no cache and no limit.
 use Rattle.std.specs.Prelude.{◌≡◌, ◌≤◌, ◌<◌, ℕ, List, [], ◌∷◌}
 use Rattle.std.proofs.Common.{suc, zero}
-use Rattle.search_graph.specs.declared.path_kind.PathKind.{PathKind}
 use Rattle.search_graph.specs.declared.delegate.Request.TheVariants.{Done}
 use Rattle.search_graph.specs.declared.delegate.Reply.{Reply}
 use Rattle.search_graph.specs.declared.delegate.Reply.TheVariants.{Begin}

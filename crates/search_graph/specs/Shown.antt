@@ -1,7 +1,7 @@
 -- Proof graphs with open ends.
-use Rattle.std.specs.Prelude.{◌≡◌, ℕ, ◌≤◌, length, Bool, true, false, cond, ◌||◌, List, [], ◌∷◌, ◌++◌, ◌⊎◌}
-use Rattle.search_graph.specs.declared.path_kind.PathKind.{PathKind}
-use Rattle.search_graph.specs.Path.{is_coinductive}
+use Rattle.std.specs.Prelude.{◌≡◌, ℕ, ◌≤◌, length, Bool, true, ◌||◌, List, [], ◌∷◌, ◌⊎◌}
+use Rattle.search_paths.specs.declared.path_kind.PathKind.{PathKind}
+use Rattle.search_paths.specs.Path.{is_coinductive}
 
 -- A path is goals with the steps to them, the newest first. It leads from g back to one of its goals, from the one at
 -- the place low on, counted from the oldest, and passes a coinductive step from there on, or has passed one

@@ -1,14 +1,15 @@
 -- What the stack of the search means.
-use Rattle.std.specs.Prelude.{◌≡◌, ◌≤◌, ◌+◌, ℕ, length, Bool, true, false, cond, ◌||◌, List, [], ◌∷◌, ◌++◌, ◌⊎◌, Option, Some, None, MatchOption}
-use Rattle.search_graph.specs.declared.path_kind.PathKind.{PathKind}
-use Rattle.search_graph.specs.declared.path_kind.PathKind.TheVariants.{Inductive}
+use Rattle.std.specs.Prelude.{◌≡◌, ◌≤◌, ℕ, length, true, List, [], ◌∷◌, ◌⊎◌, MatchOption}
+use Rattle.search_paths.specs.declared.path_kind.PathKind.{PathKind}
+use Rattle.search_paths.specs.declared.path_kind.PathKind.TheVariants.{Inductive}
 use Rattle.search_graph.specs.declared.delegate.Request.{Request}
 use Rattle.search_graph.specs.declared.delegate.Reply.{Reply}
 use Rattle.search_graph.specs.declared.delegate.Reply.TheVariants.{Begin, Result, Entered, Finished, Ignored}
 use Rattle.search_graph.specs.declared.stack.StackEntry.{StackEntry}
 use Rattle.search_graph.specs.declared.cache.CacheEntry.{CacheEntry}
-use Rattle.search_graph.specs.Path.{is_coinductive, greater}
+use Rattle.search_paths.specs.Path.{greater}
 use Rattle.search_graph.specs.Meaning.{Meaning, premise_of, answer_count, request_of, IsRequest, IsFair, AreReplies}
+use Rattle.search_graph.specs.Computed.{Hears, IsComputed}
 use Rattle.search_graph.specs.Shown.{Shown}
 use Rattle.search_graph.specs.Faithful.{IsKept}
 
@@ -34,6 +35,7 @@ module _ {C I R F : Type 0} (m : Meaning C I R F) where
   pub record IsProvisional (w : m.World) (path : List (m.Goal × PathKind)) (q : m.Goal × PathKind) (low : ℕ) (c : C) (r : R) : Type 0 where
     pub known : m.IsResult c r
     pub fair : IsFair m w q.0 (m.answer_of c r)
+    pub source : IsComputed m w q.0 (m.answer_of c r)
     pub yes : m.is_yes (m.answer_of c r) ≡ true → Derived w low path q
 
   pub record IsEntry (w : m.World) (path : List (m.Goal × PathKind)) (c : C) (e : StackEntry I R) : Type 0 where
@@ -45,10 +47,17 @@ module _ {C I R F : Type 0} (m : Meaning C I R F) where
   IsStack w path c [] = Unit {0}
   IsStack w path c (e ∷ es) = IsEntry w path c e × IsStack w (question_of c e ∷ path) c es
 
+  -- After such a result a goal whose own result was read isn't run again: it is ambiguous, or it is the result of the run
+  -- before, or in the first run the initial result for a kind of path
+  abbrev pub IsSettled : C → StackEntry I R → R → Type 0
+  IsSettled c e r = (m.is_ambiguous (m.answer_of c r) ≡ true)
+      ⊎ MatchOption e.provisional_result ((k : PathKind) × (m.answer_of c r ≡ m.initial (m.world c) (m.goal_of c e.input) k)) (λ last. last ≡ r)
+
   -- a reply to the question q, which rests on no goal of the path below the place low: a yes is shown
   pub record IsAnswer (w : m.World) (path : List (m.Goal × PathKind)) (q : m.Goal × PathKind) (low : ℕ) (c : C) (r : R) : Type 0 where
     pub known : m.IsResult c r
     pub fair : IsFair m w q.0 (m.answer_of c r)
+    pub source : IsComputed m w q.0 (m.answer_of c r)
     pub room : low ≤ length path
     pub yes : m.is_yes (m.answer_of c r) ≡ true → Shown m.Goal (m.Follows w) low path (q ∷ [])
 
@@ -70,6 +79,7 @@ module _ {C I R F : Type 0} (m : Meaning C I R F) where
     pub known : IsRequest m c q
     pub room : low ≤ length path
     pub fair : AreReplies m (IsFair m w) w g heard
+    pub hears : Hears m w g heard
     pub count : answer_count m heard ≤ m.number_of w g
     pub shown : Shown m.Goal (m.Follows w) low path (yes_questions w g heard)
 

@@ -5,13 +5,14 @@ ghost use Rattle.search_graph.specs.Meaning.{Keeps};
 ghost use Rattle.search_graph.specs.Plain.{IsNotPlain};
 ghost use Rattle.search_graph.specs.Faithful.{IsKept};
 ghost use Rattle.search_graph.specs.Stack.{IsProvisional, AreCached};
+ghost use Rattle.search_graph.specs.Cache.{known_results, HasConflict};
 
 use crate::delegate::{Cx, Delegate, InputOf, ResultOf};
 use crate::graph::GraphFault;
-use crate::nested_goals::{NestedGoals, Span};
-use crate::path_kind::PathKind;
 use indexmap::{IndexMap, IndexSet};
+use search_paths::{NestedGoals, PathKind, Span};
 use std::alloc::{AllocError, Global};
+use std::marker::Model;
 use type_terms::Fault;
 
 /// A result that rests on no goal of a stack.
@@ -58,19 +59,50 @@ fn is_usable(encountered_overflow: bool, needed: usize, depth: usize) -> bool
 
 /// Results that hold whatever is being evaluated, by their goals.
 ///
-/// Every entry is justified: it covers its goal, and a yes has a proof. `GlobalCache` of `rustc_type_ir::search_graph`.
+/// A clause sees the list of results, the oldest first. `GlobalCache` of `rustc_type_ir::search_graph`.
 pub struct GlobalCache<D: Delegate> {
+    pub(crate) results: CachedResults<D>,
+}
+
+impl<D: Delegate> Model for GlobalCache<D> {
+    ghost use Rattle.std.specs.Prelude.{List};
+    ghost use Rattle.search_graph.specs.Cache.{KnownResult, known_results};
+
+    ghost Value = { List (KnownResult D.Cx.Input D.Cx.Result) };
+
+    ghost view = { λ cache. known_results cache.results.entries.items };
+}
+
+impl<D: Delegate> Drop for GlobalCache<D> {
+    fn drop(self) {
+        let GlobalCache { results: _ } = self;
+    }
+}
+
+impl<D: Delegate> GlobalCache<D> {
+    /// A cache without entries. It takes no memory yet.
+    pub fn new(alloc: Global) -> Result<Self, Fault>
+        ensures { IsOkAnd result (λ cache. cache ≡ []) }
+    {
+        Ok(GlobalCache {
+            results: CachedResults::new(alloc),
+        })
+    }
+}
+
+/// The entries of a cache, found by their goals.
+pub(crate) struct CachedResults<D: Delegate> {
     alloc: Global,
     /// The goals that were asked, each with its place here as its number.
     goals: IndexSet<InputOf<D>>,
     /// The place of each goal's newest result.
     newest: Vec<Option<usize>>,
-    entries: Vec<CacheEntry<InputOf<D>, ResultOf<D>>>,
+    pub(crate) entries: Vec<CacheEntry<InputOf<D>, ResultOf<D>>>,
 }
 
-impl<D: Delegate> Drop for GlobalCache<D> {
+impl<D: Delegate> Drop for CachedResults<D> {
     fn drop(self) {
-        let GlobalCache {
+        let CachedResults {
             alloc: _,
             goals: _,
             newest: _,
@@ -79,17 +111,17 @@ impl<D: Delegate> Drop for GlobalCache<D> {
     }
 }
 
-impl<D: Delegate> GlobalCache<D> {
-    /// A cache without entries. It takes no memory yet.
-    pub fn new(alloc: Global) -> Result<Self, Fault>
-        ensures { IsOkAnd result (λ cache. cache.entries.items ≡ []) }
+impl<D: Delegate> CachedResults<D> {
+    /// None.
+    fn new(alloc: Global) -> Self
+        ensures { result.entries.items ≡ [] }
     {
-        Ok(GlobalCache {
+        CachedResults {
             alloc,
             goals: IndexSet::new(alloc),
             newest: Vec::new(alloc),
             entries: Vec::new(alloc),
-        })
+        }
     }
 
     /// The number of a goal, by one hash of its input unless it is new.
@@ -281,6 +313,7 @@ impl<D: Delegate> GlobalCache<D> {
         requires kept { IsKept D.meaning (D.meaning.world cx.now) (D.meaning.goal_of cx.now input) (D.meaning.answer_of cx.now found.now) depth encountered_overflow }
         ensures cache { AreCached D.meaning (D.meaning.world cx.now) cx.now self.new.entries.items }
         ensures no_conflict { result ≡ Err GraphFault.Conflict → (limit : ℕ) → (limit ≤ depth + 1) ⊎ (encountered_overflow ≡ false) → IsNotPlain D.meaning (D.meaning.world cx.now) limit (D.meaning.goal_of cx.now input) }
+        ensures conflict { result ≡ Err GraphFault.Conflict → HasConflict D.meaning cx.now (known_results self.new.entries.items) }
         ensures in_order { result ≡ Err GraphFault.Protocol → ⊥ }
     {
         if self.differs(number, &input, found, depth, encountered_overflow) {

@@ -1,9 +1,9 @@
 //! What a search is lent: a context with goals and results, and frames that evaluate a goal step by step.
 
-ghost use Rattle.std.specs.Prelude.{◌≡◌, [], ℕ, ◌<◌, ◌≤◌, IfOk, true, false};
+ghost use Rattle.std.specs.Prelude.{◌≡◌, ◌↔◌, [], ℕ, ◌<◌, ◌≤◌, IfOk, IsSome, true, false};
 ghost use Rattle.search_graph.specs.Meaning.{Meaning, Keeps, IsReply, IsDue, Steps, IsFair, IsLawful};
 
-use crate::path_kind::PathKind;
+use search_paths::PathKind;
 use std::hash::Hash;
 use type_terms::Fault;
 
@@ -28,6 +28,9 @@ pub trait Cx {
 
     /// Inputs that are equal are the same value.
     ghost same_input: { (a b : Self.Input) → Self.Input.eq a b ≡ true → a ≡ b };
+
+    /// Results that are equal are the same value.
+    ghost same_result: { (a b : Self.Result) → Self.Result.eq a b ≡ true → a ≡ b };
 }
 
 /// The inputs of a delegate's context.
@@ -100,14 +103,16 @@ pub trait Delegate {
         ensures keeps { Keeps meaning cx.old cx.new }
         ensures is { IfOk result (λ r. meaning.IsResult cx.new r × (meaning.answer_of cx.new r ≡ meaning.initial (meaning.world cx.old) (meaning.goal_of cx.old input.now) kind)) };
 
-    /// Whether the goal's initial result for paths of this kind is this one. It decides whether a goal runs again, on which
-    /// no promise rests.
+    /// Whether the goal's initial result for paths of this kind is this one.
     fn is_initial_provisional_result(
         cx: &Self::Cx,
         kind: PathKind,
         input: &InputOf<Self>,
         of: &ResultOf<Self>,
-    ) -> bool;
+    ) -> bool
+        requires input { meaning.IsInput cx.now input.now }
+        requires known { meaning.IsResult cx.now of.now }
+        ensures { result ≡ true → meaning.answer_of cx.now of.now ≡ meaning.initial (meaning.world cx.now) (meaning.goal_of cx.now input.now) kind };
 
     /// The result of a goal that is asked by a goal of depth 0.
     fn stack_overflow_result(
@@ -127,11 +132,13 @@ pub trait Delegate {
         ensures keeps { Keeps meaning cx.old cx.new }
         ensures is { IfOk result (λ r. meaning.IsResult cx.new r × (meaning.answer_of cx.new r ≡ meaning.fixpoint_overflow (meaning.world cx.old) (meaning.goal_of cx.old input.now))) };
 
-    /// Why the result is ambiguous, where it is. A goal with such a result isn't run again, on which no promise rests.
+    /// Why the result is ambiguous, where it is. A goal with such a result isn't run again.
     fn is_ambiguous_result(
         cx: &Self::Cx,
         of: &ResultOf<Self>,
-    ) -> Option<<Self::Cx as Cx>::AmbiguityInfo>;
+    ) -> Option<<Self::Cx as Cx>::AmbiguityInfo>
+        requires { meaning.IsResult cx.now of.now }
+        ensures { IsSome result ↔ (meaning.is_ambiguous (meaning.answer_of cx.now of.now) ≡ true) };
 
     /// An ambiguous result of a goal that depends on an ambiguous one.
     fn propagate_ambiguity(

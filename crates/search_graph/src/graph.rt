@@ -1,22 +1,19 @@
-//! The search.
+//! The search graph: what a caller sees of a search.
 
-ghost use Rattle.std.specs.Prelude.{◌≡◌, [], ℕ, ◌+◌, ◌*◌, ◌/◌, ◌<◌, ◌≤◌, ◌++◌, ◌⊎◌, length, max, IfOk, OnOk, IsOkAnd, None, slice_get, drop, true, false, cond};
-ghost use Rattle.search_graph.specs.Meaning.{Keeps, MakesMisstep};
+ghost use Rattle.std.specs.Prelude.{◌≡◌, ℕ, ◌+◌, ◌≤◌, ◌↔◌, max, IfOk, IsOkAnd, IsTrue, false};
+ghost use Rattle.search_graph.specs.Meaning.{Keeps};
+ghost use Rattle.search_graph.specs.Computed.{IsComputed, MakesMisstep};
 ghost use Rattle.search_graph.specs.Answer.{IsSound};
 ghost use Rattle.search_graph.specs.Plain.{IsPlain, IsNotPlain};
-ghost use Rattle.search_graph.specs.Faithful.{AllDescend, IsFaithful, IsKept, IsUntouched};
-ghost use Rattle.search_graph.specs.Bound.{frame_bound, question_bound};
-ghost use Rattle.search_graph.specs.Stack.{kind_after, question_of, path_onto, IsStack, IsEntry, IsAnswer, IsProvisional, AreCached};
+ghost use Rattle.search_graph.specs.Bound.{frame_bound};
+ghost use Rattle.search_graph.specs.Cache.{AreJustified, HasConflict};
 
-use crate::cache::{Cached, GlobalCache};
-use crate::candidates::Candidates;
-use crate::delegate::{Cx, Delegate, InputOf, Reply, Request, ResultOf};
-use crate::dependencies::{CycleHead, Dependencies, EvaluationResult, take_head};
-use crate::nested_goals::{NestedGoals, Span};
-use crate::path_kind::{PathKind, PathsToNested};
-use crate::stack::{Cycle, StackEntry, find_cycle};
-use indexmap::IndexMap;
+use crate::cache::GlobalCache;
+use crate::delegate::{Delegate, InputOf, ResultOf};
+use crate::evaluation::Search;
+use search_paths::{EvaluationResult, PathKind};
 use std::alloc::{AllocError, AllocFailed, Global};
+use std::marker::Model;
 use type_terms::Fault;
 
 /// Why a goal got no result.
@@ -69,28 +66,29 @@ impl<T: Drop> From<AllocFailed<T>> for GraphFault {
     }
 }
 
-type Evaluation<D> = Result<EvaluationResult<ResultOf<D>>, GraphFault>;
-
 /// A search with its stack.
+///
+/// A clause sees its depth, how many goals are being evaluated, how many frames were started, and whether a limit gave a
+/// result. `SearchGraph` of `rustc_type_ir::search_graph`.
 pub struct SearchGraph<D: Delegate> {
-    alloc: Global,
     root_depth: usize,
-    stack: Vec<StackEntry<InputOf<D>, ResultOf<D>>>,
-    /// The place of each goal of the stack, by its number.
-    positions: IndexMap<usize, usize>,
-    limits_met: bool,
-    frames: u64,
+    search: Search<D>,
+}
+
+impl<D: Delegate> Model for SearchGraph<D> {
+    ghost use Rattle.std.specs.Prelude.{length};
+    ghost use Rattle.search_graph.specs.SearchState.{SearchState};
+
+    ghost Value = { SearchState };
+
+    ghost view = { λ graph. record { root_depth = graph.root_depth; current_depth = length graph.search.stack.items; frames = graph.search.frames; limits_met = graph.search.limits_met } };
 }
 
 impl<D: Delegate> Drop for SearchGraph<D> {
     fn drop(self) {
         let SearchGraph {
-            alloc: _,
             root_depth: _,
-            stack: _,
-            positions: _,
-            limits_met: _,
-            frames: _,
+            search: _,
         } = self;
     }
 }
@@ -99,45 +97,48 @@ impl<D: Delegate> SearchGraph<D> {
     /// A search whose root goals have this depth. It takes no memory yet.
     pub fn new(alloc: Global, root_depth: usize) -> Result<Self, Fault>
         requires { 1 ≤ root_depth }
-        ensures empty { IsOkAnd result (λ graph. graph.stack.items ≡ []) }
-        ensures frames { IfOk result (λ graph. graph.frames ≡ 0) }
-        ensures depth { IfOk result (λ graph. graph.root_depth ≡ root_depth) }
+        ensures { IsOkAnd result (λ graph. graph ≡ record { root_depth = root_depth; current_depth = 0; frames = 0; limits_met = false }) }
     {
         Ok(SearchGraph {
-            alloc,
             root_depth,
-            stack: Vec::new(alloc),
-            positions: IndexMap::new(alloc),
-            limits_met: false,
-            frames: 0,
+            search: Search::new(alloc),
         })
     }
 
     /// Whether no goal is being evaluated.
-    pub fn is_empty(&self) -> bool {
-        self.stack.is_empty()
+    pub fn is_empty(&self) -> bool
+        ensures { IsTrue result ↔ (self.now.current_depth ≡ 0) }
+    {
+        self.search.stack.is_empty()
     }
 
     /// How many goals are being evaluated.
-    pub fn debug_current_depth(&self) -> usize {
-        self.stack.len()
+    pub fn debug_current_depth(&self) -> usize
+        ensures { result ≡ self.now.current_depth }
+    {
+        self.search.stack.len()
     }
 
     /// How many frames were started since `new`, each run of a goal by itself, or the greatest `u64` if there were more.
     pub fn frames(&self) -> u64
         ensures { result ≡ self.now.frames }
     {
-        self.frames
+        self.search.frames
     }
 
     /// Whether, since `new`, a goal at depth 0 asked a question or the limit of runs gave a result.
     pub fn limits_met(&self) -> bool
         ensures { result ≡ self.now.limits_met }
     {
-        self.limits_met
+        self.search.limits_met
     }
 
     /// The result of a goal. The kind of the step has no effect, since no goal is above the root.
+    ///
+    /// It is refused where memory is (`Memory`), where a table of the context is full (`Full`), where the frame of the goal or
+    /// of one that is asked under it makes a request out of order (`Protocol`), and where a new answer to a goal differs from
+    /// the cached one (`Conflict`), which never comes for a goal that plain recursion answers within the depth. After a refusal
+    /// no goal is being evaluated, and the cache may hold more results than before.
     pub fn evaluate_goal(
         &mut self,
         cache: &mut GlobalCache<D>,
@@ -145,20 +146,30 @@ impl<D: Delegate> SearchGraph<D> {
         input: InputOf<D>,
         step_kind: PathKind,
     ) -> Result<ResultOf<D>, GraphFault>
-        requires empty { self.old.stack.items ≡ [] }
-        requires cache { AreCached D.meaning (D.meaning.world cx.old) cx.old cache.old.entries.items }
+        requires empty { self.old.current_depth ≡ 0 }
+        requires cache { AreJustified D.meaning cx.old cache.old }
         requires input { D.meaning.IsInput cx.old input }
         ensures keeps { Keeps D.meaning cx.old cx.new }
-        ensures empty { self.new.stack.items ≡ [] }
-        ensures cache { AreCached D.meaning (D.meaning.world cx.new) cx.new cache.new.entries.items }
+
+        // After a refusal too.
+        ensures empty { self.new.current_depth ≡ 0 }
+        ensures cache { AreJustified D.meaning cx.new cache.new }
+
         ensures answer { IfOk result (λ r. IsSound D.meaning (D.meaning.world cx.old) (D.meaning.goal_of cx.old input) cx.new r) }
-        ensures no_conflict { result ≡ Err GraphFault.Conflict → IsNotPlain D.meaning (D.meaning.world cx.old) (self.old.root_depth + 1) (D.meaning.goal_of cx.old input) }
-        ensures protocol { result ≡ Err GraphFault.Protocol → MakesMisstep D.meaning (D.meaning.world cx.old) }
         ensures plain { IfOk result (λ r. (a : _) → IsPlain D.meaning (D.meaning.world cx.old) (self.old.root_depth + 1) (D.meaning.goal_of cx.old input) a → a ≡ D.meaning.answer_of cx.new r) }
+        ensures no_conflict { result ≡ Err GraphFault.Conflict → IsNotPlain D.meaning (D.meaning.world cx.old) (self.old.root_depth + 1) (D.meaning.goal_of cx.old input) }
+
+        // A request out of order is refused, and nothing else is: an answer comes of frames whose requests are all in order.
+        ensures computed { IfOk result (λ r. IsComputed D.meaning (D.meaning.world cx.old) (D.meaning.goal_of cx.old input) (D.meaning.answer_of cx.new r)) }
+        ensures protocol { result ≡ Err GraphFault.Protocol → MakesMisstep D.meaning (D.meaning.world cx.old) (D.meaning.goal_of cx.old input) }
+        ensures conflict { result ≡ Err GraphFault.Conflict → HasConflict D.meaning cx.new cache.new }
+
         ensures frames { (width : ℕ) → (D.meaning.number_of (D.meaning.world cx.old) (D.meaning.goal_of cx.old input) ≤ width) → self.new.frames ≤ self.old.frames + frame_bound (max D.FIXPOINT_STEP_LIMIT 1) width self.old.root_depth }
+        ensures depth { self.new.root_depth ≡ self.old.root_depth }
     {
         let depth = self.root_depth;
-        match self.evaluate(cache, cx, input, step_kind, depth) {
+        let results = &mut cache.results;
+        match self.search.evaluate(results, cx, input, step_kind, depth) {
             Ok(evaluation) => {
                 let EvaluationResult {
                     result: answer,
@@ -167,489 +178,9 @@ impl<D: Delegate> SearchGraph<D> {
                 Ok(answer)
             }
             Err(fault) => {
-                self.stack.clear();
-                self.positions.clear();
+                self.search.clear();
                 Err(fault)
             }
         }
     }
-
-    /// The goals of the stack lie in it.
-    fn span(&self) -> Span {
-        match self.stack.last() {
-            Some(entry) => entry.span,
-            None => Span::empty(),
-        }
-    }
-
-    /// The reply to a question on a goal of the stack, and the lowest goal on which it rests.
-    fn close_cycle(
-        &self,
-        cx: &mut D::Cx,
-        input: &InputOf<D>,
-        step_kind: PathKind,
-        cycle: Cycle,
-    ) -> Result<(ResultOf<D>, usize), Fault>
-        requires stack { IsStack D.meaning (D.meaning.world cx.old) [] cx.old self.now.stack.items }
-        requires input { D.meaning.IsInput cx.old input.now }
-        requires cycle { (e : _) × (slice_get self.now.stack.items cycle.index ≡ Some e) × (e.input ≡ input.now) × (cycle.path_kind ≡ kind_after (drop (cycle.index + 1) self.now.stack.items) step_kind) }
-        ensures keeps { Keeps D.meaning cx.old cx.new }
-        ensures answer { IfOk result (λ r. IsAnswer D.meaning (D.meaning.world cx.old) (path_onto D.meaning cx.old self.now.stack.items []) (D.meaning.goal_of cx.old input.now, step_kind) r.1 cx.new r.0) }
-        ensures not_plain { IfOk result (λ r. (limit : ℕ) → AllDescend D.meaning (D.meaning.world cx.old) limit r.1 (path_onto D.meaning cx.old self.now.stack.items []) (D.meaning.goal_of cx.old input.now) → IsNotPlain D.meaning (D.meaning.world cx.old) limit (D.meaning.goal_of cx.old input.now)) }
-    {
-        let entry = &self.stack[cycle.index];
-        match &entry.provisional_result {
-            Some(last) => {
-                let answer = cx.copy_result(last)?;
-                Ok((answer, entry.lowest))
-            }
-            None => {
-                let answer = D::initial_provisional_result(cx, cycle.path_kind, input)?;
-                Ok((answer, entry.lowest))
-            }
-        }
-    }
-
-    /// The reply to a question on a goal that is given this depth.
-    #[cycle(search)]
-    fn evaluate(
-        &mut self,
-        cache: &mut GlobalCache<D>,
-        cx: &mut D::Cx,
-        input: InputOf<D>,
-        step_kind: PathKind,
-        depth: usize,
-    ) -> Evaluation<D>
-        requires stack { IsStack D.meaning (D.meaning.world cx.old) [] cx.old self.old.stack.items }
-        requires cache { AreCached D.meaning (D.meaning.world cx.old) cx.old cache.old.entries.items }
-        requires input { D.meaning.IsInput cx.old input }
-        ensures keeps { Keeps D.meaning cx.old cx.new }
-        ensures stack { OnOk result (self.new.stack.items ≡ self.old.stack.items) }
-        ensures cache { AreCached D.meaning (D.meaning.world cx.new) cx.new cache.new.entries.items }
-        ensures answer { IfOk result (λ o. IsAnswer D.meaning (D.meaning.world cx.old) (path_onto D.meaning cx.old self.old.stack.items []) (D.meaning.goal_of cx.old input, step_kind) o.dependencies.lowest cx.new o.result) }
-        ensures faithful { IfOk result (λ o. IsFaithful D.meaning (D.meaning.world cx.old) (depth + 1) (path_onto D.meaning cx.old self.old.stack.items []) (D.meaning.goal_of cx.old input) (D.meaning.answer_of cx.new o.result) o.dependencies.encountered_overflow o.dependencies.lowest o.dependencies.heads.items) }
-        ensures no_conflict { result ≡ Err GraphFault.Conflict → (limit : ℕ) → limit ≤ depth + 1 → AllDescend D.meaning (D.meaning.world cx.old) limit 0 (path_onto D.meaning cx.old self.old.stack.items []) (D.meaning.goal_of cx.old input) → IsNotPlain D.meaning (D.meaning.world cx.old) limit (D.meaning.goal_of cx.old input) }
-        ensures protocol { result ≡ Err GraphFault.Protocol → MakesMisstep D.meaning (D.meaning.world cx.old) }
-        ensures frames { (width : ℕ) → (D.meaning.number_of (D.meaning.world cx.old) (D.meaning.goal_of cx.old input) ≤ width) → self.new.frames ≤ self.old.frames + frame_bound (max D.FIXPOINT_STEP_LIMIT 1) width depth }
-    {
-        // A provisional entry, of a goal whose result rests on goals of the stack, would be looked up here.
-        let number = cache.number_of(cx, &input)?;
-        let on_stack = self.span();
-        if let Some(place) = cache.find(&self.positions, on_stack, number, &input, depth)? {
-            return self.use_cached(cache, cx, place, &input, step_kind, depth);
-        }
-        match find_cycle::<D>(&self.stack, &self.positions, number, &input, step_kind) {
-            Some(cycle) => {
-                let (answer, lowest) = self.close_cycle(cx, &input, step_kind, cycle)?;
-                let mut dependencies = Dependencies::new(self.alloc, lowest);
-                let paths = PathsToNested::from(cycle.path_kind);
-                dependencies.heads.push(CycleHead {
-                    index: cycle.index,
-                    paths,
-                })?;
-                dependencies.nested_goals.add_goal(number)?;
-                Ok(EvaluationResult {
-                    result: answer,
-                    dependencies,
-                })
-            }
-            None => self.evaluate_new(cache, cx, number, input, step_kind, depth),
-        }
-    }
-
-    /// A cached result as the reply to a question.
-    fn use_cached(
-        &self,
-        cache: &GlobalCache<D>,
-        cx: &D::Cx,
-        place: usize,
-        input: &InputOf<D>,
-        step_kind: PathKind,
-        depth: usize,
-    ) -> Evaluation<D>
-        requires cache { AreCached D.meaning (D.meaning.world cx.now) cx.now cache.now.entries.items }
-        requires place { (e : _) × (slice_get cache.now.entries.items place ≡ Some e) × (e.input ≡ input.now) × (e.encountered_overflow ≡ true → e.depth ≡ depth) }
-        ensures answer { IfOk result (λ o. IsAnswer D.meaning (D.meaning.world cx.now) (path_onto D.meaning cx.now self.now.stack.items []) (D.meaning.goal_of cx.now input.now, step_kind) o.dependencies.lowest cx.now o.result) }
-        ensures faithful { IfOk result (λ o. IsFaithful D.meaning (D.meaning.world cx.now) (depth + 1) (path_onto D.meaning cx.now self.now.stack.items []) (D.meaning.goal_of cx.now input.now) (D.meaning.answer_of cx.now o.result) o.dependencies.encountered_overflow o.dependencies.lowest o.dependencies.heads.items) }
-        ensures no_conflict { result ≡ Err GraphFault.Conflict → ⊥ }
-        ensures in_order { result ≡ Err GraphFault.Protocol → ⊥ }
-    {
-        let cached = cache.get(cx, place, input)?;
-        let Cached {
-            result: answer,
-            depth: required_depth,
-            encountered_overflow,
-        } = cached;
-        let mut dependencies = Dependencies::new(self.alloc, self.stack.len());
-        dependencies.encountered_overflow = encountered_overflow;
-        dependencies.required_depth = required_depth;
-        dependencies
-            .nested_goals
-            .add_cached(place, cache.span_of(place))?;
-        Ok(EvaluationResult {
-            result: answer,
-            dependencies,
-        })
-    }
-
-    /// The result of a goal that isn't on the stack: it is run until nothing changes.
-    #[cycle(search)]
-    fn evaluate_new(
-        &mut self,
-        cache: &mut GlobalCache<D>,
-        cx: &mut D::Cx,
-        number: usize,
-        input: InputOf<D>,
-        step_kind: PathKind,
-        depth: usize,
-    ) -> Evaluation<D>
-        requires stack { IsStack D.meaning (D.meaning.world cx.old) [] cx.old self.old.stack.items }
-        requires cache { AreCached D.meaning (D.meaning.world cx.old) cx.old cache.old.entries.items }
-        requires input { D.meaning.IsInput cx.old input }
-        ensures keeps { Keeps D.meaning cx.old cx.new }
-        ensures stack { OnOk result (self.new.stack.items ≡ self.old.stack.items) }
-        ensures cache { AreCached D.meaning (D.meaning.world cx.new) cx.new cache.new.entries.items }
-        ensures answer { IfOk result (λ o. IsAnswer D.meaning (D.meaning.world cx.old) (path_onto D.meaning cx.old self.old.stack.items []) (D.meaning.goal_of cx.old input, step_kind) o.dependencies.lowest cx.new o.result) }
-        ensures faithful { IfOk result (λ o. IsFaithful D.meaning (D.meaning.world cx.old) (depth + 1) (path_onto D.meaning cx.old self.old.stack.items []) (D.meaning.goal_of cx.old input) (D.meaning.answer_of cx.new o.result) o.dependencies.encountered_overflow o.dependencies.lowest o.dependencies.heads.items) }
-        ensures no_conflict { result ≡ Err GraphFault.Conflict → (limit : ℕ) → limit ≤ depth + 1 → AllDescend D.meaning (D.meaning.world cx.old) limit 0 (path_onto D.meaning cx.old self.old.stack.items []) (D.meaning.goal_of cx.old input) → IsNotPlain D.meaning (D.meaning.world cx.old) limit (D.meaning.goal_of cx.old input) }
-        ensures protocol { result ≡ Err GraphFault.Protocol → MakesMisstep D.meaning (D.meaning.world cx.old) }
-        ensures frames { (width : ℕ) → (D.meaning.number_of (D.meaning.world cx.old) (D.meaning.goal_of cx.old input) ≤ width) → self.new.frames ≤ self.old.frames + frame_bound (max D.FIXPOINT_STEP_LIMIT 1) width depth }
-    {
-        let index = self.stack.len();
-        let span = self.span().cover(Span::of(number));
-        let mut entry = StackEntry {
-            input,
-            step_kind,
-            provisional_result: None,
-            lowest: index,
-            number,
-            span,
-        };
-        let mut dependencies = Dependencies::new(self.alloc, index);
-        let limit = D::FIXPOINT_STEP_LIMIT.max(1);
-        for _run in 0..limit {
-            // A run that ends while the goal runs again takes its provisional entries with it.
-            let (back, outcome) = self.run_once(cache, cx, entry, dependencies, depth)?;
-            let EvaluationResult {
-                result: answer,
-                dependencies: mut found,
-            } = outcome;
-            let read = take_head(&mut found.heads, index);
-            if is_last_run::<D>(cx, &back, read, &answer) {
-                let StackEntry {
-                    input,
-                    step_kind: _,
-                    provisional_result: _,
-                    lowest: _,
-                    number: _,
-                    span: _,
-                } = back;
-                let evaluation = EvaluationResult {
-                    result: answer,
-                    dependencies: found,
-                };
-                let finished = finish(
-                    self.alloc, cache, cx, index, number, input, evaluation, depth,
-                )?;
-                return Ok(finished);
-            }
-            let StackEntry {
-                input,
-                step_kind,
-                provisional_result: _,
-                lowest: _,
-                number: _,
-                span: _,
-            } = back;
-            entry = StackEntry {
-                input,
-                step_kind,
-                provisional_result: Some(answer),
-                lowest: found.lowest,
-                number,
-                span,
-            };
-            dependencies = found;
-        }
-        self.limits_met = true;
-        let answer = D::fixpoint_overflow_result(cx, &entry.input)?;
-        let StackEntry {
-            input,
-            step_kind: _,
-            provisional_result: _,
-            lowest: _,
-            number: _,
-            span: _,
-        } = entry;
-        let evaluation = EvaluationResult {
-            result: answer,
-            dependencies,
-        };
-        let finished = finish(
-            self.alloc, cache, cx, index, number, input, evaluation, depth,
-        )?;
-        Ok(finished)
-    }
-
-    /// One run of a goal, whose dependencies are added to those of its earlier runs.
-    ///
-    /// A frame that is kept between two steps, to be resumed in place of this loop, would be kept beside its stack entry.
-    #[cycle(search)]
-    fn run_once(
-        &mut self,
-        cache: &mut GlobalCache<D>,
-        cx: &mut D::Cx,
-        entry: StackEntry<InputOf<D>, ResultOf<D>>,
-        earlier: Dependencies,
-        depth: usize,
-    ) -> Result<
-        (
-            StackEntry<InputOf<D>, ResultOf<D>>,
-            EvaluationResult<ResultOf<D>>,
-        ),
-        GraphFault,
-    >
-        requires stack { IsStack D.meaning (D.meaning.world cx.old) [] cx.old self.old.stack.items }
-        requires cache { AreCached D.meaning (D.meaning.world cx.old) cx.old cache.old.entries.items }
-        requires entry { IsEntry D.meaning (D.meaning.world cx.old) (path_onto D.meaning cx.old self.old.stack.items []) cx.old entry }
-        requires room { earlier.lowest ≤ length self.old.stack.items }
-        requires earlier { IsUntouched D.meaning (D.meaning.world cx.old) (depth + 1) (path_onto D.meaning cx.old self.old.stack.items []) (D.meaning.goal_of cx.old entry.input) earlier.encountered_overflow earlier.lowest earlier.heads.items }
-        ensures keeps { Keeps D.meaning cx.old cx.new }
-        ensures stack { OnOk result (self.new.stack.items ≡ self.old.stack.items) }
-        ensures cache { AreCached D.meaning (D.meaning.world cx.new) cx.new cache.new.entries.items }
-        ensures entry { IfOk result (λ p. p.0 ≡ entry) }
-        ensures low { IfOk result (λ p. p.1.dependencies.lowest ≤ length self.old.stack.items) }
-        ensures provisional { IfOk result (λ p. IsProvisional D.meaning (D.meaning.world cx.old) (path_onto D.meaning cx.old self.old.stack.items []) (question_of D.meaning cx.old entry) p.1.dependencies.lowest cx.new p.1.result) }
-        ensures faithful { IfOk result (λ o. IsFaithful D.meaning (D.meaning.world cx.old) (depth + 1) (path_onto D.meaning cx.old self.old.stack.items []) (D.meaning.goal_of cx.old entry.input) (D.meaning.answer_of cx.new o.1.result) o.1.dependencies.encountered_overflow o.1.dependencies.lowest o.1.dependencies.heads.items) }
-        ensures no_conflict { result ≡ Err GraphFault.Conflict → (limit : ℕ) → limit ≤ depth + 1 → AllDescend D.meaning (D.meaning.world cx.old) limit 0 (path_onto D.meaning cx.old self.old.stack.items []) (D.meaning.goal_of cx.old entry.input) → IsNotPlain D.meaning (D.meaning.world cx.old) limit (D.meaning.goal_of cx.old entry.input) }
-        ensures protocol { result ≡ Err GraphFault.Protocol → MakesMisstep D.meaning (D.meaning.world cx.old) }
-        ensures frames { (width : ℕ) → (D.meaning.number_of (D.meaning.world cx.old) (D.meaning.goal_of cx.old entry.input) ≤ width) → self.new.frames ≤ self.old.frames + (1 + width * question_bound (max D.FIXPOINT_STEP_LIMIT 1) width depth) }
-    {
-        let mut frame = D::start(cx, &entry.input)?;
-        self.frames = self.frames.saturating_add(1);
-        self.positions.insert(entry.number, self.stack.len())?;
-        self.stack.push(entry)?;
-        let mut dependencies = earlier;
-        let mut candidates = Candidates::new(self.alloc);
-        let mut request = D::step(&mut frame, cx, Reply::Begin)?;
-        loop {
-            match request {
-                Request::Evaluate(input, step_kind) => {
-                    let overflowed = dependencies.encountered_overflow;
-                    let nested = self.ask(cache, cx, input, step_kind, depth, overflowed)?;
-                    let EvaluationResult {
-                        result: answer,
-                        dependencies: more,
-                    } = nested;
-                    dependencies.gather(more)?;
-                    request = D::step(&mut frame, cx, Reply::Result(answer))?;
-                }
-                Request::EnterCandidate => {
-                    candidates.enter()?;
-                    request = D::step(&mut frame, cx, Reply::Entered)?;
-                }
-                Request::FinishCandidate => {
-                    let number = candidates.finish()?;
-                    request = D::step(&mut frame, cx, Reply::Finished(number))?;
-                }
-                Request::IgnoreCandidate(number) => {
-                    candidates.ignore(number)?;
-                    request = D::step(&mut frame, cx, Reply::Ignored)?;
-                }
-                Request::Done(answer) => {
-                    if candidates.open {
-                        return Err(GraphFault::Protocol);
-                    }
-                    let Some(entry) = self.stack.pop() else {
-                        unreachable!()
-                    };
-                    let _ = self.positions.pop();
-                    return Ok((
-                        entry,
-                        EvaluationResult {
-                            result: answer,
-                            dependencies,
-                        },
-                    ));
-                }
-            }
-        }
-    }
-
-    /// The reply to a question of a goal with this depth.
-    #[cycle(search)]
-    fn ask(
-        &mut self,
-        cache: &mut GlobalCache<D>,
-        cx: &mut D::Cx,
-        input: InputOf<D>,
-        step_kind: PathKind,
-        depth: usize,
-        overflowed: bool,
-    ) -> Evaluation<D>
-        requires stack { IsStack D.meaning (D.meaning.world cx.old) [] cx.old self.old.stack.items }
-        requires cache { AreCached D.meaning (D.meaning.world cx.old) cx.old cache.old.entries.items }
-        requires input { D.meaning.IsInput cx.old input }
-        ensures keeps { Keeps D.meaning cx.old cx.new }
-        ensures stack { OnOk result (self.new.stack.items ≡ self.old.stack.items) }
-        ensures cache { AreCached D.meaning (D.meaning.world cx.new) cx.new cache.new.entries.items }
-        ensures answer { IfOk result (λ o. IsAnswer D.meaning (D.meaning.world cx.old) (path_onto D.meaning cx.old self.old.stack.items []) (D.meaning.goal_of cx.old input, step_kind) o.dependencies.lowest cx.new o.result) }
-        ensures faithful { IfOk result (λ o. IsFaithful D.meaning (D.meaning.world cx.old) (cond overflowed 0 depth) (path_onto D.meaning cx.old self.old.stack.items []) (D.meaning.goal_of cx.old input) (D.meaning.answer_of cx.new o.result) o.dependencies.encountered_overflow o.dependencies.lowest o.dependencies.heads.items) }
-        ensures no_conflict { result ≡ Err GraphFault.Conflict → (limit : ℕ) → limit ≤ cond overflowed 0 depth → AllDescend D.meaning (D.meaning.world cx.old) limit 0 (path_onto D.meaning cx.old self.old.stack.items []) (D.meaning.goal_of cx.old input) → IsNotPlain D.meaning (D.meaning.world cx.old) limit (D.meaning.goal_of cx.old input) }
-        ensures protocol { result ≡ Err GraphFault.Protocol → MakesMisstep D.meaning (D.meaning.world cx.old) }
-        ensures frames { (width : ℕ) → (D.meaning.number_of (D.meaning.world cx.old) (D.meaning.goal_of cx.old input) ≤ width) → self.new.frames ≤ self.old.frames + question_bound (max D.FIXPOINT_STEP_LIMIT 1) width depth }
-    {
-        if depth == 0 {
-            let number = cache.number_of(cx, &input)?;
-            return self.overflow(cx, number, input, step_kind, overflowed);
-        }
-        let nested = nested_depth::<D>(depth, overflowed);
-        self.evaluate(cache, cx, input, step_kind, nested)
-    }
-
-    /// The reply to a question of a goal of depth 0, which can ask nothing.
-    fn overflow(
-        &mut self,
-        cx: &mut D::Cx,
-        number: usize,
-        input: InputOf<D>,
-        step_kind: PathKind,
-        overflowed: bool,
-    ) -> Evaluation<D>
-        requires { D.meaning.IsInput cx.old input }
-        ensures keeps { Keeps D.meaning cx.old cx.new }
-        ensures stack { self.new.stack.items ≡ self.old.stack.items }
-        ensures frames { self.new.frames ≡ self.old.frames }
-        ensures answer { IfOk result (λ o. IsAnswer D.meaning (D.meaning.world cx.old) (path_onto D.meaning cx.old self.old.stack.items []) (D.meaning.goal_of cx.old input, step_kind) o.dependencies.lowest cx.new o.result) }
-        ensures faithful { IfOk result (λ o. IsFaithful D.meaning (D.meaning.world cx.old) (cond overflowed 0 0) (path_onto D.meaning cx.old self.old.stack.items []) (D.meaning.goal_of cx.old input) (D.meaning.answer_of cx.new o.result) o.dependencies.encountered_overflow o.dependencies.lowest o.dependencies.heads.items) }
-        ensures no_conflict { result ≡ Err GraphFault.Conflict → ⊥ }
-        ensures in_order { result ≡ Err GraphFault.Protocol → ⊥ }
-    {
-        self.limits_met = true;
-        let answer = D::stack_overflow_result(cx, &input)?;
-        let mut dependencies = Dependencies::new(self.alloc, self.stack.len());
-        dependencies.encountered_overflow = true;
-        dependencies.nested_goals.add_goal(number)?;
-        Ok(EvaluationResult {
-            result: answer,
-            dependencies,
-        })
-    }
-}
-
-/// The depth of a goal that is asked by one of this depth: one less, or divided once that one has met an overflow by depth.
-fn nested_depth<D: Delegate>(depth: usize, overflowed: bool) -> usize
-    requires { 1 ≤ depth }
-    ensures less { overflowed ≡ false → result + 1 ≡ depth }
-    ensures divided { overflowed ≡ true → result ≡ depth / D.DIVIDE_AVAILABLE_DEPTH_ON_OVERFLOW }
-    ensures falls { result < depth }
-{
-    if overflowed {
-        depth / D::DIVIDE_AVAILABLE_DEPTH_ON_OVERFLOW
-    } else {
-        depth - 1
-    }
-}
-
-/// Whether a goal that had this result isn't run again: its own result wasn't read, the result is that of the run before, it
-/// is the first run and the result is the initial one for the only kind of path that read it, or the result is ambiguous.
-fn is_last_run<D: Delegate>(
-    cx: &D::Cx,
-    entry: &StackEntry<InputOf<D>, ResultOf<D>>,
-    read: Option<PathsToNested>,
-    found: &ResultOf<D>,
-) -> bool
-    ensures { read ≡ None → result ≡ true }
-{
-    let Some(paths) = read else {
-        return true;
-    };
-    let is_fixpoint = match &entry.provisional_result {
-        Some(last) => *last == *found,
-        None => match paths.only_kind() {
-            Some(kind) => D::is_initial_provisional_result(cx, kind, &entry.input, found),
-            None => false,
-        },
-    };
-    is_fixpoint || D::is_ambiguous_result(cx, found).is_some()
-}
-
-/// Keeps a result that rests on no goal of the stack.
-fn finish<D: Delegate>(
-    alloc: Global,
-    cache: &mut GlobalCache<D>,
-    cx: &D::Cx,
-    index: usize,
-    number: usize,
-    input: InputOf<D>,
-    evaluation: EvaluationResult<ResultOf<D>>,
-    depth: usize,
-) -> Evaluation<D>
-    requires cache { AreCached D.meaning (D.meaning.world cx.now) cx.now cache.old.entries.items }
-    requires input { D.meaning.IsInput cx.now input }
-    requires alone { index ≤ evaluation.dependencies.lowest → IsProvisional D.meaning (D.meaning.world cx.now) [] (D.meaning.goal_of cx.now input, PathKind.Inductive) 0 cx.now evaluation.result }
-    requires kept { index ≤ evaluation.dependencies.lowest → IsKept D.meaning (D.meaning.world cx.now) (D.meaning.goal_of cx.now input) (D.meaning.answer_of cx.now evaluation.result) depth evaluation.dependencies.encountered_overflow }
-    ensures cache { AreCached D.meaning (D.meaning.world cx.now) cx.now cache.new.entries.items }
-    ensures same { IfOk result (λ o. o.result ≡ evaluation.result) }
-    ensures lowest { IfOk result (λ o. o.dependencies.lowest ≡ evaluation.dependencies.lowest) }
-    ensures heads { IfOk result (λ o. o.dependencies.heads ≡ evaluation.dependencies.heads) }
-    ensures overflow { IfOk result (λ o. o.dependencies.encountered_overflow ≡ evaluation.dependencies.encountered_overflow) }
-    ensures no_conflict { result ≡ Err GraphFault.Conflict → (limit : ℕ) → limit ≤ depth + 1 → IsNotPlain D.meaning (D.meaning.world cx.now) limit (D.meaning.goal_of cx.now input) }
-    ensures in_order { result ≡ Err GraphFault.Protocol → ⊥ }
-{
-    let EvaluationResult {
-        result: answer,
-        dependencies,
-    } = evaluation;
-    let Dependencies {
-        lowest,
-        heads,
-        encountered_overflow,
-        required_depth,
-        nested_goals,
-    } = dependencies;
-    if lowest >= index {
-        let kept_depth = if encountered_overflow {
-            depth
-        } else {
-            required_depth
-        };
-        let span = nested_goals.span.cover(Span::of(number));
-        let place = cache.insert(
-            cx,
-            number,
-            input,
-            &answer,
-            kept_depth,
-            encountered_overflow,
-            nested_goals,
-        )?;
-        let mut nested_goals = NestedGoals::new(alloc);
-        nested_goals.add_cached(place, span)?;
-        let dependencies = Dependencies {
-            lowest,
-            heads,
-            encountered_overflow,
-            required_depth,
-            nested_goals,
-        };
-        return Ok(EvaluationResult {
-            result: answer,
-            dependencies,
-        });
-    }
-    // A provisional entry would be left here, for the run of the nearest head.
-    let mut nested_goals = nested_goals;
-    nested_goals.add_goal(number)?;
-    let dependencies = Dependencies {
-        lowest,
-        heads,
-        encountered_overflow,
-        required_depth,
-        nested_goals,
-    };
-    Ok(EvaluationResult {
-        result: answer,
-        dependencies,
-    })
 }

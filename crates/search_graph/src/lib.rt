@@ -4,14 +4,11 @@
 mod cache;
 mod candidates;
 mod delegate;
-mod dependencies;
+mod evaluation;
 mod graph;
-mod nested_goals;
-mod path_kind;
 mod stack;
-pub mod toy;
 
 pub use cache::GlobalCache;
 pub use delegate::{Cx, Delegate, InputOf, Reply, Request, ResultOf};
 pub use graph::{GraphFault, SearchGraph};
-pub use path_kind::{PathKind, PathsToNested};
+pub use search_paths::{CandidateHeadUsages, PathKind, PathsToNested};

@@ -4,9 +4,8 @@ ghost use Rattle.std.specs.Prelude.{◌≡◌, ◌+◌, ◌<◌, IfSome, length,
 ghost use Rattle.search_graph.specs.Stack.{kind_after};
 
 use crate::delegate::{Delegate, InputOf, ResultOf};
-use crate::nested_goals::Span;
-use crate::path_kind::PathKind;
 use indexmap::IndexMap;
+use search_paths::{PathKind, Span};
 
 /// A goal that is being evaluated.
 #[derive(Drop)]

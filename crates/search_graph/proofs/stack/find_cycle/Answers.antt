@@ -1,4 +1,4 @@
-use Rattle.std.proofs.Common.{◌≡◌, ◌<◌, length, sym, refl, arith}
+use Rattle.std.proofs.Common.{◌<◌, length, sym, refl, arith}
 use Rattle.std.proofs.lemmas.Option.{slice_get_read}
 use Rattle.search_graph.proofs.stack.find_cycle.Goals as goal
 

@@ -1,4 +1,4 @@
-use Rattle.std.proofs.Common.{◌≡◌, ◌≤◌, ◌<◌, ◌+◌, length, drop}
+use Rattle.std.proofs.Common.{◌≡◌, ◌≤◌, ◌<◌, length, drop}
 use Rattle.search_graph.specs.Stack.{kind_after}
 use Rattle.search_graph.proofs.stack.kind_of_path.Given as goal
 

@@ -1,18 +1,54 @@
-use Rattle.std.proofs.Common.{◌≡◌, ◌+◌, ◌≤◌, [], List, inl, arith}
-use Rattle.search_graph.specs.Stack.{path_onto, IsAnswer}
+use Rattle.std.proofs.Common.{◌≡◌, ◌+◌, ◌∙◌, sym, ap, subst, refl, [], inl, arith}
+use Rattle.search_graph.specs.Cache.{AreJustified}
 use Rattle.search_graph.proofs.Proofs.{sound_answer}
+use Rattle.search_graph.proofs.Caches.{AreCached-known, AreJustified-known}
+use Rattle.search_graph.proofs.Errors.{err_passed, ok_not_err, empty_of_length}
 use Rattle.search_graph.proofs.graph.SearchGraph.evaluate_goal.Goals as goal
+use Rattle.search_graph.proofs.graph.SearchGraph.evaluate_goal.Goals.{in-Ok, in-Err}
 
-pub returns-in-Ok-clause-answer : goal.returns-in-Ok-clause-answer
-returns-in-Ok-clause-answer g c =
+pub evaluate-requires-clause-cache : goal.evaluate-requires-clause-cache
+evaluate-requires-clause-cache g c =
     let m = g.D.Delegate.meaning in
     let first = c.args.cx.now in
-    sound_answer m (m.world first) (m.goal_of first c.args.input) c.args.step_kind c.in-Ok.evaluation.dependencies.lowest c.evaluate.new.cx c.in-Ok.evaluation.result
-    (rw c.requires.empty at c.in-Ok.ensures.answer)
+    AreCached-known m first c.cache.inside.results.entries.items (subst (λ ks. AreJustified m first ks) (sym c.cache.view_is) c.requires.cache)
 
-pub returns-in-Ok-clause-plain : goal.returns-in-Ok-clause-plain
-returns-in-Ok-clause-plain g c =
+pub returns-clause-cache : goal.returns-clause-cache
+returns-clause-cache g c = AreJustified-known g.D.Delegate.meaning c.evaluate.new.cx c.evaluate.new.cache.entries.items c.evaluate.ensures.cache
+
+pub returns-clause-answer : goal.returns-clause-answer
+returns-clause-answer g c =
     let m = g.D.Delegate.meaning in
     let first = c.args.cx.now in
-    let faithful = rw c.requires.empty at c.in-Ok.ensures.faithful in
-    λ a plain. (faithful (c.args.self.now.root_depth + 1) (inl (omega arith)) tt (c.args.self.now.root_depth + 1) a (omega arith) plain).same
+    let empty : c.self.inside.search.stack.items ≡ [] = empty_of_length c.self.inside.search.stack.items (ap (λ s. s.current_depth) c.self.view_is ∙ c.requires.empty) in
+    elim c.match-evaluate.branch [
+      | in-Ok w ↦ rw w.result-is (sound_answer m (m.world first) (m.goal_of first c.args.input) c.args.step_kind w.in-Ok.evaluation.dependencies.lowest c.evaluate.new.cx w.in-Ok.evaluation.result
+          (rw empty at w.in-Ok.ensures.answer))
+      | in-Err w ↦ rw w.result-is tt
+    ]
+
+pub returns-clause-plain : goal.returns-clause-plain
+returns-clause-plain g c =
+    let m = g.D.Delegate.meaning in
+    let empty : c.self.inside.search.stack.items ≡ [] = empty_of_length c.self.inside.search.stack.items (ap (λ s. s.current_depth) c.self.view_is ∙ c.requires.empty) in
+    let depth : c.self.inside.root_depth ≡ c.args.self.now.root_depth = ap (λ s. s.root_depth) c.self.view_is in
+    elim c.match-evaluate.branch [
+      | in-Ok w ↦ rw w.result-is (λ a plain. ((rw empty at w.in-Ok.ensures.faithful) (c.args.self.now.root_depth + 1) (inl (omega arith)) tt (c.args.self.now.root_depth + 1) a (omega arith) plain).same)
+      | in-Err w ↦ rw w.result-is tt
+    ]
+
+pub returns-clause-no_conflict : goal.returns-clause-no_conflict
+returns-clause-no_conflict g c =
+    let m = g.D.Delegate.meaning in
+    let empty : c.self.inside.search.stack.items ≡ [] = empty_of_length c.self.inside.search.stack.items (ap (λ s. s.current_depth) c.self.view_is ∙ c.requires.empty) in
+    let depth : c.self.inside.root_depth ≡ c.args.self.now.root_depth = ap (λ s. s.root_depth) c.self.view_is in
+    elim c.match-evaluate.branch [
+      | in-Ok w ↦ λ h n b within p. absurd (ok_not_err _ _ (sym w.result-is ∙ h))
+      | in-Err w ↦ λ h n b within p. (rw empty at w.in-Err.ensures.no_conflict) (err_passed _ _ _ _ w.result-is refl h) (c.args.self.now.root_depth + 1) (omega arith) tt n b within p
+    ]
+
+pub returns-clause-computed : goal.returns-clause-computed
+returns-clause-computed g c =
+    elim c.match-evaluate.branch [
+      | in-Ok w ↦ rw w.result-is w.in-Ok.ensures.answer.source
+      | in-Err w ↦ rw w.result-is tt
+    ]

@@ -1,0 +1,57 @@
+use Rattle.std.proofs.Common.{◌<◌, ◌⊎◌, false, ◌≡◌, ◌≤◌, length, max, ℕ, ◌+◌, ◌*◌, [], ◌∷◌, ◌++◌}
+use Rattle.search_graph.specs.Meaning.{Keeps, is_open, finished, answer_count}
+use Rattle.search_graph.specs.Stack.{question_of, path_onto, IsEntry, IsRunning, AreCached}
+use Rattle.search_graph.specs.Plain.{IsNotPlain}
+use Rattle.search_graph.specs.Faithful.{AllDescend, IsOnPlainTrack, IsUntouched}
+use Rattle.search_graph.specs.Bound.{question_bound}
+use Rattle.search_graph.proofs.evaluation.Search.+search.Given as goal
+
+abbrev pub decreases-ask : goal.decreases-ask
+decreases-ask g l = 4 * l.depth
+
+abbrev pub decreases-run_once : goal.decreases-run_once
+decreases-run_once g l = 4 * l.depth + 1
+
+abbrev pub decreases-evaluate_new : goal.decreases-evaluate_new
+decreases-evaluate_new g l = 4 * l.depth + 2
+
+abbrev pub decreases-evaluate : goal.decreases-evaluate
+decreases-evaluate g l = 4 * l.depth + 3
+
+abbrev pub invariant-evaluate_new-loop-run : goal.invariant-evaluate_new-loop-run
+invariant-evaluate_new-loop-run g l =
+    let m = g.D.Delegate.meaning in
+    record {
+      keeps : Keeps m l.fn.cx l.cx;
+      cache : AreCached m (m.world l.cx) l.cx l.cache.entries.items;
+      stack : l.self.stack.items ≡ l.fn.self.stack.items;
+      place : l.index ≡ length l.fn.self.stack.items;
+      input : l.entry.input ≡ l.fn.input;
+      kind : l.entry.step_kind ≡ l.fn.step_kind;
+      entry : IsEntry m (m.world l.fn.cx) (path_onto m l.fn.cx l.fn.self.stack.items []) l.cx l.entry;
+      room : l.dependencies.lowest ≤ length l.fn.self.stack.items;
+      untouched : IsUntouched m (m.world l.fn.cx) (l.depth + 1) (path_onto m l.fn.cx l.fn.self.stack.items []) (m.goal_of l.fn.cx l.fn.input) l.dependencies.encountered_overflow l.dependencies.lowest l.dependencies.heads.items;
+      frames : (width : ℕ) → m.number_of (m.world l.fn.cx) (m.goal_of l.fn.cx l.fn.input) ≤ width
+          → l.self.frames ≤ l.fn.self.frames + l._run * (1 + width * question_bound (max g.D.Delegate.FIXPOINT_STEP_LIMIT 1) width l.depth);
+      again : 0 < l._run → (limit : ℕ) → (limit ≤ l.depth + 1) ⊎ (l.dependencies.encountered_overflow ≡ false)
+          → AllDescend m (m.world l.fn.cx) limit l.dependencies.lowest (path_onto m l.fn.cx l.fn.self.stack.items []) (m.goal_of l.fn.cx l.fn.input) → IsNotPlain m (m.world l.fn.cx) limit (m.goal_of l.fn.cx l.fn.input);
+    }
+
+abbrev pub invariant-run_once-loop-request : goal.invariant-run_once-loop-request
+invariant-run_once-loop-request g l =
+    let m = g.D.Delegate.meaning in
+    record {
+      keeps : Keeps m l.fn.cx l.cx;
+      cache : AreCached m (m.world l.cx) l.cx l.cache.entries.items;
+      stack : l.self.stack.items ≡ l.fn.self.stack.items ++ l.fn.entry ∷ [];
+      room : l.dependencies.lowest ≤ length l.fn.self.stack.items;
+      running : IsRunning m (m.world l.fn.cx) (question_of m l.fn.cx l.fn.entry ∷ path_onto m l.fn.cx l.fn.self.stack.items []) (m.goal_of l.fn.cx l.fn.entry.input) l.dependencies.lowest l.cx l.frame l.request;
+      opened : l.candidates.open ≡ is_open m running.heard;
+      listed : l.candidates.finished.items ≡ finished m (m.world l.fn.cx) (m.goal_of l.fn.cx l.fn.entry.input) running.heard;
+      frames : (width : ℕ) → m.number_of (m.world l.fn.cx) (m.goal_of l.fn.cx l.fn.entry.input) ≤ width
+          → l.self.frames ≤ l.fn.self.frames + 1 + answer_count m running.heard * question_bound (max g.D.Delegate.FIXPOINT_STEP_LIMIT 1) width l.depth;
+      plain : IsOnPlainTrack m (m.world l.fn.cx) (l.depth + 1) (path_onto m l.fn.cx l.fn.self.stack.items []) (m.goal_of l.fn.cx l.fn.entry.input) l.dependencies.encountered_overflow l.dependencies.lowest l.dependencies.heads.items running.heard;
+    }
+
+abbrev pub decreases-run_once-loop-request : goal.decreases-run_once-loop-request
+decreases-run_once-loop-request g l = g.D.Delegate.steps_left l.frame

@@ -1,0 +1,4 @@
+pub mod KindOrder
+pub mod PathSets
+pub mod UsageFacts
+pub mod HeadFacts

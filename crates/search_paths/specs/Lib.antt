@@ -1,0 +1,5 @@
+pub mod Laws
+pub mod Path
+pub mod Usages
+pub mod Nested
+pub mod Heads
