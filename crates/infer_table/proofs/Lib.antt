@@ -1,0 +1,13 @@
+pub mod SolutionLaws
+pub mod CanonicalLaws
+pub mod LookupLaws
+pub mod ContentFacts
+pub mod TableFacts
+pub mod PartFacts
+pub mod EquationFacts
+pub mod OccurFacts
+pub mod BindFacts
+pub mod StepFacts
+pub mod OpenFacts
+pub mod OpenedParts
+pub mod ResolveFacts

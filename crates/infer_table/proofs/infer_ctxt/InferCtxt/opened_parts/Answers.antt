@@ -1,0 +1,20 @@
+use Rattle.std.proofs.Common.{refl}
+use Rattle.type_terms.specs.Kinds.{args_trees}
+use Rattle.infer_table.specs.Parts.{parts_trees}
+use Rattle.infer_table.proofs.OpenedParts.{same-alike}
+use Rattle.infer_table.proofs.infer_ctxt.InferCtxt.opened_parts.Goals as goal
+
+pub returns-in_ok-parts-in_default : goal.returns-in_ok-parts-in_default
+returns-in_ok-parts-in_default c =
+    let es = c.args.cx.now.entries in
+    let items = c.in_ok-parts-in_default.field-0.items in
+    record {
+      ready = c.requires.ready;
+      keeps = λ i e h. h;
+      limit = refl;
+      values = refl;
+      constraints = refl;
+      held = c.in_ok-parts-in_default.ensures.held;
+      trees = same-alike (args_trees es items) (parts_trees es c.args.kind) c.in_ok-parts-in_default.ensures.trees;
+      bounds = c.in_ok-parts-in_default.ensures.bounds;
+    }

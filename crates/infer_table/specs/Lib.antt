@@ -1,0 +1,11 @@
+pub mod Solutions
+pub mod Canonical
+pub mod Content
+pub mod Lookups
+pub mod TableView
+pub mod Parts
+pub mod Equations
+pub mod Opened
+pub mod Alike
+pub mod Resolving
+pub mod Kept

@@ -1,0 +1,46 @@
+-- A binder opened: variables in the place of the lifetimes that it binds.
+-- `for<'a> fn(&'a u8, for<'b> fn(&'a u8, &'b u8))` opens to `fn(&'?0 u8, for<'b> fn(&'?0 u8, &'b u8))`.
+use Rattle.std.specs.Prelude.{◌≡◌, ℕ, ◌+◌, List, length, cond, ltb, ◌&&◌, ◌==◌, Bool, true, false, refl}
+use Rattle.model.specs.Label.{Label, Sort, of_type, of_lifetime, infer, bound, principal, auto_trait, inside}
+use Rattle.model.specs.Trees.{Trees, none, tree, outer_binder, sort_of, is_sort}
+use Rattle.term_traversal.specs.Folds.{Does, enters, puts, again, IsBound}
+
+-- lifetime v of the k-th binder around it is one of the n that the opened binder binds, where d binders are inside that one
+abbrev pub is_opened : ℕ → ℕ → ℕ → ℕ → Bool
+is_opened n d k v = (k == d) && ltb v n
+
+-- it becomes the variable first + v
+abbrev pub opened_label : ℕ → ℕ → ℕ → ℕ → ℕ → Label
+opened_label first n d k v = cond (is_opened n d k v) (infer of_lifetime (first + v)) (bound of_lifetime k v)
+
+-- the value of a binder of n lifetimes with the variables from `first` on in their place, below d binders of the value
+abbrev pub opened : ℕ → ℕ → ℕ → Trees → Trees
+opened first n d none = none
+opened first n d (tree (bound of_lifetime k v) none o) = tree (opened_label first n d k v) none (opened first n d o)
+opened first n d (tree l c o) = tree l (opened first n (inside l d) c) (opened first n d o)
+
+-- what the folder does: a type that no binder number leads out of stays
+abbrev pub opening : ℕ → ℕ → List ℕ → Trees → Does
+opening first n bs none = enters
+opening first n bs (tree (principal m i) c o) = enters
+opening first n bs (tree (auto_trait i) c o) = enters
+opening first n bs (tree (bound of_lifetime k v) none o) = puts (tree (opened_label first n (length bs) k v) none none)
+opening first n bs (tree l c o) = cond (is_sort (sort_of l) of_type) (cond (ltb (length bs) (outer_binder (tree l c none))) enters (puts (tree l c none))) enters
+
+pub opening-bounds : (first n : ℕ) (bs : List ℕ) (t : Trees) → IsBound t → opening first n bs t ≡ enters
+opening-bounds first n bs (tree (principal m i) c o) h = refl
+opening-bounds first n bs (tree (auto_trait i) c o) h = refl
+opening-bounds first n bs none h = refl
+opening-bounds first n bs (tree l c o) h = absurd h
+
+never-again : (a b : Bool) (t s : Trees) → cond a (cond b enters (puts t)) enters ≡ again s → ⊥
+never-again true true t s e = cc
+never-again true false t s e = cc
+never-again false b t s e = cc
+
+pub opening-once : (first n : ℕ) (bs : List ℕ) (t s : Trees) → opening first n bs t ≡ again s → ⊥
+opening-once first n bs none s e = cc
+opening-once first n bs (tree (principal m i) c o) s e = cc
+opening-once first n bs (tree (auto_trait i) c o) s e = cc
+opening-once first n bs (tree (bound of_lifetime k v) none o) s e = cc
+opening-once first n bs (tree l c o) s e = never-again (is_sort (sort_of l) of_type) (ltb (length bs) (outer_binder (tree l c none))) (tree l c none) s e

@@ -1,0 +1,96 @@
+//! Binders opened.
+ghost use Rattle.std.specs.Prelude.{◌≡◌, ◌+◌, ◌≤◌};
+ghost use Rattle.type_terms.specs.declared.TheConstants.{MAX_INDEX};
+
+use term_traversal::binders::Binders;
+use term_traversal::fold::Answer;
+use term_traversal::folder::TypeFolder;
+use type_terms::interner::Interner;
+use type_terms::kinds::{Const, Ty};
+use type_terms::number::{BoundVarIndexKind, RegionVid};
+use type_terms::region::{Region, RegionKind};
+use type_terms::{Fault, MAX_INDEX};
+
+/// Puts variables in the place of the lifetimes that the binder around a value binds.
+///
+/// `BoundVarReplacer` of the original. It stops at a type that no binder number leads out of.
+#[derive(Clone, Copy)]
+pub(crate) struct BoundVarReplacer {
+    /// The number of the variable for the binder's first lifetime.
+    pub(crate) first: u32,
+    /// How many lifetimes the binder binds.
+    pub(crate) count: u32,
+    ghost in_range: { first + count ≤ MAX_INDEX },
+}
+
+impl TypeFolder for BoundVarReplacer {
+    ghost use Rattle.std.proofs.Common.{refl};
+    ghost use Rattle.term_traversal.specs.Folds.{none_above};
+    ghost use Rattle.infer_table.specs.Opened.{opening, opening-bounds, opening-once};
+
+    ghost ready = { λ _ _. Unit {0} };
+
+    ghost action = { λ f _ bs t. opening f.first f.count bs t };
+
+    ghost fuel = { λ _ _ _. 0 };
+
+    ghost ready_kept = { λ f old new k h. tt };
+
+    ghost action_kept = { λ f old new k h. refl };
+
+    ghost fuel_kept = { λ f old new k h. refl };
+
+    ghost enters_bounds = { λ f es bs t h. opening-bounds f.first f.count bs t h };
+
+    ghost falls = { λ f es bs t s h e. absurd (opening-once f.first f.count bs t s e) };
+
+    ghost below_node = { λ f es l c. none_above };
+
+    ghost below_left = { λ f es x y. none_above };
+
+    ghost below_right = { λ f es x y. none_above };
+
+    fn fold_ty(&self, cx: &mut Interner, ty: Ty, binders: &Binders) -> Result<Answer<Ty>, Fault> {
+        let kind = cx.kind(ty);
+        let _ = kind;
+        if binders.depth().index < cx.outer_exclusive_binder(ty).index {
+            Ok(Answer::Enter)
+        } else {
+            Ok(Answer::Replace(ty))
+        }
+    }
+
+    fn fold_const(
+        &self,
+        cx: &mut Interner,
+        ct: Const,
+        _binders: &Binders,
+    ) -> Result<Answer<Const>, Fault> {
+        let kind = cx.const_kind(ct);
+        let _ = kind;
+        Ok(Answer::Enter)
+    }
+
+    fn fold_region(
+        &self,
+        _cx: &Interner,
+        region: Region,
+        binders: &Binders,
+    ) -> Result<Answer<Region>, Fault> {
+        match region.kind {
+            RegionKind::ReBound(BoundVarIndexKind::Bound(binder), var) => {
+                if binder.index == binders.depth().index && var.index < self.count {
+                    let vid = RegionVid {
+                        index: self.first + var.index,
+                    };
+                    Ok(Answer::Replace(Region {
+                        kind: RegionKind::ReVar(vid),
+                    }))
+                } else {
+                    Ok(Answer::Replace(region))
+                }
+            }
+            _ => Ok(Answer::Enter),
+        }
+    }
+}
