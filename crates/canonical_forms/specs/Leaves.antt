@@ -1,0 +1,75 @@
+-- Open leaves as handles, and how they are collected and numbered.
+use Rattle.std.specs.Prelude.{◌≡◌, ℕ, Bool, true, false, List, [], ◌∷◌, map, is_some, IsSome, if◌then◌else◌, ◌==◌, ◌&&◌, bit_and}
+use Rattle.model.specs.Label.{Label, of_type, never, principal, auto_trait}
+use Rattle.model.specs.Trees.{Trees, none, tree, leaf, flags, sort_of, is_sort}
+use Rattle.type_terms.specs.Terms.{Entry}
+use Rattle.type_terms.specs.Kinds.{ArgHeld, arg_trees}
+use Rattle.type_terms.specs.declared.Fault.{Fault}
+use Rattle.type_terms.specs.declared.kinds.GenericArgKind.{GenericArgKind}
+use Rattle.term_traversal.specs.declared.visit.Seen.{Seen}
+use Rattle.term_traversal.specs.declared.visit.Seen.TheVariants.{Break, Enter, Pass}
+use Rattle.term_traversal.specs.Folds.{Does, enters, puts}
+use Rattle.infer_table.specs.Canonical.{OpenKinds, kind_of_leaf, kind_in_clause, with_label, leaves, canonical_label, relabeled}
+use Rattle.canonical_forms.specs.declared.canonicalizer.TheConstants.{OPEN_FLAGS}
+
+-- what is open in a where-clause, and what outside
+abbrev pub open_kinds : Bool → OpenKinds
+open_kinds true = kind_in_clause
+open_kinds false = kind_of_leaf
+
+abbrev pub root_label : Trees → Label
+root_label none = never
+root_label (tree l c o) = l
+
+abbrev pub leaf_label : List Entry → GenericArgKind → Label
+leaf_label es a = root_label (arg_trees es a)
+
+abbrev pub labels : List Entry → List GenericArgKind → List Label
+labels es xs = map (leaf_label es) xs
+
+-- the argument is one leaf of the interner
+abbrev pub IsLeaf : List Entry → GenericArgKind → Type 0
+IsLeaf es a = ArgHeld es a × (arg_trees es a ≡ leaf (leaf_label es a))
+
+abbrev pub AreLeaves : List Entry → List GenericArgKind → Type 0
+AreLeaves es [] = Unit {0}
+AreLeaves es (a ∷ rest) = IsLeaf es a × AreLeaves es rest
+
+-- a leaf is listed, or there is no room for it
+abbrev pub Adds : List Label → Label → List Label → Seen Fault → Type 0
+Adds before l after Enter = after ≡ with_label l before
+Adds before l after (Break f) = Unit {0}
+Adds before l after Pass = ⊥
+
+-- each label is open
+abbrev pub AreOpen : List Label → Type 0
+AreOpen [] = Unit {0}
+AreOpen (l ∷ ls) = IsSome (kind_of_leaf l) × AreOpen ls
+
+-- the labels seen and the root's, if it is open
+abbrev pub with_root : OpenKinds → List Label → Trees → List Label
+with_root kind seen none = seen
+with_root kind seen (tree l c o) = if is_some (kind l) then with_label l seen else seen
+
+-- how a collector answers at a node, where it had the leaves `before` and has the leaves `after`
+abbrev pub Collects : OpenKinds → Trees → List Label → List Label → Seen Fault → Type 0
+Collects kind t before after (Break f) = Unit {0}
+Collects kind t before after Enter = after ≡ with_root kind before t
+Collects kind t before after Pass = after ≡ leaves kind before t
+
+-- no unknown, parameter or placeholder stands in the trees
+abbrev pub is_closed : Trees → Bool
+is_closed t = bit_and (flags t) OPEN_FLAGS == 0
+
+-- the label of a type
+abbrev pub is_type_label : Label → Bool
+is_type_label (principal n i) = false
+is_type_label (auto_trait i) = false
+is_type_label l = is_sort (sort_of l) of_type
+
+-- what a numbering folder does: a leaf becomes its canonical variable, and in a where-clause a type without open leaves stays
+abbrev pub numbering : Bool → List Label → List ℕ → Trees → Does
+numbering b ls bs none = enters
+numbering b ls bs (tree l c o) =
+    if is_some (open_kinds b l) then puts (tree (canonical_label ls l) (relabeled (open_kinds b) (canonical_label ls) c) none)
+    else (if is_type_label l && (b && is_closed (tree l c none)) then puts (tree l c none) else enters)
