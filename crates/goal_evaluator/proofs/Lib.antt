@@ -13,3 +13,4 @@ pub mod AtomTables
 pub mod RuleBooks
 pub mod ByRules
 pub mod Systems
+pub mod Replays
