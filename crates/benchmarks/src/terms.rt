@@ -1,0 +1,102 @@
+//! What making and instantiating terms costs.
+ghost use Rattle.std.specs.Prelude.{IfOk};
+ghost use Rattle.type_terms.specs.Terms.{Has, Keeps, args_lists, types};
+
+use std::alloc::Global;
+use term_folds::binder::EarlyBinder;
+use term_folds::instantiate::InstantiateError;
+use term_folds::laws::closed_arguments_are_in_range;
+use type_terms::Fault;
+use type_terms::interner::Interner;
+use type_terms::kinds::{GenericArgKind, GenericArgs, Ty, TyKind, UintTy};
+
+/// More handles of each kind than a run makes.
+const HANDLES: u32 = 16_777_216;
+
+/// The parameter 0 in so many slices, one in the other.
+fn slices(cx: &mut Interner, count: u32) -> Result<Ty, Fault>
+    ensures made { IfOk result (λ ty. Has cx.new.entries types ty.0) }
+    ensures keeps { Keeps cx.old.entries cx.new.entries }
+{
+    let mut ty = cx.mk_ty(TyKind::Param(0))?;
+    for _ in 0..count {
+        ty = cx.mk_ty(TyKind::Slice(ty))?;
+    }
+    Ok(ty)
+}
+
+/// Makes so many types, each nested in the next; answers how deep the last one is.
+pub fn nested(alloc: Global, count: u32) -> Result<u32, Fault> {
+    let mut cx = Interner::new(alloc, HANDLES);
+    let ty = slices(&mut cx, count)?;
+    Ok(cx.depth(ty))
+}
+
+/// A type with a parameter, and the list of the argument `u8` alone.
+fn type_and_args(cx: &mut Interner, alloc: Global) -> Result<(Ty, GenericArgs), Fault>
+    ensures ty { IfOk result (λ made. Has cx.new.entries types made.0.0) }
+    ensures args { IfOk result (λ made. Has cx.new.entries args_lists made.1.0) }
+{
+    let byte = cx.mk_ty(TyKind::Uint(UintTy::U8))?;
+    let args = cx.mk_args(vec![in alloc; GenericArgKind::Ty(byte)]?)?;
+    let ty = slices(cx, DEEP - 1)?;
+    Ok((ty, args))
+}
+
+/// How deep the type with a parameter is that `instantiated` uses.
+const DEEP: u32 = 64;
+
+/// Puts the arguments for the parameters of the type so many times; answers how often another type came out.
+fn instantiate_often(
+    alloc: Global,
+    cx: &mut Interner,
+    ty: Ty,
+    args: GenericArgs,
+    count: u32,
+) -> Result<u32, InstantiateError>
+    requires ty { Has cx.old.entries types ty.0 }
+    requires args { Has cx.old.entries args_lists args.0 }
+{
+    closed_arguments_are_in_range();
+    let mut made: u32 = 0;
+    for _ in 0..count {
+        if cx.outer_exclusive_binder(args).index != 0 {
+            return Ok(made);
+        }
+        let instance = EarlyBinder::bind(ty).instantiate(alloc, cx, args)?;
+        if instance != ty {
+            made = made.saturating_add(1);
+        }
+    }
+    Ok(made)
+}
+
+/// Puts `u8` for the parameter of a type that is 64 deep, so many times; answers how often another type came out.
+pub fn instantiated(alloc: Global, count: u32) -> Result<u32, InstantiateError> {
+    let mut cx = Interner::new(alloc, HANDLES);
+    let (ty, args) = type_and_args(&mut cx, alloc)?;
+    instantiate_often(alloc, &mut cx, ty, args, count)
+}
+
+/// The parameter 0 at the ends of pairs of pairs, so many levels deep: a tree that doubles at each level.
+fn pairs(cx: &mut Interner, alloc: Global, levels: u32) -> Result<Ty, Fault>
+    ensures made { IfOk result (λ ty. Has cx.new.entries types ty.0) }
+    ensures keeps { Keeps cx.old.entries cx.new.entries }
+{
+    let mut ty = cx.mk_ty(TyKind::Param(0))?;
+    for _ in 0..levels {
+        let pair = cx.mk_tys(vec![in alloc; ty, ty]?)?;
+        ty = cx.mk_ty(TyKind::Tuple(pair))?;
+    }
+    Ok(ty)
+}
+
+/// Puts `u8` for the parameter of a type that doubles at each of so many levels; answers how often another type came out.
+///
+/// A fold visits a term in each of its places, so this takes a time that doubles with each level too.
+pub fn doubled(alloc: Global, levels: u32) -> Result<u32, InstantiateError> {
+    let mut cx = Interner::new(alloc, HANDLES);
+    let (_, args) = type_and_args(&mut cx, alloc)?;
+    let ty = pairs(&mut cx, alloc, levels)?;
+    instantiate_often(alloc, &mut cx, ty, args, 1)
+}
