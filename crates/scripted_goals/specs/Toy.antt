@@ -1,6 +1,6 @@
 -- A delegate over scripts: the frame of the goal n makes the requests of the n-th script in order.
 -- An answer is 0 for no, 1 for an overflow, 2 for yes and 3 for another ambiguity.
-use Rattle.std.specs.Prelude.{◌≡◌, ◌<◌, ◌≤◌, ◌+◌, ◌==◌, ℕ, Bool, true, false, cond, nat_lt, List, [], ◌∷◌, length, slice_get, Option, Some, None}
+use Rattle.std.specs.Prelude.{◌≡◌, ◌==◌, ℕ, cond, nat_lt, List, [], ◌∷◌, length, slice_get, Option, Some, None}
 use Rattle.search_paths.specs.declared.path_kind.PathKind.{PathKind}
 use Rattle.search_paths.specs.declared.path_kind.PathKind.TheVariants.{Inductive, Unknown, Coinductive, ForcedAmbiguity}
 use Rattle.search_graph.specs.declared.delegate.Request.{Request}

@@ -1,5 +1,5 @@
 -- The toy delegate is lawful.
-use Rattle.std.proofs.Common.{◌≡◌, ◌<◌, ◌≤◌, ◌+◌, ◌∙◌, sym, ap, refl, arith, ℕ, Bool, true, false, cond, List, [], ◌∷◌, length, slice_get, Option, Some, None}
+use Rattle.std.proofs.Common.{◌≡◌, ◌<◌, ◌≤◌, ◌+◌, ◌∙◌, ap, refl, arith, ℕ, Bool, true, false, cond, List, [], ◌∷◌, length, slice_get, Option, Some, None}
 use Rattle.std.specs.Prelude.{◌==◌, nat_lt}
 use borrow.Author.Tests.{eqb-true, ltb-true}
 use Rattle.search_paths.specs.declared.path_kind.PathKind.{PathKind}
@@ -11,7 +11,7 @@ use Rattle.search_graph.specs.declared.delegate.Reply.TheVariants.{Begin, Result
 use Rattle.scripted_goals.specs.declared.ToyFrame.{ToyFrame}
 use Rattle.scripted_goals.specs.declared.Scripts.{Scripts}
 use Rattle.scripted_goals.specs.declared.Script.{Script}
-use Rattle.search_graph.specs.Meaning.{AreReplies, IsFair, IsLawful, Steps, IsRequest, request_of, reply_of, answer_count}
+use Rattle.search_graph.specs.Meaning.{IsFair, IsLawful, Steps, IsRequest, request_of, reply_of, answer_count}
 use Rattle.scripted_goals.specs.Toy.{toy_asks, asks_next, step_at, request_at, unless_decided, decided, toy_initial, toy_meaning}
 
 toy_initial_yes : (k : PathKind) → (toy_initial k == 2) ≡ true → k ≡ Coinductive

@@ -1,5 +1,5 @@
 -- The order of kinds, and the flags of paths.
-use Rattle.std.proofs.Common.{◌≡◌, ℕ, zero, suc, ◌+◌, ◌<◌, max, Option, None, Some, refl, sym, ap, ◌∙◌, arith}
+use Rattle.std.proofs.Common.{◌≡◌, ℕ, zero, suc, ◌<◌, max, Option, None, Some, refl, sym, ap, ◌∙◌, arith}
 use Rattle.search_paths.specs.declared.path_kind.PathKind.{PathKind}
 use Rattle.search_paths.specs.declared.path_kind.PathKind.TheVariants.{Inductive, Unknown, Coinductive, ForcedAmbiguity}
 use Rattle.search_paths.specs.Laws.{IsAssociative, IsCommutative, IsIdempotent, IsNeutral, IsAbsorbing}

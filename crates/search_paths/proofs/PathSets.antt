@@ -1,12 +1,12 @@
 -- Sets of paths that are extended.
-use Rattle.std.proofs.Common.{◌≡◌, ℕ, zero, suc, ◌+◌, ◌-◌, ◌^◌, ◌<◌, ◌≤◌, ◌⊎◌, ◌↔◌, inl, inr, min, max, Option, None, Some, refl, sym, ap, subst, ◌∙◌, arith}
+use Rattle.std.proofs.Common.{◌≡◌, ℕ, ◌-◌, ◌^◌, ◌<◌, ◌≤◌, ◌⊎◌, ◌↔◌, inl, inr, min, max, Option, Some, refl, sym, ap, subst, ◌∙◌, arith}
 use Rattle.std.specs.Int.{bit_at, w64}
 use Rattle.std.specs.Int.RustNames.{bit_and, bit_or}
 use Rattle.std.proofs.lemmas.Nat.{and_le_r, pow_pos, pow_below}
 use Rattle.std.proofs.lemmas.Nat.Bits.{bit_at-lt, bit_at-zero, bit_at_and, bit_at_or, bit_at_ones, bit_at_ones_above, bit_at-pow_same, bit_at-pow_other, bit_at_mask_inside, bit_at_mask_below, bit_at-trailing_zeros}
 use Rattle.std.proofs.lemmas.Bool.{cases_order, cases_eq, cases_lt}
 use Rattle.search_paths.specs.declared.path_kind.PathKind.{PathKind}
-use Rattle.search_paths.specs.Path.{rank, greater, after, flag_of, HasPath, only, AreExtendedBy}
+use Rattle.search_paths.specs.Path.{greater, after, flag_of, HasPath, only, AreExtendedBy}
 use Rattle.search_paths.proofs.KindOrder.{same_flag, path_at, flag_of-path_at, flag_of-below, flag_of-after, after-twice}
 
 -- the set of a path has that path alone

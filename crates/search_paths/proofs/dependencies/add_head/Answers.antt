@@ -1,4 +1,4 @@
-use Rattle.std.proofs.Common.{◌≡◌, ℕ, List, Some, cond, eqb, ◌∷◌, [], ap, sym, refl, ◌∙◌}
+use Rattle.std.proofs.Common.{◌≡◌, List, Some, cond, eqb, ◌∷◌, [], ap, sym, refl, ◌∙◌}
 use Rattle.std.proofs.lemmas.Bool.{eqb-true}
 use Rattle.std.proofs.lemmas.List.Quantifiers.{position-Some}
 use Rattle.std.specs.List.{position}

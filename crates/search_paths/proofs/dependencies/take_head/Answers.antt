@@ -1,4 +1,4 @@
-use Rattle.std.proofs.Common.{◌≡◌, List, Some, eqb, get_or, ap, sym, ◌∙◌, subst, ◌∷◌}
+use Rattle.std.proofs.Common.{◌≡◌, List, Some, eqb, get_or, sym, ◌∙◌, subst, ◌∷◌}
 use Rattle.std.proofs.lemmas.Bool.{eqb-true}
 use Rattle.std.proofs.lemmas.List.Quantifiers.{position-Some}
 use Rattle.std.proofs.lemmas.List.Sorted.{IsPermutation-swap_remove}

@@ -1,4 +1,4 @@
-use Rattle.std.proofs.Common.{◌≡◌, ◌^◌, ◌<◌, ℕ, inl, inr, ap, sym, ◌∙◌, unwrap_or, arith}
+use Rattle.std.proofs.Common.{◌≡◌, ℕ, inl, inr, ap, sym, ◌∙◌, unwrap_or, arith}
 use Rattle.std.proofs.lemmas.Bool.{cases_eq}
 use Rattle.search_paths.specs.declared.path_kind.PathKind.{PathKind}
 use Rattle.search_paths.specs.Usages.{sticking_sum, count_by, usage_count}

@@ -1,4 +1,4 @@
-use Rattle.std.proofs.Common.{◌≡◌, ap, sym, ◌∙◌, Some, None, unwrap_or}
+use Rattle.std.proofs.Common.{ap, sym, ◌∙◌, unwrap_or}
 use Rattle.search_paths.specs.Usages.{count_by, no_usages, usage_count}
 use Rattle.search_paths.proofs.UsageFacts.{usage_count-entries, count-none}
 use Rattle.search_paths.proofs.head_usages.CandidateHeadUsages.count.Goals as goal

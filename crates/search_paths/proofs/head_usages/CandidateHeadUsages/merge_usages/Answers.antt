@@ -1,4 +1,4 @@
-use Rattle.std.proofs.Common.{◌≡◌, ◌≤◌, ℕ, suc, List, ◌∷◌, length, ap, sym, ◌∙◌, subst, unwrap_or, arith}
+use Rattle.std.proofs.Common.{◌≡◌, ℕ, suc, List, ◌∷◌, length, ap, sym, ◌∙◌, subst, unwrap_or, arith}
 use Rattle.search_paths.specs.declared.path_kind.PathKind.{PathKind}
 use Rattle.search_paths.specs.declared.head_usages.HeadUsages.{HeadUsages}
 use Rattle.search_paths.specs.Usages.{sticking_sum, count_by, usage_count}

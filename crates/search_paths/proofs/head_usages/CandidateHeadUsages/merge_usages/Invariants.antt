@@ -1,4 +1,4 @@
-use Rattle.std.proofs.Common.{◌≡◌, ◌≤◌, ◌<◌, ◌^◌, ℕ, length}
+use Rattle.std.proofs.Common.{◌≡◌, ◌≤◌, ℕ, length}
 use Rattle.search_paths.specs.declared.path_kind.PathKind.{PathKind}
 use Rattle.search_paths.specs.Usages.{sticking_sum, usage_count}
 use Rattle.search_paths.proofs.UsageFacts.{entry_count, AllFit, AreApart}

@@ -1,4 +1,4 @@
-use Rattle.std.proofs.Common.{◌≡◌, subst, sym, []}
+use Rattle.std.proofs.Common.{subst, sym}
 use Rattle.search_paths.proofs.UsageFacts.{AllFit, AllFit-shown, AllFit-none}
 use Rattle.search_paths.proofs.head_usages.CandidateHeadUsages.new.Goals as goal
 

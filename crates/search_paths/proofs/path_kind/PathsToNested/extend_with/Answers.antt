@@ -1,7 +1,7 @@
-use Rattle.std.proofs.Common.{◌≡◌, ◌+◌, ◌-◌, ◌^◌, ◌<◌, ◌≤◌, ℕ, Some, bit_and, ap, ◌∙◌, sym, arith}
+use Rattle.std.proofs.Common.{◌≡◌, ◌-◌, ◌^◌, ◌<◌, ℕ, Some, bit_and, ap, ◌∙◌, sym, arith}
 use Rattle.std.proofs.lemmas.Bool.{eqb-true, eqb-false, not-true, not-false}
 use Rattle.std.specs.Int.RustNames.{bit_or}
-use Rattle.search_paths.specs.Path.{flag_of, AreExtendedBy}
+use Rattle.search_paths.specs.Path.{flag_of}
 use Rattle.search_paths.proofs.PathSets.{AreExtendedBy-stays, AreExtendedBy-moves, AreExtendedBy-union, AreExtendedBy-twice}
 use Rattle.search_paths.proofs.path_kind.PathsToNested.extend_with.Goals as goal
 
