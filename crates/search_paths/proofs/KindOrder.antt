@@ -2,7 +2,7 @@
 use Rattle.std.proofs.Common.{◌≡◌, ℕ, zero, suc, ◌<◌, max, Option, None, Some, refl, sym, ap, ◌∙◌, arith}
 use Rattle.search_paths.specs.declared.path_kind.PathKind.{PathKind}
 use Rattle.search_paths.specs.declared.path_kind.PathKind.TheVariants.{Inductive, Unknown, Coinductive, ForcedAmbiguity}
-use Rattle.search_paths.specs.Laws.{IsAssociative, IsCommutative, IsIdempotent, IsNeutral, IsAbsorbing}
+use Rattle.search_paths.specs.Laws.{IsAssociative}
 use Rattle.search_paths.specs.Path.{rank, greater, after, flag_of}
 
 -- the kind at a place of the order
@@ -42,18 +42,6 @@ rank-greater ForcedAmbiguity ForcedAmbiguity = refl
 pub greater-associative : IsAssociative greater
 greater-associative a b c =
     same_rank _ _ (omega (arith, rank-greater (greater a b) c, rank-greater a b, rank-greater a (greater b c), rank-greater b c))
-
-pub greater-commutative : IsCommutative greater
-greater-commutative a b = same_rank _ _ (omega (arith, rank-greater a b, rank-greater b a))
-
-pub greater-idempotent : IsIdempotent greater
-greater-idempotent a = same_rank _ _ (omega (arith, rank-greater a a))
-
-pub greater-neutral : IsNeutral Inductive greater
-greater-neutral = ((λ a. refl), (λ a. greater-commutative a Inductive))
-
-pub greater-absorbing : IsAbsorbing ForcedAmbiguity greater
-greater-absorbing = ((λ a. refl), (λ a. greater-commutative a ForcedAmbiguity))
 
 -- the path at a place of the flags
 abbrev pub path_at : ℕ → Option PathKind
