@@ -18,9 +18,6 @@ use type_terms::interner::{Handle, Interner};
 use type_terms::kinds::{Const, ConstKind, GenericArgKind, GenericArgs, Ty, TyKind};
 use type_terms::region::{Region, RegionKind};
 
-#[cfg(test)]
-mod tests;
-
 /// Why a value with parameters could not be instantiated.
 ///
 /// It belongs to this project: the original stops the program at a parameter without an argument of its kind, and

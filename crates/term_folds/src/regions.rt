@@ -3,6 +3,7 @@ ghost use Rattle.std.specs.Prelude.{◌≡◌, ℕ, IfOk};
 ghost use Rattle.model.specs.Label.{Label};
 ghost use Rattle.type_terms.specs.Terms.{Keeps};
 ghost use Rattle.type_terms.specs.Kinds.{RegionHeld, region_label};
+ghost use Rattle.term_traversal.specs.Failures.{SomeKindIsFull};
 ghost use Rattle.term_traversal.specs.Pieces.{each_piece};
 ghost use Rattle.term_folds.specs.Regions.{regions_replaced};
 
@@ -33,8 +34,8 @@ pub trait RegionMap {
 ///
 /// The original's `RegionFolder`.
 #[derive(Clone, Copy)]
-struct RegionFolder<'a, M> {
-    map: &'a M,
+pub struct RegionFolder<'a, M> {
+    pub map: &'a M,
 }
 
 impl<M: RegionMap> TypeFolder for RegionFolder<'_, M> {
@@ -100,7 +101,8 @@ impl<M: RegionMap> TypeFolder for RegionFolder<'_, M> {
 
 /// The value with each lifetime that no binder of the value binds replaced by what `map` gives for it.
 ///
-/// The lifetime of `for<'a> fn(&'a u8)` stays. The original's `fold_regions`.
+/// The lifetime of `for<'a> fn(&'a u8)` stays. `Full` comes only where some kind of term has reached its limit,
+/// `Memory` where memory is refused. The original's `fold_regions`.
 pub fn fold_regions<T: TypeFoldable, M: RegionMap>(
     alloc: Global,
     cx: &mut Interner,
@@ -112,6 +114,7 @@ pub fn fold_regions<T: TypeFoldable, M: RegionMap>(
     ensures limit { cx.new.limit ≡ cx.old.limit }
     ensures held { IfOk result (λ r. T.held r cx.new.entries) }
     ensures outline { IfOk result (λ r. T.outline r ≡ T.outline value) }
+    ensures full { result ≡ Err Fault.Full → SomeKindIsFull cx.new.entries cx.new.limit }
     ensures replaced { IfOk result (λ r. T.pieces r cx.new.entries ≡ each_piece (λ d t. regions_replaced (M.image map.now) d t) (T.pieces value cx.old.entries)) }
 {
     value.fold_with(alloc, cx, &RegionFolder { map })

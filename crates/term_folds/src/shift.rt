@@ -1,10 +1,11 @@
 //! Binder numbers shifted.
-ghost use Rattle.std.specs.Prelude.{◌≡◌, ℕ, ◌<◌, length, min, IfOk};
+ghost use Rattle.std.specs.Prelude.{◌≡◌, ℕ, ◌<◌, length, min, IfOk, Err};
 ghost use Rattle.model.specs.Trees.{shift};
 ghost use Rattle.type_terms.specs.Terms.{Keeps};
 ghost use Rattle.type_terms.specs.Kinds.{RegionHeld, region_trees};
 ghost use Rattle.type_terms.specs.declared.TheConstants.{MAX_INDEX};
 ghost use Rattle.term_traversal.specs.Binders.{counts_of};
+ghost use Rattle.term_traversal.specs.Failures.{SomeKindIsFull};
 ghost use Rattle.term_traversal.specs.Pieces.{each_piece};
 ghost use Rattle.term_folds.specs.Shifts.{EachInRange, moved, moved_number};
 
@@ -125,7 +126,8 @@ impl TypeFolder for Shifter {
 /// binders.
 ///
 /// `ReBound(0, 0)` by 1 is `ReBound(1, 0)`, and the lifetime of `for<'a> fn(&'a u8)` stays. The shifted numbers
-/// have to be in range. The original's `shift_vars`.
+/// have to be in range. `Full` comes only where some kind of term has reached its limit, `Memory` where memory is
+/// refused. The original's `shift_vars`.
 pub fn shift_vars<T: TypeFoldable>(
     alloc: Global,
     cx: &mut Interner,
@@ -138,6 +140,7 @@ pub fn shift_vars<T: TypeFoldable>(
     ensures limit { cx.new.limit ≡ cx.old.limit }
     ensures held { IfOk result (λ r. T.held r cx.new.entries) }
     ensures outline { IfOk result (λ r. T.outline r ≡ T.outline value) }
+    ensures full { result ≡ Err Fault.Full → SomeKindIsFull cx.new.entries cx.new.limit }
     ensures shifted { IfOk result (λ r. T.pieces r cx.new.entries ≡ each_piece (λ d t. shift d amount t) (T.pieces value cx.old.entries)) }
 {
     value.fold_with(alloc, cx, &Shifter { amount })
@@ -155,6 +158,7 @@ pub(crate) fn moved_vars<T: TypeFoldable>(
     ensures keeps { Keeps cx.old.entries cx.new.entries }
     ensures limit { cx.new.limit ≡ cx.old.limit }
     ensures held { IfOk result (λ r. T.held r cx.new.entries) }
+    ensures full { result ≡ Err Fault.Full → SomeKindIsFull cx.new.entries cx.new.limit }
     ensures moved { IfOk result (λ r. T.pieces r cx.new.entries ≡ each_piece (λ d t. moved d amount t) (T.pieces value cx.old.entries)) }
 {
     let shifter = Shifter { amount };

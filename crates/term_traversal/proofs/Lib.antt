@@ -4,4 +4,4 @@ pub mod KindFacts
 pub mod PieceFacts
 pub mod VisitFacts
 pub mod ScanFacts
-pub mod ConstFacts
+pub mod FailFacts

@@ -1,3 +1,4 @@
+pub mod Failures
 pub mod Binders
 pub mod Folds
 pub mod Pieces

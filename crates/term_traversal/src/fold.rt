@@ -1,10 +1,11 @@
 //! Folders, and the fold of a term by one.
-ghost use Rattle.std.specs.Prelude.{◌≡◌, ℕ, ◌+◌, ◌*◌, ◌<◌, ◌≤◌, List, [], ◌∷◌, ◌++◌, Option, IfOk};
+ghost use Rattle.std.specs.Prelude.{◌≡◌, ℕ, ◌+◌, ◌*◌, ◌<◌, ◌≤◌, List, [], ◌∷◌, ◌++◌, Option, IfOk, IfErr};
 ghost use Rattle.model.specs.Label.{Label};
 ghost use Rattle.model.specs.Trees.{Trees, none, tree, ◌+++◌, is_no_tree};
 ghost use Rattle.type_terms.specs.Terms.{Entry, Is, Has, Keeps, types, consts, args_lists, type_lists, bounds_lists, trees_at};
 ghost use Rattle.type_terms.specs.Kinds.{region_trees, kind_trees, KindHeld, KindOlder, RegionHeld, ArgHeld, arg_trees, PrincipalHeld, PrincipalOlder, principal_trees};
 ghost use Rattle.term_traversal.specs.Binders.{counts_of};
+ghost use Rattle.term_traversal.specs.Failures.{FailsBy};
 ghost use Rattle.term_traversal.specs.Folds.{Does, enters, again, Folds, FoldsBelow, IsFold, IsFoldBelow, IsBound, TyAnswer, ConstAnswer, RegionAnswer};
 
 use crate::binders::Binders;
@@ -37,6 +38,9 @@ pub trait FallibleTypeFolder {
     // What it does at a node under these binders.
     ghost action: { Self → List Entry → List ℕ → Trees → Does };
 
+    // The errors that it gives for reasons of its own.
+    ghost fails: { Self → Self.Error → Type 0 };
+
     // A measure that falls from a node to the value of `Again`.
     ghost fuel: { Self → List Entry → Trees → ℕ };
 
@@ -51,7 +55,8 @@ pub trait FallibleTypeFolder {
         requires held { Has cx.old.entries types ty.0 }
         ensures keeps { Keeps cx.old.entries cx.new.entries }
         ensures limit { cx.new.limit ≡ cx.old.limit }
-        ensures answer { IfOk result (λ r. TyAnswer (action self.now cx.old.entries (counts_of binders.now) (trees_at cx.old.entries ty.0)) cx.new.entries r) };
+        ensures answer { IfOk result (λ r. TyAnswer (action self.now cx.old.entries (counts_of binders.now) (trees_at cx.old.entries ty.0)) cx.new.entries r) }
+        ensures failed { IfErr result (λ e. FailsBy (fails self.now) Self.Error.from_gives cx.new.entries cx.new.limit e) };
 
     /// What the folder does at a constant.
     fn try_fold_const(
@@ -64,7 +69,8 @@ pub trait FallibleTypeFolder {
         requires held { Has cx.old.entries consts ct.0 }
         ensures keeps { Keeps cx.old.entries cx.new.entries }
         ensures limit { cx.new.limit ≡ cx.old.limit }
-        ensures answer { IfOk result (λ r. ConstAnswer (action self.now cx.old.entries (counts_of binders.now) (trees_at cx.old.entries ct.0)) cx.new.entries r) };
+        ensures answer { IfOk result (λ r. ConstAnswer (action self.now cx.old.entries (counts_of binders.now) (trees_at cx.old.entries ct.0)) cx.new.entries r) }
+        ensures failed { IfErr result (λ e. FailsBy (fails self.now) Self.Error.from_gives cx.new.entries cx.new.limit e) };
 
     /// What the folder does at a lifetime.
     fn try_fold_region(
@@ -75,7 +81,8 @@ pub trait FallibleTypeFolder {
     ) -> Result<Answer<Region>, Self::Error>
         requires ready { ready self.now cx.now.entries }
         requires held { RegionHeld region.kind }
-        ensures { IfOk result (λ r. RegionAnswer (action self.now cx.now.entries (counts_of binders.now) (region_trees region)) r) };
+        ensures answer { IfOk result (λ r. RegionAnswer (action self.now cx.now.entries (counts_of binders.now) (region_trees region)) r) }
+        ensures failed { IfErr result (λ e. FailsBy (fails self.now) Self.Error.from_gives cx.now.entries cx.now.limit e) };
 
     // Handles stay ready while the interner grows.
     ghost ready_kept: { (f : Self) (old new : List Entry) → Keeps old new → ready f old → ready f new };
@@ -109,6 +116,7 @@ pub fn fold_region<F: FallibleTypeFolder>(
     requires held { RegionHeld region.kind }
     ensures held { IfOk result (λ r. RegionHeld r.kind) }
     ensures folded { IfOk result (λ r. Folds (F.action folder.now cx.now.entries) (counts_of binders.now) (region_trees region) (region_trees r)) }
+    ensures failed { IfErr result (λ e. FailsBy (F.fails folder.now) F.Error.from_gives cx.now.entries cx.now.limit e) }
 {
     match folder.try_fold_region(cx, region, binders)? {
         Answer::Enter => Ok(region),
@@ -129,9 +137,9 @@ pub(crate) fn fold_const<F: FallibleTypeFolder>(
     ensures keeps { Keeps cx.old.entries cx.new.entries }
     ensures limit { cx.new.limit ≡ cx.old.limit }
     ensures folded { IfOk result (λ r. IsFold (F.action folder.now cx.old.entries) (counts_of binders.now) (trees_at cx.old.entries ct.0) cx.new.entries consts r.0) }
+    ensures failed { IfErr result (λ e. FailsBy (F.fails folder.now) F.Error.from_gives cx.new.entries cx.new.limit e) }
 {
-    let kind = cx.const_kind(ct);
-    let _ = kind;
+    let _ = cx.const_kind(ct);
     match folder.try_fold_const(cx, ct, binders)? {
         Answer::Enter => Ok(ct),
         Answer::Replace(new) => Ok(new),
@@ -153,6 +161,7 @@ pub fn fold_ty<F: FallibleTypeFolder>(
     ensures keeps { Keeps cx.old.entries cx.new.entries }
     ensures limit { cx.new.limit ≡ cx.old.limit }
     ensures folded { IfOk result (λ r. IsFold (F.action folder.now cx.old.entries) (counts_of binders.now) (trees_at cx.old.entries ty.0) cx.new.entries types r.0) }
+    ensures failed { IfErr result (λ e. FailsBy (F.fails folder.now) F.Error.from_gives cx.new.entries cx.new.limit e) }
 {
     cx.lawful();
     match folder.try_fold_ty(cx, ty, binders)? {
@@ -164,7 +173,7 @@ pub fn fold_ty<F: FallibleTypeFolder>(
 
 /// The type over the folds of its children; the folder is not asked at the type itself.
 #[cycle(folds)]
-pub(crate) fn super_fold_ty<F: FallibleTypeFolder>(
+pub fn super_fold_ty<F: FallibleTypeFolder>(
     alloc: Global,
     cx: &mut Interner,
     folder: &F,
@@ -176,6 +185,7 @@ pub(crate) fn super_fold_ty<F: FallibleTypeFolder>(
     ensures keeps { Keeps cx.old.entries cx.new.entries }
     ensures limit { cx.new.limit ≡ cx.old.limit }
     ensures folded { IfOk result (λ r. IsFoldBelow (F.action folder.now cx.old.entries) (counts_of binders.now) (trees_at cx.old.entries ty.0) cx.new.entries types r.0) }
+    ensures failed { IfErr result (λ e. FailsBy (F.fails folder.now) F.Error.from_gives cx.new.entries cx.new.limit e) }
 {
     let kind = cx.kind(ty);
     let folded = fold_kind(alloc, cx, folder, ty, kind, binders)?;
@@ -200,6 +210,7 @@ fn fold_kind<F: FallibleTypeFolder>(
     ensures limit { cx.new.limit ≡ cx.old.limit }
     ensures held { IfOk result (λ k. KindHeld cx.new.entries k) }
     ensures folded { IfOk result (λ k. FoldsBelow (F.action folder.now cx.old.entries) (counts_of binders.now) (kind_trees cx.old.entries kind) (kind_trees cx.new.entries k)) }
+    ensures failed { IfErr result (λ e. FailsBy (F.fails folder.now) F.Error.from_gives cx.new.entries cx.new.limit e) }
 {
     match kind {
         TyKind::Adt(adt, args) => {
@@ -245,6 +256,7 @@ pub(crate) fn fold_tys<F: FallibleTypeFolder>(
     ensures limit { cx.new.limit ≡ cx.old.limit }
     ensures folded { IfOk result (λ r. IsFold (F.action folder.now cx.old.entries) (counts_of binders.now) (trees_at cx.old.entries tys.0) cx.new.entries type_lists r.0) }
     ensures whole { IfOk result (λ r. is_no_tree (trees_at cx.new.entries r.0) ≡ is_no_tree (trees_at cx.old.entries tys.0)) }
+    ensures failed { IfErr result (λ e. FailsBy (F.fails folder.now) F.Error.from_gives cx.new.entries cx.new.limit e) }
 {
     cx.lawful();
     let old = copied(alloc, cx.tys(tys))?;
@@ -271,6 +283,7 @@ pub fn fold_args<F: FallibleTypeFolder>(
     ensures keeps { Keeps cx.old.entries cx.new.entries }
     ensures limit { cx.new.limit ≡ cx.old.limit }
     ensures folded { IfOk result (λ r. IsFold (F.action folder.now cx.old.entries) (counts_of binders.now) (trees_at cx.old.entries args.0) cx.new.entries args_lists r.0) }
+    ensures failed { IfErr result (λ e. FailsBy (F.fails folder.now) F.Error.from_gives cx.new.entries cx.new.limit e) }
 {
     let old = copied(alloc, cx.args(args))?;
     let mut new = Vec::new(alloc);
@@ -296,6 +309,7 @@ pub(crate) fn fold_arg<F: FallibleTypeFolder>(
     ensures limit { cx.new.limit ≡ cx.old.limit }
     ensures held { IfOk result (λ a. ArgHeld cx.new.entries a) }
     ensures folded { IfOk result (λ a. Folds (F.action folder.now cx.old.entries) (counts_of binders.now) (arg_trees cx.old.entries arg) (arg_trees cx.new.entries a)) }
+    ensures failed { IfErr result (λ e. FailsBy (F.fails folder.now) F.Error.from_gives cx.new.entries cx.new.limit e) }
 {
     match arg {
         GenericArgKind::Lifetime(region) => {
@@ -322,6 +336,7 @@ pub(crate) fn fold_bounds<F: FallibleTypeFolder>(
     ensures keeps { Keeps cx.old.entries cx.new.entries }
     ensures limit { cx.new.limit ≡ cx.old.limit }
     ensures folded { IfOk result (λ r. IsFold (F.action folder.now cx.old.entries) (counts_of binders.now) (trees_at cx.old.entries bounds.0) cx.new.entries bounds_lists r.0) }
+    ensures failed { IfErr result (λ e. FailsBy (F.fails folder.now) F.Error.from_gives cx.new.entries cx.new.limit e) }
 {
     let data = cx.bounds(bounds);
     let old = data.principal;
@@ -348,6 +363,7 @@ fn fold_principal<F: FallibleTypeFolder>(
     ensures limit { cx.new.limit ≡ cx.old.limit }
     ensures held { IfOk result (λ p. PrincipalHeld cx.new.entries p) }
     ensures folded { IfOk result (λ p. Folds (F.action folder.now cx.old.entries) (counts_of binders.now) (principal_trees cx.old.entries principal) (principal_trees cx.new.entries p)) }
+    ensures failed { IfErr result (λ e. FailsBy (F.fails folder.now) F.Error.from_gives cx.new.entries cx.new.limit e) }
 {
     match principal {
         Some(principal) => {
@@ -361,7 +377,8 @@ fn fold_principal<F: FallibleTypeFolder>(
 
 /// Another list of these items.
 fn copied<T: Copy>(alloc: Global, items: &[T]) -> Result<Vec<T>, Fault>
-    ensures { IfOk result (λ list. list.items ≡ items.now) }
+    ensures copied { IfOk result (λ list. list.items ≡ items.now) }
+    ensures memory { IfErr result (λ e. e ≡ Fault.Memory) }
 {
     let mut list = Vec::new(alloc);
     for item in items {
@@ -371,11 +388,9 @@ fn copied<T: Copy>(alloc: Global, items: &[T]) -> Result<Vec<T>, Fault>
 }
 
 /// One more item at the end of a list.
-fn append<T: Drop, E: From<Fault>>(list: &mut Vec<T>, item: T) -> Result<(), E>
-    ensures { IfOk result (λ _. list.new.items ≡ list.old.items ++ item ∷ []) }
+fn append<T: Drop>(list: &mut Vec<T>, item: T) -> Result<(), Fault>
+    ensures appended { IfOk result (λ _. list.new.items ≡ list.old.items ++ item ∷ []) }
+    ensures memory { IfErr result (λ e. e ≡ Fault.Memory) }
 {
-    match list.push(item) {
-        Ok(()) => Ok(()),
-        Err(_) => Err(E::from(Fault::Memory)),
-    }
+    Ok(list.push(item)?)
 }

@@ -1,10 +1,11 @@
 //! Folders that cannot fail but for want of room.
-ghost use Rattle.std.specs.Prelude.{◌≡◌, ℕ, ◌<◌, ◌≤◌, List, IfOk};
+ghost use Rattle.std.specs.Prelude.{◌≡◌, ℕ, ◌<◌, ◌≤◌, ◌⊎◌, List, IfOk, Err};
 ghost use Rattle.model.specs.Label.{Label};
 ghost use Rattle.model.specs.Trees.{Trees, none, tree, ◌+++◌};
 ghost use Rattle.type_terms.specs.Terms.{Entry, Is, Has, Keeps, types, consts, trees_at};
 ghost use Rattle.type_terms.specs.Kinds.{region_trees, RegionHeld};
 ghost use Rattle.term_traversal.specs.Binders.{counts_of};
+ghost use Rattle.term_traversal.specs.Failures.{SomeKindIsFull};
 ghost use Rattle.term_traversal.specs.Folds.{Does, enters, again, IsBound, TyAnswer, ConstAnswer, RegionAnswer};
 
 use crate::binders::Binders;
@@ -14,7 +15,8 @@ use type_terms::interner::Interner;
 use type_terms::kinds::{Const, Ty};
 use type_terms::region::Region;
 
-/// A folder that fails only where a term cannot be made.
+/// A folder that fails only where a term cannot be made: with `Memory` where memory is refused, and with `Full` where
+/// some kind of term has reached its limit, or for a reason that it states of itself (`refuses`).
 ///
 /// The original's `TypeFolder`; it recurses by itself there, and here it answers what to do with a node.
 pub trait TypeFolder {
@@ -23,6 +25,9 @@ pub trait TypeFolder {
 
     // What it does at a node under these binders.
     ghost action: { Self → List Entry → List ℕ → Trees → Does };
+
+    // It may answer `Full` for a reason of its own.
+    ghost refuses: { Self → Type 0 } = { λ _. ⊥ };
 
     // A measure that falls from a node to the value of `Again`.
     ghost fuel: { Self → List Entry → Trees → ℕ };
@@ -33,7 +38,8 @@ pub trait TypeFolder {
         requires held { Has cx.old.entries types ty.0 }
         ensures keeps { Keeps cx.old.entries cx.new.entries }
         ensures limit { cx.new.limit ≡ cx.old.limit }
-        ensures answer { IfOk result (λ r. TyAnswer (action self.now cx.old.entries (counts_of binders.now) (trees_at cx.old.entries ty.0)) cx.new.entries r) };
+        ensures answer { IfOk result (λ r. TyAnswer (action self.now cx.old.entries (counts_of binders.now) (trees_at cx.old.entries ty.0)) cx.new.entries r) }
+        ensures full { result ≡ Err Fault.Full → SomeKindIsFull cx.new.entries cx.new.limit ⊎ refuses self.now };
 
     /// What the folder does at a constant.
     fn fold_const(
@@ -46,7 +52,8 @@ pub trait TypeFolder {
         requires held { Has cx.old.entries consts ct.0 }
         ensures keeps { Keeps cx.old.entries cx.new.entries }
         ensures limit { cx.new.limit ≡ cx.old.limit }
-        ensures answer { IfOk result (λ r. ConstAnswer (action self.now cx.old.entries (counts_of binders.now) (trees_at cx.old.entries ct.0)) cx.new.entries r) };
+        ensures answer { IfOk result (λ r. ConstAnswer (action self.now cx.old.entries (counts_of binders.now) (trees_at cx.old.entries ct.0)) cx.new.entries r) }
+        ensures full { result ≡ Err Fault.Full → SomeKindIsFull cx.new.entries cx.new.limit ⊎ refuses self.now };
 
     /// What the folder does at a lifetime.
     fn fold_region(
@@ -57,7 +64,8 @@ pub trait TypeFolder {
     ) -> Result<Answer<Region>, Fault>
         requires ready { ready self.now cx.now.entries }
         requires held { RegionHeld region.kind }
-        ensures { IfOk result (λ r. RegionAnswer (action self.now cx.now.entries (counts_of binders.now) (region_trees region)) r) };
+        ensures answer { IfOk result (λ r. RegionAnswer (action self.now cx.now.entries (counts_of binders.now) (region_trees region)) r) }
+        ensures full { result ≡ Err Fault.Full → SomeKindIsFull cx.now.entries cx.now.limit ⊎ refuses self.now };
 
     // Handles stay ready while the interner grows.
     ghost ready_kept: { (f : Self) (old new : List Entry) → Keeps old new → ready f old → ready f new };
@@ -87,9 +95,13 @@ pub struct Infallible<'a, F>(pub &'a F);
 impl<F: TypeFolder> FallibleTypeFolder for Infallible<'_, F> {
     type Error = Fault;
 
+    ghost use Rattle.type_terms.specs.declared.Fault.TheVariants as fault;
+
     ghost ready = { λ f es. F.ready f.0.now es };
 
     ghost action = { λ f es. F.action f.0.now es };
+
+    ghost fails = { λ f e. (e ≡ fault.Full) × F.refuses f.0.now };
 
     ghost fuel = { λ f es. F.fuel f.0.now es };
 

@@ -15,9 +15,6 @@ pub mod binders;
 pub mod fold;
 pub mod foldable;
 pub mod folder;
-pub mod super_fold;
-#[cfg(test)]
-mod tests;
 pub mod visit;
 pub mod visitable;
 pub mod visitable_ext;

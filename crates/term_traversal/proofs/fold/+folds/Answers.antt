@@ -1,4 +1,4 @@
-use Rattle.std.proofs.Common.{◌≡◌, ℕ, ◌<◌, ◌≤◌, List, [], ◌∷◌, arith, subst, ◌∙◌, get_or, length, ap, refl, Some}
+use Rattle.std.proofs.Common.{◌≡◌, ℕ, ◌<◌, ◌≤◌, List, [], ◌∷◌, arith, subst, ◌∙◌, get_or, length, ap, refl, Some, Err}
 use Rattle.std.proofs.lemmas.Grind.{common_steps}
 use Rattle.model.specs.Trees.{Trees, Single, ◌+++◌}
 use Rattle.type_terms.specs.Terms.{Has, Keeps, types, consts, type_lists, args_lists, bounds_lists, trees_at}
@@ -14,6 +14,7 @@ use Rattle.term_traversal.specs.Kept.{trees-is, has-later, trees-later, arg-held
 use Rattle.term_traversal.proofs.FoldFacts.{TyIs, says-enters, says-puts, says-again, put-handle, turn-handle, enter-later, folds-append, by-action, two-folds, type-is-one, ok-map}
 use Rattle.term_traversal.proofs.Items.{ty-held-at, ty-older-at, tys-held-push, one-more-ty, fuel-of-ty, no-tys, arg-held-at, arg-older-at, args-held-push, one-more-arg, fuel-of-arg}
 use Rattle.term_traversal.proofs.KindFacts.{leaf-below}
+use Rattle.term_traversal.proofs.FailFacts.{fault-error, memory-error, refused-term}
 use Rattle.term_traversal.proofs.fold.+folds.Invariants.{number_of}
 use Rattle.term_traversal.proofs.fold.+folds.Goals as goal
 
@@ -53,7 +54,7 @@ fold_ty-returns-in-Again-clause-folded g t c =
 -- ---- lists of types
 pub fold_tys-loop-ty-init : goal.fold_tys-loop-ty-init
 fold_tys-loop-ty-init g t c =
-    let same = c.deref-ty-items.ensures.value ∙ c.in_ok-old.ensures in (
+    let same = c.deref-ty-items.ensures.value ∙ c.in_ok-old.ensures.copied in (
       λ i e h. h,
       c.requires.ready,
       rw c.new-new.ensures.items tt,
@@ -99,12 +100,12 @@ fold_tys-loop-ty-preserved g t c =
     let inner = by-action (g.F.FallibleTypeFolder.action c.args.folder.now now) f bs _ _ _ law (trees-later es now inv.0 types _ old) c.in_ok-folded.ensures.folded.folded in (
       keeps,
       g.met.F.FallibleTypeFolder.ready_kept c.args.folder.now now next c.fold_ty.ensures.keeps inv.1,
-      rw c.in_ok-append.ensures (tys-held-push next c.loop-ty.new.items y (tys-held-later now next c.fold_ty.ensures.keeps c.loop-ty.new.items inv.2) c.in_ok-folded.ensures.folded.has),
-      rw c.in_ok-append.ensures (one-more-ty f bs es now next c.fold_ty.ensures.keeps xs c.loop-ty.new.items i (record { 0 = 0 }) y c.loop-ty-test.true inv.2 inv.3 inner),
+      rw c.in_ok-append.ensures.appended (tys-held-push next c.loop-ty.new.items y (tys-held-later now next c.fold_ty.ensures.keeps c.loop-ty.new.items inv.2) c.in_ok-folded.ensures.folded.has),
+      rw c.in_ok-append.ensures.appended (one-more-ty f bs es now next c.fold_ty.ensures.keeps xs c.loop-ty.new.items i (record { 0 = 0 }) y c.loop-ty-test.true inv.2 inv.3 inner),
       inv.4,
       inv.5,
       inv.6,
-      rw c.in_ok-append.ensures (grind (arith, common_steps, inv.7)),
+      rw c.in_ok-append.ensures.appended (grind (arith, common_steps, inv.7)),
       c.fold_ty.ensures.limit ∙ inv.8,
     )
 
@@ -126,7 +127,7 @@ number-older n (Const t) h = omega arith
 
 pub fold_args-loop-arg-init : goal.fold_args-loop-arg-init
 fold_args-loop-arg-init g t c =
-    let same = c.deref-arg-items.ensures.value ∙ c.in_ok-old.ensures in (
+    let same = c.deref-arg-items.ensures.value ∙ c.in_ok-old.ensures.copied in (
       λ i e h. h,
       c.requires.ready,
       rw c.new-new.ensures.items tt,
@@ -175,8 +176,8 @@ fold_args-loop-arg-preserved g t c =
     let inner-at = subst (λ z. Folds f bs (arg_trees es z) (arg_trees next y)) c.arg-item.is inner in (
       keeps,
       g.met.F.FallibleTypeFolder.ready_kept c.args.folder.now now next c.fold_arg.ensures.keeps inv.1,
-      rw c.in_ok-append.ensures (args-held-push next c.loop-arg.new.items y (args-held-later now next c.fold_arg.ensures.keeps c.loop-arg.new.items inv.2) c.in_ok-folded.ensures.held),
-      rw c.in_ok-append.ensures (one-more-arg f bs es now next c.fold_arg.ensures.keeps xs c.loop-arg.new.items i x y c.loop-arg-test.true inv.2 inv.3 inner-at),
+      rw c.in_ok-append.ensures.appended (args-held-push next c.loop-arg.new.items y (args-held-later now next c.fold_arg.ensures.keeps c.loop-arg.new.items inv.2) c.in_ok-folded.ensures.held),
+      rw c.in_ok-append.ensures.appended (one-more-arg f bs es now next c.fold_arg.ensures.keeps xs c.loop-arg.new.items i x y c.loop-arg-test.true inv.2 inv.3 inner-at),
       inv.4,
       inv.5,
       inv.6,
@@ -295,7 +296,7 @@ fold_bounds-returns-clause-folded g t c =
     let bs = counts_of c.args.binders.now in
     let f = g.F.FallibleTypeFolder.action c.args.folder.now es in
     let old = c.bounds-data.result.now in
-    let same : c.in_ok-autos.autos.items ≡ old.autos.items = c.in_ok-autos.ensures ∙ c.deref.ensures.value in
+    let same : c.in_ok-autos.autos.items ≡ old.autos.items = c.in_ok-autos.ensures.copied ∙ c.deref.ensures.value in
     let before : trees_at es c.args.bounds.0 ≡ principal_trees es old.principal +++ autos_trees old.autos.items = trees-is es bounds_lists c.args.bounds.0 _ c.bounds-data.ensures.is in
     let after : trees_at c.mk_bounds.new.self.entries c.in_ok-mk_bounds.field-0.0 ≡ principal_trees es1 c.in_ok-principal.principal +++ autos_trees c.in_ok-autos.autos.items =
     trees-is c.mk_bounds.new.self.entries bounds_lists _ _ c.in_ok-mk_bounds.ensures.is in
@@ -303,3 +304,44 @@ fold_bounds-returns-clause-folded g t c =
       has = (_, c.in_ok-mk_bounds.ensures.is);
       folded = rw (before, after, same) (folds-append c.in_ok-principal.ensures.folded (autos-stay f bs (g.met.F.FallibleTypeFolder.enters_bounds c.args.folder.now es bs) old.autos.items));
     }
+
+-- ---- errors
+pub super_fold_ty-returns-in_err-mk_ty-clause-failed : goal.super_fold_ty-returns-in_err-mk_ty-clause-failed
+super_fold_ty-returns-in_err-mk_ty-clause-failed g t c =
+    fault-error _ _ c.from_residual-in_err-mk_ty.result c.from_residual-in_err-mk_ty.ensures.1
+    (λ q. refused-term types (omega arith) (c.in_err-mk_ty.ensures.full (ap Err q)) c.mk_ty.ensures.limit c.in_err-mk_ty.ensures.refused)
+
+pub fold_tys-returns-in_err-old-clause-failed : goal.fold_tys-returns-in_err-old-clause-failed
+fold_tys-returns-in_err-old-clause-failed g t c =
+    memory-error _ _ _ _ c.from_residual.result c.from_residual.ensures.1 c.in_err-old.ensures.memory
+
+pub fold_tys-returns-in_err-append-clause-failed : goal.fold_tys-returns-in_err-append-clause-failed
+fold_tys-returns-in_err-append-clause-failed g t c =
+    memory-error _ _ _ _ c.from_residual-in_err-append.result c.from_residual-in_err-append.ensures.1 c.in_err-append.ensures.memory
+
+pub fold_tys-returns-in_err-mk_tys-clause-failed : goal.fold_tys-returns-in_err-mk_tys-clause-failed
+fold_tys-returns-in_err-mk_tys-clause-failed g t c =
+    fault-error _ _ c.from_residual-in_err-mk_tys.result c.from_residual-in_err-mk_tys.ensures.1
+    (λ q. refused-term type_lists (omega arith) (c.in_err-mk_tys.ensures.full (ap Err q)) c.mk_tys.ensures.limit c.in_err-mk_tys.ensures.refused)
+
+pub fold_args-returns-in_err-old-clause-failed : goal.fold_args-returns-in_err-old-clause-failed
+fold_args-returns-in_err-old-clause-failed g t c =
+    memory-error _ _ _ _ c.from_residual.result c.from_residual.ensures.1 c.in_err-old.ensures.memory
+
+pub fold_args-returns-in_err-append-clause-failed : goal.fold_args-returns-in_err-append-clause-failed
+fold_args-returns-in_err-append-clause-failed g t c =
+    memory-error _ _ _ _ c.from_residual-in_err-append.result c.from_residual-in_err-append.ensures.1 c.in_err-append.ensures.memory
+
+pub fold_args-returns-in_err-mk_args-clause-failed : goal.fold_args-returns-in_err-mk_args-clause-failed
+fold_args-returns-in_err-mk_args-clause-failed g t c =
+    fault-error _ _ c.from_residual-in_err-mk_args.result c.from_residual-in_err-mk_args.ensures.1
+    (λ q. refused-term args_lists (omega arith) (c.in_err-mk_args.ensures.full (ap Err q)) c.mk_args.ensures.limit c.in_err-mk_args.ensures.refused)
+
+pub fold_bounds-returns-in_err-autos-clause-failed : goal.fold_bounds-returns-in_err-autos-clause-failed
+fold_bounds-returns-in_err-autos-clause-failed g t c =
+    memory-error _ _ _ _ c.from_residual.result c.from_residual.ensures.1 c.in_err-autos.ensures.memory
+
+pub fold_bounds-returns-in_err-mk_bounds-clause-failed : goal.fold_bounds-returns-in_err-mk_bounds-clause-failed
+fold_bounds-returns-in_err-mk_bounds-clause-failed g t c =
+    fault-error _ _ c.from_residual-in_err-mk_bounds.result c.from_residual-in_err-mk_bounds.ensures.1
+    (λ q. refused-term bounds_lists (omega arith) (c.in_err-mk_bounds.ensures.full (ap Err q)) c.mk_bounds.ensures.limit c.in_err-mk_bounds.ensures.refused)
