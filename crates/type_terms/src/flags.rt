@@ -56,17 +56,3 @@ impl Flags for TypeFlags {
         TypeFlags(bits)
     }
 }
-
-#[cfg(test)]
-mod tests {
-    use super::*;
-
-    #[test]
-    fn unions_hold_their_three_sorts(rt: HostRuntime) {
-        let flags = TypeFlags::HAS_CT_INFER;
-        assert!(rt; TypeFlags::HAS_INFER.contains(flags));
-        assert!(rt; !TypeFlags::HAS_PARAM.intersects(flags));
-        assert!(rt; TypeFlags::from_bits_retain(1 << 12) == TypeFlags::HAS_BINDER_VARS);
-        assert!(rt; TypeFlags::from_name("HAS_PLACEHOLDER") == Some(TypeFlags::HAS_PLACEHOLDER));
-    }
-}

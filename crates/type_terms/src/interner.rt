@@ -35,9 +35,6 @@ use indexmap::IndexMap;
 use std::alloc::Global;
 use std::marker::Model;
 
-#[cfg(test)]
-mod tests;
-
 /// The greatest limit that an interner can have for the handles of one kind.
 pub const MAX_HANDLES: u32 = 16_777_216;
 

@@ -93,20 +93,3 @@ impl UniverseIndex {
         self.index >= other.index
     }
 }
-
-#[cfg(test)]
-mod tests {
-    use super::*;
-
-    #[test]
-    fn binders_shift_and_universes_nest(rt: HostRuntime) {
-        let binder = DebruijnIndex { index: 1 };
-        assert!(rt; binder.shifted_in(2) == DebruijnIndex { index: 3 });
-        assert!(rt; binder.shifted_out(1) == DebruijnIndex { index: 0 });
-        let inner = UniverseIndex { index: 1 };
-        assert!(rt; UniverseIndex::ROOT.is_root());
-        assert!(rt; !inner.is_root());
-        assert!(rt; inner.can_name(UniverseIndex::ROOT));
-        assert!(rt; !UniverseIndex::ROOT.can_name(inner));
-    }
-}

@@ -35,16 +35,3 @@ impl Variance {
         }
     }
 }
-
-#[cfg(test)]
-mod tests {
-    use super::*;
-
-    #[test]
-    fn two_turns_are_none(rt: HostRuntime) {
-        let turned = Variance::Contravariant;
-        assert!(rt; turned.xform(turned) == Variance::Covariant);
-        assert!(rt; Variance::Bivariant.xform(Variance::Invariant) == Variance::Bivariant);
-        assert!(rt; Variance::Invariant.xform(Variance::Bivariant) == Variance::Invariant);
-    }
-}
