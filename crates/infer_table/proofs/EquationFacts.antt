@@ -2,7 +2,7 @@
 use Rattle.std.proofs.Common.{◌≡◌, ℕ, zero, suc, ◌+◌, ◌<◌, ◌≤◌, Bool, true, false, refl, ap, sym, ◌∙◌, arith, List, [], ◌∷◌, ◌++◌, subst, Option, Some, None, length, if◌then◌else◌, ◌⊎◌, inl, inr}
 use Rattle.std.proofs.lemmas.Bool.{cases_order}
 use Rattle.model.specs.Label.{Label, Sort, of_type, of_const, of_lifetime, infer, static, param, placeholder, canonical, bound}
-use Rattle.model.specs.Trees.{Trees, none, tree, leaf, ◌+++◌, erase_label, sort_of, IsA, Single}
+use Rattle.model.specs.Trees.{Trees, none, tree, ◌+++◌, erase_label, sort_of, IsA, Single}
 use Rattle.type_terms.specs.Terms.{Entry, Lawful, Keeps, types, consts, trees_at}
 use Rattle.type_terms.specs.Kinds.{ArgHeld, ArgsHeld, arg_trees, args_trees}
 use Rattle.type_terms.specs.declared.kinds.GenericArgKind.{GenericArgKind}
@@ -104,7 +104,7 @@ abbrev root : Trees → Label
 root none = static
 root (tree l c o) = l
 
-erase-sort : (l : Label) → sort_of (erase_label l) ≡ sort_of l
+pub erase-sort : (l : Label) → sort_of (erase_label l) ≡ sort_of l
 erase-sort (param of_type i) = refl
 erase-sort (param of_const i) = refl
 erase-sort (param of_lifetime i) = refl

@@ -11,3 +11,4 @@ pub mod StepFacts
 pub mod OpenFacts
 pub mod OpenedParts
 pub mod ResolveFacts
+pub mod SolvableLaws

@@ -1,19 +1,22 @@
 -- The parts of a type whose binder is opened.
-use Rattle.std.proofs.Common.{◌≡◌, ℕ, refl, ap, sym, ◌∙◌, List, [], ◌∷◌, ◌++◌, subst, Some, None, map}
+use Rattle.std.proofs.Common.{◌≡◌, ℕ, ◌+◌, arith, refl, ap, sym, ◌∙◌, List, [], ◌∷◌, ◌++◌, subst, Some, None, map}
 use Rattle.model.specs.Trees.{Trees, none, ◌+++◌}
-use Rattle.type_terms.specs.Terms.{Entry, Is, Keeps, Has, trees_at, type_lists, args_lists, bounds_lists}
-use Rattle.type_terms.specs.Kinds.{ArgsHeld, args_trees, tys_trees, region_trees, bounds_trees, principal_trees, autos_trees}
+use Rattle.type_terms.specs.Terms.{Entry, Is, Keeps, trees_at, types, consts, type_lists, args_lists, bounds_lists}
+use Rattle.type_terms.specs.Kinds.{KindHeld, ArgsHeld, args_trees, tys_trees, region_trees, bounds_trees, principal_trees, autos_trees}
 use Rattle.type_terms.specs.declared.kinds.Ty as of-ty
 use Rattle.type_terms.specs.declared.kinds.Tys as of-tys
 use Rattle.type_terms.specs.declared.kinds.Bounds as of-bounds
 use Rattle.type_terms.specs.declared.kinds.Principal.{Principal}
 use Rattle.type_terms.specs.declared.kinds.BoundsData.{BoundsData}
+use Rattle.type_terms.specs.declared.TraitId.{TraitId}
+use Rattle.type_terms.specs.declared.kinds.TyKind.{TyKind}
+use Rattle.type_terms.specs.declared.kinds.TyKind.TheVariants.{Adt, Ref, RawPtr, Array as KArray, Slice as KSlice, Tuple, FnPtr, Dynamic}
 use Rattle.type_terms.specs.declared.kinds.GenericArgKind.{GenericArgKind}
 use Rattle.type_terms.specs.declared.kinds.GenericArgKind.TheVariants.{Lifetime, Ty as AType}
 use Rattle.type_terms.specs.declared.region.Region.{Region}
 use Rattle.term_traversal.specs.Pieces.{Piece, one_piece, each_piece}
-use Rattle.term_traversal.specs.Kept.{args-trees-later, args-held-later}
-use Rattle.infer_table.specs.Parts.{bounds_args, AreBounds}
+use Rattle.term_traversal.specs.Kept.{args-trees-later, trees-later}
+use Rattle.infer_table.specs.Parts.{parts_trees, bounds_args, AreBounds, bounds_count, bound_count, opened_trees}
 use Rattle.infer_table.specs.Alike.{Alike}
 use Rattle.infer_table.specs.Opened.{opened}
 use Rattle.infer_table.proofs.ContentFacts.{is-trees}
@@ -69,3 +72,61 @@ same-alike t u e = subst (λ z. Alike t z) e (alike-self t)
 -- parts that were made before the interner grew further
 pub alike-later : (mid new : List Entry) (items : List GenericArgKind) (t : Trees) → Keeps mid new → ArgsHeld mid items → Alike (args_trees mid items) t → Alike (args_trees new items) t
 alike-later mid new items t k h a = subst (λ z. Alike z t) (sym (args-trees-later mid new k items h)) a
+
+-- ---- which variables the opened parts have
+pub signature-opened : (old new : List Entry) (first n i : ℕ) (ts : of-tys.Tys) (tys : List of-ty.Ty) (items : List GenericArgKind)
+    → one_piece (trees_at new ts.0) ≡ each_piece (λ d x. opened first n d x) (one_piece (trees_at old i))
+    → Is new type_lists ts.0 (tys_trees new tys) → items ≡ map AType tys → args_trees new items ≡ opened first n 0 (trees_at old i)
+signature-opened old new first n i ts tys items e h f = tuple-parts new ts tys items h f ∙ one-opened first n (trees_at old i) (trees_at new ts.0) e
+
+principal-count : (es : List Entry) (b : of-bounds.Bounds) (found : BoundsData) (p : Principal) → Is es bounds_lists b.0 (bounds_trees es found) → found.principal ≡ Some p → bounds_count (trees_at es b.0) ≡ p.bound_vars
+principal-count es b found p h g = ap bounds_count (is-trees es bounds_lists b.0 (bounds_trees es found) h) ∙ ap (λ q. bounds_count (principal_trees es q +++ autos_trees found.autos.items)) g
+
+pub object-opened : (old new : List Entry) (first j : ℕ) (b : of-bounds.Bounds) (r : Region) (found : BoundsData) (p : Principal) (list copy items : List GenericArgKind)
+    → Is old bounds_lists b.0 (bounds_trees old found) → found.principal ≡ Some p
+    → one_piece (trees_at new j) ≡ each_piece (λ d x. opened first p.bound_vars d x) (one_piece (trees_at old p.args.0))
+    → Is new args_lists j (args_trees new list) → copy ≡ list → items ≡ copy ++ Lifetime r ∷ []
+    → args_trees new items ≡ opened first (bounds_count (trees_at old b.0)) 0 (bounds_args (trees_at old b.0)) +++ region_trees r
+object-opened old new first j b r found p list copy items h g e a c f =
+    ap (args_trees new) f ∙ args-append new copy (Lifetime r ∷ []) ∙ ap (λ xs. args_trees new xs +++ region_trees r) c
+    ∙ ap (λ z. z +++ region_trees r) (sym (is-trees new args_lists j (args_trees new list) a) ∙ one-opened first p.bound_vars (trees_at old p.args.0) (trees_at new j) e
+    ∙ ap (opened first p.bound_vars 0) (sym (principal-args old b found p h g)) ∙ ap (λ n. opened first n 0 (bounds_args (trees_at old b.0))) (sym (principal-count old b found p h g)))
+
+pub object-taken : (es : List Entry) (b : of-bounds.Bounds) (found : BoundsData) (p : Principal) (m n : ℕ) → Is es bounds_lists b.0 (bounds_trees es found) → found.principal ≡ Some p → n ≡ m + p.bound_vars → n ≡ m + bounds_count (trees_at es b.0)
+object-taken es b found p m n h g e = e ∙ ap (λ k. m + k) (sym (principal-count es b found p h g))
+
+plain-bounds : (es : List Entry) (b : of-bounds.Bounds) (found : BoundsData) → Is es bounds_lists b.0 (bounds_trees es found) → found.principal ≡ None → (bounds_args (trees_at es b.0) ≡ none) × (bounds_count (trees_at es b.0) ≡ 0)
+plain-bounds es b found h g =
+    let at : trees_at es b.0 ≡ autos_trees found.autos.items = is-trees es bounds_lists b.0 (bounds_trees es found) h ∙ ap (λ q. principal_trees es q +++ autos_trees found.autos.items) g in
+    (ap bounds_args at ∙ (autos-cases (autos_trees found.autos.items) (autos-are found.autos.items)).1, ap bounds_count at ∙ autos-count found.autos.items)
+  where
+    autos-count : (autos : List TraitId) → bounds_count (autos_trees autos) ≡ 0
+    autos-count [] = refl
+    autos-count (a ∷ rest) = refl
+
+pub plain-object-opened : (es : List Entry) (first : ℕ) (b : of-bounds.Bounds) (r : Region) (found : BoundsData) (items : List GenericArgKind)
+    → Is es bounds_lists b.0 (bounds_trees es found) → found.principal ≡ None → items ≡ Lifetime r ∷ []
+    → args_trees es items ≡ opened first (bounds_count (trees_at es b.0)) 0 (bounds_args (trees_at es b.0)) +++ region_trees r
+plain-object-opened es first b r found items h g f =
+    ap (args_trees es) f ∙ ap (λ z. opened first (bounds_count (trees_at es b.0)) 0 z +++ region_trees r) (sym (plain-bounds es b found h g).0)
+
+pub plain-object-taken : (es : List Entry) (b : of-bounds.Bounds) (found : BoundsData) (m : ℕ) → Is es bounds_lists b.0 (bounds_trees es found) → found.principal ≡ None → m ≡ m + bounds_count (trees_at es b.0)
+plain-object-taken es b found m h g = let e = (plain-bounds es b found h g).1 in omega (arith, e)
+
+-- a type that binds no lifetimes has the parts that it has
+pub plain-opened : (es : List Entry) (first : ℕ) (k : TyKind) → ((n : ℕ) (ts : of-tys.Tys) → k ≡ FnPtr n ts → ⊥) → ((b : of-bounds.Bounds) (r : Region) → k ≡ Dynamic b r → ⊥) → (opened_trees es first k ≡ parts_trees es k) × (bound_count es k ≡ 0)
+plain-opened es first (FnPtr n ts) f d = absurd (f n ts refl)
+plain-opened es first (Dynamic b r) f d = absurd (d b r refl)
+plain-opened es first k f d = (refl, refl)
+
+-- the interner may have grown before the parts are opened
+pub opened-later : (old new : List Entry) (first : ℕ) (k : TyKind) → Keeps old new → KindHeld old k → opened_trees new first k ≡ opened_trees old first k
+opened-later old new first (Adt d args) k h = trees-later old new k args_lists args.0 h
+opened-later old new first (Ref r t m) k h = ap (λ z. region_trees r +++ z) (trees-later old new k types t.0 h.1)
+opened-later old new first (RawPtr t m) k h = trees-later old new k types t.0 h
+opened-later old new first (KArray t n) k h = ap (λ z. z +++ trees_at new n.0) (trees-later old new k types t.0 h.0) ∙ ap (λ z. trees_at old t.0 +++ z) (trees-later old new k consts n.0 h.1)
+opened-later old new first (KSlice t) k h = trees-later old new k types t.0 h
+opened-later old new first (Tuple ts) k h = trees-later old new k type_lists ts.0 h
+opened-later old new first (FnPtr n ts) k h = ap (opened first n 0) (trees-later old new k type_lists ts.0 h.0)
+opened-later old new first (Dynamic b r) k h = ap (λ z. opened first (bounds_count z) 0 (bounds_args z) +++ region_trees r) (trees-later old new k bounds_lists b.0 h.0)
+opened-later old new first kind k h = refl

@@ -1,5 +1,5 @@
 -- What one step of solving does to the solutions.
-use Rattle.std.proofs.Common.{◌≡◌, ℕ, ◌<◌, ◌≤◌, Bool, true, false, refl, ap, sym, ◌∙◌, arith, List, [], ◌∷◌, ◌++◌, subst, None, length, Result, Ok, Err, OnOk, OnErr, IfOk, ◌⊎◌, inl, inr, take}
+use Rattle.std.proofs.Common.{◌≡◌, ℕ, ◌<◌, ◌≤◌, Bool, true, false, refl, ap, sym, ◌∙◌, arith, List, [], ◌∷◌, ◌++◌, subst, None, length, Result, Ok, Err, OnOk, OnErr, IfOk, ◌⊎◌, inl, inr}
 use Rattle.model.specs.Label.{Sort, of_type, of_const, of_lifetime, infer, static}
 use Rattle.model.specs.Trees.{Trees, none, tree, leaf, IsA}
 use Rattle.model.proofs.TreeLaws.{append-none}
@@ -22,7 +22,7 @@ use Rattle.type_terms.specs.declared.kinds.ConstKind.TheVariants.{Value as CValu
 use Rattle.type_terms.specs.declared.number.TyVid.{TyVid}
 use Rattle.type_terms.specs.declared.number.BoundVarIndexKind.TheVariants.{Bound as KBinder, Canonical as KCanonical}
 use Rattle.infer_table.specs.Solutions.{Assignment, instance, tree_of, Binding, Solves, value_in, resolved, size, HasNoSolution, Acyclic}
-use Rattle.infer_table.specs.Content.{Table, content, term_trees, sort_of_variable, number_of_variable, Ready, AllHeld, AllConstraintsHeld, AreOlder, AllProper, with_value, variables_of, Grows}
+use Rattle.infer_table.specs.Content.{Table, content, term_trees, sort_of_variable, number_of_variable, Ready, AllHeld, IsHeldConstraint, AllConstraintsHeld, AreOlder, AllProper, with_value, variables_of}
 use Rattle.infer_table.specs.Parts.{head_tree, parts_trees, IsRigidKind, HasBounds}
 use Rattle.infer_table.specs.Equations.{AreHeld, SameSolutions, backward, weight, unbound_in, type_equation, const_equation, Advances, IsRigid}
 use Rattle.infer_table.specs.declared.terms.Equation.{Equation}
@@ -266,9 +266,9 @@ pub equation-is : (e : Equation) (x y : GenericArgKind) → e.left ≡ x → e.r
 equation-is e x y p q = ap (λ z. record { left = z; right = y }) (sym p) ∙ ap (λ z. record { left = e.left; right = z }) (sym q)
 
 -- ---- lifetimes
-constraints-push : (es : List Entry) (cs : List RegionConstraint) (a b : Region) → AllConstraintsHeld es cs → AllConstraintsHeld es (cs ++ Equal a b ∷ [])
-constraints-push es [] a b h = (tt, tt)
-constraints-push es (c ∷ cs) a b h = (h.0, constraints-push es cs a b h.1)
+constraints-push : (es : List Entry) (cs : List RegionConstraint) (c : RegionConstraint) → AllConstraintsHeld es cs → IsHeldConstraint es c → AllConstraintsHeld es (cs ++ c ∷ [])
+constraints-push es [] c h x = (x, tt)
+constraints-push es (d ∷ cs) c h x = (h.0, constraints-push es cs c h.1 x)
 
 ready-like : (es : List Entry) (t u : Table) → u.values ≡ t.values → (u.ty_vars ≡ t.ty_vars) × (u.const_vars ≡ t.const_vars) × (u.region_vars ≡ t.region_vars) → AllConstraintsHeld es u.constraints → Ready es t → Ready es u
 ready-like es t u v n c r =
@@ -285,11 +285,15 @@ ready-like es t u v n c r =
     same t u n of_const = let e = n.1 in omega (arith, e)
     same t u n of_lifetime = let e = n.2 in omega (arith, e)
 
+-- one more constraint, of terms that are there
+pub ready-recorded : (es : List Entry) (t : Table) (c : RegionConstraint) → Ready es t → IsHeldConstraint es c → Ready es (record t { constraints = t.constraints ++ c ∷ [] })
+ready-recorded es t c r h = ready-like es t (record t { constraints = t.constraints ++ c ∷ [] }) refl (refl, refl, refl) (constraints-push es t.constraints c r.constraints_held h) r
+
 pub region-ready : {E : Type 0} (es : List Entry) (t u : Table) (a b : Region) (r : Result Bool E) → u.values ≡ t.values → (u.ty_vars ≡ t.ty_vars) × (u.const_vars ≡ t.const_vars) × (u.region_vars ≡ t.region_vars)
-    → OnOk r ((u.constraints ≡ t.constraints) ⊎ (u.constraints ≡ t.constraints ++ Equal a b ∷ [])) → OnErr r (u ≡ t) → Ready es t → Ready es u
-region-ready es t u a b (Ok f) v n (inl c) x r = ready-like es t u v n (subst (AllConstraintsHeld es) (sym c) r.constraints_held) r
-region-ready es t u a b (Ok f) v n (inr c) x r = ready-like es t u v n (subst (AllConstraintsHeld es) (sym c) (constraints-push es t.constraints a b r.constraints_held)) r
-region-ready es t u a b (Err e) v n c x r = subst (Ready es) (sym x) r
+    → OnOk r ((u.constraints ≡ t.constraints) ⊎ (u.constraints ≡ t.constraints ++ Equal a b ∷ [])) → OnErr r (u ≡ t) → IsHeldConstraint es (Equal a b) → Ready es t → Ready es u
+region-ready es t u a b (Ok f) v n (inl c) x h r = ready-like es t u v n (subst (AllConstraintsHeld es) (sym c) r.constraints_held) r
+region-ready es t u a b (Ok f) v n (inr c) x h r = ready-like es t u v n (subst (AllConstraintsHeld es) (sym c) (constraints-push es t.constraints (Equal a b) r.constraints_held h)) r
+region-ready es t u a b (Err e) v n c x h r = subst (Ready es) (sym x) r
 
 pub region-same : (es : List Entry) (t u : Table) (todo : List Equation) (e : Equation) (a b : Region) → e.left ≡ Lifetime a → e.right ≡ Lifetime b → u.values ≡ t.values → SameSolutions es t (todo ++ e ∷ []) es u todo
 region-same es t u todo e a b p q v = record {
@@ -313,17 +317,5 @@ same-trans es fs gs t u w a b c p q = record { all = λ s h. q.all s (p.all s h)
 pub same-self : (es : List Entry) (t : Table) (a : List Equation) → SameSolutions es t a es t a
 same-self es t a = record { all = λ s h. h; only = λ s h. h }
 
-take-trans : {X : Type 0} (xs ys zs : List X) → take (length xs) ys ≡ xs → take (length ys) zs ≡ ys → take (length xs) zs ≡ xs
-take-trans [] ys zs p q = refl
-take-trans (x ∷ xs) [] zs p q = cc
-take-trans (x ∷ xs) (y ∷ ys) [] p q = cc
-take-trans (x ∷ xs) (y ∷ ys) (z ∷ zs) p q = step x y z (take (length xs) ys) xs (take (length ys) zs) ys (take (length xs) zs) p q (take-trans xs ys zs)
-  where
-    step : {X : Type 0} (x y z : X) (a b c d e : List X) → y ∷ a ≡ x ∷ b → z ∷ c ≡ y ∷ d → (a ≡ b → c ≡ d → e ≡ b) → z ∷ e ≡ x ∷ b
-    step x y z a b c d e p q f = let p1 : a ≡ b = cc in let q1 : c ≡ d = cc in let g : e ≡ b = f p1 q1 in let h : z ≡ x = cc in cc
-
 pub keeps-trans : (es fs gs : List Entry) → Keeps es fs → Keeps fs gs → Keeps es gs
 keeps-trans es fs gs p q = λ i e h. q i e (p i e h)
-
-pub grows-trans : (t u w : Table) → Grows t u → Grows u w → Grows t w
-grows-trans t u w p q = record { values_kept = take-trans t.values u.values w.values p.values_kept q.values_kept; constraints_kept = take-trans t.constraints u.constraints w.constraints p.constraints_kept q.constraints_kept }

@@ -3,6 +3,7 @@ use Rattle.std.specs.Prelude.{◌≡◌, ℕ, ◌+◌, ◌<◌, ◌≤◌, zero,
 use Rattle.model.specs.Label.{Sort, of_type, of_const, of_lifetime, infer}
 use Rattle.model.specs.Trees.{Trees, none, tree, IsA}
 use Rattle.type_terms.specs.Terms.{Entry, Has, types, consts, trees_at}
+use Rattle.type_terms.specs.Kinds.{RegionHeld}
 use Rattle.infer_table.specs.Solutions.{Binding, value_in, Acyclic}
 use Rattle.infer_table.specs.declared.terms.Snapshot.{Snapshot}
 use Rattle.infer_table.specs.declared.terms.TermVid.{TermVid}
@@ -10,7 +11,7 @@ use Rattle.infer_table.specs.declared.terms.TermVid.TheVariants.{Ty as TyVar, Co
 use Rattle.infer_table.specs.declared.terms.Term.{Term}
 use Rattle.infer_table.specs.declared.terms.Term.TheVariants.{Ty, Const}
 use Rattle.infer_table.specs.declared.terms.RegionConstraint.{RegionConstraint}
-use Rattle.infer_table.specs.declared.terms.RegionConstraint.TheVariants.{TypeOutlives}
+use Rattle.infer_table.specs.declared.terms.RegionConstraint.TheVariants.{Equal, RegionOutlives, TypeOutlives}
 
 -- how many variables of each kind there are, the values of some in the order in which they were found,
 -- and the constraints on lifetimes in the order in which they were recorded
@@ -44,8 +45,9 @@ AllHeld es [] = Unit {0}
 AllHeld es (p ∷ ps) = IsHeld es p × AllHeld es ps
 
 abbrev pub IsHeldConstraint : List Entry → RegionConstraint → Type 0
-IsHeldConstraint es (TypeOutlives t r) = Has es types t.0
-IsHeldConstraint es _ = Unit {0}
+IsHeldConstraint es (Equal a b) = RegionHeld a.kind × RegionHeld b.kind
+IsHeldConstraint es (RegionOutlives a b) = RegionHeld a.kind × RegionHeld b.kind
+IsHeldConstraint es (TypeOutlives t r) = Has es types t.0 × RegionHeld r.kind
 
 abbrev pub AllConstraintsHeld : List Entry → List RegionConstraint → Type 0
 AllConstraintsHeld es [] = Unit {0}

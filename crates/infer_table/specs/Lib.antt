@@ -1,6 +1,8 @@
+pub mod Certainties
 pub mod Solutions
 pub mod Canonical
 pub mod Content
+pub mod Constraints
 pub mod Lookups
 pub mod TableView
 pub mod Parts
@@ -9,3 +11,4 @@ pub mod Opened
 pub mod Alike
 pub mod Resolving
 pub mod Kept
+pub mod Growth

@@ -1,7 +1,7 @@
 -- A binder opened: variables in the place of the lifetimes that it binds.
 -- `for<'a> fn(&'a u8, for<'b> fn(&'a u8, &'b u8))` opens to `fn(&'?0 u8, for<'b> fn(&'?0 u8, &'b u8))`.
 use Rattle.std.specs.Prelude.{◌≡◌, ℕ, ◌+◌, List, length, cond, ltb, ◌&&◌, ◌==◌, Bool, true, false, refl}
-use Rattle.model.specs.Label.{Label, Sort, of_type, of_lifetime, infer, bound, principal, auto_trait, inside}
+use Rattle.model.specs.Label.{Label, of_type, of_lifetime, infer, bound, principal, auto_trait, inside}
 use Rattle.model.specs.Trees.{Trees, none, tree, outer_binder, sort_of, is_sort}
 use Rattle.term_traversal.specs.Folds.{Does, enters, puts, again, IsBound}
 

@@ -1,7 +1,7 @@
 -- The fold that puts their values in the place of variables.
-use Rattle.std.specs.Prelude.{◌≡◌, ℕ, ◌+◌, ◌*◌, zero, suc, List, [], ◌∷◌, cond, ◌&&◌, ◌==◌, Bool, true, false, if◌then◌else◌, bit_and, refl}
+use Rattle.std.specs.Prelude.{◌≡◌, ℕ, ◌+◌, suc, List, [], ◌∷◌, cond, ◌==◌, Bool, true, false, if◌then◌else◌, bit_and, refl}
 use Rattle.std.proofs.Common.{arith, sym, subst, ◌<◌, ◌≤◌}
-use Rattle.model.specs.Label.{Label, Sort, of_type, of_const, of_lifetime, infer, principal, auto_trait}
+use Rattle.model.specs.Label.{Label, of_type, of_lifetime, infer, principal, auto_trait}
 use Rattle.model.specs.Trees.{Trees, none, tree, leaf, ◌+++◌, flags, sort_of, is_sort}
 use Rattle.term_traversal.specs.Folds.{Does, enters, puts, again, IsBound}
 use Rattle.type_terms.specs.Terms.{Entry, Keeps}

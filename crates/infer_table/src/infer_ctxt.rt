@@ -6,7 +6,7 @@ ghost use Rattle.type_terms.specs.Terms.{Entry, Is, Has, Keeps, Lawful, types, c
 ghost use Rattle.type_terms.specs.Kinds.{region_label};
 ghost use Rattle.type_terms.specs.declared.TheConstants.{MAX_INDEX};
 ghost use Rattle.infer_table.specs.Solutions.{resolved, value_in};
-ghost use Rattle.infer_table.specs.Content.{Table, content, Ready, IsUnbound, with_value, place_in, Grows};
+ghost use Rattle.infer_table.specs.Content.{Table, content, Ready, IsHeldConstraint, IsUnbound, with_value, place_in, Grows};
 ghost use Rattle.infer_table.specs.Lookups.{latest, ty_in, const_in};
 ghost use Rattle.infer_table.specs.Resolving.{followed};
 ghost use Rattle.term_traversal.specs.Pieces.{each_piece};
@@ -146,7 +146,9 @@ impl InferCtxt {
         ensures is { IfOk result (λ t. Is cx.new.entries types t.0 (leaf (infer of_type self.old.ty_vars))) }
         ensures fresh { OnOk result (value_in (content cx.new.entries self.new.values) of_type self.old.ty_vars ≡ None) }
         ensures keeps { Keeps cx.old.entries cx.new.entries }
+        ensures limit { cx.new.limit ≡ cx.old.limit }
         ensures made { OnOk result (self.new ≡ record self.old { ty_vars = self.old.ty_vars + 1 }) }
+        ensures grows { Grows self.old self.new }
         ensures refused { OnErr result (self.new ≡ self.old) }
         ensures full { result ≡ Err Fault.Full → (MAX_INDEX ≤ self.old.ty_vars) ⊎ (held types cx.old.entries ≡ cx.old.limit) }
         ensures memory { result ≡ Err Fault.Memory → cx.old.room ≡ 0 }
@@ -168,7 +170,9 @@ impl InferCtxt {
         ensures is { IfOk result (λ t. Is cx.new.entries consts t.0 (leaf (infer of_const self.old.const_vars))) }
         ensures fresh { OnOk result (value_in (content cx.new.entries self.new.values) of_const self.old.const_vars ≡ None) }
         ensures keeps { Keeps cx.old.entries cx.new.entries }
+        ensures limit { cx.new.limit ≡ cx.old.limit }
         ensures made { OnOk result (self.new ≡ record self.old { const_vars = self.old.const_vars + 1 }) }
+        ensures grows { Grows self.old self.new }
         ensures refused { OnErr result (self.new ≡ self.old) }
         ensures full { result ≡ Err Fault.Full → (MAX_INDEX ≤ self.old.const_vars) ⊎ (held consts cx.old.entries ≡ cx.old.limit) }
         ensures memory { result ≡ Err Fault.Memory → cx.old.room ≡ 0 }
@@ -188,6 +192,7 @@ impl InferCtxt {
         ensures ready { (es : List Entry) → Ready es self.old → Ready es self.new }
         ensures is { IfOk result (λ r. region_label r.kind ≡ infer of_lifetime self.old.region_vars) }
         ensures made { OnOk result (self.new ≡ record self.old { region_vars = self.old.region_vars + 1 }) }
+        ensures grows { Grows self.old self.new }
         ensures refused { OnErr result (self.new ≡ self.old) }
         ensures full { IsErr result ↔ (MAX_INDEX ≤ self.old.region_vars) }
         ensures fault { IfErr result (λ e. e ≡ Fault.Full) }
@@ -223,6 +228,7 @@ impl InferCtxt {
         ensures outline { IfOk result (λ r. T.outline r ≡ T.outline binder.value) }
         ensures opened { IfOk result (λ r. T.pieces r cx.new.entries ≡ each_piece (λ d t. opened self.old.region_vars binder.count d t) (T.pieces binder.value cx.old.entries)) }
         ensures made { OnOk result (self.new ≡ record self.old { region_vars = self.old.region_vars + binder.count }) }
+        ensures grows { Grows self.old self.new }
         ensures refused { OnErr result (self.new ≡ self.old) }
     {
         let first = self.region_vars;
@@ -256,6 +262,8 @@ impl InferCtxt {
 
     /// Records a constraint on lifetimes. Nothing judges it.
     pub fn register_region_constraint(&mut self, constraint: RegionConstraint) -> Result<(), Fault>
+        ensures ready { (es : List Entry) → Ready es self.old → IsHeldConstraint es constraint → Ready es self.new }
+        ensures grows { Grows self.old self.new }
         ensures recorded { OnOk result (self.new ≡ record self.old { constraints = self.old.constraints ++ constraint ∷ [] }) }
         ensures refused { OnErr result (self.new ≡ self.old) }
         ensures fault { IfErr result (λ e. e ≡ Fault.Memory) }

@@ -1,10 +1,10 @@
-//! Laws of resolving, over the trees that the contracts speak of.
+//! Laws of resolving and of solutions, over the trees that the contracts speak of.
 ghost use Rattle.std.specs.Prelude.{◌≡◌, ℕ, List, Some, false};
 ghost use Rattle.model.specs.Label.{Sort};
 ghost use Rattle.model.specs.Trees.{Trees, erase};
 ghost use Rattle.type_terms.specs.Terms.{Entry};
-ghost use Rattle.infer_table.specs.Solutions.{Assignment, Binding, Solves, instance, resolved, occurs, value_in, Acyclic};
-ghost use Rattle.infer_table.specs.Content.{content};
+ghost use Rattle.infer_table.specs.Solutions.{Assignment, Binding, Solves, IsSorted, IsClosed, IsCompletion, AreEquivalent, Equates, instance, resolved, occurs, value_in, Acyclic};
+ghost use Rattle.infer_table.specs.Content.{Table, content, Ready};
 ghost use Rattle.infer_table.specs.declared.terms.TermVid.{TermVid};
 ghost use Rattle.infer_table.specs.declared.terms.Term.{Term};
 
@@ -15,4 +15,14 @@ pub fn resolving_laws()
     ensures none_left { (bs : List Binding) (k : Sort) (v : ℕ) (x t : Trees) → Acyclic bs → value_in bs k v ≡ Some x → occurs k v (resolved bs t) ≡ false }
     ensures same { (es : List Entry) (values : List (TermVid × Term)) (s : Assignment) (t : Trees) → Solves s (content es values) → instance s (resolved (content es values) t) ≡ instance s t }
     ensures lifetimes { (s : Assignment) (t : Trees) → instance s (erase t) ≡ instance s t }
+{}
+
+/// A table that calls made has solutions: any terms may be put to its variables without value, closed ones too. And
+/// its solutions fix what each term resolves to, up to lifetimes: whatever way led to them, the same terms remain.
+/// So what an equation leaves follows from both sides and from the table before.
+pub fn solution_laws()
+    ensures completes { (es : List Entry) (t : Table) (r : Assignment) → Ready es t → IsSorted r → (s : Assignment) × IsCompletion (content es t.values) r s }
+    ensures closed { (es : List Entry) (t : Table) → Ready es t → (s : Assignment) × Solves s (content es t.values) × IsClosed s }
+    ensures fixed { (old new : List Entry) (t u : Table) (x : Trees) → Ready old t → Ready new u → AreEquivalent (content old t.values) (content new u.values) → erase (resolved (content old t.values) x) ≡ erase (resolved (content new u.values) x) }
+    ensures determined { (before left right : List Binding) (a b : Trees) → Equates before left a b → Equates before right a b → AreEquivalent left right }
 {}

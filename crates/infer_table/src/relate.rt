@@ -6,8 +6,9 @@ ghost use Rattle.type_terms.specs.Terms.{Entry, Is, Has, Keeps, types, consts, t
 ghost use Rattle.type_terms.specs.Kinds.{KindHeld, RegionHeld, ArgHeld, ArgsHeld, arg_trees, args_trees, kind_trees, region_trees};
 ghost use Rattle.type_terms.specs.declared.TheConstants.{MAX_INDEX};
 ghost use Rattle.infer_table.specs.Alike.{Alike};
-ghost use Rattle.infer_table.specs.Parts.{parts_trees, HasBounds, AreBounds, bounds_args};
-ghost use Rattle.infer_table.specs.Solutions.{Assignment, Solves, instance, resolved, occurs, value_in, Equates, HasNoSolution};
+ghost use Rattle.infer_table.specs.Parts.{parts_trees, HasBounds, AreBounds, bounds_args, bounds_count, bound_count, opened_trees};
+ghost use Rattle.infer_table.specs.Opened.{opened};
+ghost use Rattle.infer_table.specs.Solutions.{Assignment, Solves, instance, resolved, occurs, value_in, Equates, HasNoSolution, OlderStays};
 ghost use Rattle.infer_table.specs.Content.{content, rank, Ready, IsUnbound, IsProper, Grows, with_value};
 ghost use Rattle.infer_table.specs.Lookups.{latest};
 ghost use Rattle.infer_table.specs.Equations.{AreHeld, SolvesAll, SameSolutions, unbound_in, backward, weight, type_equation, const_equation, Advances, IsRigid};
@@ -201,6 +202,8 @@ impl InferCtxt {
         ensures constraints { self.new.constraints ≡ self.old.constraints }
         ensures held { IfOk result (λ v. ArgsHeld cx.new.entries v.items) }
         ensures trees { IfOk result (λ v. Alike (args_trees cx.new.entries v.items) (parts_trees cx.old.entries kind)) }
+        ensures opened { IfOk result (λ v. args_trees cx.new.entries v.items ≡ opened_trees cx.old.entries self.old.region_vars kind) }
+        ensures taken { OnOk result (self.new.region_vars ≡ self.old.region_vars + bound_count cx.old.entries kind) }
         ensures bounds { OnOk result (HasBounds cx.old.entries kind) }
     {
         match kind {
@@ -226,6 +229,8 @@ impl InferCtxt {
         ensures constraints { self.new.constraints ≡ self.old.constraints }
         ensures held { IfOk result (λ v. ArgsHeld cx.new.entries v.items) }
         ensures trees { IfOk result (λ v. Alike (args_trees cx.new.entries v.items) (trees_at cx.old.entries tys.0)) }
+        ensures opened { IfOk result (λ v. args_trees cx.new.entries v.items ≡ opened self.old.region_vars count 0 (trees_at cx.old.entries tys.0)) }
+        ensures taken { OnOk result (self.new.region_vars ≡ self.old.region_vars + count) }
     {
         let opened = self.instantiate_binder_with_infer(cx, Binder { value: tys, count })?;
         Ok(types(self.alloc, cx.tys(opened))?)
@@ -249,6 +254,8 @@ impl InferCtxt {
         ensures constraints { self.new.constraints ≡ self.old.constraints }
         ensures held { IfOk result (λ v. ArgsHeld cx.new.entries v.items) }
         ensures trees { IfOk result (λ v. Alike (args_trees cx.new.entries v.items) (bounds_args (trees_at cx.old.entries bounds.0) +++ region_trees region)) }
+        ensures opened { IfOk result (λ v. args_trees cx.new.entries v.items ≡ opened self.old.region_vars (bounds_count (trees_at cx.old.entries bounds.0)) 0 (bounds_args (trees_at cx.old.entries bounds.0)) +++ region_trees region) }
+        ensures taken { OnOk result (self.new.region_vars ≡ self.old.region_vars + bounds_count (trees_at cx.old.entries bounds.0)) }
         ensures bounds { OnOk result (AreBounds (trees_at cx.old.entries bounds.0)) }
     {
         match cx.bounds(bounds).principal {
@@ -285,6 +292,9 @@ impl InferCtxt {
         ensures right_held { IfOk result (λ p. ArgsHeld cx.new.entries p.1.items) }
         ensures left_trees { IfOk result (λ p. Alike (args_trees cx.new.entries p.0.items) (parts_trees cx.old.entries left)) }
         ensures right_trees { IfOk result (λ p. Alike (args_trees cx.new.entries p.1.items) (parts_trees cx.old.entries right)) }
+        // The variables of the right side come after those of the left side.
+        ensures left_opened { IfOk result (λ p. args_trees cx.new.entries p.0.items ≡ opened_trees cx.old.entries self.old.region_vars left) }
+        ensures right_opened { IfOk result (λ p. args_trees cx.new.entries p.1.items ≡ opened_trees cx.old.entries (self.old.region_vars + bound_count cx.old.entries left) right) }
         ensures left_bounds { OnOk result (HasBounds cx.old.entries left) }
         ensures right_bounds { OnOk result (HasBounds cx.old.entries right) }
     {
@@ -524,6 +534,7 @@ impl InferCtxt {
         ensures keeps { Keeps cx.old.entries cx.new.entries }
         ensures limit { cx.new.limit ≡ cx.old.limit }
         ensures equates { OnOk result (Equates (content cx.old.entries self.old.values) (content cx.new.entries self.new.values) (arg_trees cx.old.entries left) (arg_trees cx.old.entries right)) }
+        ensures older { OnOk result (OlderStays (content cx.old.entries self.old.values) (content cx.new.entries self.new.values) (arg_trees cx.old.entries left) (arg_trees cx.old.entries right)) }
         ensures never { result ≡ Err EqError.NoSolution → HasNoSolution (content cx.old.entries self.old.values) (arg_trees cx.old.entries left) (arg_trees cx.old.entries right) }
         ensures refused { OnErr result (self.new ≡ self.old) }
     {

@@ -1,8 +1,9 @@
-use Rattle.std.proofs.Common.{◌≡◌, ◌∙◌, subst, ◌∷◌, [], ◌++◌, List, Bool, ap, sym}
+use Rattle.std.proofs.Common.{◌∙◌, subst, ◌∷◌, [], ◌++◌, List, Bool}
 use Rattle.infer_table.specs.Equations.{AreHeld, AllEqual, Advances, SameSolutions}
 use Rattle.infer_table.specs.declared.terms.Equation.{Equation}
 use Rattle.infer_table.proofs.EquationFacts.{held-parts, all-parts}
-use Rattle.infer_table.proofs.StepFacts.{same-trans, grows-trans, keeps-trans}
+use Rattle.infer_table.specs.Growth.{grows-trans}
+use Rattle.infer_table.proofs.StepFacts.{same-trans, keeps-trans}
 use Rattle.infer_table.proofs.infer_ctxt.InferCtxt.advance.Goals as goal
 
 pub equate-requires-clause-left : goal.equate-requires-clause-left

@@ -1,4 +1,3 @@
-use Rattle.std.proofs.Common.{refl}
 use Rattle.term_traversal.proofs.FoldFacts.{ok-map}
 use Rattle.infer_table.specs.Content.{content, variables_of}
 use Rattle.infer_table.specs.Kept.{ready-later}

@@ -1,5 +1,6 @@
 use Rattle.std.proofs.Common.{subst, ap, ◌∷◌, [], ◌++◌, IfOk}
 use Rattle.infer_table.specs.Content.{content}
+use Rattle.type_terms.specs.Kinds.{RegionHeld, ArgHeld}
 use Rattle.infer_table.specs.Equations.{Advances}
 use Rattle.infer_table.specs.declared.terms.Equation.{Equation}
 use Rattle.type_terms.specs.declared.kinds.GenericArgKind.TheVariants.{Const as AConst}
@@ -31,8 +32,10 @@ returns-in-Const-right-clause-advances c =
 
 pub returns-in-Lifetime-right-clause-ready : goal.returns-in-Lifetime-right-clause-ready
 returns-in-Lifetime-right-clause-ready c =
+    let left : RegionHeld c.in-Lifetime.a.kind = subst (ArgHeld c.args.cx.now.entries) c.in-Lifetime.is c.requires.left in
+    let right : RegionHeld c.in-Lifetime-right.b.kind = subst (ArgHeld c.args.cx.now.entries) c.in-Lifetime-right.is c.requires.right in
     region-ready c.args.cx.now.entries c.args.self.now c.equate_regions.new.self c.in-Lifetime.a c.in-Lifetime-right.b c.equate_regions.result c.equate_regions.ensures.values c.equate_regions.ensures.counts
-    c.equate_regions.ensures.constraints c.equate_regions.ensures.refused c.requires.ready
+    c.equate_regions.ensures.constraints c.equate_regions.ensures.refused (left, right) c.requires.ready
 
 pub returns-in-Lifetime-right-clause-same : goal.returns-in-Lifetime-right-clause-same
 returns-in-Lifetime-right-clause-same c =

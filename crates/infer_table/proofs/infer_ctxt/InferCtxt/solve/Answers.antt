@@ -2,7 +2,8 @@ use Rattle.std.proofs.Common.{◌≡◌, ◌∙◌, sym, subst, ap, ◌∷◌, [
 use Rattle.infer_table.specs.declared.goal.EqError.{EqError}
 use Rattle.infer_table.specs.declared.goal.EqError.TheVariants.{NoSolution}
 use Rattle.infer_table.specs.Equations.{AllEqual}
-use Rattle.infer_table.proofs.StepFacts.{same-trans, grows-trans, keeps-trans}
+use Rattle.infer_table.specs.Growth.{grows-trans}
+use Rattle.infer_table.proofs.StepFacts.{same-trans, keeps-trans}
 use Rattle.infer_table.proofs.infer_ctxt.InferCtxt.solve.Goals as goal
 
 pub rounds-preserved : goal.rounds-preserved
