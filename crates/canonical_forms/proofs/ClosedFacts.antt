@@ -8,7 +8,7 @@ use Rattle.model.specs.Label.{Label, of_type, of_const, of_lifetime, infer, para
 use Rattle.model.specs.Trees.{Trees, none, tree, flags, label_flags}
 use Rattle.infer_table.specs.declared.canonical.CanonicalVarKind.{CanonicalVarKind}
 use Rattle.infer_table.specs.Canonical.{kind_in_clause, kind_of_leaf, leaves, relabeled, with_label}
-use Rattle.canonical_forms.specs.Leaves.{is_closed}
+use Rattle.canonical_forms.specs.Leaves.{is_closed, OpenAreLeaves}
 
 low-part : (x y z : ℕ) → min (max x y) z ≡ 0 → min x z ≡ 0
 low-part x y z h = omega arith
@@ -67,6 +67,16 @@ unmarked-stays f (tree l c o) h =
     tree-cong _ _ _ _ _ _ (ap (λ (b : Bool). if b then f l else l) here) (unmarked-stays f c (or-right (label_flags l) (flags c) mask first))
     (unmarked-stays f o (or-right (bit_or (label_flags l) (flags c)) (flags o) mask h))
 
+false-true : false ≡ true → ⊥
+false-true e = cc
+
+unmarked-only : (t : Trees) → bit_and (flags t) mask ≡ 0 → OpenAreLeaves kind_in_clause t
+unmarked-only none h = tt
+unmarked-only (tree l c o) h =
+    let first = or-left (bit_or (label_flags l) (flags c)) (flags o) mask h in
+    let here = closed-label l (or-left (label_flags l) (flags c) mask first) in
+    (λ q. absurd (false-true (sym here ∙ q)), unmarked-only c (or-right (label_flags l) (flags c) mask first), unmarked-only o (or-right (bit_or (label_flags l) (flags c)) (flags o) mask h))
+
 zero-test : (n : ℕ) → (n == 0) ≡ true → n ≡ 0
 zero-test n h = grind (arith, nat_tests)
 
@@ -75,3 +85,6 @@ closed-leaves seen t h = unmarked-leaves seen t (zero-test _ h)
 
 pub closed-stays : (f : Label → Label) (t : Trees) → is_closed t ≡ true → relabeled kind_in_clause f t ≡ t
 closed-stays f t h = unmarked-stays f t (zero-test _ h)
+
+pub closed-only : (t : Trees) → is_closed t ≡ true → OpenAreLeaves kind_in_clause t
+closed-only t h = unmarked-only t (zero-test _ h)

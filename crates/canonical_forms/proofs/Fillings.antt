@@ -13,11 +13,13 @@ use Rattle.term_folds.specs.Clauses.{clause_outline, clause_pieces}
 use Rattle.term_traversal.specs.Folds.{enters, puts, Folds}
 use Rattle.term_traversal.specs.Pieces.{FoldsEach, one_piece}
 use Rattle.term_folds.proofs.Replacing.{Describes, folds-are}
-use Rattle.canonical_forms.specs.Goals.{clause_label, clause_terms, environment_trees, ClausesFold}
-use Rattle.canonical_forms.specs.Values.{Value, value_of, values_of, if_of_sort, value_for, filled, put_if_there, filling, filling-once}
+use Rattle.canonical_forms.specs.Goals.{clause_label, clause_terms, environment_trees, goal_trees, ClausesFold, GoalFolds}
+use Rattle.canonical_forms.specs.declared.goal.Goal.{Goal}
+use Rattle.canonical_forms.specs.Values.{Value, value_of, values_of, if_of_sort, value_for, filled, goal_filled, put_if_there, filling, filling-once}
+use Rattle.canonical_forms.proofs.Numbers.{goal-same}
 
 module _ (vs : List Value) where
-  filled-append : (x y : Trees) → filled vs (x +++ y) ≡ filled vs x +++ filled vs y
+  pub filled-append : (x y : Trees) → filled vs (x +++ y) ≡ filled vs x +++ filled vs y
   filled-append none y = refl
   filled-append (tree l c o) y =
       ap (λ z. placed (value_for vs l) (tree l (filled vs c) none) +++ z) (filled-append o y)
@@ -46,7 +48,7 @@ module _ (vs : List Value) where
     at_again = λ bs l c s e. absurd (filling-once vs (tree l c none) s e);
   }
 
-  filled-fold : (t u : Trees) → Folds (λ bs t. filling vs t) [] t u → u ≡ filled vs t
+  pub filled-fold : (t u : Trees) → Folds (λ bs t. filling vs t) [] t u → u ≡ filled vs t
   filled-fold t u h = folds-are (λ bs t. filled vs t) filling-describes h
 
   record FilledClause (old new : List Entry) (x y : Clause) : Type 0 where
@@ -93,6 +95,9 @@ module _ (vs : List Value) where
     where
       same : (i j : ℕ) (t u : Trees) → j ≡ i → u ≡ t → tree (principal 0 j) u none ≡ tree (principal 0 i) t none
       same i j t u p q = cc
+
+  pub goal-filled : (old new : List Entry) (g h : Goal) → GoalFolds (λ bs t. filling vs t) old g new h → goal_trees new h ≡ goal_filled vs (goal_trees old g)
+  goal-filled old new g h f = goal-same _ _ _ _ (environment-filled old new g.param_env.items h.param_env.items f.environment) (predicate-filled _ _ _ _ f.def_id f.predicate)
 
 -- ---- one value
 values-at : (es : List Entry) (xs : List GenericArgKind) (i : ℕ) → slice_get (values_of es xs) i ≡ option_map (value_of es) (slice_get xs i)

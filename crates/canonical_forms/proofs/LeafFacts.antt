@@ -98,7 +98,7 @@ root-sort of_type l h = h.0
 root-sort of_const l h = h.0
 root-sort of_lifetime l h = h.0
 
-sort-is : (es : List Entry) → Lawful es → (a : GenericArgKind) (l : Label) → ArgHeld es a → arg_trees es a ≡ leaf l → sort_of l ≡ sort_of_arg a
+pub sort-is : (es : List Entry) → Lawful es → (a : GenericArgKind) (l : Label) → ArgHeld es a → arg_trees es a ≡ leaf l → sort_of l ≡ sort_of_arg a
 sort-is es law (Lifetime r) l h e = let p : region_label r.kind ≡ l = cc in ap sort_of (sym p) ∙ region-sort r.kind
 sort-is es law (AType t) l h e = root-sort of_type l (subst (IsA of_type) e ((law.sorted t.0 _ (is-at es types t.0 h)).as_type refl))
 sort-is es law (AConst t) l h e = root-sort of_const l (subst (IsA of_const) e ((law.sorted t.0 _ (is-at es consts t.0 h)).as_const refl))

@@ -4,3 +4,6 @@ pub mod Numbers
 pub mod Collections
 pub mod Questions
 pub mod Fillings
+pub mod Returning
+pub mod Resolutions
+pub mod NewUnknowns

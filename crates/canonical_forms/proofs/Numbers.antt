@@ -11,11 +11,12 @@ use Rattle.term_folds.specs.Clauses.{ClauseHeld, clause_outline, clause_pieces, 
 use Rattle.term_traversal.specs.Folds.{Does, enters, puts, Folds, Answers}
 use Rattle.term_traversal.specs.declared.fold.Answer.TheVariants.{Enter, Replace, Again}
 use Rattle.term_traversal.specs.Pieces.{FoldsEach, one_piece}
-use Rattle.term_traversal.specs.Kept.{trees-later}
+use Rattle.term_traversal.specs.Kept.{has-later, trees-later}
 use Rattle.term_traversal.proofs.Items.{take-push}
 use Rattle.term_folds.proofs.Replacing.{Describes, folds-are}
 use Rattle.infer_table.specs.Canonical.{GoalTrees, kind_of_leaf, canonical_label, relabeled}
-use Rattle.canonical_forms.specs.Goals.{clause_label, clause_terms, environment_trees, ClausesHeld, ClausesFold}
+use Rattle.canonical_forms.specs.Goals.{clause_label, clause_terms, environment_trees, goal_trees, ClausesHeld, GoalHeld, ClausesFold}
+use Rattle.canonical_forms.specs.declared.goal.Goal.{Goal}
 use Rattle.canonical_forms.specs.Leaves.{open_kinds, root_label, is_closed, is_type_label, numbering}
 use Rattle.canonical_forms.specs.LeafLaws.{numbering-once}
 use Rattle.canonical_forms.proofs.ClosedFacts.{closed-stays}
@@ -162,6 +163,14 @@ folds-push f old now next k (a ∷ xs) [] x y held h o e = absurd h
 folds-push f old now next k (a ∷ xs) (b ∷ ys) x y held h o e =
     (h.0, subst (λ z. FoldsEach f [] (clause_pieces old a) z) (sym (clause-pieces-later now next k b held.0)) h.1, folds-push f old now next k xs ys x y held.1 h.2 o e)
 
+-- what was made of clauses stays their fold
+pub clauses-fold-later : (f : List ℕ → Trees → Does) (old now next : List Entry) → Keeps now next → (xs ys : List Clause) → ClausesHeld now ys → ClausesFold f old xs now ys → ClausesFold f old xs next ys
+clauses-fold-later f old now next k [] [] held h = tt
+clauses-fold-later f old now next k [] (b ∷ ys) held h = absurd h
+clauses-fold-later f old now next k (a ∷ xs) [] held h = absurd h
+clauses-fold-later f old now next k (a ∷ xs) (b ∷ ys) held h =
+    (h.0, subst (λ z. FoldsEach f [] (clause_pieces old a) z) (sym (clause-pieces-later now next k b held.0)) h.1, clauses-fold-later f old now next k xs ys held.1 h.2)
+
 -- one more clause is folded
 pub one-more-fold : (f g : List ℕ → Trees → Does) (old now next : List Entry) → g ≡ f → Keeps old now → Keeps now next → (xs ys : List Clause) (i : ℕ) (x y : Clause) → i < length xs → x ≡ get_or xs i x
     → ClauseHeld old x → ClausesHeld now ys → ClausesFold f old (take i xs) now ys
@@ -193,3 +202,14 @@ predicate-numbered ls i j t u e h = same i j _ _ e (numbered-fold false ls [] t 
   where
     same : (i j : ℕ) (t u : Trees) → j ≡ i → u ≡ t → tree (principal 0 j) u none ≡ tree (principal 0 i) t none
     same i j t u p q = cc
+
+pub goal-held-later : (old new : List Entry) → Keeps old new → (g : Goal) → GoalHeld old g → GoalHeld new g
+goal-held-later old new k g h = record {
+  environment = clauses-held-later old new k g.param_env.items h.environment;
+  predicate = has-later old new k args_lists g.predicate.trait_ref.args.0 h.predicate;
+}
+
+pub goal-trees-later : (old new : List Entry) → Keeps old new → (g : Goal) → GoalHeld old g → goal_trees new g ≡ goal_trees old g
+goal-trees-later old new k g h =
+    goal-same _ _ _ _ (environment-later old new k g.param_env.items h.environment)
+    (ap (λ z. tree (principal 0 g.predicate.trait_ref.def_id.index) z none) (trees-later old new k args_lists g.predicate.trait_ref.args.0 h.predicate))

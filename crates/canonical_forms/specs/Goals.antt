@@ -9,8 +9,9 @@ use Rattle.term_folds.specs.declared.predicate.Clause.{Clause}
 use Rattle.term_folds.specs.declared.predicate.Clause.TheVariants.{Trait, RegionOutlives, TypeOutlives}
 use Rattle.term_folds.specs.Clauses.{ClauseHeld, clause_outline, clause_pieces}
 use Rattle.term_traversal.specs.Folds.{Does}
-use Rattle.term_traversal.specs.Pieces.{FoldsEach}
+use Rattle.term_traversal.specs.Pieces.{FoldsEach, one_piece}
 use Rattle.infer_table.specs.Canonical.{GoalTrees}
+use Rattle.infer_table.specs.Solutions.{Binding, resolved}
 use Rattle.canonical_forms.specs.declared.goal.Goal.{Goal}
 
 -- a where-clause is one node: its label says which of the three it is, and for a trait which trait,
@@ -52,3 +53,13 @@ abbrev pub ClausesFold : (List ℕ → Trees → Does) → List Entry → List C
 ClausesFold f old [] new [] = Unit {0}
 ClausesFold f old (x ∷ xs) new (y ∷ ys) = (clause_outline y ≡ clause_outline x) × FoldsEach f [] (clause_pieces old x) (clause_pieces new y) × ClausesFold f old xs new ys
 ClausesFold f old _ new _ = ⊥
+
+-- each part of the second goal is the fold of the one in its place
+pub record GoalFolds (f : List ℕ → Trees → Does) (old : List Entry) (g : Goal) (new : List Entry) (h : Goal) : Type 0 where
+  pub environment : ClausesFold f old g.param_env.items new h.param_env.items
+  pub def_id : h.predicate.trait_ref.def_id.index ≡ g.predicate.trait_ref.def_id.index
+  pub predicate : FoldsEach f [] (one_piece (trees_at old g.predicate.trait_ref.args.0)) (one_piece (trees_at new h.predicate.trait_ref.args.0))
+
+-- the goal with each variable that has a value replaced by it, all the way
+abbrev pub goal_resolved : List Binding → GoalTrees → GoalTrees
+goal_resolved bs g = record { environment = resolved bs g.environment; predicate = resolved bs g.predicate }

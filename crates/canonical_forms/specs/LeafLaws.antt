@@ -20,11 +20,11 @@ abbrev pub Collecting : List Entry → Trees → LeafCollector → LeafCollector
 Collecting es t v w a = (w.in_clause ≡ v.in_clause) × Collects (open_kinds v.in_clause) t (labels es v.leaves.keys) (labels es w.leaves.keys) a
 
 pub bounds-collect : (b : Bool) (seen : List Label) (t : Trees) → IsBound t → Collects (open_kinds b) t seen seen Enter
-bounds-collect true seen (tree (principal n i) c o) h = refl
-bounds-collect false seen (tree (principal n i) c o) h = refl
-bounds-collect true seen (tree (auto_trait i) c o) h = refl
-bounds-collect false seen (tree (auto_trait i) c o) h = refl
-bounds-collect b seen none h = refl
+bounds-collect true seen (tree (principal n i) c o) h = (refl, λ e. cc)
+bounds-collect false seen (tree (principal n i) c o) h = (refl, λ e. cc)
+bounds-collect true seen (tree (auto_trait i) c o) h = (refl, λ e. cc)
+bounds-collect false seen (tree (auto_trait i) c o) h = (refl, λ e. cc)
+bounds-collect b seen none h = absurd h
 bounds-collect b seen (tree l c o) h = absurd h
 
 pub numbering-bounds : (b : Bool) (ls : List Label) (bs : List ℕ) (t : Trees) → IsBound t → numbering b ls bs t ≡ enters

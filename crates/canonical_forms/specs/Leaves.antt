@@ -9,7 +9,7 @@ use Rattle.type_terms.specs.declared.kinds.GenericArgKind.{GenericArgKind}
 use Rattle.term_traversal.specs.declared.visit.Seen.{Seen}
 use Rattle.term_traversal.specs.declared.visit.Seen.TheVariants.{Break, Enter, Pass}
 use Rattle.term_traversal.specs.Folds.{Does, enters, puts}
-use Rattle.infer_table.specs.Canonical.{OpenKinds, kind_of_leaf, kind_in_clause, with_label, leaves, canonical_label, relabeled}
+use Rattle.infer_table.specs.Canonical.{GoalTrees, OpenKinds, kind_of_leaf, kind_in_clause, with_label, leaves, canonical_label, relabeled}
 use Rattle.canonical_forms.specs.declared.canonicalizer.TheConstants.{OPEN_FLAGS}
 
 -- what is open in a where-clause, and what outside
@@ -51,11 +51,25 @@ abbrev pub with_root : OpenKinds → List Label → Trees → List Label
 with_root kind seen none = seen
 with_root kind seen (tree l c o) = if is_some (kind l) then with_label l seen else seen
 
+-- each open node is a leaf
+abbrev pub OpenAreLeaves : OpenKinds → Trees → Type 0
+OpenAreLeaves kind none = Unit {0}
+OpenAreLeaves kind (tree l c o) = (IsSome (kind l) → c ≡ none) × OpenAreLeaves kind c × OpenAreLeaves kind o
+
+pub record OpenAreLeavesOf (g : GoalTrees) : Type 0 where
+  pub environment : OpenAreLeaves kind_in_clause g.environment
+  pub predicate : OpenAreLeaves kind_of_leaf g.predicate
+
+-- the root is a leaf, if it is open
+abbrev pub RootIsLeaf : OpenKinds → Trees → Type 0
+RootIsLeaf kind none = Unit {0}
+RootIsLeaf kind (tree l c o) = IsSome (kind l) → c ≡ none
+
 -- how a collector answers at a node, where it had the leaves `before` and has the leaves `after`
 abbrev pub Collects : OpenKinds → Trees → List Label → List Label → Seen Fault → Type 0
 Collects kind t before after (Break f) = Unit {0}
-Collects kind t before after Enter = after ≡ with_root kind before t
-Collects kind t before after Pass = after ≡ leaves kind before t
+Collects kind t before after Enter = (after ≡ with_root kind before t) × RootIsLeaf kind t
+Collects kind t before after Pass = (after ≡ leaves kind before t) × OpenAreLeaves kind t
 
 -- no unknown, parameter or placeholder stands in the trees
 abbrev pub is_closed : Trees → Bool

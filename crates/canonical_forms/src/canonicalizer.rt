@@ -1,5 +1,5 @@
 //! Open leaves collected and numbered.
-ghost use Rattle.std.specs.Prelude.{◌≡◌, ℕ, Bool, true, List, IfOk, is_some};
+ghost use Rattle.std.specs.Prelude.{◌≡◌, ◌≤◌, ℕ, Bool, true, List, length, IfOk, OnErr, is_some};
 ghost use Rattle.model.specs.Label.{of_const};
 ghost use Rattle.model.specs.Trees.{sort_of};
 ghost use Rattle.type_terms.specs.Terms.{Has, types, consts, trees_at};
@@ -75,10 +75,10 @@ fn is_open_region(region: Region, in_clause: bool) -> bool
 
 /// Lists the open leaves that a visit meets, each once.
 #[derive(Drop)]
-pub(crate) struct LeafCollector {
-    pub(crate) leaves: IndexSet<GenericArgKind>,
+pub struct LeafCollector {
+    pub leaves: IndexSet<GenericArgKind>,
     /// Whether a where-clause is visited, in which `'static` is not open.
-    pub(crate) in_clause: bool,
+    pub in_clause: bool,
 }
 
 impl LeafCollector {
@@ -137,11 +137,14 @@ impl TypeVisitor for LeafCollector {
     }
 }
 
-/// Puts canonical variables in the place of the listed leaves.
+/// Puts canonical variables in the place of the listed leaves, each by its place in the list.
+///
+/// `Canonicalizer` of the original's solver.
 #[derive(Clone, Copy)]
-pub(crate) struct Canonicalizer<'a> {
-    pub(crate) leaves: &'a IndexSet<GenericArgKind>,
-    pub(crate) in_clause: bool,
+pub struct Canonicalizer<'a> {
+    pub leaves: &'a IndexSet<GenericArgKind>,
+    /// Whether a where-clause is folded, in which `'static` is not open.
+    pub in_clause: bool,
 }
 
 impl Canonicalizer<'_> {
@@ -149,7 +152,8 @@ impl Canonicalizer<'_> {
     fn place(&self, cx: &Interner, leaf: GenericArgKind) -> Result<BoundVar, Fault>
         requires listed { AreLeaves cx.now.entries self.now.leaves.now.keys }
         requires leaf { IsLeaf cx.now.entries leaf }
-        ensures { IfOk result (λ v. v.index ≡ place_of (leaf_label cx.now.entries leaf) (labels cx.now.entries self.now.leaves.now.keys)) }
+        ensures place { IfOk result (λ v. v.index ≡ place_of (leaf_label cx.now.entries leaf) (labels cx.now.entries self.now.leaves.now.keys)) }
+        ensures many { OnErr result (MAX_INDEX ≤ length self.now.leaves.now.keys) }
     {
         cx.lawful();
         let place = match self.leaves.get_index_of(&leaf) {
@@ -167,6 +171,7 @@ impl Canonicalizer<'_> {
 
 impl TypeFolder for Canonicalizer<'_> {
     ghost use Rattle.std.proofs.Common.{refl};
+    ghost use Rattle.type_terms.specs.declared.TheConstants.{MAX_INDEX};
     ghost use Rattle.term_traversal.specs.Folds.{none_above};
     ghost use Rattle.canonical_forms.specs.Leaves.{numbering};
     ghost use Rattle.canonical_forms.specs.LeafLaws.{numbering-bounds, numbering-once, leaves-later, numbering-later};
@@ -174,6 +179,8 @@ impl TypeFolder for Canonicalizer<'_> {
     ghost ready = { λ f es. AreLeaves es f.leaves.now.keys };
 
     ghost action = { λ f es bs t. numbering f.in_clause (labels es f.leaves.now.keys) bs t };
+
+    ghost refuses = { λ f. MAX_INDEX ≤ length f.leaves.now.keys };
 
     ghost fuel = { λ _ _ _. 0 };
 

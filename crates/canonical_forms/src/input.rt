@@ -2,16 +2,20 @@
 ghost use Rattle.std.specs.Prelude.{◌≡◌, ◌↔◌, ℕ, List, IfOk, IsTrue, IsSome, map, Some};
 ghost use Rattle.type_terms.specs.Terms.{Keeps};
 ghost use Rattle.type_terms.specs.Kinds.{ArgsHeld};
+ghost use Rattle.infer_table.specs.Content.{content, Ready};
 ghost use Rattle.infer_table.specs.Canonical.{GoalTrees, canonical_label, goal_leaves, renamed, kind_of_leaf};
-ghost use Rattle.canonical_forms.specs.Goals.{GoalHeld, goal_trees};
-ghost use Rattle.canonical_forms.specs.Leaves.{AreLeaves, AreOpen, labels, leaf_label, IsLeaf};
+ghost use Rattle.canonical_forms.specs.Goals.{GoalHeld, goal_trees, goal_resolved};
+ghost use Rattle.canonical_forms.specs.Leaves.{AreLeaves, AreOpen, OpenAreLeavesOf, labels, leaf_label, IsLeaf};
+ghost use Rattle.canonical_forms.specs.Values.{values_of, goal_filled};
 ghost use Rattle.canonical_forms.specs.Inputs.{IsCanonicalInput, IsWithoutCanonical, IsOneQuestion, AreEqual};
 
 use crate::canonicalizer::{Canonicalizer, LeafCollector};
 use crate::goal::{Goal, fold_clauses};
+use crate::resolving::resolve_goal;
 use indexmap::IndexSet;
 use infer_table::canonical::CanonicalVarKind;
 use infer_table::goal::TypingMode;
+use infer_table::infer_ctxt::InferCtxt;
 use std::alloc::Global;
 use std::ops::ControlFlow;
 use term_traversal::foldable::TypeFoldable;
@@ -50,15 +54,45 @@ pub struct Canonicalized {
     pub values: Vec<GenericArgKind>,
 }
 
-/// The goal in canonical form: each unknown, parameter, placeholder and lifetime numbered by first occurrence.
+/// The goal, resolved, in canonical form: each unknown, parameter, placeholder and lifetime numbered by first occurrence.
 ///
-/// `(?7, ?9, ?7): Show` and `(?3, ?4, ?3): Show` both give `(^0, ^1, ^0): Show`. A parameter and a placeholder are
-/// one kind, and so are all lifetimes; `'static` is numbered too, but not in where-clauses. The goal is to be resolved:
-/// an unknown is numbered whether it has a value or not. The original's `Canonicalizer::canonicalize_input`.
+/// `(?7, ?9, ?7): Show` and `(?3, ?4, ?3): Show` both give `(^0, ^1, ^0): Show`, and so does `(?7, ?9, ?8): Show`
+/// where ?8 stands for ?7. A parameter and a placeholder are one kind, and so are all lifetimes; `'static` is
+/// numbered too, but not in where-clauses. The original's `Canonicalizer::canonicalize_input`.
 ///
 /// A where-clause without unknowns, parameters or lifetimes is one look at its flags; elsewhere `'static` is
 /// looked for, which no flag tells of.
 pub fn canonicalize_goal(
+    alloc: Global,
+    cx: &mut Interner,
+    table: &InferCtxt,
+    mode: TypingMode,
+    goal: &Goal,
+) -> Result<Canonicalized, Fault>
+    requires held { GoalHeld cx.old.entries goal.now }
+    requires ready { Ready cx.old.entries table.now }
+    ensures ready { Ready cx.new.entries table.now }
+    ensures keeps { Keeps cx.old.entries cx.new.entries }
+    ensures limit { cx.new.limit ≡ cx.old.limit }
+    ensures mode { IfOk result (λ r. r.input.mode ≡ mode) }
+
+    // The form is that of the resolved goal's trees.
+    ensures form { IfOk result (λ r. IsCanonicalInput cx.new.entries (goal_resolved (content cx.old.entries table.now.values) (goal_trees cx.old.entries goal.now)) r.input) }
+
+    // The values are the resolved goal's leaves.
+    ensures held { IfOk result (λ r. AreLeaves cx.new.entries r.values.items) }
+    ensures args { IfOk result (λ r. ArgsHeld cx.new.entries r.values.items) }
+    ensures values { IfOk result (λ r. labels cx.new.entries r.values.items ≡ goal_leaves (goal_resolved (content cx.old.entries table.now.values) (goal_trees cx.old.entries goal.now))) }
+
+    // Put in for the variables, they give the resolved goal back.
+    ensures back { IfOk result (λ r. let resolved = goal_resolved (content cx.old.entries table.now.values) (goal_trees cx.old.entries goal.now) in IsWithoutCanonical resolved → goal_filled (values_of cx.new.entries r.values.items) (goal_trees cx.new.entries r.input.goal) ≡ resolved) }
+{
+    let resolved = resolve_goal(alloc, cx, table, goal)?;
+    canonicalize_resolved(alloc, cx, mode, &resolved)
+}
+
+/// `canonicalize_goal` of a goal that is resolved.
+fn canonicalize_resolved(
     alloc: Global,
     cx: &mut Interner,
     mode: TypingMode,
@@ -76,7 +110,11 @@ pub fn canonicalize_goal(
     ensures held { IfOk result (λ r. AreLeaves cx.new.entries r.values.items) }
     ensures args { IfOk result (λ r. ArgsHeld cx.new.entries r.values.items) }
     ensures values { IfOk result (λ r. labels cx.new.entries r.values.items ≡ goal_leaves (goal_trees cx.old.entries goal.now)) }
+
+    // Put in for the variables, they give the goal back.
+    ensures back { IfOk result (λ r. IsWithoutCanonical (goal_trees cx.old.entries goal.now) → goal_filled (values_of cx.new.entries r.values.items) (goal_trees cx.new.entries r.input.goal) ≡ goal_trees cx.old.entries goal.now) }
 {
+    cx.lawful();
     let leaves = collect_leaves(alloc, cx, goal)?;
     let values = Vec::from_slice(alloc, leaves.as_slice())?;
     let variables = variable_kinds(alloc, cx, &values)?;
@@ -98,6 +136,7 @@ fn collect_leaves(
     requires { GoalHeld cx.now.entries goal.now }
     ensures listed { IfOk result (λ s. AreLeaves cx.now.entries s.keys) }
     ensures leaves { IfOk result (λ s. labels cx.now.entries s.keys ≡ goal_leaves (goal_trees cx.now.entries goal.now)) }
+    ensures only { IfOk result (λ s. OpenAreLeavesOf (goal_trees cx.now.entries goal.now)) }
 {
     let mut collector = LeafCollector {
         leaves: IndexSet::new(alloc),
@@ -122,7 +161,9 @@ fn collect_leaves(
 }
 
 /// What each leaf is.
-fn variable_kinds(
+///
+/// Its only fault is `Memory`.
+pub fn variable_kinds(
     alloc: Global,
     cx: &Interner,
     leaves: &[GenericArgKind],

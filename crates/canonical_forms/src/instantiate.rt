@@ -7,11 +7,10 @@ ghost use Rattle.type_terms.specs.Kinds.{ArgsHeld, RegionHeld, region_trees};
 ghost use Rattle.canonical_forms.specs.Goals.{GoalHeld, goal_trees};
 ghost use Rattle.canonical_forms.specs.Values.{values_of, value_for, goal_filled};
 
-use crate::goal::{Goal, fold_clauses};
+use crate::goal::Goal;
 use std::alloc::Global;
 use term_traversal::binders::Binders;
 use term_traversal::fold::Answer;
-use term_traversal::foldable::TypeFoldable;
 use term_traversal::folder::TypeFolder;
 use type_terms::Fault;
 use type_terms::interner::Interner;
@@ -19,10 +18,13 @@ use type_terms::kinds::{Const, ConstKind, GenericArgKind, Ty, TyKind};
 use type_terms::number::{BoundVar, BoundVarIndexKind};
 use type_terms::region::{Region, RegionKind};
 
-/// Puts values in the place of canonical variables.
+/// Puts values in the place of canonical variables. A variable with no value of its sort stays.
+///
+/// `CanonicalInstantiator` of `rustc_type_ir`.
 #[derive(Clone, Copy)]
-struct CanonicalInstantiator<'a> {
-    values: &'a [GenericArgKind],
+pub struct CanonicalInstantiator<'a> {
+    /// Value i is that of canonical variable i.
+    pub values: &'a [GenericArgKind],
 }
 
 impl CanonicalInstantiator<'_> {
@@ -160,8 +162,8 @@ impl TypeFolder for CanonicalInstantiator<'_> {
 /// The goal with value i in the place of canonical variable i.
 ///
 /// A variable with no value of its sort stays. Values lead out of no binder, so none is shifted. With the values
-/// that `canonicalize_goal` gives the goal comes back. The original's `instantiate_canonical`.
-pub fn instantiate_canonical(
+/// that `canonicalize_goal` gives the goal comes back. `Canonical::instantiate` of the original.
+pub fn instantiate_with_values(
     alloc: Global,
     cx: &mut Interner,
     goal: &Goal,
@@ -174,11 +176,5 @@ pub fn instantiate_canonical(
     ensures held { IfOk result (λ r. GoalHeld cx.new.entries r) }
     ensures filled { IfOk result (λ r. goal_trees cx.new.entries r ≡ goal_filled (values_of cx.old.entries values.now) (goal_trees cx.old.entries goal.now)) }
 {
-    let folder = CanonicalInstantiator { values };
-    let predicate = goal.predicate.fold_with(alloc, cx, &folder)?;
-    let param_env = fold_clauses(alloc, cx, &folder, &goal.param_env)?;
-    Ok(Goal {
-        param_env,
-        predicate,
-    })
+    goal.fold_with(alloc, cx, &CanonicalInstantiator { values })
 }

@@ -1,33 +1,5 @@
-use Rattle.std.proofs.Common.{◌≡◌, refl, ap, sym, ◌∙◌, subst}
-use Rattle.canonical_forms.specs.Goals.{environment_trees, predicate_trees}
-use Rattle.canonical_forms.specs.Leaves.{labels, AreLeaves, AreOpen}
-use Rattle.canonical_forms.specs.LeafLaws.{leaves-later, labels-later}
-use Rattle.canonical_forms.proofs.Collections.{goal-open}
-use Rattle.canonical_forms.proofs.LeafFacts.{leaves-held}
+use Rattle.infer_table.specs.Kept.{ready-later}
 use Rattle.canonical_forms.proofs.input.canonicalize_goal.Goals as goal
 
-pub variable_kinds-requires-clause-open : goal.variable_kinds-requires-clause-open
-variable_kinds-requires-clause-open c =
-    let es = c.args.cx.now.entries in
-    let same : c.deref.result.now ≡ c.in_ok-leaves.leaves.keys = c.deref.ensures.value ∙ c.in_ok-values.ensures.items ∙ c.as_slice.ensures.keys in
-    subst AreOpen (sym (ap (labels es) same ∙ c.in_ok-leaves.ensures.leaves)) (goal-open (environment_trees es c.args.goal.now.param_env.items) (predicate_trees es c.args.goal.now.predicate))
-
-pub returns-clause-held : goal.returns-clause-held
-returns-clause-held c =
-    let es = c.args.cx.now.entries in
-    let same : c.in_ok-values.values.items ≡ c.in_ok-leaves.leaves.keys = c.in_ok-values.ensures.items ∙ c.as_slice.ensures.keys in
-    leaves-later es c.number_leaves.new.cx.entries c.number_leaves.ensures.keeps c.in_ok-values.values.items (subst (AreLeaves es) (sym same) c.in_ok-leaves.ensures.listed)
-
-pub returns-clause-values : goal.returns-clause-values
-returns-clause-values c =
-    let es = c.args.cx.now.entries in
-    let same : c.in_ok-values.values.items ≡ c.in_ok-leaves.leaves.keys = c.in_ok-values.ensures.items ∙ c.as_slice.ensures.keys in
-    labels-later es c.number_leaves.new.cx.entries c.number_leaves.ensures.keeps c.in_ok-values.values.items (subst (AreLeaves es) (sym same) c.in_ok-leaves.ensures.listed)
-    ∙ ap (labels es) same ∙ c.in_ok-leaves.ensures.leaves
-
-pub returns-clause-args : goal.returns-clause-args
-returns-clause-args c =
-    let es = c.args.cx.now.entries in
-    let same : c.in_ok-values.values.items ≡ c.in_ok-leaves.leaves.keys = c.in_ok-values.ensures.items ∙ c.as_slice.ensures.keys in
-    leaves-held c.number_leaves.new.cx.entries c.in_ok-values.values.items
-    (leaves-later es c.number_leaves.new.cx.entries c.number_leaves.ensures.keeps c.in_ok-values.values.items (subst (AreLeaves es) (sym same) c.in_ok-leaves.ensures.listed))
+pub returns-clause-ready : goal.returns-clause-ready
+returns-clause-ready c = ready-later c.resolve_goal.new.cx.entries c.canonicalize_resolved.new.cx.entries c.args.table.now c.canonicalize_resolved.ensures.keeps c.resolve_goal.ensures.ready

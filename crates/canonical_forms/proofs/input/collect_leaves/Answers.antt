@@ -1,12 +1,12 @@
-use Rattle.std.proofs.Common.{◌≡◌, ◌≤◌, length, false, [], drop, refl, ap, sym, ◌∙◌, arith}
+use Rattle.std.proofs.Common.{◌≡◌, ◌≤◌, length, false, [], drop, refl, ap, sym, ◌∙◌, subst, arith}
 use Rattle.type_terms.specs.Terms.{trees_at}
 use Rattle.term_folds.specs.Clauses.{ClauseHeld}
 use Rattle.infer_table.specs.Canonical.{kind_in_clause, kind_of_leaf, leaves}
 use Rattle.canonical_forms.specs.Goals.{ClausesHeld, environment_trees}
-use Rattle.canonical_forms.specs.Leaves.{labels}
+use Rattle.canonical_forms.specs.Leaves.{labels, OpenAreLeaves}
 use Rattle.canonical_forms.specs.declared.canonicalizer.LeafCollector.{LeafCollector}
 use Rattle.canonical_forms.proofs.Numbers.{clause-held-at}
-use Rattle.canonical_forms.proofs.Collections.{Collected, clause-collected, predicate-collected, one-more-clause, drop-past}
+use Rattle.canonical_forms.proofs.Collections.{Collected, clause-collected, predicate-collected, one-more-clause, one-more-only, drop-past}
 use Rattle.canonical_forms.proofs.input.collect_leaves.Goals as goal
 
 pub visit_with-requires-clause-held : goal.visit_with-requires-clause-held
@@ -27,6 +27,7 @@ clauses-preserved c =
       in_clause = k.same ∙ inv.in_clause;
       listed = c.visit_with.ensures.ready;
       leaves = one-more-clause es xs c.clauses.clause-index c.clause-item.result c.clauses.collector c.visit_with.new.visitor (leaves kind_in_clause [] (environment_trees es xs)) c.clauses-test.true c.clause-item.is inv.in_clause k inv.leaves;
+      only = λ h. inv.only (one-more-only es xs c.clauses.clause-index c.clause-item.result c.clauses.collector c.visit_with.new.visitor c.clauses-test.true c.clause-item.is inv.in_clause k h);
     }
 
 pub returns-clause-leaves : goal.returns-clause-leaves
@@ -43,3 +44,19 @@ returns-clause-leaves c =
     let before : labels es keys ≡ leaves kind_in_clause [] (environment_trees es c.args.goal.now.param_env.items) =
     ap (λ z. leaves kind_in_clause (labels es keys) (environment_trees es z)) (sym done) ∙ inv.leaves ∙ ap (λ z. leaves kind_in_clause [] (environment_trees es z)) inv.items in
     k.listed ∙ ap (λ z. leaves kind_of_leaf z args) before
+
+pub returns-clause-only : goal.returns-clause-only
+returns-clause-only c =
+    let es = c.args.cx.now.entries in
+    let inv = c.clauses.invariant in
+    let xs = c.deref-clause-items.result.now in
+    let args = trees_at es c.args.goal.now.predicate.trait_ref.args.0 in
+    let v : LeafCollector = record { leaves = c.clauses.collector.leaves; in_clause = false } in
+    let k = predicate-collected es args v c.visit_with-2.new.visitor c.in-Continue-visit_with.ensures.visited in
+    let past : length xs ≤ c.clauses.clause-index = omega arith in
+    let done : drop c.clauses.clause-index xs ≡ [] = drop-past xs c.clauses.clause-index past in
+    let env : OpenAreLeaves kind_in_clause (environment_trees es xs) = inv.only (subst (λ z. OpenAreLeaves kind_in_clause (environment_trees es z)) (sym done) tt) in
+    record {
+      environment = subst (λ z. OpenAreLeaves kind_in_clause (environment_trees es z)) inv.items env;
+      predicate = (λ e. cc, k.only, tt);
+    }

@@ -1,10 +1,11 @@
-use Rattle.std.proofs.Common.{◌≡◌, Bool, true, false, refl, sym, ◌∙◌, ◌&&◌, is_some}
+use Rattle.std.proofs.Common.{ap, Err, arith, ◌≡◌, Bool, true, false, refl, sym, ◌∙◌, ◌&&◌, is_some}
 use Rattle.model.specs.Trees.{Single}
 use Rattle.type_terms.specs.Terms.{trees_at, types}
 use Rattle.type_terms.proofs.Sorts.{type-single}
 use Rattle.term_traversal.specs.Binders.{counts_of}
 use Rattle.term_traversal.specs.Kept.{is-at}
 use Rattle.term_traversal.proofs.FoldFacts.{TyIs}
+use Rattle.term_traversal.proofs.FailFacts.{faulted, refused-term}
 use Rattle.canonical_forms.specs.Leaves.{open_kinds, labels, root_label, is_closed, is_type_label, numbering}
 use Rattle.canonical_forms.proofs.Numbers.{enters-at, stays-at, says-stays, says-enters}
 use Rattle.canonical_forms.proofs.canonicalizer.CanonicalizerTypeFolder.fold_ty.Goals as goal
@@ -58,3 +59,9 @@ returns-else-stays-clause-answer c =
           says-enters (TyIs es) (numbering b ls bs t)
           (enters-at b ls bs t s (c.if-not-is_open_ty.ensures.open b) (second-false (is_type_label (root_label t)) b (is_closed t) w.if-self.false))
     ]
+
+pub returns-in_err-variable-clause-full : goal.returns-in_err-variable-clause-full
+returns-in_err-variable-clause-full c =
+    let refused = c.in_err-variable.ensures in
+    faulted _ c.from_residual-in_err-variable.result c.from_residual-in_err-variable.ensures.1
+    (λ q. refused-term types (omega arith) (refused.full (ap Err q)) refused.limit refused.refused)

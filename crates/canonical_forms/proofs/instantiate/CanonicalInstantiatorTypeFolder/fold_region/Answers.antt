@@ -6,8 +6,8 @@ use Rattle.canonical_forms.specs.Values.{values_of, value_for, put_if_there}
 use Rattle.canonical_forms.proofs.Numbers.{says-stays}
 use Rattle.canonical_forms.proofs.instantiate.CanonicalInstantiatorTypeFolder.fold_region.Goals as goal
 
-pub returns-in-Some : goal.returns-in-Some
-returns-in-Some c =
+pub returns-in-Some-clause-answer : goal.returns-in-Some-clause-answer
+returns-in-Some-clause-answer c =
     let es = c.args._cx.now.entries in
     let vs = values_of es c.args.self.now.values.now in
     let v = c.in-Some.value in
