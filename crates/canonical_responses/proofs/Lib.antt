@@ -1,0 +1,2 @@
+pub mod ConstraintLists
+pub mod Values

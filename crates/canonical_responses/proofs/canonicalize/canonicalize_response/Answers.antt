@@ -1,0 +1,175 @@
+use Rattle.std.proofs.Common.{◌≡◌, ap, sym, ◌∙◌, subst, false, []}
+use Rattle.std.specs.Prelude.{map}
+use Rattle.model.specs.Trees.{none, ◌+++◌}
+use Rattle.type_terms.specs.Terms.{Keeps, args_lists, trees_at}
+use Rattle.type_terms.specs.Kinds.{args_trees}
+use Rattle.term_traversal.specs.Kept.{append-both, trees-is, trees-later}
+use Rattle.infer_table.specs.Canonical.{kind_of_leaf, canonical_label}
+use Rattle.infer_table.specs.Solutions.{resolved}
+use Rattle.infer_table.specs.Content.{content}
+use Rattle.infer_table.specs.Kept.{content-kept, ready-later, constraints-kept}
+use Rattle.infer_table.specs.Constraints.{constraints_trees}
+use Rattle.infer_table.proofs.SolutionLaws.{resolved-append}
+use Rattle.canonical_forms.specs.Leaves.{labels, AreOpen}
+use Rattle.canonical_forms.specs.LeafLaws.{leaves-later, labels-later}
+use Rattle.canonical_forms.proofs.Collections.{goal-open}
+use Rattle.canonical_forms.proofs.Numbers.{numbered-fold, relabeled-append}
+use Rattle.canonical_responses.specs.Responses.{answer_leaves, numbered_by}
+use Rattle.canonical_responses.proofs.ConstraintLists.{constraints-later, constraints-numbered, one-piece-is, form-same}
+use Rattle.canonical_responses.proofs.canonicalize.canonicalize_response.Goals as goal
+
+pub eager_resolve_vars-requires-clause-ready : goal.eager_resolve_vars-requires-clause-ready
+eager_resolve_vars-requires-clause-ready c = ready-later c.args.cx.now.entries c.mk_args.new.self.entries c.args.table.now c.mk_args.ensures.keeps c.requires.ready
+
+pub variable_kinds-requires-clause-open : goal.variable_kinds-requires-clause-open
+variable_kinds-requires-clause-open c =
+    let now = c.resolve_constraints.new.cx.entries in
+    subst AreOpen (sym (ap (labels now) c.as_slice.ensures.keys ∙ c.in_ok-leaves.ensures.leaves)) (goal-open none (trees_at now c.in_ok-resolved.resolved.0 +++ constraints_trees now c.deref.result.now))
+
+pub returns-in_err-variables-clause-keeps : goal.returns-in_err-variables-clause-keeps
+returns-in_err-variables-clause-keeps c =
+    λ i x h. c.resolve_constraints.ensures.keeps i x (c.eager_resolve_vars.ensures.keeps i x (c.mk_args.ensures.keeps i x h))
+
+pub returns-in_err-numbered-clause-keeps : goal.returns-in_err-numbered-clause-keeps
+returns-in_err-numbered-clause-keeps c =
+    λ i x h. c.fold_with.ensures.keeps i x (c.resolve_constraints.ensures.keeps i x (c.eager_resolve_vars.ensures.keeps i x (c.mk_args.ensures.keeps i x h)))
+
+pub fold_constraints-requires-clause-ready : goal.fold_constraints-requires-clause-ready
+fold_constraints-requires-clause-ready c =
+    leaves-later c.resolve_constraints.new.cx.entries c.fold_with.new.cx.entries c.fold_with.ensures.keeps c.in_ok-leaves.leaves.keys c.in_ok-leaves.ensures.listed
+
+pub fold_constraints-requires-clause-held : goal.fold_constraints-requires-clause-held
+fold_constraints-requires-clause-held c =
+    rw c.deref-2.ensures.value (constraints-kept c.resolve_constraints.new.cx.entries c.fold_with.new.cx.entries c.in_ok-constraints.constraints.items c.fold_with.ensures.keeps c.in_ok-constraints.ensures.held)
+
+pub returns-in_err-region_constraints-clause-keeps : goal.returns-in_err-region_constraints-clause-keeps
+returns-in_err-region_constraints-clause-keeps c =
+    λ i x h. c.fold_constraints.ensures.keeps i x (c.fold_with.ensures.keeps i x (c.resolve_constraints.ensures.keeps i x (c.eager_resolve_vars.ensures.keeps i x (c.mk_args.ensures.keeps i x h))))
+
+pub returns-in_err-var_values-clause-keeps : goal.returns-in_err-var_values-clause-keeps
+returns-in_err-var_values-clause-keeps c =
+    λ i x h. c.fold_constraints.ensures.keeps i x (c.fold_with.ensures.keeps i x (c.resolve_constraints.ensures.keeps i x (c.eager_resolve_vars.ensures.keeps i x (c.mk_args.ensures.keeps i x h))))
+
+pub returns-clause-keeps : goal.returns-clause-keeps
+returns-clause-keeps c =
+    λ i x h. c.fold_constraints.ensures.keeps i x (c.fold_with.ensures.keeps i x (c.resolve_constraints.ensures.keeps i x (c.eager_resolve_vars.ensures.keeps i x (c.mk_args.ensures.keeps i x h))))
+
+pub returns-clause-values : goal.returns-clause-values
+returns-clause-values c =
+    let es = c.args.cx.now.entries in
+    let made = c.mk_args.new.self.entries in
+    let solved = c.eager_resolve_vars.new.cx.entries in
+    let now = c.resolve_constraints.new.cx.entries in
+    let next = c.fold_with.new.cx.entries in
+    let end = c.fold_constraints.new.cx.entries in
+    let ps = c.args.table.now.values in
+    let cs = c.args.table.now.constraints in
+    let bs = content es ps in
+    let V = args_trees es c.args.values.now in
+    let C = constraints_trees es cs in
+    let keys = c.in_ok-leaves.leaves.keys in
+    let to-solved : Keeps es solved = λ i x h. c.eager_resolve_vars.ensures.keeps i x (c.mk_args.ensures.keeps i x h) in
+    let values : trees_at now c.in_ok-resolved.resolved.0 ≡ resolved bs V =
+    trees-later solved now c.resolve_constraints.ensures.keeps args_lists c.in_ok-resolved.resolved.0 c.in_ok-resolved.ensures.held
+    ∙ one-piece-is _ _ c.in_ok-resolved.ensures.resolved
+    ∙ ap (λ z. resolved (content made ps) z) (trees-is made args_lists c.in_ok-given.given.0 _ c.in_ok-given.ensures.is ∙ ap (args_trees es) c.in_ok-from_slice.ensures.items)
+    ∙ ap (λ z. resolved z V) (content-kept es made ps c.mk_args.ensures.keeps c.requires.ready.held) in
+    let constraints : constraints_trees now c.in_ok-constraints.constraints.items ≡ resolved bs C =
+    c.in_ok-constraints.ensures.resolved
+    ∙ ap (λ z. resolved (content solved ps) (constraints_trees solved z)) c.region_constraints.ensures
+    ∙ ap (resolved (content solved ps)) (constraints-later es solved to-solved cs c.requires.ready.constraints_held)
+    ∙ ap (λ z. resolved z C) (content-kept es solved ps to-solved c.requires.ready.held) in
+    let listed : labels now keys ≡ answer_leaves (resolved bs (V +++ C)) =
+    c.in_ok-leaves.ensures.leaves
+    ∙ ap answer_leaves (append-both _ _ _ _ values (ap (constraints_trees now) c.deref.ensures.value ∙ constraints) ∙ sym (resolved-append bs V C)) in
+    let numbered-values : args_trees end c.in_ok-var_values.var_values.items ≡ numbered_by (answer_leaves (resolved bs (V +++ C))) (resolved bs V) =
+    ap (args_trees end) c.in_ok-var_values.ensures.items
+    ∙ sym (trees-is end args_lists c.in_ok-numbered.numbered.0 _ c.args-2.ensures.is)
+    ∙ trees-later next end c.fold_constraints.ensures.keeps args_lists c.in_ok-numbered.numbered.0 c.in_ok-numbered.ensures.held
+    ∙ numbered-fold false (labels now keys) [] _ _ c.in_ok-numbered.ensures.folded.1
+    ∙ ap (λ z. numbered_by z (trees_at now c.in_ok-resolved.resolved.0)) listed
+    ∙ ap (numbered_by (answer_leaves (resolved bs (V +++ C)))) values in
+    numbered-values
+
+pub returns-clause-constraints : goal.returns-clause-constraints
+returns-clause-constraints c =
+    let es = c.args.cx.now.entries in
+    let made = c.mk_args.new.self.entries in
+    let solved = c.eager_resolve_vars.new.cx.entries in
+    let now = c.resolve_constraints.new.cx.entries in
+    let next = c.fold_with.new.cx.entries in
+    let end = c.fold_constraints.new.cx.entries in
+    let ps = c.args.table.now.values in
+    let cs = c.args.table.now.constraints in
+    let bs = content es ps in
+    let V = args_trees es c.args.values.now in
+    let C = constraints_trees es cs in
+    let keys = c.in_ok-leaves.leaves.keys in
+    let to-solved : Keeps es solved = λ i x h. c.eager_resolve_vars.ensures.keeps i x (c.mk_args.ensures.keeps i x h) in
+    let values : trees_at now c.in_ok-resolved.resolved.0 ≡ resolved bs V =
+    trees-later solved now c.resolve_constraints.ensures.keeps args_lists c.in_ok-resolved.resolved.0 c.in_ok-resolved.ensures.held
+    ∙ one-piece-is _ _ c.in_ok-resolved.ensures.resolved
+    ∙ ap (λ z. resolved (content made ps) z) (trees-is made args_lists c.in_ok-given.given.0 _ c.in_ok-given.ensures.is ∙ ap (args_trees es) c.in_ok-from_slice.ensures.items)
+    ∙ ap (λ z. resolved z V) (content-kept es made ps c.mk_args.ensures.keeps c.requires.ready.held) in
+    let constraints : constraints_trees now c.in_ok-constraints.constraints.items ≡ resolved bs C =
+    c.in_ok-constraints.ensures.resolved
+    ∙ ap (λ z. resolved (content solved ps) (constraints_trees solved z)) c.region_constraints.ensures
+    ∙ ap (resolved (content solved ps)) (constraints-later es solved to-solved cs c.requires.ready.constraints_held)
+    ∙ ap (λ z. resolved z C) (content-kept es solved ps to-solved c.requires.ready.held) in
+    let listed : labels now keys ≡ answer_leaves (resolved bs (V +++ C)) =
+    c.in_ok-leaves.ensures.leaves
+    ∙ ap answer_leaves (append-both _ _ _ _ values (ap (constraints_trees now) c.deref.ensures.value ∙ constraints) ∙ sym (resolved-append bs V C)) in
+    let numbered-constraints : constraints_trees end c.in_ok-region_constraints.region_constraints.items ≡ numbered_by (answer_leaves (resolved bs (V +++ C))) (resolved bs C) =
+    constraints-numbered (labels next keys) next end c.deref-2.result.now c.in_ok-region_constraints.region_constraints.items c.in_ok-region_constraints.ensures.folded
+    ∙ ap (λ z. numbered_by z (constraints_trees next c.deref-2.result.now)) (labels-later now next c.fold_with.ensures.keeps keys c.in_ok-leaves.ensures.listed ∙ listed)
+    ∙ ap (λ z. numbered_by (answer_leaves (resolved bs (V +++ C))) (constraints_trees next z)) c.deref-2.ensures.value
+    ∙ ap (numbered_by (answer_leaves (resolved bs (V +++ C)))) (constraints-later now next c.fold_with.ensures.keeps c.in_ok-constraints.constraints.items c.in_ok-constraints.ensures.held ∙ constraints) in
+    numbered-constraints
+
+pub returns-clause-form : goal.returns-clause-form
+returns-clause-form c =
+    let es = c.args.cx.now.entries in
+    let made = c.mk_args.new.self.entries in
+    let solved = c.eager_resolve_vars.new.cx.entries in
+    let now = c.resolve_constraints.new.cx.entries in
+    let next = c.fold_with.new.cx.entries in
+    let end = c.fold_constraints.new.cx.entries in
+    let ps = c.args.table.now.values in
+    let cs = c.args.table.now.constraints in
+    let bs = content es ps in
+    let V = args_trees es c.args.values.now in
+    let C = constraints_trees es cs in
+    let keys = c.in_ok-leaves.leaves.keys in
+    let to-solved : Keeps es solved = λ i x h. c.eager_resolve_vars.ensures.keeps i x (c.mk_args.ensures.keeps i x h) in
+    let values : trees_at now c.in_ok-resolved.resolved.0 ≡ resolved bs V =
+    trees-later solved now c.resolve_constraints.ensures.keeps args_lists c.in_ok-resolved.resolved.0 c.in_ok-resolved.ensures.held
+    ∙ one-piece-is _ _ c.in_ok-resolved.ensures.resolved
+    ∙ ap (λ z. resolved (content made ps) z) (trees-is made args_lists c.in_ok-given.given.0 _ c.in_ok-given.ensures.is ∙ ap (args_trees es) c.in_ok-from_slice.ensures.items)
+    ∙ ap (λ z. resolved z V) (content-kept es made ps c.mk_args.ensures.keeps c.requires.ready.held) in
+    let constraints : constraints_trees now c.in_ok-constraints.constraints.items ≡ resolved bs C =
+    c.in_ok-constraints.ensures.resolved
+    ∙ ap (λ z. resolved (content solved ps) (constraints_trees solved z)) c.region_constraints.ensures
+    ∙ ap (resolved (content solved ps)) (constraints-later es solved to-solved cs c.requires.ready.constraints_held)
+    ∙ ap (λ z. resolved z C) (content-kept es solved ps to-solved c.requires.ready.held) in
+    let listed : labels now keys ≡ answer_leaves (resolved bs (V +++ C)) =
+    c.in_ok-leaves.ensures.leaves
+    ∙ ap answer_leaves (append-both _ _ _ _ values (ap (constraints_trees now) c.deref.ensures.value ∙ constraints) ∙ sym (resolved-append bs V C)) in
+    let numbered-values : args_trees end c.in_ok-var_values.var_values.items ≡ numbered_by (answer_leaves (resolved bs (V +++ C))) (resolved bs V) =
+    ap (args_trees end) c.in_ok-var_values.ensures.items
+    ∙ sym (trees-is end args_lists c.in_ok-numbered.numbered.0 _ c.args-2.ensures.is)
+    ∙ trees-later next end c.fold_constraints.ensures.keeps args_lists c.in_ok-numbered.numbered.0 c.in_ok-numbered.ensures.held
+    ∙ numbered-fold false (labels now keys) [] _ _ c.in_ok-numbered.ensures.folded.1
+    ∙ ap (λ z. numbered_by z (trees_at now c.in_ok-resolved.resolved.0)) listed
+    ∙ ap (numbered_by (answer_leaves (resolved bs (V +++ C)))) values in
+    let numbered-constraints : constraints_trees end c.in_ok-region_constraints.region_constraints.items ≡ numbered_by (answer_leaves (resolved bs (V +++ C))) (resolved bs C) =
+    constraints-numbered (labels next keys) next end c.deref-2.result.now c.in_ok-region_constraints.region_constraints.items c.in_ok-region_constraints.ensures.folded
+    ∙ ap (λ z. numbered_by z (constraints_trees next c.deref-2.result.now)) (labels-later now next c.fold_with.ensures.keeps keys c.in_ok-leaves.ensures.listed ∙ listed)
+    ∙ ap (λ z. numbered_by (answer_leaves (resolved bs (V +++ C))) (constraints_trees next z)) c.deref-2.ensures.value
+    ∙ ap (numbered_by (answer_leaves (resolved bs (V +++ C)))) (constraints-later now next c.fold_with.ensures.keeps c.in_ok-constraints.constraints.items c.in_ok-constraints.ensures.held ∙ constraints) in
+    let P = resolved bs (V +++ C) in
+    let ls = answer_leaves P in
+    let trees =
+    append-both _ _ _ _ numbered-values numbered-constraints
+    ∙ sym (relabeled-append false (canonical_label ls) (resolved bs V) (resolved bs C))
+    ∙ ap (numbered_by ls) (sym (resolved-append bs V C)) in
+    form-same _ _ _ _ trees (c.in_ok-variables.ensures ∙ ap (λ z. map kind_of_leaf (labels now z)) c.as_slice.ensures.keys ∙ ap (map kind_of_leaf) listed)

@@ -1,0 +1,289 @@
+//! Answers applied to the goal that was asked.
+ghost use Rattle.std.specs.Prelude.{◌≡◌, List, ◌++◌, IfOk, IfSome, OnOk, OnErr, Err, unwrap_or, option_map};
+ghost use Rattle.model.specs.Label.{Sort};
+ghost use Rattle.type_terms.specs.Terms.{Entry, Keeps, Has, args_lists};
+ghost use Rattle.type_terms.specs.Kinds.{ArgHeld, ArgsHeld, args_trees, bound_label};
+ghost use Rattle.infer_table.specs.Solutions.{Equates, HasNoSolution};
+ghost use Rattle.infer_table.specs.Content.{content, Ready, Grows, AllConstraintsHeld};
+ghost use Rattle.infer_table.specs.Constraints.{constraints_trees};
+ghost use Rattle.canonical_forms.specs.Leaves.{leaf_label};
+ghost use Rattle.canonical_forms.specs.Values.{value_of, values_of, filled};
+ghost use Rattle.canonical_responses.specs.Responses.{ResponseHeld, Records};
+ghost use Rattle.canonical_responses.specs.Applying.{is_numbered, original_of, next_unknown, with_unknown, table_after, applied_values};
+
+use crate::constraints::fold_constraints;
+use canonical_forms::instantiate::CanonicalInstantiator;
+use canonical_forms::response::CanonicalResponse;
+use infer_table::canonical::CanonicalVarKind;
+use infer_table::goal::EqError;
+use infer_table::infer_ctxt::InferCtxt;
+use infer_table::terms::RegionConstraint;
+use std::alloc::Global;
+use term_traversal::foldable::TypeFoldable;
+use type_terms::Fault;
+use type_terms::interner::Interner;
+use type_terms::kinds::{ConstKind, GenericArgKind, TyKind};
+use type_terms::number::{BoundVar, BoundVarIndexKind};
+use type_terms::region::RegionKind;
+
+/// The variable is the canonical one of this number.
+fn is_number(index: BoundVarIndexKind, variable: BoundVar, number: usize) -> bool
+    ensures { (s : Sort) → result ≡ is_numbered number (bound_label s index variable) }
+{
+    match index {
+        BoundVarIndexKind::Canonical => variable.index as usize == number,
+        BoundVarIndexKind::Bound(_) => false,
+    }
+}
+
+/// The value is the canonical variable of this number.
+fn is_variable(cx: &Interner, value: GenericArgKind, number: usize) -> bool
+    requires { ArgHeld cx.now.entries value }
+    ensures { result ≡ is_numbered number (leaf_label cx.now.entries value) }
+{
+    match value {
+        GenericArgKind::Lifetime(region) => match region.kind {
+            RegionKind::ReBound(index, variable) => is_number(index, variable, number),
+            _ => false,
+        },
+        GenericArgKind::Ty(ty) => match cx.kind(ty) {
+            TyKind::Bound(index, variable) => is_number(index, variable, number),
+            _ => false,
+        },
+        GenericArgKind::Const(ct) => match cx.const_kind(ct) {
+            ConstKind::Bound(index, variable) => is_number(index, variable, number),
+            _ => false,
+        },
+    }
+}
+
+/// The original value at the first place where the answer's value is the variable of this number.
+fn original_value(
+    cx: &Interner,
+    number: usize,
+    values: &[GenericArgKind],
+    originals: &[GenericArgKind],
+) -> Option<GenericArgKind>
+    requires values { ArgsHeld cx.now.entries values.now }
+    requires originals { ArgsHeld cx.now.entries originals.now }
+    ensures is { result ≡ original_of cx.now.entries number values.now originals.now }
+    ensures held { IfSome result (λ a. ArgHeld cx.now.entries a) }
+{
+    if let [value, values @ ..] = values {
+        if let [original, originals @ ..] = originals {
+            if is_variable(cx, *value, number) {
+                return Some(*original);
+            }
+            return original_value(cx, number, values, originals);
+        }
+    }
+    None
+}
+
+/// A new unknown of this kind.
+fn new_unknown(
+    table: &mut InferCtxt,
+    cx: &mut Interner,
+    kind: CanonicalVarKind,
+) -> Result<GenericArgKind, Fault>
+    requires ready { Ready cx.old.entries table.old }
+    ensures ready { Ready cx.new.entries table.new }
+    ensures keeps { Keeps cx.old.entries cx.new.entries }
+    ensures limit { cx.new.limit ≡ cx.old.limit }
+    ensures is { IfOk result (λ a. value_of cx.new.entries a ≡ next_unknown table.old kind) }
+    ensures held { IfOk result (λ a. ArgHeld cx.new.entries a) }
+    ensures made { OnOk result (table.new ≡ with_unknown table.old kind) }
+    ensures refused { OnErr result (table.new ≡ table.old) }
+{
+    match kind {
+        CanonicalVarKind::Ty | CanonicalVarKind::PlaceholderTy => {
+            let ty = table.next_ty_var(cx)?;
+            Ok(GenericArgKind::Ty(ty))
+        }
+        CanonicalVarKind::Const | CanonicalVarKind::PlaceholderConst => {
+            let ct = table.next_const_var(cx)?;
+            Ok(GenericArgKind::Const(ct))
+        }
+        CanonicalVarKind::Region => {
+            let region = table.next_region_var()?;
+            Ok(GenericArgKind::Lifetime(region))
+        }
+    }
+}
+
+/// The value, or where there is none a new unknown of this kind.
+fn value_or_unknown(
+    table: &mut InferCtxt,
+    cx: &mut Interner,
+    known: Option<GenericArgKind>,
+    kind: CanonicalVarKind,
+) -> Result<GenericArgKind, Fault>
+    requires ready { Ready cx.old.entries table.old }
+    requires known { IfSome known (λ a. ArgHeld cx.old.entries a) }
+    ensures ready { Ready cx.new.entries table.new }
+    ensures keeps { Keeps cx.old.entries cx.new.entries }
+    ensures limit { cx.new.limit ≡ cx.old.limit }
+    ensures is { IfOk result (λ a. value_of cx.new.entries a ≡ unwrap_or (option_map (value_of cx.old.entries) known) (next_unknown table.old kind)) }
+    ensures held { IfOk result (λ a. ArgHeld cx.new.entries a) }
+    ensures made { OnOk result (table.new ≡ table_after (option_map (value_of cx.old.entries) known) table.old kind) }
+    ensures refused { OnErr result (table.new ≡ table.old) }
+{
+    match known {
+        Some(value) => Ok(value),
+        None => new_unknown(table, cx, kind),
+    }
+}
+
+/// What is put in for the answer's variables: the goal's own value where the answer's is the variable itself, and else
+/// a new unknown.
+fn values_to_apply(
+    alloc: Global,
+    cx: &mut Interner,
+    table: &mut InferCtxt,
+    original_values: &[GenericArgKind],
+    response: &CanonicalResponse,
+) -> Result<Vec<GenericArgKind>, Fault>
+    requires values { ArgsHeld cx.old.entries original_values.now }
+    requires response { ResponseHeld cx.old.entries response.now }
+    requires ready { Ready cx.old.entries table.old }
+    ensures ready { Ready cx.new.entries table.new }
+    ensures keeps { Keeps cx.old.entries cx.new.entries }
+    ensures limit { cx.new.limit ≡ cx.old.limit }
+    ensures bindings { table.new.values ≡ table.old.values }
+    ensures constraints { table.new.constraints ≡ table.old.constraints }
+    ensures held { IfOk result (λ r. ArgsHeld cx.new.entries r.items) }
+    ensures values { IfOk result (λ r. values_of cx.new.entries r.items ≡ applied_values cx.old.entries table.old original_values.now response.now) }
+{
+    let mut values = Vec::new(alloc);
+    for (number, kind) in response.variables.iter().enumerate() {
+        let known = original_value(cx, number, &response.var_values, original_values);
+        let value = value_or_unknown(table, cx, known, *kind)?;
+        values.push(value)?;
+    }
+    Ok(values)
+}
+
+/// Makes each value equal to the one in its place; lists of two lengths have no solution.
+fn equate_values(
+    cx: &mut Interner,
+    table: &mut InferCtxt,
+    left: &[GenericArgKind],
+    right: &[GenericArgKind],
+) -> Result<(), EqError>
+    requires left { ArgsHeld cx.old.entries left.now }
+    requires right { ArgsHeld cx.old.entries right.now }
+    requires ready { Ready cx.old.entries table.old }
+    ensures ready { Ready cx.new.entries table.new }
+    ensures grows { Grows table.old table.new }
+    ensures keeps { Keeps cx.old.entries cx.new.entries }
+    ensures limit { cx.new.limit ≡ cx.old.limit }
+    ensures equates { OnOk result (Equates (content cx.old.entries table.old.values) (content cx.new.entries table.new.values) (args_trees cx.old.entries left.now) (args_trees cx.old.entries right.now)) }
+    ensures never { result ≡ Err EqError.NoSolution → HasNoSolution (content cx.old.entries table.old.values) (args_trees cx.old.entries left.now) (args_trees cx.old.entries right.now) }
+{
+    cx.lawful();
+    match left {
+        [] => match right {
+            [] => Ok(()),
+            [_, ..] => Err(EqError::NoSolution),
+        },
+        [first, rest @ ..] => match right {
+            [] => Err(EqError::NoSolution),
+            [other, others @ ..] => {
+                match table.eq(cx, *first, *other) {
+                    Ok(()) => equate_values(cx, table, rest, others),
+                    Err(error) => Err(error),
+                }
+            }
+        },
+    }
+}
+
+/// Records the constraints, in order.
+fn record_constraints(table: &mut InferCtxt, constraints: &[RegionConstraint]) -> Result<(), Fault>
+    ensures ready { (es : List Entry) → Ready es table.old → AllConstraintsHeld es constraints.now → Ready es table.new }
+    ensures grows { Grows table.old table.new }
+    ensures bindings { table.new.values ≡ table.old.values }
+    ensures recorded { OnOk result (table.new.constraints ≡ table.old.constraints ++ constraints.now) }
+{
+    match constraints {
+        [] => Ok(()),
+        [first, rest @ ..] => {
+            table.register_region_constraint(*first)?;
+            record_constraints(table, rest)
+        }
+    }
+}
+
+/// Equates the values and records the constraints.
+fn apply(
+    alloc: Global,
+    cx: &mut Interner,
+    table: &mut InferCtxt,
+    original_values: &[GenericArgKind],
+    response: &CanonicalResponse,
+) -> Result<(), EqError>
+    requires values { ArgsHeld cx.old.entries original_values.now }
+    requires response { ResponseHeld cx.old.entries response.now }
+    requires ready { Ready cx.old.entries table.old }
+    ensures ready { Ready cx.new.entries table.new }
+    ensures grows { Grows table.old table.new }
+    ensures keeps { Keeps cx.old.entries cx.new.entries }
+    ensures limit { cx.new.limit ≡ cx.old.limit }
+    ensures equates { OnOk result (Equates (content cx.old.entries table.old.values) (content cx.new.entries table.new.values) (args_trees cx.old.entries original_values.now) (filled (applied_values cx.old.entries table.old original_values.now response.now) (args_trees cx.old.entries response.now.var_values.items))) }
+    ensures never { result ≡ Err EqError.NoSolution → HasNoSolution (content cx.old.entries table.old.values) (args_trees cx.old.entries original_values.now) (filled (applied_values cx.old.entries table.old original_values.now response.now) (args_trees cx.old.entries response.now.var_values.items)) }
+    ensures constraints { OnOk result (Records cx.new.entries table.old.constraints table.new.constraints (filled (applied_values cx.old.entries table.old original_values.now response.now) (constraints_trees cx.old.entries response.now.region_constraints.items))) }
+{
+    let values = values_to_apply(alloc, cx, table, original_values, response)?;
+    let folder = CanonicalInstantiator { values: &values };
+    let filled = cx.mk_args(Vec::from_slice(alloc, &response.var_values)?)?;
+    let filled = filled.fold_with(alloc, cx, &folder)?;
+    let constraints = fold_constraints(alloc, cx, &folder, &response.region_constraints)?;
+    let filled = Vec::from_slice(alloc, cx.args(filled))?;
+    match equate_values(cx, table, original_values, &filled) {
+        Ok(()) => Ok(record_constraints(table, &constraints)?),
+        Err(error) => Err(error),
+    }
+}
+
+/// Applies an answer to the goal that was asked, whose values these are.
+///
+/// For each of the answer's variables stands the goal's own value where the answer's value is the variable itself, the
+/// first such; for any other a new unknown of its kind. Then each of the goal's values is made equal to the answer's,
+/// and the answer's constraints on lifetimes are recorded after those that this records. Two lifetimes that differ
+/// are recorded as equal and refuse nothing.
+///
+/// Afterwards the solutions of the table are those from before that make the values equal; `NoSolution` comes exactly
+/// where there is none. After a refusal the table is as it was; the interner may hold more terms.
+/// `instantiate_and_apply_query_response` of the original.
+pub fn instantiate_and_apply_query_response(
+    alloc: Global,
+    cx: &mut Interner,
+    table: &mut InferCtxt,
+    original_values: &[GenericArgKind],
+    response: &CanonicalResponse,
+) -> Result<(), EqError>
+    requires values { ArgsHeld cx.old.entries original_values.now }
+    requires response { ResponseHeld cx.old.entries response.now }
+    requires ready { Ready cx.old.entries table.old }
+    ensures ready { Ready cx.new.entries table.new }
+    ensures grows { Grows table.old table.new }
+    ensures keeps { Keeps cx.old.entries cx.new.entries }
+    ensures limit { cx.new.limit ≡ cx.old.limit }
+
+    // The solutions are those from before that make the values equal, and there is none where it says so.
+    ensures equates { OnOk result (Equates (content cx.old.entries table.old.values) (content cx.new.entries table.new.values) (args_trees cx.old.entries original_values.now) (filled (applied_values cx.old.entries table.old original_values.now response.now) (args_trees cx.old.entries response.now.var_values.items))) }
+    ensures never { result ≡ Err EqError.NoSolution → HasNoSolution (content cx.old.entries table.old.values) (args_trees cx.old.entries original_values.now) (filled (applied_values cx.old.entries table.old original_values.now response.now) (args_trees cx.old.entries response.now.var_values.items)) }
+
+    // The answer's constraints come last.
+    ensures constraints { OnOk result (Records cx.new.entries table.old.constraints table.new.constraints (filled (applied_values cx.old.entries table.old original_values.now response.now) (constraints_trees cx.old.entries response.now.region_constraints.items))) }
+    ensures refused { OnErr result (table.new ≡ table.old) }
+{
+    let place = table.snapshot()?;
+    match apply(alloc, cx, table, original_values, response) {
+        Ok(()) => Ok(()),
+        Err(error) => {
+            table.roll_back(place);
+            Err(error)
+        }
+    }
+}
