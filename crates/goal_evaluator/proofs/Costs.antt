@@ -1,7 +1,7 @@
 -- How much a frame asks.
 use Rattle.std.proofs.Common.{◌≡◌, ℕ, zero, suc, ◌+◌, ◌-◌, ◌*◌, ◌≤◌, Bool, true, false, List, [], ◌∷◌, length, refl, ◌∙◌, ap, Option, Some, None, arith}
 use Rattle.std.proofs.Math.Nat.{suc-mul, mul-add}
-use Rattle.goal_evaluator.specs.declared.certainty.Certainty.{Certainty}
+use Rattle.infer_table.specs.declared.goal.Certainty.{Certainty}
 use Rattle.goal_evaluator.specs.Lists.{IsNoneOf}
 use Rattle.goal_evaluator.specs.Script.{followed}
 use Rattle.goal_evaluator.specs.Table.{Tables, is_yes}

@@ -1,8 +1,8 @@
 -- The frame of a lawful handler: a yes follows from its questions, what covers its questions covers the goal, and it ignores
 -- each candidate once.
 use Rattle.std.proofs.Common.{◌≡◌, ℕ, zero, suc, List, [], ◌∷◌, map, inl, inr, refl, sym, ap, subst, Option, Some}
-use Rattle.goal_evaluator.specs.declared.certainty.Certainty.TheVariants.{Yes, Maybe}
-use Rattle.goal_evaluator.specs.declared.certainty.MaybeCause.TheVariants.{Ambiguity}
+use Rattle.infer_table.specs.declared.goal.Certainty.TheVariants.{Yes, Maybe}
+use Rattle.infer_table.specs.declared.goal.MaybeCause.TheVariants.{Ambiguity}
 use Rattle.goal_evaluator.specs.Lists.{Every, SomeOf, IsAmong, IsNoneOf, IsDistinct}
 use Rattle.goal_evaluator.specs.Frame.{Finished, numbers}
 use Rattle.goal_evaluator.specs.Table.{Tables, IsTable}

@@ -1,11 +1,11 @@
 -- One candidate: nothing is gained. Where its response is a definite yes, each instance of the goal is one of the candidate's rule,
 -- and each of its nested goals is an instance of a question that was answered by a definite yes.
 use Rattle.std.proofs.Common.{◌≡◌, ℕ, zero, suc, Bool, true, false, not, List, [], ◌∷◌, ◌⊎◌, inl, inr, refl, sym, ◌∙◌, ap, subst, Option, Some, None}
-use Rattle.goal_evaluator.specs.declared.certainty.Certainty.{Certainty}
-use Rattle.goal_evaluator.specs.declared.certainty.Certainty.TheVariants.{Yes, Maybe}
-use Rattle.goal_evaluator.specs.declared.certainty.MaybeCause.TheVariants.{Ambiguity, Overflow}
+use Rattle.infer_table.specs.declared.goal.Certainty.{Certainty}
+use Rattle.infer_table.specs.declared.goal.Certainty.TheVariants.{Yes, Maybe}
+use Rattle.infer_table.specs.declared.goal.MaybeCause.TheVariants.{Ambiguity, Overflow}
 use Rattle.goal_evaluator.specs.Lists.{Every, SomeOf, IsAmong}
-use Rattle.goal_evaluator.specs.Certainties.{joined, unsettled, is_certain}
+use Rattle.infer_table.specs.Certainties.{joined, unsettled, is_certain}
 use Rattle.goal_evaluator.specs.Table.{Tables, is_yes, Narrows, IsFree, IsDetermined, IsTable}
 use Rattle.goal_evaluator.specs.Rounds.{Round, Rounds, kept, judged, applied, replied, round, settled, next_round, rounds}
 use Rattle.goal_evaluator.specs.Candidate.{Spec, answered, equated, candidate}

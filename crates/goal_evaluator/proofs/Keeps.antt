@@ -1,8 +1,8 @@
 -- One candidate: nothing is lost. Where each answer covers its question, the response covers the solutions by the candidate.
 use Rattle.std.proofs.Common.{◌≡◌, ℕ, zero, suc, Bool, true, false, List, [], ◌∷◌, refl, sym, ◌∙◌, ap, subst, Option, Some, None}
-use Rattle.goal_evaluator.specs.declared.certainty.Certainty.{Certainty}
+use Rattle.infer_table.specs.declared.goal.Certainty.{Certainty}
 use Rattle.goal_evaluator.specs.Lists.{Every}
-use Rattle.goal_evaluator.specs.Certainties.{joined}
+use Rattle.infer_table.specs.Certainties.{joined}
 use Rattle.goal_evaluator.specs.Script.{followed}
 use Rattle.goal_evaluator.specs.Table.{Tables, is_yes, Extends, Goes, IsTable}
 use Rattle.goal_evaluator.specs.Rounds.{Round, Rounds, kept, judged, applied, replied, round, settled, next_round, rounds}

@@ -14,3 +14,6 @@ pub mod RuleBooks
 pub mod ByRules
 pub mod Systems
 pub mod Replays
+pub mod ResponseFacts
+pub mod MergeFacts
+pub mod SameResponses

@@ -2,7 +2,7 @@
 use Rattle.std.proofs.Common.{◌≡◌, ◌≤◌, Bool, true, false, ◌&&◌, not, if◌then◌else◌, List, [], ◌∷◌, map, inl, inr, refl, sym, ap, subst, Option, Some, None, find}
 use Rattle.std.specs.List.{list_all}
 use Rattle.goal_evaluator.specs.Lists.{Every, SomeOf}
-use Rattle.goal_evaluator.specs.Certainties.{unsettled, all_joined, is_certain}
+use Rattle.infer_table.specs.Certainties.{unsettled, all_joined, is_certain}
 use Rattle.goal_evaluator.specs.Table.{Tables, is_yes, IsTable}
 use Rattle.goal_evaluator.specs.Merge.{is_always_applicable, common, or_else, merge_by, flounder, merge_or_flounder, IsMerge}
 use Rattle.goal_evaluator.proofs.ListLaws.{Every-at, both-left, both-right, not-true}

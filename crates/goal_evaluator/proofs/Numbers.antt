@@ -1,10 +1,10 @@
 -- No question and no answer has a greater number than the handler's.
 use Rattle.std.proofs.Common.{◌≡◌, ℕ, zero, suc, ◌≤◌, Bool, true, false, List, [], ◌∷◌, refl, Option, Some, None, arith}
-use Rattle.goal_evaluator.specs.declared.certainty.Certainty.{Certainty}
-use Rattle.goal_evaluator.specs.declared.certainty.Certainty.TheVariants.{Maybe}
-use Rattle.goal_evaluator.specs.declared.certainty.MaybeCause.TheVariants.{Ambiguity}
+use Rattle.infer_table.specs.declared.goal.Certainty.{Certainty}
+use Rattle.infer_table.specs.declared.goal.Certainty.TheVariants.{Maybe}
+use Rattle.infer_table.specs.declared.goal.MaybeCause.TheVariants.{Ambiguity}
 use Rattle.goal_evaluator.specs.Lists.{Every, IsNoneOf}
-use Rattle.goal_evaluator.specs.Certainties.{joined}
+use Rattle.infer_table.specs.Certainties.{joined}
 use Rattle.goal_evaluator.specs.Table.{Tables, is_yes, IsTable}
 use Rattle.goal_evaluator.specs.Rounds.{Round, Rounds, kept, judged, applied, replied, round, settled, next_round, rounds}
 use Rattle.goal_evaluator.specs.Candidate.{Spec, Considered, Next, consider, answer, answered, equated, candidate, goes_on, frame}

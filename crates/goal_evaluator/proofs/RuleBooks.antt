@@ -1,9 +1,9 @@
 -- The handler of a list of rules is lawful.
 use Rattle.std.proofs.Common.{◌≡◌, ℕ, suc, ◌+◌, Bool, true, false, ◌==◌, if◌then◌else◌, List, [], ◌∷◌, ◌++◌, ◌⊎◌, map, length, inl, inr, refl, sym, ◌∙◌, ap, subst, Option, Some, None, arith}
 use Rattle.std.proofs.lemmas.Bool.{eqb-true, eq-eqb}
-use Rattle.goal_evaluator.specs.declared.certainty.Certainty.{Certainty}
-use Rattle.goal_evaluator.specs.declared.certainty.Certainty.TheVariants.{Yes, Maybe}
-use Rattle.goal_evaluator.specs.declared.certainty.MaybeCause.TheVariants.{Ambiguity, Overflow}
+use Rattle.infer_table.specs.declared.goal.Certainty.{Certainty}
+use Rattle.infer_table.specs.declared.goal.Certainty.TheVariants.{Yes, Maybe}
+use Rattle.infer_table.specs.declared.goal.MaybeCause.TheVariants.{Ambiguity, Overflow}
 use Rattle.goal_evaluator.specs.Lists.{Every, SomeOf, IsAmong, IsNoneOf, IsDistinct}
 use Rattle.goal_evaluator.specs.Candidate.{Spec, Considered, Next, consider, answer}
 use Rattle.goal_evaluator.specs.Law.{IsYes, AgreesTo, Realizes}

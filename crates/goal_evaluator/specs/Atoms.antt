@@ -1,8 +1,10 @@
 -- The smallest tables with an unknown: a goal is a predicate of one argument, which is an atom or the one unknown `?x`.
 use Rattle.std.specs.Prelude.{◌≡◌, ℕ, Bool, true, false, ◌&&◌, ◌==◌, if◌then◌else◌, ◌+◌, length, List, [], ◌∷◌, map, Option, Some, None, is_some}
-use Rattle.goal_evaluator.specs.declared.certainty.Certainty.{Certainty}
-use Rattle.goal_evaluator.specs.declared.certainty.Certainty.TheVariants.{Yes, Maybe}
-use Rattle.goal_evaluator.specs.declared.certainty.MaybeCause.TheVariants.{Ambiguity, Overflow}
+use Rattle.infer_table.specs.declared.goal.Certainty.{Certainty}
+use Rattle.infer_table.specs.declared.goal.Certainty.TheVariants.{Yes, Maybe}
+use Rattle.infer_table.specs.declared.goal.MaybeCause.TheVariants.{Ambiguity, Overflow}
+use Rattle.goal_evaluator.specs.declared.candidate.CandidateSource.TheVariants.{BuiltinImpl}
+use Rattle.goal_evaluator.specs.declared.candidate.BuiltinImplSource.TheVariants.{Misc}
 use Rattle.goal_evaluator.specs.Lists.{SomeOf}
 use Rattle.goal_evaluator.specs.Table.{Tables}
 use Rattle.goal_evaluator.specs.Candidate.{Spec, Considered, Next, consider, answer}
@@ -134,6 +136,7 @@ goal_put_in kind argument n = record { predicate = n.predicate; argument = put_i
 -- the rule as a candidate for a goal of this argument, with steps of this kind
 abbrev pub spec_of : Bool → Argument → Rule → Spec atoms
 spec_of kind argument r = record {
+  source = BuiltinImpl Misc;
   kinds = tt;
   equations = (argument, put_in argument r.shape) ∷ [];
   regions = tt;

@@ -1,17 +1,19 @@
 -- Candidates as data, and the frame that considers them one after the other.
 use Rattle.std.specs.Prelude.{ℕ, zero, suc, List, [], ◌∷◌, Option, Some, None}
-use Rattle.goal_evaluator.specs.declared.certainty.Certainty.{Certainty}
-use Rattle.goal_evaluator.specs.declared.certainty.Certainty.TheVariants.{Maybe}
-use Rattle.goal_evaluator.specs.declared.certainty.MaybeCause.TheVariants.{Ambiguity}
-use Rattle.goal_evaluator.specs.Certainties.{joined}
+use Rattle.infer_table.specs.declared.goal.Certainty.{Certainty}
+use Rattle.infer_table.specs.declared.goal.Certainty.TheVariants.{Maybe}
+use Rattle.infer_table.specs.declared.goal.MaybeCause.TheVariants.{Ambiguity}
+use Rattle.infer_table.specs.Certainties.{joined}
+use Rattle.goal_evaluator.specs.declared.candidate.CandidateSource.{CandidateSource}
 use Rattle.goal_evaluator.specs.Script.{done, followed}
 use Rattle.goal_evaluator.specs.Table.{Tables}
 use Rattle.goal_evaluator.specs.Frame.{Frame, considers, answers}
 use Rattle.goal_evaluator.specs.Rounds.{Asking, Rounds, rounds}
 
 module _ {Question Response : Type 0} (t : Tables Question Response) where
-  -- a candidate as data: fresh unknowns, equations and region constraints over them, nested goals, and how sure it can be
+  -- a candidate as data: its source, fresh unknowns, equations and region constraints over them, nested goals, and how sure it can be
   pub record Spec : Type 0 where
+    pub source : CandidateSource
     pub kinds : t.Kinds
     pub equations : List t.Equation
     pub regions : t.Regions

@@ -1,6 +1,6 @@
 -- What a handler means for one goal, and its laws.
 use Rattle.std.specs.Prelude.{◌≡◌, ℕ, Bool, ◌+◌, ◌≤◌, ◌<◌, List, [], ◌∷◌, map, length, Option, Some, None}
-use Rattle.goal_evaluator.specs.declared.certainty.Certainty.TheVariants.{Yes}
+use Rattle.infer_table.specs.declared.goal.Certainty.TheVariants.{Yes}
 use Rattle.goal_evaluator.specs.Lists.{Every, SomeOf, IsAmong, IsNoneOf, IsDistinct}
 use Rattle.goal_evaluator.specs.Table.{Tables, IsFree}
 use Rattle.goal_evaluator.specs.Candidate.{Spec, Considered, Next, consider, answer}

@@ -1,5 +1,4 @@
 pub mod Lists
-pub mod Certainties
 pub mod Script
 pub mod Frame
 pub mod Table
@@ -15,3 +14,5 @@ pub mod System
 pub mod Atoms
 pub mod Toys
 pub mod ByRules
+pub mod Responses
+pub mod Readings

@@ -4,7 +4,7 @@ use Rattle.std.specs.List.{list_all}
 use Rattle.goal_evaluator.specs.declared.merge.MergeCandidateInfo.{MergeCandidateInfo}
 use Rattle.goal_evaluator.specs.declared.merge.MergeCandidateInfo.TheVariants.{AlwaysApplicable, EqualResponse}
 use Rattle.goal_evaluator.specs.Lists.{Every, SomeOf}
-use Rattle.goal_evaluator.specs.Certainties.{all_joined, unsettled}
+use Rattle.infer_table.specs.Certainties.{all_joined, unsettled}
 use Rattle.goal_evaluator.specs.Table.{Tables, is_yes}
 use Rattle.goal_evaluator.specs.Candidate.{Considered}
 use Rattle.goal_evaluator.specs.Law.{IsYes, AgreesTo}

@@ -1,9 +1,9 @@
 -- The rounds in which a candidate's nested goals are asked.
 use Rattle.std.specs.Prelude.{ℕ, zero, suc, Bool, true, false, ◌||◌, List, [], ◌∷◌, Option, Some, None}
-use Rattle.goal_evaluator.specs.declared.certainty.Certainty.{Certainty}
-use Rattle.goal_evaluator.specs.declared.certainty.Certainty.TheVariants.{Yes, Maybe}
-use Rattle.goal_evaluator.specs.declared.certainty.MaybeCause.TheVariants.{Overflow}
-use Rattle.goal_evaluator.specs.Certainties.{joined, unsettled}
+use Rattle.infer_table.specs.declared.goal.Certainty.{Certainty}
+use Rattle.infer_table.specs.declared.goal.Certainty.TheVariants.{Yes, Maybe}
+use Rattle.infer_table.specs.declared.goal.MaybeCause.TheVariants.{Overflow}
+use Rattle.infer_table.specs.Certainties.{joined, unsettled}
 use Rattle.goal_evaluator.specs.Script.{Script, done, ask, followed}
 use Rattle.goal_evaluator.specs.Table.{Tables, is_yes}
 

@@ -1,10 +1,10 @@
 -- What a table of unknowns means: the assignments of terms to unknowns that it still allows.
 use Rattle.std.specs.Prelude.{◌≡◌, ℕ, ◌≤◌, Bool, false, ◌&&◌, not, List, Option, Some}
-use Rattle.goal_evaluator.specs.declared.certainty.Certainty.{Certainty}
-use Rattle.goal_evaluator.specs.declared.certainty.Certainty.TheVariants.{Yes, Maybe}
-use Rattle.goal_evaluator.specs.declared.certainty.MaybeCause.TheVariants.{Overflow}
+use Rattle.infer_table.specs.declared.goal.Certainty.{Certainty}
+use Rattle.infer_table.specs.declared.goal.Certainty.TheVariants.{Yes, Maybe}
+use Rattle.infer_table.specs.declared.goal.MaybeCause.TheVariants.{Overflow}
 use Rattle.goal_evaluator.specs.Lists.{Every, IsAmong}
-use Rattle.goal_evaluator.specs.Certainties.{is_certain}
+use Rattle.infer_table.specs.Certainties.{is_certain}
 
 -- a question is a canonical goal with the kind of the step to it, a response a canonical response
 pub record Tables (Question Response : Type 0) : Type 1 where

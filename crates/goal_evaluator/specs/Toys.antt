@@ -1,7 +1,7 @@
 -- Small lists of rules, and what the frames of their goals ask and answer.
 use Rattle.std.specs.Prelude.{◌≡◌, ℕ, ◌==◌, true, false, List, [], ◌∷◌, Option, Some, None}
-use Rattle.goal_evaluator.specs.declared.certainty.Certainty.TheVariants.{Yes, Maybe}
-use Rattle.goal_evaluator.specs.declared.certainty.MaybeCause.TheVariants.{Ambiguity, Overflow}
+use Rattle.infer_table.specs.declared.goal.Certainty.TheVariants.{Yes, Maybe}
+use Rattle.infer_table.specs.declared.goal.MaybeCause.TheVariants.{Ambiguity, Overflow}
 use Rattle.goal_evaluator.specs.History.{Request, Reply, asks}
 use Rattle.goal_evaluator.specs.Promises.{frame_of_goal}
 use Rattle.goal_evaluator.specs.Atoms.{Argument, atom, unknown, Goal, Response, atoms, RuleBook, Rule, handled_by}

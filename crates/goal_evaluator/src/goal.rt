@@ -9,20 +9,6 @@ pub enum GoalSource {
     ImplWhereBound,
 }
 
-/// How goals are read (`rustc_type_ir::TypingMode`).
-#[derive(Clone, Copy, Debug, PartialEq, Eq, Hash)]
-pub enum TypingMode {
-    /// An answer has to hold in every set of crates that can be linked with this one: there may be impls that are not seen.
-    Coherence,
-    /// The impls that are seen are all that there are.
-    PostAnalysis,
-}
-
-/// The goal is refused: no rule concludes it (`rustc_type_ir::solve::NoSolution`).
-#[derive(Clone, Copy, Debug, PartialEq, Eq, thiserror::Error)]
-#[error("there is no solution")]
-pub struct NoSolution;
-
 /// Whether an answer gave values to unknowns of the goal (`rustc_next_trait_solver::solve::HasChanged`).
 #[derive(Clone, Copy, Debug, PartialEq, Eq)]
 pub enum HasChanged {

@@ -1,0 +1,90 @@
+//! What responses say.
+
+ghost use Rattle.std.specs.Prelude.{◌≡◌, ◌↔◌, IsTrue, IfOk};
+ghost use Rattle.model.specs.Label.{Sort};
+ghost use Rattle.type_terms.specs.Kinds.{ArgHeld, ArgsHeld, bound_label};
+ghost use Rattle.canonical_forms.specs.Leaves.{leaf_label};
+ghost use Rattle.goal_evaluator.specs.Responses.{is_variable, are_variables, says_nothing, ValuesHeld, content};
+
+use canonical_forms::response::CanonicalResponse;
+use std::alloc::{AllocError, Global};
+use type_terms::interner::Interner;
+use type_terms::kinds::{ConstKind, GenericArgKind, TyKind};
+use type_terms::number::{BoundVar, BoundVarIndexKind};
+use type_terms::region::RegionKind;
+
+/// Whether a bound variable is the canonical variable with this number.
+fn is_canonical(index: BoundVarIndexKind, variable: BoundVar, number: usize) -> bool
+    ensures { (s : Sort) → result ≡ is_variable number (bound_label s index variable) }
+{
+    match index {
+        BoundVarIndexKind::Canonical => number == variable.index as usize,
+        BoundVarIndexKind::Bound(_) => false,
+    }
+}
+
+/// Whether a value is the canonical variable with this number.
+fn is_canonical_variable(cx: &Interner, value: GenericArgKind, number: usize) -> bool
+    requires { ArgHeld cx.now.entries value }
+    ensures { result ≡ is_variable number (leaf_label cx.now.entries value) }
+{
+    match value {
+        GenericArgKind::Lifetime(region) => match region.kind {
+            RegionKind::ReBound(index, variable) => is_canonical(index, variable, number),
+            _ => false,
+        },
+        GenericArgKind::Ty(ty) => match cx.kind(ty) {
+            TyKind::Bound(index, variable) => is_canonical(index, variable, number),
+            _ => false,
+        },
+        GenericArgKind::Const(ct) => match cx.const_kind(ct) {
+            ConstKind::Bound(index, variable) => is_canonical(index, variable, number),
+            _ => false,
+        },
+    }
+}
+
+/// Whether value i is the canonical variable i itself, for each i.
+fn is_identity(cx: &Interner, var_values: &[GenericArgKind]) -> bool
+    requires { ArgsHeld cx.now.entries var_values.now }
+    ensures { result ≡ are_variables cx.now.entries 0 var_values.now }
+{
+    'values: for (place, value) in var_values.iter().enumerate() {
+        if !is_canonical_variable(cx, *value, place) {
+            return false;
+        }
+    }
+    true
+}
+
+/// Whether the response says nothing of its goal's variables: value i is the canonical variable i itself, and there is no
+/// constraint on lifetimes (`rustc_next_trait_solver::solve::has_no_inference_or_external_constraints`).
+pub fn has_no_inference_or_external_constraints(cx: &Interner, response: &CanonicalResponse) -> bool
+    requires { ValuesHeld cx.now.entries response.now }
+    ensures { result ≡ says_nothing cx.now.entries response.now }
+{
+    is_identity(cx, &response.var_values) && response.region_constraints.is_empty()
+}
+
+/// Whether two responses are equal: whether they say the same.
+pub fn is_same_response(left: &CanonicalResponse, right: &CanonicalResponse) -> bool
+    ensures equal { result ≡ ⟦<CanonicalResponse as PartialEq>⟧.eq left.now right.now }
+    ensures same { IsTrue result ↔ (content left.now ≡ content right.now) }
+{
+    left == right
+}
+
+/// The same response once more, or out of memory.
+pub(crate) fn copy_response(
+    alloc: Global,
+    response: &CanonicalResponse,
+) -> Result<CanonicalResponse, AllocError>
+    ensures { IfOk result (λ r. content r ≡ content response.now) }
+{
+    Ok(CanonicalResponse {
+        variables: Vec::from_slice(alloc, &response.variables)?,
+        certainty: response.certainty,
+        var_values: Vec::from_slice(alloc, &response.var_values)?,
+        region_constraints: Vec::from_slice(alloc, &response.region_constraints)?,
+    })
+}
