@@ -90,6 +90,7 @@ pub struct ToyFrame {
 }
 
 impl Cx for Scripts {
+    ghost use Rattle.std.specs.Prelude.{IfOk, Ok};
     ghost use Rattle.std.proofs.lemmas.Bool.{eqb-true};
 
     type Input = usize;
@@ -98,11 +99,17 @@ impl Cx for Scripts {
 
     type AmbiguityInfo = ();
 
-    fn copy_input(&self, input: &usize) -> Result<usize, Fault> {
+    fn copy_input(&self, input: &usize) -> Result<usize, Fault>
+        ensures copy { IfOk result (λ copy. copy ≡ input.now) }
+        ensures is { result ≡ Ok input.now }
+    {
         Ok(*input)
     }
 
-    fn copy_result(&self, of: &u8) -> Result<u8, Fault> {
+    fn copy_result(&self, of: &u8) -> Result<u8, Fault>
+        ensures copy { IfOk result (λ copy. copy ≡ of.now) }
+        ensures is { result ≡ Ok of.now }
+    {
         Ok(*of)
     }
 
@@ -115,9 +122,9 @@ impl Cx for Scripts {
 pub struct Toy;
 
 impl Delegate for Toy {
-    ghost use Rattle.std.specs.Prelude.{IfOk, ◌<◌};
+    ghost use Rattle.std.specs.Prelude.{IfOk, OnOk, IsOk, Ok, ◌<◌, ◌≤◌, ◌+◌, ◌^◌, IsTrue, IsSome, ◌↔◌};
     ghost use Rattle.search_graph.specs.Meaning.{Keeps, IsDue, Steps};
-    ghost use Rattle.scripted_goals.specs.Toy.{toy_meaning};
+    ghost use Rattle.scripted_goals.specs.Toy.{toy_meaning, toy_initial};
 
     type Cx = Scripts;
 
@@ -139,7 +146,10 @@ impl Delegate for Toy {
         _cx: &mut Scripts,
         kind: PathKind,
         _input: &usize,
-    ) -> Result<u8, Fault> {
+    ) -> Result<u8, Fault>
+        ensures keeps { Keeps toy_meaning _cx.old _cx.new }
+        ensures is { result ≡ Ok (toy_initial kind) }
+    {
         match kind {
             PathKind::Inductive => Ok(NO),
             PathKind::Unknown => Ok(OVERFLOW),
@@ -148,12 +158,9 @@ impl Delegate for Toy {
         }
     }
 
-    fn is_initial_provisional_result(
-        _cx: &Scripts,
-        kind: PathKind,
-        _input: &usize,
-        of: &u8,
-    ) -> bool {
+    fn is_initial_provisional_result(_cx: &Scripts, kind: PathKind, _input: &usize, of: &u8) -> bool
+        ensures { IsTrue result ↔ (of.now ≡ toy_initial kind) }
+    {
         match kind {
             PathKind::Inductive => *of == NO,
             PathKind::Unknown | PathKind::ForcedAmbiguity => *of == OVERFLOW,
@@ -161,15 +168,23 @@ impl Delegate for Toy {
         }
     }
 
-    fn stack_overflow_result(_cx: &mut Scripts, _input: &usize) -> Result<u8, Fault> {
+    fn stack_overflow_result(_cx: &mut Scripts, _input: &usize) -> Result<u8, Fault>
+        ensures keeps { Keeps toy_meaning _cx.old _cx.new }
+        ensures is { result ≡ Ok 1 }
+    {
         Ok(OVERFLOW)
     }
 
-    fn fixpoint_overflow_result(_cx: &mut Scripts, _input: &usize) -> Result<u8, Fault> {
+    fn fixpoint_overflow_result(_cx: &mut Scripts, _input: &usize) -> Result<u8, Fault>
+        ensures keeps { Keeps toy_meaning _cx.old _cx.new }
+        ensures is { result ≡ Ok 1 }
+    {
         Ok(OVERFLOW)
     }
 
-    fn is_ambiguous_result(_cx: &Scripts, of: &u8) -> Option<()> {
+    fn is_ambiguous_result(_cx: &Scripts, of: &u8) -> Option<()>
+        ensures { IsSome result ↔ (of.now ≡ 3) }
+    {
         if *of == AMBIGUOUS { Some(()) } else { None }
     }
 
@@ -177,11 +192,17 @@ impl Delegate for Toy {
         _cx: &mut Scripts,
         _for_input: &usize,
         _ambiguity_info: (),
-    ) -> Result<u8, Fault> {
+    ) -> Result<u8, Fault>
+        ensures keeps { Keeps toy_meaning _cx.old _cx.new }
+        ensures is { result ≡ Ok 3 }
+    {
         Ok(AMBIGUOUS)
     }
 
-    fn start(_cx: &mut Scripts, input: &usize) -> Result<ToyFrame, Fault> {
+    fn start(_cx: &mut Scripts, input: &usize) -> Result<ToyFrame, Fault>
+        ensures keeps { Keeps toy_meaning _cx.old _cx.new }
+        ensures is { result ≡ Ok (record { goal = input.now; heard = 0; left = 100 }) }
+    {
         Ok(ToyFrame {
             goal: *input,
             heard: 0,
@@ -198,6 +219,11 @@ impl Delegate for Toy {
         ensures keeps { Keeps toy_meaning cx.old cx.new }
         ensures steps { IfOk result (λ q. Steps toy_meaning cx.old frame.old reply cx.new frame.new q) }
         ensures falls { IfOk result (λ q. frame.new.left < frame.old.left) }
+
+        // What the script says, unless the frame has no step left or has heard as many replies as can be counted.
+        ensures is { IfOk result (λ q. q ≡ asks_next (slice_get cx.old.goals.items frame.old.goal) frame.old.heard reply) }
+        ensures counts { OnOk result ((frame.new.goal ≡ frame.old.goal) × (frame.new.heard ≡ frame.old.heard + 1) × (frame.new.left + 1 ≡ frame.old.left)) }
+        ensures room { 1 ≤ frame.old.left → frame.old.heard + 1 < 2 ^ 64 → IsOk result }
     {
         let next = frame.heard;
         frame.left = frame.left.checked_sub(1).ok_or(Fault::Full)?;

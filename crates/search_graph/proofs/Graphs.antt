@@ -393,9 +393,9 @@ module _ {C I R F : Type 0} (m : Meaning C I R F) where
   }
 
   -- the answer to a question
-  hears_more : (w : m.World) (g q : m.Goal) (k : PathKind) (heard : List (Reply m.Answer)) (a : m.Answer) → Hears m w g heard → m.asks w g heard ≡ Evaluate q k → IsDueAfter m w g heard (Result a)
-      → IsComputed m w q a → Hears m w g (Result a ∷ heard)
-  hears_more w g q k heard a hears asks due source = elim source.how [ inl x ↦ given hears asks due x | inr y ↦ computed hears asks due y.1 y.2 y.3 ]
+  pub hears_more : (w : m.World) (Given : m.Goal → m.Answer → Type 0) (g q : m.Goal) (k : PathKind) (heard : List (Reply m.Answer)) (a : m.Answer) → Hears m w Given g heard → m.asks w g heard ≡ Evaluate q k → IsDueAfter m w g heard (Result a)
+      → IsComputed m w Given q a → Hears m w Given g (Result a ∷ heard)
+  hears_more w Given g q k heard a hears asks due source = elim source.how [ inl x ↦ given hears asks due x | inr y ↦ computed hears asks due y.1 y.2 y.3 ]
 
   pub running_next : IsLawful m → (w : m.World) (path : List (m.Goal × PathKind)) (g : m.Goal) (low lower : ℕ) (b c d : C) (f h : F) (asked : Request I R) (i : I) (k : PathKind) (r : R) (q : Request I R)
       → asked ≡ Evaluate i k → m.world c ≡ w → Keeps m b c → IsRunning m w path g low b f asked → IsAnswer m w path (m.goal_of b i, k) lower c r
@@ -417,7 +417,7 @@ module _ {C I R F : Type 0} (m : Meaning C I R F) where
         known = steps.0;
         room = both;
         fair = (now, rw (← request) answer.fair, running.fair);
-        hears = hears_more w g (m.goal_of b i) k running.heard (m.answer_of c r) running.hears (sym request) now answer.source;
+        hears = hears_more w (IsGiven m w) g (m.goal_of b i) k running.heard (m.answer_of c r) running.hears (sym request) now answer.source;
         count = let h = (law.asks_fair w g (m.goal_of b i) k running.heard running.fair (sym request)).0 in omega arith;
         shown = rw (← request) (shown_more w (min low lower) path (yes_questions m w g running.heard) (m.goal_of b i, k) (m.is_yes (m.answer_of c r))
             (λ y. Shown-lower (m.Follows w) lower (min low lower) path ((m.goal_of b i, k) ∷ []) second both (answer.yes y))
@@ -467,6 +467,15 @@ module _ {C I R F : Type 0} (m : Meaning C I R F) where
           },
           refl,
         )
+
+    pub hears_other : (Given : m.Goal → m.Answer → Type 0) (reply : Reply R) → Hears m w Given g running.heard → IsDueAt m w g running.heard (request_of m b asked) (reply_of m b reply) → HoldsNoResult (reply_of m b reply)
+        → Hears m w Given g (reply_of m b reply ∷ running.heard)
+    hears_other Given reply hears due quiet = also hears (due_after w g running.heard (request_of m b asked) (reply_of m b reply) running.begun asked_now due) quiet
+
+    pub hears_next : (Given : m.Goal → m.Answer → Type 0) (i : I) (k : PathKind) (a : m.Answer) → asked ≡ Evaluate i k → Hears m w Given g running.heard → IsComputed m w Given (m.goal_of b i) a → Hears m w Given g (Result a ∷ running.heard)
+    hears_next Given i k a e hears source =
+        let request : Evaluate (m.goal_of b i) k ≡ m.asks w g running.heard = rw e at asked_now in
+        hears_more w Given g (m.goal_of b i) k running.heard a hears (sym request) (due_after w g running.heard (Evaluate (m.goal_of b i) k) (Result a) running.begun request (tt, tt)) source
 
     pub due_other : (reply : Reply R) → IsDueAt m w g running.heard (request_of m b asked) (reply_of m b reply) → IsDue m b f reply
     due_other reply due = (

@@ -3,7 +3,7 @@ use Rattle.std.specs.Prelude.{◌≡◌, ◌⊎◌, ℕ, Bool, List, [], ◌∷�
 use Rattle.search_paths.specs.declared.path_kind.PathKind.TheVariants.{Inductive}
 use Rattle.search_graph.specs.declared.cache.CacheEntry.{CacheEntry}
 use Rattle.search_graph.specs.Meaning.{Meaning}
-use Rattle.search_graph.specs.Computed.{IsComputed}
+use Rattle.search_graph.specs.Computed.{IsComputed, IsGiven}
 use Rattle.search_graph.specs.Faithful.{IsKept}
 use Rattle.search_graph.specs.Stack.{IsProvisional}
 
@@ -32,10 +32,15 @@ module _ {C I R F : Type 0} (m : Meaning C I R F) where
   AreJustified c [] = Unit {0}
   AreJustified c (k ∷ ks) = IsJustified c k × AreJustified c ks
 
+  -- the answers that a cache holds, each with its goal
+  abbrev pub answers_in : C → List (KnownResult I R) → List (m.Goal × m.Answer)
+  answers_in c [] = []
+  answers_in c (k ∷ ks) = (m.goal_of c k.input, m.answer_of c k.result) ∷ answers_in c ks
+
   -- another answer was computed for the goal of a cached result
   pub record IsContradicted (c : C) (k : KnownResult I R) : Type 0 where
     pub answer : m.Answer
-    pub computed : IsComputed m (m.world c) (m.goal_of c k.input) answer
+    pub computed : IsComputed m (m.world c) (IsGiven m (m.world c)) (m.goal_of c k.input) answer
     pub other : m.answer_of c k.result ≡ answer → ⊥
 
   abbrev pub HasConflict : C → List (KnownResult I R) → Type 0

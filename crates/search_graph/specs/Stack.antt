@@ -9,7 +9,7 @@ use Rattle.search_graph.specs.declared.stack.StackEntry.{StackEntry}
 use Rattle.search_graph.specs.declared.cache.CacheEntry.{CacheEntry}
 use Rattle.search_paths.specs.Path.{greater}
 use Rattle.search_graph.specs.Meaning.{Meaning, premise_of, answer_count, request_of, IsRequest, IsFair, AreReplies}
-use Rattle.search_graph.specs.Computed.{Hears, IsComputed}
+use Rattle.search_graph.specs.Computed.{Hears, IsComputed, IsGiven, IsGivenWithin}
 use Rattle.search_graph.specs.Shown.{Shown}
 use Rattle.search_graph.specs.Faithful.{IsKept}
 
@@ -35,7 +35,7 @@ module _ {C I R F : Type 0} (m : Meaning C I R F) where
   pub record IsProvisional (w : m.World) (path : List (m.Goal × PathKind)) (q : m.Goal × PathKind) (low : ℕ) (c : C) (r : R) : Type 0 where
     pub known : m.IsResult c r
     pub fair : IsFair m w q.0 (m.answer_of c r)
-    pub source : IsComputed m w q.0 (m.answer_of c r)
+    pub source : IsComputed m w (IsGiven m w) q.0 (m.answer_of c r)
     pub yes : m.is_yes (m.answer_of c r) ≡ true → Derived w low path q
 
   pub record IsEntry (w : m.World) (path : List (m.Goal × PathKind)) (c : C) (e : StackEntry I R) : Type 0 where
@@ -57,7 +57,7 @@ module _ {C I R F : Type 0} (m : Meaning C I R F) where
   pub record IsAnswer (w : m.World) (path : List (m.Goal × PathKind)) (q : m.Goal × PathKind) (low : ℕ) (c : C) (r : R) : Type 0 where
     pub known : m.IsResult c r
     pub fair : IsFair m w q.0 (m.answer_of c r)
-    pub source : IsComputed m w q.0 (m.answer_of c r)
+    pub source : IsComputed m w (IsGiven m w) q.0 (m.answer_of c r)
     pub room : low ≤ length path
     pub yes : m.is_yes (m.answer_of c r) ≡ true → Shown m.Goal (m.Follows w) low path (q ∷ [])
 
@@ -79,7 +79,7 @@ module _ {C I R F : Type 0} (m : Meaning C I R F) where
     pub known : IsRequest m c q
     pub room : low ≤ length path
     pub fair : AreReplies m (IsFair m w) w g heard
-    pub hears : Hears m w g heard
+    pub hears : Hears m w (IsGiven m w) g heard
     pub count : answer_count m heard ≤ m.number_of w g
     pub shown : Shown m.Goal (m.Follows w) low path (yes_questions w g heard)
 
@@ -92,3 +92,20 @@ module _ {C I R F : Type 0} (m : Meaning C I R F) where
   abbrev pub AreCached : m.World → C → List (CacheEntry I R) → Type 0
   AreCached w c [] = Unit {0}
   AreCached w c (e ∷ es) = IsCached w c e × AreCached w c es
+
+  -- no limit had a part in an answer to the goal, but for those that were known before
+  abbrev pub IsWithin : m.World → List (m.Goal × m.Answer) → m.Goal → m.Answer → Type 0
+  IsWithin w before g a = IsComputed m w (IsGivenWithin m w before) g a
+
+  -- the same of the result of the entry's last run, if there was one
+  abbrev pub IsLastWithin : m.World → List (m.Goal × m.Answer) → C → StackEntry I R → Type 0
+  IsLastWithin w before c e = MatchOption e.provisional_result (Unit {0}) (λ r. IsWithin w before (m.goal_of c e.input) (m.answer_of c r))
+
+  abbrev pub AreLastWithin : m.World → List (m.Goal × m.Answer) → C → List (StackEntry I R) → Type 0
+  AreLastWithin w before c [] = Unit {0}
+  AreLastWithin w before c (e ∷ es) = IsLastWithin w before c e × AreLastWithin w before c es
+
+  -- and of the results of a cache
+  abbrev pub AreCachedWithin : m.World → List (m.Goal × m.Answer) → C → List (CacheEntry I R) → Type 0
+  AreCachedWithin w before c [] = Unit {0}
+  AreCachedWithin w before c (e ∷ es) = IsWithin w before (m.goal_of c e.input) (m.answer_of c e.result) × AreCachedWithin w before c es

@@ -4,7 +4,7 @@ ghost use Rattle.std.specs.Prelude.{◌≡◌, ◌+◌, ◌≤◌, ◌⊎◌, []
 ghost use Rattle.search_graph.specs.Meaning.{Keeps};
 ghost use Rattle.search_graph.specs.Plain.{IsNotPlain};
 ghost use Rattle.search_graph.specs.Faithful.{IsKept};
-ghost use Rattle.search_graph.specs.Stack.{IsProvisional, AreCached};
+ghost use Rattle.search_graph.specs.Stack.{IsProvisional, AreCached, IsWithin, AreCachedWithin};
 ghost use Rattle.search_graph.specs.Cache.{known_results, HasConflict};
 
 use crate::delegate::{Cx, Delegate, InputOf, ResultOf};
@@ -237,6 +237,7 @@ impl<D: Delegate> CachedResults<D> {
         requires place { (e : _) × (slice_get self.now.entries.items place ≡ Some e) × (e.input ≡ input.now) }
         ensures result { IfOk result (λ r. IsProvisional D.meaning (D.meaning.world cx.now) [] (D.meaning.goal_of cx.now input.now, PathKind.Inductive) 0 cx.now r.result) }
         ensures kept { IfOk result (λ r. IsKept D.meaning (D.meaning.world cx.now) (D.meaning.goal_of cx.now input.now) (D.meaning.answer_of cx.now r.result) r.depth r.encountered_overflow) }
+        ensures within { IfOk result (λ r. (before : _) → AreCachedWithin D.meaning (D.meaning.world cx.now) before cx.now self.now.entries.items → IsWithin D.meaning (D.meaning.world cx.now) before (D.meaning.goal_of cx.now input.now) (D.meaning.answer_of cx.now r.result)) }
         ensures entry { IfOk result (λ r. (e : _) × (slice_get self.now.entries.items place ≡ Some e) × (r.depth ≡ e.depth) × (r.encountered_overflow ≡ e.encountered_overflow)) }
     {
         let entry = &self.entries[place];
@@ -312,6 +313,7 @@ impl<D: Delegate> CachedResults<D> {
         requires result { IsProvisional D.meaning (D.meaning.world cx.now) [] (D.meaning.goal_of cx.now input, PathKind.Inductive) 0 cx.now found.now }
         requires kept { IsKept D.meaning (D.meaning.world cx.now) (D.meaning.goal_of cx.now input) (D.meaning.answer_of cx.now found.now) depth encountered_overflow }
         ensures cache { AreCached D.meaning (D.meaning.world cx.now) cx.now self.new.entries.items }
+        ensures within { OnOk result ((before : _) → AreCachedWithin D.meaning (D.meaning.world cx.now) before cx.now self.old.entries.items → IsWithin D.meaning (D.meaning.world cx.now) before (D.meaning.goal_of cx.now input) (D.meaning.answer_of cx.now found.now) → AreCachedWithin D.meaning (D.meaning.world cx.now) before cx.now self.new.entries.items) }
         ensures no_conflict { result ≡ Err GraphFault.Conflict → (limit : ℕ) → (limit ≤ depth + 1) ⊎ (encountered_overflow ≡ false) → IsNotPlain D.meaning (D.meaning.world cx.now) limit (D.meaning.goal_of cx.now input) }
         ensures conflict { result ≡ Err GraphFault.Conflict → HasConflict D.meaning cx.now (known_results self.new.entries.items) }
         ensures in_order { result ≡ Err GraphFault.Protocol → ⊥ }

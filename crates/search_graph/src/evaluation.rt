@@ -7,7 +7,7 @@ ghost use Rattle.search_graph.specs.Cache.{known_results, HasConflict};
 ghost use Rattle.search_graph.specs.Plain.{IsNotPlain};
 ghost use Rattle.search_graph.specs.Faithful.{AllDescend, IsFaithful, IsKept, IsUntouched};
 ghost use Rattle.search_graph.specs.Bound.{frame_bound, question_bound};
-ghost use Rattle.search_graph.specs.Stack.{kind_after, question_of, path_onto, IsStack, IsEntry, IsAnswer, IsProvisional, IsSettled, AreCached};
+ghost use Rattle.search_graph.specs.Stack.{kind_after, question_of, path_onto, IsStack, IsEntry, IsAnswer, IsProvisional, IsSettled, AreCached, IsWithin, IsLastWithin, AreLastWithin, AreCachedWithin};
 
 use crate::cache::{Cached, CachedResults};
 use crate::candidates::Candidates;
@@ -94,6 +94,7 @@ impl<D: Delegate> Search<D> {
         ensures keeps { Keeps D.meaning cx.old cx.new }
         ensures answer { IfOk result (λ r. IsAnswer D.meaning (D.meaning.world cx.old) (path_onto D.meaning cx.old self.now.stack.items []) (D.meaning.goal_of cx.old input.now, step_kind) r.1 cx.new r.0) }
         ensures not_plain { IfOk result (λ r. (limit : ℕ) → AllDescend D.meaning (D.meaning.world cx.old) limit r.1 (path_onto D.meaning cx.old self.now.stack.items []) (D.meaning.goal_of cx.old input.now) → IsNotPlain D.meaning (D.meaning.world cx.old) limit (D.meaning.goal_of cx.old input.now)) }
+        ensures within { IfOk result (λ r. (before : _) → AreLastWithin D.meaning (D.meaning.world cx.old) before cx.old self.now.stack.items → IsWithin D.meaning (D.meaning.world cx.old) before (D.meaning.goal_of cx.old input.now) (D.meaning.answer_of cx.new r.0)) }
     {
         let entry = &self.stack[cycle.index];
         match &entry.provisional_result {
@@ -130,6 +131,8 @@ impl<D: Delegate> Search<D> {
         ensures protocol { result ≡ Err GraphFault.Protocol → MakesMisstep D.meaning (D.meaning.world cx.old) (D.meaning.goal_of cx.old input) }
         ensures conflict { result ≡ Err GraphFault.Conflict → HasConflict D.meaning cx.new (known_results cache.new.entries.items) }
         ensures frames { (width : ℕ) → (D.meaning.number_of (D.meaning.world cx.old) (D.meaning.goal_of cx.old input) ≤ width) → self.new.frames ≤ self.old.frames + frame_bound (max D.FIXPOINT_STEP_LIMIT 1) width depth }
+        ensures limits { self.old.limits_met ≡ true → self.new.limits_met ≡ true }
+        ensures within { IfOk result (λ o. (before : _) → self.new.limits_met ≡ false → AreLastWithin D.meaning (D.meaning.world cx.old) before cx.old self.old.stack.items → AreCachedWithin D.meaning (D.meaning.world cx.old) before cx.old cache.old.entries.items → AreCachedWithin D.meaning (D.meaning.world cx.old) before cx.new cache.new.entries.items × IsWithin D.meaning (D.meaning.world cx.old) before (D.meaning.goal_of cx.old input) (D.meaning.answer_of cx.new o.result)) }
     {
         // A provisional entry, of a goal whose result rests on goals of the stack, would be looked up here.
         let number = cache.number_of(cx, &input)?;
@@ -170,6 +173,7 @@ impl<D: Delegate> Search<D> {
         requires place { (e : _) × (slice_get cache.now.entries.items place ≡ Some e) × (e.input ≡ input.now) × (e.encountered_overflow ≡ true → e.depth ≡ depth) }
         ensures answer { IfOk result (λ o. IsAnswer D.meaning (D.meaning.world cx.now) (path_onto D.meaning cx.now self.now.stack.items []) (D.meaning.goal_of cx.now input.now, step_kind) o.dependencies.lowest cx.now o.result) }
         ensures faithful { IfOk result (λ o. IsFaithful D.meaning (D.meaning.world cx.now) (depth + 1) (path_onto D.meaning cx.now self.now.stack.items []) (D.meaning.goal_of cx.now input.now) (D.meaning.answer_of cx.now o.result) o.dependencies.encountered_overflow o.dependencies.lowest o.dependencies.heads.items) }
+        ensures within { IfOk result (λ o. (before : _) → AreCachedWithin D.meaning (D.meaning.world cx.now) before cx.now cache.now.entries.items → IsWithin D.meaning (D.meaning.world cx.now) before (D.meaning.goal_of cx.now input.now) (D.meaning.answer_of cx.now o.result)) }
         ensures no_conflict { result ≡ Err GraphFault.Conflict → ⊥ }
         ensures in_order { result ≡ Err GraphFault.Protocol → ⊥ }
     {
@@ -214,6 +218,8 @@ impl<D: Delegate> Search<D> {
         ensures protocol { result ≡ Err GraphFault.Protocol → MakesMisstep D.meaning (D.meaning.world cx.old) (D.meaning.goal_of cx.old input) }
         ensures conflict { result ≡ Err GraphFault.Conflict → HasConflict D.meaning cx.new (known_results cache.new.entries.items) }
         ensures frames { (width : ℕ) → (D.meaning.number_of (D.meaning.world cx.old) (D.meaning.goal_of cx.old input) ≤ width) → self.new.frames ≤ self.old.frames + frame_bound (max D.FIXPOINT_STEP_LIMIT 1) width depth }
+        ensures limits { self.old.limits_met ≡ true → self.new.limits_met ≡ true }
+        ensures within { IfOk result (λ o. (before : _) → self.new.limits_met ≡ false → AreLastWithin D.meaning (D.meaning.world cx.old) before cx.old self.old.stack.items → AreCachedWithin D.meaning (D.meaning.world cx.old) before cx.old cache.old.entries.items → AreCachedWithin D.meaning (D.meaning.world cx.old) before cx.new cache.new.entries.items × IsWithin D.meaning (D.meaning.world cx.old) before (D.meaning.goal_of cx.old input) (D.meaning.answer_of cx.new o.result)) }
     {
         let index = self.stack.len();
         let span = self.span().cover(Span::of(number));
@@ -325,6 +331,8 @@ impl<D: Delegate> Search<D> {
         ensures protocol { result ≡ Err GraphFault.Protocol → MakesMisstep D.meaning (D.meaning.world cx.old) (D.meaning.goal_of cx.old entry.input) }
         ensures conflict { result ≡ Err GraphFault.Conflict → HasConflict D.meaning cx.new (known_results cache.new.entries.items) }
         ensures frames { (width : ℕ) → (D.meaning.number_of (D.meaning.world cx.old) (D.meaning.goal_of cx.old entry.input) ≤ width) → self.new.frames ≤ self.old.frames + (1 + width * question_bound (max D.FIXPOINT_STEP_LIMIT 1) width depth) }
+        ensures limits { self.old.limits_met ≡ true → self.new.limits_met ≡ true }
+        ensures within { IfOk result (λ o. (before : _) → self.new.limits_met ≡ false → AreLastWithin D.meaning (D.meaning.world cx.old) before cx.old self.old.stack.items → IsLastWithin D.meaning (D.meaning.world cx.old) before cx.old entry → AreCachedWithin D.meaning (D.meaning.world cx.old) before cx.old cache.old.entries.items → AreCachedWithin D.meaning (D.meaning.world cx.old) before cx.new cache.new.entries.items × IsWithin D.meaning (D.meaning.world cx.old) before (D.meaning.goal_of cx.old entry.input) (D.meaning.answer_of cx.new o.1.result)) }
     {
         let mut frame = D::start(cx, &entry.input)?;
         self.frames = self.frames.saturating_add(1);
@@ -400,6 +408,8 @@ impl<D: Delegate> Search<D> {
         ensures protocol { result ≡ Err GraphFault.Protocol → MakesMisstep D.meaning (D.meaning.world cx.old) (D.meaning.goal_of cx.old input) }
         ensures conflict { result ≡ Err GraphFault.Conflict → HasConflict D.meaning cx.new (known_results cache.new.entries.items) }
         ensures frames { (width : ℕ) → (D.meaning.number_of (D.meaning.world cx.old) (D.meaning.goal_of cx.old input) ≤ width) → self.new.frames ≤ self.old.frames + question_bound (max D.FIXPOINT_STEP_LIMIT 1) width depth }
+        ensures limits { self.old.limits_met ≡ true → self.new.limits_met ≡ true }
+        ensures within { IfOk result (λ o. (before : _) → self.new.limits_met ≡ false → AreLastWithin D.meaning (D.meaning.world cx.old) before cx.old self.old.stack.items → AreCachedWithin D.meaning (D.meaning.world cx.old) before cx.old cache.old.entries.items → AreCachedWithin D.meaning (D.meaning.world cx.old) before cx.new cache.new.entries.items × IsWithin D.meaning (D.meaning.world cx.old) before (D.meaning.goal_of cx.old input) (D.meaning.answer_of cx.new o.result)) }
     {
         if depth == 0 {
             let number = cache.number_of(cx, &input)?;
@@ -422,6 +432,7 @@ impl<D: Delegate> Search<D> {
         ensures keeps { Keeps D.meaning cx.old cx.new }
         ensures stack { self.new.stack.items ≡ self.old.stack.items }
         ensures frames { self.new.frames ≡ self.old.frames }
+        ensures noted { self.new.limits_met ≡ true }
         ensures answer { IfOk result (λ o. IsAnswer D.meaning (D.meaning.world cx.old) (path_onto D.meaning cx.old self.old.stack.items []) (D.meaning.goal_of cx.old input, step_kind) o.dependencies.lowest cx.new o.result) }
         ensures faithful { IfOk result (λ o. IsFaithful D.meaning (D.meaning.world cx.old) (cond overflowed 0 0) (path_onto D.meaning cx.old self.old.stack.items []) (D.meaning.goal_of cx.old input) (D.meaning.answer_of cx.new o.result) o.dependencies.encountered_overflow o.dependencies.lowest o.dependencies.heads.items) }
         ensures no_conflict { result ≡ Err GraphFault.Conflict → ⊥ }
@@ -506,6 +517,7 @@ fn finish<D: Delegate>(
     ensures lowest { IfOk result (λ o. o.dependencies.lowest ≡ evaluation.dependencies.lowest) }
     ensures heads { IfOk result (λ o. o.dependencies.heads ≡ evaluation.dependencies.heads) }
     ensures overflow { IfOk result (λ o. o.dependencies.encountered_overflow ≡ evaluation.dependencies.encountered_overflow) }
+    ensures within { OnOk result ((before : _) → AreCachedWithin D.meaning (D.meaning.world cx.now) before cx.now cache.old.entries.items → IsWithin D.meaning (D.meaning.world cx.now) before (D.meaning.goal_of cx.now input) (D.meaning.answer_of cx.now evaluation.result) → AreCachedWithin D.meaning (D.meaning.world cx.now) before cx.now cache.new.entries.items) }
     ensures no_conflict { result ≡ Err GraphFault.Conflict → (limit : ℕ) → limit ≤ depth + 1 → IsNotPlain D.meaning (D.meaning.world cx.now) limit (D.meaning.goal_of cx.now input) }
     ensures conflict { result ≡ Err GraphFault.Conflict → HasConflict D.meaning cx.now (known_results cache.new.entries.items) }
     ensures in_order { result ≡ Err GraphFault.Protocol → ⊥ }

@@ -1,12 +1,12 @@
 //! The search graph: what a caller sees of a search.
 
-ghost use Rattle.std.specs.Prelude.{◌≡◌, ℕ, ◌+◌, ◌≤◌, ◌↔◌, max, IfOk, IsOkAnd, IsTrue, false};
+ghost use Rattle.std.specs.Prelude.{◌≡◌, ℕ, ◌+◌, ◌≤◌, ◌↔◌, max, IfOk, IsOkAnd, IsTrue, true, false};
 ghost use Rattle.search_graph.specs.Meaning.{Keeps};
-ghost use Rattle.search_graph.specs.Computed.{IsComputed, MakesMisstep};
+ghost use Rattle.search_graph.specs.Computed.{IsGiven, IsGivenWithin, IsComputed, MakesMisstep};
 ghost use Rattle.search_graph.specs.Answer.{IsSound};
 ghost use Rattle.search_graph.specs.Plain.{IsPlain, IsNotPlain};
 ghost use Rattle.search_graph.specs.Bound.{frame_bound};
-ghost use Rattle.search_graph.specs.Cache.{AreJustified, HasConflict};
+ghost use Rattle.search_graph.specs.Cache.{AreJustified, HasConflict, answers_in};
 
 use crate::cache::GlobalCache;
 use crate::delegate::{Delegate, InputOf, ResultOf};
@@ -160,12 +160,17 @@ impl<D: Delegate> SearchGraph<D> {
         ensures no_conflict { result ≡ Err GraphFault.Conflict → IsNotPlain D.meaning (D.meaning.world cx.old) (self.old.root_depth + 1) (D.meaning.goal_of cx.old input) }
 
         // A request out of order is refused, and nothing else is: an answer comes of frames whose requests are all in order.
-        ensures computed { IfOk result (λ r. IsComputed D.meaning (D.meaning.world cx.old) (D.meaning.goal_of cx.old input) (D.meaning.answer_of cx.new r)) }
+        ensures computed { IfOk result (λ r. IsComputed D.meaning (D.meaning.world cx.old) (IsGiven D.meaning (D.meaning.world cx.old)) (D.meaning.goal_of cx.old input) (D.meaning.answer_of cx.new r)) }
         ensures protocol { result ≡ Err GraphFault.Protocol → MakesMisstep D.meaning (D.meaning.world cx.old) (D.meaning.goal_of cx.old input) }
         ensures conflict { result ≡ Err GraphFault.Conflict → HasConflict D.meaning cx.new cache.new }
 
         ensures frames { (width : ℕ) → (D.meaning.number_of (D.meaning.world cx.old) (D.meaning.goal_of cx.old input) ≤ width) → self.new.frames ≤ self.old.frames + frame_bound (max D.FIXPOINT_STEP_LIMIT 1) width self.old.root_depth }
         ensures depth { self.new.root_depth ≡ self.old.root_depth }
+
+        // A limit that was met is noted, after a refusal too: where none was, no overflow has a part in the answer, but for
+        // those that the cache held before.
+        ensures noted { self.old.limits_met ≡ true → self.new.limits_met ≡ true }
+        ensures limits { IfOk result (λ r. self.new.limits_met ≡ false → IsComputed D.meaning (D.meaning.world cx.old) (IsGivenWithin D.meaning (D.meaning.world cx.old) (answers_in D.meaning cx.old cache.old)) (D.meaning.goal_of cx.old input) (D.meaning.answer_of cx.new r)) }
     {
         let depth = self.root_depth;
         let results = &mut cache.results;

@@ -1,8 +1,9 @@
 use Rattle.std.proofs.Common.{◌∙◌, sym, inr, subst}
 use Rattle.search_graph.proofs.Caches.{HasConflict-at}
 use Rattle.search_graph.proofs.Graphs.{Keeps-refl, cached_insert, IsCached-at}
+use Rattle.search_graph.proofs.Limits.{AreCachedWithin-push}
 use Rattle.search_graph.proofs.Faithfuls.{true_not_false}
-use Rattle.search_graph.specs.Computed.{IsComputed}
+use Rattle.search_graph.specs.Computed.{IsComputed, IsGiven}
 use Rattle.search_graph.proofs.cache.CachedResults.insert.Goals as goal
 
 pub returns-then-number-len-clause-cache : goal.returns-then-number-len-clause-cache
@@ -37,6 +38,14 @@ returns-then-differs-clause-conflict g c = λ conflict.
     let cached = IsCached-at m w cx c.args.self.now.entries.items other.0 e other.2 c.requires.cache in
     HasConflict-at m cx c.args.self.now.entries.items other.0 e other.2 (record {
       answer = m.answer_of cx c.args.found.now;
-      computed = subst (λ z. IsComputed m w (m.goal_of cx z) (m.answer_of cx c.args.found.now)) (sym other.3) c.requires.result.source;
+      computed = subst (λ z. IsComputed m w (IsGiven m w) (m.goal_of cx z) (m.answer_of cx c.args.found.now)) (sym other.3) c.requires.result.source;
       other = λ s. let equal = g.met.D.Delegate.same_answer cx e.result c.args.found.now cached.result.known c.requires.result.known s in true_not_false (sym equal ∙ other.5);
     })
+
+pub returns-then-number-len-clause-within : goal.returns-then-number-len-clause-within
+returns-then-number-len-clause-within g c = λ before cached found. rw c.in_ok-push.ensures.items
+    (AreCachedWithin-push g.D.Delegate.meaning (g.D.Delegate.meaning.world c.args.cx.now) before c.args.cx.now c.args.self.now.entries.items (record { input = c.args.input; result = c.in_ok-result.result; depth = c.args.depth; encountered_overflow = c.args.encountered_overflow; number = c.args.number; previous = c.newest_of-previous.result; nested_goals = c.args.nested_goals }) cached (rw c.in_ok-result.ensures found))
+
+pub returns-else-number-len-clause-within : goal.returns-else-number-len-clause-within
+returns-else-number-len-clause-within g c = λ before cached found. rw c.in_ok-push.ensures.items
+    (AreCachedWithin-push g.D.Delegate.meaning (g.D.Delegate.meaning.world c.args.cx.now) before c.args.cx.now c.args.self.now.entries.items (record { input = c.args.input; result = c.in_ok-result.result; depth = c.args.depth; encountered_overflow = c.args.encountered_overflow; number = c.args.number; previous = c.newest_of-previous.result; nested_goals = c.args.nested_goals }) cached (rw c.in_ok-result.ensures found))

@@ -1,6 +1,7 @@
-use Rattle.std.proofs.Common.{◌<◌, ◌⊎◌, false, ◌≡◌, ◌≤◌, length, max, ℕ, ◌+◌, ◌*◌, [], ◌∷◌, ◌++◌}
+use Rattle.std.proofs.Common.{◌<◌, ◌⊎◌, true, false, List, ◌≡◌, ◌≤◌, length, max, ℕ, ◌+◌, ◌*◌, [], ◌∷◌, ◌++◌}
 use Rattle.search_graph.specs.Meaning.{Keeps, is_open, finished, answer_count}
-use Rattle.search_graph.specs.Stack.{question_of, path_onto, IsEntry, IsRunning, AreCached}
+use Rattle.search_graph.specs.Computed.{Hears, IsGivenWithin}
+use Rattle.search_graph.specs.Stack.{question_of, path_onto, IsEntry, IsRunning, AreCached, IsLastWithin, AreLastWithin, AreCachedWithin}
 use Rattle.search_graph.specs.Plain.{IsNotPlain}
 use Rattle.search_graph.specs.Faithful.{AllDescend, IsOnPlainTrack, IsUntouched}
 use Rattle.search_graph.specs.Bound.{question_bound}
@@ -33,6 +34,9 @@ invariant-evaluate_new-loop-run g l =
       untouched : IsUntouched m (m.world l.fn.cx) (l.depth + 1) (path_onto m l.fn.cx l.fn.self.stack.items []) (m.goal_of l.fn.cx l.fn.input) l.dependencies.encountered_overflow l.dependencies.lowest l.dependencies.heads.items;
       frames : (width : ℕ) → m.number_of (m.world l.fn.cx) (m.goal_of l.fn.cx l.fn.input) ≤ width
           → l.self.frames ≤ l.fn.self.frames + l._run * (1 + width * question_bound (max g.D.Delegate.FIXPOINT_STEP_LIMIT 1) width l.depth);
+      limits : l.fn.self.limits_met ≡ true → l.self.limits_met ≡ true;
+      within : (before : List (m.Goal × m.Answer)) → l.self.limits_met ≡ false → AreLastWithin m (m.world l.fn.cx) before l.fn.cx l.fn.self.stack.items → AreCachedWithin m (m.world l.fn.cx) before l.fn.cx l.fn.cache.entries.items
+          → AreCachedWithin m (m.world l.fn.cx) before l.cx l.cache.entries.items × IsLastWithin m (m.world l.fn.cx) before l.cx l.entry;
       again : 0 < l._run → (limit : ℕ) → (limit ≤ l.depth + 1) ⊎ (l.dependencies.encountered_overflow ≡ false)
           → AllDescend m (m.world l.fn.cx) limit l.dependencies.lowest (path_onto m l.fn.cx l.fn.self.stack.items []) (m.goal_of l.fn.cx l.fn.input) → IsNotPlain m (m.world l.fn.cx) limit (m.goal_of l.fn.cx l.fn.input);
     }
@@ -50,6 +54,10 @@ invariant-run_once-loop-request g l =
       listed : l.candidates.finished.items ≡ finished m (m.world l.fn.cx) (m.goal_of l.fn.cx l.fn.entry.input) running.heard;
       frames : (width : ℕ) → m.number_of (m.world l.fn.cx) (m.goal_of l.fn.cx l.fn.entry.input) ≤ width
           → l.self.frames ≤ l.fn.self.frames + 1 + answer_count m running.heard * question_bound (max g.D.Delegate.FIXPOINT_STEP_LIMIT 1) width l.depth;
+      limits : l.fn.self.limits_met ≡ true → l.self.limits_met ≡ true;
+      within : (before : List (m.Goal × m.Answer)) → l.self.limits_met ≡ false → AreLastWithin m (m.world l.fn.cx) before l.fn.cx l.fn.self.stack.items → IsLastWithin m (m.world l.fn.cx) before l.fn.cx l.fn.entry
+          → AreCachedWithin m (m.world l.fn.cx) before l.fn.cx l.fn.cache.entries.items
+          → AreCachedWithin m (m.world l.fn.cx) before l.cx l.cache.entries.items × Hears m (m.world l.fn.cx) (IsGivenWithin m (m.world l.fn.cx) before) (m.goal_of l.fn.cx l.fn.entry.input) running.heard;
       plain : IsOnPlainTrack m (m.world l.fn.cx) (l.depth + 1) (path_onto m l.fn.cx l.fn.self.stack.items []) (m.goal_of l.fn.cx l.fn.entry.input) l.dependencies.encountered_overflow l.dependencies.lowest l.dependencies.heads.items running.heard;
     }
 

@@ -1,5 +1,7 @@
 use Rattle.std.proofs.Common.{◌≡◌, ◌+◌, ◌∙◌, sym, ap, subst, refl, [], inl, arith}
-use Rattle.search_graph.specs.Cache.{AreJustified}
+use Rattle.search_graph.specs.Cache.{AreJustified, answers_in}
+use Rattle.search_graph.specs.Proof.{IsAmong}
+use Rattle.search_graph.proofs.Limits.{AreCachedWithin-among}
 use Rattle.search_graph.proofs.Proofs.{sound_answer}
 use Rattle.search_graph.proofs.Caches.{AreCached-known, AreJustified-known}
 use Rattle.search_graph.proofs.Errors.{err_passed, ok_not_err, empty_of_length}
@@ -50,5 +52,17 @@ pub returns-clause-computed : goal.returns-clause-computed
 returns-clause-computed g c =
     elim c.match-evaluate.branch [
       | in-Ok w ↦ rw w.result-is w.in-Ok.ensures.answer.source
+      | in-Err w ↦ rw w.result-is tt
+    ]
+
+pub returns-clause-limits : goal.returns-clause-limits
+returns-clause-limits g c =
+    let m = g.D.Delegate.meaning in
+    let first = c.args.cx.now in
+    let before = answers_in m first c.args.cache.now in
+    let empty : c.self.inside.search.stack.items ≡ [] = empty_of_length c.self.inside.search.stack.items (ap (λ s. s.current_depth) c.self.view_is ∙ c.requires.empty) in
+    elim c.match-evaluate.branch [
+      | in-Ok w ↦ rw w.result-is (λ no. (w.in-Ok.ensures.within before (rw w.self-is at no) (rw empty tt)
+          (AreCachedWithin-among m (m.world first) before first c.cache.inside.results.entries.items (λ x h. subst (λ ks. IsAmong x (answers_in m first ks)) c.cache.view_is h))).1)
       | in-Err w ↦ rw w.result-is tt
     ]
