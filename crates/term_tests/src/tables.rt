@@ -1,0 +1,233 @@
+//! Each call once.
+ghost use Rattle.std.specs.Prelude.{IfOk};
+ghost use Rattle.type_terms.specs.Terms.{Has, Keeps, types};
+ghost use Rattle.infer_table.specs.Content.{Ready, Grows};
+
+use infer_table::goal::EqError;
+use infer_table::infer_ctxt::InferCtxt;
+use infer_table::terms::RegionConstraint;
+use std::alloc::Global;
+use std::test::Fail;
+use term_folds::binder::Binder;
+use type_terms::interner::Interner;
+use type_terms::kinds::{ConstKind, GenericArgKind, Mutability, Ty, TyKind, UintTy};
+use type_terms::number::{BoundVar, BoundVarIndexKind, ConstVid, DebruijnIndex, RegionVid, TyVid};
+use type_terms::region::{Region, RegionKind};
+use type_terms::{AdtId, Fault};
+
+/// A type of the tests.
+#[derive(Clone, Copy)]
+enum Sample {
+    Unknown(TyVid),
+    Byte,
+    Bool,
+}
+
+/// The type, or `V` of it.
+#[derive(Clone, Copy)]
+enum Shape {
+    Plain(Sample),
+    VecOf(Sample),
+}
+
+fn make_sample(cx: &mut Interner, sample: Sample) -> Result<Ty, Fault>
+    ensures held { IfOk result (λ ty. Has cx.new.entries types ty.0) }
+    ensures keeps { Keeps cx.old.entries cx.new.entries }
+{
+    match sample {
+        Sample::Unknown(vid) => cx.mk_ty(TyKind::Infer(vid)),
+        Sample::Byte => cx.mk_ty(TyKind::Uint(UintTy::U8)),
+        Sample::Bool => cx.mk_ty(TyKind::Bool),
+    }
+}
+
+fn make(alloc: Global, cx: &mut Interner, shape: Shape) -> Result<Ty, Fault>
+    ensures held { IfOk result (λ ty. Has cx.new.entries types ty.0) }
+    ensures keeps { Keeps cx.old.entries cx.new.entries }
+{
+    match shape {
+        Shape::Plain(plain) => make_sample(cx, plain),
+        Shape::VecOf(inner) => {
+            let ty = make_sample(cx, inner)?;
+            let args = cx.mk_args(vec![in alloc; GenericArgKind::Ty(ty)]?)?;
+            cx.mk_ty(TyKind::Adt(AdtId { index: 0 }, args))
+        }
+    }
+}
+
+/// Equates two types.
+fn equate(
+    alloc: Global,
+    cx: &mut Interner,
+    table: &mut InferCtxt,
+    left: Shape,
+    right: Shape,
+) -> Result<(), EqError>
+    requires { Ready cx.old.entries table.old }
+    ensures ready { Ready cx.new.entries table.new }
+    ensures keeps { Keeps cx.old.entries cx.new.entries }
+    ensures grows { Grows table.old table.new }
+{
+    let left = make(alloc, cx, left)?;
+    let right = make(alloc, cx, right)?;
+    table.eq(cx, GenericArgKind::Ty(left), GenericArgKind::Ty(right))
+}
+
+/// Whether the two types were equated.
+fn equated(answer: Result<(), EqError>) -> Result<bool, Fault> {
+    match answer {
+        Ok(()) => Ok(true),
+        Err(EqError::NoSolution) => Ok(false),
+        Err(EqError::OutOf(fault)) => Err(fault),
+    }
+}
+
+/// A type with the values of its variables.
+fn resolve(alloc: Global, cx: &mut Interner, table: &InferCtxt, shape: Shape) -> Result<Ty, Fault>
+    requires { Ready cx.old.entries table.now }
+    ensures { Ready cx.new.entries table.now }
+{
+    let ty = make(alloc, cx, shape)?;
+    table.eager_resolve_vars(cx, ty)
+}
+
+/// What a variable stands for.
+fn value_of(alloc: Global, cx: &mut Interner, table: &InferCtxt, shape: Shape) -> Result<Ty, Fault>
+    requires { Ready cx.old.entries table.now }
+    ensures { Ready cx.new.entries table.now }
+{
+    let ty = make(alloc, cx, shape)?;
+    Ok(table.shallow_resolve(cx, ty))
+}
+
+/// Equates two types and undoes that.
+fn equate_and_undo(
+    alloc: Global,
+    cx: &mut Interner,
+    table: &mut InferCtxt,
+    left: Shape,
+    right: Shape,
+) -> Result<(), EqError>
+    requires { Ready cx.old.entries table.old }
+    ensures { Ready cx.new.entries table.new }
+{
+    let place = table.snapshot()?;
+    let answer = equate(alloc, cx, table, left, right);
+    table.roll_back(place);
+    answer
+}
+
+/// A table without variables.
+fn empty_table(alloc: Global, cx: &Interner) -> InferCtxt
+    ensures { Ready cx.now.entries result }
+{
+    cx.lawful();
+    InferCtxt::new(alloc)
+}
+
+/// A table with two unknown types.
+fn two_unknowns(alloc: Global, cx: &mut Interner) -> Result<InferCtxt, Fault>
+    ensures { IfOk result (λ table. Ready cx.new.entries table) }
+{
+    let mut table = empty_table(alloc, cx);
+    table.next_ty_var(cx)?;
+    table.next_ty_var(cx)?;
+    Ok(table)
+}
+
+const FIRST: Sample = Sample::Unknown(TyVid { index: 0 });
+
+const SECOND: Sample = Sample::Unknown(TyVid { index: 1 });
+
+#[test]
+fn variables_are_numbered_from_zero(rt: HostRuntime) -> Result<(), Fail> {
+    let alloc = rt.alloc();
+    let mut cx = Interner::new(alloc, 32);
+    let mut table = empty_table(alloc, &cx);
+    let first = table.next_ty_var(&mut cx)?;
+    assert!(rt; cx.kind(first) == TyKind::Infer(TyVid { index: 0 }));
+    let second = table.next_ty_var(&mut cx)?;
+    assert!(rt; cx.kind(second) == TyKind::Infer(TyVid { index: 1 }));
+    let constant = table.next_const_var(&mut cx)?;
+    assert!(rt; cx.const_kind(constant) == ConstKind::Infer(ConstVid { index: 0 }));
+    let lifetime = table.next_region_var()?;
+    assert!(rt; lifetime.kind == RegionKind::ReVar(RegionVid { index: 0 }));
+    let fixed = Region {
+        kind: RegionKind::ReStatic,
+    };
+    table.register_region_constraint(RegionConstraint::RegionOutlives(lifetime, fixed))?;
+    assert!(rt; table.region_constraints().len() == 1);
+    Ok(())
+}
+
+#[test]
+fn an_equation_gives_an_unknown_its_value(rt: HostRuntime) -> Result<(), Fail> {
+    let alloc = rt.alloc();
+    let mut cx = Interner::new(alloc, 32);
+    let mut table = two_unknowns(alloc, &mut cx)?;
+    let equal = equate(
+        alloc,
+        &mut cx,
+        &mut table,
+        Shape::VecOf(FIRST),
+        Shape::VecOf(Sample::Byte),
+    );
+    assert!(rt; equated(equal)?);
+    let clash = equate(
+        alloc,
+        &mut cx,
+        &mut table,
+        Shape::VecOf(Sample::Byte),
+        Shape::VecOf(Sample::Bool),
+    );
+    assert!(rt; !equated(clash)?);
+    let inside = equate(
+        alloc,
+        &mut cx,
+        &mut table,
+        Shape::Plain(SECOND),
+        Shape::VecOf(SECOND),
+    );
+    assert!(rt; !equated(inside)?);
+    let resolved = resolve(alloc, &mut cx, &table, Shape::VecOf(FIRST))?;
+    let wanted = make(alloc, &mut cx, Shape::VecOf(Sample::Byte))?;
+    assert!(rt; resolved == wanted);
+    Ok(())
+}
+
+#[test]
+fn a_roll_back_takes_a_value_away(rt: HostRuntime) -> Result<(), Fail> {
+    let alloc = rt.alloc();
+    let mut cx = Interner::new(alloc, 32);
+    let mut table = two_unknowns(alloc, &mut cx)?;
+    let left = Shape::Plain(SECOND);
+    let undone = equate_and_undo(alloc, &mut cx, &mut table, left, Shape::Plain(Sample::Byte));
+    assert!(rt; equated(undone)?);
+    let again = equate(alloc, &mut cx, &mut table, left, Shape::Plain(Sample::Bool));
+    assert!(rt; equated(again)?);
+    let value = value_of(alloc, &mut cx, &table, left)?;
+    let wanted = make(alloc, &mut cx, Shape::Plain(Sample::Bool))?;
+    assert!(rt; value == wanted);
+    Ok(())
+}
+
+#[test]
+fn an_opened_signature_has_a_lifetime_variable(rt: HostRuntime) -> Result<(), Fail> {
+    let alloc = rt.alloc();
+    let mut cx = Interner::new(alloc, 32);
+    let binder = BoundVarIndexKind::Bound(DebruijnIndex { index: 0 });
+    let byte = cx.mk_ty(TyKind::Uint(UintTy::U8))?;
+    let bound = Region {
+        kind: RegionKind::ReBound(binder, BoundVar { index: 0 }),
+    };
+    let value = cx.mk_ty(TyKind::Ref(bound, byte, Mutability::Not))?;
+    let mut table = empty_table(alloc, &cx);
+    let opened = table.instantiate_binder_with_infer(&mut cx, Binder { value, count: 1 })?;
+    let byte = cx.mk_ty(TyKind::Uint(UintTy::U8))?;
+    let free = Region {
+        kind: RegionKind::ReVar(RegionVid { index: 0 }),
+    };
+    let wanted = cx.mk_ty(TyKind::Ref(free, byte, Mutability::Not))?;
+    assert!(rt; opened == wanted);
+    Ok(())
+}
