@@ -4,12 +4,15 @@
 //! a count, and 3 where a run, printing or memory failed.
 #![tactic(auto)]
 
+mod equations;
+mod forms;
 mod searches;
 mod terms;
 
 ghost use Rattle.std.specs.Prelude.{IfSome, ◌≤◌};
 ghost use Rattle.benchmarks.specs.declared.TheConstants.{MOST};
 
+use equations::Order;
 use std::alloc::Global;
 use std::process::ExitCode;
 use std::rt::Env;
@@ -24,10 +27,16 @@ enum Program {
     Instantiated,
     /// An instance of a type that doubles at each level.
     Doubled,
+    /// The canonical form of a goal with many unknowns.
+    Canonical,
     /// Goals that each ask ten which are cached.
     Cached,
     /// Goals that ask one another round.
     Cyclic,
+    /// Variables that are each equated with the next, the first pair first.
+    Chained,
+    /// The same, the last pair first.
+    ChainedBackward,
 }
 
 /// The greatest count that a run takes.
@@ -39,8 +48,11 @@ fn program_named(name: &str) -> Option<Program> {
         "nested" => Some(Program::Nested),
         "instantiated" => Some(Program::Instantiated),
         "doubled" => Some(Program::Doubled),
+        "canonical" => Some(Program::Canonical),
         "cached" => Some(Program::Cached),
         "cyclic" => Some(Program::Cyclic),
+        "chained" => Some(Program::Chained),
+        "chained_backward" => Some(Program::ChainedBackward),
         _ => None,
     }
 }
@@ -79,6 +91,10 @@ fn run(rt: &impl Print, alloc: Global, program: Program, count: u32) -> Result<(
             let instances = terms::doubled(alloc, count).map_err(|_| Failed)?;
             println!(rt; "{instances} instance")
         }
+        Program::Canonical => {
+            let variables = forms::canonical(alloc, count).map_err(|_| Failed)?;
+            println!(rt; "a form with {variables} variables")
+        }
         Program::Cached => {
             let counts = searches::cached(alloc, count as usize).map_err(|_| Failed)?;
             println!(rt;
@@ -92,6 +108,14 @@ fn run(rt: &impl Print, alloc: Global, program: Program, count: u32) -> Result<(
                 "{} goals, {} yes, {} frames",
                 counts.goals, counts.yes, counts.frames
             )
+        }
+        Program::Chained => {
+            let found = equations::chained(alloc, count, Order::Forward).map_err(|_| Failed)?;
+            println!(rt; "{found} variables")
+        }
+        Program::ChainedBackward => {
+            let found = equations::chained(alloc, count, Order::Backward).map_err(|_| Failed)?;
+            println!(rt; "{found} variables")
         }
     };
     printed.map_err(|_| Failed)

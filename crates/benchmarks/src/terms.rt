@@ -11,7 +11,7 @@ use type_terms::interner::Interner;
 use type_terms::kinds::{GenericArgKind, GenericArgs, Ty, TyKind, UintTy};
 
 /// More handles of each kind than a run makes.
-const HANDLES: u32 = 16_777_216;
+pub const HANDLES: u32 = 16_777_216;
 
 /// The parameter 0 in so many slices, one in the other.
 fn slices(cx: &mut Interner, count: u32) -> Result<Ty, Fault>
