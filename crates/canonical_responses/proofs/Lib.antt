@@ -1,2 +1,4 @@
 pub mod ConstraintLists
 pub mod Values
+pub mod Covers
+pub mod Answered

@@ -1,3 +1,4 @@
 pub mod Raw
 pub mod Responses
 pub mod Applying
+pub mod Covers

@@ -3,12 +3,13 @@ ghost use Rattle.std.specs.Prelude.{◌≡◌, ℕ, List, [], IfOk, map, Some};
 ghost use Rattle.model.specs.Trees.{◌+++◌};
 ghost use Rattle.type_terms.specs.Terms.{Keeps, Has, args_lists, trees_at};
 ghost use Rattle.type_terms.specs.Kinds.{ArgsHeld, args_trees};
-ghost use Rattle.infer_table.specs.Canonical.{canonical_form, kind_of_leaf};
-ghost use Rattle.infer_table.specs.Solutions.{resolved};
+ghost use Rattle.infer_table.specs.Canonical.{canonical_form, kind_of_leaf, HasNoCanonical};
+ghost use Rattle.infer_table.specs.Solutions.{Assignment, Solves, instance, resolved};
 ghost use Rattle.infer_table.specs.Content.{content, Ready, AllConstraintsHeld};
 ghost use Rattle.infer_table.specs.Constraints.{constraints_trees};
-ghost use Rattle.canonical_forms.specs.Leaves.{AreLeaves, labels};
+ghost use Rattle.canonical_forms.specs.Leaves.{AreLeaves, OpenAreLeaves, labels};
 ghost use Rattle.canonical_responses.specs.Responses.{as_goal, response_form, answer_leaves, numbered_by, ResponseHeld};
+ghost use Rattle.canonical_responses.specs.Covers.{Agrees, AreNumbered};
 
 use crate::constraints::{fold_constraints, resolve_constraints};
 use canonical_forms::canonicalizer::{Canonicalizer, LeafCollector};
@@ -37,6 +38,7 @@ fn collect_leaves(
     requires constraints { AllConstraintsHeld cx.now.entries constraints.now }
     ensures listed { IfOk result (λ s. AreLeaves cx.now.entries s.keys) }
     ensures leaves { IfOk result (λ s. labels cx.now.entries s.keys ≡ answer_leaves (trees_at cx.now.entries values.0 +++ constraints_trees cx.now.entries constraints.now)) }
+    ensures only { IfOk result (λ s. OpenAreLeaves kind_of_leaf (trees_at cx.now.entries values.0)) }
 {
     let mut collector = LeafCollector {
         leaves: IndexSet::new(alloc),
@@ -87,6 +89,10 @@ pub fn canonicalize_response(
     // Its values are the resolved values and its constraints the resolved constraints, numbered.
     ensures values { IfOk result (λ r. args_trees cx.new.entries r.var_values.items ≡ numbered_by (answer_leaves (resolved (content cx.old.entries table.now.values) (args_trees cx.old.entries values.now +++ constraints_trees cx.old.entries table.now.constraints))) (resolved (content cx.old.entries table.now.values) (args_trees cx.old.entries values.now))) }
     ensures constraints { IfOk result (λ r. constraints_trees cx.new.entries r.region_constraints.items ≡ numbered_by (answer_leaves (resolved (content cx.old.entries table.now.values) (args_trees cx.old.entries values.now +++ constraints_trees cx.old.entries table.now.constraints))) (resolved (content cx.old.entries table.now.values) (constraints_trees cx.old.entries table.now.constraints))) }
+
+    // The answer agrees with each solution of the table, and its variables are of its kinds.
+    ensures agrees { IfOk result (λ r. HasNoCanonical (resolved (content cx.old.entries table.now.values) (args_trees cx.old.entries values.now)) → (s : Assignment) → Solves s (content cx.old.entries table.now.values) → Agrees (args_trees cx.new.entries r.var_values.items) (instance s (args_trees cx.old.entries values.now))) }
+    ensures numbered { IfOk result (λ r. HasNoCanonical (resolved (content cx.old.entries table.now.values) (args_trees cx.old.entries values.now)) → AreNumbered r.variables.items (args_trees cx.new.entries r.var_values.items)) }
 {
     let given = cx.mk_args(Vec::from_slice(alloc, values)?)?;
     let resolved = table.eager_resolve_vars(cx, given)?;

@@ -8,4 +8,5 @@
 pub mod apply;
 pub mod canonicalize;
 mod constraints;
+pub mod laws;
 pub mod raw;

@@ -9,13 +9,17 @@ use Rattle.infer_table.specs.Solutions.{resolved}
 use Rattle.infer_table.specs.Content.{content}
 use Rattle.infer_table.specs.Kept.{content-kept, ready-later, constraints-kept}
 use Rattle.infer_table.specs.Constraints.{constraints_trees}
-use Rattle.infer_table.proofs.SolutionLaws.{resolved-append}
-use Rattle.canonical_forms.specs.Leaves.{labels, AreOpen}
+use Rattle.infer_table.proofs.SolutionLaws.{resolved-append, instance-resolved}
+use Rattle.infer_table.proofs.ContentFacts.{valued}
+use Rattle.infer_table.proofs.EquationFacts.{solved-sorted}
+use Rattle.canonical_forms.specs.Leaves.{labels, AreOpen, OpenAreLeaves}
 use Rattle.canonical_forms.specs.LeafLaws.{leaves-later, labels-later}
 use Rattle.canonical_forms.proofs.Collections.{goal-open}
 use Rattle.canonical_forms.proofs.Numbers.{numbered-fold, relabeled-append}
 use Rattle.canonical_responses.specs.Responses.{answer_leaves, numbered_by}
 use Rattle.canonical_responses.proofs.ConstraintLists.{constraints-later, constraints-numbered, one-piece-is, form-same}
+use Rattle.canonical_responses.specs.Covers.{AreNumbered}
+use Rattle.canonical_responses.proofs.Answered.{agrees, are-numbered, value-leaves}
 use Rattle.canonical_responses.proofs.canonicalize.canonicalize_response.Goals as goal
 
 pub eager_resolve_vars-requires-clause-ready : goal.eager_resolve_vars-requires-clause-ready
@@ -173,3 +177,86 @@ returns-clause-form c =
     ∙ sym (relabeled-append false (canonical_label ls) (resolved bs V) (resolved bs C))
     ∙ ap (numbered_by ls) (sym (resolved-append bs V C)) in
     form-same _ _ _ _ trees (c.in_ok-variables.ensures ∙ ap (λ z. map kind_of_leaf (labels now z)) c.as_slice.ensures.keys ∙ ap (map kind_of_leaf) listed)
+
+pub returns-clause-agrees : goal.returns-clause-agrees
+returns-clause-agrees c = λ n s h.
+    let es = c.args.cx.now.entries in
+    let made = c.mk_args.new.self.entries in
+    let solved = c.eager_resolve_vars.new.cx.entries in
+    let now = c.resolve_constraints.new.cx.entries in
+    let next = c.fold_with.new.cx.entries in
+    let end = c.fold_constraints.new.cx.entries in
+    let ps = c.args.table.now.values in
+    let cs = c.args.table.now.constraints in
+    let bs = content es ps in
+    let V = args_trees es c.args.values.now in
+    let C = constraints_trees es cs in
+    let keys = c.in_ok-leaves.leaves.keys in
+    let to-solved : Keeps es solved = λ i x h. c.eager_resolve_vars.ensures.keeps i x (c.mk_args.ensures.keeps i x h) in
+    let values : trees_at now c.in_ok-resolved.resolved.0 ≡ resolved bs V =
+    trees-later solved now c.resolve_constraints.ensures.keeps args_lists c.in_ok-resolved.resolved.0 c.in_ok-resolved.ensures.held
+    ∙ one-piece-is _ _ c.in_ok-resolved.ensures.resolved
+    ∙ ap (λ z. resolved (content made ps) z) (trees-is made args_lists c.in_ok-given.given.0 _ c.in_ok-given.ensures.is ∙ ap (args_trees es) c.in_ok-from_slice.ensures.items)
+    ∙ ap (λ z. resolved z V) (content-kept es made ps c.mk_args.ensures.keeps c.requires.ready.held) in
+    let constraints : constraints_trees now c.in_ok-constraints.constraints.items ≡ resolved bs C =
+    c.in_ok-constraints.ensures.resolved
+    ∙ ap (λ z. resolved (content solved ps) (constraints_trees solved z)) c.region_constraints.ensures
+    ∙ ap (resolved (content solved ps)) (constraints-later es solved to-solved cs c.requires.ready.constraints_held)
+    ∙ ap (λ z. resolved z C) (content-kept es solved ps to-solved c.requires.ready.held) in
+    let listed : labels now keys ≡ answer_leaves (resolved bs (V +++ C)) =
+    c.in_ok-leaves.ensures.leaves
+    ∙ ap answer_leaves (append-both _ _ _ _ values (ap (constraints_trees now) c.deref.ensures.value ∙ constraints) ∙ sym (resolved-append bs V C)) in
+    let numbered-values : args_trees end c.in_ok-var_values.var_values.items ≡ numbered_by (answer_leaves (resolved bs (V +++ C))) (resolved bs V) =
+    ap (args_trees end) c.in_ok-var_values.ensures.items
+    ∙ sym (trees-is end args_lists c.in_ok-numbered.numbered.0 _ c.args-2.ensures.is)
+    ∙ trees-later next end c.fold_constraints.ensures.keeps args_lists c.in_ok-numbered.numbered.0 c.in_ok-numbered.ensures.held
+    ∙ numbered-fold false (labels now keys) [] _ _ c.in_ok-numbered.ensures.folded.1
+    ∙ ap (λ z. numbered_by z (trees_at now c.in_ok-resolved.resolved.0)) listed
+    ∙ ap (numbered_by (answer_leaves (resolved bs (V +++ C)))) values in
+    let P = resolved bs (V +++ C) in
+    let ls = answer_leaves P in
+    let only : OpenAreLeaves kind_of_leaf (resolved bs V) = subst (OpenAreLeaves kind_of_leaf) values c.in_ok-leaves.ensures.only in
+    agrees ls s (args_trees end c.in_ok-var_values.var_values.items) (resolved bs V) V (solved-sorted s bs h) n only (value-leaves (resolved bs V) (resolved bs C) P (resolved-append bs V C)) numbered-values
+    (instance-resolved s bs V (valued es ps) h)
+
+pub returns-clause-numbered : goal.returns-clause-numbered
+returns-clause-numbered c = λ n.
+    let es = c.args.cx.now.entries in
+    let made = c.mk_args.new.self.entries in
+    let solved = c.eager_resolve_vars.new.cx.entries in
+    let now = c.resolve_constraints.new.cx.entries in
+    let next = c.fold_with.new.cx.entries in
+    let end = c.fold_constraints.new.cx.entries in
+    let ps = c.args.table.now.values in
+    let cs = c.args.table.now.constraints in
+    let bs = content es ps in
+    let V = args_trees es c.args.values.now in
+    let C = constraints_trees es cs in
+    let keys = c.in_ok-leaves.leaves.keys in
+    let to-solved : Keeps es solved = λ i x h. c.eager_resolve_vars.ensures.keeps i x (c.mk_args.ensures.keeps i x h) in
+    let values : trees_at now c.in_ok-resolved.resolved.0 ≡ resolved bs V =
+    trees-later solved now c.resolve_constraints.ensures.keeps args_lists c.in_ok-resolved.resolved.0 c.in_ok-resolved.ensures.held
+    ∙ one-piece-is _ _ c.in_ok-resolved.ensures.resolved
+    ∙ ap (λ z. resolved (content made ps) z) (trees-is made args_lists c.in_ok-given.given.0 _ c.in_ok-given.ensures.is ∙ ap (args_trees es) c.in_ok-from_slice.ensures.items)
+    ∙ ap (λ z. resolved z V) (content-kept es made ps c.mk_args.ensures.keeps c.requires.ready.held) in
+    let constraints : constraints_trees now c.in_ok-constraints.constraints.items ≡ resolved bs C =
+    c.in_ok-constraints.ensures.resolved
+    ∙ ap (λ z. resolved (content solved ps) (constraints_trees solved z)) c.region_constraints.ensures
+    ∙ ap (resolved (content solved ps)) (constraints-later es solved to-solved cs c.requires.ready.constraints_held)
+    ∙ ap (λ z. resolved z C) (content-kept es solved ps to-solved c.requires.ready.held) in
+    let listed : labels now keys ≡ answer_leaves (resolved bs (V +++ C)) =
+    c.in_ok-leaves.ensures.leaves
+    ∙ ap answer_leaves (append-both _ _ _ _ values (ap (constraints_trees now) c.deref.ensures.value ∙ constraints) ∙ sym (resolved-append bs V C)) in
+    let numbered-values : args_trees end c.in_ok-var_values.var_values.items ≡ numbered_by (answer_leaves (resolved bs (V +++ C))) (resolved bs V) =
+    ap (args_trees end) c.in_ok-var_values.ensures.items
+    ∙ sym (trees-is end args_lists c.in_ok-numbered.numbered.0 _ c.args-2.ensures.is)
+    ∙ trees-later next end c.fold_constraints.ensures.keeps args_lists c.in_ok-numbered.numbered.0 c.in_ok-numbered.ensures.held
+    ∙ numbered-fold false (labels now keys) [] _ _ c.in_ok-numbered.ensures.folded.1
+    ∙ ap (λ z. numbered_by z (trees_at now c.in_ok-resolved.resolved.0)) listed
+    ∙ ap (numbered_by (answer_leaves (resolved bs (V +++ C)))) values in
+    let P = resolved bs (V +++ C) in
+    let ls = answer_leaves P in
+    let only : OpenAreLeaves kind_of_leaf (resolved bs V) = subst (OpenAreLeaves kind_of_leaf) values c.in_ok-leaves.ensures.only in
+    let kinds = c.in_ok-variables.ensures ∙ ap (λ z. map kind_of_leaf (labels now z)) c.as_slice.ensures.keys ∙ ap (map kind_of_leaf) listed in
+    subst (AreNumbered c.in_ok-variables.variables.items) (sym numbered-values)
+    (are-numbered ls c.in_ok-variables.variables.items kinds (resolved bs V) n only (value-leaves (resolved bs V) (resolved bs C) P (resolved-append bs V C)))

@@ -45,3 +45,9 @@ returns-clause-leaves c =
     let past : length xs ≤ c.loop-constraint.constraint-index = omega arith in
     let done : drop c.loop-constraint.constraint-index xs ≡ [] = drop-past xs c.loop-constraint.constraint-index past in
     ap (λ z. leaves kind_of_leaf (labels es keys) (constraints_trees es z)) (sym done) ∙ inv.leaves ∙ sym (leaves-append kind_of_leaf [] t (constraints_trees es xs))
+
+pub returns-clause-only : goal.returns-clause-only
+returns-clause-only c =
+    let es = c.args.cx.now.entries in
+    let k = predicate-collected es (trees_at es c.args.values.0) _ c.visit_with.new.visitor c.in-Continue.ensures.visited in
+    k.only

@@ -1,0 +1,11 @@
+use Rattle.canonical_responses.proofs.Covers.{known-empty, known-later, known-equates}
+use Rattle.canonical_responses.proofs.laws.known_unknowns_laws.Goals as goal
+
+pub returns-clause-empty : goal.returns-clause-empty
+returns-clause-empty c = λ counts. known-empty counts
+
+pub returns-clause-more : goal.returns-clause-more
+returns-clause-more c = λ counts more bs le own. known-later counts more bs le own
+
+pub returns-clause-equated : goal.returns-clause-equated
+returns-clause-equated c = λ counts old new a b e ka kb own. known-equates counts old new a b e ka kb own
