@@ -42,9 +42,6 @@ pub length-grow : (es : List Entry) (ns : List Node) → length (grow es ns) ≡
 length-grow es [] = omega arith
 length-grow es (n ∷ ns) = length-grow (es ++ node_entry es n ∷ []) ns ∙ rw (length-push es (node_entry es n)) (omega arith)
 
-pub keeps-refl : (es : List Entry) → Keeps es es
-keeps-refl es i e h = h
-
 pub keeps-push : (es : List Entry) (e : Entry) → Keeps es (es ++ e ∷ [])
 keeps-push es e i f h = slice_get-append es (e ∷ []) i f h
 
