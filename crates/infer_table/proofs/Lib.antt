@@ -12,3 +12,11 @@ pub mod OpenFacts
 pub mod OpenedParts
 pub mod ResolveFacts
 pub mod SolvableLaws
+pub mod UnifyFacts
+pub mod PairFacts
+pub mod RunFacts
+pub mod RegionTests
+pub mod HandleFacts
+pub mod WellFacts
+pub mod SolveFacts
+pub mod ExtendFacts

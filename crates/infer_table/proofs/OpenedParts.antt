@@ -18,6 +18,7 @@ use Rattle.term_traversal.specs.Pieces.{Piece, one_piece, each_piece}
 use Rattle.term_traversal.specs.Kept.{args-trees-later, trees-later}
 use Rattle.infer_table.specs.Parts.{parts_trees, bounds_args, AreBounds, bounds_count, bound_count, opened_trees}
 use Rattle.infer_table.specs.Alike.{Alike}
+use Rattle.infer_table.specs.Content.{Table}
 use Rattle.infer_table.specs.Opened.{opened}
 use Rattle.infer_table.proofs.ContentFacts.{is-trees}
 use Rattle.infer_table.proofs.PartFacts.{tuple-parts, args-append, autos-cases, autos-are, bounds-are}
@@ -92,8 +93,9 @@ object-opened old new first j b r found p list copy items h g e a c f =
     ∙ ap (λ z. z +++ region_trees r) (sym (is-trees new args_lists j (args_trees new list) a) ∙ one-opened first p.bound_vars (trees_at old p.args.0) (trees_at new j) e
     ∙ ap (opened first p.bound_vars 0) (sym (principal-args old b found p h g)) ∙ ap (λ n. opened first n 0 (bounds_args (trees_at old b.0))) (sym (principal-count old b found p h g)))
 
-pub object-taken : (es : List Entry) (b : of-bounds.Bounds) (found : BoundsData) (p : Principal) (m n : ℕ) → Is es bounds_lists b.0 (bounds_trees es found) → found.principal ≡ Some p → n ≡ m + p.bound_vars → n ≡ m + bounds_count (trees_at es b.0)
-object-taken es b found p m n h g e = e ∙ ap (λ k. m + k) (sym (principal-count es b found p h g))
+pub object-made : (es : List Entry) (b : of-bounds.Bounds) (found : BoundsData) (p : Principal) (t u : Table) → Is es bounds_lists b.0 (bounds_trees es found) → found.principal ≡ Some p
+    → u ≡ record t { region_vars = t.region_vars + p.bound_vars } → u ≡ record t { region_vars = t.region_vars + bounds_count (trees_at es b.0) }
+object-made es b found p t u h g e = e ∙ ap (λ k. record t { region_vars = t.region_vars + k }) (sym (principal-count es b found p h g))
 
 plain-bounds : (es : List Entry) (b : of-bounds.Bounds) (found : BoundsData) → Is es bounds_lists b.0 (bounds_trees es found) → found.principal ≡ None → (bounds_args (trees_at es b.0) ≡ none) × (bounds_count (trees_at es b.0) ≡ 0)
 plain-bounds es b found h g =
@@ -110,8 +112,12 @@ pub plain-object-opened : (es : List Entry) (first : ℕ) (b : of-bounds.Bounds)
 plain-object-opened es first b r found items h g f =
     ap (args_trees es) f ∙ ap (λ z. opened first (bounds_count (trees_at es b.0)) 0 z +++ region_trees r) (sym (plain-bounds es b found h g).0)
 
-pub plain-object-taken : (es : List Entry) (b : of-bounds.Bounds) (found : BoundsData) (m : ℕ) → Is es bounds_lists b.0 (bounds_trees es found) → found.principal ≡ None → m ≡ m + bounds_count (trees_at es b.0)
-plain-object-taken es b found m h g = let e = (plain-bounds es b found h g).1 in omega (arith, e)
+-- no further variable
+pub none-made : (t : Table) (n : ℕ) → n ≡ 0 → t ≡ record t { region_vars = t.region_vars + n }
+none-made t n e = let same : t.region_vars ≡ t.region_vars + n = omega (arith, e) in ap (λ m. record t { region_vars = m }) same
+
+pub plain-object-made : (es : List Entry) (b : of-bounds.Bounds) (found : BoundsData) (t : Table) → Is es bounds_lists b.0 (bounds_trees es found) → found.principal ≡ None → t ≡ record t { region_vars = t.region_vars + bounds_count (trees_at es b.0) }
+plain-object-made es b found t h g = let e = (plain-bounds es b found h g).1 in none-made t (bounds_count (trees_at es b.0)) e
 
 -- a type that binds no lifetimes has the parts that it has
 pub plain-opened : (es : List Entry) (first : ℕ) (k : TyKind) → ((n : ℕ) (ts : of-tys.Tys) → k ≡ FnPtr n ts → ⊥) → ((b : of-bounds.Bounds) (r : Region) → k ≡ Dynamic b r → ⊥) → (opened_trees es first k ≡ parts_trees es k) × (bound_count es k ≡ 0)
@@ -130,3 +136,17 @@ opened-later old new first (Tuple ts) k h = trees-later old new k type_lists ts.
 opened-later old new first (FnPtr n ts) k h = ap (opened first n 0) (trees-later old new k type_lists ts.0 h.0)
 opened-later old new first (Dynamic b r) k h = ap (λ z. opened first (bounds_count z) 0 (bounds_args z) +++ region_trees r) (trees-later old new k bounds_lists b.0 h.0)
 opened-later old new first kind k h = refl
+
+-- lifetimes that are taken twice are taken together
+pub made-twice : (t u w : Table) (a b : ℕ) → u ≡ record t { region_vars = t.region_vars + a } → w ≡ record u { region_vars = u.region_vars + b } → w ≡ record t { region_vars = t.region_vars + (a + b) }
+made-twice t u w a b p q =
+    q ∙ ap (λ (x : Table). record x { region_vars = x.region_vars + b }) p
+    ∙ ap (λ (n : ℕ). record t { region_vars = n }) (sum t.region_vars a b)
+  where
+    sum : (n a b : ℕ) → n + a + b ≡ n + (a + b)
+    sum n a b = omega arith
+
+-- the lifetimes that a type itself binds are as many while the interner grows
+pub bound-count-later : (old new : List Entry) → Keeps old new → (kind : TyKind) → KindHeld old kind → bound_count new kind ≡ bound_count old kind
+bound-count-later old new k (Dynamic b r) h = ap bounds_count (trees-later old new k bounds_lists b.0 h.0)
+bound-count-later old new k kind h = refl

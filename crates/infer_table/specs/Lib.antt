@@ -12,3 +12,6 @@ pub mod Alike
 pub mod Resolving
 pub mod Kept
 pub mod Growth
+pub mod Unification
+pub mod Worklists
+pub mod WellFormed

@@ -1,10 +1,12 @@
 //! Laws of resolving and of solutions, over the trees that the contracts speak of.
-ghost use Rattle.std.specs.Prelude.{◌≡◌, ℕ, List, Some, false};
+ghost use Rattle.std.specs.Prelude.{◌≡◌, ℕ, List, [], ◌∷◌, Some, None, false};
 ghost use Rattle.model.specs.Label.{Sort};
 ghost use Rattle.model.specs.Trees.{Trees, erase};
 ghost use Rattle.type_terms.specs.Terms.{Entry};
-ghost use Rattle.infer_table.specs.Solutions.{Assignment, Binding, Solves, IsSorted, IsClosed, IsCompletion, AreEquivalent, Equates, instance, resolved, occurs, value_in, Acyclic};
+ghost use Rattle.infer_table.specs.Solutions.{Assignment, Binding, Solves, IsSorted, IsClosed, IsCompletion, AreEquivalent, Equates, HasNoSolution, instance, resolved, occurs, value_in, Acyclic};
 ghost use Rattle.infer_table.specs.Content.{Table, content, Ready};
+ghost use Rattle.infer_table.specs.Unification.{TableTrees, table_trees, Worklist, unified, Extends};
+ghost use Rattle.infer_table.specs.WellFormed.{IsTerm, AllTerms, IsOfTerms};
 ghost use Rattle.infer_table.specs.declared.terms.TermVid.{TermVid};
 ghost use Rattle.infer_table.specs.declared.terms.Term.{Term};
 
@@ -25,4 +27,15 @@ pub fn solution_laws()
     ensures closed { (es : List Entry) (t : Table) → Ready es t → (s : Assignment) × Solves s (content es t.values) × IsClosed s }
     ensures fixed { (old new : List Entry) (t u : Table) (x : Trees) → Ready old t → Ready new u → AreEquivalent (content old t.values) (content new u.values) → erase (resolved (content old t.values) x) ≡ erase (resolved (content new u.values) x) }
     ensures determined { (before left right : List Binding) (a b : Trees) → Equates before left a b → Equates before right a b → AreEquivalent left right }
+{}
+
+/// To solve equations only adds to a table: no variable, no value and no constraint is lost, and no equations leave it
+/// as it is. Over a table of terms, an equation of two terms leaves a table of terms whose solutions are those that make
+/// the two equal; it is refused only where there is none.
+pub fn unification_laws()
+    ensures nothing { (t : TableTrees) → unified t [] ≡ Some t }
+    ensures extends { (t u : TableTrees) (todo : Worklist) → unified t todo ≡ Some u → Extends t u }
+    ensures solutions { (t u : TableTrees) (a b : Trees) → IsOfTerms t → IsTerm a → IsTerm b → unified t ((a, b) ∷ []) ≡ Some u → IsOfTerms u × Equates t.bindings u.bindings a b }
+    ensures refusal { (t : TableTrees) (a b : Trees) → IsOfTerms t → IsTerm a → IsTerm b → unified t ((a, b) ∷ []) ≡ None → HasNoSolution t.bindings a b }
+    ensures ready { (es : List Entry) (t : Table) → Ready es t → AllTerms (content es t.values) → IsOfTerms (table_trees es t) }
 {}

@@ -1,5 +1,5 @@
 //! Equations of types, constants and lifetimes.
-ghost use Rattle.std.specs.Prelude.{◌≡◌, ℕ, ◌+◌, ◌<◌, ◌≤◌, List, [], ◌∷◌, ◌++◌, length, None, Some, IfOk, OnOk, OnErr, Err, Bool, true, false, ◌⊎◌};
+ghost use Rattle.std.specs.Prelude.{◌≡◌, ℕ, ◌+◌, ◌<◌, ◌≤◌, List, [], ◌∷◌, ◌++◌, length, None, Some, IfOk, OnOk, OnErr, Err, Bool, true, false, Option, ◌⊎◌};
 ghost use Rattle.model.specs.Label.{of_type, of_const, of_lifetime, infer};
 ghost use Rattle.model.specs.Trees.{Trees, leaf, ◌+++◌};
 ghost use Rattle.type_terms.specs.Terms.{Entry, Is, Has, Keeps, types, consts, trees_at, type_lists, bounds_lists};
@@ -11,6 +11,9 @@ ghost use Rattle.infer_table.specs.Opened.{opened};
 ghost use Rattle.infer_table.specs.Solutions.{Assignment, Solves, instance, resolved, occurs, value_in, Equates, HasNoSolution, OlderStays};
 ghost use Rattle.infer_table.specs.Content.{content, rank, Ready, IsUnbound, IsProper, Grows, with_value};
 ghost use Rattle.infer_table.specs.Lookups.{latest};
+ghost use Rattle.infer_table.specs.Unification.{TableTrees, table_trees, Worklist, step, onward, by_parts, unified};
+ghost use Rattle.infer_table.specs.Unification.{refused as is_refused};
+ghost use Rattle.infer_table.specs.Worklists.{equation_trees, worklist, Stands};
 ghost use Rattle.infer_table.specs.Equations.{AreHeld, SolvesAll, SameSolutions, unbound_in, backward, weight, type_equation, const_equation, Advances, IsRigid};
 
 use crate::goal::EqError;
@@ -129,6 +132,8 @@ impl InferCtxt {
         ensures bound { OnOk result (self.new ≡ with_value self.old (TermVid.Ty vid) (Term.Ty value)) }
         ensures refused { OnErr result (self.new ≡ self.old) }
         ensures never { result ≡ Err EqError.NoSolution → HasNoSolution (content cx.now.entries self.old.values) (trees_at cx.now.entries variable.0) (trees_at cx.now.entries value.0) }
+        ensures apart { OnOk result (occurs of_type vid.index (resolved (content cx.now.entries self.old.values) (trees_at cx.now.entries value.0)) ≡ false) }
+        ensures inside { result ≡ Err EqError.NoSolution → occurs of_type vid.index (resolved (content cx.now.entries self.old.values) (trees_at cx.now.entries value.0)) ≡ true }
         ensures found { IfOk result (λ b. b ≡ true) }
         ensures range { vid.index ≤ MAX_INDEX }
     {
@@ -160,6 +165,8 @@ impl InferCtxt {
         ensures same { OnOk result (SameSolutions cx.old.entries self.old (todo.old.items ++ type_equation a b ∷ []) cx.new.entries self.new todo.new.items) }
         ensures advances { IfOk result (Advances cx.old.entries self.old (todo.old.items ++ type_equation a b ∷ []) cx.new.entries self.new todo.new.items) }
         ensures never { result ≡ Err EqError.NoSolution → HasNoSolution (content cx.old.entries self.old.values) (trees_at cx.old.entries a.0) (trees_at cx.old.entries b.0) }
+        ensures exact { IfOk result (λ found. step (table_trees cx.old.entries self.old) (trees_at cx.old.entries a.0, trees_at cx.old.entries b.0) (worklist cx.old.entries todo.old.items) ≡ onward found (table_trees cx.new.entries self.new) (worklist cx.new.entries todo.new.items)) }
+        ensures refused { result ≡ Err EqError.NoSolution → step (table_trees cx.old.entries self.old) (trees_at cx.old.entries a.0, trees_at cx.old.entries b.0) (worklist cx.old.entries todo.old.items) ≡ is_refused }
     {
         cx.lawful();
         let left = self.shallow_resolve(cx, a);
@@ -200,10 +207,11 @@ impl InferCtxt {
         ensures limit { cx.new.limit ≡ cx.old.limit }
         ensures values { self.new.values ≡ self.old.values }
         ensures constraints { self.new.constraints ≡ self.old.constraints }
+        ensures grows { Grows self.old self.new }
         ensures held { IfOk result (λ v. ArgsHeld cx.new.entries v.items) }
         ensures trees { IfOk result (λ v. Alike (args_trees cx.new.entries v.items) (parts_trees cx.old.entries kind)) }
         ensures opened { IfOk result (λ v. args_trees cx.new.entries v.items ≡ opened_trees cx.old.entries self.old.region_vars kind) }
-        ensures taken { OnOk result (self.new.region_vars ≡ self.old.region_vars + bound_count cx.old.entries kind) }
+        ensures made { OnOk result (self.new ≡ record self.old { region_vars = self.old.region_vars + bound_count cx.old.entries kind }) }
         ensures bounds { OnOk result (HasBounds cx.old.entries kind) }
     {
         match kind {
@@ -227,10 +235,11 @@ impl InferCtxt {
         ensures limit { cx.new.limit ≡ cx.old.limit }
         ensures values { self.new.values ≡ self.old.values }
         ensures constraints { self.new.constraints ≡ self.old.constraints }
+        ensures grows { Grows self.old self.new }
         ensures held { IfOk result (λ v. ArgsHeld cx.new.entries v.items) }
         ensures trees { IfOk result (λ v. Alike (args_trees cx.new.entries v.items) (trees_at cx.old.entries tys.0)) }
         ensures opened { IfOk result (λ v. args_trees cx.new.entries v.items ≡ opened self.old.region_vars count 0 (trees_at cx.old.entries tys.0)) }
-        ensures taken { OnOk result (self.new.region_vars ≡ self.old.region_vars + count) }
+        ensures made { OnOk result (self.new ≡ record self.old { region_vars = self.old.region_vars + count }) }
     {
         let opened = self.instantiate_binder_with_infer(cx, Binder { value: tys, count })?;
         Ok(types(self.alloc, cx.tys(opened))?)
@@ -252,10 +261,11 @@ impl InferCtxt {
         ensures limit { cx.new.limit ≡ cx.old.limit }
         ensures values { self.new.values ≡ self.old.values }
         ensures constraints { self.new.constraints ≡ self.old.constraints }
+        ensures grows { Grows self.old self.new }
         ensures held { IfOk result (λ v. ArgsHeld cx.new.entries v.items) }
         ensures trees { IfOk result (λ v. Alike (args_trees cx.new.entries v.items) (bounds_args (trees_at cx.old.entries bounds.0) +++ region_trees region)) }
         ensures opened { IfOk result (λ v. args_trees cx.new.entries v.items ≡ opened self.old.region_vars (bounds_count (trees_at cx.old.entries bounds.0)) 0 (bounds_args (trees_at cx.old.entries bounds.0)) +++ region_trees region) }
-        ensures taken { OnOk result (self.new.region_vars ≡ self.old.region_vars + bounds_count (trees_at cx.old.entries bounds.0)) }
+        ensures made { OnOk result (self.new ≡ record self.old { region_vars = self.old.region_vars + bounds_count (trees_at cx.old.entries bounds.0) }) }
         ensures bounds { OnOk result (AreBounds (trees_at cx.old.entries bounds.0)) }
     {
         match cx.bounds(bounds).principal {
@@ -288,6 +298,7 @@ impl InferCtxt {
         ensures limit { cx.new.limit ≡ cx.old.limit }
         ensures values { self.new.values ≡ self.old.values }
         ensures constraints { self.new.constraints ≡ self.old.constraints }
+        ensures grows { Grows self.old self.new }
         ensures left_held { IfOk result (λ p. ArgsHeld cx.new.entries p.0.items) }
         ensures right_held { IfOk result (λ p. ArgsHeld cx.new.entries p.1.items) }
         ensures left_trees { IfOk result (λ p. Alike (args_trees cx.new.entries p.0.items) (parts_trees cx.old.entries left)) }
@@ -295,6 +306,7 @@ impl InferCtxt {
         // The variables of the right side come after those of the left side.
         ensures left_opened { IfOk result (λ p. args_trees cx.new.entries p.0.items ≡ opened_trees cx.old.entries self.old.region_vars left) }
         ensures right_opened { IfOk result (λ p. args_trees cx.new.entries p.1.items ≡ opened_trees cx.old.entries (self.old.region_vars + bound_count cx.old.entries left) right) }
+        ensures made { OnOk result (self.new ≡ record self.old { region_vars = self.old.region_vars + (bound_count cx.old.entries left + bound_count cx.old.entries right) }) }
         ensures left_bounds { OnOk result (HasBounds cx.old.entries left) }
         ensures right_bounds { OnOk result (HasBounds cx.old.entries right) }
     {
@@ -323,11 +335,14 @@ impl InferCtxt {
         ensures limit { cx.new.limit ≡ cx.old.limit }
         ensures values { self.new.values ≡ self.old.values }
         ensures constraints { self.new.constraints ≡ self.old.constraints }
+        ensures grows { Grows self.old self.new }
         ensures todo_held { OnOk result (AreHeld cx.new.entries todo.new.items) }
         ensures same { OnOk result (SameSolutions cx.old.entries self.old (todo.old.items ++ type_equation left right ∷ []) cx.new.entries self.new todo.new.items) }
         ensures lighter { OnOk result (weight (content cx.new.entries self.new.values) cx.new.entries todo.new.items < weight (content cx.old.entries self.old.values) cx.old.entries (todo.old.items ++ type_equation left right ∷ [])) }
         ensures found { IfOk result (λ b. b ≡ false) }
         ensures never { result ≡ Err EqError.NoSolution → (s : Assignment) → instance s (trees_at cx.old.entries left.0) ≡ instance s (trees_at cx.old.entries right.0) → ⊥ }
+        ensures exact { OnOk result (by_parts (table_trees cx.old.entries self.old) (trees_at cx.old.entries left.0) (trees_at cx.old.entries right.0) (worklist cx.old.entries todo.old.items) ≡ onward false (table_trees cx.new.entries self.new) (worklist cx.new.entries todo.new.items)) }
+        ensures refused { result ≡ Err EqError.NoSolution → (rest : Worklist) → by_parts (table_trees cx.old.entries self.old) (trees_at cx.old.entries left.0) (trees_at cx.old.entries right.0) rest ≡ is_refused }
     {
         let left_kind = cx.kind(left);
         let right_kind = cx.kind(right);
@@ -355,6 +370,8 @@ impl InferCtxt {
         ensures same { (todo : List Equation) → OnOk result (SameSolutions cx.now.entries self.old (todo ++ const_equation a b ∷ []) cx.now.entries self.new todo) }
         ensures advances { (todo : List Equation) → IfOk result (Advances cx.now.entries self.old (todo ++ const_equation a b ∷ []) cx.now.entries self.new todo) }
         ensures never { result ≡ Err EqError.NoSolution → HasNoSolution (content cx.now.entries self.old.values) (trees_at cx.now.entries a.0) (trees_at cx.now.entries b.0) }
+        ensures exact { (rest : Worklist) → IfOk result (λ found. step (table_trees cx.now.entries self.old) (trees_at cx.now.entries a.0, trees_at cx.now.entries b.0) rest ≡ onward found (table_trees cx.now.entries self.new) rest) }
+        ensures refused { result ≡ Err EqError.NoSolution → (rest : Worklist) → step (table_trees cx.now.entries self.old) (trees_at cx.now.entries a.0, trees_at cx.now.entries b.0) rest ≡ is_refused }
     {
         cx.lawful();
         let left = self.shallow_resolve_const(cx, a);
@@ -399,6 +416,7 @@ impl InferCtxt {
         ensures bound { OnOk result (self.new ≡ with_value self.old (TermVid.Const vid) (Term.Const value)) }
         ensures refused { OnErr result (self.new ≡ self.old) }
         ensures never { result ≡ Err EqError.NoSolution → ⊥ }
+        ensures apart { OnOk result (occurs of_const vid.index (resolved (content cx.now.entries self.old.values) (trees_at cx.now.entries value.0)) ≡ false) }
         ensures found { IfOk result (λ b. b ≡ true) }
         ensures range { vid.index ≤ MAX_INDEX }
     {
@@ -427,6 +445,8 @@ impl InferCtxt {
         ensures same { OnOk result (SameSolutions cx.old.entries self.old (todo.old.items ++ equation ∷ []) cx.new.entries self.new todo.new.items) }
         ensures advances { IfOk result (Advances cx.old.entries self.old (todo.old.items ++ equation ∷ []) cx.new.entries self.new todo.new.items) }
         ensures never { result ≡ Err EqError.NoSolution → HasNoSolution (content cx.old.entries self.old.values) (arg_trees cx.old.entries equation.left) (arg_trees cx.old.entries equation.right) }
+        ensures exact { IfOk result (λ found. step (table_trees cx.old.entries self.old) (equation_trees cx.old.entries equation) (worklist cx.old.entries todo.old.items) ≡ onward found (table_trees cx.new.entries self.new) (worklist cx.new.entries todo.new.items)) }
+        ensures refused { result ≡ Err EqError.NoSolution → step (table_trees cx.old.entries self.old) (equation_trees cx.old.entries equation) (worklist cx.old.entries todo.old.items) ≡ is_refused }
     {
         cx.lawful();
         match equation.left {
@@ -453,6 +473,7 @@ impl InferCtxt {
         ensures refused { OnErr result (self.new ≡ self.old) }
         ensures never { result ≡ Err EqError.NoSolution → ⊥ }
         ensures found { IfOk result (λ f. f ≡ false) }
+        ensures exact { (es : List Entry) (rest : Worklist) → OnOk result (step (table_trees es self.old) (region_trees a, region_trees b) rest ≡ onward false (table_trees es self.new) rest) }
     {
         if a != b {
             self.register_region_constraint(RegionConstraint::Equal(a, b))?;
@@ -473,6 +494,8 @@ impl InferCtxt {
         ensures fewer { IfOk result (λ found. found ≡ true → unbound_in (content cx.new.entries self.new.values) < unbound_in (content cx.old.entries self.old.values)) }
         ensures done { IfOk result (λ found. found ≡ false → todo.new.items ≡ []) }
         ensures never { result ≡ Err EqError.NoSolution → (s : Assignment) → SolvesAll cx.old.entries self.old todo.old.items s → ⊥ }
+        ensures exact { (end : Option TableTrees) → Stands end cx.old.entries self.old todo.old.items → OnOk result (Stands end cx.new.entries self.new todo.new.items) }
+        ensures refused { result ≡ Err EqError.NoSolution → (end : Option TableTrees) → Stands end cx.old.entries self.old todo.old.items → end ≡ None }
     {
         'work: while let Some(equation) = todo.pop() {
             match self.equate(cx, equation, todo) {
@@ -500,6 +523,8 @@ impl InferCtxt {
         ensures limit { cx.new.limit ≡ cx.old.limit }
         ensures equates { OnOk result (Equates (content cx.old.entries self.old.values) (content cx.new.entries self.new.values) (arg_trees cx.old.entries left) (arg_trees cx.old.entries right)) }
         ensures never { result ≡ Err EqError.NoSolution → HasNoSolution (content cx.old.entries self.old.values) (arg_trees cx.old.entries left) (arg_trees cx.old.entries right) }
+        ensures exact { OnOk result (unified (table_trees cx.old.entries self.old) ((arg_trees cx.old.entries left, arg_trees cx.old.entries right) ∷ []) ≡ Some (table_trees cx.new.entries self.new)) }
+        ensures refusal { result ≡ Err EqError.NoSolution → unified (table_trees cx.old.entries self.old) ((arg_trees cx.old.entries left, arg_trees cx.old.entries right) ∷ []) ≡ None }
     {
         let mut todo = Vec::new(self.alloc);
         todo.push(Equation { left, right })?;
@@ -520,6 +545,10 @@ impl InferCtxt {
     /// refuse nothing: two that differ are recorded, and those of a `for<..>` are new lifetime variables, other ones on
     /// the left than on the right, so that how many there are decides nothing. One term on both sides is equal at
     /// once, and nothing is recorded of it. After a refusal the table is as it was; the interner may hold more terms.
+    ///
+    /// What is left, lifetimes and recorded constraints included, is a function of the trees of the two sides and of what
+    /// the table held (`unified`), and so is a refusal: no handle decides anything. Parts are compared from the first
+    /// pair on, each down to its end before the next.
     pub fn eq(
         &mut self,
         cx: &mut Interner,
@@ -536,6 +565,8 @@ impl InferCtxt {
         ensures equates { OnOk result (Equates (content cx.old.entries self.old.values) (content cx.new.entries self.new.values) (arg_trees cx.old.entries left) (arg_trees cx.old.entries right)) }
         ensures older { OnOk result (OlderStays (content cx.old.entries self.old.values) (content cx.new.entries self.new.values) (arg_trees cx.old.entries left) (arg_trees cx.old.entries right)) }
         ensures never { result ≡ Err EqError.NoSolution → HasNoSolution (content cx.old.entries self.old.values) (arg_trees cx.old.entries left) (arg_trees cx.old.entries right) }
+        ensures exact { OnOk result (unified (table_trees cx.old.entries self.old) ((arg_trees cx.old.entries left, arg_trees cx.old.entries right) ∷ []) ≡ Some (table_trees cx.new.entries self.new)) }
+        ensures refusal { result ≡ Err EqError.NoSolution → unified (table_trees cx.old.entries self.old) ((arg_trees cx.old.entries left, arg_trees cx.old.entries right) ∷ []) ≡ None }
         ensures refused { OnErr result (self.new ≡ self.old) }
     {
         let place = self.snapshot()?;

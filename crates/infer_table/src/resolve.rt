@@ -1,6 +1,7 @@
 //! Variables replaced by their values, all the way.
-ghost use Rattle.std.specs.Prelude.{◌≡◌, List, IfOk};
+ghost use Rattle.std.specs.Prelude.{◌≡◌, List, IfOk, Err};
 ghost use Rattle.type_terms.specs.Terms.{Keeps};
+ghost use Rattle.term_traversal.specs.Failures.{SomeKindIsFull};
 ghost use Rattle.term_traversal.specs.Pieces.{each_piece};
 ghost use Rattle.infer_table.specs.Solutions.{resolved};
 ghost use Rattle.infer_table.specs.Content.{content, Ready};
@@ -106,7 +107,8 @@ impl InferCtxt {
     /// The value with each variable that has a value replaced by it, and so on in the values.
     ///
     /// What comes of it has no variable left that has a value, and is the same term under each solution of the table.
-    /// Lifetimes stay as they are. `eager_resolve_vars` of the original.
+    /// Lifetimes stay as they are. `Full` comes only where some kind of term has reached its limit, `Memory` where
+    /// memory is refused. `eager_resolve_vars` of the original.
     pub fn eager_resolve_vars<T: TypeFoldable>(
         &self,
         cx: &mut Interner,
@@ -121,6 +123,7 @@ impl InferCtxt {
         ensures outline { IfOk result (λ r. T.outline r ≡ T.outline value) }
         // Each part is the part as it was, with the values in the place of variables.
         ensures resolved { IfOk result (λ r. T.pieces r cx.new.entries ≡ each_piece (λ d t. resolved (content cx.old.entries self.now.values) t) (T.pieces value cx.old.entries)) }
+        ensures full { result ≡ Err Fault.Full → SomeKindIsFull cx.new.entries cx.new.limit }
     {
         value.fold_with(self.alloc, cx, &EagerResolver { table: self })
     }

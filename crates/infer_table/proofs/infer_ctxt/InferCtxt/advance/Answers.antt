@@ -4,6 +4,9 @@ use Rattle.infer_table.specs.declared.terms.Equation.{Equation}
 use Rattle.infer_table.proofs.EquationFacts.{held-parts, all-parts}
 use Rattle.infer_table.specs.Growth.{grows-trans}
 use Rattle.infer_table.proofs.StepFacts.{same-trans, keeps-trans}
+use Rattle.std.proofs.lemmas.List.{append-nil}
+use Rattle.infer_table.specs.Worklists.{Stands}
+use Rattle.infer_table.proofs.RunFacts.{stands-on, stands-refused}
 use Rattle.infer_table.proofs.infer_ctxt.InferCtxt.advance.Goals as goal
 
 pub equate-requires-clause-left : goal.equate-requires-clause-left
@@ -35,6 +38,9 @@ work-preserved c =
       held = c.in-Ok-false.ensures.todo_held;
       same = same-trans es fs gs c.args.self.now c.work.self c.equate.new.self c.args.todo.now.items (c.pop.new.self.items ++ c.in-Some.equation ∷ []) c.equate.new.todo.items
           (subst (λ (xs : List Equation). SameSolutions es c.args.self.now c.args.todo.now.items fs c.work.self xs) c.in-Some.ensures.items c.work.invariant.same) c.in-Ok-false.ensures.same;
+      stands = λ end s.
+          stands-on end fs gs c.work.self c.equate.new.self c.in-Some.equation c.pop.new.self.items c.equate.new.todo.items
+          (subst (λ (xs : List Equation). Stands end fs c.work.self xs) c.in-Some.ensures.items (c.work.invariant.stands end s)) c.in-Ok-false.field-0 c.in-Ok-false.ensures.exact c.in-Ok-false.ensures.advances;
       values = (subst (λ (b : Bool). Advances fs c.work.self (c.pop.new.self.items ++ c.in-Some.equation ∷ []) gs c.equate.new.self c.equate.new.todo.items b) c.in-Ok-false.field-0-test c.in-Ok-false.ensures.advances).0 ∙ c.work.invariant.values;
     }
 
@@ -44,3 +50,17 @@ returns-in-Err-clause-never c = λ q s h.
     let w = c.work.invariant.same.all s h in
     let p = all-parts fs s c.pop.new.self.items (c.in-Some.equation ∷ []) (subst (AllEqual fs s) c.in-Some.ensures.items w.1) in
     c.in-Err.ensures.never q s w.0 p.1.0
+
+pub returns-in-Ok-true-clause-exact : goal.returns-in-Ok-true-clause-exact
+returns-in-Ok-true-clause-exact c = λ end s.
+    let fs = c.work.cx.entries in
+    stands-on end fs c.equate.new.cx.entries c.work.self c.equate.new.self c.in-Some.equation c.pop.new.self.items c.equate.new.todo.items
+    (subst (λ (xs : List Equation). Stands end fs c.work.self xs) c.in-Some.ensures.items (c.work.invariant.stands end s)) c.in-Ok-true.field-0 c.in-Ok-true.ensures.exact c.in-Ok-true.ensures.advances
+
+pub returns-in-Err-clause-refused : goal.returns-in-Err-clause-refused
+returns-in-Err-clause-refused c = λ q end s.
+    let fs = c.work.cx.entries in
+    stands-refused end fs fs c.work.self c.work.self c.in-Some.equation c.pop.new.self.items [] (subst (λ (xs : List Equation). Stands end fs c.work.self xs) c.in-Some.ensures.items (c.work.invariant.stands end s)) (c.in-Err.ensures.refused q)
+
+pub returns-clause-exact : goal.returns-clause-exact
+returns-clause-exact c = λ end s. subst (λ (xs : List Equation). Stands end c.work.cx.entries c.work.self xs) (c.in_default.ensures.items ∙ append-nil c.pop.new.self.items) (c.work.invariant.stands end s)
