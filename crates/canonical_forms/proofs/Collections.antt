@@ -125,7 +125,7 @@ false-true e = cc
 pub collects-leaf : (b : Bool) (before after : List Label) (l : Label) (a : Seen Fault) → is_some (open_kinds b l) ≡ true → Adds before l after a → Collects (open_kinds b) (leaf l) before after a
 collects-leaf b before after l Enter e h = (h ∙ sym (ap (λ (x : Bool). if x then with_label l before else before) e), λ q. refl)
 collects-leaf b before after l Pass e h = absurd h
-collects-leaf b before after l (Break f) e h = tt
+collects-leaf b before after l (Break f) e h = h
 
 -- it enters what is not open
 pub collects-closed : (b : Bool) (seen : List Label) (t : Trees) → is_some (open_kinds b (root_label t)) ≡ false → Collects (open_kinds b) t seen seen Enter

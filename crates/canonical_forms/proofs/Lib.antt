@@ -7,3 +7,5 @@ pub mod Fillings
 pub mod Returning
 pub mod Resolutions
 pub mod NewUnknowns
+pub mod Refusals
+pub mod GoalPieces

@@ -7,6 +7,7 @@ use Rattle.type_terms.specs.Terms.{Entry}
 use Rattle.type_terms.specs.declared.kinds.GenericArgKind.{GenericArgKind}
 use Rattle.term_traversal.proofs.Items.{take-push}
 use Rattle.infer_table.specs.Content.{Table, Grows}
+use Rattle.infer_table.specs.Growth.{grows-refl, grows-ty, grows-const, grows-regions}
 use Rattle.infer_table.specs.declared.canonical.CanonicalVarKind.{CanonicalVarKind}
 use Rattle.infer_table.specs.declared.canonical.CanonicalVarKind.TheVariants.{Ty, PlaceholderTy, Const, PlaceholderConst, Region}
 use Rattle.canonical_forms.specs.Leaves.{IsLeaf, AreLeaves, labels, leaf_label}
@@ -61,24 +62,10 @@ one-more-made t now after ks i d k lt is m e =
     let from : take (i + 1) ks ≡ take i ks ++ k ∷ [] = take-push ks i d lt ∙ ap (λ z. take i ks ++ z ∷ []) (sym is) in
     e ∙ ap (λ u. with_next u k) m ∙ sym (with-push t (take i ks) k) ∙ ap (with_each t) (sym from)
 
--- a new unknown leaves values and constraints
-pub next-values : (t : Table) (k : CanonicalVarKind) → (with_next t k).values ≡ t.values
-next-values t Ty = refl
-next-values t PlaceholderTy = refl
-next-values t Const = refl
-next-values t PlaceholderConst = refl
-next-values t Region = refl
-
-pub next-constraints : (t : Table) (k : CanonicalVarKind) → (with_next t k).constraints ≡ t.constraints
-next-constraints t Ty = refl
-next-constraints t PlaceholderTy = refl
-next-constraints t Const = refl
-next-constraints t PlaceholderConst = refl
-next-constraints t Region = refl
-
-take-all : {A : Type 0} (xs ys : List A) → xs ≡ ys → take (length ys) xs ≡ ys
-take-all xs ys e = ap (take (length ys)) e ∙ take-length ys
-
--- a table with the same values and constraints has grown
-pub grows : (t u : Table) → u.values ≡ t.values → u.constraints ≡ t.constraints → Grows t u
-grows t u p q = record { values_kept = take-all u.values t.values p; constraints_kept = take-all u.constraints t.constraints q }
+-- a table with a new unknown has grown
+pub next-grows : (t : Table) (k : CanonicalVarKind) → Grows t (with_next t k)
+next-grows t Ty = grows-ty t
+next-grows t PlaceholderTy = grows-refl t
+next-grows t Const = grows-const t
+next-grows t PlaceholderConst = grows-refl t
+next-grows t Region = grows-regions t 1

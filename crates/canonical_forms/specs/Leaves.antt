@@ -5,6 +5,7 @@ use Rattle.model.specs.Trees.{Trees, none, tree, leaf, flags, sort_of, is_sort}
 use Rattle.type_terms.specs.Terms.{Entry}
 use Rattle.type_terms.specs.Kinds.{ArgHeld, arg_trees}
 use Rattle.type_terms.specs.declared.Fault.{Fault}
+use Rattle.type_terms.specs.declared.Fault.TheVariants.{Memory}
 use Rattle.type_terms.specs.declared.kinds.GenericArgKind.{GenericArgKind}
 use Rattle.term_traversal.specs.declared.visit.Seen.{Seen}
 use Rattle.term_traversal.specs.declared.visit.Seen.TheVariants.{Break, Enter, Pass}
@@ -35,10 +36,10 @@ abbrev pub AreLeaves : List Entry → List GenericArgKind → Type 0
 AreLeaves es [] = Unit {0}
 AreLeaves es (a ∷ rest) = IsLeaf es a × AreLeaves es rest
 
--- a leaf is listed, or there is no room for it
+-- a leaf is listed, or memory is refused
 abbrev pub Adds : List Label → Label → List Label → Seen Fault → Type 0
 Adds before l after Enter = after ≡ with_label l before
-Adds before l after (Break f) = Unit {0}
+Adds before l after (Break f) = f ≡ Memory
 Adds before l after Pass = ⊥
 
 -- each label is open
@@ -65,9 +66,9 @@ abbrev pub RootIsLeaf : OpenKinds → Trees → Type 0
 RootIsLeaf kind none = Unit {0}
 RootIsLeaf kind (tree l c o) = IsSome (kind l) → c ≡ none
 
--- how a collector answers at a node, where it had the leaves `before` and has the leaves `after`
+-- how a collector answers at a node, where it had the leaves `before` and has the leaves `after`: it breaks for want of memory alone
 abbrev pub Collects : OpenKinds → Trees → List Label → List Label → Seen Fault → Type 0
-Collects kind t before after (Break f) = Unit {0}
+Collects kind t before after (Break f) = f ≡ Memory
 Collects kind t before after Enter = (after ≡ with_root kind before t) × RootIsLeaf kind t
 Collects kind t before after Pass = (after ≡ leaves kind before t) × OpenAreLeaves kind t
 

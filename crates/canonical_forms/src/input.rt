@@ -1,7 +1,9 @@
 //! Canonical goals.
-ghost use Rattle.std.specs.Prelude.{◌≡◌, ◌↔◌, ℕ, List, IfOk, IsTrue, IsSome, map, Some};
+ghost use Rattle.std.specs.Prelude.{◌≡◌, ◌≤◌, ◌↔◌, ◌⊎◌, ℕ, List, length, IfOk, IfErr, Err, IsTrue, IsSome, map, Some};
 ghost use Rattle.type_terms.specs.Terms.{Keeps};
 ghost use Rattle.type_terms.specs.Kinds.{ArgsHeld};
+ghost use Rattle.type_terms.specs.declared.TheConstants.{MAX_INDEX};
+ghost use Rattle.term_traversal.specs.Failures.{SomeKindIsFull};
 ghost use Rattle.infer_table.specs.Content.{content, Ready};
 ghost use Rattle.infer_table.specs.Canonical.{GoalTrees, canonical_label, goal_leaves, renamed, kind_of_leaf};
 ghost use Rattle.canonical_forms.specs.Goals.{GoalHeld, goal_trees, goal_resolved};
@@ -58,7 +60,9 @@ pub struct Canonicalized {
 ///
 /// `(?7, ?9, ?7): Show` and `(?3, ?4, ?3): Show` both give `(^0, ^1, ^0): Show`, and so does `(?7, ?9, ?8): Show`
 /// where ?8 stands for ?7. A parameter and a placeholder are one kind, and so are all lifetimes; `'static` is
-/// numbered too, but not in where-clauses. The original's `Canonicalizer::canonicalize_input`.
+/// numbered too, but not in where-clauses. `Full` comes only where some kind of term has reached its limit or there are
+/// as many leaves as numbers for them, `Memory` where memory is refused. The original's
+/// `Canonicalizer::canonicalize_input`.
 ///
 /// A where-clause without unknowns, parameters or lifetimes is one look at its flags; elsewhere `'static` is
 /// looked for, which no flag tells of.
@@ -86,6 +90,9 @@ pub fn canonicalize_goal(
 
     // Put in for the variables, they give the resolved goal back.
     ensures back { IfOk result (λ r. let resolved = goal_resolved (content cx.old.entries table.now.values) (goal_trees cx.old.entries goal.now) in IsWithoutCanonical resolved → goal_filled (values_of cx.new.entries r.values.items) (goal_trees cx.new.entries r.input.goal) ≡ resolved) }
+
+    // A full table names the error only where some kind of term has reached its limit, or where the leaves are too many.
+    ensures full { result ≡ Err Fault.Full → SomeKindIsFull cx.new.entries cx.new.limit ⊎ (MAX_INDEX ≤ length (goal_leaves (goal_resolved (content cx.old.entries table.now.values) (goal_trees cx.old.entries goal.now)))) }
 {
     let resolved = resolve_goal(alloc, cx, table, goal)?;
     canonicalize_resolved(alloc, cx, mode, &resolved)
@@ -113,6 +120,9 @@ fn canonicalize_resolved(
 
     // Put in for the variables, they give the goal back.
     ensures back { IfOk result (λ r. IsWithoutCanonical (goal_trees cx.old.entries goal.now) → goal_filled (values_of cx.new.entries r.values.items) (goal_trees cx.new.entries r.input.goal) ≡ goal_trees cx.old.entries goal.now) }
+
+    // A full table names the error only where some kind of term has reached its limit, or where the leaves are too many.
+    ensures full { result ≡ Err Fault.Full → SomeKindIsFull cx.new.entries cx.new.limit ⊎ (MAX_INDEX ≤ length (goal_leaves (goal_trees cx.old.entries goal.now))) }
 {
     cx.lawful();
     let leaves = collect_leaves(alloc, cx, goal)?;
@@ -137,6 +147,7 @@ fn collect_leaves(
     ensures listed { IfOk result (λ s. AreLeaves cx.now.entries s.keys) }
     ensures leaves { IfOk result (λ s. labels cx.now.entries s.keys ≡ goal_leaves (goal_trees cx.now.entries goal.now)) }
     ensures only { IfOk result (λ s. OpenAreLeavesOf (goal_trees cx.now.entries goal.now)) }
+    ensures memory { IfErr result (λ e. e ≡ Fault.Memory) }
 {
     let mut collector = LeafCollector {
         leaves: IndexSet::new(alloc),
@@ -170,7 +181,8 @@ pub fn variable_kinds(
 ) -> Result<Vec<CanonicalVarKind>, Fault>
     requires listed { AreLeaves cx.now.entries leaves.now }
     requires open { AreOpen (labels cx.now.entries leaves.now) }
-    ensures { IfOk result (λ ks. map Some ks.items ≡ map kind_of_leaf (labels cx.now.entries leaves.now)) }
+    ensures kinds { IfOk result (λ ks. map Some ks.items ≡ map kind_of_leaf (labels cx.now.entries leaves.now)) }
+    ensures memory { IfErr result (λ e. e ≡ Fault.Memory) }
 {
     let mut kinds = Vec::new(alloc);
     'leaves: for leaf in leaves {
@@ -211,6 +223,7 @@ fn number_leaves(
     ensures limit { cx.new.limit ≡ cx.old.limit }
     ensures held { IfOk result (λ r. GoalHeld cx.new.entries r) }
     ensures numbered { IfOk result (λ r. goal_trees cx.new.entries r ≡ renamed (canonical_label (labels cx.old.entries leaves.now.keys)) (goal_trees cx.old.entries goal.now)) }
+    ensures full { result ≡ Err Fault.Full → SomeKindIsFull cx.new.entries cx.new.limit ⊎ (MAX_INDEX ≤ length leaves.now.keys) }
 {
     let in_clauses = Canonicalizer {
         leaves,

@@ -1,9 +1,10 @@
 //! Canonical variables replaced by values.
-ghost use Rattle.std.specs.Prelude.{◌≡◌, ℕ, List, IfOk, IfSome, option_map};
+ghost use Rattle.std.specs.Prelude.{◌≡◌, ℕ, List, IfOk, IfSome, Err, option_map};
 ghost use Rattle.std.specs.List.{slice_get};
 ghost use Rattle.model.specs.Label.{of_type, of_const, of_lifetime, canonical};
 ghost use Rattle.type_terms.specs.Terms.{Entry, Keeps, Has, types, consts, trees_at};
 ghost use Rattle.type_terms.specs.Kinds.{ArgsHeld, RegionHeld, region_trees};
+ghost use Rattle.term_traversal.specs.Failures.{SomeKindIsFull};
 ghost use Rattle.canonical_forms.specs.Goals.{GoalHeld, goal_trees};
 ghost use Rattle.canonical_forms.specs.Values.{values_of, value_for, goal_filled};
 
@@ -162,7 +163,8 @@ impl TypeFolder for CanonicalInstantiator<'_> {
 /// The goal with value i in the place of canonical variable i.
 ///
 /// A variable with no value of its sort stays. Values lead out of no binder, so none is shifted. With the values
-/// that `canonicalize_goal` gives the goal comes back. `Canonical::instantiate` of the original.
+/// that `canonicalize_goal` gives the goal comes back. `Full` comes only where some kind of term has reached its
+/// limit, `Memory` where memory is refused. `Canonical::instantiate` of the original.
 pub fn instantiate_with_values(
     alloc: Global,
     cx: &mut Interner,
@@ -175,6 +177,7 @@ pub fn instantiate_with_values(
     ensures limit { cx.new.limit ≡ cx.old.limit }
     ensures held { IfOk result (λ r. GoalHeld cx.new.entries r) }
     ensures filled { IfOk result (λ r. goal_trees cx.new.entries r ≡ goal_filled (values_of cx.old.entries values.now) (goal_trees cx.old.entries goal.now)) }
+    ensures full { result ≡ Err Fault.Full → SomeKindIsFull cx.new.entries cx.new.limit }
 {
     goal.fold_with(alloc, cx, &CanonicalInstantiator { values })
 }

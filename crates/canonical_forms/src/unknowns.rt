@@ -1,13 +1,14 @@
 //! Canonical variables replaced by new unknowns.
-ghost use Rattle.std.specs.Prelude.{◌≡◌, IfOk, OnOk, OnErr, IsErr, IfErr, ◌↔◌, ◌≤◌};
+ghost use Rattle.std.specs.Prelude.{◌≡◌, IfOk, OnOk, OnErr, IsErr, IfErr, Err, ◌↔◌, ◌≤◌, ◌⊎◌};
 ghost use Rattle.type_terms.specs.Terms.{Keeps};
 ghost use Rattle.type_terms.specs.Kinds.{ArgsHeld};
 ghost use Rattle.type_terms.specs.declared.TheConstants.{MAX_INDEX};
-ghost use Rattle.infer_table.specs.Content.{Ready};
+ghost use Rattle.term_traversal.specs.Failures.{SomeKindIsFull};
+ghost use Rattle.infer_table.specs.Content.{Ready, Grows};
 ghost use Rattle.canonical_forms.specs.Goals.{GoalHeld, goal_trees};
 ghost use Rattle.canonical_forms.specs.Leaves.{AreLeaves, IsLeaf, labels, leaf_label};
 ghost use Rattle.canonical_forms.specs.Values.{values_of, goal_filled};
-ghost use Rattle.canonical_forms.specs.Unknowns.{next_label, with_next, next_labels, with_each};
+ghost use Rattle.canonical_forms.specs.Unknowns.{next_label, with_next, next_labels, with_each, HasNoNumber, SomeHasNoNumber};
 
 use crate::goal::Goal;
 use crate::input::CanonicalInput;
@@ -30,8 +31,9 @@ pub struct Instantiated {
 ///
 /// An unknown type becomes a new type variable, an unknown constant a new constant variable, and a lifetime a new
 /// lifetime variable. A type or constant that stands for any becomes the placeholder with its variable's place, which
-/// stands nowhere else in the goal. `Full` also where the table has no number left for a variable. After a refusal
-/// the table is as before. The original's `instantiate_canonical`.
+/// stands nowhere else in the goal. `Full` comes only where some kind of term has reached its limit or there is no
+/// number left for a variable, `Memory` where memory is refused. After a refusal the table is as before. The
+/// original's `instantiate_canonical`.
 pub fn instantiate_canonical(
     alloc: Global,
     cx: &mut Interner,
@@ -48,11 +50,15 @@ pub fn instantiate_canonical(
     ensures args { IfOk result (λ r. ArgsHeld cx.new.entries r.values.items) }
     ensures unknowns { IfOk result (λ r. labels cx.new.entries r.values.items ≡ next_labels table.old 0 input.now.variables.items) }
     ensures made { OnOk result (table.new ≡ with_each table.old input.now.variables.items) }
+    ensures grows { Grows table.old table.new }
     ensures refused { OnErr result (table.new ≡ table.old) }
 
     // The goal is the form with the values put in.
     ensures goal { IfOk result (λ r. GoalHeld cx.new.entries r.goal) }
     ensures filled { IfOk result (λ r. goal_trees cx.new.entries r.goal ≡ goal_filled (values_of cx.new.entries r.values.items) (goal_trees cx.old.entries input.now.goal)) }
+
+    // A full table names the error only where some kind of term has reached its limit, or where a number is missing.
+    ensures full { result ≡ Err Fault.Full → SomeKindIsFull cx.new.entries cx.new.limit ⊎ SomeHasNoNumber table.old 0 input.now.variables.items }
 {
     let place = table.snapshot()?;
     match instantiate_in(alloc, cx, table, input) {
@@ -79,10 +85,10 @@ fn instantiate_in(
     ensures args { IfOk result (λ r. ArgsHeld cx.new.entries r.values.items) }
     ensures unknowns { IfOk result (λ r. labels cx.new.entries r.values.items ≡ next_labels table.old 0 input.now.variables.items) }
     ensures made { OnOk result (table.new ≡ with_each table.old input.now.variables.items) }
-    ensures same_values { table.new.values ≡ table.old.values }
-    ensures same_constraints { table.new.constraints ≡ table.old.constraints }
+    ensures grows { Grows table.old table.new }
     ensures goal { IfOk result (λ r. GoalHeld cx.new.entries r.goal) }
     ensures filled { IfOk result (λ r. goal_trees cx.new.entries r.goal ≡ goal_filled (values_of cx.new.entries r.values.items) (goal_trees cx.old.entries input.now.goal)) }
+    ensures full { result ≡ Err Fault.Full → SomeKindIsFull cx.new.entries cx.new.limit ⊎ SomeHasNoNumber table.old 0 input.now.variables.items }
 {
     let values = next_values(alloc, cx, table, &input.variables)?;
     let goal = instantiate_with_values(alloc, cx, &input.goal, &values)?;
@@ -102,8 +108,8 @@ fn next_values(
     ensures held { IfOk result (λ xs. AreLeaves cx.new.entries xs.items) }
     ensures unknowns { IfOk result (λ xs. labels cx.new.entries xs.items ≡ next_labels table.old 0 variables.now) }
     ensures made { OnOk result (table.new ≡ with_each table.old variables.now) }
-    ensures same_values { table.new.values ≡ table.old.values }
-    ensures same_constraints { table.new.constraints ≡ table.old.constraints }
+    ensures grows { Grows table.old table.new }
+    ensures full { result ≡ Err Fault.Full → SomeKindIsFull cx.new.entries cx.new.limit ⊎ SomeHasNoNumber table.old 0 variables.now }
 {
     let mut values = Vec::new(alloc);
     'variables: for (place, kind) in variables.iter().enumerate() {
@@ -127,6 +133,7 @@ fn next_value(
     ensures label { IfOk result (λ x. leaf_label cx.new.entries x ≡ next_label table.old place kind) }
     ensures made { OnOk result (table.new ≡ with_next table.old kind) }
     ensures refused { OnErr result (table.new ≡ table.old) }
+    ensures full { result ≡ Err Fault.Full → SomeKindIsFull cx.new.entries cx.new.limit ⊎ HasNoNumber table.old place kind }
 {
     match kind {
         CanonicalVarKind::Ty => Ok(GenericArgKind::Ty(table.next_ty_var(cx)?)),

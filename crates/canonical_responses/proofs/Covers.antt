@@ -39,7 +39,7 @@ some-is : {A : Type 0} (x y : A) → Some x ≡ Some y → x ≡ y
 some-is x y e = cc
 
 -- ---- what both readings do with lists
-chosen-append : (q : Assignment) (x y : Trees) → chosen q (x +++ y) ≡ chosen q x +++ chosen q y
+pub chosen-append : (q : Assignment) (x y : Trees) → chosen q (x +++ y) ≡ chosen q x +++ chosen q y
 chosen-append q none y = refl
 chosen-append q (tree (canonical of_type i) c o) y = ap (λ z. tree (q of_type i).0 (q of_type i).1 z) (chosen-append q o y)
 chosen-append q (tree (canonical of_const i) c o) y = ap (λ z. tree (q of_const i).0 (q of_const i).1 z) (chosen-append q o y)
@@ -51,7 +51,7 @@ chosen-single q (tree (canonical of_type i) c o) h = (q of_type i, rw h refl)
 chosen-single q (tree (canonical of_const i) c o) h = (q of_const i, rw h refl)
 chosen-single q (tree l c o) h = ((erase_label l, chosen q c), rw h refl)
 
-instance-single : (s : Assignment) (t : Trees) → Single t → (n : Label × Trees) × (instance s t ≡ tree_of n)
+pub instance-single : (s : Assignment) (t : Trees) → Single t → (n : Label × Trees) × (instance s t ≡ tree_of n)
 instance-single s none h = absurd h
 instance-single s (tree (infer of_type v) c o) h = (s of_type v, rw h refl)
 instance-single s (tree (infer of_const v) c o) h = (s of_const v, rw h refl)
@@ -80,13 +80,13 @@ heads q s a b x y sa sb e =
     rests : (n m : Label × Trees) (x y : Trees) → tree_of n +++ x ≡ tree_of m +++ y → x ≡ y
     rests n m x y e = ap rest_in e
 
-numbered-parts : (ks : List CanonicalVarKind) (x y : Trees) → AreNumbered ks (x +++ y) → AreNumbered ks x × AreNumbered ks y
+pub numbered-parts : (ks : List CanonicalVarKind) (x y : Trees) → AreNumbered ks (x +++ y) → AreNumbered ks x × AreNumbered ks y
 numbered-parts ks none y h = (tt, h)
 numbered-parts ks (tree (canonical s i) c o) y h = let r = numbered-parts ks o y h.2 in ((h.0, h.1, r.0), r.1)
 numbered-parts ks (tree (infer s v) c o) y h = absurd h
 numbered-parts ks (tree l c o) y h = let r = numbered-parts ks o y h.1 in ((h.0, r.0), r.1)
 
-known-parts : (counts : Sort → ℕ) (x y : Trees) → AreKnown counts (x +++ y) → AreKnown counts x × AreKnown counts y
+pub known-parts : (counts : Sort → ℕ) (x y : Trees) → AreKnown counts (x +++ y) → AreKnown counts x × AreKnown counts y
 known-parts counts none y h = (tt, h)
 known-parts counts (tree (infer s v) c o) y h = let r = known-parts counts o y h.2 in ((h.0, h.1, r.0), r.1)
 known-parts counts (tree l c o) y h = let r = known-parts counts o y h.1 in ((h.0, r.0), r.1)
@@ -100,7 +100,7 @@ instance-known counts s r (tree (infer of_lifetime v) c o) k h = tree-cong _ _ _
 instance-known counts s r (tree l c o) k h = tree-cong _ _ _ _ _ _ refl (instance-known counts s r c k h.0) (instance-known counts s r o k h.1)
 
 -- ---- sorts of roots
-instance-root : (s : Assignment) → IsSorted s → (t : Trees) → sort_of (root_label (instance s t)) ≡ sort_of (root_label t)
+pub instance-root : (s : Assignment) → IsSorted s → (t : Trees) → sort_of (root_label (instance s t)) ≡ sort_of (root_label t)
 instance-root s h none = refl
 instance-root s h (tree (infer of_type v) c o) = h of_type v
 instance-root s h (tree (infer of_const v) c o) = h of_const v
@@ -123,7 +123,7 @@ const-root : (t : Trees) → IsA of_const t → sort_of (root_label t) ≡ of_co
 const-root none h = absurd h
 const-root (tree l c o) h = h.0
 
-arg-root : (es : List Entry) → Lawful es → (a : GenericArgKind) → ArgHeld es a → sort_of (root_label (arg_trees es a)) ≡ sort_of_arg a
+pub arg-root : (es : List Entry) → Lawful es → (a : GenericArgKind) → ArgHeld es a → sort_of (root_label (arg_trees es a)) ≡ sort_of_arg a
 arg-root es law (Lifetime r) h = region-root r.kind
 arg-root es law (AType t) h = type-root (trees_at es t.0) ((law.sorted t.0 _ (is-at es types t.0 h)).as_type refl)
 arg-root es law (AConst t) h = const-root (trees_at es t.0) ((law.sorted t.0 _ (is-at es consts t.0 h)).as_const refl)

@@ -2,3 +2,5 @@ pub mod ConstraintLists
 pub mod Values
 pub mod Covers
 pub mod Answered
+pub mod Identities
+pub mod KnownUnknowns

@@ -1,13 +1,15 @@
 -- Values in a row: those put in for variables, and those made equal.
-use Rattle.std.proofs.Common.{◌≡◌, ℕ, Bool, true, false, ◌+◌, ◌<◌, ◌≤◌, List, [], ◌∷◌, ◌++◌, length, take, drop, get_or, refl, ap, sym, ◌∙◌, subst, arith, append_assoc, Option, Some, None, if◌then◌else◌, ◌-◌, Result, Ok, Err, OnOk}
+use Rattle.std.proofs.Common.{◌≡◌, ℕ, zero, suc, Bool, true, false, ◌+◌, ◌<◌, ◌≤◌, List, [], ◌∷◌, ◌++◌, length, take, drop, get_or, min, refl, ap, sym, ◌∙◌, subst, arith, append_assoc, Option, Some, None, if◌then◌else◌, ◌==◌, ◌⊎◌, inl, inr}
 use Rattle.std.specs.Prelude.{unwrap_or, option_map, IfSome}
+use Rattle.std.specs.Option.{option_or}
 use Rattle.std.proofs.lemmas.Grind.{common_steps}
-use Rattle.model.specs.Label.{of_type, of_const, infer}
+use Rattle.std.proofs.lemmas.Bool.{cases_lt}
+use Rattle.model.specs.Label.{Label, of_type, of_const, infer, canonical}
 use Rattle.model.specs.Trees.{Trees, none, tree, ◌+++◌, Single}
 use Rattle.type_terms.specs.Terms.{Entry, Keeps, Lawful}
 use Rattle.type_terms.specs.Kinds.{ArgHeld, ArgsHeld, arg_trees, args_trees}
 use Rattle.type_terms.specs.declared.kinds.GenericArgKind.{GenericArgKind}
-use Rattle.term_traversal.specs.Kept.{arg-trees-later, args-trees-later}
+use Rattle.term_traversal.specs.Kept.{arg-held-later, arg-trees-later, args-trees-later}
 use Rattle.type_terms.proofs.Sorts.{arg-single}
 use Rattle.infer_table.specs.Solutions.{Assignment, Binding, instance, Equates, HasNoSolution}
 use Rattle.infer_table.specs.Content.{Table}
@@ -17,7 +19,7 @@ use Rattle.canonical_forms.specs.Leaves.{leaf_label, root_label}
 use Rattle.infer_table.proofs.SolutionLaws.{items-parts, parts-items}
 use Rattle.canonical_forms.specs.Values.{Value, value_of, values_of, sort_of_arg}
 use Rattle.canonical_responses.specs.Raw.{variables_from, variable_value}
-use Rattle.canonical_responses.specs.Applying.{next_unknown, table_after, values_for, is_numbered, original_of}
+use Rattle.canonical_responses.specs.Applying.{next_unknown, table_after, values_for, is_numbered, canonical_number, original_of}
 
 pub args-held-push : (es : List Entry) (xs : List GenericArgKind) (y : GenericArgKind) → ArgsHeld es xs → ArgHeld es y → ArgsHeld es (xs ++ y ∷ [])
 args-held-push es [] y h g = (g, tt)
@@ -30,24 +32,32 @@ values-push es (x ∷ xs) y = ap (λ z. value_of es x ∷ z) (values-push es xs 
 pub value-later : (old new : List Entry) → Keeps old new → (a : GenericArgKind) → ArgHeld old a → value_of new a ≡ value_of old a
 value-later old new k a h = ap (λ (t : Trees). record { sort = sort_of_arg a; trees = t }) (arg-trees-later old new k a h)
 
-cut-kinds : (xs : List CanonicalVarKind) (i : ℕ) (d : CanonicalVarKind) → i < length xs → drop i xs ≡ get_or xs i d ∷ drop (i + 1) xs
-cut-kinds xs i d h = grind (arith, common_steps)
+-- a list from a place on begins with the item there
+pub cut-at : {X : Type 0} (xs : List X) (i : ℕ) (d : X) → i < length xs → drop i xs ≡ get_or xs i d ∷ drop (i + 1) xs
+cut-at xs i d h = grind (arith, common_steps)
 
-pub kinds-past : (xs : List CanonicalVarKind) (i : ℕ) → length xs ≤ i → drop i xs ≡ []
-kinds-past xs i h = grind (arith, common_steps)
+pub past-end : {X : Type 0} (xs : List X) (i : ℕ) → length xs ≤ i → drop i xs ≡ []
+past-end xs i h = grind (arith, common_steps)
 
 -- one more variable stands for itself
 pub one-more-variable : (vs : List Value) (v : Value) (all : List Value) (ks : List CanonicalVarKind) (i : ℕ) (k d : CanonicalVarKind) → i < length ks → k ≡ get_or ks i d → v ≡ variable_value k i
     → vs ++ variables_from i (drop i ks) ≡ all → (vs ++ v ∷ []) ++ variables_from (i + 1) (drop (i + 1) ks) ≡ all
 one-more-variable vs v all ks i k d lt is e h =
-    let cut : drop i ks ≡ k ∷ drop (i + 1) ks = cut-kinds ks i d lt ∙ ap (λ z. z ∷ drop (i + 1) ks) (sym is) in
+    let cut : drop i ks ≡ k ∷ drop (i + 1) ks = cut-at ks i d lt ∙ ap (λ z. z ∷ drop (i + 1) ks) (sym is) in
     append_assoc vs (v ∷ []) (variables_from (i + 1) (drop (i + 1) ks)) ∙ ap (λ z. vs ++ z ∷ variables_from (i + 1) (drop (i + 1) ks)) e ∙ ap (λ z. vs ++ variables_from i z) (sym cut) ∙ h
+
+values-none : (vs : List Value) → vs ++ [] ≡ vs
+values-none vs = grind (arith, common_steps)
+
+-- all variables stand for themselves
+pub all-variables : (vs all : List Value) (ks : List CanonicalVarKind) (i : ℕ) → length ks ≤ i → vs ++ variables_from i (drop i ks) ≡ all → vs ≡ all
+all-variables vs all ks i h e = sym (values-none vs) ∙ ap (λ z. vs ++ variables_from i z) (sym (past-end ks i h)) ∙ e
 
 -- one more variable has its value
 pub one-more-value : (known : ℕ → Option Value) (t u : Table) (vs : List Value) (v : Value) (all : List Value) (ks : List CanonicalVarKind) (i : ℕ) (k d : CanonicalVarKind) → i < length ks → k ≡ get_or ks i d
     → v ≡ unwrap_or (known i) (next_unknown t k) → u ≡ table_after (known i) t k → vs ++ values_for known t i (drop i ks) ≡ all → (vs ++ v ∷ []) ++ values_for known u (i + 1) (drop (i + 1) ks) ≡ all
 one-more-value known t u vs v all ks i k d lt is e f h =
-    let cut : drop i ks ≡ k ∷ drop (i + 1) ks = cut-kinds ks i d lt ∙ ap (λ z. z ∷ drop (i + 1) ks) (sym is) in
+    let cut : drop i ks ≡ k ∷ drop (i + 1) ks = cut-at ks i d lt ∙ ap (λ z. z ∷ drop (i + 1) ks) (sym is) in
     append_assoc vs (v ∷ []) (values_for known u (i + 1) (drop (i + 1) ks))
     ∙ ap (λ z. vs ++ z ∷ values_for known u (i + 1) (drop (i + 1) ks)) e
     ∙ ap (λ (z : Table). vs ++ unwrap_or (known i) (next_unknown t k) ∷ values_for known z (i + 1) (drop (i + 1) ks)) f
@@ -63,7 +73,7 @@ equates-both bs cs ds a b x y sa sb p q = record {
 pub never-first : (bs : List Binding) (a b x y : Trees) → Single a → Single b → HasNoSolution bs a b → HasNoSolution bs (a +++ x) (b +++ y)
 never-first bs a b x y sa sb n = λ s h e. n s h (items-parts s a b x y sa sb e).0
 
-pub never-rest : (bs cs : List Binding) (a b x y : Trees) → Single a → Single b → Equates bs cs a b → HasNoSolution cs x y → HasNoSolution bs (a +++ x) (b +++ y)
+never-rest : (bs cs : List Binding) (a b x y : Trees) → Single a → Single b → Equates bs cs a b → HasNoSolution cs x y → HasNoSolution bs (a +++ x) (b +++ y)
 never-rest bs cs a b x y sa sb p n = λ s h e. let parts = items-parts s a b x y sa sb e in n s (p.all s h parts.0) parts.1
 
 some-instance : (s : Assignment) (t x : Trees) → Single t → none ≡ instance s (t +++ x) → ⊥
@@ -78,73 +88,60 @@ never-left bs t x h = λ s k e. some-instance s t x h (sym e)
 pub never-right : (bs : List Binding) (t x : Trees) → Single t → HasNoSolution bs none (t +++ x)
 never-right bs t x h = λ s k e. some-instance s t x h e
 
--- ---- two lists from their first items on
-take-whole : (x : GenericArgKind) (xs : List GenericArgKind) → take (length (x ∷ xs) - 1) (drop 1 (x ∷ xs)) ≡ xs
-take-whole x xs = grind (arith, common_steps)
+-- ---- two lists from a place on
+module _ (es : List Entry) (law : Lawful es) where
+  equates-next : (bs cs ds : List Binding) (x y : GenericArgKind) (xs ys : List GenericArgKind) → ArgHeld es x → ArgHeld es y
+      → Equates bs cs (arg_trees es x) (arg_trees es y) → Equates cs ds (args_trees es xs) (args_trees es ys) → Equates bs ds (args_trees es (x ∷ xs)) (args_trees es (y ∷ ys))
+  equates-next bs cs ds x y xs ys h g e f =
+      equates-both bs cs ds (arg_trees es x) (arg_trees es y) (args_trees es xs) (args_trees es ys) (arg-single es law.sorted x h) (arg-single es law.sorted y g) e f
 
-abbrev pub rest_of : List GenericArgKind → List GenericArgKind
-rest_of xs = take (length xs - 1) (drop 1 xs)
+  -- two lists are made equal by making equal their items at a place and then what comes after it
+  pub equates-from : (now : List Entry) → Keeps es now → (bs cs ds : List Binding) (xs ys : List GenericArgKind) (i : ℕ) (x y : GenericArgKind) → i < length xs → i < length ys → x ≡ get_or xs i x → y ≡ get_or ys i y → ArgHeld es x → ArgHeld es y
+      → Equates bs cs (arg_trees now x) (arg_trees now y) → Equates cs ds (args_trees es (drop (i + 1) xs)) (args_trees es (drop (i + 1) ys)) → Equates bs ds (args_trees es (drop i xs)) (args_trees es (drop i ys))
+  equates-from now k bs cs ds xs ys i x y l m p q h g e f =
+      let left : drop i xs ≡ x ∷ drop (i + 1) xs = cut-at xs i x l ∙ ap (λ z. z ∷ drop (i + 1) xs) (sym p) in
+      let right : drop i ys ≡ y ∷ drop (i + 1) ys = cut-at ys i y m ∙ ap (λ z. z ∷ drop (i + 1) ys) (sym q) in
+      let here : Equates bs cs (arg_trees es x) (arg_trees es y) = subst (λ z. Equates bs cs z (arg_trees es y)) (arg-trees-later es now k x h) (subst (λ z. Equates bs cs (arg_trees now x) z) (arg-trees-later es now k y g) e) in
+      subst (λ z. Equates bs ds (args_trees es z) (args_trees es (drop i ys))) (sym left) (subst (λ z. Equates bs ds (args_trees es (x ∷ drop (i + 1) xs)) (args_trees es z)) (sym right)
+      (equates-next bs cs ds x y (drop (i + 1) xs) (drop (i + 1) ys) h g here f))
 
-pub rest-shorter : (xs : List GenericArgKind) → 1 ≤ length xs → length (rest_of xs) < length xs
-rest-shorter [] h = absurd (omega arith)
-rest-shorter (x ∷ xs) h = let e = ap length (take-whole x xs) in omega (arith, e)
+  -- nor have they a solution where the items at a place have none
+  pub never-from : (now : List Entry) → Keeps es now → (bs : List Binding) (xs ys : List GenericArgKind) (i : ℕ) (x y : GenericArgKind) → i < length xs → i < length ys → x ≡ get_or xs i x → y ≡ get_or ys i y → ArgHeld es x → ArgHeld es y
+      → HasNoSolution bs (arg_trees now x) (arg_trees now y) → HasNoSolution bs (args_trees es (drop i xs)) (args_trees es (drop i ys))
+  never-from now k bs xs ys i x y l m p q h g n =
+      let left : drop i xs ≡ x ∷ drop (i + 1) xs = cut-at xs i x l ∙ ap (λ z. z ∷ drop (i + 1) xs) (sym p) in
+      let right : drop i ys ≡ y ∷ drop (i + 1) ys = cut-at ys i y m ∙ ap (λ z. z ∷ drop (i + 1) ys) (sym q) in
+      let here : HasNoSolution bs (arg_trees es x) (arg_trees es y) = subst (λ z. HasNoSolution bs z (arg_trees es y)) (arg-trees-later es now k x h) (subst (λ z. HasNoSolution bs (arg_trees now x) z) (arg-trees-later es now k y g) n) in
+      subst (λ z. HasNoSolution bs (args_trees es z) (args_trees es (drop i ys))) (sym left) (subst (λ z. HasNoSolution bs (args_trees es (x ∷ drop (i + 1) xs)) (args_trees es z)) (sym right)
+      (never-first bs (arg_trees es x) (arg_trees es y) (args_trees es (drop (i + 1) xs)) (args_trees es (drop (i + 1) ys)) (arg-single es law.sorted x h) (arg-single es law.sorted y g) here))
 
-rest-later : (es now : List Entry) → Keeps es now → (x : GenericArgKind) (xs : List GenericArgKind) → ArgsHeld es xs → args_trees now (rest_of (x ∷ xs)) ≡ args_trees es xs
-rest-later es now k x xs h = ap (args_trees now) (take-whole x xs) ∙ args-trees-later es now k xs h
+  -- nor where what comes after them has none
+  pub never-after : (now : List Entry) → Keeps es now → (bs cs : List Binding) (xs ys : List GenericArgKind) (i : ℕ) (x y : GenericArgKind) → i < length xs → i < length ys → x ≡ get_or xs i x → y ≡ get_or ys i y → ArgHeld es x → ArgHeld es y
+      → Equates bs cs (arg_trees now x) (arg_trees now y) → HasNoSolution cs (args_trees es (drop (i + 1) xs)) (args_trees es (drop (i + 1) ys)) → HasNoSolution bs (args_trees es (drop i xs)) (args_trees es (drop i ys))
+  never-after now k bs cs xs ys i x y l m p q h g e n =
+      let left : drop i xs ≡ x ∷ drop (i + 1) xs = cut-at xs i x l ∙ ap (λ z. z ∷ drop (i + 1) xs) (sym p) in
+      let right : drop i ys ≡ y ∷ drop (i + 1) ys = cut-at ys i y m ∙ ap (λ z. z ∷ drop (i + 1) ys) (sym q) in
+      let here : Equates bs cs (arg_trees es x) (arg_trees es y) = subst (λ z. Equates bs cs z (arg_trees es y)) (arg-trees-later es now k x h) (subst (λ z. Equates bs cs (arg_trees now x) z) (arg-trees-later es now k y g) e) in
+      subst (λ z. HasNoSolution bs (args_trees es z) (args_trees es (drop i ys))) (sym left) (subst (λ z. HasNoSolution bs (args_trees es (x ∷ drop (i + 1) xs)) (args_trees es z)) (sym right)
+      (never-rest bs cs (arg_trees es x) (arg_trees es y) (args_trees es (drop (i + 1) xs)) (args_trees es (drop (i + 1) ys)) (arg-single es law.sorted x h) (arg-single es law.sorted y g) here n))
 
-module _ (es now : List Entry) (k : Keeps es now) (law : Lawful es) (bs cs ds : List Binding) where
-  pub equates-first : (xs ys : List GenericArgKind) (x y : GenericArgKind) → x ≡ get_or xs 0 x → y ≡ get_or ys 0 y → 1 ≤ length xs → 1 ≤ length ys → ArgsHeld es xs → ArgsHeld es ys
-      → Equates bs cs (arg_trees es x) (arg_trees es y) → Equates cs ds (args_trees now (rest_of xs)) (args_trees now (rest_of ys)) → Equates bs ds (args_trees es xs) (args_trees es ys)
-  equates-first [] ys x y p q m n h g e f = absurd (omega arith)
-  equates-first (a ∷ xs) [] x y p q m n h g e f = absurd (omega arith)
-  equates-first (a ∷ xs) (b ∷ ys) x y p q m n h g e f =
-      equates-both bs cs ds (arg_trees es a) (arg_trees es b) (args_trees es xs) (args_trees es ys) (arg-single es law.sorted a h.0) (arg-single es law.sorted b g.0)
-      (subst (λ z. Equates bs cs z (arg_trees es b)) (ap (arg_trees es) p) (subst (λ z. Equates bs cs (arg_trees es x) z) (ap (arg_trees es) q) e))
-      (subst (λ z. Equates cs ds z (args_trees es ys)) (rest-later es now k a xs h.1) (subst (λ z. Equates cs ds (args_trees now (rest_of (a ∷ xs))) z) (rest-later es now k b ys g.1) f))
+  -- lists of two lengths have no solution
+  pub never-of-lengths : (bs : List Binding) (xs ys : List GenericArgKind) → (length xs ≡ length ys → ⊥) → ArgsHeld es xs → ArgsHeld es ys → HasNoSolution bs (args_trees es xs) (args_trees es ys)
+  never-of-lengths bs [] [] n h g = absurd (n refl)
+  never-of-lengths bs (x ∷ xs) [] n h g = never-left bs (arg_trees es x) (args_trees es xs) (arg-single es law.sorted x h.0)
+  never-of-lengths bs [] (y ∷ ys) n h g = never-right bs (arg_trees es y) (args_trees es ys) (arg-single es law.sorted y g.0)
+  never-of-lengths bs (x ∷ xs) (y ∷ ys) n h g = λ s k e.
+      never-of-lengths bs xs ys (λ p. n (ap suc p)) h.1 g.1 s k (items-parts s (arg_trees es x) (arg_trees es y) (args_trees es xs) (args_trees es ys) (arg-single es law.sorted x h.0) (arg-single es law.sorted y g.0) e).1
 
-  pub first-never : (xs ys : List GenericArgKind) (x y : GenericArgKind) → x ≡ get_or xs 0 x → y ≡ get_or ys 0 y → 1 ≤ length xs → 1 ≤ length ys → ArgsHeld es xs → ArgsHeld es ys
-      → HasNoSolution bs (arg_trees es x) (arg_trees es y) → HasNoSolution bs (args_trees es xs) (args_trees es ys)
-  first-never [] ys x y p q m n h g e = absurd (omega arith)
-  first-never (a ∷ xs) [] x y p q m n h g e = absurd (omega arith)
-  first-never (a ∷ xs) (b ∷ ys) x y p q m n h g e =
-      never-first bs (arg_trees es a) (arg_trees es b) (args_trees es xs) (args_trees es ys) (arg-single es law.sorted a h.0) (arg-single es law.sorted b g.0)
-      (subst (λ z. HasNoSolution bs z (arg_trees es b)) (ap (arg_trees es) p) (subst (λ z. HasNoSolution bs (arg_trees es x) z) (ap (arg_trees es) q) e))
+pub equates-none : (bs : List Binding) → Equates bs bs none none
+equates-none bs = record { only = λ s h. (h, refl); all = λ s h e. h }
 
-  pub rest-never : (xs ys : List GenericArgKind) (x y : GenericArgKind) → x ≡ get_or xs 0 x → y ≡ get_or ys 0 y → 1 ≤ length xs → 1 ≤ length ys → ArgsHeld es xs → ArgsHeld es ys
-      → Equates bs cs (arg_trees es x) (arg_trees es y) → HasNoSolution cs (args_trees now (rest_of xs)) (args_trees now (rest_of ys)) → HasNoSolution bs (args_trees es xs) (args_trees es ys)
-  rest-never [] ys x y p q m n h g e f = absurd (omega arith)
-  rest-never (a ∷ xs) [] x y p q m n h g e f = absurd (omega arith)
-  rest-never (a ∷ xs) (b ∷ ys) x y p q m n h g e f =
-      never-rest bs cs (arg_trees es a) (arg_trees es b) (args_trees es xs) (args_trees es ys) (arg-single es law.sorted a h.0) (arg-single es law.sorted b g.0)
-      (subst (λ z. Equates bs cs z (arg_trees es b)) (ap (arg_trees es) p) (subst (λ z. Equates bs cs (arg_trees es x) z) (ap (arg_trees es) q) e))
-      (subst (λ z. HasNoSolution cs z (args_trees es ys)) (rest-later es now k a xs h.1) (subst (λ z. HasNoSolution cs (args_trees now (rest_of (a ∷ xs))) z) (rest-later es now k b ys g.1) f))
-
-  pub left-never : (xs ys : List GenericArgKind) → 1 ≤ length xs → length ys < 1 → ArgsHeld es xs → HasNoSolution bs (args_trees es xs) (args_trees es ys)
-  left-never [] ys m n h = absurd (omega arith)
-  left-never (a ∷ xs) (b ∷ ys) m n h = absurd (omega arith)
-  left-never (a ∷ xs) [] m n h = never-left bs (arg_trees es a) (args_trees es xs) (arg-single es law.sorted a h.0)
-
-  pub right-never : (xs ys : List GenericArgKind) → length xs < 1 → 1 ≤ length ys → ArgsHeld es ys → HasNoSolution bs (args_trees es xs) (args_trees es ys)
-  right-never xs [] m n h = absurd (omega arith)
-  right-never (a ∷ xs) (b ∷ ys) m n h = absurd (omega arith)
-  right-never [] (b ∷ ys) m n h = never-right bs (arg_trees es b) (args_trees es ys) (arg-single es law.sorted b h.0)
-
-pub on-ok : {E : Type 0} (r : Result (Unit {0}) E) (P Q : Type 0) → (P → Q) → OnOk r P → OnOk r Q
-on-ok (Ok u) P Q f h = f h
-on-ok (Err e) P Q f h = tt
+-- what a part of a list of the same length was changed to is the list
+pub written : {X : Type 0} (n : ℕ) (new old : List X) → length new ≡ length old → n ≡ length old → take n (new ++ drop (length new) old) ≡ new
+written n new old e f = grind (arith, common_steps)
 
 -- ---- values of the goal
-label-later : (es now : List Entry) → Keeps es now → (a : GenericArgKind) → ArgHeld es a → leaf_label now a ≡ leaf_label es a
-label-later es now k a h = ap root_label (arg-trees-later es now k a h)
-
-original-later : (es now : List Entry) → Keeps es now → (i : ℕ) (vs os : List GenericArgKind) → ArgsHeld es vs → original_of now i vs os ≡ original_of es i vs os
-original-later es now k i [] os h = refl
-original-later es now k i (v ∷ vs) [] h = refl
-original-later es now k i (v ∷ vs) (o ∷ os) h =
-    ap (λ l. if is_numbered i l then Some o else original_of now i vs os) (label-later es now k v h.0)
-    ∙ ap (λ (z : Option GenericArgKind). if is_numbered i (leaf_label es v) then Some o else z) (original-later es now k i vs os h.1)
-
-original-held : (es : List Entry) (i : ℕ) (vs os : List GenericArgKind) → ArgsHeld es os → IfSome (original_of es i vs os) (λ a. ArgHeld es a)
+pub original-held : (es : List Entry) (i : ℕ) (vs os : List GenericArgKind) → ArgsHeld es os → IfSome (original_of es i vs os) (λ a. ArgHeld es a)
 original-held es i [] os h = tt
 original-held es i (v ∷ vs) [] h = tt
 original-held es i (v ∷ vs) (o ∷ os) h = by (is_numbered i (leaf_label es v)) (original-held es i vs os h.1)
@@ -157,11 +154,76 @@ known-later : (es now : List Entry) → Keeps es now → (found : Option Generic
 known-later es now k None h = refl
 known-later es now k (Some a) h = ap Some (value-later es now k a h)
 
--- what is found later is what was there
-pub found-later : (es now : List Entry) → Keeps es now → (i : ℕ) (vs os : List GenericArgKind) (found : Option GenericArgKind) → ArgsHeld es vs → ArgsHeld es os → found ≡ original_of now i vs os
+pub original-held-later : (es now : List Entry) → Keeps es now → (i : ℕ) (vs os : List GenericArgKind) → ArgsHeld es os → IfSome (original_of es i vs os) (λ a. ArgHeld now a)
+original-held-later es now k i vs os h = by (original_of es i vs os) (original-held es i vs os h)
+  where
+    by : (found : Option GenericArgKind) → IfSome found (λ a. ArgHeld es a) → IfSome found (λ a. ArgHeld now a)
+    by None g = tt
+    by (Some a) g = arg-held-later es now k a g
+
+-- what is found is what it was
+pub found-later : (es now : List Entry) → Keeps es now → (i : ℕ) (vs os : List GenericArgKind) (found : Option GenericArgKind) → ArgsHeld es os → found ≡ original_of es i vs os
     → option_map (value_of now) found ≡ option_map (value_of es) (original_of es i vs os)
-found-later es now k i vs os found h g e =
-    ap (option_map (value_of now)) (e ∙ original-later es now k i vs os h) ∙ known-later es now k (original_of es i vs os) (original-held es i vs os g)
+found-later es now k i vs os found g e = ap (option_map (value_of now)) e ∙ known-later es now k (original_of es i vs os) (original-held es i vs os g)
+
+-- an item is the one in its place, whatever stands for none
+pub same-slot : (xs : List (Option GenericArgKind)) (i : ℕ) (x : Option GenericArgKind) → i < length xs → x ≡ get_or xs i x → x ≡ get_or xs i None
+same-slot [] i x h e = absurd (omega arith)
+same-slot (y ∷ ys) zero x h e = e
+same-slot (y ∷ ys) (suc i) x h e = same-slot ys i x (omega arith) e
+
+-- ---- the goal's own values under the numbers of the answer's variables
+find-no-goal : (es : List Entry) (i : ℕ) (vs : List GenericArgKind) → original_of es i vs [] ≡ None
+find-no-goal es i [] = refl
+find-no-goal es i (v ∷ vs) = refl
+
+-- at the end of one of the lists nothing is found
+pub found-end : (es : List Entry) (i : ℕ) (vs os : List GenericArgKind) (j : ℕ) → j ≡ min (length vs) (length os) → original_of es i (drop j vs) (drop j os) ≡ None
+found-end es i vs os j e = by (cases_lt j (length vs))
+  where
+    by : (j < length vs) ⊎ (length vs ≤ j) → original_of es i (drop j vs) (drop j os) ≡ None
+    by (inl h) = let past : length os ≤ j = omega arith in ap (original_of es i (drop j vs)) (past-end os j past) ∙ find-no-goal es i (drop j vs)
+    by (inr h) = ap (λ z. original_of es i z (drop j os)) (past-end vs j h)
+
+some-is : {X : Type 0} (x y : X) → Some x ≡ Some y → x ≡ y
+some-is x y e = cc
+
+number-test : (i : ℕ) (l : Label) (n : ℕ) → canonical_number l ≡ Some n → is_numbered i l ≡ (n == i)
+number-test i (canonical s j) n e = ap (λ m. m == i) (some-is j n e)
+number-test i l n e = cc
+
+no-number : (i : ℕ) (l : Label) → canonical_number l ≡ None → is_numbered i l ≡ false
+no-number i (canonical s j) e = cc
+no-number i l e = refl
+
+or-first : (a : Option GenericArgKind) (o : GenericArgKind) (b : Bool) (rest : Option GenericArgKind) → option_or (option_or a (if b then Some o else None)) rest ≡ option_or a (if b then Some o else rest)
+or-first None o true rest = refl
+or-first None o false rest = refl
+or-first (Some x) o b rest = refl
+
+pub or-none : (a : Option GenericArgKind) → option_or a None ≡ a
+or-none None = refl
+or-none (Some x) = refl
+
+module _ (es : List Entry) (i : ℕ) (vs os : List GenericArgKind) (j : ℕ) (v o : GenericArgKind) (l : j < length vs) (m : j < length os) (p : v ≡ get_or vs j v) (q : o ≡ get_or os j o) where
+  found-cut : original_of es i (drop j vs) (drop j os) ≡ (if is_numbered i (leaf_label es v) then Some o else original_of es i (drop (j + 1) vs) (drop (j + 1) os))
+  found-cut =
+      ap (λ z. original_of es i z (drop j os)) (cut-at vs j v l ∙ ap (λ z. z ∷ drop (j + 1) vs) (sym p))
+      ∙ ap (original_of es i (v ∷ drop (j + 1) vs)) (cut-at os j o m ∙ ap (λ z. z ∷ drop (j + 1) os) (sym q))
+
+  -- a value that is a variable is noted under its number
+  pub found-noted : (n : ℕ) (old new all : Option GenericArgKind) → canonical_number (leaf_label es v) ≡ Some n → new ≡ option_or old (if n == i then Some o else None)
+      → option_or old (original_of es i (drop j vs) (drop j os)) ≡ all → option_or new (original_of es i (drop (j + 1) vs) (drop (j + 1) os)) ≡ all
+  found-noted n old new all e f h =
+      let rest = original_of es i (drop (j + 1) vs) (drop (j + 1) os) in
+      ap (λ z. option_or z rest) f ∙ or-first old o (n == i) rest ∙ ap (λ (b : Bool). option_or old (if b then Some o else rest)) (sym (number-test i (leaf_label es v) n e)) ∙ ap (option_or old) (sym found-cut) ∙ h
+
+  -- another value says nothing
+  pub found-passed : (old all : Option GenericArgKind) → canonical_number (leaf_label es v) ≡ None
+      → option_or old (original_of es i (drop j vs) (drop j os)) ≡ all → option_or old (original_of es i (drop (j + 1) vs) (drop (j + 1) os)) ≡ all
+  found-passed old all e h =
+      let rest = original_of es i (drop (j + 1) vs) (drop (j + 1) os) in
+      ap (λ (b : Bool). option_or old (if b then Some o else rest)) (sym (no-number i (leaf_label es v) e)) ∙ ap (option_or old) (sym found-cut) ∙ h
 
 pub table-bindings : (v : Option Value) (t : Table) (k : CanonicalVarKind) → (table_after v t k).values ≡ t.values
 table-bindings (Some v) t k = refl

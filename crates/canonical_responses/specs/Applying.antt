@@ -16,6 +16,11 @@ abbrev pub is_numbered : ℕ → Label → Bool
 is_numbered i (canonical s j) = j == i
 is_numbered i l = false
 
+-- the number of a canonical variable
+abbrev pub canonical_number : Label → Option ℕ
+canonical_number (canonical s i) = Some i
+canonical_number l = None
+
 -- the goal's value at the first place where the answer's value is variable i itself
 abbrev pub original_of : List Entry → ℕ → List GenericArgKind → List GenericArgKind → Option GenericArgKind
 original_of es i (v ∷ vs) (o ∷ os) = if is_numbered i (leaf_label es v) then Some o else original_of es i vs os
@@ -52,3 +57,12 @@ known_value es r originals i = option_map (value_of es) (original_of es i r.var_
 
 abbrev pub applied_values : List Entry → Table → List GenericArgKind → CanonicalResponse → List Value
 applied_values es t originals r = values_for (known_value es r originals) t 0 r.variables.items
+
+-- the table with a new unknown for each variable from i on that has no value
+abbrev pub table_for : (ℕ → Option Value) → Table → ℕ → List CanonicalVarKind → Table
+table_for known t i [] = t
+table_for known t i (k ∷ ks) = table_for known (table_after (known i) t k) (i + 1) ks
+
+-- the table with the new unknowns that an answer to a goal with these values takes
+abbrev pub applied_table : List Entry → Table → List GenericArgKind → CanonicalResponse → Table
+applied_table es t originals r = table_for (known_value es r originals) t 0 r.variables.items

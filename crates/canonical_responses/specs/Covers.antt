@@ -3,8 +3,13 @@ use Rattle.std.specs.Prelude.{◌≡◌, ◌<◌, ℕ, List, Some, option_map}
 use Rattle.std.specs.List.{slice_get}
 use Rattle.model.specs.Label.{Sort, of_type, of_const, infer, canonical}
 use Rattle.model.specs.Trees.{Trees, none, tree, erase_label}
+use Rattle.type_terms.specs.Terms.{Entry}
+use Rattle.type_terms.specs.Kinds.{args_trees}
+use Rattle.type_terms.specs.declared.kinds.GenericArgKind.{GenericArgKind}
 use Rattle.infer_table.specs.Solutions.{Assignment, IsSorted, Binding, Solves}
+use Rattle.infer_table.specs.Content.{Table, content, variables_of}
 use Rattle.infer_table.specs.declared.canonical.CanonicalVarKind.{CanonicalVarKind}
+use Rattle.canonical_forms.specs.declared.response.CanonicalResponse.{CanonicalResponse}
 use Rattle.canonical_responses.specs.Raw.{sort_of_kind}
 
 -- an answer's trees with chosen trees in the place of its type and const variables, read up to lifetimes
@@ -43,3 +48,9 @@ IsOfKnown counts bs = (s r : Assignment) → Solves s bs → IsSorted r → Cont
 pub record HaveSameSolutions (counts : Sort → ℕ) (old new : List Binding) : Type 0 where
   pub forth : (s : Assignment) → Solves s old → (r : Assignment) × Continues counts s r × Solves r new
   pub back : (s : Assignment) → Solves s new → Solves s old
+
+-- the answer's variables are of its kinds, and the goal's values and the table speak of the table's unknowns alone
+pub record IsWellPosed (es : List Entry) (t : Table) (originals : List GenericArgKind) (r : CanonicalResponse) : Type 0 where
+  pub numbered : AreNumbered r.variables.items (args_trees es r.var_values.items)
+  pub values_known : AreKnown (variables_of t) (args_trees es originals)
+  pub table_known : IsOfKnown (variables_of t) (content es t.values)

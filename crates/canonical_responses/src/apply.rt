@@ -1,15 +1,17 @@
 //! Answers applied to the goal that was asked.
-ghost use Rattle.std.specs.Prelude.{◌≡◌, List, ◌++◌, IfOk, IfSome, OnOk, OnErr, Err, unwrap_or, option_map};
+ghost use Rattle.std.specs.Prelude.{◌≡◌, ℕ, ◌<◌, List, ◌++◌, length, get_or, IfOk, IfSome, OnOk, OnErr, Err, Some, None, unwrap_or, option_map, ◌==◌, if◌then◌else◌};
+ghost use Rattle.std.specs.Option.{option_or};
 ghost use Rattle.model.specs.Label.{Sort};
 ghost use Rattle.type_terms.specs.Terms.{Entry, Keeps, Has, args_lists};
 ghost use Rattle.type_terms.specs.Kinds.{ArgHeld, ArgsHeld, args_trees, bound_label};
-ghost use Rattle.infer_table.specs.Solutions.{Equates, HasNoSolution};
-ghost use Rattle.infer_table.specs.Content.{content, Ready, Grows, AllConstraintsHeld};
+ghost use Rattle.infer_table.specs.Solutions.{Assignment, Solves, Equates, HasNoSolution, instance};
+ghost use Rattle.infer_table.specs.Content.{content, variables_of, Ready, Grows, AllConstraintsHeld};
 ghost use Rattle.infer_table.specs.Constraints.{constraints_trees};
 ghost use Rattle.canonical_forms.specs.Leaves.{leaf_label};
 ghost use Rattle.canonical_forms.specs.Values.{value_of, values_of, filled};
 ghost use Rattle.canonical_responses.specs.Responses.{ResponseHeld, Records};
-ghost use Rattle.canonical_responses.specs.Applying.{is_numbered, original_of, next_unknown, with_unknown, table_after, applied_values};
+ghost use Rattle.canonical_responses.specs.Applying.{canonical_number, original_of, next_unknown, with_unknown, table_after, applied_values, applied_table};
+ghost use Rattle.canonical_responses.specs.Covers.{Agrees, Continues, IsOfKnown, IsWellPosed};
 
 use crate::constraints::fold_constraints;
 use canonical_forms::instantiate::CanonicalInstantiator;
@@ -18,7 +20,7 @@ use infer_table::canonical::CanonicalVarKind;
 use infer_table::goal::EqError;
 use infer_table::infer_ctxt::InferCtxt;
 use infer_table::terms::RegionConstraint;
-use std::alloc::Global;
+use std::alloc::{AllocError, Global};
 use term_traversal::foldable::TypeFoldable;
 use type_terms::Fault;
 use type_terms::interner::Interner;
@@ -26,58 +28,65 @@ use type_terms::kinds::{ConstKind, GenericArgKind, TyKind};
 use type_terms::number::{BoundVar, BoundVarIndexKind};
 use type_terms::region::RegionKind;
 
-/// The variable is the canonical one of this number.
-fn is_number(index: BoundVarIndexKind, variable: BoundVar, number: usize) -> bool
-    ensures { (s : Sort) → result ≡ is_numbered number (bound_label s index variable) }
+/// The number of the variable, if it is a canonical one.
+fn number_of(index: BoundVarIndexKind, variable: BoundVar) -> Option<usize>
+    ensures { (s : Sort) → result ≡ canonical_number (bound_label s index variable) }
 {
     match index {
-        BoundVarIndexKind::Canonical => variable.index as usize == number,
-        BoundVarIndexKind::Bound(_) => false,
+        BoundVarIndexKind::Canonical => Some(variable.index as usize),
+        BoundVarIndexKind::Bound(_) => None,
     }
 }
 
-/// The value is the canonical variable of this number.
-fn is_variable(cx: &Interner, value: GenericArgKind, number: usize) -> bool
+/// The number of the canonical variable that the value is.
+fn variable_number(cx: &Interner, value: GenericArgKind) -> Option<usize>
     requires { ArgHeld cx.now.entries value }
-    ensures { result ≡ is_numbered number (leaf_label cx.now.entries value) }
+    ensures { result ≡ canonical_number (leaf_label cx.now.entries value) }
 {
     match value {
         GenericArgKind::Lifetime(region) => match region.kind {
-            RegionKind::ReBound(index, variable) => is_number(index, variable, number),
-            _ => false,
+            RegionKind::ReBound(index, variable) => number_of(index, variable),
+            _ => None,
         },
         GenericArgKind::Ty(ty) => match cx.kind(ty) {
-            TyKind::Bound(index, variable) => is_number(index, variable, number),
-            _ => false,
+            TyKind::Bound(index, variable) => number_of(index, variable),
+            _ => None,
         },
         GenericArgKind::Const(ct) => match cx.const_kind(ct) {
-            ConstKind::Bound(index, variable) => is_number(index, variable, number),
-            _ => false,
+            ConstKind::Bound(index, variable) => number_of(index, variable),
+            _ => None,
         },
     }
 }
 
-/// The original value at the first place where the answer's value is the variable of this number.
-fn original_value(
+/// Puts the value at this place, unless one stands there or there is no such place.
+fn put_first(known: &mut [Option<GenericArgKind>], place: usize, value: GenericArgKind)
+    ensures { (i : ℕ) → i < length known.old → get_or known.new i None ≡ option_or (get_or known.old i None) (if place == i then Some value else None) }
+{
+    if place < known.len() && known[place].is_none() {
+        known[place] = Some(value);
+    }
+}
+
+/// For each of so many variables the goal's own value at the first place where the answer's value is the variable.
+fn known_values(
+    alloc: Global,
     cx: &Interner,
-    number: usize,
+    count: usize,
     values: &[GenericArgKind],
     originals: &[GenericArgKind],
-) -> Option<GenericArgKind>
-    requires values { ArgsHeld cx.now.entries values.now }
-    requires originals { ArgsHeld cx.now.entries originals.now }
-    ensures is { result ≡ original_of cx.now.entries number values.now originals.now }
-    ensures held { IfSome result (λ a. ArgHeld cx.now.entries a) }
+) -> Result<Vec<Option<GenericArgKind>>, AllocError>
+    requires { ArgsHeld cx.now.entries values.now }
+    ensures count { IfOk result (λ r. length r.items ≡ count) }
+    ensures known { IfOk result (λ r. (i : ℕ) → i < count → get_or r.items i None ≡ original_of cx.now.entries i values.now originals.now) }
 {
-    if let [value, values @ ..] = values {
-        if let [original, originals @ ..] = originals {
-            if is_variable(cx, *value, number) {
-                return Some(*original);
-            }
-            return original_value(cx, number, values, originals);
+    let mut known = vec![in alloc; None; count]?;
+    for (value, original) in values.iter().zip(originals) {
+        if let Some(number) = variable_number(cx, *value) {
+            put_first(&mut known, number, *original);
         }
     }
-    None
+    Ok(known)
 }
 
 /// A new unknown of this kind.
@@ -93,6 +102,7 @@ fn new_unknown(
     ensures is { IfOk result (λ a. value_of cx.new.entries a ≡ next_unknown table.old kind) }
     ensures held { IfOk result (λ a. ArgHeld cx.new.entries a) }
     ensures made { OnOk result (table.new ≡ with_unknown table.old kind) }
+    ensures grows { Grows table.old table.new }
     ensures refused { OnErr result (table.new ≡ table.old) }
 {
     match kind {
@@ -126,6 +136,7 @@ fn value_or_unknown(
     ensures is { IfOk result (λ a. value_of cx.new.entries a ≡ unwrap_or (option_map (value_of cx.old.entries) known) (next_unknown table.old kind)) }
     ensures held { IfOk result (λ a. ArgHeld cx.new.entries a) }
     ensures made { OnOk result (table.new ≡ table_after (option_map (value_of cx.old.entries) known) table.old kind) }
+    ensures grows { Grows table.old table.new }
     ensures refused { OnErr result (table.new ≡ table.old) }
 {
     match known {
@@ -151,13 +162,16 @@ fn values_to_apply(
     ensures limit { cx.new.limit ≡ cx.old.limit }
     ensures bindings { table.new.values ≡ table.old.values }
     ensures constraints { table.new.constraints ≡ table.old.constraints }
+    ensures grows { Grows table.old table.new }
+    ensures made { OnOk result (table.new ≡ applied_table cx.old.entries table.old original_values.now response.now) }
     ensures held { IfOk result (λ r. ArgsHeld cx.new.entries r.items) }
     ensures values { IfOk result (λ r. values_of cx.new.entries r.items ≡ applied_values cx.old.entries table.old original_values.now response.now) }
 {
+    let count = response.variables.len();
+    let known = known_values(alloc, cx, count, &response.var_values, original_values)?;
     let mut values = Vec::new(alloc);
     for (number, kind) in response.variables.iter().enumerate() {
-        let known = original_value(cx, number, &response.var_values, original_values);
-        let value = value_or_unknown(table, cx, known, *kind)?;
+        let value = value_or_unknown(table, cx, known[number], *kind)?;
         values.push(value)?;
     }
     Ok(values)
@@ -181,37 +195,26 @@ fn equate_values(
     ensures never { result ≡ Err EqError.NoSolution → HasNoSolution (content cx.old.entries table.old.values) (args_trees cx.old.entries left.now) (args_trees cx.old.entries right.now) }
 {
     cx.lawful();
-    match left {
-        [] => match right {
-            [] => Ok(()),
-            [_, ..] => Err(EqError::NoSolution),
-        },
-        [first, rest @ ..] => match right {
-            [] => Err(EqError::NoSolution),
-            [other, others @ ..] => {
-                match table.eq(cx, *first, *other) {
-                    Ok(()) => equate_values(cx, table, rest, others),
-                    Err(error) => Err(error),
-                }
-            }
-        },
+    if left.len() != right.len() {
+        return Err(EqError::NoSolution);
     }
+    for (value, other) in left.iter().zip(right) {
+        table.eq(cx, *value, *other)?;
+    }
+    Ok(())
 }
 
 /// Records the constraints, in order.
 fn record_constraints(table: &mut InferCtxt, constraints: &[RegionConstraint]) -> Result<(), Fault>
     ensures ready { (es : List Entry) → Ready es table.old → AllConstraintsHeld es constraints.now → Ready es table.new }
     ensures grows { Grows table.old table.new }
-    ensures bindings { table.new.values ≡ table.old.values }
-    ensures recorded { OnOk result (table.new.constraints ≡ table.old.constraints ++ constraints.now) }
+    ensures kept { table.new ≡ record table.old { constraints = table.new.constraints } }
+    ensures recorded { OnOk result (table.new ≡ record table.old { constraints = table.old.constraints ++ constraints.now }) }
 {
-    match constraints {
-        [] => Ok(()),
-        [first, rest @ ..] => {
-            table.register_region_constraint(*first)?;
-            record_constraints(table, rest)
-        }
+    for constraint in constraints {
+        table.register_region_constraint(*constraint)?;
     }
+    Ok(())
 }
 
 /// Equates the values and records the constraints.
@@ -227,6 +230,7 @@ fn apply(
     requires ready { Ready cx.old.entries table.old }
     ensures ready { Ready cx.new.entries table.new }
     ensures grows { Grows table.old table.new }
+    ensures unknowns { OnOk result (Grows (applied_table cx.old.entries table.old original_values.now response.now) table.new) }
     ensures keeps { Keeps cx.old.entries cx.new.entries }
     ensures limit { cx.new.limit ≡ cx.old.limit }
     ensures equates { OnOk result (Equates (content cx.old.entries table.old.values) (content cx.new.entries table.new.values) (args_trees cx.old.entries original_values.now) (filled (applied_values cx.old.entries table.old original_values.now response.now) (args_trees cx.old.entries response.now.var_values.items))) }
@@ -270,14 +274,24 @@ pub fn instantiate_and_apply_query_response(
     ensures keeps { Keeps cx.old.entries cx.new.entries }
     ensures limit { cx.new.limit ≡ cx.old.limit }
 
+    // The new unknowns are variables of the table.
+    ensures unknowns { OnOk result (Grows (applied_table cx.old.entries table.old original_values.now response.now) table.new) }
+
     // The solutions are those from before that make the values equal, and there is none where it says so.
     ensures equates { OnOk result (Equates (content cx.old.entries table.old.values) (content cx.new.entries table.new.values) (args_trees cx.old.entries original_values.now) (filled (applied_values cx.old.entries table.old original_values.now response.now) (args_trees cx.old.entries response.now.var_values.items))) }
     ensures never { result ≡ Err EqError.NoSolution → HasNoSolution (content cx.old.entries table.old.values) (args_trees cx.old.entries original_values.now) (filled (applied_values cx.old.entries table.old original_values.now response.now) (args_trees cx.old.entries response.now.var_values.items)) }
+
+    // A solution with which the answer agrees goes on to the table that is left, and an answer that agrees with one is
+    // not refused for want of a solution. The table speaks of its own unknowns alone, as it did before.
+    ensures kept { OnOk result (IsWellPosed cx.old.entries table.old original_values.now response.now → (s : Assignment) → Solves s (content cx.old.entries table.old.values) → Agrees (args_trees cx.old.entries response.now.var_values.items) (instance s (args_trees cx.old.entries original_values.now)) → (u : Assignment) × Continues (variables_of table.old) s u × Solves u (content cx.new.entries table.new.values)) }
+    ensures accepted { result ≡ Err EqError.NoSolution → IsWellPosed cx.old.entries table.old original_values.now response.now → (s : Assignment) → Solves s (content cx.old.entries table.old.values) → Agrees (args_trees cx.old.entries response.now.var_values.items) (instance s (args_trees cx.old.entries original_values.now)) → ⊥ }
+    ensures known { OnOk result (IsWellPosed cx.old.entries table.old original_values.now response.now → IsOfKnown (variables_of table.new) (content cx.new.entries table.new.values)) }
 
     // The answer's constraints come last.
     ensures constraints { OnOk result (Records cx.new.entries table.old.constraints table.new.constraints (filled (applied_values cx.old.entries table.old original_values.now response.now) (constraints_trees cx.old.entries response.now.region_constraints.items))) }
     ensures refused { OnErr result (table.new ≡ table.old) }
 {
+    cx.lawful();
     let place = table.snapshot()?;
     match apply(alloc, cx, table, original_values, response) {
         Ok(()) => Ok(()),

@@ -1,8 +1,10 @@
 //! Answers put into canonical form.
-ghost use Rattle.std.specs.Prelude.{◌≡◌, ℕ, List, [], IfOk, map, Some};
+ghost use Rattle.std.specs.Prelude.{◌≡◌, ◌≤◌, ◌⊎◌, ℕ, List, [], length, IfOk, IfErr, Err, map, Some};
 ghost use Rattle.model.specs.Trees.{◌+++◌};
 ghost use Rattle.type_terms.specs.Terms.{Keeps, Has, args_lists, trees_at};
 ghost use Rattle.type_terms.specs.Kinds.{ArgsHeld, args_trees};
+ghost use Rattle.type_terms.specs.declared.TheConstants.{MAX_INDEX};
+ghost use Rattle.term_traversal.specs.Failures.{SomeKindIsFull};
 ghost use Rattle.infer_table.specs.Canonical.{canonical_form, kind_of_leaf, HasNoCanonical};
 ghost use Rattle.infer_table.specs.Solutions.{Assignment, Solves, instance, resolved};
 ghost use Rattle.infer_table.specs.Content.{content, Ready, AllConstraintsHeld};
@@ -39,6 +41,7 @@ fn collect_leaves(
     ensures listed { IfOk result (λ s. AreLeaves cx.now.entries s.keys) }
     ensures leaves { IfOk result (λ s. labels cx.now.entries s.keys ≡ answer_leaves (trees_at cx.now.entries values.0 +++ constraints_trees cx.now.entries constraints.now)) }
     ensures only { IfOk result (λ s. OpenAreLeaves kind_of_leaf (trees_at cx.now.entries values.0)) }
+    ensures memory { IfErr result (λ e. e ≡ Fault.Memory) }
 {
     let mut collector = LeafCollector {
         leaves: IndexSet::new(alloc),
@@ -68,7 +71,9 @@ fn collect_leaves(
 /// recorded constraints are numbered: each unknown, parameter, placeholder and lifetime by first occurrence, `'static`
 /// as any other lifetime. So two answers are equal exactly if a renaming carries the one to the other.
 /// An answer whose certainty is an overflow is to say nothing of values or lifetimes: for it `response_no_constraints_raw`
-/// is asked, over the variables of the goal. `make_canonical_response` with `canonicalize_response` of the original.
+/// is asked, over the variables of the goal. `Full` comes only where some kind of term has reached its limit or there
+/// are as many leaves as numbers for them, `Memory` where memory is refused. `make_canonical_response` with
+/// `canonicalize_response` of the original.
 pub fn canonicalize_response(
     alloc: Global,
     cx: &mut Interner,
@@ -93,6 +98,9 @@ pub fn canonicalize_response(
     // The answer agrees with each solution of the table, and its variables are of its kinds.
     ensures agrees { IfOk result (λ r. HasNoCanonical (resolved (content cx.old.entries table.now.values) (args_trees cx.old.entries values.now)) → (s : Assignment) → Solves s (content cx.old.entries table.now.values) → Agrees (args_trees cx.new.entries r.var_values.items) (instance s (args_trees cx.old.entries values.now))) }
     ensures numbered { IfOk result (λ r. HasNoCanonical (resolved (content cx.old.entries table.now.values) (args_trees cx.old.entries values.now)) → AreNumbered r.variables.items (args_trees cx.new.entries r.var_values.items)) }
+
+    // A full table names the error only where some kind of term has reached its limit, or where the leaves are too many.
+    ensures full { result ≡ Err Fault.Full → SomeKindIsFull cx.new.entries cx.new.limit ⊎ (MAX_INDEX ≤ length (answer_leaves (resolved (content cx.old.entries table.now.values) (args_trees cx.old.entries values.now +++ constraints_trees cx.old.entries table.now.constraints)))) }
 {
     let given = cx.mk_args(Vec::from_slice(alloc, values)?)?;
     let resolved = table.eager_resolve_vars(cx, given)?;

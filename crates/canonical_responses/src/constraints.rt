@@ -1,6 +1,7 @@
 //! Lists of constraints on lifetimes, resolved and folded.
-ghost use Rattle.std.specs.Prelude.{◌≡◌, ℕ, List, [], ◌∷◌, ◌++◌, IfOk, OnOk, OnErr, IfErr};
+ghost use Rattle.std.specs.Prelude.{◌≡◌, ℕ, List, [], ◌∷◌, ◌++◌, IfOk, OnOk, OnErr, IfErr, Err, ◌⊎◌};
 ghost use Rattle.type_terms.specs.Terms.{Keeps};
+ghost use Rattle.term_traversal.specs.Failures.{SomeKindIsFull};
 ghost use Rattle.infer_table.specs.Solutions.{resolved};
 ghost use Rattle.infer_table.specs.Content.{content, Ready, AllConstraintsHeld};
 ghost use Rattle.infer_table.specs.Constraints.{constraints_trees};
@@ -27,6 +28,7 @@ pub(crate) fn resolve_constraints(
     ensures limit { cx.new.limit ≡ cx.old.limit }
     ensures held { IfOk result (λ r. AllConstraintsHeld cx.new.entries r.items) }
     ensures resolved { IfOk result (λ r. constraints_trees cx.new.entries r.items ≡ resolved (content cx.old.entries table.now.values) (constraints_trees cx.old.entries constraints.now)) }
+    ensures full { result ≡ Err Fault.Full → SomeKindIsFull cx.new.entries cx.new.limit }
 {
     let mut resolved = Vec::new(alloc);
     for constraint in constraints {
@@ -49,6 +51,7 @@ pub(crate) fn fold_constraints<F: TypeFolder>(
     ensures limit { cx.new.limit ≡ cx.old.limit }
     ensures held { IfOk result (λ r. AllConstraintsHeld cx.new.entries r.items) }
     ensures folded { IfOk result (λ r. ConstraintsFold (F.action folder.now cx.old.entries) cx.old.entries constraints.now cx.new.entries r.items) }
+    ensures full { result ≡ Err Fault.Full → SomeKindIsFull cx.new.entries cx.new.limit ⊎ F.refuses folder.now }
 {
     let mut folded = Vec::new(alloc);
     for constraint in constraints {

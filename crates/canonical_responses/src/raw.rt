@@ -1,12 +1,15 @@
 //! The answer that says nothing.
-ghost use Rattle.std.specs.Prelude.{◌≡◌, ℕ, ◌<◌, List, [], IfOk, OnErr, Err, length, ◌⊎◌};
+ghost use Rattle.std.specs.Prelude.{◌≡◌, ℕ, ◌<◌, List, [], map, IfOk, OnErr, Err, length, ◌⊎◌};
 ghost use Rattle.model.specs.Label.{canonical};
 ghost use Rattle.model.specs.Trees.{leaf};
-ghost use Rattle.type_terms.specs.Terms.{Keeps, types, consts, held};
-ghost use Rattle.type_terms.specs.Kinds.{ArgHeld, ArgsHeld};
+ghost use Rattle.type_terms.specs.Terms.{Entry, Keeps, Lawful, types, consts, held};
+ghost use Rattle.type_terms.specs.Kinds.{ArgHeld, ArgsHeld, args_trees};
 ghost use Rattle.type_terms.specs.declared.TheConstants.{MAX_INDEX};
-ghost use Rattle.canonical_forms.specs.Values.{value_of, values_of};
+ghost use Rattle.type_terms.specs.declared.kinds.GenericArgKind.{GenericArgKind};
+ghost use Rattle.infer_table.specs.Solutions.{Assignment, IsSorted, instance};
+ghost use Rattle.canonical_forms.specs.Values.{sort_of_arg, value_of, values_of};
 ghost use Rattle.canonical_responses.specs.Raw.{sort_of_kind, variable_value, variables_from, IsFull};
+ghost use Rattle.canonical_responses.specs.Covers.{Agrees, AreNumbered};
 
 use canonical_forms::response::CanonicalResponse;
 use infer_table::canonical::CanonicalVarKind;
@@ -67,6 +70,10 @@ pub fn response_no_constraints_raw(
     ensures constraints { IfOk result (λ r. r.region_constraints.items ≡ []) }
     ensures held { IfOk result (λ r. ArgsHeld cx.new.entries r.var_values.items) }
     ensures values { IfOk result (λ r. values_of cx.new.entries r.var_values.items ≡ variables_from 0 variables.items) }
+
+    // Its variables are of its kinds, and it agrees with all values of their sorts.
+    ensures numbered { IfOk result (λ r. AreNumbered r.variables.items (args_trees cx.new.entries r.var_values.items)) }
+    ensures agrees { IfOk result (λ r. (es : List Entry) (s : Assignment) (xs : List GenericArgKind) → Lawful es → ArgsHeld es xs → IsSorted s → map sort_of_arg xs ≡ map sort_of_kind variables.items → Agrees (args_trees cx.new.entries r.var_values.items) (instance s (args_trees es xs))) }
     ensures full { result ≡ Err Fault.Full → (MAX_INDEX < length variables.items) ⊎ IsFull cx.new.entries cx.new.limit }
 {
     let mut var_values = Vec::new(alloc);

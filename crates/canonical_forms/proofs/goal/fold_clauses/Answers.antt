@@ -1,7 +1,8 @@
-use Rattle.std.proofs.Common.{refl, sym, ◌∙◌}
+use Rattle.std.proofs.Common.{refl, sym, ◌∙◌, ap, Err}
 use Rattle.term_folds.specs.Clauses.{ClauseHeld, clause-held-later}
 use Rattle.type_terms.specs.Terms.{Keeps}
 use Rattle.canonical_forms.proofs.Numbers.{clause-held-at, clauses-held-later, clauses-held-push, one-more-fold}
+use Rattle.canonical_forms.proofs.Refusals.{handed-on}
 use Rattle.canonical_forms.proofs.goal.fold_clauses.Goals as goal
 
 pub fold_with-requires-clause-ready : goal.fold_with-requires-clause-ready
@@ -36,3 +37,6 @@ loop-clause-preserved g c =
           (one-more-fold (g.F.TypeFolder.action c.args.folder.now es) (g.F.TypeFolder.action c.args.folder.now now) es now next (law.action_kept c.args.folder.now es now inv.keeps c.requires.ready) inv.keeps k xs ys i x y
           c.loop-clause-test.true c.clause-item.is had inv.held inv.folded c.in_ok-next.ensures.outline c.in_ok-next.ensures.folded);
     }
+
+pub returns-in_err-next-clause-full : goal.returns-in_err-next-clause-full
+returns-in_err-next-clause-full g c = λ q. handed-on c.from_residual.result c.from_residual.ensures.1 (λ p. c.in_err-next.ensures.full (ap Err p)) q

@@ -1,5 +1,8 @@
-use Rattle.std.proofs.Common.{◌≡◌, refl, ap, sym, ◌∙◌, subst}
+use Rattle.std.proofs.Common.{◌≡◌, refl, ap, sym, ◌∙◌, subst, Err, length}
 use Rattle.infer_table.specs.Canonical.{renamed, canonical_label}
+use Rattle.std.proofs.lemmas.List.{length-map}
+use Rattle.canonical_forms.specs.Leaves.{leaf_label}
+use Rattle.canonical_forms.proofs.Refusals.{handed-on, not-full, as-many}
 use Rattle.canonical_forms.specs.Goals.{environment_trees, predicate_trees, goal_trees}
 use Rattle.canonical_forms.specs.Values.{values-later}
 use Rattle.canonical_forms.specs.Leaves.{labels, AreLeaves, AreOpen}
@@ -45,3 +48,16 @@ returns-clause-back c = λ n.
     let g = goal_trees es c.args.goal.now in
     goal-filled-cong _ _ _ _ (values-later es end c.number_leaves.ensures.keeps xs (leaves-held es xs listed)) (c.in_ok-goal.ensures.numbered ∙ ap (λ ks. renamed (canonical_label (labels es ks)) g) (sym same))
     ∙ goal-returned es c.lawful.ensures xs g listed (ap (labels es) same ∙ c.in_ok-leaves.ensures.leaves) n c.in_ok-leaves.ensures.only
+
+pub returns-in_err-leaves-clause-full : goal.returns-in_err-leaves-clause-full
+returns-in_err-leaves-clause-full c = λ q. handed-on c.from_residual.result c.from_residual.ensures.1 (λ p. not-full c.in_err-leaves.ensures.memory p) q
+
+pub returns-in_err-variables-clause-full : goal.returns-in_err-variables-clause-full
+returns-in_err-variables-clause-full c = λ q. handed-on c.from_residual-in_err-variables.result c.from_residual-in_err-variables.ensures.1 (λ p. not-full c.in_err-variables.ensures.memory p) q
+
+pub returns-in_err-goal-clause-full : goal.returns-in_err-goal-clause-full
+returns-in_err-goal-clause-full c = λ q.
+    let es = c.args.cx.now.entries in
+    let keys = c.in_ok-leaves.leaves.keys in
+    as-many (sym (length-map keys (leaf_label es)) ∙ ap length c.in_ok-leaves.ensures.leaves)
+    (handed-on c.from_residual-in_err-goal.result c.from_residual-in_err-goal.ensures.1 (λ p. c.in_err-goal.ensures.full (ap Err p)) q)

@@ -2,6 +2,7 @@ use Rattle.std.proofs.Common.{◌≡◌, ◌≤◌, length, false, [], drop, ref
 use Rattle.type_terms.specs.Terms.{trees_at}
 use Rattle.term_folds.specs.Clauses.{ClauseHeld}
 use Rattle.infer_table.specs.Canonical.{kind_in_clause, kind_of_leaf, leaves}
+use Rattle.canonical_forms.proofs.Refusals.{collecting-breaks}
 use Rattle.canonical_forms.specs.Goals.{ClausesHeld, environment_trees}
 use Rattle.canonical_forms.specs.Leaves.{labels, OpenAreLeaves}
 use Rattle.canonical_forms.specs.declared.canonicalizer.LeafCollector.{LeafCollector}
@@ -60,3 +61,9 @@ returns-clause-only c =
       environment = subst (λ z. OpenAreLeaves kind_in_clause (environment_trees es z)) inv.items env;
       predicate = (λ e. cc, k.only, tt);
     }
+
+pub returns-in-Break-clause-memory : goal.returns-in-Break-clause-memory
+returns-in-Break-clause-memory c = collecting-breaks c.args.cx.now.entries c.in-Break.ensures.visited
+
+pub returns-in-Break-visit_with-clause-memory : goal.returns-in-Break-visit_with-clause-memory
+returns-in-Break-visit_with-clause-memory c = collecting-breaks c.args.cx.now.entries c.in-Break-visit_with.ensures.visited

@@ -1,9 +1,10 @@
-use Rattle.std.proofs.Common.{◌≡◌, [], ◌∷◌, ℕ, true, false, refl, ap, sym, ◌∙◌}
+use Rattle.std.proofs.Common.{◌≡◌, [], ◌∷◌, ℕ, true, false, refl, ap, sym, ◌∙◌, Err}
 use Rattle.model.specs.Label.{principal}
 use Rattle.model.specs.Trees.{tree, none}
 use Rattle.type_terms.specs.Terms.{trees_at, args_lists}
 use Rattle.term_traversal.specs.Kept.{trees-later}
 use Rattle.infer_table.specs.Canonical.{kind_in_clause, relabeled, canonical_label}
+use Rattle.canonical_forms.proofs.Refusals.{handed-on}
 use Rattle.canonical_forms.specs.Goals.{environment_trees}
 use Rattle.canonical_forms.specs.Leaves.{labels}
 use Rattle.canonical_forms.specs.LeafLaws.{leaves-later, labels-later}
@@ -39,3 +40,9 @@ returns-clause-numbered c =
     ap (λ z. tree (principal 0 q.def_id.index) z none) (trees-later now end c.fold_clauses.ensures.keeps args_lists q.args.0 c.in_ok-predicate.ensures.held)
     ∙ predicate-numbered ls p.def_id.index q.def_id.index (trees_at es p.args.0) (trees_at now q.args.0) (head _ _ c.in_ok-predicate.ensures.outline) c.in_ok-predicate.ensures.folded in
     goal-same _ _ _ _ env pred
+
+pub returns-in_err-predicate-clause-full : goal.returns-in_err-predicate-clause-full
+returns-in_err-predicate-clause-full c = λ q. handed-on c.from_residual.result c.from_residual.ensures.1 (λ p. c.in_err-predicate.ensures.full (ap Err p)) q
+
+pub returns-in_err-param_env-clause-full : goal.returns-in_err-param_env-clause-full
+returns-in_err-param_env-clause-full c = λ q. handed-on c.from_residual-in_err-param_env.result c.from_residual-in_err-param_env.ensures.1 (λ p. c.in_err-param_env.ensures.full (ap Err p)) q

@@ -1,4 +1,4 @@
-use Rattle.std.proofs.Common.{◌≡◌, refl, ap, sym, ◌∙◌}
+use Rattle.std.proofs.Common.{◌≡◌, refl, ap, sym, ◌∙◌, Err}
 use Rattle.term_folds.specs.Clauses.{ClauseHeld, clause_pieces, clause-held-later}
 use Rattle.term_traversal.specs.Pieces.{each_piece}
 use Rattle.infer_table.specs.Solutions.{resolved}
@@ -6,6 +6,7 @@ use Rattle.infer_table.specs.Content.{content}
 use Rattle.infer_table.specs.Kept.{content-kept}
 use Rattle.canonical_forms.proofs.Numbers.{clause-held-at, clauses-held-later, clauses-held-push}
 use Rattle.canonical_forms.proofs.Resolutions.{resolved-nothing, one-more-resolved}
+use Rattle.canonical_forms.proofs.Refusals.{handed-on}
 use Rattle.canonical_forms.proofs.resolving.resolve_clauses.Goals as goal
 
 pub loop-clause-init : goal.loop-clause-init
@@ -48,3 +49,6 @@ loop-clause-preserved c =
       resolved = rw c.in_ok-push.ensures.items
           (one-more-resolved bs es now next inv.keeps k xs ys i x y c.loop-clause-test.true c.clause-item.is had inv.held inv.resolved c.in_ok-next.ensures.outline pieces);
     }
+
+pub returns-in_err-next-clause-full : goal.returns-in_err-next-clause-full
+returns-in_err-next-clause-full c = λ q. handed-on c.from_residual.result c.from_residual.ensures.1 (λ p. c.in_err-next.ensures.full (ap Err p)) q

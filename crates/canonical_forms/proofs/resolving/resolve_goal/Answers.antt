@@ -1,4 +1,4 @@
-use Rattle.std.proofs.Common.{◌≡◌, ℕ, [], ◌∷◌, refl, ap, sym, ◌∙◌}
+use Rattle.std.proofs.Common.{◌≡◌, ℕ, [], ◌∷◌, refl, ap, sym, ◌∙◌, Err}
 use Rattle.model.specs.Label.{principal}
 use Rattle.model.specs.Trees.{tree, none}
 use Rattle.type_terms.specs.Terms.{trees_at, args_lists}
@@ -7,6 +7,7 @@ use Rattle.term_traversal.specs.Pieces.{each_piece, one_piece}
 use Rattle.infer_table.specs.Solutions.{resolved}
 use Rattle.infer_table.specs.Content.{content}
 use Rattle.infer_table.specs.Kept.{content-kept}
+use Rattle.canonical_forms.proofs.Refusals.{handed-on}
 use Rattle.canonical_forms.specs.Goals.{environment_trees}
 use Rattle.canonical_forms.proofs.Numbers.{clauses-held-later, environment-later, goal-same}
 use Rattle.canonical_forms.proofs.Resolutions.{predicate-resolved}
@@ -45,3 +46,9 @@ returns-clause-resolved c =
     ∙ ap (λ z. each_piece (λ d t. resolved z t) (one_piece (trees_at mid p.args.0))) (content-kept es mid vs k c.requires.ready.held)
     ∙ ap (λ z. each_piece (λ d t. resolved bs t) (one_piece z)) (trees-later es mid k args_lists p.args.0 c.requires.held.predicate) in
     goal-same _ _ _ _ env (predicate-resolved bs p.def_id.index q.def_id.index (trees_at es p.args.0) (trees_at end q.args.0) (head _ _ c.in_ok-predicate.ensures.outline) pieces)
+
+pub returns-in_err-param_env-clause-full : goal.returns-in_err-param_env-clause-full
+returns-in_err-param_env-clause-full c = λ q. handed-on c.from_residual.result c.from_residual.ensures.1 (λ p. c.in_err-param_env.ensures.full (ap Err p)) q
+
+pub returns-in_err-predicate-clause-full : goal.returns-in_err-predicate-clause-full
+returns-in_err-predicate-clause-full c = λ q. handed-on c.from_residual-in_err-predicate.result c.from_residual-in_err-predicate.ensures.1 (λ p. c.in_err-predicate.ensures.full (ap Err p)) q

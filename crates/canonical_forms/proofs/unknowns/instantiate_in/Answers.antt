@@ -1,4 +1,4 @@
-use Rattle.std.proofs.Common.{◌≡◌, refl, ap, sym, ◌∙◌}
+use Rattle.std.proofs.Common.{◌≡◌, refl, ap, sym, ◌∙◌, Err, inl}
 use Rattle.infer_table.specs.Kept.{ready-later}
 use Rattle.canonical_forms.specs.LeafLaws.{leaves-later, labels-later}
 use Rattle.canonical_forms.specs.Values.{values_of, values-later}
@@ -6,6 +6,7 @@ use Rattle.canonical_forms.specs.Unknowns.{next_labels}
 use Rattle.canonical_forms.proofs.LeafFacts.{leaves-held}
 use Rattle.canonical_forms.proofs.Numbers.{goal-held-later, goal-trees-later}
 use Rattle.canonical_forms.proofs.Returning.{goal-filled-cong}
+use Rattle.canonical_forms.proofs.Refusals.{handed-on, same-missing}
 use Rattle.canonical_forms.proofs.unknowns.instantiate_in.Goals as goal
 
 pub instantiate_with_values-requires-clause-goal : goal.instantiate_with_values-requires-clause-goal
@@ -43,3 +44,10 @@ returns-clause-filled c =
     c.in_ok-goal.ensures.filled
     ∙ goal-filled-cong _ _ _ _ (ap (values_of mid) c.deref-2.ensures.value ∙ sym (values-later mid end c.instantiate_with_values.ensures.keeps xs held))
     (goal-trees-later es mid c.next_values.ensures.keeps c.args.input.now.goal c.requires.held)
+
+pub returns-in_err-values-clause-full : goal.returns-in_err-values-clause-full
+returns-in_err-values-clause-full c = λ q.
+    same-missing c.args.table.now c.deref.ensures.value (handed-on c.from_residual.result c.from_residual.ensures.1 (λ p. c.in_err-values.ensures.full (ap Err p)) q)
+
+pub returns-in_err-goal-clause-full : goal.returns-in_err-goal-clause-full
+returns-in_err-goal-clause-full c = λ q. inl (handed-on c.from_residual-in_err-goal.result c.from_residual-in_err-goal.ensures.1 (λ p. c.in_err-goal.ensures.full (ap Err p)) q)

@@ -1,10 +1,12 @@
-use Rattle.std.proofs.Common.{◌≡◌, refl, ap, sym, ◌∙◌, get_or}
+use Rattle.std.proofs.Common.{◌≡◌, refl, ap, sym, subst, ◌∙◌, get_or, Err}
 use Rattle.infer_table.specs.declared.canonical.CanonicalVarKind.TheVariants.{Ty}
-use Rattle.infer_table.specs.Content.{Table}
+use Rattle.infer_table.specs.Content.{Grows}
+use Rattle.infer_table.specs.Growth.{grows-trans}
 use Rattle.canonical_forms.specs.Leaves.{labels}
 use Rattle.canonical_forms.specs.LeafLaws.{leaves-later, labels-later}
 use Rattle.canonical_forms.specs.Unknowns.{with_next, next_label}
-use Rattle.canonical_forms.proofs.NewUnknowns.{leaves-push, one-more-label, one-more-made, next-values, next-constraints}
+use Rattle.canonical_forms.proofs.NewUnknowns.{leaves-push, one-more-label, one-more-made, next-grows}
+use Rattle.canonical_forms.proofs.Refusals.{handed-on, one-is-missing}
 use Rattle.canonical_forms.proofs.unknowns.next_values.Goals as goal
 
 pub variables-preserved : goal.variables-preserved
@@ -29,6 +31,10 @@ variables-preserved c =
       unknowns = rw c.in_ok-push.ensures.items
           (one-more-label next t now-table xs x ks i Ty kind c.variables-test.true refl (labels-later now next k xs inv.held ∙ inv.unknowns) inv.made c.in_ok-value.ensures.label);
       made = one-more-made t now-table c.next_value.new.table ks i Ty kind c.variables-test.true refl inv.made made;
-      same_values = ap (λ (u : Table). u.values) made ∙ next-values now-table kind ∙ inv.same_values;
-      same_constraints = ap (λ (u : Table). u.constraints) made ∙ next-constraints now-table kind ∙ inv.same_constraints;
+      grows = grows-trans _ _ _ inv.grows (subst (Grows now-table) (sym made) (next-grows now-table kind));
     }
+
+pub returns-in_err-value-clause-full : goal.returns-in_err-value-clause-full
+returns-in_err-value-clause-full c = λ q.
+    one-is-missing c.args.table.now c.variables.table c.args.variables.now c.variables.place Ty c.variables-test.true c.variables.invariant.made
+    (handed-on c.from_residual.result c.from_residual.ensures.1 (λ p. c.in_err-value.ensures.full (ap Err p)) q)

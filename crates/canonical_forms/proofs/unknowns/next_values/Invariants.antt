@@ -1,6 +1,6 @@
 use Rattle.std.proofs.Common.{◌≡◌, take}
 use Rattle.type_terms.specs.Terms.{Keeps}
-use Rattle.infer_table.specs.Content.{Ready}
+use Rattle.infer_table.specs.Content.{Ready, Grows}
 use Rattle.canonical_forms.specs.Leaves.{AreLeaves, labels}
 use Rattle.canonical_forms.specs.Unknowns.{next_labels, with_each}
 use Rattle.canonical_forms.proofs.unknowns.next_values.Given as goal
@@ -12,6 +12,5 @@ invariant-variables l = record {
   held : AreLeaves l.cx.entries l.values.items;
   unknowns : labels l.cx.entries l.values.items ≡ next_labels l.fn.table 0 (take l.place l.variables);
   made : l.table ≡ with_each l.fn.table (take l.place l.variables);
-  same_values : l.table.values ≡ l.fn.table.values;
-  same_constraints : l.table.constraints ≡ l.fn.table.constraints;
+  grows : Grows l.fn.table l.table;
 }

@@ -1,8 +1,9 @@
-use Rattle.std.proofs.Common.{◌≡◌, ◌++◌, length, drop, ap, sym, ◌∙◌}
+use Rattle.std.proofs.Common.{◌≡◌, ◌++◌, length, drop, ap, sym, ◌∙◌, subst}
 use Rattle.type_terms.specs.Terms.{Keeps, args_lists, trees_at}
 use Rattle.type_terms.specs.Kinds.{args_trees}
 use Rattle.term_traversal.specs.Kept.{args-held-later, args-trees-later, trees-is, trees-later}
-use Rattle.infer_table.specs.Content.{content, AllConstraintsHeld}
+use Rattle.infer_table.specs.Content.{Table, Grows, content, AllConstraintsHeld}
+use Rattle.infer_table.specs.Growth.{grows-trans}
 use Rattle.infer_table.specs.Kept.{content-kept, ready-later, constraints-kept}
 use Rattle.infer_table.specs.Constraints.{constraints_trees}
 use Rattle.canonical_forms.specs.Values.{values_of, filled, values-later}
@@ -83,7 +84,7 @@ returns-in-Ok-clause-equates c =
     ∙ args-trees-later first taken c.values_to_apply.ensures.keeps r.var_values.items c.requires.response.values) in
     let before : content end c.values_to_apply.new.table.values ≡ content first t.values = ap (content end) c.values_to_apply.ensures.bindings ∙ content-kept first end t.values to-end c.requires.ready.held in
     let originals : args_trees end os ≡ args_trees first os = args-trees-later first end to-end os c.requires.values in
-    equates-at _ _ _ _ _ _ _ _ before (ap (content c.equate_values.new.cx.entries) (sym c.record_constraints.ensures.bindings)) originals values c.in-Ok.ensures.equates
+    equates-at _ _ _ _ _ _ _ _ before (ap (content c.equate_values.new.cx.entries) (sym (ap (λ t. t.values) c.record_constraints.ensures.kept))) originals values c.in-Ok.ensures.equates
 
 pub returns-clause-never : goal.returns-clause-never
 returns-clause-never c = λ e.
@@ -138,10 +139,23 @@ returns-in-Ok-clause-constraints c =
     record {
       between = drop (length u.constraints) w.constraints;
       last = cs;
-      appended = c.in_ok-record_constraints-in-Ok.ensures.recorded ∙ ap (λ z. w.constraints ++ z) c.deref-in-Ok.ensures.value ∙ ap (λ z. z ++ cs) grown;
+      appended = ap (λ t. t.constraints) c.in_ok-record_constraints-in-Ok.ensures.recorded ∙ ap (λ z. w.constraints ++ z) c.deref-in-Ok.ensures.value ∙ ap (λ z. z ++ cs) grown;
       trees = constraints-later end now c.equate_values.ensures.keeps cs c.in_ok-constraints.ensures.held
           ∙ constraints-filled (values_of put c.deref.result.now) put end c.deref-3.result.now cs c.in_ok-constraints.ensures.folded
           ∙ ap (λ z. filled z (constraints_trees put c.deref-3.result.now)) chosen-later
           ∙ ap (λ z. filled vs (constraints_trees put z)) c.deref-3.ensures.value
           ∙ ap (filled vs) (constraints-later first put (λ i x h. c.fold_with.ensures.keeps i x (c.mk_args.ensures.keeps i x (c.values_to_apply.ensures.keeps i x h))) r.region_constraints.items c.requires.response.constraints);
     }
+
+pub returns-in-Ok-clause-grows : goal.returns-in-Ok-clause-grows
+returns-in-Ok-clause-grows c = grows-trans _ _ _ c.values_to_apply.ensures.grows (grows-trans _ _ _ c.equate_values.ensures.grows c.record_constraints.ensures.grows)
+
+pub returns-in-Ok-clause-unknowns : goal.returns-in-Ok-clause-unknowns
+returns-in-Ok-clause-unknowns c =
+    subst (λ (t : Table). Grows t c.record_constraints.new.table) c.in_ok-values.ensures.made (grows-trans _ _ _ c.equate_values.ensures.grows c.record_constraints.ensures.grows)
+
+pub returns-clause-grows : goal.returns-clause-grows
+returns-clause-grows c = grows-trans _ _ _ c.values_to_apply.ensures.grows c.equate_values.ensures.grows
+
+pub returns-in_err-record_constraints-in-Ok-clause-grows : goal.returns-in_err-record_constraints-in-Ok-clause-grows
+returns-in_err-record_constraints-in-Ok-clause-grows c = grows-trans _ _ _ c.values_to_apply.ensures.grows (grows-trans _ _ _ c.equate_values.ensures.grows c.record_constraints.ensures.grows)

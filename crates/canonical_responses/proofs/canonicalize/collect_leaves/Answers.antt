@@ -6,6 +6,7 @@ use Rattle.infer_table.specs.Canonical.{kind_of_leaf, leaves}
 use Rattle.canonical_forms.specs.Leaves.{labels}
 use Rattle.canonical_forms.proofs.Collections.{predicate-collected, leaves-append}
 use Rattle.canonical_responses.proofs.ConstraintLists.{constraint-held-at, constraint-collected, one-more-constraint, drop-past}
+use Rattle.canonical_forms.proofs.Refusals.{collecting-breaks}
 use Rattle.canonical_responses.proofs.canonicalize.collect_leaves.Goals as goal
 
 pub visit_with-requires-in-loop-constraint-clause-held : goal.visit_with-requires-in-loop-constraint-clause-held
@@ -51,3 +52,9 @@ returns-clause-only c =
     let es = c.args.cx.now.entries in
     let k = predicate-collected es (trees_at es c.args.values.0) _ c.visit_with.new.visitor c.in-Continue.ensures.visited in
     k.only
+
+pub returns-in-Break-clause-memory : goal.returns-in-Break-clause-memory
+returns-in-Break-clause-memory c = collecting-breaks c.args.cx.now.entries c.in-Break.ensures.visited
+
+pub returns-in-Break-visit_with-clause-memory : goal.returns-in-Break-visit_with-clause-memory
+returns-in-Break-visit_with-clause-memory c = collecting-breaks c.args.cx.now.entries c.in-Break-visit_with.ensures.visited

@@ -1,7 +1,8 @@
-use Rattle.std.proofs.Common.{◌∙◌}
+use Rattle.std.proofs.Common.{◌∙◌, ap, Err}
 use Rattle.infer_table.specs.Content.{IsHeldConstraint}
 use Rattle.infer_table.specs.Kept.{constraint-kept, constraints-kept}
 use Rattle.canonical_responses.proofs.ConstraintLists.{constraint-held-at, constraints-held-push, one-more-fold}
+use Rattle.canonical_forms.proofs.Refusals.{handed-on}
 use Rattle.canonical_responses.proofs.constraints.fold_constraints.Goals as goal
 
 pub fold_with-requires-clause-ready : goal.fold_with-requires-clause-ready
@@ -36,3 +37,6 @@ loop-constraint-preserved g c =
           (one-more-fold (g.F.TypeFolder.action c.args.folder.now es) (g.F.TypeFolder.action c.args.folder.now now) es now next (law.action_kept c.args.folder.now es now inv.keeps c.requires.ready) inv.keeps k xs ys i x y
           c.loop-constraint-test.true c.constraint-item.is had inv.held inv.folded c.in_ok-next.ensures.outline c.in_ok-next.ensures.folded);
     }
+
+pub returns-in_err-next-clause-full : goal.returns-in_err-next-clause-full
+returns-in_err-next-clause-full g c = λ q. handed-on c.from_residual.result c.from_residual.ensures.1 (λ p. c.in_err-next.ensures.full (ap Err p)) q

@@ -1,8 +1,9 @@
-use Rattle.std.proofs.Common.{refl, sym, ◌∙◌}
+use Rattle.std.proofs.Common.{refl, sym, ◌∙◌, ap, Err}
 use Rattle.infer_table.specs.Content.{IsHeldConstraint, content}
 use Rattle.infer_table.specs.Kept.{constraint-kept, constraints-kept, content-kept}
 use Rattle.infer_table.proofs.SolutionLaws.{resolved-none}
 use Rattle.canonical_responses.proofs.ConstraintLists.{constraint-held-at, constraints-held-push, one-more-resolved}
+use Rattle.canonical_forms.proofs.Refusals.{handed-on}
 use Rattle.canonical_responses.proofs.constraints.resolve_constraints.Goals as goal
 
 pub eager_resolve_vars-requires-clause-held : goal.eager_resolve_vars-requires-clause-held
@@ -45,3 +46,6 @@ loop-constraint-preserved c =
           (one-more-resolved (content es values) (content now values) es now next (content-kept es now values inv.keeps c.requires.ready.held) inv.keeps k xs ys i x y
           c.loop-constraint-test.true c.constraint-item.is had inv.held inv.resolved c.in_ok-next.ensures.outline c.in_ok-next.ensures.resolved);
     }
+
+pub returns-in_err-next-clause-full : goal.returns-in_err-next-clause-full
+returns-in_err-next-clause-full c = λ q. handed-on c.from_residual.result c.from_residual.ensures.1 (λ p. c.in_err-next.ensures.full (ap Err p)) q

@@ -1,8 +1,9 @@
-use Rattle.std.proofs.Common.{◌<◌, length, get_or, ap, ◌∙◌, subst}
+use Rattle.std.proofs.Common.{◌<◌, ◌≤◌, length, get_or, ap, ◌∙◌, subst}
 use Rattle.term_traversal.specs.Kept.{args-held-later}
 use Rattle.infer_table.specs.declared.canonical.CanonicalVarKind.TheVariants.{Ty}
 use Rattle.canonical_forms.specs.Values.{values_of, values-later}
-use Rattle.canonical_responses.proofs.Values.{args-held-push, values-push, one-more-variable}
+use Rattle.canonical_responses.proofs.Values.{args-held-push, values-push, one-more-variable, all-variables}
+use Rattle.canonical_responses.proofs.Identities.{identity-numbered, identity-agrees}
 use Rattle.canonical_responses.proofs.raw.response_no_constraints_raw.Goals as goal
 
 pub loop-place-preserved : goal.loop-place-preserved
@@ -20,3 +21,17 @@ loop-place-preserved c =
       values = rw c.in_ok-push.ensures.items (rw (values-push next vs c.in_ok-value.value) (rw (values-later now next k vs inv.held)
           (one-more-variable (values_of now vs) _ _ c.args.variables.items c.loop-place.place _ _ lt (ap (λ z. get_or z c.loop-place.place Ty) c.deref-kind-items.ensures.value) c.in_ok-value.ensures.is inv.values)));
     }
+
+pub returns-clause-numbered : goal.returns-clause-numbered
+returns-clause-numbered c =
+    let ks = c.args.variables.items in
+    let vs = c.loop-place.var_values.items in
+    let end : length ks ≤ c.loop-place.place = subst (λ z. length z ≤ c.loop-place.place) c.deref-kind-items.ensures.value c.loop-place-test.false in
+    identity-numbered c.loop-place.cx.entries ks vs (all-variables (values_of c.loop-place.cx.entries vs) _ ks c.loop-place.place end c.loop-place.invariant.values)
+
+pub returns-clause-agrees : goal.returns-clause-agrees
+returns-clause-agrees c = λ es s xs law h sorted sorts.
+    let ks = c.args.variables.items in
+    let vs = c.loop-place.var_values.items in
+    let end : length ks ≤ c.loop-place.place = subst (λ z. length z ≤ c.loop-place.place) c.deref-kind-items.ensures.value c.loop-place-test.false in
+    identity-agrees es law s sorted c.loop-place.cx.entries ks vs xs h (all-variables (values_of c.loop-place.cx.entries vs) _ ks c.loop-place.place end c.loop-place.invariant.values) sorts

@@ -1,9 +1,10 @@
-use Rattle.std.proofs.Common.{◌≡◌, ℕ, [], ◌∷◌, List, refl, ap, sym, ◌∙◌, subst}
+use Rattle.std.proofs.Common.{◌≡◌, ℕ, [], ◌∷◌, List, refl, ap, sym, ◌∙◌, subst, Err}
 use Rattle.model.specs.Trees.{Trees}
 use Rattle.type_terms.specs.Terms.{trees_at, args_lists}
 use Rattle.term_traversal.specs.Folds.{Does}
 use Rattle.term_traversal.specs.Kept.{has-later, trees-later}
 use Rattle.term_traversal.specs.Pieces.{FoldsEach, one_piece}
+use Rattle.canonical_forms.proofs.Refusals.{handed-on}
 use Rattle.canonical_forms.specs.Goals.{ClausesFold}
 use Rattle.canonical_forms.proofs.Numbers.{clauses-held-later, clauses-fold-later}
 use Rattle.canonical_forms.proofs.goal.Goal.fold_with.Goals as goal
@@ -43,3 +44,9 @@ returns-clause-folded g c =
       predicate = subst (λ t. FoldsEach f [] (one_piece t) (one_piece (trees_at end q))) (trees-later es mid k args_lists p c.requires.held.predicate)
           (subst (λ (w : List ℕ → Trees → Does). FoldsEach w [] (one_piece (trees_at mid p)) (one_piece (trees_at end q))) (g.met.F.TypeFolder.action_kept c.args.folder.now es mid k c.requires.ready) c.in_ok-predicate.ensures.folded);
     }
+
+pub returns-in_err-param_env-clause-full : goal.returns-in_err-param_env-clause-full
+returns-in_err-param_env-clause-full g c = λ q. handed-on c.from_residual.result c.from_residual.ensures.1 (λ p. c.in_err-param_env.ensures.full (ap Err p)) q
+
+pub returns-in_err-predicate-clause-full : goal.returns-in_err-predicate-clause-full
+returns-in_err-predicate-clause-full g c = λ q. handed-on c.from_residual-in_err-predicate.result c.from_residual-in_err-predicate.ensures.1 (λ p. c.in_err-predicate.ensures.full (ap Err p)) q
