@@ -9,6 +9,7 @@ use std::alloc::Global;
 use std::ops::ControlFlow;
 use std::test::Fail;
 use term_folds::binder::{Binder, EarlyBinder};
+use term_folds::fn_sig::FnSig;
 use term_folds::laws::{instantiating_law, shifting_laws};
 use term_folds::predicate::{Clause, TraitPredicate, TraitRef};
 use term_folds::regions::{RegionFolder, RegionMap, fold_regions};
@@ -117,6 +118,8 @@ fn a_root_stays_over_the_folds_of_its_children(rt: HostRuntime) -> Result<(), Fa
     assert!(rt; ty.try_super_fold_with(alloc, &mut cx, &Infallible(&folder))? == wanted);
     let three = cx.mk_const(ConstKind::Value(3))?;
     assert!(rt; three.super_fold_with(alloc, &mut cx, &folder)? == three);
+    let three = cx.mk_const(ConstKind::Value(3))?;
+    assert!(rt; three.try_super_fold_with(alloc, &mut cx, &Infallible(&folder))? == three);
     Ok(())
 }
 
@@ -194,4 +197,83 @@ fn binders_give_their_value_back(rt: HostRuntime) {
     assert!(rt; Binder::bind_with_vars(7, 2).skip_binder() == 7);
     assert!(rt; EarlyBinder::bind(7).skip_binder() == 7);
     assert!(rt; EarlyBinder::bind(7).instantiate_identity() == 7);
+}
+
+#[test]
+fn clauses_and_signatures_are_folded(rt: HostRuntime) -> Result<(), Fail> {
+    let alloc = rt.alloc();
+    let mut cx = Interner::new(alloc, 8);
+    let byte = cx.mk_ty(TyKind::Uint(UintTy::U8))?;
+    let sig = FnSig {
+        inputs_and_output: cx.mk_tys(vec![in alloc; byte]?)?,
+    };
+    assert!(rt; fold_regions(alloc, &mut cx, sig, &AllStatic)? == sig);
+    let byte = cx.mk_ty(TyKind::Uint(UintTy::U8))?;
+    let trait_ref = TraitRef {
+        def_id: TraitId { index: 4 },
+        args: cx.mk_args(vec![in alloc; GenericArgKind::Ty(byte)]?)?,
+    };
+    assert!(rt; fold_regions(alloc, &mut cx, trait_ref, &AllStatic)? == trait_ref);
+    let byte = cx.mk_ty(TyKind::Uint(UintTy::U8))?;
+    let predicate = TraitPredicate {
+        trait_ref: TraitRef {
+            def_id: TraitId { index: 4 },
+            args: cx.mk_args(vec![in alloc; GenericArgKind::Ty(byte)]?)?,
+        },
+    };
+    assert!(rt; fold_regions(alloc, &mut cx, predicate, &AllStatic)? == predicate);
+    Ok(())
+}
+
+#[test]
+fn lifetimes_of_a_clause_become_static(rt: HostRuntime) -> Result<(), Fail> {
+    let alloc = rt.alloc();
+    let mut cx = Interner::new(alloc, 8);
+    let region = Region {
+        kind: RegionKind::ReStatic,
+    };
+    let longer = Region {
+        kind: RegionKind::ReEarlyParam(0),
+    };
+    let clause = Clause::RegionOutlives(longer, region);
+    let wanted = Clause::RegionOutlives(region, region);
+    assert!(rt; fold_regions(alloc, &mut cx, clause, &AllStatic)? == wanted);
+    let bound = Region {
+        kind: bound_region(0, 0),
+    };
+    let binder = Binder::bind_with_vars(Clause::RegionOutlives(bound, longer), 1);
+    let wanted = Binder::bind_with_vars(Clause::RegionOutlives(bound, region), 1);
+    assert!(rt; fold_regions(alloc, &mut cx, binder, &AllStatic)? == wanted);
+    Ok(())
+}
+
+#[test]
+fn variables_of_clauses_and_signatures_are_validated(rt: HostRuntime) -> Result<(), Fail> {
+    let alloc = rt.alloc();
+    let mut cx = Interner::new(alloc, 8);
+    let region = Region {
+        kind: RegionKind::ReStatic,
+    };
+    let second = Region {
+        kind: bound_region(0, 1),
+    };
+    let clause = Clause::RegionOutlives(region, second);
+    let one = ValidateBoundVars::new(1);
+    assert!(rt; one.validate(&cx, clause) == ControlFlow::Break(()));
+    assert!(rt; ValidateBoundVars::new(2).validate(&cx, clause) == ControlFlow::Continue(()));
+    let binder = Binder::bind_with_vars(clause, 2);
+    assert!(rt; one.validate(&cx, binder) == ControlFlow::Continue(()));
+    let output = byte_reference(&mut cx, bound_region(0, 1))?;
+    let sig = FnSig {
+        inputs_and_output: cx.mk_tys(vec![in alloc; output]?)?,
+    };
+    assert!(rt; one.validate(&cx, sig) == ControlFlow::Break(()));
+    let args = cx.mk_args(vec![in alloc; GenericArgKind::Lifetime(second)]?)?;
+    let trait_ref = TraitRef {
+        def_id: TraitId { index: 4 },
+        args,
+    };
+    assert!(rt; one.validate(&cx, trait_ref) == ControlFlow::Break(()));
+    assert!(rt; one.validate(&cx, TraitPredicate { trait_ref }) == ControlFlow::Break(()));
+    Ok(())
 }

@@ -1,6 +1,7 @@
 //! Each call once.
 ghost use Rattle.std.specs.Prelude.{IfOk, ◌<◌, ◌≡◌, []};
 ghost use Rattle.type_terms.specs.Terms.{Has, Keeps, types};
+ghost use Rattle.type_terms.specs.Kinds.{RegionHeld};
 ghost use Rattle.infer_table.specs.Content.{Ready};
 ghost use Rattle.canonical_forms.specs.Goals.{GoalHeld, PredicateHeld};
 
@@ -12,10 +13,13 @@ use infer_table::canonical::CanonicalVarKind;
 use infer_table::goal::TypingMode;
 use infer_table::infer_ctxt::InferCtxt;
 use std::alloc::Global;
+use std::ops::ControlFlow;
 use std::test::Fail;
 use term_folds::predicate::{Clause, TraitPredicate, TraitRef};
+use term_traversal::binders::Binders;
+use term_traversal::visit::{Seen, TypeVisitor};
 use type_terms::interner::Interner;
-use type_terms::kinds::{GenericArgKind, Mutability, Ty, TyKind, UintTy};
+use type_terms::kinds::{Const, GenericArgKind, Mutability, Ty, TyKind, UintTy};
 use type_terms::number::TyVid;
 use type_terms::region::{Region, RegionKind};
 use type_terms::{AdtId, Fault, TraitId};
@@ -156,6 +160,83 @@ fn two_unknowns_are_no_renaming_of_one(rt: HostRuntime) -> Result<(), Fail> {
     let second = shown_goal(alloc, &mut cx, &table, right)?;
     assert!(rt; !is_same_question(&cx, &first.input, &second.input));
     assert_eq!(rt; second.input.variables.len(), 2);
+    Ok(())
+}
+
+/// Breaks with the first lifetime.
+#[derive(Clone, Copy)]
+struct FirstRegion;
+
+impl TypeVisitor for FirstRegion {
+    type Break = Region;
+
+    ghost ready = { λ _ _. Unit {0} };
+
+    ghost sees = { λ _ _ _ _ _ _. Unit {0} };
+
+    ghost enters_bounds = { λ v es bs t h. tt };
+
+    fn visit_ty(&mut self, _cx: &Interner, _ty: Ty, _binders: &Binders) -> Seen<Region> {
+        Seen::Enter
+    }
+
+    fn visit_const(&mut self, _cx: &Interner, _ct: Const, _binders: &Binders) -> Seen<Region> {
+        Seen::Pass
+    }
+
+    fn visit_region(&mut self, _cx: &Interner, region: Region, _binders: &Binders) -> Seen<Region> {
+        Seen::Break(region)
+    }
+}
+
+/// A lifetime parameter.
+fn lifetime(index: u32) -> Region
+    requires { index < 100 }
+    ensures { RegionHeld result.kind }
+{
+    Region {
+        kind: RegionKind::ReEarlyParam(index),
+    }
+}
+
+/// That `&'index ?3` is `Show`.
+fn shown_reference(alloc: Global, cx: &mut Interner, index: u32) -> Result<TraitPredicate, Fault>
+    requires { index < 100 }
+    ensures keeps { Keeps cx.old.entries cx.new.entries }
+    ensures held { IfOk result (λ p. PredicateHeld cx.new.entries p) }
+{
+    let third = unknown(cx, 3)?;
+    let reference = cx.mk_ty(TyKind::Ref(lifetime(index), third, Mutability::Not))?;
+    shown(alloc, cx, reference)
+}
+
+/// The first lifetime in the goal, where there is one.
+fn first_lifetime(cx: &Interner, goal: &Goal) -> Option<Region>
+    requires { GoalHeld cx.now.entries goal.now }
+{
+    match goal.visit_with(cx, &mut FirstRegion) {
+        ControlFlow::Break(region) => Some(region),
+        ControlFlow::Continue(()) => None,
+    }
+}
+
+#[test]
+fn a_goal_is_visited_from_its_clauses_on(rt: HostRuntime) -> Result<(), Fail> {
+    let alloc = rt.alloc();
+    let mut cx = Interner::new(alloc, 100);
+    let predicate = shown_reference(alloc, &mut cx, 7)?;
+    let bare = goal_without_clauses(alloc, predicate);
+    assert!(rt; first_lifetime(&cx, &bare) == Some(lifetime(7)));
+    let outlives = Clause::RegionOutlives(lifetime(4), lifetime(5));
+    let goal = Goal {
+        param_env: vec![in alloc; outlives]?,
+        predicate,
+    };
+    assert!(rt; first_lifetime(&cx, &goal) == Some(lifetime(4)));
+    let third = unknown(&mut cx, 3)?;
+    let plain = shown(alloc, &mut cx, third)?;
+    let none = goal_without_clauses(alloc, plain);
+    assert!(rt; first_lifetime(&cx, &none) == None);
     Ok(())
 }
 

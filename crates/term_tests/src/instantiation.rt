@@ -82,6 +82,12 @@ fn a_parameter_without_its_argument_names_the_error(rt: HostRuntime) -> Result<(
 }
 
 #[test]
+fn a_fault_is_an_error_of_instantiation(rt: HostRuntime) {
+    let error = InstantiateError::from(Fault::Full);
+    assert!(rt; error == InstantiateError::Fault(Fault::Full));
+}
+
+#[test]
 fn a_signature_has_its_inputs_and_its_output(rt: HostRuntime) -> Result<(), Fail> {
     let alloc = rt.alloc();
     let mut cx = Interner::new(alloc, 8);
@@ -111,6 +117,7 @@ fn a_self_type_is_replaced(rt: HostRuntime) -> Result<(), Fail> {
     };
     let predicate = TraitPredicate { trait_ref };
     assert!(rt; predicate.self_ty(&cx) == byte);
+    assert!(rt; trait_ref.self_ty(&cx) == byte);
     let truth = cx.mk_ty(TyKind::Bool)?;
     let replaced = predicate.with_replaced_self_ty(alloc, &mut cx, truth)?;
     let wanted = one(alloc, &mut cx, GenericArgKind::Ty(truth))?;

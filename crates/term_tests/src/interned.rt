@@ -7,7 +7,7 @@ use bitflags::Flags;
 use std::alloc::Global;
 use std::test::Fail;
 use type_terms::flags::TypeFlags;
-use type_terms::interner::Interner;
+use type_terms::interner::{Handle, Interner};
 use type_terms::kinds::{
     BoundsData, ConstKind, GenericArgKind, GenericArgs, Mutability, Principal, Ty, TyKind, Tys,
     UintTy,
@@ -158,5 +158,21 @@ fn an_unknown_in_a_list_is_seen(rt: HostRuntime) -> Result<(), Fail> {
     assert!(rt; cx.tys(list).len() == 1);
     assert!(rt; cx.flags(list).intersects(TypeFlags::HAS_INFER));
     assert!(rt; cx.outer_exclusive_binder(list).index == 0);
+    Ok(())
+}
+
+#[test]
+fn a_handle_is_its_number(rt: HostRuntime) -> Result<(), Fail> {
+    let alloc = rt.alloc();
+    let mut cx = Interner::new(alloc, 1);
+    assert!(rt; cx.mk_ty(TyKind::Bool)?.number() == 0);
+    assert!(rt; cx.mk_const(ConstKind::Value(3))?.number() == 1);
+    assert!(rt; cx.mk_args(Vec::new(alloc))?.number() == 2);
+    assert!(rt; cx.mk_tys(Vec::new(alloc))?.number() == 3);
+    let bounds = cx.mk_bounds(BoundsData {
+        principal: None,
+        autos: Vec::new(alloc),
+    })?;
+    assert!(rt; bounds.number() == 4);
     Ok(())
 }

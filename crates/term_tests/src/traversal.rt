@@ -310,3 +310,54 @@ fn binders_are_counted_from_within(rt: HostRuntime) {
     assert!(rt; inner.count(DebruijnIndex { index: 1 }) == Some(3));
     assert!(rt; inner.count(DebruijnIndex { index: 2 }) == None);
 }
+
+#[test]
+fn each_kind_of_term_is_folded(rt: HostRuntime) -> Result<(), Fail> {
+    let alloc = rt.alloc();
+    let mut cx = Interner::new(alloc, 8);
+    let three = cx.mk_const(ConstKind::Value(3))?;
+    assert!(rt; three.fold_with(alloc, &mut cx, &Identity)? == three);
+    let byte = cx.mk_ty(TyKind::Uint(UintTy::U8))?;
+    let tys = cx.mk_tys(vec![in alloc; byte]?)?;
+    assert!(rt; tys.fold_with(alloc, &mut cx, &Identity)? == tys);
+    let boolean = GenericArgKind::Ty(cx.mk_ty(TyKind::Bool)?);
+    assert!(rt; boolean.fold_with(alloc, &mut cx, &Identity)? == boolean);
+    let region = Region {
+        kind: RegionKind::ReStatic,
+    };
+    assert!(rt; region.fold_with(alloc, &mut cx, &Identity)? == region);
+    let args = cx.mk_args(vec![in alloc; GenericArgKind::Lifetime(region)]?)?;
+    assert!(rt; args.fold_with(alloc, &mut cx, &Identity)? == args);
+    let bounds = cx.mk_bounds(BoundsData {
+        principal: None,
+        autos: vec![in alloc; TraitId { index: 1 }]?,
+    })?;
+    assert!(rt; bounds.fold_with(alloc, &mut cx, &Identity)? == bounds);
+    Ok(())
+}
+
+#[test]
+fn each_kind_of_term_is_visited(rt: HostRuntime) -> Result<(), Fail> {
+    let alloc = rt.alloc();
+    let mut cx = Interner::new(alloc, 8);
+    let mut visitor = FirstRegion;
+    let region = Region {
+        kind: RegionKind::ReStatic,
+    };
+    assert!(rt; region.visit_with(&cx, &mut visitor) == ControlFlow::Break(region));
+    assert!(rt; region.flags(&cx) == TypeFlags(0));
+    let arg = GenericArgKind::Lifetime(region);
+    assert!(rt; arg.visit_with(&cx, &mut visitor) == ControlFlow::Break(region));
+    let args = cx.mk_args(vec![in alloc; arg]?)?;
+    assert!(rt; args.visit_with(&cx, &mut visitor) == ControlFlow::Break(region));
+    assert!(rt; args.flags(&cx) == TypeFlags(0));
+    let byte = cx.mk_ty(TyKind::Uint(UintTy::U8))?;
+    let tys = cx.mk_tys(vec![in alloc; byte]?)?;
+    assert!(rt; tys.visit_with(&cx, &mut visitor) == ControlFlow::Continue(()));
+    let bounds = cx.mk_bounds(BoundsData {
+        principal: None,
+        autos: vec![in alloc; TraitId { index: 1 }]?,
+    })?;
+    assert!(rt; bounds.visit_with(&cx, &mut visitor) == ControlFlow::Continue(()));
+    Ok(())
+}
