@@ -116,6 +116,7 @@ atoms_are_lawful = record {
   equate_meets = λ table new es e x h. unify_all_meets es table new x e h;
   apply_narrows = λ table new n r e x h. put_narrows table n.argument r.value x (subst (λ t. AllowsValue t x) (sym (ap (some_or new) e)) h);
   recorded_narrows = λ table regions x h. h;
+  apart = λ table x h. h;
   equate_keeps = λ table es x h m. let y = unify_all_keeps es table x h m in record { table = y.0; assignment = x; is = y.1; allows = y.2; extends = extends table y.0 x };
   apply_keeps = λ table n r x h k g. record {
     table = put table (resolved table n.argument) r.value;

@@ -4,7 +4,8 @@ use Rattle.std.proofs.Math.Nat.{suc-mul, mul-add}
 use Rattle.infer_table.specs.declared.goal.Certainty.{Certainty}
 use Rattle.goal_evaluator.specs.Lists.{IsNoneOf}
 use Rattle.goal_evaluator.specs.Script.{followed}
-use Rattle.goal_evaluator.specs.Table.{Tables, is_yes}
+use Rattle.goal_evaluator.specs.Operations.{is_yes}
+use Rattle.goal_evaluator.specs.Table.{Tables, operations}
 use Rattle.goal_evaluator.specs.Rounds.{Round, Rounds, kept, judged, applied, replied, round, settled, next_round, rounds}
 use Rattle.goal_evaluator.specs.Candidate.{Spec, Considered, Next, consider, answer, answered, equated, candidate, goes_on, frame}
 use Rattle.goal_evaluator.specs.Handler.{Handled, IsHistory, used_numbers, nested_of, IsHandler}
@@ -16,44 +17,44 @@ suc_times i m = let e = suc-mul i m in omega (arith, e)
 
 module _ {Question Response : Type 0} (t : Tables Question Response) where
   -- no more goals are left than there were
-  abbrev Shrinks : ℕ → Option (Round t) → Type 0
+  abbrev Shrinks : ℕ → Option (Round (operations t)) → Type 0
   Shrinks n None = Unit {0}
   Shrinks n (Some o) = length o.left ≤ n
 
-  shrinks_more : (m n : ℕ) (o : Option (Round t)) → m ≤ n → Shrinks m o → Shrinks n o
+  shrinks_more : (m n : ℕ) (o : Option (Round (operations t))) → m ≤ n → Shrinks m o → Shrinks n o
   shrinks_more m n None l s = tt
   shrinks_more m n (Some o) l s = omega (arith, l, s)
 
   -- so many questions are left, and no more goals than there were
-  abbrev RoundSpares : ℕ → ℕ → ℕ → Option (Round t) → Type 0
+  abbrev RoundSpares : ℕ → ℕ → ℕ → Option (Round (operations t)) → Type 0
   RoundSpares spare m n o = (spare ≤ n) × Shrinks m o
 
   abbrev Spares : {X : Type 0} → ℕ → ℕ → X → Type 0
   Spares spare n x = spare ≤ n
 
   abbrev Costs : List t.Nested → Type 0
-  Costs ns = (U : t.Table) (spare : ℕ) → Within (RoundSpares spare (length ns)) (length ns + spare) (round t ns U)
+  Costs ns = (U : t.Table) (spare : ℕ) → Within (RoundSpares spare (length ns)) (length ns + spare) (round (operations t) ns U)
 
-  kept_costs : (n : t.Nested) (r : Response) (spare m k : ℕ) (o : Option (Round t)) → RoundSpares spare m k o → Within (RoundSpares spare (suc m)) k (kept t n r o)
+  kept_costs : (n : t.Nested) (r : Response) (spare m k : ℕ) (o : Option (Round (operations t))) → RoundSpares spare m k o → Within (RoundSpares spare (suc m)) k (kept (operations t) n r o)
   kept_costs n r spare m k None s = (s.0, tt)
   kept_costs n r spare m k (Some o) s = (s.0, let l = s.1 in omega (arith, l))
 
   judged_costs : (n : t.Nested) (ns : List t.Nested) (r : Response) (U : t.Table) (spare : ℕ) (b : Bool) → Costs ns
-      → Within (RoundSpares spare (suc (length ns))) (length ns + spare) (judged t (round t ns) n r U b)
+      → Within (RoundSpares spare (suc (length ns))) (length ns + spare) (judged (operations t) (round (operations t) ns) n r U b)
   judged_costs n ns r U spare true rest =
       Within-mono (RoundSpares spare (length ns)) (RoundSpares spare (suc (length ns))) (λ k o s. (s.0, shrinks_more (length ns) (suc (length ns)) o (omega arith) s.1))
-      (length ns + spare) (round t ns U) (rest U spare)
+      (length ns + spare) (round (operations t) ns U) (rest U spare)
   judged_costs n ns r U spare false rest =
-      Within-followed (RoundSpares spare (length ns)) (RoundSpares spare (suc (length ns))) (kept t n r) (λ k o s. kept_costs n r spare (length ns) k o s)
-      (length ns + spare) (round t ns U) (rest U spare)
+      Within-followed (RoundSpares spare (length ns)) (RoundSpares spare (suc (length ns))) (kept (operations t) n r) (λ k o s. kept_costs n r spare (length ns) k o s)
+      (length ns + spare) (round (operations t) ns U) (rest U spare)
 
   applied_costs : (n : t.Nested) (ns : List t.Nested) (r : Response) (spare : ℕ) (e : Option t.Table) → Costs ns
-      → Within (RoundSpares spare (suc (length ns))) (length ns + spare) (applied t (round t ns) n r e)
+      → Within (RoundSpares spare (suc (length ns))) (length ns + spare) (applied (operations t) (round (operations t) ns) n r e)
   applied_costs n ns r spare None rest = (omega arith, tt)
-  applied_costs n ns r spare (Some U) rest = judged_costs n ns r U spare (is_yes t r) rest
+  applied_costs n ns r spare (Some U) rest = judged_costs n ns r U spare (is_yes (operations t) r) rest
 
   replied_costs : (T : t.Table) (n : t.Nested) (ns : List t.Nested) (spare : ℕ) (a : Option Response) → Costs ns
-      → Within (RoundSpares spare (suc (length ns))) (length ns + spare) (replied t (round t ns) T n a)
+      → Within (RoundSpares spare (suc (length ns))) (length ns + spare) (replied (operations t) (round (operations t) ns) T n a)
   replied_costs T n ns spare None rest = (omega arith, tt)
   replied_costs T n ns spare (Some r) rest = applied_costs n ns r spare (t.apply T n r) rest
 
@@ -63,29 +64,29 @@ module _ {Question Response : Type 0} (t : Tables Question Response) where
   round_costs (n ∷ ns) U spare = (length ns + spare, omega arith, λ a. replied_costs U n ns spare a (λ V s. round_costs ns V s))
 
   abbrev RoundsCost : ℕ → ℕ → Type 0
-  RoundsCost i m = (ns : List t.Nested) (U : t.Table) (spare : ℕ) → length ns ≤ m → Within (Spares spare) (i * m + spare) (rounds t i ns U)
+  RoundsCost i m = (ns : List t.Nested) (U : t.Table) (spare : ℕ) → length ns ≤ m → Within (Spares spare) (i * m + spare) (rounds (operations t) i ns U)
 
   settled_costs : (i m : ℕ) (U : t.Table) (left : List t.Nested) (c : Certainty) (changed : Bool) (spare k : ℕ) → RoundsCost i m → length left ≤ m → i * m + spare ≤ k
-      → Within (Spares spare) k (settled t (rounds t i) left U c changed)
+      → Within (Spares spare) k (settled (operations t) (rounds (operations t) i) left U c changed)
   settled_costs i m U left c true spare k rest l le =
-      Within-more (Spares spare) (λ a b x p q. omega (arith, p, q)) (i * m + spare) k (rounds t i left U) le (rest left U spare l)
+      Within-more (Spares spare) (λ a b x p q. omega (arith, p, q)) (i * m + spare) k (rounds (operations t) i left U) le (rest left U spare l)
   settled_costs i m U [] c false spare k rest l le = omega (arith, le)
   settled_costs i m U (n ∷ left) c false spare k rest l le = omega (arith, le)
 
-  next_costs : (i m : ℕ) (ns : List t.Nested) (spare k : ℕ) (o : Option (Round t)) → RoundSpares (i * m + spare) (length ns) k o → length ns ≤ m → RoundsCost i m
-      → Within (Spares spare) k (next_round t (rounds t i) o)
+  next_costs : (i m : ℕ) (ns : List t.Nested) (spare k : ℕ) (o : Option (Round (operations t))) → RoundSpares (i * m + spare) (length ns) k o → length ns ≤ m → RoundsCost i m
+      → Within (Spares spare) k (next_round (operations t) (rounds (operations t) i) o)
   next_costs i m ns spare k None s l rest = let le = s.0 in omega (arith, le)
   next_costs i m ns spare k (Some o) s l rest = settled_costs i m o.table o.left o.certainty o.changed spare k rest (let a = s.1 in omega (arith, a, l)) s.0
 
   rounds_cost : (i m : ℕ) → RoundsCost i m
   rounds_cost zero m ns U spare l = omega arith
   rounds_cost (suc i) m ns U spare l =
-      Within-more (Spares spare) (λ a b x p q. omega (arith, p, q)) (length ns + (i * m + spare)) (suc i * m + spare) (followed (next_round t (rounds t i)) (round t ns U))
+      Within-more (Spares spare) (λ a b x p q. omega (arith, p, q)) (length ns + (i * m + spare)) (suc i * m + spare) (followed (next_round (operations t) (rounds (operations t) i)) (round (operations t) ns U))
       (let e : suc i * m ≡ m + i * m = suc_times i m in omega (arith, l, e))
-      (Within-followed (RoundSpares (i * m + spare) (length ns)) (Spares spare) (next_round t (rounds t i)) (λ k o s. next_costs i m ns spare k o s l (λ ms V z p. rounds_cost i m ms V z p))
-      (length ns + (i * m + spare)) (round t ns U) (round_costs ns U (i * m + spare)))
+      (Within-followed (RoundSpares (i * m + spare) (length ns)) (Spares spare) (next_round (operations t) (rounds (operations t) i)) (λ k o s. next_costs i m ns spare k o s l (λ ms V z p. rounds_cost i m ms V z p))
+      (length ns + (i * m + spare)) (round (operations t) ns U) (round_costs ns U (i * m + spare)))
 
-  answered_costs : (c : Certainty) (spare k : ℕ) (o : Option (Rounds t)) → spare ≤ k → Within (Spares spare) k (answered t c o)
+  answered_costs : (c : Certainty) (spare k : ℕ) (o : Option (Rounds (operations t))) → spare ≤ k → Within (Spares spare) k (answered t c o)
   answered_costs c spare k None l = l
   answered_costs c spare k (Some o) l = l
 
@@ -93,7 +94,7 @@ module _ {Question Response : Type 0} (t : Tables Question Response) where
   equated_costs limit c spare None = omega arith
   equated_costs limit c spare (Some U) =
       Within-followed (Spares spare) (Spares spare) (answered t c.certainty) (λ k o l. answered_costs c.certainty spare k o l)
-      (limit * length c.nested + spare) (rounds t limit c.nested (t.recorded U c.regions)) (rounds_cost limit (length c.nested) c.nested (t.recorded U c.regions) spare (omega arith))
+      (limit * length c.nested + spare) (rounds (operations t) limit c.nested (t.recorded U c.regions)) (rounds_cost limit (length c.nested) c.nested (t.recorded U c.regions) spare (omega arith))
 
   -- a candidate asks each of its goals once in a round at most
   candidate_costs : (limit : ℕ) (T : t.Table) (c : Spec t) (spare : ℕ) → Within (Spares spare) (limit * length c.nested + spare) (candidate t limit T c)

@@ -6,7 +6,8 @@ use Rattle.infer_table.specs.declared.goal.Certainty.TheVariants.{Yes, Maybe}
 use Rattle.infer_table.specs.declared.goal.MaybeCause.TheVariants.{Ambiguity, Overflow}
 use Rattle.goal_evaluator.specs.Lists.{Every, SomeOf, IsAmong}
 use Rattle.infer_table.specs.Certainties.{joined, unsettled, is_certain}
-use Rattle.goal_evaluator.specs.Table.{Tables, is_yes, Narrows, IsFree, IsDetermined, IsTable}
+use Rattle.goal_evaluator.specs.Operations.{is_yes}
+use Rattle.goal_evaluator.specs.Table.{Tables, operations, Narrows, IsFree, IsDetermined, IsTable}
 use Rattle.goal_evaluator.specs.Rounds.{Round, Rounds, kept, judged, applied, replied, round, settled, next_round, rounds}
 use Rattle.goal_evaluator.specs.Candidate.{Spec, answered, equated, candidate}
 use Rattle.goal_evaluator.specs.Law.{IsYes, AnsweredYes, IsInstance}
@@ -27,7 +28,7 @@ certain_is (Maybe cause) e = absurd (cc)
 
 module _ {Question Response : Type 0} (t : Tables Question Response) (laws : IsTable t) where
   -- a response that is a definite yes was to be certain, and leaves the goal's variables free
-  pub yes_response : (T : t.Table) (c : Certainty) → is_yes t (t.respond T c) ≡ true → (c ≡ Yes) × IsFree t T
+  pub yes_response : (T : t.Table) (c : Certainty) → is_yes (operations t) (t.respond T c) ≡ true → (c ≡ Yes) × IsFree t T
   yes_response T c y =
       let r = t.respond T c in
       let certain : is_certain c ≡ true = ap is_certain (sym (laws.respond_certainty T c)) ∙ both-left (is_certain (t.certainty r)) (not (t.has_values r)) y in
@@ -67,7 +68,7 @@ module _ {Question Response : Type 0} (t : Tables Question Response) (laws : IsT
     settled_later h k T U n m l x = λ s a. let y = x s (l s a) in (y.0, y.1, m y.0 y.2, y.3, (λ f. y.4 (free_before T U l f)), y.5)
 
     -- after a round each goal is settled or left
-    abbrev RoundGains : t.Table → Heard → List t.Nested → Heard → Option (Round t) → Type 0
+    abbrev RoundGains : t.Table → Heard → List t.Nested → Heard → Option (Round (operations t)) → Type 0
     RoundGains T h ns k None = Unit {0}
     RoundGains T h ns k (Some o) = Narrows t T o.table × More h k × Every (λ n. Settled k o.table n ⊎ IsLeft o.left n) ns
 
@@ -75,7 +76,7 @@ module _ {Question Response : Type 0} (t : Tables Question Response) (laws : IsT
     asked T n r h = (t.question T n, Some r) ∷ h
 
     -- a goal that was answered by a yes under T
-    shown_at : (T U : t.Table) (n : t.Nested) (h : Heard) (r : Response) → is_yes t r ≡ true → Narrows t base T → Narrows t T U → Settled (asked T n r h) U n
+    shown_at : (T U : t.Table) (n : t.Nested) (h : Heard) (r : Response) → is_yes (operations t) r ≡ true → Narrows t base T → Narrows t T U → Settled (asked T n r h) U n
     shown_at T U n h r e b l s a = (
       t.question T n,
       t.at T n s,
@@ -85,8 +86,8 @@ module _ {Question Response : Type 0} (t : Tables Question Response) (laws : IsT
       (T, refl),
     )
 
-    gains_dropped : (T U : t.Table) (n : t.Nested) (ns : List t.Nested) (h : Heard) (r : Response) → is_yes t r ≡ true → Narrows t base T → Narrows t T U
-        → (k : Heard) (o : Option (Round t)) → RoundGains U (asked T n r h) ns k o → RoundGains T h (n ∷ ns) k o
+    gains_dropped : (T U : t.Table) (n : t.Nested) (ns : List t.Nested) (h : Heard) (r : Response) → is_yes (operations t) r ≡ true → Narrows t base T → Narrows t T U
+        → (k : Heard) (o : Option (Round (operations t))) → RoundGains U (asked T n r h) ns k o → RoundGains T h (n ∷ ns) k o
     gains_dropped T U n ns h r e b l k None g = tt
     gains_dropped T U n ns h r e b l k (Some o) g = (
       λ s a. l s (g.0 s a),
@@ -95,7 +96,7 @@ module _ {Question Response : Type 0} (t : Tables Question Response) (laws : IsT
     )
 
     gains_kept : (T U : t.Table) (n : t.Nested) (ns : List t.Nested) (h : Heard) (r : Response) → Narrows t T U
-        → (k : Heard) (o : Option (Round t)) → RoundGains U (asked T n r h) ns k o → Leads R (RoundGains T h (n ∷ ns)) k (kept t n r o)
+        → (k : Heard) (o : Option (Round (operations t))) → RoundGains U (asked T n r h) ns k o → Leads R (RoundGains T h (n ∷ ns)) k (kept (operations t) n r o)
     gains_kept T U n ns h r l k None g = tt
     gains_kept T U n ns h r l k (Some o) g = (
       λ s a. l s (g.0 s a),
@@ -104,41 +105,41 @@ module _ {Question Response : Type 0} (t : Tables Question Response) (laws : IsT
     )
 
     abbrev Rest : List t.Nested → Type 0
-    Rest ns = (U : t.Table) (h : Heard) → Narrows t base U → Leads R (RoundGains U h ns) h (round t ns U)
+    Rest ns = (U : t.Table) (h : Heard) → Narrows t base U → Leads R (RoundGains U h ns) h (round (operations t) ns U)
 
-    gains_judged : (T U : t.Table) (n : t.Nested) (ns : List t.Nested) (h : Heard) (r : Response) (yes : Bool) → is_yes t r ≡ yes → Narrows t base T → Narrows t T U → Rest ns
-        → Leads R (RoundGains T h (n ∷ ns)) (asked T n r h) (judged t (round t ns) n r U yes)
+    gains_judged : (T U : t.Table) (n : t.Nested) (ns : List t.Nested) (h : Heard) (r : Response) (yes : Bool) → is_yes (operations t) r ≡ yes → Narrows t base T → Narrows t T U → Rest ns
+        → Leads R (RoundGains T h (n ∷ ns)) (asked T n r h) (judged (operations t) (round (operations t) ns) n r U yes)
     gains_judged T U n ns h r true e b l rest =
         Leads-mono R (RoundGains U (asked T n r h) ns) (RoundGains T h (n ∷ ns)) (λ k o g. gains_dropped T U n ns h r e b l k o g)
-        (asked T n r h) (round t ns U) (rest U (asked T n r h) (λ s a. b s (l s a)))
+        (asked T n r h) (round (operations t) ns U) (rest U (asked T n r h) (λ s a. b s (l s a)))
     gains_judged T U n ns h r false e b l rest =
-        Leads-followed R (RoundGains U (asked T n r h) ns) (RoundGains T h (n ∷ ns)) (kept t n r) (λ k o g. gains_kept T U n ns h r l k o g)
-        (asked T n r h) (round t ns U) (rest U (asked T n r h) (λ s a. b s (l s a)))
+        Leads-followed R (RoundGains U (asked T n r h) ns) (RoundGains T h (n ∷ ns)) (kept (operations t) n r) (λ k o g. gains_kept T U n ns h r l k o g)
+        (asked T n r h) (round (operations t) ns U) (rest U (asked T n r h) (λ s a. b s (l s a)))
 
     gains_applied : (T : t.Table) (n : t.Nested) (ns : List t.Nested) (h : Heard) (r : Response) (e : Option t.Table) → t.apply T n r ≡ e → Narrows t base T → Rest ns
-        → Leads R (RoundGains T h (n ∷ ns)) (asked T n r h) (applied t (round t ns) n r e)
+        → Leads R (RoundGains T h (n ∷ ns)) (asked T n r h) (applied (operations t) (round (operations t) ns) n r e)
     gains_applied T n ns h r None e b rest = tt
-    gains_applied T n ns h r (Some U) e b rest = gains_judged T U n ns h r (is_yes t r) refl b (laws.apply_narrows T U n r e) rest
+    gains_applied T n ns h r (Some U) e b rest = gains_judged T U n ns h r (is_yes (operations t) r) refl b (laws.apply_narrows T U n r e) rest
 
     gains_replied : (T : t.Table) (n : t.Nested) (ns : List t.Nested) (h : Heard) (a : Option Response) → Narrows t base T → Rest ns
-        → Leads R (RoundGains T h (n ∷ ns)) ((t.question T n, a) ∷ h) (replied t (round t ns) T n a)
+        → Leads R (RoundGains T h (n ∷ ns)) ((t.question T n, a) ∷ h) (replied (operations t) (round (operations t) ns) T n a)
     gains_replied T n ns h None b rest = tt
     gains_replied T n ns h (Some r) b rest = gains_applied T n ns h r (t.apply T n r) refl b rest
 
-    round_gains : (ns : List t.Nested) (T : t.Table) (h : Heard) → Narrows t base T → Leads R (RoundGains T h ns) h (round t ns T)
+    round_gains : (ns : List t.Nested) (T : t.Table) (h : Heard) → Narrows t base T → Leads R (RoundGains T h ns) h (round (operations t) ns T)
     round_gains [] T h b = (λ s a. a, λ q x. x, tt)
     round_gains (n ∷ ns) T h b = λ a r. gains_replied T n ns h a b (λ U k c. round_gains ns U k c)
 
     -- after the rounds, with a yes, each goal is settled
-    abbrev RoundsGain : t.Table → Heard → List t.Nested → Heard → Option (Rounds t) → Type 0
+    abbrev RoundsGain : t.Table → Heard → List t.Nested → Heard → Option (Rounds (operations t)) → Type 0
     RoundsGain T h ns k None = Unit {0}
     RoundsGain T h ns k (Some o) = Narrows t T o.table × More h k × (o.certainty ≡ Yes → Every (Settled k o.table) ns)
 
     abbrev RestRounds : ℕ → Type 0
-    RestRounds i = (ns : List t.Nested) (U : t.Table) (h : Heard) → Narrows t base U → Leads R (RoundsGain U h ns) h (rounds t i ns U)
+    RestRounds i = (ns : List t.Nested) (U : t.Table) (h : Heard) → Narrows t base U → Leads R (RoundsGain U h ns) h (rounds (operations t) i ns U)
 
     from_rest : (T U : t.Table) (ns left : List t.Nested) (h k : Heard) → Narrows t T U → More h k → Every (λ n. Settled k U n ⊎ IsLeft left n) ns
-        → (l : Heard) (o : Option (Rounds t)) → RoundsGain U k left l o → RoundsGain T h ns l o
+        → (l : Heard) (o : Option (Rounds (operations t))) → RoundsGain U k left l o → RoundsGain T h ns l o
     from_rest T U ns left h k nar m ev l None g = tt
     from_rest T U ns left h k nar m ev l (Some o) g = (
       λ s a. nar s (g.0 s a),
@@ -152,23 +153,23 @@ module _ {Question Response : Type 0} (t : Tables Question Response) (laws : IsT
 
     gains_settled : (i : ℕ) (T U : t.Table) (ns left : List t.Nested) (h k : Heard) (c : Certainty) (changed : Bool)
         → Narrows t base T → Narrows t T U → More h k → Every (λ n. Settled k U n ⊎ IsLeft left n) ns → RestRounds i
-        → Leads R (RoundsGain T h ns) k (settled t (rounds t i) left U c changed)
+        → Leads R (RoundsGain T h ns) k (settled (operations t) (rounds (operations t) i) left U c changed)
     gains_settled i T U ns left h k c true b nar m ev rest =
-        Leads-mono R (RoundsGain U k left) (RoundsGain T h ns) (λ l o g. from_rest T U ns left h k nar m ev l o g) k (rounds t i left U) (rest left U k (λ s a. b s (nar s a)))
+        Leads-mono R (RoundsGain U k left) (RoundsGain T h ns) (λ l o g. from_rest T U ns left h k nar m ev l o g) k (rounds (operations t) i left U) (rest left U k (λ s a. b s (nar s a)))
     gains_settled i T U ns [] h k c false b nar m ev rest =
         (nar, m, λ e. Every-mono (λ n. Settled k U n ⊎ IsLeft [] n) (Settled k U) (λ n x. elim x [ inl y ↦ y | inr y ↦ absurd y ]) ns ev)
     gains_settled i T U ns (n ∷ left) h k c false b nar m ev rest = (nar, m, λ e. absurd (unsettled_no c e))
 
-    gains_next : (i : ℕ) (T : t.Table) (ns : List t.Nested) (h k : Heard) (o : Option (Round t)) → Narrows t base T → RoundGains T h ns k o → RestRounds i
-        → Leads R (RoundsGain T h ns) k (next_round t (rounds t i) o)
+    gains_next : (i : ℕ) (T : t.Table) (ns : List t.Nested) (h k : Heard) (o : Option (Round (operations t))) → Narrows t base T → RoundGains T h ns k o → RestRounds i
+        → Leads R (RoundsGain T h ns) k (next_round (operations t) (rounds (operations t) i) o)
     gains_next i T ns h k None b g rest = tt
     gains_next i T ns h k (Some o) b g rest = gains_settled i T o.table ns o.left h k o.certainty o.changed b g.0 g.1 g.2 rest
 
-    rounds_gain : (i : ℕ) (ns : List t.Nested) (T : t.Table) (h : Heard) → Narrows t base T → Leads R (RoundsGain T h ns) h (rounds t i ns T)
+    rounds_gain : (i : ℕ) (ns : List t.Nested) (T : t.Table) (h : Heard) → Narrows t base T → Leads R (RoundsGain T h ns) h (rounds (operations t) i ns T)
     rounds_gain zero ns T h b = (λ s a. a, λ q x. x, λ e. absurd (let no : Maybe Overflow ≡ Yes = e in cc))
     rounds_gain (suc i) ns T h b =
-        Leads-followed R (RoundGains T h ns) (RoundsGain T h ns) (next_round t (rounds t i)) (λ k o g. gains_next i T ns h k o b g (λ ms U l c. rounds_gain i ms U l c))
-        h (round t ns T) (round_gains ns T h b)
+        Leads-followed R (RoundGains T h ns) (RoundsGain T h ns) (next_round (operations t) (rounds (operations t) i)) (λ k o g. gains_next i T ns h k o b g (λ ms U l c. rounds_gain i ms U l c))
+        h (round (operations t) ns T) (round_gains ns T h b)
 
   -- ---- the candidate
   -- the values of the goal's variables determine the candidate's nested goals
@@ -207,7 +208,7 @@ module _ {Question Response : Type 0} (t : Tables Question Response) (laws : IsT
         d p.0 p.1 (laws.equate_narrows (t.fresh T c.kinds) U c.equations e p.0 x) (laws.equate_narrows (t.fresh T c.kinds) U c.equations e p.1 y)
         (laws.equate_meets (t.fresh T c.kinds) U c.equations e p.0 x) (laws.equate_meets (t.fresh T c.kinds) U c.equations e p.1 y) same)))))
 
-    gains_answered : (T U : t.Table) (c : Spec t) (k : Heard) → t.equate (t.fresh T c.kinds) c.equations ≡ Some U → (c.certainty ≡ Yes → AreDetermined T c) → (o : Option (Rounds t))
+    gains_answered : (T U : t.Table) (c : Spec t) (k : Heard) → t.equate (t.fresh T c.kinds) c.equations ≡ Some U → (c.certainty ≡ Yes → AreDetermined T c) → (o : Option (Rounds (operations t)))
         → RoundsGain (opened U c) R (opened U c) [] c.nested k o → Leads R (CandidateGains T c) k (answered t c.certainty o)
     gains_answered T U c k e d None g = λ y. absurd y
     gains_answered T U c k e d (Some o) g = λ y.
@@ -232,7 +233,7 @@ module _ {Question Response : Type 0} (t : Tables Question Response) (laws : IsT
     gains_equated limit T c None e d = λ y. absurd y
     gains_equated limit T c (Some U) e d =
         Leads-followed R (RoundsGain (opened U c) R (opened U c) [] c.nested) (CandidateGains T c) (answered t c.certainty)
-        (λ k o g. gains_answered T U c k e d o g) [] (rounds t limit c.nested (opened U c)) (rounds_gain (opened U c) R limit c.nested (opened U c) [] (λ s a. a))
+        (λ k o g. gains_answered T U c k e d o g) [] (rounds (operations t) limit c.nested (opened U c)) (rounds_gain (opened U c) R limit c.nested (opened U c) [] (λ s a. a))
 
     pub candidate_gains : (limit : ℕ) (T : t.Table) (c : Spec t) → (c.certainty ≡ Yes → AreDetermined T c) → Leads R (CandidateGains T c) [] (candidate t limit T c)
     candidate_gains limit T c d = gains_equated limit T c (t.equate (t.fresh T c.kinds) c.equations) refl d

@@ -3,7 +3,8 @@ use Rattle.std.proofs.Common.{◌≡◌, ◌≤◌, Bool, true, false, ◌&&◌,
 use Rattle.std.specs.List.{list_all}
 use Rattle.goal_evaluator.specs.Lists.{Every, SomeOf}
 use Rattle.infer_table.specs.Certainties.{unsettled, all_joined, is_certain}
-use Rattle.goal_evaluator.specs.Table.{Tables, is_yes, IsTable}
+use Rattle.goal_evaluator.specs.Operations.{is_yes}
+use Rattle.goal_evaluator.specs.Table.{Tables, operations, IsTable}
 use Rattle.goal_evaluator.specs.Merge.{is_always_applicable, common, or_else, merge_by, flounder, merge_or_flounder, IsMerge}
 use Rattle.goal_evaluator.proofs.ListLaws.{Every-at, both-left, both-right, not-true}
 use Rattle.goal_evaluator.proofs.Gains.{yes_response, unsettled_no}
@@ -30,7 +31,7 @@ module _ {Question Response : Type 0} (t : Tables Question Response) (laws : IsT
   applicable (r ∷ rs) = applicable_at r rs (is_always_applicable t r) (find (is_always_applicable t) rs) refl (applicable rs)
 
   free : (r : Response) → is_always_applicable t r ≡ true → t.has_values r ≡ false
-  free r a = not-true (t.has_values r) (both-right (is_certain (t.certainty r)) (not (t.has_values r)) (both-left (is_yes t r) (not (t.has_regions r)) a))
+  free r a = not-true (t.has_values r) (both-right (is_certain (t.certainty r)) (not (t.has_values r)) (both-left (is_yes (operations t) r) (not (t.has_regions r)) a))
 
   chosen_first : (rs : List Response) (o : Option Response) → IsApplicable rs o → IsChosen rs o
   chosen_first rs None i = tt

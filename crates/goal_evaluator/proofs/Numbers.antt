@@ -5,7 +5,8 @@ use Rattle.infer_table.specs.declared.goal.Certainty.TheVariants.{Maybe}
 use Rattle.infer_table.specs.declared.goal.MaybeCause.TheVariants.{Ambiguity}
 use Rattle.goal_evaluator.specs.Lists.{Every, IsNoneOf}
 use Rattle.infer_table.specs.Certainties.{joined}
-use Rattle.goal_evaluator.specs.Table.{Tables, is_yes, IsTable}
+use Rattle.goal_evaluator.specs.Operations.{is_yes}
+use Rattle.goal_evaluator.specs.Table.{Tables, operations, IsTable}
 use Rattle.goal_evaluator.specs.Rounds.{Round, Rounds, kept, judged, applied, replied, round, settled, next_round, rounds}
 use Rattle.goal_evaluator.specs.Candidate.{Spec, Considered, Next, consider, answer, answered, equated, candidate, goes_on, frame}
 use Rattle.goal_evaluator.specs.Handler.{Handled, IsHistory, used_numbers, AnswerWithin, IsHandler}
@@ -19,33 +20,33 @@ module _ {Question Response : Type 0} (t : Tables Question Response) (laws : IsT
   abbrev IsFair : Question → Option Response → Type 0
   IsFair q a = AnswerWithin t (t.number_of q) a
 
-  abbrev RoundWithin : Option (Round t) → Type 0
+  abbrev RoundWithin : Option (Round (operations t)) → Type 0
   RoundWithin None = Unit {0}
   RoundWithin (Some o) = t.TableWithin most o.table × Every (t.NestedWithin most) o.left
 
-  abbrev RoundsWithin : Option (Rounds t) → Type 0
+  abbrev RoundsWithin : Option (Rounds (operations t)) → Type 0
   RoundsWithin None = Unit {0}
   RoundsWithin (Some o) = t.TableWithin most o.table
 
   abbrev Staying : List t.Nested → Type 0
-  Staying ns = (U : t.Table) → t.TableWithin most U → Every (t.NestedWithin most) ns → Asks IsSmall IsFair RoundWithin (round t ns U)
+  Staying ns = (U : t.Table) → t.TableWithin most U → Every (t.NestedWithin most) ns → Asks IsSmall IsFair RoundWithin (round (operations t) ns U)
 
-  kept_within : (n : t.Nested) (r : Response) → t.NestedWithin most n → (o : Option (Round t)) → RoundWithin o → Asks IsSmall IsFair RoundWithin (kept t n r o)
+  kept_within : (n : t.Nested) (r : Response) → t.NestedWithin most n → (o : Option (Round (operations t))) → RoundWithin o → Asks IsSmall IsFair RoundWithin (kept (operations t) n r o)
   kept_within n r w None o = tt
   kept_within n r w (Some x) o = (o.0, (w, o.1))
 
   judged_within : (n : t.Nested) (ns : List t.Nested) (r : Response) (U : t.Table) (b : Bool) → t.TableWithin most U → Every (t.NestedWithin most) (n ∷ ns) → Staying ns
-      → Asks IsSmall IsFair RoundWithin (judged t (round t ns) n r U b)
+      → Asks IsSmall IsFair RoundWithin (judged (operations t) (round (operations t) ns) n r U b)
   judged_within n ns r U true u w rest = rest U u w.1
-  judged_within n ns r U false u w rest = Asks-followed IsSmall IsFair RoundWithin RoundWithin (kept t n r) (λ o x. kept_within n r w.0 o x) (round t ns U) (rest U u w.1)
+  judged_within n ns r U false u w rest = Asks-followed IsSmall IsFair RoundWithin RoundWithin (kept (operations t) n r) (λ o x. kept_within n r w.0 o x) (round (operations t) ns U) (rest U u w.1)
 
   applied_within : (T : t.Table) (n : t.Nested) (ns : List t.Nested) (r : Response) (e : Option t.Table) → t.apply T n r ≡ e → t.TableWithin most T → t.number_in r ≤ most
-      → Every (t.NestedWithin most) (n ∷ ns) → Staying ns → Asks IsSmall IsFair RoundWithin (applied t (round t ns) n r e)
+      → Every (t.NestedWithin most) (n ∷ ns) → Staying ns → Asks IsSmall IsFair RoundWithin (applied (operations t) (round (operations t) ns) n r e)
   applied_within T n ns r None e u s w rest = tt
-  applied_within T n ns r (Some U) e u s w rest = judged_within n ns r U (is_yes t r) (laws.apply_within most T U n r u s e) w rest
+  applied_within T n ns r (Some U) e u s w rest = judged_within n ns r U (is_yes (operations t) r) (laws.apply_within most T U n r u s e) w rest
 
   replied_within : (T : t.Table) (n : t.Nested) (ns : List t.Nested) (a : Option Response) → IsFair (t.question T n) a → t.TableWithin most T → Every (t.NestedWithin most) (n ∷ ns) → Staying ns
-      → Asks IsSmall IsFair RoundWithin (replied t (round t ns) T n a)
+      → Asks IsSmall IsFair RoundWithin (replied (operations t) (round (operations t) ns) T n a)
   replied_within T n ns None f u w rest = tt
   replied_within T n ns (Some r) f u w rest =
       applied_within T n ns r (t.apply T n r) refl u (let q = laws.question_within most T n u w.0 in omega (arith, f, q)) w rest
@@ -55,24 +56,24 @@ module _ {Question Response : Type 0} (t : Tables Question Response) (laws : IsT
   round_within (n ∷ ns) U u w = (laws.question_within most U n u w.0, λ a f. replied_within U n ns a f u w (λ V v z. round_within ns V v z))
 
   abbrev StayingRounds : ℕ → Type 0
-  StayingRounds i = (ns : List t.Nested) (U : t.Table) → t.TableWithin most U → Every (t.NestedWithin most) ns → Asks IsSmall IsFair RoundsWithin (rounds t i ns U)
+  StayingRounds i = (ns : List t.Nested) (U : t.Table) → t.TableWithin most U → Every (t.NestedWithin most) ns → Asks IsSmall IsFair RoundsWithin (rounds (operations t) i ns U)
 
   settled_within : (i : ℕ) (left : List t.Nested) (U : t.Table) (c : Certainty) (changed : Bool) → t.TableWithin most U → Every (t.NestedWithin most) left → StayingRounds i
-      → Asks IsSmall IsFair RoundsWithin (settled t (rounds t i) left U c changed)
+      → Asks IsSmall IsFair RoundsWithin (settled (operations t) (rounds (operations t) i) left U c changed)
   settled_within i left U c true u w rest = rest left U u w
   settled_within i [] U c false u w rest = u
   settled_within i (n ∷ left) U c false u w rest = u
 
-  next_within : (i : ℕ) (o : Option (Round t)) → RoundWithin o → StayingRounds i → Asks IsSmall IsFair RoundsWithin (next_round t (rounds t i) o)
+  next_within : (i : ℕ) (o : Option (Round (operations t))) → RoundWithin o → StayingRounds i → Asks IsSmall IsFair RoundsWithin (next_round (operations t) (rounds (operations t) i) o)
   next_within i None w rest = tt
   next_within i (Some o) w rest = settled_within i o.left o.table o.certainty o.changed w.0 w.1 rest
 
   rounds_within : (i : ℕ) → StayingRounds i
   rounds_within zero ns U u w = u
   rounds_within (suc i) ns U u w =
-      Asks-followed IsSmall IsFair RoundWithin RoundsWithin (next_round t (rounds t i)) (λ o x. next_within i o x (λ ms V v z. rounds_within i ms V v z)) (round t ns U) (round_within ns U u w)
+      Asks-followed IsSmall IsFair RoundWithin RoundsWithin (next_round (operations t) (rounds (operations t) i)) (λ o x. next_within i o x (λ ms V v z. rounds_within i ms V v z)) (round (operations t) ns U) (round_within ns U u w)
 
-  answered_within : (c : Certainty) (o : Option (Rounds t)) → RoundsWithin o → Asks IsSmall IsFair (AnswerWithin t most) (answered t c o)
+  answered_within : (c : Certainty) (o : Option (Rounds (operations t))) → RoundsWithin o → Asks IsSmall IsFair (AnswerWithin t most) (answered t c o)
   answered_within c None w = tt
   answered_within c (Some o) w = laws.respond_within most o.table (joined c o.certainty) w
 
@@ -82,7 +83,7 @@ module _ {Question Response : Type 0} (t : Tables Question Response) (laws : IsT
   equated_within limit T c (Some U) e u q w =
       let opened = laws.recorded_within most U c.regions (laws.equate_within most T U c.equations u q e) in
       Asks-followed IsSmall IsFair RoundsWithin (AnswerWithin t most) (answered t c.certainty) (λ o x. answered_within c.certainty o x)
-      (rounds t limit c.nested (t.recorded U c.regions)) (rounds_within limit c.nested (t.recorded U c.regions) opened w)
+      (rounds (operations t) limit c.nested (t.recorded U c.regions)) (rounds_within limit c.nested (t.recorded U c.regions) opened w)
 
   candidate_within : (limit : ℕ) (T : t.Table) (c : Spec t) → t.TableWithin most T → Every (t.EquationWithin most) c.equations → Every (t.NestedWithin most) c.nested
       → Asks IsSmall IsFair (AnswerWithin t most) (candidate t limit T c)

@@ -83,6 +83,7 @@ atoms = record {
   Kinds = Unit {0};
   Regions = Unit {0};
   Allows = AllowsValue;
+  AllowsApart = AllowsValue;
   Knows = λ table n. Unit {0};
   fact = λ n x. (n.predicate, value_at n.argument x);
   Meets = λ e x. value_at e.0 x ≡ value_at e.1 x;

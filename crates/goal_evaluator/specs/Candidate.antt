@@ -6,7 +6,7 @@ use Rattle.infer_table.specs.declared.goal.MaybeCause.TheVariants.{Ambiguity}
 use Rattle.infer_table.specs.Certainties.{joined}
 use Rattle.goal_evaluator.specs.declared.candidate.CandidateSource.{CandidateSource}
 use Rattle.goal_evaluator.specs.Script.{done, followed}
-use Rattle.goal_evaluator.specs.Table.{Tables}
+use Rattle.goal_evaluator.specs.Table.{Tables, operations}
 use Rattle.goal_evaluator.specs.Frame.{Frame, considers, answers}
 use Rattle.goal_evaluator.specs.Rounds.{Asking, Rounds, rounds}
 
@@ -20,15 +20,15 @@ module _ {Question Response : Type 0} (t : Tables Question Response) where
     pub nested : List t.Nested
     pub certainty : Certainty
 
-  abbrev pub answered : Certainty → Option (Rounds t) → Asking t (Option Response)
+  abbrev pub answered : Certainty → Option (Rounds (operations t)) → Asking (operations t) (Option Response)
   answered c None = done None
   answered c (Some o) = done (Some (t.respond o.table (joined c o.certainty)))
 
-  abbrev pub equated : ℕ → Spec → Option t.Table → Asking t (Option Response)
+  abbrev pub equated : ℕ → Spec → Option t.Table → Asking (operations t) (Option Response)
   equated limit s None = done None
-  equated limit s (Some U) = followed (answered s.certainty) (rounds t limit s.nested (t.recorded U s.regions))
+  equated limit s (Some U) = followed (answered s.certainty) (rounds (operations t) limit s.nested (t.recorded U s.regions))
 
-  abbrev pub candidate : ℕ → t.Table → Spec → Asking t (Option Response)
+  abbrev pub candidate : ℕ → t.Table → Spec → Asking (operations t) (Option Response)
   candidate limit T s = equated limit s (t.equate (t.fresh T s.kinds) s.equations)
 
   -- a candidate that was considered, its response, and its number

@@ -1,14 +1,15 @@
 -- When a definite yes counts, and what an answer covers.
 use Rattle.std.specs.Prelude.{◌≡◌, ℕ, true, List, Option, Some, None}
 use Rattle.goal_evaluator.specs.Lists.{Every, SomeOf, IsNoneOf, IsAmong}
-use Rattle.goal_evaluator.specs.Table.{Tables, is_yes}
+use Rattle.goal_evaluator.specs.Operations.{is_yes}
+use Rattle.goal_evaluator.specs.Table.{Tables, operations}
 use Rattle.goal_evaluator.specs.Frame.{Finished}
 use Rattle.goal_evaluator.specs.Candidate.{Spec}
 
 module _ {Question Response : Type 0} (t : Tables Question Response) where
   abbrev pub IsYes : Option Response → Type 0
   IsYes None = ⊥
-  IsYes (Some r) = is_yes t r ≡ true
+  IsYes (Some r) = is_yes (operations t) r ≡ true
 
   -- the question was answered by a definite yes
   abbrev pub AnsweredYes : List (Question × Option Response) → Question → Type 0
@@ -39,7 +40,7 @@ module _ {Question Response : Type 0} (t : Tables Question Response) where
     -- the values are a solution by this candidate: its equations hold, and its nested goals have proofs
     pub record Realizes (T : t.Table) (v : t.Values) (c : Spec t) : Type 0 where
       pub assignment : t.Assignment
-      pub allowed : t.Allows (t.fresh T c.kinds) assignment
+      pub allowed : t.AllowsApart (t.fresh T c.kinds) assignment
       pub own : t.own assignment ≡ v
       pub meets : Every (λ e. t.Meets e assignment) c.equations
       pub solves : Every (Solves (t.fresh T c.kinds) assignment) c.nested

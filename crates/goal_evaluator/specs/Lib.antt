@@ -1,8 +1,10 @@
 pub mod Lists
 pub mod Script
 pub mod Frame
+pub mod Operations
 pub mod Table
 pub mod Rounds
+pub mod Replays
 pub mod Candidate
 pub mod Law
 pub mod Handler

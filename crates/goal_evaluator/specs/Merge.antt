@@ -5,7 +5,8 @@ use Rattle.goal_evaluator.specs.declared.merge.MergeCandidateInfo.{MergeCandidat
 use Rattle.goal_evaluator.specs.declared.merge.MergeCandidateInfo.TheVariants.{AlwaysApplicable, EqualResponse}
 use Rattle.goal_evaluator.specs.Lists.{Every, SomeOf}
 use Rattle.infer_table.specs.Certainties.{all_joined, unsettled}
-use Rattle.goal_evaluator.specs.Table.{Tables, is_yes}
+use Rattle.goal_evaluator.specs.Operations.{is_yes}
+use Rattle.goal_evaluator.specs.Table.{Tables, operations}
 use Rattle.goal_evaluator.specs.Candidate.{Considered}
 use Rattle.goal_evaluator.specs.Law.{IsYes, AgreesTo}
 use Rattle.goal_evaluator.specs.Handler.{AnswerWithin}
@@ -52,7 +53,7 @@ module _ {Question Response : Type 0} (t : Tables Question Response) where
 
   -- a yes that says nothing about types, consts and lifetimes
   abbrev pub is_always_applicable : Response → Bool
-  is_always_applicable r = is_yes t r && not (t.has_regions r)
+  is_always_applicable r = is_yes (operations t) r && not (t.has_regions r)
 
   -- without a merge: refused if there is no response, and ambiguous if there are some
   abbrev pub flounder : t.Table → List Response → Option Response

@@ -1,6 +1,7 @@
 -- What responses say.
-use Rattle.std.specs.Prelude.{ℕ, Bool, true, false, ◌==◌, ◌&&◌, ◌+◌, length, List, [], ◌∷◌}
-use Rattle.model.specs.Label.{Label, canonical}
+use Rattle.std.specs.Prelude.{ℕ, Bool, true, false, ◌==◌, ◌&&◌, ◌+◌, if◌then◌else◌, length, List, [], ◌∷◌}
+use Rattle.model.specs.Label.{Label, canonical, of_lifetime}
+use Rattle.model.specs.Trees.{is_sort}
 use Rattle.type_terms.specs.Terms.{Entry}
 use Rattle.type_terms.specs.Kinds.{ArgsHeld}
 use Rattle.type_terms.specs.declared.kinds.GenericArgKind.{GenericArgKind}
@@ -9,7 +10,8 @@ use Rattle.infer_table.specs.declared.goal.Certainty.{Certainty}
 use Rattle.infer_table.specs.declared.terms.RegionConstraint.{RegionConstraint}
 use Rattle.infer_table.specs.Certainties.{is_certain}
 use Rattle.canonical_forms.specs.declared.response.CanonicalResponse.{CanonicalResponse}
-use Rattle.canonical_forms.specs.Leaves.{leaf_label}
+use Rattle.canonical_forms.specs.Leaves.{leaf_label, root_label}
+use Rattle.canonical_forms.specs.Values.{Value}
 
 -- the canonical variable with this number
 abbrev pub is_variable : ℕ → Label → Bool
@@ -20,6 +22,13 @@ is_variable i l = false
 abbrev pub are_variables : List Entry → ℕ → List GenericArgKind → Bool
 are_variables es i [] = true
 are_variables es i (value ∷ values) = is_variable i (leaf_label es value) && are_variables es (i + 1) values
+
+-- each type and const value is the canonical variable that comes next, the first of which is this one; a lifetime may be any
+abbrev pub is_identity_modulo_regions : ℕ → List Value → Bool
+is_identity_modulo_regions i [] = true
+is_identity_modulo_regions i (v ∷ vs) =
+    if is_variable i (root_label v.trees) then is_identity_modulo_regions (i + 1) vs
+    else (is_sort v.sort of_lifetime && is_identity_modulo_regions i vs)
 
 -- neither values nor constraints
 abbrev pub says_nothing : List Entry → CanonicalResponse → Bool

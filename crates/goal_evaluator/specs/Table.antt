@@ -1,10 +1,10 @@
 -- What a table of unknowns means: the assignments of terms to unknowns that it still allows.
-use Rattle.std.specs.Prelude.{◌≡◌, ℕ, ◌≤◌, Bool, false, ◌&&◌, not, List, Option, Some}
+use Rattle.std.specs.Prelude.{◌≡◌, ℕ, ◌≤◌, Bool, false, List, Option, Some}
 use Rattle.infer_table.specs.declared.goal.Certainty.{Certainty}
 use Rattle.infer_table.specs.declared.goal.Certainty.TheVariants.{Yes, Maybe}
 use Rattle.infer_table.specs.declared.goal.MaybeCause.TheVariants.{Overflow}
 use Rattle.goal_evaluator.specs.Lists.{Every, IsAmong}
-use Rattle.infer_table.specs.Certainties.{is_certain}
+use Rattle.goal_evaluator.specs.Operations.{Operations}
 
 -- a question is a canonical goal with the kind of the step to it, a response a canonical response
 pub record Tables (Question Response : Type 0) : Type 1 where
@@ -20,6 +20,8 @@ pub record Tables (Question Response : Type 0) : Type 1 where
   pub Kinds : Type 0
   pub Regions : Type 0
   pub Allows : Table → Assignment → Type 0
+  -- it is allowed, and different placeholders stand for different terms
+  pub AllowsApart : Table → Assignment → Type 0
   -- all unknowns of the nested goal are the table's
   pub Knows : Table → Nested → Type 0
   pub fact : Nested → Assignment → Fact
@@ -55,9 +57,17 @@ pub record Tables (Question Response : Type 0) : Type 1 where
   pub EquationWithin : ℕ → Equation → Type 0
 
 module _ {Question Response : Type 0} (t : Tables Question Response) where
-  -- a definite yes: certain, and without type and const values
-  abbrev pub is_yes : Response → Bool
-  is_yes r = is_certain (t.certainty r) && not (t.has_values r)
+  -- what the rounds of nested goals need
+  abbrev pub operations : Operations Question Response
+  operations =
+      record {
+        Table = t.Table;
+        Nested = t.Nested;
+        question = t.question;
+        apply = t.apply;
+        certainty = t.certainty;
+        has_values = t.has_values;
+      }
 
   -- the second table allows no more than the first
   abbrev pub Narrows : t.Table → t.Table → Type 0
@@ -76,12 +86,12 @@ module _ {Question Response : Type 0} (t : Tables Question Response) where
     pub own : t.own r ≡ t.own s
     pub known : (n : t.Nested) → t.Knows T n → t.Knows U n × (t.fact n r ≡ t.fact n s)
 
-  -- the table was not refused, and allows an assignment that extends this one
+  -- the table was not refused, and allows an assignment that extends this one and tells placeholders apart
   pub record Goes (T : t.Table) (s : t.Assignment) (e : Option t.Table) : Type 0 where
     pub table : t.Table
     pub assignment : t.Assignment
     pub is : e ≡ Some table
-    pub allows : t.Allows table assignment
+    pub allows : t.AllowsApart table assignment
     pub extends : Extends T s table assignment
 
   -- the laws of tables
@@ -95,10 +105,11 @@ module _ {Question Response : Type 0} (t : Tables Question Response) where
     pub equate_meets : (T U : t.Table) (es : List t.Equation) → t.equate T es ≡ Some U → (s : t.Assignment) → t.Allows U s → Every (λ e. t.Meets e s) es
     pub apply_narrows : (T U : t.Table) (n : t.Nested) (r : Response) → t.apply T n r ≡ Some U → Narrows T U
     pub recorded_narrows : (T : t.Table) (c : t.Regions) → Narrows T (t.recorded T c)
-    -- nothing is lost
-    pub equate_keeps : (T : t.Table) (es : List t.Equation) (s : t.Assignment) → t.Allows T s → Every (λ e. t.Meets e s) es → Goes T s (t.equate T es)
-    pub apply_keeps : (T : t.Table) (n : t.Nested) (r : Response) (s : t.Assignment) → t.Allows T s → t.Knows T n → t.Agrees r (t.at T n s) → Goes T s (t.apply T n r)
-    pub recorded_keeps : (T : t.Table) (c : t.Regions) (s : t.Assignment) → t.Allows T s → Goes T s (Some (t.recorded T c))
+    -- nothing is lost that tells placeholders apart
+    pub apart : (T : t.Table) (s : t.Assignment) → t.AllowsApart T s → t.Allows T s
+    pub equate_keeps : (T : t.Table) (es : List t.Equation) (s : t.Assignment) → t.AllowsApart T s → Every (λ e. t.Meets e s) es → Goes T s (t.equate T es)
+    pub apply_keeps : (T : t.Table) (n : t.Nested) (r : Response) (s : t.Assignment) → t.AllowsApart T s → t.Knows T n → t.Agrees r (t.at T n s) → Goes T s (t.apply T n r)
+    pub recorded_keeps : (T : t.Table) (c : t.Regions) (s : t.Assignment) → t.AllowsApart T s → Goes T s (Some (t.recorded T c))
     pub respond_keeps : (T : t.Table) (c : Certainty) (s : t.Assignment) → t.Allows T s → t.Agrees (t.respond T c) (t.own s)
     -- a response is as sure as is said; a yes without values leaves the own variables free; an overflow carries no values
     pub respond_certainty : (T : t.Table) (c : Certainty) → t.certainty (t.respond T c) ≡ c

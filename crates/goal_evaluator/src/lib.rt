@@ -23,7 +23,9 @@ pub use infer_table::goal::{Certainty, MaybeCause, NoSolution, TypingMode};
 pub use merge::{
     MergeCandidateInfo, ambiguous_certainty, bail_with_ambiguity, flounder, try_merge_candidates,
 };
-pub use response::{has_no_inference_or_external_constraints, is_same_response};
+pub use response::{
+    has_no_inference_or_external_constraints, is_identity_modulo_regions, is_same_response,
+};
 
 /// How many rounds a candidate's nested goals are asked in at most.
 pub const FIXPOINT_STEP_LIMIT: usize = 8;

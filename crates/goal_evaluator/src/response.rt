@@ -1,10 +1,11 @@
 //! What responses say.
 
-ghost use Rattle.std.specs.Prelude.{◌≡◌, ◌↔◌, IsTrue, IfOk};
+ghost use Rattle.std.specs.Prelude.{◌≡◌, ◌↔◌, ◌+◌, ◌<◌, ◌^◌, length, IsTrue, IfOk};
 ghost use Rattle.model.specs.Label.{Sort};
 ghost use Rattle.type_terms.specs.Kinds.{ArgHeld, ArgsHeld, bound_label};
 ghost use Rattle.canonical_forms.specs.Leaves.{leaf_label};
-ghost use Rattle.goal_evaluator.specs.Responses.{is_variable, are_variables, says_nothing, ValuesHeld, content};
+ghost use Rattle.canonical_forms.specs.Values.{values_of};
+ghost use Rattle.goal_evaluator.specs.Responses.{is_variable, are_variables, is_identity_modulo_regions, says_nothing, ValuesHeld, content};
 
 use canonical_forms::response::CanonicalResponse;
 use std::alloc::{AllocError, Global};
@@ -55,6 +56,34 @@ fn is_identity(cx: &Interner, var_values: &[GenericArgKind]) -> bool
         }
     }
     true
+}
+
+/// Whether each type or constant of the values is the canonical variable that comes next, the first of which has this number.
+fn is_identity_from(cx: &Interner, var_values: &[GenericArgKind], next: usize) -> bool
+    requires held { ArgsHeld cx.now.entries var_values.now }
+    requires room { next + length var_values.now < 2 ^ 64 }
+    ensures { result ≡ is_identity_modulo_regions next (values_of cx.now.entries var_values.now) }
+{
+    match var_values {
+        [] => true,
+        [value, rest @ ..] => {
+            if is_canonical_variable(cx, *value, next) {
+                is_identity_from(cx, rest, next + 1)
+            } else {
+                matches!(value, GenericArgKind::Lifetime(_)) && is_identity_from(cx, rest, next)
+            }
+        }
+    }
+}
+
+/// Whether the values say nothing of types and constants: each type or constant is the canonical variable that comes next in
+/// the order of first occurrence. A lifetime may be any. (`CanonicalVarValues::is_identity_modulo_regions` of the original.)
+pub fn is_identity_modulo_regions(cx: &Interner, var_values: &[GenericArgKind]) -> bool
+    requires { ArgsHeld cx.now.entries var_values.now }
+    ensures { result ≡ is_identity_modulo_regions 0 (values_of cx.now.entries var_values.now) }
+{
+    let _length = var_values.len();
+    is_identity_from(cx, var_values, 0)
 }
 
 /// Whether the response says nothing of its goal's variables: value i is the canonical variable i itself, and there is no

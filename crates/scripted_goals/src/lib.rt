@@ -123,7 +123,7 @@ pub struct Toy;
 
 impl Delegate for Toy {
     ghost use Rattle.std.specs.Prelude.{IfOk, OnOk, IsOk, Ok, ◌<◌, ◌≤◌, ◌+◌, ◌^◌, IsTrue, IsSome, ◌↔◌};
-    ghost use Rattle.search_graph.specs.Meaning.{Keeps, IsDue, Steps};
+    ghost use Rattle.search_steps.specs.Meaning.{Keeps, IsDue, Steps};
     ghost use Rattle.scripted_goals.specs.Toy.{toy_meaning, toy_initial};
 
     type Cx = Scripts;

@@ -1,7 +1,7 @@
 //! Small goals, with the frames that they start. What no text of declarations can show is tried here too: how often a goal runs.
 
 ghost use Rattle.std.specs.Prelude.{◌≡◌, ◌≤◌};
-ghost use Rattle.search_graph.specs.Cache.{AreJustified};
+ghost use Rattle.search_steps.specs.Cache.{AreJustified};
 ghost use Rattle.scripted_goals.specs.Toy.{toy_meaning};
 
 use super::{AMBIGUOUS, NO, OVERFLOW, Rule, Script, Scripts, Step, Toy, YES};

@@ -1,11 +1,3 @@
-pub mod Meaning
-pub mod Computed
-pub mod Shown
-pub mod Stack
-pub mod Plain
-pub mod Proof
 pub mod Answer
 pub mod Bound
-pub mod Faithful
 pub mod SearchState
-pub mod Cache

@@ -1,70 +1,20 @@
 //! The search graph: what a caller sees of a search.
 
 ghost use Rattle.std.specs.Prelude.{◌≡◌, ℕ, ◌+◌, ◌≤◌, ◌↔◌, max, IfOk, IsOkAnd, IsTrue, true, false};
-ghost use Rattle.search_graph.specs.Meaning.{Keeps};
-ghost use Rattle.search_graph.specs.Computed.{IsGiven, IsGivenWithin, IsComputed, MakesMisstep};
+ghost use Rattle.search_steps.specs.Meaning.{Keeps};
+ghost use Rattle.search_steps.specs.Computed.{IsGiven, IsGivenWithin, IsComputed, MakesMisstep};
 ghost use Rattle.search_graph.specs.Answer.{IsSound};
-ghost use Rattle.search_graph.specs.Plain.{IsPlain, IsNotPlain};
+ghost use Rattle.search_steps.specs.Plain.{IsPlain, IsNotPlain};
 ghost use Rattle.search_graph.specs.Bound.{frame_bound};
-ghost use Rattle.search_graph.specs.Cache.{AreJustified, HasConflict, answers_in};
+ghost use Rattle.search_steps.specs.Cache.{AreJustified, HasConflict, answers_in};
 
 use crate::cache::GlobalCache;
-use crate::delegate::{Delegate, InputOf, ResultOf};
-use crate::evaluation::Search;
-use search_paths::{EvaluationResult, PathKind};
-use std::alloc::{AllocError, AllocFailed, Global};
+use crate::evaluation::evaluate;
+use search_paths::{EvaluationResult, GraphFault, PathKind};
+use search_steps::{Delegate, InputOf, ResultOf, Search};
+use std::alloc::Global;
 use std::marker::Model;
 use type_terms::Fault;
-
-/// Why a goal got no result.
-#[derive(Clone, Copy, PartialEq, Eq, Debug, thiserror::Error)]
-pub enum GraphFault {
-    /// Memory was refused.
-    #[error("out of memory")]
-    Memory,
-    /// A table of the context is full.
-    #[error("a table is full")]
-    Full,
-    /// A cached result differs from a new one for the same goal.
-    #[error("a cached result differs from a new one")]
-    Conflict,
-    /// A frame made a request out of order.
-    #[error("a request out of order")]
-    Protocol,
-}
-
-impl From<Fault> for GraphFault {
-    ghost use Rattle.search_graph.specs.declared.graph.GraphFault.TheVariants.{Conflict as ConflictFault, Protocol as ProtocolFault};
-
-    ghost from_gives = { λ _ e. (e ≡ ConflictFault → ⊥) × (e ≡ ProtocolFault → ⊥) };
-
-    fn from(fault: Fault) -> Self {
-        match fault {
-            Fault::Memory => GraphFault::Memory,
-            Fault::Full => GraphFault::Full,
-        }
-    }
-}
-
-impl From<AllocError> for GraphFault {
-    ghost use Rattle.search_graph.specs.declared.graph.GraphFault.TheVariants.{Conflict as ConflictFault, Protocol as ProtocolFault};
-
-    ghost from_gives = { λ _ e. (e ≡ ConflictFault → ⊥) × (e ≡ ProtocolFault → ⊥) };
-
-    fn from(_: AllocError) -> Self {
-        GraphFault::Memory
-    }
-}
-
-impl<T: Drop> From<AllocFailed<T>> for GraphFault {
-    ghost use Rattle.search_graph.specs.declared.graph.GraphFault.TheVariants.{Conflict as ConflictFault, Protocol as ProtocolFault};
-
-    ghost from_gives = { λ _ e. (e ≡ ConflictFault → ⊥) × (e ≡ ProtocolFault → ⊥) };
-
-    fn from(_: AllocFailed<T>) -> Self {
-        GraphFault::Memory
-    }
-}
 
 /// A search with its stack.
 ///
@@ -174,7 +124,7 @@ impl<D: Delegate> SearchGraph<D> {
     {
         let depth = self.root_depth;
         let results = &mut cache.results;
-        match self.search.evaluate(results, cx, input, step_kind, depth) {
+        match evaluate(&mut self.search, results, cx, input, step_kind, depth) {
             Ok(evaluation) => {
                 let EvaluationResult {
                     result: answer,

@@ -2,13 +2,10 @@
 #![tactic(auto)]
 
 mod cache;
-mod candidates;
-mod delegate;
 mod evaluation;
 mod graph;
-mod stack;
 
 pub use cache::GlobalCache;
-pub use delegate::{Cx, Delegate, InputOf, Reply, Request, ResultOf};
-pub use graph::{GraphFault, SearchGraph};
-pub use search_paths::{CandidateHeadUsages, PathKind, PathsToNested};
+pub use graph::SearchGraph;
+pub use search_paths::{CandidateHeadUsages, GraphFault, PathKind, PathsToNested};
+pub use search_steps::{Cx, Delegate, InputOf, Reply, Request, ResultOf};

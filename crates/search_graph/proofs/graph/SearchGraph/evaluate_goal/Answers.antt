@@ -1,10 +1,10 @@
 use Rattle.std.proofs.Common.{◌≡◌, ◌+◌, ◌∙◌, sym, ap, subst, refl, [], inl, arith}
-use Rattle.search_graph.specs.Cache.{AreJustified, answers_in}
-use Rattle.search_graph.specs.Proof.{IsAmong}
-use Rattle.search_graph.proofs.Limits.{AreCachedWithin-among}
+use Rattle.search_steps.specs.Cache.{AreJustified, answers_in}
+use Rattle.search_steps.specs.Proof.{IsAmong}
+use Rattle.search_steps.proofs.Limits.{AreCachedWithin-among}
 use Rattle.search_graph.proofs.Proofs.{sound_answer}
-use Rattle.search_graph.proofs.Caches.{AreCached-known, AreJustified-known}
-use Rattle.search_graph.proofs.Errors.{err_passed, ok_not_err, empty_of_length}
+use Rattle.search_steps.proofs.Caches.{AreCached-known, AreJustified-known}
+use Rattle.search_steps.proofs.Errors.{err_passed, ok_not_err, empty_of_length}
 use Rattle.search_graph.proofs.graph.SearchGraph.evaluate_goal.Goals as goal
 use Rattle.search_graph.proofs.graph.SearchGraph.evaluate_goal.Goals.{in-Ok, in-Err}
 

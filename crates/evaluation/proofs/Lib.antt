@@ -1,0 +1,4 @@
+pub mod Contexts
+pub mod Undone
+pub mod Probing
+pub mod OwnAnswers

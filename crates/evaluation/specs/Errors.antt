@@ -1,0 +1,9 @@
+-- What a refused equation means for an evaluation.
+use Rattle.infer_table.specs.declared.goal.EqError.{EqError}
+use Rattle.infer_table.specs.declared.goal.EqError.TheVariants as Eq
+use Rattle.evaluation.specs.declared.error.EvalError.{EvalError}
+use Rattle.evaluation.specs.declared.error.EvalError.TheVariants.{NoSolution, OutOf}
+
+abbrev pub eval_error : EqError → EvalError
+eval_error Eq.NoSolution = NoSolution
+eval_error (Eq.OutOf fault) = OutOf fault

@@ -1,0 +1,5 @@
+pub mod Errors
+pub mod Context
+pub mod ContextView
+pub mod Probes
+pub mod OwnAnswers

@@ -1,0 +1,52 @@
+-- The answer that a context gives of itself.
+use Rattle.std.specs.Prelude.{◌≡◌, List, []}
+use Rattle.model.specs.Trees.{Trees, ◌+++◌}
+use Rattle.type_terms.specs.Terms.{Entry}
+use Rattle.type_terms.specs.Kinds.{ArgsHeld, args_trees}
+use Rattle.infer_table.specs.declared.goal.Certainty.{Certainty}
+use Rattle.infer_table.specs.declared.goal.Certainty.TheVariants.{Yes, Maybe}
+use Rattle.infer_table.specs.declared.goal.MaybeCause.TheVariants.{Ambiguity, Overflow}
+use Rattle.infer_table.specs.Canonical.{canonical_form, HasNoCanonical}
+use Rattle.infer_table.specs.Solutions.{Assignment, Solves, instance, resolved}
+use Rattle.infer_table.specs.Content.{content}
+use Rattle.infer_table.specs.Constraints.{constraints_trees}
+use Rattle.canonical_forms.specs.Values.{values_of}
+use Rattle.canonical_forms.specs.declared.response.CanonicalResponse.{CanonicalResponse}
+use Rattle.canonical_responses.specs.Responses.{as_goal, response_form, answer_leaves, numbered_by, ResponseHeld}
+use Rattle.canonical_responses.specs.Covers.{Agrees, AreNumbered}
+use Rattle.canonical_responses.specs.Raw.{variables_from}
+use Rattle.evaluation.specs.Context.{Context}
+
+-- what a context knows, with the terms `old`, of the input's variables, and of lifetimes
+module _ (old : List Entry) (c : Context) where
+  abbrev pub known_values : Trees
+  known_values = resolved (content old c.table.values) (args_trees old c.values)
+
+  abbrev pub known_constraints : Trees
+  known_constraints = resolved (content old c.table.values) (constraints_trees old c.table.constraints)
+
+  abbrev pub known : Trees
+  known = resolved (content old c.table.values) (args_trees old c.values +++ constraints_trees old c.table.constraints)
+
+-- with the terms `new`, the answer says in canonical form what the context knows of the input's variables and of lifetimes. It
+-- agrees with each solution of the table
+pub record SaysWhatIsKnown (old new : List Entry) (c : Context) (r : CanonicalResponse) : Type 0 where
+  pub held : ResponseHeld new r
+  pub form : response_form new r ≡ canonical_form (as_goal (known old c))
+  pub values : args_trees new r.var_values.items ≡ numbered_by (answer_leaves (known old c)) (known_values old c)
+  pub constraints : constraints_trees new r.region_constraints.items ≡ numbered_by (answer_leaves (known old c)) (known_constraints old c)
+  pub agrees : HasNoCanonical (known_values old c) → (s : Assignment) → Solves s (content old c.table.values) → Agrees (args_trees new r.var_values.items) (instance s (args_trees old c.values))
+  pub numbered : HasNoCanonical (known_values old c) → AreNumbered r.variables.items (args_trees new r.var_values.items)
+
+-- the answer says nothing: each of the input's variables stands for itself
+pub record SaysNothing (new : List Entry) (c : Context) (r : CanonicalResponse) : Type 0 where
+  pub held : ArgsHeld new r.var_values.items
+  pub variables : r.variables.items ≡ c.variables
+  pub values : values_of new r.var_values.items ≡ variables_from 0 c.variables
+  pub constraints : r.region_constraints.items ≡ []
+
+-- what an answer of this certainty says: an overflow says nothing
+abbrev pub Says : List Entry → List Entry → Context → CanonicalResponse → Certainty → Type 0
+Says old new c r Yes = SaysWhatIsKnown old new c r
+Says old new c r (Maybe Ambiguity) = SaysWhatIsKnown old new c r
+Says old new c r (Maybe Overflow) = SaysNothing new c r

@@ -1,0 +1,324 @@
+//! The context of an evaluation: the table, and the goals that are still to be asked.
+ghost use Rattle.std.specs.Prelude.{◌≡◌, ◌<◌, ◌⊎◌, List, [], ◌∷◌, ◌++◌, map, take, length, OnOk, OnErr, IfOk, IfErr, Err};
+ghost use Rattle.type_terms.specs.Terms.{Entry, Keeps};
+ghost use Rattle.type_terms.specs.Kinds.{ArgHeld, ArgsHeld, arg_trees};
+ghost use Rattle.type_terms.specs.declared.TheConstants.{MAX_INDEX};
+ghost use Rattle.infer_table.specs.Solutions.{Equates, HasNoSolution, OlderStays};
+ghost use Rattle.infer_table.specs.Content.{content, Ready, Grows};
+ghost use Rattle.canonical_forms.specs.Goals.{GoalHeld};
+ghost use Rattle.canonical_responses.specs.Raw.{IsFull};
+ghost use Rattle.goal_evaluator.specs.Readings.{ResultHeld};
+ghost use Rattle.evaluation.specs.Context.{Context, IsReady, nested_goal};
+ghost use Rattle.evaluation.specs.OwnAnswers.{SaysWhatIsKnown, SaysNothing, Says};
+ghost use Rattle.evaluation.specs.Probes.{TakesBoth, Returns, IsUndoable};
+
+use crate::error::EvalError;
+use canonical_forms::goal::Goal;
+use canonical_forms::input::CanonicalInput;
+use canonical_forms::response::CanonicalResponse;
+use canonical_responses::canonicalize::canonicalize_response;
+use canonical_responses::raw::response_no_constraints_raw;
+use goal_evaluator::GoalSource;
+use infer_table::canonical::CanonicalVarKind;
+use infer_table::goal::{Certainty, MaybeCause, TypingMode};
+use infer_table::infer_ctxt::InferCtxt;
+use std::alloc::AllocError;
+use std::marker::Model;
+use type_terms::Fault;
+use type_terms::interner::Interner;
+use type_terms::kinds::GenericArgKind;
+use type_terms::variance::Variance;
+
+/// What a call that evaluates answers.
+#[derive(Debug, Drop)]
+pub enum EvalStep<T> {
+    /// It is done.
+    Ready(T),
+    /// It needs the answer to this question. After `reply` with it the same call goes on.
+    Ask(CanonicalInput, GoalSource),
+}
+
+/// An evaluation that has begun: what is known of unknowns so far, and which goals are still to be asked.
+///
+/// `EvalCtxt` of `rustc_next_trait_solver`. It owns its table, and asks by answering with a question: whoever drives it brings
+/// the reply and calls again.
+#[derive(Drop)]
+pub struct EvalCtxt {
+    mode: TypingMode,
+    table: InferCtxt,
+    variables: Vec<CanonicalVarKind>,
+    values: Vec<GenericArgKind>,
+    nested_goals: Vec<(GoalSource, Goal)>,
+    replies: Vec<Option<CanonicalResponse>>,
+}
+
+impl Model for EvalCtxt {
+    ghost use Rattle.evaluation.specs.Context.{Context};
+
+    ghost Value = { Context };
+
+    ghost use Rattle.evaluation.specs.ContextView.{context_of};
+
+    ghost view = { context_of };
+}
+
+impl EvalCtxt {
+    /// An evaluation in a table, of an input whose variables are of these kinds and have these values. It has no nested goals
+    /// and no replies yet.
+    pub fn new(
+        table: InferCtxt,
+        mode: TypingMode,
+        variables: Vec<CanonicalVarKind>,
+        values: Vec<GenericArgKind>,
+    ) -> EvalCtxt
+        ensures { result ≡ record { mode = mode; table = table; variables = variables.items; values = values.items; nested = []; replies = [] } }
+    {
+        let alloc = *values.allocator();
+        EvalCtxt {
+            mode,
+            table,
+            variables,
+            values,
+            nested_goals: Vec::new(alloc),
+            replies: Vec::new(alloc),
+        }
+    }
+
+    /// How goals are read.
+    pub fn typing_mode(&self) -> TypingMode
+        ensures { result ≡ self.now.mode }
+    {
+        self.mode
+    }
+
+    /// The table of unknowns.
+    pub fn table(&self) -> &InferCtxt
+        ensures { result.now ≡ self.now.table }
+    {
+        &self.table
+    }
+
+    /// The kinds of the input's variables, in order.
+    pub fn variables(&self) -> &[CanonicalVarKind]
+        ensures { result.now ≡ self.now.variables }
+    {
+        &self.variables
+    }
+
+    /// The values of the input's variables, in order.
+    pub fn var_values(&self) -> &[GenericArgKind]
+        ensures { result.now ≡ self.now.values }
+    {
+        &self.values
+    }
+
+    /// The goals that are still to be asked, with their sources, the oldest first.
+    pub fn nested_goals(&self) -> &[(GoalSource, Goal)]
+        ensures { map nested_goal result.now ≡ self.now.nested }
+    {
+        &self.nested_goals
+    }
+
+    /// Puts a goal behind those that are still to be asked. `Memory` is the only fault; then the goals are as before.
+    pub fn add_goal(&mut self, source: GoalSource, goal: Goal) -> Result<(), Fault>
+        ensures added { OnOk result (self.new ≡ record self.old { nested = self.old.nested ++ nested_goal (source, goal) ∷ [] }) }
+        ensures refused { OnErr result (self.new ≡ self.old) }
+        ensures fault { IfErr result (λ e. e ≡ Fault.Memory) }
+    {
+        self.nested_goals.push((source, goal))?;
+        Ok(())
+    }
+
+    /// Puts goals of one source behind those that are still to be asked, in order. `Memory` is the only fault; then the goals
+    /// are as before.
+    pub fn add_goals(&mut self, source: GoalSource, goals: Vec<Goal>) -> Result<(), Fault>
+        ensures added { OnOk result (self.new ≡ record self.old { nested = self.old.nested ++ map (λ g. nested_goal (source, g)) goals.items }) }
+        ensures refused { OnErr result (self.new ≡ self.old) }
+        ensures fault { IfErr result (λ e. e ≡ Fault.Memory) }
+    {
+        let before = self.nested_goals.len();
+        match push_goals(&mut self.nested_goals, source, goals) {
+            Ok(()) => Ok(()),
+            Err(fault) => {
+                self.nested_goals.truncate(before);
+                Err(fault)
+            }
+        }
+    }
+
+    /// Makes the two equal in the context's table. Two lifetimes that differ are recorded as equal and refuse nothing.
+    ///
+    /// Afterwards the solutions of the table are those from before that make the two equal; `NoSolution` comes exactly where
+    /// there is none. After a refusal the context is as before; the interner may hold more terms.
+    pub fn eq(
+        &mut self,
+        cx: &mut Interner,
+        left: GenericArgKind,
+        right: GenericArgKind,
+    ) -> Result<(), EvalError>
+        requires left { ArgHeld cx.old.entries left }
+        requires right { ArgHeld cx.old.entries right }
+        requires ready { IsReady cx.old.entries self.old }
+        ensures ready { IsReady cx.new.entries self.new }
+        ensures grows { Grows self.old.table self.new.table }
+        ensures keeps { Keeps cx.old.entries cx.new.entries }
+        ensures limit { cx.new.limit ≡ cx.old.limit }
+
+        // Nothing but the table changes.
+        ensures rest { self.new ≡ record self.old { table = self.new.table } }
+        ensures equates { OnOk result (Equates (content cx.old.entries self.old.table.values) (content cx.new.entries self.new.table.values) (arg_trees cx.old.entries left) (arg_trees cx.old.entries right)) }
+        ensures older { OnOk result (OlderStays (content cx.old.entries self.old.table.values) (content cx.new.entries self.new.table.values) (arg_trees cx.old.entries left) (arg_trees cx.old.entries right)) }
+        ensures never { result ≡ Err EvalError.NoSolution → HasNoSolution (content cx.old.entries self.old.table.values) (arg_trees cx.old.entries left) (arg_trees cx.old.entries right) }
+        ensures refused { OnErr result (self.new ≡ self.old) }
+    {
+        match self.table.eq(cx, left, right) {
+            Ok(()) => Ok(()),
+            Err(error) => Err(EvalError::from(error)),
+        }
+    }
+
+    /// Relates the two in the context's table. Up to lifetimes every variance asks that the two are equal, and lifetimes
+    /// refuse nothing: so this is `eq`, whatever the variance.
+    pub fn relate(
+        &mut self,
+        cx: &mut Interner,
+        left: GenericArgKind,
+        _variance: Variance,
+        right: GenericArgKind,
+    ) -> Result<(), EvalError>
+        requires left { ArgHeld cx.old.entries left }
+        requires right { ArgHeld cx.old.entries right }
+        requires ready { IsReady cx.old.entries self.old }
+        ensures ready { IsReady cx.new.entries self.new }
+        ensures grows { Grows self.old.table self.new.table }
+        ensures keeps { Keeps cx.old.entries cx.new.entries }
+        ensures limit { cx.new.limit ≡ cx.old.limit }
+        ensures rest { self.new ≡ record self.old { table = self.new.table } }
+        ensures equates { OnOk result (Equates (content cx.old.entries self.old.table.values) (content cx.new.entries self.new.table.values) (arg_trees cx.old.entries left) (arg_trees cx.old.entries right)) }
+        ensures older { OnOk result (OlderStays (content cx.old.entries self.old.table.values) (content cx.new.entries self.new.table.values) (arg_trees cx.old.entries left) (arg_trees cx.old.entries right)) }
+        ensures never { result ≡ Err EvalError.NoSolution → HasNoSolution (content cx.old.entries self.old.table.values) (arg_trees cx.old.entries left) (arg_trees cx.old.entries right) }
+        ensures refused { OnErr result (self.new ≡ self.old) }
+    {
+        self.eq(cx, left, right)
+    }
+
+    /// Takes the answer to the last question, where none says that the goal has no solution: puts it behind the replies so far.
+    /// `Memory` is the only fault; then the context is as before.
+    pub fn reply(&mut self, answer: Option<CanonicalResponse>) -> Result<(), Fault>
+        ensures heard { OnOk result (self.new ≡ record self.old { replies = self.old.replies ++ answer ∷ [] }) }
+        ensures refused { OnErr result (self.new ≡ self.old) }
+        ensures fault { IfErr result (λ e. e ≡ Fault.Memory) }
+    {
+        self.replies.push(answer)?;
+        Ok(())
+    }
+
+    /// The context's own answer where the evaluation is given up for this cause: it is not sure, and says what is known so far
+    /// of the input's variables and of lifetimes; an overflow says nothing of them.
+    ///
+    /// `Full` comes where the interner or the numbers of variables are used up, `Memory` where memory is refused. The original's
+    /// `forced_ambiguity`.
+    pub fn forced_ambiguity(
+        &self,
+        cx: &mut Interner,
+        cause: MaybeCause,
+    ) -> Result<CanonicalResponse, Fault>
+        requires ready { IsReady cx.old.entries self.now }
+        ensures keeps { Keeps cx.old.entries cx.new.entries }
+        ensures limit { cx.new.limit ≡ cx.old.limit }
+        ensures certainty { IfOk result (λ r. r.certainty ≡ Certainty.Maybe cause) }
+        ensures says { IfOk result (λ r. Says cx.old.entries cx.new.entries self.now r (Certainty.Maybe cause)) }
+        ensures full { cause ≡ MaybeCause.Overflow → result ≡ Err Fault.Full → (MAX_INDEX < length self.now.variables) ⊎ IsFull cx.new.entries cx.new.limit }
+    {
+        self.answer(cx, Certainty::Maybe(cause))
+    }
+
+    /// The context's own answer of this certainty.
+    fn answer(&self, cx: &mut Interner, certainty: Certainty) -> Result<CanonicalResponse, Fault>
+        requires ready { IsReady cx.old.entries self.now }
+        ensures keeps { Keeps cx.old.entries cx.new.entries }
+        ensures limit { cx.new.limit ≡ cx.old.limit }
+        ensures certainty { IfOk result (λ r. r.certainty ≡ certainty) }
+        ensures says { IfOk result (λ r. Says cx.old.entries cx.new.entries self.now r certainty) }
+        ensures full { certainty ≡ Certainty.Maybe MaybeCause.Overflow → result ≡ Err Fault.Full → (MAX_INDEX < length self.now.variables) ⊎ IsFull cx.new.entries cx.new.limit }
+    {
+        match certainty {
+            Certainty::Yes => self.known_answer(cx, certainty),
+            Certainty::Maybe(MaybeCause::Ambiguity) => self.known_answer(cx, certainty),
+            Certainty::Maybe(MaybeCause::Overflow) => self.empty_answer(cx, certainty),
+        }
+    }
+
+    /// The answer of this certainty that says what is known.
+    fn known_answer(
+        &self,
+        cx: &mut Interner,
+        certainty: Certainty,
+    ) -> Result<CanonicalResponse, Fault>
+        requires ready { IsReady cx.old.entries self.now }
+        ensures keeps { Keeps cx.old.entries cx.new.entries }
+        ensures limit { cx.new.limit ≡ cx.old.limit }
+        ensures certainty { IfOk result (λ r. r.certainty ≡ certainty) }
+        ensures says { IfOk result (λ r. SaysWhatIsKnown cx.old.entries cx.new.entries self.now r) }
+    {
+        let alloc = *self.values.allocator();
+        canonicalize_response(alloc, cx, &self.table, certainty, &self.values)
+    }
+
+    /// The answer of this certainty that says nothing.
+    fn empty_answer(
+        &self,
+        cx: &mut Interner,
+        certainty: Certainty,
+    ) -> Result<CanonicalResponse, Fault>
+        ensures keeps { Keeps cx.old.entries cx.new.entries }
+        ensures limit { cx.new.limit ≡ cx.old.limit }
+        ensures certainty { IfOk result (λ r. r.certainty ≡ certainty) }
+        ensures says { IfOk result (λ r. SaysNothing cx.new.entries self.now r) }
+        ensures full { result ≡ Err Fault.Full → (MAX_INDEX < length self.now.variables) ⊎ IsFull cx.new.entries cx.new.limit }
+    {
+        let alloc = *self.values.allocator();
+        let variables = Vec::from_slice(alloc, &self.variables)?;
+        response_no_constraints_raw(alloc, cx, variables, certainty)
+    }
+
+    /// What the closure answers, with all that it does to the context undone: the table and the goals that are still to be asked
+    /// are as before. The interner keeps the terms that were made.
+    ///
+    /// The closure only adds to the table, and puts it back to no place from before. `AllocError` comes before the closure is
+    /// called. `EvalCtxt::probe` of the original, whose `enter` is part of it.
+    pub fn probe<T, F: FnOnce(&mut EvalCtxt, &mut Interner) -> T + Drop>(
+        &mut self,
+        cx: &mut Interner,
+        f: F,
+    ) -> Result<T, AllocError>
+        requires callable { TakesBoth F.FnOnce f self.old cx.old }
+        requires undoable { IsUndoable F.FnOnce f self.old cx.old }
+        ensures returned { IfOk result (λ r. (left : Context) × Returns F.FnOnce f self.old cx.old r left cx.new) }
+        ensures restored { self.new ≡ self.old }
+        ensures refused { OnErr result (cx.new ≡ cx.old) }
+    {
+        let place = self.table.snapshot()?;
+        let nested_goals = self.nested_goals.clone()?;
+        let outcome = f(self, cx);
+        self.table.roll_back(place);
+        self.nested_goals = nested_goals;
+        Ok(outcome)
+    }
+}
+
+/// Puts goals of one source behind these, in order; after a refusal some of them may stand there.
+fn push_goals(
+    nested_goals: &mut Vec<(GoalSource, Goal)>,
+    source: GoalSource,
+    goals: Vec<Goal>,
+) -> Result<(), Fault>
+    ensures added { OnOk result (map nested_goal nested_goals.new.items ≡ map nested_goal nested_goals.old.items ++ map (λ g. nested_goal (source, g)) goals.items) }
+    ensures kept { take (length nested_goals.old.items) nested_goals.new.items ≡ nested_goals.old.items }
+    ensures fault { IfErr result (λ e. e ≡ Fault.Memory) }
+{
+    for goal in goals {
+        nested_goals.push((source, goal))?;
+    }
+    Ok(())
+}

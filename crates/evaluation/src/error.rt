@@ -1,0 +1,53 @@
+//! Why an evaluation ended without an answer.
+ghost use Rattle.std.specs.Prelude.{◌≡◌};
+ghost use Rattle.evaluation.specs.declared.error.EvalError.TheVariants.{OutOf};
+ghost use Rattle.evaluation.specs.Errors.{eval_error};
+ghost use Rattle.type_terms.specs.declared.Fault.TheVariants.{Memory};
+
+use infer_table::goal::EqError;
+use std::alloc::{AllocError, AllocFailed};
+use type_terms::Fault;
+
+/// Why an evaluation was refused.
+#[derive(Clone, Copy, PartialEq, Eq, Debug)]
+pub enum EvalError {
+    /// What is evaluated does not hold.
+    NoSolution,
+    /// There is no answer.
+    OutOf(Fault),
+}
+
+impl From<Fault> for EvalError {
+    ghost from_gives = { λ fault e. e ≡ OutOf fault };
+
+    fn from(fault: Fault) -> EvalError {
+        EvalError::OutOf(fault)
+    }
+}
+
+impl From<EqError> for EvalError {
+    ghost from_gives = { λ error e. e ≡ eval_error error };
+
+    fn from(error: EqError) -> EvalError {
+        match error {
+            EqError::NoSolution => EvalError::NoSolution,
+            EqError::OutOf(fault) => EvalError::OutOf(fault),
+        }
+    }
+}
+
+impl From<AllocError> for EvalError {
+    ghost from_gives = { λ _ e. e ≡ OutOf Memory };
+
+    fn from(_error: AllocError) -> EvalError {
+        EvalError::OutOf(Fault::Memory)
+    }
+}
+
+impl<T: Drop> From<AllocFailed<T>> for EvalError {
+    ghost from_gives = { λ _ e. e ≡ OutOf Memory };
+
+    fn from(_error: AllocFailed<T>) -> EvalError {
+        EvalError::OutOf(Fault::Memory)
+    }
+}

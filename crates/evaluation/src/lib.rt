@@ -1,0 +1,10 @@
+//! Goals that are evaluated step by step: what holds so far, and which goals are still to be asked.
+#![tactic(auto)]
+
+pub mod context;
+mod error;
+#[cfg(test)]
+mod tests;
+
+pub use context::{EvalCtxt, EvalStep};
+pub use error::EvalError;

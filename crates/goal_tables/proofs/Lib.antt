@@ -1,0 +1,9 @@
+pub mod Reading
+pub mod Made
+pub mod Heads
+pub mod Steps
+pub mod Sound
+pub mod Questions
+pub mod Whole
+pub mod Measures
+pub mod Complete

@@ -1,0 +1,4 @@
+pub mod Instances
+pub mod Terms
+pub mod Content
+pub mod Equations

@@ -1,0 +1,65 @@
+use Rattle.std.proofs.Common.{◌<◌, ◌⊎◌, true, false, List, ◌≡◌, ◌≤◌, length, max, ℕ, ◌+◌, ◌*◌, [], ◌∷◌, ◌++◌}
+use Rattle.search_steps.specs.Meaning.{Keeps, is_open, finished, answer_count}
+use Rattle.search_steps.specs.Computed.{Hears, IsGivenWithin}
+use Rattle.search_steps.specs.Stack.{question_of, path_onto, IsEntry, IsRunning, AreCached, IsLastWithin, AreLastWithin, AreCachedWithin}
+use Rattle.search_steps.specs.Plain.{IsNotPlain}
+use Rattle.search_steps.specs.Faithful.{AllDescend, IsOnPlainTrack, IsUntouched}
+use Rattle.search_graph.specs.Bound.{question_bound}
+use Rattle.search_graph.proofs.evaluation.+search.Given as goal
+
+abbrev pub decreases-ask : goal.decreases-ask
+decreases-ask g l = 4 * l.depth
+
+abbrev pub decreases-run_once : goal.decreases-run_once
+decreases-run_once g l = 4 * l.depth + 1
+
+abbrev pub decreases-evaluate_new : goal.decreases-evaluate_new
+decreases-evaluate_new g l = 4 * l.depth + 2
+
+abbrev pub decreases-evaluate : goal.decreases-evaluate
+decreases-evaluate g l = 4 * l.depth + 3
+
+abbrev pub invariant-evaluate_new-loop-run : goal.invariant-evaluate_new-loop-run
+invariant-evaluate_new-loop-run g l =
+    let m = g.D.Delegate.meaning in
+    record {
+      keeps : Keeps m l.fn.cx l.cx;
+      cache : AreCached m (m.world l.cx) l.cx l.cache.entries.items;
+      stack : l.search.stack.items ≡ l.fn.search.stack.items;
+      place : l.index ≡ length l.fn.search.stack.items;
+      input : l.entry.input ≡ l.fn.input;
+      kind : l.entry.step_kind ≡ l.fn.step_kind;
+      entry : IsEntry m (m.world l.fn.cx) (path_onto m l.fn.cx l.fn.search.stack.items []) l.cx l.entry;
+      room : l.dependencies.lowest ≤ length l.fn.search.stack.items;
+      untouched : IsUntouched m (m.world l.fn.cx) (l.depth + 1) (path_onto m l.fn.cx l.fn.search.stack.items []) (m.goal_of l.fn.cx l.fn.input) l.dependencies.encountered_overflow l.dependencies.lowest l.dependencies.heads.items;
+      frames : (width : ℕ) → m.number_of (m.world l.fn.cx) (m.goal_of l.fn.cx l.fn.input) ≤ width
+          → l.search.frames ≤ l.fn.search.frames + l._run * (1 + width * question_bound (max g.D.Delegate.FIXPOINT_STEP_LIMIT 1) width l.depth);
+      limits : l.fn.search.limits_met ≡ true → l.search.limits_met ≡ true;
+      within : (before : List (m.Goal × m.Answer)) → l.search.limits_met ≡ false → AreLastWithin m (m.world l.fn.cx) before l.fn.cx l.fn.search.stack.items → AreCachedWithin m (m.world l.fn.cx) before l.fn.cx l.fn.cache.entries.items
+          → AreCachedWithin m (m.world l.fn.cx) before l.cx l.cache.entries.items × IsLastWithin m (m.world l.fn.cx) before l.cx l.entry;
+      again : 0 < l._run → (limit : ℕ) → (limit ≤ l.depth + 1) ⊎ (l.dependencies.encountered_overflow ≡ false)
+          → AllDescend m (m.world l.fn.cx) limit l.dependencies.lowest (path_onto m l.fn.cx l.fn.search.stack.items []) (m.goal_of l.fn.cx l.fn.input) → IsNotPlain m (m.world l.fn.cx) limit (m.goal_of l.fn.cx l.fn.input);
+    }
+
+abbrev pub invariant-run_once-loop-request : goal.invariant-run_once-loop-request
+invariant-run_once-loop-request g l =
+    let m = g.D.Delegate.meaning in
+    record {
+      keeps : Keeps m l.fn.cx l.cx;
+      cache : AreCached m (m.world l.cx) l.cx l.cache.entries.items;
+      stack : l.search.stack.items ≡ l.fn.search.stack.items ++ l.fn.entry ∷ [];
+      room : l.dependencies.lowest ≤ length l.fn.search.stack.items;
+      running : IsRunning m (m.world l.fn.cx) (question_of m l.fn.cx l.fn.entry ∷ path_onto m l.fn.cx l.fn.search.stack.items []) (m.goal_of l.fn.cx l.fn.entry.input) l.dependencies.lowest l.cx l.frame l.request;
+      opened : l.candidates.open ≡ is_open m running.heard;
+      listed : l.candidates.finished.items ≡ finished m (m.world l.fn.cx) (m.goal_of l.fn.cx l.fn.entry.input) running.heard;
+      frames : (width : ℕ) → m.number_of (m.world l.fn.cx) (m.goal_of l.fn.cx l.fn.entry.input) ≤ width
+          → l.search.frames ≤ l.fn.search.frames + 1 + answer_count m running.heard * question_bound (max g.D.Delegate.FIXPOINT_STEP_LIMIT 1) width l.depth;
+      limits : l.fn.search.limits_met ≡ true → l.search.limits_met ≡ true;
+      within : (before : List (m.Goal × m.Answer)) → l.search.limits_met ≡ false → AreLastWithin m (m.world l.fn.cx) before l.fn.cx l.fn.search.stack.items → IsLastWithin m (m.world l.fn.cx) before l.fn.cx l.fn.entry
+          → AreCachedWithin m (m.world l.fn.cx) before l.fn.cx l.fn.cache.entries.items
+          → AreCachedWithin m (m.world l.fn.cx) before l.cx l.cache.entries.items × Hears m (m.world l.fn.cx) (IsGivenWithin m (m.world l.fn.cx) before) (m.goal_of l.fn.cx l.fn.entry.input) running.heard;
+      plain : IsOnPlainTrack m (m.world l.fn.cx) (l.depth + 1) (path_onto m l.fn.cx l.fn.search.stack.items []) (m.goal_of l.fn.cx l.fn.entry.input) l.dependencies.encountered_overflow l.dependencies.lowest l.dependencies.heads.items running.heard;
+    }
+
+abbrev pub decreases-run_once-loop-request : goal.decreases-run_once-loop-request
+decreases-run_once-loop-request g l = g.D.Delegate.steps_left l.frame

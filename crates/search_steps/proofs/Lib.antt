@@ -1,0 +1,6 @@
+pub mod Graphs
+pub mod Limits
+pub mod Plains
+pub mod Faithfuls
+pub mod Errors
+pub mod Caches

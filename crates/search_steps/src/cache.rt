@@ -1,0 +1,318 @@
+//! Results that hold whatever is being evaluated.
+
+ghost use Rattle.std.specs.Prelude.{◌≡◌, ◌+◌, ◌≤◌, ◌⊎◌, [], ℕ, IfOk, OnOk, IfSome, slice_get, true, false};
+ghost use Rattle.search_steps.specs.Meaning.{Keeps};
+ghost use Rattle.search_steps.specs.Plain.{IsNotPlain};
+ghost use Rattle.search_steps.specs.Faithful.{IsKept};
+ghost use Rattle.search_steps.specs.Stack.{IsProvisional, AreCached, IsWithin, AreCachedWithin};
+ghost use Rattle.search_steps.specs.Cache.{known_results, HasConflict};
+
+use crate::delegate::{Cx, Delegate, InputOf, ResultOf};
+use indexmap::{IndexMap, IndexSet};
+use search_paths::{GraphFault, NestedGoals, PathKind, Span};
+use std::alloc::{AllocError, Global};
+use type_terms::Fault;
+
+/// A result that rests on no goal of a stack. `CacheEntry` of `rustc_type_ir::search_graph`.
+#[derive(Drop)]
+pub struct CacheEntry<I, R> {
+    /// The goal.
+    pub input: I,
+    /// Its result.
+    pub result: R,
+    /// The depth that the goal needed, or after an overflow by depth the depth that it had.
+    pub depth: usize,
+    /// Whether a goal under this one was asked by a goal of depth 0.
+    pub encountered_overflow: bool,
+    /// The number of the goal.
+    pub number: usize,
+    /// The place of the goal's result that was cached before this one.
+    pub previous: Option<usize>,
+    /// The goals that were asked under it.
+    pub nested_goals: NestedGoals,
+}
+
+impl<I, R> CacheEntry<I, R> {
+    /// The goal and all that were asked under it lie in it.
+    fn span(&self) -> Span {
+        self.nested_goals.span.cover(Span::of(self.number))
+    }
+}
+
+/// A cached result as it is used.
+#[derive(Drop)]
+pub(crate) struct Cached<R> {
+    pub(crate) result: R,
+    pub(crate) depth: usize,
+    pub(crate) encountered_overflow: bool,
+}
+
+/// Whether a goal of this depth may use a result that needed that depth.
+fn is_usable(encountered_overflow: bool, needed: usize, depth: usize) -> bool
+    ensures overflow { result ≡ true → encountered_overflow ≡ true → needed ≡ depth }
+    ensures success { result ≡ true → encountered_overflow ≡ false → needed ≤ depth }
+{
+    if encountered_overflow {
+        needed == depth
+    } else {
+        needed <= depth
+    }
+}
+
+/// The results that a search keeps, found by their goals. They rest on no goal of a stack.
+pub struct CachedResults<D: Delegate> {
+    alloc: Global,
+    /// The goals that were asked, each with its place here as its number.
+    goals: IndexSet<InputOf<D>>,
+    /// The place of each goal's newest result.
+    newest: Vec<Option<usize>>,
+    /// The results, the oldest first.
+    pub entries: Vec<CacheEntry<InputOf<D>, ResultOf<D>>>,
+}
+
+impl<D: Delegate> Drop for CachedResults<D> {
+    fn drop(self) {
+        let CachedResults {
+            alloc: _,
+            goals: _,
+            newest: _,
+            entries: _,
+        } = self;
+    }
+}
+
+impl<D: Delegate> CachedResults<D> {
+    /// No results. It takes no memory yet.
+    pub fn new(alloc: Global) -> Self
+        ensures { result.entries.items ≡ [] }
+    {
+        CachedResults {
+            alloc,
+            goals: IndexSet::new(alloc),
+            newest: Vec::new(alloc),
+            entries: Vec::new(alloc),
+        }
+    }
+
+    /// The number of a goal, by one hash of its input unless it is new. It is refused as `copy_input` is.
+    pub fn number_of(&mut self, cx: &D::Cx, input: &InputOf<D>) -> Result<usize, GraphFault>
+        ensures entries { self.new.entries ≡ self.old.entries }
+        ensures no_conflict { result ≡ Err GraphFault.Conflict → ⊥ }
+        ensures in_order { result ≡ Err GraphFault.Protocol → ⊥ }
+    {
+        if let Some(number) = self.goals.get_index_of(input) {
+            return Ok(number);
+        }
+        let key = cx.copy_input(input)?;
+        self.newest.push(None)?;
+        let (number, _) = self.goals.insert_full(key)?;
+        Ok(number)
+    }
+
+    /// The place of a goal's newest result.
+    fn newest_of(&self, number: usize) -> Option<usize> {
+        match self.newest.get(number) {
+            Some(place) => *place,
+            None => None,
+        }
+    }
+
+    /// The place of a result for the goal that one of this depth may use over a stack with these goals.
+    pub(crate) fn find(
+        &self,
+        positions: &IndexMap<usize, usize>,
+        on_stack: Span,
+        number: usize,
+        input: &InputOf<D>,
+        depth: usize,
+    ) -> Result<Option<usize>, AllocError>
+        ensures { IfOk result (λ found. IfSome found (λ place. (e : _) × (slice_get self.now.entries.items place ≡ Some e) × (e.input ≡ input.now) × (e.encountered_overflow ≡ true → e.depth ≡ depth))) }
+    {
+        let mut next = self.newest_of(number);
+        for _ in 0..self.entries.len() {
+            let Some(place) = next else {
+                return Ok(None);
+            };
+            if place >= self.entries.len() {
+                return Ok(None);
+            }
+            let entry = &self.entries[place];
+            if entry.input == *input
+                && is_usable(entry.encountered_overflow, entry.depth, depth)
+                && self.is_clear_of(positions, on_stack, place)?
+            {
+                return Ok(Some(place));
+            }
+            next = entry.previous;
+        }
+        Ok(None)
+    }
+
+    /// Whether no goal that was asked under a result is on the stack.
+    fn is_clear_of(
+        &self,
+        positions: &IndexMap<usize, usize>,
+        on_stack: Span,
+        place: usize,
+    ) -> Result<bool, AllocError> {
+        let Some(entry) = self.entries.get(place) else {
+            return Ok(true);
+        };
+        if !entry.nested_goals.span.overlaps(on_stack) {
+            return Ok(true);
+        }
+        let mut reached: IndexSet<usize> = IndexSet::new(self.alloc);
+        reached.insert(place)?;
+        // Each round is for another place, so there are no more of them than entries.
+        for round in 0..self.entries.len() {
+            let Some(below) = reached.get_index(round).copied() else {
+                return Ok(true);
+            };
+            let Some(entry) = self.entries.get(below) else {
+                return Ok(true);
+            };
+            if round > 0 && positions.contains_key(&entry.number) {
+                return Ok(false);
+            }
+            for goal in &entry.nested_goals.goals {
+                if positions.contains_key(goal) {
+                    return Ok(false);
+                }
+            }
+            for cached in &entry.nested_goals.cached {
+                if self.span_of(*cached).overlaps(on_stack) {
+                    reached.insert(*cached)?;
+                }
+            }
+        }
+        Ok(true)
+    }
+
+    /// The goal of a result and all that were asked under it lie in it.
+    pub(crate) fn span_of(&self, place: usize) -> Span {
+        match self.entries.get(place) {
+            Some(entry) => entry.span(),
+            None => Span::empty(),
+        }
+    }
+
+    /// The result at a place.
+    pub(crate) fn get(
+        &self,
+        cx: &D::Cx,
+        place: usize,
+        input: &InputOf<D>,
+    ) -> Result<Cached<ResultOf<D>>, Fault>
+        requires cache { AreCached D.meaning (D.meaning.world cx.now) cx.now self.now.entries.items }
+        requires place { (e : _) × (slice_get self.now.entries.items place ≡ Some e) × (e.input ≡ input.now) }
+        ensures result { IfOk result (λ r. IsProvisional D.meaning (D.meaning.world cx.now) [] (D.meaning.goal_of cx.now input.now, PathKind.Inductive) 0 cx.now r.result) }
+        ensures kept { IfOk result (λ r. IsKept D.meaning (D.meaning.world cx.now) (D.meaning.goal_of cx.now input.now) (D.meaning.answer_of cx.now r.result) r.depth r.encountered_overflow) }
+        ensures within { IfOk result (λ r. (before : _) → AreCachedWithin D.meaning (D.meaning.world cx.now) before cx.now self.now.entries.items → IsWithin D.meaning (D.meaning.world cx.now) before (D.meaning.goal_of cx.now input.now) (D.meaning.answer_of cx.now r.result)) }
+        ensures entry { IfOk result (λ r. (e : _) × (slice_get self.now.entries.items place ≡ Some e) × (r.depth ≡ e.depth) × (r.encountered_overflow ≡ e.encountered_overflow)) }
+    {
+        let entry = &self.entries[place];
+        let copy = cx.copy_result(&entry.result)?;
+        Ok(Cached {
+            result: copy,
+            depth: entry.depth,
+            encountered_overflow: entry.encountered_overflow,
+        })
+    }
+
+    /// The place of a result for the goal that is of the same kind: a success, or an overflow at this depth.
+    fn find_alike(
+        &self,
+        number: usize,
+        input: &InputOf<D>,
+        depth: usize,
+        encountered_overflow: bool,
+    ) -> Option<usize>
+        ensures { IfSome result (λ place. (e : _) × (slice_get self.now.entries.items place ≡ Some e) × (e.input ≡ input.now) × (e.encountered_overflow ≡ encountered_overflow) × (e.encountered_overflow ≡ true → e.depth ≡ depth)) }
+    {
+        let mut next = self.newest_of(number);
+        for _ in 0..self.entries.len() {
+            let place = next?;
+            if place >= self.entries.len() {
+                return None;
+            }
+            let entry = &self.entries[place];
+            if entry.input == *input
+                && entry.encountered_overflow == encountered_overflow
+                && is_alike(entry.encountered_overflow, entry.depth, depth)
+            {
+                return Some(place);
+            }
+            next = entry.previous;
+        }
+        None
+    }
+
+    /// Whether the cache has another result of the input, where both are successes or both overflows at one depth.
+    fn differs(
+        &self,
+        number: usize,
+        input: &InputOf<D>,
+        found: &ResultOf<D>,
+        depth: usize,
+        encountered_overflow: bool,
+    ) -> bool
+        ensures { result ≡ true → (place : ℕ) × (e : _) × (slice_get self.now.entries.items place ≡ Some e) × (e.input ≡ input.now) × (e.encountered_overflow ≡ encountered_overflow) × (D.Cx.Result.eq e.result found.now ≡ false) }
+    {
+        match self.find_alike(number, input, depth, encountered_overflow) {
+            Some(place) => {
+                let entry = &self.entries[place];
+                entry.result != *found
+            }
+            None => false,
+        }
+    }
+
+    /// Keeps a result that rests on no goal of the stack, and answers its place.
+    pub(crate) fn insert(
+        &mut self,
+        cx: &D::Cx,
+        number: usize,
+        input: InputOf<D>,
+        found: &ResultOf<D>,
+        depth: usize,
+        encountered_overflow: bool,
+        nested_goals: NestedGoals,
+    ) -> Result<usize, GraphFault>
+        requires cache { AreCached D.meaning (D.meaning.world cx.now) cx.now self.old.entries.items }
+        requires input { D.meaning.IsInput cx.now input }
+        requires result { IsProvisional D.meaning (D.meaning.world cx.now) [] (D.meaning.goal_of cx.now input, PathKind.Inductive) 0 cx.now found.now }
+        requires kept { IsKept D.meaning (D.meaning.world cx.now) (D.meaning.goal_of cx.now input) (D.meaning.answer_of cx.now found.now) depth encountered_overflow }
+        ensures cache { AreCached D.meaning (D.meaning.world cx.now) cx.now self.new.entries.items }
+        ensures within { OnOk result ((before : _) → AreCachedWithin D.meaning (D.meaning.world cx.now) before cx.now self.old.entries.items → IsWithin D.meaning (D.meaning.world cx.now) before (D.meaning.goal_of cx.now input) (D.meaning.answer_of cx.now found.now) → AreCachedWithin D.meaning (D.meaning.world cx.now) before cx.now self.new.entries.items) }
+        ensures no_conflict { result ≡ Err GraphFault.Conflict → (limit : ℕ) → (limit ≤ depth + 1) ⊎ (encountered_overflow ≡ false) → IsNotPlain D.meaning (D.meaning.world cx.now) limit (D.meaning.goal_of cx.now input) }
+        ensures conflict { result ≡ Err GraphFault.Conflict → HasConflict D.meaning cx.now (known_results self.new.entries.items) }
+        ensures in_order { result ≡ Err GraphFault.Protocol → ⊥ }
+    {
+        if self.differs(number, &input, found, depth, encountered_overflow) {
+            return Err(GraphFault::Conflict);
+        }
+        let result = cx.copy_result(found)?;
+        let place = self.entries.len();
+        let previous = self.newest_of(number);
+        self.entries.push(CacheEntry {
+            input,
+            result,
+            depth,
+            encountered_overflow,
+            number,
+            previous,
+            nested_goals,
+        })?;
+        if number < self.newest.len() {
+            self.newest[number] = Some(place);
+        }
+        Ok(place)
+    }
+}
+
+/// Whether two overflows had one depth; successes are alike at any.
+fn is_alike(encountered_overflow: bool, one: usize, other: usize) -> bool
+    ensures { result ≡ true → encountered_overflow ≡ true → one ≡ other }
+{
+    !encountered_overflow || one == other
+}
