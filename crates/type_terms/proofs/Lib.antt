@@ -4,5 +4,7 @@ pub mod Labels
 pub mod Equal
 pub mod InfoFacts
 pub mod Sorts
+pub mod Made
+pub mod MadeFacts
 pub mod Bounded
 pub mod Unique

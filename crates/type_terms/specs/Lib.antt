@@ -1,4 +1,5 @@
 pub mod Variance
+pub mod Made
 pub mod Terms
 pub mod Kinds
 pub mod Nodes

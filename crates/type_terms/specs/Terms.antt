@@ -1,10 +1,11 @@
 -- What a contract sees of an interner: the terms that it has, in the order in which they were made.
-use Rattle.std.specs.Prelude.{◌≡◌, ℕ, List, [], ◌∷◌, ◌++◌, Option, Some, None, refl, count_by, ◌==◌, ◌⊎◌}
+use Rattle.std.specs.Prelude.{◌≡◌, ℕ, List, [], ◌∷◌, ◌++◌, Option, Some, None, refl, count_by, ◌==◌, ◌⊎◌, ◌≢◌, true}
 use Rattle.std.specs.List.{slice_get}
 use Rattle.std.specs.Coded.{Coded, code_by, coded×, coded_ℕ, coded_list}
-use Rattle.model.specs.Label.{of_type, of_const}
-use Rattle.model.specs.Trees.{Trees, none, IsA}
+use Rattle.model.specs.Label.{Label, of_type, of_const, of_lifetime}
+use Rattle.model.specs.Trees.{Trees, none, leaf, ◌+++◌, sort_of, IsA}
 use Rattle.model.specs.Codes.{trees_code}
+use Rattle.type_terms.specs.Made.{terms, bounds, is_made, is_in_range}
 
 -- a term: which kind of handle it has, and its trees (one tree for a type or a constant)
 pub record Entry : Type 0 where
@@ -91,7 +92,16 @@ pub record Sorted (e : Entry) : Type 0 where
 abbrev pub AllSorted : List Entry → Type 0
 AllSorted es = (i : ℕ) (e : Entry) → slice_get es i ≡ Some e → Sorted e
 
+-- a term is made as it is to be, and so are bounds once a lifetime ends them
+pub record Made (e : Entry) : Type 0 where
+  pub as_terms : e.kind ≢ bounds_lists → is_made is_in_range terms e.trees ≡ true
+  pub as_bounds : e.kind ≡ bounds_lists → (l : Label) → sort_of l ≡ of_lifetime → is_in_range l ≡ true → is_made is_in_range bounds (e.trees +++ leaf l) ≡ true
+
+abbrev pub AllMade : List Entry → Type 0
+AllMade es = (i : ℕ) (e : Entry) → slice_get es i ≡ Some e → Made e
+
 -- what is true of the terms of every interner
 pub record Lawful (es : List Entry) : Type 0 where
   pub sorted : AllSorted es
+  pub made : AllMade es
   pub distinct : Distinct es

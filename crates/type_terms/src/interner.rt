@@ -375,8 +375,10 @@ impl Interner {
         self.info(handle.number()).depth
     }
 
-    /// What is true of the terms of every interner: handles of one kind are equal exactly if their trees are,
-    /// and a type stands for one type, a constant for one constant. It does nothing when it runs.
+    /// What is true of the terms of every interner: handles of one kind are equal exactly if their trees are, a
+    /// type stands for one type, a constant for one constant, and terms are made as they are to be. Lifetimes and
+    /// variables are leaves, no variable has a number above `MAX_INDEX`, and a `dyn` type has its principal trait
+    /// if any, then its auto traits, then its lifetime. It does nothing when it runs.
     pub fn lawful(&self)
         ensures { Lawful self.now.entries }
     {
