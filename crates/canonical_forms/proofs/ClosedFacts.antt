@@ -1,13 +1,12 @@
 -- Terms in which nothing is open.
-use Rattle.std.proofs.Common.{◌≡◌, ℕ, zero, suc, Bool, true, false, refl, ap, sym, ◌∙◌, List, [], ◌∷◌, Option, Some, None, is_some, if◌then◌else◌, arith, min, max, ◌==◌}
+use Rattle.std.proofs.Common.{◌≡◌, ℕ, Bool, true, false, refl, ap, sym, ◌∙◌, List, is_some, if◌then◌else◌, arith, min, max, ◌==◌}
 use Rattle.std.proofs.lemmas.Bool.Decides.{nat_tests}
 use Rattle.std.specs.Prelude.{bit_and, bit_or}
 use Rattle.std.specs.Int.{bit_at}
 use Rattle.std.proofs.lemmas.Nat.Bits.{bit_at_and, bit_at_or, bit_at-zero, same_from_bits}
-use Rattle.model.specs.Label.{Label, of_type, of_const, of_lifetime, infer, param, placeholder, canonical, static, bound, fn_ptr, principal}
+use Rattle.model.specs.Label.{Label, of_type, of_const, of_lifetime, infer, param, placeholder}
 use Rattle.model.specs.Trees.{Trees, none, tree, flags, label_flags}
-use Rattle.infer_table.specs.declared.canonical.CanonicalVarKind.{CanonicalVarKind}
-use Rattle.infer_table.specs.Canonical.{kind_in_clause, kind_of_leaf, leaves, relabeled, with_label}
+use Rattle.infer_table.specs.Canonical.{kind_in_clause, leaves, relabeled, with_label}
 use Rattle.canonical_forms.specs.Leaves.{is_closed, OpenAreLeaves}
 
 low-part : (x y z : ℕ) → min (max x y) z ≡ 0 → min x z ≡ 0

@@ -1,10 +1,9 @@
 -- A visit by the collector lists the open leaves.
-use Rattle.std.proofs.Common.{◌≡◌, ℕ, Bool, true, false, refl, ap, sym, ◌∙◌, subst, List, [], ◌∷◌, ◌++◌, map, Option, Some, None, is_some, IsSome, if◌then◌else◌, zero, suc, ◌+◌, ◌<◌, ◌≤◌, length, take, drop, get_or, arith}
+use Rattle.std.proofs.Common.{◌≡◌, ℕ, Bool, true, false, refl, ap, sym, ◌∙◌, subst, List, [], ◌∷◌, ◌++◌, Option, None, is_some, IsSome, if◌then◌else◌, ◌+◌, ◌<◌, ◌≤◌, length, drop, get_or, arith}
 use Rattle.std.proofs.lemmas.Grind.{common_steps}
 use Rattle.model.specs.Label.{Label, static}
 use Rattle.model.specs.Trees.{Trees, none, tree, leaf, ◌+++◌}
-use Rattle.type_terms.specs.Terms.{Entry, trees_at}
-use Rattle.type_terms.specs.Kinds.{region_trees}
+use Rattle.type_terms.specs.Terms.{Entry}
 use Rattle.type_terms.specs.declared.Fault.{Fault}
 use Rattle.term_traversal.specs.declared.visit.Seen.{Seen}
 use Rattle.term_traversal.specs.declared.visit.Seen.TheVariants.{Break, Enter, Pass}
@@ -15,7 +14,7 @@ use Rattle.term_traversal.specs.Pieces.{one_piece}
 use Rattle.term_traversal.specs.Visits.{Visits, ended, passed, broken, entered, broken_below, VisitsEach, ended_each, next_each, broken_each}
 use Rattle.infer_table.specs.Canonical.{OpenKinds, kind_of_leaf, kind_in_clause, leaves, with_label}
 use Rattle.canonical_forms.specs.declared.canonicalizer.LeafCollector.{LeafCollector}
-use Rattle.canonical_forms.specs.Goals.{clause_label, clause_terms, environment_trees}
+use Rattle.canonical_forms.specs.Goals.{clause_terms, environment_trees}
 use Rattle.canonical_forms.specs.Leaves.{open_kinds, labels, root_label, AreOpen, OpenAreLeaves, Adds, Collects}
 use Rattle.canonical_forms.specs.LeafLaws.{Collecting}
 

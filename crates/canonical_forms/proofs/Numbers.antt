@@ -1,15 +1,14 @@
 -- The numbering folder numbers the open leaves.
-use Rattle.std.proofs.Common.{◌≡◌, ℕ, Bool, true, false, refl, ap, sym, ◌∙◌, List, [], ◌∷◌, Option, Some, None, is_some, if◌then◌else◌, ◌&&◌, zero, suc, ◌+◌, ◌<◌, ◌++◌, length, take, get_or, arith, subst}
+use Rattle.std.proofs.Common.{◌≡◌, ℕ, Bool, true, false, refl, ap, sym, ◌∙◌, List, [], ◌∷◌, is_some, if◌then◌else◌, ◌&&◌, zero, suc, ◌+◌, ◌<◌, ◌++◌, length, take, get_or, arith, subst}
 use Rattle.model.specs.Label.{Label, principal}
 use Rattle.model.specs.Trees.{Trees, none, tree, ◌+++◌, Single}
 use Rattle.type_terms.specs.Terms.{Entry, trees_at, Keeps, types, args_lists}
 use Rattle.type_terms.specs.Kinds.{region_trees}
-use Rattle.term_folds.specs.declared.predicate.TraitPredicate.{TraitPredicate}
 use Rattle.term_folds.specs.declared.predicate.Clause.{Clause}
 use Rattle.term_folds.specs.declared.predicate.Clause.TheVariants.{Trait, RegionOutlives, TypeOutlives}
 use Rattle.term_folds.specs.Clauses.{ClauseHeld, clause_outline, clause_pieces, clause-held-later, clause-pieces-later}
 use Rattle.term_traversal.specs.Folds.{Does, enters, puts, Folds, Answers}
-use Rattle.term_traversal.specs.declared.fold.Answer.TheVariants.{Enter, Replace, Again}
+use Rattle.term_traversal.specs.declared.fold.Answer.TheVariants.{Enter, Replace}
 use Rattle.term_traversal.specs.Pieces.{FoldsEach, one_piece}
 use Rattle.term_traversal.specs.Kept.{has-later, trees-later}
 use Rattle.term_traversal.proofs.Items.{take-push}

@@ -3,7 +3,6 @@ use Rattle.std.specs.Prelude.{◌≡◌, List, map, Some}
 use Rattle.type_terms.specs.Terms.{Entry}
 use Rattle.infer_table.specs.Canonical.{GoalTrees, CanonicalForm, canonical_form, HasNoCanonical, AreRenamings}
 use Rattle.infer_table.specs.declared.goal.TypingMode.{TypingMode}
-use Rattle.canonical_forms.specs.declared.goal.Goal.{Goal}
 use Rattle.canonical_forms.specs.declared.input.CanonicalInput.{CanonicalInput}
 use Rattle.canonical_forms.specs.Goals.{GoalHeld, goal_trees}
 

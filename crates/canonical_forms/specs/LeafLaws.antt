@@ -1,17 +1,15 @@
 -- What collecting and numbering keep to, as the traits of folders and visitors ask.
-use Rattle.std.specs.Prelude.{◌≡◌, ℕ, Bool, true, false, List, [], ◌∷◌, map, is_some, if◌then◌else◌, ◌&&◌, refl}
-use Rattle.std.proofs.Common.{ap, sym, ◌∙◌, cond}
+use Rattle.std.specs.Prelude.{◌≡◌, ℕ, Bool, true, false, List, [], ◌∷◌, is_some, if◌then◌else◌, ◌&&◌, refl}
+use Rattle.std.proofs.Common.{ap, sym, ◌∙◌}
 use Rattle.model.specs.Label.{Label, principal, auto_trait}
 use Rattle.model.specs.Trees.{Trees, none, tree, leaf}
 use Rattle.type_terms.specs.Terms.{Entry, Keeps}
-use Rattle.type_terms.specs.Kinds.{ArgHeld, arg_trees}
 use Rattle.type_terms.specs.declared.Fault.{Fault}
 use Rattle.type_terms.specs.declared.kinds.GenericArgKind.{GenericArgKind}
 use Rattle.term_traversal.specs.declared.visit.Seen.{Seen}
 use Rattle.term_traversal.specs.declared.visit.Seen.TheVariants.{Enter}
 use Rattle.term_traversal.specs.Folds.{Does, enters, puts, again, IsBound}
 use Rattle.term_traversal.specs.Kept.{arg-held-later, arg-trees-later}
-use Rattle.infer_table.specs.Canonical.{canonical_label, relabeled}
 use Rattle.canonical_forms.specs.declared.canonicalizer.LeafCollector.{LeafCollector}
 use Rattle.canonical_forms.specs.Leaves.{open_kinds, root_label, leaf_label, labels, IsLeaf, AreLeaves, Collects, is_closed, is_type_label, numbering}
 

@@ -1,4 +1,4 @@
-use Rattle.std.proofs.Common.{◌≡◌, ◌≤◌, length, false, [], drop, refl, ap, sym, ◌∙◌, subst, arith}
+use Rattle.std.proofs.Common.{◌≡◌, ◌≤◌, length, false, [], drop, ap, sym, ◌∙◌, subst, arith}
 use Rattle.type_terms.specs.Terms.{trees_at}
 use Rattle.term_folds.specs.Clauses.{ClauseHeld}
 use Rattle.infer_table.specs.Canonical.{kind_in_clause, kind_of_leaf, leaves}
@@ -7,7 +7,7 @@ use Rattle.canonical_forms.specs.Goals.{ClausesHeld, environment_trees}
 use Rattle.canonical_forms.specs.Leaves.{labels, OpenAreLeaves}
 use Rattle.canonical_forms.specs.declared.canonicalizer.LeafCollector.{LeafCollector}
 use Rattle.canonical_forms.proofs.Numbers.{clause-held-at}
-use Rattle.canonical_forms.proofs.Collections.{Collected, clause-collected, predicate-collected, one-more-clause, one-more-only, drop-past}
+use Rattle.canonical_forms.proofs.Collections.{clause-collected, predicate-collected, one-more-clause, one-more-only, drop-past}
 use Rattle.canonical_forms.proofs.input.collect_leaves.Goals as goal
 
 pub visit_with-requires-clause-held : goal.visit_with-requires-clause-held

@@ -1,4 +1,4 @@
-use Rattle.std.proofs.Common.{◌≡◌, [], ◌∷◌, ℕ, true, false, refl, ap, sym, ◌∙◌, Err}
+use Rattle.std.proofs.Common.{◌≡◌, [], ◌∷◌, ℕ, true, ap, ◌∙◌, Err}
 use Rattle.model.specs.Label.{principal}
 use Rattle.model.specs.Trees.{tree, none}
 use Rattle.type_terms.specs.Terms.{trees_at, args_lists}

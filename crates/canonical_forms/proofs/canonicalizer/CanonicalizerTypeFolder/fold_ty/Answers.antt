@@ -1,4 +1,4 @@
-use Rattle.std.proofs.Common.{ap, Err, arith, ◌≡◌, Bool, true, false, refl, sym, ◌∙◌, ◌&&◌, is_some}
+use Rattle.std.proofs.Common.{ap, Err, arith, ◌≡◌, Bool, true, false, refl, sym, ◌∙◌, ◌&&◌}
 use Rattle.model.specs.Trees.{Single}
 use Rattle.type_terms.specs.Terms.{trees_at, types}
 use Rattle.type_terms.proofs.Sorts.{type-single}
@@ -6,7 +6,7 @@ use Rattle.term_traversal.specs.Binders.{counts_of}
 use Rattle.term_traversal.specs.Kept.{is-at}
 use Rattle.term_traversal.proofs.FoldFacts.{TyIs}
 use Rattle.term_traversal.proofs.FailFacts.{faulted, refused-term}
-use Rattle.canonical_forms.specs.Leaves.{open_kinds, labels, root_label, is_closed, is_type_label, numbering}
+use Rattle.canonical_forms.specs.Leaves.{labels, root_label, is_closed, is_type_label, numbering}
 use Rattle.canonical_forms.proofs.Numbers.{enters-at, stays-at, says-stays, says-enters}
 use Rattle.canonical_forms.proofs.canonicalizer.CanonicalizerTypeFolder.fold_ty.Goals as goal
 use Rattle.canonical_forms.proofs.canonicalizer.CanonicalizerTypeFolder.fold_ty.Goals.{then-self, else-self}

@@ -1,4 +1,4 @@
-use Rattle.std.proofs.Common.{◌≡◌, true, refl, sym, ◌∙◌}
+use Rattle.std.proofs.Common.{◌≡◌, true, refl, sym}
 use Rattle.canonical_forms.specs.Leaves.{labels, is_closed}
 use Rattle.type_terms.specs.Terms.{trees_at}
 use Rattle.canonical_forms.proofs.ClosedFacts.{closed-leaves, closed-only}
