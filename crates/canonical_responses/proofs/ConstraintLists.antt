@@ -38,7 +38,7 @@ pub constraints-held-push : (es : List Entry) (xs : List RegionConstraint) (y : 
 constraints-held-push es [] y h g = (g, tt)
 constraints-held-push es (x ∷ xs) y h g = (h.0, constraints-held-push es xs y h.1 g)
 
-constraints-append : (es : List Entry) (xs ys : List RegionConstraint) → constraints_trees es (xs ++ ys) ≡ constraints_trees es xs +++ constraints_trees es ys
+pub constraints-append : (es : List Entry) (xs ys : List RegionConstraint) → constraints_trees es (xs ++ ys) ≡ constraints_trees es xs +++ constraints_trees es ys
 constraints-append es [] ys = refl
 constraints-append es (x ∷ xs) ys = ap (λ z. tree (constraint_label x) (constraint_terms es x) z) (constraints-append es xs ys)
 

@@ -15,15 +15,18 @@ use Rattle.type_terms.proofs.Sorts.{bound-sort, arg-single}
 use Rattle.term_traversal.specs.Kept.{is-at}
 use Rattle.infer_table.specs.Solutions.{Assignment, tree_of, instance, is_variable, IsSorted, Binding, Solves, Equates, HasNoSolution}
 use Rattle.infer_table.specs.Content.{Table, variables_of}
+use Rattle.infer_table.specs.Unification.{TableTrees, table_trees}
 use Rattle.infer_table.specs.declared.canonical.CanonicalVarKind.{CanonicalVarKind}
 use Rattle.infer_table.specs.declared.canonical.CanonicalVarKind.TheVariants.{Ty, PlaceholderTy, Const, PlaceholderConst, Region}
 use Rattle.infer_table.proofs.SolutionLaws.{is_variable-equal, is_variable-self, is_sort-self, instance-append}
 use Rattle.infer_table.proofs.EquationFacts.{erase-sort}
 use Rattle.canonical_forms.specs.declared.response.CanonicalResponse.{CanonicalResponse}
 use Rattle.canonical_forms.specs.Leaves.{root_label, leaf_label}
-use Rattle.canonical_forms.specs.Values.{Value, sort_of_arg, value_of, if_of_sort, value_for, filled}
+use Rattle.canonical_forms.specs.Values.{Value, sort_of_arg, value_of, values_of, if_of_sort, value_for, filled}
 use Rattle.canonical_responses.specs.Raw.{sort_of_kind}
-use Rattle.canonical_responses.specs.Applying.{is_numbered, original_of, next_unknown, with_unknown, table_after, values_for, known_value, applied_values}
+use Rattle.canonical_responses.specs.Responses.{answer_trees}
+use Rattle.canonical_responses.specs.Applying.{is_numbered, next_unknown, with_unknown, unknowns_of, table_after, values_for, known_value, applied_values}
+use Rattle.canonical_responses.proofs.Values.{own_of, own-value}
 use Rattle.canonical_responses.specs.Covers.{chosen, Agrees, AreNumbered, AreKnown, Continues, IsOfKnown}
 
 tree-cong : (l m : Label) (c c' o o' : Trees) → l ≡ m → c ≡ c' → o ≡ o' → tree l c o ≡ tree m c' o'
@@ -151,7 +154,7 @@ record IsValueFor (es : List Entry) (q s : Assignment) (counts : Sort → ℕ) (
 
 module _ (es : List Entry) (law : Lawful es) (ks : List CanonicalVarKind) (q s : Assignment) (q-sorted : IsSorted q) (s-sorted : IsSorted s) (counts : Sort → ℕ) (i : ℕ) (j : Sort) (kind : option_map sort_of_kind (slice_get ks i) ≡ Some j) where
   original-is : (vs os : List GenericArgKind) (a : GenericArgKind) → ArgsHeld es vs → ArgsHeld es os → AreNumbered ks (args_trees es vs) → AreKnown counts (args_trees es os)
-      → chosen q (args_trees es vs) ≡ instance s (args_trees es os) → original_of es i vs os ≡ Some a → IsValueFor es q s counts j i a
+      → chosen q (args_trees es vs) ≡ instance s (args_trees es os) → own_of es i vs os ≡ Some a → IsValueFor es q s counts j i a
   original-is [] os a hv ho n k e f = cc
   original-is (v ∷ vs) [] a hv ho n k e f = cc
   original-is (v ∷ vs) (o ∷ os) a hv ho n k e f =
@@ -171,11 +174,11 @@ module _ (es : List Entry) (law : Lawful es) (ks : List CanonicalVarKind) (q s :
             known = (known-parts counts (arg_trees es o) (args_trees es os) k).0;
           }
 
-      by : (b : Bool) → is_numbered i (leaf_label es v) ≡ b → (if is_numbered i (leaf_label es v) then Some o else original_of es i vs os) ≡ Some a
-          → (original_of es i vs os ≡ Some a → IsValueFor es q s counts j i a) → IsValueFor es q s counts j i a
-      by true b g rest = let same : o ≡ a = some-is o a (sym (ap (λ (x : Bool). if x then Some o else original_of es i vs os) b) ∙ g) in subst (IsValueFor es q s counts j i) same (first b)
+      by : (b : Bool) → is_numbered i (leaf_label es v) ≡ b → (if is_numbered i (leaf_label es v) then Some o else own_of es i vs os) ≡ Some a
+          → (own_of es i vs os ≡ Some a → IsValueFor es q s counts j i a) → IsValueFor es q s counts j i a
+      by true b g rest = let same : o ≡ a = some-is o a (sym (ap (λ (x : Bool). if x then Some o else own_of es i vs os) b) ∙ g) in subst (IsValueFor es q s counts j i) same (first b)
       by false b g rest =
-          rest (sym (ap (λ (x : Bool). if x then Some o else original_of es i vs os) b) ∙ g)
+          rest (sym (ap (λ (x : Bool). if x then Some o else own_of es i vs os) b) ∙ g)
 
 -- ---- an assignment, continued to the new unknowns
 abbrev given : Sort → ℕ → Label × Trees → Assignment → Assignment
@@ -201,7 +204,7 @@ given-sorted j w n s e h k v = by (is_variable j w k v) refl
     by true p = ap (λ (b : Bool). sort_of (if b then n else s k v).0) p ∙ e ∙ (is_variable-equal j k w v p).0
     by false p = ap (λ (b : Bool). sort_of (if b then n else s k v).0) p ∙ h k v
 
-grown : (o : Option Value) (t : Table) (k : CanonicalVarKind) (j : Sort) → variables_of t j ≤ variables_of (table_after o t k) j
+pub grown : (o : Option Value) (t : TableTrees) (k : CanonicalVarKind) (j : Sort) → unknowns_of t j ≤ unknowns_of (table_after o t k) j
 grown (Some x) t k j = omega arith
 grown None t Ty of_type = omega arith
 grown None t Ty of_const = omega arith
@@ -219,7 +222,7 @@ grown None t Region of_type = omega arith
 grown None t Region of_const = omega arith
 grown None t Region of_lifetime = omega arith
 
-one-more : (t : Table) (k : CanonicalVarKind) → variables_of (with_unknown t k) (sort_of_kind k) ≡ variables_of t (sort_of_kind k) + 1
+one-more : (t : TableTrees) (k : CanonicalVarKind) → unknowns_of (with_unknown t k) (sort_of_kind k) ≡ unknowns_of t (sort_of_kind k) + 1
 one-more t Ty = refl
 one-more t PlaceholderTy = refl
 one-more t Const = refl
@@ -230,7 +233,7 @@ one-more t Region = refl
 abbrev unknown_value : Sort → ℕ → Value
 unknown_value j v = record { sort = j; trees = leaf (infer j v) }
 
-next-is : (t : Table) (k : CanonicalVarKind) → next_unknown t k ≡ unknown_value (sort_of_kind k) (variables_of t (sort_of_kind k))
+next-is : (t : TableTrees) (k : CanonicalVarKind) → next_unknown t k ≡ unknown_value (sort_of_kind k) (unknowns_of t (sort_of_kind k))
 next-is t Ty = refl
 next-is t PlaceholderTy = refl
 next-is t Const = refl
@@ -238,70 +241,70 @@ next-is t PlaceholderConst = refl
 next-is t Region = refl
 
 module _ (known : ℕ → Option Value) (q : Assignment) where
-  abbrev with_choice : Option Value → Table → ℕ → CanonicalVarKind → Assignment → Assignment
+  abbrev with_choice : Option Value → TableTrees → ℕ → CanonicalVarKind → Assignment → Assignment
   with_choice (Some x) t i k s = s
-  with_choice None t i k s = given (sort_of_kind k) (variables_of t (sort_of_kind k)) (q (sort_of_kind k) i) s
+  with_choice None t i k s = given (sort_of_kind k) (unknowns_of t (sort_of_kind k)) (q (sort_of_kind k) i) s
 
   -- each new unknown is given what is chosen for its variable
-  abbrev continued : Table → ℕ → List CanonicalVarKind → Assignment → Assignment
+  abbrev continued : TableTrees → ℕ → List CanonicalVarKind → Assignment → Assignment
   continued t i [] s = s
   continued t i (k ∷ ks) s = with_choice (known i) t i k (continued (table_after (known i) t k) (i + 1) ks s)
 
-  choice-keeps : (o : Option Value) (t : Table) (i : ℕ) (k : CanonicalVarKind) (s : Assignment) (j : Sort) (v : ℕ) → v < variables_of t j → with_choice o t i k s j v ≡ s j v
+  choice-keeps : (o : Option Value) (t : TableTrees) (i : ℕ) (k : CanonicalVarKind) (s : Assignment) (j : Sort) (v : ℕ) → v < unknowns_of t j → with_choice o t i k s j v ≡ s j v
   choice-keeps (Some x) t i k s j v h = refl
   choice-keeps None t i k s j v h =
-      given-other (sort_of_kind k) (variables_of t (sort_of_kind k)) (q (sort_of_kind k) i) s j v
-      (apart (sort_of_kind k) j (variables_of t (sort_of_kind k)) v (λ p e. let same : variables_of t (sort_of_kind k) ≡ variables_of t j = ap (variables_of t) p in omega (arith, same, e, h)))
+      given-other (sort_of_kind k) (unknowns_of t (sort_of_kind k)) (q (sort_of_kind k) i) s j v
+      (apart (sort_of_kind k) j (unknowns_of t (sort_of_kind k)) v (λ p e. let same : unknowns_of t (sort_of_kind k) ≡ unknowns_of t j = ap (unknowns_of t) p in omega (arith, same, e, h)))
 
-  choice-above : (o : Option Value) (t : Table) (i : ℕ) (k : CanonicalVarKind) (s : Assignment) (j : Sort) (v : ℕ) → variables_of (table_after o t k) j ≤ v → with_choice o t i k s j v ≡ s j v
+  choice-above : (o : Option Value) (t : TableTrees) (i : ℕ) (k : CanonicalVarKind) (s : Assignment) (j : Sort) (v : ℕ) → unknowns_of (table_after o t k) j ≤ v → with_choice o t i k s j v ≡ s j v
   choice-above (Some x) t i k s j v h = refl
   choice-above None t i k s j v h =
-      given-other (sort_of_kind k) (variables_of t (sort_of_kind k)) (q (sort_of_kind k) i) s j v
-      (apart (sort_of_kind k) j (variables_of t (sort_of_kind k)) v
-      (λ p e. let same : variables_of (with_unknown t k) (sort_of_kind k) ≡ variables_of (with_unknown t k) j = ap (variables_of (with_unknown t k)) p in let more = one-more t k in omega (arith, same, more, e, h)))
+      given-other (sort_of_kind k) (unknowns_of t (sort_of_kind k)) (q (sort_of_kind k) i) s j v
+      (apart (sort_of_kind k) j (unknowns_of t (sort_of_kind k)) v
+      (λ p e. let same : unknowns_of (with_unknown t k) (sort_of_kind k) ≡ unknowns_of (with_unknown t k) j = ap (unknowns_of (with_unknown t k)) p in let more = one-more t k in omega (arith, same, more, e, h)))
 
-  continued-keeps : (t : Table) (i : ℕ) (ks : List CanonicalVarKind) (s : Assignment) → Continues (variables_of t) s (continued t i ks s)
+  continued-keeps : (t : TableTrees) (i : ℕ) (ks : List CanonicalVarKind) (s : Assignment) → Continues (unknowns_of t) s (continued t i ks s)
   continued-keeps t i [] s j v h = refl
   continued-keeps t i (k ∷ ks) s j v h =
       let after = table_after (known i) t k in
       let le = grown (known i) t k j in
-      let lt : v < variables_of after j = omega (arith, le, h) in
+      let lt : v < unknowns_of after j = omega (arith, le, h) in
       choice-keeps (known i) t i k (continued after (i + 1) ks s) j v h ∙ continued-keeps after (i + 1) ks s j v lt
 
-  choice-sorted : (o : Option Value) (t : Table) (i : ℕ) (k : CanonicalVarKind) (s : Assignment) → IsSorted q → IsSorted s → IsSorted (with_choice o t i k s)
+  choice-sorted : (o : Option Value) (t : TableTrees) (i : ℕ) (k : CanonicalVarKind) (s : Assignment) → IsSorted q → IsSorted s → IsSorted (with_choice o t i k s)
   choice-sorted (Some x) t i k s g h = h
-  choice-sorted None t i k s g h = given-sorted (sort_of_kind k) (variables_of t (sort_of_kind k)) (q (sort_of_kind k) i) s (g (sort_of_kind k) i) h
+  choice-sorted None t i k s g h = given-sorted (sort_of_kind k) (unknowns_of t (sort_of_kind k)) (q (sort_of_kind k) i) s (g (sort_of_kind k) i) h
 
-  continued-sorted : (t : Table) (i : ℕ) (ks : List CanonicalVarKind) (s : Assignment) → IsSorted q → IsSorted s → IsSorted (continued t i ks s)
+  continued-sorted : (t : TableTrees) (i : ℕ) (ks : List CanonicalVarKind) (s : Assignment) → IsSorted q → IsSorted s → IsSorted (continued t i ks s)
   continued-sorted t i [] s g h = h
   continued-sorted t i (k ∷ ks) s g h =
       choice-sorted (known i) t i k (continued (table_after (known i) t k) (i + 1) ks s) g (continued-sorted (table_after (known i) t k) (i + 1) ks s g h)
 
   -- a new unknown, which the assignment gives what is chosen for variable i
-  record IsChosen (S : Assignment) (t : Table) (j : Sort) (i : ℕ) (x : Value) : Type 0 where
+  record IsChosen (S : Assignment) (t : TableTrees) (j : Sort) (i : ℕ) (x : Value) : Type 0 where
     var : ℕ
     is : x ≡ unknown_value j var
-    new : variables_of t j ≤ var
+    new : unknowns_of t j ≤ var
     chosen_for : S j var ≡ q j i
 
-  abbrev Put : Assignment → Table → Sort → ℕ → Value → Type 0
+  abbrev Put : Assignment → TableTrees → Sort → ℕ → Value → Type 0
   Put S t j i x = (known i ≡ Some x) ⊎ IsChosen S t j i x
 
-  record PutAt (S : Assignment) (t : Table) (values : List Value) (j : Sort) (i n : ℕ) : Type 0 where
+  record PutAt (S : Assignment) (t : TableTrees) (values : List Value) (j : Sort) (i n : ℕ) : Type 0 where
     value : Value
     at : slice_get values n ≡ Some value
     put : Put S t j i value
 
-  here : (o : Option Value) (t : Table) (i : ℕ) (k : CanonicalVarKind) (s : Assignment) → known i ≡ o → Put (with_choice o t i k s) t (sort_of_kind k) i (unwrap_or o (next_unknown t k))
+  here : (o : Option Value) (t : TableTrees) (i : ℕ) (k : CanonicalVarKind) (s : Assignment) → known i ≡ o → Put (with_choice o t i k s) t (sort_of_kind k) i (unwrap_or o (next_unknown t k))
   here (Some x) t i k s e = inl e
   here None t i k s e = inr (record {
-    var = variables_of t (sort_of_kind k);
+    var = unknowns_of t (sort_of_kind k);
     is = next-is t k;
     new = omega arith;
-    chosen_for = given-self (sort_of_kind k) (variables_of t (sort_of_kind k)) (q (sort_of_kind k) i) s;
+    chosen_for = given-self (sort_of_kind k) (unknowns_of t (sort_of_kind k)) (q (sort_of_kind k) i) s;
   })
 
-  later : (o : Option Value) (t : Table) (i : ℕ) (k : CanonicalVarKind) (s : Assignment) (j : Sort) (m : ℕ) (x : Value) → Put s (table_after o t k) j m x → Put (with_choice o t i k s) t j m x
+  later : (o : Option Value) (t : TableTrees) (i : ℕ) (k : CanonicalVarKind) (s : Assignment) (j : Sort) (m : ℕ) (x : Value) → Put s (table_after o t k) j m x → Put (with_choice o t i k s) t j m x
   later o t i k s j m x (inl e) = inl e
   later o t i k s j m x (inr c) = inr (record {
     var = c.var;
@@ -310,7 +313,7 @@ module _ (known : ℕ → Option Value) (q : Assignment) where
     chosen_for = choice-above o t i k s j c.var c.new ∙ c.chosen_for;
   })
 
-  put-at : (t : Table) (i : ℕ) (ks : List CanonicalVarKind) (s : Assignment) (n : ℕ) (j : Sort) → option_map sort_of_kind (slice_get ks n) ≡ Some j → PutAt (continued t i ks s) t (values_for known t i ks) j (i + n) n
+  put-at : (t : TableTrees) (i : ℕ) (ks : List CanonicalVarKind) (s : Assignment) (n : ℕ) (j : Sort) → option_map sort_of_kind (slice_get ks n) ≡ Some j → PutAt (continued t i ks s) t (values_for known t i ks) j (i + n) n
   put-at t i [] s n j e = cc
   put-at t i (k ∷ ks) s zero j e =
       let same : sort_of_kind k ≡ j = some-is (sort_of_kind k) j e in
@@ -371,33 +374,42 @@ record IsContinued (counts : Sort → ℕ) (s : Assignment) (a b : Trees) : Type
   continues : Continues counts s to
   equal : instance to a ≡ instance to b
 
+-- a table and its trees have the same unknowns
+pub same-unknowns : (es : List Entry) (t : Table) → ◌≡◌ {A = Sort → ℕ} (unknowns_of (table_trees es t)) (variables_of t)
+same-unknowns es t = λ i k. each k i
+  where
+    each : (k : Sort) → unknowns_of (table_trees es t) k ≡ variables_of t k
+    each of_type = refl
+    each of_const = refl
+    each of_lifetime = refl
+
 module _ (es : List Entry) (law : Lawful es) (t : Table) (originals : List GenericArgKind) (r : CanonicalResponse) (s : Assignment) (s-sorted : IsSorted s)
     (ho : ArgsHeld es originals) (hv : ArgsHeld es r.var_values.items) (n : AreNumbered r.variables.items (args_trees es r.var_values.items)) (k : AreKnown (variables_of t) (args_trees es originals)) where
   covers : Agrees (args_trees es r.var_values.items) (instance s (args_trees es originals))
-      → IsContinued (variables_of t) s (args_trees es originals) (filled (applied_values es t originals r) (args_trees es r.var_values.items))
+      → IsContinued (variables_of t) s (args_trees es originals) (filled (applied_values (table_trees es t) (values_of es originals) (answer_trees es r)) (args_trees es r.var_values.items))
   covers (q, q-sorted, e) = record {
     to = S;
-    sorted = continued-sorted known q t 0 ks s q-sorted s-sorted;
+    sorted = continued-sorted known q (table_trees es t) 0 ks s q-sorted s-sorted;
     continues = keeps;
     equal = instance-known (variables_of t) s S (args_trees es originals) keeps k ∙ sym e ∙ sym (filled-chosen W ks q S read (args_trees es r.var_values.items) n);
   }
     where
       known : ℕ → Option Value
-      known = known_value es r originals
+      known = known_value (answer_trees es r) (values_of es originals)
 
       ks : List CanonicalVarKind
       ks = r.variables.items
 
       W : List Value
-      W = applied_values es t originals r
+      W = applied_values (table_trees es t) (values_of es originals) (answer_trees es r)
 
       S : Assignment
-      S = continued known q t 0 ks s
+      S = continued known q (table_trees es t) 0 ks s
 
       keeps : Continues (variables_of t) s S
-      keeps = continued-keeps known q t 0 ks s
+      keeps = subst (λ (counts : Sort → ℕ). Continues counts s S) (same-unknowns es t) (continued-keeps known q (table_trees es t) 0 ks s)
 
-      own : (i : ℕ) (j : Sort) (x : Value) → option_map sort_of_kind (slice_get ks i) ≡ Some j → (f : Option GenericArgKind) → original_of es i r.var_values.items originals ≡ f → option_map (value_of es) f ≡ Some x
+      own : (i : ℕ) (j : Sort) (x : Value) → option_map sort_of_kind (slice_get ks i) ≡ Some j → (f : Option GenericArgKind) → own_of es i r.var_values.items originals ≡ f → option_map (value_of es) f ≡ Some x
           → (x.sort ≡ j) × (instance S x.trees ≡ chosen q (leaf (canonical j i)))
       own i j x kind None f g = absurd (none-some x g)
       own i j x kind (Some a) f g =
@@ -405,27 +417,27 @@ module _ (es : List Entry) (law : Lawful es) (t : Table) (originals : List Gener
           let is = original-is es law ks q s q-sorted s-sorted (variables_of t) i j kind r.var_values.items originals a hv ho n k e f in
           (ap (λ (y : Value). y.sort) (sym same) ∙ is.sort, ap (λ (y : Value). instance S y.trees) (sym same) ∙ instance-known (variables_of t) s S (arg_trees es a) keeps is.known ∙ is.read)
 
-      by : (i : ℕ) (j : Sort) (x : Value) → option_map sort_of_kind (slice_get ks i) ≡ Some j → Put known q S t j i x → (x.sort ≡ j) × (instance S x.trees ≡ chosen q (leaf (canonical j i)))
-      by i j x kind (inl g) = own i j x kind (original_of es i r.var_values.items originals) refl g
+      by : (i : ℕ) (j : Sort) (x : Value) → option_map sort_of_kind (slice_get ks i) ≡ Some j → Put known q S (table_trees es t) j i x → (x.sort ≡ j) × (instance S x.trees ≡ chosen q (leaf (canonical j i)))
+      by i j x kind (inl g) = own i j x kind (own_of es i r.var_values.items originals) refl (own-value es i r.var_values.items originals ∙ g)
       by i j x kind (inr c) = (ap (λ (y : Value). y.sort) c.is, ap (λ (y : Value). instance S y.trees) c.is ∙ unknown-read q S j c.var i c.chosen_for)
 
       read : (i : ℕ) (j : Sort) → option_map sort_of_kind (slice_get ks i) ≡ Some j → IsRead W q S j i
       read i j kind =
-          let p = put-at known q t 0 ks s i j kind in
+          let p = put-at known q (table_trees es t) 0 ks s i j kind in
           let place : 0 + i ≡ i = omega arith in
-          let put : Put known q S t j i p.value = subst (λ (m : ℕ). Put known q S t j m p.value) place p.put in
+          let put : Put known q S (table_trees es t) j i p.value = subst (λ (m : ℕ). Put known q S (table_trees es t) j m p.value) place p.put in
           let is = by i j p.value kind put in
           record { trees = p.value.trees; put = ap (if_of_sort j) p.at ∙ if-of-sort j p.value is.0; read = is.1 }
 
   -- an answer that is applied keeps the solutions that agree with it
-  pub applies : (new : List Binding) → (bs : List Binding) → IsOfKnown (variables_of t) bs → Solves s bs → Equates bs new (args_trees es originals) (filled (applied_values es t originals r) (args_trees es r.var_values.items))
+  pub applies : (new : List Binding) → (bs : List Binding) → IsOfKnown (variables_of t) bs → Solves s bs → Equates bs new (args_trees es originals) (filled (applied_values (table_trees es t) (values_of es originals) (answer_trees es r)) (args_trees es r.var_values.items))
       → Agrees (args_trees es r.var_values.items) (instance s (args_trees es originals)) → (u : Assignment) × Continues (variables_of t) s u × Solves u new
   applies new bs own h e g =
       let c = covers g in
       (c.to, c.continues, e.all c.to (own s c.to h c.sorted c.continues) c.equal)
 
   -- one that is refused agrees with none
-  pub refuses : (bs : List Binding) → IsOfKnown (variables_of t) bs → Solves s bs → HasNoSolution bs (args_trees es originals) (filled (applied_values es t originals r) (args_trees es r.var_values.items))
+  pub refuses : (bs : List Binding) → IsOfKnown (variables_of t) bs → Solves s bs → HasNoSolution bs (args_trees es originals) (filled (applied_values (table_trees es t) (values_of es originals) (answer_trees es r)) (args_trees es r.var_values.items))
       → Agrees (args_trees es r.var_values.items) (instance s (args_trees es originals)) → ⊥
   refuses bs own h e g =
       let c = covers g in

@@ -2,10 +2,10 @@
 use Rattle.std.proofs.Common.{◌≡◌, ℕ, zero, suc, ◌+◌, Bool, true, false, refl, ap, sym, ◌∙◌, subst, arith, List, [], ◌∷◌, map, drop, Option, Some, None, if◌then◌else◌}
 use Rattle.std.specs.Prelude.{option_map}
 use Rattle.std.specs.List.{slice_get}
-use Rattle.model.specs.Label.{Label, Sort, of_type, of_const, of_lifetime, infer, canonical, static}
-use Rattle.model.specs.Trees.{Trees, none, tree, leaf, ◌+++◌, erase_label, sort_of, is_sort}
+use Rattle.model.specs.Label.{Label, Sort, of_type, of_const, of_lifetime, canonical, static}
+use Rattle.model.specs.Trees.{Trees, leaf, ◌+++◌, sort_of, is_sort}
 use Rattle.type_terms.specs.Terms.{Entry, Lawful}
-use Rattle.type_terms.specs.Kinds.{ArgHeld, ArgsHeld, arg_trees, args_trees, region_label, region_trees}
+use Rattle.type_terms.specs.Kinds.{ArgHeld, ArgsHeld, arg_trees, args_trees, region_label}
 use Rattle.type_terms.specs.declared.region.RegionKind.{RegionKind}
 use Rattle.type_terms.specs.declared.region.RegionKind.TheVariants.{ReStatic, ReEarlyParam, RePlaceholder, ReBound, ReVar}
 use Rattle.type_terms.specs.declared.number.BoundVarIndexKind.TheVariants.{Canonical, Bound}
@@ -15,7 +15,6 @@ use Rattle.type_terms.proofs.Sorts.{arg-single}
 use Rattle.infer_table.specs.Solutions.{Assignment, tree_of, instance, IsSorted}
 use Rattle.infer_table.specs.declared.canonical.CanonicalVarKind.{CanonicalVarKind}
 use Rattle.infer_table.proofs.SolutionLaws.{is_sort-equal, is_sort-self, instance-append}
-use Rattle.infer_table.proofs.EquationFacts.{erase-sort}
 use Rattle.canonical_forms.specs.Leaves.{root_label}
 use Rattle.canonical_forms.specs.Values.{Value, sort_of_arg, value_of, values_of}
 use Rattle.canonical_responses.specs.Raw.{sort_of_kind, variable_value, variables_from}

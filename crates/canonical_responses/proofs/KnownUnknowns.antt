@@ -1,47 +1,37 @@
 -- What is put in for the variables of an answer speaks of the table's own unknowns, new ones among them.
-use Rattle.std.proofs.Common.{◌≡◌, ℕ, ◌+◌, ◌<◌, ◌≤◌, Bool, true, false, refl, ap, sym, ◌∙◌, subst, arith, List, [], ◌∷◌, zero, suc, drop, length, get_or, Option, Some, None, if◌then◌else◌}
-use Rattle.std.specs.Prelude.{option_map, unwrap_or, IfSome}
+use Rattle.std.proofs.Common.{◌≡◌, ℕ, ◌+◌, ◌<◌, ◌≤◌, Bool, true, false, ap, sym, ◌∙◌, subst, arith, List, [], ◌∷◌, zero, suc, drop, length, get_or, Option, Some, None, if◌then◌else◌}
+use Rattle.std.specs.Prelude.{unwrap_or}
 use Rattle.std.specs.List.{slice_get}
-use Rattle.model.specs.Label.{Sort, infer, canonical}
+use Rattle.model.specs.Label.{Label, Sort, infer, canonical}
 use Rattle.model.specs.Trees.{Trees, none, tree, ◌+++◌, is_sort, placed}
 use Rattle.type_terms.specs.Terms.{Entry}
 use Rattle.type_terms.specs.Kinds.{arg_trees, args_trees}
 use Rattle.type_terms.specs.declared.kinds.GenericArgKind.{GenericArgKind}
 use Rattle.infer_table.specs.Solutions.{Binding, Equates}
 use Rattle.infer_table.specs.Content.{Table, Grows, content, variables_of}
-use Rattle.infer_table.specs.Growth.{grows-trans, grows-refl, grows-ty, grows-const, grows-regions, counts-kept}
+use Rattle.infer_table.specs.Growth.{counts-kept}
+use Rattle.infer_table.specs.Unification.{TableTrees, table_trees}
 use Rattle.infer_table.specs.declared.canonical.CanonicalVarKind.{CanonicalVarKind}
 use Rattle.infer_table.specs.declared.canonical.CanonicalVarKind.TheVariants.{Ty, PlaceholderTy, Const, PlaceholderConst, Region}
 use Rattle.canonical_forms.specs.declared.response.CanonicalResponse.{CanonicalResponse}
-use Rattle.canonical_forms.specs.Leaves.{leaf_label}
-use Rattle.canonical_forms.specs.Values.{Value, value_of, if_of_sort, value_for, filled}
-use Rattle.canonical_responses.specs.Applying.{is_numbered, original_of, next_unknown, with_unknown, table_after, values_for, table_for, known_value, applied_values, applied_table}
+use Rattle.canonical_forms.specs.Values.{Value, value_of, values_of, if_of_sort, filled}
+use Rattle.canonical_responses.specs.Responses.{answer_trees}
+use Rattle.canonical_responses.specs.Applying.{is_numbered, root_labels, original_of, next_unknown, unknowns_of, table_after, values_for, table_for, known_value, applied_values, applied_table}
 use Rattle.canonical_responses.specs.Covers.{AreNumbered, AreKnown, IsOfKnown, IsWellPosed}
-use Rattle.canonical_responses.proofs.Covers.{known-parts, known-later, known-equates}
+use Rattle.canonical_responses.proofs.Covers.{grown, same-unknowns, known-parts, known-later, known-equates}
 use Rattle.canonical_responses.proofs.Values.{cut-at}
 
--- ---- tables with new unknowns have grown
-pub unknown-grows : (t : Table) (k : CanonicalVarKind) → Grows t (with_unknown t k)
-unknown-grows t Ty = grows-ty t
-unknown-grows t PlaceholderTy = grows-ty t
-unknown-grows t Const = grows-const t
-unknown-grows t PlaceholderConst = grows-const t
-unknown-grows t Region = grows-regions t 1
-
-pub after-grows : (v : Option Value) (t : Table) (k : CanonicalVarKind) → Grows t (table_after v t k)
-after-grows None t k = unknown-grows t k
-after-grows (Some v) t k = grows-refl t
-
-table-grows : (known : ℕ → Option Value) (t : Table) (i : ℕ) (ks : List CanonicalVarKind) → Grows t (table_for known t i ks)
-table-grows known t i [] = grows-refl t
-table-grows known t i (k ∷ ks) = grows-trans _ _ _ (after-grows (known i) t k) (table-grows known (table_after (known i) t k) (i + 1) ks)
+-- ---- with new unknowns there are no fewer
+table-grown : (known : ℕ → Option Value) (t : TableTrees) (i : ℕ) (ks : List CanonicalVarKind) (j : Sort) → unknowns_of t j ≤ unknowns_of (table_for known t i ks) j
+table-grown known t i [] j = omega arith
+table-grown known t i (k ∷ ks) j = let here = grown (known i) t k j in let rest = table-grown known (table_after (known i) t k) (i + 1) ks j in omega (arith, here, rest)
 
 -- one more variable has its value
-pub one-more-table : (known : ℕ → Option Value) (t u all : Table) (ks : List CanonicalVarKind) (i : ℕ) (k d : CanonicalVarKind) → i < length ks → k ≡ get_or ks i d
+pub one-more-table : (known : ℕ → Option Value) (t u all : TableTrees) (ks : List CanonicalVarKind) (i : ℕ) (k d : CanonicalVarKind) → i < length ks → k ≡ get_or ks i d
     → u ≡ table_after (known i) t k → table_for known t i (drop i ks) ≡ all → table_for known u (i + 1) (drop (i + 1) ks) ≡ all
 one-more-table known t u all ks i k d lt is e h =
     let cut : drop i ks ≡ k ∷ drop (i + 1) ks = cut-at ks i d lt ∙ ap (λ z. z ∷ drop (i + 1) ks) (sym is) in
-    ap (λ (z : Table). table_for known z (i + 1) (drop (i + 1) ks)) e ∙ ap (table_for known t i) (sym cut) ∙ h
+    ap (λ (z : TableTrees). table_for known z (i + 1) (drop (i + 1) ks)) e ∙ ap (table_for known t i) (sym cut) ∙ h
 
 -- ---- what the unknowns in trees are
 known-joined : (counts : Sort → ℕ) (x y : Trees) → AreKnown counts x → AreKnown counts y → AreKnown counts (x +++ y)
@@ -87,7 +77,7 @@ module _ (counts : Sort → ℕ) (vs : List Value) (all : AllKnown counts vs) (k
   filled-known (tree l c o) h = (filled-known c h.0, filled-known o h.1)
 
 -- ---- the values that are put in
-first-known : (v : Option Value) (t : Table) (k : CanonicalVarKind) → IsKnown (variables_of t) v → AreKnown (variables_of (table_after v t k)) (unwrap_or v (next_unknown t k)).trees
+first-known : (v : Option Value) (t : TableTrees) (k : CanonicalVarKind) → IsKnown (unknowns_of t) v → AreKnown (unknowns_of (table_after v t k)) (unwrap_or v (next_unknown t k)).trees
 first-known (Some v) t k h = h
 first-known None t Ty h = (omega arith, tt, tt)
 first-known None t PlaceholderTy h = (omega arith, tt, tt)
@@ -95,43 +85,50 @@ first-known None t Const h = (omega arith, tt, tt)
 first-known None t PlaceholderConst h = (omega arith, tt, tt)
 first-known None t Region h = (omega arith, tt, tt)
 
-known-grown : (t u : Table) → Grows t u → (v : Option Value) → IsKnown (variables_of t) v → IsKnown (variables_of u) v
-known-grown t u g None h = tt
-known-grown t u g (Some v) h = known-more (variables_of t) (variables_of u) (counts-kept t u g) v.trees h
+known-grown : (counts more : Sort → ℕ) → ((k : Sort) → counts k ≤ more k) → (v : Option Value) → IsKnown counts v → IsKnown more v
+known-grown counts more le None h = tt
+known-grown counts more le (Some v) h = known-more counts more le v.trees h
 
-values-known : (known : ℕ → Option Value) (t : Table) (i : ℕ) (ks : List CanonicalVarKind) → ((n : ℕ) → IsKnown (variables_of t) (known n)) → AllKnown (variables_of (table_for known t i ks)) (values_for known t i ks)
+values-known : (known : ℕ → Option Value) (t : TableTrees) (i : ℕ) (ks : List CanonicalVarKind) → ((n : ℕ) → IsKnown (unknowns_of t) (known n)) → AllKnown (unknowns_of (table_for known t i ks)) (values_for known t i ks)
 values-known known t i [] h = tt
 values-known known t i (k ∷ ks) h =
     let after = table_after (known i) t k in
     let end = table_for known after (i + 1) ks in (
-      known-more (variables_of after) (variables_of end) (counts-kept after end (table-grows known after (i + 1) ks)) (unwrap_or (known i) (next_unknown t k)).trees (first-known (known i) t k (h i)),
-      values-known known after (i + 1) ks (λ n. known-grown t after (after-grows (known i) t k) (known n) (h n)),
+      known-more (unknowns_of after) (unknowns_of end) (table-grown known after (i + 1) ks) (unwrap_or (known i) (next_unknown t k)).trees (first-known (known i) t k (h i)),
+      values-known known after (i + 1) ks (λ n. known-grown (unknowns_of t) (unknowns_of after) (grown (known i) t k) (known n) (h n)),
     )
 
-original-known : (counts : Sort → ℕ) (es : List Entry) (i : ℕ) (vs os : List GenericArgKind) → AreKnown counts (args_trees es os) → IsKnown counts (option_map (value_of es) (original_of es i vs os))
+original-known : (counts : Sort → ℕ) (es : List Entry) (i : ℕ) (ls : List Label) (os : List GenericArgKind) → AreKnown counts (args_trees es os) → IsKnown counts (original_of i ls (values_of es os))
 original-known counts es i [] os h = tt
-original-known counts es i (v ∷ vs) [] h = tt
-original-known counts es i (v ∷ vs) (o ∷ os) h =
+original-known counts es i (l ∷ ls) [] h = tt
+original-known counts es i (l ∷ ls) (o ∷ os) h =
     let parts = known-parts counts (arg_trees es o) (args_trees es os) h in
-    by (is_numbered i (leaf_label es v)) parts.0 (original-known counts es i vs os parts.1)
+    by (is_numbered i l) parts.0 (original-known counts es i ls os parts.1)
   where
-    by : (b : Bool) → AreKnown counts (arg_trees es o) → IsKnown counts (option_map (value_of es) (original_of es i vs os)) → IsKnown counts (option_map (value_of es) (if b then Some o else original_of es i vs os))
+    by : (b : Bool) → AreKnown counts (arg_trees es o) → IsKnown counts (original_of i ls (values_of es os)) → IsKnown counts (if b then Some (value_of es o) else original_of i ls (values_of es os))
     by true p q = p
     by false p q = q
 
 -- ---- the table that an answer leaves
 module _ (es : List Entry) (t : Table) (originals : List GenericArgKind) (r : CanonicalResponse) (posed : IsWellPosed es t originals r) where
-  answer-known : AreKnown (variables_of (applied_table es t originals r)) (filled (applied_values es t originals r) (args_trees es r.var_values.items))
+  abbrev taken : TableTrees
+  taken = applied_table (table_trees es t) (values_of es originals) (answer_trees es r)
+
+  abbrev put : Trees
+  put = filled (applied_values (table_trees es t) (values_of es originals) (answer_trees es r)) (args_trees es r.var_values.items)
+
+  answer-known : AreKnown (unknowns_of taken) put
   answer-known =
-      filled-known (variables_of (applied_table es t originals r)) (applied_values es t originals r)
-      (values-known (known_value es r originals) t 0 r.variables.items (λ n. original-known (variables_of t) es n r.var_values.items originals posed.values_known))
+      filled-known (unknowns_of taken) (applied_values (table_trees es t) (values_of es originals) (answer_trees es r))
+      (values-known (known_value (answer_trees es r) (values_of es originals)) (table_trees es t) 0 r.variables.items
+      (λ n. original-known (unknowns_of (table_trees es t)) es n (root_labels (values_of es r.var_values.items)) originals (subst (λ (counts : Sort → ℕ). AreKnown counts (args_trees es originals)) (sym (same-unknowns es t)) posed.values_known)))
       r.variables.items (args_trees es r.var_values.items) posed.numbered
 
-  pub applied-known : (u : Table) (new : List Binding) → Grows t u → Grows (applied_table es t originals r) u
-      → Equates (content es t.values) new (args_trees es originals) (filled (applied_values es t originals r) (args_trees es r.var_values.items)) → IsOfKnown (variables_of u) new
+  pub applied-known : (u : Table) (new : List Binding) → Grows t u → ((k : Sort) → unknowns_of taken k ≤ variables_of u k)
+      → Equates (content es t.values) new (args_trees es originals) put → IsOfKnown (variables_of u) new
   applied-known u new g unknowns e =
       let more = counts-kept t u g in
-      known-equates (variables_of u) (content es t.values) new (args_trees es originals) (filled (applied_values es t originals r) (args_trees es r.var_values.items)) e
+      known-equates (variables_of u) (content es t.values) new (args_trees es originals) put e
       (known-more (variables_of t) (variables_of u) more (args_trees es originals) posed.values_known)
-      (known-more (variables_of (applied_table es t originals r)) (variables_of u) (counts-kept _ _ unknowns) _ answer-known)
+      (known-more (unknowns_of taken) (variables_of u) unknowns put answer-known)
       (known-later (variables_of t) (variables_of u) (content es t.values) more posed.table_known)

@@ -4,3 +4,5 @@ pub mod Covers
 pub mod Answered
 pub mod Identities
 pub mod KnownUnknowns
+pub mod InTurn
+pub mod Shortages

@@ -9,17 +9,16 @@ use Rattle.model.specs.Trees.{Trees, none, tree, ◌+++◌, Single}
 use Rattle.type_terms.specs.Terms.{Entry, Keeps, Lawful}
 use Rattle.type_terms.specs.Kinds.{ArgHeld, ArgsHeld, arg_trees, args_trees}
 use Rattle.type_terms.specs.declared.kinds.GenericArgKind.{GenericArgKind}
-use Rattle.term_traversal.specs.Kept.{arg-held-later, arg-trees-later, args-trees-later}
+use Rattle.term_traversal.specs.Kept.{arg-held-later, arg-trees-later}
 use Rattle.type_terms.proofs.Sorts.{arg-single}
 use Rattle.infer_table.specs.Solutions.{Assignment, Binding, instance, Equates, HasNoSolution}
-use Rattle.infer_table.specs.Content.{Table}
+use Rattle.infer_table.specs.Unification.{TableTrees}
 use Rattle.infer_table.specs.declared.canonical.CanonicalVarKind.{CanonicalVarKind}
-use Rattle.infer_table.specs.declared.canonical.CanonicalVarKind.TheVariants.{Ty, PlaceholderTy, Const, PlaceholderConst, Region}
-use Rattle.canonical_forms.specs.Leaves.{leaf_label, root_label}
+use Rattle.canonical_forms.specs.Leaves.{leaf_label}
 use Rattle.infer_table.proofs.SolutionLaws.{items-parts, parts-items}
 use Rattle.canonical_forms.specs.Values.{Value, value_of, values_of, sort_of_arg}
 use Rattle.canonical_responses.specs.Raw.{variables_from, variable_value}
-use Rattle.canonical_responses.specs.Applying.{next_unknown, table_after, values_for, is_numbered, canonical_number, original_of}
+use Rattle.canonical_responses.specs.Applying.{root_labels, next_unknown, table_after, values_for, is_numbered, canonical_number, original_of}
 
 pub args-held-push : (es : List Entry) (xs : List GenericArgKind) (y : GenericArgKind) → ArgsHeld es xs → ArgHeld es y → ArgsHeld es (xs ++ y ∷ [])
 args-held-push es [] y h g = (g, tt)
@@ -54,13 +53,13 @@ pub all-variables : (vs all : List Value) (ks : List CanonicalVarKind) (i : ℕ)
 all-variables vs all ks i h e = sym (values-none vs) ∙ ap (λ z. vs ++ variables_from i z) (sym (past-end ks i h)) ∙ e
 
 -- one more variable has its value
-pub one-more-value : (known : ℕ → Option Value) (t u : Table) (vs : List Value) (v : Value) (all : List Value) (ks : List CanonicalVarKind) (i : ℕ) (k d : CanonicalVarKind) → i < length ks → k ≡ get_or ks i d
+pub one-more-value : (known : ℕ → Option Value) (t u : TableTrees) (vs : List Value) (v : Value) (all : List Value) (ks : List CanonicalVarKind) (i : ℕ) (k d : CanonicalVarKind) → i < length ks → k ≡ get_or ks i d
     → v ≡ unwrap_or (known i) (next_unknown t k) → u ≡ table_after (known i) t k → vs ++ values_for known t i (drop i ks) ≡ all → (vs ++ v ∷ []) ++ values_for known u (i + 1) (drop (i + 1) ks) ≡ all
 one-more-value known t u vs v all ks i k d lt is e f h =
     let cut : drop i ks ≡ k ∷ drop (i + 1) ks = cut-at ks i d lt ∙ ap (λ z. z ∷ drop (i + 1) ks) (sym is) in
     append_assoc vs (v ∷ []) (values_for known u (i + 1) (drop (i + 1) ks))
     ∙ ap (λ z. vs ++ z ∷ values_for known u (i + 1) (drop (i + 1) ks)) e
-    ∙ ap (λ (z : Table). vs ++ unwrap_or (known i) (next_unknown t k) ∷ values_for known z (i + 1) (drop (i + 1) ks)) f
+    ∙ ap (λ (z : TableTrees). vs ++ unwrap_or (known i) (next_unknown t k) ∷ values_for known z (i + 1) (drop (i + 1) ks)) f
     ∙ ap (λ z. vs ++ values_for known t i z) (sym cut) ∙ h
 
 -- ---- equations one after the other
@@ -141,12 +140,26 @@ pub written : {X : Type 0} (n : ℕ) (new old : List X) → length new ≡ lengt
 written n new old e f = grind (arith, common_steps)
 
 -- ---- values of the goal
-pub original-held : (es : List Entry) (i : ℕ) (vs os : List GenericArgKind) → ArgsHeld es os → IfSome (original_of es i vs os) (λ a. ArgHeld es a)
+abbrev pub own_of : List Entry → ℕ → List GenericArgKind → List GenericArgKind → Option GenericArgKind
+own_of es i vs os = original_of i (root_labels (values_of es vs)) os
+
+-- an own value as trees is the one among the own values as trees
+pub own-value : (es : List Entry) (i : ℕ) (vs os : List GenericArgKind) → option_map (value_of es) (own_of es i vs os) ≡ original_of i (root_labels (values_of es vs)) (values_of es os)
+own-value es i [] os = refl
+own-value es i (v ∷ vs) [] = refl
+own-value es i (v ∷ vs) (o ∷ os) = by (is_numbered i (leaf_label es v)) (own-value es i vs os)
+  where
+    by : (b : Bool) → option_map (value_of es) (own_of es i vs os) ≡ original_of i (root_labels (values_of es vs)) (values_of es os)
+        → option_map (value_of es) (if b then Some o else own_of es i vs os) ≡ (if b then Some (value_of es o) else original_of i (root_labels (values_of es vs)) (values_of es os))
+    by true p = refl
+    by false p = p
+
+pub original-held : (es : List Entry) (i : ℕ) (vs os : List GenericArgKind) → ArgsHeld es os → IfSome (own_of es i vs os) (λ a. ArgHeld es a)
 original-held es i [] os h = tt
 original-held es i (v ∷ vs) [] h = tt
 original-held es i (v ∷ vs) (o ∷ os) h = by (is_numbered i (leaf_label es v)) (original-held es i vs os h.1)
   where
-    by : (b : Bool) → IfSome (original_of es i vs os) (λ a. ArgHeld es a) → IfSome (if b then Some o else original_of es i vs os) (λ a. ArgHeld es a)
+    by : (b : Bool) → IfSome (own_of es i vs os) (λ a. ArgHeld es a) → IfSome (if b then Some o else own_of es i vs os) (λ a. ArgHeld es a)
     by true p = h.0
     by false p = p
 
@@ -154,17 +167,17 @@ known-later : (es now : List Entry) → Keeps es now → (found : Option Generic
 known-later es now k None h = refl
 known-later es now k (Some a) h = ap Some (value-later es now k a h)
 
-pub original-held-later : (es now : List Entry) → Keeps es now → (i : ℕ) (vs os : List GenericArgKind) → ArgsHeld es os → IfSome (original_of es i vs os) (λ a. ArgHeld now a)
-original-held-later es now k i vs os h = by (original_of es i vs os) (original-held es i vs os h)
+pub original-held-later : (es now : List Entry) → Keeps es now → (i : ℕ) (vs os : List GenericArgKind) → ArgsHeld es os → IfSome (own_of es i vs os) (λ a. ArgHeld now a)
+original-held-later es now k i vs os h = by (own_of es i vs os) (original-held es i vs os h)
   where
     by : (found : Option GenericArgKind) → IfSome found (λ a. ArgHeld es a) → IfSome found (λ a. ArgHeld now a)
     by None g = tt
     by (Some a) g = arg-held-later es now k a g
 
 -- what is found is what it was
-pub found-later : (es now : List Entry) → Keeps es now → (i : ℕ) (vs os : List GenericArgKind) (found : Option GenericArgKind) → ArgsHeld es os → found ≡ original_of es i vs os
-    → option_map (value_of now) found ≡ option_map (value_of es) (original_of es i vs os)
-found-later es now k i vs os found g e = ap (option_map (value_of now)) e ∙ known-later es now k (original_of es i vs os) (original-held es i vs os g)
+pub found-later : (es now : List Entry) → Keeps es now → (i : ℕ) (vs os : List GenericArgKind) (found : Option GenericArgKind) → ArgsHeld es os → found ≡ own_of es i vs os
+    → option_map (value_of now) found ≡ original_of i (root_labels (values_of es vs)) (values_of es os)
+found-later es now k i vs os found g e = ap (option_map (value_of now)) e ∙ known-later es now k (own_of es i vs os) (original-held es i vs os g) ∙ own-value es i vs os
 
 -- an item is the one in its place, whatever stands for none
 pub same-slot : (xs : List (Option GenericArgKind)) (i : ℕ) (x : Option GenericArgKind) → i < length xs → x ≡ get_or xs i x → x ≡ get_or xs i None
@@ -173,17 +186,17 @@ same-slot (y ∷ ys) zero x h e = e
 same-slot (y ∷ ys) (suc i) x h e = same-slot ys i x (omega arith) e
 
 -- ---- the goal's own values under the numbers of the answer's variables
-find-no-goal : (es : List Entry) (i : ℕ) (vs : List GenericArgKind) → original_of es i vs [] ≡ None
+find-no-goal : (es : List Entry) (i : ℕ) (vs : List GenericArgKind) → own_of es i vs [] ≡ None
 find-no-goal es i [] = refl
 find-no-goal es i (v ∷ vs) = refl
 
 -- at the end of one of the lists nothing is found
-pub found-end : (es : List Entry) (i : ℕ) (vs os : List GenericArgKind) (j : ℕ) → j ≡ min (length vs) (length os) → original_of es i (drop j vs) (drop j os) ≡ None
+pub found-end : (es : List Entry) (i : ℕ) (vs os : List GenericArgKind) (j : ℕ) → j ≡ min (length vs) (length os) → own_of es i (drop j vs) (drop j os) ≡ None
 found-end es i vs os j e = by (cases_lt j (length vs))
   where
-    by : (j < length vs) ⊎ (length vs ≤ j) → original_of es i (drop j vs) (drop j os) ≡ None
-    by (inl h) = let past : length os ≤ j = omega arith in ap (original_of es i (drop j vs)) (past-end os j past) ∙ find-no-goal es i (drop j vs)
-    by (inr h) = ap (λ z. original_of es i z (drop j os)) (past-end vs j h)
+    by : (j < length vs) ⊎ (length vs ≤ j) → own_of es i (drop j vs) (drop j os) ≡ None
+    by (inl h) = let past : length os ≤ j = omega arith in ap (own_of es i (drop j vs)) (past-end os j past) ∙ find-no-goal es i (drop j vs)
+    by (inr h) = ap (λ z. own_of es i z (drop j os)) (past-end vs j h)
 
 some-is : {X : Type 0} (x y : X) → Some x ≡ Some y → x ≡ y
 some-is x y e = cc
@@ -206,40 +219,24 @@ or-none None = refl
 or-none (Some x) = refl
 
 module _ (es : List Entry) (i : ℕ) (vs os : List GenericArgKind) (j : ℕ) (v o : GenericArgKind) (l : j < length vs) (m : j < length os) (p : v ≡ get_or vs j v) (q : o ≡ get_or os j o) where
-  found-cut : original_of es i (drop j vs) (drop j os) ≡ (if is_numbered i (leaf_label es v) then Some o else original_of es i (drop (j + 1) vs) (drop (j + 1) os))
+  found-cut : own_of es i (drop j vs) (drop j os) ≡ (if is_numbered i (leaf_label es v) then Some o else own_of es i (drop (j + 1) vs) (drop (j + 1) os))
   found-cut =
-      ap (λ z. original_of es i z (drop j os)) (cut-at vs j v l ∙ ap (λ z. z ∷ drop (j + 1) vs) (sym p))
-      ∙ ap (original_of es i (v ∷ drop (j + 1) vs)) (cut-at os j o m ∙ ap (λ z. z ∷ drop (j + 1) os) (sym q))
+      ap (λ z. own_of es i z (drop j os)) (cut-at vs j v l ∙ ap (λ z. z ∷ drop (j + 1) vs) (sym p))
+      ∙ ap (own_of es i (v ∷ drop (j + 1) vs)) (cut-at os j o m ∙ ap (λ z. z ∷ drop (j + 1) os) (sym q))
 
   -- a value that is a variable is noted under its number
   pub found-noted : (n : ℕ) (old new all : Option GenericArgKind) → canonical_number (leaf_label es v) ≡ Some n → new ≡ option_or old (if n == i then Some o else None)
-      → option_or old (original_of es i (drop j vs) (drop j os)) ≡ all → option_or new (original_of es i (drop (j + 1) vs) (drop (j + 1) os)) ≡ all
+      → option_or old (own_of es i (drop j vs) (drop j os)) ≡ all → option_or new (own_of es i (drop (j + 1) vs) (drop (j + 1) os)) ≡ all
   found-noted n old new all e f h =
-      let rest = original_of es i (drop (j + 1) vs) (drop (j + 1) os) in
+      let rest = own_of es i (drop (j + 1) vs) (drop (j + 1) os) in
       ap (λ z. option_or z rest) f ∙ or-first old o (n == i) rest ∙ ap (λ (b : Bool). option_or old (if b then Some o else rest)) (sym (number-test i (leaf_label es v) n e)) ∙ ap (option_or old) (sym found-cut) ∙ h
 
   -- another value says nothing
   pub found-passed : (old all : Option GenericArgKind) → canonical_number (leaf_label es v) ≡ None
-      → option_or old (original_of es i (drop j vs) (drop j os)) ≡ all → option_or old (original_of es i (drop (j + 1) vs) (drop (j + 1) os)) ≡ all
+      → option_or old (own_of es i (drop j vs) (drop j os)) ≡ all → option_or old (own_of es i (drop (j + 1) vs) (drop (j + 1) os)) ≡ all
   found-passed old all e h =
-      let rest = original_of es i (drop (j + 1) vs) (drop (j + 1) os) in
+      let rest = own_of es i (drop (j + 1) vs) (drop (j + 1) os) in
       ap (λ (b : Bool). option_or old (if b then Some o else rest)) (sym (no-number i (leaf_label es v) e)) ∙ ap (option_or old) (sym found-cut) ∙ h
-
-pub table-bindings : (v : Option Value) (t : Table) (k : CanonicalVarKind) → (table_after v t k).values ≡ t.values
-table-bindings (Some v) t k = refl
-table-bindings None t Ty = refl
-table-bindings None t PlaceholderTy = refl
-table-bindings None t Const = refl
-table-bindings None t PlaceholderConst = refl
-table-bindings None t Region = refl
-
-pub table-constraints : (v : Option Value) (t : Table) (k : CanonicalVarKind) → (table_after v t k).constraints ≡ t.constraints
-table-constraints (Some v) t k = refl
-table-constraints None t Ty = refl
-table-constraints None t PlaceholderTy = refl
-table-constraints None t Const = refl
-table-constraints None t PlaceholderConst = refl
-table-constraints None t Region = refl
 
 -- ---- equations over equal parts
 pub equates-at : (bs bs' cs cs' : List Binding) (a a' b b' : Trees) → bs ≡ bs' → cs ≡ cs' → a ≡ a' → b ≡ b' → Equates bs cs a b → Equates bs' cs' a' b'

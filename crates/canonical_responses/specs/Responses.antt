@@ -9,8 +9,21 @@ use Rattle.term_traversal.specs.Pieces.{FoldsEach}
 use Rattle.infer_table.specs.Canonical.{GoalTrees, CanonicalForm, kind_of_leaf, leaves, canonical_label, relabeled}
 use Rattle.infer_table.specs.Content.{AllConstraintsHeld}
 use Rattle.infer_table.specs.Constraints.{constraint_outline, constraint_pieces, constraints_trees}
+use Rattle.infer_table.specs.declared.canonical.CanonicalVarKind.{CanonicalVarKind}
+use Rattle.infer_table.specs.declared.goal.Certainty.{Certainty}
 use Rattle.infer_table.specs.declared.terms.RegionConstraint.{RegionConstraint}
 use Rattle.canonical_forms.specs.declared.response.CanonicalResponse.{CanonicalResponse}
+use Rattle.canonical_forms.specs.Values.{Value, values_of}
+
+-- an answer, over trees alone
+pub record AnswerTrees : Type 0 where
+  pub kinds : List CanonicalVarKind
+  pub certainty : Certainty
+  pub values : List Value
+  pub constraints : Trees
+
+abbrev pub answer_trees : List Entry → CanonicalResponse → AnswerTrees
+answer_trees es r = record { kinds = r.variables.items; certainty = r.certainty; values = values_of es r.var_values.items; constraints = constraints_trees es r.region_constraints.items }
 
 -- an answer is numbered as the predicate of a goal without where-clauses is: `'static` is a lifetime like any other
 abbrev pub as_goal : Trees → GoalTrees

@@ -1,16 +1,20 @@
 //! Answers applied to the goal that was asked.
-ghost use Rattle.std.specs.Prelude.{◌≡◌, ℕ, ◌<◌, List, ◌++◌, length, get_or, IfOk, IfSome, OnOk, OnErr, Err, Some, None, unwrap_or, option_map, ◌==◌, if◌then◌else◌};
+ghost use Rattle.std.specs.Prelude.{◌≡◌, ◌⊎◌, ℕ, ◌<◌, ◌≤◌, List, ◌++◌, length, get_or, IfOk, IfErr, IfSome, OnOk, OnErr, Err, Some, None, unwrap_or, option_map, ◌==◌, if◌then◌else◌};
 ghost use Rattle.std.specs.Option.{option_or};
 ghost use Rattle.model.specs.Label.{Sort};
 ghost use Rattle.type_terms.specs.Terms.{Entry, Keeps, Has, args_lists};
 ghost use Rattle.type_terms.specs.Kinds.{ArgHeld, ArgsHeld, args_trees, bound_label};
+ghost use Rattle.term_traversal.specs.Failures.{SomeKindIsFull};
 ghost use Rattle.infer_table.specs.Solutions.{Assignment, Solves, Equates, HasNoSolution, instance};
 ghost use Rattle.infer_table.specs.Content.{content, variables_of, Ready, Grows, AllConstraintsHeld};
 ghost use Rattle.infer_table.specs.Constraints.{constraints_trees};
+ghost use Rattle.infer_table.specs.Unification.{table_trees};
 ghost use Rattle.canonical_forms.specs.Leaves.{leaf_label};
 ghost use Rattle.canonical_forms.specs.Values.{value_of, values_of, filled};
-ghost use Rattle.canonical_responses.specs.Responses.{ResponseHeld, Records};
-ghost use Rattle.canonical_responses.specs.Applying.{canonical_number, original_of, next_unknown, with_unknown, table_after, applied_values, applied_table};
+ghost use Rattle.canonical_responses.specs.Responses.{answer_trees, ResponseHeld, Records};
+ghost use Rattle.canonical_responses.specs.Applying.{root_labels, canonical_number, original_of, next_unknown, with_unknown, unknowns_of, table_after, known_value, applied_values, applied_table};
+ghost use Rattle.canonical_responses.specs.Applied.{solved_in_turn, applied};
+ghost use Rattle.canonical_responses.specs.Shortages.{HasNoUnknown, SomeHasNoUnknown, SomeRunsOut, IsOutOfNumbers};
 ghost use Rattle.canonical_responses.specs.Covers.{Agrees, Continues, IsOfKnown, IsWellPosed};
 
 use crate::constraints::fold_constraints;
@@ -78,7 +82,7 @@ fn known_values(
 ) -> Result<Vec<Option<GenericArgKind>>, AllocError>
     requires { ArgsHeld cx.now.entries values.now }
     ensures count { IfOk result (λ r. length r.items ≡ count) }
-    ensures known { IfOk result (λ r. (i : ℕ) → i < count → get_or r.items i None ≡ original_of cx.now.entries i values.now originals.now) }
+    ensures known { IfOk result (λ r. (i : ℕ) → i < count → get_or r.items i None ≡ original_of i (root_labels (values_of cx.now.entries values.now)) originals.now) }
 {
     let mut known = vec![in alloc; None; count]?;
     for (value, original) in values.iter().zip(originals) {
@@ -99,11 +103,14 @@ fn new_unknown(
     ensures ready { Ready cx.new.entries table.new }
     ensures keeps { Keeps cx.old.entries cx.new.entries }
     ensures limit { cx.new.limit ≡ cx.old.limit }
-    ensures is { IfOk result (λ a. value_of cx.new.entries a ≡ next_unknown table.old kind) }
+    ensures is { IfOk result (λ a. (es : List Entry) → value_of cx.new.entries a ≡ next_unknown (table_trees es table.old) kind) }
     ensures held { IfOk result (λ a. ArgHeld cx.new.entries a) }
-    ensures made { OnOk result (table.new ≡ with_unknown table.old kind) }
+    ensures made { OnOk result ((es : List Entry) → table_trees es table.new ≡ with_unknown (table_trees es table.old) kind) }
+    ensures bindings { table.new.values ≡ table.old.values }
+    ensures constraints { table.new.constraints ≡ table.old.constraints }
     ensures grows { Grows table.old table.new }
     ensures refused { OnErr result (table.new ≡ table.old) }
+    ensures full { result ≡ Err Fault.Full → SomeKindIsFull cx.new.entries cx.new.limit ⊎ ((es : List Entry) → HasNoUnknown None (table_trees es table.old) kind) }
 {
     match kind {
         CanonicalVarKind::Ty | CanonicalVarKind::PlaceholderTy => {
@@ -133,11 +140,14 @@ fn value_or_unknown(
     ensures ready { Ready cx.new.entries table.new }
     ensures keeps { Keeps cx.old.entries cx.new.entries }
     ensures limit { cx.new.limit ≡ cx.old.limit }
-    ensures is { IfOk result (λ a. value_of cx.new.entries a ≡ unwrap_or (option_map (value_of cx.old.entries) known) (next_unknown table.old kind)) }
+    ensures is { IfOk result (λ a. (es : List Entry) → value_of cx.new.entries a ≡ unwrap_or (option_map (value_of cx.old.entries) known) (next_unknown (table_trees es table.old) kind)) }
     ensures held { IfOk result (λ a. ArgHeld cx.new.entries a) }
-    ensures made { OnOk result (table.new ≡ table_after (option_map (value_of cx.old.entries) known) table.old kind) }
+    ensures made { OnOk result ((es : List Entry) → table_trees es table.new ≡ table_after (option_map (value_of cx.old.entries) known) (table_trees es table.old) kind) }
+    ensures bindings { table.new.values ≡ table.old.values }
+    ensures constraints { table.new.constraints ≡ table.old.constraints }
     ensures grows { Grows table.old table.new }
     ensures refused { OnErr result (table.new ≡ table.old) }
+    ensures full { result ≡ Err Fault.Full → SomeKindIsFull cx.new.entries cx.new.limit ⊎ ((es : List Entry) → HasNoUnknown (option_map (value_of cx.old.entries) known) (table_trees es table.old) kind) }
 {
     match known {
         Some(value) => Ok(value),
@@ -163,9 +173,10 @@ fn values_to_apply(
     ensures bindings { table.new.values ≡ table.old.values }
     ensures constraints { table.new.constraints ≡ table.old.constraints }
     ensures grows { Grows table.old table.new }
-    ensures made { OnOk result (table.new ≡ applied_table cx.old.entries table.old original_values.now response.now) }
+    ensures made { OnOk result (table_trees cx.old.entries table.new ≡ applied_table (table_trees cx.old.entries table.old) (values_of cx.old.entries original_values.now) (answer_trees cx.old.entries response.now)) }
     ensures held { IfOk result (λ r. ArgsHeld cx.new.entries r.items) }
-    ensures values { IfOk result (λ r. values_of cx.new.entries r.items ≡ applied_values cx.old.entries table.old original_values.now response.now) }
+    ensures values { IfOk result (λ r. values_of cx.new.entries r.items ≡ applied_values (table_trees cx.old.entries table.old) (values_of cx.old.entries original_values.now) (answer_trees cx.old.entries response.now)) }
+    ensures full { result ≡ Err Fault.Full → SomeKindIsFull cx.new.entries cx.new.limit ⊎ SomeHasNoUnknown (known_value (answer_trees cx.old.entries response.now) (values_of cx.old.entries original_values.now)) (table_trees cx.old.entries table.old) 0 response.now.variables.items }
 {
     let count = response.variables.len();
     let known = known_values(alloc, cx, count, &response.var_values, original_values)?;
@@ -193,6 +204,9 @@ fn equate_values(
     ensures limit { cx.new.limit ≡ cx.old.limit }
     ensures equates { OnOk result (Equates (content cx.old.entries table.old.values) (content cx.new.entries table.new.values) (args_trees cx.old.entries left.now) (args_trees cx.old.entries right.now)) }
     ensures never { result ≡ Err EqError.NoSolution → HasNoSolution (content cx.old.entries table.old.values) (args_trees cx.old.entries left.now) (args_trees cx.old.entries right.now) }
+    ensures exact { OnOk result (solved_in_turn (table_trees cx.old.entries table.old) (args_trees cx.old.entries left.now) (args_trees cx.old.entries right.now) ≡ Some (table_trees cx.new.entries table.new)) }
+    ensures refusal { result ≡ Err EqError.NoSolution → solved_in_turn (table_trees cx.old.entries table.old) (args_trees cx.old.entries left.now) (args_trees cx.old.entries right.now) ≡ None }
+    ensures full { result ≡ Err (EqError.OutOf Fault.Full) → SomeKindIsFull cx.new.entries cx.new.limit ⊎ SomeRunsOut (table_trees cx.old.entries table.old) (args_trees cx.old.entries left.now) (args_trees cx.old.entries right.now) }
 {
     cx.lawful();
     if left.len() != right.len() {
@@ -209,6 +223,7 @@ fn record_constraints(table: &mut InferCtxt, constraints: &[RegionConstraint]) -
     ensures ready { (es : List Entry) → Ready es table.old → AllConstraintsHeld es constraints.now → Ready es table.new }
     ensures grows { Grows table.old table.new }
     ensures kept { table.new ≡ record table.old { constraints = table.new.constraints } }
+    ensures fault { IfErr result (λ e. e ≡ Fault.Memory) }
     ensures recorded { OnOk result (table.new ≡ record table.old { constraints = table.old.constraints ++ constraints.now }) }
 {
     for constraint in constraints {
@@ -230,12 +245,15 @@ fn apply(
     requires ready { Ready cx.old.entries table.old }
     ensures ready { Ready cx.new.entries table.new }
     ensures grows { Grows table.old table.new }
-    ensures unknowns { OnOk result (Grows (applied_table cx.old.entries table.old original_values.now response.now) table.new) }
+    ensures unknowns { OnOk result ((k : Sort) → unknowns_of (applied_table (table_trees cx.old.entries table.old) (values_of cx.old.entries original_values.now) (answer_trees cx.old.entries response.now)) k ≤ variables_of table.new k) }
     ensures keeps { Keeps cx.old.entries cx.new.entries }
     ensures limit { cx.new.limit ≡ cx.old.limit }
-    ensures equates { OnOk result (Equates (content cx.old.entries table.old.values) (content cx.new.entries table.new.values) (args_trees cx.old.entries original_values.now) (filled (applied_values cx.old.entries table.old original_values.now response.now) (args_trees cx.old.entries response.now.var_values.items))) }
-    ensures never { result ≡ Err EqError.NoSolution → HasNoSolution (content cx.old.entries table.old.values) (args_trees cx.old.entries original_values.now) (filled (applied_values cx.old.entries table.old original_values.now response.now) (args_trees cx.old.entries response.now.var_values.items)) }
-    ensures constraints { OnOk result (Records cx.new.entries table.old.constraints table.new.constraints (filled (applied_values cx.old.entries table.old original_values.now response.now) (constraints_trees cx.old.entries response.now.region_constraints.items))) }
+    ensures equates { OnOk result (Equates (content cx.old.entries table.old.values) (content cx.new.entries table.new.values) (args_trees cx.old.entries original_values.now) (filled (applied_values (table_trees cx.old.entries table.old) (values_of cx.old.entries original_values.now) (answer_trees cx.old.entries response.now)) (args_trees cx.old.entries response.now.var_values.items))) }
+    ensures never { result ≡ Err EqError.NoSolution → HasNoSolution (content cx.old.entries table.old.values) (args_trees cx.old.entries original_values.now) (filled (applied_values (table_trees cx.old.entries table.old) (values_of cx.old.entries original_values.now) (answer_trees cx.old.entries response.now)) (args_trees cx.old.entries response.now.var_values.items)) }
+    ensures exact { OnOk result (applied (table_trees cx.old.entries table.old) (values_of cx.old.entries original_values.now) (answer_trees cx.old.entries response.now) ≡ Some (table_trees cx.new.entries table.new)) }
+    ensures refusal { result ≡ Err EqError.NoSolution → applied (table_trees cx.old.entries table.old) (values_of cx.old.entries original_values.now) (answer_trees cx.old.entries response.now) ≡ None }
+    ensures constraints { OnOk result (Records cx.new.entries table.old.constraints table.new.constraints (filled (applied_values (table_trees cx.old.entries table.old) (values_of cx.old.entries original_values.now) (answer_trees cx.old.entries response.now)) (constraints_trees cx.old.entries response.now.region_constraints.items))) }
+    ensures full { result ≡ Err (EqError.OutOf Fault.Full) → SomeKindIsFull cx.new.entries cx.new.limit ⊎ IsOutOfNumbers (table_trees cx.old.entries table.old) (values_of cx.old.entries original_values.now) (answer_trees cx.old.entries response.now) }
 {
     let values = values_to_apply(alloc, cx, table, original_values, response)?;
     let folder = CanonicalInstantiator { values: &values };
@@ -257,7 +275,12 @@ fn apply(
 /// are recorded as equal and refuse nothing.
 ///
 /// Afterwards the solutions of the table are those from before that make the values equal; `NoSolution` comes exactly
-/// where there is none. After a refusal the table is as it was; the interner may hold more terms.
+/// where there is none. After a refusal the table is as it was; the interner may hold more terms. `OutOf(Full)` comes
+/// only where some kind of term has reached its limit, or where a new unknown or a lifetime variable has no number.
+///
+/// What is left, lifetimes and recorded constraints included, is a function of the trees of the goal's values, of the
+/// answer and of what the table held (`applied`), and so is a refusal: no handle decides anything. The values are made
+/// equal from the first on, each pair in the table that those before it left.
 /// `instantiate_and_apply_query_response` of the original.
 pub fn instantiate_and_apply_query_response(
     alloc: Global,
@@ -275,11 +298,11 @@ pub fn instantiate_and_apply_query_response(
     ensures limit { cx.new.limit ≡ cx.old.limit }
 
     // The new unknowns are variables of the table.
-    ensures unknowns { OnOk result (Grows (applied_table cx.old.entries table.old original_values.now response.now) table.new) }
+    ensures unknowns { OnOk result ((k : Sort) → unknowns_of (applied_table (table_trees cx.old.entries table.old) (values_of cx.old.entries original_values.now) (answer_trees cx.old.entries response.now)) k ≤ variables_of table.new k) }
 
     // The solutions are those from before that make the values equal, and there is none where it says so.
-    ensures equates { OnOk result (Equates (content cx.old.entries table.old.values) (content cx.new.entries table.new.values) (args_trees cx.old.entries original_values.now) (filled (applied_values cx.old.entries table.old original_values.now response.now) (args_trees cx.old.entries response.now.var_values.items))) }
-    ensures never { result ≡ Err EqError.NoSolution → HasNoSolution (content cx.old.entries table.old.values) (args_trees cx.old.entries original_values.now) (filled (applied_values cx.old.entries table.old original_values.now response.now) (args_trees cx.old.entries response.now.var_values.items)) }
+    ensures equates { OnOk result (Equates (content cx.old.entries table.old.values) (content cx.new.entries table.new.values) (args_trees cx.old.entries original_values.now) (filled (applied_values (table_trees cx.old.entries table.old) (values_of cx.old.entries original_values.now) (answer_trees cx.old.entries response.now)) (args_trees cx.old.entries response.now.var_values.items))) }
+    ensures never { result ≡ Err EqError.NoSolution → HasNoSolution (content cx.old.entries table.old.values) (args_trees cx.old.entries original_values.now) (filled (applied_values (table_trees cx.old.entries table.old) (values_of cx.old.entries original_values.now) (answer_trees cx.old.entries response.now)) (args_trees cx.old.entries response.now.var_values.items)) }
 
     // A solution with which the answer agrees goes on to the table that is left, and an answer that agrees with one is
     // not refused for want of a solution. The table speaks of its own unknowns alone, as it did before.
@@ -287,9 +310,16 @@ pub fn instantiate_and_apply_query_response(
     ensures accepted { result ≡ Err EqError.NoSolution → IsWellPosed cx.old.entries table.old original_values.now response.now → (s : Assignment) → Solves s (content cx.old.entries table.old.values) → Agrees (args_trees cx.old.entries response.now.var_values.items) (instance s (args_trees cx.old.entries original_values.now)) → ⊥ }
     ensures known { OnOk result (IsWellPosed cx.old.entries table.old original_values.now response.now → IsOfKnown (variables_of table.new) (content cx.new.entries table.new.values)) }
 
+    // What is left, and whether it is refused, is a function of trees.
+    ensures exact { OnOk result (applied (table_trees cx.old.entries table.old) (values_of cx.old.entries original_values.now) (answer_trees cx.old.entries response.now) ≡ Some (table_trees cx.new.entries table.new)) }
+    ensures refusal { result ≡ Err EqError.NoSolution → applied (table_trees cx.old.entries table.old) (values_of cx.old.entries original_values.now) (answer_trees cx.old.entries response.now) ≡ None }
+
     // The answer's constraints come last.
-    ensures constraints { OnOk result (Records cx.new.entries table.old.constraints table.new.constraints (filled (applied_values cx.old.entries table.old original_values.now response.now) (constraints_trees cx.old.entries response.now.region_constraints.items))) }
+    ensures constraints { OnOk result (Records cx.new.entries table.old.constraints table.new.constraints (filled (applied_values (table_trees cx.old.entries table.old) (values_of cx.old.entries original_values.now) (answer_trees cx.old.entries response.now)) (constraints_trees cx.old.entries response.now.region_constraints.items))) }
     ensures refused { OnErr result (table.new ≡ table.old) }
+
+    // A full table names the error only where some kind of term has reached its limit, or where a number is missing.
+    ensures full { result ≡ Err (EqError.OutOf Fault.Full) → SomeKindIsFull cx.new.entries cx.new.limit ⊎ IsOutOfNumbers (table_trees cx.old.entries table.old) (values_of cx.old.entries original_values.now) (answer_trees cx.old.entries response.now) }
 {
     cx.lawful();
     let place = table.snapshot()?;

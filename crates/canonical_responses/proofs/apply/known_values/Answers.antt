@@ -1,11 +1,10 @@
-use Rattle.std.proofs.Common.{◌≡◌, ℕ, ◌+◌, ◌<◌, length, get_or, take, drop, arith, ◌==◌, if◌then◌else◌, Some, None, ap, sym, ◌∙◌, subst, ◌++◌, ◌∷◌, [], length-append}
+use Rattle.std.proofs.Common.{◌≡◌, ◌<◌, length, get_or, take, drop, arith, ◌==◌, if◌then◌else◌, Some, None, ap, sym, ◌∙◌, subst, ◌++◌, ◌∷◌, [], length-append}
 use Rattle.std.specs.Option.{option_or}
 use Rattle.std.specs.Slice.Iter.{iter_rest}
 use Rattle.std.specs.Iterator.Adapters.{zip_first, zip_second}
 use Rattle.std.proofs.lemmas.Slice.Zip.{zip_turn, zip_end}
 use Rattle.type_terms.proofs.InfoFacts.{arg-held-at}
-use Rattle.canonical_responses.specs.Applying.{original_of}
-use Rattle.canonical_responses.proofs.Values.{found-end, or-none, found-passed, found-noted, written}
+use Rattle.canonical_responses.proofs.Values.{own_of, found-end, or-none, found-passed, found-noted, written}
 use Rattle.canonical_responses.proofs.apply.known_values.Goals as goal
 
 pub variable_number-requires : goal.variable_number-requires
@@ -33,7 +32,7 @@ loop-value-preserved c =
     let more = length-append c.loop-value.yielded ((c.in-Some.value, c.in-Some.original) ∷ []) in
     record {
       count = c.loop-value.invariant.count;
-      found = λ i h. subst (λ n. option_or (get_or known i None) (original_of es i (drop n xs) (drop n ys)) ≡ original_of es i xs ys) (sym more)
+      found = λ i h. subst (λ n. option_or (get_or known i None) (own_of es i (drop n xs) (drop n ys)) ≡ own_of es i xs ys) (sym more)
           (found-passed es i xs ys (length c.loop-value.yielded) v o turn.0 turn.1 (turn.2 v) (turn.3 o) (get_or known i None) _ (sym (sym c.in_default.is ∙ c.variable_number.ensures)) (c.loop-value.invariant.found i h));
     }
 
@@ -71,6 +70,6 @@ loop-value-preserved-in-Some-variable_number c =
           let here : i < length c.deref_mut.result.now = omega (arith, h, inv.count, ap length c.deref_mut.ensures.value) in
           let is : get_or (take c.loop-value.known.len (new ++ drop (length new) old)) i None ≡ option_or (get_or old i None) (if n == i then Some o else None) =
           ap (λ z. get_or z i None) same ∙ c.put_first.ensures i here ∙ ap (λ z. option_or (get_or z i None) (if n == i then Some o else None)) c.deref_mut.ensures.value in
-          subst (λ k. option_or (get_or (take c.loop-value.known.len (new ++ drop (length new) old)) i None) (original_of es i (drop k xs) (drop k ys)) ≡ original_of es i xs ys) (sym more)
+          subst (λ k. option_or (get_or (take c.loop-value.known.len (new ++ drop (length new) old)) i None) (own_of es i (drop k xs) (drop k ys)) ≡ own_of es i xs ys) (sym more)
           (found-noted es i xs ys (length c.loop-value.yielded) v o turn.0 turn.1 (turn.2 v) (turn.3 o) n (get_or old i None) _ _ (sym c.variable_number.ensures ∙ c.in-Some-variable_number.is) is (inv.found i h));
     }

@@ -1,6 +1,6 @@
 use Rattle.std.proofs.Common.{◌≡◌, ◌+◌, ◌++◌, ◌∷◌, [], take, ap, sym, ◌∙◌, append_assoc}
 use Rattle.term_traversal.proofs.Items.{take-push}
-use Rattle.infer_table.specs.Content.{Table, IsHeldConstraint}
+use Rattle.infer_table.specs.Content.{Table}
 use Rattle.infer_table.specs.Growth.{grows-trans}
 use Rattle.canonical_responses.proofs.ConstraintLists.{constraint-held-at}
 use Rattle.canonical_responses.proofs.apply.record_constraints.Goals as goal
