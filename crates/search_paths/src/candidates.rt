@@ -1,7 +1,7 @@
 //! The candidates of a frame.
 
 ghost use Rattle.std.specs.Prelude.{◌≡◌, ◌++◌, ◌∷◌, [], Bool, true, false, None, Some, IfOk, OnOk, length, slice_get, slice_set};
-ghost use Rattle.search_paths.specs.declared.fault.GraphFault.TheVariants.{Protocol, Conflict};
+ghost use Rattle.search_paths.specs.declared.fault.GraphFault.TheVariants.{Full, Protocol, Conflict};
 
 use crate::fault::GraphFault;
 use std::alloc::Global;
@@ -36,6 +36,7 @@ impl Candidates {
         ensures finished { self.new.finished ≡ self.old.finished }
         ensures protocol { result ≡ Err Protocol → self.old.open ≡ true }
         ensures no_conflict { result ≡ Err Conflict → ⊥ }
+        ensures room { result ≡ Err Full → ⊥ }
     {
         if self.open {
             return Err(GraphFault::Protocol);
@@ -51,6 +52,7 @@ impl Candidates {
         ensures open { OnOk result ((self.old.open ≡ true) × (self.new.open ≡ false)) }
         ensures protocol { result ≡ Err Protocol → self.old.open ≡ false }
         ensures no_conflict { result ≡ Err Conflict → ⊥ }
+        ensures room { result ≡ Err Full → ⊥ }
     {
         if !self.open {
             return Err(GraphFault::Protocol);
@@ -67,6 +69,7 @@ impl Candidates {
         ensures open { self.new.open ≡ self.old.open }
         ensures protocol { result ≡ Err Protocol → slice_get self.old.finished.items number ≡ Some false → ⊥ }
         ensures no_conflict { result ≡ Err Conflict → ⊥ }
+        ensures room { result ≡ Err Full → ⊥ }
     {
         match self.finished.get(number) {
             Some(false) => {

@@ -23,9 +23,10 @@ pub enum GraphFault {
 }
 
 impl From<Fault> for GraphFault {
-    ghost use Rattle.search_paths.specs.declared.fault.GraphFault.TheVariants.{Conflict as ConflictFault, Protocol as ProtocolFault};
+    ghost use Rattle.search_paths.specs.declared.fault.GraphFault.TheVariants.{Full as FullFault, Conflict as ConflictFault, Protocol as ProtocolFault};
+    ghost use Rattle.type_terms.specs.declared.Fault.TheVariants.{Full as FullTable};
 
-    ghost from_gives = { λ _ e. (e ≡ ConflictFault → ⊥) × (e ≡ ProtocolFault → ⊥) };
+    ghost from_gives = { λ fault e. (e ≡ ConflictFault → ⊥) × (e ≡ ProtocolFault → ⊥) × (e ≡ FullFault → fault ≡ FullTable) };
 
     fn from(fault: Fault) -> Self {
         match fault {
@@ -36,9 +37,9 @@ impl From<Fault> for GraphFault {
 }
 
 impl From<AllocError> for GraphFault {
-    ghost use Rattle.search_paths.specs.declared.fault.GraphFault.TheVariants.{Conflict as ConflictFault, Protocol as ProtocolFault};
+    ghost use Rattle.search_paths.specs.declared.fault.GraphFault.TheVariants.{Full as FullFault, Conflict as ConflictFault, Protocol as ProtocolFault};
 
-    ghost from_gives = { λ _ e. (e ≡ ConflictFault → ⊥) × (e ≡ ProtocolFault → ⊥) };
+    ghost from_gives = { λ _ e. (e ≡ ConflictFault → ⊥) × (e ≡ ProtocolFault → ⊥) × (e ≡ FullFault → ⊥) };
 
     fn from(_: AllocError) -> Self {
         GraphFault::Memory
@@ -46,9 +47,9 @@ impl From<AllocError> for GraphFault {
 }
 
 impl<T: Drop> From<AllocFailed<T>> for GraphFault {
-    ghost use Rattle.search_paths.specs.declared.fault.GraphFault.TheVariants.{Conflict as ConflictFault, Protocol as ProtocolFault};
+    ghost use Rattle.search_paths.specs.declared.fault.GraphFault.TheVariants.{Full as FullFault, Conflict as ConflictFault, Protocol as ProtocolFault};
 
-    ghost from_gives = { λ _ e. (e ≡ ConflictFault → ⊥) × (e ≡ ProtocolFault → ⊥) };
+    ghost from_gives = { λ _ e. (e ≡ ConflictFault → ⊥) × (e ≡ ProtocolFault → ⊥) × (e ≡ FullFault → ⊥) };
 
     fn from(_: AllocFailed<T>) -> Self {
         GraphFault::Memory

@@ -4,3 +4,5 @@ pub mod Plains
 pub mod Faithfuls
 pub mod Errors
 pub mod Caches
+pub mod Places
+pub mod Chains

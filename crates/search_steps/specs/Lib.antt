@@ -6,3 +6,4 @@ pub mod Plain
 pub mod Proof
 pub mod Faithful
 pub mod Cache
+pub mod Chain

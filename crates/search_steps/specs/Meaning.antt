@@ -14,6 +14,8 @@ pub record Meaning (C I R F : Type 0) : Type 1 where
   pub Goal : Type 0
   pub Answer : Type 0
   pub world : C → World
+  -- a table of the context holds as many entries as its limit allows
+  pub IsFull : C → Type 0
   pub IsInput : C → I → Type 0
   pub goal_of : C → I → Goal
   pub IsResult : C → R → Type 0

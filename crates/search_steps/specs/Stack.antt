@@ -1,5 +1,5 @@
 -- What the stack of the search means.
-use Rattle.std.specs.Prelude.{◌≡◌, ◌≤◌, ℕ, length, true, List, [], ◌∷◌, ◌⊎◌, MatchOption}
+use Rattle.std.specs.Prelude.{◌≡◌, ◌≤◌, ◌+◌, ℕ, length, true, cond, nat_eq, find, List, [], ◌∷◌, ◌⊎◌, MatchOption, Option, Some, None}
 use Rattle.search_paths.specs.declared.path_kind.PathKind.{PathKind}
 use Rattle.search_paths.specs.declared.path_kind.PathKind.TheVariants.{Inductive}
 use Rattle.search_steps.specs.declared.delegate.Request.{Request}
@@ -17,6 +17,19 @@ use Rattle.search_steps.specs.Faithful.{IsKept}
 abbrev pub kind_after : {I R : Type 0} → List (StackEntry I R) → PathKind → PathKind
 kind_after [] k = k
 kind_after (e ∷ es) k = greater e.step_kind (kind_after es k)
+
+-- the place of the oldest of these entries with the number, where the first one's place is given
+abbrev pub place_from : {I R : Type 0} → ℕ → List (StackEntry I R) → ℕ → Option ℕ
+place_from place [] number = None
+place_from place (e ∷ es) number = cond (nat_eq number e.number) (Some place) (place_from (place + 1) es number)
+
+-- the place of the oldest goal of a stack with the number
+abbrev pub place_of : {I R : Type 0} → List (StackEntry I R) → ℕ → Option ℕ
+place_of es number = place_from 0 es number
+
+-- the oldest goal of a stack with the number
+abbrev pub oldest_of : {I R : Type 0} → List (StackEntry I R) → ℕ → Option (StackEntry I R)
+oldest_of es number = find (λ e. nat_eq number e.number) es
 
 module _ {C I R F : Type 0} (m : Meaning C I R F) where
   -- the goal of the question follows by a rule whose premises are shown below it

@@ -1,6 +1,10 @@
 //! Results that hold whatever is being evaluated.
 
-ghost use Rattle.std.specs.Prelude.{◌≡◌, ◌+◌, ◌≤◌, ◌⊎◌, [], ℕ, IfOk, OnOk, IfSome, slice_get, true, false};
+ghost use Rattle.std.specs.Prelude.{◌≡◌, ◌+◌, ◌<◌, ◌≤◌, ◌⊎◌, ◌++◌, ◌∷◌, [], ℕ, length, get_or, IfOk, IfErr, OnOk, OnErr, IfSome, IfNone, Some, None, nat_eq, slice_get, true, false};
+ghost use Rattle.std.proofs.Props.{props};
+ghost use Rattle.indexmap.specs.IndexMap.{ContainsKey};
+ghost use Rattle.search_steps.specs.Chain.{newest_of, AreLinked, IsAskedUnder, IsWithinDepth, IsUsable};
+ghost use Rattle.indexmap.specs.IndexSet.{insert_key};
 ghost use Rattle.search_steps.specs.Meaning.{Keeps};
 ghost use Rattle.search_steps.specs.Plain.{IsNotPlain};
 ghost use Rattle.search_steps.specs.Faithful.{IsKept};
@@ -51,6 +55,7 @@ pub(crate) struct Cached<R> {
 fn is_usable(encountered_overflow: bool, needed: usize, depth: usize) -> bool
     ensures overflow { result ≡ true → encountered_overflow ≡ true → needed ≡ depth }
     ensures success { result ≡ true → encountered_overflow ≡ false → needed ≤ depth }
+    ensures within { IsWithinDepth encountered_overflow needed depth → result ≡ true }
 {
     if encountered_overflow {
         needed == depth
@@ -63,11 +68,13 @@ fn is_usable(encountered_overflow: bool, needed: usize, depth: usize) -> bool
 pub struct CachedResults<D: Delegate> {
     alloc: Global,
     /// The goals that were asked, each with its place here as its number.
-    goals: IndexSet<InputOf<D>>,
+    pub goals: IndexSet<InputOf<D>>,
     /// The place of each goal's newest result.
     newest: Vec<Option<usize>>,
     /// The results, the oldest first.
     pub entries: Vec<CacheEntry<InputOf<D>, ResultOf<D>>>,
+    ghost listed: { (number : ℕ) → get_or newest.items number None ≡ newest_of entries.items number } by { Prim.hlevel props },
+    ghost linked: { AreLinked entries.items } by { Prim.hlevel props },
 }
 
 impl<D: Delegate> Drop for CachedResults<D> {
@@ -84,7 +91,8 @@ impl<D: Delegate> Drop for CachedResults<D> {
 impl<D: Delegate> CachedResults<D> {
     /// No results. It takes no memory yet.
     pub fn new(alloc: Global) -> Self
-        ensures { result.entries.items ≡ [] }
+        ensures entries { result.entries.items ≡ [] }
+        ensures goals { result.goals.keys ≡ [] }
     {
         CachedResults {
             alloc,
@@ -96,21 +104,26 @@ impl<D: Delegate> CachedResults<D> {
 
     /// The number of a goal, by one hash of its input unless it is new. It is refused as `copy_input` is.
     pub fn number_of(&mut self, cx: &D::Cx, input: &InputOf<D>) -> Result<usize, GraphFault>
+        ensures number { IfOk result (λ number. slice_get self.new.goals.keys number ≡ Some input.now) }
+        ensures goals { OnOk result (self.new.goals.keys ≡ insert_key D.Cx.Input.eq self.old.goals.keys input.now) }
+        ensures err { OnErr result (self.new.goals.keys ≡ self.old.goals.keys) }
         ensures entries { self.new.entries ≡ self.old.entries }
         ensures no_conflict { result ≡ Err GraphFault.Conflict → ⊥ }
         ensures in_order { result ≡ Err GraphFault.Protocol → ⊥ }
+        ensures room { result ≡ Err GraphFault.Full → ⊥ }
     {
         if let Some(number) = self.goals.get_index_of(input) {
             return Ok(number);
         }
         let key = cx.copy_input(input)?;
-        self.newest.push(None)?;
         let (number, _) = self.goals.insert_full(key)?;
         Ok(number)
     }
 
     /// The place of a goal's newest result.
-    fn newest_of(&self, number: usize) -> Option<usize> {
+    fn newest_of(&self, number: usize) -> Option<usize>
+        ensures { result ≡ newest_of self.now.entries.items number }
+    {
         match self.newest.get(number) {
             Some(place) => *place,
             None => None,
@@ -126,7 +139,8 @@ impl<D: Delegate> CachedResults<D> {
         input: &InputOf<D>,
         depth: usize,
     ) -> Result<Option<usize>, AllocError>
-        ensures { IfOk result (λ found. IfSome found (λ place. (e : _) × (slice_get self.now.entries.items place ≡ Some e) × (e.input ≡ input.now) × (e.encountered_overflow ≡ true → e.depth ≡ depth))) }
+        ensures found { IfOk result (λ found. IfSome found (λ place. (e : _) × (slice_get self.now.entries.items place ≡ Some e) × (e.input ≡ input.now) × (e.encountered_overflow ≡ true → e.depth ≡ depth))) }
+        ensures none { IfOk result (λ found. IfNone found ((place : ℕ) (e : _) → slice_get self.now.entries.items place ≡ Some e → IsUsable self.now.entries.items (ContainsKey nat_eq positions.now) number input.now depth place e → ⊥)) }
     {
         let mut next = self.newest_of(number);
         for _ in 0..self.entries.len() {
@@ -154,7 +168,9 @@ impl<D: Delegate> CachedResults<D> {
         positions: &IndexMap<usize, usize>,
         on_stack: Span,
         place: usize,
-    ) -> Result<bool, AllocError> {
+    ) -> Result<bool, AllocError>
+        ensures { IfOk result (λ clear. clear ≡ false → (asked : ℕ) × IsAskedUnder self.now.entries.items place asked × ContainsKey nat_eq positions.now asked) }
+    {
         let Some(entry) = self.entries.get(place) else {
             return Ok(true);
         };
@@ -209,6 +225,7 @@ impl<D: Delegate> CachedResults<D> {
         ensures kept { IfOk result (λ r. IsKept D.meaning (D.meaning.world cx.now) (D.meaning.goal_of cx.now input.now) (D.meaning.answer_of cx.now r.result) r.depth r.encountered_overflow) }
         ensures within { IfOk result (λ r. (before : _) → AreCachedWithin D.meaning (D.meaning.world cx.now) before cx.now self.now.entries.items → IsWithin D.meaning (D.meaning.world cx.now) before (D.meaning.goal_of cx.now input.now) (D.meaning.answer_of cx.now r.result)) }
         ensures entry { IfOk result (λ r. (e : _) × (slice_get self.now.entries.items place ≡ Some e) × (r.depth ≡ e.depth) × (r.encountered_overflow ≡ e.encountered_overflow)) }
+        ensures memory { IfErr result (λ fault. fault ≡ Fault.Memory) }
     {
         let entry = &self.entries[place];
         let copy = cx.copy_result(&entry.result)?;
@@ -282,11 +299,15 @@ impl<D: Delegate> CachedResults<D> {
         requires input { D.meaning.IsInput cx.now input }
         requires result { IsProvisional D.meaning (D.meaning.world cx.now) [] (D.meaning.goal_of cx.now input, PathKind.Inductive) 0 cx.now found.now }
         requires kept { IsKept D.meaning (D.meaning.world cx.now) (D.meaning.goal_of cx.now input) (D.meaning.answer_of cx.now found.now) depth encountered_overflow }
+        ensures place { IfOk result (λ place. place ≡ length self.old.entries.items) }
+        ensures kept { OnOk result ((e : _) × (self.new.entries.items ≡ self.old.entries.items ++ e ∷ []) × (e.input ≡ input) × (e.result ≡ found.now) × (e.depth ≡ depth) × (e.encountered_overflow ≡ encountered_overflow) × (e.number ≡ number)) }
+        ensures err { OnErr result (self.new.entries.items ≡ self.old.entries.items) }
         ensures cache { AreCached D.meaning (D.meaning.world cx.now) cx.now self.new.entries.items }
         ensures within { OnOk result ((before : _) → AreCachedWithin D.meaning (D.meaning.world cx.now) before cx.now self.old.entries.items → IsWithin D.meaning (D.meaning.world cx.now) before (D.meaning.goal_of cx.now input) (D.meaning.answer_of cx.now found.now) → AreCachedWithin D.meaning (D.meaning.world cx.now) before cx.now self.new.entries.items) }
         ensures no_conflict { result ≡ Err GraphFault.Conflict → (limit : ℕ) → (limit ≤ depth + 1) ⊎ (encountered_overflow ≡ false) → IsNotPlain D.meaning (D.meaning.world cx.now) limit (D.meaning.goal_of cx.now input) }
         ensures conflict { result ≡ Err GraphFault.Conflict → HasConflict D.meaning cx.now (known_results self.new.entries.items) }
         ensures in_order { result ≡ Err GraphFault.Protocol → ⊥ }
+        ensures room { result ≡ Err GraphFault.Full → ⊥ }
     {
         if self.differs(number, &input, found, depth, encountered_overflow) {
             return Err(GraphFault::Conflict);
@@ -294,6 +315,7 @@ impl<D: Delegate> CachedResults<D> {
         let result = cx.copy_result(found)?;
         let place = self.entries.len();
         let previous = self.newest_of(number);
+        make_room(&mut self.newest, number)?;
         self.entries.push(CacheEntry {
             input,
             result,
@@ -303,11 +325,20 @@ impl<D: Delegate> CachedResults<D> {
             previous,
             nested_goals,
         })?;
-        if number < self.newest.len() {
-            self.newest[number] = Some(place);
-        }
+        self.newest[number] = Some(place);
         Ok(place)
     }
+}
+
+/// Adds goals without results, up to the one with the number.
+fn make_room(newest: &mut Vec<Option<usize>>, number: usize) -> Result<(), AllocError>
+    ensures room { OnOk result (number < length newest.new.items) }
+    ensures same { (other : ℕ) → get_or newest.new.items other None ≡ get_or newest.old.items other None }
+{
+    while newest.len() <= number {
+        newest.push(None)?;
+    }
+    Ok(())
 }
 
 /// Whether two overflows had one depth; successes are alike at any.

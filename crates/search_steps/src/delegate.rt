@@ -1,7 +1,8 @@
 //! What a search is lent: a context with goals and results, and frames that evaluate a goal step by step.
 
-ghost use Rattle.std.specs.Prelude.{◌≡◌, ◌↔◌, [], ℕ, ◌<◌, ◌≤◌, IfOk, IsSome, true, false};
+ghost use Rattle.std.specs.Prelude.{◌≡◌, ◌↔◌, [], ℕ, ◌<◌, ◌≤◌, IfOk, IfErr, IsSome, true, false};
 ghost use Rattle.search_steps.specs.Meaning.{Meaning, Keeps, IsReply, IsDue, Steps, IsFair, IsLawful};
+ghost use Rattle.type_terms.specs.declared.Fault.TheVariants.{Memory, Full};
 
 use search_paths::PathKind;
 use std::hash::Hash;
@@ -20,11 +21,13 @@ pub trait Cx {
 
     /// The same input, or a fault where memory is refused.
     fn copy_input(&self, input: &Self::Input) -> Result<Self::Input, Fault>
-        ensures { IfOk result (λ copy. copy ≡ input.now) };
+        ensures copy { IfOk result (λ copy. copy ≡ input.now) }
+        ensures memory { IfErr result (λ fault. fault ≡ Memory) };
 
     /// The same result, or a fault where memory is refused.
     fn copy_result(&self, of: &Self::Result) -> Result<Self::Result, Fault>
-        ensures { IfOk result (λ copy. copy ≡ of.now) };
+        ensures copy { IfOk result (λ copy. copy ≡ of.now) }
+        ensures memory { IfErr result (λ fault. fault ≡ Memory) };
 
     /// Inputs that are equal are the same value.
     ghost same_input: { (a b : Self.Input) → Self.Input.eq a b ≡ true → a ≡ b };
@@ -101,6 +104,7 @@ pub trait Delegate {
     ) -> Result<ResultOf<Self>, Fault>
         requires { meaning.IsInput cx.old input.now }
         ensures keeps { Keeps meaning cx.old cx.new }
+        ensures full { result ≡ Err Full → meaning.IsFull cx.new }
         ensures is { IfOk result (λ r. meaning.IsResult cx.new r × (meaning.answer_of cx.new r ≡ meaning.initial (meaning.world cx.old) (meaning.goal_of cx.old input.now) kind)) };
 
     /// Whether the goal's initial result for paths of this kind is this one.
@@ -121,6 +125,7 @@ pub trait Delegate {
     ) -> Result<ResultOf<Self>, Fault>
         requires { meaning.IsInput cx.old input.now }
         ensures keeps { Keeps meaning cx.old cx.new }
+        ensures full { result ≡ Err Full → meaning.IsFull cx.new }
         ensures is { IfOk result (λ r. meaning.IsResult cx.new r × (meaning.answer_of cx.new r ≡ meaning.stack_overflow (meaning.world cx.old) (meaning.goal_of cx.old input.now))) };
 
     /// The result of a goal that was run as often as it may be.
@@ -130,6 +135,7 @@ pub trait Delegate {
     ) -> Result<ResultOf<Self>, Fault>
         requires { meaning.IsInput cx.old input.now }
         ensures keeps { Keeps meaning cx.old cx.new }
+        ensures full { result ≡ Err Full → meaning.IsFull cx.new }
         ensures is { IfOk result (λ r. meaning.IsResult cx.new r × (meaning.answer_of cx.new r ≡ meaning.fixpoint_overflow (meaning.world cx.old) (meaning.goal_of cx.old input.now))) };
 
     /// Why the result is ambiguous, where it is. A goal with such a result isn't run again.
@@ -148,6 +154,7 @@ pub trait Delegate {
     ) -> Result<ResultOf<Self>, Fault>
         requires { meaning.IsInput cx.old for_input.now }
         ensures keeps { Keeps meaning cx.old cx.new }
+        ensures full { result ≡ Err Full → meaning.IsFull cx.new }
         ensures known { IfOk result (meaning.IsResult cx.new) }
         ensures fair { IfOk result (λ r. IsFair meaning (meaning.world cx.old) (meaning.goal_of cx.old for_input.now) (meaning.answer_of cx.new r)) }
         ensures no_yes { IfOk result (λ r. meaning.is_yes (meaning.answer_of cx.new r) ≡ false) };
@@ -156,6 +163,7 @@ pub trait Delegate {
     fn start(cx: &mut Self::Cx, input: &InputOf<Self>) -> Result<Self::Frame, Fault>
         requires { meaning.IsInput cx.old input.now }
         ensures keeps { Keeps meaning cx.old cx.new }
+        ensures full { result ≡ Err Full → meaning.IsFull cx.new }
         ensures started { IfOk result (λ f. meaning.HasHeard cx.new (meaning.goal_of cx.old input.now) [] f) };
 
     /// Gives a frame the reply that it waits for, and answers what it wants next.
@@ -167,6 +175,7 @@ pub trait Delegate {
         requires due { IsDue meaning cx.old frame.old reply }
         requires reply { IsReply meaning cx.old reply }
         ensures keeps { Keeps meaning cx.old cx.new }
+        ensures full { result ≡ Err Full → meaning.IsFull cx.new }
         ensures steps { IfOk result (λ q. Steps meaning cx.old frame.old reply cx.new frame.new q) }
         ensures falls { IfOk result (λ q. steps_left frame.new < steps_left frame.old) };
 

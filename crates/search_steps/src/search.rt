@@ -1,15 +1,18 @@
 //! The goals that are being evaluated, and the steps of their evaluation that ask no goal.
 
-ghost use Rattle.std.specs.Prelude.{◌≡◌, [], ◌∷◌, ℕ, ◌+◌, ◌-◌, ◌^◌, ◌/◌, ◌<◌, ◌≤◌, ◌↔◌, ◌++◌, ◌⊎◌, length, max, min, IfOk, IfSome, IsSome, OnOk, None, slice_get, drop, true, false, cond, option_to_list};
+ghost use Rattle.std.specs.Prelude.{◌≡◌, [], ◌∷◌, ℕ, ◌+◌, ◌-◌, ◌^◌, ◌/◌, ◌<◌, ◌≤◌, ◌↔◌, ◌++◌, ◌⊎◌, length, max, min, IfOk, IfSome, IfNone, IsSome, OnOk, OnErr, None, nat_eq, slice_get, drop, true, false, cond, option_to_list};
+ghost use Rattle.std.proofs.Props.{props};
+ghost use Rattle.indexmap.specs.IndexMap.{get};
+ghost use Rattle.search_steps.specs.Chain.{IsUsable};
 ghost use Rattle.search_steps.specs.Meaning.{Keeps};
 ghost use Rattle.search_steps.specs.Cache.{known_results, HasConflict};
 ghost use Rattle.search_steps.specs.Plain.{IsNotPlain};
 ghost use Rattle.search_steps.specs.Faithful.{AllDescend, IsFaithful, IsKept};
-ghost use Rattle.search_steps.specs.Stack.{kind_after, path_onto, IsStack, IsAnswer, IsProvisional, IsSettled, AreCached, IsWithin, AreLastWithin, AreCachedWithin};
+ghost use Rattle.search_steps.specs.Stack.{kind_after, place_of, oldest_of, path_onto, IsStack, IsAnswer, IsProvisional, IsSettled, AreCached, IsWithin, AreLastWithin, AreCachedWithin};
 
 use crate::cache::{Cached, CachedResults};
 use crate::delegate::{Cx, Delegate, InputOf, ResultOf};
-use crate::stack::{Cycle, StackEntry, find_cycle};
+use crate::stack::{Cycle, StackEntry, add_place, find_cycle, remove_place};
 use indexmap::IndexMap;
 use search_paths::{
     Dependencies, EvaluationResult, GraphFault, NestedGoals, PathKind, PathsToNested, Span,
@@ -28,6 +31,7 @@ pub struct Search<D: Delegate> {
     pub stack: Vec<StackEntry<InputOf<D>, ResultOf<D>>>,
     /// The place of each goal of the stack, by its number.
     positions: IndexMap<usize, usize>,
+    ghost placed: { (number : ℕ) → get nat_eq positions number ≡ place_of stack.items number } by { Prim.hlevel props },
     /// Whether a limit of the depth or of the runs gave a result.
     pub limits_met: bool,
     /// How many frames were started, or the greatest `u64` if there were more.
@@ -110,7 +114,8 @@ impl<D: Delegate> Search<D> {
         ensures limits { self.new.limits_met ≡ self.old.limits_met }
     {
         self.frames = self.frames.saturating_add(1);
-        self.positions.insert(entry.number, self.stack.len())?;
+        self.stack.reserve(1)?;
+        add_place(&mut self.positions, entry.number, self.stack.len())?;
         self.stack.push(entry)?;
         Ok(())
     }
@@ -122,12 +127,13 @@ impl<D: Delegate> Search<D> {
         ensures frames { self.new.frames ≡ self.old.frames }
         ensures limits { self.new.limits_met ≡ self.old.limits_met }
     {
-        let _ = self.positions.pop();
-        self.stack.pop()
+        let entry = self.stack.pop()?;
+        remove_place(&mut self.positions, entry.number, self.stack.len());
+        Some(entry)
     }
 
     /// The place of a cached result for the goal that one of this depth may use now: no goal that was asked under it is on the
-    /// stack. After an overflow by depth it had the same depth.
+    /// stack. After an overflow by depth it had the same depth. None is found only where none of the goal's number may be used.
     pub fn find_cached(
         &self,
         cache: &CachedResults<D>,
@@ -135,7 +141,8 @@ impl<D: Delegate> Search<D> {
         input: &InputOf<D>,
         depth: usize,
     ) -> Result<Option<usize>, AllocError>
-        ensures { IfOk result (λ found. IfSome found (λ place. (e : _) × (slice_get cache.now.entries.items place ≡ Some e) × (e.input ≡ input.now) × (e.encountered_overflow ≡ true → e.depth ≡ depth))) }
+        ensures found { IfOk result (λ found. IfSome found (λ place. (e : _) × (slice_get cache.now.entries.items place ≡ Some e) × (e.input ≡ input.now) × (e.encountered_overflow ≡ true → e.depth ≡ depth))) }
+        ensures none { IfOk result (λ found. IfNone found ((place : ℕ) (e : _) → slice_get cache.now.entries.items place ≡ Some e → IsUsable cache.now.entries.items (λ asked. IsSome (place_of self.now.stack.items asked)) number input.now depth place e → ⊥)) }
     {
         cache.find(&self.positions, self.span(), number, input, depth)
     }
@@ -147,7 +154,9 @@ impl<D: Delegate> Search<D> {
         input: &InputOf<D>,
         step_kind: PathKind,
     ) -> Option<Cycle>
-        ensures { IfSome result (λ cycle. (e : _) × (slice_get self.now.stack.items cycle.index ≡ Some e) × (e.input ≡ input.now) × (cycle.path_kind ≡ kind_after (drop (cycle.index + 1) self.now.stack.items) step_kind)) }
+        ensures found { IfSome result (λ cycle. (e : _) × (slice_get self.now.stack.items cycle.index ≡ Some e) × (e.input ≡ input.now) × (cycle.path_kind ≡ kind_after (drop (cycle.index + 1) self.now.stack.items) step_kind)) }
+        ensures place { IfSome result (λ cycle. place_of self.now.stack.items number ≡ Some cycle.index) }
+        ensures none { IfNone result (IfSome (oldest_of self.now.stack.items number) (λ e. e.input ≡ input.now → ⊥)) }
     {
         find_cycle::<D>(&self.stack, &self.positions, number, input, step_kind)
     }
@@ -165,6 +174,7 @@ impl<D: Delegate> Search<D> {
         requires input { D.meaning.IsInput cx.old input.now }
         requires cycle { (e : _) × (slice_get self.now.stack.items cycle.index ≡ Some e) × (e.input ≡ input.now) × (cycle.path_kind ≡ kind_after (drop (cycle.index + 1) self.now.stack.items) step_kind) }
         ensures keeps { Keeps D.meaning cx.old cx.new }
+        ensures full { result ≡ Err Fault.Full → D.meaning.IsFull cx.new }
         ensures answer { IfOk result (λ r. IsAnswer D.meaning (D.meaning.world cx.old) (path_onto D.meaning cx.old self.now.stack.items []) (D.meaning.goal_of cx.old input.now, step_kind) r.1 cx.new r.0) }
         ensures not_plain { IfOk result (λ r. (limit : ℕ) → AllDescend D.meaning (D.meaning.world cx.old) limit r.1 (path_onto D.meaning cx.old self.now.stack.items []) (D.meaning.goal_of cx.old input.now) → IsNotPlain D.meaning (D.meaning.world cx.old) limit (D.meaning.goal_of cx.old input.now)) }
         ensures within { IfOk result (λ r. (before : _) → AreLastWithin D.meaning (D.meaning.world cx.old) before cx.old self.now.stack.items → IsWithin D.meaning (D.meaning.world cx.old) before (D.meaning.goal_of cx.old input.now) (D.meaning.answer_of cx.new r.0)) }
@@ -200,6 +210,7 @@ impl<D: Delegate> Search<D> {
         ensures within { IfOk result (λ o. (before : _) → AreCachedWithin D.meaning (D.meaning.world cx.now) before cx.now cache.now.entries.items → IsWithin D.meaning (D.meaning.world cx.now) before (D.meaning.goal_of cx.now input.now) (D.meaning.answer_of cx.now o.result)) }
         ensures no_conflict { result ≡ Err GraphFault.Conflict → ⊥ }
         ensures in_order { result ≡ Err GraphFault.Protocol → ⊥ }
+        ensures room { result ≡ Err GraphFault.Full → ⊥ }
     {
         let cached = cache.get(cx, place, input)?;
         let Cached {
@@ -226,7 +237,6 @@ impl<D: Delegate> Search<D> {
         number: usize,
         input: InputOf<D>,
         step_kind: PathKind,
-        overflowed: bool,
     ) -> Evaluation<D>
         requires { D.meaning.IsInput cx.old input }
         ensures keeps { Keeps D.meaning cx.old cx.new }
@@ -234,9 +244,14 @@ impl<D: Delegate> Search<D> {
         ensures frames { self.new.frames ≡ self.old.frames }
         ensures noted { self.new.limits_met ≡ true }
         ensures answer { IfOk result (λ o. IsAnswer D.meaning (D.meaning.world cx.old) (path_onto D.meaning cx.old self.old.stack.items []) (D.meaning.goal_of cx.old input, step_kind) o.dependencies.lowest cx.new o.result) }
-        ensures faithful { IfOk result (λ o. IsFaithful D.meaning (D.meaning.world cx.old) (cond overflowed 0 0) (path_onto D.meaning cx.old self.old.stack.items []) (D.meaning.goal_of cx.old input) (D.meaning.answer_of cx.new o.result) o.dependencies.encountered_overflow o.dependencies.lowest o.dependencies.heads.items) }
+        ensures overflow { IfOk result (λ o. D.meaning.answer_of cx.new o.result ≡ D.meaning.stack_overflow (D.meaning.world cx.old) (D.meaning.goal_of cx.old input)) }
+        ensures told { IfOk result (λ o. o.dependencies.encountered_overflow ≡ true) }
+        ensures unread { IfOk result (λ o. (o.dependencies.lowest ≡ length self.old.stack.items) × (o.dependencies.heads.items ≡ [])) }
+        ensures asked { IfOk result (λ o. (o.dependencies.nested_goals.goals.items ≡ number ∷ []) × (o.dependencies.nested_goals.cached.items ≡ [])) }
+        ensures depth { IfOk result (λ o. o.dependencies.required_depth ≡ 0) }
         ensures no_conflict { result ≡ Err GraphFault.Conflict → ⊥ }
         ensures in_order { result ≡ Err GraphFault.Protocol → ⊥ }
+        ensures full { result ≡ Err GraphFault.Full → D.meaning.IsFull cx.new }
     {
         self.limits_met = true;
         let answer = D::stack_overflow_result(cx, &input)?;
@@ -324,15 +339,22 @@ pub fn finish<D: Delegate>(
     requires input { D.meaning.IsInput cx.now input }
     requires alone { index ≤ evaluation.dependencies.lowest → IsProvisional D.meaning (D.meaning.world cx.now) [] (D.meaning.goal_of cx.now input, PathKind.Inductive) 0 cx.now evaluation.result }
     requires kept { index ≤ evaluation.dependencies.lowest → IsKept D.meaning (D.meaning.world cx.now) (D.meaning.goal_of cx.now input) (D.meaning.answer_of cx.now evaluation.result) depth evaluation.dependencies.encountered_overflow }
+    ensures kept { OnOk result (index ≤ evaluation.dependencies.lowest → (e : _) × (cache.new.entries.items ≡ cache.old.entries.items ++ e ∷ []) × (e.input ≡ input) × (e.result ≡ evaluation.result) × (e.depth ≡ cond evaluation.dependencies.encountered_overflow depth evaluation.dependencies.required_depth) × (e.encountered_overflow ≡ evaluation.dependencies.encountered_overflow) × (e.number ≡ number)) }
+    ensures unkept { OnOk result (evaluation.dependencies.lowest < index → cache.new.entries.items ≡ cache.old.entries.items) }
+    ensures err { OnErr result ((cache.new.entries.items ≡ cache.old.entries.items) ⊎ ((e : _) × (cache.new.entries.items ≡ cache.old.entries.items ++ e ∷ []))) }
     ensures cache { AreCached D.meaning (D.meaning.world cx.now) cx.now cache.new.entries.items }
     ensures same { IfOk result (λ o. o.result ≡ evaluation.result) }
     ensures lowest { IfOk result (λ o. o.dependencies.lowest ≡ evaluation.dependencies.lowest) }
     ensures heads { IfOk result (λ o. o.dependencies.heads ≡ evaluation.dependencies.heads) }
     ensures overflow { IfOk result (λ o. o.dependencies.encountered_overflow ≡ evaluation.dependencies.encountered_overflow) }
+    ensures depth { IfOk result (λ o. o.dependencies.required_depth ≡ evaluation.dependencies.required_depth) }
+    ensures found { IfOk result (λ o. index ≤ evaluation.dependencies.lowest → (o.dependencies.nested_goals.goals.items ≡ []) × (o.dependencies.nested_goals.cached.items ≡ length cache.old.entries.items ∷ [])) }
+    ensures asked { IfOk result (λ o. evaluation.dependencies.lowest < index → (o.dependencies.nested_goals.goals.items ≡ evaluation.dependencies.nested_goals.goals.items ++ number ∷ []) × (o.dependencies.nested_goals.cached ≡ evaluation.dependencies.nested_goals.cached)) }
     ensures within { OnOk result ((before : _) → AreCachedWithin D.meaning (D.meaning.world cx.now) before cx.now cache.old.entries.items → IsWithin D.meaning (D.meaning.world cx.now) before (D.meaning.goal_of cx.now input) (D.meaning.answer_of cx.now evaluation.result) → AreCachedWithin D.meaning (D.meaning.world cx.now) before cx.now cache.new.entries.items) }
     ensures no_conflict { result ≡ Err GraphFault.Conflict → (limit : ℕ) → limit ≤ depth + 1 → IsNotPlain D.meaning (D.meaning.world cx.now) limit (D.meaning.goal_of cx.now input) }
     ensures conflict { result ≡ Err GraphFault.Conflict → HasConflict D.meaning cx.now (known_results cache.new.entries.items) }
     ensures in_order { result ≡ Err GraphFault.Protocol → ⊥ }
+    ensures room { result ≡ Err GraphFault.Full → ⊥ }
 {
     let EvaluationResult {
         result: answer,

@@ -1,11 +1,13 @@
 //! The goals that are being evaluated, each asked by the one before.
 
-ghost use Rattle.std.specs.Prelude.{◌≡◌, ◌+◌, ◌<◌, IfSome, Some, length, slice_get, drop};
+ghost use Rattle.std.specs.Prelude.{◌≡◌, ◌+◌, ◌<◌, ℕ, IfSome, IfNone, OnOk, OnErr, Some, None, cond, nat_eq, length, slice_get, drop};
+ghost use Rattle.indexmap.specs.IndexMap.{get};
 ghost use Rattle.search_steps.specs.Stack.{kind_after};
 
 use crate::delegate::{Delegate, InputOf, ResultOf};
 use indexmap::IndexMap;
 use search_paths::{Dependencies, PathKind, Span};
+use std::alloc::AllocError;
 
 /// A goal that is being evaluated. `StackEntry` of `rustc_type_ir::search_graph`.
 #[derive(Drop)]
@@ -57,6 +59,36 @@ pub struct Cycle {
     pub path_kind: PathKind,
 }
 
+/// Gives the number of a goal a place, unless it has one.
+pub(crate) fn add_place(
+    positions: &mut IndexMap<usize, usize>,
+    number: usize,
+    place: usize,
+) -> Result<(), AllocError>
+    ensures again { OnOk result ((older : ℕ) → get nat_eq positions.old number ≡ Some older → (other : ℕ) → get nat_eq positions.new other ≡ get nat_eq positions.old other) }
+    ensures added { OnOk result (get nat_eq positions.old number ≡ None → (other : ℕ) → get nat_eq positions.new other ≡ cond (nat_eq number other) (Some place) (get nat_eq positions.old other)) }
+    ensures err { OnErr result ((other : ℕ) → get nat_eq positions.new other ≡ get nat_eq positions.old other) }
+{
+    if positions.contains_key(&number) {
+        return Ok(());
+    }
+    positions.insert(number, place)?;
+    Ok(())
+}
+
+/// Takes the place of a number away, if it is this one.
+pub(crate) fn remove_place(positions: &mut IndexMap<usize, usize>, number: usize, place: usize)
+    ensures removed { get nat_eq positions.old number ≡ Some place → (other : ℕ) → get nat_eq positions.new other ≡ cond (nat_eq number other) None (get nat_eq positions.old other) }
+    ensures kept { (get nat_eq positions.old number ≡ Some place → ⊥) → (other : ℕ) → get nat_eq positions.new other ≡ get nat_eq positions.old other }
+{
+    let Some(found) = positions.get(&number).copied() else {
+        return;
+    };
+    if found == place {
+        positions.swap_remove(&number);
+    }
+}
+
 /// The cycle that a question closes, if its goal is on the stack. `positions` has the place of each goal by its number.
 pub(crate) fn find_cycle<D: Delegate>(
     stack: &[StackEntry<InputOf<D>, ResultOf<D>>],
@@ -65,7 +97,9 @@ pub(crate) fn find_cycle<D: Delegate>(
     input: &InputOf<D>,
     step_kind: PathKind,
 ) -> Option<Cycle>
-    ensures { IfSome result (λ cycle. (e : _) × (slice_get stack.now cycle.index ≡ Some e) × (e.input ≡ input.now) × (cycle.path_kind ≡ kind_after (drop (cycle.index + 1) stack.now) step_kind)) }
+    ensures found { IfSome result (λ cycle. (e : _) × (slice_get stack.now cycle.index ≡ Some e) × (e.input ≡ input.now) × (cycle.path_kind ≡ kind_after (drop (cycle.index + 1) stack.now) step_kind)) }
+    ensures place { IfSome result (λ cycle. get nat_eq positions.now number ≡ Some cycle.index) }
+    ensures none { IfNone result ((place : ℕ) (e : _) → get nat_eq positions.now number ≡ Some place → slice_get stack.now place ≡ Some e → e.input ≡ input.now → ⊥) }
 {
     let index = *positions.get(&number)?;
     if index >= stack.len() {

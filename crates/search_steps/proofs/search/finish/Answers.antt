@@ -1,4 +1,4 @@
-use Rattle.std.proofs.Common.{inl, inr}
+use Rattle.std.proofs.Common.{◌∙◌, inl, inr}
 use Rattle.std.proofs.lemmas.Result.{err_from_is_err_and}
 use Rattle.search_steps.proofs.Errors.{err_passed}
 use Rattle.search_steps.proofs.search.finish.Goals as goal
@@ -24,3 +24,29 @@ pub returns-in_err-place-clause-conflict : goal.returns-in_err-place-clause-conf
 returns-in_err-place-clause-conflict g c =
     let p = err_from_is_err_and c.from_residual.result c.from_residual.ensures.1 in
     λ h. c.in_err-place.ensures.conflict (err_passed _ _ _ _ p.1 p.2 h)
+
+pub returns-then-lowest-index-clause-kept : goal.returns-then-lowest-index-clause-kept
+returns-then-lowest-index-clause-kept g c = λ h.
+    let kept = c.in_ok-place.ensures.kept in (
+      kept.0,
+      kept.1,
+      kept.2,
+      kept.3,
+      elim c.if-encountered_overflow.branch [
+        | then-encountered_overflow w ↦ rw w.if-encountered_overflow.true (kept.4 ∙ w.kept_depth-is)
+        | else-encountered_overflow w ↦ rw w.if-encountered_overflow.false (kept.4 ∙ w.kept_depth-is)
+      ],
+      kept.5,
+      kept.6,
+    )
+
+pub returns-in_err-place-clause-err : goal.returns-in_err-place-clause-err
+returns-in_err-place-clause-err g c =
+    let p = err_from_is_err_and c.from_residual.result c.from_residual.ensures.1 in
+    rw p.1 (inl c.in_err-place.ensures.err)
+
+pub returns-in_err-add_cached-clause-err : goal.returns-in_err-add_cached-clause-err
+returns-in_err-add_cached-clause-err g c =
+    let p = err_from_is_err_and c.from_residual-in_err-add_cached.result c.from_residual-in_err-add_cached.ensures.1 in
+    let kept = c.in_ok-place.ensures.kept in
+    rw p.1 (inr (kept.0, kept.1))

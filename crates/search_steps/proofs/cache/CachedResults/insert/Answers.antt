@@ -1,20 +1,16 @@
-use Rattle.std.proofs.Common.{◌∙◌, sym, inr, subst}
+use Rattle.std.proofs.Common.{◌≡◌, length, ◌∙◌, sym, inr, subst}
 use Rattle.search_steps.proofs.Caches.{HasConflict-at}
+use Rattle.search_steps.proofs.Chains.{AreLinked-push, listed_push}
 use Rattle.search_steps.proofs.Graphs.{Keeps-refl, cached_insert, IsCached-at}
 use Rattle.search_steps.proofs.Limits.{AreCachedWithin-push}
 use Rattle.search_steps.proofs.Faithfuls.{true_not_false}
 use Rattle.search_steps.specs.Computed.{IsComputed, IsGiven}
 use Rattle.search_steps.proofs.cache.CachedResults.insert.Goals as goal
 
-pub returns-then-number-len-clause-cache : goal.returns-then-number-len-clause-cache
-returns-then-number-len-clause-cache g c = rw c.in_ok-push.ensures.items
+pub returns-clause-cache : goal.returns-clause-cache
+returns-clause-cache g c = rw c.in_ok-push.ensures.items
     (cached_insert g.D.Delegate.meaning c.args.cx.now c.args.cx.now c.args.self.now.entries.items (record { input = c.args.input; result = c.in_ok-result.result; depth = c.args.depth; encountered_overflow = c.args.encountered_overflow; number = c.args.number; previous = c.newest_of-previous.result; nested_goals = c.args.nested_goals }) c.args.found.now
-    c.requires.cache (Keeps-refl g.D.Delegate.meaning c.args.cx.now) c.requires.input c.in_ok-result.ensures c.requires.result c.requires.kept)
-
-pub returns-else-number-len-clause-cache : goal.returns-else-number-len-clause-cache
-returns-else-number-len-clause-cache g c = rw c.in_ok-push.ensures.items
-    (cached_insert g.D.Delegate.meaning c.args.cx.now c.args.cx.now c.args.self.now.entries.items (record { input = c.args.input; result = c.in_ok-result.result; depth = c.args.depth; encountered_overflow = c.args.encountered_overflow; number = c.args.number; previous = c.newest_of-previous.result; nested_goals = c.args.nested_goals }) c.args.found.now
-    c.requires.cache (Keeps-refl g.D.Delegate.meaning c.args.cx.now) c.requires.input c.in_ok-result.ensures c.requires.result c.requires.kept)
+    c.requires.cache (Keeps-refl g.D.Delegate.meaning c.args.cx.now) c.requires.input c.in_ok-result.ensures.copy c.requires.result c.requires.kept)
 
 pub returns-then-differs-clause-no_conflict : goal.returns-then-differs-clause-no_conflict
 returns-then-differs-clause-no_conflict g c = λ conflict limit reach n b within p.
@@ -42,10 +38,15 @@ returns-then-differs-clause-conflict g c = λ conflict.
       other = λ s. let equal = g.met.D.Delegate.same_answer cx e.result c.args.found.now cached.result.known c.requires.result.known s in true_not_false (sym equal ∙ other.5);
     })
 
-pub returns-then-number-len-clause-within : goal.returns-then-number-len-clause-within
-returns-then-number-len-clause-within g c = λ before cached found. rw c.in_ok-push.ensures.items
-    (AreCachedWithin-push g.D.Delegate.meaning (g.D.Delegate.meaning.world c.args.cx.now) before c.args.cx.now c.args.self.now.entries.items (record { input = c.args.input; result = c.in_ok-result.result; depth = c.args.depth; encountered_overflow = c.args.encountered_overflow; number = c.args.number; previous = c.newest_of-previous.result; nested_goals = c.args.nested_goals }) cached (rw c.in_ok-result.ensures found))
+pub returns-clause-within : goal.returns-clause-within
+returns-clause-within g c = λ before cached found. rw c.in_ok-push.ensures.items
+    (AreCachedWithin-push g.D.Delegate.meaning (g.D.Delegate.meaning.world c.args.cx.now) before c.args.cx.now c.args.self.now.entries.items (record { input = c.args.input; result = c.in_ok-result.result; depth = c.args.depth; encountered_overflow = c.args.encountered_overflow; number = c.args.number; previous = c.newest_of-previous.result; nested_goals = c.args.nested_goals }) cached (rw c.in_ok-result.ensures.copy found))
 
-pub returns-else-number-len-clause-within : goal.returns-else-number-len-clause-within
-returns-else-number-len-clause-within g c = λ before cached found. rw c.in_ok-push.ensures.items
-    (AreCachedWithin-push g.D.Delegate.meaning (g.D.Delegate.meaning.world c.args.cx.now) before c.args.cx.now c.args.self.now.entries.items (record { input = c.args.input; result = c.in_ok-result.result; depth = c.args.depth; encountered_overflow = c.args.encountered_overflow; number = c.args.number; previous = c.newest_of-previous.result; nested_goals = c.args.nested_goals }) cached (rw c.in_ok-result.ensures found))
+pub invariant_of-self-2-clause-linked : goal.invariant_of-self-2-clause-linked
+invariant_of-self-2-clause-linked g c = rw c.in_ok-push.ensures.items (AreLinked-push _ _ c.args.self.now.linked c.newest_of-previous.ensures)
+
+pub invariant_of-self-2-clause-listed : goal.invariant_of-self-2-clause-listed
+invariant_of-self-2-clause-listed g c =
+    let size : c.len-place.result ≡ length c.args.self.now.entries.items = c.len-place.ensures ∙ c.args.self.now.entries.ok.0 in
+    rw (size, c.in_ok-push.ensures.items)
+    (listed_push c.args.self.now.entries.items (record { input = c.args.input; result = c.in_ok-result.result; depth = c.args.depth; encountered_overflow = c.args.encountered_overflow; number = c.args.number; previous = c.newest_of-previous.result; nested_goals = c.args.nested_goals }) c.args.self.now.newest.items c.make_room.new.newest.items c.args.self.now.listed c.in_ok-make_room.ensures.same c.in_ok-make_room.ensures.room)

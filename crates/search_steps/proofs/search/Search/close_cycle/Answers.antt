@@ -17,7 +17,7 @@ returns-in_ok-answer-in-Some-clause-answer g c =
     let same : c.index-entry.result.now ≡ c.requires.cycle.0 = c.index-entry.ensures ∙ get_or_from_slice_get es c.args.cycle.index cycle.0 c.index-entry.result.now cycle.1 in
     let at : slice_get es c.args.cycle.index ≡ Some entry = rw same cycle.1 in
     let input : entry.input ≡ c.args.input.now = rw same cycle.2 in
-    rw c.in_ok-answer-in-Some.ensures
+    rw c.in_ok-answer-in-Some.ensures.copy
     (last_answers m (m.world first) first c.args.cx.now es c.args.cycle.index entry c.args.input.now c.args.step_kind c.in-Some.last at input c.in-Some.is c.requires.stack (Keeps-refl m first))
 
 pub returns-in_ok-answer-in-None-clause-answer : goal.returns-in_ok-answer-in-None-clause-answer
@@ -67,7 +67,7 @@ returns-in_ok-answer-in-Some-clause-within g c =
     let same : c.index-entry.result.now ≡ c.requires.cycle.0 = c.index-entry.ensures ∙ get_or_from_slice_get es c.args.cycle.index cycle.0 c.index-entry.result.now cycle.1 in
     let at : slice_get es c.args.cycle.index ≡ Some entry = rw same cycle.1 in
     let input : entry.input ≡ c.args.input.now = rw same cycle.2 in
-    λ before last. rw (c.in_ok-answer-in-Some.ensures, ← input)
+    λ before last. rw (c.in_ok-answer-in-Some.ensures.copy, ← input)
     (MatchOption-at_some (Unit {0}) (λ r. IsWithin m (m.world first) before (m.goal_of first entry.input) (m.answer_of first r)) c.in-Some.last c.in-Some.is (AreLastWithin-at m (m.world first) before first es c.args.cycle.index entry at last))
 
 pub returns-in_ok-answer-in-None-clause-within : goal.returns-in_ok-answer-in-None-clause-within

@@ -1,0 +1,42 @@
+-- How a cache finds the results of a goal, and what was asked under them.
+use Rattle.std.specs.Prelude.{◌≡◌, ◌≤◌, ◌+◌, ℕ, Bool, true, false, cond, nat_eq, List, [], ◌∷◌, ◌⊎◌, Option, Some, None, slice_get, take}
+use Rattle.search_steps.specs.declared.cache.CacheEntry.{CacheEntry}
+
+-- a goal of this depth may use the result of a goal that needed that depth, or that had it where it met an overflow by depth
+abbrev pub IsWithinDepth : Bool → ℕ → ℕ → Type 0
+IsWithinDepth overflowed needed depth = (overflowed ≡ true → needed ≡ depth) × (overflowed ≡ false → needed ≤ depth)
+
+module _ {I R : Type 0} where
+  -- the place of the last entry with the number, where the first entry's place is given, or else the last that was met before
+  abbrev pub newest_from : ℕ → List (CacheEntry I R) → ℕ → Option ℕ → Option ℕ
+  newest_from place [] number last = last
+  newest_from place (e ∷ es) number last = newest_from (place + 1) es number (cond (nat_eq number e.number) (Some place) last)
+
+  -- the place of the newest result of a goal, by the goal's number
+  abbrev pub newest_of : List (CacheEntry I R) → ℕ → Option ℕ
+  newest_of es number = newest_from 0 es number None
+
+  -- each result leads to the one of its goal that was cached before
+  abbrev pub AreLinked : List (CacheEntry I R) → Type 0
+  AreLinked es = (place : ℕ) (e : CacheEntry I R) → slice_get es place ≡ Some e → e.previous ≡ newest_of (take place es) e.number
+
+  -- a cached result was used under the one at the place, by its own place
+  pub data IsUsedUnder (es : List (CacheEntry I R)) (place : ℕ) : ℕ → Type 0 where
+    used : {e : CacheEntry I R} {below : ℕ} (i : ℕ) → slice_get es place ≡ Some e → slice_get e.nested_goals.cached.items i ≡ Some below → IsUsedUnder es place below
+    further : {e : CacheEntry I R} {above below : ℕ} (i : ℕ) → IsUsedUnder es place above → slice_get es above ≡ Some e → slice_get e.nested_goals.cached.items i ≡ Some below → IsUsedUnder es place below
+
+  -- the goal with the number was asked by the entry's goal, or by one that it asked, and wasn't answered by a cached result
+  abbrev pub IsAsked : CacheEntry I R → ℕ → Type 0
+  IsAsked e number = (i : ℕ) × (slice_get e.nested_goals.goals.items i ≡ Some number)
+
+  -- the goal with the number was asked under the result at the place
+  abbrev pub IsAskedUnder : List (CacheEntry I R) → ℕ → ℕ → Type 0
+  IsAskedUnder es place number = ((e : CacheEntry I R) × (slice_get es place ≡ Some e) × IsAsked e number)
+      ⊎ ((below : ℕ) × (e : CacheEntry I R) × IsUsedUnder es place below × (slice_get es below ≡ Some e) × ((e.number ≡ number) ⊎ IsAsked e number))
+
+  -- the goal with this number, input and depth may use the result at the place: no goal that was asked under it is on the stack
+  pub record IsUsable (es : List (CacheEntry I R)) (IsOnStack : ℕ → Type 0) (number : ℕ) (input : I) (depth place : ℕ) (e : CacheEntry I R) : Type 0 where
+    pub numbered : e.number ≡ number
+    pub same : e.input ≡ input
+    pub within : IsWithinDepth e.encountered_overflow e.depth depth
+    pub clear : (asked : ℕ) → IsAskedUnder es place asked → IsOnStack asked → ⊥
