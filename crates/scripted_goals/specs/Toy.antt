@@ -1,6 +1,6 @@
 -- A delegate over scripts: the frame of the goal n makes the requests of the n-th script in order.
 -- An answer is 0 for no, 1 for an overflow, 2 for yes and 3 for another ambiguity.
-use Rattle.std.specs.Prelude.{◌≡◌, ◌==◌, ℕ, cond, nat_lt, List, [], ◌∷◌, length, slice_get, Option, Some, None}
+use Rattle.std.specs.Prelude.{◌≡◌, ◌==◌, ◌+◌, ℕ, cond, nat_lt, List, [], ◌∷◌, length, slice_get, Option, Some, None}
 use Rattle.search_paths.specs.declared.path_kind.PathKind.{PathKind}
 use Rattle.search_paths.specs.declared.path_kind.PathKind.TheVariants.{Inductive, Unknown, Coinductive, ForcedAmbiguity}
 use Rattle.search_steps.specs.declared.delegate.Request.{Request}
@@ -68,11 +68,12 @@ toy_meaning = record {
   Goal = ℕ;
   Answer = ℕ;
   world = λ c. c;
+  IsFull = λ c. ⊥;
   IsInput = λ c i. Unit {0};
   goal_of = λ c i. i;
   IsResult = λ c r. Unit {0};
   answer_of = λ c r. r;
-  HasHeard = λ c g heard f. (f.goal ≡ g) × (f.heard ≡ length heard);
+  HasHeard = λ c g heard f. (f.goal ≡ g) × (f.heard ≡ length heard) × (f.left + f.heard ≡ 100);
   asks = toy_asks;
   is_yes = λ a. a == 2;
   is_ambiguous = λ a. a == 3;

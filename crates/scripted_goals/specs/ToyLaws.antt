@@ -1,7 +1,8 @@
 -- The toy delegate is lawful.
-use Rattle.std.proofs.Common.{◌≡◌, ◌<◌, ◌≤◌, ◌+◌, ◌∙◌, ap, refl, arith, ℕ, Bool, true, false, cond, List, [], ◌∷◌, length, slice_get, Option, Some, None}
+use Rattle.std.proofs.Common.{◌≡◌, ◌<◌, ◌≤◌, ◌+◌, ◌∙◌, inl, inr, ap, refl, arith, ℕ, Bool, true, false, cond, List, [], ◌∷◌, length, slice_get, Option, Some, None}
 use Rattle.std.specs.Prelude.{◌==◌, nat_lt}
 use borrow.Author.Tests.{eqb-true, ltb-true}
+use Rattle.std.proofs.lemmas.Bool.{cases_lt}
 use Rattle.search_paths.specs.declared.path_kind.PathKind.{PathKind}
 use Rattle.search_paths.specs.declared.path_kind.PathKind.TheVariants.{Inductive, Unknown, Coinductive, ForcedAmbiguity}
 use Rattle.search_steps.specs.declared.delegate.Request.{Request}
@@ -11,7 +12,7 @@ use Rattle.search_steps.specs.declared.delegate.Reply.TheVariants.{Begin, Result
 use Rattle.scripted_goals.specs.declared.ToyFrame.{ToyFrame}
 use Rattle.scripted_goals.specs.declared.Scripts.{Scripts}
 use Rattle.scripted_goals.specs.declared.Script.{Script}
-use Rattle.search_steps.specs.Meaning.{IsFair, IsLawful, Steps, IsRequest, request_of, reply_of, answer_count}
+use Rattle.search_steps.specs.Meaning.{IsFair, IsLawful, IsDue, IsDueAfter, IsReplyTo, Steps, IsRequest, request_of, reply_of, answer_count}
 use Rattle.scripted_goals.specs.Toy.{toy_asks, asks_next, step_at, request_at, unless_decided, decided, toy_initial, toy_meaning}
 
 toy_initial_yes : (k : PathKind) → (toy_initial k == 2) ≡ true → k ≡ Coinductive
@@ -90,12 +91,54 @@ known_request c FinishCandidate = tt
 known_request c (IgnoreCandidate n) = tt
 known_request c (Done a) = tt
 
+-- after 65 replies each frame is done
+past_is_done : (b : Bool) (q : Request ℕ ℕ) → (b ≡ true → ⊥) → cond b q (Done 1) ≡ Done 1
+past_is_done true q never = absurd (never refl)
+past_is_done false q never = refl
+
+step_is_done : (s : Script) (n : ℕ) → 64 ≤ n → step_at s n ≡ Done 1
+step_is_done s n past = past_is_done (nat_lt n 64) (request_at (slice_get s.steps.items n) s.otherwise) (λ e. let less = ltb-true n 64 e in omega arith)
+
+decided_is_done : (d : Option ℕ) (q : Request ℕ ℕ) → q ≡ Done 1 → (a : ℕ) × (unless_decided d q ≡ Done a)
+decided_is_done None q e = (1, e)
+decided_is_done (Some a) q e = (a, refl)
+
+next_is_done : (s : Option Script) (n : ℕ) (reply : Reply ℕ) → 64 ≤ n → (a : ℕ) × (asks_next s n reply ≡ Done a)
+next_is_done None n reply past = (0, refl)
+next_is_done (Some s) n Begin past = (1, step_is_done s n past)
+next_is_done (Some s) n (Result a) past = decided_is_done (decided s.rule a) (step_at s n) (step_is_done s n past)
+next_is_done (Some s) n Entered past = (1, step_is_done s n past)
+next_is_done (Some s) n (Finished j) past = (1, step_is_done s n past)
+next_is_done (Some s) n Ignored past = (1, step_is_done s n past)
+
+nothing_after_done : (w : Scripts) (g a : ℕ) (heard : List (Reply ℕ)) (reply : Reply ℕ) → IsReplyTo toy_meaning w g heard (Done a) reply → ⊥
+nothing_after_done w g a heard Begin h = h
+nothing_after_done w g a heard (Result b) h = h
+nothing_after_done w g a heard Entered h = h
+nothing_after_done w g a heard (Finished n) h = h
+nothing_after_done w g a heard Ignored h = h
+
+heard_few : (w : Scripts) (g : ℕ) (heard : List (Reply ℕ)) (reply : Reply ℕ) → IsDueAfter toy_meaning w g heard reply → length heard ≤ 64
+heard_few w g [] reply due = omega arith
+heard_few w g (last ∷ heard) reply due = elim (cases_lt (length heard) 64) [
+  | inl few ↦ omega (arith, few)
+  | inr past ↦ let done = next_is_done (slice_get w.goals.items g) (length heard) last past in absurd (nothing_after_done w g done.0 (last ∷ heard) reply (rw done.1 at due.1))
+]
+
+-- a frame that waits for a reply has steps left
+pub has_steps_left : (c : Scripts) (f : ToyFrame) (reply : Reply ℕ) → IsDue toy_meaning c f reply → (1 ≤ f.left) × (f.heard ≤ 64)
+has_steps_left c f reply due =
+    let few = heard_few c due.0 due.1 (reply_of toy_meaning c reply) due.3 in
+    let heard = due.2.1 in
+    let left = due.2.2 in
+    (omega arith, omega arith)
+
 -- a frame that asks what its script says takes its step
-pub toy_steps : (c : Scripts) (f h : ToyFrame) (reply : Reply ℕ) (q : Request ℕ ℕ) → h.goal ≡ f.goal → h.heard ≡ f.heard + 1 → q ≡ asks_next (slice_get c.goals.items f.goal) f.heard reply → Steps toy_meaning c f reply c h q
-toy_steps c f h reply q goal count is = (
+pub toy_steps : (c : Scripts) (f h : ToyFrame) (reply : Reply ℕ) (q : Request ℕ ℕ) → h.goal ≡ f.goal → h.heard ≡ f.heard + 1 → h.left + 1 ≡ f.left → q ≡ asks_next (slice_get c.goals.items f.goal) f.heard reply → Steps toy_meaning c f reply c h q
+toy_steps c f h reply q goal count left is = (
   known_request c q,
   λ g heard had due. (
-    (goal ∙ had.0, let n = had.1 in omega arith),
+    (goal ∙ had.0, let n = had.1 in omega arith, let n = had.2 in omega arith),
     same_request c q ∙ is ∙ rw (had.0, had.1, same_reply c reply) refl,
   ),
 )

@@ -90,7 +90,7 @@ pub struct ToyFrame {
 }
 
 impl Cx for Scripts {
-    ghost use Rattle.std.specs.Prelude.{IfOk, Ok};
+    ghost use Rattle.std.specs.Prelude.{IfOk, IfErr, Ok};
     ghost use Rattle.std.proofs.lemmas.Bool.{eqb-true};
 
     type Input = usize;
@@ -101,6 +101,7 @@ impl Cx for Scripts {
 
     fn copy_input(&self, input: &usize) -> Result<usize, Fault>
         ensures copy { IfOk result (λ copy. copy ≡ input.now) }
+        ensures memory { IfErr result (λ fault. fault ≡ Fault.Memory) }
         ensures is { result ≡ Ok input.now }
     {
         Ok(*input)
@@ -108,6 +109,7 @@ impl Cx for Scripts {
 
     fn copy_result(&self, of: &u8) -> Result<u8, Fault>
         ensures copy { IfOk result (λ copy. copy ≡ of.now) }
+        ensures memory { IfErr result (λ fault. fault ≡ Fault.Memory) }
         ensures is { result ≡ Ok of.now }
     {
         Ok(*of)
@@ -148,6 +150,7 @@ impl Delegate for Toy {
         _input: &usize,
     ) -> Result<u8, Fault>
         ensures keeps { Keeps toy_meaning _cx.old _cx.new }
+        ensures full { result ≡ Err Fault.Full → ⊥ }
         ensures is { result ≡ Ok (toy_initial kind) }
     {
         match kind {
@@ -170,6 +173,7 @@ impl Delegate for Toy {
 
     fn stack_overflow_result(_cx: &mut Scripts, _input: &usize) -> Result<u8, Fault>
         ensures keeps { Keeps toy_meaning _cx.old _cx.new }
+        ensures full { result ≡ Err Fault.Full → ⊥ }
         ensures is { result ≡ Ok 1 }
     {
         Ok(OVERFLOW)
@@ -177,6 +181,7 @@ impl Delegate for Toy {
 
     fn fixpoint_overflow_result(_cx: &mut Scripts, _input: &usize) -> Result<u8, Fault>
         ensures keeps { Keeps toy_meaning _cx.old _cx.new }
+        ensures full { result ≡ Err Fault.Full → ⊥ }
         ensures is { result ≡ Ok 1 }
     {
         Ok(OVERFLOW)
@@ -194,6 +199,7 @@ impl Delegate for Toy {
         _ambiguity_info: (),
     ) -> Result<u8, Fault>
         ensures keeps { Keeps toy_meaning _cx.old _cx.new }
+        ensures full { result ≡ Err Fault.Full → ⊥ }
         ensures is { result ≡ Ok 3 }
     {
         Ok(AMBIGUOUS)
@@ -201,6 +207,7 @@ impl Delegate for Toy {
 
     fn start(_cx: &mut Scripts, input: &usize) -> Result<ToyFrame, Fault>
         ensures keeps { Keeps toy_meaning _cx.old _cx.new }
+        ensures full { result ≡ Err Fault.Full → ⊥ }
         ensures is { result ≡ Ok (record { goal = input.now; heard = 0; left = 100 }) }
     {
         Ok(ToyFrame {
@@ -210,6 +217,7 @@ impl Delegate for Toy {
         })
     }
 
+    #[tactic(auto, using(crate::specs::ToyLaws::has_steps_left))]
     fn step(
         frame: &mut ToyFrame,
         cx: &mut Scripts,
@@ -217,6 +225,7 @@ impl Delegate for Toy {
     ) -> Result<Request<usize, u8>, Fault>
         requires due { IsDue toy_meaning cx.old frame.old reply }
         ensures keeps { Keeps toy_meaning cx.old cx.new }
+        ensures full { result ≡ Err Fault.Full → ⊥ }
         ensures steps { IfOk result (λ q. Steps toy_meaning cx.old frame.old reply cx.new frame.new q) }
         ensures falls { IfOk result (λ q. frame.new.left < frame.old.left) }
 

@@ -40,6 +40,7 @@ pub(crate) fn evaluate<D: Delegate>(
     ensures protocol { result ≡ Err GraphFault.Protocol → MakesMisstep D.meaning (D.meaning.world cx.old) (D.meaning.goal_of cx.old input) }
     ensures conflict { result ≡ Err GraphFault.Conflict → HasConflict D.meaning cx.new (known_results cache.new.entries.items) }
     ensures frames { (width : ℕ) → (D.meaning.number_of (D.meaning.world cx.old) (D.meaning.goal_of cx.old input) ≤ width) → search.new.frames ≤ search.old.frames + frame_bound (max D.FIXPOINT_STEP_LIMIT 1) width depth }
+    ensures full { result ≡ Err GraphFault.Full → D.meaning.IsFull cx.new }
     ensures limits { search.old.limits_met ≡ true → search.new.limits_met ≡ true }
     ensures within { IfOk result (λ o. (before : _) → search.new.limits_met ≡ false → AreLastWithin D.meaning (D.meaning.world cx.old) before cx.old search.old.stack.items → AreCachedWithin D.meaning (D.meaning.world cx.old) before cx.old cache.old.entries.items → AreCachedWithin D.meaning (D.meaning.world cx.old) before cx.new cache.new.entries.items × IsWithin D.meaning (D.meaning.world cx.old) before (D.meaning.goal_of cx.old input) (D.meaning.answer_of cx.new o.result)) }
 {
@@ -90,6 +91,7 @@ fn evaluate_new<D: Delegate>(
     ensures protocol { result ≡ Err GraphFault.Protocol → MakesMisstep D.meaning (D.meaning.world cx.old) (D.meaning.goal_of cx.old input) }
     ensures conflict { result ≡ Err GraphFault.Conflict → HasConflict D.meaning cx.new (known_results cache.new.entries.items) }
     ensures frames { (width : ℕ) → (D.meaning.number_of (D.meaning.world cx.old) (D.meaning.goal_of cx.old input) ≤ width) → search.new.frames ≤ search.old.frames + frame_bound (max D.FIXPOINT_STEP_LIMIT 1) width depth }
+    ensures full { result ≡ Err GraphFault.Full → D.meaning.IsFull cx.new }
     ensures limits { search.old.limits_met ≡ true → search.new.limits_met ≡ true }
     ensures within { IfOk result (λ o. (before : _) → search.new.limits_met ≡ false → AreLastWithin D.meaning (D.meaning.world cx.old) before cx.old search.old.stack.items → AreCachedWithin D.meaning (D.meaning.world cx.old) before cx.old cache.old.entries.items → AreCachedWithin D.meaning (D.meaning.world cx.old) before cx.new cache.new.entries.items × IsWithin D.meaning (D.meaning.world cx.old) before (D.meaning.goal_of cx.old input) (D.meaning.answer_of cx.new o.result)) }
 {
@@ -194,6 +196,7 @@ fn run_once<D: Delegate>(
     ensures protocol { result ≡ Err GraphFault.Protocol → MakesMisstep D.meaning (D.meaning.world cx.old) (D.meaning.goal_of cx.old entry.input) }
     ensures conflict { result ≡ Err GraphFault.Conflict → HasConflict D.meaning cx.new (known_results cache.new.entries.items) }
     ensures frames { (width : ℕ) → (D.meaning.number_of (D.meaning.world cx.old) (D.meaning.goal_of cx.old entry.input) ≤ width) → search.new.frames ≤ search.old.frames + (1 + width * question_bound (max D.FIXPOINT_STEP_LIMIT 1) width depth) }
+    ensures full { result ≡ Err GraphFault.Full → D.meaning.IsFull cx.new }
     ensures limits { search.old.limits_met ≡ true → search.new.limits_met ≡ true }
     ensures within { IfOk result (λ o. (before : _) → search.new.limits_met ≡ false → AreLastWithin D.meaning (D.meaning.world cx.old) before cx.old search.old.stack.items → IsLastWithin D.meaning (D.meaning.world cx.old) before cx.old entry → AreCachedWithin D.meaning (D.meaning.world cx.old) before cx.old cache.old.entries.items → AreCachedWithin D.meaning (D.meaning.world cx.old) before cx.new cache.new.entries.items × IsWithin D.meaning (D.meaning.world cx.old) before (D.meaning.goal_of cx.old entry.input) (D.meaning.answer_of cx.new o.1.result)) }
 {
@@ -268,12 +271,13 @@ fn ask<D: Delegate>(
     ensures protocol { result ≡ Err GraphFault.Protocol → MakesMisstep D.meaning (D.meaning.world cx.old) (D.meaning.goal_of cx.old input) }
     ensures conflict { result ≡ Err GraphFault.Conflict → HasConflict D.meaning cx.new (known_results cache.new.entries.items) }
     ensures frames { (width : ℕ) → (D.meaning.number_of (D.meaning.world cx.old) (D.meaning.goal_of cx.old input) ≤ width) → search.new.frames ≤ search.old.frames + question_bound (max D.FIXPOINT_STEP_LIMIT 1) width depth }
+    ensures full { result ≡ Err GraphFault.Full → D.meaning.IsFull cx.new }
     ensures limits { search.old.limits_met ≡ true → search.new.limits_met ≡ true }
     ensures within { IfOk result (λ o. (before : _) → search.new.limits_met ≡ false → AreLastWithin D.meaning (D.meaning.world cx.old) before cx.old search.old.stack.items → AreCachedWithin D.meaning (D.meaning.world cx.old) before cx.old cache.old.entries.items → AreCachedWithin D.meaning (D.meaning.world cx.old) before cx.new cache.new.entries.items × IsWithin D.meaning (D.meaning.world cx.old) before (D.meaning.goal_of cx.old input) (D.meaning.answer_of cx.new o.result)) }
 {
     if depth == 0 {
         let number = cache.number_of(cx, &input)?;
-        return search.overflow(cx, number, input, step_kind, overflowed);
+        return search.overflow(cx, number, input, step_kind);
     }
     let nested = nested_depth::<D>(depth, overflowed);
     evaluate(search, cache, cx, input, step_kind, nested)

@@ -113,6 +113,7 @@ impl<D: Delegate> SearchGraph<D> {
         ensures computed { IfOk result (λ r. IsComputed D.meaning (D.meaning.world cx.old) (IsGiven D.meaning (D.meaning.world cx.old)) (D.meaning.goal_of cx.old input) (D.meaning.answer_of cx.new r)) }
         ensures protocol { result ≡ Err GraphFault.Protocol → MakesMisstep D.meaning (D.meaning.world cx.old) (D.meaning.goal_of cx.old input) }
         ensures conflict { result ≡ Err GraphFault.Conflict → HasConflict D.meaning cx.new cache.new }
+        ensures full { result ≡ Err GraphFault.Full → D.meaning.IsFull cx.new }
 
         ensures frames { (width : ℕ) → (D.meaning.number_of (D.meaning.world cx.old) (D.meaning.goal_of cx.old input) ≤ width) → self.new.frames ≤ self.old.frames + frame_bound (max D.FIXPOINT_STEP_LIMIT 1) width self.old.root_depth }
         ensures depth { self.new.root_depth ≡ self.old.root_depth }

@@ -11,7 +11,7 @@ use Rattle.search_steps.specs.Plain.{IsNotPlain}
 use Rattle.search_steps.specs.Faithful.{AllDescend}
 use Rattle.search_steps.proofs.Errors.{err_passed}
 use Rattle.search_steps.proofs.Graphs.{IsStack-now, path-now, IsEntry-now, IsProvisional-then, IsAnswer-then, answer_of_run, running_next_counted, running_first_counted, running_other, running_done, asked_now, hears_other, hears_next, misstep_now, due_next, due_other, Keeps-refl, Keeps-trans, IsStack-push, path_onto-append, length-path_onto, path_length, AreCached-later, provisional_alone, overflow_answers, overflow_stands}
-use Rattle.search_steps.proofs.Faithfuls.{true_not_false, conflict_up, plain_first, plain_next_at, plain_entered, plain_finished, plain_ignored, plain_done, untouched_first, untouched_not_plain, faithful_not_plain, faithful_taken, kept_of_faithful, IsFaithful-less, reach_within}
+use Rattle.search_steps.proofs.Faithfuls.{true_not_false, conflict_up, plain_first, plain_next_at, plain_entered, plain_finished, plain_ignored, plain_done, untouched_first, untouched_not_plain, faithful_not_plain, faithful_taken, faithful_at_zero, kept_of_faithful, IsFaithful-less, reach_within}
 use Rattle.search_steps.proofs.Limits.{unnoted, told_within, AreLastWithin-now, AreLastWithin-push, AreCachedWithin-keeps}
 use Rattle.search_graph.proofs.Bounds.{frame_bound_runs, nested_within, one_more_run, runs_within, done_within, asked_within, asked_more}
 use Rattle.search_graph.proofs.evaluation.+search.Goals as goal
@@ -22,7 +22,12 @@ ask-returns-then-depth-eq0-clause-cache g t c =
 
 pub ask-returns-then-depth-eq0-clause-faithful : goal.ask-returns-then-depth-eq0-clause-faithful
 ask-returns-then-depth-eq0-clause-faithful g t c =
-    rw c.if-depth-eq0.true c.overflow.ensures.faithful
+    let m = g.D.Delegate.meaning in
+    let first = c.args.cx.now in
+    let es = c.args.search.now.stack.items in
+    let w = m.world first in
+    let x = m.goal_of first c.args.input in
+    rw c.if-depth-eq0.true (IfOk-weaker c.overflow.result _ _ (λ o told. rw told (faithful_at_zero m w c.args.overflowed (path_onto m first es []) x (m.answer_of c.overflow.new.cx o.result) o.dependencies.lowest o.dependencies.heads.items)) c.overflow.ensures.told)
 
 pub ask-returns-then-depth-eq0-clause-protocol : goal.ask-returns-then-depth-eq0-clause-protocol
 ask-returns-then-depth-eq0-clause-protocol g t c =
@@ -80,7 +85,7 @@ evaluate-returns-in_ok-add_goal-in-Some-find_cycle-clause-cache g t c =
 
 pub evaluate-close_cycle-requires-clause-cycle : goal.evaluate-close_cycle-requires-clause-cycle
 evaluate-close_cycle-requires-clause-cycle g t c =
-    c.in-Some-find_cycle.ensures
+    c.in-Some-find_cycle.ensures.found
 
 pub evaluate-returns-in_ok-add_goal-in-Some-find_cycle-clause-answer : goal.evaluate-returns-in_ok-add_goal-in-Some-find_cycle-clause-answer
 evaluate-returns-in_ok-add_goal-in-Some-find_cycle-clause-answer g t c =
