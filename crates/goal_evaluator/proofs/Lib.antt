@@ -8,8 +8,10 @@ pub mod Frames
 pub mod Merges
 pub mod Histories
 pub mod Ends
+pub mod Correspondences
 pub mod Unfold
 pub mod AtomTables
+pub mod Counted
 pub mod RuleBooks
 pub mod ByRules
 pub mod Systems

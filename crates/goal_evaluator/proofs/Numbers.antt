@@ -1,24 +1,24 @@
 -- No question and no answer has a greater number than the handler's.
-use Rattle.std.proofs.Common.{◌≡◌, ℕ, zero, suc, ◌≤◌, Bool, true, false, List, [], ◌∷◌, refl, Option, Some, None, arith}
+use Rattle.std.proofs.Common.{◌≡◌, ℕ, zero, suc, ◌≤◌, Bool, true, false, List, [], ◌∷◌, refl, Option, Some, None}
 use Rattle.infer_table.specs.declared.goal.Certainty.{Certainty}
 use Rattle.infer_table.specs.declared.goal.Certainty.TheVariants.{Maybe}
 use Rattle.infer_table.specs.declared.goal.MaybeCause.TheVariants.{Ambiguity}
 use Rattle.goal_evaluator.specs.Lists.{Every, IsNoneOf}
 use Rattle.infer_table.specs.Certainties.{joined}
 use Rattle.goal_evaluator.specs.Operations.{is_yes}
-use Rattle.goal_evaluator.specs.Table.{Tables, operations, IsTable}
+use Rattle.goal_evaluator.specs.Table.{Tables, operations, workings, IsTable}
 use Rattle.goal_evaluator.specs.Rounds.{Round, Rounds, kept, judged, applied, replied, round, settled, next_round, rounds}
-use Rattle.goal_evaluator.specs.Candidate.{Spec, Considered, Next, consider, answer, answered, equated, candidate, goes_on, frame}
-use Rattle.goal_evaluator.specs.Handler.{Handled, IsHistory, used_numbers, AnswerWithin, IsHandler}
+use Rattle.goal_evaluator.specs.Candidate.{Spec, Considered, Next, consider, answer, answered, equated, candidate, goes_on, frame, IsHistory, used_numbers}
+use Rattle.goal_evaluator.specs.Handler.{Handled, AnswerWithin, IsHandler}
 use Rattle.goal_evaluator.proofs.Scripts.{Asks, FrameAsks, Asks-followed, Asks-mono}
 
 module _ {Question Response : Type 0} (t : Tables Question Response) (laws : IsTable t) (most : ℕ) where
-  -- a question of no greater number, and an answer of no greater number than its question
+  -- a question of no greater number, and an answer of no greater number to such a question
   abbrev pub IsSmall : Question → Type 0
   IsSmall q = t.number_of q ≤ most
 
   abbrev IsFair : Question → Option Response → Type 0
-  IsFair q a = AnswerWithin t (t.number_of q) a
+  IsFair q a = IsSmall q → AnswerWithin t most a
 
   abbrev RoundWithin : Option (Round (operations t)) → Type 0
   RoundWithin None = Unit {0}
@@ -49,7 +49,7 @@ module _ {Question Response : Type 0} (t : Tables Question Response) (laws : IsT
       → Asks IsSmall IsFair RoundWithin (replied (operations t) (round (operations t) ns) T n a)
   replied_within T n ns None f u w rest = tt
   replied_within T n ns (Some r) f u w rest =
-      applied_within T n ns r (t.apply T n r) refl u (let q = laws.question_within most T n u w.0 in omega (arith, f, q)) w rest
+      applied_within T n ns r (t.apply T n r) refl u (f (laws.question_within most T n u w.0)) w rest
 
   round_within : (ns : List t.Nested) → Staying ns
   round_within [] U u w = (u, tt)
@@ -73,36 +73,36 @@ module _ {Question Response : Type 0} (t : Tables Question Response) (laws : IsT
   rounds_within (suc i) ns U u w =
       Asks-followed IsSmall IsFair RoundWithin RoundsWithin (next_round (operations t) (rounds (operations t) i)) (λ o x. next_within i o x (λ ms V v z. rounds_within i ms V v z)) (round (operations t) ns U) (round_within ns U u w)
 
-  answered_within : (c : Certainty) (o : Option (Rounds (operations t))) → RoundsWithin o → Asks IsSmall IsFair (AnswerWithin t most) (answered t c o)
+  answered_within : (c : Certainty) (o : Option (Rounds (operations t))) → RoundsWithin o → Asks IsSmall IsFair (AnswerWithin t most) (answered (workings t) c o)
   answered_within c None w = tt
   answered_within c (Some o) w = laws.respond_within most o.table (joined c o.certainty) w
 
-  equated_within : (limit : ℕ) (T : t.Table) (c : Spec t) (e : Option t.Table) → t.equate T c.equations ≡ e → t.TableWithin most T → Every (t.EquationWithin most) c.equations
-      → Every (t.NestedWithin most) c.nested → Asks IsSmall IsFair (AnswerWithin t most) (equated t limit c e)
+  equated_within : (limit : ℕ) (T : t.Table) (c : Spec (workings t)) (e : Option t.Table) → t.equate T c.equations ≡ e → t.TableWithin most T → Every (t.EquationWithin most) c.equations
+      → Every (t.NestedWithin most) c.nested → Asks IsSmall IsFair (AnswerWithin t most) (equated (workings t) limit c e)
   equated_within limit T c None e u q w = tt
   equated_within limit T c (Some U) e u q w =
       let opened = laws.recorded_within most U c.regions (laws.equate_within most T U c.equations u q e) in
-      Asks-followed IsSmall IsFair RoundsWithin (AnswerWithin t most) (answered t c.certainty) (λ o x. answered_within c.certainty o x)
+      Asks-followed IsSmall IsFair RoundsWithin (AnswerWithin t most) (answered (workings t) c.certainty) (λ o x. answered_within c.certainty o x)
       (rounds (operations t) limit c.nested (t.recorded U c.regions)) (rounds_within limit c.nested (t.recorded U c.regions) opened w)
 
-  candidate_within : (limit : ℕ) (T : t.Table) (c : Spec t) → t.TableWithin most T → Every (t.EquationWithin most) c.equations → Every (t.NestedWithin most) c.nested
-      → Asks IsSmall IsFair (AnswerWithin t most) (candidate t limit T c)
+  candidate_within : (limit : ℕ) (T : t.Table) (c : Spec (workings t)) → t.TableWithin most T → Every (t.EquationWithin most) c.equations → Every (t.NestedWithin most) c.nested
+      → Asks IsSmall IsFair (AnswerWithin t most) (candidate (workings t) limit T c)
   candidate_within limit T c u q w = equated_within limit (t.fresh T c.kinds) c (t.equate (t.fresh T c.kinds) c.equations) refl (laws.fresh_within most T c.kinds u) q w
 
 module _ {Question Response : Type 0} (t : Tables Question Response) (laws : IsTable t) (h : Handled t) (handler : IsHandler t h) (limit : ℕ) where
   abbrev FrameStays : ℕ → Type 0
-  FrameStays fuel = (seen : List (Considered t)) → IsHistory t h.next seen → Every (λ (c : Considered t). AnswerWithin t h.number c.response) seen
-      → FrameAsks (IsSmall t laws h.number) (IsFair t laws h.number) (AnswerWithin t h.number) (used_numbers t seen) (frame t limit h.begin h.next fuel seen)
+  FrameStays fuel = (seen : List (Considered (workings t))) → IsHistory (workings t) h.next seen → Every (λ (c : Considered (workings t)). AnswerWithin t h.number c.response) seen
+      → FrameAsks (IsSmall t laws h.number) (IsFair t laws h.number) (AnswerWithin t h.number) (used_numbers (workings t) seen) (frame (workings t) limit h.begin h.next fuel seen)
 
-  stays_on : (fuel : ℕ) (seen : List (Considered t)) (n : Next t) → h.next seen ≡ n → IsHistory t h.next seen → Every (λ (c : Considered t). AnswerWithin t h.number c.response) seen → FrameStays fuel
-      → FrameAsks (IsSmall t laws h.number) (IsFair t laws h.number) (AnswerWithin t h.number) (used_numbers t seen) (goes_on t limit h.begin h.next (frame t limit h.begin h.next fuel) seen n)
+  stays_on : (fuel : ℕ) (seen : List (Considered (workings t))) (n : Next (workings t)) → h.next seen ≡ n → IsHistory (workings t) h.next seen → Every (λ (c : Considered (workings t)). AnswerWithin t h.number c.response) seen → FrameStays fuel
+      → FrameAsks (IsSmall t laws h.number) (IsFair t laws h.number) (AnswerWithin t h.number) (used_numbers (workings t) seen) (goes_on (workings t) limit h.begin h.next (frame (workings t) limit h.begin h.next fuel) seen n)
   stays_on fuel seen (answer a ignored) e hist d rest = (handler.answer seen a ignored hist e).within d
   stays_on fuel seen (consider c) e hist d rest =
       let law = handler.candidate seen c hist e in
       Asks-mono (IsSmall t laws h.number) (IsFair t laws h.number) (AnswerWithin t h.number)
-      (λ a. (n : ℕ) → IsNoneOf n (used_numbers t seen) → FrameAsks (IsSmall t laws h.number) (IsFair t laws h.number) (AnswerWithin t h.number) (n ∷ used_numbers t seen) (frame t limit h.begin h.next fuel (record { spec = c; response = a; number = n } ∷ seen)))
+      (λ a. (n : ℕ) → IsNoneOf n (used_numbers (workings t) seen) → FrameAsks (IsSmall t laws h.number) (IsFair t laws h.number) (AnswerWithin t h.number) (n ∷ used_numbers (workings t) seen) (frame (workings t) limit h.begin h.next fuel (record { spec = c; response = a; number = n } ∷ seen)))
       (λ a w n new. rest (record { spec = c; response = a; number = n } ∷ seen) (e, new, hist) (w, d))
-      (candidate t limit h.begin c) (candidate_within t laws h.number limit h.begin c handler.begins_within law.equations_within law.nested_within)
+      (candidate (workings t) limit h.begin c) (candidate_within t laws h.number limit h.begin c handler.begins_within law.equations_within law.nested_within)
 
   pub frame_stays : (fuel : ℕ) → FrameStays fuel
   frame_stays zero seen hist d = laws.respond_within h.number h.begin (Maybe Ambiguity) handler.begins_within

@@ -5,9 +5,10 @@ use Rattle.infer_table.specs.declared.goal.Certainty.{Certainty}
 use Rattle.infer_table.specs.declared.goal.Certainty.TheVariants.{Yes, Maybe}
 use Rattle.infer_table.specs.declared.goal.MaybeCause.TheVariants.{Ambiguity, Overflow}
 use Rattle.goal_evaluator.specs.Lists.{Every, SomeOf, IsAmong, IsNoneOf, IsDistinct}
-use Rattle.goal_evaluator.specs.Candidate.{Spec, Considered, Next, consider, answer}
+use Rattle.goal_evaluator.specs.Table.{workings}
+use Rattle.goal_evaluator.specs.Candidate.{Spec, Considered, Next, consider, answer, used_numbers, IsHistory}
 use Rattle.goal_evaluator.specs.Law.{IsYes, AgreesTo, Realizes}
-use Rattle.goal_evaluator.specs.Handler.{used_numbers, IsHistory, nested_of, AnswerWithin, IsHandler}
+use Rattle.goal_evaluator.specs.Handler.{nested_of, AnswerWithin, IsHandler}
 use Rattle.goal_evaluator.specs.Merge.{if_there, responses, merge_or_flounder, IsMerge}
 use Rattle.goal_evaluator.specs.Proof.{Continues, facts, HasProof}
 use Rattle.goal_evaluator.specs.Atoms.{Argument, atom, unknown, value_at, Goal, Response, atoms, Rule, RuleBook, IsBy, put_in, goal_put_in, spec_of, specs_for, candidates_for, nested_in, rest_of, remaining, same_value, same_certainty, same_response, if_refused, refused_numbers, next_of, FollowsByRule, HasProofByBook, handled_by}
@@ -30,7 +31,7 @@ premises-put_in k argument x (n ∷ ns) =
     ∙ ap (λ fs. (n.predicate, value_at (put_in argument n.argument) x) ∷ fs) (premises-put_in k argument x ns)
 
 -- ---- the candidates are the rules
-from_rule_if : (k : Bool) (g : Goal) (c : Spec atoms) (r : Rule) (rules : List Rule) (b : Bool) → (r.predicate == g.predicate) ≡ b
+from_rule_if : (k : Bool) (g : Goal) (c : Spec (workings atoms)) (r : Rule) (rules : List Rule) (b : Bool) → (r.predicate == g.predicate) ≡ b
     → (IsAmong c (specs_for k g rules) → SomeOf (λ (q : Rule). (q.predicate ≡ g.predicate) × (c ≡ spec_of k g.argument q)) rules)
     → IsAmong c (if b then spec_of k g.argument r ∷ specs_for k g rules else specs_for k g rules)
     → SomeOf (λ (q : Rule). (q.predicate ≡ g.predicate) × (c ≡ spec_of k g.argument q)) (r ∷ rules)
@@ -38,16 +39,16 @@ from_rule_if k g c r rules true e rest (inl f) = inl (eqb-true r.predicate g.pre
 from_rule_if k g c r rules true e rest (inr i) = inr (rest i)
 from_rule_if k g c r rules false e rest i = inr (rest i)
 
-from_rule : (k : Bool) (g : Goal) (c : Spec atoms) (rules : List Rule) → IsAmong c (specs_for k g rules) → SomeOf (λ (q : Rule). (q.predicate ≡ g.predicate) × (c ≡ spec_of k g.argument q)) rules
+from_rule : (k : Bool) (g : Goal) (c : Spec (workings atoms)) (rules : List Rule) → IsAmong c (specs_for k g rules) → SomeOf (λ (q : Rule). (q.predicate ≡ g.predicate) × (c ≡ spec_of k g.argument q)) rules
 from_rule k g c [] i = absurd i
 from_rule k g c (r ∷ rules) i = from_rule_if k g c r rules (r.predicate == g.predicate) refl (λ j. from_rule k g c rules j) i
 
-spec_if : (k : Bool) (g : Goal) (P : Spec atoms → Type 0) (r : Rule) (rules : List Rule) (b : Bool) → SomeOf P (specs_for k g rules)
+spec_if : (k : Bool) (g : Goal) (P : Spec (workings atoms) → Type 0) (r : Rule) (rules : List Rule) (b : Bool) → SomeOf P (specs_for k g rules)
     → SomeOf P (if b then spec_of k g.argument r ∷ specs_for k g rules else specs_for k g rules)
 spec_if k g P r rules true s = inr s
 spec_if k g P r rules false s = s
 
-from_spec : (k : Bool) (g : Goal) (P : Spec atoms → Type 0) (rules : List Rule) → SomeOf (λ (q : Rule). (q.predicate ≡ g.predicate) × P (spec_of k g.argument q)) rules → SomeOf P (specs_for k g rules)
+from_spec : (k : Bool) (g : Goal) (P : Spec (workings atoms) → Type 0) (rules : List Rule) → SomeOf (λ (q : Rule). (q.predicate ≡ g.predicate) × P (spec_of k g.argument q)) rules → SomeOf P (specs_for k g rules)
 from_spec k g P [] s = absurd s
 from_spec k g P (r ∷ rules) (inl x) =
     subst (λ b. SomeOf P (if b then spec_of k g.argument r ∷ specs_for k g rules else specs_for k g rules)) (sym (eq-eqb r.predicate g.predicate x.0)) (inl x.1)
@@ -122,7 +123,7 @@ agrees_there : (a : Option Response) (x : ℕ) → AgreesTo atoms a x → SomeOf
 agrees_there None x h = absurd h
 agrees_there (Some r) x h = inl h
 
-agrees_responses : (seen : List (Considered atoms)) (x : ℕ) → SomeOf (λ (c : Considered atoms). AgreesTo atoms c.response x) seen → SomeOf (λ r. atoms.Agrees r x) (responses atoms seen)
+agrees_responses : (seen : List (Considered (workings atoms))) (x : ℕ) → SomeOf (λ (c : Considered (workings atoms)). AgreesTo atoms c.response x) seen → SomeOf (λ r. atoms.Agrees r x) (responses atoms seen)
 agrees_responses [] x s = s
 agrees_responses (c ∷ seen) x (inl a) = some_append (λ r. atoms.Agrees r x) (responses atoms seen) (if_there c.response) (inr (agrees_there c.response x a))
 agrees_responses (c ∷ seen) x (inr s) = some_append (λ r. atoms.Agrees r x) (responses atoms seen) (if_there c.response) (inl (agrees_responses seen x s))
@@ -132,7 +133,7 @@ there_is a None s = absurd s
 there_is a (Some r) (inl e) = e
 there_is a (Some r) (inr s) = absurd s
 
-from_responses : (seen : List (Considered atoms)) (a : Option Response) → SomeOf (λ r. a ≡ Some r) (responses atoms seen) → SomeOf (λ (c : Considered atoms). a ≡ c.response) seen
+from_responses : (seen : List (Considered (workings atoms))) (a : Option Response) → SomeOf (λ r. a ≡ Some r) (responses atoms seen) → SomeOf (λ (c : Considered (workings atoms)). a ≡ c.response) seen
 from_responses [] a s = s
 from_responses (c ∷ seen) a s = elim (some_parts (λ r. a ≡ Some r) (responses atoms seen) (if_there c.response) s) [
   | inl x ↦ inr (from_responses seen a x)
@@ -140,13 +141,13 @@ from_responses (c ∷ seen) a s = elim (some_parts (λ r. a ≡ Some r) (respons
 ]
 
 -- ---- what is ignored
-module _ (next : List (Considered atoms) → Next atoms) where
-  refused_if : (c : Considered atoms) (seen : List (Considered atoms)) (o : Option Response) (ns : List ℕ) → Every (λ n. IsAmong n (used_numbers atoms seen)) ns
-      → Every (λ n. IsAmong n (used_numbers atoms (c ∷ seen))) (if_refused o c.number ns)
-  refused_if c seen None ns e = (inl refl, Every-mono (λ n. IsAmong n (used_numbers atoms seen)) (λ n. IsAmong n (used_numbers atoms (c ∷ seen))) (λ n i. inr i) ns e)
-  refused_if c seen (Some r) ns e = Every-mono (λ n. IsAmong n (used_numbers atoms seen)) (λ n. IsAmong n (used_numbers atoms (c ∷ seen))) (λ n i. inr i) ns e
+module _ (next : List (Considered (workings atoms)) → Next (workings atoms)) where
+  refused_if : (c : Considered (workings atoms)) (seen : List (Considered (workings atoms))) (o : Option Response) (ns : List ℕ) → Every (λ n. IsAmong n (used_numbers (workings atoms) seen)) ns
+      → Every (λ n. IsAmong n (used_numbers (workings atoms) (c ∷ seen))) (if_refused o c.number ns)
+  refused_if c seen None ns e = (inl refl, Every-mono (λ n. IsAmong n (used_numbers (workings atoms) seen)) (λ n. IsAmong n (used_numbers (workings atoms) (c ∷ seen))) (λ n i. inr i) ns e)
+  refused_if c seen (Some r) ns e = Every-mono (λ n. IsAmong n (used_numbers (workings atoms) seen)) (λ n. IsAmong n (used_numbers (workings atoms) (c ∷ seen))) (λ n i. inr i) ns e
 
-  refused_among : (seen : List (Considered atoms)) → Every (λ n. IsAmong n (used_numbers atoms seen)) (refused_numbers seen)
+  refused_among : (seen : List (Considered (workings atoms))) → Every (λ n. IsAmong n (used_numbers (workings atoms) seen)) (refused_numbers seen)
   refused_among [] = tt
   refused_among (c ∷ seen) = refused_if c seen c.response (refused_numbers seen) (refused_among seen)
 
@@ -158,10 +159,10 @@ module _ (next : List (Considered atoms) → Next atoms) where
   distinct_if n None ns new d = (new, d)
   distinct_if n (Some r) ns new d = d
 
-  refused_once : (seen : List (Considered atoms)) → IsHistory atoms next seen → IsDistinct (refused_numbers seen)
+  refused_once : (seen : List (Considered (workings atoms))) → IsHistory (workings atoms) next seen → IsDistinct (refused_numbers seen)
   refused_once [] h = tt
   refused_once (c ∷ seen) h =
-      distinct_if c.number c.response (refused_numbers seen) (new_to c.number (used_numbers atoms seen) (refused_numbers seen) h.1 (refused_among seen)) (refused_once seen h.2)
+      distinct_if c.number c.response (refused_numbers seen) (new_to c.number (used_numbers (workings atoms) seen) (refused_numbers seen) h.1 (refused_among seen)) (refused_once seen h.2)
 
   -- a candidate with a response is not one of them
   kept_first : (n : ℕ) (o : Option Response) (ns : List ℕ) → IsYes atoms o → IsNoneOf n ns → IsNoneOf n (if_refused o n ns)
@@ -172,31 +173,31 @@ module _ (next : List (Considered atoms) → Next atoms) where
   kept_later n m None ns other new = λ i. elim i [ inl e ↦ other e | inr j ↦ new j ]
   kept_later n m (Some r) ns other new = new
 
-  number_among : (c : Considered atoms) (seen : List (Considered atoms)) → IsAmong c seen → IsAmong c.number (used_numbers atoms seen)
+  number_among : (c : Considered (workings atoms)) (seen : List (Considered (workings atoms))) → IsAmong c seen → IsAmong c.number (used_numbers (workings atoms) seen)
   number_among c [] i = absurd i
-  number_among c (d ∷ seen) (inl e) = inl (ap (λ (x : Considered atoms). x.number) e)
+  number_among c (d ∷ seen) (inl e) = inl (ap (λ (x : Considered (workings atoms)). x.number) e)
   number_among c (d ∷ seen) (inr i) = inr (number_among c seen i)
 
-  not_refused : (seen : List (Considered atoms)) → IsHistory atoms next seen → (c : Considered atoms) → IsAmong c seen → IsYes atoms c.response → IsNoneOf c.number (refused_numbers seen)
+  not_refused : (seen : List (Considered (workings atoms))) → IsHistory (workings atoms) next seen → (c : Considered (workings atoms)) → IsAmong c seen → IsYes atoms c.response → IsNoneOf c.number (refused_numbers seen)
   not_refused [] h c i y = absurd i
   not_refused (d ∷ seen) h c (inl e) y =
-      subst (λ (x : Considered atoms). IsNoneOf x.number (if_refused d.response d.number (refused_numbers seen))) (sym e)
-      (kept_first d.number d.response (refused_numbers seen) (subst (λ (x : Considered atoms). IsYes atoms x.response) e y)
-      (new_to d.number (used_numbers atoms seen) (refused_numbers seen) h.1 (refused_among seen)))
+      subst (λ (x : Considered (workings atoms)). IsNoneOf x.number (if_refused d.response d.number (refused_numbers seen))) (sym e)
+      (kept_first d.number d.response (refused_numbers seen) (subst (λ (x : Considered (workings atoms)). IsYes atoms x.response) e y)
+      (new_to d.number (used_numbers (workings atoms) seen) (refused_numbers seen) h.1 (refused_among seen)))
   not_refused (d ∷ seen) h c (inr i) y =
-      kept_later c.number d.number d.response (refused_numbers seen) (λ e. h.1 (subst (λ k. IsAmong k (used_numbers atoms seen)) e (number_among c seen i)))
+      kept_later c.number d.number d.response (refused_numbers seen) (λ e. h.1 (subst (λ k. IsAmong k (used_numbers (workings atoms) seen)) e (number_among c seen i)))
       (not_refused seen h.2 c i y)
 
 -- ---- what was considered
-abbrev spec_in : Spec atoms → Next atoms → Spec atoms
+abbrev spec_in : Spec (workings atoms) → Next (workings atoms) → Spec (workings atoms)
 spec_in d (consider c) = c
 spec_in d (answer a ignored) = d
 
-abbrev answer_in : Option Response → Next atoms → Option Response
+abbrev answer_in : Option Response → Next (workings atoms) → Option Response
 answer_in d (consider c) = d
 answer_in d (answer a ignored) = a
 
-abbrev ignored_in : List ℕ → Next atoms → List ℕ
+abbrev ignored_in : List ℕ → Next (workings atoms) → List ℕ
 ignored_in d (consider c) = d
 ignored_in d (answer a ignored) = ignored
 
@@ -204,60 +205,60 @@ module _ (book : RuleBook) (g : Goal) where
   abbrev kind : Bool
   kind = book.coinductive g.predicate
 
-  abbrev specs : List (Spec atoms)
+  abbrev specs : List (Spec (workings atoms))
   specs = candidates_for book g
 
-  abbrev next : List (Considered atoms) → Next atoms
+  abbrev next : List (Considered (workings atoms)) → Next (workings atoms)
   next seen = next_of seen (remaining seen specs)
 
-  abbrev IsFirst : List (Spec atoms) → Spec atoms → Type 0
+  abbrev IsFirst : List (Spec (workings atoms)) → Spec (workings atoms) → Type 0
   IsFirst [] c = ⊥
   IsFirst (s ∷ left) c = s ≡ c
 
-  first : (seen : List (Considered atoms)) (left : List (Spec atoms)) (c : Spec atoms) → next_of seen left ≡ consider c → IsFirst left c
+  first : (seen : List (Considered (workings atoms))) (left : List (Spec (workings atoms))) (c : Spec (workings atoms)) → next_of seen left ≡ consider c → IsFirst left c
   first seen [] c e = absurd (cc)
   first seen (s ∷ left) c e = ap (spec_in s) e
 
-  abbrev IsEmpty : List (Spec atoms) → Type 0
+  abbrev IsEmpty : List (Spec (workings atoms)) → Type 0
   IsEmpty [] = Unit {0}
   IsEmpty (s ∷ left) = ⊥
 
-  none_left : (seen : List (Considered atoms)) (left : List (Spec atoms)) (a : Option Response) (ignored : List ℕ) → next_of seen left ≡ answer a ignored
+  none_left : (seen : List (Considered (workings atoms))) (left : List (Spec (workings atoms))) (a : Option Response) (ignored : List ℕ) → next_of seen left ≡ answer a ignored
       → IsEmpty left × (merge_or_flounder atoms same_response None (responses atoms seen) ≡ a) × (refused_numbers seen ≡ ignored)
   none_left seen [] a ignored e = (tt, ap (answer_in a) e, ap (ignored_in ignored) e)
   none_left seen (s ∷ left) a ignored e = absurd (cc)
 
-  left_on : (d : Considered atoms) (c : Spec atoms) (left : List (Spec atoms)) → IsFirst left d.spec → IsAmong c left → (c ≡ d.spec) ⊎ IsAmong c (rest_of left)
+  left_on : (d : Considered (workings atoms)) (c : Spec (workings atoms)) (left : List (Spec (workings atoms))) → IsFirst left d.spec → IsAmong c left → (c ≡ d.spec) ⊎ IsAmong c (rest_of left)
   left_on d c [] f i = absurd i
   left_on d c (s ∷ left) f (inl e) = inl (e ∙ f)
   left_on d c (s ∷ left) f (inr i) = inr i
 
   -- each candidate was considered or is left
-  considered : (seen : List (Considered atoms)) → IsHistory atoms next seen → (c : Spec atoms) → IsAmong c specs → SomeOf (λ (d : Considered atoms). c ≡ d.spec) seen ⊎ IsAmong c (remaining seen specs)
+  considered : (seen : List (Considered (workings atoms))) → IsHistory (workings atoms) next seen → (c : Spec (workings atoms)) → IsAmong c specs → SomeOf (λ (d : Considered (workings atoms)). c ≡ d.spec) seen ⊎ IsAmong c (remaining seen specs)
   considered [] h c i = inr i
   considered (d ∷ seen) h c i = elim (considered seen h.2 c i) [
     | inl s ↦ inl (inr s)
     | inr j ↦ elim (left_on d c (remaining seen specs) (first seen (remaining seen specs) d.spec h.0) j) [ inl e ↦ inl (inl e) | inr k ↦ inr k ]
   ]
 
-  in_rest : (c : Spec atoms) (left : List (Spec atoms)) → IsAmong c (rest_of left) → IsAmong c left
+  in_rest : (c : Spec (workings atoms)) (left : List (Spec (workings atoms))) → IsAmong c (rest_of left) → IsAmong c left
   in_rest c [] i = i
   in_rest c (s ∷ left) i = inr i
 
-  in_remaining : (seen : List (Considered atoms)) (c : Spec atoms) → IsAmong c (remaining seen specs) → IsAmong c specs
+  in_remaining : (seen : List (Considered (workings atoms))) (c : Spec (workings atoms)) → IsAmong c (remaining seen specs) → IsAmong c specs
   in_remaining [] c i = i
   in_remaining (d ∷ seen) c i = in_remaining seen c (in_rest c (remaining seen specs) i)
 
-  among_first : (c : Spec atoms) (left : List (Spec atoms)) → IsFirst left c → IsAmong c left
+  among_first : (c : Spec (workings atoms)) (left : List (Spec (workings atoms))) → IsFirst left c → IsAmong c left
   among_first c [] f = absurd f
   among_first c (s ∷ left) f = inl (sym f)
 
   -- how many there are, and how many nested goals they have
-  less_one : (c : Spec atoms) (left : List (Spec atoms)) → IsFirst left c → (length left ≡ suc (length (rest_of left))) × (nested_in left ≡ length c.nested + nested_in (rest_of left))
+  less_one : (c : Spec (workings atoms)) (left : List (Spec (workings atoms))) → IsFirst left c → (length left ≡ suc (length (rest_of left))) × (nested_in left ≡ length c.nested + nested_in (rest_of left))
   less_one c [] f = absurd f
-  less_one c (s ∷ left) f = (refl, ap (λ (d : Spec atoms). length d.nested + nested_in left) f)
+  less_one c (s ∷ left) f = (refl, ap (λ (d : Spec (workings atoms)). length d.nested + nested_in left) f)
 
-  counted : (seen : List (Considered atoms)) → IsHistory atoms next seen
+  counted : (seen : List (Considered (workings atoms))) → IsHistory (workings atoms) next seen
       → (length seen + length (remaining seen specs) ≡ length specs) × (nested_of atoms seen + nested_in (remaining seen specs) ≡ nested_in specs)
   counted [] h = (omega arith, omega arith)
   counted (d ∷ seen) h =
@@ -271,13 +272,13 @@ module _ (book : RuleBook) (g : Goal) where
       → IsBy (g.predicate, value_at g.argument x) (map (instance_at x) (map (goal_put_in kind g.argument) r.premises)) r
   rule_at x r e m = record { concludes = e; fits = sym (m ∙ value-put_in g.argument r.shape x); needs = premises-put_in kind g.argument x r.premises }
 
-  rule_of : (x : ℕ) (c : Spec atoms) → IsAmong c specs → Every (λ (e : Argument × Argument). value_at e.0 x ≡ value_at e.1 x) c.equations
+  rule_of : (x : ℕ) (c : Spec (workings atoms)) → IsAmong c specs → Every (λ (e : Argument × Argument). value_at e.0 x ≡ value_at e.1 x) c.equations
       → FollowsByRule book (g.predicate, value_at g.argument x) (map (instance_at x) c.nested)
   rule_of x c i m =
       SomeOf-mono (λ (r : Rule). (r.predicate ≡ g.predicate) × (c ≡ spec_of kind g.argument r)) (IsBy (g.predicate, value_at g.argument x) (map (instance_at x) c.nested))
       (λ r e.
-      let meets = subst (λ (d : Spec atoms). Every (λ (e : Argument × Argument). value_at e.0 x ≡ value_at e.1 x) d.equations) e.1 m in
-      subst (λ (d : Spec atoms). IsBy (g.predicate, value_at g.argument x) (map (instance_at x) d.nested) r) (sym e.1) (rule_at x r e.0 meets.0))
+      let meets = subst (λ (d : Spec (workings atoms)). Every (λ (e : Argument × Argument). value_at e.0 x ≡ value_at e.1 x) d.equations) e.1 m in
+      subst (λ (d : Spec (workings atoms)). IsBy (g.predicate, value_at g.argument x) (map (instance_at x) d.nested) r) (sym e.1) (rule_at x r e.0 meets.0))
       book.rules (from_rule kind g c book.rules i)
 
   all_same : (x y : ℕ) → x ≡ y → (ns : List Goal) → Every (λ n. instance_at x n ≡ instance_at y n) ns
@@ -292,7 +293,7 @@ module _ (book : RuleBook) (g : Goal) where
   small None = tt
   small (Some r) = omega arith
 
-  none : (left : List (Spec atoms)) → IsEmpty left → (c : Spec atoms) → IsAmong c left → ⊥
+  none : (left : List (Spec (workings atoms))) → IsEmpty left → (c : Spec (workings atoms)) → IsAmong c left → ⊥
   none [] e c i = i
   none (s ∷ left) e c i = e
 
@@ -305,10 +306,10 @@ module _ (book : RuleBook) (g : Goal) where
   steps_in argument (n ∷ ns) = (refl, steps_in argument ns)
 
   -- the steps of a candidate are of the goal's kind
-  steps_of : (c : Spec atoms) → IsAmong c specs → Every (λ (n : Goal). n.coinductive ≡ kind) c.nested
+  steps_of : (c : Spec (workings atoms)) → IsAmong c specs → Every (λ (n : Goal). n.coinductive ≡ kind) c.nested
   steps_of c i =
       let x = SomeOf-found (λ (r : Rule). (r.predicate ≡ g.predicate) × (c ≡ spec_of kind g.argument r)) book.rules (from_rule kind g c book.rules i) in
-      subst (λ (d : Spec atoms). Every (λ (n : Goal). n.coinductive ≡ kind) d.nested) (sym x.2.1) (steps_in g.argument x.0.premises)
+      subst (λ (d : Spec (workings atoms)). Every (λ (n : Goal). n.coinductive ≡ kind) d.nested) (sym x.2.1) (steps_in g.argument x.0.premises)
 
   solves_all : (x : ℕ) (ns : List Goal) (ps : List (ℕ × ℕ)) → map (instance_at x) ns ≡ ps → Every (HasProofByBook book) ps → Every (λ n. Unit {0} × HasProofByBook book (instance_at x n)) ns
   solves_all x ns ps e h = proved_all x ns (subst (Every (HasProofByBook book)) (sym e) h)
@@ -332,18 +333,24 @@ module _ (book : RuleBook) (g : Goal) where
       (λ r by. (by.concludes, realizes x last.0 r by last.2)) book.rules last.1)
 
   -- what holds of some candidate holds of some that was considered, if none is left
-  considered_all : (seen : List (Considered atoms)) → IsHistory atoms next seen → IsEmpty (remaining seen specs) → (P : Spec atoms → Type 0) → SomeOf P specs
-      → SomeOf (λ (d : Considered atoms). P d.spec) seen
+  considered_all : (seen : List (Considered (workings atoms))) → IsHistory (workings atoms) next seen → IsEmpty (remaining seen specs) → (P : Spec (workings atoms) → Type 0) → SomeOf P specs
+      → SomeOf (λ (d : Considered (workings atoms)). P d.spec) seen
   considered_all seen h e P s =
       let x = SomeOf-found P specs s in
       elim (considered seen h x.0 x.1) [
-        | inl y ↦ SomeOf-mono (λ (d : Considered atoms). x.0 ≡ d.spec) (λ (d : Considered atoms). P d.spec) (λ d f. subst P f x.2) seen y
+        | inl y ↦ SomeOf-mono (λ (d : Considered (workings atoms)). x.0 ≡ d.spec) (λ (d : Considered (workings atoms)). P d.spec) (λ d f. subst P f x.2) seen y
         | inr z ↦ absurd (none (remaining seen specs) e x.0 z)
       ]
+
+  bare : (c : Certainty) → atoms.has_values (atoms.respond None c) ≡ false
+  bare Yes = refl
+  bare (Maybe Ambiguity) = refl
+  bare (Maybe Overflow) = refl
 
   pub handler_is_lawful : IsHandler atoms (handled_by book g)
   handler_is_lawful = record {
     begins = λ x. (x, tt, refl);
+    says_nothing = λ c. bare c;
     begins_within = tt;
     candidate = λ seen c h e.
         let f = first seen (remaining seen specs) c e in
@@ -362,17 +369,17 @@ module _ (book : RuleBook) (g : Goal) where
         };
     answer = λ seen a ignored h e.
         let end = none_left seen (remaining seen specs) a ignored e in
-        let merge = merge_is atoms atoms_are_lawful same_response same_response_is None (λ x. (x, tt, refl)) (responses atoms seen) in
+        let merge = merge_is atoms atoms_are_lawful same_response same_response_is None (λ c. bare c) (responses atoms seen) in
         let is : IsMerge atoms None (responses atoms seen) a = subst (IsMerge atoms None (responses atoms seen)) end.1 merge in
         record {
           cover = λ w x p. considered_all seen h end.0 (Realizes atoms (HasProofByBook book) None x) (realized x p);
           yes = λ y.
-              let x = SomeOf-found (λ (c : Considered atoms). a ≡ c.response) seen (from_responses seen a (is.yes y)) in
+              let x = SomeOf-found (λ (c : Considered (workings atoms)). a ≡ c.response) seen (from_responses seen a (is.yes y)) in
               let is_yes = subst (IsYes atoms) x.2 y in
-              SomeOf-at (λ (c : Considered atoms). IsYes atoms c.response × IsNoneOf c.number ignored) x.0 seen x.1
+              SomeOf-at (λ (c : Considered (workings atoms)). IsYes atoms c.response × IsNoneOf c.number ignored) x.0 seen x.1
               (is_yes, subst (IsNoneOf x.0.number) end.2 (not_refused next seen h x.0 x.1 is_yes));
           merged = λ w x s. is.covers x (agrees_responses seen x s);
-          ignores = subst (Every (λ n. IsAmong n (used_numbers atoms seen))) end.2 (refused_among next seen);
+          ignores = subst (Every (λ n. IsAmong n (used_numbers (workings atoms) seen))) end.2 (refused_among next seen);
           once = subst IsDistinct end.2 (refused_once next seen h);
           within = λ s. small a;
         };

@@ -6,7 +6,7 @@ use Rattle.infer_table.specs.declared.goal.MaybeCause.TheVariants.{Ambiguity, Ov
 use Rattle.goal_evaluator.specs.declared.candidate.CandidateSource.TheVariants.{BuiltinImpl}
 use Rattle.goal_evaluator.specs.declared.candidate.BuiltinImplSource.TheVariants.{Misc}
 use Rattle.goal_evaluator.specs.Lists.{SomeOf}
-use Rattle.goal_evaluator.specs.Table.{Tables}
+use Rattle.goal_evaluator.specs.Table.{Tables, workings}
 use Rattle.goal_evaluator.specs.Candidate.{Spec, Considered, Next, consider, answer}
 use Rattle.goal_evaluator.specs.Handler.{Handled}
 use Rattle.goal_evaluator.specs.Merge.{responses, merge_or_flounder}
@@ -135,7 +135,7 @@ abbrev pub goal_put_in : Bool → Argument → Goal → Goal
 goal_put_in kind argument n = record { predicate = n.predicate; argument = put_in argument n.argument; coinductive = kind }
 
 -- the rule as a candidate for a goal of this argument, with steps of this kind
-abbrev pub spec_of : Bool → Argument → Rule → Spec atoms
+abbrev pub spec_of : Bool → Argument → Rule → Spec (workings atoms)
 spec_of kind argument r = record {
   source = BuiltinImpl Misc;
   kinds = tt;
@@ -146,11 +146,11 @@ spec_of kind argument r = record {
 }
 
 -- the candidates: one for each rule of the goal's predicate
-abbrev pub specs_for : Bool → Goal → List Rule → List (Spec atoms)
+abbrev pub specs_for : Bool → Goal → List Rule → List (Spec (workings atoms))
 specs_for kind g [] = []
 specs_for kind g (r ∷ rules) = if r.predicate == g.predicate then spec_of kind g.argument r ∷ specs_for kind g rules else specs_for kind g rules
 
-abbrev pub nested_in : List (Spec atoms) → ℕ
+abbrev pub nested_in : List (Spec (workings atoms)) → ℕ
 nested_in [] = 0
 nested_in (s ∷ specs) = length s.nested + nested_in specs
 
@@ -159,7 +159,7 @@ rest_of [] = []
 rest_of (x ∷ xs) = xs
 
 -- what is left of the candidates after these were considered
-abbrev pub remaining : List (Considered atoms) → List (Spec atoms) → List (Spec atoms)
+abbrev pub remaining : List (Considered (workings atoms)) → List (Spec (workings atoms)) → List (Spec (workings atoms))
 remaining [] specs = specs
 remaining (c ∷ seen) specs = rest_of (remaining seen specs)
 
@@ -183,12 +183,12 @@ if_refused None n ns = n ∷ ns
 if_refused (Some r) n ns = ns
 
 -- the numbers of the candidates that were refused
-abbrev pub refused_numbers : List (Considered atoms) → List ℕ
+abbrev pub refused_numbers : List (Considered (workings atoms)) → List ℕ
 refused_numbers [] = []
 refused_numbers (c ∷ seen) = if_refused c.response c.number (refused_numbers seen)
 
 -- the next rule, or the merge of all responses; refused candidates are ignored
-abbrev pub next_of : List (Considered atoms) → List (Spec atoms) → Next atoms
+abbrev pub next_of : List (Considered (workings atoms)) → List (Spec (workings atoms)) → Next (workings atoms)
 next_of seen [] = answer (merge_or_flounder atoms same_response None (responses atoms seen)) (refused_numbers seen)
 next_of seen (s ∷ specs) = consider s
 
@@ -199,7 +199,7 @@ module _ (book : RuleBook) where
   abbrev pub HasProofByBook : ℕ × ℕ → Type 0
   HasProofByBook f = HasProof (ℕ × ℕ) FollowsByRule (λ g. book.coinductive g.0) f
 
-  abbrev pub candidates_for : Goal → List (Spec atoms)
+  abbrev pub candidates_for : Goal → List (Spec (workings atoms))
   candidates_for g = specs_for (book.coinductive g.predicate) g book.rules
 
   abbrev pub handled_by : Goal → Handled atoms

@@ -1,9 +1,10 @@
 -- What a handler means for one goal, and its laws.
-use Rattle.std.specs.Prelude.{◌≡◌, ℕ, Bool, ◌+◌, ◌≤◌, ◌<◌, List, [], ◌∷◌, map, length, Option, Some, None}
+use Rattle.std.specs.Prelude.{◌≡◌, ℕ, Bool, false, ◌+◌, ◌≤◌, ◌<◌, List, [], ◌∷◌, map, length, Option, Some, None}
+use Rattle.infer_table.specs.declared.goal.Certainty.{Certainty}
 use Rattle.infer_table.specs.declared.goal.Certainty.TheVariants.{Yes}
 use Rattle.goal_evaluator.specs.Lists.{Every, SomeOf, IsAmong, IsNoneOf, IsDistinct}
-use Rattle.goal_evaluator.specs.Table.{Tables, IsFree}
-use Rattle.goal_evaluator.specs.Candidate.{Spec, Considered, Next, consider, answer}
+use Rattle.goal_evaluator.specs.Table.{Tables, workings, IsFree}
+use Rattle.goal_evaluator.specs.Candidate.{Spec, Considered, Next, consider, answer, used_numbers, IsHistory}
 use Rattle.goal_evaluator.specs.Law.{IsYes, AgreesTo, Realizes}
 
 module _ {Question Response : Type 0} (t : Tables Question Response) where
@@ -12,7 +13,7 @@ module _ {Question Response : Type 0} (t : Tables Question Response) where
     pub goal : t.Values → t.Fact
     pub begin : t.Table
     -- what comes after what was considered, the newest first
-    pub next : List (Considered t) → Next t
+    pub next : List (Considered (workings t)) → Next (workings t)
     -- a reference follows from these
     pub Rule : t.Fact → List t.Fact → Type 0
     -- the sets of crates in which solutions are looked for, and what has a proof there; outside coherence there are none
@@ -24,15 +25,7 @@ module _ {Question Response : Type 0} (t : Tables Question Response) where
     pub candidates : ℕ
     pub number : ℕ
 
-  abbrev pub used_numbers : List (Considered t) → List ℕ
-  used_numbers seen = map (λ (c : Considered t). c.number) seen
-
-  -- each candidate was the one to consider, and has a number of its own
-  abbrev pub IsHistory : (List (Considered t) → Next t) → List (Considered t) → Type 0
-  IsHistory next [] = Unit {0}
-  IsHistory next (c ∷ seen) = (next seen ≡ consider c.spec) × IsNoneOf c.number (used_numbers seen) × IsHistory next seen
-
-  abbrev pub nested_of : List (Considered t) → ℕ
+  abbrev pub nested_of : List (Considered (workings t)) → ℕ
   nested_of [] = 0
   nested_of (c ∷ seen) = length c.spec.nested + nested_of seen
 
@@ -42,7 +35,7 @@ module _ {Question Response : Type 0} (t : Tables Question Response) where
   AnswerWithin n (Some r) = t.number_in r ≤ n
 
   -- the laws of a candidate that is to be considered after these
-  pub record IsCandidate (h : Handled) (seen : List (Considered t)) (c : Spec t) : Type 0 where
+  pub record IsCandidate (h : Handled) (seen : List (Considered (workings t))) (c : Spec (workings t)) : Type 0 where
     -- where its equations hold it is a rule, unless it says itself that it cannot be sure
     pub sound : c.certainty ≡ Yes → (s : t.Assignment) → t.Allows (t.fresh h.begin c.kinds) s → Every (λ e. t.Meets e s) c.equations
         → h.Rule (h.goal (t.own s)) (map (λ n. t.fact n s) c.nested)
@@ -60,25 +53,26 @@ module _ {Question Response : Type 0} (t : Tables Question Response) where
     pub nested_within : Every (t.NestedWithin h.number) c.nested
 
   -- the laws of an answer after these
-  pub record IsAnswer (h : Handled) (seen : List (Considered t)) (a : Option Response) (ignored : List ℕ) : Type 0 where
+  pub record IsAnswer (h : Handled) (seen : List (Considered (workings t))) (a : Option Response) (ignored : List ℕ) : Type 0 where
     -- in every world a solution of the goal is one by a candidate that was considered
-    pub cover : (w : h.World) (v : t.Values) → h.Proves w (h.goal v) → SomeOf (λ (c : Considered t). Realizes t (h.Proves w) h.begin v c.spec) seen
+    pub cover : (w : h.World) (v : t.Values) → h.Proves w (h.goal v) → SomeOf (λ (c : Considered (workings t)). Realizes t (h.Proves w) h.begin v c.spec) seen
     -- a definite yes is the response of a candidate that is not ignored
-    pub yes : IsYes t a → SomeOf (λ (c : Considered t). IsYes t c.response × IsNoneOf c.number ignored) seen
+    pub yes : IsYes t a → SomeOf (λ (c : Considered (workings t)). IsYes t c.response × IsNoneOf c.number ignored) seen
     -- where there is a world, values that agree with one of the responses agree with the answer
-    pub merged : h.World → (v : t.Values) → SomeOf (λ (c : Considered t). AgreesTo t c.response v) seen → AgreesTo t a v
+    pub merged : h.World → (v : t.Values) → SomeOf (λ (c : Considered (workings t)). AgreesTo t c.response v) seen → AgreesTo t a v
     -- what is ignored was considered, and is ignored once
-    pub ignores : Every (λ n. IsAmong n (used_numbers seen)) ignored
+    pub ignores : Every (λ n. IsAmong n (used_numbers (workings t) seen)) ignored
     pub once : IsDistinct ignored
     -- the answer holds no greater terms than the responses
-    pub within : Every (λ (c : Considered t). AnswerWithin h.number c.response) seen → AnswerWithin h.number a
+    pub within : Every (λ (c : Considered (workings t)). AnswerWithin h.number c.response) seen → AnswerWithin h.number a
 
   -- the laws of a handler
   pub record IsHandler (h : Handled) : Type 0 where
     pub begins : IsFree t h.begin
+    pub says_nothing : (c : Certainty) → t.has_values (t.respond h.begin c) ≡ false
     pub begins_within : t.TableWithin h.number h.begin
-    pub candidate : (seen : List (Considered t)) (c : Spec t) → IsHistory h.next seen → h.next seen ≡ consider c → IsCandidate h seen c
-    pub answer : (seen : List (Considered t)) (a : Option Response) (ignored : List ℕ) → IsHistory h.next seen → h.next seen ≡ answer a ignored → IsAnswer h seen a ignored
+    pub candidate : (seen : List (Considered (workings t))) (c : Spec (workings t)) → IsHistory (workings t) h.next seen → h.next seen ≡ consider c → IsCandidate h seen c
+    pub answer : (seen : List (Considered (workings t))) (a : Option Response) (ignored : List ℕ) → IsHistory (workings t) h.next seen → h.next seen ≡ answer a ignored → IsAnswer h seen a ignored
 
   -- the goal's instance at these values follows by a rule from references of which P holds
   pub record FollowsFrom (h : Handled) (P : t.Fact → Type 0) (v : t.Values) : Type 0 where

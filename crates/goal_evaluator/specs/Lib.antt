@@ -10,11 +10,13 @@ pub mod Law
 pub mod Handler
 pub mod Merge
 pub mod History
+pub mod Correspondences
 pub mod Promises
 pub mod Proof
 pub mod System
 pub mod Atoms
 pub mod Toys
+pub mod Counted
 pub mod ByRules
 pub mod Responses
 pub mod Readings

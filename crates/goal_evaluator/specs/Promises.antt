@@ -3,7 +3,7 @@
 use Rattle.std.specs.Prelude.{◌≡◌, ℕ, suc, ◌*◌, ◌≤◌, ◌<◌, Bool, true, List, [], Option}
 use Rattle.goal_evaluator.specs.declared.TheConstants.{FIXPOINT_STEP_LIMIT}
 use Rattle.goal_evaluator.specs.Lists.{IsAmong, IsNoneOf}
-use Rattle.goal_evaluator.specs.Table.{Tables}
+use Rattle.goal_evaluator.specs.Table.{Tables, workings}
 use Rattle.goal_evaluator.specs.Frame.{Frame, numbers}
 use Rattle.goal_evaluator.specs.Candidate.{frame}
 use Rattle.goal_evaluator.specs.Law.{IsYes, Counts, IsInstance, AgreesTo, Covers}
@@ -13,7 +13,7 @@ use Rattle.goal_evaluator.specs.History.{Request, evaluate, ignore_candidate, re
 
 module _ {Question Response : Type 0} (t : Tables Question Response) (h : Handled t) where
   abbrev pub frame_of_goal : Frame Question (Option Response)
-  frame_of_goal = frame t FIXPOINT_STEP_LIMIT h.begin h.next (suc h.candidates) []
+  frame_of_goal = frame (workings t) FIXPOINT_STEP_LIMIT h.begin h.next (suc h.candidates) []
 
   abbrev pub History : Type 0
   History = List (Reply (Option Response))
@@ -44,10 +44,10 @@ module _ {Question Response : Type 0} (t : Tables Question Response) (h : Handle
     pub questions : (heard : History) (q : Question) → CameInOrder Anything frame_of_goal heard → asked heard ≡ evaluate q → results heard < FIXPOINT_STEP_LIMIT * h.number
     pub replies : (heard : History) → CameInOrder Anything frame_of_goal heard → (results heard ≤ FIXPOINT_STEP_LIMIT * h.number) × (others heard ≤ 3 * h.candidates)
 
-  -- where no answer has a greater number than its question, no question and no answer of the frame has a greater number than the
-  -- handler's
+  -- where no answer to a question of no greater number than the handler's has a greater one, no question and no answer of the frame
+  -- has a greater number than the handler's
   abbrev pub Fair : Question → Option Response → Type 0
-  Fair q a = AnswerWithin t (t.number_of q) a
+  Fair q a = t.number_of q ≤ h.number → AnswerWithin t h.number a
 
   pub record KeepsNumber : Type 0 where
     pub questions : (heard : History) (q : Question) → CameInOrder Fair frame_of_goal heard → asked heard ≡ evaluate q → t.number_of q ≤ h.number

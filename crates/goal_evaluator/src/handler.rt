@@ -6,9 +6,9 @@ ghost use Rattle.infer_table.specs.declared.goal.TypingMode.{TypingMode};
 ghost use Rattle.infer_table.specs.Canonical.{CanonicalForm};
 ghost use Rattle.canonical_forms.specs.Goals.{GoalHeld};
 ghost use Rattle.canonical_forms.specs.Inputs.{form_of};
-ghost use Rattle.goal_evaluator.specs.Table.{Tables, IsTable};
+ghost use Rattle.goal_evaluator.specs.Table.{Tables, workings, IsTable};
 ghost use Rattle.goal_evaluator.specs.Candidate as Frames;
-ghost use Rattle.goal_evaluator.specs.Handler.{Handled, IsHistory, IsHandler};
+ghost use Rattle.goal_evaluator.specs.Handler.{Handled, IsHandler};
 ghost use Rattle.goal_evaluator.specs.Promises.{DefiniteYesFollows, AnswerCoversGoal, IsBounded, KeepsNumber, IgnoresFinishedOnce};
 ghost use Rattle.goal_evaluator.specs.Readings.{Reading, IsReading, Shows, next_of, IsOfTrait, ConsideredHeld, StepHeld};
 
@@ -57,13 +57,13 @@ pub trait GoalHandler {
         requires ready { ready self.now cx.old.entries }
         requires goal { GoalHeld cx.old.entries goal.now.goal }
         requires done { ConsideredHeld cx.old.entries done.now }
-        requires history { (seen : List (Frames.Considered tables)) × Shows tables reading cx.old.entries done.now seen × IsHistory tables (handled (meaning self.now cx.old.entries) goal.now.mode (form_of cx.old.entries goal.now)).next seen }
+        requires history { (seen : List (Frames.Considered (workings tables))) × Shows tables reading cx.old.entries done.now seen × Frames.IsHistory (workings tables) (handled (meaning self.now cx.old.entries) goal.now.mode (form_of cx.old.entries goal.now)).next seen }
         ensures keeps { Keeps cx.old.entries cx.new.entries }
         ensures limit { cx.new.limit ≡ cx.old.limit }
         ensures held { IfOk result (StepHeld cx.new.entries) }
 
         // It is what comes next in each history that the candidates show.
-        ensures next { IfOk result (λ s. let h = handled (meaning self.now cx.old.entries) goal.now.mode (form_of cx.old.entries goal.now) in (seen : List (Frames.Considered tables)) → Shows tables reading cx.old.entries done.now seen → IsHistory tables h.next seen → next_of tables reading cx.new.entries h.coinductive s ≡ h.next seen) };
+        ensures next { IfOk result (λ s. let h = handled (meaning self.now cx.old.entries) goal.now.mode (form_of cx.old.entries goal.now) in (seen : List (Frames.Considered (workings tables))) → Shows tables reading cx.old.entries done.now seen → Frames.IsHistory (workings tables) h.next seen → next_of tables reading cx.new.entries h.coinductive s ≡ h.next seen) };
 
     /// Whether the trait is coinductive: a goal of it holds if it needs nothing but itself.
     fn trait_is_coinductive(&self, def_id: TraitId) -> bool

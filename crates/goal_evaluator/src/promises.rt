@@ -5,6 +5,8 @@ ghost use Rattle.goal_evaluator.specs.Table.{Tables, IsTable};
 ghost use Rattle.goal_evaluator.specs.Handler.{Handled, IsHandler};
 ghost use Rattle.goal_evaluator.specs.Promises.{DefiniteYesFollows, AnswerCoversGoal, IsBounded, KeepsNumber, IgnoresFinishedOnce, MergesResponses};
 ghost use Rattle.goal_evaluator.specs.System.{System, IsSystem, YesFollowsFromQuestions, GraphsProve};
+ghost use Rattle.goal_evaluator.specs.Operations.{Operations, Workings};
+ghost use Rattle.goal_evaluator.specs.Correspondences.{Correspondence, IsCorrespondence, RoundsCorrespond, CandidateCorrespondence, IsCandidateCorrespondence, CandidatesCorrespond, FramesCorrespond};
 ghost use Rattle.goal_evaluator.specs.ByRules.{ProofsAreProofs};
 
 /// What a handler of goals means, and the tables that its candidates are evaluated in.
@@ -41,8 +43,8 @@ pub fn frame_is_bounded<E: Evaluation>()
     ensures { (goal : E.Goal) → IsBounded E.tables (E.handled goal) }
 {}
 
-/// No question and no answer of a frame has a greater number than the handler's, where no answer has a greater number than its
-/// question.
+/// No question and no answer of a frame has a greater number than the handler's, where no answer has one to a question that has
+/// none.
 pub fn frame_keeps_number<E: Evaluation>()
     requires tables { IsTable E.tables }
     requires handler { (goal : E.Goal) → IsHandler E.tables (E.handled goal) }
@@ -86,6 +88,59 @@ pub fn yes_follows_from_questions<S: GoalSystem>()
 pub fn graph_has_proof<S: GoalSystem>()
     requires { IsSystem S.tables S.system }
     ensures { GraphsProve S.tables S.system }
+{}
+
+/// Operations of two kinds, and what of the one corresponds to what of the other.
+pub trait CorrespondingOperations {
+    ghost Question: { Type 0 };
+
+    ghost Response: { Type 0 };
+
+    ghost OtherQuestion: { Type 0 };
+
+    ghost OtherResponse: { Type 0 };
+
+    ghost one: { Operations Question Response };
+
+    ghost other: { Operations OtherQuestion OtherResponse };
+
+    ghost correspondence: { Correspondence one other };
+}
+
+/// From corresponding tables, corresponding goals and answers lead to corresponding ends of a round and of the rounds: both wait at
+/// corresponding questions, or both end with corresponding results, and the answers that are left correspond.
+pub fn rounds_correspond<C: CorrespondingOperations>()
+    requires { IsCorrespondence C.one C.other C.correspondence }
+    ensures { RoundsCorrespond C.one C.other C.correspondence }
+{}
+
+/// Workings of two kinds, and what of the one corresponds to what of the other.
+pub trait CorrespondingWorkings {
+    ghost Question: { Type 0 };
+
+    ghost Response: { Type 0 };
+
+    ghost OtherQuestion: { Type 0 };
+
+    ghost OtherResponse: { Type 0 };
+
+    ghost one: { Workings Question Response };
+
+    ghost other: { Workings OtherQuestion OtherResponse };
+
+    ghost correspondence: { CandidateCorrespondence one other };
+}
+
+/// In corresponding tables, corresponding candidates and answers lead to corresponding questions and results.
+pub fn candidates_correspond<C: CorrespondingWorkings>()
+    requires { IsCandidateCorrespondence C.one C.other C.correspondence }
+    ensures { CandidatesCorrespond C.one C.other C.correspondence }
+{}
+
+/// After corresponding replies, frames of corresponding handlers make corresponding requests.
+pub fn frames_correspond<C: CorrespondingWorkings>()
+    requires { IsCandidateCorrespondence C.one C.other C.correspondence }
+    ensures { FramesCorrespond C.one C.other C.correspondence }
 {}
 
 /// A proof list by the rules of a set of crates and of where-clauses is a proof as the definitions have it.

@@ -1,11 +1,13 @@
-//! Merges of responses.
+//! What responses say, and their merges.
 ghost use Rattle.std.specs.Prelude.{◌≡◌, IfOk, [], ◌∷◌};
 ghost use Rattle.type_terms.specs.Terms.{Has, Keeps, types};
 
 use crate::merge::{
     MergeCandidateInfo, ambiguous_certainty, bail_with_ambiguity, flounder, try_merge_candidates,
 };
-use crate::response::{has_no_inference_or_external_constraints, is_same_response};
+use crate::response::{
+    has_no_inference_or_external_constraints, is_identity_modulo_regions, is_same_response,
+};
 use canonical_forms::response::CanonicalResponse;
 use infer_table::canonical::CanonicalVarKind;
 use infer_table::goal::{Certainty, MaybeCause};
@@ -15,6 +17,7 @@ use type_terms::Fault;
 use type_terms::interner::Interner;
 use type_terms::kinds::{GenericArgKind, Ty, TyKind};
 use type_terms::number::{BoundVar, BoundVarIndexKind};
+use type_terms::region::{Region, RegionKind};
 
 /// The unknown type of the goals.
 fn unknown_type(cx: &mut Interner) -> Result<Ty, Fault>
@@ -105,5 +108,20 @@ fn responses_without_a_merge_are_one_ambiguous_answer(rt: HostRuntime) -> Result
     let answer = answer.ok_or("an answer")?;
     assert_eq!(rt; answer.certainty, Certainty::Maybe(MaybeCause::Overflow));
     assert!(rt; flounder(alloc, &mut cx, &variables, &[])?.is_none());
+    Ok(())
+}
+
+#[test]
+fn values_of_lifetimes_say_nothing(rt: HostRuntime) -> Result<(), Fail> {
+    let mut cx = Interner::new(rt.alloc(), 100);
+    let unknown = GenericArgKind::Ty(unknown_type(&mut cx)?);
+    let boolean = GenericArgKind::Ty(bool_type(&mut cx)?);
+    let known = GenericArgKind::Lifetime(Region {
+        kind: RegionKind::ReStatic,
+    });
+    assert!(rt; is_identity_modulo_regions(&cx, &[known, unknown]));
+    assert!(rt; is_identity_modulo_regions(&cx, &[unknown, known]));
+    assert!(rt; !is_identity_modulo_regions(&cx, &[known, boolean]));
+    assert!(rt; !is_identity_modulo_regions(&cx, &[unknown, unknown]));
     Ok(())
 }

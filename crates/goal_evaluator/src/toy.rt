@@ -1,16 +1,20 @@
 //! Small handlers that show that the laws of tables and of handlers can be met, and what their frames ask and answer.
 
 ghost use Rattle.std.specs.Prelude.{◌≡◌, List, [], ◌∷◌, None};
-ghost use Rattle.goal_evaluator.specs.Table.{IsTable};
+ghost use Rattle.goal_evaluator.specs.Table.{IsTable, workings};
 ghost use Rattle.goal_evaluator.specs.Handler.{IsHandler};
 ghost use Rattle.goal_evaluator.specs.System.{IsSystem, GraphsProve};
 ghost use Rattle.goal_evaluator.specs.Promises.{DefiniteYesFollows, AnswerCoversGoal};
 ghost use Rattle.goal_evaluator.specs.History.{evaluate, enter_candidate, finish_candidate, returns, begin, entered, evaluated, finished, ignored, ignore_candidate};
 ghost use Rattle.goal_evaluator.specs.Atoms.{Goal, Response, RuleBook, atoms, atom, unknown, handled_by, system_of, HasProofByBook};
+ghost use Rattle.goal_evaluator.specs.Correspondences.{RoundsCorrespond, CandidatesCorrespond, FramesCorrespond};
+ghost use Rattle.goal_evaluator.specs.Counted.{counting, but_for_tables, but_for_counts};
 ghost use Rattle.goal_evaluator.specs.Toys.{no_rule, one_rule, two_rules, three_premises, premise_binds, coinductive_rule, u8, bool, show, clone, copy, sized, send, yes, yes_with, maybe, overflow, Asks};
 
 use crate::promises::{
-    Evaluation, GoalSystem, answer_covers_goal, definite_yes_follows, graph_has_proof,
+    CorrespondingOperations, CorrespondingWorkings, Evaluation, GoalSystem, answer_covers_goal,
+    candidates_correspond, definite_yes_follows, frames_correspond, graph_has_proof,
+    rounds_correspond,
 };
 
 /// The handlers of all lists of rules, over tables with one unknown.
@@ -73,6 +77,53 @@ pub fn coinductive_graphs_prove()
 {
     rule_books_are_systems();
     graph_has_proof::<CoinductiveRule>();
+}
+
+/// The tables with one unknown, and the same tables with the number of answers that were put into them.
+pub struct CountedAtoms;
+
+impl CorrespondingOperations for CountedAtoms {
+    ghost Question = { Goal };
+
+    ghost Response = { Response };
+
+    ghost OtherQuestion = { Goal };
+
+    ghost OtherResponse = { Response };
+
+    ghost one = { (workings atoms).operations };
+
+    ghost other = { (counting (workings atoms)).operations };
+
+    ghost correspondence = { (but_for_tables (workings atoms) (λ table counted. table ≡ counted.table)).rounds };
+}
+
+impl CorrespondingWorkings for CountedAtoms {
+    ghost Question = { Goal };
+
+    ghost Response = { Response };
+
+    ghost OtherQuestion = { Goal };
+
+    ghost OtherResponse = { Response };
+
+    ghost one = { workings atoms };
+
+    ghost other = { counting (workings atoms) };
+
+    ghost correspondence = { but_for_tables (workings atoms) (λ table counted. table ≡ counted.table) };
+}
+
+/// Counting changes nothing of what rounds, candidates and frames ask and answer.
+#[tactic(auto, using(crate::proofs::Counted::atoms_correspond))]
+pub fn counting_changes_nothing()
+    ensures rounds { RoundsCorrespond (workings atoms).operations (counting (workings atoms)).operations (but_for_counts (workings atoms)).rounds }
+    ensures candidates { CandidatesCorrespond (workings atoms) (counting (workings atoms)) (but_for_counts (workings atoms)) }
+    ensures frames { FramesCorrespond (workings atoms) (counting (workings atoms)) (but_for_counts (workings atoms)) }
+{
+    rounds_correspond::<CountedAtoms>();
+    candidates_correspond::<CountedAtoms>();
+    frames_correspond::<CountedAtoms>();
 }
 
 /// Without a rule there is no candidate, and the goal is refused at once.
