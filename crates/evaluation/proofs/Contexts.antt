@@ -1,5 +1,6 @@
 -- Contexts stay ready while the interner grows.
-use Rattle.std.specs.Prelude.{List, [], ◌∷◌, Option, Some, None}
+use Rattle.std.specs.Prelude.{◌≡◌, List, [], ◌∷◌, ◌++◌, map, Option, Some, None}
+use Rattle.std.proofs.Common.{subst, sym}
 use Rattle.type_terms.specs.Terms.{Entry, Keeps, args_lists}
 use Rattle.term_traversal.specs.Kept.{args-held-later, has-later}
 use Rattle.infer_table.specs.Content.{Table, Ready}
@@ -7,8 +8,9 @@ use Rattle.infer_table.specs.Kept.{constraints-kept, ready-later}
 use Rattle.canonical_forms.specs.declared.response.CanonicalResponse.{CanonicalResponse}
 use Rattle.canonical_forms.proofs.Numbers.{clauses-held-later}
 use Rattle.goal_evaluator.specs.Lists.{Every}
-use Rattle.goal_evaluator.specs.Readings.{ResponseHeld, ResultHeld}
-use Rattle.evaluation.specs.Context.{Context, NestedGoal, NestedHeld, IsReady}
+use Rattle.canonical_responses.specs.Responses.{ResponseHeld}
+use Rattle.goal_evaluator.specs.Readings.{ResultHeld}
+use Rattle.evaluation.specs.Context.{Context, NestedGoal, GoalIsHeld, NestedHeld, IsReady}
 
 pub nested-later : (old new : List Entry) → Keeps old new → (ns : List NestedGoal) → NestedHeld old ns → NestedHeld new ns
 nested-later old new k [] h = tt
@@ -42,3 +44,22 @@ ready-with-table old new c t k h r =
 
 pub context-later : (old new : List Entry) → Keeps old new → (c : Context) → IsReady old c → IsReady new c
 context-later old new k c h = ready-with-table old new c c.table k h (ready-later old new c.table k h.table)
+
+pub every-more : {A : Type 0} (P : A → Type 0) (xs : List A) (x : A) → Every P xs → P x → Every P (xs ++ x ∷ [])
+every-more P [] x h p = (p, tt)
+every-more P (y ∷ ys) x h p = (h.0, every-more P ys x h.1 p)
+
+-- a context stays ready with one more goal, or one more reply
+pub ready-added : (es : List Entry) (c d : Context) (n : NestedGoal) → d ≡ record c { nested = c.nested ++ n ∷ [] } → IsReady es c → GoalIsHeld es n → IsReady es d
+ready-added es c d n e r h =
+    let there : IsReady es (record c { nested = c.nested ++ n ∷ [] }) = record { table = r.table; values = r.values; nested = every-more (GoalIsHeld es) c.nested n r.nested h; replies = r.replies } in
+    subst (IsReady es) (sym e) there
+
+pub ready-replied : (es : List Entry) (c d : Context) (a : Option CanonicalResponse) → d ≡ record c { replies = c.replies ++ a ∷ [] } → IsReady es c → ResultHeld es a → IsReady es d
+ready-replied es c d a e r h =
+    let there : IsReady es (record c { replies = c.replies ++ a ∷ [] }) = record { table = r.table; values = r.values; nested = r.nested; replies = every-more (ResultHeld es) c.replies a r.replies h } in
+    subst (IsReady es) (sym e) there
+
+-- a context that is as before stays ready
+pub ready-same : (old new : List Entry) (c d : Context) → Keeps old new → d ≡ c → IsReady old c → IsReady new d
+ready-same old new c d k e h = subst (IsReady new) (sym e) (context-later old new k c h)

@@ -1,4 +1,11 @@
 pub mod Contexts
 pub mod Undone
-pub mod Probing
+pub mod LaterTrees
+pub mod Asking
+pub mod FirstOf
+pub mod RunRounds
+pub mod RoundEnds
+pub mod RoundsEnds
 pub mod OwnAnswers
+pub mod CallEnds
+pub mod Probing

@@ -31,7 +31,8 @@ clones-same R f [] (m ∷ ms) h = absurd h
 clones-same R f (n ∷ ns) [] h = absurd h
 clones-same R f (n ∷ ns) (m ∷ ms) h = both (nested_goal n) (nested_goal m) (map nested_goal ns) (map nested_goal ms) (f n m h.0) (clones-same R f ns ms h.1)
 
-same-context : (m m' : TypingMode) (t t' : Table) (ks ks' : List CanonicalVarKind) (vs vs' : List GenericArgKind) (ns ns' : List NestedGoal) (rs rs' : List (Option CanonicalResponse))
+-- contexts with equal fields are equal
+pub same-context : (m m' : TypingMode) (t t' : Table) (ks ks' : List CanonicalVarKind) (vs vs' : List GenericArgKind) (ns ns' : List NestedGoal) (rs rs' : List (Option CanonicalResponse))
     → m' ≡ m → t' ≡ t → ks' ≡ ks → vs' ≡ vs → ns' ≡ ns → rs' ≡ rs
     → ◌≡◌ {A = Context} (record { mode = m'; table = t'; variables = ks'; values = vs'; nested = ns'; replies = rs' }) (record { mode = m; table = t; variables = ks; values = vs; nested = ns; replies = rs })
 same-context m m' t t' ks ks' vs vs' ns ns' rs rs' a b k c d e = cc

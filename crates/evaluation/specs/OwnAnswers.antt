@@ -1,18 +1,21 @@
 -- The answer that a context gives of itself.
-use Rattle.std.specs.Prelude.{◌≡◌, List, []}
-use Rattle.model.specs.Trees.{Trees, ◌+++◌}
+use Rattle.std.specs.Prelude.{◌≡◌, List, [], ◌∷◌, Option, Some, None}
+use Rattle.model.specs.Trees.{Trees, none, tree, ◌+++◌, sort_of}
 use Rattle.type_terms.specs.Terms.{Entry}
 use Rattle.type_terms.specs.Kinds.{ArgsHeld, args_trees}
 use Rattle.infer_table.specs.declared.goal.Certainty.{Certainty}
 use Rattle.infer_table.specs.declared.goal.Certainty.TheVariants.{Yes, Maybe}
 use Rattle.infer_table.specs.declared.goal.MaybeCause.TheVariants.{Ambiguity, Overflow}
 use Rattle.infer_table.specs.Canonical.{canonical_form, HasNoCanonical}
+use Rattle.infer_table.specs.declared.canonical.CanonicalVarKind.{CanonicalVarKind}
+use Rattle.infer_table.specs.Unification.{TableTrees}
 use Rattle.infer_table.specs.Solutions.{Assignment, Solves, instance, resolved}
 use Rattle.infer_table.specs.Content.{content}
 use Rattle.infer_table.specs.Constraints.{constraints_trees}
-use Rattle.canonical_forms.specs.Values.{values_of}
+use Rattle.canonical_forms.specs.Values.{Value, values_of}
 use Rattle.canonical_forms.specs.declared.response.CanonicalResponse.{CanonicalResponse}
-use Rattle.canonical_responses.specs.Responses.{as_goal, response_form, answer_leaves, numbered_by, ResponseHeld}
+use Rattle.canonical_responses.specs.Applied.{trees_of}
+use Rattle.canonical_responses.specs.Responses.{AnswerTrees, as_goal, response_form, answer_leaves, numbered_by, ResponseHeld}
 use Rattle.canonical_responses.specs.Covers.{Agrees, AreNumbered}
 use Rattle.canonical_responses.specs.Raw.{variables_from}
 use Rattle.evaluation.specs.Context.{Context}
@@ -50,3 +53,32 @@ abbrev pub Says : List Entry → List Entry → Context → CanonicalResponse �
 Says old new c r Yes = SaysWhatIsKnown old new c r
 Says old new c r (Maybe Ambiguity) = SaysWhatIsKnown old new c r
 Says old new c r (Maybe Overflow) = SaysNothing new c r
+
+-- ---- over trees
+-- the kinds that are there
+abbrev pub kinds_in : List (Option CanonicalVarKind) → List CanonicalVarKind
+kinds_in [] = []
+kinds_in (None ∷ ks) = kinds_in ks
+kinds_in (Some k ∷ ks) = k ∷ kinds_in ks
+
+-- the terms of a row, each with its sort
+abbrev pub values_in : Trees → List Value
+values_in none = []
+values_in (tree l c o) = record { sort = sort_of l; trees = tree l c none } ∷ values_in o
+
+-- the answer that says in canonical form what a table knows of these values, and of lifetimes
+abbrev pub known_answer : List Value → TableTrees → Certainty → AnswerTrees
+known_answer own t c =
+    let ls = answer_leaves (resolved t.bindings (trees_of own +++ t.constraints)) in
+    record {
+      kinds = kinds_in (canonical_form (as_goal (resolved t.bindings (trees_of own +++ t.constraints)))).kinds;
+      certainty = c;
+      values = values_in (numbered_by ls (resolved t.bindings (trees_of own)));
+      constraints = numbered_by ls (resolved t.bindings t.constraints);
+    }
+
+-- the answer that a table gives to a goal whose variables are of these kinds and have these values
+abbrev pub answer_of : List CanonicalVarKind → List Value → TableTrees → Certainty → AnswerTrees
+answer_of kinds own t Yes = known_answer own t Yes
+answer_of kinds own t (Maybe Ambiguity) = known_answer own t (Maybe Ambiguity)
+answer_of kinds own t (Maybe Overflow) = record { kinds = kinds; certainty = Maybe Overflow; values = variables_from 0 kinds; constraints = none }

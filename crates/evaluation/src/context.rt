@@ -5,20 +5,30 @@ ghost use Rattle.type_terms.specs.Kinds.{ArgHeld, ArgsHeld, arg_trees};
 ghost use Rattle.type_terms.specs.declared.TheConstants.{MAX_INDEX};
 ghost use Rattle.infer_table.specs.Solutions.{Equates, HasNoSolution, OlderStays};
 ghost use Rattle.infer_table.specs.Content.{content, Ready, Grows};
-ghost use Rattle.canonical_forms.specs.Goals.{GoalHeld};
-ghost use Rattle.canonical_responses.specs.Raw.{IsFull};
+ghost use Rattle.model.specs.Trees.{none};
+ghost use Rattle.canonical_forms.specs.Values.{values_of};
+ghost use Rattle.canonical_responses.specs.Raw.{IsFull, variables_from};
+ghost use Rattle.canonical_responses.specs.Responses.{ResponseHeld, answer_trees};
 ghost use Rattle.goal_evaluator.specs.Readings.{ResultHeld};
 ghost use Rattle.evaluation.specs.Context.{Context, IsReady, nested_goal};
-ghost use Rattle.evaluation.specs.OwnAnswers.{SaysWhatIsKnown, SaysNothing, Says};
+ghost use Rattle.evaluation.specs.OwnAnswers.{SaysWhatIsKnown, SaysNothing, Says, known_answer, answer_of};
+ghost use Rattle.infer_table.specs.Unification.{table_trees};
+ghost use Rattle.goal_evaluator.specs.Replays.{run};
+ghost use Rattle.goal_evaluator.specs.Rounds.{rounds};
+ghost use Rattle.goal_evaluator.specs.declared.TheConstants.{FIXPOINT_STEP_LIMIT};
+ghost use Rattle.evaluation.specs.Evaluating.{evaluation, goals_trees, replies_trees};
+ghost use Rattle.evaluation.specs.Ends.{CallEnds, AnswerEnds, AnswerHeld};
+ghost use Rattle.evaluation.specs.Steps.{RoundsEnd, RoundsHeld, IsUndone};
 ghost use Rattle.evaluation.specs.Probes.{TakesBoth, Returns, IsUndoable};
 
 use crate::error::EvalError;
+use crate::rounds::{RoundsStep, rounds};
 use canonical_forms::goal::Goal;
 use canonical_forms::input::CanonicalInput;
 use canonical_forms::response::CanonicalResponse;
 use canonical_responses::canonicalize::canonicalize_response;
 use canonical_responses::raw::response_no_constraints_raw;
-use goal_evaluator::GoalSource;
+use goal_evaluator::{FIXPOINT_STEP_LIMIT, GoalSource};
 use infer_table::canonical::CanonicalVarKind;
 use infer_table::goal::{Certainty, MaybeCause, TypingMode};
 use infer_table::infer_ctxt::InferCtxt;
@@ -228,6 +238,8 @@ impl EvalCtxt {
         ensures limit { cx.new.limit ≡ cx.old.limit }
         ensures certainty { IfOk result (λ r. r.certainty ≡ Certainty.Maybe cause) }
         ensures says { IfOk result (λ r. Says cx.old.entries cx.new.entries self.now r (Certainty.Maybe cause)) }
+        ensures held { IfOk result (λ r. ResponseHeld cx.new.entries r) }
+        ensures is { IfOk result (λ r. answer_trees cx.new.entries r ≡ answer_of self.now.variables (values_of cx.old.entries self.now.values) (table_trees cx.old.entries self.now.table) (Certainty.Maybe cause)) }
         ensures full { cause ≡ MaybeCause.Overflow → result ≡ Err Fault.Full → (MAX_INDEX < length self.now.variables) ⊎ IsFull cx.new.entries cx.new.limit }
     {
         self.answer(cx, Certainty::Maybe(cause))
@@ -240,6 +252,8 @@ impl EvalCtxt {
         ensures limit { cx.new.limit ≡ cx.old.limit }
         ensures certainty { IfOk result (λ r. r.certainty ≡ certainty) }
         ensures says { IfOk result (λ r. Says cx.old.entries cx.new.entries self.now r certainty) }
+        ensures held { IfOk result (λ r. ResponseHeld cx.new.entries r) }
+        ensures is { IfOk result (λ r. answer_trees cx.new.entries r ≡ answer_of self.now.variables (values_of cx.old.entries self.now.values) (table_trees cx.old.entries self.now.table) certainty) }
         ensures full { certainty ≡ Certainty.Maybe MaybeCause.Overflow → result ≡ Err Fault.Full → (MAX_INDEX < length self.now.variables) ⊎ IsFull cx.new.entries cx.new.limit }
     {
         match certainty {
@@ -260,9 +274,13 @@ impl EvalCtxt {
         ensures limit { cx.new.limit ≡ cx.old.limit }
         ensures certainty { IfOk result (λ r. r.certainty ≡ certainty) }
         ensures says { IfOk result (λ r. SaysWhatIsKnown cx.old.entries cx.new.entries self.now r) }
+        ensures held { IfOk result (λ r. ResponseHeld cx.new.entries r) }
+        ensures is { IfOk result (λ r. answer_trees cx.new.entries r ≡ known_answer (values_of cx.old.entries self.now.values) (table_trees cx.old.entries self.now.table) certainty) }
     {
         let alloc = *self.values.allocator();
-        canonicalize_response(alloc, cx, &self.table, certainty, &self.values)
+        let answer = canonicalize_response(alloc, cx, &self.table, certainty, &self.values)?;
+        cx.lawful();
+        Ok(answer)
     }
 
     /// The answer of this certainty that says nothing.
@@ -275,11 +293,135 @@ impl EvalCtxt {
         ensures limit { cx.new.limit ≡ cx.old.limit }
         ensures certainty { IfOk result (λ r. r.certainty ≡ certainty) }
         ensures says { IfOk result (λ r. SaysNothing cx.new.entries self.now r) }
+        ensures held { IfOk result (λ r. ResponseHeld cx.new.entries r) }
+        ensures is { IfOk result (λ r. answer_trees cx.new.entries r ≡ record { kinds = self.now.variables; certainty = certainty; values = variables_from 0 self.now.variables; constraints = none }) }
         ensures full { result ≡ Err Fault.Full → (MAX_INDEX < length self.now.variables) ⊎ IsFull cx.new.entries cx.new.limit }
     {
         let alloc = *self.values.allocator();
         let variables = Vec::from_slice(alloc, &self.variables)?;
         response_no_constraints_raw(alloc, cx, variables, certainty)
+    }
+
+    /// Asks the nested goals in rounds, over the replies so far, and answers how sure it is that all of them hold.
+    ///
+    /// In a round each goal is asked in order, and its answer is put into the table. A definite yes drops its goal. The last
+    /// round is one in which no answer gave values to types or constants; after `FIXPOINT_STEP_LIMIT` rounds the certainty is
+    /// an overflow. Once it is `Ready`, the table holds what was put into it, the nested goals are those that are left, and
+    /// the replies are used up. `NoSolution` comes where a goal was refused. `Ask` asks for a reply; then, and after any refusal,
+    /// the context is as before.
+    pub fn try_evaluate_added_goals(
+        &mut self,
+        cx: &mut Interner,
+    ) -> Result<EvalStep<Certainty>, EvalError>
+        requires ready { IsReady cx.old.entries self.old }
+        ensures ready { IsReady cx.new.entries self.new }
+        ensures grows { Grows self.old.table self.new.table }
+        ensures keeps { Keeps cx.old.entries cx.new.entries }
+        ensures limit { cx.new.limit ≡ cx.old.limit }
+        ensures runs { CallEnds self.old.mode cx.new.entries self.old self.new (run (rounds (evaluation self.old.mode) FIXPOINT_STEP_LIMIT (goals_trees cx.old.entries self.old.nested) (table_trees cx.old.entries self.old.table)) (replies_trees cx.old.entries self.old.replies)) result }
+    {
+        let evaluated = self.evaluate_nested_goals(cx)?;
+        match evaluated {
+            RoundsStep::Ended(left, certainty) => {
+                self.settle(left);
+                Ok(EvalStep::Ready(certainty))
+            }
+            RoundsStep::Waits(input, source) => Ok(EvalStep::Ask(input, source)),
+        }
+    }
+
+    /// Asks the nested goals as `try_evaluate_added_goals` does, and answers the context's own answer: as sure as this certainty
+    /// and the goals together. An overflow says nothing.
+    pub fn evaluate_added_goals_and_make_canonical_response(
+        &mut self,
+        cx: &mut Interner,
+        certainty: Certainty,
+    ) -> Result<EvalStep<CanonicalResponse>, EvalError>
+        requires ready { IsReady cx.old.entries self.old }
+        ensures ready { IsReady cx.new.entries self.new }
+        ensures grows { Grows self.old.table self.new.table }
+        ensures keeps { Keeps cx.old.entries cx.new.entries }
+        ensures limit { cx.new.limit ≡ cx.old.limit }
+        ensures held { IfOk result (λ s. AnswerHeld cx.new.entries s) }
+        ensures runs { AnswerEnds self.old.mode cx.new.entries self.old self.new certainty (run (rounds (evaluation self.old.mode) FIXPOINT_STEP_LIMIT (goals_trees cx.old.entries self.old.nested) (table_trees cx.old.entries self.old.table)) (replies_trees cx.old.entries self.old.replies)) result }
+    {
+        let before = self.table.snapshot()?;
+        let evaluated = self.evaluate_nested_goals(cx)?;
+        match evaluated {
+            RoundsStep::Waits(input, source) => Ok(EvalStep::Ask(input, source)),
+            RoundsStep::Ended(left, of_goals) => {
+                match self.answer(cx, certainty.and(of_goals)) {
+                    Ok(response) => {
+                        self.settle(left);
+                        Ok(EvalStep::Ready(response))
+                    }
+                    Err(fault) => {
+                        self.table.roll_back(before);
+                        Err(EvalError::OutOf(fault))
+                    }
+                }
+            }
+        }
+    }
+
+    /// The rounds over the replies so far. Once they end, the table holds what they put into it; else the context is as before.
+    fn evaluate_nested_goals(&mut self, cx: &mut Interner) -> Result<RoundsStep, EvalError>
+        requires ready { IsReady cx.old.entries self.old }
+        ensures ready { IsReady cx.new.entries self.new }
+        ensures grows { Grows self.old.table self.new.table }
+        ensures keeps { Keeps cx.old.entries cx.new.entries }
+        ensures limit { cx.new.limit ≡ cx.old.limit }
+        ensures held { IfOk result (λ e. RoundsHeld cx.new.entries e) }
+        ensures rest { self.new ≡ record self.old { table = self.new.table } }
+        ensures undone { IsUndone self.old self.new result }
+        ensures runs { RoundsEnd self.old.mode cx.new.entries self.new.table (run (rounds (evaluation self.old.mode) FIXPOINT_STEP_LIMIT (goals_trees cx.old.entries self.old.nested) (table_trees cx.old.entries self.old.table)) (replies_trees cx.old.entries self.old.replies)) result }
+    {
+        let before = self.table.snapshot()?;
+        match self.run_rounds(cx) {
+            Ok(RoundsStep::Ended(left, certainty)) => Ok(RoundsStep::Ended(left, certainty)),
+            Ok(RoundsStep::Waits(input, source)) => {
+                self.table.roll_back(before);
+                Ok(RoundsStep::Waits(input, source))
+            }
+            Err(error) => {
+                self.table.roll_back(before);
+                Err(error)
+            }
+        }
+    }
+
+    /// The rounds over the replies so far. The table holds what they put into it, also where they do not end.
+    fn run_rounds(&mut self, cx: &mut Interner) -> Result<RoundsStep, EvalError>
+        requires ready { IsReady cx.old.entries self.old }
+        ensures ready { IsReady cx.new.entries self.new }
+        ensures grows { Grows self.old.table self.new.table }
+        ensures keeps { Keeps cx.old.entries cx.new.entries }
+        ensures limit { cx.new.limit ≡ cx.old.limit }
+        ensures held { IfOk result (λ e. RoundsHeld cx.new.entries e) }
+        ensures rest { self.new ≡ record self.old { table = self.new.table } }
+        ensures runs { RoundsEnd self.old.mode cx.new.entries self.new.table (run (rounds (evaluation self.old.mode) FIXPOINT_STEP_LIMIT (goals_trees cx.old.entries self.old.nested) (table_trees cx.old.entries self.old.table)) (replies_trees cx.old.entries self.old.replies)) result }
+    {
+        let alloc = *self.values.allocator();
+        let goals = self.nested_goals.clone()?;
+        let typing_mode = self.mode;
+        let limit = FIXPOINT_STEP_LIMIT;
+        rounds(
+            alloc,
+            cx,
+            typing_mode,
+            &mut self.table,
+            limit,
+            goals,
+            &self.replies,
+        )
+    }
+
+    /// These goals are left, and the replies are used up.
+    fn settle(&mut self, left: Vec<(GoalSource, Goal)>)
+        ensures { self.new ≡ record self.old { nested = map nested_goal left.items; replies = [] } }
+    {
+        self.nested_goals = left;
+        self.replies.clear();
     }
 
     /// What the closure answers, with all that it does to the context undone: the table and the goals that are still to be asked

@@ -3,6 +3,7 @@
 
 pub mod context;
 mod error;
+mod rounds;
 #[cfg(test)]
 mod tests;
 

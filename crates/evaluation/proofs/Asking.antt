@@ -1,0 +1,40 @@
+-- A goal's question, and the values of its variables, are those of its canonical form.
+use Rattle.std.specs.Prelude.{◌≡◌, List, [], ◌∷◌, map, refl}
+use Rattle.std.proofs.Common.{ap, ◌∙◌, sym}
+use Rattle.model.specs.Label.{Label, Sort}
+use Rattle.model.specs.Trees.{Trees, leaf, sort_of}
+use Rattle.type_terms.specs.Terms.{Entry, Lawful}
+use Rattle.type_terms.specs.declared.kinds.GenericArgKind.{GenericArgKind}
+use Rattle.infer_table.specs.Canonical.{GoalTrees, CanonicalForm, canonical_form, goal_leaves}
+use Rattle.infer_table.specs.declared.goal.TypingMode.{TypingMode}
+use Rattle.canonical_forms.specs.declared.input.CanonicalInput.{CanonicalInput}
+use Rattle.canonical_forms.specs.Inputs.{IsCanonicalInput, form_of}
+use Rattle.canonical_forms.specs.Leaves.{AreLeaves, IsLeaf, labels, leaf_label}
+use Rattle.canonical_forms.specs.Values.{Value, value_of, values_of}
+use Rattle.canonical_forms.proofs.LeafFacts.{sort-is}
+use Rattle.goal_evaluator.specs.declared.goal.GoalSource.{GoalSource}
+use Rattle.evaluation.specs.Evaluating.{Question, question_of, leaf_value, goal_values}
+
+same-question : (m n : TypingMode) (f g : CanonicalForm) (s : GoalSource) → m ≡ n → f ≡ g
+    → ◌≡◌ {A = Question} (record { mode = m; form = f; source = s }) (record { mode = n; form = g; source = s })
+same-question m n f g s e h = cc
+
+-- the question about a canonical input is that about the goal whose form it is
+pub question-is : (es : List Entry) (input : CanonicalInput) (source : GoalSource) (mode : TypingMode) (g : GoalTrees) → input.mode ≡ mode → IsCanonicalInput es g input
+    → ◌≡◌ {A = Question} (record { mode = mode; form = canonical_form g; source = source }) (question_of es input source)
+question-is es input source mode g m h = same-question mode input.mode (canonical_form g) (form_of es input) source (sym m) (sym h.form)
+
+same-value : (s t : Sort) (a b : Trees) → s ≡ t → a ≡ b → ◌≡◌ {A = Value} (record { sort = s; trees = a }) (record { sort = t; trees = b })
+same-value s t a b e f = cc
+
+one-more : (x y : Value) (xs ys : List Value) → x ≡ y → xs ≡ ys → ◌≡◌ {A = List Value} (x ∷ xs) (y ∷ ys)
+one-more x y xs ys e f = cc
+
+pub leaf-values : (es : List Entry) → Lawful es → (xs : List GenericArgKind) → AreLeaves es xs → values_of es xs ≡ map leaf_value (labels es xs)
+leaf-values es law [] h = refl
+leaf-values es law (a ∷ rest) h =
+    one-more _ _ _ _ (same-value _ _ _ _ (sym (sort-is es law a (leaf_label es a) h.0.0 h.0.1)) h.0.1) (leaf-values es law rest h.1)
+
+-- the leaves of a goal are the values of its variables
+pub values-are : (es : List Entry) → Lawful es → (xs : List GenericArgKind) (g : GoalTrees) → AreLeaves es xs → labels es xs ≡ goal_leaves g → values_of es xs ≡ goal_values g
+values-are es law xs g h e = leaf-values es law xs h ∙ ap (map leaf_value) e

@@ -1,0 +1,82 @@
+-- Goals and replies as trees stay the same while the interner grows.
+use Rattle.std.specs.Prelude.{◌≡◌, List, [], ◌∷◌, map, Option, Some, None, option_map, refl}
+use Rattle.std.proofs.Common.{ap}
+use Rattle.model.specs.Label.{Label, principal}
+use Rattle.model.specs.Trees.{Trees, none, tree, ◌+++◌}
+use Rattle.type_terms.specs.Terms.{Entry, Keeps, types, args_lists, trees_at}
+use Rattle.type_terms.specs.Kinds.{ArgsHeld, region_trees}
+use Rattle.term_traversal.specs.Kept.{trees-later}
+use Rattle.term_folds.specs.Clauses.{ClauseHeld}
+use Rattle.term_folds.specs.declared.predicate.Clause.{Clause}
+use Rattle.term_folds.specs.declared.predicate.Clause.TheVariants.{Trait, RegionOutlives as ClauseRegion, TypeOutlives as ClauseType}
+use Rattle.infer_table.specs.Canonical.{GoalTrees}
+use Rattle.infer_table.specs.Constraints.{constraint_label, constraint_terms, constraints_trees}
+use Rattle.infer_table.specs.Content.{IsHeldConstraint, AllConstraintsHeld}
+use Rattle.infer_table.specs.declared.goal.Certainty.{Certainty}
+use Rattle.infer_table.specs.declared.canonical.CanonicalVarKind.{CanonicalVarKind}
+use Rattle.infer_table.specs.declared.terms.RegionConstraint.{RegionConstraint}
+use Rattle.infer_table.specs.declared.terms.RegionConstraint.TheVariants.{Equal, RegionOutlives, TypeOutlives}
+use Rattle.canonical_forms.specs.declared.response.CanonicalResponse.{CanonicalResponse}
+use Rattle.canonical_forms.specs.Goals.{ClausesHeld, clause_label, clause_terms, environment_trees, predicate_trees}
+use Rattle.canonical_forms.specs.Values.{Value, values-later}
+use Rattle.goal_evaluator.specs.declared.goal.GoalSource.{GoalSource}
+use Rattle.goal_evaluator.specs.Lists.{Every}
+use Rattle.canonical_responses.specs.Responses.{ResponseHeld}
+use Rattle.goal_evaluator.specs.Readings.{ResultHeld}
+use Rattle.canonical_responses.specs.Responses.{AnswerTrees, answer_trees}
+use Rattle.evaluation.specs.Context.{NestedGoal, GoalIsHeld, NestedHeld}
+use Rattle.evaluation.specs.Evaluating.{NestedTrees, nested_trees, goals_trees, replies_trees}
+
+node : (l : Label) (c d o p : Trees) → c ≡ d → o ≡ p → tree l c o ≡ tree l d p
+node l c d o p e f = cc
+
+one-more : {A : Type 0} (x y : A) (xs ys : List A) → x ≡ y → xs ≡ ys → ◌≡◌ {A = List A} (x ∷ xs) (y ∷ ys)
+one-more x y xs ys e f = cc
+
+one-goal : (s : GoalSource) (a b p q : Trees) → a ≡ b → p ≡ q
+    → ◌≡◌ {A = NestedTrees} (record { source = s; goal = record { environment = a; predicate = p } }) (record { source = s; goal = record { environment = b; predicate = q } })
+one-goal s a b p q e f = cc
+
+one-answer : (ks : List CanonicalVarKind) (c : Certainty) (vs ws : List Value) (x y : Trees) → vs ≡ ws → x ≡ y
+    → ◌≡◌ {A = AnswerTrees} (record { kinds = ks; certainty = c; values = vs; constraints = x }) (record { kinds = ks; certainty = c; values = ws; constraints = y })
+one-answer ks c vs ws x y e f = cc
+
+module _ (old new : List Entry) (k : Keeps old new) where
+  clause-later : (c : Clause) → ClauseHeld old c → clause_terms new c ≡ clause_terms old c
+  clause-later (Trait p) h = trees-later old new k args_lists p.trait_ref.args.0 h
+  clause-later (ClauseRegion a b) h = refl
+  clause-later (ClauseType t r) h = ap (λ z. z +++ region_trees r) (trees-later old new k types t.0 h.0)
+
+  environment-later : (cs : List Clause) → ClausesHeld old cs → environment_trees new cs ≡ environment_trees old cs
+  environment-later [] h = refl
+  environment-later (c ∷ cs) h = node (clause_label c) _ _ _ _ (clause-later c h.0) (environment-later cs h.1)
+
+  pub goal-trees-later : (n : NestedGoal) → GoalIsHeld old n → nested_trees new n ≡ nested_trees old n
+  goal-trees-later n h =
+      one-goal n.source _ _ _ _ (environment-later n.clauses h.clauses)
+      (ap (λ t. tree (principal 0 n.predicate.trait_ref.def_id.index) t none) (trees-later old new k args_lists n.predicate.trait_ref.args.0 h.predicate))
+
+  pub goals-trees-later : (ns : List NestedGoal) → NestedHeld old ns → goals_trees new ns ≡ goals_trees old ns
+  goals-trees-later [] h = refl
+  goals-trees-later (n ∷ ns) h = one-more _ _ _ _ (goal-trees-later n h.0) (goals-trees-later ns h.1)
+
+  constraint-later : (c : RegionConstraint) → IsHeldConstraint old c → constraint_terms new c ≡ constraint_terms old c
+  constraint-later (Equal a b) h = refl
+  constraint-later (RegionOutlives a b) h = refl
+  constraint-later (TypeOutlives t r) h = ap (λ z. z +++ region_trees r) (trees-later old new k types t.0 h.0)
+
+  constraints-later : (cs : List RegionConstraint) → AllConstraintsHeld old cs → constraints_trees new cs ≡ constraints_trees old cs
+  constraints-later [] h = refl
+  constraints-later (c ∷ cs) h = node (constraint_label c) _ _ _ _ (constraint-later c h.0) (constraints-later cs h.1)
+
+  pub answer-trees-later : (r : CanonicalResponse) → ResponseHeld old r → answer_trees new r ≡ answer_trees old r
+  answer-trees-later r h =
+      one-answer r.variables.items r.certainty _ _ _ _ (values-later old new k r.var_values.items h.values) (constraints-later r.region_constraints.items h.constraints)
+
+  reply-trees-later : (r : Option CanonicalResponse) → ResultHeld old r → option_map (answer_trees new) r ≡ option_map (answer_trees old) r
+  reply-trees-later None h = refl
+  reply-trees-later (Some r) h = ap Some (answer-trees-later r h)
+
+  pub replies-trees-later : (rs : List (Option CanonicalResponse)) → Every (ResultHeld old) rs → replies_trees new rs ≡ replies_trees old rs
+  replies-trees-later [] h = refl
+  replies-trees-later (r ∷ rs) h = one-more _ _ _ _ (reply-trees-later r h.0) (replies-trees-later rs h.1)

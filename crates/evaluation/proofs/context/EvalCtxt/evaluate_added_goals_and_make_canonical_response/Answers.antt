@@ -1,0 +1,48 @@
+use Rattle.std.proofs.Common.{◌≡◌, rules, subst, map, ap, sym, ◌∙◌, Ok}
+use Rattle.infer_table.proofs.PairFacts.{table-kept}
+use Rattle.evaluation.specs.Context.{Context, NestedHeld, IsReady, nested_goal}
+use Rattle.infer_table.specs.Unification.{table_trees}
+use Rattle.goal_evaluator.specs.Replays.{run}
+use Rattle.goal_evaluator.specs.Rounds.{rounds}
+use Rattle.goal_evaluator.specs.declared.TheConstants.{FIXPOINT_STEP_LIMIT}
+use Rattle.evaluation.specs.Evaluating.{evaluation, goals_trees, replies_trees}
+use Rattle.canonical_forms.specs.Values.{values_of, values-later}
+use Rattle.canonical_responses.specs.Responses.{answer_trees}
+use Rattle.evaluation.specs.OwnAnswers.{Says, answer_of}
+use Rattle.evaluation.specs.Steps.{RoundsEnd, RoundsHeld}
+use Rattle.evaluation.proofs.Contexts.{context-later, nested-later, ready-same}
+use Rattle.evaluation.proofs.CallEnds.{ready-settled, call-answered}
+use Rattle.evaluation.proofs.LaterTrees.{goals-trees-later}
+use Rattle.evaluation.proofs.context.EvalCtxt.evaluate_added_goals_and_make_canonical_response.Goals as goal
+
+pub returns-in-Ok-clause-ready : goal.returns-in-Ok-clause-ready
+returns-in-Ok-clause-ready c =
+    let es1 = c.evaluate_nested_goals.new.cx.entries in
+    let es2 = c.answer.new.cx.entries in
+    let mid = c.evaluate_nested_goals.new.self in
+    let left = map nested_goal c.in-Ended.left.items in
+    let held : NestedHeld es1 left = subst (RoundsHeld es1) c.in-Ended.is c.in_ok-evaluated.ensures.held in
+    ready-settled es2 mid c.settle.new.self left c.settle.ensures (context-later es1 es2 c.answer.ensures.keeps mid c.evaluate_nested_goals.ensures.ready) (nested-later es1 es2 c.answer.ensures.keeps left held)
+
+pub returns-in-Ok-clause-runs : goal.returns-in-Ok-clause-runs
+returns-in-Ok-clause-runs c =
+    let es = c.args.cx.now.entries in
+    let es1 = c.evaluate_nested_goals.new.cx.entries in
+    let es2 = c.answer.new.cx.entries in
+    let old = c.args.self.now in
+    let mid = c.evaluate_nested_goals.new.self in
+    let left = map nested_goal c.in-Ended.left.items in
+    let held : NestedHeld es1 left = subst (RoundsHeld es1) c.in-Ended.is c.in_ok-evaluated.ensures.held in
+    let keeps = c.answer.ensures.keeps in
+    let r = run (rounds (evaluation old.mode) FIXPOINT_STEP_LIMIT (goals_trees es old.nested) (table_trees es old.table)) (replies_trees es old.replies) in
+    call-answered old.mode es2 old mid c.settle.new.self left c.evaluate_nested_goals.ensures.rest c.settle.ensures es1 keeps
+    (table-kept es1 es2 keeps mid.table c.evaluate_nested_goals.ensures.ready.table) (goals-trees-later es1 es2 keeps left held)
+    (values-later es1 es2 keeps mid.values c.evaluate_nested_goals.ensures.ready.values)
+    c.args.certainty c.in-Ended.of_goals c.in-Ok.response r (c.in-Ok.ensures.certainty ∙ c.and.ensures)
+    (subst (λ k. Says es1 es2 mid c.in-Ok.response k) c.and.ensures c.in-Ok.ensures.says)
+    (subst (λ k. answer_trees es2 c.in-Ok.response ≡ answer_of mid.variables (values_of es1 mid.values) (table_trees es1 mid.table) k) c.and.ensures c.in-Ok.ensures.is)
+    (subst (λ v. RoundsEnd old.mode es1 mid.table r (Ok v)) c.in-Ended.is c.in_ok-evaluated.ensures.runs)
+
+pub returns-in-Err-clause-ready : goal.returns-in-Err-clause-ready
+returns-in-Err-clause-ready c =
+    ready-same c.args.cx.now.entries c.answer.new.cx.entries c.args.self.now _ (λ i x h. c.answer.ensures.keeps i x (c.evaluate_nested_goals.ensures.keeps i x h)) (search rules) c.requires.ready

@@ -1,0 +1,212 @@
+//! The rounds in which the nested goals of a context are asked, over the replies that are there.
+ghost use Rattle.std.specs.Prelude.{◌≡◌, not, map, OnOk, IfOk, Ok, Err, Some, None};
+ghost use Rattle.type_terms.specs.Terms.{Keeps};
+ghost use Rattle.type_terms.specs.Kinds.{ArgsHeld};
+ghost use Rattle.infer_table.specs.Content.{Ready, Grows};
+ghost use Rattle.goal_evaluator.specs.Lists.{Every};
+ghost use Rattle.goal_evaluator.specs.Readings.{ResultHeld};
+ghost use Rattle.goal_evaluator.specs.Replays.{run};
+ghost use Rattle.goal_evaluator.specs.Responses.{is_identity_modulo_regions};
+ghost use Rattle.infer_table.specs.Certainties.{is_certain};
+ghost use Rattle.goal_evaluator.specs.Rounds.{round, rounds};
+ghost use Rattle.infer_table.specs.Unification.{table_trees};
+ghost use Rattle.canonical_responses.specs.Responses.{ResponseHeld, answer_trees};
+ghost use Rattle.canonical_responses.specs.Applied.{applied};
+ghost use Rattle.evaluation.specs.Context.{GoalIsHeld, NestedHeld, nested_goal};
+ghost use Rattle.evaluation.specs.Evaluating.{evaluation, goals_trees, replies_trees, IsAskedBy, values_asked, certainty_with};
+ghost use Rattle.evaluation.specs.Steps.{RoundEnds, RoundsEnd, RoundHeld, RoundsHeld};
+ghost use Rattle.canonical_forms.specs.Values.{values_of};
+
+use crate::error::EvalError;
+use canonical_forms::goal::Goal;
+use canonical_forms::input::{CanonicalInput, Canonicalized, canonicalize_goal};
+use canonical_forms::response::CanonicalResponse;
+use canonical_responses::apply::instantiate_and_apply_query_response;
+use goal_evaluator::{GoalSource, is_identity_modulo_regions};
+use infer_table::goal::{Certainty, MaybeCause, TypingMode};
+use infer_table::infer_ctxt::InferCtxt;
+use std::alloc::Global;
+use type_terms::Fault;
+use type_terms::interner::Interner;
+use type_terms::kinds::GenericArgKind;
+
+/// How a round ends.
+#[derive(Drop)]
+pub(crate) enum RoundStep<'a> {
+    /// Each goal was asked: whether type or const values came, how sure the answers of the goals that stay are, and the replies
+    /// that are left.
+    Ended(bool, Certainty, &'a [Option<CanonicalResponse>]),
+    /// No reply to this question is there.
+    Waits(CanonicalInput, GoalSource),
+}
+
+/// How the rounds end.
+#[derive(Drop)]
+pub(crate) enum RoundsStep {
+    /// The goals that are left, and how sure it is that all goals hold.
+    Ended(Vec<(GoalSource, Goal)>, Certainty),
+    /// No reply to this question is there.
+    Waits(CanonicalInput, GoalSource),
+}
+
+/// The question that asks a goal, and the values of its variables.
+fn question_for(
+    alloc: Global,
+    cx: &mut Interner,
+    mode: TypingMode,
+    table: &InferCtxt,
+    nested: &(GoalSource, Goal),
+) -> Result<Canonicalized, Fault>
+    requires held { GoalIsHeld cx.old.entries (nested_goal nested.now) }
+    requires ready { Ready cx.old.entries table.now }
+    ensures ready { Ready cx.new.entries table.now }
+    ensures keeps { Keeps cx.old.entries cx.new.entries }
+    ensures limit { cx.new.limit ≡ cx.old.limit }
+    ensures held { IfOk result (λ r. ArgsHeld cx.new.entries r.values.items) }
+    ensures question { IfOk result (λ r. IsAskedBy mode cx.old.entries table.now (nested_goal nested.now) cx.new.entries r.input) }
+    ensures values { IfOk result (λ r. values_of cx.new.entries r.values.items ≡ values_asked cx.old.entries table.now (nested_goal nested.now)) }
+{
+    let asked = canonicalize_goal(alloc, cx, table, mode, &nested.1)?;
+    cx.lawful();
+    Ok(asked)
+}
+
+/// Puts a response to a goal, whose values these are, into the table.
+fn apply_response(
+    alloc: Global,
+    cx: &mut Interner,
+    table: &mut InferCtxt,
+    values: &[GenericArgKind],
+    response: &CanonicalResponse,
+) -> Result<(), EvalError>
+    requires values { ArgsHeld cx.old.entries values.now }
+    requires response { ResponseHeld cx.old.entries response.now }
+    requires ready { Ready cx.old.entries table.old }
+    ensures ready { Ready cx.new.entries table.new }
+    ensures grows { Grows table.old table.new }
+    ensures keeps { Keeps cx.old.entries cx.new.entries }
+    ensures limit { cx.new.limit ≡ cx.old.limit }
+    ensures applied { OnOk result (applied (table_trees cx.old.entries table.old) (values_of cx.old.entries values.now) (answer_trees cx.old.entries response.now) ≡ Some (table_trees cx.new.entries table.new)) }
+    ensures refused { result ≡ Err EvalError.NoSolution → applied (table_trees cx.old.entries table.old) (values_of cx.old.entries values.now) (answer_trees cx.old.entries response.now) ≡ None }
+{
+    match instantiate_and_apply_query_response(alloc, cx, table, values, response) {
+        Ok(()) => Ok(()),
+        Err(error) => Err(EvalError::from(error)),
+    }
+}
+
+/// Whether the response holds type or const values.
+fn has_values(cx: &Interner, response: &CanonicalResponse) -> bool
+    requires { ArgsHeld cx.now.entries response.now.var_values.items }
+    ensures { result ≡ not (is_identity_modulo_regions 0 (values_of cx.now.entries response.now.var_values.items)) }
+{
+    !is_identity_modulo_regions(cx, &response.var_values)
+}
+
+/// Whether it is a yes.
+fn is_certain(certainty: Certainty) -> bool
+    ensures { result ≡ is_certain certainty }
+{
+    match certainty {
+        Certainty::Yes => true,
+        Certainty::Maybe(_) => false,
+    }
+}
+
+/// One round: asks each goal in order, over the replies that are there. A definite yes drops its goal; the goals that stay are put
+/// behind those that are left already.
+pub(crate) fn round<'a>(
+    alloc: Global,
+    cx: &mut Interner,
+    mode: TypingMode,
+    table: &mut InferCtxt,
+    goals: &[(GoalSource, Goal)],
+    replies: &'a [Option<CanonicalResponse>],
+    left: &mut Vec<(GoalSource, Goal)>,
+) -> Result<RoundStep<'a>, EvalError>
+    requires ready { Ready cx.old.entries table.old }
+    requires goals { NestedHeld cx.old.entries (map nested_goal goals.now) }
+    requires replies { Every (ResultHeld cx.old.entries) replies.now }
+    requires left { NestedHeld cx.old.entries (map nested_goal left.old.items) }
+    ensures ready { Ready cx.new.entries table.new }
+    ensures grows { Grows table.old table.new }
+    ensures keeps { Keeps cx.old.entries cx.new.entries }
+    ensures limit { cx.new.limit ≡ cx.old.limit }
+    ensures left { OnOk result (NestedHeld cx.new.entries (map nested_goal left.new.items)) }
+    ensures held { IfOk result (λ e. RoundHeld cx.new.entries e) }
+    ensures runs { RoundEnds mode cx.new.entries table.new (map nested_goal left.old.items) (map nested_goal left.new.items) (run (round (evaluation mode) (goals_trees cx.old.entries (map nested_goal goals.now)) (table_trees cx.old.entries table.old)) (replies_trees cx.old.entries replies.now)) result }
+{
+    let [goal, goals @ ..] = goals else {
+        return Ok(RoundStep::Ended(false, Certainty::Yes, replies));
+    };
+    let asked = question_for(alloc, cx, mode, table, goal)?;
+    let Canonicalized { input, values } = asked;
+    let [reply, replies @ ..] = replies else {
+        return Ok(RoundStep::Waits(input, goal.0));
+    };
+    let Some(response) = reply else {
+        return Err(EvalError::NoSolution);
+    };
+    apply_response(alloc, cx, table, &values, response)?;
+    let changed = has_values(cx, response);
+    if is_certain(response.certainty) && !changed {
+        return round(alloc, cx, mode, table, goals, replies, left);
+    }
+    let kept = goal.clone()?;
+    left.push(kept)?;
+    let rest = round(alloc, cx, mode, table, goals, replies, left)?;
+    match rest {
+        RoundStep::Ended(more, certainty, replies) => {
+            let certainty = response.certainty.and(certainty);
+            Ok(RoundStep::Ended(changed || more, certainty, replies))
+        }
+        RoundStep::Waits(input, source) => Ok(RoundStep::Waits(input, source)),
+    }
+}
+
+/// At most so many rounds, over the replies that are there: the last is one without type or const values, and after the
+/// greatest number of rounds the certainty is an overflow.
+pub(crate) fn rounds(
+    alloc: Global,
+    cx: &mut Interner,
+    mode: TypingMode,
+    table: &mut InferCtxt,
+    limit: usize,
+    goals: Vec<(GoalSource, Goal)>,
+    replies: &[Option<CanonicalResponse>],
+) -> Result<RoundsStep, EvalError>
+    requires ready { Ready cx.old.entries table.old }
+    requires goals { NestedHeld cx.old.entries (map nested_goal goals.items) }
+    requires replies { Every (ResultHeld cx.old.entries) replies.now }
+    ensures ready { Ready cx.new.entries table.new }
+    ensures grows { Grows table.old table.new }
+    ensures keeps { Keeps cx.old.entries cx.new.entries }
+    ensures limit { cx.new.limit ≡ cx.old.limit }
+    ensures held { IfOk result (λ e. RoundsHeld cx.new.entries e) }
+    ensures runs { RoundsEnd mode cx.new.entries table.new (run (rounds (evaluation mode) limit (goals_trees cx.old.entries (map nested_goal goals.items)) (table_trees cx.old.entries table.old)) (replies_trees cx.old.entries replies.now)) result }
+{
+    if limit == 0 {
+        return Ok(RoundsStep::Ended(goals, Certainty::Maybe(MaybeCause::Overflow)));
+    }
+    let mut left = Vec::new(alloc);
+    match round(alloc, cx, mode, table, &goals, replies, &mut left)? {
+        RoundStep::Waits(input, source) => Ok(RoundsStep::Waits(input, source)),
+        RoundStep::Ended(changed, certainty, replies) => {
+            if changed {
+                return rounds(alloc, cx, mode, table, limit - 1, left, replies);
+            }
+            let certainty = certainty_with(&left, certainty);
+            Ok(RoundsStep::Ended(left, certainty))
+        }
+    }
+}
+
+/// How sure it is that all goals hold where these are left, and the answers to them are so sure together.
+fn certainty_with(left: &[(GoalSource, Goal)], certainty: Certainty) -> Certainty
+    ensures { result ≡ certainty_with (map nested_goal left.now) certainty }
+{
+    match left {
+        [] => Certainty::Yes,
+        [_, ..] => Certainty::Maybe(MaybeCause::Ambiguity).and(certainty),
+    }
+}
