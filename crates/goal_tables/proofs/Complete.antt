@@ -4,28 +4,56 @@ use Rattle.std.specs.Prelude.{ltb, not}
 use Rattle.model.specs.Label.{Label, Sort, of_type, of_const, of_lifetime, infer, param, placeholder, canonical, bound, static, value, dynamic, principal, auto_trait}
 use Rattle.model.specs.Trees.{Trees, none, tree, leaf, ◌+++◌, erase_label, sort_of, is_sort, is_no_tree, placed}
 use Rattle.model.specs.Codes.{same}
-use Rattle.type_terms.specs.declared.TheConstants.{MAX_INDEX}
-use Rattle.infer_table.specs.Solutions.{Binding, tree_of, replace, is_variable, value_in, resolved, occurs, size, HasValues, Acyclic, is_rigid}
+use Rattle.infer_table.specs.Solutions.{Binding, tree_of, is_variable, value_in, resolved, occurs, size, HasValues, is_rigid}
 use Rattle.infer_table.specs.Resolving.{followed}
-use Rattle.infer_table.specs.Equations.{unbound_in}
+use Rattle.infer_table.specs.Equations.{unbound_in, unbound_below, one_if_none}
 use Rattle.infer_table.specs.Unification.{TableTrees, with_binding, with_regions, term_sort, variable_at, binds, head_of, parts_of, pairs, Worklist, Outcome, refused, onward, bound_to, in_pairs, by_parts, by_variables, by_sort, compared, step, unified, load, Solver, after, steps, rounds}
-use Rattle.infer_table.proofs.EquationFacts.{unbound-less}
+use Rattle.infer_table.proofs.EquationFacts.{unbound-less-below, unbound-le}
 use Rattle.infer_table.proofs.SolutionLaws.{occurs-rigid, resolved-none, is_variable-equal, resolved-unbound, resolved-rigid, size-append}
 use Rattle.infer_table.proofs.ResolveFacts.{resolved-followed}
 use Rattle.infer_table.proofs.UnifyFacts.{same-is}
 use Rattle.goal_evaluator.specs.Lists.{Every}
 use Rattle.goal_tables.specs.Instances.{read_with, as_place, term_at}
-use Rattle.goal_tables.specs.Terms.{Standing, terms, bounds, traits, is_leaf_label, is_made}
+use Rattle.type_terms.specs.Made.{Standing, terms, bounds, traits, is_leaf_label, is_made}
 use Rattle.goal_tables.specs.Content.{Terms, standing, Stands}
-use Rattle.goal_tables.specs.Equations.{AreOne, IsTerm, IsValue, IsPair, IsApart, EquationsNarrow, EquationsKeep, EquationsStayMade}
-use Rattle.goal_tables.proofs.Made.{false-true, left, right, both, no-tree, makes-ordinary, made-rest, made-with, made-append, is_ordinary, made-ordinary, IsLast, last-bound, last-trait, never-dynamic, never-dynamic-bound, never-principal}
+use Rattle.goal_tables.specs.Equations.{AreOne, IsTerm, IsValue, IsPair, IsMade, IsAfter, IsApart, EquationsNarrow, EquationsKeep, EquationsStayMade}
+use Rattle.goal_tables.proofs.Made.{false-true, left, right, no-tree, is_ordinary, made-ordinary, IsLast, last-bound, last-trait, never-dynamic, never-dynamic-bound, never-principal}
 use Rattle.goal_tables.proofs.Reading.{append-none, read-replace}
 use Rattle.goal_tables.proofs.Steps.{followed-term, read-followed}
 use Rattle.goal_tables.proofs.Sound.{every-append, unified-solves, Post, post-step}
 use Rattle.goal_tables.proofs.Whole.{read-one, pairs-whole, is_solid, HaveOneHead, solid-whole, solid-read, place-apart, node-parts}
+use Rattle.goal_tables.proofs.Resolved.{made-resolved}
 use Rattle.goal_tables.proofs.Measures.{IsVariable, leads-unbound, variable-alone, resolved-size, pairs-load, parts-size}
 
--- ---- a variable that stands in a term is smaller
+-- ---- how many unknowns of a table have no value
+abbrev pub without_value : TableTrees → List Binding → ℕ
+without_value t bs = unbound_below t.ty_vars of_type bs + unbound_below t.const_vars of_const bs
+
+type-without : (t : TableTrees) (v : ℕ) (x : Trees) → v < t.ty_vars → value_in t.bindings of_type v ≡ None
+    → without_value t (record { sort = of_type; var = v; value = x } ∷ t.bindings) < without_value t t.bindings
+type-without t v x lt u =
+    let p = unbound-less-below t.ty_vars t.bindings of_type v x lt u in
+    let q = unbound-le t.const_vars of_const t.bindings (record { sort = of_type; var = v; value = x }) in
+    omega (arith, p, q)
+
+const-without : (t : TableTrees) (v : ℕ) (x : Trees) → v < t.const_vars → value_in t.bindings of_const v ≡ None
+    → without_value t (record { sort = of_const; var = v; value = x } ∷ t.bindings) < without_value t t.bindings
+const-without t v x lt u =
+    let p = unbound-less-below t.const_vars t.bindings of_const v x lt u in
+    let q = unbound-le t.ty_vars of_type t.bindings (record { sort = of_const; var = v; value = x }) in
+    omega (arith, p, q)
+
+few-below : (n : ℕ) (k : Sort) (bs : List Binding) → unbound_below n k bs ≤ n
+few-below zero k bs = omega arith
+few-below (suc n) k bs = let p = few-below n k bs in let q = one (value_in bs k n) in omega (arith, p, q)
+  where
+    one : (o : Option Trees) → one_if_none o ≤ 1
+    one None = omega arith
+    one (Some x) = omega arith
+
+few-without : (t : TableTrees) (bs : List Binding) → without_value t bs ≤ t.ty_vars + t.const_vars
+few-without t bs = let p = few-below t.ty_vars of_type bs in let q = few-below t.const_vars of_const bs in omega (arith, p, q)
+
 size-placed : (x y : Trees) → size (x +++ y) ≡ size x + size y
 size-placed x y = size-append x y
 
@@ -125,69 +153,6 @@ module _ (good : Label → Bool) (s : Terms) (h : IsApart good s) where
       rest-below p (inl z) q f = below-none k v p z q
       rest-below p (inr z) q f = f z.0 z.1
 
-  -- ---- resolved terms are terms
-  no-tree-replaced : (k : Sort) (v : ℕ) (r c : Trees) → c ≡ none → replace k v r c ≡ none
-  no-tree-replaced k v r c e = ap (replace k v r) e
-
-  leaf-replaced : (l : Label) (k : Sort) (v : ℕ) (r c : Trees) → (not (is_leaf_label l) || is_no_tree c) ≡ true → (not (is_leaf_label l) || is_no_tree (replace k v r c)) ≡ true
-  leaf-replaced l k v r c e = by (is_leaf_label l) e
-    where
-      by : (b : Bool) → (not b || is_no_tree c) ≡ true → (not b || is_no_tree (replace k v r c)) ≡ true
-      by true e = ap is_no_tree (no-tree-replaced k v r c (no-tree c e))
-      by false e = refl
-
-  lifetime-apart : (j k : Sort) (w v : ℕ) → HasValues k → is_sort j of_lifetime ≡ true → is_variable j w k v ≡ false
-  lifetime-apart of_lifetime of_type w v g e = refl
-  lifetime-apart of_lifetime of_const w v g e = refl
-  lifetime-apart j of_lifetime w v g e = absurd g
-  lifetime-apart j k w v g e = absurd (false-true e)
-
-  -- the lifetime at the end stays
-  last-stays : (k : Sort) (v : ℕ) (r : Trees) → HasValues k → (l : Label) (c o : Trees) → IsLast good l c o → replace k v r (tree l c o) ≡ tree l c o
-  last-stays k v r g l c o x =
-      ap (λ z. replace k v r (tree l z o)) x.children ∙ ap (λ z. replace k v r (tree l none z)) x.rest ∙ by l x.lifetime
-      ∙ ap (λ z. tree l none z) (sym x.rest) ∙ ap (λ z. tree l z o) (sym x.children)
-    where
-      by : (l : Label) → is_sort (sort_of l) of_lifetime ≡ true → replace k v r (leaf l) ≡ leaf l
-      by (infer j w) e = ap (λ (b : Bool). if b then r +++ none else leaf (infer j w)) (lifetime-apart j k w v g e)
-      by l e = refl
-
-  made-replace : (k : Sort) (v : ℕ) (r : Trees) → HasValues k → is_made good terms r ≡ true → (m : Standing) (t : Trees) → is_made good m t ≡ true → is_made good m (replace k v r t) ≡ true
-  made-replace k v r g q terms none e = refl
-  made-replace k v r g q terms (tree dynamic c o) e =
-      both (is_made good bounds (replace k v r c)) (is_made good terms (replace k v r o))
-      (made-replace k v r g q bounds c (left (is_made good bounds c) (is_made good terms o) e)) (made-replace k v r g q terms o (right (is_made good bounds c) (is_made good terms o) e))
-  made-replace k v r g q terms (tree (principal a b) c o) e = absurd (false-true e)
-  made-replace k v r g q terms (tree (auto_trait a) c o) e = absurd (false-true e)
-  made-replace k v r g q terms (tree (infer j w) c o) e = by (is_variable j w k v) (made-replace k v r g q terms o (made-rest good (infer j w) c o e))
-    where
-      by : (b : Bool) → is_made good terms (replace k v r o) ≡ true → is_made good terms (if b then r +++ replace k v r o else tree (infer j w) c (replace k v r o)) ≡ true
-      by true f = made-append good r (replace k v r o) q f
-      by false f = made-with good (infer j w) c o (replace k v r o) e f
-  made-replace k v r g q terms (tree l c o) e =
-      let x = made-ordinary good l c o refl e in
-      makes-ordinary good l (replace k v r c) (replace k v r o) refl x.0 (leaf-replaced l k v r c x.1) (made-replace k v r g q terms c x.2) (made-replace k v r g q terms o x.3)
-  made-replace k v r g q bounds none e = absurd (false-true e)
-  made-replace k v r g q bounds (tree (principal a b) c o) e =
-      both (is_made good terms (replace k v r c)) (is_made good traits (replace k v r o))
-      (made-replace k v r g q terms c (left (is_made good terms c) (is_made good traits o) e)) (made-replace k v r g q traits o (right (is_made good terms c) (is_made good traits o) e))
-  made-replace k v r g q bounds (tree (auto_trait a) c o) e =
-      both (is_no_tree (replace k v r c)) (is_made good traits (replace k v r o))
-      (ap is_no_tree (no-tree-replaced k v r c (no-tree c (left (is_no_tree c) (is_made good traits o) e)))) (made-replace k v r g q traits o (right (is_no_tree c) (is_made good traits o) e))
-  made-replace k v r g q bounds (tree dynamic c o) e = absurd (never-dynamic-bound good c o e)
-  made-replace k v r g q bounds (tree l c o) e = ap (is_made good bounds) (last-stays k v r g l c o (last-bound good l c o refl e)) ∙ e
-  made-replace k v r g q traits none e = absurd (false-true e)
-  made-replace k v r g q traits (tree (auto_trait a) c o) e =
-      both (is_no_tree (replace k v r c)) (is_made good traits (replace k v r o))
-      (ap is_no_tree (no-tree-replaced k v r c (no-tree c (left (is_no_tree c) (is_made good traits o) e)))) (made-replace k v r g q traits o (right (is_no_tree c) (is_made good traits o) e))
-  made-replace k v r g q traits (tree dynamic c o) e = absurd (never-dynamic good c o e)
-  made-replace k v r g q traits (tree (principal a b) c o) e = absurd (never-principal good a b c o e)
-  made-replace k v r g q traits (tree l c o) e = ap (is_made good traits) (last-stays k v r g l c o (last-trait good l c o refl e)) ∙ e
-
-  pub made-resolved : (bs : List Binding) → Every (IsValue good) bs → (m : Standing) (t : Trees) → is_made good m t ≡ true → is_made good m (resolved bs t) ≡ true
-  made-resolved [] i m t e = e
-  made-resolved (b ∷ older) i m t e = made-replace b.sort b.var (resolved older b.value) i.0.sort (made-resolved older i.1 terms b.value i.0.made) m (resolved older t) (made-resolved older i.1 m t e)
-
   -- ---- what is resolved is read as before
   value-reads : (k : Sort) (v : ℕ) → HasValues k → standing s (infer k v) ≡ Some (tree_of (s.unknowns k v))
   value-reads of_type v g = refl
@@ -217,7 +182,7 @@ module _ (good : Label → Bool) (s : Terms) (h : IsApart good s) where
 
       child-below : (x : (c ≡ none) ⊎ ((n : Standing) × (is_made good n c ≡ true))) → IsBelow k v (resolved bs c)
       child-below (inl z) = absurd (false-true (sym (ap (occurs k v) (ap (resolved bs) z ∙ resolved-none bs)) ∙ child-occurs))
-      child-below (inr z) = occurs-below k v g z.0 (resolved bs c) (made-resolved bs i z.0 c z.1) child-occurs
+      child-below (inr z) = occurs-below k v g z.0 (resolved bs c) (made-resolved good bs i z.0 c z.1) child-occurs
 
       by : (standing s l ≡ None) ⊎ (c ≡ none) → ⊥
       by (inr z) = false-true (sym (ap (occurs k v) (ap (resolved bs) z ∙ resolved-none bs)) ∙ child-occurs)
@@ -229,30 +194,29 @@ module _ (good : Label → Bool) (s : Terms) (h : IsApart good s) where
           omega (arith, p, q', r')
 
   -- ---- steps
-  module _ (t : TableTrees) (a b : Trees) (rest : Worklist) (acyclic : Acyclic t.bindings) (values : Every (IsValue good) t.bindings) (hold : Every (Stands s) t.bindings)
+  module _ (t : TableTrees) (a b : Trees) (rest : Worklist) (made : IsMade good t) (hold : Every (Stands s) t.bindings)
       (left_term : IsTerm good a) (right_term : IsTerm good b) (one : reads a ≡ reads b) (others : Every (AreOne s) rest) where
     -- it is not refused, what is left holds, and less is left to do
     abbrev pub Goes : Outcome → Type 0
     Goes refused = ⊥
-    Goes (onward true u left) = Acyclic u.bindings × (unbound_in u.bindings < unbound_in t.bindings) × Every (Stands s) u.bindings × Every (AreOne s) left
+    Goes (onward true u left) = (without_value t u.bindings < without_value t t.bindings) × Every (Stands s) u.bindings × Every (AreOne s) left
     Goes (onward false u left) = (u.bindings ≡ t.bindings) × (load t.bindings left < size (resolved t.bindings a) + load t.bindings rest) × Every (AreOne s) left
 
-    goes-bound : (k : Sort) (v : ℕ) (x : Trees) → HasValues k → v ≤ MAX_INDEX → value_in t.bindings k v ≡ None → (occurs k v (resolved t.bindings x) ≡ true → ⊥) → tree_of (s.unknowns k v) ≡ reads x
+    goes-bound : (k : Sort) (v : ℕ) (x : Trees) → HasValues k → good (infer k v) ≡ true → value_in t.bindings k v ≡ None → (occurs k v (resolved t.bindings x) ≡ true → ⊥) → tree_of (s.unknowns k v) ≡ reads x
         → Goes (bound_to t k v x rest)
     goes-bound k v x g n u o e = by (occurs k v (resolved t.bindings x)) refl o
       where
-        bound : occurs k v (resolved t.bindings x) ≡ false → Goes (onward true (with_binding t k v x) rest)
-        bound p = at k g u p e (unbound-less t.bindings k v x g n u)
+        bound : Goes (onward true (with_binding t k v x) rest)
+        bound = at k g u e n
           where
-            at : (j : Sort) → HasValues j → value_in t.bindings j v ≡ None → occurs j v (resolved t.bindings x) ≡ false → tree_of (s.unknowns j v) ≡ reads x
-                → unbound_in (record { sort = j; var = v; value = x } ∷ t.bindings) < unbound_in t.bindings → Goes (onward true (with_binding t j v x) rest)
-            at of_type g u p e less = ((u, p, acyclic), less, (e, hold), others)
-            at of_const g u p e less = ((u, p, acyclic), less, (e, hold), others)
-            at of_lifetime g u p e less = absurd g
+            at : (j : Sort) → HasValues j → value_in t.bindings j v ≡ None → tree_of (s.unknowns j v) ≡ reads x → good (infer j v) ≡ true → Goes (onward true (with_binding t j v x) rest)
+            at of_type g u e n = (type-without t v x (made.counted.types v n) u, (e, hold), others)
+            at of_const g u e n = (const-without t v x (made.counted.consts v n) u, (e, hold), others)
+            at of_lifetime g u e n = absurd g
 
         by : (c : Bool) → occurs k v (resolved t.bindings x) ≡ c → (c ≡ true → ⊥) → Goes (if c then refused else onward true (with_binding t k v x) rest)
         by true p f = absurd (f refl)
-        by false p f = bound p
+        by false p f = bound
 
     -- the term is this node
     node-is : (x : Trees) → IsTerm good x → (l : Label) × (c : Trees) × (x ≡ tree l c none)
@@ -288,8 +252,8 @@ module _ (good : Label → Bool) (s : Terms) (h : IsApart good s) where
         let vb = variable-alone good b k w right_term q f in
         let apart : v ≡ w → ⊥ = λ z. n (va ∙ ap (λ y. leaf (infer k y)) z ∙ sym vb) in
         by (ltb v w)
-        (goes-bound k w a g (h.numbered k w g (variable-good k w b right_term vb)) (ub w vb) (occurs-other k v w a (ua v va) va apart) (sym (variable-reads k w b g vb) ∙ sym one))
-        (goes-bound k v b g (h.numbered k v g (variable-good k v a left_term va)) (ua v va) (occurs-other k w v b (ub w vb) vb (λ z. apart (sym z))) (sym (variable-reads k v a g va) ∙ one))
+        (goes-bound k w a g (variable-good k w b right_term vb) (ub w vb) (occurs-other k v w a (ua v va) va apart) (sym (variable-reads k w b g vb) ∙ sym one))
+        (goes-bound k v b g (variable-good k v a left_term va) (ua v va) (occurs-other k w v b (ub w vb) vb (λ z. apart (sym z))) (sym (variable-reads k v a g va) ∙ one))
       where
         by : (c : Bool) → Goes (bound_to t k w a rest) → Goes (bound_to t k v b rest) → Goes (if c then bound_to t k w a rest else bound_to t k v b rest)
         by true x y = x
@@ -298,15 +262,15 @@ module _ (good : Label → Bool) (s : Terms) (h : IsApart good s) where
         let va = variable-alone good a k v left_term p e in
         let y = node-is b right_term in
         let stands = sym (variable-reads k v a g va) ∙ one in
-        goes-bound k v b g (h.numbered k v g (variable-good k v a left_term va)) (ua v va)
-        (λ o. occurs-not t.bindings values hold k v g y.0 y.1 (rigid-is y.0 y.1 (sym (ap variable_at y.2) ∙ q)) (sym (ap (is_made good terms) y.2) ∙ right_term.made) (stands ∙ ap reads y.2) (sym (ap (λ z. occurs k v (resolved t.bindings z)) y.2) ∙ o))
+        goes-bound k v b g (variable-good k v a left_term va) (ua v va)
+        (λ o. occurs-not t.bindings made.values hold k v g y.0 y.1 (rigid-is y.0 y.1 (sym (ap variable_at y.2) ∙ q)) (sym (ap (is_made good terms) y.2) ∙ right_term.made) (stands ∙ ap reads y.2) (sym (ap (λ z. occurs k v (resolved t.bindings z)) y.2) ∙ o))
         stands
     goes-variables k g e f n ua ub parts None (Some w) p q =
         let vb = variable-alone good b k w right_term q f in
         let y = node-is a left_term in
         let stands = sym (variable-reads k w b g vb) ∙ sym one in
-        goes-bound k w a g (h.numbered k w g (variable-good k w b right_term vb)) (ub w vb)
-        (λ o. occurs-not t.bindings values hold k w g y.0 y.1 (rigid-is y.0 y.1 (sym (ap variable_at y.2) ∙ p)) (sym (ap (is_made good terms) y.2) ∙ left_term.made) (stands ∙ ap reads y.2) (sym (ap (λ z. occurs k w (resolved t.bindings z)) y.2) ∙ o))
+        goes-bound k w a g (variable-good k w b right_term vb) (ub w vb)
+        (λ o. occurs-not t.bindings made.values hold k w g y.0 y.1 (rigid-is y.0 y.1 (sym (ap variable_at y.2) ∙ p)) (sym (ap (is_made good terms) y.2) ∙ left_term.made) (stands ∙ ap reads y.2) (sym (ap (λ z. occurs k w (resolved t.bindings z)) y.2) ∙ o))
         stands
     goes-variables k g e f n ua ub parts None None p q = parts p q
 
@@ -353,12 +317,12 @@ module _ (good : Label → Bool) (s : Terms) (h : IsApart good s) where
 
     goes-heads : (l m : Label) (c d : Trees) → a ≡ tree l c none → b ≡ tree m d none → is_rigid l ≡ true → HaveOneHead s l c m d → Goes (by_parts t a b rest)
     goes-heads l m c d p q r w =
-        let made : is_made good terms (tree l c none) ≡ true = sym (ap (is_made good terms) p) ∙ left_term.made in
+        let is-made : is_made good terms (tree l c none) ≡ true = sym (ap (is_made good terms) p) ∙ left_term.made in
         let heads : head_of a ≡ head_of b = ap head_of p ∙ w.heads ∙ sym (ap head_of q) in
         let f = t.region_vars in
         let g = t.region_vars + binds a in
         let less : size (resolved t.bindings (parts_of f a)) < size (resolved t.bindings a) =
-        subst (λ z. size (resolved t.bindings (parts_of f z)) < size (resolved t.bindings z)) (sym p) (parts-size good t.bindings values f l c r made) in
+        subst (λ z. size (resolved t.bindings (parts_of f z)) < size (resolved t.bindings z)) (sym p) (parts-size good t.bindings made.values f l c r is-made) in
         let parts : reads (parts_of f a) ≡ reads (parts_of g b) = ap (λ z. reads (parts_of f z)) p ∙ w.parts f g ∙ sym (ap (λ z. reads (parts_of g z)) q) in
         by (same (head_of a) (head_of b)) (same-is (head_of a) (head_of b) heads) (goes-pairs (with_regions t (binds a + binds b)) (parts_of f a) (parts_of g b) refl less parts)
       where
@@ -404,7 +368,7 @@ module _ (good : Label → Bool) (s : Terms) (h : IsApart good s) where
     goes-compared k e f ua ub = by (same a b) refl
       where
         full : load t.bindings rest < size (resolved t.bindings a) + load t.bindings rest
-        full = let z = resolved-size good t.bindings values a (one-size a left_term) in omega (arith, z)
+        full = let z = resolved-size good t.bindings made.values a (one-size a left_term) in omega (arith, z)
           where
             one-size : (x : Trees) → IsTerm good x → 1 ≤ size x
             one-size none i = absurd i.single
@@ -423,8 +387,7 @@ module _ (good : Label → Bool) (s : Terms) (h : IsApart good s) where
   -- ---- all of them
   -- a table and equations that hold
   pub record IsOpen (t : TableTrees) (todo : Worklist) : Type 0 where
-    pub acyclic : Acyclic t.bindings
-    pub values : Every (IsValue good) t.bindings
+    pub made : IsMade good t
     pub pairs : Every (IsPair good) todo
     pub hold : Every (Stands s) t.bindings
     pub ones : Every (AreOne s) todo
@@ -450,34 +413,42 @@ module _ (good : Label → Bool) (s : Terms) (h : IsApart good s) where
   module _ (opens : (v : ℕ) → good (infer of_lifetime v) ≡ true) where
     abbrev IsStep : TableTrees → Trees × Trees → Worklist → Outcome → Type 0
     IsStep t e rest refused = ⊥
-    IsStep t e rest (onward true u left) = IsOpen u left × (unbound_in u.bindings < unbound_in t.bindings)
-    IsStep t e rest (onward false u left) = IsOpen u left × (u.bindings ≡ t.bindings) × (load u.bindings left < load t.bindings (e ∷ rest))
+    IsStep t e rest (onward true u left) = IsOpen u left × (without_value u u.bindings < without_value t t.bindings)
+    IsStep t e rest (onward false u left) = IsOpen u left × (without_value u u.bindings ≡ without_value t t.bindings) × (load u.bindings left < load t.bindings (e ∷ rest))
 
-    step-is : (t : TableTrees) (e : Trees × Trees) (rest : Worklist) (a b : Trees) (acyclic : Acyclic t.bindings) (values : Every (IsValue good) t.bindings) (hold : Every (Stands s) t.bindings)
+    same-counts : (t u : TableTrees) → IsAfter good t u → (bs : List Binding) → without_value u bs ≡ without_value t bs
+    same-counts t u a bs = ap (λ n. unbound_below n of_type bs + unbound_below u.const_vars of_const bs) a.ty_vars ∙ ap (λ n. unbound_below t.ty_vars of_type bs + unbound_below n of_const bs) a.const_vars
+
+    step-is : (t : TableTrees) (e : Trees × Trees) (rest : Worklist) (a b : Trees) (made : IsMade good t) (hold : Every (Stands s) t.bindings)
         (left_term : IsTerm good a) (right_term : IsTerm good b) (one : reads a ≡ reads b) (others : Every (AreOne s) rest)
-        → size (resolved t.bindings a) ≡ size (resolved t.bindings e.0) → (o : Outcome) → Post good opens t e.0 e.1 rest o → Goes t a b rest acyclic values hold left_term right_term one others o → IsStep t e rest o
-    step-is t e rest a b acyclic values hold i j one others z refused p g = absurd g
-    step-is t e rest a b acyclic values hold i j one others z (onward true u left) p g =
-        (record { acyclic = g.0; values = p.values; pairs = p.pairs; hold = g.2; ones = g.3 }, g.1)
-    step-is t e rest a b acyclic values hold i j one others z (onward false u left) p g =
+        → size (resolved t.bindings a) ≡ size (resolved t.bindings e.0) → (o : Outcome) → Post good opens t e.0 e.1 rest o → Goes t a b rest made hold left_term right_term one others o → IsStep t e rest o
+    step-is t e rest a b made hold i j one others z refused p g = absurd g
+    step-is t e rest a b made hold i j one others z (onward true u left) p g =
+        let less = g.0 in
+        let q = same-counts t u p.after u.bindings in
+        (record { made = p.after.made; pairs = p.pairs; hold = g.1; ones = g.2 }, omega (arith, less, q))
+    step-is t e rest a b made hold i j one others z (onward false u left) p g =
         let less = g.1 in
-        let at : load u.bindings left ≡ load t.bindings left = ap (λ bs. load bs left) g.0 in
-        (record { acyclic = subst Acyclic (sym g.0) acyclic; values = p.values; pairs = p.pairs; hold = subst (Every (Stands s)) (sym g.0) hold; ones = g.2 }, g.0, omega (arith, at, less, z))
+        let at : load u.bindings left ≡ load t.bindings left = ap (λ bs. load bs left) g.0 in (
+          record { made = p.after.made; pairs = p.pairs; hold = subst (Every (Stands s)) (sym g.0) hold; ones = g.2 },
+          same-counts t u p.after u.bindings ∙ ap (without_value t) g.0,
+          omega (arith, at, less, z),
+        )
 
     step-goes : (t : TableTrees) (e : Trees × Trees) (rest : Worklist) → IsOpen t (e ∷ rest) → IsStep t e rest (step t e rest)
     unfolding step
     step-goes t e rest o =
         let pair = o.pairs in
-        let x = followed-term good t.bindings o.values e.0 pair.0.0 in
-        let y = followed-term good t.bindings o.values e.1 pair.0.1 in
-        let one = read-followed good s t.bindings o.values o.hold e.0 ∙ o.ones.0 ∙ sym (read-followed good s t.bindings o.values o.hold e.1) in
+        let x = followed-term good t.bindings o.made.values e.0 pair.0.0 in
+        let y = followed-term good t.bindings o.made.values e.1 pair.0.1 in
+        let one = read-followed good s t.bindings o.made.values o.hold e.0 ∙ o.ones.0 ∙ sym (read-followed good s t.bindings o.made.values o.hold e.1) in
         let sorts = same-sorts e.0 e.1 pair.0.0 pair.0.1 o.ones.0 in
         by (is_sort (term_sort e.0) (term_sort e.1)) (ap (is_sort (term_sort e.0)) (sym sorts) ∙ sort-self (term_sort e.0))
-        (post-step good opens t e rest o.values pair.0 pair.1)
-        (step-is t e rest (followed t.bindings e.0) (followed t.bindings e.1) o.acyclic o.values o.hold x.0 y.0 one o.ones.1
-        (ap size (resolved-followed t.bindings e.0 o.acyclic)) (compared t (term_sort e.0) (followed t.bindings e.0) (followed t.bindings e.1) rest))
-        (goes-compared t (followed t.bindings e.0) (followed t.bindings e.1) rest o.acyclic o.values o.hold x.0 y.0 one o.ones.1 (term_sort e.0) x.1 (y.1 ∙ sym sorts)
-        (λ v. leads-unbound good t.bindings o.acyclic o.values e.0 (term_sort e.0) v) (λ v. leads-unbound good t.bindings o.acyclic o.values e.1 (term_sort e.0) v))
+        (post-step good opens t e rest o.made pair.0 pair.1)
+        (step-is t e rest (followed t.bindings e.0) (followed t.bindings e.1) o.made o.hold x.0 y.0 one o.ones.1
+        (ap size (resolved-followed t.bindings e.0 o.made.acyclic)) (compared t (term_sort e.0) (followed t.bindings e.0) (followed t.bindings e.1) rest))
+        (goes-compared t (followed t.bindings e.0) (followed t.bindings e.1) rest o.made o.hold x.0 y.0 one o.ones.1 (term_sort e.0) x.1 (y.1 ∙ sym sorts)
+        (λ v. leads-unbound good t.bindings o.made.acyclic o.made.values e.0 (term_sort e.0) v) (λ v. leads-unbound good t.bindings o.made.acyclic o.made.values e.1 (term_sort e.0) v))
       where
         sort-self : (k : Sort) → is_sort k k ≡ true
         sort-self of_type = refl
@@ -497,23 +468,23 @@ module _ (good : Label → Bool) (s : Terms) (h : IsApart good s) where
       pub stays : IsOpen table []
 
     ends-after : (anew next : Solver) (t : TableTrees) (e : Trees × Trees) (rest : Worklist) (o : Outcome) → IsStep t e rest o
-        → ((w : TableTrees) (left : Worklist) → IsOpen w left → unbound_in w.bindings < unbound_in t.bindings → Ends (anew w left))
-        → ((w : TableTrees) (left : Worklist) → IsOpen w left → w.bindings ≡ t.bindings → load w.bindings left < load t.bindings (e ∷ rest) → Ends (next w left))
+        → ((w : TableTrees) (left : Worklist) → IsOpen w left → without_value w w.bindings < without_value t t.bindings → Ends (anew w left))
+        → ((w : TableTrees) (left : Worklist) → IsOpen w left → without_value w w.bindings ≡ without_value t t.bindings → load w.bindings left < load t.bindings (e ∷ rest) → Ends (next w left))
         → Ends (after anew next o)
     ends-after anew next t e rest refused i f g = absurd i
     ends-after anew next t e rest (onward true w left) i f g = f w left i.0 i.1
     ends-after anew next t e rest (onward false w left) i f g = g w left i.0 i.1 i.2
 
     abbrev EndsWithin : ℕ → Type 0
-    EndsWithin n = (t : TableTrees) (todo : Worklist) → IsOpen t todo → unbound_in t.bindings < n → Ends (rounds n t todo)
+    EndsWithin n = (t : TableTrees) (todo : Worklist) → IsOpen t todo → without_value t t.bindings < n → Ends (rounds n t todo)
 
-    steps-end : (n : ℕ) → EndsWithin n → (m : ℕ) (t : TableTrees) (todo : Worklist) → IsOpen t todo → unbound_in t.bindings ≤ n → load t.bindings todo < m → Ends (steps (rounds n) m t todo)
+    steps-end : (n : ℕ) → EndsWithin n → (m : ℕ) (t : TableTrees) (todo : Worklist) → IsOpen t todo → without_value t t.bindings ≤ n → load t.bindings todo < m → Ends (steps (rounds n) m t todo)
     steps-end n f zero t todo o le less = absurd (omega (arith, less))
     steps-end n f (suc m) t [] o le less = record { table = t; is = refl; stays = o }
     steps-end n f (suc m) t (e ∷ rest) o le less =
         ends-after (rounds n) (steps (rounds n) m) t e rest (step t e rest) (step-goes t e rest o)
         (λ w left i fewer. f w left i (omega (arith, fewer, le)))
-        (λ w left i same falls. let q = ap unbound_in same in steps-end n f m w left i (omega (arith, q, le)) (omega (arith, falls, less)))
+        (λ w left i same falls. steps-end n f m w left i (omega (arith, same, le)) (omega (arith, falls, less)))
 
     rounds-end : (n : ℕ) → EndsWithin n
     rounds-end zero t todo o less = absurd (omega (arith, less))
@@ -521,16 +492,16 @@ module _ (good : Label → Bool) (s : Terms) (h : IsApart good s) where
 
     pub unified-ends : (t : TableTrees) (todo : Worklist) → IsOpen t todo → Ends (unified t todo)
     unfolding unified
-    unified-ends t todo o = rounds-end (suc (unbound_in t.bindings)) t todo o (omega arith)
+    unified-ends t todo o = let e = few-without t t.bindings in rounds-end (suc (unbound_in t.bindings + t.ty_vars + t.const_vars)) t todo o (omega (arith, e))
 
 -- ---- the laws of equations
 pub equations_narrow : EquationsNarrow
 equations_narrow good t todo u opens v p e s h = (unified-solves good opens t todo u v p e).only s h
 
 pub equations_stay_made : EquationsStayMade
-equations_stay_made good t todo u opens v p e = (unified-solves good opens t todo u v p e).values
+equations_stay_made good t todo u opens v p e = (unified-solves good opens t todo u v p e).after
 
 pub equations_keep : EquationsKeep
-equations_keep good t todo s opens acyclic v p apart h o =
-    let x = unified-ends good s apart opens t todo (record { acyclic = acyclic; values = v; pairs = p; hold = h; ones = o }) in
+equations_keep good t todo s opens v p apart h o =
+    let x = unified-ends good s apart opens t todo (record { made = v; pairs = p; hold = h; ones = o }) in
     (x.table, x.is, x.stays.hold)

@@ -7,7 +7,7 @@ use Rattle.infer_table.specs.Opened.{is_opened, opened_label, opened}
 use Rattle.infer_table.specs.Unification.{object_head, head_of, object_parts, parts_of, pairs, Worklist}
 use Rattle.goal_evaluator.specs.Lists.{Every}
 use Rattle.goal_tables.specs.Instances.{read_with}
-use Rattle.goal_tables.specs.Terms.{terms, bounds, traits, is_made}
+use Rattle.type_terms.specs.Made.{terms, bounds, traits, is_made}
 use Rattle.goal_tables.specs.Content.{Terms, standing}
 use Rattle.goal_tables.specs.Equations.{AreOne}
 use Rattle.goal_tables.proofs.Reading.{read-append}

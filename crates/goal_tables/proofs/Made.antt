@@ -2,7 +2,7 @@
 use Rattle.std.proofs.Common.{◌≡◌, ℕ, Bool, true, false, not, ◌&&◌, ◌||◌, refl}
 use Rattle.model.specs.Label.{Label, of_lifetime, dynamic, principal, auto_trait}
 use Rattle.model.specs.Trees.{Trees, none, tree, ◌+++◌, sort_of, is_sort, is_no_tree}
-use Rattle.goal_tables.specs.Terms.{terms, bounds, traits, is_leaf_label, is_made}
+use Rattle.type_terms.specs.Made.{terms, bounds, traits, is_leaf_label, is_made}
 
 pub false-true : false ≡ true → ⊥
 false-true e = cc

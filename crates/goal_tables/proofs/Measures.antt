@@ -12,7 +12,7 @@ use Rattle.infer_table.specs.Solutions.{AllValued}
 use Rattle.infer_table.proofs.OpenFacts.{opened-alike, alike-size, resolved-alike}
 use Rattle.infer_table.proofs.ResolveFacts.{resolved-followed}
 use Rattle.goal_evaluator.specs.Lists.{Every}
-use Rattle.goal_tables.specs.Terms.{terms, bounds, is_made}
+use Rattle.type_terms.specs.Made.{terms, bounds, is_made}
 use Rattle.goal_tables.proofs.Made.{false-true, left, no-tree, made-ordinary}
 use Rattle.goal_tables.specs.Equations.{IsTerm, IsValue}
 use Rattle.goal_tables.proofs.Heads.{Traits, auto, last, Bounds, with_principal, without, bounds-of}

@@ -1,8 +1,8 @@
 -- An instance of a canonical question is an instance of the goal that was asked.
-use Rattle.std.proofs.Common.{◌≡◌, ℕ, zero, suc, Bool, true, false, ◌&&◌, ◌||◌, List, [], ◌∷◌, map, refl, sym, ◌∙◌, ap, Some, None, if◌then◌else◌, is_some, inl, inr}
+use Rattle.std.proofs.Common.{◌≡◌, ℕ, zero, suc, Bool, true, false, ◌&&◌, ◌||◌, List, [], ◌∷◌, map, refl, sym, ◌∙◌, ap, subst, Some, None, if◌then◌else◌, is_some, inl, inr}
 use Rattle.std.specs.Prelude.{IsSome}
-use Rattle.model.specs.Label.{Label, Sort, of_type, of_const, of_lifetime, infer, param, placeholder, canonical, bound, static}
-use Rattle.model.specs.Trees.{Trees, none, tree, leaf, ◌+++◌, erase_label, sort_of, is_sort, is_a, placed}
+use Rattle.model.specs.Label.{Label, Sort, of_type, of_const, of_lifetime, infer, param, placeholder, canonical, bound, static, dynamic, principal, auto_trait}
+use Rattle.model.specs.Trees.{Trees, none, tree, leaf, ◌+++◌, erase_label, sort_of, is_sort, is_a, placed, is_no_tree}
 use Rattle.model.specs.Codes.{same_label}
 use Rattle.model.proofs.Matching.{same-label-sound}
 use Rattle.infer_table.specs.Canonical.{OpenKinds, GoalTrees, kind_of_leaf, kind_in_clause, StandsIn, HasNoCanonical, is_among, place_of, canonical_label, goal_leaves, leaves, renamed}
@@ -10,7 +10,11 @@ use Rattle.infer_table.specs.Solutions.{Binding, tree_of, replace, resolved, Has
 use Rattle.infer_table.proofs.CanonicalLaws.{leaves-keep, leaves-hold}
 use Rattle.goal_evaluator.specs.Lists.{Every}
 use Rattle.goal_tables.specs.Instances.{read_with, goal_read, put_in, default_label, of_sort, is_place, as_place, term_at}
-use Rattle.goal_tables.specs.Content.{FrameTable, Terms, Allows, Nested, Fact, given, fits, fits_kind, standing, reading_of, MeetsBinding, IsNoCanonical, label_at, label_of_sort, slot_at, goal_in, InstanceOfQuestion}
+use Rattle.type_terms.specs.Made.{Standing, terms, bounds, traits, is_made}
+use Rattle.goal_tables.specs.Content.{Terms, Fact, given, fits, fits_kind, standing, reading_of, Stands}
+use Rattle.goal_tables.specs.Equations.{IsValue}
+use Rattle.goal_tables.specs.Frames.{is_good, FrameTable, Allows, Nested, label_at, label_of_sort, slot_at, goal_in, InstanceOfQuestion}
+use Rattle.goal_tables.proofs.Made.{left, right, made-ordinary, no-tree, IsLast, last-bound, last-trait, never-dynamic, never-dynamic-bound, never-principal}
 use Rattle.goal_tables.proofs.Reading.{append-none, read-leaf, read-replace, EachLabel, Carries, read-relabeled, IsPutIn, read-put}
 
 false-true : false ≡ true → ⊥
@@ -25,13 +29,13 @@ standing-value s b h = by b.sort b.var h
     by of_const v h = refl
     by of_lifetime v h = absurd h
 
-pub read-resolved : (s : Terms) (bs : List Binding) → Every (MeetsBinding s) bs → (t : Trees) → read_with (standing s) (resolved bs t) ≡ read_with (standing s) t
-read-resolved s [] h t = refl
-read-resolved s (b ∷ older) h t =
+pub read-resolved : (good : Label → Bool) (s : Terms) (bs : List Binding) → Every (IsValue good) bs → Every (Stands s) bs → (t : Trees) → read_with (standing s) (resolved bs t) ≡ read_with (standing s) t
+read-resolved good s [] i h t = refl
+read-resolved good s (b ∷ older) i h t =
     read-replace (standing s) b.sort b.var (resolved older b.value)
-    (standing-value s b h.0.0 ∙ ap Some (h.0.2 ∙ sym (read-resolved s older h.1 b.value)))
+    (standing-value s b i.0.sort ∙ ap Some (h.0 ∙ sym (read-resolved good s older i.1 h.1 b.value)))
     (resolved older t)
-    ∙ read-resolved s older h.1 t
+    ∙ read-resolved good s older i.1 h.1 t
 
 -- ---- sorts
 pub sort-of-sort : (s : Sort) (t : Trees) → is_a s t ≡ true → of_sort s t ≡ t
@@ -57,7 +61,7 @@ and-true true = refl
 and-true false = refl
 
 -- a term that stands for itself is of its sort
-place-is-a : (k j : Sort) (t : Trees) → is_place k t ≡ true → HasValues j → is_a j t ≡ is_sort k j
+pub place-is-a : (k j : Sort) (t : Trees) → is_place k t ≡ true → HasValues j → is_a j t ≡ is_sort k j
 place-is-a k j none h v = absurd (false-true h)
 place-is-a k j (tree (param i n) none none) h v = by i k j h v
   where
@@ -139,7 +143,7 @@ slot-term s h k v (l ∷ ls) zero = slot-here s k l (is_sort (sort_of l) k) refl
 slot-term s h k v (l ∷ ls) (suc i) = slot-term s h k v ls i
 
 -- what is put in the place of a canonical variable is read as its slot
-put-in-slots : (s : Terms) → ((k : Sort) (v : ℕ) → sort_of (s.unknowns k v).0 ≡ k) → (ls : List Label) → s.slots ≡ map (reading_of s) ls
+pub put-in-slots : (s : Terms) → ((k : Sort) (v : ℕ) → sort_of (s.unknowns k v).0 ≡ k) → (ls : List Label) → s.slots ≡ map (reading_of s) ls
     → (l : Label) → IsPutIn (standing s) (given s.slots) l (slot_at ls l)
 put-in-slots s h ls e (canonical of_type i) = ap (λ z. Some (of_sort of_type (term_at z i))) e ∙ ap Some (slot-term s h of_type tt ls i)
 put-in-slots s h ls e (canonical of_const i) = ap (λ z. Some (of_sort of_const (term_at z i))) e ∙ ap Some (slot-term s h of_const tt ls i)
@@ -169,10 +173,15 @@ put-in-slots s h ls e (placeholder of_lifetime v) = refl
 put-in-slots s h ls e (bound of_type a b) = refl
 put-in-slots s h ls e (bound of_const a b) = refl
 put-in-slots s h ls e (bound of_lifetime a b) = refl
+put-in-slots s h ls e static = refl
 put-in-slots s h ls e l = refl
 
 -- ---- canonical variables
-clean-parts : (l : Label) (c o : Trees) → HasNoCanonical (tree l c o) → IsNoCanonical l × HasNoCanonical c × HasNoCanonical o
+abbrev pub IsNoCanonical : Label → Type 0
+IsNoCanonical (canonical s i) = ⊥
+IsNoCanonical l = Unit {0}
+
+pub clean-parts : (l : Label) (c o : Trees) → HasNoCanonical (tree l c o) → IsNoCanonical l × HasNoCanonical c × HasNoCanonical o
 clean-parts (canonical s i) c o h = absurd h
 clean-parts l c o h = (tt, h.0, h.1)
 
@@ -194,9 +203,42 @@ clean-replace k v r (tree (infer j w) c o) p q = by (is_variable j w k v) (clean
 clean-replace k v r (tree (canonical s i) c o) p q = absurd q
 clean-replace k v r (tree l c o) p q = (clean-replace k v r c p q.0, clean-replace k v r o p q.1)
 
-pub clean-resolved : (s : Terms) (bs : List Binding) → Every (MeetsBinding s) bs → (t : Trees) → HasNoCanonical t → HasNoCanonical (resolved bs t)
-clean-resolved s [] h t q = q
-clean-resolved s (b ∷ older) h t q = clean-replace b.sort b.var (resolved older b.value) (resolved older t) (clean-resolved s older h.1 b.value h.0.1) (clean-resolved s older h.1 t q)
+-- no good label is a canonical variable
+abbrev pub ExcludesCanonical : (Label → Bool) → Type 0
+ExcludesCanonical good = (k : Sort) (i : ℕ) → good (canonical k i) ≡ false
+
+good-clean : (good : Label → Bool) → ExcludesCanonical good → (l : Label) → good l ≡ true → IsNoCanonical l
+good-clean good e (canonical k i) h = false-true (sym (e k i) ∙ h)
+good-clean good e l h = tt
+
+lifetime-clean : (good : Label → Bool) → ExcludesCanonical good → (l : Label) (c o : Trees) → IsLast good l c o → HasNoCanonical (tree l c o)
+lifetime-clean good e l c o x = clean-node l c o (good-clean good e l x.good_label) (subst HasNoCanonical (sym x.children) tt) (subst HasNoCanonical (sym x.rest) tt)
+
+pub made-clean : (good : Label → Bool) → ExcludesCanonical good → (m : Standing) (t : Trees) → is_made good m t ≡ true → HasNoCanonical t
+made-clean good e terms none h = tt
+made-clean good e terms (tree dynamic c o) h = (made-clean good e bounds c (left (is_made good bounds c) (is_made good terms o) h), made-clean good e terms o (right (is_made good bounds c) (is_made good terms o) h))
+made-clean good e terms (tree (principal a b) c o) h = absurd (false-true h)
+made-clean good e terms (tree (auto_trait a) c o) h = absurd (false-true h)
+made-clean good e terms (tree l c o) h =
+    let x = made-ordinary good l c o refl h in
+    clean-node l c o (good-clean good e l x.0) (made-clean good e terms c x.2) (made-clean good e terms o x.3)
+made-clean good e bounds none h = absurd (false-true h)
+made-clean good e bounds (tree (principal a b) c o) h = (made-clean good e terms c (left (is_made good terms c) (is_made good traits o) h), made-clean good e traits o (right (is_made good terms c) (is_made good traits o) h))
+made-clean good e bounds (tree (auto_trait a) c o) h =
+    (subst HasNoCanonical (sym (no-tree c (left (is_no_tree c) (is_made good traits o) h))) tt, made-clean good e traits o (right (is_no_tree c) (is_made good traits o) h))
+made-clean good e bounds (tree dynamic c o) h = absurd (never-dynamic-bound good c o h)
+made-clean good e bounds (tree l c o) h = lifetime-clean good e l c o (last-bound good l c o refl h)
+made-clean good e traits none h = absurd (false-true h)
+made-clean good e traits (tree (auto_trait a) c o) h =
+    (subst HasNoCanonical (sym (no-tree c (left (is_no_tree c) (is_made good traits o) h))) tt, made-clean good e traits o (right (is_no_tree c) (is_made good traits o) h))
+made-clean good e traits (tree dynamic c o) h = absurd (never-dynamic good c o h)
+made-clean good e traits (tree (principal a b) c o) h = absurd (never-principal good a b c o h)
+made-clean good e traits (tree l c o) h = lifetime-clean good e l c o (last-trait good l c o refl h)
+
+pub clean-resolved : (good : Label → Bool) → ExcludesCanonical good → (bs : List Binding) → Every (IsValue good) bs → (t : Trees) → HasNoCanonical t → HasNoCanonical (resolved bs t)
+clean-resolved good e [] h t q = q
+clean-resolved good e (b ∷ older) h t q =
+    clean-replace b.sort b.var (resolved older b.value) (resolved older t) (clean-resolved good e older h.1 b.value (made-clean good e terms b.value h.0.made)) (clean-resolved good e older h.1 t q)
 
 label-clean : (ls : List Label) → Every IsNoCanonical ls → (i : ℕ) → IsNoCanonical (label_at ls i)
 label-clean [] h i = tt
@@ -226,6 +268,10 @@ put-clean ls h (tree l c o) = node l (put_in (slot_at ls) c) (put_in (slot_at ls
     node (infer k v) d p a b = clean-append (leaf (default_label k)) p (default k) b
     node (param k v) d p a b = clean-append (leaf (default_label k)) p (default k) b
     node (placeholder k v) d p a b = clean-append (leaf (default_label k)) p (default k) b
+    node static d p a b = clean-append (leaf static) p (tt, tt) b
+    node (bound of_type i j) d p a b = (a, b)
+    node (bound of_const i j) d p a b = (a, b)
+    node (bound of_lifetime i j) d p a b = clean-append (leaf (bound of_lifetime i j)) p (tt, tt) b
     node l d p a b = (a, b)
 
 -- ---- leaves of a canonical form
@@ -239,10 +285,10 @@ term-place f l (m ∷ ms) h = by (same_label m l) refl h (term-place f l ms)
     by false e q r = r q
 
 module _ (s : Terms) (sorted : (k : Sort) (v : ℕ) → sort_of (s.unknowns k v).0 ≡ k) (ls : List Label) where
-  abbrev terms : List Trees
-  terms = map (reading_of s) ls
+  abbrev leaves_read : List Trees
+  leaves_read = map (reading_of s) ls
 
-  term-of : (k : Sort) (l : Label) (x : Trees) → HasValues k → sort_of l ≡ k → standing s l ≡ Some x → is_among l ls ≡ true → Some (of_sort k (term_at terms (place_of l ls))) ≡ standing s l
+  term-of : (k : Sort) (l : Label) (x : Trees) → HasValues k → sort_of l ≡ k → standing s l ≡ Some x → is_among l ls ≡ true → Some (of_sort k (term_at leaves_read (place_of l ls))) ≡ standing s l
   term-of k l x v e h a =
       let here : is_a k (reading_of s l) ≡ true = reading-sorted s sorted k l v ∙ ap (λ z. is_sort z k) e ∙ self k v in
       ap (λ z. Some (of_sort k z)) (term-place (reading_of s) l ls a) ∙ ap Some (sort-of-sort k (reading_of s l) here ∙ read-leaf (standing s) l x h) ∙ sym h
@@ -258,13 +304,13 @@ module _ (s : Terms) (sorted : (k : Sort) (v : ℕ) → sort_of (s.unknowns k v)
   abbrev IsListed : OpenKinds → Label → Type 0
   IsListed kind l = IsSome (kind l) → is_among l ls ≡ true
 
-  open-carries : (l m : Label) (x : Trees) → standing s l ≡ Some x → given terms m ≡ standing s l → Carries (given terms) (standing s) l m
+  open-carries : (l m : Label) (x : Trees) → standing s l ≡ Some x → given leaves_read m ≡ standing s l → Carries (given leaves_read) (standing s) l m
   open-carries l m x h e = record { stands = e; erased = λ n. none-some x (erase_label m ≡ erase_label l) (sym h ∙ n) }
 
-  same-carries : (l : Label) → given terms l ≡ standing s l → Carries (given terms) (standing s) l l
+  same-carries : (l : Label) → given leaves_read l ≡ standing s l → Carries (given leaves_read) (standing s) l l
   same-carries l e = record { stands = e; erased = λ n. refl }
 
-  carries : (l : Label) → IsNoCanonical l → IsListed kind_of_leaf l → Carries (given terms) (standing s) l (if is_some (kind_of_leaf l) then canonical_label ls l else l)
+  carries : (l : Label) → IsNoCanonical l → IsListed kind_of_leaf l → Carries (given leaves_read) (standing s) l (if is_some (kind_of_leaf l) then canonical_label ls l else l)
   carries (canonical k i) c h = absurd c
   carries (infer of_type v) c h = let x = tree_of (s.unknowns of_type v) in open-carries (infer of_type v) _ x refl (term-of of_type (infer of_type v) x tt refl refl (h refl))
   carries (infer of_const v) c h = let x = tree_of (s.unknowns of_const v) in open-carries (infer of_const v) _ x refl (term-of of_const (infer of_const v) x tt refl refl (h refl))
@@ -281,7 +327,7 @@ module _ (s : Terms) (sorted : (k : Sort) (v : ℕ) → sort_of (s.unknowns k v)
   carries (bound of_lifetime a b) c h = same-carries (bound of_lifetime a b) refl
   carries l c h = same-carries l refl
 
-  carries-in-clause : (l : Label) → IsNoCanonical l → IsListed kind_in_clause l → Carries (given terms) (standing s) l (if is_some (kind_in_clause l) then canonical_label ls l else l)
+  carries-in-clause : (l : Label) → IsNoCanonical l → IsListed kind_in_clause l → Carries (given leaves_read) (standing s) l (if is_some (kind_in_clause l) then canonical_label ls l else l)
   carries-in-clause static c h = same-carries static refl
   carries-in-clause (canonical k i) c h = absurd c
   carries-in-clause (infer k v) c h = carries (infer k v) c h
@@ -338,14 +384,24 @@ same-fact g h a b x y = cc
 same-goals : (a b c d : Trees) → a ≡ b → c ≡ d → ◌≡◌ {A = GoalTrees} (record { environment = a; predicate = c }) (record { environment = b; predicate = d })
 same-goals a b c d x y = cc
 
+pub excludes-canonical : (t : FrameTable) → ExcludesCanonical (is_good t.kinds t.content.ty_vars t.content.const_vars)
+excludes-canonical t k i = refl
+
 read-goal-in : (t : FrameTable) (n : Nested) (s : Terms) → Allows t s → goal_read (standing s) (goal_in t n) ≡ goal_read (given s.slots) n.goal
 read-goal-in t n s a =
-    let part = λ (x : Trees). read-resolved s t.bindings a.meets (put_in (slot_at t.labels) x) ∙ read-put (standing s) (given s.slots) (slot_at t.labels) (put-in-slots s a.sorted t.labels a.slots) x in
+    let part = λ (x : Trees). read-resolved (is_good t.kinds t.content.ty_vars t.content.const_vars) s t.content.bindings t.made.table.values a.hold (put_in (slot_at t.labels) x)
+    ∙ read-put (standing s) (given s.slots) (slot_at t.labels) (put-in-slots s a.sorted t.labels a.slots) x in
     same-goals _ _ _ _ (part n.goal.environment) (part n.goal.predicate)
+
+labels-clean : (good : Label → Bool) → ExcludesCanonical good → (ls : List Label) → Every (λ l. is_made good terms (leaf l) ≡ true) ls → Every IsNoCanonical ls
+labels-clean good e [] h = tt
+labels-clean good e (l ∷ ls) h = ((clean-parts l none none (made-clean good e terms (leaf l) h.0)).0, labels-clean good e ls h.1)
 
 pub instance_of_question : InstanceOfQuestion
 instance_of_question t n s a =
-    let clean = λ (x : Trees). clean-resolved s t.bindings a.meets (put_in (slot_at t.labels) x) (put-clean t.labels a.labels x) in
+    let good = is_good t.kinds t.content.ty_vars t.content.const_vars in
+    let clean = λ (x : Trees). clean-resolved good (excludes-canonical t) t.content.bindings t.made.table.values (put_in (slot_at t.labels) x)
+    (put-clean t.labels (labels-clean good (excludes-canonical t) t.labels t.made.leaves) x) in
     same-fact _ _ _ _
     (read-form s a.sorted (goal_in t n) (clean n.goal.environment) (clean n.goal.predicate) ∙ read-goal-in t n s a)
     (ap (λ b. s.proper && b) (fits-leaves s a.sorted (goal_leaves (goal_in t n))) ∙ and-true s.proper)

@@ -81,7 +81,7 @@ abbrev pub IsPutIn : (q s : Label → Option Trees) → Label → Option Trees �
 IsPutIn q s l None = q l ≡ s l
 IsPutIn q s l (Some r) = s l ≡ Some (read_with q r)
 
-put-at : (q s : Label → Option Trees) (l : Label) (c d o p : Trees) (x : Option Trees) → IsPutIn q s l x → read_with q d ≡ read_with s c → read_with q p ≡ read_with s o
+pub put-at : (q s : Label → Option Trees) (l : Label) (c d o p : Trees) (x : Option Trees) → IsPutIn q s l x → read_with q d ≡ read_with s c → read_with q p ≡ read_with s o
     → read_with q (placed x (tree l d none) +++ p) ≡ placed (s l) (tree (erase_label l) (read_with s c) none) +++ read_with s o
 put-at q s l c d o p None h a b =
     ap (λ z. placed (q l) (tree (erase_label l) z none) +++ read_with q p) a

@@ -10,7 +10,7 @@ use Rattle.infer_table.specs.Unification.{term_sort, object_parts, parts_of, pai
 use Rattle.infer_table.proofs.SolutionLaws.{is_variable-equal}
 use Rattle.goal_evaluator.specs.Lists.{Every}
 use Rattle.goal_tables.specs.Instances.{read_with}
-use Rattle.goal_tables.specs.Terms.{terms, bounds, traits, is_leaf_label, is_made}
+use Rattle.type_terms.specs.Made.{terms, bounds, traits, is_leaf_label, is_made}
 use Rattle.goal_tables.specs.Content.{Terms, standing, Stands}
 use Rattle.goal_tables.specs.Equations.{IsTerm, IsValue, IsPair}
 use Rattle.goal_tables.proofs.Made.{false-true, left, right, both, is_ordinary, made-ordinary, makes-ordinary, made-alone, made-append, made-rest}

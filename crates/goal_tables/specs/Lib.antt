@@ -1,4 +1,7 @@
 pub mod Instances
-pub mod Terms
 pub mod Content
 pub mod Equations
+pub mod Frames
+pub mod Answers
+pub mod Finite
+pub mod Widths

@@ -2,7 +2,7 @@
 //! equations over them.
 #![tactic(auto)]
 
-ghost use Rattle.goal_tables.specs.Content.{InstanceOfQuestion};
+ghost use Rattle.goal_tables.specs.Frames.{InstanceOfQuestion};
 ghost use Rattle.goal_tables.specs.Equations.{EquationsNarrow, EquationsKeep, EquationsStayMade};
 
 /// An instance of a canonical question, by what a table allows for the leaves of the goal that was asked, is an instance of that goal.
