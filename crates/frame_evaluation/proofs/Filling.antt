@@ -1,0 +1,181 @@
+-- What is filled in code is what is put into the tables of frames.
+use Rattle.std.proofs.Common.{◌≡◌, ℕ, zero, suc, ◌+◌, ◌==◌, not, arith, Bool, true, false, ◌&&◌, List, [], ◌∷◌, map, refl, sym, ◌∙◌, ap, subst, Option, Some, None, if◌then◌else◌}
+use Rattle.std.specs.List.{slice_get}
+use Rattle.model.specs.Label.{Label, Sort, of_type, of_const, of_lifetime, infer, param, placeholder, canonical, bound, static}
+use Rattle.model.specs.Trees.{Trees, none, tree, leaf, ◌+++◌, sort_of, is_sort, is_a, placed}
+use Rattle.type_terms.specs.Made.{terms, is_leaf_label, is_made}
+use Rattle.infer_table.specs.Canonical.{GoalTrees, kind_of_leaf}
+use Rattle.infer_table.specs.Unification.{TableTrees}
+use Rattle.infer_table.specs.declared.canonical.CanonicalVarKind.{CanonicalVarKind}
+use Rattle.canonical_forms.specs.Leaves.{root_label}
+use Rattle.canonical_forms.specs.Values.{Value, value_for, filled, goal_filled}
+use Rattle.canonical_responses.specs.Raw.{sort_of_kind}
+use Rattle.canonical_responses.specs.Responses.{AnswerTrees}
+use Rattle.canonical_responses.specs.Applied.{applied}
+use Rattle.goal_evaluator.specs.Lists.{Pairwise}
+use Rattle.goal_evaluator.specs.Responses.{is_variable, is_identity_modulo_regions}
+use Rattle.goal_tables.specs.Instances.{put_in, goal_put_in, default_label}
+use Rattle.goal_tables.specs.Frames.{label_at, label_of_sort, slot_at, term_of}
+use Rattle.goal_tables.specs.Answers.{is_variable_itself, are_variables, has_values, is_variable_of, is_fitting, matched, put_into, leaf_value}
+use Rattle.goal_tables.proofs.Made.{false-true, left, right, both, no-tree, made-ordinary}
+use Rattle.goal_tables.proofs.Beginning.{sort-is}
+use Rattle.goal_tables.proofs.Equating.{single-of}
+use Rattle.frame_evaluation.specs.Fitting.{is_of_sort, is_slot, AreOver, IsGoalOver, IsValueOver, IsAnswerTo, Answers}
+
+-- ---- one variable
+sort-self : (k : Sort) → is_sort k k ≡ true
+sort-self of_type = refl
+sort-self of_const = refl
+sort-self of_lifetime = refl
+
+is-sort : (j k : Sort) → is_sort j k ≡ true → j ≡ k
+is-sort of_type of_type h = refl
+is-sort of_const of_const h = refl
+is-sort of_lifetime of_lifetime h = refl
+is-sort j k h = absurd (false-true h)
+
+slot-label : (s : Sort) (ls : List Label) (i : ℕ) → is_of_sort s (slice_get ls i) ≡ true → value_for (map leaf_value ls) (canonical s i) ≡ Some (leaf (label_of_sort s (label_at ls i)))
+slot-label s [] i h = absurd (false-true h)
+slot-label s (l ∷ ls) zero h = ap (λ b. if b then Some (leaf l) else None) h ∙ ap (λ b. Some (leaf (if b then l else default_label s))) (sym h)
+slot-label s (l ∷ ls) (suc i) h = slot-label s ls i h
+
+-- ---- trees
+filled-over : (ls : List Label) (t : Trees) → AreOver ls t → filled (map leaf_value ls) t ≡ put_in (slot_at ls) t
+filled-over ls none h = refl
+filled-over ls (tree l c o) h = node l c o h.0 h.1 (filled-over ls c h.2) (filled-over ls o h.3)
+  where
+    same : (l : Label) (c o : Trees) → value_for (map leaf_value ls) l ≡ None → slot_at ls l ≡ None → filled (map leaf_value ls) c ≡ put_in (slot_at ls) c → filled (map leaf_value ls) o ≡ put_in (slot_at ls) o
+        → filled (map leaf_value ls) (tree l c o) ≡ put_in (slot_at ls) (tree l c o)
+    same l c o e f p q =
+        ap (λ z. placed z (tree l (filled (map leaf_value ls) c) none) +++ filled (map leaf_value ls) o) e
+        ∙ ap (λ z. tree l z (filled (map leaf_value ls) o)) p ∙ ap (tree l (put_in (slot_at ls) c)) q
+        ∙ ap (λ z. placed z (tree l (put_in (slot_at ls) c) none) +++ put_in (slot_at ls) o) (sym f)
+
+    leaf-stays : (l : Label) (c o : Trees) → value_for (map leaf_value ls) l ≡ None → slot_at ls l ≡ Some (leaf l) → c ≡ none → filled (map leaf_value ls) o ≡ put_in (slot_at ls) o
+        → filled (map leaf_value ls) (tree l c o) ≡ put_in (slot_at ls) (tree l c o)
+    leaf-stays l c o e f n q =
+        ap (λ z. placed z (tree l (filled (map leaf_value ls) c) none) +++ filled (map leaf_value ls) o) e
+        ∙ ap (λ z. tree l (filled (map leaf_value ls) z) (filled (map leaf_value ls) o)) n ∙ ap (tree l none) q
+        ∙ ap (λ z. placed z (tree l (put_in (slot_at ls) c) none) +++ put_in (slot_at ls) o) (sym f)
+
+    node : (l : Label) (c o : Trees) → is_slot ls l ≡ true → (is_leaf_label l ≡ true → c ≡ none) → filled (map leaf_value ls) c ≡ put_in (slot_at ls) c → filled (map leaf_value ls) o ≡ put_in (slot_at ls) o
+        → filled (map leaf_value ls) (tree l c o) ≡ put_in (slot_at ls) (tree l c o)
+    node (canonical s i) c o h n p q =
+        ap (λ z. placed z (tree (canonical s i) (filled (map leaf_value ls) c) none) +++ filled (map leaf_value ls) o) (slot-label s ls i h)
+        ∙ ap (λ z. leaf (label_of_sort s (label_at ls i)) +++ z) q
+    node (infer k v) c o h n p q = absurd (false-true h)
+    node (param k v) c o h n p q = absurd (false-true h)
+    node (placeholder k v) c o h n p q = absurd (false-true h)
+    node static c o h n p q = leaf-stays static c o refl refl (n refl) q
+    node (bound of_type i j) c o h n p q = same (bound of_type i j) c o refl refl p q
+    node (bound of_const i j) c o h n p q = same (bound of_const i j) c o refl refl p q
+    node (bound of_lifetime i j) c o h n p q = leaf-stays (bound of_lifetime i j) c o refl refl (n refl) q
+    node l c o h n p q = same l c o refl refl p q
+
+pub filled-is : (ls : List Label) (t : Trees) → AreOver ls t → filled (map leaf_value ls) t ≡ put_in (slot_at ls) t
+filled-is ls t h = filled-over ls t h
+
+goal-same : (a b c d : Trees) → a ≡ c → b ≡ d → ◌≡◌ {A = GoalTrees} (record { environment = a; predicate = b }) (record { environment = c; predicate = d })
+goal-same a b c d e f = ap (λ (z : Trees). record { environment = z; predicate = b }) e ∙ ap (λ (z : Trees). record { environment = c; predicate = z }) f
+
+pub goal-filled-is : (ls : List Label) (g : GoalTrees) → IsGoalOver ls g → goal_filled (map leaf_value ls) g ≡ goal_put_in (slot_at ls) g
+goal-filled-is ls g h = goal-same _ _ _ _ (filled-is ls g.environment h.environment) (filled-is ls g.predicate h.predicate)
+
+-- a term that is over these variables is what it says
+pub term-is : (ls : List Label) (v : Value) → IsValueOver ls v → term_of v ≡ v.trees
+term-is ls v h = ap (λ b. if b then v.trees else leaf (default_label v.sort)) (both (is_a v.sort v.trees) _ h.sort h.made)
+
+pub side-is : (ls : List Label) (v : Value) → IsValueOver ls v → filled (map leaf_value ls) v.trees ≡ put_in (slot_at ls) (term_of v)
+side-is ls v h = filled-is ls v.trees h.over ∙ ap (put_in (slot_at ls)) (sym (term-is ls v h))
+
+-- ---- answers that fit are matched whole
+kind-sort : (l : Label) (k : CanonicalVarKind) → kind_of_leaf l ≡ Some k → sort_of_kind k ≡ sort_of l
+kind-sort (infer of_type v) k e = cc
+kind-sort (infer of_const v) k e = cc
+kind-sort (infer of_lifetime v) k e = cc
+kind-sort (param of_type v) k e = cc
+kind-sort (param of_const v) k e = cc
+kind-sort (param of_lifetime v) k e = cc
+kind-sort (placeholder of_type v) k e = cc
+kind-sort (placeholder of_const v) k e = cc
+kind-sort (placeholder of_lifetime v) k e = cc
+kind-sort static k e = cc
+kind-sort l k e = absurd (cc)
+
+pair-fits : (own : List CanonicalVarKind) (l : Label) (v : Value) → IsAnswerTo own (kind_of_leaf l) v → (is_sort (sort_of l) v.sort && is_fitting own v) ≡ true
+pair-fits own l v x = both (is_sort (sort_of l) v.sort) _ (ap (λ z. is_sort z v.sort) (sym (kind-sort l x.kind x.is) ∙ x.sort) ∙ sort-self v.sort) x.fits
+
+firsts-are : (own : List CanonicalVarKind) (kinds : List (Option CanonicalVarKind)) (ls : List Label) (vs : List Value) → map kind_of_leaf ls ≡ kinds → Pairwise (IsAnswerTo own) kinds vs
+    → map (λ (p : Value × Value). p.0) (matched own (map leaf_value ls) vs) ≡ map leaf_value ls
+firsts-are own kinds ls vs e h = by ls vs (subst (λ z. Pairwise (IsAnswerTo own) z vs) (sym e) h)
+  where
+    cons : (x y : Value) (xs ys : List Value) → x ≡ y → xs ≡ ys → ◌≡◌ {A = List Value} (x ∷ xs) (y ∷ ys)
+    cons x y xs ys e f = cc
+
+    by : (ls : List Label) (vs : List Value) → Pairwise (IsAnswerTo own) (map kind_of_leaf ls) vs → map (λ (p : Value × Value). p.0) (matched own (map leaf_value ls) vs) ≡ map leaf_value ls
+    by [] [] h = refl
+    by [] (v ∷ vs) h = refl
+    by (l ∷ ls) [] h = absurd h
+    by (l ∷ ls) (v ∷ vs) h =
+        ap (λ b. map (λ (p : Value × Value). p.0) (if b then (leaf_value l, v) ∷ matched own (map leaf_value ls) vs else matched own (map leaf_value ls) vs)) (pair-fits own l v h.0)
+        ∙ cons (leaf_value l) (leaf_value l) _ _ refl (by ls vs h.1)
+
+seconds-are : (own : List CanonicalVarKind) (kinds : List (Option CanonicalVarKind)) (ls : List Label) (vs : List Value) → map kind_of_leaf ls ≡ kinds → Pairwise (IsAnswerTo own) kinds vs
+    → map (λ (p : Value × Value). p.1) (matched own (map leaf_value ls) vs) ≡ vs
+seconds-are own kinds ls vs e h = by ls vs (subst (λ z. Pairwise (IsAnswerTo own) z vs) (sym e) h)
+  where
+    cons : (x y : Value) (xs ys : List Value) → x ≡ y → xs ≡ ys → ◌≡◌ {A = List Value} (x ∷ xs) (y ∷ ys)
+    cons x y xs ys e f = cc
+
+    by : (ls : List Label) (vs : List Value) → Pairwise (IsAnswerTo own) (map kind_of_leaf ls) vs → map (λ (p : Value × Value). p.1) (matched own (map leaf_value ls) vs) ≡ vs
+    by [] [] h = refl
+    by [] (v ∷ vs) h = absurd h
+    by (l ∷ ls) [] h = absurd h
+    by (l ∷ ls) (v ∷ vs) h =
+        ap (λ b. map (λ (p : Value × Value). p.1) (if b then (leaf_value l, v) ∷ matched own (map leaf_value ls) vs else matched own (map leaf_value ls) vs)) (pair-fits own l v h.0)
+        ∙ cons v v _ _ refl (by ls vs h.1)
+
+-- an answer to the question is put in whole
+pub put-whole : (t : TableTrees) (ls : List Label) (a : AnswerTrees) → Answers (map kind_of_leaf ls) a → put_into t (map leaf_value ls) a ≡ applied t (map leaf_value ls) a
+put-whole t ls a h =
+    ap (λ os. applied t os (record a { values = map (λ (p : Value × Value). p.1) (matched a.kinds (map leaf_value ls) a.values) })) (firsts-are a.kinds (map kind_of_leaf ls) ls a.values refl h)
+    ∙ ap (λ vs. applied t (map leaf_value ls) (record a { values = vs })) (seconds-are a.kinds (map kind_of_leaf ls) ls a.values refl h)
+
+-- ---- whether answers hold values
+itself-root : (own : List CanonicalVarKind) (i : ℕ) (v : Value) → is_fitting own v ≡ true → is_variable_itself i v.sort v.trees ≡ is_variable i (root_label v.trees)
+itself-root own i v h = by v.sort v.trees h
+  where
+    number-only : (s k : Sort) (j : ℕ) → is_sort k s ≡ true → (is_sort k s && (i == j)) ≡ (i == j)
+    number-only s k j e = ap (λ b. b && (i == j)) e
+
+    leaf-only : (k s : Sort) (j : ℕ) (c o : Trees) → (is_a k (tree (canonical s j) c o) && is_made (is_variable_of own) terms (tree (canonical s j) c o)) ≡ true → is_variable_itself i k (tree (canonical s j) c o) ≡ (i == j)
+    leaf-only k s j c o h =
+        let a : is_a k (tree (canonical s j) c o) ≡ true = left (is_a k (tree (canonical s j) c o)) _ h in
+        let m = made-ordinary (is_variable_of own) (canonical s j) c o refl (right (is_a k (tree (canonical s j) c o)) _ h) in
+        let e : s ≡ k = sort-is k (canonical s j) c o a in
+        ap (λ z. is_variable_itself i k (tree (canonical s j) z o)) (no-tree c m.1) ∙ ap (λ z. is_variable_itself i k (tree (canonical s j) none z)) (single-of k (tree (canonical s j) c o) a)
+        ∙ number-only s k j (ap (λ z. is_sort k z) e ∙ sort-self k)
+
+    by : (k : Sort) (t : Trees) → (is_a k t && is_made (is_variable_of own) terms t) ≡ true → is_variable_itself i k t ≡ is_variable i (root_label t)
+    by k none h = refl
+    by k (tree (canonical s j) c o) h = leaf-only k s j c o h
+    by k (tree l c o) h = refl
+
+pub same-variables : (own : List CanonicalVarKind) (kinds : List (Option CanonicalVarKind)) (i : ℕ) (vs : List Value) → Pairwise (IsAnswerTo own) kinds vs → are_variables i vs ≡ is_identity_modulo_regions i vs
+same-variables own [] i [] h = refl
+same-variables own [] i (v ∷ vs) h = absurd h
+same-variables own (k ∷ kinds) i [] h = absurd h
+same-variables own (k ∷ kinds) i (v ∷ vs) h =
+    ap (λ b. if b then are_variables (suc i) vs else (is_sort v.sort of_lifetime && are_variables i vs)) (itself-root own i v h.0.fits)
+    ∙ by (is_variable i (root_label v.trees)) (ap (λ n. are_variables n vs) (next i) ∙ same-variables own kinds (i + 1) vs h.1) (same-variables own kinds i vs h.1)
+  where
+    next : (i : ℕ) → suc i ≡ i + 1
+    next i = omega arith
+
+    by : (b : Bool) → are_variables (suc i) vs ≡ is_identity_modulo_regions (i + 1) vs → are_variables i vs ≡ is_identity_modulo_regions i vs
+        → (if b then are_variables (suc i) vs else (is_sort v.sort of_lifetime && are_variables i vs)) ≡ (if b then is_identity_modulo_regions (i + 1) vs else (is_sort v.sort of_lifetime && is_identity_modulo_regions i vs))
+    by true p q = p
+    by false p q = ap (λ z. is_sort v.sort of_lifetime && z) q
+
+pub same-values : (kinds : List (Option CanonicalVarKind)) (a : AnswerTrees) → Answers kinds a → has_values a ≡ not (is_identity_modulo_regions 0 a.values)
+same-values kinds a h = ap not (same-variables a.kinds kinds 0 a.values h)

@@ -1,0 +1,5 @@
+pub mod Histories
+pub mod Lawful
+pub mod Orders
+pub mod Graphs
+pub mod Books

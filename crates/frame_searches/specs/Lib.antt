@@ -1,0 +1,5 @@
+pub mod Programs
+pub mod Searches
+pub mod Graphs
+pub mod Orders
+pub mod Books

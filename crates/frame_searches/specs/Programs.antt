@@ -1,0 +1,64 @@
+-- The handlers of all goals, for all that contexts declare, and their laws.
+use Rattle.std.specs.Prelude.{◌≡◌, ◌≤◌, Bool, false, List, Option, Some, None}
+use Rattle.search_paths.specs.declared.path_kind.PathKind.{PathKind}
+use Rattle.search_paths.specs.declared.path_kind.PathKind.TheVariants.{Coinductive}
+use Rattle.goal_evaluator.specs.Table.{Tables}
+use Rattle.goal_evaluator.specs.Law.{IsYes}
+use Rattle.goal_evaluator.specs.Handler.{Handled, IsHandler}
+use Rattle.goal_evaluator.specs.System.{System, IsSystem}
+
+module _ {Question Response : Type 0} (t : Tables Question Response) where
+  pub record Programs : Type 1 where
+    -- what a context declares; how goals are read, in coherence or not: a nested goal as the goal that asks it
+    pub World : Type 0
+    pub Mode : Type 0
+    pub Goal : Type 0
+    -- the goal that a question asks
+    pub goal_of : Question → Goal
+    pub handled : World → Mode → Goal → Handled t
+    -- the rules of all goals, and which references are coinductive
+    pub Rule : World → t.Fact → List t.Fact → Type 0
+    pub coinductive : World → t.Fact → Bool
+    -- the values that the variables of a goal can have if each is one of these terms
+    pub made_of : Goal → t.Values → List t.Values
+    -- the answer to a goal that is asked under itself by a path of this kind, and to one that is asked too deep or too often
+    pub initial : World → Mode → Goal → PathKind → Option Response
+    pub overflow : World → Mode → Goal → Option Response
+
+  module _ (p : Programs) where
+    -- the goals that are asked in one mode
+    abbrev pub system : p.World → p.Mode → System t
+    system w mode =
+        record {
+          Goal = p.Goal;
+          handled = p.handled w mode;
+          goal_of = p.goal_of;
+          Rule = p.Rule w;
+          coinductive = p.coinductive w;
+          made_of = p.made_of;
+        }
+
+    -- The answer says nothing of a goal's solutions: it refuses only where none are looked for, and else holds no values and no
+    -- greater terms than the goal
+    abbrev pub SaysNothing : Handled t → Option Response → Type 0
+    SaysNothing h None = h.World → ⊥
+    SaysNothing h (Some r) = (t.has_values r ≡ false) × (t.number_in r ≤ h.number)
+
+    -- what has a proof in a set of crates for the one goal has one in some set for the other
+    abbrev pub ProvesNoMore : Handled t → Handled t → Type 0
+    ProvesNoMore h nested = (x : h.World) → (y : nested.World) × ((f : t.Fact) → h.Proves x f → nested.Proves y f)
+
+    -- the laws of programs
+    pub record ArePrograms : Type 0 where
+      pub handlers : (w : p.World) (mode : p.Mode) (g : p.Goal) → IsHandler t (p.handled w mode g)
+      pub systems : (w : p.World) (mode : p.Mode) → IsSystem t (system w mode)
+      -- a question of no greater number than a goal's asks a goal of no greater number
+      pub numbers : (w : p.World) (mode : p.Mode) (g : p.Goal) (q : Question) → t.number_of q ≤ (p.handled w mode g).number
+          → (p.handled w mode (p.goal_of q)).number ≤ (p.handled w mode g).number
+      -- the solutions of nested goals are looked for wherever those of the goal are
+      pub worlds : (w : p.World) (mode : p.Mode) (g : p.Goal) (q : Question) → ProvesNoMore (p.handled w mode g) (p.handled w mode (p.goal_of q))
+      -- only a coinductive path is answered by a definite yes
+      pub initial_yes : (w : p.World) (mode : p.Mode) (g : p.Goal) (k : PathKind) → IsYes t (p.initial w mode g k) → k ≡ Coinductive
+      pub overflow_yes : (w : p.World) (mode : p.Mode) (g : p.Goal) → IsYes t (p.overflow w mode g) → ⊥
+      pub initial : (w : p.World) (mode : p.Mode) (g : p.Goal) (k : PathKind) → SaysNothing (p.handled w mode g) (p.initial w mode g k)
+      pub overflow : (w : p.World) (mode : p.Mode) (g : p.Goal) → SaysNothing (p.handled w mode g) (p.overflow w mode g)

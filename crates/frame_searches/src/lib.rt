@@ -1,0 +1,75 @@
+//! The frames of goals in a search graph: they keep the laws of its delegates.
+#![tactic(auto)]
+
+ghost use Rattle.std.specs.Prelude.{Option};
+ghost use Rattle.goal_evaluator.specs.Table.{Tables, IsTable};
+ghost use Rattle.search_steps.specs.Meaning.{IsLawful};
+ghost use Rattle.frame_searches.specs.Programs.{Programs, ArePrograms};
+ghost use Rattle.goal_evaluator.specs.Atoms.{atoms};
+ghost use Rattle.frame_searches.specs.Searches.{Handles, Asked, meaning};
+ghost use Rattle.frame_searches.specs.Graphs.{GraphsProve};
+ghost use Rattle.frame_searches.specs.Orders.{KeepOrder, End, SilentIsFair};
+ghost use Rattle.frame_searches.specs.Books.{rule_books};
+
+/// Handlers of goals, the tables that their candidates are evaluated in, and the handles by which a search knows goals and answers.
+pub trait Searching {
+    ghost Question: { Type 0 };
+
+    ghost Response: { Type 0 };
+
+    ghost tables: { Tables Question Response };
+
+    ghost programs: { Programs tables };
+
+    ghost Context: { Type 0 };
+
+    ghost Input: { Type 0 };
+
+    ghost Result: { Type 0 };
+
+    ghost Frame: { Type 0 };
+
+    ghost handles: { Handles Context Input Result Frame programs.World (Asked tables programs) (Option Response) };
+}
+
+/// Where the tables and the handlers are lawful, so is what their frames mean to a search: a definite yes of a frame follows by a
+/// rule from the questions that were answered by a definite yes outside ignored candidates; an answer covers its goal where the
+/// replies cover theirs; and no frame asks more questions, or greater ones, than its goal's number.
+pub fn frames_are_lawful<S: Searching>()
+    requires tables { IsTable S.tables }
+    requires programs { ArePrograms S.tables S.programs }
+    ensures { IsLawful (meaning S.tables S.programs S.handles) }
+{}
+
+/// An answer that holds nothing of a goal's solutions covers it, and is no greater than the goal: so are overflows, initial answers,
+/// and ambiguities that are passed on.
+pub fn silent_answers_are_fair<S: Searching>()
+    requires tables { IsTable S.tables }
+    requires programs { ArePrograms S.tables S.programs }
+    ensures { SilentIsFair S.tables S.programs S.handles }
+{}
+
+/// No frame makes a request out of order, so no search refuses one for that.
+pub fn frames_keep_order<S: Searching>()
+    requires { ArePrograms S.tables S.programs }
+    ensures { KeepOrder S.tables S.programs S.handles }
+{}
+
+/// Each frame ends, whatever is answered: it hears no more replies than eight times its goal's number, three for each candidate, and
+/// the first one.
+pub fn frames_end<S: Searching>()
+    requires { ArePrograms S.tables S.programs }
+    ensures { End S.tables S.programs S.handles }
+{}
+
+/// Where a goal has a proof graph, as a search's definite yes promises it, each of its instances has a proof list by the rules of all
+/// goals.
+pub fn graphs_prove<S: Searching>()
+    requires { ArePrograms S.tables S.programs }
+    ensures { GraphsProve S.tables S.programs }
+{}
+
+/// The laws of programs can be met: lists of rules, over tables with one unknown, are programs.
+pub fn rule_books_are_programs()
+    ensures { ArePrograms atoms rule_books }
+{}
