@@ -5,7 +5,7 @@ ghost use Rattle.model.specs.Trees.{sort_of};
 ghost use Rattle.type_terms.specs.Terms.{Has, types, consts, trees_at};
 ghost use Rattle.type_terms.specs.Kinds.{region_label};
 ghost use Rattle.infer_table.specs.Canonical.{place_of};
-ghost use Rattle.canonical_forms.specs.Leaves.{open_kinds, AreLeaves, labels, leaf_label, is_closed, is_type_label, IsLeaf, Adds};
+ghost use Rattle.canonical_forms.specs.Leaves.{open_kinds, AreLeaves, labels, leaf_label, are_closed_flags, is_closed, is_type_label, IsLeaf, Adds};
 
 use indexmap::IndexSet;
 use term_traversal::binders::Binders;
@@ -19,17 +19,20 @@ use type_terms::number::{BoundVar, BoundVarIndexKind};
 use type_terms::region::{Region, RegionKind};
 use type_terms::{Fault, MAX_INDEX};
 
-/// The flags of what is open, but for `'static`, which has none.
-pub const OPEN_FLAGS: u32 = TypeFlags::HAS_PARAM.0
+/// The flags of what is open in a where-clause.
+pub const CLAUSE_FLAGS: u32 = TypeFlags::HAS_PARAM.0
     | TypeFlags::HAS_INFER.0
     | TypeFlags::HAS_PLACEHOLDER.0;
 
-/// No unknown, parameter or placeholder stands in the type, below binders neither.
-fn is_closed_ty(cx: &Interner, ty: Ty) -> bool
-    requires { Has cx.now.entries types ty.0 }
-    ensures { result ≡ is_closed (trees_at cx.now.entries ty.0) }
+/// The flags of what is open outside where-clauses: `'static` too. `NEEDS_CANONICAL` of the original.
+pub const OPEN_FLAGS: u32 = CLAUSE_FLAGS | TypeFlags::HAS_RE_STATIC.0;
+
+/// Nothing open stands in terms with these flags, below binders neither: one look, however large they are.
+pub(crate) fn is_closed(flags: TypeFlags, in_clause: bool) -> bool
+    ensures { result ≡ are_closed_flags in_clause flags.0 }
 {
-    cx.flags(ty).0 & OPEN_FLAGS == 0
+    let open = if in_clause { CLAUSE_FLAGS } else { OPEN_FLAGS };
+    flags.0 & open == 0
 }
 
 /// The type is an unknown, a parameter or a placeholder.
@@ -113,7 +116,7 @@ impl TypeVisitor for LeafCollector {
     fn visit_ty(&mut self, cx: &Interner, ty: Ty, _binders: &Binders) -> Seen<Fault> {
         if is_open_ty(cx, ty) {
             self.add(cx, GenericArgKind::Ty(ty))
-        } else if self.in_clause && is_closed_ty(cx, ty) {
+        } else if is_closed(cx.flags(ty), self.in_clause) {
             Seen::Pass
         } else {
             Seen::Enter
@@ -203,8 +206,7 @@ impl TypeFolder for Canonicalizer<'_> {
     fn fold_ty(&self, cx: &mut Interner, ty: Ty, _binders: &Binders) -> Result<Answer<Ty>, Fault> {
         cx.lawful();
         if !is_open_ty(cx, ty) {
-            let stays = self.in_clause && is_closed_ty(cx, ty);
-            return if stays {
+            return if is_closed(cx.flags(ty), self.in_clause) {
                 Ok(Answer::Replace(ty))
             } else {
                 Ok(Answer::Enter)

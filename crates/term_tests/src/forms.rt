@@ -261,6 +261,43 @@ fn static_is_itself_in_a_clause_and_open_outside(rt: HostRuntime) -> Result<(), 
     Ok(())
 }
 
+#[test]
+fn a_goal_with_static_in_a_clause_alone_is_its_own_form(rt: HostRuntime) -> Result<(), Fail> {
+    let alloc = rt.alloc();
+    let mut cx = Interner::new(alloc, 100);
+    let table = InferCtxt::new(alloc);
+    let region = Region {
+        kind: RegionKind::ReStatic,
+    };
+    let byte = cx.mk_ty(TyKind::Uint(UintTy::U8))?;
+    let predicate = shown(alloc, &mut cx, byte)?;
+    let outlives = Clause::TypeOutlives(byte, region);
+    let goal = Goal {
+        param_env: vec![in alloc; outlives]?,
+        predicate,
+    };
+    let canonical = canonicalize_goal(alloc, &mut cx, &table, TypingMode::Coherence, &goal)?;
+    assert!(rt; canonical.values.is_empty());
+    assert!(rt; canonical.input.variables.is_empty());
+    assert!(rt; canonical.input.goal == goal);
+    Ok(())
+}
+
+#[test]
+fn static_in_a_predicate_is_open(rt: HostRuntime) -> Result<(), Fail> {
+    let alloc = rt.alloc();
+    let mut cx = Interner::new(alloc, 100);
+    let table = InferCtxt::new(alloc);
+    let region = Region {
+        kind: RegionKind::ReStatic,
+    };
+    let byte = cx.mk_ty(TyKind::Uint(UintTy::U8))?;
+    let reference = cx.mk_ty(TyKind::Ref(region, byte, Mutability::Not))?;
+    let canonical = shown_goal(alloc, &mut cx, &table, reference)?;
+    assert!(rt; canonical.values.as_slice() == [GenericArgKind::Lifetime(region)].as_slice());
+    Ok(())
+}
+
 /// The canonical form of the goal that `(!5, ?3)` is `Show`.
 fn shown_pair(alloc: Global, cx: &mut Interner, table: &InferCtxt) -> Result<Canonicalized, Fault>
     requires ready { Ready cx.old.entries table.now }

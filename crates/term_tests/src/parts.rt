@@ -10,6 +10,7 @@ fn unions_hold_their_three_sorts(rt: HostRuntime) {
     assert!(rt; TypeFlags::HAS_INFER.contains(flags));
     assert!(rt; !TypeFlags::HAS_PARAM.intersects(flags));
     assert!(rt; TypeFlags::from_bits_retain(1 << 12) == TypeFlags::HAS_BINDER_VARS);
+    assert!(rt; TypeFlags::from_name("HAS_RE_STATIC") == Some(TypeFlags::HAS_RE_STATIC));
     assert!(rt; TypeFlags::from_name("HAS_PLACEHOLDER") == Some(TypeFlags::HAS_PLACEHOLDER));
 }
 

@@ -345,12 +345,12 @@ fn each_kind_of_term_is_visited(rt: HostRuntime) -> Result<(), Fail> {
         kind: RegionKind::ReStatic,
     };
     assert!(rt; region.visit_with(&cx, &mut visitor) == ControlFlow::Break(region));
-    assert!(rt; region.flags(&cx) == TypeFlags(0));
+    assert!(rt; region.flags(&cx) == TypeFlags::HAS_RE_STATIC);
     let arg = GenericArgKind::Lifetime(region);
     assert!(rt; arg.visit_with(&cx, &mut visitor) == ControlFlow::Break(region));
     let args = cx.mk_args(vec![in alloc; arg]?)?;
     assert!(rt; args.visit_with(&cx, &mut visitor) == ControlFlow::Break(region));
-    assert!(rt; args.flags(&cx) == TypeFlags(0));
+    assert!(rt; args.flags(&cx) == TypeFlags::HAS_RE_STATIC);
     let byte = cx.mk_ty(TyKind::Uint(UintTy::U8))?;
     let tys = cx.mk_tys(vec![in alloc; byte]?)?;
     assert!(rt; tys.visit_with(&cx, &mut visitor) == ControlFlow::Continue(()));

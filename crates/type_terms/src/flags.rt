@@ -6,7 +6,8 @@ use bitflags::{Flag, Flags, bitflag_items};
 /// Which open places a term has: the union over its nodes, those below binders too.
 ///
 /// A flag for each sort (types `TY`, lifetimes `RE`, constants `CT`) of parameters, variables of inference,
-/// placeholders and bound variables, and one for a binder that has a lifetime.
+/// placeholders and bound variables, one for a binder that has a lifetime, and one for `'static`, which the original
+/// has among its `HAS_FREE_REGIONS`.
 #[derive(Clone, Copy, PartialEq, Eq, Debug, Hash)]
 pub struct TypeFlags(pub u32);
 
@@ -25,6 +26,7 @@ bitflag_items! {
         const HAS_CT_PLACEHOLDER = 1 << 10;
         const HAS_CT_BOUND = 1 << 11;
         const HAS_BINDER_VARS = 1 << 12;
+        const HAS_RE_STATIC = 1 << 13;
         const HAS_PARAM = TypeFlags::HAS_TY_PARAM.0 | TypeFlags::HAS_RE_PARAM.0 | TypeFlags::HAS_CT_PARAM.0;
         const HAS_INFER = TypeFlags::HAS_TY_INFER.0 | TypeFlags::HAS_RE_INFER.0 | TypeFlags::HAS_CT_INFER.0;
         const HAS_PLACEHOLDER = TypeFlags::HAS_TY_PLACEHOLDER.0 | TypeFlags::HAS_RE_PLACEHOLDER.0 | TypeFlags::HAS_CT_PLACEHOLDER.0;
@@ -39,7 +41,7 @@ impl Flags for TypeFlags {
     ghost table = { (codes "HAS_TY_PARAM", 1) ∷ (codes "HAS_TY_INFER", 2) ∷ (codes "HAS_TY_PLACEHOLDER", 4) ∷ (codes "HAS_TY_BOUND", 8)
         ∷ (codes "HAS_RE_PARAM", 16) ∷ (codes "HAS_RE_INFER", 32) ∷ (codes "HAS_RE_PLACEHOLDER", 64) ∷ (codes "HAS_RE_BOUND", 128)
         ∷ (codes "HAS_CT_PARAM", 256) ∷ (codes "HAS_CT_INFER", 512) ∷ (codes "HAS_CT_PLACEHOLDER", 1024) ∷ (codes "HAS_CT_BOUND", 2048)
-        ∷ (codes "HAS_BINDER_VARS", 4096)
+        ∷ (codes "HAS_BINDER_VARS", 4096) ∷ (codes "HAS_RE_STATIC", 8192)
         ∷ (codes "HAS_PARAM", 273) ∷ (codes "HAS_INFER", 546) ∷ (codes "HAS_PLACEHOLDER", 1092) ∷ [] };
 
     ghost set_of = { λ f. f.0 };

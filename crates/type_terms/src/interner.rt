@@ -519,7 +519,7 @@ fn region_info(region: Region) -> Info
     ensures { result ≡ info_of (region_trees region) }
 {
     match region.kind {
-        RegionKind::ReStatic => Info::LEAF,
+        RegionKind::ReStatic => Info::leaf(TypeFlags::HAS_RE_STATIC),
         RegionKind::ReEarlyParam(_) => Info::leaf(TypeFlags::HAS_RE_PARAM),
         RegionKind::RePlaceholder(_) => Info::leaf(TypeFlags::HAS_RE_PLACEHOLDER),
         RegionKind::ReBound(binder, _) => Info::bound(TypeFlags::HAS_RE_BOUND, binder),
