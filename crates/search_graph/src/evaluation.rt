@@ -1,13 +1,14 @@
 //! The search itself: goals that ask goals.
 
-ghost use Rattle.std.specs.Prelude.{◌≡◌, [], ℕ, ◌+◌, ◌*◌, ◌≤◌, length, max, IfOk, OnOk, true, false, cond};
+ghost use Rattle.std.specs.Prelude.{◌≡◌, [], ℕ, ◌+◌, ◌*◌, ◌≤◌, length, max, slice_get, IfOk, OnOk, IsSome, true, false, cond};
 ghost use Rattle.search_steps.specs.Meaning.{Keeps};
+ghost use Rattle.search_steps.specs.Chain.{IsAskedUnder, IsWithinDepth};
 ghost use Rattle.search_steps.specs.Computed.{MakesMisstep};
-ghost use Rattle.search_steps.specs.Cache.{known_results, HasConflict};
+ghost use Rattle.search_steps.specs.Cache.{known_results, HasConflict, IsNumberOf, KeepsNumbers};
 ghost use Rattle.search_steps.specs.Plain.{IsNotPlain};
 ghost use Rattle.search_steps.specs.Faithful.{AllDescend, IsFaithful, IsUntouched};
 ghost use Rattle.search_graph.specs.Bound.{frame_bound, question_bound};
-ghost use Rattle.search_steps.specs.Stack.{question_of, path_onto, IsStack, IsEntry, IsAnswer, IsProvisional, AreCached, IsWithin, IsLastWithin, AreLastWithin, AreCachedWithin};
+ghost use Rattle.search_steps.specs.Stack.{place_of, question_of, path_onto, IsStack, IsEntry, IsAnswer, IsProvisional, AreCached, IsWithin, IsLastWithin, AreLastWithin, AreCachedWithin};
 
 use search_paths::{
     Candidates, CycleHead, Dependencies, EvaluationResult, GraphFault, PathKind, PathsToNested,
@@ -34,6 +35,7 @@ pub(crate) fn evaluate<D: Delegate>(
     ensures keeps { Keeps D.meaning cx.old cx.new }
     ensures stack { OnOk result (search.new.stack.items ≡ search.old.stack.items) }
     ensures cache { AreCached D.meaning (D.meaning.world cx.new) cx.new cache.new.entries.items }
+    ensures goals { KeepsNumbers D.Cx.Input.eq cache.old.goals.keys cache.new.goals.keys }
     ensures answer { IfOk result (λ o. IsAnswer D.meaning (D.meaning.world cx.old) (path_onto D.meaning cx.old search.old.stack.items []) (D.meaning.goal_of cx.old input, step_kind) o.dependencies.lowest cx.new o.result) }
     ensures faithful { IfOk result (λ o. IsFaithful D.meaning (D.meaning.world cx.old) (depth + 1) (path_onto D.meaning cx.old search.old.stack.items []) (D.meaning.goal_of cx.old input) (D.meaning.answer_of cx.new o.result) o.dependencies.encountered_overflow o.dependencies.lowest o.dependencies.heads.items) }
     ensures no_conflict { result ≡ Err GraphFault.Conflict → (limit : ℕ) → limit ≤ depth + 1 → AllDescend D.meaning (D.meaning.world cx.old) limit 0 (path_onto D.meaning cx.old search.old.stack.items []) (D.meaning.goal_of cx.old input) → IsNotPlain D.meaning (D.meaning.world cx.old) limit (D.meaning.goal_of cx.old input) }
@@ -42,7 +44,9 @@ pub(crate) fn evaluate<D: Delegate>(
     ensures frames { (width : ℕ) → (D.meaning.number_of (D.meaning.world cx.old) (D.meaning.goal_of cx.old input) ≤ width) → search.new.frames ≤ search.old.frames + frame_bound (max D.FIXPOINT_STEP_LIMIT 1) width depth }
     ensures full { result ≡ Err GraphFault.Full → D.meaning.IsFull cx.new }
     ensures limits { search.old.limits_met ≡ true → search.new.limits_met ≡ true }
+    ensures no_limit { search.old.limits_met ≡ false → search.new.limits_met ≡ true → (limit : ℕ) → limit ≤ depth + 1 → AllDescend D.meaning (D.meaning.world cx.old) limit 0 (path_onto D.meaning cx.old search.old.stack.items []) (D.meaning.goal_of cx.old input) → IsNotPlain D.meaning (D.meaning.world cx.old) limit (D.meaning.goal_of cx.old input) }
     ensures within { IfOk result (λ o. (before : _) → search.new.limits_met ≡ false → AreLastWithin D.meaning (D.meaning.world cx.old) before cx.old search.old.stack.items → AreCachedWithin D.meaning (D.meaning.world cx.old) before cx.old cache.old.entries.items → AreCachedWithin D.meaning (D.meaning.world cx.old) before cx.new cache.new.entries.items × IsWithin D.meaning (D.meaning.world cx.old) before (D.meaning.goal_of cx.old input) (D.meaning.answer_of cx.new o.result)) }
+    ensures cached { (place : ℕ) (e : _) → slice_get cache.old.entries.items place ≡ Some e → e.input ≡ input → IsWithinDepth e.encountered_overflow e.depth depth → ((asked : ℕ) → IsAskedUnder cache.old.entries.items place asked → IsSome (place_of search.old.stack.items asked) → ⊥) → (search.new.frames ≡ search.old.frames) × (cache.new.entries ≡ cache.old.entries) }
 {
     // A provisional entry, of a goal whose result rests on goals of the stack, would be looked up here.
     let number = cache.number_of(cx, &input)?;
@@ -82,9 +86,11 @@ fn evaluate_new<D: Delegate>(
     requires stack { IsStack D.meaning (D.meaning.world cx.old) [] cx.old search.old.stack.items }
     requires cache { AreCached D.meaning (D.meaning.world cx.old) cx.old cache.old.entries.items }
     requires input { D.meaning.IsInput cx.old input }
+    requires number { IsNumberOf D.Cx.Input.eq cache.old.goals.keys input number }
     ensures keeps { Keeps D.meaning cx.old cx.new }
     ensures stack { OnOk result (search.new.stack.items ≡ search.old.stack.items) }
     ensures cache { AreCached D.meaning (D.meaning.world cx.new) cx.new cache.new.entries.items }
+    ensures goals { KeepsNumbers D.Cx.Input.eq cache.old.goals.keys cache.new.goals.keys }
     ensures answer { IfOk result (λ o. IsAnswer D.meaning (D.meaning.world cx.old) (path_onto D.meaning cx.old search.old.stack.items []) (D.meaning.goal_of cx.old input, step_kind) o.dependencies.lowest cx.new o.result) }
     ensures faithful { IfOk result (λ o. IsFaithful D.meaning (D.meaning.world cx.old) (depth + 1) (path_onto D.meaning cx.old search.old.stack.items []) (D.meaning.goal_of cx.old input) (D.meaning.answer_of cx.new o.result) o.dependencies.encountered_overflow o.dependencies.lowest o.dependencies.heads.items) }
     ensures no_conflict { result ≡ Err GraphFault.Conflict → (limit : ℕ) → limit ≤ depth + 1 → AllDescend D.meaning (D.meaning.world cx.old) limit 0 (path_onto D.meaning cx.old search.old.stack.items []) (D.meaning.goal_of cx.old input) → IsNotPlain D.meaning (D.meaning.world cx.old) limit (D.meaning.goal_of cx.old input) }
@@ -93,6 +99,7 @@ fn evaluate_new<D: Delegate>(
     ensures frames { (width : ℕ) → (D.meaning.number_of (D.meaning.world cx.old) (D.meaning.goal_of cx.old input) ≤ width) → search.new.frames ≤ search.old.frames + frame_bound (max D.FIXPOINT_STEP_LIMIT 1) width depth }
     ensures full { result ≡ Err GraphFault.Full → D.meaning.IsFull cx.new }
     ensures limits { search.old.limits_met ≡ true → search.new.limits_met ≡ true }
+    ensures no_limit { search.old.limits_met ≡ false → search.new.limits_met ≡ true → (limit : ℕ) → limit ≤ depth + 1 → AllDescend D.meaning (D.meaning.world cx.old) limit 0 (path_onto D.meaning cx.old search.old.stack.items []) (D.meaning.goal_of cx.old input) → IsNotPlain D.meaning (D.meaning.world cx.old) limit (D.meaning.goal_of cx.old input) }
     ensures within { IfOk result (λ o. (before : _) → search.new.limits_met ≡ false → AreLastWithin D.meaning (D.meaning.world cx.old) before cx.old search.old.stack.items → AreCachedWithin D.meaning (D.meaning.world cx.old) before cx.old cache.old.entries.items → AreCachedWithin D.meaning (D.meaning.world cx.old) before cx.new cache.new.entries.items × IsWithin D.meaning (D.meaning.world cx.old) before (D.meaning.goal_of cx.old input) (D.meaning.answer_of cx.new o.result)) }
 {
     let index = search.stack.len();
@@ -188,6 +195,7 @@ fn run_once<D: Delegate>(
     ensures keeps { Keeps D.meaning cx.old cx.new }
     ensures stack { OnOk result (search.new.stack.items ≡ search.old.stack.items) }
     ensures cache { AreCached D.meaning (D.meaning.world cx.new) cx.new cache.new.entries.items }
+    ensures goals { KeepsNumbers D.Cx.Input.eq cache.old.goals.keys cache.new.goals.keys }
     ensures entry { IfOk result (λ p. p.0 ≡ entry) }
     ensures low { IfOk result (λ p. p.1.dependencies.lowest ≤ length search.old.stack.items) }
     ensures provisional { IfOk result (λ p. IsProvisional D.meaning (D.meaning.world cx.old) (path_onto D.meaning cx.old search.old.stack.items []) (question_of D.meaning cx.old entry) p.1.dependencies.lowest cx.new p.1.result) }
@@ -198,6 +206,7 @@ fn run_once<D: Delegate>(
     ensures frames { (width : ℕ) → (D.meaning.number_of (D.meaning.world cx.old) (D.meaning.goal_of cx.old entry.input) ≤ width) → search.new.frames ≤ search.old.frames + (1 + width * question_bound (max D.FIXPOINT_STEP_LIMIT 1) width depth) }
     ensures full { result ≡ Err GraphFault.Full → D.meaning.IsFull cx.new }
     ensures limits { search.old.limits_met ≡ true → search.new.limits_met ≡ true }
+    ensures no_limit { search.old.limits_met ≡ false → search.new.limits_met ≡ true → (limit : ℕ) → limit ≤ depth + 1 → AllDescend D.meaning (D.meaning.world cx.old) limit 0 (path_onto D.meaning cx.old search.old.stack.items []) (D.meaning.goal_of cx.old entry.input) → IsNotPlain D.meaning (D.meaning.world cx.old) limit (D.meaning.goal_of cx.old entry.input) }
     ensures within { IfOk result (λ o. (before : _) → search.new.limits_met ≡ false → AreLastWithin D.meaning (D.meaning.world cx.old) before cx.old search.old.stack.items → IsLastWithin D.meaning (D.meaning.world cx.old) before cx.old entry → AreCachedWithin D.meaning (D.meaning.world cx.old) before cx.old cache.old.entries.items → AreCachedWithin D.meaning (D.meaning.world cx.old) before cx.new cache.new.entries.items × IsWithin D.meaning (D.meaning.world cx.old) before (D.meaning.goal_of cx.old entry.input) (D.meaning.answer_of cx.new o.1.result)) }
 {
     let mut frame = D::start(cx, &entry.input)?;
@@ -265,6 +274,7 @@ fn ask<D: Delegate>(
     ensures keeps { Keeps D.meaning cx.old cx.new }
     ensures stack { OnOk result (search.new.stack.items ≡ search.old.stack.items) }
     ensures cache { AreCached D.meaning (D.meaning.world cx.new) cx.new cache.new.entries.items }
+    ensures goals { KeepsNumbers D.Cx.Input.eq cache.old.goals.keys cache.new.goals.keys }
     ensures answer { IfOk result (λ o. IsAnswer D.meaning (D.meaning.world cx.old) (path_onto D.meaning cx.old search.old.stack.items []) (D.meaning.goal_of cx.old input, step_kind) o.dependencies.lowest cx.new o.result) }
     ensures faithful { IfOk result (λ o. IsFaithful D.meaning (D.meaning.world cx.old) (cond overflowed 0 depth) (path_onto D.meaning cx.old search.old.stack.items []) (D.meaning.goal_of cx.old input) (D.meaning.answer_of cx.new o.result) o.dependencies.encountered_overflow o.dependencies.lowest o.dependencies.heads.items) }
     ensures no_conflict { result ≡ Err GraphFault.Conflict → (limit : ℕ) → limit ≤ cond overflowed 0 depth → AllDescend D.meaning (D.meaning.world cx.old) limit 0 (path_onto D.meaning cx.old search.old.stack.items []) (D.meaning.goal_of cx.old input) → IsNotPlain D.meaning (D.meaning.world cx.old) limit (D.meaning.goal_of cx.old input) }
@@ -273,6 +283,7 @@ fn ask<D: Delegate>(
     ensures frames { (width : ℕ) → (D.meaning.number_of (D.meaning.world cx.old) (D.meaning.goal_of cx.old input) ≤ width) → search.new.frames ≤ search.old.frames + question_bound (max D.FIXPOINT_STEP_LIMIT 1) width depth }
     ensures full { result ≡ Err GraphFault.Full → D.meaning.IsFull cx.new }
     ensures limits { search.old.limits_met ≡ true → search.new.limits_met ≡ true }
+    ensures no_limit { search.old.limits_met ≡ false → search.new.limits_met ≡ true → (limit : ℕ) → limit ≤ cond overflowed 0 depth → AllDescend D.meaning (D.meaning.world cx.old) limit 0 (path_onto D.meaning cx.old search.old.stack.items []) (D.meaning.goal_of cx.old input) → IsNotPlain D.meaning (D.meaning.world cx.old) limit (D.meaning.goal_of cx.old input) }
     ensures within { IfOk result (λ o. (before : _) → search.new.limits_met ≡ false → AreLastWithin D.meaning (D.meaning.world cx.old) before cx.old search.old.stack.items → AreCachedWithin D.meaning (D.meaning.world cx.old) before cx.old cache.old.entries.items → AreCachedWithin D.meaning (D.meaning.world cx.old) before cx.new cache.new.entries.items × IsWithin D.meaning (D.meaning.world cx.old) before (D.meaning.goal_of cx.old input) (D.meaning.answer_of cx.new o.result)) }
 {
     if depth == 0 {

@@ -1,12 +1,13 @@
 //! The search graph: what a caller sees of a search.
 
-ghost use Rattle.std.specs.Prelude.{◌≡◌, ℕ, ◌+◌, ◌≤◌, ◌↔◌, max, IfOk, IsOkAnd, IsTrue, true, false};
+ghost use Rattle.std.specs.Prelude.{◌≡◌, ℕ, ◌+◌, ◌≤◌, ◌↔◌, max, slice_get, IfOk, IsOkAnd, IsTrue, true, false};
 ghost use Rattle.search_steps.specs.Meaning.{Keeps};
+ghost use Rattle.search_steps.specs.Chain.{IsWithinDepth};
 ghost use Rattle.search_steps.specs.Computed.{IsGiven, IsGivenWithin, IsComputed, MakesMisstep};
 ghost use Rattle.search_graph.specs.Answer.{IsSound};
 ghost use Rattle.search_steps.specs.Plain.{IsPlain, IsNotPlain};
 ghost use Rattle.search_graph.specs.Bound.{frame_bound};
-ghost use Rattle.search_steps.specs.Cache.{AreJustified, HasConflict, answers_in};
+ghost use Rattle.search_steps.specs.Cache.{AreJustified, AreConsistent, HasConflict, answers_in};
 
 use crate::cache::GlobalCache;
 use crate::evaluation::evaluate;
@@ -104,6 +105,7 @@ impl<D: Delegate> SearchGraph<D> {
         // After a refusal too.
         ensures empty { self.new.current_depth ≡ 0 }
         ensures cache { AreJustified D.meaning cx.new cache.new }
+        ensures consistent { AreConsistent cache.new }
 
         ensures answer { IfOk result (λ r. IsSound D.meaning (D.meaning.world cx.old) (D.meaning.goal_of cx.old input) cx.new r) }
         ensures plain { IfOk result (λ r. (a : _) → IsPlain D.meaning (D.meaning.world cx.old) (self.old.root_depth + 1) (D.meaning.goal_of cx.old input) a → a ≡ D.meaning.answer_of cx.new r) }
@@ -116,11 +118,16 @@ impl<D: Delegate> SearchGraph<D> {
         ensures full { result ≡ Err GraphFault.Full → D.meaning.IsFull cx.new }
 
         ensures frames { (width : ℕ) → (D.meaning.number_of (D.meaning.world cx.old) (D.meaning.goal_of cx.old input) ≤ width) → self.new.frames ≤ self.old.frames + frame_bound (max D.FIXPOINT_STEP_LIMIT 1) width self.old.root_depth }
+
+        // The result of a goal that the cache holds, and that it may use, costs no frame.
+        ensures cached { (place : ℕ) (k : _) → slice_get cache.old place ≡ Some k → k.input ≡ input → IsWithinDepth k.overflowed k.depth self.old.root_depth → (self.new.frames ≡ self.old.frames) × (cache.new ≡ cache.old) }
+
         ensures depth { self.new.root_depth ≡ self.old.root_depth }
 
-        // A limit that was met is noted, after a refusal too: where none was, no overflow has a part in the answer, but for
-        // those that the cache held before.
+        // A limit that was met is noted, after a refusal too, and none is for a goal that plain recursion answers within the
+        // depth. Where none was, no overflow has a part in the answer, but for those that the cache held before.
         ensures noted { self.old.limits_met ≡ true → self.new.limits_met ≡ true }
+        ensures no_limit { self.old.limits_met ≡ false → self.new.limits_met ≡ true → IsNotPlain D.meaning (D.meaning.world cx.old) (self.old.root_depth + 1) (D.meaning.goal_of cx.old input) }
         ensures limits { IfOk result (λ r. self.new.limits_met ≡ false → IsComputed D.meaning (D.meaning.world cx.old) (IsGivenWithin D.meaning (D.meaning.world cx.old) (answers_in D.meaning cx.old cache.old)) (D.meaning.goal_of cx.old input) (D.meaning.answer_of cx.new r)) }
     {
         let depth = self.root_depth;

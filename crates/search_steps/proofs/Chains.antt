@@ -31,7 +31,7 @@ module _ {X : Type 0} where
   take_left (y ∷ xs) x (suc k) h = ap (◌∷◌ y) (take_left xs x k (omega arith))
 
   -- an element after one more is put at the end
-  push_cases : (xs : List X) (x y : X) (i : ℕ) → slice_get (xs ++ x ∷ []) i ≡ Some y → ((i < length xs) × (slice_get xs i ≡ Some y)) ⊎ ((i ≡ length xs) × (x ≡ y))
+  pub push_cases : (xs : List X) (x y : X) (i : ℕ) → slice_get (xs ++ x ∷ []) i ≡ Some y → ((i < length xs) × (slice_get xs i ≡ Some y)) ⊎ ((i ≡ length xs) × (x ≡ y))
   push_cases [] x y zero h = inr (refl, same_Some x y h)
   push_cases [] x y (suc i) h = absurd (none-some y h)
   push_cases (z ∷ xs) x y zero h = inl (omega arith, h)

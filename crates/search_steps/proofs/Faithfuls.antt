@@ -37,7 +37,7 @@ module _ {C I R F : Type 0} (m : Meaning C I R F) where
   Descends-less : (w : m.World) (limit less : ℕ) (g h : m.Goal) → less ≤ limit → Descends m w limit g h → Descends m w less g h
   Descends-less w limit less g h l d n b within p = d n b (omega arith) p
 
-  AllDescend-higher : (w : m.World) (limit low high : ℕ) (path : List (m.Goal × PathKind)) (g : m.Goal) → low ≤ high → AllDescend m w limit low path g → AllDescend m w limit high path g
+  pub AllDescend-higher : (w : m.World) (limit low high : ℕ) (path : List (m.Goal × PathKind)) (g : m.Goal) → low ≤ high → AllDescend m w limit low path g → AllDescend m w limit high path g
   AllDescend-higher w limit low high [] g h d = d
   AllDescend-higher w limit low high (q ∷ path) g h d = ((λ l. d.0 (omega arith)), AllDescend-higher w limit low high path g h d.1)
 
@@ -143,6 +143,10 @@ module _ {C I R F : Type 0} (m : Meaning C I R F) where
   faithful_at_zero w before path g a low reads limit h d zero b within p = absurd p
   faithful_at_zero w before path g a low reads limit h d (suc n) b within p =
       elim h [ inl l ↦ absurd (let z = cond_zero before in let k : limit ≤ 0 = rw z at l in omega arith) | inr y ↦ absurd (let e : true ≡ false = y in cc) ]
+
+  pub not_plain_at_zero : (w : m.World) (before : Bool) (limit : ℕ) (g : m.Goal) → limit ≤ cond before 0 0 → IsNotPlain m w limit g
+  not_plain_at_zero w before limit g h zero b within p = p
+  not_plain_at_zero w before limit g h (suc n) b within p = let z = cond_zero before in let k : limit ≤ 0 = rw z at h in omega arith
 
   -- what isn't plain is answered in any way
   pub faithful_not_plain : (w : m.World) (reach : ℕ) (path : List (m.Goal × PathKind)) (g : m.Goal) (a : m.Answer) (overflowed : Bool) (low : ℕ) (reads : List CycleHead)

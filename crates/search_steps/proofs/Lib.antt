@@ -6,3 +6,4 @@ pub mod Errors
 pub mod Caches
 pub mod Places
 pub mod Chains
+pub mod Numbers

@@ -14,6 +14,14 @@ pub unnoted : (old new : Bool) → (old ≡ true → new ≡ true) → new ≡ f
 unnoted true new kept h = sym (kept refl) ∙ h
 unnoted false new kept h = refl
 
+-- what was noted in the end was noted before or then
+pub either_noted : {P : Type 0} (old new : Bool) → (old ≡ true → P) → (old ≡ false → new ≡ true → P) → new ≡ true → P
+either_noted true new before then_noted h = before refl
+either_noted false new before then_noted h = then_noted refl h
+
+pub not_both : {P : Type 0} (b : Bool) → b ≡ false → b ≡ true → P
+not_both b off on = absurd (let e : false ≡ true = sym off ∙ on in cc)
+
 MatchOption-both : {A : Type 0} (o : Option A) (P Q S : A → Type 0) → ((x : A) → P x → Q x → S x) → MatchOption o (Unit {0}) P → MatchOption o (Unit {0}) Q → MatchOption o (Unit {0}) S
 MatchOption-both None P Q S f p q = tt
 MatchOption-both (Some x) P Q S f p q = f x p q

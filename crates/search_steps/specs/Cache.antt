@@ -1,5 +1,6 @@
 -- What a caller sees of a cache.
-use Rattle.std.specs.Prelude.{◌≡◌, ◌⊎◌, ℕ, Bool, List, [], ◌∷◌}
+use Rattle.std.specs.Prelude.{◌≡◌, ◌⊎◌, ℕ, Bool, true, List, [], ◌∷◌, Some, slice_get}
+use Rattle.std.specs.List.{position}
 use Rattle.search_paths.specs.declared.path_kind.PathKind.TheVariants.{Inductive}
 use Rattle.search_steps.specs.declared.cache.CacheEntry.{CacheEntry}
 use Rattle.search_steps.specs.Meaning.{Meaning}
@@ -20,6 +21,24 @@ known_result e = record { input = e.input; result = e.result; depth = e.depth; o
 abbrev pub known_results : {I R : Type 0} → List (CacheEntry I R) → List (KnownResult I R)
 known_results [] = []
 known_results (e ∷ es) = known_result e ∷ known_results es
+
+-- a result of the goal that is of one kind with another: both are successes, or both overflows by depth at this depth
+pub record IsAlike {I R : Type 0} (input : I) (depth : ℕ) (overflowed : Bool) (k : KnownResult I R) : Type 0 where
+  pub same : k.input ≡ input
+  pub kind : k.overflowed ≡ overflowed
+  pub at : overflowed ≡ true → k.depth ≡ depth
+
+-- no two results of one goal and one kind differ
+abbrev pub AreConsistent : {I R : Type 0} → List (KnownResult I R) → Type 0
+AreConsistent {I} {R} ks = (i j : ℕ) (k l : KnownResult I R) → slice_get ks i ≡ Some k → slice_get ks j ≡ Some l → IsAlike l.input l.depth l.overflowed k → k.result ≡ l.result
+
+module _ {I : Type 0} (eq : I → I → Bool) where
+  -- a goal's number is its place among those that were asked
+  abbrev pub IsNumberOf : List I → I → ℕ → Type 0
+  IsNumberOf goals input number = position (eq input) goals ≡ Some number
+
+  abbrev pub KeepsNumbers : List I → List I → Type 0
+  KeepsNumbers old new = (input : I) (number : ℕ) → IsNumberOf old input number → IsNumberOf new input number
 
 module _ {C I R F : Type 0} (m : Meaning C I R F) where
   -- a result that rests on no stack: it covers its goal, a yes has a proof, and it is that of plain recursion

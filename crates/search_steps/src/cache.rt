@@ -9,7 +9,7 @@ ghost use Rattle.search_steps.specs.Meaning.{Keeps};
 ghost use Rattle.search_steps.specs.Plain.{IsNotPlain};
 ghost use Rattle.search_steps.specs.Faithful.{IsKept};
 ghost use Rattle.search_steps.specs.Stack.{IsProvisional, AreCached, IsWithin, AreCachedWithin};
-ghost use Rattle.search_steps.specs.Cache.{known_results, HasConflict};
+ghost use Rattle.search_steps.specs.Cache.{known_result, known_results, HasConflict, IsAlike, AreConsistent, IsNumberOf, KeepsNumbers};
 
 use crate::delegate::{Cx, Delegate, InputOf, ResultOf};
 use indexmap::{IndexMap, IndexSet};
@@ -75,6 +75,8 @@ pub struct CachedResults<D: Delegate> {
     pub entries: Vec<CacheEntry<InputOf<D>, ResultOf<D>>>,
     ghost listed: { (number : ℕ) → get_or newest.items number None ≡ newest_of entries.items number } by { Prim.hlevel props },
     ghost linked: { AreLinked entries.items } by { Prim.hlevel props },
+    pub ghost numbered: { (place : ℕ) (e : _) → slice_get entries.items place ≡ Some e → IsNumberOf D.Cx.Input.eq goals.keys e.input e.number } by { Prim.hlevel props },
+    pub ghost consistent: { AreConsistent (known_results entries.items) } by { Prim.hlevel props },
 }
 
 impl<D: Delegate> Drop for CachedResults<D> {
@@ -105,6 +107,8 @@ impl<D: Delegate> CachedResults<D> {
     /// The number of a goal, by one hash of its input unless it is new. It is refused as `copy_input` is.
     pub fn number_of(&mut self, cx: &D::Cx, input: &InputOf<D>) -> Result<usize, GraphFault>
         ensures number { IfOk result (λ number. slice_get self.new.goals.keys number ≡ Some input.now) }
+        ensures place { IfOk result (λ number. IsNumberOf D.Cx.Input.eq self.new.goals.keys input.now number) }
+        ensures others { KeepsNumbers D.Cx.Input.eq self.old.goals.keys self.new.goals.keys }
         ensures goals { OnOk result (self.new.goals.keys ≡ insert_key D.Cx.Input.eq self.old.goals.keys input.now) }
         ensures err { OnErr result (self.new.goals.keys ≡ self.old.goals.keys) }
         ensures entries { self.new.entries ≡ self.old.entries }
@@ -244,7 +248,8 @@ impl<D: Delegate> CachedResults<D> {
         depth: usize,
         encountered_overflow: bool,
     ) -> Option<usize>
-        ensures { IfSome result (λ place. (e : _) × (slice_get self.now.entries.items place ≡ Some e) × (e.input ≡ input.now) × (e.encountered_overflow ≡ encountered_overflow) × (e.encountered_overflow ≡ true → e.depth ≡ depth)) }
+        ensures found { IfSome result (λ place. (e : _) × (slice_get self.now.entries.items place ≡ Some e) × (e.input ≡ input.now) × (e.encountered_overflow ≡ encountered_overflow) × (e.encountered_overflow ≡ true → e.depth ≡ depth)) }
+        ensures none { IfNone result ((place : ℕ) (e : _) → slice_get self.now.entries.items place ≡ Some e → e.number ≡ number → IsAlike input.now depth encountered_overflow (known_result e) → ⊥) }
     {
         let mut next = self.newest_of(number);
         for _ in 0..self.entries.len() {
@@ -273,7 +278,9 @@ impl<D: Delegate> CachedResults<D> {
         depth: usize,
         encountered_overflow: bool,
     ) -> bool
-        ensures { result ≡ true → (place : ℕ) × (e : _) × (slice_get self.now.entries.items place ≡ Some e) × (e.input ≡ input.now) × (e.encountered_overflow ≡ encountered_overflow) × (D.Cx.Result.eq e.result found.now ≡ false) }
+        requires number { IsNumberOf D.Cx.Input.eq self.now.goals.keys input.now number }
+        ensures other { result ≡ true → (place : ℕ) × (e : _) × (slice_get self.now.entries.items place ≡ Some e) × (e.input ≡ input.now) × (e.encountered_overflow ≡ encountered_overflow) × (D.Cx.Result.eq e.result found.now ≡ false) }
+        ensures none { result ≡ false → (place : ℕ) (e : _) → slice_get self.now.entries.items place ≡ Some e → IsAlike input.now depth encountered_overflow (known_result e) → e.result ≡ found.now }
     {
         match self.find_alike(number, input, depth, encountered_overflow) {
             Some(place) => {
@@ -297,11 +304,13 @@ impl<D: Delegate> CachedResults<D> {
     ) -> Result<usize, GraphFault>
         requires cache { AreCached D.meaning (D.meaning.world cx.now) cx.now self.old.entries.items }
         requires input { D.meaning.IsInput cx.now input }
+        requires number { IsNumberOf D.Cx.Input.eq self.old.goals.keys input number }
         requires result { IsProvisional D.meaning (D.meaning.world cx.now) [] (D.meaning.goal_of cx.now input, PathKind.Inductive) 0 cx.now found.now }
         requires kept { IsKept D.meaning (D.meaning.world cx.now) (D.meaning.goal_of cx.now input) (D.meaning.answer_of cx.now found.now) depth encountered_overflow }
         ensures place { IfOk result (λ place. place ≡ length self.old.entries.items) }
         ensures kept { OnOk result ((e : _) × (self.new.entries.items ≡ self.old.entries.items ++ e ∷ []) × (e.input ≡ input) × (e.result ≡ found.now) × (e.depth ≡ depth) × (e.encountered_overflow ≡ encountered_overflow) × (e.number ≡ number)) }
         ensures err { OnErr result (self.new.entries.items ≡ self.old.entries.items) }
+        ensures goals { self.new.goals ≡ self.old.goals }
         ensures cache { AreCached D.meaning (D.meaning.world cx.now) cx.now self.new.entries.items }
         ensures within { OnOk result ((before : _) → AreCachedWithin D.meaning (D.meaning.world cx.now) before cx.now self.old.entries.items → IsWithin D.meaning (D.meaning.world cx.now) before (D.meaning.goal_of cx.now input) (D.meaning.answer_of cx.now found.now) → AreCachedWithin D.meaning (D.meaning.world cx.now) before cx.now self.new.entries.items) }
         ensures no_conflict { result ≡ Err GraphFault.Conflict → (limit : ℕ) → (limit ≤ depth + 1) ⊎ (encountered_overflow ≡ false) → IsNotPlain D.meaning (D.meaning.world cx.now) limit (D.meaning.goal_of cx.now input) }
@@ -343,7 +352,8 @@ fn make_room(newest: &mut Vec<Option<usize>>, number: usize) -> Result<(), Alloc
 
 /// Whether two overflows had one depth; successes are alike at any.
 fn is_alike(encountered_overflow: bool, one: usize, other: usize) -> bool
-    ensures { result ≡ true → encountered_overflow ≡ true → one ≡ other }
+    ensures alike { result ≡ true → encountered_overflow ≡ true → one ≡ other }
+    ensures apart { (encountered_overflow ≡ true → one ≡ other) → result ≡ true }
 {
     !encountered_overflow || one == other
 }

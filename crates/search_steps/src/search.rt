@@ -5,7 +5,7 @@ ghost use Rattle.std.proofs.Props.{props};
 ghost use Rattle.indexmap.specs.IndexMap.{get};
 ghost use Rattle.search_steps.specs.Chain.{IsUsable};
 ghost use Rattle.search_steps.specs.Meaning.{Keeps};
-ghost use Rattle.search_steps.specs.Cache.{known_results, HasConflict};
+ghost use Rattle.search_steps.specs.Cache.{known_results, HasConflict, IsNumberOf};
 ghost use Rattle.search_steps.specs.Plain.{IsNotPlain};
 ghost use Rattle.search_steps.specs.Faithful.{AllDescend, IsFaithful, IsKept};
 ghost use Rattle.search_steps.specs.Stack.{kind_after, place_of, oldest_of, path_onto, IsStack, IsAnswer, IsProvisional, IsSettled, AreCached, IsWithin, AreLastWithin, AreCachedWithin};
@@ -337,11 +337,13 @@ pub fn finish<D: Delegate>(
 ) -> Evaluation<D>
     requires cache { AreCached D.meaning (D.meaning.world cx.now) cx.now cache.old.entries.items }
     requires input { D.meaning.IsInput cx.now input }
+    requires number { IsNumberOf D.Cx.Input.eq cache.old.goals.keys input number }
     requires alone { index ≤ evaluation.dependencies.lowest → IsProvisional D.meaning (D.meaning.world cx.now) [] (D.meaning.goal_of cx.now input, PathKind.Inductive) 0 cx.now evaluation.result }
     requires kept { index ≤ evaluation.dependencies.lowest → IsKept D.meaning (D.meaning.world cx.now) (D.meaning.goal_of cx.now input) (D.meaning.answer_of cx.now evaluation.result) depth evaluation.dependencies.encountered_overflow }
     ensures kept { OnOk result (index ≤ evaluation.dependencies.lowest → (e : _) × (cache.new.entries.items ≡ cache.old.entries.items ++ e ∷ []) × (e.input ≡ input) × (e.result ≡ evaluation.result) × (e.depth ≡ cond evaluation.dependencies.encountered_overflow depth evaluation.dependencies.required_depth) × (e.encountered_overflow ≡ evaluation.dependencies.encountered_overflow) × (e.number ≡ number)) }
     ensures unkept { OnOk result (evaluation.dependencies.lowest < index → cache.new.entries.items ≡ cache.old.entries.items) }
     ensures err { OnErr result ((cache.new.entries.items ≡ cache.old.entries.items) ⊎ ((e : _) × (cache.new.entries.items ≡ cache.old.entries.items ++ e ∷ []))) }
+    ensures goals { cache.new.goals ≡ cache.old.goals }
     ensures cache { AreCached D.meaning (D.meaning.world cx.now) cx.now cache.new.entries.items }
     ensures same { IfOk result (λ o. o.result ≡ evaluation.result) }
     ensures lowest { IfOk result (λ o. o.dependencies.lowest ≡ evaluation.dependencies.lowest) }

@@ -1,18 +1,21 @@
-use Rattle.std.proofs.Common.{◌⊎◌, inl, inr, cond, false, rules, ◌≡◌, ℕ, ◌+◌, ◌*◌, ◌<◌, ◌≤◌, [], ◌∷◌, ◌++◌, length, max, slice_set, true, sym, ◌∙◌, ap, refl, arith}
+use Rattle.std.proofs.Common.{subst, Some, slice_get, ◌⊎◌, inl, inr, cond, false, rules, ◌≡◌, ℕ, ◌+◌, ◌*◌, ◌<◌, ◌≤◌, [], ◌∷◌, ◌++◌, length, max, slice_set, true, sym, ◌∙◌, ap, refl, arith}
 use Rattle.std.proofs.lemmas.Result.{IfOk-weaker, err_from_is_err_and}
 use Rattle.search_paths.specs.declared.path_kind.PathKind.TheVariants.{Inductive}
 use Rattle.search_steps.specs.declared.delegate.Request.TheVariants.{Evaluate, EnterCandidate, FinishCandidate, IgnoreCandidate, Done}
 use Rattle.search_steps.specs.declared.delegate.Reply.TheVariants.{Entered, Finished, Ignored}
 use Rattle.search_steps.specs.Meaning.{finished, ignoring, answer_count}
 use Rattle.search_steps.specs.Stack.{question_of, path_onto}
+use Rattle.search_steps.specs.Cache.{IsNumberOf}
+use Rattle.search_steps.specs.Chain.{IsAskedUnder}
 use Rattle.search_steps.specs.Computed.{IsGivenWithin, nothing, also, below}
 use Rattle.search_graph.specs.Bound.{question_bound}
 use Rattle.search_steps.specs.Plain.{IsNotPlain}
 use Rattle.search_steps.specs.Faithful.{AllDescend}
 use Rattle.search_steps.proofs.Errors.{err_passed}
+use Rattle.search_steps.proofs.Numbers.{one_number}
 use Rattle.search_steps.proofs.Graphs.{IsStack-now, path-now, IsEntry-now, IsProvisional-then, IsAnswer-then, answer_of_run, running_next_counted, running_first_counted, running_other, running_done, asked_now, hears_other, hears_next, misstep_now, due_next, due_other, Keeps-refl, Keeps-trans, IsStack-push, path_onto-append, length-path_onto, path_length, AreCached-later, provisional_alone, overflow_answers, overflow_stands}
-use Rattle.search_steps.proofs.Faithfuls.{true_not_false, conflict_up, plain_first, plain_next_at, plain_entered, plain_finished, plain_ignored, plain_done, untouched_first, untouched_not_plain, faithful_not_plain, faithful_taken, faithful_at_zero, kept_of_faithful, IsFaithful-less, reach_within}
-use Rattle.search_steps.proofs.Limits.{unnoted, told_within, AreLastWithin-now, AreLastWithin-push, AreCachedWithin-keeps}
+use Rattle.search_steps.proofs.Faithfuls.{true_not_false, not_plain_at_zero, AllDescend-higher, conflict_up, plain_first, plain_next_at, plain_entered, plain_finished, plain_ignored, plain_done, untouched_first, untouched_not_plain, faithful_not_plain, faithful_taken, faithful_at_zero, kept_of_faithful, IsFaithful-less, reach_within}
+use Rattle.search_steps.proofs.Limits.{unnoted, either_noted, not_both, told_within, AreLastWithin-now, AreLastWithin-push, AreCachedWithin-keeps}
 use Rattle.search_graph.proofs.Bounds.{frame_bound_runs, nested_within, one_more_run, runs_within, done_within, asked_within, asked_more}
 use Rattle.search_graph.proofs.evaluation.+search.Goals as goal
 
@@ -111,6 +114,7 @@ evaluate_new-loop-run-init g t c =
     record {
       keeps = Keeps-refl m first;
       cache = c.requires.cache;
+      goals = λ x n h. h;
       stack = refl;
       place = c.len-index.ensures ∙ c.args.search.now.stack.ok.0;
       input = c.new_entry-entry.ensures.input;
@@ -121,6 +125,7 @@ evaluate_new-loop-run-init g t c =
           c.new-dependencies.ensures.within (c.new-dependencies.ensures.lowest ∙ sym long) c.new-dependencies.ensures.unread;
       frames = λ width h. omega arith;
       limits = λ h. h;
+      noted = λ off on. not_both c.args.search.now.limits_met off on;
       within = λ before no last cached. (cached, rw c.new_entry-entry.ensures.first tt);
       again = λ r. absurd (omega arith);
     }
@@ -153,6 +158,7 @@ evaluate_new-loop-run-preserved g t c =
     record {
       keeps = keeps;
       cache = c.run_once.ensures.cache;
+      goals = λ x n h. c.run_once.ensures.goals x n (inv.goals x n h);
       stack = c.in_ok-back.ensures.stack ∙ inv.stack;
       place = inv.place;
       input = ap (λ e. e.input) c.next_run-entry.ensures ∙ input;
@@ -163,6 +169,8 @@ evaluate_new-loop-run-preserved g t c =
       frames = λ width h. one_more_run c.args.search.now.frames c.loop-run.search.frames c.run_once.new.search.frames c.loop-run._run (1 + width * question_bound limit width c.args.depth)
           (inv.frames width h) (c.run_once.ensures.frames width (rw (inv.keeps.world, inv.input, goal_is) h));
       limits = λ h. c.run_once.ensures.limits (inv.limits h);
+      noted = λ off. either_noted c.loop-run.search.limits_met c.run_once.new.search.limits_met (inv.noted off)
+          (rw (inv.keeps.world, path-now m first c.loop-run.cx es c.loop-run.search.stack.items inv.keeps inv.stack c.requires.stack, inv.input, goal_is) at c.run_once.ensures.no_limit);
       within = λ before no last cached.
           let told = told_within m first c.loop-run.cx c.run_once.new.cx es c.loop-run.search.stack.items inv.keeps inv.stack c.requires.stack before c.args.input c.loop-run.entry c.in_ok-back.outcome.result inv.input c.requires.input
           c.loop-run.cache.entries.items c.run_once.new.cache.entries.items (c.in_ok-back.ensures.within before no) last
@@ -533,6 +541,7 @@ run_once-loop-request-init g t c =
     record {
       keeps = keeps;
       cache = AreCached-later m first c.step.new.cx c.args.cache.now.entries.items keeps c.requires.cache;
+      goals = λ x n h. h;
       stack = c.in_ok-begin.ensures.stack;
       room = c.requires.room;
       running = start.0;
@@ -540,6 +549,7 @@ run_once-loop-request-init g t c =
       listed = rw start.1 c.new-candidates.ensures.finished;
       frames = λ width h. rw start.1 (omega (arith, c.begin.ensures.frames));
       limits = λ h. c.begin.ensures.limits ∙ h;
+      noted = λ off on. not_both c.args.search.now.limits_met off (sym c.begin.ensures.limits ∙ on);
       within = rw start.1 (λ before no last own cached.
           (AreCachedWithin-keeps m w before w first c.step.new.cx c.args.cache.now.entries.items keeps c.requires.cache cached, also nothing refl tt));
       plain = rw start.1 (plain_first m w (c.args.depth + 1) path x c.args.earlier.encountered_overflow c.args.earlier.lowest c.args.earlier.heads.items c.requires.earlier);
@@ -569,9 +579,11 @@ run_once-loop-request-preserved-in-Evaluate g t c =
     c.loop-request.cx c.ask.new.cx c.step-in-Evaluate.new.cx c.loop-request.frame c.step-in-Evaluate.new.frame c.loop-request.request c.in-Evaluate.input c.in-Evaluate.step_kind nested.result c.in_ok-request-in-Evaluate.request
     c.gather.new.self.lowest c.in-Evaluate.is c.in_ok-gather-in-Evaluate.ensures.lowest keeps.world c.ask.ensures.keeps inv.running (rw path_onto-append at answer) c.in_ok-request-in-Evaluate.ensures.steps in
     let faithful = rw (inv.keeps.world, path-now m first c.loop-request.cx (es ++ c.args.entry ∷ []) c.loop-request.search.stack.items inv.keeps inv.stack pushed, path_onto-append m first es (c.args.entry ∷ []) []) at c.in_ok-nested-in-Evaluate.ensures.faithful in
+    let no_limit = rw (inv.keeps.world, path-now m first c.loop-request.cx (es ++ c.args.entry ∷ []) c.loop-request.search.stack.items inv.keeps inv.stack pushed, path_onto-append m first es (c.args.entry ∷ []) []) at c.ask.ensures.no_limit in
     record {
       keeps = Keeps-trans m first c.ask.new.cx c.step-in-Evaluate.new.cx keeps c.step-in-Evaluate.ensures.keeps;
       cache = AreCached-later m c.ask.new.cx c.step-in-Evaluate.new.cx c.ask.new.cache.entries.items c.step-in-Evaluate.ensures.keeps c.ask.ensures.cache;
+      goals = λ x n h. c.ask.ensures.goals x n (inv.goals x n h);
       stack = c.in_ok-nested-in-Evaluate.ensures.stack ∙ inv.stack;
       room = let least = c.in_ok-gather-in-Evaluate.ensures.lowest in let before = inv.room in omega arith;
       running = next.0;
@@ -580,6 +592,9 @@ run_once-loop-request-preserved-in-Evaluate g t c =
       frames = λ width h. rw next.1 (asked_more c.args.search.now.frames c.loop-request.search.frames c.ask.new.search.frames (question_bound limit width c.args.depth) (answer_count m inv.running.heard)
           (inv.frames width h) (c.ask.ensures.frames width (rw inv.keeps.world (omega arith))));
       limits = λ h. c.ask.ensures.limits (inv.limits h);
+      noted = λ off. either_noted c.loop-request.search.limits_met c.ask.new.search.limits_met (inv.noted off)
+          (λ before now. conflict_up m w c.args.depth path x (m.goal_of c.loop-request.cx c.in-Evaluate.input) c.args.entry.step_kind c.in-Evaluate.step_kind c.loop-request.dependencies.encountered_overflow c.loop-request.dependencies.lowest c.loop-request.dependencies.heads.items inv.running.heard
+          (sym request) inv.plain (no_limit before now));
       within = rw next.1 (λ before no last own cached.
           let had = inv.within before (unnoted c.loop-request.search.limits_met c.ask.new.search.limits_met c.ask.ensures.limits no) last own cached in
           let stack = AreLastWithin-now m w before w first c.loop-request.cx (es ++ c.args.entry ∷ []) c.loop-request.search.stack.items inv.keeps inv.stack pushed (AreLastWithin-push m w before first es c.args.entry last own) in
@@ -712,6 +727,7 @@ run_once-loop-request-preserved-in-EnterCandidate g t c =
     record {
       keeps = Keeps-trans m first c.loop-request.cx c.step-in-EnterCandidate.new.cx inv.keeps c.step-in-EnterCandidate.ensures.keeps;
       cache = AreCached-later m c.loop-request.cx c.step-in-EnterCandidate.new.cx c.loop-request.cache.entries.items c.step-in-EnterCandidate.ensures.keeps inv.cache;
+      goals = inv.goals;
       stack = inv.stack;
       room = inv.room;
       running = next.0;
@@ -719,6 +735,7 @@ run_once-loop-request-preserved-in-EnterCandidate g t c =
       listed = rw next.1 (ap (λ z. z.items) c.enter.ensures.finished ∙ inv.listed);
       frames = λ width h. rw next.1 (inv.frames width h);
       limits = inv.limits;
+      noted = inv.noted;
       within = rw next.1 (λ before no last own cached.
           let had = inv.within before no last own cached in (
             AreCachedWithin-keeps m w before (m.world c.loop-request.cx) c.loop-request.cx c.step-in-EnterCandidate.new.cx c.loop-request.cache.entries.items c.step-in-EnterCandidate.ensures.keeps inv.cache had.0,
@@ -796,6 +813,7 @@ run_once-loop-request-preserved-in-FinishCandidate g t c =
     record {
       keeps = Keeps-trans m first c.loop-request.cx c.step-in-FinishCandidate.new.cx inv.keeps c.step-in-FinishCandidate.ensures.keeps;
       cache = AreCached-later m c.loop-request.cx c.step-in-FinishCandidate.new.cx c.loop-request.cache.entries.items c.step-in-FinishCandidate.ensures.keeps inv.cache;
+      goals = inv.goals;
       stack = inv.stack;
       room = inv.room;
       running = next.0;
@@ -803,6 +821,7 @@ run_once-loop-request-preserved-in-FinishCandidate g t c =
       listed = rw next.1 (c.in_ok-number-in-FinishCandidate.ensures.finished ∙ ap (λ z. z ++ false ∷ []) inv.listed);
       frames = λ width h. rw next.1 (inv.frames width h);
       limits = inv.limits;
+      noted = inv.noted;
       within = rw next.1 (λ before no last own cached.
           let had = inv.within before no last own cached in (
             AreCachedWithin-keeps m w before (m.world c.loop-request.cx) c.loop-request.cx c.step-in-FinishCandidate.new.cx c.loop-request.cache.entries.items c.step-in-FinishCandidate.ensures.keeps inv.cache had.0,
@@ -880,6 +899,7 @@ run_once-loop-request-preserved g t c =
     record {
       keeps = Keeps-trans m first c.loop-request.cx c.step-in-IgnoreCandidate.new.cx inv.keeps c.step-in-IgnoreCandidate.ensures.keeps;
       cache = AreCached-later m c.loop-request.cx c.step-in-IgnoreCandidate.new.cx c.loop-request.cache.entries.items c.step-in-IgnoreCandidate.ensures.keeps inv.cache;
+      goals = inv.goals;
       stack = inv.stack;
       room = inv.room;
       running = next.0;
@@ -887,6 +907,7 @@ run_once-loop-request-preserved g t c =
       listed = rw next.1 (c.in_ok-ignore-in-IgnoreCandidate.ensures.ignored.1 ∙ ap (λ z. slice_set z c.in-IgnoreCandidate.number true) inv.listed ∙ ap (λ z. ignoring m z (finished m w x inv.running.heard)) request);
       frames = λ width h. rw next.1 (inv.frames width h);
       limits = inv.limits;
+      noted = inv.noted;
       within = rw next.1 (λ before no last own cached.
           let had = inv.within before no last own cached in (
             AreCachedWithin-keeps m w before (m.world c.loop-request.cx) c.loop-request.cx c.step-in-IgnoreCandidate.new.cx c.loop-request.cache.entries.items c.step-in-IgnoreCandidate.ensures.keeps inv.cache had.0,
@@ -1082,3 +1103,243 @@ run_once-returns-in-Done-clause-within g t c =
     λ before no last own cached.
     let had = inv.within before (sym c.pop.ensures.limits ∙ no) last own cached in
     (had.0, record { how = inr (inv.running.heard, had.1, sym request, sym inv.opened ∙ c.if-candidates.false) })
+
+pub evaluate_new-finish-requires-clause-number : goal.evaluate_new-finish-requires-clause-number
+evaluate_new-finish-requires-clause-number g t c =
+    let inv = c.loop-run.invariant in
+    let input : c.in_ok-back.back.input ≡ c.args.input = ap (λ e. e.input) c.in_ok-back.ensures.entry ∙ inv.input in
+    rw input (c.run_once.ensures.goals c.args.input c.args.number (inv.goals c.args.input c.args.number c.requires.number))
+
+pub evaluate_new-finish-requires-2-clause-number : goal.evaluate_new-finish-requires-2-clause-number
+evaluate_new-finish-requires-2-clause-number g t c =
+    let inv = c.loop-run.invariant in
+    rw inv.input (inv.goals c.args.input c.args.number c.requires.number)
+
+pub evaluate-returns-in-None-clause-goals : goal.evaluate-returns-in-None-clause-goals
+evaluate-returns-in-None-clause-goals g t c = λ x n h. c.evaluate_new.ensures.goals x n (c.number_of.ensures.others x n h)
+
+pub evaluate_new-returns-in_err-back-clause-goals : goal.evaluate_new-returns-in_err-back-clause-goals
+evaluate_new-returns-in_err-back-clause-goals g t c = λ x n h. c.run_once.ensures.goals x n (c.loop-run.invariant.goals x n h)
+
+pub evaluate_new-returns-in_err-finished-clause-goals : goal.evaluate_new-returns-in_err-finished-clause-goals
+evaluate_new-returns-in_err-finished-clause-goals g t c = λ x n h. rw c.finish.ensures.goals (c.run_once.ensures.goals x n (c.loop-run.invariant.goals x n h))
+
+pub evaluate_new-returns-then-is_last_run-clause-goals : goal.evaluate_new-returns-then-is_last_run-clause-goals
+evaluate_new-returns-then-is_last_run-clause-goals g t c = λ x n h. rw c.finish.ensures.goals (c.run_once.ensures.goals x n (c.loop-run.invariant.goals x n h))
+
+pub evaluate_new-returns-clause-goals : goal.evaluate_new-returns-clause-goals
+evaluate_new-returns-clause-goals g t c = λ x n h. rw c.in_ok-finished-2.ensures.goals (c.loop-run.invariant.goals x n h)
+
+pub run_once-returns-in_err-nested-in-Evaluate-clause-goals : goal.run_once-returns-in_err-nested-in-Evaluate-clause-goals
+run_once-returns-in_err-nested-in-Evaluate-clause-goals g t c = λ x n h. c.ask.ensures.goals x n (c.loop-request.invariant.goals x n h)
+
+pub run_once-returns-in_err-gather-in-Evaluate-clause-goals : goal.run_once-returns-in_err-gather-in-Evaluate-clause-goals
+run_once-returns-in_err-gather-in-Evaluate-clause-goals g t c = λ x n h. c.ask.ensures.goals x n (c.loop-request.invariant.goals x n h)
+
+pub run_once-returns-in_err-request-in-Evaluate-clause-goals : goal.run_once-returns-in_err-request-in-Evaluate-clause-goals
+run_once-returns-in_err-request-in-Evaluate-clause-goals g t c = λ x n h. c.ask.ensures.goals x n (c.loop-request.invariant.goals x n h)
+
+pub ask-returns-then-depth-eq0-clause-no_limit : goal.ask-returns-then-depth-eq0-clause-no_limit
+ask-returns-then-depth-eq0-clause-no_limit g t c =
+    let m = g.D.Delegate.meaning in
+    let first = c.args.cx.now in
+    λ off on limit l d. not_plain_at_zero m (m.world first) c.args.overflowed limit (m.goal_of first c.args.input) (rw c.if-depth-eq0.true at l)
+
+pub ask-returns-clause-no_limit : goal.ask-returns-clause-no_limit
+ask-returns-clause-no_limit g t c =
+    let reach = reach_within c.args.overflowed c.args.depth c.nested_depth-nested.result c.nested_depth-nested.ensures.less in
+    λ off on limit l d. c.evaluate.ensures.no_limit off on limit (omega (arith, reach, l)) d
+
+pub evaluate-returns-in_err-number-clause-no_limit : goal.evaluate-returns-in_err-number-clause-no_limit
+evaluate-returns-in_err-number-clause-no_limit g t c = λ off on. not_both c.args.search.now.limits_met off on
+
+pub evaluate-returns-in-Some-clause-no_limit : goal.evaluate-returns-in-Some-clause-no_limit
+evaluate-returns-in-Some-clause-no_limit g t c = λ off on. not_both c.args.search.now.limits_met off on
+
+pub evaluate-returns-in_err-answer-in-Some-find_cycle-clause-no_limit : goal.evaluate-returns-in_err-answer-in-Some-find_cycle-clause-no_limit
+evaluate-returns-in_err-answer-in-Some-find_cycle-clause-no_limit g t c = λ off on. not_both c.args.search.now.limits_met off on
+
+pub evaluate-returns-in_err-push-in-Some-find_cycle-clause-no_limit : goal.evaluate-returns-in_err-push-in-Some-find_cycle-clause-no_limit
+evaluate-returns-in_err-push-in-Some-find_cycle-clause-no_limit g t c = λ off on. not_both c.args.search.now.limits_met off on
+
+pub evaluate-returns-in_err-add_goal-in-Some-find_cycle-clause-no_limit : goal.evaluate-returns-in_err-add_goal-in-Some-find_cycle-clause-no_limit
+evaluate-returns-in_err-add_goal-in-Some-find_cycle-clause-no_limit g t c = λ off on. not_both c.args.search.now.limits_met off on
+
+pub evaluate-returns-in_ok-add_goal-in-Some-find_cycle-clause-no_limit : goal.evaluate-returns-in_ok-add_goal-in-Some-find_cycle-clause-no_limit
+evaluate-returns-in_ok-add_goal-in-Some-find_cycle-clause-no_limit g t c = λ off on. not_both c.args.search.now.limits_met off on
+
+pub evaluate_new-returns-in_err-back-clause-no_limit : goal.evaluate_new-returns-in_err-back-clause-no_limit
+evaluate_new-returns-in_err-back-clause-no_limit g t c =
+    let m = g.D.Delegate.meaning in
+    let inv = c.loop-run.invariant in
+    let first = c.args.cx.now in
+    let es = c.args.search.now.stack.items in
+    let goal_is = (inv.keeps.inputs c.args.input c.requires.input).1 in
+    λ off. either_noted c.loop-run.search.limits_met c.run_once.new.search.limits_met (inv.noted off)
+    (rw (inv.keeps.world, path-now m first c.loop-run.cx es c.loop-run.search.stack.items inv.keeps inv.stack c.requires.stack, inv.input, goal_is) at c.run_once.ensures.no_limit)
+
+pub evaluate_new-returns-in_err-finished-clause-no_limit : goal.evaluate_new-returns-in_err-finished-clause-no_limit
+evaluate_new-returns-in_err-finished-clause-no_limit g t c =
+    let m = g.D.Delegate.meaning in
+    let inv = c.loop-run.invariant in
+    let first = c.args.cx.now in
+    let es = c.args.search.now.stack.items in
+    let goal_is = (inv.keeps.inputs c.args.input c.requires.input).1 in
+    λ off. either_noted c.loop-run.search.limits_met c.run_once.new.search.limits_met (inv.noted off)
+    (rw (inv.keeps.world, path-now m first c.loop-run.cx es c.loop-run.search.stack.items inv.keeps inv.stack c.requires.stack, inv.input, goal_is) at c.run_once.ensures.no_limit)
+
+pub evaluate_new-returns-then-is_last_run-clause-no_limit : goal.evaluate_new-returns-then-is_last_run-clause-no_limit
+evaluate_new-returns-then-is_last_run-clause-no_limit g t c =
+    let m = g.D.Delegate.meaning in
+    let inv = c.loop-run.invariant in
+    let first = c.args.cx.now in
+    let es = c.args.search.now.stack.items in
+    let goal_is = (inv.keeps.inputs c.args.input c.requires.input).1 in
+    λ off. either_noted c.loop-run.search.limits_met c.run_once.new.search.limits_met (inv.noted off)
+    (rw (inv.keeps.world, path-now m first c.loop-run.cx es c.loop-run.search.stack.items inv.keeps inv.stack c.requires.stack, inv.input, goal_is) at c.run_once.ensures.no_limit)
+
+pub evaluate_new-returns-in_err-answer-clause-no_limit : goal.evaluate_new-returns-in_err-answer-clause-no_limit
+evaluate_new-returns-in_err-answer-clause-no_limit g t c =
+    let m = g.D.Delegate.meaning in
+    let inv = c.loop-run.invariant in
+    let first = c.args.cx.now in
+    let w = m.world first in
+    let x = m.goal_of first c.args.input in
+    let path = path_onto m first c.args.search.now.stack.items [] in
+    let ran : 0 < c.loop-run._run = omega arith in
+    λ off on limit l d. inv.again ran limit (inl l) (AllDescend-higher m w limit 0 c.loop-run.dependencies.lowest path x (omega arith) d)
+
+pub evaluate_new-returns-in_err-finished-2-clause-no_limit : goal.evaluate_new-returns-in_err-finished-2-clause-no_limit
+evaluate_new-returns-in_err-finished-2-clause-no_limit g t c =
+    let m = g.D.Delegate.meaning in
+    let inv = c.loop-run.invariant in
+    let first = c.args.cx.now in
+    let w = m.world first in
+    let x = m.goal_of first c.args.input in
+    let path = path_onto m first c.args.search.now.stack.items [] in
+    let ran : 0 < c.loop-run._run = omega arith in
+    λ off on limit l d. inv.again ran limit (inl l) (AllDescend-higher m w limit 0 c.loop-run.dependencies.lowest path x (omega arith) d)
+
+pub evaluate_new-returns-clause-no_limit : goal.evaluate_new-returns-clause-no_limit
+evaluate_new-returns-clause-no_limit g t c =
+    let m = g.D.Delegate.meaning in
+    let inv = c.loop-run.invariant in
+    let first = c.args.cx.now in
+    let w = m.world first in
+    let x = m.goal_of first c.args.input in
+    let path = path_onto m first c.args.search.now.stack.items [] in
+    let ran : 0 < c.loop-run._run = omega arith in
+    λ off on limit l d. inv.again ran limit (inl l) (AllDescend-higher m w limit 0 c.loop-run.dependencies.lowest path x (omega arith) d)
+
+pub run_once-returns-in_err-frame-clause-no_limit : goal.run_once-returns-in_err-frame-clause-no_limit
+run_once-returns-in_err-frame-clause-no_limit g t c = λ off on. not_both c.args.search.now.limits_met off on
+
+pub run_once-returns-in_err-begin-clause-no_limit : goal.run_once-returns-in_err-begin-clause-no_limit
+run_once-returns-in_err-begin-clause-no_limit g t c = λ off on. not_both c.args.search.now.limits_met off (sym c.begin.ensures.limits ∙ on)
+
+pub run_once-returns-in_err-request-clause-no_limit : goal.run_once-returns-in_err-request-clause-no_limit
+run_once-returns-in_err-request-clause-no_limit g t c = λ off on. not_both c.args.search.now.limits_met off (sym c.begin.ensures.limits ∙ on)
+
+pub run_once-returns-in_err-nested-in-Evaluate-clause-no_limit : goal.run_once-returns-in_err-nested-in-Evaluate-clause-no_limit
+run_once-returns-in_err-nested-in-Evaluate-clause-no_limit g t c =
+    let m = g.D.Delegate.meaning in
+    let inv = c.loop-request.invariant in
+    let first = c.args.cx.now in
+    let es = c.args.search.now.stack.items in
+    let w = m.world first in
+    let x = m.goal_of first c.args.entry.input in
+    let path = path_onto m first es [] in
+    let request = asked_now m w (question_of m first c.args.entry ∷ path) x c.loop-request.dependencies.lowest c.loop-request.cx c.loop-request.frame c.loop-request.request (Evaluate c.in-Evaluate.input c.in-Evaluate.step_kind) c.in-Evaluate.is inv.keeps.world inv.running in
+    let pushed = IsStack-push m w [] first es c.args.entry c.requires.stack c.requires.entry in
+    let no_limit = rw (inv.keeps.world, path-now m first c.loop-request.cx (es ++ c.args.entry ∷ []) c.loop-request.search.stack.items inv.keeps inv.stack pushed, path_onto-append m first es (c.args.entry ∷ []) []) at c.ask.ensures.no_limit in
+    λ off. either_noted c.loop-request.search.limits_met c.ask.new.search.limits_met (inv.noted off)
+    (λ before now. conflict_up m w c.args.depth path x (m.goal_of c.loop-request.cx c.in-Evaluate.input) c.args.entry.step_kind c.in-Evaluate.step_kind c.loop-request.dependencies.encountered_overflow c.loop-request.dependencies.lowest c.loop-request.dependencies.heads.items inv.running.heard
+    (sym request) inv.plain (no_limit before now))
+
+pub run_once-returns-in_err-gather-in-Evaluate-clause-no_limit : goal.run_once-returns-in_err-gather-in-Evaluate-clause-no_limit
+run_once-returns-in_err-gather-in-Evaluate-clause-no_limit g t c =
+    let m = g.D.Delegate.meaning in
+    let inv = c.loop-request.invariant in
+    let first = c.args.cx.now in
+    let es = c.args.search.now.stack.items in
+    let w = m.world first in
+    let x = m.goal_of first c.args.entry.input in
+    let path = path_onto m first es [] in
+    let request = asked_now m w (question_of m first c.args.entry ∷ path) x c.loop-request.dependencies.lowest c.loop-request.cx c.loop-request.frame c.loop-request.request (Evaluate c.in-Evaluate.input c.in-Evaluate.step_kind) c.in-Evaluate.is inv.keeps.world inv.running in
+    let pushed = IsStack-push m w [] first es c.args.entry c.requires.stack c.requires.entry in
+    let no_limit = rw (inv.keeps.world, path-now m first c.loop-request.cx (es ++ c.args.entry ∷ []) c.loop-request.search.stack.items inv.keeps inv.stack pushed, path_onto-append m first es (c.args.entry ∷ []) []) at c.ask.ensures.no_limit in
+    λ off. either_noted c.loop-request.search.limits_met c.ask.new.search.limits_met (inv.noted off)
+    (λ before now. conflict_up m w c.args.depth path x (m.goal_of c.loop-request.cx c.in-Evaluate.input) c.args.entry.step_kind c.in-Evaluate.step_kind c.loop-request.dependencies.encountered_overflow c.loop-request.dependencies.lowest c.loop-request.dependencies.heads.items inv.running.heard
+    (sym request) inv.plain (no_limit before now))
+
+pub run_once-returns-in_err-request-in-Evaluate-clause-no_limit : goal.run_once-returns-in_err-request-in-Evaluate-clause-no_limit
+run_once-returns-in_err-request-in-Evaluate-clause-no_limit g t c =
+    let m = g.D.Delegate.meaning in
+    let inv = c.loop-request.invariant in
+    let first = c.args.cx.now in
+    let es = c.args.search.now.stack.items in
+    let w = m.world first in
+    let x = m.goal_of first c.args.entry.input in
+    let path = path_onto m first es [] in
+    let request = asked_now m w (question_of m first c.args.entry ∷ path) x c.loop-request.dependencies.lowest c.loop-request.cx c.loop-request.frame c.loop-request.request (Evaluate c.in-Evaluate.input c.in-Evaluate.step_kind) c.in-Evaluate.is inv.keeps.world inv.running in
+    let pushed = IsStack-push m w [] first es c.args.entry c.requires.stack c.requires.entry in
+    let no_limit = rw (inv.keeps.world, path-now m first c.loop-request.cx (es ++ c.args.entry ∷ []) c.loop-request.search.stack.items inv.keeps inv.stack pushed, path_onto-append m first es (c.args.entry ∷ []) []) at c.ask.ensures.no_limit in
+    λ off. either_noted c.loop-request.search.limits_met c.ask.new.search.limits_met (inv.noted off)
+    (λ before now. conflict_up m w c.args.depth path x (m.goal_of c.loop-request.cx c.in-Evaluate.input) c.args.entry.step_kind c.in-Evaluate.step_kind c.loop-request.dependencies.encountered_overflow c.loop-request.dependencies.lowest c.loop-request.dependencies.heads.items inv.running.heard
+    (sym request) inv.plain (no_limit before now))
+
+pub run_once-returns-in_err-enter-in-EnterCandidate-clause-no_limit : goal.run_once-returns-in_err-enter-in-EnterCandidate-clause-no_limit
+run_once-returns-in_err-enter-in-EnterCandidate-clause-no_limit g t c = c.loop-request.invariant.noted
+
+pub run_once-returns-in_err-request-in-EnterCandidate-clause-no_limit : goal.run_once-returns-in_err-request-in-EnterCandidate-clause-no_limit
+run_once-returns-in_err-request-in-EnterCandidate-clause-no_limit g t c = c.loop-request.invariant.noted
+
+pub run_once-returns-in_err-number-in-FinishCandidate-clause-no_limit : goal.run_once-returns-in_err-number-in-FinishCandidate-clause-no_limit
+run_once-returns-in_err-number-in-FinishCandidate-clause-no_limit g t c = c.loop-request.invariant.noted
+
+pub run_once-returns-in_err-request-in-FinishCandidate-clause-no_limit : goal.run_once-returns-in_err-request-in-FinishCandidate-clause-no_limit
+run_once-returns-in_err-request-in-FinishCandidate-clause-no_limit g t c = c.loop-request.invariant.noted
+
+pub run_once-returns-in_err-ignore-in-IgnoreCandidate-clause-no_limit : goal.run_once-returns-in_err-ignore-in-IgnoreCandidate-clause-no_limit
+run_once-returns-in_err-ignore-in-IgnoreCandidate-clause-no_limit g t c = c.loop-request.invariant.noted
+
+pub run_once-returns-in_err-request-in-IgnoreCandidate-clause-no_limit : goal.run_once-returns-in_err-request-in-IgnoreCandidate-clause-no_limit
+run_once-returns-in_err-request-in-IgnoreCandidate-clause-no_limit g t c = c.loop-request.invariant.noted
+
+pub run_once-returns-then-candidates-clause-no_limit : goal.run_once-returns-then-candidates-clause-no_limit
+run_once-returns-then-candidates-clause-no_limit g t c = c.loop-request.invariant.noted
+
+pub run_once-returns-in-Done-clause-no_limit : goal.run_once-returns-in-Done-clause-no_limit
+run_once-returns-in-Done-clause-no_limit g t c = λ off on. c.loop-request.invariant.noted off (sym c.pop.ensures.limits ∙ on)
+
+pub evaluate-returns-in_err-number-clause-cached : goal.evaluate-returns-in_err-number-clause-cached
+evaluate-returns-in_err-number-clause-cached g t c = λ place e at same within clear. (refl, c.number_of.ensures.entries)
+
+pub evaluate-returns-in-Some-clause-cached : goal.evaluate-returns-in-Some-clause-cached
+evaluate-returns-in-Some-clause-cached g t c = λ place e at same within clear. (refl, c.number_of.ensures.entries)
+
+pub evaluate-returns-in_err-answer-in-Some-find_cycle-clause-cached : goal.evaluate-returns-in_err-answer-in-Some-find_cycle-clause-cached
+evaluate-returns-in_err-answer-in-Some-find_cycle-clause-cached g t c = λ place e at same within clear. (refl, c.number_of.ensures.entries)
+
+pub evaluate-returns-in_err-push-in-Some-find_cycle-clause-cached : goal.evaluate-returns-in_err-push-in-Some-find_cycle-clause-cached
+evaluate-returns-in_err-push-in-Some-find_cycle-clause-cached g t c = λ place e at same within clear. (refl, c.number_of.ensures.entries)
+
+pub evaluate-returns-in_err-add_goal-in-Some-find_cycle-clause-cached : goal.evaluate-returns-in_err-add_goal-in-Some-find_cycle-clause-cached
+evaluate-returns-in_err-add_goal-in-Some-find_cycle-clause-cached g t c = λ place e at same within clear. (refl, c.number_of.ensures.entries)
+
+pub evaluate-returns-in_ok-add_goal-in-Some-find_cycle-clause-cached : goal.evaluate-returns-in_ok-add_goal-in-Some-find_cycle-clause-cached
+evaluate-returns-in_ok-add_goal-in-Some-find_cycle-clause-cached g t c = λ place e at same within clear. (refl, c.number_of.ensures.entries)
+
+pub evaluate-returns-in-None-clause-cached : goal.evaluate-returns-in-None-clause-cached
+evaluate-returns-in-None-clause-cached g t c = λ place e at same within clear.
+    let eq = g.D.Cx.Input.PartialEq.eq in
+    let none = rw c.in_default.is at c.in_ok-place.ensures.none in
+    let items : c.number_of.new.self.entries.items ≡ c.args.cache.now.entries.items = ap (λ v. v.items) c.number_of.ensures.entries in
+    let there : slice_get c.number_of.new.self.entries.items place ≡ Some e = rw items at in
+    let number = subst (λ i. IsNumberOf eq c.number_of.new.self.goals.keys i e.number) same (c.number_of.new.self.numbered place e there) in
+    absurd (none place e there (record {
+      numbered = one_number eq c.number_of.new.self.goals.keys c.args.input e.number c.in_ok-number.number number c.in_ok-number.ensures.place;
+      same = same;
+      within = within;
+      clear = λ asked under on. clear asked (subst (λ es. IsAskedUnder es place asked) items under) on;
+    }))

@@ -1,5 +1,6 @@
 use Rattle.std.proofs.Common.{◌<◌, ◌⊎◌, true, false, List, ◌≡◌, ◌≤◌, length, max, ℕ, ◌+◌, ◌*◌, [], ◌∷◌, ◌++◌}
 use Rattle.search_steps.specs.Meaning.{Keeps, is_open, finished, answer_count}
+use Rattle.search_steps.specs.Cache.{KeepsNumbers}
 use Rattle.search_steps.specs.Computed.{Hears, IsGivenWithin}
 use Rattle.search_steps.specs.Stack.{question_of, path_onto, IsEntry, IsRunning, AreCached, IsLastWithin, AreLastWithin, AreCachedWithin}
 use Rattle.search_steps.specs.Plain.{IsNotPlain}
@@ -25,6 +26,7 @@ invariant-evaluate_new-loop-run g l =
     record {
       keeps : Keeps m l.fn.cx l.cx;
       cache : AreCached m (m.world l.cx) l.cx l.cache.entries.items;
+      goals : KeepsNumbers g.D.Cx.Input.PartialEq.eq l.fn.cache.goals.keys l.cache.goals.keys;
       stack : l.search.stack.items ≡ l.fn.search.stack.items;
       place : l.index ≡ length l.fn.search.stack.items;
       input : l.entry.input ≡ l.fn.input;
@@ -35,6 +37,8 @@ invariant-evaluate_new-loop-run g l =
       frames : (width : ℕ) → m.number_of (m.world l.fn.cx) (m.goal_of l.fn.cx l.fn.input) ≤ width
           → l.search.frames ≤ l.fn.search.frames + l._run * (1 + width * question_bound (max g.D.Delegate.FIXPOINT_STEP_LIMIT 1) width l.depth);
       limits : l.fn.search.limits_met ≡ true → l.search.limits_met ≡ true;
+      noted : l.fn.search.limits_met ≡ false → l.search.limits_met ≡ true → (limit : ℕ) → limit ≤ l.depth + 1
+          → AllDescend m (m.world l.fn.cx) limit 0 (path_onto m l.fn.cx l.fn.search.stack.items []) (m.goal_of l.fn.cx l.fn.input) → IsNotPlain m (m.world l.fn.cx) limit (m.goal_of l.fn.cx l.fn.input);
       within : (before : List (m.Goal × m.Answer)) → l.search.limits_met ≡ false → AreLastWithin m (m.world l.fn.cx) before l.fn.cx l.fn.search.stack.items → AreCachedWithin m (m.world l.fn.cx) before l.fn.cx l.fn.cache.entries.items
           → AreCachedWithin m (m.world l.fn.cx) before l.cx l.cache.entries.items × IsLastWithin m (m.world l.fn.cx) before l.cx l.entry;
       again : 0 < l._run → (limit : ℕ) → (limit ≤ l.depth + 1) ⊎ (l.dependencies.encountered_overflow ≡ false)
@@ -47,6 +51,7 @@ invariant-run_once-loop-request g l =
     record {
       keeps : Keeps m l.fn.cx l.cx;
       cache : AreCached m (m.world l.cx) l.cx l.cache.entries.items;
+      goals : KeepsNumbers g.D.Cx.Input.PartialEq.eq l.fn.cache.goals.keys l.cache.goals.keys;
       stack : l.search.stack.items ≡ l.fn.search.stack.items ++ l.fn.entry ∷ [];
       room : l.dependencies.lowest ≤ length l.fn.search.stack.items;
       running : IsRunning m (m.world l.fn.cx) (question_of m l.fn.cx l.fn.entry ∷ path_onto m l.fn.cx l.fn.search.stack.items []) (m.goal_of l.fn.cx l.fn.entry.input) l.dependencies.lowest l.cx l.frame l.request;
@@ -55,6 +60,8 @@ invariant-run_once-loop-request g l =
       frames : (width : ℕ) → m.number_of (m.world l.fn.cx) (m.goal_of l.fn.cx l.fn.entry.input) ≤ width
           → l.search.frames ≤ l.fn.search.frames + 1 + answer_count m running.heard * question_bound (max g.D.Delegate.FIXPOINT_STEP_LIMIT 1) width l.depth;
       limits : l.fn.search.limits_met ≡ true → l.search.limits_met ≡ true;
+      noted : l.fn.search.limits_met ≡ false → l.search.limits_met ≡ true → (limit : ℕ) → limit ≤ l.depth + 1
+          → AllDescend m (m.world l.fn.cx) limit 0 (path_onto m l.fn.cx l.fn.search.stack.items []) (m.goal_of l.fn.cx l.fn.entry.input) → IsNotPlain m (m.world l.fn.cx) limit (m.goal_of l.fn.cx l.fn.entry.input);
       within : (before : List (m.Goal × m.Answer)) → l.search.limits_met ≡ false → AreLastWithin m (m.world l.fn.cx) before l.fn.cx l.fn.search.stack.items → IsLastWithin m (m.world l.fn.cx) before l.fn.cx l.fn.entry
           → AreCachedWithin m (m.world l.fn.cx) before l.fn.cx l.fn.cache.entries.items
           → AreCachedWithin m (m.world l.fn.cx) before l.cx l.cache.entries.items × Hears m (m.world l.fn.cx) (IsGivenWithin m (m.world l.fn.cx) before) (m.goal_of l.fn.cx l.fn.entry.input) running.heard;

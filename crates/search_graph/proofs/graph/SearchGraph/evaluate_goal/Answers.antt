@@ -1,9 +1,11 @@
-use Rattle.std.proofs.Common.{◌≡◌, ◌+◌, ◌∙◌, sym, ap, subst, refl, [], inl, arith}
-use Rattle.search_steps.specs.Cache.{AreJustified, answers_in}
+use Rattle.std.proofs.Common.{Some, slice_get, ◌≡◌, ◌+◌, ◌∙◌, sym, ap, subst, refl, [], inl, arith}
+use Rattle.search_steps.specs.Cache.{AreJustified, answers_in, known_results}
+use Rattle.search_steps.specs.Chain.{IsWithinDepth}
 use Rattle.search_steps.specs.Proof.{IsAmong}
 use Rattle.search_steps.proofs.Limits.{AreCachedWithin-among}
 use Rattle.search_graph.proofs.Proofs.{sound_answer}
-use Rattle.search_steps.proofs.Caches.{AreCached-known, AreJustified-known}
+use Rattle.search_steps.proofs.Caches.{AreCached-known, AreJustified-known, entry_at}
+use Rattle.search_steps.proofs.Faithfuls.{true_not_false}
 use Rattle.search_steps.proofs.Errors.{err_passed, ok_not_err, empty_of_length}
 use Rattle.search_graph.proofs.graph.SearchGraph.evaluate_goal.Goals as goal
 use Rattle.search_graph.proofs.graph.SearchGraph.evaluate_goal.Goals.{in-Ok, in-Err}
@@ -65,4 +67,29 @@ returns-clause-limits g c =
       | in-Ok w ↦ rw w.result-is (λ no. (w.in-Ok.ensures.within before (rw w.self-is at no) (rw empty tt)
           (AreCachedWithin-among m (m.world first) before first c.cache.inside.results.entries.items (λ x h. subst (λ ks. IsAmong x (answers_in m first ks)) c.cache.view_is h))).1)
       | in-Err w ↦ rw w.result-is tt
+    ]
+
+pub returns-clause-no_limit : goal.returns-clause-no_limit
+returns-clause-no_limit g c =
+    let empty : c.self.inside.search.stack.items ≡ [] = empty_of_length c.self.inside.search.stack.items (ap (λ s. s.current_depth) c.self.view_is ∙ c.requires.empty) in
+    let depth : c.self.inside.root_depth ≡ c.args.self.now.root_depth = ap (λ s. s.root_depth) c.self.view_is in
+    let before : c.self.inside.search.limits_met ≡ c.args.self.now.limits_met = ap (λ s. s.limits_met) c.self.view_is in
+    let claim = rw empty at c.evaluate.ensures.no_limit in
+    elim c.match-evaluate.branch [
+      | in-Ok w ↦ λ off on n b within p. claim (before ∙ off) (rw w.self-is at on) (c.args.self.now.root_depth + 1) (omega arith) tt n b within p
+      | in-Err w ↦ λ off on n b within p. claim (before ∙ off) (sym w.clear.ensures.limits ∙ (rw w.self-is at on)) (c.args.self.now.root_depth + 1) (omega arith) tt n b within p
+    ]
+
+pub returns-clause-cached : goal.returns-clause-cached
+returns-clause-cached g c = λ place k at same within.
+    let empty : c.self.inside.search.stack.items ≡ [] = empty_of_length c.self.inside.search.stack.items (ap (λ s. s.current_depth) c.self.view_is ∙ c.requires.empty) in
+    let depth : c.self.inside.root_depth ≡ c.args.self.now.root_depth = ap (λ s. s.root_depth) c.self.view_is in
+    let frames : c.self.inside.search.frames ≡ c.args.self.now.frames = ap (λ s. s.frames) c.self.view_is in
+    let found = entry_at c.cache.inside.results.entries.items place k (subst (λ ks. slice_get ks place ≡ Some k) (sym c.cache.view_is) at) in
+    let usable = subst (λ z. IsWithinDepth z.overflowed z.depth c.self.inside.root_depth) (sym found.2) (subst (λ d. IsWithinDepth k.overflowed k.depth d) (sym depth) within) in
+    let told = c.evaluate.ensures.cached place found.0 found.1 (ap (λ z. z.input) found.2 ∙ same) usable (λ asked under on. true_not_false (sym (rw empty at on))) in
+    let kept = ap (λ v. known_results v.items) told.1 ∙ c.cache.view_is in
+    elim c.match-evaluate.branch [
+      | in-Ok w ↦ (rw w.self-is (told.0 ∙ frames), kept)
+      | in-Err w ↦ (rw w.self-is (w.clear.ensures.frames ∙ told.0 ∙ frames), kept)
     ]

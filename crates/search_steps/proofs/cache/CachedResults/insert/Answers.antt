@@ -1,5 +1,5 @@
 use Rattle.std.proofs.Common.{◌≡◌, length, ◌∙◌, sym, inr, subst}
-use Rattle.search_steps.proofs.Caches.{HasConflict-at}
+use Rattle.search_steps.proofs.Caches.{HasConflict-at, AreConsistent-push, numbered_push}
 use Rattle.search_steps.proofs.Chains.{AreLinked-push, listed_push}
 use Rattle.search_steps.proofs.Graphs.{Keeps-refl, cached_insert, IsCached-at}
 use Rattle.search_steps.proofs.Limits.{AreCachedWithin-push}
@@ -16,7 +16,7 @@ pub returns-then-differs-clause-no_conflict : goal.returns-then-differs-clause-n
 returns-then-differs-clause-no_conflict g c = λ conflict limit reach n b within p.
     let m = g.D.Delegate.meaning in
     let w = m.world c.args.cx.now in
-    let other = c.differs.ensures c.if-differs.true in
+    let other = c.differs.ensures.other c.if-differs.true in
     let e = other.1 in
     let cached = IsCached-at m w c.args.cx.now c.args.self.now.entries.items other.0 e other.2 c.requires.cache in
     let here = c.requires.kept limit reach n b within p in
@@ -29,7 +29,7 @@ returns-then-differs-clause-conflict g c = λ conflict.
     let m = g.D.Delegate.meaning in
     let cx = c.args.cx.now in
     let w = m.world cx in
-    let other = c.differs.ensures c.if-differs.true in
+    let other = c.differs.ensures.other c.if-differs.true in
     let e = other.1 in
     let cached = IsCached-at m w cx c.args.self.now.entries.items other.0 e other.2 c.requires.cache in
     HasConflict-at m cx c.args.self.now.entries.items other.0 e other.2 (record {
@@ -50,3 +50,12 @@ invariant_of-self-2-clause-listed g c =
     let size : c.len-place.result ≡ length c.args.self.now.entries.items = c.len-place.ensures ∙ c.args.self.now.entries.ok.0 in
     rw (size, c.in_ok-push.ensures.items)
     (listed_push c.args.self.now.entries.items (record { input = c.args.input; result = c.in_ok-result.result; depth = c.args.depth; encountered_overflow = c.args.encountered_overflow; number = c.args.number; previous = c.newest_of-previous.result; nested_goals = c.args.nested_goals }) c.args.self.now.newest.items c.make_room.new.newest.items c.args.self.now.listed c.in_ok-make_room.ensures.same c.in_ok-make_room.ensures.room)
+
+pub invariant_of-self-2-clause-numbered : goal.invariant_of-self-2-clause-numbered
+invariant_of-self-2-clause-numbered g c = rw c.in_ok-push.ensures.items
+    (numbered_push g.D.Cx.Input.PartialEq.eq c.args.self.now.goals.keys c.args.self.now.entries.items (record { input = c.args.input; result = c.in_ok-result.result; depth = c.args.depth; encountered_overflow = c.args.encountered_overflow; number = c.args.number; previous = c.newest_of-previous.result; nested_goals = c.args.nested_goals }) c.args.self.now.numbered c.requires.number)
+
+pub invariant_of-self-2-clause-consistent : goal.invariant_of-self-2-clause-consistent
+invariant_of-self-2-clause-consistent g c = rw c.in_ok-push.ensures.items
+    (AreConsistent-push c.args.self.now.entries.items (record { input = c.args.input; result = c.in_ok-result.result; depth = c.args.depth; encountered_overflow = c.args.encountered_overflow; number = c.args.number; previous = c.newest_of-previous.result; nested_goals = c.args.nested_goals }) c.args.self.now.consistent
+    (λ place e at alike. c.differs.ensures.none c.if-differs.false place e at alike ∙ sym c.in_ok-result.ensures.copy))
