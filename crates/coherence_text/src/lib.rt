@@ -19,6 +19,3 @@ pub use print::{Output, print_line};
 pub use text::{one_outcome, parse};
 pub use text_syntax::Primitive;
 pub use workspace::Workspace;
-
-#[cfg(test)]
-mod tests;

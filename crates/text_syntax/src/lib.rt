@@ -16,6 +16,3 @@ pub use line::{is_ascii, is_blank, read_line};
 pub use mention::{Mention, Sort, declared_name, mentions};
 pub use syntax::{Statement, WrittenType};
 pub use token::Primitive;
-
-#[cfg(test)]
-mod tests;

@@ -1,6 +1,7 @@
-use super::*;
+//! A whole text: its crates, names, questions and faults, and the lines of the answer.
+use coherence_text::{Output, Primitive, SelfType, TextError, Workspace, parse, print_line};
 use std::alloc::{AllocError, Global};
-use std::test::*;
+use std::test::Fail;
 use type_terms::{AdtId, CrateId, ImplId, TraitId};
 
 const TWO_CRATES: &[u8] =

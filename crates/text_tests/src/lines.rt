@@ -1,5 +1,9 @@
-use super::*;
-use std::test::*;
+//! One line: what it spells, and which names it mentions.
+use std::test::Fail;
+use text_syntax::{
+    LineError, Primitive, Sort, Statement, WrittenType, declared_name, is_ascii, is_blank,
+    mentions, read_line,
+};
 
 #[test]
 fn reads_a_crate(rt: HostRuntime) -> Result<(), Fail> {

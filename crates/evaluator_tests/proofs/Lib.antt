@@ -1,0 +1,2 @@
+mod Evaluations
+mod Responses

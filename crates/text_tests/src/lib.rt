@@ -1,0 +1,9 @@
+//! Tests of the reader of a text and of the printer of its answer, by their public calls.
+//!
+//! They stand above the crates that they test, so that each of those is proved once and not a second time with its tests.
+#![tactic(auto)]
+
+#[cfg(test)]
+mod lines;
+#[cfg(test)]
+mod texts;
