@@ -4,3 +4,4 @@ pub mod Applying
 pub mod Covers
 pub mod Applied
 pub mod Shortages
+pub mod Answers

@@ -1,16 +1,16 @@
 -- A goal's question, and the values of its variables, are those of its canonical form.
 use Rattle.std.specs.Prelude.{◌≡◌, List, [], ◌∷◌, map, refl}
 use Rattle.std.proofs.Common.{ap, ◌∙◌, sym}
-use Rattle.model.specs.Label.{Label, Sort}
-use Rattle.model.specs.Trees.{Trees, leaf, sort_of}
+use Rattle.model.specs.Label.{Sort}
+use Rattle.model.specs.Trees.{Trees}
 use Rattle.type_terms.specs.Terms.{Entry, Lawful}
 use Rattle.type_terms.specs.declared.kinds.GenericArgKind.{GenericArgKind}
 use Rattle.infer_table.specs.Canonical.{GoalTrees, CanonicalForm, canonical_form, goal_leaves}
 use Rattle.infer_table.specs.declared.goal.TypingMode.{TypingMode}
 use Rattle.canonical_forms.specs.declared.input.CanonicalInput.{CanonicalInput}
 use Rattle.canonical_forms.specs.Inputs.{IsCanonicalInput, form_of}
-use Rattle.canonical_forms.specs.Leaves.{AreLeaves, IsLeaf, labels, leaf_label}
-use Rattle.canonical_forms.specs.Values.{Value, value_of, values_of}
+use Rattle.canonical_forms.specs.Leaves.{AreLeaves, labels, leaf_label}
+use Rattle.canonical_forms.specs.Values.{Value, values_of}
 use Rattle.canonical_forms.proofs.LeafFacts.{sort-is}
 use Rattle.goal_evaluator.specs.declared.goal.GoalSource.{GoalSource}
 use Rattle.evaluation.specs.Evaluating.{Question, question_of, leaf_value, goal_values}

@@ -1,5 +1,5 @@
 -- How the calls of a context that evaluate end, once the rounds did.
-use Rattle.std.proofs.Common.{◌≡◌, List, [], refl, sym, ◌∙◌, ap, subst, Option, Some, None, Result, Ok, Err}
+use Rattle.std.proofs.Common.{◌≡◌, List, [], refl, sym, ◌∙◌, ap, subst, Option, Some, None, Err}
 use Rattle.type_terms.specs.Terms.{Entry, Keeps}
 use Rattle.infer_table.specs.Certainties.{joined}
 use Rattle.infer_table.specs.Content.{Table}
@@ -17,7 +17,7 @@ use Rattle.canonical_forms.specs.Values.{values_of}
 use Rattle.canonical_responses.specs.Responses.{AnswerTrees, answer_trees}
 use Rattle.evaluation.specs.Context.{Context, NestedGoal, NestedHeld, IsReady}
 use Rattle.evaluation.specs.Evaluating.{Question, goals_trees, evaluation}
-use Rattle.evaluation.specs.OwnAnswers.{Says, SaysWhatIsKnown, SaysNothing, answer_of}
+use Rattle.evaluation.specs.OwnAnswers.{Says, answer_of}
 use Rattle.evaluation.specs.Ends.{EndsIn, IsSettled, IsAnswered, CallEnds, AnswerEnds}
 use Rattle.evaluation.specs.Steps.{RoundsEnd, SameRounds}
 use Rattle.evaluation.proofs.OwnAnswers.{same-answer}

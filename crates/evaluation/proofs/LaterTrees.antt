@@ -1,15 +1,14 @@
 -- Goals and replies as trees stay the same while the interner grows.
-use Rattle.std.specs.Prelude.{◌≡◌, List, [], ◌∷◌, map, Option, Some, None, option_map, refl}
+use Rattle.std.specs.Prelude.{◌≡◌, List, [], ◌∷◌, Option, Some, None, option_map, refl}
 use Rattle.std.proofs.Common.{ap}
 use Rattle.model.specs.Label.{Label, principal}
 use Rattle.model.specs.Trees.{Trees, none, tree, ◌+++◌}
-use Rattle.type_terms.specs.Terms.{Entry, Keeps, types, args_lists, trees_at}
-use Rattle.type_terms.specs.Kinds.{ArgsHeld, region_trees}
+use Rattle.type_terms.specs.Terms.{Entry, Keeps, types, args_lists}
+use Rattle.type_terms.specs.Kinds.{region_trees}
 use Rattle.term_traversal.specs.Kept.{trees-later}
 use Rattle.term_folds.specs.Clauses.{ClauseHeld}
 use Rattle.term_folds.specs.declared.predicate.Clause.{Clause}
 use Rattle.term_folds.specs.declared.predicate.Clause.TheVariants.{Trait, RegionOutlives as ClauseRegion, TypeOutlives as ClauseType}
-use Rattle.infer_table.specs.Canonical.{GoalTrees}
 use Rattle.infer_table.specs.Constraints.{constraint_label, constraint_terms, constraints_trees}
 use Rattle.infer_table.specs.Content.{IsHeldConstraint, AllConstraintsHeld}
 use Rattle.infer_table.specs.declared.goal.Certainty.{Certainty}
@@ -17,7 +16,7 @@ use Rattle.infer_table.specs.declared.canonical.CanonicalVarKind.{CanonicalVarKi
 use Rattle.infer_table.specs.declared.terms.RegionConstraint.{RegionConstraint}
 use Rattle.infer_table.specs.declared.terms.RegionConstraint.TheVariants.{Equal, RegionOutlives, TypeOutlives}
 use Rattle.canonical_forms.specs.declared.response.CanonicalResponse.{CanonicalResponse}
-use Rattle.canonical_forms.specs.Goals.{ClausesHeld, clause_label, clause_terms, environment_trees, predicate_trees}
+use Rattle.canonical_forms.specs.Goals.{ClausesHeld, clause_label, clause_terms, environment_trees}
 use Rattle.canonical_forms.specs.Values.{Value, values-later}
 use Rattle.goal_evaluator.specs.declared.goal.GoalSource.{GoalSource}
 use Rattle.goal_evaluator.specs.Lists.{Every}

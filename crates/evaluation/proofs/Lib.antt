@@ -8,4 +8,4 @@ pub mod RoundEnds
 pub mod RoundsEnds
 pub mod OwnAnswers
 pub mod CallEnds
-pub mod Probing
+pub mod Putting

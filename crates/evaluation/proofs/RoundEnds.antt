@@ -1,5 +1,5 @@
 -- How a round ends, goal by goal.
-use Rattle.std.proofs.Common.{◌≡◌, ℕ, Bool, true, false, ◌||◌, not, List, [], ◌∷◌, ◌++◌, map, refl, sym, ◌∙◌, ap, subst, Option, Some, None, Result, Ok, Err}
+use Rattle.std.proofs.Common.{◌≡◌, Bool, true, false, ◌||◌, List, [], ◌∷◌, ◌++◌, refl, sym, ◌∙◌, ap, subst, Option, Some, None, Result, Ok, Err}
 use Rattle.std.specs.Borrow.{Bor}
 use Rattle.std.proofs.lemmas.List.{append-nil}
 use Rattle.type_terms.specs.Terms.{Entry, Keeps}
@@ -22,10 +22,9 @@ use Rattle.goal_evaluator.specs.Readings.{ResultHeld}
 use Rattle.goal_evaluator.specs.Replays.{Run, ready, waits, run, onward}
 use Rattle.goal_evaluator.specs.Rounds.{Round, kept, round}
 use Rattle.canonical_responses.specs.Responses.{AnswerTrees, answer_trees}
-use Rattle.canonical_responses.specs.Applied.{applied}
 use Rattle.evaluation.specs.Context.{NestedGoal, NestedHeld}
 use Rattle.evaluation.specs.Evaluating.{Question, NestedTrees, nested_trees, goals_trees, replies_trees, put_into, evaluation, IsAskedBy, values_asked}
-use Rattle.evaluation.specs.Steps.{RoundEnds, SameRound}
+use Rattle.evaluation.specs.Steps.{RoundEnds}
 use Rattle.evaluation.specs.declared.error.EvalError.{EvalError}
 use Rattle.evaluation.specs.declared.error.EvalError.TheVariants.{NoSolution, OutOf}
 use Rattle.evaluation.specs.declared.rounds.RoundStep.{RoundStep}
@@ -36,16 +35,12 @@ use Rattle.evaluation.proofs.RunRounds.{run-unapplied, run-dropped, run-kept}
 same-put : (t u : TableTrees) (vs ws : List Value) (a b : AnswerTrees) → t ≡ u → vs ≡ ws → a ≡ b → put_into t vs a ≡ put_into u ws b
 same-put t u vs ws a b e f g = cc
 
-as-put : (t : TableTrees) (vs : List Value) (a : AnswerTrees) (o : Option TableTrees) → applied t vs a ≡ o → put_into t vs a ≡ o
-unfolding put_into
-as-put t vs a o e = e
-
 -- what an answer leaves does not depend on what the interner has besides
 pub put-earlier : (old new : List Entry) → Keeps old new → (t : Table) → Ready old t → (n : NestedGoal) (vs : List GenericArgKind) (r : CanonicalResponse) → ResponseHeld old r
-    → values_of new vs ≡ values_asked old t n → (o : Option TableTrees) → applied (table_trees new t) (values_of new vs) (answer_trees new r) ≡ o
+    → values_of new vs ≡ values_asked old t n → (o : Option TableTrees) → put_into (table_trees new t) (values_of new vs) (answer_trees new r) ≡ o
     → put_into (table_trees old t) (values_asked old t n) (answer_trees old r) ≡ o
 put-earlier old new k t d n vs r h v o e =
-    sym (same-put _ _ _ _ _ _ (table-kept old new k t d) v (answer-trees-later old new k r h)) ∙ as-put (table_trees new t) (values_of new vs) (answer_trees new r) o e
+    sym (same-put _ _ _ _ _ _ (table-kept old new k t d) v (answer-trees-later old new k r h)) ∙ e
 
 module _ (mode : TypingMode) where
   abbrev RoundRun : Type 0

@@ -1,22 +1,19 @@
 -- How the rounds end, round by round.
-use Rattle.std.proofs.Common.{◌≡◌, ℕ, suc, zero, Bool, true, false, List, [], ◌∷◌, refl, sym, ◌∙◌, ap, subst, Option, Some, None, Result, Ok, Err}
+use Rattle.std.proofs.Common.{◌≡◌, ℕ, suc, zero, Bool, true, false, List, [], ◌∷◌, refl, sym, ◌∙◌, ap, subst, Option, Some, None, Ok, Err}
 use Rattle.std.specs.Borrow.{Bor}
 use Rattle.type_terms.specs.Terms.{Entry}
-use Rattle.infer_table.specs.Certainties.{unsettled}
 use Rattle.infer_table.specs.Content.{Table}
 use Rattle.infer_table.specs.Unification.{TableTrees, table_trees}
 use Rattle.infer_table.specs.declared.goal.Certainty.{Certainty}
-use Rattle.infer_table.specs.declared.goal.Certainty.TheVariants.{Yes, Maybe}
+use Rattle.infer_table.specs.declared.goal.Certainty.TheVariants.{Maybe}
 use Rattle.infer_table.specs.declared.goal.MaybeCause.TheVariants.{Overflow}
 use Rattle.infer_table.specs.declared.goal.TypingMode.{TypingMode}
-use Rattle.canonical_forms.specs.declared.input.CanonicalInput.{CanonicalInput}
 use Rattle.canonical_forms.specs.declared.response.CanonicalResponse.{CanonicalResponse}
-use Rattle.goal_evaluator.specs.declared.goal.GoalSource.{GoalSource}
 use Rattle.goal_evaluator.specs.Replays.{Run, ready, waits, run, onward}
 use Rattle.goal_evaluator.specs.Rounds.{Round, Rounds, round, rounds, settled, next_round}
 use Rattle.canonical_responses.specs.Responses.{AnswerTrees}
 use Rattle.evaluation.specs.Context.{NestedGoal}
-use Rattle.evaluation.specs.Evaluating.{Question, NestedTrees, question_of, goals_trees, replies_trees, evaluation, certainty_with}
+use Rattle.evaluation.specs.Evaluating.{Question, NestedTrees, goals_trees, replies_trees, evaluation, certainty_with}
 use Rattle.evaluation.specs.Ends.{IsRefused, Awaits, EndsIn}
 use Rattle.evaluation.specs.Steps.{RoundEnds, RoundsEnd, SameRounds}
 use Rattle.evaluation.specs.declared.error.EvalError.{EvalError}

@@ -6,6 +6,7 @@ use Rattle.infer_table.specs.declared.goal.TypingMode.{TypingMode}
 use Rattle.infer_table.specs.Certainties.{joined}
 use Rattle.infer_table.specs.Unification.{table_trees}
 use Rattle.canonical_forms.specs.declared.response.CanonicalResponse.{CanonicalResponse}
+use Rattle.canonical_forms.specs.Goals.{GoalHeld}
 use Rattle.goal_evaluator.specs.Replays.{Run, ready, waits}
 use Rattle.goal_evaluator.specs.Rounds.{Rounds}
 use Rattle.evaluation.specs.declared.context.EvalStep.{EvalStep}
@@ -18,9 +19,9 @@ use Rattle.evaluation.specs.Context.{Context}
 use Rattle.evaluation.specs.Evaluating.{Question, question_of, goals_trees, evaluation}
 use Rattle.evaluation.specs.OwnAnswers.{Says, answer_of}
 
--- the handles of an answer are an interner's
+-- the handles of a question, or of an answer, are an interner's
 abbrev pub AnswerHeld : List Entry → EvalStep CanonicalResponse → Type 0
-AnswerHeld es (Step.Ask input source) = Unit {0}
+AnswerHeld es (Step.Ask input source) = GoalHeld es input.goal
 AnswerHeld es (Step.Ready answer) = ResponseHeld es answer
 
 module _ {X : Type 0} where

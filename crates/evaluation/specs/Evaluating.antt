@@ -1,5 +1,5 @@
 -- What the calls of a context that evaluate do, over trees.
-use Rattle.std.specs.Prelude.{◌≡◌, not, List, [], ◌∷◌, map, Option, option_map}
+use Rattle.std.specs.Prelude.{◌≡◌, not, List, [], ◌∷◌, map, Option, Some, option_map, if◌then◌else◌}
 use Rattle.model.specs.Label.{Label}
 use Rattle.model.specs.Trees.{leaf, sort_of}
 use Rattle.type_terms.specs.Terms.{Entry}
@@ -19,6 +19,7 @@ use Rattle.goal_evaluator.specs.Responses.{is_identity_modulo_regions}
 use Rattle.infer_table.specs.Content.{Table, content}
 use Rattle.infer_table.specs.Unification.{TableTrees}
 use Rattle.canonical_responses.specs.Responses.{AnswerTrees, answer_trees}
+use Rattle.canonical_responses.specs.Answers.{is_answer_to}
 use Rattle.canonical_responses.specs.Applied.{applied}
 use Rattle.evaluation.specs.Context.{NestedGoal}
 
@@ -53,9 +54,9 @@ leaf_value l = record { sort = sort_of l; trees = leaf l }
 abbrev pub goal_values : GoalTrees → List Value
 goal_values g = map leaf_value (goal_leaves g)
 
--- an answer to a goal with these values, put into a table; none: refused
+-- an answer to a goal with these values, put into a table; none: refused. An answer to another goal says nothing
 unfoldable pub put_into : TableTrees → List Value → AnswerTrees → Option TableTrees
-put_into t originals a = applied t originals a
+put_into t originals a = if is_answer_to originals a then applied t originals a else Some t
 
 -- what the rounds of an evaluation that reads goals in this mode do with its table
 abbrev pub evaluation : TypingMode → Operations Question AnswerTrees

@@ -5,6 +5,7 @@ use Rattle.infer_table.specs.declared.goal.Certainty.{Certainty}
 use Rattle.infer_table.specs.declared.goal.TypingMode.{TypingMode}
 use Rattle.infer_table.specs.Content.{Table}
 use Rattle.infer_table.specs.Unification.{table_trees}
+use Rattle.canonical_forms.specs.Goals.{GoalHeld}
 use Rattle.goal_evaluator.specs.Lists.{Every}
 use Rattle.goal_evaluator.specs.Readings.{ResultHeld}
 use Rattle.goal_evaluator.specs.Replays.{Run}
@@ -46,13 +47,13 @@ module _ (mode : TypingMode) (es : List Entry) (T : Table) where
   RoundsEnd r (Ok (OfRounds.Waits input source)) = Awaits r (question_of es input source)
   RoundsEnd r (Ok (OfRounds.Ended left certainty)) = EndsIn (λ o more. SameRounds (map nested_goal left.items) certainty o) r
 
--- the handles of what is left are an interner's
+-- the handles of what is left, or of a question, are an interner's
 abbrev pub RoundHeld : List Entry → RoundStep → Type 0
-RoundHeld es (Of.Waits input source) = Unit {0}
+RoundHeld es (Of.Waits input source) = GoalHeld es input.goal
 RoundHeld es (Of.Ended changed certainty replies) = Every (ResultHeld es) replies.now
 
 abbrev pub RoundsHeld : List Entry → RoundsStep → Type 0
-RoundsHeld es (OfRounds.Waits input source) = Unit {0}
+RoundsHeld es (OfRounds.Waits input source) = GoalHeld es input.goal
 RoundsHeld es (OfRounds.Ended left certainty) = NestedHeld es (map nested_goal left.items)
 
 -- where the rounds do not end, the context is as before

@@ -4,8 +4,6 @@
 pub mod context;
 mod error;
 mod rounds;
-#[cfg(test)]
-mod tests;
 
 pub use context::{EvalCtxt, EvalStep};
 pub use error::EvalError;

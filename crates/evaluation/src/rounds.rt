@@ -1,6 +1,7 @@
 //! The rounds in which the nested goals of a context are asked, over the replies that are there.
-ghost use Rattle.std.specs.Prelude.{◌≡◌, not, map, OnOk, IfOk, Ok, Err, Some, None};
-ghost use Rattle.type_terms.specs.Terms.{Keeps};
+ghost use Rattle.std.specs.Prelude.{◌≡◌, not, List, map, OnOk, IfOk, Ok, Err, Some, None};
+ghost use Rattle.model.specs.Trees.{is_sort};
+ghost use Rattle.type_terms.specs.Terms.{Entry, Keeps};
 ghost use Rattle.type_terms.specs.Kinds.{ArgsHeld};
 ghost use Rattle.infer_table.specs.Content.{Ready, Grows};
 ghost use Rattle.goal_evaluator.specs.Lists.{Every};
@@ -10,12 +11,13 @@ ghost use Rattle.goal_evaluator.specs.Responses.{is_identity_modulo_regions};
 ghost use Rattle.infer_table.specs.Certainties.{is_certain};
 ghost use Rattle.goal_evaluator.specs.Rounds.{round, rounds};
 ghost use Rattle.infer_table.specs.Unification.{table_trees};
+ghost use Rattle.canonical_forms.specs.Goals.{GoalHeld};
 ghost use Rattle.canonical_responses.specs.Responses.{ResponseHeld, answer_trees};
-ghost use Rattle.canonical_responses.specs.Applied.{applied};
+ghost use Rattle.canonical_responses.specs.Answers.{have_same_sorts, is_answer_to};
 ghost use Rattle.evaluation.specs.Context.{GoalIsHeld, NestedHeld, nested_goal};
-ghost use Rattle.evaluation.specs.Evaluating.{evaluation, goals_trees, replies_trees, IsAskedBy, values_asked, certainty_with};
+ghost use Rattle.evaluation.specs.Evaluating.{evaluation, goals_trees, replies_trees, put_into, IsAskedBy, values_asked, certainty_with};
 ghost use Rattle.evaluation.specs.Steps.{RoundEnds, RoundsEnd, RoundHeld, RoundsHeld};
-ghost use Rattle.canonical_forms.specs.Values.{values_of};
+ghost use Rattle.canonical_forms.specs.Values.{sort_of_arg, values_of};
 
 use crate::error::EvalError;
 use canonical_forms::goal::Goal;
@@ -63,6 +65,7 @@ fn question_for(
     ensures keeps { Keeps cx.old.entries cx.new.entries }
     ensures limit { cx.new.limit ≡ cx.old.limit }
     ensures held { IfOk result (λ r. ArgsHeld cx.new.entries r.values.items) }
+    ensures asked { IfOk result (λ r. GoalHeld cx.new.entries r.input.goal) }
     ensures question { IfOk result (λ r. IsAskedBy mode cx.old.entries table.now (nested_goal nested.now) cx.new.entries r.input) }
     ensures values { IfOk result (λ r. values_of cx.new.entries r.values.items ≡ values_asked cx.old.entries table.now (nested_goal nested.now)) }
 {
@@ -71,7 +74,41 @@ fn question_for(
     Ok(asked)
 }
 
+/// Whether both are types, or both constants, or both lifetimes.
+fn is_same_sort(left: GenericArgKind, right: GenericArgKind) -> bool
+    ensures { result ≡ is_sort (sort_of_arg left) (sort_of_arg right) }
+{
+    match left {
+        GenericArgKind::Lifetime(_) => matches!(right, GenericArgKind::Lifetime(_)),
+        GenericArgKind::Ty(_) => matches!(right, GenericArgKind::Ty(_)),
+        GenericArgKind::Const(_) => matches!(right, GenericArgKind::Const(_)),
+    }
+}
+
+/// Whether there are as many values, each of the sort of the one in its place.
+fn have_same_sorts(values: &[GenericArgKind], others: &[GenericArgKind]) -> bool
+    ensures { (es : List Entry) → result ≡ have_same_sorts (values_of es values.now) (values_of es others.now) }
+{
+    let [value, values @ ..] = values else {
+        return others.is_empty();
+    };
+    let [other, others @ ..] = others else {
+        return false;
+    };
+    is_same_sort(*value, *other) && have_same_sorts(values, others)
+}
+
+/// Whether a response is one to a goal whose values these are: it has a value for each of them, of its sort.
+fn is_answer_to(values: &[GenericArgKind], response: &CanonicalResponse) -> bool
+    ensures { (es : List Entry) → result ≡ is_answer_to (values_of es values.now) (answer_trees es response.now) }
+{
+    have_same_sorts(values, &response.var_values)
+}
+
 /// Puts a response to a goal, whose values these are, into the table.
+///
+/// A response to another goal says nothing of this one, and leaves the table as it is. A search brings none; but it hands on
+/// responses of which nothing is known but that they are well-formed in themselves, and so nothing more is asked of them.
 fn apply_response(
     alloc: Global,
     cx: &mut Interner,
@@ -86,9 +123,12 @@ fn apply_response(
     ensures grows { Grows table.old table.new }
     ensures keeps { Keeps cx.old.entries cx.new.entries }
     ensures limit { cx.new.limit ≡ cx.old.limit }
-    ensures applied { OnOk result (applied (table_trees cx.old.entries table.old) (values_of cx.old.entries values.now) (answer_trees cx.old.entries response.now) ≡ Some (table_trees cx.new.entries table.new)) }
-    ensures refused { result ≡ Err EvalError.NoSolution → applied (table_trees cx.old.entries table.old) (values_of cx.old.entries values.now) (answer_trees cx.old.entries response.now) ≡ None }
+    ensures applied { OnOk result (put_into (table_trees cx.old.entries table.old) (values_of cx.old.entries values.now) (answer_trees cx.old.entries response.now) ≡ Some (table_trees cx.new.entries table.new)) }
+    ensures refused { result ≡ Err EvalError.NoSolution → put_into (table_trees cx.old.entries table.old) (values_of cx.old.entries values.now) (answer_trees cx.old.entries response.now) ≡ None }
 {
+    if !is_answer_to(values, response) {
+        return Ok(());
+    }
     match instantiate_and_apply_query_response(alloc, cx, table, values, response) {
         Ok(()) => Ok(()),
         Err(error) => Err(EvalError::from(error)),

@@ -117,7 +117,7 @@ bare-agrees a h v = (
 )
 
 -- ---- what a table answers is an instance for all that it allows
-stands-left : (kind : OpenKinds) (a b : Trees) (l : Label) → StandsIn kind a l → StandsIn kind (a +++ b) l
+pub stands-left : (kind : OpenKinds) (a b : Trees) (l : Label) → StandsIn kind a l → StandsIn kind (a +++ b) l
 stands-left kind none b l h = absurd h
 stands-left kind (tree m c o) b l (inl e) = inl e
 stands-left kind (tree m c o) b l (inr (inl h)) = inr (inl h)
@@ -193,21 +193,21 @@ module _ (s : Terms) (sorted : (k : Sort) (v : ℕ) → sort_of (s.unknowns k v)
   read-numbered : (t : Trees) → HasNoCanonical t → ((l : Label) → StandsIn kind_of_leaf t l → is_among l ls ≡ true) → read_with (picked (leaf_terms s ls)) (relabeled kind_of_leaf (canonical_label ls) t) ≡ read_with (standing s) t
   read-numbered t h a = read-relabeled (picked (leaf_terms s ls)) (standing s) kind_of_leaf (canonical_label ls) t (each-picks t h a)
 
-abbrev Among : Trees → List Trees → Type 0
+abbrev pub Among : Trees → List Trees → Type 0
 Among t [] = ⊥
 Among t (x ∷ ts) = (t ≡ x) ⊎ Among t ts
 
 -- the leaves of each own value are among those of the answer
-joined-stands : (kind : OpenKinds) (ts : List Trees) (t : Trees) (l : Label) → Among t ts → StandsIn kind t l → StandsIn kind (joined ts) l
+pub joined-stands : (kind : OpenKinds) (ts : List Trees) (t : Trees) (l : Label) → Among t ts → StandsIn kind t l → StandsIn kind (joined ts) l
 joined-stands kind [] t l i h = absurd i
 joined-stands kind (x ∷ ts) t l (inl e) h = stands-left kind x (joined ts) l (subst (λ z. StandsIn kind z l) e h)
 joined-stands kind (x ∷ ts) t l (inr i) h = stands-right kind x (joined ts) l (joined-stands kind ts t l i h)
 
-abbrev LabelAmong : Label → List Label → Type 0
+abbrev pub LabelAmong : Label → List Label → Type 0
 LabelAmong l [] = ⊥
 LabelAmong l (x ∷ xs) = (l ≡ x) ⊎ LabelAmong l xs
 
-among-map : (f : Label → Trees) (l : Label) (ls : List Label) → LabelAmong l ls → Among (f l) (map f ls)
+pub among-map : (f : Label → Trees) (l : Label) (ls : List Label) → LabelAmong l ls → Among (f l) (map f ls)
 among-map f l [] i = absurd i
 among-map f l (m ∷ ls) (inl e) = inl (ap f e)
 among-map f l (m ∷ ls) (inr i) = inr (among-map f l ls i)

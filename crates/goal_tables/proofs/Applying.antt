@@ -15,21 +15,22 @@ use Rattle.canonical_forms.specs.Leaves.{root_label}
 use Rattle.canonical_forms.specs.Values.{Value, if_of_sort, value_for, filled}
 use Rattle.canonical_responses.specs.Raw.{sort_of_kind}
 use Rattle.canonical_responses.specs.Responses.{AnswerTrees}
+use Rattle.canonical_responses.specs.Answers.{have_same_sorts, is_answer_to}
 use Rattle.canonical_responses.specs.Applying.{is_numbered, root_labels, original_of, next_unknown, unknowns_of, table_after, values_for, table_for, known_value}
-use Rattle.canonical_responses.specs.Applied.{trees_of, solved_in_turn, with_constraints}
+use Rattle.canonical_responses.specs.Applied.{trees_of, solved_in_turn, with_constraints, applied}
 use Rattle.goal_evaluator.specs.Lists.{Every}
 use Rattle.goal_tables.specs.Instances.{read_with, put_in, of_sort, as_place, term_at}
 use Rattle.type_terms.specs.Made.{terms, is_made}
 use Rattle.goal_tables.specs.Content.{Values, Terms, fits, standing, reading_of, Stands}
 use Rattle.goal_tables.specs.Equations.{AreOne, Hold, IsTerm, IsPair, IsValue, HasLifetimes, IsMade, IsApart}
 use Rattle.goal_tables.specs.Frames.{kind_at, is_good, good_in, FrameTable, IsMadeFrame, Allows, AllowsApart, HaveValues, FitPlaceholders, Nested, goal_in, values_at, slot_at, in_turn, and_then}
-use Rattle.goal_tables.specs.Answers.{picked, IsPicked, ArePicked, Agrees, is_kind_of, is_variable_of, is_fitting, matched, put_into, leaf_value, originals_of}
+use Rattle.goal_tables.specs.Answers.{picked, IsPicked, ArePicked, Agrees, is_kind_of, is_variable_of, is_fitting, are_fitting, is_fitting_answer, put_into, leaf_value, originals_of}
 use Rattle.goal_tables.proofs.Made.{false-true, left, right, no-tree, is_ordinary, made-ordinary}
 use Rattle.goal_tables.proofs.Reading.{append-none, append-assoc, EachLabel, IsPutIn}
 use Rattle.goal_tables.proofs.Questions.{sort-of-sort, reading-sorted}
 use Rattle.goal_tables.proofs.Heads.{read-lifetime}
 use Rattle.goal_tables.proofs.Beginning.{below, below-is, sort-is}
-use Rattle.goal_tables.proofs.Equating.{AreSlots, slot-cases, IsLeafOf, slots-of, lifetimes-good, in-turn-narrows, in-turn-keeps, InTurn, frame_if, frame-of, frame-is, none-some, some-is, allows-of, ApartIn, is-sort, sort-self, single-of}
+use Rattle.goal_tables.proofs.Equating.{AreSlots, slot-cases, IsLeafOf, slots-of, lifetimes-good, in-turn-narrows, in-turn-keeps, InTurn, IsFrame, frame_if, frame-of, frame-is, none-some, some-is, allows-of, ApartIn, is-sort, sort-self, single-of}
 use Rattle.goal_tables.proofs.Labels.{IsGoodLabel, made-labels, IsLeafIn, each-label, each-resolved, every-leaf, clause-open, IsLeafFor, PutsLeaves, made-put-in, single-put-in, made-more, read-put-each}
 
 -- ---- the open leaves of a nested goal
@@ -253,7 +254,12 @@ value-at known t i (x ∷ ks) (suc d) k e = by (value-at known (table_after (kno
     by (inl y) = inl (record { value = y.value; is = y.is; known_is = ap known (sym place) ∙ y.known_is })
     by (inr y) = inr (record { number = y.number; is = y.is; counted = y.counted; stands = λ u w. y.stands (with_picked u w t i (known i) x) w ∙ ap (w (sort_of_kind k)) place })
 
--- ---- the values that fit
+-- ---- the values in their places
+abbrev paired : List Value → List Value → List (Value × Value)
+paired [] vs = []
+paired (o ∷ os) [] = []
+paired (o ∷ os) (v ∷ vs) = (o, v) ∷ paired os vs
+
 pub record IsMatch (good : Label → Bool) (ks : List CanonicalVarKind) (p : Value × Value) : Type 0 where
   pub same_sort : p.0.sort ≡ p.1.sort
   pub fits : is_fitting ks p.1 ≡ true
@@ -261,34 +267,23 @@ pub record IsMatch (good : Label → Bool) (ks : List CanonicalVarKind) (p : Val
   pub is : p.0 ≡ leaf_value label
   pub made : is_made good terms (leaf label) ≡ true
 
-all-match : (good : Label → Bool) (ks : List CanonicalVarKind) (ls : List Label) (vs : List Value) → AreTheirs good ls → Every (IsMatch good ks) (matched ks (map leaf_value ls) vs)
-all-match good ks [] vs h = tt
-all-match good ks (l ∷ ls) [] h = tt
-all-match good ks (l ∷ ls) (v ∷ vs) h = by (is_sort (sort_of l) v.sort && is_fitting ks v) refl (all-match good ks ls vs h.1)
-  where
-    by : (b : Bool) → (is_sort (sort_of l) v.sort && is_fitting ks v) ≡ b → Every (IsMatch good ks) (matched ks (map leaf_value ls) vs)
-        → Every (IsMatch good ks) (if b then (leaf_value l, v) ∷ matched ks (map leaf_value ls) vs else matched ks (map leaf_value ls) vs)
-    by true e r = (record { same_sort = is-sort (sort_of l) v.sort (left (is_sort (sort_of l) v.sort) _ e); fits = right (is_sort (sort_of l) v.sort) _ e; label = l; is = refl; made = h.0 }, r)
-    by false e r = r
+all-match : (good : Label → Bool) (ks : List CanonicalVarKind) (ls : List Label) (vs : List Value) → AreTheirs good ls → have_same_sorts (map leaf_value ls) vs ≡ true → are_fitting ks vs ≡ true
+    → Every (IsMatch good ks) (paired (map leaf_value ls) vs)
+all-match good ks [] vs h e f = tt
+all-match good ks (l ∷ ls) [] h e f = tt
+all-match good ks (l ∷ ls) (v ∷ vs) h e f = (
+  record { same_sort = is-sort (sort_of l) v.sort (left (is_sort (sort_of l) v.sort) _ e); fits = left (is_fitting ks v) _ f; label = l; is = refl; made = h.0 },
+  all-match good ks ls vs h.1 (right (is_sort (sort_of l) v.sort) _ e) (right (is_fitting ks v) _ f),
+)
 
 -- the answer's value is read as the goal's
 abbrev AgreeAt : Terms → Assignment → Value × Value → Type 0
 AgreeAt s q p = IsPicked q p.1.sort p.1.trees (read_with (standing s) p.0.trees)
 
-all-agree : (s : Terms) (q : Assignment) (ks : List CanonicalVarKind) (ls : List Label) (vs : List Value) → ArePicked q vs (map (reading_of s) ls) → Every (AgreeAt s q) (matched ks (map leaf_value ls) vs)
-all-agree s q ks [] vs h = tt
-all-agree s q ks (l ∷ ls) [] h = tt
-all-agree s q ks (l ∷ ls) (v ∷ vs) h = by (is_sort (sort_of l) v.sort && is_fitting ks v) (all-agree s q ks ls vs h.1)
-  where
-    by : (b : Bool) → Every (AgreeAt s q) (matched ks (map leaf_value ls) vs) → Every (AgreeAt s q) (if b then (leaf_value l, v) ∷ matched ks (map leaf_value ls) vs else matched ks (map leaf_value ls) vs)
-    by true r = (h.0, r)
-    by false r = r
-
-abbrev firsts : List (Value × Value) → List Value
-firsts m = map (λ (p : Value × Value). p.0) m
-
-abbrev seconds : List (Value × Value) → List Value
-seconds m = map (λ (p : Value × Value). p.1) m
+all-agree : (s : Terms) (q : Assignment) (ls : List Label) (vs : List Value) → ArePicked q vs (map (reading_of s) ls) → Every (AgreeAt s q) (paired (map leaf_value ls) vs)
+all-agree s q [] vs h = tt
+all-agree s q (l ∷ ls) [] h = tt
+all-agree s q (l ∷ ls) (v ∷ vs) h = (h.0, all-agree s q ls vs h.1)
 
 -- the value that stands for variable i is one of a pair whose other value is the variable
 pub record IsOfPair (P : Value × Value → Type 0) (i : ℕ) (o : Value) : Type 0 where
@@ -303,13 +298,14 @@ some-value v w e = cc
 none-value : (v : Value) (T : Type 0) → None ≡ Some v → T
 none-value v T e = absurd (cc)
 
-of-pair : (P : Value × Value → Type 0) (m : List (Value × Value)) → Every P m → (i : ℕ) (o : Value) → original_of i (root_labels (seconds m)) (firsts m) ≡ Some o → IsOfPair P i o
-of-pair P [] h i o e = none-value o _ e
-of-pair P (p ∷ m) h i o e = by (is_numbered i (root_label p.1.trees)) refl e (of-pair P m h.1 i o)
+of-pair : (P : Value × Value → Type 0) (os vs : List Value) → Every P (paired os vs) → (i : ℕ) (o : Value) → original_of i (root_labels vs) os ≡ Some o → IsOfPair P i o
+of-pair P os [] h i o e = none-value o _ e
+of-pair P [] (v ∷ vs) h i o e = none-value o _ e
+of-pair P (p ∷ os) (v ∷ vs) h i o e = by (is_numbered i (root_label v.trees)) refl e (of-pair P os vs h.1 i o)
   where
-    by : (b : Bool) → is_numbered i (root_label p.1.trees) ≡ b → (if b then Some p.0 else original_of i (root_labels (seconds m)) (firsts m)) ≡ Some o
-        → (original_of i (root_labels (seconds m)) (firsts m) ≡ Some o → IsOfPair P i o) → IsOfPair P i o
-    by true n q r = record { pair = p; holds = h.0; is = some-value p.0 o q; numbered = n }
+    by : (b : Bool) → is_numbered i (root_label v.trees) ≡ b → (if b then Some p else original_of i (root_labels vs) os) ≡ Some o
+        → (original_of i (root_labels vs) os ≡ Some o → IsOfPair P i o) → IsOfPair P i o
+    by true n q r = record { pair = (p, v); holds = h.0; is = some-value p o q; numbered = n }
     by false n q r = r q
 
 same-number : (i j : ℕ) → (i == j) ≡ true → i ≡ j
@@ -419,25 +415,26 @@ turn-step t (tree l c o) (tree m d p) r s todo a b f =
     by None = refl
     by (Some u) = f u
 
-turns-are : (vs : List Value) (m : List (Value × Value)) → Every (AreSingle vs) m → (t : TableTrees) → solved_in_turn t (trees_of (firsts m)) (filled vs (trees_of (seconds m))) ≡ in_turn (pairs_with vs m) t
-turns-are vs [] h t = refl
-turns-are vs (p ∷ m) h t =
-    ap (solved_in_turn t (p.0.trees +++ trees_of (firsts m))) (filled-append vs p.1.trees (trees_of (seconds m)))
-    ∙ turn-step t p.0.trees (filled vs p.1.trees) (trees_of (firsts m)) (filled vs (trees_of (seconds m))) (pairs_with vs m) h.0.0 h.0.1 (λ u. turns-are vs m h.1 u)
+turns-are : (ws os vs : List Value) → have_same_sorts os vs ≡ true → Every (AreSingle ws) (paired os vs) → (t : TableTrees) → solved_in_turn t (trees_of os) (filled ws (trees_of vs)) ≡ in_turn (pairs_with ws (paired os vs)) t
+turns-are ws [] [] e h t = refl
+turns-are ws [] (v ∷ vs) e h t = absurd (false-true e)
+turns-are ws (o ∷ os) [] e h t = absurd (false-true e)
+turns-are ws (o ∷ os) (v ∷ vs) e h t =
+    ap (solved_in_turn t (o.trees +++ trees_of os)) (filled-append ws v.trees (trees_of vs))
+    ∙ turn-step t o.trees (filled ws v.trees) (trees_of os) (filled ws (trees_of vs)) (pairs_with ws (paired os vs)) h.0.0 h.0.1
+    (λ u. turns-are ws os vs (right (is_sort o.sort v.sort) _ e) h.1 u)
 
 -- ---- an answer to a goal with these leaves, put into a table
-module _ (kinds : List CanonicalVarKind) (t : TableTrees) (ls : List Label) (theirs : AreTheirs (is_good kinds t.ty_vars t.const_vars) ls) (a : AnswerTrees) where
+module _ (kinds : List CanonicalVarKind) (t : TableTrees) (ls : List Label) (theirs : AreTheirs (is_good kinds t.ty_vars t.const_vars) ls) (a : AnswerTrees)
+    (answers : is_fitting_answer (map leaf_value ls) a ≡ true) where
   abbrev good : Label → Bool
   good l = is_good kinds t.ty_vars t.const_vars l
 
   abbrev pairs : List (Value × Value)
-  pairs = matched a.kinds (map leaf_value ls) a.values
-
-  abbrev fitted : AnswerTrees
-  fitted = record a { values = seconds pairs }
+  pairs = paired (map leaf_value ls) a.values
 
   abbrev known : ℕ → Option Value
-  known i = known_value fitted (firsts pairs) i
+  known i = known_value a (map leaf_value ls) i
 
   abbrev values : List Value
   values = values_for known t 0 a.kinds
@@ -452,7 +449,7 @@ module _ (kinds : List CanonicalVarKind) (t : TableTrees) (ls : List Label) (the
   better-too l h = good-grows kinds t.ty_vars t.const_vars grown.ty_vars grown.const_vars (for-more known t 0 a.kinds of_type) (for-more known t 0 a.kinds of_const) l h
 
   matches : Every (IsMatch good a.kinds) pairs
-  matches = all-match good a.kinds ls a.values theirs
+  matches = all-match good a.kinds ls a.values theirs (left (is_answer_to (map leaf_value ls) a) _ answers) (right (is_answer_to (map leaf_value ls) a) _ answers)
 
   zero-plus : (i : ℕ) → 0 + i ≡ i
   zero-plus i = omega arith
@@ -472,7 +469,7 @@ module _ (kinds : List CanonicalVarKind) (t : TableTrees) (ls : List Label) (the
 
   known-pair : (P : Value × Value → Type 0) → Every P pairs → (s : Sort) (i : ℕ) → is_kind_of s (kind_at a.kinds i) ≡ true → (v : Value) → known i ≡ Some v → IsKnownPair P s i v
   known-pair P h s i e v q =
-      let x = of-pair (λ p. P p × IsMatch good a.kinds p) pairs (both-every P (IsMatch good a.kinds) pairs h matches) i v q in
+      let x = of-pair (λ p. P p × IsMatch good a.kinds p) (map leaf_value ls) a.values (both-every P (IsMatch good a.kinds) pairs h matches) i v q in
       let y = fitting-variable a.kinds i x.pair.1.sort x.pair.1.trees x.holds.1.fits x.numbered in
       let k = kind-of s (kind_at a.kinds i) e in
       let j = kind-of x.pair.1.sort (kind_at a.kinds i) y.1 in
@@ -571,8 +568,10 @@ module _ (kinds : List CanonicalVarKind) (t : TableTrees) (ls : List Label) (the
   pub pairs-made : Every (IsPair better) (pairs_with values pairs)
   pairs-made = every-map (IsMatch good a.kinds) (IsPair better) (λ p. (p.0.trees, filled values p.1.trees)) pair-made pairs matches
 
-  pub turns : (u : TableTrees) → solved_in_turn u (trees_of (firsts pairs)) (filled values (trees_of (seconds pairs))) ≡ in_turn (pairs_with values pairs) u
-  turns u = turns-are values pairs (every-of (IsMatch good a.kinds) (AreSingle values) (λ p x. ((pair-made p x).0.single, (pair-made p x).1.single)) pairs matches) u
+  pub turns : (u : TableTrees) → solved_in_turn u (trees_of (map leaf_value ls)) (filled values (trees_of a.values)) ≡ in_turn (pairs_with values pairs) u
+  turns u =
+      turns-are values (map leaf_value ls) a.values (left (is_answer_to (map leaf_value ls) a) _ answers)
+      (every-of (IsMatch good a.kinds) (AreSingle values) (λ p x. ((pair-made p x).0.single, (pair-made p x).1.single)) pairs matches) u
 
   -- the table with new unknowns
   pub grown-made : IsMade good t → IsMade better grown
@@ -697,21 +696,21 @@ map-some f (Some w) u e = (w, refl, some-is (f w) u e)
 pub with-constraints-made : (good : Label → Bool) (c : Trees) (w : TableTrees) → IsMade good w → IsMade good (with_constraints c w)
 with-constraints-made good c w m = record { acyclic = m.acyclic; values = m.values; counted = record { types = m.counted.types; consts = m.counted.consts } }
 
-module _ (t : FrameTable) (n : Nested) (a : AnswerTrees) where
+module _ (t : FrameTable) (n : Nested) (a : AnswerTrees) (answers : is_fitting_answer (originals_of t n) a ≡ true) where
   abbrev theirs_of : AreTheirs (good_in t) (goal_leaves (goal_in t n))
   theirs_of = goal-leaves t n
 
   abbrev known_in : ℕ → Option Value
-  known_in i = known t.kinds t.content (goal_leaves (goal_in t n)) theirs_of a i
+  known_in i = known t.kinds t.content (goal_leaves (goal_in t n)) theirs_of a answers i
 
   abbrev values_in : List Value
-  values_in = values t.kinds t.content (goal_leaves (goal_in t n)) theirs_of a
+  values_in = values t.kinds t.content (goal_leaves (goal_in t n)) theirs_of a answers
 
   abbrev pairs_of : List (Value × Value)
-  pairs_of = pairs t.kinds t.content (goal_leaves (goal_in t n)) theirs_of a
+  pairs_of = pairs t.kinds t.content (goal_leaves (goal_in t n)) theirs_of a answers
 
   abbrev grown_of : TableTrees
-  grown_of = grown t.kinds t.content (goal_leaves (goal_in t n)) theirs_of a
+  grown_of = grown t.kinds t.content (goal_leaves (goal_in t n)) theirs_of a answers
 
   abbrev better_in : Label → Bool
   better_in l = is_good t.kinds grown_of.ty_vars grown_of.const_vars l
@@ -728,19 +727,19 @@ module _ (t : FrameTable) (n : Nested) (a : AnswerTrees) where
     pub solved : in_turn todo grown_of ≡ Some before
     pub is : with_constraints (filled values_in a.constraints) before ≡ u
 
-  is-left : (u : TableTrees) → put_into t.content (originals_of t n) a ≡ Some u → IsLeft u
+  is-left : (u : TableTrees) → applied t.content (originals_of t n) a ≡ Some u → IsLeft u
   is-left u e =
-      let x = map-some (with_constraints (filled values_in a.constraints)) (solved_in_turn grown_of (trees_of (firsts pairs_of)) (filled values_in (trees_of (seconds pairs_of)))) u e in
-      record { before = x.0; solved = sym (turns t.kinds t.content (goal_leaves (goal_in t n)) theirs_of a grown_of) ∙ x.1; is = x.2 }
+      let x = map-some (with_constraints (filled values_in a.constraints)) (solved_in_turn grown_of (trees_of (originals_of t n)) (filled values_in (trees_of a.values))) u e in
+      record { before = x.0; solved = sym (turns t.kinds t.content (goal_leaves (goal_in t n)) theirs_of a answers grown_of) ∙ x.1; is = x.2 }
 
   turned : (u : TableTrees) → in_turn todo grown_of ≡ Some u → InTurn better_in opens grown_of todo u
   turned u e =
-      in-turn-narrows better_in opens todo grown_of u (grown-made t.kinds t.content (goal_leaves (goal_in t n)) theirs_of a t.made.table)
-      (pairs-made t.kinds t.content (goal_leaves (goal_in t n)) theirs_of a) e
+      in-turn-narrows better_in opens todo grown_of u (grown-made t.kinds t.content (goal_leaves (goal_in t n)) theirs_of a answers t.made.table)
+      (pairs-made t.kinds t.content (goal_leaves (goal_in t n)) theirs_of a answers) e
 
   labels-made : (ls : List Label) → AreTheirs (good_in t) ls → AreTheirs better_in ls
   labels-made [] h = tt
-  labels-made (l ∷ ls) h = (made-more (good_in t) better_in (better-too t.kinds t.content (goal_leaves (goal_in t n)) theirs_of a) terms (leaf l) h.0, labels-made ls h.1)
+  labels-made (l ∷ ls) h = (made-more (good_in t) better_in (better-too t.kinds t.content (goal_leaves (goal_in t n)) theirs_of a answers) terms (leaf l) h.0, labels-made ls h.1)
 
   left-made : (u : TableTrees) → IsLeft u → IsMadeFrame t.kinds t.labels u
   left-made u x =
@@ -755,8 +754,21 @@ module _ (t : FrameTable) (n : Nested) (a : AnswerTrees) where
         own = t.made.own;
       })
 
+-- the table is as the answer leaves it, or as it was
+pub put-cases : (t : TableTrees) (originals : List Value) (a : AnswerTrees) (u : TableTrees) → put_into t originals a ≡ Some u
+    → ((is_fitting_answer originals a ≡ true) × (applied t originals a ≡ Some u)) ⊎ (t ≡ u)
+put-cases t originals a u e = by (is_fitting_answer originals a) refl e
+  where
+    by : (b : Bool) → is_fitting_answer originals a ≡ b → (if b then applied t originals a else Some t) ≡ Some u → ((is_fitting_answer originals a ≡ true) × (applied t originals a ≡ Some u)) ⊎ (t ≡ u)
+    by true h q = inl (h, q)
+    by false h q = inr (some-is t u q)
+
 pub put-made : (t : FrameTable) (n : Nested) (a : AnswerTrees) (u : TableTrees) → put_into t.content (originals_of t n) a ≡ Some u → IsMadeFrame t.kinds t.labels u
-put-made t n a u e = left-made t n a u (is-left t n a u e)
+put-made t n a u e = by (put-cases t.content (originals_of t n) a u e)
+  where
+    by : ((is_fitting_answer (originals_of t n) a ≡ true) × (applied t.content (originals_of t n) a ≡ Some u)) ⊎ (t.content ≡ u) → IsMadeFrame t.kinds t.labels u
+    by (inl x) = left-made t n a x.0 u (is-left t n a x.0 u x.1)
+    by (inr x) = subst (IsMadeFrame t.kinds t.labels) x t.made
 
 -- the table with the answer to the nested goal put into it; none: refused
 abbrev pub apply : FrameTable → Nested → AnswerTrees → Option FrameTable
@@ -765,9 +777,14 @@ apply t n a = frame_if t (put_into t.content (originals_of t n) a) (put-made t n
 pub apply_narrows : (t u : FrameTable) (n : Nested) (a : AnswerTrees) → apply t n a ≡ Some u → (s : Terms) → Allows u s → Allows t s
 apply_narrows t u n a e s h =
     let x = frame-of t (put_into t.content (originals_of t n) a) (put-made t n a) u e in
-    let y = is-left t n a x.0 x.1 in
-    let hold : Hold s y.before = subst (Hold s) (x.2.content ∙ sym y.is) h.hold in
-    allows-of t u x.0 s x.2 (subst (Every (Stands s)) (for-bindings (known_in t n a) t.content 0 a.kinds) ((turned t n a y.before y.solved).only s hold).0) h
+    by x.0 x.2 (put-cases t.content (originals_of t n) a x.0 x.1)
+  where
+    by : (c : TableTrees) → IsFrame t c u → ((is_fitting_answer (originals_of t n) a ≡ true) × (applied t.content (originals_of t n) a ≡ Some c)) ⊎ (t.content ≡ c) → Allows t s
+    by c i (inl x) =
+        let y = is-left t n a x.0 c x.1 in
+        let hold : Hold s y.before = subst (Hold s) (i.content ∙ sym y.is) h.hold in
+        allows-of t u c s i (subst (Every (Stands s)) (for-bindings (known_in t n a x.0) t.content 0 a.kinds) ((turned t n a x.0 y.before y.solved).only s hold).0) h
+    by c i (inr x) = allows-of t u c s i (subst (Hold s) (i.content ∙ sym x) h.hold) h
 
 -- ---- nothing is lost that agrees with the answer
 module _ (t : FrameTable) (s : Terms) (q : Assignment) (known : ℕ → Option Value) (ks : List CanonicalVarKind) where
@@ -839,38 +856,30 @@ further-apart t s r a b h e sorted = record { sorted = sorted; no_parameter = pa
         → as_place k (term_at r.own.terms i) ≡ as_place k (term_at r.own.terms j) → i ≡ j
     placeholders k i j v g g' q = h.apart k i j g g' (subst (λ (o : Values). as_place k (term_at o.terms i) ≡ as_place k (term_at o.terms j)) e q) (value-sort k v)
 
+abbrev with_unknowns : Terms → Assignment → Terms
+with_unknowns s u = record { own = s.own; slots = s.slots; unknowns = u; proper = s.proper }
+
 -- the answer was not refused, and the table allows terms that give the same to all that was known
 pub record GoesFurther (t : FrameTable) (s : Terms) (e : Option FrameTable) : Type 0 where
   pub table : FrameTable
   pub unknowns : Assignment
   pub is : e ≡ Some table
-  pub allows : AllowsApart table (record { own = s.own; slots = s.slots; unknowns = unknowns; proper = s.proper })
+  pub allows : AllowsApart table (with_unknowns s unknowns)
 
-pub apply_keeps : (t : FrameTable) (n : Nested) (a : AnswerTrees) (s : Terms) → AllowsApart t s → Agrees a (values_at t n s) → GoesFurther t s (apply t n a)
-apply_keeps t n a s h g =
-    let ls = goal_leaves (goal_in t n) in
-    let theirs = goal-leaves t n in
-    let q = g.0 in
-    let r = further t s q (known_in t n a) a.kinds in
-    let sorted : IsSorted r.unknowns = extended-sorted s.unknowns q (known_in t n a) t.content 0 a.kinds h.allowed.sorted g.1 in
-    let picks : ArePicked q a.values (map (reading_of r) ls) = subst (ArePicked q a.values) (sym (further-map t s q (known_in t n a) a.kinds ls theirs)) g.2 in
-    let ones = pairs-one t.kinds t.content ls theirs a r q sorted (all-agree r q a.kinds ls a.values picks) (λ k i x. x.stands s.unknowns q ∙ ap (q k) (zero-plus t.kinds t.content ls theirs a i)) in
-    let hold : Hold r (grown_of t n a) =
-    subst (Every (Stands r)) (sym (for-bindings (known_in t n a) t.content 0 a.kinds)) (further-holds t s q (known_in t n a) a.kinds t.content.bindings t.made.table.values h.allowed.hold) in
-    let x = in-turn-keeps (better_in t n a) (opens t n a) (todo t n a) (grown_of t n a) r (grown-made t.kinds t.content ls theirs a t.made.table) (pairs-made t.kinds t.content ls theirs a)
-    (further-apart t s r (grown_of t n a).ty_vars (grown_of t n a).const_vars h refl sorted) hold ones in
-    let c = with_constraints (filled (values_in t n a) a.constraints) x.0 in
-    let put : put_into t.content (originals_of t n) a ≡ Some c = ap (option_map (with_constraints (filled (values_in t n a) a.constraints))) (turns t.kinds t.content ls theirs a (grown_of t n a) ∙ x.1) in
+-- what is left allows the terms with other unknowns that stand there, and are read alike
+goes-further : (t : FrameTable) (n : Nested) (a : AnswerTrees) (s : Terms) (u : Assignment) (c : TableTrees) → AllowsApart t s → put_into t.content (originals_of t n) a ≡ Some c
+    → IsSorted u → Hold (with_unknowns s u) c → map (reading_of s) t.labels ≡ map (reading_of (with_unknowns s u)) t.labels → GoesFurther t s (apply t n a)
+goes-further t n a s u c h put sorted hold same =
     let y = frame-is t (put_into t.content (originals_of t n) a) (put-made t n a) c put in
     record {
       table = y.0;
-      unknowns = r.unknowns;
+      unknowns = u;
       is = y.1;
       allows = record {
         allowed = record {
           sorted = sorted;
-          hold = subst (Hold r) (sym y.2.content) x.2;
-          slots = h.allowed.slots ∙ sym (further-map t s q (known_in t n a) a.kinds t.labels t.made.leaves) ∙ ap (map (reading_of r)) (sym y.2.labels);
+          hold = subst (Hold (with_unknowns s u)) (sym y.2.content) hold;
+          slots = h.allowed.slots ∙ same ∙ ap (map (reading_of (with_unknowns s u))) (sym y.2.labels);
           own = subst (λ ks. HaveValues ks s.own.terms s.slots) (sym y.2.kinds) h.allowed.own;
           proper = h.allowed.proper ∙ ap (λ ks. s.own.proper && fits (map Some ks) s.own.terms) (sym y.2.kinds);
         };
@@ -878,3 +887,32 @@ apply_keeps t n a s h g =
         fit = subst (λ ks. FitPlaceholders ks s.own.terms) (sym y.2.kinds) h.fit;
       };
     }
+
+answer-keeps : (t : FrameTable) (n : Nested) (a : AnswerTrees) → is_fitting_answer (originals_of t n) a ≡ true → (s : Terms) → AllowsApart t s → Agrees a (values_at t n s) → GoesFurther t s (apply t n a)
+answer-keeps t n a e s h g =
+    let ls = goal_leaves (goal_in t n) in
+    let theirs = goal-leaves t n in
+    let q = g.0 in
+    let r = further t s q (known_in t n a e) a.kinds in
+    let sorted : IsSorted r.unknowns = extended-sorted s.unknowns q (known_in t n a e) t.content 0 a.kinds h.allowed.sorted g.1 in
+    let picks : ArePicked q a.values (map (reading_of r) ls) = subst (ArePicked q a.values) (sym (further-map t s q (known_in t n a e) a.kinds ls theirs)) g.2 in
+    let ones = pairs-one t.kinds t.content ls theirs a e r q sorted (all-agree r q ls a.values picks) (λ k i x. x.stands s.unknowns q ∙ ap (q k) (zero-plus t.kinds t.content ls theirs a e i)) in
+    let hold : Hold r (grown_of t n a e) =
+    subst (Every (Stands r)) (sym (for-bindings (known_in t n a e) t.content 0 a.kinds)) (further-holds t s q (known_in t n a e) a.kinds t.content.bindings t.made.table.values h.allowed.hold) in
+    let x = in-turn-keeps (better_in t n a e) (opens t n a e) (todo t n a e) (grown_of t n a e) r (grown-made t.kinds t.content ls theirs a e t.made.table) (pairs-made t.kinds t.content ls theirs a e)
+    (further-apart t s r (grown_of t n a e).ty_vars (grown_of t n a e).const_vars h refl sorted) hold ones in
+    let put : put_into t.content (originals_of t n) a ≡ Some (with_constraints (filled (values_in t n a e) a.constraints) x.0) =
+    ap (λ b. if b then applied t.content (originals_of t n) a else Some t.content) e
+    ∙ ap (option_map (with_constraints (filled (values_in t n a e) a.constraints))) (turns t.kinds t.content ls theirs a e (grown_of t n a e) ∙ x.1) in
+    goes-further t n a s r.unknowns (with_constraints (filled (values_in t n a e) a.constraints) x.0) h put sorted x.2 (sym (further-map t s q (known_in t n a e) a.kinds t.labels t.made.leaves))
+
+-- another answer changes nothing
+other-keeps : (t : FrameTable) (n : Nested) (a : AnswerTrees) → is_fitting_answer (originals_of t n) a ≡ false → (s : Terms) → AllowsApart t s → GoesFurther t s (apply t n a)
+other-keeps t n a e s h = goes-further t n a s s.unknowns t.content h (ap (λ b. if b then applied t.content (originals_of t n) a else Some t.content) e) h.allowed.sorted h.allowed.hold refl
+
+pub apply_keeps : (t : FrameTable) (n : Nested) (a : AnswerTrees) (s : Terms) → AllowsApart t s → Agrees a (values_at t n s) → GoesFurther t s (apply t n a)
+apply_keeps t n a s h g = by (is_fitting_answer (originals_of t n) a) refl
+  where
+    by : (b : Bool) → is_fitting_answer (originals_of t n) a ≡ b → GoesFurther t s (apply t n a)
+    by true e = answer-keeps t n a e s h g
+    by false e = other-keeps t n a e s h

@@ -120,7 +120,7 @@ clause-open static h = absurd (false-true h)
 clause-open l h = h
 
 -- ---- more labels are good
-last-made : (good : Label → Bool) (l : Label) → is_sort (sort_of l) of_lifetime ≡ true → good l ≡ true → (is_made good traits (leaf l) ≡ true) × (is_made good bounds (leaf l) ≡ true)
+pub last-made : (good : Label → Bool) (l : Label) → is_sort (sort_of l) of_lifetime ≡ true → good l ≡ true → (is_made good traits (leaf l) ≡ true) × (is_made good bounds (leaf l) ≡ true)
 last-made good dynamic e g = absurd (false-true e)
 last-made good (principal a b) e g = absurd (false-true e)
 last-made good (auto_trait a) e g = absurd (false-true e)

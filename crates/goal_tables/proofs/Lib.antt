@@ -21,3 +21,4 @@ pub mod Nodes
 pub mod Determined
 pub mod Widths
 pub mod WidthLaws
+pub mod WellFormed

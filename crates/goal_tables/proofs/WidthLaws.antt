@@ -1,7 +1,7 @@
 -- The questions and the answers of a frame's table are no wider than what was put in, nor is what equations and answers leave.
-use Rattle.std.proofs.Common.{◌≡◌, ℕ, ◌+◌, ◌≤◌, arith, Bool, true, false, ◌&&◌, if◌then◌else◌, List, [], ◌∷◌, map, Option, Some, None, refl, sym, ap, subst}
+use Rattle.std.proofs.Common.{◌≡◌, ℕ, ◌+◌, ◌≤◌, arith, Bool, true, false, ◌&&◌, if◌then◌else◌, List, [], ◌∷◌, map, Option, Some, None, refl, sym, ap, subst, ◌⊎◌, inl, inr}
 use Rattle.model.specs.Label.{Label, of_type, of_const, of_lifetime, infer, param, placeholder, canonical, bound, static}
-use Rattle.model.specs.Trees.{Trees, leaf, sort_of, is_sort, is_a}
+use Rattle.model.specs.Trees.{Trees, leaf, sort_of, is_a}
 use Rattle.infer_table.specs.Canonical.{OpenKinds, kind_of_leaf, kind_in_clause, relabeled, canonical_label, goal_leaves}
 use Rattle.infer_table.specs.Solutions.{Binding, resolved}
 use Rattle.infer_table.specs.Unification.{TableTrees}
@@ -12,17 +12,18 @@ use Rattle.infer_table.specs.declared.goal.MaybeCause.TheVariants.{Ambiguity, Ov
 use Rattle.canonical_forms.specs.Values.{Value}
 use Rattle.canonical_responses.specs.Raw.{variables_from}
 use Rattle.canonical_responses.specs.Responses.{AnswerTrees}
+use Rattle.canonical_responses.specs.Applied.{applied}
 use Rattle.goal_evaluator.specs.Lists.{Every}
 use Rattle.goal_tables.specs.Instances.{put_in, default_label}
 use Rattle.type_terms.specs.Made.{terms, is_made}
 use Rattle.goal_tables.specs.Equations.{IsValue}
 use Rattle.goal_tables.specs.Frames.{FrameTable, IsMadeFrame, Nested, slot_at, goal_in, question, Equation, is_open_label, term_of, in_turn}
-use Rattle.goal_tables.specs.Answers.{own_labels, answer_leaves, respond, is_fitting, matched, put_into, originals_of}
+use Rattle.goal_tables.specs.Answers.{own_labels, answer_leaves, respond, is_fitting_answer, put_into, originals_of}
 use Rattle.goal_tables.specs.Widths.{width, number_of, number_of_values, BindingsWithin, TableWithin, NestedWithin, EquationWithin}
 use Rattle.goal_tables.proofs.Equating.{made-in-turn, frame_if, pairs_in, equate}
-use Rattle.goal_tables.proofs.Applying.{for-bindings, put-made, apply}
+use Rattle.goal_tables.proofs.Applying.{for-bindings, put-cases, put-made, apply}
 use Rattle.goal_tables.proofs.Fresh.{unknown, fresh, recorded}
-use Rattle.goal_tables.proofs.Widths.{IsOne, AllOneValues, leaf-values-one, applied-pairs-within, IsWithin, within, width-within, single-count, leaf-one, AllOne, within-resolved, IsOneIf, within-put, within-relabeled, PairsWithin, in-turn-within}
+use Rattle.goal_tables.proofs.Widths.{AllOneValues, leaf-values-one, applied-within, IsWithin, within, width-within, single-count, leaf-one, AllOne, within-resolved, IsOneIf, within-put, within-relabeled, PairsWithin, in-turn-within}
 
 -- ---- tables
 values-one : (n : ℕ) (good : Label → Bool) (bs : List Binding) → Every (IsValue good) bs → BindingsWithin n bs → AllOne n bs
@@ -109,19 +110,13 @@ respond_within n t (Maybe Overflow) h = variables-number n 0 t.kinds
 respond_within n t (Maybe Ambiguity) h = resolved-number n t (canonical_label (answer_leaves t)) (own_labels t.kinds t.labels) h
 
 -- ---- answers that are put in
-matched-within : (n : ℕ) (ks : List CanonicalVarKind) (os vs : List Value) → AllOneValues n os → number_of_values vs ≤ n → Every (λ (p : Value × Value). IsOne n p.0.trees × (width p.1.trees ≤ n)) (matched ks os vs)
-matched-within n ks [] vs h g = tt
-matched-within n ks (o ∷ os) [] h g = tt
-matched-within n ks (o ∷ os) (v ∷ vs) h g = by (is_sort o.sort v.sort && is_fitting ks v) (matched-within n ks os vs h.1 (omega (arith, g)))
-  where
-    by : (b : Bool) → Every (λ (p : Value × Value). IsOne n p.0.trees × (width p.1.trees ≤ n)) (matched ks os vs)
-        → Every (λ (p : Value × Value). IsOne n p.0.trees × (width p.1.trees ≤ n)) (if b then (o, v) ∷ matched ks os vs else matched ks os vs)
-    by true e = ((h.0, omega (arith, g)), e)
-    by false e = e
-
 pub put-into-within : (n : ℕ) (t : TableTrees) (originals : List Value) (a : AnswerTrees) (u : TableTrees) → BindingsWithin n t.bindings → AllOneValues n originals → number_of_values a.values ≤ n
     → put_into t originals a ≡ Some u → BindingsWithin n u.bindings
-put-into-within n t originals a u h g r e = applied-pairs-within n t (matched a.kinds originals a.values) a u h (matched-within n a.kinds originals a.values g r) e
+put-into-within n t originals a u h g r e = by (put-cases t originals a u e)
+  where
+    by : ((is_fitting_answer originals a ≡ true) × (applied t originals a ≡ Some u)) ⊎ (t ≡ u) → BindingsWithin n u.bindings
+    by (inl x) = applied-within n t originals a u h g r x.1
+    by (inr x) = subst (λ (w : TableTrees). BindingsWithin n w.bindings) x h
 
 pub apply_within : (n : ℕ) (t u : FrameTable) (g : Nested) (a : AnswerTrees) → TableWithin n t → number_of_values a.values ≤ n → apply t g a ≡ Some u → TableWithin n u
 apply_within n t u g a h r e =

@@ -416,16 +416,3 @@ pub applied-within : (n : ℕ) (t : TableTrees) (originals : List Value) (a : An
     → applied t originals a ≡ Some u → BindingsWithin n u.bindings
 applied-within n t originals a u h g r e =
     bindings-within n u.bindings (table-of n (applied t originals a) u (applied-keeps n t originals a (are-within n t.bindings h) g (values-within n a.values r)) e)
-
--- the same where values of a goal are put together with those of an answer
-pub applied-pairs-within : (n : ℕ) (t : TableTrees) (m : List (Value × Value)) (a : AnswerTrees) (u : TableTrees) → BindingsWithin n t.bindings → Every (λ (p : Value × Value). IsOne n p.0.trees × (width p.1.trees ≤ n)) m
-    → applied t (map (λ (p : Value × Value). p.0) m) (record a { values = map (λ (p : Value × Value). p.1) m }) ≡ Some u → BindingsWithin n u.bindings
-applied-pairs-within n t m a u h g e = applied-within n t (map (λ (p : Value × Value). p.0) m) (record a { values = map (λ (p : Value × Value). p.1) m }) u h (lefts m g) (rights m g) e
-  where
-    lefts : (m : List (Value × Value)) → Every (λ (p : Value × Value). IsOne n p.0.trees × (width p.1.trees ≤ n)) m → AllOneValues n (map (λ (p : Value × Value). p.0) m)
-    lefts [] g = tt
-    lefts (p ∷ m) g = (g.0.0, lefts m g.1)
-
-    rights : (m : List (Value × Value)) → Every (λ (p : Value × Value). IsOne n p.0.trees × (width p.1.trees ≤ n)) m → number_of_values (map (λ (p : Value × Value). p.1) m) ≤ n
-    rights [] g = omega arith
-    rights (p ∷ m) g = let a = g.0.1 in let b = rights m g.1 in omega (arith, a, b)

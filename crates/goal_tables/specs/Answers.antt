@@ -12,7 +12,9 @@ use Rattle.infer_table.specs.declared.goal.MaybeCause.TheVariants.{Overflow}
 use Rattle.canonical_forms.specs.Values.{Value}
 use Rattle.canonical_responses.specs.Raw.{sort_of_kind, variables_from}
 use Rattle.canonical_responses.specs.Responses.{AnswerTrees}
+use Rattle.canonical_responses.specs.Answers.{is_answer_to}
 use Rattle.canonical_responses.specs.Applied.{applied}
+use Rattle.goal_evaluator.specs.Lists.{Every}
 use Rattle.goal_tables.specs.Instances.{read_with, of_sort, first_term, other_terms}
 use Rattle.goal_tables.specs.Content.{Values}
 use Rattle.type_terms.specs.Made.{terms, is_made}
@@ -116,17 +118,22 @@ is_variable_of ks l = is_open_label l
 abbrev pub is_fitting : List CanonicalVarKind → Value → Bool
 is_fitting ks v = is_a v.sort v.trees && is_made (is_variable_of ks) terms v.trees
 
--- the values of the goal's variables, each with the answer's; what does not fit says nothing
-abbrev pub matched : List CanonicalVarKind → List Value → List Value → List (Value × Value)
-matched ks [] vs = []
-matched ks (o ∷ os) [] = []
-matched ks (o ∷ os) (v ∷ vs) = if is_sort o.sort v.sort && is_fitting ks v then (o, v) ∷ matched ks os vs else matched ks os vs
+-- each value is such a term
+abbrev pub are_fitting : List CanonicalVarKind → List Value → Bool
+are_fitting ks [] = true
+are_fitting ks (v ∷ vs) = is_fitting ks v && are_fitting ks vs
 
--- an answer to a goal whose variables have these values, put into the table; none: refused
+-- each value of the answer is a term of its sort over the answer's own variables, whatever it answers
+abbrev pub IsWellFormed : AnswerTrees → Type 0
+IsWellFormed a = Every (λ v. is_fitting a.kinds v ≡ true) a.values
+
+-- it is an answer to a goal whose variables have these values, made as answers are
+abbrev pub is_fitting_answer : List Value → AnswerTrees → Bool
+is_fitting_answer originals a = is_answer_to originals a && are_fitting a.kinds a.values
+
+-- an answer to a goal whose variables have these values, put into the table; none: refused. Any other says nothing
 abbrev pub put_into : TableTrees → List Value → AnswerTrees → Option TableTrees
-put_into t originals a =
-    let m = matched a.kinds originals a.values in
-    applied t (map (λ (p : Value × Value). p.0) m) (record a { values = map (λ (p : Value × Value). p.1) m })
+put_into t originals a = if is_fitting_answer originals a then applied t originals a else Some t
 
 -- an open leaf as a value
 abbrev pub leaf_value : Label → Value

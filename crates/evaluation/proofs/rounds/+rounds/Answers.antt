@@ -1,4 +1,4 @@
-use Rattle.std.proofs.Common.{arith, ◌≡◌, suc, ◌-◌, List, [], map, Ok, Err, sym, subst, ap, ◌∙◌}
+use Rattle.std.proofs.Common.{arith, ◌≡◌, suc, ◌-◌, map, Ok, Err, sym, subst, ap, ◌∙◌}
 use Rattle.infer_table.specs.Unification.{table_trees}
 use Rattle.goal_evaluator.specs.Replays.{run}
 use Rattle.goal_evaluator.specs.Rounds.{round, rounds}

@@ -1,6 +1,6 @@
-use Rattle.std.proofs.Common.{◌≡◌, rules, subst, map, ap, sym, ◌∙◌, Ok}
+use Rattle.std.proofs.Common.{◌≡◌, rules, subst, map, ◌∙◌, Ok}
 use Rattle.infer_table.proofs.PairFacts.{table-kept}
-use Rattle.evaluation.specs.Context.{Context, NestedHeld, IsReady, nested_goal}
+use Rattle.evaluation.specs.Context.{NestedHeld, nested_goal}
 use Rattle.infer_table.specs.Unification.{table_trees}
 use Rattle.goal_evaluator.specs.Replays.{run}
 use Rattle.goal_evaluator.specs.Rounds.{rounds}

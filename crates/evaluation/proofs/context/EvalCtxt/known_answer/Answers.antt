@@ -1,4 +1,4 @@
-use Rattle.std.proofs.Common.{◌≡◌, sym, subst, IfOk, Ok}
+use Rattle.std.proofs.Common.{sym, subst, IfOk}
 use Rattle.infer_table.specs.Content.{Ready}
 use Rattle.evaluation.specs.Context.{Context}
 use Rattle.evaluation.specs.ContextView.{context_of}

@@ -5,7 +5,6 @@ use Rattle.goal_evaluator.specs.Replays.{run}
 use Rattle.goal_evaluator.specs.Rounds.{rounds}
 use Rattle.goal_evaluator.specs.declared.TheConstants.{FIXPOINT_STEP_LIMIT}
 use Rattle.evaluation.specs.Context.{Context, IsReady, NestedHeld, nested_goal}
-use Rattle.evaluation.specs.ContextView.{context_of}
 use Rattle.evaluation.specs.Evaluating.{evaluation, goals_trees, replies_trees}
 use Rattle.evaluation.specs.Steps.{RoundsEnd}
 use Rattle.evaluation.proofs.Contexts.{ready-with-table}

@@ -1,9 +1,0 @@
-use Rattle.evaluation.specs.Context.{nested_goal}
-use Rattle.evaluation.proofs.Contexts.{context-later, ready-added}
-use Rattle.evaluation.proofs.tests.begun_with_two.Goals as goal
-
-pub returns : goal.returns
-returns c =
-    ready-added c.shown.new.cx.entries c.in_ok-context.context c.add_goal.new.self (nested_goal (_, c.in_ok-goal.goal)) c.in_ok-add_goal.ensures.added
-    (context-later c.begun_with.new.cx.entries c.shown.new.cx.entries c.shown.ensures.keeps c.in_ok-context.context c.in_ok-context.ensures)
-    (record { clauses = c.in_ok-goal.ensures.held.environment; predicate = c.in_ok-goal.ensures.held.predicate })
