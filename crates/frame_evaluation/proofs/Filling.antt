@@ -1,26 +1,28 @@
 -- What is filled in code is what is put into the tables of frames.
-use Rattle.std.proofs.Common.{◌≡◌, ℕ, zero, suc, ◌+◌, ◌==◌, not, arith, Bool, true, false, ◌&&◌, List, [], ◌∷◌, map, refl, sym, ◌∙◌, ap, subst, Option, Some, None, if◌then◌else◌}
+use Rattle.std.proofs.Common.{◌≡◌, ℕ, zero, suc, ◌+◌, ◌==◌, not, arith, Bool, true, false, ◌&&◌, List, [], ◌∷◌, map, refl, sym, ◌∙◌, ap, Some, None, if◌then◌else◌}
 use Rattle.std.specs.List.{slice_get}
 use Rattle.model.specs.Label.{Label, Sort, of_type, of_const, of_lifetime, infer, param, placeholder, canonical, bound, static}
-use Rattle.model.specs.Trees.{Trees, none, tree, leaf, ◌+++◌, sort_of, is_sort, is_a, placed}
+use Rattle.model.specs.Trees.{Trees, none, tree, leaf, ◌+++◌, is_sort, is_a, placed}
 use Rattle.type_terms.specs.Made.{terms, is_leaf_label, is_made}
-use Rattle.infer_table.specs.Canonical.{GoalTrees, kind_of_leaf}
+use Rattle.infer_table.specs.Canonical.{GoalTrees}
 use Rattle.infer_table.specs.Unification.{TableTrees}
 use Rattle.infer_table.specs.declared.canonical.CanonicalVarKind.{CanonicalVarKind}
 use Rattle.canonical_forms.specs.Leaves.{root_label}
 use Rattle.canonical_forms.specs.Values.{Value, value_for, filled, goal_filled}
-use Rattle.canonical_responses.specs.Raw.{sort_of_kind}
 use Rattle.canonical_responses.specs.Responses.{AnswerTrees}
+use Rattle.canonical_responses.specs.Answers.{is_answer_to}
 use Rattle.canonical_responses.specs.Applied.{applied}
-use Rattle.goal_evaluator.specs.Lists.{Pairwise}
+use Rattle.goal_evaluator.specs.Lists.{Every}
 use Rattle.goal_evaluator.specs.Responses.{is_variable, is_identity_modulo_regions}
 use Rattle.goal_tables.specs.Instances.{put_in, goal_put_in, default_label}
 use Rattle.goal_tables.specs.Frames.{label_at, label_of_sort, slot_at, term_of}
-use Rattle.goal_tables.specs.Answers.{is_variable_itself, are_variables, has_values, is_variable_of, is_fitting, matched, put_into, leaf_value}
+use Rattle.goal_tables.specs.Answers as Frames
+use Rattle.goal_tables.specs.Answers.{is_variable_itself, are_variables, has_values, is_variable_of, is_fitting, are_fitting, IsWellFormed, leaf_value}
 use Rattle.goal_tables.proofs.Made.{false-true, left, right, both, no-tree, made-ordinary}
 use Rattle.goal_tables.proofs.Beginning.{sort-is}
 use Rattle.goal_tables.proofs.Equating.{single-of}
-use Rattle.frame_evaluation.specs.Fitting.{is_of_sort, is_slot, AreOver, IsGoalOver, IsValueOver, IsAnswerTo, Answers}
+use Rattle.evaluation.specs.Evaluating.{put_into}
+use Rattle.frame_evaluation.specs.Fitting.{is_of_sort, is_slot, AreOver, IsGoalOver, IsValueOver}
 
 -- ---- one variable
 sort-self : (k : Sort) → is_sort k k ≡ true
@@ -88,58 +90,20 @@ term-is ls v h = ap (λ b. if b then v.trees else leaf (default_label v.sort)) (
 pub side-is : (ls : List Label) (v : Value) → IsValueOver ls v → filled (map leaf_value ls) v.trees ≡ put_in (slot_at ls) (term_of v)
 side-is ls v h = filled-is ls v.trees h.over ∙ ap (put_in (slot_at ls)) (sym (term-is ls v h))
 
--- ---- answers that fit are matched whole
-kind-sort : (l : Label) (k : CanonicalVarKind) → kind_of_leaf l ≡ Some k → sort_of_kind k ≡ sort_of l
-kind-sort (infer of_type v) k e = cc
-kind-sort (infer of_const v) k e = cc
-kind-sort (infer of_lifetime v) k e = cc
-kind-sort (param of_type v) k e = cc
-kind-sort (param of_const v) k e = cc
-kind-sort (param of_lifetime v) k e = cc
-kind-sort (placeholder of_type v) k e = cc
-kind-sort (placeholder of_const v) k e = cc
-kind-sort (placeholder of_lifetime v) k e = cc
-kind-sort static k e = cc
-kind-sort l k e = absurd (cc)
+-- ---- what is well-formed is put in alike
+all-fit : (own : List CanonicalVarKind) (vs : List Value) → Every (λ v. is_fitting own v ≡ true) vs → are_fitting own vs ≡ true
+all-fit own [] h = refl
+all-fit own (v ∷ vs) h = both (is_fitting own v) _ h.0 (all-fit own vs h.1)
 
-pair-fits : (own : List CanonicalVarKind) (l : Label) (v : Value) → IsAnswerTo own (kind_of_leaf l) v → (is_sort (sort_of l) v.sort && is_fitting own v) ≡ true
-pair-fits own l v x = both (is_sort (sort_of l) v.sort) _ (ap (λ z. is_sort z v.sort) (sym (kind-sort l x.kind x.is) ∙ x.sort) ∙ sort-self v.sort) x.fits
+and-true : (b : Bool) → (b && true) ≡ b
+and-true true = refl
+and-true false = refl
 
-firsts-are : (own : List CanonicalVarKind) (kinds : List (Option CanonicalVarKind)) (ls : List Label) (vs : List Value) → map kind_of_leaf ls ≡ kinds → Pairwise (IsAnswerTo own) kinds vs
-    → map (λ (p : Value × Value). p.0) (matched own (map leaf_value ls) vs) ≡ map leaf_value ls
-firsts-are own kinds ls vs e h = by ls vs (subst (λ z. Pairwise (IsAnswerTo own) z vs) (sym e) h)
-  where
-    cons : (x y : Value) (xs ys : List Value) → x ≡ y → xs ≡ ys → ◌≡◌ {A = List Value} (x ∷ xs) (y ∷ ys)
-    cons x y xs ys e f = cc
-
-    by : (ls : List Label) (vs : List Value) → Pairwise (IsAnswerTo own) (map kind_of_leaf ls) vs → map (λ (p : Value × Value). p.0) (matched own (map leaf_value ls) vs) ≡ map leaf_value ls
-    by [] [] h = refl
-    by [] (v ∷ vs) h = refl
-    by (l ∷ ls) [] h = absurd h
-    by (l ∷ ls) (v ∷ vs) h =
-        ap (λ b. map (λ (p : Value × Value). p.0) (if b then (leaf_value l, v) ∷ matched own (map leaf_value ls) vs else matched own (map leaf_value ls) vs)) (pair-fits own l v h.0)
-        ∙ cons (leaf_value l) (leaf_value l) _ _ refl (by ls vs h.1)
-
-seconds-are : (own : List CanonicalVarKind) (kinds : List (Option CanonicalVarKind)) (ls : List Label) (vs : List Value) → map kind_of_leaf ls ≡ kinds → Pairwise (IsAnswerTo own) kinds vs
-    → map (λ (p : Value × Value). p.1) (matched own (map leaf_value ls) vs) ≡ vs
-seconds-are own kinds ls vs e h = by ls vs (subst (λ z. Pairwise (IsAnswerTo own) z vs) (sym e) h)
-  where
-    cons : (x y : Value) (xs ys : List Value) → x ≡ y → xs ≡ ys → ◌≡◌ {A = List Value} (x ∷ xs) (y ∷ ys)
-    cons x y xs ys e f = cc
-
-    by : (ls : List Label) (vs : List Value) → Pairwise (IsAnswerTo own) (map kind_of_leaf ls) vs → map (λ (p : Value × Value). p.1) (matched own (map leaf_value ls) vs) ≡ vs
-    by [] [] h = refl
-    by [] (v ∷ vs) h = absurd h
-    by (l ∷ ls) [] h = absurd h
-    by (l ∷ ls) (v ∷ vs) h =
-        ap (λ b. map (λ (p : Value × Value). p.1) (if b then (leaf_value l, v) ∷ matched own (map leaf_value ls) vs else matched own (map leaf_value ls) vs)) (pair-fits own l v h.0)
-        ∙ cons v v _ _ refl (by ls vs h.1)
-
--- an answer to the question is put in whole
-pub put-whole : (t : TableTrees) (ls : List Label) (a : AnswerTrees) → Answers (map kind_of_leaf ls) a → put_into t (map leaf_value ls) a ≡ applied t (map leaf_value ls) a
-put-whole t ls a h =
-    ap (λ os. applied t os (record a { values = map (λ (p : Value × Value). p.1) (matched a.kinds (map leaf_value ls) a.values) })) (firsts-are a.kinds (map kind_of_leaf ls) ls a.values refl h)
-    ∙ ap (λ vs. applied t (map leaf_value ls) (record a { values = vs })) (seconds-are a.kinds (map kind_of_leaf ls) ls a.values refl h)
+pub put-alike : (t : TableTrees) (originals : List Value) (a : AnswerTrees) → IsWellFormed a → Frames.put_into t originals a ≡ put_into t originals a
+unfolding put_into
+put-alike t originals a h =
+    ap (λ b. if is_answer_to originals a && b then applied t originals a else Some t) (all-fit a.kinds a.values h)
+    ∙ ap (λ b. if b then applied t originals a else Some t) (and-true (is_answer_to originals a))
 
 -- ---- whether answers hold values
 itself-root : (own : List CanonicalVarKind) (i : ℕ) (v : Value) → is_fitting own v ≡ true → is_variable_itself i v.sort v.trees ≡ is_variable i (root_label v.trees)
@@ -161,13 +125,11 @@ itself-root own i v h = by v.sort v.trees h
     by k (tree (canonical s j) c o) h = leaf-only k s j c o h
     by k (tree l c o) h = refl
 
-pub same-variables : (own : List CanonicalVarKind) (kinds : List (Option CanonicalVarKind)) (i : ℕ) (vs : List Value) → Pairwise (IsAnswerTo own) kinds vs → are_variables i vs ≡ is_identity_modulo_regions i vs
-same-variables own [] i [] h = refl
-same-variables own [] i (v ∷ vs) h = absurd h
-same-variables own (k ∷ kinds) i [] h = absurd h
-same-variables own (k ∷ kinds) i (v ∷ vs) h =
-    ap (λ b. if b then are_variables (suc i) vs else (is_sort v.sort of_lifetime && are_variables i vs)) (itself-root own i v h.0.fits)
-    ∙ by (is_variable i (root_label v.trees)) (ap (λ n. are_variables n vs) (next i) ∙ same-variables own kinds (i + 1) vs h.1) (same-variables own kinds i vs h.1)
+pub same-variables : (own : List CanonicalVarKind) (i : ℕ) (vs : List Value) → Every (λ v. is_fitting own v ≡ true) vs → are_variables i vs ≡ is_identity_modulo_regions i vs
+same-variables own i [] h = refl
+same-variables own i (v ∷ vs) h =
+    ap (λ b. if b then are_variables (suc i) vs else (is_sort v.sort of_lifetime && are_variables i vs)) (itself-root own i v h.0)
+    ∙ by (is_variable i (root_label v.trees)) (ap (λ n. are_variables n vs) (next i) ∙ same-variables own (i + 1) vs h.1) (same-variables own i vs h.1)
   where
     next : (i : ℕ) → suc i ≡ i + 1
     next i = omega arith
@@ -177,5 +139,5 @@ same-variables own (k ∷ kinds) i (v ∷ vs) h =
     by true p q = p
     by false p q = ap (λ z. is_sort v.sort of_lifetime && z) q
 
-pub same-values : (kinds : List (Option CanonicalVarKind)) (a : AnswerTrees) → Answers kinds a → has_values a ≡ not (is_identity_modulo_regions 0 a.values)
-same-values kinds a h = ap not (same-variables a.kinds kinds 0 a.values h)
+pub same-values : (a : AnswerTrees) → IsWellFormed a → has_values a ≡ not (is_identity_modulo_regions 0 a.values)
+same-values a h = ap not (same-variables a.kinds 0 a.values h)

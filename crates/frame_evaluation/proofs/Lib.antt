@@ -1,2 +1,5 @@
 pub mod Filling
 pub mod Rounds
+pub mod Beginnings
+pub mod Responding
+pub mod Candidates

@@ -1,14 +1,12 @@
 -- What rounds do with a table of a frame is what an evaluation does with its content.
-use Rattle.std.proofs.Common.{◌≡◌, Bool, not, List, map, refl, sym, ◌∙◌, ap, Option, Some, None}
+use Rattle.std.proofs.Common.{◌≡◌, Bool, not, List, refl, ◌∙◌, ap, Option, Some, None}
 use Rattle.model.specs.Label.{Label}
-use Rattle.infer_table.specs.Canonical.{canonical_form, goal_leaves, kind_of_leaf}
+use Rattle.infer_table.specs.Canonical.{canonical_form}
 use Rattle.infer_table.specs.Unification.{TableTrees}
 use Rattle.infer_table.specs.declared.canonical.CanonicalVarKind.{CanonicalVarKind}
 use Rattle.infer_table.specs.declared.goal.TypingMode.{TypingMode}
 use Rattle.canonical_forms.specs.Goals.{goal_resolved}
-use Rattle.canonical_forms.specs.Values.{Value}
 use Rattle.canonical_responses.specs.Responses.{AnswerTrees}
-use Rattle.canonical_responses.specs.Applied.{applied}
 use Rattle.goal_evaluator.specs.Lists.{OnBoth}
 use Rattle.goal_evaluator.specs.Table.{operations}
 use Rattle.goal_evaluator.proofs.Correspondences.{rounds_correspond}
@@ -16,21 +14,16 @@ use Rattle.goal_evaluator.specs.Responses.{is_identity_modulo_regions}
 use Rattle.goal_tables.specs.Instances.{goal_put_in}
 use Rattle.goal_tables.specs.Frames.{FrameTable, IsMadeFrame, Nested, slot_at, goal_in}
 use Rattle.goal_tables.specs.Answers as Frames
-use Rattle.goal_tables.specs.Answers.{leaf_value, originals_of}
+use Rattle.goal_tables.specs.Answers.{IsWellFormed, originals_of}
 use Rattle.goal_tables.proofs.Equating.{frame_if}
 use Rattle.goal_tables.proofs.Applying.{put-made}
 use Rattle.frame_tables.specs.Tables.{frame_tables}
 use Rattle.evaluation.specs.Evaluating.{evaluation, NestedTrees, goal_values, put_into}
-use Rattle.frame_evaluation.specs.Fitting.{Answers}
 use Rattle.frame_evaluation.specs.Rounds.{in_rounds, RoundsEndAlike, AreOneTable, AreOneGoal, RoundsAreOne}
-use Rattle.frame_evaluation.proofs.Filling.{put-whole, same-values}
+use Rattle.frame_evaluation.proofs.Filling.{put-alike, same-values}
 
 some-is : (x y : TableTrees) → Some x ≡ Some y → x ≡ y
 some-is x y e = cc
-
-put-is : (t : TableTrees) (vs : List Value) (a : AnswerTrees) → put_into t vs a ≡ applied t vs a
-unfolding put_into
-put-is t vs a = refl
 
 module _ (mode : TypingMode) (coinductive : Bool) (kinds : List CanonicalVarKind) (labels : List Label) where
   -- the frame that is left has the content that is left
@@ -48,13 +41,12 @@ module _ (mode : TypingMode) (coinductive : Bool) (kinds : List CanonicalVarKind
       ∙ ap (goal_resolved u.bindings) g.goal_is
 
   applies-alike : (t : FrameTable) (u : TableTrees) (n : Nested) (m : NestedTrees) (a b : AnswerTrees) → AreOneTable mode coinductive kinds labels t u → AreOneGoal mode coinductive kinds labels n m
-      → a ≡ b → Answers (map kind_of_leaf (goal_leaves (goal_in t n))) a → Frames.put_into t.content (originals_of t n) a ≡ put_into u (goal_values (goal_resolved u.bindings m.goal)) b
+      → a ≡ b → IsWellFormed a → Frames.put_into t.content (originals_of t n) a ≡ put_into u (goal_values (goal_resolved u.bindings m.goal)) b
   applies-alike t u n m a b h g e fits =
-      put-whole t.content (goal_leaves (goal_in t n)) a fits
-      ∙ ap (λ w. applied w (originals_of t n) a) h.content_is
-      ∙ ap (λ x. applied u (goal_values x) a) (goal-is t u n m h g)
-      ∙ ap (applied u (goal_values (goal_resolved u.bindings m.goal))) e
-      ∙ sym (put-is u (goal_values (goal_resolved u.bindings m.goal)) b)
+      put-alike t.content (originals_of t n) a fits
+      ∙ ap (λ w. put_into w (originals_of t n) a) h.content_is
+      ∙ ap (λ x. put_into u (goal_values x) a) (goal-is t u n m h g)
+      ∙ ap (put_into u (goal_values (goal_resolved u.bindings m.goal))) e
 
 pub rounds-are-one : RoundsAreOne
 rounds-are-one mode coinductive kinds labels = record {
@@ -63,7 +55,7 @@ rounds-are-one mode coinductive kinds labels = record {
       frames-alike mode coinductive kinds labels t (Frames.put_into t.content (originals_of t n) a) (put-made t n a) (put_into u (goal_values (goal_resolved u.bindings m.goal)) b) h.kinds_are h.labels_are
       (applies-alike mode coinductive kinds labels t u n m a b h g x.is x.fits);
   certainty = λ q a b x. ap (λ (z : AnswerTrees). z.certainty) x.is;
-  has_values = λ q a b x. same-values q.form.kinds a x.fits ∙ ap (λ (z : AnswerTrees). not (is_identity_modulo_regions 0 z.values)) x.is;
+  has_values = λ q a b x. same-values a x.fits ∙ ap (λ (z : AnswerTrees). not (is_identity_modulo_regions 0 z.values)) x.is;
 }
 
 pub rounds-end-alike : RoundsEndAlike

@@ -1,17 +1,12 @@
--- What may be put into a table of a frame, as a lawful handler's candidates and the answers to its questions are.
+-- What may be put into a table of a frame, as the candidates of a lawful handler are.
 use Rattle.std.specs.Prelude.{◌≡◌, Bool, true, false, List, Option, Some, None}
 use Rattle.std.specs.List.{slice_get}
 use Rattle.model.specs.Label.{Label, Sort, infer, param, placeholder, canonical}
 use Rattle.model.specs.Trees.{Trees, none, tree, sort_of, is_sort, is_a}
 use Rattle.type_terms.specs.Made.{terms, is_leaf_label, is_made}
 use Rattle.infer_table.specs.Canonical.{GoalTrees}
-use Rattle.infer_table.specs.declared.canonical.CanonicalVarKind.{CanonicalVarKind}
 use Rattle.canonical_forms.specs.Values.{Value}
-use Rattle.canonical_responses.specs.Raw.{sort_of_kind}
-use Rattle.canonical_responses.specs.Responses.{AnswerTrees}
-use Rattle.goal_evaluator.specs.Lists.{Pairwise}
 use Rattle.goal_tables.specs.Frames.{is_open_label}
-use Rattle.goal_tables.specs.Answers.{is_fitting}
 
 -- ---- terms over the canonical variables that stand for these labels
 abbrev pub is_of_sort : Sort → Option Label → Bool
@@ -40,14 +35,3 @@ pub record IsValueOver (ls : List Label) (v : Value) : Type 0 where
   pub sort : is_a v.sort v.trees ≡ true
   pub made : is_made is_open_label terms v.trees ≡ true
   pub over : AreOver ls v.trees
-
--- ---- answers to a question whose variables are of these kinds
--- the value is a term over the answer's own variables, of the sort of the question's variable
-pub record IsAnswerTo (own : List CanonicalVarKind) (k : Option CanonicalVarKind) (v : Value) : Type 0 where
-  pub kind : CanonicalVarKind
-  pub is : k ≡ Some kind
-  pub sort : sort_of_kind kind ≡ v.sort
-  pub fits : is_fitting own v ≡ true
-
-abbrev pub Answers : List (Option CanonicalVarKind) → AnswerTrees → Type 0
-Answers kinds a = Pairwise (IsAnswerTo a.kinds) kinds a.values

@@ -1,2 +1,4 @@
+pub mod Answers
 pub mod Fitting
 pub mod Rounds
+pub mod Candidates

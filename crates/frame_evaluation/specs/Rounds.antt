@@ -11,9 +11,9 @@ use Rattle.goal_evaluator.specs.Correspondences.{Correspondence, IsCorrespondenc
 use Rattle.goal_tables.specs.Instances.{goal_put_in}
 use Rattle.goal_tables.specs.Content as Frames
 use Rattle.goal_tables.specs.Frames.{FrameTable, Nested, slot_at}
+use Rattle.goal_tables.specs.Answers.{IsWellFormed}
 use Rattle.frame_tables.specs.Tables.{frame_tables}
 use Rattle.evaluation.specs.Evaluating.{Question, NestedTrees, evaluation}
-use Rattle.frame_evaluation.specs.Fitting.{Answers}
 
 -- in this mode, for a goal whose trait is coinductive or not, in tables of these kinds and labels
 module _ (mode : TypingMode) (coinductive : Bool) (kinds : List CanonicalVarKind) (labels : List Label) where
@@ -34,15 +34,15 @@ module _ (mode : TypingMode) (coinductive : Bool) (kinds : List CanonicalVarKind
     pub form_is : p.form ≡ q.form
     pub step_is : p.coinductive ≡ is_coinductive_step coinductive q.source
 
-  -- one answer, which fits the question
+  -- one answer, which is well-formed in itself: whether it is one to the question is for both to see
   pub record AreOneAnswer (p : Frames.Question) (a b : AnswerTrees) : Type 0 where
     pub is : a ≡ b
-    pub fits : Answers p.form.kinds a
+    pub fits : IsWellFormed a
 
   abbrev pub in_rounds : Correspondence (operations frame_tables) (evaluation mode)
   in_rounds = record { Tables = AreOneTable; Goals = AreOneGoal; Questions = AreOneQuestion; Responses = AreOneAnswer }
 
--- so, over answers that fit their questions, rounds over both ask the same questions and end alike
+-- so, over well-formed answers, rounds over both ask the same questions and end alike
 abbrev pub RoundsAreOne : Type 0
 RoundsAreOne = (mode : TypingMode) (coinductive : Bool) (kinds : List CanonicalVarKind) (labels : List Label) → IsCorrespondence (operations frame_tables) (evaluation mode) (in_rounds mode coinductive kinds labels)
 

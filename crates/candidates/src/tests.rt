@@ -1,0 +1,185 @@
+//! A candidate for `^0: Show`: that `[T]` is `Show` if `T` is.
+ghost use Rattle.std.specs.Prelude.{◌<◌, List, IfOk, Some};
+ghost use Rattle.type_terms.specs.Terms.{Entry, Has, Keeps, types};
+ghost use Rattle.canonical_forms.specs.Goals.{GoalHeld};
+ghost use Rattle.goal_evaluator.specs.Lists.{Every};
+ghost use Rattle.goal_evaluator.specs.Readings.{EquationHeld, SpecHeld, ResultHeld};
+
+use crate::evaluate_candidate;
+use canonical_forms::goal::Goal;
+use canonical_forms::input::CanonicalInput;
+use canonical_forms::response::CanonicalResponse;
+use evaluation::{EvalError, EvalStep};
+use goal_evaluator::{BuiltinImplSource, CandidateSource, CandidateSpec, GoalSource};
+use infer_table::canonical::CanonicalVarKind;
+use infer_table::goal::{Certainty, TypingMode};
+use infer_table::terms::Equation;
+use std::alloc::Global;
+use std::test::Fail;
+use term_folds::predicate::{TraitPredicate, TraitRef};
+use type_terms::interner::Interner;
+use type_terms::kinds::{GenericArgKind, Ty, TyKind, UintTy};
+use type_terms::number::{BoundVar, BoundVarIndexKind};
+use type_terms::{Fault, TraitId};
+
+/// Canonical variable `^index`.
+fn variable(cx: &mut Interner, index: u32) -> Result<Ty, Fault>
+    requires { index < 100 }
+    ensures held { IfOk result (λ ty. Has cx.new.entries types ty.0) }
+    ensures keeps { Keeps cx.old.entries cx.new.entries }
+{
+    cx.mk_ty(TyKind::Bound(BoundVarIndexKind::Canonical, BoundVar { index }))
+}
+
+/// `^index: Show`.
+fn shown(alloc: Global, cx: &mut Interner, index: u32) -> Result<Goal, Fault>
+    requires { index < 100 }
+    ensures held { IfOk result (λ goal. GoalHeld cx.new.entries goal) }
+    ensures keeps { Keeps cx.old.entries cx.new.entries }
+{
+    let ty = variable(cx, index)?;
+    let args = cx.mk_args(vec![in alloc; GenericArgKind::Ty(ty)]?)?;
+    let def_id = TraitId { index: 2 };
+    Ok(Goal {
+        param_env: Vec::new(alloc),
+        predicate: TraitPredicate {
+            trait_ref: TraitRef { def_id, args },
+        },
+    })
+}
+
+/// The question `^0: Show`.
+fn question(alloc: Global, cx: &mut Interner) -> Result<CanonicalInput, Fault>
+    ensures held { IfOk result (λ input. GoalHeld cx.new.entries input.goal) }
+    ensures keeps { Keeps cx.old.entries cx.new.entries }
+{
+    let goal = shown(alloc, cx, 0)?;
+    Ok(CanonicalInput {
+        mode: TypingMode::PostAnalysis,
+        goal,
+        variables: vec![in alloc; CanonicalVarKind::Ty]?,
+    })
+}
+
+/// The slice `[^1]`.
+fn slice(cx: &mut Interner) -> Result<Ty, Fault>
+    ensures held { IfOk result (λ ty. Has cx.new.entries types ty.0) }
+    ensures keeps { Keeps cx.old.entries cx.new.entries }
+{
+    let element = variable(cx, 1)?;
+    cx.mk_ty(TyKind::Slice(element))
+}
+
+/// `^0 == [^1]`.
+fn equation(cx: &mut Interner) -> Result<Equation, Fault>
+    ensures held { IfOk result (λ e. EquationHeld cx.new.entries e) }
+    ensures keeps { Keeps cx.old.entries cx.new.entries }
+{
+    let left = variable(cx, 0)?;
+    let right = slice(cx)?;
+    Ok(Equation {
+        left: GenericArgKind::Ty(left),
+        right: GenericArgKind::Ty(right),
+    })
+}
+
+/// The candidate: of the unknown `^1` of its own it asks that `^0 == [^1]` and `^1: Show`.
+fn candidate(alloc: Global, cx: &mut Interner) -> Result<CandidateSpec, Fault>
+    ensures held { IfOk result (λ spec. SpecHeld cx.new.entries spec) }
+    ensures keeps { Keeps cx.old.entries cx.new.entries }
+{
+    let equation = equation(cx)?;
+    let nested = shown(alloc, cx, 1)?;
+    let equations = vec![in alloc; equation]?;
+    let nested_goals = vec![in alloc; (GoalSource::ImplWhereBound, nested)]?;
+    Ok(CandidateSpec {
+        source: CandidateSource::BuiltinImpl(BuiltinImplSource::Misc),
+        variables: vec![in alloc; CanonicalVarKind::Ty]?,
+        equations,
+        region_constraints: Vec::new(alloc),
+        nested_goals,
+        certainty: Certainty::Yes,
+    })
+}
+
+/// The reply that the goal holds, if its type is `u8`.
+fn if_byte(alloc: Global, cx: &mut Interner) -> Result<CanonicalResponse, Fault>
+    ensures held { IfOk result (λ r. ResultHeld cx.new.entries (Some r)) }
+    ensures keeps { Keeps cx.old.entries cx.new.entries }
+{
+    let byte = cx.mk_ty(TyKind::Uint(UintTy::U8))?;
+    let var_values = vec![in alloc; GenericArgKind::Ty(byte)]?;
+    Ok(CanonicalResponse {
+        variables: Vec::new(alloc),
+        certainty: Certainty::Yes,
+        var_values,
+        region_constraints: Vec::new(alloc),
+    })
+}
+
+/// The reply that the goal holds.
+fn holds(alloc: Global) -> CanonicalResponse
+    ensures { (es : List Entry) → ResultHeld es (Some result) }
+{
+    CanonicalResponse {
+        variables: Vec::new(alloc),
+        certainty: Certainty::Yes,
+        var_values: Vec::new(alloc),
+        region_constraints: Vec::new(alloc),
+    }
+}
+
+/// What comes of the candidate over these replies.
+fn evaluate(
+    alloc: Global,
+    cx: &mut Interner,
+    replies: &[Option<CanonicalResponse>],
+) -> Result<EvalStep<CanonicalResponse>, EvalError>
+    requires { Every (ResultHeld cx.old.entries) replies.now }
+{
+    let input = question(alloc, cx)?;
+    let spec = candidate(alloc, cx)?;
+    evaluate_candidate(alloc, cx, &input, &spec, replies)
+}
+
+#[test]
+fn a_candidate_asks_its_goal(rt: HostRuntime) -> Result<(), Fail> {
+    let alloc = rt.alloc();
+    let mut cx = Interner::new(alloc, 100);
+    match evaluate(alloc, &mut cx, &[])? {
+        EvalStep::Ask(input, source) => {
+            let shown = shown(alloc, &mut cx, 0)?;
+            assert!(rt; input.goal == shown);
+            assert!(rt; source == GoalSource::ImplWhereBound);
+        }
+        EvalStep::Ready(_) => assert!(rt; false),
+    }
+    Ok(())
+}
+
+#[test]
+fn a_candidate_whose_goal_is_refused_is_refused(rt: HostRuntime) -> Result<(), Fail> {
+    let alloc = rt.alloc();
+    let mut cx = Interner::new(alloc, 100);
+    let answer = evaluate(alloc, &mut cx, &[None]);
+    assert!(rt; matches!(answer, Err(EvalError::NoSolution)));
+    Ok(())
+}
+
+#[test]
+fn a_candidate_gives_the_goals_variable_a_value(rt: HostRuntime) -> Result<(), Fail> {
+    let alloc = rt.alloc();
+    let mut cx = Interner::new(alloc, 100);
+    let first = if_byte(alloc, &mut cx)?;
+    let replies = vec![in alloc; Some(first), Some(holds(alloc))]?;
+    match evaluate(alloc, &mut cx, &replies)? {
+        EvalStep::Ready(answer) => {
+            let byte = cx.mk_ty(TyKind::Uint(UintTy::U8))?;
+            let bytes = cx.mk_ty(TyKind::Slice(byte))?;
+            assert_eq!(rt; answer.certainty, Certainty::Yes);
+            assert!(rt; answer.var_values.as_slice() == [GenericArgKind::Ty(bytes)].as_slice());
+        }
+        EvalStep::Ask(_, _) => assert!(rt; false),
+    }
+    Ok(())
+}
