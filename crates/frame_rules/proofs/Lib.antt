@@ -1,0 +1,15 @@
+pub mod Listings
+pub mod Readings
+pub mod Behind
+pub mod Asked
+pub mod Slots
+pub mod Sound
+pub mod Widths
+pub mod Beginnings
+pub mod Same
+pub mod Closed
+pub mod Filled
+pub mod Handlers
+pub mod Programs
+pub mod Fitting
+pub mod Forms

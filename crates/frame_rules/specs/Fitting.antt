@@ -1,0 +1,30 @@
+-- The candidates of a list of rules fit the table of their frame, so that code can evaluate them.
+use Rattle.std.specs.Prelude.{List}
+use Rattle.model.specs.Label.{Label}
+use Rattle.infer_table.specs.Canonical.{CanonicalForm}
+use Rattle.infer_table.specs.declared.canonical.CanonicalVarKind.{CanonicalVarKind}
+use Rattle.goal_evaluator.specs.Lists.{Every}
+use Rattle.goal_evaluator.specs.Table.{workings}
+use Rattle.goal_evaluator.specs.Candidate.{Spec}
+use Rattle.goal_tables.specs.Frames.{Nested, Equation}
+use Rattle.goal_tables.proofs.Beginning.{begin}
+use Rattle.goal_tables.proofs.Fresh.{fresh}
+use Rattle.frame_tables.specs.Tables.{frame_tables}
+use Rattle.frame_evaluation.specs.Fitting.{AreOver, IsGoalOver, IsValueOver}
+use Rattle.frame_rules.specs.Rules.{RuleBook, AreRules}
+use Rattle.frame_rules.specs.Handlers.{asked, candidates_of, kinds_of}
+
+-- what the canonical variables of a candidate's terms stand for: those of the goal, and behind them the candidate's own
+abbrev pub slots_of : List CanonicalVarKind → List CanonicalVarKind → List Label
+slots_of kinds own = (fresh (begin kinds) own).labels
+
+-- its terms speak of these variables alone
+pub record IsOverSlots (labels : List Label) (c : Spec (workings frame_tables)) : Type 0 where
+  pub equations : Every (λ (e : Equation). IsValueOver labels e.left × IsValueOver labels e.right) c.equations
+  pub constraints : AreOver labels c.regions
+  pub nested : Every (λ (n : Nested). IsGoalOver labels n.goal) c.nested
+
+abbrev pub CandidatesFit : Type 0
+CandidatesFit =
+    (book : RuleBook) → AreRules book → (f : CanonicalForm)
+    → Every (λ (c : Spec (workings frame_tables)). IsOverSlots (slots_of (kinds_of (asked f)) c.kinds) c) (candidates_of book (asked f))

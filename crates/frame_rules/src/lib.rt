@@ -1,0 +1,58 @@
+//! Lists of rules over trees as handlers of goals: over the tables of frames they keep the laws of handlers.
+#![tactic(auto)]
+
+ghost use Rattle.std.specs.Prelude.{Bool};
+ghost use Rattle.goal_evaluator.specs.Table.{Tables, IsTable};
+ghost use Rattle.goal_evaluator.specs.Handler.{IsHandler};
+ghost use Rattle.frame_rules.specs.Listings.{Listing, IsListing, TellsApart, listed};
+ghost use Rattle.frame_rules.specs.Handlers.{HandlersAreLawful};
+ghost use Rattle.frame_rules.specs.Programs.{RulesArePrograms};
+ghost use Rattle.frame_rules.specs.Fitting.{CandidatesFit};
+ghost use Rattle.frame_rules.specs.Forms.{CanonicalGoalsAreAsked};
+
+/// A list of candidates for a goal, over some tables, and when two responses are the same.
+pub trait Listed {
+    ghost Question: { Type 0 };
+
+    ghost Response: { Type 0 };
+
+    ghost tables: { Tables Question Response };
+
+    ghost same: { Response → Response → Bool };
+
+    ghost listing: { Listing tables };
+}
+
+/// Over lawful tables, a handler that considers a list of lawful candidates one after the other, and then merges their responses,
+/// keeps the laws of handlers.
+pub fn listings_are_lawful<L: Listed>()
+    requires tables { IsTable L.tables }
+    requires told { TellsApart L.same }
+    requires list { IsListing L.tables L.listing }
+    ensures { IsHandler L.tables (listed L.tables L.same L.listing) }
+{}
+
+/// A list of rules over trees is a lawful handler of every goal, over the tables of frames: each rule of the goal's trait is a
+/// candidate, with its own variables behind the goal's, and the answer merges the responses. A definite yes follows by a rule; the
+/// rule's own unknowns are determined by the goal's, since they stand in its head; and each closed instance that has a proof by the
+/// rules is one by a candidate. A goal with where-clauses, or one that is not made as canonical forms are, is not decided.
+pub fn rule_handlers_are_lawful()
+    ensures { HandlersAreLawful }
+{}
+
+/// Lists of rules over trees are lawful programs, if their traits are all coinductive or all are not: so what a search finds out with
+/// their frames is right.
+pub fn rules_are_programs()
+    ensures { RulesArePrograms }
+{}
+
+/// The candidates of a list of rules are terms over the goal's variables and their own alone, of their sorts, so that code can
+/// evaluate them in a frame's table.
+pub fn candidates_fit()
+    ensures { CandidatesFit }
+{}
+
+/// The canonical form of a goal without where-clauses is one that a list of rules decides.
+pub fn canonical_goals_are_asked()
+    ensures { CanonicalGoalsAreAsked }
+{}
