@@ -1,14 +1,10 @@
 -- When the values of a response are the canonical variables of their places.
 use Rattle.std.proofs.Common.{◌≡◌, ℕ, zero, suc, Bool, true, false, ◌&&◌, ◌+◌, ◌<◌, ◌≤◌, List, [], ◌∷◌, length, get_or, refl, subst, sym, arith}
-use Rattle.std.specs.List.{All}
-use Rattle.type_terms.specs.Terms.{Entry, Has, types}
+use Rattle.type_terms.specs.Terms.{Entry}
 use Rattle.type_terms.specs.Kinds.{ArgHeld, ArgsHeld}
 use Rattle.type_terms.specs.declared.kinds.GenericArgKind.{GenericArgKind}
-use Rattle.type_terms.specs.declared.kinds.GenericArgKind.TheVariants.{Ty}
-use Rattle.type_terms.specs.declared.kinds.Ty as ty-module
-use Rattle.canonical_forms.specs.declared.response.CanonicalResponse.{CanonicalResponse}
 use Rattle.canonical_forms.specs.Leaves.{leaf_label}
-use Rattle.goal_evaluator.specs.Responses.{is_variable, are_variables, ValuesHeld}
+use Rattle.goal_evaluator.specs.Responses.{is_variable, are_variables}
 
 next : (i k : ℕ) → (i + 1) + k ≡ i + suc k
 next i k = omega arith
@@ -51,13 +47,3 @@ not-variables es xs k x l i e = not-from es 0 xs k x l (subst (λ n. is_variable
 -- each value before the end is the variable
 pub all-variables : (es : List Entry) (xs : List GenericArgKind) (n : ℕ) → length xs ≤ n → ((k : ℕ) (d : GenericArgKind) → k < n → is_variable k (leaf_label es (get_or xs k d)) ≡ true) → are_variables es 0 xs ≡ true
 all-variables es xs n le h = all-from es 0 xs (λ k d l. subst (λ m. is_variable m (leaf_label es (get_or xs k d)) ≡ true) (sym (zero-plus k)) (h k d (omega (arith, l, le))))
-
--- ---- responses with one type for a value
-pub held-type : (es : List Entry) (r : CanonicalResponse) (t : ty-module.Ty) → r.var_values.items ≡ Ty t ∷ [] → Has es types t.0 → ValuesHeld es r
-held-type es r t e h = subst (ArgsHeld es) (sym e) (h, tt)
-
-pub three-held : (es : List Entry) (a b c : CanonicalResponse) → ValuesHeld es a → ValuesHeld es b → ValuesHeld es c → All (ValuesHeld es) (a ∷ b ∷ c ∷ [])
-three-held es a b c h i j zero d l = h
-three-held es a b c h i j (suc zero) d l = i
-three-held es a b c h i j (suc (suc zero)) d l = j
-three-held es a b c h i j (suc (suc (suc k))) d l = absurd (omega (arith, l))

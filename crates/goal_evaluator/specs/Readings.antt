@@ -1,4 +1,4 @@
--- How the values of code are read over tables: first as trees, and these as the tables have them.
+-- The handles of candidates and of what handlers say, and the kinds of steps.
 use Rattle.std.specs.Prelude.{◌≡◌, ℕ, Bool, false, List, [], map, reverse, Option, Some, None, option_map}
 use Rattle.model.specs.Label.{principal}
 use Rattle.model.specs.Trees.{Trees, none, tree}
@@ -54,53 +54,3 @@ abbrev pub StepHeld : List Entry → HandlerStep → Type 0
 StepHeld es (Consider s) = SpecHeld es s
 StepHeld es (Answer r ignored) = ResponseHeld es r
 StepHeld es NoSolution = Unit {0}
-
-module _ {Question Response : Type 0} (t : Tables Question Response) where
-  -- how trees are read over the tables; canonical variables stand for the unknowns of a table, in the order of their numbers
-  pub record Reading : Type 0 where
-    pub response : AnswerTrees → Response
-    -- a nested goal, and whether the step to it is coinductive
-    pub nested : Bool → GoalTrees → t.Nested
-    pub equation : Value → Value → t.Equation
-    pub kinds : List CanonicalVarKind → t.Kinds
-    pub regions : Trees → t.Regions
-
-  pub record IsReading (read : Reading) : Type 0 where
-    pub certainty : (r : AnswerTrees) → t.certainty (read.response r) ≡ r.certainty
-    pub step : (T : t.Table) (coinductive : Bool) (g : GoalTrees) → t.is_coinductive (t.question T (read.nested coinductive g)) ≡ coinductive
-
-  module _ (read : Reading) (es : List Entry) where
-    abbrev pub response_of : CanonicalResponse → Response
-    response_of r = read.response (answer_trees es r)
-
-    -- a spec of a goal whose trait is coinductive or not
-    abbrev pub spec_of : Bool → CandidateSpec → Spec (workings t)
-    spec_of coinductive s = record {
-      source = s.source;
-      kinds = read.kinds s.variables.items;
-      equations = map (λ (e : Equation). read.equation (value_of es e.left) (value_of es e.right)) s.equations.items;
-      regions = read.regions (constraints_trees es s.region_constraints.items);
-      nested = map (λ (n : GoalSource × Goal). read.nested (is_coinductive_step coinductive n.0) (goal_trees es n.1)) s.nested_goals.items;
-      certainty = s.certainty;
-    }
-
-    abbrev pub next_of : Bool → HandlerStep → Next (workings t)
-    next_of coinductive (Consider s) = consider (spec_of coinductive s)
-    next_of coinductive (Answer r ignored) = answer (Some (response_of r)) ignored.items
-    next_of coinductive NoSolution = answer None []
-
-    -- what a handler is shown of a candidate that was considered: all but the rest of its spec
-    pub record Shown : Type 0 where
-      pub source : CandidateSource
-      pub response : Option Response
-      pub number : ℕ
-
-    abbrev pub shown : Considered (workings t) → Shown
-    shown c = record { source = c.spec.source; response = c.response; number = c.number }
-
-    abbrev pub shown_by : Code.Considered → Shown
-    shown_by d = record { source = d.source; response = option_map response_of d.result; number = d.head_usages }
-
-    -- the code's list, the oldest first, shows this history, the newest first
-    abbrev pub Shows : List Code.Considered → List (Considered (workings t)) → Type 0
-    Shows done seen = map shown_by done ≡ reverse (map shown seen)

@@ -3,12 +3,9 @@
 
 mod candidate;
 mod goal;
-mod handler;
 mod merge;
 pub mod promises;
 mod response;
-#[cfg(test)]
-mod tests;
 pub mod toy;
 
 pub use candidate::{
@@ -18,7 +15,6 @@ pub use canonical_forms::goal::Goal;
 pub use canonical_forms::input::CanonicalInput;
 pub use canonical_forms::response::CanonicalResponse;
 pub use goal::{GoalSource, HasChanged};
-pub use handler::{GoalHandler, frames_keep_promises};
 pub use infer_table::goal::{Certainty, MaybeCause, NoSolution, TypingMode};
 pub use merge::{
     MergeCandidateInfo, ambiguous_certainty, bail_with_ambiguity, flounder, try_merge_candidates,

@@ -1,1 +1,2 @@
-pub mod Propositions
+pub mod Refusing
+pub mod Lawful

@@ -2,34 +2,26 @@
 #![tactic(auto)]
 
 ghost use Rattle.std.specs.Prelude.{refl};
-ghost use Rattle.goal_evaluator.specs.Atoms.{Goal, Response, atoms, handled_by};
-ghost use Rattle.goal_evaluator.proofs.AtomTables.{atoms_are_lawful};
-ghost use Rattle.goal_evaluator.proofs.RuleBooks.{handler_is_lawful};
-ghost use Rattle.toy_handlers.specs.Propositions.{propositions, propositions_are_read, proposition_of, no_rules};
+ghost use Rattle.toy_handlers.specs.Refusing.{refusing};
+ghost use Rattle.toy_handlers.specs.Lawful.{refusing-is-lawful};
+
+#[cfg(test)]
+mod tests;
 
 use canonical_forms::input::CanonicalInput;
-use goal_evaluator::{Considered, GoalHandler, HandlerStep};
+use goal_evaluator::{Considered, HandlerStep};
+use goal_frames::GoalHandler;
 use std::alloc::Global;
 use type_terms::interner::Interner;
 use type_terms::{Fault, TraitId};
 
-/// The handler without rules: it refuses each goal.
-///
-/// Its tables know a trait by its number alone, and not what it is asked of.
+/// The handler without rules: it refuses each goal, and no reference has a proof.
 pub struct NoRules;
 
 impl GoalHandler for NoRules {
-    ghost Question = { Goal };
-
-    ghost Response = { Response };
-
-    ghost tables = { atoms };
-
-    ghost reading = { propositions };
-
     ghost Meaning = { Unit {0} };
 
-    ghost handled = { λ _ mode goal. handled_by no_rules (proposition_of goal) };
+    ghost handled = { λ _ mode goal. refusing goal };
 
     ghost ready = { λ _ es. Unit {0} };
 
@@ -53,9 +45,7 @@ impl GoalHandler for NoRules {
 
     ghost meaning_kept = { λ _ old new k h. refl };
 
-    ghost tables_lawful = { atoms_are_lawful };
+    ghost begins = { λ _ mode goal. refl };
 
-    ghost reading_lawful = { propositions_are_read };
-
-    ghost lawful = { λ _ mode goal. handler_is_lawful no_rules (proposition_of goal) };
+    ghost lawful = { λ _ mode goal. refusing-is-lawful goal };
 }

@@ -1,19 +1,23 @@
 //! Handlers of goals: what the rules of goals are, for the frames that evaluate them.
 
-ghost use Rattle.std.specs.Prelude.{◌≡◌, List, IfOk};
+ghost use Rattle.std.specs.Prelude.{◌≡◌, List, IfOk, map};
 ghost use Rattle.type_terms.specs.Terms.{Entry, Keeps};
 ghost use Rattle.infer_table.specs.declared.goal.TypingMode.{TypingMode};
 ghost use Rattle.infer_table.specs.Canonical.{CanonicalForm};
 ghost use Rattle.canonical_forms.specs.Goals.{GoalHeld};
 ghost use Rattle.canonical_forms.specs.Inputs.{form_of};
-ghost use Rattle.goal_evaluator.specs.Table.{Tables, workings, IsTable};
+ghost use Rattle.goal_evaluator.specs.Table.{workings};
 ghost use Rattle.goal_evaluator.specs.Candidate as Frames;
 ghost use Rattle.goal_evaluator.specs.Handler.{Handled, IsHandler};
 ghost use Rattle.goal_evaluator.specs.Promises.{DefiniteYesFollows, AnswerCoversGoal, IsBounded, KeepsNumber, IgnoresFinishedOnce};
-ghost use Rattle.goal_evaluator.specs.Readings.{Reading, IsReading, Shows, next_of, IsOfTrait, ConsideredHeld, StepHeld};
+ghost use Rattle.goal_evaluator.specs.Readings.{IsOfTrait, ConsideredHeld, StepHeld};
+ghost use Rattle.goal_tables.proofs.Beginning.{begin};
+ghost use Rattle.frame_tables.specs.Tables.{frame_tables};
+ghost use Rattle.goal_frames.specs.Readings.{next_read, shown_by, Shows, kinds_known};
+ghost use Rattle.goal_frames.specs.Fitting.{ConsideredFits, StepFits};
 
-use crate::candidate::{Considered, HandlerStep};
 use canonical_forms::input::CanonicalInput;
+use goal_evaluator::{Considered, HandlerStep};
 use std::alloc::Global;
 use type_terms::interner::Interner;
 use type_terms::{Fault, TraitId};
@@ -25,19 +29,10 @@ use type_terms::{Fault, TraitId};
 /// it: where a spec's equations hold it is a rule, the candidates that were considered cover each solution, and the answer is a
 /// merge of their responses.
 pub trait GoalHandler {
-    ghost Question: { Type 0 };
-
-    ghost Response: { Type 0 };
-
-    // The tables in which candidates are evaluated, and how trees are read over them.
-    ghost tables: { Tables Question Response };
-
-    ghost reading: { Reading tables };
-
     // What is declared, and what it means for a goal asked in a mode.
     ghost Meaning: { Type 0 };
 
-    ghost handled: { Meaning → TypingMode → CanonicalForm → Handled tables };
+    ghost handled: { Meaning → TypingMode → CanonicalForm → Handled frame_tables };
 
     // The handles that the handler holds are an interner's, and what it declares by them.
     ghost ready: { Self → List Entry → Type 0 };
@@ -46,7 +41,8 @@ pub trait GoalHandler {
 
     /// What the goal's frame is to do next, after these candidates were considered, the oldest first; or a fault.
     ///
-    /// It follows from the goal, its mode and the candidates alone.
+    /// It follows from the goal, its mode and the candidates alone. A candidate's terms speak of the goal's variables and of its
+    /// own; the values of an answer speak of its own variables.
     fn step(
         &self,
         alloc: Global,
@@ -57,13 +53,15 @@ pub trait GoalHandler {
         requires ready { ready self.now cx.old.entries }
         requires goal { GoalHeld cx.old.entries goal.now.goal }
         requires done { ConsideredHeld cx.old.entries done.now }
-        requires history { (seen : List (Frames.Considered (workings tables))) × Shows tables reading cx.old.entries done.now seen × Frames.IsHistory (workings tables) (handled (meaning self.now cx.old.entries) goal.now.mode (form_of cx.old.entries goal.now)).next seen }
+        requires fits { ConsideredFits cx.old.entries done.now }
+        requires history { (seen : List (Frames.Considered (workings frame_tables))) × Shows (map (shown_by cx.old.entries) done.now) seen × Frames.IsHistory (workings frame_tables) (handled (meaning self.now cx.old.entries) goal.now.mode (form_of cx.old.entries goal.now)).next seen }
         ensures keeps { Keeps cx.old.entries cx.new.entries }
         ensures limit { cx.new.limit ≡ cx.old.limit }
         ensures held { IfOk result (StepHeld cx.new.entries) }
+        ensures fits { IfOk result (StepFits goal.now.variables.items cx.new.entries) }
 
         // It is what comes next in each history that the candidates show.
-        ensures next { IfOk result (λ s. let h = handled (meaning self.now cx.old.entries) goal.now.mode (form_of cx.old.entries goal.now) in (seen : List (Frames.Considered (workings tables))) → Shows tables reading cx.old.entries done.now seen → Frames.IsHistory (workings tables) h.next seen → next_of tables reading cx.new.entries h.coinductive s ≡ h.next seen) };
+        ensures next { IfOk result (λ s. let h = handled (meaning self.now cx.old.entries) goal.now.mode (form_of cx.old.entries goal.now) in (seen : List (Frames.Considered (workings frame_tables))) → Shows (map (shown_by cx.old.entries) done.now) seen → Frames.IsHistory (workings frame_tables) h.next seen → next_read cx.new.entries h.coinductive s ≡ h.next seen) };
 
     /// Whether the trait is coinductive: a goal of it holds if it needs nothing but itself.
     fn trait_is_coinductive(&self, def_id: TraitId) -> bool
@@ -74,19 +72,18 @@ pub trait GoalHandler {
 
     ghost meaning_kept: { (h : Self) (old new : List Entry) → Keeps old new → ready h old → meaning h new ≡ meaning h old };
 
-    ghost tables_lawful: { IsTable tables };
-
-    ghost reading_lawful: { IsReading tables reading };
+    // A frame begins with an unknown for each unknown of its goal.
+    ghost begins: { (m : Meaning) (mode : TypingMode) (goal : CanonicalForm) → (handled m mode goal).begin ≡ begin (kinds_known goal.kinds) };
 
     // The laws of candidates and of answers.
-    ghost lawful: { (m : Meaning) (mode : TypingMode) (goal : CanonicalForm) → IsHandler tables (handled m mode goal) };
+    ghost lawful: { (m : Meaning) (mode : TypingMode) (goal : CanonicalForm) → IsHandler frame_tables (handled m mode goal) };
 }
 
 /// The frames of a handler's goals keep all that is promised of frames.
 pub fn frames_keep_promises<H: GoalHandler>()
-    ensures yes { (m : H.Meaning) (mode : TypingMode) (goal : CanonicalForm) → DefiniteYesFollows H.tables (H.handled m mode goal) }
-    ensures covers { (m : H.Meaning) (mode : TypingMode) (goal : CanonicalForm) → AnswerCoversGoal H.tables (H.handled m mode goal) }
-    ensures bounded { (m : H.Meaning) (mode : TypingMode) (goal : CanonicalForm) → IsBounded H.tables (H.handled m mode goal) }
-    ensures number { (m : H.Meaning) (mode : TypingMode) (goal : CanonicalForm) → KeepsNumber H.tables (H.handled m mode goal) }
-    ensures ignores { (m : H.Meaning) (mode : TypingMode) (goal : CanonicalForm) → IgnoresFinishedOnce H.tables (H.handled m mode goal) }
+    ensures yes { (m : H.Meaning) (mode : TypingMode) (goal : CanonicalForm) → DefiniteYesFollows frame_tables (H.handled m mode goal) }
+    ensures covers { (m : H.Meaning) (mode : TypingMode) (goal : CanonicalForm) → AnswerCoversGoal frame_tables (H.handled m mode goal) }
+    ensures bounded { (m : H.Meaning) (mode : TypingMode) (goal : CanonicalForm) → IsBounded frame_tables (H.handled m mode goal) }
+    ensures number { (m : H.Meaning) (mode : TypingMode) (goal : CanonicalForm) → KeepsNumber frame_tables (H.handled m mode goal) }
+    ensures ignores { (m : H.Meaning) (mode : TypingMode) (goal : CanonicalForm) → IgnoresFinishedOnce frame_tables (H.handled m mode goal) }
 {}

@@ -1,0 +1,65 @@
+-- The answers of candidates are well-formed.
+use Rattle.std.proofs.Common.{◌≡◌, ℕ, List, [], ◌∷◌, refl, subst, Bool, Option, Some, None}
+use Rattle.model.specs.Label.{Label}
+use Rattle.infer_table.specs.Certainties.{joined}
+use Rattle.infer_table.specs.declared.canonical.CanonicalVarKind.{CanonicalVarKind}
+use Rattle.infer_table.specs.declared.goal.Certainty.{Certainty}
+use Rattle.infer_table.specs.declared.goal.TypingMode.{TypingMode}
+use Rattle.canonical_responses.specs.Responses.{AnswerTrees}
+use Rattle.goal_evaluator.specs.declared.TheConstants.{FIXPOINT_STEP_LIMIT}
+use Rattle.goal_evaluator.specs.Candidate.{Spec, answered, equated, candidate}
+use Rattle.goal_evaluator.specs.Replays.{Run, ready, waits, run}
+use Rattle.goal_evaluator.specs.Rounds.{Rounds, rounds}
+use Rattle.goal_evaluator.specs.Script.{Script, done, ask}
+use Rattle.goal_evaluator.specs.Table.{operations, workings}
+use Rattle.goal_evaluator.proofs.Scripts.{Asks, Asks-followed}
+use Rattle.goal_tables.specs.Answers.{IsWellFormed}
+use Rattle.goal_tables.specs.Content.{Question}
+use Rattle.goal_tables.specs.Frames.{FrameTable}
+use Rattle.goal_tables.proofs.Fresh.{fresh, recorded}
+use Rattle.goal_tables.proofs.Equating.{equate}
+use Rattle.goal_tables.proofs.WellFormed.{answers_well_formed}
+use Rattle.frame_tables.specs.Tables.{frame_tables}
+use Rattle.frame_evaluation.specs.Rounds.{AreOneAnswer}
+
+pub one-answer : (mode : TypingMode) (coinductive : Bool) (kinds : List CanonicalVarKind) (ls : List Label) (p : Question) (a : AnswerTrees) → IsWellFormed a → AreOneAnswer mode coinductive kinds ls p a a
+one-answer mode coinductive kinds ls p a f = record { is = refl; fits = f }
+
+abbrev Fits : Option AnswerTrees → Type 0
+Fits None = Unit {0}
+Fits (Some a) = IsWellFormed a
+
+abbrev Any-question : Question → Type 0
+Any-question q = Unit {0}
+
+abbrev Any-answer : Question → Option AnswerTrees → Type 0
+Any-answer q a = Unit {0}
+
+-- whatever a script asks
+asks-any : {X : Type 0} (s : Script Question (Option AnswerTrees) X) → Asks Any-question Any-answer (λ x. Unit {0}) s
+asks-any (done x) = tt
+asks-any (ask q k) = (tt, λ a r. asks-any (k a))
+
+ends-fitting : (s : Script Question (Option AnswerTrees) (Option AnswerTrees)) (replies : List (Option AnswerTrees)) (x : Option AnswerTrees) (more : List (Option AnswerTrees))
+    → Asks Any-question Any-answer Fits s → run s replies ≡ ready x more → Fits x
+ends-fitting (done y) replies x more h e = subst Fits (same e) h where
+  same : {a b : Option AnswerTrees} {m n : List (Option AnswerTrees)} → ◌≡◌ {A = Run Question (Option AnswerTrees) (Option AnswerTrees)} (ready a m) (ready b n) → a ≡ b
+  same r = cc
+ends-fitting (ask q k) [] x more h e = absurd (cc)
+ends-fitting (ask q k) (a ∷ replies) x more h e = ends-fitting (k a) replies x more (h.1 a tt) e
+
+answered-fits : (c : Certainty) (o : Option (Rounds (operations frame_tables))) → Asks Any-question Any-answer Fits (answered (workings frame_tables) c o)
+answered-fits c None = tt
+answered-fits c (Some o) = answers_well_formed o.table (joined c o.certainty)
+
+equated-fits : (s : Spec (workings frame_tables)) (o : Option FrameTable) → Asks Any-question Any-answer Fits (equated (workings frame_tables) FIXPOINT_STEP_LIMIT s o)
+equated-fits s None = tt
+equated-fits s (Some t) =
+    Asks-followed Any-question Any-answer (λ x. Unit {0}) Fits (answered (workings frame_tables) s.certainty) (λ x u. answered-fits s.certainty x)
+    (rounds (operations frame_tables) FIXPOINT_STEP_LIMIT s.nested (recorded t s.regions)) (asks-any (rounds (operations frame_tables) FIXPOINT_STEP_LIMIT s.nested (recorded t s.regions)))
+
+-- what a candidate answers in a frame's table
+pub candidate-fits : (t : FrameTable) (s : Spec (workings frame_tables)) (replies : List (Option AnswerTrees)) (a : AnswerTrees) (more : List (Option AnswerTrees))
+    → run (candidate (workings frame_tables) FIXPOINT_STEP_LIMIT t s) replies ≡ ready (Some a) more → IsWellFormed a
+candidate-fits t s replies a more e =
+    ends-fitting (candidate (workings frame_tables) FIXPOINT_STEP_LIMIT t s) replies (Some a) more (equated-fits s (equate (fresh t s.kinds) s.equations)) e

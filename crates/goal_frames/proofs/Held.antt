@@ -1,0 +1,58 @@
+-- The handles of a frame stay an interner's while it grows.
+use Rattle.std.proofs.Common.{◌≡◌, List, [], ◌∷◌, map, refl, sym, ap, subst, Bool, Option, Some, None}
+use Rattle.type_terms.specs.Terms.{Entry, Keeps}
+use Rattle.canonical_forms.specs.declared.input.CanonicalInput.{CanonicalInput}
+use Rattle.canonical_forms.proofs.Numbers.{goal-held-later}
+use Rattle.evaluation.specs.Evaluating.{replies_trees}
+use Rattle.evaluation.proofs.Contexts.{reply-later, replies-later}
+use Rattle.goal_tables.specs.Content.{Question}
+use Rattle.canonical_responses.specs.Responses.{AnswerTrees}
+use Rattle.goal_evaluator.specs.Handler.{Handled}
+use Rattle.frame_tables.specs.Tables.{frame_tables}
+use Rattle.goal_frames.specs.Readings.{Shown}
+use Rattle.goal_frames.specs.Places.{PlaceTrees, begun, entering, inside_of, finishing, ignoring, over, Standing, Answers, Stands}
+use Rattle.goal_frames.specs.Frames.{PlaceHeld, FrameHeld}
+use Rattle.goal_frames.specs.declared.frame.GoalFrame.{GoalFrame}
+use Rattle.goal_frames.specs.declared.frame.Place.{Place}
+use Rattle.goal_frames.specs.declared.frame.Place.TheVariants as InCode
+use Rattle.goal_frames.proofs.Later.{fits-later, replies-fit-later, considered-later, considered-fits-later, spec-held-later, over-later}
+
+module _ (old new : List Entry) (k : Keeps old new) where
+  pub place-later : (goal : CanonicalInput) (place : Place) → PlaceHeld goal old place → PlaceHeld goal new place
+  place-later goal InCode.Begun h = tt
+  place-later goal (InCode.Entering s) h = (spec-held-later old new k s h.0, over-later old new k goal.variables.items s h.0 h.1)
+  place-later goal (InCode.Inside s rs) h = (
+    spec-held-later old new k s h.0,
+    over-later old new k goal.variables.items s h.0 h.1,
+    replies-later old new k rs.items h.2,
+    replies-fit-later old new k rs.items h.2 h.3,
+  )
+  place-later goal (InCode.Finishing source r) h = (reply-later old new k r h.0, fits-later old new k r h.0 h.1)
+  place-later goal (InCode.Ignoring r ns at) h = (reply-later old new k r h.0, fits-later old new k r h.0 h.1)
+  place-later goal InCode.Over h = tt
+
+  -- at another place
+  pub frame-at : (f : GoalFrame) → FrameHeld old f → (place : Place) → PlaceHeld f.goal new place → FrameHeld new (record f { place = place })
+  frame-at f h place p = record {
+    goal = goal-held-later old new k f.goal.goal h.goal;
+    considered = considered-later old new k f.considered.items h.considered;
+    fits = considered-fits-later old new k f.considered.items h.considered h.fits;
+    place = p;
+  }
+
+  pub frame-later : (f : GoalFrame) → FrameHeld old f → FrameHeld new f
+  frame-later f h = record {
+    goal = goal-held-later old new k f.goal.goal h.goal;
+    considered = considered-later old new k f.considered.items h.considered;
+    fits = considered-fits-later old new k f.considered.items h.considered h.fits;
+    place = place-later f.goal f.place h.place;
+  }
+
+-- a frame that has its answer stands there
+pub answers-stand : (h : Handled frame_tables) (xs : List Shown) (place : PlaceTrees) (p : Standing) → Answers place p → Stands h xs place p
+answers-stand h xs begun p a = a
+answers-stand h xs (entering s) p a = absurd a
+answers-stand h xs (inside_of s rs) p a = absurd a
+answers-stand h xs (finishing source r) p a = absurd a
+answers-stand h xs (ignoring r ns) p a = a
+answers-stand h xs over p a = a

@@ -1,0 +1,9 @@
+pub mod Moves
+pub mod Later
+pub mod GoingOn
+pub mod Held
+pub mod Stepping
+pub mod KnownKinds
+pub mod Fits
+pub mod Running
+pub mod Ending

@@ -1,0 +1,168 @@
+use Rattle.std.proofs.Common.{◌≡◌, ◌∙◌, ◌∷◌, ◌++◌, ◌+◌, suc, [], List, ℕ, Option, map, drop, ap, sym, subst, arith}
+use Rattle.canonical_forms.specs.Inputs.{form_of}
+use Rattle.canonical_forms.specs.declared.response.CanonicalResponse.{CanonicalResponse}
+use Rattle.evaluation.specs.Evaluating.{replies_trees}
+use Rattle.goal_evaluator.specs.History.{begin, entered, ignored, evaluated, finished, position, request, CameInOrder}
+use Rattle.goal_evaluator.specs.Promises.{frame_of_goal, Anything}
+use Rattle.goal_evaluator.specs.declared.candidate.Considered.{Considered}
+use Rattle.frame_tables.specs.Tables.{frame_tables}
+use Rattle.goal_frames.specs.Readings.{Shown, shown_by, spec_read, result_read}
+use Rattle.goal_frames.specs.Places.{Standing, Stands, IsBetween, IsInside, IsIgnoring, place_read}
+use Rattle.goal_frames.specs.Frames.{History, FrameHeld, PlaceHeld, RequestHeld, IsRequest, Steps, reply_read}
+use Rattle.goal_frames.proofs.Held.{answers-stand}
+use Rattle.goal_frames.proofs.Stepping.{both-ok, shown-more, replies-more, steps-to, begun-there, inside-there, hears-there, finishes-there, ignores-there, begun-waits, entering-waits, inside-waits, finishing-waits, ignoring-waits, over-waits}
+use Rattle.goal_frames.proofs.frame.GoalFrame.step.Goals as goal
+use Rattle.goal_frames.proofs.frame.GoalFrame.step.Goals.{in_default-via-in-Begun+in_default, in_default-via-in-Entering+in_default, in_default-via-in-Inside+in_default, in_default-via-in-Finishing+in_default, in_default-via-in-Ignoring+in_default, in_default-via-in_default}
+
+-- the place behind one
+next-place : (n : ℕ) → suc n ≡ n + 1
+next-place n = omega arith
+
+pub unreachable-requires : goal.unreachable-requires
+unreachable-requires g c =
+    let es = c.args.cx.now.entries in
+    let f = c.args.self.now in
+    let due = c.requires.due in
+    elim c.in_default.branch [
+      | in_default-via-in-Begun+in_default w ↦ w.in_default.not-Begin-1 (begun-waits _ es f due.0 due.1 (sym c.replace.ensures.value ∙ w.in_default.is-0) c.args.reply due.2)
+      | in_default-via-in-Entering+in_default w ↦ w.in_default.not-Entered-1 (entering-waits _ es f due.0 due.1 w.in_default.field-0-0 (sym c.replace.ensures.value ∙ w.in_default.is-0) c.args.reply due.2)
+      | in_default-via-in-Inside+in_default w ↦
+          let r = inside-waits _ es f due.0 due.1 w.in_default.field-0-0 w.in_default.field-1-0 (sym c.replace.ensures.value ∙ w.in_default.is-0) c.args.reply due.2 in w.in_default.not-Result-1 r.0 r.1
+      | in_default-via-in-Finishing+in_default w ↦
+          let r = finishing-waits _ es f due.0 due.1 w.in_default.field-0-0 w.in_default.field-1-0 (sym c.replace.ensures.value ∙ w.in_default.is-0) c.args.reply due.2 in w.in_default.not-Finished-1 r.0 r.1
+      | in_default-via-in-Ignoring+in_default w ↦
+          w.in_default.not-Ignored-1 (ignoring-waits _ es f due.0 due.1 w.in_default.field-0-0 w.in_default.field-1-0 w.in_default.field-2-0 (sym c.replace.ensures.value ∙ w.in_default.is-0) c.args.reply due.2)
+      | in_default-via-in_default w ↦ over-waits _ es f due.0 due.1 (sym c.replace.ensures.value ∙ w.in_default.is-0) c.args.reply due.2
+    ]
+
+pub go_on-requires-clause-between : goal.go_on-requires-clause-between
+go_on-requires-clause-between g c =
+    let es = c.args.cx.now.entries in
+    let f = c.args.self.now in
+    let h = g.H.GoalHandler.handled (g.H.GoalHandler.meaning c.args.handler.now es) f.goal.mode (form_of es f.goal) in
+    let due = c.requires.due in
+    (position (frame_of_goal frame_tables h) (begin ∷ due.0), begun-there h es f due.0 due.1 (sym c.replace.ensures.value ∙ c.in-Begun-Begin.is-0))
+
+pub go_on-requires-in-Finishing-Finished-clause-between : goal.go_on-requires-in-Finishing-Finished-clause-between
+go_on-requires-in-Finishing-Finished-clause-between g c =
+    let es = c.args.cx.now.entries in
+    let f = c.args.self.now in
+    let m = g.H.GoalHandler.meaning c.args.handler.now es in
+    let h = g.H.GoalHandler.handled m f.goal.mode (form_of es f.goal) in
+    let due = c.requires.due in
+    let x = c.in-Finishing-Finished in
+    let o = subst (λ r. CameInOrder (Anything frame_tables h) (frame_of_goal frame_tables h) (reply_read es r ∷ due.0)) x.is-1 due.2 in
+    let d : Considered = record { source = x.source; result = x.outcome; head_usages = x.head_usages } in (
+      position (frame_of_goal frame_tables h) (finished x.head_usages ∷ due.0),
+      subst (λ xs. IsBetween h xs (position (frame_of_goal frame_tables h) (finished x.head_usages ∷ due.0)))
+          (sym (shown-more es f.considered.items d) ∙ ap (map (shown_by es)) (sym c.in_ok-push-in-Finishing-Finished.ensures.items))
+          (finishes-there h es f due.0 due.1 (g.met.H.GoalHandler.lawful m f.goal.mode (form_of es f.goal)) x.source x.outcome x.head_usages (sym c.replace.ensures.value ∙ x.is-0) o),
+    )
+
+pub returns-in-Begun-Begin-clause-steps : goal.returns-in-Begun-Begin-clause-steps
+returns-in-Begun-Begin-clause-steps g c =
+    let es = c.args.cx.now.entries in
+    let new = c.go_on.new.cx.entries in
+    let f = c.args.self.now in
+    let after = c.go_on.new.self in
+    let h = g.H.GoalHandler.handled (g.H.GoalHandler.meaning c.args.handler.now es) f.goal.mode (form_of es f.goal) in
+    both-ok (λ q. FrameHeld new after × RequestHeld new q) (λ q. (p : Standing) → IsBetween h (map (shown_by es) f.considered.items) p → IsRequest f.goal.mode new q (request p) × Stands h (map (shown_by new) after.considered.items) (place_read new h.coinductive after.place) p)
+    (Steps es h f (reply_read es c.args.reply) new after) c.go_on.result
+    (λ q held asks.
+    subst (λ r. Steps es h f (reply_read es r) new after q) (sym c.in-Begun-Begin.is-1)
+    (steps-to h es new f after begin q (λ heard b o. asks (position (frame_of_goal frame_tables h) (begin ∷ heard)) (begun-there h es f heard b (sym c.replace.ensures.value ∙ c.in-Begun-Begin.is-0))) held.0))
+    c.go_on.ensures.held c.go_on.ensures.asks
+
+pub returns-in-Entering-Entered-clause-steps : goal.returns-in-Entering-Entered-clause-steps
+returns-in-Entering-Entered-clause-steps g c =
+    let es = c.args.cx.now.entries in
+    let new = c.run.new.cx.entries in
+    let f = c.args.self.now in
+    let after = c.run.new.self in
+    let h = g.H.GoalHandler.handled (g.H.GoalHandler.meaning c.args.handler.now es) f.goal.mode (form_of es f.goal) in
+    let s = c.in-Entering-Entered.spec in
+    let rs = c.new.result in
+    both-ok (λ q. FrameHeld new after × RequestHeld new q)
+    (λ q. (p : Standing) → IsInside h (map (shown_by es) f.considered.items) (spec_read es h.coinductive s) (replies_trees es rs.items) p → IsRequest f.goal.mode new q (request p) × Stands h (map (shown_by new) after.considered.items) (place_read new h.coinductive after.place) p)
+    (Steps es h f (reply_read es c.args.reply) new after) c.run.result
+    (λ q held asks.
+    subst (λ r. Steps es h f (reply_read es r) new after q) (sym c.in-Entering-Entered.is-1)
+    (steps-to h es new f after entered q
+    (λ heard b o.
+    let p = position (frame_of_goal frame_tables h) (entered ∷ heard) in
+    asks p
+    (subst (λ (xs : List (Option CanonicalResponse)). IsInside h (map (shown_by es) f.considered.items) (spec_read es h.coinductive s) (replies_trees es xs) p) (sym c.new.ensures.items)
+    (inside-there h es f heard b s (sym c.replace.ensures.value ∙ c.in-Entering-Entered.is-0)))) held.0))
+    c.run.ensures.held c.run.ensures.asks
+
+pub returns-in_ok-push-in-Inside-Result-clause-steps : goal.returns-in_ok-push-in-Inside-Result-clause-steps
+returns-in_ok-push-in-Inside-Result-clause-steps g c =
+    let es = c.args.cx.now.entries in
+    let new = c.run-in-Inside-Result.new.cx.entries in
+    let f = c.args.self.now in
+    let after = c.run-in-Inside-Result.new.self in
+    let h = g.H.GoalHandler.handled (g.H.GoalHandler.meaning c.args.handler.now es) f.goal.mode (form_of es f.goal) in
+    let x = c.in-Inside-Result in
+    let rs = c.push.new.self in
+    both-ok (λ q. FrameHeld new after × RequestHeld new q)
+    (λ q. (p : Standing) → IsInside h (map (shown_by es) f.considered.items) (spec_read es h.coinductive x.spec) (replies_trees es rs.items) p → IsRequest f.goal.mode new q (request p) × Stands h (map (shown_by new) after.considered.items) (place_read new h.coinductive after.place) p)
+    (Steps es h f (reply_read es c.args.reply) new after) c.run-in-Inside-Result.result
+    (λ q held asks.
+    subst (λ r. Steps es h f (reply_read es r) new after q) (sym x.is-1)
+    (steps-to h es new f after (evaluated (result_read es x.answer)) q
+    (λ heard b o.
+    let p = position (frame_of_goal frame_tables h) (evaluated (result_read es x.answer) ∷ heard) in
+    asks p
+    (subst (λ (xs : List (Option CanonicalResponse)). IsInside h (map (shown_by es) f.considered.items) (spec_read es h.coinductive x.spec) (replies_trees es xs) p) (sym c.in_ok-push-in-Inside-Result.ensures.items)
+    (subst (λ xs. IsInside h (map (shown_by es) f.considered.items) (spec_read es h.coinductive x.spec) xs p) (sym (replies-more es x.replies.items x.answer))
+    (hears-there h es f heard b x.spec x.replies (result_read es x.answer) (sym c.replace.ensures.value ∙ x.is-0) o)))) held.0))
+    c.run-in-Inside-Result.ensures.held c.run-in-Inside-Result.ensures.asks
+
+pub returns-in_ok-push-in-Finishing-Finished-clause-steps : goal.returns-in_ok-push-in-Finishing-Finished-clause-steps
+returns-in_ok-push-in-Finishing-Finished-clause-steps g c =
+    let es = c.args.cx.now.entries in
+    let new = c.go_on-in-Finishing-Finished.new.cx.entries in
+    let f = c.args.self.now in
+    let after = c.go_on-in-Finishing-Finished.new.self in
+    let m = g.H.GoalHandler.meaning c.args.handler.now es in
+    let h = g.H.GoalHandler.handled m f.goal.mode (form_of es f.goal) in
+    let x = c.in-Finishing-Finished in
+    let d : Considered = record { source = x.source; result = x.outcome; head_usages = x.head_usages } in
+    both-ok (λ q. FrameHeld new after × RequestHeld new q)
+    (λ q. (p : Standing) → IsBetween h (map (shown_by es) c.push-in-Finishing-Finished.new.self.items) p → IsRequest f.goal.mode new q (request p) × Stands h (map (shown_by new) after.considered.items) (place_read new h.coinductive after.place) p)
+    (Steps es h f (reply_read es c.args.reply) new after) c.go_on-in-Finishing-Finished.result
+    (λ q held asks.
+    subst (λ r. Steps es h f (reply_read es r) new after q) (sym x.is-1)
+    (steps-to h es new f after (finished x.head_usages) q
+    (λ heard b o.
+    let p = position (frame_of_goal frame_tables h) (finished x.head_usages ∷ heard) in
+    asks p
+    (subst (λ xs. IsBetween h xs p) (sym (shown-more es f.considered.items d) ∙ ap (map (shown_by es)) (sym c.in_ok-push-in-Finishing-Finished.ensures.items))
+    (finishes-there h es f heard b (g.met.H.GoalHandler.lawful m f.goal.mode (form_of es f.goal)) x.source x.outcome x.head_usages (sym c.replace.ensures.value ∙ x.is-0) o))) held.0))
+    c.go_on-in-Finishing-Finished.ensures.held c.go_on-in-Finishing-Finished.ensures.asks
+
+pub returns-in-Ignoring-Ignored-clause-held : goal.returns-in-Ignoring-Ignored-clause-held
+returns-in-Ignoring-Ignored-clause-held g c =
+    let es = c.args.cx.now.entries in
+    let f = c.args.self.now in
+    let held = c.requires.due.1.held in
+    let place = subst (PlaceHeld f.goal es) (sym c.replace.ensures.value ∙ c.in-Ignoring-Ignored.is-0) held.place in
+    (c.ignore_from.ensures.held es (record { goal = held.goal; considered = held.considered; fits = held.fits; place = subst (PlaceHeld f.goal es) (sym c.replace.ensures.after) tt }) place.0 place.1).1
+
+pub returns-in-Ignoring-Ignored-clause-steps : goal.returns-in-Ignoring-Ignored-clause-steps
+returns-in-Ignoring-Ignored-clause-steps g c =
+    let es = c.args.cx.now.entries in
+    let f = c.args.self.now in
+    let after = c.ignore_from.new.self in
+    let h = g.H.GoalHandler.handled (g.H.GoalHandler.meaning c.args.handler.now es) f.goal.mode (form_of es f.goal) in
+    let x = c.in-Ignoring-Ignored in
+    let held = c.requires.due.1.held in
+    let place = subst (PlaceHeld f.goal es) (sym c.replace.ensures.value ∙ x.is-0) held.place in
+    subst (λ r. Steps es h f (reply_read es r) es after c.ignore_from.result) (sym x.is-1)
+    (steps-to h es es f after ignored c.ignore_from.result
+    (λ heard b o.
+    let p = position (frame_of_goal frame_tables h) (ignored ∷ heard) in
+    let i = ignores-there h es f heard b x.answer x.ignored x.at (sym c.replace.ensures.value ∙ x.is-0) o in
+    let there = c.ignore_from.ensures.asks es f.goal.mode h.coinductive p (subst (λ n. IsIgnoring (result_read es x.answer) (drop n x.ignored.items) p) (next-place x.at) i.1) in
+    (there.0, answers-stand h (map (shown_by es) after.considered.items) (place_read es h.coinductive after.place) p there.1))
+    (c.ignore_from.ensures.held es (record { goal = held.goal; considered = held.considered; fits = held.fits; place = subst (PlaceHeld f.goal es) (sym c.replace.ensures.after) tt }) place.0 place.1).0)

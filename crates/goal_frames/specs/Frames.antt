@@ -1,0 +1,97 @@
+-- What frames in code have heard, and what they ask.
+use Rattle.std.specs.Prelude.{◌≡◌, ℕ, List, [], ◌∷◌, map, Option}
+use Rattle.type_terms.specs.Terms.{Entry}
+use Rattle.infer_table.specs.declared.goal.TypingMode.{TypingMode}
+use Rattle.canonical_forms.specs.declared.input.CanonicalInput.{CanonicalInput}
+use Rattle.canonical_forms.specs.declared.response.CanonicalResponse.{CanonicalResponse}
+use Rattle.canonical_forms.specs.Goals.{GoalHeld}
+use Rattle.canonical_forms.specs.Inputs.{form_of}
+use Rattle.canonical_responses.specs.Responses.{AnswerTrees}
+use Rattle.search_steps.specs.declared.delegate.Reply as Replies
+use Rattle.search_steps.specs.declared.delegate.Reply.TheVariants as Replied
+use Rattle.search_steps.specs.declared.delegate.Request as Requests
+use Rattle.search_steps.specs.declared.delegate.Request.TheVariants as Requested
+use Rattle.goal_evaluator.specs.declared.candidate.Considered.{Considered}
+use Rattle.goal_evaluator.specs.Handler.{Handled}
+use Rattle.goal_evaluator.specs.History.{Request, evaluate, enter_candidate, finish_candidate, ignore_candidate, returns, Reply, begin, entered, ignored, evaluated, finished, position, asks, CameInOrder}
+use Rattle.goal_evaluator.specs.Lists.{Every}
+use Rattle.goal_evaluator.specs.Promises.{frame_of_goal, Anything}
+use Rattle.goal_evaluator.specs.Readings.{ResultHeld, ConsideredHeld, SpecHeld}
+use Rattle.goal_tables.specs.Content.{Question}
+use Rattle.frame_tables.specs.Tables.{frame_tables}
+use Rattle.frame_searches.specs.Searches.{step_kind}
+use Rattle.goal_frames.specs.Readings.{result_read, shown_by}
+use Rattle.goal_frames.specs.Fitting.{ResultFits, ConsideredFits, IsOver}
+use Rattle.goal_frames.specs.Places.{place_read, Stands}
+use Rattle.goal_frames.specs.declared.frame.GoalFrame.{GoalFrame}
+use Rattle.goal_frames.specs.declared.frame.Place.{Place}
+use Rattle.goal_frames.specs.declared.frame.Place.TheVariants as InCode
+
+-- ---- replies and requests
+abbrev pub reply_read : List Entry → Replies.Reply (Option CanonicalResponse) → Reply (Option AnswerTrees)
+reply_read es Replied.Begin = begin
+reply_read es (Replied.Result r) = evaluated (result_read es r)
+reply_read es Replied.Entered = entered
+reply_read es (Replied.Finished n) = finished n
+reply_read es Replied.Ignored = ignored
+
+-- a result's handles are an interner's, and its values are terms over its own variables
+abbrev pub IsReply : List Entry → Replies.Reply (Option CanonicalResponse) → Type 0
+IsReply es (Replied.Result r) = ResultHeld es r × ResultFits es r
+IsReply es reply = Unit {0}
+
+-- the code's request is this one, and what is asked is asked in this mode
+abbrev pub IsRequest : TypingMode → List Entry → Requests.Request CanonicalInput (Option CanonicalResponse) → Request Question (Option AnswerTrees) → Type 0
+IsRequest mode es (Requested.Evaluate input kind) (evaluate q) = (input.mode ≡ mode) × (form_of es input ≡ q.form) × (kind ≡ step_kind q.coinductive)
+IsRequest mode es Requested.EnterCandidate enter_candidate = Unit {0}
+IsRequest mode es Requested.FinishCandidate finish_candidate = Unit {0}
+IsRequest mode es (Requested.IgnoreCandidate n) (ignore_candidate m) = n ≡ m
+IsRequest mode es (Requested.Done r) (returns a) = result_read es r ≡ a
+IsRequest mode es request other = ⊥
+
+-- the handles of what is asked, or of an answer, are an interner's, and the answer is well-formed
+abbrev pub RequestHeld : List Entry → Requests.Request CanonicalInput (Option CanonicalResponse) → Type 0
+RequestHeld es (Requested.Evaluate input kind) = GoalHeld es input.goal
+RequestHeld es (Requested.Done r) = ResultHeld es r × ResultFits es r
+RequestHeld es request = Unit {0}
+
+-- ---- frames
+abbrev pub PlaceHeld : CanonicalInput → List Entry → Place → Type 0
+PlaceHeld goal es InCode.Begun = Unit {0}
+PlaceHeld goal es (InCode.Entering s) = SpecHeld es s × IsOver goal.variables.items es s
+PlaceHeld goal es (InCode.Inside s replies) = SpecHeld es s × IsOver goal.variables.items es s × Every (ResultHeld es) replies.items × Every (ResultFits es) replies.items
+PlaceHeld goal es (InCode.Finishing source r) = ResultHeld es r × ResultFits es r
+PlaceHeld goal es (InCode.Ignoring r ns at) = ResultHeld es r × ResultFits es r
+PlaceHeld goal es InCode.Over = Unit {0}
+
+-- the handles of the frame are an interner's
+pub record FrameHeld (es : List Entry) (f : GoalFrame) : Type 0 where
+  pub goal : GoalHeld es f.goal.goal
+  pub considered : ConsideredHeld es f.considered.items
+  pub fits : ConsideredFits es f.considered.items
+  pub place : PlaceHeld f.goal es f.place
+
+abbrev pub History : Type 0
+History = List (Reply (Option AnswerTrees))
+
+-- no reply has come yet, or replies came in order and led to where the frame stands
+abbrev pub HasCome : List Entry → Handled frame_tables → List Considered → Place → History → Type 0
+HasCome es h considered InCode.Begun heard = (heard ≡ []) × (considered ≡ [])
+HasCome es h considered place heard =
+    CameInOrder (Anything frame_tables h) (frame_of_goal frame_tables h) heard
+    × Stands h (map (shown_by es) considered) (place_read es h.coinductive place) (position (frame_of_goal frame_tables h) heard)
+
+-- the frame of a goal that its handler means this for has had these replies, the newest first
+pub record HasHeard (es : List Entry) (h : Handled frame_tables) (f : GoalFrame) (heard : History) : Type 0 where
+  pub held : FrameHeld es f
+  pub came : HasCome es h f.considered.items f.place heard
+
+-- the reply is one that the frame waits for
+abbrev pub IsDue : List Entry → Handled frame_tables → GoalFrame → Reply (Option AnswerTrees) → Type 0
+IsDue es h f reply = (heard : History) × HasHeard es h f heard × CameInOrder (Anything frame_tables h) (frame_of_goal frame_tables h) (reply ∷ heard)
+
+-- given the reply, the frame of before becomes the one of after and makes the request
+abbrev pub Steps : List Entry → Handled frame_tables → GoalFrame → Reply (Option AnswerTrees) → List Entry → GoalFrame → Requests.Request CanonicalInput (Option CanonicalResponse) → Type 0
+Steps old h before reply new after request =
+    (heard : History) → HasHeard old h before heard → CameInOrder (Anything frame_tables h) (frame_of_goal frame_tables h) (reply ∷ heard)
+    → HasHeard new h after (reply ∷ heard) × IsRequest before.goal.mode new request (asks (frame_of_goal frame_tables h) (reply ∷ heard))

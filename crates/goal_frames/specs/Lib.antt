@@ -1,0 +1,4 @@
+pub mod Readings
+pub mod Fitting
+pub mod Places
+pub mod Frames

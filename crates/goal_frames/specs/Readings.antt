@@ -1,0 +1,69 @@
+-- How what handlers and frames hold in code is read over the tables of frames: as the trees that it stands for.
+use Rattle.std.specs.Prelude.{◌≡◌, ℕ, Bool, List, [], ◌∷◌, map, reverse, Option, Some, None, option_map}
+use Rattle.type_terms.specs.Terms.{Entry}
+use Rattle.infer_table.specs.declared.canonical.CanonicalVarKind.{CanonicalVarKind}
+use Rattle.infer_table.specs.declared.terms.Equation as Code
+use Rattle.infer_table.specs.Constraints.{constraints_trees}
+use Rattle.canonical_forms.specs.declared.goal.Goal.{Goal}
+use Rattle.canonical_forms.specs.declared.response.CanonicalResponse.{CanonicalResponse}
+use Rattle.canonical_forms.specs.Goals.{goal_trees}
+use Rattle.canonical_forms.specs.Values.{value_of}
+use Rattle.canonical_responses.specs.Responses.{AnswerTrees, answer_trees}
+use Rattle.goal_evaluator.specs.declared.candidate.CandidateSource.{CandidateSource}
+use Rattle.goal_evaluator.specs.declared.candidate.CandidateSpec.{CandidateSpec}
+use Rattle.goal_evaluator.specs.declared.candidate.Considered as InCode
+use Rattle.goal_evaluator.specs.declared.candidate.HandlerStep.{HandlerStep}
+use Rattle.goal_evaluator.specs.declared.candidate.HandlerStep.TheVariants.{Consider, Answer, NoSolution}
+use Rattle.goal_evaluator.specs.declared.goal.GoalSource.{GoalSource}
+use Rattle.goal_evaluator.specs.Candidate.{Spec, Considered, Next, consider, answer}
+use Rattle.goal_evaluator.specs.Readings.{is_coinductive_step}
+use Rattle.goal_evaluator.specs.Table.{workings}
+use Rattle.goal_tables.specs.Frames.{Nested, Equation}
+use Rattle.frame_tables.specs.Tables.{frame_tables}
+
+abbrev pub equation_read : List Entry → Code.Equation → Equation
+equation_read es e = record { left = value_of es e.left; right = value_of es e.right }
+
+-- a nested goal of a goal whose trait is coinductive or not
+abbrev pub nested_read : List Entry → Bool → GoalSource × Goal → Nested
+nested_read es coinductive n = record { goal = goal_trees es n.1; coinductive = is_coinductive_step coinductive n.0 }
+
+abbrev pub spec_read : List Entry → Bool → CandidateSpec → Spec (workings frame_tables)
+spec_read es coinductive s = record {
+  source = s.source;
+  kinds = s.variables.items;
+  equations = map (equation_read es) s.equations.items;
+  regions = constraints_trees es s.region_constraints.items;
+  nested = map (nested_read es coinductive) s.nested_goals.items;
+  certainty = s.certainty;
+}
+
+abbrev pub result_read : List Entry → Option CanonicalResponse → Option AnswerTrees
+result_read es r = option_map (answer_trees es) r
+
+abbrev pub next_read : List Entry → Bool → HandlerStep → Next (workings frame_tables)
+next_read es coinductive (Consider s) = consider (spec_read es coinductive s)
+next_read es coinductive (Answer r ignored) = answer (Some (answer_trees es r)) ignored.items
+next_read es coinductive NoSolution = answer None []
+
+-- what a handler is shown of a candidate that was considered: all but the rest of its spec
+pub record Shown : Type 0 where
+  pub source : CandidateSource
+  pub result : Option AnswerTrees
+  pub number : ℕ
+
+abbrev pub shown : Considered (workings frame_tables) → Shown
+shown c = record { source = c.spec.source; result = c.response; number = c.number }
+
+abbrev pub shown_by : List Entry → InCode.Considered → Shown
+shown_by es d = record { source = d.source; result = result_read es d.result; number = d.head_usages }
+
+-- the list, the oldest first, shows this history, the newest first
+abbrev pub Shows : List Shown → List (Considered (workings frame_tables)) → Type 0
+Shows xs seen = xs ≡ reverse (map shown seen)
+
+-- the kinds that are known
+abbrev pub kinds_known : List (Option CanonicalVarKind) → List CanonicalVarKind
+kinds_known [] = []
+kinds_known (None ∷ ks) = kinds_known ks
+kinds_known (Some k ∷ ks) = k ∷ kinds_known ks

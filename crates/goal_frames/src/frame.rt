@@ -1,0 +1,224 @@
+//! The frame of a goal.
+
+ghost use Rattle.std.specs.Prelude.{◌≡◌, [], ◌∷◌, ◌++◌, IfOk, map, drop, List, Bool};
+ghost use Rattle.type_terms.specs.Terms.{Entry, Keeps};
+ghost use Rattle.canonical_forms.specs.Goals.{GoalHeld};
+ghost use Rattle.canonical_forms.specs.Inputs.{form_of};
+ghost use Rattle.evaluation.specs.Evaluating.{replies_trees};
+ghost use Rattle.infer_table.specs.Canonical.{CanonicalForm};
+ghost use Rattle.infer_table.specs.declared.goal.TypingMode.{TypingMode};
+ghost use Rattle.goal_evaluator.specs.History.{request, told, entered, finished, ignored, evaluated};
+ghost use Rattle.goal_evaluator.specs.Lists.{Every};
+ghost use Rattle.goal_evaluator.specs.Promises.{Anything};
+ghost use Rattle.goal_evaluator.specs.Readings.{ResultHeld, SpecHeld, is_coinductive_step};
+ghost use Rattle.frame_tables.specs.Tables.{frame_tables};
+ghost use Rattle.frame_searches.specs.Searches.{step_kind};
+ghost use Rattle.goal_frames.specs.Readings.{shown_by, spec_read, result_read};
+ghost use Rattle.goal_frames.specs.Fitting.{ResultFits, IsOver};
+ghost use Rattle.goal_frames.specs.Places.{Standing, Stands, IsBetween, IsInside, IsIgnoring, Answers, place_read};
+ghost use Rattle.goal_frames.specs.Frames.{FrameHeld, HasHeard, IsDue, IsReply, IsRequest, RequestHeld, Steps, reply_read};
+
+use crate::handler::GoalHandler;
+use candidates::evaluate_candidate;
+use canonical_forms::input::CanonicalInput;
+use canonical_forms::response::CanonicalResponse;
+use evaluation::{EvalError, EvalStep};
+use goal_evaluator::{CandidateSource, CandidateSpec, Considered, GoalSource, HandlerStep};
+use search_paths::PathKind;
+use search_steps::{Reply, Request};
+use std::alloc::Global;
+use std::mem;
+use type_terms::Fault;
+use type_terms::interner::Interner;
+
+/// Where a frame stands.
+#[derive(Drop)]
+enum Place {
+    /// It has had no reply.
+    Begun,
+    /// It has asked to enter this candidate.
+    Entering(CandidateSpec),
+    /// This candidate is open, with the replies to its questions so far.
+    Inside(CandidateSpec, Vec<Option<CanonicalResponse>>),
+    /// The open candidate, from this source, ended so.
+    Finishing(CandidateSource, Option<CanonicalResponse>),
+    /// The answer, the candidates that are ignored, and the place of the one that the frame has asked to ignore.
+    Ignoring(Option<CanonicalResponse>, Vec<usize>, usize),
+    /// It has answered.
+    Over,
+}
+
+/// A goal that is being evaluated: it considers its handler's candidates one after the other, and then answers as the handler says.
+///
+/// A candidate that is open is evaluated anew, over the replies to its questions, whenever one has come. What a frame asks is a
+/// function of its goal and of the replies that it has had, as trees: no handle decides anything.
+#[derive(Drop)]
+pub struct GoalFrame {
+    goal: CanonicalInput,
+    /// The candidates that are finished, the oldest first.
+    considered: Vec<Considered>,
+    place: Place,
+}
+
+/// The kind of the step to a nested goal: coinductive exactly if the asking goal's trait is and the goal is a premise.
+fn kind_of_step(coinductive: bool, source: GoalSource) -> PathKind
+    ensures { result ≡ step_kind (is_coinductive_step coinductive source) }
+{
+    match source {
+        GoalSource::ImplWhereBound if coinductive => PathKind::Coinductive,
+        _ => PathKind::Unknown,
+    }
+}
+
+impl GoalFrame {
+    /// The frame of a goal, which has had no reply.
+    pub fn new<H: GoalHandler>(alloc: Global, goal: CanonicalInput) -> GoalFrame
+        ensures goal { result.goal ≡ goal }
+        ensures heard { (es : List Entry) (m : H.Meaning) (mode : TypingMode) (form : CanonicalForm) → GoalHeld es goal.goal → HasHeard es (H.handled m mode form) result [] }
+    {
+        GoalFrame {
+            goal,
+            considered: Vec::new(alloc),
+            place: Place::Begun,
+        }
+    }
+
+    /// Gives the frame the reply that it waits for, and answers what it wants next: what the frame of the goal asks, by what its
+    /// handler means for it, after these replies. Or a fault; then the frame is not to be used any more.
+    pub fn step<H: GoalHandler>(
+        &mut self,
+        alloc: Global,
+        cx: &mut Interner,
+        handler: &H,
+        reply: Reply<Option<CanonicalResponse>>,
+    ) -> Result<Request<CanonicalInput, Option<CanonicalResponse>>, Fault>
+        requires ready { H.ready handler.now cx.old.entries }
+        requires reply { IsReply cx.old.entries reply }
+        requires due { IsDue cx.old.entries (H.handled (H.meaning handler.now cx.old.entries) self.old.goal.mode (form_of cx.old.entries self.old.goal)) self.old (reply_read cx.old.entries reply) }
+        ensures goal { self.new.goal ≡ self.old.goal }
+        ensures keeps { Keeps cx.old.entries cx.new.entries }
+        ensures limit { cx.new.limit ≡ cx.old.limit }
+        ensures held { IfOk result (RequestHeld cx.new.entries) }
+        ensures steps { IfOk result (Steps cx.old.entries (H.handled (H.meaning handler.now cx.old.entries) self.old.goal.mode (form_of cx.old.entries self.old.goal)) self.old (reply_read cx.old.entries reply) cx.new.entries self.new) }
+    {
+        match (mem::replace(&mut self.place, Place::Over), reply) {
+            (Place::Begun, Reply::Begin) => self.go_on(alloc, cx, handler),
+            (Place::Entering(spec), Reply::Entered) => {
+                self.run(alloc, cx, handler, spec, Vec::new(alloc))
+            }
+            (Place::Inside(spec, mut replies), Reply::Result(answer)) => {
+                replies.push(answer)?;
+                self.run(alloc, cx, handler, spec, replies)
+            }
+            (Place::Finishing(source, outcome), Reply::Finished(head_usages)) => {
+                self.considered.push(Considered {
+                    source,
+                    result: outcome,
+                    head_usages,
+                })?;
+                self.go_on(alloc, cx, handler)
+            }
+            (Place::Ignoring(answer, ignored, at), Reply::Ignored) => {
+                Ok(self.ignore_from(answer, ignored, at + 1))
+            }
+            _ => unreachable!(),
+        }
+    }
+
+    /// Asks the handler what comes next.
+    fn go_on<H: GoalHandler>(
+        &mut self,
+        alloc: Global,
+        cx: &mut Interner,
+        handler: &H,
+    ) -> Result<Request<CanonicalInput, Option<CanonicalResponse>>, Fault>
+        requires ready { H.ready handler.now cx.old.entries }
+        requires held { FrameHeld cx.old.entries self.old }
+        requires between { (p : Standing) × IsBetween (H.handled (H.meaning handler.now cx.old.entries) self.old.goal.mode (form_of cx.old.entries self.old.goal)) (map (shown_by cx.old.entries) self.old.considered.items) p }
+        ensures goal { self.new.goal ≡ self.old.goal }
+        ensures keeps { Keeps cx.old.entries cx.new.entries }
+        ensures limit { cx.new.limit ≡ cx.old.limit }
+        ensures held { IfOk result (λ q. FrameHeld cx.new.entries self.new × RequestHeld cx.new.entries q) }
+        ensures asks { IfOk result (λ q. let h = H.handled (H.meaning handler.now cx.old.entries) self.old.goal.mode (form_of cx.old.entries self.old.goal) in (p : Standing) → IsBetween h (map (shown_by cx.old.entries) self.old.considered.items) p → IsRequest self.old.goal.mode cx.new.entries q (request p) × Stands h (map (shown_by cx.new.entries) self.new.considered.items) (place_read cx.new.entries h.coinductive self.new.place) p) }
+    {
+        match handler.step(alloc, cx, &self.goal, &self.considered)? {
+            HandlerStep::Consider(spec) => {
+                self.place = Place::Entering(spec);
+                Ok(Request::EnterCandidate)
+            }
+            HandlerStep::Answer(response, ignored) => {
+                Ok(self.ignore_from(Some(response), ignored, 0))
+            }
+            HandlerStep::NoSolution => Ok(self.ignore_from(None, Vec::new(alloc), 0)),
+        }
+    }
+
+    /// Evaluates the open candidate over the replies to its questions.
+    fn run<H: GoalHandler>(
+        &mut self,
+        alloc: Global,
+        cx: &mut Interner,
+        handler: &H,
+        spec: CandidateSpec,
+        replies: Vec<Option<CanonicalResponse>>,
+    ) -> Result<Request<CanonicalInput, Option<CanonicalResponse>>, Fault>
+        requires held { FrameHeld cx.old.entries self.old }
+        requires spec { SpecHeld cx.old.entries spec × IsOver self.old.goal.variables.items cx.old.entries spec }
+        requires replies { Every (ResultHeld cx.old.entries) replies.items × Every (ResultFits cx.old.entries) replies.items }
+        ensures goal { self.new.goal ≡ self.old.goal }
+        ensures keeps { Keeps cx.old.entries cx.new.entries }
+        ensures limit { cx.new.limit ≡ cx.old.limit }
+        ensures held { IfOk result (λ q. FrameHeld cx.new.entries self.new × RequestHeld cx.new.entries q) }
+        ensures asks { IfOk result (λ q. let h = H.handled (H.meaning handler.now cx.old.entries) self.old.goal.mode (form_of cx.old.entries self.old.goal) in (p : Standing) → IsInside h (map (shown_by cx.old.entries) self.old.considered.items) (spec_read cx.old.entries h.coinductive spec) (replies_trees cx.old.entries replies.items) p → IsRequest self.old.goal.mode cx.new.entries q (request p) × Stands h (map (shown_by cx.new.entries) self.new.considered.items) (place_read cx.new.entries h.coinductive self.new.place) p) }
+    {
+        match evaluate_candidate(alloc, cx, &self.goal, &spec, &replies) {
+            Ok(EvalStep::Ask(input, source)) => {
+                let def_id = self.goal.goal.predicate.def_id();
+                let kind = kind_of_step(handler.trait_is_coinductive(def_id), source);
+                self.place = Place::Inside(spec, replies);
+                Ok(Request::Evaluate(input, kind))
+            }
+            Ok(EvalStep::Ready(answer)) => Ok(self.finish(spec.source, Some(answer))),
+            Err(EvalError::NoSolution) => Ok(self.finish(spec.source, None)),
+            Err(EvalError::OutOf(fault)) => Err(fault),
+        }
+    }
+
+    /// The open candidate ended so.
+    fn finish(
+        &mut self,
+        source: CandidateSource,
+        outcome: Option<CanonicalResponse>,
+    ) -> Request<CanonicalInput, Option<CanonicalResponse>>
+        ensures is { result ≡ Request.FinishCandidate }
+        ensures place { self.new ≡ record self.old { place = Place.Finishing source outcome } }
+    {
+        self.place = Place::Finishing(source, outcome);
+        Request::FinishCandidate
+    }
+
+    /// Asks to ignore the candidate at this place of the list, and answers where there is none.
+    fn ignore_from(
+        &mut self,
+        answer: Option<CanonicalResponse>,
+        ignored: Vec<usize>,
+        at: usize,
+    ) -> Request<CanonicalInput, Option<CanonicalResponse>>
+        ensures goal { self.new.goal ≡ self.old.goal }
+        ensures considered { self.new.considered ≡ self.old.considered }
+        ensures held { (es : List Entry) → FrameHeld es self.old → ResultHeld es answer → ResultFits es answer → FrameHeld es self.new × RequestHeld es result }
+        ensures asks { (es : List Entry) (mode : TypingMode) (coinductive : Bool) (p : Standing) → IsIgnoring (result_read es answer) (drop at ignored.items) p → IsRequest mode es result (request p) × Answers (place_read es coinductive self.new.place) p }
+    {
+        match ignored.get(at) {
+            Some(number) => {
+                let number = *number;
+                self.place = Place::Ignoring(answer, ignored, at);
+                Request::IgnoreCandidate(number)
+            }
+            None => {
+                self.place = Place::Over;
+                Request::Done(answer)
+            }
+        }
+    }
+}
