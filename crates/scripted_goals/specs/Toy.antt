@@ -74,6 +74,8 @@ toy_meaning = record {
   IsResult = λ c r. Unit {0};
   answer_of = λ c r. r;
   HasHeard = λ c g heard f. (f.goal ≡ g) × (f.heard ≡ length heard) × (f.left + f.heard ≡ 100);
+  Held = ⊥;
+  Holds = λ c x. ⊥;
   asks = toy_asks;
   is_yes = λ a. a == 2;
   is_ambiguous = λ a. a == 3;

@@ -142,7 +142,7 @@ impl Delegate for Toy {
 
     ghost meaning = { toy_meaning };
 
-    ghost steps_left = { λ f. f.left };
+    ghost steps_left = { λ c f. f.left };
 
     fn initial_provisional_result(
         _cx: &mut Scripts,
@@ -243,6 +243,10 @@ impl Delegate for Toy {
     ghost use Rattle.scripted_goals.specs.ToyLaws.{toy_lawful};
 
     ghost lawful = { toy_lawful };
+
+    ghost use Rattle.std.proofs.Common.{le_refl};
+
+    ghost steps_kept = { λ c d g heard f keeps had. le_refl f.left };
 
     ghost use Rattle.std.proofs.lemmas.Bool.{eq-eqb};
 

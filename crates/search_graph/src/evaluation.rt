@@ -4,7 +4,7 @@ ghost use Rattle.std.specs.Prelude.{◌≡◌, [], ℕ, ◌+◌, ◌*◌, ◌≤
 ghost use Rattle.search_steps.specs.Meaning.{Keeps};
 ghost use Rattle.search_steps.specs.Chain.{IsAskedUnder, IsWithinDepth};
 ghost use Rattle.search_steps.specs.Computed.{MakesMisstep};
-ghost use Rattle.search_steps.specs.Cache.{known_results, HasConflict, IsNumberOf, KeepsNumbers};
+ghost use Rattle.search_steps.specs.Cache.{known_results, HasConflict, IsNumberOf, KeepsNumbers, KeepsResults};
 ghost use Rattle.search_steps.specs.Plain.{IsNotPlain};
 ghost use Rattle.search_steps.specs.Faithful.{AllDescend, IsFaithful, IsUntouched};
 ghost use Rattle.search_graph.specs.Bound.{frame_bound, question_bound};
@@ -36,6 +36,7 @@ pub(crate) fn evaluate<D: Delegate>(
     ensures stack { OnOk result (search.new.stack.items ≡ search.old.stack.items) }
     ensures cache { AreCached D.meaning (D.meaning.world cx.new) cx.new cache.new.entries.items }
     ensures goals { KeepsNumbers D.Cx.Input.eq cache.old.goals.keys cache.new.goals.keys }
+    ensures results { KeepsResults cache.old.entries.items cache.new.entries.items }
     ensures answer { IfOk result (λ o. IsAnswer D.meaning (D.meaning.world cx.old) (path_onto D.meaning cx.old search.old.stack.items []) (D.meaning.goal_of cx.old input, step_kind) o.dependencies.lowest cx.new o.result) }
     ensures faithful { IfOk result (λ o. IsFaithful D.meaning (D.meaning.world cx.old) (depth + 1) (path_onto D.meaning cx.old search.old.stack.items []) (D.meaning.goal_of cx.old input) (D.meaning.answer_of cx.new o.result) o.dependencies.encountered_overflow o.dependencies.lowest o.dependencies.heads.items) }
     ensures no_conflict { result ≡ Err GraphFault.Conflict → (limit : ℕ) → limit ≤ depth + 1 → AllDescend D.meaning (D.meaning.world cx.old) limit 0 (path_onto D.meaning cx.old search.old.stack.items []) (D.meaning.goal_of cx.old input) → IsNotPlain D.meaning (D.meaning.world cx.old) limit (D.meaning.goal_of cx.old input) }
@@ -47,6 +48,7 @@ pub(crate) fn evaluate<D: Delegate>(
     ensures no_limit { search.old.limits_met ≡ false → search.new.limits_met ≡ true → (limit : ℕ) → limit ≤ depth + 1 → AllDescend D.meaning (D.meaning.world cx.old) limit 0 (path_onto D.meaning cx.old search.old.stack.items []) (D.meaning.goal_of cx.old input) → IsNotPlain D.meaning (D.meaning.world cx.old) limit (D.meaning.goal_of cx.old input) }
     ensures within { IfOk result (λ o. (before : _) → search.new.limits_met ≡ false → AreLastWithin D.meaning (D.meaning.world cx.old) before cx.old search.old.stack.items → AreCachedWithin D.meaning (D.meaning.world cx.old) before cx.old cache.old.entries.items → AreCachedWithin D.meaning (D.meaning.world cx.old) before cx.new cache.new.entries.items × IsWithin D.meaning (D.meaning.world cx.old) before (D.meaning.goal_of cx.old input) (D.meaning.answer_of cx.new o.result)) }
     ensures cached { (place : ℕ) (e : _) → slice_get cache.old.entries.items place ≡ Some e → e.input ≡ input → IsWithinDepth e.encountered_overflow e.depth depth → ((asked : ℕ) → IsAskedUnder cache.old.entries.items place asked → IsSome (place_of search.old.stack.items asked) → ⊥) → (search.new.frames ≡ search.old.frames) × (cache.new.entries ≡ cache.old.entries) }
+    ensures known { (place : ℕ) (e : _) → slice_get cache.old.entries.items place ≡ Some e → e.input ≡ input → IsWithinDepth e.encountered_overflow e.depth depth → ((asked : ℕ) → IsAskedUnder cache.old.entries.items place asked → IsSome (place_of search.old.stack.items asked) → ⊥) → IfOk result (λ o. (other : ℕ) × (d : _) × (slice_get cache.old.entries.items other ≡ Some d) × (d.input ≡ input) × IsWithinDepth d.encountered_overflow d.depth depth × (o.result ≡ d.result)) }
 {
     // A provisional entry, of a goal whose result rests on goals of the stack, would be looked up here.
     let number = cache.number_of(cx, &input)?;
@@ -91,6 +93,7 @@ fn evaluate_new<D: Delegate>(
     ensures stack { OnOk result (search.new.stack.items ≡ search.old.stack.items) }
     ensures cache { AreCached D.meaning (D.meaning.world cx.new) cx.new cache.new.entries.items }
     ensures goals { KeepsNumbers D.Cx.Input.eq cache.old.goals.keys cache.new.goals.keys }
+    ensures results { KeepsResults cache.old.entries.items cache.new.entries.items }
     ensures answer { IfOk result (λ o. IsAnswer D.meaning (D.meaning.world cx.old) (path_onto D.meaning cx.old search.old.stack.items []) (D.meaning.goal_of cx.old input, step_kind) o.dependencies.lowest cx.new o.result) }
     ensures faithful { IfOk result (λ o. IsFaithful D.meaning (D.meaning.world cx.old) (depth + 1) (path_onto D.meaning cx.old search.old.stack.items []) (D.meaning.goal_of cx.old input) (D.meaning.answer_of cx.new o.result) o.dependencies.encountered_overflow o.dependencies.lowest o.dependencies.heads.items) }
     ensures no_conflict { result ≡ Err GraphFault.Conflict → (limit : ℕ) → limit ≤ depth + 1 → AllDescend D.meaning (D.meaning.world cx.old) limit 0 (path_onto D.meaning cx.old search.old.stack.items []) (D.meaning.goal_of cx.old input) → IsNotPlain D.meaning (D.meaning.world cx.old) limit (D.meaning.goal_of cx.old input) }
@@ -196,6 +199,7 @@ fn run_once<D: Delegate>(
     ensures stack { OnOk result (search.new.stack.items ≡ search.old.stack.items) }
     ensures cache { AreCached D.meaning (D.meaning.world cx.new) cx.new cache.new.entries.items }
     ensures goals { KeepsNumbers D.Cx.Input.eq cache.old.goals.keys cache.new.goals.keys }
+    ensures results { KeepsResults cache.old.entries.items cache.new.entries.items }
     ensures entry { IfOk result (λ p. p.0 ≡ entry) }
     ensures low { IfOk result (λ p. p.1.dependencies.lowest ≤ length search.old.stack.items) }
     ensures provisional { IfOk result (λ p. IsProvisional D.meaning (D.meaning.world cx.old) (path_onto D.meaning cx.old search.old.stack.items []) (question_of D.meaning cx.old entry) p.1.dependencies.lowest cx.new p.1.result) }
@@ -275,6 +279,7 @@ fn ask<D: Delegate>(
     ensures stack { OnOk result (search.new.stack.items ≡ search.old.stack.items) }
     ensures cache { AreCached D.meaning (D.meaning.world cx.new) cx.new cache.new.entries.items }
     ensures goals { KeepsNumbers D.Cx.Input.eq cache.old.goals.keys cache.new.goals.keys }
+    ensures results { KeepsResults cache.old.entries.items cache.new.entries.items }
     ensures answer { IfOk result (λ o. IsAnswer D.meaning (D.meaning.world cx.old) (path_onto D.meaning cx.old search.old.stack.items []) (D.meaning.goal_of cx.old input, step_kind) o.dependencies.lowest cx.new o.result) }
     ensures faithful { IfOk result (λ o. IsFaithful D.meaning (D.meaning.world cx.old) (cond overflowed 0 depth) (path_onto D.meaning cx.old search.old.stack.items []) (D.meaning.goal_of cx.old input) (D.meaning.answer_of cx.new o.result) o.dependencies.encountered_overflow o.dependencies.lowest o.dependencies.heads.items) }
     ensures no_conflict { result ≡ Err GraphFault.Conflict → (limit : ℕ) → limit ≤ cond overflowed 0 depth → AllDescend D.meaning (D.meaning.world cx.old) limit 0 (path_onto D.meaning cx.old search.old.stack.items []) (D.meaning.goal_of cx.old input) → IsNotPlain D.meaning (D.meaning.world cx.old) limit (D.meaning.goal_of cx.old input) }

@@ -7,7 +7,7 @@ ghost use Rattle.search_steps.specs.Computed.{IsGiven, IsGivenWithin, IsComputed
 ghost use Rattle.search_graph.specs.Answer.{IsSound};
 ghost use Rattle.search_steps.specs.Plain.{IsPlain, IsNotPlain};
 ghost use Rattle.search_graph.specs.Bound.{frame_bound};
-ghost use Rattle.search_steps.specs.Cache.{AreJustified, AreConsistent, HasConflict, answers_in};
+ghost use Rattle.search_steps.specs.Cache.{AreJustified, AreConsistent, KeepsResults, HasConflict, answers_in};
 
 use crate::cache::GlobalCache;
 use crate::evaluation::evaluate;
@@ -87,9 +87,9 @@ impl<D: Delegate> SearchGraph<D> {
     /// The result of a goal. The kind of the step has no effect, since no goal is above the root.
     ///
     /// It is refused where memory is (`Memory`), where a table of the context is full (`Full`), where the frame of the goal or
-    /// of one that is asked under it makes a request out of order (`Protocol`), and where a new answer to a goal differs from
-    /// the cached one (`Conflict`), which never comes for a goal that plain recursion answers within the depth. After a refusal
-    /// no goal is being evaluated, and the cache may hold more results than before.
+    /// of one that is asked under it makes a request out of order (`Protocol`), and where a new result differs from a cached one
+    /// of the same goal and kind (`Conflict`), which never comes for a goal that plain recursion answers within the depth. After
+    /// a refusal no goal is being evaluated. The cache keeps its results in any case, and may hold more than before.
     pub fn evaluate_goal(
         &mut self,
         cache: &mut GlobalCache<D>,
@@ -106,6 +106,7 @@ impl<D: Delegate> SearchGraph<D> {
         ensures empty { self.new.current_depth ≡ 0 }
         ensures cache { AreJustified D.meaning cx.new cache.new }
         ensures consistent { AreConsistent cache.new }
+        ensures results { KeepsResults cache.old cache.new }
 
         ensures answer { IfOk result (λ r. IsSound D.meaning (D.meaning.world cx.old) (D.meaning.goal_of cx.old input) cx.new r) }
         ensures plain { IfOk result (λ r. (a : _) → IsPlain D.meaning (D.meaning.world cx.old) (self.old.root_depth + 1) (D.meaning.goal_of cx.old input) a → a ≡ D.meaning.answer_of cx.new r) }
@@ -119,8 +120,9 @@ impl<D: Delegate> SearchGraph<D> {
 
         ensures frames { (width : ℕ) → (D.meaning.number_of (D.meaning.world cx.old) (D.meaning.goal_of cx.old input) ≤ width) → self.new.frames ≤ self.old.frames + frame_bound (max D.FIXPOINT_STEP_LIMIT 1) width self.old.root_depth }
 
-        // The result of a goal that the cache holds, and that it may use, costs no frame.
+        // The result of a goal that the cache holds, and that it may use, costs no frame, and is one that the cache holds.
         ensures cached { (place : ℕ) (k : _) → slice_get cache.old place ≡ Some k → k.input ≡ input → IsWithinDepth k.overflowed k.depth self.old.root_depth → (self.new.frames ≡ self.old.frames) × (cache.new ≡ cache.old) }
+        ensures known { (place : ℕ) (k : _) → slice_get cache.old place ≡ Some k → k.input ≡ input → IsWithinDepth k.overflowed k.depth self.old.root_depth → IfOk result (λ r. (other : ℕ) × (l : _) × (slice_get cache.old other ≡ Some l) × (l.input ≡ input) × IsWithinDepth l.overflowed l.depth self.old.root_depth × (r ≡ l.result)) }
 
         ensures depth { self.new.root_depth ≡ self.old.root_depth }
 

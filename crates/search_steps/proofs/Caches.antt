@@ -4,7 +4,7 @@ use Rattle.std.proofs.lemmas.Option.{none-some, same_Some}
 use Rattle.search_steps.specs.declared.cache.CacheEntry.{CacheEntry}
 use Rattle.search_steps.specs.Meaning.{Meaning}
 use Rattle.search_steps.specs.Stack.{AreCached}
-use Rattle.search_steps.specs.Cache.{KnownResult, known_result, known_results, AreJustified, IsContradicted, HasConflict, IsAlike, AreConsistent, IsNumberOf}
+use Rattle.search_steps.specs.Cache.{KnownResult, known_result, known_results, AreJustified, IsContradicted, HasConflict, IsAlike, AreConsistent, IsNumberOf, KeepsResults}
 use Rattle.search_steps.proofs.Chains.{push_cases}
 use Rattle.search_steps.proofs.Graphs.{split_some}
 
@@ -24,8 +24,14 @@ module _ {C I R F : Type 0} (m : Meaning C I R F) where
   pub HasConflict-at : (c : C) (es : List (CacheEntry I R)) (i : ℕ) (e : CacheEntry I R) → slice_get es i ≡ Some e → IsContradicted m c (known_result e) → HasConflict m c (known_results es)
   HasConflict-at c es i e at h = subst (λ l. HasConflict m c (known_results l)) (sym (split_some es i e at)) (HasConflict-append c (take i es) (e ∷ drop (i + 1) es) (inl h))
 
+-- one more result leaves each at its place
+pub KeepsResults-push : {X : Type 0} (xs : List X) (y : X) → KeepsResults xs (xs ++ y ∷ [])
+KeepsResults-push [] y place x at = absurd (none-some x at)
+KeepsResults-push (z ∷ xs) y zero x at = at
+KeepsResults-push (z ∷ xs) y (suc place) x at = KeepsResults-push xs y place x at
+
 module _ {I R : Type 0} where
-  known_at : (es : List (CacheEntry I R)) (i : ℕ) (e : CacheEntry I R) → slice_get es i ≡ Some e → slice_get (known_results es) i ≡ Some (known_result e)
+  pub known_at : (es : List (CacheEntry I R)) (i : ℕ) (e : CacheEntry I R) → slice_get es i ≡ Some e → slice_get (known_results es) i ≡ Some (known_result e)
   known_at [] i e at = absurd (none-some e at)
   known_at (x ∷ es) zero e at = ap (λ z. Some (known_result z)) (same_Some x e at)
   known_at (x ∷ es) (suc i) e at = known_at es i e at

@@ -198,7 +198,7 @@ module _ {C I R F : Type 0} (m : Meaning C I R F) where
       }
 
   pub Keeps-refl : (c : C) → Keeps m c c
-  Keeps-refl c = record { world = refl; inputs = λ i h. (h, refl); results = λ r h. (h, refl); frames = λ g heard f h. h }
+  Keeps-refl c = record { world = refl; inputs = λ i h. (h, refl); results = λ r h. (h, refl); frames = λ g heard f h. h; held = λ x h. h }
 
   pub Keeps-trans : (a b c : C) → Keeps m a b → Keeps m b c → Keeps m a c
   Keeps-trans a b c k l = record {
@@ -206,6 +206,7 @@ module _ {C I R F : Type 0} (m : Meaning C I R F) where
     inputs = λ i h. ((l.inputs i (k.inputs i h).0).0, (l.inputs i (k.inputs i h).0).1 ∙ (k.inputs i h).1);
     results = λ r h. ((l.results r (k.results r h).0).0, (l.results r (k.results r h).0).1 ∙ (k.results r h).1);
     frames = λ g heard f h. l.frames g heard f (k.frames g heard f h);
+    held = λ x h. l.held x (k.held x h);
   }
 
   pub question-keeps : (c d : C) (e : StackEntry I R) → Keeps m c d → m.IsInput c e.input → question_of m d e ≡ question_of m c e

@@ -1,10 +1,10 @@
 -- Where the goals of a stack are found.
-use Rattle.std.proofs.Common.{◌≡◌, ℕ, suc, ◌+◌, ◌<◌, sym, ap, refl, ◌∙◌, Bool, true, false, cond, nat_eq, find, List, [], ◌∷◌, ◌++◌, length, slice_get, Option, Some, None, Result, Ok, Err, IsOk, is_ok, IfSome, IfNone, if◌then◌else◌, ◌⊎◌, inl, inr, arith}
+use Rattle.std.proofs.Common.{◌≡◌, ℕ, suc, ◌+◌, ◌-◌, ◌<◌, sym, ap, refl, ◌∙◌, Bool, true, false, cond, nat_eq, find, List, [], ◌∷◌, ◌++◌, length, slice_get, Option, Some, None, Result, Ok, Err, IsOk, is_ok, IfSome, IfNone, if◌then◌else◌, ◌⊎◌, inl, inr, arith}
 use Rattle.std.proofs.lemmas.Bool.{eqb-true, eq-eqb}
 use Rattle.std.proofs.lemmas.Option.{none-some, same_Some}
 use Rattle.search_steps.proofs.Faithfuls.{true_not_false}
 use Rattle.search_steps.specs.declared.stack.StackEntry.{StackEntry}
-use Rattle.search_steps.specs.Stack.{place_from, place_of, oldest_of}
+use Rattle.search_steps.specs.Stack.{place_from, place_of, oldest_of, span_of_newest}
 
 nat_eq_sym : (a b : ℕ) → nat_eq a b ≡ nat_eq b a
 nat_eq_sym a b = by (nat_eq a b) refl (nat_eq b a) refl
@@ -49,6 +49,12 @@ module _ {I R : Type 0} where
 
   end_of : (es : List (StackEntry I R)) (x : StackEntry I R) (number : ℕ) → place_of es number ≡ None → place_of (es ++ x ∷ []) number ≡ cond (nat_eq number x.number) (Some (length es)) None
   end_of es x number none = let here : 0 + length es ≡ length es = omega arith in (place_push 0 es x number).1 none ∙ ap (λ p. cond (nat_eq number x.number) (Some p) None) here
+
+  -- the newest goal is the last one
+  pub newest_at : (es : List (StackEntry I R)) (e : StackEntry I R) → slice_get es (length es - 1) ≡ Some e → e.span ≡ span_of_newest es
+  newest_at [] e at = absurd (none-some e at)
+  newest_at (x ∷ []) e at = ap (λ z. z.span) (sym (same_Some x e at))
+  newest_at (x ∷ y ∷ es) e at = let below : suc (suc (length es)) - 1 ≡ suc (suc (length es) - 1) = omega arith in newest_at (y ∷ es) e (rw below at at)
 
   -- the place of a number lies on the stack
   pub place_within : (es : List (StackEntry I R)) (number p : ℕ) → place_of es number ≡ Some p → p < length es

@@ -4,7 +4,6 @@ use Rattle.std.specs.List.{position}
 use Rattle.search_paths.specs.declared.path_kind.PathKind.TheVariants.{Inductive}
 use Rattle.search_steps.specs.declared.cache.CacheEntry.{CacheEntry}
 use Rattle.search_steps.specs.Meaning.{Meaning}
-use Rattle.search_steps.specs.Computed.{IsComputed, IsGiven}
 use Rattle.search_steps.specs.Faithful.{IsKept}
 use Rattle.search_steps.specs.Stack.{IsProvisional}
 
@@ -32,6 +31,10 @@ pub record IsAlike {I R : Type 0} (input : I) (depth : ℕ) (overflowed : Bool) 
 abbrev pub AreConsistent : {I R : Type 0} → List (KnownResult I R) → Type 0
 AreConsistent {I} {R} ks = (i j : ℕ) (k l : KnownResult I R) → slice_get ks i ≡ Some k → slice_get ks j ≡ Some l → IsAlike l.input l.depth l.overflowed k → k.result ≡ l.result
 
+-- each result stays at its place
+abbrev pub KeepsResults : {X : Type 0} → List X → List X → Type 0
+KeepsResults {X} old new = (place : ℕ) (x : X) → slice_get old place ≡ Some x → slice_get new place ≡ Some x
+
 module _ {I : Type 0} (eq : I → I → Bool) where
   -- a goal's number is its place among those that were asked
   abbrev pub IsNumberOf : List I → I → ℕ → Type 0
@@ -56,11 +59,12 @@ module _ {C I R F : Type 0} (m : Meaning C I R F) where
   answers_in c [] = []
   answers_in c (k ∷ ks) = (m.goal_of c k.input, m.answer_of c k.result) ∷ answers_in c ks
 
-  -- another answer was computed for the goal of a cached result
+  -- another result was found that rests on no stack, of the goal and the kind of a cached one, with another answer
   pub record IsContradicted (c : C) (k : KnownResult I R) : Type 0 where
-    pub answer : m.Answer
-    pub computed : IsComputed m (m.world c) (IsGiven m (m.world c)) (m.goal_of c k.input) answer
-    pub other : m.answer_of c k.result ≡ answer → ⊥
+    pub found : KnownResult I R
+    pub justified : IsJustified c found
+    pub alike : IsAlike found.input found.depth found.overflowed k
+    pub other : m.answer_of c k.result ≡ m.answer_of c found.result → ⊥
 
   abbrev pub HasConflict : C → List (KnownResult I R) → Type 0
   HasConflict c [] = ⊥

@@ -22,6 +22,9 @@ pub record Meaning (C I R F : Type 0) : Type 1 where
   pub answer_of : C → R → Answer
   -- the frame was started for the goal and has had these replies, the newest first
   pub HasHeard : C → Goal → List (Reply Answer) → F → Type 0
+  -- what a context holds beside these
+  pub Held : Type 0
+  pub Holds : C → Held → Type 0
   -- what the frame of a goal asks after these replies
   pub asks : World → Goal → List (Reply Answer) → Request Goal Answer
   pub is_yes : Answer → Bool
@@ -44,6 +47,7 @@ module _ {C I R F : Type 0} (m : Meaning C I R F) where
     pub inputs : (i : I) → m.IsInput c i → m.IsInput d i × (m.goal_of d i ≡ m.goal_of c i)
     pub results : (r : R) → m.IsResult c r → m.IsResult d r × (m.answer_of d r ≡ m.answer_of c r)
     pub frames : (g : m.Goal) (heard : List (Reply m.Answer)) (f : F) → m.HasHeard c g heard f → m.HasHeard d g heard f
+    pub held : (x : m.Held) → m.Holds c x → m.Holds d x
 
   abbrev pub IsReply : C → Reply R → Type 0
   IsReply c Begin = Unit {0}

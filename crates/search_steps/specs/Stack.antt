@@ -7,6 +7,8 @@ use Rattle.search_steps.specs.declared.delegate.Reply.{Reply}
 use Rattle.search_steps.specs.declared.delegate.Reply.TheVariants.{Begin, Result, Entered, Finished, Ignored}
 use Rattle.search_steps.specs.declared.stack.StackEntry.{StackEntry}
 use Rattle.search_steps.specs.declared.cache.CacheEntry.{CacheEntry}
+use Rattle.search_paths.specs.declared.nested_goals.Span.{Span}
+use Rattle.search_paths.specs.Nested.{no_goal}
 use Rattle.search_paths.specs.Path.{greater}
 use Rattle.search_steps.specs.Meaning.{Meaning, premise_of, answer_count, request_of, IsRequest, IsFair, AreReplies}
 use Rattle.search_steps.specs.Computed.{Hears, IsComputed, IsGiven, IsGivenWithin}
@@ -30,6 +32,12 @@ place_of es number = place_from 0 es number
 -- the oldest goal of a stack with the number
 abbrev pub oldest_of : {I R : Type 0} → List (StackEntry I R) → ℕ → Option (StackEntry I R)
 oldest_of es number = find (λ e. nat_eq number e.number) es
+
+-- the range of the newest goal of a stack, in which all of its goals lie
+abbrev pub span_of_newest : {I R : Type 0} → List (StackEntry I R) → Span
+span_of_newest [] = no_goal
+span_of_newest (e ∷ []) = e.span
+span_of_newest (e ∷ d ∷ es) = span_of_newest (d ∷ es)
 
 module _ {C I R F : Type 0} (m : Meaning C I R F) where
   -- the goal of the question follows by a rule whose premises are shown below it

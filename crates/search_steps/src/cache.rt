@@ -9,7 +9,7 @@ ghost use Rattle.search_steps.specs.Meaning.{Keeps};
 ghost use Rattle.search_steps.specs.Plain.{IsNotPlain};
 ghost use Rattle.search_steps.specs.Faithful.{IsKept};
 ghost use Rattle.search_steps.specs.Stack.{IsProvisional, AreCached, IsWithin, AreCachedWithin};
-ghost use Rattle.search_steps.specs.Cache.{known_result, known_results, HasConflict, IsAlike, AreConsistent, IsNumberOf, KeepsNumbers};
+ghost use Rattle.search_steps.specs.Cache.{known_result, known_results, HasConflict, IsAlike, AreConsistent, IsNumberOf, KeepsNumbers, KeepsResults};
 
 use crate::delegate::{Cx, Delegate, InputOf, ResultOf};
 use indexmap::{IndexMap, IndexSet};
@@ -112,6 +112,7 @@ impl<D: Delegate> CachedResults<D> {
         ensures goals { OnOk result (self.new.goals.keys ≡ insert_key D.Cx.Input.eq self.old.goals.keys input.now) }
         ensures err { OnErr result (self.new.goals.keys ≡ self.old.goals.keys) }
         ensures entries { self.new.entries ≡ self.old.entries }
+        ensures results { KeepsResults self.old.entries.items self.new.entries.items }
         ensures no_conflict { result ≡ Err GraphFault.Conflict → ⊥ }
         ensures in_order { result ≡ Err GraphFault.Protocol → ⊥ }
         ensures room { result ≡ Err GraphFault.Full → ⊥ }
@@ -143,7 +144,7 @@ impl<D: Delegate> CachedResults<D> {
         input: &InputOf<D>,
         depth: usize,
     ) -> Result<Option<usize>, AllocError>
-        ensures found { IfOk result (λ found. IfSome found (λ place. (e : _) × (slice_get self.now.entries.items place ≡ Some e) × (e.input ≡ input.now) × (e.encountered_overflow ≡ true → e.depth ≡ depth))) }
+        ensures found { IfOk result (λ found. IfSome found (λ place. (e : _) × (slice_get self.now.entries.items place ≡ Some e) × (e.input ≡ input.now) × IsWithinDepth e.encountered_overflow e.depth depth)) }
         ensures none { IfOk result (λ found. IfNone found ((place : ℕ) (e : _) → slice_get self.now.entries.items place ≡ Some e → IsUsable self.now.entries.items (ContainsKey nat_eq positions.now) number input.now depth place e → ⊥)) }
     {
         let mut next = self.newest_of(number);
@@ -228,7 +229,7 @@ impl<D: Delegate> CachedResults<D> {
         ensures result { IfOk result (λ r. IsProvisional D.meaning (D.meaning.world cx.now) [] (D.meaning.goal_of cx.now input.now, PathKind.Inductive) 0 cx.now r.result) }
         ensures kept { IfOk result (λ r. IsKept D.meaning (D.meaning.world cx.now) (D.meaning.goal_of cx.now input.now) (D.meaning.answer_of cx.now r.result) r.depth r.encountered_overflow) }
         ensures within { IfOk result (λ r. (before : _) → AreCachedWithin D.meaning (D.meaning.world cx.now) before cx.now self.now.entries.items → IsWithin D.meaning (D.meaning.world cx.now) before (D.meaning.goal_of cx.now input.now) (D.meaning.answer_of cx.now r.result)) }
-        ensures entry { IfOk result (λ r. (e : _) × (slice_get self.now.entries.items place ≡ Some e) × (r.depth ≡ e.depth) × (r.encountered_overflow ≡ e.encountered_overflow)) }
+        ensures entry { IfOk result (λ r. (e : _) × (slice_get self.now.entries.items place ≡ Some e) × (r.result ≡ e.result) × (r.depth ≡ e.depth) × (r.encountered_overflow ≡ e.encountered_overflow)) }
         ensures memory { IfErr result (λ fault. fault ≡ Fault.Memory) }
     {
         let entry = &self.entries[place];
@@ -248,7 +249,7 @@ impl<D: Delegate> CachedResults<D> {
         depth: usize,
         encountered_overflow: bool,
     ) -> Option<usize>
-        ensures found { IfSome result (λ place. (e : _) × (slice_get self.now.entries.items place ≡ Some e) × (e.input ≡ input.now) × (e.encountered_overflow ≡ encountered_overflow) × (e.encountered_overflow ≡ true → e.depth ≡ depth)) }
+        ensures found { IfSome result (λ place. (e : _) × (slice_get self.now.entries.items place ≡ Some e) × IsAlike input.now depth encountered_overflow (known_result e)) }
         ensures none { IfNone result ((place : ℕ) (e : _) → slice_get self.now.entries.items place ≡ Some e → e.number ≡ number → IsAlike input.now depth encountered_overflow (known_result e) → ⊥) }
     {
         let mut next = self.newest_of(number);
@@ -279,7 +280,7 @@ impl<D: Delegate> CachedResults<D> {
         encountered_overflow: bool,
     ) -> bool
         requires number { IsNumberOf D.Cx.Input.eq self.now.goals.keys input.now number }
-        ensures other { result ≡ true → (place : ℕ) × (e : _) × (slice_get self.now.entries.items place ≡ Some e) × (e.input ≡ input.now) × (e.encountered_overflow ≡ encountered_overflow) × (D.Cx.Result.eq e.result found.now ≡ false) }
+        ensures other { result ≡ true → (place : ℕ) × (e : _) × (slice_get self.now.entries.items place ≡ Some e) × IsAlike input.now depth encountered_overflow (known_result e) × (D.Cx.Result.eq e.result found.now ≡ false) }
         ensures none { result ≡ false → (place : ℕ) (e : _) → slice_get self.now.entries.items place ≡ Some e → IsAlike input.now depth encountered_overflow (known_result e) → e.result ≡ found.now }
     {
         match self.find_alike(number, input, depth, encountered_overflow) {
@@ -308,8 +309,9 @@ impl<D: Delegate> CachedResults<D> {
         requires result { IsProvisional D.meaning (D.meaning.world cx.now) [] (D.meaning.goal_of cx.now input, PathKind.Inductive) 0 cx.now found.now }
         requires kept { IsKept D.meaning (D.meaning.world cx.now) (D.meaning.goal_of cx.now input) (D.meaning.answer_of cx.now found.now) depth encountered_overflow }
         ensures place { IfOk result (λ place. place ≡ length self.old.entries.items) }
-        ensures kept { OnOk result ((e : _) × (self.new.entries.items ≡ self.old.entries.items ++ e ∷ []) × (e.input ≡ input) × (e.result ≡ found.now) × (e.depth ≡ depth) × (e.encountered_overflow ≡ encountered_overflow) × (e.number ≡ number)) }
+        ensures kept { OnOk result ((e : _) × (self.new.entries.items ≡ self.old.entries.items ++ e ∷ []) × (e.input ≡ input) × (e.result ≡ found.now) × (e.depth ≡ depth) × (e.encountered_overflow ≡ encountered_overflow) × (e.number ≡ number) × (e.nested_goals ≡ nested_goals)) }
         ensures err { OnErr result (self.new.entries.items ≡ self.old.entries.items) }
+        ensures results { KeepsResults self.old.entries.items self.new.entries.items }
         ensures goals { self.new.goals ≡ self.old.goals }
         ensures cache { AreCached D.meaning (D.meaning.world cx.now) cx.now self.new.entries.items }
         ensures within { OnOk result ((before : _) → AreCachedWithin D.meaning (D.meaning.world cx.now) before cx.now self.old.entries.items → IsWithin D.meaning (D.meaning.world cx.now) before (D.meaning.goal_of cx.now input) (D.meaning.answer_of cx.now found.now) → AreCachedWithin D.meaning (D.meaning.world cx.now) before cx.now self.new.entries.items) }

@@ -93,8 +93,8 @@ pub trait Delegate {
 
     /// What contexts, inputs, results and frames stand for.
     ghost meaning: { Meaning Self.Cx Self.Cx.Input Self.Cx.Result Self.Frame };
-    /// A number that falls at each step of a frame.
-    ghost steps_left: { Self.Frame → ℕ };
+    /// A number that falls at each step of a frame, by what the context declares.
+    ghost steps_left: { Self.Cx → Self.Frame → ℕ };
 
     /// The result of a goal that is asked again by a path of this kind, before it has a result.
     fn initial_provisional_result(
@@ -177,9 +177,12 @@ pub trait Delegate {
         ensures keeps { Keeps meaning cx.old cx.new }
         ensures full { result ≡ Err Full → meaning.IsFull cx.new }
         ensures steps { IfOk result (λ q. Steps meaning cx.old frame.old reply cx.new frame.new q) }
-        ensures falls { IfOk result (λ q. steps_left frame.new < steps_left frame.old) };
+        ensures falls { IfOk result (λ q. steps_left cx.new frame.new < steps_left cx.old frame.old) };
 
     ghost lawful: { IsLawful meaning };
+
+    /// A context that keeps what another one knows leaves a frame that was started in it no more steps.
+    ghost steps_kept: { (c d : Self.Cx) (goal : meaning.Goal) (heard : _) (f : Self.Frame) → Keeps meaning c d → meaning.HasHeard c goal heard f → steps_left d f ≤ steps_left c f };
 
     /// Results that stand for one answer are equal.
     ghost same_answer: { (c : Self.Cx) (r s : Self.Cx.Result) → meaning.IsResult c r → meaning.IsResult c s → meaning.answer_of c r ≡ meaning.answer_of c s → Self.Cx.Result.eq r s ≡ true };

@@ -3,12 +3,13 @@
 ghost use Rattle.std.specs.Prelude.{◌≡◌, [], ◌∷◌, ℕ, ◌+◌, ◌-◌, ◌^◌, ◌/◌, ◌<◌, ◌≤◌, ◌↔◌, ◌++◌, ◌⊎◌, length, max, min, IfOk, IfSome, IfNone, IsSome, OnOk, OnErr, None, nat_eq, slice_get, drop, true, false, cond, option_to_list};
 ghost use Rattle.std.proofs.Props.{props};
 ghost use Rattle.indexmap.specs.IndexMap.{get};
-ghost use Rattle.search_steps.specs.Chain.{IsUsable};
+ghost use Rattle.search_paths.specs.Nested.{covered, one_goal};
+ghost use Rattle.search_steps.specs.Chain.{IsUsable, IsWithinDepth};
 ghost use Rattle.search_steps.specs.Meaning.{Keeps};
-ghost use Rattle.search_steps.specs.Cache.{known_results, HasConflict, IsNumberOf};
+ghost use Rattle.search_steps.specs.Cache.{known_results, HasConflict, IsNumberOf, KeepsResults};
 ghost use Rattle.search_steps.specs.Plain.{IsNotPlain};
 ghost use Rattle.search_steps.specs.Faithful.{AllDescend, IsFaithful, IsKept};
-ghost use Rattle.search_steps.specs.Stack.{kind_after, place_of, oldest_of, path_onto, IsStack, IsAnswer, IsProvisional, IsSettled, AreCached, IsWithin, AreLastWithin, AreCachedWithin};
+ghost use Rattle.search_steps.specs.Stack.{kind_after, place_of, oldest_of, path_onto, span_of_newest, IsStack, IsAnswer, IsProvisional, IsSettled, AreCached, IsWithin, AreLastWithin, AreCachedWithin};
 
 use crate::cache::{Cached, CachedResults};
 use crate::delegate::{Cx, Delegate, InputOf, ResultOf};
@@ -77,7 +78,9 @@ impl<D: Delegate> Search<D> {
     }
 
     /// The goals of the stack lie in it.
-    fn span(&self) -> Span {
+    fn span(&self) -> Span
+        ensures { result ≡ span_of_newest self.now.stack.items }
+    {
         match self.stack.last() {
             Some(entry) => entry.span,
             None => Span::empty(),
@@ -96,6 +99,7 @@ impl<D: Delegate> Search<D> {
         ensures first { result.provisional_result ≡ None }
         ensures lowest { result.lowest ≡ length self.now.stack.items }
         ensures number { result.number ≡ number }
+        ensures span { result.span ≡ covered (span_of_newest self.now.stack.items) (one_goal number) }
     {
         StackEntry {
             input,
@@ -110,6 +114,7 @@ impl<D: Delegate> Search<D> {
     /// Puts a goal on the stack, of which a frame was started. It is refused where memory is; the frame is counted then too.
     pub fn begin(&mut self, entry: StackEntry<InputOf<D>, ResultOf<D>>) -> Result<(), AllocError>
         ensures stack { OnOk result (self.new.stack.items ≡ self.old.stack.items ++ entry ∷ []) }
+        ensures err { OnErr result (self.new.stack.items ≡ self.old.stack.items) }
         ensures frames { self.new.frames ≡ min (self.old.frames + 1) (2 ^ 64 - 1) }
         ensures limits { self.new.limits_met ≡ self.old.limits_met }
     {
@@ -133,7 +138,7 @@ impl<D: Delegate> Search<D> {
     }
 
     /// The place of a cached result for the goal that one of this depth may use now: no goal that was asked under it is on the
-    /// stack. After an overflow by depth it had the same depth. None is found only where none of the goal's number may be used.
+    /// stack. A success needed no more than this depth, and after an overflow by depth it had the same one. None is found only where none of the goal's number may be used.
     pub fn find_cached(
         &self,
         cache: &CachedResults<D>,
@@ -141,7 +146,7 @@ impl<D: Delegate> Search<D> {
         input: &InputOf<D>,
         depth: usize,
     ) -> Result<Option<usize>, AllocError>
-        ensures found { IfOk result (λ found. IfSome found (λ place. (e : _) × (slice_get cache.now.entries.items place ≡ Some e) × (e.input ≡ input.now) × (e.encountered_overflow ≡ true → e.depth ≡ depth))) }
+        ensures found { IfOk result (λ found. IfSome found (λ place. (e : _) × (slice_get cache.now.entries.items place ≡ Some e) × (e.input ≡ input.now) × IsWithinDepth e.encountered_overflow e.depth depth)) }
         ensures none { IfOk result (λ found. IfNone found ((place : ℕ) (e : _) → slice_get cache.now.entries.items place ≡ Some e → IsUsable cache.now.entries.items (λ asked. IsSome (place_of self.now.stack.items asked)) number input.now depth place e → ⊥)) }
     {
         cache.find(&self.positions, self.span(), number, input, depth)
@@ -175,6 +180,9 @@ impl<D: Delegate> Search<D> {
         requires cycle { (e : _) × (slice_get self.now.stack.items cycle.index ≡ Some e) × (e.input ≡ input.now) × (cycle.path_kind ≡ kind_after (drop (cycle.index + 1) self.now.stack.items) step_kind) }
         ensures keeps { Keeps D.meaning cx.old cx.new }
         ensures full { result ≡ Err Fault.Full → D.meaning.IsFull cx.new }
+        ensures lowest { IfOk result (λ r. (e : _) → slice_get self.now.stack.items cycle.index ≡ Some e → r.1 ≡ e.lowest) }
+        ensures last { IfOk result (λ r. (e : _) (last : _) → slice_get self.now.stack.items cycle.index ≡ Some e → e.provisional_result ≡ Some last → r.0 ≡ last) }
+        ensures first { IfOk result (λ r. (e : _) → slice_get self.now.stack.items cycle.index ≡ Some e → e.provisional_result ≡ None → D.meaning.answer_of cx.new r.0 ≡ D.meaning.initial (D.meaning.world cx.old) (D.meaning.goal_of cx.old input.now) cycle.path_kind) }
         ensures answer { IfOk result (λ r. IsAnswer D.meaning (D.meaning.world cx.old) (path_onto D.meaning cx.old self.now.stack.items []) (D.meaning.goal_of cx.old input.now, step_kind) r.1 cx.new r.0) }
         ensures not_plain { IfOk result (λ r. (limit : ℕ) → AllDescend D.meaning (D.meaning.world cx.old) limit r.1 (path_onto D.meaning cx.old self.now.stack.items []) (D.meaning.goal_of cx.old input.now) → IsNotPlain D.meaning (D.meaning.world cx.old) limit (D.meaning.goal_of cx.old input.now)) }
         ensures within { IfOk result (λ r. (before : _) → AreLastWithin D.meaning (D.meaning.world cx.old) before cx.old self.now.stack.items → IsWithin D.meaning (D.meaning.world cx.old) before (D.meaning.goal_of cx.old input.now) (D.meaning.answer_of cx.new r.0)) }
@@ -205,6 +213,9 @@ impl<D: Delegate> Search<D> {
     ) -> Evaluation<D>
         requires cache { AreCached D.meaning (D.meaning.world cx.now) cx.now cache.now.entries.items }
         requires place { (e : _) × (slice_get cache.now.entries.items place ≡ Some e) × (e.input ≡ input.now) × (e.encountered_overflow ≡ true → e.depth ≡ depth) }
+        ensures same { IfOk result (λ o. (e : _) → slice_get cache.now.entries.items place ≡ Some e → (o.result ≡ e.result) × (o.dependencies.required_depth ≡ e.depth) × (o.dependencies.encountered_overflow ≡ e.encountered_overflow)) }
+        ensures unread { IfOk result (λ o. (o.dependencies.lowest ≡ length self.now.stack.items) × (o.dependencies.heads.items ≡ [])) }
+        ensures asked { IfOk result (λ o. (o.dependencies.nested_goals.goals.items ≡ []) × (o.dependencies.nested_goals.cached.items ≡ place ∷ [])) }
         ensures answer { IfOk result (λ o. IsAnswer D.meaning (D.meaning.world cx.now) (path_onto D.meaning cx.now self.now.stack.items []) (D.meaning.goal_of cx.now input.now, step_kind) o.dependencies.lowest cx.now o.result) }
         ensures faithful { IfOk result (λ o. IsFaithful D.meaning (D.meaning.world cx.now) (depth + 1) (path_onto D.meaning cx.now self.now.stack.items []) (D.meaning.goal_of cx.now input.now) (D.meaning.answer_of cx.now o.result) o.dependencies.encountered_overflow o.dependencies.lowest o.dependencies.heads.items) }
         ensures within { IfOk result (λ o. (before : _) → AreCachedWithin D.meaning (D.meaning.world cx.now) before cx.now cache.now.entries.items → IsWithin D.meaning (D.meaning.world cx.now) before (D.meaning.goal_of cx.now input.now) (D.meaning.answer_of cx.now o.result)) }
@@ -300,6 +311,8 @@ pub fn is_last_run<D: Delegate>(
     requires found { D.meaning.IsResult cx.now found.now }
     ensures unread { read ≡ None → result ≡ true }
     ensures settled { result ≡ true → (read ≡ None) ⊎ IsSettled D.meaning cx.now entry.now found.now }
+    ensures ambiguous { D.meaning.is_ambiguous (D.meaning.answer_of cx.now found.now) ≡ true → result ≡ true }
+    ensures again { entry.now.provisional_result ≡ Some found.now → result ≡ true }
 {
     let Some(paths) = read else {
         return true;
@@ -340,9 +353,10 @@ pub fn finish<D: Delegate>(
     requires number { IsNumberOf D.Cx.Input.eq cache.old.goals.keys input number }
     requires alone { index ≤ evaluation.dependencies.lowest → IsProvisional D.meaning (D.meaning.world cx.now) [] (D.meaning.goal_of cx.now input, PathKind.Inductive) 0 cx.now evaluation.result }
     requires kept { index ≤ evaluation.dependencies.lowest → IsKept D.meaning (D.meaning.world cx.now) (D.meaning.goal_of cx.now input) (D.meaning.answer_of cx.now evaluation.result) depth evaluation.dependencies.encountered_overflow }
-    ensures kept { OnOk result (index ≤ evaluation.dependencies.lowest → (e : _) × (cache.new.entries.items ≡ cache.old.entries.items ++ e ∷ []) × (e.input ≡ input) × (e.result ≡ evaluation.result) × (e.depth ≡ cond evaluation.dependencies.encountered_overflow depth evaluation.dependencies.required_depth) × (e.encountered_overflow ≡ evaluation.dependencies.encountered_overflow) × (e.number ≡ number)) }
+    ensures kept { OnOk result (index ≤ evaluation.dependencies.lowest → (e : _) × (cache.new.entries.items ≡ cache.old.entries.items ++ e ∷ []) × (e.input ≡ input) × (e.result ≡ evaluation.result) × (e.depth ≡ cond evaluation.dependencies.encountered_overflow depth evaluation.dependencies.required_depth) × (e.encountered_overflow ≡ evaluation.dependencies.encountered_overflow) × (e.number ≡ number) × (e.nested_goals ≡ evaluation.dependencies.nested_goals)) }
     ensures unkept { OnOk result (evaluation.dependencies.lowest < index → cache.new.entries.items ≡ cache.old.entries.items) }
     ensures err { OnErr result ((cache.new.entries.items ≡ cache.old.entries.items) ⊎ ((e : _) × (cache.new.entries.items ≡ cache.old.entries.items ++ e ∷ []))) }
+    ensures results { KeepsResults cache.old.entries.items cache.new.entries.items }
     ensures goals { cache.new.goals ≡ cache.old.goals }
     ensures cache { AreCached D.meaning (D.meaning.world cx.now) cx.now cache.new.entries.items }
     ensures same { IfOk result (λ o. o.result ≡ evaluation.result) }

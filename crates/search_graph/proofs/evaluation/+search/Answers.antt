@@ -115,6 +115,7 @@ evaluate_new-loop-run-init g t c =
       keeps = Keeps-refl m first;
       cache = c.requires.cache;
       goals = λ x n h. h;
+      results = λ p x h. h;
       stack = refl;
       place = c.len-index.ensures ∙ c.args.search.now.stack.ok.0;
       input = c.new_entry-entry.ensures.input;
@@ -159,6 +160,7 @@ evaluate_new-loop-run-preserved g t c =
       keeps = keeps;
       cache = c.run_once.ensures.cache;
       goals = λ x n h. c.run_once.ensures.goals x n (inv.goals x n h);
+      results = λ p x h. c.run_once.ensures.results p x (inv.results p x h);
       stack = c.in_ok-back.ensures.stack ∙ inv.stack;
       place = inv.place;
       input = ap (λ e. e.input) c.next_run-entry.ensures ∙ input;
@@ -542,6 +544,7 @@ run_once-loop-request-init g t c =
       keeps = keeps;
       cache = AreCached-later m first c.step.new.cx c.args.cache.now.entries.items keeps c.requires.cache;
       goals = λ x n h. h;
+      results = λ p x h. h;
       stack = c.in_ok-begin.ensures.stack;
       room = c.requires.room;
       running = start.0;
@@ -584,6 +587,7 @@ run_once-loop-request-preserved-in-Evaluate g t c =
       keeps = Keeps-trans m first c.ask.new.cx c.step-in-Evaluate.new.cx keeps c.step-in-Evaluate.ensures.keeps;
       cache = AreCached-later m c.ask.new.cx c.step-in-Evaluate.new.cx c.ask.new.cache.entries.items c.step-in-Evaluate.ensures.keeps c.ask.ensures.cache;
       goals = λ x n h. c.ask.ensures.goals x n (inv.goals x n h);
+      results = λ p x h. c.ask.ensures.results p x (inv.results p x h);
       stack = c.in_ok-nested-in-Evaluate.ensures.stack ∙ inv.stack;
       room = let least = c.in_ok-gather-in-Evaluate.ensures.lowest in let before = inv.room in omega arith;
       running = next.0;
@@ -609,6 +613,13 @@ run_once-loop-request-preserved-in-Evaluate g t c =
           c.loop-request.dependencies.heads.items nested.dependencies.heads.items c.gather.new.self.heads.items inv.running.heard (m.answer_of c.ask.new.cx nested.result)
           c.in_ok-gather-in-Evaluate.ensures.overflow c.in_ok-gather-in-Evaluate.ensures.lowest c.in_ok-gather-in-Evaluate.ensures.unread (sym request) inv.plain faithful);
     }
+
+pub run_once-loop-request-smaller-in-Evaluate : goal.run_once-loop-request-smaller-in-Evaluate
+run_once-loop-request-smaller-in-Evaluate g t c =
+    let running = c.loop-request.invariant.running in
+    let x = g.D.Delegate.meaning.goal_of c.args.cx.now c.args.entry.input in
+    let kept = g.met.D.Delegate.steps_kept c.loop-request.cx c.ask.new.cx x running.heard c.loop-request.frame c.ask.ensures.keeps running.frame in
+    omega (arith, kept, c.in_ok-request-in-Evaluate.ensures.falls)
 
 pub run_once-step-requires-in-Evaluate-clause-due : goal.run_once-step-requires-in-Evaluate-clause-due
 run_once-step-requires-in-Evaluate-clause-due g t c =
@@ -728,6 +739,7 @@ run_once-loop-request-preserved-in-EnterCandidate g t c =
       keeps = Keeps-trans m first c.loop-request.cx c.step-in-EnterCandidate.new.cx inv.keeps c.step-in-EnterCandidate.ensures.keeps;
       cache = AreCached-later m c.loop-request.cx c.step-in-EnterCandidate.new.cx c.loop-request.cache.entries.items c.step-in-EnterCandidate.ensures.keeps inv.cache;
       goals = inv.goals;
+      results = inv.results;
       stack = inv.stack;
       room = inv.room;
       running = next.0;
@@ -814,6 +826,7 @@ run_once-loop-request-preserved-in-FinishCandidate g t c =
       keeps = Keeps-trans m first c.loop-request.cx c.step-in-FinishCandidate.new.cx inv.keeps c.step-in-FinishCandidate.ensures.keeps;
       cache = AreCached-later m c.loop-request.cx c.step-in-FinishCandidate.new.cx c.loop-request.cache.entries.items c.step-in-FinishCandidate.ensures.keeps inv.cache;
       goals = inv.goals;
+      results = inv.results;
       stack = inv.stack;
       room = inv.room;
       running = next.0;
@@ -900,6 +913,7 @@ run_once-loop-request-preserved g t c =
       keeps = Keeps-trans m first c.loop-request.cx c.step-in-IgnoreCandidate.new.cx inv.keeps c.step-in-IgnoreCandidate.ensures.keeps;
       cache = AreCached-later m c.loop-request.cx c.step-in-IgnoreCandidate.new.cx c.loop-request.cache.entries.items c.step-in-IgnoreCandidate.ensures.keeps inv.cache;
       goals = inv.goals;
+      results = inv.results;
       stack = inv.stack;
       room = inv.room;
       running = next.0;
@@ -1139,6 +1153,33 @@ run_once-returns-in_err-gather-in-Evaluate-clause-goals g t c = λ x n h. c.ask.
 pub run_once-returns-in_err-request-in-Evaluate-clause-goals : goal.run_once-returns-in_err-request-in-Evaluate-clause-goals
 run_once-returns-in_err-request-in-Evaluate-clause-goals g t c = λ x n h. c.ask.ensures.goals x n (c.loop-request.invariant.goals x n h)
 
+pub evaluate-returns-in-None-clause-results : goal.evaluate-returns-in-None-clause-results
+evaluate-returns-in-None-clause-results g t c = λ p x h. c.evaluate_new.ensures.results p x (c.number_of.ensures.results p x h)
+
+pub evaluate_new-returns-in_err-back-clause-results : goal.evaluate_new-returns-in_err-back-clause-results
+evaluate_new-returns-in_err-back-clause-results g t c = λ p x h. c.run_once.ensures.results p x (c.loop-run.invariant.results p x h)
+
+pub evaluate_new-returns-in_err-finished-clause-results : goal.evaluate_new-returns-in_err-finished-clause-results
+evaluate_new-returns-in_err-finished-clause-results g t c = λ p x h. c.finish.ensures.results p x (c.run_once.ensures.results p x (c.loop-run.invariant.results p x h))
+
+pub evaluate_new-returns-then-is_last_run-clause-results : goal.evaluate_new-returns-then-is_last_run-clause-results
+evaluate_new-returns-then-is_last_run-clause-results g t c = λ p x h. c.finish.ensures.results p x (c.run_once.ensures.results p x (c.loop-run.invariant.results p x h))
+
+pub evaluate_new-returns-in_err-finished-2-clause-results : goal.evaluate_new-returns-in_err-finished-2-clause-results
+evaluate_new-returns-in_err-finished-2-clause-results g t c = λ p x h. c.in_err-finished-2.ensures.results p x (c.loop-run.invariant.results p x h)
+
+pub evaluate_new-returns-clause-results : goal.evaluate_new-returns-clause-results
+evaluate_new-returns-clause-results g t c = λ p x h. c.in_ok-finished-2.ensures.results p x (c.loop-run.invariant.results p x h)
+
+pub run_once-returns-in_err-nested-in-Evaluate-clause-results : goal.run_once-returns-in_err-nested-in-Evaluate-clause-results
+run_once-returns-in_err-nested-in-Evaluate-clause-results g t c = λ p x h. c.ask.ensures.results p x (c.loop-request.invariant.results p x h)
+
+pub run_once-returns-in_err-gather-in-Evaluate-clause-results : goal.run_once-returns-in_err-gather-in-Evaluate-clause-results
+run_once-returns-in_err-gather-in-Evaluate-clause-results g t c = λ p x h. c.ask.ensures.results p x (c.loop-request.invariant.results p x h)
+
+pub run_once-returns-in_err-request-in-Evaluate-clause-results : goal.run_once-returns-in_err-request-in-Evaluate-clause-results
+run_once-returns-in_err-request-in-Evaluate-clause-results g t c = λ p x h. c.ask.ensures.results p x (c.loop-request.invariant.results p x h)
+
 pub ask-returns-then-depth-eq0-clause-no_limit : goal.ask-returns-then-depth-eq0-clause-no_limit
 ask-returns-then-depth-eq0-clause-no_limit g t c =
     let m = g.D.Delegate.meaning in
@@ -1332,6 +1373,45 @@ evaluate-returns-in_ok-add_goal-in-Some-find_cycle-clause-cached g t c = λ plac
 
 pub evaluate-returns-in-None-clause-cached : goal.evaluate-returns-in-None-clause-cached
 evaluate-returns-in-None-clause-cached g t c = λ place e at same within clear.
+    let eq = g.D.Cx.Input.PartialEq.eq in
+    let none = rw c.in_default.is at c.in_ok-place.ensures.none in
+    let items : c.number_of.new.self.entries.items ≡ c.args.cache.now.entries.items = ap (λ v. v.items) c.number_of.ensures.entries in
+    let there : slice_get c.number_of.new.self.entries.items place ≡ Some e = rw items at in
+    let number = subst (λ i. IsNumberOf eq c.number_of.new.self.goals.keys i e.number) same (c.number_of.new.self.numbered place e there) in
+    absurd (none place e there (record {
+      numbered = one_number eq c.number_of.new.self.goals.keys c.args.input e.number c.in_ok-number.number number c.in_ok-number.ensures.place;
+      same = same;
+      within = within;
+      clear = λ asked under on. clear asked (subst (λ es. IsAskedUnder es place asked) items under) on;
+    }))
+
+pub evaluate-use_cached-requires-clause-place : goal.evaluate-use_cached-requires-clause-place
+evaluate-use_cached-requires-clause-place g t c =
+    let found = rw c.in-Some.is at c.in_ok-place.ensures.found in
+    (found.0, found.1, found.2, found.3.0)
+
+pub evaluate-returns-in-Some-clause-known : goal.evaluate-returns-in-Some-clause-known
+evaluate-returns-in-Some-clause-known g t c = λ place e at same within clear.
+    let found = rw c.in-Some.is at c.in_ok-place.ensures.found in
+    let items : c.number_of.new.self.entries.items ≡ c.args.cache.now.entries.items = ap (λ v. v.items) c.number_of.ensures.entries in
+    IfOk-weaker c.use_cached.result _ _ (λ o told. (c.in-Some.place, found.0, subst (λ es. slice_get es c.in-Some.place ≡ Some found.0) items found.1, found.2, found.3, (told found.0 found.1).0)) c.use_cached.ensures.same
+
+pub evaluate-returns-in_ok-add_goal-in-Some-find_cycle-clause-known : goal.evaluate-returns-in_ok-add_goal-in-Some-find_cycle-clause-known
+evaluate-returns-in_ok-add_goal-in-Some-find_cycle-clause-known g t c = λ place e at same within clear.
+    let eq = g.D.Cx.Input.PartialEq.eq in
+    let none = rw c.in_default.is at c.in_ok-place.ensures.none in
+    let items : c.number_of.new.self.entries.items ≡ c.args.cache.now.entries.items = ap (λ v. v.items) c.number_of.ensures.entries in
+    let there : slice_get c.number_of.new.self.entries.items place ≡ Some e = rw items at in
+    let number = subst (λ i. IsNumberOf eq c.number_of.new.self.goals.keys i e.number) same (c.number_of.new.self.numbered place e there) in
+    absurd (none place e there (record {
+      numbered = one_number eq c.number_of.new.self.goals.keys c.args.input e.number c.in_ok-number.number number c.in_ok-number.ensures.place;
+      same = same;
+      within = within;
+      clear = λ asked under on. clear asked (subst (λ es. IsAskedUnder es place asked) items under) on;
+    }))
+
+pub evaluate-returns-in-None-clause-known : goal.evaluate-returns-in-None-clause-known
+evaluate-returns-in-None-clause-known g t c = λ place e at same within clear.
     let eq = g.D.Cx.Input.PartialEq.eq in
     let none = rw c.in_default.is at c.in_ok-place.ensures.none in
     let items : c.number_of.new.self.entries.items ≡ c.args.cache.now.entries.items = ap (λ v. v.items) c.number_of.ensures.entries in

@@ -1,6 +1,6 @@
 use Rattle.std.proofs.Common.{◌<◌, ◌⊎◌, true, false, List, ◌≡◌, ◌≤◌, length, max, ℕ, ◌+◌, ◌*◌, [], ◌∷◌, ◌++◌}
 use Rattle.search_steps.specs.Meaning.{Keeps, is_open, finished, answer_count}
-use Rattle.search_steps.specs.Cache.{KeepsNumbers}
+use Rattle.search_steps.specs.Cache.{KeepsNumbers, KeepsResults}
 use Rattle.search_steps.specs.Computed.{Hears, IsGivenWithin}
 use Rattle.search_steps.specs.Stack.{question_of, path_onto, IsEntry, IsRunning, AreCached, IsLastWithin, AreLastWithin, AreCachedWithin}
 use Rattle.search_steps.specs.Plain.{IsNotPlain}
@@ -27,6 +27,7 @@ invariant-evaluate_new-loop-run g l =
       keeps : Keeps m l.fn.cx l.cx;
       cache : AreCached m (m.world l.cx) l.cx l.cache.entries.items;
       goals : KeepsNumbers g.D.Cx.Input.PartialEq.eq l.fn.cache.goals.keys l.cache.goals.keys;
+      results : KeepsResults l.fn.cache.entries.items l.cache.entries.items;
       stack : l.search.stack.items ≡ l.fn.search.stack.items;
       place : l.index ≡ length l.fn.search.stack.items;
       input : l.entry.input ≡ l.fn.input;
@@ -52,6 +53,7 @@ invariant-run_once-loop-request g l =
       keeps : Keeps m l.fn.cx l.cx;
       cache : AreCached m (m.world l.cx) l.cx l.cache.entries.items;
       goals : KeepsNumbers g.D.Cx.Input.PartialEq.eq l.fn.cache.goals.keys l.cache.goals.keys;
+      results : KeepsResults l.fn.cache.entries.items l.cache.entries.items;
       stack : l.search.stack.items ≡ l.fn.search.stack.items ++ l.fn.entry ∷ [];
       room : l.dependencies.lowest ≤ length l.fn.search.stack.items;
       running : IsRunning m (m.world l.fn.cx) (question_of m l.fn.cx l.fn.entry ∷ path_onto m l.fn.cx l.fn.search.stack.items []) (m.goal_of l.fn.cx l.fn.entry.input) l.dependencies.lowest l.cx l.frame l.request;
@@ -69,4 +71,4 @@ invariant-run_once-loop-request g l =
     }
 
 abbrev pub decreases-run_once-loop-request : goal.decreases-run_once-loop-request
-decreases-run_once-loop-request g l = g.D.Delegate.steps_left l.frame
+decreases-run_once-loop-request g l = g.D.Delegate.steps_left l.cx l.frame

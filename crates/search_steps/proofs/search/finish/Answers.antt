@@ -38,6 +38,7 @@ returns-then-lowest-index-clause-kept g c = λ h.
       ],
       kept.5,
       kept.6,
+      kept.7,
     )
 
 pub returns-in_err-place-clause-err : goal.returns-in_err-place-clause-err

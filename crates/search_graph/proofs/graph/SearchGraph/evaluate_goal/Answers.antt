@@ -1,10 +1,10 @@
 use Rattle.std.proofs.Common.{Some, slice_get, ◌≡◌, ◌+◌, ◌∙◌, sym, ap, subst, refl, [], inl, arith}
-use Rattle.search_steps.specs.Cache.{AreJustified, answers_in, known_results}
+use Rattle.search_steps.specs.Cache.{AreJustified, answers_in, known_result, known_results}
 use Rattle.search_steps.specs.Chain.{IsWithinDepth}
 use Rattle.search_steps.specs.Proof.{IsAmong}
 use Rattle.search_steps.proofs.Limits.{AreCachedWithin-among}
 use Rattle.search_graph.proofs.Proofs.{sound_answer}
-use Rattle.search_steps.proofs.Caches.{AreCached-known, AreJustified-known, entry_at}
+use Rattle.search_steps.proofs.Caches.{AreCached-known, AreJustified-known, known_at, entry_at}
 use Rattle.search_steps.proofs.Faithfuls.{true_not_false}
 use Rattle.search_steps.proofs.Errors.{err_passed, ok_not_err, empty_of_length}
 use Rattle.search_graph.proofs.graph.SearchGraph.evaluate_goal.Goals as goal
@@ -93,3 +93,27 @@ returns-clause-cached g c = λ place k at same within.
       | in-Ok w ↦ (rw w.self-is (told.0 ∙ frames), kept)
       | in-Err w ↦ (rw w.self-is (w.clear.ensures.frames ∙ told.0 ∙ frames), kept)
     ]
+
+pub returns-clause-known : goal.returns-clause-known
+returns-clause-known g c = λ place k at same within.
+    let empty : c.self.inside.search.stack.items ≡ [] = empty_of_length c.self.inside.search.stack.items (ap (λ s. s.current_depth) c.self.view_is ∙ c.requires.empty) in
+    let depth : c.self.inside.root_depth ≡ c.args.self.now.root_depth = ap (λ s. s.root_depth) c.self.view_is in
+    let found = entry_at c.cache.inside.results.entries.items place k (subst (λ ks. slice_get ks place ≡ Some k) (sym c.cache.view_is) at) in
+    let usable = subst (λ z. IsWithinDepth z.overflowed z.depth c.self.inside.root_depth) (sym found.2) (subst (λ d. IsWithinDepth k.overflowed k.depth d) (sym depth) within) in
+    elim c.match-evaluate.branch [
+      | in-Ok w ↦ rw w.result-is (
+          let told = w.in-Ok.ensures.known place found.0 found.1 (ap (λ z. z.input) found.2 ∙ same) usable (λ asked under on. true_not_false (sym (rw empty at on))) in (
+            told.0,
+            known_result told.1,
+            subst (λ ks. slice_get ks told.0 ≡ Some (known_result told.1)) c.cache.view_is (known_at c.cache.inside.results.entries.items told.0 told.1 told.2),
+            told.3,
+            subst (λ d. IsWithinDepth told.1.encountered_overflow told.1.depth d) depth told.4,
+            told.5,
+          ))
+      | in-Err w ↦ rw w.result-is tt
+    ]
+
+pub returns-clause-results : goal.returns-clause-results
+returns-clause-results g c = λ place k at.
+    let found = entry_at c.cache.inside.results.entries.items place k (subst (λ ks. slice_get ks place ≡ Some k) (sym c.cache.view_is) at) in
+    known_at c.evaluate.new.cache.entries.items place found.0 (c.evaluate.ensures.results place found.0 found.1) ∙ ap Some found.2

@@ -16,7 +16,7 @@ loop-init g c = ahead_start c.args.self.now.entries.items c.args.number (IsUsabl
 pub returns-then-branch-clause-found : goal.returns-then-branch-clause-found
 returns-then-branch-clause-found g c =
     let inside : c.in-Some.place < length c.args.self.now.entries.items = omega arith in
-    (c.index-entry.result.now, slice_get_read _ _ _ _ refl inside c.index-entry.ensures, g.met.D.Cx.Cx.same_input _ _ (sym c.if-eq.ensures), c.is_usable.ensures.overflow c.if-is_usable.true)
+    (c.index-entry.result.now, slice_get_read _ _ _ _ refl inside c.index-entry.ensures, g.met.D.Cx.Cx.same_input _ _ (sym c.if-eq.ensures), (c.is_usable.ensures.overflow c.if-is_usable.true, c.is_usable.ensures.success c.if-is_usable.true))
 
 pub returns-in_default-clause-none : goal.returns-in_default-clause-none
 returns-in_default-clause-none g c = ahead_none c.args.self.now.entries.items c.args.number (IsUsable c.args.self.now.entries.items (ContainsKey nat_eq c.args.positions.now) c.args.number c.args.input.now c.args.depth) c.loop.counter c.loop.next c.in_default.is c.loop.invariant

@@ -25,7 +25,15 @@ beq_equal false false h = refl
 pub returns-then-is_alike-clause-found : goal.returns-then-is_alike-clause-found
 returns-then-is_alike-clause-found g c =
     let inside : c.in_ok-place.place < length c.args.self.now.entries.items = omega arith in
-    (c.index-entry.result.now, slice_get_read _ _ _ _ refl inside c.index-entry.ensures, g.met.D.Cx.Cx.same_input _ _ (sym c.if-eq.ensures), beq_true c.index-entry.result.now.encountered_overflow c.args.encountered_overflow c.if-entry-encountered_overflow.true, λ o. c.is_alike.ensures.alike c.if-is_alike.true o)
+    let kind : c.index-entry.result.now.encountered_overflow ≡ c.args.encountered_overflow = beq_true c.index-entry.result.now.encountered_overflow c.args.encountered_overflow c.if-entry-encountered_overflow.true in (
+      c.index-entry.result.now,
+      slice_get_read _ _ _ _ refl inside c.index-entry.ensures,
+      record {
+        same = g.met.D.Cx.Cx.same_input _ _ (sym c.if-eq.ensures);
+        kind = kind;
+        at = λ o. c.is_alike.ensures.alike c.if-is_alike.true (kind ∙ o);
+      },
+    )
 
 pub loop-init : goal.loop-init
 loop-init g c = ahead_start c.args.self.now.entries.items c.args.number (λ place e. (e.number ≡ c.args.number) × IsAlike c.args.input.now c.args.depth c.args.encountered_overflow (known_result e)) c.newest_of-next.result c.newest_of-next.ensures (λ place e fits. fits.0)

@@ -1,10 +1,9 @@
-use Rattle.std.proofs.Common.{◌≡◌, length, ◌∙◌, sym, inr, subst}
-use Rattle.search_steps.proofs.Caches.{HasConflict-at, AreConsistent-push, numbered_push}
+use Rattle.std.proofs.Common.{◌≡◌, length, ◌∙◌, sym, inr}
+use Rattle.search_steps.proofs.Caches.{HasConflict-at, KeepsResults-push, AreConsistent-push, numbered_push}
 use Rattle.search_steps.proofs.Chains.{AreLinked-push, listed_push}
 use Rattle.search_steps.proofs.Graphs.{Keeps-refl, cached_insert, IsCached-at}
 use Rattle.search_steps.proofs.Limits.{AreCachedWithin-push}
 use Rattle.search_steps.proofs.Faithfuls.{true_not_false}
-use Rattle.search_steps.specs.Computed.{IsComputed, IsGiven}
 use Rattle.search_steps.proofs.cache.CachedResults.insert.Goals as goal
 
 pub returns-clause-cache : goal.returns-clause-cache
@@ -20,9 +19,9 @@ returns-then-differs-clause-no_conflict g c = λ conflict limit reach n b within
     let e = other.1 in
     let cached = IsCached-at m w c.args.cx.now c.args.self.now.entries.items other.0 e other.2 c.requires.cache in
     let here = c.requires.kept limit reach n b within p in
-    let there = (cached.kept limit (inr (other.4 ∙ here.1)) n b within (rw other.3 p)).0 in
+    let there = (cached.kept limit (inr (other.3.kind ∙ here.1)) n b within (rw other.3.same p)).0 in
     let equal = g.met.D.Delegate.same_answer c.args.cx.now e.result c.args.found.now cached.result.known c.requires.result.known (sym there ∙ here.0) in
-    true_not_false (sym equal ∙ other.5)
+    true_not_false (sym equal ∙ other.4)
 
 pub returns-then-differs-clause-conflict : goal.returns-then-differs-clause-conflict
 returns-then-differs-clause-conflict g c = λ conflict.
@@ -33,9 +32,10 @@ returns-then-differs-clause-conflict g c = λ conflict.
     let e = other.1 in
     let cached = IsCached-at m w cx c.args.self.now.entries.items other.0 e other.2 c.requires.cache in
     HasConflict-at m cx c.args.self.now.entries.items other.0 e other.2 (record {
-      answer = m.answer_of cx c.args.found.now;
-      computed = subst (λ z. IsComputed m w (IsGiven m w) (m.goal_of cx z) (m.answer_of cx c.args.found.now)) (sym other.3) c.requires.result.source;
-      other = λ s. let equal = g.met.D.Delegate.same_answer cx e.result c.args.found.now cached.result.known c.requires.result.known s in true_not_false (sym equal ∙ other.5);
+      found = record { input = c.args.input; result = c.args.found.now; depth = c.args.depth; overflowed = c.args.encountered_overflow };
+      justified = record { known = c.requires.input; result = c.requires.result; kept = c.requires.kept };
+      alike = other.3;
+      other = λ s. let equal = g.met.D.Delegate.same_answer cx e.result c.args.found.now cached.result.known c.requires.result.known s in true_not_false (sym equal ∙ other.4);
     })
 
 pub returns-clause-within : goal.returns-clause-within
@@ -59,3 +59,6 @@ pub invariant_of-self-2-clause-consistent : goal.invariant_of-self-2-clause-cons
 invariant_of-self-2-clause-consistent g c = rw c.in_ok-push.ensures.items
     (AreConsistent-push c.args.self.now.entries.items (record { input = c.args.input; result = c.in_ok-result.result; depth = c.args.depth; encountered_overflow = c.args.encountered_overflow; number = c.args.number; previous = c.newest_of-previous.result; nested_goals = c.args.nested_goals }) c.args.self.now.consistent
     (λ place e at alike. c.differs.ensures.none c.if-differs.false place e at alike ∙ sym c.in_ok-result.ensures.copy))
+
+pub returns-clause-results : goal.returns-clause-results
+returns-clause-results g c = rw c.in_ok-push.ensures.items (KeepsResults-push c.args.self.now.entries.items (record { input = c.args.input; result = c.in_ok-result.result; depth = c.args.depth; encountered_overflow = c.args.encountered_overflow; number = c.args.number; previous = c.newest_of-previous.result; nested_goals = c.args.nested_goals }))

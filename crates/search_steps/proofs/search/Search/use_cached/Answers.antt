@@ -23,7 +23,7 @@ returns-clause-faithful g c =
     let one : Some found.0 ≡ Some entry.0 = sym found.1 ∙ entry.1 in
     let is : found.0 ≡ entry.0 = cc in
     let depth : c.in_ok-cached.cached.encountered_overflow ≡ true → c.in_ok-cached.cached.depth ≡ c.args.depth =
-    λ o. entry.2 ∙ sym (ap (λ z. z.depth) is) ∙ found.3 (ap (λ z. z.encountered_overflow) is ∙ sym entry.3 ∙ o) in
+    λ o. entry.3 ∙ sym (ap (λ z. z.depth) is) ∙ found.3 (ap (λ z. z.encountered_overflow) is ∙ sym entry.4 ∙ o) in
     let long = path_length m first es c.len.result (c.len.ensures ∙ c.args.self.now.stack.ok.0) in
     rw c.new-dependencies.ensures.lowest (faithful_kept m (m.world first) c.args.depth c.in_ok-cached.cached.depth (path_onto m first es []) (m.goal_of first c.args.input.now) (m.answer_of first c.in_ok-cached.cached.result) c.in_ok-cached.cached.encountered_overflow c.len.result c.new-dependencies.result.heads.items
     depth (omega arith) c.new-dependencies.ensures.unread c.in_ok-cached.ensures.kept)
