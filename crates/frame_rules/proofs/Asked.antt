@@ -5,6 +5,7 @@ use Rattle.model.specs.Trees.{Trees, none, tree}
 use Rattle.type_terms.specs.Made.{terms, is_made}
 use Rattle.infer_table.specs.Canonical.{CanonicalForm}
 use Rattle.infer_table.specs.declared.canonical.CanonicalVarKind.{CanonicalVarKind}
+use Rattle.goal_tables.specs.Frames.{kinds_known}
 use Rattle.goal_tables.proofs.Made.{left, right}
 use Rattle.frame_rules.specs.Rules.{Bound, goal_of, IsOver, is_variable_over}
 use Rattle.frame_rules.specs.Handlers.{Asked, with_first, all_known, bound_of, places_stand, is_asked, asked_with, asked}
@@ -56,3 +57,10 @@ asked-is f a e = by (all_known f.kinds) (bound_of f.goal.environment f.goal.pred
     by None p k h e = absurd (cc)
     by (Some ks) None k h e = absurd (cc)
     by (Some ks) (Some b) k h e = asked-at f a ks b (is_asked ks b) refl (k ks refl) (h b refl) e
+
+all-known : (ks : List CanonicalVarKind) → kinds_known (map Some ks) ≡ ks
+all-known [] = refl
+all-known (k ∷ ks) = ap (λ z. k ∷ z) (all-known ks)
+
+pub kinds-are : (f : CanonicalForm) (a : Asked) → IsAsked f a → kinds_known f.kinds ≡ a.kinds
+kinds-are f a h = ap kinds_known h.kinds ∙ all-known a.kinds

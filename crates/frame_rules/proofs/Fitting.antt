@@ -1,5 +1,5 @@
 -- The candidates of a list of rules speak of the variables of the goal and of the rule alone.
-use Rattle.std.proofs.Common.{◌≡◌, ℕ, zero, suc, ◌+◌, arith, Bool, true, List, [], ◌∷◌, ◌++◌, length, refl, sym, ◌∙◌, ap, Option, Some, None}
+use Rattle.std.proofs.Common.{◌≡◌, ℕ, zero, suc, ◌+◌, arith, Bool, true, List, [], ◌∷◌, ◌++◌, length, refl, sym, ◌∙◌, ap, subst, Option, Some, None}
 use Rattle.std.specs.List.{slice_get}
 use Rattle.model.specs.Label.{Label, Sort, infer, param, placeholder, canonical}
 use Rattle.model.specs.Trees.{Trees, none, tree}
@@ -14,7 +14,7 @@ use Rattle.goal_evaluator.specs.Table.{workings}
 use Rattle.goal_evaluator.specs.Candidate.{Spec}
 use Rattle.goal_evaluator.proofs.ListLaws.{Every-mono, Every-map}
 use Rattle.goal_tables.specs.Instances.{put_in}
-use Rattle.goal_tables.specs.Frames.{kind_at, Nested, is_open_label}
+use Rattle.goal_tables.specs.Frames.{kind_at, kinds_known, Nested, is_open_label}
 use Rattle.goal_tables.specs.Answers.{is_kind_of}
 use Rattle.goal_tables.proofs.Made.{false-true, both}
 use Rattle.goal_tables.proofs.Reading.{EachLabel}
@@ -24,11 +24,11 @@ use Rattle.goal_tables.proofs.Fresh.{labels_for}
 use Rattle.frame_tables.specs.Tables.{frame_tables}
 use Rattle.frame_evaluation.specs.Fitting.{is_of_sort, is_slot, AreOver, IsGoalOver, IsValueOver}
 use Rattle.frame_rules.specs.Rules.{Bound, goal_of, Rule, IsOver, IsRule, is_variable_over}
-use Rattle.frame_rules.specs.Handlers.{Asked, asked, moved, behind, as_one, nested_of_bound, spec_of, candidates_of, kinds_of}
+use Rattle.frame_rules.specs.Handlers.{Asked, asked, moved, behind, as_one, nested_of_bound, spec_of, candidates_of}
 use Rattle.frame_rules.specs.Fitting.{slots_of, IsOverSlots, CandidatesFit}
 use Rattle.frame_rules.proofs.Readings.{HasLeaves, made-leaves}
 use Rattle.frame_rules.proofs.Behind.{made-behind, made-open}
-use Rattle.frame_rules.proofs.Asked.{IsAsked, asked-is}
+use Rattle.frame_rules.proofs.Asked.{IsAsked, asked-is, kinds-are}
 use Rattle.frame_rules.proofs.Handlers.{each-spec}
 
 -- ---- what stands at the places of variables
@@ -153,9 +153,10 @@ spec-fits kind f a h r good =
 pub candidates-fit : CandidatesFit
 candidates-fit book rules_are f = by (asked f) refl
   where
-    by : (o : Option Asked) → asked f ≡ o → Every (λ (c : Spec (workings frame_tables)). IsOverSlots (slots_of (kinds_of o) c.kinds) c) (candidates_of book o)
+    by : (o : Option Asked) → asked f ≡ o → Every (λ (c : Spec (workings frame_tables)). IsOverSlots (slots_of (kinds_known f.kinds) c.kinds) c) (candidates_of book o)
     by None e = (record { equations = tt; constraints = tt; nested = tt }, tt)
     by (Some a) e =
-        each-spec (book.coinductive a.bound.trait) a (λ (c : Spec (workings frame_tables)). IsOverSlots (slots_of a.kinds c.kinds) c) book.rules
+        subst (λ ks. Every (λ (c : Spec (workings frame_tables)). IsOverSlots (slots_of ks c.kinds) c) (candidates_of book (Some a))) (sym (kinds-are f a (asked-is f a e)))
+        (each-spec (book.coinductive a.bound.trait) a (λ (c : Spec (workings frame_tables)). IsOverSlots (slots_of a.kinds c.kinds) c) book.rules
         (Every-mono IsRule (λ (r : Rule). r.head.trait ≡ a.bound.trait → IsOverSlots (slots_of a.kinds r.kinds) (spec_of (book.coinductive a.bound.trait) a r))
-        (λ r good q. spec-fits (book.coinductive a.bound.trait) f a (asked-is f a e) r good) book.rules rules_are)
+        (λ r good q. spec-fits (book.coinductive a.bound.trait) f a (asked-is f a e) r good) book.rules rules_are))

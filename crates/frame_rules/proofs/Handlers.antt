@@ -1,35 +1,39 @@
 -- The handler of a goal for a list of rules is lawful.
-use Rattle.std.proofs.Common.{◌≡◌, ℕ, ◌≤◌, arith, Bool, true, false, ◌&&◌, if◌then◌else◌, List, [], ◌∷◌, map, length, inl, inr, refl, sym, ◌∙◌, ap, subst, Option, Some, None}
+use Rattle.std.proofs.Common.{◌≡◌, ℕ, ◌≤◌, arith, Bool, true, false, not, ◌&&◌, ◌||◌, if◌then◌else◌, List, [], ◌∷◌, map, length, inl, inr, refl, sym, ◌∙◌, ap, subst, Option, Some, None, is_some}
 use Rattle.std.proofs.lemmas.Bool.{eqb-true, eq-eqb}
 use Rattle.std.specs.Prelude.{◌==◌, max}
 use Rattle.model.specs.Label.{adt, principal}
 use Rattle.model.specs.Trees.{Trees, none, tree}
 use Rattle.type_terms.specs.Made.{terms}
 use Rattle.infer_table.specs.Canonical.{GoalTrees, CanonicalForm}
+use Rattle.infer_table.specs.declared.canonical.CanonicalVarKind.{CanonicalVarKind}
+use Rattle.infer_table.specs.declared.canonical.CanonicalVarKind.TheVariants.{Ty, PlaceholderTy, Const, PlaceholderConst, Region}
 use Rattle.infer_table.specs.declared.goal.Certainty.TheVariants.{Yes}
+use Rattle.infer_table.specs.declared.goal.TypingMode.{TypingMode}
+use Rattle.infer_table.specs.declared.goal.TypingMode.TheVariants.{Coherence, PostAnalysis}
 use Rattle.goal_evaluator.specs.Lists.{Every, SomeOf, IsAmong}
 use Rattle.goal_evaluator.specs.Table.{workings}
 use Rattle.goal_evaluator.specs.Candidate.{Spec}
 use Rattle.goal_evaluator.specs.Law.{Solves, Realizes}
 use Rattle.goal_evaluator.specs.Handler.{IsHandler}
-use Rattle.goal_evaluator.proofs.ListLaws.{Every-mono, Every-both, Every-map, SomeOf-both}
+use Rattle.goal_evaluator.proofs.ListLaws.{Every-mono, Every-both, Every-map, SomeOf-both, not-true}
 use Rattle.goal_evaluator.proofs.RuleBooks.{last_rule}
 use Rattle.goal_tables.specs.Instances.{read_with, goal_read}
-use Rattle.goal_tables.specs.Content.{Values, fits, given, Fact, fact_of, Terms}
-use Rattle.goal_tables.specs.Frames.{Nested, fact, Meets}
+use Rattle.goal_tables.specs.Content.{Values, fits, given, trait_of, Fact, fact_of, Terms}
+use Rattle.goal_tables.specs.Frames.{kinds_known, Nested, fact, Meets}
 use Rattle.goal_tables.specs.Widths.{width, number_of}
-use Rattle.goal_tables.proofs.Made.{right}
+use Rattle.goal_tables.proofs.Made.{false-true, right}
 use Rattle.goal_tables.proofs.Beginning.{begin, begins-free}
 use Rattle.goal_tables.proofs.Fresh.{fresh}
 use Rattle.frame_tables.specs.Tables.{frame_tables}
 use Rattle.frame_tables.proofs.Laws.{tables_are_lawful}
 use Rattle.frame_rules.specs.Listings.{IsListed, IsListing}
-use Rattle.frame_rules.specs.Rules.{Bound, goal_of, Rule, RuleBook, IsOver, IsRule, AreRules, instance_of, IsBy, IsClosed, trait_of, is_coinductive, FollowsClosed, HasProofByBook}
-use Rattle.frame_rules.specs.Handlers.{Asked, asked, behind, as_one, nested_of_bound, spec_of, specs_for, unsure, number_of_rules, same_answer, listing_of, handled_by}
+use Rattle.frame_rules.specs.Rules.{Bound, goal_of, Rule, RuleBook, IsOver, IsRule, AreRules, instance_of, IsBy, IsClosed, is_coinductive_trait, is_coinductive, FollowsClosed, HasProofByBook}
+use Rattle.frame_rules.specs.Handlers.{Asked, asked, behind, as_one, nested_of_bound, spec_of, specs_for, unsure, number_of_rules, same_answer, has_placeholder, world_of, listing_of, handled_by}
 use Rattle.frame_rules.proofs.Listings.{listings-are-lawful}
 use Rattle.frame_rules.proofs.Readings.{reads-agree}
 use Rattle.frame_rules.proofs.Behind.{dropped, read-behind, made-behind, made-open}
-use Rattle.frame_rules.proofs.Asked.{IsAsked, asked-is}
+use Rattle.frame_rules.proofs.Asked.{IsAsked, asked-is, kinds-are}
 use Rattle.frame_rules.proofs.Slots.{own-slots-agree}
 use Rattle.frame_rules.proofs.Sound.{term-one, fact-behind, sound, determined}
 use Rattle.frame_rules.proofs.Widths.{width-behind, rule-within, premises-behind, few}
@@ -76,7 +80,7 @@ same-goal-parts : (i j : ℕ) (x y : Trees) → ◌≡◌ {A = GoalTrees} (recor
 same-goal-parts i j x y e = predicate-parts i j x y (ap (λ (z : GoalTrees). z.predicate) e)
 
 -- ---- a goal that is made as canonical forms are
-module _ (book : RuleBook) (rules_are : AreRules book) (f : CanonicalForm) (a : Asked) (h : IsAsked f a) where
+module _ (book : RuleBook) (rules_are : AreRules book) (mode : TypingMode) (f : CanonicalForm) (a : Asked) (h : IsAsked f a) where
   abbrev kind : Bool
   kind = book.coinductive a.bound.trait
 
@@ -101,7 +105,7 @@ module _ (book : RuleBook) (rules_are : AreRules book) (f : CanonicalForm) (a : 
       less : (x y : ℕ) → y ≤ max x y
       less x y = omega arith
 
-  listed-rule : (r : Rule) → IsRule r → IsAmong r book.rules → r.head.trait ≡ a.bound.trait → IsListed frame_tables (listing_of book f (Some a)) (spec_of kind a r)
+  listed-rule : (r : Rule) → IsRule r → IsAmong r book.rules → r.head.trait ≡ a.bound.trait → IsListed frame_tables (listing_of book mode f a.kinds (Some a)) (spec_of kind a r)
   listed-rule r good i same =
       let w = rule-within number book.rules rules-within r i in
       record {
@@ -112,9 +116,9 @@ module _ (book : RuleBook) (rules_are : AreRules book) (f : CanonicalForm) (a : 
         nested_within = premises-behind number n kind r.premises w.premises;
       }
     where
-      same-kind : (g : Bound → Bound) (bs : List Bound) → Every (λ (m : Nested). m.coinductive ≡ book.coinductive (trait_of f.goal.predicate)) (map (λ b. nested_of_bound kind (g b)) bs)
+      same-kind : (g : Bound → Bound) (bs : List Bound) → Every (λ (m : Nested). m.coinductive ≡ is_coinductive_trait book (trait_of f.goal.predicate)) (map (λ b. nested_of_bound kind (g b)) bs)
       same-kind g [] = tt
-      same-kind g (b ∷ bs) = (sym (ap (λ (z : GoalTrees). book.coinductive (trait_of z.predicate)) h.goal), same-kind g bs)
+      same-kind g (b ∷ bs) = (sym (ap (λ (z : GoalTrees). is_coinductive_trait book (trait_of z.predicate)) h.goal), same-kind g bs)
 
   -- ---- solutions
   module _ (v : Values) (closed : IsClosed (goal v)) (r : Rule) (good : IsRule r) (premises : List Fact) (by : IsBy (goal v) premises r) where
@@ -147,7 +151,7 @@ module _ (book : RuleBook) (rules_are : AreRules book) (f : CanonicalForm) (a : 
     proper-is = ap (λ z. v.proper && fits z v.terms) (sym h.kinds)
 
     same-instance : (p q : Bool) (b : Bound) (x y : Trees) → p ≡ q → x ≡ y
-        → ◌≡◌ {A = Fact} (record { goal = record { environment = none; predicate = tree (principal 0 b.trait) x none }; proper = p }) (record { goal = record { environment = none; predicate = tree (principal 0 b.trait) y none }; proper = q })
+        → ◌≡◌ {A = Fact} (record { trait = Some b.trait; goal = record { environment = none; predicate = tree (principal 0 b.trait) x none }; proper = p }) (record { trait = Some b.trait; goal = record { environment = none; predicate = tree (principal 0 b.trait) y none }; proper = q })
     same-instance p q b x y e g = cc
 
     premise-is : (b : Bound) → IsOver r.kinds b → fact (nested_of_bound kind (behind n b)) terms_of ≡ instance_of (goal v).proper by.values b
@@ -173,14 +177,14 @@ module _ (book : RuleBook) (rules_are : AreRules book) (f : CanonicalForm) (a : 
       (SomeOf-both IsRule (IsBy (goal v) last.0) (λ (r : Rule). (r.head.trait ≡ a.bound.trait) × Realizes frame_tables (HasProofByBook book) (begin a.kinds) v (spec_of kind a r))
       (λ r good by. (sym (parts v last.1.0 r good last.0 by).0, realizes v last.1.0 r good last.0 by last.2)) book.rules rules_are last.1.1)
 
-  asked-listing : IsListing frame_tables (listing_of book f (Some a))
+  asked-listing : IsListing frame_tables (listing_of book mode f a.kinds (Some a))
   asked-listing = record {
     begins = λ v. begins-free a.kinds v;
     says_nothing = λ c. begin-says-nothing a.kinds c;
     begins_within = tt;
     each =
-        each-spec kind a (IsListed frame_tables (listing_of book f (Some a))) book.rules
-        (Every-both IsRule (λ r. IsAmong r book.rules) (λ r. r.head.trait ≡ a.bound.trait → IsListed frame_tables (listing_of book f (Some a)) (spec_of kind a r))
+        each-spec kind a (IsListed frame_tables (listing_of book mode f a.kinds (Some a))) book.rules
+        (Every-both IsRule (λ r. IsAmong r book.rules) (λ r. r.head.trait ≡ a.bound.trait → IsListed frame_tables (listing_of book mode f a.kinds (Some a)) (spec_of kind a r))
         (λ r good i e. listed-rule r good i e) book.rules rules_are (among-all book.rules));
     asks = (let p = few kind a book.rules in let q = rules-within in less _ _ _ p q);
     cover = λ w v p. cover-asked v p;
@@ -190,14 +194,26 @@ module _ (book : RuleBook) (rules_are : AreRules book) (f : CanonicalForm) (a : 
       less x y z p q = omega (arith, p, q)
 
 -- ---- another goal
-unsure-listing : (book : RuleBook) (f : CanonicalForm) → IsListing frame_tables (listing_of book f None)
-unsure-listing book f = record {
-  begins = λ v. begins-free [] v;
-  says_nothing = λ c. begin-says-nothing [] c;
+no-placeholder : (ks : List CanonicalVarKind) → has_placeholder ks ≡ false → Every IsNotPlace ks
+no-placeholder [] e = tt
+no-placeholder (Ty ∷ ks) e = (tt, no-placeholder ks e)
+no-placeholder (Const ∷ ks) e = (tt, no-placeholder ks e)
+no-placeholder (Region ∷ ks) e = (tt, no-placeholder ks e)
+no-placeholder (PlaceholderTy ∷ ks) e = absurd (false-true (sym e))
+no-placeholder (PlaceholderConst ∷ ks) e = absurd (false-true (sym e))
+
+searched-kinds : (mode : TypingMode) (f : CanonicalForm) → asked f ≡ None → world_of mode f → Every IsNotPlace (kinds_known f.kinds)
+searched-kinds Coherence f e w = no-placeholder (kinds_known f.kinds) (not-true (has_placeholder (kinds_known f.kinds)) (ap (λ o. is_some o || not (has_placeholder (kinds_known f.kinds))) (sym e) ∙ w))
+searched-kinds PostAnalysis f e w = absurd w
+
+unsure-listing : (book : RuleBook) (mode : TypingMode) (f : CanonicalForm) → asked f ≡ None → IsListing frame_tables (listing_of book mode f (kinds_known f.kinds) None)
+unsure-listing book mode f e = record {
+  begins = λ v. begins-free (kinds_known f.kinds) v;
+  says_nothing = λ c. begin-says-nothing (kinds_known f.kinds) c;
   begins_within = tt;
   each = (record { sound = λ y s l m. absurd (not-yes y); steps = λ y T. tt; determined = λ y s r l k m n e. tt; equations_within = tt; nested_within = tt }, tt);
   asks = less _;
-  cover = λ w v p. inl (realizes v w);
+  cover = λ w v p. inl (realizes v (searched-kinds mode f e w));
 }
   where
     not-yes : unsure.certainty ≡ Yes → ⊥
@@ -206,12 +222,20 @@ unsure-listing book f = record {
     less : (x : ℕ) → 0 ≤ x
     less x = omega arith
 
-    realizes : (v : Values) (w : Unit {0}) → Realizes frame_tables (HasProofByBook book) (begin []) v unsure
-    realizes v w = record { assignment = filled [] [] tt tt v []; allowed = filled-allowed [] [] tt tt v []; own = refl; meets = tt; solves = tt }
+    realizes : (v : Values) → Every IsNotPlace (kinds_known f.kinds) → Realizes frame_tables (HasProofByBook book) (begin (kinds_known f.kinds)) v unsure
+    realizes v n = record {
+      assignment = filled (kinds_known f.kinds) [] n tt v [];
+      allowed = filled-allowed (kinds_known f.kinds) [] n tt v [];
+      own = refl;
+      meets = tt;
+      solves = tt;
+    }
 
-listing-at : (book : RuleBook) → AreRules book → (f : CanonicalForm) (o : Option Asked) → asked f ≡ o → IsListing frame_tables (listing_of book f o)
-listing-at book rules_are f None e = unsure-listing book f
-listing-at book rules_are f (Some a) e = asked-listing book rules_are f a (asked-is f a e)
+listing-at : (book : RuleBook) → AreRules book → (mode : TypingMode) (f : CanonicalForm) (o : Option Asked) → asked f ≡ o → IsListing frame_tables (listing_of book mode f (kinds_known f.kinds) o)
+listing-at book rules_are mode f None e = unsure-listing book mode f e
+listing-at book rules_are mode f (Some a) e =
+    let h = asked-is f a e in subst (λ ks. IsListing frame_tables (listing_of book mode f ks (Some a))) (sym (kinds-are f a h)) (asked-listing book rules_are mode f a h)
 
-pub handlers-are-lawful : (book : RuleBook) → AreRules book → (f : CanonicalForm) → IsHandler frame_tables (handled_by book f)
-handlers-are-lawful book rules_are f = listings-are-lawful frame_tables same_answer tables_are_lawful answers-are (listing_of book f (asked f)) (listing-at book rules_are f (asked f) refl)
+pub handlers-are-lawful : (book : RuleBook) → AreRules book → (mode : TypingMode) (f : CanonicalForm) → IsHandler frame_tables (handled_by book mode f)
+handlers-are-lawful book rules_are mode f =
+    listings-are-lawful frame_tables same_answer tables_are_lawful answers-are (listing_of book mode f (kinds_known f.kinds) (asked f)) (listing-at book rules_are mode f (asked f) refl)

@@ -13,3 +13,5 @@ pub mod Handlers
 pub mod Programs
 pub mod Fitting
 pub mod Forms
+pub mod Asking
+pub mod Decided

@@ -8,7 +8,7 @@ use Rattle.goal_evaluator.specs.Handler.{nested_of, AnswerWithin, IsHandler}
 use Rattle.goal_evaluator.specs.Merge.{if_there, responses, merge_or_flounder, IsMerge}
 use Rattle.goal_evaluator.proofs.ListLaws.{Every-mono, SomeOf-mono, SomeOf-found, SomeOf-at, Every-at}
 use Rattle.goal_evaluator.proofs.Merges.{merge_is}
-use Rattle.frame_rules.specs.Listings.{rest_of, remaining, if_refused, nested_in, refused_numbers, Listing, IsListed, IsListing, next_of, listed, TellsApart}
+use Rattle.frame_rules.specs.Listings.{rest_of, remaining, if_refused, unless_refused, nested_in, refused_numbers, Listing, IsListed, IsListing, next_of, listed, TellsApart}
 
 -- ---- lists
 some-append : {A : Type 0} (P : A → Type 0) (xs ys : List A) → SomeOf P xs ⊎ SomeOf P ys → SomeOf P (xs ++ ys)
@@ -114,6 +114,19 @@ module _ {Question Response : Type 0} (t : Tables Question Response) where
   kept-later n m None ns other new = λ i. elim i [ inl e ↦ other e | inr j ↦ new j ]
   kept-later n m (Some r) ns other new = new
 
+  -- where the answer is a refusal nothing is ignored
+  every-unless : (P : ℕ → Type 0) (a : Option Response) (ns : List ℕ) → Every P ns → Every P (unless_refused a ns)
+  every-unless P None ns e = tt
+  every-unless P (Some r) ns e = e
+
+  distinct-unless : (a : Option Response) (ns : List ℕ) → IsDistinct ns → IsDistinct (unless_refused a ns)
+  distinct-unless None ns d = tt
+  distinct-unless (Some r) ns d = d
+
+  none-unless : (n : ℕ) (a : Option Response) (ns : List ℕ) → IsNoneOf n ns → IsNoneOf n (unless_refused a ns)
+  none-unless n None ns new = λ i. absurd i
+  none-unless n (Some r) ns new = new
+
   number-among : (c : Considered (workings t)) (seen : List (Considered (workings t))) → IsAmong c seen → IsAmong c.number (used_numbers (workings t) seen)
   number-among c [] i = absurd i
   number-among c (d ∷ seen) (inl e) = inl (ap (λ (x : Considered (workings t)). x.number) e)
@@ -154,7 +167,7 @@ module _ {Question Response : Type 0} (t : Tables Question Response) where
     first seen (s ∷ left) c e = ap (spec-in s) e
 
     none-left : (seen : List (Considered (workings t))) (left : List (Spec (workings t))) (a : Option Response) (ignored : List ℕ) → next_of t same begin seen left ≡ answer a ignored
-        → IsEmpty left × (merge_or_flounder t same begin (responses t seen) ≡ a) × (refused_numbers t seen ≡ ignored)
+        → IsEmpty left × (merge_or_flounder t same begin (responses t seen) ≡ a) × (unless_refused (merge_or_flounder t same begin (responses t seen)) (refused_numbers t seen) ≡ ignored)
     none-left seen [] a ignored e = (tt, ap (answer-in a) e, ap (ignored-in ignored) e)
     none-left seen (s ∷ left) a ignored e = absurd (cc)
 
@@ -195,8 +208,13 @@ module _ {Question Response : Type 0} (t : Tables Question Response) where
             | inr z ↦ absurd (none (remaining seen specs) e x.0 z)
           ]
 
-every-among : {A : Type 0} (P : A → Type 0) (x : A) (xs : List A) → Every P xs → IsAmong x xs → P x
+pub every-among : {A : Type 0} (P : A → Type 0) (x : A) (xs : List A) → Every P xs → IsAmong x xs → P x
 every-among P x xs h i = Every-at P (λ y. x ≡ y) (P x) (λ y p e. subst P (sym e) p) xs h i
+
+-- what is considered stands in the list
+pub listed-among : {Question Response : Type 0} (t : Tables Question Response) (same : Response → Response → Bool) (l : Listing t) (seen : List (Considered (workings t))) (c : Spec (workings t))
+    → (listed t same l).next seen ≡ consider c → IsAmong c l.specs
+listed-among t same l seen c e = in-remaining seen l.specs c (among-first c (remaining seen l.specs) (first t same l.begin seen (remaining seen l.specs) c e))
 
 pub listings-are-lawful : {Question Response : Type 0} (t : Tables Question Response) (same : Response → Response → Bool) → IsTable t → TellsApart same
     → (l : Listing t) → IsListing t l → IsHandler t (listed t same l)
@@ -206,7 +224,7 @@ listings-are-lawful t same table same_is l laws = record {
   begins_within = laws.begins_within;
   candidate = λ seen c h e.
       let f = first t same l.begin seen (remaining seen l.specs) c e in
-      let k = every-among (IsListed t l) c l.specs laws.each (in-remaining seen l.specs c (among-first c (remaining seen l.specs) f)) in
+      let k = every-among (IsListed t l) c l.specs laws.each (listed-among t same l seen c e) in
       let n = counted t same l.begin l.specs seen h in
       let m = less-one t same l.begin l.specs c (remaining seen l.specs) f in
       let a = n.0 in let b = n.1 in let p = m.0 in let q = m.1 in let r = laws.asks in
@@ -221,6 +239,7 @@ listings-are-lawful t same table same_is l laws = record {
       };
   answer = λ seen a ignored h e.
       let end = none-left t same l.begin seen (remaining seen l.specs) a ignored e in
+      let merged = merge_or_flounder t same l.begin (responses t seen) in
       let merge = merge_is t table same same_is l.begin laws.says_nothing (responses t seen) in
       let is : IsMerge t l.begin (responses t seen) a = subst (IsMerge t l.begin (responses t seen)) end.1 merge in
       record {
@@ -229,10 +248,10 @@ listings-are-lawful t same table same_is l laws = record {
             let x = SomeOf-found (λ (c : Considered (workings t)). a ≡ c.response) seen (from-responses t seen a (is.yes y)) in
             let is_yes = subst (IsYes t) x.2 y in
             SomeOf-at (λ (c : Considered (workings t)). IsYes t c.response × IsNoneOf c.number ignored) x.0 seen x.1
-            (is_yes, subst (IsNoneOf x.0.number) end.2 (not-refused t (next t same l.begin l.specs) seen h x.0 x.1 is_yes));
+            (is_yes, subst (IsNoneOf x.0.number) end.2 (none-unless t x.0.number merged (refused_numbers t seen) (not-refused t (next t same l.begin l.specs) seen h x.0 x.1 is_yes)));
         merged = λ w v s. is.covers v (agrees-responses t seen v s);
-        ignores = subst (Every (λ n. IsAmong n (used_numbers (workings t) seen))) end.2 (refused-among t seen);
-        once = subst IsDistinct end.2 (refused-once t (next t same l.begin l.specs) seen h);
+        ignores = subst (Every (λ n. IsAmong n (used_numbers (workings t) seen))) end.2 (every-unless t (λ n. IsAmong n (used_numbers (workings t) seen)) merged (refused_numbers t seen) (refused-among t seen));
+        once = subst IsDistinct end.2 (distinct-unless t merged (refused_numbers t seen) (refused-once t (next t same l.begin l.specs) seen h));
         within = λ s. is.within l.number laws.begins_within (within-responses t l.number seen s);
       };
 }

@@ -1,5 +1,5 @@
 -- Lists of rules over trees are lawful programs.
-use Rattle.std.proofs.Common.{◌≡◌, ℕ, ◌≤◌, arith, false, refl}
+use Rattle.std.proofs.Common.{◌≡◌, ℕ, ◌≤◌, arith, false, not, ◌||◌, refl, ap, is_some}
 use Rattle.std.specs.Prelude.{max}
 use Rattle.search_paths.specs.declared.path_kind.PathKind.{PathKind}
 use Rattle.search_paths.specs.declared.path_kind.PathKind.TheVariants.{Inductive, Unknown, Coinductive, ForcedAmbiguity}
@@ -7,38 +7,57 @@ use Rattle.infer_table.specs.Canonical.{CanonicalForm}
 use Rattle.infer_table.specs.declared.goal.Certainty.{Certainty}
 use Rattle.infer_table.specs.declared.goal.Certainty.TheVariants.{Yes, Maybe}
 use Rattle.infer_table.specs.declared.goal.MaybeCause.TheVariants.{Overflow}
+use Rattle.infer_table.specs.declared.goal.TypingMode.{TypingMode}
+use Rattle.infer_table.specs.declared.goal.TypingMode.TheVariants.{Coherence, PostAnalysis}
 use Rattle.goal_evaluator.specs.Law.{IsYes}
+use Rattle.goal_tables.specs.Content.{Question}
+use Rattle.goal_tables.specs.Frames.{kinds_known}
 use Rattle.goal_tables.proofs.Beginning.{begin}
 use Rattle.goal_tables.proofs.Finite.{made-of-closed}
 use Rattle.goal_tables.proofs.WidthLaws.{respond_within}
 use Rattle.frame_tables.specs.Tables.{frame_tables}
 use Rattle.frame_searches.specs.Programs.{SaysNothing}
-use Rattle.frame_rules.specs.Handlers.{asked, kinds_of, handled_by}
-use Rattle.frame_rules.specs.Programs.{DeclaredRules, book_of, silent, first_answer, rule_programs, RulesArePrograms}
+use Rattle.frame_rules.specs.Handlers.{has_placeholder, world_of, handled_by}
+use Rattle.frame_rules.specs.Programs.{DeclaredRules, book_of, silent, circular, first_answer, rule_programs, RulesArePrograms}
 use Rattle.frame_rules.proofs.Beginnings.{begin-says-nothing}
 use Rattle.frame_rules.proofs.Handlers.{handlers-are-lawful}
+use Rattle.frame_rules.proofs.Decided.{IsDecided, questions-decided}
 
-is-silent : (w : DeclaredRules) (f : CanonicalForm) (c : Certainty) → SaysNothing frame_tables rule_programs (handled_by (book_of w) f) (silent f c)
-is-silent w f c = (begin-says-nothing (kinds_of (asked f)) c, respond_within (handled_by (book_of w) f).number (begin (kinds_of (asked f))) c tt)
+is-silent : (w : DeclaredRules) (mode : TypingMode) (f : CanonicalForm) (c : Certainty) → SaysNothing frame_tables rule_programs (handled_by (book_of w) mode f) (silent f c)
+is-silent w mode f c = (begin-says-nothing (kinds_known f.kinds) c, respond_within (handled_by (book_of w) mode f).number (begin (kinds_known f.kinds)) c tt)
 
 no-yes : (f : CanonicalForm) → IsYes frame_tables (silent f (Maybe Overflow)) → ⊥
 no-yes f y = cc
 
-first-yes : (f : CanonicalForm) (k : PathKind) → IsYes frame_tables (first_answer f k) → k ≡ Coinductive
-first-yes f Coinductive y = refl
-first-yes f Inductive y = absurd (no-yes f y)
-first-yes f Unknown y = absurd (no-yes f y)
-first-yes f ForcedAmbiguity y = absurd (no-yes f y)
+circular-no : (mode : TypingMode) (f : CanonicalForm) → IsYes frame_tables (circular mode f) → ⊥
+circular-no Coherence f y = no-yes f y
+circular-no PostAnalysis f y = y
 
-first-silent : (w : DeclaredRules) (f : CanonicalForm) (k : PathKind) → SaysNothing frame_tables rule_programs (handled_by (book_of w) f) (first_answer f k)
-first-silent w f Coinductive = is-silent w f Yes
-first-silent w f Inductive = is-silent w f (Maybe Overflow)
-first-silent w f Unknown = is-silent w f (Maybe Overflow)
-first-silent w f ForcedAmbiguity = is-silent w f (Maybe Overflow)
+first-yes : (mode : TypingMode) (f : CanonicalForm) (k : PathKind) → IsYes frame_tables (first_answer mode f k) → k ≡ Coinductive
+first-yes mode f Coinductive y = refl
+first-yes mode f Inductive y = absurd (circular-no mode f y)
+first-yes mode f Unknown y = absurd (no-yes f y)
+first-yes mode f ForcedAmbiguity y = absurd (no-yes f y)
+
+-- outside coherence no solutions are looked for
+circular-silent : (w : DeclaredRules) (mode : TypingMode) (f : CanonicalForm) → SaysNothing frame_tables rule_programs (handled_by (book_of w) mode f) (circular mode f)
+circular-silent w Coherence f = is-silent w Coherence f (Maybe Overflow)
+circular-silent w PostAnalysis f = λ x. x
+
+first-silent : (w : DeclaredRules) (mode : TypingMode) (f : CanonicalForm) (k : PathKind) → SaysNothing frame_tables rule_programs (handled_by (book_of w) mode f) (first_answer mode f k)
+first-silent w mode f Coinductive = is-silent w mode f Yes
+first-silent w mode f Inductive = circular-silent w mode f
+first-silent w mode f Unknown = is-silent w mode f (Maybe Overflow)
+first-silent w mode f ForcedAmbiguity = is-silent w mode f (Maybe Overflow)
+
+-- a question that is decided is looked for where its goal is
+decided-searched : (mode : TypingMode) (f : CanonicalForm) (q : Question) → IsDecided q → world_of mode f → world_of mode q.form
+decided-searched Coherence f q d x = ap (λ o. is_some o || not (has_placeholder (kinds_known q.form.kinds))) d.1
+decided-searched PostAnalysis f q d x = x
 
 pub rules-are-programs : RulesArePrograms
 rules-are-programs = record {
-  handlers = λ w mode f. handlers-are-lawful (book_of w) w.made f;
+  handlers = λ w mode f. handlers-are-lawful (book_of w) w.made mode f;
   systems = λ w mode.
       record {
         instance = λ q v. refl;
@@ -48,11 +67,11 @@ rules-are-programs = record {
         closed = λ f g u v x i j. made-of-closed (record { form = g; coinductive = false }) (record { form = f; coinductive = false }) u v x i j;
       };
   numbers = λ w mode f q h. less _ _ _ h;
-  worlds = λ w mode f q x. (x, λ g p. p);
-  initial_yes = λ w mode f k y. first-yes f k y;
+  worlds = λ w mode f heard q came e x. (decided-searched mode f q (questions-decided (book_of w) w.made mode f heard q came e) x, λ g p. p);
+  initial_yes = λ w mode f k y. first-yes mode f k y;
   overflow_yes = λ w mode f y. no-yes f y;
-  initial = λ w mode f k. first-silent w f k;
-  overflow = λ w mode f. is-silent w f (Maybe Overflow);
+  initial = λ w mode f k. first-silent w mode f k;
+  overflow = λ w mode f. is-silent w mode f (Maybe Overflow);
 }
   where
     less : (q g r : ℕ) → q ≤ max g r → max q r ≤ max g r

@@ -1,5 +1,5 @@
 -- A rule as a candidate: where its equation holds it is the rule, and its own unknowns are determined by the goal's.
-use Rattle.std.proofs.Common.{◌≡◌, ℕ, Bool, true, false, ◌&&◌, List, [], ◌∷◌, map, length, refl, sym, ◌∙◌, ap, Some, if◌then◌else◌}
+use Rattle.std.proofs.Common.{◌≡◌, ℕ, Bool, true, false, ◌&&◌, List, [], ◌∷◌, map, length, refl, sym, ◌∙◌, ap, Option, Some, if◌then◌else◌}
 use Rattle.model.specs.Label.{adt, principal, never}
 use Rattle.model.specs.Trees.{Trees, none, tree, leaf}
 use Rattle.type_terms.specs.Made.{terms, is_made}
@@ -29,11 +29,11 @@ one-parts i j x y e = cc
 cons : {A : Type 0} (x y : A) (xs ys : List A) → x ≡ y → xs ≡ ys → x ∷ xs ≡ y ∷ ys
 cons x y xs ys e f = cc
 
-same-fact : (g k : GoalTrees) (p q : Bool) → g ≡ k → p ≡ q → ◌≡◌ {A = Fact} (record { goal = g; proper = p }) (record { goal = k; proper = q })
-same-fact g k p q e f = cc
+same-fact : (trait : Option ℕ) (g k : GoalTrees) (p q : Bool) → g ≡ k → p ≡ q → ◌≡◌ {A = Fact} (record { trait = trait; goal = g; proper = p }) (record { trait = trait; goal = k; proper = q })
+same-fact trait g k p q e f = cc
 
 pub fact-behind : (kind : Bool) (n : ℕ) (s : Terms) (b : Bound) → fact (nested_of_bound kind (behind n b)) s ≡ instance_of s.proper (dropped n s.slots) b
-fact-behind kind n s b = same-fact _ _ s.proper s.proper (bound-behind n s.slots b) refl
+fact-behind kind n s b = same-fact (Some b.trait) _ _ s.proper s.proper (bound-behind n s.slots b) refl
 
 pub facts-behind : (kind : Bool) (n : ℕ) (s : Terms) (p : Bool) → s.proper ≡ p → (bs : List Bound)
     → map (instance_of p (dropped n s.slots)) bs ≡ map (λ (m : Nested). fact m s) (map (λ b. nested_of_bound kind (behind n b)) bs)
@@ -92,7 +92,7 @@ module _ (f : CanonicalForm) (a : Asked) (h : IsAsked f a) (r : Rule) (good : Is
       one : (b : Bound) → IsDeterminedBy r.head b → fact (nested_of_bound kind (behind (length a.kinds) b)) s ≡ fact (nested_of_bound kind (behind (length a.kinds) b)) t
       one b d =
           fact-behind kind (length a.kinds) s b
-          ∙ same-fact _ _ s.proper t.proper
+          ∙ same-fact (Some b.trait) _ _ s.proper t.proper
           (ap (λ z. record { environment = none; predicate = tree (principal 0 b.trait) z none })
           (reads-agree (values s) (values t) b.arguments (λ j i v st. values-agree s t l k m n e j i v (d j i st))))
           (same-proper s t l k e)

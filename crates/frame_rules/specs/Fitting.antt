@@ -6,13 +6,13 @@ use Rattle.infer_table.specs.declared.canonical.CanonicalVarKind.{CanonicalVarKi
 use Rattle.goal_evaluator.specs.Lists.{Every}
 use Rattle.goal_evaluator.specs.Table.{workings}
 use Rattle.goal_evaluator.specs.Candidate.{Spec}
-use Rattle.goal_tables.specs.Frames.{Nested, Equation}
+use Rattle.goal_tables.specs.Frames.{kinds_known, Nested, Equation}
 use Rattle.goal_tables.proofs.Beginning.{begin}
 use Rattle.goal_tables.proofs.Fresh.{fresh}
 use Rattle.frame_tables.specs.Tables.{frame_tables}
 use Rattle.frame_evaluation.specs.Fitting.{AreOver, IsGoalOver, IsValueOver}
 use Rattle.frame_rules.specs.Rules.{RuleBook, AreRules}
-use Rattle.frame_rules.specs.Handlers.{asked, candidates_of, kinds_of}
+use Rattle.frame_rules.specs.Handlers.{asked, candidates_of}
 
 -- what the canonical variables of a candidate's terms stand for: those of the goal, and behind them the candidate's own
 abbrev pub slots_of : List CanonicalVarKind → List CanonicalVarKind → List Label
@@ -27,4 +27,4 @@ pub record IsOverSlots (labels : List Label) (c : Spec (workings frame_tables)) 
 abbrev pub CandidatesFit : Type 0
 CandidatesFit =
     (book : RuleBook) → AreRules book → (f : CanonicalForm)
-    → Every (λ (c : Spec (workings frame_tables)). IsOverSlots (slots_of (kinds_of (asked f)) c.kinds) c) (candidates_of book (asked f))
+    → Every (λ (c : Spec (workings frame_tables)). IsOverSlots (slots_of (kinds_known f.kinds) c.kinds) c) (candidates_of book (asked f))

@@ -1,5 +1,5 @@
 -- The handler of a goal for a list of rules.
-use Rattle.std.specs.Prelude.{ℕ, zero, suc, ◌+◌, ◌==◌, max, Bool, true, false, ◌&&◌, if◌then◌else◌, List, [], ◌∷◌, map, length, Option, Some, None}
+use Rattle.std.specs.Prelude.{◌≡◌, ℕ, zero, suc, ◌+◌, ◌==◌, max, Bool, true, false, ◌&&◌, ◌||◌, not, if◌then◌else◌, List, [], ◌∷◌, map, length, Option, Some, None, is_some}
 use Rattle.model.specs.Label.{Label, Sort, of_type, of_const, canonical, principal, adt}
 use Rattle.model.specs.Trees.{Trees, none, tree, leaf, is_sort, some_node}
 use Rattle.model.specs.Codes.{same}
@@ -9,6 +9,8 @@ use Rattle.infer_table.specs.declared.canonical.CanonicalVarKind.{CanonicalVarKi
 use Rattle.infer_table.specs.declared.canonical.CanonicalVarKind.TheVariants.{Ty, PlaceholderTy, Const, PlaceholderConst, Region}
 use Rattle.infer_table.specs.declared.goal.Certainty.TheVariants.{Yes, Maybe}
 use Rattle.infer_table.specs.declared.goal.MaybeCause.TheVariants.{Ambiguity}
+use Rattle.infer_table.specs.declared.goal.TypingMode.{TypingMode}
+use Rattle.infer_table.specs.declared.goal.TypingMode.TheVariants.{Coherence, PostAnalysis}
 use Rattle.canonical_forms.specs.Values.{Value}
 use Rattle.canonical_responses.specs.Responses.{AnswerTrees}
 use Rattle.goal_evaluator.specs.declared.candidate.CandidateSource.TheVariants.{BuiltinImpl}
@@ -18,13 +20,13 @@ use Rattle.goal_evaluator.specs.Candidate.{Spec}
 use Rattle.goal_evaluator.specs.Handler.{Handled, IsHandler}
 use Rattle.goal_evaluator.specs.Atoms.{same_certainty}
 use Rattle.goal_tables.specs.Instances.{put_in}
-use Rattle.goal_tables.specs.Content.{fact_of}
-use Rattle.goal_tables.specs.Frames.{Nested}
+use Rattle.goal_tables.specs.Content.{trait_of, fact_of}
+use Rattle.goal_tables.specs.Frames.{kinds_known, Nested}
 use Rattle.goal_tables.specs.Widths.{width, number_of}
 use Rattle.goal_tables.proofs.Beginning.{begin}
 use Rattle.frame_tables.specs.Tables.{frame_tables}
 use Rattle.frame_rules.specs.Listings.{Listing, listed}
-use Rattle.frame_rules.specs.Rules.{Bound, goal_of, Rule, RuleBook, AreRules, trait_of, FollowsByRule, HasProofByBook, is_variable_over}
+use Rattle.frame_rules.specs.Rules.{Bound, goal_of, Rule, RuleBook, AreRules, is_coinductive_trait, FollowsByRule, HasProofByBook, is_variable_over}
 
 -- ---- goals
 -- a goal without where-clauses, over variables of these kinds
@@ -109,10 +111,6 @@ abbrev pub candidates_of : RuleBook → Option Asked → List (Spec (workings fr
 candidates_of book None = unsure ∷ []
 candidates_of book (Some a) = specs_for (book.coinductive a.bound.trait) a book.rules
 
-abbrev pub kinds_of : Option Asked → List CanonicalVarKind
-kinds_of None = []
-kinds_of (Some a) = a.kinds
-
 -- ---- numbers
 abbrev pub width_of : Bound → ℕ
 width_of b = width (goal_of b).predicate
@@ -148,23 +146,41 @@ same_values vs ws = false
 abbrev pub same_answer : AnswerTrees → AnswerTrees → Bool
 same_answer a b = same_kinds a.kinds b.kinds && (same_certainty a.certainty b.certainty && (same_values a.values b.values && same a.constraints b.constraints))
 
+-- ---- where solutions are looked for
+-- a variable of these kinds stands for a placeholder
+abbrev pub has_placeholder : List CanonicalVarKind → Bool
+has_placeholder [] = false
+has_placeholder (PlaceholderTy ∷ ks) = true
+has_placeholder (PlaceholderConst ∷ ks) = true
+has_placeholder (k ∷ ks) = has_placeholder ks
+
+-- The goal is decided, or it has no placeholder. The placeholders of other goals need not stand in the reference: then two of them can
+-- have one value, and no table has that
+abbrev pub is_searched : CanonicalForm → Bool
+is_searched f = is_some (asked f) || not (has_placeholder (kinds_known f.kinds))
+
+-- in coherence the rules are those of one set of crates, and outside it no solutions are looked for
+abbrev pub world_of : TypingMode → CanonicalForm → Type 0
+world_of Coherence f = is_searched f ≡ true
+world_of PostAnalysis f = ⊥
+
 -- ---- the handler
--- whether the trait of the goal is coinductive stands in its predicate
-abbrev pub listing_of : RuleBook → CanonicalForm → Option Asked → Listing frame_tables
-listing_of book f o = record {
+-- a goal asked in a mode, with variables of these kinds; whether its trait is coinductive stands in its predicate
+abbrev pub listing_of : RuleBook → TypingMode → CanonicalForm → List CanonicalVarKind → Option Asked → Listing frame_tables
+listing_of book mode f kinds o = record {
   goal = λ v. fact_of (record { form = f; coinductive = false }) v;
-  begin = begin (kinds_of o);
+  begin = begin kinds;
   specs = candidates_of book o;
   Rule = FollowsByRule book;
-  World = Unit {0};
+  World = world_of mode f;
   Proves = λ w g. HasProofByBook book g;
-  coinductive = book.coinductive (trait_of f.goal.predicate);
+  coinductive = is_coinductive_trait book (trait_of f.goal.predicate);
   number = max (number_of (record { form = f; coinductive = false })) (number_of_rules book.rules);
 }
 
-abbrev pub handled_by : RuleBook → CanonicalForm → Handled frame_tables
-handled_by book f = listed frame_tables same_answer (listing_of book f (asked f))
+abbrev pub handled_by : RuleBook → TypingMode → CanonicalForm → Handled frame_tables
+handled_by book mode f = listed frame_tables same_answer (listing_of book mode f (kinds_known f.kinds) (asked f))
 
 -- whatever form a goal has
 abbrev pub HandlersAreLawful : Type 0
-HandlersAreLawful = (book : RuleBook) → AreRules book → (f : CanonicalForm) → IsHandler frame_tables (handled_by book f)
+HandlersAreLawful = (book : RuleBook) → AreRules book → (mode : TypingMode) (f : CanonicalForm) → IsHandler frame_tables (handled_by book mode f)

@@ -23,6 +23,11 @@ abbrev pub if_refused : {A : Type 0} → Option A → ℕ → List ℕ → List 
 if_refused None n ns = n ∷ ns
 if_refused (Some r) n ns = ns
 
+-- none where the answer is a refusal
+abbrev pub unless_refused : {A : Type 0} → Option A → List ℕ → List ℕ
+unless_refused None ns = []
+unless_refused (Some r) ns = ns
+
 module _ {Question Response : Type 0} (t : Tables Question Response) where
   abbrev pub nested_in : List (Spec (workings t)) → ℕ
   nested_in [] = 0
@@ -65,9 +70,13 @@ module _ {Question Response : Type 0} (t : Tables Question Response) where
     -- in every world a solution of the goal is one by some candidate
     pub cover : (w : l.World) (v : t.Values) → l.Proves w (l.goal v) → SomeOf (Realizes t (l.Proves w) l.begin v) l.specs
 
-  -- the next candidate, or the merge of all responses; refused candidates are ignored
+  -- the answer, and the candidates that it ignores: those that were refused, unless all were
+  abbrev pub answered_by : Option Response → List (Considered (workings t)) → Next (workings t)
+  answered_by a seen = answer a (unless_refused a (refused_numbers seen))
+
+  -- the next candidate, or the merge of all responses
   abbrev pub next_of : (Response → Response → Bool) → t.Table → List (Considered (workings t)) → List (Spec (workings t)) → Next (workings t)
-  next_of same begin seen [] = answer (merge_or_flounder t same begin (responses t seen)) (refused_numbers seen)
+  next_of same begin seen [] = answered_by (merge_or_flounder t same begin (responses t seen)) seen
   next_of same begin seen (s ∷ specs) = consider s
 
   abbrev pub listed : (Response → Response → Bool) → Listing → Handled t

@@ -1,5 +1,5 @@
 -- Lists of rules over trees, and what they prove.
-use Rattle.std.specs.Prelude.{◌≡◌, ◌⊎◌, ℕ, Bool, true, false, List, map}
+use Rattle.std.specs.Prelude.{◌≡◌, ◌⊎◌, ℕ, Bool, true, false, List, map, Option, Some, None}
 use Rattle.model.specs.Label.{Label, Sort, infer, param, placeholder, canonical, principal}
 use Rattle.model.specs.Trees.{Trees, none, tree}
 use Rattle.type_terms.specs.Made.{terms, is_made}
@@ -76,7 +76,7 @@ AreRules book = Every IsRule book.rules
 
 -- ---- what follows
 abbrev pub instance_of : Bool → List Trees → Bound → Fact
-instance_of proper values b = record { goal = goal_read (given values) (goal_of b); proper = proper }
+instance_of proper values b = record { trait = Some b.trait; goal = goal_read (given values) (goal_of b); proper = proper }
 
 -- the reference is the head, with some terms for the rule's variables, and the premises are the rule's with the same terms
 pub record IsBy (f : Fact) (premises : List Fact) (r : Rule) : Type 0 where
@@ -95,13 +95,14 @@ pub record IsClosed (f : Fact) : Type 0 where
   pub proper : f.proper ≡ true
   pub predicate : HasNoPlace f.goal.predicate
 
-abbrev pub trait_of : Trees → ℕ
-trait_of (tree (principal n i) c o) = i
-trait_of t = 0
-
 module _ (book : RuleBook) where
+  -- what is no reference is not coinductive
+  abbrev pub is_coinductive_trait : Option ℕ → Bool
+  is_coinductive_trait None = false
+  is_coinductive_trait (Some i) = book.coinductive i
+
   abbrev pub is_coinductive : Fact → Bool
-  is_coinductive f = book.coinductive (trait_of f.goal.predicate)
+  is_coinductive f = is_coinductive_trait f.trait
 
   -- improper references don't count
   abbrev pub FollowsByRule : Fact → List Fact → Type 0

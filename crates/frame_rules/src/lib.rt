@@ -32,16 +32,19 @@ pub fn listings_are_lawful<L: Listed>()
     ensures { IsHandler L.tables (listed L.tables L.same L.listing) }
 {}
 
-/// A list of rules over trees is a lawful handler of every goal, over the tables of frames: each rule of the goal's trait is a
-/// candidate, with its own variables behind the goal's, and the answer merges the responses. A definite yes follows by a rule; the
-/// rule's own unknowns are determined by the goal's, since they stand in its head; and each closed instance that has a proof by the
-/// rules is one by a candidate. A goal with where-clauses, or one that is not made as canonical forms are, is not decided.
+/// A list of rules over trees is a lawful handler of every goal in every mode, over the tables of frames: each rule of the goal's
+/// trait is a candidate, with its own variables behind the goal's, and the answer merges the responses; it ignores the candidates that
+/// were refused, unless all were. A definite yes follows by a rule; the rule's own unknowns are determined by the goal's, since they
+/// stand in its head; and in coherence each closed instance that has a proof by the rules is one by a candidate. A goal with
+/// where-clauses, or one that is not made as canonical forms are, is not decided; where it has placeholders too, nothing is said of
+/// its solutions.
 pub fn rule_handlers_are_lawful()
     ensures { HandlersAreLawful }
 {}
 
-/// Lists of rules over trees are lawful programs, if their traits are all coinductive or all are not: so what a search finds out with
-/// their frames is right.
+/// Lists of rules over trees are lawful programs, whichever of their traits are coinductive: so what a search finds out with their
+/// frames is right. A goal that is asked under itself by inductive steps is an overflow in coherence, and refused outside, where no
+/// solutions are looked for.
 pub fn rules_are_programs()
     ensures { RulesArePrograms }
 {}

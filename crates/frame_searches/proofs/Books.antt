@@ -71,7 +71,7 @@ books_are_programs = record {
         closed = λ g p u v w i j. elim i [ inl e ↦ (elim j [ inl f ↦ inl (f ∙ e) | inr n ↦ absurd n ]) | inr n ↦ absurd n ];
       };
   numbers = λ book mode g q h. omega arith;
-  worlds = λ book mode g q x. (x, λ f proves. proves);
+  worlds = λ book mode g heard q came e x. (x, λ f proves. proves);
   initial_yes = λ book mode g k y. first_yes k y;
   overflow_yes = λ book mode g y. cc;
   initial = λ book mode g k. first_silent book g k;

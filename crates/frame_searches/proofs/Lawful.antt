@@ -19,6 +19,7 @@ use Rattle.goal_evaluator.proofs.ListLaws.{Every-mono, SomeOf-mono}
 use Rattle.goal_evaluator.proofs.Ends.{is_bounded, yes_follows, covers_goal, keeps_number}
 use Rattle.frame_searches.specs.Programs.{Programs, SaysNothing, ArePrograms}
 use Rattle.frame_searches.specs.Searches.{replies_of, request_of, Handles, kind_of, is_yes_answer, number_in_answer, Asked, goal_in, asks, Follows, CoversGoal, meaning}
+use Rattle.frame_searches.proofs.Anyhow.{anyhow}
 use Rattle.frame_searches.proofs.Histories.{counted, came, done_returns, evaluates, answer_count-is, told-begin}
 
 module _ {Question Response : Type 0} (t : Tables Question Response) where
@@ -90,7 +91,7 @@ module _ {Question Response : Type 0} (t : Tables Question Response) (tables : I
     came_covering : (x : (handled w g).World) (last : Reply (Option Response)) (heard : List (Reply (Option Response))) → AreFair (last ∷ heard)
         → CameInOrder (Covers t ((handled w g).Proves x)) (frame w g) (replies_of (last ∷ heard))
     came_covering x = came_by (Covers t ((handled w g).Proves x)) (λ heard q a c e fair v proves.
-        let y = laws.worlds w g.0 g.1 q x in
+        let y = laws.worlds w g.0 g.1 (replies_of heard) q (anyhow (Covers t ((handled w g).Proves x)) (frame w g) (replies_of heard) c) e x in
         fair.covers y.0 v (y.1 ((p.handled w g.0 (p.goal_of q)).goal v) (subst (λ z. (handled w g).Proves x z) ((laws.systems w g.0).instance q v) proves)))
 
     came_within : (last : Reply (Option Response)) (heard : List (Reply (Option Response))) → AreFair (last ∷ heard) → CameInOrder (Fair t (handled w g)) (frame w g) (replies_of (last ∷ heard))

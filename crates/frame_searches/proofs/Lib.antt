@@ -1,3 +1,4 @@
+pub mod Anyhow
 pub mod Histories
 pub mod Lawful
 pub mod Orders

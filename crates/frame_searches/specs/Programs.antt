@@ -5,6 +5,8 @@ use Rattle.search_paths.specs.declared.path_kind.PathKind.TheVariants.{Coinducti
 use Rattle.goal_evaluator.specs.Table.{Tables}
 use Rattle.goal_evaluator.specs.Law.{IsYes}
 use Rattle.goal_evaluator.specs.Handler.{Handled, IsHandler}
+use Rattle.goal_evaluator.specs.History.{evaluate, asks, CameInOrder}
+use Rattle.goal_evaluator.specs.Promises.{frame_of_goal, Anything, History}
 use Rattle.goal_evaluator.specs.System.{System, IsSystem}
 
 module _ {Question Response : Type 0} (t : Tables Question Response) where
@@ -55,8 +57,10 @@ module _ {Question Response : Type 0} (t : Tables Question Response) where
       -- a question of no greater number than a goal's asks a goal of no greater number
       pub numbers : (w : p.World) (mode : p.Mode) (g : p.Goal) (q : Question) → t.number_of q ≤ (p.handled w mode g).number
           → (p.handled w mode (p.goal_of q)).number ≤ (p.handled w mode g).number
-      -- the solutions of nested goals are looked for wherever those of the goal are
-      pub worlds : (w : p.World) (mode : p.Mode) (g : p.Goal) (q : Question) → ProvesNoMore (p.handled w mode g) (p.handled w mode (p.goal_of q))
+      -- the solutions of the goals that a goal's frame asks are looked for wherever those of the goal are
+      pub worlds : (w : p.World) (mode : p.Mode) (g : p.Goal) (heard : History t (p.handled w mode g)) (q : Question)
+          → CameInOrder (Anything t (p.handled w mode g)) (frame_of_goal t (p.handled w mode g)) heard → asks (frame_of_goal t (p.handled w mode g)) heard ≡ evaluate q
+          → ProvesNoMore (p.handled w mode g) (p.handled w mode (p.goal_of q))
       -- only a coinductive path is answered by a definite yes
       pub initial_yes : (w : p.World) (mode : p.Mode) (g : p.Goal) (k : PathKind) → IsYes t (p.initial w mode g k) → k ≡ Coinductive
       pub overflow_yes : (w : p.World) (mode : p.Mode) (g : p.Goal) → IsYes t (p.overflow w mode g) → ⊥

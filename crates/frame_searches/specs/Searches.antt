@@ -52,6 +52,9 @@ pub record Handles (C I R F World Goal Answer : Type 0) : Type 1 where
   pub answer_of : C → R → Answer
   -- the frame was started for the goal and has had these replies, the newest first
   pub HasHeard : C → Goal → List (Reply Answer) → F → Type 0
+  -- what a context holds beside these
+  pub Held : Type 0
+  pub Holds : C → Held → Type 0
 
 module _ {Question Response : Type 0} (t : Tables Question Response) where
   -- the step to a question
@@ -108,6 +111,8 @@ module _ {Question Response : Type 0} (t : Tables Question Response) where
         IsResult = handles.IsResult;
         answer_of = handles.answer_of;
         HasHeard = handles.HasHeard;
+        Held = handles.Held;
+        Holds = handles.Holds;
         asks = asks;
         is_yes = is_yes_answer;
         is_ambiguous = is_ambiguous_answer;

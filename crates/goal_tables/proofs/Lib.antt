@@ -4,6 +4,7 @@ pub mod Heads
 pub mod Steps
 pub mod Measures
 pub mod Sound
+pub mod Traits
 pub mod Questions
 pub mod Whole
 pub mod Resolved

@@ -1,5 +1,5 @@
 -- An instance of a canonical question is an instance of the goal that was asked.
-use Rattle.std.proofs.Common.{◌≡◌, ℕ, zero, suc, Bool, true, false, ◌&&◌, ◌||◌, List, [], ◌∷◌, map, refl, sym, ◌∙◌, ap, subst, Some, None, if◌then◌else◌, is_some, inl, inr}
+use Rattle.std.proofs.Common.{◌≡◌, ℕ, zero, suc, Bool, true, false, ◌&&◌, ◌||◌, List, [], ◌∷◌, map, refl, sym, ◌∙◌, ap, subst, Option, Some, None, if◌then◌else◌, is_some, inl, inr}
 use Rattle.std.specs.Prelude.{IsSome}
 use Rattle.model.specs.Label.{Label, Sort, of_type, of_const, of_lifetime, infer, param, placeholder, canonical, bound, static, dynamic, principal, auto_trait}
 use Rattle.model.specs.Trees.{Trees, none, tree, leaf, ◌+++◌, erase_label, sort_of, is_sort, is_a, placed, is_no_tree}
@@ -15,6 +15,7 @@ use Rattle.goal_tables.specs.Content.{Terms, Fact, given, fits, fits_kind, stand
 use Rattle.goal_tables.specs.Equations.{IsValue}
 use Rattle.goal_tables.specs.Frames.{is_good, FrameTable, Allows, Nested, label_at, label_of_sort, slot_at, goal_in, InstanceOfQuestion}
 use Rattle.goal_tables.proofs.Made.{left, right, made-ordinary, no-tree, IsLast, last-bound, last-trait, never-dynamic, never-dynamic-bound, never-principal}
+use Rattle.goal_tables.proofs.Traits.{trait-of-question}
 use Rattle.goal_tables.proofs.Reading.{append-none, read-leaf, read-replace, EachLabel, Carries, read-relabeled, IsPutIn, read-put}
 
 false-true : false ≡ true → ⊥
@@ -378,8 +379,8 @@ read-form s h g e p =
     same-goal : (a b c d : Trees) → a ≡ b → c ≡ d → ◌≡◌ {A = GoalTrees} (record { environment = a; predicate = c }) (record { environment = b; predicate = d })
     same-goal a b c d x y = cc
 
-same-fact : (g h : GoalTrees) (a b : Bool) → g ≡ h → a ≡ b → ◌≡◌ {A = Fact} (record { goal = g; proper = a }) (record { goal = h; proper = b })
-same-fact g h a b x y = cc
+same-fact : (i j : Option ℕ) (g h : GoalTrees) (a b : Bool) → i ≡ j → g ≡ h → a ≡ b → ◌≡◌ {A = Fact} (record { trait = i; goal = g; proper = a }) (record { trait = j; goal = h; proper = b })
+same-fact i j g h a b w x y = cc
 
 same-goals : (a b c d : Trees) → a ≡ b → c ≡ d → ◌≡◌ {A = GoalTrees} (record { environment = a; predicate = c }) (record { environment = b; predicate = d })
 same-goals a b c d x y = cc
@@ -402,6 +403,6 @@ instance_of_question t n s a =
     let good = is_good t.kinds t.content.ty_vars t.content.const_vars in
     let clean = λ (x : Trees). clean-resolved good (excludes-canonical t) t.content.bindings t.made.table.values (put_in (slot_at t.labels) x)
     (put-clean t.labels (labels-clean good (excludes-canonical t) t.labels t.made.leaves) x) in
-    same-fact _ _ _ _
+    same-fact _ _ _ _ _ _ (trait-of-question t n)
     (read-form s a.sorted (goal_in t n) (clean n.goal.environment) (clean n.goal.predicate) ∙ read-goal-in t n s a)
     (ap (λ b. s.proper && b) (fits-leaves s a.sorted (goal_leaves (goal_in t n))) ∙ and-true s.proper)

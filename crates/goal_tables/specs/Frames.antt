@@ -12,7 +12,7 @@ use Rattle.canonical_forms.specs.Values.{Value}
 use Rattle.goal_evaluator.specs.Lists.{Every}
 use Rattle.goal_tables.specs.Instances.{read_with, goal_read, put_in, goal_put_in, default_label, of_sort, is_place, as_place, first_term, other_terms, term_at}
 use Rattle.type_terms.specs.Made.{terms, is_made}
-use Rattle.goal_tables.specs.Content.{Values, fits, given, Fact, Question, fact_of, Terms, reading_of}
+use Rattle.goal_tables.specs.Content.{Values, fits, given, trait_of, Fact, Question, fact_of, Terms, reading_of}
 use Rattle.goal_tables.specs.Equations.{Hold, IsMade}
 
 -- ---- labels
@@ -20,6 +20,12 @@ abbrev pub kind_at : List CanonicalVarKind → ℕ → Option CanonicalVarKind
 kind_at [] i = None
 kind_at (k ∷ ks) zero = Some k
 kind_at (k ∷ ks) (suc i) = kind_at ks i
+
+-- the kinds that are known
+abbrev pub kinds_known : List (Option CanonicalVarKind) → List CanonicalVarKind
+kinds_known [] = []
+kinds_known (None ∷ ks) = kinds_known ks
+kinds_known (Some k ∷ ks) = k ∷ kinds_known ks
 
 abbrev pub is_placeholder_of : Sort → Option CanonicalVarKind → Bool
 is_placeholder_of of_type (Some PlaceholderTy) = true
@@ -129,7 +135,7 @@ abbrev pub question : FrameTable → Nested → Question
 question t n = record { form = canonical_form (goal_in t n); coinductive = n.coinductive }
 
 abbrev pub fact : Nested → Terms → Fact
-fact n s = record { goal = goal_read (given s.slots) n.goal; proper = s.proper }
+fact n s = record { trait = trait_of n.goal.predicate; goal = goal_read (given s.slots) n.goal; proper = s.proper }
 
 -- what the terms give to the variables of the question
 abbrev pub values_at : FrameTable → Nested → Terms → Values
