@@ -1,5 +1,5 @@
 -- How the evaluation of an open candidate ended, by its contract.
-use Rattle.std.proofs.Common.{◌≡◌, List, subst, Option, Result, Ok, Err}
+use Rattle.std.proofs.Common.{◌≡◌, List, subst, Option, Ok, Err}
 use Rattle.type_terms.specs.Terms.{Entry}
 use Rattle.infer_table.specs.declared.canonical.CanonicalVarKind.{CanonicalVarKind}
 use Rattle.infer_table.specs.declared.goal.TypingMode.{TypingMode}

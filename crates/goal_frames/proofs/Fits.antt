@@ -1,5 +1,5 @@
 -- The answers of candidates are well-formed.
-use Rattle.std.proofs.Common.{◌≡◌, ℕ, List, [], ◌∷◌, refl, subst, Bool, Option, Some, None}
+use Rattle.std.proofs.Common.{◌≡◌, List, [], ◌∷◌, refl, subst, Bool, Option, Some, None}
 use Rattle.model.specs.Label.{Label}
 use Rattle.infer_table.specs.Certainties.{joined}
 use Rattle.infer_table.specs.declared.canonical.CanonicalVarKind.{CanonicalVarKind}
@@ -8,7 +8,7 @@ use Rattle.infer_table.specs.declared.goal.TypingMode.{TypingMode}
 use Rattle.canonical_responses.specs.Responses.{AnswerTrees}
 use Rattle.goal_evaluator.specs.declared.TheConstants.{FIXPOINT_STEP_LIMIT}
 use Rattle.goal_evaluator.specs.Candidate.{Spec, answered, equated, candidate}
-use Rattle.goal_evaluator.specs.Replays.{Run, ready, waits, run}
+use Rattle.goal_evaluator.specs.Replays.{Run, ready, run}
 use Rattle.goal_evaluator.specs.Rounds.{Rounds, rounds}
 use Rattle.goal_evaluator.specs.Script.{Script, done, ask}
 use Rattle.goal_evaluator.specs.Table.{operations, workings}

@@ -1,5 +1,5 @@
 -- What a frame does as its handler says.
-use Rattle.std.proofs.Common.{◌≡◌, ℕ, suc, List, [], ◌∷◌, map, refl, sym, ◌∙◌, ap, subst, Bool, Option, Some, None}
+use Rattle.std.proofs.Common.{◌≡◌, ℕ, List, [], map, sym, ◌∙◌, ap, subst, Option, Some, None}
 use Rattle.type_terms.specs.Terms.{Entry, Keeps}
 use Rattle.infer_table.specs.declared.goal.TypingMode.{TypingMode}
 use Rattle.canonical_forms.specs.declared.response.CanonicalResponse.{CanonicalResponse}
@@ -10,16 +10,16 @@ use Rattle.goal_evaluator.specs.declared.candidate.Considered as InCode
 use Rattle.goal_evaluator.specs.declared.candidate.HandlerStep.{HandlerStep}
 use Rattle.goal_evaluator.specs.declared.candidate.HandlerStep.TheVariants as Step
 use Rattle.goal_evaluator.specs.declared.TheConstants.{FIXPOINT_STEP_LIMIT}
-use Rattle.goal_evaluator.specs.Candidate.{Spec, Considered, Next, consider, answer, IsHistory, goes_on}
-use Rattle.goal_evaluator.specs.Frame.{Frame, considers, answers}
+use Rattle.goal_evaluator.specs.Candidate.{Considered, Next, IsHistory, goes_on}
+use Rattle.goal_evaluator.specs.Frame.{Frame}
 use Rattle.goal_evaluator.specs.Handler.{Handled}
-use Rattle.goal_evaluator.specs.History.{Request, Position, between, request}
+use Rattle.goal_evaluator.specs.History.{between, request}
 use Rattle.goal_evaluator.specs.Readings.{ConsideredHeld}
 use Rattle.goal_evaluator.specs.Table.{workings}
 use Rattle.goal_tables.specs.Content.{Question}
 use Rattle.frame_tables.specs.Tables.{frame_tables}
 use Rattle.goal_frames.specs.Readings.{Shown, Shows, shown_by, spec_read, next_read}
-use Rattle.goal_frames.specs.Places.{Standing, Stands, IsBetween, IsNext, with_result, IsEntering, IsIgnoring, candidate_of, frame_with, entering}
+use Rattle.goal_frames.specs.Places.{Standing, Stands, IsBetween, IsEntering, IsIgnoring, frame_with, entering}
 use Rattle.goal_frames.specs.Frames.{IsRequest}
 use Rattle.goal_frames.proofs.Later.{shown-later}
 

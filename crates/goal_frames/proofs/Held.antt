@@ -1,12 +1,9 @@
 -- The handles of a frame stay an interner's while it grows.
-use Rattle.std.proofs.Common.{◌≡◌, List, [], ◌∷◌, map, refl, sym, ap, subst, Bool, Option, Some, None}
+use Rattle.std.proofs.Common.{List}
 use Rattle.type_terms.specs.Terms.{Entry, Keeps}
 use Rattle.canonical_forms.specs.declared.input.CanonicalInput.{CanonicalInput}
 use Rattle.canonical_forms.proofs.Numbers.{goal-held-later}
-use Rattle.evaluation.specs.Evaluating.{replies_trees}
 use Rattle.evaluation.proofs.Contexts.{reply-later, replies-later}
-use Rattle.goal_tables.specs.Content.{Question}
-use Rattle.canonical_responses.specs.Responses.{AnswerTrees}
 use Rattle.goal_evaluator.specs.Handler.{Handled}
 use Rattle.frame_tables.specs.Tables.{frame_tables}
 use Rattle.goal_frames.specs.Readings.{Shown}

@@ -1,11 +1,9 @@
 -- What frames hold stays the same while the interner grows.
-use Rattle.std.proofs.Common.{◌≡◌, List, [], ◌∷◌, map, refl, sym, ap, subst, Bool, true, Option, Some, None}
-use Rattle.std.specs.Prelude.{option_map}
+use Rattle.std.proofs.Common.{◌≡◌, List, [], ◌∷◌, map, refl, sym, ap, subst, Bool, Option, Some, None}
 use Rattle.model.specs.Label.{Label}
 use Rattle.model.specs.Trees.{Trees}
 use Rattle.type_terms.specs.Terms.{Entry, Keeps}
 use Rattle.infer_table.specs.Canonical.{GoalTrees}
-use Rattle.infer_table.specs.Constraints.{constraints_trees}
 use Rattle.infer_table.specs.Kept.{constraints-kept}
 use Rattle.infer_table.specs.declared.canonical.CanonicalVarKind.{CanonicalVarKind}
 use Rattle.infer_table.specs.declared.goal.Certainty.{Certainty}
@@ -13,13 +11,12 @@ use Rattle.infer_table.specs.declared.terms.Equation as Code
 use Rattle.canonical_forms.specs.declared.goal.Goal.{Goal}
 use Rattle.canonical_forms.specs.declared.response.CanonicalResponse.{CanonicalResponse}
 use Rattle.canonical_forms.specs.Goals.{GoalHeld, goal_trees}
-use Rattle.canonical_forms.specs.Values.{Value, value_of}
-use Rattle.canonical_forms.proofs.Numbers.{goal-held-later, goal-trees-later}
-use Rattle.canonical_responses.specs.Responses.{AnswerTrees, answer_trees}
+use Rattle.canonical_forms.specs.Values.{Value}
+use Rattle.canonical_forms.proofs.Numbers.{goal-trees-later}
+use Rattle.canonical_responses.specs.Responses.{AnswerTrees}
 use Rattle.canonical_responses.proofs.ConstraintLists.{constraints-later}
 use Rattle.canonical_responses.proofs.Values.{value-later}
-use Rattle.evaluation.specs.Evaluating.{replies_trees}
-use Rattle.evaluation.proofs.Contexts.{reply-later, replies-later}
+use Rattle.evaluation.proofs.Contexts.{reply-later}
 use Rattle.evaluation.proofs.LaterTrees.{answer-trees-later}
 use Rattle.goal_evaluator.specs.declared.candidate.CandidateSource.{CandidateSource}
 use Rattle.goal_evaluator.specs.declared.candidate.CandidateSpec.{CandidateSpec}

@@ -7,3 +7,5 @@ pub mod KnownKinds
 pub mod Fits
 pub mod Running
 pub mod Ending
+pub mod Programs
+pub mod Falling

@@ -1,13 +1,12 @@
 -- How a frame moves from place to place with the replies that it gets.
-use Rattle.std.proofs.Common.{◌≡◌, ℕ, zero, suc, ◌+◌, ◌<◌, Bool, List, [], ◌∷◌, ◌++◌, length, map, drop, refl, sym, ◌∙◌, ap, subst, Option, Some, None, arith}
-use Rattle.std.specs.Prelude.{reverse}
+use Rattle.std.proofs.Common.{◌≡◌, ℕ, zero, suc, ◌+◌, ◌<◌, List, [], ◌∷◌, ◌++◌, length, map, drop, refl, sym, ◌∙◌, ap, subst, Option, arith}
 use Rattle.std.proofs.lemmas.List.{reverse-append}
 use Rattle.canonical_responses.specs.Responses.{AnswerTrees}
 use Rattle.goal_evaluator.specs.declared.candidate.CandidateSource.{CandidateSource}
-use Rattle.goal_evaluator.specs.Candidate.{Spec, Considered, Next, consider, answer, used_numbers}
-use Rattle.goal_evaluator.specs.Frame.{Frame, considers, answers, Finished, numbers}
+use Rattle.goal_evaluator.specs.Candidate.{Spec, Considered}
+use Rattle.goal_evaluator.specs.Frame.{Frame, answers}
 use Rattle.goal_evaluator.specs.Handler.{Handled, IsHandler}
-use Rattle.goal_evaluator.specs.History.{Reply, begin, entered, ignored, evaluated, finished, Position, between, inside, told, position, IsReply, CameInOrder}
+use Rattle.goal_evaluator.specs.History.{Reply, begin, entered, ignored, evaluated, finished, between, inside, told, position, IsReply}
 use Rattle.goal_evaluator.specs.Lists.{IsNoneOf}
 use Rattle.goal_evaluator.specs.Promises.{frame_of_goal, Anything}
 use Rattle.goal_evaluator.specs.Script.{Script, done, ask}
@@ -15,7 +14,7 @@ use Rattle.goal_evaluator.specs.Table.{workings}
 use Rattle.goal_tables.specs.Content.{Question}
 use Rattle.frame_tables.specs.Tables.{frame_tables}
 use Rattle.goal_frames.specs.Readings.{Shown, shown}
-use Rattle.goal_frames.specs.Places.{after, Heard, Standing, candidate_of, frame_with, Past, IsBetween, IsNext, with_result, IsEntering, IsInside, IsFinishing, IsIgnoring}
+use Rattle.goal_frames.specs.Places.{after, Heard, Standing, candidate_of, frame_with, IsBetween, with_result, IsEntering, IsInside, IsFinishing, IsIgnoring}
 
 -- ---- scripts after answers
 -- the script after one more answer
@@ -57,13 +56,18 @@ module _ (h : Handled frame_tables) where
   enters xs s p e = record {
     next = e.next;
     told = [];
+    each = refl;
     at = ap (told entered) e.at ∙ ap (λ c. inside e.next.past.heard [] c (with_result h e.next)) (sym (after-none (candidate_of h s)));
   }
 
+  length-last : (replies : List Answer) (a : Answer) → length (replies ++ a ∷ []) ≡ suc (length replies)
+  length-last [] a = refl
+  length-last (b ∷ replies) a = ap suc (length-last replies a)
+
   -- an answer leads on in the candidate's script
   answer-leads : (heard : Heard) (said : List (Question × Answer)) (s : Asking) (go : Answer → ℕ → Frame Question Answer) (a : Answer) → IsDueAt (inside heard said s go) (evaluated a)
-      → (more : List (Question × Answer)) × (told (evaluated a) (inside heard said s go) ≡ inside heard more (answered_by a s) go)
-  answer-leads heard said (ask q k) go a r = ((q, a) ∷ said, refl)
+      → (more : List (Question × Answer)) × (length more ≡ suc (length said)) × (told (evaluated a) (inside heard said s go) ≡ inside heard more (answered_by a s) go)
+  answer-leads heard said (ask q k) go a r = ((q, a) ∷ said, refl, refl)
   answer-leads heard said (done b) go a r = absurd r
 
   pub hears : (xs : List Shown) (s : Spec (workings frame_tables)) (replies : List Answer) (a : Answer) (p : Standing) → IsInside h xs s replies p → IsDueAt p (evaluated a)
@@ -73,7 +77,8 @@ module _ (h : Handled frame_tables) where
       record {
         next = i.next;
         told = on.0;
-        at = ap (told (evaluated a)) i.at ∙ on.1 ∙ ap (λ c. inside i.next.past.heard on.0 c (with_result h i.next)) (sym (after-more (candidate_of h s) replies a));
+        each = on.1 ∙ ap suc i.each ∙ sym (length-last replies a);
+        at = ap (told (evaluated a)) i.at ∙ on.2 ∙ ap (λ c. inside i.next.past.heard on.0 c (with_result h i.next)) (sym (after-more (candidate_of h s) replies a));
       }
 
   -- there is room for the next candidate

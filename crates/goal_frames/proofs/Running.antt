@@ -1,5 +1,5 @@
 -- What comes of an open candidate, evaluated in code over the replies to its questions.
-use Rattle.std.proofs.Common.{◌≡◌, ℕ, List, [], ◌∷◌, map, refl, sym, ◌∙◌, ap, subst, Bool, Option, Some, None}
+use Rattle.std.proofs.Common.{◌≡◌, List, [], ◌∷◌, map, refl, sym, ◌∙◌, ap, subst, Bool, Option, Some, None}
 use Rattle.model.specs.Label.{Label}
 use Rattle.type_terms.specs.Terms.{Entry}
 use Rattle.infer_table.specs.declared.canonical.CanonicalVarKind.{CanonicalVarKind}
@@ -9,12 +9,11 @@ use Rattle.canonical_forms.specs.declared.goal.Goal.{Goal}
 use Rattle.canonical_forms.specs.declared.response.CanonicalResponse.{CanonicalResponse}
 use Rattle.canonical_forms.specs.Goals.{goal_trees}
 use Rattle.canonical_responses.specs.Responses.{AnswerTrees, answer_trees}
-use Rattle.evaluation.specs.Context.{nested_goal}
 use Rattle.evaluation.specs.Ends.{IsRefused, Awaits, EndsIn}
 use Rattle.evaluation.specs.Evaluating as InCode
 use Rattle.evaluation.specs.Evaluating.{NestedTrees, nested_trees, goals_trees, replies_trees, evaluation}
 use Rattle.candidates.specs.Frames.{begun}
-use Rattle.candidates.specs.Candidate.{SpecTrees, spec_trees, equations_trees, premises_trees, candidate}
+use Rattle.candidates.specs.Candidate.{spec_trees, equations_trees, premises_trees, candidate}
 use Rattle.goal_evaluator.specs.declared.TheConstants.{FIXPOINT_STEP_LIMIT}
 use Rattle.goal_evaluator.specs.declared.candidate.CandidateSpec.{CandidateSpec}
 use Rattle.goal_evaluator.specs.declared.goal.GoalSource.{GoalSource}
@@ -22,15 +21,13 @@ use Rattle.goal_evaluator.specs.Candidate.{Spec}
 use Rattle.goal_evaluator.specs.Candidate as Frames
 use Rattle.goal_evaluator.specs.Correspondences.{AreAnswers, Answers, Runs}
 use Rattle.goal_evaluator.specs.Handler.{Handled}
-use Rattle.goal_evaluator.specs.History.{Position, inside, request, evaluate, finish_candidate}
+use Rattle.goal_evaluator.specs.History.{inside, request, evaluate, finish_candidate}
 use Rattle.goal_evaluator.specs.Lists.{Every, Pairwise}
-use Rattle.goal_evaluator.specs.Readings.{is_coinductive_step}
 use Rattle.goal_evaluator.specs.Replays.{Run, ready, waits, run}
 use Rattle.goal_evaluator.specs.Script.{Script, done, ask}
 use Rattle.goal_evaluator.specs.Table.{operations, workings}
 use Rattle.goal_tables.specs.Content.{Question}
 use Rattle.goal_tables.specs.Answers.{IsWellFormed}
-use Rattle.goal_tables.specs.Frames.{Nested, Equation}
 use Rattle.goal_tables.proofs.Beginning.{begin}
 use Rattle.frame_tables.specs.Tables.{frame_tables}
 use Rattle.frame_evaluation.specs.Fitting.{IsGoalOver}

@@ -1,5 +1,5 @@
 -- A frame's steps: from where it stood, by the reply that is due, to where its position is then.
-use Rattle.std.proofs.Common.{◌≡◌, ℕ, suc, ◌<◌, List, [], ◌∷◌, ◌++◌, length, map, drop, refl, sym, ◌∙◌, ap, subst, Bool, Option, Some, None, Result, Ok, Err, IfOk}
+use Rattle.std.proofs.Common.{◌≡◌, ℕ, suc, ◌<◌, List, [], ◌∷◌, ◌++◌, length, map, drop, refl, sym, ap, subst, Option, Result, Ok, Err, IfOk}
 use Rattle.type_terms.specs.Terms.{Entry}
 use Rattle.canonical_forms.specs.declared.input.CanonicalInput.{CanonicalInput}
 use Rattle.canonical_forms.specs.declared.response.CanonicalResponse.{CanonicalResponse}
@@ -15,11 +15,11 @@ use Rattle.goal_evaluator.specs.Handler.{Handled, IsHandler}
 use Rattle.goal_evaluator.specs.Frame.{Frame, considers, answers}
 use Rattle.goal_evaluator.specs.Script.{Script, done, ask}
 use Rattle.goal_tables.specs.Content.{Question}
-use Rattle.goal_evaluator.specs.History.{Reply, begin, entered, ignored, evaluated, finished, between, inside, request, told, position, IsReply, CameInOrder}
+use Rattle.goal_evaluator.specs.History.{Reply, begin, entered, ignored, evaluated, finished, between, inside, request, position, IsReply, CameInOrder}
 use Rattle.goal_evaluator.specs.Promises.{frame_of_goal, Anything}
 use Rattle.frame_tables.specs.Tables.{frame_tables}
 use Rattle.goal_frames.specs.Readings.{Shown, spec_read, result_read, shown_by}
-use Rattle.goal_frames.specs.Places.{Heard, Standing, Stands, with_result, candidate_of, IsBetween, IsEntering, IsInside, IsFinishing, IsIgnoring, place_read}
+use Rattle.goal_frames.specs.Places.{Heard, Standing, Stands, with_result, candidate_of, IsBetween, IsInside, IsIgnoring, place_read}
 use Rattle.goal_frames.specs.Frames.{History, HasCome, HasHeard, FrameHeld, IsRequest, Steps, reply_read}
 use Rattle.goal_frames.specs.declared.frame.GoalFrame.{GoalFrame}
 use Rattle.goal_frames.specs.declared.frame.Place.{Place}
@@ -71,6 +71,15 @@ module _ (h : Handled frame_tables) where
       let there = goes heard b o in
       (record { held = held; came = has-come new after.considered.items after.place (reply ∷ heard) o there.1 }, there.0)
 
+  -- a reply that came in order was due
+  pub due-here : (said : History) → InOrder said → (reply : Reply Answer) → InOrder (reply ∷ said) → IsDueAt (place-of said) reply
+  due-here [] i reply o = absurd i
+  due-here (x ∷ said) i begin o = o.0
+  due-here (x ∷ said) i entered o = o.0
+  due-here (x ∷ said) i ignored o = o.0
+  due-here (x ∷ said) i (evaluated a) o = o.0
+  due-here (x ∷ said) i (finished n) o = o.0
+
   module _ (es : List Entry) (f : GoalFrame) (heard : History) (b : HasHeard es h f heard) where
     abbrev Come : Place → Type 0
     Come place = HasCome es h f.considered.items place heard
@@ -111,14 +120,6 @@ module _ (h : Handled frame_tables) where
       first-is-begin [] n (Replied.Finished m) o = absurd o.1
       first-is-begin [] n Replied.Ignored o = absurd o.1
       first-is-begin (x ∷ said) n reply o = absurd (cc)
-
-    due-here : (said : History) → InOrder said → (reply : Reply Answer) → InOrder (reply ∷ said) → IsDueAt (place-of said) reply
-    due-here [] i reply o = absurd i
-    due-here (x ∷ said) i begin o = o.0
-    due-here (x ∷ said) i entered o = o.0
-    due-here (x ∷ said) i ignored o = o.0
-    due-here (x ∷ said) i (evaluated a) o = o.0
-    due-here (x ∷ said) i (finished n) o = o.0
 
     pub entering-waits : (s : CandidateSpec) → f.place ≡ InCode.Entering s → (reply : InReply.Reply (Option CanonicalResponse)) → InOrder (reply_read es reply ∷ heard) → reply ≡ Replied.Entered
     entering-waits s e reply o =

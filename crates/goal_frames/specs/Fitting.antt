@@ -1,5 +1,5 @@
 -- What a handler's candidates and answers are made of.
-use Rattle.std.specs.Prelude.{◌≡◌, true, List, Option, Some, None}
+use Rattle.std.specs.Prelude.{List, Option, Some, None}
 use Rattle.model.specs.Label.{Label}
 use Rattle.type_terms.specs.Terms.{Entry}
 use Rattle.infer_table.specs.declared.canonical.CanonicalVarKind.{CanonicalVarKind}
@@ -9,7 +9,7 @@ use Rattle.canonical_forms.specs.declared.goal.Goal.{Goal}
 use Rattle.canonical_forms.specs.declared.response.CanonicalResponse.{CanonicalResponse}
 use Rattle.canonical_forms.specs.Goals.{goal_trees}
 use Rattle.canonical_forms.specs.Values.{value_of}
-use Rattle.canonical_responses.specs.Responses.{AnswerTrees, answer_trees}
+use Rattle.canonical_responses.specs.Responses.{answer_trees}
 use Rattle.goal_evaluator.specs.Lists.{Every}
 use Rattle.goal_evaluator.specs.declared.candidate.CandidateSpec.{CandidateSpec}
 use Rattle.goal_evaluator.specs.declared.candidate.Considered.{Considered}

@@ -1,5 +1,5 @@
 -- What frames in code have heard, and what they ask.
-use Rattle.std.specs.Prelude.{◌≡◌, ℕ, List, [], ◌∷◌, map, Option}
+use Rattle.std.specs.Prelude.{◌≡◌, List, [], ◌∷◌, map, Option}
 use Rattle.type_terms.specs.Terms.{Entry}
 use Rattle.infer_table.specs.declared.goal.TypingMode.{TypingMode}
 use Rattle.canonical_forms.specs.declared.input.CanonicalInput.{CanonicalInput}

@@ -1,5 +1,5 @@
 -- Where a frame stands.
-use Rattle.std.specs.Prelude.{◌≡◌, ℕ, suc, ◌+◌, Bool, List, [], ◌∷◌, length, map, drop, Option}
+use Rattle.std.specs.Prelude.{◌≡◌, ℕ, suc, ◌+◌, Bool, List, [], ◌∷◌, length, drop, Option}
 use Rattle.type_terms.specs.Terms.{Entry}
 use Rattle.canonical_responses.specs.Responses.{AnswerTrees}
 use Rattle.evaluation.specs.Evaluating.{replies_trees}
@@ -13,7 +13,7 @@ use Rattle.goal_evaluator.specs.Script.{Script, done, ask}
 use Rattle.goal_evaluator.specs.Table.{workings}
 use Rattle.goal_tables.specs.Content.{Question}
 use Rattle.frame_tables.specs.Tables.{frame_tables}
-use Rattle.goal_frames.specs.Readings.{Shown, Shows, spec_read, result_read, shown_by}
+use Rattle.goal_frames.specs.Readings.{Shown, Shows, spec_read, result_read}
 use Rattle.goal_frames.specs.declared.frame.Place.{Place}
 use Rattle.goal_frames.specs.declared.frame.Place.TheVariants as InCode
 
@@ -99,6 +99,8 @@ module _ (h : Handled frame_tables) where
   pub record IsInside (xs : List Shown) (s : Spec (workings frame_tables)) (replies : List (Option AnswerTrees)) (p : Standing) : Type 0 where
     pub next : IsNext xs s
     pub told : List (Question × Option AnswerTrees)
+    -- one for each reply
+    pub each : length told ≡ length replies
     pub at : p ≡ inside next.past.heard told (after (candidate_of s) replies) (with_result next)
 
   -- and it waits at a question

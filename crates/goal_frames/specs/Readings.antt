@@ -1,7 +1,6 @@
 -- How what handlers and frames hold in code is read over the tables of frames: as the trees that it stands for.
-use Rattle.std.specs.Prelude.{◌≡◌, ℕ, Bool, List, [], ◌∷◌, map, reverse, Option, Some, None, option_map}
+use Rattle.std.specs.Prelude.{◌≡◌, ℕ, Bool, List, [], map, reverse, Option, Some, None, option_map}
 use Rattle.type_terms.specs.Terms.{Entry}
-use Rattle.infer_table.specs.declared.canonical.CanonicalVarKind.{CanonicalVarKind}
 use Rattle.infer_table.specs.declared.terms.Equation as Code
 use Rattle.infer_table.specs.Constraints.{constraints_trees}
 use Rattle.canonical_forms.specs.declared.goal.Goal.{Goal}
@@ -19,6 +18,7 @@ use Rattle.goal_evaluator.specs.Candidate.{Spec, Considered, Next, consider, ans
 use Rattle.goal_evaluator.specs.Readings.{is_coinductive_step}
 use Rattle.goal_evaluator.specs.Table.{workings}
 use Rattle.goal_tables.specs.Frames.{Nested, Equation}
+pub use Rattle.goal_tables.specs.Frames.{kinds_known}
 use Rattle.frame_tables.specs.Tables.{frame_tables}
 
 abbrev pub equation_read : List Entry → Code.Equation → Equation
@@ -61,9 +61,3 @@ shown_by es d = record { source = d.source; result = result_read es d.result; nu
 -- the list, the oldest first, shows this history, the newest first
 abbrev pub Shows : List Shown → List (Considered (workings frame_tables)) → Type 0
 Shows xs seen = xs ≡ reverse (map shown seen)
-
--- the kinds that are known
-abbrev pub kinds_known : List (Option CanonicalVarKind) → List CanonicalVarKind
-kinds_known [] = []
-kinds_known (None ∷ ks) = kinds_known ks
-kinds_known (Some k ∷ ks) = k ∷ kinds_known ks

@@ -1,6 +1,6 @@
 //! Handlers of goals: what the rules of goals are, for the frames that evaluate them.
 
-ghost use Rattle.std.specs.Prelude.{◌≡◌, List, IfOk, map};
+ghost use Rattle.std.specs.Prelude.{◌≡◌, Bool, List, IfOk, map};
 ghost use Rattle.type_terms.specs.Terms.{Entry, Keeps};
 ghost use Rattle.infer_table.specs.declared.goal.TypingMode.{TypingMode};
 ghost use Rattle.infer_table.specs.Canonical.{CanonicalForm};
@@ -11,10 +11,13 @@ ghost use Rattle.goal_evaluator.specs.Candidate as Frames;
 ghost use Rattle.goal_evaluator.specs.Handler.{Handled, IsHandler};
 ghost use Rattle.goal_evaluator.specs.Promises.{DefiniteYesFollows, AnswerCoversGoal, IsBounded, KeepsNumber, IgnoresFinishedOnce};
 ghost use Rattle.goal_evaluator.specs.Readings.{IsOfTrait, ConsideredHeld, StepHeld};
+ghost use Rattle.goal_tables.specs.Content.{Fact};
 ghost use Rattle.goal_tables.proofs.Beginning.{begin};
 ghost use Rattle.frame_tables.specs.Tables.{frame_tables};
 ghost use Rattle.goal_frames.specs.Readings.{next_read, shown_by, Shows, kinds_known};
 ghost use Rattle.goal_frames.specs.Fitting.{ConsideredFits, StepFits};
+ghost use Rattle.goal_frames.specs.Programs.{HandlersArePrograms, InstancesAreGoals, RulesAreOf, KindsAreOf, KeepNumbers, KeepWorlds, LookInCoherenceOnly};
+ghost use Rattle.goal_frames.specs.Steps.{StepsFall};
 
 use canonical_forms::input::CanonicalInput;
 use goal_evaluator::{Considered, HandlerStep};
@@ -33,6 +36,11 @@ pub trait GoalHandler {
     ghost Meaning: { Type 0 };
 
     ghost handled: { Meaning → TypingMode → CanonicalForm → Handled frame_tables };
+
+    // The rules of all goals together, and which references are coinductive.
+    ghost Rule: { Meaning → Fact → List Fact → Type 0 };
+
+    ghost coinductive: { Meaning → Fact → Bool };
 
     // The handles that the handler holds are an interner's, and what it declares by them.
     ghost ready: { Self → List Entry → Type 0 };
@@ -77,13 +85,35 @@ pub trait GoalHandler {
 
     // The laws of candidates and of answers.
     ghost lawful: { (m : Meaning) (mode : TypingMode) (goal : CanonicalForm) → IsHandler frame_tables (handled m mode goal) };
+
+    // A nested goal is asked as the goal of its form, whose rules and kind are those of all goals.
+    ghost instances: { InstancesAreGoals handled };
+
+    ghost rules: { RulesAreOf handled Rule };
+
+    ghost kinds: { KindsAreOf handled coinductive };
+
+    // Terms don't grow from goal to goal.
+    ghost numbers: { KeepNumbers handled };
+
+    // The solutions of nested goals are looked for where those of the goal are: in sets of crates, and in coherence only.
+    ghost worlds: { KeepWorlds handled };
+
+    ghost outside: { LookInCoherenceOnly handled };
 }
 
-/// The frames of a handler's goals keep all that is promised of frames.
+/// The frames of a handler's goals keep all that is promised of frames, and with each step they have fewer left.
 pub fn frames_keep_promises<H: GoalHandler>()
     ensures yes { (m : H.Meaning) (mode : TypingMode) (goal : CanonicalForm) → DefiniteYesFollows frame_tables (H.handled m mode goal) }
     ensures covers { (m : H.Meaning) (mode : TypingMode) (goal : CanonicalForm) → AnswerCoversGoal frame_tables (H.handled m mode goal) }
     ensures bounded { (m : H.Meaning) (mode : TypingMode) (goal : CanonicalForm) → IsBounded frame_tables (H.handled m mode goal) }
     ensures number { (m : H.Meaning) (mode : TypingMode) (goal : CanonicalForm) → KeepsNumber frame_tables (H.handled m mode goal) }
     ensures ignores { (m : H.Meaning) (mode : TypingMode) (goal : CanonicalForm) → IgnoresFinishedOnce frame_tables (H.handled m mode goal) }
+    ensures steps { (m : H.Meaning) (mode : TypingMode) (goal : CanonicalForm) → StepsFall (H.handled m mode goal) }
+{}
+
+/// A handler's goals are lawful programs for a search: so what a search finds out with their frames is right, where it answers a goal
+/// that is asked under itself, too deep, or too often as these programs say.
+pub fn handlers_are_programs<H: GoalHandler>()
+    ensures { HandlersArePrograms H.handled H.Rule H.coinductive }
 {}

@@ -5,4 +5,4 @@ mod frame;
 mod handler;
 
 pub use frame::GoalFrame;
-pub use handler::{GoalHandler, frames_keep_promises};
+pub use handler::{GoalHandler, frames_keep_promises, handlers_are_programs};

@@ -1,6 +1,8 @@
 -- Goals of which none has a proof.
 use Rattle.std.specs.Prelude.{false, [], None}
 use Rattle.infer_table.specs.Canonical.{CanonicalForm}
+use Rattle.infer_table.specs.declared.goal.TypingMode.{TypingMode}
+use Rattle.infer_table.specs.declared.goal.TypingMode.TheVariants.{Coherence, PostAnalysis}
 use Rattle.goal_evaluator.specs.Candidate.{answer}
 use Rattle.goal_evaluator.specs.Handler.{Handled}
 use Rattle.goal_tables.specs.Content.{fact_of}
@@ -8,14 +10,19 @@ use Rattle.goal_tables.proofs.Beginning.{begin}
 use Rattle.frame_tables.specs.Tables.{frame_tables}
 use Rattle.goal_frames.specs.Readings.{kinds_known}
 
+-- in coherence there is one set of crates
+abbrev pub Crates : TypingMode → Type 0
+Crates Coherence = Unit {0}
+Crates PostAnalysis = ⊥
+
 -- no candidate is considered, and the goal is refused
-abbrev pub refusing : CanonicalForm → Handled frame_tables
-refusing f = record {
+abbrev pub refusing : TypingMode → CanonicalForm → Handled frame_tables
+refusing mode f = record {
   goal = fact_of (record { form = f; coinductive = false });
   begin = begin (kinds_known f.kinds);
   next = λ seen. answer None [];
   Rule = λ fact premises. ⊥;
-  World = Unit {0};
+  World = Crates mode;
   Proves = λ w fact. ⊥;
   coinductive = false;
   candidates = 0;

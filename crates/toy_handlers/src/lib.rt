@@ -1,9 +1,9 @@
 //! Small handlers in code, which show that the laws of handlers can be met.
 #![tactic(auto)]
 
-ghost use Rattle.std.specs.Prelude.{refl};
+ghost use Rattle.std.specs.Prelude.{false, refl};
 ghost use Rattle.toy_handlers.specs.Refusing.{refusing};
-ghost use Rattle.toy_handlers.specs.Lawful.{refusing-is-lawful};
+ghost use Rattle.toy_handlers.specs.Lawful.{refusing-is-lawful, numbers-are-kept, worlds-are-kept, looks-in-coherence};
 
 #[cfg(test)]
 mod tests;
@@ -21,7 +21,11 @@ pub struct NoRules;
 impl GoalHandler for NoRules {
     ghost Meaning = { Unit {0} };
 
-    ghost handled = { λ _ mode goal. refusing goal };
+    ghost handled = { λ _. refusing };
+
+    ghost Rule = { λ _ fact premises. ⊥ };
+
+    ghost coinductive = { λ _ fact. false };
 
     ghost ready = { λ _ es. Unit {0} };
 
@@ -47,5 +51,17 @@ impl GoalHandler for NoRules {
 
     ghost begins = { λ _ mode goal. refl };
 
-    ghost lawful = { λ _ mode goal. refusing-is-lawful goal };
+    ghost lawful = { λ _. refusing-is-lawful };
+
+    ghost instances = { λ _ mode q v. refl };
+
+    ghost rules = { λ _ mode goal fact premises r. r };
+
+    ghost kinds = { λ _ mode goal v. refl };
+
+    ghost numbers = { numbers-are-kept };
+
+    ghost worlds = { worlds-are-kept };
+
+    ghost outside = { looks-in-coherence };
 }

@@ -1,6 +1,7 @@
 use Rattle.frame_tables.specs.Tables.{frame_tables}
 use Rattle.frame_tables.proofs.Laws.{tables_are_lawful}
 use Rattle.goal_evaluator.proofs.Ends.{yes_follows, covers_goal, is_bounded, keeps_number, ignores_finished}
+use Rattle.goal_frames.proofs.Falling.{steps_fall}
 use Rattle.goal_frames.proofs.handler.frames_keep_promises.Goals as goal
 
 pub returns-clause-yes : goal.returns-clause-yes
@@ -17,3 +18,6 @@ returns-clause-number g c = λ m mode goal. keeps_number frame_tables tables_are
 
 pub returns-clause-ignores : goal.returns-clause-ignores
 returns-clause-ignores g c = λ m mode goal. ignores_finished frame_tables (g.H.GoalHandler.handled m mode goal) (g.met.H.GoalHandler.lawful m mode goal)
+
+pub returns-clause-steps : goal.returns-clause-steps
+returns-clause-steps g c = λ m mode goal. steps_fall (g.H.GoalHandler.handled m mode goal) (g.met.H.GoalHandler.lawful m mode goal)

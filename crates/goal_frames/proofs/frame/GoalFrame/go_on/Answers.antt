@@ -1,8 +1,6 @@
-use Rattle.std.proofs.Common.{◌≡◌, map, List, subst, sym, Some, None}
-use Rattle.type_terms.specs.Terms.{Entry}
+use Rattle.std.proofs.Common.{map, subst, sym, None}
 use Rattle.canonical_forms.specs.Inputs.{form_of}
 use Rattle.goal_evaluator.specs.Readings.{StepHeld}
-use Rattle.goal_evaluator.specs.declared.candidate.HandlerStep.TheVariants.{Consider, Answer, NoSolution}
 use Rattle.goal_frames.specs.Readings.{shown_by}
 use Rattle.goal_frames.specs.Fitting.{StepFits}
 use Rattle.goal_frames.specs.Places.{IsIgnoring, place_read}

@@ -1,4 +1,4 @@
-use Rattle.std.proofs.Common.{◌≡◌, ◌∙◌, List, Bool, Option, Some, None, map, refl, ap, sym, subst}
+use Rattle.std.proofs.Common.{◌∙◌, Some, None, map, ap, sym, subst}
 use Rattle.model.specs.Label.{principal}
 use Rattle.model.specs.Trees.{tree, none}
 use Rattle.type_terms.specs.Terms.{trees_at}
@@ -14,7 +14,7 @@ use Rattle.frame_searches.specs.Searches.{step_kind}
 use Rattle.goal_evaluator.specs.History.{request}
 use Rattle.goal_evaluator.specs.Readings.{is_coinductive_step}
 use Rattle.goal_frames.specs.Readings.{shown_by, spec_read}
-use Rattle.goal_frames.specs.Places.{Standing, Stands, place_read, IsAsking, IsFinishing}
+use Rattle.goal_frames.specs.Places.{Stands, place_read, IsAsking, IsFinishing}
 use Rattle.goal_frames.specs.Frames.{FrameHeld, RequestHeld, IsRequest}
 use Rattle.goal_frames.specs.declared.frame.GoalFrame.{GoalFrame}
 use Rattle.goal_frames.specs.declared.frame.Place.TheVariants.{Inside, Finishing}

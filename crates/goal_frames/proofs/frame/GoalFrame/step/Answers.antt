@@ -1,4 +1,4 @@
-use Rattle.std.proofs.Common.{◌≡◌, ◌∙◌, ◌∷◌, ◌++◌, ◌+◌, suc, [], List, ℕ, Option, map, drop, ap, sym, subst, arith}
+use Rattle.std.proofs.Common.{◌≡◌, ◌∙◌, ◌∷◌, ◌+◌, suc, List, ℕ, Option, map, drop, ap, sym, subst, arith}
 use Rattle.canonical_forms.specs.Inputs.{form_of}
 use Rattle.canonical_forms.specs.declared.response.CanonicalResponse.{CanonicalResponse}
 use Rattle.evaluation.specs.Evaluating.{replies_trees}
@@ -6,9 +6,9 @@ use Rattle.goal_evaluator.specs.History.{begin, entered, ignored, evaluated, fin
 use Rattle.goal_evaluator.specs.Promises.{frame_of_goal, Anything}
 use Rattle.goal_evaluator.specs.declared.candidate.Considered.{Considered}
 use Rattle.frame_tables.specs.Tables.{frame_tables}
-use Rattle.goal_frames.specs.Readings.{Shown, shown_by, spec_read, result_read}
+use Rattle.goal_frames.specs.Readings.{shown_by, spec_read, result_read}
 use Rattle.goal_frames.specs.Places.{Standing, Stands, IsBetween, IsInside, IsIgnoring, place_read}
-use Rattle.goal_frames.specs.Frames.{History, FrameHeld, PlaceHeld, RequestHeld, IsRequest, Steps, reply_read}
+use Rattle.goal_frames.specs.Frames.{FrameHeld, PlaceHeld, RequestHeld, IsRequest, Steps, reply_read}
 use Rattle.goal_frames.proofs.Held.{answers-stand}
 use Rattle.goal_frames.proofs.Stepping.{both-ok, shown-more, replies-more, steps-to, begun-there, inside-there, hears-there, finishes-there, ignores-there, begun-waits, entering-waits, inside-waits, finishing-waits, ignoring-waits, over-waits}
 use Rattle.goal_frames.proofs.frame.GoalFrame.step.Goals as goal

@@ -1,0 +1,42 @@
+-- How many steps a frame has left, by what its handler means for its goal.
+use Rattle.std.specs.Prelude.{ℕ, suc, ◌+◌, ◌-◌, ◌*◌, ◌<◌, length, List, Option}
+use Rattle.type_terms.specs.Terms.{Entry}
+use Rattle.canonical_forms.specs.declared.input.CanonicalInput.{CanonicalInput}
+use Rattle.canonical_forms.specs.declared.response.CanonicalResponse.{CanonicalResponse}
+use Rattle.canonical_responses.specs.Responses.{AnswerTrees}
+use Rattle.search_steps.specs.declared.delegate.Request.{Request}
+use Rattle.goal_evaluator.specs.declared.TheConstants.{FIXPOINT_STEP_LIMIT}
+use Rattle.goal_evaluator.specs.Handler.{Handled}
+use Rattle.goal_evaluator.specs.History.{Reply}
+use Rattle.frame_tables.specs.Tables.{frame_tables}
+use Rattle.goal_frames.specs.Frames.{IsDue, Steps}
+use Rattle.goal_frames.specs.declared.frame.GoalFrame.{GoalFrame}
+use Rattle.goal_frames.specs.declared.frame.Place.{Place}
+use Rattle.goal_frames.specs.declared.frame.Place.TheVariants as InCode
+
+module _ (h : Handled frame_tables) where
+  -- a frame asks no more questions
+  abbrev pub most_questions : ℕ
+  most_questions = FIXPOINT_STEP_LIMIT * h.number
+
+  -- once so many candidates are finished: each further one is entered, gets its replies and is finished, and each may be ignored
+  abbrev pub steps_after : ℕ → ℕ
+  steps_after considered = (h.candidates - considered) * (most_questions + 2) + h.candidates
+
+  abbrev pub steps_at : ℕ → Place → ℕ
+  steps_at considered InCode.Begun = suc (steps_after considered)
+  steps_at considered (InCode.Entering s) = steps_after considered
+  steps_at considered (InCode.Inside s replies) = steps_after considered - suc (length replies.items)
+  steps_at considered (InCode.Finishing source r) = suc (steps_after (suc considered))
+  steps_at considered (InCode.Ignoring r numbers at) = length numbers.items - at
+  steps_at considered InCode.Over = 0
+
+  -- the frame takes no more steps
+  abbrev pub steps_left : GoalFrame → ℕ
+  steps_left f = steps_at (length f.considered.items) f.place
+
+  -- with each step it has fewer left
+  abbrev pub StepsFall : Type 0
+  StepsFall =
+      (old new : List Entry) (before after : GoalFrame) (reply : Reply (Option AnswerTrees)) (q : Request CanonicalInput (Option CanonicalResponse))
+      → IsDue old h before reply → Steps old h before reply new after q → steps_left after < steps_left before
