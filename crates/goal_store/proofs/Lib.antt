@@ -1,0 +1,4 @@
+pub mod Places
+pub mod Answers
+pub mod Numbers
+mod Keeping
