@@ -15,3 +15,4 @@ pub mod Fitting
 pub mod Forms
 pub mod Asking
 pub mod Decided
+pub mod Silences

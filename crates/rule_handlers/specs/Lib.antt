@@ -1,0 +1,5 @@
+pub mod Answers
+pub mod Books
+pub mod Finding
+pub mod Kept
+pub mod Lawful
