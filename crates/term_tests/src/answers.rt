@@ -13,8 +13,8 @@ use infer_table::terms::RegionConstraint;
 use std::alloc::Global;
 use std::test::Fail;
 use type_terms::interner::Interner;
-use type_terms::kinds::{GenericArgKind, Ty, TyKind};
-use type_terms::number::{BoundVar, BoundVarIndexKind};
+use type_terms::kinds::{GenericArgKind, Ty, TyKind, UintTy};
+use type_terms::number::{BoundVar, BoundVarIndexKind, TyVid};
 use type_terms::region::{Region, RegionKind};
 
 /// A table without variables.
@@ -72,5 +72,20 @@ fn an_answer_given_and_applied(rt: HostRuntime) -> Result<(), Fail> {
     assert!(rt; answer.variables.as_slice() == expected.as_slice());
     instantiate_and_apply_query_response(alloc, &mut cx, &mut table, &values, &answer)?;
     assert_eq!(rt; table.region_constraints().len(), 2);
+    Ok(())
+}
+
+#[test]
+fn an_answer_with_a_type_gives_it_to_the_unknown(rt: HostRuntime) -> Result<(), Fail> {
+    let alloc = rt.alloc();
+    let mut cx = Interner::new(alloc, 100);
+    let unknown = cx.mk_ty(TyKind::Infer(TyVid { index: 3 }))?;
+    let byte = cx.mk_ty(TyKind::Uint(UintTy::U8))?;
+    let mut table = empty_table(alloc, &cx);
+    let given = [GenericArgKind::Ty(byte)];
+    let answer = canonicalize_response(alloc, &mut cx, &table, Certainty::Yes, &given)?;
+    let asked = [GenericArgKind::Ty(unknown)];
+    instantiate_and_apply_query_response(alloc, &mut cx, &mut table, &asked, &answer)?;
+    assert!(rt; table.shallow_resolve(&cx, unknown) == byte);
     Ok(())
 }

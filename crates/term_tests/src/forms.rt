@@ -147,6 +147,21 @@ fn a_goal_comes_back_from_its_form(rt: HostRuntime) -> Result<(), Fail> {
 }
 
 #[test]
+fn a_form_gives_its_goal_with_the_next_unknown(rt: HostRuntime) -> Result<(), Fail> {
+    let alloc = rt.alloc();
+    let mut cx = Interner::new(alloc, 100);
+    let mut table = InferCtxt::new(alloc);
+    let first = unknown(&mut cx, 0)?;
+    let shown_vector = vector(alloc, &mut cx, first)?;
+    let predicate = shown(alloc, &mut cx, shown_vector)?;
+    let goal = goal_without_clauses(alloc, predicate);
+    let form = canonicalize_goal(alloc, &mut cx, &table, TypingMode::Coherence, &goal)?;
+    let inside = instantiate_canonical(alloc, &mut cx, &mut table, &form.input)?;
+    assert!(rt; inside.goal == goal);
+    Ok(())
+}
+
+#[test]
 fn two_unknowns_are_no_renaming_of_one(rt: HostRuntime) -> Result<(), Fail> {
     let alloc = rt.alloc();
     let mut cx = Interner::new(alloc, 100);

@@ -1,6 +1,7 @@
 //! Each call once.
 ghost use Rattle.std.specs.Prelude.{IfOk};
-ghost use Rattle.type_terms.specs.Terms.{Has, Keeps, types};
+ghost use Rattle.type_terms.specs.Terms.{Has, Keeps, types, type_lists};
+ghost use Rattle.type_terms.specs.Kinds.{RegionHeld};
 ghost use Rattle.infer_table.specs.Content.{Ready, Grows};
 
 use infer_table::goal::EqError;
@@ -9,6 +10,7 @@ use infer_table::terms::RegionConstraint;
 use std::alloc::Global;
 use std::test::Fail;
 use term_folds::binder::Binder;
+use term_folds::fn_sig::FnSig;
 use type_terms::interner::Interner;
 use type_terms::kinds::{ConstKind, GenericArgKind, Mutability, Ty, TyKind, UintTy};
 use type_terms::number::{BoundVar, BoundVarIndexKind, ConstVid, DebruijnIndex, RegionVid, TyVid};
@@ -211,23 +213,63 @@ fn a_roll_back_takes_a_value_away(rt: HostRuntime) -> Result<(), Fail> {
     Ok(())
 }
 
+/// `fn(&'a u8)` with this lifetime for `'a`.
+fn signature(alloc: Global, cx: &mut Interner, region: Region) -> Result<FnSig, Fault>
+    requires { RegionHeld region.kind }
+    ensures { IfOk result (λ sig. Has cx.new.entries type_lists sig.inputs_and_output.0) }
+{
+    let unit = unit_type(alloc, cx)?;
+    let reference = byte_reference(cx, region)?;
+    let inputs_and_output = cx.mk_tys(vec![in alloc; reference, unit]?)?;
+    Ok(FnSig { inputs_and_output })
+}
+
+/// `()`.
+fn unit_type(alloc: Global, cx: &mut Interner) -> Result<Ty, Fault>
+    ensures { IfOk result (λ ty. Has cx.new.entries types ty.0) }
+{
+    let items = cx.mk_tys(Vec::new(alloc))?;
+    cx.mk_ty(TyKind::Tuple(items))
+}
+
+/// `&'a u8` with this lifetime for `'a`.
+fn byte_reference(cx: &mut Interner, region: Region) -> Result<Ty, Fault>
+    requires { RegionHeld region.kind }
+    ensures held { IfOk result (λ ty. Has cx.new.entries types ty.0) }
+    ensures keeps { Keeps cx.old.entries cx.new.entries }
+{
+    let byte = cx.mk_ty(TyKind::Uint(UintTy::U8))?;
+    cx.mk_ty(TyKind::Ref(region, byte, Mutability::Not))
+}
+
 #[test]
 fn an_opened_signature_has_a_lifetime_variable(rt: HostRuntime) -> Result<(), Fail> {
     let alloc = rt.alloc();
     let mut cx = Interner::new(alloc, 32);
     let binder = BoundVarIndexKind::Bound(DebruijnIndex { index: 0 });
-    let byte = cx.mk_ty(TyKind::Uint(UintTy::U8))?;
     let bound = Region {
         kind: RegionKind::ReBound(binder, BoundVar { index: 0 }),
     };
-    let value = cx.mk_ty(TyKind::Ref(bound, byte, Mutability::Not))?;
+    let value = signature(alloc, &mut cx, bound)?;
     let mut table = empty_table(alloc, &cx);
     let opened = table.instantiate_binder_with_infer(&mut cx, Binder { value, count: 1 })?;
-    let byte = cx.mk_ty(TyKind::Uint(UintTy::U8))?;
     let free = Region {
         kind: RegionKind::ReVar(RegionVid { index: 0 }),
     };
-    let wanted = cx.mk_ty(TyKind::Ref(free, byte, Mutability::Not))?;
+    let wanted = signature(alloc, &mut cx, free)?;
     assert!(rt; opened == wanted);
+    Ok(())
+}
+
+#[test]
+fn an_equation_gives_an_unknown_constant_its_value(rt: HostRuntime) -> Result<(), Fail> {
+    let alloc = rt.alloc();
+    let mut cx = Interner::new(alloc, 32);
+    let three = cx.mk_const(ConstKind::Value(3))?;
+    let mut table = empty_table(alloc, &cx);
+    let unknown = table.next_const_var(&mut cx)?;
+    let left = GenericArgKind::Const(unknown);
+    table.eq(&mut cx, left, GenericArgKind::Const(three))?;
+    assert!(rt; table.shallow_resolve_const(&cx, unknown) == three);
     Ok(())
 }
