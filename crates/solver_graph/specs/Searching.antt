@@ -25,7 +25,7 @@ module _ {World : Type 0} (handled : World → TypingMode → CanonicalForm → 
   abbrev pub programs : Programs frame_tables
   programs = programs_of handled Rule coinductive
 
-  -- handles that are what they stand for, of contexts and of frames too
+  -- a search that is lent what its handlers declare, and knows goals and answers by themselves
   abbrev pub bare_handles : Handles World Asked (Option AnswerTrees) (Unit {0}) World Asked (Option AnswerTrees)
   bare_handles = record {
     world = λ w. w;

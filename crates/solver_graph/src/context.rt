@@ -1,13 +1,13 @@
 //! What a search of goals is lent.
 
-ghost use Rattle.std.specs.Prelude.{◌≡◌, [], IfOk, IfErr, true};
+ghost use Rattle.std.specs.Prelude.{◌≡◌, [], IfOk, IfErr};
 ghost use Rattle.type_terms.specs.declared.Fault.TheVariants.{Memory};
 ghost use Rattle.canonical_forms.specs.Goals.{GoalHeld};
 ghost use Rattle.goal_evaluator.specs.Readings.{ResultHeld};
 ghost use Rattle.goal_frames.specs.Fitting.{ResultFits};
 ghost use Rattle.goal_frames.specs.Readings.{result_read};
-ghost use Rattle.goal_store.specs.Stores.{kept_inputs, kept_responses, limit_of, HasInput};
-ghost use Rattle.solver_graph.specs.Contexts.{asked_of, entries_of, goal_of, answer_of, IsReady, IsInput, IsResult, Advances};
+ghost use Rattle.goal_store.specs.Stores.{kept_inputs, kept_responses, limit_of};
+ghost use Rattle.solver_graph.specs.Contexts.{asked_of, goal_of, answer_of, IsReady, IsInput, IsResult, Advances};
 
 use canonical_forms::input::CanonicalInput;
 use canonical_forms::response::CanonicalResponse;

@@ -38,7 +38,7 @@ impl<H: GoalHandler> Delegate for SolverGraph<H> {
 
     type Frame = GoalFrame;
 
-    const FIXPOINT_STEP_LIMIT: usize = 8;
+    const FIXPOINT_STEP_LIMIT: usize = goal_evaluator::FIXPOINT_STEP_LIMIT;
 
     const DIVIDE_AVAILABLE_DEPTH_ON_OVERFLOW: usize = 4;
 

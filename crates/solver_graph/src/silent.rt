@@ -1,6 +1,6 @@
 //! Answers that say nothing of their goals' variables.
 
-ghost use Rattle.std.specs.Prelude.{◌≡◌, ◌↔◌, IfOk, IsTrue, Some};
+ghost use Rattle.std.specs.Prelude.{◌≡◌, ◌↔◌, IfOk, IsTrue};
 ghost use Rattle.canonical_responses.specs.Responses.{ResponseHeld, answer_trees};
 ghost use Rattle.goal_tables.specs.Answers.{IsWellFormed};
 ghost use Rattle.goal_frames.specs.Programs.{silent};
