@@ -1,0 +1,56 @@
+-- What an answer of a search to a goal's canonical form says of the goal, over a table.
+use Rattle.std.proofs.Common.{◌≡◌, Bool, List, refl, sym, ◌∙◌, ap, subst, Option}
+use Rattle.model.specs.Label.{principal}
+use Rattle.model.specs.Trees.{none}
+use Rattle.type_terms.specs.Terms.{Entry, Lawful, trees_at}
+use Rattle.infer_table.specs.Canonical.{CanonicalForm, canonical_form}
+use Rattle.infer_table.specs.Content.{Table, content, Ready}
+use Rattle.infer_table.specs.Solutions.{Assignment, Solves}
+use Rattle.infer_table.specs.declared.goal.TypingMode.{TypingMode}
+use Rattle.infer_table.proofs.EquationFacts.{solved-sorted}
+use Rattle.infer_table.proofs.Places.{ready-terms}
+use Rattle.infer_table.proofs.SolutionLaws.{resolved-rigid}
+use Rattle.canonical_forms.specs.declared.goal.Goal.{Goal}
+use Rattle.canonical_forms.specs.Goals.{GoalHeld, goal_trees}
+use Rattle.canonical_forms.specs.Inputs.{IsWithoutCanonical}
+use Rattle.canonical_responses.specs.Responses.{AnswerTrees}
+use Rattle.search_steps.specs.Proof.{HasProof}
+use Rattle.goal_evaluator.specs.Handler.{Handled}
+use Rattle.goal_evaluator.specs.Law.{AgreesTo}
+use Rattle.goal_evaluator.specs.Proof as Lists
+use Rattle.goal_tables.specs.Content.{trait_of, Fact, fact_of}
+use Rattle.frame_tables.specs.Tables.{frame_tables}
+use Rattle.frame_searches.specs.Searches.{Follows, CoversGoal}
+use Rattle.frame_searches.proofs.Graphs as Unfolding
+use Rattle.goal_frames.specs.Programs.{programs_of, HandlersArePrograms, InstancesAreGoals}
+use Rattle.root_goals.specs.Roots.{goal_in, fact_under, values_under, question_of}
+use Rattle.root_goals.proofs.Leaves.{goal-leaves}
+use Rattle.root_goals.proofs.Forms.{form-instance, values-made, fact-resolved}
+
+module _ (es : List Entry) (law : Lawful es) (t : Table) (ready : Ready es t) (g : Goal) (held : GoalHeld es g) (clean : IsWithoutCanonical (goal_in es t g)) (s : Assignment) (solves : Solves s (content es t.values)) where
+  -- an instance of the canonical form by what the solution gives to the goal's leaves is one of the goal
+  pub root-fact : fact_of (question_of (goal_in es t g)) (values_under s (goal_in es t g)) ≡ fact_under s (goal_trees es g)
+  root-fact =
+      let l = goal-leaves es law t g ready held in
+      form-instance s (solved-sorted s (content es t.values) solves) (goal_in es t g) clean l.0 l.1
+      ∙ fact-resolved s (content es t.values) (ready-terms es law t ready).valued solves (goal_trees es g)
+      (ap trait_of (resolved-rigid (content es t.values) (principal 0 g.predicate.trait_ref.def_id.index) (trees_at es g.predicate.trait_ref.args.0) none refl))
+
+  module _ {World : Type 0} (handled : World → TypingMode → CanonicalForm → Handled frame_tables) (Rule : World → Fact → List Fact → Type 0) (coinductive : World → Fact → Bool)
+      (instances : InstancesAreGoals handled) (w : World) (mode : TypingMode) where
+    goal-is : (handled w mode (canonical_form (goal_in es t g))).goal (values_under s (goal_in es t g)) ≡ fact_under s (goal_trees es g)
+    goal-is = sym (instances w mode (question_of (goal_in es t g)) (values_under s (goal_in es t g))) ∙ root-fact
+
+    -- a proof graph of the canonical form unfolds to a proof of the instance
+    pub root-proof : HandlersArePrograms handled Rule coinductive
+        → HasProof (TypingMode × CanonicalForm) (Follows frame_tables (programs_of handled Rule coinductive) w) (mode, canonical_form (goal_in es t g))
+        → Lists.HasProof Fact (Rule w) (coinductive w) (fact_under s (goal_trees es g))
+    root-proof lawful graph =
+        subst (Lists.HasProof Fact (Rule w) (coinductive w)) goal-is
+        (Unfolding.graphs_prove frame_tables (programs_of handled Rule coinductive) lawful w (mode, canonical_form (goal_in es t g)) graph (values_under s (goal_in es t g)) (values-made s (goal_in es t g)))
+
+    -- where the instance has a proof, an answer that covers the canonical form agrees with it
+    pub root-agrees : (a : Option AnswerTrees) → CoversGoal frame_tables (programs_of handled Rule coinductive) w (mode, canonical_form (goal_in es t g)) a
+        → (x : (handled w mode (canonical_form (goal_in es t g))).World) → (handled w mode (canonical_form (goal_in es t g))).Proves x (fact_under s (goal_trees es g))
+        → AgreesTo frame_tables a (values_under s (goal_in es t g))
+    root-agrees a covers x p = covers x (values_under s (goal_in es t g)) (subst ((handled w mode (canonical_form (goal_in es t g))).Proves x) (sym goal-is) p)

@@ -1,0 +1,4 @@
+pub mod Roots
+pub mod Changes
+pub mod Errors
+pub mod Evaluations

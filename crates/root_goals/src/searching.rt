@@ -1,0 +1,61 @@
+//! The answer of a search to a goal.
+
+ghost use Rattle.std.specs.Prelude.{◌≡◌, ◌+◌, IfOk, Err};
+ghost use Rattle.goal_evaluator.specs.Readings.{ResultHeld};
+ghost use Rattle.goal_frames.specs.Fitting.{ResultFits};
+ghost use Rattle.goal_frames.specs.Readings.{result_read};
+ghost use Rattle.canonical_responses.specs.Responses.{AnswerTrees};
+ghost use Rattle.search_graph.specs.Answer.{IsSound};
+ghost use Rattle.search_steps.specs.Cache.{AreJustified, AreConsistent, HasConflict};
+ghost use Rattle.search_steps.specs.Meaning.{Keeps, IsFair};
+ghost use Rattle.search_steps.specs.Plain.{IsNotPlain};
+ghost use Rattle.search_steps.specs.Proof.{HasProof};
+ghost use Rattle.solver_graph.specs.Contexts.{goal_of, IsReady, IsInput};
+ghost use Rattle.solver_graph.specs.Searching.{solver_meaning, world_of};
+ghost use Rattle.root_goals.specs.Evaluations.{IsFound, IsRight};
+
+use crate::outcome::RootError;
+use canonical_forms::response::CanonicalResponse;
+use goal_frames::{GoalHandler, handlers_are_programs};
+use goal_store::store::InputId;
+use search_graph::{GlobalCache, SearchGraph};
+use search_paths::{GraphFault, PathKind};
+use solver_graph::{SolverCx, SolverGraph};
+use type_terms::Fault;
+
+/// The answer of a search to a goal; none where the goal is refused.
+pub(crate) fn search<H: GoalHandler>(
+    graph: &mut SearchGraph<SolverGraph<H>>,
+    cache: &mut GlobalCache<SolverGraph<H>>,
+    cx: &mut SolverCx<H>,
+    input: InputId,
+) -> Result<Option<CanonicalResponse>, RootError>
+    requires empty { graph.old.current_depth ≡ 0 }
+    requires cache { AreJustified (solver_meaning H.handled H.Rule H.coinductive H.ready H.meaning) cx.old cache.old }
+    requires input { IsInput H.ready cx.old input }
+    ensures keeps { Keeps (solver_meaning H.handled H.Rule H.coinductive H.ready H.meaning) cx.old cx.new }
+    ensures ready { IsReady H.ready cx.new }
+    ensures empty { graph.new.current_depth ≡ 0 }
+    ensures depth { graph.new.root_depth ≡ graph.old.root_depth }
+    ensures cache { AreJustified (solver_meaning H.handled H.Rule H.coinductive H.ready H.meaning) cx.new cache.new }
+    ensures consistent { AreConsistent cache.new }
+    ensures held { IfOk result (λ r. ResultHeld cx.new.interner.entries r × ResultFits cx.new.interner.entries r) }
+    ensures found { IfOk result (λ r. IsFound (solver_meaning H.handled H.Rule H.coinductive H.ready H.meaning) (world_of H.handled H.Rule H.coinductive H.ready H.meaning cx.old) graph.old.root_depth (goal_of cx.old input) (result_read cx.new.interner.entries r)) }
+    ensures sound { IfOk result (λ r. IsRight (solver_meaning H.handled H.Rule H.coinductive H.ready H.meaning) (world_of H.handled H.Rule H.coinductive H.ready H.meaning cx.old) (goal_of cx.old input) (result_read cx.new.interner.entries r)) }
+    ensures not_refused { result ≡ Err RootError.NoSolution → ⊥ }
+    ensures no_conflict { result ≡ Err RootError.Conflict → IsNotPlain (solver_meaning H.handled H.Rule H.coinductive H.ready H.meaning) (world_of H.handled H.Rule H.coinductive H.ready H.meaning cx.old) (graph.old.root_depth + 1) (goal_of cx.old input) }
+    ensures conflict { result ≡ Err RootError.Conflict → HasConflict (solver_meaning H.handled H.Rule H.coinductive H.ready H.meaning) cx.new cache.new }
+{
+    handlers_are_programs::<H>();
+    match graph.evaluate_goal(cache, cx, input, PathKind::Inductive) {
+        Ok(of) => {
+            let answer = cx.answer(&of)?;
+            Ok(answer)
+        }
+        Err(GraphFault::Memory) => Err(RootError::Fault(Fault::Memory)),
+        Err(GraphFault::Full) => Err(RootError::Fault(Fault::Full)),
+        Err(GraphFault::Conflict) => Err(RootError::Conflict),
+        // No frame of a lawful handler makes a request out of order.
+        Err(GraphFault::Protocol) => unreachable!(),
+    }
+}
