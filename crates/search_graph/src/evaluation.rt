@@ -1,14 +1,15 @@
 //! The search itself: goals that ask goals.
 
-ghost use Rattle.std.specs.Prelude.{◌≡◌, [], ℕ, ◌+◌, ◌*◌, ◌≤◌, length, max, slice_get, IfOk, OnOk, IsSome, true, false, cond};
+ghost use Rattle.std.specs.Prelude.{◌≡◌, [], ℕ, ◌+◌, ◌*◌, ◌<◌, ◌≤◌, length, max, slice_get, IfOk, OnOk, IsSome, true, false, cond};
 ghost use Rattle.search_steps.specs.Meaning.{Keeps};
-ghost use Rattle.search_steps.specs.Chain.{IsAskedUnder, IsWithinDepth};
+ghost use Rattle.search_steps.specs.Chain.{IsAskedUnder, IsWithinDepth, AreInRange};
+ghost use Rattle.search_paths.specs.Nested.{covered, one_goal};
 ghost use Rattle.search_steps.specs.Computed.{MakesMisstep};
 ghost use Rattle.search_steps.specs.Cache.{known_results, HasConflict, IsNumberOf, KeepsNumbers, KeepsResults};
 ghost use Rattle.search_steps.specs.Plain.{IsNotPlain};
 ghost use Rattle.search_steps.specs.Faithful.{AllDescend, IsFaithful, IsUntouched};
 ghost use Rattle.search_graph.specs.Bound.{frame_bound, question_bound};
-ghost use Rattle.search_steps.specs.Stack.{place_of, question_of, path_onto, IsStack, IsEntry, IsAnswer, IsProvisional, AreCached, IsWithin, IsLastWithin, AreLastWithin, AreCachedWithin};
+ghost use Rattle.search_steps.specs.Stack.{place_of, question_of, path_onto, span_of_newest, IsStack, IsEntry, IsAnswer, IsProvisional, AreCached, IsWithin, IsLastWithin, AreLastWithin, AreCachedWithin};
 
 use search_paths::{
     Candidates, CycleHead, Dependencies, EvaluationResult, GraphFault, PathKind, PathsToNested,
@@ -37,6 +38,9 @@ pub(crate) fn evaluate<D: Delegate>(
     ensures cache { AreCached D.meaning (D.meaning.world cx.new) cx.new cache.new.entries.items }
     ensures goals { KeepsNumbers D.Cx.Input.eq cache.old.goals.keys cache.new.goals.keys }
     ensures results { KeepsResults cache.old.entries.items cache.new.entries.items }
+    ensures range { IfOk result (λ o. AreInRange cache.new.entries.items o.dependencies.nested_goals) }
+    ensures depth { IfOk result (λ o. o.dependencies.encountered_overflow ≡ false → o.dependencies.required_depth ≤ depth) }
+    ensures kept { search.old.stack.items ≡ [] → IfOk result (λ o. (place : ℕ) × (e : _) × (slice_get cache.new.entries.items place ≡ Some e) × (e.input ≡ input) × (e.result ≡ o.result) × IsWithinDepth e.encountered_overflow e.depth depth) }
     ensures answer { IfOk result (λ o. IsAnswer D.meaning (D.meaning.world cx.old) (path_onto D.meaning cx.old search.old.stack.items []) (D.meaning.goal_of cx.old input, step_kind) o.dependencies.lowest cx.new o.result) }
     ensures faithful { IfOk result (λ o. IsFaithful D.meaning (D.meaning.world cx.old) (depth + 1) (path_onto D.meaning cx.old search.old.stack.items []) (D.meaning.goal_of cx.old input) (D.meaning.answer_of cx.new o.result) o.dependencies.encountered_overflow o.dependencies.lowest o.dependencies.heads.items) }
     ensures no_conflict { result ≡ Err GraphFault.Conflict → (limit : ℕ) → limit ≤ depth + 1 → AllDescend D.meaning (D.meaning.world cx.old) limit 0 (path_onto D.meaning cx.old search.old.stack.items []) (D.meaning.goal_of cx.old input) → IsNotPlain D.meaning (D.meaning.world cx.old) limit (D.meaning.goal_of cx.old input) }
@@ -94,6 +98,9 @@ fn evaluate_new<D: Delegate>(
     ensures cache { AreCached D.meaning (D.meaning.world cx.new) cx.new cache.new.entries.items }
     ensures goals { KeepsNumbers D.Cx.Input.eq cache.old.goals.keys cache.new.goals.keys }
     ensures results { KeepsResults cache.old.entries.items cache.new.entries.items }
+    ensures range { IfOk result (λ o. AreInRange cache.new.entries.items o.dependencies.nested_goals) }
+    ensures depth { IfOk result (λ o. o.dependencies.encountered_overflow ≡ false → o.dependencies.required_depth ≤ depth) }
+    ensures kept { search.old.stack.items ≡ [] → IfOk result (λ o. (place : ℕ) × (e : _) × (slice_get cache.new.entries.items place ≡ Some e) × (e.input ≡ input) × (e.result ≡ o.result) × IsWithinDepth e.encountered_overflow e.depth depth) }
     ensures answer { IfOk result (λ o. IsAnswer D.meaning (D.meaning.world cx.old) (path_onto D.meaning cx.old search.old.stack.items []) (D.meaning.goal_of cx.old input, step_kind) o.dependencies.lowest cx.new o.result) }
     ensures faithful { IfOk result (λ o. IsFaithful D.meaning (D.meaning.world cx.old) (depth + 1) (path_onto D.meaning cx.old search.old.stack.items []) (D.meaning.goal_of cx.old input) (D.meaning.answer_of cx.new o.result) o.dependencies.encountered_overflow o.dependencies.lowest o.dependencies.heads.items) }
     ensures no_conflict { result ≡ Err GraphFault.Conflict → (limit : ℕ) → limit ≤ depth + 1 → AllDescend D.meaning (D.meaning.world cx.old) limit 0 (path_onto D.meaning cx.old search.old.stack.items []) (D.meaning.goal_of cx.old input) → IsNotPlain D.meaning (D.meaning.world cx.old) limit (D.meaning.goal_of cx.old input) }
@@ -194,12 +201,17 @@ fn run_once<D: Delegate>(
     requires cache { AreCached D.meaning (D.meaning.world cx.old) cx.old cache.old.entries.items }
     requires entry { IsEntry D.meaning (D.meaning.world cx.old) (path_onto D.meaning cx.old search.old.stack.items []) cx.old entry }
     requires room { earlier.lowest ≤ length search.old.stack.items }
+    requires span { entry.span ≡ covered (span_of_newest search.old.stack.items) (one_goal entry.number) }
+    requires nested { AreInRange cache.old.entries.items earlier.nested_goals }
+    requires depth { earlier.encountered_overflow ≡ false → earlier.required_depth ≤ depth }
     requires earlier { IsUntouched D.meaning (D.meaning.world cx.old) (depth + 1) (path_onto D.meaning cx.old search.old.stack.items []) (D.meaning.goal_of cx.old entry.input) earlier.encountered_overflow earlier.lowest earlier.heads.items }
     ensures keeps { Keeps D.meaning cx.old cx.new }
     ensures stack { OnOk result (search.new.stack.items ≡ search.old.stack.items) }
     ensures cache { AreCached D.meaning (D.meaning.world cx.new) cx.new cache.new.entries.items }
     ensures goals { KeepsNumbers D.Cx.Input.eq cache.old.goals.keys cache.new.goals.keys }
     ensures results { KeepsResults cache.old.entries.items cache.new.entries.items }
+    ensures range { IfOk result (λ p. AreInRange cache.new.entries.items p.1.dependencies.nested_goals) }
+    ensures depth { IfOk result (λ p. p.1.dependencies.encountered_overflow ≡ false → p.1.dependencies.required_depth ≤ depth) }
     ensures entry { IfOk result (λ p. p.0 ≡ entry) }
     ensures low { IfOk result (λ p. p.1.dependencies.lowest ≤ length search.old.stack.items) }
     ensures provisional { IfOk result (λ p. IsProvisional D.meaning (D.meaning.world cx.old) (path_onto D.meaning cx.old search.old.stack.items []) (question_of D.meaning cx.old entry) p.1.dependencies.lowest cx.new p.1.result) }
@@ -280,6 +292,8 @@ fn ask<D: Delegate>(
     ensures cache { AreCached D.meaning (D.meaning.world cx.new) cx.new cache.new.entries.items }
     ensures goals { KeepsNumbers D.Cx.Input.eq cache.old.goals.keys cache.new.goals.keys }
     ensures results { KeepsResults cache.old.entries.items cache.new.entries.items }
+    ensures range { IfOk result (λ o. AreInRange cache.new.entries.items o.dependencies.nested_goals) }
+    ensures depth { IfOk result (λ o. o.dependencies.encountered_overflow ≡ false → o.dependencies.required_depth < depth) }
     ensures answer { IfOk result (λ o. IsAnswer D.meaning (D.meaning.world cx.old) (path_onto D.meaning cx.old search.old.stack.items []) (D.meaning.goal_of cx.old input, step_kind) o.dependencies.lowest cx.new o.result) }
     ensures faithful { IfOk result (λ o. IsFaithful D.meaning (D.meaning.world cx.old) (cond overflowed 0 depth) (path_onto D.meaning cx.old search.old.stack.items []) (D.meaning.goal_of cx.old input) (D.meaning.answer_of cx.new o.result) o.dependencies.encountered_overflow o.dependencies.lowest o.dependencies.heads.items) }
     ensures no_conflict { result ≡ Err GraphFault.Conflict → (limit : ℕ) → limit ≤ cond overflowed 0 depth → AllDescend D.meaning (D.meaning.world cx.old) limit 0 (path_onto D.meaning cx.old search.old.stack.items []) (D.meaning.goal_of cx.old input) → IsNotPlain D.meaning (D.meaning.world cx.old) limit (D.meaning.goal_of cx.old input) }

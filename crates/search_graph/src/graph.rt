@@ -124,6 +124,9 @@ impl<D: Delegate> SearchGraph<D> {
         ensures cached { (place : ℕ) (k : _) → slice_get cache.old place ≡ Some k → k.input ≡ input → IsWithinDepth k.overflowed k.depth self.old.root_depth → (self.new.frames ≡ self.old.frames) × (cache.new ≡ cache.old) }
         ensures known { (place : ℕ) (k : _) → slice_get cache.old place ≡ Some k → k.input ≡ input → IsWithinDepth k.overflowed k.depth self.old.root_depth → IfOk result (λ r. (other : ℕ) × (l : _) × (slice_get cache.old other ≡ Some l) × (l.input ≡ input) × IsWithinDepth l.overflowed l.depth self.old.root_depth × (r ≡ l.result)) }
 
+        // The cache holds each answer afterwards, for goals of this depth.
+        ensures kept { IfOk result (λ r. (place : ℕ) × (k : _) × (slice_get cache.new place ≡ Some k) × (k.input ≡ input) × (k.result ≡ r) × IsWithinDepth k.overflowed k.depth self.old.root_depth) }
+
         ensures depth { self.new.root_depth ≡ self.old.root_depth }
 
         // A limit that was met is noted, after a refusal too, and none is for a goal that plain recursion answers within the

@@ -1,5 +1,5 @@
 -- How the walk along the results of a goal meets each of them.
-use Rattle.std.proofs.Common.{◌≡◌, ℕ, zero, suc, ◌+◌, ◌<◌, ◌≤◌, sym, ap, refl, ◌∙◌, Bool, true, false, cond, nat_eq, List, [], ◌∷◌, ◌++◌, length, get_or, slice_get, take, set, subst, if◌then◌else◌, Option, Some, None, Result, Ok, Err, IfOk, IfNone, ◌⊎◌, inl, inr, arith}
+use Rattle.std.proofs.Common.{◌≡◌, ℕ, zero, suc, ◌+◌, ◌<◌, ◌≤◌, sym, ap, refl, ◌∙◌, Bool, true, false, cond, nat_eq, List, [], ◌∷◌, ◌++◌, length, get_or, slice_get, take, set, subst, if◌then◌else◌, Option, Some, None, Result, Ok, Err, IfOk, IfSome, IfNone, ◌⊎◌, inl, inr, arith}
 use Rattle.std.proofs.lemmas.Bool.{eqb-true, eq-eqb}
 use Rattle.std.proofs.lemmas.Option.{none-some, same_Some, slice_get_within}
 use Rattle.search_steps.specs.declared.cache.CacheEntry.{CacheEntry}
@@ -25,7 +25,7 @@ module _ {X : Type 0} where
   take_whole [] = refl
   take_whole (x ∷ xs) = ap (◌∷◌ x) (take_whole xs)
 
-  take_left : (xs : List X) (x : X) (k : ℕ) → k ≤ length xs → take k (xs ++ x ∷ []) ≡ take k xs
+  pub take_left : (xs : List X) (x : X) (k : ℕ) → k ≤ length xs → take k (xs ++ x ∷ []) ≡ take k xs
   take_left xs x zero h = refl
   take_left [] x (suc k) h = absurd (omega arith)
   take_left (y ∷ xs) x (suc k) h = ap (◌∷◌ y) (take_left xs x k (omega arith))
@@ -208,6 +208,15 @@ module _ {I R : Type 0} where
   unusable_over (Err x) es P Q number input depth among h = tt
   unusable_over (Ok (Some place)) es P Q number input depth among h = tt
   unusable_over (Ok None) es P Q number input depth among h = λ place e at usable. h place e at (record { numbered = usable.numbered; same = usable.same; within = usable.within; clear = λ asked under on. usable.clear asked under (among asked on) })
+
+  -- and where they are among them, what is usable over the second is usable over the first
+  pub usable_over : {E : Type 0} (r : Result (Option ℕ) E) (es : List (CacheEntry I R)) (P Q : ℕ → Type 0) (number : ℕ) (input : I) (depth : ℕ) → ((n : ℕ) → Q n → P n)
+      → IfOk r (λ found. IfSome found (λ place. (e : CacheEntry I R) × (slice_get es place ≡ Some e) × IsUsable es P number input depth place e))
+      → IfOk r (λ found. IfSome found (λ place. (e : CacheEntry I R) × (slice_get es place ≡ Some e) × IsUsable es Q number input depth place e))
+  usable_over (Err x) es P Q number input depth among h = tt
+  usable_over (Ok None) es P Q number input depth among h = tt
+  usable_over (Ok (Some place)) es P Q number input depth among h =
+      (h.0, h.1, record { numbered = h.2.numbered; same = h.2.same; within = h.2.within; clear = λ asked under on. h.2.clear asked under (among asked on) })
 
 -- a goal without a result is put at the end, and nothing is found there
 pub get_or_none_push : {X : Type 0} (xs : List (Option X)) (n : ℕ) → get_or (xs ++ None ∷ []) n None ≡ get_or xs n None

@@ -7,3 +7,4 @@ pub mod Caches
 pub mod Places
 pub mod Chains
 pub mod Numbers
+pub mod Ranges

@@ -1,6 +1,10 @@
 -- How a cache finds the results of a goal, and what was asked under them.
-use Rattle.std.specs.Prelude.{◌≡◌, ◌≤◌, ◌+◌, ℕ, Bool, true, false, cond, nat_eq, List, [], ◌∷◌, ◌⊎◌, Option, Some, None, slice_get, take}
+use Rattle.std.specs.Prelude.{◌≡◌, ◌≤◌, ◌<◌, ◌+◌, ℕ, Bool, true, false, cond, nat_eq, List, [], ◌∷◌, ◌⊎◌, Option, Some, None, All, length, slice_get, take}
+use Rattle.search_paths.specs.declared.nested_goals.Span.{Span}
+use Rattle.search_paths.specs.declared.nested_goals.NestedGoals.{NestedGoals}
+use Rattle.search_paths.specs.Nested.{IsWithin, covered, one_goal}
 use Rattle.search_steps.specs.declared.cache.CacheEntry.{CacheEntry}
+use Rattle.search_steps.specs.declared.stack.StackEntry.{StackEntry}
 
 -- a goal of this depth may use the result of a goal that needed that depth, or that had it where it met an overflow by depth
 abbrev pub IsWithinDepth : Bool → ℕ → ℕ → Type 0
@@ -40,3 +44,29 @@ module _ {I R : Type 0} where
     pub same : e.input ≡ input
     pub within : IsWithinDepth e.encountered_overflow e.depth depth
     pub clear : (asked : ℕ) → IsAskedUnder es place asked → IsOnStack asked → ⊥
+
+-- each of these goals lies in the range
+abbrev pub AllInRange : (ℕ → Type 0) → Span → Type 0
+AllInRange P range = (number : ℕ) → P number → IsWithin range number
+
+-- no goal lies in both ranges
+abbrev pub AreApart : Span → Span → Type 0
+AreApart one other = (number : ℕ) → IsWithin one number → IsWithin other number → ⊥
+
+module _ {I R : Type 0} where
+  -- the goal of a result and all that were asked under it lie in this range
+  abbrev pub range_of : CacheEntry I R → Span
+  range_of e = covered e.nested_goals.span (one_goal e.number)
+
+  -- The goals that were asked lie in their range. Where a cached result was used, so does the range of that result
+  abbrev pub AreInRange : List (CacheEntry I R) → NestedGoals → Type 0
+  AreInRange es nested = All (IsWithin nested.span) nested.goals.items
+      × All (λ place. (place < length es) × ((e : CacheEntry I R) → slice_get es place ≡ Some e → AllInRange (IsWithin (range_of e)) nested.span)) nested.cached.items
+
+  -- so do those that were asked under each result, and it used older results alone
+  abbrev pub AreCovered : List (CacheEntry I R) → Type 0
+  AreCovered es = (place : ℕ) (e : CacheEntry I R) → slice_get es place ≡ Some e → AreInRange (take place es) e.nested_goals
+
+  -- the range of each goal of a stack has it and all below it
+  abbrev pub AreInRanges : List (StackEntry I R) → Type 0
+  AreInRanges es = (low high : ℕ) (d e : StackEntry I R) → slice_get es low ≡ Some d → slice_get es high ≡ Some e → low ≤ high → IsWithin e.span d.number

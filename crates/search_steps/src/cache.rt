@@ -1,9 +1,9 @@
 //! Results that hold whatever is being evaluated.
 
-ghost use Rattle.std.specs.Prelude.{◌≡◌, ◌+◌, ◌<◌, ◌≤◌, ◌⊎◌, ◌++◌, ◌∷◌, [], ℕ, length, get_or, IfOk, IfErr, OnOk, OnErr, IfSome, IfNone, Some, None, nat_eq, slice_get, true, false};
+ghost use Rattle.std.specs.Prelude.{◌≡◌, ◌+◌, ◌<◌, ◌≤◌, ◌⊎◌, ◌++◌, ◌∷◌, [], ℕ, All, length, get_or, IfOk, IfErr, OnOk, OnErr, IfSome, IfNone, Some, None, nat_eq, slice_get, true, false};
 ghost use Rattle.std.proofs.Props.{props};
 ghost use Rattle.indexmap.specs.IndexMap.{ContainsKey};
-ghost use Rattle.search_steps.specs.Chain.{newest_of, AreLinked, IsAskedUnder, IsWithinDepth, IsUsable};
+ghost use Rattle.search_steps.specs.Chain.{newest_of, AreLinked, IsAskedUnder, IsWithinDepth, IsUsable, AllInRange, AreCovered, AreInRange, AreApart, range_of};
 ghost use Rattle.indexmap.specs.IndexSet.{insert_key};
 ghost use Rattle.search_steps.specs.Meaning.{Keeps};
 ghost use Rattle.search_steps.specs.Plain.{IsNotPlain};
@@ -38,7 +38,9 @@ pub struct CacheEntry<I, R> {
 
 impl<I, R> CacheEntry<I, R> {
     /// The goal and all that were asked under it lie in it.
-    fn span(&self) -> Span {
+    fn span(&self) -> Span
+        ensures { result ≡ range_of self.now }
+    {
         self.nested_goals.span.cover(Span::of(self.number))
     }
 }
@@ -76,6 +78,7 @@ pub struct CachedResults<D: Delegate> {
     ghost listed: { (number : ℕ) → get_or newest.items number None ≡ newest_of entries.items number } by { Prim.hlevel props },
     ghost linked: { AreLinked entries.items } by { Prim.hlevel props },
     pub ghost numbered: { (place : ℕ) (e : _) → slice_get entries.items place ≡ Some e → IsNumberOf D.Cx.Input.eq goals.keys e.input e.number } by { Prim.hlevel props },
+    pub ghost covered: { AreCovered entries.items } by { Prim.hlevel props },
     pub ghost consistent: { AreConsistent (known_results entries.items) } by { Prim.hlevel props },
 }
 
@@ -144,7 +147,8 @@ impl<D: Delegate> CachedResults<D> {
         input: &InputOf<D>,
         depth: usize,
     ) -> Result<Option<usize>, AllocError>
-        ensures found { IfOk result (λ found. IfSome found (λ place. (e : _) × (slice_get self.now.entries.items place ≡ Some e) × (e.input ≡ input.now) × IsWithinDepth e.encountered_overflow e.depth depth)) }
+        requires range { AllInRange (ContainsKey nat_eq positions.now) on_stack }
+        ensures found { IfOk result (λ found. IfSome found (λ place. (e : _) × (slice_get self.now.entries.items place ≡ Some e) × IsUsable self.now.entries.items (ContainsKey nat_eq positions.now) number input.now depth place e)) }
         ensures none { IfOk result (λ found. IfNone found ((place : ℕ) (e : _) → slice_get self.now.entries.items place ≡ Some e → IsUsable self.now.entries.items (ContainsKey nat_eq positions.now) number input.now depth place e → ⊥)) }
     {
         let mut next = self.newest_of(number);
@@ -174,7 +178,9 @@ impl<D: Delegate> CachedResults<D> {
         on_stack: Span,
         place: usize,
     ) -> Result<bool, AllocError>
-        ensures { IfOk result (λ clear. clear ≡ false → (asked : ℕ) × IsAskedUnder self.now.entries.items place asked × ContainsKey nat_eq positions.now asked) }
+        requires range { AllInRange (ContainsKey nat_eq positions.now) on_stack }
+        ensures asked { IfOk result (λ clear. clear ≡ false → (asked : ℕ) × IsAskedUnder self.now.entries.items place asked × ContainsKey nat_eq positions.now asked) }
+        ensures clear { IfOk result (λ clear. clear ≡ true → (asked : ℕ) → IsAskedUnder self.now.entries.items place asked → ContainsKey nat_eq positions.now asked → ⊥) }
     {
         let Some(entry) = self.entries.get(place) else {
             return Ok(true);
@@ -184,33 +190,45 @@ impl<D: Delegate> CachedResults<D> {
         }
         let mut reached: IndexSet<usize> = IndexSet::new(self.alloc);
         reached.insert(place)?;
-        // Each round is for another place, so there are no more of them than entries.
-        for round in 0..self.entries.len() {
-            let Some(below) = reached.get_index(round).copied() else {
-                return Ok(true);
-            };
-            let Some(entry) = self.entries.get(below) else {
-                return Ok(true);
-            };
+        let mut round = 0;
+        while round < reached.len() {
+            let below = reached[round];
+            let entry = &self.entries[below];
             if round > 0 && positions.contains_key(&entry.number) {
                 return Ok(false);
             }
-            for goal in &entry.nested_goals.goals {
-                if positions.contains_key(goal) {
-                    return Ok(false);
-                }
+            if is_any_on_stack(positions, &entry.nested_goals.goals) {
+                return Ok(false);
             }
-            for cached in &entry.nested_goals.cached {
-                if self.span_of(*cached).overlaps(on_stack) {
-                    reached.insert(*cached)?;
-                }
-            }
+            self.reach(&mut reached, &entry.nested_goals.cached, on_stack)?;
+            round += 1;
         }
         Ok(true)
     }
 
+    /// Adds those of the places under whose results a goal of this range may have been asked.
+    fn reach(
+        &self,
+        reached: &mut IndexSet<usize>,
+        places: &[usize],
+        on_stack: Span,
+    ) -> Result<(), AllocError>
+        ensures stay { KeepsResults reached.old.keys reached.new.keys }
+        ensures among { (j place : ℕ) → slice_get reached.new.keys j ≡ Some place → (slice_get reached.old.keys j ≡ Some place) ⊎ ((i : ℕ) × (slice_get places.now i ≡ Some place)) }
+        ensures reached { OnOk result (All (λ place. ((j : ℕ) × (slice_get reached.new.keys j ≡ Some place)) ⊎ ((e : _) → slice_get self.now.entries.items place ≡ Some e → AreApart (range_of e) on_stack)) places.now) }
+    {
+        for place in places {
+            if self.span_of(*place).overlaps(on_stack) {
+                reached.insert(*place)?;
+            }
+        }
+        Ok(())
+    }
+
     /// The goal of a result and all that were asked under it lie in it.
-    pub(crate) fn span_of(&self, place: usize) -> Span {
+    pub(crate) fn span_of(&self, place: usize) -> Span
+        ensures { (e : _) → slice_get self.now.entries.items place ≡ Some e → result ≡ range_of e }
+    {
         match self.entries.get(place) {
             Some(entry) => entry.span(),
             None => Span::empty(),
@@ -305,6 +323,7 @@ impl<D: Delegate> CachedResults<D> {
     ) -> Result<usize, GraphFault>
         requires cache { AreCached D.meaning (D.meaning.world cx.now) cx.now self.old.entries.items }
         requires input { D.meaning.IsInput cx.now input }
+        requires nested { AreInRange self.old.entries.items nested_goals }
         requires number { IsNumberOf D.Cx.Input.eq self.old.goals.keys input number }
         requires result { IsProvisional D.meaning (D.meaning.world cx.now) [] (D.meaning.goal_of cx.now input, PathKind.Inductive) 0 cx.now found.now }
         requires kept { IsKept D.meaning (D.meaning.world cx.now) (D.meaning.goal_of cx.now input) (D.meaning.answer_of cx.now found.now) depth encountered_overflow }
@@ -339,6 +358,19 @@ impl<D: Delegate> CachedResults<D> {
         self.newest[number] = Some(place);
         Ok(place)
     }
+}
+
+/// Whether one of the goals is on the stack.
+fn is_any_on_stack(positions: &IndexMap<usize, usize>, goals: &[usize]) -> bool
+    ensures one { result ≡ true → (i : ℕ) × (asked : ℕ) × (slice_get goals.now i ≡ Some asked) × ContainsKey nat_eq positions.now asked }
+    ensures none { result ≡ false → All (λ asked. ContainsKey nat_eq positions.now asked → ⊥) goals.now }
+{
+    for goal in goals {
+        if positions.contains_key(goal) {
+            return true;
+        }
+    }
+    false
 }
 
 /// Adds goals without results, up to the one with the number.

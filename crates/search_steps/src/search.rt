@@ -3,8 +3,8 @@
 ghost use Rattle.std.specs.Prelude.{◌≡◌, [], ◌∷◌, ℕ, ◌+◌, ◌-◌, ◌^◌, ◌/◌, ◌<◌, ◌≤◌, ◌↔◌, ◌++◌, ◌⊎◌, length, max, min, IfOk, IfSome, IfNone, IsSome, OnOk, OnErr, None, nat_eq, slice_get, drop, true, false, cond, option_to_list};
 ghost use Rattle.std.proofs.Props.{props};
 ghost use Rattle.indexmap.specs.IndexMap.{get};
-ghost use Rattle.search_paths.specs.Nested.{covered, one_goal};
-ghost use Rattle.search_steps.specs.Chain.{IsUsable, IsWithinDepth};
+ghost use Rattle.search_paths.specs.Nested.{covered, no_goal, one_goal};
+ghost use Rattle.search_steps.specs.Chain.{IsUsable, AreInRange, AreInRanges};
 ghost use Rattle.search_steps.specs.Meaning.{Keeps};
 ghost use Rattle.search_steps.specs.Cache.{known_results, HasConflict, IsNumberOf, KeepsResults};
 ghost use Rattle.search_steps.specs.Plain.{IsNotPlain};
@@ -33,6 +33,7 @@ pub struct Search<D: Delegate> {
     /// The place of each goal of the stack, by its number.
     positions: IndexMap<usize, usize>,
     ghost placed: { (number : ℕ) → get nat_eq positions number ≡ place_of stack.items number } by { Prim.hlevel props },
+    ghost ranges: { AreInRanges stack.items } by { Prim.hlevel props },
     /// Whether a limit of the depth or of the runs gave a result.
     pub limits_met: bool,
     /// How many frames were started, or the greatest `u64` if there were more.
@@ -113,6 +114,7 @@ impl<D: Delegate> Search<D> {
 
     /// Puts a goal on the stack, of which a frame was started. It is refused where memory is; the frame is counted then too.
     pub fn begin(&mut self, entry: StackEntry<InputOf<D>, ResultOf<D>>) -> Result<(), AllocError>
+        requires { entry.span ≡ covered (span_of_newest self.old.stack.items) (one_goal entry.number) }
         ensures stack { OnOk result (self.new.stack.items ≡ self.old.stack.items ++ entry ∷ []) }
         ensures err { OnErr result (self.new.stack.items ≡ self.old.stack.items) }
         ensures frames { self.new.frames ≡ min (self.old.frames + 1) (2 ^ 64 - 1) }
@@ -146,7 +148,7 @@ impl<D: Delegate> Search<D> {
         input: &InputOf<D>,
         depth: usize,
     ) -> Result<Option<usize>, AllocError>
-        ensures found { IfOk result (λ found. IfSome found (λ place. (e : _) × (slice_get cache.now.entries.items place ≡ Some e) × (e.input ≡ input.now) × IsWithinDepth e.encountered_overflow e.depth depth)) }
+        ensures found { IfOk result (λ found. IfSome found (λ place. (e : _) × (slice_get cache.now.entries.items place ≡ Some e) × IsUsable cache.now.entries.items (λ asked. IsSome (place_of self.now.stack.items asked)) number input.now depth place e)) }
         ensures none { IfOk result (λ found. IfNone found ((place : ℕ) (e : _) → slice_get cache.now.entries.items place ≡ Some e → IsUsable cache.now.entries.items (λ asked. IsSome (place_of self.now.stack.items asked)) number input.now depth place e → ⊥)) }
     {
         cache.find(&self.positions, self.span(), number, input, depth)
@@ -216,6 +218,7 @@ impl<D: Delegate> Search<D> {
         ensures same { IfOk result (λ o. (e : _) → slice_get cache.now.entries.items place ≡ Some e → (o.result ≡ e.result) × (o.dependencies.required_depth ≡ e.depth) × (o.dependencies.encountered_overflow ≡ e.encountered_overflow)) }
         ensures unread { IfOk result (λ o. (o.dependencies.lowest ≡ length self.now.stack.items) × (o.dependencies.heads.items ≡ [])) }
         ensures asked { IfOk result (λ o. (o.dependencies.nested_goals.goals.items ≡ []) × (o.dependencies.nested_goals.cached.items ≡ place ∷ [])) }
+        ensures range { IfOk result (λ o. AreInRange cache.now.entries.items o.dependencies.nested_goals) }
         ensures answer { IfOk result (λ o. IsAnswer D.meaning (D.meaning.world cx.now) (path_onto D.meaning cx.now self.now.stack.items []) (D.meaning.goal_of cx.now input.now, step_kind) o.dependencies.lowest cx.now o.result) }
         ensures faithful { IfOk result (λ o. IsFaithful D.meaning (D.meaning.world cx.now) (depth + 1) (path_onto D.meaning cx.now self.now.stack.items []) (D.meaning.goal_of cx.now input.now) (D.meaning.answer_of cx.now o.result) o.dependencies.encountered_overflow o.dependencies.lowest o.dependencies.heads.items) }
         ensures within { IfOk result (λ o. (before : _) → AreCachedWithin D.meaning (D.meaning.world cx.now) before cx.now cache.now.entries.items → IsWithin D.meaning (D.meaning.world cx.now) before (D.meaning.goal_of cx.now input.now) (D.meaning.answer_of cx.now o.result)) }
@@ -258,7 +261,7 @@ impl<D: Delegate> Search<D> {
         ensures overflow { IfOk result (λ o. D.meaning.answer_of cx.new o.result ≡ D.meaning.stack_overflow (D.meaning.world cx.old) (D.meaning.goal_of cx.old input)) }
         ensures told { IfOk result (λ o. o.dependencies.encountered_overflow ≡ true) }
         ensures unread { IfOk result (λ o. (o.dependencies.lowest ≡ length self.old.stack.items) × (o.dependencies.heads.items ≡ [])) }
-        ensures asked { IfOk result (λ o. (o.dependencies.nested_goals.goals.items ≡ number ∷ []) × (o.dependencies.nested_goals.cached.items ≡ [])) }
+        ensures asked { IfOk result (λ o. (o.dependencies.nested_goals.goals.items ≡ number ∷ []) × (o.dependencies.nested_goals.cached.items ≡ []) × (o.dependencies.nested_goals.span ≡ covered no_goal (one_goal number))) }
         ensures depth { IfOk result (λ o. o.dependencies.required_depth ≡ 0) }
         ensures no_conflict { result ≡ Err GraphFault.Conflict → ⊥ }
         ensures in_order { result ≡ Err GraphFault.Protocol → ⊥ }
@@ -350,6 +353,7 @@ pub fn finish<D: Delegate>(
 ) -> Evaluation<D>
     requires cache { AreCached D.meaning (D.meaning.world cx.now) cx.now cache.old.entries.items }
     requires input { D.meaning.IsInput cx.now input }
+    requires nested { AreInRange cache.old.entries.items evaluation.dependencies.nested_goals }
     requires number { IsNumberOf D.Cx.Input.eq cache.old.goals.keys input number }
     requires alone { index ≤ evaluation.dependencies.lowest → IsProvisional D.meaning (D.meaning.world cx.now) [] (D.meaning.goal_of cx.now input, PathKind.Inductive) 0 cx.now evaluation.result }
     requires kept { index ≤ evaluation.dependencies.lowest → IsKept D.meaning (D.meaning.world cx.now) (D.meaning.goal_of cx.now input) (D.meaning.answer_of cx.now evaluation.result) depth evaluation.dependencies.encountered_overflow }
@@ -366,6 +370,7 @@ pub fn finish<D: Delegate>(
     ensures depth { IfOk result (λ o. o.dependencies.required_depth ≡ evaluation.dependencies.required_depth) }
     ensures found { IfOk result (λ o. index ≤ evaluation.dependencies.lowest → (o.dependencies.nested_goals.goals.items ≡ []) × (o.dependencies.nested_goals.cached.items ≡ length cache.old.entries.items ∷ [])) }
     ensures asked { IfOk result (λ o. evaluation.dependencies.lowest < index → (o.dependencies.nested_goals.goals.items ≡ evaluation.dependencies.nested_goals.goals.items ++ number ∷ []) × (o.dependencies.nested_goals.cached ≡ evaluation.dependencies.nested_goals.cached)) }
+    ensures range { IfOk result (λ o. AreInRange cache.new.entries.items o.dependencies.nested_goals) }
     ensures within { OnOk result ((before : _) → AreCachedWithin D.meaning (D.meaning.world cx.now) before cx.now cache.old.entries.items → IsWithin D.meaning (D.meaning.world cx.now) before (D.meaning.goal_of cx.now input) (D.meaning.answer_of cx.now evaluation.result) → AreCachedWithin D.meaning (D.meaning.world cx.now) before cx.now cache.new.entries.items) }
     ensures no_conflict { result ≡ Err GraphFault.Conflict → (limit : ℕ) → limit ≤ depth + 1 → IsNotPlain D.meaning (D.meaning.world cx.now) limit (D.meaning.goal_of cx.now input) }
     ensures conflict { result ≡ Err GraphFault.Conflict → HasConflict D.meaning cx.now (known_results cache.new.entries.items) }

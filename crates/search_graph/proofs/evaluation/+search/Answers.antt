@@ -4,7 +4,11 @@ use Rattle.search_paths.specs.declared.path_kind.PathKind.TheVariants.{Inductive
 use Rattle.search_steps.specs.declared.delegate.Request.TheVariants.{Evaluate, EnterCandidate, FinishCandidate, IgnoreCandidate, Done}
 use Rattle.search_steps.specs.declared.delegate.Reply.TheVariants.{Entered, Finished, Ignored}
 use Rattle.search_steps.specs.Meaning.{finished, ignoring, answer_count}
-use Rattle.search_steps.specs.Stack.{question_of, path_onto}
+use Rattle.search_paths.specs.Nested.{covered, one_goal}
+use Rattle.search_steps.proofs.Ranges.{in_range_none, in_range_one, in_range_goal, in_range_gather, in_range_later, at_end}
+use Rattle.std.proofs.lemmas.Option.{none-some}
+use Rattle.search_graph.proofs.Depths.{depth_below, depth_gathered, kept_within}
+use Rattle.search_steps.specs.Stack.{question_of, path_onto, span_of_newest}
 use Rattle.search_steps.specs.Cache.{IsNumberOf}
 use Rattle.search_steps.specs.Chain.{IsAskedUnder}
 use Rattle.search_steps.specs.Computed.{IsGivenWithin, nothing, also, below}
@@ -116,7 +120,10 @@ evaluate_new-loop-run-init g t c =
       cache = c.requires.cache;
       goals = λ x n h. h;
       results = λ p x h. h;
+      range = in_range_none c.args.cache.now.entries.items c.new-dependencies.result.nested_goals c.new-dependencies.ensures.unasked.0 c.new-dependencies.ensures.unasked.1;
+      depth = λ off. omega (arith, c.new-dependencies.ensures.depth);
       stack = refl;
+      span = c.new_entry-entry.ensures.span ∙ ap (λ n. covered (span_of_newest es) (one_goal n)) (sym c.new_entry-entry.ensures.number);
       place = c.len-index.ensures ∙ c.args.search.now.stack.ok.0;
       input = c.new_entry-entry.ensures.input;
       kind = c.new_entry-entry.ensures.kind;
@@ -161,7 +168,10 @@ evaluate_new-loop-run-preserved g t c =
       cache = c.run_once.ensures.cache;
       goals = λ x n h. c.run_once.ensures.goals x n (inv.goals x n h);
       results = λ p x h. c.run_once.ensures.results p x (inv.results p x h);
+      range = c.in_ok-back.ensures.range;
+      depth = c.in_ok-back.ensures.depth;
       stack = c.in_ok-back.ensures.stack ∙ inv.stack;
+      span = rw (c.next_run-entry.ensures, c.in_ok-back.ensures.entry) inv.span;
       place = inv.place;
       input = ap (λ e. e.input) c.next_run-entry.ensures ∙ input;
       kind = ap (λ e. e.step_kind) c.next_run-entry.ensures ∙ kind;
@@ -203,7 +213,7 @@ evaluate_new-run_once-requires g t c κs within =
                 within.1.1.1.1.0,
                 (
                   within.1.1.1.1.1,
-                  (stack, (inv.cache, (entry, (rw inv.stack inv.room, rw (inv.keeps.world, path-now m first c.loop-run.cx es c.loop-run.search.stack.items inv.keeps inv.stack c.requires.stack, inv.input, goal_is) inv.untouched)))),
+                  (stack, (inv.cache, (entry, (rw inv.stack inv.room, (rw inv.stack inv.span, (inv.range, (inv.depth, rw (inv.keeps.world, path-now m first c.loop-run.cx es c.loop-run.search.stack.items inv.keeps inv.stack c.requires.stack, inv.input, goal_is) inv.untouched))))))),
                 ),
               ),
             ),
@@ -545,6 +555,8 @@ run_once-loop-request-init g t c =
       cache = AreCached-later m first c.step.new.cx c.args.cache.now.entries.items keeps c.requires.cache;
       goals = λ x n h. h;
       results = λ p x h. h;
+      range = c.requires.nested;
+      depth = c.requires.depth;
       stack = c.in_ok-begin.ensures.stack;
       room = c.requires.room;
       running = start.0;
@@ -588,6 +600,10 @@ run_once-loop-request-preserved-in-Evaluate g t c =
       cache = AreCached-later m c.ask.new.cx c.step-in-Evaluate.new.cx c.ask.new.cache.entries.items c.step-in-Evaluate.ensures.keeps c.ask.ensures.cache;
       goals = λ x n h. c.ask.ensures.goals x n (inv.goals x n h);
       results = λ p x h. c.ask.ensures.results p x (inv.results p x h);
+      range = in_range_gather c.ask.new.cache.entries.items c.loop-request.dependencies.nested_goals nested.dependencies.nested_goals c.gather.new.self.nested_goals c.in_ok-gather-in-Evaluate.ensures.goals c.in_ok-gather-in-Evaluate.ensures.cached c.in_ok-gather-in-Evaluate.ensures.span
+          (in_range_later c.loop-request.cache.entries.items c.ask.new.cache.entries.items c.loop-request.dependencies.nested_goals c.ask.ensures.results inv.range) c.in_ok-nested-in-Evaluate.ensures.range;
+      depth = depth_gathered c.loop-request.dependencies.encountered_overflow nested.dependencies.encountered_overflow c.gather.new.self.encountered_overflow c.loop-request.dependencies.required_depth nested.dependencies.required_depth c.gather.new.self.required_depth c.args.depth
+          c.in_ok-gather-in-Evaluate.ensures.overflow c.in_ok-gather-in-Evaluate.ensures.depth inv.depth c.in_ok-nested-in-Evaluate.ensures.depth;
       stack = c.in_ok-nested-in-Evaluate.ensures.stack ∙ inv.stack;
       room = let least = c.in_ok-gather-in-Evaluate.ensures.lowest in let before = inv.room in omega arith;
       running = next.0;
@@ -740,6 +756,8 @@ run_once-loop-request-preserved-in-EnterCandidate g t c =
       cache = AreCached-later m c.loop-request.cx c.step-in-EnterCandidate.new.cx c.loop-request.cache.entries.items c.step-in-EnterCandidate.ensures.keeps inv.cache;
       goals = inv.goals;
       results = inv.results;
+      range = inv.range;
+      depth = inv.depth;
       stack = inv.stack;
       room = inv.room;
       running = next.0;
@@ -827,6 +845,8 @@ run_once-loop-request-preserved-in-FinishCandidate g t c =
       cache = AreCached-later m c.loop-request.cx c.step-in-FinishCandidate.new.cx c.loop-request.cache.entries.items c.step-in-FinishCandidate.ensures.keeps inv.cache;
       goals = inv.goals;
       results = inv.results;
+      range = inv.range;
+      depth = inv.depth;
       stack = inv.stack;
       room = inv.room;
       running = next.0;
@@ -914,6 +934,8 @@ run_once-loop-request-preserved g t c =
       cache = AreCached-later m c.loop-request.cx c.step-in-IgnoreCandidate.new.cx c.loop-request.cache.entries.items c.step-in-IgnoreCandidate.ensures.keeps inv.cache;
       goals = inv.goals;
       results = inv.results;
+      range = inv.range;
+      depth = inv.depth;
       stack = inv.stack;
       room = inv.room;
       running = next.0;
@@ -1388,13 +1410,13 @@ evaluate-returns-in-None-clause-cached g t c = λ place e at same within clear.
 pub evaluate-use_cached-requires-clause-place : goal.evaluate-use_cached-requires-clause-place
 evaluate-use_cached-requires-clause-place g t c =
     let found = rw c.in-Some.is at c.in_ok-place.ensures.found in
-    (found.0, found.1, found.2, found.3.0)
+    (found.0, found.1, found.2.same, found.2.within.0)
 
 pub evaluate-returns-in-Some-clause-known : goal.evaluate-returns-in-Some-clause-known
 evaluate-returns-in-Some-clause-known g t c = λ place e at same within clear.
     let found = rw c.in-Some.is at c.in_ok-place.ensures.found in
     let items : c.number_of.new.self.entries.items ≡ c.args.cache.now.entries.items = ap (λ v. v.items) c.number_of.ensures.entries in
-    IfOk-weaker c.use_cached.result _ _ (λ o told. (c.in-Some.place, found.0, subst (λ es. slice_get es c.in-Some.place ≡ Some found.0) items found.1, found.2, found.3, (told found.0 found.1).0)) c.use_cached.ensures.same
+    IfOk-weaker c.use_cached.result _ _ (λ o told. (c.in-Some.place, found.0, subst (λ es. slice_get es c.in-Some.place ≡ Some found.0) items found.1, found.2.same, found.2.within, (told found.0 found.1).0)) c.use_cached.ensures.same
 
 pub evaluate-returns-in_ok-add_goal-in-Some-find_cycle-clause-known : goal.evaluate-returns-in_ok-add_goal-in-Some-find_cycle-clause-known
 evaluate-returns-in_ok-add_goal-in-Some-find_cycle-clause-known g t c = λ place e at same within clear.
@@ -1423,3 +1445,67 @@ evaluate-returns-in-None-clause-known g t c = λ place e at same within clear.
       within = within;
       clear = λ asked under on. clear asked (subst (λ es. IsAskedUnder es place asked) items under) on;
     }))
+
+pub ask-returns-then-depth-eq0-clause-range : goal.ask-returns-then-depth-eq0-clause-range
+ask-returns-then-depth-eq0-clause-range g t c = IfOk-weaker c.overflow.result _ _ (λ o asked. in_range_one c.number_of.new.self.entries.items o.dependencies.nested_goals c.in_ok-number.number asked.0 asked.1 asked.2) c.overflow.ensures.asked
+
+pub evaluate-returns-in_ok-add_goal-in-Some-find_cycle-clause-range : goal.evaluate-returns-in_ok-add_goal-in-Some-find_cycle-clause-range
+evaluate-returns-in_ok-add_goal-in-Some-find_cycle-clause-range g t c =
+    let es = c.number_of.new.self.entries.items in
+    in_range_goal es c.new-dependencies.result.nested_goals c.add_goal.new.self c.in_ok-number.number c.in_ok-add_goal-in-Some-find_cycle.ensures.added (ap (λ v. v.items) c.add_goal.ensures.cached) c.in_ok-add_goal-in-Some-find_cycle.ensures.span
+    (in_range_none es c.new-dependencies.result.nested_goals c.new-dependencies.ensures.unasked.0 c.new-dependencies.ensures.unasked.1)
+
+pub evaluate_new-finish-requires-clause-nested : goal.evaluate_new-finish-requires-clause-nested
+evaluate_new-finish-requires-clause-nested g t c = c.in_ok-back.ensures.range
+
+pub evaluate_new-finish-requires-2-clause-nested : goal.evaluate_new-finish-requires-2-clause-nested
+evaluate_new-finish-requires-2-clause-nested g t c = c.loop-run.invariant.range
+
+pub run_once-returns-in-Done-clause-range : goal.run_once-returns-in-Done-clause-range
+run_once-returns-in-Done-clause-range g t c = c.loop-request.invariant.range
+
+pub ask-returns-then-depth-eq0-clause-depth : goal.ask-returns-then-depth-eq0-clause-depth
+ask-returns-then-depth-eq0-clause-depth g t c = IfOk-weaker c.overflow.result _ _ (λ o told off. absurd (true_not_false (sym told ∙ off))) c.overflow.ensures.told
+
+pub ask-returns-clause-depth : goal.ask-returns-clause-depth
+ask-returns-clause-depth g t c = IfOk-weaker c.evaluate.result _ _ (λ o within off. depth_below o.dependencies.required_depth c.nested_depth-nested.result c.args.depth (within off) c.nested_depth-nested.ensures.falls) c.evaluate.ensures.depth
+
+pub evaluate-returns-in-Some-clause-depth : goal.evaluate-returns-in-Some-clause-depth
+evaluate-returns-in-Some-clause-depth g t c =
+    let found = rw c.in-Some.is at c.in_ok-place.ensures.found in
+    IfOk-weaker c.use_cached.result _ _ (λ o told off. let same = told found.0 found.1 in rw (← same.1) at (found.2.within.1 (sym same.2 ∙ off))) c.use_cached.ensures.same
+
+pub evaluate-returns-in-Some-clause-kept : goal.evaluate-returns-in-Some-clause-kept
+evaluate-returns-in-Some-clause-kept g t c = λ empty.
+    let found = rw c.in-Some.is at c.in_ok-place.ensures.found in
+    IfOk-weaker c.use_cached.result _ _ (λ o told. (c.in-Some.place, found.0, found.1, found.2.same, sym (told found.0 found.1).0, found.2.within)) c.use_cached.ensures.same
+
+pub evaluate-returns-in_ok-add_goal-in-Some-find_cycle-clause-depth : goal.evaluate-returns-in_ok-add_goal-in-Some-find_cycle-clause-depth
+evaluate-returns-in_ok-add_goal-in-Some-find_cycle-clause-depth g t c = λ off. omega (arith, c.new-dependencies.ensures.depth)
+
+pub evaluate-returns-in_ok-add_goal-in-Some-find_cycle-clause-kept : goal.evaluate-returns-in_ok-add_goal-in-Some-find_cycle-clause-kept
+evaluate-returns-in_ok-add_goal-in-Some-find_cycle-clause-kept g t c = λ empty. absurd (none-some c.in-Some-find_cycle.cycle.index (rw empty at c.in-Some-find_cycle.ensures.place))
+
+pub evaluate_new-returns-then-is_last_run-clause-depth : goal.evaluate_new-returns-then-is_last_run-clause-depth
+evaluate_new-returns-then-is_last_run-clause-depth g t c = rw (c.in_ok-finished.ensures.overflow, c.in_ok-finished.ensures.depth) c.in_ok-back.ensures.depth
+
+pub evaluate_new-returns-clause-depth : goal.evaluate_new-returns-clause-depth
+evaluate_new-returns-clause-depth g t c = rw (c.in_ok-finished-2.ensures.overflow, c.in_ok-finished-2.ensures.depth) c.loop-run.invariant.depth
+
+pub evaluate_new-returns-then-is_last_run-clause-kept : goal.evaluate_new-returns-then-is_last_run-clause-kept
+evaluate_new-returns-then-is_last_run-clause-kept g t c = λ empty.
+    let inv = c.loop-run.invariant in
+    let input : c.in_ok-back.back.input ≡ c.args.input = ap (λ e. e.input) c.in_ok-back.ensures.entry ∙ inv.input in
+    let root : c.len-index.result ≡ 0 = inv.place ∙ ap length empty in
+    let kept = c.in_ok-finished.ensures.kept (omega (arith, root)) in
+    (length c.run_once.new.cache.entries.items, kept.0, rw kept.1 (at_end c.run_once.new.cache.entries.items kept.0), kept.2 ∙ input, kept.3 ∙ sym c.in_ok-finished.ensures.same, kept_within c.in_ok-back.outcome.dependencies.encountered_overflow kept.0.encountered_overflow c.args.depth c.in_ok-back.outcome.dependencies.required_depth kept.0.depth kept.5 kept.4 c.in_ok-back.ensures.depth)
+
+pub evaluate_new-returns-clause-kept : goal.evaluate_new-returns-clause-kept
+evaluate_new-returns-clause-kept g t c = λ empty.
+    let inv = c.loop-run.invariant in
+    let root : c.len-index.result ≡ 0 = inv.place ∙ ap length empty in
+    let kept = c.in_ok-finished-2.ensures.kept (omega (arith, root)) in
+    (length c.loop-run.cache.entries.items, kept.0, rw kept.1 (at_end c.loop-run.cache.entries.items kept.0), kept.2 ∙ inv.input, kept.3 ∙ sym c.in_ok-finished-2.ensures.same, kept_within c.loop-run.dependencies.encountered_overflow kept.0.encountered_overflow c.args.depth c.loop-run.dependencies.required_depth kept.0.depth kept.5 kept.4 inv.depth)
+
+pub run_once-returns-in-Done-clause-depth : goal.run_once-returns-in-Done-clause-depth
+run_once-returns-in-Done-clause-depth g t c = c.loop-request.invariant.depth

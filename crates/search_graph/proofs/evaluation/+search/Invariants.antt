@@ -1,8 +1,10 @@
 use Rattle.std.proofs.Common.{◌<◌, ◌⊎◌, true, false, List, ◌≡◌, ◌≤◌, length, max, ℕ, ◌+◌, ◌*◌, [], ◌∷◌, ◌++◌}
 use Rattle.search_steps.specs.Meaning.{Keeps, is_open, finished, answer_count}
+use Rattle.search_paths.specs.Nested.{covered, one_goal}
+use Rattle.search_steps.specs.Chain.{AreInRange}
 use Rattle.search_steps.specs.Cache.{KeepsNumbers, KeepsResults}
 use Rattle.search_steps.specs.Computed.{Hears, IsGivenWithin}
-use Rattle.search_steps.specs.Stack.{question_of, path_onto, IsEntry, IsRunning, AreCached, IsLastWithin, AreLastWithin, AreCachedWithin}
+use Rattle.search_steps.specs.Stack.{question_of, path_onto, span_of_newest, IsEntry, IsRunning, AreCached, IsLastWithin, AreLastWithin, AreCachedWithin}
 use Rattle.search_steps.specs.Plain.{IsNotPlain}
 use Rattle.search_steps.specs.Faithful.{AllDescend, IsOnPlainTrack, IsUntouched}
 use Rattle.search_graph.specs.Bound.{question_bound}
@@ -28,7 +30,10 @@ invariant-evaluate_new-loop-run g l =
       cache : AreCached m (m.world l.cx) l.cx l.cache.entries.items;
       goals : KeepsNumbers g.D.Cx.Input.PartialEq.eq l.fn.cache.goals.keys l.cache.goals.keys;
       results : KeepsResults l.fn.cache.entries.items l.cache.entries.items;
+      range : AreInRange l.cache.entries.items l.dependencies.nested_goals;
+      depth : l.dependencies.encountered_overflow ≡ false → l.dependencies.required_depth ≤ l.depth;
       stack : l.search.stack.items ≡ l.fn.search.stack.items;
+      span : l.entry.span ≡ covered (span_of_newest l.fn.search.stack.items) (one_goal l.entry.number);
       place : l.index ≡ length l.fn.search.stack.items;
       input : l.entry.input ≡ l.fn.input;
       kind : l.entry.step_kind ≡ l.fn.step_kind;
@@ -54,6 +59,8 @@ invariant-run_once-loop-request g l =
       cache : AreCached m (m.world l.cx) l.cx l.cache.entries.items;
       goals : KeepsNumbers g.D.Cx.Input.PartialEq.eq l.fn.cache.goals.keys l.cache.goals.keys;
       results : KeepsResults l.fn.cache.entries.items l.cache.entries.items;
+      range : AreInRange l.cache.entries.items l.dependencies.nested_goals;
+      depth : l.dependencies.encountered_overflow ≡ false → l.dependencies.required_depth ≤ l.depth;
       stack : l.search.stack.items ≡ l.fn.search.stack.items ++ l.fn.entry ∷ [];
       room : l.dependencies.lowest ≤ length l.fn.search.stack.items;
       running : IsRunning m (m.world l.fn.cx) (question_of m l.fn.cx l.fn.entry ∷ path_onto m l.fn.cx l.fn.search.stack.items []) (m.goal_of l.fn.cx l.fn.entry.input) l.dependencies.lowest l.cx l.frame l.request;

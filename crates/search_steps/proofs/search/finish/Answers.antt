@@ -1,6 +1,9 @@
-use Rattle.std.proofs.Common.{◌∙◌, inl, inr}
+use Rattle.std.proofs.Common.{◌≡◌, ◌∙◌, ◌∷◌, ◌++◌, [], ap, inl, inr, slice_get, Some}
 use Rattle.std.proofs.lemmas.Result.{err_from_is_err_and}
 use Rattle.search_steps.proofs.Errors.{err_passed}
+use Rattle.search_paths.specs.Nested.{covered, no_goal}
+use Rattle.search_steps.specs.Chain.{range_of}
+use Rattle.search_steps.proofs.Ranges.{at_end, in_range_cached, in_range_goal}
 use Rattle.search_steps.proofs.search.finish.Goals as goal
 use Rattle.search_steps.proofs.search.finish.Goals.{then-encountered_overflow, else-encountered_overflow}
 
@@ -51,3 +54,18 @@ returns-in_err-add_cached-clause-err g c =
     let p = err_from_is_err_and c.from_residual-in_err-add_cached.result c.from_residual-in_err-add_cached.ensures.1 in
     let kept = c.in_ok-place.ensures.kept in
     rw p.1 (inr (kept.0, kept.1))
+
+pub returns-then-lowest-index-clause-range : goal.returns-then-lowest-index-clause-range
+returns-then-lowest-index-clause-range g c =
+    let kept = c.in_ok-place.ensures.kept in
+    let old = c.args.cache.now.entries.items in
+    let at : slice_get (c.args.cache.now.entries.items ++ c.in_ok-place.ensures.kept.0 ∷ []) c.in_ok-place.place ≡ Some c.in_ok-place.ensures.kept.0 = rw c.in_ok-place.ensures.place (at_end old kept.0) in
+    let span : c.cover-span.result ≡ range_of c.in_ok-place.ensures.kept.0 = rw (kept.6, kept.7) (c.cover-span.ensures.is ∙ ap (covered c.args.evaluation.dependencies.nested_goals.span) c.of.ensures.is) in
+    in_range_cached c.insert.new.self.entries.items c.add_cached.new.self c.in_ok-place.place kept.0 (rw kept.1 at)
+    (ap (λ v. v.items) c.add_cached.ensures.goals ∙ c.new-nested_goals.ensures.goals)
+    (c.in_ok-add_cached.ensures.added ∙ ap (λ xs. xs ++ c.in_ok-place.place ∷ []) c.new-nested_goals.ensures.cached)
+    (c.in_ok-add_cached.ensures.span ∙ ap (λ s. covered s c.cover-span.result) c.new-nested_goals.ensures.span ∙ ap (covered no_goal) span)
+
+pub returns-clause-range : goal.returns-clause-range
+returns-clause-range g c = in_range_goal c.args.cache.now.entries.items c.args.evaluation.dependencies.nested_goals c.add_goal.new.self c.args.number
+    c.in_ok-add_goal.ensures.added (ap (λ v. v.items) c.add_goal.ensures.cached) c.in_ok-add_goal.ensures.span c.requires.nested

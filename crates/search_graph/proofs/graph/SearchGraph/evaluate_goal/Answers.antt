@@ -117,3 +117,20 @@ pub returns-clause-results : goal.returns-clause-results
 returns-clause-results g c = λ place k at.
     let found = entry_at c.cache.inside.results.entries.items place k (subst (λ ks. slice_get ks place ≡ Some k) (sym c.cache.view_is) at) in
     known_at c.evaluate.new.cache.entries.items place found.0 (c.evaluate.ensures.results place found.0 found.1) ∙ ap Some found.2
+
+pub returns-clause-kept : goal.returns-clause-kept
+returns-clause-kept g c =
+    let empty : c.self.inside.search.stack.items ≡ [] = empty_of_length c.self.inside.search.stack.items (ap (λ s. s.current_depth) c.self.view_is ∙ c.requires.empty) in
+    let depth : c.self.inside.root_depth ≡ c.args.self.now.root_depth = ap (λ s. s.root_depth) c.self.view_is in
+    elim c.match-evaluate.branch [
+      | in-Ok w ↦ rw w.result-is (
+          let told = w.in-Ok.ensures.kept empty in (
+            told.0,
+            known_result told.1,
+            known_at c.evaluate.new.cache.entries.items told.0 told.1 told.2,
+            told.3,
+            told.4,
+            subst (λ d. IsWithinDepth told.1.encountered_overflow told.1.depth d) depth told.5,
+          ))
+      | in-Err w ↦ rw w.result-is tt
+    ]

@@ -4,6 +4,7 @@ use Rattle.search_steps.proofs.Chains.{AreLinked-push, listed_push}
 use Rattle.search_steps.proofs.Graphs.{Keeps-refl, cached_insert, IsCached-at}
 use Rattle.search_steps.proofs.Limits.{AreCachedWithin-push}
 use Rattle.search_steps.proofs.Faithfuls.{true_not_false}
+use Rattle.search_steps.proofs.Ranges.{covered_push}
 use Rattle.search_steps.proofs.cache.CachedResults.insert.Goals as goal
 
 pub returns-clause-cache : goal.returns-clause-cache
@@ -62,3 +63,13 @@ invariant_of-self-2-clause-consistent g c = rw c.in_ok-push.ensures.items
 
 pub returns-clause-results : goal.returns-clause-results
 returns-clause-results g c = rw c.in_ok-push.ensures.items (KeepsResults-push c.args.self.now.entries.items (record { input = c.args.input; result = c.in_ok-result.result; depth = c.args.depth; encountered_overflow = c.args.encountered_overflow; number = c.args.number; previous = c.newest_of-previous.result; nested_goals = c.args.nested_goals }))
+
+pub invariant_of-self-in-Break-branch-3 : goal.invariant_of-self-in-Break-branch-3
+invariant_of-self-in-Break-branch-3 g c =
+    let old = c.args.self.now in
+    rw c.in_err-push.ensures.items
+    (record { listed = λ n. c.make_room.ensures.same n ∙ old.listed n; linked = old.linked; numbered = old.numbered; covered = old.covered; consistent = old.consistent })
+
+pub invariant_of-self-2-clause-covered : goal.invariant_of-self-2-clause-covered
+invariant_of-self-2-clause-covered g c = rw c.in_ok-push.ensures.items
+    (covered_push c.args.self.now.entries.items (record { input = c.args.input; result = c.in_ok-result.result; depth = c.args.depth; encountered_overflow = c.args.encountered_overflow; number = c.args.number; previous = c.newest_of-previous.result; nested_goals = c.args.nested_goals }) c.args.self.now.covered c.requires.nested)
