@@ -16,6 +16,7 @@ use type_terms::interner::Interner;
 use type_terms::{Fault, TraitId};
 
 /// The handler without rules: it refuses each goal, and no reference has a proof.
+#[derive(Drop)]
 pub struct NoRules;
 
 impl GoalHandler for NoRules {

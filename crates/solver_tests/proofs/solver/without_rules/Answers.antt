@@ -1,0 +1,10 @@
+use Rattle.solver_tests.proofs.solver.without_rules.Goals as goal
+
+pub evaluate-requires-clause-table : goal.evaluate-requires-clause-table
+evaluate-requires-clause-table c = rw c.in_ok-solver.ensures.interner c.in_ok-posed.ensures.table
+
+pub evaluate-requires-clause-unknown : goal.evaluate-requires-clause-unknown
+evaluate-requires-clause-unknown c = rw c.in_ok-solver.ensures.interner c.in_ok-posed.ensures.unknown
+
+pub evaluate-requires-clause-goal : goal.evaluate-requires-clause-goal
+evaluate-requires-clause-goal c = rw c.in_ok-solver.ensures.interner c.in_ok-posed.ensures.goal
