@@ -5,7 +5,7 @@ ghost use Rattle.infer_table.specs.Content.{Ready};
 ghost use Rattle.benchmarks.specs.declared.TheConstants.{MOST};
 
 use crate::MOST;
-use infer_table::goal::EqError;
+use infer_table::certainty::EqError;
 use infer_table::infer_ctxt::InferCtxt;
 use std::alloc::Global;
 use type_terms::Fault;

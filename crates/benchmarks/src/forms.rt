@@ -3,13 +3,13 @@ ghost use Rattle.std.specs.Prelude.{IfOk};
 ghost use Rattle.type_terms.specs.Terms.{Keeps};
 ghost use Rattle.type_terms.specs.Kinds.{TysHeld};
 ghost use Rattle.infer_table.specs.Content.{Ready};
-ghost use Rattle.canonical_forms.specs.Goals.{GoalHeld};
+ghost use Rattle.infer_table.specs.Goals.{GoalHeld};
 
 use crate::terms::HANDLES;
-use canonical_forms::goal::Goal;
-use canonical_forms::input::canonicalize_goal;
-use infer_table::goal::TypingMode;
+use infer_table::certainty::TypingMode;
+use infer_table::goal::Goal;
 use infer_table::infer_ctxt::InferCtxt;
+use infer_table::input::canonicalize_goal;
 use std::alloc::Global;
 use term_folds::predicate::{TraitPredicate, TraitRef};
 use type_terms::interner::Interner;

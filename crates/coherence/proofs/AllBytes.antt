@@ -2,9 +2,9 @@
 use Rattle.std.proofs.Common.{◌≡◌, ℕ, ◌+◌, ◌≤◌, ◌==◌, List, length, take, Result, Ok, Err, Some, sym, ap, subst, length-take, arith, count_by, lit≤, Option, None, inl, inr, IfSome}
 use Rattle.coherence.specs.Lines.{WritesOutput, WritesPrefix}
 use Rattle.std.proofs.lemmas.List.{take_all, take-take}
-use Rattle.text_model.specs.Declarations.{Declarations}
-use Rattle.text_model.specs.Text.{TextGives, too_long, fits, long_line}
-use Rattle.text_model.specs.Output.{Answer}
+use Rattle.coherence_text.specs.Declarations.{Declarations}
+use Rattle.coherence_text.specs.Text.{TextGives, too_long, fits, long_line}
+use Rattle.coherence_text.specs.Output.{Answer}
 use Rattle.coherence.specs.declared.status.Status.{Status}
 use Rattle.coherence.specs.Lines.{IsOutput, of_fault, of_answers}
 

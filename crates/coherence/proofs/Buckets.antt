@@ -8,7 +8,7 @@ use Rattle.model.proofs.Members.{in-filter, filter-in, in-map}
 use Rattle.model.proofs.Entries.{map-in}
 use Rattle.model.proofs.Fitting.{same-reference-sound}
 use Rattle.type_terms.specs.declared.ImplId.{ImplId}
-use Rattle.text_model.specs.Declarations.{Declarations, first_impl}
+use Rattle.coherence_text.specs.Declarations.{Declarations, first_impl}
 use Rattle.coherence_text.specs.Views.{impl_numbers}
 use Rattle.coherence.specs.Sessions.{IsOfText}
 use Rattle.coherence.proofs.GroundWorlds.{same-reference-self}

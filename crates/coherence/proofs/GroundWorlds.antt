@@ -1,12 +1,13 @@
 -- Worlds whose headers hold no parameter: a reference has a proof exactly if it is a header, and two impls overlap exactly if
 -- their headers are one.
-use Rattle.std.proofs.Common.{◌≡◌, ℕ, ◌<◌, ◌≤◌, Bool, true, false, [], ◌∷◌, ◌++◌, refl, ap, sym, ◌∙◌, ◌&&◌, ◌||◌, ◌==◌, if◌then◌else◌, subst, ◌⊎◌, inl, inr, arith, IsTrue, append-nil}
+use Rattle.std.proofs.Common.{◌≡◌, ℕ, ◌<◌, ◌≤◌, Bool, true, false, List, [], ◌∷◌, map, ◌++◌, refl, ap, sym, ◌∙◌, ◌&&◌, ◌||◌, ◌==◌, if◌then◌else◌, subst, ◌⊎◌, inl, inr, arith, IsTrue, append-nil}
 use Rattle.std.proofs.lemmas.Bool.Decides.{nat_tests}
 use Rattle.std.specs.List.{flat_map}
 use Rattle.model.specs.Label.{Label, bool, char, str, never, int, uint, adt}
 use Rattle.model.specs.Codes.{same, same_label, same_numbers, numbers}
-use Rattle.model.specs.Trees.{Trees, none, tree, leaf, instantiate, fits, Fits, arguments}
+use Rattle.model.specs.Trees.{Trees, none, tree, leaf, instantiate, erase, fits, Fits, arguments}
 use Rattle.model.specs.Worlds.{World, Reference, TraitDecl, ImplDecl, with_args, view_of, sees, traits_named}
+use Rattle.model.specs.Terms.{erased_reference, erased_impl}
 use Rattle.model.specs.Rules.{Rule, by_impl, rules, impl_rules, built_in_rules, plain_rules, object_rules, same_reference, is_auto}
 use Rattle.model.specs.Proofs.{Entry, In, HasProof}
 use Rattle.model.specs.Walks.{local, entered, struct_leaf, until_decisive, struct_is, trait_is, keeps_orphan_rule, ends_local, walk}
@@ -245,3 +246,23 @@ view-header W c g r gr p =
     let f = proved-header (view_of W c) (ground-view W c g) r gr p in
     let at = in-filter (λ (x : ImplDecl). sees W c x.home) W.impls f.0 f.1 in
     (f.0, at.0, at.1, f.2)
+
+-- ---- without lifetimes they are as they are
+erased-leaf : (l : Label) → is_plain l ≡ true → erase (leaf l) ≡ leaf l
+erased-leaf bool h = refl
+erased-leaf char h = refl
+erased-leaf str h = refl
+erased-leaf never h = refl
+erased-leaf (int n) h = refl
+erased-leaf (uint n) h = refl
+erased-leaf (adt n) h = refl
+erased-leaf l h = cc
+
+pub erased-same : (r : Reference) → IsGroundReference r → erased_reference r ≡ r
+erased-same r g = ap (λ a. record r { args = a }) (ap erase g.alone ∙ erased-leaf g.self g.plain ∙ sym g.alone)
+
+pub erased-impl-same : (i : ImplDecl) → IsGroundImpl i → erased_impl i ≡ i
+erased-impl-same i g = join i.header (erased_reference i.header) i.clauses (erased-same i.header g.header) g.no_clauses
+  where
+    join : (h k : Reference) (cs : List Reference) → k ≡ h → cs ≡ [] → record i { header = k; clauses = map erased_reference cs } ≡ record i { header = h; clauses = cs }
+    join h k cs e n = cc

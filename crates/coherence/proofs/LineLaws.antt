@@ -12,9 +12,9 @@ use Rattle.type_terms.specs.declared.CrateId.{CrateId}
 use Rattle.type_terms.specs.declared.TheConstants.{MAX_INDEX}
 use Rattle.model.specs.Worlds.{ImplDecl}
 use Rattle.model.specs.Proofs.{In}
-use Rattle.text_model.specs.Declarations.{Declarations, NamedCrate, world_of, first_impl}
-use Rattle.text_model.specs.Numbered.{IsNumbered, IsFew}
-use Rattle.text_model.specs.Output.{Answer, output_text}
+use Rattle.coherence_text.specs.Declarations.{Declarations, NamedCrate, world_of, first_impl}
+use Rattle.coherence_text.specs.Numbered.{IsNumbered, IsFew}
+use Rattle.coherence_text.specs.Output.{Answer, output_text}
 use Rattle.coherence_text.specs.Views.{numbers_of}
 use Rattle.coherence.specs.Streams.{AppendsPrefix}
 use Rattle.coherence.specs.Sessions.{IsOfText}
@@ -23,6 +23,8 @@ use Rattle.coherence.specs.Progress.{WritesAnswersPrefix, WritesCratesPrefix, Wr
 use Rattle.coherence.proofs.TextFacts.{plain-text, ground-world}
 use Rattle.coherence.proofs.Buckets.{get-map, map-get}
 use Rattle.coherence.proofs.Decisions.{has-verdict, has-answer}
+use Rattle.coherence.proofs.VerdictNames.{verdict-of}
+use Rattle.coherence.proofs.QuestionAnswers.{answer-to}
 
 -- ---- whole lines
 one-line : (ls : List Answer) (l : Answer) → flat_map output_text ls ++ output_text l ≡ flat_map output_text (ls ++ l ∷ [])
@@ -101,7 +103,7 @@ module _ (limit : ℕ) (d : Declarations) (t : IsOfText d) (few : IsFew d 104857
   more-crates (suc k) n cs h =
       let v = has-verdict limit (world_of d) (n + 1) first_impl (ground-world d (plain-text t.0 d t.1)) (plain-text t.0 d t.1).numbered small in
       let line = verdict_line d (n + 1) v.0 in
-      let rest = more-crates k (n + 1) (cs ++ line ∷ []) (and_crate n cs v.0 h v.1) in
+      let rest = more-crates k (n + 1) (cs ++ line ∷ []) (and_crate n cs v.0 h (verdict-of limit d (n + 1) v.0 t v.1)) in
       let same : n + 1 + k ≡ n + suc k = omega arith in
       (line ∷ rest.0, subst (λ m. CrateLines limit d m (cs ++ line ∷ rest.0)) same (subst (λ (ls : List Answer). CrateLines limit d (n + 1 + k) ls) (append_assoc cs (line ∷ []) rest.0) rest.1))
 
@@ -113,7 +115,7 @@ module _ (limit : ℕ) (d : Declarations) (t : IsOfText d) (few : IsFew d 104857
       let q = there-is d.questions n (omega arith) in
       let a = has-answer (world_of d) q.0.asker (ground-world d (plain-text t.0 d t.1)) q.0.asked ((plain-text t.0 d t.1).questions q.0 (n, q.1)) in
       let line = prove_line (n + 1) a.0 in
-      let rest = more-questions k (n + 1) (qs ++ line ∷ []) (omega arith) (and_question n qs q.0 a.0 h q.1 a.1) in
+      let rest = more-questions k (n + 1) (qs ++ line ∷ []) (omega arith) (and_question n qs q.0 a.0 h q.1 (answer-to d q.0 a.0 t (n, q.1) a.1)) in
       let same : n + 1 + k ≡ n + suc k = omega arith in
       (line ∷ rest.0, subst (λ m. QuestionLines d m (qs ++ line ∷ rest.0)) same (subst (λ (ls : List Answer). QuestionLines d (n + 1 + k) ls) (append_assoc qs (line ∷ []) rest.0) rest.1))
 

@@ -5,7 +5,7 @@ use Rattle.std.proofs.lemmas.Bool.{cases_lt}
 use Rattle.std.proofs.lemmas.Option.{slice_get_within}
 use Rattle.model.specs.Worlds.{World, ImplDecl, StructDecl, TraitDecl}
 use Rattle.model.specs.Walks.{keeps_orphan_rule}
-use Rattle.text_model.specs.Declarations.{Declarations, world_of, first_impl}
+use Rattle.coherence_text.specs.Declarations.{Declarations, world_of, first_impl}
 use Rattle.coherence_text.specs.declared.Primitive.{Primitive}
 use Rattle.coherence_text.specs.declared.Primitive.TheVariants as primitives
 use Rattle.coherence_text.specs.Views.{primitive_label}

@@ -7,7 +7,7 @@ use Rattle.model.specs.Worlds.{Reference, ImplDecl, sees}
 use Rattle.model.specs.Proofs.{In}
 use Rattle.model.specs.Answers.{CommonInstance}
 use Rattle.type_terms.specs.declared.ImplId.{ImplId}
-use Rattle.text_model.specs.Declarations.{Declarations, world_of, first_impl}
+use Rattle.coherence_text.specs.Declarations.{Declarations, world_of, first_impl}
 use Rattle.coherence.specs.Sessions.{IsOfText}
 use Rattle.coherence.specs.Verdicts.{IsPair, IsEarlierPair, NoneOverlap, IsFirstOverlap}
 use Rattle.coherence.specs.Partners.{IsFirstPartner, HasNoPartner}

@@ -5,10 +5,10 @@ use Rattle.std.specs.Str.{bytes_eq}
 use Rattle.std.specs.Option.{option_map, option_map_or}
 use Rattle.model.specs.Label.{Label}
 use Rattle.model.specs.Proofs.{Every}
-use Rattle.text_model.specs.Words.{Keyword, primitives, primitive_named, keyword_named, is_digit, is_sign}
-use Rattle.text_model.specs.Tokens.{Token, keyword, primitive, name, lifetime, variable, number, sign, arrow, Piece, word, quoted, queried, pointing, byte, pieces, number_from, name_token, word_token, as_lifetime, as_variable, sign_token, in_front, tokens_from, tokens_of}
-use Rattle.text_model.specs.Syntax.{Line, TypeTree, of_primitive, never_type, named, crate_line, struct_line, trait_line, impl_line, prove_line, spelling}
-use Rattle.text_model.specs.Written.{IsWritten}
+use Rattle.coherence_text.specs.Words.{Keyword, primitives, primitive_named, keyword_named, is_digit, is_sign}
+use Rattle.coherence_text.specs.Tokens.{Token, keyword, primitive, name, lifetime, variable, number, sign, arrow, Piece, word, quoted, queried, pointing, byte, pieces, number_from, name_token, word_token, as_lifetime, as_variable, sign_token, in_front, tokens_from, tokens_of}
+use Rattle.coherence_text.specs.Syntax.{Line, TypeTree, of_primitive, never_type, named, crate_line, struct_line, trait_line, impl_line, prove_line, spelling}
+use Rattle.coherence_text.specs.Written.{IsWritten}
 use Rattle.coherence.proofs.GroundWorlds.{is_plain}
 use Rattle.coherence.proofs.Lists.{found, each-passes}
 

@@ -6,7 +6,7 @@ use Rattle.std.proofs.lemmas.Bool.{cases_lt}
 use Rattle.model.specs.Worlds.{Reference, ImplDecl, sees, view_of}
 use Rattle.model.specs.Proofs.{In, HasProof}
 use Rattle.type_terms.specs.declared.ImplId.{ImplId}
-use Rattle.text_model.specs.Declarations.{Declarations, Question, world_of, first_impl}
+use Rattle.coherence_text.specs.Declarations.{Declarations, Question, world_of, first_impl}
 use Rattle.coherence.specs.Sessions.{IsOfText}
 use Rattle.coherence.proofs.GroundWorlds.{view-proved, view-header}
 use Rattle.coherence.proofs.TextFacts.{plain-text, ground-world}
@@ -56,14 +56,3 @@ module _ (d : Declarations) (c : ℕ) (t : IsOfText d) where
       let at = from m.0 m.1 m.2 m.3 in
       let within = slice_get_within ids at.0 at.1 at.3 in
       absurd (omega (arith, at.2))
-
--- the same question, of the same declarations
-pub same-question : (d e : Declarations) (c b k : ℕ) (x q : Question) → d ≡ e → c ≡ b → slice_get d.questions k ≡ Some x → slice_get e.questions k ≡ Some q
-    → HasProof (view_of (world_of e) b) [] q.asked → HasProof (view_of (world_of d) c) [] x.asked
-same-question d e c b k x q de cb hx hq p =
-    let same : q ≡ x = some-one-question q x (sym hq ∙ ap (λ (w : Declarations). slice_get w.questions k) (sym de) ∙ hx) in
-    subst (λ (w : Declarations). HasProof (view_of (world_of w) c) [] x.asked) (sym de)
-    (subst (λ n. HasProof (view_of (world_of e) n) [] x.asked) (sym cb) (subst (λ (y : Question). HasProof (view_of (world_of e) b) [] y.asked) same p))
-  where
-    some-one-question : (y z : Question) → Some y ≡ Some z → y ≡ z
-    some-one-question y z h = cc

@@ -4,9 +4,9 @@ use Rattle.std.specs.List.{flat_map}
 use Rattle.std.specs.Option.{option_map}
 use Rattle.std.specs.Io.KnownBytes.{Appends, Keeps}
 use Rattle.model.specs.Worlds.{core}
-use Rattle.text_model.specs.Declarations.{Declarations, Question, world_of, first_impl}
-use Rattle.text_model.specs.Text.{TextGives}
-use Rattle.text_model.specs.Output.{Answer, fault, accepted, nonlocal, overlap, yes, unproved, output_text}
+use Rattle.coherence_text.specs.Declarations.{Declarations, Question, first_impl}
+use Rattle.coherence_text.specs.Text.{TextGives}
+use Rattle.coherence_text.specs.Output.{Answer, fault, accepted, nonlocal, overlap, yes, unproved, output_text}
 use Rattle.coherence.specs.declared.session.Verdict.{Verdict}
 use Rattle.coherence.specs.declared.session.Verdict.TheVariants as verdicts
 use Rattle.coherence.specs.declared.session.ProveAnswer.{ProveAnswer}
@@ -14,7 +14,7 @@ use Rattle.coherence.specs.declared.session.ProveAnswer.TheVariants as answers
 use Rattle.coherence.specs.declared.status.Status.{Status}
 use Rattle.coherence.specs.declared.status.Status.TheVariants as statuses
 use Rattle.coherence.specs.Streams.{AppendsPrefix}
-use Rattle.coherence.specs.Verdicts.{IsVerdict, IsAnswer}
+use Rattle.coherence.specs.Verdicts.{IsVerdictOf, IsAnswerTo}
 
 -- ---- the line of an answer
 abbrev pub crate_text : Declarations → ℕ → List ℕ
@@ -42,13 +42,13 @@ prove_line n answers.Unproved = unproved n
 -- one for each of the crates 1 to n, in order, each with a verdict that is right
 pub data CrateLines (limit : ℕ) (d : Declarations) : ℕ → List Answer → Type 0 where
   no_crates : CrateLines limit d 0 []
-  and_crate : (n : ℕ) (ls : List Answer) (v : Verdict) → CrateLines limit d n ls → IsVerdict limit (world_of d) (n + 1) v
+  and_crate : (n : ℕ) (ls : List Answer) (v : Verdict) → CrateLines limit d n ls → IsVerdictOf limit d (n + 1) v
       → CrateLines limit d (n + 1) (ls ++ verdict_line d (n + 1) v ∷ [])
 
 -- one for each of the first n questions, in order, each with an answer that is right
 pub data QuestionLines (d : Declarations) : ℕ → List Answer → Type 0 where
   no_questions : QuestionLines d 0 []
-  and_question : (n : ℕ) (ls : List Answer) (q : Question) (a : ProveAnswer) → QuestionLines d n ls → slice_get d.questions n ≡ Some q → IsAnswer (world_of d) q.asker q.asked a
+  and_question : (n : ℕ) (ls : List Answer) (q : Question) (a : ProveAnswer) → QuestionLines d n ls → slice_get d.questions n ≡ Some q → IsAnswerTo d q a
       → QuestionLines d (n + 1) (ls ++ prove_line (n + 1) a ∷ [])
 
 -- That of the text's first fault, alone; or one for each crate but `core`, and then one for each question.

@@ -2,13 +2,13 @@
 use Rattle.std.specs.Prelude.{◌≡◌, ℕ, ◌+◌, ◌-◌, ◌≤◌, ◌<◌, ◌⊎◌, List, ◌++◌, length, Option, Some, slice_get}
 use Rattle.std.specs.List.{flat_map}
 use Rattle.std.specs.Io.KnownBytes.{Appends, Keeps}
-use Rattle.text_model.specs.Declarations.{Declarations, Question, world_of, first_impl}
-use Rattle.text_model.specs.Output.{Answer, output_text}
+use Rattle.coherence_text.specs.Declarations.{Declarations, Question, first_impl}
+use Rattle.coherence_text.specs.Output.{Answer, output_text}
 use Rattle.coherence.specs.declared.session.Verdict.{Verdict}
 use Rattle.coherence.specs.declared.session.Verdict.TheVariants as verdicts
 use Rattle.coherence.specs.declared.session.ProveAnswer.{ProveAnswer}
 use Rattle.coherence.specs.Streams.{AppendsPrefix}
-use Rattle.coherence.specs.Verdicts.{IsVerdict, IsAnswer}
+use Rattle.coherence.specs.Verdicts.{IsVerdictOf, IsAnswerTo}
 use Rattle.coherence.specs.Lines.{verdict_line, prove_line, CrateLines, QuestionLines}
 
 -- the impls that a verdict names are there
@@ -22,17 +22,17 @@ NamesImpls d (verdicts.Overlap k j) = IsImplNumber d k.index × IsImplNumber d j
 
 -- ---- the line of one crate, and of one question
 abbrev pub WritesVerdict : ℕ → Declarations → ℕ → Option (List ℕ) → Option (List ℕ) → Type 0
-WritesVerdict limit d c old new = (v : Verdict) × IsVerdict limit (world_of d) c v × Appends old new (output_text (verdict_line d c v))
+WritesVerdict limit d c old new = (v : Verdict) × IsVerdictOf limit d c v × Appends old new (output_text (verdict_line d c v))
 
 abbrev pub WritesVerdictPrefix : ℕ → Declarations → ℕ → Option (List ℕ) → Option (List ℕ) → Type 0
-WritesVerdictPrefix limit d c old new = Keeps old new ⊎ ((v : Verdict) × IsVerdict limit (world_of d) c v × AppendsPrefix old new (output_text (verdict_line d c v)))
+WritesVerdictPrefix limit d c old new = Keeps old new ⊎ ((v : Verdict) × IsVerdictOf limit d c v × AppendsPrefix old new (output_text (verdict_line d c v)))
 
 -- question n, counted from 0
 abbrev pub WritesAnswer : Declarations → ℕ → Option (List ℕ) → Option (List ℕ) → Type 0
-WritesAnswer d n old new = (q : Question) × (a : ProveAnswer) × (slice_get d.questions n ≡ Some q) × IsAnswer (world_of d) q.asker q.asked a × Appends old new (output_text (prove_line (n + 1) a))
+WritesAnswer d n old new = (q : Question) × (a : ProveAnswer) × (slice_get d.questions n ≡ Some q) × IsAnswerTo d q a × Appends old new (output_text (prove_line (n + 1) a))
 
 abbrev pub WritesAnswerPrefix : Declarations → ℕ → Option (List ℕ) → Option (List ℕ) → Type 0
-WritesAnswerPrefix d n old new = Keeps old new ⊎ ((q : Question) × (a : ProveAnswer) × (slice_get d.questions n ≡ Some q) × IsAnswer (world_of d) q.asker q.asked a × AppendsPrefix old new (output_text (prove_line (n + 1) a)))
+WritesAnswerPrefix d n old new = Keeps old new ⊎ ((q : Question) × (a : ProveAnswer) × (slice_get d.questions n ≡ Some q) × IsAnswerTo d q a × AppendsPrefix old new (output_text (prove_line (n + 1) a)))
 
 -- ---- the lines of n crates, and of n questions
 abbrev pub WritesCrates : ℕ → Declarations → ℕ → Option (List ℕ) → Option (List ℕ) → Type 0

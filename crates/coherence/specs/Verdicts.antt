@@ -1,10 +1,13 @@
 -- What a verdict says of a crate, and an answer of a question.
 use Rattle.std.specs.Prelude.{◌≡◌, ℕ, ◌<◌, ◌≤◌, false, IsTrue, ◌⊎◌, []}
 use Rattle.model.specs.Worlds.{World, Reference, ImplDecl, view_of}
+use Rattle.model.specs.Terms.{erased_reference}
 use Rattle.model.specs.Proofs.{In, HasProof}
 use Rattle.model.specs.Walks.{keeps_orphan_rule}
 use Rattle.model.specs.Answers.{CommonInstance, OverlapIsReal}
 use Rattle.model.specs.LinkedSet.{Visited}
+use Rattle.coherence_text.specs.Declarations.{Declarations, Question}
+use Rattle.coherence.specs.Sessions.{Subject, Asks, judged_world}
 use Rattle.coherence.specs.declared.session.Verdict.{Verdict}
 use Rattle.coherence.specs.declared.session.Verdict.TheVariants as verdicts
 use Rattle.coherence.specs.declared.session.ProveAnswer.{ProveAnswer}
@@ -68,3 +71,17 @@ IsVerdict limit W c (verdicts.Overlap k j) = KeepsOrphanRule W c × IsFirstOverl
 abbrev pub IsAnswer : World → ℕ → Reference → ProveAnswer → Type 0
 IsAnswer W c r answers.Yes = HasProof (view_of W c) [] r
 IsAnswer W c r answers.Unproved = HasProof (view_of W c) [] r → ⊥
+
+-- ---- of a text: its world and its questions are read without lifetimes
+
+-- the verdict on crate c of the text
+abbrev pub IsVerdictOf : ℕ → Declarations → ℕ → Verdict → Type 0
+IsVerdictOf limit d c v = IsVerdict limit (judged_world d) c v
+
+-- the answer to a question of the text
+abbrev pub IsAnswerTo : Declarations → Question → ProveAnswer → Type 0
+IsAnswerTo d q a = IsAnswer (judged_world d) q.asker (erased_reference q.asked) a
+
+-- the answer to question number n of a session's crate
+abbrev pub IsAnswerOf : Subject → ℕ → ProveAnswer → Type 0
+IsAnswerOf s n a = (q : Question) → Asks s.declarations s.of_crate n q → IsAnswerTo s.declarations q a

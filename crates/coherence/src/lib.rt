@@ -15,6 +15,3 @@ pub use limits::{Limits, parse_depth};
 pub use session::{ProveAnswer, Session, Verdict};
 pub use status::{RunFault, Status};
 pub use text_run::run;
-
-#[cfg(test)]
-mod tests;

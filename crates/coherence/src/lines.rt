@@ -2,9 +2,9 @@
 
 ghost use Rattle.std.specs.Prelude.{◌≡◌, ◌≢◌, ◌+◌, ◌<◌, ◌≤◌, length, IfErr, OnOk, OnErr};
 ghost use Rattle.std.specs.Io.KnownBytes.{Appends};
-ghost use Rattle.text_model.specs.Declarations.{first_impl};
-ghost use Rattle.text_model.specs.Numbered.{IsNumbered};
-ghost use Rattle.text_model.specs.Output.{output_text};
+ghost use Rattle.coherence_text.specs.Declarations.{first_impl};
+ghost use Rattle.coherence_text.specs.Numbered.{IsNumbered};
+ghost use Rattle.coherence_text.specs.Output.{output_text};
 ghost use Rattle.coherence_text.specs.Views.{answer_of};
 ghost use Rattle.coherence.specs.Streams.{AppendsPrefix};
 ghost use Rattle.coherence.specs.Lines.{crate_text, impl_home, impl_number, verdict_line, prove_line};

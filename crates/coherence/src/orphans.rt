@@ -4,7 +4,7 @@ ghost use Rattle.std.specs.Prelude.{◌≡◌, ◌==◌, ◌<◌, length, false,
 ghost use Rattle.std.specs.List.{list_any};
 ghost use Rattle.model.specs.Walks.{keeps_orphan_rule, trait_is, struct_is};
 ghost use Rattle.model.specs.Worlds.{ImplDecl};
-ghost use Rattle.text_model.specs.Declarations.{world_of};
+ghost use Rattle.coherence_text.specs.Declarations.{world_of};
 ghost use Rattle.coherence_text.specs.Views.{impl_of, impl_header};
 ghost use Rattle.coherence.specs.Sessions.{IsOfText};
 ghost use Rattle.coherence.specs.Verdicts.{KeepsOrphanRule, BreaksOrphanRule, IsFirstOrphan};

@@ -3,7 +3,7 @@
 ghost use Rattle.std.specs.Prelude.{◌≡◌, ◌+◌, ◌-◌, ◌<◌, ◌≤◌, ◌↔◌, ℕ, true, length, Some, slice_get, IsTrue, IfSome, IfNone};
 ghost use Rattle.model.specs.Worlds.{ImplDecl, sees};
 ghost use Rattle.model.specs.Proofs.{In};
-ghost use Rattle.text_model.specs.Declarations.{world_of, first_impl};
+ghost use Rattle.coherence_text.specs.Declarations.{world_of, first_impl};
 ghost use Rattle.coherence_text.specs.Views.{impl_of};
 ghost use Rattle.coherence.specs.Sessions.{IsOfText};
 ghost use Rattle.coherence.specs.Verdicts.{IsPair, NoneOverlap, IsFirstOverlap};

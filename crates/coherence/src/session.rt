@@ -1,11 +1,9 @@
 //! Sessions.
 
-ghost use Rattle.std.specs.Prelude.{◌≡◌, ◌≢◌, ◌<◌, ◌-◌, length, ℕ, IfOk, Some, slice_get, []};
-ghost use Rattle.model.specs.Worlds.{view_of};
-ghost use Rattle.model.specs.Answers.{IsDeterminate};
-ghost use Rattle.text_model.specs.Declarations.{world_of, Question};
-ghost use Rattle.coherence.specs.Sessions.{IsOfText, Asks};
-ghost use Rattle.coherence.specs.Verdicts.{IsVerdict, IsAnswer};
+ghost use Rattle.std.specs.Prelude.{◌≡◌, ◌≢◌, ◌<◌, ◌-◌, length, ℕ, IfOk, Some, slice_get};
+ghost use Rattle.coherence_text.specs.Declarations.{Question};
+ghost use Rattle.coherence.specs.Sessions.{IsOfText, Asks, AsksDeterminate};
+ghost use Rattle.coherence.specs.Verdicts.{IsVerdictOf, IsAnswerOf};
 
 use crate::limits::Limits;
 use crate::orphans::first_orphan;
@@ -98,7 +96,7 @@ impl<'w> Session<'w> {
     /// impl of the crate, by its number, is compared with those that the crate sees: of the used crates in the order of the text,
     /// and then of its own those with a smaller number. Two impls overlap where their headers have a common instance.
     pub fn check_crate(&mut self) -> Result<Verdict, Fault>
-        ensures verdict { IfOk result (λ verdict. IsVerdict self.old.depth (world_of self.old.declarations) self.old.of_crate verdict) }
+        ensures verdict { IfOk result (λ verdict. IsVerdictOf self.old.depth self.old.declarations self.old.of_crate verdict) }
         ensures never_full { result ≢ Err Fault.Full }
         ensures same { self.new ≡ self.old }
     {
@@ -114,9 +112,9 @@ impl<'w> Session<'w> {
     /// Whether the reference of a question of this crate has a proof, by the rules of the crate's view. Questions count from 1.
     pub fn prove(&mut self, number: u32) -> Result<ProveAnswer, Fault>
         requires { (q : Question) × Asks self.old.declarations self.old.of_crate number q }
-        ensures answer { (q : Question) → Asks self.old.declarations self.old.of_crate number q → IfOk result (λ answer. IsAnswer (world_of self.old.declarations) self.old.of_crate q.asked answer) }
+        ensures answer { IfOk result (λ answer. IsAnswerOf self.old number answer) }
         // A determinate reference gets its yes.
-        ensures determinate { (q : Question) (limit : ℕ) → Asks self.old.declarations self.old.of_crate number q → IsDeterminate limit (view_of (world_of self.old.declarations) self.old.of_crate) [] q.asked → IfOk result (λ answer. answer ≡ ProveAnswer.Yes) }
+        ensures determinate { (limit : ℕ) → AsksDeterminate limit self.old number → IfOk result (λ answer. answer ≡ ProveAnswer.Yes) }
         ensures never_full { result ≢ Err Fault.Full }
         ensures same { self.new ≡ self.old }
     {

@@ -2,7 +2,7 @@
 
 ghost use Rattle.std.specs.Prelude.{◌≡◌, ◌≢◌, ◌+◌, ◌-◌, ◌<◌, ◌≤◌, length, take, Some, slice_get, IfOk, IfErr, IfSome, OnOk, OnErr};
 ghost use Rattle.std.specs.Io.KnownBytes.{Keeps};
-ghost use Rattle.text_model.specs.Numbered.{IsNumbered, IsFew};
+ghost use Rattle.coherence_text.specs.Numbered.{IsNumbered, IsFew};
 ghost use Rattle.coherence_text.specs.Views.{question_of};
 ghost use Rattle.coherence.specs.Streams.{ConsumesAtMost};
 ghost use Rattle.coherence.specs.Sessions.{IsOfText};

@@ -13,13 +13,13 @@ use Rattle.std.specs.declared.hash.FoldHasher.{FoldHasher}
 use Rattle.std.specs.declared.hash.BuildHasherDefault.{BuildHasherDefault}
 use Rattle.std.proofs.Common.{Vec, Global}
 use Rattle.model.specs.Worlds.{World, core, sees, traits_named, structs_named}
-use Rattle.text_model.specs.Declarations.{Declarations, NamedCrate, NamedStruct, NamedTrait, Question as Asked, Known, a_crate, a_struct, a_trait, known, world_of, first_struct, first_trait, first_impl}
+use Rattle.coherence_text.specs.Declarations.{Declarations, NamedCrate, NamedStruct, NamedTrait, Question as Asked, Known, a_crate, a_struct, a_trait, known, world_of, first_struct, first_trait, first_impl}
 use Rattle.model.specs.Worlds.{ImplDecl}
 use Rattle.model.specs.Rules.{same_reference}
 use Rattle.std.specs.Map.{lookup}
-use Rattle.text_model.specs.Faults.{last_crate, last_items}
-use Rattle.text_model.specs.Numbered.{Each, IsNumbered}
-use Rattle.text_model.specs.Adding.{with_crate, with_struct, with_trait, with_impl, with_question, nothing_declared}
+use Rattle.coherence_text.specs.Faults.{last_crate, last_items}
+use Rattle.coherence_text.specs.Numbered.{Each, IsNumbered}
+use Rattle.coherence_text.specs.Adding.{with_crate, with_struct, with_trait, with_impl, with_question, nothing_declared}
 use Rattle.type_terms.specs.declared.CrateId.{CrateId}
 use Rattle.coherence_text.specs.declared.tables.Tables.{Tables}
 use Rattle.coherence_text.specs.declared.declared.CrateEntry.{CrateEntry}

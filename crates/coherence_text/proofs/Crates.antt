@@ -6,7 +6,7 @@ use Rattle.std.proofs.lemmas.List.Elements.{All-head, All-tail, filter-append}
 use Rattle.std.specs.Prelude.{◌==◌, filter, All}
 use Rattle.std.specs.List.{list_any}
 use Rattle.model.specs.Worlds.{World, CrateDecl, core, crates_named, sees_within, sees}
-use Rattle.text_model.specs.Numbered.{Each}
+use Rattle.coherence_text.specs.Numbered.{Each}
 use Rattle.coherence_text.proofs.Each.{Every, Every-from_Each, filter-none, filter-push, self-number}
 
 -- a crate's number is its place, and it uses earlier crates

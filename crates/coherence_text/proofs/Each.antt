@@ -8,7 +8,7 @@ use Rattle.std.proofs.lemmas.List.Elements.{filter-append}
 use Rattle.std.specs.Prelude.{◌==◌, slice_get, count_by, find, filter, map}
 use Rattle.std.specs.Option.{option_map}
 use Rattle.std.specs.List.{list_any}
-use Rattle.text_model.specs.Numbered.{Each}
+use Rattle.coherence_text.specs.Numbered.{Each}
 
 pub Each-weaken : {A : Type 0} {P Q : ℕ → A → Type 0} (xs : List A) → ((k : ℕ) (x : A) → P k x → Q k x) → Each P xs → Each Q xs
 Each-weaken xs f h = λ k x e. f k x (h k x e)

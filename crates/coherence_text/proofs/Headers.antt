@@ -9,15 +9,15 @@ use denote.Enum.Bare.{same_true, true_same}
 use Rattle.model.specs.Label.{Label, bool, char, str, int, uint, adt, never}
 use Rattle.model.specs.Codes.{same_label}
 use Rattle.model.proofs.Matching.{same-label-sound}
-use Rattle.text_syntax.specs.declared.token.Primitive.{Primitive}
-use Rattle.text_syntax.specs.declared.token.Primitive.TheVariants as primitives
+use Rattle.coherence_text.specs.declared.token.Primitive.{Primitive}
+use Rattle.coherence_text.specs.declared.token.Primitive.TheVariants as primitives
 use Rattle.coherence_text.specs.declared.declared.SelfType.{SelfType}
 use Rattle.coherence_text.specs.declared.declared.SelfType.TheVariants as selfs
-use Rattle.text_syntax.specs.contracts.token.Primitive.{the_type}
-use Rattle.text_syntax.specs.contracts.token.PrimitivePartialEq.TheImpl as bare
+use Rattle.coherence_text.specs.contracts.token.Primitive.{the_type}
+use Rattle.coherence_text.specs.contracts.token.PrimitivePartialEq.TheImpl as bare
 use Rattle.coherence_text.specs.contracts.declared.SelfTypePartialEq.TheImpl as types
 use Rattle.coherence_text.specs.contracts.declared.HeaderPartialEq.TheImpl as block
-use Rattle.text_syntax.specs.Views.{primitive_label}
+use Rattle.coherence_text.specs.LineViews.{primitive_label}
 use Rattle.coherence_text.specs.Views.{self_label}
 use Rattle.coherence_text.proofs.Grouped.{label-self, TellsHeaders}
 

@@ -10,9 +10,9 @@ use Rattle.std.specs.Cmp.Lexicographic.{bytes_decides, nat_list_eq_equiv}
 use Rattle.std.specs.HashMap.{HashMap, get_by, UpdatesBy}
 use Rattle.std.specs.Map.{update, lookup, IsKeyTest, AreApart, KeepsOthers}
 use Rattle.std.specs.declared.vec.Vec.{Vec}
-use Rattle.text_model.specs.Declarations.{Declarations, NamedCrate, NamedStruct, NamedTrait, Known, a_crate, a_struct, a_trait, crate_known, struct_known, trait_known, known}
-use Rattle.text_model.specs.Numbered.{IsNumbered}
-use Rattle.text_model.specs.Adding.{with_crate, with_struct, with_trait}
+use Rattle.coherence_text.specs.Declarations.{Declarations, NamedCrate, NamedStruct, NamedTrait, Known, a_crate, a_struct, a_trait, crate_known, struct_known, trait_known, known}
+use Rattle.coherence_text.specs.Numbered.{IsNumbered}
+use Rattle.coherence_text.specs.Adding.{with_crate, with_struct, with_trait}
 use Rattle.coherence_text.proofs.Each.{find-some, mapped_some}
 
 -- ---- the definitions

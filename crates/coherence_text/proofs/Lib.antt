@@ -1,3 +1,7 @@
+mod Grammar
+pub mod Lines
+mod Names
+mod Reading
 mod Consistent
 mod Crates
 mod Each

@@ -1,13 +1,13 @@
 -- A text gives one thing.
 use Rattle.std.proofs.Common.{◌≡◌, ℕ, suc, Bool, true, false, List, [], ◌∷◌, Option, Some, None, Result, Ok, Err, refl, sym, ap, ◌∙◌, arith}
-use Rattle.text_model.specs.Syntax.{Line}
-use Rattle.text_model.specs.Declarations.{Declarations}
-use Rattle.text_model.specs.Faults.{fault_of}
-use Rattle.text_model.specs.Adding.{added, nothing_declared}
-use Rattle.text_model.specs.Written.{IsWritten, is_ascii, is_blank}
-use Rattle.text_syntax.specs.Reader.{written_in}
-use Rattle.text_model.specs.Text.{LineGives, other_byte, blank, unwritten, faulty, adds, LinesGive, ends, fails, goes_on, lines_of, TextGives, too_long, fits}
-use Rattle.text_syntax.proofs.Lines.{written_takes, written_again}
+use Rattle.coherence_text.specs.Syntax.{Line}
+use Rattle.coherence_text.specs.Declarations.{Declarations}
+use Rattle.coherence_text.specs.Faults.{fault_of}
+use Rattle.coherence_text.specs.Adding.{added, nothing_declared}
+use Rattle.coherence_text.specs.Written.{IsWritten, is_ascii, is_blank}
+use Rattle.coherence_text.specs.Reader.{written_in}
+use Rattle.coherence_text.specs.Text.{LineGives, other_byte, blank, unwritten, faulty, adds, LinesGive, ends, fails, goes_on, lines_of, TextGives, too_long, fits}
+use Rattle.coherence_text.proofs.Lines.{written_takes, written_again}
 
 judged : Declarations → Line → Option ℕ → Result Declarations ℕ
 judged d l None = Ok (added d l)

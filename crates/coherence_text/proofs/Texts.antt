@@ -4,11 +4,11 @@ use Rattle.std.proofs.Math.Seq.{take-length}
 use Rattle.std.specs.Prelude.{take_while, ◌==◌}
 use Rattle.std.proofs.lemmas.Bool.{cases_Bool}
 use Rattle.std.proofs.lemmas.List.Sums.{take_while-cons}
-use Rattle.text_model.specs.Syntax.{Line, crate_line, struct_line, trait_line, impl_line, prove_line}
-use Rattle.text_model.specs.Declarations.{Declarations}
-use Rattle.text_model.specs.Adding.{added, nothing_declared}
-use Rattle.text_model.specs.Text.{LineGives, blank, adds, onto_line, lines_of, text_limit, fits}
-use Rattle.text_model.specs.Numbered.{IsFew}
+use Rattle.coherence_text.specs.Syntax.{Line, crate_line, struct_line, trait_line, impl_line, prove_line}
+use Rattle.coherence_text.specs.Declarations.{Declarations}
+use Rattle.coherence_text.specs.Adding.{added, nothing_declared}
+use Rattle.coherence_text.specs.Text.{LineGives, blank, adds, onto_line, lines_of, text_limit, fits}
+use Rattle.coherence_text.specs.Numbered.{IsFew}
 use Rattle.coherence_text.specs.Refusals.{IsRefusal, IsTextError}
 use Rattle.coherence_text.specs.declared.fault.TextError.{TextError}
 use Rattle.coherence_text.specs.declared.fault.TextError.TheVariants as errors

@@ -1,3 +1,17 @@
+pub mod Words
+pub mod Tokens
+pub mod Syntax
+pub mod Written
+pub mod Mentions
+pub mod Declarations
+pub mod Numbered
+pub mod Faults
+pub mod Adding
+pub mod Text
+pub mod Output
+pub mod Stored
+pub mod LineViews
+pub mod Reader
 pub mod Views
 pub mod Tables
 pub mod Refusals

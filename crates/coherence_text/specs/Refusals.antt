@@ -1,7 +1,7 @@
 -- What an error says of a text.
 use Rattle.std.specs.Prelude.{ℕ, List, Err}
-use Rattle.text_model.specs.Declarations.{Declarations}
-use Rattle.text_model.specs.Text.{LinesGive, TextGives}
+use Rattle.coherence_text.specs.Declarations.{Declarations}
+use Rattle.coherence_text.specs.Text.{LinesGive, TextGives}
 use Rattle.coherence_text.specs.declared.fault.TextError.{TextError}
 use Rattle.coherence_text.specs.declared.fault.TextError.TheVariants as errors
 

@@ -8,9 +8,9 @@ use Rattle.std.specs.declared.hash.FoldHasher.{FoldHasher}
 use Rattle.std.specs.declared.hash.BuildHasherDefault.{BuildHasherDefault}
 use Rattle.model.specs.Worlds.{World, Reference, core, sees}
 use Rattle.model.specs.Rules.{same_reference}
-use Rattle.text_model.specs.Declarations.{Declarations, known, world_of}
-use Rattle.text_model.specs.Faults.{last_crate, last_items}
-use Rattle.text_model.specs.Numbered.{Each, IsNumbered}
+use Rattle.coherence_text.specs.Declarations.{Declarations, known, world_of}
+use Rattle.coherence_text.specs.Faults.{last_crate, last_items}
+use Rattle.coherence_text.specs.Numbered.{Each, IsNumbered}
 use Rattle.type_terms.specs.declared.CrateId.{CrateId}
 use Rattle.coherence_text.specs.declared.tables.Tables.{Tables}
 use Rattle.coherence_text.specs.declared.declared.Question.TheVariants.{Prove}

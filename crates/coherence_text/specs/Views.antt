@@ -3,11 +3,11 @@ use Rattle.std.specs.Prelude.{ℕ, false, List, [], map}
 use Rattle.model.specs.Label.{Label, never, adt}
 use Rattle.model.specs.Trees.{leaf}
 use Rattle.model.specs.Worlds.{Reference, ImplDecl}
-use Rattle.text_model.specs.Declarations.{NamedCrate, NamedStruct, NamedTrait, Question, Known, a_crate, a_struct, a_trait}
-use Rattle.text_model.specs.Output as out
+use Rattle.coherence_text.specs.Declarations.{NamedCrate, NamedStruct, NamedTrait, Question, Known, a_crate, a_struct, a_trait}
+use Rattle.coherence_text.specs.Output as out
 use Rattle.type_terms.specs.declared.CrateId.{CrateId}
 use Rattle.type_terms.specs.declared.ImplId.{ImplId}
-pub use Rattle.text_syntax.specs.Views.{primitive_label}
+pub use Rattle.coherence_text.specs.LineViews.{primitive_label}
 use Rattle.coherence_text.specs.declared.declared.SelfType.{SelfType}
 use Rattle.coherence_text.specs.declared.declared.SelfType.TheVariants as selfs
 use Rattle.coherence_text.specs.declared.declared.Header.{Header}

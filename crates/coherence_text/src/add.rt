@@ -2,20 +2,20 @@
 ghost use Rattle.std.specs.Prelude.{◌≡◌, ◌<◌, ◌++◌, ◌∷◌, [], ℕ, All, length, map, true, None, OnOk, IfOk};
 ghost use Rattle.std.specs.List.{list_any};
 ghost use Rattle.model.specs.Worlds.{sees};
-ghost use Rattle.text_model.specs.Declarations.{known, world_of};
-ghost use Rattle.text_model.specs.Faults.{fault_of};
-ghost use Rattle.text_model.specs.Numbered.{IsFew};
-ghost use Rattle.text_model.specs.Syntax.{crate_line, impl_line, prove_line};
-ghost use Rattle.text_model.specs.Adding.{known_crate, known_trait, type_label, with_crate, added};
+ghost use Rattle.coherence_text.specs.Declarations.{known, world_of};
+ghost use Rattle.coherence_text.specs.Faults.{fault_of};
+ghost use Rattle.coherence_text.specs.Numbered.{IsFew};
+ghost use Rattle.coherence_text.specs.Syntax.{crate_line, impl_line, prove_line};
+ghost use Rattle.coherence_text.specs.Adding.{known_crate, known_trait, type_label, with_crate, added};
 ghost use Rattle.coherence_text.specs.Tables.{declared, IsConsistent, will_see};
-ghost use Rattle.text_syntax.specs.Views.{line_of, type_of, name_texts};
+ghost use Rattle.coherence_text.specs.LineViews.{line_of, type_of, name_texts};
 ghost use Rattle.coherence_text.specs.Views.{self_label, numbers_of};
 
 use crate::declared::{Named, QuestionEntry, SelfType};
+use crate::syntax::{Statement, WrittenType};
 use crate::tables::Tables;
 use crate::text::ENTRY_LIMIT;
 use std::alloc::{AllocError, Global};
-use text_syntax::{Statement, WrittenType};
 use type_terms::{CrateId, TraitId};
 
 impl Tables {

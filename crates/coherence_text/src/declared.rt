@@ -1,6 +1,6 @@
 //! What a text declares and asks, with names resolved to numbers.
 
-use text_syntax::Primitive;
+use crate::token::Primitive;
 use type_terms::{AdtId, CrateId, ImplId, TraitId};
 
 /// A type whose name is resolved.

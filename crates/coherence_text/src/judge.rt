@@ -2,17 +2,18 @@
 ghost use Rattle.std.specs.Prelude.{◌≡◌, ◌<◌, IfOk, IfSome, map, is_none, length, nat_lt};
 ghost use Rattle.std.specs.List.{list_any};
 ghost use Rattle.std.specs.Option.{option_map, option_map_or};
-ghost use Rattle.text_model.specs.Mentions.{mentions};
-ghost use Rattle.text_model.specs.Declarations.{known};
-ghost use Rattle.text_model.specs.Faults.{home_of, is_core_name, belongs_to_crate, is_misplaced, is_taken, declares_taken, mentions_unknown, looking_crate, is_hidden_from, mentions_hidden, is_other_sort, mentions_other_sort, is_sort, declares_long, is_full, passes_limit, fault_of};
+ghost use Rattle.coherence_text.specs.Mentions.{mentions};
+ghost use Rattle.coherence_text.specs.Declarations.{known};
+ghost use Rattle.coherence_text.specs.Faults.{home_of, is_core_name, belongs_to_crate, is_misplaced, is_taken, declares_taken, mentions_unknown, looking_crate, is_hidden_from, mentions_hidden, is_other_sort, mentions_other_sort, is_sort, declares_long, is_full, passes_limit, fault_of};
 ghost use Rattle.coherence_text.specs.Tables.{declared, IsConsistent};
-ghost use Rattle.text_syntax.specs.Views.{line_of, mention_of, sort_of};
+ghost use Rattle.coherence_text.specs.LineViews.{line_of, mention_of, sort_of};
 ghost use Rattle.coherence_text.specs.Views.{known_of};
 
 use crate::declared::Named;
+use crate::mention::{Mention, Sort, declared_name, mentions};
+use crate::syntax::Statement;
 use crate::tables::Tables;
 use std::alloc::{AllocError, Global};
-use text_syntax::{Mention, Sort, Statement, declared_name, mentions};
 use type_terms::CrateId;
 
 /// The greatest length of a name.

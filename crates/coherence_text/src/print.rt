@@ -2,7 +2,7 @@
 ghost use Rattle.std.specs.Prelude.{◌≡◌, ◌++◌, IfOk, OnOk};
 ghost use Rattle.std.specs.Fmt.{decimal};
 ghost use Rattle.coherence_text.specs.Views.{answer_of};
-ghost use Rattle.text_model.specs.Output.{output_text, crate_start, fault, accepted, nonlocal, overlap, yes, unproved};
+ghost use Rattle.coherence_text.specs.Output.{output_text, crate_start, fault, accepted, nonlocal, overlap, yes, unproved};
 
 use std::alloc::{AllocError, Global};
 

@@ -4,10 +4,10 @@ ghost use Rattle.std.specs.Option.{option_map, option_and_then};
 ghost use Rattle.model.specs.Worlds.{sees, traits_named, structs_named};
 ghost use Rattle.model.specs.Rules.{same_reference};
 ghost use Rattle.model.specs.Trees.{leaf};
-ghost use Rattle.text_model.specs.Numbered.{IsFew};
-ghost use Rattle.text_model.specs.Declarations.{known, world_of};
-ghost use Rattle.text_model.specs.Faults.{last_crate, number_of_crate};
-ghost use Rattle.text_model.specs.Adding.{with_crate, with_struct, with_trait, with_impl, with_question, nothing_declared, struct_of, trait_of, impl_of};
+ghost use Rattle.coherence_text.specs.Numbered.{IsFew};
+ghost use Rattle.coherence_text.specs.Declarations.{known, world_of};
+ghost use Rattle.coherence_text.specs.Faults.{last_crate, number_of_crate};
+ghost use Rattle.coherence_text.specs.Adding.{with_crate, with_struct, with_trait, with_impl, with_question, nothing_declared, struct_of, trait_of, impl_of};
 ghost use Rattle.coherence_text.specs.Tables.{declared, IsConsistent, IsGrouped};
 ghost use Rattle.coherence_text.specs.Views.{known_of, numbers_of, impl_numbers, impl_header, self_label, question_of};
 

@@ -1,16 +1,17 @@
 //! A whole text.
 ghost use Rattle.std.specs.Prelude.{◌≡◌, ◌==◌, ◌≤◌, ◌<◌, count_by, length, take_while, not, IfOk, IfErr, OnOk, MatchOption, Ok, Err, List, ℕ, Result};
-ghost use Rattle.text_model.specs.Declarations.{Declarations};
-ghost use Rattle.text_model.specs.Numbered.{IsFew};
-ghost use Rattle.text_model.specs.Text.{LineGives, LinesGive, lines_of, TextGives, long_line};
+ghost use Rattle.coherence_text.specs.Declarations.{Declarations};
+ghost use Rattle.coherence_text.specs.Numbered.{IsFew};
+ghost use Rattle.coherence_text.specs.Text.{LineGives, LinesGive, lines_of, TextGives, long_line};
 ghost use Rattle.coherence_text.specs.Tables.{declared, IsConsistent};
 ghost use Rattle.coherence_text.specs.Refusals.{IsRefusal, IsTextError};
 
 use crate::fault::{TextError, TextFault};
+use crate::line::{is_ascii, is_blank, read_line};
+use crate::line_error::LineError;
 use crate::tables::Tables;
 use crate::workspace::Workspace;
 use std::alloc::{AllocError, Global};
-use text_syntax::{LineError, is_ascii, is_blank, read_line};
 
 /// The greatest length of a text.
 pub const TEXT_LIMIT: usize = 1_048_576;

@@ -4,8 +4,8 @@ ghost use Rattle.std.specs.Option.{option_map, option_map_or};
 ghost use Rattle.model.specs.Worlds.{sees, view_of, traits_named, structs_named};
 ghost use Rattle.model.specs.Rules.{same_reference};
 ghost use Rattle.model.specs.Trees.{leaf};
-ghost use Rattle.text_model.specs.Declarations.{world_of, first_impl};
-ghost use Rattle.text_model.specs.Numbered.{IsNumbered, IsFew};
+ghost use Rattle.coherence_text.specs.Declarations.{world_of, first_impl};
+ghost use Rattle.coherence_text.specs.Numbered.{IsNumbered, IsFew};
 ghost use Rattle.coherence_text.specs.Views.{numbers_of, impl_numbers, impl_of, question_of, self_label, prove_of};
 
 use crate::declared::{ImplEntry, Question, QuestionEntry, SelfType};
@@ -25,9 +25,9 @@ pub struct Workspace {
 }
 
 impl Model for Workspace {
-    ghost use Rattle.text_model.specs.Declarations.{Declarations};
-    ghost use Rattle.text_model.specs.Numbered.{IsFew};
-    ghost use Rattle.text_model.specs.Stored.{declarations_code};
+    ghost use Rattle.coherence_text.specs.Declarations.{Declarations};
+    ghost use Rattle.coherence_text.specs.Numbered.{IsFew};
+    ghost use Rattle.coherence_text.specs.Stored.{declarations_code};
     ghost use Rattle.coherence_text.specs.Tables.{declared, IsConsistent};
 
     ghost Value = { Declarations };

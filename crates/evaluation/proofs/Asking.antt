@@ -6,13 +6,13 @@ use Rattle.model.specs.Trees.{Trees}
 use Rattle.type_terms.specs.Terms.{Entry, Lawful}
 use Rattle.type_terms.specs.declared.kinds.GenericArgKind.{GenericArgKind}
 use Rattle.infer_table.specs.Canonical.{GoalTrees, CanonicalForm, canonical_form, goal_leaves}
-use Rattle.infer_table.specs.declared.goal.TypingMode.{TypingMode}
-use Rattle.canonical_forms.specs.declared.input.CanonicalInput.{CanonicalInput}
-use Rattle.canonical_forms.specs.Inputs.{IsCanonicalInput, form_of}
-use Rattle.canonical_forms.specs.Leaves.{AreLeaves, labels, leaf_label}
-use Rattle.canonical_forms.specs.Values.{Value, values_of}
-use Rattle.canonical_forms.proofs.LeafFacts.{sort-is}
-use Rattle.goal_evaluator.specs.declared.goal.GoalSource.{GoalSource}
+use Rattle.infer_table.specs.declared.certainty.TypingMode.{TypingMode}
+use Rattle.infer_table.specs.declared.input.CanonicalInput.{CanonicalInput}
+use Rattle.infer_table.specs.Inputs.{IsCanonicalInput, form_of}
+use Rattle.infer_table.specs.Leaves.{AreLeaves, labels, leaf_label}
+use Rattle.infer_table.specs.Values.{Value, values_of}
+use Rattle.infer_table.proofs.LeafFacts.{sort-is}
+use Rattle.evaluation.specs.declared.goal.GoalSource.{GoalSource}
 use Rattle.evaluation.specs.Evaluating.{Question, question_of, leaf_value, goal_values}
 
 same-question : (m n : TypingMode) (f g : CanonicalForm) (s : GoalSource) → m ≡ n → f ≡ g

@@ -4,17 +4,17 @@ use Rattle.type_terms.specs.Terms.{Entry, Keeps}
 use Rattle.infer_table.specs.Certainties.{joined}
 use Rattle.infer_table.specs.Content.{Table}
 use Rattle.infer_table.specs.Unification.{table_trees}
-use Rattle.infer_table.specs.declared.goal.Certainty.{Certainty}
-use Rattle.infer_table.specs.declared.goal.Certainty.TheVariants.{Yes, Maybe}
-use Rattle.infer_table.specs.declared.goal.MaybeCause.TheVariants.{Ambiguity, Overflow}
-use Rattle.infer_table.specs.declared.goal.TypingMode.{TypingMode}
-use Rattle.canonical_forms.specs.declared.response.CanonicalResponse.{CanonicalResponse}
-use Rattle.goal_evaluator.specs.Replays.{Run, ready, waits}
-use Rattle.goal_evaluator.specs.Rounds.{Rounds}
+use Rattle.infer_table.specs.declared.certainty.Certainty.{Certainty}
+use Rattle.infer_table.specs.declared.certainty.Certainty.TheVariants.{Yes, Maybe}
+use Rattle.infer_table.specs.declared.certainty.MaybeCause.TheVariants.{Ambiguity, Overflow}
+use Rattle.infer_table.specs.declared.certainty.TypingMode.{TypingMode}
+use Rattle.infer_table.specs.declared.response.CanonicalResponse.{CanonicalResponse}
+use Rattle.evaluation.specs.Replays.{Run, ready, waits}
+use Rattle.evaluation.specs.Rounds.{Rounds}
 use Rattle.evaluation.specs.declared.error.EvalError.{EvalError}
 use Rattle.evaluation.specs.declared.error.EvalError.TheVariants.{NoSolution, OutOf}
-use Rattle.canonical_forms.specs.Values.{values_of}
-use Rattle.canonical_responses.specs.Responses.{AnswerTrees, answer_trees}
+use Rattle.infer_table.specs.Values.{values_of}
+use Rattle.infer_table.specs.Responses.{AnswerTrees, answer_trees}
 use Rattle.evaluation.specs.Context.{Context, NestedGoal, NestedHeld, IsReady}
 use Rattle.evaluation.specs.Evaluating.{Question, goals_trees, evaluation}
 use Rattle.evaluation.specs.OwnAnswers.{Says, answer_of}

@@ -2,14 +2,14 @@
 use Rattle.std.specs.Prelude.{◌≡◌, List, [], ◌∷◌, ◌++◌, map, Option, Some, None}
 use Rattle.std.proofs.Common.{subst, sym}
 use Rattle.type_terms.specs.Terms.{Entry, Keeps, args_lists}
-use Rattle.term_traversal.specs.Kept.{args-held-later, has-later}
+use Rattle.term_folds.specs.Kept.{args-held-later, has-later}
 use Rattle.infer_table.specs.Content.{Table, Ready}
 use Rattle.infer_table.specs.Kept.{constraints-kept, ready-later}
-use Rattle.canonical_forms.specs.declared.response.CanonicalResponse.{CanonicalResponse}
-use Rattle.canonical_forms.proofs.Numbers.{clauses-held-later}
-use Rattle.goal_evaluator.specs.Lists.{Every}
-use Rattle.canonical_responses.specs.Responses.{ResponseHeld}
-use Rattle.goal_evaluator.specs.Readings.{ResultHeld}
+use Rattle.infer_table.specs.declared.response.CanonicalResponse.{CanonicalResponse}
+use Rattle.infer_table.proofs.Numbers.{clauses-held-later}
+use Rattle.evaluation.specs.Lists.{Every}
+use Rattle.infer_table.specs.Responses.{ResponseHeld}
+use Rattle.evaluation.specs.Readings.{ResultHeld}
 use Rattle.evaluation.specs.Context.{Context, NestedGoal, GoalIsHeld, NestedHeld, IsReady}
 
 pub nested-later : (old new : List Entry) → Keeps old new → (ns : List NestedGoal) → NestedHeld old ns → NestedHeld new ns

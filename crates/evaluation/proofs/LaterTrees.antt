@@ -5,24 +5,24 @@ use Rattle.model.specs.Label.{Label, principal}
 use Rattle.model.specs.Trees.{Trees, none, tree, ◌+++◌}
 use Rattle.type_terms.specs.Terms.{Entry, Keeps, types, args_lists}
 use Rattle.type_terms.specs.Kinds.{region_trees}
-use Rattle.term_traversal.specs.Kept.{trees-later}
+use Rattle.term_folds.specs.Kept.{trees-later}
 use Rattle.term_folds.specs.Clauses.{ClauseHeld}
 use Rattle.term_folds.specs.declared.predicate.Clause.{Clause}
 use Rattle.term_folds.specs.declared.predicate.Clause.TheVariants.{Trait, RegionOutlives as ClauseRegion, TypeOutlives as ClauseType}
 use Rattle.infer_table.specs.Constraints.{constraint_label, constraint_terms, constraints_trees}
 use Rattle.infer_table.specs.Content.{IsHeldConstraint, AllConstraintsHeld}
-use Rattle.infer_table.specs.declared.goal.Certainty.{Certainty}
+use Rattle.infer_table.specs.declared.certainty.Certainty.{Certainty}
 use Rattle.infer_table.specs.declared.canonical.CanonicalVarKind.{CanonicalVarKind}
 use Rattle.infer_table.specs.declared.terms.RegionConstraint.{RegionConstraint}
 use Rattle.infer_table.specs.declared.terms.RegionConstraint.TheVariants.{Equal, RegionOutlives, TypeOutlives}
-use Rattle.canonical_forms.specs.declared.response.CanonicalResponse.{CanonicalResponse}
-use Rattle.canonical_forms.specs.Goals.{ClausesHeld, clause_label, clause_terms, environment_trees}
-use Rattle.canonical_forms.specs.Values.{Value, values-later}
-use Rattle.goal_evaluator.specs.declared.goal.GoalSource.{GoalSource}
-use Rattle.goal_evaluator.specs.Lists.{Every}
-use Rattle.canonical_responses.specs.Responses.{ResponseHeld}
-use Rattle.goal_evaluator.specs.Readings.{ResultHeld}
-use Rattle.canonical_responses.specs.Responses.{AnswerTrees, answer_trees}
+use Rattle.infer_table.specs.declared.response.CanonicalResponse.{CanonicalResponse}
+use Rattle.infer_table.specs.Goals.{ClausesHeld, clause_label, clause_terms, environment_trees}
+use Rattle.infer_table.specs.Values.{Value, values-later}
+use Rattle.evaluation.specs.declared.goal.GoalSource.{GoalSource}
+use Rattle.evaluation.specs.Lists.{Every}
+use Rattle.infer_table.specs.Responses.{ResponseHeld}
+use Rattle.evaluation.specs.Readings.{ResultHeld}
+use Rattle.infer_table.specs.Responses.{AnswerTrees, answer_trees}
 use Rattle.evaluation.specs.Context.{NestedGoal, GoalIsHeld, NestedHeld}
 use Rattle.evaluation.specs.Evaluating.{NestedTrees, nested_trees, goals_trees, replies_trees}
 

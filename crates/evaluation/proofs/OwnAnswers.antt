@@ -7,23 +7,23 @@ use Rattle.type_terms.specs.Terms.{Entry, Lawful, types, consts}
 use Rattle.type_terms.specs.Kinds.{ArgHeld, ArgsHeld, arg_trees, args_trees}
 use Rattle.type_terms.specs.declared.kinds.GenericArgKind.{GenericArgKind}
 use Rattle.type_terms.specs.declared.kinds.GenericArgKind.TheVariants.{Lifetime, Ty, Const}
-use Rattle.term_traversal.specs.Kept.{is-at}
+use Rattle.term_folds.specs.Kept.{is-at}
 use Rattle.infer_table.specs.Canonical.{CanonicalForm}
 use Rattle.infer_table.proofs.UnifyFacts.{region-sort}
 use Rattle.infer_table.specs.Unification.{TableTrees, table_trees}
 use Rattle.infer_table.specs.declared.canonical.CanonicalVarKind.{CanonicalVarKind}
-use Rattle.infer_table.specs.declared.goal.Certainty.{Certainty}
-use Rattle.canonical_forms.specs.Values.{Value, value_of, values_of}
-use Rattle.canonical_responses.specs.Raw.{variables_from}
-use Rattle.canonical_responses.proofs.InTurn.{row-of}
+use Rattle.infer_table.specs.declared.certainty.Certainty.{Certainty}
+use Rattle.infer_table.specs.Values.{Value, value_of, values_of}
+use Rattle.infer_table.specs.Raw.{variables_from}
+use Rattle.infer_table.proofs.InTurn.{row-of}
 use Rattle.type_terms.specs.declared.Fault.{Fault}
 use Rattle.infer_table.specs.Canonical.{canonical_form, HasNoCanonical}
 use Rattle.infer_table.specs.Solutions.{Assignment, Solves, instance, resolved}
 use Rattle.infer_table.specs.Content.{content, AllConstraintsHeld}
 use Rattle.infer_table.specs.Constraints.{constraints_trees}
-use Rattle.canonical_forms.specs.declared.response.CanonicalResponse.{CanonicalResponse}
-use Rattle.canonical_responses.specs.Responses.{AnswerTrees, answer_trees, as_goal, response_form, answer_leaves, numbered_by, ResponseHeld}
-use Rattle.canonical_responses.specs.Covers.{Agrees, AreNumbered}
+use Rattle.infer_table.specs.declared.response.CanonicalResponse.{CanonicalResponse}
+use Rattle.infer_table.specs.Responses.{AnswerTrees, answer_trees, as_goal, response_form, answer_leaves, numbered_by, ResponseHeld}
+use Rattle.infer_table.specs.Covers.{Agrees, AreNumbered}
 use Rattle.evaluation.specs.Context.{Context}
 use Rattle.evaluation.specs.OwnAnswers.{known, known_values, known_constraints, SaysWhatIsKnown, SaysNothing, kinds_in, values_in, known_answer, answer_of}
 

@@ -1,10 +1,10 @@
 -- Answers that are put into a table, and answers to other goals, which say nothing.
 use Rattle.std.proofs.Common.{◌≡◌, true, false, List, ap, Some, if◌then◌else◌}
 use Rattle.infer_table.specs.Unification.{TableTrees}
-use Rattle.canonical_forms.specs.Values.{Value}
-use Rattle.canonical_responses.specs.Responses.{AnswerTrees}
-use Rattle.canonical_responses.specs.Answers.{is_answer_to}
-use Rattle.canonical_responses.specs.Applied.{applied}
+use Rattle.infer_table.specs.Values.{Value}
+use Rattle.infer_table.specs.Responses.{AnswerTrees}
+use Rattle.infer_table.specs.Answers.{is_answer_to}
+use Rattle.infer_table.specs.Applied.{applied}
 use Rattle.evaluation.specs.Evaluating.{put_into}
 
 pub put-applied : (t : TableTrees) (vs : List Value) (a : AnswerTrees) → is_answer_to vs a ≡ true → put_into t vs a ≡ applied t vs a

@@ -7,21 +7,21 @@ use Rattle.type_terms.specs.declared.kinds.GenericArgKind.{GenericArgKind}
 use Rattle.infer_table.specs.Certainties.{joined}
 use Rattle.infer_table.specs.Content.{Table, Ready}
 use Rattle.infer_table.specs.Unification.{TableTrees, table_trees}
-use Rattle.infer_table.specs.declared.goal.Certainty.{Certainty}
-use Rattle.infer_table.specs.declared.goal.Certainty.TheVariants.{Yes}
-use Rattle.infer_table.specs.declared.goal.TypingMode.{TypingMode}
+use Rattle.infer_table.specs.declared.certainty.Certainty.{Certainty}
+use Rattle.infer_table.specs.declared.certainty.Certainty.TheVariants.{Yes}
+use Rattle.infer_table.specs.declared.certainty.TypingMode.{TypingMode}
 use Rattle.infer_table.proofs.PairFacts.{table-kept}
-use Rattle.canonical_forms.specs.Values.{Value, values_of}
-use Rattle.canonical_forms.specs.declared.input.CanonicalInput.{CanonicalInput}
-use Rattle.canonical_forms.specs.declared.response.CanonicalResponse.{CanonicalResponse}
-use Rattle.goal_evaluator.specs.Lists.{Every}
-use Rattle.goal_evaluator.specs.declared.goal.GoalSource.{GoalSource}
-use Rattle.goal_evaluator.specs.Operations.{is_yes}
-use Rattle.canonical_responses.specs.Responses.{ResponseHeld}
-use Rattle.goal_evaluator.specs.Readings.{ResultHeld}
-use Rattle.goal_evaluator.specs.Replays.{Run, ready, waits, run, onward}
-use Rattle.goal_evaluator.specs.Rounds.{Round, kept, round}
-use Rattle.canonical_responses.specs.Responses.{AnswerTrees, answer_trees}
+use Rattle.infer_table.specs.Values.{Value, values_of}
+use Rattle.infer_table.specs.declared.input.CanonicalInput.{CanonicalInput}
+use Rattle.infer_table.specs.declared.response.CanonicalResponse.{CanonicalResponse}
+use Rattle.evaluation.specs.Lists.{Every}
+use Rattle.evaluation.specs.declared.goal.GoalSource.{GoalSource}
+use Rattle.evaluation.specs.Operations.{is_yes}
+use Rattle.infer_table.specs.Responses.{ResponseHeld}
+use Rattle.evaluation.specs.Readings.{ResultHeld}
+use Rattle.evaluation.specs.Replays.{Run, ready, waits, run, onward}
+use Rattle.evaluation.specs.Rounds.{Round, kept, round}
+use Rattle.infer_table.specs.Responses.{AnswerTrees, answer_trees}
 use Rattle.evaluation.specs.Context.{NestedGoal, NestedHeld}
 use Rattle.evaluation.specs.Evaluating.{Question, NestedTrees, nested_trees, goals_trees, replies_trees, put_into, evaluation, IsAskedBy, values_asked}
 use Rattle.evaluation.specs.Steps.{RoundEnds}

@@ -4,14 +4,14 @@ use Rattle.std.specs.Borrow.{Bor}
 use Rattle.type_terms.specs.Terms.{Entry}
 use Rattle.infer_table.specs.Content.{Table}
 use Rattle.infer_table.specs.Unification.{TableTrees, table_trees}
-use Rattle.infer_table.specs.declared.goal.Certainty.{Certainty}
-use Rattle.infer_table.specs.declared.goal.Certainty.TheVariants.{Maybe}
-use Rattle.infer_table.specs.declared.goal.MaybeCause.TheVariants.{Overflow}
-use Rattle.infer_table.specs.declared.goal.TypingMode.{TypingMode}
-use Rattle.canonical_forms.specs.declared.response.CanonicalResponse.{CanonicalResponse}
-use Rattle.goal_evaluator.specs.Replays.{Run, ready, waits, run, onward}
-use Rattle.goal_evaluator.specs.Rounds.{Round, Rounds, round, rounds, settled, next_round}
-use Rattle.canonical_responses.specs.Responses.{AnswerTrees}
+use Rattle.infer_table.specs.declared.certainty.Certainty.{Certainty}
+use Rattle.infer_table.specs.declared.certainty.Certainty.TheVariants.{Maybe}
+use Rattle.infer_table.specs.declared.certainty.MaybeCause.TheVariants.{Overflow}
+use Rattle.infer_table.specs.declared.certainty.TypingMode.{TypingMode}
+use Rattle.infer_table.specs.declared.response.CanonicalResponse.{CanonicalResponse}
+use Rattle.evaluation.specs.Replays.{Run, ready, waits, run, onward}
+use Rattle.evaluation.specs.Rounds.{Round, Rounds, round, rounds, settled, next_round}
+use Rattle.infer_table.specs.Responses.{AnswerTrees}
 use Rattle.evaluation.specs.Context.{NestedGoal}
 use Rattle.evaluation.specs.Evaluating.{Question, NestedTrees, goals_trees, replies_trees, evaluation, certainty_with}
 use Rattle.evaluation.specs.Ends.{IsRefused, Awaits, EndsIn}

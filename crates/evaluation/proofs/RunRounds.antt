@@ -1,9 +1,9 @@
 -- The run of a round, reply by reply, and of the rounds, round by round.
 use Rattle.std.proofs.Common.{◌≡◌, ℕ, suc, true, false, List, [], ◌∷◌, refl, ◌∙◌, ap, Option, Some, None}
-use Rattle.goal_evaluator.specs.Operations.{Operations, is_yes}
-use Rattle.goal_evaluator.specs.Replays.{ready, waits, run, onward}
-use Rattle.goal_evaluator.specs.Rounds.{kept, judged, applied, round, next_round, rounds}
-use Rattle.goal_evaluator.proofs.Replays.{run-followed}
+use Rattle.evaluation.specs.Operations.{Operations, is_yes}
+use Rattle.evaluation.specs.Replays.{ready, waits, run, onward}
+use Rattle.evaluation.specs.Rounds.{kept, judged, applied, round, next_round, rounds}
+use Rattle.evaluation.proofs.Replays.{run-followed}
 
 module _ {Question Response : Type 0} (o : Operations Question Response) where
   -- without a reply it waits at the first goal's question

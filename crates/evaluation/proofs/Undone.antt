@@ -6,10 +6,10 @@ use Rattle.term_folds.specs.declared.predicate.Clause.{Clause}
 use Rattle.term_folds.specs.declared.predicate.TraitPredicate.{TraitPredicate}
 use Rattle.infer_table.specs.Content.{Table}
 use Rattle.infer_table.specs.declared.canonical.CanonicalVarKind.{CanonicalVarKind}
-use Rattle.infer_table.specs.declared.goal.TypingMode.{TypingMode}
-use Rattle.canonical_forms.specs.declared.goal.Goal.{Goal}
-use Rattle.canonical_forms.specs.declared.response.CanonicalResponse.{CanonicalResponse}
-use Rattle.goal_evaluator.specs.declared.goal.GoalSource.{GoalSource}
+use Rattle.infer_table.specs.declared.certainty.TypingMode.{TypingMode}
+use Rattle.infer_table.specs.declared.goal.Goal.{Goal}
+use Rattle.infer_table.specs.declared.response.CanonicalResponse.{CanonicalResponse}
+use Rattle.evaluation.specs.declared.goal.GoalSource.{GoalSource}
 use Rattle.evaluation.specs.Context.{Context, NestedGoal, nested_goal}
 use Rattle.evaluation.specs.Probes.{Continues}
 

@@ -5,15 +5,15 @@ use Rattle.type_terms.specs.Kinds.{ArgsHeld}
 use Rattle.type_terms.specs.declared.kinds.GenericArgKind.{GenericArgKind}
 use Rattle.infer_table.specs.Content.{Table, Ready}
 use Rattle.infer_table.specs.declared.canonical.CanonicalVarKind.{CanonicalVarKind}
-use Rattle.infer_table.specs.declared.goal.TypingMode.{TypingMode}
-use Rattle.canonical_forms.specs.declared.goal.Goal.{Goal}
-use Rattle.canonical_forms.specs.declared.response.CanonicalResponse.{CanonicalResponse}
-use Rattle.canonical_forms.specs.Goals.{ClausesHeld, PredicateHeld}
+use Rattle.infer_table.specs.declared.certainty.TypingMode.{TypingMode}
+use Rattle.infer_table.specs.declared.goal.Goal.{Goal}
+use Rattle.infer_table.specs.declared.response.CanonicalResponse.{CanonicalResponse}
+use Rattle.infer_table.specs.Goals.{ClausesHeld, PredicateHeld}
 use Rattle.term_folds.specs.declared.predicate.Clause.{Clause}
 use Rattle.term_folds.specs.declared.predicate.TraitPredicate.{TraitPredicate}
-use Rattle.goal_evaluator.specs.declared.goal.GoalSource.{GoalSource}
-use Rattle.goal_evaluator.specs.Lists.{Every}
-use Rattle.goal_evaluator.specs.Readings.{ResultHeld}
+use Rattle.evaluation.specs.declared.goal.GoalSource.{GoalSource}
+use Rattle.evaluation.specs.Lists.{Every}
+use Rattle.evaluation.specs.Readings.{ResultHeld}
 
 -- a goal that is still to be asked
 pub record NestedGoal : Type 0 where

@@ -1,20 +1,20 @@
 -- How the calls of a context that evaluate end.
 use Rattle.std.specs.Prelude.{◌≡◌, List, [], Option, Some, None, Result, Ok, Err}
 use Rattle.type_terms.specs.Terms.{Entry, Keeps}
-use Rattle.infer_table.specs.declared.goal.Certainty.{Certainty}
-use Rattle.infer_table.specs.declared.goal.TypingMode.{TypingMode}
+use Rattle.infer_table.specs.declared.certainty.Certainty.{Certainty}
+use Rattle.infer_table.specs.declared.certainty.TypingMode.{TypingMode}
 use Rattle.infer_table.specs.Certainties.{joined}
 use Rattle.infer_table.specs.Unification.{table_trees}
-use Rattle.canonical_forms.specs.declared.response.CanonicalResponse.{CanonicalResponse}
-use Rattle.canonical_forms.specs.Goals.{GoalHeld}
-use Rattle.goal_evaluator.specs.Replays.{Run, ready, waits}
-use Rattle.goal_evaluator.specs.Rounds.{Rounds}
+use Rattle.infer_table.specs.declared.response.CanonicalResponse.{CanonicalResponse}
+use Rattle.infer_table.specs.Goals.{GoalHeld}
+use Rattle.evaluation.specs.Replays.{Run, ready, waits}
+use Rattle.evaluation.specs.Rounds.{Rounds}
 use Rattle.evaluation.specs.declared.context.EvalStep.{EvalStep}
 use Rattle.evaluation.specs.declared.context.EvalStep.TheVariants as Step
 use Rattle.evaluation.specs.declared.error.EvalError.{EvalError}
 use Rattle.evaluation.specs.declared.error.EvalError.TheVariants.{NoSolution, OutOf}
-use Rattle.canonical_forms.specs.Values.{values_of}
-use Rattle.canonical_responses.specs.Responses.{AnswerTrees, ResponseHeld, answer_trees}
+use Rattle.infer_table.specs.Values.{values_of}
+use Rattle.infer_table.specs.Responses.{AnswerTrees, ResponseHeld, answer_trees}
 use Rattle.evaluation.specs.Context.{Context}
 use Rattle.evaluation.specs.Evaluating.{Question, question_of, goals_trees, evaluation}
 use Rattle.evaluation.specs.OwnAnswers.{Says, answer_of}

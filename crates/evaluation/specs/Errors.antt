@@ -1,6 +1,6 @@
 -- What a refused equation means for an evaluation.
-use Rattle.infer_table.specs.declared.goal.EqError.{EqError}
-use Rattle.infer_table.specs.declared.goal.EqError.TheVariants as Eq
+use Rattle.infer_table.specs.declared.certainty.EqError.{EqError}
+use Rattle.infer_table.specs.declared.certainty.EqError.TheVariants as Eq
 use Rattle.evaluation.specs.declared.error.EvalError.{EvalError}
 use Rattle.evaluation.specs.declared.error.EvalError.TheVariants.{NoSolution, OutOf}
 

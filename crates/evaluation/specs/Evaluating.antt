@@ -4,23 +4,23 @@ use Rattle.model.specs.Label.{Label}
 use Rattle.model.specs.Trees.{leaf, sort_of}
 use Rattle.type_terms.specs.Terms.{Entry}
 use Rattle.infer_table.specs.Canonical.{GoalTrees, CanonicalForm, canonical_form, goal_leaves}
-use Rattle.infer_table.specs.declared.goal.Certainty.{Certainty}
-use Rattle.infer_table.specs.declared.goal.Certainty.TheVariants.{Yes}
-use Rattle.infer_table.specs.declared.goal.TypingMode.{TypingMode}
+use Rattle.infer_table.specs.declared.certainty.Certainty.{Certainty}
+use Rattle.infer_table.specs.declared.certainty.Certainty.TheVariants.{Yes}
+use Rattle.infer_table.specs.declared.certainty.TypingMode.{TypingMode}
 use Rattle.infer_table.specs.Certainties.{unsettled}
-use Rattle.canonical_forms.specs.declared.input.CanonicalInput.{CanonicalInput}
-use Rattle.canonical_forms.specs.declared.response.CanonicalResponse.{CanonicalResponse}
-use Rattle.canonical_forms.specs.Goals.{environment_trees, predicate_trees, goal_resolved}
-use Rattle.canonical_forms.specs.Inputs.{form_of}
-use Rattle.canonical_forms.specs.Values.{Value}
-use Rattle.goal_evaluator.specs.declared.goal.GoalSource.{GoalSource}
-use Rattle.goal_evaluator.specs.Operations.{Operations}
-use Rattle.goal_evaluator.specs.Responses.{is_identity_modulo_regions}
+use Rattle.infer_table.specs.declared.input.CanonicalInput.{CanonicalInput}
+use Rattle.infer_table.specs.declared.response.CanonicalResponse.{CanonicalResponse}
+use Rattle.infer_table.specs.Goals.{environment_trees, predicate_trees, goal_resolved}
+use Rattle.infer_table.specs.Inputs.{form_of}
+use Rattle.infer_table.specs.Values.{Value}
+use Rattle.evaluation.specs.declared.goal.GoalSource.{GoalSource}
+use Rattle.evaluation.specs.Operations.{Operations}
+use Rattle.evaluation.specs.Responses.{is_identity_modulo_regions}
 use Rattle.infer_table.specs.Content.{Table, content}
 use Rattle.infer_table.specs.Unification.{TableTrees}
-use Rattle.canonical_responses.specs.Responses.{AnswerTrees, answer_trees}
-use Rattle.canonical_responses.specs.Answers.{is_answer_to}
-use Rattle.canonical_responses.specs.Applied.{applied}
+use Rattle.infer_table.specs.Responses.{AnswerTrees, answer_trees}
+use Rattle.infer_table.specs.Answers.{is_answer_to}
+use Rattle.infer_table.specs.Applied.{applied}
 use Rattle.evaluation.specs.Context.{NestedGoal}
 
 -- a question: a canonical goal, how it is read, and where it comes from

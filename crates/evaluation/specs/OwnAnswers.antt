@@ -3,21 +3,21 @@ use Rattle.std.specs.Prelude.{◌≡◌, List, [], ◌∷◌, Option, Some, None
 use Rattle.model.specs.Trees.{Trees, none, tree, ◌+++◌, sort_of}
 use Rattle.type_terms.specs.Terms.{Entry}
 use Rattle.type_terms.specs.Kinds.{ArgsHeld, args_trees}
-use Rattle.infer_table.specs.declared.goal.Certainty.{Certainty}
-use Rattle.infer_table.specs.declared.goal.Certainty.TheVariants.{Yes, Maybe}
-use Rattle.infer_table.specs.declared.goal.MaybeCause.TheVariants.{Ambiguity, Overflow}
+use Rattle.infer_table.specs.declared.certainty.Certainty.{Certainty}
+use Rattle.infer_table.specs.declared.certainty.Certainty.TheVariants.{Yes, Maybe}
+use Rattle.infer_table.specs.declared.certainty.MaybeCause.TheVariants.{Ambiguity, Overflow}
 use Rattle.infer_table.specs.Canonical.{canonical_form, HasNoCanonical}
 use Rattle.infer_table.specs.declared.canonical.CanonicalVarKind.{CanonicalVarKind}
 use Rattle.infer_table.specs.Unification.{TableTrees}
 use Rattle.infer_table.specs.Solutions.{Assignment, Solves, instance, resolved}
 use Rattle.infer_table.specs.Content.{content}
 use Rattle.infer_table.specs.Constraints.{constraints_trees}
-use Rattle.canonical_forms.specs.Values.{Value, values_of}
-use Rattle.canonical_forms.specs.declared.response.CanonicalResponse.{CanonicalResponse}
-use Rattle.canonical_responses.specs.Applied.{trees_of}
-use Rattle.canonical_responses.specs.Responses.{AnswerTrees, as_goal, response_form, answer_leaves, numbered_by, ResponseHeld}
-use Rattle.canonical_responses.specs.Covers.{Agrees, AreNumbered}
-use Rattle.canonical_responses.specs.Raw.{variables_from}
+use Rattle.infer_table.specs.Values.{Value, values_of}
+use Rattle.infer_table.specs.declared.response.CanonicalResponse.{CanonicalResponse}
+use Rattle.infer_table.specs.Applied.{trees_of}
+use Rattle.infer_table.specs.Responses.{AnswerTrees, as_goal, response_form, answer_leaves, numbered_by, ResponseHeld}
+use Rattle.infer_table.specs.Covers.{Agrees, AreNumbered}
+use Rattle.infer_table.specs.Raw.{variables_from}
 use Rattle.evaluation.specs.Context.{Context}
 
 -- what a context knows, with the terms `old`, of the input's variables, and of lifetimes

@@ -1,22 +1,22 @@
 -- How the code's rounds end: as the run of the rounds does.
 use Rattle.std.specs.Prelude.{◌≡◌, Bool, List, ◌++◌, map, Option, Result, Ok, Err}
 use Rattle.type_terms.specs.Terms.{Entry}
-use Rattle.infer_table.specs.declared.goal.Certainty.{Certainty}
-use Rattle.infer_table.specs.declared.goal.TypingMode.{TypingMode}
+use Rattle.infer_table.specs.declared.certainty.Certainty.{Certainty}
+use Rattle.infer_table.specs.declared.certainty.TypingMode.{TypingMode}
 use Rattle.infer_table.specs.Content.{Table}
 use Rattle.infer_table.specs.Unification.{table_trees}
-use Rattle.canonical_forms.specs.Goals.{GoalHeld}
-use Rattle.goal_evaluator.specs.Lists.{Every}
-use Rattle.goal_evaluator.specs.Readings.{ResultHeld}
-use Rattle.goal_evaluator.specs.Replays.{Run}
-use Rattle.goal_evaluator.specs.Rounds.{Round, Rounds}
+use Rattle.infer_table.specs.Goals.{GoalHeld}
+use Rattle.evaluation.specs.Lists.{Every}
+use Rattle.evaluation.specs.Readings.{ResultHeld}
+use Rattle.evaluation.specs.Replays.{Run}
+use Rattle.evaluation.specs.Rounds.{Round, Rounds}
 use Rattle.evaluation.specs.declared.error.EvalError.{EvalError}
 use Rattle.evaluation.specs.declared.error.EvalError.TheVariants.{NoSolution, OutOf}
 use Rattle.evaluation.specs.declared.rounds.RoundStep.{RoundStep}
 use Rattle.evaluation.specs.declared.rounds.RoundStep.TheVariants as Of
 use Rattle.evaluation.specs.declared.rounds.RoundsStep.{RoundsStep}
 use Rattle.evaluation.specs.declared.rounds.RoundsStep.TheVariants as OfRounds
-use Rattle.canonical_responses.specs.Responses.{AnswerTrees}
+use Rattle.infer_table.specs.Responses.{AnswerTrees}
 use Rattle.evaluation.specs.Context.{Context, NestedGoal, NestedHeld, nested_goal}
 use Rattle.evaluation.specs.Ends.{IsRefused, Awaits, EndsIn}
 use Rattle.evaluation.specs.Evaluating.{Question, question_of, goals_trees, replies_trees, evaluation}

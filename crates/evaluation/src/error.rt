@@ -4,7 +4,7 @@ ghost use Rattle.evaluation.specs.declared.error.EvalError.TheVariants.{OutOf};
 ghost use Rattle.evaluation.specs.Errors.{eval_error};
 ghost use Rattle.type_terms.specs.declared.Fault.TheVariants.{Memory};
 
-use infer_table::goal::EqError;
+use infer_table::certainty::EqError;
 use std::alloc::{AllocError, AllocFailed};
 use type_terms::Fault;
 

@@ -1,9 +1,35 @@
-//! Goals that are evaluated step by step: what holds so far, and which goals are still to be asked.
+//! Goals, the frames in which they are evaluated, and their evaluation step by step: what holds so far, which goals are still
+//! to be asked, and one candidate with its equations, its constraints on lifetimes and its nested goals.
 #![tactic(auto)]
 
+mod candidate;
 pub mod context;
 mod error;
+mod goal;
+mod merge;
+pub mod promises;
+mod response;
 mod rounds;
+pub mod toy;
+mod trial;
 
+pub use candidate::{
+    BuiltinImplSource, CandidateSource, CandidateSpec, Considered, HandlerStep, ParamEnvSource,
+};
 pub use context::{EvalCtxt, EvalStep};
 pub use error::EvalError;
+pub use goal::{GoalSource, HasChanged};
+pub use infer_table::certainty::{Certainty, MaybeCause, NoSolution, TypingMode};
+pub use infer_table::goal::Goal;
+pub use infer_table::input::CanonicalInput;
+pub use infer_table::response::CanonicalResponse;
+pub use merge::{
+    MergeCandidateInfo, ambiguous_certainty, bail_with_ambiguity, flounder, try_merge_candidates,
+};
+pub use response::{
+    has_no_inference_or_external_constraints, is_identity_modulo_regions, is_same_response,
+};
+pub use trial::evaluate_candidate;
+
+/// How many rounds a candidate's nested goals are asked in at most.
+pub const FIXPOINT_STEP_LIMIT: usize = 8;

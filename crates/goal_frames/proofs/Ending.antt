@@ -2,22 +2,22 @@
 use Rattle.std.proofs.Common.{◌≡◌, List, subst, Option, Ok, Err}
 use Rattle.type_terms.specs.Terms.{Entry}
 use Rattle.infer_table.specs.declared.canonical.CanonicalVarKind.{CanonicalVarKind}
-use Rattle.infer_table.specs.declared.goal.TypingMode.{TypingMode}
-use Rattle.canonical_forms.specs.declared.input.CanonicalInput.{CanonicalInput}
-use Rattle.canonical_forms.specs.declared.response.CanonicalResponse.{CanonicalResponse}
-use Rattle.canonical_responses.specs.Responses.{AnswerTrees, answer_trees}
+use Rattle.infer_table.specs.declared.certainty.TypingMode.{TypingMode}
+use Rattle.infer_table.specs.declared.input.CanonicalInput.{CanonicalInput}
+use Rattle.infer_table.specs.declared.response.CanonicalResponse.{CanonicalResponse}
+use Rattle.infer_table.specs.Responses.{AnswerTrees, answer_trees}
 use Rattle.evaluation.specs.declared.context.EvalStep.{EvalStep}
 use Rattle.evaluation.specs.declared.context.EvalStep.TheVariants as Step
 use Rattle.evaluation.specs.declared.error.EvalError.{EvalError}
 use Rattle.evaluation.specs.declared.error.EvalError.TheVariants.{NoSolution}
 use Rattle.evaluation.specs.Ends.{IsRefused, Awaits, EndsIn}
 use Rattle.evaluation.specs.Evaluating.{Question, question_of, replies_trees}
-use Rattle.candidates.specs.Candidate.{spec_trees, candidate}
-use Rattle.candidates.specs.Ends.{CandidateEnds}
-use Rattle.candidates.specs.Frames.{begun}
-use Rattle.goal_evaluator.specs.declared.candidate.CandidateSpec.{CandidateSpec}
-use Rattle.goal_evaluator.specs.declared.goal.GoalSource.{GoalSource}
-use Rattle.goal_evaluator.specs.Replays.{Run, run}
+use Rattle.evaluation.specs.Trial.{spec_trees, candidate}
+use Rattle.evaluation.specs.TrialEnds.{CandidateEnds}
+use Rattle.evaluation.specs.Frames.{begun}
+use Rattle.evaluation.specs.declared.candidate.CandidateSpec.{CandidateSpec}
+use Rattle.evaluation.specs.declared.goal.GoalSource.{GoalSource}
+use Rattle.evaluation.specs.Replays.{Run, run}
 
 module _ (es new : List Entry) (mode : TypingMode) (kinds : List CanonicalVarKind) (s : CandidateSpec) (given rs : List (Option CanonicalResponse)) (same : given ≡ rs) where
   abbrev run-over : List (Option CanonicalResponse) → Run Question (Option AnswerTrees) (Option AnswerTrees)

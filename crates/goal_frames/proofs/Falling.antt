@@ -3,22 +3,22 @@ use Rattle.std.proofs.Common.{◌≡◌, ℕ, suc, ◌+◌, ◌-◌, ◌*◌, �
 use Rattle.std.proofs.Math.Nat.{suc-mul, le_refl}
 use Rattle.std.proofs.lemmas.List.{length-drop, length-reverse}
 use Rattle.type_terms.specs.Terms.{Entry}
-use Rattle.canonical_responses.specs.Responses.{AnswerTrees}
-use Rattle.goal_evaluator.specs.declared.candidate.CandidateSource.{CandidateSource}
-use Rattle.goal_evaluator.specs.declared.candidate.Considered as Code
-use Rattle.goal_evaluator.specs.declared.TheConstants.{FIXPOINT_STEP_LIMIT}
-use Rattle.goal_evaluator.specs.Candidate.{Spec, Considered, Next, consider, answer, goes_on}
-use Rattle.goal_evaluator.specs.Frame.{Frame, considers, answers, Finished}
-use Rattle.goal_evaluator.specs.Handler.{Handled, IsHandler}
-use Rattle.goal_evaluator.specs.History.{Reply, begin, entered, ignored, evaluated, finished, between, inside, request, told, position, IsReply, CameInOrder, results}
-use Rattle.goal_evaluator.specs.Promises.{frame_of_goal, Anything}
-use Rattle.goal_evaluator.specs.Script.{Script, done, ask}
-use Rattle.goal_evaluator.specs.Table.{workings}
-use Rattle.goal_evaluator.proofs.Ends.{is_bounded}
-use Rattle.goal_evaluator.proofs.Histories.{step, holds}
-use Rattle.goal_evaluator.proofs.ListLaws.{distinct-length, length-map}
-use Rattle.goal_tables.specs.Content.{Question}
-use Rattle.frame_tables.specs.Tables.{frame_tables}
+use Rattle.infer_table.specs.Responses.{AnswerTrees}
+use Rattle.evaluation.specs.declared.candidate.CandidateSource.{CandidateSource}
+use Rattle.evaluation.specs.declared.candidate.Considered as Code
+use Rattle.evaluation.specs.declared.TheConstants.{FIXPOINT_STEP_LIMIT}
+use Rattle.evaluation.specs.Candidate.{Spec, Considered, Next, consider, answer, goes_on}
+use Rattle.evaluation.specs.Frame.{Frame, considers, answers, Finished}
+use Rattle.evaluation.specs.Handler.{Handled, IsHandler}
+use Rattle.evaluation.specs.History.{Reply, begin, entered, ignored, evaluated, finished, between, inside, request, told, position, IsReply, CameInOrder, results}
+use Rattle.evaluation.specs.Promises.{frame_of_goal, Anything}
+use Rattle.evaluation.specs.Script.{Script, done, ask}
+use Rattle.evaluation.specs.Table.{workings}
+use Rattle.evaluation.proofs.Ends.{is_bounded}
+use Rattle.evaluation.proofs.Histories.{step, holds}
+use Rattle.evaluation.proofs.ListLaws.{distinct-length, length-map}
+use Rattle.table_laws.specs.Content.{Question}
+use Rattle.evaluation_laws.specs.Tables.{frame_tables}
 use Rattle.goal_frames.specs.Readings.{Shown, shown, shown_by, spec_read, result_read}
 use Rattle.goal_frames.specs.Places.{Heard, Standing, candidate_of, frame_with, Past, IsBetween, IsNext, with_result, IsFinishing, Stands, place_read}
 use Rattle.goal_frames.specs.Frames.{History, HasCome, HasHeard}

@@ -3,24 +3,24 @@ use Rattle.std.proofs.Common.{◌≡◌, List, [], ◌∷◌, refl, subst, Bool,
 use Rattle.model.specs.Label.{Label}
 use Rattle.infer_table.specs.Certainties.{joined}
 use Rattle.infer_table.specs.declared.canonical.CanonicalVarKind.{CanonicalVarKind}
-use Rattle.infer_table.specs.declared.goal.Certainty.{Certainty}
-use Rattle.infer_table.specs.declared.goal.TypingMode.{TypingMode}
-use Rattle.canonical_responses.specs.Responses.{AnswerTrees}
-use Rattle.goal_evaluator.specs.declared.TheConstants.{FIXPOINT_STEP_LIMIT}
-use Rattle.goal_evaluator.specs.Candidate.{Spec, answered, equated, candidate}
-use Rattle.goal_evaluator.specs.Replays.{Run, ready, run}
-use Rattle.goal_evaluator.specs.Rounds.{Rounds, rounds}
-use Rattle.goal_evaluator.specs.Script.{Script, done, ask}
-use Rattle.goal_evaluator.specs.Table.{operations, workings}
-use Rattle.goal_evaluator.proofs.Scripts.{Asks, Asks-followed}
-use Rattle.goal_tables.specs.Answers.{IsWellFormed}
-use Rattle.goal_tables.specs.Content.{Question}
-use Rattle.goal_tables.specs.Frames.{FrameTable}
-use Rattle.goal_tables.proofs.Fresh.{fresh, recorded}
-use Rattle.goal_tables.proofs.Equating.{equate}
-use Rattle.goal_tables.proofs.WellFormed.{answers_well_formed}
-use Rattle.frame_tables.specs.Tables.{frame_tables}
-use Rattle.frame_evaluation.specs.Rounds.{AreOneAnswer}
+use Rattle.infer_table.specs.declared.certainty.Certainty.{Certainty}
+use Rattle.infer_table.specs.declared.certainty.TypingMode.{TypingMode}
+use Rattle.infer_table.specs.Responses.{AnswerTrees}
+use Rattle.evaluation.specs.declared.TheConstants.{FIXPOINT_STEP_LIMIT}
+use Rattle.evaluation.specs.Candidate.{Spec, answered, equated, candidate}
+use Rattle.evaluation.specs.Replays.{Run, ready, run}
+use Rattle.evaluation.specs.Rounds.{Rounds, rounds}
+use Rattle.evaluation.specs.Script.{Script, done, ask}
+use Rattle.evaluation.specs.Table.{operations, workings}
+use Rattle.evaluation.proofs.Scripts.{Asks, Asks-followed}
+use Rattle.table_laws.specs.Answers.{IsWellFormed}
+use Rattle.table_laws.specs.Content.{Question}
+use Rattle.table_laws.specs.Frames.{FrameTable}
+use Rattle.table_laws.proofs.Fresh.{fresh, recorded}
+use Rattle.table_laws.proofs.Equating.{equate}
+use Rattle.table_laws.proofs.WellFormed.{answers_well_formed}
+use Rattle.evaluation_laws.specs.Tables.{frame_tables}
+use Rattle.evaluation_laws.specs.Rounds.{AreOneAnswer}
 
 pub one-answer : (mode : TypingMode) (coinductive : Bool) (kinds : List CanonicalVarKind) (ls : List Label) (p : Question) (a : AnswerTrees) → IsWellFormed a → AreOneAnswer mode coinductive kinds ls p a a
 one-answer mode coinductive kinds ls p a f = record { is = refl; fits = f }

@@ -1,23 +1,23 @@
 -- What a frame does as its handler says.
 use Rattle.std.proofs.Common.{◌≡◌, ℕ, List, [], map, sym, ◌∙◌, ap, subst, Option, Some, None}
 use Rattle.type_terms.specs.Terms.{Entry, Keeps}
-use Rattle.infer_table.specs.declared.goal.TypingMode.{TypingMode}
-use Rattle.canonical_forms.specs.declared.response.CanonicalResponse.{CanonicalResponse}
-use Rattle.canonical_responses.specs.Responses.{AnswerTrees, answer_trees}
-use Rattle.search_steps.specs.declared.delegate.Request.TheVariants as Requested
-use Rattle.goal_evaluator.specs.declared.candidate.CandidateSpec.{CandidateSpec}
-use Rattle.goal_evaluator.specs.declared.candidate.Considered as InCode
-use Rattle.goal_evaluator.specs.declared.candidate.HandlerStep.{HandlerStep}
-use Rattle.goal_evaluator.specs.declared.candidate.HandlerStep.TheVariants as Step
-use Rattle.goal_evaluator.specs.declared.TheConstants.{FIXPOINT_STEP_LIMIT}
-use Rattle.goal_evaluator.specs.Candidate.{Considered, Next, IsHistory, goes_on}
-use Rattle.goal_evaluator.specs.Frame.{Frame}
-use Rattle.goal_evaluator.specs.Handler.{Handled}
-use Rattle.goal_evaluator.specs.History.{between, request}
-use Rattle.goal_evaluator.specs.Readings.{ConsideredHeld}
-use Rattle.goal_evaluator.specs.Table.{workings}
-use Rattle.goal_tables.specs.Content.{Question}
-use Rattle.frame_tables.specs.Tables.{frame_tables}
+use Rattle.infer_table.specs.declared.certainty.TypingMode.{TypingMode}
+use Rattle.infer_table.specs.declared.response.CanonicalResponse.{CanonicalResponse}
+use Rattle.infer_table.specs.Responses.{AnswerTrees, answer_trees}
+use Rattle.search_graph.specs.declared.delegate.Request.TheVariants as Requested
+use Rattle.evaluation.specs.declared.candidate.CandidateSpec.{CandidateSpec}
+use Rattle.evaluation.specs.declared.candidate.Considered as InCode
+use Rattle.evaluation.specs.declared.candidate.HandlerStep.{HandlerStep}
+use Rattle.evaluation.specs.declared.candidate.HandlerStep.TheVariants as Step
+use Rattle.evaluation.specs.declared.TheConstants.{FIXPOINT_STEP_LIMIT}
+use Rattle.evaluation.specs.Candidate.{Considered, Next, IsHistory, goes_on}
+use Rattle.evaluation.specs.Frame.{Frame}
+use Rattle.evaluation.specs.Handler.{Handled}
+use Rattle.evaluation.specs.History.{between, request}
+use Rattle.evaluation.specs.Readings.{ConsideredHeld}
+use Rattle.evaluation.specs.Table.{workings}
+use Rattle.table_laws.specs.Content.{Question}
+use Rattle.evaluation_laws.specs.Tables.{frame_tables}
 use Rattle.goal_frames.specs.Readings.{Shown, Shows, shown_by, spec_read, next_read}
 use Rattle.goal_frames.specs.Places.{Standing, Stands, IsBetween, IsEntering, IsIgnoring, frame_with, entering}
 use Rattle.goal_frames.specs.Frames.{IsRequest}

@@ -1,11 +1,11 @@
 -- The handles of a frame stay an interner's while it grows.
 use Rattle.std.proofs.Common.{List}
 use Rattle.type_terms.specs.Terms.{Entry, Keeps}
-use Rattle.canonical_forms.specs.declared.input.CanonicalInput.{CanonicalInput}
-use Rattle.canonical_forms.proofs.Numbers.{goal-held-later}
+use Rattle.infer_table.specs.declared.input.CanonicalInput.{CanonicalInput}
+use Rattle.infer_table.proofs.Numbers.{goal-held-later}
 use Rattle.evaluation.proofs.Contexts.{reply-later, replies-later}
-use Rattle.goal_evaluator.specs.Handler.{Handled}
-use Rattle.frame_tables.specs.Tables.{frame_tables}
+use Rattle.evaluation.specs.Handler.{Handled}
+use Rattle.evaluation_laws.specs.Tables.{frame_tables}
 use Rattle.goal_frames.specs.Readings.{Shown}
 use Rattle.goal_frames.specs.Places.{PlaceTrees, begun, entering, inside_of, finishing, ignoring, over, Standing, Answers, Stands}
 use Rattle.goal_frames.specs.Frames.{PlaceHeld, FrameHeld}

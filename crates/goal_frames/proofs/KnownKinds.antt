@@ -1,9 +1,9 @@
 -- The kinds of a canonical goal's variables are all known.
 use Rattle.std.proofs.Common.{◌≡◌, List, [], ◌∷◌, map, refl, ◌∙◌, ap, Some}
 use Rattle.infer_table.specs.declared.canonical.CanonicalVarKind.{CanonicalVarKind}
-use Rattle.goal_evaluator.specs.Handler.{Handled}
-use Rattle.goal_tables.proofs.Beginning.{begin}
-use Rattle.frame_tables.specs.Tables.{frame_tables}
+use Rattle.evaluation.specs.Handler.{Handled}
+use Rattle.table_laws.proofs.Beginning.{begin}
+use Rattle.evaluation_laws.specs.Tables.{frame_tables}
 use Rattle.goal_frames.specs.Readings.{kinds_known}
 
 all-known : (ks : List CanonicalVarKind) → kinds_known (map Some ks) ≡ ks

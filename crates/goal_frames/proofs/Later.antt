@@ -6,32 +6,32 @@ use Rattle.type_terms.specs.Terms.{Entry, Keeps}
 use Rattle.infer_table.specs.Canonical.{GoalTrees}
 use Rattle.infer_table.specs.Kept.{constraints-kept}
 use Rattle.infer_table.specs.declared.canonical.CanonicalVarKind.{CanonicalVarKind}
-use Rattle.infer_table.specs.declared.goal.Certainty.{Certainty}
+use Rattle.infer_table.specs.declared.certainty.Certainty.{Certainty}
 use Rattle.infer_table.specs.declared.terms.Equation as Code
-use Rattle.canonical_forms.specs.declared.goal.Goal.{Goal}
-use Rattle.canonical_forms.specs.declared.response.CanonicalResponse.{CanonicalResponse}
-use Rattle.canonical_forms.specs.Goals.{GoalHeld, goal_trees}
-use Rattle.canonical_forms.specs.Values.{Value}
-use Rattle.canonical_forms.proofs.Numbers.{goal-trees-later}
-use Rattle.canonical_responses.specs.Responses.{AnswerTrees}
-use Rattle.canonical_responses.proofs.ConstraintLists.{constraints-later}
-use Rattle.canonical_responses.proofs.Values.{value-later}
+use Rattle.infer_table.specs.declared.goal.Goal.{Goal}
+use Rattle.infer_table.specs.declared.response.CanonicalResponse.{CanonicalResponse}
+use Rattle.infer_table.specs.Goals.{GoalHeld, goal_trees}
+use Rattle.infer_table.specs.Values.{Value}
+use Rattle.infer_table.proofs.Numbers.{goal-trees-later}
+use Rattle.infer_table.specs.Responses.{AnswerTrees}
+use Rattle.infer_table.proofs.ConstraintLists.{constraints-later}
+use Rattle.infer_table.proofs.Values.{value-later}
 use Rattle.evaluation.proofs.Contexts.{reply-later}
 use Rattle.evaluation.proofs.LaterTrees.{answer-trees-later}
-use Rattle.goal_evaluator.specs.declared.candidate.CandidateSource.{CandidateSource}
-use Rattle.goal_evaluator.specs.declared.candidate.CandidateSpec.{CandidateSpec}
-use Rattle.goal_evaluator.specs.declared.candidate.Considered as InCode
-use Rattle.goal_evaluator.specs.declared.goal.GoalSource.{GoalSource}
-use Rattle.goal_evaluator.specs.Candidate.{Spec}
-use Rattle.goal_evaluator.specs.Lists.{Every}
-use Rattle.goal_evaluator.specs.Readings.{ResultHeld, ConsideredHeld, EquationHeld, SpecHeld, is_coinductive_step}
-use Rattle.goal_evaluator.specs.Table.{workings}
-use Rattle.goal_tables.specs.Answers.{IsWellFormed}
-use Rattle.goal_tables.specs.Frames.{Nested, Equation}
-use Rattle.candidates.proofs.Later.{equations-held-later, goals-held-later}
-use Rattle.frame_tables.specs.Tables.{frame_tables}
-use Rattle.frame_evaluation.specs.Fitting.{AreOver, IsGoalOver, IsValueOver}
-use Rattle.frame_evaluation.specs.Candidates.{labels_of}
+use Rattle.evaluation.specs.declared.candidate.CandidateSource.{CandidateSource}
+use Rattle.evaluation.specs.declared.candidate.CandidateSpec.{CandidateSpec}
+use Rattle.evaluation.specs.declared.candidate.Considered as InCode
+use Rattle.evaluation.specs.declared.goal.GoalSource.{GoalSource}
+use Rattle.evaluation.specs.Candidate.{Spec}
+use Rattle.evaluation.specs.Lists.{Every}
+use Rattle.evaluation.specs.Readings.{ResultHeld, ConsideredHeld, EquationHeld, SpecHeld, is_coinductive_step}
+use Rattle.evaluation.specs.Table.{workings}
+use Rattle.table_laws.specs.Answers.{IsWellFormed}
+use Rattle.table_laws.specs.Frames.{Nested, Equation}
+use Rattle.evaluation.proofs.Later.{equations-held-later, goals-held-later}
+use Rattle.evaluation_laws.specs.Tables.{frame_tables}
+use Rattle.evaluation_laws.specs.Fitting.{AreOver, IsGoalOver, IsValueOver}
+use Rattle.evaluation_laws.specs.Candidates.{labels_of}
 use Rattle.goal_frames.specs.Readings.{equation_read, nested_read, spec_read, result_read, Shown, shown_by}
 use Rattle.goal_frames.specs.Fitting.{ResultFits, ConsideredFits, IsEquationOver, IsOver}
 

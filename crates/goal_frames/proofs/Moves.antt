@@ -1,18 +1,18 @@
 -- How a frame moves from place to place with the replies that it gets.
 use Rattle.std.proofs.Common.{◌≡◌, ℕ, zero, suc, ◌+◌, ◌<◌, List, [], ◌∷◌, ◌++◌, length, map, drop, refl, sym, ◌∙◌, ap, subst, Option, arith}
 use Rattle.std.proofs.lemmas.List.{reverse-append}
-use Rattle.canonical_responses.specs.Responses.{AnswerTrees}
-use Rattle.goal_evaluator.specs.declared.candidate.CandidateSource.{CandidateSource}
-use Rattle.goal_evaluator.specs.Candidate.{Spec, Considered}
-use Rattle.goal_evaluator.specs.Frame.{Frame, answers}
-use Rattle.goal_evaluator.specs.Handler.{Handled, IsHandler}
-use Rattle.goal_evaluator.specs.History.{Reply, begin, entered, ignored, evaluated, finished, between, inside, told, position, IsReply}
-use Rattle.goal_evaluator.specs.Lists.{IsNoneOf}
-use Rattle.goal_evaluator.specs.Promises.{frame_of_goal, Anything}
-use Rattle.goal_evaluator.specs.Script.{Script, done, ask}
-use Rattle.goal_evaluator.specs.Table.{workings}
-use Rattle.goal_tables.specs.Content.{Question}
-use Rattle.frame_tables.specs.Tables.{frame_tables}
+use Rattle.infer_table.specs.Responses.{AnswerTrees}
+use Rattle.evaluation.specs.declared.candidate.CandidateSource.{CandidateSource}
+use Rattle.evaluation.specs.Candidate.{Spec, Considered}
+use Rattle.evaluation.specs.Frame.{Frame, answers}
+use Rattle.evaluation.specs.Handler.{Handled, IsHandler}
+use Rattle.evaluation.specs.History.{Reply, begin, entered, ignored, evaluated, finished, between, inside, told, position, IsReply}
+use Rattle.evaluation.specs.Lists.{IsNoneOf}
+use Rattle.evaluation.specs.Promises.{frame_of_goal, Anything}
+use Rattle.evaluation.specs.Script.{Script, done, ask}
+use Rattle.evaluation.specs.Table.{workings}
+use Rattle.table_laws.specs.Content.{Question}
+use Rattle.evaluation_laws.specs.Tables.{frame_tables}
 use Rattle.goal_frames.specs.Readings.{Shown, shown}
 use Rattle.goal_frames.specs.Places.{after, Heard, Standing, candidate_of, frame_with, IsBetween, with_result, IsEntering, IsInside, IsFinishing, IsIgnoring}
 

@@ -3,37 +3,37 @@ use Rattle.std.proofs.Common.{◌≡◌, List, [], ◌∷◌, map, refl, sym, �
 use Rattle.model.specs.Label.{Label}
 use Rattle.type_terms.specs.Terms.{Entry}
 use Rattle.infer_table.specs.declared.canonical.CanonicalVarKind.{CanonicalVarKind}
-use Rattle.infer_table.specs.declared.goal.TypingMode.{TypingMode}
+use Rattle.infer_table.specs.declared.certainty.TypingMode.{TypingMode}
 use Rattle.infer_table.specs.declared.terms.Equation as Code
-use Rattle.canonical_forms.specs.declared.goal.Goal.{Goal}
-use Rattle.canonical_forms.specs.declared.response.CanonicalResponse.{CanonicalResponse}
-use Rattle.canonical_forms.specs.Goals.{goal_trees}
-use Rattle.canonical_responses.specs.Responses.{AnswerTrees, answer_trees}
+use Rattle.infer_table.specs.declared.goal.Goal.{Goal}
+use Rattle.infer_table.specs.declared.response.CanonicalResponse.{CanonicalResponse}
+use Rattle.infer_table.specs.Goals.{goal_trees}
+use Rattle.infer_table.specs.Responses.{AnswerTrees, answer_trees}
 use Rattle.evaluation.specs.Ends.{IsRefused, Awaits, EndsIn}
 use Rattle.evaluation.specs.Evaluating as InCode
 use Rattle.evaluation.specs.Evaluating.{NestedTrees, nested_trees, goals_trees, replies_trees, evaluation}
-use Rattle.candidates.specs.Frames.{begun}
-use Rattle.candidates.specs.Candidate.{spec_trees, equations_trees, premises_trees, candidate}
-use Rattle.goal_evaluator.specs.declared.TheConstants.{FIXPOINT_STEP_LIMIT}
-use Rattle.goal_evaluator.specs.declared.candidate.CandidateSpec.{CandidateSpec}
-use Rattle.goal_evaluator.specs.declared.goal.GoalSource.{GoalSource}
-use Rattle.goal_evaluator.specs.Candidate.{Spec}
-use Rattle.goal_evaluator.specs.Candidate as Frames
-use Rattle.goal_evaluator.specs.Correspondences.{AreAnswers, Answers, Runs}
-use Rattle.goal_evaluator.specs.Handler.{Handled}
-use Rattle.goal_evaluator.specs.History.{inside, request, evaluate, finish_candidate}
-use Rattle.goal_evaluator.specs.Lists.{Every, Pairwise}
-use Rattle.goal_evaluator.specs.Replays.{Run, ready, waits, run}
-use Rattle.goal_evaluator.specs.Script.{Script, done, ask}
-use Rattle.goal_evaluator.specs.Table.{operations, workings}
-use Rattle.goal_tables.specs.Content.{Question}
-use Rattle.goal_tables.specs.Answers.{IsWellFormed}
-use Rattle.goal_tables.proofs.Beginning.{begin}
-use Rattle.frame_tables.specs.Tables.{frame_tables}
-use Rattle.frame_evaluation.specs.Fitting.{IsGoalOver}
-use Rattle.frame_evaluation.specs.Rounds.{AreOneQuestion, in_rounds}
-use Rattle.frame_evaluation.specs.Candidates.{labels_of, AreOneEquation, AreOnePremise, AreOneCandidate}
-use Rattle.frame_evaluation.proofs.Candidates.{candidates-are-one}
+use Rattle.evaluation.specs.Frames.{begun}
+use Rattle.evaluation.specs.Trial.{spec_trees, equations_trees, premises_trees, candidate}
+use Rattle.evaluation.specs.declared.TheConstants.{FIXPOINT_STEP_LIMIT}
+use Rattle.evaluation.specs.declared.candidate.CandidateSpec.{CandidateSpec}
+use Rattle.evaluation.specs.declared.goal.GoalSource.{GoalSource}
+use Rattle.evaluation.specs.Candidate.{Spec}
+use Rattle.evaluation.specs.Candidate as Frames
+use Rattle.evaluation.specs.Correspondences.{AreAnswers, Answers, Runs}
+use Rattle.evaluation.specs.Handler.{Handled}
+use Rattle.evaluation.specs.History.{inside, request, evaluate, finish_candidate}
+use Rattle.evaluation.specs.Lists.{Every, Pairwise}
+use Rattle.evaluation.specs.Replays.{Run, ready, waits, run}
+use Rattle.evaluation.specs.Script.{Script, done, ask}
+use Rattle.evaluation.specs.Table.{operations, workings}
+use Rattle.table_laws.specs.Content.{Question}
+use Rattle.table_laws.specs.Answers.{IsWellFormed}
+use Rattle.table_laws.proofs.Beginning.{begin}
+use Rattle.evaluation_laws.specs.Tables.{frame_tables}
+use Rattle.evaluation_laws.specs.Fitting.{IsGoalOver}
+use Rattle.evaluation_laws.specs.Rounds.{AreOneQuestion, in_rounds}
+use Rattle.evaluation_laws.specs.Candidates.{labels_of, AreOneEquation, AreOnePremise, AreOneCandidate}
+use Rattle.evaluation_laws.proofs.Candidates.{candidates-are-one}
 use Rattle.goal_frames.specs.Readings.{Shown, equation_read, nested_read, spec_read, result_read}
 use Rattle.goal_frames.specs.Fitting.{ResultFits, IsEquationOver, IsOver}
 use Rattle.goal_frames.specs.Places.{after, Standing, candidate_of, IsInside, IsAsking, IsFinishing, with_result}

@@ -1,23 +1,23 @@
 -- A frame's steps: from where it stood, by the reply that is due, to where its position is then.
 use Rattle.std.proofs.Common.{◌≡◌, ℕ, suc, ◌<◌, List, [], ◌∷◌, ◌++◌, length, map, drop, refl, sym, ap, subst, Option, Result, Ok, Err, IfOk}
 use Rattle.type_terms.specs.Terms.{Entry}
-use Rattle.canonical_forms.specs.declared.input.CanonicalInput.{CanonicalInput}
-use Rattle.canonical_forms.specs.declared.response.CanonicalResponse.{CanonicalResponse}
-use Rattle.canonical_responses.specs.Responses.{AnswerTrees}
+use Rattle.infer_table.specs.declared.input.CanonicalInput.{CanonicalInput}
+use Rattle.infer_table.specs.declared.response.CanonicalResponse.{CanonicalResponse}
+use Rattle.infer_table.specs.Responses.{AnswerTrees}
 use Rattle.evaluation.specs.Evaluating.{replies_trees}
-use Rattle.search_steps.specs.declared.delegate.Reply as InReply
-use Rattle.search_steps.specs.declared.delegate.Reply.TheVariants as Replied
-use Rattle.search_steps.specs.declared.delegate.Request as Requests
-use Rattle.goal_evaluator.specs.declared.candidate.CandidateSource.{CandidateSource}
-use Rattle.goal_evaluator.specs.declared.candidate.CandidateSpec.{CandidateSpec}
-use Rattle.goal_evaluator.specs.declared.candidate.Considered as Code
-use Rattle.goal_evaluator.specs.Handler.{Handled, IsHandler}
-use Rattle.goal_evaluator.specs.Frame.{Frame, considers, answers}
-use Rattle.goal_evaluator.specs.Script.{Script, done, ask}
-use Rattle.goal_tables.specs.Content.{Question}
-use Rattle.goal_evaluator.specs.History.{Reply, begin, entered, ignored, evaluated, finished, between, inside, request, position, IsReply, CameInOrder}
-use Rattle.goal_evaluator.specs.Promises.{frame_of_goal, Anything}
-use Rattle.frame_tables.specs.Tables.{frame_tables}
+use Rattle.search_graph.specs.declared.delegate.Reply as InReply
+use Rattle.search_graph.specs.declared.delegate.Reply.TheVariants as Replied
+use Rattle.search_graph.specs.declared.delegate.Request as Requests
+use Rattle.evaluation.specs.declared.candidate.CandidateSource.{CandidateSource}
+use Rattle.evaluation.specs.declared.candidate.CandidateSpec.{CandidateSpec}
+use Rattle.evaluation.specs.declared.candidate.Considered as Code
+use Rattle.evaluation.specs.Handler.{Handled, IsHandler}
+use Rattle.evaluation.specs.Frame.{Frame, considers, answers}
+use Rattle.evaluation.specs.Script.{Script, done, ask}
+use Rattle.table_laws.specs.Content.{Question}
+use Rattle.evaluation.specs.History.{Reply, begin, entered, ignored, evaluated, finished, between, inside, request, position, IsReply, CameInOrder}
+use Rattle.evaluation.specs.Promises.{frame_of_goal, Anything}
+use Rattle.evaluation_laws.specs.Tables.{frame_tables}
 use Rattle.goal_frames.specs.Readings.{Shown, spec_read, result_read, shown_by}
 use Rattle.goal_frames.specs.Places.{Heard, Standing, Stands, with_result, candidate_of, IsBetween, IsInside, IsIgnoring, place_read}
 use Rattle.goal_frames.specs.Frames.{History, HasCome, HasHeard, FrameHeld, IsRequest, Steps, reply_read}

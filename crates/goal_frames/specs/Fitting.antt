@@ -5,20 +5,20 @@ use Rattle.type_terms.specs.Terms.{Entry}
 use Rattle.infer_table.specs.declared.canonical.CanonicalVarKind.{CanonicalVarKind}
 use Rattle.infer_table.specs.declared.terms.Equation.{Equation}
 use Rattle.infer_table.specs.Constraints.{constraints_trees}
-use Rattle.canonical_forms.specs.declared.goal.Goal.{Goal}
-use Rattle.canonical_forms.specs.declared.response.CanonicalResponse.{CanonicalResponse}
-use Rattle.canonical_forms.specs.Goals.{goal_trees}
-use Rattle.canonical_forms.specs.Values.{value_of}
-use Rattle.canonical_responses.specs.Responses.{answer_trees}
-use Rattle.goal_evaluator.specs.Lists.{Every}
-use Rattle.goal_evaluator.specs.declared.candidate.CandidateSpec.{CandidateSpec}
-use Rattle.goal_evaluator.specs.declared.candidate.Considered.{Considered}
-use Rattle.goal_evaluator.specs.declared.candidate.HandlerStep.{HandlerStep}
-use Rattle.goal_evaluator.specs.declared.candidate.HandlerStep.TheVariants.{Consider, Answer, NoSolution}
-use Rattle.goal_evaluator.specs.declared.goal.GoalSource.{GoalSource}
-use Rattle.goal_tables.specs.Answers.{IsWellFormed}
-use Rattle.frame_evaluation.specs.Fitting.{AreOver, IsGoalOver, IsValueOver}
-use Rattle.frame_evaluation.specs.Candidates.{labels_of}
+use Rattle.infer_table.specs.declared.goal.Goal.{Goal}
+use Rattle.infer_table.specs.declared.response.CanonicalResponse.{CanonicalResponse}
+use Rattle.infer_table.specs.Goals.{goal_trees}
+use Rattle.infer_table.specs.Values.{value_of}
+use Rattle.infer_table.specs.Responses.{answer_trees}
+use Rattle.evaluation.specs.Lists.{Every}
+use Rattle.evaluation.specs.declared.candidate.CandidateSpec.{CandidateSpec}
+use Rattle.evaluation.specs.declared.candidate.Considered.{Considered}
+use Rattle.evaluation.specs.declared.candidate.HandlerStep.{HandlerStep}
+use Rattle.evaluation.specs.declared.candidate.HandlerStep.TheVariants.{Consider, Answer, NoSolution}
+use Rattle.evaluation.specs.declared.goal.GoalSource.{GoalSource}
+use Rattle.table_laws.specs.Answers.{IsWellFormed}
+use Rattle.evaluation_laws.specs.Fitting.{AreOver, IsGoalOver, IsValueOver}
+use Rattle.evaluation_laws.specs.Candidates.{labels_of}
 
 -- ---- answers
 -- the values of each are terms over its own variables

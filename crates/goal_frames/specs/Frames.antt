@@ -1,25 +1,25 @@
 -- What frames in code have heard, and what they ask.
 use Rattle.std.specs.Prelude.{◌≡◌, List, [], ◌∷◌, map, Option}
 use Rattle.type_terms.specs.Terms.{Entry}
-use Rattle.infer_table.specs.declared.goal.TypingMode.{TypingMode}
-use Rattle.canonical_forms.specs.declared.input.CanonicalInput.{CanonicalInput}
-use Rattle.canonical_forms.specs.declared.response.CanonicalResponse.{CanonicalResponse}
-use Rattle.canonical_forms.specs.Goals.{GoalHeld}
-use Rattle.canonical_forms.specs.Inputs.{form_of}
-use Rattle.canonical_responses.specs.Responses.{AnswerTrees}
-use Rattle.search_steps.specs.declared.delegate.Reply as Replies
-use Rattle.search_steps.specs.declared.delegate.Reply.TheVariants as Replied
-use Rattle.search_steps.specs.declared.delegate.Request as Requests
-use Rattle.search_steps.specs.declared.delegate.Request.TheVariants as Requested
-use Rattle.goal_evaluator.specs.declared.candidate.Considered.{Considered}
-use Rattle.goal_evaluator.specs.Handler.{Handled}
-use Rattle.goal_evaluator.specs.History.{Request, evaluate, enter_candidate, finish_candidate, ignore_candidate, returns, Reply, begin, entered, ignored, evaluated, finished, position, asks, CameInOrder}
-use Rattle.goal_evaluator.specs.Lists.{Every}
-use Rattle.goal_evaluator.specs.Promises.{frame_of_goal, Anything}
-use Rattle.goal_evaluator.specs.Readings.{ResultHeld, ConsideredHeld, SpecHeld}
-use Rattle.goal_tables.specs.Content.{Question}
-use Rattle.frame_tables.specs.Tables.{frame_tables}
-use Rattle.frame_searches.specs.Searches.{step_kind}
+use Rattle.infer_table.specs.declared.certainty.TypingMode.{TypingMode}
+use Rattle.infer_table.specs.declared.input.CanonicalInput.{CanonicalInput}
+use Rattle.infer_table.specs.declared.response.CanonicalResponse.{CanonicalResponse}
+use Rattle.infer_table.specs.Goals.{GoalHeld}
+use Rattle.infer_table.specs.Inputs.{form_of}
+use Rattle.infer_table.specs.Responses.{AnswerTrees}
+use Rattle.search_graph.specs.declared.delegate.Reply as Replies
+use Rattle.search_graph.specs.declared.delegate.Reply.TheVariants as Replied
+use Rattle.search_graph.specs.declared.delegate.Request as Requests
+use Rattle.search_graph.specs.declared.delegate.Request.TheVariants as Requested
+use Rattle.evaluation.specs.declared.candidate.Considered.{Considered}
+use Rattle.evaluation.specs.Handler.{Handled}
+use Rattle.evaluation.specs.History.{Request, evaluate, enter_candidate, finish_candidate, ignore_candidate, returns, Reply, begin, entered, ignored, evaluated, finished, position, asks, CameInOrder}
+use Rattle.evaluation.specs.Lists.{Every}
+use Rattle.evaluation.specs.Promises.{frame_of_goal, Anything}
+use Rattle.evaluation.specs.Readings.{ResultHeld, ConsideredHeld, SpecHeld}
+use Rattle.table_laws.specs.Content.{Question}
+use Rattle.evaluation_laws.specs.Tables.{frame_tables}
+use Rattle.goal_frames.specs.Searches.{step_kind}
 use Rattle.goal_frames.specs.Readings.{result_read, shown_by}
 use Rattle.goal_frames.specs.Fitting.{ResultFits, ConsideredFits, IsOver}
 use Rattle.goal_frames.specs.Places.{place_read, Stands}

@@ -1,18 +1,18 @@
 -- Where a frame stands.
 use Rattle.std.specs.Prelude.{◌≡◌, ℕ, suc, ◌+◌, Bool, List, [], ◌∷◌, length, drop, Option}
 use Rattle.type_terms.specs.Terms.{Entry}
-use Rattle.canonical_responses.specs.Responses.{AnswerTrees}
+use Rattle.infer_table.specs.Responses.{AnswerTrees}
 use Rattle.evaluation.specs.Evaluating.{replies_trees}
-use Rattle.goal_evaluator.specs.declared.candidate.CandidateSource.{CandidateSource}
-use Rattle.goal_evaluator.specs.declared.TheConstants.{FIXPOINT_STEP_LIMIT}
-use Rattle.goal_evaluator.specs.Candidate.{Spec, Considered, consider, used_numbers, IsHistory, candidate, frame}
-use Rattle.goal_evaluator.specs.Frame.{Frame, considers, answers, Finished, numbers}
-use Rattle.goal_evaluator.specs.Handler.{Handled}
-use Rattle.goal_evaluator.specs.History.{Position, between, inside}
-use Rattle.goal_evaluator.specs.Script.{Script, done, ask}
-use Rattle.goal_evaluator.specs.Table.{workings}
-use Rattle.goal_tables.specs.Content.{Question}
-use Rattle.frame_tables.specs.Tables.{frame_tables}
+use Rattle.evaluation.specs.declared.candidate.CandidateSource.{CandidateSource}
+use Rattle.evaluation.specs.declared.TheConstants.{FIXPOINT_STEP_LIMIT}
+use Rattle.evaluation.specs.Candidate.{Spec, Considered, consider, used_numbers, IsHistory, candidate, frame}
+use Rattle.evaluation.specs.Frame.{Frame, considers, answers, Finished, numbers}
+use Rattle.evaluation.specs.Handler.{Handled}
+use Rattle.evaluation.specs.History.{Position, between, inside}
+use Rattle.evaluation.specs.Script.{Script, done, ask}
+use Rattle.evaluation.specs.Table.{workings}
+use Rattle.table_laws.specs.Content.{Question}
+use Rattle.evaluation_laws.specs.Tables.{frame_tables}
 use Rattle.goal_frames.specs.Readings.{Shown, Shows, spec_read, result_read}
 use Rattle.goal_frames.specs.declared.frame.Place.{Place}
 use Rattle.goal_frames.specs.declared.frame.Place.TheVariants as InCode

@@ -1,89 +1,68 @@
--- The goals of a handler as the programs that a search runs.
+-- The handlers of all goals, for all that contexts declare, and their laws.
 use Rattle.std.specs.Prelude.{◌≡◌, ◌≤◌, Bool, false, List, Option, Some, None}
-use Rattle.search_paths.specs.declared.path_kind.PathKind.{PathKind}
-use Rattle.search_paths.specs.declared.path_kind.PathKind.TheVariants.{Inductive, Unknown, Coinductive, ForcedAmbiguity}
-use Rattle.infer_table.specs.Canonical.{CanonicalForm}
-use Rattle.infer_table.specs.declared.goal.Certainty.{Certainty}
-use Rattle.infer_table.specs.declared.goal.Certainty.TheVariants.{Yes, Maybe}
-use Rattle.infer_table.specs.declared.goal.MaybeCause.TheVariants.{Overflow}
-use Rattle.infer_table.specs.declared.goal.TypingMode.{TypingMode}
-use Rattle.infer_table.specs.declared.goal.TypingMode.TheVariants.{Coherence, PostAnalysis}
-use Rattle.canonical_responses.specs.Responses.{AnswerTrees}
-use Rattle.goal_evaluator.specs.Handler.{Handled}
-use Rattle.goal_evaluator.specs.History.{evaluate, asks, CameInOrder}
-use Rattle.goal_evaluator.specs.Promises.{frame_of_goal, Anything, History}
-use Rattle.goal_tables.specs.Answers.{respond}
-use Rattle.goal_tables.specs.Content.{Values, Fact, Question, fact_of}
-use Rattle.goal_tables.specs.Finite.{made_of}
-use Rattle.goal_tables.specs.Widths.{number_of}
-use Rattle.goal_tables.proofs.Beginning.{begin}
-use Rattle.frame_tables.specs.Tables.{frame_tables}
-use Rattle.frame_searches.specs.Programs.{Programs, ArePrograms}
-use Rattle.goal_frames.specs.Readings.{kinds_known}
+use Rattle.search_graph.specs.declared.path_kind.PathKind.{PathKind}
+use Rattle.search_graph.specs.declared.path_kind.PathKind.TheVariants.{Coinductive}
+use Rattle.evaluation.specs.Table.{Tables}
+use Rattle.evaluation.specs.Law.{IsYes}
+use Rattle.evaluation.specs.Handler.{Handled, IsHandler}
+use Rattle.evaluation.specs.History.{evaluate, asks, CameInOrder}
+use Rattle.evaluation.specs.Promises.{frame_of_goal, Anything, History}
+use Rattle.evaluation.specs.System.{System, IsSystem}
 
--- ---- answers that are fixed for each goal
--- it says nothing of the goal's variables
-abbrev pub silent : CanonicalForm → Certainty → Option AnswerTrees
-silent f c = Some (respond (begin (kinds_known f.kinds)) c)
+module _ {Question Response : Type 0} (t : Tables Question Response) where
+  pub record Programs : Type 1 where
+    -- what a context declares; how goals are read, in coherence or not: a nested goal as the goal that asks it
+    pub World : Type 0
+    pub Mode : Type 0
+    pub Goal : Type 0
+    -- the goal that a question asks
+    pub goal_of : Question → Goal
+    pub handled : World → Mode → Goal → Handled t
+    -- the rules of all goals, and which references are coinductive
+    pub Rule : World → t.Fact → List t.Fact → Type 0
+    pub coinductive : World → t.Fact → Bool
+    -- the values that the variables of a goal can have if each is one of these terms
+    pub made_of : Goal → t.Values → List t.Values
+    -- the answer to a goal that is asked under itself by a path of this kind, and to one that is asked too deep or too often
+    pub initial : World → Mode → Goal → PathKind → Option Response
+    pub overflow : World → Mode → Goal → Option Response
 
--- to a goal that is asked too deep or too often
-abbrev pub overflow_answer : CanonicalForm → Option AnswerTrees
-overflow_answer f = silent f (Maybe Overflow)
+  module _ (p : Programs) where
+    -- the goals that are asked in one mode
+    abbrev pub system : p.World → p.Mode → System t
+    system w mode =
+        record {
+          Goal = p.Goal;
+          handled = p.handled w mode;
+          goal_of = p.goal_of;
+          Rule = p.Rule w;
+          coinductive = p.coinductive w;
+          made_of = p.made_of;
+        }
 
--- to a goal that is asked under itself, by a path of this kind: a coinductive cycle holds, and an inductive one has no proof, but
--- in coherence, where other crates may say more, nothing is refused for it
-abbrev pub cycle_answer : TypingMode → CanonicalForm → PathKind → Option AnswerTrees
-cycle_answer mode f Coinductive = silent f Yes
-cycle_answer mode f Unknown = overflow_answer f
-cycle_answer mode f ForcedAmbiguity = overflow_answer f
-cycle_answer Coherence f Inductive = overflow_answer f
-cycle_answer PostAnalysis f Inductive = None
+    -- The answer says nothing of a goal's solutions: it refuses only where none are looked for, and else holds no values and no
+    -- wider terms than the goal's frame
+    abbrev pub SaysNothing : Handled t → Option Response → Type 0
+    SaysNothing h None = h.World → ⊥
+    SaysNothing h (Some r) = (t.has_values r ≡ false) × (t.number_in r ≤ h.widest)
 
--- ---- goals together
-module _ {Meaning : Type 0} (handled : Meaning → TypingMode → CanonicalForm → Handled frame_tables) where
-  -- what a search runs: a question asks the goal of its form, in the mode of the goal that asks it
-  abbrev pub programs_of : (Meaning → Fact → List Fact → Type 0) → (Meaning → Fact → Bool) → Programs frame_tables
-  programs_of Rule coinductive = record {
-    World = Meaning;
-    Mode = TypingMode;
-    Goal = CanonicalForm;
-    goal_of = λ q. q.form;
-    handled = handled;
-    Rule = Rule;
-    coinductive = coinductive;
-    made_of = λ f v. made_of (record { form = f; coinductive = false }) v;
-    initial = λ m mode f k. cycle_answer mode f k;
-    overflow = λ m mode f. overflow_answer f;
-  }
+    -- what has a proof in a set of crates for the one goal has one in some set for the other
+    abbrev pub ProvesNoMore : Handled t → Handled t → Type 0
+    ProvesNoMore h nested = (x : h.World) → (y : nested.World) × ((f : t.Fact) → h.Proves x f → nested.Proves y f)
 
-  abbrev pub HandlersArePrograms : (Meaning → Fact → List Fact → Type 0) → (Meaning → Fact → Bool) → Type 0
-  HandlersArePrograms Rule coinductive = ArePrograms frame_tables (programs_of Rule coinductive)
-
-  -- ---- the laws of a handler's goals together
-  -- a question has the instances of the goal of its form
-  abbrev pub InstancesAreGoals : Type 0
-  InstancesAreGoals = (m : Meaning) (mode : TypingMode) (q : Question) (v : Values) → fact_of q v ≡ (handled m mode q.form).goal v
-
-  -- a rule of one goal is a rule
-  abbrev pub RulesAreOf : (Meaning → Fact → List Fact → Type 0) → Type 0
-  RulesAreOf Rule = (m : Meaning) (mode : TypingMode) (g : CanonicalForm) (f : Fact) (premises : List Fact) → (handled m mode g).Rule f premises → Rule m f premises
-
-  -- the instances of a goal are coinductive exactly if its trait is
-  abbrev pub KindsAreOf : (Meaning → Fact → Bool) → Type 0
-  KindsAreOf coinductive = (m : Meaning) (mode : TypingMode) (g : CanonicalForm) (v : Values) → coinductive m ((handled m mode g).goal v) ≡ (handled m mode g).coinductive
-
-  -- a question of no greater number than a goal's asks a goal of no greater number
-  abbrev pub KeepNumbers : Type 0
-  KeepNumbers =
-      (m : Meaning) (mode : TypingMode) (g : CanonicalForm) (q : Question) → number_of q ≤ (handled m mode g).number → (handled m mode q.form).number ≤ (handled m mode g).number
-
-  -- the solutions of the goals that a goal's frame asks are looked for wherever those of the goal are
-  abbrev pub KeepWorlds : Type 0
-  KeepWorlds =
-      (m : Meaning) (mode : TypingMode) (g : CanonicalForm) (heard : History frame_tables (handled m mode g)) (q : Question)
-      → CameInOrder (Anything frame_tables (handled m mode g)) (frame_of_goal frame_tables (handled m mode g)) heard → asks (frame_of_goal frame_tables (handled m mode g)) heard ≡ evaluate q
-      → (x : (handled m mode g).World) → (y : (handled m mode q.form).World) × ((f : Fact) → (handled m mode g).Proves x f → (handled m mode q.form).Proves y f)
-
-  -- outside coherence no sets of crates are looked at
-  abbrev pub LookInCoherenceOnly : Type 0
-  LookInCoherenceOnly = (m : Meaning) (g : CanonicalForm) → (handled m PostAnalysis g).World → ⊥
+    -- the laws of programs
+    pub record ArePrograms : Type 0 where
+      pub handlers : (w : p.World) (mode : p.Mode) (g : p.Goal) → IsHandler t (p.handled w mode g)
+      pub systems : (w : p.World) (mode : p.Mode) → IsSystem t (system w mode)
+      -- a question that is no wider than the terms of a goal's frame asks a goal whose frame makes no wider terms and asks no more questions
+      pub numbers : (w : p.World) (mode : p.Mode) (g : p.Goal) (q : Question) → t.number_of q ≤ (p.handled w mode g).widest
+          → ((p.handled w mode (p.goal_of q)).widest ≤ (p.handled w mode g).widest) × ((p.handled w mode (p.goal_of q)).number ≤ (p.handled w mode g).number)
+      -- the solutions of the goals that a goal's frame asks are looked for wherever those of the goal are
+      pub worlds : (w : p.World) (mode : p.Mode) (g : p.Goal) (heard : History t (p.handled w mode g)) (q : Question)
+          → CameInOrder (Anything t (p.handled w mode g)) (frame_of_goal t (p.handled w mode g)) heard → asks (frame_of_goal t (p.handled w mode g)) heard ≡ evaluate q
+          → ProvesNoMore (p.handled w mode g) (p.handled w mode (p.goal_of q))
+      -- only a coinductive path is answered by a definite yes
+      pub initial_yes : (w : p.World) (mode : p.Mode) (g : p.Goal) (k : PathKind) → IsYes t (p.initial w mode g k) → k ≡ Coinductive
+      pub overflow_yes : (w : p.World) (mode : p.Mode) (g : p.Goal) → IsYes t (p.overflow w mode g) → ⊥
+      pub initial : (w : p.World) (mode : p.Mode) (g : p.Goal) (k : PathKind) → SaysNothing (p.handled w mode g) (p.initial w mode g k)
+      pub overflow : (w : p.World) (mode : p.Mode) (g : p.Goal) → SaysNothing (p.handled w mode g) (p.overflow w mode g)

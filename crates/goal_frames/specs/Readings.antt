@@ -3,23 +3,23 @@ use Rattle.std.specs.Prelude.{◌≡◌, ℕ, Bool, List, [], map, reverse, Opti
 use Rattle.type_terms.specs.Terms.{Entry}
 use Rattle.infer_table.specs.declared.terms.Equation as Code
 use Rattle.infer_table.specs.Constraints.{constraints_trees}
-use Rattle.canonical_forms.specs.declared.goal.Goal.{Goal}
-use Rattle.canonical_forms.specs.declared.response.CanonicalResponse.{CanonicalResponse}
-use Rattle.canonical_forms.specs.Goals.{goal_trees}
-use Rattle.canonical_forms.specs.Values.{value_of}
-use Rattle.canonical_responses.specs.Responses.{AnswerTrees, answer_trees}
-use Rattle.goal_evaluator.specs.declared.candidate.CandidateSource.{CandidateSource}
-use Rattle.goal_evaluator.specs.declared.candidate.CandidateSpec.{CandidateSpec}
-use Rattle.goal_evaluator.specs.declared.candidate.Considered as InCode
-use Rattle.goal_evaluator.specs.declared.candidate.HandlerStep.{HandlerStep}
-use Rattle.goal_evaluator.specs.declared.candidate.HandlerStep.TheVariants.{Consider, Answer, NoSolution}
-use Rattle.goal_evaluator.specs.declared.goal.GoalSource.{GoalSource}
-use Rattle.goal_evaluator.specs.Candidate.{Spec, Considered, Next, consider, answer}
-use Rattle.goal_evaluator.specs.Readings.{is_coinductive_step}
-use Rattle.goal_evaluator.specs.Table.{workings}
-use Rattle.goal_tables.specs.Frames.{Nested, Equation}
-pub use Rattle.goal_tables.specs.Frames.{kinds_known}
-use Rattle.frame_tables.specs.Tables.{frame_tables}
+use Rattle.infer_table.specs.declared.goal.Goal.{Goal}
+use Rattle.infer_table.specs.declared.response.CanonicalResponse.{CanonicalResponse}
+use Rattle.infer_table.specs.Goals.{goal_trees}
+use Rattle.infer_table.specs.Values.{value_of}
+use Rattle.infer_table.specs.Responses.{AnswerTrees, answer_trees}
+use Rattle.evaluation.specs.declared.candidate.CandidateSource.{CandidateSource}
+use Rattle.evaluation.specs.declared.candidate.CandidateSpec.{CandidateSpec}
+use Rattle.evaluation.specs.declared.candidate.Considered as InCode
+use Rattle.evaluation.specs.declared.candidate.HandlerStep.{HandlerStep}
+use Rattle.evaluation.specs.declared.candidate.HandlerStep.TheVariants.{Consider, Answer, NoSolution}
+use Rattle.evaluation.specs.declared.goal.GoalSource.{GoalSource}
+use Rattle.evaluation.specs.Candidate.{Spec, Considered, Next, consider, answer}
+use Rattle.evaluation.specs.Readings.{is_coinductive_step}
+use Rattle.evaluation.specs.Table.{workings}
+use Rattle.table_laws.specs.Frames.{Nested, Equation}
+pub use Rattle.table_laws.specs.Frames.{kinds_known}
+use Rattle.evaluation_laws.specs.Tables.{frame_tables}
 
 abbrev pub equation_read : List Entry → Code.Equation → Equation
 equation_read es e = record { left = value_of es e.left; right = value_of es e.right }

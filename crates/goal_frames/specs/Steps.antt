@@ -1,14 +1,14 @@
 -- How many steps a frame has left, by what its handler means for its goal.
 use Rattle.std.specs.Prelude.{ℕ, suc, ◌+◌, ◌-◌, ◌*◌, ◌<◌, length, List, Option}
 use Rattle.type_terms.specs.Terms.{Entry}
-use Rattle.canonical_forms.specs.declared.input.CanonicalInput.{CanonicalInput}
-use Rattle.canonical_forms.specs.declared.response.CanonicalResponse.{CanonicalResponse}
-use Rattle.canonical_responses.specs.Responses.{AnswerTrees}
-use Rattle.search_steps.specs.declared.delegate.Request.{Request}
-use Rattle.goal_evaluator.specs.declared.TheConstants.{FIXPOINT_STEP_LIMIT}
-use Rattle.goal_evaluator.specs.Handler.{Handled}
-use Rattle.goal_evaluator.specs.History.{Reply}
-use Rattle.frame_tables.specs.Tables.{frame_tables}
+use Rattle.infer_table.specs.declared.input.CanonicalInput.{CanonicalInput}
+use Rattle.infer_table.specs.declared.response.CanonicalResponse.{CanonicalResponse}
+use Rattle.infer_table.specs.Responses.{AnswerTrees}
+use Rattle.search_graph.specs.declared.delegate.Request.{Request}
+use Rattle.evaluation.specs.declared.TheConstants.{FIXPOINT_STEP_LIMIT}
+use Rattle.evaluation.specs.Handler.{Handled}
+use Rattle.evaluation.specs.History.{Reply}
+use Rattle.evaluation_laws.specs.Tables.{frame_tables}
 use Rattle.goal_frames.specs.Frames.{IsDue, Steps}
 use Rattle.goal_frames.specs.declared.frame.GoalFrame.{GoalFrame}
 use Rattle.goal_frames.specs.declared.frame.Place.{Place}

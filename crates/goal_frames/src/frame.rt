@@ -2,30 +2,30 @@
 
 ghost use Rattle.std.specs.Prelude.{◌≡◌, [], ◌∷◌, ◌++◌, IfOk, map, drop, List, Bool};
 ghost use Rattle.type_terms.specs.Terms.{Entry, Keeps};
-ghost use Rattle.canonical_forms.specs.Goals.{GoalHeld};
-ghost use Rattle.canonical_forms.specs.Inputs.{form_of};
+ghost use Rattle.infer_table.specs.Goals.{GoalHeld};
+ghost use Rattle.infer_table.specs.Inputs.{form_of};
 ghost use Rattle.evaluation.specs.Evaluating.{replies_trees};
 ghost use Rattle.infer_table.specs.Canonical.{CanonicalForm};
-ghost use Rattle.infer_table.specs.declared.goal.TypingMode.{TypingMode};
-ghost use Rattle.goal_evaluator.specs.History.{request, told, entered, finished, ignored, evaluated};
-ghost use Rattle.goal_evaluator.specs.Lists.{Every};
-ghost use Rattle.goal_evaluator.specs.Promises.{Anything};
-ghost use Rattle.goal_evaluator.specs.Readings.{ResultHeld, SpecHeld, is_coinductive_step};
-ghost use Rattle.frame_tables.specs.Tables.{frame_tables};
-ghost use Rattle.frame_searches.specs.Searches.{step_kind};
+ghost use Rattle.infer_table.specs.declared.certainty.TypingMode.{TypingMode};
+ghost use Rattle.evaluation.specs.History.{request, told, entered, finished, ignored, evaluated};
+ghost use Rattle.evaluation.specs.Lists.{Every};
+ghost use Rattle.evaluation.specs.Promises.{Anything};
+ghost use Rattle.evaluation.specs.Readings.{ResultHeld, SpecHeld, is_coinductive_step};
+ghost use Rattle.evaluation_laws.specs.Tables.{frame_tables};
+ghost use Rattle.goal_frames.specs.Searches.{step_kind};
 ghost use Rattle.goal_frames.specs.Readings.{shown_by, spec_read, result_read};
 ghost use Rattle.goal_frames.specs.Fitting.{ResultFits, IsOver};
 ghost use Rattle.goal_frames.specs.Places.{Standing, Stands, IsBetween, IsInside, IsIgnoring, Answers, place_read};
 ghost use Rattle.goal_frames.specs.Frames.{FrameHeld, HasHeard, IsDue, IsReply, IsRequest, RequestHeld, Steps, reply_read};
 
 use crate::handler::GoalHandler;
-use candidates::evaluate_candidate;
-use canonical_forms::input::CanonicalInput;
-use canonical_forms::response::CanonicalResponse;
-use evaluation::{EvalError, EvalStep};
-use goal_evaluator::{CandidateSource, CandidateSpec, Considered, GoalSource, HandlerStep};
-use search_paths::PathKind;
-use search_steps::{Reply, Request};
+use evaluation::{
+    CandidateSource, CandidateSpec, Considered, EvalError, EvalStep, GoalSource, HandlerStep,
+    evaluate_candidate,
+};
+use infer_table::input::CanonicalInput;
+use infer_table::response::CanonicalResponse;
+use search_graph::{PathKind, Reply, Request};
 use std::alloc::Global;
 use std::mem;
 use type_terms::Fault;

@@ -2,25 +2,25 @@
 
 ghost use Rattle.std.specs.Prelude.{◌≡◌, Bool, List, IfOk, map};
 ghost use Rattle.type_terms.specs.Terms.{Entry, Keeps};
-ghost use Rattle.infer_table.specs.declared.goal.TypingMode.{TypingMode};
+ghost use Rattle.infer_table.specs.declared.certainty.TypingMode.{TypingMode};
 ghost use Rattle.infer_table.specs.Canonical.{CanonicalForm};
-ghost use Rattle.canonical_forms.specs.Goals.{GoalHeld};
-ghost use Rattle.canonical_forms.specs.Inputs.{form_of};
-ghost use Rattle.goal_evaluator.specs.Table.{workings};
-ghost use Rattle.goal_evaluator.specs.Candidate as Frames;
-ghost use Rattle.goal_evaluator.specs.Handler.{Handled, IsHandler};
-ghost use Rattle.goal_evaluator.specs.Promises.{DefiniteYesFollows, AnswerCoversGoal, IsBounded, KeepsNumber, IgnoresFinishedOnce};
-ghost use Rattle.goal_evaluator.specs.Readings.{IsOfTrait, ConsideredHeld, StepHeld};
-ghost use Rattle.goal_tables.specs.Content.{Fact};
-ghost use Rattle.goal_tables.proofs.Beginning.{begin};
-ghost use Rattle.frame_tables.specs.Tables.{frame_tables};
+ghost use Rattle.infer_table.specs.Goals.{GoalHeld};
+ghost use Rattle.infer_table.specs.Inputs.{form_of};
+ghost use Rattle.evaluation.specs.Table.{workings};
+ghost use Rattle.evaluation.specs.Candidate as Frames;
+ghost use Rattle.evaluation.specs.Handler.{Handled, IsHandler};
+ghost use Rattle.evaluation.specs.Promises.{DefiniteYesFollows, AnswerCoversGoal, IsBounded, KeepsNumber, IgnoresFinishedOnce};
+ghost use Rattle.evaluation.specs.Readings.{IsOfTrait, ConsideredHeld, StepHeld};
+ghost use Rattle.table_laws.specs.Content.{Fact};
+ghost use Rattle.table_laws.proofs.Beginning.{begin};
+ghost use Rattle.evaluation_laws.specs.Tables.{frame_tables};
 ghost use Rattle.goal_frames.specs.Readings.{next_read, shown_by, Shows, kinds_known};
 ghost use Rattle.goal_frames.specs.Fitting.{ConsideredFits, StepFits};
-ghost use Rattle.goal_frames.specs.Programs.{HandlersArePrograms, InstancesAreGoals, RulesAreOf, KindsAreOf, KeepNumbers, KeepWorlds, LookInCoherenceOnly};
+ghost use Rattle.goal_frames.specs.HandlerPrograms.{HandlersArePrograms, InstancesAreGoals, RulesAreOf, KindsAreOf, KeepNumbers, KeepWorlds, LookInCoherenceOnly};
 ghost use Rattle.goal_frames.specs.Steps.{StepsFall};
 
-use canonical_forms::input::CanonicalInput;
-use goal_evaluator::{Considered, HandlerStep};
+use evaluation::{Considered, HandlerStep};
+use infer_table::input::CanonicalInput;
 use std::alloc::Global;
 use type_terms::interner::Interner;
 use type_terms::{Fault, TraitId};
@@ -93,7 +93,7 @@ pub trait GoalHandler {
 
     ghost kinds: { KindsAreOf handled coinductive };
 
-    // Terms don't grow from goal to goal.
+    // Terms get no wider and questions no more from goal to goal.
     ghost numbers: { KeepNumbers handled };
 
     // The solutions of nested goals are looked for where those of the goal are: in sets of crates, and in coherence only.

@@ -1,8 +1,23 @@
-//! The rules of goals as data, and the frames that evaluate goals by them, step by step.
+//! Frames of goals: what they mean to a search, the handlers that are lists of rules over trees, the frames that evaluate goals
+//! by a handler step by step, and the store of their goals and answers.
 #![tactic(auto)]
 
 mod frame;
 mod handler;
+mod keep;
+pub mod laws;
+mod read;
+mod rules;
+mod searches;
+pub mod store;
 
 pub use frame::GoalFrame;
 pub use handler::{GoalHandler, frames_keep_promises, handlers_are_programs};
+pub use rules::{
+    Listed, candidates_fit, canonical_goals_are_asked, listings_are_lawful,
+    rule_handlers_are_lawful, rules_are_programs,
+};
+pub use searches::{
+    Searching, frames_are_lawful, frames_end, frames_keep_order, graphs_prove,
+    rule_books_are_programs, silent_answers_are_fair,
+};

@@ -3,7 +3,7 @@
 use Rattle.std.specs.Prelude.{◌≡◌, ℕ, ◌+◌, List, length, cond, ltb, ◌&&◌, ◌==◌, Bool, true, false, refl}
 use Rattle.model.specs.Label.{Label, of_type, of_lifetime, infer, bound, principal, auto_trait, inside}
 use Rattle.model.specs.Trees.{Trees, none, tree, outer_binder, sort_of, is_sort}
-use Rattle.term_traversal.specs.Folds.{Does, enters, puts, again, IsBound}
+use Rattle.term_folds.specs.Folds.{Does, enters, puts, again, IsBound}
 
 -- lifetime v of the k-th binder around it is one of the n that the opened binder binds, where d binders are inside that one
 abbrev pub is_opened : ℕ → ℕ → ℕ → ℕ → Bool

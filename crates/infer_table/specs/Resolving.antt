@@ -3,7 +3,7 @@ use Rattle.std.specs.Prelude.{◌≡◌, ℕ, ◌+◌, suc, List, [], ◌∷◌,
 use Rattle.std.proofs.Common.{arith, sym, subst, ◌<◌, ◌≤◌}
 use Rattle.model.specs.Label.{Label, of_type, of_lifetime, infer, principal, auto_trait}
 use Rattle.model.specs.Trees.{Trees, none, tree, leaf, ◌+++◌, flags, sort_of, is_sort}
-use Rattle.term_traversal.specs.Folds.{Does, enters, puts, again, IsBound}
+use Rattle.term_folds.specs.Folds.{Does, enters, puts, again, IsBound}
 use Rattle.type_terms.specs.Terms.{Entry, Keeps}
 use Rattle.infer_table.specs.Solutions.{Binding, is_variable, resolved, size}
 use Rattle.infer_table.specs.Content.{Table, content, Ready}

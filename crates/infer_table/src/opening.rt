@@ -2,9 +2,9 @@
 ghost use Rattle.std.specs.Prelude.{◌≡◌, ◌+◌, ◌≤◌};
 ghost use Rattle.type_terms.specs.declared.TheConstants.{MAX_INDEX};
 
-use term_traversal::binders::Binders;
-use term_traversal::fold::Answer;
-use term_traversal::folder::TypeFolder;
+use term_folds::binders::Binders;
+use term_folds::fold::Answer;
+use term_folds::folder::TypeFolder;
 use type_terms::interner::Interner;
 use type_terms::kinds::{Const, Ty};
 use type_terms::number::{BoundVarIndexKind, RegionVid};
@@ -25,7 +25,7 @@ pub(crate) struct BoundVarReplacer {
 
 impl TypeFolder for BoundVarReplacer {
     ghost use Rattle.std.proofs.Common.{refl};
-    ghost use Rattle.term_traversal.specs.Folds.{none_above};
+    ghost use Rattle.term_folds.specs.Folds.{none_above};
     ghost use Rattle.infer_table.specs.Opened.{opening, opening-bounds, opening-once};
 
     ghost ready = { λ _ _. Unit {0} };

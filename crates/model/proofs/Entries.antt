@@ -1,14 +1,14 @@
 -- What an entry of a proof says; rules that are of an impl are of an impl of the world.
 use Rattle.std.proofs.Common.{◌≡◌, ℕ, Bool, true, false, List, [], ◌∷◌, ◌++◌, refl, sym, ◌∙◌, ◌&&◌, ◌||◌, ◌==◌, not, if◌then◌else◌, subst, ◌⊎◌, inl, inr, map, append_assoc}
 use Rattle.std.specs.List.{flat_map, list_all, list_any}
-use Rattle.model.specs.Label.{array, slice, raw_pointer, reference, adt, tuple, fn_ptr, dynamic}
+use Rattle.model.specs.Label.{array, slice, raw_pointer, ref, adt, tuple, fn_ptr, dynamic}
 use Rattle.model.specs.Codes.{same}
 use Rattle.model.specs.Trees.{Trees, none, tree}
 use Rattle.model.specs.Worlds.{World, Reference, ImplDecl, structs_named}
-use Rattle.model.specs.Rules.{BuiltIn, sized_struct, auto_struct, fn_ptr_call, unsize_array, unsize_to_dyn, unsize_upcast, unsize_struct, object_auto, object_principal, Rule, Way, by_impl, by_clause, by_super, built_in, rules, impl_rules, built_in_rules, plain_rules, sized_rules, copy_rules, tuple_rules, fn_ptr_rules, call_rules, but_last, auto_rules, auto_rules_plain, unsize_rules, unsize_array_rules, unsize_to_dyn_rules, unsize_upcast_rules, unsize_struct_rules, last_unsizes, object_rules, object_bound_rules, is_declared, are_dyn_compatible, same_reference, elaborated, strict_supertraits, is_auto, is_written, is_fn_trait, sized, copy, clone, tuple_trait, fn_ptr_trait, unsize, row, last_asked, each_asked, fields_of, is_coinductive}
+use Rattle.model.specs.Rules.{BuiltIn, sized_struct, auto_struct, fn_ptr_call, unsize_array, unsize_to_dyn, unsize_dyn, unsize_upcast, unsize_struct, object_auto, object_principal, equal_rows, upcasts_principal, upcasts_autos, are_declared, principal_with, autos_with, Rule, Way, by_impl, by_clause, by_super, built_in, rules, impl_rules, built_in_rules, plain_rules, sized_rules, copy_rules, tuple_rules, fn_ptr_rules, call_rules, but_last, auto_rules, auto_rules_plain, unsize_rules, unsize_array_rules, unsize_to_dyn_rules, unsize_upcast_rules, unsize_struct_rules, last_unsizes, object_rules, object_bound_rules, is_declared, are_dyn_compatible, same_reference, elaborated, strict_supertraits, is_auto, is_written, is_fn_trait, sized, copy, clone, tuple_trait, fn_ptr_trait, unsize, row, last_asked, each_asked, fields_of, is_coinductive}
 use Rattle.model.specs.Proofs.{Entry, In, Every, Stands, Follows, IsProof, HasProof}
 use Rattle.model.proofs.Members.{here, there, in-cases, in-nothing, in-append, in-left, in-map, in-flat}
-use Rattle.model.proofs.RuleLists.{append-all, if-all, unless-all, row-all, flat-all, member-all}
+use Rattle.model.proofs.RuleLists.{append-all, if-all, unless-all, row-all, equal-all, flat-all, member-all}
 
 pub map-in : {A B : Type 0} (f : A → B) (xs : List A) (y : B) → In y (map f xs) → (x : A) × In x xs × (f x ≡ y)
 map-in f [] y h = absurd (in-nothing y h)
@@ -109,9 +109,9 @@ auto-plain-built W t (tree array none p) = refl
 auto-plain-built W t (tree array (tree l k o) p) = refl
 auto-plain-built W t (tree slice none p) = refl
 auto-plain-built W t (tree slice (tree l k o) p) = refl
-auto-plain-built W t (tree (reference _) none p) = refl
-auto-plain-built W t (tree (reference _) (tree r rc none) p) = refl
-auto-plain-built W t (tree (reference _) (tree r rc (tree l k o)) p) = refl
+auto-plain-built W t (tree (ref _) none p) = refl
+auto-plain-built W t (tree (ref _) (tree r rc none) p) = refl
+auto-plain-built W t (tree (ref _) (tree r rc (tree l k o)) p) = refl
 auto-plain-built W t (tree l k o) = refl
 
 auto-built : (W : World) (t : ℕ) (a : Trees) → Built (auto_rules W t a)
@@ -126,8 +126,21 @@ unsize-to-dyn-built : (W : World) (a : Trees) → Built (unsize_to_dyn_rules W a
 unsize-to-dyn-built W (tree l c (tree dynamic b o)) = if-all is-built-in _ (row unsize_to_dyn _) refl
 unsize-to-dyn-built W a = refl
 
+upcasts-built : (W : World) (ps qs : List Reference) → Built (upcasts_principal W ps qs)
+upcasts-built W ps [] = refl
+upcasts-built W [] (q ∷ qs) = refl
+upcasts-built W (p ∷ ps) (q ∷ qs) = by (p.trait == q.trait)
+  where
+    by : (b : Bool) → Built (if b then (if same_reference p q then row unsize_dyn [] else []) else equal_rows unsize_upcast [] q 1 (strict_supertraits W p))
+    by true = if-all is-built-in (same_reference p q) (row unsize_dyn []) refl
+    by false = equal-all is-built-in unsize_upcast [] q 1 (strict_supertraits W p) (λ n. refl)
+
 unsize-upcast-built : (W : World) (a : Trees) → Built (unsize_upcast_rules W a)
-unsize-upcast-built W (tree dynamic a (tree dynamic b o)) = if-all is-built-in _ (row unsize_upcast []) refl
+unsize-upcast-built W (tree dynamic a (tree dynamic b o)) =
+    let self = tree dynamic a none in
+    let p = principal_with self a in
+    let q = principal_with self b in
+    if-all is-built-in (are_declared W p && upcasts_autos W p (autos_with self a) (autos_with self b)) (upcasts_principal W p q) (upcasts-built W p q)
 unsize-upcast-built W a = refl
 
 unsize-struct-built : (W : World) (a : Trees) → Built (unsize_struct_rules W a)
@@ -146,13 +159,14 @@ object-bound-built W r ps qs =
     if-all is-built-in (is_declared W r.trait && are_dyn_compatible W ps) (autos ++ principal)
     (append-all is-built-in autos principal
     (if-all is-built-in (list_any (same_reference r) qs) (row object_auto (strict_supertraits W r)) refl)
-    (if-all is-built-in (not (r.trait == sized) && list_any (same_reference r) (elaborated W ps)) (row object_principal (strict_supertraits W r)) refl))
+    (if-all is-built-in (not (r.trait == sized)) (equal_rows object_principal (strict_supertraits W r) r 0 (elaborated W ps))
+    (equal-all is-built-in object_principal (strict_supertraits W r) r 0 (elaborated W ps) (λ n. refl))))
   where
     autos : List Rule
     autos = if list_any (same_reference r) qs then row object_auto (strict_supertraits W r) else []
 
     principal : List Rule
-    principal = if not (r.trait == sized) && list_any (same_reference r) (elaborated W ps) then row object_principal (strict_supertraits W r) else []
+    principal = if not (r.trait == sized) then equal_rows object_principal (strict_supertraits W r) r 0 (elaborated W ps) else []
 
 object-built : (W : World) (r : Reference) (a : Trees) → Built (object_rules W r a)
 object-built W r none = refl

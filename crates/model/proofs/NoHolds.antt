@@ -2,18 +2,20 @@
 use Rattle.std.proofs.Common.{◌≡◌, ℕ, zero, suc, ◌≤◌, Bool, true, false, not, List, [], ◌∷◌, ◌++◌, refl, ap, sym, ◌∙◌, ◌&&◌, ◌||◌, ◌==◌, if◌then◌else◌, cond, subst, ◌⊎◌, inl, inr, map, filter, length, arith}
 use Rattle.std.specs.List.{flat_map, list_all, list_any}
 use Rattle.model.specs.Codes.{same}
-use Rattle.model.specs.Label.{Label, param, placeholder, infer, canonical, bound, inside, shift_label, array, slice, tuple, adt, raw_pointer, reference, fn_ptr, dynamic, principal, auto_trait}
+use Rattle.model.specs.Label.{Label, param, placeholder, infer, canonical, bound, inside, shift_label, array, slice, tuple, adt, raw_pointer, ref, fn_ptr, dynamic, principal, auto_trait}
 use Rattle.model.specs.Trees.{Trees, none, tree, ◌+++◌, instantiate, shift, nth, some_node, arguments}
 use Rattle.model.specs.Worlds.{World, Reference, StructDecl, TraitDecl, ImplDecl, structs_named, traits_named, sees, view_of, with_args, all_with_args}
 use Rattle.model.specs.Walks.{is_known_in}
-use Rattle.model.specs.Rules.{BuiltIn, sized_tuple, sized_struct, copy_tuple, auto_element, auto_tuple, auto_struct, fn_ptr_call, object_auto, object_principal, unsize_array, unsize_to_dyn, unsize_upcast, unsize_struct, Rule, rules, impl_rules, built_in_rules, plain_rules, sized_rules, copy_rules, tuple_rules, fn_ptr_rules, call_rules, but_last, auto_rules, auto_rules_plain, unsize_rules, unsize_array_rules, unsize_to_dyn_rules, unsize_upcast_rules, unsize_struct_rules, some_unsizing, with_unsizing, last_unsizes, object_rules, principal_with, autos_with, elaborated, is_declared, are_dyn_compatible, is_dyn, same_reference, is_auto, is_written, is_fn_trait, sized, copy, clone, tuple_trait, fn_ptr_trait, unsize, row, asked, last_asked, each_asked, together, fields_of, strict_supertraits, strict_supertraits_within, written_supertraits}
+use Rattle.model.specs.Rules.{BuiltIn, sized_tuple, sized_struct, copy_tuple, auto_element, auto_tuple, auto_struct, fn_ptr_call, object_auto, object_principal, equal_rows, upcasts_principal, upcasts_autos, are_declared, unsize_array, unsize_to_dyn, unsize_dyn, unsize_upcast, unsize_struct, Rule, rules, impl_rules, built_in_rules, plain_rules, sized_rules, copy_rules, tuple_rules, fn_ptr_rules, call_rules, but_last, auto_rules, auto_rules_plain, unsize_rules, unsize_array_rules, unsize_to_dyn_rules, unsize_upcast_rules, unsize_struct_rules, some_unsizing, with_unsizing, last_unsizes, object_rules, principal_with, autos_with, elaborated, is_declared, are_dyn_compatible, is_dyn, same_reference, is_auto, is_written, is_fn_trait, sized, copy, clone, tuple_trait, fn_ptr_trait, unsize, row, asked, last_asked, each_asked, together, fields_of, strict_supertraits, strict_supertraits_within, written_supertraits}
 use Rattle.model.specs.Proofs.{Entry, In, Every, HasProof}
 use Rattle.model.specs.Answers.{is_closed, is_open, children, short_chains, is_possible, is_bounded, written_in, FixedLeft, FixedRight, IsFixedClause}
+use Rattle.model.specs.Renumbering.{View}
 use Rattle.model.specs.LinkedSet.{LinkedSet, Unknown, is_stray, Cleared}
 use Rattle.model.proofs.Members.{here, there, in-cases, in-nothing, in-filter, filter-in, in-append, in-left, in-right, in-flat, flat-in, in-map, not-both}
 use Rattle.model.proofs.Walking.{left, right, both, or-left, or-right}
 use Rattle.model.proofs.Fitting.{impl-rule, closed-arguments, not-true, or-no, append-shut, head-shut, child-shut, next-shut}
 use Rattle.model.proofs.Entries.{map-in, entry-proved}
+use Rattle.model.proofs.RuleLists.{equal-all}
 use Rattle.model.proofs.OpenWorld.{open-world}
 use Rattle.model.proofs.ViewKnown.{unknown-by-view}
 
@@ -25,11 +27,11 @@ member-each p (y ∷ xs) x h g = by (in-cases x y xs g) (member-each p xs x (rig
     by (inl q) f = ap p (sym q) ∙ left (p y) _ h
     by (inr q) f = f q
 
-each-member : {A : Type 0} (p : A → Bool) (xs : List A) → ((x : A) → In x xs → p x ≡ true) → list_all p xs ≡ true
+pub each-member : {A : Type 0} (p : A → Bool) (xs : List A) → ((x : A) → In x xs → p x ≡ true) → list_all p xs ≡ true
 each-member p [] f = refl
 each-member p (x ∷ xs) f = both (p x) _ (f x (here x xs)) (each-member p xs (λ y g. f y (there y x xs g)))
 
-every-member : {A : Type 0} (P : A → Type 0) (xs : List A) (x : A) → Every P xs → In x xs → P x
+pub every-member : {A : Type 0} (P : A → Type 0) (xs : List A) (x : A) → Every P xs → In x xs → P x
 every-member P [] x h g = absurd (in-nothing x g)
 every-member P (y ∷ xs) x h g = by (in-cases x y xs g) (every-member P xs x h.1)
   where
@@ -94,7 +96,7 @@ in-unknown V c r p e g = in-right p (flat_map (λ (v : Rule). v.premises) (rules
     by true q = cc
     by false q = g
 
-pub proved-is-possible : (W : World) (vs : List (ℕ × World)) (rank : ℕ → ℕ) → LinkedSet W vs rank → (c : ℕ) → Shut (view_of W c) c
+pub proved-is-possible : (W : World) (vs : List View) (rank : ℕ → ℕ) → LinkedSet W vs rank → (c : ℕ) → Shut (view_of W c) c
     → (n : ℕ) (r : Reference) → is_closed r.args ≡ true → short_chains n (view_of W c) c r ≡ true → HasProof W [] r → is_possible n (view_of W c) c r ≡ true
 proved-is-possible W vs rank l c sh zero r z h p = cc
 proved-is-possible W vs rank l c sh (suc n) r z h p =
@@ -123,7 +125,7 @@ proved-is-possible W vs rank l c sh (suc n) r z h p =
         unknown : is_known_in (view_of W c) c r ≡ false
         unknown = unknown-by-view W (l.one_struct, l.one_trait) c r g.unknown
 
-pub no-holds-if : (W : World) (vs : List (ℕ × World)) (rank : ℕ → ℕ) → LinkedSet W vs rank → (c : ℕ) → Shut (view_of W c) c
+pub no-holds-if : (W : World) (vs : List View) (rank : ℕ → ℕ) → LinkedSet W vs rank → (c : ℕ) → Shut (view_of W c) c
     → (limit : ℕ) (r : Reference) → is_bounded limit (view_of W c) c r ≡ true → is_possible limit (view_of W c) c r ≡ false → HasProof W [] r → ⊥
 no-holds-if W vs rank l c sh limit r b h p =
     not-both (is_possible limit (view_of W c) c r)
@@ -197,7 +199,7 @@ module _ (W : World) (c : ℕ) (bounds : (x : TraitDecl) (b : Reference) → In 
 abbrev premises-closed : List Rule → Bool
 premises-closed us = list_all (λ u. list_all (λ p. is_closed p.args) u.premises) us
 
-closed-by : (t : Trees) → Shuts t → is_closed t ≡ true
+pub closed-by : (t : Trees) → Shuts t → is_closed t ≡ true
 closed-by t h = ap not h
 
 one-asked : (t : ℕ) (l : Label) (c o : Trees) → Shuts (tree l c o) → premises-closed (row auto_element (asked t (tree l c none) ∷ [])) ≡ true
@@ -208,7 +210,7 @@ last-closed t none h = refl
 last-closed t (tree l c none) h = both (is_closed (tree l c none)) true (closed-by (tree l c none) h) refl
 last-closed t (tree l c (tree m d o)) h = last-closed t (tree m d o) (next-shut is_open l c (tree m d o) h)
 
-each-closed : (t : ℕ) (a : Trees) → Shuts a → list_all (λ (p : Reference). is_closed p.args) (each_asked t a) ≡ true
+pub each-closed : (t : ℕ) (a : Trees) → Shuts a → list_all (λ (p : Reference). is_closed p.args) (each_asked t a) ≡ true
 each-closed t none h = refl
 each-closed t (tree l c o) h = both (is_closed (tree l c none)) _ (closed-by (tree l c none) (head-shut is_open l c o h)) (each-closed t o (next-shut is_open l c o h))
 
@@ -255,10 +257,10 @@ module _ (V : World) (fields : (x : StructDecl) (t : Trees) → In x V.structs �
   auto-closed t (tree array (tree l k o) p) h = one-asked t l k o (child-shut is_open array (tree l k o) p h)
   auto-closed t (tree slice none p) h = refl
   auto-closed t (tree slice (tree l k o) p) h = one-asked t l k o (child-shut is_open slice (tree l k o) p h)
-  auto-closed t (tree (reference b) none p) h = refl
-  auto-closed t (tree (reference b) (tree r rc none) p) h = refl
-  auto-closed t (tree (reference b) (tree r rc (tree l k o)) p) h =
-      one-asked t l k o (next-shut is_open r rc (tree l k o) (child-shut is_open (reference b) (tree r rc (tree l k o)) p h))
+  auto-closed t (tree (ref b) none p) h = refl
+  auto-closed t (tree (ref b) (tree r rc none) p) h = refl
+  auto-closed t (tree (ref b) (tree r rc (tree l k o)) p) h =
+      one-asked t l k o (next-shut is_open r rc (tree l k o) (child-shut is_open (ref b) (tree r rc (tree l k o)) p h))
   auto-closed t (tree l k o) h = refl
 
   auto-all-closed : (t : ℕ) (a : Trees) → Shuts a → premises-closed (auto_rules V t a) ≡ true
@@ -314,8 +316,26 @@ unsize-array-closed : (a : Trees) → premises-closed (unsize_array_rules a) ≡
 unsize-array-closed (tree array (tree l c n) (tree slice (tree m d p) o)) = if-closed (same (tree l c none) (tree m d none)) (row unsize_array []) refl
 unsize-array-closed a = refl
 
+-- each of the rows for equal references asks the same
+equal-closed : (b : ℕ → BuiltIn) (ps : List Reference) (r : Reference) (k : ℕ) (ss : List Reference)
+    → list_all (λ (p : Reference). is_closed p.args) ps ≡ true → premises-closed (equal_rows b ps r k ss) ≡ true
+equal-closed b ps r k ss h = equal-all (λ (u : Rule). list_all (λ (p : Reference). is_closed p.args) u.premises) b ps r k ss (λ n. h)
+
+upcasts-closed : (V : World) (ps qs : List Reference) → premises-closed (upcasts_principal V ps qs) ≡ true
+upcasts-closed V ps [] = refl
+upcasts-closed V [] (q ∷ qs) = refl
+upcasts-closed V (p ∷ ps) (q ∷ qs) = by (p.trait == q.trait)
+  where
+    by : (b : Bool) → premises-closed (if b then (if same_reference p q then row unsize_dyn [] else []) else equal_rows unsize_upcast [] q 1 (strict_supertraits V p)) ≡ true
+    by true = if-closed (same_reference p q) (row unsize_dyn []) refl
+    by false = equal-closed unsize_upcast [] q 1 (strict_supertraits V p) refl
+
 unsize-upcast-closed : (V : World) (a : Trees) → premises-closed (unsize_upcast_rules V a) ≡ true
-unsize-upcast-closed V (tree dynamic k (tree dynamic b o)) = if-closed _ (row unsize_upcast []) refl
+unsize-upcast-closed V (tree dynamic k (tree dynamic b o)) =
+    let self = tree dynamic k none in
+    let p = principal_with self k in
+    let q = principal_with self b in
+    if-closed (are_declared V p && upcasts_autos V p (autos_with self k) (autos_with self b)) (upcasts_principal V p q) (upcasts-closed V p q)
 unsize-upcast-closed V a = refl
 
 -- lists of references, all closed
@@ -388,7 +408,7 @@ object-closed V r (tree dynamic k o) h =
     if-closed (is_declared V r.trait && are_dyn_compatible V p) (autos ++ principal)
     (join-closed autos principal
     (if-closed (list_any (same_reference r) q) (row object_auto (strict_supertraits V r)) (a-row object_auto (strict_supertraits V r) h))
-    (if-closed (not (r.trait == sized) && list_any (same_reference r) (elaborated V p)) (row object_principal (strict_supertraits V r)) (a-row object_principal (strict_supertraits V r) h)))
+    (if-closed (not (r.trait == sized)) (equal_rows object_principal (strict_supertraits V r) r 0 (elaborated V p)) (equal-closed object_principal (strict_supertraits V r) r 0 (elaborated V p) h)))
   where
     p : List Reference
     p = principal_with (tree dynamic k none) k
@@ -400,14 +420,14 @@ object-closed V r (tree dynamic k o) h =
     autos = if list_any (same_reference r) q then row object_auto (strict_supertraits V r) else []
 
     principal : List Rule
-    principal = if not (r.trait == sized) && list_any (same_reference r) (elaborated V p) then row object_principal (strict_supertraits V r) else []
+    principal = if not (r.trait == sized) then equal_rows object_principal (strict_supertraits V r) r 0 (elaborated V p) else []
 object-closed V r (tree l k o) h = refl
 
 member-closed : (us : List Rule) → premises-closed us ≡ true → (u : Rule) → In u us → (p : Reference) → In p u.premises → is_closed p.args ≡ true
 member-closed us h u g p k =
     member-each (λ (q : Reference). is_closed q.args) u.premises p (member-each (λ (v : Rule). list_all (λ q. is_closed q.args) v.premises) us u h g) k
 
-pub shut : (W : World) (vs : List (ℕ × World)) (rank : ℕ → ℕ) → LinkedSet W vs rank → (c : ℕ) → Shut (view_of W c) c
+pub shut : (W : World) (vs : List View) (rank : ℕ → ℕ) → LinkedSet W vs rank → (c : ℕ) → Shut (view_of W c) c
 shut W vs rank l c r s z h = by (in-append s (flat_map (λ (u : Rule). u.premises) (rules V [] r)) (if is_known_in V c r then [] else strict_supertraits V r) h)
   where
     V : World
@@ -466,14 +486,14 @@ shut W vs rank l c r s z h = by (in-append s (flat_map (λ (u : Rule). u.premise
     by (inr g) = of-supers g
 
 -- NO HOLDS: what is bounded and not possible by c's view has no proof in any linked set in which c has that view
-pub no-holds : (W : World) (vs : List (ℕ × World)) (rank : ℕ → ℕ) → LinkedSet W vs rank → (c : ℕ) (V : World) → view_of W c ≡ V
+pub no-holds : (W : World) (vs : List View) (rank : ℕ → ℕ) → LinkedSet W vs rank → (c : ℕ) (V : World) → view_of W c ≡ V
     → (limit : ℕ) (r : Reference) → is_bounded limit V c r ≡ true → is_possible limit V c r ≡ false → HasProof W [] r → ⊥
 no-holds W vs rank l c V e limit r b h =
     no-holds-if W vs rank l c (shut W vs rank l c) limit r
     (subst (λ (v : World). is_bounded limit v c r ≡ true) (sym e) b) (subst (λ (v : World). is_possible limit v c r ≡ false) (sym e) h)
 
 -- a pair with a fixed clause that is bounded and not possible by the view of some crate is cleared, in every linked set
-pub cleared-by-no : (W : World) (vs : List (ℕ × World)) (rank : ℕ → ℕ) → LinkedSet W vs rank → (c : ℕ) (V : World) → view_of W c ≡ V
+pub cleared-by-no : (W : World) (vs : List View) (rank : ℕ → ℕ) → LinkedSet W vs rank → (c : ℕ) (V : World) → view_of W c ≡ V
     → (limit : ℕ) (i j : ImplDecl) (k r : Reference) → FixedLeft i j k r ⊎ FixedRight i j k r → is_bounded limit V c r ≡ true → is_possible limit V c r ≡ false → Cleared W i j
 cleared-by-no W vs rank l c V e limit i j k r (inl f) b h m ci cj =
     no-holds W vs rank l c V e limit r b h
@@ -482,7 +502,7 @@ cleared-by-no W vs rank l c V e limit i j k r (inr f) b h m ci cj =
     no-holds W vs rank l c V e limit r b h
     (subst (HasProof W []) (f.1 m) (every-member (HasProof W []) (map (with_args m.right) j.clauses) (with_args m.right k) cj (in-map (with_args m.right) j.clauses k f.0)))
 
-pub impossible-clears : (W : World) (vs : List (ℕ × World)) (rank : ℕ → ℕ) → LinkedSet W vs rank → (c : ℕ) (V : World) → view_of W c ≡ V
+pub impossible-clears : (W : World) (vs : List View) (rank : ℕ → ℕ) → LinkedSet W vs rank → (c : ℕ) (V : World) → view_of W c ≡ V
     → (limit : ℕ) (i j : ImplDecl) (r : Reference) → IsFixedClause i j r → is_bounded limit V c r ≡ true → is_possible limit V c r ≡ false → Cleared W i j
 impossible-clears W vs rank l c V e limit i j r (inl f) b h = cleared-by-no W vs rank l c V e limit i j f.0 r (inl f.1) b h
 impossible-clears W vs rank l c V e limit i j r (inr f) b h = cleared-by-no W vs rank l c V e limit i j f.0 r (inr f.1) b h

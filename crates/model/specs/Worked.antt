@@ -1,15 +1,20 @@
 -- Worked cases: small crates, and what the definitions compute of them. Each stands on the contract of a function of src/.
 -- Crates base, and first and second which use base and not each other; structs are numbered from 10 and traits from 20.
 use Rattle.std.specs.Prelude.{◌≡◌, ℕ, true, false, List, [], ◌∷◌, ◌++◌}
-use Rattle.model.specs.Label.{of_type, of_lifetime, bool, dynamic, tuple, static, uint, adt, fn_ptr, array, slice, value, reference, principal, auto_trait, param, placeholder, bound}
+use Rattle.model.specs.Label.{of_type, of_lifetime, bool, str, dynamic, tuple, static, uint, adt, fn_ptr, array, slice, value, ref, principal, auto_trait, placeholder, bound}
 use Rattle.model.specs.Trees.{Trees, none, tree, leaf, erase, arguments, instantiate}
 use Rattle.model.specs.Worlds.{World, CrateDecl, StructDecl, TraitDecl, ImplDecl, Reference, core, view_of, with_args, sees}
-use Rattle.model.specs.Rules.{by_impl, built_in, auto_struct, unsize_array, unsize_to_dyn, unsize_upcast, unsize_struct, fn_ptr_call, row, rules, strict_supertraits, asked, sized, clone, copy, fn_once, unsize, sized_struct, object_principal}
-use Rattle.model.specs.Rules.{object_auto, object_principal}
+use Rattle.model.specs.Rules.{by_impl, built_in, row, rules, strict_supertraits, asked}
+use Rattle.model.specs.Rules.{sized, clone, copy, tuple_trait, fn_ptr_trait, fn_once, fn_mut, fn_shared, unsize}
+use Rattle.model.specs.Rules.{sized_leaf, sized_tuple, sized_struct, copy_fn_ptr, copy_tuple, auto_leaf, auto_str, auto_element, auto_tuple, auto_struct}
+use Rattle.model.specs.Rules.{tuple_of_tuple, fn_ptr_of_fn_ptr, fn_ptr_call, object_auto, object_principal}
+use Rattle.model.specs.Rules.{unsize_array, unsize_to_dyn, unsize_dyn, unsize_upcast, unsize_struct}
 use Rattle.model.specs.Proofs.{HasProof}
 use Rattle.model.specs.Walks.{local, struct_leaf, dyn_leaf, entered, other_leaf, open_place, walk, open_walk, keeps_orphan_rule, is_known}
 use Rattle.model.specs.Answers.{is_bounded, is_possible, IsDeterminate, Overlaps, OverlapIsReal, IsFixedClause}
 use Rattle.model.specs.Core.{core_world, box, type_param}
+use Rattle.model.specs.Terms.{IsTerms, erased_world, erased_impl}
+use Rattle.model.specs.Renumbering.{Renumbering}
 use Rattle.model.specs.LinkedSet.{LinkedSet, in_scope, well_written, open_walk_meets_param}
 
 -- Words of the cases
@@ -78,7 +83,7 @@ applied s args = tree (adt s) args none
 
 -- `&T`.
 abbrev pub shared : Trees → Trees
-shared (tree l c o) = tree (reference false) (tree static none (tree l c none)) none
+shared (tree l c o) = tree (ref false) (tree static none (tree l c none)) none
 shared none = none
 
 -- `dyn P`.
@@ -162,11 +167,11 @@ AClauseThatMayHoldSomeDay =
 
 -- `for<'a> fn(&'a u8)`.
 abbrev pub fn_of_any : Trees
-fn_of_any = tree (fn_ptr 1) (tree (reference false) (tree (bound of_lifetime 0 0) none u8) (leaf tuple)) none
+fn_of_any = tree (fn_ptr 1) (tree (ref false) (tree (bound of_lifetime 0 0) none u8) (leaf tuple)) none
 
 -- `fn(&'static u8)`.
 abbrev pub fn_of_static : Trees
-fn_of_static = tree (fn_ptr 0) (tree (reference false) (tree static none u8) (leaf tuple)) none
+fn_of_static = tree (fn_ptr 0) (tree (ref false) (tree static none u8) (leaf tuple)) none
 
 -- `trait Show; impl Show for for<'a> fn(&'a u8); impl Show for fn(&'static u8)`: two impls that differ only in lifetimes. Up to
 -- lifetimes the headers are one, and the impls overlap.
@@ -179,7 +184,7 @@ OnlyLifetimesDiffer =
 abbrev pub OverlapWithCore : Type 0
 OverlapWithCore =
     let i = impl_of 100 first 0 (asked clone (shared (leaf (adt 10)))) [] in
-    let j = impl_of 15 core 2 (asked clone (tree (reference false) (tree (param of_lifetime 0) none (type_param 1)) none)) [] in
+    let j = impl_of 15 core 2 (asked clone (tree (ref false) (tree static none (type_param 1)) none)) [] in
     let W = beside_core (struct 10 first [] ∷ []) [] (i ∷ []) in
     (keeps_orphan_rule W first i.header ≡ true) × OverlapIsReal 8 W first i j
 
@@ -252,18 +257,76 @@ SupertraitsDecide =
     × (is_possible 8 (view_of (beside_core [] (trait_of 20 base [] ∷ sub ∷ []) []) first) first (asked 21 u8) ≡ true)
 
 -- Built-in rules
+-- `fn(u8) -> bool`.
+abbrev pub fn_of_u8 : Trees
+fn_of_u8 = tree (fn_ptr 0) (tree (uint 0) none (leaf bool)) none
+
+-- `[u8]`.
+abbrev pub slice_of_u8 : Trees
+slice_of_u8 = tree slice u8 none
+
+-- `(u8, [u8])`.
+abbrev pub u8_and_slice : Trees
+u8_and_slice = tree tuple (tree (uint 0) none slice_of_u8) none
+
+-- `struct S<T>(u8, T)`: scalars, pointers and fn pointers are `Sized`; a tuple asks its last item and a struct its last field;
+-- `[u8]` has no rule.
+abbrev pub SizedRows : Type 0
+SizedRows =
+    let W = beside_core (struct 10 base (u8 ∷ T ∷ []) ∷ []) [] [] in
+    (rules W [] (asked sized u8) ≡ row sized_leaf [])
+    × (rules W [] (asked sized (shared slice_of_u8)) ≡ row sized_leaf [])
+    × (rules W [] (asked sized fn_of_u8) ≡ row sized_leaf [])
+    × (rules W [] (asked sized u8_and_slice) ≡ row sized_tuple (asked sized slice_of_u8 ∷ []))
+    × (rules W [] (asked sized (applied 10 slice_of_u8)) ≡ row sized_struct (asked sized slice_of_u8 ∷ []))
+    × (rules W [] (asked sized slice_of_u8) ≡ [])
+
+-- `fn(u8) -> bool` is `Copy` and `Clone`; a tuple asks it of its items; `str` has no rule.
+abbrev pub CopyRows : Type 0
+CopyRows =
+    (rules core_world [] (asked copy fn_of_u8) ≡ row copy_fn_ptr [])
+    × (rules core_world [] (asked clone fn_of_u8) ≡ row copy_fn_ptr [])
+    × (rules core_world [] (asked copy u8_and_slice) ≡ row copy_tuple (asked copy u8 ∷ asked copy slice_of_u8 ∷ []))
+    × (rules core_world [] (asked clone (leaf tuple)) ≡ row copy_tuple [])
+    × (rules core_world [] (asked copy (leaf str)) ≡ [])
+
+-- `auto trait Safe; struct S<T>(u8, T)`: scalars and fn pointers are Safe; `str` asks `[u8]`; slices, arrays, pointers and
+-- references ask their element; tuples ask their items and structs their fields. A `dyn` without Safe has no rule.
+abbrev pub AutoRows : Type 0
+AutoRows =
+    let W = beside_core (struct 10 base (u8 ∷ T ∷ []) ∷ []) (auto_trait_of 20 base ∷ trait_of 21 base [] ∷ []) [] in
+    let three = tree array (tree (uint 0) none (leaf (value 3))) none in
+    (rules W [] (asked 20 u8) ≡ row auto_leaf [])
+    × (rules W [] (asked 20 fn_of_u8) ≡ row auto_leaf [])
+    × (rules W [] (asked 20 (leaf str)) ≡ row auto_str (asked 20 slice_of_u8 ∷ []))
+    × (rules W [] (asked 20 slice_of_u8) ≡ row auto_element (asked 20 u8 ∷ []))
+    × (rules W [] (asked 20 three) ≡ row auto_element (asked 20 u8 ∷ []))
+    × (rules W [] (asked 20 (shared (leaf str))) ≡ row auto_element (asked 20 (leaf str) ∷ []))
+    × (rules W [] (asked 20 u8_and_slice) ≡ row auto_tuple (asked 20 u8 ∷ asked 20 slice_of_u8 ∷ []))
+    × (rules W [] (asked 20 (applied 10 (leaf bool))) ≡ row auto_struct (asked 20 u8 ∷ asked 20 (leaf bool) ∷ []))
+    × (rules W [] (asked 20 (dyn_of 21)) ≡ [])
+
+-- `(u8, [u8]): Tuple` and `fn(u8) -> bool: FnPtr`, and neither the other way round.
+abbrev pub TupleAndFnPtrRows : Type 0
+TupleAndFnPtrRows =
+    (rules core_world [] (asked tuple_trait u8_and_slice) ≡ row tuple_of_tuple [])
+    × (rules core_world [] (asked fn_ptr_trait fn_of_u8) ≡ row fn_ptr_of_fn_ptr [])
+    × (rules core_world [] (asked tuple_trait fn_of_u8) ≡ [])
+    × (rules core_world [] (asked fn_ptr_trait u8_and_slice) ≡ [])
+
 -- `trait Sup; trait Sub: Sup`: `dyn Sub` has Sup by its principal and unsizes to `dyn Sup` by an upcast.
 abbrev pub Upcast : Type 0
 Upcast =
     let W = beside_core [] (trait_of 20 base [] ∷ trait_of 21 base (asked 20 T ∷ []) ∷ []) [] in
-    (rules W [] (asked 20 (dyn_of 21)) ≡ row object_principal [])
-    × (rules W [] (asked 21 (dyn_of 21)) ≡ row object_principal (asked 20 (dyn_of 21) ∷ []))
-    × (rules W [] (to unsize (dyn_of 21) (dyn_of 20)) ≡ row unsize_upcast [])
+    (rules W [] (asked 20 (dyn_of 21)) ≡ row (object_principal 1) [])
+    × (rules W [] (asked 21 (dyn_of 21)) ≡ row (object_principal 0) (asked 20 (dyn_of 21) ∷ []))
+    × (rules W [] (to unsize (dyn_of 21) (dyn_of 20)) ≡ row (unsize_upcast 1) [])
+    × (rules W [] (to unsize (dyn_of 21) (dyn_of 21)) ≡ row unsize_dyn [])
     × (rules W [] (to unsize (dyn_of 20) (dyn_of 21)) ≡ [])
     × HasProof W [] (asked 21 (dyn_of 21))
 
 -- `trait Top; trait Left: Top; trait Right: Top; trait Bottom: Left + Right`: a supertrait reached by two paths. It stands twice
--- among the supertraits, once for each path, and `dyn Bottom` has one rule for it.
+-- among the supertraits, once for each path, and `dyn Bottom` has a rule for each: they are not merged.
 abbrev pub TwoPathsToOneSupertrait : Type 0
 TwoPathsToOneSupertrait =
     let W =
@@ -272,7 +335,23 @@ TwoPathsToOneSupertrait =
     []
     in
     (strict_supertraits W (asked 23 u8) ≡ asked 21 u8 ∷ asked 20 u8 ∷ asked 22 u8 ∷ asked 20 u8 ∷ [])
-    × (rules W [] (asked 20 (dyn_of 23)) ≡ row object_principal [])
+    × (rules W [] (asked 20 (dyn_of 23)) ≡ row (object_principal 2) [] ++ row (object_principal 4) [])
+    × (rules W [] (to unsize (dyn_of 23) (dyn_of 20)) ≡ row (unsize_upcast 2) [] ++ row (unsize_upcast 4) [])
+
+-- `trait Top<'a>; trait Bottom<'a, 'b>: Top<'a> + Top<'b>`: two supertraits that differ in lifetimes alone are one up to
+-- lifetimes. `dyn Bottom: Top` has a rule for each of them, both without premises, so it has a proof and is not determinate:
+-- with lifetimes the two ways record different constraints, and `prove` answers `maybe`.
+abbrev pub TwoWaysUpToLifetimes : Type 0
+TwoWaysUpToLifetimes =
+    let W =
+    beside_core []
+    (trait_of 20 base [] ∷ trait_of 21 base (to 20 T (leaf static) ∷ to 20 T (leaf static) ∷ []) ∷ [])
+    []
+    in
+    let bottom = tree dynamic (tree (principal 0 21) (tree static none (leaf static)) (leaf static)) none in
+    (rules W [] (to 20 bottom (leaf static)) ≡ row (object_principal 1) [] ++ row (object_principal 2) [])
+    × HasProof W [] (to 20 bottom (leaf static))
+    × ((limit : ℕ) → IsDeterminate limit W [] (to 20 bottom (leaf static)) → ⊥)
 
 -- `trait Show; auto trait Safe; struct S<T>(u8, V<T>); struct V<T>(T)`: `u8: Unsize<dyn Show + Safe>` asks for the bounds and
 -- `Sized`; `[u8; 3]: Unsize<[u8]>` asks nothing; `S<[u8; 3]>: Unsize<S<[u8]>>` asks it of the last field; `dyn Clone` is not dyn
@@ -289,12 +368,13 @@ Unsizing =
     × (rules W [] (to unsize u8 (dyn_of clone)) ≡ [])
     × (rules W [] (asked 21 both) ≡ row object_auto [])
 
--- `fn(u8) -> bool: FnOnce<(u8,)>` asks `bool: Sized`, and the inputs have to agree.
+-- `fn(u8) -> bool: FnOnce<(u8,)>` asks `bool: Sized`, as for `FnMut` and `Fn`, and the inputs have to agree.
 abbrev pub Calls : Type 0
 Calls =
-    let f = tree (fn_ptr 0) (tree (uint 0) none (leaf bool)) none in
-    (rules core_world [] (to fn_once f (tree tuple u8 none)) ≡ row fn_ptr_call (asked sized (leaf bool) ∷ []))
-    × (rules core_world [] (to fn_once f (leaf tuple)) ≡ [])
+    (rules core_world [] (to fn_once fn_of_u8 (tree tuple u8 none)) ≡ row fn_ptr_call (asked sized (leaf bool) ∷ []))
+    × (rules core_world [] (to fn_mut fn_of_u8 (tree tuple u8 none)) ≡ row fn_ptr_call (asked sized (leaf bool) ∷ []))
+    × (rules core_world [] (to fn_shared fn_of_u8 (tree tuple u8 none)) ≡ row fn_ptr_call (asked sized (leaf bool) ∷ []))
+    × (rules core_world [] (to fn_once fn_of_u8 (leaf tuple)) ≡ [])
 
 -- What the conditions are for
 -- `crate first; struct V<T>; trait Show; impl<T> Show for V<T>`: the ill-sorted `V<3>: Show` has no rule, though `V<T>` with what
@@ -313,7 +393,7 @@ UndeclaredHasNoRule =
     let W = beside_core (struct 10 first [] ∷ []) (trait_of 20 first [] ∷ []) [] in
     (rules W [] (asked sized (leaf (adt 10))) ≡ row sized_struct [])
     × (rules (view_of W second) [] (asked sized (leaf (adt 10))) ≡ [])
-    × (rules W [] (asked 20 (dyn_of 20)) ≡ row object_principal [])
+    × (rules W [] (asked 20 (dyn_of 20)) ≡ row (object_principal 0) [])
     × (rules (view_of W second) [] (asked 20 (dyn_of 20)) ≡ [])
 
 -- Two structs of one name, of first and of second: the impl of first keeps its orphan rule, second does not see first, and yet
@@ -354,15 +434,89 @@ BlanketInALaterVersion =
     × (keeps_orphan_rule W first (to 20 (leaf (adt 10)) (leaf (adt 11))) ≡ true)
     × (open_walk_meets_param W (to 20 (leaf (adt 10)) u8) ≡ false)
 
--- `crate base; trait Sup; trait Sub: Sup; crate first uses base; struct S; impl Sup for S; impl Sub for S`, without core's items.
+-- `crate base; trait Sup; trait Sub: Sup; crate first uses base; struct S; impl Sup for S; impl Sub for S`.
 abbrev pub linked_example : World
 linked_example = record {
-  crates = record { name = core; uses = [] } ∷ record { name = base; uses = [] } ∷ record { name = first; uses = base ∷ [] } ∷ [];
-  structs = struct 10 first [] ∷ [];
-  traits = trait_of 20 base [] ∷ trait_of 21 base (asked 20 T ∷ []) ∷ [];
-  impls = impl_of 100 first 0 (asked 20 (leaf (adt 10))) [] ∷ impl_of 101 first 0 (asked 21 (leaf (adt 10))) [] ∷ [];
+  crates = core_world.crates ++ record { name = base; uses = [] } ∷ record { name = first; uses = base ∷ [] } ∷ [];
+  structs = core_world.structs ++ struct 10 first [] ∷ [];
+  traits = core_world.traits ++ trait_of 20 base [] ∷ trait_of 21 base (asked 20 T ∷ []) ∷ [];
+  impls = core_world.impls ++ impl_of 100 first 0 (asked 20 (leaf (adt 10))) [] ∷ impl_of 101 first 0 (asked 21 (leaf (adt 10))) [] ∷ [];
 }
 
 -- It is a linked set: the conditions can be met.
 abbrev pub ExampleIsLinked : Type 0
 ExampleIsLinked = LinkedSet linked_example [] (λ n. n)
+
+-- `crate base; trait Show; crate user uses base; struct A; impl Show for A`, by the numbers of its text: user is crate 2, A is
+-- struct 10 and the impl is 100.
+abbrev pub text_of_a_user : World
+text_of_a_user = record {
+  crates = core_world.crates ++ record { name = base; uses = [] } ∷ record { name = 2; uses = base ∷ [] } ∷ [];
+  structs = core_world.structs ++ struct 10 2 [] ∷ [];
+  traits = core_world.traits ++ trait_of 20 base [] ∷ [];
+  impls = core_world.impls ++ impl_of 100 2 0 (asked 20 (leaf (adt 10))) [] ∷ [];
+}
+
+-- Two users of base in one set: the second is crate 3, its struct 11 and its impl 101.
+abbrev pub set_of_two_users : World
+set_of_two_users = record {
+  crates = core_world.crates ++ three_crates;
+  structs = core_world.structs ++ struct 10 first [] ∷ struct 11 second [] ∷ [];
+  traits = core_world.traits ++ trait_of 20 base [] ∷ [];
+  impls = core_world.impls ++ impl_of 100 first 0 (asked 20 (leaf (adt 10))) [] ∷ impl_of 101 second 0 (asked 20 (leaf (adt 11))) [] ∷ [];
+}
+
+-- Each of them was checked in a text of its own, where it is crate 2 and its struct is 10: both views stand in the set, the
+-- second with other numbers.
+abbrev pub TwoTextsInOneSet : Type 0
+TwoTextsInOneSet =
+    (ρ : Renumbering) × (σ : Renumbering) × (ρ.structs.to 10 ≡ 10) × (σ.structs.to 10 ≡ 11)
+    × LinkedSet set_of_two_users (record { numbers = ρ; asker = 2; world = text_of_a_user } ∷ record { numbers = σ; asker = 2; world = text_of_a_user } ∷ []) (λ n. n)
+
+-- `crate left; auto trait A; crate right; auto trait B; crate user uses left, right; struct S(dyn A + B)`, by the numbers of
+-- its text: left, right and user are crates 1, 2 and 3, A is trait 20 and B 21.
+abbrev pub text_with_left_first : World
+text_with_left_first = record {
+  crates = core_world.crates ++ record { name = 1; uses = [] } ∷ record { name = 2; uses = [] } ∷ record { name = 3; uses = 1 ∷ 2 ∷ [] } ∷ [];
+  structs = core_world.structs ++ struct 10 3 (tree dynamic (tree (auto_trait 20) none (tree (auto_trait 21) none (leaf static))) none ∷ []) ∷ [];
+  traits = core_world.traits ++ auto_trait_of 20 1 ∷ auto_trait_of 21 2 ∷ [];
+  impls = core_world.impls;
+}
+
+-- Another text has right and its B before left and its A, and `crate user uses right, left; struct S(dyn B)`.
+abbrev pub text_with_right_first : World
+text_with_right_first = record {
+  crates = core_world.crates ++ record { name = 1; uses = [] } ∷ record { name = 2; uses = [] } ∷ record { name = 3; uses = 1 ∷ 2 ∷ [] } ∷ [];
+  structs = core_world.structs ++ struct 10 3 (tree dynamic (tree (auto_trait 20) none (leaf static)) none ∷ []) ∷ [];
+  traits = core_world.traits ++ auto_trait_of 20 1 ∷ auto_trait_of 21 2 ∷ [];
+  impls = core_world.impls;
+}
+
+-- Both users in one set, with the numbers of the first text: the second user is crate 4, and its struct 11.
+abbrev pub set_of_both_orders : World
+set_of_both_orders = record {
+  crates = core_world.crates
+      ++ record { name = 1; uses = [] } ∷ record { name = 2; uses = [] } ∷ record { name = 3; uses = 1 ∷ 2 ∷ [] } ∷ record { name = 4; uses = 2 ∷ 1 ∷ [] } ∷ [];
+  structs = core_world.structs
+      ++ struct 10 3 (tree dynamic (tree (auto_trait 20) none (tree (auto_trait 21) none (leaf static))) none ∷ [])
+      ∷ struct 11 4 (tree dynamic (tree (auto_trait 21) none (leaf static)) none ∷ [])
+      ∷ [];
+  traits = core_world.traits ++ auto_trait_of 20 1 ∷ auto_trait_of 21 2 ∷ [];
+  impls = core_world.impls;
+}
+
+-- Two texts that declare auto traits in opposite orders stand in one set: no `dyn` of it lists them in another order than its own.
+abbrev pub OppositeOrdersInOneSet : Type 0
+OppositeOrdersInOneSet =
+    (ρ : Renumbering) × (σ : Renumbering) × (ρ.traits.to 20 ≡ 20) × (σ.traits.to 20 ≡ 21) × (σ.traits.to 21 ≡ 20)
+    × LinkedSet set_of_both_orders
+    (record { numbers = ρ; asker = 3; world = text_with_left_first } ∷ record { numbers = σ; asker = 3; world = text_with_right_first } ∷ []) (λ n. n)
+
+-- `trait Show; impl Show for for<'a> fn(&'a u8); impl Show for fn(&'static u8)`: with its lifetimes the text is no world of
+-- terms, and its impls have no common instance; erased it is one, and they have.
+abbrev pub TextsAreErased : Type 0
+TextsAreErased =
+    let i = impl_of 100 base 0 (asked 20 fn_of_any) [] in
+    let j = impl_of 101 base 0 (asked 20 fn_of_static) [] in
+    let W = beside_core [] (trait_of 20 base [] ∷ []) (i ∷ j ∷ []) in
+    (IsTerms W → ⊥) × IsTerms (erased_world W) × (Overlaps i j → ⊥) × Overlaps (erased_impl i) (erased_impl j)

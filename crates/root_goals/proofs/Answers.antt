@@ -13,26 +13,26 @@ use Rattle.infer_table.specs.Canonical.{OpenKinds, GoalTrees, kind_of_leaf, kind
 use Rattle.infer_table.specs.Content.{Table, content, variables_of}
 use Rattle.infer_table.specs.Solutions.{Assignment, IsSorted, instance, tree_of}
 use Rattle.infer_table.specs.declared.canonical.CanonicalVarKind.{CanonicalVarKind}
-use Rattle.canonical_forms.specs.declared.response.CanonicalResponse.{CanonicalResponse}
-use Rattle.canonical_forms.specs.Leaves.{AreLeaves, labels, leaf_label, root_label}
-use Rattle.canonical_forms.specs.Values.{Value, sort_of_arg, values_of}
-use Rattle.canonical_responses.specs.Raw.{sort_of_kind}
-use Rattle.canonical_responses.specs.Answers.{have_same_sorts, is_answer_to}
-use Rattle.canonical_responses.specs.Responses.{answer_trees}
-use Rattle.canonical_responses.specs.Covers.{chosen, AreNumbered, AreKnown, IsOfKnown, IsWellPosed}
-use Rattle.canonical_responses.specs.Covers as OfValues
-use Rattle.canonical_responses.proofs.Covers.{chosen-append, instance-single, instance-root, arg-root}
+use Rattle.infer_table.specs.declared.response.CanonicalResponse.{CanonicalResponse}
+use Rattle.infer_table.specs.Leaves.{AreLeaves, labels, leaf_label, root_label}
+use Rattle.infer_table.specs.Values.{Value, sort_of_arg, values_of}
+use Rattle.infer_table.specs.Raw.{sort_of_kind}
+use Rattle.infer_table.specs.Answers.{have_same_sorts, is_answer_to}
+use Rattle.infer_table.specs.Responses.{answer_trees}
+use Rattle.infer_table.specs.Covers.{chosen, AreNumbered, AreKnown, IsOfKnown, IsWellPosed}
+use Rattle.infer_table.specs.Covers as OfValues
+use Rattle.infer_table.proofs.Covers.{chosen-append, instance-single, instance-root, arg-root}
 use Rattle.infer_table.proofs.SolutionLaws.{instance-append}
-use Rattle.goal_evaluator.specs.Lists.{Every}
-use Rattle.goal_tables.specs.Answers.{picked, IsPicked, ArePicked, Agrees, is_variable_of, is_kind_of, is_fitting, IsWellFormed, leaf_value}
-use Rattle.goal_tables.specs.Frames.{kind_at}
-use Rattle.goal_tables.specs.Instances.{read_with, of_sort}
-use Rattle.goal_tables.proofs.Labels.{IsGoodLabel, made-labels}
-use Rattle.goal_tables.proofs.Made.{left, right}
-use Rattle.goal_tables.proofs.Nodes.{every-leaf}
-use Rattle.goal_tables.proofs.Questions.{sort-of-sort}
-use Rattle.goal_tables.proofs.Reading.{EachLabel}
-use Rattle.frame_rules.proofs.Readings.{HasLeaves, made-leaves}
+use Rattle.evaluation.specs.Lists.{Every}
+use Rattle.table_laws.specs.Answers.{picked, IsPicked, ArePicked, Agrees, is_variable_of, is_kind_of, is_fitting, IsWellFormed, leaf_value}
+use Rattle.table_laws.specs.Frames.{kind_at}
+use Rattle.table_laws.specs.Instances.{read_with, of_sort}
+use Rattle.table_laws.proofs.Labels.{IsGoodLabel, made-labels}
+use Rattle.table_laws.proofs.Made.{left, right}
+use Rattle.table_laws.proofs.Nodes.{every-leaf}
+use Rattle.table_laws.proofs.Questions.{sort-of-sort}
+use Rattle.table_laws.proofs.Reading.{EachLabel}
+use Rattle.goal_frames.proofs.Readings.{HasLeaves, made-leaves}
 use Rattle.root_goals.specs.Roots.{values_under, values_in}
 use Rattle.root_goals.proofs.Leaves.{arg-leaves}
 

@@ -1,9 +1,9 @@
 -- Caches over contexts that have grown.
 use Rattle.std.proofs.Common.{List, [], ◌∷◌}
-use Rattle.search_paths.specs.declared.path_kind.PathKind.TheVariants.{Inductive}
-use Rattle.search_steps.specs.Meaning as Search
-use Rattle.search_steps.specs.Cache.{KnownResult, IsJustified, AreJustified}
-use Rattle.search_steps.proofs.Graphs.{IsProvisional-keeps}
+use Rattle.search_graph.specs.declared.path_kind.PathKind.TheVariants.{Inductive}
+use Rattle.search_graph.specs.Meaning as Search
+use Rattle.search_graph.specs.Cache.{KnownResult, IsJustified, AreJustified}
+use Rattle.search_graph.proofs.Graphs.{IsProvisional-keeps}
 
 -- ---- caches
 module _ {C I R F : Type 0} (m : Search.Meaning C I R F) where

@@ -10,16 +10,16 @@ use Rattle.infer_table.specs.Canonical.{OpenKinds, GoalTrees, kind_of_leaf, kind
 use Rattle.infer_table.specs.Solutions.{Assignment, Binding, IsSorted, Solves, AllValued, instance, resolved}
 use Rattle.infer_table.proofs.CanonicalLaws.{leaves-keep, leaves-hold}
 use Rattle.infer_table.proofs.SolutionLaws.{instance-resolved}
-use Rattle.canonical_forms.specs.Goals.{goal_resolved}
-use Rattle.canonical_forms.specs.Inputs.{IsWithoutCanonical}
-use Rattle.goal_evaluator.specs.Lists.{IsAmong}
-use Rattle.goal_evaluator.proofs.Unfold.{among-left}
-use Rattle.goal_tables.specs.Instances.{read_with, of_sort, term_at}
-use Rattle.goal_tables.specs.Content.{trait_at, trait_of, Fact, fact_of, fits, fits_kind, given}
-use Rattle.goal_tables.specs.Finite.{default_terms, made_of}
-use Rattle.goal_tables.proofs.Finite.{AreOf, made-hold}
-use Rattle.goal_tables.proofs.Questions.{IsNoCanonical, clean-parts, sort-of-sort}
-use Rattle.frame_rules.proofs.Readings.{HasLeaves}
+use Rattle.infer_table.specs.Goals.{goal_resolved}
+use Rattle.infer_table.specs.Inputs.{IsWithoutCanonical}
+use Rattle.evaluation.specs.Lists.{IsAmong}
+use Rattle.evaluation.proofs.Unfold.{among-left}
+use Rattle.table_laws.specs.Instances.{read_with, of_sort, term_at}
+use Rattle.table_laws.specs.Content.{trait_at, trait_of, Fact, fact_of, fits, fits_kind, given}
+use Rattle.table_laws.specs.Finite.{default_terms, made_of}
+use Rattle.table_laws.proofs.Finite.{AreOf, made-hold}
+use Rattle.table_laws.proofs.Questions.{IsNoCanonical, clean-parts, sort-of-sort}
+use Rattle.goal_frames.proofs.Readings.{HasLeaves}
 use Rattle.root_goals.specs.Roots.{fact_under, values_under, question_of}
 
 false-true : false ≡ true → ⊥

@@ -10,15 +10,15 @@ use Rattle.infer_table.specs.Kept.{content-kept}
 use Rattle.infer_table.specs.Solutions.{Binding}
 use Rattle.infer_table.specs.Unification.{TableTrees, table_trees}
 use Rattle.infer_table.proofs.PairFacts.{table-kept}
-use Rattle.canonical_forms.specs.declared.goal.Goal.{Goal}
-use Rattle.canonical_forms.specs.Goals.{GoalHeld, goal_resolved}
-use Rattle.canonical_forms.specs.LeafLaws.{leaves-later, labels-later}
-use Rattle.canonical_forms.specs.Leaves.{AreLeaves, labels}
-use Rattle.canonical_forms.specs.Values.{Value}
-use Rattle.term_traversal.specs.Kept.{args-held-later}
-use Rattle.canonical_forms.proofs.Numbers.{goal-trees-later}
-use Rattle.canonical_responses.specs.Responses.{AnswerTrees}
-use Rattle.goal_tables.specs.Answers.{put_into}
+use Rattle.infer_table.specs.declared.goal.Goal.{Goal}
+use Rattle.infer_table.specs.Goals.{GoalHeld, goal_resolved}
+use Rattle.infer_table.specs.LeafLaws.{leaves-later, labels-later}
+use Rattle.infer_table.specs.Leaves.{AreLeaves, labels}
+use Rattle.infer_table.specs.Values.{Value}
+use Rattle.term_folds.specs.Kept.{args-held-later}
+use Rattle.infer_table.proofs.Numbers.{goal-trees-later}
+use Rattle.infer_table.specs.Responses.{AnswerTrees}
+use Rattle.table_laws.specs.Answers.{put_into}
 use Rattle.root_goals.specs.Roots.{goal_in, values_in}
 
 pub keeps-further : (a b c : List Entry) → Keeps a b → Keeps b c → Keeps a c

@@ -10,14 +10,14 @@ use Rattle.type_terms.proofs.MadeFacts.{type-made}
 use Rattle.term_folds.specs.declared.predicate.Clause.{Clause}
 use Rattle.term_folds.specs.declared.predicate.Clause.TheVariants.{Trait, RegionOutlives, TypeOutlives}
 use Rattle.term_folds.specs.Clauses.{ClauseHeld}
-use Rattle.term_traversal.specs.Kept.{is-at}
+use Rattle.term_folds.specs.Kept.{is-at}
 use Rattle.infer_table.specs.Content.{Table, content, Ready}
 use Rattle.infer_table.specs.Solutions.{Binding, replace, resolved, is_variable}
 use Rattle.infer_table.specs.WellFormed.{AllTerms, is_numbered}
 use Rattle.infer_table.proofs.Places.{ready-terms, arg-term}
-use Rattle.canonical_forms.specs.declared.goal.Goal.{Goal}
-use Rattle.canonical_forms.specs.Goals.{clause_label, clause_terms, environment_trees, ClausesHeld, GoalHeld, goal_trees, goal_resolved}
-use Rattle.frame_rules.proofs.Readings.{HasLeaves, made-leaves}
+use Rattle.infer_table.specs.declared.goal.Goal.{Goal}
+use Rattle.infer_table.specs.Goals.{clause_label, clause_terms, environment_trees, ClausesHeld, GoalHeld, goal_trees, goal_resolved}
+use Rattle.goal_frames.proofs.Readings.{HasLeaves, made-leaves}
 
 false-true : false ≡ true → ⊥
 false-true e = cc

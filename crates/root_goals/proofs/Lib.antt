@@ -1,3 +1,10 @@
+pub mod Silences
+pub mod Due
+pub mod Checks
+pub mod Frames
+pub mod Growing
+pub mod Fairness
+pub mod Stepping
 pub mod Leaves
 pub mod Forms
 pub mod Answers

@@ -3,12 +3,12 @@ use Rattle.std.proofs.Common.{◌≡◌, true, ◌&&◌, List, [], ◌∷◌, Re
 use Rattle.std.specs.Prelude.{OnOk}
 use Rattle.infer_table.specs.Unification.{TableTrees}
 use Rattle.infer_table.specs.declared.canonical.CanonicalVarKind.{CanonicalVarKind}
-use Rattle.canonical_forms.specs.Values.{Value}
-use Rattle.canonical_responses.specs.Responses.{AnswerTrees}
-use Rattle.canonical_responses.specs.Answers.{is_answer_to}
-use Rattle.canonical_responses.specs.Applied.{applied}
-use Rattle.goal_evaluator.specs.Lists.{Every}
-use Rattle.goal_tables.specs.Answers.{is_fitting, are_fitting, IsWellFormed, put_into}
+use Rattle.infer_table.specs.Values.{Value}
+use Rattle.infer_table.specs.Responses.{AnswerTrees}
+use Rattle.infer_table.specs.Answers.{is_answer_to}
+use Rattle.infer_table.specs.Applied.{applied}
+use Rattle.evaluation.specs.Lists.{Every}
+use Rattle.table_laws.specs.Answers.{is_fitting, are_fitting, IsWellFormed, put_into}
 
 all-fit : (ks : List CanonicalVarKind) (vs : List Value) → Every (λ v. is_fitting ks v ≡ true) vs → are_fitting ks vs ≡ true
 all-fit ks [] h = refl

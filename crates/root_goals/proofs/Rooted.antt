@@ -1,27 +1,27 @@
 -- From the context in which a goal is asked to the one that a search leaves.
 use Rattle.std.proofs.Common.{◌≡◌, ℕ, Bool, true, false, ◌&&◌, not, List, ◌∙◌, ap, subst, Option}
 use Rattle.type_terms.specs.Terms.{Entry, Keeps}
-use Rattle.search_steps.specs.Meaning as Search
-use Rattle.search_steps.proofs.Graphs.{Keeps-trans}
+use Rattle.search_graph.specs.Meaning as Search
+use Rattle.search_graph.proofs.Graphs.{Keeps-trans}
 use Rattle.infer_table.specs.Canonical.{CanonicalForm}
 use Rattle.infer_table.specs.Certainties.{is_certain}
-use Rattle.infer_table.specs.declared.goal.Certainty.TheVariants.{Yes}
-use Rattle.infer_table.specs.declared.goal.TypingMode.{TypingMode}
-use Rattle.canonical_responses.specs.Responses.{AnswerTrees}
-use Rattle.goal_evaluator.specs.Handler.{Handled}
-use Rattle.goal_evaluator.specs.Operations.{is_yes}
-use Rattle.goal_evaluator.specs.Table.{operations}
-use Rattle.goal_evaluator.specs.declared.goal.HasChanged.TheVariants.{No}
-use Rattle.goal_store.specs.declared.store.InputId.{InputId}
-use Rattle.goal_store.specs.declared.store.ResponseId.{ResponseId}
+use Rattle.infer_table.specs.declared.certainty.Certainty.TheVariants.{Yes}
+use Rattle.infer_table.specs.declared.certainty.TypingMode.{TypingMode}
+use Rattle.infer_table.specs.Responses.{AnswerTrees}
+use Rattle.evaluation.specs.Handler.{Handled}
+use Rattle.evaluation.specs.Operations.{is_yes}
+use Rattle.evaluation.specs.Table.{operations}
+use Rattle.evaluation.specs.declared.goal.HasChanged.TheVariants.{No}
+use Rattle.goal_frames.specs.declared.store.InputId.{InputId}
+use Rattle.goal_frames.specs.declared.store.ResponseId.{ResponseId}
 use Rattle.goal_frames.specs.declared.frame.GoalFrame.{GoalFrame}
-use Rattle.goal_tables.specs.Answers.{has_values}
-use Rattle.goal_tables.specs.Content.{Fact}
-use Rattle.frame_tables.specs.Tables.{frame_tables}
-use Rattle.solver_graph.specs.declared.context.SolverCx.{SolverCx}
-use Rattle.solver_graph.specs.Contexts.{Asked, entries_of, goal_of, IsReady, Advances}
-use Rattle.solver_graph.specs.Searching.{solver_meaning, world_of}
-use Rattle.solver_graph.proofs.Growing.{same-world, keeps}
+use Rattle.table_laws.specs.Answers.{has_values}
+use Rattle.table_laws.specs.Content.{Fact}
+use Rattle.evaluation_laws.specs.Tables.{frame_tables}
+use Rattle.root_goals.specs.declared.context.SolverCx.{SolverCx}
+use Rattle.root_goals.specs.Contexts.{Asked, entries_of, goal_of, IsReady, Advances}
+use Rattle.root_goals.specs.Searching.{solver_meaning, world_of}
+use Rattle.root_goals.proofs.Growing.{same-world, keeps}
 use Rattle.root_goals.specs.Changes.{changed}
 use Rattle.root_goals.specs.Evaluations.{IsFound, IsRight}
 

@@ -6,23 +6,23 @@ use Rattle.type_terms.specs.Terms.{Entry, Lawful, trees_at}
 use Rattle.infer_table.specs.Canonical.{CanonicalForm, canonical_form}
 use Rattle.infer_table.specs.Content.{Table, content, Ready}
 use Rattle.infer_table.specs.Solutions.{Assignment, Solves}
-use Rattle.infer_table.specs.declared.goal.TypingMode.{TypingMode}
+use Rattle.infer_table.specs.declared.certainty.TypingMode.{TypingMode}
 use Rattle.infer_table.proofs.EquationFacts.{solved-sorted}
 use Rattle.infer_table.proofs.Places.{ready-terms}
 use Rattle.infer_table.proofs.SolutionLaws.{resolved-rigid}
-use Rattle.canonical_forms.specs.declared.goal.Goal.{Goal}
-use Rattle.canonical_forms.specs.Goals.{GoalHeld, goal_trees}
-use Rattle.canonical_forms.specs.Inputs.{IsWithoutCanonical}
-use Rattle.canonical_responses.specs.Responses.{AnswerTrees}
-use Rattle.search_steps.specs.Proof.{HasProof}
-use Rattle.goal_evaluator.specs.Handler.{Handled}
-use Rattle.goal_evaluator.specs.Law.{AgreesTo}
-use Rattle.goal_evaluator.specs.Proof as Lists
-use Rattle.goal_tables.specs.Content.{trait_of, Fact, fact_of}
-use Rattle.frame_tables.specs.Tables.{frame_tables}
-use Rattle.frame_searches.specs.Searches.{Follows, CoversGoal}
-use Rattle.frame_searches.proofs.Graphs as Unfolding
-use Rattle.goal_frames.specs.Programs.{programs_of, HandlersArePrograms, InstancesAreGoals}
+use Rattle.infer_table.specs.declared.goal.Goal.{Goal}
+use Rattle.infer_table.specs.Goals.{GoalHeld, goal_trees}
+use Rattle.infer_table.specs.Inputs.{IsWithoutCanonical}
+use Rattle.infer_table.specs.Responses.{AnswerTrees}
+use Rattle.search_graph.specs.Proof.{HasProof}
+use Rattle.evaluation.specs.Handler.{Handled}
+use Rattle.evaluation.specs.Law.{AgreesTo}
+use Rattle.evaluation.specs.Proof as Lists
+use Rattle.table_laws.specs.Content.{trait_of, Fact, fact_of}
+use Rattle.evaluation_laws.specs.Tables.{frame_tables}
+use Rattle.goal_frames.specs.Searches.{Follows, AnswersGoal}
+use Rattle.goal_frames.proofs.Graphs as Unfolding
+use Rattle.goal_frames.specs.HandlerPrograms.{programs_of, HandlersArePrograms, InstancesAreGoals}
 use Rattle.root_goals.specs.Roots.{goal_in, fact_under, values_under, question_of}
 use Rattle.root_goals.proofs.Leaves.{goal-leaves}
 use Rattle.root_goals.proofs.Forms.{form-instance, values-made, fact-resolved}
@@ -50,7 +50,7 @@ module _ (es : List Entry) (law : Lawful es) (t : Table) (ready : Ready es t) (g
         (Unfolding.graphs_prove frame_tables (programs_of handled Rule coinductive) lawful w (mode, canonical_form (goal_in es t g)) graph (values_under s (goal_in es t g)) (values-made s (goal_in es t g)))
 
     -- where the instance has a proof, an answer that covers the canonical form agrees with it
-    pub root-agrees : (a : Option AnswerTrees) → CoversGoal frame_tables (programs_of handled Rule coinductive) w (mode, canonical_form (goal_in es t g)) a
+    pub root-agrees : (a : Option AnswerTrees) → AnswersGoal frame_tables (programs_of handled Rule coinductive) w (mode, canonical_form (goal_in es t g)) a
         → (x : (handled w mode (canonical_form (goal_in es t g))).World) → (handled w mode (canonical_form (goal_in es t g))).Proves x (fact_under s (goal_trees es g))
         → AgreesTo frame_tables a (values_under s (goal_in es t g))
-    root-agrees a covers x p = covers x (values_under s (goal_in es t g)) (subst ((handled w mode (canonical_form (goal_in es t g))).Proves x) (sym goal-is) p)
+    root-agrees a answers x p = answers.covers x (values_under s (goal_in es t g)) (subst ((handled w mode (canonical_form (goal_in es t g))).Proves x) (sym goal-is) p)

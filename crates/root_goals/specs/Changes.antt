@@ -1,7 +1,7 @@
 -- Whether something has changed.
 use Rattle.std.specs.Prelude.{Bool, true, false}
-use Rattle.goal_evaluator.specs.declared.goal.HasChanged.{HasChanged}
-use Rattle.goal_evaluator.specs.declared.goal.HasChanged.TheVariants.{Yes, No}
+use Rattle.evaluation.specs.declared.goal.HasChanged.{HasChanged}
+use Rattle.evaluation.specs.declared.goal.HasChanged.TheVariants.{Yes, No}
 
 abbrev pub changed : Bool → HasChanged
 changed true = Yes

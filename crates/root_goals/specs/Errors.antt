@@ -1,6 +1,6 @@
 -- What a refused equation means for a goal.
-use Rattle.infer_table.specs.declared.goal.EqError.{EqError}
-use Rattle.infer_table.specs.declared.goal.EqError.TheVariants as Eq
+use Rattle.infer_table.specs.declared.certainty.EqError.{EqError}
+use Rattle.infer_table.specs.declared.certainty.EqError.TheVariants as Eq
 use Rattle.root_goals.specs.declared.outcome.RootError.{RootError}
 use Rattle.root_goals.specs.declared.outcome.RootError.TheVariants as Root
 

@@ -3,14 +3,14 @@ use Rattle.std.specs.Prelude.{◌≡◌, ◌+◌, ℕ, true, List}
 use Rattle.type_terms.specs.Terms.{Entry}
 use Rattle.infer_table.specs.Canonical.{CanonicalForm, canonical_form}
 use Rattle.infer_table.specs.Content.{Table}
-use Rattle.infer_table.specs.declared.goal.TypingMode.{TypingMode}
-use Rattle.search_steps.specs.Meaning.{Meaning}
-use Rattle.search_steps.specs.Computed.{IsComputed, IsGiven}
-use Rattle.search_steps.specs.Plain.{IsPlain}
-use Rattle.search_steps.specs.Proof.{HasProof}
-use Rattle.canonical_forms.specs.declared.goal.Goal.{Goal}
-use Rattle.canonical_responses.specs.Responses.{AnswerTrees}
-use Rattle.goal_tables.specs.Answers.{has_values}
+use Rattle.infer_table.specs.declared.certainty.TypingMode.{TypingMode}
+use Rattle.search_graph.specs.Meaning.{Meaning}
+use Rattle.search_graph.specs.Computed.{IsComputed, IsGiven}
+use Rattle.search_graph.specs.Plain.{IsPlain}
+use Rattle.search_graph.specs.Proof.{HasProof}
+use Rattle.infer_table.specs.declared.goal.Goal.{Goal}
+use Rattle.infer_table.specs.Responses.{AnswerTrees}
+use Rattle.table_laws.specs.Answers.{has_values}
 use Rattle.root_goals.specs.Roots.{goal_in}
 use Rattle.root_goals.specs.Changes.{changed}
 use Rattle.root_goals.specs.declared.outcome.GoalEvaluation.{GoalEvaluation}

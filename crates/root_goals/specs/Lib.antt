@@ -1,3 +1,8 @@
+pub mod Contexts
+pub mod Answers
+pub mod Searching
+pub mod Numbers
+pub mod Lawful
 pub mod Roots
 pub mod Changes
 pub mod Errors

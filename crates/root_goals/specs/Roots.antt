@@ -6,14 +6,14 @@ use Rattle.infer_table.specs.Canonical.{GoalTrees, canonical_form, goal_leaves}
 use Rattle.infer_table.specs.Content.{Table, content, variables_of}
 use Rattle.infer_table.specs.Solutions.{Assignment, Solves, instance}
 use Rattle.infer_table.specs.Unification.{TableTrees}
-use Rattle.canonical_forms.specs.declared.goal.Goal.{Goal}
-use Rattle.canonical_forms.specs.Goals.{goal_trees, goal_resolved}
-use Rattle.canonical_forms.specs.Inputs.{IsWithoutCanonical}
-use Rattle.canonical_forms.specs.Values.{Value}
-use Rattle.canonical_responses.specs.Responses.{AnswerTrees}
-use Rattle.canonical_responses.specs.Covers.{AreKnown, Continues, IsOfKnown}
-use Rattle.goal_tables.specs.Answers.{leaf_value, put_into}
-use Rattle.goal_tables.specs.Content.{Values, trait_of, Fact, Question}
+use Rattle.infer_table.specs.declared.goal.Goal.{Goal}
+use Rattle.infer_table.specs.Goals.{goal_trees, goal_resolved}
+use Rattle.infer_table.specs.Inputs.{IsWithoutCanonical}
+use Rattle.infer_table.specs.Values.{Value}
+use Rattle.infer_table.specs.Responses.{AnswerTrees}
+use Rattle.infer_table.specs.Covers.{AreKnown, Continues, IsOfKnown}
+use Rattle.table_laws.specs.Answers.{leaf_value, put_into}
+use Rattle.table_laws.specs.Content.{Values, trait_of, Fact, Question}
 
 -- the goal as the table resolves it
 abbrev pub goal_in : List Entry → Table → Goal → GoalTrees

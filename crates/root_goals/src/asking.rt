@@ -5,19 +5,19 @@ ghost use Rattle.type_terms.specs.Terms.{Keeps};
 ghost use Rattle.type_terms.specs.Kinds.{ArgsHeld};
 ghost use Rattle.infer_table.specs.Canonical.{canonical_form, goal_leaves};
 ghost use Rattle.infer_table.specs.Content.{Ready};
-ghost use Rattle.canonical_forms.specs.Goals.{GoalHeld, goal_trees};
-ghost use Rattle.canonical_forms.specs.Leaves.{AreLeaves, labels};
-ghost use Rattle.solver_graph.specs.Contexts.{goal_of, IsReady, IsInput, Advances};
+ghost use Rattle.infer_table.specs.Goals.{GoalHeld, goal_trees};
+ghost use Rattle.infer_table.specs.Leaves.{AreLeaves, labels};
+ghost use Rattle.root_goals.specs.Contexts.{goal_of, IsReady, IsInput, Advances};
 ghost use Rattle.root_goals.specs.Roots.{goal_in};
 
-use canonical_forms::goal::Goal;
-use canonical_forms::input::{Canonicalized, canonicalize_goal};
-use canonical_forms::resolving::resolve_goal;
+use crate::context::SolverCx;
 use goal_frames::GoalHandler;
-use goal_store::store::InputId;
-use infer_table::goal::TypingMode;
+use goal_frames::store::InputId;
+use infer_table::certainty::TypingMode;
+use infer_table::goal::Goal;
 use infer_table::infer_ctxt::InferCtxt;
-use solver_graph::SolverCx;
+use infer_table::input::{Canonicalized, canonicalize_goal};
+use infer_table::resolving::resolve_goal;
 use type_terms::Fault;
 use type_terms::kinds::GenericArgKind;
 

@@ -5,9 +5,9 @@ ghost use Rattle.root_goals.specs.declared.outcome.RootError.TheVariants.{Fault 
 ghost use Rattle.root_goals.specs.Errors.{error_of_equation};
 ghost use Rattle.type_terms.specs.declared.Fault.TheVariants.{Memory};
 
-use canonical_forms::goal::Goal;
-use goal_evaluator::HasChanged;
-use infer_table::goal::{Certainty, EqError};
+use evaluation::HasChanged;
+use infer_table::certainty::{Certainty, EqError};
+use infer_table::goal::Goal;
 use std::alloc::AllocError;
 use type_terms::Fault;
 

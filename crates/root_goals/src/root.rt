@@ -6,30 +6,31 @@ ghost use Rattle.infer_table.specs.Canonical.{canonical_form};
 ghost use Rattle.infer_table.specs.Content.{Ready, Grows, content};
 ghost use Rattle.infer_table.specs.Solutions.{Assignment, Solves};
 ghost use Rattle.infer_table.specs.Unification.{table_trees};
-ghost use Rattle.canonical_forms.specs.Goals.{GoalHeld, goal_trees};
-ghost use Rattle.canonical_forms.specs.Inputs.{IsWithoutCanonical};
-ghost use Rattle.canonical_responses.specs.Responses.{AnswerTrees};
-ghost use Rattle.goal_evaluator.specs.Proof as Lists;
-ghost use Rattle.goal_tables.specs.Answers.{put_into};
-ghost use Rattle.goal_tables.specs.Content.{Fact};
-ghost use Rattle.search_steps.specs.Cache.{AreJustified, AreConsistent, HasConflict};
-ghost use Rattle.search_steps.specs.Meaning as Search;
-ghost use Rattle.search_steps.specs.Plain.{IsNotPlain};
-ghost use Rattle.solver_graph.specs.Contexts.{IsReady};
-ghost use Rattle.solver_graph.specs.Searching.{solver_meaning, world_of};
+ghost use Rattle.infer_table.specs.Goals.{GoalHeld, goal_trees};
+ghost use Rattle.infer_table.specs.Inputs.{IsWithoutCanonical};
+ghost use Rattle.infer_table.specs.Responses.{AnswerTrees};
+ghost use Rattle.evaluation.specs.Proof as Lists;
+ghost use Rattle.table_laws.specs.Answers.{put_into};
+ghost use Rattle.table_laws.specs.Content.{Fact};
+ghost use Rattle.search_graph.specs.Cache.{AreJustified, AreConsistent, HasConflict};
+ghost use Rattle.search_graph.specs.Meaning as Search;
+ghost use Rattle.search_graph.specs.Plain.{IsNotPlain};
+ghost use Rattle.root_goals.specs.Contexts.{IsReady};
+ghost use Rattle.root_goals.specs.Searching.{solver_meaning, world_of};
 ghost use Rattle.root_goals.specs.Evaluations.{asked_in, IsFound, Says};
 ghost use Rattle.root_goals.specs.Roots.{goal_in, fact_under, values_in, left_by, IsPosed, GoesOn};
 
 use crate::applying::{apply_answer, has_changed};
 use crate::asking::{Asked, ask};
+use crate::context::SolverCx;
+use crate::graph::SolverGraph;
 use crate::outcome::{GoalEvaluation, RootError};
 use crate::searching::search;
-use canonical_forms::goal::Goal;
-use goal_evaluator::{Certainty, HasChanged, TypingMode};
+use evaluation::{Certainty, HasChanged, TypingMode};
 use goal_frames::{GoalHandler, handlers_are_programs};
+use infer_table::goal::Goal;
 use infer_table::infer_ctxt::InferCtxt;
 use search_graph::{GlobalCache, SearchGraph};
-use solver_graph::{SolverCx, SolverGraph};
 
 /// Evaluates a goal of a table: asks a search for its canonical form, and puts the answer into the table.
 ///

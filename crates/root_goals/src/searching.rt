@@ -1,26 +1,26 @@
 //! The answer of a search to a goal.
 
 ghost use Rattle.std.specs.Prelude.{◌≡◌, ◌+◌, IfOk, Err};
-ghost use Rattle.goal_evaluator.specs.Readings.{ResultHeld};
+ghost use Rattle.evaluation.specs.Readings.{ResultHeld};
 ghost use Rattle.goal_frames.specs.Fitting.{ResultFits};
 ghost use Rattle.goal_frames.specs.Readings.{result_read};
-ghost use Rattle.canonical_responses.specs.Responses.{AnswerTrees};
+ghost use Rattle.infer_table.specs.Responses.{AnswerTrees};
 ghost use Rattle.search_graph.specs.Answer.{IsSound};
-ghost use Rattle.search_steps.specs.Cache.{AreJustified, AreConsistent, HasConflict};
-ghost use Rattle.search_steps.specs.Meaning.{Keeps, IsFair};
-ghost use Rattle.search_steps.specs.Plain.{IsNotPlain};
-ghost use Rattle.search_steps.specs.Proof.{HasProof};
-ghost use Rattle.solver_graph.specs.Contexts.{goal_of, IsReady, IsInput};
-ghost use Rattle.solver_graph.specs.Searching.{solver_meaning, world_of};
+ghost use Rattle.search_graph.specs.Cache.{AreJustified, AreConsistent, HasConflict};
+ghost use Rattle.search_graph.specs.Meaning.{Keeps, IsFair};
+ghost use Rattle.search_graph.specs.Plain.{IsNotPlain};
+ghost use Rattle.search_graph.specs.Proof.{HasProof};
+ghost use Rattle.root_goals.specs.Contexts.{goal_of, IsReady, IsInput};
+ghost use Rattle.root_goals.specs.Searching.{solver_meaning, world_of};
 ghost use Rattle.root_goals.specs.Evaluations.{IsFound, IsRight};
 
+use crate::context::SolverCx;
+use crate::graph::SolverGraph;
 use crate::outcome::RootError;
-use canonical_forms::response::CanonicalResponse;
+use goal_frames::store::InputId;
 use goal_frames::{GoalHandler, handlers_are_programs};
-use goal_store::store::InputId;
-use search_graph::{GlobalCache, SearchGraph};
-use search_paths::{GraphFault, PathKind};
-use solver_graph::{SolverCx, SolverGraph};
+use infer_table::response::CanonicalResponse;
+use search_graph::{GlobalCache, GraphFault, PathKind, SearchGraph};
 use type_terms::Fault;
 
 /// The answer of a search to a goal; none where the goal is refused.

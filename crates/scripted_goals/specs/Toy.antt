@@ -1,12 +1,12 @@
 -- A delegate over scripts: the frame of the goal n makes the requests of the n-th script in order.
 -- An answer is 0 for no, 1 for an overflow, 2 for yes and 3 for another ambiguity.
 use Rattle.std.specs.Prelude.{◌≡◌, ◌==◌, ◌+◌, ℕ, cond, nat_lt, List, [], ◌∷◌, length, slice_get, Option, Some, None}
-use Rattle.search_paths.specs.declared.path_kind.PathKind.{PathKind}
-use Rattle.search_paths.specs.declared.path_kind.PathKind.TheVariants.{Inductive, Unknown, Coinductive, ForcedAmbiguity}
-use Rattle.search_steps.specs.declared.delegate.Request.{Request}
-use Rattle.search_steps.specs.declared.delegate.Request.TheVariants.{Evaluate, EnterCandidate, FinishCandidate, IgnoreCandidate, Done}
-use Rattle.search_steps.specs.declared.delegate.Reply.{Reply}
-use Rattle.search_steps.specs.declared.delegate.Reply.TheVariants.{Begin, Result, Entered, Finished, Ignored}
+use Rattle.search_graph.specs.declared.path_kind.PathKind.{PathKind}
+use Rattle.search_graph.specs.declared.path_kind.PathKind.TheVariants.{Inductive, Unknown, Coinductive, ForcedAmbiguity}
+use Rattle.search_graph.specs.declared.delegate.Request.{Request}
+use Rattle.search_graph.specs.declared.delegate.Request.TheVariants.{Evaluate, EnterCandidate, FinishCandidate, IgnoreCandidate, Done}
+use Rattle.search_graph.specs.declared.delegate.Reply.{Reply}
+use Rattle.search_graph.specs.declared.delegate.Reply.TheVariants.{Begin, Result, Entered, Finished, Ignored}
 use Rattle.scripted_goals.specs.declared.ToyFrame.{ToyFrame}
 use Rattle.scripted_goals.specs.declared.Step.{Step}
 use Rattle.scripted_goals.specs.declared.Step.TheVariants.{Ask, Enter, Finish, Ignore}
@@ -14,7 +14,7 @@ use Rattle.scripted_goals.specs.declared.Rule.{Rule}
 use Rattle.scripted_goals.specs.declared.Rule.TheVariants.{All, Any, Map}
 use Rattle.scripted_goals.specs.declared.Script.{Script}
 use Rattle.scripted_goals.specs.declared.Scripts.{Scripts}
-use Rattle.search_steps.specs.Meaning.{Meaning}
+use Rattle.search_graph.specs.Meaning.{Meaning}
 
 -- the result of a frame of this rule that hears this answer, if it is done with it
 abbrev pub decided : Rule → ℕ → Option ℕ

@@ -3,16 +3,16 @@ use Rattle.std.proofs.Common.{◌≡◌, ◌<◌, ◌≤◌, ◌+◌, ◌∙◌,
 use Rattle.std.specs.Prelude.{◌==◌, nat_lt}
 use borrow.Author.Tests.{eqb-true, ltb-true}
 use Rattle.std.proofs.lemmas.Bool.{cases_lt}
-use Rattle.search_paths.specs.declared.path_kind.PathKind.{PathKind}
-use Rattle.search_paths.specs.declared.path_kind.PathKind.TheVariants.{Inductive, Unknown, Coinductive, ForcedAmbiguity}
-use Rattle.search_steps.specs.declared.delegate.Request.{Request}
-use Rattle.search_steps.specs.declared.delegate.Request.TheVariants.{Evaluate, EnterCandidate, FinishCandidate, IgnoreCandidate, Done}
-use Rattle.search_steps.specs.declared.delegate.Reply.{Reply}
-use Rattle.search_steps.specs.declared.delegate.Reply.TheVariants.{Begin, Result, Entered, Finished, Ignored}
+use Rattle.search_graph.specs.declared.path_kind.PathKind.{PathKind}
+use Rattle.search_graph.specs.declared.path_kind.PathKind.TheVariants.{Inductive, Unknown, Coinductive, ForcedAmbiguity}
+use Rattle.search_graph.specs.declared.delegate.Request.{Request}
+use Rattle.search_graph.specs.declared.delegate.Request.TheVariants.{Evaluate, EnterCandidate, FinishCandidate, IgnoreCandidate, Done}
+use Rattle.search_graph.specs.declared.delegate.Reply.{Reply}
+use Rattle.search_graph.specs.declared.delegate.Reply.TheVariants.{Begin, Result, Entered, Finished, Ignored}
 use Rattle.scripted_goals.specs.declared.ToyFrame.{ToyFrame}
 use Rattle.scripted_goals.specs.declared.Scripts.{Scripts}
 use Rattle.scripted_goals.specs.declared.Script.{Script}
-use Rattle.search_steps.specs.Meaning.{IsFair, IsLawful, IsDue, IsDueAfter, IsReplyTo, Steps, IsRequest, request_of, reply_of, answer_count}
+use Rattle.search_graph.specs.Meaning.{IsFair, IsLawful, IsDue, IsDueAfter, IsReplyTo, Steps, IsRequest, request_of, reply_of, answer_count}
 use Rattle.scripted_goals.specs.Toy.{toy_asks, asks_next, step_at, request_at, unless_decided, decided, toy_initial, toy_meaning}
 
 toy_initial_yes : (k : PathKind) → (toy_initial k == 2) ≡ true → k ≡ Coinductive

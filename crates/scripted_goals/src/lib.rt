@@ -125,7 +125,7 @@ pub struct Toy;
 
 impl Delegate for Toy {
     ghost use Rattle.std.specs.Prelude.{IfOk, OnOk, IsOk, Ok, ◌<◌, ◌≤◌, ◌+◌, ◌^◌, IsTrue, IsSome, ◌↔◌};
-    ghost use Rattle.search_steps.specs.Meaning.{Keeps, IsDue, Steps};
+    ghost use Rattle.search_graph.specs.Meaning.{Keeps, IsDue, Steps};
     ghost use Rattle.scripted_goals.specs.Toy.{toy_meaning, toy_initial};
 
     type Cx = Scripts;
@@ -287,6 +287,3 @@ fn step_request(script: &Script, next: usize) -> Request<usize, u8>
         Some(Step::Ignore(number)) => Request::IgnoreCandidate(*number),
     }
 }
-
-#[cfg(test)]
-mod tests;

@@ -1,6 +1,6 @@
 -- The depth that a goal needed.
 use Rattle.std.proofs.Common.{◌≡◌, ◌+◌, ◌-◌, ◌^◌, ◌<◌, ◌≤◌, ℕ, Bool, true, false, cond, ◌||◌, max, min, sym, ◌∙◌, refl, arith}
-use Rattle.search_steps.specs.Chain.{IsWithinDepth}
+use Rattle.search_graph.specs.Chain.{IsWithinDepth}
 
 pub depth_below : (needed nested depth : ℕ) → needed ≤ nested → nested < depth → needed < depth
 depth_below needed nested depth h k = omega (arith, h, k)

@@ -1,7 +1,7 @@
 -- What the result of a goal promises.
 use Rattle.std.specs.Prelude.{◌≡◌, true}
-use Rattle.search_steps.specs.Meaning.{Meaning, IsFair}
-use Rattle.search_steps.specs.Proof.{HasProof}
+use Rattle.search_graph.specs.Meaning.{Meaning, IsFair}
+use Rattle.search_graph.specs.Proof.{HasProof}
 
 -- the result covers the goal, its number is no greater, and a yes has a proof
 pub record IsSound {C I R F : Type 0} (m : Meaning C I R F) (w : m.World) (g : m.Goal) (c : C) (r : R) : Type 0 where

@@ -1,41 +1,396 @@
-//! What a caller sees of a cache.
+//! Results that hold whatever is being evaluated.
 
-ghost use Rattle.std.specs.Prelude.{◌≡◌, [], IsOkAnd};
+ghost use Rattle.std.specs.Prelude.{◌≡◌, ◌+◌, ◌<◌, ◌≤◌, ◌⊎◌, [], ℕ, All, length, get_or, IfOk, IfErr, OnOk, OnErr, IfSome, IfNone, Some, None, nat_eq, slice_get, true, false};
+ghost use Rattle.std.proofs.Props.{props};
+ghost use Rattle.indexmap.specs.IndexMap.{ContainsKey};
+ghost use Rattle.search_graph.specs.Chain.{newest_of, AreLinked, IsAskedUnder, IsWithinDepth, AllInRange, AreCovered};
+ghost use Rattle.search_graph.specs.Chain.{AreInRange, range_of, IsUsableAt, NoneIsUsable, IsReachedOrApart};
+ghost use Rattle.indexmap.specs.IndexSet.{insert_key};
+ghost use Rattle.search_graph.specs.Meaning.{Keeps};
+ghost use Rattle.search_graph.specs.Stack.{IsProvisional, AreCached};
+ghost use Rattle.search_graph.specs.Cache.{known_result, known_results, HasConflict, IsAlike, AreConsistent, IsNumberOf};
+ghost use Rattle.search_graph.specs.Cache.{KeepsNumbers, KeepsResults, HoldsOther, IsUseOf, AddsResult};
+ghost use Rattle.search_graph.specs.Question.{IsKeptResult, IsNotPlainAt, IsWithinAsCached, KeepsWithin};
 
-use search_steps::{CachedResults, Delegate};
-use std::alloc::Global;
-use std::marker::Model;
+use crate::delegate::{Cx, Delegate, InputOf, ResultOf};
+use crate::fault::GraphFault;
+use crate::nested_goals::{NestedGoals, Span};
+use crate::path_kind::PathKind;
+use indexmap::{IndexMap, IndexSet};
+use std::alloc::{AllocError, Global};
 use type_terms::Fault;
 
-/// Results that hold whatever is being evaluated, by their goals.
-///
-/// A clause sees the list of results, the oldest first. `GlobalCache` of `rustc_type_ir::search_graph`.
-pub struct GlobalCache<D: Delegate> {
-    pub(crate) results: CachedResults<D>,
+/// A result that rests on no goal of a stack. `CacheEntry` of `rustc_type_ir::search_graph`.
+#[derive(Drop)]
+pub struct CacheEntry<I, R> {
+    /// The goal.
+    pub input: I,
+    /// Its result.
+    pub result: R,
+    /// The depth that the goal needed, or after an overflow by depth the depth that it had.
+    pub depth: usize,
+    /// Whether a goal under this one was asked by a goal of depth 0.
+    pub encountered_overflow: bool,
+    /// The number of the goal.
+    pub number: usize,
+    /// The place of the goal's result that was cached before this one.
+    pub previous: Option<usize>,
+    /// The goals that were asked under it.
+    pub nested_goals: NestedGoals,
 }
 
-impl<D: Delegate> Model for GlobalCache<D> {
-    ghost use Rattle.std.specs.Prelude.{List};
-    ghost use Rattle.search_steps.specs.Cache.{KnownResult, known_results};
-
-    ghost Value = { List (KnownResult D.Cx.Input D.Cx.Result) };
-
-    ghost view = { λ cache. known_results cache.results.entries.items };
-}
-
-impl<D: Delegate> Drop for GlobalCache<D> {
-    fn drop(self) {
-        let GlobalCache { results: _ } = self;
+impl<I, R> CacheEntry<I, R> {
+    /// The goal and all that were asked under it lie in it.
+    fn span(&self) -> Span
+        ensures { result ≡ range_of self.now }
+    {
+        self.nested_goals.span.cover(Span::of(self.number))
     }
 }
 
-impl<D: Delegate> GlobalCache<D> {
-    /// A cache without entries. It takes no memory yet.
-    pub fn new(alloc: Global) -> Result<Self, Fault>
-        ensures { IsOkAnd result (λ cache. cache ≡ []) }
+/// A cached result as it is used.
+#[derive(Drop)]
+pub(crate) struct Cached<R> {
+    pub(crate) result: R,
+    pub(crate) depth: usize,
+    pub(crate) encountered_overflow: bool,
+}
+
+/// Whether a goal of this depth may use a result that needed that depth.
+fn is_usable(encountered_overflow: bool, needed: usize, depth: usize) -> bool
+    ensures overflow { result ≡ true → encountered_overflow ≡ true → needed ≡ depth }
+    ensures success { result ≡ true → encountered_overflow ≡ false → needed ≤ depth }
+    ensures within { IsWithinDepth encountered_overflow needed depth → result ≡ true }
+{
+    if encountered_overflow {
+        needed == depth
+    } else {
+        needed <= depth
+    }
+}
+
+/// The results that a search keeps, found by their goals. They rest on no goal of a stack.
+pub struct CachedResults<D: Delegate> {
+    alloc: Global,
+    /// The goals that were asked, each with its place here as its number.
+    pub goals: IndexSet<InputOf<D>>,
+    /// The place of each goal's newest result.
+    newest: Vec<Option<usize>>,
+    /// The results, the oldest first.
+    pub entries: Vec<CacheEntry<InputOf<D>, ResultOf<D>>>,
+    ghost listed: { (number : ℕ) → get_or newest.items number None ≡ newest_of entries.items number } by { Prim.hlevel props },
+    ghost linked: { AreLinked entries.items } by { Prim.hlevel props },
+    pub ghost numbered: { (place : ℕ) (e : _) → slice_get entries.items place ≡ Some e → IsNumberOf D.Cx.Input.eq goals.keys e.input e.number } by { Prim.hlevel props },
+    pub ghost covered: { AreCovered entries.items } by { Prim.hlevel props },
+    pub ghost consistent: { AreConsistent (known_results entries.items) } by { Prim.hlevel props },
+}
+
+impl<D: Delegate> Drop for CachedResults<D> {
+    fn drop(self) {
+        let CachedResults {
+            alloc: _,
+            goals: _,
+            newest: _,
+            entries: _,
+        } = self;
+    }
+}
+
+impl<D: Delegate> CachedResults<D> {
+    /// No results. It takes no memory yet.
+    pub fn new(alloc: Global) -> Self
+        ensures entries { result.entries.items ≡ [] }
+        ensures goals { result.goals.keys ≡ [] }
     {
-        Ok(GlobalCache {
-            results: CachedResults::new(alloc),
+        CachedResults {
+            alloc,
+            goals: IndexSet::new(alloc),
+            newest: Vec::new(alloc),
+            entries: Vec::new(alloc),
+        }
+    }
+
+    /// The number of a goal, by one hash of its input unless it is new. It is refused as `copy_input` is.
+    pub fn number_of(&mut self, cx: &D::Cx, input: &InputOf<D>) -> Result<usize, GraphFault>
+        ensures number { IfOk result (λ number. slice_get self.new.goals.keys number ≡ Some input.now) }
+        ensures place { IfOk result (λ number. IsNumberOf D.Cx.Input.eq self.new.goals.keys input.now number) }
+        ensures others { KeepsNumbers D.Cx.Input.eq self.old.goals.keys self.new.goals.keys }
+        ensures goals { OnOk result (self.new.goals.keys ≡ insert_key D.Cx.Input.eq self.old.goals.keys input.now) }
+        ensures err { OnErr result (self.new.goals.keys ≡ self.old.goals.keys) }
+        ensures entries { self.new.entries ≡ self.old.entries }
+        ensures results { KeepsResults self.old.entries.items self.new.entries.items }
+        ensures no_conflict { result ≡ Err GraphFault.Conflict → ⊥ }
+        ensures in_order { result ≡ Err GraphFault.Protocol → ⊥ }
+        ensures room { result ≡ Err GraphFault.Full → ⊥ }
+    {
+        if let Some(number) = self.goals.get_index_of(input) {
+            return Ok(number);
+        }
+        let key = cx.copy_input(input)?;
+        let (number, _) = self.goals.insert_full(key)?;
+        Ok(number)
+    }
+
+    /// The place of a goal's newest result.
+    fn newest_of(&self, number: usize) -> Option<usize>
+        ensures { result ≡ newest_of self.now.entries.items number }
+    {
+        match self.newest.get(number) {
+            Some(place) => *place,
+            None => None,
+        }
+    }
+
+    /// The place of a result for the goal that one of this depth may use over a stack with these goals.
+    pub(crate) fn find(
+        &self,
+        positions: &IndexMap<usize, usize>,
+        on_stack: Span,
+        number: usize,
+        input: &InputOf<D>,
+        depth: usize,
+    ) -> Result<Option<usize>, AllocError>
+        requires range { AllInRange (ContainsKey nat_eq positions.now) on_stack }
+        ensures found { IfOk result (λ found. IfSome found (IsUsableAt self.now.entries.items (ContainsKey nat_eq positions.now) number input.now depth)) }
+        ensures none { IfOk result (λ found. IfNone found (NoneIsUsable self.now.entries.items (ContainsKey nat_eq positions.now) number input.now depth)) }
+    {
+        let mut next = self.newest_of(number);
+        for _ in 0..self.entries.len() {
+            let Some(place) = next else {
+                return Ok(None);
+            };
+            if place >= self.entries.len() {
+                return Ok(None);
+            }
+            let entry = &self.entries[place];
+            if entry.input == *input
+                && is_usable(entry.encountered_overflow, entry.depth, depth)
+                && self.is_clear_of(positions, on_stack, place)?
+            {
+                return Ok(Some(place));
+            }
+            next = entry.previous;
+        }
+        Ok(None)
+    }
+
+    /// Whether no goal that was asked under a result is on the stack.
+    fn is_clear_of(
+        &self,
+        positions: &IndexMap<usize, usize>,
+        on_stack: Span,
+        place: usize,
+    ) -> Result<bool, AllocError>
+        requires range { AllInRange (ContainsKey nat_eq positions.now) on_stack }
+        ensures asked { IfOk result (λ clear. clear ≡ false → (asked : ℕ) × IsAskedUnder self.now.entries.items place asked × ContainsKey nat_eq positions.now asked) }
+        ensures clear { IfOk result (λ clear. clear ≡ true → (asked : ℕ) → IsAskedUnder self.now.entries.items place asked → ContainsKey nat_eq positions.now asked → ⊥) }
+    {
+        let Some(entry) = self.entries.get(place) else {
+            return Ok(true);
+        };
+        if !entry.nested_goals.span.overlaps(on_stack) {
+            return Ok(true);
+        }
+        let mut reached: IndexSet<usize> = IndexSet::new(self.alloc);
+        reached.insert(place)?;
+        let mut round = 0;
+        while round < reached.len() {
+            let below = reached[round];
+            let entry = &self.entries[below];
+            if round > 0 && positions.contains_key(&entry.number) {
+                return Ok(false);
+            }
+            if is_any_on_stack(positions, &entry.nested_goals.goals) {
+                return Ok(false);
+            }
+            self.reach(&mut reached, &entry.nested_goals.cached, on_stack)?;
+            round += 1;
+        }
+        Ok(true)
+    }
+
+    /// Adds those of the places under whose results a goal of this range may have been asked.
+    fn reach(
+        &self,
+        reached: &mut IndexSet<usize>,
+        places: &[usize],
+        on_stack: Span,
+    ) -> Result<(), AllocError>
+        ensures stay { KeepsResults reached.old.keys reached.new.keys }
+        ensures among { (j place : ℕ) → slice_get reached.new.keys j ≡ Some place → (slice_get reached.old.keys j ≡ Some place) ⊎ ((i : ℕ) × (slice_get places.now i ≡ Some place)) }
+        ensures reached { OnOk result (All (IsReachedOrApart self.now.entries.items reached.new.keys on_stack) places.now) }
+    {
+        for place in places {
+            if self.span_of(*place).overlaps(on_stack) {
+                reached.insert(*place)?;
+            }
+        }
+        Ok(())
+    }
+
+    /// The goal of a result and all that were asked under it lie in it.
+    pub(crate) fn span_of(&self, place: usize) -> Span
+        ensures { (e : _) → slice_get self.now.entries.items place ≡ Some e → result ≡ range_of e }
+    {
+        match self.entries.get(place) {
+            Some(entry) => entry.span(),
+            None => Span::empty(),
+        }
+    }
+
+    /// The result at a place.
+    pub(crate) fn get(
+        &self,
+        cx: &D::Cx,
+        place: usize,
+        input: &InputOf<D>,
+    ) -> Result<Cached<ResultOf<D>>, Fault>
+        requires cache { AreCached D.meaning (D.meaning.world cx.now) cx.now self.now.entries.items }
+        requires place { (e : _) × (slice_get self.now.entries.items place ≡ Some e) × (e.input ≡ input.now) }
+        ensures result { IfOk result (λ r. IsProvisional D.meaning (D.meaning.world cx.now) [] (D.meaning.goal_of cx.now input.now, PathKind.Inductive) 0 cx.now r.result) }
+        ensures kept { IfOk result (λ r. IsKeptResult D.meaning cx.now input.now r.result r.depth r.encountered_overflow) }
+        ensures within { IfOk result (λ r. IsWithinAsCached D.meaning cx.now self.now.entries.items input.now r.result) }
+        ensures entry { IfOk result (IsUseOf self.now.entries.items place) }
+        ensures memory { IfErr result (λ fault. fault ≡ Fault.Memory) }
+    {
+        let entry = &self.entries[place];
+        let copy = cx.copy_result(&entry.result)?;
+        Ok(Cached {
+            result: copy,
+            depth: entry.depth,
+            encountered_overflow: entry.encountered_overflow,
         })
     }
+
+    /// The place of a result for the goal that is of the same kind: a success, or an overflow at this depth.
+    fn find_alike(
+        &self,
+        number: usize,
+        input: &InputOf<D>,
+        depth: usize,
+        encountered_overflow: bool,
+    ) -> Option<usize>
+        ensures found { IfSome result (λ place. (e : _) × (slice_get self.now.entries.items place ≡ Some e) × IsAlike input.now depth encountered_overflow (known_result e)) }
+        ensures none { IfNone result ((place : ℕ) (e : _) → slice_get self.now.entries.items place ≡ Some e → e.number ≡ number → IsAlike input.now depth encountered_overflow (known_result e) → ⊥) }
+    {
+        let mut next = self.newest_of(number);
+        for _ in 0..self.entries.len() {
+            let place = next?;
+            if place >= self.entries.len() {
+                return None;
+            }
+            let entry = &self.entries[place];
+            if entry.input == *input
+                && entry.encountered_overflow == encountered_overflow
+                && is_alike(entry.encountered_overflow, entry.depth, depth)
+            {
+                return Some(place);
+            }
+            next = entry.previous;
+        }
+        None
+    }
+
+    /// Whether the cache has another result of the input, where both are successes or both overflows at one depth.
+    fn differs(
+        &self,
+        number: usize,
+        input: &InputOf<D>,
+        found: &ResultOf<D>,
+        depth: usize,
+        encountered_overflow: bool,
+    ) -> bool
+        requires number { IsNumberOf D.Cx.Input.eq self.now.goals.keys input.now number }
+        ensures other { result ≡ true → HoldsOther D.Cx.Result.eq self.now.entries.items input.now depth encountered_overflow found.now }
+        ensures none { result ≡ false → (place : ℕ) (e : _) → slice_get self.now.entries.items place ≡ Some e → IsAlike input.now depth encountered_overflow (known_result e) → e.result ≡ found.now }
+    {
+        match self.find_alike(number, input, depth, encountered_overflow) {
+            Some(place) => {
+                let entry = &self.entries[place];
+                entry.result != *found
+            }
+            None => false,
+        }
+    }
+
+    /// Keeps a result that rests on no goal of the stack, and answers its place.
+    pub(crate) fn insert(
+        &mut self,
+        cx: &D::Cx,
+        number: usize,
+        input: InputOf<D>,
+        found: &ResultOf<D>,
+        depth: usize,
+        encountered_overflow: bool,
+        nested_goals: NestedGoals,
+    ) -> Result<usize, GraphFault>
+        requires cache { AreCached D.meaning (D.meaning.world cx.now) cx.now self.old.entries.items }
+        requires input { D.meaning.IsInput cx.now input }
+        requires nested { AreInRange self.old.entries.items nested_goals }
+        requires number { IsNumberOf D.Cx.Input.eq self.old.goals.keys input number }
+        requires result { IsProvisional D.meaning (D.meaning.world cx.now) [] (D.meaning.goal_of cx.now input, PathKind.Inductive) 0 cx.now found.now }
+        requires kept { IsKeptResult D.meaning cx.now input found.now depth encountered_overflow }
+        ensures place { IfOk result (λ place. place ≡ length self.old.entries.items) }
+        ensures kept { OnOk result (AddsResult self.old.entries.items self.new.entries.items input found.now depth encountered_overflow number nested_goals) }
+        ensures err { OnErr result (self.new.entries.items ≡ self.old.entries.items) }
+        ensures results { KeepsResults self.old.entries.items self.new.entries.items }
+        ensures goals { self.new.goals ≡ self.old.goals }
+        ensures cache { AreCached D.meaning (D.meaning.world cx.now) cx.now self.new.entries.items }
+        ensures within { OnOk result (KeepsWithin D.meaning cx.now self.old.entries.items input found.now self.new.entries.items) }
+        ensures no_conflict { result ≡ Err GraphFault.Conflict → IsNotPlainAt D.meaning cx.now input depth encountered_overflow }
+        ensures conflict { result ≡ Err GraphFault.Conflict → HasConflict D.meaning cx.now (known_results self.new.entries.items) }
+        ensures in_order { result ≡ Err GraphFault.Protocol → ⊥ }
+        ensures room { result ≡ Err GraphFault.Full → ⊥ }
+    {
+        if self.differs(number, &input, found, depth, encountered_overflow) {
+            return Err(GraphFault::Conflict);
+        }
+        let result = cx.copy_result(found)?;
+        let place = self.entries.len();
+        let previous = self.newest_of(number);
+        make_room(&mut self.newest, number)?;
+        self.entries.push(CacheEntry {
+            input,
+            result,
+            depth,
+            encountered_overflow,
+            number,
+            previous,
+            nested_goals,
+        })?;
+        self.newest[number] = Some(place);
+        Ok(place)
+    }
+}
+
+/// Whether one of the goals is on the stack.
+fn is_any_on_stack(positions: &IndexMap<usize, usize>, goals: &[usize]) -> bool
+    ensures one { result ≡ true → (i : ℕ) × (asked : ℕ) × (slice_get goals.now i ≡ Some asked) × ContainsKey nat_eq positions.now asked }
+    ensures none { result ≡ false → All (λ asked. ContainsKey nat_eq positions.now asked → ⊥) goals.now }
+{
+    for goal in goals {
+        if positions.contains_key(goal) {
+            return true;
+        }
+    }
+    false
+}
+
+/// Adds goals without results, up to the one with the number.
+fn make_room(newest: &mut Vec<Option<usize>>, number: usize) -> Result<(), AllocError>
+    ensures room { OnOk result (number < length newest.new.items) }
+    ensures same { (other : ℕ) → get_or newest.new.items other None ≡ get_or newest.old.items other None }
+{
+    while newest.len() <= number {
+        newest.push(None)?;
+    }
+    Ok(())
+}
+
+/// Whether two overflows had one depth; successes are alike at any.
+fn is_alike(encountered_overflow: bool, one: usize, other: usize) -> bool
+    ensures alike { result ≡ true → encountered_overflow ≡ true → one ≡ other }
+    ensures apart { (encountered_overflow ≡ true → one ≡ other) → result ≡ true }
+{
+    !encountered_overflow || one == other
 }

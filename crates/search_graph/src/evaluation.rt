@@ -1,24 +1,23 @@
 //! The search itself: goals that ask goals.
 
-ghost use Rattle.std.specs.Prelude.{◌≡◌, [], ℕ, ◌+◌, ◌*◌, ◌<◌, ◌≤◌, length, max, slice_get, IfOk, OnOk, IsSome, true, false, cond};
-ghost use Rattle.search_steps.specs.Meaning.{Keeps};
-ghost use Rattle.search_steps.specs.Chain.{IsAskedUnder, IsWithinDepth, AreInRange};
-ghost use Rattle.search_paths.specs.Nested.{covered, one_goal};
-ghost use Rattle.search_steps.specs.Computed.{MakesMisstep};
-ghost use Rattle.search_steps.specs.Cache.{known_results, HasConflict, IsNumberOf, KeepsNumbers, KeepsResults};
-ghost use Rattle.search_steps.specs.Plain.{IsNotPlain};
-ghost use Rattle.search_steps.specs.Faithful.{AllDescend, IsFaithful, IsUntouched};
+ghost use Rattle.std.specs.Prelude.{◌≡◌, [], ◌+◌, ◌*◌, ◌<◌, ◌≤◌, length, max, IfOk, OnOk, true, false, cond};
+ghost use Rattle.search_graph.specs.Meaning.{Keeps};
+ghost use Rattle.search_graph.specs.Chain.{AreInRange};
+ghost use Rattle.search_graph.specs.Nested.{covered, one_goal};
+ghost use Rattle.search_graph.specs.Computed.{MakesMisstep};
+ghost use Rattle.search_graph.specs.Cache.{known_results, HasConflict, IsNumberOf, KeepsNumbers, KeepsResults, HoldsResult};
 ghost use Rattle.search_graph.specs.Bound.{frame_bound, question_bound};
-ghost use Rattle.search_steps.specs.Stack.{place_of, question_of, path_onto, span_of_newest, IsStack, IsEntry, IsAnswer, IsProvisional, AreCached, IsWithin, IsLastWithin, AreLastWithin, AreCachedWithin};
+ghost use Rattle.search_graph.specs.Stack.{path_onto, span_of_newest, IsStack, IsEntry, AreCached, IfUsable};
+ghost use Rattle.search_graph.specs.Question.{IsReplyOver, IsRunOver, IsFaithfulOver, IsUntouchedOver, IsNotPlainOver, AreFramesWithin, StaysWithin, RunStaysWithin};
 
-use search_paths::{
-    Candidates, CycleHead, Dependencies, EvaluationResult, GraphFault, PathKind, PathsToNested,
-    take_head,
-};
-use search_steps::{
-    CachedResults, Delegate, Evaluation, InputOf, Reply, Request, ResultOf, Search, StackEntry,
-    finish, is_last_run, nested_depth, run_limit,
-};
+use crate::cache::CachedResults;
+use crate::candidates::Candidates;
+use crate::delegate::{Delegate, InputOf, Reply, Request, ResultOf};
+use crate::dependencies::{CycleHead, Dependencies, EvaluationResult, take_head};
+use crate::fault::GraphFault;
+use crate::path_kind::{PathKind, PathsToNested};
+use crate::search::{Evaluation, Search, finish, is_last_run, nested_depth, run_limit};
+use crate::stack::StackEntry;
 
 /// The reply to a question on a goal that is given this depth.
 #[cycle(search)]
@@ -40,19 +39,19 @@ pub(crate) fn evaluate<D: Delegate>(
     ensures results { KeepsResults cache.old.entries.items cache.new.entries.items }
     ensures range { IfOk result (λ o. AreInRange cache.new.entries.items o.dependencies.nested_goals) }
     ensures depth { IfOk result (λ o. o.dependencies.encountered_overflow ≡ false → o.dependencies.required_depth ≤ depth) }
-    ensures kept { search.old.stack.items ≡ [] → IfOk result (λ o. (place : ℕ) × (e : _) × (slice_get cache.new.entries.items place ≡ Some e) × (e.input ≡ input) × (e.result ≡ o.result) × IsWithinDepth e.encountered_overflow e.depth depth) }
-    ensures answer { IfOk result (λ o. IsAnswer D.meaning (D.meaning.world cx.old) (path_onto D.meaning cx.old search.old.stack.items []) (D.meaning.goal_of cx.old input, step_kind) o.dependencies.lowest cx.new o.result) }
-    ensures faithful { IfOk result (λ o. IsFaithful D.meaning (D.meaning.world cx.old) (depth + 1) (path_onto D.meaning cx.old search.old.stack.items []) (D.meaning.goal_of cx.old input) (D.meaning.answer_of cx.new o.result) o.dependencies.encountered_overflow o.dependencies.lowest o.dependencies.heads.items) }
-    ensures no_conflict { result ≡ Err GraphFault.Conflict → (limit : ℕ) → limit ≤ depth + 1 → AllDescend D.meaning (D.meaning.world cx.old) limit 0 (path_onto D.meaning cx.old search.old.stack.items []) (D.meaning.goal_of cx.old input) → IsNotPlain D.meaning (D.meaning.world cx.old) limit (D.meaning.goal_of cx.old input) }
+    ensures kept { search.old.stack.items ≡ [] → IfOk result (λ o. HoldsResult cache.new.entries.items input depth o.result) }
+    ensures answer { IfOk result (λ o. IsReplyOver D.meaning cx.old search.old.stack.items input step_kind o.dependencies.lowest cx.new o.result) }
+    ensures faithful { IfOk result (IsFaithfulOver D.meaning cx.old search.old.stack.items input (depth + 1) cx.new) }
+    ensures no_conflict { result ≡ Err GraphFault.Conflict → IsNotPlainOver D.meaning cx.old search.old.stack.items input (depth + 1) }
     ensures protocol { result ≡ Err GraphFault.Protocol → MakesMisstep D.meaning (D.meaning.world cx.old) (D.meaning.goal_of cx.old input) }
     ensures conflict { result ≡ Err GraphFault.Conflict → HasConflict D.meaning cx.new (known_results cache.new.entries.items) }
-    ensures frames { (width : ℕ) → (D.meaning.number_of (D.meaning.world cx.old) (D.meaning.goal_of cx.old input) ≤ width) → search.new.frames ≤ search.old.frames + frame_bound (max D.FIXPOINT_STEP_LIMIT 1) width depth }
+    ensures frames { AreFramesWithin D.meaning cx.old input search.old.frames search.new.frames (λ width. frame_bound (max D.FIXPOINT_STEP_LIMIT 1) width depth) }
     ensures full { result ≡ Err GraphFault.Full → D.meaning.IsFull cx.new }
     ensures limits { search.old.limits_met ≡ true → search.new.limits_met ≡ true }
-    ensures no_limit { search.old.limits_met ≡ false → search.new.limits_met ≡ true → (limit : ℕ) → limit ≤ depth + 1 → AllDescend D.meaning (D.meaning.world cx.old) limit 0 (path_onto D.meaning cx.old search.old.stack.items []) (D.meaning.goal_of cx.old input) → IsNotPlain D.meaning (D.meaning.world cx.old) limit (D.meaning.goal_of cx.old input) }
-    ensures within { IfOk result (λ o. (before : _) → search.new.limits_met ≡ false → AreLastWithin D.meaning (D.meaning.world cx.old) before cx.old search.old.stack.items → AreCachedWithin D.meaning (D.meaning.world cx.old) before cx.old cache.old.entries.items → AreCachedWithin D.meaning (D.meaning.world cx.old) before cx.new cache.new.entries.items × IsWithin D.meaning (D.meaning.world cx.old) before (D.meaning.goal_of cx.old input) (D.meaning.answer_of cx.new o.result)) }
-    ensures cached { (place : ℕ) (e : _) → slice_get cache.old.entries.items place ≡ Some e → e.input ≡ input → IsWithinDepth e.encountered_overflow e.depth depth → ((asked : ℕ) → IsAskedUnder cache.old.entries.items place asked → IsSome (place_of search.old.stack.items asked) → ⊥) → (search.new.frames ≡ search.old.frames) × (cache.new.entries ≡ cache.old.entries) }
-    ensures known { (place : ℕ) (e : _) → slice_get cache.old.entries.items place ≡ Some e → e.input ≡ input → IsWithinDepth e.encountered_overflow e.depth depth → ((asked : ℕ) → IsAskedUnder cache.old.entries.items place asked → IsSome (place_of search.old.stack.items asked) → ⊥) → IfOk result (λ o. (other : ℕ) × (d : _) × (slice_get cache.old.entries.items other ≡ Some d) × (d.input ≡ input) × IsWithinDepth d.encountered_overflow d.depth depth × (o.result ≡ d.result)) }
+    ensures no_limit { search.old.limits_met ≡ false → search.new.limits_met ≡ true → IsNotPlainOver D.meaning cx.old search.old.stack.items input (depth + 1) }
+    ensures within { IfOk result (λ o. StaysWithin D.meaning cx.old search.old.stack.items cache.old.entries.items input search.new.limits_met cx.new cache.new.entries.items o.result) }
+    ensures cached { IfUsable cache.old.entries.items search.old.stack.items input depth ((search.new.frames ≡ search.old.frames) × (cache.new.entries ≡ cache.old.entries)) }
+    ensures known { IfUsable cache.old.entries.items search.old.stack.items input depth (IfOk result (λ o. HoldsResult cache.old.entries.items input depth o.result)) }
 {
     // A provisional entry, of a goal whose result rests on goals of the stack, would be looked up here.
     let number = cache.number_of(cx, &input)?;
@@ -100,17 +99,17 @@ fn evaluate_new<D: Delegate>(
     ensures results { KeepsResults cache.old.entries.items cache.new.entries.items }
     ensures range { IfOk result (λ o. AreInRange cache.new.entries.items o.dependencies.nested_goals) }
     ensures depth { IfOk result (λ o. o.dependencies.encountered_overflow ≡ false → o.dependencies.required_depth ≤ depth) }
-    ensures kept { search.old.stack.items ≡ [] → IfOk result (λ o. (place : ℕ) × (e : _) × (slice_get cache.new.entries.items place ≡ Some e) × (e.input ≡ input) × (e.result ≡ o.result) × IsWithinDepth e.encountered_overflow e.depth depth) }
-    ensures answer { IfOk result (λ o. IsAnswer D.meaning (D.meaning.world cx.old) (path_onto D.meaning cx.old search.old.stack.items []) (D.meaning.goal_of cx.old input, step_kind) o.dependencies.lowest cx.new o.result) }
-    ensures faithful { IfOk result (λ o. IsFaithful D.meaning (D.meaning.world cx.old) (depth + 1) (path_onto D.meaning cx.old search.old.stack.items []) (D.meaning.goal_of cx.old input) (D.meaning.answer_of cx.new o.result) o.dependencies.encountered_overflow o.dependencies.lowest o.dependencies.heads.items) }
-    ensures no_conflict { result ≡ Err GraphFault.Conflict → (limit : ℕ) → limit ≤ depth + 1 → AllDescend D.meaning (D.meaning.world cx.old) limit 0 (path_onto D.meaning cx.old search.old.stack.items []) (D.meaning.goal_of cx.old input) → IsNotPlain D.meaning (D.meaning.world cx.old) limit (D.meaning.goal_of cx.old input) }
+    ensures kept { search.old.stack.items ≡ [] → IfOk result (λ o. HoldsResult cache.new.entries.items input depth o.result) }
+    ensures answer { IfOk result (λ o. IsReplyOver D.meaning cx.old search.old.stack.items input step_kind o.dependencies.lowest cx.new o.result) }
+    ensures faithful { IfOk result (IsFaithfulOver D.meaning cx.old search.old.stack.items input (depth + 1) cx.new) }
+    ensures no_conflict { result ≡ Err GraphFault.Conflict → IsNotPlainOver D.meaning cx.old search.old.stack.items input (depth + 1) }
     ensures protocol { result ≡ Err GraphFault.Protocol → MakesMisstep D.meaning (D.meaning.world cx.old) (D.meaning.goal_of cx.old input) }
     ensures conflict { result ≡ Err GraphFault.Conflict → HasConflict D.meaning cx.new (known_results cache.new.entries.items) }
-    ensures frames { (width : ℕ) → (D.meaning.number_of (D.meaning.world cx.old) (D.meaning.goal_of cx.old input) ≤ width) → search.new.frames ≤ search.old.frames + frame_bound (max D.FIXPOINT_STEP_LIMIT 1) width depth }
+    ensures frames { AreFramesWithin D.meaning cx.old input search.old.frames search.new.frames (λ width. frame_bound (max D.FIXPOINT_STEP_LIMIT 1) width depth) }
     ensures full { result ≡ Err GraphFault.Full → D.meaning.IsFull cx.new }
     ensures limits { search.old.limits_met ≡ true → search.new.limits_met ≡ true }
-    ensures no_limit { search.old.limits_met ≡ false → search.new.limits_met ≡ true → (limit : ℕ) → limit ≤ depth + 1 → AllDescend D.meaning (D.meaning.world cx.old) limit 0 (path_onto D.meaning cx.old search.old.stack.items []) (D.meaning.goal_of cx.old input) → IsNotPlain D.meaning (D.meaning.world cx.old) limit (D.meaning.goal_of cx.old input) }
-    ensures within { IfOk result (λ o. (before : _) → search.new.limits_met ≡ false → AreLastWithin D.meaning (D.meaning.world cx.old) before cx.old search.old.stack.items → AreCachedWithin D.meaning (D.meaning.world cx.old) before cx.old cache.old.entries.items → AreCachedWithin D.meaning (D.meaning.world cx.old) before cx.new cache.new.entries.items × IsWithin D.meaning (D.meaning.world cx.old) before (D.meaning.goal_of cx.old input) (D.meaning.answer_of cx.new o.result)) }
+    ensures no_limit { search.old.limits_met ≡ false → search.new.limits_met ≡ true → IsNotPlainOver D.meaning cx.old search.old.stack.items input (depth + 1) }
+    ensures within { IfOk result (λ o. StaysWithin D.meaning cx.old search.old.stack.items cache.old.entries.items input search.new.limits_met cx.new cache.new.entries.items o.result) }
 {
     let index = search.stack.len();
     let mut entry = search.new_entry(number, input, step_kind);
@@ -204,7 +203,7 @@ fn run_once<D: Delegate>(
     requires span { entry.span ≡ covered (span_of_newest search.old.stack.items) (one_goal entry.number) }
     requires nested { AreInRange cache.old.entries.items earlier.nested_goals }
     requires depth { earlier.encountered_overflow ≡ false → earlier.required_depth ≤ depth }
-    requires earlier { IsUntouched D.meaning (D.meaning.world cx.old) (depth + 1) (path_onto D.meaning cx.old search.old.stack.items []) (D.meaning.goal_of cx.old entry.input) earlier.encountered_overflow earlier.lowest earlier.heads.items }
+    requires earlier { IsUntouchedOver D.meaning cx.old search.old.stack.items entry.input (depth + 1) earlier }
     ensures keeps { Keeps D.meaning cx.old cx.new }
     ensures stack { OnOk result (search.new.stack.items ≡ search.old.stack.items) }
     ensures cache { AreCached D.meaning (D.meaning.world cx.new) cx.new cache.new.entries.items }
@@ -214,16 +213,16 @@ fn run_once<D: Delegate>(
     ensures depth { IfOk result (λ p. p.1.dependencies.encountered_overflow ≡ false → p.1.dependencies.required_depth ≤ depth) }
     ensures entry { IfOk result (λ p. p.0 ≡ entry) }
     ensures low { IfOk result (λ p. p.1.dependencies.lowest ≤ length search.old.stack.items) }
-    ensures provisional { IfOk result (λ p. IsProvisional D.meaning (D.meaning.world cx.old) (path_onto D.meaning cx.old search.old.stack.items []) (question_of D.meaning cx.old entry) p.1.dependencies.lowest cx.new p.1.result) }
-    ensures faithful { IfOk result (λ o. IsFaithful D.meaning (D.meaning.world cx.old) (depth + 1) (path_onto D.meaning cx.old search.old.stack.items []) (D.meaning.goal_of cx.old entry.input) (D.meaning.answer_of cx.new o.1.result) o.1.dependencies.encountered_overflow o.1.dependencies.lowest o.1.dependencies.heads.items) }
-    ensures no_conflict { result ≡ Err GraphFault.Conflict → (limit : ℕ) → limit ≤ depth + 1 → AllDescend D.meaning (D.meaning.world cx.old) limit 0 (path_onto D.meaning cx.old search.old.stack.items []) (D.meaning.goal_of cx.old entry.input) → IsNotPlain D.meaning (D.meaning.world cx.old) limit (D.meaning.goal_of cx.old entry.input) }
+    ensures provisional { IfOk result (λ p. IsRunOver D.meaning cx.old search.old.stack.items entry p.1.dependencies.lowest cx.new p.1.result) }
+    ensures faithful { IfOk result (λ p. IsFaithfulOver D.meaning cx.old search.old.stack.items entry.input (depth + 1) cx.new p.1) }
+    ensures no_conflict { result ≡ Err GraphFault.Conflict → IsNotPlainOver D.meaning cx.old search.old.stack.items entry.input (depth + 1) }
     ensures protocol { result ≡ Err GraphFault.Protocol → MakesMisstep D.meaning (D.meaning.world cx.old) (D.meaning.goal_of cx.old entry.input) }
     ensures conflict { result ≡ Err GraphFault.Conflict → HasConflict D.meaning cx.new (known_results cache.new.entries.items) }
-    ensures frames { (width : ℕ) → (D.meaning.number_of (D.meaning.world cx.old) (D.meaning.goal_of cx.old entry.input) ≤ width) → search.new.frames ≤ search.old.frames + (1 + width * question_bound (max D.FIXPOINT_STEP_LIMIT 1) width depth) }
+    ensures frames { AreFramesWithin D.meaning cx.old entry.input search.old.frames search.new.frames (λ width. 1 + width * question_bound (max D.FIXPOINT_STEP_LIMIT 1) width depth) }
     ensures full { result ≡ Err GraphFault.Full → D.meaning.IsFull cx.new }
     ensures limits { search.old.limits_met ≡ true → search.new.limits_met ≡ true }
-    ensures no_limit { search.old.limits_met ≡ false → search.new.limits_met ≡ true → (limit : ℕ) → limit ≤ depth + 1 → AllDescend D.meaning (D.meaning.world cx.old) limit 0 (path_onto D.meaning cx.old search.old.stack.items []) (D.meaning.goal_of cx.old entry.input) → IsNotPlain D.meaning (D.meaning.world cx.old) limit (D.meaning.goal_of cx.old entry.input) }
-    ensures within { IfOk result (λ o. (before : _) → search.new.limits_met ≡ false → AreLastWithin D.meaning (D.meaning.world cx.old) before cx.old search.old.stack.items → IsLastWithin D.meaning (D.meaning.world cx.old) before cx.old entry → AreCachedWithin D.meaning (D.meaning.world cx.old) before cx.old cache.old.entries.items → AreCachedWithin D.meaning (D.meaning.world cx.old) before cx.new cache.new.entries.items × IsWithin D.meaning (D.meaning.world cx.old) before (D.meaning.goal_of cx.old entry.input) (D.meaning.answer_of cx.new o.1.result)) }
+    ensures no_limit { search.old.limits_met ≡ false → search.new.limits_met ≡ true → IsNotPlainOver D.meaning cx.old search.old.stack.items entry.input (depth + 1) }
+    ensures within { IfOk result (λ p. RunStaysWithin D.meaning cx.old search.old.stack.items cache.old.entries.items entry search.new.limits_met cx.new cache.new.entries.items p.1.result) }
 {
     let mut frame = D::start(cx, &entry.input)?;
     search.begin(entry)?;
@@ -294,16 +293,16 @@ fn ask<D: Delegate>(
     ensures results { KeepsResults cache.old.entries.items cache.new.entries.items }
     ensures range { IfOk result (λ o. AreInRange cache.new.entries.items o.dependencies.nested_goals) }
     ensures depth { IfOk result (λ o. o.dependencies.encountered_overflow ≡ false → o.dependencies.required_depth < depth) }
-    ensures answer { IfOk result (λ o. IsAnswer D.meaning (D.meaning.world cx.old) (path_onto D.meaning cx.old search.old.stack.items []) (D.meaning.goal_of cx.old input, step_kind) o.dependencies.lowest cx.new o.result) }
-    ensures faithful { IfOk result (λ o. IsFaithful D.meaning (D.meaning.world cx.old) (cond overflowed 0 depth) (path_onto D.meaning cx.old search.old.stack.items []) (D.meaning.goal_of cx.old input) (D.meaning.answer_of cx.new o.result) o.dependencies.encountered_overflow o.dependencies.lowest o.dependencies.heads.items) }
-    ensures no_conflict { result ≡ Err GraphFault.Conflict → (limit : ℕ) → limit ≤ cond overflowed 0 depth → AllDescend D.meaning (D.meaning.world cx.old) limit 0 (path_onto D.meaning cx.old search.old.stack.items []) (D.meaning.goal_of cx.old input) → IsNotPlain D.meaning (D.meaning.world cx.old) limit (D.meaning.goal_of cx.old input) }
+    ensures answer { IfOk result (λ o. IsReplyOver D.meaning cx.old search.old.stack.items input step_kind o.dependencies.lowest cx.new o.result) }
+    ensures faithful { IfOk result (IsFaithfulOver D.meaning cx.old search.old.stack.items input (cond overflowed 0 depth) cx.new) }
+    ensures no_conflict { result ≡ Err GraphFault.Conflict → IsNotPlainOver D.meaning cx.old search.old.stack.items input (cond overflowed 0 depth) }
     ensures protocol { result ≡ Err GraphFault.Protocol → MakesMisstep D.meaning (D.meaning.world cx.old) (D.meaning.goal_of cx.old input) }
     ensures conflict { result ≡ Err GraphFault.Conflict → HasConflict D.meaning cx.new (known_results cache.new.entries.items) }
-    ensures frames { (width : ℕ) → (D.meaning.number_of (D.meaning.world cx.old) (D.meaning.goal_of cx.old input) ≤ width) → search.new.frames ≤ search.old.frames + question_bound (max D.FIXPOINT_STEP_LIMIT 1) width depth }
+    ensures frames { AreFramesWithin D.meaning cx.old input search.old.frames search.new.frames (λ width. question_bound (max D.FIXPOINT_STEP_LIMIT 1) width depth) }
     ensures full { result ≡ Err GraphFault.Full → D.meaning.IsFull cx.new }
     ensures limits { search.old.limits_met ≡ true → search.new.limits_met ≡ true }
-    ensures no_limit { search.old.limits_met ≡ false → search.new.limits_met ≡ true → (limit : ℕ) → limit ≤ cond overflowed 0 depth → AllDescend D.meaning (D.meaning.world cx.old) limit 0 (path_onto D.meaning cx.old search.old.stack.items []) (D.meaning.goal_of cx.old input) → IsNotPlain D.meaning (D.meaning.world cx.old) limit (D.meaning.goal_of cx.old input) }
-    ensures within { IfOk result (λ o. (before : _) → search.new.limits_met ≡ false → AreLastWithin D.meaning (D.meaning.world cx.old) before cx.old search.old.stack.items → AreCachedWithin D.meaning (D.meaning.world cx.old) before cx.old cache.old.entries.items → AreCachedWithin D.meaning (D.meaning.world cx.old) before cx.new cache.new.entries.items × IsWithin D.meaning (D.meaning.world cx.old) before (D.meaning.goal_of cx.old input) (D.meaning.answer_of cx.new o.result)) }
+    ensures no_limit { search.old.limits_met ≡ false → search.new.limits_met ≡ true → IsNotPlainOver D.meaning cx.old search.old.stack.items input (cond overflowed 0 depth) }
+    ensures within { IfOk result (λ o. StaysWithin D.meaning cx.old search.old.stack.items cache.old.entries.items input search.new.limits_met cx.new cache.new.entries.items o.result) }
 {
     if depth == 0 {
         let number = cache.number_of(cx, &input)?;

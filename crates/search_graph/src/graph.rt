@@ -1,18 +1,21 @@
 //! The search graph: what a caller sees of a search.
 
-ghost use Rattle.std.specs.Prelude.{◌≡◌, ℕ, ◌+◌, ◌≤◌, ◌↔◌, max, slice_get, IfOk, IsOkAnd, IsTrue, true, false};
-ghost use Rattle.search_steps.specs.Meaning.{Keeps};
-ghost use Rattle.search_steps.specs.Chain.{IsWithinDepth};
-ghost use Rattle.search_steps.specs.Computed.{IsGiven, IsGivenWithin, IsComputed, MakesMisstep};
+ghost use Rattle.std.specs.Prelude.{◌≡◌, ◌+◌, ◌≤◌, ◌↔◌, max, IfOk, IsOkAnd, IsTrue, true, false};
+ghost use Rattle.search_graph.specs.Meaning.{Keeps};
+ghost use Rattle.search_graph.specs.Computed.{IsComputedOrGiven, MakesMisstep};
 ghost use Rattle.search_graph.specs.Answer.{IsSound};
-ghost use Rattle.search_steps.specs.Plain.{IsPlain, IsNotPlain};
+ghost use Rattle.search_graph.specs.Plain.{IsPlain, IsNotPlain};
 ghost use Rattle.search_graph.specs.Bound.{frame_bound};
-ghost use Rattle.search_steps.specs.Cache.{AreJustified, AreConsistent, KeepsResults, HasConflict, answers_in};
+ghost use Rattle.search_graph.specs.Cache.{AreJustified, AreConsistent, KeepsResults, HasConflict, IsKnown, IfKnown};
+ghost use Rattle.search_graph.specs.Question.{AreFramesWithin, IsWithinKnown};
 
-use crate::cache::GlobalCache;
+use crate::delegate::{Delegate, InputOf, ResultOf};
+use crate::dependencies::EvaluationResult;
 use crate::evaluation::evaluate;
-use search_paths::{EvaluationResult, GraphFault, PathKind};
-use search_steps::{Delegate, InputOf, ResultOf, Search};
+use crate::fault::GraphFault;
+use crate::global_cache::GlobalCache;
+use crate::path_kind::PathKind;
+use crate::search::Search;
 use std::alloc::Global;
 use std::marker::Model;
 use type_terms::Fault;
@@ -113,19 +116,19 @@ impl<D: Delegate> SearchGraph<D> {
         ensures no_conflict { result ≡ Err GraphFault.Conflict → IsNotPlain D.meaning (D.meaning.world cx.old) (self.old.root_depth + 1) (D.meaning.goal_of cx.old input) }
 
         // A request out of order is refused, and nothing else is: an answer comes of frames whose requests are all in order.
-        ensures computed { IfOk result (λ r. IsComputed D.meaning (D.meaning.world cx.old) (IsGiven D.meaning (D.meaning.world cx.old)) (D.meaning.goal_of cx.old input) (D.meaning.answer_of cx.new r)) }
+        ensures computed { IfOk result (λ r. IsComputedOrGiven D.meaning (D.meaning.world cx.old) (D.meaning.goal_of cx.old input) (D.meaning.answer_of cx.new r)) }
         ensures protocol { result ≡ Err GraphFault.Protocol → MakesMisstep D.meaning (D.meaning.world cx.old) (D.meaning.goal_of cx.old input) }
         ensures conflict { result ≡ Err GraphFault.Conflict → HasConflict D.meaning cx.new cache.new }
         ensures full { result ≡ Err GraphFault.Full → D.meaning.IsFull cx.new }
 
-        ensures frames { (width : ℕ) → (D.meaning.number_of (D.meaning.world cx.old) (D.meaning.goal_of cx.old input) ≤ width) → self.new.frames ≤ self.old.frames + frame_bound (max D.FIXPOINT_STEP_LIMIT 1) width self.old.root_depth }
+        ensures frames { AreFramesWithin D.meaning cx.old input self.old.frames self.new.frames (λ width. frame_bound (max D.FIXPOINT_STEP_LIMIT 1) width self.old.root_depth) }
 
         // The result of a goal that the cache holds, and that it may use, costs no frame, and is one that the cache holds.
-        ensures cached { (place : ℕ) (k : _) → slice_get cache.old place ≡ Some k → k.input ≡ input → IsWithinDepth k.overflowed k.depth self.old.root_depth → (self.new.frames ≡ self.old.frames) × (cache.new ≡ cache.old) }
-        ensures known { (place : ℕ) (k : _) → slice_get cache.old place ≡ Some k → k.input ≡ input → IsWithinDepth k.overflowed k.depth self.old.root_depth → IfOk result (λ r. (other : ℕ) × (l : _) × (slice_get cache.old other ≡ Some l) × (l.input ≡ input) × IsWithinDepth l.overflowed l.depth self.old.root_depth × (r ≡ l.result)) }
+        ensures cached { IfKnown cache.old input self.old.root_depth ((self.new.frames ≡ self.old.frames) × (cache.new ≡ cache.old)) }
+        ensures known { IfKnown cache.old input self.old.root_depth (IfOk result (λ r. IsKnown cache.old input self.old.root_depth r)) }
 
         // The cache holds each answer afterwards, for goals of this depth.
-        ensures kept { IfOk result (λ r. (place : ℕ) × (k : _) × (slice_get cache.new place ≡ Some k) × (k.input ≡ input) × (k.result ≡ r) × IsWithinDepth k.overflowed k.depth self.old.root_depth) }
+        ensures kept { IfOk result (λ r. IsKnown cache.new input self.old.root_depth r) }
 
         ensures depth { self.new.root_depth ≡ self.old.root_depth }
 
@@ -133,7 +136,7 @@ impl<D: Delegate> SearchGraph<D> {
         // depth. Where none was, no overflow has a part in the answer, but for those that the cache held before.
         ensures noted { self.old.limits_met ≡ true → self.new.limits_met ≡ true }
         ensures no_limit { self.old.limits_met ≡ false → self.new.limits_met ≡ true → IsNotPlain D.meaning (D.meaning.world cx.old) (self.old.root_depth + 1) (D.meaning.goal_of cx.old input) }
-        ensures limits { IfOk result (λ r. self.new.limits_met ≡ false → IsComputed D.meaning (D.meaning.world cx.old) (IsGivenWithin D.meaning (D.meaning.world cx.old) (answers_in D.meaning cx.old cache.old)) (D.meaning.goal_of cx.old input) (D.meaning.answer_of cx.new r)) }
+        ensures limits { IfOk result (λ r. self.new.limits_met ≡ false → IsWithinKnown D.meaning cx.old cache.old input cx.new r) }
     {
         let depth = self.root_depth;
         let results = &mut cache.results;

@@ -1,11 +1,32 @@
 //! The search graph: goals that ask goals, with cycles, reruns, a limit on the depth and a cache.
+//!
+//! Below it stand the kinds of the paths between goals and what a result rests on, and above these the delegate of a search,
+//! its stack, the results that it keeps, and the steps that ask no goal.
 #![tactic(auto)]
 
 mod cache;
+mod candidates;
+mod delegate;
+mod dependencies;
 mod evaluation;
+mod fault;
+mod global_cache;
 mod graph;
+mod head_usages;
+mod nested_goals;
+mod path_kind;
+mod search;
+mod stack;
 
-pub use cache::GlobalCache;
+pub use cache::{CacheEntry, CachedResults};
+pub use candidates::Candidates;
+pub use delegate::{Cx, Delegate, InputOf, Reply, Request, ResultOf};
+pub use dependencies::{CycleHead, Dependencies, EvaluationResult, take_head};
+pub use fault::GraphFault;
+pub use global_cache::GlobalCache;
 pub use graph::SearchGraph;
-pub use search_paths::{CandidateHeadUsages, GraphFault, PathKind, PathsToNested};
-pub use search_steps::{Cx, Delegate, InputOf, Reply, Request, ResultOf};
+pub use head_usages::{CandidateHeadUsages, HeadUsages};
+pub use nested_goals::{NestedGoals, Span};
+pub use path_kind::{PathKind, PathsToNested};
+pub use search::{Evaluation, Search, finish, is_last_run, nested_depth, run_limit};
+pub use stack::{Cycle, StackEntry};

@@ -2,15 +2,15 @@
 use Rattle.std.proofs.Common.{◌≡◌, true, List, [], ◌∷◌, ◌++◌, map, sym, subst}
 use Rattle.std.specs.List.{list_all}
 use Rattle.type_terms.specs.Terms.{Entry, Keeps, args_lists}
-use Rattle.term_traversal.specs.Kept.{has-later}
+use Rattle.term_folds.specs.Kept.{has-later}
 use Rattle.term_folds.specs.declared.predicate.TraitPredicate.{TraitPredicate}
-use Rattle.canonical_forms.specs.Goals.{PredicateHeld}
-use Rattle.goal_evaluator.specs.Lists.{Every}
-use Rattle.goal_evaluator.proofs.ListLaws.{Every-mono, both-left, both-right}
-use Rattle.rule_handlers.specs.declared.rule.Rule as InCode
-use Rattle.rule_handlers.specs.declared.rule.RuleBook as Code
-use Rattle.rule_handlers.specs.Books.{BookReady, BoundsHeld, RuleHeld, is_rule, rule_read}
-use Rattle.rule_handlers.specs.Kept.{held-later}
+use Rattle.infer_table.specs.Goals.{PredicateHeld}
+use Rattle.evaluation.specs.Lists.{Every}
+use Rattle.evaluation.proofs.ListLaws.{Every-mono, both-left, both-right}
+use Rattle.rule_books.specs.declared.rule.Rule as InCode
+use Rattle.rule_books.specs.declared.rule.RuleBook as Code
+use Rattle.rule_books.specs.Books.{BookReady, BoundsHeld, RuleHeld, is_rule, rule_read}
+use Rattle.rule_books.specs.Kept.{held-later}
 
 every-push : {A : Type 0} (P : A → Type 0) (xs : List A) (y : A) → Every P xs → P y → Every P (xs ++ y ∷ [])
 every-push P [] y h p = (p, tt)

@@ -1,1 +1,3 @@
 mod Books
+mod Evaluations
+mod Responses

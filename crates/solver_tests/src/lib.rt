@@ -1,19 +1,29 @@
-//! Tests of the whole solver: goals of a table, evaluated by small lists of rules.
+//! Tests of evaluations, of searches over scripted goals, and of the whole solver over small lists of rules, by public calls.
 //!
 //! They stand above the crates that they test, so that each of those is proved once and not a second time with its tests.
 #![tactic(auto)]
 
 #[cfg(test)]
-mod cycles;
+mod candidates;
 #[cfg(test)]
-mod depths;
+mod contexts;
 #[cfg(test)]
-mod facts;
+mod frames;
 #[cfg(test)]
-mod premises;
+mod merges;
 #[cfg(test)]
 mod references;
 #[cfg(test)]
+mod rounds;
+#[cfg(test)]
+mod rows;
+#[cfg(test)]
 mod rules;
 #[cfg(test)]
+mod samples;
+#[cfg(test)]
+mod searches;
+#[cfg(test)]
 mod solver;
+#[cfg(test)]
+mod usages;

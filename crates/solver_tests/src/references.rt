@@ -1,9 +1,11 @@
 //! Types and references of the tests.
 ghost use Rattle.std.specs.Prelude.{IfOk};
 ghost use Rattle.type_terms.specs.Terms.{Has, Keeps, types};
-ghost use Rattle.canonical_forms.specs.Goals.{GoalHeld, PredicateHeld};
+ghost use Rattle.infer_table.specs.Goals.{GoalHeld, PredicateHeld};
 
-use canonical_forms::goal::Goal;
+use infer_table::certainty::TypingMode;
+use infer_table::goal::Goal;
+use infer_table::input::CanonicalInput;
 use std::alloc::Global;
 use term_folds::predicate::{TraitPredicate, TraitRef};
 use type_terms::interner::Interner;
@@ -39,18 +41,13 @@ pub(crate) struct Reference {
     pub(crate) leaf: Leaf,
 }
 
-/// That the leaf has the trait.
-pub(crate) fn is(leaf: Leaf, name: Name) -> Reference {
+/// That `u8` has the trait.
+pub(crate) fn byte_is(name: Name) -> Reference {
     Reference {
         name,
         lists: 0,
-        leaf,
+        leaf: Leaf::Byte,
     }
-}
-
-/// That `Vec` so many times around the leaf has the trait.
-pub(crate) fn lists_are(lists: u32, leaf: Leaf, name: Name) -> Reference {
-    Reference { name, lists, leaf }
 }
 
 /// The trait's number.
@@ -119,5 +116,21 @@ pub(crate) fn goal(alloc: Global, cx: &mut Interner, reference: Reference) -> Re
     Ok(Goal {
         param_env: Vec::new(alloc),
         predicate,
+    })
+}
+
+/// The reference, in which no type is unknown, as a question of a search.
+pub(crate) fn question(
+    alloc: Global,
+    cx: &mut Interner,
+    reference: Reference,
+) -> Result<CanonicalInput, Fault>
+    ensures { IfOk result (λ input. GoalHeld cx.new.entries input.goal) }
+{
+    let goal = goal(alloc, cx, reference)?;
+    Ok(CanonicalInput {
+        mode: TypingMode::PostAnalysis,
+        goal,
+        variables: Vec::new(alloc),
     })
 }

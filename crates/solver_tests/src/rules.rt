@@ -1,12 +1,12 @@
 //! Lists of rules of the tests.
 ghost use Rattle.std.specs.Prelude.{IfOk};
 ghost use Rattle.type_terms.specs.Terms.{Keeps};
-ghost use Rattle.goal_evaluator.specs.Lists.{Every};
-ghost use Rattle.rule_handlers.specs.Books.{BookReady, BoundsHeld, RuleHeld};
+ghost use Rattle.evaluation.specs.Lists.{Every};
+ghost use Rattle.rule_books.specs.Books.{BookReady, BoundsHeld, RuleHeld};
 
 use crate::references::{Leaf, Name, Reference, make, trait_id};
 use infer_table::canonical::CanonicalVarKind;
-use rule_handlers::{Rule, RuleBook};
+use rule_books::{Rule, RuleBook};
 use std::alloc::Global;
 use term_folds::predicate::TraitPredicate;
 use type_terms::interner::Interner;

@@ -2,23 +2,21 @@
 ghost use Rattle.std.specs.Prelude.{◌≡◌, ◌≤◌, IfOk};
 ghost use Rattle.type_terms.specs.Terms.{Has, Keeps, types};
 ghost use Rattle.infer_table.specs.Content.{Ready};
-ghost use Rattle.canonical_forms.specs.Goals.{GoalHeld};
-ghost use Rattle.search_steps.specs.Cache.{AreJustified};
-ghost use Rattle.solver_graph.specs.Contexts.{IsReady};
-ghost use Rattle.solver_graph.specs.Searching.{solver_meaning};
+ghost use Rattle.infer_table.specs.Goals.{GoalHeld};
+ghost use Rattle.search_graph.specs.Cache.{AreJustified};
+ghost use Rattle.root_goals.specs.Contexts.{IsReady};
+ghost use Rattle.root_goals.specs.Searching.{solver_meaning};
 
 use crate::references::{Leaf, Name, Reference, goal};
 use crate::rules::{Written, book};
-use canonical_forms::goal::Goal;
-use goal_evaluator::HasChanged;
+use evaluation::HasChanged;
 use goal_frames::GoalHandler;
-use infer_table::goal::{Certainty, MaybeCause, TypingMode};
+use infer_table::certainty::{Certainty, MaybeCause, TypingMode};
+use infer_table::goal::Goal;
 use infer_table::infer_ctxt::InferCtxt;
-use root_goals::{GoalEvaluation, RootError, evaluate_root_goal};
+use root_goals::{GoalEvaluation, RootError, SolverCx, SolverGraph, evaluate_root_goal};
 use search_graph::{GlobalCache, SearchGraph};
-use solver_graph::{SolverCx, SolverGraph};
 use std::alloc::Global;
-use toy_handlers::NoRules;
 use type_terms::Fault;
 use type_terms::interner::Interner;
 use type_terms::kinds::{Ty, TyKind, UintTy};
@@ -49,45 +47,16 @@ pub(crate) const OPEN: TyKind = TyKind::Infer(TyVid { index: 0 });
 pub(crate) const BYTE: TyKind = TyKind::Uint(UintTy::U8);
 
 /// What is said of a goal.
-#[derive(Clone, Copy, PartialEq, Eq, Debug)]
+#[derive(Clone, Copy, PartialEq, Eq)]
 pub(crate) enum Said {
     Evaluated(Certainty, HasChanged),
     Refused,
     Conflict,
 }
 
-/// What is there after an evaluation.
-#[derive(Clone, Copy, PartialEq, Eq, Debug)]
-pub(crate) struct Found {
-    /// What it says.
-    pub(crate) said: Said,
-    /// How many frames were started so far.
-    pub(crate) frames: u64,
-    /// Whether a limit gave a result so far.
-    pub(crate) limits_met: bool,
-    /// What the unknown type of the table is by now.
-    pub(crate) unknown: TyKind,
-}
-
-impl Found {
-    /// That this is said after so many frames, without a limit, and what the unknown type is then.
-    pub(crate) fn new(said: Said, frames: u64, unknown: TyKind) -> Found {
-        Found {
-            said,
-            frames,
-            limits_met: false,
-            unknown,
-        }
-    }
-
-    /// The same, where a limit was met.
-    pub(crate) fn limited(self) -> Found {
-        Found {
-            limits_met: true,
-            ..self
-        }
-    }
-}
+/// What is there after an evaluation: what it says, how many frames were started so far, whether a limit gave a result so far,
+/// and what the unknown type of the table is by now.
+pub(crate) type Found = (Said, u64, bool, TyKind);
 
 /// A goal of a table, in which one type is unknown.
 #[derive(Drop)]
@@ -198,26 +167,12 @@ fn evaluate<H: GoalHandler>(
         &posed.goal,
     );
     let said = reading(evaluation)?;
-    Ok(Found {
+    Ok((
         said,
-        frames: solver.graph.frames(),
-        limits_met: solver.graph.limits_met(),
-        unknown: value(&solver.cx.interner, posed),
-    })
-}
-
-/// Evaluates the reference twice, by a handler without rules.
-pub(crate) fn without_rules(
-    alloc: Global,
-    mode: TypingMode,
-    reference: Reference,
-) -> Result<[Found; 2], Fault> {
-    let mut interner = Interner::new(alloc, 1000);
-    let mut posed = pose(alloc, &mut interner, reference)?;
-    let mut solver = begin(alloc, interner, NoRules, 8)?;
-    let first = evaluate(&mut solver, mode, &mut posed)?;
-    let second = evaluate(&mut solver, mode, &mut posed)?;
-    Ok([first, second])
+        solver.graph.frames(),
+        solver.graph.limits_met(),
+        value(&solver.cx.interner, posed),
+    ))
 }
 
 /// Evaluates the reference twice with this depth, by these rules, of which these traits are coinductive.

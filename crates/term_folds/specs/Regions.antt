@@ -2,7 +2,7 @@
 use Rattle.std.specs.Prelude.{◌≡◌, ℕ, List, length, cond, ltb, not, Bool, true, false, refl}
 use Rattle.model.specs.Label.{Label, of_lifetime, static, param, placeholder, infer, canonical, bound, principal, auto_trait, inside}
 use Rattle.model.specs.Trees.{Trees, none, tree}
-use Rattle.term_traversal.specs.Folds.{Does, enters, puts, again, IsBound}
+use Rattle.term_folds.specs.Folds.{Does, enters, puts, again, IsBound}
 
 -- a lifetime that no binder of the value binds, where d of them are around it
 abbrev pub is_free_lifetime : ℕ → Label → Bool

@@ -3,8 +3,8 @@ use Rattle.std.specs.Prelude.{◌≡◌, ℕ, ◌+◌, ◌<◌, ◌≤◌, List,
 use Rattle.model.specs.Label.{Label, bound, principal, auto_trait, inside}
 use Rattle.model.specs.Trees.{Trees, none, tree, outer_binder}
 use Rattle.type_terms.specs.declared.TheConstants.{MAX_INDEX}
-use Rattle.term_traversal.specs.Folds.{Does, enters, puts, again, IsBound}
-use Rattle.term_traversal.specs.Pieces.{Piece}
+use Rattle.term_folds.specs.Folds.{Does, enters, puts, again, IsBound}
+use Rattle.term_folds.specs.Pieces.{Piece}
 
 -- each number that leads out of d binders, raised by a, stays below the greatest number
 abbrev pub LabelInRange : ℕ → ℕ → Label → Type 0

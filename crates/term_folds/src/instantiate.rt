@@ -5,13 +5,13 @@ ghost use Rattle.type_terms.specs.Terms.{Keeps, Has, args_lists, trees_at};
 ghost use Rattle.type_terms.specs.Kinds.{ArgHeld, arg_trees};
 ghost use Rattle.term_folds.specs.Arguments.{is_param, sort_at, arg_sort};
 
+use crate::binders::Binders;
+use crate::fold::Answer;
+use crate::folder::TypeFolder;
 use crate::shift::{moved_region, moved_vars};
+use crate::visit::{Seen, TypeVisitor};
 use bitflags::Flags;
 use std::alloc::Global;
-use term_traversal::binders::Binders;
-use term_traversal::fold::Answer;
-use term_traversal::folder::TypeFolder;
-use term_traversal::visit::{Seen, TypeVisitor};
 use type_terms::Fault;
 use type_terms::flags::TypeFlags;
 use type_terms::interner::{Handle, Interner};
@@ -158,8 +158,8 @@ pub(crate) struct ArgFolder {
 impl TypeFolder for ArgFolder {
     ghost use Rattle.std.proofs.Common.{refl, ap};
     ghost use Rattle.type_terms.specs.Terms.{Has, args_lists, trees_at};
-    ghost use Rattle.term_traversal.specs.Kept.{has-later, trees-later};
-    ghost use Rattle.term_traversal.specs.Folds.{none_above};
+    ghost use Rattle.term_folds.specs.Kept.{has-later, trees-later};
+    ghost use Rattle.term_folds.specs.Folds.{none_above};
     ghost use Rattle.term_folds.specs.Arguments.{putting, putting-bounds, putting-once};
 
     ghost ready = { λ f es. Has es args_lists f.args.0 };

@@ -3,15 +3,15 @@ ghost use Rattle.std.specs.Prelude.{◌≡◌, ℕ, IfOk};
 ghost use Rattle.model.specs.Label.{Label};
 ghost use Rattle.type_terms.specs.Terms.{Keeps};
 ghost use Rattle.type_terms.specs.Kinds.{RegionHeld, region_label};
-ghost use Rattle.term_traversal.specs.Failures.{SomeKindIsFull};
-ghost use Rattle.term_traversal.specs.Pieces.{each_piece};
+ghost use Rattle.term_folds.specs.Failures.{SomeKindIsFull};
+ghost use Rattle.term_folds.specs.Pieces.{each_piece};
 ghost use Rattle.term_folds.specs.Regions.{regions_replaced};
 
+use crate::binders::Binders;
+use crate::fold::Answer;
+use crate::foldable::TypeFoldable;
+use crate::folder::TypeFolder;
 use std::alloc::Global;
-use term_traversal::binders::Binders;
-use term_traversal::fold::Answer;
-use term_traversal::foldable::TypeFoldable;
-use term_traversal::folder::TypeFolder;
 use type_terms::Fault;
 use type_terms::interner::Interner;
 use type_terms::kinds::{Const, Ty};
@@ -40,7 +40,7 @@ pub struct RegionFolder<'a, M> {
 
 impl<M: RegionMap> TypeFolder for RegionFolder<'_, M> {
     ghost use Rattle.std.proofs.Common.{refl};
-    ghost use Rattle.term_traversal.specs.Folds.{none_above};
+    ghost use Rattle.term_folds.specs.Folds.{none_above};
     ghost use Rattle.term_folds.specs.Regions.{replacing, replacing-bounds, replacing-once};
 
     ghost ready = { λ _ _. Unit {0} };

@@ -4,16 +4,16 @@ ghost use Rattle.model.specs.Trees.{shift};
 ghost use Rattle.type_terms.specs.Terms.{Keeps};
 ghost use Rattle.type_terms.specs.Kinds.{RegionHeld, region_trees};
 ghost use Rattle.type_terms.specs.declared.TheConstants.{MAX_INDEX};
-ghost use Rattle.term_traversal.specs.Binders.{counts_of};
-ghost use Rattle.term_traversal.specs.Failures.{SomeKindIsFull};
-ghost use Rattle.term_traversal.specs.Pieces.{each_piece};
+ghost use Rattle.term_folds.specs.Binders.{counts_of};
+ghost use Rattle.term_folds.specs.Failures.{SomeKindIsFull};
+ghost use Rattle.term_folds.specs.Pieces.{each_piece};
 ghost use Rattle.term_folds.specs.Shifts.{EachInRange, moved, moved_number};
 
+use crate::binders::Binders;
+use crate::fold::Answer;
+use crate::foldable::TypeFoldable;
+use crate::folder::TypeFolder;
 use std::alloc::Global;
-use term_traversal::binders::Binders;
-use term_traversal::fold::Answer;
-use term_traversal::foldable::TypeFoldable;
-use term_traversal::folder::TypeFolder;
 use type_terms::interner::Interner;
 use type_terms::kinds::{Const, ConstKind, Ty, TyKind};
 use type_terms::number::{BoundVarIndexKind, DebruijnIndex};
@@ -47,7 +47,7 @@ impl Shifter {
 
 impl TypeFolder for Shifter {
     ghost use Rattle.std.proofs.Common.{refl};
-    ghost use Rattle.term_traversal.specs.Folds.{none_above};
+    ghost use Rattle.term_folds.specs.Folds.{none_above};
     ghost use Rattle.term_folds.specs.Shifts.{shifting, shifting-bounds, shifting-once};
 
     ghost ready = { λ _ _. Unit {0} };

@@ -1,91 +1,72 @@
-//! Each call once.
+//! Answers: made, applied and refused.
 ghost use Rattle.std.specs.Prelude.{IfOk};
-ghost use Rattle.type_terms.specs.Terms.{Has, Keeps, types};
+ghost use Rattle.type_terms.specs.Terms.{Keeps};
 ghost use Rattle.infer_table.specs.Content.{Ready};
+ghost use Rattle.infer_table.specs.Responses.{ResponseHeld};
 
-use canonical_responses::apply::instantiate_and_apply_query_response;
-use canonical_responses::canonicalize::canonicalize_response;
-use canonical_responses::raw::response_no_constraints_raw;
+use crate::tables::{Sample, Shape, empty_table, equated, make};
+use infer_table::apply::instantiate_and_apply_query_response;
 use infer_table::canonical::CanonicalVarKind;
-use infer_table::goal::{Certainty, EqError, MaybeCause};
+use infer_table::canonicalize::canonicalize_response;
+use infer_table::certainty::Certainty;
 use infer_table::infer_ctxt::InferCtxt;
-use infer_table::terms::RegionConstraint;
+use infer_table::raw::response_no_constraints_raw;
+use infer_table::response::CanonicalResponse;
 use std::alloc::Global;
 use std::test::Fail;
+use type_terms::Fault;
 use type_terms::interner::Interner;
 use type_terms::kinds::{GenericArgKind, Ty, TyKind, UintTy};
 use type_terms::number::{BoundVar, BoundVarIndexKind, TyVid};
-use type_terms::region::{Region, RegionKind};
-
-/// A table without variables.
-fn empty_table(alloc: Global, cx: &Interner) -> InferCtxt
-    ensures { Ready cx.now.entries result }
-{
-    cx.lawful();
-    InferCtxt::new(alloc)
-}
-
-/// An unknown that was found to be `[T]`, with T another unknown that outlives `'static`.
-fn slice_of_unknown(cx: &mut Interner, table: &mut InferCtxt) -> Result<Ty, EqError>
-    requires { Ready cx.old.entries table.old }
-    ensures ready { Ready cx.new.entries table.new }
-    ensures held { IfOk result (λ ty. Has cx.new.entries types ty.0) }
-{
-    let unknown = table.next_ty_var(cx)?;
-    let item = table.next_ty_var(cx)?;
-    let slice = cx.mk_ty(TyKind::Slice(item))?;
-    table.eq(cx, GenericArgKind::Ty(unknown), GenericArgKind::Ty(slice))?;
-    let region = Region {
-        kind: RegionKind::ReStatic,
-    };
-    table.register_region_constraint(RegionConstraint::TypeOutlives(item, region))?;
-    Ok(unknown)
-}
 
 #[test]
-fn an_answer_that_says_nothing(rt: HostRuntime) -> Result<(), Fail> {
-    let alloc = rt.alloc();
-    let mut cx = Interner::new(alloc, 100);
-    let certainty = Certainty::Maybe(MaybeCause::Overflow);
-    let variables = vec![in alloc; CanonicalVarKind::Ty, CanonicalVarKind::Region]?;
-    let answer = response_no_constraints_raw(alloc, &mut cx, variables, certainty)?;
+fn an_answer_that_says_nothing_gives_each_variable_itself(rt: HostRuntime) -> Result<(), Fail> {
+    let mut cx = Interner::new(rt.alloc(), 100);
+    let variables = vec![in rt.alloc(); CanonicalVarKind::Ty, CanonicalVarKind::Region]?;
+    let answer = response_no_constraints_raw(rt.alloc(), &mut cx, variables, Certainty::Yes)?;
     let index = BoundVarIndexKind::Canonical;
     let first = cx.mk_ty(TyKind::Bound(index, BoundVar { index: 0 }))?;
-    let second = Region {
-        kind: RegionKind::ReBound(index, BoundVar { index: 1 }),
-    };
-    let expected = [GenericArgKind::Ty(first), GenericArgKind::Lifetime(second)];
-    assert!(rt; answer.var_values.as_slice() == expected.as_slice());
+    assert_eq!(rt; answer.var_values.len(), 2);
+    assert!(rt; answer.var_values[0] == GenericArgKind::Ty(first));
     assert!(rt; answer.region_constraints.is_empty());
     Ok(())
 }
 
-#[test]
-fn an_answer_given_and_applied(rt: HostRuntime) -> Result<(), Fail> {
-    let alloc = rt.alloc();
-    let mut cx = Interner::new(alloc, 100);
-    let mut table = empty_table(alloc, &cx);
-    let unknown = slice_of_unknown(&mut cx, &mut table)?;
-    let values = [GenericArgKind::Ty(unknown)];
-    let answer = canonicalize_response(alloc, &mut cx, &table, Certainty::Yes, &values)?;
-    let expected = [CanonicalVarKind::Ty, CanonicalVarKind::Region];
-    assert!(rt; answer.variables.as_slice() == expected.as_slice());
-    instantiate_and_apply_query_response(alloc, &mut cx, &mut table, &values, &answer)?;
-    assert_eq!(rt; table.region_constraints().len(), 2);
-    Ok(())
+/// An answer with two values, which both are `u8`.
+fn bytes(alloc: Global, cx: &mut Interner, table: &InferCtxt) -> Result<CanonicalResponse, Fault>
+    requires { Ready cx.old.entries table.now }
+    ensures ready { Ready cx.new.entries table.now }
+    ensures keeps { Keeps cx.old.entries cx.new.entries }
+    ensures held { IfOk result (λ r. ResponseHeld cx.new.entries r) }
+{
+    let byte = GenericArgKind::Ty(cx.mk_ty(TyKind::Uint(UintTy::U8))?);
+    canonicalize_response(alloc, cx, table, Certainty::Yes, &[byte, byte])
 }
 
+const THIRD: Sample = Sample::Unknown(TyVid { index: 3 });
+
+/// Whether that answer can be applied to `?3` and this type, and what `?3` stands for then.
+fn applied_to(alloc: Global, cx: &mut Interner, other: Sample) -> Result<(bool, Ty), Fault> {
+    let other = make(alloc, cx, Shape::Plain(other))?;
+    let unknown = make(alloc, cx, Shape::Plain(THIRD))?;
+    let mut table = empty_table(alloc, cx);
+    let answer = bytes(alloc, cx, &table)?;
+    let asked = [GenericArgKind::Ty(unknown), GenericArgKind::Ty(other)];
+    let applied = instantiate_and_apply_query_response(alloc, cx, &mut table, &asked, &answer);
+    Ok((equated(applied)?, table.shallow_resolve(cx, unknown)))
+}
+
+// It is refused after `?3` was made `u8`.
 #[test]
-fn an_answer_with_a_type_gives_it_to_the_unknown(rt: HostRuntime) -> Result<(), Fail> {
-    let alloc = rt.alloc();
-    let mut cx = Interner::new(alloc, 100);
-    let unknown = cx.mk_ty(TyKind::Infer(TyVid { index: 3 }))?;
-    let byte = cx.mk_ty(TyKind::Uint(UintTy::U8))?;
-    let mut table = empty_table(alloc, &cx);
-    let given = [GenericArgKind::Ty(byte)];
-    let answer = canonicalize_response(alloc, &mut cx, &table, Certainty::Yes, &given)?;
-    let asked = [GenericArgKind::Ty(unknown)];
-    instantiate_and_apply_query_response(alloc, &mut cx, &mut table, &asked, &answer)?;
-    assert!(rt; table.shallow_resolve(&cx, unknown) == byte);
+fn an_answer_is_applied_whole_or_not_at_all(rt: HostRuntime) -> Result<(), Fail> {
+    for (other, is_applied, value) in [
+        (Sample::Byte, true, Sample::Byte),
+        (Sample::Bool, false, THIRD),
+    ] {
+        let mut cx = Interner::new(rt.alloc(), 100);
+        let found = applied_to(rt.alloc(), &mut cx, other)?;
+        let value = make(rt.alloc(), &mut cx, Shape::Plain(value))?;
+        assert!(rt; found == (is_applied, value));
+    }
     Ok(())
 }

@@ -8,7 +8,6 @@ use std::alloc::Global;
 use std::process::Abort;
 use std::test::Fail;
 use term_folds::binder::EarlyBinder;
-use term_folds::fn_sig::FnSig;
 use term_folds::instantiate::InstantiateError;
 use term_folds::laws::closed_arguments_are_in_range;
 use term_folds::predicate::{TraitPredicate, TraitRef};
@@ -45,6 +44,31 @@ fn instantiated(
     EarlyBinder::bind(generic).instantiate(alloc, cx, args)
 }
 
+/// An argument of the tests.
+#[derive(Clone, Copy)]
+enum Argument {
+    Byte,
+    Three,
+    Missing,
+}
+
+/// The list of this argument.
+fn arguments(alloc: Global, cx: &mut Interner, argument: Argument) -> Result<GenericArgs, Fault>
+    ensures { IfOk result (λ args. Has cx.new.entries args_lists args.0) }
+{
+    match argument {
+        Argument::Byte => {
+            let byte = cx.mk_ty(TyKind::Uint(UintTy::U8))?;
+            one(alloc, cx, GenericArgKind::Ty(byte))
+        }
+        Argument::Three => {
+            let three = cx.mk_const(ConstKind::Value(3))?;
+            one(alloc, cx, GenericArgKind::Const(three))
+        }
+        Argument::Missing => cx.mk_args(Vec::new(alloc)),
+    }
+}
+
 /// What was answered, if it is no fault.
 fn without_fault(
     answer: Result<Ty, InstantiateError>,
@@ -56,52 +80,19 @@ fn without_fault(
 }
 
 #[test]
-fn a_parameter_becomes_its_argument(rt: HostRuntime) -> Result<(), Fail> {
-    let alloc = rt.alloc();
-    let mut cx = Interner::new(alloc, 8);
-    let byte = cx.mk_ty(TyKind::Uint(UintTy::U8))?;
-    let bytes = one(alloc, &mut cx, GenericArgKind::Ty(byte))?;
-    let wanted = cx.mk_ty(TyKind::Adt(AdtId { index: 1 }, bytes))?;
-    let is = instantiated(&rt, alloc, &mut cx, bytes);
-    assert!(rt; without_fault(is)? == Ok(wanted));
-    Ok(())
-}
-
-#[test]
-fn a_parameter_without_its_argument_names_the_error(rt: HostRuntime) -> Result<(), Fail> {
-    let alloc = rt.alloc();
-    let mut cx = Interner::new(alloc, 8);
-    let none = cx.mk_args(Vec::new(alloc))?;
-    let past = instantiated(&rt, alloc, &mut cx, none);
-    assert!(rt; without_fault(past)? == Err(InstantiateError::ParamOutOfRange));
-    let three = cx.mk_const(ConstKind::Value(3))?;
-    let threes = one(alloc, &mut cx, GenericArgKind::Const(three))?;
-    let other = instantiated(&rt, alloc, &mut cx, threes);
-    assert!(rt; without_fault(other)? == Err(InstantiateError::ParamKind));
-    Ok(())
-}
-
-#[test]
-fn a_fault_is_an_error_of_instantiation(rt: HostRuntime) {
-    let error = InstantiateError::from(Fault::Full);
-    assert!(rt; error == InstantiateError::Fault(Fault::Full));
-}
-
-#[test]
-fn a_signature_has_its_inputs_and_its_output(rt: HostRuntime) -> Result<(), Fail> {
-    let alloc = rt.alloc();
-    let mut cx = Interner::new(alloc, 8);
-    let byte = cx.mk_ty(TyKind::Uint(UintTy::U8))?;
-    let truth = cx.mk_ty(TyKind::Bool)?;
-    let mut list = Vec::new(alloc);
-    list.push(byte)?;
-    list.push(truth)?;
-    cx.lawful();
-    let sig = FnSig {
-        inputs_and_output: cx.mk_tys(list)?,
-    };
-    assert!(rt; sig.inputs(&cx) == [byte].as_slice());
-    assert!(rt; sig.output(&cx) == truth);
+fn a_parameter_becomes_its_argument_if_it_is_there(rt: HostRuntime) -> Result<(), Fail> {
+    let mut cx = Interner::new(rt.alloc(), 8);
+    let bytes = arguments(rt.alloc(), &mut cx, Argument::Byte)?;
+    let list = cx.mk_ty(TyKind::Adt(AdtId { index: 1 }, bytes))?;
+    for (argument, wanted) in [
+        (Argument::Byte, Ok(list)),
+        (Argument::Missing, Err(InstantiateError::ParamOutOfRange)),
+        (Argument::Three, Err(InstantiateError::ParamKind)),
+    ] {
+        let args = arguments(rt.alloc(), &mut cx, argument)?;
+        let answer = instantiated(&rt, rt.alloc(), &mut cx, args);
+        assert!(rt; without_fault(answer)? == wanted);
+    }
     Ok(())
 }
 
@@ -116,12 +107,10 @@ fn a_self_type_is_replaced(rt: HostRuntime) -> Result<(), Fail> {
         args,
     };
     let predicate = TraitPredicate { trait_ref };
-    assert!(rt; predicate.self_ty(&cx) == byte);
-    assert!(rt; trait_ref.self_ty(&cx) == byte);
+    assert!(rt; [predicate.self_ty(&cx), trait_ref.self_ty(&cx)] == [byte, byte]);
     let truth = cx.mk_ty(TyKind::Bool)?;
     let replaced = predicate.with_replaced_self_ty(alloc, &mut cx, truth)?;
     let wanted = one(alloc, &mut cx, GenericArgKind::Ty(truth))?;
-    assert!(rt; replaced.trait_ref.args == wanted);
-    assert!(rt; replaced.def_id() == TraitId { index: 7 });
+    assert!(rt; replaced.trait_ref.args == wanted && replaced.def_id().index == 7);
     Ok(())
 }

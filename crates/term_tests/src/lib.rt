@@ -1,12 +1,10 @@
-//! Tests of terms, tables, canonical forms and answers, by the public calls of the crates that make, walk and fold them.
+//! Tests of the plain program of the definitions, and of terms, folds, tables, canonical forms and answers, by public calls.
 //!
 //! They stand above the crates that they test, so that each of those is proved once and not a second time with its tests.
 #![tactic(auto)]
 
 #[cfg(test)]
 mod answers;
-#[cfg(test)]
-mod certainties;
 #[cfg(test)]
 mod folding;
 #[cfg(test)]
@@ -16,7 +14,9 @@ mod instantiation;
 #[cfg(test)]
 mod interned;
 #[cfg(test)]
-mod parts;
+mod kinds;
+#[cfg(test)]
+mod programs;
 #[cfg(test)]
 mod tables;
 #[cfg(test)]

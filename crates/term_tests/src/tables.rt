@@ -1,10 +1,10 @@
-//! Each call once.
+//! Variables of a table, its equations, and what undoes them.
 ghost use Rattle.std.specs.Prelude.{IfOk};
 ghost use Rattle.type_terms.specs.Terms.{Has, Keeps, types, type_lists};
 ghost use Rattle.type_terms.specs.Kinds.{RegionHeld};
 ghost use Rattle.infer_table.specs.Content.{Ready, Grows};
 
-use infer_table::goal::EqError;
+use infer_table::certainty::EqError;
 use infer_table::infer_ctxt::InferCtxt;
 use infer_table::terms::RegionConstraint;
 use std::alloc::Global;
@@ -19,17 +19,18 @@ use type_terms::{AdtId, Fault};
 
 /// A type of the tests.
 #[derive(Clone, Copy)]
-enum Sample {
+pub(crate) enum Sample {
     Unknown(TyVid),
     Byte,
     Bool,
 }
 
-/// The type, or `V` of it.
+/// The type, `V` of it, or a pair of two.
 #[derive(Clone, Copy)]
-enum Shape {
+pub(crate) enum Shape {
     Plain(Sample),
     VecOf(Sample),
+    Pair(Sample, Sample),
 }
 
 fn make_sample(cx: &mut Interner, sample: Sample) -> Result<Ty, Fault>
@@ -43,7 +44,8 @@ fn make_sample(cx: &mut Interner, sample: Sample) -> Result<Ty, Fault>
     }
 }
 
-fn make(alloc: Global, cx: &mut Interner, shape: Shape) -> Result<Ty, Fault>
+/// Makes the type.
+pub(crate) fn make(alloc: Global, cx: &mut Interner, shape: Shape) -> Result<Ty, Fault>
     ensures held { IfOk result (λ ty. Has cx.new.entries types ty.0) }
     ensures keeps { Keeps cx.old.entries cx.new.entries }
 {
@@ -53,6 +55,12 @@ fn make(alloc: Global, cx: &mut Interner, shape: Shape) -> Result<Ty, Fault>
             let ty = make_sample(cx, inner)?;
             let args = cx.mk_args(vec![in alloc; GenericArgKind::Ty(ty)]?)?;
             cx.mk_ty(TyKind::Adt(AdtId { index: 0 }, args))
+        }
+        Shape::Pair(first, second) => {
+            let first = make_sample(cx, first)?;
+            let second = make_sample(cx, second)?;
+            let items = cx.mk_tys(vec![in alloc; first, second]?)?;
+            cx.mk_ty(TyKind::Tuple(items))
         }
     }
 }
@@ -76,7 +84,7 @@ fn equate(
 }
 
 /// Whether the two types were equated.
-fn equated(answer: Result<(), EqError>) -> Result<bool, Fault> {
+pub(crate) fn equated(answer: Result<(), EqError>) -> Result<bool, Fault> {
     match answer {
         Ok(()) => Ok(true),
         Err(EqError::NoSolution) => Ok(false),
@@ -120,7 +128,7 @@ fn equate_and_undo(
 }
 
 /// A table without variables.
-fn empty_table(alloc: Global, cx: &Interner) -> InferCtxt
+pub(crate) fn empty_table(alloc: Global, cx: &Interner) -> InferCtxt
     ensures { Ready cx.now.entries result }
 {
     cx.lawful();
@@ -143,21 +151,14 @@ const SECOND: Sample = Sample::Unknown(TyVid { index: 1 });
 
 #[test]
 fn variables_are_numbered_from_zero(rt: HostRuntime) -> Result<(), Fail> {
-    let alloc = rt.alloc();
-    let mut cx = Interner::new(alloc, 32);
-    let mut table = empty_table(alloc, &cx);
-    let first = table.next_ty_var(&mut cx)?;
-    assert!(rt; cx.kind(first) == TyKind::Infer(TyVid { index: 0 }));
+    let mut cx = Interner::new(rt.alloc(), 32);
+    let mut table = empty_table(rt.alloc(), &cx);
+    table.next_ty_var(&mut cx)?;
     let second = table.next_ty_var(&mut cx)?;
     assert!(rt; cx.kind(second) == TyKind::Infer(TyVid { index: 1 }));
-    let constant = table.next_const_var(&mut cx)?;
-    assert!(rt; cx.const_kind(constant) == ConstKind::Infer(ConstVid { index: 0 }));
     let lifetime = table.next_region_var()?;
     assert!(rt; lifetime.kind == RegionKind::ReVar(RegionVid { index: 0 }));
-    let fixed = Region {
-        kind: RegionKind::ReStatic,
-    };
-    table.register_region_constraint(RegionConstraint::RegionOutlives(lifetime, fixed))?;
+    table.register_region_constraint(RegionConstraint::RegionOutlives(lifetime, lifetime))?;
     assert!(rt; table.region_constraints().len() == 1);
     Ok(())
 }
@@ -167,33 +168,47 @@ fn an_equation_gives_an_unknown_its_value(rt: HostRuntime) -> Result<(), Fail> {
     let alloc = rt.alloc();
     let mut cx = Interner::new(alloc, 32);
     let mut table = two_unknowns(alloc, &mut cx)?;
-    let equal = equate(
-        alloc,
-        &mut cx,
-        &mut table,
-        Shape::VecOf(FIRST),
-        Shape::VecOf(Sample::Byte),
-    );
+    let bytes = Shape::VecOf(Sample::Byte);
+    let equal = equate(alloc, &mut cx, &mut table, Shape::VecOf(FIRST), bytes);
     assert!(rt; equated(equal)?);
-    let clash = equate(
-        alloc,
-        &mut cx,
-        &mut table,
-        Shape::VecOf(Sample::Byte),
-        Shape::VecOf(Sample::Bool),
-    );
-    assert!(rt; !equated(clash)?);
-    let inside = equate(
-        alloc,
-        &mut cx,
-        &mut table,
-        Shape::Plain(SECOND),
-        Shape::VecOf(SECOND),
-    );
-    assert!(rt; !equated(inside)?);
     let resolved = resolve(alloc, &mut cx, &table, Shape::VecOf(FIRST))?;
-    let wanted = make(alloc, &mut cx, Shape::VecOf(Sample::Byte))?;
+    let wanted = make(alloc, &mut cx, bytes)?;
     assert!(rt; resolved == wanted);
+    Ok(())
+}
+
+/// Whether two types are refused, and `?1` is without value then and no lifetime constrained.
+fn are_refused(
+    alloc: Global,
+    cx: &mut Interner,
+    table: &mut InferCtxt,
+    left: Shape,
+    right: Shape,
+) -> Result<bool, Fault>
+    requires { Ready cx.old.entries table.old }
+{
+    let answer = equate(alloc, cx, table, left, right);
+    let value = value_of(alloc, cx, table, Shape::Plain(SECOND))?;
+    let unknown = make(alloc, cx, Shape::Plain(SECOND))?;
+    let is_unchanged = value == unknown && table.region_constraints().is_empty();
+    Ok(!equated(answer)? && is_unchanged)
+}
+
+// The last one is refused after `?1` was made `bool`.
+#[test]
+fn a_refused_equation_leaves_the_table_unchanged(rt: HostRuntime) -> Result<(), Fail> {
+    for (left, right) in [
+        (Shape::VecOf(Sample::Byte), Shape::VecOf(Sample::Bool)),
+        (Shape::Plain(SECOND), Shape::VecOf(SECOND)),
+        (
+            Shape::Pair(SECOND, Sample::Byte),
+            Shape::Pair(Sample::Bool, Sample::Bool),
+        ),
+    ] {
+        let mut cx = Interner::new(rt.alloc(), 32);
+        let mut table = two_unknowns(rt.alloc(), &mut cx)?;
+        assert!(rt; are_refused(rt.alloc(), &mut cx, &mut table, left, right)?);
+    }
     Ok(())
 }
 
@@ -205,10 +220,8 @@ fn a_roll_back_takes_a_value_away(rt: HostRuntime) -> Result<(), Fail> {
     let left = Shape::Plain(SECOND);
     let undone = equate_and_undo(alloc, &mut cx, &mut table, left, Shape::Plain(Sample::Byte));
     assert!(rt; equated(undone)?);
-    let again = equate(alloc, &mut cx, &mut table, left, Shape::Plain(Sample::Bool));
-    assert!(rt; equated(again)?);
     let value = value_of(alloc, &mut cx, &table, left)?;
-    let wanted = make(alloc, &mut cx, Shape::Plain(Sample::Bool))?;
+    let wanted = make(alloc, &mut cx, left)?;
     assert!(rt; value == wanted);
     Ok(())
 }
@@ -257,17 +270,31 @@ fn an_opened_signature_has_a_lifetime_variable(rt: HostRuntime) -> Result<(), Fa
         kind: RegionKind::ReVar(RegionVid { index: 0 }),
     };
     let wanted = signature(alloc, &mut cx, free)?;
-    assert!(rt; opened == wanted);
+    assert!(rt; opened.inputs_and_output == wanted.inputs_and_output);
+    Ok(())
+}
+
+#[test]
+fn a_signature_has_its_inputs_and_its_output(rt: HostRuntime) -> Result<(), Fail> {
+    let mut cx = Interner::new(rt.alloc(), 8);
+    let byte = cx.mk_ty(TyKind::Uint(UintTy::U8))?;
+    let truth = cx.mk_ty(TyKind::Bool)?;
+    cx.lawful();
+    let sig = FnSig {
+        inputs_and_output: cx.mk_tys(vec![in rt.alloc(); byte, truth]?)?,
+    };
+    assert!(rt; sig.inputs(&cx).len() == 1);
+    assert!(rt; sig.output(&cx) == truth);
     Ok(())
 }
 
 #[test]
 fn an_equation_gives_an_unknown_constant_its_value(rt: HostRuntime) -> Result<(), Fail> {
-    let alloc = rt.alloc();
-    let mut cx = Interner::new(alloc, 32);
+    let mut cx = Interner::new(rt.alloc(), 32);
     let three = cx.mk_const(ConstKind::Value(3))?;
-    let mut table = empty_table(alloc, &cx);
+    let mut table = empty_table(rt.alloc(), &cx);
     let unknown = table.next_const_var(&mut cx)?;
+    assert!(rt; cx.const_kind(unknown) == ConstKind::Infer(ConstVid { index: 0 }));
     let left = GenericArgKind::Const(unknown);
     table.eq(&mut cx, left, GenericArgKind::Const(three))?;
     assert!(rt; table.shallow_resolve_const(&cx, unknown) == three);

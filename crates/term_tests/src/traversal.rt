@@ -1,24 +1,27 @@
-//! Each call once.
+//! Folds that change nothing or fail, and what stands in a value.
 ghost use Rattle.std.specs.Prelude.{◌≡◌, IfOk};
 ghost use Rattle.type_terms.specs.Terms.{Has, Keeps, types};
 ghost use Rattle.type_terms.specs.Kinds.{RegionHeld};
 
 use std::alloc::Global;
-use std::ops::ControlFlow;
 use std::test::Fail;
-use term_traversal::binders::Binders;
-use term_traversal::fold::{Answer, FallibleTypeFolder};
-use term_traversal::foldable::TypeFoldable;
-use term_traversal::folder::{Infallible, TypeFolder};
-use term_traversal::visit::{Seen, TypeVisitor};
-use term_traversal::visitable::TypeVisitable;
-use term_traversal::visitable_ext::TypeVisitableExt;
+use term_folds::binder::Binder;
+use term_folds::binders::Binders;
+use term_folds::fn_sig::FnSig;
+use term_folds::fold::{Answer, FallibleTypeFolder};
+use term_folds::foldable::TypeFoldable;
+use term_folds::folder::{Infallible, TypeFolder};
+use term_folds::predicate::{Clause, TraitPredicate, TraitRef};
+use term_folds::super_fold::{TypeSuperFoldable, TypeSuperVisitable};
+use term_folds::visit::{Seen, TypeVisitor};
+use term_folds::visitable::TypeVisitable;
+use term_folds::visitable_ext::TypeVisitableExt;
 use type_terms::flags::TypeFlags;
 use type_terms::interner::Interner;
 use type_terms::kinds::{
     BoundsData, Const, ConstKind, GenericArgKind, Mutability, Ty, TyKind, UintTy,
 };
-use type_terms::number::{BoundVar, BoundVarIndexKind, DebruijnIndex, TyVid};
+use type_terms::number::{BoundVar, BoundVarIndexKind, DebruijnIndex};
 use type_terms::region::{Region, RegionKind};
 use type_terms::{AdtId, Fault, TraitId};
 
@@ -28,7 +31,7 @@ struct Identity;
 
 impl TypeFolder for Identity {
     ghost use Rattle.std.proofs.Common.{refl};
-    ghost use Rattle.term_traversal.specs.Folds.{enters, enters-once, none_above};
+    ghost use Rattle.term_folds.specs.Folds.{enters, enters-once, none_above};
 
     ghost ready = { λ _ _. Unit {0} };
 
@@ -105,7 +108,7 @@ impl FallibleTypeFolder for NoBool {
     type Error = Refusal;
 
     ghost use Rattle.std.proofs.Common.{refl};
-    ghost use Rattle.term_traversal.specs.Folds.{enters, enters-once, none_above};
+    ghost use Rattle.term_folds.specs.Folds.{enters, enters-once, none_above};
     ghost use Rattle.term_tests.specs.declared.traversal.Refusal.TheVariants as refusal;
 
     ghost ready = { λ _ _. Unit {0} };
@@ -165,7 +168,7 @@ impl FallibleTypeFolder for NoBool {
 
 /// Breaks with the first lifetime.
 #[derive(Clone, Copy)]
-struct FirstRegion;
+pub(crate) struct FirstRegion;
 
 impl TypeVisitor for FirstRegion {
     type Break = Region;
@@ -189,175 +192,282 @@ impl TypeVisitor for FirstRegion {
     }
 }
 
+/// Lifetime 0 of the innermost binder.
+const BOUND: Region = Region {
+    kind: RegionKind::ReBound(
+        BoundVarIndexKind::Bound(DebruijnIndex { index: 0 }),
+        BoundVar { index: 0 },
+    ),
+};
+
 /// The type `&'a u8` with this lifetime.
-fn reference(cx: &mut Interner, kind: RegionKind) -> Result<Ty, Fault>
-    requires { RegionHeld kind }
+fn reference(cx: &mut Interner, region: Region) -> Result<Ty, Fault>
+    requires { RegionHeld region.kind }
     ensures has { IfOk result (λ ty. Has cx.new.entries types ty.0) }
     ensures keeps { Keeps cx.old.entries cx.new.entries }
 {
     let byte = cx.mk_ty(TyKind::Uint(UintTy::U8))?;
-    cx.mk_ty(TyKind::Ref(Region { kind }, byte, Mutability::Not))
+    cx.mk_ty(TyKind::Ref(region, byte, Mutability::Not))
 }
 
-/// The type `V<T>` with this argument.
-fn generic(alloc: Global, cx: &mut Interner, argument: Ty) -> Result<Ty, Fault>
-    requires { Has cx.old.entries types argument.0 }
-    ensures has { IfOk result (λ ty. Has cx.new.entries types ty.0) }
-    ensures keeps { Keeps cx.old.entries cx.new.entries }
-{
-    let args = cx.mk_args(vec![in alloc; GenericArgKind::Ty(argument)]?)?;
-    cx.mk_ty(TyKind::Adt(AdtId { index: 0 }, args))
+/// A fold of a type or a constant.
+#[derive(Clone, Copy)]
+enum Fold {
+    Whole,
+    Fallible,
+    Below,
+    FallibleBelow,
+}
+
+const FOLDS: [Fold; 4] = [
+    Fold::Whole,
+    Fold::Fallible,
+    Fold::Below,
+    Fold::FallibleBelow,
+];
+
+/// Whether this fold by the identity gives the same type.
+fn type_stays(alloc: Global, cx: &mut Interner, fold: Fold) -> Result<bool, Fault> {
+    let ty = reference(cx, BOUND)?;
+    let folded = match fold {
+        Fold::Whole => ty.fold_with(alloc, cx, &Identity)?,
+        Fold::Fallible => ty.try_fold_with(alloc, cx, &Infallible(&Identity))?,
+        Fold::Below => ty.super_fold_with(alloc, cx, &Identity)?,
+        Fold::FallibleBelow => ty.try_super_fold_with(alloc, cx, &Infallible(&Identity))?,
+    };
+    Ok(folded == ty)
+}
+
+/// Whether it gives the same constant.
+fn constant_stays(alloc: Global, cx: &mut Interner, fold: Fold) -> Result<bool, Fault> {
+    let three = cx.mk_const(ConstKind::Value(3))?;
+    let folded = match fold {
+        Fold::Whole => three.fold_with(alloc, cx, &Identity)?,
+        Fold::Fallible => three.try_fold_with(alloc, cx, &Infallible(&Identity))?,
+        Fold::Below => three.super_fold_with(alloc, cx, &Identity)?,
+        Fold::FallibleBelow => three.try_super_fold_with(alloc, cx, &Infallible(&Identity))?,
+    };
+    Ok(folded == three)
 }
 
 #[test]
-fn an_identity_folder_gives_the_same_handles(rt: HostRuntime) -> Result<(), Fail> {
-    let alloc = rt.alloc();
-    let mut cx = Interner::new(alloc, 8);
-    let ty = reference(&mut cx, RegionKind::ReEarlyParam(0))?;
-    assert!(rt; ty.fold_with(alloc, &mut cx, &Identity)? == ty);
-    let ty = reference(&mut cx, RegionKind::ReEarlyParam(0))?;
-    assert!(rt; ty.try_fold_with(alloc, &mut cx, &Infallible(&Identity))? == ty);
+fn identity_folds_give_the_same_handle(rt: HostRuntime) -> Result<(), Fail> {
+    let mut cx = Interner::new(rt.alloc(), 8);
+    for fold in FOLDS {
+        assert!(rt; type_stays(rt.alloc(), &mut cx, fold)?);
+        assert!(rt; constant_stays(rt.alloc(), &mut cx, fold)?);
+    }
     Ok(())
 }
 
-/// What `NoBool` makes of a type, if it does not refuse it.
-fn without_bool(alloc: Global, cx: &mut Interner, ty: Ty) -> Result<Option<Ty>, Fault>
-    requires { Has cx.old.entries types ty.0 }
-    ensures { Keeps cx.old.entries cx.new.entries }
+/// `bool` or `char`.
+fn bool_or_char(cx: &mut Interner, is_bool: bool) -> Result<Ty, Fault>
+    ensures { IfOk result (λ ty. Has cx.new.entries types ty.0) }
 {
+    if is_bool {
+        cx.mk_ty(TyKind::Bool)
+    } else {
+        cx.mk_ty(TyKind::Char)
+    }
+}
+
+/// What `NoBool` makes of `V<bool>` or `V<char>`, if it does not refuse it, and that type.
+fn without_bool(
+    alloc: Global,
+    cx: &mut Interner,
+    is_bool: bool,
+) -> Result<(Option<Ty>, Ty), Fault> {
+    let argument = bool_or_char(cx, is_bool)?;
+    let args = cx.mk_args(vec![in alloc; GenericArgKind::Ty(argument)]?)?;
+    let ty = cx.mk_ty(TyKind::Adt(AdtId { index: 0 }, args))?;
     match ty.try_fold_with(alloc, cx, &NoBool) {
-        Ok(folded) => Ok(Some(folded)),
-        Err(Refusal::Bool) => Ok(None),
+        Ok(folded) => Ok((Some(folded), ty)),
+        Err(Refusal::Bool) => Ok((None, ty)),
         Err(Refusal::Fault(fault)) => Err(fault),
     }
 }
 
 #[test]
 fn a_refusal_below_a_struct_is_the_answer(rt: HostRuntime) -> Result<(), Fail> {
-    let alloc = rt.alloc();
-    let mut cx = Interner::new(alloc, 8);
-    let boolean = cx.mk_ty(TyKind::Bool)?;
-    let list = generic(alloc, &mut cx, boolean)?;
-    assert!(rt; without_bool(alloc, &mut cx, list)? == None);
-    let character = cx.mk_ty(TyKind::Char)?;
-    let list = generic(alloc, &mut cx, character)?;
-    assert!(rt; without_bool(alloc, &mut cx, list)? == Some(list));
+    let mut cx = Interner::new(rt.alloc(), 8);
+    let (folded, _) = without_bool(rt.alloc(), &mut cx, true)?;
+    assert!(rt; folded.is_none());
+    let (folded, list) = without_bool(rt.alloc(), &mut cx, false)?;
+    assert!(rt; folded == Some(list));
     Ok(())
 }
 
-#[test]
-fn a_visit_breaks_at_the_first_lifetime(rt: HostRuntime) -> Result<(), Fail> {
-    let alloc = rt.alloc();
-    let mut cx = Interner::new(alloc, 8);
-    let ty = reference(&mut cx, RegionKind::ReEarlyParam(3))?;
-    let found = Region {
-        kind: RegionKind::ReEarlyParam(3),
-    };
-    let mut visitor = FirstRegion;
-    assert!(rt; ty.visit_with(&cx, &mut visitor) == ControlFlow::Break(found));
-    let three = cx.mk_const(ConstKind::Value(3))?;
-    assert!(rt; three.visit_with(&cx, &mut visitor) == ControlFlow::Continue(()));
-    Ok(())
+/// What shows whether a lifetime stands in a value: a visit that looks for one; the flags; and the outer binder.
+type Shown = (bool, u32, u32);
+
+/// What shows in the value.
+fn shown<T: TypeVisitableExt>(cx: &Interner, value: T) -> Shown
+    requires { T.held value cx.now.entries }
+{
+    let found = value.visit_with(cx, &mut FirstRegion).is_break();
+    (
+        found,
+        value.flags(cx).0,
+        value.outer_exclusive_binder(cx).index,
+    )
+}
+
+/// What shows in the value, and whether it is itself after a fold by the identity.
+fn shown_and_folded<T: TypeVisitableExt + TypeFoldable + PartialEq>(
+    alloc: Global,
+    cx: &mut Interner,
+    value: T,
+) -> Result<(Shown, bool), Fault>
+    requires { T.held value cx.old.entries }
+{
+    let shown = shown(cx, value);
+    let folded = value.fold_with(alloc, cx, &Identity)?;
+    Ok((shown, folded == value))
+}
+
+/// A value in which the bound lifetime stands: a term.
+#[derive(Clone, Copy)]
+enum Term {
+    Region,
+    Argument,
+    Arguments,
+    Ty,
+    Tys,
+}
+
+/// What shows in the term, and whether it stays.
+fn term_shows(alloc: Global, cx: &mut Interner, term: Term) -> Result<(Shown, bool), Fault> {
+    let argument = GenericArgKind::Lifetime(BOUND);
+    match term {
+        Term::Region => shown_and_folded(alloc, cx, BOUND),
+        Term::Argument => shown_and_folded(alloc, cx, argument),
+        Term::Arguments => {
+            let args = cx.mk_args(vec![in alloc; argument]?)?;
+            shown_and_folded(alloc, cx, args)
+        }
+        Term::Ty => {
+            let ty = reference(cx, BOUND)?;
+            shown_and_folded(alloc, cx, ty)
+        }
+        Term::Tys => {
+            let ty = reference(cx, BOUND)?;
+            let tys = cx.mk_tys(vec![in alloc; ty]?)?;
+            shown_and_folded(alloc, cx, tys)
+        }
+    }
 }
 
 #[test]
-fn places_below_a_struct_are_seen(rt: HostRuntime) -> Result<(), Fail> {
-    let alloc = rt.alloc();
-    let mut cx = Interner::new(alloc, 8);
-    let parameter = cx.mk_ty(TyKind::Param(0))?;
-    let list = generic(alloc, &mut cx, parameter)?;
-    assert!(rt; list.has_param(&cx));
-    assert!(rt; !list.has_infer(&cx));
-    assert!(rt; list.has_type_flags(&cx, TypeFlags::HAS_TY_PARAM));
-    let unknown = cx.mk_ty(TyKind::Infer(TyVid { index: 0 }))?;
-    let tys = cx.mk_tys(vec![in alloc; unknown]?)?;
-    assert!(rt; tys.has_infer(&cx));
-    assert!(rt; GenericArgKind::Ty(unknown).has_infer(&cx));
-    let three = cx.mk_const(ConstKind::Value(3))?;
-    assert!(rt; three.flags(&cx) == TypeFlags(0));
-    assert!(rt;
-        GenericArgKind::Const(three)
-            .outer_exclusive_binder(&cx)
-            .index
-            == 0
-    );
+fn a_bound_lifetime_shows_in_terms_and_stays(rt: HostRuntime) -> Result<(), Fail> {
+    let mut cx = Interner::new(rt.alloc(), 8);
+    let wanted = ((true, TypeFlags::HAS_RE_BOUND.0, 1), true);
+    for term in [
+        Term::Region,
+        Term::Argument,
+        Term::Arguments,
+        Term::Ty,
+        Term::Tys,
+    ] {
+        assert!(rt; term_shows(rt.alloc(), &mut cx, term)? == wanted);
+    }
+    Ok(())
+}
+
+/// A value in which it stands: one that is made of terms. The second clause is under the lifetime's binder.
+#[derive(Clone, Copy)]
+enum Value {
+    Clause,
+    BoundClause,
+    TraitRef,
+    TraitPredicate,
+    FnSig,
+}
+
+/// What shows in the value, and whether it stays.
+fn value_shows(alloc: Global, cx: &mut Interner, value: Value) -> Result<(Shown, bool), Fault> {
+    let clause = Clause::RegionOutlives(BOUND, BOUND);
+    let def_id = TraitId { index: 4 };
+    match value {
+        Value::Clause => shown_and_folded(alloc, cx, clause),
+        Value::BoundClause => shown_and_folded(alloc, cx, Binder::bind_with_vars(clause, 1)),
+        Value::TraitRef => {
+            let args = cx.mk_args(vec![in alloc; GenericArgKind::Lifetime(BOUND)]?)?;
+            shown_and_folded(alloc, cx, TraitRef { def_id, args })
+        }
+        Value::TraitPredicate => {
+            let args = cx.mk_args(vec![in alloc; GenericArgKind::Lifetime(BOUND)]?)?;
+            let trait_ref = TraitRef { def_id, args };
+            shown_and_folded(alloc, cx, TraitPredicate { trait_ref })
+        }
+        Value::FnSig => {
+            let ty = reference(cx, BOUND)?;
+            let inputs_and_output = cx.mk_tys(vec![in alloc; ty]?)?;
+            shown_and_folded(alloc, cx, FnSig { inputs_and_output })
+        }
+    }
+}
+
+#[test]
+fn a_bound_lifetime_leads_out_of_clauses_but_not_of_its_binder(
+    rt: HostRuntime,
+) -> Result<(), Fail> {
+    let mut cx = Interner::new(rt.alloc(), 8);
+    for (value, outer) in [
+        (Value::Clause, 1),
+        (Value::BoundClause, 0),
+        (Value::TraitRef, 1),
+        (Value::TraitPredicate, 1),
+        (Value::FnSig, 1),
+    ] {
+        let wanted = ((true, TypeFlags::HAS_RE_BOUND.0, outer), true);
+        assert!(rt; value_shows(rt.alloc(), &mut cx, value)? == wanted);
+    }
+    Ok(())
+}
+
+/// Bounds of one auto trait.
+fn bounds_show(alloc: Global, cx: &mut Interner) -> Result<(Shown, bool), Fault> {
     let autos = vec![in alloc; TraitId { index: 1 }]?;
     let bounds = cx.mk_bounds(BoundsData {
         principal: None,
         autos,
     })?;
-    assert!(rt; bounds.flags(&cx) == TypeFlags(0));
-    Ok(())
+    shown_and_folded(alloc, cx, bounds)
 }
 
-#[test]
-fn a_bound_lifetime_is_of_its_binder(rt: HostRuntime) -> Result<(), Fail> {
-    let mut cx = Interner::new(rt.alloc(), 8);
-    let binder = BoundVarIndexKind::Bound(DebruijnIndex { index: 1 });
-    let ty = reference(&mut cx, RegionKind::ReBound(binder, BoundVar { index: 0 }))?;
-    assert!(rt; ty.has_vars_bound_at_or_above(&cx, DebruijnIndex { index: 0 }));
-    assert!(rt; ty.has_vars_bound_at_or_above(&cx, DebruijnIndex { index: 1 }));
-    assert!(rt; !ty.has_vars_bound_at_or_above(&cx, DebruijnIndex { index: 2 }));
-    Ok(())
-}
-
-#[test]
-fn binders_are_counted_from_within(rt: HostRuntime) {
-    let outermost = Binders::Outermost;
-    let outer = Binders::Inside(3, &outermost);
-    let inner = Binders::Inside(5, &outer);
-    assert!(rt; inner.depth().index == 2);
-    assert!(rt; inner.count(DebruijnIndex { index: 1 }) == Some(3));
-    assert!(rt; inner.count(DebruijnIndex { index: 2 }) == None);
-}
-
-#[test]
-fn each_kind_of_term_is_folded(rt: HostRuntime) -> Result<(), Fail> {
-    let alloc = rt.alloc();
-    let mut cx = Interner::new(alloc, 8);
+/// The constant 3, and a visit below it.
+fn constant_shows(alloc: Global, cx: &mut Interner) -> Result<(Shown, bool), Fault> {
     let three = cx.mk_const(ConstKind::Value(3))?;
-    assert!(rt; three.fold_with(alloc, &mut cx, &Identity)? == three);
-    let byte = cx.mk_ty(TyKind::Uint(UintTy::U8))?;
-    let tys = cx.mk_tys(vec![in alloc; byte]?)?;
-    assert!(rt; tys.fold_with(alloc, &mut cx, &Identity)? == tys);
-    let boolean = GenericArgKind::Ty(cx.mk_ty(TyKind::Bool)?);
-    assert!(rt; boolean.fold_with(alloc, &mut cx, &Identity)? == boolean);
-    let region = Region {
-        kind: RegionKind::ReStatic,
-    };
-    assert!(rt; region.fold_with(alloc, &mut cx, &Identity)? == region);
-    let args = cx.mk_args(vec![in alloc; GenericArgKind::Lifetime(region)]?)?;
-    assert!(rt; args.fold_with(alloc, &mut cx, &Identity)? == args);
-    let bounds = cx.mk_bounds(BoundsData {
-        principal: None,
-        autos: vec![in alloc; TraitId { index: 1 }]?,
-    })?;
-    assert!(rt; bounds.fold_with(alloc, &mut cx, &Identity)? == bounds);
-    Ok(())
+    if three.super_visit_with(cx, &mut FirstRegion).is_break() {
+        return Ok(((true, 0, 0), false));
+    }
+    shown_and_folded(alloc, cx, three)
 }
 
 #[test]
-fn each_kind_of_term_is_visited(rt: HostRuntime) -> Result<(), Fail> {
-    let alloc = rt.alloc();
-    let mut cx = Interner::new(alloc, 8);
-    let mut visitor = FirstRegion;
-    let region = Region {
-        kind: RegionKind::ReStatic,
-    };
-    assert!(rt; region.visit_with(&cx, &mut visitor) == ControlFlow::Break(region));
-    assert!(rt; region.flags(&cx) == TypeFlags::HAS_RE_STATIC);
-    let arg = GenericArgKind::Lifetime(region);
-    assert!(rt; arg.visit_with(&cx, &mut visitor) == ControlFlow::Break(region));
-    let args = cx.mk_args(vec![in alloc; arg]?)?;
-    assert!(rt; args.visit_with(&cx, &mut visitor) == ControlFlow::Break(region));
-    assert!(rt; args.flags(&cx) == TypeFlags::HAS_RE_STATIC);
-    let byte = cx.mk_ty(TyKind::Uint(UintTy::U8))?;
-    let tys = cx.mk_tys(vec![in alloc; byte]?)?;
-    assert!(rt; tys.visit_with(&cx, &mut visitor) == ControlFlow::Continue(()));
-    let bounds = cx.mk_bounds(BoundsData {
-        principal: None,
-        autos: vec![in alloc; TraitId { index: 1 }]?,
-    })?;
-    assert!(rt; bounds.visit_with(&cx, &mut visitor) == ControlFlow::Continue(()));
+fn nothing_shows_in_constants_and_auto_traits(rt: HostRuntime) -> Result<(), Fail> {
+    let mut cx = Interner::new(rt.alloc(), 8);
+    assert!(rt; bounds_show(rt.alloc(), &mut cx)? == ((false, 0, 0), true));
+    assert!(rt; constant_shows(rt.alloc(), &mut cx)? == ((false, 0, 0), true));
+    Ok(())
+}
+
+/// Whether a parameter, an unknown, a type parameter and a bound variable stand in `V<T>`.
+fn parameter_shows(alloc: Global, cx: &mut Interner) -> Result<[bool; 4], Fault> {
+    let parameter = cx.mk_ty(TyKind::Param(0))?;
+    let args = cx.mk_args(vec![in alloc; GenericArgKind::Ty(parameter)]?)?;
+    let list = cx.mk_ty(TyKind::Adt(AdtId { index: 0 }, args))?;
+    Ok([
+        list.has_param(cx),
+        list.has_infer(cx),
+        list.has_type_flags(cx, TypeFlags::HAS_TY_PARAM),
+        list.has_vars_bound_at_or_above(cx, DebruijnIndex { index: 0 }),
+    ])
+}
+
+#[test]
+fn a_parameter_below_a_struct_is_seen(rt: HostRuntime) -> Result<(), Fail> {
+    let mut cx = Interner::new(rt.alloc(), 8);
+    assert!(rt; parameter_shows(rt.alloc(), &mut cx)? == [true, false, true, false]);
     Ok(())
 }

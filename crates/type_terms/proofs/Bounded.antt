@@ -2,7 +2,7 @@
 use Rattle.std.proofs.Common.{◌≡◌, ℕ, zero, suc, ◌+◌, ◌≤◌, List, [], ◌∷◌, ◌++◌, length, arith, Option, Some, None, pred}
 use Rattle.std.specs.List.{slice_get}
 use Rattle.std.proofs.lemmas.Option.{slice_get_within}
-use Rattle.model.specs.Label.{Label, Sort, of_type, of_const, of_lifetime, fn_ptr, principal, array, dynamic, reference, raw_pointer, slice, tuple, adt, auto_trait}
+use Rattle.model.specs.Label.{Label, Sort, of_type, of_const, of_lifetime, fn_ptr, principal, array, dynamic, ref, raw_pointer, slice, tuple, adt, auto_trait}
 use Rattle.model.specs.Trees.{Trees, none, tree, leaf, ◌+++◌, outer_binder, depth, own_binder, outside}
 use Rattle.type_terms.specs.Terms.{Entry, Has, trees_at, types, consts, args_lists, type_lists, bounds_lists}
 use Rattle.type_terms.specs.Kinds.{is_mut, bound_label, region_label, const_label, kind_trees, arg_trees, args_trees, tys_trees, principal_trees, autos_trees, BinderHeld, RegionHeld, ConstHeld, KindHeld, ArgHeld, ArgsHeld, TysHeld, PrincipalHeld}
@@ -91,7 +91,7 @@ module _ (es : List Entry) (all : AllFit es) where
   fits-kind : (k : TyKind) → KindHeld es k → Fits (length es + 1) (kind_trees es k)
   fits-kind (Adt d a) h = fits-node _ (adt d.index) _ (omega arith) (fits-at args_lists a.0 h)
   fits-kind (Ref r t m) h =
-      fits-node _ (reference (is_mut m)) _ (omega arith)
+      fits-node _ (ref (is_mut m)) _ (omega arith)
       (fits-append _ _ _ (fits-leaf _ _ (region-below r.kind h.0) (some-entry types t.0 h.1)) (fits-at types t.0 h.1))
   fits-kind (RawPtr t m) h = fits-node _ (raw_pointer (is_mut m)) _ (omega arith) (fits-at types t.0 h)
   fits-kind (KArray t n) h = fits-node _ array _ (omega arith) (fits-append _ _ _ (fits-at types t.0 h.0) (fits-at consts n.0 h.1))

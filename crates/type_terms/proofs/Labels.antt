@@ -1,7 +1,7 @@
 -- What stands in a label is found again from it.
 use Rattle.std.proofs.Common.{◌≡◌, ℕ, ◌≤◌, refl, ap, sym, ◌∙◌, arith, subst}
 use Rattle.std.proofs.Math.Bridge.{le_prop}
-use Rattle.model.specs.Label.{Label, Sort, of_const, of_lifetime, bool, char, str, never, array, slice, tuple, dynamic, static, int, uint, adt, fn_ptr, value, reference, raw_pointer, param, placeholder, infer, canonical, bound}
+use Rattle.model.specs.Label.{Label, Sort, of_const, of_lifetime, bool, char, str, never, array, slice, tuple, dynamic, static, int, uint, adt, fn_ptr, value, ref, raw_pointer, param, placeholder, infer, canonical, bound}
 use Rattle.type_terms.specs.Kinds.{int_number, uint_number, is_mut, bound_label, region_label, const_label}
 use Rattle.type_terms.specs.declared.TheConstants.{MAX_INDEX}
 use Rattle.type_terms.specs.declared.AdtId.{AdtId}
@@ -92,7 +92,7 @@ rank (uint n) = 3
 rank str = 4
 rank never = 5
 rank (adt n) = 6
-rank (reference m) = 7
+rank (ref m) = 7
 rank (raw_pointer m) = 8
 rank array = 9
 rank slice = 10

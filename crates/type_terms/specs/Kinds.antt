@@ -1,7 +1,7 @@
 -- The trees that a kind stands for, over the terms of an interner.
 use Rattle.std.specs.Prelude.{◌≡◌, ℕ, ◌<◌, List, [], ◌∷◌, Option, Some, None, Bool, true, false, map}
 use Rattle.std.specs.List.Sorted.{IsStrictlyIncreasing}
-use Rattle.model.specs.Label.{Label, Sort, of_type, of_const, of_lifetime, bool as l-bool, char as l-char, str as l-str, never as l-never, array, slice, tuple, dynamic, static, int, uint, adt, fn_ptr, auto_trait, value, reference, raw_pointer, principal, param, placeholder, infer, canonical, bound}
+use Rattle.model.specs.Label.{Label, Sort, of_type, of_const, of_lifetime, bool as l-bool, char as l-char, str as l-str, never as l-never, array, slice, tuple, dynamic, static, int, uint, adt, fn_ptr, auto_trait, value, ref, raw_pointer, principal, param, placeholder, infer, canonical, bound}
 use Rattle.model.specs.Trees.{Trees, none, tree, leaf, is_no_tree, ◌+++◌}
 use Rattle.type_terms.specs.Terms.{Entry, Has, trees_at, types, consts, args_lists, type_lists, bounds_lists}
 use Rattle.type_terms.specs.declared.TheConstants.{MAX_INDEX}
@@ -76,7 +76,7 @@ kind_trees es (KUint w) = leaf (uint (uint_number w))
 kind_trees es KStr = leaf l-str
 kind_trees es KNever = leaf l-never
 kind_trees es (Adt d args) = tree (adt d.index) (trees_at es args.0) none
-kind_trees es (Ref r t m) = tree (reference (is_mut m)) (region_trees r +++ trees_at es t.0) none
+kind_trees es (Ref r t m) = tree (ref (is_mut m)) (region_trees r +++ trees_at es t.0) none
 kind_trees es (RawPtr t m) = tree (raw_pointer (is_mut m)) (trees_at es t.0) none
 kind_trees es (KArray t n) = tree array (trees_at es t.0 +++ trees_at es n.0) none
 kind_trees es (KSlice t) = tree slice (trees_at es t.0) none

@@ -1,4 +1,4 @@
-use Rattle.search_steps.specs.Cache.{AreJustified}
+use Rattle.search_graph.specs.Cache.{AreJustified}
 use Rattle.scripted_goals.specs.Toy.{toy_meaning}
 use Rattle.benchmarks.proofs.searches.evaluate_all.Given as goal
 

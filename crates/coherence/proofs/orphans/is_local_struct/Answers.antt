@@ -1,5 +1,5 @@
 use Rattle.model.specs.Worlds.{structs_named}
-use Rattle.text_model.specs.Declarations.{world_of}
+use Rattle.coherence_text.specs.Declarations.{world_of}
 use Rattle.coherence.proofs.OrphanRule.{struct_home}
 use Rattle.coherence.proofs.orphans.is_local_struct.Goals as goal
 

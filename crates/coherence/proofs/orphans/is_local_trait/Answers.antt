@@ -1,5 +1,5 @@
 use Rattle.model.specs.Worlds.{traits_named}
-use Rattle.text_model.specs.Declarations.{world_of}
+use Rattle.coherence_text.specs.Declarations.{world_of}
 use Rattle.coherence.proofs.OrphanRule.{trait_home}
 use Rattle.coherence.proofs.orphans.is_local_trait.Goals as goal
 

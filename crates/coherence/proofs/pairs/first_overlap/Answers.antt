@@ -1,7 +1,7 @@
 use Rattle.std.proofs.Common.{◌≤◌, length, ap, arith, subst}
 use Rattle.std.proofs.lemmas.List.{length-map}
 use Rattle.coherence_text.specs.Views.{impl_of}
-use Rattle.text_model.specs.Declarations.{world_of}
+use Rattle.coherence_text.specs.Declarations.{world_of}
 use Rattle.coherence.specs.Verdicts.{IsFirstOverlap}
 use Rattle.coherence.proofs.PairLaws.{all-pairs, next-pairs, first-pair, no-pair}
 use Rattle.coherence.proofs.pairs.first_overlap.Goals as goal

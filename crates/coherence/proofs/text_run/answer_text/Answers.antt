@@ -1,6 +1,6 @@
 use Rattle.std.proofs.Common.{[], ◌∷◌, ◌++◌, inr}
 use Rattle.std.proofs.lemmas.Result.{err_from_is_err_and}
-use Rattle.text_model.specs.Output.{fault}
+use Rattle.coherence_text.specs.Output.{fault}
 use Rattle.coherence.specs.declared.status.Status.TheVariants as statuses
 use Rattle.coherence.specs.Lines.{of_fault, of_answers}
 use Rattle.coherence.proofs.LineLaws.{alone-line, alone-prefix}

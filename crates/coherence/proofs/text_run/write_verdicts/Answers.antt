@@ -3,7 +3,7 @@ use Rattle.std.proofs.lemmas.Result.{err_from_is_err_and}
 use Rattle.std.proofs.lemmas.List.{length-map}
 use Rattle.std.proofs.KnownBytes.{Appends-nil}
 use Rattle.type_terms.specs.declared.CrateId.{CrateId}
-use Rattle.text_model.specs.Declarations.{NamedCrate}
+use Rattle.coherence_text.specs.Declarations.{NamedCrate}
 use Rattle.coherence.specs.Lines.{no_crates, and_crate}
 use Rattle.coherence.proofs.LineLaws.{one_more, kept_prefix, line_prefix}
 use Rattle.coherence.proofs.text_run.write_verdicts.Goals as goal

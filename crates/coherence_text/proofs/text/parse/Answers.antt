@@ -1,6 +1,6 @@
 use Rattle.std.proofs.Common.{subst, arith, Ok}
 use Rattle.std.proofs.lemmas.Result.{err_from_is_err_and}
-use Rattle.text_model.specs.Text.{LinesGive, too_long, fits, lines_of}
+use Rattle.coherence_text.specs.Text.{LinesGive, too_long, fits, lines_of}
 use Rattle.coherence_text.specs.Refusals.{IsRefusal}
 use Rattle.coherence_text.specs.Tables.{declared}
 use Rattle.coherence_text.proofs.Texts.{refusal_is}

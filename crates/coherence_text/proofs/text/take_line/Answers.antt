@@ -1,6 +1,6 @@
 use Rattle.std.proofs.Common.{sym, ◌∙◌, ap, Err}
-use Rattle.text_syntax.specs.Views.{line_of}
-use Rattle.text_model.specs.Text.{other_byte, blank, unwritten, faulty, adds}
+use Rattle.coherence_text.specs.LineViews.{line_of}
+use Rattle.coherence_text.specs.Text.{other_byte, blank, unwritten, faulty, adds}
 use Rattle.coherence_text.proofs.text.take_line.Goals as goal
 
 pub returns-then-not-is_ascii-clause-gives : goal.returns-then-not-is_ascii-clause-gives

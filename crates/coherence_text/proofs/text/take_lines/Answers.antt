@@ -1,6 +1,6 @@
 use Rattle.std.proofs.Common.{◌+◌, ◌∷◌, Ok, Err, sym, ap, ◌∙◌, subst, add-one, arith}
 use Rattle.std.proofs.lemmas.List.{nil_from_length}
-use Rattle.text_model.specs.Text.{LinesGive, ends, fails, goes_on}
+use Rattle.coherence_text.specs.Text.{LinesGive, ends, fails, goes_on}
 use Rattle.coherence_text.specs.Tables.{declared}
 use Rattle.coherence_text.proofs.Texts.{lines_after, split_is, others_are, others-length, given-few, few-weaken}
 use Rattle.coherence_text.proofs.text.take_lines.Goals as goal

@@ -1,7 +1,7 @@
 use Rattle.std.proofs.Common.{ℕ, ◌+◌, ◌≤◌, length, Result}
-use Rattle.text_model.specs.Declarations.{Declarations}
-use Rattle.text_model.specs.Text.{LinesGive, lines_of}
-use Rattle.text_model.specs.Numbered.{IsFew}
+use Rattle.coherence_text.specs.Declarations.{Declarations}
+use Rattle.coherence_text.specs.Text.{LinesGive, lines_of}
+use Rattle.coherence_text.specs.Numbered.{IsFew}
 use Rattle.coherence_text.specs.Tables.{declared, IsConsistent}
 use Rattle.coherence_text.proofs.text.take_lines.Given as goal
 

@@ -1,16 +1,16 @@
 use Rattle.std.proofs.Common.{rules, arith, ◌≡◌, ◌-◌, ◌⊎◌, inl, inr, true, false, not, Ok, [], ◌∷◌, ◌++◌, map, length, take, drop, Some, None, Err, sym, subst, ap, ◌∙◌}
 use Rattle.std.proofs.lemmas.List.{map-append}
 use Rattle.type_terms.specs.Terms.{Keeps}
-use Rattle.term_traversal.specs.Kept.{args-held-later}
-use Rattle.canonical_forms.specs.Values.{values_of, values-later}
-use Rattle.goal_evaluator.specs.Lists.{Every}
-use Rattle.goal_evaluator.specs.Operations.{is_yes}
-use Rattle.goal_evaluator.specs.Readings.{ResultHeld}
-use Rattle.goal_evaluator.specs.Responses.{is_identity_modulo_regions}
-use Rattle.goal_evaluator.specs.Replays.{run}
-use Rattle.goal_evaluator.specs.Rounds.{round}
+use Rattle.term_folds.specs.Kept.{args-held-later}
+use Rattle.infer_table.specs.Values.{values_of, values-later}
+use Rattle.evaluation.specs.Lists.{Every}
+use Rattle.evaluation.specs.Operations.{is_yes}
+use Rattle.evaluation.specs.Readings.{ResultHeld}
+use Rattle.evaluation.specs.Responses.{is_identity_modulo_regions}
+use Rattle.evaluation.specs.Replays.{run}
+use Rattle.evaluation.specs.Rounds.{round}
 use Rattle.infer_table.specs.Unification.{table_trees}
-use Rattle.canonical_responses.specs.Responses.{answer_trees}
+use Rattle.infer_table.specs.Responses.{answer_trees}
 use Rattle.evaluation.specs.Context.{NestedHeld, GoalIsHeld, nested_goal}
 use Rattle.evaluation.specs.Evaluating.{evaluation, goals_trees, nested_trees, replies_trees}
 use Rattle.evaluation.specs.Steps.{RoundEnds}

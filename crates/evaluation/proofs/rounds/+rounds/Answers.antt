@@ -1,7 +1,7 @@
 use Rattle.std.proofs.Common.{arith, ◌≡◌, suc, ◌-◌, map, Ok, Err, sym, subst, ap, ◌∙◌}
 use Rattle.infer_table.specs.Unification.{table_trees}
-use Rattle.goal_evaluator.specs.Replays.{run}
-use Rattle.goal_evaluator.specs.Rounds.{round, rounds}
+use Rattle.evaluation.specs.Replays.{run}
+use Rattle.evaluation.specs.Rounds.{round, rounds}
 use Rattle.evaluation.specs.Context.{nested_goal}
 use Rattle.evaluation.specs.Ends.{EndsIn}
 use Rattle.evaluation.specs.Evaluating.{evaluation, goals_trees, replies_trees, question_of, certainty_with}

@@ -1,9 +1,9 @@
 use Rattle.std.proofs.Common.{rules, ◌≡◌, true, false, Result, Err, refl, sym, ap, ◌∙◌}
 use Rattle.infer_table.specs.Unification.{table_trees}
-use Rattle.infer_table.specs.declared.goal.EqError.{EqError}
-use Rattle.infer_table.specs.declared.goal.EqError.TheVariants as Refusal
-use Rattle.canonical_forms.specs.Values.{values_of}
-use Rattle.canonical_responses.specs.Responses.{answer_trees}
+use Rattle.infer_table.specs.declared.certainty.EqError.{EqError}
+use Rattle.infer_table.specs.declared.certainty.EqError.TheVariants as Refusal
+use Rattle.infer_table.specs.Values.{values_of}
+use Rattle.infer_table.specs.Responses.{answer_trees}
 use Rattle.evaluation.specs.Errors.{eval_error}
 use Rattle.evaluation.specs.declared.error.EvalError.{EvalError}
 use Rattle.evaluation.specs.declared.error.EvalError.TheVariants.{NoSolution}

@@ -1,5 +1,5 @@
 use Rattle.infer_table.specs.Content.{content}
-use Rattle.canonical_forms.specs.Goals.{goal_resolved}
+use Rattle.infer_table.specs.Goals.{goal_resolved}
 use Rattle.evaluation.specs.Context.{nested_goal}
 use Rattle.evaluation.specs.Evaluating.{nested_trees}
 use Rattle.evaluation.proofs.Asking.{values-are}

@@ -1,4 +1,4 @@
-use Rattle.goal_frames.proofs.Programs.{handlers-are-programs}
+use Rattle.goal_frames.proofs.HandlerPrograms.{handlers-are-programs}
 use Rattle.goal_frames.proofs.handler.handlers_are_programs.Goals as goal
 
 pub returns : goal.returns

@@ -2,9 +2,9 @@ use Rattle.std.proofs.Common.{rules, ◌≡◌, true, sym, ◌∙◌, ap}
 use Rattle.infer_table.specs.Content.{content}
 use Rattle.infer_table.specs.Unification.{table_trees}
 use Rattle.infer_table.proofs.EquationFacts.{solved-sorted}
-use Rattle.canonical_forms.specs.Values.{values_of}
-use Rattle.canonical_responses.specs.Answers.{is_answer_to, have_same_sorts}
-use Rattle.canonical_responses.specs.Responses.{answer_trees}
+use Rattle.infer_table.specs.Values.{values_of}
+use Rattle.infer_table.specs.Answers.{is_answer_to, have_same_sorts}
+use Rattle.infer_table.specs.Responses.{answer_trees}
 use Rattle.root_goals.proofs.Answers.{agrees-with, well-posed}
 use Rattle.root_goals.proofs.Putting.{put-applied, on-ok}
 use Rattle.root_goals.proofs.applying.apply_answer.Goals as goal

@@ -1,9 +1,9 @@
 use Rattle.std.proofs.Common.{◌≡◌, refl, sym, ◌∙◌, ap, subst}
 use Rattle.infer_table.specs.Canonical.{canonical_form, goal_leaves}
-use Rattle.canonical_forms.specs.Goals.{GoalHeld, goal_trees}
-use Rattle.canonical_forms.specs.Leaves.{labels}
-use Rattle.canonical_forms.proofs.Numbers.{goal-held-later, goal-trees-later}
-use Rattle.solver_graph.proofs.Growing.{later}
+use Rattle.infer_table.specs.Goals.{GoalHeld, goal_trees}
+use Rattle.infer_table.specs.Leaves.{labels}
+use Rattle.infer_table.proofs.Numbers.{goal-held-later, goal-trees-later}
+use Rattle.root_goals.proofs.Growing.{later}
 use Rattle.root_goals.proofs.Later.{keeps-further, goal-in-later}
 use Rattle.root_goals.proofs.asking.ask.Goals as goal
 

@@ -3,15 +3,15 @@ use Rattle.infer_table.specs.Canonical.{goal_leaves}
 use Rattle.infer_table.specs.Content.{variables_of}
 use Rattle.infer_table.specs.Kept.{content-kept, ready-later}
 use Rattle.infer_table.specs.Solutions.{Solves}
-use Rattle.infer_table.specs.declared.goal.EqError.{EqError}
-use Rattle.infer_table.specs.declared.goal.EqError.TheVariants as Eq
-use Rattle.canonical_forms.specs.Values.{values_of}
-use Rattle.canonical_forms.proofs.Numbers.{goal-held-later, goal-trees-later}
-use Rattle.canonical_responses.specs.Covers.{IsOfKnown}
-use Rattle.canonical_responses.specs.Responses.{answer_trees}
+use Rattle.infer_table.specs.declared.certainty.EqError.{EqError}
+use Rattle.infer_table.specs.declared.certainty.EqError.TheVariants as Eq
+use Rattle.infer_table.specs.Values.{values_of}
+use Rattle.infer_table.proofs.Numbers.{goal-held-later, goal-trees-later}
+use Rattle.infer_table.specs.Covers.{IsOfKnown}
+use Rattle.infer_table.specs.Responses.{answer_trees}
 use Rattle.goal_frames.specs.Readings.{result_read}
-use Rattle.solver_graph.specs.Searching.{solver_meaning}
-use Rattle.solver_graph.proofs.Growing.{later, keeps}
+use Rattle.root_goals.specs.Searching.{solver_meaning}
+use Rattle.root_goals.proofs.Growing.{later, keeps}
 use Rattle.root_goals.specs.Errors.{error_of_equation}
 use Rattle.root_goals.specs.Evaluations.{asked_in}
 use Rattle.root_goals.specs.declared.outcome.GoalEvaluation.{GoalEvaluation}

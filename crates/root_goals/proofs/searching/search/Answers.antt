@@ -1,8 +1,8 @@
 use Rattle.std.proofs.Common.{◌∙◌, ap, Err}
-use Rattle.frame_tables.specs.Tables.{frame_tables}
-use Rattle.frame_searches.proofs.Orders.{keeps_order}
-use Rattle.solver_graph.specs.Contexts.{goal_of}
-use Rattle.solver_graph.specs.Searching.{programs, handles, world_of}
+use Rattle.evaluation_laws.specs.Tables.{frame_tables}
+use Rattle.goal_frames.proofs.Orders.{keeps_order}
+use Rattle.root_goals.specs.Contexts.{goal_of}
+use Rattle.root_goals.specs.Searching.{programs, handles, world_of}
 use Rattle.root_goals.proofs.searching.search.Goals as goal
 
 -- no frame makes a request out of order

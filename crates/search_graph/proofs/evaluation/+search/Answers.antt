@@ -1,25 +1,25 @@
 use Rattle.std.proofs.Common.{subst, Some, slice_get, ◌⊎◌, inl, inr, cond, false, rules, ◌≡◌, ℕ, ◌+◌, ◌*◌, ◌<◌, ◌≤◌, [], ◌∷◌, ◌++◌, length, max, slice_set, true, sym, ◌∙◌, ap, refl, arith}
 use Rattle.std.proofs.lemmas.Result.{IfOk-weaker, err_from_is_err_and}
-use Rattle.search_paths.specs.declared.path_kind.PathKind.TheVariants.{Inductive}
-use Rattle.search_steps.specs.declared.delegate.Request.TheVariants.{Evaluate, EnterCandidate, FinishCandidate, IgnoreCandidate, Done}
-use Rattle.search_steps.specs.declared.delegate.Reply.TheVariants.{Entered, Finished, Ignored}
-use Rattle.search_steps.specs.Meaning.{finished, ignoring, answer_count}
-use Rattle.search_paths.specs.Nested.{covered, one_goal}
-use Rattle.search_steps.proofs.Ranges.{in_range_none, in_range_one, in_range_goal, in_range_gather, in_range_later, at_end}
+use Rattle.search_graph.specs.declared.path_kind.PathKind.TheVariants.{Inductive}
+use Rattle.search_graph.specs.declared.delegate.Request.TheVariants.{Evaluate, EnterCandidate, FinishCandidate, IgnoreCandidate, Done}
+use Rattle.search_graph.specs.declared.delegate.Reply.TheVariants.{Entered, Finished, Ignored}
+use Rattle.search_graph.specs.Meaning.{finished, ignoring, answer_count}
+use Rattle.search_graph.specs.Nested.{covered, one_goal}
+use Rattle.search_graph.proofs.Ranges.{in_range_none, in_range_one, in_range_goal, in_range_gather, in_range_later, at_end}
 use Rattle.std.proofs.lemmas.Option.{none-some}
 use Rattle.search_graph.proofs.Depths.{depth_below, depth_gathered, kept_within}
-use Rattle.search_steps.specs.Stack.{question_of, path_onto, span_of_newest}
-use Rattle.search_steps.specs.Cache.{IsNumberOf}
-use Rattle.search_steps.specs.Chain.{IsAskedUnder}
-use Rattle.search_steps.specs.Computed.{IsGivenWithin, nothing, also, below}
+use Rattle.search_graph.specs.Stack.{question_of, path_onto, span_of_newest}
+use Rattle.search_graph.specs.Cache.{IsNumberOf}
+use Rattle.search_graph.specs.Chain.{IsAskedUnder}
+use Rattle.search_graph.specs.Computed.{IsGivenWithin, nothing, also, below}
 use Rattle.search_graph.specs.Bound.{question_bound}
-use Rattle.search_steps.specs.Plain.{IsNotPlain}
-use Rattle.search_steps.specs.Faithful.{AllDescend}
-use Rattle.search_steps.proofs.Errors.{err_passed}
-use Rattle.search_steps.proofs.Numbers.{one_number}
-use Rattle.search_steps.proofs.Graphs.{IsStack-now, path-now, IsEntry-now, IsProvisional-then, IsAnswer-then, answer_of_run, running_next_counted, running_first_counted, running_other, running_done, asked_now, hears_other, hears_next, misstep_now, due_next, due_other, Keeps-refl, Keeps-trans, IsStack-push, path_onto-append, length-path_onto, path_length, AreCached-later, provisional_alone, overflow_answers, overflow_stands}
-use Rattle.search_steps.proofs.Faithfuls.{true_not_false, not_plain_at_zero, AllDescend-higher, conflict_up, plain_first, plain_next_at, plain_entered, plain_finished, plain_ignored, plain_done, untouched_first, untouched_not_plain, faithful_not_plain, faithful_taken, faithful_at_zero, kept_of_faithful, IsFaithful-less, reach_within}
-use Rattle.search_steps.proofs.Limits.{unnoted, either_noted, not_both, told_within, AreLastWithin-now, AreLastWithin-push, AreCachedWithin-keeps}
+use Rattle.search_graph.specs.Plain.{IsNotPlain}
+use Rattle.search_graph.specs.Faithful.{AllDescend}
+use Rattle.search_graph.proofs.Errors.{err_passed}
+use Rattle.search_graph.proofs.Numbers.{one_number}
+use Rattle.search_graph.proofs.Graphs.{IsStack-now, path-now, IsEntry-now, IsProvisional-then, IsAnswer-then, answer_of_run, running_next_counted, running_first_counted, running_other, running_done, asked_now, hears_other, hears_next, misstep_now, due_next, due_other, Keeps-refl, Keeps-trans, IsStack-push, path_onto-append, length-path_onto, path_length, AreCached-later, provisional_alone, overflow_answers, overflow_stands}
+use Rattle.search_graph.proofs.Faithfuls.{true_not_false, not_plain_at_zero, AllDescend-higher, conflict_up, plain_first, plain_next_at, plain_entered, plain_finished, plain_ignored, plain_done, untouched_first, untouched_not_plain, faithful_not_plain, faithful_taken, faithful_at_zero, kept_of_faithful, IsFaithful-less, reach_within}
+use Rattle.search_graph.proofs.Limits.{unnoted, either_noted, not_both, told_within, AreLastWithin-now, AreLastWithin-push, AreCachedWithin-keeps}
 use Rattle.search_graph.proofs.Bounds.{frame_bound_runs, nested_within, one_more_run, runs_within, done_within, asked_within, asked_more}
 use Rattle.search_graph.proofs.evaluation.+search.Goals as goal
 
@@ -1416,7 +1416,7 @@ pub evaluate-returns-in-Some-clause-known : goal.evaluate-returns-in-Some-clause
 evaluate-returns-in-Some-clause-known g t c = λ place e at same within clear.
     let found = rw c.in-Some.is at c.in_ok-place.ensures.found in
     let items : c.number_of.new.self.entries.items ≡ c.args.cache.now.entries.items = ap (λ v. v.items) c.number_of.ensures.entries in
-    IfOk-weaker c.use_cached.result _ _ (λ o told. (c.in-Some.place, found.0, subst (λ es. slice_get es c.in-Some.place ≡ Some found.0) items found.1, found.2.same, found.2.within, (told found.0 found.1).0)) c.use_cached.ensures.same
+    IfOk-weaker c.use_cached.result _ _ (λ o told. (c.in-Some.place, found.0, subst (λ es. slice_get es c.in-Some.place ≡ Some found.0) items found.1, found.2.same, sym (told found.0 found.1).0, found.2.within)) c.use_cached.ensures.same
 
 pub evaluate-returns-in_ok-add_goal-in-Some-find_cycle-clause-known : goal.evaluate-returns-in_ok-add_goal-in-Some-find_cycle-clause-known
 evaluate-returns-in_ok-add_goal-in-Some-find_cycle-clause-known g t c = λ place e at same within clear.

@@ -1,12 +1,12 @@
 use Rattle.std.proofs.Common.{◌<◌, ◌⊎◌, true, false, List, ◌≡◌, ◌≤◌, length, max, ℕ, ◌+◌, ◌*◌, [], ◌∷◌, ◌++◌}
-use Rattle.search_steps.specs.Meaning.{Keeps, is_open, finished, answer_count}
-use Rattle.search_paths.specs.Nested.{covered, one_goal}
-use Rattle.search_steps.specs.Chain.{AreInRange}
-use Rattle.search_steps.specs.Cache.{KeepsNumbers, KeepsResults}
-use Rattle.search_steps.specs.Computed.{Hears, IsGivenWithin}
-use Rattle.search_steps.specs.Stack.{question_of, path_onto, span_of_newest, IsEntry, IsRunning, AreCached, IsLastWithin, AreLastWithin, AreCachedWithin}
-use Rattle.search_steps.specs.Plain.{IsNotPlain}
-use Rattle.search_steps.specs.Faithful.{AllDescend, IsOnPlainTrack, IsUntouched}
+use Rattle.search_graph.specs.Meaning.{Keeps, is_open, finished, answer_count}
+use Rattle.search_graph.specs.Nested.{covered, one_goal}
+use Rattle.search_graph.specs.Chain.{AreInRange}
+use Rattle.search_graph.specs.Cache.{KeepsNumbers, KeepsResults}
+use Rattle.search_graph.specs.Computed.{Hears, IsGivenWithin}
+use Rattle.search_graph.specs.Stack.{question_of, path_onto, span_of_newest, IsEntry, IsRunning, AreCached, IsLastWithin, AreLastWithin, AreCachedWithin}
+use Rattle.search_graph.specs.Plain.{IsNotPlain}
+use Rattle.search_graph.specs.Faithful.{AllDescend, IsOnPlainTrack, IsUntouched}
 use Rattle.search_graph.specs.Bound.{question_bound}
 use Rattle.search_graph.proofs.evaluation.+search.Given as goal
 

@@ -1,6 +1,6 @@
 use Rattle.std.proofs.Common.{◌∙◌, ap, sym, subst}
-use Rattle.rule_handlers.specs.Books.{BookReady}
-use Rattle.rule_handlers.specs.declared.rule.RuleBook as Code
+use Rattle.rule_books.specs.Books.{BookReady}
+use Rattle.rule_books.specs.declared.rule.RuleBook as Code
 use Rattle.solver_tests.proofs.Books.{no-rules-ready, all-ready}
 use Rattle.solver_tests.proofs.rules.book.Goals as goal
 use Rattle.solver_tests.proofs.rules.book.Goals.{then-not-are_rules, else-not-are_rules}

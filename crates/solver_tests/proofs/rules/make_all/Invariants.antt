@@ -1,5 +1,5 @@
 use Rattle.type_terms.specs.Terms.{Keeps}
-use Rattle.rule_handlers.specs.Books.{BoundsHeld}
+use Rattle.rule_books.specs.Books.{BoundsHeld}
 use Rattle.solver_tests.proofs.rules.make_all.Given as goal
 
 abbrev pub invariant-loop-reference : goal.invariant-loop-reference

@@ -1,6 +1,6 @@
 use Rattle.type_terms.specs.Terms.{Keeps}
-use Rattle.goal_evaluator.specs.Lists.{Every}
-use Rattle.rule_handlers.specs.Books.{RuleHeld}
+use Rattle.evaluation.specs.Lists.{Every}
+use Rattle.rule_books.specs.Books.{RuleHeld}
 use Rattle.solver_tests.proofs.rules.make_rules.Given as goal
 
 abbrev pub invariant-loop-head : goal.invariant-loop-head

@@ -1,4 +1,4 @@
-use Rattle.rule_handlers.specs.Kept.{ready-kept}
+use Rattle.rule_books.specs.Kept.{ready-kept}
 use Rattle.solver_tests.proofs.solver.by_rules.Goals as goal
 
 pub begin-requires-clause-ready : goal.begin-requires-clause-ready

@@ -1,6 +1,6 @@
 use Rattle.type_terms.specs.Terms.{types}
-use Rattle.term_traversal.specs.Kept.{has-later}
-use Rattle.canonical_forms.proofs.Numbers.{goal-held-later}
+use Rattle.term_folds.specs.Kept.{has-later}
+use Rattle.infer_table.proofs.Numbers.{goal-held-later}
 use Rattle.solver_tests.proofs.solver.evaluate.Goals as goal
 
 pub returns-in_err-said-clause-unknown : goal.returns-in_err-said-clause-unknown

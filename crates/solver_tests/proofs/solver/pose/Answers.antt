@@ -1,4 +1,4 @@
-use Rattle.canonical_forms.proofs.Numbers.{goal-held-later}
+use Rattle.infer_table.proofs.Numbers.{goal-held-later}
 use Rattle.solver_tests.proofs.solver.pose.Goals as goal
 
 pub returns-clause-goal : goal.returns-clause-goal

@@ -1,9 +1,9 @@
 use Rattle.std.proofs.Common.{◌≡◌, ◌<◌, length, map, take}
 use Rattle.std.specs.Prelude.{All}
-use Rattle.text_model.specs.Declarations.{known}
-use Rattle.text_model.specs.Adding.{known_crate}
+use Rattle.coherence_text.specs.Declarations.{known}
+use Rattle.coherence_text.specs.Adding.{known_crate}
 use Rattle.coherence_text.specs.Tables.{declared}
-use Rattle.text_syntax.specs.Views.{name_texts}
+use Rattle.coherence_text.specs.LineViews.{name_texts}
 use Rattle.coherence_text.specs.Views.{numbers_of}
 use Rattle.coherence_text.proofs.tables.Tables.crate_ids.Given as goal
 

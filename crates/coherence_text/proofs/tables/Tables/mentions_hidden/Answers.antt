@@ -1,10 +1,10 @@
 use Rattle.std.proofs.Common.{◌∙◌, sym, ap, false}
 use Rattle.std.specs.List.{list_any}
 use Rattle.std.specs.Option.{option_map, option_map_or}
-use Rattle.text_model.specs.Faults.{is_hidden_from}
-use Rattle.text_model.specs.Mentions.{mentions}
+use Rattle.coherence_text.specs.Faults.{is_hidden_from}
+use Rattle.coherence_text.specs.Mentions.{mentions}
 use Rattle.coherence_text.specs.Tables.{declared}
-use Rattle.text_syntax.specs.Views.{mention_of, line_of}
+use Rattle.coherence_text.specs.LineViews.{mention_of, line_of}
 use Rattle.coherence_text.proofs.Each.{list_any-map}
 use Rattle.coherence_text.proofs.tables.Tables.mentions_hidden.Goals as goal
 

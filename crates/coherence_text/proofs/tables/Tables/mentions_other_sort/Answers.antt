@@ -1,8 +1,8 @@
 use Rattle.std.proofs.Common.{◌∙◌, sym, ap}
 use Rattle.std.specs.List.{list_any}
-use Rattle.text_model.specs.Faults.{is_other_sort}
+use Rattle.coherence_text.specs.Faults.{is_other_sort}
 use Rattle.coherence_text.specs.Tables.{declared}
-use Rattle.text_syntax.specs.Views.{mention_of}
+use Rattle.coherence_text.specs.LineViews.{mention_of}
 use Rattle.coherence_text.proofs.Each.{list_any-map}
 use Rattle.coherence_text.proofs.tables.Tables.mentions_other_sort.Goals as goal
 

@@ -1,5 +1,5 @@
 use Rattle.std.proofs.Common.{◌≡◌, map, take}
-use Rattle.text_model.specs.Declarations.{world_of}
+use Rattle.coherence_text.specs.Declarations.{world_of}
 use Rattle.coherence_text.specs.Tables.{declared, will_see}
 use Rattle.coherence_text.proofs.tables.Tables.seen_by.Given as goal
 

@@ -1,7 +1,7 @@
 use Rattle.std.proofs.Common.{◌≡◌, take}
 use Rattle.std.specs.Prelude.{filter}
 use Rattle.model.specs.Worlds.{sees}
-use Rattle.text_model.specs.Declarations.{world_of}
+use Rattle.coherence_text.specs.Declarations.{world_of}
 use Rattle.coherence_text.specs.Tables.{declared}
 use Rattle.coherence_text.proofs.tables.Tables.seen_from.Given as goal
 

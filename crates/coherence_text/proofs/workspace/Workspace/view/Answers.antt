@@ -1,7 +1,7 @@
 use Rattle.std.proofs.Common.{ap, sym, ◌∙◌}
 use Rattle.std.specs.Prelude.{map, filter}
 use Rattle.model.specs.Worlds.{sees}
-use Rattle.text_model.specs.Declarations.{world_of}
+use Rattle.coherence_text.specs.Declarations.{world_of}
 use Rattle.coherence_text.specs.Tables.{declared}
 use Rattle.coherence_text.specs.Views.{numbers_of, crate_of}
 use Rattle.coherence_text.proofs.Each.{filter-map, map-map}

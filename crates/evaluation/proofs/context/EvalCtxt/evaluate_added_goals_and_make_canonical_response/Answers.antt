@@ -2,12 +2,12 @@ use Rattle.std.proofs.Common.{◌≡◌, rules, subst, map, ◌∙◌, Ok}
 use Rattle.infer_table.proofs.PairFacts.{table-kept}
 use Rattle.evaluation.specs.Context.{NestedHeld, nested_goal}
 use Rattle.infer_table.specs.Unification.{table_trees}
-use Rattle.goal_evaluator.specs.Replays.{run}
-use Rattle.goal_evaluator.specs.Rounds.{rounds}
-use Rattle.goal_evaluator.specs.declared.TheConstants.{FIXPOINT_STEP_LIMIT}
+use Rattle.evaluation.specs.Replays.{run}
+use Rattle.evaluation.specs.Rounds.{rounds}
+use Rattle.evaluation.specs.declared.TheConstants.{FIXPOINT_STEP_LIMIT}
 use Rattle.evaluation.specs.Evaluating.{evaluation, goals_trees, replies_trees}
-use Rattle.canonical_forms.specs.Values.{values_of, values-later}
-use Rattle.canonical_responses.specs.Responses.{answer_trees}
+use Rattle.infer_table.specs.Values.{values_of, values-later}
+use Rattle.infer_table.specs.Responses.{answer_trees}
 use Rattle.evaluation.specs.OwnAnswers.{Says, answer_of}
 use Rattle.evaluation.specs.Steps.{RoundsEnd, RoundsHeld}
 use Rattle.evaluation.proofs.Contexts.{context-later, nested-later, ready-same}

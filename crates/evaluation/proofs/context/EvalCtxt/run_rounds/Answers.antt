@@ -1,9 +1,9 @@
 use Rattle.std.proofs.Common.{sym, subst, map}
 use Rattle.infer_table.specs.Content.{Ready}
 use Rattle.infer_table.specs.Unification.{table_trees}
-use Rattle.goal_evaluator.specs.Replays.{run}
-use Rattle.goal_evaluator.specs.Rounds.{rounds}
-use Rattle.goal_evaluator.specs.declared.TheConstants.{FIXPOINT_STEP_LIMIT}
+use Rattle.evaluation.specs.Replays.{run}
+use Rattle.evaluation.specs.Rounds.{rounds}
+use Rattle.evaluation.specs.declared.TheConstants.{FIXPOINT_STEP_LIMIT}
 use Rattle.evaluation.specs.Context.{Context, IsReady, NestedHeld, nested_goal}
 use Rattle.evaluation.specs.Evaluating.{evaluation, goals_trees, replies_trees}
 use Rattle.evaluation.specs.Steps.{RoundsEnd}

@@ -1,6 +1,6 @@
 use Rattle.std.proofs.Common.{map, subst, sym, None}
-use Rattle.canonical_forms.specs.Inputs.{form_of}
-use Rattle.goal_evaluator.specs.Readings.{StepHeld}
+use Rattle.infer_table.specs.Inputs.{form_of}
+use Rattle.evaluation.specs.Readings.{StepHeld}
 use Rattle.goal_frames.specs.Readings.{shown_by}
 use Rattle.goal_frames.specs.Fitting.{StepFits}
 use Rattle.goal_frames.specs.Places.{IsIgnoring, place_read}

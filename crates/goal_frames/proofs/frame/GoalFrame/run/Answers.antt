@@ -3,16 +3,16 @@ use Rattle.model.specs.Label.{principal}
 use Rattle.model.specs.Trees.{tree, none}
 use Rattle.type_terms.specs.Terms.{trees_at}
 use Rattle.type_terms.specs.declared.TraitId.{TraitId}
-use Rattle.canonical_forms.specs.Inputs.{form_of}
-use Rattle.canonical_responses.specs.Responses.{answer_trees}
+use Rattle.infer_table.specs.Inputs.{form_of}
+use Rattle.infer_table.specs.Responses.{answer_trees}
 use Rattle.evaluation.specs.Ends.{AnswerHeld}
 use Rattle.evaluation.specs.Evaluating.{question_of, replies_trees}
 use Rattle.evaluation.proofs.Contexts.{replies-later}
 use Rattle.evaluation.proofs.LaterTrees.{replies-trees-later}
-use Rattle.search_steps.specs.declared.delegate.Request.TheVariants.{Evaluate, FinishCandidate}
-use Rattle.frame_searches.specs.Searches.{step_kind}
-use Rattle.goal_evaluator.specs.History.{request}
-use Rattle.goal_evaluator.specs.Readings.{is_coinductive_step}
+use Rattle.search_graph.specs.declared.delegate.Request.TheVariants.{Evaluate, FinishCandidate}
+use Rattle.goal_frames.specs.Searches.{step_kind}
+use Rattle.evaluation.specs.History.{request}
+use Rattle.evaluation.specs.Readings.{is_coinductive_step}
 use Rattle.goal_frames.specs.Readings.{shown_by, spec_read}
 use Rattle.goal_frames.specs.Places.{Stands, place_read, IsAsking, IsFinishing}
 use Rattle.goal_frames.specs.Frames.{FrameHeld, RequestHeld, IsRequest}

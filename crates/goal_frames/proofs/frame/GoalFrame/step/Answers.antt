@@ -1,11 +1,11 @@
 use Rattle.std.proofs.Common.{◌≡◌, ◌∙◌, ◌∷◌, ◌+◌, suc, List, ℕ, Option, map, drop, ap, sym, subst, arith}
-use Rattle.canonical_forms.specs.Inputs.{form_of}
-use Rattle.canonical_forms.specs.declared.response.CanonicalResponse.{CanonicalResponse}
+use Rattle.infer_table.specs.Inputs.{form_of}
+use Rattle.infer_table.specs.declared.response.CanonicalResponse.{CanonicalResponse}
 use Rattle.evaluation.specs.Evaluating.{replies_trees}
-use Rattle.goal_evaluator.specs.History.{begin, entered, ignored, evaluated, finished, position, request, CameInOrder}
-use Rattle.goal_evaluator.specs.Promises.{frame_of_goal, Anything}
-use Rattle.goal_evaluator.specs.declared.candidate.Considered.{Considered}
-use Rattle.frame_tables.specs.Tables.{frame_tables}
+use Rattle.evaluation.specs.History.{begin, entered, ignored, evaluated, finished, position, request, CameInOrder}
+use Rattle.evaluation.specs.Promises.{frame_of_goal, Anything}
+use Rattle.evaluation.specs.declared.candidate.Considered.{Considered}
+use Rattle.evaluation_laws.specs.Tables.{frame_tables}
 use Rattle.goal_frames.specs.Readings.{shown_by, spec_read, result_read}
 use Rattle.goal_frames.specs.Places.{Standing, Stands, IsBetween, IsInside, IsIgnoring, place_read}
 use Rattle.goal_frames.specs.Frames.{FrameHeld, PlaceHeld, RequestHeld, IsRequest, Steps, reply_read}

@@ -1,12 +1,12 @@
 use Rattle.std.proofs.Common.{Some, slice_get, ◌≡◌, ◌+◌, ◌∙◌, sym, ap, subst, refl, [], inl, arith}
-use Rattle.search_steps.specs.Cache.{AreJustified, answers_in, known_result, known_results}
-use Rattle.search_steps.specs.Chain.{IsWithinDepth}
-use Rattle.search_steps.specs.Proof.{IsAmong}
-use Rattle.search_steps.proofs.Limits.{AreCachedWithin-among}
+use Rattle.search_graph.specs.Cache.{AreJustified, answers_in, known_result, known_results}
+use Rattle.search_graph.specs.Chain.{IsWithinDepth}
+use Rattle.search_graph.specs.Proof.{IsAmong}
+use Rattle.search_graph.proofs.Limits.{AreCachedWithin-among}
 use Rattle.search_graph.proofs.Proofs.{sound_answer}
-use Rattle.search_steps.proofs.Caches.{AreCached-known, AreJustified-known, known_at, entry_at}
-use Rattle.search_steps.proofs.Faithfuls.{true_not_false}
-use Rattle.search_steps.proofs.Errors.{err_passed, ok_not_err, empty_of_length}
+use Rattle.search_graph.proofs.Caches.{AreCached-known, AreJustified-known, known_at, entry_at}
+use Rattle.search_graph.proofs.Faithfuls.{true_not_false}
+use Rattle.search_graph.proofs.Errors.{err_passed, ok_not_err, empty_of_length}
 use Rattle.search_graph.proofs.graph.SearchGraph.evaluate_goal.Goals as goal
 use Rattle.search_graph.proofs.graph.SearchGraph.evaluate_goal.Goals.{in-Ok, in-Err}
 
@@ -107,8 +107,8 @@ returns-clause-known g c = λ place k at same within.
             known_result told.1,
             subst (λ ks. slice_get ks told.0 ≡ Some (known_result told.1)) c.cache.view_is (known_at c.cache.inside.results.entries.items told.0 told.1 told.2),
             told.3,
-            subst (λ d. IsWithinDepth told.1.encountered_overflow told.1.depth d) depth told.4,
-            told.5,
+            told.4,
+            subst (λ d. IsWithinDepth told.1.encountered_overflow told.1.depth d) depth told.5,
           ))
       | in-Err w ↦ rw w.result-is tt
     ]

@@ -1,5 +1,5 @@
 use Rattle.std.proofs.Common.{refl, ◌∙◌}
-use Rattle.model.specs.Label.{adt, reference, raw_pointer, array, slice, tuple, fn_ptr, dynamic}
+use Rattle.model.specs.Label.{adt, ref, raw_pointer, array, slice, tuple, fn_ptr, dynamic}
 use Rattle.model.specs.Trees.{◌+++◌}
 use Rattle.type_terms.specs.Terms.{trees_at}
 use Rattle.type_terms.specs.Kinds.{is_mut, region_trees}
@@ -12,7 +12,7 @@ returns-in-Adt c = rw c.in-Adt.is (c.plain.ensures ∙ info-plain (adt c.in-Adt.
 pub returns-in-Ref : goal.returns-in-Ref
 returns-in-Ref c =
     let children = c.join.ensures ∙ info-joined (region_trees c.in-Ref.region) (trees_at c.args.self.now.entries c.in-Ref.ty.0) c.region_info.result c.info-in-Ref.result c.region_info.ensures c.info-in-Ref.ensures.is in
-    rw c.in-Ref.is (c.plain-in-Ref.ensures ∙ info-plain (reference (is_mut c.in-Ref.field-2)) (region_trees c.in-Ref.region +++ trees_at c.args.self.now.entries c.in-Ref.ty.0) c.join.result children refl refl (λ n. refl))
+    rw c.in-Ref.is (c.plain-in-Ref.ensures ∙ info-plain (ref (is_mut c.in-Ref.field-2)) (region_trees c.in-Ref.region +++ trees_at c.args.self.now.entries c.in-Ref.ty.0) c.join.result children refl refl (λ n. refl))
 
 pub returns-in-RawPtr : goal.returns-in-RawPtr
 returns-in-RawPtr c = rw c.in-RawPtr.is (c.plain-in-RawPtr.ensures ∙ info-plain (raw_pointer (is_mut c.in-RawPtr.field-1)) _ _ c.info-in-RawPtr.ensures.is refl refl (λ n. refl))

@@ -1,0 +1,73 @@
+-- What a lawful frame keeps, in its histories.
+use Rattle.std.proofs.Common.{◌≡◌, ℕ, suc, ◌*◌, List, [], ◌∷◌, inl, inr, refl, Option}
+use Rattle.evaluation.specs.declared.TheConstants.{FIXPOINT_STEP_LIMIT}
+use Rattle.evaluation.specs.Lists.{IsAmong, IsNoneOf}
+use Rattle.evaluation.specs.Table.{Tables, IsTable}
+use Rattle.evaluation.specs.Frame.{Finished}
+use Rattle.evaluation.specs.Law.{AnsweredYes, Counts, IsInstance, Covers}
+use Rattle.evaluation.specs.Handler.{Handled, AnswerWithin, IsHandler, FollowsFrom}
+use Rattle.evaluation.specs.History.{finished_in, ignored_in}
+use Rattle.evaluation.specs.Promises.{frame_of_goal, Anything, Fair, DefiniteYesFollows, AnswerCoversGoal, IsBounded, KeepsNumber, IgnoresFinishedOnce}
+use Rattle.evaluation.proofs.ListLaws.{Every-mono, SomeOf-mono}
+use Rattle.evaluation.proofs.Frames.{FrameGains, FrameCovers, frame_gains, frame_covers, frame_ignores}
+use Rattle.evaluation.proofs.Costs.{frame_ends}
+use Rattle.evaluation.proofs.Numbers.{IsSmall, frame_stays}
+use Rattle.evaluation.proofs.Histories.{oldest_first, at_the_end, ignores_once, at_a_question, no_longer, asks_so, answers_so}
+
+among-later : {A : Type 0} (x : A) (xs more : List A) → IsAmong x more → IsAmong x (oldest_first xs more)
+among-later x [] more i = i
+among-later x (y ∷ xs) more i = among-later x xs (y ∷ more) (inr i)
+
+among-turned : {A : Type 0} (x : A) (xs more : List A) → IsAmong x xs → IsAmong x (oldest_first xs more)
+among-turned x [] more i = absurd i
+among-turned x (y ∷ xs) more (inl e) = among-later x xs (y ∷ more) (inl e)
+among-turned x (y ∷ xs) more (inr i) = among-turned x xs (y ∷ more) i
+
+module _ {Question Response : Type 0} (t : Tables Question Response) (h : Handled t) (handler : IsHandler t h) where
+  pub is_bounded : IsBounded t h
+  is_bounded = record {
+    questions = λ heard q came e. at_a_question (Anything t h) (FIXPOINT_STEP_LIMIT * h.number) (3 * h.candidates) (frame_of_goal t h) (frame_ends t FIXPOINT_STEP_LIMIT h handler (suc h.candidates)) heard q came e;
+    replies = λ heard came. no_longer (Anything t h) (FIXPOINT_STEP_LIMIT * h.number) (3 * h.candidates) (frame_of_goal t h) (frame_ends t FIXPOINT_STEP_LIMIT h handler (suc h.candidates)) heard came;
+  }
+
+  pub ignores_finished : IgnoresFinishedOnce t h
+  ignores_finished heard n came e = ignores_once (Anything t h) (frame_of_goal t h) (frame_ignores t h handler FIXPOINT_STEP_LIMIT (suc h.candidates) [] [] tt refl) heard n came e
+
+module _ {Question Response : Type 0} (t : Tables Question Response) (laws : IsTable t) (h : Handled t) (handler : IsHandler t h) where
+  -- the order of the ignored numbers does not matter
+  turned : (heard : List (Finished Question (Option Response))) (ignored : List ℕ) (v : t.Values) → FollowsFrom t h (IsInstance t (λ q. Counts t heard (oldest_first ignored []) q × (t.is_coinductive q ≡ h.coinductive)) v) v
+      → FollowsFrom t h (IsInstance t (λ q. Counts t heard ignored q × (t.is_coinductive q ≡ h.coinductive)) v) v
+  turned heard ignored v f = record {
+    premises = f.premises;
+    rule = f.rule;
+    each = Every-mono (IsInstance t (λ q. Counts t heard (oldest_first ignored []) q × (t.is_coinductive q ≡ h.coinductive)) v) (IsInstance t (λ q. Counts t heard ignored q × (t.is_coinductive q ≡ h.coinductive)) v)
+        (λ p i. (
+          i.0,
+          i.1,
+          (
+            SomeOf-mono (λ (c : Finished Question (Option Response)). IsNoneOf c.0 (oldest_first ignored []) × AnsweredYes t c.1 i.0)
+                (λ (c : Finished Question (Option Response)). IsNoneOf c.0 ignored × AnsweredYes t c.1 i.0) (λ c x. (λ j. x.0 (among-turned c.0 ignored [] j), x.1)) heard i.2.0,
+            i.2.1,
+          ),
+          i.3,
+          i.4,
+        ))
+        f.premises f.each;
+  }
+
+  pub yes_follows : DefiniteYesFollows t h
+  yes_follows heard a came e y v =
+      turned (finished_in (frame_of_goal t h) heard) (ignored_in (frame_of_goal t h) heard) v
+      (at_the_end (Anything t h) (FrameGains t laws h handler FIXPOINT_STEP_LIMIT) (frame_of_goal t h)
+      (frame_gains t laws h handler FIXPOINT_STEP_LIMIT (suc h.candidates) [] [] tt refl tt) heard a came e y v)
+
+  pub covers_goal : AnswerCoversGoal t h
+  covers_goal w heard a came e =
+      at_the_end (Covers t (h.Proves w)) (FrameCovers t laws h handler FIXPOINT_STEP_LIMIT w) (frame_of_goal t h)
+      (frame_covers t laws h handler FIXPOINT_STEP_LIMIT w (suc h.candidates) [] [] tt refl tt) heard a came e
+
+  pub keeps_number : KeepsNumber t h
+  keeps_number = record {
+    questions = λ heard q came e. asks_so (Fair t h) (IsSmall t laws h.widest) (AnswerWithin t h.widest) (frame_of_goal t h) (frame_stays t laws h handler FIXPOINT_STEP_LIMIT (suc h.candidates) [] tt tt) heard q came e;
+    answer = λ heard a came e. answers_so (Fair t h) (IsSmall t laws h.widest) (AnswerWithin t h.widest) (frame_of_goal t h) (frame_stays t laws h handler FIXPOINT_STEP_LIMIT (suc h.candidates) [] tt tt) heard a came e;
+  }

@@ -1,0 +1,18 @@
+-- Contexts that are ready.
+use Rattle.std.proofs.Common.{◌≡◌, List, [], sym, subst}
+use Rattle.type_terms.specs.Terms.{Entry}
+use Rattle.type_terms.specs.Kinds.{ArgsHeld}
+use Rattle.infer_table.specs.Content.{Ready}
+use Rattle.evaluation.specs.Lists.{Every}
+use Rattle.evaluation.specs.Readings.{ResultHeld}
+use Rattle.evaluation.specs.Context.{Context, NestedHeld, IsReady}
+
+-- one with neither goals nor replies
+pub ready-begun : (es : List Entry) (c : Context) → c.nested ≡ [] → c.replies ≡ [] → Ready es c.table → ArgsHeld es c.values → IsReady es c
+ready-begun es c e f r h = record { table = r; values = h; nested = subst (NestedHeld es) (sym e) tt; replies = subst (Every (ResultHeld es)) (sym f) tt }
+
+-- one that has heard these replies
+pub ready-heard : (es : List Entry) (c d : Context) → d ≡ record c { replies = d.replies } → IsReady es c → Every (ResultHeld es) d.replies → IsReady es d
+ready-heard es c d e r h =
+    let there : IsReady es (record c { replies = d.replies }) = record { table = r.table; values = r.values; nested = r.nested; replies = h } in
+    subst (IsReady es) (sym e) there

@@ -1,0 +1,16 @@
+use Rattle.std.proofs.Common.{◌≡◌, []}
+use Rattle.type_terms.specs.Kinds.{arg_trees}
+use Rattle.term_folds.specs.Pieces.{FoldsEach, one_piece}
+use Rattle.infer_table.specs.Values.{values_of, filled, filling}
+use Rattle.infer_table.proofs.Fillings.{filled-fold}
+use Rattle.evaluation.proofs.Handed.{if-ok}
+use Rattle.evaluation.proofs.trial.fill.Goals as goal
+
+pub returns-clause-filled : goal.returns-clause-filled
+returns-clause-filled c =
+    let es = c.args.cx.now.entries in
+    let end = c.fold_with.new.cx.entries in
+    let vs = values_of es c.args.values.now in
+    let x = c.args.term in
+    if-ok (λ a. FoldsEach (λ bs t. filling vs t) [] (one_piece (arg_trees es x)) (one_piece (arg_trees end a))) (λ a. arg_trees end a ≡ filled vs (arg_trees es x)) c.fold_with.result
+    (λ a h. filled-fold vs _ _ h.1) c.fold_with.ensures.folded

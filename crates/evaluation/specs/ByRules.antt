@@ -1,0 +1,18 @@
+-- Proofs by the rules of a set of crates and of where-clauses.
+use Rattle.std.specs.Prelude.{List}
+use Rattle.model.specs.Worlds.{World, Reference}
+use Rattle.model.specs.Rules.{Way, rules, is_coinductive}
+use Rattle.model.specs.Proofs.{In}
+use Rattle.model.specs.Proofs as Model
+use Rattle.evaluation.specs.Proof.{HasProof}
+
+-- one of the rules that conclude the reference has these premises
+abbrev pub HasRule : World → List Reference → Reference → List Reference → Type 0
+HasRule W E r premises = (way : Way) × In (record { way = way; premises = premises }) (rules W E r)
+
+abbrev pub HasProofByRules : World → List Reference → Reference → Type 0
+HasProofByRules W E r = HasProof Reference (HasRule W E) (λ s. is_coinductive W s.trait) r
+
+-- such a proof is one of the model
+abbrev pub ProofsAreProofs : Type 0
+ProofsAreProofs = (W : World) (E : List Reference) (r : Reference) → HasProofByRules W E r → Model.HasProof W E r

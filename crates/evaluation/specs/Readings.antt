@@ -1,0 +1,56 @@
+-- The handles of candidates and of what handlers say, and the kinds of steps.
+use Rattle.std.specs.Prelude.{◌≡◌, ℕ, Bool, false, List, [], map, reverse, Option, Some, None, option_map}
+use Rattle.model.specs.Label.{principal}
+use Rattle.model.specs.Trees.{Trees, none, tree}
+use Rattle.type_terms.specs.Terms.{Entry}
+use Rattle.type_terms.specs.Kinds.{ArgHeld}
+use Rattle.infer_table.specs.declared.canonical.CanonicalVarKind.{CanonicalVarKind}
+use Rattle.infer_table.specs.declared.terms.Equation.{Equation}
+use Rattle.infer_table.specs.Canonical.{GoalTrees, CanonicalForm}
+use Rattle.infer_table.specs.Constraints.{constraints_trees}
+use Rattle.infer_table.specs.Content.{AllConstraintsHeld}
+use Rattle.infer_table.specs.declared.goal.Goal.{Goal}
+use Rattle.infer_table.specs.declared.response.CanonicalResponse.{CanonicalResponse}
+use Rattle.infer_table.specs.Goals.{GoalHeld, goal_trees}
+use Rattle.infer_table.specs.Values.{Value, value_of}
+use Rattle.infer_table.specs.Responses.{AnswerTrees, answer_trees, ResponseHeld}
+use Rattle.evaluation.specs.declared.candidate.CandidateSource.{CandidateSource}
+use Rattle.evaluation.specs.declared.candidate.CandidateSpec.{CandidateSpec}
+use Rattle.evaluation.specs.declared.candidate.Considered as Code
+use Rattle.evaluation.specs.declared.candidate.HandlerStep.{HandlerStep}
+use Rattle.evaluation.specs.declared.candidate.HandlerStep.TheVariants.{Consider, Answer, NoSolution}
+use Rattle.evaluation.specs.declared.goal.GoalSource.{GoalSource}
+use Rattle.evaluation.specs.declared.goal.GoalSource.TheVariants.{Misc, ImplWhereBound}
+use Rattle.evaluation.specs.Lists.{Every}
+use Rattle.evaluation.specs.Table.{Tables, workings}
+use Rattle.evaluation.specs.Candidate.{Spec, Considered, Next, consider, answer}
+
+-- the goal is one of this trait
+abbrev pub IsOfTrait : ℕ → CanonicalForm → Type 0
+IsOfTrait n f = (args : Trees) × (f.goal.predicate ≡ tree (principal 0 n) args none)
+
+-- a step is coinductive if it leads to a premise, and the asking goal's trait is coinductive
+abbrev pub is_coinductive_step : Bool → GoalSource → Bool
+is_coinductive_step coinductive Misc = false
+is_coinductive_step coinductive ImplWhereBound = coinductive
+
+-- ---- the handles are an interner's
+abbrev pub ResultHeld : List Entry → Option CanonicalResponse → Type 0
+ResultHeld es None = Unit {0}
+ResultHeld es (Some r) = ResponseHeld es r
+
+abbrev pub ConsideredHeld : List Entry → List Code.Considered → Type 0
+ConsideredHeld es done = Every (λ (d : Code.Considered). ResultHeld es d.result) done
+
+abbrev pub EquationHeld : List Entry → Equation → Type 0
+EquationHeld es e = ArgHeld es e.left × ArgHeld es e.right
+
+pub record SpecHeld (es : List Entry) (s : CandidateSpec) : Type 0 where
+  pub equations : Every (EquationHeld es) s.equations.items
+  pub constraints : AllConstraintsHeld es s.region_constraints.items
+  pub nested : Every (λ (n : GoalSource × Goal). GoalHeld es n.1) s.nested_goals.items
+
+abbrev pub StepHeld : List Entry → HandlerStep → Type 0
+StepHeld es (Consider s) = SpecHeld es s
+StepHeld es (Answer r ignored) = ResponseHeld es r
+StepHeld es NoSolution = Unit {0}

@@ -1,0 +1,28 @@
+-- How the evaluation of a candidate ends.
+use Rattle.std.specs.Prelude.{◌≡◌, List, Option, Result, Ok, Err}
+use Rattle.type_terms.specs.Terms.{Entry}
+use Rattle.infer_table.specs.declared.canonical.CanonicalVarKind.{CanonicalVarKind}
+use Rattle.infer_table.specs.Unification.{table_trees}
+use Rattle.infer_table.specs.Values.{values_of}
+use Rattle.infer_table.specs.declared.response.CanonicalResponse.{CanonicalResponse}
+use Rattle.infer_table.specs.Responses.{AnswerTrees, answer_trees}
+use Rattle.evaluation.specs.Replays.{Run}
+use Rattle.evaluation.specs.declared.context.EvalStep.{EvalStep}
+use Rattle.evaluation.specs.declared.context.EvalStep.TheVariants.{Ready, Ask}
+use Rattle.evaluation.specs.declared.error.EvalError.{EvalError}
+use Rattle.evaluation.specs.declared.error.EvalError.TheVariants.{NoSolution, OutOf}
+use Rattle.evaluation.specs.Ends.{IsRefused, Awaits, EndsIn}
+use Rattle.evaluation.specs.Evaluating.{Question, question_of}
+use Rattle.evaluation.specs.declared.trial.Trial.{Trial}
+use Rattle.evaluation.specs.Frames.{FrameTrees}
+
+-- a candidate that is tried, over trees
+abbrev pub trial_trees : List Entry → List CanonicalVarKind → Trial → FrameTrees
+trial_trees es kinds t = record { kinds = kinds; own = values_of es t.own.items; values = values_of es t.values.items; table = table_trees es t.table }
+
+-- a fault is no end
+abbrev pub CandidateEnds : List Entry → Run Question (Option AnswerTrees) (Option AnswerTrees) → Result (EvalStep CanonicalResponse) EvalError → Type 0
+CandidateEnds es r (Err (OutOf fault)) = Unit {0}
+CandidateEnds es r (Err NoSolution) = IsRefused r
+CandidateEnds es r (Ok (Ask input source)) = Awaits r (question_of es input source)
+CandidateEnds es r (Ok (Ready answer)) = EndsIn (λ a more. answer_trees es answer ≡ a) r

@@ -1,0 +1,362 @@
+//! Candidates, evaluated over the replies that are there.
+ghost use Rattle.std.specs.Prelude.{◌≡◌, List, [], ◌∷◌, ◌++◌, map, OnOk, IfOk, Some, None, option_map, Err};
+ghost use Rattle.type_terms.specs.Terms.{Entry, Keeps};
+ghost use Rattle.type_terms.specs.Kinds.{ArgHeld, ArgsHeld, arg_trees};
+ghost use Rattle.infer_table.specs.Content.{Ready, IsHeldConstraint, AllConstraintsHeld};
+ghost use Rattle.infer_table.specs.Constraints.{constraints_trees};
+ghost use Rattle.infer_table.specs.Unification.{table_trees, unified};
+ghost use Rattle.infer_table.specs.Worklists.{equation_trees};
+ghost use Rattle.infer_table.specs.Goals.{GoalHeld};
+ghost use Rattle.infer_table.specs.Values.{value_of, values_of, filled};
+ghost use Rattle.infer_table.specs.Applied.{with_constraints};
+ghost use Rattle.infer_table.specs.Applying.{next_unknown, with_unknown};
+ghost use Rattle.infer_table.specs.Responses.{answer_trees};
+ghost use Rattle.evaluation.specs.Lists.{Every};
+ghost use Rattle.evaluation.specs.Readings.{EquationHeld, SpecHeld, ResultHeld};
+ghost use Rattle.evaluation.specs.Replays.{run};
+ghost use Rattle.evaluation.specs.Context.{IsReady};
+ghost use Rattle.evaluation.specs.Ends.{AnswerHeld};
+ghost use Rattle.evaluation.specs.Evaluating.{goals_trees, replies_trees};
+ghost use Rattle.evaluation.specs.Frames.{begun, fresh, unknowns, with_unknowns, pair_filled, solved, nested_filled};
+ghost use Rattle.evaluation.specs.Trial.{equations_trees, premises_trees, spec_trees, asked, candidate};
+ghost use Rattle.evaluation.specs.TrialEnds.{trial_trees, CandidateEnds};
+
+use crate::candidate::CandidateSpec;
+use crate::context::{EvalCtxt, EvalStep};
+use crate::error::EvalError;
+use crate::goal::GoalSource;
+use infer_table::canonical::CanonicalVarKind;
+use infer_table::goal::Goal;
+use infer_table::infer_ctxt::InferCtxt;
+use infer_table::input::CanonicalInput;
+use infer_table::instantiate::{CanonicalInstantiator, instantiate_with_values};
+use infer_table::response::CanonicalResponse;
+use infer_table::terms::{Equation, RegionConstraint};
+use infer_table::unknowns::instantiate_canonical;
+use std::alloc::Global;
+use term_folds::foldable::TypeFoldable;
+use type_terms::Fault;
+use type_terms::interner::Interner;
+use type_terms::kinds::GenericArgKind;
+
+/// A candidate that is being tried.
+#[derive(Drop)]
+struct Trial {
+    table: InferCtxt,
+    /// What stands for the goal's variables.
+    own: Vec<GenericArgKind>,
+    /// What stands for the variables of the candidate's terms: for the goal's, and then for the candidate's own.
+    values: Vec<GenericArgKind>,
+}
+
+/// Evaluates a candidate of a goal, over the replies to its questions so far: it begins anew, and where no reply is left it
+/// answers with the question that is next.
+///
+/// In an empty table the goal's variables become new unknowns, and those that stand for any term become placeholders; then the
+/// candidate's own variables become new unknowns. Its equations are to hold, one after the other, its constraints on lifetimes
+/// are recorded, and its nested goals are asked in rounds. `NoSolution` says that an equation or a goal was refused: want of
+/// room or memory is a fault, and refuses no candidate. The answer is no surer than the candidate can be.
+///
+/// What comes of it is a function of trees: no handle decides anything. `EvalCtxt::probe_trait_candidate` of the original.
+pub fn evaluate_candidate(
+    alloc: Global,
+    cx: &mut Interner,
+    input: &CanonicalInput,
+    spec: &CandidateSpec,
+    replies: &[Option<CanonicalResponse>],
+) -> Result<EvalStep<CanonicalResponse>, EvalError>
+    requires goal { GoalHeld cx.old.entries input.now.goal }
+    requires spec { SpecHeld cx.old.entries spec.now }
+    requires replies { Every (ResultHeld cx.old.entries) replies.now }
+    ensures keeps { Keeps cx.old.entries cx.new.entries }
+    ensures limit { cx.new.limit ≡ cx.old.limit }
+    ensures held { IfOk result (λ s. AnswerHeld cx.new.entries s) }
+    ensures runs { CandidateEnds cx.new.entries (run (candidate input.now.mode (begun input.now.variables.items) (spec_trees cx.old.entries spec.now)) (replies_trees cx.old.entries replies.now)) result }
+{
+    let mut trial = begin(alloc, cx, input, &spec.variables)?;
+    equate_all(alloc, cx, &mut trial.table, &trial.values, &spec.equations)?;
+    record_constraints(
+        alloc,
+        cx,
+        &mut trial.table,
+        &trial.values,
+        &spec.region_constraints,
+    )?;
+    evaluate_nested(alloc, cx, trial, input, spec, replies)
+}
+
+/// An empty table, with what stands in it for the variables of the goal and for these of the candidate.
+fn begin(
+    alloc: Global,
+    cx: &mut Interner,
+    input: &CanonicalInput,
+    variables: &[CanonicalVarKind],
+) -> Result<Trial, Fault>
+    requires goal { GoalHeld cx.old.entries input.now.goal }
+    ensures keeps { Keeps cx.old.entries cx.new.entries }
+    ensures limit { cx.new.limit ≡ cx.old.limit }
+    ensures ready { IfOk result (λ t. Ready cx.new.entries t.table) }
+    ensures own { IfOk result (λ t. ArgsHeld cx.new.entries t.own.items) }
+    ensures values { IfOk result (λ t. ArgsHeld cx.new.entries t.values.items) }
+    ensures is { IfOk result (λ t. trial_trees cx.new.entries input.now.variables.items t ≡ fresh (begun input.now.variables.items) variables.now) }
+{
+    let mut table = InferCtxt::new(alloc);
+    let instantiated = instantiate_canonical(alloc, cx, &mut table, input)?;
+    cx.lawful();
+    let own = instantiated.values;
+    let mut values = Vec::from_slice(alloc, &own)?;
+    add_unknowns(cx, &mut table, variables, &mut values)?;
+    Ok(Trial { table, own, values })
+}
+
+/// Puts a new unknown of each kind behind these values.
+fn add_unknowns(
+    cx: &mut Interner,
+    table: &mut InferCtxt,
+    kinds: &[CanonicalVarKind],
+    values: &mut Vec<GenericArgKind>,
+) -> Result<(), Fault>
+    requires ready { Ready cx.old.entries table.old }
+    requires held { ArgsHeld cx.old.entries values.old.items }
+    ensures ready { Ready cx.new.entries table.new }
+    ensures keeps { Keeps cx.old.entries cx.new.entries }
+    ensures limit { cx.new.limit ≡ cx.old.limit }
+    ensures held { OnOk result (ArgsHeld cx.new.entries values.new.items) }
+    ensures values { OnOk result (values_of cx.new.entries values.new.items ≡ values_of cx.old.entries values.old.items ++ unknowns (table_trees cx.old.entries table.old) kinds.now) }
+    ensures made { OnOk result (table_trees cx.new.entries table.new ≡ with_unknowns (table_trees cx.old.entries table.old) kinds.now) }
+{
+    for kind in kinds {
+        let unknown = new_unknown(cx, table, *kind)?;
+        values.push(unknown)?;
+    }
+    Ok(())
+}
+
+/// A new unknown of this kind; for a kind of placeholders, one of their sort.
+fn new_unknown(
+    cx: &mut Interner,
+    table: &mut InferCtxt,
+    kind: CanonicalVarKind,
+) -> Result<GenericArgKind, Fault>
+    requires ready { Ready cx.old.entries table.old }
+    ensures ready { Ready cx.new.entries table.new }
+    ensures keeps { Keeps cx.old.entries cx.new.entries }
+    ensures limit { cx.new.limit ≡ cx.old.limit }
+    ensures is { IfOk result (λ a. (es : List Entry) → value_of cx.new.entries a ≡ next_unknown (table_trees es table.old) kind) }
+    ensures held { IfOk result (λ a. ArgHeld cx.new.entries a) }
+    ensures made { OnOk result ((es : List Entry) → table_trees es table.new ≡ with_unknown (table_trees es table.old) kind) }
+{
+    match kind {
+        CanonicalVarKind::Ty | CanonicalVarKind::PlaceholderTy => {
+            let ty = table.next_ty_var(cx)?;
+            Ok(GenericArgKind::Ty(ty))
+        }
+        CanonicalVarKind::Const | CanonicalVarKind::PlaceholderConst => {
+            let ct = table.next_const_var(cx)?;
+            Ok(GenericArgKind::Const(ct))
+        }
+        CanonicalVarKind::Region => {
+            let region = table.next_region_var()?;
+            Ok(GenericArgKind::Lifetime(region))
+        }
+    }
+}
+
+/// Makes the sides of each equation equal, in order, with the values in the place of variables.
+fn equate_all(
+    alloc: Global,
+    cx: &mut Interner,
+    table: &mut InferCtxt,
+    values: &[GenericArgKind],
+    equations: &[Equation],
+) -> Result<(), EvalError>
+    requires ready { Ready cx.old.entries table.old }
+    requires values { ArgsHeld cx.old.entries values.now }
+    requires equations { Every (EquationHeld cx.old.entries) equations.now }
+    ensures ready { Ready cx.new.entries table.new }
+    ensures keeps { Keeps cx.old.entries cx.new.entries }
+    ensures limit { cx.new.limit ≡ cx.old.limit }
+    ensures solved { OnOk result (solved (table_trees cx.old.entries table.old) (map (pair_filled (values_of cx.old.entries values.now)) (equations_trees cx.old.entries equations.now)) ≡ Some (table_trees cx.new.entries table.new)) }
+    ensures refused { result ≡ Err EvalError.NoSolution → solved (table_trees cx.old.entries table.old) (map (pair_filled (values_of cx.old.entries values.now)) (equations_trees cx.old.entries equations.now)) ≡ None }
+{
+    for equation in equations {
+        equate(alloc, cx, table, values, equation)?;
+    }
+    Ok(())
+}
+
+/// Makes the sides of an equation equal, with the values in the place of variables.
+fn equate(
+    alloc: Global,
+    cx: &mut Interner,
+    table: &mut InferCtxt,
+    values: &[GenericArgKind],
+    equation: &Equation,
+) -> Result<(), EvalError>
+    requires ready { Ready cx.old.entries table.old }
+    requires values { ArgsHeld cx.old.entries values.now }
+    requires equation { EquationHeld cx.old.entries equation.now }
+    ensures ready { Ready cx.new.entries table.new }
+    ensures keeps { Keeps cx.old.entries cx.new.entries }
+    ensures limit { cx.new.limit ≡ cx.old.limit }
+    ensures solved { OnOk result (unified (table_trees cx.old.entries table.old) (pair_filled (values_of cx.old.entries values.now) (equation_trees cx.old.entries equation.now) ∷ []) ≡ Some (table_trees cx.new.entries table.new)) }
+    ensures refused { result ≡ Err EvalError.NoSolution → unified (table_trees cx.old.entries table.old) (pair_filled (values_of cx.old.entries values.now) (equation_trees cx.old.entries equation.now) ∷ []) ≡ None }
+{
+    let left = fill(alloc, cx, values, equation.left)?;
+    let right = fill(alloc, cx, values, equation.right)?;
+    match table.eq(cx, left, right) {
+        Ok(()) => Ok(()),
+        Err(error) => Err(EvalError::from(error)),
+    }
+}
+
+/// The term with the values in the place of variables.
+fn fill(
+    alloc: Global,
+    cx: &mut Interner,
+    values: &[GenericArgKind],
+    term: GenericArgKind,
+) -> Result<GenericArgKind, Fault>
+    requires values { ArgsHeld cx.old.entries values.now }
+    requires term { ArgHeld cx.old.entries term }
+    ensures keeps { Keeps cx.old.entries cx.new.entries }
+    ensures limit { cx.new.limit ≡ cx.old.limit }
+    ensures held { IfOk result (λ a. ArgHeld cx.new.entries a) }
+    ensures filled { IfOk result (λ a. arg_trees cx.new.entries a ≡ filled (values_of cx.old.entries values.now) (arg_trees cx.old.entries term)) }
+{
+    term.fold_with(alloc, cx, &CanonicalInstantiator { values })
+}
+
+/// Records each constraint, in order, with the values in the place of variables.
+fn record_constraints(
+    alloc: Global,
+    cx: &mut Interner,
+    table: &mut InferCtxt,
+    values: &[GenericArgKind],
+    constraints: &[RegionConstraint],
+) -> Result<(), Fault>
+    requires ready { Ready cx.old.entries table.old }
+    requires values { ArgsHeld cx.old.entries values.now }
+    requires constraints { AllConstraintsHeld cx.old.entries constraints.now }
+    ensures ready { Ready cx.new.entries table.new }
+    ensures keeps { Keeps cx.old.entries cx.new.entries }
+    ensures limit { cx.new.limit ≡ cx.old.limit }
+    ensures recorded { OnOk result (table_trees cx.new.entries table.new ≡ with_constraints (filled (values_of cx.old.entries values.now) (constraints_trees cx.old.entries constraints.now)) (table_trees cx.old.entries table.old)) }
+{
+    for constraint in constraints {
+        record_constraint(alloc, cx, table, values, *constraint)?;
+    }
+    Ok(())
+}
+
+/// Records a constraint, with the values in the place of variables.
+fn record_constraint(
+    alloc: Global,
+    cx: &mut Interner,
+    table: &mut InferCtxt,
+    values: &[GenericArgKind],
+    constraint: RegionConstraint,
+) -> Result<(), Fault>
+    requires ready { Ready cx.old.entries table.old }
+    requires values { ArgsHeld cx.old.entries values.now }
+    requires constraint { IsHeldConstraint cx.old.entries constraint }
+    ensures ready { Ready cx.new.entries table.new }
+    ensures keeps { Keeps cx.old.entries cx.new.entries }
+    ensures limit { cx.new.limit ≡ cx.old.limit }
+    ensures recorded { OnOk result (table_trees cx.new.entries table.new ≡ with_constraints (filled (values_of cx.old.entries values.now) (constraints_trees cx.old.entries (constraint ∷ []))) (table_trees cx.old.entries table.old)) }
+{
+    let constraint = constraint.fold_with(alloc, cx, &CanonicalInstantiator { values })?;
+    table.register_region_constraint(constraint)
+}
+
+/// Evaluates the nested goals in the trial's table.
+fn evaluate_nested(
+    alloc: Global,
+    cx: &mut Interner,
+    trial: Trial,
+    input: &CanonicalInput,
+    spec: &CandidateSpec,
+    replies: &[Option<CanonicalResponse>],
+) -> Result<EvalStep<CanonicalResponse>, EvalError>
+    requires ready { Ready cx.old.entries trial.table }
+    requires own { ArgsHeld cx.old.entries trial.own.items }
+    requires values { ArgsHeld cx.old.entries trial.values.items }
+    requires goals { Every (λ n. GoalHeld cx.old.entries n.1) spec.now.nested_goals.items }
+    requires replies { Every (ResultHeld cx.old.entries) replies.now }
+    ensures keeps { Keeps cx.old.entries cx.new.entries }
+    ensures limit { cx.new.limit ≡ cx.old.limit }
+    ensures held { IfOk result (λ s. AnswerHeld cx.new.entries s) }
+    ensures runs { CandidateEnds cx.new.entries (run (asked input.now.mode (premises_trees cx.old.entries spec.now.nested_goals.items) spec.now.certainty (trial_trees cx.old.entries input.now.variables.items trial)) (replies_trees cx.old.entries replies.now)) result }
+{
+    let Trial { table, own, values } = trial;
+    let variables = Vec::from_slice(alloc, &input.variables)?;
+    let mut context = EvalCtxt::new(table, input.mode, variables, own);
+    add_goals(alloc, cx, &mut context, &values, &spec.nested_goals)?;
+    add_replies(alloc, &mut context, replies)?;
+    context.evaluate_added_goals_and_make_canonical_response(cx, spec.certainty)
+}
+
+/// Puts each goal behind those that are still to be asked, with the values in the place of variables.
+fn add_goals(
+    alloc: Global,
+    cx: &mut Interner,
+    context: &mut EvalCtxt,
+    values: &[GenericArgKind],
+    goals: &[(GoalSource, Goal)],
+) -> Result<(), Fault>
+    requires ready { IsReady cx.old.entries context.old }
+    requires values { ArgsHeld cx.old.entries values.now }
+    requires goals { Every (λ n. GoalHeld cx.old.entries n.1) goals.now }
+    ensures keeps { Keeps cx.old.entries cx.new.entries }
+    ensures limit { cx.new.limit ≡ cx.old.limit }
+    ensures ready { OnOk result (IsReady cx.new.entries context.new) }
+    ensures rest { OnOk result (context.new ≡ record context.old { nested = context.new.nested }) }
+    ensures added { OnOk result (goals_trees cx.new.entries context.new.nested ≡ goals_trees cx.old.entries context.old.nested ++ map (nested_filled (values_of cx.old.entries values.now)) (premises_trees cx.old.entries goals.now)) }
+{
+    for nested in goals {
+        let goal = instantiate_with_values(alloc, cx, &nested.1, values)?;
+        context.add_goal(nested.0, goal)?;
+    }
+    Ok(())
+}
+
+/// Puts copies of the replies behind those that the context has.
+fn add_replies(
+    alloc: Global,
+    context: &mut EvalCtxt,
+    replies: &[Option<CanonicalResponse>],
+) -> Result<(), Fault>
+    ensures rest { OnOk result (context.new ≡ record context.old { replies = context.new.replies }) }
+    ensures added { OnOk result ((es : List Entry) → replies_trees es context.new.replies ≡ replies_trees es context.old.replies ++ replies_trees es replies.now) }
+    ensures held { OnOk result ((es : List Entry) → Every (ResultHeld es) context.old.replies → Every (ResultHeld es) replies.now → Every (ResultHeld es) context.new.replies) }
+{
+    for reply in replies {
+        let copy = copy_of(alloc, reply)?;
+        context.reply(copy)?;
+    }
+    Ok(())
+}
+
+/// A copy of the reply.
+fn copy_of(
+    alloc: Global,
+    reply: &Option<CanonicalResponse>,
+) -> Result<Option<CanonicalResponse>, Fault>
+    ensures same { IfOk result (λ r. (es : List Entry) → option_map (answer_trees es) r ≡ option_map (answer_trees es) reply.now) }
+    ensures held { IfOk result (λ r. (es : List Entry) → ResultHeld es reply.now → ResultHeld es r) }
+{
+    match reply {
+        Some(response) => {
+            let variables = Vec::from_slice(alloc, &response.variables)?;
+            let var_values = Vec::from_slice(alloc, &response.var_values)?;
+            let region_constraints = Vec::from_slice(alloc, &response.region_constraints)?;
+            Ok(Some(CanonicalResponse {
+                variables,
+                certainty: response.certainty,
+                var_values,
+                region_constraints,
+            }))
+        }
+        None => Ok(None),
+    }
+}

@@ -1,0 +1,6 @@
+pub mod Laws
+pub mod Filling
+pub mod Rounds
+pub mod Beginnings
+pub mod Responding
+pub mod Candidates

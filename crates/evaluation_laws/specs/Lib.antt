@@ -1,0 +1,5 @@
+pub mod Tables
+pub mod Answers
+pub mod Fitting
+pub mod Rounds
+pub mod Candidates

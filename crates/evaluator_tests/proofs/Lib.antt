@@ -1,2 +1,0 @@
-mod Evaluations
-mod Responses

@@ -1,5 +1,0 @@
-pub mod Filling
-pub mod Rounds
-pub mod Beginnings
-pub mod Responding
-pub mod Candidates

@@ -1,4 +1,0 @@
-pub mod Answers
-pub mod Fitting
-pub mod Rounds
-pub mod Candidates

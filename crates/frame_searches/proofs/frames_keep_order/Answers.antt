@@ -1,5 +1,0 @@
-use Rattle.frame_searches.proofs.Orders.{keeps_order}
-use Rattle.frame_searches.proofs.frames_keep_order.Goals as goal
-
-pub returns : goal.returns
-returns g c = keeps_order g.S.Searching.tables g.S.Searching.programs c.requires g.S.Searching.handles

@@ -1,5 +1,0 @@
-use Rattle.frame_searches.proofs.Lawful.{silent}
-use Rattle.frame_searches.proofs.silent_answers_are_fair.Goals as goal
-
-pub returns : goal.returns
-returns g c = silent g.S.Searching.tables c.requires.tables g.S.Searching.programs c.requires.programs g.S.Searching.handles

@@ -1,5 +1,0 @@
-pub mod Programs
-pub mod Searches
-pub mod Graphs
-pub mod Orders
-pub mod Books

@@ -1,0 +1,62 @@
+-- Answers that are found to be the same are equal.
+use Rattle.std.proofs.Common.{◌≡◌, true, List, [], ◌∷◌, refl}
+use Rattle.model.specs.Label.{Sort}
+use Rattle.model.specs.Trees.{Trees, is_sort}
+use Rattle.model.specs.Codes.{same}
+use Rattle.model.proofs.Matching.{same-sound}
+use Rattle.infer_table.specs.declared.canonical.CanonicalVarKind.{CanonicalVarKind}
+use Rattle.infer_table.specs.declared.canonical.CanonicalVarKind.TheVariants.{Ty, PlaceholderTy, Const, PlaceholderConst, Region}
+use Rattle.infer_table.specs.declared.certainty.Certainty.{Certainty}
+use Rattle.infer_table.specs.declared.certainty.Certainty.TheVariants.{Yes, Maybe}
+use Rattle.infer_table.specs.declared.certainty.MaybeCause.TheVariants.{Ambiguity, Overflow}
+use Rattle.infer_table.specs.Values.{Value}
+use Rattle.infer_table.specs.Responses.{AnswerTrees}
+use Rattle.evaluation.specs.Atoms.{same_certainty}
+use Rattle.table_laws.proofs.Made.{left, right}
+use Rattle.table_laws.proofs.Equating.{is-sort}
+use Rattle.evaluation.specs.Merge.{TellsApart}
+use Rattle.goal_frames.specs.Handlers.{same_kind, same_kinds, same_values, same_answer}
+
+kind-is : (k j : CanonicalVarKind) → same_kind k j ≡ true → k ≡ j
+kind-is Ty Ty e = refl
+kind-is Const Const e = refl
+kind-is PlaceholderTy PlaceholderTy e = refl
+kind-is PlaceholderConst PlaceholderConst e = refl
+kind-is Region Region e = refl
+kind-is k j e = absurd (cc)
+
+certainty-is : (c d : Certainty) → same_certainty c d ≡ true → c ≡ d
+certainty-is Yes Yes e = refl
+certainty-is (Maybe Ambiguity) (Maybe Ambiguity) e = refl
+certainty-is (Maybe Overflow) (Maybe Overflow) e = refl
+certainty-is c d e = absurd (cc)
+
+cons : {A : Type 0} (x y : A) (xs ys : List A) → x ≡ y → xs ≡ ys → x ∷ xs ≡ y ∷ ys
+cons x y xs ys e f = cc
+
+kinds-are : (ks js : List CanonicalVarKind) → same_kinds ks js ≡ true → ks ≡ js
+kinds-are [] [] e = refl
+kinds-are (k ∷ ks) (j ∷ js) e = cons k j ks js (kind-is k j (left (same_kind k j) _ e)) (kinds-are ks js (right (same_kind k j) _ e))
+kinds-are ks js e = absurd (cc)
+
+value-is : (j k : Sort) (t u : Trees) → j ≡ k → t ≡ u → ◌≡◌ {A = Value} (record { sort = j; trees = t }) (record { sort = k; trees = u })
+value-is j k t u e f = cc
+
+values-are : (vs ws : List Value) → same_values vs ws ≡ true → vs ≡ ws
+values-are [] [] e = refl
+values-are (v ∷ vs) (w ∷ ws) e =
+    let f = right (is_sort v.sort w.sort) _ e in
+    cons v w vs ws (value-is v.sort w.sort v.trees w.trees (is-sort v.sort w.sort (left (is_sort v.sort w.sort) _ e)) (same-sound v.trees w.trees (left (same v.trees w.trees) _ f))) (values-are vs ws (right (same v.trees w.trees) _ f))
+values-are vs ws e = absurd (cc)
+
+answer-is : (a b : List CanonicalVarKind) (c d : Certainty) (v w : List Value) (x y : Trees) → a ≡ b → c ≡ d → v ≡ w → x ≡ y
+    → ◌≡◌ {A = AnswerTrees} (record { kinds = a; certainty = c; values = v; constraints = x }) (record { kinds = b; certainty = d; values = w; constraints = y })
+answer-is a b c d v w x y p q r s = cc
+
+pub answers-are : TellsApart same_answer
+answers-are r s e =
+    let f = right (same_kinds r.kinds s.kinds) _ e in
+    let g = right (same_certainty r.certainty s.certainty) _ f in
+    answer-is r.kinds s.kinds r.certainty s.certainty r.values s.values r.constraints s.constraints
+    (kinds-are r.kinds s.kinds (left (same_kinds r.kinds s.kinds) _ e)) (certainty-is r.certainty s.certainty (left (same_certainty r.certainty s.certainty) _ f))
+    (values-are r.values s.values (left (same_values r.values s.values) _ g)) (same-sound r.constraints s.constraints (right (same_values r.values s.values) _ g))

@@ -1,0 +1,13 @@
+-- What a search's proof graphs prove.
+use Rattle.search_graph.specs.Proof.{HasProof}
+use Rattle.evaluation.specs.Lists.{IsAmong}
+use Rattle.evaluation.specs.Table.{Tables}
+use Rattle.evaluation.specs.Proof as Lists
+use Rattle.goal_frames.specs.Programs.{Programs}
+use Rattle.goal_frames.specs.Searches.{Asked, Follows}
+
+-- where a goal has a proof graph, each of its instances has a proof list
+abbrev pub GraphsProve : {Question Response : Type 0} (t : Tables Question Response) → Programs t → Type 0
+GraphsProve t p =
+    (w : p.World) (g : Asked t p) → HasProof (Asked t p) (Follows t p w) g → (v : t.Values) → IsAmong v (p.made_of g.1 v)
+    → Lists.HasProof t.Fact (p.Rule w) (p.coinductive w) ((p.handled w g.0 g.1).goal v)

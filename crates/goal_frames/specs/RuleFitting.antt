@@ -1,0 +1,30 @@
+-- The candidates of a list of rules fit the table of their frame, so that code can evaluate them.
+use Rattle.std.specs.Prelude.{List}
+use Rattle.model.specs.Label.{Label}
+use Rattle.infer_table.specs.Canonical.{CanonicalForm}
+use Rattle.infer_table.specs.declared.canonical.CanonicalVarKind.{CanonicalVarKind}
+use Rattle.evaluation.specs.Lists.{Every}
+use Rattle.evaluation.specs.Table.{workings}
+use Rattle.evaluation.specs.Candidate.{Spec}
+use Rattle.table_laws.specs.Frames.{kinds_known, Nested, Equation}
+use Rattle.table_laws.proofs.Beginning.{begin}
+use Rattle.table_laws.proofs.Fresh.{fresh}
+use Rattle.evaluation_laws.specs.Tables.{frame_tables}
+use Rattle.evaluation_laws.specs.Fitting.{AreOver, IsGoalOver, IsValueOver}
+use Rattle.goal_frames.specs.Rules.{RuleBook, AreRules}
+use Rattle.goal_frames.specs.Handlers.{asked, candidates_of}
+
+-- what the canonical variables of a candidate's terms stand for: those of the goal, and behind them the candidate's own
+abbrev pub slots_of : List CanonicalVarKind → List CanonicalVarKind → List Label
+slots_of kinds own = (fresh (begin kinds) own).labels
+
+-- its terms speak of these variables alone
+pub record IsOverSlots (labels : List Label) (c : Spec (workings frame_tables)) : Type 0 where
+  pub equations : Every (λ (e : Equation). IsValueOver labels e.left × IsValueOver labels e.right) c.equations
+  pub constraints : AreOver labels c.regions
+  pub nested : Every (λ (n : Nested). IsGoalOver labels n.goal) c.nested
+
+abbrev pub CandidatesFit : Type 0
+CandidatesFit =
+    (book : RuleBook) → AreRules book → (f : CanonicalForm)
+    → Every (λ (c : Spec (workings frame_tables)). IsOverSlots (slots_of (kinds_known f.kinds) c.kinds) c) (candidates_of book (asked f))

@@ -1,0 +1,116 @@
+-- Lists of rules over trees, and what they prove.
+use Rattle.std.specs.Prelude.{◌≡◌, ◌⊎◌, ℕ, Bool, true, false, List, map, Option, Some, None}
+use Rattle.model.specs.Label.{Label, Sort, infer, param, placeholder, canonical, principal}
+use Rattle.model.specs.Trees.{Trees, none, tree}
+use Rattle.type_terms.specs.Made.{terms, is_made}
+use Rattle.infer_table.specs.Canonical.{GoalTrees}
+use Rattle.infer_table.specs.declared.canonical.CanonicalVarKind.{CanonicalVarKind}
+use Rattle.infer_table.specs.declared.canonical.CanonicalVarKind.TheVariants.{Ty, PlaceholderTy, Const, PlaceholderConst, Region}
+use Rattle.evaluation.specs.Lists.{Every, SomeOf}
+use Rattle.evaluation.specs.Proof.{HasProof}
+use Rattle.table_laws.specs.Instances.{goal_read}
+use Rattle.table_laws.specs.Content.{given, Fact}
+use Rattle.table_laws.specs.Frames.{kind_at}
+use Rattle.table_laws.specs.Answers.{is_kind_of}
+
+-- ---- rules
+-- a trait with its arguments, the self type first: `?0: Show<u8>`
+pub record Bound : Type 0 where
+  pub trait : ℕ
+  pub arguments : Trees
+
+-- without where-clauses
+abbrev pub goal_of : Bound → GoalTrees
+goal_of b = record { environment = none; predicate = tree (principal 0 b.trait) b.arguments none }
+
+-- the head holds if the premises do, whatever its variables stand for: of these kinds, in the terms the canonical variables 0, 1, ..
+-- `impl<T: Show> Show for Vec<T>` has one variable, the head `Vec<^0>: Show`, and the premise `^0: Show`
+pub record Rule : Type 0 where
+  pub kinds : List CanonicalVarKind
+  pub head : Bound
+  pub premises : List Bound
+
+pub record RuleBook : Type 0 where
+  pub rules : List Rule
+  -- by the trait's number
+  pub coinductive : ℕ → Bool
+
+-- ---- rules as they are to be
+-- a rule's own variable is a type or a const
+abbrev pub IsUnknown : CanonicalVarKind → Type 0
+IsUnknown Ty = Unit {0}
+IsUnknown Const = Unit {0}
+IsUnknown PlaceholderTy = ⊥
+IsUnknown PlaceholderConst = ⊥
+IsUnknown Region = ⊥
+
+-- a variable of these kinds, or what is not open
+abbrev pub is_variable_over : List CanonicalVarKind → Label → Bool
+is_variable_over kinds (canonical s i) = is_kind_of s (kind_at kinds i)
+is_variable_over kinds (infer k v) = false
+is_variable_over kinds (param k v) = false
+is_variable_over kinds (placeholder k v) = false
+is_variable_over kinds l = true
+
+-- the arguments are terms over variables of these kinds
+abbrev pub IsOver : List CanonicalVarKind → Bound → Type 0
+IsOver kinds b = is_made (is_variable_over kinds) terms b.arguments ≡ true
+
+-- the label stands in the trees
+abbrev pub StandsIn : Label → Trees → Type 0
+StandsIn l none = ⊥
+StandsIn l (tree m c o) = (m ≡ l) ⊎ StandsIn l c ⊎ StandsIn l o
+
+-- what stands in a premise stands in the head
+abbrev pub IsDeterminedBy : Bound → Bound → Type 0
+IsDeterminedBy head premise = (k : Sort) (i : ℕ) → StandsIn (canonical k i) premise.arguments → StandsIn (canonical k i) head.arguments
+
+pub record IsRule (r : Rule) : Type 0 where
+  pub kinds : Every IsUnknown r.kinds
+  pub head : IsOver r.kinds r.head
+  pub premises : Every (IsOver r.kinds) r.premises
+  pub determined : Every (IsDeterminedBy r.head) r.premises
+
+abbrev pub AreRules : RuleBook → Type 0
+AreRules book = Every IsRule book.rules
+
+-- ---- what follows
+abbrev pub instance_of : Bool → List Trees → Bound → Fact
+instance_of proper values b = record { trait = Some b.trait; goal = goal_read (given values) (goal_of b); proper = proper }
+
+-- the reference is the head, with some terms for the rule's variables, and the premises are the rule's with the same terms
+pub record IsBy (f : Fact) (premises : List Fact) (r : Rule) : Type 0 where
+  pub values : List Trees
+  pub concludes : f.goal ≡ goal_read (given values) (goal_of r.head)
+  pub needs : map (instance_of f.proper values) r.premises ≡ premises
+
+-- no parameter and no placeholder stands in the trees
+abbrev pub HasNoPlace : Trees → Type 0
+HasNoPlace none = Unit {0}
+HasNoPlace (tree (param k i) c o) = ⊥
+HasNoPlace (tree (placeholder k i) c o) = ⊥
+HasNoPlace (tree l c o) = HasNoPlace c × HasNoPlace o
+
+pub record IsClosed (f : Fact) : Type 0 where
+  pub proper : f.proper ≡ true
+  pub predicate : HasNoPlace f.goal.predicate
+
+module _ (book : RuleBook) where
+  -- what is no reference is not coinductive
+  abbrev pub is_coinductive_trait : Option ℕ → Bool
+  is_coinductive_trait None = false
+  is_coinductive_trait (Some i) = book.coinductive i
+
+  abbrev pub is_coinductive : Fact → Bool
+  is_coinductive f = is_coinductive_trait f.trait
+
+  -- improper references don't count
+  abbrev pub FollowsByRule : Fact → List Fact → Type 0
+  FollowsByRule f premises = f.proper ≡ true → SomeOf (IsBy f premises) book.rules
+
+  abbrev pub FollowsClosed : Fact → List Fact → Type 0
+  FollowsClosed f premises = IsClosed f × SomeOf (IsBy f premises) book.rules
+
+  -- solutions are looked for among closed references
+  abbrev pub HasProofByBook : Fact → Type 0
+  HasProofByBook f = HasProof Fact FollowsClosed is_coinductive f

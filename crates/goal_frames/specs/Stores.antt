@@ -1,0 +1,95 @@
+-- What a store holds, and what its numbers stand for.
+use Rattle.std.specs.Prelude.{◌≡◌, ◌⊎◌, ◌++◌, ◌∷◌, [], ℕ, List, Option, Some, option_map}
+use Rattle.std.specs.List.{slice_get}
+use Rattle.indexmap.specs.IndexSet.{spare}
+use Rattle.type_terms.specs.Terms.{Entry}
+use Rattle.infer_table.specs.Canonical.{CanonicalForm}
+use Rattle.infer_table.specs.declared.certainty.TypingMode.{TypingMode}
+use Rattle.infer_table.specs.declared.input.CanonicalInput.{CanonicalInput}
+use Rattle.infer_table.specs.declared.response.CanonicalResponse.{CanonicalResponse}
+use Rattle.infer_table.specs.Goals.{GoalHeld}
+use Rattle.infer_table.specs.Inputs.{AreEqual, form_of}
+use Rattle.infer_table.specs.Responses.{AnswerTrees, ResponseHeld, answer_trees}
+use Rattle.goal_frames.specs.declared.store.GoalStore.{GoalStore}
+use Rattle.goal_frames.specs.declared.store.InputId.{InputId}
+use Rattle.goal_frames.specs.declared.store.ResponseId.{ResponseId}
+use Rattle.goal_frames.specs.Equal.{SayTheSame}
+
+-- ---- what is kept, by rising number
+abbrev pub kept_inputs : GoalStore → List CanonicalInput
+kept_inputs s = s.inputs.keys
+
+abbrev pub kept_responses : GoalStore → List CanonicalResponse
+kept_responses s = s.responses.keys
+
+-- how many goals the store may hold, and how many answers
+abbrev pub limit_of : GoalStore → ℕ
+limit_of s = s.limit
+
+-- how many more fit with no allocation
+abbrev pub room_for_inputs : GoalStore → ℕ
+room_for_inputs s = spare s.inputs
+
+abbrev pub room_for_responses : GoalStore → ℕ
+room_for_responses s = spare s.responses
+
+-- ---- what a number stands for
+abbrev pub input_at : GoalStore → InputId → Option CanonicalInput
+input_at s i = slice_get (kept_inputs s) i.0
+
+abbrev pub response_at : GoalStore → ResponseId → Option CanonicalResponse
+response_at s i = slice_get (kept_responses s) i.0
+
+-- the number is one of the store's
+abbrev pub HasInput : GoalStore → InputId → Type 0
+HasInput s i = (a : CanonicalInput) × (input_at s i ≡ Some a)
+
+abbrev pub HasResponse : GoalStore → ResponseId → Type 0
+HasResponse s i = (r : CanonicalResponse) × (response_at s i ≡ Some r)
+
+-- it stands for one that is equal to this
+abbrev pub StandsForInput : GoalStore → InputId → CanonicalInput → Type 0
+StandsForInput s i a = (kept : CanonicalInput) × (input_at s i ≡ Some kept) × AreEqual a kept
+
+abbrev pub StandsForResponse : GoalStore → ResponseId → CanonicalResponse → Type 0
+StandsForResponse s i r = (kept : CanonicalResponse) × (response_at s i ≡ Some kept) × SayTheSame r kept
+
+-- no number stands for it
+abbrev pub IsNewInput : GoalStore → CanonicalInput → Type 0
+IsNewInput s a = (i : InputId) → StandsForInput s i a → ⊥
+
+abbrev pub IsNewResponse : GoalStore → CanonicalResponse → Type 0
+IsNewResponse s r = (i : ResponseId) → StandsForResponse s i r → ⊥
+
+-- ---- the same over an interner's terms
+-- a goal as it is asked
+pub record AskedGoal : Type 0 where
+  pub mode : TypingMode
+  pub form : CanonicalForm
+
+abbrev pub asked_goal : List Entry → CanonicalInput → AskedGoal
+asked_goal es a = record { mode = a.mode; form = form_of es a }
+
+abbrev pub goal_at : List Entry → GoalStore → InputId → Option AskedGoal
+goal_at es s i = option_map (asked_goal es) (input_at s i)
+
+abbrev pub answer_at : List Entry → GoalStore → ResponseId → Option AnswerTrees
+answer_at es s i = option_map (answer_trees es) (response_at s i)
+
+-- the handles of all that is kept are the interner's
+pub record IsHeld (es : List Entry) (s : GoalStore) : Type 0 where
+  pub inputs : (i : InputId) (a : CanonicalInput) → input_at s i ≡ Some a → GoalHeld es a.goal
+  pub responses : (i : ResponseId) (r : CanonicalResponse) → response_at s i ≡ Some r → ResponseHeld es r
+
+-- ---- how a store changes
+-- each number of the first stands for the same in the second
+pub record Grows (old new : GoalStore) : Type 0 where
+  pub inputs : (i : InputId) (a : CanonicalInput) → input_at old i ≡ Some a → input_at new i ≡ Some a
+  pub responses : (i : ResponseId) (r : CanonicalResponse) → response_at old i ≡ Some r → response_at new i ≡ Some r
+
+-- the goals of the second are those of the first, with this one last if it was not among them
+abbrev pub AddsInput : GoalStore → CanonicalInput → GoalStore → Type 0
+AddsInput old a new = (kept_inputs new ≡ kept_inputs old) ⊎ (IsNewInput old a × (kept_inputs new ≡ kept_inputs old ++ a ∷ []))
+
+abbrev pub AddsResponse : GoalStore → CanonicalResponse → GoalStore → Type 0
+AddsResponse old r new = (kept_responses new ≡ kept_responses old) ⊎ (IsNewResponse old r × (kept_responses new ≡ kept_responses old ++ r ∷ []))

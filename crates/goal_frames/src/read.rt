@@ -1,0 +1,97 @@
+//! What a number stands for, lent or as a copy.
+ghost use Rattle.std.specs.Prelude.{◌≡◌, List, Some, IfOk, IfErr};
+ghost use Rattle.type_terms.specs.Terms.{Entry};
+ghost use Rattle.type_terms.specs.declared.Fault.TheVariants.{Memory};
+ghost use Rattle.infer_table.specs.Goals.{GoalHeld};
+ghost use Rattle.infer_table.specs.Inputs.{AreEqual};
+ghost use Rattle.infer_table.specs.Responses.{ResponseHeld, answer_trees};
+ghost use Rattle.goal_frames.specs.Equal.{SayTheSame};
+ghost use Rattle.goal_frames.specs.Stores.{input_at, response_at, HasInput, HasResponse, StandsForInput, StandsForResponse, asked_goal, goal_at, answer_at, IsHeld};
+
+use crate::store::{GoalStore, InputId, ResponseId};
+use infer_table::input::CanonicalInput;
+use infer_table::response::CanonicalResponse;
+use type_terms::Fault;
+
+impl GoalStore {
+    /// The goal with this number.
+    pub fn input(&self, id: InputId) -> &CanonicalInput
+        requires { HasInput self.now id }
+        ensures is { input_at self.now id ≡ Some result.now }
+        ensures held { (es : List Entry) → IsHeld es self.now → GoalHeld es result.now.goal }
+    {
+        match self.inputs.get_index(id.0 as usize) {
+            Some(input) => input,
+            None => unreachable!(),
+        }
+    }
+
+    /// The answer with this number.
+    pub fn response(&self, id: ResponseId) -> &CanonicalResponse
+        requires { HasResponse self.now id }
+        ensures is { response_at self.now id ≡ Some result.now }
+        ensures held { (es : List Entry) → IsHeld es self.now → ResponseHeld es result.now }
+    {
+        match self.responses.get_index(id.0 as usize) {
+            Some(response) => response,
+            None => unreachable!(),
+        }
+    }
+
+    /// A copy of the goal with this number.
+    ///
+    /// Its only fault is `Memory`.
+    pub fn copy_input(&self, id: InputId) -> Result<CanonicalInput, Fault>
+        requires { HasInput self.now id }
+        ensures is { IfOk result (StandsForInput self.now id) }
+        ensures goal { IfOk result (λ copy. (es : List Entry) → goal_at es self.now id ≡ Some (asked_goal es copy)) }
+        ensures held { IfOk result (λ copy. (es : List Entry) → IsHeld es self.now → GoalHeld es copy.goal) }
+        ensures memory { IfErr result (λ fault. fault ≡ Memory) }
+    {
+        copy_of_input(self.input(id))
+    }
+
+    /// A copy of the answer with this number.
+    ///
+    /// Its only fault is `Memory`.
+    pub fn copy_response(&self, id: ResponseId) -> Result<CanonicalResponse, Fault>
+        requires { HasResponse self.now id }
+        ensures is { IfOk result (StandsForResponse self.now id) }
+        ensures answer { IfOk result (λ copy. (es : List Entry) → answer_at es self.now id ≡ Some (answer_trees es copy)) }
+        ensures held { IfOk result (λ copy. (es : List Entry) → IsHeld es self.now → ResponseHeld es copy) }
+        ensures memory { IfErr result (λ fault. fault ≡ Memory) }
+    {
+        copy_of_response(self.response(id))
+    }
+}
+
+/// The same goal once more.
+fn copy_of_input(input: &CanonicalInput) -> Result<CanonicalInput, Fault>
+    ensures same { IfOk result (λ copy. AreEqual copy input.now) }
+    ensures memory { IfErr result (λ fault. fault ≡ Memory) }
+{
+    let goal = input.goal.clone()?;
+    let variables = Vec::from_slice(*input.variables.allocator(), &input.variables)?;
+    Ok(CanonicalInput {
+        mode: input.mode,
+        goal,
+        variables,
+    })
+}
+
+/// The same answer once more.
+fn copy_of_response(response: &CanonicalResponse) -> Result<CanonicalResponse, Fault>
+    ensures same { IfOk result (λ copy. SayTheSame copy response.now) }
+    ensures memory { IfErr result (λ fault. fault ≡ Memory) }
+{
+    let alloc = *response.variables.allocator();
+    let variables = Vec::from_slice(alloc, &response.variables)?;
+    let var_values = Vec::from_slice(alloc, &response.var_values)?;
+    let region_constraints = Vec::from_slice(alloc, &response.region_constraints)?;
+    Ok(CanonicalResponse {
+        variables,
+        certainty: response.certainty,
+        var_values,
+        region_constraints,
+    })
+}

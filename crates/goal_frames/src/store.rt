@@ -1,0 +1,27 @@
+//! The store and its numbers.
+ghost use Rattle.std.specs.Prelude.{◌≤◌, length};
+ghost use Rattle.std.specs.List.{IsDistinct, IsDistinct-prop};
+
+use indexmap::IndexSet;
+use infer_table::input::CanonicalInput;
+use infer_table::response::CanonicalResponse;
+
+/// A canonical goal of a store, by its number there.
+#[derive(Clone, Copy, PartialEq, Eq, Hash, Debug)]
+pub struct InputId(pub u32);
+
+/// An answer of a store, by its number there.
+#[derive(Clone, Copy, PartialEq, Eq, Hash, Debug)]
+pub struct ResponseId(pub u32);
+
+/// Canonical goals and answers, each kept once.
+#[derive(Drop)]
+pub struct GoalStore {
+    pub(crate) inputs: IndexSet<CanonicalInput>,
+    pub(crate) responses: IndexSet<CanonicalResponse>,
+    pub(crate) limit: u32,
+    ghost inputs_distinct: { IsDistinct ⟦<CanonicalInput as PartialEq>⟧.eq inputs.keys } by { IsDistinct-prop _ _ },
+    ghost responses_distinct: { IsDistinct ⟦<CanonicalResponse as PartialEq>⟧.eq responses.keys } by { IsDistinct-prop _ _ },
+    ghost inputs_within: { length inputs.keys ≤ limit },
+    ghost responses_within: { length responses.keys ≤ limit },
+}

@@ -1,4 +1,0 @@
-pub mod Places
-pub mod Answers
-pub mod Numbers
-mod Keeping

@@ -1,0 +1,218 @@
+-- Leaves are told apart by their labels.
+use Rattle.std.proofs.Common.{rules, ◌≡◌, ℕ, zero, suc, Bool, true, false, nat_eq, refl, ap, sym, ◌∙◌, subst, List, [], ◌∷◌, ◌++◌, map, Option, Some, None, IsSome, if◌then◌else◌, ◌+◌, ◌<◌, ◌≤◌, length, get_or, take, arith, cond, not, nat_lt}
+use Rattle.std.specs.Bool.{Decides}
+use Rattle.std.specs.List.{list_any, position_or_len, position}
+use Rattle.std.proofs.lemmas.List.Sums.{prefix_len-le-length}
+use Rattle.std.proofs.lemmas.Bool.Decides.{nat_tests}
+use Rattle.indexmap.specs.IndexSet.{insert_key}
+use Rattle.model.specs.Label.{Label, Sort, of_type, of_const, of_lifetime}
+use Rattle.model.specs.Trees.{leaf, sort_of, IsA}
+use Rattle.model.specs.Codes.{same_label}
+use Rattle.model.proofs.Matching.{same-label-sound}
+use Rattle.type_terms.specs.Terms.{Entry, Has, Lawful, types, consts, trees_at}
+use Rattle.type_terms.specs.Kinds.{ArgHeld, ArgsHeld, arg_trees, region_label}
+use Rattle.type_terms.specs.declared.number.DebruijnIndex.{DebruijnIndex}
+use Rattle.type_terms.specs.declared.number.BoundVar.{BoundVar}
+use Rattle.type_terms.specs.declared.number.RegionVid.{RegionVid}
+use Rattle.type_terms.specs.declared.number.BoundVarIndexKind.{BoundVarIndexKind}
+use Rattle.type_terms.specs.declared.number.BoundVarIndexKind.TheVariants.{Bound as KBinder, Canonical as KCanonical}
+use Rattle.type_terms.specs.declared.region.Region.{Region}
+use Rattle.type_terms.specs.declared.region.RegionKind.{RegionKind}
+use Rattle.type_terms.specs.declared.region.RegionKind.TheVariants.{ReStatic, ReEarlyParam, RePlaceholder, ReBound, ReVar}
+use Rattle.type_terms.specs.declared.kinds.Ty as ty-module
+use Rattle.type_terms.specs.declared.kinds.Const as const-module
+use Rattle.type_terms.specs.declared.kinds.GenericArgKind.{GenericArgKind}
+use Rattle.type_terms.specs.declared.kinds.GenericArgKind.TheVariants.{Lifetime, Ty as AType, Const as AConst}
+use Rattle.type_terms.specs.contracts.number.DebruijnIndexPartialEq.TheImpl.{ghosts as debruijn}
+use Rattle.type_terms.specs.contracts.number.BoundVarPartialEq.TheImpl.{ghosts as variable}
+use Rattle.type_terms.specs.contracts.number.RegionVidPartialEq.TheImpl.{ghosts as region-vid}
+use Rattle.type_terms.specs.contracts.number.BoundVarIndexKindPartialEq.TheImpl.{ghosts as binder}
+use Rattle.type_terms.specs.contracts.region.RegionKindPartialEq.TheImpl.{ghosts as region-kind}
+use Rattle.type_terms.specs.contracts.region.RegionPartialEq.TheImpl.{ghosts as region}
+use Rattle.type_terms.specs.contracts.kinds.TyPartialEq.TheImpl.{ghosts as ty}
+use Rattle.type_terms.specs.contracts.kinds.ConstPartialEq.TheImpl.{ghosts as const}
+use Rattle.type_terms.specs.contracts.kinds.GenericArgKindPartialEq.TheImpl.{ghosts as arg}
+use Rattle.type_terms.proofs.Labels.{binder-back, variable-back, region-vid-back, region-back}
+use Rattle.type_terms.proofs.Equal.{both, through}
+use Rattle.type_terms.proofs.Sorts.{bound-sort}
+use Rattle.term_folds.specs.Kept.{is-at}
+use Rattle.term_folds.proofs.Items.{take-push}
+use Rattle.infer_table.specs.declared.canonical.CanonicalVarKind.{CanonicalVarKind}
+use Rattle.infer_table.specs.Canonical.{is_among, with_label, place_of, kind_of_leaf}
+use Rattle.infer_table.proofs.CanonicalLaws.{same_label-self}
+use Rattle.infer_table.specs.Leaves.{leaf_label, labels, IsLeaf, AreLeaves, AreOpen}
+
+-- ---- the derived `==` of arguments
+number-eq : (a b : ℕ) → Decides (nat_eq a b) (a ≡ b)
+number-eq a b = search rules
+
+debruijn-eq : (a b : DebruijnIndex) → Decides (debruijn.eq a b) (a ≡ b)
+debruijn-eq a b = search (rules, binder-back)
+
+variable-eq : (a b : BoundVar) → Decides (variable.eq a b) (a ≡ b)
+variable-eq a b = search (rules, variable-back)
+
+region-vid-eq : (a b : RegionVid) → Decides (region-vid.eq a b) (a ≡ b)
+region-vid-eq a b = search (rules, region-vid-back)
+
+binder-eq : (a b : BoundVarIndexKind) → Decides (binder.eq a b) (a ≡ b)
+binder-eq (KBinder j) (KBinder k) = through _ _ _ (debruijn-eq j k) (λ p. ap KBinder p) (λ e. cc)
+binder-eq KCanonical KCanonical = (λ e. refl, λ e. refl)
+binder-eq _ _ = (λ e. cc, λ e. cc)
+
+region-kind-eq : (a b : RegionKind) → Decides (region-kind.eq a b) (a ≡ b)
+region-kind-eq ReStatic ReStatic = (λ e. refl, λ e. refl)
+region-kind-eq (ReEarlyParam i) (ReEarlyParam j) = through _ _ _ (number-eq i j) (λ p. ap ReEarlyParam p) (λ e. cc)
+region-kind-eq (RePlaceholder i) (RePlaceholder j) = through _ _ _ (number-eq i j) (λ p. ap RePlaceholder p) (λ e. cc)
+region-kind-eq (ReBound j v) (ReBound k w) = through _ _ _ (both _ _ _ _ (binder-eq j k) (variable-eq v w)) (λ p. cc) (λ e. (cc, cc))
+region-kind-eq (ReVar v) (ReVar w) = through _ _ _ (region-vid-eq v w) (λ p. ap ReVar p) (λ e. cc)
+region-kind-eq _ _ = (λ e. cc, λ e. cc)
+
+pub region-eq : (a b : Region) → Decides (region.eq a b) (a ≡ b)
+region-eq a b = through _ _ _ (region-kind-eq a.kind b.kind) (λ p. ap (λ k. record { kind = k }) p) (λ e. ap (λ r. r.kind) e)
+
+pub ty-eq : (a b : ty-module.Ty) → Decides (ty.eq a b) (a ≡ b)
+ty-eq a b = search rules
+
+const-eq : (a b : const-module.Const) → Decides (const.eq a b) (a ≡ b)
+const-eq a b = search rules
+
+arg-eq : (a b : GenericArgKind) → Decides (arg.eq a b) (a ≡ b)
+arg-eq (Lifetime r) (Lifetime s) = through _ _ _ (region-eq r s) (λ p. ap Lifetime p) (λ e. cc)
+arg-eq (AType t) (AType u) = through _ _ _ (ty-eq t u) (λ p. ap AType p) (λ e. cc)
+arg-eq (AConst t) (AConst u) = through _ _ _ (const-eq t u) (λ p. ap AConst p) (λ e. cc)
+arg-eq _ _ = (λ e. cc, λ e. cc)
+
+-- ---- arguments that are one tree are one argument
+region-sort : (k : RegionKind) → sort_of (region_label k) ≡ of_lifetime
+region-sort (ReBound j v) = bound-sort of_lifetime j v
+region-sort k = refl
+
+abbrev sort_of_arg : GenericArgKind → Sort
+sort_of_arg (Lifetime r) = of_lifetime
+sort_of_arg (AType t) = of_type
+sort_of_arg (AConst c) = of_const
+
+root-sort : (s : Sort) (l : Label) → IsA s (leaf l) → sort_of l ≡ s
+root-sort of_type l h = h.0
+root-sort of_const l h = h.0
+root-sort of_lifetime l h = h.0
+
+pub sort-is : (es : List Entry) → Lawful es → (a : GenericArgKind) (l : Label) → ArgHeld es a → arg_trees es a ≡ leaf l → sort_of l ≡ sort_of_arg a
+sort-is es law (Lifetime r) l h e = let p : region_label r.kind ≡ l = cc in ap sort_of (sym p) ∙ region-sort r.kind
+sort-is es law (AType t) l h e = root-sort of_type l (subst (IsA of_type) e ((law.sorted t.0 _ (is-at es types t.0 h)).as_type refl))
+sort-is es law (AConst t) l h e = root-sort of_const l (subst (IsA of_const) e ((law.sorted t.0 _ (is-at es consts t.0 h)).as_const refl))
+
+pub same-handle : (es : List Entry) → Lawful es → (kind i j : ℕ) → Has es kind i → Has es kind j → trees_at es i ≡ trees_at es j → i ≡ j
+same-handle es law kind i j h g e = law.distinct i j _ (is-at es kind i h) (rw e (is-at es kind j g))
+
+pub same-arg : (es : List Entry) → Lawful es → (a b : GenericArgKind) (l : Label) → ArgHeld es a → ArgHeld es b → arg_trees es a ≡ leaf l → arg_trees es b ≡ leaf l → a ≡ b
+same-arg es law (Lifetime r) (Lifetime s) l h g p q = let e : region_label r.kind ≡ region_label s.kind = cc in ap (λ k. Lifetime (record { kind = k })) (region-back r.kind s.kind e)
+same-arg es law (AType t) (AType u) l h g p q = ap (λ i. AType (record { 0 = i })) (same-handle es law types t.0 u.0 h g (p ∙ sym q))
+same-arg es law (AConst t) (AConst u) l h g p q = ap (λ i. AConst (record { 0 = i })) (same-handle es law consts t.0 u.0 h g (p ∙ sym q))
+same-arg es law a b l h g p q = let e = sym (sort-is es law a l h p) ∙ sort-is es law b l g q in cc
+
+pub told-apart : (es : List Entry) → Lawful es → (k m : GenericArgKind) → IsLeaf es k → IsLeaf es m → same_label (leaf_label es m) (leaf_label es k) ≡ arg.eq k m
+told-apart es law k m h g = by (arg.eq k m) refl (same_label (leaf_label es m) (leaf_label es k)) refl
+  where
+    by : (x : Bool) → arg.eq k m ≡ x → (y : Bool) → same_label (leaf_label es m) (leaf_label es k) ≡ y → y ≡ x
+    by true p true q = refl
+    by false p false q = refl
+    by true p false q =
+        let e = (arg-eq k m).0 p in
+        let s : same_label (leaf_label es m) (leaf_label es k) ≡ true = subst (λ z. same_label (leaf_label es z) (leaf_label es k) ≡ true) e (same_label-self (leaf_label es k)) in
+        sym q ∙ s
+    by false p true q =
+        let e : leaf_label es m ≡ leaf_label es k = same-label-sound (leaf_label es m) (leaf_label es k) q in
+        let s : k ≡ m = same-arg es law k m (leaf_label es k) h.0 g.0 h.1 (g.1 ∙ ap leaf e) in
+        sym ((arg-eq k m).1 s) ∙ p
+
+pub among-keys : (es : List Entry) → Lawful es → (k : GenericArgKind) (ks : List GenericArgKind) → IsLeaf es k → AreLeaves es ks → is_among (leaf_label es k) (labels es ks) ≡ list_any (arg.eq k) ks
+among-keys es law k [] h g = refl
+among-keys es law k (m ∷ ms) h g = rw (told-apart es law k m h g.0, among-keys es law k ms h g.1) refl
+
+map-append : (es : List Entry) (xs ys : List GenericArgKind) → labels es (xs ++ ys) ≡ labels es xs ++ labels es ys
+map-append es [] ys = refl
+map-append es (x ∷ xs) ys = ap (λ z. leaf_label es x ∷ z) (map-append es xs ys)
+
+-- one more leaf is listed
+pub labels-insert : (es : List Entry) → Lawful es → (k : GenericArgKind) (ks : List GenericArgKind) → IsLeaf es k → AreLeaves es ks → labels es (insert_key arg.eq ks k) ≡ with_label (leaf_label es k) (labels es ks)
+labels-insert es law k ks h g = by (list_any (arg.eq k) ks) ∙ ap (λ b. if b then labels es ks else (labels es ks ++ leaf_label es k ∷ [])) (sym (among-keys es law k ks h g))
+  where
+    by : (b : Bool) → labels es (if b then ks else ks ++ k ∷ []) ≡ (if b then labels es ks else (labels es ks ++ leaf_label es k ∷ []))
+    by true = refl
+    by false = map-append es ks (k ∷ [])
+
+leaves-push : (es : List Entry) (ks : List GenericArgKind) (k : GenericArgKind) → AreLeaves es ks → IsLeaf es k → AreLeaves es (ks ++ k ∷ [])
+leaves-push es [] k g h = (h, tt)
+leaves-push es (m ∷ ms) k g h = (g.0, leaves-push es ms k g.1 h)
+
+pub leaves-insert : (es : List Entry) (k : GenericArgKind) (ks : List GenericArgKind) → IsLeaf es k → AreLeaves es ks → AreLeaves es (insert_key arg.eq ks k)
+leaves-insert es k ks h g = by (list_any (arg.eq k) ks)
+  where
+    by : (b : Bool) → AreLeaves es (if b then ks else ks ++ k ∷ [])
+    by true = g
+    by false = leaves-push es ks k g h
+
+one-more : (n : ℕ) → suc n ≡ 1 + n
+one-more n = omega arith
+
+-- where a leaf is listed
+pub place-of-key : (es : List Entry) → Lawful es → (k : GenericArgKind) (ks : List GenericArgKind) → IsLeaf es k → AreLeaves es ks → place_of (leaf_label es k) (labels es ks) ≡ position_or_len (arg.eq k) ks
+place-of-key es law k [] h g = refl
+place-of-key es law k (m ∷ ms) h g = ap (λ (b : Bool). if b then zero else suc (place_of (leaf_label es k) (labels es ms))) (told-apart es law k m h g.0) ∙ ap (λ n. if arg.eq k m then zero else suc n) (place-of-key es law k ms h g.1) ∙ first (arg.eq k m) refl
+  where
+    first : (b : Bool) → arg.eq k m ≡ b → (if arg.eq k m then zero else suc (position_or_len (arg.eq k) ms)) ≡ position_or_len (arg.eq k) (m ∷ ms)
+    first true e = rw e refl
+    first false e = rw e (one-more _)
+
+below : (m n : ℕ) → m ≤ n → nat_lt m n ≡ false → n ≡ m
+below m n h e = grind (arith, nat_tests)
+
+-- what a search for a key answers
+pub found-at : (p : GenericArgKind → Bool) (xs : List GenericArgKind) (i : ℕ) → Some i ≡ position p xs → i ≡ position_or_len p xs
+found-at p xs i e = by (nat_lt (position_or_len p xs) (length xs)) e
+  where
+    by : (b : Bool) → Some i ≡ cond b (Some (position_or_len p xs)) None → i ≡ position_or_len p xs
+    by true e = cc
+    by false e = cc
+
+pub not-found-at : (p : GenericArgKind → Bool) (xs : List GenericArgKind) → None ≡ position p xs → length xs ≡ position_or_len p xs
+not-found-at p xs e = by (nat_lt (position_or_len p xs) (length xs)) refl e
+  where
+    by : (b : Bool) → nat_lt (position_or_len p xs) (length xs) ≡ b → None ≡ cond b (Some (position_or_len p xs)) None → length xs ≡ position_or_len p xs
+    by true q e = cc
+    by false q e = below (position_or_len p xs) (length xs) (prefix_len-le-length (λ x. not (p x)) xs) q
+
+-- ---- one of a list
+pub leaf-at : (es : List Entry) (xs : List GenericArgKind) (i : ℕ) (d : GenericArgKind) → AreLeaves es xs → i < length xs → IsLeaf es (get_or xs i d)
+leaf-at es [] i d h l = absurd (omega arith)
+leaf-at es (x ∷ xs) zero d h l = h.0
+leaf-at es (x ∷ xs) (suc i) d h l = leaf-at es xs i d h.1 (omega arith)
+
+pub open-at : (es : List Entry) (xs : List GenericArgKind) (i : ℕ) (d : GenericArgKind) → AreOpen (labels es xs) → i < length xs → IsSome (kind_of_leaf (leaf_label es (get_or xs i d)))
+open-at es [] i d h l = absurd (omega arith)
+open-at es (x ∷ xs) zero d h l = h.0
+open-at es (x ∷ xs) (suc i) d h l = open-at es xs i d h.1 (omega arith)
+
+map-some : (xs ys : List CanonicalVarKind) → map Some (xs ++ ys) ≡ map Some xs ++ map Some ys
+map-some [] ys = refl
+map-some (x ∷ xs) ys = ap (λ z. Some x ∷ z) (map-some xs ys)
+
+kinds-append : (es : List Entry) (xs ys : List GenericArgKind) → map kind_of_leaf (labels es (xs ++ ys)) ≡ map kind_of_leaf (labels es xs) ++ map kind_of_leaf (labels es ys)
+kinds-append es [] ys = refl
+kinds-append es (x ∷ xs) ys = ap (λ z. kind_of_leaf (leaf_label es x) ∷ z) (kinds-append es xs ys)
+
+join : (a b : List (Option CanonicalVarKind)) (x y : Option CanonicalVarKind) → a ≡ b → x ≡ y → a ++ x ∷ [] ≡ b ++ y ∷ []
+join a b x y p q = cc
+
+-- one more kind is listed
+pub one-more-kind : (es : List Entry) (xs : List GenericArgKind) (i : ℕ) (x : GenericArgKind) (ks : List CanonicalVarKind) (k : CanonicalVarKind) → i < length xs → x ≡ get_or xs i x
+    → map Some ks ≡ map kind_of_leaf (labels es (take i xs)) → Some k ≡ kind_of_leaf (leaf_label es x) → map Some (ks ++ k ∷ []) ≡ map kind_of_leaf (labels es (take (i + 1) xs))
+one-more-kind es xs i x ks k lt is h e =
+    let from : take (i + 1) xs ≡ take i xs ++ x ∷ [] = take-push xs i x lt ∙ ap (λ z. take i xs ++ z ∷ []) (sym is) in
+    map-some ks (k ∷ []) ∙ join _ _ _ _ h e ∙ sym (kinds-append es (take i xs) (x ∷ [])) ∙ ap (λ z. map kind_of_leaf (labels es z)) (sym from)
+
+pub leaves-held : (es : List Entry) (xs : List GenericArgKind) → AreLeaves es xs → ArgsHeld es xs
+leaves-held es [] h = tt
+leaves-held es (x ∷ xs) h = (h.0.0, leaves-held es xs h.1)

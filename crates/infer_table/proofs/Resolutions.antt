@@ -1,0 +1,79 @@
+-- Goals resolved by a table.
+use Rattle.std.proofs.Common.{◌≡◌, ℕ, true, refl, ap, sym, ◌∙◌, List, [], ◌∷◌, ◌++◌, length, get_or, take, ◌+◌, ◌<◌}
+use Rattle.model.specs.Label.{Label, principal}
+use Rattle.model.specs.Trees.{Trees, none, tree, ◌+++◌}
+use Rattle.type_terms.specs.Terms.{Entry, Keeps, trees_at}
+use Rattle.type_terms.specs.Kinds.{region_trees}
+use Rattle.term_folds.specs.declared.predicate.Clause.{Clause}
+use Rattle.term_folds.specs.declared.predicate.Clause.TheVariants.{Trait, RegionOutlives, TypeOutlives}
+use Rattle.term_folds.specs.Clauses.{ClauseHeld, clause_outline, clause_pieces, clause-pieces-later}
+use Rattle.term_folds.specs.Pieces.{Piece, each_piece, one_piece}
+use Rattle.term_folds.proofs.Items.{take-push}
+use Rattle.infer_table.specs.Solutions.{Binding, resolved, is_rigid}
+use Rattle.infer_table.proofs.SolutionLaws.{resolved-append, resolved-none, resolved-rigid}
+use Rattle.infer_table.specs.Goals.{clause_label, clause_terms, environment_trees, ClausesHeld}
+use Rattle.infer_table.proofs.Numbers.{environment-later}
+
+abbrev first_trees : List Piece → Trees
+first_trees [] = none
+first_trees (p ∷ ps) = p.trees
+
+abbrev second_trees : List Piece → Trees
+second_trees [] = none
+second_trees (p ∷ ps) = first_trees ps
+
+clause-rigid : (x : Clause) → is_rigid (clause_label x) ≡ true
+clause-rigid (Trait p) = refl
+clause-rigid (RegionOutlives a b) = refl
+clause-rigid (TypeOutlives t r) = refl
+
+environment-append : (es : List Entry) (xs ys : List Clause) → environment_trees es (xs ++ ys) ≡ environment_trees es xs +++ environment_trees es ys
+environment-append es [] ys = refl
+environment-append es (x ∷ xs) ys = ap (λ z. tree (clause_label x) (clause_terms es x) z) (environment-append es xs ys)
+
+module _ (bs : List Binding) where
+  record ResolvedClause (old new : List Entry) (x y : Clause) : Type 0 where
+    label : clause_label y ≡ clause_label x
+    terms : clause_terms new y ≡ resolved bs (clause_terms old x)
+
+  two : (a a' b b' : Trees) → a' ≡ a → b' ≡ b → a' +++ b' ≡ a +++ b
+  two a a' b b' p q = cc
+
+  clause-resolved : (old new : List Entry) (x y : Clause) → clause_outline y ≡ clause_outline x → clause_pieces new y ≡ each_piece (λ d t. resolved bs t) (clause_pieces old x) → ResolvedClause old new x y
+  clause-resolved old new (Trait p) (Trait q) o e = record {
+    label = let same : q.trait_ref.def_id.index ≡ p.trait_ref.def_id.index = cc in ap (λ i. principal 0 i) same;
+    terms = ap first_trees e;
+  }
+  clause-resolved old new (RegionOutlives r s) (RegionOutlives r' s') o e = record {
+    label = refl;
+    terms = two _ _ _ _ (ap first_trees e) (ap second_trees e) ∙ sym (resolved-append bs (region_trees r) (region_trees s));
+  }
+  clause-resolved old new (TypeOutlives t r) (TypeOutlives t' r') o e = record {
+    label = refl;
+    terms = two _ _ _ _ (ap first_trees e) (ap second_trees e) ∙ sym (resolved-append bs (trees_at old t.0) (region_trees r));
+  }
+  clause-resolved old new x y o e = cc
+
+  node : (l l' : Label) (c c' o o' : Trees) → l' ≡ l → c' ≡ c → o' ≡ o → tree l' c' o' ≡ tree l c o
+  node l l' c c' o o' p q r = cc
+
+  -- one more clause is resolved
+  pub one-more-resolved : (old now next : List Entry) → Keeps old now → Keeps now next → (xs ys : List Clause) (i : ℕ) (x y : Clause) → i < length xs → x ≡ get_or xs i x
+      → ClauseHeld old x → ClausesHeld now ys → environment_trees now ys ≡ resolved bs (environment_trees old (take i xs))
+      → clause_outline y ≡ clause_outline x → clause_pieces next y ≡ each_piece (λ d t. resolved bs t) (clause_pieces now x)
+      → environment_trees next (ys ++ y ∷ []) ≡ resolved bs (environment_trees old (take (i + 1) xs))
+  one-more-resolved old now next k n xs ys i x y lt is had held h o e =
+      let from : take (i + 1) xs ≡ take i xs ++ x ∷ [] = take-push xs i x lt ∙ ap (λ z. take i xs ++ z ∷ []) (sym is) in
+      let here = clause-resolved old next x y o (e ∙ ap (each_piece (λ d t. resolved bs t)) (clause-pieces-later old now k x had)) in
+      let last : tree (clause_label y) (clause_terms next y) none ≡ resolved bs (tree (clause_label x) (clause_terms old x) none) =
+      node _ _ _ _ _ _ here.label here.terms (sym (resolved-none bs)) ∙ sym (resolved-rigid bs (clause_label x) (clause_terms old x) none (clause-rigid x)) in
+      environment-append next ys (y ∷ [])
+      ∙ two _ _ _ _ (environment-later now next n ys held ∙ h) last
+      ∙ sym (resolved-append bs (environment_trees old (take i xs)) (environment_trees old (x ∷ [])))
+      ∙ ap (resolved bs) (sym (environment-append old (take i xs) (x ∷ []))) ∙ ap (λ z. resolved bs (environment_trees old z)) (sym from)
+
+  pub predicate-resolved : (i j : ℕ) (t u : Trees) → j ≡ i → one_piece u ≡ each_piece (λ d t. resolved bs t) (one_piece t) → tree (principal 0 j) u none ≡ resolved bs (tree (principal 0 i) t none)
+  predicate-resolved i j t u e h = node _ _ _ _ _ _ (ap (λ n. principal 0 n) e) (ap first_trees h) (sym (resolved-none bs)) ∙ sym (resolved-rigid bs (principal 0 i) t none refl)
+
+pub resolved-nothing : (bs : List Binding) → none ≡ resolved bs none
+resolved-nothing bs = sym (resolved-none bs)

@@ -1,0 +1,11 @@
+use Rattle.std.proofs.Common.{◌≡◌, ◌++◌, take, List}
+use Rattle.type_terms.specs.Terms.{Entry}
+use Rattle.infer_table.specs.Content.{Ready, Grows, AllConstraintsHeld}
+use Rattle.infer_table.proofs.apply.record_constraints.Given as goal
+
+abbrev pub invariant-loop-constraint : goal.invariant-loop-constraint
+invariant-loop-constraint l = record {
+  ready : (es : List Entry) → Ready es l.fn.table → AllConstraintsHeld es l.constraints → Ready es l.table;
+  grows : Grows l.fn.table l.table;
+  recorded : l.table ≡ record l.fn.table { constraints = l.fn.table.constraints ++ take l.constraint-index l.constraints };
+}

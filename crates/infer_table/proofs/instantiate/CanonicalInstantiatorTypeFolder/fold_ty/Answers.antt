@@ -1,0 +1,22 @@
+use Rattle.std.proofs.Common.{◌≡◌, Some, ap, ◌∙◌}
+use Rattle.model.specs.Label.{of_type, canonical}
+use Rattle.model.specs.Trees.{leaf}
+use Rattle.type_terms.specs.Terms.{trees_at, types}
+use Rattle.type_terms.specs.Kinds.{bound_label}
+use Rattle.term_folds.specs.Kept.{is-at, trees-is}
+use Rattle.term_folds.proofs.FoldFacts.{TyIs}
+use Rattle.infer_table.specs.Values.{values_of, filling}
+use Rattle.infer_table.proofs.Numbers.{says-stays}
+use Rattle.infer_table.proofs.Fillings.{fills}
+use Rattle.infer_table.proofs.instantiate.CanonicalInstantiatorTypeFolder.fold_ty.Goals as goal
+
+pub returns-in-Some-clause-answer : goal.returns-in-Some-clause-answer
+returns-in-Some-clause-answer c =
+    let es = c.args.cx.now.entries in
+    let vs = values_of es c.args.self.now.values.now in
+    let v = c.in-Some.value in
+    let here : trees_at es c.args.ty.0 ≡ leaf (canonical of_type c.in-Bound.variable.index) =
+    trees-is es types c.args.ty.0 _ c.in-Bound.ensures.is ∙ ap (λ i. leaf (bound_label of_type i c.in-Bound.variable)) c.in-Canonical.is in
+    says-stays (TyIs es) (filling vs (trees_at es c.args.ty.0)) (trees_at es v.0) v
+    (ap (filling vs) here ∙ fills vs (canonical of_type c.in-Bound.variable.index) (Some (trees_at es v.0)) (c.in-Some.ensures.value es))
+    (is-at es types v.0 (c.in-Some.ensures.held es c.requires.ready))

@@ -1,0 +1,21 @@
+use Rattle.std.proofs.Common.{◌≡◌, Result, Ok, Err, IfOk}
+use Rattle.term_folds.proofs.FailFacts.{only-tables}
+use Rattle.infer_table.specs.Goals.{goal_trees, GoalFolds}
+use Rattle.infer_table.specs.Values.{values_of, filling, goal_filled}
+use Rattle.infer_table.proofs.Fillings.{goal-filled}
+use Rattle.infer_table.proofs.instantiate.instantiate_with_values.Goals as goal
+
+if-ok : {T E : Type 0} (P Q : T → Type 0) (r : Result T E) → ((x : T) → P x → Q x) → IfOk r P → IfOk r Q
+if-ok P Q (Ok x) f h = f x h
+if-ok P Q (Err e) f h = tt
+
+pub returns-clause-filled : goal.returns-clause-filled
+returns-clause-filled c =
+    let es = c.args.cx.now.entries in
+    let end = c.fold_with.new.cx.entries in
+    let vs = values_of es c.args.values.now in
+    let g = c.args.goal.now in
+    if-ok (λ h. GoalFolds (λ bs t. filling vs t) es g end h) (λ h. goal_trees end h ≡ goal_filled vs (goal_trees es g)) c.fold_with.result (goal-filled vs es end g) c.fold_with.ensures.folded
+
+pub returns-clause-full : goal.returns-clause-full
+returns-clause-full c = λ q. only-tables (c.fold_with.ensures.full q)

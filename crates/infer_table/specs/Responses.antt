@@ -1,0 +1,60 @@
+-- Answers as trees, and their canonical form.
+use Rattle.std.specs.Prelude.{◌≡◌, ℕ, List, [], ◌∷◌, ◌++◌, map, Some}
+use Rattle.model.specs.Label.{Label}
+use Rattle.model.specs.Trees.{Trees, none, ◌+++◌}
+use Rattle.type_terms.specs.Terms.{Entry}
+use Rattle.type_terms.specs.Kinds.{ArgsHeld, args_trees}
+use Rattle.term_folds.specs.Folds.{Does}
+use Rattle.term_folds.specs.Pieces.{FoldsEach}
+use Rattle.infer_table.specs.Canonical.{GoalTrees, CanonicalForm, kind_of_leaf, leaves, canonical_label, relabeled}
+use Rattle.infer_table.specs.Content.{AllConstraintsHeld}
+use Rattle.infer_table.specs.Constraints.{constraint_outline, constraint_pieces, constraints_trees}
+use Rattle.infer_table.specs.declared.canonical.CanonicalVarKind.{CanonicalVarKind}
+use Rattle.infer_table.specs.declared.certainty.Certainty.{Certainty}
+use Rattle.infer_table.specs.declared.terms.RegionConstraint.{RegionConstraint}
+use Rattle.infer_table.specs.declared.response.CanonicalResponse.{CanonicalResponse}
+use Rattle.infer_table.specs.Values.{Value, values_of}
+
+-- an answer, over trees alone
+pub record AnswerTrees : Type 0 where
+  pub kinds : List CanonicalVarKind
+  pub certainty : Certainty
+  pub values : List Value
+  pub constraints : Trees
+
+abbrev pub answer_trees : List Entry → CanonicalResponse → AnswerTrees
+answer_trees es r = record { kinds = r.variables.items; certainty = r.certainty; values = values_of es r.var_values.items; constraints = constraints_trees es r.region_constraints.items }
+
+-- an answer is numbered as the predicate of a goal without where-clauses is: `'static` is a lifetime like any other
+abbrev pub as_goal : Trees → GoalTrees
+as_goal t = record { environment = none; predicate = t }
+
+-- an answer as it is kept
+abbrev pub response_form : List Entry → CanonicalResponse → CanonicalForm
+response_form es r = record { goal = as_goal (args_trees es r.var_values.items +++ constraints_trees es r.region_constraints.items); kinds = map Some r.variables.items }
+
+-- the open leaves, each once, by first occurrence
+abbrev pub answer_leaves : Trees → List Label
+answer_leaves t = leaves kind_of_leaf [] t
+
+-- trees with the canonical variables in the place of these leaves
+abbrev pub numbered_by : List Label → Trees → Trees
+numbered_by ls t = relabeled kind_of_leaf (canonical_label ls) t
+
+-- the handles are an interner's
+pub record ResponseHeld (es : List Entry) (r : CanonicalResponse) : Type 0 where
+  pub values : ArgsHeld es r.var_values.items
+  pub constraints : AllConstraintsHeld es r.region_constraints.items
+
+-- each constraint of the second list is the fold of the one in its place
+abbrev pub ConstraintsFold : (List ℕ → Trees → Does) → List Entry → List RegionConstraint → List Entry → List RegionConstraint → Type 0
+ConstraintsFold f old [] new [] = Unit {0}
+ConstraintsFold f old (x ∷ xs) new (y ∷ ys) = (constraint_outline y ≡ constraint_outline x) × FoldsEach f [] (constraint_pieces old x) (constraint_pieces new y) × ConstraintsFold f old xs new ys
+ConstraintsFold f old _ new _ = ⊥
+
+-- the list grew by some constraints and then by those with these trees
+pub record Records (es : List Entry) (old new : List RegionConstraint) (t : Trees) : Type 0 where
+  pub between : List RegionConstraint
+  pub last : List RegionConstraint
+  pub appended : new ≡ old ++ between ++ last
+  pub trees : constraints_trees es last ≡ t

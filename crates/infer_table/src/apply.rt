@@ -1,0 +1,333 @@
+//! Answers applied to the goal that was asked.
+ghost use Rattle.std.specs.Prelude.{◌≡◌, ◌⊎◌, ℕ, ◌<◌, ◌≤◌, List, ◌++◌, length, get_or, IfOk, IfErr, IfSome, OnOk, OnErr, Err, Some, None, unwrap_or, option_map, ◌==◌, if◌then◌else◌};
+ghost use Rattle.std.specs.Option.{option_or};
+ghost use Rattle.model.specs.Label.{Sort};
+ghost use Rattle.type_terms.specs.Terms.{Entry, Keeps, Has, args_lists};
+ghost use Rattle.type_terms.specs.Kinds.{ArgHeld, ArgsHeld, args_trees, bound_label};
+ghost use Rattle.term_folds.specs.Failures.{SomeKindIsFull};
+ghost use Rattle.infer_table.specs.Solutions.{Assignment, Solves, Equates, HasNoSolution, instance};
+ghost use Rattle.infer_table.specs.Content.{content, variables_of, Ready, Grows, AllConstraintsHeld};
+ghost use Rattle.infer_table.specs.Constraints.{constraints_trees};
+ghost use Rattle.infer_table.specs.Unification.{table_trees};
+ghost use Rattle.infer_table.specs.Leaves.{leaf_label};
+ghost use Rattle.infer_table.specs.Values.{value_of, values_of, filled};
+ghost use Rattle.infer_table.specs.Responses.{answer_trees, ResponseHeld, Records};
+ghost use Rattle.infer_table.specs.Applying.{root_labels, canonical_number, original_of, next_unknown, with_unknown, unknowns_of, table_after, known_value, applied_values, applied_table};
+ghost use Rattle.infer_table.specs.Applied.{solved_in_turn, applied};
+ghost use Rattle.infer_table.specs.Shortages.{HasNoUnknown, SomeHasNoUnknown, SomeRunsOut, IsOutOfNumbers};
+ghost use Rattle.infer_table.specs.Covers.{Agrees, Continues, IsOfKnown, IsWellPosed};
+
+use crate::canonical::CanonicalVarKind;
+use crate::certainty::EqError;
+use crate::constraints::fold_constraints;
+use crate::infer_ctxt::InferCtxt;
+use crate::instantiate::CanonicalInstantiator;
+use crate::response::CanonicalResponse;
+use crate::terms::RegionConstraint;
+use std::alloc::{AllocError, Global};
+use term_folds::foldable::TypeFoldable;
+use type_terms::Fault;
+use type_terms::interner::Interner;
+use type_terms::kinds::{ConstKind, GenericArgKind, TyKind};
+use type_terms::number::{BoundVar, BoundVarIndexKind};
+use type_terms::region::RegionKind;
+
+/// The number of the variable, if it is a canonical one.
+fn number_of(index: BoundVarIndexKind, variable: BoundVar) -> Option<usize>
+    ensures { (s : Sort) → result ≡ canonical_number (bound_label s index variable) }
+{
+    match index {
+        BoundVarIndexKind::Canonical => Some(variable.index as usize),
+        BoundVarIndexKind::Bound(_) => None,
+    }
+}
+
+/// The number of the canonical variable that the value is.
+fn variable_number(cx: &Interner, value: GenericArgKind) -> Option<usize>
+    requires { ArgHeld cx.now.entries value }
+    ensures { result ≡ canonical_number (leaf_label cx.now.entries value) }
+{
+    match value {
+        GenericArgKind::Lifetime(region) => match region.kind {
+            RegionKind::ReBound(index, variable) => number_of(index, variable),
+            _ => None,
+        },
+        GenericArgKind::Ty(ty) => match cx.kind(ty) {
+            TyKind::Bound(index, variable) => number_of(index, variable),
+            _ => None,
+        },
+        GenericArgKind::Const(ct) => match cx.const_kind(ct) {
+            ConstKind::Bound(index, variable) => number_of(index, variable),
+            _ => None,
+        },
+    }
+}
+
+/// Puts the value at this place, unless one stands there or there is no such place.
+fn put_first(known: &mut [Option<GenericArgKind>], place: usize, value: GenericArgKind)
+    ensures { (i : ℕ) → i < length known.old → get_or known.new i None ≡ option_or (get_or known.old i None) (if place == i then Some value else None) }
+{
+    if place < known.len() && known[place].is_none() {
+        known[place] = Some(value);
+    }
+}
+
+/// For each of so many variables the goal's own value at the first place where the answer's value is the variable.
+fn known_values(
+    alloc: Global,
+    cx: &Interner,
+    count: usize,
+    values: &[GenericArgKind],
+    originals: &[GenericArgKind],
+) -> Result<Vec<Option<GenericArgKind>>, AllocError>
+    requires { ArgsHeld cx.now.entries values.now }
+    ensures count { IfOk result (λ r. length r.items ≡ count) }
+    ensures known { IfOk result (λ r. (i : ℕ) → i < count → get_or r.items i None ≡ original_of i (root_labels (values_of cx.now.entries values.now)) originals.now) }
+{
+    let mut known = vec![in alloc; None; count]?;
+    for (value, original) in values.iter().zip(originals) {
+        if let Some(number) = variable_number(cx, *value) {
+            put_first(&mut known, number, *original);
+        }
+    }
+    Ok(known)
+}
+
+/// A new unknown of this kind.
+fn new_unknown(
+    table: &mut InferCtxt,
+    cx: &mut Interner,
+    kind: CanonicalVarKind,
+) -> Result<GenericArgKind, Fault>
+    requires ready { Ready cx.old.entries table.old }
+    ensures ready { Ready cx.new.entries table.new }
+    ensures keeps { Keeps cx.old.entries cx.new.entries }
+    ensures limit { cx.new.limit ≡ cx.old.limit }
+    ensures is { IfOk result (λ a. (es : List Entry) → value_of cx.new.entries a ≡ next_unknown (table_trees es table.old) kind) }
+    ensures held { IfOk result (λ a. ArgHeld cx.new.entries a) }
+    ensures made { OnOk result ((es : List Entry) → table_trees es table.new ≡ with_unknown (table_trees es table.old) kind) }
+    ensures bindings { table.new.values ≡ table.old.values }
+    ensures constraints { table.new.constraints ≡ table.old.constraints }
+    ensures grows { Grows table.old table.new }
+    ensures refused { OnErr result (table.new ≡ table.old) }
+    ensures full { result ≡ Err Fault.Full → SomeKindIsFull cx.new.entries cx.new.limit ⊎ ((es : List Entry) → HasNoUnknown None (table_trees es table.old) kind) }
+{
+    match kind {
+        CanonicalVarKind::Ty | CanonicalVarKind::PlaceholderTy => {
+            let ty = table.next_ty_var(cx)?;
+            Ok(GenericArgKind::Ty(ty))
+        }
+        CanonicalVarKind::Const | CanonicalVarKind::PlaceholderConst => {
+            let ct = table.next_const_var(cx)?;
+            Ok(GenericArgKind::Const(ct))
+        }
+        CanonicalVarKind::Region => {
+            let region = table.next_region_var()?;
+            Ok(GenericArgKind::Lifetime(region))
+        }
+    }
+}
+
+/// The value, or where there is none a new unknown of this kind.
+fn value_or_unknown(
+    table: &mut InferCtxt,
+    cx: &mut Interner,
+    known: Option<GenericArgKind>,
+    kind: CanonicalVarKind,
+) -> Result<GenericArgKind, Fault>
+    requires ready { Ready cx.old.entries table.old }
+    requires known { IfSome known (λ a. ArgHeld cx.old.entries a) }
+    ensures ready { Ready cx.new.entries table.new }
+    ensures keeps { Keeps cx.old.entries cx.new.entries }
+    ensures limit { cx.new.limit ≡ cx.old.limit }
+    ensures is { IfOk result (λ a. (es : List Entry) → value_of cx.new.entries a ≡ unwrap_or (option_map (value_of cx.old.entries) known) (next_unknown (table_trees es table.old) kind)) }
+    ensures held { IfOk result (λ a. ArgHeld cx.new.entries a) }
+    ensures made { OnOk result ((es : List Entry) → table_trees es table.new ≡ table_after (option_map (value_of cx.old.entries) known) (table_trees es table.old) kind) }
+    ensures bindings { table.new.values ≡ table.old.values }
+    ensures constraints { table.new.constraints ≡ table.old.constraints }
+    ensures grows { Grows table.old table.new }
+    ensures refused { OnErr result (table.new ≡ table.old) }
+    ensures full { result ≡ Err Fault.Full → SomeKindIsFull cx.new.entries cx.new.limit ⊎ ((es : List Entry) → HasNoUnknown (option_map (value_of cx.old.entries) known) (table_trees es table.old) kind) }
+{
+    match known {
+        Some(value) => Ok(value),
+        None => new_unknown(table, cx, kind),
+    }
+}
+
+/// What is put in for the answer's variables: the goal's own value where the answer's is the variable itself, and else
+/// a new unknown.
+fn values_to_apply(
+    alloc: Global,
+    cx: &mut Interner,
+    table: &mut InferCtxt,
+    original_values: &[GenericArgKind],
+    response: &CanonicalResponse,
+) -> Result<Vec<GenericArgKind>, Fault>
+    requires values { ArgsHeld cx.old.entries original_values.now }
+    requires response { ResponseHeld cx.old.entries response.now }
+    requires ready { Ready cx.old.entries table.old }
+    ensures ready { Ready cx.new.entries table.new }
+    ensures keeps { Keeps cx.old.entries cx.new.entries }
+    ensures limit { cx.new.limit ≡ cx.old.limit }
+    ensures bindings { table.new.values ≡ table.old.values }
+    ensures constraints { table.new.constraints ≡ table.old.constraints }
+    ensures grows { Grows table.old table.new }
+    ensures made { OnOk result (table_trees cx.old.entries table.new ≡ applied_table (table_trees cx.old.entries table.old) (values_of cx.old.entries original_values.now) (answer_trees cx.old.entries response.now)) }
+    ensures held { IfOk result (λ r. ArgsHeld cx.new.entries r.items) }
+    ensures values { IfOk result (λ r. values_of cx.new.entries r.items ≡ applied_values (table_trees cx.old.entries table.old) (values_of cx.old.entries original_values.now) (answer_trees cx.old.entries response.now)) }
+    ensures full { result ≡ Err Fault.Full → SomeKindIsFull cx.new.entries cx.new.limit ⊎ SomeHasNoUnknown (known_value (answer_trees cx.old.entries response.now) (values_of cx.old.entries original_values.now)) (table_trees cx.old.entries table.old) 0 response.now.variables.items }
+{
+    let count = response.variables.len();
+    let known = known_values(alloc, cx, count, &response.var_values, original_values)?;
+    let mut values = Vec::new(alloc);
+    for (number, kind) in response.variables.iter().enumerate() {
+        let value = value_or_unknown(table, cx, known[number], *kind)?;
+        values.push(value)?;
+    }
+    Ok(values)
+}
+
+/// Makes each value equal to the one in its place; lists of two lengths have no solution.
+fn equate_values(
+    cx: &mut Interner,
+    table: &mut InferCtxt,
+    left: &[GenericArgKind],
+    right: &[GenericArgKind],
+) -> Result<(), EqError>
+    requires left { ArgsHeld cx.old.entries left.now }
+    requires right { ArgsHeld cx.old.entries right.now }
+    requires ready { Ready cx.old.entries table.old }
+    ensures ready { Ready cx.new.entries table.new }
+    ensures grows { Grows table.old table.new }
+    ensures keeps { Keeps cx.old.entries cx.new.entries }
+    ensures limit { cx.new.limit ≡ cx.old.limit }
+    ensures equates { OnOk result (Equates (content cx.old.entries table.old.values) (content cx.new.entries table.new.values) (args_trees cx.old.entries left.now) (args_trees cx.old.entries right.now)) }
+    ensures never { result ≡ Err EqError.NoSolution → HasNoSolution (content cx.old.entries table.old.values) (args_trees cx.old.entries left.now) (args_trees cx.old.entries right.now) }
+    ensures exact { OnOk result (solved_in_turn (table_trees cx.old.entries table.old) (args_trees cx.old.entries left.now) (args_trees cx.old.entries right.now) ≡ Some (table_trees cx.new.entries table.new)) }
+    ensures refusal { result ≡ Err EqError.NoSolution → solved_in_turn (table_trees cx.old.entries table.old) (args_trees cx.old.entries left.now) (args_trees cx.old.entries right.now) ≡ None }
+    ensures full { result ≡ Err (EqError.OutOf Fault.Full) → SomeKindIsFull cx.new.entries cx.new.limit ⊎ SomeRunsOut (table_trees cx.old.entries table.old) (args_trees cx.old.entries left.now) (args_trees cx.old.entries right.now) }
+{
+    cx.lawful();
+    if left.len() != right.len() {
+        return Err(EqError::NoSolution);
+    }
+    for (value, other) in left.iter().zip(right) {
+        table.eq(cx, *value, *other)?;
+    }
+    Ok(())
+}
+
+/// Records the constraints, in order.
+fn record_constraints(table: &mut InferCtxt, constraints: &[RegionConstraint]) -> Result<(), Fault>
+    ensures ready { (es : List Entry) → Ready es table.old → AllConstraintsHeld es constraints.now → Ready es table.new }
+    ensures grows { Grows table.old table.new }
+    ensures kept { table.new ≡ record table.old { constraints = table.new.constraints } }
+    ensures fault { IfErr result (λ e. e ≡ Fault.Memory) }
+    ensures recorded { OnOk result (table.new ≡ record table.old { constraints = table.old.constraints ++ constraints.now }) }
+{
+    for constraint in constraints {
+        table.register_region_constraint(*constraint)?;
+    }
+    Ok(())
+}
+
+/// Equates the values and records the constraints.
+fn apply(
+    alloc: Global,
+    cx: &mut Interner,
+    table: &mut InferCtxt,
+    original_values: &[GenericArgKind],
+    response: &CanonicalResponse,
+) -> Result<(), EqError>
+    requires values { ArgsHeld cx.old.entries original_values.now }
+    requires response { ResponseHeld cx.old.entries response.now }
+    requires ready { Ready cx.old.entries table.old }
+    ensures ready { Ready cx.new.entries table.new }
+    ensures grows { Grows table.old table.new }
+    ensures unknowns { OnOk result ((k : Sort) → unknowns_of (applied_table (table_trees cx.old.entries table.old) (values_of cx.old.entries original_values.now) (answer_trees cx.old.entries response.now)) k ≤ variables_of table.new k) }
+    ensures keeps { Keeps cx.old.entries cx.new.entries }
+    ensures limit { cx.new.limit ≡ cx.old.limit }
+    ensures equates { OnOk result (Equates (content cx.old.entries table.old.values) (content cx.new.entries table.new.values) (args_trees cx.old.entries original_values.now) (filled (applied_values (table_trees cx.old.entries table.old) (values_of cx.old.entries original_values.now) (answer_trees cx.old.entries response.now)) (args_trees cx.old.entries response.now.var_values.items))) }
+    ensures never { result ≡ Err EqError.NoSolution → HasNoSolution (content cx.old.entries table.old.values) (args_trees cx.old.entries original_values.now) (filled (applied_values (table_trees cx.old.entries table.old) (values_of cx.old.entries original_values.now) (answer_trees cx.old.entries response.now)) (args_trees cx.old.entries response.now.var_values.items)) }
+    ensures exact { OnOk result (applied (table_trees cx.old.entries table.old) (values_of cx.old.entries original_values.now) (answer_trees cx.old.entries response.now) ≡ Some (table_trees cx.new.entries table.new)) }
+    ensures refusal { result ≡ Err EqError.NoSolution → applied (table_trees cx.old.entries table.old) (values_of cx.old.entries original_values.now) (answer_trees cx.old.entries response.now) ≡ None }
+    ensures constraints { OnOk result (Records cx.new.entries table.old.constraints table.new.constraints (filled (applied_values (table_trees cx.old.entries table.old) (values_of cx.old.entries original_values.now) (answer_trees cx.old.entries response.now)) (constraints_trees cx.old.entries response.now.region_constraints.items))) }
+    ensures full { result ≡ Err (EqError.OutOf Fault.Full) → SomeKindIsFull cx.new.entries cx.new.limit ⊎ IsOutOfNumbers (table_trees cx.old.entries table.old) (values_of cx.old.entries original_values.now) (answer_trees cx.old.entries response.now) }
+{
+    let values = values_to_apply(alloc, cx, table, original_values, response)?;
+    let folder = CanonicalInstantiator { values: &values };
+    let filled = cx.mk_args(Vec::from_slice(alloc, &response.var_values)?)?;
+    let filled = filled.fold_with(alloc, cx, &folder)?;
+    let constraints = fold_constraints(alloc, cx, &folder, &response.region_constraints)?;
+    let filled = Vec::from_slice(alloc, cx.args(filled))?;
+    match equate_values(cx, table, original_values, &filled) {
+        Ok(()) => Ok(record_constraints(table, &constraints)?),
+        Err(error) => Err(error),
+    }
+}
+
+/// Applies an answer to the goal that was asked, whose values these are.
+///
+/// For each of the answer's variables stands the goal's own value where the answer's value is the variable itself, the
+/// first such; for any other a new unknown of its kind. Then each of the goal's values is made equal to the answer's,
+/// and the answer's constraints on lifetimes are recorded after those that this records. Two lifetimes that differ
+/// are recorded as equal and refuse nothing.
+///
+/// Afterwards the solutions of the table are those from before that make the values equal; `NoSolution` comes exactly
+/// where there is none. After a refusal the table is as it was; the interner may hold more terms. `OutOf(Full)` comes
+/// only where some kind of term has reached its limit, or where a new unknown or a lifetime variable has no number.
+///
+/// What is left, lifetimes and recorded constraints included, is a function of the trees of the goal's values, of the
+/// answer and of what the table held (`applied`), and so is a refusal: no handle decides anything. The values are made
+/// equal from the first on, each pair in the table that those before it left.
+/// `instantiate_and_apply_query_response` of the original.
+pub fn instantiate_and_apply_query_response(
+    alloc: Global,
+    cx: &mut Interner,
+    table: &mut InferCtxt,
+    original_values: &[GenericArgKind],
+    response: &CanonicalResponse,
+) -> Result<(), EqError>
+    requires values { ArgsHeld cx.old.entries original_values.now }
+    requires response { ResponseHeld cx.old.entries response.now }
+    requires ready { Ready cx.old.entries table.old }
+    ensures ready { Ready cx.new.entries table.new }
+    ensures grows { Grows table.old table.new }
+    ensures keeps { Keeps cx.old.entries cx.new.entries }
+    ensures limit { cx.new.limit ≡ cx.old.limit }
+
+    // The new unknowns are variables of the table.
+    ensures unknowns { OnOk result ((k : Sort) → unknowns_of (applied_table (table_trees cx.old.entries table.old) (values_of cx.old.entries original_values.now) (answer_trees cx.old.entries response.now)) k ≤ variables_of table.new k) }
+
+    // The solutions are those from before that make the values equal, and there is none where it says so.
+    ensures equates { OnOk result (Equates (content cx.old.entries table.old.values) (content cx.new.entries table.new.values) (args_trees cx.old.entries original_values.now) (filled (applied_values (table_trees cx.old.entries table.old) (values_of cx.old.entries original_values.now) (answer_trees cx.old.entries response.now)) (args_trees cx.old.entries response.now.var_values.items))) }
+    ensures never { result ≡ Err EqError.NoSolution → HasNoSolution (content cx.old.entries table.old.values) (args_trees cx.old.entries original_values.now) (filled (applied_values (table_trees cx.old.entries table.old) (values_of cx.old.entries original_values.now) (answer_trees cx.old.entries response.now)) (args_trees cx.old.entries response.now.var_values.items)) }
+
+    // A solution with which the answer agrees goes on to the table that is left, and an answer that agrees with one is
+    // not refused for want of a solution. The table speaks of its own unknowns alone, as it did before.
+    ensures kept { OnOk result (IsWellPosed cx.old.entries table.old original_values.now response.now → (s : Assignment) → Solves s (content cx.old.entries table.old.values) → Agrees (args_trees cx.old.entries response.now.var_values.items) (instance s (args_trees cx.old.entries original_values.now)) → (u : Assignment) × Continues (variables_of table.old) s u × Solves u (content cx.new.entries table.new.values)) }
+    ensures accepted { result ≡ Err EqError.NoSolution → IsWellPosed cx.old.entries table.old original_values.now response.now → (s : Assignment) → Solves s (content cx.old.entries table.old.values) → Agrees (args_trees cx.old.entries response.now.var_values.items) (instance s (args_trees cx.old.entries original_values.now)) → ⊥ }
+    ensures known { OnOk result (IsWellPosed cx.old.entries table.old original_values.now response.now → IsOfKnown (variables_of table.new) (content cx.new.entries table.new.values)) }
+
+    // What is left, and whether it is refused, is a function of trees.
+    ensures exact { OnOk result (applied (table_trees cx.old.entries table.old) (values_of cx.old.entries original_values.now) (answer_trees cx.old.entries response.now) ≡ Some (table_trees cx.new.entries table.new)) }
+    ensures refusal { result ≡ Err EqError.NoSolution → applied (table_trees cx.old.entries table.old) (values_of cx.old.entries original_values.now) (answer_trees cx.old.entries response.now) ≡ None }
+
+    // The answer's constraints come last.
+    ensures constraints { OnOk result (Records cx.new.entries table.old.constraints table.new.constraints (filled (applied_values (table_trees cx.old.entries table.old) (values_of cx.old.entries original_values.now) (answer_trees cx.old.entries response.now)) (constraints_trees cx.old.entries response.now.region_constraints.items))) }
+    ensures refused { OnErr result (table.new ≡ table.old) }
+
+    // A full table names the error only where some kind of term has reached its limit, or where a number is missing.
+    ensures full { result ≡ Err (EqError.OutOf Fault.Full) → SomeKindIsFull cx.new.entries cx.new.limit ⊎ IsOutOfNumbers (table_trees cx.old.entries table.old) (values_of cx.old.entries original_values.now) (answer_trees cx.old.entries response.now) }
+{
+    cx.lawful();
+    let place = table.snapshot()?;
+    match apply(alloc, cx, table, original_values, response) {
+        Ok(()) => Ok(()),
+        Err(error) => {
+            table.roll_back(place);
+            Err(error)
+        }
+    }
+}

@@ -1,0 +1,123 @@
+//! Answers put into canonical form.
+ghost use Rattle.std.specs.Prelude.{◌≡◌, ◌≤◌, ◌⊎◌, ℕ, List, [], length, IfOk, IfErr, Err, map, Some};
+ghost use Rattle.model.specs.Trees.{◌+++◌};
+ghost use Rattle.type_terms.specs.Terms.{Keeps, Has, args_lists, trees_at};
+ghost use Rattle.type_terms.specs.Kinds.{ArgsHeld, args_trees};
+ghost use Rattle.type_terms.specs.declared.TheConstants.{MAX_INDEX};
+ghost use Rattle.term_folds.specs.Failures.{SomeKindIsFull};
+ghost use Rattle.infer_table.specs.Canonical.{canonical_form, kind_of_leaf, HasNoCanonical};
+ghost use Rattle.infer_table.specs.Solutions.{Assignment, Solves, instance, resolved};
+ghost use Rattle.infer_table.specs.Content.{content, Ready, AllConstraintsHeld};
+ghost use Rattle.infer_table.specs.Constraints.{constraints_trees};
+ghost use Rattle.infer_table.specs.Leaves.{AreLeaves, OpenAreLeaves, labels};
+ghost use Rattle.infer_table.specs.Responses.{as_goal, response_form, answer_leaves, numbered_by, ResponseHeld};
+ghost use Rattle.infer_table.specs.Covers.{Agrees, AreNumbered};
+
+use crate::canonicalizer::{Canonicalizer, LeafCollector};
+use crate::certainty::Certainty;
+use crate::constraints::{fold_constraints, resolve_constraints};
+use crate::infer_ctxt::InferCtxt;
+use crate::input::variable_kinds;
+use crate::response::CanonicalResponse;
+use crate::terms::RegionConstraint;
+use indexmap::IndexSet;
+use std::alloc::Global;
+use std::ops::ControlFlow;
+use term_folds::foldable::TypeFoldable;
+use term_folds::visitable::TypeVisitable;
+use type_terms::Fault;
+use type_terms::interner::Interner;
+use type_terms::kinds::{GenericArgKind, GenericArgs};
+
+/// The open leaves of the values and then of the constraints, each once, by first occurrence.
+fn collect_leaves(
+    alloc: Global,
+    cx: &Interner,
+    values: GenericArgs,
+    constraints: &[RegionConstraint],
+) -> Result<IndexSet<GenericArgKind>, Fault>
+    requires values { Has cx.now.entries args_lists values.0 }
+    requires constraints { AllConstraintsHeld cx.now.entries constraints.now }
+    ensures listed { IfOk result (λ s. AreLeaves cx.now.entries s.keys) }
+    ensures leaves { IfOk result (λ s. labels cx.now.entries s.keys ≡ answer_leaves (trees_at cx.now.entries values.0 +++ constraints_trees cx.now.entries constraints.now)) }
+    ensures only { IfOk result (λ s. OpenAreLeaves kind_of_leaf (trees_at cx.now.entries values.0)) }
+    ensures memory { IfErr result (λ e. e ≡ Fault.Memory) }
+{
+    let mut collector = LeafCollector {
+        leaves: IndexSet::new(alloc),
+        in_clause: false,
+    };
+    match values.visit_with(cx, &mut collector) {
+        ControlFlow::Break(fault) => return Err(fault),
+        ControlFlow::Continue(()) => {}
+    }
+    for constraint in constraints {
+        match constraint.visit_with(cx, &mut collector) {
+            ControlFlow::Break(fault) => return Err(fault),
+            ControlFlow::Continue(()) => {}
+        }
+    }
+    let LeafCollector {
+        leaves,
+        in_clause: _,
+    } = collector;
+    Ok(leaves)
+}
+
+/// The answer that a table gives to a goal, in canonical form: what it says of the goal's values, and what it recorded
+/// of lifetimes.
+///
+/// The values are those of the goal's variables. With the values of the table's variables put in, they and then the
+/// recorded constraints are numbered: each unknown, parameter, placeholder and lifetime by first occurrence, `'static`
+/// as any other lifetime. So two answers are equal exactly if a renaming carries the one to the other.
+/// An answer whose certainty is an overflow is to say nothing of values or lifetimes: for it `response_no_constraints_raw`
+/// is asked, over the variables of the goal. `Full` comes only where some kind of term has reached its limit or there
+/// are as many leaves as numbers for them, `Memory` where memory is refused. `make_canonical_response` with
+/// `canonicalize_response` of the original.
+pub fn canonicalize_response(
+    alloc: Global,
+    cx: &mut Interner,
+    table: &InferCtxt,
+    certainty: Certainty,
+    values: &[GenericArgKind],
+) -> Result<CanonicalResponse, Fault>
+    requires ready { Ready cx.old.entries table.now }
+    requires held { ArgsHeld cx.old.entries values.now }
+    ensures keeps { Keeps cx.old.entries cx.new.entries }
+    ensures limit { cx.new.limit ≡ cx.old.limit }
+    ensures certainty { IfOk result (λ r. r.certainty ≡ certainty) }
+    ensures held { IfOk result (λ r. ResponseHeld cx.new.entries r) }
+
+    // The form is that of the resolved values and constraints.
+    ensures form { IfOk result (λ r. response_form cx.new.entries r ≡ canonical_form (as_goal (resolved (content cx.old.entries table.now.values) (args_trees cx.old.entries values.now +++ constraints_trees cx.old.entries table.now.constraints)))) }
+
+    // Its values are the resolved values and its constraints the resolved constraints, numbered.
+    ensures values { IfOk result (λ r. args_trees cx.new.entries r.var_values.items ≡ numbered_by (answer_leaves (resolved (content cx.old.entries table.now.values) (args_trees cx.old.entries values.now +++ constraints_trees cx.old.entries table.now.constraints))) (resolved (content cx.old.entries table.now.values) (args_trees cx.old.entries values.now))) }
+    ensures constraints { IfOk result (λ r. constraints_trees cx.new.entries r.region_constraints.items ≡ numbered_by (answer_leaves (resolved (content cx.old.entries table.now.values) (args_trees cx.old.entries values.now +++ constraints_trees cx.old.entries table.now.constraints))) (resolved (content cx.old.entries table.now.values) (constraints_trees cx.old.entries table.now.constraints))) }
+
+    // The answer agrees with each solution of the table, and its variables are of its kinds.
+    ensures agrees { IfOk result (λ r. HasNoCanonical (resolved (content cx.old.entries table.now.values) (args_trees cx.old.entries values.now)) → (s : Assignment) → Solves s (content cx.old.entries table.now.values) → Agrees (args_trees cx.new.entries r.var_values.items) (instance s (args_trees cx.old.entries values.now))) }
+    ensures numbered { IfOk result (λ r. HasNoCanonical (resolved (content cx.old.entries table.now.values) (args_trees cx.old.entries values.now)) → AreNumbered r.variables.items (args_trees cx.new.entries r.var_values.items)) }
+
+    // A full table names the error only where some kind of term has reached its limit, or where the leaves are too many.
+    ensures full { result ≡ Err Fault.Full → SomeKindIsFull cx.new.entries cx.new.limit ⊎ (MAX_INDEX ≤ length (answer_leaves (resolved (content cx.old.entries table.now.values) (args_trees cx.old.entries values.now +++ constraints_trees cx.old.entries table.now.constraints)))) }
+{
+    let given = cx.mk_args(Vec::from_slice(alloc, values)?)?;
+    let resolved = table.eager_resolve_vars(cx, given)?;
+    let constraints = resolve_constraints(alloc, cx, table, table.region_constraints())?;
+    let leaves = collect_leaves(alloc, cx, resolved, &constraints)?;
+    let variables = variable_kinds(alloc, cx, leaves.as_slice())?;
+    let folder = Canonicalizer {
+        leaves: &leaves,
+        in_clause: false,
+    };
+    let numbered = resolved.fold_with(alloc, cx, &folder)?;
+    let region_constraints = fold_constraints(alloc, cx, &folder, &constraints)?;
+    let var_values = Vec::from_slice(alloc, cx.args(numbered))?;
+    Ok(CanonicalResponse {
+        variables,
+        certainty,
+        var_values,
+        region_constraints,
+    })
+}

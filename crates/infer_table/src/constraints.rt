@@ -1,0 +1,62 @@
+//! Lists of constraints on lifetimes, resolved and folded.
+ghost use Rattle.std.specs.Prelude.{◌≡◌, ℕ, List, [], ◌∷◌, ◌++◌, IfOk, OnOk, OnErr, IfErr, Err, ◌⊎◌};
+ghost use Rattle.type_terms.specs.Terms.{Keeps};
+ghost use Rattle.term_folds.specs.Failures.{SomeKindIsFull};
+ghost use Rattle.infer_table.specs.Solutions.{resolved};
+ghost use Rattle.infer_table.specs.Content.{content, Ready, AllConstraintsHeld};
+ghost use Rattle.infer_table.specs.Constraints.{constraints_trees};
+ghost use Rattle.infer_table.specs.Responses.{ConstraintsFold};
+
+use crate::infer_ctxt::InferCtxt;
+use crate::terms::RegionConstraint;
+use std::alloc::Global;
+use term_folds::foldable::TypeFoldable;
+use term_folds::folder::TypeFolder;
+use type_terms::Fault;
+use type_terms::interner::Interner;
+
+/// The constraints with the values of variables in their place.
+pub(crate) fn resolve_constraints(
+    alloc: Global,
+    cx: &mut Interner,
+    table: &InferCtxt,
+    constraints: &[RegionConstraint],
+) -> Result<Vec<RegionConstraint>, Fault>
+    requires ready { Ready cx.old.entries table.now }
+    requires held { AllConstraintsHeld cx.old.entries constraints.now }
+    ensures keeps { Keeps cx.old.entries cx.new.entries }
+    ensures limit { cx.new.limit ≡ cx.old.limit }
+    ensures held { IfOk result (λ r. AllConstraintsHeld cx.new.entries r.items) }
+    ensures resolved { IfOk result (λ r. constraints_trees cx.new.entries r.items ≡ resolved (content cx.old.entries table.now.values) (constraints_trees cx.old.entries constraints.now)) }
+    ensures full { result ≡ Err Fault.Full → SomeKindIsFull cx.new.entries cx.new.limit }
+{
+    let mut resolved = Vec::new(alloc);
+    for constraint in constraints {
+        let next = table.eager_resolve_vars(cx, *constraint)?;
+        resolved.push(next)?;
+    }
+    Ok(resolved)
+}
+
+/// The fold of each constraint, in order.
+pub(crate) fn fold_constraints<F: TypeFolder>(
+    alloc: Global,
+    cx: &mut Interner,
+    folder: &F,
+    constraints: &[RegionConstraint],
+) -> Result<Vec<RegionConstraint>, Fault>
+    requires ready { F.ready folder.now cx.old.entries }
+    requires held { AllConstraintsHeld cx.old.entries constraints.now }
+    ensures keeps { Keeps cx.old.entries cx.new.entries }
+    ensures limit { cx.new.limit ≡ cx.old.limit }
+    ensures held { IfOk result (λ r. AllConstraintsHeld cx.new.entries r.items) }
+    ensures folded { IfOk result (λ r. ConstraintsFold (F.action folder.now cx.old.entries) cx.old.entries constraints.now cx.new.entries r.items) }
+    ensures full { result ≡ Err Fault.Full → SomeKindIsFull cx.new.entries cx.new.limit ⊎ F.refuses folder.now }
+{
+    let mut folded = Vec::new(alloc);
+    for constraint in constraints {
+        let next = constraint.fold_with(alloc, cx, folder)?;
+        folded.push(next)?;
+    }
+    Ok(folded)
+}

@@ -1,0 +1,310 @@
+//! Canonical goals.
+ghost use Rattle.std.specs.Prelude.{◌≡◌, ◌≤◌, ◌↔◌, ◌⊎◌, ℕ, List, length, IfOk, IfErr, Err, IsTrue, IsSome, map, Some};
+ghost use Rattle.type_terms.specs.Terms.{Keeps};
+ghost use Rattle.type_terms.specs.Kinds.{ArgsHeld};
+ghost use Rattle.type_terms.specs.declared.TheConstants.{MAX_INDEX};
+ghost use Rattle.term_folds.specs.Failures.{SomeKindIsFull};
+ghost use Rattle.infer_table.specs.Content.{content, Ready};
+ghost use Rattle.infer_table.specs.Canonical.{GoalTrees, canonical_label, goal_leaves, renamed, relabeled, kind_of_leaf};
+ghost use Rattle.infer_table.specs.Goals.{GoalHeld, PredicateHeld, goal_trees, predicate_trees, goal_resolved};
+ghost use Rattle.infer_table.specs.Leaves.{AreLeaves, AreOpen, OpenAreLeavesOf, labels, leaf_label, IsLeaf, is_closed_goal};
+ghost use Rattle.infer_table.specs.Values.{values_of, goal_filled};
+ghost use Rattle.infer_table.specs.Inputs.{IsCanonicalInput, IsItsOwnForm, IsWithoutCanonical, IsOneQuestion, AreEqual};
+
+use crate::canonical::CanonicalVarKind;
+use crate::canonicalizer::{Canonicalizer, LeafCollector, is_closed};
+use crate::certainty::TypingMode;
+use crate::goal::{Goal, fold_clauses};
+use crate::infer_ctxt::InferCtxt;
+use crate::resolving::resolve_goal;
+use indexmap::IndexSet;
+use std::alloc::Global;
+use std::ops::ControlFlow;
+use term_folds::foldable::TypeFoldable;
+use term_folds::predicate::TraitPredicate;
+use term_folds::visitable::TypeVisitable;
+use term_folds::visitable_ext::TypeVisitableExt;
+use type_terms::Fault;
+use type_terms::interner::Interner;
+use type_terms::kinds::{ConstKind, GenericArgKind, TyKind};
+
+/// A goal in canonical form: what is asked of the search, and the key under which the answer is kept.
+///
+/// `CanonicalInput` of `rustc_type_ir`. Variable i of the form stands for a leaf of the kind `variables[i]`.
+#[derive(PartialEq, Eq, Hash, Debug, Drop)]
+pub struct CanonicalInput {
+    pub mode: TypingMode,
+    pub goal: Goal,
+    pub variables: Vec<CanonicalVarKind>,
+}
+
+/// Whether two canonical goals are one question: whether they are equal.
+///
+/// They are exactly if they are asked in one mode and a renaming carries one of the goals that they were made of
+/// to the other: a one-to-one map of unknowns, of parameters and placeholders, and of lifetimes. So answers are
+/// kept under canonical goals.
+pub fn is_same_question(cx: &Interner, left: &CanonicalInput, right: &CanonicalInput) -> bool
+    ensures equal { IsTrue result ↔ AreEqual left.now right.now }
+    ensures renaming { (g h : GoalTrees) → IsWithoutCanonical g → IsWithoutCanonical h → IsCanonicalInput cx.now.entries g left.now → IsCanonicalInput cx.now.entries h right.now → (IsTrue result ↔ IsOneQuestion left.now.mode g right.now.mode h) }
+{
+    cx.lawful();
+    left == right
+}
+
+/// A goal in canonical form, with the leaves that its variables stand for.
+#[derive(Debug, Drop)]
+pub struct Canonicalized {
+    pub input: CanonicalInput,
+    pub values: Vec<GenericArgKind>,
+}
+
+/// The goal, resolved, in canonical form: each unknown, parameter, placeholder and lifetime numbered by first occurrence.
+///
+/// `(?7, ?9, ?7): Show` and `(?3, ?4, ?3): Show` both give `(^0, ^1, ^0): Show`, and so does `(?7, ?9, ?8): Show`
+/// where ?8 stands for ?7. A parameter and a placeholder are one kind, and so are all lifetimes; `'static` is
+/// numbered too, but not in where-clauses. `Full` comes only where some kind of term has reached its limit or there are
+/// as many leaves as numbers for them, `Memory` where memory is refused. The original's
+/// `Canonicalizer::canonicalize_input`.
+///
+/// A goal without unknowns, parameters or lifetimes is its own form, by one look at the flags of each where-clause and at
+/// those of the predicate, however large they are. In any other goal a predicate without them is one look too, and so is
+/// each type.
+pub fn canonicalize_goal(
+    alloc: Global,
+    cx: &mut Interner,
+    table: &InferCtxt,
+    mode: TypingMode,
+    goal: &Goal,
+) -> Result<Canonicalized, Fault>
+    requires held { GoalHeld cx.old.entries goal.now }
+    requires ready { Ready cx.old.entries table.now }
+    ensures ready { Ready cx.new.entries table.now }
+    ensures keeps { Keeps cx.old.entries cx.new.entries }
+    ensures limit { cx.new.limit ≡ cx.old.limit }
+    ensures mode { IfOk result (λ r. r.input.mode ≡ mode) }
+
+    // The form is that of the resolved goal's trees.
+    ensures form { IfOk result (λ r. IsCanonicalInput cx.new.entries (goal_resolved (content cx.old.entries table.now.values) (goal_trees cx.old.entries goal.now)) r.input) }
+
+    // A goal in which nothing is open is its own form.
+    ensures closed { IfOk result (λ r. IsTrue (is_closed_goal (goal_trees cx.old.entries goal.now)) → IsItsOwnForm mode goal.now r) }
+
+    // The values are the resolved goal's leaves.
+    ensures held { IfOk result (λ r. AreLeaves cx.new.entries r.values.items) }
+    ensures args { IfOk result (λ r. ArgsHeld cx.new.entries r.values.items) }
+    ensures values { IfOk result (λ r. labels cx.new.entries r.values.items ≡ goal_leaves (goal_resolved (content cx.old.entries table.now.values) (goal_trees cx.old.entries goal.now))) }
+
+    // Put in for the variables, they give the resolved goal back.
+    ensures back { IfOk result (λ r. let resolved = goal_resolved (content cx.old.entries table.now.values) (goal_trees cx.old.entries goal.now) in IsWithoutCanonical resolved → goal_filled (values_of cx.new.entries r.values.items) (goal_trees cx.new.entries r.input.goal) ≡ resolved) }
+
+    // A full table names the error only where some kind of term has reached its limit, or where the leaves are too many.
+    ensures full { result ≡ Err Fault.Full → SomeKindIsFull cx.new.entries cx.new.limit ⊎ (MAX_INDEX ≤ length (goal_leaves (goal_resolved (content cx.old.entries table.now.values) (goal_trees cx.old.entries goal.now)))) }
+{
+    if is_closed_goal(cx, goal) {
+        return own_form(alloc, mode, goal);
+    }
+    let resolved = resolve_goal(alloc, cx, table, goal)?;
+    canonicalize_resolved(alloc, cx, mode, &resolved)
+}
+
+/// Nothing open stands in the goal: no unknown, parameter or placeholder, and no `'static` in its predicate.
+fn is_closed_goal(cx: &Interner, goal: &Goal) -> bool
+    requires { GoalHeld cx.now.entries goal.now }
+    ensures { result ≡ is_closed_goal (goal_trees cx.now.entries goal.now) }
+{
+    'clauses: for clause in &goal.param_env {
+        if !is_closed(clause.flags(cx), true) {
+            return false;
+        }
+    }
+    is_closed(goal.predicate.flags(cx), false)
+}
+
+/// The goal as its own canonical form.
+///
+/// Its only fault is `Memory`.
+fn own_form(alloc: Global, mode: TypingMode, goal: &Goal) -> Result<Canonicalized, Fault>
+    ensures form { IfOk result (λ r. IsItsOwnForm mode goal.now r) }
+    ensures memory { IfErr result (λ e. e ≡ Fault.Memory) }
+{
+    let param_env = Vec::from_slice(alloc, &goal.param_env)?;
+    let goal = Goal {
+        param_env,
+        predicate: goal.predicate,
+    };
+    let input = CanonicalInput {
+        mode,
+        goal,
+        variables: Vec::new(alloc),
+    };
+    Ok(Canonicalized {
+        input,
+        values: Vec::new(alloc),
+    })
+}
+
+/// `canonicalize_goal` of a goal that is resolved.
+fn canonicalize_resolved(
+    alloc: Global,
+    cx: &mut Interner,
+    mode: TypingMode,
+    goal: &Goal,
+) -> Result<Canonicalized, Fault>
+    requires { GoalHeld cx.old.entries goal.now }
+    ensures keeps { Keeps cx.old.entries cx.new.entries }
+    ensures limit { cx.new.limit ≡ cx.old.limit }
+    ensures mode { IfOk result (λ r. r.input.mode ≡ mode) }
+
+    // The form is that of the goal's trees.
+    ensures form { IfOk result (λ r. IsCanonicalInput cx.new.entries (goal_trees cx.old.entries goal.now) r.input) }
+
+    // The values are the goal's leaves.
+    ensures held { IfOk result (λ r. AreLeaves cx.new.entries r.values.items) }
+    ensures args { IfOk result (λ r. ArgsHeld cx.new.entries r.values.items) }
+    ensures values { IfOk result (λ r. labels cx.new.entries r.values.items ≡ goal_leaves (goal_trees cx.old.entries goal.now)) }
+
+    // Put in for the variables, they give the goal back.
+    ensures back { IfOk result (λ r. IsWithoutCanonical (goal_trees cx.old.entries goal.now) → goal_filled (values_of cx.new.entries r.values.items) (goal_trees cx.new.entries r.input.goal) ≡ goal_trees cx.old.entries goal.now) }
+
+    // A full table names the error only where some kind of term has reached its limit, or where the leaves are too many.
+    ensures full { result ≡ Err Fault.Full → SomeKindIsFull cx.new.entries cx.new.limit ⊎ (MAX_INDEX ≤ length (goal_leaves (goal_trees cx.old.entries goal.now))) }
+{
+    cx.lawful();
+    let leaves = collect_leaves(alloc, cx, goal)?;
+    let values = Vec::from_slice(alloc, leaves.as_slice())?;
+    let variables = variable_kinds(alloc, cx, &values)?;
+    let goal = number_leaves(alloc, cx, &leaves, goal)?;
+    let input = CanonicalInput {
+        mode,
+        goal,
+        variables,
+    };
+    Ok(Canonicalized { input, values })
+}
+
+/// The goal's open leaves, each once, by first occurrence.
+fn collect_leaves(
+    alloc: Global,
+    cx: &Interner,
+    goal: &Goal,
+) -> Result<IndexSet<GenericArgKind>, Fault>
+    requires { GoalHeld cx.now.entries goal.now }
+    ensures listed { IfOk result (λ s. AreLeaves cx.now.entries s.keys) }
+    ensures leaves { IfOk result (λ s. labels cx.now.entries s.keys ≡ goal_leaves (goal_trees cx.now.entries goal.now)) }
+    ensures only { IfOk result (λ s. OpenAreLeavesOf (goal_trees cx.now.entries goal.now)) }
+    ensures memory { IfErr result (λ e. e ≡ Fault.Memory) }
+{
+    let mut collector = LeafCollector {
+        leaves: IndexSet::new(alloc),
+        in_clause: true,
+    };
+    'clauses: for clause in &goal.param_env {
+        match clause.visit_with(cx, &mut collector) {
+            ControlFlow::Break(fault) => return Err(fault),
+            ControlFlow::Continue(()) => {}
+        }
+    }
+    if !is_closed(goal.predicate.flags(cx), false) {
+        collector.in_clause = false;
+        match goal.predicate.visit_with(cx, &mut collector) {
+            ControlFlow::Break(fault) => return Err(fault),
+            ControlFlow::Continue(()) => {}
+        }
+    }
+    let LeafCollector {
+        leaves,
+        in_clause: _,
+    } = collector;
+    Ok(leaves)
+}
+
+/// What each leaf is.
+///
+/// Its only fault is `Memory`.
+pub fn variable_kinds(
+    alloc: Global,
+    cx: &Interner,
+    leaves: &[GenericArgKind],
+) -> Result<Vec<CanonicalVarKind>, Fault>
+    requires listed { AreLeaves cx.now.entries leaves.now }
+    requires open { AreOpen (labels cx.now.entries leaves.now) }
+    ensures kinds { IfOk result (λ ks. map Some ks.items ≡ map kind_of_leaf (labels cx.now.entries leaves.now)) }
+    ensures memory { IfErr result (λ e. e ≡ Fault.Memory) }
+{
+    let mut kinds = Vec::new(alloc);
+    'leaves: for leaf in leaves {
+        kinds.push(variable_kind(cx, *leaf))?;
+    }
+    Ok(kinds)
+}
+
+/// What a leaf is.
+fn variable_kind(cx: &Interner, leaf: GenericArgKind) -> CanonicalVarKind
+    requires leaf { IsLeaf cx.now.entries leaf }
+    requires open { IsSome (kind_of_leaf (leaf_label cx.now.entries leaf)) }
+    ensures { Some result ≡ kind_of_leaf (leaf_label cx.now.entries leaf) }
+{
+    match leaf {
+        GenericArgKind::Lifetime(_) => CanonicalVarKind::Region,
+        GenericArgKind::Ty(ty) => match cx.kind(ty) {
+            TyKind::Infer(_) => CanonicalVarKind::Ty,
+            _ => CanonicalVarKind::PlaceholderTy,
+        },
+        GenericArgKind::Const(ct) => match cx.const_kind(ct) {
+            ConstKind::Infer(_) => CanonicalVarKind::Const,
+            _ => CanonicalVarKind::PlaceholderConst,
+        },
+    }
+}
+
+/// The goal with the canonical variables in the place of its leaves.
+fn number_leaves(
+    alloc: Global,
+    cx: &mut Interner,
+    leaves: &IndexSet<GenericArgKind>,
+    goal: &Goal,
+) -> Result<Goal, Fault>
+    requires goal { GoalHeld cx.old.entries goal.now }
+    requires listed { AreLeaves cx.old.entries leaves.now.keys }
+    ensures keeps { Keeps cx.old.entries cx.new.entries }
+    ensures limit { cx.new.limit ≡ cx.old.limit }
+    ensures held { IfOk result (λ r. GoalHeld cx.new.entries r) }
+    ensures numbered { IfOk result (λ r. goal_trees cx.new.entries r ≡ renamed (canonical_label (labels cx.old.entries leaves.now.keys)) (goal_trees cx.old.entries goal.now)) }
+    ensures full { result ≡ Err Fault.Full → SomeKindIsFull cx.new.entries cx.new.limit ⊎ (MAX_INDEX ≤ length leaves.now.keys) }
+{
+    let predicate = number_predicate(alloc, cx, leaves, goal.predicate)?;
+    let in_clauses = Canonicalizer {
+        leaves,
+        in_clause: true,
+    };
+    let param_env = fold_clauses(alloc, cx, &in_clauses, &goal.param_env)?;
+    Ok(Goal {
+        param_env,
+        predicate,
+    })
+}
+
+/// The predicate with the canonical variables in the place of its leaves: itself, where it has none.
+fn number_predicate(
+    alloc: Global,
+    cx: &mut Interner,
+    leaves: &IndexSet<GenericArgKind>,
+    predicate: TraitPredicate,
+) -> Result<TraitPredicate, Fault>
+    requires held { PredicateHeld cx.old.entries predicate }
+    requires listed { AreLeaves cx.old.entries leaves.now.keys }
+    ensures keeps { Keeps cx.old.entries cx.new.entries }
+    ensures limit { cx.new.limit ≡ cx.old.limit }
+    ensures held { IfOk result (λ r. PredicateHeld cx.new.entries r) }
+    ensures numbered { IfOk result (λ r. predicate_trees cx.new.entries r ≡ relabeled kind_of_leaf (canonical_label (labels cx.old.entries leaves.now.keys)) (predicate_trees cx.old.entries predicate)) }
+    ensures full { result ≡ Err Fault.Full → SomeKindIsFull cx.new.entries cx.new.limit ⊎ (MAX_INDEX ≤ length leaves.now.keys) }
+{
+    if is_closed(predicate.flags(cx), false) {
+        return Ok(predicate);
+    }
+    let outside_clauses = Canonicalizer {
+        leaves,
+        in_clause: false,
+    };
+    predicate.fold_with(alloc, cx, &outside_clauses)
+}

@@ -1,0 +1,96 @@
+//! The answer that says nothing.
+ghost use Rattle.std.specs.Prelude.{◌≡◌, ℕ, ◌<◌, List, [], map, IfOk, OnErr, Err, length, ◌⊎◌};
+ghost use Rattle.model.specs.Label.{canonical};
+ghost use Rattle.model.specs.Trees.{leaf};
+ghost use Rattle.type_terms.specs.Terms.{Entry, Keeps, Lawful, types, consts, held};
+ghost use Rattle.type_terms.specs.Kinds.{ArgHeld, ArgsHeld, args_trees};
+ghost use Rattle.type_terms.specs.declared.TheConstants.{MAX_INDEX};
+ghost use Rattle.type_terms.specs.declared.kinds.GenericArgKind.{GenericArgKind};
+ghost use Rattle.infer_table.specs.Solutions.{Assignment, IsSorted, instance};
+ghost use Rattle.infer_table.specs.Values.{sort_of_arg, value_of, values_of};
+ghost use Rattle.infer_table.specs.Raw.{sort_of_kind, variable_value, variables_from, IsFull};
+ghost use Rattle.infer_table.specs.Covers.{Agrees, AreNumbered};
+
+use crate::canonical::CanonicalVarKind;
+use crate::certainty::Certainty;
+use crate::response::CanonicalResponse;
+use std::alloc::Global;
+use type_terms::interner::Interner;
+use type_terms::kinds::{ConstKind, GenericArgKind, TyKind};
+use type_terms::number::{BoundVar, BoundVarIndexKind};
+use type_terms::region::{Region, RegionKind};
+use type_terms::{Fault, MAX_INDEX};
+
+/// The canonical variable of this number, of the sort of its kind.
+fn canonical_variable(
+    cx: &mut Interner,
+    kind: CanonicalVarKind,
+    variable: BoundVar,
+) -> Result<GenericArgKind, Fault>
+    ensures is { IfOk result (λ a. value_of cx.new.entries a ≡ variable_value kind variable.index) }
+    ensures held { IfOk result (λ a. ArgHeld cx.new.entries a) }
+    ensures keeps { Keeps cx.old.entries cx.new.entries }
+    ensures limit { cx.new.limit ≡ cx.old.limit }
+    ensures full { result ≡ Err Fault.Full → IsFull cx.new.entries cx.new.limit }
+{
+    let index = BoundVarIndexKind::Canonical;
+    match kind {
+        CanonicalVarKind::Ty | CanonicalVarKind::PlaceholderTy => {
+            let ty = cx.mk_ty(TyKind::Bound(index, variable))?;
+            Ok(GenericArgKind::Ty(ty))
+        }
+        CanonicalVarKind::Const | CanonicalVarKind::PlaceholderConst => {
+            let ct = cx.mk_const(ConstKind::Bound(index, variable))?;
+            Ok(GenericArgKind::Const(ct))
+        }
+        CanonicalVarKind::Region => Ok(GenericArgKind::Lifetime(Region {
+            kind: RegionKind::ReBound(index, variable),
+        })),
+    }
+}
+
+/// The answer in which each variable stands for itself and no lifetime is constrained.
+///
+/// It is what is left to say where a search gave up: an answer whose certainty is an overflow is this one, over the
+/// variables of the goal that was asked. Whoever builds answers asks for it in that case; `canonicalize_response`
+/// does not look at the certainty.
+///
+/// `Full` comes where there are more variables than numbers for them or one of the interner's tables is full,
+/// `Memory` where memory is refused. `response_no_constraints_raw` of the original.
+pub fn response_no_constraints_raw(
+    alloc: Global,
+    cx: &mut Interner,
+    variables: Vec<CanonicalVarKind>,
+    certainty: Certainty,
+) -> Result<CanonicalResponse, Fault>
+    ensures keeps { Keeps cx.old.entries cx.new.entries }
+    ensures limit { cx.new.limit ≡ cx.old.limit }
+    ensures variables { IfOk result (λ r. r.variables ≡ variables) }
+    ensures certainty { IfOk result (λ r. r.certainty ≡ certainty) }
+    ensures constraints { IfOk result (λ r. r.region_constraints.items ≡ []) }
+    ensures held { IfOk result (λ r. ArgsHeld cx.new.entries r.var_values.items) }
+    ensures values { IfOk result (λ r. values_of cx.new.entries r.var_values.items ≡ variables_from 0 variables.items) }
+
+    // Its variables are of its kinds, and it agrees with all values of their sorts.
+    ensures numbered { IfOk result (λ r. AreNumbered r.variables.items (args_trees cx.new.entries r.var_values.items)) }
+    ensures agrees { IfOk result (λ r. (es : List Entry) (s : Assignment) (xs : List GenericArgKind) → Lawful es → ArgsHeld es xs → IsSorted s → map sort_of_arg xs ≡ map sort_of_kind variables.items → Agrees (args_trees cx.new.entries r.var_values.items) (instance s (args_trees es xs))) }
+    ensures full { result ≡ Err Fault.Full → (MAX_INDEX < length variables.items) ⊎ IsFull cx.new.entries cx.new.limit }
+{
+    let mut var_values = Vec::new(alloc);
+    for (place, kind) in variables.iter().enumerate() {
+        if place >= MAX_INDEX as usize {
+            return Err(Fault::Full);
+        }
+        let variable = BoundVar {
+            index: place as u32,
+        };
+        let value = canonical_variable(cx, *kind, variable)?;
+        var_values.push(value)?;
+    }
+    Ok(CanonicalResponse {
+        variables,
+        certainty,
+        var_values,
+        region_constraints: Vec::new(alloc),
+    })
+}

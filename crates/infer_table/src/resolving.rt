@@ -1,0 +1,65 @@
+//! Goals resolved by a table.
+ghost use Rattle.std.specs.Prelude.{◌≡◌, IfOk, Err};
+ghost use Rattle.type_terms.specs.Terms.{Keeps};
+ghost use Rattle.term_folds.specs.Failures.{SomeKindIsFull};
+ghost use Rattle.infer_table.specs.Content.{content, Ready};
+ghost use Rattle.infer_table.specs.Goals.{GoalHeld, ClausesHeld, goal_trees, environment_trees, goal_resolved};
+ghost use Rattle.infer_table.specs.Solutions.{resolved};
+
+use crate::goal::Goal;
+use crate::infer_ctxt::InferCtxt;
+use std::alloc::Global;
+use term_folds::predicate::Clause;
+use type_terms::Fault;
+use type_terms::interner::Interner;
+
+/// The goal with each variable that has a value replaced by it, and so on in the values.
+///
+/// `Full` comes only where some kind of term has reached its limit, `Memory` where memory is refused.
+/// `eager_resolve_vars` of a goal.
+pub fn resolve_goal(
+    alloc: Global,
+    cx: &mut Interner,
+    table: &InferCtxt,
+    goal: &Goal,
+) -> Result<Goal, Fault>
+    requires held { GoalHeld cx.old.entries goal.now }
+    requires ready { Ready cx.old.entries table.now }
+    ensures ready { Ready cx.new.entries table.now }
+    ensures keeps { Keeps cx.old.entries cx.new.entries }
+    ensures limit { cx.new.limit ≡ cx.old.limit }
+    ensures held { IfOk result (λ r. GoalHeld cx.new.entries r) }
+    ensures resolved { IfOk result (λ r. goal_trees cx.new.entries r ≡ goal_resolved (content cx.old.entries table.now.values) (goal_trees cx.old.entries goal.now)) }
+    ensures full { result ≡ Err Fault.Full → SomeKindIsFull cx.new.entries cx.new.limit }
+{
+    let param_env = resolve_clauses(alloc, cx, table, &goal.param_env)?;
+    let predicate = table.eager_resolve_vars(cx, goal.predicate)?;
+    Ok(Goal {
+        param_env,
+        predicate,
+    })
+}
+
+/// Each clause resolved, in order.
+fn resolve_clauses(
+    alloc: Global,
+    cx: &mut Interner,
+    table: &InferCtxt,
+    clauses: &[Clause],
+) -> Result<Vec<Clause>, Fault>
+    requires held { ClausesHeld cx.old.entries clauses.now }
+    requires ready { Ready cx.old.entries table.now }
+    ensures ready { Ready cx.new.entries table.now }
+    ensures keeps { Keeps cx.old.entries cx.new.entries }
+    ensures limit { cx.new.limit ≡ cx.old.limit }
+    ensures held { IfOk result (λ r. ClausesHeld cx.new.entries r.items) }
+    ensures resolved { IfOk result (λ r. environment_trees cx.new.entries r.items ≡ resolved (content cx.old.entries table.now.values) (environment_trees cx.old.entries clauses.now)) }
+    ensures full { result ≡ Err Fault.Full → SomeKindIsFull cx.new.entries cx.new.limit }
+{
+    let mut resolved = Vec::new(alloc);
+    for clause in clauses {
+        let next = table.eager_resolve_vars(cx, *clause)?;
+        resolved.push(next)?;
+    }
+    Ok(resolved)
+}

@@ -1,0 +1,19 @@
+use Rattle.std.proofs.Common.{◌∙◌, ap, sym, subst}
+use Rattle.evaluation.specs.Readings.{ResultHeld}
+use Rattle.goal_frames.specs.Fitting.{ResultFits}
+use Rattle.goal_frames.specs.Readings.{result_read}
+use Rattle.root_goals.specs.declared.context.SolverCx.{SolverCx}
+use Rattle.root_goals.specs.Contexts.{IsReady}
+use Rattle.root_goals.proofs.Growing.{answer-kept}
+use Rattle.root_goals.proofs.context.SolverCx.keep_answer.Goals as goal
+
+pub returns-in_ok-id-in-Some-clause-is : goal.returns-in_ok-id-in-Some-clause-is
+returns-in_ok-id-in-Some-clause-is g c =
+    let cx = c.args.self.now in
+    let es = cx.interner.entries in
+    let ready = g.H.GoalHandler.ready in
+    let new : SolverCx g.row.H.Denot = record cx { store = c.keep_response.new.self } in
+    let held = subst (ResultHeld es) c.in-Some.is c.requires.held in
+    let now : IsReady ready new = record { handler = c.requires.ready.handler; store = c.keep_response.ensures.held es held c.requires.ready.store; lawful = c.requires.ready.lawful } in
+    let kept = answer-kept ready new c.in_ok-id-in-Some.id c.in-Some.response now c.in_ok-id-in-Some.ensures.is (subst (ResultFits es) c.in-Some.is c.requires.fits) in
+    (kept.0, kept.1 ∙ sym (ap (result_read es) c.in-Some.is))

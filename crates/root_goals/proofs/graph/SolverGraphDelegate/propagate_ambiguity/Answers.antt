@@ -1,0 +1,30 @@
+use Rattle.std.proofs.Common.{◌≡◌, sym, subst}
+use Rattle.infer_table.specs.declared.certainty.Certainty.TheVariants.{Maybe}
+use Rattle.search_graph.specs.Meaning.{IsFair}
+use Rattle.goal_frames.specs.HandlerPrograms.{silent}
+use Rattle.goal_frames.proofs.HandlerPrograms.{handlers-are-programs}
+use Rattle.root_goals.specs.Contexts.{goal_of, answer_of, IsResult}
+use Rattle.root_goals.specs.Searching.{solver_meaning}
+use Rattle.root_goals.proofs.Fairness.{silent-fair}
+use Rattle.root_goals.proofs.Silences.{one-ok}
+use Rattle.root_goals.proofs.Growing.{keeps}
+use Rattle.root_goals.proofs.graph.SolverGraphDelegate.propagate_ambiguity.Goals as goal
+
+pub returns-clause-keeps : goal.returns-clause-keeps
+returns-clause-keeps g c =
+    let h = g.H.GoalHandler in
+    keeps h.handled h.Rule h.coinductive h.ready h.meaning g.met.H.GoalHandler.meaning_kept c.args.cx.now c.silent_answer.new.cx c.requires.0 c.silent_answer.ensures.advances
+
+pub returns-clause-fair : goal.returns-clause-fair
+returns-clause-fair g c =
+    let h = g.H.GoalHandler in
+    let m = g.met.H.GoalHandler in
+    let cx = c.args.cx.now in
+    let asked = goal_of cx c.args.for_input.now in
+    let w = h.meaning cx.handler cx.interner.entries in
+    let laws = handlers-are-programs h.handled h.Rule h.coinductive m.begins m.lawful m.instances m.rules m.kinds m.numbers m.worlds m.outside in
+    let cause = c.args.ambiguity_info in
+    one-ok (λ r. IsResult h.ready c.silent_answer.new.cx r × (answer_of c.silent_answer.new.cx r ≡ silent asked.1 (Maybe cause)))
+    (λ r. IsFair (solver_meaning h.handled h.Rule h.coinductive h.ready h.meaning) w asked (answer_of c.silent_answer.new.cx r)) c.silent_answer.result
+    (λ r x. subst (IsFair (solver_meaning h.handled h.Rule h.coinductive h.ready h.meaning) w asked) (sym x.1) (silent-fair h.handled h.Rule h.coinductive h.ready h.meaning m.begins m.lawful laws w asked (Maybe cause)))
+    c.silent_answer.ensures.is

@@ -1,0 +1,58 @@
+-- The laws of the solver's contexts and frames: what a search rests on.
+use Rattle.std.proofs.Common.{◌≡◌, ◌≤◌, ◌∙◌, Bool, true, List, refl, sym, ap, subst, Option, Some, None, option_map}
+use Rattle.std.proofs.Math.Nat.{le_refl}
+use Rattle.std.specs.Option.{option_eq}
+use Rattle.type_terms.specs.Terms.{Entry}
+use Rattle.search_graph.specs.declared.delegate.Reply.{Reply}
+use Rattle.search_graph.specs.Meaning.{Keeps, IsLawful}
+use Rattle.infer_table.specs.Canonical.{CanonicalForm}
+use Rattle.infer_table.specs.declared.certainty.TypingMode.{TypingMode}
+use Rattle.infer_table.specs.Inputs.{form_of}
+use Rattle.infer_table.specs.Responses.{AnswerTrees, answer_trees}
+use Rattle.evaluation.specs.Handler.{Handled}
+use Rattle.table_laws.specs.Content.{Fact}
+use Rattle.evaluation_laws.specs.Tables.{frame_tables}
+use Rattle.evaluation_laws.proofs.Laws.{tables_are_lawful}
+use Rattle.goal_frames.proofs.Lawful.{lawful}
+use Rattle.goal_frames.specs.declared.store.ResponseId.{ResponseId}
+use Rattle.goal_frames.specs.contracts.store.ResponseIdPartialEq.TheImpl.{ghosts as response}
+use Rattle.goal_frames.specs.Stores.{answer_at}
+use Rattle.goal_frames.proofs.Numbers.{one-answer, response-id-eq}
+use Rattle.goal_frames.specs.declared.frame.GoalFrame.{GoalFrame}
+use Rattle.goal_frames.specs.HandlerPrograms.{HandlersArePrograms}
+use Rattle.goal_frames.specs.Steps as Steps
+use Rattle.root_goals.specs.declared.context.SolverCx.{SolverCx}
+use Rattle.root_goals.specs.Contexts.{Asked, entries_of, answer_of, IsResult}
+use Rattle.root_goals.specs.Searching.{programs, handles, HasHeard, solver_meaning, world_of, steps_left}
+
+same-number : (a b : ResponseId) → a ≡ b → response.eq a b ≡ true
+same-number a b e = (response-id-eq a b).1 e
+
+module _ {Handler : Type 0} (ready : Handler → List Entry → Type 0) where
+  -- results that stand for one answer are equal
+  pub same-answer : (c : SolverCx Handler) (r s : Option ResponseId) → IsResult ready c r → IsResult ready c s → answer_of c r ≡ answer_of c s → option_eq response.eq r s ≡ true
+  same-answer c None None x y e = refl
+  same-answer c None (Some j) x y e = let there = ap (option_map (answer_trees (entries_of c))) y.1.1 in cc
+  same-answer c (Some i) None x y e = let there = ap (option_map (answer_trees (entries_of c))) x.1.1 in cc
+  same-answer c (Some i) (Some j) x y e =
+      let a = answer_trees (entries_of c) x.1.0 in
+      let here : answer_at (entries_of c) c.store i ≡ Some a = ap (option_map (answer_trees (entries_of c))) x.1.1 in
+      same-number i j (one-answer (entries_of c) c.store i j a x.0.lawful x.0.store here (sym e ∙ here))
+
+module _ {World Handler : Type 0} (handled : World → TypingMode → CanonicalForm → Handled frame_tables) (Rule : World → Fact → List Fact → Type 0) (coinductive : World → Fact → Bool)
+    (ready : Handler → List Entry → Type 0) (meaning_of : Handler → List Entry → World) where
+  pub solver-lawful : HandlersArePrograms handled Rule coinductive → IsLawful (solver_meaning handled Rule coinductive ready meaning_of)
+  solver-lawful laws = lawful frame_tables tables_are_lawful (programs handled Rule coinductive) laws (handles handled Rule coinductive ready meaning_of)
+
+  steps-same : (f : GoalFrame) (mode : TypingMode) (w v : World) (x y : CanonicalForm) → w ≡ v → x ≡ y → Steps.steps_left (handled w mode x) f ≤ Steps.steps_left (handled v mode y) f
+  steps-same f mode w v x y e h =
+      subst (λ z. Steps.steps_left (handled w mode x) f ≤ Steps.steps_left (handled z mode y) f) e
+      (subst (λ z. Steps.steps_left (handled w mode x) f ≤ Steps.steps_left (handled w mode z) f) h (le_refl (Steps.steps_left (handled w mode x) f)))
+
+  -- a context that has grown leaves a frame as many steps
+  pub steps-kept : (c d : SolverCx Handler) (g : Asked) (heard : List (Reply (Option AnswerTrees))) (f : GoalFrame) → Keeps (solver_meaning handled Rule coinductive ready meaning_of) c d
+      → HasHeard handled Rule coinductive ready meaning_of c g heard f → steps_left handled Rule coinductive ready meaning_of d f ≤ steps_left handled Rule coinductive ready meaning_of c f
+  steps-kept c d g heard f k h =
+      let later = k.frames g heard f h in
+      steps-same f f.goal.mode (world_of handled Rule coinductive ready meaning_of d) (world_of handled Rule coinductive ready meaning_of c) (form_of (entries_of d) f.goal) (form_of (entries_of c) f.goal)
+      k.world (later.form ∙ sym h.form)

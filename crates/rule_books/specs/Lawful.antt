@@ -1,0 +1,119 @@
+-- The goals of a list of rules in code are lawful programs.
+use Rattle.std.proofs.Common.{◌≡◌, ℕ, zero, suc, ◌+◌, arith, Bool, true, false, ◌&&◌, ◌||◌, List, [], ◌∷◌, ◌⊎◌, inl, inr, refl, sym, ◌∙◌, ap, if◌then◌else◌, Some}
+use Rattle.std.specs.List.{list_all}
+use Rattle.std.proofs.lemmas.Bool.{eqb-true}
+use Rattle.model.specs.Label.{Label, Sort, canonical}
+use Rattle.model.specs.Trees.{Trees, none, tree, is_sort, some_node}
+use Rattle.infer_table.specs.Canonical.{CanonicalForm}
+use Rattle.infer_table.specs.declared.canonical.CanonicalVarKind.{CanonicalVarKind}
+use Rattle.infer_table.specs.declared.canonical.CanonicalVarKind.TheVariants.{Ty, PlaceholderTy, Const, PlaceholderConst, Region}
+use Rattle.infer_table.specs.declared.certainty.TypingMode.{TypingMode}
+use Rattle.infer_table.specs.Raw.{sort_of_kind}
+use Rattle.evaluation.specs.Handler.{Handled, IsHandler}
+use Rattle.evaluation.specs.Lists.{Every}
+use Rattle.evaluation.proofs.ListLaws.{Every-mono}
+use Rattle.table_laws.specs.Frames.{kind_at}
+use Rattle.table_laws.proofs.Equating.{is-sort}
+use Rattle.table_laws.proofs.Made.{false-true, left, right}
+use Rattle.evaluation_laws.specs.Tables.{frame_tables}
+use Rattle.goal_frames.specs.Rules.{Bound, Rule, RuleBook, IsUnknown, IsOver, StandsIn, IsDeterminedBy, IsRule}
+use Rattle.goal_frames.specs.Handlers.{is_variable_label, handled_by}
+use Rattle.goal_frames.specs.RulePrograms.{DeclaredRules}
+use Rattle.goal_frames.proofs.RulePrograms.{rules-are-programs}
+use Rattle.goal_frames.proofs.Slots.{kind-of}
+use Rattle.goal_frames.specs.HandlerPrograms.{KeepNumbers, KeepWorlds}
+use Rattle.rule_books.specs.Books.{is_unknown, is_over, all_stand, are_terms_over, is_rule, sound_rules, sound_book}
+
+-- ---- the rules that are as they are to be
+kinds-are : (ks : List CanonicalVarKind) → list_all is_unknown ks ≡ true → Every IsUnknown ks
+kinds-are [] h = tt
+kinds-are (Ty ∷ ks) h = (tt, kinds-are ks h)
+kinds-are (Const ∷ ks) h = (tt, kinds-are ks h)
+kinds-are (PlaceholderTy ∷ ks) h = absurd (false-true h)
+kinds-are (PlaceholderConst ∷ ks) h = absurd (false-true h)
+kinds-are (Region ∷ ks) h = absurd (false-true h)
+
+over-each : (kinds : List CanonicalVarKind) (bs : List Bound) → list_all (is_over kinds) bs ≡ true → Every (IsOver kinds) bs
+over-each kinds [] h = tt
+over-each kinds (b ∷ bs) h = (left (is_over kinds b) (list_all (is_over kinds) bs) h, over-each kinds bs (right (is_over kinds b) (list_all (is_over kinds) bs) h))
+
+or-cases : (a b : Bool) → (a || b) ≡ true → (a ≡ true) ⊎ (b ≡ true)
+or-cases true b h = inl refl
+or-cases false b h = inr h
+
+variable-label : (k : Sort) (i : ℕ) (l : Label) → is_variable_label k i l ≡ true → l ≡ canonical k i
+variable-label k i (canonical s j) h = ap (λ z. canonical z j) (is-sort s k (left (is_sort s k) _ h)) ∙ ap (canonical k) (eqb-true j i (right (is_sort s k) _ h))
+variable-label k i l h = absurd (false-true h)
+
+some-stands : (k : Sort) (i : ℕ) (t : Trees) → some_node (is_variable_label k i) t ≡ true → StandsIn (canonical k i) t
+some-stands k i none h = absurd (false-true h)
+some-stands k i (tree l c o) h =
+    by (or-cases (is_variable_label k i l || some_node (is_variable_label k i) c) (some_node (is_variable_label k i) o) h) (λ e. some-stands k i c e) (λ e. some-stands k i o e)
+  where
+    here : (is_variable_label k i l ≡ true) ⊎ (some_node (is_variable_label k i) c ≡ true) → (some_node (is_variable_label k i) c ≡ true → StandsIn (canonical k i) c) → StandsIn (canonical k i) (tree l c o)
+    here (inl e) f = inl (variable-label k i l e)
+    here (inr e) f = inr (inl (f e))
+
+    by : ((is_variable_label k i l || some_node (is_variable_label k i) c) ≡ true) ⊎ (some_node (is_variable_label k i) o ≡ true) → (some_node (is_variable_label k i) c ≡ true → StandsIn (canonical k i) c)
+        → (some_node (is_variable_label k i) o ≡ true → StandsIn (canonical k i) o) → StandsIn (canonical k i) (tree l c o)
+    by (inl e) f g = here (or-cases (is_variable_label k i l) (some_node (is_variable_label k i) c) e) f
+    by (inr e) f g = inr (inr (g e))
+
+-- the variable of each kind stands in trees in which all stand
+stands-at : (n i : ℕ) (ks : List CanonicalVarKind) (t : Trees) (j : CanonicalVarKind) → all_stand n ks t ≡ true → kind_at ks i ≡ Some j → some_node (is_variable_label (sort_of_kind j) (n + i)) t ≡ true
+stands-at n i [] t j h e = absurd (cc)
+stands-at n zero (k ∷ ks) t j h e = ap (λ (z : CanonicalVarKind). some_node (is_variable_label (sort_of_kind z) (n + zero)) t) (sym (same e)) ∙ ap (λ m. some_node (is_variable_label (sort_of_kind k) m) t) (plus-zero n) ∙ left _ _ h
+  where
+    same : Some k ≡ Some j → k ≡ j
+    same e = cc
+
+    plus-zero : (m : ℕ) → m + zero ≡ m
+    plus-zero m = omega arith
+stands-at n (suc i) (k ∷ ks) t j h e = ap (λ m. some_node (is_variable_label (sort_of_kind j) m) t) (plus-suc n i) ∙ stands-at (suc n) i ks t j (right (some_node (is_variable_label (sort_of_kind k) n) t) _ h) e
+  where
+    plus-suc : (m i : ℕ) → m + suc i ≡ suc m + i
+    plus-suc m i = omega arith
+
+determined-by : (kinds : List CanonicalVarKind) (head premise : Bound) → all_stand 0 kinds head.arguments ≡ true → IsOver kinds premise → IsDeterminedBy head premise
+determined-by kinds head premise h o = λ k i s.
+    let x = kind-of kinds premise.arguments o k i s in
+    some-stands k i head.arguments (ap (λ z. some_node (is_variable_label z i) head.arguments) (sym x.sort) ∙ ap (λ m. some_node (is_variable_label (sort_of_kind x.kind) m) head.arguments) (zero-plus i) ∙ stands-at 0 i kinds head.arguments x.kind h x.is)
+  where
+    zero-plus : (m : ℕ) → m ≡ 0 + m
+    zero-plus m = omega arith
+
+rule-is : (r : Rule) → is_rule r ≡ true → IsRule r
+rule-is r h =
+    let t = right (list_all is_unknown r.kinds) (are_terms_over r) h in
+    let a = left (is_over r.kinds r.head && all_stand 0 r.kinds r.head.arguments) (list_all (is_over r.kinds) r.premises) t in
+    let p = over-each r.kinds r.premises (right (is_over r.kinds r.head && all_stand 0 r.kinds r.head.arguments) (list_all (is_over r.kinds) r.premises) t) in
+    record {
+      kinds = kinds-are r.kinds (left (list_all is_unknown r.kinds) (are_terms_over r) h);
+      head = left (is_over r.kinds r.head) (all_stand 0 r.kinds r.head.arguments) a;
+      premises = p;
+      determined = Every-mono (IsOver r.kinds) (IsDeterminedBy r.head) (λ b o. determined-by r.kinds r.head b (right (is_over r.kinds r.head) (all_stand 0 r.kinds r.head.arguments) a) o) r.premises p;
+    }
+
+pub sound-rules-are : (rules : List Rule) → Every IsRule (sound_rules rules)
+sound-rules-are [] = tt
+sound-rules-are (r ∷ rules) = by (is_rule r) refl (sound-rules-are rules)
+  where
+    by : (b : Bool) → is_rule r ≡ b → Every IsRule (sound_rules rules) → Every IsRule (if b then r ∷ sound_rules rules else sound_rules rules)
+    by true e rest = (rule-is r e, rest)
+    by false e rest = rest
+
+-- ---- the laws
+abbrev declared : RuleBook → DeclaredRules
+declared book = record { rules = sound_rules book.rules; made = sound-rules-are book.rules; coinductive = book.coinductive }
+
+abbrev pub handled_in_code : RuleBook → TypingMode → CanonicalForm → Handled frame_tables
+handled_in_code book mode form = handled_by (sound_book book) mode form
+
+pub lawful-in-code : (book : RuleBook) (mode : TypingMode) (form : CanonicalForm) → IsHandler frame_tables (handled_in_code book mode form)
+lawful-in-code book mode form = rules-are-programs.handlers (declared book) mode form
+
+pub numbers-are-kept : KeepNumbers handled_in_code
+numbers-are-kept book mode form q h = rules-are-programs.numbers (declared book) mode form q h
+
+pub worlds-are-kept : KeepWorlds handled_in_code
+worlds-are-kept book mode form heard q came e x = rules-are-programs.worlds (declared book) mode form heard q came e x

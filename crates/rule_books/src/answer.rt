@@ -1,0 +1,77 @@
+//! The answer to a goal whose candidates were all considered.
+ghost use Rattle.std.specs.Prelude.{◌≡◌, [], Bool, IfOk, map};
+ghost use Rattle.type_terms.specs.Terms.{Keeps};
+ghost use Rattle.infer_table.specs.Responses.{ResponseHeld, answer_trees};
+ghost use Rattle.evaluation.specs.Candidate.{answer};
+ghost use Rattle.evaluation.specs.Lists.{Every};
+ghost use Rattle.evaluation.specs.Readings.{ConsideredHeld, ResultHeld, StepHeld};
+ghost use Rattle.evaluation.specs.Responses.{content};
+ghost use Rattle.goal_frames.specs.Fitting.{ConsideredFits, StepFits};
+ghost use Rattle.goal_frames.specs.Readings.{next_read, result_read};
+ghost use Rattle.table_laws.specs.Answers.{IsWellFormed};
+ghost use Rattle.rule_books.specs.Answers.{responses_of, merge_of};
+
+use crate::merge::{copy_response, merge};
+use evaluation::{Considered, HandlerStep, flounder};
+use infer_table::canonical::CanonicalVarKind;
+use infer_table::response::CanonicalResponse;
+use std::alloc::{AllocError, Global};
+use type_terms::Fault;
+use type_terms::interner::Interner;
+
+/// The responses of the candidates that were not refused, in order.
+fn responses(alloc: Global, done: &[Considered]) -> Result<Vec<CanonicalResponse>, AllocError>
+    ensures { IfOk result (λ r. map content r.items ≡ map content (responses_of done.now)) }
+{
+    let mut responses = Vec::new(alloc);
+    for considered in done {
+        if let Some(response) = &considered.result {
+            responses.push(copy_response(alloc, response)?)?;
+        }
+    }
+    Ok(responses)
+}
+
+/// The merge of the responses, or what stands for them where there is none: no response without them.
+fn merged(
+    alloc: Global,
+    cx: &mut Interner,
+    variables: &[CanonicalVarKind],
+    responses: &[CanonicalResponse],
+) -> Result<Option<CanonicalResponse>, Fault>
+    requires held { Every (ResponseHeld cx.old.entries) responses.now }
+    requires fits { Every (λ r. IsWellFormed (answer_trees cx.old.entries r)) responses.now }
+    ensures keeps { Keeps cx.old.entries cx.new.entries }
+    ensures limit { cx.new.limit ≡ cx.old.limit }
+    ensures held { IfOk result (ResultHeld cx.new.entries) }
+    ensures is { IfOk result (λ r. result_read cx.new.entries r ≡ merge_of cx.old.entries variables.now responses.now) }
+{
+    cx.lawful();
+    if let Some(response) = merge(alloc, cx, responses)? {
+        return Ok(Some(response));
+    }
+    flounder(alloc, cx, variables, responses)
+}
+
+/// The merge of all responses, or what stands for them where there is none; no candidate is ignored. A goal without responses has no
+/// solution.
+pub(crate) fn answer(
+    alloc: Global,
+    cx: &mut Interner,
+    variables: &[CanonicalVarKind],
+    done: &[Considered],
+) -> Result<HandlerStep, Fault>
+    requires held { ConsideredHeld cx.old.entries done.now }
+    requires fits { ConsideredFits cx.old.entries done.now }
+    ensures keeps { Keeps cx.old.entries cx.new.entries }
+    ensures limit { cx.new.limit ≡ cx.old.limit }
+    ensures held { IfOk result (StepHeld cx.new.entries) }
+    ensures fits { IfOk result (StepFits variables.now cx.new.entries) }
+    ensures is { IfOk result (λ s. (coinductive : Bool) → next_read cx.new.entries coinductive s ≡ answer (merge_of cx.old.entries variables.now (responses_of done.now)) []) }
+{
+    let responses = responses(alloc, done)?;
+    match merged(alloc, cx, variables, &responses)? {
+        Some(response) => Ok(HandlerStep::Answer(response, Vec::new(alloc))),
+        None => Ok(HandlerStep::NoSolution),
+    }
+}

@@ -1,0 +1,119 @@
+//! A list of rules as a handler of goals.
+ghost use Rattle.std.specs.Prelude.{◌≡◌, ◌==◌, IfOk, IfSome, option_map};
+ghost use Rattle.std.specs.List.{slice_get, list_any};
+ghost use Rattle.type_terms.specs.Terms.{Keeps};
+ghost use Rattle.infer_table.specs.Goals.{PredicateHeld};
+ghost use Rattle.infer_table.specs.Inputs.{form_of};
+ghost use Rattle.evaluation.specs.Readings.{SpecHeld};
+ghost use Rattle.goal_frames.specs.Readings.{spec_read};
+ghost use Rattle.goal_frames.specs.Handlers.{candidates_of, asked};
+ghost use Rattle.goal_frames.specs.Rules.{RuleBook as Book, FollowsByRule, is_coinductive};
+ghost use Rattle.rule_books.specs.Books.{book_read, sound_book, BookReady};
+ghost use Rattle.rule_books.specs.Kept.{ready-kept, meaning-kept};
+ghost use Rattle.rule_books.specs.Lawful.{handled_in_code, lawful-in-code, numbers-are-kept, worlds-are-kept};
+
+use crate::answer::answer;
+use crate::forms::is_asked;
+use crate::rule::{RuleBook, unsure};
+use evaluation::{CandidateSpec, Considered, HandlerStep};
+use goal_frames::GoalHandler;
+use infer_table::input::CanonicalInput;
+use std::alloc::Global;
+use type_terms::interner::Interner;
+use type_terms::{Fault, TraitId};
+
+impl RuleBook {
+    /// Whether the trait is among those that are coinductive.
+    fn is_coinductive(&self, def_id: TraitId) -> bool
+        ensures { result ≡ list_any (λ d. d.index == def_id.index) self.now.coinductive.items }
+    {
+        self.coinductive
+            .iter()
+            .any(|coinductive| coinductive.index == def_id.index)
+    }
+
+    /// The candidate at this place for the goal: the rule at this place among those of the goal's trait. For a goal that is not decided
+    /// there is one candidate, which is not sure.
+    fn candidate_at(
+        &self,
+        alloc: Global,
+        cx: &mut Interner,
+        goal: &CanonicalInput,
+        place: usize,
+    ) -> Result<Option<CandidateSpec>, Fault>
+        requires ready { BookReady cx.old.entries self.now }
+        requires goal { PredicateHeld cx.old.entries goal.now.goal.predicate }
+        ensures keeps { Keeps cx.old.entries cx.new.entries }
+        ensures limit { cx.new.limit ≡ cx.old.limit }
+        ensures held { IfOk result (λ o. IfSome o (SpecHeld cx.new.entries)) }
+        ensures is { IfOk result (λ o. let book = sound_book (book_read cx.old.entries self.now) in option_map (spec_read cx.new.entries (book.coinductive goal.now.goal.predicate.trait_ref.def_id.index)) o ≡ slice_get (candidates_of book (asked (form_of cx.old.entries goal.now))) place) }
+    {
+        if !is_asked(cx, goal) {
+            if place == 0 {
+                return Ok(Some(unsure(alloc)));
+            }
+            return Ok(None);
+        }
+        match self.rule_for(goal.goal.predicate.def_id(), place) {
+            Some(rule) => Ok(Some(rule.candidate(alloc, cx, goal)?)),
+            None => Ok(None),
+        }
+    }
+}
+
+/// Each rule of the goal's trait is a candidate, in their order, and the answer merges the responses of all; none is ignored.
+/// A goal with where-clauses, or one that is not made as canonical forms are, is not decided: its only candidate is not sure.
+///
+/// A book is ready where each rule is as rules are to be (`RuleBook::are_rules`), and its handles are the interner's.
+impl GoalHandler for RuleBook {
+    ghost use Rattle.std.proofs.Common.{refl};
+
+    ghost Meaning = { Book };
+
+    ghost handled = { handled_in_code };
+
+    ghost Rule = { λ book. FollowsByRule (sound_book book) };
+
+    ghost coinductive = { λ book. is_coinductive (sound_book book) };
+
+    ghost ready = { λ h es. BookReady es h };
+
+    ghost meaning = { λ h es. book_read es h };
+
+    fn step(
+        &self,
+        alloc: Global,
+        cx: &mut Interner,
+        goal: &CanonicalInput,
+        done: &[Considered],
+    ) -> Result<HandlerStep, Fault> {
+        match self.candidate_at(alloc, cx, goal, done.len())? {
+            Some(candidate) => Ok(HandlerStep::Consider(candidate)),
+            None => answer(alloc, cx, &goal.variables, done),
+        }
+    }
+
+    fn trait_is_coinductive(&self, def_id: TraitId) -> bool {
+        self.is_coinductive(def_id)
+    }
+
+    ghost ready_kept = { λ h old new k r. ready-kept h old new k r };
+
+    ghost meaning_kept = { λ h old new k r. meaning-kept h old new k r };
+
+    ghost begins = { λ book mode form. refl };
+
+    ghost lawful = { lawful-in-code };
+
+    ghost instances = { λ book mode q v. refl };
+
+    ghost rules = { λ book mode goal fact premises r. r };
+
+    ghost kinds = { λ book mode goal v. refl };
+
+    ghost numbers = { numbers-are-kept };
+
+    ghost worlds = { worlds-are-kept };
+
+    ghost outside = { λ book goal x. x };
+}

@@ -1,0 +1,75 @@
+use Rattle.std.proofs.Common.{◌≡◌, length, ◌∙◌, sym, inr}
+use Rattle.search_graph.proofs.Caches.{HasConflict-at, KeepsResults-push, AreConsistent-push, numbered_push}
+use Rattle.search_graph.proofs.Chains.{AreLinked-push, listed_push}
+use Rattle.search_graph.proofs.Graphs.{Keeps-refl, cached_insert, IsCached-at}
+use Rattle.search_graph.proofs.Limits.{AreCachedWithin-push}
+use Rattle.search_graph.proofs.Faithfuls.{true_not_false}
+use Rattle.search_graph.proofs.Ranges.{covered_push}
+use Rattle.search_graph.proofs.cache.CachedResults.insert.Goals as goal
+
+pub returns-clause-cache : goal.returns-clause-cache
+returns-clause-cache g c = rw c.in_ok-push.ensures.items
+    (cached_insert g.D.Delegate.meaning c.args.cx.now c.args.cx.now c.args.self.now.entries.items (record { input = c.args.input; result = c.in_ok-result.result; depth = c.args.depth; encountered_overflow = c.args.encountered_overflow; number = c.args.number; previous = c.newest_of-previous.result; nested_goals = c.args.nested_goals }) c.args.found.now
+    c.requires.cache (Keeps-refl g.D.Delegate.meaning c.args.cx.now) c.requires.input c.in_ok-result.ensures.copy c.requires.result c.requires.kept)
+
+pub returns-then-differs-clause-no_conflict : goal.returns-then-differs-clause-no_conflict
+returns-then-differs-clause-no_conflict g c = λ conflict limit reach n b within p.
+    let m = g.D.Delegate.meaning in
+    let w = m.world c.args.cx.now in
+    let other = c.differs.ensures.other c.if-differs.true in
+    let e = other.1 in
+    let cached = IsCached-at m w c.args.cx.now c.args.self.now.entries.items other.0 e other.2 c.requires.cache in
+    let here = c.requires.kept limit reach n b within p in
+    let there = (cached.kept limit (inr (other.3.kind ∙ here.1)) n b within (rw other.3.same p)).0 in
+    let equal = g.met.D.Delegate.same_answer c.args.cx.now e.result c.args.found.now cached.result.known c.requires.result.known (sym there ∙ here.0) in
+    true_not_false (sym equal ∙ other.4)
+
+pub returns-then-differs-clause-conflict : goal.returns-then-differs-clause-conflict
+returns-then-differs-clause-conflict g c = λ conflict.
+    let m = g.D.Delegate.meaning in
+    let cx = c.args.cx.now in
+    let w = m.world cx in
+    let other = c.differs.ensures.other c.if-differs.true in
+    let e = other.1 in
+    let cached = IsCached-at m w cx c.args.self.now.entries.items other.0 e other.2 c.requires.cache in
+    HasConflict-at m cx c.args.self.now.entries.items other.0 e other.2 (record {
+      found = record { input = c.args.input; result = c.args.found.now; depth = c.args.depth; overflowed = c.args.encountered_overflow };
+      justified = record { known = c.requires.input; result = c.requires.result; kept = c.requires.kept };
+      alike = other.3;
+      other = λ s. let equal = g.met.D.Delegate.same_answer cx e.result c.args.found.now cached.result.known c.requires.result.known s in true_not_false (sym equal ∙ other.4);
+    })
+
+pub returns-clause-within : goal.returns-clause-within
+returns-clause-within g c = λ before cached found. rw c.in_ok-push.ensures.items
+    (AreCachedWithin-push g.D.Delegate.meaning (g.D.Delegate.meaning.world c.args.cx.now) before c.args.cx.now c.args.self.now.entries.items (record { input = c.args.input; result = c.in_ok-result.result; depth = c.args.depth; encountered_overflow = c.args.encountered_overflow; number = c.args.number; previous = c.newest_of-previous.result; nested_goals = c.args.nested_goals }) cached (rw c.in_ok-result.ensures.copy found))
+
+pub invariant_of-self-2-clause-linked : goal.invariant_of-self-2-clause-linked
+invariant_of-self-2-clause-linked g c = rw c.in_ok-push.ensures.items (AreLinked-push _ _ c.args.self.now.linked c.newest_of-previous.ensures)
+
+pub invariant_of-self-2-clause-listed : goal.invariant_of-self-2-clause-listed
+invariant_of-self-2-clause-listed g c =
+    let size : c.len-place.result ≡ length c.args.self.now.entries.items = c.len-place.ensures ∙ c.args.self.now.entries.ok.0 in
+    rw (size, c.in_ok-push.ensures.items)
+    (listed_push c.args.self.now.entries.items (record { input = c.args.input; result = c.in_ok-result.result; depth = c.args.depth; encountered_overflow = c.args.encountered_overflow; number = c.args.number; previous = c.newest_of-previous.result; nested_goals = c.args.nested_goals }) c.args.self.now.newest.items c.make_room.new.newest.items c.args.self.now.listed c.in_ok-make_room.ensures.same c.in_ok-make_room.ensures.room)
+
+pub invariant_of-self-2-clause-numbered : goal.invariant_of-self-2-clause-numbered
+invariant_of-self-2-clause-numbered g c = rw c.in_ok-push.ensures.items
+    (numbered_push g.D.Cx.Input.PartialEq.eq c.args.self.now.goals.keys c.args.self.now.entries.items (record { input = c.args.input; result = c.in_ok-result.result; depth = c.args.depth; encountered_overflow = c.args.encountered_overflow; number = c.args.number; previous = c.newest_of-previous.result; nested_goals = c.args.nested_goals }) c.args.self.now.numbered c.requires.number)
+
+pub invariant_of-self-2-clause-consistent : goal.invariant_of-self-2-clause-consistent
+invariant_of-self-2-clause-consistent g c = rw c.in_ok-push.ensures.items
+    (AreConsistent-push c.args.self.now.entries.items (record { input = c.args.input; result = c.in_ok-result.result; depth = c.args.depth; encountered_overflow = c.args.encountered_overflow; number = c.args.number; previous = c.newest_of-previous.result; nested_goals = c.args.nested_goals }) c.args.self.now.consistent
+    (λ place e at alike. c.differs.ensures.none c.if-differs.false place e at alike ∙ sym c.in_ok-result.ensures.copy))
+
+pub returns-clause-results : goal.returns-clause-results
+returns-clause-results g c = rw c.in_ok-push.ensures.items (KeepsResults-push c.args.self.now.entries.items (record { input = c.args.input; result = c.in_ok-result.result; depth = c.args.depth; encountered_overflow = c.args.encountered_overflow; number = c.args.number; previous = c.newest_of-previous.result; nested_goals = c.args.nested_goals }))
+
+pub invariant_of-self-in-Break-branch-3 : goal.invariant_of-self-in-Break-branch-3
+invariant_of-self-in-Break-branch-3 g c =
+    let old = c.args.self.now in
+    rw c.in_err-push.ensures.items
+    (record { listed = λ n. c.make_room.ensures.same n ∙ old.listed n; linked = old.linked; numbered = old.numbered; covered = old.covered; consistent = old.consistent })
+
+pub invariant_of-self-2-clause-covered : goal.invariant_of-self-2-clause-covered
+invariant_of-self-2-clause-covered g c = rw c.in_ok-push.ensures.items
+    (covered_push c.args.self.now.entries.items (record { input = c.args.input; result = c.in_ok-result.result; depth = c.args.depth; encountered_overflow = c.args.encountered_overflow; number = c.args.number; previous = c.newest_of-previous.result; nested_goals = c.args.nested_goals }) c.args.self.now.covered c.requires.nested)

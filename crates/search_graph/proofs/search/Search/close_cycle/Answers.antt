@@ -1,0 +1,74 @@
+use Rattle.std.proofs.Common.{◌≡◌, ◌∙◌, inl, Some, slice_get}
+use Rattle.std.proofs.lemmas.Option.{get_or_from_slice_get, MatchOption-at_some}
+use Rattle.search_graph.specs.Stack.{IsWithin}
+use Rattle.search_graph.proofs.Graphs.{Keeps-refl, last_answers, initial_answers}
+use Rattle.search_graph.proofs.Graphs.{IsEntry-at}
+use Rattle.search_graph.proofs.Limits.{AreLastWithin-at}
+use Rattle.search_graph.proofs.Faithfuls.{cycle_not_plain}
+use Rattle.search_graph.proofs.search.Search.close_cycle.Goals as goal
+
+pub returns-in_ok-answer-in-Some-clause-answer : goal.returns-in_ok-answer-in-Some-clause-answer
+returns-in_ok-answer-in-Some-clause-answer g c =
+    let m = g.D.Delegate.meaning in
+    let cycle = c.requires.cycle in
+    let first = c.args.cx.now in
+    let es = c.args.self.now.stack.items in
+    let entry = c.index-entry.result.now in
+    let same : c.index-entry.result.now ≡ c.requires.cycle.0 = c.index-entry.ensures ∙ get_or_from_slice_get es c.args.cycle.index cycle.0 c.index-entry.result.now cycle.1 in
+    let at : slice_get es c.args.cycle.index ≡ Some entry = rw same cycle.1 in
+    let input : entry.input ≡ c.args.input.now = rw same cycle.2 in
+    rw c.in_ok-answer-in-Some.ensures.copy
+    (last_answers m (m.world first) first c.args.cx.now es c.args.cycle.index entry c.args.input.now c.args.step_kind c.in-Some.last at input c.in-Some.is c.requires.stack (Keeps-refl m first))
+
+pub returns-in_ok-answer-in-None-clause-answer : goal.returns-in_ok-answer-in-None-clause-answer
+returns-in_ok-answer-in-None-clause-answer g c =
+    let m = g.D.Delegate.meaning in
+    let cycle = c.requires.cycle in
+    let first = c.args.cx.now in
+    let es = c.args.self.now.stack.items in
+    let entry = c.index-entry.result.now in
+    let same : c.index-entry.result.now ≡ c.requires.cycle.0 = c.index-entry.ensures ∙ get_or_from_slice_get es c.args.cycle.index cycle.0 c.index-entry.result.now cycle.1 in
+    let at : slice_get es c.args.cycle.index ≡ Some entry = rw same cycle.1 in
+    let input : entry.input ≡ c.args.input.now = rw same cycle.2 in
+    initial_answers m g.met.D.Delegate.lawful (m.world first) first c.initial_provisional_result.new.cx es c.args.cycle.index entry c.args.input.now c.args.cycle.path_kind c.args.step_kind c.in_ok-answer-in-None.answer
+    at input cycle.3 c.requires.stack c.in_ok-answer-in-None.ensures.is.0 c.in_ok-answer-in-None.ensures.is.1
+
+pub returns-in_ok-answer-in-Some-clause-not_plain : goal.returns-in_ok-answer-in-Some-clause-not_plain
+returns-in_ok-answer-in-Some-clause-not_plain g c =
+    let m = g.D.Delegate.meaning in
+    let cycle = c.requires.cycle in
+    let first = c.args.cx.now in
+    let es = c.args.self.now.stack.items in
+    let entry = c.index-entry.result.now in
+    let same : c.index-entry.result.now ≡ c.requires.cycle.0 = c.index-entry.ensures ∙ get_or_from_slice_get es c.args.cycle.index cycle.0 c.index-entry.result.now cycle.1 in
+    let at : slice_get es c.args.cycle.index ≡ Some entry = rw same cycle.1 in
+    let input : entry.input ≡ c.args.input.now = rw same cycle.2 in
+    λ limit d. cycle_not_plain m (m.world first) first limit entry.lowest es c.args.cycle.index entry c.args.input.now at input (IsEntry-at m (m.world first) first es c.args.cycle.index entry at c.requires.stack).room d
+
+pub returns-in_ok-answer-in-None-clause-not_plain : goal.returns-in_ok-answer-in-None-clause-not_plain
+returns-in_ok-answer-in-None-clause-not_plain g c =
+    let m = g.D.Delegate.meaning in
+    let cycle = c.requires.cycle in
+    let first = c.args.cx.now in
+    let es = c.args.self.now.stack.items in
+    let entry = c.index-entry.result.now in
+    let same : c.index-entry.result.now ≡ c.requires.cycle.0 = c.index-entry.ensures ∙ get_or_from_slice_get es c.args.cycle.index cycle.0 c.index-entry.result.now cycle.1 in
+    let at : slice_get es c.args.cycle.index ≡ Some entry = rw same cycle.1 in
+    let input : entry.input ≡ c.args.input.now = rw same cycle.2 in
+    λ limit d. cycle_not_plain m (m.world first) first limit entry.lowest es c.args.cycle.index entry c.args.input.now at input (IsEntry-at m (m.world first) first es c.args.cycle.index entry at c.requires.stack).room d
+
+pub returns-in_ok-answer-in-Some-clause-within : goal.returns-in_ok-answer-in-Some-clause-within
+returns-in_ok-answer-in-Some-clause-within g c =
+    let m = g.D.Delegate.meaning in
+    let cycle = c.requires.cycle in
+    let first = c.args.cx.now in
+    let es = c.args.self.now.stack.items in
+    let entry = c.index-entry.result.now in
+    let same : c.index-entry.result.now ≡ c.requires.cycle.0 = c.index-entry.ensures ∙ get_or_from_slice_get es c.args.cycle.index cycle.0 c.index-entry.result.now cycle.1 in
+    let at : slice_get es c.args.cycle.index ≡ Some entry = rw same cycle.1 in
+    let input : entry.input ≡ c.args.input.now = rw same cycle.2 in
+    λ before last. rw (c.in_ok-answer-in-Some.ensures.copy, ← input)
+    (MatchOption-at_some (Unit {0}) (λ r. IsWithin m (m.world first) before (m.goal_of first entry.input) (m.answer_of first r)) c.in-Some.last c.in-Some.is (AreLastWithin-at m (m.world first) before first es c.args.cycle.index entry at last))
+
+pub returns-in_ok-answer-in-None-clause-within : goal.returns-in_ok-answer-in-None-clause-within
+returns-in_ok-answer-in-None-clause-within g c = λ before last. record { how = inl (inl (c.args.cycle.path_kind, c.in_ok-answer-in-None.ensures.is.1)) }

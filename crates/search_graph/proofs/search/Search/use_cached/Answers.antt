@@ -1,0 +1,29 @@
+use Rattle.std.proofs.Common.{◌≡◌, ◌∙◌, sym, ap, [], true, arith, Some}
+use Rattle.search_graph.specs.declared.path_kind.PathKind.TheVariants.{Inductive}
+use Rattle.search_graph.specs.Stack.{path_onto}
+use Rattle.search_graph.proofs.Graphs.{path_length, cached_answers}
+use Rattle.search_graph.proofs.Faithfuls.{faithful_kept}
+use Rattle.search_graph.proofs.search.Search.use_cached.Goals as goal
+
+pub returns-clause-answer : goal.returns-clause-answer
+returns-clause-answer g c =
+    let m = g.D.Delegate.meaning in
+    let first = c.args.cx.now in
+    let es = c.args.self.now.stack.items in
+    let long = path_length m first es c.len.result (c.len.ensures ∙ c.args.self.now.stack.ok.0) in
+    rw (c.new-dependencies.ensures.lowest, ← long) (cached_answers m (m.world first) (path_onto m first es []) (m.goal_of first c.args.input.now) Inductive c.args.step_kind first c.in_ok-cached.cached.result c.in_ok-cached.ensures.result)
+
+pub returns-clause-faithful : goal.returns-clause-faithful
+returns-clause-faithful g c =
+    let m = g.D.Delegate.meaning in
+    let first = c.args.cx.now in
+    let es = c.args.self.now.stack.items in
+    let entry = c.in_ok-cached.ensures.entry in
+    let found = c.requires.place in
+    let one : Some found.0 ≡ Some entry.0 = sym found.1 ∙ entry.1 in
+    let is : found.0 ≡ entry.0 = cc in
+    let depth : c.in_ok-cached.cached.encountered_overflow ≡ true → c.in_ok-cached.cached.depth ≡ c.args.depth =
+    λ o. entry.3 ∙ sym (ap (λ z. z.depth) is) ∙ found.3 (ap (λ z. z.encountered_overflow) is ∙ sym entry.4 ∙ o) in
+    let long = path_length m first es c.len.result (c.len.ensures ∙ c.args.self.now.stack.ok.0) in
+    rw c.new-dependencies.ensures.lowest (faithful_kept m (m.world first) c.args.depth c.in_ok-cached.cached.depth (path_onto m first es []) (m.goal_of first c.args.input.now) (m.answer_of first c.in_ok-cached.cached.result) c.in_ok-cached.cached.encountered_overflow c.len.result c.new-dependencies.result.heads.items
+    depth (omega arith) c.new-dependencies.ensures.unread c.in_ok-cached.ensures.kept)

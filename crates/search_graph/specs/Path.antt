@@ -1,0 +1,55 @@
+-- Kinds of steps, and the paths that they make.
+use Rattle.std.specs.Prelude.{◌≡◌, ◌+◌, ◌^◌, ◌↔◌, ℕ, Bool, true, false, Option, Some, None}
+use Rattle.std.specs.Int.{bit_at}
+use Rattle.search_graph.specs.declared.path_kind.PathKind.{PathKind}
+use Rattle.search_graph.specs.declared.path_kind.PathKind.TheVariants.{Inductive, Unknown, Coinductive, ForcedAmbiguity}
+
+-- the place of a kind in the order
+abbrev pub rank : PathKind → ℕ
+rank Inductive = 0
+rank Unknown = 1
+rank Coinductive = 2
+rank ForcedAmbiguity = 3
+
+-- whether a step is coinductive
+abbrev pub is_coinductive : PathKind → Bool
+is_coinductive Inductive = false
+is_coinductive Unknown = false
+is_coinductive Coinductive = true
+is_coinductive ForcedAmbiguity = false
+
+-- the greater of two kinds
+abbrev pub greater : PathKind → PathKind → PathKind
+greater Inductive k = k
+greater Unknown Inductive = Unknown
+greater Unknown Unknown = Unknown
+greater Unknown Coinductive = Coinductive
+greater Unknown ForcedAmbiguity = ForcedAmbiguity
+greater Coinductive Inductive = Coinductive
+greater Coinductive Unknown = Coinductive
+greater Coinductive Coinductive = Coinductive
+greater Coinductive ForcedAmbiguity = ForcedAmbiguity
+greater ForcedAmbiguity k = ForcedAmbiguity
+
+-- A path is known by the greatest kind of its steps, and the path without a step is none.
+-- This is the kind of a path that is extended by a step of the kind k
+abbrev pub after : Option PathKind → PathKind → PathKind
+after None k = k
+after (Some j) k = greater j k
+
+-- the place of a path's flag
+abbrev pub flag_of : Option PathKind → ℕ
+flag_of None = 0
+flag_of (Some k) = 1 + rank k
+
+-- A set of paths is the number whose bits are their flags. It has this path
+abbrev pub HasPath : ℕ → Option PathKind → Type 0
+HasPath paths path = bit_at paths (flag_of path) ≡ 1
+
+-- the set of this path alone
+abbrev pub only : Option PathKind → ℕ
+only path = 2 ^ flag_of path
+
+-- The second set has exactly the paths of the first, each extended by a step of the kind k
+abbrev pub AreExtendedBy : PathKind → ℕ → ℕ → Type 0
+AreExtendedBy k paths longer = (path : Option PathKind) → HasPath longer path ↔ ((shorter : Option PathKind) × HasPath paths shorter × (path ≡ Some (after shorter k)))

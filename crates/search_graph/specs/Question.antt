@@ -1,0 +1,88 @@
+-- What is promised of a question on a goal over a stack: its input was asked in the context c, and its result came in d.
+use Rattle.std.specs.Prelude.{◌≡◌, ◌≤◌, ◌+◌, ◌⊎◌, ℕ, Bool, false, List, []}
+use Rattle.search_graph.specs.declared.path_kind.PathKind.{PathKind}
+use Rattle.search_graph.specs.declared.stack.StackEntry.{StackEntry}
+use Rattle.search_graph.specs.declared.stack.Cycle.{Cycle}
+use Rattle.search_graph.specs.declared.cache.CacheEntry.{CacheEntry}
+use Rattle.search_graph.specs.declared.dependencies.Dependencies.{Dependencies}
+use Rattle.search_graph.specs.declared.dependencies.EvaluationResult.{EvaluationResult}
+use Rattle.search_graph.specs.Meaning.{Meaning}
+use Rattle.search_graph.specs.Cache.{KnownResult, answers_in}
+use Rattle.search_graph.specs.Plain.{IsNotPlain}
+use Rattle.search_graph.specs.Faithful.{AllDescend, IsFaithful, IsUntouched, IsKept}
+use Rattle.search_graph.specs.Stack.{question_of, path_onto, IsAnswer, IsProvisional, IsWithin, IsLastWithin, AreLastWithin, AreCachedWithin}
+
+module _ {C I R F : Type 0} (m : Meaning C I R F) where
+  -- a reply to the question, which rests on no goal of the stack below the place low
+  abbrev pub IsReplyOver : C → List (StackEntry I R) → I → PathKind → ℕ → C → R → Type 0
+  IsReplyOver c es input k low d r = IsAnswer m (m.world c) (path_onto m c es []) (m.goal_of c input, k) low d r
+
+  -- a result of a run of the entry's goal, which rests on no goal of the stack below the place low
+  abbrev pub IsRunOver : C → List (StackEntry I R) → StackEntry I R → ℕ → C → R → Type 0
+  IsRunOver c es entry low d r = IsProvisional m (m.world c) (path_onto m c es []) (question_of m c entry) low d r
+
+  -- the goal's initial result for the cycle
+  abbrev pub IsInitial : C → I → Cycle → C → R → Type 0
+  IsInitial c input cycle d r = m.answer_of d r ≡ m.initial (m.world c) (m.goal_of c input) cycle.path_kind
+
+  -- up to reach, and past it if there was no overflow, the result is plain recursion's
+  abbrev pub IsFaithfulOver : C → List (StackEntry I R) → I → ℕ → C → EvaluationResult R → Type 0
+  IsFaithfulOver c es input reach d o =
+      IsFaithful m (m.world c) reach (path_onto m c es []) (m.goal_of c input) (m.answer_of d o.result) o.dependencies.encountered_overflow o.dependencies.lowest o.dependencies.heads.items
+
+  -- the same of a goal that is still evaluated
+  abbrev pub IsUntouchedOver : C → List (StackEntry I R) → I → ℕ → Dependencies → Type 0
+  IsUntouchedOver c es input reach found = IsUntouched m (m.world c) reach (path_onto m c es []) (m.goal_of c input) found.encountered_overflow found.lowest found.heads.items
+
+  -- and of a cached result of this depth, which rests on no stack
+  abbrev pub IsKeptResult : C → I → R → ℕ → Bool → Type 0
+  IsKeptResult c input r depth overflowed = IsKept m (m.world c) (m.goal_of c input) (m.answer_of c r) depth overflowed
+
+  -- up to reach, plain recursion has no answer to the goal where that on each goal of the stack descends to it
+  abbrev pub IsNotPlainOver : C → List (StackEntry I R) → I → ℕ → Type 0
+  IsNotPlainOver c es input reach =
+      (limit : ℕ) → limit ≤ reach → AllDescend m (m.world c) limit 0 (path_onto m c es []) (m.goal_of c input) → IsNotPlain m (m.world c) limit (m.goal_of c input)
+
+  -- it has none where that on each goal of the stack from the place low on descends to it
+  abbrev pub IsNotPlainAbove : C → List (StackEntry I R) → I → ℕ → Type 0
+  IsNotPlainAbove c es input low =
+      (limit : ℕ) → AllDescend m (m.world c) limit low (path_onto m c es []) (m.goal_of c input) → IsNotPlain m (m.world c) limit (m.goal_of c input)
+
+  -- it has none up to the depth, nor past it if there was no overflow
+  abbrev pub IsNotPlainAt : C → I → ℕ → Bool → Type 0
+  IsNotPlainAt c input depth overflowed = (limit : ℕ) → (limit ≤ depth + 1) ⊎ (overflowed ≡ false) → IsNotPlain m (m.world c) limit (m.goal_of c input)
+
+  -- no more frames than the bound for each number that the goal does not exceed
+  abbrev pub AreFramesWithin : C → I → ℕ → ℕ → (ℕ → ℕ) → Type 0
+  AreFramesWithin c input old new bound = (width : ℕ) → m.number_of (m.world c) (m.goal_of c input) ≤ width → new ≤ old + bound width
+
+  -- no limit had a part in the result, but for those that the cache held
+  abbrev pub IsWithinKnown : C → List (KnownResult I R) → I → C → R → Type 0
+  IsWithinKnown c ks input d r = IsWithin m (m.world c) (answers_in m c ks) (m.goal_of c input) (m.answer_of d r)
+
+  -- none had a part in the result if none had in the cached results
+  abbrev pub IsWithinAsCached : C → List (CacheEntry I R) → I → R → Type 0
+  IsWithinAsCached c es input r =
+      (before : List (m.Goal × m.Answer)) → AreCachedWithin m (m.world c) before c es → IsWithin m (m.world c) before (m.goal_of c input) (m.answer_of c r)
+
+  -- none had if none had in the results of the last runs
+  abbrev pub IsWithinAsStack : C → List (StackEntry I R) → I → C → R → Type 0
+  IsWithinAsStack c es input d r =
+      (before : List (m.Goal × m.Answer)) → AreLastWithin m (m.world c) before c es → IsWithin m (m.world c) before (m.goal_of c input) (m.answer_of d r)
+
+  -- none had in the new cached results if none had in the old ones and in this result
+  abbrev pub KeepsWithin : C → List (CacheEntry I R) → I → R → List (CacheEntry I R) → Type 0
+  KeepsWithin c old input r new =
+      (before : List (m.Goal × m.Answer)) → AreCachedWithin m (m.world c) before c old → IsWithin m (m.world c) before (m.goal_of c input) (m.answer_of c r) → AreCachedWithin m (m.world c) before c new
+
+  -- if none was met, none had a part in the result and the new cached results, where none had in the old and the last runs' ones
+  abbrev pub StaysWithin : C → List (StackEntry I R) → List (CacheEntry I R) → I → Bool → C → List (CacheEntry I R) → R → Type 0
+  StaysWithin c es old input met d new r =
+      (before : List (m.Goal × m.Answer)) → met ≡ false → AreLastWithin m (m.world c) before c es → AreCachedWithin m (m.world c) before c old
+      → AreCachedWithin m (m.world c) before d new × IsWithin m (m.world c) before (m.goal_of c input) (m.answer_of d r)
+
+  -- the same of a run of the entry's goal
+  abbrev pub RunStaysWithin : C → List (StackEntry I R) → List (CacheEntry I R) → StackEntry I R → Bool → C → List (CacheEntry I R) → R → Type 0
+  RunStaysWithin c es old entry met d new r =
+      (before : List (m.Goal × m.Answer)) → met ≡ false → AreLastWithin m (m.world c) before c es → IsLastWithin m (m.world c) before c entry → AreCachedWithin m (m.world c) before c old
+      → AreCachedWithin m (m.world c) before d new × IsWithin m (m.world c) before (m.goal_of c entry.input) (m.answer_of d r)

@@ -1,0 +1,148 @@
+-- What the stack of the search means.
+use Rattle.std.specs.Prelude.{◌≡◌, ◌≤◌, ◌+◌, ℕ, length, true, cond, nat_eq, find, drop, slice_get, List, [], ◌∷◌, ◌⊎◌, MatchOption, Option, Some, None, IsSome}
+use Rattle.search_graph.specs.declared.path_kind.PathKind.{PathKind}
+use Rattle.search_graph.specs.declared.path_kind.PathKind.TheVariants.{Inductive}
+use Rattle.search_graph.specs.declared.delegate.Request.{Request}
+use Rattle.search_graph.specs.declared.delegate.Reply.{Reply}
+use Rattle.search_graph.specs.declared.delegate.Reply.TheVariants.{Begin, Result, Entered, Finished, Ignored}
+use Rattle.search_graph.specs.declared.stack.StackEntry.{StackEntry}
+use Rattle.search_graph.specs.declared.stack.Cycle.{Cycle}
+use Rattle.search_graph.specs.declared.cache.CacheEntry.{CacheEntry}
+use Rattle.search_graph.specs.declared.nested_goals.Span.{Span}
+use Rattle.search_graph.specs.Nested.{no_goal}
+use Rattle.search_graph.specs.Path.{greater}
+use Rattle.search_graph.specs.Chain.{IsWithinDepth, IsAskedUnder}
+use Rattle.search_graph.specs.Meaning.{Meaning, premise_of, answer_count, request_of, IsRequest, IsFair, AreReplies}
+use Rattle.search_graph.specs.Computed.{Hears, IsComputed, IsGiven, IsGivenWithin}
+use Rattle.search_graph.specs.Shown.{Shown}
+use Rattle.search_graph.specs.Faithful.{IsKept}
+
+-- the greatest kind of a step after which come these entries' steps
+abbrev pub kind_after : {I R : Type 0} → List (StackEntry I R) → PathKind → PathKind
+kind_after [] k = k
+kind_after (e ∷ es) k = greater e.step_kind (kind_after es k)
+
+-- the place of the oldest of these entries with the number, where the first one's place is given
+abbrev pub place_from : {I R : Type 0} → ℕ → List (StackEntry I R) → ℕ → Option ℕ
+place_from place [] number = None
+place_from place (e ∷ es) number = cond (nat_eq number e.number) (Some place) (place_from (place + 1) es number)
+
+-- the place of the oldest goal of a stack with the number
+abbrev pub place_of : {I R : Type 0} → List (StackEntry I R) → ℕ → Option ℕ
+place_of es number = place_from 0 es number
+
+-- a goal of the stack has the number
+abbrev pub IsOnStack : {I R : Type 0} → List (StackEntry I R) → ℕ → Type 0
+IsOnStack es number = IsSome (place_of es number)
+
+-- a question of this kind on the goal closes the cycle
+abbrev pub IsClosedBy : {I R : Type 0} → List (StackEntry I R) → I → PathKind → Cycle → Type 0
+IsClosedBy {I} {R} es input k cycle = (e : StackEntry I R) × (slice_get es cycle.index ≡ Some e) × (e.input ≡ input) × (cycle.path_kind ≡ kind_after (drop (cycle.index + 1) es) k)
+
+-- P holds if a cache has a result of the goal that one of this depth may use over the stack
+abbrev pub IfUsable : {I R : Type 0} → List (CacheEntry I R) → List (StackEntry I R) → I → ℕ → Type 0 → Type 0
+IfUsable {I} {R} es stack input depth P =
+    (place : ℕ) (e : CacheEntry I R) → slice_get es place ≡ Some e → e.input ≡ input → IsWithinDepth e.encountered_overflow e.depth depth
+    → ((asked : ℕ) → IsAskedUnder es place asked → IsOnStack stack asked → ⊥) → P
+
+-- the oldest goal of a stack with the number
+abbrev pub oldest_of : {I R : Type 0} → List (StackEntry I R) → ℕ → Option (StackEntry I R)
+oldest_of es number = find (λ e. nat_eq number e.number) es
+
+-- the range of the newest goal of a stack, in which all of its goals lie
+abbrev pub span_of_newest : {I R : Type 0} → List (StackEntry I R) → Span
+span_of_newest [] = no_goal
+span_of_newest (e ∷ []) = e.span
+span_of_newest (e ∷ d ∷ es) = span_of_newest (d ∷ es)
+
+module _ {C I R F : Type 0} (m : Meaning C I R F) where
+  -- the goal of the question follows by a rule whose premises are shown below it
+  abbrev pub Derived : m.World → ℕ → List (m.Goal × PathKind) → m.Goal × PathKind → Type 0
+  Derived w low path q = (premises : List (m.Goal × PathKind)) × m.Follows w q.0 premises × Shown m.Goal (m.Follows w) low (q ∷ path) premises
+
+  abbrev pub question_of : C → StackEntry I R → m.Goal × PathKind
+  question_of c e = (m.goal_of c e.input, e.step_kind)
+
+  -- the path that the entries, the oldest first, put onto a path
+  abbrev pub path_onto : C → List (StackEntry I R) → List (m.Goal × PathKind) → List (m.Goal × PathKind)
+  path_onto c [] path = path
+  path_onto c (e ∷ es) path = path_onto c es (question_of c e ∷ path)
+
+  -- a result of a run of the goal of q, which rests on no goal of the path below the place low: a yes is derived
+  pub record IsProvisional (w : m.World) (path : List (m.Goal × PathKind)) (q : m.Goal × PathKind) (low : ℕ) (c : C) (r : R) : Type 0 where
+    pub known : m.IsResult c r
+    pub fair : IsFair m w q.0 (m.answer_of c r)
+    pub source : IsComputed m w (IsGiven m w) q.0 (m.answer_of c r)
+    pub yes : m.is_yes (m.answer_of c r) ≡ true → Derived w low path q
+
+  pub record IsEntry (w : m.World) (path : List (m.Goal × PathKind)) (c : C) (e : StackEntry I R) : Type 0 where
+    pub known : m.IsInput c e.input
+    pub room : e.lowest ≤ length path
+    pub last : MatchOption e.provisional_result (Unit {0}) (IsProvisional w path (question_of c e) e.lowest c)
+
+  abbrev pub IsStack : m.World → List (m.Goal × PathKind) → C → List (StackEntry I R) → Type 0
+  IsStack w path c [] = Unit {0}
+  IsStack w path c (e ∷ es) = IsEntry w path c e × IsStack w (question_of c e ∷ path) c es
+
+  -- After such a result a goal whose own result was read isn't run again: it is ambiguous, or it is the result of the run
+  -- before, or in the first run the initial result for a kind of path
+  abbrev pub IsSettled : C → StackEntry I R → R → Type 0
+  IsSettled c e r = (m.is_ambiguous (m.answer_of c r) ≡ true)
+      ⊎ MatchOption e.provisional_result ((k : PathKind) × (m.answer_of c r ≡ m.initial (m.world c) (m.goal_of c e.input) k)) (λ last. last ≡ r)
+
+  -- a reply to the question q, which rests on no goal of the path below the place low: a yes is shown
+  pub record IsAnswer (w : m.World) (path : List (m.Goal × PathKind)) (q : m.Goal × PathKind) (low : ℕ) (c : C) (r : R) : Type 0 where
+    pub known : m.IsResult c r
+    pub fair : IsFair m w q.0 (m.answer_of c r)
+    pub source : IsComputed m w (IsGiven m w) q.0 (m.answer_of c r)
+    pub room : low ≤ length path
+    pub yes : m.is_yes (m.answer_of c r) ≡ true → Shown m.Goal (m.Follows w) low path (q ∷ [])
+
+  -- the questions that were answered by a yes, in ignored candidates too
+  abbrev pub yes_questions : m.World → m.Goal → List (Reply m.Answer) → List (m.Goal × PathKind)
+  yes_questions w g [] = []
+  yes_questions w g (Begin ∷ heard) = yes_questions w g heard
+  yes_questions w g (Result a ∷ heard) = premise_of m (m.asks w g heard) a (yes_questions w g heard)
+  yes_questions w g (Entered ∷ heard) = yes_questions w g heard
+  yes_questions w g (Finished n ∷ heard) = yes_questions w g heard
+  yes_questions w g (Ignored ∷ heard) = yes_questions w g heard
+
+  -- a frame of the goal made this request, and the questions that got a yes are shown
+  pub record IsRunning (w : m.World) (path : List (m.Goal × PathKind)) (g : m.Goal) (low : ℕ) (c : C) (f : F) (q : Request I R) : Type 0 where
+    pub heard : List (Reply m.Answer)
+    pub begun : heard ≡ [] → ⊥
+    pub frame : m.HasHeard c g heard f
+    pub request : request_of m c q ≡ m.asks w g heard
+    pub known : IsRequest m c q
+    pub room : low ≤ length path
+    pub fair : AreReplies m (IsFair m w) w g heard
+    pub hears : Hears m w (IsGiven m w) g heard
+    pub count : answer_count m heard ≤ m.number_of w g
+    pub shown : Shown m.Goal (m.Follows w) low path (yes_questions w g heard)
+
+  -- a result that rests on no stack
+  pub record IsCached (w : m.World) (c : C) (e : CacheEntry I R) : Type 0 where
+    pub known : m.IsInput c e.input
+    pub result : IsProvisional w [] (m.goal_of c e.input, Inductive) 0 c e.result
+    pub kept : IsKept m w (m.goal_of c e.input) (m.answer_of c e.result) e.depth e.encountered_overflow
+
+  abbrev pub AreCached : m.World → C → List (CacheEntry I R) → Type 0
+  AreCached w c [] = Unit {0}
+  AreCached w c (e ∷ es) = IsCached w c e × AreCached w c es
+
+  -- no limit had a part in an answer to the goal, but for those that were known before
+  abbrev pub IsWithin : m.World → List (m.Goal × m.Answer) → m.Goal → m.Answer → Type 0
+  IsWithin w before g a = IsComputed m w (IsGivenWithin m w before) g a
+
+  -- the same of the result of the entry's last run, if there was one
+  abbrev pub IsLastWithin : m.World → List (m.Goal × m.Answer) → C → StackEntry I R → Type 0
+  IsLastWithin w before c e = MatchOption e.provisional_result (Unit {0}) (λ r. IsWithin w before (m.goal_of c e.input) (m.answer_of c r))
+
+  abbrev pub AreLastWithin : m.World → List (m.Goal × m.Answer) → C → List (StackEntry I R) → Type 0
+  AreLastWithin w before c [] = Unit {0}
+  AreLastWithin w before c (e ∷ es) = IsLastWithin w before c e × AreLastWithin w before c es
+
+  -- and of the results of a cache
+  abbrev pub AreCachedWithin : m.World → List (m.Goal × m.Answer) → C → List (CacheEntry I R) → Type 0
+  AreCachedWithin w before c [] = Unit {0}
+  AreCachedWithin w before c (e ∷ es) = IsWithin w before (m.goal_of c e.input) (m.answer_of c e.result) × AreCachedWithin w before c es

@@ -1,0 +1,437 @@
+//! The goals that are being evaluated, and the steps of their evaluation that ask no goal.
+
+ghost use Rattle.std.specs.Prelude.{◌≡◌, [], ◌∷◌, ℕ, ◌+◌, ◌-◌, ◌^◌, ◌/◌, ◌<◌, ◌≤◌, ◌↔◌, ◌++◌, ◌⊎◌, length, max};
+ghost use Rattle.std.specs.Prelude.{min, IfOk, IfSome, IfNone, IsSome, OnOk, OnErr, None, nat_eq, slice_get, drop, true, false, option_to_list};
+ghost use Rattle.std.proofs.Props.{props};
+ghost use Rattle.indexmap.specs.IndexMap.{get};
+ghost use Rattle.search_graph.specs.Nested.{covered, one_goal, AsksAlone, UsesAlone, AlsoAsks};
+ghost use Rattle.search_graph.specs.Chain.{AreInRange, AreInRanges, IsUsableAt, NoneIsUsable};
+ghost use Rattle.search_graph.specs.Meaning.{Keeps};
+ghost use Rattle.search_graph.specs.Cache.{known_results, HasConflict, IsNumberOf, KeepsResults, IsReplyOf, AddsEvaluation};
+ghost use Rattle.search_graph.specs.Plain.{IsNotPlain};
+ghost use Rattle.search_graph.specs.Stack.{place_of, oldest_of, span_of_newest, IsStack, IsProvisional, IsSettled, AreCached, IsOnStack, IsClosedBy};
+ghost use Rattle.search_graph.specs.Question.{IsReplyOver, IsInitial, IsFaithfulOver, IsKeptResult, IsNotPlainAbove, IsWithinAsCached, IsWithinAsStack, KeepsWithin};
+
+use crate::cache::{Cached, CachedResults};
+use crate::delegate::{Cx, Delegate, InputOf, ResultOf};
+use crate::dependencies::{Dependencies, EvaluationResult};
+use crate::fault::GraphFault;
+use crate::nested_goals::{NestedGoals, Span};
+use crate::path_kind::{PathKind, PathsToNested};
+use crate::stack::{Cycle, StackEntry, add_place, find_cycle, remove_place};
+use indexmap::IndexMap;
+use std::alloc::{AllocError, Global};
+use type_terms::Fault;
+
+/// The reply to a question, with what it rests on.
+pub type Evaluation<D> = Result<EvaluationResult<ResultOf<D>>, GraphFault>;
+
+/// The goals that are being evaluated, and what was counted.
+pub struct Search<D: Delegate> {
+    /// Where memory comes from.
+    pub alloc: Global,
+    /// The goals that are being evaluated, each asked by the one before.
+    pub stack: Vec<StackEntry<InputOf<D>, ResultOf<D>>>,
+    /// The place of each goal of the stack, by its number.
+    positions: IndexMap<usize, usize>,
+    ghost placed: { (number : ℕ) → get nat_eq positions number ≡ place_of stack.items number } by { Prim.hlevel props },
+    ghost ranges: { AreInRanges stack.items } by { Prim.hlevel props },
+    /// Whether a limit of the depth or of the runs gave a result.
+    pub limits_met: bool,
+    /// How many frames were started, or the greatest `u64` if there were more.
+    pub frames: u64,
+}
+
+impl<D: Delegate> Drop for Search<D> {
+    fn drop(self) {
+        let Search {
+            alloc: _,
+            stack: _,
+            positions: _,
+            limits_met: _,
+            frames: _,
+        } = self;
+    }
+}
+
+impl<D: Delegate> Search<D> {
+    /// A search that has evaluated nothing.
+    pub fn new(alloc: Global) -> Self
+        ensures empty { result.stack.items ≡ [] }
+        ensures frames { result.frames ≡ 0 }
+        ensures limits { result.limits_met ≡ false }
+    {
+        Search {
+            alloc,
+            stack: Vec::new(alloc),
+            positions: IndexMap::new(alloc),
+            limits_met: false,
+            frames: 0,
+        }
+    }
+
+    /// Gives up what is being evaluated.
+    pub fn clear(&mut self)
+        ensures empty { self.new.stack.items ≡ [] }
+        ensures frames { self.new.frames ≡ self.old.frames }
+        ensures limits { self.new.limits_met ≡ self.old.limits_met }
+    {
+        self.stack.clear();
+        self.positions.clear();
+    }
+
+    /// The goals of the stack lie in it.
+    fn span(&self) -> Span
+        ensures { result ≡ span_of_newest self.now.stack.items }
+    {
+        match self.stack.last() {
+            Some(entry) => entry.span,
+            None => Span::empty(),
+        }
+    }
+
+    /// The stack entry of a goal that is asked now, before its first run.
+    pub fn new_entry(
+        &self,
+        number: usize,
+        input: InputOf<D>,
+        step_kind: PathKind,
+    ) -> StackEntry<InputOf<D>, ResultOf<D>>
+        ensures input { result.input ≡ input }
+        ensures kind { result.step_kind ≡ step_kind }
+        ensures first { result.provisional_result ≡ None }
+        ensures lowest { result.lowest ≡ length self.now.stack.items }
+        ensures number { result.number ≡ number }
+        ensures span { result.span ≡ covered (span_of_newest self.now.stack.items) (one_goal number) }
+    {
+        StackEntry {
+            input,
+            step_kind,
+            provisional_result: None,
+            lowest: self.stack.len(),
+            number,
+            span: self.span().cover(Span::of(number)),
+        }
+    }
+
+    /// Puts a goal on the stack, of which a frame was started. It is refused where memory is; the frame is counted then too.
+    pub fn begin(&mut self, entry: StackEntry<InputOf<D>, ResultOf<D>>) -> Result<(), AllocError>
+        requires { entry.span ≡ covered (span_of_newest self.old.stack.items) (one_goal entry.number) }
+        ensures stack { OnOk result (self.new.stack.items ≡ self.old.stack.items ++ entry ∷ []) }
+        ensures err { OnErr result (self.new.stack.items ≡ self.old.stack.items) }
+        ensures frames { self.new.frames ≡ min (self.old.frames + 1) (2 ^ 64 - 1) }
+        ensures limits { self.new.limits_met ≡ self.old.limits_met }
+    {
+        self.frames = self.frames.saturating_add(1);
+        self.stack.reserve(1)?;
+        add_place(&mut self.positions, entry.number, self.stack.len())?;
+        self.stack.push(entry)?;
+        Ok(())
+    }
+
+    /// Takes the newest goal off the stack.
+    pub fn pop(&mut self) -> Option<StackEntry<InputOf<D>, ResultOf<D>>>
+        ensures stack { self.old.stack.items ≡ self.new.stack.items ++ option_to_list result }
+        ensures some { IsSome result ↔ (0 < length self.old.stack.items) }
+        ensures frames { self.new.frames ≡ self.old.frames }
+        ensures limits { self.new.limits_met ≡ self.old.limits_met }
+    {
+        let entry = self.stack.pop()?;
+        remove_place(&mut self.positions, entry.number, self.stack.len());
+        Some(entry)
+    }
+
+    /// The place of a cached result for the goal that one of this depth may use now: no goal that was asked under it is on the
+    /// stack. A success needed no more than this depth, and after an overflow by depth it had the same one. None is found only where none of the goal's number may be used.
+    pub fn find_cached(
+        &self,
+        cache: &CachedResults<D>,
+        number: usize,
+        input: &InputOf<D>,
+        depth: usize,
+    ) -> Result<Option<usize>, AllocError>
+        ensures found { IfOk result (λ found. IfSome found (IsUsableAt cache.now.entries.items (IsOnStack self.now.stack.items) number input.now depth)) }
+        ensures none { IfOk result (λ found. IfNone found (NoneIsUsable cache.now.entries.items (IsOnStack self.now.stack.items) number input.now depth)) }
+    {
+        cache.find(&self.positions, self.span(), number, input, depth)
+    }
+
+    /// The cycle that a question closes, if its goal is on the stack.
+    pub fn find_cycle(
+        &self,
+        number: usize,
+        input: &InputOf<D>,
+        step_kind: PathKind,
+    ) -> Option<Cycle>
+        ensures found { IfSome result (IsClosedBy self.now.stack.items input.now step_kind) }
+        ensures place { IfSome result (λ cycle. place_of self.now.stack.items number ≡ Some cycle.index) }
+        ensures none { IfNone result (IfSome (oldest_of self.now.stack.items number) (λ e. e.input ≡ input.now → ⊥)) }
+    {
+        find_cycle::<D>(&self.stack, &self.positions, number, input, step_kind)
+    }
+
+    /// The reply to a question on a goal of the stack, and the lowest goal on which it rests: the result of the run before, or
+    /// the initial one for the kind of the cycle. `check_cycle_on_stack` of `rustc_type_ir::search_graph`.
+    pub fn close_cycle(
+        &self,
+        cx: &mut D::Cx,
+        input: &InputOf<D>,
+        step_kind: PathKind,
+        cycle: Cycle,
+    ) -> Result<(ResultOf<D>, usize), Fault>
+        requires stack { IsStack D.meaning (D.meaning.world cx.old) [] cx.old self.now.stack.items }
+        requires input { D.meaning.IsInput cx.old input.now }
+        requires cycle { IsClosedBy self.now.stack.items input.now step_kind cycle }
+        ensures keeps { Keeps D.meaning cx.old cx.new }
+        ensures full { result ≡ Err Fault.Full → D.meaning.IsFull cx.new }
+        ensures lowest { IfOk result (λ r. (e : _) → slice_get self.now.stack.items cycle.index ≡ Some e → r.1 ≡ e.lowest) }
+        ensures last { IfOk result (λ r. (e : _) (last : _) → slice_get self.now.stack.items cycle.index ≡ Some e → e.provisional_result ≡ Some last → r.0 ≡ last) }
+        ensures first { IfOk result (λ r. (e : _) → slice_get self.now.stack.items cycle.index ≡ Some e → e.provisional_result ≡ None → IsInitial D.meaning cx.old input.now cycle cx.new r.0) }
+        ensures answer { IfOk result (λ r. IsReplyOver D.meaning cx.old self.now.stack.items input.now step_kind r.1 cx.new r.0) }
+        ensures not_plain { IfOk result (λ r. IsNotPlainAbove D.meaning cx.old self.now.stack.items input.now r.1) }
+        ensures within { IfOk result (λ r. IsWithinAsStack D.meaning cx.old self.now.stack.items input.now cx.new r.0) }
+    {
+        let entry = &self.stack[cycle.index];
+        match &entry.provisional_result {
+            Some(last) => {
+                let answer = cx.copy_result(last)?;
+                Ok((answer, entry.lowest))
+            }
+            None => {
+                let answer = D::initial_provisional_result(cx, cycle.path_kind, input)?;
+                Ok((answer, entry.lowest))
+            }
+        }
+    }
+
+    /// A cached result as the reply to a question. It is refused where memory is, or as `copy_result` is.
+    /// `lookup_global_cache` of `rustc_type_ir::search_graph`.
+    pub fn use_cached(
+        &self,
+        cache: &CachedResults<D>,
+        cx: &D::Cx,
+        place: usize,
+        input: &InputOf<D>,
+        step_kind: PathKind,
+        depth: usize,
+    ) -> Evaluation<D>
+        requires cache { AreCached D.meaning (D.meaning.world cx.now) cx.now cache.now.entries.items }
+        requires place { (e : _) × (slice_get cache.now.entries.items place ≡ Some e) × (e.input ≡ input.now) × (e.encountered_overflow ≡ true → e.depth ≡ depth) }
+        ensures same { IfOk result (λ o. (e : _) → slice_get cache.now.entries.items place ≡ Some e → IsReplyOf e o) }
+        ensures unread { IfOk result (λ o. (o.dependencies.lowest ≡ length self.now.stack.items) × (o.dependencies.heads.items ≡ [])) }
+        ensures asked { IfOk result (λ o. UsesAlone place o.dependencies.nested_goals) }
+        ensures range { IfOk result (λ o. AreInRange cache.now.entries.items o.dependencies.nested_goals) }
+        ensures answer { IfOk result (λ o. IsReplyOver D.meaning cx.now self.now.stack.items input.now step_kind o.dependencies.lowest cx.now o.result) }
+        ensures faithful { IfOk result (IsFaithfulOver D.meaning cx.now self.now.stack.items input.now (depth + 1) cx.now) }
+        ensures within { IfOk result (λ o. IsWithinAsCached D.meaning cx.now cache.now.entries.items input.now o.result) }
+        ensures no_conflict { result ≡ Err GraphFault.Conflict → ⊥ }
+        ensures in_order { result ≡ Err GraphFault.Protocol → ⊥ }
+        ensures room { result ≡ Err GraphFault.Full → ⊥ }
+    {
+        let cached = cache.get(cx, place, input)?;
+        let Cached {
+            result: answer,
+            depth: required_depth,
+            encountered_overflow,
+        } = cached;
+        let mut dependencies = Dependencies::new(self.alloc, self.stack.len());
+        dependencies.encountered_overflow = encountered_overflow;
+        dependencies.required_depth = required_depth;
+        dependencies
+            .nested_goals
+            .add_cached(place, cache.span_of(place))?;
+        Ok(EvaluationResult {
+            result: answer,
+            dependencies,
+        })
+    }
+
+    /// The reply to a question of a goal of depth 0, which can ask nothing: `handle_overflow`. The limit is noted in any case.
+    pub fn overflow(
+        &mut self,
+        cx: &mut D::Cx,
+        number: usize,
+        input: InputOf<D>,
+        step_kind: PathKind,
+    ) -> Evaluation<D>
+        requires { D.meaning.IsInput cx.old input }
+        ensures keeps { Keeps D.meaning cx.old cx.new }
+        ensures stack { self.new.stack.items ≡ self.old.stack.items }
+        ensures frames { self.new.frames ≡ self.old.frames }
+        ensures noted { self.new.limits_met ≡ true }
+        ensures answer { IfOk result (λ o. IsReplyOver D.meaning cx.old self.old.stack.items input step_kind o.dependencies.lowest cx.new o.result) }
+        ensures overflow { IfOk result (λ o. D.meaning.answer_of cx.new o.result ≡ D.meaning.stack_overflow (D.meaning.world cx.old) (D.meaning.goal_of cx.old input)) }
+        ensures told { IfOk result (λ o. o.dependencies.encountered_overflow ≡ true) }
+        ensures unread { IfOk result (λ o. (o.dependencies.lowest ≡ length self.old.stack.items) × (o.dependencies.heads.items ≡ [])) }
+        ensures asked { IfOk result (λ o. AsksAlone number o.dependencies.nested_goals) }
+        ensures depth { IfOk result (λ o. o.dependencies.required_depth ≡ 0) }
+        ensures no_conflict { result ≡ Err GraphFault.Conflict → ⊥ }
+        ensures in_order { result ≡ Err GraphFault.Protocol → ⊥ }
+        ensures full { result ≡ Err GraphFault.Full → D.meaning.IsFull cx.new }
+    {
+        self.limits_met = true;
+        let answer = D::stack_overflow_result(cx, &input)?;
+        let mut dependencies = Dependencies::new(self.alloc, self.stack.len());
+        dependencies.encountered_overflow = true;
+        dependencies.nested_goals.add_goal(number)?;
+        Ok(EvaluationResult {
+            result: answer,
+            dependencies,
+        })
+    }
+}
+
+/// The depth of a goal that is asked by one of this depth: one less, or divided once that one has met an overflow by depth.
+/// `allowed_depth_for_nested` of `rustc_type_ir::search_graph`.
+pub fn nested_depth<D: Delegate>(depth: usize, overflowed: bool) -> usize
+    requires { 1 ≤ depth }
+    ensures less { overflowed ≡ false → result + 1 ≡ depth }
+    ensures divided { overflowed ≡ true → result ≡ depth / D.DIVIDE_AVAILABLE_DEPTH_ON_OVERFLOW }
+    ensures falls { result < depth }
+{
+    if overflowed {
+        depth / D::DIVIDE_AVAILABLE_DEPTH_ON_OVERFLOW
+    } else {
+        depth - 1
+    }
+}
+
+/// How often a goal may be run: as the delegate says, and at least once.
+pub fn run_limit<D: Delegate>() -> usize
+    ensures { result ≡ max D.FIXPOINT_STEP_LIMIT 1 }
+{
+    D::FIXPOINT_STEP_LIMIT.max(1)
+}
+
+/// Whether a goal that had this result isn't run again: its own result wasn't read, the result is that of the run before, it
+/// is the first run and the result is the initial one for the only kind of path that read it, or the result is ambiguous.
+/// `reached_fixpoint` of `rustc_type_ir::search_graph`.
+pub fn is_last_run<D: Delegate>(
+    cx: &D::Cx,
+    entry: &StackEntry<InputOf<D>, ResultOf<D>>,
+    read: Option<PathsToNested>,
+    found: &ResultOf<D>,
+) -> bool
+    requires input { D.meaning.IsInput cx.now entry.now.input }
+    requires found { D.meaning.IsResult cx.now found.now }
+    ensures unread { read ≡ None → result ≡ true }
+    ensures settled { result ≡ true → (read ≡ None) ⊎ IsSettled D.meaning cx.now entry.now found.now }
+    ensures ambiguous { D.meaning.is_ambiguous (D.meaning.answer_of cx.now found.now) ≡ true → result ≡ true }
+    ensures again { entry.now.provisional_result ≡ Some found.now → result ≡ true }
+{
+    let Some(paths) = read else {
+        return true;
+    };
+    match &entry.provisional_result {
+        Some(last) => {
+            if *last == *found {
+                return true;
+            }
+        }
+        None => {
+            if let Some(kind) = paths.only_kind() {
+                if D::is_initial_provisional_result(cx, kind, &entry.input, found) {
+                    return true;
+                }
+            }
+        }
+    }
+    D::is_ambiguous_result(cx, found).is_some()
+}
+
+/// Keeps the result of a goal at this place of the stack if it rests on no goal below, and answers the same result with what
+/// was asked for it.
+/// It is refused where memory is, as `copy_result` is, and where the result differs from one that was kept for the goal
+/// (`Conflict`). `insert_global_cache` of `rustc_type_ir::search_graph`.
+pub fn finish<D: Delegate>(
+    alloc: Global,
+    cache: &mut CachedResults<D>,
+    cx: &D::Cx,
+    index: usize,
+    number: usize,
+    input: InputOf<D>,
+    evaluation: EvaluationResult<ResultOf<D>>,
+    depth: usize,
+) -> Evaluation<D>
+    requires cache { AreCached D.meaning (D.meaning.world cx.now) cx.now cache.old.entries.items }
+    requires input { D.meaning.IsInput cx.now input }
+    requires nested { AreInRange cache.old.entries.items evaluation.dependencies.nested_goals }
+    requires number { IsNumberOf D.Cx.Input.eq cache.old.goals.keys input number }
+    requires alone { index ≤ evaluation.dependencies.lowest → IsProvisional D.meaning (D.meaning.world cx.now) [] (D.meaning.goal_of cx.now input, PathKind.Inductive) 0 cx.now evaluation.result }
+    requires kept { index ≤ evaluation.dependencies.lowest → IsKeptResult D.meaning cx.now input evaluation.result depth evaluation.dependencies.encountered_overflow }
+    ensures kept { OnOk result (index ≤ evaluation.dependencies.lowest → AddsEvaluation cache.old.entries.items cache.new.entries.items input number depth evaluation) }
+    ensures unkept { OnOk result (evaluation.dependencies.lowest < index → cache.new.entries.items ≡ cache.old.entries.items) }
+    ensures err { OnErr result ((cache.new.entries.items ≡ cache.old.entries.items) ⊎ ((e : _) × (cache.new.entries.items ≡ cache.old.entries.items ++ e ∷ []))) }
+    ensures results { KeepsResults cache.old.entries.items cache.new.entries.items }
+    ensures goals { cache.new.goals ≡ cache.old.goals }
+    ensures cache { AreCached D.meaning (D.meaning.world cx.now) cx.now cache.new.entries.items }
+    ensures same { IfOk result (λ o. o.result ≡ evaluation.result) }
+    ensures lowest { IfOk result (λ o. o.dependencies.lowest ≡ evaluation.dependencies.lowest) }
+    ensures heads { IfOk result (λ o. o.dependencies.heads ≡ evaluation.dependencies.heads) }
+    ensures overflow { IfOk result (λ o. o.dependencies.encountered_overflow ≡ evaluation.dependencies.encountered_overflow) }
+    ensures depth { IfOk result (λ o. o.dependencies.required_depth ≡ evaluation.dependencies.required_depth) }
+    ensures found { IfOk result (λ o. index ≤ evaluation.dependencies.lowest → UsesAlone (length cache.old.entries.items) o.dependencies.nested_goals) }
+    ensures asked { IfOk result (λ o. evaluation.dependencies.lowest < index → AlsoAsks evaluation.dependencies.nested_goals number o.dependencies.nested_goals) }
+    ensures range { IfOk result (λ o. AreInRange cache.new.entries.items o.dependencies.nested_goals) }
+    ensures within { OnOk result (KeepsWithin D.meaning cx.now cache.old.entries.items input evaluation.result cache.new.entries.items) }
+    ensures no_conflict { result ≡ Err GraphFault.Conflict → (limit : ℕ) → limit ≤ depth + 1 → IsNotPlain D.meaning (D.meaning.world cx.now) limit (D.meaning.goal_of cx.now input) }
+    ensures conflict { result ≡ Err GraphFault.Conflict → HasConflict D.meaning cx.now (known_results cache.new.entries.items) }
+    ensures in_order { result ≡ Err GraphFault.Protocol → ⊥ }
+    ensures room { result ≡ Err GraphFault.Full → ⊥ }
+{
+    let EvaluationResult {
+        result: answer,
+        dependencies,
+    } = evaluation;
+    let Dependencies {
+        lowest,
+        heads,
+        encountered_overflow,
+        required_depth,
+        nested_goals,
+    } = dependencies;
+    if lowest >= index {
+        let kept_depth = if encountered_overflow {
+            depth
+        } else {
+            required_depth
+        };
+        let span = nested_goals.span.cover(Span::of(number));
+        let place = cache.insert(
+            cx,
+            number,
+            input,
+            &answer,
+            kept_depth,
+            encountered_overflow,
+            nested_goals,
+        )?;
+        let mut nested_goals = NestedGoals::new(alloc);
+        nested_goals.add_cached(place, span)?;
+        let dependencies = Dependencies {
+            lowest,
+            heads,
+            encountered_overflow,
+            required_depth,
+            nested_goals,
+        };
+        return Ok(EvaluationResult {
+            result: answer,
+            dependencies,
+        });
+    }
+    // A provisional entry would be left here, for the run of the nearest head.
+    let mut nested_goals = nested_goals;
+    nested_goals.add_goal(number)?;
+    let dependencies = Dependencies {
+        lowest,
+        heads,
+        encountered_overflow,
+        required_depth,
+        nested_goals,
+    };
+    Ok(EvaluationResult {
+        result: answer,
+        dependencies,
+    })
+}

@@ -1,0 +1,130 @@
+//! The goals that are being evaluated, each asked by the one before.
+
+ghost use Rattle.std.specs.Prelude.{◌≡◌, ◌+◌, ◌<◌, ℕ, IfSome, IfNone, OnOk, OnErr, Some, None, cond, nat_eq, length, slice_get, drop};
+ghost use Rattle.indexmap.specs.IndexMap.{get};
+ghost use Rattle.search_graph.specs.Stack.{kind_after, IsClosedBy};
+
+use crate::delegate::{Delegate, InputOf, ResultOf};
+use crate::dependencies::Dependencies;
+use crate::nested_goals::Span;
+use crate::path_kind::PathKind;
+use indexmap::IndexMap;
+use std::alloc::AllocError;
+
+/// A goal that is being evaluated. `StackEntry` of `rustc_type_ir::search_graph`.
+#[derive(Drop)]
+pub struct StackEntry<I, R> {
+    /// The goal.
+    pub input: I,
+    /// The kind of the step by which it was asked.
+    pub step_kind: PathKind,
+    /// The result of the run before, if there was one.
+    pub provisional_result: Option<R>,
+    /// That result rests on no goal of the stack below this place.
+    pub lowest: usize,
+    /// Its number in the cache.
+    pub number: usize,
+    /// The goals of the stack up to this one lie in it.
+    pub span: Span,
+}
+
+impl<I: Drop, R: Drop> StackEntry<I, R> {
+    /// The entry for the next run, after one with this result, which rests on these dependencies.
+    pub fn next_run(self, answer: R, dependencies: &Dependencies) -> StackEntry<I, R>
+        ensures { result ≡ record { input = self.input; step_kind = self.step_kind; provisional_result = Some answer; lowest = dependencies.now.lowest; number = self.number; span = self.span } }
+    {
+        let StackEntry {
+            input,
+            step_kind,
+            provisional_result: _,
+            lowest: _,
+            number,
+            span,
+        } = self;
+        StackEntry {
+            input,
+            step_kind,
+            provisional_result: Some(answer),
+            lowest: dependencies.lowest,
+            number,
+            span,
+        }
+    }
+}
+
+/// A goal of the stack that is asked again, and the kind of the path that leads from it back to it.
+#[derive(Clone, Copy)]
+pub struct Cycle {
+    /// The place of the goal, counted from the oldest.
+    pub index: usize,
+    /// The kind of the path.
+    pub path_kind: PathKind,
+}
+
+/// Gives the number of a goal a place, unless it has one.
+pub(crate) fn add_place(
+    positions: &mut IndexMap<usize, usize>,
+    number: usize,
+    place: usize,
+) -> Result<(), AllocError>
+    ensures again { OnOk result ((older : ℕ) → get nat_eq positions.old number ≡ Some older → (other : ℕ) → get nat_eq positions.new other ≡ get nat_eq positions.old other) }
+    ensures added { OnOk result (get nat_eq positions.old number ≡ None → (other : ℕ) → get nat_eq positions.new other ≡ cond (nat_eq number other) (Some place) (get nat_eq positions.old other)) }
+    ensures err { OnErr result ((other : ℕ) → get nat_eq positions.new other ≡ get nat_eq positions.old other) }
+{
+    if positions.contains_key(&number) {
+        return Ok(());
+    }
+    positions.insert(number, place)?;
+    Ok(())
+}
+
+/// Takes the place of a number away, if it is this one.
+pub(crate) fn remove_place(positions: &mut IndexMap<usize, usize>, number: usize, place: usize)
+    ensures removed { get nat_eq positions.old number ≡ Some place → (other : ℕ) → get nat_eq positions.new other ≡ cond (nat_eq number other) None (get nat_eq positions.old other) }
+    ensures kept { (get nat_eq positions.old number ≡ Some place → ⊥) → (other : ℕ) → get nat_eq positions.new other ≡ get nat_eq positions.old other }
+{
+    let Some(found) = positions.get(&number).copied() else {
+        return;
+    };
+    if found == place {
+        positions.swap_remove(&number);
+    }
+}
+
+/// The cycle that a question closes, if its goal is on the stack. `positions` has the place of each goal by its number.
+pub(crate) fn find_cycle<D: Delegate>(
+    stack: &[StackEntry<InputOf<D>, ResultOf<D>>],
+    positions: &IndexMap<usize, usize>,
+    number: usize,
+    input: &InputOf<D>,
+    step_kind: PathKind,
+) -> Option<Cycle>
+    ensures found { IfSome result (IsClosedBy stack.now input.now step_kind) }
+    ensures place { IfSome result (λ cycle. get nat_eq positions.now number ≡ Some cycle.index) }
+    ensures none { IfNone result ((place : ℕ) (e : _) → get nat_eq positions.now number ≡ Some place → slice_get stack.now place ≡ Some e → e.input ≡ input.now → ⊥) }
+{
+    let index = *positions.get(&number)?;
+    if index >= stack.len() {
+        return None;
+    }
+    let entry = &stack[index];
+    if entry.input == *input {
+        let path_kind = kind_of_path(stack, index, step_kind);
+        return Some(Cycle { index, path_kind });
+    }
+    None
+}
+
+/// The greatest kind of the steps above a place and a closing one.
+fn kind_of_path<I, R>(stack: &[StackEntry<I, R>], index: usize, step_kind: PathKind) -> PathKind
+    requires { index < length stack.now }
+    ensures { result ≡ kind_after (drop (index + 1) stack.now) step_kind }
+{
+    let mut above = stack.len();
+    let mut path_kind = step_kind;
+    while above > index + 1 {
+        above -= 1;
+        path_kind = stack[above].step_kind.extend(path_kind);
+    }
+    path_kind
+}

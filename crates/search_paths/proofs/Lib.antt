@@ -1,4 +1,0 @@
-pub mod KindOrder
-pub mod PathSets
-pub mod UsageFacts
-pub mod HeadFacts

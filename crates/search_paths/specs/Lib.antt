@@ -1,5 +1,0 @@
-pub mod Laws
-pub mod Path
-pub mod Usages
-pub mod Nested
-pub mod Heads

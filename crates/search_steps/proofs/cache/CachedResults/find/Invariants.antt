@@ -1,8 +1,0 @@
-use Rattle.std.proofs.Common.{nat_eq}
-use Rattle.indexmap.specs.IndexMap.{ContainsKey}
-use Rattle.search_steps.specs.Chain.{IsUsable}
-use Rattle.search_steps.proofs.Chains.{IsAhead}
-use Rattle.search_steps.proofs.cache.CachedResults.find.Given as goal
-
-abbrev pub invariant-loop : goal.invariant-loop
-invariant-loop g l = IsAhead l.self.entries.items l.number (IsUsable l.self.entries.items (ContainsKey nat_eq l.positions) l.number l.input l.depth) l.counter l.next

@@ -1,0 +1,108 @@
+//! What responses say, and their merges.
+ghost use Rattle.std.specs.Prelude.{IfOk};
+ghost use Rattle.std.specs.List.{All};
+ghost use Rattle.type_terms.specs.Terms.{Has, Keeps, types};
+ghost use Rattle.evaluation.specs.Responses.{ValuesHeld};
+
+use evaluation::{
+    MergeCandidateInfo, bail_with_ambiguity, flounder, is_same_response, try_merge_candidates,
+};
+use infer_table::canonical::CanonicalVarKind;
+use infer_table::certainty::{Certainty, MaybeCause};
+use infer_table::response::CanonicalResponse;
+use std::alloc::Global;
+use std::test::Fail;
+use type_terms::Fault;
+use type_terms::interner::Interner;
+use type_terms::kinds::{GenericArgKind, Ty, TyKind, UintTy};
+
+/// A value of the goal's one unknown type.
+#[derive(Clone, Copy)]
+enum Value {
+    Bool,
+    Byte,
+}
+
+/// The value as a type.
+fn make(cx: &mut Interner, value: Value) -> Result<Ty, Fault>
+    ensures keeps { Keeps cx.old.entries cx.new.entries }
+    ensures held { IfOk result (λ ty. Has cx.new.entries types ty.0) }
+{
+    match value {
+        Value::Bool => cx.mk_ty(TyKind::Bool),
+        Value::Byte => cx.mk_ty(TyKind::Uint(UintTy::U8)),
+    }
+}
+
+/// A yes by which the type has this value.
+fn response(alloc: Global, cx: &mut Interner, value: Value) -> Result<CanonicalResponse, Fault>
+    ensures keeps { Keeps cx.old.entries cx.new.entries }
+    ensures held { IfOk result (λ r. ValuesHeld cx.new.entries r) }
+{
+    let ty = make(cx, value)?;
+    Ok(CanonicalResponse {
+        variables: vec![in alloc; CanonicalVarKind::Ty]?,
+        certainty: Certainty::Yes,
+        var_values: vec![in alloc; GenericArgKind::Ty(ty)]?,
+        region_constraints: Vec::new(alloc),
+    })
+}
+
+/// Two with different values.
+fn responses(alloc: Global, cx: &mut Interner) -> Result<[CanonicalResponse; 2], Fault>
+    ensures { IfOk result (λ rs. All (ValuesHeld cx.new.entries) rs) }
+{
+    let first = response(alloc, cx, Value::Bool)?;
+    let second = response(alloc, cx, Value::Byte)?;
+    Ok([first, second])
+}
+
+/// Whether the merge of the first alone is the first.
+fn is_merged_alone(
+    alloc: Global,
+    cx: &Interner,
+    responses: &[CanonicalResponse; 2],
+) -> Result<bool, Fault>
+    requires { All (ValuesHeld cx.now.entries) responses.now }
+{
+    match try_merge_candidates(alloc, cx, &responses[..1])? {
+        Some((merged, MergeCandidateInfo::EqualResponse)) => {
+            Ok(is_same_response(&merged, &responses[0]))
+        }
+        _ => Ok(false),
+    }
+}
+
+#[test]
+fn responses_with_different_values_have_no_merge(rt: HostRuntime) -> Result<(), Fail> {
+    let mut cx = Interner::new(rt.alloc(), 100);
+    let both = responses(rt.alloc(), &mut cx)?;
+    assert!(rt; try_merge_candidates(rt.alloc(), &cx, &both[..0])?.is_none());
+    assert!(rt; is_merged_alone(rt.alloc(), &cx, &both)?);
+    assert!(rt; try_merge_candidates(rt.alloc(), &cx, &both)?.is_none());
+    Ok(())
+}
+
+/// How sure the answer to a goal is whose responses have no merge, where it has one.
+fn floundered(
+    alloc: Global,
+    cx: &mut Interner,
+    responses: &[CanonicalResponse],
+) -> Result<Option<Certainty>, Fault> {
+    match flounder(alloc, cx, &[CanonicalVarKind::Ty], responses)? {
+        Some(answer) => Ok(Some(answer.certainty)),
+        None => Ok(None),
+    }
+}
+
+#[test]
+fn a_goal_flounders_unless_it_has_no_responses(rt: HostRuntime) -> Result<(), Fail> {
+    let mut cx = Interner::new(rt.alloc(), 100);
+    let both = responses(rt.alloc(), &mut cx)?;
+    let doubt = Certainty::Maybe(MaybeCause::Ambiguity);
+    assert!(rt; floundered(rt.alloc(), &mut cx, &[])?.is_none());
+    assert!(rt; floundered(rt.alloc(), &mut cx, &both)? == Some(doubt));
+    let answer = bail_with_ambiguity(rt.alloc(), &mut cx, &[CanonicalVarKind::Ty], &both)?;
+    assert!(rt; answer.certainty == doubt);
+    Ok(())
+}

@@ -1,0 +1,225 @@
+//! Small goals, with the frames that they start. What no list of rules can show is tried here too: how often a goal runs.
+
+ghost use Rattle.search_graph.specs.Cache.{AreJustified};
+ghost use Rattle.scripted_goals.specs.Toy.{toy_meaning};
+
+use scripted_goals::{AMBIGUOUS, NO, OVERFLOW, Rule, Script, Scripts, Step, Toy, YES};
+use search_graph::{GlobalCache, GraphFault, PathKind, SearchGraph};
+use std::alloc::{AllocError, Global};
+use std::test::Fail;
+
+/// Goals 0 to 20: each asks the one before by an unknown step, and the first is a yes.
+const CHAIN: usize = 21;
+
+/// The goals from 21 on: their steps, what their frames make of answers, and the result after the last step.
+const GOALS: [(&[Step], Rule, u8); 24] = [
+    // 21 to 23 ask themselves, each by a step of another kind.
+    (&[Step::Ask(21, PathKind::Coinductive)], Rule::All, YES),
+    (&[Step::Ask(22, PathKind::Unknown)], Rule::All, YES),
+    (&[Step::Ask(23, PathKind::Inductive)], Rule::All, YES),
+    // 24 and 25 ask each other: one coinductive step makes the whole cycle coinductive.
+    (&[Step::Ask(25, PathKind::Coinductive)], Rule::All, YES),
+    (&[Step::Ask(24, PathKind::Unknown)], Rule::All, YES),
+    // 26: from an overflow to yes, from yes to no, and from no to no.
+    (
+        &[Step::Ask(26, PathKind::Unknown)],
+        Rule::Map(NO, YES, NO, NO),
+        NO,
+    ),
+    // 27: from yes to no and from no to yes, for ever.
+    (
+        &[Step::Ask(27, PathKind::Unknown)],
+        Rule::Map(YES, YES, NO, NO),
+        NO,
+    ),
+    // 28: to an ambiguous result, from which it would go on to yes.
+    (
+        &[Step::Ask(28, PathKind::Unknown)],
+        Rule::Map(NO, AMBIGUOUS, YES, YES),
+        NO,
+    ),
+    // 29: the initial result for one of two kinds of paths by which it was read.
+    (
+        &[
+            Step::Ask(29, PathKind::Unknown),
+            Step::Ask(29, PathKind::Coinductive),
+        ],
+        Rule::Any,
+        NO,
+    ),
+    // 30 to 34 make a request out of order.
+    (&[Step::Finish], Rule::All, YES),
+    (&[Step::Enter, Step::Enter], Rule::All, YES),
+    (&[Step::Ignore(0)], Rule::All, YES),
+    (
+        &[Step::Enter, Step::Finish, Step::Ignore(0), Step::Ignore(0)],
+        Rule::All,
+        YES,
+    ),
+    (&[Step::Enter], Rule::All, YES),
+    // 35 makes none.
+    (
+        &[
+            Step::Enter,
+            Step::Ask(0, PathKind::Unknown),
+            Step::Finish,
+            Step::Enter,
+            Step::Ignore(0),
+            Step::Finish,
+        ],
+        Rule::All,
+        YES,
+    ),
+    // 36 and 37: a goal that is too deep, and then one for which a quarter of the depth is not enough, or is.
+    (
+        &[
+            Step::Ask(20, PathKind::Unknown),
+            Step::Ask(3, PathKind::Unknown),
+        ],
+        Rule::Any,
+        NO,
+    ),
+    (
+        &[
+            Step::Ask(20, PathKind::Unknown),
+            Step::Ask(2, PathKind::Unknown),
+        ],
+        Rule::Any,
+        NO,
+    ),
+    // 38 to 43: another chain.
+    (&[], Rule::All, YES),
+    (&[Step::Ask(38, PathKind::Unknown)], Rule::All, YES),
+    (&[Step::Ask(39, PathKind::Unknown)], Rule::All, YES),
+    (&[Step::Ask(40, PathKind::Unknown)], Rule::All, YES),
+    (&[Step::Ask(41, PathKind::Unknown)], Rule::All, YES),
+    (&[Step::Ask(42, PathKind::Unknown)], Rule::All, YES),
+    // 44 asks twice for 21, and is too deep for it where the depth is 1.
+    (
+        &[
+            Step::Ask(21, PathKind::Coinductive),
+            Step::Ask(21, PathKind::Coinductive),
+        ],
+        Rule::All,
+        YES,
+    ),
+];
+
+/// What a search finds: the answer, how many frames it started, and whether it met a limit.
+type Found = (Result<u8, GraphFault>, u64, bool);
+
+/// A depth and a goal that are asked with a new cache, and what is found.
+const ALONE: [(usize, usize, Found); 16] = [
+    (8, 7, (Ok(YES), 8, false)),
+    (8, 9, (Ok(OVERFLOW), 9, true)),
+    (8, 21, (Ok(YES), 1, false)),
+    (8, 22, (Ok(OVERFLOW), 1, false)),
+    (8, 23, (Ok(NO), 1, false)),
+    (8, 24, (Ok(YES), 2, false)),
+    (8, 26, (Ok(NO), 3, false)),
+    (8, 27, (Ok(OVERFLOW), 8, true)),
+    (8, 28, (Ok(AMBIGUOUS), 1, false)),
+    (8, 29, (Ok(YES), 2, false)),
+    (8, 30, (Err(GraphFault::Protocol), 1, false)),
+    (8, 31, (Err(GraphFault::Protocol), 1, false)),
+    (8, 32, (Err(GraphFault::Protocol), 1, false)),
+    (8, 33, (Err(GraphFault::Protocol), 1, false)),
+    (8, 34, (Err(GraphFault::Protocol), 1, false)),
+    (8, 35, (Ok(YES), 2, false)),
+];
+
+/// The same with one cache, in this order.
+const TOGETHER: [(usize, usize, Found); 8] = [
+    (8, 36, (Ok(NO), 12, true)),
+    // The overflow comes from the cache, and divides the depth too.
+    (8, 36, (Ok(NO), 0, false)),
+    (8, 37, (Ok(YES), 4, false)),
+    // A success is used where its depth is there.
+    (8, 43, (Ok(YES), 6, false)),
+    (3, 43, (Ok(OVERFLOW), 4, true)),
+    (5, 43, (Ok(YES), 0, false)),
+    // A result is not used where a goal is evaluated that it rests on.
+    (1, 44, (Ok(OVERFLOW), 2, true)),
+    (1, 21, (Ok(YES), 1, false)),
+];
+
+/// Adds a goal.
+fn add(
+    alloc: Global,
+    scripts: &mut Scripts,
+    steps: &[Step],
+    rule: Rule,
+    otherwise: u8,
+) -> Result<(), AllocError> {
+    let steps = steps.to_vec(alloc)?;
+    scripts.goals.push(Script {
+        steps,
+        rule,
+        otherwise,
+    })?;
+    Ok(())
+}
+
+/// All goals.
+fn all_goals(alloc: Global) -> Result<Scripts, AllocError> {
+    let mut scripts = Scripts {
+        goals: Vec::new(alloc),
+    };
+    add(alloc, &mut scripts, &[], Rule::All, YES)?;
+    for below in 0..CHAIN - 1 {
+        let step = Step::Ask(below, PathKind::Unknown);
+        add(alloc, &mut scripts, &[step], Rule::All, YES)?;
+    }
+    for (steps, rule, otherwise) in GOALS {
+        add(alloc, &mut scripts, steps, rule, otherwise)?;
+    }
+    Ok(scripts)
+}
+
+/// What a new search with this depth finds, and whether it is empty before the goal and after it.
+fn solve(
+    alloc: Global,
+    scripts: &mut Scripts,
+    cache: &mut GlobalCache<Toy>,
+    depth: usize,
+    goal: usize,
+) -> Result<(Found, bool), GraphFault>
+    requires { AreJustified toy_meaning scripts.old cache.old }
+    ensures { AreJustified toy_meaning scripts.new cache.new }
+{
+    let mut graph: SearchGraph<Toy> = SearchGraph::new(alloc, depth.max(1))?;
+    let was_empty = graph.is_empty();
+    match graph.evaluate_goal(cache, scripts, goal, PathKind::Inductive) {
+        Err(GraphFault::Memory) => Err(GraphFault::Memory),
+        answer => {
+            let found = (answer, graph.frames(), graph.limits_met());
+            let is_empty = graph.is_empty() && graph.debug_current_depth() == 0;
+            Ok((found, was_empty && is_empty))
+        }
+    }
+}
+
+#[test]
+fn goals_are_answered_with_a_new_cache(rt: HostRuntime) -> Result<(), Fail> {
+    let mut scripts = all_goals(rt.alloc())?;
+    for (depth, goal, wanted) in ALONE {
+        let mut cache: GlobalCache<Toy> = GlobalCache::new(rt.alloc())?;
+        let found = solve(rt.alloc(), &mut scripts, &mut cache, depth, goal)?;
+        assert!(rt; found == (wanted, true), "goal {goal}");
+    }
+    Ok(())
+}
+
+#[test]
+fn goals_are_answered_with_one_cache(rt: HostRuntime) -> Result<(), Fail> {
+    let mut scripts = all_goals(rt.alloc())?;
+    let mut cache: GlobalCache<Toy> = GlobalCache::new(rt.alloc())?;
+    for (depth, goal, wanted) in TOGETHER {
+        let found = solve(rt.alloc(), &mut scripts, &mut cache, depth, goal)?;
+        assert!(rt;
+            found == (wanted, true),
+            "goal {goal} with the depth {depth}"
+        );
+    }
+    Ok(())
+}

@@ -1,0 +1,18 @@
+-- Folds of values, part by part.
+use Rattle.std.proofs.Common.{ℕ, List, [], ◌∷◌, ◌++◌, ap, sym, subst, append_assoc}
+use Rattle.model.specs.Trees.{Trees}
+use Rattle.term_folds.specs.Folds.{Does, Folds}
+use Rattle.term_folds.specs.Pieces.{Piece, under, FoldsEach}
+
+pub folds-both : (f : List ℕ → Trees → Does) (bs : List ℕ) (ps qs ps' qs' : List Piece) → FoldsEach f bs ps qs → FoldsEach f bs ps' qs' → FoldsEach f bs (ps ++ ps') (qs ++ qs')
+folds-both f bs [] [] ps' qs' a b = b
+folds-both f bs [] (q ∷ qs) ps' qs' a b = absurd a
+folds-both f bs (p ∷ ps) [] ps' qs' a b = absurd a
+folds-both f bs (p ∷ ps) (q ∷ qs) ps' qs' a b = (a.0, a.1, folds-both f bs ps qs ps' qs' a.2 b)
+
+pub folds-under : (f : List ℕ → Trees → Does) (bs : List ℕ) (n : ℕ) (ps qs : List Piece) → FoldsEach f (n ∷ bs) ps qs → FoldsEach f bs (under n ps) (under n qs)
+folds-under f bs n [] [] a = tt
+folds-under f bs n [] (q ∷ qs) a = absurd a
+folds-under f bs n (p ∷ ps) [] a = absurd a
+folds-under f bs n (p ∷ ps) (q ∷ qs) a =
+    (ap (λ c. c ++ n ∷ []) a.0, subst (λ c. Folds f c p.trees q.trees) (sym (append_assoc p.counts (n ∷ []) bs)) a.1, folds-under f bs n ps qs a.2)

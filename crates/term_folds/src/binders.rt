@@ -1,0 +1,51 @@
+//! The binders around a node.
+ghost use Rattle.std.specs.Prelude.{◌≡◌, ℕ, length, min};
+ghost use Rattle.std.specs.List.{slice_get};
+ghost use Rattle.term_folds.specs.Binders.{counts_of};
+ghost use Rattle.type_terms.specs.declared.TheConstants.{MAX_INDEX};
+
+use type_terms::MAX_INDEX;
+use type_terms::number::DebruijnIndex;
+
+/// The binders around a node of a term, the innermost first, each with the number of lifetimes that it binds.
+///
+/// A walk keeps them in its own recursion and lends them, so that nothing grows.
+#[derive(Clone, Copy)]
+pub enum Binders<'a> {
+    /// No binder is around the node.
+    Outermost,
+    /// A binder of so many lifetimes, and the binders around it.
+    Inside(u32, &'a Binders<'a>),
+}
+
+impl Binders<'_> {
+    /// How many binders there are, `MAX_INDEX` standing for more.
+    ///
+    /// No number of a binder in a term is greater, so that none leads out of more binders than that.
+    pub fn depth(&self) -> DebruijnIndex
+        ensures { result.index ≡ min (length (counts_of self.now)) MAX_INDEX }
+    {
+        match self {
+            Binders::Outermost => DebruijnIndex { index: 0 },
+            Binders::Inside(_, outer) => {
+                let depth = outer.depth();
+                if depth.index == MAX_INDEX {
+                    depth
+                } else {
+                    depth.shifted_in(1)
+                }
+            }
+        }
+    }
+
+    /// How many lifetimes the binder with this number binds, if there is one.
+    pub fn count(&self, binder: DebruijnIndex) -> Option<u32>
+        ensures { result ≡ slice_get (counts_of self.now) binder.index }
+    {
+        match self {
+            Binders::Outermost => None,
+            Binders::Inside(count, _) if binder.index == 0 => Some(*count),
+            Binders::Inside(_, outer) => outer.count(binder.shifted_out(1)),
+        }
+    }
+}

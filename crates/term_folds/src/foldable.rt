@@ -1,0 +1,165 @@
+//! Values that can be folded.
+ghost use Rattle.std.specs.Prelude.{◌≡◌, ℕ, ◌⊎◌, List, [], IfOk, IfErr, Err};
+ghost use Rattle.type_terms.specs.Terms.{Keeps, Has, types, consts, trees_at};
+ghost use Rattle.term_folds.specs.Binders.{counts_of};
+ghost use Rattle.term_folds.specs.Failures.{FailsBy, SomeKindIsFull};
+ghost use Rattle.term_folds.specs.Folds.{IsFoldBelow};
+ghost use Rattle.term_folds.specs.Pieces.{FoldsEach};
+
+use crate::binders::Binders;
+use crate::fold::{
+    FallibleTypeFolder, fold_arg, fold_args, fold_bounds, fold_const, fold_region, fold_ty,
+    fold_tys,
+};
+use crate::folder::{Infallible, TypeFolder};
+use crate::visitable::TypeVisitable;
+use std::alloc::Global;
+use type_terms::Fault;
+use type_terms::interner::Interner;
+use type_terms::kinds::{Bounds, Const, GenericArgKind, GenericArgs, Ty, Tys};
+use type_terms::region::Region;
+
+/// A value that can be folded: its terms are, each under the binders around it, and all else stays.
+pub trait TypeFoldable: TypeVisitable {
+    /// The fold of the value under these binders.
+    fn try_fold_under<F: FallibleTypeFolder>(
+        self,
+        alloc: Global,
+        cx: &mut Interner,
+        folder: &F,
+        binders: &Binders,
+    ) -> Result<Self, F::Error>
+        requires ready { F.ready folder.now cx.old.entries }
+        requires held { Self.held self cx.old.entries }
+        ensures keeps { Keeps cx.old.entries cx.new.entries }
+        ensures limit { cx.new.limit ≡ cx.old.limit }
+        ensures held { IfOk result (λ r. Self.held r cx.new.entries) }
+        ensures outline { IfOk result (λ r. Self.outline r ≡ Self.outline self) }
+        ensures folded { IfOk result (λ r. FoldsEach (F.action folder.now cx.old.entries) (counts_of binders.now) (Self.pieces self cx.old.entries) (Self.pieces r cx.new.entries)) }
+        ensures failed { IfErr result (λ e. FailsBy (F.fails folder.now) F.Error.from_gives cx.new.entries cx.new.limit e) };
+
+    /// The fold of the value by a folder that can fail: with an error of its own, or with one that is made of a fault.
+    final fn try_fold_with<F: FallibleTypeFolder>(
+        self,
+        alloc: Global,
+        cx: &mut Interner,
+        folder: &F,
+    ) -> Result<Self, F::Error>
+        requires ready { F.ready folder.now cx.old.entries }
+        requires held { Self.held self cx.old.entries }
+        ensures keeps { Keeps cx.old.entries cx.new.entries }
+        ensures limit { cx.new.limit ≡ cx.old.limit }
+        ensures held { IfOk result (λ r. Self.held r cx.new.entries) }
+        ensures outline { IfOk result (λ r. Self.outline r ≡ Self.outline self) }
+        ensures folded { IfOk result (λ r. FoldsEach (F.action folder.now cx.old.entries) [] (Self.pieces self cx.old.entries) (Self.pieces r cx.new.entries)) }
+        ensures failed { IfErr result (λ e. FailsBy (F.fails folder.now) F.Error.from_gives cx.new.entries cx.new.limit e) }
+    {
+        self.try_fold_under(alloc, cx, folder, &Binders::Outermost)
+    }
+
+    /// The fold of the value.
+    ///
+    /// `Full` comes only where some kind of term has reached its limit, or for a reason of the folder's own; `Memory`
+    /// where memory is refused. What was made before stays.
+    final fn fold_with<F: TypeFolder>(
+        self,
+        alloc: Global,
+        cx: &mut Interner,
+        folder: &F,
+    ) -> Result<Self, Fault>
+        requires ready { F.ready folder.now cx.old.entries }
+        requires held { Self.held self cx.old.entries }
+        ensures keeps { Keeps cx.old.entries cx.new.entries }
+        ensures limit { cx.new.limit ≡ cx.old.limit }
+        ensures held { IfOk result (λ r. Self.held r cx.new.entries) }
+        ensures outline { IfOk result (λ r. Self.outline r ≡ Self.outline self) }
+        ensures folded { IfOk result (λ r. FoldsEach (F.action folder.now cx.old.entries) [] (Self.pieces self cx.old.entries) (Self.pieces r cx.new.entries)) }
+        ensures full { result ≡ Err Fault.Full → SomeKindIsFull cx.new.entries cx.new.limit ⊎ F.refuses folder.now }
+    {
+        self.try_fold_under(alloc, cx, &Infallible(folder), &Binders::Outermost)
+    }
+}
+
+impl TypeFoldable for Ty {
+    fn try_fold_under<F: FallibleTypeFolder>(
+        self,
+        alloc: Global,
+        cx: &mut Interner,
+        folder: &F,
+        binders: &Binders,
+    ) -> Result<Ty, F::Error> {
+        fold_ty(alloc, cx, folder, self, binders)
+    }
+}
+
+impl TypeFoldable for Const {
+    fn try_fold_under<F: FallibleTypeFolder>(
+        self,
+        alloc: Global,
+        cx: &mut Interner,
+        folder: &F,
+        binders: &Binders,
+    ) -> Result<Const, F::Error> {
+        fold_const(cx, folder, self, binders)
+    }
+}
+
+impl TypeFoldable for GenericArgs {
+    fn try_fold_under<F: FallibleTypeFolder>(
+        self,
+        alloc: Global,
+        cx: &mut Interner,
+        folder: &F,
+        binders: &Binders,
+    ) -> Result<GenericArgs, F::Error> {
+        fold_args(alloc, cx, folder, self, binders)
+    }
+}
+
+impl TypeFoldable for Tys {
+    fn try_fold_under<F: FallibleTypeFolder>(
+        self,
+        alloc: Global,
+        cx: &mut Interner,
+        folder: &F,
+        binders: &Binders,
+    ) -> Result<Tys, F::Error> {
+        fold_tys(alloc, cx, folder, self, binders)
+    }
+}
+
+impl TypeFoldable for Bounds {
+    fn try_fold_under<F: FallibleTypeFolder>(
+        self,
+        alloc: Global,
+        cx: &mut Interner,
+        folder: &F,
+        binders: &Binders,
+    ) -> Result<Bounds, F::Error> {
+        fold_bounds(alloc, cx, folder, self, binders)
+    }
+}
+
+impl TypeFoldable for Region {
+    fn try_fold_under<F: FallibleTypeFolder>(
+        self,
+        alloc: Global,
+        cx: &mut Interner,
+        folder: &F,
+        binders: &Binders,
+    ) -> Result<Region, F::Error> {
+        fold_region(cx, folder, self, binders)
+    }
+}
+
+impl TypeFoldable for GenericArgKind {
+    fn try_fold_under<F: FallibleTypeFolder>(
+        self,
+        alloc: Global,
+        cx: &mut Interner,
+        folder: &F,
+        binders: &Binders,
+    ) -> Result<GenericArgKind, F::Error> {
+        fold_arg(alloc, cx, folder, self, binders)
+    }
+}

@@ -1,0 +1,150 @@
+//! Folders that cannot fail but for want of room.
+ghost use Rattle.std.specs.Prelude.{◌≡◌, ℕ, ◌<◌, ◌≤◌, ◌⊎◌, List, IfOk, Err};
+ghost use Rattle.model.specs.Label.{Label};
+ghost use Rattle.model.specs.Trees.{Trees, none, tree, ◌+++◌};
+ghost use Rattle.type_terms.specs.Terms.{Entry, Is, Has, Keeps, types, consts, trees_at};
+ghost use Rattle.type_terms.specs.Kinds.{region_trees, RegionHeld};
+ghost use Rattle.term_folds.specs.Binders.{counts_of};
+ghost use Rattle.term_folds.specs.Failures.{SomeKindIsFull};
+ghost use Rattle.term_folds.specs.Folds.{Does, enters, again, IsBound, TyAnswer, ConstAnswer, RegionAnswer};
+
+use crate::binders::Binders;
+use crate::fold::{Answer, FallibleTypeFolder};
+use type_terms::Fault;
+use type_terms::interner::Interner;
+use type_terms::kinds::{Const, Ty};
+use type_terms::region::Region;
+
+/// A folder that fails only where a term cannot be made: with `Memory` where memory is refused, and with `Full` where
+/// some kind of term has reached its limit, or for a reason that it states of itself (`refuses`).
+///
+/// The original's `TypeFolder`; it recurses by itself there, and here it answers what to do with a node.
+pub trait TypeFolder {
+    // The handles that the folder holds are an interner's.
+    ghost ready: { Self → List Entry → Type 0 };
+
+    // What it does at a node under these binders.
+    ghost action: { Self → List Entry → List ℕ → Trees → Does };
+
+    // It may answer `Full` for a reason of its own.
+    ghost refuses: { Self → Type 0 } = { λ _. ⊥ };
+
+    // A measure that falls from a node to the value of `Again`.
+    ghost fuel: { Self → List Entry → Trees → ℕ };
+
+    /// What the folder does at a type.
+    fn fold_ty(&self, cx: &mut Interner, ty: Ty, binders: &Binders) -> Result<Answer<Ty>, Fault>
+        requires ready { ready self.now cx.old.entries }
+        requires held { Has cx.old.entries types ty.0 }
+        ensures keeps { Keeps cx.old.entries cx.new.entries }
+        ensures limit { cx.new.limit ≡ cx.old.limit }
+        ensures answer { IfOk result (λ r. TyAnswer (action self.now cx.old.entries (counts_of binders.now) (trees_at cx.old.entries ty.0)) cx.new.entries r) }
+        ensures full { result ≡ Err Fault.Full → SomeKindIsFull cx.new.entries cx.new.limit ⊎ refuses self.now };
+
+    /// What the folder does at a constant.
+    fn fold_const(
+        &self,
+        cx: &mut Interner,
+        ct: Const,
+        binders: &Binders,
+    ) -> Result<Answer<Const>, Fault>
+        requires ready { ready self.now cx.old.entries }
+        requires held { Has cx.old.entries consts ct.0 }
+        ensures keeps { Keeps cx.old.entries cx.new.entries }
+        ensures limit { cx.new.limit ≡ cx.old.limit }
+        ensures answer { IfOk result (λ r. ConstAnswer (action self.now cx.old.entries (counts_of binders.now) (trees_at cx.old.entries ct.0)) cx.new.entries r) }
+        ensures full { result ≡ Err Fault.Full → SomeKindIsFull cx.new.entries cx.new.limit ⊎ refuses self.now };
+
+    /// What the folder does at a lifetime.
+    fn fold_region(
+        &self,
+        cx: &Interner,
+        region: Region,
+        binders: &Binders,
+    ) -> Result<Answer<Region>, Fault>
+        requires ready { ready self.now cx.now.entries }
+        requires held { RegionHeld region.kind }
+        ensures answer { IfOk result (λ r. RegionAnswer (action self.now cx.now.entries (counts_of binders.now) (region_trees region)) r) }
+        ensures full { result ≡ Err Fault.Full → SomeKindIsFull cx.now.entries cx.now.limit ⊎ refuses self.now };
+
+    // Handles stay ready while the interner grows.
+    ghost ready_kept: { (f : Self) (old new : List Entry) → Keeps old new → ready f old → ready f new };
+
+    // They stand for the same trees.
+    ghost action_kept: { (f : Self) (old new : List Entry) → Keeps old new → ready f old → action f new ≡ action f old };
+
+    ghost fuel_kept: { (f : Self) (old new : List Entry) → Keeps old new → ready f old → fuel f new ≡ fuel f old };
+
+    // The bounds of a `dyn` are entered.
+    ghost enters_bounds: { (f : Self) (es : List Entry) (bs : List ℕ) (t : Trees) → IsBound t → action f es bs t ≡ enters };
+
+    // The value of `Again` has less fuel, and parts have no more than the whole.
+    ghost falls: { (f : Self) (es : List Entry) (bs : List ℕ) (t s : Trees) → ready f es → action f es bs t ≡ again s → fuel f es s < fuel f es t };
+
+    ghost below_node: { (f : Self) (es : List Entry) (l : Label) (c : Trees) → fuel f es c ≤ fuel f es (tree l c none) };
+
+    ghost below_left: { (f : Self) (es : List Entry) (x y : Trees) → fuel f es x ≤ fuel f es (x +++ y) };
+
+    ghost below_right: { (f : Self) (es : List Entry) (x y : Trees) → fuel f es y ≤ fuel f es (x +++ y) };
+}
+
+/// A folder that does not fail, as one that could.
+#[derive(Clone, Copy)]
+pub struct Infallible<'a, F>(pub &'a F);
+
+impl<F: TypeFolder> FallibleTypeFolder for Infallible<'_, F> {
+    type Error = Fault;
+
+    ghost use Rattle.type_terms.specs.declared.Fault.TheVariants as fault;
+
+    ghost ready = { λ f es. F.ready f.0.now es };
+
+    ghost action = { λ f es. F.action f.0.now es };
+
+    ghost fails = { λ f e. (e ≡ fault.Full) × F.refuses f.0.now };
+
+    ghost fuel = { λ f es. F.fuel f.0.now es };
+
+    ghost ready_kept = { λ f old new k h. F.ready_kept f.0.now old new k h };
+
+    ghost action_kept = { λ f old new k h. F.action_kept f.0.now old new k h };
+
+    ghost fuel_kept = { λ f old new k h. F.fuel_kept f.0.now old new k h };
+
+    ghost enters_bounds = { λ f es bs t h. F.enters_bounds f.0.now es bs t h };
+
+    ghost falls = { λ f es bs t s h e. F.falls f.0.now es bs t s h e };
+
+    ghost below_node = { λ f es l c. F.below_node f.0.now es l c };
+
+    ghost below_left = { λ f es x y. F.below_left f.0.now es x y };
+
+    ghost below_right = { λ f es x y. F.below_right f.0.now es x y };
+
+    fn try_fold_ty(
+        &self,
+        cx: &mut Interner,
+        ty: Ty,
+        binders: &Binders,
+    ) -> Result<Answer<Ty>, Fault> {
+        self.0.fold_ty(cx, ty, binders)
+    }
+
+    fn try_fold_const(
+        &self,
+        cx: &mut Interner,
+        ct: Const,
+        binders: &Binders,
+    ) -> Result<Answer<Const>, Fault> {
+        self.0.fold_const(cx, ct, binders)
+    }
+
+    fn try_fold_region(
+        &self,
+        cx: &Interner,
+        region: Region,
+        binders: &Binders,
+    ) -> Result<Answer<Region>, Fault> {
+        self.0.fold_region(cx, region, binders)
+    }
+}

@@ -1,4 +1,0 @@
-mod Grammar
-pub mod Lines
-mod Names
-mod Reading
