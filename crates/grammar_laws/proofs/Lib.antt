@@ -1,0 +1,2 @@
+mod LineAt
+mod LineAgain

@@ -1,0 +1,18 @@
+//! Mathematics without running code: the laws of the grammar of lines.
+//!
+//! The grammar says how each line is spelled, and no more. That a line says at most one thing, and that some bytes say nothing, follows
+//! from reading a spelling from left to right.
+#![tactic(auto)]
+
+ghost use Rattle.grammar_laws.specs.Grammar.{OneLine, SyntaxFaults, UnwrittenLines};
+
+/// A line says at most one thing.
+pub fn one_line()
+    ensures { OneLine }
+{}
+
+/// Worked lines that say nothing, and the fault of a text with such a line.
+pub fn worked_syntax_faults()
+    ensures lines { UnwrittenLines }
+    ensures texts { SyntaxFaults }
+{}

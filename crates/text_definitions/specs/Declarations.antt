@@ -1,0 +1,139 @@
+-- What a text declares and asks.
+use Rattle.std.specs.Prelude.{ℕ, ◌+◌, ◌-◌, false, true, Bool, List, [], ◌∷◌, ◌++◌, map, length, Option, find, codes}
+use Rattle.std.specs.Option.{option_map, option_or}
+use Rattle.std.specs.Str.{bytes_eq}
+use Rattle.model.specs.Label.{Sort, of_type, of_const, of_lifetime, array, ref, raw_pointer, param}
+use Rattle.model.specs.Trees.{none, tree, leaf}
+use Rattle.model.specs.Worlds.{World, Reference, CrateDecl, StructDecl, TraitDecl, ImplDecl, core}
+use Rattle.model.specs.Core.{core_world, core_traits, impls_for, scalars, type_param, box_impl}
+use Rattle.model.specs.Rules.{clone, copy, asked}
+use Rattle.text_definitions.specs.Syntax.{Params}
+
+-- a crate, a struct or a trait, with its name in the text; kinds are those of the written parameters, without Self
+pub record NamedCrate : Type 0 where
+  pub text : List ℕ
+  pub item : CrateDecl
+
+pub record NamedStruct : Type 0 where
+  pub text : List ℕ
+  pub kinds : List Sort
+  pub item : StructDecl
+
+pub record NamedTrait : Type 0 where
+  pub text : List ℕ
+  pub kinds : List Sort
+  pub item : TraitDecl
+
+-- an impl with the names of its parameters, by number
+pub record NamedImpl : Type 0 where
+  pub params : List (List ℕ)
+  pub item : ImplDecl
+
+-- a variable of a question
+pub record Variable : Type 0 where
+  pub text : List ℕ
+  pub kind : Sort
+
+-- `prove in C R where ..`: is R proved in crate C? `refute in C R`: has R no proof wherever C is linked?
+-- The parameters stand in R as placeholders, the variables as unknowns; those of one kind are counted from 0 by their first place.
+pub record Question : Type 0 where
+  pub is_refute : Bool
+  pub asker : ℕ
+  pub params : List (List ℕ)
+  pub asked : Reference
+  pub clauses : List Reference
+  pub variables : List Variable
+
+-- all in the order of the text, `core` first
+pub record Declarations : Type 0 where
+  pub crates : List NamedCrate
+  pub structs : List NamedStruct
+  pub traits : List NamedTrait
+  pub impls : List NamedImpl
+  pub questions : List Question
+
+-- the same without the names of the text
+abbrev pub world_of : Declarations → World
+world_of d = record { crates = map (λ c. c.item) d.crates; structs = map (λ s. s.item) d.structs; traits = map (λ t. t.item) d.traits; impls = map (λ i. i.item) d.impls }
+
+-- ---- parameters: lifetimes, types, consts, in this order
+abbrev pub kinds_of : Params → List Sort
+kinds_of p = map (λ _. of_lifetime) p.lifetimes ++ map (λ _. of_type) p.types ++ map (λ _. of_const) p.consts
+
+abbrev pub names_of : Params → List (List ℕ)
+names_of p = p.lifetimes ++ p.types ++ p.consts
+
+-- ---- what a name stands for: an item's number, its crate and its parameters' kinds
+pub data Known : Type 0 where
+  a_crate : (number : ℕ) → Known
+  a_struct : (number home : ℕ) (kinds : List Sort) → Known
+  a_trait : (number home : ℕ) (is_auto : Bool) (kinds : List Sort) → Known
+
+abbrev pub crate_known : List NamedCrate → List ℕ → Option Known
+crate_known cs n = option_map (λ c. a_crate c.item.name) (find (λ c. bytes_eq c.text n) cs)
+
+abbrev pub struct_known : List NamedStruct → List ℕ → Option Known
+struct_known ss n = option_map (λ s. a_struct s.item.name s.item.home s.kinds) (find (λ s. bytes_eq s.text n) ss)
+
+abbrev pub trait_known : List NamedTrait → List ℕ → Option Known
+trait_known ts n = option_map (λ t. a_trait t.item.name t.item.home t.item.is_auto t.kinds) (find (λ t. bytes_eq t.text n) ts)
+
+-- names of crates, structs and traits are one set over the whole text
+abbrev pub known : Declarations → List ℕ → Option Known
+known d n = option_or (crate_known d.crates n) (option_or (struct_known d.structs n) (trait_known d.traits n))
+
+-- the crate to which the items of the next line belong
+abbrev pub last_crate : Declarations → ℕ
+last_crate d = length d.crates - 1
+
+-- ---- `core`
+-- the names of its traits, with the kinds of their parameters
+abbrev pub core_trait_names : List (List ℕ × List Sort)
+core_trait_names =
+    (codes "Sized", []) ∷ (codes "Clone", []) ∷ (codes "Copy", []) ∷ (codes "Tuple", []) ∷ (codes "FnPtr", [])
+    ∷ (codes "FnOnce", of_type ∷ []) ∷ (codes "FnMut", of_type ∷ []) ∷ (codes "Fn", of_type ∷ []) ∷ (codes "Unsize", of_type ∷ []) ∷ []
+
+-- traits with their names, in order
+abbrev pub named_traits : List (List ℕ × List Sort) → List TraitDecl → List NamedTrait
+named_traits (n ∷ ns) (t ∷ ts) = record { text = n.0; kinds = n.1; item = t } ∷ named_traits ns ts
+named_traits _ _ = []
+
+-- an impl without parameters
+abbrev pub bare_impl : ImplDecl → NamedImpl
+bare_impl i = record { params = []; item = i }
+
+abbrev pub name_a : List ℕ
+name_a = codes "a"
+
+abbrev pub name_T : List ℕ
+name_T = codes "T"
+
+abbrev pub name_N : List ℕ
+name_N = codes "N"
+
+-- The impls of `Clone`, or of `Copy`, for scalars, `<'a, T> &'a T`, `<T> *const T`, `<T> *mut T`, `<T, const N> [T; N]`, numbered from
+-- n on. A text keeps lifetimes: what rules read is the same without them.
+abbrev pub copied : ℕ → ℕ → List NamedImpl
+copied n t =
+    map bare_impl (impls_for n t scalars)
+    ++ record {
+      params = name_a ∷ name_T ∷ [];
+      item = record { name = n + 15; home = core; params = 2; header = asked t (tree (ref false) (tree (param of_lifetime 0) none (type_param 1)) none); clauses = [] };
+    }
+    ∷ record { params = name_T ∷ []; item = record { name = n + 16; home = core; params = 1; header = asked t (tree (raw_pointer false) (type_param 0) none); clauses = [] } }
+    ∷ record { params = name_T ∷ []; item = record { name = n + 17; home = core; params = 1; header = asked t (tree (raw_pointer true) (type_param 0) none); clauses = [] } }
+    ∷ record {
+      params = name_T ∷ name_N ∷ [];
+      item = record { name = n + 18; home = core; params = 2; header = asked t (tree array (tree (param of_type 0) none (leaf (param of_const 1))) none); clauses = asked t (type_param 0) ∷ [] };
+    }
+    ∷ []
+
+-- `core` alone, as its lines declare it
+abbrev pub nothing_declared : Declarations
+nothing_declared = record {
+  crates = record { text = codes "core"; item = record { name = core; uses = [] } } ∷ [];
+  structs = map (λ s. record { text = codes "Box"; kinds = of_type ∷ []; item = s }) core_world.structs;
+  traits = named_traits core_trait_names core_traits;
+  impls = copied 0 clone ++ record { params = name_T ∷ []; item = box_impl } ∷ copied 20 copy;
+  questions = [];
+}

@@ -1,0 +1,161 @@
+-- The lines of the answer, as text.
+use Rattle.std.specs.Prelude.{ℕ, suc, Bool, true, false, List, [], ◌∷◌, ◌++◌, map, Option, Some, None, codes, ◌==◌, ◌&&◌, if◌then◌else◌}
+use Rattle.std.specs.Str.{bytes_eq}
+use Rattle.std.specs.Fmt.{decimal}
+use Rattle.std.specs.List.{list_any}
+use Rattle.model.specs.Label.{Label, Sort, of_lifetime, bool, char, str, never, array, slice, tuple, dynamic, static, int, uint, adt, fn_ptr, auto_trait, value, ref, raw_pointer, principal, param, placeholder, infer, canonical, bound, predicate}
+use Rattle.model.specs.Trees.{Trees, none, tree, sort_of, is_sort}
+
+-- ---- types
+-- a text for each struct, trait, parameter of a declaration or of a question, and unknown
+pub record Names : Type 0 where
+  pub of_struct : ℕ → List ℕ
+  pub of_trait : ℕ → List ℕ
+  pub of_param : Sort → ℕ → List ℕ
+  pub of_placeholder : Sort → ℕ → List ℕ
+  pub of_unknown : Sort → ℕ → List ℕ
+
+-- the texts with this between them
+abbrev pub between : List ℕ → List (List ℕ) → List ℕ
+between c [] = []
+between c (t ∷ []) = t
+between c (t ∷ u ∷ ts) = t ++ c ++ between c (u ∷ ts)
+
+abbrev pub angled : List (List ℕ) → List ℕ
+angled [] = []
+angled (t ∷ ts) = codes "<" ++ between (codes ", ") (t ∷ ts) ++ codes ">"
+
+abbrev pub tuple_text : List (List ℕ) → List ℕ
+tuple_text (t ∷ []) = codes "(" ++ t ++ codes ",)"
+tuple_text ts = codes "(" ++ between (codes ", ") ts ++ codes ")"
+
+-- the inputs of a fn, and its output, which is the last text
+abbrev pub inputs : List (List ℕ) → List (List ℕ)
+inputs [] = []
+inputs (t ∷ []) = []
+inputs (t ∷ u ∷ ts) = t ∷ inputs (u ∷ ts)
+
+abbrev pub last_text : List (List ℕ) → List ℕ
+last_text [] = []
+last_text (t ∷ []) = t
+last_text (t ∷ u ∷ ts) = last_text (u ∷ ts)
+
+-- `-> ()` is left out
+abbrev pub output_part : List ℕ → List ℕ
+output_part t = if bytes_eq t (codes "()") then [] else codes " -> " ++ t
+
+abbrev pub int_name : ℕ → List ℕ
+int_name n = if n == 0 then codes "8" else (if n == 1 then codes "16" else (if n == 2 then codes "32" else (if n == 3 then codes "64" else (if n == 4 then codes "128" else codes "size"))))
+
+-- a node with the texts of its children
+abbrev pub node_text : Names → Label → List (List ℕ) → List ℕ
+node_text N bool ts = codes "bool"
+node_text N char ts = codes "char"
+node_text N str ts = codes "str"
+node_text N never ts = codes "!"
+node_text N (int n) ts = codes "i" ++ int_name n
+node_text N (uint n) ts = codes "u" ++ int_name n
+node_text N (adt s) ts = N.of_struct s ++ angled ts
+node_text N (ref false) ts = codes "&" ++ last_text ts
+node_text N (ref true) ts = codes "&mut " ++ last_text ts
+node_text N (raw_pointer false) ts = codes "*const " ++ last_text ts
+node_text N (raw_pointer true) ts = codes "*mut " ++ last_text ts
+node_text N slice ts = codes "[" ++ last_text ts ++ codes "]"
+node_text N array ts = codes "[" ++ between (codes "; ") ts ++ codes "]"
+node_text N tuple ts = tuple_text ts
+node_text N (fn_ptr n) ts = codes "fn(" ++ between (codes ", ") (inputs ts) ++ codes ")" ++ output_part (last_text ts)
+node_text N dynamic ts = codes "dyn " ++ between (codes " + ") ts
+node_text N (principal n t) ts = N.of_trait t ++ angled ts
+node_text N (auto_trait t) ts = N.of_trait t
+node_text N (value n) ts = decimal n
+node_text N (param s i) ts = N.of_param s i
+node_text N (placeholder s i) ts = N.of_placeholder s i
+node_text N (infer s i) ts = N.of_unknown s i
+-- these aren't printed
+node_text N static ts = []
+node_text N (canonical s i) ts = []
+node_text N (bound s k v) ts = []
+node_text N (predicate k) ts = []
+
+-- the texts of trees, one after the other, lifetimes left out
+abbrev pub texts : Names → Trees → List (List ℕ)
+texts N none = []
+texts N (tree l c o) = if is_sort (sort_of l) of_lifetime then texts N o else node_text N l (texts N c) ∷ texts N o
+
+-- of a single type or const
+abbrev pub type_text : Names → Trees → List ℕ
+type_text N t = last_text (texts N t)
+
+-- ---- values of a question's variables
+-- the unknowns of trees that a question doesn't hold, by their first place, each once
+abbrev pub is_in : Sort → ℕ → List (Sort × ℕ) → Bool
+is_in s i us = list_any (λ u. is_sort u.0 s && (u.1 == i)) us
+
+abbrev pub with_unknown : Label → List (Sort × ℕ) → List (Sort × ℕ)
+with_unknown (infer of_lifetime i) us = us
+with_unknown (infer s i) us = if is_in s i us then us else us ++ (s, i) ∷ []
+with_unknown _ us = us
+
+abbrev pub with_unknowns : Trees → List (Sort × ℕ) → List (Sort × ℕ)
+with_unknowns none us = us
+with_unknowns (tree l c o) us = with_unknowns o (with_unknowns c (with_unknown l us))
+
+abbrev pub place_in : Sort → ℕ → List (Sort × ℕ) → ℕ
+place_in s i [] = 0
+place_in s i (u ∷ us) = if is_sort u.0 s && (u.1 == i) then 0 else suc (place_in s i us)
+
+-- `?1`, `?2` by first place in the line
+abbrev pub unknown_text : List (Sort × ℕ) → Sort → ℕ → List ℕ
+unknown_text us s i = codes "?" ++ decimal (suc (place_in s i us))
+
+-- ---- lines
+-- `?x = T`
+pub record ValueText : Type 0 where
+  pub variable : List ℕ
+  pub term : List ℕ
+
+-- Crates go by their names, impls and questions by their numbers, from 1; types by their texts.
+pub data Answer : Type 0 where
+  fault : (line number : ℕ) → Answer
+  accepted : (name : List ℕ) → Answer
+  nonlocal : (name : List ℕ) (impl : ℕ) → Answer
+  uncovered : (name : List ℕ) (impl : ℕ) (param : List ℕ) (before : Option (List ℕ)) → Answer
+  overlap : (name : List ℕ) (impl : ℕ) (other : List ℕ) (other_impl : ℕ) → Answer
+  yes : (question : ℕ) (values : List ValueText) → Answer
+  maybe unproved no unrefuted : (question : ℕ) → Answer
+
+abbrev pub crate_start : List ℕ → List ℕ
+crate_start n = codes "crate " ++ n ++ codes ": "
+
+abbrev pub prove_start : ℕ → List ℕ
+prove_start q = codes "prove " ++ decimal q ++ codes ": "
+
+abbrev pub refute_start : ℕ → List ℕ
+refute_start q = codes "refute " ++ decimal q ++ codes ": "
+
+abbrev pub value_text : ValueText → List ℕ
+value_text v = codes "?" ++ v.variable ++ codes " = " ++ v.term
+
+abbrev pub values_text : List ValueText → List ℕ
+values_text [] = []
+values_text (v ∷ vs) = codes " " ++ between (codes ", ") (map value_text (v ∷ vs))
+
+abbrev pub before_text : Option (List ℕ) → List ℕ
+before_text None = []
+before_text (Some u) = codes " before " ++ u
+
+abbrev pub answer_text : Answer → List ℕ
+answer_text (fault l n) = codes "line " ++ decimal l ++ codes ": fault " ++ decimal n
+answer_text (accepted n) = crate_start n ++ codes "accepted"
+answer_text (nonlocal n k) = crate_start n ++ codes "orphan impl " ++ decimal k ++ codes " nonlocal"
+answer_text (uncovered n k t u) = crate_start n ++ codes "orphan impl " ++ decimal k ++ codes " uncovered " ++ t ++ before_text u
+answer_text (overlap n k o j) = crate_start n ++ codes "overlap impl " ++ decimal k ++ codes " with " ++ o ++ codes " " ++ decimal j
+answer_text (yes q vs) = prove_start q ++ codes "yes" ++ values_text vs
+answer_text (maybe q) = prove_start q ++ codes "maybe"
+answer_text (unproved q) = prove_start q ++ codes "unproved"
+answer_text (no q) = refute_start q ++ codes "no"
+answer_text (unrefuted q) = refute_start q ++ codes "open"
+
+-- with the end of the line
+abbrev pub output_text : Answer → List ℕ
+output_text a = answer_text a ++ 10 ∷ []

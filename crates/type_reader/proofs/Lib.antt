@@ -1,0 +1,9 @@
+mod TreeMachine
+mod InStep
+mod WhatIsSpelled
+mod WhatIsRead
+mod MachineLaws
+mod Stacks
+mod Weights
+mod Turning
+pub mod TypeAt

@@ -1,0 +1,16 @@
+use Rattle.type_reader.specs.Views.{cells_in}
+use Rattle.type_reader.proofs.MachineLaws.{finds, machine_reads}
+use Rattle.type_reader.proofs.Turning.{is-refused}
+use Rattle.type_reader.proofs.reader.read_type.Goals as goal
+
+pub returns-in_err-run-clause-refused : goal.returns-in_err-run-clause-refused
+returns-in_err-run-clause-refused c =
+    is-refused c.from_residual.result c.in_err-run.field-0.0 (cells_in c.args.cells.items) c.args.cursor c.run.new.self.cursor (cells_in c.run.new.self.cells.items) c.from_residual.ensures.1
+    (rw c.new.ensures.items at (c.in_err-run.ensures {u = tt}))
+
+pub returns-clause-found : goal.returns-clause-found
+returns-clause-found c = finds (cells_in c.args.cells.items) c.args.cursor c.run.new.self.cursor (cells_in c.run.new.self.cells.items) (rw c.new.ensures.items at c.in_ok-run.ensures)
+
+pub returns-clause-only : goal.returns-clause-only
+returns-clause-only c t rest h k =
+    machine_reads (cells_in c.args.cells.items) c.args.cursor c.run.new.self.cursor (cells_in c.run.new.self.cells.items) t rest (rw c.new.ensures.items at c.in_ok-run.ensures) h k
