@@ -1,0 +1,58 @@
+use Rattle.std.proofs.Common.{◌≡◌, ◌<◌, [], ◌∷◌, ◌++◌, sym, ap, ◌∙◌, subst, refl}
+use Rattle.std.specs.Prelude.{map}
+use Rattle.std.specs.Map.{lookup}
+use Rattle.std.proofs.lemmas.List.{map_push}
+use Rattle.indexmap.proofs.CallerLemmas.{insert_entry-new}
+use Rattle.type_terms.specs.Terms.{trees_at, types}
+use Rattle.term_folds.specs.Kept.{trees-is}
+use Rattle.type_terms.specs.contracts.ImplIdPartialEq.TheImpl.{ghosts as impl-id}
+use Rattle.declarations.specs.declared.declarations.ImplEntry.{ImplEntry}
+use Rattle.declarations.specs.declared.heads.ImplHead.{ImplHead}
+use Rattle.std.specs.Option.{option_map}
+use Rattle.declarations.specs.Heads.{head_of, label_of}
+use Rattle.declarations.specs.Merges.{Each, Rises}
+use Rattle.declarations.specs.Items.{HeldImpl, ids_with}
+use Rattle.declarations.specs.Index.{listed}
+use Rattle.declarations.specs.Inside.{items_of, impl_of}
+use Rattle.declarations.proofs.Pushed.{impl-new, impl-declared, impl-held, more-impls, pushed-under, rises-more, head-of-first}
+use Rattle.declarations.proofs.declarations.Declarations.add_impl.Goals as goal
+
+entry-of : goal.Joined-this → ImplEntry
+entry-of c = record { def = c.args.def; self_ty = c.simplify_type-self_ty.result }
+
+above : (c : goal.Joined-this) → Each (λ i. i.id.index < c.args.id.index) (items_of c.self.inside).impls
+above c = subst (λ d. Each (λ i. i.id.index < c.args.id.index) d.impls) (sym c.self.view_is) c.requires.above
+
+items-are : (c : goal.Joined-this) → map impl_of c.insert.new.self.entries ≡ (items_of c.self.inside).impls ++ impl_of (c.args.id, entry-of c) ∷ []
+unfolding entry-of
+items-are c =
+    let kept = c.reserve.ensures.entries in
+    let new = ap (lookup (impl-id.eq c.args.id)) kept ∙ impl-new c.args.id c.self.inside.impls.entries (above c) in
+    ap (map impl_of) (c.in-Ok.ensures.entries ∙ insert_entry-new _ c.reserve.new.self c.args.id (entry-of c) new ∙ ap (λ l. l ++ (c.args.id, entry-of c) ∷ []) kept)
+    ∙ map_push impl_of c.self.inside.impls.entries (c.args.id, entry-of c)
+
+pub invariant_of-self-2 : goal.invariant_of-self-2
+unfolding entry-of
+invariant_of-self-2 c =
+    let xs = (items_of c.self.inside).impls in
+    let x : HeldImpl = impl_of (c.args.id, entry-of c) in
+    let head : ImplHead = record { trait_id = c.args.def.header.def_id; self_ty = c.simplify_type-self_ty.result } in
+    record {
+      rises = subst (λ l. Rises (map (λ i. i.id) l)) (sym (items-are c)) (rises-more xs x c.self.invariant.rises (above c));
+      indexed = λ h. subst (λ l. listed c.add_head.new.heads h ≡ ids_with h.trait_id.index (option_map label_of h.self_ty) l) (sym (items-are c))
+          (pushed-under xs x head h (listed c.self.inside.heads h) (listed c.add_head.new.heads h) refl refl (c.self.invariant.indexed h) (c.in_ok-add_head.ensures.added h));
+    }
+
+pub returns-clause-added : goal.returns-clause-added
+unfolding entry-of
+returns-clause-added c =
+    let es = c.args.cx.now.entries in
+    let first = trees-is es types c.self_ty.result.0 _ c.self_ty.ensures.is in
+    let head = c.simplify_type-self_ty.ensures ∙ ap head_of first ∙ head-of-first (trees_at es c.args.def.header.args.0) c.requires.held.begins in
+    more-impls (items_of c.self.inside) c.args.self.now c.args.id c.args.def _ _ (map impl_of c.insert.new.self.entries) c.self.view_is (items-are c) head
+
+pub returns-clause-declares : goal.returns-clause-declares
+returns-clause-declares c es = impl-declared es c.args.self.now _ _ (returns-clause-added c)
+
+pub returns-clause-held : goal.returns-clause-held
+returns-clause-held c h = impl-held c.args.cx.now.entries c.args.self.now _ c.args.id c.args.def h c.requires.held (returns-clause-added c)

@@ -1,0 +1,36 @@
+-- Declarations whose terms are an interner's.
+use Rattle.std.specs.Prelude.{◌≡◌, true, List, length}
+use Rattle.type_terms.specs.Terms.{Entry, Has, types, args_lists, trees_at}
+use Rattle.term_folds.specs.declared.predicate.TraitRef.{TraitRef}
+use Rattle.declarations.specs.declared.items.AdtDef.{AdtDef}
+use Rattle.declarations.specs.declared.items.TraitDef.{TraitDef}
+use Rattle.declarations.specs.declared.items.ImplDef.{ImplDef}
+use Rattle.declarations.specs.Heads.{head_of, begins_declared}
+use Rattle.declarations.specs.Merges.{Each}
+use Rattle.declarations.specs.Unsizing.{field_trees, unsizing_flags}
+use Rattle.declarations.specs.Items.{Items, HeldImpl}
+
+-- The reference's arguments are the interner's.
+abbrev pub ReferenceHeld : List Entry → TraitRef → Type 0
+ReferenceHeld es r = Has es args_lists r.args.0
+
+-- The fields are the interner's, and each parameter is told to be unsizing where it is.
+abbrev pub StructHeld : List Entry → AdtDef → Type 0
+StructHeld es def = Each (λ t. Has es types t.0) def.fields.items × (def.unsizing_params.items ≡ unsizing_flags (field_trees es def.fields.items) (length def.params.items))
+
+-- The supertraits are the interner's.
+abbrev pub TraitHeld : List Entry → TraitDef → Type 0
+TraitHeld es def = Each (ReferenceHeld es) def.bounds.items
+
+-- The header and the where-clauses are the interner's, and the self type is a parameter or rigid.
+pub record ImplHeld (es : List Entry) (def : ImplDef) : Type 0 where
+  pub header : ReferenceHeld es def.header
+  pub clauses : Each (ReferenceHeld es) def.clauses.items
+  pub begins : begins_declared (trees_at es def.header.args.0) ≡ true
+
+-- All of them are, and the head of each impl is that of its self type.
+pub record AreHeld (es : List Entry) (d : Items) : Type 0 where
+  pub structs : Each (λ x. StructHeld es x.1) d.structs
+  pub traits : Each (λ x. TraitHeld es x.1) d.traits
+  pub impls : Each (λ i. ImplHeld es i.def) d.impls
+  pub heads : Each (λ (i : HeldImpl). i.self_head ≡ head_of (trees_at es i.def.header.args.0)) d.impls

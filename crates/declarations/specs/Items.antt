@@ -1,0 +1,87 @@
+-- What a contract sees of declarations, and the world that they are.
+use Rattle.std.specs.Prelude.{◌≡◌, ℕ, ◌<◌, ◌==◌, ◌&&◌, List, [], ◌∷◌, ◌++◌, map, filter, length, Option, None, Some}
+use Rattle.model.specs.Label.{Label}
+use Rattle.model.specs.Worlds.{World, Reference, StructDecl, TraitDecl, ImplDecl}
+use Rattle.model.specs.Terms.{erased_world}
+use Rattle.type_terms.specs.Terms.{Entry, trees_at}
+use Rattle.type_terms.specs.declared.AdtId.{AdtId}
+use Rattle.type_terms.specs.declared.TraitId.{TraitId}
+use Rattle.type_terms.specs.declared.ImplId.{ImplId}
+use Rattle.term_folds.specs.declared.predicate.TraitRef.{TraitRef}
+use Rattle.declarations.specs.declared.items.AdtDef.{AdtDef}
+use Rattle.declarations.specs.declared.items.TraitDef.{TraitDef}
+use Rattle.declarations.specs.declared.items.ImplDef.{ImplDef}
+use Rattle.declarations.specs.Heads.{head_of, same_self}
+use Rattle.declarations.specs.Merges.{Each}
+
+-- An impl with its number and the head of its self type, if that is no parameter.
+pub record HeldImpl : Type 0 where
+  pub id : ImplId
+  pub def : ImplDef
+  pub self_head : Option Label
+
+-- The crate that asks, and the structs, traits and impls that it sees, in the order in which they were added.
+pub record Items : Type 0 where
+  pub local : ℕ
+  pub structs : List (AdtId × AdtDef)
+  pub traits : List (TraitId × TraitDef)
+  pub impls : List HeldImpl
+
+-- One more struct.
+abbrev pub with_struct : Items → AdtId × AdtDef → Items
+with_struct d x = record d { structs = d.structs ++ x ∷ [] }
+
+-- One more trait.
+abbrev pub with_trait : Items → TraitId × TraitDef → Items
+with_trait d x = record d { traits = d.traits ++ x ∷ [] }
+
+-- One more impl.
+abbrev pub with_impl : Items → HeldImpl → Items
+with_impl d x = record d { impls = d.impls ++ x ∷ [] }
+
+-- An impl with the head that its self type has among the terms of an interner.
+abbrev pub held_impl : List Entry → ImplId → ImplDef → HeldImpl
+held_impl es i def = record { id = i; def = def; self_head = head_of (trees_at es def.header.args.0) }
+
+-- The number is above those of all impls.
+abbrev pub IsAbove : ℕ → Items → Type 0
+IsAbove n d = Each (λ i. i.id.index < n) d.impls
+
+-- A reference, over the terms of an interner.
+abbrev pub reference_in : List Entry → TraitRef → Reference
+reference_in es r = record { trait = r.def_id.index; args = trees_at es r.args.0 }
+
+-- A struct, over the terms of an interner.
+abbrev pub struct_in : List Entry → AdtId × AdtDef → StructDecl
+struct_in es x = record { name = x.0.index; home = x.1.home.index; is_fundamental = x.1.is_fundamental; fields = map (λ t. trees_at es t.0) x.1.fields.items }
+
+-- A trait, over the terms of an interner.
+abbrev pub trait_in : List Entry → TraitId × TraitDef → TraitDecl
+trait_in es x = record { name = x.0.index; home = x.1.home.index; is_fundamental = x.1.is_fundamental; is_auto = x.1.is_auto; bounds = map (reference_in es) x.1.bounds.items }
+
+-- An impl, over the terms of an interner.
+abbrev pub impl_in : List Entry → ImplId → ImplDef → ImplDecl
+impl_in es i def =
+    record { name = i.index; home = def.home.index; params = length def.params.items; header = reference_in es def.header; clauses = map (reference_in es) def.clauses.items }
+
+-- The declarations as they are written, with lifetimes.
+abbrev pub written : List Entry → Items → World
+written es d = record { crates = []; structs = map (struct_in es) d.structs; traits = map (trait_in es) d.traits; impls = map (λ i. impl_in es i.id i.def) d.impls }
+
+-- The world of the declarations, from which rules are read: without lifetimes.
+abbrev pub declared : List Entry → Items → World
+declared es d = erased_world (written es d)
+
+-- The numbers of the impls of a trait whose self type has this head; without a head of those whose self type is a parameter.
+abbrev pub ids_with : ℕ → Option Label → List HeldImpl → List ImplId
+ids_with t h is = map (λ i. i.id) (filter (λ i. (i.def.header.def_id.index == t) && same_self h i.self_head) is)
+
+-- The numbers of the impls of a trait whose self type has this head; without a head there are none.
+abbrev pub ids_headed : ℕ → Option Label → List HeldImpl → List ImplId
+ids_headed t None is = []
+ids_headed t (Some l) is = ids_with t (Some l) is
+
+-- What was found, read as f reads it, is the only item; where nothing was found there is none.
+abbrev pub IsOnly : {R D : Type 0} → (R → D) → Option R → List D → Type 0
+IsOnly f None ds = ds ≡ []
+IsOnly f (Some v) ds = ds ≡ f v ∷ []

@@ -1,0 +1,10 @@
+pub mod Heads
+pub mod Index
+pub mod Merges
+pub mod Items
+pub mod Unsizing
+pub mod Elaboration
+pub mod Held
+pub mod Bounds
+pub mod Relevant
+pub mod Inside

@@ -1,0 +1,34 @@
+-- Impls by number, and those that can match a self type.
+use Rattle.std.specs.Prelude.{◌≡◌, ℕ, Bool, false, ◌==◌, ◌&&◌, List, map, filter}
+use Rattle.model.specs.Trees.{Trees, none, tree, erase}
+use Rattle.model.specs.Worlds.{World, ImplDecl}
+use Rattle.model.specs.Rules.{same_head}
+use Rattle.std.specs.List.{FoldsTo}
+use Rattle.type_terms.specs.Terms.{Entry}
+use Rattle.type_terms.specs.declared.ImplId.{ImplId}
+use Rattle.declarations.specs.Items.{Items, declared}
+
+-- The impls of a number.
+abbrev pub impls_named : World → ℕ → List ImplDecl
+impls_named W n = filter (λ i. i.name == n) W.impls
+
+-- The impl's self type is a parameter, or has the head of the first type. `impl Show for V<u8>` can match `V<bool>`.
+abbrev pub is_relevant_to : Trees → Trees → Bool
+is_relevant_to none header = false
+is_relevant_to (tree l c o) header = same_head l header
+
+-- The impls of the trait that can match the self type, in the order of the world.
+abbrev pub relevant_impls : World → ℕ → Trees → List ImplDecl
+relevant_impls W t self = filter (λ i. (i.header.trait == t) && is_relevant_to self i.header.args) W.impls
+
+-- The numbers of impls.
+abbrev pub names_of : List ImplId → List ℕ
+names_of ids = map (λ i. i.index) ids
+
+-- The numbers of the impls of the trait that can match the type S, over the terms of an interner.
+abbrev pub relevant_in : List Entry → Items → ℕ → Trees → List ℕ
+relevant_in es d t S = map (λ i. i.name) (relevant_impls (declared es d) t (erase S))
+
+-- Steps of a closure, one at each impl of these numbers, in their order.
+abbrev pub CallsAtEach : {F : Type 0} → (F → ImplId → F → Type 0) → F → List ℕ → Type 0
+CallsAtEach {F} step f names = (ids : List ImplId) × (last : F) × (names_of ids ≡ names) × FoldsTo step f ids last

@@ -1,0 +1,236 @@
+//! The table of declarations.
+ghost use Rattle.std.specs.Prelude.{◌≡◌, ◌==◌, ◌||◌, List, [], ◌∷◌, ◌++◌, map, IfSome, IfErr, OnOk, OnErr};
+ghost use Rattle.std.specs.Option.{option_map};
+ghost use Rattle.type_terms.specs.Terms.{Entry, Has, types, trees_at};
+ghost use Rattle.type_terms.specs.declared.Fault.TheVariants.{Memory};
+ghost use Rattle.model.specs.Terms.{erased_struct, erased_trait, erased_impl};
+ghost use Rattle.model.specs.Worlds.{structs_named, traits_named};
+ghost use Rattle.model.specs.Walks.{trait_is};
+ghost use Rattle.declarations.specs.Heads.{label_of};
+ghost use Rattle.declarations.specs.Items.{IsOnly, ids_with, ids_headed, with_struct, with_trait, with_impl, struct_in, trait_in, impl_in, declared, held_impl, IsAbove};
+ghost use Rattle.declarations.specs.Merges.{Rises};
+ghost use Rattle.declarations.specs.Held.{AreHeld, StructHeld, TraitHeld, ImplHeld};
+ghost use Rattle.declarations.specs.Unsizing.{TellUnsizing};
+ghost use Rattle.declarations.specs.Relevant.{impls_named, relevant_in, CallsAtEach};
+
+use crate::heads::{ImplHead, add_head, impls_with_head};
+use crate::items::{AdtDef, ImplDef, TraitDef};
+use crate::merge::for_each_merged;
+use crate::simplify::{SimplifiedType, simplify_type};
+use indexmap::IndexMap;
+use std::alloc::Global;
+use std::marker::Model;
+use term_folds::predicate::TraitRef;
+use type_terms::interner::Interner;
+use type_terms::kinds::Ty;
+use type_terms::{AdtId, CrateId, Fault, ImplId, TraitId};
+
+/// An impl with the head of its self type.
+#[derive(Drop)]
+struct ImplEntry {
+    def: ImplDef,
+    self_ty: Option<SimplifiedType>,
+}
+
+/// The structs, traits and impls that one crate sees, each found by its number, and the impls of a trait by the heads of their
+/// self types, as `TraitImpls` of the original.
+///
+/// A contract sees them as lists in the order in which they were added; `declared` is the world that these are, without
+/// lifetimes, over the terms of an interner. It has no list of crates: which of them are seen was decided when the declarations
+/// were taken. The terms are handles of one interner. It may grow, and no handle is made or lost here.
+#[derive(Drop)]
+pub struct Declarations {
+    local: CrateId,
+    adts: IndexMap<AdtId, AdtDef>,
+    traits: IndexMap<TraitId, TraitDef>,
+    impls: IndexMap<ImplId, ImplEntry>,
+    heads: IndexMap<ImplHead, Vec<ImplId>>,
+    alloc: Global,
+}
+
+impl Model for Declarations {
+    ghost use Rattle.declarations.specs.Items.{Items};
+
+    ghost Value = { Items };
+
+    ghost use Rattle.declarations.specs.Inside.{items_of, Sound};
+
+    ghost view = { items_of };
+
+    ghost invariant = { Sound };
+}
+
+impl Declarations {
+    /// No declarations, asked in the crate `local`. It takes no memory before the first item.
+    pub fn new(alloc: Global, local: CrateId) -> Declarations
+        ensures { result ≡ record { local = local.index; structs = []; traits = []; impls = [] } }
+    {
+        Declarations {
+            local,
+            adts: IndexMap::new(alloc),
+            traits: IndexMap::new(alloc),
+            impls: IndexMap::new(alloc),
+            heads: IndexMap::new(alloc),
+            alloc,
+        }
+    }
+
+    /// Adds a struct, whose number is new. After an error, which is `Memory`, nothing has changed.
+    pub fn add_struct(&mut self, id: AdtId, def: AdtDef) -> Result<(), Fault>
+        requires { structs_named (declared [] self.old) id.index ≡ [] }
+        ensures added { OnOk result (self.new ≡ with_struct self.old (id, def)) }
+        ensures declares { OnOk result ((es : List Entry) → (declared es self.new).structs ≡ (declared es self.old).structs ++ erased_struct (struct_in es (id, def)) ∷ []) }
+        ensures held { OnOk result ((es : List Entry) → AreHeld es self.old → StructHeld es def → AreHeld es self.new) }
+        ensures refused { OnErr result (self.new ≡ self.old) }
+        ensures memory { IfErr result (λ fault. fault ≡ Memory) }
+    {
+        self.adts.insert(id, def)?;
+        Ok(())
+    }
+
+    /// Adds a trait, whose number is new. After an error, which is `Memory`, nothing has changed.
+    pub fn add_trait(&mut self, id: TraitId, def: TraitDef) -> Result<(), Fault>
+        requires { traits_named (declared [] self.old) id.index ≡ [] }
+        ensures added { OnOk result (self.new ≡ with_trait self.old (id, def)) }
+        ensures declares { OnOk result ((es : List Entry) → (declared es self.new).traits ≡ (declared es self.old).traits ++ erased_trait (trait_in es (id, def)) ∷ []) }
+        ensures held { OnOk result ((es : List Entry) → AreHeld es self.old → TraitHeld es def → AreHeld es self.new) }
+        ensures refused { OnErr result (self.new ≡ self.old) }
+        ensures memory { IfErr result (λ fault. fault ≡ Memory) }
+    {
+        self.traits.insert(id, def)?;
+        Ok(())
+    }
+
+    /// Adds an impl, whose number is above those of the others. Its self type is a parameter, or no variable, placeholder or
+    /// bound type. After an error, which is `Memory`, nothing has changed.
+    pub fn add_impl(&mut self, cx: &Interner, id: ImplId, def: ImplDef) -> Result<(), Fault>
+        requires above { IsAbove id.index self.old }
+        requires held { ImplHeld cx.now.entries def }
+        ensures added { OnOk result (self.new ≡ with_impl self.old (held_impl cx.now.entries id def)) }
+        ensures declares { OnOk result ((es : List Entry) → (declared es self.new).impls ≡ (declared es self.old).impls ++ erased_impl (impl_in es id def) ∷ []) }
+        ensures held { OnOk result (AreHeld cx.now.entries self.old → AreHeld cx.now.entries self.new) }
+        ensures refused { OnErr result (self.new ≡ self.old) }
+        ensures memory { IfErr result (λ fault. fault ≡ Memory) }
+    {
+        let self_ty = simplify_type(cx, def.header.self_ty(cx));
+        let head = ImplHead {
+            trait_id: def.header.def_id,
+            self_ty,
+        };
+        self.impls.reserve(1)?;
+        add_head(self.alloc, &mut self.heads, head, id)?;
+        match self.impls.insert(id, ImplEntry { def, self_ty }) {
+            Ok(_) => Ok(()),
+            Err(_) => unreachable!(),
+        }
+    }
+
+    /// The struct with a number, if it is declared (`adt_def`).
+    pub fn adt_def(&self, id: AdtId) -> Option<&AdtDef>
+        ensures found { (es : List Entry) → IsOnly (λ def. erased_struct (struct_in es (id, def.now))) result (structs_named (declared es self.now) id.index) }
+        ensures held { (es : List Entry) → AreHeld es self.now → IfSome result (λ def. StructHeld es def.now) }
+    {
+        let _ = self.adts.len();
+        self.adts.get(&id)
+    }
+
+    /// For each parameter of a struct whether it is unsizing, if the struct is declared. Of `struct S<T>(u8, V<T>)` T is, and of
+    /// `struct S<T>(T, V<T>)` it is not (`unsizing_params_for_adt`).
+    pub fn unsizing_params_for_adt(&self, id: AdtId) -> Option<&[bool]>
+        ensures { (es : List Entry) → AreHeld es self.now → TellUnsizing (λ flags. flags.now) result (structs_named (declared es self.now) id.index) }
+    {
+        match self.adt_def(id) {
+            Some(def) => Some(&def.unsizing_params),
+            None => None,
+        }
+    }
+
+    /// The trait with a number, if it is declared (`trait_def`).
+    pub fn trait_def(&self, id: TraitId) -> Option<&TraitDef>
+        ensures found { (es : List Entry) → IsOnly (λ def. erased_trait (trait_in es (id, def.now))) result (traits_named (declared es self.now) id.index) }
+        ensures held { (es : List Entry) → AreHeld es self.now → IfSome result (λ def. TraitHeld es def.now) }
+    {
+        let _ = self.traits.len();
+        self.traits.get(&id)
+    }
+
+    /// The impl with a number, if it is declared.
+    pub fn impl_def(&self, id: ImplId) -> Option<&ImplDef>
+        ensures found { (es : List Entry) → IsOnly (λ def. erased_impl (impl_in es id def.now)) result (impls_named (declared es self.now) id.index) }
+        ensures held { (es : List Entry) → AreHeld es self.now → IfSome result (λ def. ImplHeld es def.now) }
+    {
+        let _ = self.impls.len();
+        match self.impls.get(&id) {
+            Some(entry) => Some(&entry.def),
+            None => None,
+        }
+    }
+
+    /// Whether the crate is the one that asks (`DefId::is_local`).
+    pub fn is_local(&self, home: CrateId) -> bool
+        ensures { result ≡ (home.index == self.now.local) }
+    {
+        home == self.local
+    }
+
+    /// Whether the trait is declared `#[fundamental]` (`trait_is_fundamental`).
+    pub fn trait_is_fundamental(&self, id: TraitId) -> bool
+        ensures { (es : List Entry) → result ≡ trait_is (λ x. x.is_fundamental) (declared es self.now) id.index }
+    {
+        match self.trait_def(id) {
+            Some(def) => def.is_fundamental,
+            None => false,
+        }
+    }
+
+    /// Whether the trait of the reference is of the crate that asks, or fundamental: then no other crate may add an impl for a
+    /// local type, and what isn't there is refused (`trait_ref_is_local_or_fundamental`).
+    pub fn trait_ref_is_local_or_fundamental(&self, trait_ref: TraitRef) -> bool
+        ensures { (es : List Entry) → result ≡ trait_is (λ x. (x.home == self.now.local) || x.is_fundamental) (declared es self.now) trait_ref.def_id.index }
+    {
+        match self.trait_def(trait_ref.def_id) {
+            Some(def) => self.is_local(def.home) || def.is_fundamental,
+            None => false,
+        }
+    }
+
+    /// Calls `f` at each impl of the trait that can match the self type, by rising number: those whose self type is a
+    /// parameter or has the same head. No other impl is looked at (`for_each_relevant_impl`).
+    ///
+    /// `impl<T> Show for T` and `impl Show for V<u8>` can match `V<bool>`, and `impl Show for u8` can not.
+    pub fn for_each_relevant_impl<F: FnMut(ImplId)>(
+        &self,
+        cx: &Interner,
+        trait_id: TraitId,
+        self_ty: Ty,
+        f: F,
+    )
+        requires held { AreHeld cx.now.entries self.now }
+        requires self_held { Has cx.now.entries types self_ty.0 }
+        requires callable { F.IsAlwaysCallable f }
+        ensures { CallsAtEach (λ p x q. F.step p x tt q) f (relevant_in cx.now.entries self.now trait_id.index (trees_at cx.now.entries self_ty.0)) }
+    {
+        cx.lawful();
+        let blanket = self.impls_with(trait_id, None);
+        let same_head = self.with_head(trait_id, simplify_type(cx, self_ty));
+        for_each_merged(blanket, same_head, f);
+    }
+
+    /// The impls of a trait whose self type has that head; without a head those whose self type is a parameter.
+    fn impls_with(&self, trait_id: TraitId, self_ty: Option<SimplifiedType>) -> &[ImplId]
+        ensures is { result.now ≡ ids_with trait_id.index (option_map label_of self_ty) self.now.impls }
+        ensures rises { Rises (map (λ i. i.id) self.now.impls) }
+    {
+        impls_with_head(&self.heads, ImplHead { trait_id, self_ty })
+    }
+
+    /// The impls of a trait whose self type has that head; without a head none.
+    fn with_head(&self, trait_id: TraitId, self_ty: Option<SimplifiedType>) -> &[ImplId]
+        ensures { result.now ≡ ids_headed trait_id.index (option_map label_of self_ty) self.now.impls }
+    {
+        match self_ty {
+            Some(_) => self.impls_with(trait_id, self_ty),
+            None => &[],
+        }
+    }
+}

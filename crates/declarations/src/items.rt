@@ -1,0 +1,93 @@
+//! Structs, traits and impls as they are declared, with their terms as handles.
+ghost use Rattle.std.specs.Prelude.{◌≡◌, IfErr, IfOk};
+ghost use Rattle.type_terms.specs.Terms.{Has, types};
+ghost use Rattle.type_terms.specs.declared.Fault.TheVariants.{Memory};
+ghost use Rattle.declarations.specs.Merges.{Each};
+ghost use Rattle.declarations.specs.Held.{StructHeld};
+
+use crate::unsizing::unsizing_params;
+use std::alloc::Global;
+use term_folds::predicate::TraitRef;
+use type_terms::interner::Interner;
+use type_terms::kinds::Ty;
+use type_terms::{CrateId, Fault};
+
+/// What a parameter of an item stands for (`GenericParamDefKind`).
+#[derive(Clone, Copy, PartialEq, Eq, Hash, Debug)]
+pub enum GenericParamKind {
+    Lifetime,
+    Type,
+    Const,
+}
+
+/// A struct (`AdtDef`). `fundamental struct Box<T>(*const T)` has one parameter and one field.
+#[derive(Debug, Drop)]
+pub struct AdtDef {
+    /// The crate that declares it.
+    pub home: CrateId,
+    /// Whether it is `#[fundamental]` (RFC 1023).
+    pub is_fundamental: bool,
+    /// Its parameters; a term speaks of them by their places from 0.
+    pub params: Vec<GenericParamKind>,
+    pub fields: Vec<Ty>,
+    /// For each parameter whether it is unsizing: the last field mentions it, and no earlier one does (RFC 982).
+    pub unsizing_params: Vec<bool>,
+}
+
+impl AdtDef {
+    /// A struct with what is read off its fields: which parameters are unsizing. The error is `Memory`.
+    pub fn new(
+        alloc: Global,
+        cx: &Interner,
+        home: CrateId,
+        is_fundamental: bool,
+        params: Vec<GenericParamKind>,
+        fields: Vec<Ty>,
+    ) -> Result<AdtDef, Fault>
+        requires { Each (λ t. Has cx.now.entries types t.0) fields.items }
+        ensures home { IfOk result (λ def. def.home ≡ home) }
+        ensures is_fundamental { IfOk result (λ def. def.is_fundamental ≡ is_fundamental) }
+        ensures params { IfOk result (λ def. def.params ≡ params) }
+        ensures fields { IfOk result (λ def. def.fields ≡ fields) }
+        ensures held { IfOk result (StructHeld cx.now.entries) }
+        ensures memory { IfErr result (λ fault. fault ≡ Memory) }
+    {
+        let unsizing_params = unsizing_params(alloc, cx, &fields, params.len())?;
+        Ok(AdtDef {
+            home,
+            is_fundamental,
+            params,
+            fields,
+            unsizing_params,
+        })
+    }
+}
+
+/// A trait (`TraitDef`). `trait Sub<U>: Sup<U>` has two parameters, of which Self is the first, and one bound.
+#[derive(Debug, Drop)]
+pub struct TraitDef {
+    /// The crate that declares it.
+    pub home: CrateId,
+    /// Whether it is `#[fundamental]` (RFC 1023).
+    pub is_fundamental: bool,
+    /// Whether it is an auto trait.
+    pub is_auto: bool,
+    /// Self and its further parameters; a term speaks of them by their places from 0.
+    pub params: Vec<GenericParamKind>,
+    /// The supertraits as they are written, of parameter 0.
+    pub bounds: Vec<TraitRef>,
+}
+
+/// An impl (`ImplTraitHeader`). `impl<T> Show for V<T> where T: Show` has one parameter, the header `V<T>: Show` and one
+/// where-clause.
+#[derive(Debug, Drop)]
+pub struct ImplDef {
+    /// The crate that declares it.
+    pub home: CrateId,
+    /// Its parameters; a term speaks of them by their places from 0.
+    pub params: Vec<GenericParamKind>,
+    /// The reference that it proves.
+    pub header: TraitRef,
+    /// Its where-clauses.
+    pub clauses: Vec<TraitRef>,
+}

@@ -1,0 +1,20 @@
+//! Laws of declarations, over what the contracts speak of.
+ghost use Rattle.std.specs.Prelude.{◌≡◌, ◌∷◌, [], List};
+ghost use Rattle.model.specs.Worlds.{World, Reference};
+ghost use Rattle.type_terms.specs.Terms.{Entry, Keeps};
+ghost use Rattle.declarations.specs.Items.{Items, declared};
+ghost use Rattle.declarations.specs.Held.{AreHeld};
+ghost use Rattle.declarations.specs.Elaboration.{elaborate, supertraits, diamond, asked_of_u8};
+
+/// Declarations whose terms are an interner's stay so as it grows, and they are the same world.
+pub fn declarations_are_kept()
+    ensures held { (old new : List Entry) (d : Items) → Keeps old new → AreHeld old d → AreHeld new d }
+    ensures declares { (old new : List Entry) (d : Items) → Keeps old new → AreHeld old d → declared new d ≡ declared old d }
+{}
+
+/// To elaborate one reference gives it and then its supertraits. With `trait Bottom: Left + Right`, both of which have `Top`,
+/// `u8: Bottom` gives Bottom, Right, Top and Left, as a stack does, and Top once.
+pub fn elaborating_laws()
+    ensures begins { (V : World) (r : Reference) → elaborate V (r ∷ []) ≡ r ∷ supertraits V r }
+    ensures order { elaborate diamond (asked_of_u8 (3 ∷ [])) ≡ asked_of_u8 (3 ∷ 2 ∷ 0 ∷ 1 ∷ []) }
+{}

@@ -1,0 +1,43 @@
+//! Two rising lists, one after the other by rising numbers.
+ghost use Rattle.std.specs.Prelude.{◌≡◌, ◌∷◌, [], ◌+◌, List, MatchOption, length, Some, None};
+ghost use Rattle.std.specs.List.{FoldsTo};
+ghost use Rattle.declarations.specs.Merges.{IsMerge, IsNext, Rises};
+ghost use Rattle.type_terms.specs.declared.ImplId.{ImplId};
+
+use type_terms::ImplId;
+
+/// The smaller of the first of two lists, with what is left of both.
+fn split_smaller<'a>(
+    first: &'a [ImplId],
+    second: &'a [ImplId],
+) -> Option<(ImplId, &'a [ImplId], &'a [ImplId])>
+    ensures next { (ids : List ImplId) → IsMerge first.now second.now ids → Rises ids → MatchOption result (ids ≡ []) (λ r. IsNext r.0 r.1.now r.2.now ids) }
+    ensures shorter { MatchOption result (Unit {0}) (λ r. length r.1.now + length r.2.now + 1 ≡ length first.now + length second.now) }
+{
+    match (first.split_first(), second.split_first()) {
+        (None, None) => None,
+        (Some((x, first_left)), None) => Some((*x, first_left, second)),
+        (None, Some((y, second_left))) => Some((*y, first, second_left)),
+        (Some((x, first_left)), Some((y, second_left))) => {
+            if x.index < y.index {
+                Some((*x, first_left, second))
+            } else {
+                Some((*y, first, second_left))
+            }
+        }
+    }
+}
+
+/// Calls `f` at each number of two rising lists, by rising number.
+pub(crate) fn for_each_merged<F: FnMut(ImplId)>(first: &[ImplId], second: &[ImplId], mut f: F)
+    requires { F.IsAlwaysCallable f }
+    ensures { (ids : List ImplId) → IsMerge first.now second.now ids → Rises ids → (last : F) × FoldsTo (λ p x q. F.step p x tt q) f ids last }
+{
+    let mut first = first;
+    let mut second = second;
+    'merge: while let Some((id, first_left, second_left)) = split_smaller(first, second) {
+        f(id);
+        first = first_left;
+        second = second_left;
+    }
+}

@@ -1,0 +1,54 @@
+//! The head of a type, as far as it tells which impls can match.
+ghost use Rattle.std.specs.Prelude.{◌≡◌};
+ghost use Rattle.std.specs.Option.{option_map};
+ghost use Rattle.type_terms.specs.Terms.{Has, types, trees_at};
+ghost use Rattle.declarations.specs.Heads.{label_of, head_of};
+
+use type_terms::AdtId;
+use type_terms::interner::Interner;
+use type_terms::kinds::{IntTy, Mutability, Ty, TyKind, UintTy};
+
+/// What stands outermost in a type that is no parameter, variable or placeholder (`SimplifiedType`).
+#[derive(Clone, Copy, PartialEq, Eq, Hash, Debug)]
+pub enum SimplifiedType {
+    Bool,
+    Char,
+    Int(IntTy),
+    Uint(UintTy),
+    Adt(AdtId),
+    Str,
+    Array,
+    Slice,
+    Ref(Mutability),
+    Ptr(Mutability),
+    Never,
+    Tuple,
+    /// A `dyn` type, whatever its bounds are.
+    Dynamic,
+    /// A `fn` pointer, whatever its binder is.
+    Function,
+}
+
+/// The head of a type: of `V<u8>` it is `V`. A parameter, a variable and a placeholder have none (`simplify_type`).
+pub fn simplify_type(cx: &Interner, ty: Ty) -> Option<SimplifiedType>
+    requires { Has cx.now.entries types ty.0 }
+    ensures { option_map label_of result ≡ head_of (trees_at cx.now.entries ty.0) }
+{
+    match cx.kind(ty) {
+        TyKind::Bool => Some(SimplifiedType::Bool),
+        TyKind::Char => Some(SimplifiedType::Char),
+        TyKind::Int(int) => Some(SimplifiedType::Int(int)),
+        TyKind::Uint(uint) => Some(SimplifiedType::Uint(uint)),
+        TyKind::Str => Some(SimplifiedType::Str),
+        TyKind::Never => Some(SimplifiedType::Never),
+        TyKind::Adt(id, _) => Some(SimplifiedType::Adt(id)),
+        TyKind::Ref(_, _, mutability) => Some(SimplifiedType::Ref(mutability)),
+        TyKind::RawPtr(_, mutability) => Some(SimplifiedType::Ptr(mutability)),
+        TyKind::Array(_, _) => Some(SimplifiedType::Array),
+        TyKind::Slice(_) => Some(SimplifiedType::Slice),
+        TyKind::Tuple(_) => Some(SimplifiedType::Tuple),
+        TyKind::FnPtr(_, _) => Some(SimplifiedType::Function),
+        TyKind::Dynamic(_, _) => Some(SimplifiedType::Dynamic),
+        TyKind::Param(_) | TyKind::Placeholder(_) | TyKind::Bound(_, _) | TyKind::Infer(_) => None,
+    }
+}
