@@ -1,0 +1,117 @@
+-- In every linked set with the crate each solution of a goal is one by a candidate.
+use Rattle.std.proofs.Common.{◌≡◌, ℕ, Bool, true, false, not, ◌&&◌, ◌||◌, ◌==◌, List, [], ◌∷◌, refl, sym, ◌∙◌, ap, subst, Option, Some, None}
+use Rattle.model.specs.Label.{of_trait, predicate}
+use Rattle.model.specs.Trees.{Trees, none, tree}
+use Rattle.model.specs.Worlds.{World, Reference}
+use Rattle.model.specs.Rules.{unsize}
+use Rattle.model.specs.Answers.{written_in}
+use Rattle.model.specs.Walks.{is_known_in}
+use Rattle.model.proofs.Walking.{left, right}
+use Rattle.type_terms.specs.Made.{terms}
+use Rattle.type_terms.specs.Made.{is_made}
+use Rattle.infer_table.specs.declared.canonical.CanonicalVarKind.{CanonicalVarKind}
+use Rattle.evaluation.specs.Lists.{Every, SomeOf}
+use Rattle.evaluation.proofs.ListLaws.{Every-map, Every-mono}
+use Rattle.table_laws.specs.Instances.{read_with}
+use Rattle.table_laws.specs.Content.{given, trait_of}
+use Rattle.table_laws.specs.Frames.{kinds_known}
+use Rattle.assembly_laws.specs.Facts.{reference_in, children_of, trait_or_first}
+use Rattle.assembly_laws.specs.Meaning.{Meaning, supertraits}
+use Rattle.assembly_laws.specs.Knowing.{is_knowable}
+use Rattle.assembly_laws.specs.Declared.{is_declared_view}
+use Rattle.assembly_laws.specs.Asking.{Asked, asked_if, asked_with, with_first, all_known, is_variable_over, are_clauses, begins_with_type, next_of}
+use Rattle.assembly_laws.specs.Candidates.{premise, unknowable}
+use Rattle.assembly_laws.specs.Solver.{IsSolution}
+use Rattle.assembly_laws.specs.Cover.{slots, nested_at, Gives, all_candidates, goal_fact, ViewRulesAreCandidates, SolutionsAreCandidates}
+use Rattle.assembly_laws.proofs.Views.{known-by-view-rule}
+use Rattle.assembly_laws.proofs.Knowing.{instances-are-known}
+use Rattle.assembly_laws.proofs.Reading.{read_reference}
+use Rattle.assembly_laws.proofs.Agreeing.{own-read}
+use Rattle.assembly_laws.proofs.Supers.{Proved, supertraits-proved}
+
+-- ---- what is asked
+pub record IsAsked (V : World) (environment asks : Trees) (kinds : Option (List CanonicalVarKind)) (a : Asked) : Type 0 where
+  pub predicate_is : asks ≡ tree (predicate (of_trait a.reference.trait)) a.reference.args none
+  pub environment_is : environment ≡ a.environment
+  pub kinds_are : kinds ≡ Some a.kinds
+  pub written : written_in V a.reference ≡ true
+  pub over : is_made (is_variable_over a.kinds) terms a.reference.args ≡ true
+  pub begins : begins_with_type a.reference.args ≡ true
+  pub target : (not (a.reference.trait == unsize) || begins_with_type (next_of a.reference.args)) ≡ true
+
+if-asked : (b : Bool) (a c : Asked) → asked_if b a ≡ Some c → (b ≡ true) × (a ≡ c)
+if-asked true a c e = (refl, some-is e)
+  where
+    some-is : Some a ≡ Some c → a ≡ c
+    some-is f = cc
+if-asked false a c e = absurd (cc)
+
+pub asked-by : (V : World) (environment asks : Trees) (kinds : Option (List CanonicalVarKind)) (a : Asked) → asked_with V environment asks kinds ≡ Some a → IsAsked V environment asks kinds a
+asked-by V environment (tree (predicate (of_trait t)) args none) (Some ks) a e =
+    let own : Asked = record { kinds = ks; environment = environment; reference = record { trait = t; args = args } } in
+    let x = if-asked (written_in V own.reference && (is_made (is_variable_over ks) terms args && ((begins_with_type args && (not (t == unsize) || begins_with_type (next_of args))) && are_clauses ks environment))) own a e in
+    let q = right (written_in V own.reference) (is_made (is_variable_over ks) terms args && ((begins_with_type args && (not (t == unsize) || begins_with_type (next_of args))) && are_clauses ks environment)) x.0 in
+    let heads = left (begins_with_type args && (not (t == unsize) || begins_with_type (next_of args))) (are_clauses ks environment) (right (is_made (is_variable_over ks) terms args) ((begins_with_type args && (not (t == unsize) || begins_with_type (next_of args))) && are_clauses ks environment) q) in
+    subst (IsAsked V environment (tree (predicate (of_trait t)) args none) (Some ks)) x.1 (record {
+      predicate_is = refl;
+      environment_is = refl;
+      kinds_are = refl;
+      written = left (written_in V own.reference) (is_made (is_variable_over ks) terms args && ((begins_with_type args && (not (t == unsize) || begins_with_type (next_of args))) && are_clauses ks environment)) x.0;
+      over = left (is_made (is_variable_over ks) terms args) ((begins_with_type args && (not (t == unsize) || begins_with_type (next_of args))) && are_clauses ks environment) q;
+      begins = left (begins_with_type args) (not (t == unsize) || begins_with_type (next_of args)) heads;
+      target = right (begins_with_type args) (not (t == unsize) || begins_with_type (next_of args)) heads;
+    })
+asked-by V environment (tree (predicate (of_trait t)) args none) None a e = absurd (cc)
+asked-by V environment asks kinds a e = absurd (cc)
+
+pub known-kinds : (os : List (Option CanonicalVarKind)) (ks : List CanonicalVarKind) → all_known os ≡ Some ks → kinds_known os ≡ ks
+known-kinds [] ks e = cc
+known-kinds (None ∷ os) ks e = absurd (cc)
+known-kinds (Some k ∷ os) ks e = by (all_known os) e (λ js f. known-kinds os js f) refl
+  where
+    by : (o : Option (List CanonicalVarKind)) → with_first (Some k) o ≡ Some ks → ((js : List CanonicalVarKind) → all_known os ≡ Some js → kinds_known os ≡ js) → all_known os ≡ o → k ∷ kinds_known os ≡ ks
+    by None f go g = absurd (cc)
+    by (Some js) f go g = let h = go js g in cc
+
+-- ---- solutions
+module _ (m : Meaning) (declared : is_declared_view m.view ≡ true) (complete : ViewRulesAreCandidates m) where
+  pub solutions-are-candidates : SolutionsAreCandidates m
+  solutions-are-candidates f a e known w v s = (by-view, by-others)
+    where
+      W : World
+      W = w.linked.set
+
+      is : IsAsked m.view f.goal.environment f.goal.predicate (all_known f.kinds) a
+      is = asked-by m.view f.goal.environment f.goal.predicate (all_known f.kinds) a e
+
+      reference-is : reference_in (goal_fact f v) ≡ read_reference v.terms a.reference
+      reference-is = ap (λ p. record { trait = trait_or_first (trait_of p); args = children_of (read_with (given v.terms) p) }) is.predicate_is
+
+      by-view : is_knowable m.view m.crate a.reference ≡ true → SomeOf (Gives W a.kinds v) (all_candidates m.view a)
+      by-view k =
+          let r = subst (λ z. is_known_in m.view m.crate z ≡ true) (sym reference-is) (instances-are-known (is_variable_over a.kinds) m.view m.crate a.reference is.over k v.terms) in
+          let u = known-by-view-rule W w.linked.views w.linked.rank w.linked.linked m.crate m.view w.linked.view_is (reference_in (goal_fact f v)) s.closed r s.proof in
+          complete f a e known w v s u.0 u.1 u.2
+
+      goal-proved : Proved W (read_reference (slots a.kinds v []) a.reference)
+      goal-proved =
+          subst (Proved W) (reference-is ∙ ap (λ z. record { trait = a.reference.trait; args = z }) (sym (own-read a.kinds v.terms [] a.reference.args is.over))) (s.closed, s.proof)
+
+      supers : Every (λ r. Proved W (read_reference (slots a.kinds v []) r)) (supertraits m.view a.reference)
+      supers =
+          subst (λ V. Every (λ r. Proved W (read_reference (slots a.kinds v []) r)) (supertraits V a.reference)) w.linked.view_is
+          (supertraits-proved W w.linked.views w.linked.rank w.linked.linked w.linked.supers_stand m.crate (subst (λ V. is_declared_view V ≡ true) (sym w.linked.view_is) declared) (slots a.kinds v [])
+          a.reference goal-proved)
+
+      solution : (r : Reference) → Proved W (read_reference (slots a.kinds v []) r) → IsSolution W (nested_at (slots a.kinds v []) (premise a false r))
+      solution r p = record { asks = refl; proper = refl; closed = p.0; proof = p.1 }
+
+      by-others : Gives W a.kinds v (unknowable m.view a)
+      by-others = record {
+        own = [];
+        sorted = refl;
+        equal = tt;
+        solves =
+            Every-map (λ n. IsSolution W (nested_at (slots a.kinds v []) n)) (premise a false) (supertraits m.view a.reference)
+            (Every-mono (λ r. Proved W (read_reference (slots a.kinds v []) r)) (λ r. IsSolution W (nested_at (slots a.kinds v []) (premise a false r))) solution (supertraits m.view a.reference) supers);
+      }

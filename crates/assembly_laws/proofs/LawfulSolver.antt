@@ -1,0 +1,175 @@
+-- The solver is a lawful handler, where its candidates are lawful, cover each solution and are not too many.
+use Rattle.std.proofs.Common.{◌≡◌, suc, ◌+◌, ◌≤◌, Bool, true, false, not, ◌&&◌, ◌||◌, if◌then◌else◌, List, [], ◌∷◌, ◌++◌, length, inl, refl, ap, subst, arith, Option, Some, None}
+use Rattle.infer_table.specs.Canonical.{CanonicalForm}
+use Rattle.infer_table.specs.declared.certainty.Certainty.{Certainty}
+use Rattle.infer_table.specs.declared.certainty.TypingMode.{TypingMode}
+use Rattle.infer_table.specs.declared.certainty.TypingMode.TheVariants.{Coherence, PostAnalysis}
+use Rattle.infer_table.specs.Responses.{AnswerTrees}
+use Rattle.model.proofs.Walking.{left, right}
+use Rattle.evaluation.specs.Lists.{Every}
+use Rattle.evaluation.specs.Law.{Realizes}
+use Rattle.evaluation.specs.Handler.{Handled, IsHandler}
+use Rattle.table_laws.specs.Content.{Values, fits}
+use Rattle.table_laws.specs.Frames.{kinds_known}
+use Rattle.evaluation_laws.proofs.OperationLaws.{begins-free}
+use Rattle.evaluation_laws.specs.Tables.{frame_tables}
+use Rattle.evaluation_laws.proofs.Laws.{tables_are_lawful}
+use Rattle.evaluation.specs.Handler.{IsLawful}
+use Rattle.evaluation.specs.Plans.{Keeps, nested_in, each_of}
+use Rattle.evaluation.specs.Merge.{IsTest, TellsApart}
+use Rattle.evaluation.proofs.Plans.{plan_is_lawful}
+use Rattle.evaluation.proofs.PlanAnswers.{list_keeps}
+use Rattle.assembly_laws.specs.Meaning.{Meaning}
+use Rattle.assembly_laws.specs.Asking.{Asked, asked, clauses, self_of, begins_unknown, all_known}
+use Rattle.assembly_laws.specs.Candidates.{Candidate, unsure, unknowable, by_clauses, built_in, by_impls, by_objects}
+use Rattle.assembly_laws.specs.Solver.{solver_planned, solver_handled, most_candidates, number_at, widest_of, plan_for, by_mode, everything, in_coherence, outside_coherence}
+use Rattle.assembly_laws.proofs.Given.{given-is-realized}
+use Rattle.assembly_laws.proofs.Realizing.{by-candidates, by-unknowable, unsure-realizes}
+use Rattle.assembly_laws.specs.Cover.{AreTermsOf, GivenIsRealized, all_candidates, SolutionsAreCandidates}
+use Rattle.assembly_laws.specs.Lawful.{SolverPremises, SolverIsLawful, SolverIsLawfulByCandidates}
+use Rattle.assembly_laws.proofs.Solver.{solutions-by}
+use Rattle.assembly_laws.proofs.LawfulAll.{sound-and-narrow-is-lawful}
+use Rattle.assembly_laws.proofs.Reading.{true-false}
+use Rattle.assembly_laws.proofs.BeginsBare.{begin-says-nothing}
+use Rattle.assembly_laws.proofs.Cover.{asked-by, known-kinds}
+use Rattle.assembly_laws.proofs.CandidateBounds.{candidates-are-few}
+use Rattle.assembly_laws.proofs.NarrowCandidates.{candidates-are-narrow}
+use Rattle.assembly_laws.proofs.BoundTerms.{equations-are-terms}
+use Rattle.assembly_laws.proofs.Plans.{coherence_keeps, outside_keeps, Realized}
+
+-- an unsure candidate says nothing
+pub unsure-lawful : (h : Handled frame_tables) → IsLawful frame_tables h unsure
+unsure-lawful h = record { sound = λ y. absurd (cc); steps = λ y T. tt; determined = λ s r k l e g i. tt; equations_within = tt; nested_within = tt }
+
+module _ (applicable : AnswerTrees → Bool) (is_test : IsTest frame_tables applicable) (same : AnswerTrees → AnswerTrees → Bool) (is_same : TellsApart same) (m : Meaning) where
+  module _ (realized : GivenIsRealized) (mode : TypingMode) (f : CanonicalForm) where
+    abbrev h : Handled frame_tables
+    h = solver_handled applicable same m mode f
+
+    says_nothing : (c : Certainty) → frame_tables.has_values (frame_tables.respond h.begin c) ≡ false
+    says_nothing c = begin-says-nothing (kinds_known f.kinds) c
+
+    begins_within : frame_tables.TableWithin h.widest h.begin
+    begins_within = tt
+
+    fitting : (v : Values) → (v.proper && fits f.kinds v.terms) ≡ true → (v.proper ≡ true) × (fits f.kinds v.terms ≡ true)
+    fitting v e = (left v.proper (fits f.kinds v.terms) e, right v.proper (fits f.kinds v.terms) e)
+
+    -- whoever is searched, the unsure candidate is a way to the solution
+    unsure-realized : (w : h.World) (v : Values) → h.Proves w (h.goal v) → Realizes frame_tables (h.Proves w) h.begin v unsure
+    unsure-realized w v p = by mode refl w p
+      where
+        by : (mo : TypingMode) → mode ≡ mo → (w : (solver_handled applicable same m mo f).World) → (solver_handled applicable same m mo f).Proves w (h.goal v)
+            → Realizes frame_tables ((solver_handled applicable same m mo f).Proves w) h.begin v unsure
+        by Coherence e w s =
+            unsure-realizes w.linked.set (kinds_known f.kinds) v w.no_placeholders
+        by PostAnalysis e w s = absurd w
+
+    unsure-keeps : Keeps frame_tables h h.candidates h.number [] (plan_for applicable same h.begin m mode None)
+    unsure-keeps = list_keeps frame_tables tables_are_lawful applicable is_test same is_same h says_nothing begins_within (unsure ∷ []) (unsure-lawful h, tt) (λ w v p. inl (unsure-realized w v p)) (few) (omega arith)
+      where
+        few : 1 ≤ most_candidates m.view f
+        few = omega arith
+
+    -- ---- goals that are decided
+    module _ (a : Asked) (is : asked m.view f ≡ Some a) (known : begins_unknown a.kinds (self_of a) ≡ false) (covers : SolutionsAreCandidates m) (terms : Every AreTermsOf (all_candidates m.view a)) where
+      kinds-are : kinds_known f.kinds ≡ a.kinds
+      kinds-are = known-kinds f.kinds a.kinds (asked-by m.view f.goal.environment f.goal.predicate (all_known f.kinds) a is).kinds_are
+
+      abbrev inside : Handled frame_tables
+      inside = solver_handled applicable same m Coherence f
+
+      abbrev outside : Handled frame_tables
+      outside = solver_handled applicable same m PostAnalysis f
+
+      are-realized : Realized tables_are_lawful applicable is_test same is_same inside says_nothing begins_within m.view m.crate a
+      are-realized = record {
+        by_view = λ k w v s. by-candidates m covers f a is known w v s terms k;
+        by_others = λ w v s. by-unknowable m covers f a is known w v s terms;
+      }
+
+      module _ (few : suc (length (all_candidates m.view a)) ≤ most_candidates m.view f) (asks : nested_in frame_tables (unknowable m.view a ∷ all_candidates m.view a) ≤ number_at m.view (widest_of m.view f)) where
+        inside-keeps : Every (IsLawful frame_tables inside) (unknowable m.view a ∷ all_candidates m.view a)
+            → Keeps frame_tables inside inside.candidates inside.number [] (in_coherence applicable same inside.begin m.view m.crate a)
+        inside-keeps each = coherence_keeps tables_are_lawful applicable is_test same is_same inside says_nothing begins_within m.view m.crate a each are-realized few asks
+
+        abbrev early : List Candidate
+        early = by_clauses m.view a (clauses a) ++ built_in m.view a
+
+        abbrev late : List Candidate
+        late = by_impls m.view a m.view.impls ++ by_objects m.view a
+
+        nested-append : (xs ys : List Candidate) → nested_in frame_tables (xs ++ ys) ≡ nested_in frame_tables xs + nested_in frame_tables ys
+        nested-append [] ys = omega arith
+        nested-append (x ∷ xs) ys = let e = nested-append xs ys in omega (arith, e)
+
+        length-append : (xs ys : List Candidate) → length (xs ++ ys) ≡ length xs + length ys
+        length-append [] ys = omega arith
+        length-append (x ∷ xs) ys = let e = length-append xs ys in omega (arith, e)
+
+        every-left : (P : Candidate → Type 0) (xs ys : List Candidate) → Every P (xs ++ ys) → Every P xs
+        every-left P [] ys e = tt
+        every-left P (x ∷ xs) ys e = (e.0, every-left P xs ys e.1)
+
+        every-right : (P : Candidate → Type 0) (xs ys : List Candidate) → Every P (xs ++ ys) → Every P ys
+        every-right P [] ys e = e
+        every-right P (x ∷ xs) ys e = every-right P xs ys e.1
+
+        append-assoc : (xs ys zs : List Candidate) → xs ++ (ys ++ zs) ≡ (xs ++ ys) ++ zs
+        append-assoc [] ys zs = refl
+        append-assoc (x ∷ xs) ys zs = ap (λ l. x ∷ l) (append-assoc xs ys zs)
+
+        all-is : all_candidates m.view a ≡ early ++ late
+        all-is = append-assoc (by_clauses m.view a (clauses a)) (built_in m.view a) late
+
+        outside-keeps : Every (IsLawful frame_tables outside) (unknowable m.view a ∷ all_candidates m.view a)
+            → Keeps frame_tables outside outside.candidates outside.number [] (outside_coherence applicable same outside.begin m.view a)
+        outside-keeps each =
+            let e = subst (Every (IsLawful frame_tables outside)) all-is each.1 in
+            outside_keeps tables_are_lawful applicable is_test same is_same outside says_nothing begins_within m.view m.crate a (λ w. w) (every-left (IsLawful frame_tables outside) early late e) (every-right (IsLawful frame_tables outside) early late e)
+            (let l = length-append early late in let q : suc (length (early ++ late)) ≤ most_candidates m.view f = subst (λ (cs : List Candidate). suc (length cs) ≤ most_candidates m.view f) all-is few in omega (arith, l, q))
+            (let l = nested-append early late in let q : nested_in frame_tables (unknowable m.view a ∷ (early ++ late)) ≤ number_at m.view (widest_of m.view f) = subst (λ (cs : List Candidate). nested_in frame_tables (unknowable m.view a ∷ cs) ≤ number_at m.view (widest_of m.view f)) all-is asks in omega (arith, l, q))
+
+    -- ---- all goals
+    not-either : (b c : Bool) → (not b || c) ≡ false → (b ≡ true) × (c ≡ false)
+    not-either true c e = (refl, e)
+    not-either false c e = absurd (true-false e)
+
+    module _ (p : SolverPremises m) where
+      decided-keeps : (a : Asked) → asked m.view f ≡ Some a → m.is_sound ≡ true → begins_unknown a.kinds (self_of a) ≡ false → (mo : TypingMode) → mode ≡ mo
+          → Keeps frame_tables (solver_handled applicable same m mo f) h.candidates h.number [] (by_mode applicable same h.begin m mo a)
+      decided-keeps a is sound known Coherence e = inside-keeps a is known (p.covers sound) (p.terms sound f a is) (p.few sound f a is) (p.asks sound f a is) (p.lawful sound applicable same Coherence f a is known)
+      decided-keeps a is sound known PostAnalysis e = outside-keeps a is known (p.covers sound) (p.terms sound f a is) (p.few sound f a is) (p.asks sound f a is) (p.lawful sound applicable same PostAnalysis f a is known)
+
+      plan-keeps : (o : Option Asked) → asked m.view f ≡ o → Keeps frame_tables h h.candidates h.number [] (plan_for applicable same h.begin m mode o)
+      plan-keeps None e = unsure-keeps
+      plan-keeps (Some a) e = by (not m.is_sound || begins_unknown a.kinds (self_of a)) refl
+        where
+          by : (b : Bool) → (not m.is_sound || begins_unknown a.kinds (self_of a)) ≡ b
+              → Keeps frame_tables h h.candidates h.number [] (if b then each_of frame_tables (unsure ∷ []) (everything applicable same h.begin) [] else by_mode applicable same h.begin m mode a)
+          by true q = unsure-keeps
+          by false q = let x = not-either m.is_sound (begins_unknown a.kinds (self_of a)) q in decided-keeps a e x.0 x.1 mode refl
+
+      pub is-lawful : IsHandler frame_tables h
+      is-lawful = plan_is_lawful frame_tables (solver_planned applicable same m mode f) (record {
+        begins = λ v. begins-free (kinds_known f.kinds) v;
+        says_nothing = says_nothing;
+        begins_within = begins_within;
+        keeps = plan-keeps (asked m.view f) refl;
+      })
+
+pub solver-is-lawful : SolverIsLawful
+solver-is-lawful applicable is_test same is_same m p mode f = is-lawful applicable is_test same is_same m p.realized mode f p
+
+pub solver-is-lawful-by-candidates : SolverIsLawfulByCandidates
+solver-is-lawful-by-candidates applicable is_test same is_same m p mode f =
+    solver-is-lawful applicable is_test same is_same m
+    (record {
+      realized = given-is-realized;
+      covers = λ e. solutions-by m (p.declared e) (p.determined e);
+      terms = λ e. equations-are-terms m (p.declared e) (p.erased e);
+      lawful = λ e. sound-and-narrow-is-lawful m (p.declared e) (p.determined e) (p.sound e) (candidates-are-narrow m (p.one_field e));
+      few = λ e. (candidates-are-few m (p.one_struct e)).0;
+      asks = λ e. (candidates-are-few m (p.one_struct e)).1;
+    })
+    mode f

@@ -1,0 +1,20 @@
+-- Facts that every file needs.
+use Rattle.std.proofs.Common.{◌≡◌, true, refl}
+use Rattle.model.specs.Label.{Sort, of_type, of_const, of_lifetime}
+use Rattle.model.specs.Trees.{is_sort}
+
+pub sort-self : (k : Sort) → is_sort k k ≡ true
+sort-self of_type = refl
+sort-self of_const = refl
+sort-self of_lifetime = refl
+
+pub is-sort : (j k : Sort) → is_sort j k ≡ true → j ≡ k
+is-sort of_type of_type h = refl
+is-sort of_const of_const h = refl
+is-sort of_lifetime of_lifetime h = refl
+is-sort of_type of_const h = cc
+is-sort of_type of_lifetime h = cc
+is-sort of_const of_type h = cc
+is-sort of_const of_lifetime h = cc
+is-sort of_lifetime of_type h = cc
+is-sort of_lifetime of_const h = cc

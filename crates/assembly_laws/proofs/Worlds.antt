@@ -1,0 +1,161 @@
+-- In coherence the questions of a goal without where-clauses and placeholders have none.
+use Rattle.std.proofs.Common.{◌≡◌, Bool, true, false, not, ◌||◌, if◌then◌else◌, List, [], ◌∷◌, map, length, refl, sym, ◌∙◌, ap, Option, Some, None}
+use Rattle.model.specs.Label.{Label, of_type, of_const, of_lifetime, infer, param, placeholder, static}
+use Rattle.model.specs.Trees.{none}
+use Rattle.model.specs.Worlds.{World, Reference}
+use Rattle.model.specs.Rules.{is_coinductive}
+use Rattle.infer_table.specs.Canonical.{CanonicalForm, kind_of_leaf, kind_in_clause, goal_leaves, canonical_label, relabeled}
+use Rattle.infer_table.specs.Solutions.{Binding, replace, resolved}
+use Rattle.infer_table.specs.Unification.{TableTrees}
+use Rattle.infer_table.specs.declared.certainty.TypingMode.TheVariants.{Coherence, PostAnalysis}
+use Rattle.infer_table.specs.Responses.{AnswerTrees}
+use Rattle.evaluation.specs.Lists.{Every}
+use Rattle.table_laws.specs.Instances.{put_in}
+use Rattle.table_laws.specs.Content.{Question}
+use Rattle.table_laws.specs.Frames.{kinds_known, good_in, FrameTable, IsMadeFrame, Nested, slot_at, goal_in}
+use Rattle.type_terms.proofs.Made.{false-true}
+use Rattle.model.proofs.Walking.{left}
+use Rattle.evaluation_laws.specs.Operations.{begin}
+use Rattle.table_laws.proofs.Equating.{frame-of}
+use Rattle.table_laws.specs.Frames.{frame_if}
+use Rattle.table_laws.proofs.Applying.{AreTheirs, goal-leaves}
+use Rattle.evaluation_laws.specs.Tables.{frame_tables}
+use Rattle.evaluation.specs.Plans.{Plan, each_of, first_alone, after}
+use Rattle.assembly_laws.specs.Meaning.{Meaning, supertraits}
+use Rattle.assembly_laws.specs.Knowing.{is_knowable}
+use Rattle.assembly_laws.specs.Asking.{Asked, asked, clauses, self_of, begins_unknown, all_known}
+use Rattle.assembly_laws.specs.Candidates.{Candidate, premise, unsure, unknowable, behind}
+use Rattle.assembly_laws.specs.Solver.{Past, everything, in_coherence, by_mode, plan_for, has_placeholder, solver_handled}
+use Rattle.assembly_laws.specs.Cover.{all_candidates}
+use Rattle.assembly_laws.specs.Worlds.{KeepWorlds}
+use Rattle.assembly_laws.proofs.Cover.{asked-by}
+use Rattle.assembly_laws.proofs.Filled.{no-placeholder, place-kind}
+use Rattle.assembly_laws.proofs.Rowwise.{AreRows, all-so}
+use Rattle.assembly_laws.proofs.Considering.{ConsidersOnly, after-only, wanted-only, each-only, first-only}
+use Rattle.assembly_laws.proofs.AskingTables.{AreKept, AreSo, questions-so}
+
+-- ---- tables keep the kinds of the goal
+abbrev HasNone : FrameTable → Type 0
+HasNone T = has_placeholder T.kinds ≡ false
+
+none-after : (T : FrameTable) (o : Option TableTrees) (f : (u : TableTrees) → o ≡ Some u → IsMadeFrame T.kinds T.labels u) (U : FrameTable) → frame_if T o f ≡ Some U → HasNone T → HasNone U
+none-after T o f U e h = ap has_placeholder (frame-of T o f U e).2.kinds ∙ h
+
+-- the question has no where-clauses and no placeholders
+abbrev IsBare : Question → Type 0
+IsBare q = (q.form.goal.environment ≡ none) × (has_placeholder (kinds_known q.form.kinds) ≡ false)
+
+kept-tables : AreKept frame_tables IsBare HasNone
+kept-tables = record {
+  fresh = λ T kinds h. h;
+  equate = λ T U es e h. none-after T _ _ U e h;
+  recorded = λ T c h. h;
+  apply = λ T U n r e h. none-after T _ _ U e h;
+}
+
+-- ---- questions
+resolved-none : (bs : List Binding) → resolved bs none ≡ none
+resolved-none [] = refl
+resolved-none (b ∷ older) = ap (replace b.sort b.var (resolved older b.value)) (resolved-none older)
+
+no-kinds : (T : FrameTable) → HasNone T → (ls : List Label) → AreTheirs (good_in T) ls → has_placeholder (kinds_known (map kind_of_leaf ls)) ≡ false
+no-kinds T h [] e = refl
+no-kinds T h (infer of_type v ∷ ls) e = no-kinds T h ls e.1
+no-kinds T h (infer of_const v ∷ ls) e = no-kinds T h ls e.1
+no-kinds T h (infer of_lifetime v ∷ ls) e = no-kinds T h ls e.1
+no-kinds T h (param of_type v ∷ ls) e = absurd (false-true e.0)
+no-kinds T h (param of_const v ∷ ls) e = absurd (false-true e.0)
+no-kinds T h (param of_lifetime v ∷ ls) e = no-kinds T h ls e.1
+no-kinds T h (placeholder of_type v ∷ ls) e = absurd (place-kind T.kinds (no-placeholder T.kinds h) of_type v (left (good_in T (placeholder of_type v)) _ e.0) refl)
+no-kinds T h (placeholder of_const v ∷ ls) e = absurd (place-kind T.kinds (no-placeholder T.kinds h) of_const v (left (good_in T (placeholder of_const v)) _ e.0) refl)
+no-kinds T h (placeholder of_lifetime v ∷ ls) e = no-kinds T h ls e.1
+no-kinds T h (static ∷ ls) e = no-kinds T h ls e.1
+no-kinds T h (l ∷ ls) e = no-kinds T h ls e.1
+
+bare-question : (n : Nested) → n.goal.environment ≡ none → AreSo frame_tables IsBare HasNone n
+bare-question n e T h = (
+  ap (λ z. relabeled kind_in_clause (canonical_label (goal_leaves (goal_in T n))) (resolved T.content.bindings (put_in (slot_at T.labels) z))) e
+      ∙ ap (relabeled kind_in_clause (canonical_label (goal_leaves (goal_in T n)))) (resolved-none T.content.bindings),
+  no-kinds T h (goal_leaves (goal_in T n)) (goal-leaves T n),
+)
+
+-- ---- candidates
+abbrev AreBare : Candidate → Type 0
+AreBare c = Every (AreSo frame_tables IsBare HasNone) c.nested
+
+module _ (V : World) (a : Asked) (no_clauses : a.environment ≡ none) where
+  premises-bare : (kind : Bool) (rs : List Reference) → Every (AreSo frame_tables IsBare HasNone) (map (premise a kind) rs)
+  premises-bare kind [] = tt
+  premises-bare kind (r ∷ rs) = (bare-question (premise a kind r) no_clauses, premises-bare kind rs)
+
+  every-of : {A : Type 0} {Q : A → Type 0} → ((x : A) → Q x) → (xs : List A) → Every Q xs
+  every-of f [] = tt
+  every-of f (x ∷ xs) = (f x, every-of f xs)
+
+  every-unit : {A : Type 0} (xs : List A) → Every (λ x. Unit {0}) xs
+  every-unit [] = tt
+  every-unit (x ∷ xs) = (tt, every-unit xs)
+
+  rows : AreRows V a AreBare (λ es. Unit {0})
+  rows = record {
+    rule = λ source es ps u. premises-bare (is_coinductive V a.reference.trait) ps;
+    nothing = tt;
+    calls = λ n l types c others e. tt;
+    arrays = λ l m c n d p o e. tt;
+    upcasts = λ b d o e. every-of (λ q. every-of (λ p. (tt, every-unit _)) _) _;
+    structs = λ s u b d o e x. tt;
+    clauses = every-unit (clauses a);
+    bounds = λ bounds others e. (every-unit _, every-unit _);
+    impls = λ i j. premises-bare (is_coinductive V a.reference.trait) (map (behind (length a.kinds)) i.clauses);
+    unsures = tt;
+  }
+
+  all-bare : Every AreBare (all_candidates V a)
+  all-bare = all-so V a AreBare (λ es. Unit {0}) rows
+
+  unknowable-bare : AreBare (unknowable V a)
+  unknowable-bare = premises-bare false (supertraits V a.reference)
+
+-- ---- the plan in coherence
+module _ (applicable : AnswerTrees → Bool) (same : AnswerTrees → AnswerTrees → Bool) (start : FrameTable) (m : Meaning) where
+  abbrev Only : Plan frame_tables → Type 0
+  Only p = ConsidersOnly frame_tables AreBare p
+
+  unsure-only : Only (each_of frame_tables (unsure ∷ []) (everything applicable same start) [])
+  unsure-only = each-only frame_tables AreBare (unsure ∷ []) (everything applicable same start) [] (tt, tt) (λ later. tt)
+
+  asked-only : (a : Asked) → a.environment ≡ none → Only (in_coherence applicable same start m.view m.crate a)
+  asked-only a e = by (is_knowable m.view m.crate a.reference)
+    where
+      each : (seen : Past) → Only (each_of frame_tables (all_candidates m.view a) (everything applicable same start) seen)
+      each seen = each-only frame_tables AreBare (all_candidates m.view a) (everything applicable same start) seen (all-bare m.view a e) (λ later. tt)
+
+      by : (b : Bool) → Only (if b then each_of frame_tables (all_candidates m.view a) (everything applicable same start) []
+          else first_alone frame_tables (unknowable m.view a) (λ seen. each_of frame_tables (all_candidates m.view a) (everything applicable same start) seen) (everything applicable same start) [])
+      by true = each []
+      by false =
+          first-only frame_tables AreBare (unknowable m.view a) (λ seen. each_of frame_tables (all_candidates m.view a) (everything applicable same start) seen) (everything applicable same start) []
+          (unknowable-bare m.view a e) (λ later. each later) (λ later. tt)
+
+  plan-only : (o : Option Asked) → ((a : Asked) → o ≡ Some a → a.environment ≡ none) → Only (plan_for applicable same start m Coherence o)
+  plan-only None f = unsure-only
+  plan-only (Some a) f = by (not m.is_sound || begins_unknown a.kinds (self_of a))
+    where
+      by : (b : Bool) → Only (if b then each_of frame_tables (unsure ∷ []) (everything applicable same start) [] else by_mode applicable same start m Coherence a)
+      by true = unsure-only
+      by false = asked-only a (f a refl)
+
+-- ---- the questions
+pub asked-bare : (m : Meaning) (f : CanonicalForm) → f.goal.environment ≡ none → (a : Asked) → asked m.view f ≡ Some a → a.environment ≡ none
+asked-bare m f e a is = sym (asked-by m.view f.goal.environment f.goal.predicate (all_known f.kinds) a is).environment_is ∙ e
+
+pub keep-worlds : KeepWorlds
+keep-worlds applicable same m PostAnalysis f heard q came e x = absurd x
+keep-worlds applicable same m Coherence f heard q came e x =
+    let start = begin (kinds_known f.kinds) in
+    let plan = plan_for applicable same start m Coherence (asked m.view f) in
+    let only = plan-only applicable same start m (asked m.view f) (λ a is. asked-bare m f x.no_clauses a is) in
+    let bare =
+    questions-so frame_tables IsBare HasNone kept-tables (solver_handled applicable same m Coherence f) x.no_placeholders
+    (λ seen c is. wanted-only frame_tables AreBare (after frame_tables plan seen) c (after-only frame_tables AreBare plan seen only) is) heard q came e in
+    (record { linked = x.linked; no_clauses = bare.0; no_placeholders = bare.1 }, λ g p. p)

@@ -1,0 +1,96 @@
+-- Each solution of a goal in a linked set is one by a candidate.
+use Rattle.std.specs.Prelude.{◌≡◌, ◌&&◌, true, false, List, [], ◌∷◌, ◌++◌, map, Some}
+use Rattle.model.specs.Label.{dynamic}
+use Rattle.model.specs.Trees.{Trees, none, tree}
+use Rattle.type_terms.specs.Made.{terms}
+use Rattle.type_terms.specs.Made.{is_made}
+use Rattle.model.specs.Worlds.{World, Reference}
+use Rattle.model.specs.Rules.{Rule, rules, principal_with}
+use Rattle.model.specs.Answers.{is_closed}
+use Rattle.model.specs.Proofs.{In, HasProof}
+use Rattle.model.specs.Proofs as Model
+use Rattle.infer_table.specs.Canonical.{CanonicalForm}
+use Rattle.infer_table.specs.declared.canonical.CanonicalVarKind.{CanonicalVarKind}
+use Rattle.evaluation.specs.Lists.{Every, SomeOf}
+use Rattle.evaluation.specs.Law.{Realizes}
+use Rattle.table_laws.specs.Instances.{read_with, goal_read, first_term, other_terms}
+use Rattle.table_laws.specs.Content.{Values, Fact, fits, given, trait_of, fact_of}
+use Rattle.table_laws.specs.Frames.{Nested, Equation, term_of, is_open_label}
+use Rattle.evaluation_laws.specs.Operations.{begin}
+use Rattle.evaluation_laws.specs.Tables.{frame_tables}
+use Rattle.assembly_laws.specs.Facts.{reference_in}
+use Rattle.assembly_laws.specs.Slots.{as_slots, with_slots}
+use Rattle.assembly_laws.specs.Meaning.{Meaning, elaborate}
+use Rattle.assembly_laws.specs.Knowing.{is_knowable}
+use Rattle.assembly_laws.specs.Declared.{is_declared_view}
+use Rattle.assembly_laws.specs.Asking.{Asked, asked, clauses, self_of, begins_unknown}
+use Rattle.assembly_laws.specs.Candidates.{Candidate, unknowable, by_clauses, built_in, by_impls, by_objects}
+use Rattle.assembly_laws.specs.Determined.{ImplsAreDetermined}
+use Rattle.assembly_laws.specs.Solver.{Searched, IsSolution, has_placeholder}
+
+-- as many terms as there are kinds
+abbrev pub padded : List CanonicalVarKind → List Trees → List Trees
+padded [] ts = []
+padded (k ∷ ks) ts = first_term ts ∷ padded ks (other_terms ts)
+
+-- what stands for the canonical variables of a candidate: the goal's values, and behind them terms for its own
+abbrev pub slots : List CanonicalVarKind → Values → List Trees → List Trees
+slots ks v own = padded ks v.terms ++ own
+
+abbrev pub nested_at : List Trees → Nested → Fact
+nested_at ts n = record { trait = trait_of n.goal.predicate; goal = goal_read (given ts) n.goal; proper = true }
+
+-- terms for the candidate's own variables, as tables have them, with which its equations hold and its premises are solutions in W
+pub record Gives (W : World) (kinds : List CanonicalVarKind) (v : Values) (c : Candidate) : Type 0 where
+  pub own : List Trees
+  pub sorted : as_slots c.kinds own ≡ own
+  pub equal : Every (λ (e : Equation). read_with (given (slots kinds v own)) e.left.trees ≡ read_with (given (slots kinds v own)) e.right.trees) c.equations
+  pub solves : Every (λ n. IsSolution W (nested_at (slots kinds v own) n)) c.nested
+
+-- the terms of the equations are made as terms are, each of its sort
+abbrev pub AreTermsOf : Candidate → Type 0
+AreTermsOf c = Every (λ (e : Equation). (term_of e.left ≡ e.left.trees) × (term_of e.right ≡ e.right.trees)) c.equations
+
+-- the supertraits of a `dyn` type's principal trait have made terms as arguments
+abbrev pub BoundsAreTerms : World → Asked → Type 0
+BoundsAreTerms V a =
+    (bounds others : Trees) → self_of a ≡ tree dynamic bounds others
+    → Every (λ (r : Reference). is_made is_open_label terms r.args ≡ true) (elaborate V (principal_with (tree dynamic bounds none) bounds))
+
+-- the table of the candidate allows these terms, and with them it realizes the values
+abbrev pub GivenIsRealized : Type 0
+GivenIsRealized =
+    (W : World) (kinds : List CanonicalVarKind) (v : Values) (c : Candidate) → AreTermsOf c → has_placeholder kinds ≡ false → has_placeholder c.kinds ≡ false
+    → (v.proper && fits (map Some kinds) v.terms) ≡ true → Gives W kinds (with_slots kinds v) c → Realizes frame_tables (IsSolution W) (begin kinds) v c
+
+-- all candidates but the unknowable one
+abbrev pub all_candidates : World → Asked → List Candidate
+all_candidates V a = by_clauses V a (clauses a) ++ (built_in V a ++ (by_impls V a V.impls ++ by_objects V a))
+
+abbrev pub goal_fact : CanonicalForm → Values → Fact
+goal_fact f v = fact_of (record { form = f; coinductive = false }) v
+
+-- a rule of the view that concludes a closed instance, with proved premises, is a candidate
+abbrev pub ViewRulesAreCandidates : Meaning → Type 0
+ViewRulesAreCandidates m =
+    (f : CanonicalForm) (a : Asked) → asked m.view f ≡ Some a → begins_unknown a.kinds (self_of a) ≡ false → (w : Searched m f) (v : Values) → IsSolution w.linked.set (goal_fact f v)
+    → (u : Rule) → In u (rules m.view [] (reference_in (goal_fact f v))) → Model.Every (HasProof w.linked.set []) u.premises
+    → SomeOf (Gives w.linked.set a.kinds v) (all_candidates m.view a)
+
+-- where the goal is knowable each solution is one by a candidate, and in any case it is one by the unknowable candidate
+abbrev pub SolutionsAreCandidates : Meaning → Type 0
+SolutionsAreCandidates m =
+    (f : CanonicalForm) (a : Asked) → asked m.view f ≡ Some a → begins_unknown a.kinds (self_of a) ≡ false → (w : Searched m f) (v : Values) → IsSolution w.linked.set (goal_fact f v)
+    → (is_knowable m.view m.crate a.reference ≡ true → SomeOf (Gives w.linked.set a.kinds v) (all_candidates m.view a)) × Gives w.linked.set a.kinds v (unknowable m.view a)
+
+-- the reference with terms for its variables
+abbrev pub read_reference : List Trees → Reference → Reference
+read_reference ts r = record { trait = r.trait; args = read_with (given ts) r.args }
+
+-- closed, with a proof
+abbrev pub Proved : World → Reference → Type 0
+Proved W r = (is_closed r.args ≡ true) × HasProof W [] r
+
+-- in every linked set in which the crate has this view, each solution is one by the candidates that are considered
+abbrev pub SolutionsAreByCandidates : Type 0
+SolutionsAreByCandidates = (m : Meaning) → is_declared_view m.view ≡ true → ImplsAreDetermined m.view → SolutionsAreCandidates m

@@ -1,0 +1,55 @@
+-- Declarations as they are to be, up to lifetimes.
+use Rattle.std.specs.Prelude.{◌≡◌, ◌≤◌, ℕ, suc, Bool, true, false, ◌&&◌, not, List, length}
+use Rattle.std.specs.List.{list_all}
+use Rattle.model.specs.Label.{Label, of_lifetime, param, placeholder, infer, canonical, bound, fn_ptr, principal}
+use Rattle.model.specs.Trees.{Trees, some_node, Single}
+use Rattle.model.specs.Worlds.{World, Reference, StructDecl, TraitDecl, ImplDecl, structs_named}
+use Rattle.model.specs.Proofs.{In}
+use Rattle.type_terms.specs.Made.{terms}
+use Rattle.type_terms.specs.Made.{is_made}
+
+-- of open places only parameters stand in declarations
+abbrev pub is_declared : Label → Bool
+is_declared (placeholder k i) = false
+is_declared (infer k i) = false
+is_declared (canonical k i) = false
+is_declared (bound k j i) = false
+is_declared l = true
+
+-- a binder that counts its lifetimes
+abbrev pub is_counted : Label → Bool
+is_counted (fn_ptr (suc n)) = true
+is_counted (principal (suc n) t) = true
+is_counted l = false
+
+-- terms that are made as they are to be, and bind no lifetimes
+abbrev pub are_terms : Trees → Bool
+are_terms t = is_made is_declared terms t && not (some_node is_counted t)
+
+abbrev pub IsDeclared : Trees → Type 0
+IsDeclared t = are_terms t ≡ true
+
+abbrev pub are_references : List Reference → Bool
+are_references rs = list_all (λ r. are_terms r.args) rs
+
+-- all that the view declares is made so
+abbrev pub is_declared_view : World → Bool
+is_declared_view V =
+    list_all (λ (x : StructDecl). list_all are_terms x.fields) V.structs
+    && (list_all (λ (x : TraitDecl). are_references x.bounds) V.traits && list_all (λ (i : ImplDecl). are_terms i.header.args && are_references i.clauses) V.impls)
+
+-- a name stands for at most one struct
+abbrev pub StructsAreOne : World → Type 0
+StructsAreOne V = (s : ℕ) → length (structs_named V s) ≤ 1
+
+-- a field of a struct is one term
+abbrev pub FieldsAreOne : World → Type 0
+FieldsAreOne V = (x : StructDecl) (t : Trees) → In x V.structs → In t x.fields → Single t
+
+abbrev pub is_lifetime_parameter : Label → Bool
+is_lifetime_parameter (param of_lifetime i) = true
+is_lifetime_parameter l = false
+
+-- the bounds of traits are up to lifetimes, so that no lifetime parameter stands there
+abbrev pub BoundsAreErased : World → Type 0
+BoundsAreErased V = (x : TraitDecl) (r : Reference) → In x V.traits → In r x.bounds → some_node is_lifetime_parameter r.args ≡ false

@@ -1,0 +1,32 @@
+-- Which references that may hold unknowns are known to a crate: those of which no other crate can have an impl for an instance.
+use Rattle.std.specs.Prelude.{◌≡◌, ℕ, Bool, true, IsTrue, not, ◌&&◌, List, [], None}
+use Rattle.std.specs.List.{list_any}
+use Rattle.model.specs.Worlds.{World, Reference, view_of}
+use Rattle.model.specs.Rules.{Rule, rules, strict_supertraits}
+use Rattle.model.specs.Proofs.{In, Every, HasProof}
+use Rattle.model.specs.Walks.{visited, is_known_in}
+use Rattle.model.specs.Answers.{is_closed}
+use Rattle.model.specs.Renumbering.{View}
+use Rattle.model.specs.LinkedSet.{LinkedSet, is_open_place}
+
+-- known as it is written, and no type that its open walk visits is a variable: else a crate that uses this one may write its own
+-- type there
+abbrev pub is_knowable : World → ℕ → Reference → Bool
+is_knowable V c r = is_known_in V c r && not (list_any is_open_place (visited V None r.args))
+
+-- in a linked set what has a proof has its strict supertraits proved
+abbrev pub SupersStand : World → Type 0
+SupersStand W = (r : Reference) → IsTrue (is_closed r.args) → HasProof W [] r → Every (HasProof W []) (strict_supertraits W r)
+
+-- where c knows a reference, what proves it in the set is a rule of c's view, with proved premises
+abbrev pub WhatIsKnownFollowsByTheView : Type 0
+WhatIsKnownFollowsByTheView =
+    (W : World) (vs : List View) (rank : ℕ → ℕ) → LinkedSet W vs rank
+    → (c : ℕ) (V : World) → view_of W c ≡ V → (r : Reference) → IsTrue (is_closed r.args) → is_known_in V c r ≡ true → HasProof W [] r
+    → (u : Rule) × In u (rules V [] r) × Every (HasProof W []) u.premises
+
+-- whether c knows it or not, its supertraits by the view have proofs
+abbrev pub SupertraitsByTheViewStand : Type 0
+SupertraitsByTheViewStand =
+    (W : World) → SupersStand W → (c : ℕ) (V : World) → view_of W c ≡ V → (r : Reference) → IsTrue (is_closed r.args) → HasProof W [] r
+    → Every (HasProof W []) (strict_supertraits V r)

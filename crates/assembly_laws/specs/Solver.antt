@@ -1,0 +1,212 @@
+-- The solver: the plan of each goal, and what it means.
+use Rattle.std.specs.Prelude.{◌≡◌, ℕ, zero, ◌+◌, ◌*◌, max, Bool, true, false, ◌||◌, ◌&&◌, not, if◌then◌else◌, List, [], ◌∷◌, ◌++◌, map, length, Option, Some, None, is_some, fold}
+use Rattle.std.specs.List.{list_any}
+use Rattle.model.specs.Trees.{none, is_no_tree}
+use Rattle.model.specs.Worlds.{World, Reference, StructDecl, TraitDecl, ImplDecl}
+use Rattle.model.specs.Rules.{strict_supertraits, together}
+use Rattle.model.specs.Proofs.{HasProof}
+use Rattle.model.specs.Answers.{is_closed}
+use Rattle.infer_table.specs.Canonical.{CanonicalForm}
+use Rattle.infer_table.specs.declared.canonical.CanonicalVarKind.{CanonicalVarKind}
+use Rattle.infer_table.specs.declared.canonical.CanonicalVarKind.TheVariants.{PlaceholderTy, PlaceholderConst}
+use Rattle.infer_table.specs.declared.certainty.TypingMode.{TypingMode}
+use Rattle.infer_table.specs.declared.certainty.TypingMode.TheVariants.{Coherence, PostAnalysis}
+use Rattle.infer_table.specs.Responses.{AnswerTrees}
+use Rattle.evaluation.specs.declared.candidate.CandidateSource.{CandidateSource}
+use Rattle.evaluation.specs.declared.candidate.CandidateSource.TheVariants.{Impl, BuiltinImpl, ParamEnv}
+use Rattle.evaluation.specs.declared.candidate.BuiltinImplSource.TheVariants.{Trivial, Object}
+use Rattle.evaluation.specs.declared.candidate.ParamEnvSource.TheVariants.{Global, NonGlobal}
+use Rattle.evaluation.specs.Table.{workings}
+use Rattle.evaluation.specs.Candidate.{Considered}
+use Rattle.evaluation.specs.Handler.{Handled}
+use Rattle.table_laws.specs.Content.{Fact, fact_of, trait_of}
+use Rattle.table_laws.specs.Frames.{kinds_known, FrameTable}
+use Rattle.table_laws.specs.Answers.{has_values}
+use Rattle.table_laws.specs.Widths.{width, count, number_of}
+use Rattle.evaluation_laws.specs.Operations.{begin}
+use Rattle.evaluation_laws.specs.Tables.{frame_tables}
+use Rattle.evaluation.specs.Plans.{Plan, Planned, planned, each_of, first_alone}
+use Rattle.evaluation.specs.PlanAnswers.{all_merged, kept_merged, first_taken}
+use Rattle.assembly_laws.specs.Facts.{FollowsByView, is_coinductive_trait, reference_in, beside}
+use Rattle.assembly_laws.specs.Meaning.{Meaning, LinkedWith}
+use Rattle.assembly_laws.specs.Knowing.{is_knowable}
+use Rattle.assembly_laws.specs.Asking.{Asked, asked, clauses, self_of, begins_unknown}
+use Rattle.assembly_laws.specs.Candidates.{unsure, unknowable, by_clauses, built_in, by_impls, by_objects}
+
+abbrev pub Past : Type 0
+Past = List (Considered (workings frame_tables))
+
+-- ---- what was considered
+abbrev pub is_clause : CandidateSource → Bool
+is_clause (ParamEnv g) = true
+is_clause s = false
+
+abbrev pub is_non_global : CandidateSource → Bool
+is_non_global (ParamEnv NonGlobal) = true
+is_non_global s = false
+
+abbrev pub is_global : CandidateSource → Bool
+is_global (ParamEnv Global) = true
+is_global s = false
+
+abbrev pub is_impl : CandidateSource → Bool
+is_impl (Impl i) = true
+is_impl s = false
+
+abbrev pub is_object : CandidateSource → Bool
+is_object (BuiltinImpl (Object i)) = true
+is_object s = false
+
+abbrev pub is_trivial : CandidateSource → Bool
+is_trivial (BuiltinImpl Trivial) = true
+is_trivial s = false
+
+abbrev pub from : (CandidateSource → Bool) → Considered (workings frame_tables) → Bool
+from p c = p c.spec.source
+
+-- some candidate from there was not refused
+abbrev pub holds_from : (CandidateSource → Bool) → Past → Bool
+holds_from p seen = list_any (λ (c : Considered (workings frame_tables)). from p c && is_some c.response) seen
+
+-- it gives no types and consts, and says nothing of lifetimes
+abbrev pub says_nothing : Option AnswerTrees → Bool
+says_nothing None = false
+says_nothing (Some r) = not (has_values r) && is_no_tree r.constraints
+
+abbrev pub gives_none : Option AnswerTrees → Bool → Bool → Bool
+gives_none (Some r) true otherwise = not (has_values r)
+gives_none r b otherwise = otherwise
+
+-- the first from there that was not refused gives no types and consts
+abbrev pub oldest_gives_none : (CandidateSource → Bool) → Bool → Past → Bool
+oldest_gives_none p otherwise [] = otherwise
+oldest_gives_none p otherwise (c ∷ seen) = oldest_gives_none p (gives_none c.response (from p c) otherwise) seen
+
+-- which candidates are merged where no where-clause is preferred: no impl beside a bound of a `dyn` that gives no values, and no
+-- global where-clause beside anything else
+abbrev pub remain : Past → CandidateSource → Bool
+remain seen s = not (is_impl s && oldest_gives_none is_object false seen)
+
+abbrev pub remains : Past → CandidateSource → Bool
+remains seen s = remain seen s && (not (is_global s) || not (holds_from (λ r. remain seen r && not (is_global r)) seen))
+
+-- a where-clause that is not global and says nothing of the goal's variables
+abbrev pub is_settled : Past → Bool
+is_settled seen = list_any (λ (c : Considered (workings frame_tables)). from is_non_global c && says_nothing c.response) seen
+
+-- ---- plans
+module _ (applicable : AnswerTrees → Bool) (same : AnswerTrees → AnswerTrees → Bool) (begin_table : FrameTable) where
+  abbrev pub merged : (CandidateSource → Bool) → Past → Plan frame_tables
+  merged kept seen = kept_merged frame_tables applicable same begin_table (from kept) seen
+
+  -- outside coherence: the trivial rule wins; then where-clauses, if one is not global; then the rest
+  abbrev pub preferred : Past → Plan frame_tables
+  preferred seen =
+      if holds_from is_trivial seen then merged is_trivial seen
+      else if holds_from is_non_global seen then first_taken frame_tables applicable same begin_table (from is_clause) seen
+      else merged (remains seen) seen
+
+  -- in coherence all are merged
+  abbrev pub everything : Past → Plan frame_tables
+  everything seen = all_merged frame_tables applicable same begin_table seen
+
+  abbrev pub in_coherence : World → ℕ → Asked → Plan frame_tables
+  in_coherence V crate a =
+      let all = by_clauses V a (clauses a) ++ (built_in V a ++ (by_impls V a V.impls ++ by_objects V a)) in
+      if is_knowable V crate a.reference
+      then each_of frame_tables all everything []
+      else first_alone frame_tables (unknowable V a) (λ seen. each_of frame_tables all everything seen) everything []
+
+  abbrev pub outside_coherence : World → Asked → Plan frame_tables
+  outside_coherence V a =
+      each_of frame_tables (by_clauses V a (clauses a) ++ built_in V a)
+      (λ seen. if is_settled seen then preferred seen else each_of frame_tables (by_impls V a V.impls ++ by_objects V a) preferred seen)
+      []
+
+  abbrev pub by_mode : Meaning → TypingMode → Asked → Plan frame_tables
+  by_mode m Coherence a = in_coherence m.view m.crate a
+  by_mode m PostAnalysis a = outside_coherence m.view a
+
+  -- a goal that is not decided, or whose self type is unknown, is left open
+  abbrev pub plan_for : Meaning → TypingMode → Option Asked → Plan frame_tables
+  plan_for m mode None = each_of frame_tables (unsure ∷ []) everything []
+  plan_for m mode (Some a) =
+      if not m.is_sound || begins_unknown a.kinds (self_of a) then each_of frame_tables (unsure ∷ []) everything [] else by_mode m mode a
+
+-- ---- numbers
+abbrev pub greatest : {A : Type 0} → (A → ℕ) → List A → ℕ
+greatest f xs = fold max zero (map f xs)
+
+abbrev pub width_of : Reference → ℕ
+width_of r = max (count r.args) (width r.args)
+
+abbrev pub supers_of : World → TraitDecl → ℕ
+supers_of V x = length (strict_supertraits V (record { trait = x.name; args = none }))
+
+-- the longest list of types, bounds or fields in the view, or of a trait's supertraits
+abbrev pub declared_width : World → ℕ
+declared_width V =
+    max (greatest (λ (x : StructDecl). max (count (together x.fields)) (greatest width x.fields)) V.structs)
+    (max (greatest (λ (x : TraitDecl). max (supers_of V x) (max (length x.bounds) (greatest width_of x.bounds))) V.traits)
+    (greatest (λ (i : ImplDecl). max (width_of i.header) (greatest width_of i.clauses)) V.impls))
+
+abbrev pub clauses_in : World → ℕ
+clauses_in V = fold ◌+◌ zero (map (λ (i : ImplDecl). length i.clauses) V.impls)
+
+abbrev pub widest_of : World → CanonicalForm → ℕ
+widest_of V f = max (number_of (record { form = f; coinductive = false })) (declared_width V)
+
+-- the clauses of all impls, the supertraits of the goal for each bound of a `dyn` and once more, and what the rows ask
+abbrev pub number_at : World → ℕ → ℕ
+number_at V m = clauses_in V + ((m + (m + 1)) * m + (4 * m + 4))
+
+-- one for each where-clause and impl, for each row, for each supertrait of an upcast, for each bound of a `dyn`, and the unknowable one
+abbrev pub most_candidates : World → CanonicalForm → ℕ
+most_candidates V f = length V.impls + (3 * widest_of V f + 13) + count f.goal.environment
+
+-- ---- where solutions are looked for
+abbrev pub has_placeholder : List CanonicalVarKind → Bool
+has_placeholder [] = false
+has_placeholder (PlaceholderTy ∷ ks) = true
+has_placeholder (PlaceholderConst ∷ ks) = true
+has_placeholder (k ∷ ks) = has_placeholder ks
+
+-- in coherence in every linked set with the crate, for goals without where-clauses and placeholders; nowhere outside it
+pub record Searched (m : Meaning) (f : CanonicalForm) : Type 0 where
+  pub linked : LinkedWith m
+  pub no_clauses : f.goal.environment ≡ none
+  pub no_placeholders : has_placeholder (kinds_known f.kinds) ≡ false
+
+abbrev pub world_of : Meaning → TypingMode → CanonicalForm → Type 0
+world_of m Coherence f = Searched m f
+world_of m PostAnalysis f = ⊥
+
+pub record IsSolution (W : World) (f : Fact) : Type 0 where
+  pub asks : beside f (reference_in f) ≡ f
+  pub proper : f.proper ≡ true
+  pub closed : is_closed (reference_in f).args ≡ true
+  pub proof : HasProof W [] (reference_in f)
+
+abbrev pub proves_in : (m : Meaning) (mode : TypingMode) (f : CanonicalForm) → world_of m mode f → Fact → Type 0
+proves_in m Coherence f w g = IsSolution w.linked.set g
+proves_in m PostAnalysis f w g = ⊥
+
+-- ---- the handler
+module _ (applicable : AnswerTrees → Bool) (same : AnswerTrees → AnswerTrees → Bool) where
+  abbrev pub solver_planned : Meaning → TypingMode → CanonicalForm → Planned frame_tables
+  solver_planned m mode f = record {
+    goal = λ v. fact_of (record { form = f; coinductive = false }) v;
+    begin = begin (kinds_known f.kinds);
+    plan = plan_for applicable same (begin (kinds_known f.kinds)) m mode (asked m.view f);
+    Rule = FollowsByView m.view;
+    World = world_of m mode f;
+    Proves = proves_in m mode f;
+    coinductive = is_coinductive_trait m.view (trait_of f.goal.predicate);
+    candidates = most_candidates m.view f;
+    number = number_at m.view (widest_of m.view f);
+    widest = widest_of m.view f;
+  }
+
+  -- what the solver means for a goal
+  abbrev pub solver_handled : Meaning → TypingMode → CanonicalForm → Handled frame_tables
+  solver_handled m mode f = planned frame_tables (solver_planned m mode f)

@@ -1,0 +1,25 @@
+-- The solutions of the goals that a goal's frame asks are looked for wherever those of the goal are.
+use Rattle.std.specs.Prelude.{◌≡◌, Bool}
+use Rattle.infer_table.specs.Canonical.{CanonicalForm}
+use Rattle.infer_table.specs.declared.certainty.TypingMode.{TypingMode}
+use Rattle.infer_table.specs.Responses.{AnswerTrees}
+use Rattle.evaluation.specs.Handler.{Handled}
+use Rattle.evaluation.specs.History.{evaluate, asks, CameInOrder}
+use Rattle.evaluation.specs.Promises.{frame_of_goal, Anything, History}
+use Rattle.table_laws.specs.Content.{Fact, Question}
+use Rattle.evaluation_laws.specs.Tables.{frame_tables}
+use Rattle.assembly_laws.specs.Meaning.{Meaning}
+use Rattle.assembly_laws.specs.Solver.{solver_handled}
+
+-- what has a proof in a linked set for the one goal has one in some set for the other
+abbrev pub ProvesNoMore : Handled frame_tables → Handled frame_tables → Type 0
+ProvesNoMore h nested = (x : h.World) → (y : nested.World) × ((f : Fact) → h.Proves x f → nested.Proves y f)
+
+-- whatever was answered
+abbrev pub KeepWorlds : Type 0
+KeepWorlds =
+    (applicable : AnswerTrees → Bool) (same : AnswerTrees → AnswerTrees → Bool) (m : Meaning) (mode : TypingMode) (f : CanonicalForm)
+    (heard : History frame_tables (solver_handled applicable same m mode f)) (q : Question)
+    → CameInOrder (Anything frame_tables (solver_handled applicable same m mode f)) (frame_of_goal frame_tables (solver_handled applicable same m mode f)) heard
+    → asks (frame_of_goal frame_tables (solver_handled applicable same m mode f)) heard ≡ evaluate q
+    → ProvesNoMore (solver_handled applicable same m mode f) (solver_handled applicable same m mode q.form)

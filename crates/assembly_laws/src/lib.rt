@@ -1,0 +1,64 @@
+//! What the solver means for a goal, and that its candidates cover each solution in every linked set.
+#![tactic(auto)]
+
+ghost use Rattle.assembly_laws.specs.Facts.{ProofsOfFactsAreProofs, ReferencesComeBack};
+ghost use Rattle.assembly_laws.specs.Knowing.{WhatIsKnownFollowsByTheView, SupertraitsByTheViewStand};
+ghost use Rattle.assembly_laws.specs.Cover.{SolutionsAreByCandidates, GivenIsRealized};
+ghost use Rattle.assembly_laws.specs.Lawful.{SolverIsLawfulByCandidates, SoundAndNarrowIsLawful, RowsAreSound, UnsizingIsSound};
+ghost use Rattle.assembly_laws.specs.Worlds.{KeepWorlds};
+ghost use Rattle.assembly_laws.specs.CoverLaw.{CoherenceIsCovered, CoherenceIsLawful, ErasedBoundsAreLeft};
+
+/// References with clauses come back from facts, and a proof of facts by the rules of a view is one of the model.
+pub fn facts_are_references()
+    ensures back { ReferencesComeBack }
+    ensures proofs { ProofsOfFactsAreProofs }
+{}
+
+/// In a linked set what a crate knows follows by a rule of its view, and the supertraits that the view gives to what has a proof
+/// have proofs, if in the set all supertraits of what has a proof have proofs.
+pub fn views_tell()
+    ensures known { WhatIsKnownFollowsByTheView }
+    ensures supertraits { SupertraitsByTheViewStand }
+{}
+
+/// In every linked set in which the crate has this view, a solution of a goal without where-clauses and placeholders is one by the
+/// unknowable candidate; where the crate knows the goal, whatever its unknowns stand for, it is one by a where-clause, a built-in
+/// rule, an impl or an object bound.
+pub fn solutions_are_by_candidates()
+    ensures { SolutionsAreByCandidates }
+{}
+
+/// Terms for a candidate's own variables with which its equations hold and its premises are solutions realize the goal's values in
+/// the tables of frames.
+pub fn given_terms_realize()
+    ensures { GivenIsRealized }
+{}
+
+/// The solutions of the goals that a goal's frame asks are looked for wherever those of the goal are.
+pub fn worlds_are_kept()
+    ensures { KeepWorlds }
+{}
+
+/// In coherence each solution of a goal is realized by a candidate that was considered before the answer; and where the candidates
+/// are lawful, so is the handler. Bounds of `dyn` types are terms where the bounds of traits are up to lifetimes.
+pub fn coherence_is_covered()
+    ensures covered { CoherenceIsCovered }
+    ensures lawful { CoherenceIsLawful }
+    ensures bounds { ErasedBoundsAreLeft }
+{}
+
+/// The solver keeps the laws of handlers, where the candidates by types that unsize to a `dyn`, by impls and by object bounds are
+/// sound and the self type is known. That no candidate is wider than the goal and what is declared, and that there are not too
+/// many, follows from how the view is declared.
+pub fn solver_is_lawful()
+    ensures handler { SolverIsLawfulByCandidates }
+    ensures candidates { SoundAndNarrowIsLawful }
+{}
+
+/// Sound are the candidates by the built-in rules of `Sized`, `Copy` and `Clone`, auto traits, `Tuple`, `FnPtr`, and calls of fn
+/// pointers; and those by arrays that unsize to slices, and by structs whose last field unsizes. Of what is declared it is asked only
+/// that terms are made as they are to be.
+pub fn rows_are_sound()
+    ensures rows { RowsAreSound }
+    ensures unsizing { UnsizingIsSound }
+{}
