@@ -93,7 +93,7 @@ fn pairs(cx: &mut Interner, alloc: Global, levels: u32) -> Result<Ty, Fault>
 
 /// Puts `u8` for the parameter of a type that doubles at each of so many levels; answers how often another type came out.
 ///
-/// A fold visits a term in each of its places, so this takes a time that doubles with each level too.
+/// It has a few handles for each level, and the time goes by these.
 pub fn doubled(alloc: Global, levels: u32) -> Result<u32, InstantiateError> {
     let mut cx = Interner::new(alloc, HANDLES);
     let (_, args) = type_and_args(&mut cx, alloc)?;

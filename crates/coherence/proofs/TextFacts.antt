@@ -10,8 +10,8 @@ use Rattle.model.specs.Proofs.{In}
 use Rattle.model.proofs.Members.{here, there, in-nothing, in-right, member-some, not-both}
 use Rattle.model.proofs.Entries.{map-in}
 use Rattle.coherence_text.specs.Declarations.{Declarations, world_of, first_impl, NamedCrate, NamedStruct, NamedTrait, Question, Known, a_crate, a_struct, a_trait, known, crate_known, struct_known, trait_known, first_trait}
-use Rattle.coherence_text.specs.Mentions.{trait_sort, trait_mention, crate_mention, type_mentions, mentions}
-use Rattle.coherence_text.specs.Faults.{fault_of, is_faulty, mentions_unknown, mentions_other_sort, is_other_sort, is_sort}
+use Rattle.coherence_text.specs.Mentions.{trait_kind, trait_mention, crate_mention, type_mentions, mentions}
+use Rattle.coherence_text.specs.Faults.{fault_of, is_faulty, mentions_unknown, mentions_other_kind, is_of_other_kind, is_of_kind}
 use Rattle.coherence_text.specs.Syntax.{Line, TypeTree, of_primitive, never_type, named, crate_line, struct_line, trait_line, impl_line, prove_line}
 use Rattle.coherence_text.specs.Adding.{added, reference_of, type_label, known_struct, known_crate, known_trait, struct_of, trait_of, impl_of, nothing_declared}
 use Rattle.coherence.specs.Sessions.{IsOfText, judged_world}
@@ -31,7 +31,7 @@ pub record IsPlainText (d : Declarations) : Type 0 where
   pub no_fields : (s : NamedStruct) → In s d.structs → s.item.fields ≡ []
   pub no_bounds : (t : NamedTrait) → In t d.traits → t.item.bounds ≡ []
 
--- ---- what a name of the sort of traits stands for
+-- ---- what the name of a trait stands for
 module _ (d : Declarations) (own : IsPlainText d) where
   named-trait : (n : List ℕ) (k h : ℕ) → trait_known d.traits n ≡ Some (a_trait k h) → first_trait ≤ k
   named-trait n k h e = by (find (λ (t : NamedTrait). bytes_eq t.text n) d.traits) refl e
@@ -72,13 +72,13 @@ module _ (d : Declarations) (own : IsPlainText d) where
       is-known : is_none (known d t) ≡ true → ⊥
       is-known q = not-both (mentions_unknown d l) (member-some (λ m. is_none (known d m.name)) (mentions l) (trait_mention t) at q) here5
 
-      right-sort : (k : Known) → known d t ≡ Some k → is_sort trait_sort k ≡ false → ⊥
-      right-sort k e q = not-both (mentions_other_sort d l) (member-some (is_other_sort d) (mentions l) (trait_mention t) at (rw e (rw q refl))) here7
+      right-kind : (k : Known) → known d t ≡ Some k → is_of_kind trait_kind k ≡ false → ⊥
+      right-kind k e q = not-both (mentions_other_kind d l) (member-some (is_of_other_kind d) (mentions l) (trait_mention t) at (rw e (rw q refl))) here7
 
       by : (o : Option Known) → known d t ≡ o → first_trait ≤ known_trait (known d t)
       by None e = absurd (is-known (rw e refl))
-      by (Some (a_crate k)) e = absurd (right-sort (a_crate k) e refl)
-      by (Some (a_struct k h)) e = absurd (right-sort (a_struct k h) e refl)
+      by (Some (a_crate k)) e = absurd (right-kind (a_crate k) e refl)
+      by (Some (a_struct k h)) e = absurd (right-kind (a_struct k h) e refl)
       by (Some (a_trait k h)) e = rw e (known-trait t k h e)
 
   -- ---- what a line without a fault adds

@@ -25,13 +25,13 @@ abbrev pub impl_home : Declarations → ℕ → ℕ
 impl_home d k = unwrap_or (option_map (λ i. i.home) (slice_get d.impls (k - first_impl))) core
 
 -- its number among those of its crate, from 1
-abbrev pub impl_number : Declarations → ℕ → ℕ
-impl_number d k = count_by (λ i. i.home == impl_home d k) (take (suc (k - first_impl)) d.impls)
+abbrev pub number_in_crate : Declarations → ℕ → ℕ
+number_in_crate d k = count_by (λ i. i.home == impl_home d k) (take (suc (k - first_impl)) d.impls)
 
 abbrev pub verdict_line : Declarations → ℕ → Verdict → Answer
 verdict_line d c verdicts.Accepted = accepted (crate_text d c)
-verdict_line d c (verdicts.Orphan k) = nonlocal (crate_text d c) (impl_number d k.index)
-verdict_line d c (verdicts.Overlap k j) = overlap (crate_text d c) (impl_number d k.index) (crate_text d (impl_home d j.index)) (impl_number d j.index)
+verdict_line d c (verdicts.Orphan k) = nonlocal (crate_text d c) (number_in_crate d k.index)
+verdict_line d c (verdicts.Overlap k j) = overlap (crate_text d c) (number_in_crate d k.index) (crate_text d (impl_home d j.index)) (number_in_crate d j.index)
 
 abbrev pub prove_line : ℕ → ProveAnswer → Answer
 prove_line n answers.Yes = yes n

@@ -12,13 +12,13 @@ use Rattle.coherence.specs.Verdicts.{IsVerdictOf, IsAnswerTo}
 use Rattle.coherence.specs.Lines.{verdict_line, prove_line, CrateLines, QuestionLines}
 
 -- the impls that a verdict names are there
-abbrev pub IsImplNumber : Declarations → ℕ → Type 0
-IsImplNumber d k = (first_impl ≤ k) × (k < length d.impls + first_impl)
+abbrev pub IsImplId : Declarations → ℕ → Type 0
+IsImplId d k = (first_impl ≤ k) × (k < length d.impls + first_impl)
 
 abbrev pub NamesImpls : Declarations → Verdict → Type 0
 NamesImpls d verdicts.Accepted = Unit {0}
-NamesImpls d (verdicts.Orphan k) = IsImplNumber d k.index
-NamesImpls d (verdicts.Overlap k j) = IsImplNumber d k.index × IsImplNumber d j.index
+NamesImpls d (verdicts.Orphan k) = IsImplId d k.index
+NamesImpls d (verdicts.Overlap k j) = IsImplId d k.index × IsImplId d j.index
 
 -- ---- the line of one crate, and of one question
 abbrev pub WritesVerdict : ℕ → Declarations → ℕ → Option (List ℕ) → Option (List ℕ) → Type 0

@@ -7,8 +7,8 @@ ghost use Rattle.coherence_text.specs.Numbered.{IsNumbered};
 ghost use Rattle.coherence_text.specs.Output.{output_text};
 ghost use Rattle.coherence_text.specs.Views.{answer_of};
 ghost use Rattle.coherence.specs.Streams.{AppendsPrefix};
-ghost use Rattle.coherence.specs.Lines.{crate_text, impl_home, impl_number, verdict_line, prove_line};
-ghost use Rattle.coherence.specs.Progress.{IsImplNumber, NamesImpls};
+ghost use Rattle.coherence.specs.Lines.{crate_text, impl_home, number_in_crate, verdict_line, prove_line};
+ghost use Rattle.coherence.specs.Progress.{IsImplId, NamesImpls};
 
 use crate::session::{ProveAnswer, Verdict};
 use crate::status::RunFault;
@@ -33,9 +33,9 @@ pub fn write_line<W: Write>(
 }
 
 /// An impl's number among those of its crate, from 1.
-fn impl_number(workspace: &Workspace, id: ImplId) -> u32
-    requires { IsImplNumber workspace.now id.index }
-    ensures { result ≡ impl_number workspace.now id.index }
+fn number_in_crate(workspace: &Workspace, id: ImplId) -> u32
+    requires { IsImplId workspace.now id.index }
+    ensures { result ≡ number_in_crate workspace.now id.index }
 {
     let (_owner, number) = workspace.impl_place(id);
     number
@@ -43,7 +43,7 @@ fn impl_number(workspace: &Workspace, id: ImplId) -> u32
 
 /// The name of an impl's crate.
 fn owner_name(workspace: &Workspace, id: ImplId) -> &[u8]
-    requires number { IsImplNumber workspace.now id.index }
+    requires number { IsImplId workspace.now id.index }
     requires numbered { IsNumbered workspace.now }
     ensures { result.now ≡ crate_text workspace.now (impl_home workspace.now id.index) }
 {
@@ -63,13 +63,13 @@ pub fn crate_output<'w>(workspace: &'w Workspace, id: CrateId, verdict: Verdict)
         Verdict::Accepted => Output::Accepted { name },
         Verdict::Orphan(orphan) => Output::Nonlocal {
             name,
-            number: impl_number(workspace, orphan),
+            number: number_in_crate(workspace, orphan),
         },
         Verdict::Overlap(later, earlier) => Output::Overlap {
             name,
-            number: impl_number(workspace, later),
+            number: number_in_crate(workspace, later),
             other: owner_name(workspace, earlier),
-            other_number: impl_number(workspace, earlier),
+            other_number: number_in_crate(workspace, earlier),
         },
     }
 }

@@ -1,13 +1,13 @@
 //! Pairs of impls over headers without parameters: two of them overlap exactly if their headers are one.
 
-ghost use Rattle.std.specs.Prelude.{◌≡◌, ◌+◌, ◌-◌, ◌<◌, ◌≤◌, ◌↔◌, ℕ, true, length, Some, slice_get, IsTrue, IfSome, IfNone};
-ghost use Rattle.model.specs.Worlds.{ImplDecl, sees};
+ghost use Rattle.std.specs.Prelude.{◌≡◌, ◌+◌, ◌-◌, ◌<◌, ◌≤◌, ◌↔◌, ℕ, length, Some, slice_get, IsTrue, IfSome, IfNone};
+ghost use Rattle.model.specs.Worlds.{ImplDecl};
 ghost use Rattle.model.specs.Proofs.{In};
 ghost use Rattle.coherence_text.specs.Declarations.{world_of, first_impl};
 ghost use Rattle.coherence_text.specs.Views.{impl_of};
 ghost use Rattle.coherence.specs.Sessions.{IsOfText};
-ghost use Rattle.coherence.specs.Verdicts.{IsPair, NoneOverlap, IsFirstOverlap};
-ghost use Rattle.coherence.specs.Partners.{IsFirstPartner, HasNoPartner};
+ghost use Rattle.coherence.specs.Verdicts.{NoneOverlap, IsFirstOverlap};
+ghost use Rattle.coherence.specs.Partners.{IsCompared, IsFirstPartner, HasNoPartner, IsFirstPairAt, HasNoPairAt};
 
 use crate::orphans::impl_at;
 use coherence_text::{ImplEntry, Workspace};
@@ -18,7 +18,7 @@ fn is_partner(workspace: &Workspace, crate_id: CrateId, entry: ImplEntry, id: Im
     requires declared { crate_id.index < length workspace.now.crates }
     requires first { first_impl ≤ id.index }
     requires there { id.index < length workspace.now.impls + first_impl }
-    ensures { (j : ImplDecl) → slice_get workspace.now.impls (id.index - first_impl) ≡ Some j → (IsTrue result ↔ ((sees (world_of workspace.now) crate_id.index j.home ≡ true) × (crate_id.index ≡ j.home → id.index < entry.id.index))) }
+    ensures { (j : ImplDecl) → slice_get workspace.now.impls (id.index - first_impl) ≡ Some j → (IsTrue result ↔ IsCompared (world_of workspace.now) crate_id.index entry.id.index j id.index) }
 {
     let (owner, _number) = workspace.impl_place(id);
     workspace.sees(crate_id, owner) && (owner.index != crate_id.index || id.index < entry.id.index)
@@ -56,8 +56,8 @@ fn pair_at(workspace: &Workspace, crate_id: CrateId, place: usize) -> Option<(Im
     requires parsed { IsOfText workspace.now }
     requires declared { crate_id.index < length workspace.now.crates }
     requires there { place < length workspace.now.impls }
-    ensures first { IfSome result (λ pair. (i : ImplDecl) × (slice_get workspace.now.impls place ≡ Some i) × (i.name ≡ pair.0.index) × IsFirstPartner (world_of workspace.now) crate_id.index i pair.1.index) }
-    ensures none { IfNone result ((i : ImplDecl) × (slice_get workspace.now.impls place ≡ Some i) × (i.home ≡ crate_id.index → HasNoPartner (world_of workspace.now) crate_id.index i)) }
+    ensures first { IfSome result (λ pair. IsFirstPairAt workspace.now crate_id.index place pair.0.index pair.1.index) }
+    ensures none { IfNone result (HasNoPairAt workspace.now crate_id.index place) }
 {
     let entry = impl_at(workspace, place);
     if entry.owner.index != crate_id.index {

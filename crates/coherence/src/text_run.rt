@@ -147,7 +147,7 @@ fn answer_text<W: Write>(
         Err(TextError::Text(fault)) => {
             let output = Output::Fault {
                 line: fault.line,
-                number: fault.number,
+                kind: fault.kind,
             };
             write_line(alloc, writer, &output)?;
             Ok(Status::TextFault)

@@ -13,7 +13,7 @@ use Rattle.std.specs.declared.hash.FoldHasher.{FoldHasher}
 use Rattle.std.specs.declared.hash.BuildHasherDefault.{BuildHasherDefault}
 use Rattle.std.proofs.Common.{Vec, Global}
 use Rattle.model.specs.Worlds.{World, core, sees, traits_named, structs_named}
-use Rattle.coherence_text.specs.Declarations.{Declarations, NamedCrate, NamedStruct, NamedTrait, Question as Asked, Known, a_crate, a_struct, a_trait, known, world_of, first_struct, first_trait, first_impl}
+use Rattle.coherence_text.specs.Declarations.{Declarations, NamedCrate, NamedStruct, NamedTrait, Question, Known, a_crate, a_struct, a_trait, known, world_of, first_struct, first_trait, first_impl}
 use Rattle.model.specs.Worlds.{ImplDecl}
 use Rattle.model.specs.Rules.{same_reference}
 use Rattle.std.specs.Map.{lookup}
@@ -27,8 +27,8 @@ use Rattle.coherence_text.specs.declared.declared.StructEntry.{StructEntry}
 use Rattle.coherence_text.specs.declared.declared.TraitEntry.{TraitEntry}
 use Rattle.coherence_text.specs.declared.declared.ImplEntry.{ImplEntry}
 use Rattle.coherence_text.specs.declared.declared.QuestionEntry.{QuestionEntry}
-use Rattle.coherence_text.specs.declared.declared.Question.{Question}
-use Rattle.coherence_text.specs.declared.declared.Question.TheVariants.{Prove}
+use Rattle.coherence_text.specs.declared.declared.Asked.{Asked}
+use Rattle.coherence_text.specs.declared.declared.Asked.TheVariants.{Prove}
 use Rattle.coherence_text.specs.declared.declared.Header.{Header}
 use Rattle.coherence_text.specs.declared.declared.Group.{Group}
 use Rattle.coherence_text.specs.declared.declared.Named.{Named}
@@ -64,7 +64,7 @@ numbered-trait d t i n h = record { has_core = i.has_core; crates = i.crates; st
 pub numbered-impl : (d : Declarations) (m : ImplDecl) → IsNumbered d → m.name ≡ length d.impls + first_impl → m.home < length d.crates → IsNumbered (with_impl d m)
 numbered-impl d m i n h = record { has_core = i.has_core; crates = i.crates; structs = i.structs; traits = i.traits; impls = Each-push d.impls m i.impls (n, h); questions = i.questions }
 
-pub numbered-question : (d : Declarations) (q : Asked) → IsNumbered d → q.asker < length d.crates → IsNumbered (with_question d q)
+pub numbered-question : (d : Declarations) (q : Question) → IsNumbered d → q.asker < length d.crates → IsNumbered (with_question d q)
 numbered-question d q i h = record { has_core = i.has_core; crates = i.crates; structs = i.structs; traits = i.traits; impls = i.impls; questions = Each-push d.questions q i.questions h }
 
 pub last-there : (d : Declarations) → IsNumbered d → last_crate d < length d.crates
@@ -162,7 +162,7 @@ trait-consistent t traits names items s key n v i behind text number home more n
     }
 
 -- ---- a question
-pub question-consistent : (t : Tables) (questions : Vec QuestionEntry Global) (asked : Vec Question Global) (q : QuestionEntry) → IsConsistent t
+pub question-consistent : (t : Tables) (questions : Vec QuestionEntry Global) (asked : Vec Asked Global) (q : QuestionEntry) → IsConsistent t
     → questions.items ≡ t.questions.items ++ q ∷ [] → asked.items ≡ t.asked.items ++ Prove q.asker ∷ [] → q.asker.index < length t.crates.items
     → IsConsistent (record t { questions = questions; asked = asked })
 question-consistent t questions asked q i behind also there =
@@ -183,7 +183,7 @@ question-consistent t questions asked q i behind also there =
 
 -- ---- an impl
 pub impl-consistent : (t : Tables) (impls : Vec ImplEntry Global) (headers : HashMap Header ℕ (BuildHasherDefault FoldHasher)) (groups : Vec Group Global) (last items : ℕ) (m : ImplEntry) → IsConsistent t
-    → impls.items ≡ t.impls.items ++ m ∷ [] → m.id.index ≡ length t.impls.items + 39 → m.owner.index ≡ last_crate (declared t) → m.number ≡ t.last_impls + 1 → last ≡ m.number → items ≡ t.last_items + 1
+    → impls.items ≡ t.impls.items ++ m ∷ [] → m.id.index ≡ length t.impls.items + 39 → m.owner.index ≡ last_crate (declared t) → m.number_in_crate ≡ t.last_impls + 1 → last ≡ m.number_in_crate → items ≡ t.last_items + 1
     → IsGrouped headers groups.items (t.impls.items ++ m ∷ [])
     → IsConsistent (record t { impls = impls; headers = headers; groups = groups; last_impls = last; last_items = items })
 impl-consistent t impls headers groups last items m i behind number home place now more grouped =
@@ -191,8 +191,8 @@ impl-consistent t impls headers groups last items m i behind number home place n
     let u : Tables = record t { impls = impls; headers = headers; groups = groups; last_impls = last; last_items = items } in
     let e : declared u ≡ with_impl d (impl_of m) = ap (λ ms. record d { impls = ms }) (ap (map impl_of) behind ∙ map_push impl_of t.impls.items m) in
     let count : (c : ℕ) → m.owner.index ≡ c → impls_of c (t.impls.items ++ m ∷ []) ≡ impls_of c t.impls.items + 1 = λ c h. count_by-push (λ x. x.owner.index == c) t.impls.items m ∙ ap (λ n. impls_of c t.impls.items + n) (counted m.owner.index c h) in
-    let last-number : m.number ≡ impls_of (last_crate d) (t.impls.items ++ m ∷ []) = place ∙ ap (λ n. n + 1) i.last_impls ∙ sym (count (last_crate d) home) in
-    let numbers : Each (λ k x. x.number ≡ impls_of x.owner.index (take (suc k) (t.impls.items ++ m ∷ []))) (t.impls.items ++ m ∷ []) =
+    let last-number : m.number_in_crate ≡ impls_of (last_crate d) (t.impls.items ++ m ∷ []) = place ∙ ap (λ n. n + 1) i.last_impls ∙ sym (count (last_crate d) home) in
+    let numbers : Each (λ k x. x.number_in_crate ≡ impls_of x.owner.index (take (suc k) (t.impls.items ++ m ∷ []))) (t.impls.items ++ m ∷ []) =
     Each-push t.impls.items m
     (λ k x g. i.numbers k x g ∙ ap (impls_of x.owner.index) (sym (take-push t.impls.items m (suc k) (omega (arith, slice_get_within t.impls.items k x g)))))
     (last-number ∙ ap (λ c. impls_of c (t.impls.items ++ m ∷ [])) (sym home) ∙ ap (impls_of m.owner.index) (sym (take-pushed t.impls.items m))) in
@@ -376,7 +376,7 @@ core-consistent t old zs x y key v behind ids updated none e number marked numbe
       };
       names = names-kept old t.names nobody (declared t) key (codes "core") v (a_crate 0) same value updated (λ m. ap (λ es. option_map known_of (lookup (λ k. bytes_eq m k.items) es)) empty)
           (subst (λ d. Names (known nobody) (known d) (codes "core") (a_crate 0)) (sym e) (names-crate nobody (record { text = codes "core"; item = record { name = core; uses = [] } }) refl));
-      numbers = subst (λ is. Each (λ k i. i.number ≡ impls_of i.owner.index (take (suc k) is)) is) (sym impls) (Each-nothing (λ k i. i.number ≡ impls_of i.owner.index (take (suc k) [])));
+      numbers = subst (λ is. Each (λ k i. i.number_in_crate ≡ impls_of i.owner.index (take (suc k) is)) is) (sym impls) (Each-nothing (λ k i. i.number_in_crate ≡ impls_of i.owner.index (take (suc k) [])));
       last_impls = no-impls ∙ sym (ap (impls_of (last_crate (declared t))) impls);
       last_items = no-items ∙ sym (ap last_items e);
     }

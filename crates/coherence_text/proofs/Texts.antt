@@ -7,6 +7,7 @@ use Rattle.std.proofs.lemmas.List.Sums.{take_while-cons}
 use Rattle.coherence_text.specs.Syntax.{Line, crate_line, struct_line, trait_line, impl_line, prove_line}
 use Rattle.coherence_text.specs.Declarations.{Declarations}
 use Rattle.coherence_text.specs.Adding.{added, nothing_declared}
+use Rattle.coherence_text.specs.FaultNumbers.{fault_number}
 use Rattle.coherence_text.specs.Text.{LineGives, blank, adds, onto_line, lines_of, text_limit, fits}
 use Rattle.coherence_text.specs.Numbered.{IsFew}
 use Rattle.coherence_text.specs.Refusals.{IsRefusal, IsTextError}
@@ -64,5 +65,5 @@ pub few-weaken : (d : Declarations) (j k : ℕ) → j ≤ k → IsFew d j → Is
 few-weaken d j k h f = record { few_crates = omega (arith, h, f.few_crates); few_structs = omega (arith, h, f.few_structs); few_traits = omega (arith, h, f.few_traits); few_impls = omega (arith, h, f.few_impls); few_questions = omega (arith, h, f.few_questions) }
 
 pub refusal_is : (bytes : List ℕ) (e : TextError) → length bytes ≤ text_limit → IsRefusal nothing_declared (lines_of bytes) e → IsTextError bytes e
-refusal_is bytes (errors.Text f) h g = fits (Err (f.line, f.number)) h g
+refusal_is bytes (errors.Text f) h g = fits (Err (f.line, fault_number f.kind)) h g
 refusal_is bytes errors.Memory h g = tt

@@ -7,7 +7,7 @@ use Rattle.coherence_text.specs.Syntax.{TypeTree, of_primitive, never_type, name
 use Rattle.coherence_text.specs.Declarations.{Declarations, NamedCrate, NamedStruct, NamedTrait, Question, Known, a_crate, a_struct, a_trait, known, first_struct, first_trait, first_impl}
 use Rattle.coherence_text.specs.Faults.{last_crate}
 
--- ---- numbers of mentioned names. A line without a fault mentions known names of the right sort, so the other cases don't come
+-- ---- numbers of mentioned names. A line without a fault mentions known names of the right kind, so the other cases don't come
 abbrev pub known_crate : Option Known → ℕ
 known_crate (Some (a_crate k)) = k
 known_crate _ = core

@@ -5,7 +5,7 @@ use Rattle.std.specs.Option.{option_map_or, option_and_then}
 use Rattle.std.specs.Str.{bytes_eq}
 use Rattle.model.specs.Worlds.{sees}
 use Rattle.coherence_text.specs.Syntax.{Line, crate_line, struct_line, trait_line, impl_line, prove_line}
-use Rattle.coherence_text.specs.Mentions.{Sort, crate_sort, struct_sort, trait_sort, Mention, mentions, declared_name}
+use Rattle.coherence_text.specs.Mentions.{ItemKind, crate_kind, struct_kind, trait_kind, Mention, mentions, declared_name}
 use Rattle.coherence_text.specs.Declarations.{Declarations, world_of, Known, a_crate, a_struct, a_trait, known}
 
 -- ---- 3: a struct, trait or impl before any crate
@@ -61,18 +61,18 @@ is_hidden_from d c m = option_map_or (λ h. not (sees (world_of d) c h)) (option
 abbrev pub mentions_hidden : Declarations → Line → Bool
 mentions_hidden d l = option_map_or (λ c. list_any (is_hidden_from d c) (mentions l)) (looking_crate d l) false
 
--- ---- 7: a mentioned name is known, and stands for something of another sort
-abbrev pub is_sort : Sort → Known → Bool
-is_sort crate_sort (a_crate k) = true
-is_sort struct_sort (a_struct k h) = true
-is_sort trait_sort (a_trait k h) = true
-is_sort _ _ = false
+-- ---- 7: a mentioned name is known, and stands for an item of another kind
+abbrev pub is_of_kind : ItemKind → Known → Bool
+is_of_kind crate_kind (a_crate k) = true
+is_of_kind struct_kind (a_struct k h) = true
+is_of_kind trait_kind (a_trait k h) = true
+is_of_kind _ _ = false
 
-abbrev pub is_other_sort : Declarations → Mention → Bool
-is_other_sort d m = option_map_or (λ k. not (is_sort m.sort k)) (known d m.name) false
+abbrev pub is_of_other_kind : Declarations → Mention → Bool
+is_of_other_kind d m = option_map_or (λ k. not (is_of_kind m.kind k)) (known d m.name) false
 
-abbrev pub mentions_other_sort : Declarations → Line → Bool
-mentions_other_sort d l = list_any (is_other_sort d) (mentions l)
+abbrev pub mentions_other_kind : Declarations → Line → Bool
+mentions_other_kind d l = list_any (is_of_other_kind d) (mentions l)
 
 -- ---- 16: a limit passed
 abbrev pub name_limit : ℕ
@@ -111,7 +111,7 @@ is_faulty d l n =
     (if n == 4 then declares_taken d l else
     (if n == 5 then mentions_unknown d l else
     (if n == 6 then mentions_hidden d l else
-    (if n == 7 then mentions_other_sort d l else
+    (if n == 7 then mentions_other_kind d l else
     (if n == 16 then passes_limit d l else false)))))
 
 -- the smallest number that applies

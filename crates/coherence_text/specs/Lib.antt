@@ -11,6 +11,7 @@ pub mod Text
 pub mod Output
 pub mod Stored
 pub mod LineViews
+pub mod FaultNumbers
 pub mod Reader
 pub mod Views
 pub mod Tables

@@ -16,8 +16,8 @@ use Rattle.coherence_text.specs.declared.syntax.WrittenType.{WrittenType}
 use Rattle.coherence_text.specs.declared.syntax.WrittenType.TheVariants as types
 use Rattle.coherence_text.specs.declared.syntax.Statement.{Statement}
 use Rattle.coherence_text.specs.declared.syntax.Statement.TheVariants as statements
-use Rattle.coherence_text.specs.declared.mention.Sort.{Sort}
-use Rattle.coherence_text.specs.declared.mention.Sort.TheVariants as sorts
+use Rattle.coherence_text.specs.declared.mention.ItemKind.{ItemKind}
+use Rattle.coherence_text.specs.declared.mention.ItemKind.TheVariants as kinds
 use Rattle.coherence_text.specs.declared.mention.Mention.{Mention}
 
 -- ---- tokens
@@ -87,10 +87,10 @@ line_of (statements.Trait n) = trait_line n.now
 line_of (statements.Impl t ty) = impl_line t.now (type_of ty)
 line_of (statements.Prove c ty t) = prove_line c.now (type_of ty) t.now
 
-abbrev pub sort_of : Sort → mention.Sort
-sort_of sorts.Crate = mention.crate_sort
-sort_of sorts.Struct = mention.struct_sort
-sort_of sorts.Trait = mention.trait_sort
+abbrev pub kind_of : ItemKind → mention.ItemKind
+kind_of kinds.Crate = mention.crate_kind
+kind_of kinds.Struct = mention.struct_kind
+kind_of kinds.Trait = mention.trait_kind
 
 abbrev pub mention_of : Mention → mention.Mention
-mention_of m = record { sort = sort_of m.sort; name = m.name.now }
+mention_of m = record { kind = kind_of m.kind; name = m.name.now }

@@ -3,11 +3,11 @@ use Rattle.std.specs.Prelude.{ℕ, List, [], ◌∷◌, ◌++◌, map, Option, S
 use Rattle.coherence_text.specs.Syntax.{TypeTree, of_primitive, never_type, named, Line, crate_line, struct_line, trait_line, impl_line, prove_line}
 
 -- what a name has to stand for
-pub data Sort : Type 0 where
-  crate_sort struct_sort trait_sort : Sort
+pub data ItemKind : Type 0 where
+  crate_kind struct_kind trait_kind : ItemKind
 
 pub record Mention : Type 0 where
-  pub sort : Sort
+  pub kind : ItemKind
   pub name : List ℕ
 
 abbrev pub declared_name : Line → Option (List ℕ)
@@ -18,15 +18,15 @@ declared_name (impl_line t ty) = None
 declared_name (prove_line c ty t) = None
 
 abbrev pub crate_mention : List ℕ → Mention
-crate_mention n = record { sort = crate_sort; name = n }
+crate_mention n = record { kind = crate_kind; name = n }
 
 abbrev pub trait_mention : List ℕ → Mention
-trait_mention n = record { sort = trait_sort; name = n }
+trait_mention n = record { kind = trait_kind; name = n }
 
 abbrev pub type_mentions : TypeTree → List Mention
 type_mentions (of_primitive p) = []
 type_mentions never_type = []
-type_mentions (named n) = record { sort = struct_sort; name = n } ∷ []
+type_mentions (named n) = record { kind = struct_kind; name = n } ∷ []
 
 -- from left to right
 abbrev pub mentions : Line → List Mention

@@ -1,16 +1,22 @@
 -- What an error says of a text.
-use Rattle.std.specs.Prelude.{ℕ, List, Err}
+use Rattle.std.specs.Prelude.{ℕ, List, Option, Ok, Err, MatchOption}
 use Rattle.coherence_text.specs.Declarations.{Declarations}
-use Rattle.coherence_text.specs.Text.{LinesGive, TextGives}
+use Rattle.coherence_text.specs.FaultNumbers.{fault_number}
+use Rattle.coherence_text.specs.Text.{LineGives, LinesGive, TextGives}
+use Rattle.coherence_text.specs.declared.fault.FaultKind.{FaultKind}
 use Rattle.coherence_text.specs.declared.fault.TextError.{TextError}
 use Rattle.coherence_text.specs.declared.fault.TextError.TheVariants as errors
 
 -- the text has this fault, or memory ran out
 abbrev pub IsTextError : List ℕ → TextError → Type 0
-IsTextError bytes (errors.Text f) = TextGives bytes (Err (f.line, f.number))
+IsTextError bytes (errors.Text f) = TextGives bytes (Err (f.line, fault_number f.kind))
 IsTextError bytes errors.Memory = Unit {0}
 
 -- the same of lines, after these declarations
 abbrev pub IsRefusal : Declarations → List (List ℕ) → TextError → Type 0
-IsRefusal d ls (errors.Text f) = LinesGive d 1 ls (Err (f.line, f.number))
+IsRefusal d ls (errors.Text f) = LinesGive d 1 ls (Err (f.line, fault_number f.kind))
 IsRefusal d ls errors.Memory = Unit {0}
+
+-- after the declarations d the line has the fault that was found, or none was found and the declarations are e then
+abbrev pub TakesLine : Declarations → List ℕ → Option FaultKind → Declarations → Type 0
+TakesLine d line found e = MatchOption found (LineGives d line (Ok e)) (λ k. LineGives d line (Err (fault_number k)))

@@ -8,12 +8,12 @@ use Rattle.std.specs.declared.hash.FoldHasher.{FoldHasher}
 use Rattle.std.specs.declared.hash.BuildHasherDefault.{BuildHasherDefault}
 use Rattle.model.specs.Worlds.{World, Reference, core, sees}
 use Rattle.model.specs.Rules.{same_reference}
-use Rattle.coherence_text.specs.Declarations.{Declarations, known, world_of}
+use Rattle.coherence_text.specs.Declarations.{Declarations, NamedCrate, known, world_of}
 use Rattle.coherence_text.specs.Faults.{last_crate, last_items}
 use Rattle.coherence_text.specs.Numbered.{Each, IsNumbered}
 use Rattle.type_terms.specs.declared.CrateId.{CrateId}
 use Rattle.coherence_text.specs.declared.tables.Tables.{Tables}
-use Rattle.coherence_text.specs.declared.declared.Question.TheVariants.{Prove}
+use Rattle.coherence_text.specs.declared.declared.Asked.TheVariants.{Prove}
 use Rattle.coherence_text.specs.declared.declared.Group.{Group}
 use Rattle.coherence_text.specs.declared.declared.Header.{Header}
 use Rattle.coherence_text.specs.declared.declared.ImplEntry.{ImplEntry}
@@ -28,6 +28,14 @@ declared t = record {
   impls = map impl_of t.impls.items;
   questions = map question_of t.questions.items;
 }
+
+-- a crate's number, its name, and the crates that it uses
+abbrev pub new_crate : ℕ → List ℕ → List CrateId → NamedCrate
+new_crate c n us = record { text = n; item = record { name = c; uses = numbers_of us } }
+
+-- the row marks each crate that crate c sees; behind its end nothing is marked
+abbrev pub MarksSeen : World → ℕ → List Bool → Type 0
+MarksSeen W c row = (e : ℕ) → unwrap_or (slice_get row e) false ≡ sees W c e
 
 -- a new crate that uses these sees `core` and what they see
 abbrev pub will_see : World → List CrateId → ℕ → Bool
@@ -55,9 +63,9 @@ pub record IsConsistent (t : Tables) : Type 0 where
   pub numbered : IsNumbered (declared t)
   pub ids : numbers_of t.ids.items ≡ map (λ c. c.id.index) t.crates.items
   pub asked : t.asked.items ≡ map (λ q. Prove q.asker) t.questions.items
-  pub rows : Each (λ c entry. (e : ℕ) → unwrap_or (slice_get entry.sees.items e) false ≡ sees (world_of (declared t)) c e) t.crates.items
+  pub rows : Each (λ c entry. MarksSeen (world_of (declared t)) c entry.sees.items) t.crates.items
   pub grouped : IsGrouped t.headers t.groups.items t.impls.items
   pub names : (n : List ℕ) → option_map known_of (get_by (λ k. bytes_eq n k.items) t.names) ≡ known (declared t) n
-  pub numbers : Each (λ k i. i.number ≡ impls_of i.owner.index (take (suc k) t.impls.items)) t.impls.items
+  pub numbers : Each (λ k i. i.number_in_crate ≡ impls_of i.owner.index (take (suc k) t.impls.items)) t.impls.items
   pub last_impls : t.last_impls ≡ impls_of (last_crate (declared t)) t.impls.items
   pub last_items : t.last_items ≡ last_items (declared t)

@@ -6,7 +6,7 @@ ghost use Rattle.coherence_text.specs.Declarations.{known, world_of};
 ghost use Rattle.coherence_text.specs.Faults.{fault_of};
 ghost use Rattle.coherence_text.specs.Numbered.{IsFew};
 ghost use Rattle.coherence_text.specs.Syntax.{crate_line, impl_line, prove_line};
-ghost use Rattle.coherence_text.specs.Adding.{known_crate, known_trait, type_label, with_crate, added};
+ghost use Rattle.coherence_text.specs.Adding.{known_crate, known_trait, type_label, added};
 ghost use Rattle.coherence_text.specs.Tables.{declared, IsConsistent, will_see};
 ghost use Rattle.coherence_text.specs.LineViews.{line_of, type_of, name_texts};
 ghost use Rattle.coherence_text.specs.Views.{self_label, numbers_of};

@@ -56,7 +56,7 @@ pub struct ImplEntry {
     pub id: ImplId,
     pub owner: CrateId,
     /// Its number among the impls of its crate, from 1.
-    pub number: u32,
+    pub number_in_crate: u32,
     pub trait_id: TraitId,
     pub self_type: SelfType,
 }
@@ -71,7 +71,7 @@ pub struct QuestionEntry {
 
 /// What a line asks, and in which crate.
 #[derive(Clone, Copy)]
-pub enum Question {
+pub enum Asked {
     /// Whether a reference is proved in the crate.
     Prove(CrateId),
 }

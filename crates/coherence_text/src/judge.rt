@@ -4,13 +4,15 @@ ghost use Rattle.std.specs.List.{list_any};
 ghost use Rattle.std.specs.Option.{option_map, option_map_or};
 ghost use Rattle.coherence_text.specs.Mentions.{mentions};
 ghost use Rattle.coherence_text.specs.Declarations.{known};
-ghost use Rattle.coherence_text.specs.Faults.{home_of, is_core_name, belongs_to_crate, is_misplaced, is_taken, declares_taken, mentions_unknown, looking_crate, is_hidden_from, mentions_hidden, is_other_sort, mentions_other_sort, is_sort, declares_long, is_full, passes_limit, fault_of};
+ghost use Rattle.coherence_text.specs.Faults.{home_of, is_core_name, belongs_to_crate, is_misplaced, is_taken, declares_taken, mentions_unknown, looking_crate, is_hidden_from, mentions_hidden, is_of_other_kind, mentions_other_kind, is_of_kind, declares_long, is_full, passes_limit, fault_of};
+ghost use Rattle.coherence_text.specs.FaultNumbers.{fault_number};
 ghost use Rattle.coherence_text.specs.Tables.{declared, IsConsistent};
-ghost use Rattle.coherence_text.specs.LineViews.{line_of, mention_of, sort_of};
+ghost use Rattle.coherence_text.specs.LineViews.{line_of, mention_of, kind_of};
 ghost use Rattle.coherence_text.specs.Views.{known_of};
 
 use crate::declared::Named;
-use crate::mention::{Mention, Sort, declared_name, mentions};
+use crate::fault::FaultKind;
+use crate::mention::{ItemKind, Mention, declared_name, mentions};
 use crate::syntax::Statement;
 use crate::tables::Tables;
 use std::alloc::{AllocError, Global};
@@ -76,13 +78,13 @@ fn belongs_to_crate(statement: &Statement<'_>) -> bool
     }
 }
 
-fn is_sort(sort: Sort, known: Named) -> bool
-    ensures { result ≡ is_sort (sort_of sort) (known_of known) }
+fn is_of_kind(kind: ItemKind, known: Named) -> bool
+    ensures { result ≡ is_of_kind (kind_of kind) (known_of known) }
 {
-    match (sort, known) {
-        (Sort::Crate, Named::Crate(_)) => true,
-        (Sort::Struct, Named::Struct { .. }) => true,
-        (Sort::Trait, Named::Trait { .. }) => true,
+    match (kind, known) {
+        (ItemKind::Crate, Named::Crate(_)) => true,
+        (ItemKind::Struct, Named::Struct { .. }) => true,
+        (ItemKind::Trait, Named::Trait { .. }) => true,
         _ => false,
     }
 }
@@ -196,30 +198,30 @@ impl Tables {
         }
     }
 
-    fn is_other_sort(&self, mention: &Mention<'_>) -> bool
+    fn is_of_other_kind(&self, mention: &Mention<'_>) -> bool
         requires { IsConsistent self.now }
-        ensures { result ≡ is_other_sort (declared self.now) (mention_of mention.now) }
+        ensures { result ≡ is_of_other_kind (declared self.now) (mention_of mention.now) }
     {
         match self.known(mention.name) {
             None => false,
-            Some(known) => !is_sort(mention.sort, known),
+            Some(known) => !is_of_kind(mention.kind, known),
         }
     }
 
-    fn has_other_sort(&self, found: &[Mention<'_>]) -> bool
+    fn has_other_kind(&self, found: &[Mention<'_>]) -> bool
         requires { IsConsistent self.now }
-        ensures { result ≡ list_any (λ m. is_other_sort (declared self.now) (mention_of m)) found.now }
+        ensures { result ≡ list_any (λ m. is_of_other_kind (declared self.now) (mention_of m)) found.now }
     {
-        found.iter().any(|m| self.is_other_sort(m))
+        found.iter().any(|m| self.is_of_other_kind(m))
     }
 
-    fn mentions_other_sort(&self, statement: &Statement<'_>, found: &[Mention<'_>]) -> bool
+    fn mentions_other_kind(&self, statement: &Statement<'_>, found: &[Mention<'_>]) -> bool
         requires consistent { IsConsistent self.now }
         requires found { map mention_of found.now ≡ mentions (line_of statement.now) }
-        ensures { result ≡ mentions_other_sort (declared self.now) (line_of statement.now) }
+        ensures { result ≡ mentions_other_kind (declared self.now) (line_of statement.now) }
     {
         let _of = statement;
-        self.has_other_sort(found)
+        self.has_other_kind(found)
     }
 
     /// Whether there are as many already as there may be.
@@ -243,33 +245,33 @@ impl Tables {
         declares_long(statement) || self.is_full(statement)
     }
 
-    /// The smallest number of a fault that the line has.
+    /// Of the faults that the line has the one with the smallest number.
     pub fn fault_of(
         &self,
         alloc: Global,
         statement: &Statement<'_>,
-    ) -> Result<Option<u8>, AllocError>
+    ) -> Result<Option<FaultKind>, AllocError>
         requires { IsConsistent self.now }
-        ensures { IfOk result (λ found. found ≡ fault_of (declared self.now) (line_of statement.now)) }
+        ensures { IfOk result (λ found. option_map fault_number found ≡ fault_of (declared self.now) (line_of statement.now)) }
     {
         let found = mentions(alloc, statement)?;
         if self.is_misplaced(statement) {
-            return Ok(Some(3));
+            return Ok(Some(FaultKind::Misplaced));
         }
         if self.declares_taken(statement) {
-            return Ok(Some(4));
+            return Ok(Some(FaultKind::Taken));
         }
         if self.mentions_unknown(statement, &found) {
-            return Ok(Some(5));
+            return Ok(Some(FaultKind::Unknown));
         }
         if self.mentions_hidden(statement, &found) {
-            return Ok(Some(6));
+            return Ok(Some(FaultKind::Hidden));
         }
-        if self.mentions_other_sort(statement, &found) {
-            return Ok(Some(7));
+        if self.mentions_other_kind(statement, &found) {
+            return Ok(Some(FaultKind::OtherKind));
         }
         if self.passes_limit(statement) {
-            return Ok(Some(16));
+            return Ok(Some(FaultKind::Limit));
         }
         Ok(None)
     }

@@ -20,11 +20,11 @@ mod text;
 mod token;
 mod workspace;
 
-pub use declared::{ImplEntry, Question, QuestionEntry, SelfType};
-pub use fault::{TextError, TextFault};
+pub use declared::{Asked, ImplEntry, QuestionEntry, SelfType};
+pub use fault::{FaultKind, TextError, TextFault};
 pub use line::{is_ascii, is_blank, read_line};
 pub use line_error::LineError;
-pub use mention::{Mention, Sort, declared_name, mentions};
+pub use mention::{ItemKind, Mention, declared_name, mentions};
 pub use print::{Output, print_line};
 pub use syntax::{Statement, WrittenType};
 pub use text::{one_outcome, parse};

@@ -9,7 +9,7 @@ use std::alloc::{AllocError, Global};
 
 /// What a name has to stand for.
 #[derive(Clone, Copy, Debug, PartialEq, Eq)]
-pub enum Sort {
+pub enum ItemKind {
     Crate,
     Struct,
     Trait,
@@ -18,7 +18,7 @@ pub enum Sort {
 /// A name where a line refers to what another line declares.
 #[derive(Clone, Copy, Debug)]
 pub struct Mention<'a> {
-    pub sort: Sort,
+    pub kind: ItemKind,
     pub name: &'a [u8],
 }
 
@@ -40,7 +40,7 @@ fn push_type<'a>(found: &mut Vec<Mention<'a>>, written: WrittenType<'a>) -> Resu
 {
     if let WrittenType::Name(name) = written {
         found.push(Mention {
-            sort: Sort::Struct,
+            kind: ItemKind::Struct,
             name,
         })?;
     }
@@ -52,7 +52,7 @@ fn push_crates<'a>(found: &mut Vec<Mention<'a>>, uses: &Vec<&'a [u8]>) -> Result
 {
     for name in uses {
         found.push(Mention {
-            sort: Sort::Crate,
+            kind: ItemKind::Crate,
             name: *name,
         })?;
     }
@@ -78,7 +78,7 @@ pub fn mentions<'a>(
             self_type,
         } => {
             found.push(Mention {
-                sort: Sort::Trait,
+                kind: ItemKind::Trait,
                 name: *trait_name,
             })?;
             push_type(&mut found, *self_type)?;
@@ -89,12 +89,12 @@ pub fn mentions<'a>(
             trait_name,
         } => {
             found.push(Mention {
-                sort: Sort::Crate,
+                kind: ItemKind::Crate,
                 name: *crate_name,
             })?;
             push_type(&mut found, *self_type)?;
             found.push(Mention {
-                sort: Sort::Trait,
+                kind: ItemKind::Trait,
                 name: *trait_name,
             })?;
         }

@@ -4,6 +4,7 @@ ghost use Rattle.std.specs.Fmt.{decimal};
 ghost use Rattle.coherence_text.specs.Views.{answer_of};
 ghost use Rattle.coherence_text.specs.Output.{output_text, crate_start, fault, accepted, nonlocal, overlap, yes, unproved};
 
+use crate::fault::FaultKind;
 use std::alloc::{AllocError, Global};
 
 /// A line of the answer, without its end.
@@ -11,7 +12,7 @@ use std::alloc::{AllocError, Global};
 pub enum Output<'a> {
     Fault {
         line: u32,
-        number: u8,
+        kind: FaultKind,
     },
     Accepted {
         name: &'a [u8],
@@ -128,7 +129,7 @@ pub fn print_line(alloc: Global, output: &Output<'_>) -> Result<Vec<u8>, AllocEr
     ensures { IfOk result (λ text. text.items ≡ output_text (answer_of output.now)) }
 {
     match output {
-        Output::Fault { line, number } => fault_line(alloc, *line, *number as u32),
+        Output::Fault { line, kind } => fault_line(alloc, *line, kind.number() as u32),
         Output::Accepted { name } => accepted_line(alloc, name),
         Output::Nonlocal { name, number } => nonlocal_line(alloc, name, *number),
         Output::Overlap {

@@ -1,18 +1,16 @@
 //! The tables that a text fills, line after line.
-ghost use Rattle.std.specs.Prelude.{◌≡◌, ◌+◌, ◌<◌, ◌++◌, ◌∷◌, [], ℕ, None, false, All, length, map, filter, nat_le, slice_get, unwrap_or, OnOk, IfOk, IfSome, MatchOption};
+ghost use Rattle.std.specs.Prelude.{◌≡◌, ◌+◌, ◌<◌, ◌++◌, ◌∷◌, [], None, false, All, length, filter, nat_le, slice_get, unwrap_or, OnOk, IfOk, IfSome};
 ghost use Rattle.std.specs.Option.{option_map, option_and_then};
-ghost use Rattle.model.specs.Worlds.{sees, traits_named, structs_named};
-ghost use Rattle.model.specs.Rules.{same_reference};
-ghost use Rattle.model.specs.Trees.{leaf};
+ghost use Rattle.model.specs.Worlds.{sees};
 ghost use Rattle.coherence_text.specs.Numbered.{IsFew};
 ghost use Rattle.coherence_text.specs.Declarations.{known, world_of};
 ghost use Rattle.coherence_text.specs.Faults.{last_crate, number_of_crate};
 ghost use Rattle.coherence_text.specs.Adding.{with_crate, with_struct, with_trait, with_impl, with_question, nothing_declared, struct_of, trait_of, impl_of};
-ghost use Rattle.coherence_text.specs.Tables.{declared, IsConsistent, IsGrouped};
-ghost use Rattle.coherence_text.specs.Views.{known_of, numbers_of, impl_numbers, impl_header, self_label, question_of};
+ghost use Rattle.coherence_text.specs.Tables.{declared, new_crate, numbers_with, IsConsistent, IsGrouped, MarksSeen};
+ghost use Rattle.coherence_text.specs.Views.{known_of, impl_numbers, question_of, reference_of, OwnsStruct, OwnsTrait};
 
 use crate::declared::{
-    CrateEntry, Group, Header, ImplEntry, Named, Question, QuestionEntry, SelfType, StructEntry,
+    Asked, CrateEntry, Group, Header, ImplEntry, Named, QuestionEntry, SelfType, StructEntry,
     TraitEntry,
 };
 use crate::text::ENTRY_LIMIT;
@@ -29,7 +27,7 @@ pub(crate) struct Tables {
     pub traits: Vec<TraitEntry>,
     pub impls: Vec<ImplEntry>,
     pub questions: Vec<QuestionEntry>,
-    pub asked: Vec<Question>,
+    pub asked: Vec<Asked>,
     /// What each name stands for.
     pub names: HashMap<Vec<u8>, Named>,
     /// The place of each header in `groups`.
@@ -165,7 +163,7 @@ impl Tables {
     /// The crate that a trait belongs to, if it is declared.
     pub fn trait_owner(&self, id: TraitId) -> Option<CrateId>
         requires { IsConsistent self.now }
-        ensures { MatchOption result (traits_named (world_of (declared self.now)) id.index ≡ []) (λ c. map (λ t. t.home) (traits_named (world_of (declared self.now)) id.index) ≡ numbers_of (c ∷ [])) }
+        ensures { OwnsTrait (declared self.now) id.index result }
     {
         if id.index < FIRST_TRAIT {
             return None;
@@ -179,7 +177,7 @@ impl Tables {
     /// The crate that a struct belongs to, if it is declared.
     pub fn struct_owner(&self, id: AdtId) -> Option<CrateId>
         requires { IsConsistent self.now }
-        ensures { MatchOption result (structs_named (world_of (declared self.now)) id.index ≡ []) (λ c. map (λ s. s.home) (structs_named (world_of (declared self.now)) id.index) ≡ numbers_of (c ∷ [])) }
+        ensures { OwnsStruct (declared self.now) id.index result }
     {
         if id.index < FIRST_STRUCT {
             return None;
@@ -193,7 +191,7 @@ impl Tables {
     /// The impls with a header, in the order of the text.
     pub fn impls_with_header(&self, trait_id: TraitId, self_type: SelfType) -> &[ImplId]
         requires { IsConsistent self.now }
-        ensures { impl_numbers result.now ≡ map (λ i. i.id.index) (filter (λ i. same_reference (impl_header i) (record { trait = trait_id.index; args = leaf (self_label self_type) })) self.now.impls.items) }
+        ensures { impl_numbers result.now ≡ numbers_with (reference_of trait_id self_type) self.now.impls.items }
     {
         let header = Header {
             trait_id,
@@ -232,8 +230,8 @@ impl Tables {
         requires new { known (declared self.old) name.now ≡ None }
         requires few { IsFew (declared self.old) ENTRY_LIMIT }
         requires uses { All (λ u. u.index < length self.old.crates.items) uses.items }
-        requires row { (e : ℕ) → unwrap_or (slice_get row.items e) false ≡ sees (world_of (with_crate (declared self.old) (record { text = name.now; item = record { name = length self.old.crates.items; uses = numbers_of uses.items } }))) (length self.old.crates.items) e }
-        ensures declared { OnOk result (declared self.new ≡ with_crate (declared self.old) (record { text = name.now; item = record { name = length self.old.crates.items; uses = numbers_of uses.items } })) }
+        requires row { MarksSeen (world_of (with_crate (declared self.old) (new_crate (length self.old.crates.items) name.now uses.items))) (length self.old.crates.items) row.items }
+        ensures declared { OnOk result (declared self.new ≡ with_crate (declared self.old) (new_crate (length self.old.crates.items) name.now uses.items)) }
         ensures consistent { OnOk result (IsConsistent self.new) }
     {
         let id = CrateId {
@@ -308,7 +306,7 @@ impl Tables {
     ) -> Result<(), AllocError>
         requires consistent { IsConsistent self.old }
         requires few { IsFew (declared self.old) ENTRY_LIMIT }
-        ensures declared { OnOk result (declared self.new ≡ with_impl (declared self.old) (impl_of (declared self.old) (record { trait = trait_id.index; args = leaf (self_label self_type) }))) }
+        ensures declared { OnOk result (declared self.new ≡ with_impl (declared self.old) (impl_of (declared self.old) (reference_of trait_id self_type))) }
         ensures consistent { OnOk result (IsConsistent self.new) }
     {
         let entry = ImplEntry {
@@ -316,7 +314,7 @@ impl Tables {
                 index: self.impls.len() as u32 + FIRST_IMPL,
             },
             owner: self.last_crate(),
-            number: self.last_impls + 1,
+            number_in_crate: self.last_impls + 1,
             trait_id,
             self_type,
         };
@@ -328,7 +326,7 @@ impl Tables {
             entry,
         )?;
         self.impls.push(entry)?;
-        self.last_impls = entry.number;
+        self.last_impls = entry.number_in_crate;
         self.last_items += 1;
         Ok(())
     }
@@ -341,7 +339,7 @@ impl Tables {
         ensures consistent { OnOk result (IsConsistent self.new) }
     {
         self.questions.push(entry)?;
-        self.asked.push(Question::Prove(entry.asker))?;
+        self.asked.push(Asked::Prove(entry.asker))?;
         Ok(())
     }
 }

@@ -1,12 +1,12 @@
 //! A whole text.
-ghost use Rattle.std.specs.Prelude.{◌≡◌, ◌==◌, ◌≤◌, ◌<◌, count_by, length, take_while, not, IfOk, IfErr, OnOk, MatchOption, Ok, Err, List, ℕ, Result};
+ghost use Rattle.std.specs.Prelude.{◌≡◌, ◌==◌, ◌≤◌, ◌<◌, count_by, length, take_while, not, IfOk, IfErr, OnOk, Ok, Err, List, ℕ, Result};
 ghost use Rattle.coherence_text.specs.Declarations.{Declarations};
 ghost use Rattle.coherence_text.specs.Numbered.{IsFew};
-ghost use Rattle.coherence_text.specs.Text.{LineGives, LinesGive, lines_of, TextGives, long_line};
+ghost use Rattle.coherence_text.specs.Text.{LinesGive, lines_of, TextGives, long_line};
 ghost use Rattle.coherence_text.specs.Tables.{declared, IsConsistent};
-ghost use Rattle.coherence_text.specs.Refusals.{IsRefusal, IsTextError};
+ghost use Rattle.coherence_text.specs.Refusals.{IsRefusal, IsTextError, TakesLine};
 
-use crate::fault::{TextError, TextFault};
+use crate::fault::{FaultKind, TextError, TextFault};
 use crate::line::{is_ascii, is_blank, read_line};
 use crate::line_error::LineError;
 use crate::tables::Tables;
@@ -25,25 +25,29 @@ fn line_end(bytes: &[u8]) -> usize
     bytes.iter().take_while(|b| **b != b'\n').count()
 }
 
-/// Takes a line. The answer is the number of a fault, or nothing where the line was taken.
-fn take_line(alloc: Global, tables: &mut Tables, line: &[u8]) -> Result<Option<u8>, AllocError>
+/// Takes a line. The answer is a fault, or nothing where the line was taken.
+fn take_line(
+    alloc: Global,
+    tables: &mut Tables,
+    line: &[u8],
+) -> Result<Option<FaultKind>, AllocError>
     requires consistent { IsConsistent tables.old }
     requires few { IsFew (declared tables.old) ENTRY_LIMIT }
-    ensures gives { IfOk result (λ found. MatchOption found (LineGives (declared tables.old) line.now (Ok (declared tables.new))) (λ n. LineGives (declared tables.old) line.now (Err n))) }
+    ensures gives { IfOk result (λ found. TakesLine (declared tables.old) line.now found (declared tables.new)) }
     ensures consistent { OnOk result (IsConsistent tables.new) }
 {
     if !is_ascii(line) {
-        return Ok(Some(1));
+        return Ok(Some(FaultKind::OtherByte));
     }
     if is_blank(line) {
         return Ok(None);
     }
     match read_line(alloc, line) {
         Err(LineError::Memory) => Err(AllocError),
-        Err(LineError::Syntax) => Ok(Some(2)),
+        Err(LineError::Syntax) => Ok(Some(FaultKind::Syntax)),
         Ok(statement) => {
-            if let Some(number) = tables.fault_of(alloc, &statement)? {
-                return Ok(Some(number));
+            if let Some(kind) = tables.fault_of(alloc, &statement)? {
+                return Ok(Some(kind));
             }
             tables.add(alloc, &statement)?;
             Ok(None)
@@ -81,11 +85,8 @@ fn take_lines(alloc: Global, tables: &mut Tables, bytes: &[u8]) -> Result<(), Te
     let mut place = 1u32;
     'lines: loop {
         let (line, after) = rest.split_at(line_end(rest));
-        if let Some(number) = take_line(alloc, tables, line)? {
-            return Err(TextError::Text(TextFault {
-                line: place,
-                number,
-            }));
+        if let Some(kind) = take_line(alloc, tables, line)? {
+            return Err(TextError::Text(TextFault { line: place, kind }));
         }
         match after {
             [] => return Ok(()),
@@ -101,13 +102,13 @@ fn take_lines(alloc: Global, tables: &mut Tables, bytes: &[u8]) -> Result<(), Te
 pub fn parse(alloc: Global, bytes: &[u8]) -> Result<Workspace, TextError>
     // What is taken is what the text gives.
     ensures taken { IfOk result (λ w. TextGives bytes.now (Ok w)) }
-    // A fault is the first faulty line with its smallest number.
+    // A fault is the first faulty line, with the fault that has the smallest number.
     ensures refused { IfErr result (λ e. IsTextError bytes.now e) }
 {
     if bytes.len() > TEXT_LIMIT {
         return Err(TextError::Text(TextFault {
             line: long_line(bytes),
-            number: 16,
+            kind: FaultKind::Limit,
         }));
     }
     let mut tables = Tables::new(alloc)?;

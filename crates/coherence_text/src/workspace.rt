@@ -1,14 +1,13 @@
 //! The declarations and questions of a text.
-ghost use Rattle.std.specs.Prelude.{◌≡◌, ◌+◌, ◌-◌, ◌<◌, ◌≤◌, ◌∷◌, Some, [], length, map, filter, take, suc, count_by, slice_get, ◌==◌, IfOk, MatchOption};
-ghost use Rattle.std.specs.Option.{option_map, option_map_or};
-ghost use Rattle.model.specs.Worlds.{sees, view_of, traits_named, structs_named};
+ghost use Rattle.std.specs.Prelude.{◌≡◌, ◌+◌, ◌-◌, ◌<◌, ◌≤◌, Some, length, map, filter, take, suc, count_by, slice_get, ◌==◌, IfOk};
+ghost use Rattle.std.specs.Option.{option_map};
+ghost use Rattle.model.specs.Worlds.{sees, view_of};
 ghost use Rattle.model.specs.Rules.{same_reference};
-ghost use Rattle.model.specs.Trees.{leaf};
 ghost use Rattle.coherence_text.specs.Declarations.{world_of, first_impl};
 ghost use Rattle.coherence_text.specs.Numbered.{IsNumbered, IsFew};
-ghost use Rattle.coherence_text.specs.Views.{numbers_of, impl_numbers, impl_of, question_of, self_label, prove_of};
+ghost use Rattle.coherence_text.specs.Views.{numbers_of, impl_numbers, impl_of, question_of, prove_of, reference_of, OwnsStruct, OwnsTrait};
 
-use crate::declared::{ImplEntry, Question, QuestionEntry, SelfType};
+use crate::declared::{Asked, ImplEntry, QuestionEntry, SelfType};
 use crate::tables::Tables;
 use crate::text::ENTRY_LIMIT;
 use std::alloc::{AllocError, Global};
@@ -54,6 +53,7 @@ impl Workspace {
     /// The crates in the order of the text, `core` first.
     pub fn crates(&self) -> &[CrateId]
         ensures crates { numbers_of result.now ≡ map (λ c. c.item.name) self.now.crates }
+        ensures count { length result.now ≡ length self.now.crates }
         ensures numbered { IsNumbered self.now }
         ensures few { IsFew self.now ENTRY_LIMIT }
     {
@@ -61,17 +61,10 @@ impl Workspace {
     }
 
     /// What each question asks, and in which crate.
-    pub fn questions(&self) -> &[Question]
+    pub fn questions(&self) -> &[Asked]
         ensures { map prove_of result.now ≡ map (λ q. q.asker) self.now.questions }
     {
         &self.tables.asked
-    }
-
-    /// How many crates there are, with `core`.
-    pub fn crate_count(&self) -> u32
-        ensures { result ≡ length self.now.crates }
-    {
-        self.tables.crates.len() as u32
     }
 
     /// The name of a crate.
@@ -90,7 +83,7 @@ impl Workspace {
         ensures number { result.1 ≡ count_by (λ i. i.home == result.0.index) (take (suc (id.index - first_impl)) self.now.impls) }
     {
         let entry = &self.tables.impls[(id.index - 39) as usize];
-        (entry.owner, entry.number)
+        (entry.owner, entry.number_in_crate)
     }
 
     /// What a crate sees: itself and all that it uses, directly or through others, `core` first and the crate last, in the order
@@ -113,14 +106,14 @@ impl Workspace {
 
     /// The crate that a trait belongs to, if the text declares the trait.
     pub fn trait_owner(&self, id: TraitId) -> Option<CrateId>
-        ensures { MatchOption result (traits_named (world_of self.now) id.index ≡ []) (λ c. map (λ t. t.home) (traits_named (world_of self.now) id.index) ≡ numbers_of (c ∷ [])) }
+        ensures { OwnsTrait self.now id.index result }
     {
         self.tables.trait_owner(id)
     }
 
     /// The crate that a struct belongs to, if the text declares the struct.
     pub fn struct_owner(&self, id: AdtId) -> Option<CrateId>
-        ensures { MatchOption result (structs_named (world_of self.now) id.index ≡ []) (λ c. map (λ s. s.home) (structs_named (world_of self.now) id.index) ≡ numbers_of (c ∷ [])) }
+        ensures { OwnsStruct self.now id.index result }
     {
         self.tables.struct_owner(id)
     }
@@ -141,7 +134,7 @@ impl Workspace {
 
     /// The impls of a trait for a type, in the order of the text.
     pub fn impls_with_header(&self, trait_id: TraitId, self_type: SelfType) -> &[ImplId]
-        ensures { impl_numbers result.now ≡ map (λ i. i.name) (filter (λ i. same_reference i.header (record { trait = trait_id.index; args = leaf (self_label self_type) })) self.now.impls) }
+        ensures { impl_numbers result.now ≡ map (λ i. i.name) (filter (λ i. same_reference i.header (reference_of trait_id self_type)) self.now.impls) }
     {
         self.tables.impls_with_header(trait_id, self_type)
     }

@@ -47,7 +47,7 @@ same-table : (i j k : ℕ) (bs cs : List Binding) (x y : Trees) → bs ≡ cs �
     → ◌≡◌ {A = TableTrees} (record { ty_vars = i; const_vars = j; region_vars = k; bindings = bs; constraints = x }) (record { ty_vars = i; const_vars = j; region_vars = k; bindings = cs; constraints = y })
 same-table i j k bs cs x y e f = cc
 
-table-is : (es : List Entry) (t : Table) (ks : List CanonicalVarKind) → t ≡ with_each empty ks → table_trees es t ≡ own_table ks
+pub table-is : (es : List Entry) (t : Table) (ks : List CanonicalVarKind) → t ≡ with_each empty ks → table_trees es t ≡ own_table ks
 table-is es t ks e =
     ap (table_trees es) e ∙ same-table _ _ _ _ _ _ _ (ap (content es) (each-values empty ks)) (ap (constraints_trees es) (each-constraints empty ks))
 

@@ -12,7 +12,7 @@ use Rattle.infer_table.specs.declared.response.CanonicalResponse.{CanonicalRespo
 use Rattle.evaluation.specs.Replays.{Run, ready, waits}
 use Rattle.evaluation.specs.Rounds.{Rounds}
 use Rattle.evaluation.specs.declared.error.EvalError.{EvalError}
-use Rattle.evaluation.specs.declared.error.EvalError.TheVariants.{NoSolution, OutOf}
+use Rattle.evaluation.specs.declared.error.EvalError.TheVariants.{NoSolution, Fault}
 use Rattle.infer_table.specs.Values.{values_of}
 use Rattle.infer_table.specs.Responses.{AnswerTrees, answer_trees}
 use Rattle.evaluation.specs.Context.{Context, NestedGoal, NestedHeld, IsReady}
@@ -83,9 +83,9 @@ module _ (mode : TypingMode) (es : List Entry) (old mid new : Context) (left : L
 module _ (mode : TypingMode) (es : List Entry) (old new : Context) (T : Table) (same : new ≡ old) (r : RoundsRun mode) where
   -- a refusal, or a fault
   pub call-fault : (e : EvalError) → RoundsEnd mode es T r (Err e) → CallEnds mode es old new r (Err e)
-  call-fault (OutOf fault) h = same
+  call-fault (Fault fault) h = same
   call-fault NoSolution h = (h, same)
 
   pub answer-fault : (certainty : Certainty) (e : EvalError) → RoundsEnd mode es T r (Err e) → AnswerEnds mode es old new certainty r (Err e)
-  answer-fault certainty (OutOf fault) h = same
+  answer-fault certainty (Fault fault) h = same
   answer-fault certainty NoSolution h = (h, same)

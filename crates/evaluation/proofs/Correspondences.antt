@@ -245,44 +245,30 @@ module _ {Question Response OtherQuestion OtherResponse : Type 0} (one : Working
   on_entered : (heard : Heard) (gone : List ℕ) (s : Script Question (Option Response) (Option Response)) (go : Option Response → ℕ → Frame Question (Option Response))
       → (q : Place) (y : OtherReply) → Replies one other c (between heard gone (considers s go)) entered y → PositionsAlike (between heard gone (considers s go)) q → PositionsAlike (inside heard [] s go) (told y q)
   on_entered heard gone s go (between known left (considers t on)) entered r p = p
-  on_entered heard gone s go (between known left (answers b ms)) entered r p = absurd p
-  on_entered heard gone s go (inside known others t on) entered r p = absurd p
-  on_entered heard gone s go q begin r p = absurd r
-  on_entered heard gone s go q ignored r p = absurd r
-  on_entered heard gone s go q (evaluated b) r p = absurd r
-  on_entered heard gone s go q (finished m) r p = absurd r
+  on_entered heard gone s go q entered r p = absurd p
+  on_entered heard gone s go q reply r p = absurd r
 
   on_ignored : (heard : Heard) (gone : List ℕ) (a : Option Response) (n : ℕ) (ns : List ℕ)
       → (q : Place) (y : OtherReply) → Replies one other c (between heard gone (answers a (n ∷ ns))) ignored y → PositionsAlike (between heard gone (answers a (n ∷ ns))) q → PositionsAlike (between heard (n ∷ gone) (answers a ns)) (told y q)
   on_ignored heard gone a n ns (between known left (answers b (m ∷ ms))) ignored r p = (p.0, ap rest_of p.1)
   on_ignored heard gone a n ns (between known left (answers b [])) ignored r p = let e = p.1 in absurd (cc)
-  on_ignored heard gone a n ns (between known left (considers t on)) ignored r p = absurd p
-  on_ignored heard gone a n ns (inside known others t on) ignored r p = absurd p
-  on_ignored heard gone a n ns q begin r p = absurd r
-  on_ignored heard gone a n ns q entered r p = absurd r
-  on_ignored heard gone a n ns q (evaluated b) r p = absurd r
-  on_ignored heard gone a n ns q (finished m) r p = absurd r
+  on_ignored heard gone a n ns q ignored r p = absurd p
+  on_ignored heard gone a n ns q reply r p = absurd r
 
   on_evaluated : (heard : Heard) (replies : List (Question × Option Response)) (p : Question) (j : Option Response → Script Question (Option Response) (Option Response))
       (go : Option Response → ℕ → Frame Question (Option Response)) (a : Option Response)
       → (q : Place) (y : OtherReply) → Replies one other c (inside heard replies (ask p j) go) (evaluated a) y → PositionsAlike (inside heard replies (ask p j) go) q → PositionsAlike (inside heard ((p, a) ∷ replies) (j a) go) (told y q)
   on_evaluated heard replies p j go a (inside known others (ask q k) on) (evaluated b) r h = (h.0.1 a b r, h.1)
   on_evaluated heard replies p j go a (inside known others (done b) on) (evaluated d) r h = absurd h.0
-  on_evaluated heard replies p j go a (between known left g) (evaluated b) r h = absurd h
-  on_evaluated heard replies p j go a q begin r h = absurd r
-  on_evaluated heard replies p j go a q entered r h = absurd r
-  on_evaluated heard replies p j go a q ignored r h = absurd r
-  on_evaluated heard replies p j go a q (finished m) r h = absurd r
+  on_evaluated heard replies p j go a q (evaluated b) r h = absurd h
+  on_evaluated heard replies p j go a q reply r h = absurd r
 
   on_finished : (heard : Heard) (replies : List (Question × Option Response)) (a : Option Response) (go : Option Response → ℕ → Frame Question (Option Response)) (n : ℕ) → IsNoneOf n (numbers heard)
       → (q : Place) (y : OtherReply) → Replies one other c (inside heard replies (done a) go) (finished n) y → PositionsAlike (inside heard replies (done a) go) q → PositionsAlike (between ((n, replies) ∷ heard) [] (go a n)) (told y q)
   on_finished heard replies a go n new (inside known others (done b) on) (finished m) r h = subst (λ i. FramesAlike (n ∷ numbers heard) (go a n) (on b i)) r (h.1 a b h.0 n new)
   on_finished heard replies a go n new (inside known others (ask q k) on) (finished m) r h = absurd h.0
-  on_finished heard replies a go n new (between known left g) (finished m) r h = absurd h
-  on_finished heard replies a go n new q begin r h = absurd r
-  on_finished heard replies a go n new q entered r h = absurd r
-  on_finished heard replies a go n new q ignored r h = absurd r
-  on_finished heard replies a go n new q (evaluated b) r h = absurd r
+  on_finished heard replies a go n new q (finished m) r h = absurd h
+  on_finished heard replies a go n new q reply r h = absurd r
 
   -- the same reply keeps positions alike
   abbrev Anything : Question → Option Response → Type 0
@@ -301,14 +287,11 @@ module _ {Question Response OtherQuestion OtherResponse : Type 0} (one : Working
   requests_alike (between heard gone (answers a (n ∷ ns))) (between known left (answers b (m ∷ ms))) h = ap (first_or n) h.1
   requests_alike (between heard gone (answers a [])) (between known left (answers b (m ∷ ms))) h = let e = h.1 in absurd (cc)
   requests_alike (between heard gone (answers a (n ∷ ns))) (between known left (answers b [])) h = let e = h.1 in absurd (cc)
-  requests_alike (between heard gone (considers s go)) (between known left (answers b ms)) h = absurd h
-  requests_alike (between heard gone (answers a ns)) (between known left (considers t on)) h = absurd h
   requests_alike (inside heard replies (ask p j) go) (inside known others (ask q k) on) h = h.0.0
   requests_alike (inside heard replies (done a) go) (inside known others (done b) on) h = tt
   requests_alike (inside heard replies (ask p j) go) (inside known others (done b) on) h = absurd h.0
   requests_alike (inside heard replies (done a) go) (inside known others (ask q k) on) h = absurd h.0
-  requests_alike (between heard gone f) (inside known others t on) h = absurd h
-  requests_alike (inside heard replies s go) (between known left g) h = absurd h
+  requests_alike p q h = absurd h
 
   module _ (f : Frame Question (Option Response)) (g : Frame OtherQuestion (Option OtherResponse)) (alike : FramesAlike [] f g) where
     abbrev Stays : List (Reply (Option Response)) → Position Question (Option Response) → Type 0
@@ -317,11 +300,8 @@ module _ {Question Response OtherQuestion OtherResponse : Type 0} (one : Working
     started : (replies : List OtherReply) → AreReplies one other c f (begin ∷ []) replies → PositionsAlike (between [] [] f) (position g replies)
     started (begin ∷ []) h = alike
     started (begin ∷ y ∷ replies) h = absurd h.1
-    started (entered ∷ replies) h = absurd h.0
-    started (ignored ∷ replies) h = absurd h.0
-    started (evaluated b ∷ replies) h = absurd h.0
-    started (finished m ∷ replies) h = absurd h.0
     started [] h = absurd h
+    started (reply ∷ replies) h = absurd h.0
 
     starts : Stays (begin ∷ []) (between [] [] f)
     starts = (refl, started)

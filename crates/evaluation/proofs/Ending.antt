@@ -16,7 +16,7 @@ use Rattle.evaluation.proofs.Replays.{run-followed}
 use Rattle.evaluation.specs.declared.context.EvalStep.{EvalStep}
 use Rattle.evaluation.specs.declared.context.EvalStep.TheVariants.{Ready, Ask}
 use Rattle.evaluation.specs.declared.error.EvalError.{EvalError}
-use Rattle.evaluation.specs.declared.error.EvalError.TheVariants.{NoSolution, OutOf}
+use Rattle.evaluation.specs.declared.error.EvalError.TheVariants.{NoSolution, Fault}
 use Rattle.evaluation.specs.Context.{Context}
 use Rattle.evaluation.specs.Ends.{IsRefused, Awaits, EndsIn, IsAnswered, AnswerEnds}
 use Rattle.evaluation.specs.Evaluating.{Question, NestedTrees, evaluation, question_of, goals_trees, replies_trees}
@@ -46,7 +46,7 @@ module _ (mode : TypingMode) (es : List Entry) (old new : Context) (t : FrameTre
 
   -- as its rounds end
   ends-so : (r : RoundsRun) (x : Result (EvalStep CanonicalResponse) EvalError) → AnswerEnds mode es old new c r x → CandidateEnds es (onward (answered mode t c) r) x
-  ends-so r (Err (OutOf fault)) h = tt
+  ends-so r (Err (Fault fault)) h = tt
   ends-so r (Err NoSolution) h = refused-so r h.0
   ends-so r (Ok (Ask input source)) h = waits-so r (question_of es input source) h.0
   ends-so r (Ok (Ready answer)) h = ready-so answer r h
@@ -77,7 +77,7 @@ module _ (es1 es2 : List Entry) (mid after : Context) (t : FrameTrees) (c : Cert
 module _ (mode : TypingMode) (es : List Entry) (start t : FrameTrees) (s : SpecTrees) (begun-so : t ≡ fresh start s.kinds) (rs : List (Option AnswerTrees)) where
   -- an equation is refused
   pub equation-refused : (e : EvalError) → (e ≡ NoSolution → solved t.table (map (pair_filled t.values) s.equations) ≡ None) → CandidateEnds es (run (candidate mode start s) rs) (Err e)
-  equation-refused (OutOf fault) h = tt
+  equation-refused (Fault fault) h = tt
   equation-refused NoSolution h =
       subst (λ r. CandidateEnds es r (Err NoSolution))
       (sym (ap (λ (z : FrameTrees). run (equated mode s (equate z s.equations)) rs) (sym begun-so)

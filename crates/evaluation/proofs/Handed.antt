@@ -8,10 +8,10 @@ use Rattle.infer_table.specs.declared.response.CanonicalResponse.{CanonicalRespo
 use Rattle.evaluation.specs.Context.{Context, NestedGoal}
 use Rattle.evaluation.specs.Errors.{eval_error}
 use Rattle.evaluation.specs.declared.error.EvalError.{EvalError}
-use Rattle.evaluation.specs.declared.error.EvalError.TheVariants.{NoSolution, OutOf}
+use Rattle.evaluation.specs.declared.error.EvalError.TheVariants as Eval
 
 -- a fault is no refusal
-pub no-refusal : {T A : Type 0} (r : Result T EvalError) (x : Fault) → IsErrAnd r (λ y. y ≡ OutOf x) → r ≡ Err NoSolution → A
+pub no-refusal : {T A : Type 0} (r : Result T EvalError) (x : Fault) → IsErrAnd r (λ y. y ≡ Eval.Fault x) → r ≡ Err Eval.NoSolution → A
 no-refusal (Ok y) x h q = absurd h
 no-refusal (Err y) x h q = cc
 
@@ -21,9 +21,9 @@ same-error s (Ok z) x y e h q = absurd h
 same-error s (Err z) x y e h q = cc
 
 -- the error that an equation was refused with
-pub refused-by : {T : Type 0} (error : EqError) (e : EvalError) → e ≡ eval_error error → ◌≡◌ {A = Result T EvalError} (Err e) (Err NoSolution) → error ≡ Eq.NoSolution
+pub refused-by : {T : Type 0} (error : EqError) (e : EvalError) → e ≡ eval_error error → ◌≡◌ {A = Result T EvalError} (Err e) (Err Eval.NoSolution) → error ≡ Eq.NoSolution
 refused-by Eq.NoSolution e h q = refl
-refused-by (Eq.OutOf fault) e h q = cc
+refused-by (Eq.Fault fault) e h q = cc
 
 pub if-ok : {T E : Type 0} (P Q : T → Type 0) (r : Result T E) → ((x : T) → P x → Q x) → IfOk r P → IfOk r Q
 if-ok P Q (Ok x) f h = f x h

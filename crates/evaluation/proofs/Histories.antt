@@ -3,7 +3,7 @@ use Rattle.std.proofs.Common.{◌≡◌, ℕ, ◌+◌, ◌≤◌, ◌<◌, List,
 use Rattle.evaluation.specs.Lists.{Every, IsAmong, IsNoneOf, IsDistinct}
 use Rattle.evaluation.specs.Script.{Script, done, ask}
 use Rattle.evaluation.specs.Frame.{Frame, considers, answers, Finished, numbers}
-use Rattle.evaluation.specs.History.{Request, evaluate, enter_candidate, finish_candidate, ignore_candidate, returns, Reply, begin, entered, ignored, evaluated, finished, Position, between, inside, request, told, position, asks, IsReply, CameInOrder, finished_at, ignored_at, finished_in, ignored_in, results, others}
+use Rattle.evaluation.specs.History.{Request, evaluate, ignore_candidate, returns, Reply, begin, entered, ignored, evaluated, finished, Position, between, inside, request, told, position, asks, IsReply, CameInOrder, finished_at, ignored_at, finished_in, ignored_in, results, others}
 use Rattle.evaluation.proofs.Scripts.{Leads, Asks, Within, FrameLeads, FrameAsks, RequestsAtMost}
 
 -- the newest first, turned round, before some more
@@ -28,11 +28,8 @@ apart n (x ∷ xs) more i d = λ j. elim j [
 ]
 
 abbrev returned_or : {Q A : Type 0} → A → Request Q A → A
-returned_or b (evaluate q) = b
-returned_or b enter_candidate = b
-returned_or b finish_candidate = b
-returned_or b (ignore_candidate n) = b
 returned_or b (returns a) = a
+returned_or b request = b
 
 module _ {Q A : Type 0} (R : Q → A → Type 0) where
   -- a reply that came is one of four
@@ -45,30 +42,14 @@ module _ {Q A : Type 0} (R : Q → A → Type 0) where
       → C (inside heard replies (done a) go) (finished n) (between ((n, replies) ∷ heard) [] (go a n)))
       → (p : Position Q A) (reply : Reply A) → IsReply R p reply → C p reply (told reply p)
   step C e g r f (between heard gone (considers s go)) entered i = e heard gone s go
-  step C e g r f (between heard gone (considers s go)) begin i = absurd i
-  step C e g r f (between heard gone (considers s go)) ignored i = absurd i
-  step C e g r f (between heard gone (considers s go)) (evaluated a) i = absurd i
-  step C e g r f (between heard gone (considers s go)) (finished n) i = absurd i
   step C e g r f (between heard gone (answers a (n ∷ ns))) ignored i = g heard gone a n ns
-  step C e g r f (between heard gone (answers a (n ∷ ns))) begin i = absurd i
-  step C e g r f (between heard gone (answers a (n ∷ ns))) entered i = absurd i
-  step C e g r f (between heard gone (answers a (n ∷ ns))) (evaluated b) i = absurd i
-  step C e g r f (between heard gone (answers a (n ∷ ns))) (finished m) i = absurd i
-  step C e g r f (between heard gone (answers a [])) ignored i = absurd i
-  step C e g r f (between heard gone (answers a [])) begin i = absurd i
-  step C e g r f (between heard gone (answers a [])) entered i = absurd i
-  step C e g r f (between heard gone (answers a [])) (evaluated b) i = absurd i
-  step C e g r f (between heard gone (answers a [])) (finished m) i = absurd i
   step C e g r f (inside heard replies (ask q k) go) (evaluated a) i = r heard replies q k go a i
-  step C e g r f (inside heard replies (ask q k) go) begin i = absurd i
-  step C e g r f (inside heard replies (ask q k) go) entered i = absurd i
-  step C e g r f (inside heard replies (ask q k) go) ignored i = absurd i
-  step C e g r f (inside heard replies (ask q k) go) (finished n) i = absurd i
   step C e g r f (inside heard replies (done a) go) (finished n) i = f heard replies a go n i
-  step C e g r f (inside heard replies (done a) go) begin i = absurd i
-  step C e g r f (inside heard replies (done a) go) entered i = absurd i
-  step C e g r f (inside heard replies (done a) go) ignored i = absurd i
-  step C e g r f (inside heard replies (done a) go) (evaluated b) i = absurd i
+  step C e g r f (between heard gone (considers s go)) reply i = absurd i
+  step C e g r f (between heard gone (answers a [])) reply i = absurd i
+  step C e g r f (between heard gone (answers a (n ∷ ns))) reply i = absurd i
+  step C e g r f (inside heard replies (ask q k) go) reply i = absurd i
+  step C e g r f (inside heard replies (done a) go) reply i = absurd i
 
   -- what holds at the beginning and is kept by each reply
   pub holds : (f : Frame Q A) (Inv : List (Reply A) → Position Q A → Type 0) → Inv (begin ∷ []) (between [] [] f)
@@ -76,11 +57,7 @@ module _ {Q A : Type 0} (R : Q → A → Type 0) where
       → (heard : List (Reply A)) → CameInOrder R f heard → Inv heard (position f heard)
   holds f Inv start on [] h = absurd h
   holds f Inv start on (begin ∷ []) h = start
-  holds f Inv start on (begin ∷ last ∷ heard) h = on (last ∷ heard) (position f (last ∷ heard)) begin h.0 (holds f Inv start on (last ∷ heard) h.1)
-  holds f Inv start on (entered ∷ heard) h = on heard (position f heard) entered h.0 (holds f Inv start on heard h.1)
-  holds f Inv start on (ignored ∷ heard) h = on heard (position f heard) ignored h.0 (holds f Inv start on heard h.1)
-  holds f Inv start on (evaluated a ∷ heard) h = on heard (position f heard) (evaluated a) h.0 (holds f Inv start on heard h.1)
-  holds f Inv start on (finished n ∷ heard) h = on heard (position f heard) (finished n) h.0 (holds f Inv start on heard h.1)
+  holds f Inv start on (reply ∷ heard) h = on heard (position f heard) reply h.0 (holds f Inv start on heard h.1)
 
   -- ---- what a frame leads to
   module _ (P : List (Finished Q A) → List ℕ → A → Type 0) where
@@ -99,11 +76,9 @@ module _ {Q A : Type 0} (R : Q → A → Type 0) where
         (λ before replies a go n new k. starts ((n, replies) ∷ before) (go a n) (k n new)))
 
     at_return : (p : Position Q A) (a : A) → request p ≡ returns a → LeadsFrom p → P (finished_at p) (oldest_first (ignored_at p) []) a
-    at_return (between heard gone (considers s go)) a e l = absurd (cc)
     at_return (between heard gone (answers b [])) a e l = subst (P heard (oldest_first gone [])) (ap (returned_or b) e) l
-    at_return (between heard gone (answers b (n ∷ ns))) a e l = absurd (cc)
     at_return (inside heard replies (ask q k) go) a e l = absurd (cc)
-    at_return (inside heard replies (done b) go) a e l = absurd (cc)
+    at_return p a e l = absurd (cc)
 
     pub at_the_end : (f : Frame Q A) → FrameLeads R P [] f → (heard : List (Reply A)) (a : A) → CameInOrder R f heard → asks f heard ≡ returns a
         → P (finished_in f heard) (oldest_first (ignored_in f heard) []) a
@@ -111,23 +86,18 @@ module _ {Q A : Type 0} (R : Q → A → Type 0) where
 
   -- ---- what it ignores
   abbrev ignored_or : ℕ → Request Q A → ℕ
-  ignored_or m (evaluate q) = m
-  ignored_or m enter_candidate = m
-  ignored_or m finish_candidate = m
   ignored_or m (ignore_candidate n) = n
-  ignored_or m (returns a) = m
+  ignored_or m request = m
 
   abbrev Ignores : List (Finished Q A) → List ℕ → A → Type 0
   Ignores heard gone a = Every (λ n. IsAmong n (numbers heard)) gone × IsDistinct gone
 
   at_ignored : (p : Position Q A) (n : ℕ) → request p ≡ ignore_candidate n → LeadsFrom Ignores p → IsAmong n (numbers (finished_at p)) × IsNoneOf n (ignored_at p)
-  at_ignored (between heard gone (considers s go)) n e l = absurd (cc)
-  at_ignored (between heard gone (answers b [])) n e l = absurd (cc)
   at_ignored (between heard gone (answers b (m ∷ ns))) n e l =
       subst (λ k. IsAmong k (numbers heard) × IsNoneOf k gone) (ap (ignored_or m) e)
       ((Every-back (λ k. IsAmong k (numbers heard)) gone (m ∷ ns) l.0).0, apart m gone (m ∷ ns) (inl refl) l.1)
   at_ignored (inside heard replies (ask q k) go) n e l = absurd (cc)
-  at_ignored (inside heard replies (done b) go) n e l = absurd (cc)
+  at_ignored p n e l = absurd (cc)
 
   pub ignores_once : (f : Frame Q A) → FrameLeads R Ignores [] f → (heard : List (Reply A)) (n : ℕ) → CameInOrder R f heard → asks f heard ≡ ignore_candidate n
       → IsAmong n (numbers (finished_in f heard)) × IsNoneOf n (ignored_in f heard)
@@ -157,11 +127,8 @@ module _ {Q A : Type 0} (R : Q → A → Type 0) where
 
   now_on : (questions rest : ℕ) (heard : List (Reply A)) (p : Position Q A) (reply : Reply A) (x : LeftNow questions rest heard p) → LeftAfter x.0 x.1 reply (told reply p)
       → (IsReply R p reply → LeftNow questions rest (reply ∷ heard) (told reply p))
-  now_on questions rest heard p begin x y i = (x.0, y.0, x.2, (let a = x.3 in let b = y.1 in omega (arith, a, b)), y.2)
-  now_on questions rest heard p entered x y i = (x.0, y.0, x.2, (let a = x.3 in let b = y.1 in omega (arith, a, b)), y.2)
-  now_on questions rest heard p ignored x y i = (x.0, y.0, x.2, (let a = x.3 in let b = y.1 in omega (arith, a, b)), y.2)
   now_on questions rest heard p (evaluated a) x y i = (y.0, x.1, (let a = x.2 in let b = y.1 in omega (arith, a, b)), x.3, y.2)
-  now_on questions rest heard p (finished n) x y i = (x.0, y.0, x.2, (let a = x.3 in let b = y.1 in omega (arith, a, b)), y.2)
+  now_on questions rest heard p reply x y i = (x.0, y.0, x.2, (let a = x.3 in let b = y.1 in omega (arith, a, b)), y.2)
 
   left_now : (questions rest : ℕ) (f : Frame Q A) → RequestsAtMost questions rest [] f → (heard : List (Reply A)) → CameInOrder R f heard → LeftNow questions rest heard (position f heard)
   left_now questions rest f l =
@@ -169,11 +136,9 @@ module _ {Q A : Type 0} (R : Q → A → Type 0) where
       (λ heard p reply i x. now_on questions rest heard p reply x (left_on x.0 x.1 p reply i x.4) i)
 
   at_question : (p : Position Q A) (questions rest : ℕ) (q : Q) → request p ≡ evaluate q → LeftAt questions rest p → 0 < questions
-  at_question (between heard gone (considers s go)) questions rest q e l = absurd (cc)
-  at_question (between heard gone (answers b [])) questions rest q e l = absurd (cc)
-  at_question (between heard gone (answers b (n ∷ ns))) questions rest q e l = absurd (cc)
   at_question (inside heard replies (ask p k) go) questions rest q e l = let x = l.2.1 in omega (arith, x)
-  at_question (inside heard replies (done b) go) questions rest q e l = absurd (cc)
+  at_question (between heard gone (answers b [])) questions rest q e l = absurd (cc)
+  at_question p questions rest q e l = absurd (cc)
 
   -- a question comes only while there is room
   pub at_a_question : (questions rest : ℕ) (f : Frame Q A) → RequestsAtMost questions rest [] f
@@ -204,24 +169,17 @@ module _ {Q A : Type 0} (R : Q → A → Type 0) where
 
     abbrev question_or : Q → Request Q A → Q
     question_or p (evaluate q) = q
-    question_or p enter_candidate = p
-    question_or p finish_candidate = p
-    question_or p (ignore_candidate n) = p
-    question_or p (returns a) = p
+    question_or p request = p
 
     asked_at : (p : Position Q A) (q : Q) → request p ≡ evaluate q → AsksFrom p → S q
-    asked_at (between heard gone (considers s go)) q e l = absurd (cc)
-    asked_at (between heard gone (answers b [])) q e l = absurd (cc)
-    asked_at (between heard gone (answers b (n ∷ ns))) q e l = absurd (cc)
     asked_at (inside heard replies (ask p k) go) q e l = subst S (ap (question_or p) e) l.0
-    asked_at (inside heard replies (done b) go) q e l = absurd (cc)
+    asked_at (between heard gone (answers b [])) q e l = absurd (cc)
+    asked_at p q e l = absurd (cc)
 
     returned_at : (p : Position Q A) (a : A) → request p ≡ returns a → AsksFrom p → P a
-    returned_at (between heard gone (considers s go)) a e l = absurd (cc)
     returned_at (between heard gone (answers b [])) a e l = subst P (ap (returned_or b) e) l
-    returned_at (between heard gone (answers b (n ∷ ns))) a e l = absurd (cc)
     returned_at (inside heard replies (ask q k) go) a e l = absurd (cc)
-    returned_at (inside heard replies (done b) go) a e l = absurd (cc)
+    returned_at p a e l = absurd (cc)
 
     pub asks_so : (f : Frame Q A) → FrameAsks S R P [] f → (heard : List (Reply A)) (q : Q) → CameInOrder R f heard → asks f heard ≡ evaluate q → S q
     asks_so f l heard q h e = asked_at (position f heard) q e (asking f l heard h)

@@ -1,7 +1,7 @@
 -- Goals and replies as trees stay the same while the interner grows.
 use Rattle.std.specs.Prelude.{◌≡◌, List, [], ◌∷◌, Option, Some, None, option_map, refl}
 use Rattle.std.proofs.Common.{ap}
-use Rattle.model.specs.Label.{Label, principal}
+use Rattle.model.specs.Label.{Label, of_trait, predicate}
 use Rattle.model.specs.Trees.{Trees, none, tree, ◌+++◌}
 use Rattle.type_terms.specs.Terms.{Entry, Keeps, types, args_lists}
 use Rattle.type_terms.specs.Kinds.{region_trees}
@@ -9,12 +9,8 @@ use Rattle.term_folds.specs.Kept.{trees-later}
 use Rattle.term_folds.specs.Clauses.{ClauseHeld}
 use Rattle.term_folds.specs.declared.predicate.Clause.{Clause}
 use Rattle.term_folds.specs.declared.predicate.Clause.TheVariants.{Trait, RegionOutlives as ClauseRegion, TypeOutlives as ClauseType}
-use Rattle.infer_table.specs.Constraints.{constraint_label, constraint_terms, constraints_trees}
-use Rattle.infer_table.specs.Content.{IsHeldConstraint, AllConstraintsHeld}
 use Rattle.infer_table.specs.declared.certainty.Certainty.{Certainty}
 use Rattle.infer_table.specs.declared.canonical.CanonicalVarKind.{CanonicalVarKind}
-use Rattle.infer_table.specs.declared.terms.RegionConstraint.{RegionConstraint}
-use Rattle.infer_table.specs.declared.terms.RegionConstraint.TheVariants.{Equal, RegionOutlives, TypeOutlives}
 use Rattle.infer_table.specs.declared.response.CanonicalResponse.{CanonicalResponse}
 use Rattle.infer_table.specs.Goals.{ClausesHeld, clause_label, clause_terms, environment_trees}
 use Rattle.infer_table.specs.Values.{Value, values-later}
@@ -23,6 +19,7 @@ use Rattle.evaluation.specs.Lists.{Every}
 use Rattle.infer_table.specs.Responses.{ResponseHeld}
 use Rattle.evaluation.specs.Readings.{ResultHeld}
 use Rattle.infer_table.specs.Responses.{AnswerTrees, answer_trees}
+use Rattle.infer_table.proofs.PairFacts.{constraints-later}
 use Rattle.evaluation.specs.Context.{NestedGoal, GoalIsHeld, NestedHeld}
 use Rattle.evaluation.specs.Evaluating.{NestedTrees, nested_trees, goals_trees, replies_trees}
 
@@ -53,24 +50,15 @@ module _ (old new : List Entry) (k : Keeps old new) where
   pub goal-trees-later : (n : NestedGoal) → GoalIsHeld old n → nested_trees new n ≡ nested_trees old n
   goal-trees-later n h =
       one-goal n.source _ _ _ _ (environment-later n.clauses h.clauses)
-      (ap (λ t. tree (principal 0 n.predicate.trait_ref.def_id.index) t none) (trees-later old new k args_lists n.predicate.trait_ref.args.0 h.predicate))
+      (ap (λ t. tree (predicate (of_trait n.predicate.trait_ref.def_id.index)) t none) (trees-later old new k args_lists n.predicate.trait_ref.args.0 h.predicate))
 
   pub goals-trees-later : (ns : List NestedGoal) → NestedHeld old ns → goals_trees new ns ≡ goals_trees old ns
   goals-trees-later [] h = refl
   goals-trees-later (n ∷ ns) h = one-more _ _ _ _ (goal-trees-later n h.0) (goals-trees-later ns h.1)
 
-  constraint-later : (c : RegionConstraint) → IsHeldConstraint old c → constraint_terms new c ≡ constraint_terms old c
-  constraint-later (Equal a b) h = refl
-  constraint-later (RegionOutlives a b) h = refl
-  constraint-later (TypeOutlives t r) h = ap (λ z. z +++ region_trees r) (trees-later old new k types t.0 h.0)
-
-  constraints-later : (cs : List RegionConstraint) → AllConstraintsHeld old cs → constraints_trees new cs ≡ constraints_trees old cs
-  constraints-later [] h = refl
-  constraints-later (c ∷ cs) h = node (constraint_label c) _ _ _ _ (constraint-later c h.0) (constraints-later cs h.1)
-
   pub answer-trees-later : (r : CanonicalResponse) → ResponseHeld old r → answer_trees new r ≡ answer_trees old r
   answer-trees-later r h =
-      one-answer r.variables.items r.certainty _ _ _ _ (values-later old new k r.var_values.items h.values) (constraints-later r.region_constraints.items h.constraints)
+      one-answer r.variables.items r.certainty _ _ _ _ (values-later old new k r.var_values.items h.values) (constraints-later old new k r.region_constraints.items h.constraints)
 
   reply-trees-later : (r : Option CanonicalResponse) → ResultHeld old r → option_map (answer_trees new) r ≡ option_map (answer_trees old) r
   reply-trees-later None h = refl

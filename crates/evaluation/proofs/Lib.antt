@@ -34,6 +34,7 @@ pub mod CallEnds
 pub mod Putting
 pub mod Beginning
 pub mod Turns
+pub mod Shortages
 pub mod Later
 pub mod Ending
 pub mod Handed

@@ -26,7 +26,7 @@ use Rattle.evaluation.specs.Context.{NestedGoal, NestedHeld}
 use Rattle.evaluation.specs.Evaluating.{Question, NestedTrees, nested_trees, goals_trees, replies_trees, put_into, evaluation, IsAskedBy, values_asked}
 use Rattle.evaluation.specs.Steps.{RoundEnds}
 use Rattle.evaluation.specs.declared.error.EvalError.{EvalError}
-use Rattle.evaluation.specs.declared.error.EvalError.TheVariants.{NoSolution, OutOf}
+use Rattle.evaluation.specs.declared.error.EvalError.TheVariants.{NoSolution, Fault}
 use Rattle.evaluation.specs.declared.rounds.RoundStep.{RoundStep}
 use Rattle.evaluation.specs.declared.rounds.RoundStep.TheVariants as Of
 use Rattle.evaluation.proofs.LaterTrees.{goals-trees-later, replies-trees-later, answer-trees-later}
@@ -71,7 +71,7 @@ module _ (mode : TypingMode) where
     pub round-unapplied : (n : NestedTrees) (ns : List NestedTrees) (t : TableTrees) (before after : List NestedGoal) (a : AnswerTrees) (more : List (Option AnswerTrees)) (e : EvalError)
         → (e ≡ NoSolution → (evaluation mode).apply t n a ≡ None)
         → RoundEnds mode es T before after (run (round (evaluation mode) (n ∷ ns) t) (Some a ∷ more)) (Err e)
-    round-unapplied n ns t before after a more (OutOf fault) h = tt
+    round-unapplied n ns t before after a more (Fault fault) h = tt
     round-unapplied n ns t before after a more NoSolution h =
         subst (λ x. RoundEnds mode es T before after x (Err NoSolution)) (sym (run-unapplied (evaluation mode) n ns t a more (h refl))) tt
 
@@ -82,7 +82,7 @@ module _ (mode : TypingMode) where
 
     module _ (before after : List NestedGoal) (m : NestedGoal) (n : NestedTrees) (a : AnswerTrees) (same : nested_trees es m ≡ n) where
       kept-fault : (r : RoundRun) (e : EvalError) → RoundEnds mode es T (before ++ m ∷ []) after r (Err e) → RoundEnds mode es T before after (onward (kept (evaluation mode) n a) r) (Err e)
-      kept-fault r (OutOf fault) h = tt
+      kept-fault r (Fault fault) h = tt
       kept-fault (ready None more) NoSolution h = h
       kept-fault (ready (Some o) more) NoSolution h = absurd h
       kept-fault (waits q) NoSolution h = absurd h

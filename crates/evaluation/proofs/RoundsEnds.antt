@@ -17,7 +17,7 @@ use Rattle.evaluation.specs.Evaluating.{Question, NestedTrees, goals_trees, repl
 use Rattle.evaluation.specs.Ends.{IsRefused, Awaits, EndsIn}
 use Rattle.evaluation.specs.Steps.{RoundEnds, RoundsEnd, SameRounds}
 use Rattle.evaluation.specs.declared.error.EvalError.{EvalError}
-use Rattle.evaluation.specs.declared.error.EvalError.TheVariants.{NoSolution, OutOf}
+use Rattle.evaluation.specs.declared.error.EvalError.TheVariants.{NoSolution, Fault}
 use Rattle.evaluation.specs.declared.rounds.RoundStep.TheVariants as Of
 use Rattle.evaluation.proofs.RunRounds.{run-rounds}
 
@@ -99,7 +99,7 @@ module _ (mode : TypingMode) where
     -- a refusal, or a fault
     pub rounds-fault : (es : List Entry) (T : Table) (left : List NestedGoal) (x : EvalError) → RoundEnds mode es T [] left (run (round (evaluation mode) ns t) rs) (Err x)
         → RoundsEnd mode es T (run (rounds (evaluation mode) limit ns t) rs) (Err x)
-    rounds-fault es T left (OutOf fault) h = tt
+    rounds-fault es T left (Fault fault) h = tt
     rounds-fault es T left NoSolution h = rounds-refused h
 
     -- no reply is there

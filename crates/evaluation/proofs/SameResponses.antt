@@ -4,9 +4,6 @@ use Rattle.std.specs.Bool.{Decides}
 use Rattle.std.proofs.lemmas.Slice.Eq.{slice_eq-Decides}
 use Rattle.type_terms.specs.declared.kinds.Const as const-module
 use Rattle.type_terms.specs.declared.kinds.GenericArgKind.{GenericArgKind}
-use Rattle.type_terms.specs.declared.kinds.GenericArgKind.TheVariants.{Lifetime, Ty, Const}
-use Rattle.type_terms.specs.contracts.kinds.ConstPartialEq.TheImpl.{ghosts as const}
-use Rattle.type_terms.specs.contracts.kinds.GenericArgKindPartialEq.TheImpl.{ghosts as arg}
 use Rattle.type_terms.proofs.Equal.{both, through}
 use Rattle.infer_table.specs.declared.canonical.CanonicalVarKind.{CanonicalVarKind}
 use Rattle.infer_table.specs.declared.certainty.Certainty.{Certainty}
@@ -20,25 +17,16 @@ use Rattle.infer_table.specs.contracts.certainty.MaybeCausePartialEq.TheImpl.{gh
 use Rattle.infer_table.specs.contracts.terms.RegionConstraintPartialEq.TheImpl.{ghosts as constraint}
 use Rattle.infer_table.specs.declared.response.CanonicalResponse.{CanonicalResponse}
 use Rattle.infer_table.specs.contracts.response.CanonicalResponsePartialEq.TheImpl.{ghosts as response}
-use Rattle.infer_table.proofs.LeafFacts.{region-eq, ty-eq}
+use Rattle.infer_table.proofs.LeafFacts.{region-eq, ty-eq, arg-eq}
 use Rattle.evaluation.specs.Responses.{Content, content}
 
-const-eq : (a b : const-module.Const) → Decides (const.eq a b) (a ≡ b)
-const-eq a b = search rules
-
-arg-eq : (a b : GenericArgKind) → Decides (arg.eq a b) (a ≡ b)
-arg-eq (Lifetime r) (Lifetime s) = through _ _ _ (region-eq r s) (λ p. ap Lifetime p) (λ e. cc)
-arg-eq (Ty t) (Ty u) = through _ _ _ (ty-eq t u) (λ p. ap Ty p) (λ e. cc)
-arg-eq (Const t) (Const u) = through _ _ _ (const-eq t u) (λ p. ap Const p) (λ e. cc)
-arg-eq _ _ = (λ e. cc, λ e. cc)
-
-kind-eq : (a b : CanonicalVarKind) → Decides (kind.eq a b) (a ≡ b)
+pub kind-eq : (a b : CanonicalVarKind) → Decides (kind.eq a b) (a ≡ b)
 kind-eq a b = search rules
 
 cause-eq : (a b : MaybeCause) → Decides (cause.eq a b) (a ≡ b)
 cause-eq a b = search rules
 
-certainty-eq : (a b : Certainty) → Decides (certainty.eq a b) (a ≡ b)
+pub certainty-eq : (a b : Certainty) → Decides (certainty.eq a b) (a ≡ b)
 certainty-eq Yes Yes = (λ e. refl, λ e. refl)
 certainty-eq (Maybe a) (Maybe b) = through _ _ _ (cause-eq a b) (λ p. ap Maybe p) (λ e. cc)
 certainty-eq _ _ = (λ e. cc, λ e. cc)
@@ -49,7 +37,7 @@ constraint-eq (RegionOutlives a b) (RegionOutlives x y) = through _ _ _ (both _ 
 constraint-eq (TypeOutlives t r) (TypeOutlives u s) = through _ _ _ (both _ _ _ _ (ty-eq t u) (region-eq r s)) (λ p. cc) (λ e. (cc, cc))
 constraint-eq _ _ = (λ e. cc, λ e. cc)
 
-content-cong : (a b : List CanonicalVarKind) (c d : Certainty) (v w : List GenericArgKind) (r s : List RegionConstraint) → a ≡ b → c ≡ d → v ≡ w → r ≡ s
+pub content-cong : (a b : List CanonicalVarKind) (c d : Certainty) (v w : List GenericArgKind) (r s : List RegionConstraint) → a ≡ b → c ≡ d → v ≡ w → r ≡ s
     → ◌≡◌ {A = Content} (record { variables = a; certainty = c; values = v; constraints = r }) (record { variables = b; certainty = d; values = w; constraints = s })
 content-cong a b c d v w r s p q x y = cc
 

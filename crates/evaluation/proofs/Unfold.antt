@@ -12,12 +12,12 @@ pub among-right : {A : Type 0} (x : A) (xs ys : List A) → IsAmong x ys → IsA
 among-right x [] ys i = i
 among-right x (z ∷ xs) ys i = inr (among-right x xs ys i)
 
-among-parts : {A : Type 0} (x : A) (xs ys : List A) → IsAmong x (xs ++ ys) → IsAmong x xs ⊎ IsAmong x ys
+pub among-parts : {A : Type 0} (x : A) (xs ys : List A) → IsAmong x (xs ++ ys) → IsAmong x xs ⊎ IsAmong x ys
 among-parts x [] ys i = inr i
 among-parts x (z ∷ xs) ys (inl e) = inl (inl e)
 among-parts x (z ∷ xs) ys (inr i) = elim (among-parts x xs ys i) [ inl a ↦ inl (inr a) | inr b ↦ inr b ]
 
-among-map : {A B : Type 0} (f : A → B) (x : A) (xs : List A) → IsAmong x xs → IsAmong (f x) (map f xs)
+pub among-map : {A B : Type 0} (f : A → B) (x : A) (xs : List A) → IsAmong x xs → IsAmong (f x) (map f xs)
 among-map f x [] i = absurd i
 among-map f x (y ∷ ys) (inl e) = inl (ap f e)
 among-map f x (y ∷ ys) (inr i) = inr (among-map f x ys i)

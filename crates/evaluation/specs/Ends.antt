@@ -12,7 +12,7 @@ use Rattle.evaluation.specs.Rounds.{Rounds}
 use Rattle.evaluation.specs.declared.context.EvalStep.{EvalStep}
 use Rattle.evaluation.specs.declared.context.EvalStep.TheVariants as Step
 use Rattle.evaluation.specs.declared.error.EvalError.{EvalError}
-use Rattle.evaluation.specs.declared.error.EvalError.TheVariants.{NoSolution, OutOf}
+use Rattle.evaluation.specs.declared.error.EvalError.TheVariants.{NoSolution, Fault}
 use Rattle.infer_table.specs.Values.{values_of}
 use Rattle.infer_table.specs.Responses.{AnswerTrees, ResponseHeld, answer_trees}
 use Rattle.evaluation.specs.Context.{Context}
@@ -51,7 +51,7 @@ module _ (mode : TypingMode) (es : List Entry) (old new : Context) where
 
   -- how a call that evaluates ends; where it is not ready, the context is as before
   abbrev pub CallEnds : Run Question (Option AnswerTrees) (Option (Rounds (evaluation mode))) → Result (EvalStep Certainty) EvalError → Type 0
-  CallEnds r (Err (OutOf fault)) = new ≡ old
+  CallEnds r (Err (Fault fault)) = new ≡ old
   CallEnds r (Err NoSolution) = IsRefused r × (new ≡ old)
   CallEnds r (Ok (Step.Ask input source)) = Awaits r (question_of es input source) × (new ≡ old)
   CallEnds r (Ok (Step.Ready certainty)) = EndsIn (λ o more. IsSettled o × (o.certainty ≡ certainty)) r
@@ -67,7 +67,7 @@ module _ (mode : TypingMode) (es : List Entry) (old new : Context) where
     pub is : answer_trees es r ≡ answer_of old.variables (values_of es old.values) o.table (joined certainty o.certainty)
 
   abbrev pub AnswerEnds : Certainty → Run Question (Option AnswerTrees) (Option (Rounds (evaluation mode))) → Result (EvalStep CanonicalResponse) EvalError → Type 0
-  AnswerEnds certainty r (Err (OutOf fault)) = new ≡ old
+  AnswerEnds certainty r (Err (Fault fault)) = new ≡ old
   AnswerEnds certainty r (Err NoSolution) = IsRefused r × (new ≡ old)
   AnswerEnds certainty r (Ok (Step.Ask input source)) = Awaits r (question_of es input source) × (new ≡ old)
   AnswerEnds certainty r (Ok (Step.Ready answer)) = EndsIn (λ o more. IsAnswered certainty answer o) r

@@ -2,8 +2,8 @@
 use Rattle.infer_table.specs.declared.certainty.EqError.{EqError}
 use Rattle.infer_table.specs.declared.certainty.EqError.TheVariants as Eq
 use Rattle.evaluation.specs.declared.error.EvalError.{EvalError}
-use Rattle.evaluation.specs.declared.error.EvalError.TheVariants.{NoSolution, OutOf}
+use Rattle.evaluation.specs.declared.error.EvalError.TheVariants.{NoSolution, Fault}
 
 abbrev pub eval_error : EqError → EvalError
 eval_error Eq.NoSolution = NoSolution
-eval_error (Eq.OutOf fault) = OutOf fault
+eval_error (Eq.Fault fault) = Fault fault

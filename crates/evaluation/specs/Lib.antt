@@ -33,3 +33,5 @@ pub mod Steps
 pub mod Frames
 pub mod Trial
 pub mod TrialEnds
+pub mod Shortages
+pub mod Runs

@@ -1,6 +1,6 @@
 -- What frames are proved to keep, for every lawful handler over every lawful table. A history is the list of the replies to a
 -- frame's requests, the newest first.
-use Rattle.std.specs.Prelude.{◌≡◌, ℕ, suc, ◌*◌, ◌≤◌, ◌<◌, Bool, true, List, [], Option}
+use Rattle.std.specs.Prelude.{◌≡◌, ℕ, suc, ◌*◌, ◌≤◌, ◌<◌, Bool, List, [], Option}
 use Rattle.evaluation.specs.declared.TheConstants.{FIXPOINT_STEP_LIMIT}
 use Rattle.evaluation.specs.Lists.{IsAmong, IsNoneOf}
 use Rattle.evaluation.specs.Table.{Tables, workings}

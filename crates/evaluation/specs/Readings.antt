@@ -1,6 +1,6 @@
 -- The handles of candidates and of what handlers say, and the kinds of steps.
 use Rattle.std.specs.Prelude.{◌≡◌, ℕ, Bool, false, List, [], map, reverse, Option, Some, None, option_map}
-use Rattle.model.specs.Label.{principal}
+use Rattle.model.specs.Label.{of_trait, predicate}
 use Rattle.model.specs.Trees.{Trees, none, tree}
 use Rattle.type_terms.specs.Terms.{Entry}
 use Rattle.type_terms.specs.Kinds.{ArgHeld}
@@ -27,7 +27,7 @@ use Rattle.evaluation.specs.Candidate.{Spec, Considered, Next, consider, answer}
 
 -- the goal is one of this trait
 abbrev pub IsOfTrait : ℕ → CanonicalForm → Type 0
-IsOfTrait n f = (args : Trees) × (f.goal.predicate ≡ tree (principal 0 n) args none)
+IsOfTrait n f = (args : Trees) × (f.goal.predicate ≡ tree (predicate (of_trait n)) args none)
 
 -- a step is coinductive if it leads to a premise, and the asking goal's trait is coinductive
 abbrev pub is_coinductive_step : Bool → GoalSource → Bool

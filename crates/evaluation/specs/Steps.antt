@@ -11,7 +11,7 @@ use Rattle.evaluation.specs.Readings.{ResultHeld}
 use Rattle.evaluation.specs.Replays.{Run}
 use Rattle.evaluation.specs.Rounds.{Round, Rounds}
 use Rattle.evaluation.specs.declared.error.EvalError.{EvalError}
-use Rattle.evaluation.specs.declared.error.EvalError.TheVariants.{NoSolution, OutOf}
+use Rattle.evaluation.specs.declared.error.EvalError.TheVariants.{NoSolution, Fault}
 use Rattle.evaluation.specs.declared.rounds.RoundStep.{RoundStep}
 use Rattle.evaluation.specs.declared.rounds.RoundStep.TheVariants as Of
 use Rattle.evaluation.specs.declared.rounds.RoundsStep.{RoundsStep}
@@ -31,7 +31,7 @@ module _ (mode : TypingMode) (es : List Entry) (T : Table) where
 
   -- a fault is no end
   abbrev pub RoundEnds : List NestedGoal → List NestedGoal → Run Question (Option AnswerTrees) (Option (Round (evaluation mode))) → Result RoundStep EvalError → Type 0
-  RoundEnds before after r (Err (OutOf fault)) = Unit {0}
+  RoundEnds before after r (Err (Fault fault)) = Unit {0}
   RoundEnds before after r (Err NoSolution) = IsRefused r
   RoundEnds before after r (Ok (Of.Waits input source)) = Awaits r (question_of es input source)
   RoundEnds before after r (Ok (Of.Ended changed certainty replies)) = EndsIn (λ o more. SameRound before after o changed certainty × (more ≡ replies_trees es replies.now)) r
@@ -42,7 +42,7 @@ module _ (mode : TypingMode) (es : List Entry) (T : Table) where
     pub certainty_is : o.certainty ≡ certainty
 
   abbrev pub RoundsEnd : Run Question (Option AnswerTrees) (Option (Rounds (evaluation mode))) → Result RoundsStep EvalError → Type 0
-  RoundsEnd r (Err (OutOf fault)) = Unit {0}
+  RoundsEnd r (Err (Fault fault)) = Unit {0}
   RoundsEnd r (Err NoSolution) = IsRefused r
   RoundsEnd r (Ok (OfRounds.Waits input source)) = Awaits r (question_of es input source)
   RoundsEnd r (Ok (OfRounds.Ended left certainty)) = EndsIn (λ o more. SameRounds (map nested_goal left.items) certainty o) r

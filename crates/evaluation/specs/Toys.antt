@@ -1,8 +1,8 @@
 -- Small lists of rules, and what the frames of their goals ask and answer.
-use Rattle.std.specs.Prelude.{◌≡◌, ℕ, ◌==◌, true, false, List, [], ◌∷◌, Option, Some, None}
+use Rattle.std.specs.Prelude.{◌≡◌, ℕ, zero, suc, ◌==◌, true, false, List, [], ◌∷◌, Option, Some, None}
 use Rattle.infer_table.specs.declared.certainty.Certainty.TheVariants.{Yes, Maybe}
 use Rattle.infer_table.specs.declared.certainty.MaybeCause.TheVariants.{Ambiguity, Overflow}
-use Rattle.evaluation.specs.History.{Request, Reply, asks}
+use Rattle.evaluation.specs.History.{Request, Reply, evaluated, asks}
 use Rattle.evaluation.specs.Promises.{frame_of_goal}
 use Rattle.evaluation.specs.Atoms.{Argument, atom, unknown, Goal, Response, atoms, RuleBook, Rule, handled_by}
 
@@ -71,6 +71,11 @@ maybe = Some (record { certainty = Maybe Ambiguity; value = None })
 
 abbrev pub overflow : Option Response
 overflow = Some (record { certainty = Maybe Overflow; value = None })
+
+-- so many rounds more, in each of which the one premise is answered with the value u8
+abbrev pub rounds_with_values : ℕ → List (Reply (Option Response)) → List (Reply (Option Response))
+rounds_with_values zero heard = heard
+rounds_with_values (suc n) heard = evaluated (yes_with u8) ∷ rounds_with_values n heard
 
 -- the goal's frame makes this request after these replies, the newest first
 abbrev pub Asks : RuleBook → Goal → List (Reply (Option Response)) → Request Goal (Option Response) → Type 0

@@ -10,7 +10,7 @@ use Rattle.evaluation.specs.Replays.{Run}
 use Rattle.evaluation.specs.declared.context.EvalStep.{EvalStep}
 use Rattle.evaluation.specs.declared.context.EvalStep.TheVariants.{Ready, Ask}
 use Rattle.evaluation.specs.declared.error.EvalError.{EvalError}
-use Rattle.evaluation.specs.declared.error.EvalError.TheVariants.{NoSolution, OutOf}
+use Rattle.evaluation.specs.declared.error.EvalError.TheVariants.{NoSolution, Fault}
 use Rattle.evaluation.specs.Ends.{IsRefused, Awaits, EndsIn}
 use Rattle.evaluation.specs.Evaluating.{Question, question_of}
 use Rattle.evaluation.specs.declared.trial.Trial.{Trial}
@@ -22,7 +22,7 @@ trial_trees es kinds t = record { kinds = kinds; own = values_of es t.own.items;
 
 -- a fault is no end
 abbrev pub CandidateEnds : List Entry → Run Question (Option AnswerTrees) (Option AnswerTrees) → Result (EvalStep CanonicalResponse) EvalError → Type 0
-CandidateEnds es r (Err (OutOf fault)) = Unit {0}
+CandidateEnds es r (Err (Fault fault)) = Unit {0}
 CandidateEnds es r (Err NoSolution) = IsRefused r
 CandidateEnds es r (Ok (Ask input source)) = Awaits r (question_of es input source)
 CandidateEnds es r (Ok (Ready answer)) = EndsIn (λ a more. answer_trees es answer ≡ a) r

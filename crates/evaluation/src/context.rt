@@ -3,7 +3,9 @@ ghost use Rattle.std.specs.Prelude.{◌≡◌, ◌<◌, ◌⊎◌, List, [], ◌
 ghost use Rattle.type_terms.specs.Terms.{Entry, Keeps};
 ghost use Rattle.type_terms.specs.Kinds.{ArgHeld, ArgsHeld, arg_trees};
 ghost use Rattle.type_terms.specs.declared.TheConstants.{MAX_INDEX};
-ghost use Rattle.infer_table.specs.Solutions.{Equates, HasNoSolution, OlderStays};
+ghost use Rattle.term_folds.specs.Failures.{SomeKindIsFull};
+ghost use Rattle.infer_table.specs.Numbers.{RunsOut};
+ghost use Rattle.infer_table.specs.Solutions.{HasNoSolution};
 ghost use Rattle.infer_table.specs.Content.{content, Ready, Grows};
 ghost use Rattle.model.specs.Trees.{none};
 ghost use Rattle.infer_table.specs.Values.{values_of};
@@ -11,12 +13,12 @@ ghost use Rattle.infer_table.specs.Raw.{IsFull, variables_from};
 ghost use Rattle.infer_table.specs.Responses.{ResponseHeld, answer_trees};
 ghost use Rattle.evaluation.specs.Readings.{ResultHeld};
 ghost use Rattle.evaluation.specs.Context.{Context, IsReady, nested_goal};
-ghost use Rattle.evaluation.specs.OwnAnswers.{SaysWhatIsKnown, SaysNothing, Says, known_answer, answer_of};
+ghost use Rattle.evaluation.specs.OwnAnswers.{SaysWhatIsKnown, SaysNothing, Says, known_answer};
 ghost use Rattle.infer_table.specs.Unification.{table_trees};
-ghost use Rattle.evaluation.specs.Replays.{run};
-ghost use Rattle.evaluation.specs.Rounds.{rounds};
 ghost use Rattle.evaluation.specs.declared.TheConstants.{FIXPOINT_STEP_LIMIT};
-ghost use Rattle.evaluation.specs.Evaluating.{evaluation, goals_trees, replies_trees};
+ghost use Rattle.evaluation.specs.Shortages.{KnowsTooMuch, GoalsRunOut, CallRunsOut};
+ghost use Rattle.infer_table.specs.Equated.{only_equation, MakesEqual, LeavesTheOlder};
+ghost use Rattle.evaluation.specs.Runs.{own_rounds, own_answer, HasNoOwnAnswer};
 ghost use Rattle.evaluation.specs.Ends.{CallEnds, AnswerEnds, AnswerHeld};
 ghost use Rattle.evaluation.specs.Steps.{RoundsEnd, RoundsHeld, IsUndone};
 ghost use Rattle.evaluation.specs.Probes.{TakesBoth, Returns, IsUndoable};
@@ -160,7 +162,8 @@ impl EvalCtxt {
     /// Makes the two equal in the context's table. Two lifetimes that differ are recorded as equal and refuse nothing.
     ///
     /// Afterwards the solutions of the table are those from before that make the two equal; `NoSolution` comes exactly where
-    /// there is none. After a refusal the context is as before; the interner may hold more terms.
+    /// there is none. `Full` comes only where some kind of term has reached the interner's limit, or lifetimes get no numbers.
+    /// After a refusal the context is as before; the interner may hold more terms.
     pub fn eq(
         &mut self,
         cx: &mut Interner,
@@ -177,10 +180,12 @@ impl EvalCtxt {
 
         // Nothing but the table changes.
         ensures rest { self.new ≡ record self.old { table = self.new.table } }
-        ensures equates { OnOk result (Equates (content cx.old.entries self.old.table.values) (content cx.new.entries self.new.table.values) (arg_trees cx.old.entries left) (arg_trees cx.old.entries right)) }
-        ensures older { OnOk result (OlderStays (content cx.old.entries self.old.table.values) (content cx.new.entries self.new.table.values) (arg_trees cx.old.entries left) (arg_trees cx.old.entries right)) }
+        ensures equates { OnOk result (MakesEqual cx.old.entries self.old.table cx.new.entries self.new.table (arg_trees cx.old.entries left) (arg_trees cx.old.entries right)) }
+        ensures older { OnOk result (LeavesTheOlder cx.old.entries self.old.table cx.new.entries self.new.table (arg_trees cx.old.entries left) (arg_trees cx.old.entries right)) }
         ensures never { result ≡ Err EvalError.NoSolution → HasNoSolution (content cx.old.entries self.old.table.values) (arg_trees cx.old.entries left) (arg_trees cx.old.entries right) }
         ensures refused { OnErr result (self.new ≡ self.old) }
+        ensures full { result ≡ Err (EvalError.Fault Fault.Full) → SomeKindIsFull cx.new.entries cx.new.limit
+            ⊎ RunsOut (table_trees cx.old.entries self.old.table) (only_equation cx.old.entries left right) }
     {
         match self.table.eq(cx, left, right) {
             Ok(()) => Ok(()),
@@ -205,10 +210,12 @@ impl EvalCtxt {
         ensures keeps { Keeps cx.old.entries cx.new.entries }
         ensures limit { cx.new.limit ≡ cx.old.limit }
         ensures rest { self.new ≡ record self.old { table = self.new.table } }
-        ensures equates { OnOk result (Equates (content cx.old.entries self.old.table.values) (content cx.new.entries self.new.table.values) (arg_trees cx.old.entries left) (arg_trees cx.old.entries right)) }
-        ensures older { OnOk result (OlderStays (content cx.old.entries self.old.table.values) (content cx.new.entries self.new.table.values) (arg_trees cx.old.entries left) (arg_trees cx.old.entries right)) }
+        ensures equates { OnOk result (MakesEqual cx.old.entries self.old.table cx.new.entries self.new.table (arg_trees cx.old.entries left) (arg_trees cx.old.entries right)) }
+        ensures older { OnOk result (LeavesTheOlder cx.old.entries self.old.table cx.new.entries self.new.table (arg_trees cx.old.entries left) (arg_trees cx.old.entries right)) }
         ensures never { result ≡ Err EvalError.NoSolution → HasNoSolution (content cx.old.entries self.old.table.values) (arg_trees cx.old.entries left) (arg_trees cx.old.entries right) }
         ensures refused { OnErr result (self.new ≡ self.old) }
+        ensures full { result ≡ Err (EvalError.Fault Fault.Full) → SomeKindIsFull cx.new.entries cx.new.limit
+            ⊎ RunsOut (table_trees cx.old.entries self.old.table) (only_equation cx.old.entries left right) }
     {
         self.eq(cx, left, right)
     }
@@ -227,8 +234,8 @@ impl EvalCtxt {
     /// The context's own answer where the evaluation is given up for this cause: it is not sure, and says what is known so far
     /// of the input's variables and of lifetimes; an overflow says nothing of them.
     ///
-    /// `Full` comes where the interner or the numbers of variables are used up, `Memory` where memory is refused. The original's
-    /// `forced_ambiguity`.
+    /// `Full` comes only where the interner or the numbers of variables are used up, `Memory` where memory is refused. The
+    /// original's `forced_ambiguity`.
     pub fn forced_ambiguity(
         &self,
         cx: &mut Interner,
@@ -240,8 +247,10 @@ impl EvalCtxt {
         ensures certainty { IfOk result (λ r. r.certainty ≡ Certainty.Maybe cause) }
         ensures says { IfOk result (λ r. Says cx.old.entries cx.new.entries self.now r (Certainty.Maybe cause)) }
         ensures held { IfOk result (λ r. ResponseHeld cx.new.entries r) }
-        ensures is { IfOk result (λ r. answer_trees cx.new.entries r ≡ answer_of self.now.variables (values_of cx.old.entries self.now.values) (table_trees cx.old.entries self.now.table) (Certainty.Maybe cause)) }
+        ensures is { IfOk result (λ r. answer_trees cx.new.entries r ≡ own_answer cx.old.entries self.now (Certainty.Maybe cause)) }
         ensures full { cause ≡ MaybeCause.Overflow → result ≡ Err Fault.Full → (MAX_INDEX < length self.now.variables) ⊎ IsFull cx.new.entries cx.new.limit }
+        ensures runs_out { result ≡ Err Fault.Full → SomeKindIsFull cx.new.entries cx.new.limit
+            ⊎ HasNoOwnAnswer cx.old.entries self.now (Certainty.Maybe cause) }
     {
         self.answer(cx, Certainty::Maybe(cause))
     }
@@ -254,8 +263,10 @@ impl EvalCtxt {
         ensures certainty { IfOk result (λ r. r.certainty ≡ certainty) }
         ensures says { IfOk result (λ r. Says cx.old.entries cx.new.entries self.now r certainty) }
         ensures held { IfOk result (λ r. ResponseHeld cx.new.entries r) }
-        ensures is { IfOk result (λ r. answer_trees cx.new.entries r ≡ answer_of self.now.variables (values_of cx.old.entries self.now.values) (table_trees cx.old.entries self.now.table) certainty) }
+        ensures is { IfOk result (λ r. answer_trees cx.new.entries r ≡ own_answer cx.old.entries self.now certainty) }
         ensures full { certainty ≡ Certainty.Maybe MaybeCause.Overflow → result ≡ Err Fault.Full → (MAX_INDEX < length self.now.variables) ⊎ IsFull cx.new.entries cx.new.limit }
+        ensures runs_out { result ≡ Err Fault.Full → SomeKindIsFull cx.new.entries cx.new.limit
+            ⊎ HasNoOwnAnswer cx.old.entries self.now certainty }
     {
         match certainty {
             Certainty::Yes => self.known_answer(cx, certainty),
@@ -277,6 +288,8 @@ impl EvalCtxt {
         ensures says { IfOk result (λ r. SaysWhatIsKnown cx.old.entries cx.new.entries self.now r) }
         ensures held { IfOk result (λ r. ResponseHeld cx.new.entries r) }
         ensures is { IfOk result (λ r. answer_trees cx.new.entries r ≡ known_answer (values_of cx.old.entries self.now.values) (table_trees cx.old.entries self.now.table) certainty) }
+        ensures full { result ≡ Err Fault.Full → SomeKindIsFull cx.new.entries cx.new.limit
+            ⊎ KnowsTooMuch (values_of cx.old.entries self.now.values) (table_trees cx.old.entries self.now.table) }
     {
         let alloc = *self.values.allocator();
         let answer = canonicalize_response(alloc, cx, &self.table, certainty, &self.values)?;
@@ -308,8 +321,8 @@ impl EvalCtxt {
     /// In a round each goal is asked in order, and its answer is put into the table. A definite yes drops its goal. The last
     /// round is one in which no answer gave values to types or constants; after `FIXPOINT_STEP_LIMIT` rounds the certainty is
     /// an overflow. Once it is `Ready`, the table holds what was put into it, the nested goals are those that are left, and
-    /// the replies are used up. `NoSolution` comes where a goal was refused. `Ask` asks for a reply; then, and after any refusal,
-    /// the context is as before.
+    /// the replies are used up. `NoSolution` comes where a goal was refused, and `Full` only where the interner or the numbers of
+    /// variables are used up. `Ask` asks for a reply; then, and after any refusal, the context is as before.
     pub fn try_evaluate_added_goals(
         &mut self,
         cx: &mut Interner,
@@ -319,7 +332,8 @@ impl EvalCtxt {
         ensures grows { Grows self.old.table self.new.table }
         ensures keeps { Keeps cx.old.entries cx.new.entries }
         ensures limit { cx.new.limit ≡ cx.old.limit }
-        ensures runs { CallEnds self.old.mode cx.new.entries self.old self.new (run (rounds (evaluation self.old.mode) FIXPOINT_STEP_LIMIT (goals_trees cx.old.entries self.old.nested) (table_trees cx.old.entries self.old.table)) (replies_trees cx.old.entries self.old.replies)) result }
+        ensures runs { CallEnds self.old.mode cx.new.entries self.old self.new (own_rounds cx.old.entries self.old) result }
+        ensures full { result ≡ Err (EvalError.Fault Fault.Full) → SomeKindIsFull cx.new.entries cx.new.limit ⊎ GoalsRunOut cx.old.entries self.old }
     {
         let evaluated = self.evaluate_nested_goals(cx)?;
         match evaluated {
@@ -344,9 +358,10 @@ impl EvalCtxt {
         ensures keeps { Keeps cx.old.entries cx.new.entries }
         ensures limit { cx.new.limit ≡ cx.old.limit }
         ensures held { IfOk result (λ s. AnswerHeld cx.new.entries s) }
-        ensures runs { AnswerEnds self.old.mode cx.new.entries self.old self.new certainty (run (rounds (evaluation self.old.mode) FIXPOINT_STEP_LIMIT (goals_trees cx.old.entries self.old.nested) (table_trees cx.old.entries self.old.table)) (replies_trees cx.old.entries self.old.replies)) result }
+        ensures runs { AnswerEnds self.old.mode cx.new.entries self.old self.new certainty (own_rounds cx.old.entries self.old) result }
+        ensures full { result ≡ Err (EvalError.Fault Fault.Full) → SomeKindIsFull cx.new.entries cx.new.limit ⊎ CallRunsOut cx.old.entries self.old certainty }
     {
-        let before = self.table.snapshot()?;
+        let before = self.table.snapshot();
         let evaluated = self.evaluate_nested_goals(cx)?;
         match evaluated {
             RoundsStep::Waits(input, source) => Ok(EvalStep::Ask(input, source)),
@@ -358,7 +373,7 @@ impl EvalCtxt {
                     }
                     Err(fault) => {
                         self.table.roll_back(before);
-                        Err(EvalError::OutOf(fault))
+                        Err(EvalError::Fault(fault))
                     }
                 }
             }
@@ -375,9 +390,10 @@ impl EvalCtxt {
         ensures held { IfOk result (λ e. RoundsHeld cx.new.entries e) }
         ensures rest { self.new ≡ record self.old { table = self.new.table } }
         ensures undone { IsUndone self.old self.new result }
-        ensures runs { RoundsEnd self.old.mode cx.new.entries self.new.table (run (rounds (evaluation self.old.mode) FIXPOINT_STEP_LIMIT (goals_trees cx.old.entries self.old.nested) (table_trees cx.old.entries self.old.table)) (replies_trees cx.old.entries self.old.replies)) result }
+        ensures runs { RoundsEnd self.old.mode cx.new.entries self.new.table (own_rounds cx.old.entries self.old) result }
+        ensures full { result ≡ Err (EvalError.Fault Fault.Full) → SomeKindIsFull cx.new.entries cx.new.limit ⊎ GoalsRunOut cx.old.entries self.old }
     {
-        let before = self.table.snapshot()?;
+        let before = self.table.snapshot();
         match self.run_rounds(cx) {
             Ok(RoundsStep::Ended(left, certainty)) => Ok(RoundsStep::Ended(left, certainty)),
             Ok(RoundsStep::Waits(input, source)) => {
@@ -400,7 +416,8 @@ impl EvalCtxt {
         ensures limit { cx.new.limit ≡ cx.old.limit }
         ensures held { IfOk result (λ e. RoundsHeld cx.new.entries e) }
         ensures rest { self.new ≡ record self.old { table = self.new.table } }
-        ensures runs { RoundsEnd self.old.mode cx.new.entries self.new.table (run (rounds (evaluation self.old.mode) FIXPOINT_STEP_LIMIT (goals_trees cx.old.entries self.old.nested) (table_trees cx.old.entries self.old.table)) (replies_trees cx.old.entries self.old.replies)) result }
+        ensures runs { RoundsEnd self.old.mode cx.new.entries self.new.table (own_rounds cx.old.entries self.old) result }
+        ensures full { result ≡ Err (EvalError.Fault Fault.Full) → SomeKindIsFull cx.new.entries cx.new.limit ⊎ GoalsRunOut cx.old.entries self.old }
     {
         let alloc = *self.values.allocator();
         let goals = self.nested_goals.clone()?;
@@ -441,7 +458,7 @@ impl EvalCtxt {
         ensures restored { self.new ≡ self.old }
         ensures refused { OnErr result (cx.new ≡ cx.old) }
     {
-        let place = self.table.snapshot()?;
+        let place = self.table.snapshot();
         let nested_goals = self.nested_goals.clone()?;
         let outcome = f(self, cx);
         self.table.roll_back(place);

@@ -1,6 +1,6 @@
 //! Why an evaluation ended without an answer.
 ghost use Rattle.std.specs.Prelude.{◌≡◌};
-ghost use Rattle.evaluation.specs.declared.error.EvalError.TheVariants.{OutOf};
+ghost use Rattle.evaluation.specs.declared.error.EvalError.TheVariants as error;
 ghost use Rattle.evaluation.specs.Errors.{eval_error};
 ghost use Rattle.type_terms.specs.declared.Fault.TheVariants.{Memory};
 
@@ -14,14 +14,14 @@ pub enum EvalError {
     /// What is evaluated does not hold.
     NoSolution,
     /// There is no answer.
-    OutOf(Fault),
+    Fault(Fault),
 }
 
 impl From<Fault> for EvalError {
-    ghost from_gives = { λ fault e. e ≡ OutOf fault };
+    ghost from_gives = { λ fault e. e ≡ error.Fault fault };
 
     fn from(fault: Fault) -> EvalError {
-        EvalError::OutOf(fault)
+        EvalError::Fault(fault)
     }
 }
 
@@ -31,23 +31,23 @@ impl From<EqError> for EvalError {
     fn from(error: EqError) -> EvalError {
         match error {
             EqError::NoSolution => EvalError::NoSolution,
-            EqError::OutOf(fault) => EvalError::OutOf(fault),
+            EqError::Fault(fault) => EvalError::Fault(fault),
         }
     }
 }
 
 impl From<AllocError> for EvalError {
-    ghost from_gives = { λ _ e. e ≡ OutOf Memory };
+    ghost from_gives = { λ _ e. e ≡ error.Fault Memory };
 
     fn from(_error: AllocError) -> EvalError {
-        EvalError::OutOf(Fault::Memory)
+        EvalError::Fault(Fault::Memory)
     }
 }
 
 impl<T: Drop> From<AllocFailed<T>> for EvalError {
-    ghost from_gives = { λ _ e. e ≡ OutOf Memory };
+    ghost from_gives = { λ _ e. e ≡ error.Fault Memory };
 
     fn from(_error: AllocFailed<T>) -> EvalError {
-        EvalError::OutOf(Fault::Memory)
+        EvalError::Fault(Fault::Memory)
     }
 }

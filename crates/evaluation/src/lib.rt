@@ -27,8 +27,10 @@ pub use merge::{
     MergeCandidateInfo, ambiguous_certainty, bail_with_ambiguity, flounder, try_merge_candidates,
 };
 pub use response::{
-    has_no_inference_or_external_constraints, is_identity_modulo_regions, is_same_response,
+    copy_response, has_no_inference_or_external_constraints, is_identity_modulo_regions,
+    is_same_response,
 };
+pub use rounds::have_same_sorts;
 pub use trial::evaluate_candidate;
 
 /// How many rounds a candidate's nested goals are asked in at most.

@@ -5,7 +5,8 @@ ghost use Rattle.std.specs.List.{list_all, All};
 ghost use Rattle.infer_table.specs.declared.certainty.Certainty.{Certainty};
 ghost use Rattle.infer_table.specs.Certainties.{all_joined, unsettled};
 ghost use Rattle.evaluation.specs.Merge.{merge_info, merge_by};
-ghost use Rattle.evaluation.specs.Responses.{is_always_applicable, ValuesHeld, content};
+ghost use Rattle.evaluation.specs.Runs.{SaysAllOf};
+ghost use Rattle.evaluation.specs.Responses.{is_always_applicable, ValuesHeld};
 ghost use Rattle.type_terms.specs.Terms.{Keeps};
 ghost use Rattle.type_terms.specs.Kinds.{ArgsHeld};
 ghost use Rattle.type_terms.specs.declared.TheConstants.{MAX_INDEX};
@@ -65,7 +66,7 @@ pub fn try_merge_candidates(
 ) -> Result<Option<(CanonicalResponse, MergeCandidateInfo)>, Fault>
     requires { All (ValuesHeld cx.now.entries) responses.now }
     ensures info { IfOk result (λ merged. option_map (λ x. x.1) merged ≡ merge_info (is_always_applicable cx.now.entries) ⟦<CanonicalResponse as PartialEq>⟧.eq responses.now) }
-    ensures response { IfOk result (λ merged. option_map (λ x. content x.0) merged ≡ option_map content (merge_by (is_always_applicable cx.now.entries) ⟦<CanonicalResponse as PartialEq>⟧.eq responses.now)) }
+    ensures response { IfOk result (λ merged. SaysAllOf (merge_by (is_always_applicable cx.now.entries) ⟦<CanonicalResponse as PartialEq>⟧.eq responses.now) merged) }
     ensures fault { IfErr result (λ fault. fault ≡ Fault.Memory) }
 {
     if let Some(place) = first_always_applicable(cx, responses) {

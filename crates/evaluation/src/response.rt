@@ -104,7 +104,7 @@ pub fn is_same_response(left: &CanonicalResponse, right: &CanonicalResponse) -> 
 }
 
 /// The same response once more, or out of memory.
-pub(crate) fn copy_response(
+pub fn copy_response(
     alloc: Global,
     response: &CanonicalResponse,
 ) -> Result<CanonicalResponse, AllocError>

@@ -1,21 +1,23 @@
 //! The rounds in which the nested goals of a context are asked, over the replies that are there.
-ghost use Rattle.std.specs.Prelude.{◌≡◌, not, List, map, OnOk, IfOk, Ok, Err, Some, None};
+ghost use Rattle.std.specs.Prelude.{◌≡◌, ◌⊎◌, not, List, map, OnOk, IfOk, Ok, Err, Some, None};
 ghost use Rattle.model.specs.Trees.{is_sort};
 ghost use Rattle.type_terms.specs.Terms.{Entry, Keeps};
 ghost use Rattle.type_terms.specs.Kinds.{ArgsHeld};
+ghost use Rattle.term_folds.specs.Failures.{SomeKindIsFull};
 ghost use Rattle.infer_table.specs.Content.{Ready, Grows};
+ghost use Rattle.infer_table.specs.AnswersApplied.{NumbersRunOut};
 ghost use Rattle.evaluation.specs.Lists.{Every};
 ghost use Rattle.evaluation.specs.Readings.{ResultHeld};
-ghost use Rattle.evaluation.specs.Replays.{run};
 ghost use Rattle.evaluation.specs.Responses.{is_identity_modulo_regions};
 ghost use Rattle.infer_table.specs.Certainties.{is_certain};
-ghost use Rattle.evaluation.specs.Rounds.{round, rounds};
+ghost use Rattle.evaluation.specs.Runs.{round_of, rounds_of, with_response};
 ghost use Rattle.infer_table.specs.Unification.{table_trees};
 ghost use Rattle.infer_table.specs.Goals.{GoalHeld};
 ghost use Rattle.infer_table.specs.Responses.{ResponseHeld, answer_trees};
 ghost use Rattle.infer_table.specs.Answers.{have_same_sorts, is_answer_to};
 ghost use Rattle.evaluation.specs.Context.{GoalIsHeld, NestedHeld, nested_goal};
-ghost use Rattle.evaluation.specs.Evaluating.{evaluation, goals_trees, replies_trees, put_into, IsAskedBy, values_asked, certainty_with};
+ghost use Rattle.evaluation.specs.Shortages.{HasNoForm, RoundRunsOut, RoundsRunOut};
+ghost use Rattle.evaluation.specs.Evaluating.{nested_trees, goals_trees, replies_trees, IsAskedBy, values_asked, certainty_with};
 ghost use Rattle.evaluation.specs.Steps.{RoundEnds, RoundsEnd, RoundHeld, RoundsHeld};
 ghost use Rattle.infer_table.specs.Values.{sort_of_arg, values_of};
 
@@ -69,6 +71,8 @@ fn question_for(
     ensures asked { IfOk result (λ r. GoalHeld cx.new.entries r.input.goal) }
     ensures question { IfOk result (λ r. IsAskedBy mode cx.old.entries table.now (nested_goal nested.now) cx.new.entries r.input) }
     ensures values { IfOk result (λ r. values_of cx.new.entries r.values.items ≡ values_asked cx.old.entries table.now (nested_goal nested.now)) }
+    ensures full { result ≡ Err Fault.Full → SomeKindIsFull cx.new.entries cx.new.limit
+        ⊎ HasNoForm (table_trees cx.old.entries table.now) (nested_trees cx.old.entries (nested_goal nested.now)) }
 {
     let asked = canonicalize_goal(alloc, cx, table, mode, &nested.1)?;
     cx.lawful();
@@ -87,7 +91,7 @@ fn is_same_sort(left: GenericArgKind, right: GenericArgKind) -> bool
 }
 
 /// Whether there are as many values, each of the sort of the one in its place.
-fn have_same_sorts(values: &[GenericArgKind], others: &[GenericArgKind]) -> bool
+pub fn have_same_sorts(values: &[GenericArgKind], others: &[GenericArgKind]) -> bool
     ensures { (es : List Entry) → result ≡ have_same_sorts (values_of es values.now) (values_of es others.now) }
 {
     let [value, values @ ..] = values else {
@@ -124,8 +128,10 @@ fn apply_response(
     ensures grows { Grows table.old table.new }
     ensures keeps { Keeps cx.old.entries cx.new.entries }
     ensures limit { cx.new.limit ≡ cx.old.limit }
-    ensures applied { OnOk result (put_into (table_trees cx.old.entries table.old) (values_of cx.old.entries values.now) (answer_trees cx.old.entries response.now) ≡ Some (table_trees cx.new.entries table.new)) }
-    ensures refused { result ≡ Err EvalError.NoSolution → put_into (table_trees cx.old.entries table.old) (values_of cx.old.entries values.now) (answer_trees cx.old.entries response.now) ≡ None }
+    ensures applied { OnOk result (with_response cx.old.entries table.old values.now response.now ≡ Some (table_trees cx.new.entries table.new)) }
+    ensures refused { result ≡ Err EvalError.NoSolution → with_response cx.old.entries table.old values.now response.now ≡ None }
+    ensures full { result ≡ Err (EvalError.Fault Fault.Full) → SomeKindIsFull cx.new.entries cx.new.limit
+        ⊎ NumbersRunOut cx.old.entries table.old values.now response.now }
 {
     if !is_answer_to(values, response) {
         return Ok(());
@@ -175,7 +181,9 @@ pub(crate) fn round<'a>(
     ensures limit { cx.new.limit ≡ cx.old.limit }
     ensures left { OnOk result (NestedHeld cx.new.entries (map nested_goal left.new.items)) }
     ensures held { IfOk result (λ e. RoundHeld cx.new.entries e) }
-    ensures runs { RoundEnds mode cx.new.entries table.new (map nested_goal left.old.items) (map nested_goal left.new.items) (run (round (evaluation mode) (goals_trees cx.old.entries (map nested_goal goals.now)) (table_trees cx.old.entries table.old)) (replies_trees cx.old.entries replies.now)) result }
+    ensures runs { RoundEnds mode cx.new.entries table.new (map nested_goal left.old.items) (map nested_goal left.new.items) (round_of mode cx.old.entries goals.now table.old replies.now) result }
+    ensures full { result ≡ Err (EvalError.Fault Fault.Full) → SomeKindIsFull cx.new.entries cx.new.limit
+        ⊎ RoundRunsOut (goals_trees cx.old.entries (map nested_goal goals.now)) (table_trees cx.old.entries table.old) (replies_trees cx.old.entries replies.now) }
 {
     let [goal, goals @ ..] = goals else {
         return Ok(RoundStep::Ended(false, Certainty::Yes, replies));
@@ -224,7 +232,9 @@ pub(crate) fn rounds(
     ensures keeps { Keeps cx.old.entries cx.new.entries }
     ensures limit { cx.new.limit ≡ cx.old.limit }
     ensures held { IfOk result (λ e. RoundsHeld cx.new.entries e) }
-    ensures runs { RoundsEnd mode cx.new.entries table.new (run (rounds (evaluation mode) limit (goals_trees cx.old.entries (map nested_goal goals.items)) (table_trees cx.old.entries table.old)) (replies_trees cx.old.entries replies.now)) result }
+    ensures runs { RoundsEnd mode cx.new.entries table.new (rounds_of mode limit cx.old.entries goals.items table.old replies.now) result }
+    ensures full { result ≡ Err (EvalError.Fault Fault.Full) → SomeKindIsFull cx.new.entries cx.new.limit
+        ⊎ RoundsRunOut mode limit (goals_trees cx.old.entries (map nested_goal goals.items)) (table_trees cx.old.entries table.old) (replies_trees cx.old.entries replies.now) }
 {
     if limit == 0 {
         return Ok(RoundsStep::Ended(goals, Certainty::Maybe(MaybeCause::Overflow)));

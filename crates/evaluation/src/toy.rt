@@ -9,7 +9,7 @@ ghost use Rattle.evaluation.specs.History.{evaluate, enter_candidate, finish_can
 ghost use Rattle.evaluation.specs.Atoms.{Goal, Response, RuleBook, atoms, atom, unknown, handled_by, system_of, HasProofByBook};
 ghost use Rattle.evaluation.specs.Correspondences.{RoundsCorrespond, CandidatesCorrespond, FramesCorrespond};
 ghost use Rattle.evaluation.specs.Counted.{counting, but_for_tables, but_for_counts};
-ghost use Rattle.evaluation.specs.Toys.{no_rule, one_rule, two_rules, three_premises, premise_binds, coinductive_rule, u8, bool, show, clone, copy, sized, send, yes, yes_with, maybe, overflow, Asks};
+ghost use Rattle.evaluation.specs.Toys.{no_rule, one_rule, two_rules, three_premises, premise_binds, coinductive_rule, u8, bool, show, clone, copy, sized, send, yes, yes_with, maybe, overflow, rounds_with_values, Asks};
 
 use crate::promises::{
     CorrespondingOperations, CorrespondingWorkings, Evaluation, GoalSystem, answer_covers_goal,
@@ -166,12 +166,8 @@ pub fn premise_binds_unknown()
     ensures asked { Asks premise_binds (show unknown) (entered ∷ begin ∷ []) (evaluate (clone unknown)) }
     ensures asked_again { Asks premise_binds (show unknown) (evaluated (yes_with u8) ∷ entered ∷ begin ∷ []) (evaluate (clone (atom u8))) }
     ensures bound { Asks premise_binds (show unknown) (finished 0 ∷ evaluated yes ∷ evaluated (yes_with u8) ∷ entered ∷ begin ∷ []) (returns (yes_with u8)) }
-    ensures eighth { Asks premise_binds (show unknown)
-        (evaluated (yes_with u8) ∷ evaluated (yes_with u8) ∷ evaluated (yes_with u8) ∷ evaluated (yes_with u8) ∷ evaluated (yes_with u8) ∷ evaluated (yes_with u8) ∷ evaluated (yes_with u8) ∷ entered ∷ begin ∷ [])
-        (evaluate (clone (atom u8))) }
-    ensures no_ninth { Asks premise_binds (show unknown)
-        (finished 0 ∷ evaluated (yes_with u8) ∷ evaluated (yes_with u8) ∷ evaluated (yes_with u8) ∷ evaluated (yes_with u8) ∷ evaluated (yes_with u8) ∷ evaluated (yes_with u8) ∷ evaluated (yes_with u8) ∷ evaluated (yes_with u8) ∷ entered ∷ begin ∷ [])
-        (returns overflow) }
+    ensures eighth { Asks premise_binds (show unknown) (rounds_with_values 7 (entered ∷ begin ∷ [])) (evaluate (clone (atom u8))) }
+    ensures no_ninth { Asks premise_binds (show unknown) (finished 0 ∷ rounds_with_values 8 (entered ∷ begin ∷ [])) (returns overflow) }
 {}
 
 /// A coinductive goal that needs itself has a proof, and its frame asks for itself.

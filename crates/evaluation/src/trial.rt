@@ -1,24 +1,26 @@
 //! Candidates, evaluated over the replies that are there.
-ghost use Rattle.std.specs.Prelude.{◌≡◌, List, [], ◌∷◌, ◌++◌, map, OnOk, IfOk, Some, None, option_map, Err};
+ghost use Rattle.std.specs.Prelude.{◌≡◌, ◌⊎◌, List, [], ◌∷◌, ◌++◌, OnOk, IfOk, IfErr, Some, None, option_map, Err};
 ghost use Rattle.type_terms.specs.Terms.{Entry, Keeps};
 ghost use Rattle.type_terms.specs.Kinds.{ArgHeld, ArgsHeld, arg_trees};
+ghost use Rattle.term_folds.specs.Failures.{SomeKindIsFull};
 ghost use Rattle.infer_table.specs.Content.{Ready, IsHeldConstraint, AllConstraintsHeld};
-ghost use Rattle.infer_table.specs.Constraints.{constraints_trees};
 ghost use Rattle.infer_table.specs.Unification.{table_trees, unified};
-ghost use Rattle.infer_table.specs.Worklists.{equation_trees};
 ghost use Rattle.infer_table.specs.Goals.{GoalHeld};
 ghost use Rattle.infer_table.specs.Values.{value_of, values_of, filled};
 ghost use Rattle.infer_table.specs.Applied.{with_constraints};
 ghost use Rattle.infer_table.specs.Applying.{next_unknown, with_unknown};
+ghost use Rattle.infer_table.specs.Numbers.{RunsOut};
 ghost use Rattle.infer_table.specs.Responses.{answer_trees};
+ghost use Rattle.infer_table.specs.Shortages.{HasNoUnknown};
 ghost use Rattle.evaluation.specs.Lists.{Every};
 ghost use Rattle.evaluation.specs.Readings.{EquationHeld, SpecHeld, ResultHeld};
-ghost use Rattle.evaluation.specs.Replays.{run};
 ghost use Rattle.evaluation.specs.Context.{IsReady};
 ghost use Rattle.evaluation.specs.Ends.{AnswerHeld};
 ghost use Rattle.evaluation.specs.Evaluating.{goals_trees, replies_trees};
-ghost use Rattle.evaluation.specs.Frames.{begun, fresh, unknowns, with_unknowns, pair_filled, solved, nested_filled};
-ghost use Rattle.evaluation.specs.Trial.{equations_trees, premises_trees, spec_trees, asked, candidate};
+ghost use Rattle.evaluation.specs.Frames.{begun, fresh, unknowns, with_unknowns, solved};
+ghost use Rattle.evaluation.specs.Shortages.{LackNumbers, BeginningRunsOut, SolvingRunsOut, NestedRunsOut, CandidateRunsOut};
+ghost use Rattle.evaluation.specs.Runs.{candidate_of, nested_of, equations_filled, equation_filled, constraints_filled, premises_filled};
+ghost use Rattle.evaluation.specs.Trial.{premises_trees, spec_trees};
 ghost use Rattle.evaluation.specs.TrialEnds.{trial_trees, CandidateEnds};
 
 use crate::candidate::CandidateSpec;
@@ -55,7 +57,9 @@ struct Trial {
 /// In an empty table the goal's variables become new unknowns, and those that stand for any term become placeholders; then the
 /// candidate's own variables become new unknowns. Its equations are to hold, one after the other, its constraints on lifetimes
 /// are recorded, and its nested goals are asked in rounds. `NoSolution` says that an equation or a goal was refused: want of
-/// room or memory is a fault, and refuses no candidate. The answer is no surer than the candidate can be.
+/// room or memory is a fault, and refuses no candidate. `Full` comes only where some kind of term has reached the interner's
+/// limit, or the evaluation over trees comes to a place where numbers are used up. The answer is no surer than the candidate
+/// can be.
 ///
 /// What comes of it is a function of trees: no handle decides anything. `EvalCtxt::probe_trait_candidate` of the original.
 pub fn evaluate_candidate(
@@ -71,7 +75,9 @@ pub fn evaluate_candidate(
     ensures keeps { Keeps cx.old.entries cx.new.entries }
     ensures limit { cx.new.limit ≡ cx.old.limit }
     ensures held { IfOk result (λ s. AnswerHeld cx.new.entries s) }
-    ensures runs { CandidateEnds cx.new.entries (run (candidate input.now.mode (begun input.now.variables.items) (spec_trees cx.old.entries spec.now)) (replies_trees cx.old.entries replies.now)) result }
+    ensures runs { CandidateEnds cx.new.entries (candidate_of cx.old.entries input.now spec.now replies.now) result }
+    ensures full { result ≡ Err (EvalError.Fault Fault.Full) → SomeKindIsFull cx.new.entries cx.new.limit
+        ⊎ CandidateRunsOut input.now.mode input.now.variables.items (spec_trees cx.old.entries spec.now) (replies_trees cx.old.entries replies.now) }
 {
     let mut trial = begin(alloc, cx, input, &spec.variables)?;
     equate_all(alloc, cx, &mut trial.table, &trial.values, &spec.equations)?;
@@ -99,6 +105,7 @@ fn begin(
     ensures own { IfOk result (λ t. ArgsHeld cx.new.entries t.own.items) }
     ensures values { IfOk result (λ t. ArgsHeld cx.new.entries t.values.items) }
     ensures is { IfOk result (λ t. trial_trees cx.new.entries input.now.variables.items t ≡ fresh (begun input.now.variables.items) variables.now) }
+    ensures full { result ≡ Err Fault.Full → SomeKindIsFull cx.new.entries cx.new.limit ⊎ BeginningRunsOut input.now.variables.items variables.now }
 {
     let mut table = InferCtxt::new(alloc);
     let instantiated = instantiate_canonical(alloc, cx, &mut table, input)?;
@@ -124,6 +131,7 @@ fn add_unknowns(
     ensures held { OnOk result (ArgsHeld cx.new.entries values.new.items) }
     ensures values { OnOk result (values_of cx.new.entries values.new.items ≡ values_of cx.old.entries values.old.items ++ unknowns (table_trees cx.old.entries table.old) kinds.now) }
     ensures made { OnOk result (table_trees cx.new.entries table.new ≡ with_unknowns (table_trees cx.old.entries table.old) kinds.now) }
+    ensures full { result ≡ Err Fault.Full → SomeKindIsFull cx.new.entries cx.new.limit ⊎ LackNumbers (table_trees cx.old.entries table.old) kinds.now }
 {
     for kind in kinds {
         let unknown = new_unknown(cx, table, *kind)?;
@@ -145,6 +153,7 @@ fn new_unknown(
     ensures is { IfOk result (λ a. (es : List Entry) → value_of cx.new.entries a ≡ next_unknown (table_trees es table.old) kind) }
     ensures held { IfOk result (λ a. ArgHeld cx.new.entries a) }
     ensures made { OnOk result ((es : List Entry) → table_trees es table.new ≡ with_unknown (table_trees es table.old) kind) }
+    ensures full { result ≡ Err Fault.Full → SomeKindIsFull cx.new.entries cx.new.limit ⊎ ((es : List Entry) → HasNoUnknown None (table_trees es table.old) kind) }
 {
     match kind {
         CanonicalVarKind::Ty | CanonicalVarKind::PlaceholderTy => {
@@ -176,8 +185,10 @@ fn equate_all(
     ensures ready { Ready cx.new.entries table.new }
     ensures keeps { Keeps cx.old.entries cx.new.entries }
     ensures limit { cx.new.limit ≡ cx.old.limit }
-    ensures solved { OnOk result (solved (table_trees cx.old.entries table.old) (map (pair_filled (values_of cx.old.entries values.now)) (equations_trees cx.old.entries equations.now)) ≡ Some (table_trees cx.new.entries table.new)) }
-    ensures refused { result ≡ Err EvalError.NoSolution → solved (table_trees cx.old.entries table.old) (map (pair_filled (values_of cx.old.entries values.now)) (equations_trees cx.old.entries equations.now)) ≡ None }
+    ensures solved { OnOk result (solved (table_trees cx.old.entries table.old) (equations_filled cx.old.entries values.now equations.now) ≡ Some (table_trees cx.new.entries table.new)) }
+    ensures refused { result ≡ Err EvalError.NoSolution → solved (table_trees cx.old.entries table.old) (equations_filled cx.old.entries values.now equations.now) ≡ None }
+    ensures full { result ≡ Err (EvalError.Fault Fault.Full) → SomeKindIsFull cx.new.entries cx.new.limit
+        ⊎ SolvingRunsOut (table_trees cx.old.entries table.old) (equations_filled cx.old.entries values.now equations.now) }
 {
     for equation in equations {
         equate(alloc, cx, table, values, equation)?;
@@ -199,8 +210,10 @@ fn equate(
     ensures ready { Ready cx.new.entries table.new }
     ensures keeps { Keeps cx.old.entries cx.new.entries }
     ensures limit { cx.new.limit ≡ cx.old.limit }
-    ensures solved { OnOk result (unified (table_trees cx.old.entries table.old) (pair_filled (values_of cx.old.entries values.now) (equation_trees cx.old.entries equation.now) ∷ []) ≡ Some (table_trees cx.new.entries table.new)) }
-    ensures refused { result ≡ Err EvalError.NoSolution → unified (table_trees cx.old.entries table.old) (pair_filled (values_of cx.old.entries values.now) (equation_trees cx.old.entries equation.now) ∷ []) ≡ None }
+    ensures solved { OnOk result (unified (table_trees cx.old.entries table.old) (equation_filled cx.old.entries values.now equation.now) ≡ Some (table_trees cx.new.entries table.new)) }
+    ensures refused { result ≡ Err EvalError.NoSolution → unified (table_trees cx.old.entries table.old) (equation_filled cx.old.entries values.now equation.now) ≡ None }
+    ensures full { result ≡ Err (EvalError.Fault Fault.Full) → SomeKindIsFull cx.new.entries cx.new.limit
+        ⊎ RunsOut (table_trees cx.old.entries table.old) (equation_filled cx.old.entries values.now equation.now) }
 {
     let left = fill(alloc, cx, values, equation.left)?;
     let right = fill(alloc, cx, values, equation.right)?;
@@ -223,6 +236,7 @@ fn fill(
     ensures limit { cx.new.limit ≡ cx.old.limit }
     ensures held { IfOk result (λ a. ArgHeld cx.new.entries a) }
     ensures filled { IfOk result (λ a. arg_trees cx.new.entries a ≡ filled (values_of cx.old.entries values.now) (arg_trees cx.old.entries term)) }
+    ensures full { result ≡ Err Fault.Full → SomeKindIsFull cx.new.entries cx.new.limit }
 {
     term.fold_with(alloc, cx, &CanonicalInstantiator { values })
 }
@@ -241,7 +255,8 @@ fn record_constraints(
     ensures ready { Ready cx.new.entries table.new }
     ensures keeps { Keeps cx.old.entries cx.new.entries }
     ensures limit { cx.new.limit ≡ cx.old.limit }
-    ensures recorded { OnOk result (table_trees cx.new.entries table.new ≡ with_constraints (filled (values_of cx.old.entries values.now) (constraints_trees cx.old.entries constraints.now)) (table_trees cx.old.entries table.old)) }
+    ensures recorded { OnOk result (table_trees cx.new.entries table.new ≡ with_constraints (constraints_filled cx.old.entries values.now constraints.now) (table_trees cx.old.entries table.old)) }
+    ensures full { result ≡ Err Fault.Full → SomeKindIsFull cx.new.entries cx.new.limit }
 {
     for constraint in constraints {
         record_constraint(alloc, cx, table, values, *constraint)?;
@@ -263,7 +278,8 @@ fn record_constraint(
     ensures ready { Ready cx.new.entries table.new }
     ensures keeps { Keeps cx.old.entries cx.new.entries }
     ensures limit { cx.new.limit ≡ cx.old.limit }
-    ensures recorded { OnOk result (table_trees cx.new.entries table.new ≡ with_constraints (filled (values_of cx.old.entries values.now) (constraints_trees cx.old.entries (constraint ∷ []))) (table_trees cx.old.entries table.old)) }
+    ensures recorded { OnOk result (table_trees cx.new.entries table.new ≡ with_constraints (constraints_filled cx.old.entries values.now (constraint ∷ [])) (table_trees cx.old.entries table.old)) }
+    ensures full { result ≡ Err Fault.Full → SomeKindIsFull cx.new.entries cx.new.limit }
 {
     let constraint = constraint.fold_with(alloc, cx, &CanonicalInstantiator { values })?;
     table.register_region_constraint(constraint)
@@ -286,7 +302,10 @@ fn evaluate_nested(
     ensures keeps { Keeps cx.old.entries cx.new.entries }
     ensures limit { cx.new.limit ≡ cx.old.limit }
     ensures held { IfOk result (λ s. AnswerHeld cx.new.entries s) }
-    ensures runs { CandidateEnds cx.new.entries (run (asked input.now.mode (premises_trees cx.old.entries spec.now.nested_goals.items) spec.now.certainty (trial_trees cx.old.entries input.now.variables.items trial)) (replies_trees cx.old.entries replies.now)) result }
+    ensures runs { CandidateEnds cx.new.entries (nested_of cx.old.entries input.now spec.now trial replies.now) result }
+    ensures full { result ≡ Err (EvalError.Fault Fault.Full) → SomeKindIsFull cx.new.entries cx.new.limit
+        ⊎ NestedRunsOut input.now.mode (premises_trees cx.old.entries spec.now.nested_goals.items) spec.now.certainty
+        (trial_trees cx.old.entries input.now.variables.items trial) (replies_trees cx.old.entries replies.now) }
 {
     let Trial { table, own, values } = trial;
     let variables = Vec::from_slice(alloc, &input.variables)?;
@@ -311,7 +330,8 @@ fn add_goals(
     ensures limit { cx.new.limit ≡ cx.old.limit }
     ensures ready { OnOk result (IsReady cx.new.entries context.new) }
     ensures rest { OnOk result (context.new ≡ record context.old { nested = context.new.nested }) }
-    ensures added { OnOk result (goals_trees cx.new.entries context.new.nested ≡ goals_trees cx.old.entries context.old.nested ++ map (nested_filled (values_of cx.old.entries values.now)) (premises_trees cx.old.entries goals.now)) }
+    ensures added { OnOk result (goals_trees cx.new.entries context.new.nested ≡ goals_trees cx.old.entries context.old.nested ++ premises_filled cx.old.entries values.now goals.now) }
+    ensures full { result ≡ Err Fault.Full → SomeKindIsFull cx.new.entries cx.new.limit }
 {
     for nested in goals {
         let goal = instantiate_with_values(alloc, cx, &nested.1, values)?;
@@ -329,6 +349,7 @@ fn add_replies(
     ensures rest { OnOk result (context.new ≡ record context.old { replies = context.new.replies }) }
     ensures added { OnOk result ((es : List Entry) → replies_trees es context.new.replies ≡ replies_trees es context.old.replies ++ replies_trees es replies.now) }
     ensures held { OnOk result ((es : List Entry) → Every (ResultHeld es) context.old.replies → Every (ResultHeld es) replies.now → Every (ResultHeld es) context.new.replies) }
+    ensures fault { IfErr result (λ e. e ≡ Fault.Memory) }
 {
     for reply in replies {
         let copy = copy_of(alloc, reply)?;
@@ -344,6 +365,7 @@ fn copy_of(
 ) -> Result<Option<CanonicalResponse>, Fault>
     ensures same { IfOk result (λ r. (es : List Entry) → option_map (answer_trees es) r ≡ option_map (answer_trees es) reply.now) }
     ensures held { IfOk result (λ r. (es : List Entry) → ResultHeld es reply.now → ResultHeld es r) }
+    ensures fault { IfErr result (λ e. e ≡ Fault.Memory) }
 {
     match reply {
         Some(response) => {

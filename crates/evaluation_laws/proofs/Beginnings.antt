@@ -12,10 +12,9 @@ use Rattle.infer_table.specs.Unknowns.{next_labels, with_each}
 use Rattle.infer_table.specs.Values.{Value}
 use Rattle.infer_table.specs.Applying.{next_unknown, with_unknown, table_for}
 use Rattle.table_laws.specs.Answers.{leaf_value, own_labels}
-use Rattle.table_laws.specs.Frames.{in_turn, and_then}
-use Rattle.table_laws.proofs.Beginning.{types_in, consts_in, regions_in, labels_from, first_content}
-use Rattle.table_laws.proofs.Fresh.{unknown, labels_for}
+use Rattle.table_laws.specs.Frames.{in_turn, and_then, types_in, consts_in, regions_in, labels_from, first_content, unknown, labels_for}
 use Rattle.evaluation.specs.Frames.{empty, own_values, own_table, unknowns, with_unknowns, solved}
+use Rattle.table_laws.proofs.Reading.{cons}
 
 -- ---- the goal's variables
 next-number : (n : ℕ) → suc n ≡ n + 1
@@ -84,13 +83,7 @@ first-content-is kinds =
 -- ---- new unknowns
 label-value : (t : TableTrees) (k : CanonicalVarKind) → leaf_value (root_label (next_unknown t k).trees) ≡ next_unknown t k
 label-value t Ty = refl
-label-value t PlaceholderTy = refl
-label-value t Const = refl
-label-value t PlaceholderConst = refl
-label-value t Region = refl
-
-cons : (x y : Value) (xs ys : List Value) → x ≡ y → xs ≡ ys → ◌≡◌ {A = List Value} (x ∷ xs) (y ∷ ys)
-cons x y xs ys e f = cc
+label-value t k = refl
 
 pub unknowns-are : (t : TableTrees) (i : ℕ) (ks : List CanonicalVarKind) → map leaf_value (labels_for t i ks) ≡ unknowns t ks
 unknowns-are t i [] = refl

@@ -22,15 +22,14 @@ use Rattle.evaluation.specs.Correspondences.{RoundsEnd}
 use Rattle.evaluation.proofs.Correspondences.{Alike, alike_followed, alike_runs, rounds_alike}
 use Rattle.table_laws.specs.Content as Asked
 use Rattle.table_laws.specs.Instances.{put_in, goal_put_in}
-use Rattle.table_laws.specs.Frames.{FrameTable, IsMadeFrame, Nested, Equation, slot_at, pair_in, in_turn}
+use Rattle.table_laws.specs.Frames.{FrameTable, IsMadeFrame, Nested, Equation, slot_at, pair_in, in_turn, labels_from, first_content, frame_if, pairs_in, labels_for}
 use Rattle.table_laws.specs.Answers.{leaf_value, own_labels}
-use Rattle.table_laws.proofs.Beginning.{begin, labels_from, first_content}
-use Rattle.table_laws.proofs.Equating.{frame_if, pairs_in, made-in-turn, equate}
-use Rattle.table_laws.proofs.Fresh.{labels_for, fresh, recorded}
+use Rattle.evaluation_laws.specs.Operations.{begin, equate, fresh, recorded}
+use Rattle.table_laws.proofs.Equating.{made-in-turn, some-is}
 use Rattle.evaluation_laws.specs.Tables.{frame_tables}
 use Rattle.evaluation.specs.Evaluating.{Question, NestedTrees, evaluation}
 use Rattle.evaluation.specs.OwnAnswers.{answer_of}
-use Rattle.evaluation.specs.Frames.{FrameTrees, begun, own_values, own_table, unknowns, with_unknowns, pair_filled, solved, nested_filled}
+use Rattle.evaluation.specs.Frames.{FrameTrees, begun, own_values, unknowns, with_unknowns, pair_filled, solved, nested_filled}
 use Rattle.evaluation.specs.Frames as Code
 use Rattle.evaluation.specs.Trial.{SpecTrees, answered, equated, candidate}
 use Rattle.evaluation_laws.specs.Rounds.{AreOneTable, AreOneGoal, in_rounds}
@@ -45,9 +44,6 @@ none-some x T e = absurd (cc)
 
 some-none : {A : Type 0} (x : A) (T : Type 0) → Some x ≡ None → T
 some-none x T e = absurd (cc)
-
-some-is : (x y : TableTrees) → Some x ≡ Some y → x ≡ y
-some-is x y e = cc
 
 module _ (mode : TypingMode) (coinductive : Bool) (kinds own : List CanonicalVarKind) where
   abbrev labels : List Label

@@ -12,30 +12,20 @@ use Rattle.infer_table.specs.Values.{Value, value_for, filled, goal_filled}
 use Rattle.infer_table.specs.Responses.{AnswerTrees}
 use Rattle.infer_table.specs.Answers.{is_answer_to}
 use Rattle.infer_table.specs.Applied.{applied}
+use Rattle.infer_table.proofs.SolutionLaws.{is_sort-self as sort-self}
 use Rattle.evaluation.specs.Lists.{Every}
 use Rattle.evaluation.specs.Responses.{is_variable, is_identity_modulo_regions}
 use Rattle.table_laws.specs.Instances.{put_in, goal_put_in, default_label}
 use Rattle.table_laws.specs.Frames.{label_at, label_of_sort, slot_at, term_of}
 use Rattle.table_laws.specs.Answers as Frames
 use Rattle.table_laws.specs.Answers.{is_variable_itself, are_variables, has_values, is_variable_of, is_fitting, are_fitting, IsWellFormed, leaf_value}
-use Rattle.table_laws.proofs.Made.{false-true, left, right, both, no-tree, made-ordinary}
+use Rattle.type_terms.proofs.Made.{false-true, left, right, both, no-tree, made-ordinary}
 use Rattle.table_laws.proofs.Beginning.{sort-is}
 use Rattle.table_laws.proofs.Equating.{single-of}
 use Rattle.evaluation.specs.Evaluating.{put_into}
 use Rattle.evaluation_laws.specs.Fitting.{is_of_sort, is_slot, AreOver, IsGoalOver, IsValueOver}
 
 -- ---- one variable
-sort-self : (k : Sort) → is_sort k k ≡ true
-sort-self of_type = refl
-sort-self of_const = refl
-sort-self of_lifetime = refl
-
-is-sort : (j k : Sort) → is_sort j k ≡ true → j ≡ k
-is-sort of_type of_type h = refl
-is-sort of_const of_const h = refl
-is-sort of_lifetime of_lifetime h = refl
-is-sort j k h = absurd (false-true h)
-
 slot-label : (s : Sort) (ls : List Label) (i : ℕ) → is_of_sort s (slice_get ls i) ≡ true → value_for (map leaf_value ls) (canonical s i) ≡ Some (leaf (label_of_sort s (label_at ls i)))
 slot-label s [] i h = absurd (false-true h)
 slot-label s (l ∷ ls) zero h = ap (λ b. if b then Some (leaf l) else None) h ∙ ap (λ b. Some (leaf (if b then l else default_label s))) (sym h)
@@ -106,7 +96,7 @@ put-alike t originals a h =
     ∙ ap (λ b. if b then applied t originals a else Some t) (and-true (is_answer_to originals a))
 
 -- ---- whether answers hold values
-itself-root : (own : List CanonicalVarKind) (i : ℕ) (v : Value) → is_fitting own v ≡ true → is_variable_itself i v.sort v.trees ≡ is_variable i (root_label v.trees)
+pub itself-root : (own : List CanonicalVarKind) (i : ℕ) (v : Value) → is_fitting own v ≡ true → is_variable_itself i v.sort v.trees ≡ is_variable i (root_label v.trees)
 itself-root own i v h = by v.sort v.trees h
   where
     number-only : (s k : Sort) (j : ℕ) → is_sort k s ≡ true → (is_sort k s && (i == j)) ≡ (i == j)

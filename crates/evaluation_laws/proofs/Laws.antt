@@ -9,13 +9,12 @@ use Rattle.table_laws.specs.Frames.{FrameTable, AllowsApart, Nested, Equation, M
 use Rattle.table_laws.specs.Answers.{Agrees}
 use Rattle.evaluation_laws.specs.Tables.{frame_tables}
 use Rattle.table_laws.proofs.Questions.{instance_of_question}
-use Rattle.table_laws.proofs.Equating.{equate, equate_narrows, equate_meets, equate_keeps}
+use Rattle.evaluation_laws.proofs.OperationLaws.{equate_narrows, equate_meets, equate_keeps, apply_narrows, apply_keeps, recorded_narrows, recorded_keeps}
+use Rattle.evaluation_laws.specs.Operations.{equate, apply, recorded}
 use Rattle.table_laws.proofs.Answering.{respond_keeps, respond_certainty, overflow_is_bare, bare-agrees}
 use Rattle.table_laws.proofs.Freedom.{respond_free}
-use Rattle.table_laws.proofs.Applying.{apply, apply_narrows, apply_keeps}
-use Rattle.table_laws.proofs.Fresh.{recorded, recorded_narrows, recorded_keeps}
 use Rattle.table_laws.proofs.Determined.{own-determine}
-use Rattle.table_laws.proofs.WidthLaws.{fresh_within, equate_within, recorded_within, apply_within, question_within, respond_within}
+use Rattle.evaluation_laws.proofs.WidthLaws.{fresh_within, equate_within, recorded_within, apply_within, question_within, respond_within}
 
 -- the same terms are allowed still
 goes-on : (t : FrameTable) (s : Terms) (e : Option FrameTable) (u : FrameTable) → e ≡ Some u → AllowsApart u s → Goes frame_tables t s e

@@ -1,3 +1,5 @@
+pub mod OperationLaws
+pub mod WidthLaws
 pub mod Laws
 pub mod Filling
 pub mod Rounds

@@ -12,18 +12,15 @@ use Rattle.evaluation.specs.Table.{operations}
 use Rattle.evaluation.proofs.Correspondences.{rounds_correspond}
 use Rattle.evaluation.specs.Responses.{is_identity_modulo_regions}
 use Rattle.table_laws.specs.Instances.{goal_put_in}
-use Rattle.table_laws.specs.Frames.{FrameTable, IsMadeFrame, Nested, slot_at, goal_in}
+use Rattle.table_laws.specs.Frames.{FrameTable, IsMadeFrame, Nested, slot_at, goal_in, frame_if}
 use Rattle.table_laws.specs.Answers as Frames
 use Rattle.table_laws.specs.Answers.{IsWellFormed, originals_of}
-use Rattle.table_laws.proofs.Equating.{frame_if}
+use Rattle.table_laws.proofs.Equating.{some-is}
 use Rattle.table_laws.proofs.Applying.{put-made}
 use Rattle.evaluation_laws.specs.Tables.{frame_tables}
 use Rattle.evaluation.specs.Evaluating.{evaluation, NestedTrees, goal_values, put_into}
 use Rattle.evaluation_laws.specs.Rounds.{in_rounds, RoundsEndAlike, AreOneTable, AreOneGoal, RoundsAreOne}
 use Rattle.evaluation_laws.proofs.Filling.{put-alike, same-values}
-
-some-is : (x y : TableTrees) → Some x ≡ Some y → x ≡ y
-some-is x y e = cc
 
 module _ (mode : TypingMode) (coinductive : Bool) (kinds : List CanonicalVarKind) (labels : List Label) where
   -- the frame that is left has the content that is left

@@ -1,3 +1,4 @@
+pub mod Operations
 pub mod Tables
 pub mod Answers
 pub mod Fitting

@@ -9,9 +9,7 @@ use Rattle.table_laws.specs.Frames.{FrameTable, Allows, AllowsApart, Nested, que
 use Rattle.table_laws.specs.Answers.{has_values, Agrees, respond}
 use Rattle.table_laws.specs.Finite.{made_of}
 use Rattle.table_laws.specs.Widths.{number_of, number_of_values, TableWithin, NestedWithin, EquationWithin}
-use Rattle.table_laws.proofs.Equating.{equate}
-use Rattle.table_laws.proofs.Fresh.{fresh, recorded}
-use Rattle.table_laws.proofs.Applying.{apply}
+use Rattle.evaluation_laws.specs.Operations.{equate, fresh, recorded, apply}
 
 -- assignments are terms for all unknowns, references are asked with their clauses, and a number is the greatest count of
 -- children that a node has

@@ -1,14 +1,15 @@
 -- Goals that are made as canonical forms are.
 use Rattle.std.proofs.Common.{◌≡◌, zero, Bool, true, false, List, [], ◌∷◌, map, refl, ◌∙◌, ap, subst, Option, Some, None, if◌then◌else◌}
-use Rattle.model.specs.Label.{principal}
+use Rattle.model.specs.Label.{of_trait, predicate}
 use Rattle.model.specs.Trees.{Trees, none, tree}
 use Rattle.type_terms.specs.Made.{terms, is_made}
 use Rattle.infer_table.specs.Canonical.{CanonicalForm}
 use Rattle.infer_table.specs.declared.canonical.CanonicalVarKind.{CanonicalVarKind}
 use Rattle.table_laws.specs.Frames.{kinds_known}
-use Rattle.table_laws.proofs.Made.{left, right}
+use Rattle.type_terms.proofs.Made.{left, right}
 use Rattle.goal_frames.specs.Rules.{Bound, goal_of, IsOver, is_variable_over}
 use Rattle.goal_frames.specs.Handlers.{Asked, with_first, all_known, bound_of, places_stand, is_asked, asked_with, asked}
+use Rattle.goal_frames.proofs.KnownKinds.{all-known}
 
 pub record IsAsked (f : CanonicalForm) (a : Asked) : Type 0 where
   pub kinds : f.kinds ≡ map Some a.kinds
@@ -33,7 +34,7 @@ known-are [] ks e = ap (map Some) (same e)
 known-are (o ∷ os) ks e = known-next o os (all_known os) ks (λ js f. known-are os js f) e
 
 bound-is : (e p : Trees) (b : Bound) → bound_of e p ≡ Some b → record { environment = e; predicate = p } ≡ goal_of b
-bound-is none (tree (principal zero i) c none) b h = ap goal_of (same h)
+bound-is none (tree (predicate (of_trait i)) c none) b h = ap goal_of (same h)
   where
     same : ◌≡◌ {A = Option Bound} (Some (record { trait = i; arguments = c })) (Some b) → record { trait = i; arguments = c } ≡ b
     same h = cc
@@ -57,10 +58,6 @@ asked-is f a e = by (all_known f.kinds) (bound_of f.goal.environment f.goal.pred
     by None p k h e = absurd (cc)
     by (Some ks) None k h e = absurd (cc)
     by (Some ks) (Some b) k h e = asked-at f a ks b (is_asked ks b) refl (k ks refl) (h b refl) e
-
-all-known : (ks : List CanonicalVarKind) → kinds_known (map Some ks) ≡ ks
-all-known [] = refl
-all-known (k ∷ ks) = ap (λ z. k ∷ z) (all-known ks)
 
 pub kinds-are : (f : CanonicalForm) (a : Asked) → IsAsked f a → kinds_known f.kinds ≡ a.kinds
 kinds-are f a h = ap kinds_known h.kinds ∙ all-known a.kinds

@@ -1,5 +1,5 @@
 -- The table with which a frame begins answers nothing but its own variables.
-use Rattle.std.proofs.Common.{rules, ◌≡◌, ℕ, zero, suc, ◌<◌, ◌==◌, arith, Bool, true, false, not, ◌&&◌, ◌||◌, List, [], ◌∷◌, ◌++◌, map, length, refl, sym, ◌∙◌, ap, subst, if◌then◌else◌, is_some}
+use Rattle.std.proofs.Common.{◌≡◌, ℕ, zero, suc, ◌<◌, ◌==◌, arith, Bool, true, false, not, ◌&&◌, ◌||◌, List, [], ◌∷◌, ◌++◌, map, length, refl, sym, ◌∙◌, ap, subst, if◌then◌else◌, is_some}
 use Rattle.std.proofs.lemmas.Bool.Decides.{nat_tests}
 use Rattle.model.specs.Label.{Label, Sort, of_type, of_const, of_lifetime, infer, placeholder, canonical}
 use Rattle.model.specs.Trees.{leaf, sort_of, is_sort}
@@ -12,14 +12,17 @@ use Rattle.infer_table.specs.declared.certainty.Certainty.{Certainty}
 use Rattle.infer_table.specs.declared.certainty.Certainty.TheVariants.{Yes, Maybe}
 use Rattle.infer_table.specs.declared.certainty.MaybeCause.TheVariants.{Ambiguity, Overflow}
 use Rattle.infer_table.specs.Values.{Value}
+use Rattle.infer_table.proofs.SolutionLaws.{is_sort-self as sort-self}
+use Rattle.infer_table.proofs.CanonicalLaws.{same_label-self}
 use Rattle.evaluation.specs.Lists.{Every}
 use Rattle.evaluation.proofs.ListLaws.{Every-mono}
 use Rattle.table_laws.specs.Answers.{is_variable_itself, are_variables, has_values, own_labels, joined, answer_leaves, value_numbered, respond}
-use Rattle.table_laws.proofs.Made.{false-true}
+use Rattle.type_terms.proofs.Made.{false-true}
 use Rattle.table_laws.proofs.Reading.{append-none}
-use Rattle.table_laws.proofs.Equating.{sort-self}
 use Rattle.table_laws.proofs.Answering.{overflow_is_bare}
-use Rattle.table_laws.proofs.Beginning.{labels_from, begin}
+use Rattle.evaluation_laws.specs.Operations.{begin}
+use Rattle.table_laws.specs.Frames.{labels_from}
+use Rattle.table_laws.proofs.Labels.{every-end}
 
 -- ---- labels that are open, each another than those before
 abbrev pub AreFresh : List Label → List Label → Type 0
@@ -33,9 +36,6 @@ append-list (x ∷ xs) y ys = ap (λ z. x ∷ z) (append-list xs y ys)
 pub length-more : {A : Type 0} (xs : List A) (y : A) → length (xs ++ y ∷ []) ≡ suc (length xs)
 length-more [] y = refl
 length-more (x ∷ xs) y = ap suc (length-more xs y)
-
-label-self : (l : Label) → same_label l l ≡ true
-label-self l = search rules
 
 -- each of them is an open leaf once
 leaves-are : (seen ls : List Label) → AreFresh seen ls → leaves kind_of_leaf seen (joined (map (λ l. leaf l) ls)) ≡ seen ++ ls
@@ -54,7 +54,7 @@ or-false true b h = absurd (false-true (sym h))
 or-false false b h = (refl, h)
 
 pub place-is : (seen : List Label) (l : Label) (ls : List Label) → is_among l seen ≡ false → place_of l (seen ++ l ∷ ls) ≡ length seen
-place-is [] l ls h = ap (λ b. if b then zero else suc (place_of l ls)) (label-self l)
+place-is [] l ls h = ap (λ b. if b then zero else suc (place_of l ls)) (same_label-self l)
 place-is (m ∷ ms) l ls h =
     let x = or-false (same_label m l) (is_among l ms) h in
     ap (λ b. if b then zero else suc (place_of l (ms ++ l ∷ ls))) x.0 ∙ ap suc (place-is ms l ls x.1)
@@ -121,10 +121,6 @@ below-place a b c i (infer of_const v) h = h
 below-place a b c i (infer of_lifetime v) h = h
 below-place a b c i (placeholder k v) h = less-more v i h
 below-place a b c i l h = tt
-
-every-end : (P : Label → Type 0) (xs : List Label) (x : Label) → Every P xs → P x → Every P (xs ++ x ∷ [])
-every-end P [] x h p = (p, tt)
-every-end P (y ∷ ys) x h p = (h.0, every-end P ys x h.1 p)
 
 among-has : (P : Label → Type 0) (l : Label) (ms : List Label) → Every P ms → is_among l ms ≡ true → P l
 among-has P l [] h e = absurd (false-true e)

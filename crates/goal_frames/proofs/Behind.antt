@@ -1,13 +1,13 @@
 -- A rule's terms behind the variables of a goal: they are read with the values that stand there, and are made as before.
 use Rattle.std.proofs.Common.{◌≡◌, ℕ, zero, suc, ◌+◌, arith, true, false, List, ◌⊎◌, inl, inr, refl, sym, ◌∙◌, ap, Some, None}
-use Rattle.model.specs.Label.{Label, of_type, of_const, of_lifetime, infer, param, placeholder, canonical, bound, static, principal}
+use Rattle.model.specs.Label.{Label, of_type, of_const, of_lifetime, infer, param, placeholder, canonical, bound, static, of_trait, predicate}
 use Rattle.model.specs.Trees.{Trees, none, tree}
 use Rattle.type_terms.specs.Made.{Standing, is_made}
 use Rattle.infer_table.specs.declared.canonical.CanonicalVarKind.{CanonicalVarKind}
 use Rattle.table_laws.specs.Instances.{read_with, goal_read, put_in, of_sort, other_terms, term_at}
 use Rattle.table_laws.specs.Content.{given}
 use Rattle.table_laws.specs.Frames.{is_open_label}
-use Rattle.table_laws.proofs.Made.{false-true, is_ordinary}
+use Rattle.type_terms.proofs.Made.{false-true, is_ordinary}
 use Rattle.table_laws.proofs.Reading.{append-none, IsPutIn, read-put}
 use Rattle.table_laws.proofs.Labels.{IsLeafFor, PutsLeaves, made-put-in, made-more}
 use Rattle.goal_frames.specs.Rules.{Bound, goal_of, is_variable_over}
@@ -47,7 +47,7 @@ module _ (n : ℕ) (xs : List Trees) where
   read-behind t = read-put (given xs) (given (dropped n xs)) (moved n) label-behind t
 
   pub bound-behind : (b : Bound) → goal_read (given xs) (goal_of (behind n b)) ≡ goal_read (given (dropped n xs)) (goal_of b)
-  bound-behind b = ap (λ z. record { environment = none; predicate = tree (principal 0 b.trait) z none }) (read-behind b.arguments)
+  bound-behind b = ap (λ z. record { environment = none; predicate = tree (predicate (of_trait b.trait)) z none }) (read-behind b.arguments)
 
 -- ---- how they are made
 open-behind : (kinds : List CanonicalVarKind) (n : ℕ) → PutsLeaves (is_variable_over kinds) is_open_label (moved n)

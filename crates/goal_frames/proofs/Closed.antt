@@ -8,11 +8,11 @@ use Rattle.infer_table.specs.Canonical.{CanonicalForm}
 use Rattle.infer_table.specs.Solutions.{HasValues}
 use Rattle.infer_table.specs.declared.canonical.CanonicalVarKind.{CanonicalVarKind}
 use Rattle.infer_table.specs.declared.canonical.CanonicalVarKind.TheVariants.{Ty, PlaceholderTy, Const, PlaceholderConst, Region}
+use Rattle.infer_table.proofs.SolutionLaws.{is_sort-equal as is-sort, is_sort-self as sort-self}
 use Rattle.evaluation.specs.Lists.{Every}
 use Rattle.table_laws.specs.Instances.{read_with, goal_read, of_sort, is_place, other_terms, term_at}
 use Rattle.table_laws.specs.Content.{Values, fits_kind, fits, given, fact_of}
-use Rattle.table_laws.proofs.Made.{false-true, left, right}
-use Rattle.table_laws.proofs.Equating.{is-sort, sort-self}
+use Rattle.type_terms.proofs.Made.{false-true, left, right}
 use Rattle.table_laws.proofs.Questions.{sort-of-sort, place-is-a}
 use Rattle.goal_frames.specs.Rules.{StandsIn, HasNoPlace, IsClosed, is_variable_over}
 use Rattle.goal_frames.specs.Handlers.{Asked, is_variable_label, places_stand}
@@ -28,7 +28,7 @@ variable-label : (k : Sort) (i : ℕ) (l : Label) → is_variable_label k i l �
 variable-label k i (canonical s j) h = ap (λ z. canonical z j) (is-sort s k (left (is_sort s k) _ h)) ∙ ap (canonical k) (eqb-true j i (right (is_sort s k) _ h))
 variable-label k i l h = absurd (false-true h)
 
-some-stands : (k : Sort) (i : ℕ) (t : Trees) → some_node (is_variable_label k i) t ≡ true → StandsIn (canonical k i) t
+pub some-stands : (k : Sort) (i : ℕ) (t : Trees) → some_node (is_variable_label k i) t ≡ true → StandsIn (canonical k i) t
 some-stands k i none h = absurd (false-true h)
 some-stands k i (tree l c o) h =
     by (or-cases (is_variable_label k i l || some_node (is_variable_label k i) c) (some_node (is_variable_label k i) o) h) (λ e. some-stands k i c e) (λ e. some-stands k i o e)

@@ -1,6 +1,6 @@
 -- The questions that a list of rules asks are decided.
 use Rattle.std.proofs.Common.{◌≡◌, ℕ, Bool, true, List, [], ◌∷◌, length, refl, ◌∙◌, ap, Option, Some, None}
-use Rattle.model.specs.Label.{Label, canonical, principal}
+use Rattle.model.specs.Label.{Label, canonical, of_trait, predicate}
 use Rattle.model.specs.Trees.{Trees, none, tree}
 use Rattle.type_terms.specs.Made.{terms, is_made}
 use Rattle.infer_table.specs.Canonical.{GoalTrees, CanonicalForm, canonical_form}
@@ -10,20 +10,19 @@ use Rattle.infer_table.specs.declared.certainty.TypingMode.{TypingMode}
 use Rattle.evaluation.specs.Lists.{Every}
 use Rattle.evaluation.specs.Table.{workings}
 use Rattle.evaluation.specs.Candidate.{Spec}
-use Rattle.evaluation.specs.Merge.{is_always_applicable}
 use Rattle.evaluation.specs.History.{evaluate, asks, CameInOrder}
 use Rattle.evaluation.specs.Promises.{frame_of_goal, Anything, History}
 use Rattle.evaluation.proofs.ListLaws.{Every-mono, Every-map}
 use Rattle.table_laws.specs.Instances.{put_in}
 use Rattle.table_laws.specs.Content.{Question}
 use Rattle.table_laws.specs.Frames.{kinds_known, good_in, FrameTable, slot_at, goal_in, question}
-use Rattle.table_laws.proofs.Made.{false-true}
+use Rattle.type_terms.proofs.Made.{false-true}
 use Rattle.table_laws.proofs.Labels.{made-more}
 use Rattle.table_laws.proofs.Equating.{made-put, slots-of}
 use Rattle.table_laws.proofs.Resolved.{made-resolved}
 use Rattle.evaluation_laws.specs.Tables.{frame_tables}
 use Rattle.goal_frames.specs.Rules.{Bound, goal_of, Rule, RuleBook, IsOver, IsRule, AreRules}
-use Rattle.goal_frames.specs.Handlers.{Asked, asked, behind, nested_of_bound, spec_of, candidates_of, handled_by, listing_of, same_answer}
+use Rattle.goal_frames.specs.Handlers.{Asked, asked, behind, nested_of_bound, spec_of, candidates_of, handled_by, listing_of, same_answer, applies_always}
 use Rattle.goal_frames.specs.Forms.{is_unnumbered}
 use Rattle.goal_frames.proofs.Listings.{listed-each}
 use Rattle.goal_frames.proofs.Behind.{made-behind}
@@ -39,7 +38,7 @@ resolved-none : (bs : List Binding) → resolved bs none ≡ none
 resolved-none [] = refl
 resolved-none (b ∷ older) = ap (replace b.sort b.var (resolved older b.value)) (resolved-none older)
 
-resolved-trait : (bs : List Binding) (i : ℕ) (c : Trees) → resolved bs (tree (principal 0 i) c none) ≡ tree (principal 0 i) (resolved bs c) none
+resolved-trait : (bs : List Binding) (i : ℕ) (c : Trees) → resolved bs (tree (predicate (of_trait i)) c none) ≡ tree (predicate (of_trait i)) (resolved bs c) none
 resolved-trait [] i c = refl
 resolved-trait (b ∷ older) i c = ap (replace b.sort b.var (resolved older b.value)) (resolved-trait older i c)
 
@@ -84,5 +83,5 @@ pub questions-decided : (book : RuleBook) → AreRules book → (mode : TypingMo
     → asks (frame_of_goal frame_tables (handled_by book mode f)) heard ≡ evaluate q → IsDecided q
 questions-decided book rules_are mode f =
     questions-so frame_tables IsDecided (handled_by book mode f)
-    (λ seen c e. listed-each frame_tables (is_always_applicable frame_tables) same_answer (λ (c : Spec (workings frame_tables)). Every (AreSo frame_tables IsDecided) c.nested) (listing_of book mode f (kinds_known f.kinds) (asked f))
+    (λ seen c e. listed-each frame_tables applies_always same_answer (λ (c : Spec (workings frame_tables)). Every (AreSo frame_tables IsDecided) c.nested) (listing_of book mode f (kinds_known f.kinds) (asked f))
     (each-decided book rules_are (asked f)) seen c e)

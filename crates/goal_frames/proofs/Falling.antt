@@ -151,26 +151,16 @@ module _ (h : Handled frame_tables) where
 
     entering-falls : (hd : Heard) (gone : List ℕ) (s : Script Question Answer Answer) (go : Answer → ℕ → Frame Question Answer) (reply : Reply Answer)
         → length hd < h.candidates → IsDueAt (between hd gone (considers s go)) reply → Falls (between hd gone (considers s go)) reply
-    entering-falls hd gone s go begin l r = absurd r
     entering-falls hd gone s go entered l r = subst (λ n. steps_from (inside hd [] s go) < n) (none-said (steps_after h (length hd))) (open-falls hd [] s go l (omega arith))
-    entering-falls hd gone s go ignored l r = absurd r
-    entering-falls hd gone s go (evaluated a) l r = absurd r
-    entering-falls hd gone s go (finished n) l r = absurd r
+    entering-falls hd gone s go reply l r = absurd r
 
     inside-falls : (hd : Heard) (said : List (Question × Answer)) (q : Question) (k : Answer → Script Question Answer Answer) (go : Answer → ℕ → Frame Question Answer) (reply : Reply Answer)
         → length hd < h.candidates → length said < most_questions h → IsDueAt (inside hd said (ask q k) go) reply → Falls (inside hd said (ask q k) go) reply
-    inside-falls hd said q k go begin l few r = absurd r
-    inside-falls hd said q k go entered l few r = absurd r
-    inside-falls hd said q k go ignored l few r = absurd r
     inside-falls hd said q k go (evaluated a) l few r = open-falls hd ((q, a) ∷ said) (k a) go l (omega (arith, few))
-    inside-falls hd said q k go (finished n) l few r = absurd r
+    inside-falls hd said q k go reply l few r = absurd r
 
     finishing-falls : (xs : List Shown) (source : CandidateSource) (a : Answer) (p : Standing) (f : IsFinishing h xs source a p) (reply : Reply Answer)
         → IsDueAt (inside f.next.past.heard f.told (done a) (with_result h f.next)) reply → Falls p reply
-    finishing-falls xs source a p f begin r = absurd r
-    finishing-falls xs source a p f entered r = absurd r
-    finishing-falls xs source a p f ignored r = absurd r
-    finishing-falls xs source a p f (evaluated b) r = absurd r
     finishing-falls xs source a p f (finished n) r =
         let x : Shown = record { source = source; result = a; number = n } in
         let there = finishes h lawful xs source a n p f (subst (λ y. IsDueAt y (finished n)) (sym f.at) r) in
@@ -178,25 +168,15 @@ module _ (h : Handled frame_tables) where
         let many : length (xs ++ x ∷ []) ≡ suc (length f.next.past.heard) = one-more xs x ∙ ap suc (shown-length xs f.next.past) in
         subst (λ m. steps_from (told (finished n) p) < m) (sym (ap steps_from f.at))
         (below-next (steps_from (told (finished n) p)) (steps_after h (suc (length f.next.past.heard))) (subst (λ m. steps_from (told (finished n) p) ≤ steps_after h m) many few))
+    finishing-falls xs source a p f reply r = absurd r
 
     ignoring-falls : (hd : Heard) (gone : List ℕ) (a : Answer) (ns : List ℕ) (reply : Reply Answer) → IsDueAt (between hd gone (answers a ns)) reply → Falls (between hd gone (answers a ns)) reply
-    ignoring-falls hd gone a [] begin r = absurd r
-    ignoring-falls hd gone a [] entered r = absurd r
-    ignoring-falls hd gone a [] ignored r = absurd r
-    ignoring-falls hd gone a [] (evaluated b) r = absurd r
-    ignoring-falls hd gone a [] (finished n) r = absurd r
-    ignoring-falls hd gone a (m ∷ ns) begin r = absurd r
-    ignoring-falls hd gone a (m ∷ ns) entered r = absurd r
     ignoring-falls hd gone a (m ∷ ns) ignored r = omega arith
-    ignoring-falls hd gone a (m ∷ ns) (evaluated b) r = absurd r
-    ignoring-falls hd gone a (m ∷ ns) (finished n) r = absurd r
+    ignoring-falls hd gone a ns reply r = absurd r
 
     begun-falls : (reply : Reply Answer) → InOrder (reply ∷ []) → steps_from (place-of (reply ∷ [])) < suc (steps_after h 0)
     begun-falls begin o = below-next (steps_from (place-of (begin ∷ []))) (steps_after h 0) (between-few [] (place-of (begin ∷ [])) (begins h))
-    begun-falls entered o = absurd o.1
-    begun-falls ignored o = absurd o.1
-    begun-falls (evaluated a) o = absurd o.1
-    begun-falls (finished n) o = absurd o.1
+    begun-falls reply o = absurd o.1
 
     -- a frame that waits at a question was answered fewer than it may ask
     few-said : (heard : History) → InOrder heard → (hd : Heard) (said : List (Question × Answer)) (q : Question) (k : Answer → Script Question Answer Answer) (go : Answer → ℕ → Frame Question Answer)

@@ -11,11 +11,11 @@ use Rattle.infer_table.specs.Applying.{table_after}
 use Rattle.evaluation.specs.Lists.{Every}
 use Rattle.table_laws.specs.Instances.{of_sort, first_term, other_terms, term_at}
 use Rattle.table_laws.specs.Content.{Values, fits, Terms, reading_of, Stands}
-use Rattle.table_laws.specs.Frames.{kind_at, is_placeholder_of, HaveValues, Allows, FitPlaceholders, AllowsApart}
-use Rattle.table_laws.proofs.Made.{false-true}
-use Rattle.table_laws.proofs.Beginning.{types_in, consts_in, regions_in, labels_from, first_content, begin, begins-free}
+use Rattle.table_laws.specs.Frames.{kind_at, is_placeholder_of, HaveValues, Allows, FitPlaceholders, AllowsApart, types_in, consts_in, regions_in, labels_from, first_content, unknown, labels_for}
+use Rattle.type_terms.proofs.Made.{false-true}
+use Rattle.evaluation_laws.proofs.OperationLaws.{begins-free}
+use Rattle.evaluation_laws.specs.Operations.{begin, fresh}
 use Rattle.table_laws.proofs.Applying.{for-bindings}
-use Rattle.table_laws.proofs.Fresh.{unknown, labels_for, fresh}
 use Rattle.goal_frames.specs.Rules.{IsUnknown, is_variable_over}
 use Rattle.goal_frames.proofs.Readings.{AgreeIn}
 use Rattle.goal_frames.proofs.Behind.{dropped, term-dropped}

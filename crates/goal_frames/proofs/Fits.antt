@@ -16,8 +16,7 @@ use Rattle.evaluation.proofs.Scripts.{Asks, Asks-followed}
 use Rattle.table_laws.specs.Answers.{IsWellFormed}
 use Rattle.table_laws.specs.Content.{Question}
 use Rattle.table_laws.specs.Frames.{FrameTable}
-use Rattle.table_laws.proofs.Fresh.{fresh, recorded}
-use Rattle.table_laws.proofs.Equating.{equate}
+use Rattle.evaluation_laws.specs.Operations.{fresh, recorded, equate}
 use Rattle.table_laws.proofs.WellFormed.{answers_well_formed}
 use Rattle.evaluation_laws.specs.Tables.{frame_tables}
 use Rattle.evaluation_laws.specs.Rounds.{AreOneAnswer}

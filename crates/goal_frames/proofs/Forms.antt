@@ -1,7 +1,7 @@
 -- The canonical form of a goal without where-clauses is one that a list of rules decides.
 use Rattle.std.proofs.Common.{◌≡◌, ℕ, zero, suc, ◌==◌, Bool, true, false, not, ◌&&◌, ◌||◌, List, [], ◌∷◌, ◌++◌, map, length, inl, inr, refl, sym, ◌∙◌, ap, subst, Option, Some, None, if◌then◌else◌, is_some}
 use Rattle.std.specs.Prelude.{IsSome}
-use Rattle.model.specs.Label.{Label, of_type, of_const, of_lifetime, infer, param, placeholder, canonical, static, dynamic, principal, auto_trait}
+use Rattle.model.specs.Label.{Label, of_type, of_const, of_lifetime, infer, param, placeholder, canonical, static, dynamic, principal, auto_trait, predicate}
 use Rattle.model.specs.Trees.{Trees, none, tree, sort_of, is_sort, is_no_tree, some_node}
 use Rattle.model.specs.Codes.{same_label}
 use Rattle.model.proofs.Matching.{same-label-sound}
@@ -9,12 +9,12 @@ use Rattle.type_terms.specs.Made.{Standing, terms, bounds, traits, is_leaf_label
 use Rattle.infer_table.specs.Canonical.{kind_of_leaf, StandsIn, relabeled, is_among, with_label, leaves, place_of, canonical_label}
 use Rattle.infer_table.specs.declared.canonical.CanonicalVarKind.{CanonicalVarKind}
 use Rattle.infer_table.proofs.CanonicalLaws.{leaves-hold}
+use Rattle.infer_table.proofs.SolutionLaws.{is_sort-self as sort-self}
 use Rattle.evaluation.specs.Lists.{Every}
 use Rattle.table_laws.specs.Frames.{kind_at}
 use Rattle.table_laws.specs.Answers.{is_kind_of, with_kind, kinds_of}
-use Rattle.table_laws.proofs.Made.{false-true, left, right, both, no-tree, is_ordinary, made-ordinary, makes-ordinary, IsLast, last-bound, last-trait, never-dynamic, never-dynamic-bound, never-principal}
+use Rattle.type_terms.proofs.Made.{false-true, left, right, both, no-tree, is_ordinary, made-ordinary, makes-ordinary, IsLast, last-bound, last-trait, never-dynamic, never-dynamic-bound, never-principal}
 use Rattle.table_laws.proofs.Reading.{EachLabel}
-use Rattle.table_laws.proofs.Equating.{sort-self}
 use Rattle.table_laws.proofs.Nodes.{every-leaf}
 use Rattle.goal_frames.specs.Rules.{Bound, is_variable_over}
 use Rattle.goal_frames.specs.Handlers.{with_first, all_known, is_variable_label, places_stand, asked_with}
@@ -124,12 +124,14 @@ module _ (ls : List Label) (opens : AreOpen ls) where
   last-made dynamic i g e = absurd (false-true i)
   last-made (principal a b) i g e = absurd (false-true i)
   last-made (auto_trait a) i g e = absurd (false-true i)
+  last-made (predicate k) i g e = absurd (false-true i)
   last-made m i g e = (both (over m) _ g (both (is_sort (sort_of m) of_lifetime) _ e refl), both (over m) _ g (both (is_sort (sort_of m) of_lifetime) _ e refl))
 
   ordinary-lifetime : (l : Label) → is_sort (sort_of l) of_lifetime ≡ true → is_ordinary l ≡ true
   ordinary-lifetime dynamic e = absurd (false-true e)
   ordinary-lifetime (principal a b) e = absurd (false-true e)
   ordinary-lifetime (auto_trait a) e = absurd (false-true e)
+  ordinary-lifetime (predicate k) e = absurd (false-true e)
   ordinary-lifetime l e = refl
 
   abbrev renumbered : Trees → Trees
@@ -151,6 +153,7 @@ module _ (ls : List Label) (opens : AreOpen ls) where
       both (is_made over bounds (renumbered c)) (is_made over terms (renumbered o)) (made-renumbered bounds c (left (is_made is_unnumbered bounds c) (is_made is_unnumbered terms o) h) a.1) (made-renumbered terms o (right (is_made is_unnumbered bounds c) (is_made is_unnumbered terms o) h) a.2)
   made-renumbered terms (tree (principal i j) c o) h a = absurd (false-true h)
   made-renumbered terms (tree (auto_trait i) c o) h a = absurd (false-true h)
+  made-renumbered terms (tree (predicate k) c o) h a = absurd (false-true h)
   made-renumbered terms (tree l c o) h a =
       let x = made-ordinary is_unnumbered l c o refl h in
       let s = stays l refl x.0 a.0 in
@@ -158,11 +161,13 @@ module _ (ls : List Label) (opens : AreOpen ls) where
   made-renumbered bounds none h a = absurd (false-true h)
   made-renumbered bounds (tree (principal i j) c o) h a =
       both (is_made over terms (renumbered c)) (is_made over traits (renumbered o)) (made-renumbered terms c (left (is_made is_unnumbered terms c) (is_made is_unnumbered traits o) h) a.1) (made-renumbered traits o (right (is_made is_unnumbered terms c) (is_made is_unnumbered traits o) h) a.2)
+  made-renumbered bounds (tree (predicate k) c o) h a = absurd (false-true h)
   made-renumbered bounds (tree (auto_trait i) c o) h a =
       both (is_no_tree (renumbered c)) (is_made over traits (renumbered o)) (ap is_no_tree (none-renumbered c (no-tree c (left (is_no_tree c) (is_made is_unnumbered traits o) h)))) (made-renumbered traits o (right (is_no_tree c) (is_made is_unnumbered traits o) h) a.2)
   made-renumbered bounds (tree dynamic c o) h a = absurd (never-dynamic-bound is_unnumbered c o h)
   made-renumbered bounds (tree l c o) h a = (last-renumbered l c o (last-bound is_unnumbered l c o refl h) a.0).1
   made-renumbered traits none h a = absurd (false-true h)
+  made-renumbered traits (tree (predicate k) c o) h a = absurd (false-true h)
   made-renumbered traits (tree (auto_trait i) c o) h a =
       both (is_no_tree (renumbered c)) (is_made over traits (renumbered o)) (ap is_no_tree (none-renumbered c (no-tree c (left (is_no_tree c) (is_made is_unnumbered traits o) h)))) (made-renumbered traits o (right (is_no_tree c) (is_made is_unnumbered traits o) h) a.2)
   made-renumbered traits (tree dynamic c o) h a = absurd (never-dynamic is_unnumbered c o h)

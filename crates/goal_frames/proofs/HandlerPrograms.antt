@@ -14,9 +14,9 @@ use Rattle.evaluation.specs.Law.{IsYes}
 use Rattle.table_laws.specs.Answers.{respond, has_values}
 use Rattle.table_laws.specs.Content.{Fact}
 use Rattle.table_laws.specs.Widths.{TableWithin}
-use Rattle.table_laws.proofs.Beginning.{begin}
+use Rattle.evaluation_laws.specs.Operations.{begin}
 use Rattle.table_laws.proofs.Finite.{made-of-closed}
-use Rattle.table_laws.proofs.WidthLaws.{respond_within}
+use Rattle.evaluation_laws.proofs.WidthLaws.{respond_within}
 use Rattle.evaluation_laws.specs.Tables.{frame_tables}
 use Rattle.goal_frames.specs.Programs.{SaysNothing}
 use Rattle.goal_frames.specs.Readings.{kinds_known}
@@ -35,10 +35,10 @@ cycle-yes PostAnalysis f Inductive y = absurd y
 module _ {Meaning : Type 0} (handled : Meaning → TypingMode → CanonicalForm → Handled frame_tables) (Rule : Meaning → Fact → List Fact → Type 0) (coinductive : Meaning → Fact → Bool)
     (begins : (m : Meaning) (mode : TypingMode) (f : CanonicalForm) → (handled m mode f).begin ≡ begin (kinds_known f.kinds))
     (lawful : (m : Meaning) (mode : TypingMode) (f : CanonicalForm) → IsHandler frame_tables (handled m mode f)) where
-  abbrev IsSilent : Meaning → TypingMode → CanonicalForm → Option AnswerTrees → Type 0
+  abbrev pub IsSilent : Meaning → TypingMode → CanonicalForm → Option AnswerTrees → Type 0
   IsSilent m mode f a = SaysNothing frame_tables (programs_of handled Rule coinductive) (handled m mode f) a
 
-  is-silent : (m : Meaning) (mode : TypingMode) (f : CanonicalForm) (c : Certainty) → IsSilent m mode f (silent f c)
+  pub is-silent : (m : Meaning) (mode : TypingMode) (f : CanonicalForm) (c : Certainty) → IsSilent m mode f (silent f c)
   is-silent m mode f c = (
     subst (λ t. has_values (respond t c) ≡ false) (begins m mode f) ((lawful m mode f).says_nothing c),
     respond_within (handled m mode f).widest (begin (kinds_known f.kinds)) c (subst (TableWithin (handled m mode f).widest) (begins m mode f) (lawful m mode f).begins_within),

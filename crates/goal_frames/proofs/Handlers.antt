@@ -2,7 +2,7 @@
 use Rattle.std.proofs.Common.{◌≡◌, ℕ, ◌≤◌, arith, Bool, true, false, not, ◌&&◌, ◌||◌, if◌then◌else◌, List, [], ◌∷◌, map, length, inl, inr, refl, sym, ◌∙◌, ap, subst, Option, Some, None, is_some}
 use Rattle.std.proofs.lemmas.Bool.{eqb-true, eq-eqb}
 use Rattle.std.specs.Prelude.{◌==◌, max}
-use Rattle.model.specs.Label.{adt, principal}
+use Rattle.model.specs.Label.{adt, of_trait, predicate}
 use Rattle.model.specs.Trees.{Trees, none, tree}
 use Rattle.type_terms.specs.Made.{terms}
 use Rattle.infer_table.specs.Canonical.{GoalTrees, CanonicalForm}
@@ -16,22 +16,20 @@ use Rattle.evaluation.specs.Table.{workings}
 use Rattle.evaluation.specs.Candidate.{Spec}
 use Rattle.evaluation.specs.Law.{Solves, Realizes}
 use Rattle.evaluation.specs.Handler.{IsLawful, IsHandler}
-use Rattle.evaluation.specs.Merge.{is_always_applicable}
 use Rattle.evaluation.proofs.ListLaws.{Every-both, Every-map, SomeOf-both, among-all, not-true}
 use Rattle.evaluation.proofs.RuleBooks.{last_rule}
 use Rattle.table_laws.specs.Instances.{read_with, goal_read}
 use Rattle.table_laws.specs.Content.{Values, fits, given, trait_of, Fact, fact_of, Terms}
 use Rattle.table_laws.specs.Frames.{kinds_known, Nested, fact, Meets}
-use Rattle.table_laws.specs.Widths.{width_of_predicates, number_of}
-use Rattle.table_laws.proofs.Made.{false-true, right}
-use Rattle.table_laws.proofs.Beginning.{begin, begins-free}
-use Rattle.table_laws.proofs.Fresh.{fresh}
+use Rattle.table_laws.specs.Widths.{width_of_predicates}
+use Rattle.type_terms.proofs.Made.{false-true, right}
+use Rattle.evaluation_laws.proofs.OperationLaws.{begins-free}
+use Rattle.evaluation_laws.specs.Operations.{begin, fresh}
 use Rattle.evaluation_laws.specs.Tables.{frame_tables}
 use Rattle.evaluation_laws.proofs.Laws.{tables_are_lawful}
-use Rattle.evaluation.proofs.Merges.{always_is_test}
 use Rattle.goal_frames.specs.Listings.{listed, IsListing}
 use Rattle.goal_frames.specs.Rules.{Bound, goal_of, Rule, RuleBook, IsOver, IsRule, AreRules, instance_of, IsBy, IsClosed, is_coinductive_trait, is_coinductive, FollowsClosed, HasProofByBook}
-use Rattle.goal_frames.specs.Handlers.{Asked, asked, behind, as_one, nested_of_bound, spec_of, specs_for, unsure, number_of_rules, same_answer, has_placeholder, world_of, widest_of, listing_of, handled_by}
+use Rattle.goal_frames.specs.Handlers.{Asked, asked, behind, as_one, nested_of_bound, spec_of, specs_for, unsure, number_of_rules, same_answer, applies_always, has_placeholder, world_of, widest_of, listing_of, handled_by}
 use Rattle.goal_frames.proofs.Listings.{listings-are-lawful}
 use Rattle.goal_frames.proofs.Readings.{reads-agree}
 use Rattle.goal_frames.proofs.Behind.{dropped, read-behind, made-behind, made-open}
@@ -40,7 +38,7 @@ use Rattle.goal_frames.proofs.Slots.{own-slots-agree}
 use Rattle.goal_frames.proofs.Sound.{term-one, fact-behind, sound, determined}
 use Rattle.goal_frames.proofs.Widths.{width-behind, rule-within, premises-behind, few}
 use Rattle.goal_frames.proofs.Beginnings.{begin-says-nothing}
-use Rattle.goal_frames.proofs.Same.{answers-are}
+use Rattle.goal_frames.proofs.Same.{answers-are, applies-to-yeses}
 use Rattle.goal_frames.proofs.Closed.{IsNotPlace, closed-kinds}
 use Rattle.goal_frames.proofs.Filled.{filled, filled-allowed, filled-agrees}
 
@@ -70,10 +68,10 @@ from-map : {A B : Type 0} (P : B → Type 0) (f : A → B) (xs : List A) → Eve
 from-map P f [] h = tt
 from-map P f (x ∷ xs) h = (h.0, from-map P f xs h.1)
 
-predicate-parts : (i j : ℕ) (x y : Trees) → tree (principal 0 i) x none ≡ tree (principal 0 j) y none → (i ≡ j) × (x ≡ y)
+predicate-parts : (i j : ℕ) (x y : Trees) → tree (predicate (of_trait i)) x none ≡ tree (predicate (of_trait j)) y none → (i ≡ j) × (x ≡ y)
 predicate-parts i j x y e = (cc, cc)
 
-same-goal-parts : (i j : ℕ) (x y : Trees) → ◌≡◌ {A = GoalTrees} (record { environment = none; predicate = tree (principal 0 i) x none }) (record { environment = none; predicate = tree (principal 0 j) y none }) → (i ≡ j) × (x ≡ y)
+same-goal-parts : (i j : ℕ) (x y : Trees) → ◌≡◌ {A = GoalTrees} (record { environment = none; predicate = tree (predicate (of_trait i)) x none }) (record { environment = none; predicate = tree (predicate (of_trait j)) y none }) → (i ≡ j) × (x ≡ y)
 same-goal-parts i j x y e = predicate-parts i j x y (ap (λ (z : GoalTrees). z.predicate) e)
 
 -- ---- a goal that is made as canonical forms are
@@ -103,7 +101,7 @@ module _ (book : RuleBook) (rules_are : AreRules book) (mode : TypingMode) (f : 
       less x y = omega arith
 
   abbrev IsRuleFor : Spec (workings frame_tables) → Type 0
-  IsRuleFor c = IsLawful frame_tables (listed frame_tables (is_always_applicable frame_tables) same_answer (listing_of book mode f a.kinds (Some a))) c
+  IsRuleFor c = IsLawful frame_tables (listed frame_tables applies_always same_answer (listing_of book mode f a.kinds (Some a))) c
 
   listed-rule : (r : Rule) → IsRule r → IsAmong r book.rules → r.head.trait ≡ a.bound.trait → IsRuleFor (spec_of kind a r)
   listed-rule r good i same =
@@ -152,7 +150,7 @@ module _ (book : RuleBook) (rules_are : AreRules book) (mode : TypingMode) (f : 
     proper-is = ap (λ z. v.proper && fits z v.terms) (sym h.kinds)
 
     same-instance : (p q : Bool) (b : Bound) (x y : Trees) → p ≡ q → x ≡ y
-        → ◌≡◌ {A = Fact} (record { trait = Some b.trait; goal = record { environment = none; predicate = tree (principal 0 b.trait) x none }; proper = p }) (record { trait = Some b.trait; goal = record { environment = none; predicate = tree (principal 0 b.trait) y none }; proper = q })
+        → ◌≡◌ {A = Fact} (record { trait = Some b.trait; goal = record { environment = none; predicate = tree (predicate (of_trait b.trait)) x none }; proper = p }) (record { trait = Some b.trait; goal = record { environment = none; predicate = tree (predicate (of_trait b.trait)) y none }; proper = q })
     same-instance p q b x y e g = cc
 
     premise-is : (b : Bound) → IsOver r.kinds b → fact (nested_of_bound kind (behind n b)) terms_of ≡ instance_of (goal v).proper by.values b
@@ -178,7 +176,7 @@ module _ (book : RuleBook) (rules_are : AreRules book) (mode : TypingMode) (f : 
       (SomeOf-both IsRule (IsBy (goal v) last.0) (λ (r : Rule). (r.head.trait ≡ a.bound.trait) × Realizes frame_tables (HasProofByBook book) (begin a.kinds) v (spec_of kind a r))
       (λ r good by. (sym (parts v last.1.0 r good last.0 by).0, realizes v last.1.0 r good last.0 by last.2)) book.rules rules_are last.1.1)
 
-  asked-listing : IsListing frame_tables (is_always_applicable frame_tables) same_answer (listing_of book mode f a.kinds (Some a))
+  asked-listing : IsListing frame_tables applies_always same_answer (listing_of book mode f a.kinds (Some a))
   asked-listing = record {
     begins = λ v. begins-free a.kinds v;
     says_nothing = λ c. begin-says-nothing a.kinds c;
@@ -207,7 +205,7 @@ searched-kinds : (mode : TypingMode) (f : CanonicalForm) → asked f ≡ None �
 searched-kinds Coherence f e w = no-placeholder (kinds_known f.kinds) (not-true (has_placeholder (kinds_known f.kinds)) (ap (λ o. is_some o || not (has_placeholder (kinds_known f.kinds))) (sym e) ∙ w))
 searched-kinds PostAnalysis f e w = absurd w
 
-unsure-listing : (book : RuleBook) (mode : TypingMode) (f : CanonicalForm) → asked f ≡ None → IsListing frame_tables (is_always_applicable frame_tables) same_answer (listing_of book mode f (kinds_known f.kinds) None)
+unsure-listing : (book : RuleBook) (mode : TypingMode) (f : CanonicalForm) → asked f ≡ None → IsListing frame_tables applies_always same_answer (listing_of book mode f (kinds_known f.kinds) None)
 unsure-listing book mode f e = record {
   begins = λ v. begins-free (kinds_known f.kinds) v;
   says_nothing = λ c. begin-says-nothing (kinds_known f.kinds) c;
@@ -232,11 +230,11 @@ unsure-listing book mode f e = record {
       solves = tt;
     }
 
-listing-at : (book : RuleBook) → AreRules book → (mode : TypingMode) (f : CanonicalForm) (o : Option Asked) → asked f ≡ o → IsListing frame_tables (is_always_applicable frame_tables) same_answer (listing_of book mode f (kinds_known f.kinds) o)
+listing-at : (book : RuleBook) → AreRules book → (mode : TypingMode) (f : CanonicalForm) (o : Option Asked) → asked f ≡ o → IsListing frame_tables applies_always same_answer (listing_of book mode f (kinds_known f.kinds) o)
 listing-at book rules_are mode f None e = unsure-listing book mode f e
 listing-at book rules_are mode f (Some a) e =
-    let h = asked-is f a e in subst (λ ks. IsListing frame_tables (is_always_applicable frame_tables) same_answer (listing_of book mode f ks (Some a))) (sym (kinds-are f a h)) (asked-listing book rules_are mode f a h)
+    let h = asked-is f a e in subst (λ ks. IsListing frame_tables applies_always same_answer (listing_of book mode f ks (Some a))) (sym (kinds-are f a h)) (asked-listing book rules_are mode f a h)
 
 pub handlers-are-lawful : (book : RuleBook) → AreRules book → (mode : TypingMode) (f : CanonicalForm) → IsHandler frame_tables (handled_by book mode f)
 handlers-are-lawful book rules_are mode f =
-    listings-are-lawful frame_tables (is_always_applicable frame_tables) same_answer tables_are_lawful (always_is_test frame_tables) answers-are (listing_of book mode f (kinds_known f.kinds) (asked f)) (listing-at book rules_are mode f (asked f) refl)
+    listings-are-lawful frame_tables applies_always same_answer tables_are_lawful applies-to-yeses answers-are (listing_of book mode f (kinds_known f.kinds) (asked f)) (listing-at book rules_are mode f (asked f) refl)

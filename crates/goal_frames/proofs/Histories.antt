@@ -4,7 +4,7 @@ use Rattle.std.specs.Prelude.{slice_set}
 use Rattle.std.proofs.lemmas.List.{length-set}
 use Rattle.search_graph.specs.declared.path_kind.PathKind.{PathKind}
 use Rattle.search_graph.specs.declared.delegate.Request.{Request}
-use Rattle.search_graph.specs.declared.delegate.Request.TheVariants.{Evaluate, EnterCandidate, FinishCandidate, IgnoreCandidate, Done}
+use Rattle.search_graph.specs.declared.delegate.Request.TheVariants.{Evaluate, IgnoreCandidate, Done}
 use Rattle.search_graph.specs.declared.delegate.Reply.{Reply}
 use Rattle.search_graph.specs.declared.delegate.Reply.TheVariants.{Begin, Result, Entered, Finished, Ignored}
 use Rattle.search_graph.specs.Meaning.{Meaning, finished, ignoring, IsReplyTo, IsReplyBy, AreReplies, premise_of, premises_back, premises, answer_count, is_open, IsInOrder}
@@ -75,41 +75,27 @@ among_either false x xs ys i j = j
 module _ {C I R F : Type 0} (m : Meaning C I R F) where
   stays_premise : (x : m.Goal × PathKind) (q : Request m.Goal m.Answer) (a : m.Answer) (others : List (m.Goal × PathKind)) → IsAmong x others → IsAmong x (premise_of m q a others)
   stays_premise x (Evaluate h k) a others i = among_either (m.is_yes a) x ((h, k) ∷ others) others (inr i) i
-  stays_premise x EnterCandidate a others i = i
-  stays_premise x FinishCandidate a others i = i
-  stays_premise x (IgnoreCandidate n) a others i = i
-  stays_premise x (Done b) a others i = i
+  stays_premise x request a others i = i
 
   pub answer_count-is : (heard : List (Reply m.Answer)) → results (replies_of heard) ≡ answer_count m heard
   answer_count-is [] = refl
-  answer_count-is (Begin ∷ heard) = answer_count-is heard
   answer_count-is (Result a ∷ heard) = let e = answer_count-is heard in omega arith
-  answer_count-is (Entered ∷ heard) = answer_count-is heard
-  answer_count-is (Finished n ∷ heard) = answer_count-is heard
-  answer_count-is (Ignored ∷ heard) = answer_count-is heard
+  answer_count-is (reply ∷ heard) = answer_count-is heard
 
 -- ---- requests of frames
 module _ {Q G A : Type 0} (goal : Q → G) (kind : Q → PathKind) where
   pub done_returns : (r : Frames.Request Q A) (a : A) → request_of goal kind r ≡ Done a → r ≡ Frames.returns a
-  done_returns (Frames.evaluate q) a e = absurd (cc)
-  done_returns Frames.enter_candidate a e = absurd (cc)
-  done_returns Frames.finish_candidate a e = absurd (cc)
-  done_returns (Frames.ignore_candidate n) a e = absurd (cc)
   done_returns (Frames.returns b) a e = cc
+  done_returns request a e = absurd (cc)
 
   pub evaluates : (r : Frames.Request Q A) (h : G) (k : PathKind) → request_of goal kind r ≡ Evaluate h k → (q : Q) × (r ≡ Frames.evaluate q) × (goal q ≡ h) × (kind q ≡ k)
   evaluates (Frames.evaluate q) h k e = (q, refl, (cc), (cc))
-  evaluates Frames.enter_candidate h k e = absurd (cc)
-  evaluates Frames.finish_candidate h k e = absurd (cc)
-  evaluates (Frames.ignore_candidate n) h k e = absurd (cc)
-  evaluates (Frames.returns b) h k e = absurd (cc)
+  evaluates request h k e = absurd (cc)
 
 pub told-begin : {Q A : Type 0} (p : Position Q A) → told Frames.begin p ≡ p
-told-begin (between heard gone (considers s go)) = refl
 told-begin (between heard gone (answers a [])) = refl
-told-begin (between heard gone (answers a (n ∷ ns))) = refl
-told-begin (inside heard replies (ask q k) go) = refl
 told-begin (inside heard replies (done a) go) = refl
+told-begin p = refl
 
 -- what was asked and answered in the candidate that is open
 abbrev open_replies : {Q A : Type 0} → Position Q A → List (Q × A)
@@ -144,35 +130,22 @@ module _ {C I R F : Type 0} (m : Meaning C I R F) (Q : Type 0) (goal : Q → m.G
         → S (inside before replies (done a) go) (Finished n) (between ((n, replies) ∷ before) [] (go a n)))
         → (p : Position Q m.Answer) (reply : Reply m.Answer) → m.asks w g heard ≡ asked p → IsReplyTo m w g heard (asked p) reply → IsReplyBy m P (asked p) reply → S p reply (told (reply_of reply) p)
     step heard S enters ignores hears ends (between before gone (considers s go)) Entered e i b = enters before gone s go
-    step heard S enters ignores hears ends (between before gone (considers s go)) Begin e i b = absurd i
-    step heard S enters ignores hears ends (between before gone (considers s go)) (Result a) e i b = absurd i
-    step heard S enters ignores hears ends (between before gone (considers s go)) (Finished n) e i b = absurd i
-    step heard S enters ignores hears ends (between before gone (considers s go)) Ignored e i b = absurd i
     step heard S enters ignores hears ends (between before gone (answers a (n ∷ ns))) Ignored e i b = ignores before gone a n ns e
-    step heard S enters ignores hears ends (between before gone (answers a (n ∷ ns))) Begin e i b = absurd i
-    step heard S enters ignores hears ends (between before gone (answers a (n ∷ ns))) (Result c) e i b = absurd i
-    step heard S enters ignores hears ends (between before gone (answers a (n ∷ ns))) Entered e i b = absurd i
-    step heard S enters ignores hears ends (between before gone (answers a (n ∷ ns))) (Finished k) e i b = absurd i
-    step heard S enters ignores hears ends (between before gone (answers a [])) Begin e i b = absurd i
-    step heard S enters ignores hears ends (between before gone (answers a [])) (Result c) e i b = absurd i
-    step heard S enters ignores hears ends (between before gone (answers a [])) Entered e i b = absurd i
-    step heard S enters ignores hears ends (between before gone (answers a [])) (Finished k) e i b = absurd i
-    step heard S enters ignores hears ends (between before gone (answers a [])) Ignored e i b = absurd i
     step heard S enters ignores hears ends (inside before replies (ask q k) go) (Result a) e i b = hears before replies q k go a e b
-    step heard S enters ignores hears ends (inside before replies (ask q k) go) Begin e i b = absurd i
-    step heard S enters ignores hears ends (inside before replies (ask q k) go) Entered e i b = absurd i
-    step heard S enters ignores hears ends (inside before replies (ask q k) go) (Finished n) e i b = absurd i
-    step heard S enters ignores hears ends (inside before replies (ask q k) go) Ignored e i b = absurd i
     step heard S enters ignores hears ends (inside before replies (done a) go) (Finished n) e i b = ends before replies a go n i
-    step heard S enters ignores hears ends (inside before replies (done a) go) Begin e i b = absurd i
-    step heard S enters ignores hears ends (inside before replies (done a) go) (Result c) e i b = absurd i
-    step heard S enters ignores hears ends (inside before replies (done a) go) Entered e i b = absurd i
-    step heard S enters ignores hears ends (inside before replies (done a) go) Ignored e i b = absurd i
+    step heard S enters ignores hears ends (between before gone (considers s go)) reply e i b = absurd i
+    step heard S enters ignores hears ends (between before gone (answers a [])) reply e i b = absurd i
+    step heard S enters ignores hears ends (between before gone (answers a (n ∷ ns))) reply e i b = absurd i
+    step heard S enters ignores hears ends (inside before replies (ask q k) go) reply e i b = absurd i
+    step heard S enters ignores hears ends (inside before replies (done a) go) reply e i b = absurd i
+
+    abbrev IsKept : (List (Reply m.Answer) → Position Q m.Answer → Type 0) → Type 0
+    IsKept Inv =
+        (heard : List (Reply m.Answer)) (p : Position Q m.Answer) (reply : Reply m.Answer) → m.asks w g heard ≡ asked p → IsReplyTo m w g heard (asked p) reply → IsReplyBy m P (asked p) reply
+        → Inv heard p → Inv (reply ∷ heard) (told (reply_of reply) p)
 
     -- what holds at the beginning and is kept by each reply
-    holds : (Inv : List (Reply m.Answer) → Position Q m.Answer → Type 0) → Inv (Begin ∷ []) (between [] [] f)
-        → ((heard : List (Reply m.Answer)) (p : Position Q m.Answer) (reply : Reply m.Answer) → m.asks w g heard ≡ asked p → IsReplyTo m w g heard (asked p) reply → IsReplyBy m P (asked p) reply
-        → Inv heard p → Inv (reply ∷ heard) (told (reply_of reply) p))
+    holds : (Inv : List (Reply m.Answer) → Position Q m.Answer → Type 0) → Inv (Begin ∷ []) (between [] [] f) → IsKept Inv
         → (last : Reply m.Answer) (heard : List (Reply m.Answer)) → AreReplies m P w g (last ∷ heard) → Inv (last ∷ heard) (place (last ∷ heard))
     holds Inv start on reply [] r =
         subst (λ x. Inv (x ∷ []) (place (x ∷ []))) (sym r.0) (subst (Inv (Begin ∷ [])) (sym (told-begin (between [] [] f))) start)
@@ -185,8 +158,7 @@ module _ {C I R F : Type 0} (m : Meaning C I R F) (Q : Type 0) (goal : Q → m.G
     abbrev Numbered : List (Reply m.Answer) → Position Q m.Answer → Type 0
     Numbered heard p = numbers (finished_at p) ≡ down (length (finished m w g heard))
 
-    numbered_on : (heard : List (Reply m.Answer)) (p : Position Q m.Answer) (reply : Reply m.Answer) → m.asks w g heard ≡ asked p → IsReplyTo m w g heard (asked p) reply → IsReplyBy m P (asked p) reply
-        → Numbered heard p → Numbered (reply ∷ heard) (told (reply_of reply) p)
+    numbered_on : IsKept Numbered
     numbered_on heard =
         step heard (λ p reply q. Numbered heard p → Numbered (reply ∷ heard) q) (λ before gone s go x. x)
         (λ before gone a n ns e x.
@@ -211,8 +183,7 @@ module _ {C I R F : Type 0} (m : Meaning C I R F) (Q : Type 0) (goal : Q → m.G
     flags_start heard before (considers s go) h = h
     flags_start heard before (answers a ns) h = λ k e. absurd (h k e)
 
-    flags_on : (heard : List (Reply m.Answer)) (p : Position Q m.Answer) (reply : Reply m.Answer) → m.asks w g heard ≡ asked p → IsReplyTo m w g heard (asked p) reply → IsReplyBy m P (asked p) reply
-        → Flags heard p → Flags (reply ∷ heard) (told (reply_of reply) p)
+    flags_on : IsKept Flags
     flags_on heard =
         step heard (λ p reply q. Flags heard p → Flags (reply ∷ heard) q) (λ before gone s go x. x)
         (λ before gone a n ns e x k flagged.
@@ -268,8 +239,7 @@ module _ {C I R F : Type 0} (m : Meaning C I R F) (Q : Type 0) (goal : Q → m.G
         let y = x flags (unwrap_or (slice_get flags n) false) in
         record { finished = λ q i. elim i [ inl c ↦ y.opened c.0 q c.1 | inr j ↦ y.finished q j ]; opened = λ off q i. absurd i }
 
-    holds_on : (heard : List (Reply m.Answer)) (p : Position Q m.Answer) (reply : Reply m.Answer) → m.asks w g heard ≡ asked p → IsReplyTo m w g heard (asked p) reply → IsReplyBy m P (asked p) reply
-        → HoldsAll heard p → HoldsAll (reply ∷ heard) (told (reply_of reply) p)
+    holds_on : IsKept HoldsAll
     holds_on heard =
         step heard (λ p reply q. HoldsAll heard p → HoldsAll (reply ∷ heard) q)
         (λ before gone s go x flags ignored. record { finished = λ q i. (x flags false).finished q i; opened = λ off q i. absurd i })
@@ -294,8 +264,7 @@ module _ {C I R F : Type 0} (m : Meaning C I R F) (Q : Type 0) (goal : Q → m.G
     abbrev IsOpenAt : List (Reply m.Answer) → Position Q m.Answer → Type 0
     IsOpenAt heard p = is_open m heard ≡ is_inside p
 
-    open_on : (heard : List (Reply m.Answer)) (p : Position Q m.Answer) (reply : Reply m.Answer) → m.asks w g heard ≡ asked p → IsReplyTo m w g heard (asked p) reply → IsReplyBy m P (asked p) reply
-        → IsOpenAt heard p → IsOpenAt (reply ∷ heard) (told (reply_of reply) p)
+    open_on : IsKept IsOpenAt
     open_on heard =
         step heard (λ p reply q. IsOpenAt heard p → IsOpenAt (reply ∷ heard) q) (λ before gone s go x. refl) (λ before gone a n ns e x. x) (λ before replies q k go a e b x. x)
         (λ before replies a go n e x. refl)
@@ -323,8 +292,7 @@ module _ {C I R F : Type 0} (m : Meaning C I R F) (Q : Type 0) (goal : Q → m.G
     abbrev Long : List (Reply m.Answer) → Position Q m.Answer → Type 0
     Long heard p = length heard ≡ suc (results (replies_of heard) + others (replies_of heard))
 
-    long_on : (heard : List (Reply m.Answer)) (p : Position Q m.Answer) (reply : Reply m.Answer) → m.asks w g heard ≡ asked p → IsReplyTo m w g heard (asked p) reply → IsReplyBy m P (asked p) reply
-        → Long heard p → Long (reply ∷ heard) (told (reply_of reply) p)
+    long_on : IsKept Long
     long_on heard =
         step heard (λ p reply q. Long heard p → Long (reply ∷ heard) q) (λ before gone s go x. omega arith) (λ before gone a n ns e x. omega arith) (λ before replies q k go a e b x. omega arith)
         (λ before replies a go n e x. omega arith)
@@ -339,10 +307,7 @@ module _ {C I R F : Type 0} (m : Meaning C I R F) (Q : Type 0) (goal : Q → m.G
       came_next : (reply last : Reply m.Answer) (heard : List (Reply m.Answer)) → Frames.IsReply T (place (last ∷ heard)) (reply_of reply) → CameInOrder T f (replies_of (last ∷ heard))
           → CameInOrder T f (replies_of (reply ∷ last ∷ heard))
       came_next Begin last heard i c = (i, c)
-      came_next (Result a) last heard i c = (i, c)
-      came_next Entered last heard i c = (i, c)
-      came_next (Finished n) last heard i c = (i, c)
-      came_next Ignored last heard i c = (i, c)
+      came_next reply last heard i c = (i, c)
 
       is_reply : (heard : List (Reply m.Answer)) → CameInOrder T f (replies_of heard) → (p : Position Q m.Answer) (reply : Reply m.Answer) → m.asks w g heard ≡ asked p → IsReplyTo m w g heard (asked p) reply → IsReplyBy m P (asked p) reply
           → Frames.asks f (replies_of heard) ≡ request p → Numbered heard p → Frames.IsReply T p (reply_of reply)

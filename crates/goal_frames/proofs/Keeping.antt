@@ -12,11 +12,10 @@ use Rattle.infer_table.specs.contracts.response.CanonicalResponsePartialEq.TheIm
 use Rattle.infer_table.specs.Goals.{GoalHeld}
 use Rattle.infer_table.specs.Inputs.{AreEqual}
 use Rattle.infer_table.proofs.Questions.{input-eq}
-use Rattle.infer_table.specs.Responses.{ResponseHeld, answer_trees}
+use Rattle.infer_table.specs.Responses.{ResponseHeld, answer_trees, SayTheSame}
 use Rattle.goal_frames.specs.declared.store.GoalStore.{GoalStore}
 use Rattle.goal_frames.specs.declared.store.InputId.{InputId}
 use Rattle.goal_frames.specs.declared.store.ResponseId.{ResponseId}
-use Rattle.goal_frames.specs.Equal.{SayTheSame}
 use Rattle.goal_frames.specs.Stores.{kept_inputs, kept_responses, input_at, response_at, asked_goal, goal_at, answer_at, IsHeld, StandsForInput, StandsForResponse, IsNewInput, IsNewResponse}
 use Rattle.goal_frames.proofs.Places.{stands, stands-nowhere, not-found, found-again, inserted-adds, inserted-keeps, inserted-is}
 use Rattle.goal_frames.proofs.Answers.{response-eq, response-back, answers-are}

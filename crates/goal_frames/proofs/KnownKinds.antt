@@ -2,11 +2,11 @@
 use Rattle.std.proofs.Common.{◌≡◌, List, [], ◌∷◌, map, refl, ◌∙◌, ap, Some}
 use Rattle.infer_table.specs.declared.canonical.CanonicalVarKind.{CanonicalVarKind}
 use Rattle.evaluation.specs.Handler.{Handled}
-use Rattle.table_laws.proofs.Beginning.{begin}
+use Rattle.evaluation_laws.specs.Operations.{begin}
 use Rattle.evaluation_laws.specs.Tables.{frame_tables}
 use Rattle.goal_frames.specs.Readings.{kinds_known}
 
-all-known : (ks : List CanonicalVarKind) → kinds_known (map Some ks) ≡ ks
+pub all-known : (ks : List CanonicalVarKind) → kinds_known (map Some ks) ≡ ks
 all-known [] = refl
 all-known (k ∷ ks) = ap (λ xs. k ∷ xs) (all-known ks)
 

@@ -8,6 +8,7 @@ pub mod Listings
 pub mod Readings
 pub mod Behind
 pub mod Asked
+pub mod Shortages
 pub mod Slots
 pub mod Sound
 pub mod Widths

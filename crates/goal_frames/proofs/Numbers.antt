@@ -1,11 +1,11 @@
 -- What the numbers of a store stand for.
-use Rattle.std.proofs.Common.{rules, ◌≡◌, ◌∙◌, List, refl, ap, sym, subst, Option, Some, None, option_map, true}
+use Rattle.std.proofs.Common.{rules, ◌≡◌, ◌↔◌, ◌∙◌, List, refl, ap, sym, subst, Option, Some, None, option_map, true}
 use Rattle.std.specs.Bool.{Decides}
 use Rattle.std.proofs.lemmas.Option.{same_Some}
 use Rattle.type_terms.specs.Terms.{Entry, Keeps, Lawful}
 use Rattle.type_terms.specs.Kinds.{ArgsHeld}
 use Rattle.infer_table.specs.Content.{AllConstraintsHeld}
-use Rattle.infer_table.specs.Canonical.{GoalTrees, CanonicalForm}
+use Rattle.infer_table.specs.Canonical.{GoalTrees, CanonicalForm, canonical_form, AreRenamings}
 use Rattle.infer_table.specs.declared.certainty.TypingMode.{TypingMode}
 use Rattle.infer_table.specs.declared.canonical.CanonicalVarKind.{CanonicalVarKind}
 use Rattle.infer_table.specs.declared.input.CanonicalInput.{CanonicalInput}
@@ -13,17 +13,17 @@ use Rattle.infer_table.specs.declared.response.CanonicalResponse.{CanonicalRespo
 use Rattle.infer_table.specs.contracts.input.CanonicalInputPartialEq.TheImpl.{ghosts as input}
 use Rattle.infer_table.specs.contracts.response.CanonicalResponsePartialEq.TheImpl.{ghosts as response}
 use Rattle.infer_table.specs.Goals.{GoalHeld, ClausesHeld, PredicateHeld}
-use Rattle.infer_table.specs.Inputs.{AreEqual}
+use Rattle.infer_table.specs.Inputs.{AreEqual, IsCanonicalInput, IsWithoutCanonical, IsOneQuestion}
 use Rattle.infer_table.proofs.Numbers.{goal-trees-later}
+use Rattle.infer_table.proofs.CanonicalLaws.{canonical_form-renamed, canonical_form-equal}
 use Rattle.infer_table.proofs.Questions.{input-eq, forms-equal, equal-forms}
-use Rattle.infer_table.specs.Responses.{AnswerTrees, ResponseHeld, answer_trees}
+use Rattle.infer_table.specs.Responses.{AnswerTrees, ResponseHeld, answer_trees, SayTheSame}
 use Rattle.goal_frames.specs.declared.store.GoalStore.{GoalStore}
 use Rattle.goal_frames.specs.declared.store.InputId.{InputId}
 use Rattle.goal_frames.specs.declared.store.ResponseId.{ResponseId}
 use Rattle.goal_frames.specs.contracts.store.InputIdPartialEq.TheImpl.{ghosts as input-id}
 use Rattle.goal_frames.specs.contracts.store.ResponseIdPartialEq.TheImpl.{ghosts as response-id}
-use Rattle.goal_frames.specs.Equal.{SayTheSame}
-use Rattle.goal_frames.specs.Stores.{input_at, response_at, AskedGoal, asked_goal, goal_at, answer_at, IsHeld}
+use Rattle.goal_frames.specs.Stores.{input_at, response_at, AskedGoal, asked_goal, goal_at, answer_at, IsHeld, StandsForGoal, NumbersTellQuestions}
 use Rattle.goal_frames.proofs.Places.{one-place}
 use Rattle.goal_frames.proofs.Answers.{response-eq, response-back, answers-are}
 
@@ -86,6 +86,21 @@ one-answer es s i j q law held h g =
     let a = some-of (answer_trees es) (response_at s i) q h in
     let b = some-of (answer_trees es) (response_at s j) q g in
     one-response s i j a.0 b.0 a.1 b.1 (answers-are es law a.0 b.0 (held.responses i a.0 a.1) (held.responses j b.0 b.1) (a.2 ∙ sym b.2))
+
+-- what stands for a goal stands for each that a renaming carries it to
+pub asks-renamed : (es : List Entry) (s : GoalStore) (i : InputId) (g h : GoalTrees) (a : CanonicalInput) → IsCanonicalInput es h a → StandsForGoal es s i a.mode g → AreRenamings g h → goal_at es s i ≡ Some (asked_goal es a)
+asks-renamed es s i g h a is q r = q ∙ ap Some (goal-cong _ _ _ _ refl (canonical_form-renamed g h r ∙ sym is.form))
+
+asked-parts : (m n : TypingMode) (f g : CanonicalForm) → ◌≡◌ {A = Option AskedGoal} (Some (record { mode = m; form = f })) (Some (record { mode = n; form = g })) → (m ≡ n) × (f ≡ g)
+asked-parts m n f g e = let q : ◌≡◌ {A = AskedGoal} (record { mode = m; form = f }) (record { mode = n; form = g }) = same_Some _ _ e in (ap (λ (a : AskedGoal). a.mode) q, ap (λ (a : AskedGoal). a.form) q)
+
+pub numbers-tell-questions : NumbersTellQuestions
+numbers-tell-questions es s i j m n g h law held p q a b = (
+  λ e.
+      let parts = asked-parts m n (canonical_form g) (canonical_form h) (sym a ∙ ap (goal_at es s) e ∙ b) in
+      (parts.0, canonical_form-equal g h p.environment p.predicate q.environment q.predicate parts.1),
+  λ r. one-goal es s i j (record { mode = m; form = canonical_form g }) law held a (b ∙ ap Some (sym (goal-cong m n (canonical_form g) (canonical_form h) r.0 (canonical_form-renamed g h r.1)))),
+)
 
 -- what stands at a place stays the same where it does for what stands there
 pub same-at : {A B : Type 0} (f g : A → B) (o : Option A) → ((a : A) → o ≡ Some a → f a ≡ g a) → option_map f o ≡ option_map g o

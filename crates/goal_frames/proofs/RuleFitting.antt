@@ -14,13 +14,11 @@ use Rattle.evaluation.specs.Table.{workings}
 use Rattle.evaluation.specs.Candidate.{Spec}
 use Rattle.evaluation.proofs.ListLaws.{Every-mono, Every-map}
 use Rattle.table_laws.specs.Instances.{put_in}
-use Rattle.table_laws.specs.Frames.{kind_at, kinds_known, Nested, is_open_label}
+use Rattle.table_laws.specs.Frames.{kind_at, kinds_known, Nested, is_open_label, labels_from, first_content, labels_for}
 use Rattle.table_laws.specs.Answers.{is_kind_of}
-use Rattle.table_laws.proofs.Made.{false-true, both}
+use Rattle.type_terms.proofs.Made.{false-true, both}
 use Rattle.table_laws.proofs.Reading.{EachLabel}
 use Rattle.table_laws.proofs.Labels.{IsGoodLabel, made-labels}
-use Rattle.table_laws.proofs.Beginning.{labels_from, first_content}
-use Rattle.table_laws.proofs.Fresh.{labels_for}
 use Rattle.evaluation_laws.specs.Tables.{frame_tables}
 use Rattle.evaluation_laws.specs.Fitting.{is_of_sort, is_slot, AreOver, IsGoalOver, IsValueOver}
 use Rattle.goal_frames.specs.Rules.{Bound, goal_of, Rule, IsOver, IsRule, is_variable_over}

@@ -28,7 +28,7 @@ use Rattle.evaluation.specs.Script.{Script, done, ask}
 use Rattle.evaluation.specs.Table.{operations, workings}
 use Rattle.table_laws.specs.Content.{Question}
 use Rattle.table_laws.specs.Answers.{IsWellFormed}
-use Rattle.table_laws.proofs.Beginning.{begin}
+use Rattle.evaluation_laws.specs.Operations.{begin}
 use Rattle.evaluation_laws.specs.Tables.{frame_tables}
 use Rattle.evaluation_laws.specs.Fitting.{IsGoalOver}
 use Rattle.evaluation_laws.specs.Rounds.{AreOneQuestion, in_rounds}

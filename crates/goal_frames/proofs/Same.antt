@@ -1,21 +1,24 @@
--- Answers that are found to be the same are equal.
-use Rattle.std.proofs.Common.{◌≡◌, true, List, [], ◌∷◌, refl}
-use Rattle.model.specs.Label.{Sort}
-use Rattle.model.specs.Trees.{Trees, is_sort}
+-- Answers that are found to be the same are equal; only definite yeses are always applicable.
+use Rattle.std.proofs.Common.{◌≡◌, ℕ, suc, true, ◌&&◌, not, if◌then◌else◌, List, [], ◌∷◌, refl, ◌∙◌, ap}
+use Rattle.model.specs.Label.{Sort, of_lifetime}
+use Rattle.model.specs.Trees.{Trees, is_sort, is_no_tree}
 use Rattle.model.specs.Codes.{same}
 use Rattle.model.proofs.Matching.{same-sound}
 use Rattle.infer_table.specs.declared.canonical.CanonicalVarKind.{CanonicalVarKind}
 use Rattle.infer_table.specs.declared.canonical.CanonicalVarKind.TheVariants.{Ty, PlaceholderTy, Const, PlaceholderConst, Region}
+use Rattle.infer_table.specs.Certainties.{is_certain}
 use Rattle.infer_table.specs.declared.certainty.Certainty.{Certainty}
 use Rattle.infer_table.specs.declared.certainty.Certainty.TheVariants.{Yes, Maybe}
 use Rattle.infer_table.specs.declared.certainty.MaybeCause.TheVariants.{Ambiguity, Overflow}
 use Rattle.infer_table.specs.Values.{Value}
 use Rattle.infer_table.specs.Responses.{AnswerTrees}
+use Rattle.infer_table.proofs.SolutionLaws.{is_sort-equal as is-sort}
 use Rattle.evaluation.specs.Atoms.{same_certainty}
-use Rattle.table_laws.proofs.Made.{left, right}
-use Rattle.table_laws.proofs.Equating.{is-sort}
-use Rattle.evaluation.specs.Merge.{TellsApart}
-use Rattle.goal_frames.specs.Handlers.{same_kind, same_kinds, same_values, same_answer}
+use Rattle.table_laws.specs.Answers.{is_variable_itself, are_variables}
+use Rattle.type_terms.proofs.Made.{left, right}
+use Rattle.evaluation.specs.Merge.{TellsApart, IsTest}
+use Rattle.evaluation_laws.specs.Tables.{frame_tables}
+use Rattle.goal_frames.specs.Handlers.{same_kind, same_kinds, same_values, same_answer, are_own_variables, applies_always}
 
 kind-is : (k j : CanonicalVarKind) → same_kind k j ≡ true → k ≡ j
 kind-is Ty Ty e = refl
@@ -60,3 +63,16 @@ answers-are r s e =
     answer-is r.kinds s.kinds r.certainty s.certainty r.values s.values r.constraints s.constraints
     (kinds-are r.kinds s.kinds (left (same_kinds r.kinds s.kinds) _ e)) (certainty-is r.certainty s.certainty (left (same_certainty r.certainty s.certainty) _ f))
     (values-are r.values s.values (left (same_values r.values s.values) _ g)) (same-sound r.constraints s.constraints (right (same_values r.values s.values) _ g))
+
+-- ---- answers that are always applicable
+own-are-variables : (i : ℕ) (vs : List Value) → are_own_variables i vs ≡ true → are_variables i vs ≡ true
+own-are-variables i [] h = refl
+own-are-variables i (v ∷ vs) h =
+    ap (λ b. if b then are_variables (suc i) vs else (is_sort v.sort of_lifetime && are_variables i vs)) (left (is_variable_itself i v.sort v.trees) (are_own_variables (suc i) vs) h)
+    ∙ own-are-variables (suc i) vs (right (is_variable_itself i v.sort v.trees) (are_own_variables (suc i) vs) h)
+
+pub applies-to-yeses : IsTest frame_tables applies_always
+applies-to-yeses a h =
+    let rest = right (is_certain a.certainty) (are_own_variables 0 a.values && is_no_tree a.constraints) h in
+    ap (λ z. z && not (not (are_variables 0 a.values))) (left (is_certain a.certainty) (are_own_variables 0 a.values && is_no_tree a.constraints) h)
+    ∙ ap (λ z. not (not z)) (own-are-variables 0 a.values (left (are_own_variables 0 a.values) (is_no_tree a.constraints) rest))

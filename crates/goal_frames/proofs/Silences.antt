@@ -1,6 +1,6 @@
 -- What the table with which a frame begins answers: each variable stands for itself.
-use Rattle.std.proofs.Common.{◌≡◌, ℕ, suc, ◌+◌, arith, List, [], ◌∷◌, ◌++◌, map, length, refl, sym, ◌∙◌, ap, if◌then◌else◌, is_some, true, Some, Option}
-use Rattle.model.specs.Label.{Label, Sort, canonical}
+use Rattle.std.proofs.Common.{◌≡◌, ℕ, suc, ◌+◌, arith, List, [], ◌∷◌, ◌++◌, map, length, refl, sym, ◌∙◌, ap, if◌then◌else◌, is_some, true, Some}
+use Rattle.model.specs.Label.{Label, canonical}
 use Rattle.model.specs.Trees.{none, leaf, sort_of}
 use Rattle.infer_table.specs.Canonical.{kind_of_leaf, place_of, canonical_label}
 use Rattle.infer_table.specs.declared.canonical.CanonicalVarKind.{CanonicalVarKind}
@@ -11,13 +11,10 @@ use Rattle.infer_table.specs.declared.certainty.MaybeCause.TheVariants.{Ambiguit
 use Rattle.infer_table.specs.Values.{Value}
 use Rattle.infer_table.specs.Raw.{sort_of_kind, variable_value, variables_from}
 use Rattle.infer_table.specs.Responses.{AnswerTrees}
-use Rattle.table_laws.specs.Answers.{own_labels, answer_leaves, value_numbered, with_kind, kinds_of, respond}
-use Rattle.table_laws.proofs.Beginning.{labels_from, begin}
+use Rattle.table_laws.specs.Answers.{own_labels, answer_leaves, value_numbered, with_kind, kinds_of, without_values, respond}
+use Rattle.evaluation_laws.specs.Operations.{begin}
+use Rattle.table_laws.specs.Frames.{labels_from}
 use Rattle.goal_frames.proofs.Beginnings.{AreFresh, append-list, length-more, place-is, value_by, own-labels-all, begin-fresh, begin-leaves}
-
--- each variable stands for itself, and no lifetime is constrained
-abbrev pub without_values : List CanonicalVarKind → Certainty → AnswerTrees
-without_values kinds c = record { kinds = kinds; certainty = c; values = variables_from 0 kinds; constraints = none }
 
 -- the labels are of these kinds
 abbrev AreOf : List CanonicalVarKind → List Label → Type 0

@@ -7,14 +7,13 @@ use Rattle.infer_table.specs.Solutions.{HasValues}
 use Rattle.infer_table.specs.declared.canonical.CanonicalVarKind.{CanonicalVarKind}
 use Rattle.infer_table.specs.declared.canonical.CanonicalVarKind.TheVariants.{Ty, PlaceholderTy, Const, PlaceholderConst, Region}
 use Rattle.infer_table.specs.Raw.{sort_of_kind}
+use Rattle.infer_table.proofs.SolutionLaws.{is_sort-equal as is-sort}
 use Rattle.table_laws.specs.Instances.{default_label, of_sort, as_place, first_term, other_terms, term_at}
 use Rattle.table_laws.specs.Content.{Values, fits_kind, fits, Terms, reading_of}
 use Rattle.table_laws.specs.Frames.{kind_at, IsOwn, AreOwn, FrameTable, HaveValues, Allows}
 use Rattle.table_laws.specs.Answers.{is_kind_of}
-use Rattle.table_laws.proofs.Made.{false-true, left, right}
-use Rattle.table_laws.proofs.Reading.{append-none, EachLabel}
-use Rattle.table_laws.proofs.Equating.{is-sort}
-use Rattle.table_laws.proofs.Heads.{read-lifetime}
+use Rattle.type_terms.proofs.Made.{false-true, left, right}
+use Rattle.table_laws.proofs.Reading.{append-none, EachLabel, read-lifetime}
 use Rattle.table_laws.proofs.Labels.{IsGoodLabel, made-labels}
 use Rattle.goal_frames.specs.Rules.{StandsIn, is_variable_over}
 use Rattle.goal_frames.proofs.Readings.{AgreeIn}

@@ -1,6 +1,6 @@
 -- A rule as a candidate: where its equation holds it is the rule, and its own unknowns are determined by the goal's.
 use Rattle.std.proofs.Common.{◌≡◌, ℕ, Bool, true, false, ◌&&◌, List, [], ◌∷◌, map, length, refl, sym, ◌∙◌, ap, Option, Some, if◌then◌else◌}
-use Rattle.model.specs.Label.{adt, principal, never}
+use Rattle.model.specs.Label.{adt, never, of_trait, predicate}
 use Rattle.model.specs.Trees.{Trees, none, tree, leaf}
 use Rattle.type_terms.specs.Made.{terms, is_made}
 use Rattle.infer_table.specs.Canonical.{GoalTrees, CanonicalForm}
@@ -9,9 +9,8 @@ use Rattle.evaluation.proofs.ListLaws.{Every-mono, Every-map, SomeOf-at}
 use Rattle.table_laws.specs.Instances.{read_with, goal_read}
 use Rattle.table_laws.specs.Content.{Values, fits, given, Fact, fact_of, Terms}
 use Rattle.table_laws.specs.Frames.{FrameTable, Allows, Nested, fact, is_open_label, term_of, Meets}
-use Rattle.table_laws.proofs.Made.{right}
-use Rattle.table_laws.proofs.Beginning.{begin}
-use Rattle.table_laws.proofs.Fresh.{fresh}
+use Rattle.type_terms.proofs.Made.{right}
+use Rattle.evaluation_laws.specs.Operations.{begin, fresh}
 use Rattle.goal_frames.specs.Rules.{Bound, Rule, RuleBook, IsDeterminedBy, IsRule, instance_of, IsBy, FollowsByRule, is_variable_over}
 use Rattle.goal_frames.specs.Handlers.{Asked, behind, as_one, nested_of_bound, spec_of}
 use Rattle.goal_frames.proofs.Readings.{AgreeIn, made-leaves, reads-agree, reads-determine}
@@ -67,9 +66,9 @@ module _ (f : CanonicalForm) (a : Asked) (h : IsAsked f a) (r : Rule) (good : Is
         values = values s;
         concludes =
             ap (goal_read (given s.own.terms)) h.goal
-            ∙ ap (λ z. record { environment = none; predicate = tree (principal 0 a.bound.trait) z none })
+            ∙ ap (λ z. record { environment = none; predicate = tree (predicate (of_trait a.bound.trait)) z none })
             (reads-agree s.own.terms s.slots a.bound.arguments (own-slots-agree table s l (ap (λ z. fits z s.own.terms) (sym h.kinds) ∙ right s.own.proper _ proper) a.bound.arguments h.over) ∙ heads s m)
-            ∙ ap (λ z. record { environment = none; predicate = tree (principal 0 z) (read_with (given (values s)) r.head.arguments) none }) (sym same);
+            ∙ ap (λ z. record { environment = none; predicate = tree (predicate (of_trait z)) (read_with (given (values s)) r.head.arguments) none }) (sym same);
         needs = facts-behind kind (length a.kinds) s (s.own.proper && fits f.kinds s.own.terms) (proper-is s l) r.premises;
       })
 
@@ -93,7 +92,7 @@ module _ (f : CanonicalForm) (a : Asked) (h : IsAsked f a) (r : Rule) (good : Is
       one b d =
           fact-behind kind (length a.kinds) s b
           ∙ same-fact (Some b.trait) _ _ s.proper t.proper
-          (ap (λ z. record { environment = none; predicate = tree (principal 0 b.trait) z none })
+          (ap (λ z. record { environment = none; predicate = tree (predicate (of_trait b.trait)) z none })
           (reads-agree (values s) (values t) b.arguments (λ j i v st. values-agree s t l k m n e j i v (d j i st))))
           (same-proper s t l k e)
           ∙ sym (fact-behind kind (length a.kinds) t b)

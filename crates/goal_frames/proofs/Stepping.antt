@@ -56,11 +56,7 @@ module _ (h : Handled frame_tables) where
   pub has-come : (es : List Entry) (cs : List Code.Considered) (place : Place) (heard : History) → InOrder heard
       → Stands h (map (shown_by es) cs) (place_read es h.coinductive place) (place-of heard) → HasCome es h cs place heard
   has-come es cs InCode.Begun heard o s = absurd s
-  has-come es cs (InCode.Entering c) heard o s = (o, s)
-  has-come es cs (InCode.Inside c rs) heard o s = (o, s)
-  has-come es cs (InCode.Finishing source r) heard o s = (o, s)
-  has-come es cs (InCode.Ignoring r ns at) heard o s = (o, s)
-  has-come es cs InCode.Over heard o s = (o, s)
+  has-come es cs stage heard o s = (o, s)
 
   -- a frame that goes to where its position is after the reply, and makes the request that is made there, steps
   pub steps-to : (old new : List Entry) (before after : GoalFrame) (reply : Reply Answer) (q : Requests.Request CanonicalInput (Option CanonicalResponse))
@@ -75,10 +71,7 @@ module _ (h : Handled frame_tables) where
   pub due-here : (said : History) → InOrder said → (reply : Reply Answer) → InOrder (reply ∷ said) → IsDueAt (place-of said) reply
   due-here [] i reply o = absurd i
   due-here (x ∷ said) i begin o = o.0
-  due-here (x ∷ said) i entered o = o.0
-  due-here (x ∷ said) i ignored o = o.0
-  due-here (x ∷ said) i (evaluated a) o = o.0
-  due-here (x ∷ said) i (finished n) o = o.0
+  due-here (x ∷ said) i reply o = o.0
 
   module _ (es : List Entry) (f : GoalFrame) (heard : History) (b : HasHeard es h f heard) where
     abbrev Come : Place → Type 0
@@ -115,11 +108,8 @@ module _ (h : Handled frame_tables) where
     begun-waits e reply o = let come : Come InCode.Begun = subst Come e b.came in first-is-begin heard come.0 reply o where
       first-is-begin : (said : History) → said ≡ [] → (reply : InReply.Reply (Option CanonicalResponse)) → InOrder (reply_read es reply ∷ said) → reply ≡ Replied.Begin
       first-is-begin [] n Replied.Begin o = refl
-      first-is-begin [] n (Replied.Result r) o = absurd o.1
-      first-is-begin [] n Replied.Entered o = absurd o.1
-      first-is-begin [] n (Replied.Finished m) o = absurd o.1
-      first-is-begin [] n Replied.Ignored o = absurd o.1
       first-is-begin (x ∷ said) n reply o = absurd (cc)
+      first-is-begin [] n reply o = absurd o.1
 
     pub entering-waits : (s : CandidateSpec) → f.place ≡ InCode.Entering s → (reply : InReply.Reply (Option CanonicalResponse)) → InOrder (reply_read es reply ∷ heard) → reply ≡ Replied.Entered
     entering-waits s e reply o =
@@ -127,11 +117,8 @@ module _ (h : Handled frame_tables) where
         only come.1.next.past.heard come.1.gone (candidate_of h (spec_read es h.coinductive s)) (with_result h come.1.next) reply (subst (λ x. IsDueAt x (reply_read es reply)) come.1.at (due-here heard come.0 (reply_read es reply) o)) where
           only : (hd : Heard) → (gone : List ℕ) → (c : Script Question Answer Answer) → (go : Answer → ℕ → Frame Question Answer)
               → (reply : InReply.Reply (Option CanonicalResponse)) → IsDueAt (between hd gone (considers c go)) (reply_read es reply) → reply ≡ Replied.Entered
-          only hd gone c go Replied.Begin r = absurd r
-          only hd gone c go (Replied.Result x) r = absurd r
           only hd gone c go Replied.Entered r = refl
-          only hd gone c go (Replied.Finished m) r = absurd r
-          only hd gone c go Replied.Ignored r = absurd r
+          only hd gone c go reply r = absurd r
 
     pub inside-waits : (s : CandidateSpec) (rs : _) → f.place ≡ InCode.Inside s rs → (reply : InReply.Reply (Option CanonicalResponse)) → InOrder (reply_read es reply ∷ heard)
         → (r : Option CanonicalResponse) × (reply ≡ Replied.Result r)
@@ -143,11 +130,8 @@ module _ (h : Handled frame_tables) where
         (subst (λ x. IsDueAt x (reply_read es reply)) i.at (due-here heard come.0 (reply_read es reply) o))) where
           only : (hd : Heard) → (td : List (Question × Answer)) → (q : Question) → (k : Answer → Script Question Answer Answer) → (go : Answer → ℕ → Frame Question Answer)
               → (reply : InReply.Reply (Option CanonicalResponse)) → IsDueAt (inside hd td (ask q k) go) (reply_read es reply) → (r : Option CanonicalResponse) × (reply ≡ Replied.Result r)
-          only hd td q k go Replied.Begin r = absurd r
           only hd td q k go (Replied.Result x) r = (x, refl)
-          only hd td q k go Replied.Entered r = absurd r
-          only hd td q k go (Replied.Finished m) r = absurd r
-          only hd td q k go Replied.Ignored r = absurd r
+          only hd td q k go reply r = absurd r
 
     pub finishing-waits : (source : CandidateSource) (a : Option CanonicalResponse) → f.place ≡ InCode.Finishing source a → (reply : InReply.Reply (Option CanonicalResponse)) → InOrder (reply_read es reply ∷ heard)
         → (n : ℕ) × (reply ≡ Replied.Finished n)
@@ -156,23 +140,13 @@ module _ (h : Handled frame_tables) where
         only come.1.next.past.heard come.1.told (result_read es a) (with_result h come.1.next) reply (subst (λ x. IsDueAt x (reply_read es reply)) come.1.at (due-here heard come.0 (reply_read es reply) o)) where
           only : (hd : Heard) → (td : List (Question × Answer)) → (x : Answer) → (go : Answer → ℕ → Frame Question Answer)
               → (reply : InReply.Reply (Option CanonicalResponse)) → IsDueAt (inside hd td (done x) go) (reply_read es reply) → (n : ℕ) × (reply ≡ Replied.Finished n)
-          only hd td y go Replied.Begin r = absurd r
-          only hd td y go (Replied.Result x) r = absurd r
-          only hd td y go Replied.Entered r = absurd r
           only hd td y go (Replied.Finished m) r = (m, refl)
-          only hd td y go Replied.Ignored r = absurd r
+          only hd td y go reply r = absurd r
 
     only-ignored : (hd : Heard) (gone : List ℕ) (x : Answer) (ns : List ℕ) (reply : InReply.Reply (Option CanonicalResponse)) → IsDueAt (between hd gone (answers x ns)) (reply_read es reply) → reply ≡ Replied.Ignored
-    only-ignored hd gone x (n ∷ ns) Replied.Begin r = absurd r
-    only-ignored hd gone x (n ∷ ns) (Replied.Result y) r = absurd r
-    only-ignored hd gone x (n ∷ ns) Replied.Entered r = absurd r
-    only-ignored hd gone x (n ∷ ns) (Replied.Finished m) r = absurd r
     only-ignored hd gone x (n ∷ ns) Replied.Ignored r = refl
-    only-ignored hd gone x [] Replied.Begin r = absurd r
-    only-ignored hd gone x [] (Replied.Result y) r = absurd r
-    only-ignored hd gone x [] Replied.Entered r = absurd r
-    only-ignored hd gone x [] (Replied.Finished m) r = absurd r
     only-ignored hd gone x [] Replied.Ignored r = refl
+    only-ignored hd gone x ns reply r = absurd r
 
     pub ignoring-waits : (a : Option CanonicalResponse) (ns : _) (at : ℕ) → f.place ≡ InCode.Ignoring a ns at → (reply : InReply.Reply (Option CanonicalResponse)) → InOrder (reply_read es reply ∷ heard) → reply ≡ Replied.Ignored
     ignoring-waits a ns at e reply o =
@@ -185,7 +159,4 @@ module _ (h : Handled frame_tables) where
         never come.1.1.heard come.1.1.gone come.1.0 reply (subst (λ x. IsDueAt x (reply_read es reply)) come.1.1.at (due-here heard come.0 (reply_read es reply) o)) where
           never : (hd : Heard) → (gone : List ℕ) → (x : Answer) → (reply : InReply.Reply (Option CanonicalResponse)) → IsDueAt (between hd gone (answers x [])) (reply_read es reply) → ⊥
           never hd gone x Replied.Begin r = r
-          never hd gone x (Replied.Result y) r = r
-          never hd gone x Replied.Entered r = r
-          never hd gone x (Replied.Finished m) r = r
-          never hd gone x Replied.Ignored r = r
+          never hd gone x reply r = r

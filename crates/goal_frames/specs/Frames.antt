@@ -1,5 +1,5 @@
 -- What frames in code have heard, and what they ask.
-use Rattle.std.specs.Prelude.{◌≡◌, List, [], ◌∷◌, map, Option}
+use Rattle.std.specs.Prelude.{◌≡◌, ℕ, Bool, List, [], ◌∷◌, map, Option}
 use Rattle.type_terms.specs.Terms.{Entry}
 use Rattle.infer_table.specs.declared.certainty.TypingMode.{TypingMode}
 use Rattle.infer_table.specs.declared.input.CanonicalInput.{CanonicalInput}
@@ -11,18 +11,20 @@ use Rattle.search_graph.specs.declared.delegate.Reply as Replies
 use Rattle.search_graph.specs.declared.delegate.Reply.TheVariants as Replied
 use Rattle.search_graph.specs.declared.delegate.Request as Requests
 use Rattle.search_graph.specs.declared.delegate.Request.TheVariants as Requested
+use Rattle.evaluation.specs.declared.candidate.CandidateSpec.{CandidateSpec}
 use Rattle.evaluation.specs.declared.candidate.Considered.{Considered}
 use Rattle.evaluation.specs.Handler.{Handled}
-use Rattle.evaluation.specs.History.{Request, evaluate, enter_candidate, finish_candidate, ignore_candidate, returns, Reply, begin, entered, ignored, evaluated, finished, position, asks, CameInOrder}
+use Rattle.evaluation.specs.Evaluating.{replies_trees}
+use Rattle.evaluation.specs.History.{Request, evaluate, enter_candidate, finish_candidate, ignore_candidate, returns, Reply, begin, entered, ignored, evaluated, finished, position, request, asks, CameInOrder}
 use Rattle.evaluation.specs.Lists.{Every}
 use Rattle.evaluation.specs.Promises.{frame_of_goal, Anything}
 use Rattle.evaluation.specs.Readings.{ResultHeld, ConsideredHeld, SpecHeld}
 use Rattle.table_laws.specs.Content.{Question}
 use Rattle.evaluation_laws.specs.Tables.{frame_tables}
 use Rattle.goal_frames.specs.Searches.{step_kind}
-use Rattle.goal_frames.specs.Readings.{result_read, shown_by}
+use Rattle.goal_frames.specs.Readings.{result_read, shown_by, spec_read}
 use Rattle.goal_frames.specs.Fitting.{ResultFits, ConsideredFits, IsOver}
-use Rattle.goal_frames.specs.Places.{place_read, Stands}
+use Rattle.goal_frames.specs.Places.{Standing, place_read, Stands, Answers, IsBetween, IsInside, IsIgnoring}
 use Rattle.goal_frames.specs.declared.frame.GoalFrame.{GoalFrame}
 use Rattle.goal_frames.specs.declared.frame.Place.{Place}
 use Rattle.goal_frames.specs.declared.frame.Place.TheVariants as InCode
@@ -95,3 +97,21 @@ abbrev pub Steps : List Entry → Handled frame_tables → GoalFrame → Reply (
 Steps old h before reply new after request =
     (heard : History) → HasHeard old h before heard → CameInOrder (Anything frame_tables h) (frame_of_goal frame_tables h) (reply ∷ heard)
     → HasHeard new h after (reply ∷ heard) × IsRequest before.goal.mode new request (asks (frame_of_goal frame_tables h) (reply ∷ heard))
+
+-- ---- frames on their way, at a position
+-- the frame asks its handler what comes next
+abbrev pub AsksHandler : List Entry → Handled frame_tables → GoalFrame → Standing → Type 0
+AsksHandler es h f p = IsBetween h (map (shown_by es) f.considered.items) p
+
+-- the candidate is open, with these replies
+abbrev pub IsOpen : List Entry → Handled frame_tables → GoalFrame → CandidateSpec → List (Option CanonicalResponse) → Standing → Type 0
+IsOpen es h f s replies p = IsInside h (map (shown_by es) f.considered.items) (spec_read es h.coinductive s) (replies_trees es replies) p
+
+-- the frame makes this request, in this mode, and is where it then stands
+abbrev pub AsksAt : TypingMode → List Entry → Handled frame_tables → GoalFrame → Requests.Request CanonicalInput (Option CanonicalResponse) → Standing → Type 0
+AsksAt mode es h f q p = IsRequest mode es q (request p) × Stands h (map (shown_by es) f.considered.items) (place_read es h.coinductive f.place) p
+
+-- one that has this answer, and is to ignore candidates of these numbers, makes this request and is at this place
+abbrev pub IgnoresAt : Option CanonicalResponse → List ℕ → Requests.Request CanonicalInput (Option CanonicalResponse) → Place → Type 0
+IgnoresAt answer numbers q place =
+    (es : List Entry) (mode : TypingMode) (coinductive : Bool) (p : Standing) → IsIgnoring (result_read es answer) numbers p → IsRequest mode es q (request p) × Answers (place_read es coinductive place) p

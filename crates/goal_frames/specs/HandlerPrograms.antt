@@ -16,7 +16,7 @@ use Rattle.table_laws.specs.Answers.{respond}
 use Rattle.table_laws.specs.Content.{Values, Fact, Question, fact_of}
 use Rattle.table_laws.specs.Finite.{made_of}
 use Rattle.table_laws.specs.Widths.{number_of}
-use Rattle.table_laws.proofs.Beginning.{begin}
+use Rattle.evaluation_laws.specs.Operations.{begin}
 use Rattle.evaluation_laws.specs.Tables.{frame_tables}
 use Rattle.goal_frames.specs.Programs.{Programs, ArePrograms}
 use Rattle.goal_frames.specs.Readings.{kinds_known}
@@ -30,14 +30,22 @@ silent f c = Some (respond (begin (kinds_known f.kinds)) c)
 abbrev pub overflow_answer : CanonicalForm → Option AnswerTrees
 overflow_answer f = silent f (Maybe Overflow)
 
--- to a goal that is asked under itself, by a path of this kind: a coinductive cycle holds, and an inductive one has no proof, but
--- in coherence, where other crates may say more, nothing is refused for it
+-- how sure a goal is taken to be that is asked under itself, by a path of this kind; none: it is refused. A coinductive cycle holds,
+-- and an inductive one has no proof, but in coherence, where other crates may say more, nothing is refused for it
+abbrev pub cycle_certainty : TypingMode → PathKind → Option Certainty
+cycle_certainty mode Coinductive = Some Yes
+cycle_certainty mode Unknown = Some (Maybe Overflow)
+cycle_certainty mode ForcedAmbiguity = Some (Maybe Overflow)
+cycle_certainty Coherence Inductive = Some (Maybe Overflow)
+cycle_certainty PostAnalysis Inductive = None
+
+abbrev pub silent_if : CanonicalForm → Option Certainty → Option AnswerTrees
+silent_if f None = None
+silent_if f (Some c) = silent f c
+
+-- to a goal that is asked under itself, by a path of this kind
 abbrev pub cycle_answer : TypingMode → CanonicalForm → PathKind → Option AnswerTrees
-cycle_answer mode f Coinductive = silent f Yes
-cycle_answer mode f Unknown = overflow_answer f
-cycle_answer mode f ForcedAmbiguity = overflow_answer f
-cycle_answer Coherence f Inductive = overflow_answer f
-cycle_answer PostAnalysis f Inductive = None
+cycle_answer mode f k = silent_if f (cycle_certainty mode k)
 
 -- ---- goals together
 module _ {Meaning : Type 0} (handled : Meaning → TypingMode → CanonicalForm → Handled frame_tables) where

@@ -1,12 +1,13 @@
 -- The handler of a goal for a list of rules.
 use Rattle.std.specs.Prelude.{◌≡◌, ℕ, zero, suc, ◌+◌, ◌==◌, max, Bool, true, false, ◌&&◌, ◌||◌, not, if◌then◌else◌, List, [], ◌∷◌, map, length, Option, Some, None, is_some}
-use Rattle.model.specs.Label.{Label, Sort, of_type, of_const, canonical, principal, adt}
-use Rattle.model.specs.Trees.{Trees, none, tree, leaf, is_sort, some_node}
+use Rattle.model.specs.Label.{Label, Sort, of_type, of_const, canonical, adt, of_trait, predicate}
+use Rattle.model.specs.Trees.{Trees, none, tree, leaf, is_sort, is_no_tree, some_node}
 use Rattle.model.specs.Codes.{same}
 use Rattle.type_terms.specs.Made.{terms, is_made}
 use Rattle.infer_table.specs.Canonical.{CanonicalForm}
 use Rattle.infer_table.specs.declared.canonical.CanonicalVarKind.{CanonicalVarKind}
 use Rattle.infer_table.specs.declared.canonical.CanonicalVarKind.TheVariants.{Ty, PlaceholderTy, Const, PlaceholderConst, Region}
+use Rattle.infer_table.specs.Certainties.{is_certain}
 use Rattle.infer_table.specs.declared.certainty.Certainty.TheVariants.{Yes, Maybe}
 use Rattle.infer_table.specs.declared.certainty.MaybeCause.TheVariants.{Ambiguity}
 use Rattle.infer_table.specs.declared.certainty.TypingMode.{TypingMode}
@@ -18,13 +19,13 @@ use Rattle.evaluation.specs.declared.candidate.BuiltinImplSource.TheVariants.{Mi
 use Rattle.evaluation.specs.Table.{workings}
 use Rattle.evaluation.specs.Candidate.{Spec}
 use Rattle.evaluation.specs.Handler.{Handled, IsHandler}
-use Rattle.evaluation.specs.Merge.{is_always_applicable}
 use Rattle.evaluation.specs.Atoms.{same_certainty}
+use Rattle.table_laws.specs.Answers.{is_variable_itself}
 use Rattle.table_laws.specs.Instances.{put_in}
 use Rattle.table_laws.specs.Content.{trait_of, fact_of}
 use Rattle.table_laws.specs.Frames.{kinds_known, Nested}
 use Rattle.table_laws.specs.Widths.{width_of_predicates, number_of}
-use Rattle.table_laws.proofs.Beginning.{begin}
+use Rattle.evaluation_laws.specs.Operations.{begin}
 use Rattle.evaluation_laws.specs.Tables.{frame_tables}
 use Rattle.goal_frames.specs.Listings.{Listing, listed}
 use Rattle.goal_frames.specs.Rules.{Bound, goal_of, Rule, RuleBook, AreRules, is_coinductive_trait, FollowsByRule, HasProofByBook, is_variable_over}
@@ -46,7 +47,7 @@ all_known [] = Some []
 all_known (o ∷ os) = with_first o (all_known os)
 
 abbrev pub bound_of : Trees → Trees → Option Bound
-bound_of none (tree (principal zero i) c none) = Some (record { trait = i; arguments = c })
+bound_of none (tree (predicate (of_trait i)) c none) = Some (record { trait = i; arguments = c })
 bound_of e p = None
 
 abbrev pub is_variable_label : Sort → ℕ → Label → Bool
@@ -147,6 +148,16 @@ same_values vs ws = false
 abbrev pub same_answer : AnswerTrees → AnswerTrees → Bool
 same_answer a b = same_kinds a.kinds b.kinds && (same_certainty a.certainty b.certainty && (same_values a.values b.values && same a.constraints b.constraints))
 
+-- ---- answers that are always applicable
+-- each value is the variable of its place, the first of which is this one: a lifetime too
+abbrev pub are_own_variables : ℕ → List Value → Bool
+are_own_variables i [] = true
+are_own_variables i (v ∷ vs) = is_variable_itself i v.sort v.trees && are_own_variables (suc i) vs
+
+-- a yes without values and constraints
+abbrev pub applies_always : AnswerTrees → Bool
+applies_always a = is_certain a.certainty && (are_own_variables 0 a.values && is_no_tree a.constraints)
+
 -- ---- where solutions are looked for
 -- a variable of these kinds stands for a placeholder
 abbrev pub has_placeholder : List CanonicalVarKind → Bool
@@ -185,7 +196,7 @@ listing_of book mode f kinds o = record {
 }
 
 abbrev pub handled_by : RuleBook → TypingMode → CanonicalForm → Handled frame_tables
-handled_by book mode f = listed frame_tables (is_always_applicable frame_tables) same_answer (listing_of book mode f (kinds_known f.kinds) (asked f))
+handled_by book mode f = listed frame_tables applies_always same_answer (listing_of book mode f (kinds_known f.kinds) (asked f))
 
 -- whatever form a goal has
 abbrev pub HandlersAreLawful : Type 0

@@ -13,7 +13,7 @@ pub mod Readings
 pub mod Fitting
 pub mod Places
 pub mod Frames
+pub mod Shortages
 pub mod HandlerPrograms
 pub mod Steps
-pub mod Equal
 pub mod Stores

@@ -2,6 +2,10 @@
 use Rattle.std.specs.Prelude.{◌≡◌, ℕ, Bool, List, [], map, reverse, Option, Some, None, option_map}
 use Rattle.type_terms.specs.Terms.{Entry}
 use Rattle.infer_table.specs.declared.terms.Equation as Code
+use Rattle.infer_table.specs.Canonical.{CanonicalForm}
+use Rattle.infer_table.specs.declared.certainty.TypingMode.{TypingMode}
+use Rattle.infer_table.specs.declared.input.CanonicalInput.{CanonicalInput}
+use Rattle.infer_table.specs.Inputs.{form_of}
 use Rattle.infer_table.specs.Constraints.{constraints_trees}
 use Rattle.infer_table.specs.declared.goal.Goal.{Goal}
 use Rattle.infer_table.specs.declared.response.CanonicalResponse.{CanonicalResponse}
@@ -14,7 +18,8 @@ use Rattle.evaluation.specs.declared.candidate.Considered as InCode
 use Rattle.evaluation.specs.declared.candidate.HandlerStep.{HandlerStep}
 use Rattle.evaluation.specs.declared.candidate.HandlerStep.TheVariants.{Consider, Answer, NoSolution}
 use Rattle.evaluation.specs.declared.goal.GoalSource.{GoalSource}
-use Rattle.evaluation.specs.Candidate.{Spec, Considered, Next, consider, answer}
+use Rattle.evaluation.specs.Candidate.{Spec, Considered, Next, consider, answer, IsHistory}
+use Rattle.evaluation.specs.Handler.{Handled}
 use Rattle.evaluation.specs.Readings.{is_coinductive_step}
 use Rattle.evaluation.specs.Table.{workings}
 use Rattle.table_laws.specs.Frames.{Nested, Equation}
@@ -61,3 +66,17 @@ shown_by es d = record { source = d.source; result = result_read es d.result; nu
 -- the list, the oldest first, shows this history, the newest first
 abbrev pub Shows : List Shown → List (Considered (workings frame_tables)) → Type 0
 Shows xs seen = xs ≡ reverse (map shown seen)
+
+-- ---- what a handler says of a goal, and what it answers
+-- what it means for the goal, in the goal's mode
+abbrev pub handled_for : {Handler Meaning : Type 0} → (Meaning → TypingMode → CanonicalForm → Handled frame_tables) → (Handler → List Entry → Meaning) → Handler → List Entry → CanonicalInput → Handled frame_tables
+handled_for handled meaning handler es goal = handled (meaning handler es) goal.mode (form_of es goal)
+
+-- some history of the goal shows these candidates
+abbrev pub HasHistory : List Entry → Handled frame_tables → List InCode.Considered → Type 0
+HasHistory es h done = (seen : List (Considered (workings frame_tables))) × Shows (map (shown_by es) done) seen × IsHistory (workings frame_tables) h.next seen
+
+-- the step is what comes next in each history that shows these candidates
+abbrev pub IsNextAfter : List Entry → Handled frame_tables → List InCode.Considered → List Entry → HandlerStep → Type 0
+IsNextAfter old h done new s =
+    (seen : List (Considered (workings frame_tables))) → Shows (map (shown_by old) done) seen → IsHistory (workings frame_tables) h.next seen → next_read new h.coinductive s ≡ h.next seen

@@ -1,6 +1,6 @@
 -- Lists of rules over trees, and what they prove.
 use Rattle.std.specs.Prelude.{◌≡◌, ◌⊎◌, ℕ, Bool, true, false, List, map, Option, Some, None}
-use Rattle.model.specs.Label.{Label, Sort, infer, param, placeholder, canonical, principal}
+use Rattle.model.specs.Label.{Label, Sort, infer, param, placeholder, canonical, of_trait, predicate}
 use Rattle.model.specs.Trees.{Trees, none, tree}
 use Rattle.type_terms.specs.Made.{terms, is_made}
 use Rattle.infer_table.specs.Canonical.{GoalTrees}
@@ -21,7 +21,7 @@ pub record Bound : Type 0 where
 
 -- without where-clauses
 abbrev pub goal_of : Bound → GoalTrees
-goal_of b = record { environment = none; predicate = tree (principal 0 b.trait) b.arguments none }
+goal_of b = record { environment = none; predicate = tree (predicate (of_trait b.trait)) b.arguments none }
 
 -- the head holds if the premises do, whatever its variables stand for: of these kinds, in the terms the canonical variables 0, 1, ..
 -- `impl<T: Show> Show for Vec<T>` has one variable, the head `Vec<^0>: Show`, and the premise `^0: Show`

@@ -1,5 +1,5 @@
 -- The frames of goals as a search graph runs them: what its contexts, inputs, results and frames mean.
-use Rattle.std.specs.Prelude.{◌≡◌, ℕ, ◌*◌, Bool, true, false, ◌&&◌, not, List, map, Option, Some, None}
+use Rattle.std.specs.Prelude.{◌≡◌, ◌*◌, Bool, true, false, ◌&&◌, not, List, map, Option, Some, None}
 use Rattle.search_graph.specs.declared.path_kind.PathKind.{PathKind}
 use Rattle.search_graph.specs.declared.path_kind.PathKind.TheVariants.{Unknown, Coinductive}
 use Rattle.search_graph.specs.declared.delegate.Request.{Request}

@@ -1,19 +1,19 @@
 -- What a store holds, and what its numbers stand for.
-use Rattle.std.specs.Prelude.{◌≡◌, ◌⊎◌, ◌++◌, ◌∷◌, [], ℕ, List, Option, Some, option_map}
+use Rattle.std.specs.Prelude.{◌≡◌, ◌↔◌, ◌⊎◌, ◌++◌, ◌∷◌, [], ℕ, List, Option, Some, option_map, Result, Ok}
 use Rattle.std.specs.List.{slice_get}
 use Rattle.indexmap.specs.IndexSet.{spare}
-use Rattle.type_terms.specs.Terms.{Entry}
-use Rattle.infer_table.specs.Canonical.{CanonicalForm}
+use Rattle.type_terms.specs.Terms.{Entry, Lawful}
+use Rattle.type_terms.specs.declared.Fault.{Fault}
+use Rattle.infer_table.specs.Canonical.{GoalTrees, CanonicalForm, canonical_form, AreRenamings}
 use Rattle.infer_table.specs.declared.certainty.TypingMode.{TypingMode}
 use Rattle.infer_table.specs.declared.input.CanonicalInput.{CanonicalInput}
 use Rattle.infer_table.specs.declared.response.CanonicalResponse.{CanonicalResponse}
 use Rattle.infer_table.specs.Goals.{GoalHeld}
-use Rattle.infer_table.specs.Inputs.{AreEqual, form_of}
-use Rattle.infer_table.specs.Responses.{AnswerTrees, ResponseHeld, answer_trees}
+use Rattle.infer_table.specs.Inputs.{AreEqual, form_of, IsCanonicalInput, IsWithoutCanonical, IsOneQuestion}
+use Rattle.infer_table.specs.Responses.{AnswerTrees, ResponseHeld, answer_trees, SayTheSame}
 use Rattle.goal_frames.specs.declared.store.GoalStore.{GoalStore}
 use Rattle.goal_frames.specs.declared.store.InputId.{InputId}
 use Rattle.goal_frames.specs.declared.store.ResponseId.{ResponseId}
-use Rattle.goal_frames.specs.Equal.{SayTheSame}
 
 -- ---- what is kept, by rising number
 abbrev pub kept_inputs : GoalStore → List CanonicalInput
@@ -80,6 +80,22 @@ answer_at es s i = option_map (answer_trees es) (response_at s i)
 pub record IsHeld (es : List Entry) (s : GoalStore) : Type 0 where
   pub inputs : (i : InputId) (a : CanonicalInput) → input_at s i ≡ Some a → GoalHeld es a.goal
   pub responses : (i : ResponseId) (r : CanonicalResponse) → response_at s i ≡ Some r → ResponseHeld es r
+
+-- ---- numbers tell goals apart, but for renamings
+-- the number stands for the canonical form of this goal, asked in this mode
+abbrev pub StandsForGoal : List Entry → GoalStore → InputId → TypingMode → GoalTrees → Type 0
+StandsForGoal es s i m g = goal_at es s i ≡ Some (record { mode = m; form = canonical_form g })
+
+-- two numbers are equal exactly if their goals are asked in one mode and a renaming carries the one to the other
+abbrev pub NumbersTellQuestions : Type 0
+NumbersTellQuestions =
+    (es : List Entry) (s : GoalStore) (i j : InputId) (m n : TypingMode) (g h : GoalTrees) → Lawful es → IsHeld es s → IsWithoutCanonical g → IsWithoutCanonical h
+    → StandsForGoal es s i m g → StandsForGoal es s j n h → (i ≡ j) ↔ IsOneQuestion m g n h
+
+-- the form of a goal finds the number of any goal that a renaming carries to it
+abbrev pub FindsRenamed : GoalStore → CanonicalInput → Result InputId Fault → Type 0
+FindsRenamed s a r =
+    (es : List Entry) (i : InputId) (g h : GoalTrees) → Lawful es → IsHeld es s → IsCanonicalInput es h a → StandsForGoal es s i a.mode g → AreRenamings g h → r ≡ Ok i
 
 -- ---- how a store changes
 -- each number of the first stands for the same in the second

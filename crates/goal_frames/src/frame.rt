@@ -1,22 +1,22 @@
 //! The frame of a goal.
 
-ghost use Rattle.std.specs.Prelude.{◌≡◌, [], ◌∷◌, ◌++◌, IfOk, map, drop, List, Bool};
+ghost use Rattle.std.specs.Prelude.{◌≡◌, ◌⊎◌, [], Err, IfOk, drop, List};
 ghost use Rattle.type_terms.specs.Terms.{Entry, Keeps};
+ghost use Rattle.term_folds.specs.Failures.{SomeKindIsFull};
 ghost use Rattle.infer_table.specs.Goals.{GoalHeld};
-ghost use Rattle.infer_table.specs.Inputs.{form_of};
 ghost use Rattle.evaluation.specs.Evaluating.{replies_trees};
+ghost use Rattle.evaluation.specs.Shortages.{CandidateRunsOut};
+ghost use Rattle.evaluation.specs.Trial.{spec_trees};
 ghost use Rattle.infer_table.specs.Canonical.{CanonicalForm};
 ghost use Rattle.infer_table.specs.declared.certainty.TypingMode.{TypingMode};
-ghost use Rattle.evaluation.specs.History.{request, told, entered, finished, ignored, evaluated};
 ghost use Rattle.evaluation.specs.Lists.{Every};
-ghost use Rattle.evaluation.specs.Promises.{Anything};
 ghost use Rattle.evaluation.specs.Readings.{ResultHeld, SpecHeld, is_coinductive_step};
-ghost use Rattle.evaluation_laws.specs.Tables.{frame_tables};
 ghost use Rattle.goal_frames.specs.Searches.{step_kind};
-ghost use Rattle.goal_frames.specs.Readings.{shown_by, spec_read, result_read};
+ghost use Rattle.goal_frames.specs.Readings.{handled_for};
 ghost use Rattle.goal_frames.specs.Fitting.{ResultFits, IsOver};
-ghost use Rattle.goal_frames.specs.Places.{Standing, Stands, IsBetween, IsInside, IsIgnoring, Answers, place_read};
-ghost use Rattle.goal_frames.specs.Frames.{FrameHeld, HasHeard, IsDue, IsReply, IsRequest, RequestHeld, Steps, reply_read};
+ghost use Rattle.goal_frames.specs.Places.{Standing};
+ghost use Rattle.goal_frames.specs.Frames.{FrameHeld, HasHeard, IsDue, IsReply, RequestHeld, Steps, AsksHandler, IsOpen, AsksAt, IgnoresAt, reply_read};
+ghost use Rattle.goal_frames.specs.Shortages.{NextRunsOut, FrameRunsOut, replies_at, HoldsReplies, AddsReply};
 
 use crate::handler::GoalHandler;
 use evaluation::{
@@ -75,6 +75,7 @@ impl GoalFrame {
     pub fn new<H: GoalHandler>(alloc: Global, goal: CanonicalInput) -> GoalFrame
         ensures goal { result.goal ≡ goal }
         ensures heard { (es : List Entry) (m : H.Meaning) (mode : TypingMode) (form : CanonicalForm) → GoalHeld es goal.goal → HasHeard es (H.handled m mode form) result [] }
+        ensures replies { replies_at result.place ≡ [] }
     {
         GoalFrame {
             goal,
@@ -94,12 +95,20 @@ impl GoalFrame {
     ) -> Result<Request<CanonicalInput, Option<CanonicalResponse>>, Fault>
         requires ready { H.ready handler.now cx.old.entries }
         requires reply { IsReply cx.old.entries reply }
-        requires due { IsDue cx.old.entries (H.handled (H.meaning handler.now cx.old.entries) self.old.goal.mode (form_of cx.old.entries self.old.goal)) self.old (reply_read cx.old.entries reply) }
+        requires due { IsDue cx.old.entries (handled_for H.handled H.meaning handler.now cx.old.entries self.old.goal) self.old (reply_read cx.old.entries reply) }
         ensures goal { self.new.goal ≡ self.old.goal }
         ensures keeps { Keeps cx.old.entries cx.new.entries }
         ensures limit { cx.new.limit ≡ cx.old.limit }
         ensures held { IfOk result (RequestHeld cx.new.entries) }
-        ensures steps { IfOk result (Steps cx.old.entries (H.handled (H.meaning handler.now cx.old.entries) self.old.goal.mode (form_of cx.old.entries self.old.goal)) self.old (reply_read cx.old.entries reply) cx.new.entries self.new) }
+        ensures steps { IfOk result (let h = handled_for H.handled H.meaning handler.now cx.old.entries self.old.goal in
+            Steps cx.old.entries h self.old (reply_read cx.old.entries reply) cx.new.entries self.new) }
+
+        // `Full` comes only where some kind of term has reached the interner's limit, or numbers are used up.
+        ensures full { result ≡ Err Fault.Full → SomeKindIsFull cx.new.entries cx.new.limit
+            ⊎ FrameRunsOut cx.old.entries (handled_for H.handled H.meaning handler.now cx.old.entries self.old.goal) self.old reply }
+
+        // It holds the replies to the questions of the open candidate.
+        ensures replies { IfOk result (λ _. AddsReply self.old.place reply self.new.place) }
     {
         match (mem::replace(&mut self.place, Place::Over), reply) {
             (Place::Begun, Reply::Begin) => self.go_on(alloc, cx, handler),
@@ -134,12 +143,16 @@ impl GoalFrame {
     ) -> Result<Request<CanonicalInput, Option<CanonicalResponse>>, Fault>
         requires ready { H.ready handler.now cx.old.entries }
         requires held { FrameHeld cx.old.entries self.old }
-        requires between { (p : Standing) × IsBetween (H.handled (H.meaning handler.now cx.old.entries) self.old.goal.mode (form_of cx.old.entries self.old.goal)) (map (shown_by cx.old.entries) self.old.considered.items) p }
+        requires between { (p : Standing) × AsksHandler cx.old.entries (handled_for H.handled H.meaning handler.now cx.old.entries self.old.goal) self.old p }
         ensures goal { self.new.goal ≡ self.old.goal }
         ensures keeps { Keeps cx.old.entries cx.new.entries }
         ensures limit { cx.new.limit ≡ cx.old.limit }
         ensures held { IfOk result (λ q. FrameHeld cx.new.entries self.new × RequestHeld cx.new.entries q) }
-        ensures asks { IfOk result (λ q. let h = H.handled (H.meaning handler.now cx.old.entries) self.old.goal.mode (form_of cx.old.entries self.old.goal) in (p : Standing) → IsBetween h (map (shown_by cx.old.entries) self.old.considered.items) p → IsRequest self.old.goal.mode cx.new.entries q (request p) × Stands h (map (shown_by cx.new.entries) self.new.considered.items) (place_read cx.new.entries h.coinductive self.new.place) p) }
+        ensures asks { IfOk result (λ q. let h = handled_for H.handled H.meaning handler.now cx.old.entries self.old.goal in
+            (p : Standing) → AsksHandler cx.old.entries h self.old p → AsksAt self.old.goal.mode cx.new.entries h self.new q p) }
+        ensures full { result ≡ Err Fault.Full → SomeKindIsFull cx.new.entries cx.new.limit
+            ⊎ NextRunsOut cx.old.entries (handled_for H.handled H.meaning handler.now cx.old.entries self.old.goal) self.old.goal.variables.items self.old.considered.items }
+        ensures replies { IfOk result (λ _. replies_at self.new.place ≡ []) }
     {
         match handler.step(alloc, cx, &self.goal, &self.considered)? {
             HandlerStep::Consider(spec) => {
@@ -169,7 +182,11 @@ impl GoalFrame {
         ensures keeps { Keeps cx.old.entries cx.new.entries }
         ensures limit { cx.new.limit ≡ cx.old.limit }
         ensures held { IfOk result (λ q. FrameHeld cx.new.entries self.new × RequestHeld cx.new.entries q) }
-        ensures asks { IfOk result (λ q. let h = H.handled (H.meaning handler.now cx.old.entries) self.old.goal.mode (form_of cx.old.entries self.old.goal) in (p : Standing) → IsInside h (map (shown_by cx.old.entries) self.old.considered.items) (spec_read cx.old.entries h.coinductive spec) (replies_trees cx.old.entries replies.items) p → IsRequest self.old.goal.mode cx.new.entries q (request p) × Stands h (map (shown_by cx.new.entries) self.new.considered.items) (place_read cx.new.entries h.coinductive self.new.place) p) }
+        ensures asks { IfOk result (λ q. let h = handled_for H.handled H.meaning handler.now cx.old.entries self.old.goal in
+            (p : Standing) → IsOpen cx.old.entries h self.old spec replies.items p → AsksAt self.old.goal.mode cx.new.entries h self.new q p) }
+        ensures full { result ≡ Err Fault.Full → SomeKindIsFull cx.new.entries cx.new.limit
+            ⊎ CandidateRunsOut self.old.goal.mode self.old.goal.variables.items (spec_trees cx.old.entries spec) (replies_trees cx.old.entries replies.items) }
+        ensures replies { IfOk result (λ _. HoldsReplies replies.items self.new.place) }
     {
         match evaluate_candidate(alloc, cx, &self.goal, &spec, &replies) {
             Ok(EvalStep::Ask(input, source)) => {
@@ -180,7 +197,7 @@ impl GoalFrame {
             }
             Ok(EvalStep::Ready(answer)) => Ok(self.finish(spec.source, Some(answer))),
             Err(EvalError::NoSolution) => Ok(self.finish(spec.source, None)),
-            Err(EvalError::OutOf(fault)) => Err(fault),
+            Err(EvalError::Fault(fault)) => Err(fault),
         }
     }
 
@@ -207,7 +224,8 @@ impl GoalFrame {
         ensures goal { self.new.goal ≡ self.old.goal }
         ensures considered { self.new.considered ≡ self.old.considered }
         ensures held { (es : List Entry) → FrameHeld es self.old → ResultHeld es answer → ResultFits es answer → FrameHeld es self.new × RequestHeld es result }
-        ensures asks { (es : List Entry) (mode : TypingMode) (coinductive : Bool) (p : Standing) → IsIgnoring (result_read es answer) (drop at ignored.items) p → IsRequest mode es result (request p) × Answers (place_read es coinductive self.new.place) p }
+        ensures asks { IgnoresAt answer (drop at ignored.items) result self.new.place }
+        ensures replies { replies_at self.new.place ≡ [] }
     {
         match ignored.get(at) {
             Some(number) => {

@@ -1,21 +1,20 @@
 //! Handlers of goals: what the rules of goals are, for the frames that evaluate them.
 
-ghost use Rattle.std.specs.Prelude.{◌≡◌, Bool, List, IfOk, map};
+ghost use Rattle.std.specs.Prelude.{◌≡◌, ◌⊎◌, Bool, List, Err, IfOk};
 ghost use Rattle.type_terms.specs.Terms.{Entry, Keeps};
+ghost use Rattle.term_folds.specs.Failures.{SomeKindIsFull};
 ghost use Rattle.infer_table.specs.declared.certainty.TypingMode.{TypingMode};
 ghost use Rattle.infer_table.specs.Canonical.{CanonicalForm};
 ghost use Rattle.infer_table.specs.Goals.{GoalHeld};
-ghost use Rattle.infer_table.specs.Inputs.{form_of};
-ghost use Rattle.evaluation.specs.Table.{workings};
-ghost use Rattle.evaluation.specs.Candidate as Frames;
 ghost use Rattle.evaluation.specs.Handler.{Handled, IsHandler};
 ghost use Rattle.evaluation.specs.Promises.{DefiniteYesFollows, AnswerCoversGoal, IsBounded, KeepsNumber, IgnoresFinishedOnce};
 ghost use Rattle.evaluation.specs.Readings.{IsOfTrait, ConsideredHeld, StepHeld};
 ghost use Rattle.table_laws.specs.Content.{Fact};
-ghost use Rattle.table_laws.proofs.Beginning.{begin};
+ghost use Rattle.evaluation_laws.specs.Operations.{begin};
 ghost use Rattle.evaluation_laws.specs.Tables.{frame_tables};
-ghost use Rattle.goal_frames.specs.Readings.{next_read, shown_by, Shows, kinds_known};
+ghost use Rattle.goal_frames.specs.Readings.{handled_for, kinds_known, HasHistory, IsNextAfter};
 ghost use Rattle.goal_frames.specs.Fitting.{ConsideredFits, StepFits};
+ghost use Rattle.goal_frames.specs.Shortages.{NextRunsOut};
 ghost use Rattle.goal_frames.specs.HandlerPrograms.{HandlersArePrograms, InstancesAreGoals, RulesAreOf, KindsAreOf, KeepNumbers, KeepWorlds, LookInCoherenceOnly};
 ghost use Rattle.goal_frames.specs.Steps.{StepsFall};
 
@@ -62,14 +61,18 @@ pub trait GoalHandler {
         requires goal { GoalHeld cx.old.entries goal.now.goal }
         requires done { ConsideredHeld cx.old.entries done.now }
         requires fits { ConsideredFits cx.old.entries done.now }
-        requires history { (seen : List (Frames.Considered (workings frame_tables))) × Shows (map (shown_by cx.old.entries) done.now) seen × Frames.IsHistory (workings frame_tables) (handled (meaning self.now cx.old.entries) goal.now.mode (form_of cx.old.entries goal.now)).next seen }
+        requires history { HasHistory cx.old.entries (handled_for handled meaning self.now cx.old.entries goal.now) done.now }
         ensures keeps { Keeps cx.old.entries cx.new.entries }
         ensures limit { cx.new.limit ≡ cx.old.limit }
         ensures held { IfOk result (StepHeld cx.new.entries) }
         ensures fits { IfOk result (StepFits goal.now.variables.items cx.new.entries) }
 
         // It is what comes next in each history that the candidates show.
-        ensures next { IfOk result (λ s. let h = handled (meaning self.now cx.old.entries) goal.now.mode (form_of cx.old.entries goal.now) in (seen : List (Frames.Considered (workings frame_tables))) → Shows (map (shown_by cx.old.entries) done.now) seen → Frames.IsHistory (workings frame_tables) h.next seen → next_read cx.new.entries h.coinductive s ≡ h.next seen) };
+        ensures next { IfOk result (IsNextAfter cx.old.entries (handled_for handled meaning self.now cx.old.entries goal.now) done.now cx.new.entries) }
+
+        // `Full` comes only where some kind of term has reached the interner's limit, or there is no number for a variable.
+        ensures full { result ≡ Err Fault.Full → SomeKindIsFull cx.new.entries cx.new.limit
+            ⊎ NextRunsOut cx.old.entries (handled_for handled meaning self.now cx.old.entries goal.now) goal.now.variables.items done.now };
 
     /// Whether the trait is coinductive: a goal of it holds if it needs nothing but itself.
     fn trait_is_coinductive(&self, def_id: TraitId) -> bool

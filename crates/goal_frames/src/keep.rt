@@ -6,7 +6,7 @@ ghost use Rattle.type_terms.specs.Terms.{Entry, Lawful};
 ghost use Rattle.type_terms.specs.declared.Fault.TheVariants.{Memory, Full};
 ghost use Rattle.infer_table.specs.Goals.{GoalHeld};
 ghost use Rattle.infer_table.specs.Responses.{ResponseHeld, answer_trees};
-ghost use Rattle.goal_frames.specs.Stores.{kept_inputs, kept_responses, limit_of, room_for_inputs, room_for_responses, StandsForInput, StandsForResponse, IsNewInput, IsNewResponse, AddsInput, AddsResponse, asked_goal, goal_at, answer_at, IsHeld, Grows};
+ghost use Rattle.goal_frames.specs.Stores.{kept_inputs, kept_responses, limit_of, room_for_inputs, room_for_responses, StandsForInput, StandsForResponse, IsNewInput, IsNewResponse, AddsInput, AddsResponse, asked_goal, goal_at, answer_at, IsHeld, Grows, FindsRenamed};
 
 use crate::store::{GoalStore, InputId, ResponseId};
 use indexmap::IndexSet;
@@ -45,9 +45,10 @@ impl GoalStore {
         ensures limit { limit_of self.new ≡ limit_of self.old }
         ensures held { (es : List Entry) → GoalHeld es input.goal → IsHeld es self.old → IsHeld es self.new }
 
-        // A goal that is there keeps its number, and so does one that asks the same.
+        // A goal that is there keeps its number, and so does one that asks the same, if under other names.
         ensures found { (id : InputId) → StandsForInput self.old id input → result ≡ Ok id }
         ensures known { (es : List Entry) (id : InputId) → Lawful es → IsHeld es self.old → GoalHeld es input.goal → goal_at es self.old id ≡ Some (asked_goal es input) → result ≡ Ok id }
+        ensures renamed { FindsRenamed self.old input result }
 
         ensures refused { OnErr result (kept_inputs self.new ≡ kept_inputs self.old) }
         ensures absent { OnErr result (IsNewInput self.old input) }

@@ -5,7 +5,7 @@ ghost use Rattle.infer_table.specs.Responses.{AnswerTrees};
 ghost use Rattle.goal_frames.specs.declared.store.GoalStore.{GoalStore};
 ghost use Rattle.goal_frames.specs.declared.store.InputId.{InputId};
 ghost use Rattle.goal_frames.specs.declared.store.ResponseId.{ResponseId};
-ghost use Rattle.goal_frames.specs.Stores.{AskedGoal, goal_at, answer_at, HasInput, HasResponse, IsHeld, Grows};
+ghost use Rattle.goal_frames.specs.Stores.{AskedGoal, goal_at, answer_at, HasInput, HasResponse, IsHeld, Grows, NumbersTellQuestions};
 
 use crate::store::{InputId, ResponseId};
 
@@ -15,10 +15,12 @@ pub fn number_laws()
     ensures responses { (i j : ResponseId) → (⟦<ResponseId as PartialEq>⟧.eq i j ≡ true) ↔ (i ≡ j) }
 {}
 
-/// Over a lawful interner a goal has one number, and so has an answer.
+/// Over a lawful interner a goal has one number, and so has an answer. The numbers of two goals are equal exactly if a renaming
+/// carries one goal to the other.
 pub fn distinct_laws()
     ensures inputs { (es : List Entry) (s : GoalStore) (i j : InputId) (q : AskedGoal) → Lawful es → IsHeld es s → goal_at es s i ≡ Some q → goal_at es s j ≡ Some q → i ≡ j }
     ensures responses { (es : List Entry) (s : GoalStore) (i j : ResponseId) (a : AnswerTrees) → Lawful es → IsHeld es s → answer_at es s i ≡ Some a → answer_at es s j ≡ Some a → i ≡ j }
+    ensures questions { NumbersTellQuestions }
 {}
 
 /// While the interner grows, what is kept stays the interner's, and numbers stand for the same goals and answers.

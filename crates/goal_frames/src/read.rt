@@ -3,9 +3,7 @@ ghost use Rattle.std.specs.Prelude.{◌≡◌, List, Some, IfOk, IfErr};
 ghost use Rattle.type_terms.specs.Terms.{Entry};
 ghost use Rattle.type_terms.specs.declared.Fault.TheVariants.{Memory};
 ghost use Rattle.infer_table.specs.Goals.{GoalHeld};
-ghost use Rattle.infer_table.specs.Inputs.{AreEqual};
 ghost use Rattle.infer_table.specs.Responses.{ResponseHeld, answer_trees};
-ghost use Rattle.goal_frames.specs.Equal.{SayTheSame};
 ghost use Rattle.goal_frames.specs.Stores.{input_at, response_at, HasInput, HasResponse, StandsForInput, StandsForResponse, asked_goal, goal_at, answer_at, IsHeld};
 
 use crate::store::{GoalStore, InputId, ResponseId};
@@ -48,7 +46,8 @@ impl GoalStore {
         ensures held { IfOk result (λ copy. (es : List Entry) → IsHeld es self.now → GoalHeld es copy.goal) }
         ensures memory { IfErr result (λ fault. fault ≡ Memory) }
     {
-        copy_of_input(self.input(id))
+        let copy = self.input(id).clone()?;
+        Ok(copy)
     }
 
     /// A copy of the answer with this number.
@@ -61,37 +60,7 @@ impl GoalStore {
         ensures held { IfOk result (λ copy. (es : List Entry) → IsHeld es self.now → ResponseHeld es copy) }
         ensures memory { IfErr result (λ fault. fault ≡ Memory) }
     {
-        copy_of_response(self.response(id))
+        let copy = self.response(id).clone()?;
+        Ok(copy)
     }
-}
-
-/// The same goal once more.
-fn copy_of_input(input: &CanonicalInput) -> Result<CanonicalInput, Fault>
-    ensures same { IfOk result (λ copy. AreEqual copy input.now) }
-    ensures memory { IfErr result (λ fault. fault ≡ Memory) }
-{
-    let goal = input.goal.clone()?;
-    let variables = Vec::from_slice(*input.variables.allocator(), &input.variables)?;
-    Ok(CanonicalInput {
-        mode: input.mode,
-        goal,
-        variables,
-    })
-}
-
-/// The same answer once more.
-fn copy_of_response(response: &CanonicalResponse) -> Result<CanonicalResponse, Fault>
-    ensures same { IfOk result (λ copy. SayTheSame copy response.now) }
-    ensures memory { IfErr result (λ fault. fault ≡ Memory) }
-{
-    let alloc = *response.variables.allocator();
-    let variables = Vec::from_slice(alloc, &response.variables)?;
-    let var_values = Vec::from_slice(alloc, &response.var_values)?;
-    let region_constraints = Vec::from_slice(alloc, &response.region_constraints)?;
-    Ok(CanonicalResponse {
-        variables,
-        certainty: response.certainty,
-        var_values,
-        region_constraints,
-    })
 }

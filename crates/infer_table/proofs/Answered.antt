@@ -8,9 +8,8 @@ use Rattle.model.specs.Codes.{same_label}
 use Rattle.model.proofs.Matching.{same-label-sound}
 use Rattle.infer_table.specs.Solutions.{Assignment, tree_of, instance, IsSorted}
 use Rattle.infer_table.specs.declared.canonical.CanonicalVarKind.{CanonicalVarKind}
-use Rattle.infer_table.specs.declared.canonical.CanonicalVarKind.TheVariants.{Ty, PlaceholderTy, Const, PlaceholderConst, Region}
 use Rattle.infer_table.specs.Canonical.{kind_of_leaf, StandsIn, relabeled, leaves, is_among, place_of, canonical_label, HasNoCanonical}
-use Rattle.infer_table.proofs.CanonicalLaws.{leaves-hold, leaves-keep}
+use Rattle.infer_table.proofs.CanonicalLaws.{leaves-hold, leaves-keep, kind-sort}
 use Rattle.infer_table.proofs.SolutionLaws.{is_sort-equal, is_sort-self}
 use Rattle.infer_table.proofs.EquationFacts.{erase-sort}
 use Rattle.infer_table.specs.Leaves.{OpenAreLeaves}
@@ -27,20 +26,6 @@ false-true e = cc
 
 some-is : {A : Type 0} (x y : A) → Some x ≡ Some y → x ≡ y
 some-is x y e = cc
-
--- ---- kinds of leaves
-kind-sort : (l : Label) (k : CanonicalVarKind) → kind_of_leaf l ≡ Some k → sort_of l ≡ sort_of_kind k
-kind-sort (infer of_type v) k e = ap sort_of_kind (some-is Ty k e)
-kind-sort (infer of_const v) k e = ap sort_of_kind (some-is Const k e)
-kind-sort (infer of_lifetime v) k e = ap sort_of_kind (some-is Region k e)
-kind-sort (param of_type v) k e = ap sort_of_kind (some-is PlaceholderTy k e)
-kind-sort (param of_const v) k e = ap sort_of_kind (some-is PlaceholderConst k e)
-kind-sort (param of_lifetime v) k e = ap sort_of_kind (some-is Region k e)
-kind-sort (placeholder of_type v) k e = ap sort_of_kind (some-is PlaceholderTy k e)
-kind-sort (placeholder of_const v) k e = ap sort_of_kind (some-is PlaceholderConst k e)
-kind-sort (placeholder of_lifetime v) k e = ap sort_of_kind (some-is Region k e)
-kind-sort static k e = ap sort_of_kind (some-is Region k e)
-kind-sort l k e = cc
 
 -- the leaf in its place
 leaf-at : (l : Label) (ls : List Label) → is_among l ls ≡ true → slice_get ls (place_of l ls) ≡ Some l

@@ -1,7 +1,7 @@
 -- The instantiating folder puts the values in.
 use Rattle.std.proofs.Common.{◌≡◌, ℕ, refl, ap, sym, ◌∙◌, List, [], ◌∷◌, Option, Some, None, zero, suc, subst, option_map}
 use Rattle.std.specs.List.{slice_get}
-use Rattle.model.specs.Label.{Label, Sort, canonical, principal}
+use Rattle.model.specs.Label.{Label, Sort, canonical, of_trait, predicate}
 use Rattle.model.specs.Trees.{Trees, none, tree, leaf, ◌+++◌, placed}
 use Rattle.model.proofs.TreeLaws.{append-none, append-assoc}
 use Rattle.type_terms.specs.Terms.{Entry, trees_at}
@@ -60,7 +60,7 @@ module _ (vs : List Value) where
 
   clause-filled : (old new : List Entry) (x y : Clause) → clause_outline y ≡ clause_outline x → FoldsEach (λ bs t. filling vs t) [] (clause_pieces old x) (clause_pieces new y) → FilledClause old new x y
   clause-filled old new (Trait p) (Trait q) e h = record {
-    label = let same : q.trait_ref.def_id.index ≡ p.trait_ref.def_id.index = cc in ap (λ i. principal 0 i) same;
+    label = let same : q.trait_ref.def_id.index ≡ p.trait_ref.def_id.index = cc in ap (λ i. predicate (of_trait i)) same;
     terms = filled-fold _ _ h.1;
   }
   clause-filled old new (RegionOutlives r s) (RegionOutlives r' s') e h = record {
@@ -90,10 +90,10 @@ module _ (vs : List Value) where
       let here = clause-filled old new x y h.0 h.1 in
       node _ _ _ _ _ _ here.label here.terms (environment-filled old new xs ys h.2) ∙ sym (clause-node x (clause_terms old x) (environment_trees old xs))
 
-  pub predicate-filled : (i j : ℕ) (t u : Trees) → j ≡ i → FoldsEach (λ bs t. filling vs t) [] (one_piece t) (one_piece u) → tree (principal 0 j) u none ≡ filled vs (tree (principal 0 i) t none)
+  pub predicate-filled : (i j : ℕ) (t u : Trees) → j ≡ i → FoldsEach (λ bs t. filling vs t) [] (one_piece t) (one_piece u) → tree (predicate (of_trait j)) u none ≡ filled vs (tree (predicate (of_trait i)) t none)
   predicate-filled i j t u e h = same i j _ _ e (filled-fold t u h.1)
     where
-      same : (i j : ℕ) (t u : Trees) → j ≡ i → u ≡ t → tree (principal 0 j) u none ≡ tree (principal 0 i) t none
+      same : (i j : ℕ) (t u : Trees) → j ≡ i → u ≡ t → tree (predicate (of_trait j)) u none ≡ tree (predicate (of_trait i)) t none
       same i j t u p q = cc
 
   pub goal-filled : (old new : List Entry) (g h : Goal) → GoalFolds (λ bs t. filling vs t) old g new h → goal_trees new h ≡ goal_filled vs (goal_trees old g)

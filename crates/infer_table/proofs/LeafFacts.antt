@@ -77,7 +77,7 @@ ty-eq a b = search rules
 const-eq : (a b : const-module.Const) → Decides (const.eq a b) (a ≡ b)
 const-eq a b = search rules
 
-arg-eq : (a b : GenericArgKind) → Decides (arg.eq a b) (a ≡ b)
+pub arg-eq : (a b : GenericArgKind) → Decides (arg.eq a b) (a ≡ b)
 arg-eq (Lifetime r) (Lifetime s) = through _ _ _ (region-eq r s) (λ p. ap Lifetime p) (λ e. cc)
 arg-eq (AType t) (AType u) = through _ _ _ (ty-eq t u) (λ p. ap AType p) (λ e. cc)
 arg-eq (AConst t) (AConst u) = through _ _ _ (const-eq t u) (λ p. ap AConst p) (λ e. cc)

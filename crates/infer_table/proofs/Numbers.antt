@@ -1,6 +1,6 @@
 -- The numbering folder numbers the open leaves.
 use Rattle.std.proofs.Common.{◌≡◌, ℕ, Bool, true, false, refl, ap, sym, ◌∙◌, List, [], ◌∷◌, is_some, if◌then◌else◌, ◌&&◌, zero, suc, ◌+◌, ◌<◌, ◌++◌, length, take, get_or, arith, subst}
-use Rattle.model.specs.Label.{Label, principal}
+use Rattle.model.specs.Label.{Label, of_trait, predicate}
 use Rattle.model.specs.Trees.{Trees, none, tree, ◌+++◌, Single}
 use Rattle.type_terms.specs.Terms.{Entry, trees_at, Keeps, types, args_lists}
 use Rattle.type_terms.specs.Kinds.{region_trees}
@@ -79,7 +79,7 @@ module _ (b : Bool) (ls : List Label) where
 
   pub clause-numbered : (old new : List Entry) (x y : Clause) → clause_outline y ≡ clause_outline x → FoldsEach (numbering b ls) [] (clause_pieces old x) (clause_pieces new y) → NumberedClause old new x y
   clause-numbered old new (Trait p) (Trait q) e h = record {
-    label = let same : q.trait_ref.def_id.index ≡ p.trait_ref.def_id.index = cc in ap (λ i. principal 0 i) same;
+    label = let same : q.trait_ref.def_id.index ≡ p.trait_ref.def_id.index = cc in ap (λ i. predicate (of_trait i)) same;
     terms = numbered-fold [] _ _ h.1;
   }
   clause-numbered old new (RegionOutlives r s) (RegionOutlives r' s') e h = record {
@@ -195,10 +195,10 @@ environment-later old new k (x ∷ xs) h = below-node (clause_label x) _ _ _ _ (
 pub goal-same : (e e' p p' : Trees) → e ≡ e' → p ≡ p' → ◌≡◌ {A = GoalTrees} (record { environment = e; predicate = p }) (record { environment = e'; predicate = p' })
 goal-same e e' p p' a b = cc
 
-pub predicate-numbered : (ls : List Label) (i j : ℕ) (t u : Trees) → j ≡ i → FoldsEach (numbering false ls) [] (one_piece t) (one_piece u) → tree (principal 0 j) u none ≡ relabeled kind_of_leaf (canonical_label ls) (tree (principal 0 i) t none)
+pub predicate-numbered : (ls : List Label) (i j : ℕ) (t u : Trees) → j ≡ i → FoldsEach (numbering false ls) [] (one_piece t) (one_piece u) → tree (predicate (of_trait j)) u none ≡ relabeled kind_of_leaf (canonical_label ls) (tree (predicate (of_trait i)) t none)
 predicate-numbered ls i j t u e h = same i j _ _ e (numbered-fold false ls [] t u h.1)
   where
-    same : (i j : ℕ) (t u : Trees) → j ≡ i → u ≡ t → tree (principal 0 j) u none ≡ tree (principal 0 i) t none
+    same : (i j : ℕ) (t u : Trees) → j ≡ i → u ≡ t → tree (predicate (of_trait j)) u none ≡ tree (predicate (of_trait i)) t none
     same i j t u p q = cc
 
 pub goal-held-later : (old new : List Entry) → Keeps old new → (g : Goal) → GoalHeld old g → GoalHeld new g
@@ -210,4 +210,4 @@ goal-held-later old new k g h = record {
 pub goal-trees-later : (old new : List Entry) → Keeps old new → (g : Goal) → GoalHeld old g → goal_trees new g ≡ goal_trees old g
 goal-trees-later old new k g h =
     goal-same _ _ _ _ (environment-later old new k g.param_env.items h.environment)
-    (ap (λ z. tree (principal 0 g.predicate.trait_ref.def_id.index) z none) (trees-later old new k args_lists g.predicate.trait_ref.args.0 h.predicate))
+    (ap (λ z. tree (predicate (of_trait g.predicate.trait_ref.def_id.index)) z none) (trees-later old new k args_lists g.predicate.trait_ref.args.0 h.predicate))

@@ -2,7 +2,7 @@
 use Rattle.std.proofs.Common.{rules, ◌≡◌, ◌↔◌, ℕ, refl, ap, sym, ◌∙◌, List, [], ◌∷◌, map, Option, Some}
 use Rattle.std.specs.Bool.{Decides}
 use Rattle.std.proofs.lemmas.Slice.Eq.{slice_eq-Decides}
-use Rattle.model.specs.Label.{Label, principal}
+use Rattle.model.specs.Label.{Label, of_trait, predicate}
 use Rattle.model.specs.Trees.{Trees, none, tree, ◌+++◌, leaf, Single}
 use Rattle.type_terms.specs.Terms.{Entry, Has, Lawful, types, args_lists, trees_at}
 use Rattle.type_terms.specs.Kinds.{region_label}
@@ -21,7 +21,7 @@ use Rattle.term_folds.specs.declared.predicate.TraitPredicate.{TraitPredicate}
 use Rattle.term_folds.specs.declared.predicate.Clause.{Clause}
 use Rattle.term_folds.specs.declared.predicate.Clause.TheVariants.{Trait, RegionOutlives, TypeOutlives}
 use Rattle.term_folds.specs.contracts.predicate.TraitRefPartialEq.TheImpl.{ghosts as trait-ref}
-use Rattle.term_folds.specs.contracts.predicate.TraitPredicatePartialEq.TheImpl.{ghosts as predicate}
+use Rattle.term_folds.specs.contracts.predicate.TraitPredicatePartialEq.TheImpl.{ghosts as trait-predicate}
 use Rattle.term_folds.specs.contracts.predicate.ClausePartialEq.TheImpl.{ghosts as clause}
 use Rattle.infer_table.specs.declared.canonical.CanonicalVarKind.{CanonicalVarKind}
 use Rattle.infer_table.specs.declared.certainty.TypingMode.{TypingMode}
@@ -53,7 +53,7 @@ reference-cong a b p q = two (λ (t : TraitId) (g : GenericArgs). record { def_i
 trait-ref-eq : (a b : TraitRef) → Decides (trait-ref.eq a b) (a ≡ b)
 trait-ref-eq a b = through _ _ _ (both _ _ _ _ (trait-eq a.def_id b.def_id) (args-eq a.args b.args)) (λ p. reference-cong a b p.0 p.1) (λ e. (ap (λ q. q.def_id) e, ap (λ q. q.args) e))
 
-predicate-eq : (a b : TraitPredicate) → Decides (predicate.eq a b) (a ≡ b)
+predicate-eq : (a b : TraitPredicate) → Decides (trait-predicate.eq a b) (a ≡ b)
 predicate-eq a b = through _ _ _ (trait-ref-eq a.trait_ref b.trait_ref) (λ p. ap (λ r. record { trait_ref = r }) p) (λ e. ap (λ q. q.trait_ref) e)
 
 clause-eq : (a b : Clause) → Decides (clause.eq a b) (a ≡ b)
@@ -81,7 +81,7 @@ input-eq a b =
     (λ e. (e.mode, ((e.environment, e.predicate), e.variables)))
 
 -- ---- handles are told apart by their trees
-first-of-two : (t u : Trees) (l m : Label) → Single t → Single u → t +++ leaf l ≡ u +++ leaf m → (t ≡ u) × (l ≡ m)
+pub first-of-two : (t u : Trees) (l m : Label) → Single t → Single u → t +++ leaf l ≡ u +++ leaf m → (t ≡ u) × (l ≡ m)
 first-of-two none u l m s z e = absurd s
 first-of-two (tree x c o) none l m s z e = absurd z
 first-of-two (tree x c o) (tree y d p) l m s z e = rw (s, z) (parts x y c d l m (rw (s, z) at e))
@@ -89,7 +89,7 @@ first-of-two (tree x c o) (tree y d p) l m s z e = rw (s, z) (parts x y c d l m 
     parts : (x y : Label) (c d : Trees) (l m : Label) → tree x c (leaf l) ≡ tree y d (leaf m) → (tree x c none ≡ tree y d none) × (l ≡ m)
     parts x y c d l m e = (cc, cc)
 
-region-is : (r s : Region) → region_label r.kind ≡ region_label s.kind → r ≡ s
+pub region-is : (r s : Region) → region_label r.kind ≡ region_label s.kind → r ≡ s
 region-is r s e = ap (λ k. record { kind = k }) (region-back r.kind s.kind e)
 
 args-are : (es : List Entry) → Lawful es → (a b : TraitRef) → Has es args_lists a.args.0 → Has es args_lists b.args.0 → a.def_id.index ≡ b.def_id.index → trees_at es a.args.0 ≡ trees_at es b.args.0 → a ≡ b
@@ -117,7 +117,7 @@ clause-is es law x y h g l e = cc
 next : {A : Type 0} (x y : A) (xs ys : List A) → x ≡ y → xs ≡ ys → x ∷ xs ≡ y ∷ ys
 next x y xs ys p q = cc
 
-node-parts : (l m : Label) (c d o p : Trees) → tree l c o ≡ tree m d p → (l ≡ m) × (c ≡ d) × (o ≡ p)
+pub node-parts : (l m : Label) (c d o p : Trees) → tree l c o ≡ tree m d p → (l ≡ m) × (c ≡ d) × (o ≡ p)
 node-parts l m c d o p e = (cc, cc, cc)
 
 environment-is : (es : List Entry) → Lawful es → (xs ys : List Clause) → ClausesHeld es xs → ClausesHeld es ys → environment_trees es xs ≡ environment_trees es ys → xs ≡ ys
@@ -134,7 +134,7 @@ predicate-is es law p q h g e =
     let index : p.trait_ref.def_id.index ≡ q.trait_ref.def_id.index = same _ _ parts.0 in
     ap (λ r. record { trait_ref = r }) (args-are es law p.trait_ref q.trait_ref h g index parts.1)
   where
-    same : (i j : ℕ) → principal 0 i ≡ principal 0 j → i ≡ j
+    same : (i j : ℕ) → predicate (of_trait i) ≡ predicate (of_trait j) → i ≡ j
     same i j e = cc
 
 kinds-are : (xs ys : List CanonicalVarKind) → map Some xs ≡ map Some ys → xs ≡ ys

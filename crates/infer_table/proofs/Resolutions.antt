@@ -1,6 +1,6 @@
 -- Goals resolved by a table.
 use Rattle.std.proofs.Common.{◌≡◌, ℕ, true, refl, ap, sym, ◌∙◌, List, [], ◌∷◌, ◌++◌, length, get_or, take, ◌+◌, ◌<◌}
-use Rattle.model.specs.Label.{Label, principal}
+use Rattle.model.specs.Label.{Label, of_trait, predicate}
 use Rattle.model.specs.Trees.{Trees, none, tree, ◌+++◌}
 use Rattle.type_terms.specs.Terms.{Entry, Keeps, trees_at}
 use Rattle.type_terms.specs.Kinds.{region_trees}
@@ -41,7 +41,7 @@ module _ (bs : List Binding) where
 
   clause-resolved : (old new : List Entry) (x y : Clause) → clause_outline y ≡ clause_outline x → clause_pieces new y ≡ each_piece (λ d t. resolved bs t) (clause_pieces old x) → ResolvedClause old new x y
   clause-resolved old new (Trait p) (Trait q) o e = record {
-    label = let same : q.trait_ref.def_id.index ≡ p.trait_ref.def_id.index = cc in ap (λ i. principal 0 i) same;
+    label = let same : q.trait_ref.def_id.index ≡ p.trait_ref.def_id.index = cc in ap (λ i. predicate (of_trait i)) same;
     terms = ap first_trees e;
   }
   clause-resolved old new (RegionOutlives r s) (RegionOutlives r' s') o e = record {
@@ -72,8 +72,8 @@ module _ (bs : List Binding) where
       ∙ sym (resolved-append bs (environment_trees old (take i xs)) (environment_trees old (x ∷ [])))
       ∙ ap (resolved bs) (sym (environment-append old (take i xs) (x ∷ []))) ∙ ap (λ z. resolved bs (environment_trees old z)) (sym from)
 
-  pub predicate-resolved : (i j : ℕ) (t u : Trees) → j ≡ i → one_piece u ≡ each_piece (λ d t. resolved bs t) (one_piece t) → tree (principal 0 j) u none ≡ resolved bs (tree (principal 0 i) t none)
-  predicate-resolved i j t u e h = node _ _ _ _ _ _ (ap (λ n. principal 0 n) e) (ap first_trees h) (sym (resolved-none bs)) ∙ sym (resolved-rigid bs (principal 0 i) t none refl)
+  pub predicate-resolved : (i j : ℕ) (t u : Trees) → j ≡ i → one_piece u ≡ each_piece (λ d t. resolved bs t) (one_piece t) → tree (predicate (of_trait j)) u none ≡ resolved bs (tree (predicate (of_trait i)) t none)
+  predicate-resolved i j t u e h = node _ _ _ _ _ _ (ap (λ n. predicate (of_trait n)) e) (ap first_trees h) (sym (resolved-none bs)) ∙ sym (resolved-rigid bs (predicate (of_trait i)) t none refl)
 
 pub resolved-nothing : (bs : List Binding) → none ≡ resolved bs none
 resolved-nothing bs = sym (resolved-none bs)

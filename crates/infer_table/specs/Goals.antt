@@ -1,6 +1,6 @@
 -- What a goal stands for: its where-clauses and its predicate, as trees.
 use Rattle.std.specs.Prelude.{◌≡◌, ℕ, List, [], ◌∷◌, ◌++◌}
-use Rattle.model.specs.Label.{Label, principal, tuple, array}
+use Rattle.model.specs.Label.{Label, of_trait, region_outlives, type_outlives, predicate}
 use Rattle.model.specs.Trees.{Trees, none, tree, ◌+++◌}
 use Rattle.type_terms.specs.Terms.{Entry, Has, args_lists, trees_at}
 use Rattle.type_terms.specs.Kinds.{region_trees}
@@ -17,9 +17,9 @@ use Rattle.infer_table.specs.declared.goal.Goal.{Goal}
 -- a where-clause is one node: its label says which of the three it is, and for a trait which trait,
 -- and below it stand its terms, the self type first
 abbrev pub clause_label : Clause → Label
-clause_label (Trait p) = principal 0 p.trait_ref.def_id.index
-clause_label (RegionOutlives a b) = tuple
-clause_label (TypeOutlives t r) = array
+clause_label (Trait p) = predicate (of_trait p.trait_ref.def_id.index)
+clause_label (RegionOutlives a b) = predicate region_outlives
+clause_label (TypeOutlives t r) = predicate type_outlives
 
 abbrev pub clause_terms : List Entry → Clause → Trees
 clause_terms es (Trait p) = trees_at es p.trait_ref.args.0
@@ -31,7 +31,7 @@ environment_trees es [] = none
 environment_trees es (c ∷ cs) = tree (clause_label c) (clause_terms es c) (environment_trees es cs)
 
 abbrev pub predicate_trees : List Entry → TraitPredicate → Trees
-predicate_trees es p = tree (principal 0 p.trait_ref.def_id.index) (trees_at es p.trait_ref.args.0) none
+predicate_trees es p = tree (predicate (of_trait p.trait_ref.def_id.index)) (trees_at es p.trait_ref.args.0) none
 
 abbrev pub goal_trees : List Entry → Goal → GoalTrees
 goal_trees es g = record { environment = environment_trees es g.param_env.items; predicate = predicate_trees es g.predicate }

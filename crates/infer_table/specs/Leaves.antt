@@ -1,6 +1,6 @@
 -- Open leaves as handles, and how they are collected and numbered.
 use Rattle.std.specs.Prelude.{◌≡◌, ℕ, Bool, true, false, List, [], ◌∷◌, map, is_some, IsSome, if◌then◌else◌, ◌==◌, ◌&&◌, bit_and}
-use Rattle.model.specs.Label.{Label, of_type, never, principal, auto_trait}
+use Rattle.model.specs.Label.{Label, of_type, never, principal, auto_trait, predicate}
 use Rattle.model.specs.Trees.{Trees, none, tree, leaf, flags, sort_of, is_sort}
 use Rattle.type_terms.specs.Terms.{Entry}
 use Rattle.type_terms.specs.Kinds.{ArgHeld, arg_trees}
@@ -91,6 +91,7 @@ is_closed_goal g = is_closed true g.environment && is_closed false g.predicate
 abbrev pub is_type_label : Label → Bool
 is_type_label (principal n i) = false
 is_type_label (auto_trait i) = false
+is_type_label (predicate k) = false
 is_type_label l = is_sort (sort_of l) of_type
 
 -- what a numbering folder does: a leaf becomes its canonical variable, and a type without open leaves stays

@@ -1,6 +1,7 @@
 -- A binder opened: variables in the place of the lifetimes that it binds.
 -- `for<'a> fn(&'a u8, for<'b> fn(&'a u8, &'b u8))` opens to `fn(&'?0 u8, for<'b> fn(&'?0 u8, &'b u8))`.
 use Rattle.std.specs.Prelude.{◌≡◌, ℕ, ◌+◌, List, length, cond, ltb, ◌&&◌, ◌==◌, Bool, true, false, refl}
+use Rattle.std.proofs.Common.{ap}
 use Rattle.model.specs.Label.{Label, of_type, of_lifetime, infer, bound, principal, auto_trait, inside}
 use Rattle.model.specs.Trees.{Trees, none, tree, outer_binder, sort_of, is_sort}
 use Rattle.term_folds.specs.Folds.{Does, enters, puts, again, IsBound}
@@ -32,6 +33,14 @@ opening-bounds first n bs (tree (principal m i) c o) h = refl
 opening-bounds first n bs (tree (auto_trait i) c o) h = refl
 opening-bounds first n bs none h = refl
 opening-bounds first n bs (tree l c o) h = absurd h
+
+-- the number of binders decides, whatever they bind
+pub opening-by-depth : (first n : ℕ) (bs cs : List ℕ) (t : Trees) → length bs ≡ length cs → opening first n bs t ≡ opening first n cs t
+opening-by-depth first n bs cs none e = refl
+opening-by-depth first n bs cs (tree (principal m i) c o) e = refl
+opening-by-depth first n bs cs (tree (auto_trait i) c o) e = refl
+opening-by-depth first n bs cs (tree (bound of_lifetime k v) none o) e = ap (λ d. puts (tree (opened_label first n d k v) none none)) e
+opening-by-depth first n bs cs (tree l c o) e = ap (λ d. cond (is_sort (sort_of l) of_type) (cond (ltb d (outer_binder (tree l c none))) enters (puts (tree l c none))) enters) e
 
 never-again : (a b : Bool) (t s : Trees) → cond a (cond b enters (puts t)) enters ≡ again s → ⊥
 never-again true true t s e = cc

@@ -1,7 +1,7 @@
 -- The fold that puts their values in the place of variables.
 use Rattle.std.specs.Prelude.{◌≡◌, ℕ, ◌+◌, suc, List, [], ◌∷◌, cond, ◌==◌, Bool, true, false, if◌then◌else◌, bit_and, refl}
 use Rattle.std.proofs.Common.{arith, sym, subst, ◌<◌, ◌≤◌}
-use Rattle.model.specs.Label.{Label, of_type, of_lifetime, infer, principal, auto_trait}
+use Rattle.model.specs.Label.{Label, Sort, of_type, of_const, of_lifetime, infer, principal, auto_trait}
 use Rattle.model.specs.Trees.{Trees, none, tree, leaf, ◌+++◌, flags, sort_of, is_sort}
 use Rattle.term_folds.specs.Folds.{Does, enters, puts, again, IsBound}
 use Rattle.type_terms.specs.Terms.{Entry, Keeps}
@@ -43,6 +43,21 @@ resolves-bounds bs ds (tree (principal n i) c o) h = refl
 resolves-bounds bs ds (tree (auto_trait i) c o) h = refl
 resolves-bounds bs ds none h = refl
 resolves-bounds bs ds (tree l c o) h = absurd h
+
+-- binders do not matter to it
+pub resolves-by-depth : (bs : List Binding) (ds es : List ℕ) (t : Trees) → resolves bs ds t ≡ resolves bs es t
+resolves-by-depth bs ds es none = refl
+resolves-by-depth bs ds es (tree (principal n i) c o) = refl
+resolves-by-depth bs ds es (tree (auto_trait i) c o) = refl
+resolves-by-depth bs ds es (tree (infer k v) c o) = by k c
+  where
+    by : (k : Sort) (c : Trees) → resolves bs ds (tree (infer k v) c o) ≡ resolves bs es (tree (infer k v) c o)
+    by of_lifetime c = refl
+    by of_type none = refl
+    by of_type (tree l d p) = refl
+    by of_const none = refl
+    by of_const (tree l d p) = refl
+resolves-by-depth bs ds es (tree l c o) = refl
 
 -- what is left to resolve
 abbrev pub to_resolve : List Binding → Trees → ℕ

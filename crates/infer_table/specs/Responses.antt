@@ -46,6 +46,13 @@ pub record ResponseHeld (es : List Entry) (r : CanonicalResponse) : Type 0 where
   pub values : ArgsHeld es r.var_values.items
   pub constraints : AllConstraintsHeld es r.region_constraints.items
 
+-- the answers are equal in each part (two `Vec`s with the same items differ in capacity)
+pub record SayTheSame (r s : CanonicalResponse) : Type 0 where
+  pub variables : r.variables.items ≡ s.variables.items
+  pub certainty : r.certainty ≡ s.certainty
+  pub values : r.var_values.items ≡ s.var_values.items
+  pub constraints : r.region_constraints.items ≡ s.region_constraints.items
+
 -- each constraint of the second list is the fold of the one in its place
 abbrev pub ConstraintsFold : (List ℕ → Trees → Does) → List Entry → List RegionConstraint → List Entry → List RegionConstraint → Type 0
 ConstraintsFold f old [] new [] = Unit {0}

@@ -1,21 +1,21 @@
 //! Answers applied to the goal that was asked.
-ghost use Rattle.std.specs.Prelude.{◌≡◌, ◌⊎◌, ℕ, ◌<◌, ◌≤◌, List, ◌++◌, length, get_or, IfOk, IfErr, IfSome, OnOk, OnErr, Err, Some, None, unwrap_or, option_map, ◌==◌, if◌then◌else◌};
+ghost use Rattle.std.specs.Prelude.{◌≡◌, ◌⊎◌, ℕ, ◌<◌, ◌≤◌, List, ◌++◌, length, get_or, IfOk, IfErr, IfSome, OnOk, OnErr, Err, Some, None, unwrap_or, ◌==◌, if◌then◌else◌};
 ghost use Rattle.std.specs.Option.{option_or};
 ghost use Rattle.model.specs.Label.{Sort};
 ghost use Rattle.type_terms.specs.Terms.{Entry, Keeps, Has, args_lists};
 ghost use Rattle.type_terms.specs.Kinds.{ArgHeld, ArgsHeld, args_trees, bound_label};
 ghost use Rattle.term_folds.specs.Failures.{SomeKindIsFull};
-ghost use Rattle.infer_table.specs.Solutions.{Assignment, Solves, Equates, HasNoSolution, instance};
+ghost use Rattle.infer_table.specs.Solutions.{HasNoSolution};
 ghost use Rattle.infer_table.specs.Content.{content, variables_of, Ready, Grows, AllConstraintsHeld};
-ghost use Rattle.infer_table.specs.Constraints.{constraints_trees};
 ghost use Rattle.infer_table.specs.Unification.{table_trees};
 ghost use Rattle.infer_table.specs.Leaves.{leaf_label};
-ghost use Rattle.infer_table.specs.Values.{value_of, values_of, filled};
-ghost use Rattle.infer_table.specs.Responses.{answer_trees, ResponseHeld, Records};
-ghost use Rattle.infer_table.specs.Applying.{root_labels, canonical_number, original_of, next_unknown, with_unknown, unknowns_of, table_after, known_value, applied_values, applied_table};
-ghost use Rattle.infer_table.specs.Applied.{solved_in_turn, applied};
-ghost use Rattle.infer_table.specs.Shortages.{HasNoUnknown, SomeHasNoUnknown, SomeRunsOut, IsOutOfNumbers};
-ghost use Rattle.infer_table.specs.Covers.{Agrees, Continues, IsOfKnown, IsWellPosed};
+ghost use Rattle.infer_table.specs.Values.{value_of, values_of};
+ghost use Rattle.infer_table.specs.Responses.{ResponseHeld, Records};
+ghost use Rattle.infer_table.specs.Applying.{root_labels, canonical_number, original_of, next_unknown, with_unknown, unknowns_of, table_after};
+ghost use Rattle.infer_table.specs.Shortages.{HasNoUnknown};
+ghost use Rattle.infer_table.specs.Covers.{IsOfKnown, IsWellPosed};
+ghost use Rattle.infer_table.specs.Equated.{MakesEqual};
+ghost use Rattle.infer_table.specs.AnswersApplied.{known_in, values_put_in, with_unknowns_put_in, answered_constraints, left_by_answer, equated_in_turn, TurnsRunOut, UnknownsRunOut, NumbersRunOut, EquatesAnswer, RulesOutAnswer, AgreesWithNone, AgreedGoOn};
 
 use crate::canonical::CanonicalVarKind;
 use crate::certainty::EqError;
@@ -140,14 +140,14 @@ fn value_or_unknown(
     ensures ready { Ready cx.new.entries table.new }
     ensures keeps { Keeps cx.old.entries cx.new.entries }
     ensures limit { cx.new.limit ≡ cx.old.limit }
-    ensures is { IfOk result (λ a. (es : List Entry) → value_of cx.new.entries a ≡ unwrap_or (option_map (value_of cx.old.entries) known) (next_unknown (table_trees es table.old) kind)) }
+    ensures is { IfOk result (λ a. (es : List Entry) → value_of cx.new.entries a ≡ unwrap_or (known_in cx.old.entries known) (next_unknown (table_trees es table.old) kind)) }
     ensures held { IfOk result (λ a. ArgHeld cx.new.entries a) }
-    ensures made { OnOk result ((es : List Entry) → table_trees es table.new ≡ table_after (option_map (value_of cx.old.entries) known) (table_trees es table.old) kind) }
+    ensures made { OnOk result ((es : List Entry) → table_trees es table.new ≡ table_after (known_in cx.old.entries known) (table_trees es table.old) kind) }
     ensures bindings { table.new.values ≡ table.old.values }
     ensures constraints { table.new.constraints ≡ table.old.constraints }
     ensures grows { Grows table.old table.new }
     ensures refused { OnErr result (table.new ≡ table.old) }
-    ensures full { result ≡ Err Fault.Full → SomeKindIsFull cx.new.entries cx.new.limit ⊎ ((es : List Entry) → HasNoUnknown (option_map (value_of cx.old.entries) known) (table_trees es table.old) kind) }
+    ensures full { result ≡ Err Fault.Full → SomeKindIsFull cx.new.entries cx.new.limit ⊎ ((es : List Entry) → HasNoUnknown (known_in cx.old.entries known) (table_trees es table.old) kind) }
 {
     match known {
         Some(value) => Ok(value),
@@ -173,10 +173,10 @@ fn values_to_apply(
     ensures bindings { table.new.values ≡ table.old.values }
     ensures constraints { table.new.constraints ≡ table.old.constraints }
     ensures grows { Grows table.old table.new }
-    ensures made { OnOk result (table_trees cx.old.entries table.new ≡ applied_table (table_trees cx.old.entries table.old) (values_of cx.old.entries original_values.now) (answer_trees cx.old.entries response.now)) }
+    ensures made { OnOk result (table_trees cx.old.entries table.new ≡ with_unknowns_put_in cx.old.entries table.old original_values.now response.now) }
     ensures held { IfOk result (λ r. ArgsHeld cx.new.entries r.items) }
-    ensures values { IfOk result (λ r. values_of cx.new.entries r.items ≡ applied_values (table_trees cx.old.entries table.old) (values_of cx.old.entries original_values.now) (answer_trees cx.old.entries response.now)) }
-    ensures full { result ≡ Err Fault.Full → SomeKindIsFull cx.new.entries cx.new.limit ⊎ SomeHasNoUnknown (known_value (answer_trees cx.old.entries response.now) (values_of cx.old.entries original_values.now)) (table_trees cx.old.entries table.old) 0 response.now.variables.items }
+    ensures values { IfOk result (λ r. values_of cx.new.entries r.items ≡ values_put_in cx.old.entries table.old original_values.now response.now) }
+    ensures full { result ≡ Err Fault.Full → SomeKindIsFull cx.new.entries cx.new.limit ⊎ UnknownsRunOut cx.old.entries table.old original_values.now response.now }
 {
     let count = response.variables.len();
     let known = known_values(alloc, cx, count, &response.var_values, original_values)?;
@@ -202,11 +202,11 @@ fn equate_values(
     ensures grows { Grows table.old table.new }
     ensures keeps { Keeps cx.old.entries cx.new.entries }
     ensures limit { cx.new.limit ≡ cx.old.limit }
-    ensures equates { OnOk result (Equates (content cx.old.entries table.old.values) (content cx.new.entries table.new.values) (args_trees cx.old.entries left.now) (args_trees cx.old.entries right.now)) }
+    ensures equates { OnOk result (MakesEqual cx.old.entries table.old cx.new.entries table.new (args_trees cx.old.entries left.now) (args_trees cx.old.entries right.now)) }
     ensures never { result ≡ Err EqError.NoSolution → HasNoSolution (content cx.old.entries table.old.values) (args_trees cx.old.entries left.now) (args_trees cx.old.entries right.now) }
-    ensures exact { OnOk result (solved_in_turn (table_trees cx.old.entries table.old) (args_trees cx.old.entries left.now) (args_trees cx.old.entries right.now) ≡ Some (table_trees cx.new.entries table.new)) }
-    ensures refusal { result ≡ Err EqError.NoSolution → solved_in_turn (table_trees cx.old.entries table.old) (args_trees cx.old.entries left.now) (args_trees cx.old.entries right.now) ≡ None }
-    ensures full { result ≡ Err (EqError.OutOf Fault.Full) → SomeKindIsFull cx.new.entries cx.new.limit ⊎ SomeRunsOut (table_trees cx.old.entries table.old) (args_trees cx.old.entries left.now) (args_trees cx.old.entries right.now) }
+    ensures exact { OnOk result (equated_in_turn cx.old.entries table.old left.now right.now ≡ Some (table_trees cx.new.entries table.new)) }
+    ensures refusal { result ≡ Err EqError.NoSolution → equated_in_turn cx.old.entries table.old left.now right.now ≡ None }
+    ensures full { result ≡ Err (EqError.Fault Fault.Full) → SomeKindIsFull cx.new.entries cx.new.limit ⊎ TurnsRunOut cx.old.entries table.old left.now right.now }
 {
     cx.lawful();
     if left.len() != right.len() {
@@ -245,15 +245,15 @@ fn apply(
     requires ready { Ready cx.old.entries table.old }
     ensures ready { Ready cx.new.entries table.new }
     ensures grows { Grows table.old table.new }
-    ensures unknowns { OnOk result ((k : Sort) → unknowns_of (applied_table (table_trees cx.old.entries table.old) (values_of cx.old.entries original_values.now) (answer_trees cx.old.entries response.now)) k ≤ variables_of table.new k) }
+    ensures unknowns { OnOk result ((k : Sort) → unknowns_of (with_unknowns_put_in cx.old.entries table.old original_values.now response.now) k ≤ variables_of table.new k) }
     ensures keeps { Keeps cx.old.entries cx.new.entries }
     ensures limit { cx.new.limit ≡ cx.old.limit }
-    ensures equates { OnOk result (Equates (content cx.old.entries table.old.values) (content cx.new.entries table.new.values) (args_trees cx.old.entries original_values.now) (filled (applied_values (table_trees cx.old.entries table.old) (values_of cx.old.entries original_values.now) (answer_trees cx.old.entries response.now)) (args_trees cx.old.entries response.now.var_values.items))) }
-    ensures never { result ≡ Err EqError.NoSolution → HasNoSolution (content cx.old.entries table.old.values) (args_trees cx.old.entries original_values.now) (filled (applied_values (table_trees cx.old.entries table.old) (values_of cx.old.entries original_values.now) (answer_trees cx.old.entries response.now)) (args_trees cx.old.entries response.now.var_values.items)) }
-    ensures exact { OnOk result (applied (table_trees cx.old.entries table.old) (values_of cx.old.entries original_values.now) (answer_trees cx.old.entries response.now) ≡ Some (table_trees cx.new.entries table.new)) }
-    ensures refusal { result ≡ Err EqError.NoSolution → applied (table_trees cx.old.entries table.old) (values_of cx.old.entries original_values.now) (answer_trees cx.old.entries response.now) ≡ None }
-    ensures constraints { OnOk result (Records cx.new.entries table.old.constraints table.new.constraints (filled (applied_values (table_trees cx.old.entries table.old) (values_of cx.old.entries original_values.now) (answer_trees cx.old.entries response.now)) (constraints_trees cx.old.entries response.now.region_constraints.items))) }
-    ensures full { result ≡ Err (EqError.OutOf Fault.Full) → SomeKindIsFull cx.new.entries cx.new.limit ⊎ IsOutOfNumbers (table_trees cx.old.entries table.old) (values_of cx.old.entries original_values.now) (answer_trees cx.old.entries response.now) }
+    ensures equates { OnOk result (EquatesAnswer cx.old.entries table.old original_values.now response.now (content cx.new.entries table.new.values)) }
+    ensures never { result ≡ Err EqError.NoSolution → RulesOutAnswer cx.old.entries table.old original_values.now response.now }
+    ensures exact { OnOk result (left_by_answer cx.old.entries table.old original_values.now response.now ≡ Some (table_trees cx.new.entries table.new)) }
+    ensures refusal { result ≡ Err EqError.NoSolution → left_by_answer cx.old.entries table.old original_values.now response.now ≡ None }
+    ensures constraints { OnOk result (Records cx.new.entries table.old.constraints table.new.constraints (answered_constraints cx.old.entries table.old original_values.now response.now)) }
+    ensures full { result ≡ Err (EqError.Fault Fault.Full) → SomeKindIsFull cx.new.entries cx.new.limit ⊎ NumbersRunOut cx.old.entries table.old original_values.now response.now }
 {
     let values = values_to_apply(alloc, cx, table, original_values, response)?;
     let folder = CanonicalInstantiator { values: &values };
@@ -275,7 +275,7 @@ fn apply(
 /// are recorded as equal and refuse nothing.
 ///
 /// Afterwards the solutions of the table are those from before that make the values equal; `NoSolution` comes exactly
-/// where there is none. After a refusal the table is as it was; the interner may hold more terms. `OutOf(Full)` comes
+/// where there is none. After a refusal the table is as it was; the interner may hold more terms. `Fault(Full)` comes
 /// only where some kind of term has reached its limit, or where a new unknown or a lifetime variable has no number.
 ///
 /// What is left, lifetimes and recorded constraints included, is a function of the trees of the goal's values, of the
@@ -298,31 +298,31 @@ pub fn instantiate_and_apply_query_response(
     ensures limit { cx.new.limit ≡ cx.old.limit }
 
     // The new unknowns are variables of the table.
-    ensures unknowns { OnOk result ((k : Sort) → unknowns_of (applied_table (table_trees cx.old.entries table.old) (values_of cx.old.entries original_values.now) (answer_trees cx.old.entries response.now)) k ≤ variables_of table.new k) }
+    ensures unknowns { OnOk result ((k : Sort) → unknowns_of (with_unknowns_put_in cx.old.entries table.old original_values.now response.now) k ≤ variables_of table.new k) }
 
     // The solutions are those from before that make the values equal, and there is none where it says so.
-    ensures equates { OnOk result (Equates (content cx.old.entries table.old.values) (content cx.new.entries table.new.values) (args_trees cx.old.entries original_values.now) (filled (applied_values (table_trees cx.old.entries table.old) (values_of cx.old.entries original_values.now) (answer_trees cx.old.entries response.now)) (args_trees cx.old.entries response.now.var_values.items))) }
-    ensures never { result ≡ Err EqError.NoSolution → HasNoSolution (content cx.old.entries table.old.values) (args_trees cx.old.entries original_values.now) (filled (applied_values (table_trees cx.old.entries table.old) (values_of cx.old.entries original_values.now) (answer_trees cx.old.entries response.now)) (args_trees cx.old.entries response.now.var_values.items)) }
+    ensures equates { OnOk result (EquatesAnswer cx.old.entries table.old original_values.now response.now (content cx.new.entries table.new.values)) }
+    ensures never { result ≡ Err EqError.NoSolution → RulesOutAnswer cx.old.entries table.old original_values.now response.now }
 
     // A solution with which the answer agrees goes on to the table that is left, and an answer that agrees with one is
     // not refused for want of a solution. The table speaks of its own unknowns alone, as it did before.
-    ensures kept { OnOk result (IsWellPosed cx.old.entries table.old original_values.now response.now → (s : Assignment) → Solves s (content cx.old.entries table.old.values) → Agrees (args_trees cx.old.entries response.now.var_values.items) (instance s (args_trees cx.old.entries original_values.now)) → (u : Assignment) × Continues (variables_of table.old) s u × Solves u (content cx.new.entries table.new.values)) }
-    ensures accepted { result ≡ Err EqError.NoSolution → IsWellPosed cx.old.entries table.old original_values.now response.now → (s : Assignment) → Solves s (content cx.old.entries table.old.values) → Agrees (args_trees cx.old.entries response.now.var_values.items) (instance s (args_trees cx.old.entries original_values.now)) → ⊥ }
+    ensures kept { OnOk result (AgreedGoOn cx.old.entries table.old original_values.now response.now (content cx.new.entries table.new.values)) }
+    ensures accepted { result ≡ Err EqError.NoSolution → AgreesWithNone cx.old.entries table.old original_values.now response.now }
     ensures known { OnOk result (IsWellPosed cx.old.entries table.old original_values.now response.now → IsOfKnown (variables_of table.new) (content cx.new.entries table.new.values)) }
 
     // What is left, and whether it is refused, is a function of trees.
-    ensures exact { OnOk result (applied (table_trees cx.old.entries table.old) (values_of cx.old.entries original_values.now) (answer_trees cx.old.entries response.now) ≡ Some (table_trees cx.new.entries table.new)) }
-    ensures refusal { result ≡ Err EqError.NoSolution → applied (table_trees cx.old.entries table.old) (values_of cx.old.entries original_values.now) (answer_trees cx.old.entries response.now) ≡ None }
+    ensures exact { OnOk result (left_by_answer cx.old.entries table.old original_values.now response.now ≡ Some (table_trees cx.new.entries table.new)) }
+    ensures refusal { result ≡ Err EqError.NoSolution → left_by_answer cx.old.entries table.old original_values.now response.now ≡ None }
 
     // The answer's constraints come last.
-    ensures constraints { OnOk result (Records cx.new.entries table.old.constraints table.new.constraints (filled (applied_values (table_trees cx.old.entries table.old) (values_of cx.old.entries original_values.now) (answer_trees cx.old.entries response.now)) (constraints_trees cx.old.entries response.now.region_constraints.items))) }
+    ensures constraints { OnOk result (Records cx.new.entries table.old.constraints table.new.constraints (answered_constraints cx.old.entries table.old original_values.now response.now)) }
     ensures refused { OnErr result (table.new ≡ table.old) }
 
     // A full table names the error only where some kind of term has reached its limit, or where a number is missing.
-    ensures full { result ≡ Err (EqError.OutOf Fault.Full) → SomeKindIsFull cx.new.entries cx.new.limit ⊎ IsOutOfNumbers (table_trees cx.old.entries table.old) (values_of cx.old.entries original_values.now) (answer_trees cx.old.entries response.now) }
+    ensures full { result ≡ Err (EqError.Fault Fault.Full) → SomeKindIsFull cx.new.entries cx.new.limit ⊎ NumbersRunOut cx.old.entries table.old original_values.now response.now }
 {
     cx.lawful();
-    let place = table.snapshot()?;
+    let place = table.snapshot();
     match apply(alloc, cx, table, original_values, response) {
         Ok(()) => Ok(()),
         Err(error) => {

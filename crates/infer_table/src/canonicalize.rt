@@ -6,12 +6,13 @@ ghost use Rattle.type_terms.specs.Kinds.{ArgsHeld, args_trees};
 ghost use Rattle.type_terms.specs.declared.TheConstants.{MAX_INDEX};
 ghost use Rattle.term_folds.specs.Failures.{SomeKindIsFull};
 ghost use Rattle.infer_table.specs.Canonical.{canonical_form, kind_of_leaf, HasNoCanonical};
-ghost use Rattle.infer_table.specs.Solutions.{Assignment, Solves, instance, resolved};
-ghost use Rattle.infer_table.specs.Content.{content, Ready, AllConstraintsHeld};
+ghost use Rattle.infer_table.specs.Content.{Ready, AllConstraintsHeld};
 ghost use Rattle.infer_table.specs.Constraints.{constraints_trees};
 ghost use Rattle.infer_table.specs.Leaves.{AreLeaves, OpenAreLeaves, labels};
-ghost use Rattle.infer_table.specs.Responses.{as_goal, response_form, answer_leaves, numbered_by, ResponseHeld};
-ghost use Rattle.infer_table.specs.Covers.{Agrees, AreNumbered};
+ghost use Rattle.infer_table.specs.Responses.{as_goal, response_form, answer_leaves, ResponseHeld};
+ghost use Rattle.infer_table.specs.TableSays.{values_resolved, answer_given, given_leaves, numbered_values, numbered_constraints};
+ghost use Rattle.infer_table.specs.AnswersApplied.{AgreesWithAll};
+ghost use Rattle.infer_table.specs.Covers.{AreNumbered};
 
 use crate::canonicalizer::{Canonicalizer, LeafCollector};
 use crate::certainty::Certainty;
@@ -89,18 +90,18 @@ pub fn canonicalize_response(
     ensures held { IfOk result (λ r. ResponseHeld cx.new.entries r) }
 
     // The form is that of the resolved values and constraints.
-    ensures form { IfOk result (λ r. response_form cx.new.entries r ≡ canonical_form (as_goal (resolved (content cx.old.entries table.now.values) (args_trees cx.old.entries values.now +++ constraints_trees cx.old.entries table.now.constraints)))) }
+    ensures form { IfOk result (λ r. response_form cx.new.entries r ≡ canonical_form (as_goal (answer_given cx.old.entries table.now values.now))) }
 
     // Its values are the resolved values and its constraints the resolved constraints, numbered.
-    ensures values { IfOk result (λ r. args_trees cx.new.entries r.var_values.items ≡ numbered_by (answer_leaves (resolved (content cx.old.entries table.now.values) (args_trees cx.old.entries values.now +++ constraints_trees cx.old.entries table.now.constraints))) (resolved (content cx.old.entries table.now.values) (args_trees cx.old.entries values.now))) }
-    ensures constraints { IfOk result (λ r. constraints_trees cx.new.entries r.region_constraints.items ≡ numbered_by (answer_leaves (resolved (content cx.old.entries table.now.values) (args_trees cx.old.entries values.now +++ constraints_trees cx.old.entries table.now.constraints))) (resolved (content cx.old.entries table.now.values) (constraints_trees cx.old.entries table.now.constraints))) }
+    ensures values { IfOk result (λ r. args_trees cx.new.entries r.var_values.items ≡ numbered_values cx.old.entries table.now values.now) }
+    ensures constraints { IfOk result (λ r. constraints_trees cx.new.entries r.region_constraints.items ≡ numbered_constraints cx.old.entries table.now values.now) }
 
     // The answer agrees with each solution of the table, and its variables are of its kinds.
-    ensures agrees { IfOk result (λ r. HasNoCanonical (resolved (content cx.old.entries table.now.values) (args_trees cx.old.entries values.now)) → (s : Assignment) → Solves s (content cx.old.entries table.now.values) → Agrees (args_trees cx.new.entries r.var_values.items) (instance s (args_trees cx.old.entries values.now))) }
-    ensures numbered { IfOk result (λ r. HasNoCanonical (resolved (content cx.old.entries table.now.values) (args_trees cx.old.entries values.now)) → AreNumbered r.variables.items (args_trees cx.new.entries r.var_values.items)) }
+    ensures agrees { IfOk result (λ r. HasNoCanonical (values_resolved cx.old.entries table.now values.now) → AgreesWithAll cx.old.entries table.now values.now cx.new.entries r) }
+    ensures numbered { IfOk result (λ r. HasNoCanonical (values_resolved cx.old.entries table.now values.now) → AreNumbered r.variables.items (args_trees cx.new.entries r.var_values.items)) }
 
     // A full table names the error only where some kind of term has reached its limit, or where the leaves are too many.
-    ensures full { result ≡ Err Fault.Full → SomeKindIsFull cx.new.entries cx.new.limit ⊎ (MAX_INDEX ≤ length (answer_leaves (resolved (content cx.old.entries table.now.values) (args_trees cx.old.entries values.now +++ constraints_trees cx.old.entries table.now.constraints)))) }
+    ensures full { result ≡ Err Fault.Full → SomeKindIsFull cx.new.entries cx.new.limit ⊎ (MAX_INDEX ≤ length (given_leaves cx.old.entries table.now values.now)) }
 {
     let given = cx.mk_args(Vec::from_slice(alloc, values)?)?;
     let resolved = table.eager_resolve_vars(cx, given)?;

@@ -193,6 +193,8 @@ impl TypeFolder for Canonicalizer<'_> {
 
     ghost fuel_kept = { λ f old new k h. refl };
 
+    ghost by_depth = { λ f es bs cs t e. refl };
+
     ghost enters_bounds = { λ f es bs t h. numbering-bounds f.in_clause (labels es f.leaves.now.keys) bs t h };
 
     ghost falls = { λ f es bs t s h e. absurd (numbering-once f.in_clause (labels es f.leaves.now.keys) bs t s e) };

@@ -1,6 +1,6 @@
 //! What goals are made of, and how they are answered.
 ghost use Rattle.std.specs.Prelude.{◌≡◌};
-ghost use Rattle.infer_table.specs.declared.certainty.EqError.TheVariants.{OutOf};
+ghost use Rattle.infer_table.specs.declared.certainty.EqError.TheVariants as error;
 ghost use Rattle.type_terms.specs.declared.Fault.TheVariants.{Memory};
 
 use std::alloc::{AllocError, AllocFailed};
@@ -17,30 +17,30 @@ pub enum EqError {
     /// Nothing that is put in for the variables makes the two sides equal.
     NoSolution,
     /// There is no answer.
-    OutOf(Fault),
+    Fault(Fault),
 }
 
 impl From<Fault> for EqError {
-    ghost from_gives = { λ fault e. e ≡ OutOf fault };
+    ghost from_gives = { λ fault e. e ≡ error.Fault fault };
 
     fn from(fault: Fault) -> EqError {
-        EqError::OutOf(fault)
+        EqError::Fault(fault)
     }
 }
 
 impl From<AllocError> for EqError {
-    ghost from_gives = { λ _ e. e ≡ OutOf Memory };
+    ghost from_gives = { λ _ e. e ≡ error.Fault Memory };
 
     fn from(_error: AllocError) -> EqError {
-        EqError::OutOf(Fault::Memory)
+        EqError::Fault(Fault::Memory)
     }
 }
 
 impl<T: Drop> From<AllocFailed<T>> for EqError {
-    ghost from_gives = { λ _ e. e ≡ OutOf Memory };
+    ghost from_gives = { λ _ e. e ≡ error.Fault Memory };
 
     fn from(_error: AllocFailed<T>) -> EqError {
-        EqError::OutOf(Fault::Memory)
+        EqError::Fault(Fault::Memory)
     }
 }
 

@@ -4,12 +4,13 @@ ghost use Rattle.type_terms.specs.Terms.{Keeps};
 ghost use Rattle.type_terms.specs.Kinds.{ArgsHeld};
 ghost use Rattle.type_terms.specs.declared.TheConstants.{MAX_INDEX};
 ghost use Rattle.term_folds.specs.Failures.{SomeKindIsFull};
-ghost use Rattle.infer_table.specs.Content.{content, Ready};
-ghost use Rattle.infer_table.specs.Canonical.{GoalTrees, canonical_label, goal_leaves, renamed, relabeled, kind_of_leaf};
-ghost use Rattle.infer_table.specs.Goals.{GoalHeld, PredicateHeld, goal_trees, predicate_trees, goal_resolved};
+ghost use Rattle.infer_table.specs.Content.{Ready};
+ghost use Rattle.infer_table.specs.Canonical.{canonical_label, goal_leaves, renamed, kind_of_leaf};
+ghost use Rattle.infer_table.specs.Goals.{GoalHeld, PredicateHeld, goal_trees, predicate_trees};
 ghost use Rattle.infer_table.specs.Leaves.{AreLeaves, AreOpen, OpenAreLeavesOf, labels, leaf_label, IsLeaf, is_closed_goal};
-ghost use Rattle.infer_table.specs.Values.{values_of, goal_filled};
-ghost use Rattle.infer_table.specs.Inputs.{IsCanonicalInput, IsItsOwnForm, IsWithoutCanonical, IsOneQuestion, AreEqual};
+ghost use Rattle.infer_table.specs.Responses.{numbered_by};
+ghost use Rattle.infer_table.specs.Inputs.{IsCanonicalInput, IsItsOwnForm, AreEqual};
+ghost use Rattle.infer_table.specs.TableSays.{resolved_goal, GivesBack, TellsQuestions};
 
 use crate::canonical::CanonicalVarKind;
 use crate::canonicalizer::{Canonicalizer, LeafCollector, is_closed};
@@ -18,7 +19,7 @@ use crate::goal::{Goal, fold_clauses};
 use crate::infer_ctxt::InferCtxt;
 use crate::resolving::resolve_goal;
 use indexmap::IndexSet;
-use std::alloc::Global;
+use std::alloc::{AllocError, Global};
 use std::ops::ControlFlow;
 use term_folds::foldable::TypeFoldable;
 use term_folds::predicate::TraitPredicate;
@@ -38,6 +39,22 @@ pub struct CanonicalInput {
     pub variables: Vec<CanonicalVarKind>,
 }
 
+impl Clone for CanonicalInput {
+    ghost use Rattle.infer_table.specs.Inputs.{AreEqual};
+
+    ghost is_clone = { λ a b. AreEqual b a };
+
+    fn clone(&self) -> Result<CanonicalInput, AllocError> {
+        let goal = self.goal.clone()?;
+        let variables = Vec::from_slice(*self.variables.allocator(), &self.variables)?;
+        Ok(CanonicalInput {
+            mode: self.mode,
+            goal,
+            variables,
+        })
+    }
+}
+
 /// Whether two canonical goals are one question: whether they are equal.
 ///
 /// They are exactly if they are asked in one mode and a renaming carries one of the goals that they were made of
@@ -45,7 +62,7 @@ pub struct CanonicalInput {
 /// kept under canonical goals.
 pub fn is_same_question(cx: &Interner, left: &CanonicalInput, right: &CanonicalInput) -> bool
     ensures equal { IsTrue result ↔ AreEqual left.now right.now }
-    ensures renaming { (g h : GoalTrees) → IsWithoutCanonical g → IsWithoutCanonical h → IsCanonicalInput cx.now.entries g left.now → IsCanonicalInput cx.now.entries h right.now → (IsTrue result ↔ IsOneQuestion left.now.mode g right.now.mode h) }
+    ensures renaming { TellsQuestions cx.now.entries left.now right.now result }
 {
     cx.lawful();
     left == right
@@ -84,7 +101,7 @@ pub fn canonicalize_goal(
     ensures mode { IfOk result (λ r. r.input.mode ≡ mode) }
 
     // The form is that of the resolved goal's trees.
-    ensures form { IfOk result (λ r. IsCanonicalInput cx.new.entries (goal_resolved (content cx.old.entries table.now.values) (goal_trees cx.old.entries goal.now)) r.input) }
+    ensures form { IfOk result (λ r. IsCanonicalInput cx.new.entries (resolved_goal cx.old.entries table.now goal.now) r.input) }
 
     // A goal in which nothing is open is its own form.
     ensures closed { IfOk result (λ r. IsTrue (is_closed_goal (goal_trees cx.old.entries goal.now)) → IsItsOwnForm mode goal.now r) }
@@ -92,13 +109,13 @@ pub fn canonicalize_goal(
     // The values are the resolved goal's leaves.
     ensures held { IfOk result (λ r. AreLeaves cx.new.entries r.values.items) }
     ensures args { IfOk result (λ r. ArgsHeld cx.new.entries r.values.items) }
-    ensures values { IfOk result (λ r. labels cx.new.entries r.values.items ≡ goal_leaves (goal_resolved (content cx.old.entries table.now.values) (goal_trees cx.old.entries goal.now))) }
+    ensures values { IfOk result (λ r. labels cx.new.entries r.values.items ≡ goal_leaves (resolved_goal cx.old.entries table.now goal.now)) }
 
     // Put in for the variables, they give the resolved goal back.
-    ensures back { IfOk result (λ r. let resolved = goal_resolved (content cx.old.entries table.now.values) (goal_trees cx.old.entries goal.now) in IsWithoutCanonical resolved → goal_filled (values_of cx.new.entries r.values.items) (goal_trees cx.new.entries r.input.goal) ≡ resolved) }
+    ensures back { IfOk result (λ r. GivesBack cx.new.entries r (resolved_goal cx.old.entries table.now goal.now)) }
 
     // A full table names the error only where some kind of term has reached its limit, or where the leaves are too many.
-    ensures full { result ≡ Err Fault.Full → SomeKindIsFull cx.new.entries cx.new.limit ⊎ (MAX_INDEX ≤ length (goal_leaves (goal_resolved (content cx.old.entries table.now.values) (goal_trees cx.old.entries goal.now)))) }
+    ensures full { result ≡ Err Fault.Full → SomeKindIsFull cx.new.entries cx.new.limit ⊎ (MAX_INDEX ≤ length (goal_leaves (resolved_goal cx.old.entries table.now goal.now))) }
 {
     if is_closed_goal(cx, goal) {
         return own_form(alloc, mode, goal);
@@ -164,7 +181,7 @@ fn canonicalize_resolved(
     ensures values { IfOk result (λ r. labels cx.new.entries r.values.items ≡ goal_leaves (goal_trees cx.old.entries goal.now)) }
 
     // Put in for the variables, they give the goal back.
-    ensures back { IfOk result (λ r. IsWithoutCanonical (goal_trees cx.old.entries goal.now) → goal_filled (values_of cx.new.entries r.values.items) (goal_trees cx.new.entries r.input.goal) ≡ goal_trees cx.old.entries goal.now) }
+    ensures back { IfOk result (λ r. GivesBack cx.new.entries r (goal_trees cx.old.entries goal.now)) }
 
     // A full table names the error only where some kind of term has reached its limit, or where the leaves are too many.
     ensures full { result ≡ Err Fault.Full → SomeKindIsFull cx.new.entries cx.new.limit ⊎ (MAX_INDEX ≤ length (goal_leaves (goal_trees cx.old.entries goal.now))) }
@@ -296,7 +313,7 @@ fn number_predicate(
     ensures keeps { Keeps cx.old.entries cx.new.entries }
     ensures limit { cx.new.limit ≡ cx.old.limit }
     ensures held { IfOk result (λ r. PredicateHeld cx.new.entries r) }
-    ensures numbered { IfOk result (λ r. predicate_trees cx.new.entries r ≡ relabeled kind_of_leaf (canonical_label (labels cx.old.entries leaves.now.keys)) (predicate_trees cx.old.entries predicate)) }
+    ensures numbered { IfOk result (λ r. predicate_trees cx.new.entries r ≡ numbered_by (labels cx.old.entries leaves.now.keys) (predicate_trees cx.old.entries predicate)) }
     ensures full { result ≡ Err Fault.Full → SomeKindIsFull cx.new.entries cx.new.limit ⊎ (MAX_INDEX ≤ length leaves.now.keys) }
 {
     if is_closed(predicate.flags(cx), false) {

@@ -100,6 +100,8 @@ impl TypeFolder for CanonicalInstantiator<'_> {
 
     ghost fuel_kept = { λ f old new k h. refl };
 
+    ghost by_depth = { λ f es bs cs t e. refl };
+
     ghost enters_bounds = { λ f es bs t h. filling-bounds (values_of es f.values.now) t h };
 
     ghost falls = { λ f es bs t s h e. absurd (filling-once (values_of es f.values.now) t s e) };

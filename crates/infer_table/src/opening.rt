@@ -2,6 +2,7 @@
 ghost use Rattle.std.specs.Prelude.{◌≡◌, ◌+◌, ◌≤◌};
 ghost use Rattle.type_terms.specs.declared.TheConstants.{MAX_INDEX};
 
+use crate::known::{const_has_kind, type_has_kind};
 use term_folds::binders::Binders;
 use term_folds::fold::Answer;
 use term_folds::folder::TypeFolder;
@@ -26,7 +27,7 @@ pub(crate) struct BoundVarReplacer {
 impl TypeFolder for BoundVarReplacer {
     ghost use Rattle.std.proofs.Common.{refl};
     ghost use Rattle.term_folds.specs.Folds.{none_above};
-    ghost use Rattle.infer_table.specs.Opened.{opening, opening-bounds, opening-once};
+    ghost use Rattle.infer_table.specs.Opened.{opening, opening-bounds, opening-once, opening-by-depth};
 
     ghost ready = { λ _ _. Unit {0} };
 
@@ -40,6 +41,8 @@ impl TypeFolder for BoundVarReplacer {
 
     ghost fuel_kept = { λ f old new k h. refl };
 
+    ghost by_depth = { λ f es bs cs t e. opening-by-depth f.first f.count bs cs t e };
+
     ghost enters_bounds = { λ f es bs t h. opening-bounds f.first f.count bs t h };
 
     ghost falls = { λ f es bs t s h e. absurd (opening-once f.first f.count bs t s e) };
@@ -51,8 +54,7 @@ impl TypeFolder for BoundVarReplacer {
     ghost below_right = { λ f es x y. none_above };
 
     fn fold_ty(&self, cx: &mut Interner, ty: Ty, binders: &Binders) -> Result<Answer<Ty>, Fault> {
-        let kind = cx.kind(ty);
-        let _ = kind;
+        type_has_kind(cx, ty);
         if binders.depth().index < cx.outer_exclusive_binder(ty).index {
             Ok(Answer::Enter)
         } else {
@@ -66,8 +68,7 @@ impl TypeFolder for BoundVarReplacer {
         ct: Const,
         _binders: &Binders,
     ) -> Result<Answer<Const>, Fault> {
-        let kind = cx.const_kind(ct);
-        let _ = kind;
+        const_has_kind(cx, ct);
         Ok(Answer::Enter)
     }
 

@@ -1,15 +1,14 @@
 //! The answer that says nothing.
-ghost use Rattle.std.specs.Prelude.{◌≡◌, ℕ, ◌<◌, List, [], map, IfOk, OnErr, Err, length, ◌⊎◌};
+ghost use Rattle.std.specs.Prelude.{◌≡◌, ℕ, ◌<◌, List, [], IfOk, OnErr, Err, length, ◌⊎◌};
 ghost use Rattle.model.specs.Label.{canonical};
 ghost use Rattle.model.specs.Trees.{leaf};
-ghost use Rattle.type_terms.specs.Terms.{Entry, Keeps, Lawful, types, consts, held};
+ghost use Rattle.type_terms.specs.Terms.{Keeps, types, consts, held};
 ghost use Rattle.type_terms.specs.Kinds.{ArgHeld, ArgsHeld, args_trees};
 ghost use Rattle.type_terms.specs.declared.TheConstants.{MAX_INDEX};
-ghost use Rattle.type_terms.specs.declared.kinds.GenericArgKind.{GenericArgKind};
-ghost use Rattle.infer_table.specs.Solutions.{Assignment, IsSorted, instance};
-ghost use Rattle.infer_table.specs.Values.{sort_of_arg, value_of, values_of};
-ghost use Rattle.infer_table.specs.Raw.{sort_of_kind, variable_value, variables_from, IsFull};
-ghost use Rattle.infer_table.specs.Covers.{Agrees, AreNumbered};
+ghost use Rattle.infer_table.specs.Values.{value_of, values_of};
+ghost use Rattle.infer_table.specs.Raw.{variable_value, variables_from, IsFull};
+ghost use Rattle.infer_table.specs.Covers.{AreNumbered};
+ghost use Rattle.infer_table.specs.AnswersApplied.{AgreesWithAllOf};
 
 use crate::canonical::CanonicalVarKind;
 use crate::certainty::Certainty;
@@ -22,7 +21,7 @@ use type_terms::region::{Region, RegionKind};
 use type_terms::{Fault, MAX_INDEX};
 
 /// The canonical variable of this number, of the sort of its kind.
-fn canonical_variable(
+pub fn canonical_variable(
     cx: &mut Interner,
     kind: CanonicalVarKind,
     variable: BoundVar,
@@ -73,7 +72,7 @@ pub fn response_no_constraints_raw(
 
     // Its variables are of its kinds, and it agrees with all values of their sorts.
     ensures numbered { IfOk result (λ r. AreNumbered r.variables.items (args_trees cx.new.entries r.var_values.items)) }
-    ensures agrees { IfOk result (λ r. (es : List Entry) (s : Assignment) (xs : List GenericArgKind) → Lawful es → ArgsHeld es xs → IsSorted s → map sort_of_arg xs ≡ map sort_of_kind variables.items → Agrees (args_trees cx.new.entries r.var_values.items) (instance s (args_trees es xs))) }
+    ensures agrees { IfOk result (λ r. AgreesWithAllOf variables.items (args_trees cx.new.entries r.var_values.items)) }
     ensures full { result ≡ Err Fault.Full → (MAX_INDEX < length variables.items) ⊎ IsFull cx.new.entries cx.new.limit }
 {
     let mut var_values = Vec::new(alloc);

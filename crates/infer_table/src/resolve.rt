@@ -29,7 +29,7 @@ impl TypeFolder for EagerResolver<'_> {
     ghost use Rattle.std.proofs.Common.{ap};
     ghost use Rattle.infer_table.specs.Content.{content};
     ghost use Rattle.infer_table.specs.Kept.{content-kept};
-    ghost use Rattle.infer_table.specs.Resolving.{resolves, resolves-bounds, to_resolve, below-node, below-left, below-right, IsResolver, resolver-later};
+    ghost use Rattle.infer_table.specs.Resolving.{resolves, resolves-bounds, resolves-by-depth, to_resolve, below-node, below-left, below-right, IsResolver, resolver-later};
 
     ghost ready = { λ f es. IsResolver es f.table.now };
 
@@ -42,6 +42,8 @@ impl TypeFolder for EagerResolver<'_> {
     ghost action_kept = { λ f old new k h. ap resolves (content-kept old new f.table.now.values k h.ready.held) };
 
     ghost fuel_kept = { λ f old new k h. ap to_resolve (content-kept old new f.table.now.values k h.ready.held) };
+
+    ghost by_depth = { λ f es bs cs t e. resolves-by-depth (content es f.table.now.values) bs cs t };
 
     ghost enters_bounds = { λ f es ds t h. resolves-bounds (content es f.table.now.values) ds t h };
 

@@ -2,6 +2,7 @@
 use crate::canonical::CanonicalVarKind;
 use crate::certainty::Certainty;
 use crate::terms::RegionConstraint;
+use std::alloc::AllocError;
 use type_terms::kinds::GenericArgKind;
 
 /// An answer to a canonical goal, in canonical form.
@@ -15,4 +16,23 @@ pub struct CanonicalResponse {
     pub certainty: Certainty,
     pub var_values: Vec<GenericArgKind>,
     pub region_constraints: Vec<RegionConstraint>,
+}
+
+impl Clone for CanonicalResponse {
+    ghost use Rattle.infer_table.specs.Responses.{SayTheSame};
+
+    ghost is_clone = { λ r s. SayTheSame s r };
+
+    fn clone(&self) -> Result<CanonicalResponse, AllocError> {
+        let alloc = *self.variables.allocator();
+        let variables = Vec::from_slice(alloc, &self.variables)?;
+        let var_values = Vec::from_slice(alloc, &self.var_values)?;
+        let region_constraints = Vec::from_slice(alloc, &self.region_constraints)?;
+        Ok(CanonicalResponse {
+            variables,
+            certainty: self.certainty,
+            var_values,
+            region_constraints,
+        })
+    }
 }

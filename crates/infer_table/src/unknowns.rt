@@ -61,7 +61,7 @@ pub fn instantiate_canonical(
     // A full table names the error only where some kind of term has reached its limit, or where a number is missing.
     ensures full { result ≡ Err Fault.Full → SomeKindIsFull cx.new.entries cx.new.limit ⊎ SomeHasNoNumber table.old 0 input.now.variables.items }
 {
-    let place = table.snapshot()?;
+    let place = table.snapshot();
     match instantiate_in(alloc, cx, table, input) {
         Ok(instantiated) => Ok(instantiated),
         Err(fault) => {

@@ -1,7 +1,7 @@
 -- Other numbers for the items of a view: known, bounded, possible and proved references stay so.
 use Rattle.std.proofs.Common.{◌≡◌, ℕ, zero, suc, Bool, true, false, List, [], ◌∷◌, ◌++◌, refl, ap, sym, ◌∙◌, ◌&&◌, ◌||◌, ◌==◌, not, if◌then◌else◌, subst, ◌⊎◌, inl, inr, map, Option, Some, None}
 use Rattle.std.specs.List.{list_all, list_any, flat_map}
-use Rattle.model.specs.Label.{Label, of_type, of_const, of_lifetime, dynamic, static, adt, value, ref, principal, auto_trait, param, placeholder, infer, canonical, bound}
+use Rattle.model.specs.Label.{Label, of_type, of_const, of_lifetime, dynamic, static, adt, value, ref, principal, auto_trait, param, placeholder, infer, canonical, bound, of_trait, predicate}
 use Rattle.model.specs.Trees.{Trees, none, tree}
 use Rattle.model.specs.Worlds.{World, Reference, StructDecl, TraitDecl, structs_named, traits_named}
 use Rattle.model.specs.Rules.{Rule, Way, by_impl, rules, strict_supertraits, is_coinductive, sized}
@@ -145,6 +145,7 @@ module _ (ρ : Renumbering) (V U : World) (h : IsRenumbering ρ V U) where
   undeclared-same (adt s) = ap not (struct-same (λ x. true) (λ x. true) (λ x. refl) s)
   undeclared-same (principal n t) = ap not (trait-same (λ x. true) (λ x. true) (λ x. refl) t)
   undeclared-same (auto_trait t) = ap not (trait-same (λ x. true) (λ x. true) (λ x. refl) t)
+  undeclared-same (predicate (of_trait t)) = ap not (trait-same (λ x. true) (λ x. true) (λ x. refl) t)
   undeclared-same l = refl
 
   written-in-same : (r : Reference) → written_in U (Q r) ≡ written_in V r

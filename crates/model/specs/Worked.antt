@@ -1,7 +1,7 @@
 -- Worked cases: small crates, and what the definitions compute of them. Each stands on the contract of a function of src/.
 -- Crates base, and first and second which use base and not each other; structs are numbered from 10 and traits from 20.
 use Rattle.std.specs.Prelude.{◌≡◌, ℕ, true, false, List, [], ◌∷◌, ◌++◌}
-use Rattle.model.specs.Label.{of_type, of_lifetime, bool, str, dynamic, tuple, static, uint, adt, fn_ptr, array, slice, value, ref, principal, auto_trait, placeholder, bound}
+use Rattle.model.specs.Label.{of_type, of_lifetime, bool, char, str, never, dynamic, tuple, static, int, uint, adt, fn_ptr, array, slice, value, ref, raw_pointer, principal, auto_trait, placeholder, bound}
 use Rattle.model.specs.Trees.{Trees, none, tree, leaf, erase, arguments, instantiate}
 use Rattle.model.specs.Worlds.{World, CrateDecl, StructDecl, TraitDecl, ImplDecl, Reference, core, view_of, with_args, sees}
 use Rattle.model.specs.Rules.{by_impl, built_in, row, rules, strict_supertraits, asked}
@@ -9,7 +9,7 @@ use Rattle.model.specs.Rules.{sized, clone, copy, tuple_trait, fn_ptr_trait, fn_
 use Rattle.model.specs.Rules.{sized_leaf, sized_tuple, sized_struct, copy_fn_ptr, copy_tuple, auto_leaf, auto_str, auto_element, auto_tuple, auto_struct}
 use Rattle.model.specs.Rules.{tuple_of_tuple, fn_ptr_of_fn_ptr, fn_ptr_call, object_auto, object_principal}
 use Rattle.model.specs.Rules.{unsize_array, unsize_to_dyn, unsize_dyn, unsize_upcast, unsize_struct}
-use Rattle.model.specs.Proofs.{HasProof}
+use Rattle.model.specs.Proofs.{Every, HasProof}
 use Rattle.model.specs.Walks.{local, struct_leaf, dyn_leaf, entered, other_leaf, open_place, walk, open_walk, keeps_orphan_rule, is_known}
 use Rattle.model.specs.Answers.{is_bounded, is_possible, IsDeterminate, Overlaps, OverlapIsReal, IsFixedClause}
 use Rattle.model.specs.Core.{core_world, box, type_param}
@@ -269,17 +269,37 @@ slice_of_u8 = tree slice u8 none
 abbrev pub u8_and_slice : Trees
 u8_and_slice = tree tuple (tree (uint 0) none slice_of_u8) none
 
--- `struct S<T>(u8, T)`: scalars, pointers and fn pointers are `Sized`; a tuple asks its last item and a struct its last field;
--- `[u8]` has no rule.
+-- `[u8; 3]`.
+abbrev pub three_u8 : Trees
+three_u8 = tree array (tree (uint 0) none (leaf (value 3))) none
+
+-- `*const [u8]`.
+abbrev pub pointer_to_slice : Trees
+pointer_to_slice = tree (raw_pointer false) slice_of_u8 none
+
+-- `u8`, `i8`, `bool`, `char` and `!`.
+abbrev pub scalars : List Trees
+scalars = u8 ∷ leaf (int 0) ∷ leaf bool ∷ leaf char ∷ leaf never ∷ []
+
+-- `dyn A` for an auto trait A, with no principal.
+abbrev pub dyn_of_auto : ℕ → Trees
+dyn_of_auto a = tree dynamic (tree (auto_trait a) none (leaf static)) none
+
+-- `dyn P + A`.
+abbrev pub dyn_with_auto : ℕ → ℕ → Trees
+dyn_with_auto p a = tree dynamic (tree (principal 0 p) none (tree (auto_trait a) none (leaf static))) none
+
+-- `struct S<T>(u8, T); struct E; trait Show`: scalars, fn pointers, references, pointers and arrays are `Sized`; a tuple asks its
+-- last item and a struct its last field, and an empty one asks nothing; `[u8]`, `str`, `dyn Show` and a parameter have no rule.
 abbrev pub SizedRows : Type 0
 SizedRows =
-    let W = beside_core (struct 10 base (u8 ∷ T ∷ []) ∷ []) [] [] in
-    (rules W [] (asked sized u8) ≡ row sized_leaf [])
-    × (rules W [] (asked sized (shared slice_of_u8)) ≡ row sized_leaf [])
-    × (rules W [] (asked sized fn_of_u8) ≡ row sized_leaf [])
+    let W = beside_core (struct 10 base (u8 ∷ T ∷ []) ∷ struct 11 base [] ∷ []) (trait_of 20 base [] ∷ []) [] in
+    Every (λ x. rules W [] (asked sized x) ≡ row sized_leaf []) (scalars ++ fn_of_u8 ∷ shared slice_of_u8 ∷ pointer_to_slice ∷ three_u8 ∷ [])
     × (rules W [] (asked sized u8_and_slice) ≡ row sized_tuple (asked sized slice_of_u8 ∷ []))
+    × (rules W [] (asked sized (leaf tuple)) ≡ row sized_tuple [])
     × (rules W [] (asked sized (applied 10 slice_of_u8)) ≡ row sized_struct (asked sized slice_of_u8 ∷ []))
-    × (rules W [] (asked sized slice_of_u8) ≡ [])
+    × (rules W [] (asked sized (leaf (adt 11))) ≡ row sized_struct [])
+    × Every (λ x. rules W [] (asked sized x) ≡ []) (slice_of_u8 ∷ leaf str ∷ dyn_of 20 ∷ leaf (placeholder of_type 0) ∷ [])
 
 -- `fn(u8) -> bool` is `Copy` and `Clone`; a tuple asks it of its items; `str` has no rule.
 abbrev pub CopyRows : Type 0
@@ -291,20 +311,19 @@ CopyRows =
     × (rules core_world [] (asked copy (leaf str)) ≡ [])
 
 -- `auto trait Safe; struct S<T>(u8, T)`: scalars and fn pointers are Safe; `str` asks `[u8]`; slices, arrays, pointers and
--- references ask their element; tuples ask their items and structs their fields. A `dyn` without Safe has no rule.
+-- references ask their element; tuples ask their items and structs their fields. A `dyn` without Safe, and a parameter, have no rule.
 abbrev pub AutoRows : Type 0
 AutoRows =
     let W = beside_core (struct 10 base (u8 ∷ T ∷ []) ∷ []) (auto_trait_of 20 base ∷ trait_of 21 base [] ∷ []) [] in
-    let three = tree array (tree (uint 0) none (leaf (value 3))) none in
-    (rules W [] (asked 20 u8) ≡ row auto_leaf [])
-    × (rules W [] (asked 20 fn_of_u8) ≡ row auto_leaf [])
+    Every (λ x. rules W [] (asked 20 x) ≡ row auto_leaf []) (scalars ++ fn_of_u8 ∷ [])
     × (rules W [] (asked 20 (leaf str)) ≡ row auto_str (asked 20 slice_of_u8 ∷ []))
     × (rules W [] (asked 20 slice_of_u8) ≡ row auto_element (asked 20 u8 ∷ []))
-    × (rules W [] (asked 20 three) ≡ row auto_element (asked 20 u8 ∷ []))
+    × (rules W [] (asked 20 three_u8) ≡ row auto_element (asked 20 u8 ∷ []))
+    × (rules W [] (asked 20 pointer_to_slice) ≡ row auto_element (asked 20 slice_of_u8 ∷ []))
     × (rules W [] (asked 20 (shared (leaf str))) ≡ row auto_element (asked 20 (leaf str) ∷ []))
     × (rules W [] (asked 20 u8_and_slice) ≡ row auto_tuple (asked 20 u8 ∷ asked 20 slice_of_u8 ∷ []))
     × (rules W [] (asked 20 (applied 10 (leaf bool))) ≡ row auto_struct (asked 20 u8 ∷ asked 20 (leaf bool) ∷ []))
-    × (rules W [] (asked 20 (dyn_of 21)) ≡ [])
+    × Every (λ x. rules W [] (asked 20 x) ≡ []) (dyn_of 21 ∷ leaf (placeholder of_type 0) ∷ [])
 
 -- `(u8, [u8]): Tuple` and `fn(u8) -> bool: FnPtr`, and neither the other way round.
 abbrev pub TupleAndFnPtrRows : Type 0
@@ -353,20 +372,39 @@ TwoWaysUpToLifetimes =
     × HasProof W [] (to 20 bottom (leaf static))
     × ((limit : ℕ) → IsDeterminate limit W [] (to 20 bottom (leaf static)) → ⊥)
 
--- `trait Show; auto trait Safe; struct S<T>(u8, V<T>); struct V<T>(T)`: `u8: Unsize<dyn Show + Safe>` asks for the bounds and
--- `Sized`; `[u8; 3]: Unsize<[u8]>` asks nothing; `S<[u8; 3]>: Unsize<S<[u8]>>` asks it of the last field; `dyn Clone` is not dyn
--- compatible; `dyn Show + Safe` has Safe.
+-- `trait Show; auto trait Safe; struct S<T>(u8, V<T>); struct V<T>(T); struct W<T>(T, V<T>)`: `u8: Unsize<dyn Show + Safe>` asks
+-- for the bounds and `Sized`; `[u8; 3]: Unsize<[u8]>` asks nothing, and the elements have to agree; `S<[u8; 3]>: Unsize<S<[u8]>>`
+-- asks it of the last field, and W, whose first field mentions T too, has no rule; `dyn Clone` is not dyn compatible.
 abbrev pub Unsizing : Type 0
 Unsizing =
-    let W = beside_core (struct 10 base (u8 ∷ applied 11 T ∷ []) ∷ struct 11 base (T ∷ []) ∷ []) (trait_of 20 base [] ∷ auto_trait_of 21 base ∷ []) [] in
-    let both = tree dynamic (tree (principal 0 20) none (tree (auto_trait 21) none (leaf static))) none in
-    let three = tree array (tree (uint 0) none (leaf (value 3))) none in
-    let some = tree slice u8 none in
-    (rules W [] (to unsize u8 both) ≡ row unsize_to_dyn (asked 20 u8 ∷ asked 21 u8 ∷ asked sized u8 ∷ []))
-    × (rules W [] (to unsize three some) ≡ row unsize_array [])
-    × (rules W [] (to unsize (applied 10 three) (applied 10 some)) ≡ row unsize_struct (to unsize (applied 11 three) (applied 11 some) ∷ []))
+    let W =
+    beside_core (struct 10 base (u8 ∷ applied 11 T ∷ []) ∷ struct 11 base (T ∷ []) ∷ struct 12 base (T ∷ applied 11 T ∷ []) ∷ [])
+    (trait_of 20 base [] ∷ auto_trait_of 21 base ∷ [])
+    []
+    in
+    (rules W [] (to unsize u8 (dyn_with_auto 20 21)) ≡ row unsize_to_dyn (asked 20 u8 ∷ asked 21 u8 ∷ asked sized u8 ∷ []))
+    × (rules W [] (to unsize three_u8 slice_of_u8) ≡ row unsize_array [])
+    × (rules W [] (to unsize three_u8 (tree slice (leaf bool) none)) ≡ [])
+    × (rules W [] (to unsize (applied 10 three_u8) (applied 10 slice_of_u8)) ≡ row unsize_struct (to unsize (applied 11 three_u8) (applied 11 slice_of_u8) ∷ []))
+    × (rules W [] (to unsize (applied 12 three_u8) (applied 12 slice_of_u8)) ≡ [])
     × (rules W [] (to unsize u8 (dyn_of clone)) ≡ [])
-    × (rules W [] (asked 21 both) ≡ row object_auto [])
+    × (rules W [] (asked clone (dyn_of clone)) ≡ [])
+
+-- `trait Sup; auto trait Safe; trait Sub: Sup + Safe`: a `dyn` has the auto traits that it lists, and without a principal nothing
+-- else. It unsizes to one with fewer bounds, with no principal too, and takes an auto trait only from its own or from its
+-- principal's supertraits.
+abbrev pub AutosOfDyns : Type 0
+AutosOfDyns =
+    let W = beside_core [] (trait_of 20 base [] ∷ auto_trait_of 21 base ∷ trait_of 22 base (asked 20 T ∷ asked 21 T ∷ []) ∷ []) [] in
+    (rules W [] (asked 21 (dyn_with_auto 20 21)) ≡ row object_auto [])
+    × (rules W [] (asked 21 (dyn_of_auto 21)) ≡ row object_auto [])
+    × (rules W [] (asked 20 (dyn_of_auto 21)) ≡ [])
+    × (rules W [] (to unsize u8 (dyn_of_auto 21)) ≡ row unsize_to_dyn (asked 21 u8 ∷ asked sized u8 ∷ []))
+    × (rules W [] (to unsize (dyn_with_auto 20 21) (dyn_of 20)) ≡ row unsize_dyn [])
+    × (rules W [] (to unsize (dyn_with_auto 20 21) (dyn_of_auto 21)) ≡ row unsize_dyn [])
+    × (rules W [] (to unsize (dyn_of_auto 21) (dyn_of 20)) ≡ [])
+    × (rules W [] (to unsize (dyn_of 20) (dyn_with_auto 20 21)) ≡ [])
+    × (rules W [] (to unsize (dyn_of 22) (dyn_with_auto 20 21)) ≡ row (unsize_upcast 1) [])
 
 -- `fn(u8) -> bool: FnOnce<(u8,)>` asks `bool: Sized`, as for `FnMut` and `Fn`, and the inputs have to agree.
 abbrev pub Calls : Type 0

@@ -16,6 +16,7 @@ use Rattle.infer_table.specs.declared.canonical.CanonicalVarKind.{CanonicalVarKi
 use Rattle.infer_table.specs.declared.response.CanonicalResponse.{CanonicalResponse}
 use Rattle.infer_table.specs.Leaves.{AreLeaves, labels, leaf_label, root_label}
 use Rattle.infer_table.specs.Values.{Value, sort_of_arg, values_of}
+use Rattle.infer_table.specs.Applied.{trees_of}
 use Rattle.infer_table.specs.Raw.{sort_of_kind}
 use Rattle.infer_table.specs.Answers.{have_same_sorts, is_answer_to}
 use Rattle.infer_table.specs.Responses.{answer_trees}
@@ -28,7 +29,7 @@ use Rattle.table_laws.specs.Answers.{picked, IsPicked, ArePicked, Agrees, is_var
 use Rattle.table_laws.specs.Frames.{kind_at}
 use Rattle.table_laws.specs.Instances.{read_with, of_sort}
 use Rattle.table_laws.proofs.Labels.{IsGoodLabel, made-labels}
-use Rattle.table_laws.proofs.Made.{left, right}
+use Rattle.type_terms.proofs.Made.{left, right}
 use Rattle.table_laws.proofs.Nodes.{every-leaf}
 use Rattle.table_laws.proofs.Questions.{sort-of-sort}
 use Rattle.table_laws.proofs.Reading.{EachLabel}
@@ -183,6 +184,14 @@ module _ (ks : List CanonicalVarKind) where
       numbered-append (arg_trees es x) (args_trees es xs)
       (numbered (arg_trees es x) (made-labels (is_variable_of ks) terms (arg_trees es x) made) (made-leaves (is_variable_of ks) terms (arg_trees es x) made))
       (answers-numbered es xs h.1)
+
+  pub values-numbered : (vs : List Value) → Every (λ v. is_fitting ks v ≡ true) vs → AreNumbered ks (trees_of vs)
+  values-numbered [] h = tt
+  values-numbered (v ∷ vs) h =
+      let made = right (is_a v.sort v.trees) _ h.0 in
+      numbered-append v.trees (trees_of vs)
+      (numbered v.trees (made-labels (is_variable_of ks) terms v.trees made) (made-leaves (is_variable_of ks) terms v.trees made))
+      (values-numbered vs h.1)
 
 -- ---- a goal's unknowns
 module _ (counts : Sort → ℕ) where

@@ -2,15 +2,12 @@
 use Rattle.std.proofs.Common.{rules, ◌≡◌, ℕ, zero, suc, ◌+◌, ◌==◌, arith, Bool, true, false, not, ◌&&◌, List, [], ◌∷◌, length, refl, sym, ◌∙◌, ap, subst, Some}
 use Rattle.std.proofs.lemmas.Bool.Decides.{nat_tests}
 use Rattle.std.proofs.lemmas.Bool.{eqb-true}
-use Rattle.std.specs.Bool.{Decides}
 use Rattle.std.specs.Cmp.Lexicographic.{pointwise}
 use Rattle.std.proofs.lemmas.Slice.Eq.{slice_eq-Decides}
-use Rattle.type_terms.proofs.Equal.{through}
-use Rattle.infer_table.specs.declared.certainty.Certainty.TheVariants.{Yes, Maybe}
+use Rattle.infer_table.specs.declared.certainty.Certainty.TheVariants.{Maybe}
 use Rattle.infer_table.specs.declared.certainty.MaybeCause.{MaybeCause}
 use Rattle.infer_table.specs.contracts.canonical.CanonicalVarKindPartialEq.TheImpl.{ghosts as kind}
 use Rattle.infer_table.specs.contracts.certainty.CertaintyPartialEq.TheImpl.{ghosts as certainty}
-use Rattle.infer_table.specs.contracts.certainty.MaybeCausePartialEq.TheImpl.{ghosts as cause}
 use Rattle.model.specs.Label.{Sort, canonical}
 use Rattle.model.specs.Trees.{Trees, none, tree, leaf, is_sort, is_a, is_no_tree}
 use Rattle.type_terms.specs.Terms.{Entry}
@@ -27,16 +24,17 @@ use Rattle.infer_table.specs.Raw.{sort_of_kind, variable_value, variables_from}
 use Rattle.infer_table.specs.Responses.{AnswerTrees, answer_trees}
 use Rattle.evaluation.specs.Lists.{Every}
 use Rattle.evaluation.specs.Responses.{is_variable, are_variables, says_nothing, is_identity_modulo_regions}
-use Rattle.table_laws.specs.Answers.{is_kind_of, is_variable_of, is_fitting, IsWellFormed, has_values}
+use Rattle.evaluation.proofs.SameResponses.{kind-eq, certainty-eq}
+use Rattle.table_laws.specs.Answers.{is_kind_of, is_variable_of, is_fitting, IsWellFormed, has_values, without_values}
 use Rattle.table_laws.specs.Frames.{kind_at}
-use Rattle.table_laws.proofs.Made.{false-true, left, right, both, no-tree, made-ordinary}
+use Rattle.type_terms.proofs.Made.{false-true, left, right, both, no-tree, made-ordinary}
 use Rattle.table_laws.proofs.Beginning.{sort-is}
 use Rattle.table_laws.proofs.Equating.{single-of}
 use Rattle.infer_table.specs.Certainties.{is_certain}
 use Rattle.evaluation_laws.specs.Tables.{frame_tables}
 use Rattle.goal_frames.specs.Searches.{is_ambiguous_answer}
 use Rattle.evaluation_laws.proofs.Filling.{same-values}
-use Rattle.root_goals.specs.Answers.{without_values, holds_nothing}
+use Rattle.root_goals.specs.Answers.{holds_nothing}
 
 is-sort : (j k : Sort) → is_sort j k ≡ true → j ≡ k
 is-sort j k h = search rules
@@ -132,17 +130,6 @@ module _ (es : List Entry) (r : CanonicalResponse) (kinds : List CanonicalVarKin
       (ap (λ a. a.certainty) e, ap (λ a. a.kinds) e, vars.1, both (are_variables es 0 r.var_values.items) _ vars.0 (ap (λ (cs : List RegionConstraint). length cs == 0) gone))
 
 -- ---- comparisons in code
-kind-eq : (a b : CanonicalVarKind) → Decides (kind.eq a b) (a ≡ b)
-kind-eq a b = search rules
-
-cause-eq : (a b : MaybeCause) → Decides (cause.eq a b) (a ≡ b)
-cause-eq a b = search rules
-
-certainty-eq : (a b : Certainty) → Decides (certainty.eq a b) (a ≡ b)
-certainty-eq Yes Yes = (λ e. refl, λ e. refl)
-certainty-eq (Maybe a) (Maybe b) = through _ _ _ (cause-eq a b) (λ p. ap Maybe p) (λ e. cc)
-certainty-eq _ _ = (λ e. cc, λ e. cc)
-
 negated : (b x : Bool) → x ≡ not b → x ≡ false → b ≡ true
 negated true x e f = refl
 negated false x e f = cc

@@ -1,10 +1,8 @@
 -- An instance of a goal's canonical form, by what is assigned to the goal's leaves, is an instance of the goal.
-use Rattle.std.proofs.Common.{◌≡◌, ℕ, zero, suc, Bool, true, false, ◌&&◌, ◌||◌, List, [], ◌∷◌, ◌++◌, map, refl, sym, ◌∙◌, ap, Option, Some, None, if◌then◌else◌, is_some, inl, inr}
+use Rattle.std.proofs.Common.{◌≡◌, ℕ, Bool, true, false, ◌&&◌, List, [], ◌∷◌, ◌++◌, map, refl, sym, ◌∙◌, ap, Option, Some, None, if◌then◌else◌, is_some, inl, inr}
 use Rattle.std.specs.Prelude.{IsSome}
 use Rattle.model.specs.Label.{Label, Sort, of_type, of_const, of_lifetime, infer, param, placeholder, canonical, bound, static}
 use Rattle.model.specs.Trees.{Trees, none, tree, leaf, ◌+++◌, erase_label, is_sort, is_a, placed}
-use Rattle.model.specs.Codes.{same_label}
-use Rattle.model.proofs.Matching.{same-label-sound}
 use Rattle.type_terms.specs.Made.{is_leaf_label}
 use Rattle.infer_table.specs.Canonical.{OpenKinds, GoalTrees, kind_of_leaf, kind_in_clause, StandsIn, HasNoCanonical, is_among, place_of, canonical_label, goal_leaves, leaves, relabeled}
 use Rattle.infer_table.specs.Solutions.{Assignment, Binding, IsSorted, Solves, AllValued, instance, resolved}
@@ -18,22 +16,12 @@ use Rattle.table_laws.specs.Instances.{read_with, of_sort, term_at}
 use Rattle.table_laws.specs.Content.{trait_at, trait_of, Fact, fact_of, fits, fits_kind, given}
 use Rattle.table_laws.specs.Finite.{default_terms, made_of}
 use Rattle.table_laws.proofs.Finite.{AreOf, made-hold}
-use Rattle.table_laws.proofs.Questions.{IsNoCanonical, clean-parts, sort-of-sort}
+use Rattle.table_laws.proofs.Questions.{IsNoCanonical, clean-parts, sort-of-sort, term-place}
 use Rattle.goal_frames.proofs.Readings.{HasLeaves}
 use Rattle.root_goals.specs.Roots.{fact_under, values_under, question_of}
 
 false-true : false ≡ true → ⊥
 false-true e = cc
-
--- ---- the place of a leaf
-term-place : (f : Label → Trees) (l : Label) (ls : List Label) → is_among l ls ≡ true → term_at (map f ls) (place_of l ls) ≡ f l
-term-place f l [] h = absurd (false-true h)
-term-place f l (m ∷ ms) h = by (same_label m l) refl h (term-place f l ms)
-  where
-    by : (b : Bool) → same_label m l ≡ b → (b || is_among l ms) ≡ true → (is_among l ms ≡ true → term_at (map f ms) (place_of l ms) ≡ f l)
-        → term_at (map f (m ∷ ms)) (if b then zero else suc (place_of l ms)) ≡ f l
-    by true e q r = ap f (same-label-sound m l e)
-    by false e q r = r q
 
 -- ---- reading the form
 module _ (s : Assignment) (sorted : IsSorted s) (ls : List Label) where

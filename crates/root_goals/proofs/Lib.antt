@@ -11,5 +11,9 @@ pub mod Answers
 pub mod Putting
 pub mod Later
 pub mod Caches
+pub mod Inputs
+pub mod Results
 pub mod Searched
 pub mod Rooted
+pub mod WithoutCanonical
+pub mod Shortages

@@ -1,5 +1,5 @@
 -- From the context in which a goal is asked to the one that a search leaves.
-use Rattle.std.proofs.Common.{◌≡◌, ℕ, Bool, true, false, ◌&&◌, not, List, ◌∙◌, ap, subst, Option}
+use Rattle.std.proofs.Common.{◌≡◌, Bool, true, false, ◌&&◌, not, List, ◌∙◌, ap, subst, Option}
 use Rattle.type_terms.specs.Terms.{Entry, Keeps}
 use Rattle.search_graph.specs.Meaning as Search
 use Rattle.search_graph.proofs.Graphs.{Keeps-trans}
@@ -23,7 +23,7 @@ use Rattle.root_goals.specs.Contexts.{Asked, entries_of, goal_of, IsReady, Advan
 use Rattle.root_goals.specs.Searching.{solver_meaning, world_of}
 use Rattle.root_goals.proofs.Growing.{same-world, keeps}
 use Rattle.root_goals.specs.Changes.{changed}
-use Rattle.root_goals.specs.Evaluations.{IsFound, IsRight}
+use Rattle.root_goals.specs.Evaluations.{IsRight}
 
 -- an answer that is sure and changes nothing is a definite yes
 unchanged : (b : Bool) → changed b ≡ No → b ≡ false
@@ -53,12 +53,6 @@ module _ {World Handler : Type 0} (handled : World → TypingMode → CanonicalF
     -- and it has grown again
     pub keeps-three : (e : SolverCx Handler) → IsReady ready d → Advances ready d e → Search.Keeps m b e
     keeps-three e then x = Keeps-trans m b d e keeps-two (keeps handled Rule coinductive ready meaning_of kept d e then x)
-
-  pub found-at : (b c : SolverCx Handler) → IsReady ready b → Advances ready b c → (depth : ℕ) (i : InputId) (q : Asked) (x y : Option AnswerTrees) → goal_of c i ≡ q → x ≡ y
-      → IsFound m (world c) depth (goal_of c i) x → IsFound m (world b) depth q y
-  found-at b c now a depth i q x y e h f =
-      subst (λ w. IsFound m w depth q y) (same-world handled Rule coinductive ready meaning_of kept b c now a)
-      (subst (λ z. IsFound m (world c) depth z y) e (subst (IsFound m (world c) depth (goal_of c i)) h f))
 
   pub right-at : (b c : SolverCx Handler) → IsReady ready b → Advances ready b c → (i : InputId) (q : Asked) (x y : Option AnswerTrees) → goal_of c i ≡ q → x ≡ y
       → IsRight m (world c) (goal_of c i) x → IsRight m (world b) q y

@@ -1,6 +1,6 @@
 -- What an answer of a search to a goal's canonical form says of the goal, over a table.
 use Rattle.std.proofs.Common.{◌≡◌, Bool, List, refl, sym, ◌∙◌, ap, subst, Option}
-use Rattle.model.specs.Label.{principal}
+use Rattle.model.specs.Label.{of_trait, predicate}
 use Rattle.model.specs.Trees.{none}
 use Rattle.type_terms.specs.Terms.{Entry, Lawful, trees_at}
 use Rattle.infer_table.specs.Canonical.{CanonicalForm, canonical_form}
@@ -34,7 +34,7 @@ module _ (es : List Entry) (law : Lawful es) (t : Table) (ready : Ready es t) (g
       let l = goal-leaves es law t g ready held in
       form-instance s (solved-sorted s (content es t.values) solves) (goal_in es t g) clean l.0 l.1
       ∙ fact-resolved s (content es t.values) (ready-terms es law t ready).valued solves (goal_trees es g)
-      (ap trait_of (resolved-rigid (content es t.values) (principal 0 g.predicate.trait_ref.def_id.index) (trees_at es g.predicate.trait_ref.args.0) none refl))
+      (ap trait_of (resolved-rigid (content es t.values) (predicate (of_trait g.predicate.trait_ref.def_id.index)) (trees_at es g.predicate.trait_ref.args.0) none refl))
 
   module _ {World : Type 0} (handled : World → TypingMode → CanonicalForm → Handled frame_tables) (Rule : World → Fact → List Fact → Type 0) (coinductive : World → Fact → Bool)
       (instances : InstancesAreGoals handled) (w : World) (mode : TypingMode) where

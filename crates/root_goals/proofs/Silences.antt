@@ -1,99 +1,23 @@
--- What the table with which a frame begins answers: each variable stands for itself.
-use Rattle.std.proofs.Common.{◌≡◌, ℕ, suc, ◌+◌, arith, List, [], ◌∷◌, ◌++◌, map, length, refl, sym, ◌∙◌, ap, if◌then◌else◌, is_some, true, Some, None, Result, Ok, Err, IfOk, subst}
-use Rattle.std.proofs.lemmas.Option.{same_Some}
-use Rattle.model.specs.Label.{Label, canonical}
-use Rattle.model.specs.Trees.{none, leaf, sort_of}
-use Rattle.infer_table.specs.Canonical.{kind_of_leaf, place_of, canonical_label}
-use Rattle.infer_table.specs.declared.canonical.CanonicalVarKind.{CanonicalVarKind}
-use Rattle.infer_table.specs.declared.canonical.CanonicalVarKind.TheVariants.{Ty, PlaceholderTy, Const, PlaceholderConst, Region}
-use Rattle.infer_table.specs.declared.certainty.Certainty.{Certainty}
-use Rattle.infer_table.specs.declared.certainty.Certainty.TheVariants.{Yes, Maybe}
-use Rattle.infer_table.specs.declared.certainty.MaybeCause.TheVariants.{Ambiguity, Overflow}
-use Rattle.infer_table.specs.Values.{Value}
-use Rattle.infer_table.specs.Raw.{sort_of_kind, variable_value, variables_from}
-use Rattle.infer_table.specs.Responses.{AnswerTrees}
-use Rattle.table_laws.specs.Answers.{own_labels, answer_leaves, value_numbered, with_kind, kinds_of, respond}
-use Rattle.table_laws.proofs.Beginning.{labels_from, begin}
-use Rattle.goal_frames.proofs.Beginnings.{AreFresh, append-list, length-more, place-is, value_by, own-labels-all, begin-fresh, begin-leaves}
+-- The silent answer to a goal that is kept: each variable stands for itself.
+use Rattle.std.proofs.Common.{◌≡◌, List, ◌∙◌, ap, Some, None, Result, Ok, Err, IfOk, subst}
 use Rattle.search_graph.specs.declared.path_kind.PathKind.{PathKind}
-use Rattle.search_graph.specs.declared.path_kind.PathKind.TheVariants.{Inductive, Unknown, Coinductive, ForcedAmbiguity}
 use Rattle.infer_table.specs.Canonical.{CanonicalForm}
+use Rattle.infer_table.specs.declared.canonical.CanonicalVarKind.{CanonicalVarKind}
+use Rattle.infer_table.specs.declared.certainty.Certainty.{Certainty}
 use Rattle.infer_table.specs.declared.certainty.TypingMode.{TypingMode}
-use Rattle.infer_table.specs.declared.certainty.TypingMode.TheVariants.{Coherence, PostAnalysis}
 use Rattle.infer_table.specs.declared.input.CanonicalInput.{CanonicalInput}
-use Rattle.table_laws.specs.Answers.{IsWellFormed}
+use Rattle.table_laws.specs.Answers.{IsWellFormed, without_values, respond}
+use Rattle.evaluation_laws.specs.Operations.{begin}
 use Rattle.table_laws.proofs.WellFormed.{answers_well_formed}
 use Rattle.goal_frames.specs.declared.store.InputId.{InputId}
 use Rattle.goal_frames.specs.Stores.{input_at}
-use Rattle.goal_frames.specs.Readings.{kinds_known}
-use Rattle.goal_frames.specs.HandlerPrograms.{silent, cycle_answer}
+use Rattle.goal_frames.specs.HandlerPrograms.{silent, silent_if, cycle_certainty, cycle_answer}
+use Rattle.goal_frames.proofs.Silences.{silent-is}
+use Rattle.goal_frames.proofs.KnownKinds.{all-known}
 use Rattle.root_goals.specs.declared.context.SolverCx.{SolverCx}
 use Rattle.root_goals.specs.Contexts.{entries_of, asked_or_none, goal_of}
-use Rattle.root_goals.specs.Answers.{without_values, cycle_certainty}
 
--- the labels are of these kinds
-abbrev AreOf : List CanonicalVarKind → List Label → Type 0
-AreOf [] [] = Unit {0}
-AreOf (k ∷ ks) (l ∷ ls) = (sort_of l ≡ sort_of_kind k) × (kind_of_leaf l ≡ Some k) × AreOf ks ls
-AreOf _ _ = ⊥
-
-labels-of : (a b c i : ℕ) (ks : List CanonicalVarKind) → AreOf ks (labels_from a b c i ks)
-labels-of a b c i [] = tt
-labels-of a b c i (Ty ∷ ks) = (refl, refl, labels-of (suc a) b c (suc i) ks)
-labels-of a b c i (Const ∷ ks) = (refl, refl, labels-of a (suc b) c (suc i) ks)
-labels-of a b c i (Region ∷ ks) = (refl, refl, labels-of a b (suc c) (suc i) ks)
-labels-of a b c i (PlaceholderTy ∷ ks) = (refl, refl, labels-of a b c (suc i) ks)
-labels-of a b c i (PlaceholderConst ∷ ks) = (refl, refl, labels-of a b c (suc i) ks)
-
-kinds-are : (ks : List CanonicalVarKind) (ls : List Label) → AreOf ks ls → kinds_of ls ≡ ks
-kinds-are [] [] o = refl
-kinds-are [] (l ∷ ls) o = absurd o
-kinds-are (k ∷ ks) [] o = absurd o
-kinds-are (k ∷ ks) (l ∷ ls) o = ap (λ x. with_kind x (kinds_of ls)) o.1 ∙ ap (λ z. k ∷ z) (kinds-are ks ls o.2)
-
-one : (all : List Label) (n : ℕ) (k : CanonicalVarKind) (l : Label) → is_some (kind_of_leaf l) ≡ true → sort_of l ≡ sort_of_kind k → place_of l all ≡ n → value_by all l ≡ variable_value k n
-one all n k l o s p =
-    ap (λ b. record { sort = sort_of l; trees = leaf (if b then canonical_label all l else l) }) o
-    ∙ ap (λ j. record { sort = sort_of l; trees = leaf (canonical (sort_of l) j) }) p
-    ∙ ap (λ z. record { sort = z; trees = leaf (canonical z n) }) s
-
-first-and-rest : (x y : Value) (xs ys : List Value) → x ≡ y → xs ≡ ys → ◌≡◌ {A = List Value} (x ∷ xs) (y ∷ ys)
-first-and-rest x y xs ys e f = ap (λ z. z ∷ xs) e ∙ ap (λ zs. y ∷ zs) f
-
-one-more : (n : ℕ) → suc n ≡ n + 1
-one-more n = omega arith
-
-values-are : (all seen : List Label) (ks : List CanonicalVarKind) (ls : List Label) → all ≡ seen ++ ls → AreFresh seen ls → AreOf ks ls → map (value_by all) ls ≡ variables_from (length seen) ks
-values-are all seen [] [] e f o = refl
-values-are all seen [] (l ∷ ls) e f o = absurd o
-values-are all seen (k ∷ ks) [] e f o = absurd o
-values-are all seen (k ∷ ks) (l ∷ ls) e f o =
-    first-and-rest (value_by all l) (variable_value k (length seen)) (map (value_by all) ls) (variables_from (length seen + 1) ks)
-    (one all (length seen) k l f.0 o.0 (ap (place_of l) e ∙ place-is seen l ls f.1))
-    (values-are all (seen ++ l ∷ []) ks ls (e ∙ sym (append-list seen l ls)) f.2 o.2 ∙ ap (λ n. variables_from n ks) (length-more seen l ∙ one-more (length seen)))
-
-begin-values : (ks : List CanonicalVarKind) → map (value_numbered (begin ks)) (own_labels ks (begin ks).labels) ≡ variables_from 0 ks
-begin-values ks =
-    let ls = labels_from 0 0 0 0 ks in
-    ap (map (value_numbered (begin ks))) (own-labels-all ks) ∙ values-are (answer_leaves (begin ks)) [] ks ls (begin-leaves ks) (begin-fresh ks) (labels-of 0 0 0 0 ks)
-
-begin-kinds : (ks : List CanonicalVarKind) → kinds_of (answer_leaves (begin ks)) ≡ ks
-begin-kinds ks = ap kinds_of (begin-leaves ks) ∙ kinds-are ks (labels_from 0 0 0 0 ks) (labels-of 0 0 0 0 ks)
-
-answer-cong : (ks js : List CanonicalVarKind) (c : Certainty) (vs ws : List Value) → ks ≡ js → vs ≡ ws
-    → ◌≡◌ {A = AnswerTrees} (record { kinds = ks; certainty = c; values = vs; constraints = none }) (record { kinds = js; certainty = c; values = ws; constraints = none })
-answer-cong ks js c vs ws e f = cc
-
-pub silent-is : (ks : List CanonicalVarKind) (c : Certainty) → respond (begin ks) c ≡ without_values ks c
-silent-is ks Yes = answer-cong _ _ Yes _ _ (begin-kinds ks) (begin-values ks)
-silent-is ks (Maybe Ambiguity) = answer-cong _ _ (Maybe Ambiguity) _ _ (begin-kinds ks) (begin-values ks)
-silent-is ks (Maybe Overflow) = refl
-
--- ---- the silent answer to a goal that is kept
-all-known : (ks : List CanonicalVarKind) → kinds_known (map Some ks) ≡ ks
-all-known [] = refl
-all-known (k ∷ ks) = ap (λ xs. k ∷ xs) (all-known ks)
-
+-- ---- the silent answer
 pub silent-to : {Handler : Type 0} (c : SolverCx Handler) (i : InputId) (a : CanonicalInput) → input_at c.store i ≡ Some a → (k : Certainty) → silent (goal_of c i).1 k ≡ Some (without_values a.variables.items k)
 silent-to c i a at k =
     ap (λ o. silent (asked_or_none (entries_of c) o).1 k) at ∙ ap (λ ks. Some (respond (begin ks) k)) (all-known a.variables.items) ∙ ap Some (silent-is a.variables.items k)
@@ -106,18 +30,10 @@ silent-fits ks k = subst IsWellFormed (silent-is ks k) (answers_well_formed (beg
 
 -- what a goal is answered that is asked under itself
 pub cycle-some : (mode : TypingMode) (f : CanonicalForm) (kind : PathKind) (k : Certainty) → cycle_certainty mode kind ≡ Some k → cycle_answer mode f kind ≡ silent f k
-cycle-some mode f Coinductive k e = ap (silent f) (same_Some _ _ e)
-cycle-some mode f Unknown k e = ap (silent f) (same_Some _ _ e)
-cycle-some mode f ForcedAmbiguity k e = ap (silent f) (same_Some _ _ e)
-cycle-some Coherence f Inductive k e = ap (silent f) (same_Some _ _ e)
-cycle-some PostAnalysis f Inductive k e = cc
+cycle-some mode f kind k e = ap (silent_if f) e
 
 pub cycle-none : (mode : TypingMode) (f : CanonicalForm) (kind : PathKind) → cycle_certainty mode kind ≡ None → cycle_answer mode f kind ≡ None
-cycle-none mode f Coinductive e = cc
-cycle-none mode f Unknown e = cc
-cycle-none mode f ForcedAmbiguity e = cc
-cycle-none Coherence f Inductive e = cc
-cycle-none PostAnalysis f Inductive e = refl
+cycle-none mode f kind e = ap (silent_if f) e
 
 -- ---- what holds of a result where it is one
 pub one-ok : {T E : Type 0} (P R : T → Type 0) (r : Result T E) → ((x : T) → P x → R x) → IfOk r P → IfOk r R

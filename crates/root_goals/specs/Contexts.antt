@@ -43,6 +43,13 @@ module _ {Handler : Type 0} where
   answer_of c None = None
   answer_of c (Some i) = answer_at (entries_of c) c.store i
 
+  -- nothing but the interner has grown
+  pub record InternerGrows (old new : SolverCx Handler) : Type 0 where
+    pub handler : new.handler ≡ old.handler
+    pub store : new.store ≡ old.store
+    pub entries : Keeps (entries_of old) (entries_of new)
+    pub lawful : Lawful (entries_of new)
+
   module _ (is_ready : Handler → List Entry → Type 0) where
     -- all handles in it are those of its interner
     pub record IsReady (c : SolverCx Handler) : Type 0 where
@@ -57,6 +64,10 @@ module _ {Handler : Type 0} where
     abbrev pub IsResult : SolverCx Handler → Option ResponseId → Type 0
     IsResult c None = Unit {0}
     IsResult c (Some i) = IsReady c × ((r : CanonicalResponse) × (response_at c.store i ≡ Some r) × IsWellFormed (answer_trees (entries_of c) r))
+
+    -- some result of the context is this answer
+    abbrev pub IsKept : SolverCx Handler → Option AnswerTrees → Type 0
+    IsKept c a = (r : Option ResponseId) × IsResult c r × (answer_of c r ≡ a)
 
     -- the context has grown: handles and numbers stand for what they stood for
     pub record Advances (old new : SolverCx Handler) : Type 0 where

@@ -6,4 +6,4 @@ use Rattle.root_goals.specs.declared.outcome.RootError.TheVariants as Root
 
 abbrev pub error_of_equation : EqError → RootError
 error_of_equation Eq.NoSolution = Root.NoSolution
-error_of_equation (Eq.OutOf fault) = Root.Fault fault
+error_of_equation (Eq.Fault fault) = Root.Fault fault

@@ -1,5 +1,6 @@
 pub mod Contexts
 pub mod Answers
+pub mod Shortages
 pub mod Searching
 pub mod Numbers
 pub mod Lawful
@@ -7,3 +8,5 @@ pub mod Roots
 pub mod Changes
 pub mod Errors
 pub mod Evaluations
+pub mod Results
+pub mod WithoutCanonical

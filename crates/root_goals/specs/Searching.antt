@@ -1,12 +1,16 @@
 -- What the contexts, numbers and frames of the solver mean to a search.
-use Rattle.std.specs.Prelude.{◌≡◌, ℕ, Bool, List, Option, Some, slice_get}
+use Rattle.std.specs.Prelude.{◌≡◌, ◌⊎◌, ℕ, Bool, List, Option, Some, slice_get}
 use Rattle.type_terms.specs.Terms.{Entry}
 use Rattle.search_graph.specs.declared.delegate.Reply.{Reply}
-use Rattle.search_graph.specs.Meaning.{Meaning, AreReplies}
+use Rattle.search_graph.specs.declared.delegate.Reply.TheVariants as Replied
+use Rattle.search_graph.specs.Meaning.{Meaning, AreReplies, IsDueAfter}
 use Rattle.infer_table.specs.Canonical.{CanonicalForm}
 use Rattle.infer_table.specs.declared.certainty.TypingMode.{TypingMode}
 use Rattle.infer_table.specs.Inputs.{form_of}
+use Rattle.infer_table.specs.declared.response.CanonicalResponse.{CanonicalResponse}
 use Rattle.infer_table.specs.Responses.{AnswerTrees}
+use Rattle.evaluation.specs.Evaluating.{replies_trees}
+use Rattle.evaluation.specs.Lists.{Every}
 use Rattle.evaluation.specs.Handler.{Handled}
 use Rattle.table_laws.specs.Content.{Fact}
 use Rattle.evaluation_laws.specs.Tables.{frame_tables}
@@ -17,9 +21,12 @@ use Rattle.goal_frames.specs.declared.store.ResponseId.{ResponseId}
 use Rattle.goal_frames.specs.declared.frame.GoalFrame.{GoalFrame}
 use Rattle.goal_frames.specs.Frames as Frames
 use Rattle.goal_frames.specs.HandlerPrograms.{programs_of}
+use Rattle.goal_frames.specs.Shortages.{FrameRunsOut, replies_at}
 use Rattle.goal_frames.specs.Steps as Steps
 use Rattle.root_goals.specs.declared.context.SolverCx.{SolverCx}
-use Rattle.root_goals.specs.Contexts.{Asked, entries_of, goal_of, answer_of, IsReady, IsInput, IsResult}
+use Rattle.root_goals.specs.Answers.{reply_read}
+use Rattle.root_goals.specs.Contexts.{Asked, entries_of, goal_of, answer_of, IsReady, IsInput, IsResult, IsKept}
+use Rattle.root_goals.specs.Shortages.{TableIsFull}
 
 module _ {World : Type 0} (handled : World → TypingMode → CanonicalForm → Handled frame_tables) (Rule : World → Fact → List Fact → Type 0) (coinductive : World → Fact → Bool) where
   abbrev pub programs : Programs frame_tables
@@ -29,7 +36,7 @@ module _ {World : Type 0} (handled : World → TypingMode → CanonicalForm → 
   abbrev pub bare_handles : Handles World Asked (Option AnswerTrees) (Unit {0}) World Asked (Option AnswerTrees)
   bare_handles = record {
     world = λ w. w;
-    IsFull = λ w. Unit {0};
+    IsFull = λ w. ⊥;
     IsInput = λ w g. Unit {0};
     goal_of = λ w g. g;
     IsResult = λ w a. Unit {0};
@@ -46,6 +53,11 @@ module _ {World : Type 0} (handled : World → TypingMode → CanonicalForm → 
   abbrev pub Anything : Asked → Option AnswerTrees → Type 0
   Anything g a = Unit {0}
 
+  -- a result that is replied is as P says
+  abbrev pub IsReplyOf : (Option AnswerTrees → Type 0) → Reply (Option AnswerTrees) → Type 0
+  IsReplyOf P (Replied.Result a) = P a
+  IsReplyOf P reply = Unit {0}
+
   module _ {Handler : Type 0} (is_ready : Handler → List Entry → Type 0) (meaning_of : Handler → List Entry → World) where
     -- what the context's handler declares
     abbrev pub world_of : SolverCx Handler → World
@@ -56,13 +68,31 @@ module _ {World : Type 0} (handled : World → TypingMode → CanonicalForm → 
       pub ready : IsReady is_ready c
       pub mode : f.goal.mode ≡ g.0
       pub form : form_of (entries_of c) f.goal ≡ g.1
+      -- the goal is kept, and so are the replies to the open candidate's questions
+      pub kept : (i : InputId) × IsInput is_ready c i × (goal_of c i ≡ g)
+      pub replies : Every (IsKept is_ready c) (replies_trees (entries_of c) (replies_at f.place))
       pub due : AreReplies bare Anything (world_of c) g heard
       pub frame : Frames.HasHeard (entries_of c) (handled (world_of c) g.0 g.1) f (replies_of heard)
+
+    -- a frame of the context comes with its next reply, which is kept, to where numbers are used up
+    pub record SomeFrameRunsOut (c : SolverCx Handler) : Type 0 where
+      pub frame : GoalFrame
+      pub goal : Asked
+      pub heard : List (Reply (Option AnswerTrees))
+      pub is : HasHeard c goal heard frame
+      pub reply : Reply (Option CanonicalResponse)
+      pub due : IsDueAfter bare (world_of c) goal heard (reply_read (entries_of c) reply)
+      pub kept : IsReplyOf (IsKept is_ready c) (reply_read (entries_of c) reply)
+      pub runs_out : FrameRunsOut (entries_of c) (handled (world_of c) goal.0 goal.1) frame reply
+
+    -- a table of the context is at its limit: the interner's, the store's, or that of a frame's unknowns and variables
+    abbrev pub IsFull : SolverCx Handler → Type 0
+    IsFull c = TableIsFull c ⊎ SomeFrameRunsOut c
 
     abbrev pub handles : Handles (SolverCx Handler) InputId (Option ResponseId) GoalFrame World Asked (Option AnswerTrees)
     handles = record {
       world = world_of;
-      IsFull = λ c. Unit {0};
+      IsFull = IsFull;
       IsInput = IsInput is_ready;
       goal_of = goal_of;
       IsResult = IsResult is_ready;

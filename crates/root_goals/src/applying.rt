@@ -1,54 +1,29 @@
 //! An answer put into the table of the goal that was asked.
 
-ghost use Rattle.std.specs.Prelude.{◌≡◌, List, Some, None, OnOk, OnErr, Err};
-ghost use Rattle.model.specs.Trees.{is_sort};
+ghost use Rattle.std.specs.Prelude.{◌≡◌, ◌⊎◌, Some, None, OnOk, OnErr, Err};
 ghost use Rattle.type_terms.specs.Terms.{Entry, Keeps};
 ghost use Rattle.type_terms.specs.Kinds.{ArgsHeld};
-ghost use Rattle.infer_table.specs.Canonical.{GoalTrees, goal_leaves};
-ghost use Rattle.infer_table.specs.Content.{Ready, Grows, content, variables_of};
+ghost use Rattle.infer_table.specs.Content.{Ready, Grows, content};
 ghost use Rattle.infer_table.specs.Solutions.{Assignment, Solves};
 ghost use Rattle.infer_table.specs.Unification.{table_trees};
-ghost use Rattle.infer_table.specs.Leaves.{AreLeaves, labels};
-ghost use Rattle.infer_table.specs.Values.{sort_of_arg, values_of};
+ghost use Rattle.infer_table.specs.Leaves.{AreLeaves};
+ghost use Rattle.infer_table.specs.Shortages.{IsOutOfNumbers};
+ghost use Rattle.infer_table.specs.Values.{values_of};
+ghost use Rattle.term_folds.specs.Failures.{SomeKindIsFull};
 ghost use Rattle.infer_table.specs.Responses.{ResponseHeld, answer_trees};
-ghost use Rattle.infer_table.specs.Answers.{have_same_sorts, is_answer_to};
-ghost use Rattle.infer_table.specs.Covers.{AreKnown, IsOfKnown};
-ghost use Rattle.table_laws.specs.Answers.{has_values, put_into, Agrees, IsWellFormed};
-ghost use Rattle.root_goals.specs.Roots.{values_under, GoesOn};
+ghost use Rattle.table_laws.specs.Answers.{has_values, IsWellFormed};
+ghost use Rattle.root_goals.specs.Roots.{left_by_answer, AtAgreeingSolutions, GoesOn};
 ghost use Rattle.root_goals.specs.Changes.{changed};
 
-use evaluation::{HasChanged, is_identity_modulo_regions};
+use evaluation::{HasChanged, have_same_sorts, is_identity_modulo_regions};
 use infer_table::apply::instantiate_and_apply_query_response;
 use infer_table::certainty::EqError;
 use infer_table::infer_ctxt::InferCtxt;
 use infer_table::response::CanonicalResponse;
 use std::alloc::Global;
+use type_terms::Fault;
 use type_terms::interner::Interner;
 use type_terms::kinds::GenericArgKind;
-
-/// Whether both are types, or both constants, or both lifetimes.
-fn is_same_sort(left: GenericArgKind, right: GenericArgKind) -> bool
-    ensures { result ≡ is_sort (sort_of_arg left) (sort_of_arg right) }
-{
-    match left {
-        GenericArgKind::Lifetime(_) => matches!(right, GenericArgKind::Lifetime(_)),
-        GenericArgKind::Ty(_) => matches!(right, GenericArgKind::Ty(_)),
-        GenericArgKind::Const(_) => matches!(right, GenericArgKind::Const(_)),
-    }
-}
-
-/// Whether there are as many values, each of the sort of the one in its place.
-fn have_same_sorts(values: &[GenericArgKind], others: &[GenericArgKind]) -> bool
-    ensures { (es : List Entry) → result ≡ have_same_sorts (values_of es values.now) (values_of es others.now) }
-{
-    let [value, values @ ..] = values else {
-        return others.is_empty();
-    };
-    let [other, others @ ..] = others else {
-        return false;
-    };
-    is_same_sort(*value, *other) && have_same_sorts(values, others)
-}
 
 /// Puts an answer to a goal, whose values these are, into the table.
 ///
@@ -75,14 +50,18 @@ pub(crate) fn apply_answer(
     ensures refused { OnErr result (table.new ≡ table.old) }
 
     // What is left, and whether it is refused, is a function of trees.
-    ensures exact { OnOk result (put_into (table_trees cx.old.entries table.old) (values_of cx.old.entries values.now) (answer_trees cx.old.entries answer.now) ≡ Some (table_trees cx.new.entries table.new)) }
-    ensures refusal { result ≡ Err EqError.NoSolution → put_into (table_trees cx.old.entries table.old) (values_of cx.old.entries values.now) (answer_trees cx.old.entries answer.now) ≡ None }
+    ensures exact { OnOk result (left_by_answer cx.old.entries table.old values.now answer.now ≡ Some (table_trees cx.new.entries table.new)) }
+    ensures refusal { result ≡ Err EqError.NoSolution → left_by_answer cx.old.entries table.old values.now answer.now ≡ None }
 
     // Solutions of the table that is left are solutions of the table before. A solution of that one which agrees with the
     // answer goes on to the one that is left, and is never refused.
     ensures narrows { OnOk result ((s : Assignment) → Solves s (content cx.new.entries table.new.values) → Solves s (content cx.old.entries table.old.values)) }
-    ensures kept { OnOk result ((g : GoalTrees) → labels cx.old.entries values.now ≡ goal_leaves g → AreKnown (variables_of table.old) g.environment → AreKnown (variables_of table.old) g.predicate → IsOfKnown (variables_of table.old) (content cx.old.entries table.old.values) → (s : Assignment) → Solves s (content cx.old.entries table.old.values) → Agrees (answer_trees cx.old.entries answer.now) (values_under s g) → GoesOn s table.old cx.new.entries table.new) }
-    ensures accepted { result ≡ Err EqError.NoSolution → (g : GoalTrees) → labels cx.old.entries values.now ≡ goal_leaves g → AreKnown (variables_of table.old) g.environment → AreKnown (variables_of table.old) g.predicate → IsOfKnown (variables_of table.old) (content cx.old.entries table.old.values) → (s : Assignment) → Solves s (content cx.old.entries table.old.values) → Agrees (answer_trees cx.old.entries answer.now) (values_under s g) → ⊥ }
+    ensures kept { OnOk result (AtAgreeingSolutions cx.old.entries table.old values.now answer.now (λ s. GoesOn s table.old cx.new.entries table.new)) }
+    ensures accepted { result ≡ Err EqError.NoSolution → AtAgreeingSolutions cx.old.entries table.old values.now answer.now (λ s. ⊥) }
+
+    // `Full` comes only where some kind of term has reached the interner's limit, or the table has no numbers for the answer.
+    ensures full { result ≡ Err (EqError.Fault Fault.Full) → SomeKindIsFull cx.new.entries cx.new.limit
+        ⊎ IsOutOfNumbers (table_trees cx.old.entries table.old) (values_of cx.old.entries values.now) (answer_trees cx.old.entries answer.now) }
 {
     cx.lawful();
     if !have_same_sorts(values, &answer.var_values) {

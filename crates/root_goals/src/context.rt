@@ -1,6 +1,6 @@
 //! What a search of goals is lent.
 
-ghost use Rattle.std.specs.Prelude.{◌≡◌, [], IfOk, IfErr};
+ghost use Rattle.std.specs.Prelude.{◌≡◌, [], Err, IfOk, IfErr};
 ghost use Rattle.type_terms.specs.declared.Fault.TheVariants.{Memory};
 ghost use Rattle.infer_table.specs.Goals.{GoalHeld};
 ghost use Rattle.evaluation.specs.Readings.{ResultHeld};
@@ -8,6 +8,7 @@ ghost use Rattle.goal_frames.specs.Fitting.{ResultFits};
 ghost use Rattle.goal_frames.specs.Readings.{result_read};
 ghost use Rattle.goal_frames.specs.Stores.{kept_inputs, kept_responses, limit_of};
 ghost use Rattle.root_goals.specs.Contexts.{asked_of, goal_of, answer_of, IsReady, IsInput, IsResult, Advances};
+ghost use Rattle.root_goals.specs.Shortages.{StoreIsFull};
 
 use goal_frames::GoalHandler;
 use goal_frames::store::{GoalStore, InputId, ResponseId};
@@ -71,6 +72,7 @@ impl<H: GoalHandler> SolverCx<H> {
         ensures advances { Advances H.ready self.old self.new }
         ensures interner { self.new.interner ≡ self.old.interner }
         ensures is { IfOk result (λ id. IsInput H.ready self.new id × (goal_of self.new id ≡ asked_of self.old.interner.entries goal)) }
+        ensures full { result ≡ Err Fault.Full → StoreIsFull self.new.store }
     {
         self.store.keep_input(goal)
     }
@@ -89,6 +91,7 @@ impl<H: GoalHandler> SolverCx<H> {
         ensures advances { Advances H.ready self.old self.new }
         ensures interner { self.new.interner ≡ self.old.interner }
         ensures is { IfOk result (λ r. IsResult H.ready self.new r × (answer_of self.new r ≡ result_read self.old.interner.entries answer)) }
+        ensures full { result ≡ Err Fault.Full → StoreIsFull self.new.store }
     {
         match answer {
             Some(response) => {

@@ -1,6 +1,6 @@
 //! The delegate of a search for the goals of a handler.
 
-ghost use Rattle.std.specs.Prelude.{◌≡◌, ◌↔◌, ◌<◌, IfOk, IfSome, IsSome, IsTrue, Some, true, false};
+ghost use Rattle.std.specs.Prelude.{◌≡◌, ◌↔◌, ◌<◌, Err, IfOk, IfSome, IsSome, IsTrue, Some, true, false};
 ghost use Rattle.infer_table.specs.declared.certainty.Certainty.TheVariants.{Maybe};
 ghost use Rattle.search_graph.specs.Meaning.{Keeps, IsFair, IsDue, IsReply, Steps};
 ghost use Rattle.evaluation_laws.specs.Tables.{frame_tables};
@@ -8,7 +8,7 @@ ghost use Rattle.goal_frames.specs.Searches.{is_ambiguous_answer, is_yes_answer}
 ghost use Rattle.goal_frames.specs.HandlerPrograms.{silent, cycle_answer};
 ghost use Rattle.root_goals.specs.Answers.{certainty_of};
 ghost use Rattle.root_goals.specs.Contexts.{goal_of, answer_of, IsInput, IsResult};
-ghost use Rattle.root_goals.specs.Searching.{solver_meaning, world_of, steps_left};
+ghost use Rattle.root_goals.specs.Searching.{solver_meaning, steps_left, IsFull};
 
 use crate::context::SolverCx;
 use crate::requests::{keep_request, read_reply};
@@ -24,8 +24,8 @@ use type_terms::Fault;
 ///
 /// What it means to a search is what the handler means for goals: the questions of a frame are those of the goal's frame over
 /// trees, a definite yes follows by the handler's rules, and an answer covers its goal. So all that is proved of searches
-/// holds of the answers to a handler's goals. No condition is known on a context where a call answers `Full`: a table of the
-/// interner, the goals or the answers may be full, or a candidate may have more variables than there are numbers.
+/// holds of the answers to a handler's goals. A call answers `Full` only where a table is at its limit (`IsFull`): one of
+/// the interner's, the store of goals and answers, or that of a frame's unknowns and variables, of which there are so many numbers.
 ///
 /// `SearchGraphDelegate` of `rustc_next_trait_solver`.
 pub struct SolverGraph<H> {
@@ -134,8 +134,10 @@ impl<H: GoalHandler> Delegate for SolverGraph<H> {
     ) -> Result<Option<ResponseId>, Fault>
         requires { IsInput H.ready cx.old for_input.now }
         ensures keeps { Keeps (solver_meaning H.handled H.Rule H.coinductive H.ready H.meaning) cx.old cx.new }
+        ensures full { result ≡ Err Fault.Full → IsFull H.handled H.Rule H.coinductive H.ready H.meaning cx.new }
         ensures known { IfOk result (IsResult H.ready cx.new) }
-        ensures fair { IfOk result (λ r. IsFair (solver_meaning H.handled H.Rule H.coinductive H.ready H.meaning) (world_of H.handled H.Rule H.coinductive H.ready H.meaning cx.old) (goal_of cx.old for_input.now) (answer_of cx.new r)) }
+        ensures fair { IfOk result (λ r. let m = solver_meaning H.handled H.Rule H.coinductive H.ready H.meaning in
+            IsFair m (m.world cx.old) (goal_of cx.old for_input.now) (answer_of cx.new r)) }
         ensures no_yes { IfOk result (λ r. is_yes_answer frame_tables (answer_of cx.new r) ≡ false) }
         ensures is { IfOk result (λ r. answer_of cx.new r ≡ silent (goal_of cx.old for_input.now).1 (Maybe ambiguity_info)) }
     {
@@ -150,8 +152,8 @@ impl<H: GoalHandler> Delegate for SolverGraph<H> {
 
     /// Gives the frame the reply, and keeps the goal that it asks or the answer that it gives.
     ///
-    /// `Full` comes where a table of the interner is full or as many goals or answers are kept as the limit allows, `Memory`
-    /// where memory is refused.
+    /// `Full` comes where a table of the interner is full, as many goals or answers are kept as the limit allows, or the frame
+    /// needs more variables than there are numbers; `Memory` where memory is refused.
     fn step(
         frame: &mut GoalFrame,
         cx: &mut SolverCx<H>,
@@ -160,6 +162,7 @@ impl<H: GoalHandler> Delegate for SolverGraph<H> {
         requires due { IsDue (solver_meaning H.handled H.Rule H.coinductive H.ready H.meaning) cx.old frame.old reply }
         requires reply { IsReply (solver_meaning H.handled H.Rule H.coinductive H.ready H.meaning) cx.old reply }
         ensures keeps { Keeps (solver_meaning H.handled H.Rule H.coinductive H.ready H.meaning) cx.old cx.new }
+        ensures full { result ≡ Err Fault.Full → IsFull H.handled H.Rule H.coinductive H.ready H.meaning cx.new }
         ensures steps { IfOk result (λ q. Steps (solver_meaning H.handled H.Rule H.coinductive H.ready H.meaning) cx.old frame.old reply cx.new frame.new q) }
         ensures falls { IfOk result (λ q. steps_left H.handled H.Rule H.coinductive H.ready H.meaning cx.new frame.new < steps_left H.handled H.Rule H.coinductive H.ready H.meaning cx.old frame.old) }
     {
@@ -172,7 +175,8 @@ impl<H: GoalHandler> Delegate for SolverGraph<H> {
     ghost use Rattle.goal_frames.proofs.HandlerPrograms.{handlers-are-programs};
     ghost use Rattle.root_goals.specs.Lawful.{solver-lawful, steps-kept, same-answer};
 
-    ghost lawful = { solver-lawful H.handled H.Rule H.coinductive H.ready H.meaning (handlers-are-programs H.handled H.Rule H.coinductive H.begins H.lawful H.instances H.rules H.kinds H.numbers H.worlds H.outside) };
+    ghost lawful = { solver-lawful H.handled H.Rule H.coinductive H.ready H.meaning
+        (handlers-are-programs H.handled H.Rule H.coinductive H.begins H.lawful H.instances H.rules H.kinds H.numbers H.worlds H.outside) };
 
     ghost steps_kept = { steps-kept H.handled H.Rule H.coinductive H.ready H.meaning };
 

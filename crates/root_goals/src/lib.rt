@@ -14,6 +14,7 @@ mod applying;
 mod asking;
 mod context;
 mod graph;
+mod laws;
 mod outcome;
 mod requests;
 mod root;
@@ -22,5 +23,6 @@ mod silent;
 
 pub use context::SolverCx;
 pub use graph::SolverGraph;
+pub use laws::{canonical_variable_laws, context_laws};
 pub use outcome::{GoalEvaluation, RootError};
 pub use root::evaluate_root_goal;

@@ -1,7 +1,7 @@
 //! What the evaluation of a goal says, and why there may be none.
 
 ghost use Rattle.std.specs.Prelude.{◌≡◌};
-ghost use Rattle.root_goals.specs.declared.outcome.RootError.TheVariants.{Fault as OutOf};
+ghost use Rattle.root_goals.specs.declared.outcome.RootError.TheVariants as error;
 ghost use Rattle.root_goals.specs.Errors.{error_of_equation};
 ghost use Rattle.type_terms.specs.declared.Fault.TheVariants.{Memory};
 
@@ -37,7 +37,7 @@ pub enum RootError {
 }
 
 impl From<Fault> for RootError {
-    ghost from_gives = { λ fault e. e ≡ OutOf fault };
+    ghost from_gives = { λ fault e. e ≡ error.Fault fault };
 
     fn from(fault: Fault) -> RootError {
         RootError::Fault(fault)
@@ -45,7 +45,7 @@ impl From<Fault> for RootError {
 }
 
 impl From<AllocError> for RootError {
-    ghost from_gives = { λ _ e. e ≡ OutOf Memory };
+    ghost from_gives = { λ _ e. e ≡ error.Fault Memory };
 
     fn from(_error: AllocError) -> RootError {
         RootError::Fault(Fault::Memory)
@@ -58,7 +58,7 @@ impl From<EqError> for RootError {
     fn from(error: EqError) -> RootError {
         match error {
             EqError::NoSolution => RootError::NoSolution,
-            EqError::OutOf(fault) => RootError::Fault(fault),
+            EqError::Fault(fault) => RootError::Fault(fault),
         }
     }
 }

@@ -1,6 +1,6 @@
 //! Replies to frames and requests of frames, in a search's numbers and as frames have them.
 
-ghost use Rattle.std.specs.Prelude.{◌≡◌, IfOk, IfErr};
+ghost use Rattle.std.specs.Prelude.{◌≡◌, Err, IfOk, IfErr};
 ghost use Rattle.type_terms.specs.declared.Fault.TheVariants.{Memory};
 ghost use Rattle.search_graph.specs.Meaning as Search;
 ghost use Rattle.goal_frames.specs.Frames.{RequestHeld};
@@ -8,6 +8,7 @@ ghost use Rattle.goal_frames.specs.Frames as Frames;
 ghost use Rattle.root_goals.specs.Answers.{reply_read, request_read};
 ghost use Rattle.root_goals.specs.Contexts.{IsReady, Advances};
 ghost use Rattle.root_goals.specs.Searching.{solver_meaning};
+ghost use Rattle.root_goals.specs.Shortages.{StoreIsFull};
 
 use crate::context::SolverCx;
 use goal_frames::GoalHandler;
@@ -54,6 +55,7 @@ pub(crate) fn keep_request<H: GoalHandler>(
     ensures interner { cx.new.interner ≡ cx.old.interner }
     ensures known { IfOk result (Search.IsRequest (solver_meaning H.handled H.Rule H.coinductive H.ready H.meaning) cx.new) }
     ensures is { IfOk result (λ q. Search.request_of (solver_meaning H.handled H.Rule H.coinductive H.ready H.meaning) cx.new q ≡ request_read cx.old.interner.entries request) }
+    ensures full { result ≡ Err Fault.Full → StoreIsFull cx.new.store }
 {
     match request {
         Request::Evaluate(goal, kind) => {

@@ -1,24 +1,21 @@
 //! Goals of a table, evaluated.
 
-ghost use Rattle.std.specs.Prelude.{◌≡◌, ◌+◌, ℕ, Option, Some, None, OnOk, OnErr, IfOk, Err};
+ghost use Rattle.std.specs.Prelude.{◌≡◌, ◌⊎◌, Option, Some, None, OnOk, OnErr, IfOk, Err};
 ghost use Rattle.type_terms.specs.Terms.{Keeps};
-ghost use Rattle.infer_table.specs.Canonical.{canonical_form};
 ghost use Rattle.infer_table.specs.Content.{Ready, Grows, content};
 ghost use Rattle.infer_table.specs.Solutions.{Assignment, Solves};
 ghost use Rattle.infer_table.specs.Unification.{table_trees};
 ghost use Rattle.infer_table.specs.Goals.{GoalHeld, goal_trees};
-ghost use Rattle.infer_table.specs.Inputs.{IsWithoutCanonical};
 ghost use Rattle.infer_table.specs.Responses.{AnswerTrees};
-ghost use Rattle.evaluation.specs.Proof as Lists;
 ghost use Rattle.table_laws.specs.Answers.{put_into};
-ghost use Rattle.table_laws.specs.Content.{Fact};
-ghost use Rattle.search_graph.specs.Cache.{AreJustified, AreConsistent, HasConflict};
+ghost use Rattle.search_graph.specs.Cache.{AreJustified, AreConsistent, HasConflict, KeepsResults};
 ghost use Rattle.search_graph.specs.Meaning as Search;
-ghost use Rattle.search_graph.specs.Plain.{IsNotPlain};
 ghost use Rattle.root_goals.specs.Contexts.{IsReady};
-ghost use Rattle.root_goals.specs.Searching.{solver_meaning, world_of};
-ghost use Rattle.root_goals.specs.Evaluations.{asked_in, IsFound, Says};
-ghost use Rattle.root_goals.specs.Roots.{goal_in, fact_under, values_in, left_by, IsPosed, GoesOn};
+ghost use Rattle.root_goals.specs.Searching.{solver_meaning, IsFull};
+ghost use Rattle.root_goals.specs.Evaluations.{asked_in, Says};
+ghost use Rattle.root_goals.specs.Results.{FramesAreBounded, KnownIsFree, LimitsAreNoted, IsNotPlainWithin, IsResult};
+ghost use Rattle.root_goals.specs.Roots.{goal_in, values_in, left_by, IsProved, AtProvedSolutions, GoesOn};
+ghost use Rattle.root_goals.specs.Shortages.{RootRunsOut};
 
 use crate::applying::{apply_answer, has_changed};
 use crate::asking::{Asked, ask};
@@ -31,6 +28,7 @@ use goal_frames::{GoalHandler, handlers_are_programs};
 use infer_table::goal::Goal;
 use infer_table::infer_ctxt::InferCtxt;
 use search_graph::{GlobalCache, SearchGraph};
+use type_terms::Fault;
 
 /// Evaluates a goal of a table: asks a search for its canonical form, and puts the answer into the table.
 ///
@@ -62,35 +60,61 @@ pub fn evaluate_root_goal<H: GoalHandler>(
     ensures depth { graph.new.root_depth ≡ graph.old.root_depth }
     ensures cache { AreJustified (solver_meaning H.handled H.Rule H.coinductive H.ready H.meaning) cx.new cache.new }
     ensures consistent { AreConsistent cache.old → AreConsistent cache.new }
+    ensures results { KeepsResults cache.old cache.new }
     ensures ready { IsReady H.ready cx.new }
     ensures keeps { Search.Keeps (solver_meaning H.handled H.Rule H.coinductive H.ready H.meaning) cx.old cx.new }
     ensures entries { Keeps cx.old.interner.entries cx.new.interner.entries }
     ensures table { Ready cx.new.interner.entries table.new }
     ensures grows { Grows table.old table.new }
 
-    // The evaluation is that of the goal as the table resolves it, and says what the answer says that the search gives. The
-    // answer is put into the table.
+    // What the search costs, also after a refusal: a bounded number of frames, and none for a goal whose answer the cache holds. A
+    // limit is met only for a goal that plain recursion does not answer within the depth, and is noted.
+    ensures frames { FramesAreBounded (solver_meaning H.handled H.Rule H.coinductive H.ready H.meaning) cx.old (asked_in mode cx.old.interner.entries table.old goal.now) graph.old graph.new }
+    ensures cached { KnownIsFree (solver_meaning H.handled H.Rule H.coinductive H.ready H.meaning) cx.old cache.old
+        (asked_in mode cx.old.interner.entries table.old goal.now) graph.old graph.new cache.new }
+    ensures limits { LimitsAreNoted (solver_meaning H.handled H.Rule H.coinductive H.ready H.meaning) cx.old (asked_in mode cx.old.interner.entries table.old goal.now) graph.old graph.new }
+
+    // The evaluation is that of the goal as the table resolves it, and says what the answer says that the search gives: one that the
+    // cache held if it held any, and that it holds afterwards. The answer is put into the table.
     ensures held { IfOk result (λ e. GoalHeld cx.new.interner.entries e.goal) }
     ensures resolved { IfOk result (λ e. goal_trees cx.new.interner.entries e.goal ≡ goal_in cx.old.interner.entries table.old goal.now) }
-    ensures answer { IfOk result (λ e. (a : AnswerTrees) × IsFound (solver_meaning H.handled H.Rule H.coinductive H.ready H.meaning) (world_of H.handled H.Rule H.coinductive H.ready H.meaning cx.old) graph.old.root_depth (asked_in mode cx.old.interner.entries table.old goal.now) (Some a) × Says e a × (put_into (table_trees cx.old.interner.entries table.old) (values_in (goal_in cx.old.interner.entries table.old goal.now)) a ≡ Some (table_trees cx.new.interner.entries table.new))) }
+    ensures answer { IfOk result (λ e. (a : AnswerTrees)
+        × IsResult (solver_meaning H.handled H.Rule H.coinductive H.ready H.meaning) cx.old cache.old graph.old cx.new cache.new graph.new
+        (asked_in mode cx.old.interner.entries table.old goal.now) (Some a)
+        × Says e a
+        × (put_into (table_trees cx.old.interner.entries table.old) (values_in (goal_in cx.old.interner.entries table.old goal.now)) a ≡ Some (table_trees cx.new.interner.entries table.new))) }
 
     // A definite yes: each instance of the goal by a solution of the table has a proof.
-    ensures yes { IfOk result (λ e. e.certainty ≡ Certainty.Yes → e.has_changed ≡ HasChanged.No → IsWithoutCanonical (goal_in cx.old.interner.entries table.old goal.now) → (s : Assignment) → Solves s (content cx.old.interner.entries table.old.values) → let w = H.meaning cx.old.handler cx.old.interner.entries in Lists.HasProof Fact (H.Rule w) (H.coinductive w) (fact_under s (goal_trees cx.old.interner.entries goal.now))) }
+    ensures yes { IfOk result (λ e. e.certainty ≡ Certainty.Yes → e.has_changed ≡ HasChanged.No
+        → let w = H.meaning cx.old.handler cx.old.interner.entries in IsProved (H.Rule w) (H.coinductive w) cx.old.interner.entries table.old goal.now) }
 
     // No solution is lost at which the goal has a proof, and none is gained.
-    ensures covers { IfOk result (λ _. IsPosed cx.old.interner.entries table.old goal.now → let h = H.handled (H.meaning cx.old.handler cx.old.interner.entries) mode (canonical_form (goal_in cx.old.interner.entries table.old goal.now)) in (x : h.World) (s : Assignment) → Solves s (content cx.old.interner.entries table.old.values) → h.Proves x (fact_under s (goal_trees cx.old.interner.entries goal.now)) → GoesOn s table.old cx.new.interner.entries table.new) }
+    ensures covers { IfOk result (λ _. AtProvedSolutions (H.handled (H.meaning cx.old.handler cx.old.interner.entries)) mode cx.old.interner.entries table.old goal.now
+        (λ s. GoesOn s table.old cx.new.interner.entries table.new)) }
     ensures narrows { OnOk result ((s : Assignment) → Solves s (content cx.new.interner.entries table.new.values) → Solves s (content cx.old.interner.entries table.old.values)) }
 
     // After a refusal the table is as before.
     ensures refused { OnErr result (table.new ≡ table.old) }
 
     // The answer that the search gives refuses the goal, or is refused by the table; and at no solution the goal has a proof.
-    ensures refusal { result ≡ Err RootError.NoSolution → (a : Option AnswerTrees) × IsFound (solver_meaning H.handled H.Rule H.coinductive H.ready H.meaning) (world_of H.handled H.Rule H.coinductive H.ready H.meaning cx.old) graph.old.root_depth (asked_in mode cx.old.interner.entries table.old goal.now) a × (left_by (table_trees cx.old.interner.entries table.old) (goal_in cx.old.interner.entries table.old goal.now) a ≡ None) }
-    ensures no_solution { result ≡ Err RootError.NoSolution → IsPosed cx.old.interner.entries table.old goal.now → let h = H.handled (H.meaning cx.old.handler cx.old.interner.entries) mode (canonical_form (goal_in cx.old.interner.entries table.old goal.now)) in (x : h.World) (s : Assignment) → Solves s (content cx.old.interner.entries table.old.values) → h.Proves x (fact_under s (goal_trees cx.old.interner.entries goal.now)) → ⊥ }
+    ensures refusal { result ≡ Err RootError.NoSolution → (a : Option AnswerTrees)
+        × IsResult (solver_meaning H.handled H.Rule H.coinductive H.ready H.meaning) cx.old cache.old graph.old cx.new cache.new graph.new
+        (asked_in mode cx.old.interner.entries table.old goal.now) a
+        × (left_by (table_trees cx.old.interner.entries table.old) (goal_in cx.old.interner.entries table.old goal.now) a ≡ None) }
+    ensures no_solution { result ≡ Err RootError.NoSolution
+        → AtProvedSolutions (H.handled (H.meaning cx.old.handler cx.old.interner.entries)) mode cx.old.interner.entries table.old goal.now (λ s. ⊥) }
 
     // A goal that plain recursion answers within the depth meets no conflict.
-    ensures no_conflict { result ≡ Err RootError.Conflict → IsNotPlain (solver_meaning H.handled H.Rule H.coinductive H.ready H.meaning) (world_of H.handled H.Rule H.coinductive H.ready H.meaning cx.old) (graph.old.root_depth + 1) (asked_in mode cx.old.interner.entries table.old goal.now) }
+    ensures no_conflict { result ≡ Err RootError.Conflict
+        → IsNotPlainWithin (solver_meaning H.handled H.Rule H.coinductive H.ready H.meaning) cx.old graph.old (asked_in mode cx.old.interner.entries table.old goal.now) }
     ensures conflict { result ≡ Err RootError.Conflict → HasConflict (solver_meaning H.handled H.Rule H.coinductive H.ready H.meaning) cx.new cache.new }
+
+    // `Full` comes only where a table is at its limit: one of the context, or this one, which has no numbers for the goal's form or for
+    // the answer that the search gives.
+    ensures full { result ≡ Err (RootError.Fault Fault.Full) → IsFull H.handled H.Rule H.coinductive H.ready H.meaning cx.new
+        ⊎ RootRunsOut (λ a. IsResult (solver_meaning H.handled H.Rule H.coinductive H.ready H.meaning) cx.old cache.old graph.old cx.new cache.new graph.new
+        (asked_in mode cx.old.interner.entries table.old goal.now) (Some a))
+        (table_trees cx.old.interner.entries table.old) (goal_in cx.old.interner.entries table.old goal.now) }
 {
     handlers_are_programs::<H>();
     let asked = ask(cx, table, mode, goal)?;

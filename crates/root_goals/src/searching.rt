@@ -1,18 +1,16 @@
 //! The answer of a search to a goal.
 
-ghost use Rattle.std.specs.Prelude.{◌≡◌, ◌+◌, IfOk, Err};
+ghost use Rattle.std.specs.Prelude.{◌≡◌, IfOk, Err};
 ghost use Rattle.evaluation.specs.Readings.{ResultHeld};
 ghost use Rattle.goal_frames.specs.Fitting.{ResultFits};
 ghost use Rattle.goal_frames.specs.Readings.{result_read};
-ghost use Rattle.infer_table.specs.Responses.{AnswerTrees};
-ghost use Rattle.search_graph.specs.Answer.{IsSound};
-ghost use Rattle.search_graph.specs.Cache.{AreJustified, AreConsistent, HasConflict};
+ghost use Rattle.search_graph.specs.Cache.{AreJustified, AreConsistent, HasConflict, KeepsResults};
 ghost use Rattle.search_graph.specs.Meaning.{Keeps, IsFair};
-ghost use Rattle.search_graph.specs.Plain.{IsNotPlain};
 ghost use Rattle.search_graph.specs.Proof.{HasProof};
 ghost use Rattle.root_goals.specs.Contexts.{goal_of, IsReady, IsInput};
-ghost use Rattle.root_goals.specs.Searching.{solver_meaning, world_of};
-ghost use Rattle.root_goals.specs.Evaluations.{IsFound, IsRight};
+ghost use Rattle.root_goals.specs.Searching.{solver_meaning, IsFull};
+ghost use Rattle.root_goals.specs.Evaluations.{IsRight};
+ghost use Rattle.root_goals.specs.Results.{FramesAreBounded, KnownIsFree, LimitsAreNoted, IsNotPlainWithin, IsResult};
 
 use crate::context::SolverCx;
 use crate::graph::SolverGraph;
@@ -39,12 +37,19 @@ pub(crate) fn search<H: GoalHandler>(
     ensures depth { graph.new.root_depth ≡ graph.old.root_depth }
     ensures cache { AreJustified (solver_meaning H.handled H.Rule H.coinductive H.ready H.meaning) cx.new cache.new }
     ensures consistent { AreConsistent cache.new }
+    ensures results { KeepsResults cache.old cache.new }
+    ensures frames { FramesAreBounded (solver_meaning H.handled H.Rule H.coinductive H.ready H.meaning) cx.old (goal_of cx.old input) graph.old graph.new }
+    ensures cached { KnownIsFree (solver_meaning H.handled H.Rule H.coinductive H.ready H.meaning) cx.old cache.old (goal_of cx.old input) graph.old graph.new cache.new }
+    ensures limits { LimitsAreNoted (solver_meaning H.handled H.Rule H.coinductive H.ready H.meaning) cx.old (goal_of cx.old input) graph.old graph.new }
     ensures held { IfOk result (λ r. ResultHeld cx.new.interner.entries r × ResultFits cx.new.interner.entries r) }
-    ensures found { IfOk result (λ r. IsFound (solver_meaning H.handled H.Rule H.coinductive H.ready H.meaning) (world_of H.handled H.Rule H.coinductive H.ready H.meaning cx.old) graph.old.root_depth (goal_of cx.old input) (result_read cx.new.interner.entries r)) }
-    ensures sound { IfOk result (λ r. IsRight (solver_meaning H.handled H.Rule H.coinductive H.ready H.meaning) (world_of H.handled H.Rule H.coinductive H.ready H.meaning cx.old) (goal_of cx.old input) (result_read cx.new.interner.entries r)) }
+    ensures found { IfOk result (λ r. IsResult (solver_meaning H.handled H.Rule H.coinductive H.ready H.meaning) cx.old cache.old graph.old cx.new cache.new graph.new
+        (goal_of cx.old input) (result_read cx.new.interner.entries r)) }
+    ensures sound { IfOk result (λ r. let m = solver_meaning H.handled H.Rule H.coinductive H.ready H.meaning in
+        IsRight m (m.world cx.old) (goal_of cx.old input) (result_read cx.new.interner.entries r)) }
     ensures not_refused { result ≡ Err RootError.NoSolution → ⊥ }
-    ensures no_conflict { result ≡ Err RootError.Conflict → IsNotPlain (solver_meaning H.handled H.Rule H.coinductive H.ready H.meaning) (world_of H.handled H.Rule H.coinductive H.ready H.meaning cx.old) (graph.old.root_depth + 1) (goal_of cx.old input) }
+    ensures no_conflict { result ≡ Err RootError.Conflict → IsNotPlainWithin (solver_meaning H.handled H.Rule H.coinductive H.ready H.meaning) cx.old graph.old (goal_of cx.old input) }
     ensures conflict { result ≡ Err RootError.Conflict → HasConflict (solver_meaning H.handled H.Rule H.coinductive H.ready H.meaning) cx.new cache.new }
+    ensures full { result ≡ Err (RootError.Fault Fault.Full) → IsFull H.handled H.Rule H.coinductive H.ready H.meaning cx.new }
 {
     handlers_are_programs::<H>();
     match graph.evaluate_goal(cache, cx, input, PathKind::Inductive) {

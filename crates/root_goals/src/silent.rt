@@ -1,11 +1,14 @@
 //! Answers that say nothing of their goals' variables.
 
-ghost use Rattle.std.specs.Prelude.{◌≡◌, ◌↔◌, IfOk, IsTrue};
+ghost use Rattle.std.specs.Prelude.{◌≡◌, ◌↔◌, Err, IfOk, IsTrue};
 ghost use Rattle.infer_table.specs.Responses.{ResponseHeld, answer_trees};
 ghost use Rattle.table_laws.specs.Answers.{IsWellFormed};
 ghost use Rattle.goal_frames.specs.HandlerPrograms.{silent};
-ghost use Rattle.root_goals.specs.Answers.{without_values, cycle_certainty, holds_nothing};
+ghost use Rattle.table_laws.specs.Answers.{without_values};
+ghost use Rattle.goal_frames.specs.HandlerPrograms.{cycle_certainty};
+ghost use Rattle.root_goals.specs.Answers.{holds_nothing};
 ghost use Rattle.root_goals.specs.Contexts.{goal_of, answer_of, IsInput, IsResult, Advances};
+ghost use Rattle.root_goals.specs.Shortages.{TableIsFull};
 
 use crate::context::SolverCx;
 use evaluation::{has_no_inference_or_external_constraints, is_identity_modulo_regions};
@@ -47,6 +50,7 @@ pub(crate) fn silent_answer<H: GoalHandler>(
     requires { IsInput H.ready cx.old input }
     ensures advances { Advances H.ready cx.old cx.new }
     ensures is { IfOk result (λ r. IsResult H.ready cx.new r × (answer_of cx.new r ≡ silent (goal_of cx.old input).1 certainty)) }
+    ensures full { result ≡ Err Fault.Full → TableIsFull cx.new }
 {
     let variables = Vec::from_slice(cx.alloc, &cx.store.input(input).variables)?;
     let made = response_no_constraints_raw(cx.alloc, &mut cx.interner, variables, certainty);

@@ -1,7 +1,7 @@
 -- What visits find that look for labels.
 use Rattle.std.proofs.Common.{◌≡◌, ◌≢◌, arith, subst, ℕ, zero, suc, List, [], ◌∷◌, refl, sym, ◌∙◌, ap, Bool, true, false, not, ◌&&◌, ◌||◌, Option, Some, None, is_some}
 use Rattle.std.specs.List.{slice_get}
-use Rattle.model.specs.Label.{Label, of_lifetime, dynamic, principal, auto_trait}
+use Rattle.model.specs.Label.{Label, of_lifetime, dynamic, principal, auto_trait, predicate}
 use Rattle.model.specs.Trees.{Trees, none, tree, sort_of, is_sort, is_no_tree, some_node}
 use Rattle.type_terms.specs.Terms.{Entry, Lawful, Has, trees_at, term, args_lists, bounds_lists}
 use Rattle.type_terms.specs.Made.{Standing, terms, bounds, traits, is_leaf_label, is_made, is_in_range}
@@ -10,7 +10,7 @@ use Rattle.term_folds.specs.declared.visit.Seen.{Seen}
 use Rattle.term_folds.specs.declared.visit.Seen.TheVariants.{Break, Enter, Pass}
 use Rattle.infer_table.specs.declared.canonical.CanonicalVarKind.{CanonicalVarKind}
 use Rattle.table_laws.specs.Frames.{kind_at}
-use Rattle.table_laws.proofs.Made.{false-true, left, right, no-tree, made-ordinary, last-bound, last-trait, never-dynamic, never-dynamic-bound, never-principal}
+use Rattle.type_terms.proofs.Made.{false-true, left, right, no-tree, made-ordinary, last-bound, last-trait, never-dynamic, never-dynamic-bound, never-principal}
 use Rattle.goal_frames.specs.Rules.{is_variable_over}
 use Rattle.rule_books.specs.Finding.{at_root, is_foreign_label, BreaksAt}
 
@@ -92,12 +92,14 @@ module _ (kinds : List CanonicalVarKind) where
       two (foreign c) (foreign o) _ _ (made_over bounds c (left (is_made is_in_range bounds c) _ h)) (made_over terms o (right (is_made is_in_range bounds c) _ h))
   made_over terms (tree (principal n i) c o) h = absurd (false-true h)
   made_over terms (tree (auto_trait i) c o) h = absurd (false-true h)
+  made_over terms (tree (predicate k) c o) h = absurd (false-true h)
   made_over terms (tree l c o) h =
       let x = made-ordinary is_in_range l c o refl h in
       node (is_variable_over kinds l) (not (is_leaf_label l) || is_no_tree c) (foreign c) (foreign o) _ _ x.1 (made_over terms c x.2) (made_over terms o x.3)
   made_over bounds none h = absurd (false-true h)
   made_over bounds (tree (principal n i) c o) h =
       two (foreign c) (foreign o) _ _ (made_over terms c (left (is_made is_in_range terms c) _ h)) (made_over traits o (right (is_made is_in_range terms c) _ h))
+  made_over bounds (tree (predicate k) c o) h = absurd (false-true h)
   made_over bounds (tree (auto_trait i) c o) h =
       let e = left (is_no_tree c) _ h in
       bare (is_no_tree c) (foreign c) (foreign o) _ e (none-found (is_foreign_label kinds) c (no-tree c e)) (made_over traits o (right (is_no_tree c) _ h))
@@ -107,6 +109,7 @@ module _ (kinds : List CanonicalVarKind) where
       last (is_variable_over kinds l) (is_sort (sort_of l) of_lifetime && (is_no_tree c && is_no_tree o)) (foreign c) (foreign o)
       (right (is_in_range l) _ h) (none-found (is_foreign_label kinds) c x.children) (none-found (is_foreign_label kinds) o x.rest)
   made_over traits none h = absurd (false-true h)
+  made_over traits (tree (predicate k) c o) h = absurd (false-true h)
   made_over traits (tree (auto_trait i) c o) h =
       let e = left (is_no_tree c) _ h in
       bare (is_no_tree c) (foreign c) (foreign o) _ e (none-found (is_foreign_label kinds) c (no-tree c e)) (made_over traits o (right (is_no_tree c) _ h))

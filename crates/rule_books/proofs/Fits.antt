@@ -1,5 +1,5 @@
 -- The candidates of a list of rules in code speak of the goal's variables and of their own alone.
-use Rattle.std.proofs.Common.{◌≡◌, ℕ, zero, suc, Bool, List, [], ◌∷◌, map, refl, sym, ◌∙◌, ap, subst, Some}
+use Rattle.std.proofs.Common.{◌≡◌, ℕ, zero, suc, Bool, List, [], ◌∷◌, map, sym, ◌∙◌, ap, subst, Some}
 use Rattle.std.specs.List.{slice_get}
 use Rattle.type_terms.specs.Terms.{Entry}
 use Rattle.infer_table.specs.Canonical.{CanonicalForm}
@@ -17,6 +17,7 @@ use Rattle.goal_frames.specs.RuleFitting.{slots_of, IsOverSlots}
 use Rattle.goal_frames.proofs.RuleFitting.{candidates-fit}
 use Rattle.goal_frames.specs.Fitting.{IsOver}
 use Rattle.goal_frames.specs.Readings.{equation_read, nested_read, spec_read, kinds_known}
+use Rattle.goal_frames.proofs.KnownKinds.{all-known as known-some}
 
 unmap : {A B : Type 0} (P : B → Type 0) (f : A → B) (xs : List A) → Every P (map f xs) → Every (λ x. P (f x)) xs
 unmap P f [] h = tt
@@ -38,10 +39,6 @@ at-place P (y ∷ ys) zero x e h = subst P (same y x (sym e)) h.0
     same : {A : Type 0} (y x : A) → Some y ≡ Some x → y ≡ x
     same y x e = cc
 at-place P (y ∷ ys) (suc i) x e h = at-place P ys i x e h.1
-
-known-some : (ks : List CanonicalVarKind) → kinds_known (map Some ks) ≡ ks
-known-some [] = refl
-known-some (k ∷ ks) = ap (λ z. k ∷ z) (known-some ks)
 
 pub candidate-fits : (book : RuleBook) → AreRules book → (f : CanonicalForm) (ks : List CanonicalVarKind) → f.kinds ≡ map Some ks → (es : List Entry) (kind : Bool) (s : CandidateSpec) (place : ℕ)
     → Some (spec_read es kind s) ≡ slice_get (candidates_of book (asked f)) place → IsOver ks es s

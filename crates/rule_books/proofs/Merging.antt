@@ -1,11 +1,12 @@
 -- The merge of responses in code is that of their trees.
-use Rattle.std.proofs.Common.{◌≡◌, ◌↔◌, ℕ, suc, arith, ◌==◌, Bool, true, false, ◌&&◌, not, if◌then◌else◌, List, [], ◌∷◌, map, length, refl, sym, ◌∙◌, ap, subst, Option, Some, None, find, option_map, Result, Ok, Err, IfOk}
+use Rattle.std.proofs.Common.{◌≡◌, ◌↔◌, ℕ, suc, ◌+◌, arith, ◌==◌, Bool, true, false, ◌&&◌, if◌then◌else◌, List, [], ◌∷◌, map, length, refl, sym, ◌∙◌, ap, subst, Option, Some, None, find, option_map, Result, Ok, Err, IfOk}
 use Rattle.std.specs.Prelude.{IfSome}
 use Rattle.std.specs.List.{list_all}
 use Rattle.std.proofs.lemmas.Bool.Decides.{nat_tests}
 use Rattle.model.specs.Trees.{Trees, is_no_tree}
 use Rattle.type_terms.specs.Terms.{Entry, Lawful}
 use Rattle.type_terms.specs.Kinds.{ArgsHeld}
+use Rattle.type_terms.specs.declared.kinds.GenericArgKind.{GenericArgKind}
 use Rattle.infer_table.specs.Certainties.{all_joined, unsettled, is_certain}
 use Rattle.infer_table.specs.Constraints.{constraints_trees}
 use Rattle.infer_table.specs.Content.{AllConstraintsHeld}
@@ -14,20 +15,21 @@ use Rattle.infer_table.specs.declared.certainty.Certainty.{Certainty}
 use Rattle.infer_table.specs.declared.terms.RegionConstraint.{RegionConstraint}
 use Rattle.infer_table.specs.declared.response.CanonicalResponse.{CanonicalResponse}
 use Rattle.infer_table.specs.contracts.response.CanonicalResponsePartialEq.TheImpl.{ghosts as response}
-use Rattle.infer_table.specs.Values.{Value, values_of}
+use Rattle.infer_table.specs.Values.{Value, value_of, values_of}
 use Rattle.infer_table.specs.Raw.{variables_from}
 use Rattle.infer_table.specs.Responses.{AnswerTrees, ResponseHeld, answer_trees}
+use Rattle.evaluation.specs.declared.merge.MergeCandidateInfo.{MergeCandidateInfo}
 use Rattle.evaluation.specs.Lists.{Every}
-use Rattle.evaluation.specs.Merge.{or_else, common, merge_by, is_always_applicable, flounder}
-use Rattle.evaluation.specs.Responses.{Content, content, is_identity_modulo_regions}
-use Rattle.table_laws.specs.Answers.{IsWellFormed, respond}
-use Rattle.table_laws.proofs.Beginning.{begin}
+use Rattle.evaluation.specs.Merge.{or_else, common, merge_by, flounder}
+use Rattle.evaluation.specs.Responses.{Content, content, are_variables, is_always_applicable}
+use Rattle.table_laws.specs.Answers.{is_variable_itself, is_fitting, IsWellFormed, respond}
+use Rattle.evaluation_laws.specs.Operations.{begin}
 use Rattle.table_laws.proofs.WellFormed.{answers_well_formed}
 use Rattle.evaluation_laws.specs.Tables.{frame_tables}
-use Rattle.evaluation_laws.proofs.Filling.{same-values}
-use Rattle.goal_frames.specs.Handlers.{same_answer}
+use Rattle.evaluation_laws.proofs.Filling.{itself-root}
+use Rattle.goal_frames.specs.Handlers.{same_answer, are_own_variables, applies_always}
 use Rattle.goal_frames.specs.Readings.{result_read}
-use Rattle.rule_books.specs.Answers.{is_bare_yes, merge_of}
+use Rattle.rule_books.specs.Answers.{merge_of}
 use Rattle.rule_books.proofs.Responses.{content_trees, equal-is}
 use Rattle.goal_frames.proofs.Silences.{silent-is}
 
@@ -98,18 +100,19 @@ no-constraint : (es : List Entry) (cs : List RegionConstraint) → (length cs ==
 no-constraint es [] = refl
 no-constraint es (c ∷ cs) = some-length (length cs)
 
-not-twice : (x y w : Bool) → (x && (y && w)) ≡ ((x && not (not y)) && not (not w))
-not-twice true true true = refl
-not-twice true true false = refl
-not-twice true false w = refl
-not-twice false y w = refl
+own-variables : (es : List Entry) (own : List CanonicalVarKind) (i : ℕ) (xs : List GenericArgKind) → Every (λ v. is_fitting own v ≡ true) (values_of es xs) → are_variables es i xs ≡ are_own_variables i (values_of es xs)
+own-variables es own i [] h = refl
+own-variables es own i (x ∷ xs) h =
+    ap (λ b. b && are_variables es (i + 1) xs) (sym (itself-root own i (value_of es x) h.0))
+    ∙ ap (λ b. is_variable_itself i (value_of es x).sort (value_of es x).trees && b) (ap (λ n. are_variables es n xs) (next i) ∙ own-variables es own (suc i) xs h.1)
+  where
+    next : (i : ℕ) → i + 1 ≡ suc i
+    next i = omega arith
 
-bare-is : (es : List Entry) (r : CanonicalResponse) → Trees_fit es r → is_bare_yes es r ≡ is_always_applicable frame_tables (answer_trees es r)
-bare-is es r h =
-    let y = is_identity_modulo_regions 0 (values_of es r.var_values.items) in
-    let w = is_no_tree (constraints_trees es r.region_constraints.items) in
-    ap (λ z. is_certain r.certainty && (y && z)) (no-constraint es r.region_constraints.items) ∙ not-twice (is_certain r.certainty) y w
-    ∙ ap (λ z. (is_certain r.certainty && not z) && not (not w)) (sym (same-values (answer_trees es r) h))
+always-is : (es : List Entry) (r : CanonicalResponse) → Trees_fit es r → is_always_applicable es r ≡ applies_always (answer_trees es r)
+always-is es r h =
+    ap (λ z. is_certain r.certainty && (z && (length r.region_constraints.items == 0))) (own-variables es r.variables.items 0 r.var_values.items h)
+    ∙ ap (λ z. is_certain r.certainty && (are_own_variables 0 (values_of es r.var_values.items) && z)) (no-constraint es r.region_constraints.items)
 
 -- ---- the merge
 every-both : {A : Type 0} (P Q : A → Type 0) (R : A → Type 0) → ((x : A) → P x → Q x → R x) → (xs : List A) → Every P xs → Every Q xs → Every R xs
@@ -120,11 +123,19 @@ every-of : {A : Type 0} (P R : A → Type 0) → ((x : A) → P x → R x) → (
 every-of P R f [] h = tt
 every-of P R f (x ∷ xs) h = (f x h.0, every-of P R f xs h.1)
 
+-- the response alone, of a response and how it came about
+abbrev pub response_of : Option (CanonicalResponse × MergeCandidateInfo) → Option CanonicalResponse
+response_of o = option_map (λ (x : CanonicalResponse × MergeCandidateInfo). x.0) o
+
+pub response-content : (o : Option (CanonicalResponse × MergeCandidateInfo)) → option_map content (response_of o) ≡ option_map (λ (x : CanonicalResponse × MergeCandidateInfo). content x.0) o
+response-content None = refl
+response-content (Some x) = refl
+
 module _ (es : List Entry) (law : Lawful es) (rs : List CanonicalResponse) (held : Every (ResponseHeld es) rs) (fit : Every (Trees_fit es) rs) where
-  merge-trees : option_map (answer_trees es) (merge_by (is_bare_yes es) response.eq rs) ≡ merge_by (is_always_applicable frame_tables) same_answer (map (answer_trees es) rs)
+  merge-trees : option_map (answer_trees es) (merge_by (is_always_applicable es) response.eq rs) ≡ merge_by applies_always same_answer (map (answer_trees es) rs)
   merge-trees =
-      merge-map (is_bare_yes es) (is_always_applicable frame_tables) response.eq same_answer (answer_trees es) rs
-      (every-of (Trees_fit es) (λ (r : CanonicalResponse). is_bare_yes es r ≡ is_always_applicable frame_tables (answer_trees es r)) (λ r h. bare-is es r h) rs fit)
+      merge-map (is_always_applicable es) applies_always response.eq same_answer (answer_trees es) rs
+      (every-of (Trees_fit es) (λ (r : CanonicalResponse). is_always_applicable es r ≡ applies_always (answer_trees es r)) (λ r h. always-is es r h) rs fit)
       (every-of (ResponseHeld es) (λ (r : CanonicalResponse). Every (λ (s : CanonicalResponse). response.eq r s ≡ same_answer (answer_trees es r) (answer_trees es s)) rs)
       (λ r h. every-of (ResponseHeld es) (λ (s : CanonicalResponse). response.eq r s ≡ same_answer (answer_trees es r) (answer_trees es s)) (λ s g. equal-is es law r s h g) rs held) rs held)
 
@@ -133,9 +144,9 @@ module _ (es : List Entry) (law : Lawful es) (rs : List CanonicalResponse) (held
   by-content (Some r) = refl
 
   -- what is merged in code
-  pub merged-trees : (o : Option CanonicalResponse) → option_map content o ≡ option_map content (merge_by (is_bare_yes es) response.eq rs)
-      → result_read es o ≡ merge_by (is_always_applicable frame_tables) same_answer (map (answer_trees es) rs)
-  merged-trees o e = by-content o ∙ ap (option_map (content_trees es)) e ∙ sym (by-content (merge_by (is_bare_yes es) response.eq rs)) ∙ merge-trees
+  pub merged-trees : (o : Option CanonicalResponse) → option_map content o ≡ option_map content (merge_by (is_always_applicable es) response.eq rs)
+      → result_read es o ≡ merge_by applies_always same_answer (map (answer_trees es) rs)
+  merged-trees o e = by-content o ∙ ap (option_map (content_trees es)) e ∙ sym (by-content (merge_by (is_always_applicable es) response.eq rs)) ∙ merge-trees
 
   abbrev ContentHeld : Content → Type 0
   ContentHeld c = ArgsHeld es c.values × AllConstraintsHeld es c.constraints
@@ -144,9 +155,9 @@ module _ (es : List Entry) (law : Lawful es) (rs : List CanonicalResponse) (held
   some-held None h = tt
   some-held (Some r) h = (h.values, h.constraints)
 
-  pub merged-held : (r : CanonicalResponse) → Some (content r) ≡ option_map content (merge_by (is_bare_yes es) response.eq rs) → ResponseHeld es r
+  pub merged-held : (r : CanonicalResponse) → Some (content r) ≡ option_map content (merge_by (is_always_applicable es) response.eq rs) → ResponseHeld es r
   merged-held r e =
-      let h : IfSome (Some (content r)) ContentHeld = subst (λ (z : Option Content). IfSome z ContentHeld) (sym e) (some-held (merge_by (is_bare_yes es) response.eq rs) (merge-some (ResponseHeld es) (is_bare_yes es) response.eq rs held)) in
+      let h : IfSome (Some (content r)) ContentHeld = subst (λ (z : Option Content). IfSome z ContentHeld) (sym e) (some-held (merge_by (is_always_applicable es) response.eq rs) (merge-some (ResponseHeld es) (is_always_applicable es) response.eq rs held)) in
       record { values = h.0; constraints = h.1 }
 
 -- ---- what stands for responses without a merge
@@ -174,8 +185,8 @@ flounder-fits ks (r ∷ rs) = answers_well_formed (begin ks) (unsettled (all_joi
 pub answer-fits : (es : List Entry) (ks : List CanonicalVarKind) (rs : List CanonicalResponse) → Every (Trees_fit es) rs → IfSome (merge_of es ks rs) IsWellFormed
 answer-fits es ks rs fit =
     let xs = map (answer_trees es) rs in
-    else-some IsWellFormed (merge_by (is_always_applicable frame_tables) same_answer xs) (flounder frame_tables (begin ks) xs)
-    (merge-some IsWellFormed (is_always_applicable frame_tables) same_answer xs (every-map IsWellFormed (answer_trees es) rs fit)) (flounder-fits ks xs)
+    else-some IsWellFormed (merge_by applies_always same_answer xs) (flounder frame_tables (begin ks) xs)
+    (merge-some IsWellFormed applies_always same_answer xs (every-map IsWellFormed (answer_trees es) rs fit)) (flounder-fits ks xs)
 
 -- ---- the merge, or what stands for it
 pub taken : {A : Type 0} (m other : Option A) (x : A) → Some x ≡ m → Some x ≡ or_else m other
@@ -199,13 +210,13 @@ floundered es new ks (x ∷ rs) None n v c d w = absurd (none-some x rs (n.0 ref
 floundered es new ks (x ∷ rs) (Some r) n v c d w = floundered-trees es new ks r x rs v c d w
 
 pub floundered-result : (es new : List Entry) → Lawful es → (ks : List CanonicalVarKind) (rs : List CanonicalResponse) → Every (ResponseHeld es) rs → Every (Trees_fit es) rs
-    → (o : Option CanonicalResponse) → option_map content o ≡ option_map content (merge_by (is_bare_yes es) response.eq rs) → o ≡ None → {E : Type 0} (x : Result (Option CanonicalResponse) E)
+    → (o : Option CanonicalResponse) → option_map content o ≡ option_map content (merge_by (is_always_applicable es) response.eq rs) → o ≡ None → {E : Type 0} (x : Result (Option CanonicalResponse) E)
     → IfOk x (λ a. a ≡ None ↔ (rs ≡ [])) → IfOk x (λ a. IfSome a (λ r. r.variables.items ≡ ks))
     → IfOk x (λ a. IfSome a (λ r. r.certainty ≡ unsettled (all_joined (map (λ (y : CanonicalResponse). y.certainty) rs)))) → IfOk x (λ a. IfSome a (λ r. r.region_constraints.items ≡ []))
     → IfOk x (λ a. IfSome a (λ r. values_of new r.var_values.items ≡ variables_from 0 ks))
     → IfOk x (λ a. result_read new a ≡ merge_of es ks rs)
 floundered-result es new law ks rs held fit o e nothing (Ok a) n v c d w =
     let xs = map (answer_trees es) rs in
-    passed-on (merge_by (is_always_applicable frame_tables) same_answer xs) (flounder frame_tables (begin ks) xs) (result_read new a)
+    passed-on (merge_by applies_always same_answer xs) (flounder frame_tables (begin ks) xs) (result_read new a)
     (ap (result_read es) (sym nothing) ∙ merged-trees es law rs held fit o e) (floundered es new ks rs a n v c d w)
 floundered-result es new law ks rs held fit o e nothing (Err y) n v c d w = tt

@@ -12,14 +12,15 @@ use Rattle.infer_table.specs.Responses.{AnswerTrees, answer_trees}
 use Rattle.evaluation.specs.declared.candidate.Considered as InCode
 use Rattle.evaluation.specs.Candidate.{Spec, Considered, consider, answer, IsHistory}
 use Rattle.evaluation.specs.Lists.{Every}
-use Rattle.evaluation.specs.Merge.{if_there, responses, is_always_applicable}
+use Rattle.evaluation.specs.Merge.{if_there, responses}
 use Rattle.evaluation.specs.Table.{workings}
-use Rattle.table_laws.proofs.Beginning.{begin}
+use Rattle.evaluation_laws.specs.Operations.{begin}
 use Rattle.evaluation_laws.specs.Tables.{frame_tables}
 use Rattle.goal_frames.proofs.Listings.{next_at, listed-next}
 use Rattle.goal_frames.specs.Rules.{RuleBook}
-use Rattle.goal_frames.specs.Handlers.{Asked, spec_of, specs_for, same_answer, candidates_of, asked, listing_of, handled_by}
+use Rattle.goal_frames.specs.Handlers.{Asked, spec_of, specs_for, same_answer, applies_always, candidates_of, asked, listing_of, handled_by}
 use Rattle.goal_frames.specs.Readings.{Shown, shown, shown_by, Shows, kinds_known}
+use Rattle.goal_frames.proofs.KnownKinds.{all-known as known-some}
 use Rattle.rule_books.specs.declared.rule.Rule as Rules
 use Rattle.rule_books.specs.Answers.{with_response, responses_of, merge_of}
 use Rattle.rule_books.specs.Books.{rule_read, rules_of, is_rule, sound_rules, RuleHeld}
@@ -91,29 +92,25 @@ pub responses-are : (es : List Entry) (done : List InCode.Considered) (seen : Li
 responses-are es done seen s = responses-shown seen ∙ ap results_in (sym s) ∙ results_read es done
 
 -- ---- what comes next
-known-some : (ks : List CanonicalVarKind) → kinds_known (map Some ks) ≡ ks
-known-some [] = refl
-known-some (k ∷ ks) = ap (λ z. k ∷ z) (known-some ks)
-
 module _ (book : RuleBook) (mode : TypingMode) (f : CanonicalForm) (ks : List CanonicalVarKind) (known : f.kinds ≡ map Some ks) (es : List Entry) (done : List InCode.Considered) (seen : List (Considered (workings frame_tables)))
     (s : Shows (map (shown_by es) done) seen) (history : IsHistory (workings frame_tables) (handled_by book mode f).next seen) where
   abbrev specs : List (Spec (workings frame_tables))
   specs = candidates_of book (asked f)
 
-  comes-next : (handled_by book mode f).next seen ≡ next_at frame_tables (is_always_applicable frame_tables) same_answer (begin (kinds_known f.kinds)) specs (map (answer_trees es) (responses_of done)) (slice_get specs (length done))
+  comes-next : (handled_by book mode f).next seen ≡ next_at frame_tables applies_always same_answer (begin (kinds_known f.kinds)) specs (map (answer_trees es) (responses_of done)) (slice_get specs (length done))
   comes-next =
-      listed-next frame_tables (is_always_applicable frame_tables) same_answer (listing_of book mode f (kinds_known f.kinds) (asked f)) seen history
-      ∙ ap (λ rs. next_at frame_tables (is_always_applicable frame_tables) same_answer (begin (kinds_known f.kinds)) specs rs (slice_get specs (length seen))) (responses-are es done seen s)
-      ∙ ap (λ n. next_at frame_tables (is_always_applicable frame_tables) same_answer (begin (kinds_known f.kinds)) specs (map (answer_trees es) (responses_of done)) (slice_get specs n)) (same-length es done seen s)
+      listed-next frame_tables applies_always same_answer (listing_of book mode f (kinds_known f.kinds) (asked f)) seen history
+      ∙ ap (λ rs. next_at frame_tables applies_always same_answer (begin (kinds_known f.kinds)) specs rs (slice_get specs (length seen))) (responses-are es done seen s)
+      ∙ ap (λ n. next_at frame_tables applies_always same_answer (begin (kinds_known f.kinds)) specs (map (answer_trees es) (responses_of done)) (slice_get specs n)) (same-length es done seen s)
 
   pub considers : (c : Spec (workings frame_tables)) → Some c ≡ slice_get specs (length done) → consider c ≡ (handled_by book mode f).next seen
   considers c e =
-      sym (comes-next ∙ ap (next_at frame_tables (is_always_applicable frame_tables) same_answer (begin (kinds_known f.kinds)) specs (map (answer_trees es) (responses_of done))) (sym e))
+      sym (comes-next ∙ ap (next_at frame_tables applies_always same_answer (begin (kinds_known f.kinds)) specs (map (answer_trees es) (responses_of done))) (sym e))
 
   pub answers : None ≡ slice_get specs (length done) → answer (merge_of es ks (responses_of done)) [] ≡ (handled_by book mode f).next seen
   answers e =
       ap (λ z. answer (merge_of es z (responses_of done)) []) (sym (ap kinds_known known ∙ known-some ks))
-      ∙ sym (comes-next ∙ ap (next_at frame_tables (is_always_applicable frame_tables) same_answer (begin (kinds_known f.kinds)) specs (map (answer_trees es) (responses_of done))) (sym e))
+      ∙ sym (comes-next ∙ ap (next_at frame_tables applies_always same_answer (begin (kinds_known f.kinds)) specs (map (answer_trees es) (responses_of done))) (sym e))
 
 -- ---- rules of a book that is ready
 abbrev IsReady : List Entry → Rules.Rule → Type 0

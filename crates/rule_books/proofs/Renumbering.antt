@@ -1,7 +1,7 @@
 -- The variables behind others, put in for a rule's own.
 use Rattle.std.proofs.Common.{◌≡◌, ℕ, zero, suc, ◌+◌, arith, true, List, [], ◌∷◌, refl, ◌∙◌, ap, Option, Some, None, if◌then◌else◌, Result, Ok, Err, IfOk}
 use Rattle.std.specs.List.{slice_get}
-use Rattle.model.specs.Label.{Label, Sort, canonical, principal}
+use Rattle.model.specs.Label.{Label, Sort, canonical, of_trait, predicate}
 use Rattle.model.specs.Trees.{Trees, none, tree, leaf, ◌+++◌, placed}
 use Rattle.type_terms.specs.Terms.{Entry}
 use Rattle.type_terms.specs.declared.kinds.GenericArgKind.{GenericArgKind}
@@ -13,12 +13,12 @@ use Rattle.infer_table.specs.declared.goal.Goal.{Goal}
 use Rattle.infer_table.specs.Goals.{environment_trees, predicate_trees, goal_trees}
 use Rattle.infer_table.specs.Values.{if_of_sort, value_for, filled, goal_filled, values_of}
 use Rattle.infer_table.specs.Raw.{sort_of_kind, variables_from}
+use Rattle.infer_table.proofs.SolutionLaws.{is_sort-equal as is-sort}
 use Rattle.table_laws.specs.Answers.{is_kind_of}
 use Rattle.table_laws.specs.Frames.{kind_at}
 use Rattle.table_laws.specs.Instances.{put_in}
-use Rattle.table_laws.proofs.Equating.{is-sort}
 use Rattle.table_laws.proofs.Labels.{IsGoodLabel, made-labels}
-use Rattle.table_laws.proofs.Made.{false-true}
+use Rattle.type_terms.proofs.Made.{false-true}
 use Rattle.table_laws.proofs.Reading.{EachLabel}
 use Rattle.type_terms.specs.Made.{terms}
 use Rattle.goal_frames.specs.Rules.{Bound, goal_of, is_variable_over}
@@ -54,7 +54,7 @@ filled-behind kinds n (tree l c o) e = same-node l _ _ _ _ _ _ (label-behind kin
 
 pub goal_behind : (kinds : List CanonicalVarKind) (n : ℕ) (b : Bound) → is_over kinds b ≡ true → goal_filled (variables_from n kinds) (goal_of b) ≡ goal_of (behind n b)
 goal_behind kinds n b h =
-    ap (λ z. record { environment = none; predicate = tree (principal 0 b.trait) z none }) (filled-behind kinds n b.arguments (made-labels (is_variable_over kinds) terms b.arguments h))
+    ap (λ z. record { environment = none; predicate = tree (predicate (of_trait b.trait)) z none }) (filled-behind kinds n b.arguments (made-labels (is_variable_over kinds) terms b.arguments h))
 
 -- a bound over a rule's variables, with these values put in as a goal without where-clauses
 pub filled_over : (es : List Entry) (b : TraitPredicate) (values : List GenericArgKind) (clauses : List Clause) → clauses ≡ [] → (new : List Entry) {E : Type 0} (r : Result Goal E)
@@ -67,7 +67,7 @@ filled_over es b values clauses e new (Err x) f = tt
 
 -- the bound that a predicate is
 abbrev bound_in : Trees → Bound
-bound_in (tree (principal n i) c o) = record { trait = i; arguments = c }
+bound_in (tree (predicate (of_trait i)) c o) = record { trait = i; arguments = c }
 bound_in t = record { trait = 0; arguments = none }
 
 pub same_bound : (es : List Entry) (g : Goal) (b : Bound) → goal_trees es g ≡ goal_of b → bound_read es g.predicate ≡ b

@@ -57,10 +57,14 @@ abbrev pub all_stand : ℕ → List CanonicalVarKind → Trees → Bool
 all_stand i [] t = true
 all_stand i (k ∷ ks) t = some_node (is_variable_label (sort_of_kind k) i) t && all_stand (suc i) ks t
 
--- its terms speak of its variables alone, and each of these stands in its head, as Rust demands of impls:
+-- its head speaks of its variables alone, and of each of them, as Rust demands of impls:
 -- in `impl<T, U: Show> Show for Vec<T>` it is not known what `U` is
+abbrev pub is_head_over : Rule → Bool
+is_head_over r = is_over r.kinds r.head && all_stand 0 r.kinds r.head.arguments
+
+-- and so do its premises, of its variables alone
 abbrev pub are_terms_over : Rule → Bool
-are_terms_over r = (is_over r.kinds r.head && all_stand 0 r.kinds r.head.arguments) && list_all (is_over r.kinds) r.premises
+are_terms_over r = is_head_over r && list_all (is_over r.kinds) r.premises
 
 -- and the variables are types and consts
 abbrev pub is_rule : Rule → Bool

@@ -1,9 +1,7 @@
 -- The goals of a list of rules in code are lawful programs.
-use Rattle.std.proofs.Common.{◌≡◌, ℕ, zero, suc, ◌+◌, arith, Bool, true, false, ◌&&◌, ◌||◌, List, [], ◌∷◌, ◌⊎◌, inl, inr, refl, sym, ◌∙◌, ap, if◌then◌else◌, Some}
+use Rattle.std.proofs.Common.{◌≡◌, ℕ, zero, suc, ◌+◌, arith, Bool, true, false, ◌&&◌, List, [], ◌∷◌, refl, sym, ◌∙◌, ap, if◌then◌else◌, Some}
 use Rattle.std.specs.List.{list_all}
-use Rattle.std.proofs.lemmas.Bool.{eqb-true}
-use Rattle.model.specs.Label.{Label, Sort, canonical}
-use Rattle.model.specs.Trees.{Trees, none, tree, is_sort, some_node}
+use Rattle.model.specs.Trees.{Trees, some_node}
 use Rattle.infer_table.specs.Canonical.{CanonicalForm}
 use Rattle.infer_table.specs.declared.canonical.CanonicalVarKind.{CanonicalVarKind}
 use Rattle.infer_table.specs.declared.canonical.CanonicalVarKind.TheVariants.{Ty, PlaceholderTy, Const, PlaceholderConst, Region}
@@ -13,13 +11,13 @@ use Rattle.evaluation.specs.Handler.{Handled, IsHandler}
 use Rattle.evaluation.specs.Lists.{Every}
 use Rattle.evaluation.proofs.ListLaws.{Every-mono}
 use Rattle.table_laws.specs.Frames.{kind_at}
-use Rattle.table_laws.proofs.Equating.{is-sort}
-use Rattle.table_laws.proofs.Made.{false-true, left, right}
+use Rattle.type_terms.proofs.Made.{false-true, left, right}
 use Rattle.evaluation_laws.specs.Tables.{frame_tables}
-use Rattle.goal_frames.specs.Rules.{Bound, Rule, RuleBook, IsUnknown, IsOver, StandsIn, IsDeterminedBy, IsRule}
+use Rattle.goal_frames.specs.Rules.{Bound, Rule, RuleBook, IsUnknown, IsOver, IsDeterminedBy, IsRule}
 use Rattle.goal_frames.specs.Handlers.{is_variable_label, handled_by}
 use Rattle.goal_frames.specs.RulePrograms.{DeclaredRules}
 use Rattle.goal_frames.proofs.RulePrograms.{rules-are-programs}
+use Rattle.goal_frames.proofs.Closed.{some-stands}
 use Rattle.goal_frames.proofs.Slots.{kind-of}
 use Rattle.goal_frames.specs.HandlerPrograms.{KeepNumbers, KeepWorlds}
 use Rattle.rule_books.specs.Books.{is_unknown, is_over, all_stand, are_terms_over, is_rule, sound_rules, sound_book}
@@ -36,28 +34,6 @@ kinds-are (Region ∷ ks) h = absurd (false-true h)
 over-each : (kinds : List CanonicalVarKind) (bs : List Bound) → list_all (is_over kinds) bs ≡ true → Every (IsOver kinds) bs
 over-each kinds [] h = tt
 over-each kinds (b ∷ bs) h = (left (is_over kinds b) (list_all (is_over kinds) bs) h, over-each kinds bs (right (is_over kinds b) (list_all (is_over kinds) bs) h))
-
-or-cases : (a b : Bool) → (a || b) ≡ true → (a ≡ true) ⊎ (b ≡ true)
-or-cases true b h = inl refl
-or-cases false b h = inr h
-
-variable-label : (k : Sort) (i : ℕ) (l : Label) → is_variable_label k i l ≡ true → l ≡ canonical k i
-variable-label k i (canonical s j) h = ap (λ z. canonical z j) (is-sort s k (left (is_sort s k) _ h)) ∙ ap (canonical k) (eqb-true j i (right (is_sort s k) _ h))
-variable-label k i l h = absurd (false-true h)
-
-some-stands : (k : Sort) (i : ℕ) (t : Trees) → some_node (is_variable_label k i) t ≡ true → StandsIn (canonical k i) t
-some-stands k i none h = absurd (false-true h)
-some-stands k i (tree l c o) h =
-    by (or-cases (is_variable_label k i l || some_node (is_variable_label k i) c) (some_node (is_variable_label k i) o) h) (λ e. some-stands k i c e) (λ e. some-stands k i o e)
-  where
-    here : (is_variable_label k i l ≡ true) ⊎ (some_node (is_variable_label k i) c ≡ true) → (some_node (is_variable_label k i) c ≡ true → StandsIn (canonical k i) c) → StandsIn (canonical k i) (tree l c o)
-    here (inl e) f = inl (variable-label k i l e)
-    here (inr e) f = inr (inl (f e))
-
-    by : ((is_variable_label k i l || some_node (is_variable_label k i) c) ≡ true) ⊎ (some_node (is_variable_label k i) o ≡ true) → (some_node (is_variable_label k i) c ≡ true → StandsIn (canonical k i) c)
-        → (some_node (is_variable_label k i) o ≡ true → StandsIn (canonical k i) o) → StandsIn (canonical k i) (tree l c o)
-    by (inl e) f g = here (or-cases (is_variable_label k i l) (some_node (is_variable_label k i) c) e) f
-    by (inr e) f g = inr (inr (g e))
 
 -- the variable of each kind stands in trees in which all stand
 stands-at : (n i : ℕ) (ks : List CanonicalVarKind) (t : Trees) (j : CanonicalVarKind) → all_stand n ks t ≡ true → kind_at ks i ≡ Some j → some_node (is_variable_label (sort_of_kind j) (n + i)) t ≡ true

@@ -1,7 +1,6 @@
 pub mod Answers
+pub mod Behind
 pub mod Books
 pub mod Finding
 pub mod Kept
 pub mod Lawful
-pub mod Refusing
-pub mod RefusingLaws

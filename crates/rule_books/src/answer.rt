@@ -1,6 +1,8 @@
 //! The answer to a goal whose candidates were all considered.
-ghost use Rattle.std.specs.Prelude.{◌≡◌, [], Bool, IfOk, map};
+ghost use Rattle.std.specs.Prelude.{◌≡◌, ◌⊎◌, ◌<◌, length, [], Bool, Err, IfOk, map};
 ghost use Rattle.type_terms.specs.Terms.{Keeps};
+ghost use Rattle.type_terms.specs.declared.TheConstants.{MAX_INDEX};
+ghost use Rattle.term_folds.specs.Failures.{SomeKindIsFull};
 ghost use Rattle.infer_table.specs.Responses.{ResponseHeld, answer_trees};
 ghost use Rattle.evaluation.specs.Candidate.{answer};
 ghost use Rattle.evaluation.specs.Lists.{Every};
@@ -11,8 +13,7 @@ ghost use Rattle.goal_frames.specs.Readings.{next_read, result_read};
 ghost use Rattle.table_laws.specs.Answers.{IsWellFormed};
 ghost use Rattle.rule_books.specs.Answers.{responses_of, merge_of};
 
-use crate::merge::{copy_response, merge};
-use evaluation::{Considered, HandlerStep, flounder};
+use evaluation::{Considered, HandlerStep, copy_response, flounder, try_merge_candidates};
 use infer_table::canonical::CanonicalVarKind;
 use infer_table::response::CanonicalResponse;
 use std::alloc::{AllocError, Global};
@@ -45,9 +46,11 @@ fn merged(
     ensures limit { cx.new.limit ≡ cx.old.limit }
     ensures held { IfOk result (ResultHeld cx.new.entries) }
     ensures is { IfOk result (λ r. result_read cx.new.entries r ≡ merge_of cx.old.entries variables.now responses.now) }
+    ensures full { result ≡ Err Fault.Full → SomeKindIsFull cx.new.entries cx.new.limit ⊎ (MAX_INDEX < length variables.now) }
 {
     cx.lawful();
-    if let Some(response) = merge(alloc, cx, responses)? {
+    let merged = try_merge_candidates(alloc, cx, responses)?;
+    if let Some((response, _info)) = merged {
         return Ok(Some(response));
     }
     flounder(alloc, cx, variables, responses)
@@ -68,6 +71,7 @@ pub(crate) fn answer(
     ensures held { IfOk result (StepHeld cx.new.entries) }
     ensures fits { IfOk result (StepFits variables.now cx.new.entries) }
     ensures is { IfOk result (λ s. (coinductive : Bool) → next_read cx.new.entries coinductive s ≡ answer (merge_of cx.old.entries variables.now (responses_of done.now)) []) }
+    ensures full { result ≡ Err Fault.Full → SomeKindIsFull cx.new.entries cx.new.limit ⊎ (MAX_INDEX < length variables.now) }
 {
     let responses = responses(alloc, done)?;
     match merged(alloc, cx, variables, &responses)? {

@@ -8,7 +8,7 @@ ghost use Rattle.infer_table.specs.Inputs.{form_of};
 ghost use Rattle.goal_frames.specs.Rules.{is_variable_over};
 ghost use Rattle.goal_frames.specs.Handlers.{asked, places_stand};
 ghost use Rattle.evaluation.specs.Lists.{Every};
-ghost use Rattle.rule_books.specs.Books.{BoundsHeld, RuleHeld, bound_read, rule_read, all_stand, is_unknown, is_placeholder, is_over, are_terms_over, is_rule, asked_of};
+ghost use Rattle.rule_books.specs.Books.{BoundsHeld, RuleHeld, bound_read, rule_read, all_stand, is_unknown, is_placeholder, is_over, is_head_over, are_terms_over, is_rule, asked_of};
 
 use crate::rule::{Rule, RuleBook};
 use crate::variables::{are_over, stands};
@@ -94,7 +94,7 @@ impl Rule {
     /// Whether the head speaks of the rule's variables alone, and of each of them.
     fn head_is_over(&self, cx: &Interner) -> bool
         requires { PredicateHeld cx.now.entries self.now.head }
-        ensures { result ≡ (is_over self.now.variables.items (bound_read cx.now.entries self.now.head) && all_stand 0 self.now.variables.items (trees_at cx.now.entries self.now.head.trait_ref.args.0)) }
+        ensures { result ≡ is_head_over (rule_read cx.now.entries self.now) }
     {
         let args = self.head.trait_ref.args;
         are_over(cx, &self.variables, args) && all_stand(cx, &self.variables, args)

@@ -1,13 +1,12 @@
 //! A list of rules as a handler of goals.
-ghost use Rattle.std.specs.Prelude.{◌≡◌, ◌==◌, IfOk, IfSome, option_map};
-ghost use Rattle.std.specs.List.{slice_get, list_any};
+ghost use Rattle.std.specs.Prelude.{◌≡◌, ◌⊎◌, ◌==◌, Err, IfOk, IfSome};
+ghost use Rattle.std.specs.List.{list_any};
 ghost use Rattle.type_terms.specs.Terms.{Keeps};
+ghost use Rattle.term_folds.specs.Failures.{SomeKindIsFull};
 ghost use Rattle.infer_table.specs.Goals.{PredicateHeld};
-ghost use Rattle.infer_table.specs.Inputs.{form_of};
 ghost use Rattle.evaluation.specs.Readings.{SpecHeld};
-ghost use Rattle.goal_frames.specs.Readings.{spec_read};
-ghost use Rattle.goal_frames.specs.Handlers.{candidates_of, asked};
 ghost use Rattle.goal_frames.specs.Rules.{RuleBook as Book, FollowsByRule, is_coinductive};
+ghost use Rattle.rule_books.specs.Behind.{HasTooManyVariablesAt, IsCandidateAt};
 ghost use Rattle.rule_books.specs.Books.{book_read, sound_book, BookReady};
 ghost use Rattle.rule_books.specs.Kept.{ready-kept, meaning-kept};
 ghost use Rattle.rule_books.specs.Lawful.{handled_in_code, lawful-in-code, numbers-are-kept, worlds-are-kept};
@@ -46,7 +45,8 @@ impl RuleBook {
         ensures keeps { Keeps cx.old.entries cx.new.entries }
         ensures limit { cx.new.limit ≡ cx.old.limit }
         ensures held { IfOk result (λ o. IfSome o (SpecHeld cx.new.entries)) }
-        ensures is { IfOk result (λ o. let book = sound_book (book_read cx.old.entries self.now) in option_map (spec_read cx.new.entries (book.coinductive goal.now.goal.predicate.trait_ref.def_id.index)) o ≡ slice_get (candidates_of book (asked (form_of cx.old.entries goal.now))) place) }
+        ensures is { IfOk result (IsCandidateAt cx.old.entries self.now goal.now place cx.new.entries) }
+        ensures full { result ≡ Err Fault.Full → SomeKindIsFull cx.new.entries cx.new.limit ⊎ HasTooManyVariablesAt cx.old.entries self.now goal.now place }
     {
         if !is_asked(cx, goal) {
             if place == 0 {

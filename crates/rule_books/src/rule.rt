@@ -1,16 +1,17 @@
 //! Rules, and the candidates that they are.
-ghost use Rattle.std.specs.Prelude.{◌≡◌, ℕ, Bool, List, map, IfOk, option_map, true};
+ghost use Rattle.std.specs.Prelude.{◌≡◌, ◌⊎◌, ◌+◌, ◌<◌, length, Bool, List, Err, IfOk, option_map, true};
 ghost use Rattle.std.specs.List.{slice_get};
 ghost use Rattle.type_terms.specs.Terms.{Entry, Keeps};
 ghost use Rattle.type_terms.specs.Kinds.{ArgHeld, ArgsHeld};
-ghost use Rattle.infer_table.specs.Goals.{GoalHeld, PredicateHeld, goal_trees};
+ghost use Rattle.term_folds.specs.Failures.{SomeKindIsFull};
+ghost use Rattle.infer_table.specs.Goals.{GoalHeld, PredicateHeld};
 ghost use Rattle.infer_table.specs.Values.{value_of, values_of};
-ghost use Rattle.infer_table.specs.Raw.{variable_value, variables_from};
+ghost use Rattle.infer_table.specs.Raw.{variables_from};
 ghost use Rattle.evaluation.specs.Lists.{Every};
 ghost use Rattle.evaluation.specs.Readings.{SpecHeld, EquationHeld};
-ghost use Rattle.goal_frames.specs.Readings.{spec_read, nested_read};
-ghost use Rattle.goal_frames.specs.Rules.{goal_of};
-ghost use Rattle.goal_frames.specs.Handlers.{as_one, behind, nested_of_bound, spec_of, unsure};
+ghost use Rattle.goal_frames.specs.Readings.{spec_read};
+ghost use Rattle.goal_frames.specs.Handlers.{as_one, spec_of, unsure};
+ghost use Rattle.rule_books.specs.Behind.{IsGoalBehind, IsHeadBehind, ArePremisesBehind};
 ghost use Rattle.rule_books.specs.Books.{bound_read, rule_read, is_over, is_rule, BoundsHeld, RuleHeld, asked_of, NestedHeld, rules_of};
 
 use evaluation::{BuiltinImplSource, CandidateSource, CandidateSpec, GoalSource};
@@ -19,13 +20,13 @@ use infer_table::certainty::{Certainty, MaybeCause};
 use infer_table::goal::Goal;
 use infer_table::input::CanonicalInput;
 use infer_table::instantiate::instantiate_with_values;
+use infer_table::raw::canonical_variable;
 use infer_table::terms::Equation;
 use std::alloc::Global;
 use term_folds::predicate::TraitPredicate;
 use type_terms::interner::Interner;
-use type_terms::kinds::{ConstKind, GenericArgKind, TyKind};
-use type_terms::number::{BoundVar, BoundVarIndexKind};
-use type_terms::region::{Region, RegionKind};
+use type_terms::kinds::{GenericArgKind, TyKind};
+use type_terms::number::BoundVar;
 use type_terms::{AdtId, Fault, MAX_INDEX, TraitId};
 
 /// A rule: its head holds if its premises do, whatever its variables stand for.
@@ -46,33 +47,6 @@ pub struct RuleBook {
     pub coinductive: Vec<TraitId>,
 }
 
-/// The canonical variable of this number, of the sort of its kind.
-fn canonical_variable(
-    cx: &mut Interner,
-    kind: CanonicalVarKind,
-    variable: BoundVar,
-) -> Result<GenericArgKind, Fault>
-    ensures is { IfOk result (λ a. value_of cx.new.entries a ≡ variable_value kind variable.index) }
-    ensures held { IfOk result (λ a. ArgHeld cx.new.entries a) }
-    ensures keeps { Keeps cx.old.entries cx.new.entries }
-    ensures limit { cx.new.limit ≡ cx.old.limit }
-{
-    let index = BoundVarIndexKind::Canonical;
-    match kind {
-        CanonicalVarKind::Ty | CanonicalVarKind::PlaceholderTy => {
-            let ty = cx.mk_ty(TyKind::Bound(index, variable))?;
-            Ok(GenericArgKind::Ty(ty))
-        }
-        CanonicalVarKind::Const | CanonicalVarKind::PlaceholderConst => {
-            let ct = cx.mk_const(ConstKind::Bound(index, variable))?;
-            Ok(GenericArgKind::Const(ct))
-        }
-        CanonicalVarKind::Region => Ok(GenericArgKind::Lifetime(Region {
-            kind: RegionKind::ReBound(index, variable),
-        })),
-    }
-}
-
 /// The canonical variables of these kinds, behind this many others. `Full` comes also where there are no numbers for them.
 fn variables_behind(
     alloc: Global,
@@ -84,6 +58,7 @@ fn variables_behind(
     ensures limit { cx.new.limit ≡ cx.old.limit }
     ensures held { IfOk result (λ r. ArgsHeld cx.new.entries r.items) }
     ensures values { IfOk result (λ r. values_of cx.new.entries r.items ≡ variables_from others kinds.now) }
+    ensures full { result ≡ Err Fault.Full → SomeKindIsFull cx.new.entries cx.new.limit ⊎ (MAX_INDEX < others + length kinds.now) }
 {
     let mut values = Vec::new(alloc);
     for (place, kind) in kinds.iter().enumerate() {
@@ -111,7 +86,8 @@ fn goal_over(
     ensures keeps { Keeps cx.old.entries cx.new.entries }
     ensures limit { cx.new.limit ≡ cx.old.limit }
     ensures held { IfOk result (GoalHeld cx.new.entries) }
-    ensures behind { IfOk result (λ r. (kinds : List CanonicalVarKind) (n : ℕ) → is_over kinds (bound_read cx.old.entries bound) ≡ true → values_of cx.old.entries values.now ≡ variables_from n kinds → goal_trees cx.new.entries r ≡ goal_of (behind n (bound_read cx.old.entries bound))) }
+    ensures behind { IfOk result (IsGoalBehind cx.old.entries bound values.now cx.new.entries) }
+    ensures full { result ≡ Err Fault.Full → SomeKindIsFull cx.new.entries cx.new.limit }
 {
     let goal = Goal {
         param_env: Vec::new(alloc),
@@ -127,6 +103,7 @@ fn as_one(cx: &mut Interner, bound: TraitPredicate) -> Result<GenericArgKind, Fa
     ensures limit { cx.new.limit ≡ cx.old.limit }
     ensures held { IfOk result (ArgHeld cx.new.entries) }
     ensures is { IfOk result (λ r. value_of cx.new.entries r ≡ as_one (bound_read cx.old.entries bound)) }
+    ensures full { result ≡ Err Fault.Full → SomeKindIsFull cx.new.entries cx.new.limit }
 {
     let def_id = AdtId {
         index: bound.trait_ref.def_id.index,
@@ -151,6 +128,8 @@ impl Rule {
         ensures limit { cx.new.limit ≡ cx.old.limit }
         ensures held { IfOk result (SpecHeld cx.new.entries) }
         ensures is { IfOk result (λ s. (coinductive : Bool) → spec_read cx.new.entries coinductive s ≡ spec_of coinductive (asked_of cx.old.entries goal.now) (rule_read cx.old.entries self.now)) }
+        ensures full { result ≡ Err Fault.Full → SomeKindIsFull cx.new.entries cx.new.limit
+            ⊎ (MAX_INDEX < length goal.now.variables.items + length self.now.variables.items) }
     {
         let own = variables_behind(alloc, cx, goal.variables.len(), &self.variables)?;
         let equation = self.equation(alloc, cx, goal, &own)?;
@@ -181,7 +160,8 @@ impl Rule {
         ensures limit { cx.new.limit ≡ cx.old.limit }
         ensures held { IfOk result (EquationHeld cx.new.entries) }
         ensures left { IfOk result (λ e. value_of cx.new.entries e.left ≡ as_one (bound_read cx.old.entries goal.now.goal.predicate)) }
-        ensures right { IfOk result (λ e. (n : ℕ) → values_of cx.old.entries values.now ≡ variables_from n self.now.variables.items → value_of cx.new.entries e.right ≡ as_one (behind n (bound_read cx.old.entries self.now.head))) }
+        ensures right { IfOk result (IsHeadBehind cx.old.entries self.now values.now cx.new.entries) }
+        ensures full { result ≡ Err Fault.Full → SomeKindIsFull cx.new.entries cx.new.limit }
     {
         let left = as_one(cx, goal.goal.predicate)?;
         let head = goal_over(alloc, cx, self.head, values)?;
@@ -202,7 +182,8 @@ impl Rule {
         ensures keeps { Keeps cx.old.entries cx.new.entries }
         ensures limit { cx.new.limit ≡ cx.old.limit }
         ensures held { IfOk result (λ r. NestedHeld cx.new.entries r.items) }
-        ensures are { IfOk result (λ r. (coinductive : Bool) (n : ℕ) → values_of cx.old.entries values.now ≡ variables_from n self.now.variables.items → map (nested_read cx.new.entries coinductive) r.items ≡ map (λ b. nested_of_bound coinductive (behind n (bound_read cx.old.entries b))) self.now.premises.items) }
+        ensures are { IfOk result (λ r. ArePremisesBehind cx.old.entries self.now values.now cx.new.entries r.items) }
+        ensures full { result ≡ Err Fault.Full → SomeKindIsFull cx.new.entries cx.new.limit }
     {
         let mut nested_goals = Vec::new(alloc);
         for premise in &self.premises {

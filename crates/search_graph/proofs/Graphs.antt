@@ -17,7 +17,7 @@ use Rattle.search_graph.specs.Meaning.{Meaning, Keeps, IsLawful, IsFair, IsReply
 use Rattle.search_graph.specs.Computed.{Hears, nothing, also, given, computed, IsGiven, HoldsNoResult, IsComputed, MakesMisstep, here}
 use Rattle.search_graph.specs.Shown.{Shown, none, loop, rule, LoopsBack}
 use Rattle.search_graph.specs.Faithful.{IsKept}
-use Rattle.search_graph.specs.Stack.{Derived, question_of, path_onto, IsStack, IsEntry, IsProvisional, IsAnswer, IsRunning, IsCached, AreCached, kind_after, yes_questions}
+use Rattle.search_graph.specs.Stack.{Derived, question_of, path_onto, IsStack, IsEntry, IsProvisional, IsAnswer, IsRunning, IsCached, AreCached, HasBegun, kind_after, yes_questions}
 
 or_mono : (a b x : Bool) → (a ≡ true → b ≡ true) → a || x ≡ true → b || x ≡ true
 or_mono true b x h e = rw (h refl) refl
@@ -378,21 +378,6 @@ module _ {C I R F : Type 0} (m : Meaning C I R F) where
   due_after w g [] q reply begun e due = absurd (begun refl)
   due_after w g (x ∷ heard) q reply begun e due = rw (← e) due
 
-  pub running_first : (w : m.World) (path : List (m.Goal × PathKind)) (g : m.Goal) (low : ℕ) (c d : C) (f h : F) (q : Request I R) → low ≤ length path → m.world c ≡ w → m.HasHeard c g [] f
-      → Steps m c f Begin d h q → IsRunning m w path g low d h q
-  running_first w path g low c d f h q room world started steps = record {
-    heard = Begin ∷ [];
-    begun = λ e. cc;
-    frame = (steps.1 g [] started refl).0;
-    request = rw (← world) (steps.1 g [] started refl).1;
-    known = steps.0;
-    room = room;
-    fair = (refl, fair-begin (IsFair m w) (m.asks w g []), tt);
-    hears = also nothing refl tt;
-    count = omega arith;
-    shown = none;
-  }
-
   -- the answer to a question
   pub hears_more : (w : m.World) (Given : m.Goal → m.Answer → Type 0) (g q : m.Goal) (k : PathKind) (heard : List (Reply m.Answer)) (a : m.Answer) → Hears m w Given g heard → m.asks w g heard ≡ Evaluate q k → IsDueAfter m w g heard (Result a)
       → IsComputed m w Given q a → Hears m w Given g (Result a ∷ heard)
@@ -539,10 +524,23 @@ module _ {C I R F : Type 0} (m : Meaning C I R F) where
         rw world (due_after w g running.heard (Evaluate (m.goal_of b i) k) (Result (m.answer_of c r)) running.begun request (tt, tt)),
       )
 
-  pub running_first_counted : (w : m.World) (path : List (m.Goal × PathKind)) (g : m.Goal) (low : ℕ) (c d : C) (f h : F) (q : Request I R) → low ≤ length path → m.world c ≡ w → m.HasHeard c g [] f
-      → Steps m c f Begin d h q → (r : IsRunning m w path g low d h q) × (r.heard ≡ Begin ∷ [])
-  unfolding running_first
-  running_first_counted w path g low c d f h q room world started steps = (running_first w path g low c d f h q room world started steps, refl)
+  pub running_begun : (path : List (m.Goal × PathKind)) (x : I) (low : ℕ) (c d : C) (f : F) (q : Request I R) → low ≤ length path → HasBegun m c x d f q
+      → (r : IsRunning m (m.world c) path (m.goal_of c x) low d f q) × (r.heard ≡ Begin ∷ [])
+  running_begun path x low c d f q room first = (
+    record {
+      heard = Begin ∷ [];
+      begun = λ e. cc;
+      frame = first.0;
+      request = first.2;
+      known = first.1;
+      room = room;
+      fair = (refl, fair-begin (IsFair m (m.world c)) (m.asks (m.world c) (m.goal_of c x) []), tt);
+      hears = also nothing refl tt;
+      count = omega arith;
+      shown = none;
+    },
+    refl,
+  )
 
   pub running_next_counted : IsLawful m → (w : m.World) (path : List (m.Goal × PathKind)) (g : m.Goal) (low lower : ℕ) (b c d : C) (f h : F) (asked : Request I R) (i : I) (k : PathKind) (r : R) (q : Request I R) (next : ℕ)
       → asked ≡ Evaluate i k → next ≡ min low lower → m.world c ≡ w → Keeps m b c → (running : IsRunning m w path g low b f asked) → IsAnswer m w path (m.goal_of b i, k) lower c r

@@ -39,6 +39,14 @@ IsKnown {I} {R} ks input depth r = (place : ℕ) × (k : KnownResult I R) × (sl
 abbrev pub IfKnown : {I R : Type 0} → List (KnownResult I R) → I → ℕ → Type 0 → Type 0
 IfKnown {I} {R} ks input depth P = (place : ℕ) (k : KnownResult I R) → slice_get ks place ≡ Some k → k.input ≡ input → IsWithinDepth k.overflowed k.depth depth → P
 
+-- both have one result and rest on the same goals of the stack, and neither needs more depth
+pub record SaysSame {R : Type 0} (o p : EvaluationResult R) : Type 0 where
+  pub result : p.result ≡ o.result
+  pub lowest : p.dependencies.lowest ≡ o.dependencies.lowest
+  pub heads : p.dependencies.heads ≡ o.dependencies.heads
+  pub overflow : p.dependencies.encountered_overflow ≡ o.dependencies.encountered_overflow
+  pub depth : p.dependencies.required_depth ≡ o.dependencies.required_depth
+
 module _ {I R : Type 0} where
   -- a cache holds this result of the goal, and a goal of this depth may use it
   abbrev pub HoldsResult : List (CacheEntry I R) → I → ℕ → R → Type 0

@@ -8,6 +8,7 @@ pub mod Computed
 pub mod Shown
 pub mod Stack
 pub mod Question
+pub mod Turn
 pub mod Plain
 pub mod Proof
 pub mod Faithful

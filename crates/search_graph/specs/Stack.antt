@@ -120,6 +120,10 @@ module _ {C I R F : Type 0} (m : Meaning C I R F) where
     pub count : answer_count m heard ≤ m.number_of w g
     pub shown : Shown m.Goal (m.Follows w) low path (yes_questions w g heard)
 
+  -- a frame of the goal was started, and this is its first request
+  abbrev pub HasBegun : C → I → C → F → Request I R → Type 0
+  HasBegun c input d f q = m.HasHeard d (m.goal_of c input) (Begin ∷ []) f × IsRequest m d q × (request_of m d q ≡ m.asks (m.world c) (m.goal_of c input) (Begin ∷ []))
+
   -- a result that rests on no stack
   pub record IsCached (w : m.World) (c : C) (e : CacheEntry I R) : Type 0 where
     pub known : m.IsInput c e.input

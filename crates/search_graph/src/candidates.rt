@@ -2,8 +2,11 @@
 
 ghost use Rattle.std.specs.Prelude.{◌≡◌, ◌++◌, ◌∷◌, [], Bool, true, false, None, Some, IfOk, OnOk, length, slice_get, slice_set};
 ghost use Rattle.search_graph.specs.declared.fault.GraphFault.TheVariants.{Full, Protocol, Conflict};
+ghost use Rattle.search_graph.specs.Turn.{IsInTurn, IsTurn};
 
+use crate::delegate::{Reply, Request};
 use crate::fault::GraphFault;
+use crate::path_kind::PathKind;
 use std::alloc::Global;
 
 /// The candidates of a frame, by the requests that it made.
@@ -18,6 +21,17 @@ pub struct Candidates {
     pub finished: Vec<bool>,
 }
 
+/// What is due after a request in order.
+#[derive(Drop)]
+pub(crate) enum Turn<I, R> {
+    /// The goal is asked, by a step of this kind.
+    Ask(I, PathKind),
+    /// The frame is given this reply.
+    Tell(Reply<R>),
+    /// The frame is done, with this result.
+    End(R),
+}
+
 impl Candidates {
     /// None.
     pub fn new(alloc: Global) -> Candidates
@@ -27,6 +41,35 @@ impl Candidates {
         Candidates {
             open: false,
             finished: Vec::new(alloc),
+        }
+    }
+
+    /// What is due after a request. It is refused where it is out of order (`Protocol`), and where memory is.
+    pub(crate) fn take<I: Drop, R: Drop>(
+        &mut self,
+        request: Request<I, R>,
+    ) -> Result<Turn<I, R>, GraphFault>
+        ensures turn { IfOk result (λ turn. IsTurn self.old.open self.old.finished.items request turn self.new.open self.new.finished.items) }
+        ensures protocol { result ≡ Err Protocol → IsInTurn self.old.open self.old.finished.items request → ⊥ }
+        ensures no_conflict { result ≡ Err Conflict → ⊥ }
+        ensures room { result ≡ Err Full → ⊥ }
+    {
+        match request {
+            Request::Evaluate(input, step_kind) => Ok(Turn::Ask(input, step_kind)),
+            Request::EnterCandidate => {
+                self.enter()?;
+                Ok(Turn::Tell(Reply::Entered))
+            }
+            Request::FinishCandidate => {
+                let number = self.finish()?;
+                Ok(Turn::Tell(Reply::Finished(number)))
+            }
+            Request::IgnoreCandidate(number) => {
+                self.ignore(number)?;
+                Ok(Turn::Tell(Reply::Ignored))
+            }
+            Request::Done(_) if self.open => Err(GraphFault::Protocol),
+            Request::Done(answer) => Ok(Turn::End(answer)),
         }
     }
 

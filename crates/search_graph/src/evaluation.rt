@@ -11,13 +11,14 @@ ghost use Rattle.search_graph.specs.Stack.{path_onto, span_of_newest, IsStack, I
 ghost use Rattle.search_graph.specs.Question.{IsReplyOver, IsRunOver, IsFaithfulOver, IsUntouchedOver, IsNotPlainOver, AreFramesWithin, StaysWithin, RunStaysWithin};
 
 use crate::cache::CachedResults;
-use crate::candidates::Candidates;
-use crate::delegate::{Delegate, InputOf, Reply, Request, ResultOf};
-use crate::dependencies::{CycleHead, Dependencies, EvaluationResult, take_head};
+use crate::candidates::{Candidates, Turn};
+use crate::delegate::{Delegate, InputOf, Reply, ResultOf};
+use crate::dependencies::{Dependencies, EvaluationResult, take_head};
 use crate::fault::GraphFault;
-use crate::path_kind::{PathKind, PathsToNested};
+use crate::path_kind::PathKind;
 use crate::search::{Evaluation, Search, finish, is_last_run, nested_depth, run_limit};
 use crate::stack::StackEntry;
+use crate::steps::{look_up, reply_in_cycle, reply_with_overflow, start_run};
 
 /// The reply to a question on a goal that is given this depth.
 #[cycle(search)]
@@ -53,26 +54,12 @@ pub(crate) fn evaluate<D: Delegate>(
     ensures cached { IfUsable cache.old.entries.items search.old.stack.items input depth ((search.new.frames ≡ search.old.frames) × (cache.new.entries ≡ cache.old.entries)) }
     ensures known { IfUsable cache.old.entries.items search.old.stack.items input depth (IfOk result (λ o. HoldsResult cache.old.entries.items input depth o.result)) }
 {
-    // A provisional entry, of a goal whose result rests on goals of the stack, would be looked up here.
-    let number = cache.number_of(cx, &input)?;
-    if let Some(place) = search.find_cached(cache, number, &input, depth)? {
-        return search.use_cached(cache, cx, place, &input, step_kind, depth);
+    let (number, found) = look_up(search, cache, cx, &input, step_kind, depth)?;
+    if let Some(reply) = found {
+        return Ok(reply);
     }
     match search.find_cycle(number, &input, step_kind) {
-        Some(cycle) => {
-            let (answer, lowest) = search.close_cycle(cx, &input, step_kind, cycle)?;
-            let mut dependencies = Dependencies::new(search.alloc, lowest);
-            let paths = PathsToNested::from(cycle.path_kind);
-            dependencies.heads.push(CycleHead {
-                index: cycle.index,
-                paths,
-            })?;
-            dependencies.nested_goals.add_goal(number)?;
-            Ok(EvaluationResult {
-                result: answer,
-                dependencies,
-            })
-        }
+        Some(cycle) => reply_in_cycle(search, cx, number, &input, step_kind, cycle),
         None => evaluate_new(search, cache, cx, number, input, step_kind, depth),
     }
 }
@@ -124,58 +111,40 @@ fn evaluate_new<D: Delegate>(
         } = outcome;
         let read = take_head(&mut found.heads, index);
         if is_last_run::<D>(cx, &back, read, &answer) {
-            let StackEntry {
-                input,
-                step_kind: _,
-                provisional_result: _,
-                lowest: _,
-                number: _,
-                span: _,
-            } = back;
             let evaluation = EvaluationResult {
                 result: answer,
                 dependencies: found,
             };
-            let finished = finish(
+            return finish(
                 search.alloc,
                 cache,
                 cx,
                 index,
                 number,
-                input,
+                back.into_input(),
                 evaluation,
                 depth,
-            )?;
-            return Ok(finished);
+            );
         }
         entry = back.next_run(answer, &found);
         dependencies = found;
     }
     search.limits_met = true;
     let answer = D::fixpoint_overflow_result(cx, &entry.input)?;
-    let StackEntry {
-        input,
-        step_kind: _,
-        provisional_result: _,
-        lowest: _,
-        number: _,
-        span: _,
-    } = entry;
     let evaluation = EvaluationResult {
         result: answer,
         dependencies,
     };
-    let finished = finish(
+    finish(
         search.alloc,
         cache,
         cx,
         index,
         number,
-        input,
+        entry.into_input(),
         evaluation,
         depth,
-    )?;
-    Ok(finished)
+    )
 }
 
 /// One run of a goal, whose dependencies are added to those of its earlier runs.
@@ -224,14 +193,13 @@ fn run_once<D: Delegate>(
     ensures no_limit { search.old.limits_met ≡ false → search.new.limits_met ≡ true → IsNotPlainOver D.meaning cx.old search.old.stack.items entry.input (depth + 1) }
     ensures within { IfOk result (λ p. RunStaysWithin D.meaning cx.old search.old.stack.items cache.old.entries.items entry search.new.limits_met cx.new cache.new.entries.items p.1.result) }
 {
-    let mut frame = D::start(cx, &entry.input)?;
-    search.begin(entry)?;
+    let (mut frame, mut request) = start_run(search, cx, entry)?;
     let mut dependencies = earlier;
     let mut candidates = Candidates::new(search.alloc);
-    let mut request = D::step(&mut frame, cx, Reply::Begin)?;
     loop {
-        match request {
-            Request::Evaluate(input, step_kind) => {
+        let turn = candidates.take(request)?;
+        match turn {
+            Turn::Ask(input, step_kind) => {
                 let overflowed = dependencies.encountered_overflow;
                 let nested = ask(search, cache, cx, input, step_kind, depth, overflowed)?;
                 let EvaluationResult {
@@ -241,22 +209,8 @@ fn run_once<D: Delegate>(
                 dependencies.gather(more)?;
                 request = D::step(&mut frame, cx, Reply::Result(answer))?;
             }
-            Request::EnterCandidate => {
-                candidates.enter()?;
-                request = D::step(&mut frame, cx, Reply::Entered)?;
-            }
-            Request::FinishCandidate => {
-                let number = candidates.finish()?;
-                request = D::step(&mut frame, cx, Reply::Finished(number))?;
-            }
-            Request::IgnoreCandidate(number) => {
-                candidates.ignore(number)?;
-                request = D::step(&mut frame, cx, Reply::Ignored)?;
-            }
-            Request::Done(answer) => {
-                if candidates.open {
-                    return Err(GraphFault::Protocol);
-                }
+            Turn::Tell(reply) => request = D::step(&mut frame, cx, reply)?,
+            Turn::End(answer) => {
                 let Some(entry) = search.pop() else {
                     unreachable!()
                 };
@@ -305,8 +259,7 @@ fn ask<D: Delegate>(
     ensures within { IfOk result (λ o. StaysWithin D.meaning cx.old search.old.stack.items cache.old.entries.items input search.new.limits_met cx.new cache.new.entries.items o.result) }
 {
     if depth == 0 {
-        let number = cache.number_of(cx, &input)?;
-        return search.overflow(cx, number, input, step_kind);
+        return reply_with_overflow(search, cache, cx, input, step_kind);
     }
     let nested = nested_depth::<D>(depth, overflowed);
     evaluate(search, cache, cx, input, step_kind, nested)

@@ -17,6 +17,7 @@ mod nested_goals;
 mod path_kind;
 mod search;
 mod stack;
+mod steps;
 
 pub use cache::{CacheEntry, CachedResults};
 pub use candidates::Candidates;

@@ -7,7 +7,7 @@ ghost use Rattle.indexmap.specs.IndexMap.{get};
 ghost use Rattle.search_graph.specs.Nested.{covered, one_goal, AsksAlone, UsesAlone, AlsoAsks};
 ghost use Rattle.search_graph.specs.Chain.{AreInRange, AreInRanges, IsUsableAt, NoneIsUsable};
 ghost use Rattle.search_graph.specs.Meaning.{Keeps};
-ghost use Rattle.search_graph.specs.Cache.{known_results, HasConflict, IsNumberOf, KeepsResults, IsReplyOf, AddsEvaluation};
+ghost use Rattle.search_graph.specs.Cache.{known_results, HasConflict, IsNumberOf, KeepsResults, IsReplyOf, AddsEvaluation, SaysSame};
 ghost use Rattle.search_graph.specs.Plain.{IsNotPlain};
 ghost use Rattle.search_graph.specs.Stack.{place_of, oldest_of, span_of_newest, IsStack, IsProvisional, IsSettled, AreCached, IsOnStack, IsClosedBy};
 ghost use Rattle.search_graph.specs.Question.{IsReplyOver, IsInitial, IsFaithfulOver, IsKeptResult, IsNotPlainAbove, IsWithinAsCached, IsWithinAsStack, KeepsWithin};
@@ -365,11 +365,7 @@ pub fn finish<D: Delegate>(
     ensures results { KeepsResults cache.old.entries.items cache.new.entries.items }
     ensures goals { cache.new.goals ≡ cache.old.goals }
     ensures cache { AreCached D.meaning (D.meaning.world cx.now) cx.now cache.new.entries.items }
-    ensures same { IfOk result (λ o. o.result ≡ evaluation.result) }
-    ensures lowest { IfOk result (λ o. o.dependencies.lowest ≡ evaluation.dependencies.lowest) }
-    ensures heads { IfOk result (λ o. o.dependencies.heads ≡ evaluation.dependencies.heads) }
-    ensures overflow { IfOk result (λ o. o.dependencies.encountered_overflow ≡ evaluation.dependencies.encountered_overflow) }
-    ensures depth { IfOk result (λ o. o.dependencies.required_depth ≡ evaluation.dependencies.required_depth) }
+    ensures reply { IfOk result (SaysSame evaluation) }
     ensures found { IfOk result (λ o. index ≤ evaluation.dependencies.lowest → UsesAlone (length cache.old.entries.items) o.dependencies.nested_goals) }
     ensures asked { IfOk result (λ o. evaluation.dependencies.lowest < index → AlsoAsks evaluation.dependencies.nested_goals number o.dependencies.nested_goals) }
     ensures range { IfOk result (λ o. AreInRange cache.new.entries.items o.dependencies.nested_goals) }

@@ -29,6 +29,14 @@ pub struct StackEntry<I, R> {
 }
 
 impl<I: Drop, R: Drop> StackEntry<I, R> {
+    /// The goal alone.
+    pub fn into_input(self) -> I
+        ensures { result ≡ self.input }
+    {
+        let StackEntry { input, .. } = self;
+        input
+    }
+
     /// The entry for the next run, after one with this result, which rests on these dependencies.
     pub fn next_run(self, answer: R, dependencies: &Dependencies) -> StackEntry<I, R>
         ensures { result ≡ record { input = self.input; step_kind = self.step_kind; provisional_result = Some answer; lowest = dependencies.now.lowest; number = self.number; span = self.span } }

@@ -83,7 +83,7 @@ fn are_refused(alloc: Global, way: Way, left: Sample, right: Sample) -> Result<b
     match answer {
         Ok(()) => Ok(false),
         Err(EvalError::NoSolution) => Ok(true),
-        Err(EvalError::OutOf(fault)) => Err(fault),
+        Err(EvalError::Fault(fault)) => Err(fault),
     }
 }
 

@@ -5,7 +5,7 @@ use goal_frames::store::GoalStore;
 use goal_frames::{GoalFrame, GoalHandler};
 use infer_table::certainty::{Certainty, MaybeCause};
 use infer_table::response::CanonicalResponse;
-use rule_books::NoRules;
+use rule_books::RuleBook;
 use search_graph::{Reply, Request};
 use std::alloc::Global;
 use std::test::Fail;
@@ -16,10 +16,14 @@ use type_terms::{Fault, TraitId};
 fn a_goal_without_rules_is_refused(rt: HostRuntime) -> Result<(), Fail> {
     let mut cx = Interner::new(rt.alloc(), 100);
     let input = question(rt.alloc(), &mut cx, byte_is(Name::Show))?;
-    let mut frame = GoalFrame::new::<NoRules>(rt.alloc(), input);
-    let request = frame.step(rt.alloc(), &mut cx, &NoRules, Reply::Begin)?;
+    let book = RuleBook {
+        rules: Vec::new(rt.alloc()),
+        coinductive: Vec::new(rt.alloc()),
+    };
+    let mut frame = GoalFrame::new::<RuleBook>(rt.alloc(), input);
+    let request = frame.step(rt.alloc(), &mut cx, &book, Reply::Begin)?;
     assert!(rt; matches!(request, Request::Done(None)));
-    assert!(rt; !NoRules.trait_is_coinductive(TraitId { index: 2 }));
+    assert!(rt; !book.trait_is_coinductive(TraitId { index: 2 }));
     Ok(())
 }
 

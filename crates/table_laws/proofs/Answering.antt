@@ -1,7 +1,8 @@
 -- Answers over the tables of frames keep what the table allows.
-use Rattle.std.proofs.Common.{◌≡◌, ℕ, zero, suc, ◌+◌, ◌==◌, ◌≤◌, arith, Bool, true, false, not, ◌&&◌, ◌||◌, List, [], ◌∷◌, map, refl, sym, ◌∙◌, ap, subst, Some, None, if◌then◌else◌, is_some, ◌⊎◌, inl, inr}
+use Rattle.std.proofs.Common.{◌≡◌, ℕ, zero, suc, ◌+◌, ◌==◌, ◌≤◌, arith, Bool, true, false, not, ◌&&◌, ◌||◌, List, [], ◌∷◌, map, refl, sym, ◌∙◌, ap, subst, Some, if◌then◌else◌, is_some, ◌⊎◌, inl, inr}
 use Rattle.std.proofs.lemmas.Bool.Decides.{nat_tests}
 use Rattle.std.specs.Prelude.{IsSome}
+use Rattle.std.proofs.lemmas.Bool.{eqb-true}
 use Rattle.model.specs.Label.{Label, Sort, of_type, of_const, of_lifetime, infer, param, placeholder, canonical, bound, static}
 use Rattle.model.specs.Trees.{Trees, none, tree, leaf, ◌+++◌, sort_of, is_sort, is_a}
 use Rattle.model.specs.Codes.{same_label}
@@ -20,32 +21,24 @@ use Rattle.infer_table.specs.declared.certainty.Certainty.{Certainty}
 use Rattle.infer_table.specs.declared.certainty.Certainty.TheVariants.{Yes, Maybe}
 use Rattle.infer_table.specs.declared.certainty.MaybeCause.TheVariants.{Ambiguity, Overflow}
 use Rattle.infer_table.specs.Raw.{variables_from, variable_value}
+use Rattle.infer_table.proofs.SolutionLaws.{is_sort-equal as is-sort, is_sort-self}
 use Rattle.table_laws.specs.Content.{Values, Terms, standing, reading_of}
 use Rattle.table_laws.specs.Frames.{is_good, FrameTable, AllowsApart, FitPlaceholders, HaveValues, IsOwn, AreOwn, label_at}
 use Rattle.table_laws.specs.Answers.{is_variable_itself, are_variables, has_values, picked, IsPicked, ArePicked, Agrees, own_labels, own_values, joined, answer_leaves, numbered, value_numbered, respond}
-use Rattle.table_laws.proofs.Made.{false-true, left, right}
+use Rattle.type_terms.proofs.Made.{false-true, left, right}
 use Rattle.table_laws.proofs.Reading.{append-none, read-leaf, EachLabel, Carries, read-relabeled}
 use Rattle.table_laws.proofs.Beginning.{node_of, node-is}
-use Rattle.table_laws.proofs.Questions.{place-is-a, IsNoCanonical, clean-parts, reading-sorted, sort-of-sort, read-resolved, clean-resolved, excludes-canonical, made-clean}
+use Rattle.table_laws.proofs.Questions.{place-is-a, IsNoCanonical, clean-parts, reading-sorted, sort-of-sort, read-resolved, clean-resolved, excludes-canonical, made-clean, some-none}
 
 -- ---- an answer without values agrees with all
-not-false : (b : Bool) → not b ≡ false → b ≡ true
+pub not-false : (b : Bool) → not b ≡ false → b ≡ true
 not-false true e = refl
 not-false false e = absurd (false-true (sym e))
-
-is-sort : (j k : Sort) → is_sort j k ≡ true → j ≡ k
-is-sort of_type of_type h = refl
-is-sort of_const of_const h = refl
-is-sort of_lifetime of_lifetime h = refl
-is-sort j k h = absurd (false-true h)
-
-same-number : (i j : ℕ) → (i == j) ≡ true → i ≡ j
-same-number i j h = grind (arith, nat_tests, h)
 
 pub variable-is : (i : ℕ) (k : Sort) (t : Trees) → is_variable_itself i k t ≡ true → t ≡ leaf (canonical k i)
 variable-is i k (tree (canonical s j) none none) h =
     let e : k ≡ s = is-sort k s (left (is_sort k s) _ h) in
-    let n : i ≡ j = same-number i j (right (is_sort k s) _ h) in
+    let n : i ≡ j = eqb-true i j (right (is_sort k s) _ h) in
     ap (λ z. leaf (canonical z j)) (sym e) ∙ ap (λ z. leaf (canonical k z)) (sym n)
 variable-is i k t h = absurd (false-true h)
 
@@ -141,19 +134,11 @@ abbrev leaf_terms : Terms → List Label → Assignment
 leaf_terms s ls k i = node_of k (of_sort k (reading_of s (label_at ls i)))
 
 module _ (s : Terms) (sorted : (k : Sort) (v : ℕ) → sort_of (s.unknowns k v).0 ≡ k) (ls : List Label) where
-  sort-self : (k : Sort) → is_sort k k ≡ true
-  sort-self of_type = refl
-  sort-self of_const = refl
-  sort-self of_lifetime = refl
-
   picked-leaf : (k : Sort) (l : Label) (x : Trees) → HasValues k → sort_of l ≡ k → standing s l ≡ Some x → is_among l ls ≡ true → Some (tree_of (leaf_terms s ls k (place_of l ls))) ≡ standing s l
   picked-leaf k l x v e h a =
-      let sort : is_a k (reading_of s l) ≡ true = reading-sorted s sorted k l v ∙ ap (λ z. is_sort z k) e ∙ sort-self k in
+      let sort : is_a k (reading_of s l) ≡ true = reading-sorted s sorted k l v ∙ ap (λ z. is_sort z k) e ∙ is_sort-self k in
       ap Some ((node-is k (reading_of s (label_at ls (place_of l ls)))).whole ∙ ap (λ z. of_sort k (reading_of s z)) (term-label l ls a)
       ∙ sort-of-sort k (reading_of s l) sort ∙ read-leaf (standing s) l x h) ∙ sym h
-
-  none-some : (x : Trees) (T : Type 0) → Some x ≡ None → T
-  none-some x T e = absurd (cc)
 
   abbrev IsListed : Label → Type 0
   IsListed l = IsSome (kind_of_leaf l) → is_among l ls ≡ true
@@ -162,7 +147,7 @@ module _ (s : Terms) (sorted : (k : Sort) (v : ℕ) → sort_of (s.unknowns k v)
   Picks l m = Carries (picked (leaf_terms s ls)) (standing s) l m
 
   open-picks : (l m : Label) (x : Trees) → standing s l ≡ Some x → picked (leaf_terms s ls) m ≡ standing s l → Picks l m
-  open-picks l m x h e = record { stands = e; erased = λ n. none-some x _ (sym h ∙ n) }
+  open-picks l m x h e = record { stands = e; erased = λ n. some-none x _ (sym h ∙ n) }
 
   same-picks : (l : Label) → picked (leaf_terms s ls) l ≡ standing s l → Picks l l
   same-picks l e = record { stands = e; erased = λ n. refl }
@@ -234,12 +219,7 @@ module _ (t : FrameTable) (s : Terms) (a : AllowsApart t s) where
   -- the value that is given is what stands for the goal's variable
   place-of-place : (k : Sort) (x : Trees) → is_place k x ≡ true → HasValues k → of_sort k x ≡ as_place k x +++ none
   place-of-place k x h v =
-      sort-of-sort k x (place-is-a k k x h v ∙ sort-self' k) ∙ sym (append-none (as_place k x) ∙ ap (λ b. if b then x else leaf (placeholder k 0)) h)
-    where
-      sort-self' : (k : Sort) → is_sort k k ≡ true
-      sort-self' of_type = refl
-      sort-self' of_const = refl
-      sort-self' of_lifetime = refl
+      sort-of-sort k x (place-is-a k k x h v ∙ is_sort-self k) ∙ sym (append-none (as_place k x) ∙ ap (λ b. if b then x else leaf (placeholder k 0)) h)
 
   abbrev all : List Trees
   all = s.own.terms
@@ -266,16 +246,12 @@ module _ (t : FrameTable) (s : Terms) (a : AllowsApart t s) where
   head-values : (k : CanonicalVarKind) (ks : List CanonicalVarKind) (ts : List Trees) (x : Trees) (xs : List Trees) → HaveValues (k ∷ ks) ts (x ∷ xs) → HaveValues (k ∷ []) (first_term ts ∷ []) (x ∷ []) × HaveValues ks (other_terms ts) xs
   head-values Ty ks ts x xs h = ((h.0, tt), h.1)
   head-values Const ks ts x xs h = ((h.0, tt), h.1)
-  head-values Region ks ts x xs h = (tt, h)
-  head-values PlaceholderTy ks ts x xs h = (tt, h)
-  head-values PlaceholderConst ks ts x xs h = (tt, h)
+  head-values k ks ts x xs h = (tt, h)
 
   head-fit : (k : CanonicalVarKind) (ks : List CanonicalVarKind) (ts : List Trees) → FitPlaceholders (k ∷ ks) ts → FitPlaceholders (k ∷ []) (first_term ts ∷ []) × FitPlaceholders ks (other_terms ts)
-  head-fit Ty ks ts h = (tt, h)
-  head-fit Const ks ts h = (tt, h)
-  head-fit Region ks ts h = (tt, h)
   head-fit PlaceholderTy ks ts h = ((h.0, tt), h.1)
   head-fit PlaceholderConst ks ts h = ((h.0, tt), h.1)
+  head-fit k ks ts h = (tt, h)
 
   picked-values : (place : ℕ) (ks : List CanonicalVarKind) (labels : List Label) (ts : List Trees) → AreOwn place ks labels
       → ((l : Label) → LabelAmong l (own_labels ks labels) → LabelAmong l (own_labels t.kinds t.labels)) → Every (λ l. is_made good terms (leaf l) ≡ true) labels
@@ -315,10 +291,7 @@ from-variables i (k ∷ ks) =
 
     here : (k : CanonicalVarKind) → is_variable_itself i (variable_value k i).sort (variable_value k i).trees ≡ true
     here Ty = self-number i
-    here PlaceholderTy = self-number i
-    here Const = self-number i
-    here PlaceholderConst = self-number i
-    here Region = self-number i
+    here k = self-number i
 
 -- an overflow carries no values
 pub overflow_is_bare : (t : FrameTable) → has_values (respond t (Maybe Overflow)) ≡ false

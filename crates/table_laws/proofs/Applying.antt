@@ -1,16 +1,16 @@
 -- Answers put into the tables of frames: nothing is gained, and nothing is lost that agrees with the answer.
-use Rattle.std.proofs.Common.{◌≡◌, ℕ, zero, suc, ◌+◌, ◌<◌, ◌≤◌, arith, Bool, true, false, ◌&&◌, ◌==◌, List, [], ◌∷◌, map, refl, sym, ◌∙◌, ap, subst, Option, Some, None, if◌then◌else◌, ◌⊎◌, inl, inr}
-use Rattle.std.proofs.lemmas.Bool.Decides.{nat_tests}
+use Rattle.std.proofs.Common.{◌≡◌, ℕ, zero, suc, ◌+◌, ◌<◌, ◌≤◌, arith, Bool, true, false, ◌&&◌, List, [], ◌∷◌, map, refl, sym, ◌∙◌, ap, subst, Option, Some, None, if◌then◌else◌, ◌⊎◌, inl, inr}
 use Rattle.std.specs.Prelude.{IsSome, unwrap_or, option_map, option_and_then}
 use Rattle.std.specs.List.{slice_get}
-use Rattle.model.specs.Label.{Label, Sort, of_type, of_const, of_lifetime, infer, param, placeholder, canonical, bound, static, dynamic, principal, auto_trait}
-use Rattle.model.specs.Trees.{Trees, none, tree, leaf, ◌+++◌, erase_label, sort_of, is_sort, is_a, is_no_tree, placed, Single}
+use Rattle.std.proofs.lemmas.Bool.{eqb-true}
+use Rattle.model.specs.Label.{Label, Sort, of_type, of_const, of_lifetime, infer, param, placeholder, canonical, bound, static, dynamic, principal, auto_trait, predicate}
+use Rattle.model.specs.Trees.{Trees, none, tree, leaf, ◌+++◌, sort_of, is_sort, is_a, is_no_tree, placed, Single}
 use Rattle.infer_table.specs.Canonical.{kind_of_leaf, kind_in_clause, leaves, goal_leaves}
 use Rattle.infer_table.specs.Solutions.{Assignment, IsSorted, Binding, tree_of, resolved, is_variable, HasValues, Acyclic}
 use Rattle.infer_table.specs.Unification.{TableTrees, Worklist, unified}
 use Rattle.infer_table.specs.declared.canonical.CanonicalVarKind.{CanonicalVarKind}
 use Rattle.infer_table.specs.declared.canonical.CanonicalVarKind.TheVariants.{Ty, PlaceholderTy, Const, PlaceholderConst, Region}
-use Rattle.infer_table.proofs.SolutionLaws.{is_variable-equal, is_variable-self}
+use Rattle.infer_table.proofs.SolutionLaws.{is_variable-equal, is_variable-self, is_sort-equal as is-sort, is_sort-self as sort-self}
 use Rattle.infer_table.specs.Leaves.{root_label}
 use Rattle.infer_table.specs.Values.{Value, if_of_sort, value_for, filled}
 use Rattle.infer_table.specs.Raw.{sort_of_kind}
@@ -22,15 +22,14 @@ use Rattle.evaluation.specs.Lists.{Every}
 use Rattle.table_laws.specs.Instances.{read_with, put_in, of_sort, as_place, term_at}
 use Rattle.type_terms.specs.Made.{terms, is_made}
 use Rattle.table_laws.specs.Content.{Values, Terms, fits, standing, reading_of, Stands}
-use Rattle.table_laws.specs.Equations.{AreOne, Hold, IsTerm, IsPair, IsValue, HasLifetimes, IsMade, IsApart}
-use Rattle.table_laws.specs.Frames.{kind_at, is_good, good_in, FrameTable, IsMadeFrame, Allows, AllowsApart, HaveValues, FitPlaceholders, Nested, goal_in, values_at, slot_at, in_turn, and_then}
-use Rattle.table_laws.specs.Answers.{picked, IsPicked, ArePicked, Agrees, is_kind_of, is_variable_of, is_fitting, are_fitting, is_fitting_answer, put_into, leaf_value, originals_of}
-use Rattle.table_laws.proofs.Made.{false-true, left, right, no-tree, is_ordinary, made-ordinary}
-use Rattle.table_laws.proofs.Reading.{append-none, append-assoc, EachLabel, IsPutIn}
+use Rattle.table_laws.specs.Equations.{AreOne, IsTerm, IsPair, IsValue, HasLifetimes, IsMade, IsApart}
+use Rattle.table_laws.specs.Frames.{kind_at, is_good, good_in, FrameTable, IsMadeFrame, AllowsApart, Nested, goal_in, slot_at, in_turn, and_then}
+use Rattle.table_laws.specs.Answers.{picked, IsPicked, ArePicked, is_kind_of, is_variable_of, is_fitting, are_fitting, is_fitting_answer, put_into, leaf_value, originals_of}
+use Rattle.type_terms.proofs.Made.{false-true, left, right, no-tree, is_ordinary, made-ordinary}
+use Rattle.table_laws.proofs.Reading.{append-none, append-assoc, EachLabel, IsPutIn, read-lifetime, GiveOne, same-read, cons}
 use Rattle.table_laws.proofs.Questions.{sort-of-sort, reading-sorted}
-use Rattle.table_laws.proofs.Heads.{read-lifetime}
 use Rattle.table_laws.proofs.Beginning.{below, below-is, sort-is}
-use Rattle.table_laws.proofs.Equating.{AreSlots, slot-cases, IsLeafOf, slots-of, lifetimes-good, in-turn-narrows, in-turn-keeps, InTurn, IsFrame, frame_if, frame-of, frame-is, none-some, some-is, allows-of, ApartIn, is-sort, sort-self, single-of}
+use Rattle.table_laws.proofs.Equating.{AreSlots, slot-cases, IsLeafOf, slots-of, lifetimes-good, in-turn-narrows, InTurn, none-some, some-is, single-of}
 use Rattle.table_laws.proofs.Labels.{IsGoodLabel, made-labels, IsLeafIn, each-label, each-resolved, every-leaf, clause-open, IsLeafFor, PutsLeaves, made-put-in, single-put-in, made-more, read-put-each}
 
 -- ---- the open leaves of a nested goal
@@ -70,16 +69,13 @@ goal-leaves t n =
 after-bindings : (x : Option Value) (t : TableTrees) (k : CanonicalVarKind) → (table_after x t k).bindings ≡ t.bindings
 after-bindings (Some v) t k = refl
 after-bindings None t Ty = refl
-after-bindings None t PlaceholderTy = refl
-after-bindings None t Const = refl
-after-bindings None t PlaceholderConst = refl
-after-bindings None t Region = refl
+after-bindings None t k = refl
 
 pub for-bindings : (known : ℕ → Option Value) (t : TableTrees) (i : ℕ) (ks : List CanonicalVarKind) → (table_for known t i ks).bindings ≡ t.bindings
 for-bindings known t i [] = refl
 for-bindings known t i (k ∷ ks) = for-bindings known (table_after (known i) t k) (i + 1) ks ∙ after-bindings (known i) t k
 
-itself : (n : ℕ) → n ≤ n
+pub itself : (n : ℕ) → n ≤ n
 itself n = omega arith
 
 one-more : (n : ℕ) → n ≤ n + 1
@@ -88,20 +84,11 @@ one-more n = omega arith
 after-more : (x : Option Value) (t : TableTrees) (k : CanonicalVarKind) (j : Sort) → unknowns_of t j ≤ unknowns_of (table_after x t k) j
 after-more (Some v) t k j = itself (unknowns_of t j)
 after-more None t Ty of_type = one-more t.ty_vars
-after-more None t Ty of_const = itself t.const_vars
-after-more None t Ty of_lifetime = itself t.region_vars
 after-more None t PlaceholderTy of_type = one-more t.ty_vars
-after-more None t PlaceholderTy of_const = itself t.const_vars
-after-more None t PlaceholderTy of_lifetime = itself t.region_vars
-after-more None t Const of_type = itself t.ty_vars
 after-more None t Const of_const = one-more t.const_vars
-after-more None t Const of_lifetime = itself t.region_vars
-after-more None t PlaceholderConst of_type = itself t.ty_vars
 after-more None t PlaceholderConst of_const = one-more t.const_vars
-after-more None t PlaceholderConst of_lifetime = itself t.region_vars
-after-more None t Region of_type = itself t.ty_vars
-after-more None t Region of_const = itself t.const_vars
 after-more None t Region of_lifetime = one-more t.region_vars
+after-more None t k j = itself (unknowns_of t j)
 
 pub for-more : (known : ℕ → Option Value) (t : TableTrees) (i : ℕ) (ks : List CanonicalVarKind) (j : Sort) → unknowns_of t j ≤ unknowns_of (table_for known t i ks) j
 for-more known t i [] j = itself (unknowns_of t j)
@@ -135,10 +122,7 @@ after-own t Region = less t.region_vars
 
 pub new-value : (t : TableTrees) (k : CanonicalVarKind) → next_unknown t k ≡ leaf_value (infer (sort_of_kind k) (unknowns_of t (sort_of_kind k)))
 new-value t Ty = refl
-new-value t PlaceholderTy = refl
-new-value t Const = refl
-new-value t PlaceholderConst = refl
-new-value t Region = refl
+new-value t k = refl
 
 -- ---- terms for the new unknowns
 abbrev with_term : Assignment → Sort → ℕ → Label × Trees → Assignment
@@ -164,7 +148,7 @@ picked-sorted : (u q : Assignment) (t : TableTrees) (i : ℕ) (v : Option Value)
 picked-sorted u q t i (Some v) k h g = h
 picked-sorted u q t i None k h g = term-sorted u (sort_of_kind k) (unknowns_of t (sort_of_kind k)) (q (sort_of_kind k) i) h (g (sort_of_kind k) i)
 
-extended-sorted : (u q : Assignment) (known : ℕ → Option Value) (t : TableTrees) (i : ℕ) (ks : List CanonicalVarKind) → IsSorted u → IsSorted q → IsSorted (extended u q known t i ks)
+pub extended-sorted : (u q : Assignment) (known : ℕ → Option Value) (t : TableTrees) (i : ℕ) (ks : List CanonicalVarKind) → IsSorted u → IsSorted q → IsSorted (extended u q known t i ks)
 extended-sorted u q known t i [] h g = h
 extended-sorted u q known t i (k ∷ ks) h g = extended-sorted (with_picked u q t i (known i) k) q known (table_after (known i) t k) (i + 1) ks (picked-sorted u q t i (known i) k h g) g
 
@@ -280,7 +264,7 @@ all-match good ks (l ∷ ls) (v ∷ vs) h e f = (
 abbrev AgreeAt : Terms → Assignment → Value × Value → Type 0
 AgreeAt s q p = IsPicked q p.1.sort p.1.trees (read_with (standing s) p.0.trees)
 
-all-agree : (s : Terms) (q : Assignment) (ls : List Label) (vs : List Value) → ArePicked q vs (map (reading_of s) ls) → Every (AgreeAt s q) (paired (map leaf_value ls) vs)
+pub all-agree : (s : Terms) (q : Assignment) (ls : List Label) (vs : List Value) → ArePicked q vs (map (reading_of s) ls) → Every (AgreeAt s q) (paired (map leaf_value ls) vs)
 all-agree s q [] vs h = tt
 all-agree s q (l ∷ ls) [] h = tt
 all-agree s q (l ∷ ls) (v ∷ vs) h = (h.0, all-agree s q ls vs h.1)
@@ -308,9 +292,6 @@ of-pair P (p ∷ os) (v ∷ vs) h i o e = by (is_numbered i (root_label v.trees)
     by true n q r = record { pair = (p, v); holds = h.0; is = some-value p o q; numbered = n }
     by false n q r = r q
 
-same-number : (i j : ℕ) → (i == j) ≡ true → i ≡ j
-same-number i j h = grind (arith, nat_tests, h)
-
 -- a fitting value that begins with variable i is that variable
 fitting-variable : (ks : List CanonicalVarKind) (i : ℕ) (k : Sort) (t : Trees) → (is_a k t && is_made (is_variable_of ks) terms t) ≡ true → is_numbered i (root_label t) ≡ true
     → (t ≡ leaf (canonical k i)) × (is_kind_of k (kind_at ks i) ≡ true)
@@ -319,7 +300,7 @@ fitting-variable ks i k (tree (canonical s j) c o) h n =
     let a : is_a k (tree (canonical s j) c o) ≡ true = left (is_a k (tree (canonical s j) c o)) _ h in
     let m = made-ordinary (is_variable_of ks) (canonical s j) c o refl (right (is_a k (tree (canonical s j) c o)) _ h) in
     let sort : s ≡ k = sort-is k (canonical s j) c o a in
-    let number : j ≡ i = same-number j i n in (
+    let number : j ≡ i = eqb-true j i n in (
       ap (λ z. tree (canonical s j) z o) (no-tree c m.1) ∙ ap (tree (canonical s j) none) (single-of k (tree (canonical s j) c o) a) ∙ ap (λ z. leaf (canonical z j)) sort ∙ ap (λ z. leaf (canonical k z)) number,
       subst (λ z. is_kind_of k (kind_at ks z) ≡ true) number (subst (λ z. is_kind_of z (kind_at ks j) ≡ true) sort m.0),
     )
@@ -451,7 +432,7 @@ module _ (kinds : List CanonicalVarKind) (t : TableTrees) (ls : List Label) (the
   matches : Every (IsMatch good a.kinds) pairs
   matches = all-match good a.kinds ls a.values theirs (left (is_answer_to (map leaf_value ls) a) _ answers) (right (is_answer_to (map leaf_value ls) a) _ answers)
 
-  zero-plus : (i : ℕ) → 0 + i ≡ i
+  pub zero-plus : (i : ℕ) → 0 + i ≡ i
   zero-plus i = omega arith
 
   kind-of : (s : Sort) (o : Option CanonicalVarKind) → is_kind_of s o ≡ true → (k : CanonicalVarKind) × (o ≡ Some k) × (sort_of_kind k ≡ s)
@@ -539,6 +520,7 @@ module _ (kinds : List CanonicalVarKind) (t : TableTrees) (ls : List Label) (the
       other dynamic e = refl
       other (principal x y) e = refl
       other (auto_trait x) e = refl
+      other (predicate k) e = refl
       other l e = absurd (false-true (sym e))
 
   -- the pairs that are made equal are terms
@@ -653,6 +635,7 @@ module _ (kinds : List CanonicalVarKind) (t : TableTrees) (ls : List Label) (the
     label-read dynamic g = refl
     label-read (principal x y) g = refl
     label-read (auto_trait x) g = refl
+    label-read (predicate k) g = refl
     label-read l g = open-same a.kinds r q l (not-canonical l refl) (g refl)
 
     filled-read : (t : Trees) → is_made (is_variable_of a.kinds) terms t ≡ true → read_with (standing r) (filled values t) ≡ read_with (picked q) t
@@ -700,39 +683,39 @@ module _ (t : FrameTable) (n : Nested) (a : AnswerTrees) (answers : is_fitting_a
   abbrev theirs_of : AreTheirs (good_in t) (goal_leaves (goal_in t n))
   theirs_of = goal-leaves t n
 
-  abbrev known_in : ℕ → Option Value
+  abbrev pub known_in : ℕ → Option Value
   known_in i = known t.kinds t.content (goal_leaves (goal_in t n)) theirs_of a answers i
 
-  abbrev values_in : List Value
+  abbrev pub values_in : List Value
   values_in = values t.kinds t.content (goal_leaves (goal_in t n)) theirs_of a answers
 
   abbrev pairs_of : List (Value × Value)
   pairs_of = pairs t.kinds t.content (goal_leaves (goal_in t n)) theirs_of a answers
 
-  abbrev grown_of : TableTrees
+  abbrev pub grown_of : TableTrees
   grown_of = grown t.kinds t.content (goal_leaves (goal_in t n)) theirs_of a answers
 
-  abbrev better_in : Label → Bool
+  abbrev pub better_in : Label → Bool
   better_in l = is_good t.kinds grown_of.ty_vars grown_of.const_vars l
 
-  abbrev todo : Worklist
+  abbrev pub todo : Worklist
   todo = pairs_with values_in pairs_of
 
-  abbrev opens : HasLifetimes better_in
+  abbrev pub opens : HasLifetimes better_in
   opens = lifetimes-good t.kinds grown_of.ty_vars grown_of.const_vars
 
   -- what is left is what the pairs leave, with constraints
-  record IsLeft (u : TableTrees) : Type 0 where
+  pub record IsLeft (u : TableTrees) : Type 0 where
     pub before : TableTrees
     pub solved : in_turn todo grown_of ≡ Some before
     pub is : with_constraints (filled values_in a.constraints) before ≡ u
 
-  is-left : (u : TableTrees) → applied t.content (originals_of t n) a ≡ Some u → IsLeft u
+  pub is-left : (u : TableTrees) → applied t.content (originals_of t n) a ≡ Some u → IsLeft u
   is-left u e =
       let x = map-some (with_constraints (filled values_in a.constraints)) (solved_in_turn grown_of (trees_of (originals_of t n)) (filled values_in (trees_of a.values))) u e in
       record { before = x.0; solved = sym (turns t.kinds t.content (goal_leaves (goal_in t n)) theirs_of a answers grown_of) ∙ x.1; is = x.2 }
 
-  turned : (u : TableTrees) → in_turn todo grown_of ≡ Some u → InTurn better_in opens grown_of todo u
+  pub turned : (u : TableTrees) → in_turn todo grown_of ≡ Some u → InTurn better_in opens grown_of todo u
   turned u e =
       in-turn-narrows better_in opens todo grown_of u (grown-made t.kinds t.content (goal_leaves (goal_in t n)) theirs_of a answers t.made.table)
       (pairs-made t.kinds t.content (goal_leaves (goal_in t n)) theirs_of a answers) e
@@ -770,76 +753,37 @@ put-made t n a u e = by (put-cases t.content (originals_of t n) a u e)
     by (inl x) = left-made t n a x.0 u (is-left t n a x.0 u x.1)
     by (inr x) = subst (IsMadeFrame t.kinds t.labels) x t.made
 
--- the table with the answer to the nested goal put into it; none: refused
-abbrev pub apply : FrameTable → Nested → AnswerTrees → Option FrameTable
-apply t n a = frame_if t (put_into t.content (originals_of t n) a) (put-made t n a)
-
-pub apply_narrows : (t u : FrameTable) (n : Nested) (a : AnswerTrees) → apply t n a ≡ Some u → (s : Terms) → Allows u s → Allows t s
-apply_narrows t u n a e s h =
-    let x = frame-of t (put_into t.content (originals_of t n) a) (put-made t n a) u e in
-    by x.0 x.2 (put-cases t.content (originals_of t n) a x.0 x.1)
-  where
-    by : (c : TableTrees) → IsFrame t c u → ((is_fitting_answer (originals_of t n) a ≡ true) × (applied t.content (originals_of t n) a ≡ Some c)) ⊎ (t.content ≡ c) → Allows t s
-    by c i (inl x) =
-        let y = is-left t n a x.0 c x.1 in
-        let hold : Hold s y.before = subst (Hold s) (i.content ∙ sym y.is) h.hold in
-        allows-of t u c s i (subst (Every (Stands s)) (for-bindings (known_in t n a x.0) t.content 0 a.kinds) ((turned t n a x.0 y.before y.solved).only s hold).0) h
-    by c i (inr x) = allows-of t u c s i (subst (Hold s) (i.content ∙ sym x) h.hold) h
-
 -- ---- nothing is lost that agrees with the answer
 module _ (t : FrameTable) (s : Terms) (q : Assignment) (known : ℕ → Option Value) (ks : List CanonicalVarKind) where
   -- the terms, with what is picked for new unknowns
-  abbrev further : Terms
+  abbrev pub further : Terms
   further = record { own = s.own; slots = s.slots; unknowns = extended s.unknowns q known t.content 0 ks; proper = s.proper }
 
-  further-label : (l : Label) → IsGoodLabel (good_in t) l → standing further l ≡ standing s l
-  further-label (infer of_type v) g = ap (λ z. Some (tree_of z)) (extended-old s.unknowns q known t.content 0 ks of_type v (below-is v t.content.ty_vars (g refl)))
-  further-label (infer of_const v) g = ap (λ z. Some (tree_of z)) (extended-old s.unknowns q known t.content 0 ks of_const v (below-is v t.content.const_vars (g refl)))
-  further-label (infer of_lifetime v) g = refl
-  further-label (placeholder of_type v) g = refl
-  further-label (placeholder of_const v) g = refl
-  further-label (placeholder of_lifetime v) g = refl
-  further-label (param of_type v) g = refl
-  further-label (param of_const v) g = refl
-  further-label (param of_lifetime v) g = refl
-  further-label (canonical of_type v) g = refl
-  further-label (canonical of_const v) g = refl
-  further-label (canonical of_lifetime v) g = refl
-  further-label (bound of_type v w) g = refl
-  further-label (bound of_const v w) g = refl
-  further-label (bound of_lifetime v w) g = refl
-  further-label l g = refl
-
-  each-same : (x : Trees) → EachLabel (IsGoodLabel (good_in t)) x → read_with (standing further) x ≡ read_with (standing s) x
-  each-same none h = refl
-  each-same (tree l c o) h =
-      ap (λ z. placed z (tree (erase_label l) (read_with (standing further) c) none) +++ read_with (standing further) o) (further-label l h.0)
-      ∙ ap (λ z. placed (standing s l) (tree (erase_label l) z none) +++ read_with (standing further) o) (each-same c h.1)
-      ∙ ap (λ z. placed (standing s l) (tree (erase_label l) (read_with (standing s) c) none) +++ z) (each-same o h.2)
+  further-same : (l : Label) → IsGoodLabel (good_in t) l → GiveOne further.unknowns s.unknowns l
+  further-same (infer of_type v) g = extended-old s.unknowns q known t.content 0 ks of_type v (below-is v t.content.ty_vars (g refl))
+  further-same (infer of_const v) g = extended-old s.unknowns q known t.content 0 ks of_const v (below-is v t.content.const_vars (g refl))
+  further-same l g = tt
 
   further-read : (x : Trees) → is_made (good_in t) terms x ≡ true → read_with (standing further) x ≡ read_with (standing s) x
-  further-read x h = each-same x (made-labels (good_in t) terms x h)
+  further-read x h = same-read further s refl x (each-label (IsGoodLabel (good_in t)) (GiveOne further.unknowns s.unknowns) further-same x (made-labels (good_in t) terms x h))
 
-  further-map : (ls : List Label) → AreTheirs (good_in t) ls → map (reading_of further) ls ≡ map (reading_of s) ls
+  pub further-map : (ls : List Label) → AreTheirs (good_in t) ls → map (reading_of further) ls ≡ map (reading_of s) ls
   further-map [] h = refl
   further-map (l ∷ ls) h = cons _ _ _ _ (further-read (leaf l) h.0) (further-map ls h.1)
-    where
-      cons : (x y : Trees) (xs ys : List Trees) → x ≡ y → xs ≡ ys → x ∷ xs ≡ y ∷ ys
-      cons x y xs ys e f = cc
 
   counted-by : (k : Sort) (v : ℕ) → HasValues k → good_in t (infer k v) ≡ true → v < unknowns_of t.content k
   counted-by of_type v h g = below-is v t.content.ty_vars g
   counted-by of_const v h g = below-is v t.content.const_vars g
   counted-by of_lifetime v h g = absurd h
 
-  further-holds : (bs : List Binding) → Every (IsValue (good_in t)) bs → Every (Stands s) bs → Every (Stands further) bs
+  pub further-holds : (bs : List Binding) → Every (IsValue (good_in t)) bs → Every (Stands s) bs → Every (Stands further) bs
   further-holds [] h g = tt
   further-holds (b ∷ bs) h g = (
     ap tree_of (extended-old s.unknowns q known t.content 0 ks b.sort b.var (counted-by b.sort b.var h.0.sort h.0.known)) ∙ g.0 ∙ sym (further-read b.value h.0.made),
     further-holds bs h.1 g.1,
   )
 
-further-apart : (t : FrameTable) (s r : Terms) (a b : ℕ) → AllowsApart t s → r.own ≡ s.own → IsSorted r.unknowns → IsApart (is_good t.kinds a b) r
+pub further-apart : (t : FrameTable) (s r : Terms) (a b : ℕ) → AllowsApart t s → r.own ≡ s.own → IsSorted r.unknowns → IsApart (is_good t.kinds a b) r
 further-apart t s r a b h e sorted = record { sorted = sorted; no_parameter = parameter; apart = placeholders }
   where
     parameter : (k : Sort) (i : ℕ) → HasValues k → is_good t.kinds a b (param k i) ≡ true → ⊥
@@ -856,63 +800,5 @@ further-apart t s r a b h e sorted = record { sorted = sorted; no_parameter = pa
         → as_place k (term_at r.own.terms i) ≡ as_place k (term_at r.own.terms j) → i ≡ j
     placeholders k i j v g g' q = h.apart k i j g g' (subst (λ (o : Values). as_place k (term_at o.terms i) ≡ as_place k (term_at o.terms j)) e q) (value-sort k v)
 
-abbrev with_unknowns : Terms → Assignment → Terms
+abbrev pub with_unknowns : Terms → Assignment → Terms
 with_unknowns s u = record { own = s.own; slots = s.slots; unknowns = u; proper = s.proper }
-
--- the answer was not refused, and the table allows terms that give the same to all that was known
-pub record GoesFurther (t : FrameTable) (s : Terms) (e : Option FrameTable) : Type 0 where
-  pub table : FrameTable
-  pub unknowns : Assignment
-  pub is : e ≡ Some table
-  pub allows : AllowsApart table (with_unknowns s unknowns)
-
--- what is left allows the terms with other unknowns that stand there, and are read alike
-goes-further : (t : FrameTable) (n : Nested) (a : AnswerTrees) (s : Terms) (u : Assignment) (c : TableTrees) → AllowsApart t s → put_into t.content (originals_of t n) a ≡ Some c
-    → IsSorted u → Hold (with_unknowns s u) c → map (reading_of s) t.labels ≡ map (reading_of (with_unknowns s u)) t.labels → GoesFurther t s (apply t n a)
-goes-further t n a s u c h put sorted hold same =
-    let y = frame-is t (put_into t.content (originals_of t n) a) (put-made t n a) c put in
-    record {
-      table = y.0;
-      unknowns = u;
-      is = y.1;
-      allows = record {
-        allowed = record {
-          sorted = sorted;
-          hold = subst (Hold (with_unknowns s u)) (sym y.2.content) hold;
-          slots = h.allowed.slots ∙ same ∙ ap (map (reading_of (with_unknowns s u))) (sym y.2.labels);
-          own = subst (λ ks. HaveValues ks s.own.terms s.slots) (sym y.2.kinds) h.allowed.own;
-          proper = h.allowed.proper ∙ ap (λ ks. s.own.proper && fits (map Some ks) s.own.terms) (sym y.2.kinds);
-        };
-        apart = subst (λ ks. ApartIn ks s) (sym y.2.kinds) h.apart;
-        fit = subst (λ ks. FitPlaceholders ks s.own.terms) (sym y.2.kinds) h.fit;
-      };
-    }
-
-answer-keeps : (t : FrameTable) (n : Nested) (a : AnswerTrees) → is_fitting_answer (originals_of t n) a ≡ true → (s : Terms) → AllowsApart t s → Agrees a (values_at t n s) → GoesFurther t s (apply t n a)
-answer-keeps t n a e s h g =
-    let ls = goal_leaves (goal_in t n) in
-    let theirs = goal-leaves t n in
-    let q = g.0 in
-    let r = further t s q (known_in t n a e) a.kinds in
-    let sorted : IsSorted r.unknowns = extended-sorted s.unknowns q (known_in t n a e) t.content 0 a.kinds h.allowed.sorted g.1 in
-    let picks : ArePicked q a.values (map (reading_of r) ls) = subst (ArePicked q a.values) (sym (further-map t s q (known_in t n a e) a.kinds ls theirs)) g.2 in
-    let ones = pairs-one t.kinds t.content ls theirs a e r q sorted (all-agree r q ls a.values picks) (λ k i x. x.stands s.unknowns q ∙ ap (q k) (zero-plus t.kinds t.content ls theirs a e i)) in
-    let hold : Hold r (grown_of t n a e) =
-    subst (Every (Stands r)) (sym (for-bindings (known_in t n a e) t.content 0 a.kinds)) (further-holds t s q (known_in t n a e) a.kinds t.content.bindings t.made.table.values h.allowed.hold) in
-    let x = in-turn-keeps (better_in t n a e) (opens t n a e) (todo t n a e) (grown_of t n a e) r (grown-made t.kinds t.content ls theirs a e t.made.table) (pairs-made t.kinds t.content ls theirs a e)
-    (further-apart t s r (grown_of t n a e).ty_vars (grown_of t n a e).const_vars h refl sorted) hold ones in
-    let put : put_into t.content (originals_of t n) a ≡ Some (with_constraints (filled (values_in t n a e) a.constraints) x.0) =
-    ap (λ b. if b then applied t.content (originals_of t n) a else Some t.content) e
-    ∙ ap (option_map (with_constraints (filled (values_in t n a e) a.constraints))) (turns t.kinds t.content ls theirs a e (grown_of t n a e) ∙ x.1) in
-    goes-further t n a s r.unknowns (with_constraints (filled (values_in t n a e) a.constraints) x.0) h put sorted x.2 (sym (further-map t s q (known_in t n a e) a.kinds t.labels t.made.leaves))
-
--- another answer changes nothing
-other-keeps : (t : FrameTable) (n : Nested) (a : AnswerTrees) → is_fitting_answer (originals_of t n) a ≡ false → (s : Terms) → AllowsApart t s → GoesFurther t s (apply t n a)
-other-keeps t n a e s h = goes-further t n a s s.unknowns t.content h (ap (λ b. if b then applied t.content (originals_of t n) a else Some t.content) e) h.allowed.sorted h.allowed.hold refl
-
-pub apply_keeps : (t : FrameTable) (n : Nested) (a : AnswerTrees) (s : Terms) → AllowsApart t s → Agrees a (values_at t n s) → GoesFurther t s (apply t n a)
-apply_keeps t n a s h g = by (is_fitting_answer (originals_of t n) a) refl
-  where
-    by : (b : Bool) → is_fitting_answer (originals_of t n) a ≡ b → GoesFurther t s (apply t n a)
-    by true e = answer-keeps t n a e s h g
-    by false e = other-keeps t n a e s h

@@ -2,47 +2,22 @@
 use Rattle.std.proofs.Common.{◌≡◌, ℕ, zero, suc, ◌+◌, ◌<◌, ◌≤◌, arith, Bool, true, false, ◌&&◌, List, [], ◌∷◌, map, refl, sym, ◌∙◌, ap, Some, if◌then◌else◌}
 use Rattle.std.proofs.lemmas.Bool.Decides.{nat_tests}
 use Rattle.std.specs.Prelude.{ltb}
-use Rattle.model.specs.Label.{Label, Sort, of_type, of_const, of_lifetime, infer, param, placeholder, canonical, bound, static, never}
+use Rattle.model.specs.Label.{Label, Sort, of_type, of_const, of_lifetime, infer, placeholder, static, never}
 use Rattle.model.specs.Trees.{Trees, none, tree, leaf, sort_of, is_sort, is_a}
 use Rattle.infer_table.specs.Solutions.{Assignment, tree_of}
-use Rattle.infer_table.specs.Unification.{TableTrees}
 use Rattle.infer_table.specs.declared.canonical.CanonicalVarKind.{CanonicalVarKind}
 use Rattle.infer_table.specs.declared.canonical.CanonicalVarKind.TheVariants.{Ty, PlaceholderTy, Const, PlaceholderConst, Region}
+use Rattle.infer_table.proofs.SolutionLaws.{is_sort-equal as is-sort}
 use Rattle.evaluation.specs.Lists.{Every}
 use Rattle.table_laws.specs.Instances.{default_label, of_sort, first_term, other_terms}
 use Rattle.type_terms.specs.Made.{terms, is_made}
 use Rattle.table_laws.specs.Content.{Values, Terms, fits, reading_of}
-use Rattle.table_laws.specs.Frames.{kind_at, is_good, is_placeholder_of, AreOwn, IsMadeFrame, FrameTable, HaveValues, Allows}
-use Rattle.table_laws.proofs.Made.{false-true}
+use Rattle.table_laws.specs.Frames.{kind_at, is_good, is_placeholder_of, AreOwn, IsMadeFrame, HaveValues, consts_in, first_content, labels_from, types_in}
+use Rattle.type_terms.proofs.Made.{false-true, left}
 use Rattle.table_laws.proofs.Reading.{append-none}
 use Rattle.table_laws.proofs.Equating.{single-of}
 
 -- ---- labels
--- how many variables of a kind there are
-abbrev pub types_in : List CanonicalVarKind → ℕ
-types_in [] = 0
-types_in (Ty ∷ ks) = suc (types_in ks)
-types_in (k ∷ ks) = types_in ks
-
-abbrev pub consts_in : List CanonicalVarKind → ℕ
-consts_in [] = 0
-consts_in (Const ∷ ks) = suc (consts_in ks)
-consts_in (k ∷ ks) = consts_in ks
-
-abbrev pub regions_in : List CanonicalVarKind → ℕ
-regions_in [] = 0
-regions_in (Region ∷ ks) = suc (regions_in ks)
-regions_in (k ∷ ks) = regions_in ks
-
--- the next unknown for each variable, and for one that stands for any the placeholder of its place
-abbrev pub labels_from : ℕ → ℕ → ℕ → ℕ → List CanonicalVarKind → List Label
-labels_from a b c i [] = []
-labels_from a b c i (Ty ∷ ks) = infer of_type a ∷ labels_from (suc a) b c (suc i) ks
-labels_from a b c i (Const ∷ ks) = infer of_const b ∷ labels_from a (suc b) c (suc i) ks
-labels_from a b c i (Region ∷ ks) = infer of_lifetime c ∷ labels_from a b (suc c) (suc i) ks
-labels_from a b c i (PlaceholderTy ∷ ks) = placeholder of_type i ∷ labels_from a b c (suc i) ks
-labels_from a b c i (PlaceholderConst ∷ ks) = placeholder of_const i ∷ labels_from a b c (suc i) ks
-
 own-labels : (a b c i : ℕ) (ks : List CanonicalVarKind) → AreOwn i ks (labels_from a b c i ks)
 own-labels a b c i [] = tt
 own-labels a b c i (Ty ∷ ks) = ((a, refl), own-labels (suc a) b c (suc i) ks)
@@ -96,23 +71,16 @@ module _ (kinds : List CanonicalVarKind) (types consts : ℕ) where
   leaves-made a b c i (PlaceholderConst ∷ ks) p q r =
       (place-leaf of_const i (ap (is_placeholder_of of_const) (rest-here kinds i PlaceholderConst ks r)), leaves-made a b c (suc i) ks p q (rest-on kinds i PlaceholderConst ks r))
 
--- ---- the table
-abbrev pub first_content : List CanonicalVarKind → TableTrees
-first_content kinds = record { ty_vars = types_in kinds; const_vars = consts_in kinds; region_vars = regions_in kinds; bindings = []; constraints = none }
+pub zero-plus : (j : ℕ) → 0 + j ≡ j
+zero-plus j = omega arith
 
+-- ---- the table
 pub begin-made : (kinds : List CanonicalVarKind) → IsMadeFrame kinds (labels_from 0 0 0 0 kinds) (first_content kinds)
 begin-made kinds = record {
   table = record { acyclic = tt; values = tt; counted = record { types = λ v h. below-is v (types_in kinds) h; consts = λ v h. below-is v (consts_in kinds) h } };
   leaves = leaves-made kinds (types_in kinds) (consts_in kinds) 0 0 0 0 kinds (omega arith) (omega arith) (λ j. ap (kind_at kinds) (zero-plus j));
   own = own-labels 0 0 0 0 kinds;
 }
-  where
-    zero-plus : (j : ℕ) → 0 + j ≡ j
-    zero-plus j = omega arith
-
--- the table of a goal whose variables are of these kinds
-abbrev pub begin : List CanonicalVarKind → FrameTable
-begin kinds = record { kinds = kinds; labels = labels_from 0 0 0 0 kinds; content = first_content kinds; made = begin-made kinds }
 
 -- ---- all values are allowed
 abbrev pub node_of : Sort → Trees → Label × Trees
@@ -136,16 +104,6 @@ abbrev values_from : List CanonicalVarKind → List Trees → Assignment
 values_from ks ts of_type n = type_value ks ts n
 values_from ks ts of_const n = const_value ks ts n
 values_from ks ts of_lifetime n = (static, none)
-
-is-sort : (j k : Sort) → is_sort j k ≡ true → j ≡ k
-is-sort of_type of_type h = refl
-is-sort of_const of_const h = refl
-is-sort of_lifetime of_lifetime h = refl
-is-sort j k h = absurd (false-true h)
-
-left : (a b : Bool) → (a && b) ≡ true → a ≡ true
-left true b h = refl
-left false b h = h
 
 -- a term of a sort is the tree of its node
 pub record IsNodeOf (k : Sort) (t : Trees) : Type 0 where
@@ -179,21 +137,15 @@ type-sorted : (ks : List CanonicalVarKind) (ts : List Trees) (n : ℕ) → sort_
 type-sorted [] ts n = refl
 type-sorted (Ty ∷ ks) ts zero = (node-is of_type (first_term ts)).sort
 type-sorted (Ty ∷ ks) ts (suc n) = type-sorted ks (other_terms ts) n
-type-sorted (Const ∷ ks) ts n = type-sorted ks (other_terms ts) n
-type-sorted (Region ∷ ks) ts n = type-sorted ks (other_terms ts) n
-type-sorted (PlaceholderTy ∷ ks) ts n = type-sorted ks (other_terms ts) n
-type-sorted (PlaceholderConst ∷ ks) ts n = type-sorted ks (other_terms ts) n
+type-sorted (k ∷ ks) ts n = type-sorted ks (other_terms ts) n
 
 const-sorted : (ks : List CanonicalVarKind) (ts : List Trees) (n : ℕ) → sort_of (const_value ks ts n).0 ≡ of_const
 const-sorted [] ts n = refl
 const-sorted (Const ∷ ks) ts zero = (node-is of_const (first_term ts)).sort
 const-sorted (Const ∷ ks) ts (suc n) = const-sorted ks (other_terms ts) n
-const-sorted (Ty ∷ ks) ts n = const-sorted ks (other_terms ts) n
-const-sorted (Region ∷ ks) ts n = const-sorted ks (other_terms ts) n
-const-sorted (PlaceholderTy ∷ ks) ts n = const-sorted ks (other_terms ts) n
-const-sorted (PlaceholderConst ∷ ks) ts n = const-sorted ks (other_terms ts) n
+const-sorted (k ∷ ks) ts n = const-sorted ks (other_terms ts) n
 
-values-sorted : (ks : List CanonicalVarKind) (ts : List Trees) (k : Sort) (v : ℕ) → sort_of (values_from ks ts k v).0 ≡ k
+pub values-sorted : (ks : List CanonicalVarKind) (ts : List Trees) (k : Sort) (v : ℕ) → sort_of (values_from ks ts k v).0 ≡ k
 values-sorted ks ts of_type v = type-sorted ks ts v
 values-sorted ks ts of_const v = const-sorted ks ts v
 values-sorted ks ts of_lifetime v = refl
@@ -235,48 +187,7 @@ have-values kinds s all e a b c i (Region ∷ ks) ts g = have-values kinds s all
 have-values kinds s all e a b c i (PlaceholderTy ∷ ks) ts g = have-values kinds s all e a b c (suc i) ks (other_terms ts) (record { types = g.types; consts = g.consts })
 have-values kinds s all e a b c i (PlaceholderConst ∷ ks) ts g = have-values kinds s all e a b c (suc i) ks (other_terms ts) (record { types = g.types; consts = g.consts })
 
--- reading does not look at the slots
-same-readings : (kinds : List CanonicalVarKind) (v : Values) (slots : List Trees) (p : Bool) (ls : List Label)
-    → map (reading_of (record { own = v; slots = []; unknowns = values_from kinds v.terms; proper = true })) ls ≡ map (reading_of (record { own = v; slots = slots; unknowns = values_from kinds v.terms; proper = p })) ls
-same-readings kinds v slots p [] = refl
-same-readings kinds v slots p (l ∷ ls) = cons _ _ _ _ (one l) (same-readings kinds v slots p ls)
-  where
-    cons : (x y : Trees) (xs ys : List Trees) → x ≡ y → xs ≡ ys → x ∷ xs ≡ y ∷ ys
-    cons x y xs ys e f = cc
-
-    one : (l : Label) → reading_of (record { own = v; slots = []; unknowns = values_from kinds v.terms; proper = true }) l ≡ reading_of (record { own = v; slots = slots; unknowns = values_from kinds v.terms; proper = p }) l
-    one (infer of_type n) = refl
-    one (infer of_const n) = refl
-    one (infer of_lifetime n) = refl
-    one (param of_type n) = refl
-    one (param of_const n) = refl
-    one (param of_lifetime n) = refl
-    one (placeholder of_type n) = refl
-    one (placeholder of_const n) = refl
-    one (placeholder of_lifetime n) = refl
-    one (canonical of_type n) = refl
-    one (canonical of_const n) = refl
-    one (canonical of_lifetime n) = refl
-    one (bound of_type m n) = refl
-    one (bound of_const m n) = refl
-    one (bound of_lifetime m n) = refl
-    one l = refl
-
--- the variables with which a frame begins can have all values
-pub begins-free : (kinds : List CanonicalVarKind) (v : Values) → (s : Terms) × Allows (begin kinds) s × (s.own ≡ v)
-begins-free kinds v =
-    let s = terms_for kinds v in (
-      s,
-      record {
-        sorted = values-sorted kinds v.terms;
-        hold = tt;
-        slots = same-readings kinds v s.slots s.proper (labels_from 0 0 0 0 kinds);
-        own = have-values kinds (record { own = v; slots = []; unknowns = values_from kinds v.terms; proper = true }) v.terms refl 0 0 0 0 kinds v.terms
-            (record { types = λ n. ap (type_value kinds v.terms) (zero-plus n); consts = λ n. ap (const_value kinds v.terms) (zero-plus n) });
-        proper = refl;
-      },
-      refl,
-    )
-  where
-    zero-plus : (j : ℕ) → 0 + j ≡ j
-    zero-plus j = omega arith
+pub given-values : (kinds : List CanonicalVarKind) (v : Values) → HaveValues kinds v.terms (terms_for kinds v).slots
+given-values kinds v =
+    have-values kinds (record { own = v; slots = []; unknowns = values_from kinds v.terms; proper = true }) v.terms refl 0 0 0 0 kinds v.terms
+    (record { types = λ n. ap (type_value kinds v.terms) (zero-plus n); consts = λ n. ap (const_value kinds v.terms) (zero-plus n) })

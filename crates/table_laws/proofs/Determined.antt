@@ -6,18 +6,18 @@ use Rattle.infer_table.specs.Content.{IsProper}
 use Rattle.infer_table.specs.Canonical.{StandsInGoal, kind_of_leaf, kind_in_clause, leaves, goal_leaves}
 use Rattle.infer_table.specs.Solutions.{Assignment, Binding, tree_of, is_variable, resolved, occurs, HasValues, is_rigid}
 use Rattle.infer_table.specs.declared.canonical.CanonicalVarKind.{CanonicalVarKind}
-use Rattle.infer_table.specs.declared.canonical.CanonicalVarKind.TheVariants.{Ty, PlaceholderTy, Const, PlaceholderConst, Region}
+use Rattle.infer_table.specs.declared.canonical.CanonicalVarKind.TheVariants.{Ty, Const}
 use Rattle.infer_table.proofs.SolutionLaws.{is_variable-equal, is_variable-self}
 use Rattle.evaluation.specs.Lists.{Every, IsAmong}
 use Rattle.table_laws.specs.Instances.{read_with, put_in, default_label, of_sort, is_place, as_place, first_term, other_terms, term_at}
-use Rattle.table_laws.specs.Content.{Values, Fact, Terms, given, fits, standing, reading_of, Stands}
+use Rattle.table_laws.specs.Content.{Values, Fact, Terms, given, fits, standing, reading_of}
 use Rattle.table_laws.specs.Frames.{good_in, AreOwn, FrameTable, HaveValues, Allows, Nested, slot_at, goal_in, question, fact}
 use Rattle.table_laws.specs.Finite.{default_terms, IsFree, IsDetermined, OwnDetermine}
-use Rattle.table_laws.proofs.Made.{false-true}
-use Rattle.table_laws.proofs.Reading.{append-none, read-put}
+use Rattle.type_terms.proofs.Made.{false-true}
+use Rattle.table_laws.proofs.Reading.{append-none, read-put, reads-same, same-map, same-hold}
 use Rattle.table_laws.proofs.Questions.{read-resolved, sort-of-sort, is-place, put-in-slots}
 use Rattle.table_laws.proofs.Free.{resolved-one, based, completed, completed-reads, completed-holds, completed-sorted}
-use Rattle.table_laws.proofs.Freedom.{reads-same}
+use Rattle.table_laws.proofs.Equating.{default-sort}
 use Rattle.table_laws.proofs.Finite.{AreOf, made-hold, default-made, of-sort-made, place-made}
 use Rattle.table_laws.proofs.Nodes.{AreNodes, nodes-proper, nodes-put, nodes-resolved, IsOpenNode, open-node, every-leaf, read-at, read-absent}
 
@@ -81,11 +81,6 @@ leaf-proper l = (tt, tt)
 abbrev with_default : Sort → ℕ → Assignment → Assignment
 with_default k v u j w = if is_variable j w k v then (default_label k, none) else u j w
 
-default-sort : (k : Sort) → sort_of (default_label k) ≡ k
-default-sort of_type = refl
-default-sort of_const = refl
-default-sort of_lifetime = refl
-
 with-default-sorted : (k : Sort) (v : ℕ) (u : Assignment) → ((j : Sort) (w : ℕ) → sort_of (u j w).0 ≡ j) → (j : Sort) (w : ℕ) → sort_of (with_default k v u j w).0 ≡ j
 with-default-sorted k v u h j w = by (is_variable j w k v) refl
   where
@@ -93,22 +88,15 @@ with-default-sorted k v u h j w = by (is_variable j w k v) refl
     by true e = default-sort k ∙ sym (is_variable-equal j k w v e).0
     by false e = h j w
 
--- ---- reading looks at the own values and the unknowns alone
-same-map : (a b : Terms) → a.own ≡ b.own → a.unknowns ≡ b.unknowns → (ls : List Label) → map (reading_of a) ls ≡ map (reading_of b) ls
-same-map a b e f [] = refl
-same-map a b e f (l ∷ ls) = cons _ _ _ _ (reads-same a b e f (leaf l)) (same-map a b e f ls)
-  where
-    cons : (x y : Trees) (xs ys : List Trees) → x ≡ y → xs ≡ ys → x ∷ xs ≡ y ∷ ys
-    cons x y xs ys e f = cc
-
-same-hold : (a b : Terms) → a.own ≡ b.own → a.unknowns ≡ b.unknowns → (bs : List Binding) → Every (Stands a) bs → Every (Stands b) bs
-same-hold a b e f [] h = tt
-same-hold a b e f (x ∷ bs) h = (sym (ap (λ (u : Assignment). tree_of (u x.sort x.var)) f) ∙ h.0 ∙ reads-same a b e f x.value, same-hold a b e f bs h.1)
-
 reading-unknown : (s : Terms) (k : Sort) → HasValues k → (v : ℕ) → reading_of s (infer k v) ≡ tree_of (s.unknowns k v)
 reading-unknown s of_type g v = refl
 reading-unknown s of_const g v = refl
 reading-unknown s of_lifetime g v = absurd g
+
+-- the goal that is asked, part by part
+goal-nodes : (t : FrameTable) (x : Trees) → AreNodes (resolved t.content.bindings (put_in (slot_at t.labels) x))
+goal-nodes t x =
+    nodes-resolved t.kinds t.content.ty_vars t.content.const_vars t.content.bindings t.made.table.values (put_in (slot_at t.labels) x) (nodes-put t.kinds t.content.ty_vars t.content.const_vars t.labels t.made.leaves x)
 
 module _ (t : FrameTable) (s : Terms) (a : Allows t s) (k : Sort) (g : HasValues k) (v : ℕ) where
   abbrev bindings : List Binding
@@ -198,11 +186,7 @@ module _ (t : FrameTable) (s : Terms) (a : Allows t s) (k : Sort) (g : HasValues
       here-or-later of_const m ts (HaveValues ks (other_terms ts) (map (reading_of other) labels)) h.0
       (own-at of_const m tt (λ x q. let y = f x in (y.0, y.1, sym y.2.0 ∙ sort-of-sort of_const x q)))
       (own-or-kept (suc place) ks labels (other_terms ts) o.1 h.1 (λ x. let y = f x in (y.0, y.1, y.2.1)))
-  own-or-kept place (Region ∷ ks) (m ∷ labels) ts o h f =
-      later ts (HaveValues ks (other_terms ts) (map (reading_of other) labels)) (own-or-kept (suc place) ks labels (other_terms ts) o.1 h (λ x. let y = f x in (y.0, y.1, y.2)))
-  own-or-kept place (PlaceholderTy ∷ ks) (m ∷ labels) ts o h f =
-      later ts (HaveValues ks (other_terms ts) (map (reading_of other) labels)) (own-or-kept (suc place) ks labels (other_terms ts) o.1 h (λ x. let y = f x in (y.0, y.1, y.2)))
-  own-or-kept place (PlaceholderConst ∷ ks) (m ∷ labels) ts o h f =
+  own-or-kept place (x ∷ ks) (m ∷ labels) ts o h f =
       later ts (HaveValues ks (other_terms ts) (map (reading_of other) labels)) (own-or-kept (suc place) ks labels (other_terms ts) o.1 h (λ x. let y = f x in (y.0, y.1, y.2)))
 
   free-from : IsFree t → AreFreeFrom t.kinds t.labels
@@ -224,9 +208,6 @@ module _ (t : FrameTable) (s : Terms) (a : Allows t s) (k : Sort) (g : HasValues
     put-in : Trees → Trees
     put-in x = put_in (slot_at t.labels) x
 
-    goal-nodes : (x : Trees) → AreNodes (resolved bindings (put_in (slot_at t.labels) x))
-    goal-nodes x = nodes-resolved t.kinds t.content.ty_vars t.content.const_vars bindings t.made.table.values (put_in (slot_at t.labels) x) (nodes-put t.kinds t.content.ty_vars t.content.const_vars t.labels t.made.leaves x)
-
     part-reads : (x : Trees) → Allows t other → read_with (given s.slots) x ≡ read_with (given other.slots) x
         → read_with (standing s) (resolved bindings (put_in (slot_at t.labels) x)) ≡ read_with (standing low) (resolved bindings (put_in (slot_at t.labels) x))
     part-reads x b e =
@@ -238,10 +219,10 @@ module _ (t : FrameTable) (s : Terms) (a : Allows t s) (k : Sort) (g : HasValues
 
     default-read : Allows t other → fact n s ≡ fact n other → StandsInGoal (goal_in t n) (infer k v) → reading_of s (infer k v) ≡ leaf (default_label k)
     default-read b e (inl i) =
-        read-at s low a.sorted base-sorted kind_in_clause k v (goal_in t n).environment (goal-nodes n.goal.environment) (part-reads n.goal.environment b (ap (λ (z : Fact). z.goal.environment) e)) i
+        read-at s low a.sorted base-sorted kind_in_clause k v (goal_in t n).environment (goal-nodes t n.goal.environment) (part-reads n.goal.environment b (ap (λ (z : Fact). z.goal.environment) e)) i
         ∙ low-reads
     default-read b e (inr i) =
-        read-at s low a.sorted base-sorted kind_of_leaf k v (goal_in t n).predicate (goal-nodes n.goal.predicate) (part-reads n.goal.predicate b (ap (λ (z : Fact). z.goal.predicate) e)) i
+        read-at s low a.sorted base-sorted kind_of_leaf k v (goal_in t n).predicate (goal-nodes t n.goal.predicate) (part-reads n.goal.predicate b (ap (λ (z : Fact). z.goal.predicate) e)) i
         ∙ low-reads
 
     pub unknown-made : IsFree t → IsDetermined t n → StandsInGoal (goal_in t n) (infer k v) → IsAmong (reading_of s (infer k v)) (s.own.terms ++ default_terms)
@@ -264,14 +245,8 @@ open-in-clause l x = absurd (false-true x.is_open)
 
 module _ (t : FrameTable) (n : Nested) (free : IsFree t) (determined : IsDetermined t n) (s : Terms) (a : Allows t s) where
   leaf-node : (l : Label) → StandsInGoal (goal_in t n) l → IsOpenNode kind_of_leaf l
-  leaf-node l (inl i) = open-in-clause l (open-node kind_in_clause (goal_in t n).environment (nodes n.goal.environment) l i)
-    where
-      nodes : (x : Trees) → AreNodes (resolved t.content.bindings (put_in (slot_at t.labels) x))
-      nodes x = nodes-resolved t.kinds t.content.ty_vars t.content.const_vars t.content.bindings t.made.table.values (put_in (slot_at t.labels) x) (nodes-put t.kinds t.content.ty_vars t.content.const_vars t.labels t.made.leaves x)
-  leaf-node l (inr i) = open-node kind_of_leaf (goal_in t n).predicate (nodes n.goal.predicate) l i
-    where
-      nodes : (x : Trees) → AreNodes (resolved t.content.bindings (put_in (slot_at t.labels) x))
-      nodes x = nodes-resolved t.kinds t.content.ty_vars t.content.const_vars t.content.bindings t.made.table.values (put_in (slot_at t.labels) x) (nodes-put t.kinds t.content.ty_vars t.content.const_vars t.labels t.made.leaves x)
+  leaf-node l (inl i) = open-in-clause l (open-node kind_in_clause (goal_in t n).environment (goal-nodes t n.goal.environment) l i)
+  leaf-node l (inr i) = open-node kind_of_leaf (goal_in t n).predicate (goal-nodes t n.goal.predicate) l i
 
   leaf-made : (l : Label) → StandsInGoal (goal_in t n) l → IsAmong (reading_of s l) (s.own.terms ++ default_terms)
   leaf-made l i = by l (leaf-node l i) i

@@ -1,35 +1,25 @@
 -- Equations of a candidate over a frame's table.
 use Rattle.std.proofs.Common.{◌≡◌, ℕ, zero, suc, Bool, true, false, not, ◌&&◌, ◌||◌, List, [], ◌∷◌, map, refl, sym, ◌∙◌, ap, subst, Option, Some, None, if◌then◌else◌, ◌⊎◌, inl, inr}
-use Rattle.model.specs.Label.{Label, Sort, of_type, of_const, of_lifetime, infer, param, placeholder, canonical, static, dynamic, principal, auto_trait, bound}
+use Rattle.model.specs.Label.{Label, Sort, of_type, of_const, of_lifetime, infer, param, placeholder, canonical, static, dynamic, principal, auto_trait, bound, predicate}
 use Rattle.model.specs.Trees.{Trees, none, tree, leaf, ◌+++◌, sort_of, is_sort, is_a, is_no_tree, placed, Single}
 use Rattle.infer_table.specs.Unification.{TableTrees, Worklist, unified}
 use Rattle.infer_table.specs.Solutions.{HasValues}
 use Rattle.infer_table.specs.declared.canonical.CanonicalVarKind.{CanonicalVarKind}
 use Rattle.infer_table.specs.Values.{Value}
+use Rattle.infer_table.proofs.SolutionLaws.{is_sort-equal as is-sort}
 use Rattle.evaluation.specs.Lists.{Every}
 use Rattle.table_laws.specs.Instances.{put_in, default_label, as_place, term_at}
 use Rattle.type_terms.specs.Made.{Standing, terms, bounds, traits, is_leaf_label, is_made}
 use Rattle.table_laws.specs.Content.{Terms, fits, standing, given, reading_of}
 use Rattle.table_laws.specs.Equations.{AreOne, Hold, IsTerm, IsPair, HasLifetimes, IsMade, IsAfter, IsApart}
-use Rattle.table_laws.specs.Frames.{FitPlaceholders, HaveValues, is_good, is_placeholder_of, kind_at, FrameTable, IsMadeFrame, Allows, AllowsApart, label_at, label_of_sort, slot_at, Equation, is_open_label, term_of, Meets, pair_in, and_then, in_turn}
+use Rattle.table_laws.specs.Frames.{HaveValues, is_good, is_placeholder_of, kind_at, FrameTable, IsMadeFrame, Allows, AllowsApart, label_at, label_of_sort, slot_at, Equation, is_open_label, term_of, Meets, pair_in, and_then, in_turn, frame_if, pairs_in}
 use Rattle.table_laws.proofs.Reading.{read-put, append-none}
-use Rattle.table_laws.proofs.Made.{false-true, left, right, both, no-tree, is_ordinary, made-ordinary, makes-ordinary, made-append, IsLast, last-bound, last-trait, never-dynamic, never-dynamic-bound, never-principal}
+use Rattle.type_terms.proofs.Made.{false-true, left, right, both, no-tree, is_ordinary, made-ordinary, makes-ordinary, made-append, IsLast, last-bound, last-trait, never-dynamic, never-dynamic-bound, never-principal}
 use Rattle.table_laws.proofs.Questions.{put-in-slots}
-use Rattle.table_laws.proofs.Complete.{equations_narrow, equations_keep, equations_stay_made}
+use Rattle.table_laws.proofs.Assignments.{equations_narrow, equations_keep, equations_stay_made}
 
 -- ---- terms over canonical variables
-pub is-sort : (j k : Sort) → is_sort j k ≡ true → j ≡ k
-is-sort of_type of_type h = refl
-is-sort of_const of_const h = refl
-is-sort of_lifetime of_lifetime h = refl
-is-sort j k h = absurd (false-true h)
-
-pub sort-self : (k : Sort) → is_sort k k ≡ true
-sort-self of_type = refl
-sort-self of_const = refl
-sort-self of_lifetime = refl
-
-default-sort : (k : Sort) → sort_of (default_label k) ≡ k
+pub default-sort : (k : Sort) → sort_of (default_label k) ≡ k
 default-sort of_type = refl
 default-sort of_const = refl
 default-sort of_lifetime = refl
@@ -104,12 +94,14 @@ module _ (good : Label → Bool) (ls : List Label) (h : AreSlots good ls) where
   leaf-good dynamic e m = absurd (false-true e)
   leaf-good (principal a b) e m = absurd (false-true e)
   leaf-good (auto_trait a) e m = absurd (false-true e)
+  leaf-good (predicate k) e m = absurd (false-true e)
   leaf-good l e m = (made-ordinary good l none none refl m).0
 
   last-made : (m : Standing) (l : Label) → is_sort (sort_of l) of_lifetime ≡ true → good l ≡ true → (is_made good traits (leaf l) ≡ true) × (is_made good bounds (leaf l) ≡ true)
   last-made m dynamic e g = absurd (false-true e)
   last-made m (principal a b) e g = absurd (false-true e)
   last-made m (auto_trait a) e g = absurd (false-true e)
+  last-made m (predicate k) e g = absurd (false-true e)
   last-made m l e g = (both (good l) _ g (both (is_sort (sort_of l) of_lifetime) _ e refl), both (good l) _ g (both (is_sort (sort_of l) of_lifetime) _ e refl))
 
   last-put : (l : Label) (c o : Trees) → IsLast is_open_label l c o → (is_made good traits (put_in (slot_at ls) (tree l c o)) ≡ true) × (is_made good bounds (put_in (slot_at ls) (tree l c o)) ≡ true)
@@ -135,6 +127,7 @@ module _ (good : Label → Bool) (ls : List Label) (h : AreSlots good ls) where
       (made-put bounds c (left (is_made is_open_label bounds c) (is_made is_open_label terms o) e)) (made-put terms o (right (is_made is_open_label bounds c) (is_made is_open_label terms o) e))
   made-put terms (tree (principal a b) c o) e = absurd (false-true e)
   made-put terms (tree (auto_trait a) c o) e = absurd (false-true e)
+  made-put terms (tree (predicate k) c o) e = absurd (false-true e)
   made-put terms (tree l c o) e =
       let x = made-ordinary is_open_label l c o refl e in
       ordinary-put l c o refl e (made-put terms c x.2) (made-put terms o x.3)
@@ -142,12 +135,14 @@ module _ (good : Label → Bool) (ls : List Label) (h : AreSlots good ls) where
   made-put bounds (tree (principal a b) c o) e =
       both (is_made good terms (put_in (slot_at ls) c)) (is_made good traits (put_in (slot_at ls) o))
       (made-put terms c (left (is_made is_open_label terms c) (is_made is_open_label traits o) e)) (made-put traits o (right (is_made is_open_label terms c) (is_made is_open_label traits o) e))
+  made-put bounds (tree (predicate k) c o) e = absurd (false-true e)
   made-put bounds (tree (auto_trait a) c o) e =
       both (is_no_tree (put_in (slot_at ls) c)) (is_made good traits (put_in (slot_at ls) o))
       (ap is_no_tree (no-tree-put c (no-tree c (left (is_no_tree c) (is_made is_open_label traits o) e)))) (made-put traits o (right (is_no_tree c) (is_made is_open_label traits o) e))
   made-put bounds (tree dynamic c o) e = absurd (never-dynamic-bound is_open_label c o e)
   made-put bounds (tree l c o) e = (last-put l c o (last-bound is_open_label l c o refl e)).1
   made-put traits none e = absurd (false-true e)
+  made-put traits (tree (predicate k) c o) e = absurd (false-true e)
   made-put traits (tree (auto_trait a) c o) e =
       both (is_no_tree (put_in (slot_at ls) c)) (is_made good traits (put_in (slot_at ls) o))
       (ap is_no_tree (no-tree-put c (no-tree c (left (is_no_tree c) (is_made is_open_label traits o) e)))) (made-put traits o (right (is_no_tree c) (is_made is_open_label traits o) e))
@@ -295,25 +290,14 @@ frame-after t u a =
       own = t.made.own;
     }
 
-abbrev pub frame_if : (t : FrameTable) (o : Option TableTrees) → ((u : TableTrees) → o ≡ Some u → IsMadeFrame t.kinds t.labels u) → Option FrameTable
-frame_if t None f = None
-frame_if t (Some u) f = Some (record { kinds = t.kinds; labels = t.labels; content = u; made = f u refl })
-
-every-map : {A B : Type 0} (f : A → B) (P : B → Type 0) → ((x : A) → P (f x)) → (xs : List A) → Every P (map f xs)
+pub every-map : {A B : Type 0} (f : A → B) (P : B → Type 0) → ((x : A) → P (f x)) → (xs : List A) → Every P (map f xs)
 every-map f P h [] = tt
 every-map f P h (x ∷ xs) = (h x, every-map f P h xs)
-
-abbrev pub pairs_in : FrameTable → List Equation → Worklist
-pairs_in t es = map (pair_in t) es
 
 pub made-in-turn : (t : FrameTable) (es : List Equation) (u : TableTrees) → in_turn (pairs_in t es) t.content ≡ Some u → IsMadeFrame t.kinds t.labels u
 made-in-turn t es u e =
     let good = is_good t.kinds t.content.ty_vars t.content.const_vars in
     frame-after t u (in-turn-narrows good (lifetimes-good t.kinds t.content.ty_vars t.content.const_vars) (pairs_in t es) t.content u t.made.table (every-map (pair_in t) (IsPair good) (pair-terms t) es) e).after
-
--- the table with the equations in it; none: refused
-abbrev pub equate : FrameTable → List Equation → Option FrameTable
-equate t es = frame_if t (in_turn (pairs_in t es) t.content) (made-in-turn t es)
 
 -- what a table is that was not refused
 pub record IsFrame (t : FrameTable) (c : TableTrees) (u : FrameTable) : Type 0 where
@@ -346,40 +330,6 @@ allows-of t u c s i h a = record {
   proper = a.proper ∙ ap (λ ks. s.own.proper && fits (map Some ks) s.own.terms) i.kinds;
 }
 
-allows-too : (t u : FrameTable) (c : TableTrees) (s : Terms) → IsFrame t c u → Hold s c → Allows t s → Allows u s
-allows-too t u c s i h a = record {
-  sorted = a.sorted;
-  hold = subst (Hold s) (sym i.content) h;
-  slots = a.slots ∙ ap (map (reading_of s)) (sym i.labels);
-  own = subst (λ ks. HaveValues ks s.own.terms s.slots) (sym i.kinds) a.own;
-  proper = a.proper ∙ ap (λ ks. s.own.proper && fits (map Some ks) s.own.terms) (sym i.kinds);
-}
-
-left-after : (t : FrameTable) (es : List Equation) (c : TableTrees) → in_turn (pairs_in t es) t.content ≡ Some c
-    → InTurn (is_good t.kinds t.content.ty_vars t.content.const_vars) (lifetimes-good t.kinds t.content.ty_vars t.content.const_vars) t.content (pairs_in t es) c
-left-after t es c e =
-    let good = is_good t.kinds t.content.ty_vars t.content.const_vars in
-    in-turn-narrows good (lifetimes-good t.kinds t.content.ty_vars t.content.const_vars) (pairs_in t es) t.content c t.made.table (every-map (pair_in t) (IsPair good) (pair-terms t) es) e
-
-pub equate_narrows : (t u : FrameTable) (es : List Equation) → equate t es ≡ Some u → (s : Terms) → Allows u s → Allows t s
-equate_narrows t u es e s a =
-    let x = frame-of t (in_turn (pairs_in t es) t.content) (made-in-turn t es) u e in
-    allows-of t u x.0 s x.2 ((left-after t es x.0 x.1).only s (subst (Hold s) x.2.content a.hold)).0 a
-
-met-all : (t : FrameTable) (s : Terms) → Allows t s → (es : List Equation) → Every (AreOne s) (pairs_in t es) → Every (λ e. Meets e s) es
-met-all t s a [] h = tt
-met-all t s a (e ∷ es) h = ((pair-reads t s a e).0 h.0, met-all t s a es h.1)
-
-one-all : (t : FrameTable) (s : Terms) → Allows t s → (es : List Equation) → Every (λ e. Meets e s) es → Every (AreOne s) (pairs_in t es)
-one-all t s a [] h = tt
-one-all t s a (e ∷ es) h = ((pair-reads t s a e).1 h.0, one-all t s a es h.1)
-
-pub equate_meets : (t u : FrameTable) (es : List Equation) → equate t es ≡ Some u → (s : Terms) → Allows u s → Every (λ e. Meets e s) es
-equate_meets t u es e s a =
-    let x = frame-of t (in_turn (pairs_in t es) t.content) (made-in-turn t es) u e in
-    let y = (left-after t es x.0 x.1).only s (subst (Hold s) x.2.content a.hold) in
-    met-all t s (allows-of t u x.0 s x.2 y.0 a) es y.1
-
 -- terms that tell the placeholders of a table apart lose nothing
 pub is-apart : (t : FrameTable) (s : Terms) → AllowsApart t s → IsApart (is_good t.kinds t.content.ty_vars t.content.const_vars) s
 is-apart t s a = record {
@@ -398,29 +348,7 @@ is-apart t s a = record {
     value-sort of_const v = refl
     value-sort of_lifetime v = absurd v
 
--- the table was not refused, and allows the terms
-pub record GoesOn (s : Terms) (t : FrameTable) (e : Option FrameTable) : Type 0 where
-  pub table : FrameTable
-  pub is : e ≡ Some table
-  pub allows : AllowsApart table s
-  pub kinds : table.kinds ≡ t.kinds
-  pub labels : table.labels ≡ t.labels
-
 abbrev pub ApartIn : List CanonicalVarKind → Terms → Type 0
 ApartIn ks s =
     (k : Sort) (i j : ℕ) → is_placeholder_of k (kind_at ks i) ≡ true → is_placeholder_of k (kind_at ks j) ≡ true
     → as_place k (term_at s.own.terms i) ≡ as_place k (term_at s.own.terms j) → (is_sort k of_lifetime ≡ false) → i ≡ j
-
-pub equate_keeps : (t : FrameTable) (es : List Equation) (s : Terms) → AllowsApart t s → Every (λ e. Meets e s) es → GoesOn s t (equate t es)
-equate_keeps t es s a m =
-    let good = is_good t.kinds t.content.ty_vars t.content.const_vars in
-    let x = in-turn-keeps good (lifetimes-good t.kinds t.content.ty_vars t.content.const_vars) (pairs_in t es) t.content s t.made.table (every-map (pair_in t) (IsPair good) (pair-terms t) es)
-    (is-apart t s a) a.allowed.hold (one-all t s a.allowed es m) in
-    let y = frame-is t (in_turn (pairs_in t es) t.content) (made-in-turn t es) x.0 x.1 in
-    record {
-      table = y.0;
-      is = y.1;
-      allows = record { allowed = allows-too t y.0 x.0 s y.2 x.2 a.allowed; apart = subst (λ ks. ApartIn ks s) (sym y.2.kinds) a.apart; fit = subst (λ ks. FitPlaceholders ks s.own.terms) (sym y.2.kinds) a.fit };
-      kinds = y.2.kinds;
-      labels = y.2.labels;
-    }

@@ -5,32 +5,18 @@ use Rattle.model.specs.Trees.{Trees, none, leaf, is_a}
 use Rattle.infer_table.specs.Solutions.{HasValues}
 use Rattle.infer_table.specs.declared.canonical.CanonicalVarKind.{CanonicalVarKind}
 use Rattle.evaluation.specs.Lists.{IsAmong}
-use Rattle.evaluation.proofs.Unfold.{among-left, among-right}
+use Rattle.evaluation.proofs.Unfold.{among-left, among-right, among-map, among-parts}
 use Rattle.table_laws.specs.Instances.{default_label, of_sort, is_place, as_place, term_at}
 use Rattle.table_laws.specs.Content.{Values, Question}
 use Rattle.table_laws.specs.Finite.{default_terms, each_before, lists_of, marked, made_of, MadeOfIsClosed}
-use Rattle.table_laws.proofs.Made.{false-true}
+use Rattle.type_terms.proofs.Made.{false-true}
 use Rattle.table_laws.proofs.Questions.{sort-of-sort, not-of-sort}
 
 -- ---- membership
-mapped-among : {A B : Type 0} (f : A → B) (x : A) (xs : List A) → IsAmong x xs → IsAmong (f x) (map f xs)
-mapped-among f x [] a = absurd a
-mapped-among f x (y ∷ ys) (inl e) = inl (ap f e)
-mapped-among f x (y ∷ ys) (inr a) = inr (mapped-among f x ys a)
-
 among-mapped : {A B : Type 0} (f : A → B) (y : B) (xs : List A) → IsAmong y (map f xs) → (x : A) × IsAmong x xs × (y ≡ f x)
 among-mapped f y [] a = absurd a
 among-mapped f y (x ∷ xs) (inl e) = (x, inl refl, e)
 among-mapped f y (x ∷ xs) (inr a) = let r = among-mapped f y xs a in (r.0, inr r.1, r.2)
-
-pub among-append : {A : Type 0} (x : A) (xs ys : List A) → IsAmong x (xs ++ ys) → IsAmong x xs ⊎ IsAmong x ys
-among-append x [] ys a = inr a
-among-append x (y ∷ xs) ys (inl e) = inl (inl e)
-among-append {A} x (y ∷ xs) ys (inr a) = by (among-append x xs ys a)
-  where
-    by : IsAmong x xs ⊎ IsAmong x ys → IsAmong x (y ∷ xs) ⊎ IsAmong x ys
-    by (inl b) = inl (inr b)
-    by (inr b) = inr b
 
 -- ---- lists of terms
 -- each term is one of the choices, and there are as many as kinds
@@ -43,7 +29,7 @@ AreOf choices (k ∷ ks) (t ∷ ts) = IsAmong t choices × AreOf choices ks ts
 before-among : (t : Trees) (ts : List Trees) (rest : List Trees) (lists : List (List Trees)) → IsAmong t ts → IsAmong rest lists → IsAmong (t ∷ rest) (each_before ts lists)
 before-among t [] rest lists a b = absurd a
 before-among t (u ∷ us) rest lists (inl e) b =
-    among-left (t ∷ rest) (map (λ r. u ∷ r) lists) (each_before us lists) (subst (λ z. IsAmong (z ∷ rest) (map (λ r. u ∷ r) lists)) (sym e) (mapped-among (λ r. u ∷ r) rest lists b))
+    among-left (t ∷ rest) (map (λ r. u ∷ r) lists) (each_before us lists) (subst (λ z. IsAmong (z ∷ rest) (map (λ r. u ∷ r) lists)) (sym e) (among-map (λ r. u ∷ r) rest lists b))
 before-among t (u ∷ us) rest lists (inr a) b = among-right (t ∷ rest) (map (λ r. u ∷ r) lists) (each_before us lists) (before-among t us rest lists a b)
 
 lists-hold : (choices : List Trees) (ks : List (Option CanonicalVarKind)) (ts : List Trees) → AreOf choices ks ts → IsAmong ts (lists_of choices ks)
@@ -61,7 +47,7 @@ record IsBefore (ts : List Trees) (lists : List (List Trees)) (x : List Trees) :
 
 among-before : (ts : List Trees) (lists : List (List Trees)) (x : List Trees) → IsAmong x (each_before ts lists) → IsBefore ts lists x
 among-before [] lists x a = absurd a
-among-before (t ∷ ts) lists x a = by (among-append x (map (λ r. t ∷ r) lists) (each_before ts lists) a) (among-before ts lists x)
+among-before (t ∷ ts) lists x a = by (among-parts x (map (λ r. t ∷ r) lists) (each_before ts lists) a) (among-before ts lists x)
   where
     by : IsAmong x (map (λ r. t ∷ r) lists) ⊎ IsAmong x (each_before ts lists) → (IsAmong x (each_before ts lists) → IsBefore ts lists x) → IsBefore (t ∷ ts) lists x
     by (inl b) f = let r = among-mapped (λ r. t ∷ r) x lists b in record { first = t; rest = r.0; first_among = inl refl; rest_among = r.1; is = r.2 }
@@ -92,14 +78,14 @@ made-hold q v b ts h = by b (lists-hold (v.terms ++ default_terms) q.form.kinds 
     by : (b : Bool) → IsAmong ts (lists_of (v.terms ++ default_terms) q.form.kinds) → IsAmong (marked b ts) (made_of q v)
     by true a =
         among-left (marked true ts) (map (marked true) (lists_of (v.terms ++ default_terms) q.form.kinds)) (map (marked false) (lists_of (v.terms ++ default_terms) q.form.kinds))
-        (mapped-among (marked true) ts (lists_of (v.terms ++ default_terms) q.form.kinds) a)
+        (among-map (marked true) ts (lists_of (v.terms ++ default_terms) q.form.kinds) a)
     by false a =
         among-right (marked false ts) (map (marked true) (lists_of (v.terms ++ default_terms) q.form.kinds)) (map (marked false) (lists_of (v.terms ++ default_terms) q.form.kinds))
-        (mapped-among (marked false) ts (lists_of (v.terms ++ default_terms) q.form.kinds) a)
+        (among-map (marked false) ts (lists_of (v.terms ++ default_terms) q.form.kinds) a)
 
 pub made-are : (q : Question) (v w : Values) → IsAmong w (made_of q v) → AreOf (v.terms ++ default_terms) q.form.kinds w.terms
 made-are q v w a =
-    by (among-append w (map (marked true) (lists_of (v.terms ++ default_terms) q.form.kinds)) (map (marked false) (lists_of (v.terms ++ default_terms) q.form.kinds)) a)
+    by (among-parts w (map (marked true) (lists_of (v.terms ++ default_terms) q.form.kinds)) (map (marked false) (lists_of (v.terms ++ default_terms) q.form.kinds)) a)
   where
     at : (b : Bool) → IsAmong w (map (marked b) (lists_of (v.terms ++ default_terms) q.form.kinds)) → AreOf (v.terms ++ default_terms) q.form.kinds w.terms
     at b x =
@@ -116,7 +102,7 @@ made-of-closed p q u v w a b =
     made-hold p u w.proper w.terms (of-more (v.terms ++ default_terms) (u.terms ++ default_terms) more p.form.kinds w.terms (made-are p v w b))
   where
     more : (t : Trees) → IsAmong t (v.terms ++ default_terms) → IsAmong t (u.terms ++ default_terms)
-    more t x = by (among-append t v.terms default_terms x)
+    more t x = by (among-parts t v.terms default_terms x)
       where
         by : IsAmong t v.terms ⊎ IsAmong t default_terms → IsAmong t (u.terms ++ default_terms)
         by (inl y) = each-of (u.terms ++ default_terms) q.form.kinds v.terms (made-are q u v a) t y

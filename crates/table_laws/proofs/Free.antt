@@ -1,49 +1,28 @@
 -- A table whose answer holds no values leaves the variables with which it began free.
 use Rattle.std.proofs.Common.{◌≡◌, ℕ, Bool, true, false, ◌&&◌, List, [], ◌∷◌, refl, sym, ◌∙◌, ap, subst, Some, None, if◌then◌else◌, ◌⊎◌, inl, inr}
-use Rattle.model.specs.Label.{Label, Sort, of_type, of_const, of_lifetime, infer, param, placeholder, canonical, bound, dynamic, principal, auto_trait}
-use Rattle.model.specs.Trees.{Trees, none, tree, leaf, ◌+++◌, sort_of, is_sort, is_a, is_no_tree, Single, erase_label, placed}
+use Rattle.model.specs.Label.{Label, Sort, of_type, of_const, of_lifetime, infer}
+use Rattle.model.specs.Trees.{Trees, none, tree, leaf, ◌+++◌, sort_of, is_sort, is_a, Single, erase_label, placed}
 use Rattle.infer_table.specs.Content.{IsProper}
 use Rattle.infer_table.specs.Solutions.{Assignment, Binding, tree_of, is_variable, value_in, replace, resolved, HasValues, Acyclic, is_rigid}
 use Rattle.infer_table.specs.Unification.{TableTrees, term_sort}
 use Rattle.infer_table.proofs.SolutionLaws.{is_variable-equal, is_variable-self, resolved-none, resolved-append, resolved-rigid, resolved-unbound, resolved-bound}
 use Rattle.infer_table.proofs.OccurFacts.{lifetime-unbound}
+use Rattle.infer_table.proofs.Places.{place, trees-of, trees-proper}
 use Rattle.evaluation.specs.Lists.{Every}
 use Rattle.table_laws.specs.Instances.{read_with, of_sort}
-use Rattle.type_terms.specs.Made.{Standing, terms, bounds, traits, is_made}
+use Rattle.type_terms.specs.Made.{Standing, terms, is_made}
 use Rattle.table_laws.specs.Content.{Values, Terms, standing, Stands}
 use Rattle.table_laws.specs.Equations.{IsValue, Hold}
-use Rattle.table_laws.proofs.Made.{false-true, left, right, no-tree, made-ordinary, IsLast, last-bound, last-trait, never-dynamic, never-dynamic-bound, never-principal}
-use Rattle.table_laws.proofs.Reading.{append-none, read-append}
-use Rattle.table_laws.proofs.Measures.{all-valued}
+use Rattle.type_terms.proofs.Made.{false-true}
+use Rattle.table_laws.proofs.Reading.{append-none, read-append, GiveOne, same-standing}
+use Rattle.table_laws.proofs.Assignments.{all-valued}
 use Rattle.table_laws.proofs.Whole.{IsOne, read-one}
 use Rattle.table_laws.proofs.Questions.{sort-of-sort}
 use Rattle.table_laws.proofs.Beginning.{node_of, node-is}
 
 -- ---- variables of made terms stand alone
-last-proper : (good : Label → Bool) (l : Label) (c o : Trees) → IsLast good l c o → IsProper (tree l c o)
-last-proper good l c o x = subst (λ z. IsProper (tree l z o)) (sym x.children) (subst (λ z. IsProper (tree l none z)) (sym x.rest) (by l))
-  where
-    by : (l : Label) → IsProper (leaf l)
-    by (infer k v) = (refl, tt)
-    by l = (tt, tt)
-
 pub made-proper : (good : Label → Bool) (m : Standing) (t : Trees) → is_made good m t ≡ true → IsProper t
-made-proper good terms none h = tt
-made-proper good terms (tree dynamic c o) h = (made-proper good bounds c (left (is_made good bounds c) (is_made good terms o) h), made-proper good terms o (right (is_made good bounds c) (is_made good terms o) h))
-made-proper good terms (tree (principal a b) c o) h = absurd (false-true h)
-made-proper good terms (tree (auto_trait a) c o) h = absurd (false-true h)
-made-proper good terms (tree (infer k v) c o) h = let x = made-ordinary good (infer k v) c o refl h in (no-tree c x.1, made-proper good terms o x.3)
-made-proper good terms (tree l c o) h = let x = made-ordinary good l c o refl h in (made-proper good terms c x.2, made-proper good terms o x.3)
-made-proper good bounds none h = absurd (false-true h)
-made-proper good bounds (tree (principal a b) c o) h = (made-proper good terms c (left (is_made good terms c) (is_made good traits o) h), made-proper good traits o (right (is_made good terms c) (is_made good traits o) h))
-made-proper good bounds (tree (auto_trait a) c o) h = (subst IsProper (sym (no-tree c (left (is_no_tree c) (is_made good traits o) h))) tt, made-proper good traits o (right (is_no_tree c) (is_made good traits o) h))
-made-proper good bounds (tree dynamic c o) h = absurd (never-dynamic-bound good c o h)
-made-proper good bounds (tree l c o) h = last-proper good l c o (last-bound good l c o refl h)
-made-proper good traits none h = absurd (false-true h)
-made-proper good traits (tree (auto_trait a) c o) h = (subst IsProper (sym (no-tree c (left (is_no_tree c) (is_made good traits o) h))) tt, made-proper good traits o (right (is_no_tree c) (is_made good traits o) h))
-made-proper good traits (tree dynamic c o) h = absurd (never-dynamic good c o h)
-made-proper good traits (tree (principal a b) c o) h = absurd (never-principal good a b c o h)
-made-proper good traits (tree l c o) h = last-proper good l c o (last-trait good l c o refl h)
+made-proper good m t h = trees-proper good (place m) t (trees-of good m t h)
 
 -- ---- a resolved term is one term of its sort
 replaced-one : (k : Sort) (v : ℕ) (r : Trees) (m : Label) (d : Trees) → IsOne k r → IsOne (sort_of m) (replace k v r (tree m d none))
@@ -99,11 +78,6 @@ module _ (good : Label → Bool) (t : TableTrees) (values : Every (IsValue good)
   abbrev pub completed : Terms
   completed = record { own = own; slots = []; unknowns = resolved_node; proper = true }
 
-  sort-self : (k : Sort) → is_sort k k ≡ true
-  sort-self of_type = refl
-  sort-self of_const = refl
-  sort-self of_lifetime = refl
-
   one-is-a : (k : Sort) (x : Trees) → HasValues k → IsOne k x → is_a k x ≡ true
   one-is-a of_type x g i = ap (is_a of_type) i.is ∙ ap (λ z. is_sort z of_type && true) i.sort
   one-is-a of_const x g i = ap (is_a of_const) i.is ∙ ap (λ z. is_sort z of_const && true) i.sort
@@ -120,21 +94,11 @@ module _ (good : Label → Bool) (t : TableTrees) (values : Every (IsValue good)
   node-reads : (k : Sort) (v : ℕ) → HasValues k → tree_of (resolved_node k v) ≡ read_with (standing based) (resolved t.bindings (leaf (infer k v)))
   node-reads k v g = (node-is k (read_with (standing based) (resolved t.bindings (leaf (infer k v))))).whole ∙ sort-of-sort k _ (variable-one k v g)
 
-  same-standing : (l : Label) → is_rigid l ≡ true → standing completed l ≡ standing based l
-  same-standing (infer k v) r = absurd (false-true r)
-  same-standing (placeholder of_type i) r = refl
-  same-standing (placeholder of_const i) r = refl
-  same-standing (placeholder of_lifetime i) r = refl
-  same-standing (param of_type i) r = refl
-  same-standing (param of_const i) r = refl
-  same-standing (param of_lifetime i) r = refl
-  same-standing (canonical of_type i) r = refl
-  same-standing (canonical of_const i) r = refl
-  same-standing (canonical of_lifetime i) r = refl
-  same-standing (bound of_type i j) r = refl
-  same-standing (bound of_const i j) r = refl
-  same-standing (bound of_lifetime i j) r = refl
-  same-standing l r = refl
+  -- labels that are no unknowns stand for the same
+  rigid-same : (l : Label) → is_rigid l ≡ true → GiveOne resolved_node base l
+  rigid-same (infer of_type v) r = absurd (false-true r)
+  rigid-same (infer of_const v) r = absurd (false-true r)
+  rigid-same l r = tt
 
   variable-reads : (k : Sort) (v : ℕ) → read_with (standing completed) (leaf (infer k v)) ≡ read_with (standing based) (resolved t.bindings (leaf (infer k v)))
   variable-reads of_type v = append-none (tree_of (resolved_node of_type v)) ∙ node-reads of_type v tt
@@ -144,7 +108,7 @@ module _ (good : Label → Bool) (t : TableTrees) (values : Every (IsValue good)
   rigid-reads : (l : Label) (c o : Trees) → is_rigid l ≡ true → read_with (standing completed) c ≡ read_with (standing based) (resolved t.bindings c) → read_with (standing completed) o ≡ read_with (standing based) (resolved t.bindings o)
       → read_with (standing completed) (tree l c o) ≡ read_with (standing based) (resolved t.bindings (tree l c o))
   rigid-reads l c o r p q =
-      ap (λ z. placed z (tree (erase_label l) (read_with (standing completed) c) none) +++ read_with (standing completed) o) (same-standing l r)
+      ap (λ z. placed z (tree (erase_label l) (read_with (standing completed) c) none) +++ read_with (standing completed) o) (same-standing completed based refl l (rigid-same l r))
       ∙ ap (λ z. placed (standing based l) (tree (erase_label l) z none) +++ read_with (standing completed) o) p
       ∙ ap (λ z. placed (standing based l) (tree (erase_label l) (read_with (standing based) (resolved t.bindings c)) none) +++ z) q
       ∙ sym (ap (read_with (standing based)) (resolved-rigid t.bindings l c o r))

@@ -1,38 +1,36 @@
 -- Where an answer holds no values, the variables with which the table began can have all values.
-use Rattle.std.proofs.Common.{◌≡◌, ℕ, zero, suc, ◌+◌, ◌==◌, ◌<◌, ◌≤◌, arith, Bool, true, false, not, ◌&&◌, List, [], ◌∷◌, map, refl, sym, ◌∙◌, ap, subst, Some, if◌then◌else◌, is_some, ◌⊎◌, inl, inr}
-use Rattle.std.proofs.lemmas.Bool.Decides.{nat_tests}
-use Rattle.model.specs.Label.{Label, Sort, of_type, of_const, of_lifetime, infer, param, placeholder, canonical, bound, static}
-use Rattle.model.specs.Trees.{Trees, none, tree, leaf, ◌+++◌, sort_of, is_sort, erase_label, placed}
+use Rattle.std.proofs.Common.{◌≡◌, ℕ, zero, suc, ◌+◌, ◌<◌, ◌≤◌, arith, Bool, true, false, ◌&&◌, List, [], ◌∷◌, map, refl, sym, ◌∙◌, ap, subst, Some, if◌then◌else◌, is_some, ◌⊎◌, inl, inr}
+use Rattle.std.proofs.lemmas.Bool.{eqb-true}
+use Rattle.model.specs.Label.{Label, Sort, of_type, of_const, of_lifetime, infer, param, placeholder, canonical, static}
+use Rattle.model.specs.Trees.{Trees, none, tree, leaf, sort_of, is_sort}
 use Rattle.model.specs.Codes.{same}
 use Rattle.model.proofs.Matching.{same-sound}
 use Rattle.infer_table.specs.Canonical.{HasNoCanonical, kind_of_leaf, place_of, canonical_label, relabeled}
-use Rattle.infer_table.specs.Solutions.{Assignment, Binding, tree_of, resolved, HasValues}
+use Rattle.infer_table.specs.Solutions.{Assignment, tree_of, resolved, HasValues}
 use Rattle.infer_table.specs.declared.canonical.CanonicalVarKind.{CanonicalVarKind}
 use Rattle.infer_table.specs.declared.canonical.CanonicalVarKind.TheVariants.{Ty, PlaceholderTy, Const, PlaceholderConst, Region}
 use Rattle.infer_table.proofs.SolutionLaws.{resolved-rigid, resolved-none}
 use Rattle.infer_table.proofs.UnifyFacts.{same-is}
 use Rattle.evaluation.specs.Lists.{Every}
-use Rattle.table_laws.specs.Instances.{read_with, of_sort, as_place, first_term, other_terms, term_at}
+use Rattle.table_laws.specs.Instances.{read_with, of_sort, first_term, other_terms, term_at}
 use Rattle.type_terms.specs.Made.{terms, is_made}
-use Rattle.table_laws.specs.Content.{Values, Terms, fits, standing, reading_of, Stands}
+use Rattle.table_laws.specs.Content.{Values, Terms, fits, standing, reading_of}
 use Rattle.table_laws.specs.Frames.{kind_at, is_placeholder_of, is_good, AreOwn, FrameTable, HaveValues, Allows}
 use Rattle.table_laws.specs.Answers.{is_variable_itself, are_variables, has_values, own_labels, answer_leaves, numbered, value_numbered, respond}
 use Rattle.infer_table.specs.declared.certainty.Certainty.TheVariants.{Yes}
-use Rattle.table_laws.proofs.Made.{false-true, left, right}
-use Rattle.table_laws.proofs.Reading.{append-none}
+use Rattle.type_terms.proofs.Made.{false-true, left, right}
+use Rattle.table_laws.proofs.Reading.{append-none, same-map, same-hold}
 use Rattle.table_laws.proofs.Questions.{IsNoCanonical, clean-parts, excludes-canonical, made-clean}
 use Rattle.table_laws.proofs.Resolved.{made-resolved}
 use Rattle.table_laws.proofs.Whole.{IsOne}
-use Rattle.table_laws.proofs.Beginning.{node_of, node-is}
+use Rattle.table_laws.proofs.Beginning.{node_of, node-is, zero-plus}
 use Rattle.table_laws.proofs.Free.{resolved-one, made-proper, based, completed, completed-reads, completed-holds, completed-sorted}
-
-same-number : (i j : ℕ) → (i == j) ≡ true → i ≡ j
-same-number i j h = grind (arith, nat_tests, h)
+use Rattle.table_laws.proofs.Answering.{not-false}
 
 -- ---- a variable that stands for itself
 itself-node : (i : ℕ) (k : Sort) (l : Label) (c : Trees) → HasValues k → is_variable_itself i k (tree l c none) ≡ true → (s : Sort) × (l ≡ canonical s i) × (c ≡ none)
-itself-node i of_type (canonical s j) none g h = (s, ap (canonical s) (sym (same-number i j (right (is_sort of_type s) _ h))), refl)
-itself-node i of_const (canonical s j) none g h = (s, ap (canonical s) (sym (same-number i j (right (is_sort of_const s) _ h))), refl)
+itself-node i of_type (canonical s j) none g h = (s, ap (canonical s) (sym (eqb-true i j (right (is_sort of_type s) _ h))), refl)
+itself-node i of_const (canonical s j) none g h = (s, ap (canonical s) (sym (eqb-true i j (right (is_sort of_const s) _ h))), refl)
 itself-node i of_lifetime l c g h = absurd g
 itself-node i k l c g h = absurd (false-true h)
 
@@ -284,55 +282,8 @@ module _ (t : FrameTable) where
             let there : value (placeholder k (0 + j)) ≡ leaf x.label = rigid ∙ ap (λ z. leaf (placeholder k z)) (zero-plus j) ∙ ap leaf (sym y.1) in
             let places : d ≡ j = one-place value (answer_leaves t) 0 own d j l (placeholder k (0 + j)) x.label free at place (subst HasValues (sym e) g) g x.is there in
             absurd (n (subst (λ q. is_placeholder_of k (kind_at t.kinds q) ≡ true) (sym places) y.2))
-          where
-            zero-plus : (j : ℕ) → 0 + j ≡ j
-            zero-plus j = omega arith
-
-            zero-cancel : (d j : ℕ) → 0 + d ≡ 0 + j → d ≡ j
-            zero-cancel d j e = omega (arith, e)
-
--- ---- reading looks at the own values and the unknowns alone
-standing-same : (a b : Terms) → a.own ≡ b.own → a.unknowns ≡ b.unknowns → (l : Label) → standing a l ≡ standing b l
-standing-same a b e f (infer of_type n) = ap (λ (u : Assignment). Some (tree_of (u of_type n))) f
-standing-same a b e f (infer of_const n) = ap (λ (u : Assignment). Some (tree_of (u of_const n))) f
-standing-same a b e f (infer of_lifetime n) = refl
-standing-same a b e f (placeholder of_type n) = ap (λ (o : Values). Some (as_place of_type (term_at o.terms n))) e
-standing-same a b e f (placeholder of_const n) = ap (λ (o : Values). Some (as_place of_const (term_at o.terms n))) e
-standing-same a b e f (placeholder of_lifetime n) = refl
-standing-same a b e f (param of_type n) = refl
-standing-same a b e f (param of_const n) = refl
-standing-same a b e f (param of_lifetime n) = refl
-standing-same a b e f (canonical of_type n) = refl
-standing-same a b e f (canonical of_const n) = refl
-standing-same a b e f (canonical of_lifetime n) = refl
-standing-same a b e f (bound of_type m n) = refl
-standing-same a b e f (bound of_const m n) = refl
-standing-same a b e f (bound of_lifetime m n) = refl
-standing-same a b e f l = refl
-
-pub reads-same : (a b : Terms) → a.own ≡ b.own → a.unknowns ≡ b.unknowns → (x : Trees) → read_with (standing a) x ≡ read_with (standing b) x
-reads-same a b e f none = refl
-reads-same a b e f (tree l c o) =
-    ap (λ z. placed z (tree (erase_label l) (read_with (standing a) c) none) +++ read_with (standing a) o) (standing-same a b e f l)
-    ∙ ap (λ z. placed (standing b l) (tree (erase_label l) z none) +++ read_with (standing a) o) (reads-same a b e f c)
-    ∙ ap (λ z. placed (standing b l) (tree (erase_label l) (read_with (standing b) c) none) +++ z) (reads-same a b e f o)
-
-same-map : (a b : Terms) → a.own ≡ b.own → a.unknowns ≡ b.unknowns → (ls : List Label) → map (reading_of a) ls ≡ map (reading_of b) ls
-same-map a b e f [] = refl
-same-map a b e f (l ∷ ls) = cons _ _ _ _ (reads-same a b e f (leaf l)) (same-map a b e f ls)
-  where
-    cons : (x y : Trees) (xs ys : List Trees) → x ≡ y → xs ≡ ys → x ∷ xs ≡ y ∷ ys
-    cons x y xs ys e f = cc
-
-same-hold : (a b : Terms) → a.own ≡ b.own → a.unknowns ≡ b.unknowns → (bs : List Binding) → Every (Stands a) bs → Every (Stands b) bs
-same-hold a b e f [] h = tt
-same-hold a b e f (x ∷ bs) h = (sym (ap (λ (u : Assignment). tree_of (u x.sort x.var)) f) ∙ h.0 ∙ reads-same a b e f x.value, same-hold a b e f bs h.1)
 
 -- ---- a bare answer leaves all free
-not-false : (b : Bool) → not b ≡ false → b ≡ true
-not-false true e = refl
-not-false false e = absurd (false-true (sym e))
-
 module _ (t : FrameTable) (v : Values) (free : AreFree (value t) (answer_leaves t) 0 (own t)) where
   -- the rest of kinds, labels and values from a place on
   record IsRest (place : ℕ) (ks : List CanonicalVarKind) (labels : List Label) (ts : List Trees) : Type 0 where
@@ -394,9 +345,6 @@ module _ (t : FrameTable) (v : Values) (free : AreFree (value t) (answer_leaves 
         (record { kinds = λ j. ap (kind_at t.kinds) (zero-plus j); places = λ j l at. subst (λ z. IsAt z l (own t)) (sym (zero-plus j)) at; terms = λ j. ap (term_at v.terms) (zero-plus j) });
     proper = refl;
   }
-    where
-      zero-plus : (j : ℕ) → 0 + j ≡ j
-      zero-plus j = omega arith
 
 -- where the answer is a yes without values, the variables of the goal can have all values
 pub respond_free : (t : FrameTable) → has_values (respond t Yes) ≡ false → (v : Values) → (s : Terms) × Allows t s × (s.own ≡ v)

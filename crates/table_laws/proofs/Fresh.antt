@@ -1,5 +1,5 @@
 -- New unknowns and recorded constraints in the tables of frames.
-use Rattle.std.proofs.Common.{◌≡◌, ℕ, zero, suc, ◌+◌, ◌<◌, ◌≤◌, arith, Bool, true, List, [], ◌∷◌, ◌++◌, map, sym, subst, Option, None}
+use Rattle.std.proofs.Common.{◌≡◌, ℕ, zero, suc, ◌+◌, ◌<◌, ◌≤◌, arith, Bool, true, List, [], ◌∷◌, ◌++◌, sym, subst, None}
 use Rattle.model.specs.Label.{Label, Sort, of_type, of_const, infer}
 use Rattle.model.specs.Trees.{Trees, leaf}
 use Rattle.infer_table.specs.Solutions.{Binding, Acyclic}
@@ -8,24 +8,15 @@ use Rattle.infer_table.specs.declared.canonical.CanonicalVarKind.{CanonicalVarKi
 use Rattle.infer_table.specs.Leaves.{root_label}
 use Rattle.infer_table.specs.Values.{Value}
 use Rattle.infer_table.specs.Raw.{sort_of_kind}
-use Rattle.infer_table.specs.Applying.{unknowns_of, table_after, values_for, table_for}
-use Rattle.infer_table.specs.Applied.{with_constraints}
+use Rattle.infer_table.specs.Applying.{unknowns_of, table_after, table_for}
 use Rattle.evaluation.specs.Lists.{Every}
 use Rattle.table_laws.specs.Instances.{put_in}
 use Rattle.type_terms.specs.Made.{terms, is_made}
-use Rattle.table_laws.specs.Content.{Terms}
 use Rattle.table_laws.specs.Equations.{IsValue}
-use Rattle.table_laws.specs.Frames.{is_good, AreOwn, FrameTable, IsMadeFrame, Allows, AllowsApart, slot_at}
+use Rattle.table_laws.specs.Frames.{is_good, AreOwn, FrameTable, IsMadeFrame, slot_at, labels_for, recorded_content, unknown}
 use Rattle.table_laws.proofs.Beginning.{below-is}
 use Rattle.table_laws.proofs.Labels.{made-more}
-use Rattle.table_laws.proofs.Applying.{AreTheirs, for-bindings, for-more, after-own, new-value, good-grows, infer-leaf, with-constraints-made}
-
-abbrev pub unknown : ℕ → Option Value
-unknown i = None
-
--- the labels of the new unknowns of these kinds, in order
-abbrev pub labels_for : TableTrees → ℕ → List CanonicalVarKind → List Label
-labels_for t i ks = map (λ (v : Value). root_label v.trees) (values_for unknown t i ks)
+use Rattle.table_laws.proofs.Applying.{AreTheirs, for-bindings, for-more, after-own, new-value, good-grows, infer-leaf, with-constraints-made, itself}
 
 new-leaves : (kinds : List CanonicalVarKind) (u t : TableTrees) (i : ℕ) (ks : List CanonicalVarKind) → ((s : Sort) → unknowns_of (table_for unknown t i ks) s ≤ unknowns_of u s)
     → AreTheirs (is_good kinds u.ty_vars u.const_vars) (labels_for t i ks)
@@ -84,35 +75,11 @@ module _ (t : FrameTable) (ks : List CanonicalVarKind) where
         leaves = every-both better t.labels (labels_for t.content 0 ks) (labels-made t.labels t.made.leaves) (new-leaves t.kinds grown t.content 0 ks (λ s. itself (unknowns_of grown s)));
         own = own-more zero t.kinds t.labels (labels_for t.content 0 ks) t.made.own;
       }
-    where
-      itself : (n : ℕ) → n ≤ n
-      itself n = omega arith
-
--- the table with new unknowns of these kinds; canonical variables stand for them behind those of before
-abbrev pub fresh : FrameTable → List CanonicalVarKind → FrameTable
-fresh t ks = record { kinds = t.kinds; labels = t.labels ++ labels_for t.content 0 ks; content = table_for unknown t.content 0 ks; made = fresh-made t ks }
 
 -- ---- constraints on lifetimes
--- the constraints over the table's unknowns, behind those that are recorded
-abbrev pub recorded_content : FrameTable → Trees → TableTrees
-recorded_content t c = with_constraints (put_in (slot_at t.labels) c) t.content
-
 pub recorded-made : (t : FrameTable) (c : Trees) → IsMadeFrame t.kinds t.labels (recorded_content t c)
 recorded-made t c = record {
   table = with-constraints-made (is_good t.kinds t.content.ty_vars t.content.const_vars) (put_in (slot_at t.labels) c) t.content t.made.table;
   leaves = t.made.leaves;
   own = t.made.own;
-}
-
-abbrev pub recorded : FrameTable → Trees → FrameTable
-recorded t c = record { kinds = t.kinds; labels = t.labels; content = recorded_content t c; made = recorded-made t c }
-
-pub recorded_narrows : (t : FrameTable) (c : Trees) (s : Terms) → Allows (recorded t c) s → Allows t s
-recorded_narrows t c s h = record { sorted = h.sorted; hold = h.hold; slots = h.slots; own = h.own; proper = h.proper }
-
-pub recorded_keeps : (t : FrameTable) (c : Trees) (s : Terms) → AllowsApart t s → AllowsApart (recorded t c) s
-recorded_keeps t c s h = record {
-  allowed = record { sorted = h.allowed.sorted; hold = h.allowed.hold; slots = h.allowed.slots; own = h.allowed.own; proper = h.allowed.proper };
-  apart = h.apart;
-  fit = h.fit;
 }

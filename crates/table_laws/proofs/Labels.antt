@@ -1,7 +1,7 @@
 -- Which labels stand in made terms, and what putting leaves in makes of these.
 use Rattle.std.proofs.Common.{◌≡◌, ℕ, Bool, true, false, not, ◌||◌, List, [], ◌∷◌, ◌++◌, refl, sym, ◌∙◌, ap, subst, Option, Some, None, if◌then◌else◌, is_some, ◌⊎◌, inl, inr}
 use Rattle.std.specs.Prelude.{IsSome}
-use Rattle.model.specs.Label.{Label, Sort, of_lifetime, infer, static, dynamic, principal, auto_trait}
+use Rattle.model.specs.Label.{Label, Sort, of_lifetime, infer, static, dynamic, principal, auto_trait, predicate}
 use Rattle.model.specs.Trees.{Trees, none, tree, leaf, ◌+++◌, sort_of, is_sort, is_no_tree, placed, Single}
 use Rattle.infer_table.specs.Canonical.{OpenKinds, kind_of_leaf, kind_in_clause, is_among, with_label, leaves}
 use Rattle.infer_table.specs.Solutions.{Binding, replace, is_variable, resolved}
@@ -9,7 +9,7 @@ use Rattle.evaluation.specs.Lists.{Every}
 use Rattle.table_laws.specs.Instances.{read_with, put_in}
 use Rattle.type_terms.specs.Made.{Standing, terms, bounds, traits, is_leaf_label, is_made}
 use Rattle.table_laws.specs.Equations.{IsValue}
-use Rattle.table_laws.proofs.Made.{false-true, left, right, both, no-tree, is_ordinary, made-ordinary, makes-ordinary, made-append, IsLast, last-bound, last-trait, never-dynamic, never-dynamic-bound, never-principal}
+use Rattle.type_terms.proofs.Made.{false-true, left, right, both, no-tree, is_ordinary, made-ordinary, makes-ordinary, made-append, IsLast, last-bound, last-trait, never-dynamic, never-dynamic-bound, never-principal}
 use Rattle.table_laws.proofs.Reading.{EachLabel, IsPutIn, put-at}
 
 -- ---- labels of made terms
@@ -33,10 +33,12 @@ made-labels good terms (tree dynamic c o) h =
     (not-ordinary good dynamic refl, made-labels good bounds c (left (is_made good bounds c) (is_made good terms o) h), made-labels good terms o (right (is_made good bounds c) (is_made good terms o) h))
 made-labels good terms (tree (principal a b) c o) h = absurd (false-true h)
 made-labels good terms (tree (auto_trait a) c o) h = absurd (false-true h)
+made-labels good terms (tree (predicate k) c o) h = absurd (false-true h)
 made-labels good terms (tree l c o) h = let x = made-ordinary good l c o refl h in (λ i. x.0, made-labels good terms c x.2, made-labels good terms o x.3)
 made-labels good bounds none h = absurd (false-true h)
 made-labels good bounds (tree (principal a b) c o) h =
     (not-ordinary good (principal a b) refl, made-labels good terms c (left (is_made good terms c) (is_made good traits o) h), made-labels good traits o (right (is_made good terms c) (is_made good traits o) h))
+made-labels good bounds (tree (predicate k) c o) h = absurd (false-true h)
 made-labels good bounds (tree (auto_trait a) c o) h = (
   not-ordinary good (auto_trait a) refl,
   subst (EachLabel (IsGoodLabel good)) (sym (no-tree c (left (is_no_tree c) (is_made good traits o) h))) tt,
@@ -45,6 +47,7 @@ made-labels good bounds (tree (auto_trait a) c o) h = (
 made-labels good bounds (tree dynamic c o) h = absurd (never-dynamic-bound good c o h)
 made-labels good bounds (tree l c o) h = last-labels good l c o (last-bound good l c o refl h)
 made-labels good traits none h = absurd (false-true h)
+made-labels good traits (tree (predicate k) c o) h = absurd (false-true h)
 made-labels good traits (tree (auto_trait a) c o) h = (
   not-ordinary good (auto_trait a) refl,
   subst (EachLabel (IsGoodLabel good)) (sym (no-tree c (left (is_no_tree c) (is_made good traits o) h))) tt,
@@ -70,6 +73,7 @@ open-ordinary : (l : Label) → IsSome (kind_of_leaf l) → is_ordinary l ≡ tr
 open-ordinary dynamic h = absurd (false-true h)
 open-ordinary (principal a b) h = absurd (false-true h)
 open-ordinary (auto_trait a) h = absurd (false-true h)
+open-ordinary (predicate k) h = absurd (false-true h)
 open-ordinary l h = refl
 
 pub each-label : (P Q : Label → Type 0) → ((l : Label) → P l → Q l) → (t : Trees) → EachLabel P t → EachLabel Q t
@@ -98,7 +102,7 @@ each-resolved good (b ∷ older) i t h =
     each-replace (IsLeafIn good) b.sort b.var (resolved older b.value) (each-resolved good older i.1 b.value (made-leaves good terms b.value i.0.made)) (resolved older t) (each-resolved good older i.1 t h)
 
 -- ---- the open leaves of trees
-every-end : (P : Label → Type 0) (xs : List Label) (x : Label) → Every P xs → P x → Every P (xs ++ x ∷ [])
+pub every-end : (P : Label → Type 0) (xs : List Label) (x : Label) → Every P xs → P x → Every P (xs ++ x ∷ [])
 every-end P [] x h p = (p, tt)
 every-end P (y ∷ ys) x h p = (h.0, every-end P ys x h.1 p)
 
@@ -124,6 +128,7 @@ pub last-made : (good : Label → Bool) (l : Label) → is_sort (sort_of l) of_l
 last-made good dynamic e g = absurd (false-true e)
 last-made good (principal a b) e g = absurd (false-true e)
 last-made good (auto_trait a) e g = absurd (false-true e)
+last-made good (predicate k) e g = absurd (false-true e)
 last-made good l e g = (both (good l) _ g (both (is_sort (sort_of l) of_lifetime) _ e refl), both (good l) _ g (both (is_sort (sort_of l) of_lifetime) _ e refl))
 
 -- ---- leaves put in for labels
@@ -169,12 +174,14 @@ module _ (good better : Label → Bool) (put : Label → Option Trees) (h : Puts
   leaf-good dynamic e m = absurd (false-true e)
   leaf-good (principal a b) e m = absurd (false-true e)
   leaf-good (auto_trait a) e m = absurd (false-true e)
+  leaf-good (predicate k) e m = absurd (false-true e)
   leaf-good l e m = (made-ordinary better l none none refl m).0
 
   lifetime-ordinary : (l : Label) → is_sort (sort_of l) of_lifetime ≡ true → is_ordinary l ≡ true
   lifetime-ordinary dynamic e = absurd (false-true e)
   lifetime-ordinary (principal a b) e = absurd (false-true e)
   lifetime-ordinary (auto_trait a) e = absurd (false-true e)
+  lifetime-ordinary (predicate k) e = absurd (false-true e)
   lifetime-ordinary l e = refl
 
   last-put : (l : Label) (c o : Trees) → IsLast good l c o → (is_made better traits (put_in put (tree l c o)) ≡ true) × (is_made better bounds (put_in put (tree l c o)) ≡ true)
@@ -204,6 +211,7 @@ module _ (good better : Label → Bool) (put : Label → Option Trees) (h : Puts
       (made-put-in bounds c (left (is_made good bounds c) (is_made good terms o) e)) (made-put-in terms o (right (is_made good bounds c) (is_made good terms o) e))
   made-put-in terms (tree (principal a b) c o) e = absurd (false-true e)
   made-put-in terms (tree (auto_trait a) c o) e = absurd (false-true e)
+  made-put-in terms (tree (predicate k) c o) e = absurd (false-true e)
   made-put-in terms (tree l c o) e =
       let x = made-ordinary good l c o refl e in
       ordinary-put l c o refl e (made-put-in terms c x.2) (made-put-in terms o x.3)
@@ -212,6 +220,7 @@ module _ (good better : Label → Bool) (put : Label → Option Trees) (h : Puts
       ap (is_made better bounds) (stays (principal a b) c o refl)
       ∙ both (is_made better terms (put_in put c)) (is_made better traits (put_in put o))
       (made-put-in terms c (left (is_made good terms c) (is_made good traits o) e)) (made-put-in traits o (right (is_made good terms c) (is_made good traits o) e))
+  made-put-in bounds (tree (predicate k) c o) e = absurd (false-true e)
   made-put-in bounds (tree (auto_trait a) c o) e =
       ap (is_made better bounds) (stays (auto_trait a) c o refl)
       ∙ both (is_no_tree (put_in put c)) (is_made better traits (put_in put o))
@@ -219,6 +228,7 @@ module _ (good better : Label → Bool) (put : Label → Option Trees) (h : Puts
   made-put-in bounds (tree dynamic c o) e = absurd (never-dynamic-bound good c o e)
   made-put-in bounds (tree l c o) e = (last-put l c o (last-bound good l c o refl e)).1
   made-put-in traits none e = absurd (false-true e)
+  made-put-in traits (tree (predicate k) c o) e = absurd (false-true e)
   made-put-in traits (tree (auto_trait a) c o) e =
       ap (is_made better traits) (stays (auto_trait a) c o refl)
       ∙ both (is_no_tree (put_in put c)) (is_made better traits (put_in put o))

@@ -1,14 +1,9 @@
 pub mod Reading
-pub mod Made
-pub mod Heads
-pub mod Steps
-pub mod Measures
-pub mod Sound
 pub mod Traits
 pub mod Questions
 pub mod Whole
 pub mod Resolved
-pub mod Complete
+pub mod Assignments
 pub mod Equating
 pub mod Beginning
 pub mod Answering
@@ -21,5 +16,4 @@ pub mod Finite
 pub mod Nodes
 pub mod Determined
 pub mod Widths
-pub mod WidthLaws
 pub mod WellFormed

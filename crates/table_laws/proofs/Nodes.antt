@@ -1,7 +1,7 @@
 -- The nodes of a goal over a table: what stands in it, and what its readings tell of its unknowns.
 use Rattle.std.proofs.Common.{◌≡◌, ℕ, zero, suc, Bool, true, false, not, ◌||◌, List, [], ◌∷◌, ◌++◌, refl, sym, ◌∙◌, ap, subst, Some, if◌then◌else◌, is_some, ◌⊎◌, inl, inr}
 use Rattle.std.specs.Prelude.{IsSome}
-use Rattle.model.specs.Label.{Label, Sort, of_type, of_const, of_lifetime, infer, param, placeholder, canonical, bound, static, dynamic, principal, auto_trait}
+use Rattle.model.specs.Label.{Label, Sort, of_type, of_const, of_lifetime, infer, param, placeholder, canonical, bound, static, dynamic, principal, auto_trait, predicate}
 use Rattle.model.specs.Trees.{Trees, none, tree, leaf, ◌+++◌, erase_label, sort_of, is_sort, placed, is_no_tree}
 use Rattle.infer_table.specs.Content.{IsProper}
 use Rattle.infer_table.specs.Canonical.{OpenKinds, StandsIn, with_label, is_among, leaves}
@@ -13,7 +13,7 @@ use Rattle.type_terms.specs.Made.{Standing, terms, bounds, traits, is_leaf_label
 use Rattle.table_laws.specs.Content.{Terms, standing, reading_of}
 use Rattle.table_laws.specs.Equations.{IsValue}
 use Rattle.table_laws.specs.Frames.{is_good, label_at, label_of_sort, slot_at}
-use Rattle.table_laws.proofs.Made.{false-true, left, right, no-tree, made-ordinary, IsLast, last-bound, last-trait, never-dynamic, never-dynamic-bound, never-principal}
+use Rattle.type_terms.proofs.Made.{false-true, left, right, no-tree, made-ordinary, IsLast, last-bound, last-trait, never-dynamic, never-dynamic-bound, never-principal}
 use Rattle.table_laws.proofs.Reading.{read-append}
 use Rattle.table_laws.proofs.Whole.{IsOne, read-one}
 
@@ -90,13 +90,16 @@ module _ (kinds : List CanonicalVarKind) (types consts : ℕ) where
   made-nodes terms (tree dynamic c o) h = (tt, made-nodes bounds c (left (is_made good bounds c) (is_made good terms o) h), made-nodes terms o (right (is_made good bounds c) (is_made good terms o) h))
   made-nodes terms (tree (principal a b) c o) h = absurd (false-true h)
   made-nodes terms (tree (auto_trait a) c o) h = absurd (false-true h)
+  made-nodes terms (tree (predicate k) c o) h = absurd (false-true h)
   made-nodes terms (tree l c o) h = let x = made-ordinary good l c o refl h in (good-node l c x.0 x.1, made-nodes terms c x.2, made-nodes terms o x.3)
   made-nodes bounds none h = absurd (false-true h)
   made-nodes bounds (tree (principal a b) c o) h = (tt, made-nodes terms c (left (is_made good terms c) (is_made good traits o) h), made-nodes traits o (right (is_made good terms c) (is_made good traits o) h))
+  made-nodes bounds (tree (predicate k) c o) h = absurd (false-true h)
   made-nodes bounds (tree (auto_trait a) c o) h = (tt, subst AreNodes (sym (no-tree c (left (is_no_tree c) (is_made good traits o) h))) tt, made-nodes traits o (right (is_no_tree c) (is_made good traits o) h))
   made-nodes bounds (tree dynamic c o) h = absurd (never-dynamic-bound good c o h)
   made-nodes bounds (tree l c o) h = last-nodes l c o (last-bound good l c o refl h)
   made-nodes traits none h = absurd (false-true h)
+  made-nodes traits (tree (predicate k) c o) h = absurd (false-true h)
   made-nodes traits (tree (auto_trait a) c o) h = (tt, subst AreNodes (sym (no-tree c (left (is_no_tree c) (is_made good traits o) h))) tt, made-nodes traits o (right (is_no_tree c) (is_made good traits o) h))
   made-nodes traits (tree dynamic c o) h = absurd (never-dynamic good c o h)
   made-nodes traits (tree (principal a b) c o) h = absurd (never-principal good a b c o h)

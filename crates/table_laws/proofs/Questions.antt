@@ -1,7 +1,7 @@
 -- An instance of a canonical question is an instance of the goal that was asked.
 use Rattle.std.proofs.Common.{◌≡◌, ℕ, zero, suc, Bool, true, false, ◌&&◌, ◌||◌, List, [], ◌∷◌, map, refl, sym, ◌∙◌, ap, subst, Option, Some, None, if◌then◌else◌, is_some, inl, inr}
 use Rattle.std.specs.Prelude.{IsSome}
-use Rattle.model.specs.Label.{Label, Sort, of_type, of_const, of_lifetime, infer, param, placeholder, canonical, bound, static, dynamic, principal, auto_trait}
+use Rattle.model.specs.Label.{Label, Sort, of_type, of_const, of_lifetime, infer, param, placeholder, canonical, bound, static, dynamic, principal, auto_trait, predicate}
 use Rattle.model.specs.Trees.{Trees, none, tree, leaf, ◌+++◌, erase_label, sort_of, is_sort, is_a, placed, is_no_tree}
 use Rattle.model.specs.Codes.{same_label}
 use Rattle.model.proofs.Matching.{same-label-sound}
@@ -14,12 +14,12 @@ use Rattle.type_terms.specs.Made.{Standing, terms, bounds, traits, is_made}
 use Rattle.table_laws.specs.Content.{Terms, Fact, given, fits, fits_kind, standing, reading_of, Stands}
 use Rattle.table_laws.specs.Equations.{IsValue}
 use Rattle.table_laws.specs.Frames.{is_good, FrameTable, Allows, Nested, label_at, label_of_sort, slot_at, goal_in, InstanceOfQuestion}
-use Rattle.table_laws.proofs.Made.{left, right, made-ordinary, no-tree, IsLast, last-bound, last-trait, never-dynamic, never-dynamic-bound, never-principal}
+use Rattle.type_terms.proofs.Made.{false-true, left, right, made-ordinary, no-tree, IsLast, last-bound, last-trait, never-dynamic, never-dynamic-bound, never-principal}
 use Rattle.table_laws.proofs.Traits.{trait-of-question}
 use Rattle.table_laws.proofs.Reading.{append-none, read-leaf, read-replace, EachLabel, Carries, read-relabeled, IsPutIn, read-put}
 
-false-true : false ≡ true → ⊥
-false-true e = cc
+pub some-none : (x : Trees) (T : Type 0) → Some x ≡ None → T
+some-none x T e = absurd (cc)
 
 -- ---- resolving
 standing-value : (s : Terms) (b : Binding) → HasValues b.sort → standing s (infer b.sort b.var) ≡ Some (tree_of (s.unknowns b.sort b.var))
@@ -220,16 +220,19 @@ made-clean good e terms none h = tt
 made-clean good e terms (tree dynamic c o) h = (made-clean good e bounds c (left (is_made good bounds c) (is_made good terms o) h), made-clean good e terms o (right (is_made good bounds c) (is_made good terms o) h))
 made-clean good e terms (tree (principal a b) c o) h = absurd (false-true h)
 made-clean good e terms (tree (auto_trait a) c o) h = absurd (false-true h)
+made-clean good e terms (tree (predicate k) c o) h = absurd (false-true h)
 made-clean good e terms (tree l c o) h =
     let x = made-ordinary good l c o refl h in
     clean-node l c o (good-clean good e l x.0) (made-clean good e terms c x.2) (made-clean good e terms o x.3)
 made-clean good e bounds none h = absurd (false-true h)
 made-clean good e bounds (tree (principal a b) c o) h = (made-clean good e terms c (left (is_made good terms c) (is_made good traits o) h), made-clean good e traits o (right (is_made good terms c) (is_made good traits o) h))
+made-clean good e bounds (tree (predicate k) c o) h = absurd (false-true h)
 made-clean good e bounds (tree (auto_trait a) c o) h =
     (subst HasNoCanonical (sym (no-tree c (left (is_no_tree c) (is_made good traits o) h))) tt, made-clean good e traits o (right (is_no_tree c) (is_made good traits o) h))
 made-clean good e bounds (tree dynamic c o) h = absurd (never-dynamic-bound good c o h)
 made-clean good e bounds (tree l c o) h = lifetime-clean good e l c o (last-bound good l c o refl h)
 made-clean good e traits none h = absurd (false-true h)
+made-clean good e traits (tree (predicate k) c o) h = absurd (false-true h)
 made-clean good e traits (tree (auto_trait a) c o) h =
     (subst HasNoCanonical (sym (no-tree c (left (is_no_tree c) (is_made good traits o) h))) tt, made-clean good e traits o (right (is_no_tree c) (is_made good traits o) h))
 made-clean good e traits (tree dynamic c o) h = absurd (never-dynamic good c o h)
@@ -276,7 +279,7 @@ put-clean ls h (tree l c o) = node l (put_in (slot_at ls) c) (put_in (slot_at ls
     node l d p a b = (a, b)
 
 -- ---- leaves of a canonical form
-term-place : (f : Label → Trees) (l : Label) (ls : List Label) → is_among l ls ≡ true → term_at (map f ls) (place_of l ls) ≡ f l
+pub term-place : (f : Label → Trees) (l : Label) (ls : List Label) → is_among l ls ≡ true → term_at (map f ls) (place_of l ls) ≡ f l
 term-place f l [] h = absurd (false-true h)
 term-place f l (m ∷ ms) h = by (same_label m l) refl h (term-place f l ms)
   where
@@ -299,14 +302,11 @@ module _ (s : Terms) (sorted : (k : Sort) (v : ℕ) → sort_of (s.unknowns k v)
       self of_const v = refl
       self of_lifetime v = refl
 
-  none-some : (x : Trees) (T : Type 0) → Some x ≡ None → T
-  none-some x T e = absurd (cc)
-
   abbrev IsListed : OpenKinds → Label → Type 0
   IsListed kind l = IsSome (kind l) → is_among l ls ≡ true
 
   open-carries : (l m : Label) (x : Trees) → standing s l ≡ Some x → given leaves_read m ≡ standing s l → Carries (given leaves_read) (standing s) l m
-  open-carries l m x h e = record { stands = e; erased = λ n. none-some x (erase_label m ≡ erase_label l) (sym h ∙ n) }
+  open-carries l m x h e = record { stands = e; erased = λ n. some-none x (erase_label m ≡ erase_label l) (sym h ∙ n) }
 
   same-carries : (l : Label) → given leaves_read l ≡ standing s l → Carries (given leaves_read) (standing s) l l
   same-carries l e = record { stands = e; erased = λ n. refl }

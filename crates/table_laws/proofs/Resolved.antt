@@ -1,13 +1,13 @@
 -- What resolves a term is a term.
 use Rattle.std.proofs.Common.{◌≡◌, ℕ, Bool, true, false, ◌||◌, List, [], ◌∷◌, refl, sym, ◌∙◌, ap, if◌then◌else◌}
 use Rattle.std.specs.Prelude.{not}
-use Rattle.model.specs.Label.{Label, Sort, of_type, of_const, of_lifetime, infer, dynamic, principal, auto_trait}
+use Rattle.model.specs.Label.{Label, Sort, of_type, of_const, of_lifetime, infer, dynamic, principal, auto_trait, predicate}
 use Rattle.model.specs.Trees.{Trees, none, tree, leaf, ◌+++◌, sort_of, is_sort, is_no_tree}
 use Rattle.infer_table.specs.Solutions.{Binding, replace, is_variable, resolved, HasValues}
 use Rattle.evaluation.specs.Lists.{Every}
 use Rattle.type_terms.specs.Made.{Standing, terms, bounds, traits, is_leaf_label, is_made}
 use Rattle.table_laws.specs.Equations.{IsValue}
-use Rattle.table_laws.proofs.Made.{false-true, left, right, both, no-tree, makes-ordinary, made-rest, made-with, made-append, made-ordinary, IsLast, last-bound, last-trait, never-dynamic, never-dynamic-bound, never-principal}
+use Rattle.type_terms.proofs.Made.{false-true, left, right, both, no-tree, makes-ordinary, made-rest, made-with, made-append, made-ordinary, IsLast, last-bound, last-trait, never-dynamic, never-dynamic-bound, never-principal}
 
 module _ (good : Label → Bool) where
   -- ---- resolved terms are terms
@@ -44,6 +44,7 @@ module _ (good : Label → Bool) where
       (made-replace k v r g q bounds c (left (is_made good bounds c) (is_made good terms o) e)) (made-replace k v r g q terms o (right (is_made good bounds c) (is_made good terms o) e))
   made-replace k v r g q terms (tree (principal a b) c o) e = absurd (false-true e)
   made-replace k v r g q terms (tree (auto_trait a) c o) e = absurd (false-true e)
+  made-replace k v r g q terms (tree (predicate _) c o) e = absurd (false-true e)
   made-replace k v r g q terms (tree (infer j w) c o) e = by (is_variable j w k v) (made-replace k v r g q terms o (made-rest good (infer j w) c o e))
     where
       by : (b : Bool) → is_made good terms (replace k v r o) ≡ true → is_made good terms (if b then r +++ replace k v r o else tree (infer j w) c (replace k v r o)) ≡ true
@@ -56,12 +57,14 @@ module _ (good : Label → Bool) where
   made-replace k v r g q bounds (tree (principal a b) c o) e =
       both (is_made good terms (replace k v r c)) (is_made good traits (replace k v r o))
       (made-replace k v r g q terms c (left (is_made good terms c) (is_made good traits o) e)) (made-replace k v r g q traits o (right (is_made good terms c) (is_made good traits o) e))
+  made-replace k v r g q bounds (tree (predicate _) c o) e = absurd (false-true e)
   made-replace k v r g q bounds (tree (auto_trait a) c o) e =
       both (is_no_tree (replace k v r c)) (is_made good traits (replace k v r o))
       (ap is_no_tree (no-tree-replaced k v r c (no-tree c (left (is_no_tree c) (is_made good traits o) e)))) (made-replace k v r g q traits o (right (is_no_tree c) (is_made good traits o) e))
   made-replace k v r g q bounds (tree dynamic c o) e = absurd (never-dynamic-bound good c o e)
   made-replace k v r g q bounds (tree l c o) e = ap (is_made good bounds) (last-stays k v r g l c o (last-bound good l c o refl e)) ∙ e
   made-replace k v r g q traits none e = absurd (false-true e)
+  made-replace k v r g q traits (tree (predicate _) c o) e = absurd (false-true e)
   made-replace k v r g q traits (tree (auto_trait a) c o) e =
       both (is_no_tree (replace k v r c)) (is_made good traits (replace k v r o))
       (ap is_no_tree (no-tree-replaced k v r c (no-tree c (left (is_no_tree c) (is_made good traits o) e)))) (made-replace k v r g q traits o (right (is_no_tree c) (is_made good traits o) e))

@@ -1,6 +1,6 @@
 -- The question of a nested goal is of the goal's trait: no value of an unknown is a reference.
 use Rattle.std.proofs.Common.{◌≡◌, ℕ, zero, suc, Bool, true, false, List, [], ◌∷◌, refl, ◌∙◌, None, if◌then◌else◌, is_some}
-use Rattle.model.specs.Label.{Label, Sort, of_type, of_const, of_lifetime, infer, param, placeholder, canonical, bound, static, principal}
+use Rattle.model.specs.Label.{Label, Sort, of_type, of_const, of_lifetime, infer, param, placeholder, canonical, bound, static, predicate}
 use Rattle.model.specs.Trees.{Trees, none, tree, leaf, ◌+++◌, sort_of, is_sort, Single}
 use Rattle.type_terms.specs.Made.{terms, is_made}
 use Rattle.infer_table.specs.Canonical.{kind_of_leaf, canonical_label, relabeled, goal_leaves}
@@ -10,7 +10,7 @@ use Rattle.table_laws.specs.Instances.{put_in, default_label}
 use Rattle.table_laws.specs.Content.{trait_at, trait_of}
 use Rattle.table_laws.specs.Equations.{IsValue}
 use Rattle.table_laws.specs.Frames.{good_in, FrameTable, Nested, label_at, label_of_sort, slot_at, goal_in, question}
-use Rattle.table_laws.proofs.Made.{false-true}
+use Rattle.type_terms.proofs.Made.{false-true}
 
 -- ---- trees that do not begin with a reference
 abbrev IsOther : Trees → Type 0
@@ -27,7 +27,7 @@ other-append (tree l c o) b h = h
 
 other-made : (good : Label → Bool) (t : Trees) → Single t → is_made good terms t ≡ true → IsOther t
 other-made good none s h = absurd s
-other-made good (tree (principal a b) c o) s h = absurd (false-true h)
+other-made good (tree (predicate k) c o) s h = absurd (false-true h)
 other-made good (tree l c o) s h = refl
 
 -- ---- resolving

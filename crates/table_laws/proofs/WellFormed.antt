@@ -1,7 +1,7 @@
 -- The answers that the tables of frames give are made as answers are, and answer the goal of their table.
 use Rattle.std.proofs.Common.{◌≡◌, ℕ, zero, suc, ◌+◌, arith, Bool, true, false, not, ◌||◌, List, [], ◌∷◌, map, refl, sym, ◌∙◌, ap, subst, Option, Some, None, if◌then◌else◌, is_some, inl, inr}
 use Rattle.std.specs.Prelude.{IsSome}
-use Rattle.model.specs.Label.{Label, Sort, of_type, of_const, of_lifetime, infer, param, placeholder, canonical, static, bound, dynamic, principal, auto_trait}
+use Rattle.model.specs.Label.{Label, Sort, of_type, of_const, of_lifetime, infer, param, placeholder, canonical, static, bound, dynamic, principal, auto_trait, predicate}
 use Rattle.model.specs.Trees.{Trees, none, tree, leaf, ◌+++◌, sort_of, is_sort, is_a, is_no_tree}
 use Rattle.model.specs.Codes.{same_label}
 use Rattle.model.proofs.Matching.{same-label-sound}
@@ -17,20 +17,16 @@ use Rattle.infer_table.proofs.CanonicalLaws.{leaves-hold}
 use Rattle.infer_table.specs.Values.{Value}
 use Rattle.infer_table.specs.Raw.{sort_of_kind, variable_value, variables_from}
 use Rattle.infer_table.specs.Answers.{have_same_sorts, is_answer_to}
+use Rattle.infer_table.proofs.SolutionLaws.{is_sort-self as sort-self}
 use Rattle.evaluation.specs.Lists.{Every}
 use Rattle.table_laws.specs.Frames.{kind_at, good_in, FrameTable, IsOwn, AreOwn}
 use Rattle.table_laws.specs.Answers.{own_labels, own_values, joined, answer_leaves, numbered, value_numbered, kinds_of, with_kind, respond, is_kind_of, is_variable_of, is_fitting, IsWellFormed}
-use Rattle.table_laws.proofs.Made.{false-true, left, right, both, no-tree, is_ordinary, made-ordinary, makes-ordinary, IsLast, last-bound, last-trait, never-dynamic, never-dynamic-bound, never-principal}
+use Rattle.type_terms.proofs.Made.{false-true, left, right, both, no-tree, is_ordinary, made-ordinary, makes-ordinary, IsLast, last-bound, last-trait, never-dynamic, never-dynamic-bound, never-principal}
 use Rattle.table_laws.proofs.Reading.{EachLabel}
 use Rattle.table_laws.proofs.Labels.{label-leaf, each-label, every-leaf, last-made}
 use Rattle.table_laws.proofs.Resolved.{made-resolved}
 use Rattle.table_laws.proofs.Free.{resolved-one}
 use Rattle.table_laws.proofs.Answering.{stands-left, joined-stands, among-map, LabelAmong}
-
-sort-self : (k : Sort) → is_sort k k ≡ true
-sort-self of_type = refl
-sort-self of_const = refl
-sort-self of_lifetime = refl
 
 -- ---- terms with other labels at their open leaves
 module _ (good better : Label → Bool) (f : Label → Label) where
@@ -67,6 +63,7 @@ module _ (good better : Label → Bool) (f : Label → Label) where
       (made-again bounds c (left (is_made good bounds c) (is_made good terms o) e) h.1) (made-again terms o (right (is_made good bounds c) (is_made good terms o) e) h.2)
   made-again terms (tree (principal a b) c o) e h = absurd (false-true e)
   made-again terms (tree (auto_trait a) c o) e h = absurd (false-true e)
+  made-again terms (tree (predicate k) c o) e h = absurd (false-true e)
   made-again terms (tree l c o) e h =
       let x = made-ordinary good l c o refl e in
       makes-ordinary better (new l) (again c) (again o) h.0.ordinary (h.0.is_good x.0) (leaf-again l (new l) c h.0.is_leaf x.1) (made-again terms c x.2 h.1) (made-again terms o x.3 h.2)
@@ -74,12 +71,14 @@ module _ (good better : Label → Bool) (f : Label → Label) where
   made-again bounds (tree (principal a b) c o) e h =
       both (is_made better terms (again c)) (is_made better traits (again o))
       (made-again terms c (left (is_made good terms c) (is_made good traits o) e) h.1) (made-again traits o (right (is_made good terms c) (is_made good traits o) e) h.2)
+  made-again bounds (tree (predicate k) c o) e h = absurd (false-true e)
   made-again bounds (tree (auto_trait a) c o) e h =
       both (is_no_tree (again c)) (is_made better traits (again o))
       (ap (λ z. is_no_tree (again z)) (no-tree c (left (is_no_tree c) (is_made good traits o) e))) (made-again traits o (right (is_no_tree c) (is_made good traits o) e) h.2)
   made-again bounds (tree dynamic c o) e h = absurd (never-dynamic-bound good c o e)
   made-again bounds (tree l c o) e h = (last-again l c o (last-bound good l c o refl e) h.0).1
   made-again traits none e h = absurd (false-true e)
+  made-again traits (tree (predicate k) c o) e h = absurd (false-true e)
   made-again traits (tree (auto_trait a) c o) e h =
       both (is_no_tree (again c)) (is_made better traits (again o))
       (ap (λ z. is_no_tree (again z)) (no-tree c (left (is_no_tree c) (is_made good traits o) e))) (made-again traits o (right (is_no_tree c) (is_made good traits o) e) h.2)

@@ -111,9 +111,6 @@ resolves-within n (b ∷ older) h t =
 pub within-resolved : (n : ℕ) (bs : List Binding) (t : Trees) → AllOne n bs → IsWithin n t → IsWithin n (resolved bs t)
 within-resolved n bs t h g = (resolves-within n bs h t).1 g
 
-pub count-resolved : (n : ℕ) (bs : List Binding) (t : Trees) → AllOne n bs → count (resolved bs t) ≡ count t
-count-resolved n bs t h = (resolves-within n bs h t).0
-
 -- ---- terms in the place of labels
 -- what is put in is one term
 abbrev pub IsOneIf : ℕ → Option Trees → Type 0
@@ -457,10 +454,6 @@ pub values-within : (n : ℕ) (vs : List Value) → number_of_values vs ≤ n �
 values-within n [] h = tt
 values-within n (v ∷ vs) h = (within n v.trees (omega (arith, h)), values-within n vs (omega (arith, h)))
 
-pub number-within : (n : ℕ) (vs : List Value) → Every (λ v. IsWithin n v.trees) vs → number_of_values vs ≤ n
-number-within n [] h = omega arith
-number-within n (v ∷ vs) h = let a = width-within n v.trees h.0 in let b = number-within n vs h.1 in omega (arith, a, b)
-
 -- open leaves as values
 pub leaf-values-one : (n : ℕ) (ls : List Label) → AllOneValues n (map (λ (l : Label). record { sort = sort_of l; trees = leaf l }) ls)
 leaf-values-one n [] = tt
@@ -473,14 +466,8 @@ table-of n (Some w) u h e = subst (λ (z : TableTrees). AreWithin n z.bindings) 
     is : Some w ≡ Some u → w ≡ u
     is e = cc
 
-pub unified-within : (n : ℕ) (t : TableTrees) (todo : Worklist) (u : TableTrees) → BindingsWithin n t.bindings → PairsWithin n todo → unified t todo ≡ Some u → BindingsWithin n u.bindings
-unified-within n t todo u h g e = bindings-within n u.bindings (table-of n (unified t todo) u (unified-keeps n t todo (are-within n t.bindings h) g) e)
-
 pub in-turn-within : (n : ℕ) (t : TableTrees) (todo : Worklist) (u : TableTrees) → BindingsWithin n t.bindings → PairsWithin n todo → in_turn todo t ≡ Some u → BindingsWithin n u.bindings
 in-turn-within n t todo u h g e = bindings-within n u.bindings (table-of n (in_turn todo t) u (in-turn-keeps n todo t (are-within n t.bindings h) g) e)
-
-pub solved-within : (n : ℕ) (t : TableTrees) (a b : Trees) (u : TableTrees) → BindingsWithin n t.bindings → width a ≤ n → width b ≤ n → solved_in_turn t a b ≡ Some u → BindingsWithin n u.bindings
-solved-within n t a b u h p q e = bindings-within n u.bindings (table-of n (solved_in_turn t a b) u (solved-keeps n t a b (are-within n t.bindings h) (within n a p) (within n b q)) e)
 
 pub applied-within : (n : ℕ) (t : TableTrees) (originals : List Value) (a : AnswerTrees) (u : TableTrees) → BindingsWithin n t.bindings → AllOneValues n originals → number_of_values a.values ≤ n
     → applied t originals a ≡ Some u → BindingsWithin n u.bindings

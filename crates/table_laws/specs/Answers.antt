@@ -94,9 +94,13 @@ abbrev pub kinds_of : List Label → List CanonicalVarKind
 kinds_of [] = []
 kinds_of (l ∷ ls) = with_kind (kind_of_leaf l) (kinds_of ls)
 
+-- each variable stands for itself, and no lifetime is constrained
+abbrev pub without_values : List CanonicalVarKind → Certainty → AnswerTrees
+without_values kinds c = record { kinds = kinds; certainty = c; values = variables_from 0 kinds; constraints = none }
+
 -- an overflow carries no values
 abbrev pub respond : FrameTable → Certainty → AnswerTrees
-respond t (Maybe Overflow) = record { kinds = t.kinds; certainty = Maybe Overflow; values = variables_from 0 t.kinds; constraints = none }
+respond t (Maybe Overflow) = without_values t.kinds (Maybe Overflow)
 respond t c = record {
   kinds = kinds_of (answer_leaves t);
   certainty = c;

@@ -1,6 +1,6 @@
 -- What stands for the variables of canonical goals, and for the unknowns of a table.
 use Rattle.std.specs.Prelude.{◌≡◌, ℕ, Bool, true, ◌&&◌, List, [], ◌∷◌, Option, Some, None}
-use Rattle.model.specs.Label.{Label, of_type, of_const, of_lifetime, param, placeholder, infer, canonical, bound, static, principal}
+use Rattle.model.specs.Label.{Label, of_type, of_const, of_lifetime, param, placeholder, infer, canonical, bound, static, of_trait, predicate}
 use Rattle.model.specs.Trees.{Trees, none, tree, leaf, is_a}
 use Rattle.infer_table.specs.Canonical.{GoalTrees, CanonicalForm}
 use Rattle.infer_table.specs.Solutions.{Assignment, Binding, tree_of}
@@ -42,7 +42,7 @@ given ts l = None
 -- ---- references and questions
 -- the trait of a reference; an open leaf is of none, whatever it stands for
 abbrev pub trait_at : Label → Option ℕ
-trait_at (principal n i) = Some i
+trait_at (predicate (of_trait i)) = Some i
 trait_at l = None
 
 abbrev pub trait_of : Trees → Option ℕ

@@ -1,7 +1,7 @@
 -- The tables of frames: what they hold, as trees, which terms they allow, and what can be done with them.
-use Rattle.std.specs.Prelude.{◌≡◌, ℕ, zero, suc, ltb, Bool, true, false, ◌&&◌, List, [], ◌∷◌, map, Option, Some, None, if◌then◌else◌}
+use Rattle.std.specs.Prelude.{◌≡◌, ℕ, zero, suc, ltb, Bool, true, false, ◌&&◌, List, [], ◌∷◌, map, Option, Some, None, if◌then◌else◌, refl}
 use Rattle.model.specs.Label.{Label, Sort, of_type, of_const, of_lifetime, param, placeholder, infer, canonical, bound, static}
-use Rattle.model.specs.Trees.{Trees, leaf, sort_of, is_sort, is_a}
+use Rattle.model.specs.Trees.{Trees, leaf, sort_of, is_sort, is_a, none}
 use Rattle.infer_table.specs.Canonical.{GoalTrees, canonical_form, goal_leaves}
 use Rattle.infer_table.specs.Solutions.{IsSorted}
 use Rattle.infer_table.specs.Unification.{TableTrees, Worklist, unified}
@@ -14,6 +14,9 @@ use Rattle.table_laws.specs.Instances.{read_with, goal_read, put_in, goal_put_in
 use Rattle.type_terms.specs.Made.{terms, is_made}
 use Rattle.table_laws.specs.Content.{Values, fits, given, trait_of, Fact, Question, fact_of, Terms, reading_of}
 use Rattle.table_laws.specs.Equations.{Hold, IsMade}
+use Rattle.infer_table.specs.Leaves.{root_label}
+use Rattle.infer_table.specs.Applying.{values_for}
+use Rattle.infer_table.specs.Applied.{with_constraints}
 
 -- ---- labels
 abbrev pub kind_at : List CanonicalVarKind → ℕ → Option CanonicalVarKind
@@ -73,6 +76,11 @@ pub record FrameTable : Type 0 where
   pub labels : List Label
   pub content : TableTrees
   pub made : IsMadeFrame kinds labels content
+
+-- the table with this content, if it was not refused
+abbrev pub frame_if : (t : FrameTable) (o : Option TableTrees) → ((u : TableTrees) → o ≡ Some u → IsMadeFrame t.kinds t.labels u) → Option FrameTable
+frame_if t None f = None
+frame_if t (Some u) f = Some (record { kinds = t.kinds; labels = t.labels; content = u; made = f u refl })
 
 abbrev pub good_in : FrameTable → Label → Bool
 good_in t l = is_good t.kinds t.content.ty_vars t.content.const_vars l
@@ -178,3 +186,48 @@ and_then f (Some x) = f x
 abbrev pub in_turn : Worklist → TableTrees → Option TableTrees
 in_turn [] t = Some t
 in_turn (e ∷ todo) t = and_then (in_turn todo) (unified t (e ∷ []))
+
+-- ---- labels and content after what is done with a table
+-- how many variables of a kind there are
+abbrev pub types_in : List CanonicalVarKind → ℕ
+types_in [] = 0
+types_in (Ty ∷ ks) = suc (types_in ks)
+types_in (k ∷ ks) = types_in ks
+
+abbrev pub consts_in : List CanonicalVarKind → ℕ
+consts_in [] = 0
+consts_in (Const ∷ ks) = suc (consts_in ks)
+consts_in (k ∷ ks) = consts_in ks
+
+abbrev pub regions_in : List CanonicalVarKind → ℕ
+regions_in [] = 0
+regions_in (Region ∷ ks) = suc (regions_in ks)
+regions_in (k ∷ ks) = regions_in ks
+
+-- the next unknown for each variable, and for one that stands for any the placeholder of its place
+abbrev pub labels_from : ℕ → ℕ → ℕ → ℕ → List CanonicalVarKind → List Label
+labels_from a b c i [] = []
+labels_from a b c i (Ty ∷ ks) = infer of_type a ∷ labels_from (suc a) b c (suc i) ks
+labels_from a b c i (Const ∷ ks) = infer of_const b ∷ labels_from a (suc b) c (suc i) ks
+labels_from a b c i (Region ∷ ks) = infer of_lifetime c ∷ labels_from a b (suc c) (suc i) ks
+labels_from a b c i (PlaceholderTy ∷ ks) = placeholder of_type i ∷ labels_from a b c (suc i) ks
+labels_from a b c i (PlaceholderConst ∷ ks) = placeholder of_const i ∷ labels_from a b c (suc i) ks
+
+-- the content with which a table begins: its unknowns, none of which has a value
+abbrev pub first_content : List CanonicalVarKind → TableTrees
+first_content kinds = record { ty_vars = types_in kinds; const_vars = consts_in kinds; region_vars = regions_in kinds; bindings = []; constraints = none }
+
+abbrev pub unknown : ℕ → Option Value
+unknown i = None
+
+-- the labels of the new unknowns of these kinds, in order
+abbrev pub labels_for : TableTrees → ℕ → List CanonicalVarKind → List Label
+labels_for t i ks = map (λ (v : Value). root_label v.trees) (values_for unknown t i ks)
+
+-- the constraints over the table's unknowns, behind those that are recorded
+abbrev pub recorded_content : FrameTable → Trees → TableTrees
+recorded_content t c = with_constraints (put_in (slot_at t.labels) c) t.content
+
+-- the pairs of terms that equations make equal
+abbrev pub pairs_in : FrameTable → List Equation → Worklist
+pairs_in t es = map (pair_in t) es

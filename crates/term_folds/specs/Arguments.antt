@@ -1,5 +1,6 @@
 -- Parameters and the arguments that stand for them.
 use Rattle.std.specs.Prelude.{◌≡◌, refl, ℕ, zero, suc, List, [], ◌∷◌, length, min, cond, Bool, true, false, Option, Some, None, ◌||◌}
+use Rattle.std.proofs.Common.{ap}
 use Rattle.std.specs.Option.{option_or}
 use Rattle.model.specs.Label.{Label, Sort, of_type, of_const, of_lifetime, param, principal, auto_trait, inside}
 use Rattle.model.specs.Trees.{Trees, none, tree, nth, sort_of, is_sort, some_node}
@@ -100,6 +101,14 @@ putting-bounds A bs (tree (principal n i) c o) h = refl
 putting-bounds A bs (tree (auto_trait i) c o) h = refl
 putting-bounds A bs none h = refl
 putting-bounds A bs (tree l c o) h = absurd h
+
+-- the number of binders decides, whatever they bind
+pub putting-by-depth : (A : Trees) (bs cs : List ℕ) (t : Trees) → length bs ≡ length cs → putting A bs t ≡ putting A cs t
+putting-by-depth A bs cs none e = refl
+putting-by-depth A bs cs (tree (principal n i) c o) e = refl
+putting-by-depth A bs cs (tree (auto_trait i) c o) e = refl
+putting-by-depth A bs cs (tree (param s i) c o) e = ap (λ n. fitted (misfit s (sort_at A i)) (moved zero (min n MAX_INDEX) (nth A i))) e
+putting-by-depth A bs cs (tree l c o) e = refl
 
 pub putting-once : (A : Trees) (bs : List ℕ) (t s : Trees) → putting A bs t ≡ again s → ⊥
 putting-once A bs none s e = cc

@@ -1,5 +1,6 @@
 -- Free lifetimes replaced.
 use Rattle.std.specs.Prelude.{◌≡◌, ℕ, List, length, cond, ltb, not, Bool, true, false, refl}
+use Rattle.std.proofs.Common.{ap}
 use Rattle.model.specs.Label.{Label, of_lifetime, static, param, placeholder, infer, canonical, bound, principal, auto_trait, inside}
 use Rattle.model.specs.Trees.{Trees, none, tree}
 use Rattle.term_folds.specs.Folds.{Does, enters, puts, again, IsBound}
@@ -32,6 +33,11 @@ replacing-bounds g bs (tree (principal n i) c o) h = refl
 replacing-bounds g bs (tree (auto_trait i) c o) h = refl
 replacing-bounds g bs none h = refl
 replacing-bounds g bs (tree l c o) h = absurd h
+
+-- the number of binders decides, whatever they bind
+pub replacing-by-depth : (g : Label → Label) (bs cs : List ℕ) (t : Trees) → length bs ≡ length cs → replacing g bs t ≡ replacing g cs t
+replacing-by-depth g bs cs none e = refl
+replacing-by-depth g bs cs (tree l c o) e = ap (λ n. cond (is_free_lifetime n l) (puts (tree (g l) (regions_replaced g (inside l n) c) none)) enters) e
 
 pub replacing-once : (g : Label → Label) (bs : List ℕ) (t s : Trees) → replacing g bs t ≡ again s → ⊥
 replacing-once g bs none s e = cc

@@ -1,5 +1,6 @@
 -- Binder numbers shifted.
 use Rattle.std.specs.Prelude.{◌≡◌, ℕ, ◌+◌, ◌<◌, ◌≤◌, List, [], ◌∷◌, length, cond, ltb, refl, Bool, true, false}
+use Rattle.std.proofs.Common.{ap}
 use Rattle.model.specs.Label.{Label, bound, principal, auto_trait, inside}
 use Rattle.model.specs.Trees.{Trees, none, tree, outer_binder}
 use Rattle.type_terms.specs.declared.TheConstants.{MAX_INDEX}
@@ -44,6 +45,14 @@ shifting-bounds a bs (tree (principal n i) c o) h = refl
 shifting-bounds a bs (tree (auto_trait i) c o) h = refl
 shifting-bounds a bs none h = refl
 shifting-bounds a bs (tree l c o) h = absurd h
+
+-- the number of binders decides, whatever they bind
+pub shifting-by-depth : (a : ℕ) (bs cs : List ℕ) (t : Trees) → length bs ≡ length cs → shifting a bs t ≡ shifting a cs t
+shifting-by-depth a bs cs none e = refl
+shifting-by-depth a bs cs (tree (principal n i) c o) e = refl
+shifting-by-depth a bs cs (tree (auto_trait i) c o) e = refl
+shifting-by-depth a bs cs (tree (bound s k v) c o) e = ap (λ n. puts (tree (bound s (moved_number n a k) v) (moved n a c) none)) e
+shifting-by-depth a bs cs (tree l c o) e = ap (λ n. cond (ltb n (outer_binder (tree l c none))) enters (puts (tree l c none))) e
 
 pub shifting-once : (a : ℕ) (bs : List ℕ) (t s : Trees) → shifting a bs t ≡ again s → ⊥
 shifting-once a bs none s e = cc

@@ -1,5 +1,5 @@
 //! Folders, and the fold of a term by one.
-ghost use Rattle.std.specs.Prelude.{◌≡◌, ℕ, ◌+◌, ◌*◌, ◌<◌, ◌≤◌, List, [], ◌∷◌, ◌++◌, Option, IfOk, IfErr};
+ghost use Rattle.std.specs.Prelude.{◌≡◌, ℕ, ◌+◌, ◌*◌, ◌<◌, ◌≤◌, List, length, IfOk, IfErr};
 ghost use Rattle.model.specs.Label.{Label};
 ghost use Rattle.model.specs.Trees.{Trees, none, tree, ◌+++◌, is_no_tree};
 ghost use Rattle.type_terms.specs.Terms.{Entry, Is, Has, Keeps, types, consts, args_lists, type_lists, bounds_lists, trees_at};
@@ -9,6 +9,8 @@ ghost use Rattle.term_folds.specs.Failures.{FailsBy};
 ghost use Rattle.term_folds.specs.Folds.{Does, enters, again, Folds, FoldsBelow, IsFold, IsFoldBelow, IsBound, TyAnswer, ConstAnswer, RegionAnswer};
 
 use crate::binders::Binders;
+use crate::memo::Memo;
+use crate::walk::{super_walk_ty, walk_arg, walk_args, walk_bounds, walk_ty, walk_tys};
 use std::alloc::Global;
 use type_terms::Fault;
 use type_terms::interner::Interner;
@@ -29,6 +31,9 @@ pub enum Answer<T> {
 }
 
 /// A folder that can fail with an error of its own.
+///
+/// What it does at a node may depend on how many binders are around the node and not on how many lifetimes these bind
+/// (`by_depth`): so a fold keeps what it has made of a type by handle and number of binders.
 pub trait FallibleTypeFolder {
     type Error: From<Fault> + Drop;
 
@@ -92,6 +97,9 @@ pub trait FallibleTypeFolder {
 
     ghost fuel_kept: { (f : Self) (old new : List Entry) → Keeps old new → ready f old → fuel f new ≡ fuel f old };
 
+    // The lifetimes that the binders bind do not matter to it, and what is around a node is their number alone.
+    ghost by_depth: { (f : Self) (es : List Entry) (bs cs : List ℕ) (t : Trees) → length bs ≡ length cs → action f es bs t ≡ action f es cs t };
+
     // The bounds of a `dyn` are entered.
     ghost enters_bounds: { (f : Self) (es : List Entry) (bs : List ℕ) (t : Trees) → IsBound t → action f es bs t ≡ enters };
 
@@ -148,7 +156,6 @@ pub(crate) fn fold_const<F: FallibleTypeFolder>(
 }
 
 /// The type that a folder makes of this one.
-#[cycle(folds)]
 pub fn fold_ty<F: FallibleTypeFolder>(
     alloc: Global,
     cx: &mut Interner,
@@ -163,16 +170,10 @@ pub fn fold_ty<F: FallibleTypeFolder>(
     ensures folded { IfOk result (λ r. IsFold (F.action folder.now cx.old.entries) (counts_of binders.now) (trees_at cx.old.entries ty.0) cx.new.entries types r.0) }
     ensures failed { IfErr result (λ e. FailsBy (F.fails folder.now) F.Error.from_gives cx.new.entries cx.new.limit e) }
 {
-    cx.lawful();
-    match folder.try_fold_ty(cx, ty, binders)? {
-        Answer::Enter => super_fold_ty(alloc, cx, folder, ty, binders),
-        Answer::Replace(new) => Ok(new),
-        Answer::Again(next) => fold_ty(alloc, cx, folder, next, binders),
-    }
+    walk_ty(alloc, cx, folder, ty, binders, &mut Memo::new(alloc))
 }
 
 /// The type over the folds of its children; the folder is not asked at the type itself.
-#[cycle(folds)]
 pub fn super_fold_ty<F: FallibleTypeFolder>(
     alloc: Global,
     cx: &mut Interner,
@@ -187,62 +188,10 @@ pub fn super_fold_ty<F: FallibleTypeFolder>(
     ensures folded { IfOk result (λ r. IsFoldBelow (F.action folder.now cx.old.entries) (counts_of binders.now) (trees_at cx.old.entries ty.0) cx.new.entries types r.0) }
     ensures failed { IfErr result (λ e. FailsBy (F.fails folder.now) F.Error.from_gives cx.new.entries cx.new.limit e) }
 {
-    let kind = cx.kind(ty);
-    let folded = fold_kind(alloc, cx, folder, ty, kind, binders)?;
-    Ok(cx.mk_ty(folded)?)
-}
-
-/// The kind of a type, over the folds of its children.
-#[cycle(folds)]
-fn fold_kind<F: FallibleTypeFolder>(
-    alloc: Global,
-    cx: &mut Interner,
-    folder: &F,
-    ty: Ty,
-    kind: TyKind,
-    binders: &Binders,
-) -> Result<TyKind, F::Error>
-    requires ready { F.ready folder.now cx.old.entries }
-    requires is { Is cx.old.entries types ty.0 (kind_trees cx.old.entries kind) }
-    requires held { KindHeld cx.old.entries kind }
-    requires older { KindOlder ty.0 kind }
-    ensures keeps { Keeps cx.old.entries cx.new.entries }
-    ensures limit { cx.new.limit ≡ cx.old.limit }
-    ensures held { IfOk result (λ k. KindHeld cx.new.entries k) }
-    ensures folded { IfOk result (λ k. FoldsBelow (F.action folder.now cx.old.entries) (counts_of binders.now) (kind_trees cx.old.entries kind) (kind_trees cx.new.entries k)) }
-    ensures failed { IfErr result (λ e. FailsBy (F.fails folder.now) F.Error.from_gives cx.new.entries cx.new.limit e) }
-{
-    match kind {
-        TyKind::Adt(adt, args) => {
-            Ok(TyKind::Adt(adt, fold_args(alloc, cx, folder, args, binders)?))
-        }
-        TyKind::Ref(region, to, mutability) => {
-            let region = fold_region(cx, folder, region, binders)?;
-            Ok(TyKind::Ref(region, fold_ty(alloc, cx, folder, to, binders)?, mutability))
-        }
-        TyKind::RawPtr(to, mutability) => {
-            Ok(TyKind::RawPtr(fold_ty(alloc, cx, folder, to, binders)?, mutability))
-        }
-        TyKind::Array(item, length) => {
-            let item = fold_ty(alloc, cx, folder, item, binders)?;
-            Ok(TyKind::Array(item, fold_const(cx, folder, length, binders)?))
-        }
-        TyKind::Slice(item) => Ok(TyKind::Slice(fold_ty(alloc, cx, folder, item, binders)?)),
-        TyKind::Tuple(items) => Ok(TyKind::Tuple(fold_tys(alloc, cx, folder, items, binders)?)),
-        TyKind::FnPtr(count, tys) => {
-            let inside = Binders::Inside(count, &*binders);
-            Ok(TyKind::FnPtr(count, fold_tys(alloc, cx, folder, tys, &inside)?))
-        }
-        TyKind::Dynamic(bounds, region) => {
-            let region = fold_region(cx, folder, region, binders)?;
-            Ok(TyKind::Dynamic(fold_bounds(alloc, cx, folder, bounds, binders)?, region))
-        }
-        _ => Ok(kind),
-    }
+    super_walk_ty(alloc, cx, folder, ty, binders, &mut Memo::new(alloc))
 }
 
 /// The list of the folds of these types.
-#[cycle(folds)]
 pub(crate) fn fold_tys<F: FallibleTypeFolder>(
     alloc: Global,
     cx: &mut Interner,
@@ -258,19 +207,10 @@ pub(crate) fn fold_tys<F: FallibleTypeFolder>(
     ensures whole { IfOk result (λ r. is_no_tree (trees_at cx.new.entries r.0) ≡ is_no_tree (trees_at cx.old.entries tys.0)) }
     ensures failed { IfErr result (λ e. FailsBy (F.fails folder.now) F.Error.from_gives cx.new.entries cx.new.limit e) }
 {
-    cx.lawful();
-    let old = copied(alloc, cx.tys(tys))?;
-    let mut new = Vec::new(alloc);
-    for ty in &old {
-        let folded = fold_ty(alloc, cx, folder, *ty, binders)?;
-        append(&mut new, folded)?;
-    }
-    cx.lawful();
-    Ok(cx.mk_tys(new)?)
+    walk_tys(alloc, cx, folder, tys, binders, &mut Memo::new(alloc))
 }
 
 /// The list of the folds of these arguments.
-#[cycle(folds)]
 pub fn fold_args<F: FallibleTypeFolder>(
     alloc: Global,
     cx: &mut Interner,
@@ -285,17 +225,10 @@ pub fn fold_args<F: FallibleTypeFolder>(
     ensures folded { IfOk result (λ r. IsFold (F.action folder.now cx.old.entries) (counts_of binders.now) (trees_at cx.old.entries args.0) cx.new.entries args_lists r.0) }
     ensures failed { IfErr result (λ e. FailsBy (F.fails folder.now) F.Error.from_gives cx.new.entries cx.new.limit e) }
 {
-    let old = copied(alloc, cx.args(args))?;
-    let mut new = Vec::new(alloc);
-    for arg in &old {
-        let folded = fold_arg(alloc, cx, folder, *arg, binders)?;
-        append(&mut new, folded)?;
-    }
-    Ok(cx.mk_args(new)?)
+    walk_args(alloc, cx, folder, args, binders, &mut Memo::new(alloc))
 }
 
 /// The fold of an argument.
-#[cycle(folds)]
 pub(crate) fn fold_arg<F: FallibleTypeFolder>(
     alloc: Global,
     cx: &mut Interner,
@@ -311,19 +244,10 @@ pub(crate) fn fold_arg<F: FallibleTypeFolder>(
     ensures folded { IfOk result (λ a. Folds (F.action folder.now cx.old.entries) (counts_of binders.now) (arg_trees cx.old.entries arg) (arg_trees cx.new.entries a)) }
     ensures failed { IfErr result (λ e. FailsBy (F.fails folder.now) F.Error.from_gives cx.new.entries cx.new.limit e) }
 {
-    match arg {
-        GenericArgKind::Lifetime(region) => {
-            Ok(GenericArgKind::Lifetime(fold_region(cx, folder, region, binders)?))
-        }
-        GenericArgKind::Ty(ty) => Ok(GenericArgKind::Ty(fold_ty(alloc, cx, folder, ty, binders)?)),
-        GenericArgKind::Const(ct) => {
-            Ok(GenericArgKind::Const(fold_const(cx, folder, ct, binders)?))
-        }
-    }
+    walk_arg(alloc, cx, folder, arg, binders, &mut Memo::new(alloc))
 }
 
 /// The bounds with the folds of the principal's arguments.
-#[cycle(folds)]
 pub(crate) fn fold_bounds<F: FallibleTypeFolder>(
     alloc: Global,
     cx: &mut Interner,
@@ -338,59 +262,5 @@ pub(crate) fn fold_bounds<F: FallibleTypeFolder>(
     ensures folded { IfOk result (λ r. IsFold (F.action folder.now cx.old.entries) (counts_of binders.now) (trees_at cx.old.entries bounds.0) cx.new.entries bounds_lists r.0) }
     ensures failed { IfErr result (λ e. FailsBy (F.fails folder.now) F.Error.from_gives cx.new.entries cx.new.limit e) }
 {
-    let data = cx.bounds(bounds);
-    let old = data.principal;
-    let autos = copied(alloc, &data.autos)?;
-    let principal = fold_principal(alloc, cx, folder, bounds, old, binders)?;
-    Ok(cx.mk_bounds(BoundsData { principal, autos })?)
-}
-
-/// The principal trait with the folds of its arguments.
-#[cycle(folds)]
-fn fold_principal<F: FallibleTypeFolder>(
-    alloc: Global,
-    cx: &mut Interner,
-    folder: &F,
-    bounds: Bounds,
-    principal: Option<Principal>,
-    binders: &Binders,
-) -> Result<Option<Principal>, F::Error>
-    requires ready { F.ready folder.now cx.old.entries }
-    requires held { PrincipalHeld cx.old.entries principal }
-    requires older { PrincipalOlder bounds.0 principal }
-    requires part { (others : Trees) × (trees_at cx.old.entries bounds.0 ≡ principal_trees cx.old.entries principal +++ others) }
-    ensures keeps { Keeps cx.old.entries cx.new.entries }
-    ensures limit { cx.new.limit ≡ cx.old.limit }
-    ensures held { IfOk result (λ p. PrincipalHeld cx.new.entries p) }
-    ensures folded { IfOk result (λ p. Folds (F.action folder.now cx.old.entries) (counts_of binders.now) (principal_trees cx.old.entries principal) (principal_trees cx.new.entries p)) }
-    ensures failed { IfErr result (λ e. FailsBy (F.fails folder.now) F.Error.from_gives cx.new.entries cx.new.limit e) }
-{
-    match principal {
-        Some(principal) => {
-            let inside = Binders::Inside(principal.bound_vars, &*binders);
-            let args = fold_args(alloc, cx, folder, principal.args, &inside)?;
-            Ok(Some(Principal { args, ..principal }))
-        }
-        None => Ok(None),
-    }
-}
-
-/// Another list of these items.
-fn copied<T: Copy>(alloc: Global, items: &[T]) -> Result<Vec<T>, Fault>
-    ensures copied { IfOk result (λ list. list.items ≡ items.now) }
-    ensures memory { IfErr result (λ e. e ≡ Fault.Memory) }
-{
-    let mut list = Vec::new(alloc);
-    for item in items {
-        list.push(*item)?;
-    }
-    Ok(list)
-}
-
-/// One more item at the end of a list.
-fn append<T: Drop>(list: &mut Vec<T>, item: T) -> Result<(), Fault>
-    ensures appended { IfOk result (λ _. list.new.items ≡ list.old.items ++ item ∷ []) }
-    ensures memory { IfErr result (λ e. e ≡ Fault.Memory) }
-{
-    Ok(list.push(item)?)
+    walk_bounds(alloc, cx, folder, bounds, binders, &mut Memo::new(alloc))
 }

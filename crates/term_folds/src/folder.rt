@@ -1,5 +1,5 @@
 //! Folders that cannot fail but for want of room.
-ghost use Rattle.std.specs.Prelude.{◌≡◌, ℕ, ◌<◌, ◌≤◌, ◌⊎◌, List, IfOk, Err};
+ghost use Rattle.std.specs.Prelude.{◌≡◌, ℕ, ◌<◌, ◌≤◌, ◌⊎◌, List, length, IfOk, Err};
 ghost use Rattle.model.specs.Label.{Label};
 ghost use Rattle.model.specs.Trees.{Trees, none, tree, ◌+++◌};
 ghost use Rattle.type_terms.specs.Terms.{Entry, Is, Has, Keeps, types, consts, trees_at};
@@ -75,6 +75,9 @@ pub trait TypeFolder {
 
     ghost fuel_kept: { (f : Self) (old new : List Entry) → Keeps old new → ready f old → fuel f new ≡ fuel f old };
 
+    // The lifetimes that the binders bind do not matter to it, and what is around a node is their number alone.
+    ghost by_depth: { (f : Self) (es : List Entry) (bs cs : List ℕ) (t : Trees) → length bs ≡ length cs → action f es bs t ≡ action f es cs t };
+
     // The bounds of a `dyn` are entered.
     ghost enters_bounds: { (f : Self) (es : List Entry) (bs : List ℕ) (t : Trees) → IsBound t → action f es bs t ≡ enters };
 
@@ -110,6 +113,8 @@ impl<F: TypeFolder> FallibleTypeFolder for Infallible<'_, F> {
     ghost action_kept = { λ f old new k h. F.action_kept f.0.now old new k h };
 
     ghost fuel_kept = { λ f old new k h. F.fuel_kept f.0.now old new k h };
+
+    ghost by_depth = { λ f es bs cs t e. F.by_depth f.0.now es bs cs t e };
 
     ghost enters_bounds = { λ f es bs t h. F.enters_bounds f.0.now es bs t h };
 

@@ -160,7 +160,7 @@ impl TypeFolder for ArgFolder {
     ghost use Rattle.type_terms.specs.Terms.{Has, args_lists, trees_at};
     ghost use Rattle.term_folds.specs.Kept.{has-later, trees-later};
     ghost use Rattle.term_folds.specs.Folds.{none_above};
-    ghost use Rattle.term_folds.specs.Arguments.{putting, putting-bounds, putting-once};
+    ghost use Rattle.term_folds.specs.Arguments.{putting, putting-bounds, putting-once, putting-by-depth};
 
     ghost ready = { λ f es. Has es args_lists f.args.0 };
 
@@ -173,6 +173,8 @@ impl TypeFolder for ArgFolder {
     ghost action_kept = { λ f old new k h. ap putting (trees-later old new k args_lists f.args.0 h) };
 
     ghost fuel_kept = { λ f old new k h. refl };
+
+    ghost by_depth = { λ f es bs cs t e. putting-by-depth (trees_at es f.args.0) bs cs t e };
 
     ghost enters_bounds = { λ f es bs t h. putting-bounds (trees_at es f.args.0) bs t h };
 

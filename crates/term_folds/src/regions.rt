@@ -41,7 +41,7 @@ pub struct RegionFolder<'a, M> {
 impl<M: RegionMap> TypeFolder for RegionFolder<'_, M> {
     ghost use Rattle.std.proofs.Common.{refl};
     ghost use Rattle.term_folds.specs.Folds.{none_above};
-    ghost use Rattle.term_folds.specs.Regions.{replacing, replacing-bounds, replacing-once};
+    ghost use Rattle.term_folds.specs.Regions.{replacing, replacing-bounds, replacing-once, replacing-by-depth};
 
     ghost ready = { λ _ _. Unit {0} };
 
@@ -54,6 +54,8 @@ impl<M: RegionMap> TypeFolder for RegionFolder<'_, M> {
     ghost action_kept = { λ f old new k h. refl };
 
     ghost fuel_kept = { λ f old new k h. refl };
+
+    ghost by_depth = { λ f es bs cs t e. replacing-by-depth (M.image f.map.now) bs cs t e };
 
     ghost enters_bounds = { λ f es bs t h. replacing-bounds (M.image f.map.now) bs t h };
 

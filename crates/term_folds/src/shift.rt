@@ -48,7 +48,7 @@ impl Shifter {
 impl TypeFolder for Shifter {
     ghost use Rattle.std.proofs.Common.{refl};
     ghost use Rattle.term_folds.specs.Folds.{none_above};
-    ghost use Rattle.term_folds.specs.Shifts.{shifting, shifting-bounds, shifting-once};
+    ghost use Rattle.term_folds.specs.Shifts.{shifting, shifting-bounds, shifting-once, shifting-by-depth};
 
     ghost ready = { λ _ _. Unit {0} };
 
@@ -61,6 +61,8 @@ impl TypeFolder for Shifter {
     ghost action_kept = { λ f old new k h. refl };
 
     ghost fuel_kept = { λ f old new k h. refl };
+
+    ghost by_depth = { λ f es bs cs t e. shifting-by-depth f.amount bs cs t e };
 
     ghost enters_bounds = { λ f es bs t h. shifting-bounds f.amount bs t h };
 

@@ -25,7 +25,7 @@ pub enum Seen<B> {
     Pass,
 }
 
-/// A visitor of terms. A visit takes no memory.
+/// A visitor of terms. A visit takes no memory of its own.
 ///
 /// The original's `TypeVisitor`; it recurses by itself there, and here it answers what to do with a node.
 pub trait TypeVisitor {

@@ -88,7 +88,7 @@ pub(crate) fn equated(answer: Result<(), EqError>) -> Result<bool, Fault> {
     match answer {
         Ok(()) => Ok(true),
         Err(EqError::NoSolution) => Ok(false),
-        Err(EqError::OutOf(fault)) => Err(fault),
+        Err(EqError::Fault(fault)) => Err(fault),
     }
 }
 
@@ -121,7 +121,7 @@ fn equate_and_undo(
     requires { Ready cx.old.entries table.old }
     ensures { Ready cx.new.entries table.new }
 {
-    let place = table.snapshot()?;
+    let place = table.snapshot();
     let answer = equate(alloc, cx, table, left, right);
     table.roll_back(place);
     answer

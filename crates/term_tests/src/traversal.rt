@@ -45,6 +45,8 @@ impl TypeFolder for Identity {
 
     ghost fuel_kept = { λ f old new k h. refl };
 
+    ghost by_depth = { λ f es bs cs t e. refl };
+
     ghost enters_bounds = { λ f es bs t h. refl };
 
     ghost falls = { λ f es bs t s h e. absurd (enters-once s e) };
@@ -124,6 +126,8 @@ impl FallibleTypeFolder for NoBool {
     ghost action_kept = { λ f old new k h. refl };
 
     ghost fuel_kept = { λ f old new k h. refl };
+
+    ghost by_depth = { λ f es bs cs t e. refl };
 
     ghost enters_bounds = { λ f es bs t h. refl };
 

@@ -13,7 +13,7 @@ fn name_and_view(
     workspace: &Workspace,
     id: CrateId,
 ) -> Result<(&[u8], usize), AllocError> {
-    if id.index < workspace.crate_count() {
+    if (id.index as usize) < workspace.crates().len() {
         Ok((workspace.crate_name(id), workspace.view(alloc, id)?.len()))
     } else {
         Ok((b"", 0))
@@ -68,7 +68,7 @@ fn items_and_questions_belong_to_their_crates(rt: HostRuntime) -> Result<(), Fai
 /// The faulty line and its number, where a text has one.
 fn fault_of(alloc: Global, text: &[u8]) -> (u32, u8) {
     match parse(alloc, text) {
-        Err(TextError::Text(fault)) => (fault.line, fault.number),
+        Err(TextError::Text(fault)) => (fault.line, fault.kind.number()),
         _ => (0, 0),
     }
 }

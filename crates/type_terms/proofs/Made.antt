@@ -1,7 +1,7 @@
 -- Terms as they are made, taken apart.
 use Rattle.std.proofs.Common.{◌≡◌, ℕ, Bool, true, false, not, ◌&&◌, ◌||◌, refl}
 pub use Rattle.model.proofs.Walking.{left, right, both}
-use Rattle.model.specs.Label.{Label, of_lifetime, dynamic, principal, auto_trait}
+use Rattle.model.specs.Label.{Label, of_lifetime, dynamic, principal, auto_trait, predicate}
 use Rattle.model.specs.Trees.{Trees, none, tree, ◌+++◌, sort_of, is_sort, is_no_tree}
 use Rattle.type_terms.specs.Made.{Standing, terms, bounds, traits, is_leaf_label, is_made}
 
@@ -17,6 +17,7 @@ abbrev pub is_ordinary : Label → Bool
 is_ordinary dynamic = false
 is_ordinary (principal n t) = false
 is_ordinary (auto_trait i) = false
+is_ordinary (predicate k) = false
 is_ordinary l = true
 
 module _ (good : Label → Bool) where
@@ -25,6 +26,7 @@ module _ (good : Label → Bool) where
   made-ordinary dynamic c o i h = absurd (false-true i)
   made-ordinary (principal n t) c o i h = absurd (false-true i)
   made-ordinary (auto_trait n) c o i h = absurd (false-true i)
+  made-ordinary (predicate k) c o i h = absurd (false-true i)
   made-ordinary l c o i h =
       let a = right (good l) _ h in
       let b = right (not (is_leaf_label l) || is_no_tree c) _ a in
@@ -35,6 +37,7 @@ module _ (good : Label → Bool) where
   makes-ordinary dynamic c o i g x a b = absurd (false-true i)
   makes-ordinary (principal n t) c o i g x a b = absurd (false-true i)
   makes-ordinary (auto_trait n) c o i g x a b = absurd (false-true i)
+  makes-ordinary (predicate k) c o i g x a b = absurd (false-true i)
   makes-ordinary l c o i g x a b = both (good l) _ g (both (not (is_leaf_label l) || is_no_tree c) _ x (both (is_made good terms c) _ a b))
 
   -- the rest of a list, and lists one after the other
@@ -42,18 +45,21 @@ module _ (good : Label → Bool) where
   made-rest dynamic c o h = right (is_made good bounds c) _ h
   made-rest (principal n t) c o h = absurd (false-true h)
   made-rest (auto_trait n) c o h = absurd (false-true h)
+  made-rest (predicate k) c o h = absurd (false-true h)
   made-rest l c o h = (made-ordinary l c o refl h).3
 
   pub made-alone : (l : Label) (c o : Trees) → is_made good terms (tree l c o) ≡ true → is_made good terms (tree l c none) ≡ true
   made-alone dynamic c o h = both (is_made good bounds c) true (left (is_made good bounds c) _ h) refl
   made-alone (principal n t) c o h = h
   made-alone (auto_trait n) c o h = h
+  made-alone (predicate k) c o h = h
   made-alone l c o h = let x = made-ordinary l c o refl h in makes-ordinary l c none refl x.0 x.1 x.2 refl
 
   pub made-with : (l : Label) (c o p : Trees) → is_made good terms (tree l c o) ≡ true → is_made good terms p ≡ true → is_made good terms (tree l c p) ≡ true
   made-with dynamic c o p h q = both (is_made good bounds c) _ (left (is_made good bounds c) _ h) q
   made-with (principal n t) c o p h q = absurd (false-true h)
   made-with (auto_trait n) c o p h q = absurd (false-true h)
+  made-with (predicate k) c o p h q = absurd (false-true h)
   made-with l c o p h q = let x = made-ordinary l c o refl h in makes-ordinary l c p refl x.0 x.1 x.2 q
 
   pub made-append : (x y : Trees) → is_made good terms x ≡ true → is_made good terms y ≡ true → is_made good terms (x +++ y) ≡ true
@@ -82,12 +88,14 @@ module _ (good : Label → Bool) where
   last-trait dynamic c o i h = absurd (false-true i)
   last-trait (principal n t) c o i h = absurd (false-true i)
   last-trait (auto_trait n) c o i h = absurd (false-true i)
+  last-trait (predicate k) c o i h = absurd (false-true i)
   last-trait l c o i h = last-of l c o h
 
   pub last-bound : (l : Label) (c o : Trees) → is_ordinary l ≡ true → is_made good bounds (tree l c o) ≡ true → IsLast l c o
   last-bound dynamic c o i h = absurd (false-true i)
   last-bound (principal n t) c o i h = absurd (false-true i)
   last-bound (auto_trait n) c o i h = absurd (false-true i)
+  last-bound (predicate k) c o i h = absurd (false-true i)
   last-bound l c o i h = last-of l c o h
 
   pub never-dynamic : (c o : Trees) → (is_made good traits (tree dynamic c o) ≡ true) → ⊥
@@ -118,13 +126,16 @@ module _ (good better : Label → Bool) (each : (l : Label) → good l ≡ true 
   made-weaker terms (tree dynamic c o) h = both (is_made better bounds c) _ (made-weaker bounds c (left (is_made good bounds c) _ h)) (made-weaker terms o (right (is_made good bounds c) _ h))
   made-weaker terms (tree (principal n t) c o) h = h
   made-weaker terms (tree (auto_trait i) c o) h = h
+  made-weaker terms (tree (predicate k) c o) h = h
   made-weaker terms (tree l c o) h =
       let x = made-ordinary good l c o refl h in
       makes-ordinary better l c o refl (each l x.0) x.1 (made-weaker terms c x.2) (made-weaker terms o x.3)
   made-weaker bounds none h = h
   made-weaker bounds (tree (principal n t) c o) h = both (is_made better terms c) _ (made-weaker terms c (left (is_made good terms c) _ h)) (made-weaker traits o (right (is_made good terms c) _ h))
   made-weaker bounds (tree (auto_trait i) c o) h = both (is_no_tree c) _ (left (is_no_tree c) _ h) (made-weaker traits o (right (is_no_tree c) _ h))
+  made-weaker bounds (tree (predicate k) c o) h = h
   made-weaker bounds (tree l c o) h = both (better l) _ (each l (left (good l) _ h)) (right (good l) _ h)
   made-weaker traits none h = h
   made-weaker traits (tree (auto_trait i) c o) h = both (is_no_tree c) _ (left (is_no_tree c) _ h) (made-weaker traits o (right (is_no_tree c) _ h))
+  made-weaker traits (tree (predicate k) c o) h = h
   made-weaker traits (tree l c o) h = both (better l) _ (each l (left (good l) _ h)) (right (good l) _ h)

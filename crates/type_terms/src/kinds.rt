@@ -2,6 +2,7 @@
 use crate::number::{BoundVar, BoundVarIndexKind, ConstVid, TyVid};
 use crate::region::Region;
 use crate::{AdtId, TraitId};
+use std::alloc::AllocError;
 
 /// A type of an interner, by its number there.
 ///
@@ -127,4 +128,18 @@ pub struct BoundsData {
     pub principal: Option<Principal>,
     /// The auto traits by rising number, each once.
     pub autos: Vec<TraitId>,
+}
+
+impl Clone for BoundsData {
+    ghost use Rattle.std.specs.Prelude.{◌≡◌};
+
+    ghost is_clone = { λ b c. (c.principal ≡ b.principal) × (c.autos.items ≡ b.autos.items) };
+
+    fn clone(&self) -> Result<BoundsData, AllocError> {
+        let autos = Vec::from_slice(*self.autos.allocator(), &self.autos)?;
+        Ok(BoundsData {
+            principal: self.principal,
+            autos,
+        })
+    }
 }

@@ -1,4 +1,4 @@
-use Rattle.table_laws.proofs.Complete.{equations_narrow, equations_keep, equations_stay_made}
+use Rattle.table_laws.proofs.Assignments.{equations_narrow, equations_keep, equations_stay_made}
 use Rattle.table_laws.proofs.equation_laws.Goals as goal
 
 pub returns-clause-narrows : goal.returns-clause-narrows

@@ -1,5 +1,6 @@
 use Rattle.std.proofs.Common.{[], ◌∷◌, ◌++◌, inr}
 use Rattle.std.proofs.lemmas.Result.{err_from_is_err_and}
+use Rattle.coherence_text.specs.FaultNumbers.{fault_number}
 use Rattle.coherence_text.specs.Output.{fault}
 use Rattle.coherence.specs.declared.status.Status.TheVariants as statuses
 use Rattle.coherence.specs.Lines.{of_fault, of_answers}
@@ -10,14 +11,14 @@ pub returns-in_err-write_line-in-Err-Text-clause-prefix : goal.returns-in_err-wr
 returns-in_err-write_line-in-Err-Text-clause-prefix g c =
     let p = err_from_is_err_and c.from_residual.result c.from_residual.ensures.1 in
     let given = rw c.in-Err-Text.field-0-is at c.in-Err-Text.ensures.refused in
-    let line = fault c.in-Err-Text.fault.line c.in-Err-Text.fault.number in
-    rw p.1 (inr (statuses.TextFault, line ∷ [], of_fault c.in-Err-Text.fault.line c.in-Err-Text.fault.number given, alone-prefix _ _ line (rw c.in-Err-Text.fault-is at c.in_err-write_line-in-Err-Text.ensures.prefix)))
+    let line = fault c.in-Err-Text.fault.line (fault_number c.in-Err-Text.fault.kind) in
+    rw p.1 (inr (statuses.TextFault, line ∷ [], of_fault c.in-Err-Text.fault.line (fault_number c.in-Err-Text.fault.kind) given, alone-prefix _ _ line (rw c.in-Err-Text.fault-is at c.in_err-write_line-in-Err-Text.ensures.prefix)))
 
 pub returns-in_ok-write_line-in-Err-Text-clause-whole : goal.returns-in_ok-write_line-in-Err-Text-clause-whole
 returns-in_ok-write_line-in-Err-Text-clause-whole g c =
     let given = rw c.in-Err-Text.field-0-is at c.in-Err-Text.ensures.refused in
-    let line = fault c.in-Err-Text.fault.line c.in-Err-Text.fault.number in
-    (line ∷ [], of_fault c.in-Err-Text.fault.line c.in-Err-Text.fault.number given, alone-line _ _ line (rw c.in-Err-Text.fault-is at c.in_ok-write_line-in-Err-Text.ensures.whole))
+    let line = fault c.in-Err-Text.fault.line (fault_number c.in-Err-Text.fault.kind) in
+    (line ∷ [], of_fault c.in-Err-Text.fault.line (fault_number c.in-Err-Text.fault.kind) given, alone-line _ _ line (rw c.in-Err-Text.fault-is at c.in_ok-write_line-in-Err-Text.ensures.whole))
 
 pub returns-in_err-write_answers-in-Ok-clause-prefix : goal.returns-in_err-write_answers-in-Ok-clause-prefix
 returns-in_err-write_answers-in-Ok-clause-prefix g c =

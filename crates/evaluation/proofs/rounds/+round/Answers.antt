@@ -1,6 +1,7 @@
 use Rattle.std.proofs.Common.{rules, arith, ◌≡◌, ◌-◌, ◌⊎◌, inl, inr, true, false, not, Ok, [], ◌∷◌, ◌++◌, map, length, take, drop, Some, None, Err, sym, subst, ap, ◌∙◌}
 use Rattle.std.proofs.lemmas.List.{map-append}
 use Rattle.type_terms.specs.Terms.{Keeps}
+use Rattle.term_folds.specs.Failures.{SomeKindIsFull}
 use Rattle.term_folds.specs.Kept.{args-held-later}
 use Rattle.infer_table.specs.Values.{values_of, values-later}
 use Rattle.evaluation.specs.Lists.{Every}
@@ -17,9 +18,13 @@ use Rattle.evaluation.specs.Steps.{RoundEnds}
 use Rattle.evaluation.specs.declared.rounds.RoundStep.TheVariants as Of
 use Rattle.evaluation.proofs.Contexts.{nested-later, replies-later, response-later, every-more}
 use Rattle.evaluation.proofs.FirstOf.{first-rest, rest-shorter, handed, both-yes, not-both, or-is}
-use Rattle.evaluation.proofs.LaterTrees.{goal-trees-later}
+use Rattle.evaluation.proofs.LaterTrees.{goal-trees-later, goals-trees-later, answer-trees-later, replies-trees-later}
 use Rattle.evaluation.proofs.RoundEnds.{put-earlier, round-unapplied, round-dropped, round-kept-fault, round-kept-waits, round-kept-ended}
 use Rattle.evaluation.proofs.Undone.{clone-same}
+use Rattle.infer_table.proofs.FullFacts.{or-then}
+use Rattle.infer_table.proofs.PairFacts.{table-kept}
+use Rattle.evaluation.specs.Shortages.{HasNoForm, RoundRunsOut, form, reply, after}
+use Rattle.evaluation.proofs.Shortages.{handed-fault, handed-error, same-shortage}
 use Rattle.evaluation.proofs.rounds.+round.Goals as goal
 use Rattle.evaluation.proofs.rounds.+round.Goals.{else-is_certain-via-then-is_certain+else-not-changed, else-is_certain-via-else-is_certain, then-changed, else-changed}
 
@@ -242,3 +247,87 @@ returns-clause-runs t c =
     subst (λ gs. RoundEnds c.args.mode es3 T3 left after (run (round (evaluation c.args.mode) (goals_trees es (map nested_goal gs)) (table_trees es c.args.table.now)) (replies_trees es c.args.replies.now)) (Ok E)) (sym sp)
     (subst (λ rs. RoundEnds c.args.mode es3 T3 left after (run (round (evaluation c.args.mode) (goals_trees es (map nested_goal (c.goal-item.result ∷ R))) (table_trees es c.args.table.now)) (replies_trees es rs)) (Ok E)) (sym rp)
     (round-kept-waits c.args.mode es3 T3 es es2 c.args.table.now T2 g (map nested_goal R) left after r Q keeps hg.1 hr.1 put (nested_goal m) alike y c.in-Waits.input c.in-Waits.source h))
+
+pub returns-in_err-asked-clause-full : goal.returns-in_err-asked-clause-full
+returns-in_err-asked-clause-full t c = λ q.
+    let es = c.args.cx.now.entries in
+    let R = take (length c.args.goals.now - 1) (drop 1 c.args.goals.now) in
+    let sp : c.args.goals.now ≡ c.goal-item.result ∷ R = first-rest c.args.goals.now c.goal-item.result c.in-len1-up.len_at_least c.goal-item.is in
+    or-then (λ h. subst (λ gs. RoundRunsOut (goals_trees es (map nested_goal gs)) (table_trees es c.args.table.now) (replies_trees es c.args.replies.now)) (sym sp) (form h))
+    (handed-fault
+    {A = SomeKindIsFull c.question_for.new.cx.entries c.question_for.new.cx.limit ⊎ HasNoForm (table_trees c.args.cx.now.entries c.args.table.now) (nested_trees c.args.cx.now.entries (nested_goal c.goal-item.result))}
+    c.from_residual.result c.from_residual.ensures.1 (λ p. c.in_err-asked.ensures.full (ap Err p)) q)
+
+pub returns-in_err-apply_response-clause-full : goal.returns-in_err-apply_response-clause-full
+returns-in_err-apply_response-clause-full t c = λ q.
+    let es = c.args.cx.now.entries in
+    let es1 = c.question_for.new.cx.entries in
+    let R = take (length c.args.goals.now - 1) (drop 1 c.args.goals.now) in
+    let Q = take (length c.args.replies.now - 1) (drop 1 c.args.replies.now) in
+    let r = c.in-Some.response in
+    let sp : c.args.goals.now ≡ c.goal-item.result ∷ R = first-rest c.args.goals.now c.goal-item.result c.in-len1-up.len_at_least c.goal-item.is in
+    let rp : c.args.replies.now ≡ Some r ∷ Q = first-rest c.args.replies.now c.reply-item.result c.in-len1-up-replies.len_at_least c.reply-item.is ∙ ap (λ z. z ∷ Q) c.in-Some.is in
+    let hr : Every (ResultHeld es) (Some r ∷ Q) = subst (Every (ResultHeld es)) rp c.requires.replies in
+    let asked = ap (values_of es1) c.deref.ensures.value ∙ c.in_ok-asked.ensures.values in
+    let handed-on = c.from_residual-in_err-apply_response in
+    or-then
+    (λ h. subst (λ gs. RoundRunsOut (goals_trees es (map nested_goal gs)) (table_trees es c.args.table.now) (replies_trees es c.args.replies.now)) (sym sp)
+    (subst (λ rs. RoundRunsOut (goals_trees es (map nested_goal (c.goal-item.result ∷ R))) (table_trees es c.args.table.now) (replies_trees es rs)) (sym rp)
+    (reply (same-shortage (table-kept es es1 c.question_for.ensures.keeps c.args.table.now c.requires.ready) asked (answer-trees-later es es1 c.question_for.ensures.keeps r hr.0) h))))
+    (handed-error handed-on.result handed-on.ensures.1 (λ p. c.in_err-apply_response.ensures.full (ap Err p)) q)
+
+pub returns-then-not-changed-clause-full : goal.returns-then-not-changed-clause-full
+returns-then-not-changed-clause-full t c = λ q.
+    let es = c.args.cx.now.entries in
+    let es1 = c.question_for.new.cx.entries in
+    let es2 = c.apply_response.new.cx.entries in
+    let T2 = c.apply_response.new.table in
+    let keeps : Keeps es es2 = λ i x h. c.apply_response.ensures.keeps i x (c.question_for.ensures.keeps i x h) in
+    let R = take (length c.args.goals.now - 1) (drop 1 c.args.goals.now) in
+    let Q = take (length c.args.replies.now - 1) (drop 1 c.args.replies.now) in
+    let g = nested_goal c.goal-item.result in
+    let r = c.in-Some.response in
+    let sp : c.args.goals.now ≡ c.goal-item.result ∷ R = first-rest c.args.goals.now c.goal-item.result c.in-len1-up.len_at_least c.goal-item.is in
+    let rp : c.args.replies.now ≡ Some r ∷ Q = first-rest c.args.replies.now c.reply-item.result c.in-len1-up-replies.len_at_least c.reply-item.is ∙ ap (λ z. z ∷ Q) c.in-Some.is in
+    let hg : NestedHeld es (g ∷ map nested_goal R) = subst (NestedHeld es) (ap (map nested_goal) sp) c.requires.goals in
+    let hr : Every (ResultHeld es) (Some r ∷ Q) = subst (Every (ResultHeld es)) rp c.requires.replies in
+    let asked = ap (values_of es1) c.deref.ensures.value ∙ c.in_ok-asked.ensures.values in
+    let put = put-earlier es es1 c.question_for.ensures.keeps c.args.table.now c.requires.ready g c.deref.result.now r hr.0 asked (Some (table_trees es2 T2)) c.in_ok-apply_response.ensures.applied in
+    let Whole = λ (h : RoundRunsOut (goals_trees es (map nested_goal (c.goal-item.result ∷ R))) (table_trees es c.args.table.now) (replies_trees es (Some r ∷ Q))).
+    subst (λ gs. RoundRunsOut (goals_trees es (map nested_goal gs)) (table_trees es c.args.table.now) (replies_trees es c.args.replies.now)) (sym sp)
+    (subst (λ rs. RoundRunsOut (goals_trees es (map nested_goal (c.goal-item.result ∷ R))) (table_trees es c.args.table.now) (replies_trees es rs)) (sym rp) h) in
+    let Rest = λ (h : RoundRunsOut (goals_trees es2 (map nested_goal R)) (table_trees es2 T2) (replies_trees es2 Q)).
+    Whole (after put
+    (subst (λ rs. RoundRunsOut (goals_trees es (map nested_goal R)) (table_trees es2 T2) rs) (replies-trees-later es es2 keeps Q hr.1)
+    (subst (λ gs. RoundRunsOut gs (table_trees es2 T2) (replies_trees es2 Q)) (goals-trees-later es es2 keeps (map nested_goal R) hg.1) h))) in
+    or-then Rest (c.round.ensures.full q)
+
+pub returns-in_err-rest-clause-full : goal.returns-in_err-rest-clause-full
+returns-in_err-rest-clause-full t c = λ q.
+    let es = c.args.cx.now.entries in
+    let es1 = c.question_for.new.cx.entries in
+    let es2 = c.apply_response.new.cx.entries in
+    let T2 = c.apply_response.new.table in
+    let keeps : Keeps es es2 = λ i x h. c.apply_response.ensures.keeps i x (c.question_for.ensures.keeps i x h) in
+    let R = take (length c.args.goals.now - 1) (drop 1 c.args.goals.now) in
+    let Q = take (length c.args.replies.now - 1) (drop 1 c.args.replies.now) in
+    let g = nested_goal c.goal-item.result in
+    let r = c.in-Some.response in
+    let sp : c.args.goals.now ≡ c.goal-item.result ∷ R = first-rest c.args.goals.now c.goal-item.result c.in-len1-up.len_at_least c.goal-item.is in
+    let rp : c.args.replies.now ≡ Some r ∷ Q = first-rest c.args.replies.now c.reply-item.result c.in-len1-up-replies.len_at_least c.reply-item.is ∙ ap (λ z. z ∷ Q) c.in-Some.is in
+    let hg : NestedHeld es (g ∷ map nested_goal R) = subst (NestedHeld es) (ap (map nested_goal) sp) c.requires.goals in
+    let hr : Every (ResultHeld es) (Some r ∷ Q) = subst (Every (ResultHeld es)) rp c.requires.replies in
+    let asked = ap (values_of es1) c.deref.ensures.value ∙ c.in_ok-asked.ensures.values in
+    let put = put-earlier es es1 c.question_for.ensures.keeps c.args.table.now c.requires.ready g c.deref.result.now r hr.0 asked (Some (table_trees es2 T2)) c.in_ok-apply_response.ensures.applied in
+    let Whole = λ (h : RoundRunsOut (goals_trees es (map nested_goal (c.goal-item.result ∷ R))) (table_trees es c.args.table.now) (replies_trees es (Some r ∷ Q))).
+    subst (λ gs. RoundRunsOut (goals_trees es (map nested_goal gs)) (table_trees es c.args.table.now) (replies_trees es c.args.replies.now)) (sym sp)
+    (subst (λ rs. RoundRunsOut (goals_trees es (map nested_goal (c.goal-item.result ∷ R))) (table_trees es c.args.table.now) (replies_trees es rs)) (sym rp) h) in
+    let Rest = λ (h : RoundRunsOut (goals_trees es2 (map nested_goal R)) (table_trees es2 T2) (replies_trees es2 Q)).
+    Whole (after put
+    (subst (λ rs. RoundRunsOut (goals_trees es (map nested_goal R)) (table_trees es2 T2) rs) (replies-trees-later es es2 keeps Q hr.1)
+    (subst (λ gs. RoundRunsOut gs (table_trees es2 T2) (replies_trees es2 Q)) (goals-trees-later es es2 keeps (map nested_goal R) hg.1) h))) in
+    let handed-on = c.from_residual-in_err-rest in
+    or-then Rest
+    (handed-error
+    {A = SomeKindIsFull c.round-2.new.cx.entries c.round-2.new.cx.limit ⊎ RoundRunsOut (goals_trees es2 (map nested_goal R)) (table_trees es2 T2) (replies_trees es2 Q)}
+    handed-on.result handed-on.ensures.1 (λ p. c.in_err-rest.ensures.full (ap Err p)) q)

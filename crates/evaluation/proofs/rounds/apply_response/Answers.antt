@@ -8,6 +8,7 @@ use Rattle.evaluation.specs.Errors.{eval_error}
 use Rattle.evaluation.specs.declared.error.EvalError.{EvalError}
 use Rattle.evaluation.specs.declared.error.EvalError.TheVariants.{NoSolution}
 use Rattle.evaluation.proofs.Putting.{put-applied, put-nothing}
+use Rattle.evaluation.proofs.Shortages.{given-up}
 use Rattle.evaluation.proofs.rounds.apply_response.Goals as goal
 
 pub returns-then-not-is_answer_to-clause-applied : goal.returns-then-not-is_answer_to-clause-applied
@@ -26,7 +27,7 @@ returns-in-Ok-clause-applied c =
 -- the error says no solution only where the answer was refused
 refused : (error : EqError) → eval_error error ≡ NoSolution → error ≡ Refusal.NoSolution
 refused Refusal.NoSolution e = refl
-refused (Refusal.OutOf fault) e = absurd (cc)
+refused (Refusal.Fault fault) e = absurd (cc)
 
 err-is : (x y : EvalError) → ◌≡◌ {A = Result (Unit {0}) EvalError} (Err x) (Err y) → x ≡ y
 err-is x y e = cc
@@ -37,3 +38,6 @@ returns-in-Err-clause-refused c = λ e.
     let yes : c.is_answer_to.result ≡ true = search rules in
     put-applied (table_trees es c.args.table.now) (values_of es c.args.values.now) (answer_trees es c.args.response.now) (sym (c.is_answer_to.ensures es) ∙ yes)
     ∙ c.in-Err.ensures.refusal (ap Err (refused c.in-Err.error (sym c.from.ensures ∙ err-is _ _ e)))
+
+pub returns-in-Err-clause-full : goal.returns-in-Err-clause-full
+returns-in-Err-clause-full c = λ q. c.in-Err.ensures.full (ap Err (given-up c.in-Err.error _ c.from.ensures q))

@@ -1,4 +1,4 @@
-use Rattle.std.proofs.Common.{◌≡◌, [], ◌∷◌, ◌++◌, drop, ap, sym, ◌∙◌, subst, refl, List}
+use Rattle.std.proofs.Common.{◌≡◌, [], ◌∷◌, ◌++◌, drop, ap, sym, ◌∙◌, subst, refl, List, Err}
 use Rattle.std.proofs.lemmas.List.{map-append}
 use Rattle.type_terms.specs.Terms.{Entry}
 use Rattle.term_folds.specs.Kept.{args-held-later}
@@ -14,6 +14,7 @@ use Rattle.evaluation.proofs.Contexts.{context-later, ready-added}
 use Rattle.evaluation.proofs.LaterTrees.{goals-trees-later}
 use Rattle.evaluation.proofs.Handed.{rest-nested}
 use Rattle.evaluation.proofs.Turns.{every-at, put-in, one-more-goal, all-goals}
+use Rattle.infer_table.proofs.FullFacts.{handed-on}
 use Rattle.evaluation.proofs.trial.add_goals.Goals as goal
 
 abbrev IsHeld : List Entry → GoalSource × Goal → Type 0
@@ -64,3 +65,6 @@ returns-clause-added c =
     let xs = c.args.goals.now in
     let i = c.loop-nested.nested-index in
     all-goals es (values_of es c.args.values.now) _ _ (drop i xs) (past-end xs i c.loop-nested-test.false) c.loop-nested.invariant.left
+
+pub returns-in_err-goal-clause-full : goal.returns-in_err-goal-clause-full
+returns-in_err-goal-clause-full c = λ q. handed-on c.from_residual.result c.from_residual.ensures.1 (λ p. c.in_err-goal.ensures.full (ap Err p)) q

@@ -1,7 +1,12 @@
-use Rattle.std.proofs.Common.{◌∙◌}
+use Rattle.std.proofs.Common.{◌∙◌, ap, subst, inl, inr, Err}
 use Rattle.term_folds.specs.Kept.{args-held-later}
+use Rattle.infer_table.specs.Content.{Table}
+use Rattle.infer_table.specs.Unification.{TableTrees}
+use Rattle.infer_table.specs.Unknowns.{with_each, SomeHasNoNumber}
+use Rattle.infer_table.proofs.FullFacts.{or-then, handed-on}
 use Rattle.infer_table.proofs.TableFacts.{empty-ready}
-use Rattle.evaluation.proofs.Beginning.{begun-is}
+use Rattle.evaluation.specs.Shortages.{LackNumbers}
+use Rattle.evaluation.proofs.Beginning.{begun-is, table-is}
 use Rattle.evaluation.proofs.trial.begin.Goals as goal
 
 pub instantiate_canonical-requires-clause-ready : goal.instantiate_canonical-requires-clause-ready
@@ -20,3 +25,17 @@ returns-clause-is c =
     begun-is c.instantiate_canonical.new.cx.entries c.add_unknowns.new.cx.entries c.add_unknowns.ensures.keeps c.lawful.ensures c.new-table.result c.instantiate_canonical.new.table c.add_unknowns.new.table
     c.in_ok-instantiated.instantiated.values.items c.in_ok-values.values.items c.add_unknowns.new.values.items c.args.input.now.variables.items c.args.variables.now
     c.new-table.ensures made.held made.args made.unknowns made.made (c.in_ok-values.ensures.items ∙ c.deref.ensures.value) more.values more.made
+
+pub returns-in_err-instantiated-clause-full : goal.returns-in_err-instantiated-clause-full
+returns-in_err-instantiated-clause-full c = λ q.
+    or-then (λ h. inl (subst (λ (t : Table). SomeHasNoNumber t 0 c.args.input.now.variables.items) c.new-table.ensures h))
+    (handed-on c.from_residual.result c.from_residual.ensures.1 (λ p. c.in_err-instantiated.ensures.full (ap Err p)) q)
+
+pub returns-in_err-add_unknowns-clause-full : goal.returns-in_err-add_unknowns-clause-full
+returns-in_err-add_unknowns-clause-full c = λ q.
+    let es = c.instantiate_canonical.new.cx.entries in
+    let ks = c.args.input.now.variables.items in
+    let begun = table-is es c.instantiate_canonical.new.table ks (c.in_ok-instantiated.ensures.made ∙ ap (λ (t : Table). with_each t ks) c.new-table.ensures) in
+    let handed = c.from_residual-in_err-add_unknowns in
+    or-then (λ h. inr (subst (λ (t : TableTrees). LackNumbers t c.args.variables.now) begun h))
+    (handed-on handed.result handed.ensures.1 (λ p. c.in_err-add_unknowns.ensures.full (ap Err p)) q)

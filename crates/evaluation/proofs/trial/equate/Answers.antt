@@ -1,4 +1,4 @@
-use Rattle.std.proofs.Common.{ap, ◌∙◌, Err}
+use Rattle.std.proofs.Common.{ap, ◌∙◌, inl, Err}
 use Rattle.type_terms.specs.Terms.{Keeps}
 use Rattle.type_terms.specs.Kinds.{arg_trees}
 use Rattle.term_folds.specs.Kept.{arg-held-later, args-held-later, arg-trees-later}
@@ -8,6 +8,8 @@ use Rattle.infer_table.proofs.PairFacts.{table-kept}
 use Rattle.infer_table.specs.Values.{values_of, filled, values-later}
 use Rattle.evaluation.proofs.Handed.{no-refusal, refused-by}
 use Rattle.evaluation.proofs.Turns.{same-sides}
+use Rattle.infer_table.proofs.FullFacts.{or-then}
+use Rattle.evaluation.proofs.Shortages.{handed-fault, given-up, same-runs-out}
 use Rattle.evaluation.proofs.trial.equate.Goals as goal
 
 pub fill-requires-2-clause-values : goal.fill-requires-2-clause-values
@@ -68,3 +70,27 @@ returns-in-Err-clause-refused c = λ q.
     ∙ ap (filled (values_of es vs)) (arg-trees-later es mid k e.right c.requires.equation.1) in
     same-sides (table_trees now c.args.table.now) (table_trees es c.args.table.now) _ _ _ _ _ (table-kept es now both c.args.table.now c.requires.ready) left right
     (c.in-Err.ensures.refusal (ap Err (refused-by c.in-Err.error _ c.from.ensures q)))
+
+pub returns-in_err-left-clause-full : goal.returns-in_err-left-clause-full
+returns-in_err-left-clause-full c = λ q. inl (handed-fault c.from_residual.result c.from_residual.ensures.1 (λ p. c.in_err-left.ensures.full (ap Err p)) q)
+
+pub returns-in_err-right-clause-full : goal.returns-in_err-right-clause-full
+returns-in_err-right-clause-full c = λ q.
+    let handed = c.from_residual-in_err-right in
+    inl (handed-fault handed.result handed.ensures.1 (λ p. c.in_err-right.ensures.full (ap Err p)) q)
+
+pub returns-in-Err-clause-full : goal.returns-in-Err-clause-full
+returns-in-Err-clause-full c = λ q.
+    let es = c.args.cx.now.entries in
+    let mid = c.fill.new.cx.entries in
+    let now = c.fill-2.new.cx.entries in
+    let k = c.fill.ensures.keeps in
+    let l = c.fill-2.ensures.keeps in
+    let both : Keeps es now = λ i x h. l i x (k i x h) in
+    let vs = c.args.values.now in
+    let e = c.args.equation.now in
+    let left = arg-trees-later mid now l c.in_ok-left.left c.in_ok-left.ensures.held ∙ c.in_ok-left.ensures.filled in
+    let right = c.in_ok-right.ensures.filled
+    ∙ ap (λ ws. filled ws (arg_trees mid e.right)) (values-later es mid k vs c.requires.values)
+    ∙ ap (filled (values_of es vs)) (arg-trees-later es mid k e.right c.requires.equation.1) in
+    or-then (same-runs-out (table-kept es now both c.args.table.now c.requires.ready) left right) (c.in-Err.ensures.full (ap Err (given-up c.in-Err.error _ c.from.ensures q)))

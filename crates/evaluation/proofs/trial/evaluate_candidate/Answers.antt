@@ -1,4 +1,4 @@
-use Rattle.std.proofs.Common.{◌≡◌, map, ap, sym, ◌∙◌, subst, Err}
+use Rattle.std.proofs.Common.{◌≡◌, map, ap, sym, ◌∙◌, subst, inl, Err}
 use Rattle.type_terms.specs.Terms.{Keeps}
 use Rattle.term_folds.specs.Kept.{args-held-later}
 use Rattle.infer_table.specs.Kept.{constraints-kept}
@@ -19,6 +19,9 @@ use Rattle.evaluation.specs.declared.trial.Trial.{Trial}
 use Rattle.evaluation.proofs.Beginning.{same-frame}
 use Rattle.evaluation.proofs.Later.{equations-held-later, equations-later, goals-held-later, premises-later}
 use Rattle.evaluation.proofs.Ending.{equation-refused, equations-hold}
+use Rattle.infer_table.proofs.FullFacts.{or-then}
+use Rattle.evaluation.specs.Shortages.{BeginningRunsOut, SolvingRunsOut, NestedRunsOut, beginning}
+use Rattle.evaluation.proofs.Shortages.{handed-fault, handed-error, equations-run-out, nested-run-out}
 use Rattle.evaluation.proofs.trial.evaluate_candidate.Goals as goal
 
 pub equate_all-requires-clause-values : goal.equate_all-requires-clause-values
@@ -122,3 +125,70 @@ returns-clause-runs c =
     (subst (λ z. CandidateEnds es4 (run (asked input.mode z s.certainty end) rs) x) (premises-later es es3 k3 spec.nested_goals.items c.requires.spec.nested)
     (subst (λ z. CandidateEnds es4 (run (asked input.mode (premises_trees es3 spec.nested_goals.items) s.certainty end) z) x) (replies-trees-later es es3 k3 c.args.replies.now c.requires.replies)
     c.evaluate_nested.ensures.runs))
+
+pub returns-in_err-trial-clause-full : goal.returns-in_err-trial-clause-full
+returns-in_err-trial-clause-full c = λ q.
+    let kinds = c.args.input.now.variables.items in
+    or-then (λ h. beginning (subst (λ ks. BeginningRunsOut kinds ks) c.deref.ensures.value h)) (handed-fault c.from_residual.result c.from_residual.ensures.1 (λ p. c.in_err-trial.ensures.full (ap Err p)) q)
+
+pub returns-in_err-equate_all-clause-full : goal.returns-in_err-equate_all-clause-full
+returns-in_err-equate_all-clause-full c = λ q.
+    let es = c.args.cx.now.entries in
+    let es1 = c.begin.new.cx.entries in
+    let es2 = c.equate_all.new.cx.entries in
+    let input = c.args.input.now in
+    let spec = c.args.spec.now in
+    let trial = c.in_ok-trial.trial in
+    let start = begun input.variables.items in
+    let t = trial_trees es1 input.variables.items trial in
+    let s = spec_trees es spec in
+    let rs = replies_trees es c.args.replies.now in
+    let begun-so : t ≡ fresh start s.kinds = c.in_ok-trial.ensures.is ∙ ap (fresh start) c.deref.ensures.value in
+    let same : map (pair_filled (values_of es1 c.deref-2.result.now)) (equations_trees es1 c.deref-3.result.now) ≡ map (pair_filled t.values) s.equations =
+    ap (λ z. map (pair_filled (values_of es1 z)) (equations_trees es1 c.deref-3.result.now)) c.deref-2.ensures.value
+    ∙ ap (λ z. map (pair_filled t.values) (equations_trees es1 z)) c.deref-3.ensures.value
+    ∙ ap (map (pair_filled t.values)) (equations-later es es1 c.begin.ensures.keeps spec.equations.items c.requires.spec.equations) in
+    let handed = c.from_residual-in_err-equate_all in
+    or-then (λ h. equations-run-out input.mode input.variables.items s rs t begun-so (subst (λ z. SolvingRunsOut t.table z) same h)) (handed-error handed.result handed.ensures.1 (λ p. c.in_err-equate_all.ensures.full (ap Err p)) q)
+
+pub returns-in_err-record_constraints-clause-full : goal.returns-in_err-record_constraints-clause-full
+returns-in_err-record_constraints-clause-full c = λ q.
+    let handed = c.from_residual-in_err-record_constraints in
+    inl (handed-fault handed.result handed.ensures.1 (λ p. c.in_err-record_constraints.ensures.full (ap Err p)) q)
+
+pub returns-clause-full : goal.returns-clause-full
+returns-clause-full c = λ q.
+    let es = c.args.cx.now.entries in
+    let es1 = c.begin.new.cx.entries in
+    let es2 = c.equate_all.new.cx.entries in
+    let es3 = c.record_constraints.new.cx.entries in
+    let es4 = c.evaluate_nested.new.cx.entries in
+    let input = c.args.input.now in
+    let spec = c.args.spec.now in
+    let trial = c.in_ok-trial.trial in
+    let last : Trial = record trial { table = c.record_constraints.new.table } in
+    let start = begun input.variables.items in
+    let t = trial_trees es1 input.variables.items trial in
+    let s = spec_trees es spec in
+    let rs = replies_trees es c.args.replies.now in
+    let x = c.evaluate_nested.result in
+    let k2 : Keeps es es2 = λ i y h. c.equate_all.ensures.keeps i y (c.begin.ensures.keeps i y h) in
+    let k3 : Keeps es es3 = λ i y h. c.record_constraints.ensures.keeps i y (k2 i y h) in
+    let own-later : Keeps es1 es3 = λ i y h. c.record_constraints.ensures.keeps i y (c.equate_all.ensures.keeps i y h) in
+    let begun-so : t ≡ fresh start s.kinds = c.in_ok-trial.ensures.is ∙ ap (fresh start) c.deref.ensures.value in
+    let same : solved t.table (map (pair_filled (values_of es1 c.deref-2.result.now)) (equations_trees es1 c.deref-3.result.now)) ≡ solved t.table (map (pair_filled t.values) s.equations) =
+    ap (λ z. solved t.table (map (pair_filled (values_of es1 z)) (equations_trees es1 c.deref-3.result.now))) c.deref-2.ensures.value
+    ∙ ap (λ z. solved t.table (map (pair_filled t.values) (equations_trees es1 z))) c.deref-3.ensures.value
+    ∙ ap (λ z. solved t.table (map (pair_filled t.values) z)) (equations-later es es1 c.begin.ensures.keeps spec.equations.items c.requires.spec.equations) in
+    let u = table_trees es2 c.equate_all.new.table in
+    let end = trial_trees es3 input.variables.items last in
+    let values : values_of es2 c.deref-4.result.now ≡ t.values = ap (values_of es2) c.deref-4.ensures.value ∙ values-later es1 es2 c.equate_all.ensures.keeps trial.values.items c.in_ok-trial.ensures.values in
+    let constraints : constraints_trees es2 c.deref-5.result.now ≡ s.constraints = ap (constraints_trees es2) c.deref-5.ensures.value ∙ constraints-later es es2 k2 spec.region_constraints.items c.requires.spec.constraints in
+    let ended : end ≡ recorded (record t { table = u }) s.constraints =
+    same-frame input.variables.items _ _ _ _ _ _ (values-later es1 es3 own-later trial.own.items c.in_ok-trial.ensures.own) (values-later es1 es3 own-later trial.values.items c.in_ok-trial.ensures.values)
+    (c.in_ok-record_constraints.ensures.recorded ∙ ap (λ z. with_constraints (filled z (constraints_trees es2 c.deref-5.result.now)) u) values ∙ ap (λ z. with_constraints (filled t.values z) u) constraints) in
+    or-then
+    (λ h. nested-run-out input.mode input.variables.items s rs t begun-so u end (sym same ∙ c.in_ok-equate_all.ensures.solved) ended
+    (subst (λ z. NestedRunsOut input.mode z s.certainty end rs) (premises-later es es3 k3 spec.nested_goals.items c.requires.spec.nested)
+    (subst (λ z. NestedRunsOut input.mode (premises_trees es3 spec.nested_goals.items) s.certainty end z) (replies-trees-later es es3 k3 c.args.replies.now c.requires.replies) h)))
+    (c.evaluate_nested.ensures.full q)

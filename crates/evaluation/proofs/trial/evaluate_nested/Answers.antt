@@ -1,4 +1,4 @@
-use Rattle.std.proofs.Common.{◌≡◌, List, [], ◌++◌, map, ap, sym, ◌∙◌, subst, Option}
+use Rattle.std.proofs.Common.{◌≡◌, List, [], ◌++◌, map, ap, sym, ◌∙◌, subst, inl, Option, Err}
 use Rattle.type_terms.specs.Terms.{Keeps}
 use Rattle.type_terms.specs.Kinds.{ArgsHeld}
 use Rattle.infer_table.specs.Unification.{table_trees}
@@ -17,6 +17,8 @@ use Rattle.evaluation.specs.Trial.{premises_trees}
 use Rattle.evaluation.specs.TrialEnds.{trial_trees}
 use Rattle.evaluation.proofs.TrialContexts.{ready-begun, ready-heard}
 use Rattle.evaluation.proofs.Ending.{nested-ends}
+use Rattle.infer_table.proofs.FullFacts.{or-then}
+use Rattle.evaluation.proofs.Shortages.{handed-fault, same-evaluation}
 use Rattle.evaluation.proofs.trial.evaluate_nested.Goals as goal
 
 pub add_goals-requires-clause-ready : goal.add_goals-requires-clause-ready
@@ -81,3 +83,44 @@ returns-clause-runs c =
     (ap (λ (z : Table). table_trees es1 z) table ∙ table-kept es es1 k trial.table c.requires.ready)
     (c.in_ok-add_replies.ensures.added es1 ∙ ap (λ (z : List (Option CanonicalResponse)). replies_trees es1 z ++ replies_trees es1 rs) no-replies ∙ replies-trees-later es es1 k rs c.requires.replies)
     call.ensures.runs
+
+pub returns-in_err-add_goals-clause-full : goal.returns-in_err-add_goals-clause-full
+returns-in_err-add_goals-clause-full c = λ q.
+    let handed = c.from_residual-in_err-add_goals in
+    inl (handed-fault handed.result handed.ensures.1 (λ p. c.in_err-add_goals.ensures.full (ap Err p)) q)
+
+pub returns-clause-full : goal.returns-clause-full
+returns-clause-full c = λ q.
+    let es = c.args.cx.now.entries in
+    let es1 = c.add_goals.new.cx.entries in
+    let call = c.evaluate_added_goals_and_make_canonical_response in
+    let es2 = call.new.cx.entries in
+    let k : Keeps es es1 = c.add_goals.ensures.keeps in
+    let l : Keeps es es2 = λ i x h. call.ensures.keeps i x (k i x h) in
+    let trial = c.args.trial in
+    let variables = c.args.input.now.variables.items in
+    let ns = c.args.spec.now.nested_goals.items in
+    let rs = c.args.replies.now in
+    let begun = c.new-context.result in
+    let goals = c.add_goals.new.context in
+    let mid = c.add_replies.new.context in
+    let made = c.new-context.ensures in
+    let filled = c.in_ok-add_goals.ensures.rest in
+    let heard = c.in_ok-add_replies.ensures.rest in
+    let t = trial_trees es variables trial in
+    let kinds : mid.variables ≡ variables =
+    ap (λ (z : Context). z.variables) heard ∙ ap (λ (z : Context). z.variables) filled ∙ ap (λ (z : Context). z.variables) made ∙ c.in_ok-variables.ensures.items ∙ c.deref.ensures.value in
+    let values : mid.values ≡ trial.own.items = ap (λ (z : Context). z.values) heard ∙ ap (λ (z : Context). z.values) filled ∙ ap (λ (z : Context). z.values) made in
+    let mode : mid.mode ≡ c.args.input.now.mode = ap (λ (z : Context). z.mode) heard ∙ ap (λ (z : Context). z.mode) filled ∙ ap (λ (z : Context). z.mode) made in
+    let table : mid.table ≡ trial.table = ap (λ (z : Context). z.table) heard ∙ ap (λ (z : Context). z.table) filled ∙ ap (λ (z : Context). z.table) made in
+    let no-goals : begun.nested ≡ [] = ap (λ (z : Context). z.nested) made in
+    let no-replies : goals.replies ≡ [] = ap (λ (z : Context). z.replies) filled ∙ ap (λ (z : Context). z.replies) made in
+    or-then
+    (same-evaluation c.args.spec.now.certainty mode kinds (ap (values_of es1) values ∙ values-later es es1 k trial.own.items c.requires.own)
+    (ap (λ (z : Context). goals_trees es1 z.nested) heard ∙ c.in_ok-add_goals.ensures.added
+    ∙ ap (λ (z : List NestedGoal). goals_trees es z ++ map (nested_filled (values_of es c.deref-2.result.now)) (premises_trees es c.deref-3.result.now)) no-goals
+    ∙ ap (λ z. map (nested_filled (values_of es z)) (premises_trees es c.deref-3.result.now)) c.deref-2.ensures.value
+    ∙ ap (λ z. map (nested_filled (values_of es trial.values.items)) (premises_trees es z)) c.deref-3.ensures.value)
+    (ap (λ (z : Table). table_trees es1 z) table ∙ table-kept es es1 k trial.table c.requires.ready)
+    (c.in_ok-add_replies.ensures.added es1 ∙ ap (λ (z : List (Option CanonicalResponse)). replies_trees es1 z ++ replies_trees es1 rs) no-replies ∙ replies-trees-later es es1 k rs c.requires.replies))
+    (call.ensures.full q)

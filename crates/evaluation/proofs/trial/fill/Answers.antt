@@ -1,5 +1,6 @@
 use Rattle.std.proofs.Common.{◌≡◌, []}
 use Rattle.type_terms.specs.Kinds.{arg_trees}
+use Rattle.term_folds.proofs.FailFacts.{only-tables}
 use Rattle.term_folds.specs.Pieces.{FoldsEach, one_piece}
 use Rattle.infer_table.specs.Values.{values_of, filled, filling}
 use Rattle.infer_table.proofs.Fillings.{filled-fold}
@@ -14,3 +15,6 @@ returns-clause-filled c =
     let x = c.args.term in
     if-ok (λ a. FoldsEach (λ bs t. filling vs t) [] (one_piece (arg_trees es x)) (one_piece (arg_trees end a))) (λ a. arg_trees end a ≡ filled vs (arg_trees es x)) c.fold_with.result
     (λ a h. filled-fold vs _ _ h.1) c.fold_with.ensures.folded
+
+pub returns-clause-full : goal.returns-clause-full
+returns-clause-full c = λ q. only-tables (c.fold_with.ensures.full q)

@@ -1,4 +1,4 @@
-use Rattle.std.proofs.Common.{◌≡◌, [], ◌∷◌, ◌++◌, ap, sym, ◌∙◌}
+use Rattle.std.proofs.Common.{◌≡◌, [], ◌∷◌, ◌++◌, ap, sym, ◌∙◌, Err}
 use Rattle.infer_table.specs.Constraints.{constraints_trees}
 use Rattle.infer_table.specs.Kept.{ready-later}
 use Rattle.infer_table.specs.Unification.{table_trees}
@@ -8,6 +8,9 @@ use Rattle.infer_table.specs.Applied.{with_constraints}
 use Rattle.infer_table.proofs.ConstraintLists.{constraints-filled}
 use Rattle.infer_table.proofs.InTurn.{constraints-recorded}
 use Rattle.evaluation.proofs.Handed.{on-ok}
+use Rattle.term_folds.proofs.FailFacts.{only-tables}
+use Rattle.infer_table.proofs.FullFacts.{handed-on}
+use Rattle.evaluation.proofs.Shortages.{only-memory}
 use Rattle.evaluation.proofs.trial.record_constraint.Goals as goal
 
 pub returns-in_err-constraint-clause-ready : goal.returns-in_err-constraint-clause-ready
@@ -31,3 +34,9 @@ returns-clause-recorded c =
     on-ok (u ≡ record t { constraints = t.constraints ++ y ∷ [] }) (table_trees end u ≡ with_constraints (filled vs (constraints_trees es (x ∷ []))) (table_trees es t)) c.register_region_constraint.result
     (λ e. sym (constraints-recorded end t u (y ∷ []) _ e put) ∙ ap (with_constraints (filled vs (constraints_trees es (x ∷ [])))) (table-kept es end c.fold_with.ensures.keeps t c.requires.ready))
     c.register_region_constraint.ensures.recorded
+
+pub returns-in_err-constraint-clause-full : goal.returns-in_err-constraint-clause-full
+returns-in_err-constraint-clause-full c = λ q. only-tables (handed-on c.from_residual.result c.from_residual.ensures.1 (λ p. c.in_err-constraint.ensures.full (ap Err p)) q)
+
+pub returns-clause-full : goal.returns-clause-full
+returns-clause-full c = λ q. only-memory c.register_region_constraint.result c.register_region_constraint.ensures.fault q

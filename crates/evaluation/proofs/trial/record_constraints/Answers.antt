@@ -1,4 +1,4 @@
-use Rattle.std.proofs.Common.{drop, sym, ◌∙◌, subst}
+use Rattle.std.proofs.Common.{drop, ap, sym, ◌∙◌, subst, Err}
 use Rattle.term_folds.specs.Kept.{args-held-later}
 use Rattle.infer_table.specs.Content.{IsHeldConstraint}
 use Rattle.infer_table.specs.Kept.{constraint-kept}
@@ -7,6 +7,7 @@ use Rattle.infer_table.specs.Values.{values_of, values-later}
 use Rattle.infer_table.proofs.ConstraintLists.{constraint-held-at}
 use Rattle.infer_table.proofs.Values.{past-end}
 use Rattle.evaluation.proofs.Turns.{next-recorded, all-recorded}
+use Rattle.infer_table.proofs.FullFacts.{handed-on}
 use Rattle.evaluation.proofs.trial.record_constraints.Goals as goal
 
 pub record_constraint-requires-clause-values : goal.record_constraint-requires-clause-values
@@ -45,3 +46,6 @@ returns-clause-recorded c =
     let xs = c.args.constraints.now in
     let i = c.loop-constraint.constraint-index in
     all-recorded es (values_of es c.args.values.now) (drop i xs) (table_trees c.loop-constraint.cx.entries c.loop-constraint.table) _ (past-end xs i c.loop-constraint-test.false) c.loop-constraint.invariant.left
+
+pub returns-in_err-record_constraint-clause-full : goal.returns-in_err-record_constraint-clause-full
+returns-in_err-record_constraint-clause-full c = λ q. handed-on c.from_residual.result c.from_residual.ensures.1 (λ p. c.in_err-record_constraint.ensures.full (ap Err p)) q

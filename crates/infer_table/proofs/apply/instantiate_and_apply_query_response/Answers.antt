@@ -11,12 +11,12 @@ pub returns-in-Err-clause-ready : goal.returns-in-Err-clause-ready
 returns-in-Err-clause-ready c =
     let now = c.apply.new.cx.entries in
     let t = c.args.table.now in
-    subst (Ready now) (sym (c.roll_back.ensures t c.in_ok-place.ensures c.apply.ensures.grows)) (ready-later c.args.cx.now.entries now t c.apply.ensures.keeps c.requires.ready)
+    subst (Ready now) (sym (c.roll_back.ensures t c.snapshot-place.ensures c.apply.ensures.grows)) (ready-later c.args.cx.now.entries now t c.apply.ensures.keeps c.requires.ready)
 
 pub returns-in-Err-clause-grows : goal.returns-in-Err-clause-grows
 returns-in-Err-clause-grows c =
     let t = c.args.table.now in
-    subst (Grows t) (sym (c.roll_back.ensures t c.in_ok-place.ensures c.apply.ensures.grows)) (grows-refl t)
+    subst (Grows t) (sym (c.roll_back.ensures t c.snapshot-place.ensures c.apply.ensures.grows)) (grows-refl t)
 
 pub returns-in-Ok-clause-kept : goal.returns-in-Ok-clause-kept
 returns-in-Ok-clause-kept c = λ posed s h g.

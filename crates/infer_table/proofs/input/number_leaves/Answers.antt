@@ -1,5 +1,5 @@
 use Rattle.std.proofs.Common.{true, ap, ◌∙◌, Err}
-use Rattle.model.specs.Label.{principal}
+use Rattle.model.specs.Label.{of_trait, predicate}
 use Rattle.model.specs.Trees.{tree, none}
 use Rattle.type_terms.specs.Terms.{args_lists}
 use Rattle.term_folds.specs.Kept.{trees-later}
@@ -34,7 +34,7 @@ returns-clause-numbered c =
     ∙ ap (λ z. relabeled kind_in_clause (canonical_label ls) (environment_trees now z)) c.deref.ensures.value
     ∙ ap (relabeled kind_in_clause (canonical_label ls)) (environment-later es now c.number_predicate.ensures.keeps items c.requires.goal.environment) in
     let pred =
-    ap (λ z. tree (principal 0 q.def_id.index) z none) (trees-later now end c.fold_clauses.ensures.keeps args_lists q.args.0 c.in_ok-predicate.ensures.held)
+    ap (λ z. tree (predicate (of_trait q.def_id.index)) z none) (trees-later now end c.fold_clauses.ensures.keeps args_lists q.args.0 c.in_ok-predicate.ensures.held)
     ∙ c.in_ok-predicate.ensures.numbered in
     goal-same _ _ _ _ env pred
 

@@ -5,7 +5,7 @@ use Rattle.infer_table.specs.Kept.{ready-later}
 use Rattle.infer_table.proofs.unknowns.instantiate_canonical.Goals as goal
 
 pub returns-in-Err-clause-refused : goal.returns-in-Err-clause-refused
-returns-in-Err-clause-refused c = c.roll_back.ensures c.args.table.now c.in_ok-place.ensures c.instantiate_in.ensures.grows
+returns-in-Err-clause-refused c = c.roll_back.ensures c.args.table.now c.snapshot-place.ensures c.instantiate_in.ensures.grows
 
 pub returns-in-Err-clause-ready : goal.returns-in-Err-clause-ready
 returns-in-Err-clause-ready c =

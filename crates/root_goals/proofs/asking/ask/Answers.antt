@@ -1,9 +1,12 @@
-use Rattle.std.proofs.Common.{◌≡◌, refl, sym, ◌∙◌, ap, subst}
+use Rattle.std.proofs.Common.{◌≡◌, refl, sym, ◌∙◌, ap, subst, inl, Err}
 use Rattle.infer_table.specs.Canonical.{canonical_form, goal_leaves}
 use Rattle.infer_table.specs.Goals.{GoalHeld, goal_trees}
+use Rattle.infer_table.proofs.FullFacts.{handed-on, or-then}
 use Rattle.infer_table.specs.Leaves.{labels}
 use Rattle.infer_table.proofs.Numbers.{goal-held-later, goal-trees-later}
+use Rattle.root_goals.specs.Shortages.{HasNoForm, interner, store}
 use Rattle.root_goals.proofs.Growing.{later}
+use Rattle.root_goals.proofs.Shortages.{interner-first}
 use Rattle.root_goals.proofs.Later.{keeps-further, goal-in-later}
 use Rattle.root_goals.proofs.asking.ask.Goals as goal
 
@@ -62,3 +65,19 @@ returns-clause-values g c =
     ∙ c.in_ok-input.ensures.values
     ∙ ap goal_leaves
     (goal-in-later c.args.cx.now.interner.entries c.resolve_goal-resolved.new.cx.entries c.resolve_goal-resolved.ensures.keeps c.args.table.now c.requires.table c.args.goal.now c.requires.goal)
+
+pub returns-in_err-resolved-clause-full : goal.returns-in_err-resolved-clause-full
+returns-in_err-resolved-clause-full g c = λ q. inl (interner (handed-on c.from_residual.result c.from_residual.ensures.1 (λ p. c.in_err-resolved.ensures.full (ap Err p)) q))
+
+pub returns-in_err-input-clause-full : goal.returns-in_err-input-clause-full
+returns-in_err-input-clause-full g c = λ q.
+    let handed = c.from_residual-in_err-input in
+    interner-first _
+    (or-then
+    (λ h. subst HasNoForm (goal-in-later c.args.cx.now.interner.entries c.resolve_goal-resolved.new.cx.entries c.resolve_goal-resolved.ensures.keeps c.args.table.now c.requires.table c.args.goal.now c.requires.goal) h)
+    (handed-on handed.result handed.ensures.1 (λ p. c.in_err-input.ensures.full (ap Err p)) q))
+
+pub returns-in_err-input-2-clause-full : goal.returns-in_err-input-2-clause-full
+returns-in_err-input-2-clause-full g c = λ q.
+    let handed = c.from_residual-in_err-input-2 in
+    inl (store (handed-on handed.result handed.ensures.1 (λ p. c.in_err-input-2.ensures.full (ap Err p)) q))

@@ -1,4 +1,6 @@
-use Rattle.std.proofs.Common.{rules, ◌≡◌, refl, sym, ◌∙◌, ap, subst, Some, None, Result, Err}
+use Rattle.std.proofs.Common.{rules, ◌≡◌, refl, sym, ◌∙◌, ap, subst, inl, Some, None, Result, Err}
+use Rattle.infer_table.proofs.PairFacts.{table-kept}
+use Rattle.evaluation.proofs.Shortages.{same-shortage}
 use Rattle.infer_table.specs.Canonical.{goal_leaves}
 use Rattle.infer_table.specs.Content.{variables_of}
 use Rattle.infer_table.specs.Kept.{content-kept, ready-later}
@@ -21,7 +23,11 @@ use Rattle.root_goals.specs.Roots.{goal_in}
 use Rattle.root_goals.proofs.Answers.{values-are}
 use Rattle.root_goals.proofs.Caches.{justified-later}
 use Rattle.root_goals.proofs.Later.{left-later, values-later}
-use Rattle.root_goals.proofs.Rooted.{definite, keeps-two, entries-two, keeps-three, found-at, right-at}
+use Rattle.root_goals.specs.Contexts.{goal_of}
+use Rattle.root_goals.specs.Shortages.{answer}
+use Rattle.root_goals.proofs.Shortages.{applied-full, asked-full, handed-error, handed-root, out-of-numbers}
+use Rattle.root_goals.proofs.Results.{no-frames, no-cost, no-limits, frames-before, free-before, limits-before, result-before, result-later}
+use Rattle.root_goals.proofs.Rooted.{definite, keeps-two, entries-two, keeps-three, right-at}
 use Rattle.root_goals.proofs.Searched.{root-proof, root-agrees}
 use Rattle.root_goals.proofs.root.evaluate_root_goal.Goals as goal
 
@@ -126,7 +132,8 @@ returns-in-Ok-clause-answer g c =
     let d : c.deref.result.now ≡ c.in_ok-asked.asked.values.items = search rules in
     let v = (values-later c.ask.new.cx.interner.entries c.search.new.cx.interner.entries (λ i e h. c.search.ensures.keeps.held (i, e) h) c.in_ok-asked.asked.values.items c.deref.result.now d (goal_leaves (goal_in c.args.cx.now.interner.entries c.args.table.now c.args.goal.now)) c.in_ok-asked.ensures.args c.in_ok-asked.ensures.leaves c.in_ok-asked.ensures.values) in (
       (answer_trees c.search.new.cx.interner.entries c.in-Some.answer),
-      (found-at g.H.GoalHandler.handled g.H.GoalHandler.Rule g.H.GoalHandler.coinductive g.H.GoalHandler.ready g.H.GoalHandler.meaning g.met.H.GoalHandler.meaning_kept c.args.cx.now c.ask.new.cx c.requires.ready c.ask.ensures.advances c.args.graph.now.root_depth c.in_ok-asked.asked.input (asked_in c.args.mode c.args.cx.now.interner.entries c.args.table.now c.args.goal.now) (result_read c.search.new.cx.interner.entries c.in_ok-answer.field-0) (Some (answer_trees c.search.new.cx.interner.entries c.in-Some.answer)) c.in_ok-asked.ensures.input.1 (ap (result_read c.search.new.cx.interner.entries) c.in-Some.is) c.in_ok-answer.ensures.found),
+      (result-later (solver_meaning g.H.GoalHandler.handled g.H.GoalHandler.Rule g.H.GoalHandler.coinductive g.H.GoalHandler.ready g.H.GoalHandler.meaning) c.args.cx.now c.search.new.cx (record { alloc = c.search.new.cx.alloc; interner = c.apply_answer-applied.new.cx; handler = c.search.new.cx.handler; store = c.search.new.cx.store }) (keeps g.H.GoalHandler.handled g.H.GoalHandler.Rule g.H.GoalHandler.coinductive g.H.GoalHandler.ready g.H.GoalHandler.meaning g.met.H.GoalHandler.meaning_kept c.search.new.cx (record { alloc = c.search.new.cx.alloc; interner = c.apply_answer-applied.new.cx; handler = c.search.new.cx.handler; store = c.search.new.cx.store }) c.search.ensures.ready (later g.H.GoalHandler.ready g.met.H.GoalHandler.ready_kept c.search.new.cx (record { alloc = c.search.new.cx.alloc; interner = c.apply_answer-applied.new.cx; handler = c.search.new.cx.handler; store = c.search.new.cx.store }) c.search.ensures.ready refl refl c.apply_answer-applied.ensures.keeps c.lawful.ensures)) c.args.cache.now c.search.new.cache c.search.ensures.cache c.args.graph.now c.search.new.graph (asked_in c.args.mode c.args.cx.now.interner.entries c.args.table.now c.args.goal.now) (Some (answer_trees c.search.new.cx.interner.entries c.in-Some.answer))
+          (result-before (solver_meaning g.H.GoalHandler.handled g.H.GoalHandler.Rule g.H.GoalHandler.coinductive g.H.GoalHandler.ready g.H.GoalHandler.meaning) c.args.cx.now c.ask.new.cx (keeps g.H.GoalHandler.handled g.H.GoalHandler.Rule g.H.GoalHandler.coinductive g.H.GoalHandler.ready g.H.GoalHandler.meaning g.met.H.GoalHandler.meaning_kept c.args.cx.now c.ask.new.cx c.requires.ready c.ask.ensures.advances) (goal_of c.ask.new.cx c.in_ok-asked.asked.input) (asked_in c.args.mode c.args.cx.now.interner.entries c.args.table.now c.args.goal.now) c.in_ok-asked.ensures.input.1 c.args.graph.now c.search.new.graph c.args.cache.now c.requires.cache c.search.new.cache c.search.new.cx (result_read c.search.new.cx.interner.entries c.in_ok-answer.field-0) (Some (answer_trees c.search.new.cx.interner.entries c.in-Some.answer)) (ap (result_read c.search.new.cx.interner.entries) c.in-Some.is) c.in_ok-answer.ensures.found)),
       record { certainty = refl; has_changed = c.has_changed-changed.ensures },
       left-later c.args.cx.now.interner.entries c.search.new.cx.interner.entries (entries-two g.H.GoalHandler.handled g.H.GoalHandler.Rule g.H.GoalHandler.coinductive g.H.GoalHandler.ready g.H.GoalHandler.meaning g.met.H.GoalHandler.meaning_kept c.args.cx.now c.ask.new.cx c.search.new.cx c.requires.ready c.ask.ensures.advances c.search.ensures.keeps) c.args.table.now c.requires.table (values_of c.search.new.cx.interner.entries c.deref.result.now) (goal_in c.args.cx.now.interner.entries c.args.table.now c.args.goal.now) (answer_trees c.search.new.cx.interner.entries c.in-Some.answer) (values-are c.search.new.cx.interner.entries c.search.ensures.ready.lawful c.deref.result.now (goal_in c.args.cx.now.interner.entries c.args.table.now c.args.goal.now) v.args v.leaves v.labels_are) ∙ c.in-Ok.ensures.exact,
     )
@@ -153,11 +160,11 @@ returns-in-Ok-clause-narrows g c =
 -- the error says no solution only where the answer was refused
 refused : (error : EqError) → error_of_equation error ≡ Root.NoSolution → error ≡ Eq.NoSolution
 refused Eq.NoSolution e = refl
-refused (Eq.OutOf fault) e = absurd (cc)
+refused (Eq.Fault fault) e = absurd (cc)
 
 no-conflict : (error : EqError) → error_of_equation error ≡ Root.Conflict → ⊥
 no-conflict Eq.NoSolution e = cc
-no-conflict (Eq.OutOf fault) e = cc
+no-conflict (Eq.Fault fault) e = cc
 
 err-is : (x y : RootError) → ◌≡◌ {A = Result GoalEvaluation RootError} (Err x) (Err y) → x ≡ y
 err-is x y e = cc
@@ -168,7 +175,8 @@ returns-in-Err-clause-refusal g c =
     let d : c.deref.result.now ≡ c.in_ok-asked.asked.values.items = search rules in
     let v = (values-later c.ask.new.cx.interner.entries c.search.new.cx.interner.entries (λ i e h. c.search.ensures.keeps.held (i, e) h) c.in_ok-asked.asked.values.items c.deref.result.now d (goal_leaves (goal_in c.args.cx.now.interner.entries c.args.table.now c.args.goal.now)) c.in_ok-asked.ensures.args c.in_ok-asked.ensures.leaves c.in_ok-asked.ensures.values) in (
       Some (answer_trees c.search.new.cx.interner.entries c.in-Some.answer),
-      (found-at g.H.GoalHandler.handled g.H.GoalHandler.Rule g.H.GoalHandler.coinductive g.H.GoalHandler.ready g.H.GoalHandler.meaning g.met.H.GoalHandler.meaning_kept c.args.cx.now c.ask.new.cx c.requires.ready c.ask.ensures.advances c.args.graph.now.root_depth c.in_ok-asked.asked.input (asked_in c.args.mode c.args.cx.now.interner.entries c.args.table.now c.args.goal.now) (result_read c.search.new.cx.interner.entries c.in_ok-answer.field-0) (Some (answer_trees c.search.new.cx.interner.entries c.in-Some.answer)) c.in_ok-asked.ensures.input.1 (ap (result_read c.search.new.cx.interner.entries) c.in-Some.is) c.in_ok-answer.ensures.found),
+      (result-later (solver_meaning g.H.GoalHandler.handled g.H.GoalHandler.Rule g.H.GoalHandler.coinductive g.H.GoalHandler.ready g.H.GoalHandler.meaning) c.args.cx.now c.search.new.cx (record { alloc = c.search.new.cx.alloc; interner = c.apply_answer-applied.new.cx; handler = c.search.new.cx.handler; store = c.search.new.cx.store }) (keeps g.H.GoalHandler.handled g.H.GoalHandler.Rule g.H.GoalHandler.coinductive g.H.GoalHandler.ready g.H.GoalHandler.meaning g.met.H.GoalHandler.meaning_kept c.search.new.cx (record { alloc = c.search.new.cx.alloc; interner = c.apply_answer-applied.new.cx; handler = c.search.new.cx.handler; store = c.search.new.cx.store }) c.search.ensures.ready (later g.H.GoalHandler.ready g.met.H.GoalHandler.ready_kept c.search.new.cx (record { alloc = c.search.new.cx.alloc; interner = c.apply_answer-applied.new.cx; handler = c.search.new.cx.handler; store = c.search.new.cx.store }) c.search.ensures.ready refl refl c.apply_answer-applied.ensures.keeps c.lawful.ensures)) c.args.cache.now c.search.new.cache c.search.ensures.cache c.args.graph.now c.search.new.graph (asked_in c.args.mode c.args.cx.now.interner.entries c.args.table.now c.args.goal.now) (Some (answer_trees c.search.new.cx.interner.entries c.in-Some.answer))
+          (result-before (solver_meaning g.H.GoalHandler.handled g.H.GoalHandler.Rule g.H.GoalHandler.coinductive g.H.GoalHandler.ready g.H.GoalHandler.meaning) c.args.cx.now c.ask.new.cx (keeps g.H.GoalHandler.handled g.H.GoalHandler.Rule g.H.GoalHandler.coinductive g.H.GoalHandler.ready g.H.GoalHandler.meaning g.met.H.GoalHandler.meaning_kept c.args.cx.now c.ask.new.cx c.requires.ready c.ask.ensures.advances) (goal_of c.ask.new.cx c.in_ok-asked.asked.input) (asked_in c.args.mode c.args.cx.now.interner.entries c.args.table.now c.args.goal.now) c.in_ok-asked.ensures.input.1 c.args.graph.now c.search.new.graph c.args.cache.now c.requires.cache c.search.new.cache c.search.new.cx (result_read c.search.new.cx.interner.entries c.in_ok-answer.field-0) (Some (answer_trees c.search.new.cx.interner.entries c.in-Some.answer)) (ap (result_read c.search.new.cx.interner.entries) c.in-Some.is) c.in_ok-answer.ensures.found)),
       left-later c.args.cx.now.interner.entries c.search.new.cx.interner.entries (entries-two g.H.GoalHandler.handled g.H.GoalHandler.Rule g.H.GoalHandler.coinductive g.H.GoalHandler.ready g.H.GoalHandler.meaning g.met.H.GoalHandler.meaning_kept c.args.cx.now c.ask.new.cx c.search.new.cx c.requires.ready c.ask.ensures.advances c.search.ensures.keeps) c.args.table.now c.requires.table (values_of c.search.new.cx.interner.entries c.deref.result.now) (goal_in c.args.cx.now.interner.entries c.args.table.now c.args.goal.now) (answer_trees c.search.new.cx.interner.entries c.in-Some.answer) (values-are c.search.new.cx.interner.entries c.search.ensures.ready.lawful c.deref.result.now (goal_in c.args.cx.now.interner.entries c.args.table.now c.args.goal.now) v.args v.leaves v.labels_are) ∙ c.in-Err.ensures.refusal (ap Err (refused c.in-Err.error (sym c.from.ensures ∙ err-is _ _ n))),
     )
 
@@ -186,3 +194,77 @@ returns-in-Err-clause-no_conflict g c = λ n. absurd (no-conflict c.in-Err.error
 
 pub returns-in-Err-clause-conflict : goal.returns-in-Err-clause-conflict
 returns-in-Err-clause-conflict g c = λ n. absurd (no-conflict c.in-Err.error (sym c.from.ensures ∙ err-is _ _ n))
+
+pub returns-in_err-answer-clause-frames : goal.returns-in_err-answer-clause-frames
+returns-in_err-answer-clause-frames g c = frames-before (solver_meaning g.H.GoalHandler.handled g.H.GoalHandler.Rule g.H.GoalHandler.coinductive g.H.GoalHandler.ready g.H.GoalHandler.meaning) c.args.cx.now c.ask.new.cx (keeps g.H.GoalHandler.handled g.H.GoalHandler.Rule g.H.GoalHandler.coinductive g.H.GoalHandler.ready g.H.GoalHandler.meaning g.met.H.GoalHandler.meaning_kept c.args.cx.now c.ask.new.cx c.requires.ready c.ask.ensures.advances) (goal_of c.ask.new.cx c.in_ok-asked.asked.input) (asked_in c.args.mode c.args.cx.now.interner.entries c.args.table.now c.args.goal.now) c.in_ok-asked.ensures.input.1 c.args.graph.now c.search.new.graph c.search.ensures.frames
+
+pub returns-in_err-answer-clause-cached : goal.returns-in_err-answer-clause-cached
+returns-in_err-answer-clause-cached g c = free-before (solver_meaning g.H.GoalHandler.handled g.H.GoalHandler.Rule g.H.GoalHandler.coinductive g.H.GoalHandler.ready g.H.GoalHandler.meaning) c.args.cx.now c.ask.new.cx (keeps g.H.GoalHandler.handled g.H.GoalHandler.Rule g.H.GoalHandler.coinductive g.H.GoalHandler.ready g.H.GoalHandler.meaning g.met.H.GoalHandler.meaning_kept c.args.cx.now c.ask.new.cx c.requires.ready c.ask.ensures.advances) (goal_of c.ask.new.cx c.in_ok-asked.asked.input) (asked_in c.args.mode c.args.cx.now.interner.entries c.args.table.now c.args.goal.now) c.in_ok-asked.ensures.input.1 c.args.graph.now c.search.new.graph c.args.cache.now c.requires.cache c.search.new.cache c.search.ensures.cached
+
+pub returns-in_err-answer-clause-limits : goal.returns-in_err-answer-clause-limits
+returns-in_err-answer-clause-limits g c = limits-before (solver_meaning g.H.GoalHandler.handled g.H.GoalHandler.Rule g.H.GoalHandler.coinductive g.H.GoalHandler.ready g.H.GoalHandler.meaning) c.args.cx.now c.ask.new.cx (keeps g.H.GoalHandler.handled g.H.GoalHandler.Rule g.H.GoalHandler.coinductive g.H.GoalHandler.ready g.H.GoalHandler.meaning g.met.H.GoalHandler.meaning_kept c.args.cx.now c.ask.new.cx c.requires.ready c.ask.ensures.advances) (goal_of c.ask.new.cx c.in_ok-asked.asked.input) (asked_in c.args.mode c.args.cx.now.interner.entries c.args.table.now c.args.goal.now) c.in_ok-asked.ensures.input.1 c.args.graph.now c.search.new.graph c.search.ensures.limits
+
+pub returns-in_default-clause-frames : goal.returns-in_default-clause-frames
+returns-in_default-clause-frames g c = frames-before (solver_meaning g.H.GoalHandler.handled g.H.GoalHandler.Rule g.H.GoalHandler.coinductive g.H.GoalHandler.ready g.H.GoalHandler.meaning) c.args.cx.now c.ask.new.cx (keeps g.H.GoalHandler.handled g.H.GoalHandler.Rule g.H.GoalHandler.coinductive g.H.GoalHandler.ready g.H.GoalHandler.meaning g.met.H.GoalHandler.meaning_kept c.args.cx.now c.ask.new.cx c.requires.ready c.ask.ensures.advances) (goal_of c.ask.new.cx c.in_ok-asked.asked.input) (asked_in c.args.mode c.args.cx.now.interner.entries c.args.table.now c.args.goal.now) c.in_ok-asked.ensures.input.1 c.args.graph.now c.search.new.graph c.search.ensures.frames
+
+pub returns-in_default-clause-cached : goal.returns-in_default-clause-cached
+returns-in_default-clause-cached g c = free-before (solver_meaning g.H.GoalHandler.handled g.H.GoalHandler.Rule g.H.GoalHandler.coinductive g.H.GoalHandler.ready g.H.GoalHandler.meaning) c.args.cx.now c.ask.new.cx (keeps g.H.GoalHandler.handled g.H.GoalHandler.Rule g.H.GoalHandler.coinductive g.H.GoalHandler.ready g.H.GoalHandler.meaning g.met.H.GoalHandler.meaning_kept c.args.cx.now c.ask.new.cx c.requires.ready c.ask.ensures.advances) (goal_of c.ask.new.cx c.in_ok-asked.asked.input) (asked_in c.args.mode c.args.cx.now.interner.entries c.args.table.now c.args.goal.now) c.in_ok-asked.ensures.input.1 c.args.graph.now c.search.new.graph c.args.cache.now c.requires.cache c.search.new.cache c.search.ensures.cached
+
+pub returns-in_default-clause-limits : goal.returns-in_default-clause-limits
+returns-in_default-clause-limits g c = limits-before (solver_meaning g.H.GoalHandler.handled g.H.GoalHandler.Rule g.H.GoalHandler.coinductive g.H.GoalHandler.ready g.H.GoalHandler.meaning) c.args.cx.now c.ask.new.cx (keeps g.H.GoalHandler.handled g.H.GoalHandler.Rule g.H.GoalHandler.coinductive g.H.GoalHandler.ready g.H.GoalHandler.meaning g.met.H.GoalHandler.meaning_kept c.args.cx.now c.ask.new.cx c.requires.ready c.ask.ensures.advances) (goal_of c.ask.new.cx c.in_ok-asked.asked.input) (asked_in c.args.mode c.args.cx.now.interner.entries c.args.table.now c.args.goal.now) c.in_ok-asked.ensures.input.1 c.args.graph.now c.search.new.graph c.search.ensures.limits
+
+pub returns-in-Ok-clause-frames : goal.returns-in-Ok-clause-frames
+returns-in-Ok-clause-frames g c = frames-before (solver_meaning g.H.GoalHandler.handled g.H.GoalHandler.Rule g.H.GoalHandler.coinductive g.H.GoalHandler.ready g.H.GoalHandler.meaning) c.args.cx.now c.ask.new.cx (keeps g.H.GoalHandler.handled g.H.GoalHandler.Rule g.H.GoalHandler.coinductive g.H.GoalHandler.ready g.H.GoalHandler.meaning g.met.H.GoalHandler.meaning_kept c.args.cx.now c.ask.new.cx c.requires.ready c.ask.ensures.advances) (goal_of c.ask.new.cx c.in_ok-asked.asked.input) (asked_in c.args.mode c.args.cx.now.interner.entries c.args.table.now c.args.goal.now) c.in_ok-asked.ensures.input.1 c.args.graph.now c.search.new.graph c.search.ensures.frames
+
+pub returns-in-Ok-clause-cached : goal.returns-in-Ok-clause-cached
+returns-in-Ok-clause-cached g c = free-before (solver_meaning g.H.GoalHandler.handled g.H.GoalHandler.Rule g.H.GoalHandler.coinductive g.H.GoalHandler.ready g.H.GoalHandler.meaning) c.args.cx.now c.ask.new.cx (keeps g.H.GoalHandler.handled g.H.GoalHandler.Rule g.H.GoalHandler.coinductive g.H.GoalHandler.ready g.H.GoalHandler.meaning g.met.H.GoalHandler.meaning_kept c.args.cx.now c.ask.new.cx c.requires.ready c.ask.ensures.advances) (goal_of c.ask.new.cx c.in_ok-asked.asked.input) (asked_in c.args.mode c.args.cx.now.interner.entries c.args.table.now c.args.goal.now) c.in_ok-asked.ensures.input.1 c.args.graph.now c.search.new.graph c.args.cache.now c.requires.cache c.search.new.cache c.search.ensures.cached
+
+pub returns-in-Ok-clause-limits : goal.returns-in-Ok-clause-limits
+returns-in-Ok-clause-limits g c = limits-before (solver_meaning g.H.GoalHandler.handled g.H.GoalHandler.Rule g.H.GoalHandler.coinductive g.H.GoalHandler.ready g.H.GoalHandler.meaning) c.args.cx.now c.ask.new.cx (keeps g.H.GoalHandler.handled g.H.GoalHandler.Rule g.H.GoalHandler.coinductive g.H.GoalHandler.ready g.H.GoalHandler.meaning g.met.H.GoalHandler.meaning_kept c.args.cx.now c.ask.new.cx c.requires.ready c.ask.ensures.advances) (goal_of c.ask.new.cx c.in_ok-asked.asked.input) (asked_in c.args.mode c.args.cx.now.interner.entries c.args.table.now c.args.goal.now) c.in_ok-asked.ensures.input.1 c.args.graph.now c.search.new.graph c.search.ensures.limits
+
+pub returns-in-Err-clause-frames : goal.returns-in-Err-clause-frames
+returns-in-Err-clause-frames g c = frames-before (solver_meaning g.H.GoalHandler.handled g.H.GoalHandler.Rule g.H.GoalHandler.coinductive g.H.GoalHandler.ready g.H.GoalHandler.meaning) c.args.cx.now c.ask.new.cx (keeps g.H.GoalHandler.handled g.H.GoalHandler.Rule g.H.GoalHandler.coinductive g.H.GoalHandler.ready g.H.GoalHandler.meaning g.met.H.GoalHandler.meaning_kept c.args.cx.now c.ask.new.cx c.requires.ready c.ask.ensures.advances) (goal_of c.ask.new.cx c.in_ok-asked.asked.input) (asked_in c.args.mode c.args.cx.now.interner.entries c.args.table.now c.args.goal.now) c.in_ok-asked.ensures.input.1 c.args.graph.now c.search.new.graph c.search.ensures.frames
+
+pub returns-in-Err-clause-cached : goal.returns-in-Err-clause-cached
+returns-in-Err-clause-cached g c = free-before (solver_meaning g.H.GoalHandler.handled g.H.GoalHandler.Rule g.H.GoalHandler.coinductive g.H.GoalHandler.ready g.H.GoalHandler.meaning) c.args.cx.now c.ask.new.cx (keeps g.H.GoalHandler.handled g.H.GoalHandler.Rule g.H.GoalHandler.coinductive g.H.GoalHandler.ready g.H.GoalHandler.meaning g.met.H.GoalHandler.meaning_kept c.args.cx.now c.ask.new.cx c.requires.ready c.ask.ensures.advances) (goal_of c.ask.new.cx c.in_ok-asked.asked.input) (asked_in c.args.mode c.args.cx.now.interner.entries c.args.table.now c.args.goal.now) c.in_ok-asked.ensures.input.1 c.args.graph.now c.search.new.graph c.args.cache.now c.requires.cache c.search.new.cache c.search.ensures.cached
+
+pub returns-in-Err-clause-limits : goal.returns-in-Err-clause-limits
+returns-in-Err-clause-limits g c = limits-before (solver_meaning g.H.GoalHandler.handled g.H.GoalHandler.Rule g.H.GoalHandler.coinductive g.H.GoalHandler.ready g.H.GoalHandler.meaning) c.args.cx.now c.ask.new.cx (keeps g.H.GoalHandler.handled g.H.GoalHandler.Rule g.H.GoalHandler.coinductive g.H.GoalHandler.ready g.H.GoalHandler.meaning g.met.H.GoalHandler.meaning_kept c.args.cx.now c.ask.new.cx c.requires.ready c.ask.ensures.advances) (goal_of c.ask.new.cx c.in_ok-asked.asked.input) (asked_in c.args.mode c.args.cx.now.interner.entries c.args.table.now c.args.goal.now) c.in_ok-asked.ensures.input.1 c.args.graph.now c.search.new.graph c.search.ensures.limits
+
+pub returns-in_default-clause-refusal : goal.returns-in_default-clause-refusal
+returns-in_default-clause-refusal g c =
+    λ _.
+    let n : c.in_ok-answer.field-0 ≡ None = search rules in
+    (None, (result-before (solver_meaning g.H.GoalHandler.handled g.H.GoalHandler.Rule g.H.GoalHandler.coinductive g.H.GoalHandler.ready g.H.GoalHandler.meaning) c.args.cx.now c.ask.new.cx (keeps g.H.GoalHandler.handled g.H.GoalHandler.Rule g.H.GoalHandler.coinductive g.H.GoalHandler.ready g.H.GoalHandler.meaning g.met.H.GoalHandler.meaning_kept c.args.cx.now c.ask.new.cx c.requires.ready c.ask.ensures.advances) (goal_of c.ask.new.cx c.in_ok-asked.asked.input) (asked_in c.args.mode c.args.cx.now.interner.entries c.args.table.now c.args.goal.now) c.in_ok-asked.ensures.input.1 c.args.graph.now c.search.new.graph c.args.cache.now c.requires.cache c.search.new.cache c.search.new.cx (result_read c.search.new.cx.interner.entries c.in_ok-answer.field-0) None (ap (result_read c.search.new.cx.interner.entries) n) c.in_ok-answer.ensures.found), refl)
+
+pub returns-in_err-asked-clause-frames : goal.returns-in_err-asked-clause-frames
+returns-in_err-asked-clause-frames g c = no-frames (solver_meaning g.H.GoalHandler.handled g.H.GoalHandler.Rule g.H.GoalHandler.coinductive g.H.GoalHandler.ready g.H.GoalHandler.meaning) c.args.cx.now (asked_in c.args.mode c.args.cx.now.interner.entries c.args.table.now c.args.goal.now) c.args.graph.now
+
+pub returns-in_err-asked-clause-cached : goal.returns-in_err-asked-clause-cached
+returns-in_err-asked-clause-cached g c = no-cost (solver_meaning g.H.GoalHandler.handled g.H.GoalHandler.Rule g.H.GoalHandler.coinductive g.H.GoalHandler.ready g.H.GoalHandler.meaning) c.args.cx.now (asked_in c.args.mode c.args.cx.now.interner.entries c.args.table.now c.args.goal.now) c.args.graph.now c.args.cache.now
+
+pub returns-in_err-asked-clause-limits : goal.returns-in_err-asked-clause-limits
+returns-in_err-asked-clause-limits g c = no-limits (solver_meaning g.H.GoalHandler.handled g.H.GoalHandler.Rule g.H.GoalHandler.coinductive g.H.GoalHandler.ready g.H.GoalHandler.meaning) c.args.cx.now (asked_in c.args.mode c.args.cx.now.interner.entries c.args.table.now c.args.goal.now) c.args.graph.now
+
+pub returns-in_err-asked-clause-full : goal.returns-in_err-asked-clause-full
+returns-in_err-asked-clause-full g c = λ q.
+    asked-full (handed-root c.from_residual.result c.from_residual.ensures.1 (λ p. c.in_err-asked.ensures.full (ap Err p)) q)
+
+pub returns-in_err-answer-clause-full : goal.returns-in_err-answer-clause-full
+returns-in_err-answer-clause-full g c = λ q.
+    let handed = c.from_residual-in_err-answer in
+    inl (handed-error handed.result handed.ensures.1 (λ p. c.in_err-answer.ensures.full (ap Err p)) q)
+
+pub returns-in-Err-clause-full : goal.returns-in-Err-clause-full
+returns-in-Err-clause-full g c =
+    λ n.
+    let d : c.deref.result.now ≡ c.in_ok-asked.asked.values.items = search rules in
+    let goal_is = goal_in c.args.cx.now.interner.entries c.args.table.now c.args.goal.now in
+    let v = (values-later c.ask.new.cx.interner.entries c.search.new.cx.interner.entries (λ i e h. c.search.ensures.keeps.held (i, e) h) c.in_ok-asked.asked.values.items c.deref.result.now d (goal_leaves goal_is) c.in_ok-asked.ensures.args c.in_ok-asked.ensures.leaves c.in_ok-asked.ensures.values) in
+    let k = entries-two g.H.GoalHandler.handled g.H.GoalHandler.Rule g.H.GoalHandler.coinductive g.H.GoalHandler.ready g.H.GoalHandler.meaning g.met.H.GoalHandler.meaning_kept c.args.cx.now c.ask.new.cx c.search.new.cx c.requires.ready c.ask.ensures.advances c.search.ensures.keeps in
+    applied-full
+    (λ h. answer (answer_trees c.search.new.cx.interner.entries c.in-Some.answer)
+    (result-later (solver_meaning g.H.GoalHandler.handled g.H.GoalHandler.Rule g.H.GoalHandler.coinductive g.H.GoalHandler.ready g.H.GoalHandler.meaning) c.args.cx.now c.search.new.cx (record { alloc = c.search.new.cx.alloc; interner = c.apply_answer-applied.new.cx; handler = c.search.new.cx.handler; store = c.search.new.cx.store }) (keeps g.H.GoalHandler.handled g.H.GoalHandler.Rule g.H.GoalHandler.coinductive g.H.GoalHandler.ready g.H.GoalHandler.meaning g.met.H.GoalHandler.meaning_kept c.search.new.cx (record { alloc = c.search.new.cx.alloc; interner = c.apply_answer-applied.new.cx; handler = c.search.new.cx.handler; store = c.search.new.cx.store }) c.search.ensures.ready (later g.H.GoalHandler.ready g.met.H.GoalHandler.ready_kept c.search.new.cx (record { alloc = c.search.new.cx.alloc; interner = c.apply_answer-applied.new.cx; handler = c.search.new.cx.handler; store = c.search.new.cx.store }) c.search.ensures.ready refl refl c.apply_answer-applied.ensures.keeps c.lawful.ensures)) c.args.cache.now c.search.new.cache c.search.ensures.cache c.args.graph.now c.search.new.graph (asked_in c.args.mode c.args.cx.now.interner.entries c.args.table.now c.args.goal.now) (Some (answer_trees c.search.new.cx.interner.entries c.in-Some.answer))
+    (result-before (solver_meaning g.H.GoalHandler.handled g.H.GoalHandler.Rule g.H.GoalHandler.coinductive g.H.GoalHandler.ready g.H.GoalHandler.meaning) c.args.cx.now c.ask.new.cx (keeps g.H.GoalHandler.handled g.H.GoalHandler.Rule g.H.GoalHandler.coinductive g.H.GoalHandler.ready g.H.GoalHandler.meaning g.met.H.GoalHandler.meaning_kept c.args.cx.now c.ask.new.cx c.requires.ready c.ask.ensures.advances) (goal_of c.ask.new.cx c.in_ok-asked.asked.input) (asked_in c.args.mode c.args.cx.now.interner.entries c.args.table.now c.args.goal.now) c.in_ok-asked.ensures.input.1 c.args.graph.now c.search.new.graph c.args.cache.now c.requires.cache c.search.new.cache c.search.new.cx (result_read c.search.new.cx.interner.entries c.in_ok-answer.field-0) (Some (answer_trees c.search.new.cx.interner.entries c.in-Some.answer)) (ap (result_read c.search.new.cx.interner.entries) c.in-Some.is) c.in_ok-answer.ensures.found))
+    (same-shortage {a = answer_trees c.search.new.cx.interner.entries c.in-Some.answer} (table-kept c.args.cx.now.interner.entries c.search.new.cx.interner.entries k c.args.table.now c.requires.table) (values-are c.search.new.cx.interner.entries c.search.ensures.ready.lawful c.deref.result.now goal_is v.args v.leaves v.labels_are) refl h))
+    (c.in-Err.ensures.full (ap Err (out-of-numbers c.in-Err.error (sym c.from.ensures ∙ err-is _ _ n))))

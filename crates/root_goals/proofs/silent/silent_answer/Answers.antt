@@ -1,12 +1,18 @@
-use Rattle.std.proofs.Common.{◌≡◌, ◌∙◌, Some, refl, sym, ap, subst}
+use Rattle.std.proofs.Common.{◌≡◌, ◌∙◌, Some, Err, length, refl, sym, ap, subst}
+use Rattle.std.specs.Prelude.{◌<◌}
+use Rattle.type_terms.specs.declared.TheConstants.{MAX_INDEX}
+use Rattle.infer_table.proofs.FullFacts.{handed-on, or-then}
+use Rattle.evaluation.proofs.Shortages.{some-kind}
 use Rattle.table_laws.specs.Answers.{IsWellFormed}
 use Rattle.goal_frames.specs.HandlerPrograms.{silent}
 use Rattle.goal_frames.specs.Readings.{result_read}
-use Rattle.root_goals.specs.Answers.{without_values}
+use Rattle.table_laws.specs.Answers.{without_values}
 use Rattle.root_goals.specs.Contexts.{goal_of, answer_of, IsResult}
 use Rattle.root_goals.specs.declared.context.SolverCx.{SolverCx}
 use Rattle.root_goals.proofs.Checks.{raw-is}
 use Rattle.root_goals.proofs.Growing.{later}
+use Rattle.root_goals.specs.Shortages.{store}
+use Rattle.root_goals.proofs.Shortages.{silent-full}
 use Rattle.root_goals.proofs.Silences.{one-ok, silent-to, silent-fits}
 use Rattle.root_goals.proofs.silent.silent_answer.Goals as goal
 
@@ -42,3 +48,14 @@ returns-clause-is g c =
     one-ok (λ r. IsResult ready new r × (answer_of new r ≡ result_read es (Some c.in_ok-response.response))) (λ r. IsResult ready new r × (answer_of new r ≡ silent (goal_of cx c.args.input).1 k)) c.keep_answer.result
     (λ r y. (y.0, y.1 ∙ ap Some (raw ∙ ap (λ ks. without_values ks k) kinds) ∙ sym (silent-to cx c.args.input c.input.result.now c.input.ensures.is k)))
     c.keep_answer.ensures.is
+
+pub returns-in_err-response-clause-full : goal.returns-in_err-response-clause-full
+returns-in_err-response-clause-full g c = λ q.
+    let cx = c.args.cx.now in
+    let mid : SolverCx g.row.H.Denot = record cx { interner = c.response_no_constraints_raw-made.new.cx } in
+    silent-full mid c.args.input c.input.result.now c.input.ensures.is
+    (or-then (λ lt. subst (λ ks. MAX_INDEX < length ks) (c.in_ok-variables.ensures.items ∙ c.deref.ensures.value) lt)
+    (some-kind (handed-on c.from_residual-in_err-response.result c.from_residual-in_err-response.ensures.1 (λ p. c.in_err-response.ensures.full (ap Err p)) q)))
+
+pub returns-clause-full : goal.returns-clause-full
+returns-clause-full g c = λ q. store (c.keep_answer.ensures.full q)

@@ -1,11 +1,12 @@
-use Rattle.std.proofs.Common.{◌≡◌, sym, ◌∙◌, ap, subst, Some}
+use Rattle.std.proofs.Common.{◌≡◌, sym, ◌∙◌, ap, subst, Some, Err}
 use Rattle.std.specs.Prelude.{IfSome}
 use Rattle.infer_table.specs.Responses.{answer_trees}
-use Rattle.evaluation.specs.Merge.{is_always_applicable, merge_or_flounder}
+use Rattle.infer_table.proofs.FullFacts.{handed-on}
+use Rattle.evaluation.specs.Merge.{merge_or_flounder}
 use Rattle.table_laws.specs.Answers.{IsWellFormed}
-use Rattle.table_laws.proofs.Beginning.{begin}
+use Rattle.evaluation_laws.specs.Operations.{begin}
 use Rattle.evaluation_laws.specs.Tables.{frame_tables}
-use Rattle.goal_frames.specs.Handlers.{same_answer}
+use Rattle.goal_frames.specs.Handlers.{same_answer, applies_always}
 use Rattle.goal_frames.specs.Readings.{result_read}
 use Rattle.rule_books.specs.Answers.{responses_of, merge_of}
 use Rattle.rule_books.proofs.Collecting.{collected-held, collected-fit, collected-trees, one-end}
@@ -35,5 +36,10 @@ returns-in-Some-clause-is c = λ kind.
     one-end (answer_trees new c.in-Some.response) (merge_of es c.args.variables.now (responses_of c.args.done.now))
     c.new.result.items
     (ap (result_read new) (sym c.in-Some.is) ∙ c.in_ok-response.ensures.is ∙ ap (merge_of es c.args.variables.now) c.deref.ensures.value
-    ∙ ap (merge_or_flounder frame_tables (is_always_applicable frame_tables) same_answer (begin c.args.variables.now)) (collected-trees es rs (responses_of c.args.done.now) c.in_ok-responses.ensures))
+    ∙ ap (merge_or_flounder frame_tables applies_always same_answer (begin c.args.variables.now)) (collected-trees es rs (responses_of c.args.done.now) c.in_ok-responses.ensures))
     c.new.ensures.items
+
+pub returns-in_err-response-clause-full : goal.returns-in_err-response-clause-full
+returns-in_err-response-clause-full c = λ q.
+    let handed = c.from_residual-in_err-response in
+    handed-on handed.result handed.ensures.1 (λ p. c.in_err-response.ensures.full (ap Err p)) q

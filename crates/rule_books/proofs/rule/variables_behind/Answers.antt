@@ -1,8 +1,10 @@
-use Rattle.std.proofs.Common.{refl, ◌∙◌}
+use Rattle.std.proofs.Common.{refl, ap, ◌∙◌, inr, Err}
 use Rattle.term_folds.specs.Kept.{args-held-later}
 use Rattle.infer_table.specs.declared.canonical.CanonicalVarKind.TheVariants.{Ty}
 use Rattle.infer_table.specs.Values.{values_of, values-later}
+use Rattle.infer_table.proofs.FullFacts.{handed-on}
 use Rattle.infer_table.proofs.Values.{args-held-push, values-push}
+use Rattle.evaluation.proofs.Shortages.{some-kind}
 use Rattle.rule_books.proofs.Candidates.{one-more-behind}
 use Rattle.rule_books.proofs.rule.variables_behind.Goals as goal
 
@@ -20,3 +22,6 @@ loop-place-preserved c =
       values = rw c.in_ok-push.ensures.items (rw (values-push next vs c.in_ok-value.value) (rw (values-later now next k vs inv.held)
           (one-more-behind c.args.others (values_of now vs) _ _ c.args.kinds.now c.loop-place.place _ Ty c.loop-place-test.true refl c.in_ok-value.ensures.is inv.values)));
     }
+
+pub returns-in_err-value-clause-full : goal.returns-in_err-value-clause-full
+returns-in_err-value-clause-full c = λ q. some-kind (inr (handed-on c.from_residual.result c.from_residual.ensures.1 (λ p. c.in_err-value.ensures.full (ap Err p)) q))

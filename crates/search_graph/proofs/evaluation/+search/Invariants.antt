@@ -51,8 +51,8 @@ invariant-evaluate_new-loop-run g l =
           → AllDescend m (m.world l.fn.cx) limit l.dependencies.lowest (path_onto m l.fn.cx l.fn.search.stack.items []) (m.goal_of l.fn.cx l.fn.input) → IsNotPlain m (m.world l.fn.cx) limit (m.goal_of l.fn.cx l.fn.input);
     }
 
-abbrev pub invariant-run_once-loop-request : goal.invariant-run_once-loop-request
-invariant-run_once-loop-request g l =
+abbrev pub invariant-run_once-loop-candidates : goal.invariant-run_once-loop-candidates
+invariant-run_once-loop-candidates g l =
     let m = g.D.Delegate.meaning in
     record {
       keeps : Keeps m l.fn.cx l.cx;
@@ -77,5 +77,5 @@ invariant-run_once-loop-request g l =
       plain : IsOnPlainTrack m (m.world l.fn.cx) (l.depth + 1) (path_onto m l.fn.cx l.fn.search.stack.items []) (m.goal_of l.fn.cx l.fn.entry.input) l.dependencies.encountered_overflow l.dependencies.lowest l.dependencies.heads.items running.heard;
     }
 
-abbrev pub decreases-run_once-loop-request : goal.decreases-run_once-loop-request
-decreases-run_once-loop-request g l = g.D.Delegate.steps_left l.cx l.frame
+abbrev pub decreases-run_once-loop-candidates : goal.decreases-run_once-loop-candidates
+decreases-run_once-loop-candidates g l = g.D.Delegate.steps_left l.cx l.frame

@@ -1,6 +1,6 @@
 use Rattle.std.proofs.Common.{ap, sym, ◌∙◌}
 use Rattle.std.specs.Prelude.{map}
-use Rattle.coherence_text.specs.declared.declared.Question.TheVariants.{Prove}
+use Rattle.coherence_text.specs.declared.declared.Asked.TheVariants.{Prove}
 use Rattle.coherence_text.specs.Views.{prove_of, question_of}
 use Rattle.coherence_text.proofs.Each.{map-map}
 use Rattle.coherence_text.proofs.workspace.Workspace.questions.Goals as goal

@@ -14,6 +14,6 @@ returns-clause-restored g c =
     let before = context_of c.self.inside in
     let after = context_of c.self-2.inside in
     let continues : Continues before after = subst (λ (x : Context). Continues x after) (sym c.self.view_is) (subst (λ (x : Context). Continues c.args.self.now x) (sym c.self-2.view_is) (c.requires.undoable _ _ _ gave)) in
-    let rolled = c.roll_back.ensures before.table c.in_ok-place.ensures continues.table in
+    let rolled = c.roll_back.ensures before.table c.snapshot-place.ensures continues.table in
     let cloned = clones-same _ (λ n m r. clone-same n m r.0 r.1.0 r.1.1) c.self.inside.nested_goals.items c.in_ok-nested_goals.nested_goals.items c.in_ok-nested_goals.ensures.cases.0 in
     put-back before after _ _ continues rolled cloned ∙ c.self.view_is

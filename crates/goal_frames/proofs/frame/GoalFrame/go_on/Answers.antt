@@ -1,9 +1,12 @@
-use Rattle.std.proofs.Common.{map, subst, sym, None}
+use Rattle.std.proofs.Common.{◌⊎◌, map, ap, subst, sym, None, Err}
+use Rattle.term_folds.specs.Failures.{SomeKindIsFull}
 use Rattle.infer_table.specs.Inputs.{form_of}
+use Rattle.infer_table.proofs.FullFacts.{handed-on}
 use Rattle.evaluation.specs.Readings.{StepHeld}
 use Rattle.goal_frames.specs.Readings.{shown_by}
 use Rattle.goal_frames.specs.Fitting.{StepFits}
 use Rattle.goal_frames.specs.Places.{IsIgnoring, place_read}
+use Rattle.goal_frames.specs.Shortages.{NextRunsOut}
 use Rattle.goal_frames.specs.declared.frame.Place.TheVariants.{Entering}
 use Rattle.goal_frames.proofs.GoingOn.{ComesNext, considers-next, answers-next, refuses-next}
 use Rattle.goal_frames.proofs.Held.{frame-at, frame-later, answers-stand}
@@ -66,3 +69,11 @@ returns-in-NoSolution-clause-asks g c =
     (subst (ComesNext h new (map (shown_by old) f.considered.items)) c.in-NoSolution.is (rw (← c.deref.ensures.value) c.in_ok-spec.ensures.next)) b in
     let o = c.ignore_from-in-NoSolution.ensures.asks new f.goal.mode h.coinductive p (subst (λ ns. IsIgnoring None ns p) (sym c.new.ensures.items) i) in
     (o.0, answers-stand h _ (place_read new h.coinductive c.ignore_from-in-NoSolution.new.self.place) p o.1)
+
+pub returns-in_err-spec-clause-full : goal.returns-in_err-spec-clause-full
+returns-in_err-spec-clause-full g c = λ q.
+    let f = c.args.self.now in
+    let old = c.args.cx.now.entries in
+    let h = g.H.GoalHandler.handled (g.H.GoalHandler.meaning c.args.handler.now old) f.goal.mode (form_of old f.goal) in
+    subst (λ done. SomeKindIsFull c.step.new.cx.entries c.step.new.cx.limit ⊎ NextRunsOut old h f.goal.variables.items done) c.deref.ensures.value
+    (handed-on c.from_residual.result c.from_residual.ensures.1 (λ p. c.in_err-spec.ensures.full (ap Err p)) q)

@@ -1,10 +1,15 @@
-use Rattle.std.proofs.Common.{◌∙◌, Some, None, map, ap, sym, subst}
-use Rattle.model.specs.Label.{principal}
+use Rattle.std.proofs.Common.{◌≡◌, ◌∙◌, ◌⊎◌, Some, None, Err, map, ap, sym, subst}
+use Rattle.model.specs.Label.{of_trait, predicate}
 use Rattle.model.specs.Trees.{tree, none}
 use Rattle.type_terms.specs.Terms.{trees_at}
 use Rattle.type_terms.specs.declared.TraitId.{TraitId}
+use Rattle.term_folds.specs.Failures.{SomeKindIsFull}
+use Rattle.type_terms.specs.declared.Fault.TheVariants.{Full}
 use Rattle.infer_table.specs.Inputs.{form_of}
 use Rattle.infer_table.specs.Responses.{answer_trees}
+use Rattle.evaluation.specs.declared.error.EvalError.TheVariants as Eval
+use Rattle.evaluation.specs.Shortages.{CandidateRunsOut}
+use Rattle.evaluation.specs.Trial.{spec_trees}
 use Rattle.evaluation.specs.Ends.{AnswerHeld}
 use Rattle.evaluation.specs.Evaluating.{question_of, replies_trees}
 use Rattle.evaluation.proofs.Contexts.{replies-later}
@@ -57,7 +62,7 @@ returns-in-Ok-Ask-clause-asks g c =
     asks-question h f.goal.mode f.goal.variables.items begins old s c.requires.spec.1 c.args.replies.items c.requires.replies.1 xs p i
     (question_of new c.in-Ok-Ask.input c.in-Ok-Ask.source)
     (awaited old new f.goal.mode f.goal.variables.items s c.deref.result.now c.args.replies.items c.deref.ensures.value c.in-Ok-Ask.field-0 c.in-Ok-Ask.input c.in-Ok-Ask.source c.in-Ok-Ask.field-0-is c.in-Ok-Ask.ensures.runs) in
-    let kind = c.kind_of_step-kind.ensures ∙ ap (λ b. step_kind (is_coinductive_step b c.in-Ok-Ask.source)) (c.trait_is_coinductive.ensures old f.goal.mode (form_of old f.goal) (args, ap (λ (d : TraitId). tree (principal 0 d.index) args none) (sym c.def_id-def_id.ensures))) ∙ ap step_kind (sym q.2.step_is) in (
+    let kind = c.kind_of_step-kind.ensures ∙ ap (λ b. step_kind (is_coinductive_step b c.in-Ok-Ask.source)) (c.trait_is_coinductive.ensures old f.goal.mode (form_of old f.goal) (args, ap (λ (d : TraitId). tree (predicate (of_trait d.index)) args none) (sym c.def_id-def_id.ensures))) ∙ ap step_kind (sym q.2.step_is) in (
       subst (λ r. IsRequest f.goal.mode new (Evaluate c.in-Ok-Ask.input c.kind_of_step-kind.result) r) (sym q.1) (q.2.mode_is, sym q.2.form_is, kind),
       subst (λ ys. IsAsking h ys (spec_read new h.coinductive s) (replies_trees new c.args.replies.items) p) (sym (shown-later old new k f.considered.items c.requires.held.considered))
           (subst (λ r. IsAsking h xs (spec_read new h.coinductive s) r p) (sym (replies-trees-later old new k c.args.replies.items c.requires.replies.0))
@@ -126,3 +131,13 @@ returns-in-Err-NoSolution-clause-asks g c =
       subst (λ q. IsRequest f.goal.mode new q (request p)) (sym c.finish-in-Err-NoSolution.ensures.is) (subst (λ r. IsRequest f.goal.mode new FinishCandidate r) (sym e.0) tt),
       subst (λ ys. IsFinishing h ys c.args.spec.source None p) (sym (shown-later old new c.evaluate_candidate.ensures.keeps f.considered.items c.requires.held.considered)) e.1,
     )
+
+pub returns-clause-full : goal.returns-clause-full
+returns-clause-full g c = λ q.
+    let es = c.args.cx.now.entries in
+    let now = c.evaluate_candidate.new.cx in
+    let f = c.args.self.now in
+    let is = c.in-Err-Fault.field-0-is in
+    let full : c.in-Err-Fault.field-0 ≡ Eval.Fault Full = cc in
+    subst (λ rs. SomeKindIsFull now.entries now.limit ⊎ CandidateRunsOut f.goal.mode f.goal.variables.items (spec_trees es c.args.spec) (replies_trees es rs)) c.deref.ensures.value
+    (c.in-Err-Fault.ensures.full (ap Err full))

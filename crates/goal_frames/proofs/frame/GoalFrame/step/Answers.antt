@@ -1,5 +1,6 @@
 use Rattle.std.proofs.Common.{◌≡◌, ◌∙◌, ◌∷◌, ◌+◌, suc, List, ℕ, Option, map, drop, ap, sym, subst, arith}
 use Rattle.infer_table.specs.Inputs.{form_of}
+use Rattle.infer_table.proofs.FullFacts.{or-then}
 use Rattle.infer_table.specs.declared.response.CanonicalResponse.{CanonicalResponse}
 use Rattle.evaluation.specs.Evaluating.{replies_trees}
 use Rattle.evaluation.specs.History.{begin, entered, ignored, evaluated, finished, position, request, CameInOrder}
@@ -9,7 +10,13 @@ use Rattle.evaluation_laws.specs.Tables.{frame_tables}
 use Rattle.goal_frames.specs.Readings.{shown_by, spec_read, result_read}
 use Rattle.goal_frames.specs.Places.{Standing, Stands, IsBetween, IsInside, IsIgnoring, place_read}
 use Rattle.goal_frames.specs.Frames.{FrameHeld, PlaceHeld, RequestHeld, IsRequest, Steps, reply_read}
+use Rattle.search_graph.specs.declared.delegate.Reply.TheVariants as Replied
+use Rattle.evaluation.specs.Shortages.{CandidateRunsOut}
+use Rattle.evaluation.specs.Trial.{spec_trees}
+use Rattle.goal_frames.specs.Shortages.{NextRunsOut}
+use Rattle.goal_frames.specs.declared.frame.Place.TheVariants as InCode
 use Rattle.goal_frames.proofs.Held.{answers-stand}
+use Rattle.goal_frames.proofs.Shortages.{runs-out-there}
 use Rattle.goal_frames.proofs.Stepping.{both-ok, shown-more, replies-more, steps-to, begun-there, inside-there, hears-there, finishes-there, ignores-there, begun-waits, entering-waits, inside-waits, finishing-waits, ignoring-waits, over-waits}
 use Rattle.goal_frames.proofs.frame.GoalFrame.step.Goals as goal
 use Rattle.goal_frames.proofs.frame.GoalFrame.step.Goals.{in_default-via-in-Begun+in_default, in_default-via-in-Entering+in_default, in_default-via-in-Inside+in_default, in_default-via-in-Finishing+in_default, in_default-via-in-Ignoring+in_default, in_default-via-in_default}
@@ -166,3 +173,47 @@ returns-in-Ignoring-Ignored-clause-steps g c =
     let there = c.ignore_from.ensures.asks es f.goal.mode h.coinductive p (subst (λ n. IsIgnoring (result_read es x.answer) (drop n x.ignored.items) p) (next-place x.at) i.1) in
     (there.0, answers-stand h (map (shown_by es) after.considered.items) (place_read es h.coinductive after.place) p there.1))
     (c.ignore_from.ensures.held es (record { goal = held.goal; considered = held.considered; fits = held.fits; place = subst (PlaceHeld f.goal es) (sym c.replace.ensures.after) tt }) place.0 place.1).0)
+
+-- ---- where it ends for want of numbers
+pub returns-in-Begun-Begin-clause-full : goal.returns-in-Begun-Begin-clause-full
+returns-in-Begun-Begin-clause-full g c = λ q.
+    let es = c.args.cx.now.entries in
+    let f = c.args.self.now in
+    let h = g.H.GoalHandler.handled (g.H.GoalHandler.meaning c.args.handler.now es) f.goal.mode (form_of es f.goal) in
+    or-then (λ n. runs-out-there es h f InCode.Begun c.args.reply Replied.Begin (sym c.replace.ensures.value ∙ c.in-Begun-Begin.is-0) c.in-Begun-Begin.is-1 n) (c.go_on.ensures.full q)
+
+pub returns-in-Entering-Entered-clause-full : goal.returns-in-Entering-Entered-clause-full
+returns-in-Entering-Entered-clause-full g c = λ q.
+    let es = c.args.cx.now.entries in
+    let f = c.args.self.now in
+    let h = g.H.GoalHandler.handled (g.H.GoalHandler.meaning c.args.handler.now es) f.goal.mode (form_of es f.goal) in
+    let s = c.in-Entering-Entered.spec in
+    or-then
+    (λ n.
+    runs-out-there es h f (InCode.Entering s) c.args.reply Replied.Entered (sym c.replace.ensures.value ∙ c.in-Entering-Entered.is-0) c.in-Entering-Entered.is-1
+    (subst (λ (xs : List (Option CanonicalResponse)). CandidateRunsOut f.goal.mode f.goal.variables.items (spec_trees es s) (replies_trees es xs)) c.new.ensures.items n))
+    (c.run.ensures.full q)
+
+pub returns-in_ok-push-in-Inside-Result-clause-full : goal.returns-in_ok-push-in-Inside-Result-clause-full
+returns-in_ok-push-in-Inside-Result-clause-full g c = λ q.
+    let es = c.args.cx.now.entries in
+    let f = c.args.self.now in
+    let h = g.H.GoalHandler.handled (g.H.GoalHandler.meaning c.args.handler.now es) f.goal.mode (form_of es f.goal) in
+    let x = c.in-Inside-Result in
+    or-then
+    (λ n.
+    runs-out-there es h f (InCode.Inside x.spec x.replies) c.args.reply (Replied.Result x.answer) (sym c.replace.ensures.value ∙ x.is-0) x.is-1
+    (subst (λ (xs : List (Option CanonicalResponse)). CandidateRunsOut f.goal.mode f.goal.variables.items (spec_trees es x.spec) (replies_trees es xs)) c.in_ok-push-in-Inside-Result.ensures.items n))
+    (c.run-in-Inside-Result.ensures.full q)
+
+pub returns-in_ok-push-in-Finishing-Finished-clause-full : goal.returns-in_ok-push-in-Finishing-Finished-clause-full
+returns-in_ok-push-in-Finishing-Finished-clause-full g c = λ q.
+    let es = c.args.cx.now.entries in
+    let f = c.args.self.now in
+    let h = g.H.GoalHandler.handled (g.H.GoalHandler.meaning c.args.handler.now es) f.goal.mode (form_of es f.goal) in
+    let x = c.in-Finishing-Finished in
+    or-then
+    (λ n.
+    runs-out-there es h f (InCode.Finishing x.source x.outcome) c.args.reply (Replied.Finished x.head_usages) (sym c.replace.ensures.value ∙ x.is-0) x.is-1
+    (subst (λ (done : List Considered). NextRunsOut es h f.goal.variables.items done) c.in_ok-push-in-Finishing-Finished.ensures.items n))
+    (c.go_on-in-Finishing-Finished.ensures.full q)

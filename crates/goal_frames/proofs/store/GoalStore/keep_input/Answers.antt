@@ -4,7 +4,7 @@ use Rattle.type_terms.specs.declared.Fault.TheVariants.{Memory, Full}
 use Rattle.infer_table.specs.declared.input.CanonicalInput.{CanonicalInput}
 use Rattle.infer_table.specs.Goals.{GoalHeld}
 use Rattle.goal_frames.specs.Stores.{asked_goal}
-use Rattle.goal_frames.proofs.Numbers.{same-goals}
+use Rattle.goal_frames.proofs.Numbers.{same-goals, asks-renamed}
 use Rattle.goal_frames.proofs.Keeping.{on-err, handed-on, handed-error, ok-not-err, stands-input, new-input, no-input, same-input, added-input, input-stays, input-is, asks-the-same}
 use Rattle.goal_frames.proofs.store.GoalStore.keep_input.Goals as goal
 
@@ -39,6 +39,11 @@ pub returns-clause-known : goal.returns-clause-known
 returns-clause-known c = λ es i law held h q.
     same-input c.args.self.now c.keep.new.kept.keys c.args.input c.in_ok-place.place c.keep.ensures.unique c.in_ok-place.ensures.keys c.in_ok-place.ensures.is i (asks-the-same es law c.args.self.now held i c.args.input h q)
 
+pub returns-clause-renamed : goal.returns-clause-renamed
+returns-clause-renamed c = λ es i g h law held is q r.
+    same-input c.args.self.now c.keep.new.kept.keys c.args.input c.in_ok-place.place c.keep.ensures.unique c.in_ok-place.ensures.keys c.in_ok-place.ensures.is i
+    (asks-the-same es law c.args.self.now held i c.args.input is.held (asks-renamed es c.args.self.now i g h c.args.input is q r))
+
 pub returns-clause-refuses : goal.returns-clause-refuses
 returns-clause-refuses c = λ full new. absurd (ok-not-err _ _ (c.in_ok-place.ensures.refuses full (no-input c.args.self.now c.args.input new)))
 
@@ -60,6 +65,10 @@ returns-in_err-place-clause-found c = λ i at. absurd (new-input c.args.self.now
 
 pub returns-in_err-place-clause-known : goal.returns-in_err-place-clause-known
 returns-in_err-place-clause-known c = λ es i law held h q. absurd (new-input c.args.self.now c.args.input c.in_err-place.ensures.absent i (asks-the-same es law c.args.self.now held i c.args.input h q))
+
+pub returns-in_err-place-clause-renamed : goal.returns-in_err-place-clause-renamed
+returns-in_err-place-clause-renamed c = λ es i g h law held is q r.
+    absurd (new-input c.args.self.now c.args.input c.in_err-place.ensures.absent i (asks-the-same es law c.args.self.now held i c.args.input is.held (asks-renamed es c.args.self.now i g h c.args.input is q r)))
 
 pub returns-in_err-place-clause-absent : goal.returns-in_err-place-clause-absent
 returns-in_err-place-clause-absent c = on-err _ c.from_residual.result (new-input c.args.self.now c.args.input c.in_err-place.ensures.absent)

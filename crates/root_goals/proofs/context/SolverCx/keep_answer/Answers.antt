@@ -1,5 +1,6 @@
-use Rattle.std.proofs.Common.{◌∙◌, ap, sym, subst}
+use Rattle.std.proofs.Common.{◌∙◌, ap, sym, subst, inr, length, Err}
 use Rattle.evaluation.specs.Readings.{ResultHeld}
+use Rattle.infer_table.proofs.FullFacts.{handed-on}
 use Rattle.goal_frames.specs.Fitting.{ResultFits}
 use Rattle.goal_frames.specs.Readings.{result_read}
 use Rattle.root_goals.specs.declared.context.SolverCx.{SolverCx}
@@ -17,3 +18,8 @@ returns-in_ok-id-in-Some-clause-is g c =
     let now : IsReady ready new = record { handler = c.requires.ready.handler; store = c.keep_response.ensures.held es held c.requires.ready.store; lawful = c.requires.ready.lawful } in
     let kept = answer-kept ready new c.in_ok-id-in-Some.id c.in-Some.response now c.in_ok-id-in-Some.ensures.is (subst (ResultFits es) c.in-Some.is c.requires.fits) in
     (kept.0, kept.1 ∙ sym (ap (result_read es) c.in-Some.is))
+
+pub returns-in_err-id-in-Some-clause-full : goal.returns-in_err-id-in-Some-clause-full
+returns-in_err-id-in-Some-clause-full g c = λ q.
+    let refused = c.in_err-id-in-Some.ensures in
+    inr (handed-on c.from_residual.result c.from_residual.ensures.1 (λ p. ap length refused.refused ∙ refused.full (ap Err p) ∙ sym refused.limit) q)

@@ -1,14 +1,15 @@
-use Rattle.std.proofs.Common.{◌≡◌, ℕ, List, ◌&&◌, length, refl, ap, ◌∙◌}
+use Rattle.std.proofs.Common.{◌≡◌, ℕ, ◌⊎◌, ◌+◌, ◌<◌, List, ◌&&◌, length, refl, ap, subst, ◌∙◌, inl, Err}
 use Rattle.std.specs.List.{list_all}
 use Rattle.type_terms.specs.Terms.{Keeps}
 use Rattle.term_folds.specs.Kept.{arg-held-later, args-held-later}
 use Rattle.infer_table.specs.Values.{values_of, values-later}
+use Rattle.infer_table.proofs.FullFacts.{handed-on}
 use Rattle.infer_table.specs.Raw.{variables_from}
 use Rattle.infer_table.specs.declared.canonical.CanonicalVarKind.{CanonicalVarKind}
 use Rattle.infer_table.specs.declared.certainty.Certainty.TheVariants.{Yes}
 use Rattle.evaluation.specs.declared.candidate.BuiltinImplSource.TheVariants.{Misc}
 use Rattle.evaluation.specs.declared.candidate.CandidateSource.TheVariants.{BuiltinImpl}
-use Rattle.table_laws.proofs.Made.{right}
+use Rattle.type_terms.proofs.Made.{right}
 use Rattle.goal_frames.specs.Rules.{Bound}
 use Rattle.goal_frames.specs.Handlers.{as_one, behind}
 use Rattle.rule_books.specs.Books.{rule_read, is_unknown, is_over, all_stand, are_terms_over}
@@ -69,3 +70,22 @@ returns-clause-is c = λ kind.
   where
     same-numbers : (m n : ℕ) (ks js : List CanonicalVarKind) → m ≡ n → ks ≡ js → variables_from m ks ≡ variables_from n js
     same-numbers m n ks js e f = cc
+
+-- the sum of equal numbers
+same-sum : {A : Type 0} (k : ℕ) {m n i j : ℕ} → m ≡ i → n ≡ j → A ⊎ (k < m + n) → A ⊎ (k < i + j)
+same-sum {A} k {m} {n} {i} {j} e f h = let s : m + n ≡ i + j = cc in subst (λ z. A ⊎ (k < z)) s h
+
+pub returns-in_err-own-clause-full : goal.returns-in_err-own-clause-full
+returns-in_err-own-clause-full c = λ q.
+    same-sum _ (c.len.ensures ∙ c.args.goal.now.variables.ok.0) (ap length c.deref.ensures.value)
+    (handed-on c.from_residual.result c.from_residual.ensures.1 (λ p. c.in_err-own.ensures.full (ap Err p)) q)
+
+pub returns-in_err-equation-clause-full : goal.returns-in_err-equation-clause-full
+returns-in_err-equation-clause-full c = λ q.
+    let handed = c.from_residual-in_err-equation in
+    inl (handed-on handed.result handed.ensures.1 (λ p. c.in_err-equation.ensures.full (ap Err p)) q)
+
+pub returns-in_err-nested_goals-clause-full : goal.returns-in_err-nested_goals-clause-full
+returns-in_err-nested_goals-clause-full c = λ q.
+    let handed = c.from_residual-in_err-nested_goals in
+    inl (handed-on handed.result handed.ensures.1 (λ p. c.in_err-nested_goals.ensures.full (ap Err p)) q)

@@ -1,6 +1,7 @@
-use Rattle.std.proofs.Common.{◌≡◌, true, ap, ◌∙◌}
+use Rattle.std.proofs.Common.{◌≡◌, true, ap, ◌∙◌, Err}
 use Rattle.term_folds.specs.Kept.{args-held-later}
 use Rattle.infer_table.specs.Values.{values-later}
+use Rattle.infer_table.proofs.FullFacts.{handed-on}
 use Rattle.goal_frames.specs.Handlers.{as_one, behind}
 use Rattle.rule_books.proofs.Renumbering.{same_bound}
 use Rattle.rule_books.specs.Books.{bound_read, is_over}
@@ -19,3 +20,16 @@ returns-clause-right c = λ n e.
     let over : is_over kinds (bound_read now c.args.self.now.head) ≡ true = ap (is_over kinds) same ∙ c.requires.over in
     let values = values-later old now c.in_ok-left.ensures.keeps c.args.values.now c.requires.values ∙ e in
     c.in_ok-right.ensures.is ∙ ap as_one (same_bound c.goal_over.new.cx.entries c.in_ok-head.head (behind n (bound_read now c.args.self.now.head)) (c.in_ok-head.ensures.behind kinds n over values) ∙ ap (behind n) same)
+
+pub returns-in_err-left-clause-full : goal.returns-in_err-left-clause-full
+returns-in_err-left-clause-full c = λ q. handed-on c.from_residual.result c.from_residual.ensures.1 (λ p. c.in_err-left.ensures.full (ap Err p)) q
+
+pub returns-in_err-head-clause-full : goal.returns-in_err-head-clause-full
+returns-in_err-head-clause-full c = λ q.
+    let handed = c.from_residual-in_err-head in
+    handed-on handed.result handed.ensures.1 (λ p. c.in_err-head.ensures.full (ap Err p)) q
+
+pub returns-in_err-right-clause-full : goal.returns-in_err-right-clause-full
+returns-in_err-right-clause-full c = λ q.
+    let handed = c.from_residual-in_err-right in
+    handed-on handed.result handed.ensures.1 (λ p. c.in_err-right.ensures.full (ap Err p)) q

@@ -1,8 +1,9 @@
-use Rattle.std.proofs.Common.{◌≡◌, ◌<◌, ◌≤◌, length, get_or, true, ap, ◌∙◌, subst}
+use Rattle.std.proofs.Common.{◌≡◌, ◌<◌, ◌≤◌, length, get_or, true, ap, ◌∙◌, subst, Err}
 use Rattle.term_folds.specs.Kept.{args-held-later}
 use Rattle.infer_table.specs.declared.goal.Goal.{Goal}
 use Rattle.infer_table.specs.Goals.{PredicateHeld, GoalHeld}
 use Rattle.infer_table.specs.Values.{values-later}
+use Rattle.infer_table.proofs.FullFacts.{handed-on}
 use Rattle.evaluation.proofs.Later.{goals-held-later}
 use Rattle.evaluation.specs.declared.goal.GoalSource.{GoalSource}
 use Rattle.evaluation.specs.declared.goal.GoalSource.TheVariants.{ImplWhereBound}
@@ -50,3 +51,6 @@ returns-clause-are c = λ kind n e.
     let ps = c.args.self.now.premises.items in
     let end : length ps ≤ c.loop-premise.premise-index = subst (λ z. length z ≤ c.loop-premise.premise-index) c.deref-premise-items.ensures.value c.loop-premise-test.false in
     all-premises c.loop-premise.cx.entries kind (λ (b : TraitPredicate). nested_of_bound kind (behind n (bound_read old b))) ps c.loop-premise.nested_goals.items c.loop-premise.premise-index end (c.loop-premise.invariant.are kind n e)
+
+pub returns-in_err-goal-clause-full : goal.returns-in_err-goal-clause-full
+returns-in_err-goal-clause-full c = λ q. handed-on c.from_residual.result c.from_residual.ensures.1 (λ p. c.in_err-goal.ensures.full (ap Err p)) q

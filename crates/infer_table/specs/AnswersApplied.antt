@@ -1,0 +1,127 @@
+-- An answer applied to a table, in terms of an interner's handles: what is put in, what is left, and which solutions go on.
+use Rattle.std.specs.Prelude.{◌≡◌, List, map, Option, option_map}
+use Rattle.model.specs.Trees.{Trees}
+use Rattle.type_terms.specs.Terms.{Entry, Keeps, Lawful}
+use Rattle.type_terms.specs.Kinds.{ArgsHeld, args_trees}
+use Rattle.type_terms.specs.declared.kinds.GenericArgKind.{GenericArgKind}
+use Rattle.infer_table.specs.Solutions.{Assignment, Binding, IsSorted, Solves, Equates, HasNoSolution, instance}
+use Rattle.infer_table.specs.Content.{Table, content, variables_of, Ready}
+use Rattle.infer_table.specs.Constraints.{constraints_trees}
+use Rattle.infer_table.specs.Unification.{TableTrees, table_trees}
+use Rattle.infer_table.specs.Values.{Value, sort_of_arg, value_of, values_of, filled}
+use Rattle.infer_table.specs.Raw.{sort_of_kind}
+use Rattle.infer_table.specs.Responses.{answer_trees}
+use Rattle.infer_table.specs.Applying.{known_value, applied_values, applied_table}
+use Rattle.infer_table.specs.Applied.{solved_in_turn, applied}
+use Rattle.infer_table.specs.Shortages.{SomeHasNoUnknown, SomeRunsOut, IsOutOfNumbers}
+use Rattle.infer_table.specs.Covers.{Agrees, AreNumbered, AreKnown, Continues, IsOfKnown, HaveSameSolutions, IsWellPosed}
+use Rattle.infer_table.specs.declared.canonical.CanonicalVarKind.{CanonicalVarKind}
+use Rattle.infer_table.specs.declared.response.CanonicalResponse.{CanonicalResponse}
+
+-- ---- what is put in, and what is left
+-- the value that is known, if one is
+abbrev pub known_in : List Entry → Option GenericArgKind → Option Value
+known_in es known = option_map (value_of es) known
+
+-- what is put in for the answer's variables
+abbrev pub values_put_in : List Entry → Table → List GenericArgKind → CanonicalResponse → List Value
+values_put_in es t originals r = applied_values (table_trees es t) (values_of es originals) (answer_trees es r)
+
+-- the table with the new unknowns among these
+abbrev pub with_unknowns_put_in : List Entry → Table → List GenericArgKind → CanonicalResponse → TableTrees
+with_unknowns_put_in es t originals r = applied_table (table_trees es t) (values_of es originals) (answer_trees es r)
+
+-- the answer's own values, with these in the place of its variables
+abbrev pub answered_values : List Entry → Table → List GenericArgKind → CanonicalResponse → Trees
+answered_values es t originals r = filled (values_put_in es t originals r) (args_trees es r.var_values.items)
+
+-- and its constraints
+abbrev pub answered_constraints : List Entry → Table → List GenericArgKind → CanonicalResponse → Trees
+answered_constraints es t originals r = filled (values_put_in es t originals r) (constraints_trees es r.region_constraints.items)
+
+-- what is left once the values are equal in their places, from the first pair on; none where a pair is refused
+abbrev pub equated_in_turn : List Entry → Table → List GenericArgKind → List GenericArgKind → Option TableTrees
+equated_in_turn es t left right = solved_in_turn (table_trees es t) (args_trees es left) (args_trees es right)
+
+-- what is left once the answer is applied; none where it is refused
+abbrev pub left_by_answer : List Entry → Table → List GenericArgKind → CanonicalResponse → Option TableTrees
+left_by_answer es t originals r = applied (table_trees es t) (values_of es originals) (answer_trees es r)
+
+-- ---- numbers
+-- none is left for one of the new unknowns
+abbrev pub UnknownsRunOut : List Entry → Table → List GenericArgKind → CanonicalResponse → Type 0
+UnknownsRunOut es t originals r = SomeHasNoUnknown (known_value (answer_trees es r) (values_of es originals)) (table_trees es t) 0 r.variables.items
+
+-- none is left for the lifetimes of some pair of values
+abbrev pub TurnsRunOut : List Entry → Table → List GenericArgKind → List GenericArgKind → Type 0
+TurnsRunOut es t left right = SomeRunsOut (table_trees es t) (args_trees es left) (args_trees es right)
+
+-- none is left for one of the new unknowns, or for lifetimes once values are made equal
+abbrev pub NumbersRunOut : List Entry → Table → List GenericArgKind → CanonicalResponse → Type 0
+NumbersRunOut es t originals r = IsOutOfNumbers (table_trees es t) (values_of es originals) (answer_trees es r)
+
+-- ---- solutions
+-- the solutions of `new` are those of the table that make the goal's values equal to the answer's
+abbrev pub EquatesAnswer : List Entry → Table → List GenericArgKind → CanonicalResponse → List Binding → Type 0
+EquatesAnswer es t originals r new = Equates (content es t.values) new (args_trees es originals) (answered_values es t originals r)
+
+-- no solution of the table makes them equal
+abbrev pub RulesOutAnswer : List Entry → Table → List GenericArgKind → CanonicalResponse → Type 0
+RulesOutAnswer es t originals r = HasNoSolution (content es t.values) (args_trees es originals) (answered_values es t originals r)
+
+-- the answer agrees with each solution of a table, at these values
+abbrev pub AgreesWithAll : List Entry → Table → List GenericArgKind → List Entry → CanonicalResponse → Type 0
+AgreesWithAll old t values es r =
+    (s : Assignment) → Solves s (content old t.values) → Agrees (args_trees es r.var_values.items) (instance s (args_trees old values))
+
+-- where all is well posed, it agrees with none
+abbrev pub AgreesWithNone : List Entry → Table → List GenericArgKind → CanonicalResponse → Type 0
+AgreesWithNone es t values r =
+    IsWellPosed es t values r → (s : Assignment) → Solves s (content es t.values) → Agrees (args_trees es r.var_values.items) (instance s (args_trees es values)) → ⊥
+
+-- where all is well posed, each solution with which it agrees goes on to one of `new`
+abbrev pub AgreedGoOn : List Entry → Table → List GenericArgKind → CanonicalResponse → List Binding → Type 0
+AgreedGoOn es t values r new =
+    IsWellPosed es t values r → (s : Assignment) → Solves s (content es t.values)
+    → Agrees (args_trees es r.var_values.items) (instance s (args_trees es values)) → (u : Assignment) × Continues (variables_of t) s u × Solves u new
+
+-- an answer with these values agrees with all values of the sorts of these kinds
+abbrev pub AgreesWithAllOf : List CanonicalVarKind → Trees → Type 0
+AgreesWithAllOf kinds a =
+    (es : List Entry) (s : Assignment) (xs : List GenericArgKind) → Lawful es → ArgsHeld es xs → IsSorted s
+    → map sort_of_arg xs ≡ map sort_of_kind kinds → Agrees a (instance s (args_trees es xs))
+
+-- ---- laws
+-- each solution with which an answer agrees goes on to one of the table that is left once it is applied
+abbrev pub ApplyingKeepsSolutions : Type 0
+ApplyingKeepsSolutions =
+    (es : List Entry) (t : Table) (originals : List GenericArgKind) (r : CanonicalResponse) (new : List Binding) (s : Assignment)
+    → Lawful es → ArgsHeld es originals → ArgsHeld es r.var_values.items → AreNumbered r.variables.items (args_trees es r.var_values.items)
+    → AreKnown (variables_of t) (args_trees es originals) → IsOfKnown (variables_of t) (content es t.values) → EquatesAnswer es t originals r new
+    → Solves s (content es t.values) → Agrees (args_trees es r.var_values.items) (instance s (args_trees es originals))
+    → (u : Assignment) × Continues (variables_of t) s u × Solves u new
+
+-- an answer that no solution makes equal to the goal's values agrees with none
+abbrev pub RuledOutAgreesWithNone : Type 0
+RuledOutAgreesWithNone =
+    (es : List Entry) (t : Table) (originals : List GenericArgKind) (r : CanonicalResponse) (s : Assignment)
+    → Lawful es → ArgsHeld es originals → ArgsHeld es r.var_values.items → AreNumbered r.variables.items (args_trees es r.var_values.items)
+    → AreKnown (variables_of t) (args_trees es originals) → IsOfKnown (variables_of t) (content es t.values) → RulesOutAnswer es t originals r
+    → Solves s (content es t.values) → Agrees (args_trees es r.var_values.items) (instance s (args_trees es originals)) → ⊥
+
+-- an answer that agrees with each solution of the table that gave it leaves that table's solutions as they are
+abbrev pub ReturningKeepsSolutions : Type 0
+ReturningKeepsSolutions =
+    (before es : List Entry) (t : Table) (values : List GenericArgKind) (r : CanonicalResponse) (new : List Binding)
+    → Keeps before es → Lawful es → Ready before t → ArgsHeld before values → ArgsHeld es r.var_values.items
+    → AreNumbered r.variables.items (args_trees es r.var_values.items) → AreKnown (variables_of t) (args_trees before values)
+    → IsOfKnown (variables_of t) (content before t.values) → AgreesWithAll before t values es r → EquatesAnswer es t values r new
+    → HaveSameSolutions (variables_of t) (content before t.values) new
+
+-- and some solution of the table makes it equal to the values
+abbrev pub ReturningIsAccepted : Type 0
+ReturningIsAccepted =
+    (before es : List Entry) (t : Table) (values : List GenericArgKind) (r : CanonicalResponse)
+    → Keeps before es → Lawful es → Ready before t → ArgsHeld before values → ArgsHeld es r.var_values.items
+    → AreNumbered r.variables.items (args_trees es r.var_values.items) → AreKnown (variables_of t) (args_trees before values)
+    → IsOfKnown (variables_of t) (content before t.values) → AgreesWithAll before t values es r → RulesOutAnswer es t values r → ⊥

@@ -1,0 +1,42 @@
+use Rattle.std.proofs.Common.{◌≡◌, ◌∙◌, sym, ap, subst, Some, slice_get}
+use Rattle.search_graph.specs.Cache.{IsNumberOf}
+use Rattle.search_graph.specs.Chain.{IsAskedUnder}
+use Rattle.search_graph.proofs.Numbers.{one_number}
+use Rattle.search_graph.proofs.steps.look_up.Goals as goal
+
+pub use_cached-requires-clause-place : goal.use_cached-requires-clause-place
+use_cached-requires-clause-place g c =
+    let found = rw c.in-Some.is at c.in_ok-place.ensures.found in
+    (found.0, found.1, found.2.same, found.2.within.0)
+
+pub returns-in_ok-cached-in-Some-clause-range : goal.returns-in_ok-cached-in-Some-clause-range
+returns-in_ok-cached-in-Some-clause-range g c = rw c.number_of.ensures.entries at c.in_ok-cached-in-Some.ensures.range
+
+pub returns-in_ok-cached-in-Some-clause-depth : goal.returns-in_ok-cached-in-Some-clause-depth
+returns-in_ok-cached-in-Some-clause-depth g c = λ off.
+    let found = rw c.in-Some.is at c.in_ok-place.ensures.found in
+    let same = c.in_ok-cached-in-Some.ensures.same found.0 found.1 in
+    rw (← same.1) at (found.2.within.1 (sym same.2 ∙ off))
+
+pub returns-in_ok-cached-in-Some-clause-kept : goal.returns-in_ok-cached-in-Some-clause-kept
+returns-in_ok-cached-in-Some-clause-kept g c =
+    let found = rw c.in-Some.is at c.in_ok-place.ensures.found in
+    let items : c.number_of.new.self.entries.items ≡ c.args.cache.now.entries.items = ap (λ v. v.items) c.number_of.ensures.entries in
+    (c.in-Some.place, found.0, subst (λ es. slice_get es c.in-Some.place ≡ Some found.0) items found.1, found.2.same, sym (c.in_ok-cached-in-Some.ensures.same found.0 found.1).0, found.2.within)
+
+pub returns-in_ok-cached-in-Some-clause-within : goal.returns-in_ok-cached-in-Some-clause-within
+returns-in_ok-cached-in-Some-clause-within g c = λ before cached. c.in_ok-cached-in-Some.ensures.within before (rw c.number_of.ensures.entries cached)
+
+pub returns-in-None-clause-found : goal.returns-in-None-clause-found
+returns-in-None-clause-found g c = λ place e at same within clear.
+    let eq = g.D.Cx.Input.PartialEq.eq in
+    let none = rw c.in-None.is at c.in_ok-place.ensures.none in
+    let items : c.number_of.new.self.entries.items ≡ c.args.cache.now.entries.items = ap (λ v. v.items) c.number_of.ensures.entries in
+    let there : slice_get c.number_of.new.self.entries.items place ≡ Some e = rw items at in
+    let number = subst (λ i. IsNumberOf eq c.number_of.new.self.goals.keys i e.number) same (c.number_of.new.self.numbered place e there) in
+    absurd (none place e there (record {
+      numbered = one_number eq c.number_of.new.self.goals.keys c.args.input.now e.number c.in_ok-number.number number c.in_ok-number.ensures.place;
+      same = same;
+      within = within;
+      clear = λ asked under on. clear asked (subst (λ es. IsAskedUnder es place asked) items under) on;
+    }))

@@ -1,0 +1,140 @@
+//! The parts of an evaluation that ask no goal, each with what the evaluation says of it.
+
+ghost use Rattle.std.specs.Prelude.{◌≡◌, [], ◌∷◌, ◌++◌, ◌+◌, ◌≤◌, ℕ, IfOk, OnOk, IfSome, IsSome, true, false};
+ghost use Rattle.search_graph.specs.Meaning.{Keeps};
+ghost use Rattle.search_graph.specs.Chain.{AreInRange};
+ghost use Rattle.search_graph.specs.Nested.{covered, one_goal, AsksAlone};
+ghost use Rattle.search_graph.specs.Cache.{HoldsResult, IsNumberOf, KeepsNumbers};
+ghost use Rattle.search_graph.specs.Stack.{span_of_newest, IsStack, AreCached, IsClosedBy, IfUsable, HasBegun};
+ghost use Rattle.search_graph.specs.Question.{IsReplyOver, IsFaithfulOver, IsWithinAsCached, IsWithinAsStack};
+
+use crate::cache::CachedResults;
+use crate::delegate::{Delegate, InputOf, Reply, Request, ResultOf};
+use crate::dependencies::{CycleHead, Dependencies, EvaluationResult};
+use crate::fault::GraphFault;
+use crate::path_kind::{PathKind, PathsToNested};
+use crate::search::{Evaluation, Search};
+use crate::stack::{Cycle, StackEntry};
+
+/// The number of a goal, and a cached result as the reply to a question on it, if one of this depth may use it.
+pub(crate) fn look_up<D: Delegate>(
+    search: &Search<D>,
+    cache: &mut CachedResults<D>,
+    cx: &D::Cx,
+    input: &InputOf<D>,
+    step_kind: PathKind,
+    depth: usize,
+) -> Result<(usize, Option<EvaluationResult<ResultOf<D>>>), GraphFault>
+    requires cache { AreCached D.meaning (D.meaning.world cx.now) cx.now cache.old.entries.items }
+    ensures goals { KeepsNumbers D.Cx.Input.eq cache.old.goals.keys cache.new.goals.keys }
+    ensures entries { cache.new.entries ≡ cache.old.entries }
+    ensures number { IfOk result (λ r. IsNumberOf D.Cx.Input.eq cache.new.goals.keys input.now r.0) }
+    ensures range { IfOk result (λ r. IfSome r.1 (λ o. AreInRange cache.old.entries.items o.dependencies.nested_goals)) }
+    ensures depth { IfOk result (λ r. IfSome r.1 (λ o. o.dependencies.encountered_overflow ≡ false → o.dependencies.required_depth ≤ depth)) }
+    ensures kept { IfOk result (λ r. IfSome r.1 (λ o. HoldsResult cache.old.entries.items input.now depth o.result)) }
+    ensures answer { IfOk result (λ r. IfSome r.1 (λ o. IsReplyOver D.meaning cx.now search.now.stack.items input.now step_kind o.dependencies.lowest cx.now o.result)) }
+    ensures faithful { IfOk result (λ r. IfSome r.1 (IsFaithfulOver D.meaning cx.now search.now.stack.items input.now (depth + 1) cx.now)) }
+    ensures within { IfOk result (λ r. IfSome r.1 (λ o. IsWithinAsCached D.meaning cx.now cache.old.entries.items input.now o.result)) }
+    ensures found { IfUsable cache.old.entries.items search.now.stack.items input.now depth (IfOk result (λ r. IsSome r.1)) }
+    ensures no_conflict { result ≡ Err GraphFault.Conflict → ⊥ }
+    ensures in_order { result ≡ Err GraphFault.Protocol → ⊥ }
+    ensures room { result ≡ Err GraphFault.Full → ⊥ }
+{
+    // A provisional entry, of a goal whose result rests on goals of the stack, would be looked up here.
+    let number = cache.number_of(cx, input)?;
+    match search.find_cached(cache, number, input, depth)? {
+        Some(place) => {
+            let cached = search.use_cached(cache, cx, place, input, step_kind, depth)?;
+            Ok((number, Some(cached)))
+        }
+        None => Ok((number, None)),
+    }
+}
+
+/// The reply to a question that closes a cycle.
+pub(crate) fn reply_in_cycle<D: Delegate>(
+    search: &Search<D>,
+    cx: &mut D::Cx,
+    number: usize,
+    input: &InputOf<D>,
+    step_kind: PathKind,
+    cycle: Cycle,
+) -> Evaluation<D>
+    requires stack { IsStack D.meaning (D.meaning.world cx.old) [] cx.old search.now.stack.items }
+    requires input { D.meaning.IsInput cx.old input.now }
+    requires cycle { IsClosedBy search.now.stack.items input.now step_kind cycle }
+    ensures keeps { Keeps D.meaning cx.old cx.new }
+    ensures asked { IfOk result (λ o. AsksAlone number o.dependencies.nested_goals) }
+    ensures depth { IfOk result (λ o. o.dependencies.required_depth ≡ 0) }
+    ensures answer { IfOk result (λ o. IsReplyOver D.meaning cx.old search.now.stack.items input.now step_kind o.dependencies.lowest cx.new o.result) }
+    ensures faithful { IfOk result (λ o. (reach : ℕ) → IsFaithfulOver D.meaning cx.old search.now.stack.items input.now reach cx.new o) }
+    ensures within { IfOk result (λ o. IsWithinAsStack D.meaning cx.old search.now.stack.items input.now cx.new o.result) }
+    ensures no_conflict { result ≡ Err GraphFault.Conflict → ⊥ }
+    ensures in_order { result ≡ Err GraphFault.Protocol → ⊥ }
+    ensures full { result ≡ Err GraphFault.Full → D.meaning.IsFull cx.new }
+{
+    let (answer, lowest) = search.close_cycle(cx, input, step_kind, cycle)?;
+    let mut dependencies = Dependencies::new(search.alloc, lowest);
+    let paths = PathsToNested::from(cycle.path_kind);
+    dependencies.heads.push(CycleHead {
+        index: cycle.index,
+        paths,
+    })?;
+    dependencies.nested_goals.add_goal(number)?;
+    Ok(EvaluationResult {
+        result: answer,
+        dependencies,
+    })
+}
+
+/// The reply to a question of a goal of depth 0.
+pub(crate) fn reply_with_overflow<D: Delegate>(
+    search: &mut Search<D>,
+    cache: &mut CachedResults<D>,
+    cx: &mut D::Cx,
+    input: InputOf<D>,
+    step_kind: PathKind,
+) -> Evaluation<D>
+    requires cache { AreCached D.meaning (D.meaning.world cx.old) cx.old cache.old.entries.items }
+    requires input { D.meaning.IsInput cx.old input }
+    ensures keeps { Keeps D.meaning cx.old cx.new }
+    ensures stack { search.new.stack.items ≡ search.old.stack.items }
+    ensures cache { AreCached D.meaning (D.meaning.world cx.new) cx.new cache.new.entries.items }
+    ensures goals { KeepsNumbers D.Cx.Input.eq cache.old.goals.keys cache.new.goals.keys }
+    ensures entries { cache.new.entries ≡ cache.old.entries }
+    ensures range { IfOk result (λ o. AreInRange cache.new.entries.items o.dependencies.nested_goals) }
+    ensures answer { IfOk result (λ o. IsReplyOver D.meaning cx.old search.old.stack.items input step_kind o.dependencies.lowest cx.new o.result) }
+    ensures told { IfOk result (λ o. o.dependencies.encountered_overflow ≡ true) }
+    ensures frames { search.new.frames ≡ search.old.frames }
+    ensures limits { search.old.limits_met ≡ true → search.new.limits_met ≡ true }
+    ensures noted { OnOk result (search.new.limits_met ≡ true) }
+    ensures no_conflict { result ≡ Err GraphFault.Conflict → ⊥ }
+    ensures in_order { result ≡ Err GraphFault.Protocol → ⊥ }
+    ensures full { result ≡ Err GraphFault.Full → D.meaning.IsFull cx.new }
+{
+    let number = cache.number_of(cx, &input)?;
+    search.overflow(cx, number, input, step_kind)
+}
+
+/// Puts a goal on the stack and starts a frame of it, up to its first request.
+pub(crate) fn start_run<D: Delegate>(
+    search: &mut Search<D>,
+    cx: &mut D::Cx,
+    entry: StackEntry<InputOf<D>, ResultOf<D>>,
+) -> Result<(D::Frame, Request<InputOf<D>, ResultOf<D>>), GraphFault>
+    requires input { D.meaning.IsInput cx.old entry.input }
+    requires span { entry.span ≡ covered (span_of_newest search.old.stack.items) (one_goal entry.number) }
+    ensures keeps { Keeps D.meaning cx.old cx.new }
+    ensures stack { OnOk result (search.new.stack.items ≡ search.old.stack.items ++ entry ∷ []) }
+    ensures begun { IfOk result (λ r. HasBegun D.meaning cx.old entry.input cx.new r.0 r.1) }
+    ensures frames { search.new.frames ≤ search.old.frames + 1 }
+    ensures limits { search.new.limits_met ≡ search.old.limits_met }
+    ensures no_conflict { result ≡ Err GraphFault.Conflict → ⊥ }
+    ensures in_order { result ≡ Err GraphFault.Protocol → ⊥ }
+    ensures full { result ≡ Err GraphFault.Full → D.meaning.IsFull cx.new }
+{
+    let mut frame = D::start(cx, &entry.input)?;
+    search.begin(entry)?;
+    let request = D::step(&mut frame, cx, Reply::Begin)?;
+    Ok((frame, request))
+}

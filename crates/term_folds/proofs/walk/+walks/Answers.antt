@@ -1,0 +1,386 @@
+use Rattle.std.proofs.Common.{◌≡◌, ℕ, ◌<◌, ◌≤◌, List, [], ◌∷◌, arith, subst, ◌∙◌, get_or, length, ap, refl, Some, Err}
+use Rattle.std.proofs.lemmas.Grind.{common_steps}
+use Rattle.model.specs.Trees.{Trees, Single, ◌+++◌}
+use Rattle.type_terms.specs.Terms.{Has, Keeps, types, consts, type_lists, args_lists, bounds_lists, trees_at}
+use Rattle.type_terms.specs.Kinds.{tys_trees, ArgHeld, ArgOlder, args_trees, arg_trees, kind_trees, region_trees, is_mut, principal_trees, autos_trees}
+use Rattle.type_terms.specs.declared.kinds.GenericArgKind.{GenericArgKind}
+use Rattle.type_terms.specs.declared.kinds.GenericArgKind.TheVariants.{Lifetime, Ty, Const}
+use Rattle.type_terms.specs.declared.kinds.TyKind.TheVariants.{Ref}
+use Rattle.type_terms.specs.declared.TraitId.{TraitId}
+use Rattle.model.specs.Label.{ref, principal}
+use Rattle.term_folds.specs.Binders.{counts_of}
+use Rattle.term_folds.specs.Folds.{Does, IsBound, enters, Folds, nothing, entered, below}
+use Rattle.term_folds.specs.Kept.{trees-is, has-later, trees-later, arg-held-later, arg-trees-later, args-held-later, tys-held-later}
+use Rattle.term_folds.proofs.FoldFacts.{TyIs, says-enters, says-puts, says-again, put-handle, turn-handle, enter-later, folds-append, by-action, two-folds, type-is-one, ok-map}
+use Rattle.term_folds.proofs.Items.{ty-held-at, ty-older-at, tys-held-push, one-more-ty, fuel-of-ty, no-tys, arg-held-at, arg-older-at, args-held-push, one-more-arg, fuel-of-arg}
+use Rattle.term_folds.proofs.KindFacts.{leaf-below}
+use Rattle.term_folds.proofs.MemoFacts.{remembers-later, fold-known}
+use Rattle.term_folds.proofs.FailFacts.{fault-error, memory-error, refused-term}
+use Rattle.term_folds.proofs.walk.+walks.Invariants.{number_of}
+use Rattle.term_folds.proofs.walk.+walks.Goals as goal
+
+pub walk_ty-returns-in_ok-note-in-Enter-clause-folded : goal.walk_ty-returns-in_ok-note-in-Enter-clause-folded
+walk_ty-returns-in_ok-note-in-Enter-clause-folded g t c =
+    let es = c.args.cx.now.entries in
+    let es1 = c.try_fold_ty.new.cx.entries in
+    let bs = counts_of c.args.binders.now in
+    let f = g.F.FallibleTypeFolder.action c.args.folder.now es in
+    let law = g.met.F.FallibleTypeFolder.action_kept c.args.folder.now es es1 c.try_fold_ty.ensures.keeps c.requires.ready in
+    let does = says-enters (TyIs c.try_fold_ty.new.cx.entries) (f bs (trees_at es c.args.ty.0)) (rw (← c.in-Enter.is) c.in_ok-try_fold_ty.ensures.answer) in
+    enter-later (g.F.FallibleTypeFolder.action c.args.folder.now es1) f bs (trees_at es1 c.args.ty.0) (trees_at es c.args.ty.0) c.super_walk_ty.new.cx.entries types _
+    law (trees-later es es1 c.try_fold_ty.ensures.keeps types c.args.ty.0 c.requires.held) does c.in_ok-folded-in-Enter.ensures.folded
+
+pub walk_ty-returns-in_ok-note-in-Enter-clause-known : goal.walk_ty-returns-in_ok-note-in-Enter-clause-known
+walk_ty-returns-in_ok-note-in-Enter-clause-known g t c =
+    let es = c.args.cx.now.entries in
+    let es2 = c.super_walk_ty.new.cx.entries in
+    let keeps : Keeps es es2 = λ j e h. c.super_walk_ty.ensures.keeps j e (c.try_fold_ty.ensures.keeps j e h) in
+    let f = g.F.FallibleTypeFolder.action c.args.folder.now es2 in
+    let law = g.met.F.FallibleTypeFolder.action_kept c.args.folder.now es es2 keeps c.requires.ready in
+    c.in_ok-note-in-Enter.ensures.noted f es2 c.in_ok-folded-in-Enter.ensures.known
+    (fold-known (g.F.FallibleTypeFolder.action c.args.folder.now es) f (counts_of c.args.binders.now) es es2 keeps law (g.met.F.FallibleTypeFolder.by_depth c.args.folder.now es2) c.args.ty.0 c.in_ok-folded-in-Enter.folded.0
+    c.requires.held (walk_ty-returns-in_ok-note-in-Enter-clause-folded g t c))
+
+pub walk_ty-returns-in_err-note-in-Enter-clause-failed : goal.walk_ty-returns-in_err-note-in-Enter-clause-failed
+walk_ty-returns-in_err-note-in-Enter-clause-failed g t c =
+    memory-error _ _ _ _ c.from_residual-in_err-note-in-Enter.result c.from_residual-in_err-note-in-Enter.ensures.1 c.in_err-note-in-Enter.ensures.memory
+
+pub walk_ty-returns-in-Replace-clause-folded : goal.walk_ty-returns-in-Replace-clause-folded
+walk_ty-returns-in-Replace-clause-folded g t c =
+    let es = c.args.cx.now.entries in
+    let bs = counts_of c.args.binders.now in
+    let f = g.F.FallibleTypeFolder.action c.args.folder.now es in
+    let one : Single (trees_at es c.args.ty.0) = type-is-one es c.lawful.ensures c.args.ty.0 c.requires.held in
+    put-handle f bs (trees_at es c.args.ty.0) c.try_fold_ty.new.cx.entries types c.in-Replace.new.0 one
+    (says-puts (TyIs c.try_fold_ty.new.cx.entries) (f bs (trees_at es c.args.ty.0)) c.in-Replace.new (rw (← c.in-Replace.is) c.in_ok-try_fold_ty.ensures.answer))
+
+pub walk_ty-returns-in-Again-clause-folded : goal.walk_ty-returns-in-Again-clause-folded
+walk_ty-returns-in-Again-clause-folded g t c =
+    let es = c.args.cx.now.entries in
+    let es1 = c.try_fold_ty.new.cx.entries in
+    let bs = counts_of c.args.binders.now in
+    let f = g.F.FallibleTypeFolder.action c.args.folder.now es in
+    let one : Single (trees_at es c.args.ty.0) = type-is-one es c.lawful.ensures c.args.ty.0 c.requires.held in
+    let law = g.met.F.FallibleTypeFolder.action_kept c.args.folder.now es es1 c.try_fold_ty.ensures.keeps c.requires.ready in
+    ok-map c.walk_ty.result c.walk_ty.ensures.folded
+    (λ r h. turn-handle (g.F.FallibleTypeFolder.action c.args.folder.now es1) f bs (trees_at es c.args.ty.0) es1 c.walk_ty.new.cx.entries types c.in-Again.next.0 r.0 one law
+    (says-again (TyIs c.try_fold_ty.new.cx.entries) (f bs (trees_at es c.args.ty.0)) c.in-Again.next (rw (← c.in-Again.is) c.in_ok-try_fold_ty.ensures.answer)) h)
+
+-- ---- lists of types
+pub walk_tys-loop-ty-init : goal.walk_tys-loop-ty-init
+walk_tys-loop-ty-init g t c =
+    let same = c.deref-ty-items.ensures.value ∙ c.in_ok-old.ensures.copied in (
+      λ i e h. h,
+      c.requires.ready,
+      rw c.new-new.ensures.items tt,
+      rw c.new-new.ensures.items nothing,
+      rw same c.tys.ensures.held,
+      rw same c.tys.ensures.older,
+      rw same c.tys.ensures.is,
+      rw c.new-new.ensures.items refl,
+      refl,
+      c.requires.known,
+    )
+
+pub walk_tys-walk_ty-requires : goal.walk_tys-walk_ty-requires
+walk_tys-walk_ty-requires g t c κs within =
+    let inv = c.loop-ty.invariant in
+    let xs = c.deref-ty-items.result.now in
+    let es = c.args.cx.now.entries in
+    let now = c.loop-ty.cx.entries in
+    let i = c.loop-ty.ty-index in
+    let lt = ty-older-at c.args.tys.0 xs i (record { 0 = 0 }) inv.5 c.loop-ty-test.true in
+    let old = ty-held-at es xs i (record { 0 = 0 }) inv.4 c.loop-ty-test.true in
+    let fuel = g.F.FallibleTypeFolder.fuel c.args.folder.now es in
+    let part = fuel-of-ty fuel (g.met.F.FallibleTypeFolder.below_left c.args.folder.now es) (g.met.F.FallibleTypeFolder.below_right c.args.folder.now es) es xs i (record { 0 = 0 }) c.loop-ty-test.true in
+    let law = g.met.F.FallibleTypeFolder.fuel_kept c.args.folder.now es now inv.0 c.requires.ready in
+    let same : trees_at now (get_or xs i (record { 0 = 0 })).0 ≡ trees_at es (get_or xs i (record { 0 = 0 })).0 = trees-later es now inv.0 types _ old in
+    let whole : trees_at es c.args.tys.0 ≡ tys_trees es xs = trees-is es type_lists c.args.tys.0 _ inv.6 in
+    let fuel-now : g.F.FallibleTypeFolder.fuel c.args.folder.now now (trees_at now (get_or xs i (record { 0 = 0 })).0) ≤ fuel (trees_at es c.args.tys.0) = rw (law, same, whole) part in
+    (omega (arith, lt, c.decreases, fuel-now), (within.0, (within.1, (inv.1, (inv.9, has-later es now inv.0 types _ old)))))
+
+pub walk_tys-loop-ty-preserved : goal.walk_tys-loop-ty-preserved
+walk_tys-loop-ty-preserved g t c =
+    let inv = c.loop-ty.invariant in
+    let xs = c.deref-ty-items.result.now in
+    let es = c.args.cx.now.entries in
+    let now = c.loop-ty.cx.entries in
+    let next = c.walk_ty.new.cx.entries in
+    let i = c.loop-ty.ty-index in
+    let bs = counts_of c.args.binders.now in
+    let f = g.F.FallibleTypeFolder.action c.args.folder.now es in
+    let keeps : Keeps es next = λ j e h. c.walk_ty.ensures.keeps j e (inv.0 j e h) in
+    let law = g.met.F.FallibleTypeFolder.action_kept c.args.folder.now es now inv.0 c.requires.ready in
+    let old = ty-held-at es xs i (record { 0 = 0 }) inv.4 c.loop-ty-test.true in
+    let y = c.in_ok-folded.folded in
+    let inner = by-action (g.F.FallibleTypeFolder.action c.args.folder.now now) f bs _ _ _ law (trees-later es now inv.0 types _ old) c.in_ok-folded.ensures.folded.folded in (
+      keeps,
+      g.met.F.FallibleTypeFolder.ready_kept c.args.folder.now now next c.walk_ty.ensures.keeps inv.1,
+      rw c.in_ok-append.ensures.appended (tys-held-push next c.loop-ty.new.items y (tys-held-later now next c.walk_ty.ensures.keeps c.loop-ty.new.items inv.2) c.in_ok-folded.ensures.folded.has),
+      rw c.in_ok-append.ensures.appended (one-more-ty f bs es now next c.walk_ty.ensures.keeps xs c.loop-ty.new.items i (record { 0 = 0 }) y c.loop-ty-test.true inv.2 inv.3 inner),
+      inv.4,
+      inv.5,
+      inv.6,
+      rw c.in_ok-append.ensures.appended (grind (arith, common_steps, inv.7)),
+      c.walk_ty.ensures.limit ∙ inv.8,
+      c.in_ok-folded.ensures.known,
+    )
+
+pub walk_tys-returns-clause-whole : goal.walk_tys-returns-clause-whole
+walk_tys-returns-clause-whole g t c =
+    let inv = c.loop-ty.invariant in
+    let xs = c.deref-ty-items.result.now in
+    let ys = c.loop-ty.new.items in
+    let es = c.args.cx.now.entries in
+    let many : length ys ≡ length xs = omega (arith, inv.7, c.loop-ty-test.false, c.loop-ty.auto.ty-index-end) in
+    rw (trees-is c.mk_tys.new.self.entries type_lists _ _ c.in_ok-mk_tys.ensures.is, trees-is es type_lists c.args.tys.0 _ inv.6)
+    (no-tys c.loop-ty.cx.entries c.lawful-2.ensures ys xs inv.2 es c.lawful.ensures inv.4 many)
+
+-- ---- lists of arguments
+number-older : (n : ℕ) (a : GenericArgKind) → ArgOlder n a → number_of a ≤ n
+number-older n (Lifetime r) h = omega arith
+number-older n (Ty t) h = omega arith
+number-older n (Const t) h = omega arith
+
+pub walk_args-loop-arg-init : goal.walk_args-loop-arg-init
+walk_args-loop-arg-init g t c =
+    let same = c.deref-arg-items.ensures.value ∙ c.in_ok-old.ensures.copied in (
+      λ i e h. h,
+      c.requires.ready,
+      rw c.new-new.ensures.items tt,
+      rw c.new-new.ensures.items nothing,
+      rw same c.args-2.ensures.held,
+      rw same c.args-2.ensures.older,
+      rw same c.args-2.ensures.is,
+      refl,
+      c.requires.known,
+    )
+
+pub walk_args-walk_arg-requires : goal.walk_args-walk_arg-requires
+walk_args-walk_arg-requires g t c κs within =
+    let inv = c.loop-arg.invariant in
+    let xs = c.deref-arg-items.result.now in
+    let es = c.args.cx.now.entries in
+    let now = c.loop-arg.cx.entries in
+    let i = c.loop-arg.arg-index in
+    let x = c.arg-item.result in
+    let older : ArgOlder c.args.args.0 x = rw c.arg-item.is (arg-older-at c.args.args.0 xs i x inv.5 c.loop-arg-test.true) in
+    let old : ArgHeld es x = rw c.arg-item.is (arg-held-at es xs i x inv.4 c.loop-arg-test.true) in
+    let lt = number-older c.args.args.0 x older in
+    let fuel = g.F.FallibleTypeFolder.fuel c.args.folder.now es in
+    let part : fuel (arg_trees es x) ≤ fuel (args_trees es xs) = rw c.arg-item.is (fuel-of-arg fuel (g.met.F.FallibleTypeFolder.below_left c.args.folder.now es) (g.met.F.FallibleTypeFolder.below_right c.args.folder.now es) es xs i x c.loop-arg-test.true) in
+    let law = g.met.F.FallibleTypeFolder.fuel_kept c.args.folder.now es now inv.0 c.requires.ready in
+    let same : arg_trees now x ≡ arg_trees es x = arg-trees-later es now inv.0 x old in
+    let whole : trees_at es c.args.args.0 ≡ args_trees es xs = trees-is es args_lists c.args.args.0 _ inv.6 in
+    let fuel-now : g.F.FallibleTypeFolder.fuel c.args.folder.now now (arg_trees now x) ≤ fuel (trees_at es c.args.args.0) = rw (law, same, whole) part in
+    (omega (arith, lt, c.decreases, fuel-now), (within.0, (within.1, (inv.1, (inv.8, arg-held-later es now inv.0 x old)))))
+
+pub walk_args-loop-arg-preserved : goal.walk_args-loop-arg-preserved
+walk_args-loop-arg-preserved g t c =
+    let inv = c.loop-arg.invariant in
+    let xs = c.deref-arg-items.result.now in
+    let es = c.args.cx.now.entries in
+    let now = c.loop-arg.cx.entries in
+    let next = c.walk_arg.new.cx.entries in
+    let i = c.loop-arg.arg-index in
+    let x = c.arg-item.result in
+    let bs = counts_of c.args.binders.now in
+    let f = g.F.FallibleTypeFolder.action c.args.folder.now es in
+    let keeps : Keeps es next = λ j e h. c.walk_arg.ensures.keeps j e (inv.0 j e h) in
+    let law = g.met.F.FallibleTypeFolder.action_kept c.args.folder.now es now inv.0 c.requires.ready in
+    let old : ArgHeld es x = rw c.arg-item.is (arg-held-at es xs i x inv.4 c.loop-arg-test.true) in
+    let y = c.in_ok-folded.folded in
+    let inner = by-action (g.F.FallibleTypeFolder.action c.args.folder.now now) f bs _ _ _ law (arg-trees-later es now inv.0 x old) c.in_ok-folded.ensures.folded in
+    let inner-at = subst (λ z. Folds f bs (arg_trees es z) (arg_trees next y)) c.arg-item.is inner in (
+      keeps,
+      g.met.F.FallibleTypeFolder.ready_kept c.args.folder.now now next c.walk_arg.ensures.keeps inv.1,
+      rw c.in_ok-append.ensures.appended (args-held-push next c.loop-arg.new.items y (args-held-later now next c.walk_arg.ensures.keeps c.loop-arg.new.items inv.2) c.in_ok-folded.ensures.held),
+      rw c.in_ok-append.ensures.appended (one-more-arg f bs es now next c.walk_arg.ensures.keeps xs c.loop-arg.new.items i x y c.loop-arg-test.true inv.2 inv.3 inner-at),
+      inv.4,
+      inv.5,
+      inv.6,
+      c.walk_arg.ensures.limit ∙ inv.7,
+      c.in_ok-folded.ensures.known,
+    )
+
+-- ---- kinds
+pub walk_kind-walk_ty-requires : goal.walk_kind-walk_ty-requires
+walk_kind-walk_ty-requires g t c κs within =
+    let es = c.args.cx.now.entries in
+    let fuel = g.F.FallibleTypeFolder.fuel c.args.folder.now es in
+    let held = rw c.in-Ref.is at c.requires.held in
+    let older : c.in-Ref.to.0 < c.args.ty.0 = rw c.in-Ref.is at c.requires.older in
+    let here : trees_at es c.args.ty.0 ≡ kind_trees es (Ref c.in-Ref.region c.in-Ref.to c.in-Ref.mutability) = trees-is es types c.args.ty.0 _ c.requires.is ∙ ap (kind_trees es) c.in-Ref.is in
+    let part = g.met.F.FallibleTypeFolder.below_right c.args.folder.now es (region_trees c.in-Ref.region) (trees_at es c.in-Ref.to.0) in
+    let node = g.met.F.FallibleTypeFolder.below_node c.args.folder.now es (ref (is_mut c.in-Ref.mutability)) (region_trees c.in-Ref.region +++ trees_at es c.in-Ref.to.0) in
+    let less : fuel (trees_at es c.in-Ref.to.0) ≤ fuel (trees_at es c.args.ty.0) = rw here (omega (arith, part, node)) in
+    (omega (arith, older, c.decreases, less), (within.0, (within.1, (c.requires.ready, (c.requires.known, held.1)))))
+
+pub walk_kind-returns-in_ok-walk_args-in-Adt-clause-folded : goal.walk_kind-returns-in_ok-walk_args-in-Adt-clause-folded
+walk_kind-returns-in_ok-walk_args-in-Adt-clause-folded g t c = rw c.in-Adt.is (below c.in_ok-walk_args-in-Adt.ensures.folded.folded)
+
+pub walk_kind-returns-in_ok-walk_ty-in-Ref-clause-folded : goal.walk_kind-returns-in_ok-walk_ty-in-Ref-clause-folded
+walk_kind-returns-in_ok-walk_ty-in-Ref-clause-folded g t c =
+    rw c.in-Ref.is (below (folds-append c.in_ok-region-in-Ref.ensures.folded c.in_ok-walk_ty-in-Ref.ensures.folded.folded))
+
+pub walk_kind-returns-in_ok-walk_ty-in-RawPtr-clause-folded : goal.walk_kind-returns-in_ok-walk_ty-in-RawPtr-clause-folded
+walk_kind-returns-in_ok-walk_ty-in-RawPtr-clause-folded g t c = rw c.in-RawPtr.is (below c.in_ok-walk_ty-in-RawPtr.ensures.folded.folded)
+
+pub walk_kind-returns-in_ok-fold_const-in-Array-clause-held : goal.walk_kind-returns-in_ok-fold_const-in-Array-clause-held
+walk_kind-returns-in_ok-fold_const-in-Array-clause-held g t c =
+    (has-later c.walk_ty-in-Array.new.cx.entries c.fold_const.new.cx.entries c.fold_const.ensures.keeps types _ c.in_ok-item-in-Array.ensures.folded.has, c.in_ok-fold_const-in-Array.ensures.folded.has)
+
+pub walk_kind-returns-in_ok-fold_const-in-Array-clause-folded : goal.walk_kind-returns-in_ok-fold_const-in-Array-clause-folded
+walk_kind-returns-in_ok-fold_const-in-Array-clause-folded g t c =
+    let es = c.args.cx.now.entries in
+    let es1 = c.walk_ty-in-Array.new.cx.entries in
+    let bs = counts_of c.args.binders.now in
+    let held = rw c.in-Array.is at c.requires.held in
+    let law = g.met.F.FallibleTypeFolder.action_kept c.args.folder.now es es1 c.walk_ty-in-Array.ensures.keeps c.requires.ready in
+    rw c.in-Array.is
+    (below (two-folds (g.F.FallibleTypeFolder.action c.args.folder.now es1) (g.F.FallibleTypeFolder.action c.args.folder.now es) bs es es1 c.fold_const.new.cx.entries types _ _ consts _ _
+    law c.walk_ty-in-Array.ensures.keeps c.fold_const.ensures.keeps c.in_ok-item-in-Array.ensures.folded held.1 c.in_ok-fold_const-in-Array.ensures.folded))
+
+pub walk_kind-returns-in_ok-walk_ty-in-Slice-clause-folded : goal.walk_kind-returns-in_ok-walk_ty-in-Slice-clause-folded
+walk_kind-returns-in_ok-walk_ty-in-Slice-clause-folded g t c = rw c.in-Slice.is (below c.in_ok-walk_ty-in-Slice.ensures.folded.folded)
+
+pub walk_kind-returns-in_ok-walk_tys-in-Tuple-clause-folded : goal.walk_kind-returns-in_ok-walk_tys-in-Tuple-clause-folded
+walk_kind-returns-in_ok-walk_tys-in-Tuple-clause-folded g t c = rw c.in-Tuple.is (below c.in_ok-walk_tys-in-Tuple.ensures.folded.folded)
+
+pub walk_kind-returns-in_ok-walk_tys-in-FnPtr-clause-folded : goal.walk_kind-returns-in_ok-walk_tys-in-FnPtr-clause-folded
+walk_kind-returns-in_ok-walk_tys-in-FnPtr-clause-folded g t c = rw c.in-FnPtr.is (below c.in_ok-walk_tys-in-FnPtr.ensures.folded.folded)
+
+pub walk_kind-returns-in_ok-walk_bounds-in-Dynamic-clause-folded : goal.walk_kind-returns-in_ok-walk_bounds-in-Dynamic-clause-folded
+walk_kind-returns-in_ok-walk_bounds-in-Dynamic-clause-folded g t c =
+    rw c.in-Dynamic.is (below (folds-append c.in_ok-walk_bounds-in-Dynamic.ensures.folded.folded c.in_ok-region-in-Dynamic.ensures.folded))
+
+pub walk_kind-returns-in_default-clause-folded : goal.walk_kind-returns-in_default-clause-folded
+walk_kind-returns-in_default-clause-folded g t c =
+    leaf-below (g.F.FallibleTypeFolder.action c.args.folder.now c.args.cx.now.entries) (counts_of c.args.binders.now) c.args.cx.now.entries c.args.kind
+    c.in_default.not-Adt c.in_default.not-Ref c.in_default.not-RawPtr c.in_default.not-Array c.in_default.not-Slice c.in_default.not-Tuple c.in_default.not-FnPtr c.in_default.not-Dynamic
+
+-- ---- bounds
+autos-stay : (f : List ℕ → Trees → Does) (bs : List ℕ) → ((t : Trees) → IsBound t → f bs t ≡ enters) → (xs : List TraitId) → Folds f bs (autos_trees xs) (autos_trees xs)
+autos-stay f bs law [] = nothing
+autos-stay f bs law (x ∷ xs) = entered (law _ tt) nothing (autos-stay f bs law xs)
+
+pub walk_principal-walk_args-requires : goal.walk_principal-walk_args-requires
+walk_principal-walk_args-requires g t c κs within =
+    let es = c.args.cx.now.entries in
+    let p = c.in-Some.principal in
+    let fuel = g.F.FallibleTypeFolder.fuel c.args.folder.now es in
+    let older : p.args.0 < c.args.bounds.0 = rw c.in-Some.is at c.requires.older in
+    let held : Has es args_lists p.args.0 = rw c.in-Some.is at c.requires.held in
+    let here : trees_at es c.args.bounds.0 ≡ principal_trees es (Some p) +++ c.requires.part.0 = c.requires.part.1 ∙ ap (λ q. principal_trees es q +++ c.requires.part.0) c.in-Some.is in
+    let node = g.met.F.FallibleTypeFolder.below_node c.args.folder.now es (principal p.bound_vars p.def_id.index) (trees_at es p.args.0) in
+    let part = g.met.F.FallibleTypeFolder.below_left c.args.folder.now es (principal_trees es (Some p)) c.requires.part.0 in
+    let less : fuel (trees_at es p.args.0) ≤ fuel (trees_at es c.args.bounds.0) = rw here (omega (arith, part, node)) in
+    (omega (arith, older, c.decreases, less), (within.0, (within.1, (c.requires.ready, (c.requires.known, held)))))
+
+pub walk_principal-returns-in_ok-args-in-Some-clause-folded : goal.walk_principal-returns-in_ok-args-in-Some-clause-folded
+walk_principal-returns-in_ok-args-in-Some-clause-folded g t c =
+    let es = c.args.cx.now.entries in
+    let bs = counts_of c.args.binders.now in
+    rw c.in-Some.is (entered (g.met.F.FallibleTypeFolder.enters_bounds c.args.folder.now es bs _ tt) c.in_ok-args-in-Some.ensures.folded.folded nothing)
+
+pub walk_principal-returns-in-None-clause-folded : goal.walk_principal-returns-in-None-clause-folded
+walk_principal-returns-in-None-clause-folded g t c = rw c.in-None.is nothing
+
+pub walk_bounds-walk_principal-requires : goal.walk_bounds-walk_principal-requires
+walk_bounds-walk_principal-requires g t c κs within =
+    let es = c.args.cx.now.entries in (
+      omega (arith, c.decreases),
+      (
+        within.0,
+        (
+          within.1,
+          (
+            c.requires.ready,
+            (
+              c.requires.known,
+              (
+                c.bounds-data.ensures.held.0,
+                (
+                  c.bounds-data.ensures.older,
+                  (autos_trees c.bounds-data.result.now.autos.items, trees-is es bounds_lists c.args.bounds.0 _ c.bounds-data.ensures.is),
+                ),
+              ),
+            ),
+          ),
+        ),
+      ),
+    )
+
+pub walk_bounds-returns-clause-folded : goal.walk_bounds-returns-clause-folded
+walk_bounds-returns-clause-folded g t c =
+    let es = c.args.cx.now.entries in
+    let es1 = c.walk_principal.new.cx.entries in
+    let bs = counts_of c.args.binders.now in
+    let f = g.F.FallibleTypeFolder.action c.args.folder.now es in
+    let old = c.bounds-data.result.now in
+    let same : c.in_ok-autos.autos.items ≡ old.autos.items = c.in_ok-autos.ensures.copied ∙ c.deref.ensures.value in
+    let before : trees_at es c.args.bounds.0 ≡ principal_trees es old.principal +++ autos_trees old.autos.items = trees-is es bounds_lists c.args.bounds.0 _ c.bounds-data.ensures.is in
+    let after : trees_at c.mk_bounds.new.self.entries c.in_ok-mk_bounds.field-0.0 ≡ principal_trees es1 c.in_ok-principal.principal +++ autos_trees c.in_ok-autos.autos.items =
+    trees-is c.mk_bounds.new.self.entries bounds_lists _ _ c.in_ok-mk_bounds.ensures.is in
+    record {
+      has = (_, c.in_ok-mk_bounds.ensures.is);
+      folded = rw (before, after, same) (folds-append c.in_ok-principal.ensures.folded (autos-stay f bs (g.met.F.FallibleTypeFolder.enters_bounds c.args.folder.now es bs) old.autos.items));
+    }
+
+-- ---- errors
+pub super_walk_ty-returns-in_err-mk_ty-clause-failed : goal.super_walk_ty-returns-in_err-mk_ty-clause-failed
+super_walk_ty-returns-in_err-mk_ty-clause-failed g t c =
+    fault-error _ _ c.from_residual-in_err-mk_ty.result c.from_residual-in_err-mk_ty.ensures.1
+    (λ q. refused-term types (omega arith) (c.in_err-mk_ty.ensures.full (ap Err q)) c.mk_ty.ensures.limit c.in_err-mk_ty.ensures.refused)
+
+pub walk_tys-returns-in_err-old-clause-failed : goal.walk_tys-returns-in_err-old-clause-failed
+walk_tys-returns-in_err-old-clause-failed g t c =
+    memory-error _ _ _ _ c.from_residual.result c.from_residual.ensures.1 c.in_err-old.ensures.memory
+
+pub walk_tys-returns-in_err-append-clause-failed : goal.walk_tys-returns-in_err-append-clause-failed
+walk_tys-returns-in_err-append-clause-failed g t c =
+    memory-error _ _ _ _ c.from_residual-in_err-append.result c.from_residual-in_err-append.ensures.1 c.in_err-append.ensures.memory
+
+pub walk_tys-returns-in_err-mk_tys-clause-failed : goal.walk_tys-returns-in_err-mk_tys-clause-failed
+walk_tys-returns-in_err-mk_tys-clause-failed g t c =
+    fault-error _ _ c.from_residual-in_err-mk_tys.result c.from_residual-in_err-mk_tys.ensures.1
+    (λ q. refused-term type_lists (omega arith) (c.in_err-mk_tys.ensures.full (ap Err q)) c.mk_tys.ensures.limit c.in_err-mk_tys.ensures.refused)
+
+pub walk_args-returns-in_err-old-clause-failed : goal.walk_args-returns-in_err-old-clause-failed
+walk_args-returns-in_err-old-clause-failed g t c =
+    memory-error _ _ _ _ c.from_residual.result c.from_residual.ensures.1 c.in_err-old.ensures.memory
+
+pub walk_args-returns-in_err-append-clause-failed : goal.walk_args-returns-in_err-append-clause-failed
+walk_args-returns-in_err-append-clause-failed g t c =
+    memory-error _ _ _ _ c.from_residual-in_err-append.result c.from_residual-in_err-append.ensures.1 c.in_err-append.ensures.memory
+
+pub walk_args-returns-in_err-mk_args-clause-failed : goal.walk_args-returns-in_err-mk_args-clause-failed
+walk_args-returns-in_err-mk_args-clause-failed g t c =
+    fault-error _ _ c.from_residual-in_err-mk_args.result c.from_residual-in_err-mk_args.ensures.1
+    (λ q. refused-term args_lists (omega arith) (c.in_err-mk_args.ensures.full (ap Err q)) c.mk_args.ensures.limit c.in_err-mk_args.ensures.refused)
+
+pub walk_bounds-returns-in_err-autos-clause-failed : goal.walk_bounds-returns-in_err-autos-clause-failed
+walk_bounds-returns-in_err-autos-clause-failed g t c =
+    memory-error _ _ _ _ c.from_residual.result c.from_residual.ensures.1 c.in_err-autos.ensures.memory
+
+pub walk_bounds-returns-in_err-mk_bounds-clause-failed : goal.walk_bounds-returns-in_err-mk_bounds-clause-failed
+walk_bounds-returns-in_err-mk_bounds-clause-failed g t c =
+    fault-error _ _ c.from_residual-in_err-mk_bounds.result c.from_residual-in_err-mk_bounds.ensures.1
+    (λ q. refused-term bounds_lists (omega arith) (c.in_err-mk_bounds.ensures.full (ap Err q)) c.mk_bounds.ensures.limit c.in_err-mk_bounds.ensures.refused)
+
+-- ---- what is known
+pub walk_tys-returns-clause-known : goal.walk_tys-returns-clause-known
+walk_tys-returns-clause-known g t c =
+    let inv = c.loop-ty.invariant in
+    let now = c.loop-ty.cx.entries in
+    let next = c.mk_tys.new.self.entries in
+    let law = g.met.F.FallibleTypeFolder.action_kept c.args.folder.now now next c.mk_tys.ensures.keeps inv.1 in
+    remembers-later _ (g.F.FallibleTypeFolder.action c.args.folder.now next) now next c.loop-ty.memo c.mk_tys.ensures.keeps law inv.9
+
+pub walk_args-returns-clause-known : goal.walk_args-returns-clause-known
+walk_args-returns-clause-known g t c =
+    let inv = c.loop-arg.invariant in
+    let now = c.loop-arg.cx.entries in
+    let next = c.mk_args.new.self.entries in
+    let law = g.met.F.FallibleTypeFolder.action_kept c.args.folder.now now next c.mk_args.ensures.keeps inv.1 in
+    remembers-later _ (g.F.FallibleTypeFolder.action c.args.folder.now next) now next c.loop-arg.memo c.mk_args.ensures.keeps law inv.8

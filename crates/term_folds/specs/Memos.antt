@@ -1,0 +1,25 @@
+-- What a walk has found so far.
+use Rattle.std.specs.Prelude.{◌≡◌, ℕ, ◌&&◌, Bool, nat_eq, List, length, IfSome}
+use Rattle.std.specs.HashMap.{get}
+use Rattle.model.specs.Trees.{Trees}
+use Rattle.type_terms.specs.Terms.{Entry, Has, types, trees_at}
+use Rattle.term_folds.specs.declared.memo.Place.{Place}
+use Rattle.term_folds.specs.declared.memo.Memo.{Memo}
+use Rattle.term_folds.specs.Folds.{Does, Folds}
+
+-- what a folder does at a node, under the binders around it
+abbrev pub Action : Type 0
+Action = List ℕ → Trees → Does
+
+-- the type j is the fold of the type i under so many binders, whatever they bind
+pub record IsKnown (f : Action) (es : List Entry) (i depth j : ℕ) : Type 0 where
+  pub of : Has es types i
+  pub has : Has es types j
+  pub folded : (bs : List ℕ) → length bs ≡ depth → Folds f bs (trees_at es i) (trees_at es j)
+
+abbrev pub place_eq : Place → Place → Bool
+place_eq p q = nat_eq p.ty q.ty && nat_eq p.depth q.depth
+
+-- what is kept is the fold
+abbrev pub Remembers : Action → List Entry → Memo → Type 0
+Remembers f es m = (p : Place) → IfSome (get place_eq m.found p) (λ t. IsKnown f es p.ty p.depth t.0)

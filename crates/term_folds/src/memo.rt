@@ -1,0 +1,73 @@
+//! What the walk of a fold has found so far.
+//!
+//! What a folder does depends on the number of binders around a node (`by_depth` of the traits of folders), so the fold of a
+//! type is kept by handle and by that number. In each walk the folder is the same, and what is kept stays true while the
+//! interner grows.
+ghost use Rattle.std.specs.Prelude.{◌≡◌, ℕ, List, length, IfSome, IfErr, OnOk};
+ghost use Rattle.type_terms.specs.Terms.{Entry};
+ghost use Rattle.term_folds.specs.Binders.{counts_of};
+ghost use Rattle.term_folds.specs.Memos.{Action, IsKnown, Remembers};
+
+use crate::binders::Binders;
+use std::alloc::Global;
+use std::collections::HashMap;
+use type_terms::kinds::Ty;
+use type_terms::{Fault, MAX_INDEX};
+
+/// So many types are entered before a walk begins to keep what it finds, so that a small term costs no table.
+pub(crate) const BEFORE: u32 = 32;
+
+/// A type under so many binders.
+#[derive(Clone, Copy, PartialEq, Eq, Hash)]
+pub(crate) struct Place {
+    pub ty: u32,
+    pub depth: u32,
+}
+
+/// The folds of types, each under so many binders, that a walk has made.
+#[derive(Drop)]
+pub(crate) struct Memo {
+    pub steps: u32,
+    pub found: HashMap<Place, Ty>,
+}
+
+impl Memo {
+    /// Nothing is known, and no memory is taken.
+    pub fn new(alloc: Global) -> Memo
+        ensures { (f : Action) (es : List Entry) → Remembers f es result }
+    {
+        Memo {
+            steps: 0,
+            found: HashMap::new(alloc),
+        }
+    }
+
+    /// The fold of a type under these binders, if it is known.
+    pub fn known(&mut self, ty: Ty, binders: &Binders) -> Option<Ty>
+        ensures found { (f : Action) (es : List Entry) → Remembers f es self.old → IfSome result (λ t. IsKnown f es ty.0 (length (counts_of binders.now)) t.0) }
+        ensures same { self.new.found ≡ self.old.found }
+    {
+        if self.steps < BEFORE {
+            self.steps += 1;
+            return None;
+        }
+        let depth = binders.depth().index;
+        if depth == MAX_INDEX {
+            return None;
+        }
+        self.found.get(&Place { ty: ty.0, depth }).copied()
+    }
+
+    /// Keeps the fold of a type under these binders.
+    pub fn note(&mut self, ty: Ty, binders: &Binders, folded: Ty) -> Result<(), Fault>
+        ensures noted { (f : Action) (es : List Entry) → Remembers f es self.old → IsKnown f es ty.0 (length (counts_of binders.now)) folded.0 → OnOk result (Remembers f es self.new) }
+        ensures memory { IfErr result (λ e. e ≡ Fault.Memory) }
+    {
+        let depth = binders.depth().index;
+        if self.steps < BEFORE || depth == MAX_INDEX {
+            return Ok(());
+        }
+        self.found.insert(Place { ty: ty.0, depth }, folded)?;
+        Ok(())
+    }
+}

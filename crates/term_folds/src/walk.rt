@@ -1,0 +1,310 @@
+//! The walk of a fold, which keeps what it has found.
+ghost use Rattle.std.specs.Prelude.{◌≡◌, ℕ, ◌++◌, ◌∷◌, [], IfOk, IfErr};
+ghost use Rattle.model.specs.Trees.{Trees, ◌+++◌, is_no_tree};
+ghost use Rattle.type_terms.specs.Terms.{Entry, Is, Has, Keeps, types, consts, args_lists, type_lists, bounds_lists, trees_at};
+ghost use Rattle.type_terms.specs.Kinds.{region_trees, kind_trees, KindHeld, KindOlder, RegionHeld, ArgHeld, arg_trees, PrincipalHeld, PrincipalOlder, principal_trees};
+ghost use Rattle.term_folds.specs.Binders.{counts_of};
+ghost use Rattle.term_folds.specs.Failures.{FailsBy};
+ghost use Rattle.term_folds.specs.Folds.{Folds, FoldsBelow, IsFold, IsFoldBelow};
+ghost use Rattle.term_folds.specs.Memos.{Remembers};
+
+use crate::binders::Binders;
+use crate::fold::{Answer, FallibleTypeFolder, fold_const, fold_region};
+use crate::memo::Memo;
+use std::alloc::Global;
+use type_terms::Fault;
+use type_terms::interner::Interner;
+use type_terms::kinds::{
+    Bounds, BoundsData, Const, GenericArgKind, GenericArgs, Principal, Ty, TyKind, Tys,
+};
+use type_terms::region::Region;
+
+/// The type that a folder makes of this one.
+#[cycle(walks)]
+pub(crate) fn walk_ty<F: FallibleTypeFolder>(
+    alloc: Global,
+    cx: &mut Interner,
+    folder: &F,
+    ty: Ty,
+    binders: &Binders,
+    memo: &mut Memo,
+) -> Result<Ty, F::Error>
+    requires ready { F.ready folder.now cx.old.entries }
+    requires known { Remembers (F.action folder.now cx.old.entries) cx.old.entries memo.old }
+    requires held { Has cx.old.entries types ty.0 }
+    ensures keeps { Keeps cx.old.entries cx.new.entries }
+    ensures limit { cx.new.limit ≡ cx.old.limit }
+    ensures folded { IfOk result (λ r. IsFold (F.action folder.now cx.old.entries) (counts_of binders.now) (trees_at cx.old.entries ty.0) cx.new.entries types r.0) }
+    ensures known { IfOk result (λ _. Remembers (F.action folder.now cx.new.entries) cx.new.entries memo.new) }
+    ensures failed { IfErr result (λ e. FailsBy (F.fails folder.now) F.Error.from_gives cx.new.entries cx.new.limit e) }
+{
+    cx.lawful();
+    match folder.try_fold_ty(cx, ty, binders)? {
+        Answer::Enter => {
+            if let Some(known) = memo.known(ty, binders) {
+                return Ok(known);
+            }
+            let folded = super_walk_ty(alloc, cx, folder, ty, binders, memo)?;
+            memo.note(ty, binders, folded)?;
+            Ok(folded)
+        }
+        Answer::Replace(new) => Ok(new),
+        Answer::Again(next) => walk_ty(alloc, cx, folder, next, binders, memo),
+    }
+}
+
+/// The type over the folds of its children; the folder is not asked at the type itself.
+#[cycle(walks)]
+pub(crate) fn super_walk_ty<F: FallibleTypeFolder>(
+    alloc: Global,
+    cx: &mut Interner,
+    folder: &F,
+    ty: Ty,
+    binders: &Binders,
+    memo: &mut Memo,
+) -> Result<Ty, F::Error>
+    requires ready { F.ready folder.now cx.old.entries }
+    requires known { Remembers (F.action folder.now cx.old.entries) cx.old.entries memo.old }
+    requires held { Has cx.old.entries types ty.0 }
+    ensures keeps { Keeps cx.old.entries cx.new.entries }
+    ensures limit { cx.new.limit ≡ cx.old.limit }
+    ensures folded { IfOk result (λ r. IsFoldBelow (F.action folder.now cx.old.entries) (counts_of binders.now) (trees_at cx.old.entries ty.0) cx.new.entries types r.0) }
+    ensures known { IfOk result (λ _. Remembers (F.action folder.now cx.new.entries) cx.new.entries memo.new) }
+    ensures failed { IfErr result (λ e. FailsBy (F.fails folder.now) F.Error.from_gives cx.new.entries cx.new.limit e) }
+{
+    let kind = cx.kind(ty);
+    let folded = walk_kind(alloc, cx, folder, ty, kind, binders, memo)?;
+    Ok(cx.mk_ty(folded)?)
+}
+
+/// The kind of a type, over the folds of its children.
+#[cycle(walks)]
+fn walk_kind<F: FallibleTypeFolder>(
+    alloc: Global,
+    cx: &mut Interner,
+    folder: &F,
+    ty: Ty,
+    kind: TyKind,
+    binders: &Binders,
+    memo: &mut Memo,
+) -> Result<TyKind, F::Error>
+    requires ready { F.ready folder.now cx.old.entries }
+    requires known { Remembers (F.action folder.now cx.old.entries) cx.old.entries memo.old }
+    requires is { Is cx.old.entries types ty.0 (kind_trees cx.old.entries kind) }
+    requires held { KindHeld cx.old.entries kind }
+    requires older { KindOlder ty.0 kind }
+    ensures keeps { Keeps cx.old.entries cx.new.entries }
+    ensures limit { cx.new.limit ≡ cx.old.limit }
+    ensures held { IfOk result (λ k. KindHeld cx.new.entries k) }
+    ensures folded { IfOk result (λ k. FoldsBelow (F.action folder.now cx.old.entries) (counts_of binders.now) (kind_trees cx.old.entries kind) (kind_trees cx.new.entries k)) }
+    ensures known { IfOk result (λ _. Remembers (F.action folder.now cx.new.entries) cx.new.entries memo.new) }
+    ensures failed { IfErr result (λ e. FailsBy (F.fails folder.now) F.Error.from_gives cx.new.entries cx.new.limit e) }
+{
+    match kind {
+        TyKind::Adt(adt, args) => {
+            Ok(TyKind::Adt(adt, walk_args(alloc, cx, folder, args, binders, memo)?))
+        }
+        TyKind::Ref(region, to, mutability) => {
+            let region = fold_region(cx, folder, region, binders)?;
+            Ok(TyKind::Ref(
+                region,
+                walk_ty(alloc, cx, folder, to, binders, memo)?,
+                mutability,
+            ))
+        }
+        TyKind::RawPtr(to, mutability) => {
+            Ok(TyKind::RawPtr(walk_ty(alloc, cx, folder, to, binders, memo)?, mutability))
+        }
+        TyKind::Array(item, length) => {
+            let item = walk_ty(alloc, cx, folder, item, binders, memo)?;
+            Ok(TyKind::Array(item, fold_const(cx, folder, length, binders)?))
+        }
+        TyKind::Slice(item) => Ok(TyKind::Slice(walk_ty(alloc, cx, folder, item, binders, memo)?)),
+        TyKind::Tuple(items) => Ok(TyKind::Tuple(walk_tys(
+            alloc, cx, folder, items, binders, memo,
+        )?)),
+        TyKind::FnPtr(count, tys) => {
+            let inside = Binders::Inside(count, &*binders);
+            Ok(TyKind::FnPtr(count, walk_tys(alloc, cx, folder, tys, &inside, memo)?))
+        }
+        TyKind::Dynamic(bounds, region) => {
+            let region = fold_region(cx, folder, region, binders)?;
+            Ok(TyKind::Dynamic(
+                walk_bounds(alloc, cx, folder, bounds, binders, memo)?,
+                region,
+            ))
+        }
+        _ => Ok(kind),
+    }
+}
+
+/// The list of the folds of these types.
+#[cycle(walks)]
+pub(crate) fn walk_tys<F: FallibleTypeFolder>(
+    alloc: Global,
+    cx: &mut Interner,
+    folder: &F,
+    tys: Tys,
+    binders: &Binders,
+    memo: &mut Memo,
+) -> Result<Tys, F::Error>
+    requires ready { F.ready folder.now cx.old.entries }
+    requires known { Remembers (F.action folder.now cx.old.entries) cx.old.entries memo.old }
+    requires held { Has cx.old.entries type_lists tys.0 }
+    ensures keeps { Keeps cx.old.entries cx.new.entries }
+    ensures limit { cx.new.limit ≡ cx.old.limit }
+    ensures folded { IfOk result (λ r. IsFold (F.action folder.now cx.old.entries) (counts_of binders.now) (trees_at cx.old.entries tys.0) cx.new.entries type_lists r.0) }
+    ensures whole { IfOk result (λ r. is_no_tree (trees_at cx.new.entries r.0) ≡ is_no_tree (trees_at cx.old.entries tys.0)) }
+    ensures known { IfOk result (λ _. Remembers (F.action folder.now cx.new.entries) cx.new.entries memo.new) }
+    ensures failed { IfErr result (λ e. FailsBy (F.fails folder.now) F.Error.from_gives cx.new.entries cx.new.limit e) }
+{
+    cx.lawful();
+    let old = copied(alloc, cx.tys(tys))?;
+    let mut new = Vec::new(alloc);
+    for ty in &old {
+        let folded = walk_ty(alloc, cx, folder, *ty, binders, memo)?;
+        append(&mut new, folded)?;
+    }
+    cx.lawful();
+    Ok(cx.mk_tys(new)?)
+}
+
+/// The list of the folds of these arguments.
+#[cycle(walks)]
+pub(crate) fn walk_args<F: FallibleTypeFolder>(
+    alloc: Global,
+    cx: &mut Interner,
+    folder: &F,
+    args: GenericArgs,
+    binders: &Binders,
+    memo: &mut Memo,
+) -> Result<GenericArgs, F::Error>
+    requires ready { F.ready folder.now cx.old.entries }
+    requires known { Remembers (F.action folder.now cx.old.entries) cx.old.entries memo.old }
+    requires held { Has cx.old.entries args_lists args.0 }
+    ensures keeps { Keeps cx.old.entries cx.new.entries }
+    ensures limit { cx.new.limit ≡ cx.old.limit }
+    ensures folded { IfOk result (λ r. IsFold (F.action folder.now cx.old.entries) (counts_of binders.now) (trees_at cx.old.entries args.0) cx.new.entries args_lists r.0) }
+    ensures known { IfOk result (λ _. Remembers (F.action folder.now cx.new.entries) cx.new.entries memo.new) }
+    ensures failed { IfErr result (λ e. FailsBy (F.fails folder.now) F.Error.from_gives cx.new.entries cx.new.limit e) }
+{
+    let old = copied(alloc, cx.args(args))?;
+    let mut new = Vec::new(alloc);
+    for arg in &old {
+        let folded = walk_arg(alloc, cx, folder, *arg, binders, memo)?;
+        append(&mut new, folded)?;
+    }
+    Ok(cx.mk_args(new)?)
+}
+
+/// The fold of an argument.
+#[cycle(walks)]
+pub(crate) fn walk_arg<F: FallibleTypeFolder>(
+    alloc: Global,
+    cx: &mut Interner,
+    folder: &F,
+    arg: GenericArgKind,
+    binders: &Binders,
+    memo: &mut Memo,
+) -> Result<GenericArgKind, F::Error>
+    requires ready { F.ready folder.now cx.old.entries }
+    requires known { Remembers (F.action folder.now cx.old.entries) cx.old.entries memo.old }
+    requires held { ArgHeld cx.old.entries arg }
+    ensures keeps { Keeps cx.old.entries cx.new.entries }
+    ensures limit { cx.new.limit ≡ cx.old.limit }
+    ensures held { IfOk result (λ a. ArgHeld cx.new.entries a) }
+    ensures folded { IfOk result (λ a. Folds (F.action folder.now cx.old.entries) (counts_of binders.now) (arg_trees cx.old.entries arg) (arg_trees cx.new.entries a)) }
+    ensures known { IfOk result (λ _. Remembers (F.action folder.now cx.new.entries) cx.new.entries memo.new) }
+    ensures failed { IfErr result (λ e. FailsBy (F.fails folder.now) F.Error.from_gives cx.new.entries cx.new.limit e) }
+{
+    match arg {
+        GenericArgKind::Lifetime(region) => {
+            Ok(GenericArgKind::Lifetime(fold_region(cx, folder, region, binders)?))
+        }
+        GenericArgKind::Ty(ty) => Ok(GenericArgKind::Ty(walk_ty(
+            alloc, cx, folder, ty, binders, memo,
+        )?)),
+        GenericArgKind::Const(ct) => {
+            Ok(GenericArgKind::Const(fold_const(cx, folder, ct, binders)?))
+        }
+    }
+}
+
+/// The bounds with the folds of the principal's arguments.
+#[cycle(walks)]
+pub(crate) fn walk_bounds<F: FallibleTypeFolder>(
+    alloc: Global,
+    cx: &mut Interner,
+    folder: &F,
+    bounds: Bounds,
+    binders: &Binders,
+    memo: &mut Memo,
+) -> Result<Bounds, F::Error>
+    requires ready { F.ready folder.now cx.old.entries }
+    requires known { Remembers (F.action folder.now cx.old.entries) cx.old.entries memo.old }
+    requires held { Has cx.old.entries bounds_lists bounds.0 }
+    ensures keeps { Keeps cx.old.entries cx.new.entries }
+    ensures limit { cx.new.limit ≡ cx.old.limit }
+    ensures folded { IfOk result (λ r. IsFold (F.action folder.now cx.old.entries) (counts_of binders.now) (trees_at cx.old.entries bounds.0) cx.new.entries bounds_lists r.0) }
+    ensures known { IfOk result (λ _. Remembers (F.action folder.now cx.new.entries) cx.new.entries memo.new) }
+    ensures failed { IfErr result (λ e. FailsBy (F.fails folder.now) F.Error.from_gives cx.new.entries cx.new.limit e) }
+{
+    let data = cx.bounds(bounds);
+    let old = data.principal;
+    let autos = copied(alloc, &data.autos)?;
+    let principal = walk_principal(alloc, cx, folder, bounds, old, binders, memo)?;
+    Ok(cx.mk_bounds(BoundsData { principal, autos })?)
+}
+
+/// The principal trait with the folds of its arguments.
+#[cycle(walks)]
+fn walk_principal<F: FallibleTypeFolder>(
+    alloc: Global,
+    cx: &mut Interner,
+    folder: &F,
+    bounds: Bounds,
+    principal: Option<Principal>,
+    binders: &Binders,
+    memo: &mut Memo,
+) -> Result<Option<Principal>, F::Error>
+    requires ready { F.ready folder.now cx.old.entries }
+    requires known { Remembers (F.action folder.now cx.old.entries) cx.old.entries memo.old }
+    requires held { PrincipalHeld cx.old.entries principal }
+    requires older { PrincipalOlder bounds.0 principal }
+    requires part { (others : Trees) × (trees_at cx.old.entries bounds.0 ≡ principal_trees cx.old.entries principal +++ others) }
+    ensures keeps { Keeps cx.old.entries cx.new.entries }
+    ensures limit { cx.new.limit ≡ cx.old.limit }
+    ensures held { IfOk result (λ p. PrincipalHeld cx.new.entries p) }
+    ensures folded { IfOk result (λ p. Folds (F.action folder.now cx.old.entries) (counts_of binders.now) (principal_trees cx.old.entries principal) (principal_trees cx.new.entries p)) }
+    ensures known { IfOk result (λ _. Remembers (F.action folder.now cx.new.entries) cx.new.entries memo.new) }
+    ensures failed { IfErr result (λ e. FailsBy (F.fails folder.now) F.Error.from_gives cx.new.entries cx.new.limit e) }
+{
+    match principal {
+        Some(principal) => {
+            let inside = Binders::Inside(principal.bound_vars, &*binders);
+            let args = walk_args(alloc, cx, folder, principal.args, &inside, memo)?;
+            Ok(Some(Principal { args, ..principal }))
+        }
+        None => Ok(None),
+    }
+}
+
+/// Another list of these items.
+fn copied<T: Copy>(alloc: Global, items: &[T]) -> Result<Vec<T>, Fault>
+    ensures copied { IfOk result (λ list. list.items ≡ items.now) }
+    ensures memory { IfErr result (λ e. e ≡ Fault.Memory) }
+{
+    let mut list = Vec::new(alloc);
+    for item in items {
+        list.push(*item)?;
+    }
+    Ok(list)
+}
+
+/// One more item at the end of a list.
+fn append<T: Drop>(list: &mut Vec<T>, item: T) -> Result<(), Fault>
+    ensures appended { IfOk result (λ _. list.new.items ≡ list.old.items ++ item ∷ []) }
+    ensures memory { IfErr result (λ e. e ≡ Fault.Memory) }
+{
+    Ok(list.push(item)?)
+}
