@@ -6,4 +6,3 @@ mod Named
 mod Pushed
 mod Growth
 mod Unsized
-mod Bounded

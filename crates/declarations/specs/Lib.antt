@@ -5,6 +5,5 @@ pub mod Items
 pub mod Unsizing
 pub mod Elaboration
 pub mod Held
-pub mod Bounds
 pub mod Relevant
 pub mod Inside

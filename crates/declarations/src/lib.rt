@@ -3,7 +3,6 @@
 #![tactic(auto)]
 
 pub mod declarations;
-pub mod elaborate;
 mod heads;
 pub mod items;
 pub mod laws;
