@@ -15,7 +15,8 @@ use Rattle.table_laws.specs.Widths.{count, with_self, width, width_of_predicates
 use Rattle.table_laws.proofs.Widths.{IsWithin, within}
 use Rattle.assembly_laws.specs.Facts.{clauses_of}
 use Rattle.assembly_laws.specs.Asking.{Asked, asked, all_known, self_of, next_of, begins_unknown, with_plain_head, clauses}
-use Rattle.assembly_laws.specs.Meaning.{Meaning, elaborate, supertraits}
+use Rattle.declarations.specs.Elaboration.{elaborate, supertraits}
+use Rattle.assembly_laws.specs.Meaning.{Meaning}
 use Rattle.assembly_laws.specs.Declared.{StructsAreOne}
 use Rattle.assembly_laws.specs.Candidates.{Candidate, premise, by_rule, by_the_impl, behind, misc, all_equal, unsure, unknowable, by_clauses, by_impls, is_relevant_to, by_sized, by_copy, by_auto, by_tuple, by_fn_ptr, call_of, by_call, unsize_array_of, upcasts_of, unsize_struct_of, unsize_known, by_unsize, built_in, object_source, written_source, objects_of, by_objects, as_written, clause_source}
 use Rattle.assembly_laws.specs.Cover.{all_candidates}

@@ -14,7 +14,7 @@ use Rattle.table_laws.specs.Widths.{count}
 use Rattle.table_laws.proofs.Widths.{IsWithin, count-append}
 use Rattle.assembly_laws.specs.Asking.{Asked}
 use Rattle.assembly_laws.specs.Candidates.{Candidate, premise, as_written, if_so, by_rule, all_equal, misc, upcast_source, upcasts_from, upcasts_to, upcasts_of, unsize_by_struct, bounds_from}
-use Rattle.assembly_laws.specs.Meaning.{all_levels, elaborate, supertraits}
+use Rattle.declarations.specs.Elaboration.{all_levels, elaborate, supertraits}
 use Rattle.assembly_laws.specs.Solver.{supers_of}
 use Rattle.assembly_laws.proofs.CandidateCounts.{elaborate-few, supertraits-few}
 use Rattle.assembly_laws.proofs.CandidateWidths.{count-instance}

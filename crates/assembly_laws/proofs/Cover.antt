@@ -1,5 +1,5 @@
 -- In every linked set with the crate each solution of a goal is one by a candidate.
-use Rattle.std.proofs.Common.{◌≡◌, ℕ, Bool, true, false, not, ◌&&◌, ◌||◌, ◌==◌, List, [], ◌∷◌, refl, sym, ◌∙◌, ap, subst, Option, Some, None}
+use Rattle.std.proofs.Common.{◌≡◌, Bool, true, false, not, ◌&&◌, ◌||◌, ◌==◌, List, [], ◌∷◌, refl, sym, ◌∙◌, ap, subst, Option, Some, None}
 use Rattle.model.specs.Label.{of_trait, predicate}
 use Rattle.model.specs.Trees.{Trees, none, tree}
 use Rattle.model.specs.Worlds.{World, Reference}
@@ -16,7 +16,8 @@ use Rattle.table_laws.specs.Instances.{read_with}
 use Rattle.table_laws.specs.Content.{given, trait_of}
 use Rattle.table_laws.specs.Frames.{kinds_known}
 use Rattle.assembly_laws.specs.Facts.{reference_in, children_of, trait_or_first}
-use Rattle.assembly_laws.specs.Meaning.{Meaning, supertraits}
+use Rattle.declarations.specs.Elaboration.{supertraits}
+use Rattle.assembly_laws.specs.Meaning.{Meaning}
 use Rattle.assembly_laws.specs.Knowing.{is_knowable}
 use Rattle.assembly_laws.specs.Declared.{is_declared_view}
 use Rattle.assembly_laws.specs.Asking.{Asked, asked_if, asked_with, with_first, all_known, is_variable_over, are_clauses, begins_with_type, next_of}

@@ -1,6 +1,6 @@
 -- The own unknowns of each candidate are determined by the goal's, whatever its certainty; and the steps to its nested goals.
 use Rattle.std.proofs.Common.{◌≡◌, ℕ, zero, suc, ◌+◌, Bool, true, not, ◌&&◌, List, [], ◌∷◌, ◌++◌, map, length, inl, inr, refl, sym, ◌∙◌, ap, subst, Option, Some, None}
-use Rattle.model.specs.Label.{Label, Sort, canonical, infer, param, placeholder, principal, of_trait, predicate}
+use Rattle.model.specs.Label.{Label, Sort, canonical, infer, param, placeholder, of_trait, predicate}
 use Rattle.model.specs.Trees.{Trees, none, tree, some_node}
 use Rattle.model.specs.Worlds.{Reference}
 use Rattle.model.specs.Answers.{is_open}

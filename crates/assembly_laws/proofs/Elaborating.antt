@@ -6,7 +6,7 @@ use Rattle.model.specs.Rules.{written_supertraits}
 use Rattle.model.specs.Proofs.{In}
 use Rattle.model.proofs.Members.{here, there, in-filter}
 use Rattle.evaluation.specs.Lists.{Every}
-use Rattle.assembly_laws.specs.Meaning.{is_put, new_of, pushed, off_stack, all_levels, elaborate, rest_of, supertraits}
+use Rattle.declarations.specs.Elaboration.{is_put, new_of, pushed, off_stack, all_levels, elaborate, rest_of, supertraits}
 use Rattle.assembly_laws.proofs.Rowwise.{both-lists}
 
 pub every-in : {A : Type 0} (P : A → Type 0) (xs : List A) → ((x : A) → In x xs → P x) → Every P xs

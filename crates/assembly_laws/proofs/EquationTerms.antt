@@ -20,7 +20,7 @@ use Rattle.type_terms.proofs.Made.{false-true}
 use Rattle.model.proofs.Walking.{left, right}
 use Rattle.type_terms.proofs.Made.{is_ordinary, made-append}
 use Rattle.table_laws.proofs.Labels.{IsLeafFor, PutsLeaves, made-put-in, made-more}
-use Rattle.assembly_laws.specs.Meaning.{elaborate, supertraits, rest_of}
+use Rattle.declarations.specs.Elaboration.{elaborate, supertraits, rest_of}
 use Rattle.assembly_laws.specs.Declared.{is_declared, is_counted, are_terms, are_references, is_declared_view}
 use Rattle.assembly_laws.specs.Asking.{Asked, clauses, is_variable_over, self_of, with_plain_head}
 use Rattle.assembly_laws.specs.Candidates.{first_value, all_equal, moved}

@@ -1,7 +1,7 @@
 -- The candidates of a goal are lawful, where they are sound and narrow.
 use Rattle.std.proofs.Common.{◌≡◌, ℕ, ◌≤◌, ◌==◌, max, Bool, true, false, not, ◌&&◌, ◌||◌, if◌then◌else◌, List, [], ◌∷◌, ◌++◌, map, length, ◌⊎◌, inl, inr, refl, sym, ap, subst, arith, Option, Some, None}
 use Rattle.std.specs.List.{list_all}
-use Rattle.model.specs.Label.{principal, of_trait, predicate}
+use Rattle.model.specs.Label.{of_trait, predicate}
 use Rattle.model.specs.Trees.{Trees, none, tree, some_node}
 use Rattle.model.specs.Worlds.{World, Reference, StructDecl, TraitDecl, ImplDecl}
 use Rattle.model.specs.Rules.{unsize, is_coinductive}

@@ -1,7 +1,7 @@
 -- The where-clauses of a goal are lawful candidates.
 use Rattle.std.proofs.Common.{◌≡◌, ℕ, suc, ◌==◌, Bool, true, not, ◌&&◌, if◌then◌else◌, List, [], ◌∷◌, ◌++◌, ◌⊎◌, inl, inr, refl, sym, ◌∙◌, ap, subst}
 use Rattle.std.specs.List.{flat_map}
-use Rattle.model.specs.Label.{Label, principal, param, placeholder, infer, canonical, bound, of_trait, predicate}
+use Rattle.model.specs.Label.{Label, param, placeholder, infer, canonical, bound, of_trait, predicate}
 use Rattle.model.specs.Trees.{Trees, none, tree}
 use Rattle.model.specs.Worlds.{World, Reference}
 use Rattle.model.specs.Answers.{is_open}

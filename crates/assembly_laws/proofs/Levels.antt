@@ -7,7 +7,7 @@ use Rattle.model.specs.Proofs.{In}
 use Rattle.model.proofs.Members.{here, there, in-nothing, in-cases, in-filter, in-flat, flat-in, same-number}
 use Rattle.model.proofs.Entries.{map-in}
 use Rattle.model.proofs.Below.{below, below-length, below-strict}
-use Rattle.assembly_laws.specs.Meaning.{all_levels}
+use Rattle.declarations.specs.Elaboration.{all_levels}
 
 -- bounds lead to traits of lower rank
 abbrev pub LeadDown : World → (ℕ → ℕ) → Type 0

@@ -5,7 +5,8 @@ use Rattle.model.specs.Worlds.{Reference, TraitDecl, sees}
 use Rattle.model.proofs.Members.{in-filter}
 use Rattle.evaluation.specs.Lists.{Every}
 use Rattle.evaluation.proofs.ListLaws.{Every-map}
-use Rattle.assembly_laws.specs.Meaning.{Meaning, LinkedWith, supertraits}
+use Rattle.declarations.specs.Elaboration.{supertraits}
+use Rattle.assembly_laws.specs.Meaning.{Meaning, LinkedWith}
 use Rattle.assembly_laws.specs.Declared.{is_declared_view}
 use Rattle.assembly_laws.specs.Cover.{Proved, read_reference}
 use Rattle.assembly_laws.proofs.Supers.{supertraits-proved}

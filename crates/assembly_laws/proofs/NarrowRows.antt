@@ -9,7 +9,7 @@ use Rattle.model.proofs.Members.{in-filter}
 use Rattle.evaluation.specs.Lists.{Every}
 use Rattle.table_laws.specs.Widths.{count}
 use Rattle.table_laws.proofs.Widths.{IsWithin, within, width-within, count-append, within-append}
-use Rattle.assembly_laws.specs.Meaning.{elaborate, supertraits}
+use Rattle.declarations.specs.Elaboration.{elaborate, supertraits}
 use Rattle.assembly_laws.specs.Solver.{width_of}
 use Rattle.assembly_laws.proofs.CandidateWidths.{count-instance, within-instance, instance-within}
 use Rattle.assembly_laws.proofs.Elaborating.{every-flat, elaborated-so, supertraits-so}

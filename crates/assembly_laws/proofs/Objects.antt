@@ -22,7 +22,7 @@ use Rattle.evaluation.specs.declared.candidate.CandidateSource.{CandidateSource}
 use Rattle.table_laws.specs.Instances.{read_with}
 use Rattle.table_laws.specs.Content.{Values, given}
 use Rattle.assembly_laws.specs.Declared.{are_terms, are_references, is_declared_view}
-use Rattle.assembly_laws.specs.Meaning.{supertraits, elaborate}
+use Rattle.declarations.specs.Elaboration.{supertraits, elaborate}
 use Rattle.assembly_laws.specs.Asking.{Asked}
 use Rattle.assembly_laws.specs.Candidates.{by_rule, all_equal, if_so, bounds_from, object_source, written_source, objects_of}
 use Rattle.assembly_laws.specs.Cover.{slots, Gives, Proved, read_reference}

@@ -1,6 +1,6 @@
 -- Where the equations of a candidate hold it is a rule of the view: what all kinds of candidates share, and where-clauses.
 use Rattle.std.proofs.Common.{◌≡◌, Bool, true, false, not, ◌&&◌, List, [], ◌∷◌, map, inl, inr, refl, sym, ◌∙◌, ap, subst, Option, Some, None}
-use Rattle.model.specs.Label.{principal, of_trait, predicate}
+use Rattle.model.specs.Label.{of_trait, predicate}
 use Rattle.model.specs.Trees.{Trees, none, tree, some_node}
 use Rattle.model.specs.Worlds.{World, Reference}
 use Rattle.model.specs.Answers.{is_open}

@@ -5,7 +5,7 @@ use Rattle.model.specs.Rules.{same_reference, written_supertraits, strict_supert
 use Rattle.model.specs.Proofs.{In}
 use Rattle.model.proofs.Members.{here, there, in-nothing, in-cases, in-append, in-flat, flat-in, some-member, self-number}
 use Rattle.model.proofs.Fitting.{same-reference-sound}
-use Rattle.assembly_laws.specs.Meaning.{is_put, new_of, pushed, off_stack, all_levels, elaborate, supertraits}
+use Rattle.declarations.specs.Elaboration.{is_put, new_of, pushed, off_stack, all_levels, elaborate, supertraits}
 use Rattle.model.specs.Trees.{Trees, none, tree}
 use Rattle.model.specs.Codes.{same, same_label, numbers}
 use Rattle.assembly_laws.proofs.Facts.{same-numbers-self}

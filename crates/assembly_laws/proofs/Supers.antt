@@ -20,7 +20,7 @@ use Rattle.table_laws.specs.Content.{given}
 use Rattle.assembly_laws.specs.Declared.{are_terms, are_references, is_declared_view}
 use Rattle.assembly_laws.specs.Knowing.{SupersStand}
 pub use Rattle.assembly_laws.specs.Cover.{Proved}
-use Rattle.assembly_laws.specs.Meaning.{is_put, new_of, pushed, off_stack, all_levels, elaborate, rest_of, supertraits}
+use Rattle.declarations.specs.Elaboration.{is_put, new_of, pushed, off_stack, all_levels, elaborate, rest_of, supertraits}
 use Rattle.assembly_laws.proofs.Reading.{true-false, read_reference}
 use Rattle.assembly_laws.proofs.Instances.{read-declared}
 use Rattle.model.proofs.Walking.{left, right}

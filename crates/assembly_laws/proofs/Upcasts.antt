@@ -18,7 +18,7 @@ use Rattle.evaluation.specs.Lists.{SomeOf}
 use Rattle.table_laws.specs.Instances.{read_with}
 use Rattle.table_laws.specs.Content.{Values, given}
 use Rattle.assembly_laws.specs.Declared.{is_declared_view}
-use Rattle.assembly_laws.specs.Meaning.{supertraits}
+use Rattle.declarations.specs.Elaboration.{supertraits}
 use Rattle.assembly_laws.specs.Asking.{Asked}
 use Rattle.assembly_laws.specs.Candidates.{by_rule, all_equal, misc, if_so, upcast_source, upcasts_from, upcasts_to, upcasts_of}
 use Rattle.assembly_laws.specs.Cover.{slots, Gives, read_reference}

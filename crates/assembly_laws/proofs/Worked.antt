@@ -6,7 +6,7 @@ use Rattle.model.specs.Trees.{Trees, none, tree, leaf}
 use Rattle.model.specs.Worlds.{World, Reference}
 use Rattle.model.specs.Rules.{asked, strict_supertraits}
 use Rattle.model.specs.Worked.{beside_core, trait_of, struct, base, first, T, u8}
-use Rattle.assembly_laws.specs.Meaning.{elaborate, supertraits}
+use Rattle.declarations.specs.Elaboration.{elaborate, supertraits}
 use Rattle.assembly_laws.specs.Knowing.{is_knowable}
 use Rattle.assembly_laws.specs.Declared.{is_declared_view}
 use Rattle.model.specs.Core.{core_world}

@@ -21,7 +21,8 @@ use Rattle.table_laws.specs.Frames.{frame_if}
 use Rattle.table_laws.proofs.Applying.{AreTheirs, goal-leaves}
 use Rattle.evaluation_laws.specs.Tables.{frame_tables}
 use Rattle.evaluation.specs.Plans.{Plan, each_of, first_alone, after}
-use Rattle.assembly_laws.specs.Meaning.{Meaning, supertraits}
+use Rattle.declarations.specs.Elaboration.{supertraits}
+use Rattle.assembly_laws.specs.Meaning.{Meaning}
 use Rattle.assembly_laws.specs.Knowing.{is_knowable}
 use Rattle.assembly_laws.specs.Asking.{Asked, asked, clauses, self_of, begins_unknown, all_known}
 use Rattle.assembly_laws.specs.Candidates.{Candidate, premise, unsure, unknowable, behind}

@@ -26,7 +26,7 @@ use Rattle.std.proofs.Math.Nat.{min-le_right}
 use Rattle.type_terms.specs.declared.ImplId.{ImplId}
 use Rattle.type_terms.specs.declared.TheConstants.{MAX_INDEX}
 use Rattle.assembly_laws.specs.Facts.{tree_of_reference}
-use Rattle.assembly_laws.specs.Meaning.{elaborate, supertraits}
+use Rattle.declarations.specs.Elaboration.{elaborate, supertraits}
 use Rattle.assembly_laws.specs.Asking.{Asked, self_of, next_of, begins_unknown}
 
 -- The handle of the impl of a number; numbers of impls are in range.

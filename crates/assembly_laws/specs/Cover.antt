@@ -20,7 +20,8 @@ use Rattle.evaluation_laws.specs.Operations.{begin}
 use Rattle.evaluation_laws.specs.Tables.{frame_tables}
 use Rattle.assembly_laws.specs.Facts.{reference_in}
 use Rattle.assembly_laws.specs.Slots.{as_slots, with_slots}
-use Rattle.assembly_laws.specs.Meaning.{Meaning, elaborate}
+use Rattle.declarations.specs.Elaboration.{elaborate}
+use Rattle.assembly_laws.specs.Meaning.{Meaning}
 use Rattle.assembly_laws.specs.Knowing.{is_knowable}
 use Rattle.assembly_laws.specs.Declared.{is_declared_view}
 use Rattle.assembly_laws.specs.Asking.{Asked, asked, clauses, self_of, begins_unknown}
