@@ -39,7 +39,6 @@ pub mod EqualRows
 pub mod WorkedUnsizing
 pub mod Determining
 pub mod OwnSlots
-pub mod BeginsBare
 pub mod LawfulSolver
 pub mod Moving
 pub mod Determined
