@@ -53,7 +53,7 @@ each-break P s (broken_each a) e = visits-break P s a e
 
 -- a collector breaks for want of memory alone
 pub collecting-breaks : (es : List Entry) {bs : List ℕ} {ps : List Piece} {u w : LeafCollector} {f : Fault} → VisitsEach (λ ds t v v' a. Collecting es t v v' a) bs ps u w (Some f) → f ≡ Memory
-collecting-breaks es h = each-break (λ f. f ≡ Memory) (λ ds t v w b k. k.1) h refl
+collecting-breaks es h = each-break (λ f. f ≡ Memory) (λ ds t v w b k. k.1.0) h refl
 
 place-next : (p i : ℕ) → p + suc i ≡ p + 1 + i
 place-next p i = omega arith

@@ -1,10 +1,10 @@
 -- No canonical variable comes into the terms of a table, or into a goal that it resolves.
 use Rattle.std.proofs.Common.{◌≡◌, ℕ, zero, suc, ◌+◌, ltb, Bool, true, false, refl, ap, sym, ◌∙◌, arith, List, [], ◌∷◌, ◌++◌, subst, Option, Some, None, if◌then◌else◌, cond}
-use Rattle.std.specs.Prelude.{◌&&◌, ◌==◌, map, option_map, option_and_then, unwrap_or}
+use Rattle.std.specs.Prelude.{◌&&◌, ◌==◌, option_map, option_and_then, unwrap_or}
 use Rattle.std.specs.List.{slice_get}
 use Rattle.std.proofs.lemmas.Bool.Decides.{nat_tests}
 use Rattle.model.specs.Label.{Label, Sort, of_type, of_const, of_lifetime, infer, canonical, bound, fn_ptr, dynamic, principal, auto_trait, inside}
-use Rattle.model.specs.Trees.{Trees, none, tree, ◌+++◌, is_sort, sort_of, placed}
+use Rattle.model.specs.Trees.{Trees, none, tree, ◌+++◌, is_sort, placed}
 use Rattle.model.specs.Codes.{same}
 use Rattle.infer_table.specs.declared.canonical.CanonicalVarKind.{CanonicalVarKind}
 use Rattle.infer_table.specs.declared.canonical.CanonicalVarKind.TheVariants.{Ty, PlaceholderTy, Const, PlaceholderConst, Region}
@@ -17,12 +17,11 @@ use Rattle.infer_table.specs.Canonical.{HasNoCanonical}
 use Rattle.infer_table.specs.Values.{Value, if_of_sort, filled}
 use Rattle.infer_table.specs.Raw.{sort_of_kind}
 use Rattle.infer_table.specs.Leaves.{root_label}
-use Rattle.infer_table.specs.Responses.{AnswerTrees}
 use Rattle.infer_table.specs.Answers.{have_same_sorts}
 use Rattle.infer_table.specs.Applying.{is_numbered, root_labels, original_of, next_unknown, table_after, values_for, table_for, known_value, applied_values, applied_table}
-use Rattle.infer_table.specs.Applied.{trees_of, solved_in_turn, with_constraints, applied}
+use Rattle.infer_table.specs.Applied.{trees_of, solved_in_turn, with_constraints}
 use Rattle.infer_table.specs.Covers.{AreNumbered}
-use Rattle.infer_table.specs.WithoutCanonical.{HaveNoCanonical, EquateNoCanonical, AreWithoutCanonical, AreOfTheirSorts, IsNumberedAnswer, ResolvingKeepsOut, EquationsKeepOut, AnswersKeepOut}
+use Rattle.infer_table.specs.WithoutCanonical.{HaveNoCanonical, EquateNoCanonical, AreWithoutCanonical, AreOfTheirSorts, ResolvingKeepsOut, EquationsKeepOut, AnswersKeepOut}
 use Rattle.infer_table.proofs.SolutionLaws.{is_sort-equal, is_sort-self}
 use Rattle.infer_table.proofs.Covers.{numbered-parts}
 

@@ -1,5 +1,5 @@
 -- What collecting and numbering keep to, as the traits of folders and visitors ask.
-use Rattle.std.specs.Prelude.{◌≡◌, ℕ, Bool, true, false, List, [], ◌∷◌, is_some, if◌then◌else◌, ◌&&◌, refl}
+use Rattle.std.specs.Prelude.{◌≡◌, ℕ, Bool, true, false, List, [], ◌∷◌, is_some, if◌then◌else◌, ◌&&◌, refl, None}
 use Rattle.std.proofs.Common.{ap, sym, ◌∙◌}
 use Rattle.model.specs.Label.{Label, principal, auto_trait}
 use Rattle.model.specs.Trees.{Trees, none, tree, leaf}
@@ -10,12 +10,18 @@ use Rattle.term_folds.specs.declared.visit.Seen.{Seen}
 use Rattle.term_folds.specs.declared.visit.Seen.TheVariants.{Enter}
 use Rattle.term_folds.specs.Folds.{Does, enters, puts, again, IsBound}
 use Rattle.term_folds.specs.Kept.{arg-held-later, arg-trees-later}
+use Rattle.term_folds.specs.Pieces.{Piece}
+use Rattle.term_folds.specs.Visits.{VisitsEach}
 use Rattle.infer_table.specs.declared.canonicalizer.LeafCollector.{LeafCollector}
 use Rattle.infer_table.specs.Leaves.{open_kinds, root_label, leaf_label, labels, IsLeaf, AreLeaves, Collects, is_closed, is_type_label, numbering}
 
 -- how a collector answers
 abbrev pub Collecting : List Entry → Trees → LeafCollector → LeafCollector → Seen Fault → Type 0
 Collecting es t v w a = (w.in_clause ≡ v.in_clause) × Collects (open_kinds v.in_clause) t (labels es v.leaves.keys) (labels es w.leaves.keys) a
+
+-- a value was visited by a collector, to its end
+abbrev pub CollectsEach : List Entry → List Piece → LeafCollector → LeafCollector → Type 0
+CollectsEach es ps v w = VisitsEach (λ bs t v w a. Collecting es t v w a) [] ps v w None
 
 pub bounds-collect : (b : Bool) (seen : List Label) (t : Trees) → IsBound t → Collects (open_kinds b) t seen seen Enter
 bounds-collect true seen (tree (principal n i) c o) h = (refl, λ e. cc)

@@ -36,10 +36,10 @@ abbrev pub AreLeaves : List Entry → List GenericArgKind → Type 0
 AreLeaves es [] = Unit {0}
 AreLeaves es (a ∷ rest) = IsLeaf es a × AreLeaves es rest
 
--- a leaf is listed, or memory is refused
+-- a leaf is listed; or memory is refused, and none is listed
 abbrev pub Adds : List Label → Label → List Label → Seen Fault → Type 0
 Adds before l after Enter = after ≡ with_label l before
-Adds before l after (Break f) = f ≡ Memory
+Adds before l after (Break f) = (f ≡ Memory) × (after ≡ before)
 Adds before l after Pass = ⊥
 
 -- each label is open
@@ -68,7 +68,7 @@ RootIsLeaf kind (tree l c o) = IsSome (kind l) → c ≡ none
 
 -- how a collector answers at a node, where it had the leaves `before` and has the leaves `after`: it breaks for want of memory alone
 abbrev pub Collects : OpenKinds → Trees → List Label → List Label → Seen Fault → Type 0
-Collects kind t before after (Break f) = f ≡ Memory
+Collects kind t before after (Break f) = (f ≡ Memory) × (after ≡ before)
 Collects kind t before after Enter = (after ≡ with_root kind before t) × RootIsLeaf kind t
 Collects kind t before after Pass = (after ≡ leaves kind before t) × OpenAreLeaves kind t
 

@@ -1,6 +1,5 @@
 -- What keeps canonical variables out of the terms of tables and goals.
 use Rattle.std.specs.Prelude.{◌≡◌, true, List, [], ◌∷◌, Some}
-use Rattle.model.specs.Trees.{Trees}
 use Rattle.infer_table.specs.Solutions.{Binding}
 use Rattle.infer_table.specs.Unification.{TableTrees, Worklist, term_sort, unified}
 use Rattle.infer_table.specs.Canonical.{GoalTrees, HasNoCanonical}

@@ -23,9 +23,7 @@ use crate::response::CanonicalResponse;
 use crate::terms::RegionConstraint;
 use indexmap::IndexSet;
 use std::alloc::Global;
-use std::ops::ControlFlow;
 use term_folds::foldable::TypeFoldable;
-use term_folds::visitable::TypeVisitable;
 use type_terms::Fault;
 use type_terms::interner::Interner;
 use type_terms::kinds::{GenericArgKind, GenericArgs};
@@ -48,15 +46,9 @@ fn collect_leaves(
         leaves: IndexSet::new(alloc),
         in_clause: false,
     };
-    match values.visit_with(cx, &mut collector) {
-        ControlFlow::Break(fault) => return Err(fault),
-        ControlFlow::Continue(()) => {}
-    }
+    collector = collector.collect(alloc, cx, values)?;
     for constraint in constraints {
-        match constraint.visit_with(cx, &mut collector) {
-            ControlFlow::Break(fault) => return Err(fault),
-            ControlFlow::Continue(()) => {}
-        }
+        collector = collector.collect(alloc, cx, *constraint)?;
     }
     let LeafCollector {
         leaves,

@@ -1,5 +1,6 @@
 //! Open leaves collected and numbered.
-ghost use Rattle.std.specs.Prelude.{◌≡◌, ◌≤◌, ℕ, Bool, true, List, length, IfOk, OnErr, is_some};
+ghost use Rattle.std.specs.Prelude.{◌≡◌, ◌≤◌, ℕ, Bool, true, List, length, IfOk, IfErr, OnErr, is_some};
+ghost use Rattle.infer_table.specs.LeafLaws.{CollectsEach};
 ghost use Rattle.model.specs.Label.{of_const};
 ghost use Rattle.model.specs.Trees.{sort_of};
 ghost use Rattle.type_terms.specs.Terms.{Has, types, consts, trees_at};
@@ -8,10 +9,14 @@ ghost use Rattle.infer_table.specs.Canonical.{place_of};
 ghost use Rattle.infer_table.specs.Leaves.{open_kinds, AreLeaves, labels, leaf_label, are_closed_flags, is_closed, is_type_label, IsLeaf, Adds};
 
 use indexmap::IndexSet;
+use std::alloc::Global;
+use std::ops::ControlFlow;
 use term_folds::binders::Binders;
 use term_folds::fold::Answer;
 use term_folds::folder::TypeFolder;
+use term_folds::once::Once;
 use term_folds::visit::{Seen, TypeVisitor};
+use term_folds::visitable::TypeVisitable;
 use type_terms::flags::TypeFlags;
 use type_terms::interner::Interner;
 use type_terms::kinds::{Const, ConstKind, GenericArgKind, Ty, TyKind};
@@ -85,6 +90,34 @@ pub struct LeafCollector {
 }
 
 impl LeafCollector {
+    /// Lists the open leaves of a value behind those that are listed. A type that stands in many places is entered once.
+    ///
+    /// Its only fault is `Memory`.
+    pub(crate) fn collect<T: TypeVisitable>(
+        self,
+        alloc: Global,
+        cx: &Interner,
+        value: T,
+    ) -> Result<LeafCollector, Fault>
+        requires held { T.held value cx.now.entries }
+        requires listed { AreLeaves cx.now.entries self.leaves.keys }
+        ensures listed { IfOk result (λ w. AreLeaves cx.now.entries w.leaves.keys) }
+        ensures visited { IfOk result (λ w. CollectsEach cx.now.entries (T.pieces value cx.now.entries) self w) }
+        ensures memory { IfErr result (λ e. e ≡ Fault.Memory) }
+    {
+        let mut once = Once::new(alloc, self);
+        match value.visit_with(cx, &mut once) {
+            ControlFlow::Break(fault) => Err(fault),
+            ControlFlow::Continue(()) => {
+                let Once {
+                    visitor,
+                    entered: _,
+                } = once;
+                Ok(visitor)
+            }
+        }
+    }
+
     /// One more open leaf, if it is not listed.
     fn add(&mut self, cx: &Interner, leaf: GenericArgKind) -> Seen<Fault>
         requires listed { AreLeaves cx.now.entries self.old.leaves.keys }

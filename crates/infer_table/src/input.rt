@@ -20,7 +20,6 @@ use crate::infer_ctxt::InferCtxt;
 use crate::resolving::resolve_goal;
 use indexmap::IndexSet;
 use std::alloc::{AllocError, Global};
-use std::ops::ControlFlow;
 use term_folds::foldable::TypeFoldable;
 use term_folds::predicate::TraitPredicate;
 use term_folds::visitable::TypeVisitable;
@@ -216,17 +215,11 @@ fn collect_leaves(
         in_clause: true,
     };
     'clauses: for clause in &goal.param_env {
-        match clause.visit_with(cx, &mut collector) {
-            ControlFlow::Break(fault) => return Err(fault),
-            ControlFlow::Continue(()) => {}
-        }
+        collector = collector.collect(alloc, cx, *clause)?;
     }
     if !is_closed(goal.predicate.flags(cx), false) {
         collector.in_clause = false;
-        match goal.predicate.visit_with(cx, &mut collector) {
-            ControlFlow::Break(fault) => return Err(fault),
-            ControlFlow::Continue(()) => {}
-        }
+        collector = collector.collect(alloc, cx, goal.predicate)?;
     }
     let LeafCollector {
         leaves,

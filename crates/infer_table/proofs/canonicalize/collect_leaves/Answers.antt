@@ -6,21 +6,20 @@ use Rattle.infer_table.specs.Canonical.{kind_of_leaf, leaves}
 use Rattle.infer_table.specs.Leaves.{labels}
 use Rattle.infer_table.proofs.Collections.{predicate-collected, leaves-append}
 use Rattle.infer_table.proofs.ConstraintLists.{constraint-held-at, constraint-collected, one-more-constraint, drop-past}
-use Rattle.infer_table.proofs.Refusals.{collecting-breaks}
 use Rattle.infer_table.proofs.canonicalize.collect_leaves.Goals as goal
 
-pub visit_with-requires-in-loop-constraint-clause-held : goal.visit_with-requires-in-loop-constraint-clause-held
-visit_with-requires-in-loop-constraint-clause-held c =
+pub collect-requires-in-loop-constraint-clause-held : goal.collect-requires-in-loop-constraint-clause-held
+collect-requires-in-loop-constraint-clause-held c =
     let had : IsHeldConstraint c.args.cx.now.entries c.constraint-item.result = rw c.constraint-item.is (constraint-held-at c.args.cx.now.entries c.args.constraints.now c.loop-constraint.constraint-index c.constraint-item.result c.requires.constraints c.loop-constraint-test.true) in
     had
 
 pub loop-constraint-init : goal.loop-constraint-init
 loop-constraint-init c =
     let es = c.args.cx.now.entries in
-    let k = predicate-collected es (trees_at es c.args.values.0) _ c.visit_with.new.visitor c.in-Continue.ensures.visited in
+    let k = predicate-collected es (trees_at es c.args.values.0) _ c.in_ok-collector.collector c.in_ok-collector.ensures.visited in
     record {
       in_clause = k.same;
-      listed = c.visit_with.ensures.ready;
+      listed = c.in_ok-collector.ensures.listed;
       leaves = ap (λ z. leaves kind_of_leaf z (constraints_trees es c.args.constraints.now)) k.listed ∙ ap (λ z. leaves kind_of_leaf (leaves kind_of_leaf (labels es z) (trees_at es c.args.values.0)) (constraints_trees es c.args.constraints.now)) c.new.ensures.empty;
     }
 
@@ -29,11 +28,11 @@ loop-constraint-preserved c =
     let es = c.args.cx.now.entries in
     let inv = c.loop-constraint.invariant in
     let xs = c.args.constraints.now in
-    let k = constraint-collected es c.constraint-item.result c.loop-constraint.collector c.visit_with-in-loop-constraint.new.visitor c.in-Continue-visit_with.ensures.visited in
+    let k = constraint-collected es c.constraint-item.result c.loop-constraint.collector c.in_ok-collector-2.collector c.in_ok-collector-2.ensures.visited in
     record {
       in_clause = k.same ∙ inv.in_clause;
-      listed = c.visit_with-in-loop-constraint.ensures.ready;
-      leaves = one-more-constraint es xs c.loop-constraint.constraint-index c.constraint-item.result c.loop-constraint.collector c.visit_with-in-loop-constraint.new.visitor _ c.loop-constraint-test.true c.constraint-item.is inv.in_clause k inv.leaves;
+      listed = c.in_ok-collector-2.ensures.listed;
+      leaves = one-more-constraint es xs c.loop-constraint.constraint-index c.constraint-item.result c.loop-constraint.collector c.in_ok-collector-2.collector _ c.loop-constraint-test.true c.constraint-item.is inv.in_clause k inv.leaves;
     }
 
 pub returns-clause-leaves : goal.returns-clause-leaves
@@ -50,11 +49,5 @@ returns-clause-leaves c =
 pub returns-clause-only : goal.returns-clause-only
 returns-clause-only c =
     let es = c.args.cx.now.entries in
-    let k = predicate-collected es (trees_at es c.args.values.0) _ c.visit_with.new.visitor c.in-Continue.ensures.visited in
+    let k = predicate-collected es (trees_at es c.args.values.0) _ c.in_ok-collector.collector c.in_ok-collector.ensures.visited in
     k.only
-
-pub returns-in-Break-clause-memory : goal.returns-in-Break-clause-memory
-returns-in-Break-clause-memory c = collecting-breaks c.args.cx.now.entries c.in-Break.ensures.visited
-
-pub returns-in-Break-visit_with-clause-memory : goal.returns-in-Break-visit_with-clause-memory
-returns-in-Break-visit_with-clause-memory c = collecting-breaks c.args.cx.now.entries c.in-Break-visit_with.ensures.visited
