@@ -58,5 +58,13 @@ pub mod BoundTerms
 pub mod PlainRules
 pub mod SoundRows
 pub mod SoundCalls
+pub mod ReadOff
+pub mod SoundImpls
 pub mod LawfulAll
 pub mod SoundUnsizing
+pub mod OpenLevels
+pub mod SoundObjects
+pub mod SoundUpcasts
+pub mod SoundToDyn
+pub mod DeclaredWell
+pub mod SoundAll

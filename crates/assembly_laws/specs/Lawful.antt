@@ -20,7 +20,7 @@ use Rattle.assembly_laws.specs.Meaning.{Meaning}
 use Rattle.assembly_laws.specs.Asking.{Asked, asked, self_of, begins_unknown}
 use Rattle.assembly_laws.specs.Candidates.{Candidate, unknowable, built_in, by_sized, by_copy, by_auto, by_tuple, by_fn_ptr, by_call, misc, if_so, as_written, unsize_array_of, upcasts_of, unsize_struct_of, by_impls, by_objects}
 use Rattle.assembly_laws.specs.Facts.{FollowsByView}
-use Rattle.assembly_laws.specs.Declared.{is_declared_view, StructsAreOne, FieldsAreOne, BoundsAreErased}
+use Rattle.assembly_laws.specs.Declared.{is_declared_view, StructsAreOne, FieldsAreOne, BoundsAreErased, parameters_are_sorted, LeadDown}
 use Rattle.assembly_laws.specs.Determined.{ImplsAreDetermined}
 use Rattle.assembly_laws.specs.Solver.{solver_handled, most_candidates, number_at, widest_of}
 use Rattle.assembly_laws.specs.Cover.{AreTermsOf, GivenIsRealized, all_candidates, SolutionsAreCandidates, goal_fact}
@@ -62,7 +62,32 @@ unsizing_candidates m a = if_so (a.reference.trait == unsize) (unsize_array_of m
 abbrev pub UnsizingIsSound : Type 0
 UnsizingIsSound = (m : Meaning) → is_declared_view m.view ≡ true → (f : CanonicalForm) (a : Asked) → asked m.view f ≡ Some a → Every (IsSoundFor m f a) (unsizing_candidates m a)
 
--- the others: types that unsize to a `dyn`, impls and object bounds, of which it is premised
+-- those by impls, whose parameters have one sort each
+abbrev pub ImplsAreSound : Type 0
+ImplsAreSound =
+    (m : Meaning) → is_declared_view m.view ≡ true → ImplsAreDetermined m.view → parameters_are_sorted m.view ≡ true
+    → (f : CanonicalForm) (a : Asked) → asked m.view f ≡ Some a → Every (IsSoundFor m f a) (by_impls m.view a m.view.impls)
+
+-- those by object bounds, where bounds of traits lead down
+abbrev pub ObjectBoundsAreSound : Type 0
+ObjectBoundsAreSound =
+    (m : Meaning) → is_declared_view m.view ≡ true → BoundsAreErased m.view → (rank : ℕ → ℕ) → LeadDown m.view rank
+    → (f : CanonicalForm) (a : Asked) → asked m.view f ≡ Some a → Every (IsSoundFor m f a) (by_objects m.view a)
+
+-- those by a `dyn` that unsizes to another
+abbrev pub UpcastsAreSound : Type 0
+UpcastsAreSound =
+    (m : Meaning) → is_declared_view m.view ≡ true → BoundsAreErased m.view → (rank : ℕ → ℕ) → LeadDown m.view rank
+    → (f : CanonicalForm) (a : Asked) → asked m.view f ≡ Some a → Every (IsSoundFor m f a) (if_so (a.reference.trait == unsize) (upcasts_of m.view a (self_of a)))
+
+-- those by another type that unsizes to a `dyn`. The self type is known: a `dyn` may stand for an unknown, which does not unsize
+-- to another as other types do
+abbrev pub ToDynIsSound : Type 0
+ToDynIsSound =
+    (m : Meaning) → is_declared_view m.view ≡ true → (f : CanonicalForm) (a : Asked) → asked m.view f ≡ Some a → begins_unknown a.kinds (self_of a) ≡ false
+    → Every (IsSoundFor m f a) (if_so (a.reference.trait == unsize) (as_written m.view a misc (unsize_to_dyn_rules m.view (self_of a))))
+
+-- the others: types that unsize to a `dyn`, impls and object bounds
 abbrev pub premised_candidates : Meaning → Asked → List Candidate
 premised_candidates m a =
     if_so (a.reference.trait == unsize) (as_written m.view a misc (unsize_to_dyn_rules m.view (self_of a)) ++ upcasts_of m.view a (self_of a)) ++ (by_impls m.view a m.view.impls ++ by_objects m.view a)

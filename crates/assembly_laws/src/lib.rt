@@ -4,7 +4,7 @@
 ghost use Rattle.assembly_laws.specs.Facts.{ProofsOfFactsAreProofs, ReferencesComeBack};
 ghost use Rattle.assembly_laws.specs.Knowing.{WhatIsKnownFollowsByTheView, SupertraitsByTheViewStand};
 ghost use Rattle.assembly_laws.specs.Cover.{SolutionsAreByCandidates, GivenIsRealized};
-ghost use Rattle.assembly_laws.specs.Lawful.{SolverIsLawfulByCandidates, SoundAndNarrowIsLawful, RowsAreSound, UnsizingIsSound};
+ghost use Rattle.assembly_laws.specs.Lawful.{SolverIsLawfulByCandidates, SoundAndNarrowIsLawful, RowsAreSound, UnsizingIsSound, ImplsAreSound, ObjectBoundsAreSound, UpcastsAreSound, ToDynIsSound};
 ghost use Rattle.assembly_laws.specs.Worlds.{KeepWorlds};
 ghost use Rattle.assembly_laws.specs.CoverLaw.{CoherenceIsCovered, CoherenceIsLawful, ErasedBoundsAreLeft};
 
@@ -55,10 +55,14 @@ pub fn solver_is_lawful()
     ensures candidates { SoundAndNarrowIsLawful }
 {}
 
-/// Sound are the candidates by the built-in rules of `Sized`, `Copy` and `Clone`, auto traits, `Tuple`, `FnPtr`, and calls of fn
-/// pointers; and those by arrays that unsize to slices, and by structs whose last field unsizes. Of what is declared it is asked only
-/// that terms are made as they are to be.
+/// Every candidate by a rule is sound: those by the built-in rules of `Sized`, `Copy` and `Clone`, auto traits, `Tuple`, `FnPtr`, and
+/// calls of fn pointers; by arrays that unsize to slices, and structs whose last field unsizes; by impls, object bounds and upcasts; and
+/// by other types that unsize to a `dyn`, where the self type is known.
 pub fn rows_are_sound()
     ensures rows { RowsAreSound }
     ensures unsizing { UnsizingIsSound }
+    ensures impls { ImplsAreSound }
+    ensures objects { ObjectBoundsAreSound }
+    ensures upcasts { UpcastsAreSound }
+    ensures to_dyn { ToDynIsSound }
 {}
