@@ -68,3 +68,4 @@ pub mod SoundUpcasts
 pub mod SoundToDyn
 pub mod DeclaredWell
 pub mod SoundAll
+pub mod SolverLaw

@@ -3,6 +3,7 @@ use Rattle.std.specs.Prelude.{◌≡◌, ℕ, suc, ◌≤◌, ◌==◌, Bool, tr
 use Rattle.model.specs.Rules.{unsize, unsize_to_dyn_rules}
 use Rattle.infer_table.specs.Canonical.{CanonicalForm}
 use Rattle.infer_table.specs.declared.certainty.TypingMode.{TypingMode}
+use Rattle.infer_table.specs.declared.certainty.TypingMode.TheVariants.{Coherence}
 use Rattle.infer_table.specs.Responses.{AnswerTrees}
 use Rattle.evaluation.specs.Lists.{Every}
 use Rattle.evaluation.specs.Handler.{IsHandler}
@@ -20,8 +21,10 @@ use Rattle.assembly_laws.specs.Meaning.{Meaning}
 use Rattle.assembly_laws.specs.Asking.{Asked, asked, self_of, begins_unknown}
 use Rattle.assembly_laws.specs.Candidates.{Candidate, unknowable, built_in, by_sized, by_copy, by_auto, by_tuple, by_fn_ptr, by_call, misc, if_so, as_written, unsize_array_of, upcasts_of, unsize_struct_of, by_impls, by_objects}
 use Rattle.assembly_laws.specs.Facts.{FollowsByView}
-use Rattle.assembly_laws.specs.Declared.{is_declared_view, StructsAreOne, FieldsAreOne, BoundsAreErased, parameters_are_sorted, LeadDown}
+use Rattle.assembly_laws.specs.Declared.{is_declared_view, BoundsAreErased, parameters_are_sorted, LeadDown}
 use Rattle.assembly_laws.specs.Determined.{ImplsAreDetermined}
+use Rattle.assembly_laws.specs.DeclaredWell.{IsDeclaredWell}
+use Rattle.assembly_laws.specs.CoverLaw.{AnswersCover}
 use Rattle.assembly_laws.specs.Solver.{solver_handled, most_candidates, number_at, widest_of}
 use Rattle.assembly_laws.specs.Cover.{AreTermsOf, GivenIsRealized, all_candidates, SolutionsAreCandidates, goal_fact}
 
@@ -127,17 +130,18 @@ SolverIsLawful =
     (applicable : AnswerTrees → Bool) → IsTest frame_tables applicable → (same : AnswerTrees → AnswerTrees → Bool) → TellsApart same
     → (m : Meaning) → SolverPremises m → (mode : TypingMode) (f : CanonicalForm) → IsHandler frame_tables (solver_handled applicable same m mode f)
 
--- what `is_sound` has to mean, all of it of the view alone; and that candidates are sound, which is left to be proved
-pub record OpenPremises (m : Meaning) : Type 0 where
-  pub declared : m.is_sound ≡ true → is_declared_view m.view ≡ true
-  pub determined : m.is_sound ≡ true → ImplsAreDetermined m.view
-  pub erased : m.is_sound ≡ true → BoundsAreErased m.view
-  pub one_struct : m.is_sound ≡ true → StructsAreOne m.view
-  pub one_field : m.is_sound ≡ true → FieldsAreOne m.view
-  pub sound : m.is_sound ≡ true → CandidatesAreSound m
+-- what is found to be sound is declared well; of what is not found so, no goal is decided
+abbrev pub ViewIsDeclaredWell : Meaning → Type 0
+ViewIsDeclaredWell m = m.is_sound ≡ true → IsDeclaredWell m.view
 
--- with cover and the laws that are proved put in
-abbrev pub SolverIsLawfulByCandidates : Type 0
-SolverIsLawfulByCandidates =
+-- where the view is declared well, each candidate of a goal whose self type is known is lawful
+abbrev pub WellDeclaredIsLawful : Type 0
+WellDeclaredIsLawful = (m : Meaning) → IsDeclaredWell m.view → CandidatesAreLawful m
+
+-- the solver is a lawful handler of every goal in both modes, and in coherence the candidates that were considered before an answer
+-- cover each solution of the goal in every linked set
+abbrev pub SolverIsLawfulAndCovers : Type 0
+SolverIsLawfulAndCovers =
     (applicable : AnswerTrees → Bool) → IsTest frame_tables applicable → (same : AnswerTrees → AnswerTrees → Bool) → TellsApart same
-    → (m : Meaning) → OpenPremises m → (mode : TypingMode) (f : CanonicalForm) → IsHandler frame_tables (solver_handled applicable same m mode f)
+    → (m : Meaning) → ViewIsDeclaredWell m → (f : CanonicalForm)
+    → ((mode : TypingMode) → IsHandler frame_tables (solver_handled applicable same m mode f)) × AnswersCover (solver_handled applicable same m Coherence f)

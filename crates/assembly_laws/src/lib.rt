@@ -4,7 +4,8 @@
 ghost use Rattle.assembly_laws.specs.Facts.{ProofsOfFactsAreProofs, ReferencesComeBack};
 ghost use Rattle.assembly_laws.specs.Knowing.{WhatIsKnownFollowsByTheView, SupertraitsByTheViewStand};
 ghost use Rattle.assembly_laws.specs.Cover.{SolutionsAreByCandidates, GivenIsRealized};
-ghost use Rattle.assembly_laws.specs.Lawful.{SolverIsLawfulByCandidates, SoundAndNarrowIsLawful, RowsAreSound, UnsizingIsSound, ImplsAreSound, ObjectBoundsAreSound, UpcastsAreSound, ToDynIsSound};
+ghost use Rattle.assembly_laws.specs.Lawful.{SolverIsLawfulAndCovers, WellDeclaredIsLawful, RowsAreSound, UnsizingIsSound, ImplsAreSound, ObjectBoundsAreSound, UpcastsAreSound, ToDynIsSound};
+ghost use Rattle.assembly_laws.specs.DeclaredWell.{TestsTell, CoreIsDeclaredWell};
 ghost use Rattle.assembly_laws.specs.Worlds.{KeepWorlds};
 ghost use Rattle.assembly_laws.specs.CoverLaw.{CoherenceIsCovered, CoherenceIsLawful, ErasedBoundsAreLeft};
 
@@ -47,12 +48,10 @@ pub fn coherence_is_covered()
     ensures bounds { ErasedBoundsAreLeft }
 {}
 
-/// The solver keeps the laws of handlers, where the candidates by types that unsize to a `dyn`, by impls and by object bounds are
-/// sound and the self type is known. That no candidate is wider than the goal and what is declared, and that there are not too
-/// many, follows from how the view is declared.
-pub fn solver_is_lawful()
-    ensures handler { SolverIsLawfulByCandidates }
-    ensures candidates { SoundAndNarrowIsLawful }
+/// A view that passes the tests is declared well, and `core` passes them.
+pub fn views_are_tested()
+    ensures tell { TestsTell }
+    ensures core { CoreIsDeclaredWell }
 {}
 
 /// Every candidate by a rule is sound: those by the built-in rules of `Sized`, `Copy` and `Clone`, auto traits, `Tuple`, `FnPtr`, and
@@ -65,4 +64,12 @@ pub fn rows_are_sound()
     ensures objects { ObjectBoundsAreSound }
     ensures upcasts { UpcastsAreSound }
     ensures to_dyn { ToDynIsSound }
+{}
+
+/// Where the view is declared well, the solver is a lawful handler of every goal in both modes; and in coherence each solution of a
+/// goal, in every linked set with the crate, is realized by a candidate that was considered before the answer. If the view is not found
+/// to be declared well, no goal is decided. Each candidate of a goal whose self type is known is lawful.
+pub fn solver_is_lawful()
+    ensures handler { SolverIsLawfulAndCovers }
+    ensures candidates { WellDeclaredIsLawful }
 {}
