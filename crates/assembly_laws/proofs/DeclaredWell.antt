@@ -23,7 +23,7 @@ not-not : (b : Bool) → not b ≡ false → b ≡ true
 not-not true e = refl
 not-not false e = absurd (true-false e)
 
-determined-told : (V : World) → impls_are_determined V ≡ true → ImplsAreDetermined V
+pub determined-told : (V : World) → impls_are_determined V ≡ true → ImplsAreDetermined V
 determined-told V e i r j k s n st =
     not-not (some_node (is_param s n) i.header.args)
     (none-passes (is_loose i.header.args) s n r.args st
@@ -36,7 +36,7 @@ erased-told V e x r i j =
     not-true (some_node is_lifetime_parameter r.args)
     (member-each (λ (b : Reference). not (some_node is_lifetime_parameter b.args)) x.bounds r (member-each (λ (y : TraitDecl). list_all (λ (b : Reference). not (some_node is_lifetime_parameter b.args)) y.bounds) V.traits x e i) j)
 
-down-told : (V : World) → bounds_lead_down V ≡ true → LeadDown V (height_in V)
+pub down-told : (V : World) → bounds_lead_down V ≡ true → LeadDown V (height_in V)
 down-told V e x b i j =
     less (height_in V b.trait) (height_in V x.name)
     (member-each (λ (r : Reference). nat_lt (height_in V r.trait) (height_in V x.name)) x.bounds b
@@ -56,7 +56,7 @@ none-named s (x ∷ xs) e = by (x.name == s) e (λ f. none-named s xs f)
     by true f go = absurd (true-false f)
     by false f go = go f
 
-one-told : (s : ℕ) (xs : List StructDecl) → are_distinct (map (λ (x : StructDecl). x.name) xs) ≡ true → length (filter (λ (x : StructDecl). x.name == s) xs) ≤ 1
+pub one-told : (s : ℕ) (xs : List StructDecl) → are_distinct (map (λ (x : StructDecl). x.name) xs) ≡ true → length (filter (λ (x : StructDecl). x.name == s) xs) ≤ 1
 one-told s [] e = omega arith
 one-told s (x ∷ xs) e =
     by (x.name == s) refl (left (not (list_any (λ k. k == x.name) names)) (are_distinct names) e) (one-told s xs (right (not (list_any (λ k. k == x.name) names)) (are_distinct names) e))

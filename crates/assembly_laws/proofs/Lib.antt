@@ -69,3 +69,5 @@ pub mod SoundToDyn
 pub mod DeclaredWell
 pub mod SoundAll
 pub mod SolverLaw
+pub mod ErasedTerms
+pub mod HeldViews

@@ -6,6 +6,7 @@ ghost use Rattle.assembly_laws.specs.Knowing.{WhatIsKnownFollowsByTheView, Super
 ghost use Rattle.assembly_laws.specs.Cover.{SolutionsAreByCandidates, GivenIsRealized};
 ghost use Rattle.assembly_laws.specs.Lawful.{SolverIsLawfulAndCovers, WellDeclaredIsLawful, RowsAreSound, UnsizingIsSound, ImplsAreSound, ObjectBoundsAreSound, UpcastsAreSound, ToDynIsSound};
 ghost use Rattle.assembly_laws.specs.DeclaredWell.{TestsTell, CoreIsDeclaredWell};
+ghost use Rattle.assembly_laws.specs.HeldViews.{HeldIsDeclaredWell};
 ghost use Rattle.assembly_laws.specs.Worlds.{KeepWorlds};
 ghost use Rattle.assembly_laws.specs.CoverLaw.{CoherenceIsCovered, CoherenceIsLawful, ErasedBoundsAreLeft};
 
@@ -48,10 +49,13 @@ pub fn coherence_is_covered()
     ensures bounds { ErasedBoundsAreLeft }
 {}
 
-/// A view that passes the tests is declared well, and `core` passes them.
+/// A view that passes the tests is declared well, and `core` passes them. Of declarations whose terms an interner holds fewer are left:
+/// that open places are parameters, that these stand in headers, each with one sort, that bounds form no cycle, and that structs have
+/// names of their own.
 pub fn views_are_tested()
     ensures tell { TestsTell }
     ensures core { CoreIsDeclaredWell }
+    ensures held { HeldIsDeclaredWell }
 {}
 
 /// Every candidate by a rule is sound: those by the built-in rules of `Sized`, `Copy` and `Clone`, auto traits, `Tuple`, `FnPtr`, and
