@@ -71,3 +71,4 @@ pub mod SoundAll
 pub mod SolverLaw
 pub mod ErasedTerms
 pub mod HeldViews
+pub mod WorkedViews
