@@ -25,7 +25,7 @@ use Rattle.assembly_laws.specs.Candidates.{Candidate, unsure, unknowable, by_cla
 use Rattle.assembly_laws.specs.Solver.{solver_planned, solver_handled, most_candidates, number_at, widest_of, plan_for, by_mode, everything, in_coherence, outside_coherence}
 use Rattle.assembly_laws.proofs.Realizing.{by-candidates, by-unknowable, unsure-realizes}
 use Rattle.assembly_laws.specs.Cover.{AreTermsOf, GivenIsRealized, all_candidates, SolutionsAreCandidates}
-use Rattle.assembly_laws.specs.Lawful.{SolverPremises, SolverIsLawful}
+use Rattle.assembly_laws.proofs.Premises.{SolverPremises, SolverIsLawful}
 use Rattle.assembly_laws.proofs.Reading.{true-false}
 use Rattle.assembly_laws.proofs.Beginnings.{begin-says-nothing}
 use Rattle.assembly_laws.proofs.Cover.{asked-by, known-kinds}

@@ -72,3 +72,4 @@ pub mod SolverLaw
 pub mod ErasedTerms
 pub mod HeldViews
 pub mod WorkedViews
+pub mod Premises

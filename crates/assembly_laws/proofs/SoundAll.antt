@@ -6,7 +6,8 @@ use Rattle.assembly_laws.specs.Meaning.{Meaning}
 use Rattle.assembly_laws.specs.DeclaredWell.{IsDeclaredWell}
 use Rattle.assembly_laws.specs.Asking.{self_of}
 use Rattle.assembly_laws.specs.Candidates.{Candidate, misc, if_so, as_written, upcasts_of, by_impls, by_objects}
-use Rattle.assembly_laws.specs.Lawful.{IsSoundFor, CandidatesAreSound}
+use Rattle.assembly_laws.specs.Lawful.{IsSoundFor}
+use Rattle.assembly_laws.proofs.Premises.{CandidatesAreSound}
 use Rattle.assembly_laws.proofs.CandidateKinds.{every-append}
 use Rattle.assembly_laws.proofs.SoundImpls.{impls-sound}
 use Rattle.assembly_laws.proofs.SoundObjects.{objects-sound}
