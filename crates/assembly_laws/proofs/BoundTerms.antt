@@ -18,7 +18,7 @@ use Rattle.assembly_laws.specs.Meaning.{Meaning}
 use Rattle.assembly_laws.specs.Asking.{Asked, all_known, are_clauses, is_variable_over}
 use Rattle.assembly_laws.specs.Declared.{is_declared, are_terms, are_references, is_declared_view, is_counted, is_lifetime_parameter, BoundsAreErased}
 use Rattle.assembly_laws.specs.Cover.{BoundsAreTerms}
-use Rattle.assembly_laws.specs.Lawful.{EquationsAreTerms}
+use Rattle.assembly_laws.proofs.Premises.{EquationsAreTerms}
 use Rattle.assembly_laws.specs.CoverLaw.{ErasedBoundsAreLeft}
 use Rattle.assembly_laws.proofs.Cover.{asked-by}
 use Rattle.assembly_laws.proofs.Elaborating.{elaborated-so}

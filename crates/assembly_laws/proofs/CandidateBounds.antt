@@ -21,7 +21,7 @@ use Rattle.assembly_laws.specs.Declared.{StructsAreOne}
 use Rattle.assembly_laws.specs.Candidates.{Candidate, premise, by_rule, by_the_impl, behind, misc, all_equal, unsure, unknowable, by_clauses, by_impls, is_relevant_to, by_sized, by_copy, by_auto, by_tuple, by_fn_ptr, call_of, by_call, unsize_array_of, upcasts_of, unsize_struct_of, unsize_known, by_unsize, built_in, object_source, written_source, objects_of, by_objects, as_written, clause_source}
 use Rattle.assembly_laws.specs.Cover.{all_candidates}
 use Rattle.assembly_laws.specs.Solver.{greatest, width_of, supers_of, declared_width, clauses_in, widest_of, most_candidates, number_at}
-use Rattle.assembly_laws.specs.Lawful.{CandidatesAreFew, PremisesAreFew}
+use Rattle.assembly_laws.proofs.Premises.{CandidatesAreFew, PremisesAreFew}
 use Rattle.assembly_laws.proofs.Cover.{IsAsked, asked-by}
 use Rattle.assembly_laws.proofs.DeclaredWidths.{greatest-at}
 use Rattle.assembly_laws.proofs.CandidateNumbers.{length-append, nested-append, map-length, last-few, autos-few, principal-few, sized-few, copy-few, auto-few, tuple-few, fn-ptr-few, to-dyn-few, FewCandidates, none-few, if-few, both-few, written-few, upcasts-few, structs-few, from-bounds-few, asked-supers-few, elaborated-few}

@@ -10,7 +10,7 @@ use Rattle.table_laws.specs.Widths.{width, width_of_predicates}
 use Rattle.assembly_laws.specs.Asking.{Asked}
 use Rattle.assembly_laws.specs.Candidates.{by_the_impl, behind}
 use Rattle.assembly_laws.specs.Solver.{greatest, width_of, declared_width}
-use Rattle.assembly_laws.specs.Lawful.{IsNarrow}
+use Rattle.assembly_laws.proofs.Premises.{IsNarrow}
 use Rattle.assembly_laws.proofs.CandidateWidths.{equal-within, premises-within, behind-within, behind-all-within}
 
 -- the greatest is above that with which it begins, and above each

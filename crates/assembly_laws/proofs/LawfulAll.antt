@@ -7,7 +7,8 @@ use Rattle.assembly_laws.specs.Meaning.{Meaning}
 use Rattle.assembly_laws.specs.Declared.{is_declared_view}
 use Rattle.assembly_laws.specs.Asking.{Asked, asked, self_of, next_of, begins_unknown}
 use Rattle.assembly_laws.specs.Candidates.{Candidate, built_in, by_sized, by_copy, by_auto, by_tuple, by_fn_ptr, by_call, by_unsize, by_impls, by_objects, unsure, misc, if_so, as_written, unsize_array_of, upcasts_of, unsize_struct_of, unsize_known}
-use Rattle.assembly_laws.specs.Lawful.{IsSoundFor, other_candidates, premised_candidates, SoundAndNarrowIsLawful}
+use Rattle.assembly_laws.specs.Lawful.{IsSoundFor}
+use Rattle.assembly_laws.proofs.Premises.{other_candidates, premised_candidates, SoundAndNarrowIsLawful}
 use Rattle.assembly_laws.proofs.CandidateKinds.{every-append}
 use Rattle.assembly_laws.proofs.LawfulCandidates.{each-lawful}
 use Rattle.assembly_laws.proofs.SoundRows.{sized-sound, copy-sound, auto-sound, tuple-sound, fn-ptr-sound}

@@ -37,7 +37,8 @@ use Rattle.assembly_laws.specs.Declared.{are_terms, are_references, is_declared_
 use Rattle.assembly_laws.specs.Determined.{ImplsAreDetermined}
 use Rattle.assembly_laws.specs.Solver.{solver_handled, declared_width}
 use Rattle.assembly_laws.specs.Cover.{all_candidates}
-use Rattle.assembly_laws.specs.Lawful.{IsSoundFor, IsNarrow, other_candidates}
+use Rattle.assembly_laws.specs.Lawful.{IsSoundFor}
+use Rattle.assembly_laws.proofs.Premises.{IsNarrow, other_candidates}
 use Rattle.assembly_laws.proofs.Cover.{IsAsked, asked-by, known-kinds}
 use Rattle.assembly_laws.proofs.Determined.{premises-step, facts-same, clause-fact}
 use Rattle.assembly_laws.proofs.CandidateWidths.{equal-within}

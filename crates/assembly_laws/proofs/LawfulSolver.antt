@@ -23,18 +23,12 @@ use Rattle.assembly_laws.specs.Meaning.{Meaning}
 use Rattle.assembly_laws.specs.Asking.{Asked, asked, clauses, self_of, begins_unknown, all_known}
 use Rattle.assembly_laws.specs.Candidates.{Candidate, unsure, unknowable, by_clauses, built_in, by_impls, by_objects}
 use Rattle.assembly_laws.specs.Solver.{solver_planned, solver_handled, most_candidates, number_at, widest_of, plan_for, by_mode, everything, in_coherence, outside_coherence}
-use Rattle.assembly_laws.proofs.Given.{given-is-realized}
 use Rattle.assembly_laws.proofs.Realizing.{by-candidates, by-unknowable, unsure-realizes}
 use Rattle.assembly_laws.specs.Cover.{AreTermsOf, GivenIsRealized, all_candidates, SolutionsAreCandidates}
-use Rattle.assembly_laws.specs.Lawful.{SolverPremises, SolverIsLawful, SolverIsLawfulByCandidates}
-use Rattle.assembly_laws.proofs.Solver.{solutions-by}
-use Rattle.assembly_laws.proofs.LawfulAll.{sound-and-narrow-is-lawful}
+use Rattle.assembly_laws.proofs.Premises.{SolverPremises, SolverIsLawful}
 use Rattle.assembly_laws.proofs.Reading.{true-false}
 use Rattle.assembly_laws.proofs.Beginnings.{begin-says-nothing}
 use Rattle.assembly_laws.proofs.Cover.{asked-by, known-kinds}
-use Rattle.assembly_laws.proofs.CandidateBounds.{candidates-are-few}
-use Rattle.assembly_laws.proofs.NarrowCandidates.{candidates-are-narrow}
-use Rattle.assembly_laws.proofs.BoundTerms.{equations-are-terms}
 use Rattle.assembly_laws.proofs.Plans.{coherence_keeps, outside_keeps, Realized}
 
 -- an unsure candidate says nothing
@@ -160,16 +154,3 @@ module _ (applicable : AnswerTrees → Bool) (is_test : IsTest frame_tables appl
 
 pub solver-is-lawful : SolverIsLawful
 solver-is-lawful applicable is_test same is_same m p mode f = is-lawful applicable is_test same is_same m p.realized mode f p
-
-pub solver-is-lawful-by-candidates : SolverIsLawfulByCandidates
-solver-is-lawful-by-candidates applicable is_test same is_same m p mode f =
-    solver-is-lawful applicable is_test same is_same m
-    (record {
-      realized = given-is-realized;
-      covers = λ e. solutions-by m (p.declared e) (p.determined e);
-      terms = λ e. equations-are-terms m (p.declared e) (p.erased e);
-      lawful = λ e. sound-and-narrow-is-lawful m (p.declared e) (p.determined e) (p.sound e) (candidates-are-narrow m (p.one_field e));
-      few = λ e. (candidates-are-few m (p.one_struct e)).0;
-      asks = λ e. (candidates-are-few m (p.one_struct e)).1;
-    })
-    mode f

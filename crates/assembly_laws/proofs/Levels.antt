@@ -8,10 +8,7 @@ use Rattle.model.proofs.Members.{here, there, in-nothing, in-cases, in-filter, i
 use Rattle.model.proofs.Entries.{map-in}
 use Rattle.model.proofs.Below.{below, below-length, below-strict}
 use Rattle.declarations.specs.Elaboration.{all_levels}
-
--- bounds lead to traits of lower rank
-abbrev pub LeadDown : World → (ℕ → ℕ) → Type 0
-LeadDown V rank = (x : TraitDecl) (b : Reference) → In x V.traits → In b x.bounds → rank b.trait < rank x.name
+pub use Rattle.assembly_laws.specs.Declared.{LeadDown}
 
 less-kept : (n a b : ℕ) → a ≤ b → ltb n a ≡ true → ltb n b ≡ true
 less-kept n a b h e = grind (arith, nat_tests)

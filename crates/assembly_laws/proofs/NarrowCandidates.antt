@@ -20,7 +20,7 @@ use Rattle.assembly_laws.specs.Meaning.{Meaning}
 use Rattle.assembly_laws.specs.Declared.{FieldsAreOne}
 use Rattle.assembly_laws.specs.Candidates.{Candidate, all_equal, by_rule, unsure, unknowable, by_the_impl, is_relevant_to, by_impls, as_written, misc, if_so, by_sized, by_copy, by_auto, by_tuple, by_fn_ptr, call_of, by_call, unsize_array_of, upcast_source, upcasts_from, upcasts_to, upcasts_of, unsize_by_struct, unsize_struct_of, unsize_known, by_unsize, built_in, bounds_from, object_source, written_source, objects_of, by_objects}
 use Rattle.assembly_laws.specs.Solver.{greatest, width_of, supers_of, declared_width, widest_of}
-use Rattle.assembly_laws.specs.Lawful.{IsNarrow, CandidatesAreNarrow}
+use Rattle.assembly_laws.proofs.Premises.{IsNarrow, CandidatesAreNarrow}
 use Rattle.assembly_laws.proofs.Cover.{IsAsked, asked-by}
 use Rattle.assembly_laws.proofs.Rowwise.{both-lists}
 use Rattle.assembly_laws.proofs.CandidateWidths.{equal-within, premises-within}

@@ -45,7 +45,7 @@ pub map-flat : {A B C : Type 0} (g : B → C) (f : A → List B) (ys : List A) �
 map-flat g f [] = refl
 map-flat g f (y ∷ ys) = map-append g (f y) (flat_map f ys) ∙ ap (λ w. map g (f y) ++ w) (map-flat g f ys)
 
-flat-map : {A B C : Type 0} (f : B → List C) (g : A → B) (ys : List A) → flat_map f (map g ys) ≡ flat_map (λ y. f (g y)) ys
+pub flat-map : {A B C : Type 0} (f : B → List C) (g : A → B) (ys : List A) → flat_map f (map g ys) ≡ flat_map (λ y. f (g y)) ys
 flat-map f g [] = refl
 flat-map f g (y ∷ ys) = ap (λ w. f (g y) ++ w) (flat-map f g ys)
 

@@ -54,7 +54,7 @@ unknown-or-rigid none e = absurd (true-false (sym e))
 unknown-or-rigid (tree (canonical of_type i) c o) e = inl (record { number = i; children = c; others = o; is = refl })
 unknown-or-rigid (tree l c o) e = inr (record { label = l; children = c; others = o; is = refl; rigid = e })
 
-not-true-false : (b : Bool) → not b ≡ true → b ≡ false
+pub not-true-false : (b : Bool) → not b ≡ true → b ≡ false
 not-true-false true e = absurd (true-false (sym e))
 not-true-false false e = refl
 
@@ -80,7 +80,7 @@ module _ (m : Meaning) (declared : is_declared_view m.view ≡ true) (f : Canoni
     pub proper : (s.own.proper && fits f.kinds s.own.terms) ≡ true
     pub plain : Plain (read_with (given s.slots) a.reference.args)
 
-  held : (s : Terms) → Allows (fresh (begin a.kinds) []) s → (s.own.proper && fits f.kinds s.own.terms) ≡ true → is_plain (goal_fact f s.own) ≡ true → Held s
+  pub held : (s : Terms) → Allows (fresh (begin a.kinds) []) s → (s.own.proper && fits f.kinds s.own.terms) ≡ true → is_plain (goal_fact f s.own) ≡ true → Held s
   held s l proper plain = record {
     allowed = l;
     proper = proper;

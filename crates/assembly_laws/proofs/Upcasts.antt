@@ -43,7 +43,7 @@ all-named rs (b ∷ bs) =
     ap (λ p. p && list_all (λ (b : Reference). list_any (λ (q : Reference). q.trait == b.trait) rs) bs) (any-named b.trait rs)
     ∙ ap (λ p. list_any (λ j. j == b.trait) (traits_of rs) && p) (all-named rs bs)
 
-autos-same : (V : World) (ps qs bs ps' qs' bs' : List Reference) → traits_of ps ≡ traits_of ps' → traits_of qs ≡ traits_of qs' → traits_of bs ≡ traits_of bs' → upcasts_autos V ps qs bs ≡ upcasts_autos V ps' qs' bs'
+pub autos-same : (V : World) (ps qs bs ps' qs' bs' : List Reference) → traits_of ps ≡ traits_of ps' → traits_of qs ≡ traits_of qs' → traits_of bs ≡ traits_of bs' → upcasts_autos V ps qs bs ≡ upcasts_autos V ps' qs' bs'
 autos-same V ps qs bs ps' qs' bs' e f g =
     all-named (qs ++ elaborated V ps) bs
     ∙ ap (λ ts. list_all (λ t. list_any (λ j. j == t) (traits_of (qs ++ elaborated V ps))) ts) g

@@ -1,8 +1,8 @@
 -- Declarations as they are to be, up to lifetimes.
-use Rattle.std.specs.Prelude.{◌≡◌, ◌≤◌, ℕ, suc, Bool, true, false, ◌&&◌, not, List, length}
+use Rattle.std.specs.Prelude.{◌≡◌, ◌≤◌, ◌<◌, ◌==◌, ℕ, suc, Bool, true, false, ◌&&◌, ◌||◌, not, nat_lt, List, length}
 use Rattle.std.specs.List.{list_all}
-use Rattle.model.specs.Label.{Label, of_lifetime, param, placeholder, infer, canonical, bound, fn_ptr, principal}
-use Rattle.model.specs.Trees.{Trees, some_node, Single}
+use Rattle.model.specs.Label.{Label, Sort, of_lifetime, param, placeholder, infer, canonical, bound, fn_ptr, principal}
+use Rattle.model.specs.Trees.{Trees, is_sort, some_node, Single}
 use Rattle.model.specs.Worlds.{World, Reference, StructDecl, TraitDecl, ImplDecl, structs_named}
 use Rattle.model.specs.Proofs.{In}
 use Rattle.type_terms.specs.Made.{terms}
@@ -53,3 +53,21 @@ is_lifetime_parameter l = false
 -- the bounds of traits are up to lifetimes, so that no lifetime parameter stands there
 abbrev pub BoundsAreErased : World → Type 0
 BoundsAreErased V = (x : TraitDecl) (r : Reference) → In x V.traits → In r x.bounds → some_node is_lifetime_parameter r.args ≡ false
+
+-- the parameter of this number, but of another sort
+abbrev pub is_otherwise : Sort → ℕ → Label → Bool
+is_otherwise k i (param s j) = not (is_sort s k) && (i == j)
+is_otherwise k i l = false
+
+-- a parameter that is past the impl's, or stands in the header with two sorts
+abbrev pub is_unsorted : ℕ → Trees → Label → Bool
+is_unsorted n header (param s i) = not (nat_lt i n) || some_node (is_otherwise s i) header
+is_unsorted n header l = false
+
+-- each parameter in the header of an impl is one of the impl's, and has one sort there
+abbrev pub parameters_are_sorted : World → Bool
+parameters_are_sorted V = list_all (λ (i : ImplDecl). not (some_node (is_unsorted i.params i.header.args) i.header.args)) V.impls
+
+-- bounds lead to traits of lower rank
+abbrev pub LeadDown : World → (ℕ → ℕ) → Type 0
+LeadDown V rank = (x : TraitDecl) (b : Reference) → In x V.traits → In b x.bounds → rank b.trait < rank x.name

@@ -5,9 +5,8 @@ use Rattle.model.specs.Renumbering.{View}
 use Rattle.model.specs.LinkedSet.{LinkedSet}
 use Rattle.assembly_laws.specs.Knowing.{SupersStand}
 
--- the crates that a crate sees, up to lifetimes, and the crate; and whether they are written as they are to be: each type or const
--- parameter of an impl stands in its header, a parameter has one sort, bounds are acyclic and auto traits have none. If they are
--- not, no goal is decided
+-- the crates that a crate sees, up to lifetimes, and the crate; and whether they are found to be declared well. If they are not, no
+-- goal is decided
 pub record Meaning : Type 0 where
   pub view : World
   pub crate : ℕ

@@ -4,7 +4,9 @@
 ghost use Rattle.assembly_laws.specs.Facts.{ProofsOfFactsAreProofs, ReferencesComeBack};
 ghost use Rattle.assembly_laws.specs.Knowing.{WhatIsKnownFollowsByTheView, SupertraitsByTheViewStand};
 ghost use Rattle.assembly_laws.specs.Cover.{SolutionsAreByCandidates, GivenIsRealized};
-ghost use Rattle.assembly_laws.specs.Lawful.{SolverIsLawfulByCandidates, SoundAndNarrowIsLawful, RowsAreSound, UnsizingIsSound};
+ghost use Rattle.assembly_laws.specs.Lawful.{SolverIsLawfulAndCovers, WellDeclaredIsLawful, RowsAreSound, UnsizingIsSound, ImplsAreSound, ObjectBoundsAreSound, UpcastsAreSound, ToDynIsSound};
+ghost use Rattle.assembly_laws.specs.DeclaredWell.{TestsTell, CoreIsDeclaredWell};
+ghost use Rattle.assembly_laws.specs.HeldViews.{HeldIsDeclaredWell};
 ghost use Rattle.assembly_laws.specs.Worlds.{KeepWorlds};
 ghost use Rattle.assembly_laws.specs.CoverLaw.{CoherenceIsCovered, CoherenceIsLawful, ErasedBoundsAreLeft};
 
@@ -47,18 +49,31 @@ pub fn coherence_is_covered()
     ensures bounds { ErasedBoundsAreLeft }
 {}
 
-/// The solver keeps the laws of handlers, where the candidates by types that unsize to a `dyn`, by impls and by object bounds are
-/// sound and the self type is known. That no candidate is wider than the goal and what is declared, and that there are not too
-/// many, follows from how the view is declared.
-pub fn solver_is_lawful()
-    ensures handler { SolverIsLawfulByCandidates }
-    ensures candidates { SoundAndNarrowIsLawful }
+/// A view that passes the tests is declared well, and `core` passes them. Of declarations whose terms an interner holds fewer are left:
+/// that open places are parameters, that these stand in headers, each with one sort, that bounds form no cycle, and that structs have
+/// names of their own.
+pub fn views_are_tested()
+    ensures tell { TestsTell }
+    ensures core { CoreIsDeclaredWell }
+    ensures held { HeldIsDeclaredWell }
 {}
 
-/// Sound are the candidates by the built-in rules of `Sized`, `Copy` and `Clone`, auto traits, `Tuple`, `FnPtr`, and calls of fn
-/// pointers; and those by arrays that unsize to slices, and by structs whose last field unsizes. Of what is declared it is asked only
-/// that terms are made as they are to be.
+/// Every candidate by a rule is sound: those by the built-in rules of `Sized`, `Copy` and `Clone`, auto traits, `Tuple`, `FnPtr`, and
+/// calls of fn pointers; by arrays that unsize to slices, and structs whose last field unsizes; by impls, object bounds and upcasts; and
+/// by other types that unsize to a `dyn`, where the self type is known.
 pub fn rows_are_sound()
     ensures rows { RowsAreSound }
     ensures unsizing { UnsizingIsSound }
+    ensures impls { ImplsAreSound }
+    ensures objects { ObjectBoundsAreSound }
+    ensures upcasts { UpcastsAreSound }
+    ensures to_dyn { ToDynIsSound }
+{}
+
+/// Where the view is declared well, the solver is a lawful handler of every goal in both modes; and in coherence each solution of a
+/// goal, in every linked set with the crate, is realized by a candidate that was considered before the answer. If the view is not found
+/// to be declared well, no goal is decided. Each candidate of a goal whose self type is known is lawful.
+pub fn solver_is_lawful()
+    ensures handler { SolverIsLawfulAndCovers }
+    ensures candidates { WellDeclaredIsLawful }
 {}

@@ -1,5 +1,9 @@
 use Rattle.assembly_laws.proofs.SoundCalls.{rows-are-sound}
 use Rattle.assembly_laws.proofs.SoundUnsizing.{unsizing-is-sound}
+use Rattle.assembly_laws.proofs.SoundImpls.{impls-are-sound}
+use Rattle.assembly_laws.proofs.SoundObjects.{object-bounds-are-sound}
+use Rattle.assembly_laws.proofs.SoundUpcasts.{upcasts-are-sound}
+use Rattle.assembly_laws.proofs.SoundToDyn.{to-dyn-is-sound}
 use Rattle.assembly_laws.proofs.rows_are_sound.Goals as goal
 
 pub returns-clause-rows : goal.returns-clause-rows
@@ -7,3 +11,15 @@ returns-clause-rows g m = rows-are-sound m
 
 pub returns-clause-unsizing : goal.returns-clause-unsizing
 returns-clause-unsizing g m = unsizing-is-sound m
+
+pub returns-clause-impls : goal.returns-clause-impls
+returns-clause-impls g m = impls-are-sound m
+
+pub returns-clause-objects : goal.returns-clause-objects
+returns-clause-objects g m = object-bounds-are-sound m
+
+pub returns-clause-upcasts : goal.returns-clause-upcasts
+returns-clause-upcasts g m = upcasts-are-sound m
+
+pub returns-clause-to_dyn : goal.returns-clause-to_dyn
+returns-clause-to_dyn g m = to-dyn-is-sound m

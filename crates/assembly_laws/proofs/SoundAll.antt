@@ -1,0 +1,32 @@
+-- Every candidate that is not proved to be sound by rows is sound too: by types that unsize to a `dyn`, upcasts, impls and object bounds.
+use Rattle.std.proofs.Common.{◌≡◌, ◌==◌, Bool, true, false, List, ◌++◌, refl}
+use Rattle.model.specs.Rules.{unsize, unsize_to_dyn_rules}
+use Rattle.evaluation.specs.Lists.{Every}
+use Rattle.assembly_laws.specs.Meaning.{Meaning}
+use Rattle.assembly_laws.specs.DeclaredWell.{IsDeclaredWell}
+use Rattle.assembly_laws.specs.Asking.{self_of}
+use Rattle.assembly_laws.specs.Candidates.{Candidate, misc, if_so, as_written, upcasts_of, by_impls, by_objects}
+use Rattle.assembly_laws.specs.Lawful.{IsSoundFor}
+use Rattle.assembly_laws.proofs.Premises.{CandidatesAreSound}
+use Rattle.assembly_laws.proofs.CandidateKinds.{every-append}
+use Rattle.assembly_laws.proofs.SoundImpls.{impls-sound}
+use Rattle.assembly_laws.proofs.SoundObjects.{objects-sound}
+use Rattle.assembly_laws.proofs.SoundUpcasts.{upcasts-sound}
+use Rattle.assembly_laws.proofs.SoundToDyn.{to-dyn-sound}
+
+under : (P : Candidate → Type 0) (b : Bool) (cs : List Candidate) → (b ≡ true → Every P cs) → Every P (if_so b cs)
+under P true cs e = e refl
+under P false cs e = tt
+
+pub candidates-are-sound : (m : Meaning) → IsDeclaredWell m.view → CandidatesAreSound m
+candidates-are-sound m w f a is known =
+    every-append (IsSoundFor m f a) (if_so (a.reference.trait == unsize) (to_dyn ++ upcasts)) (by_impls m.view a m.view.impls ++ by_objects m.view a)
+    (under (IsSoundFor m f a) (a.reference.trait == unsize) (to_dyn ++ upcasts)
+    (λ q. every-append (IsSoundFor m f a) to_dyn upcasts (to-dyn-sound m w.terms f a is q known) (upcasts-sound m w.terms w.erased w.rank w.acyclic f a is q)))
+    (every-append (IsSoundFor m f a) (by_impls m.view a m.view.impls) (by_objects m.view a) (impls-sound m w.terms w.determined w.sorted f a is) (objects-sound m w.terms f a is w.erased w.rank w.acyclic))
+  where
+    to_dyn : List Candidate
+    to_dyn = as_written m.view a misc (unsize_to_dyn_rules m.view (self_of a))
+
+    upcasts : List Candidate
+    upcasts = upcasts_of m.view a (self_of a)
