@@ -1,0 +1,4 @@
+pub mod Visiting
+pub mod Looking
+pub mod Stepping
+pub mod Ending

@@ -1,0 +1,18 @@
+use Rattle.std.proofs.Common.{◌∙◌, ap}
+use Rattle.model.specs.Trees.{◌+++◌}
+use Rattle.type_terms.specs.Terms.{bounds_lists}
+use Rattle.type_terms.specs.Kinds.{region_trees, bounds_trees}
+use Rattle.term_folds.specs.Kept.{trees-is}
+use Rattle.declarations.specs.Items.{declared}
+use Rattle.orphan_check.specs.Steps.{home_in}
+use Rattle.orphan_check.specs.Looks.{dyn_look}
+use Rattle.orphan_check.proofs.Looking.{no-principal}
+use Rattle.orphan_check.proofs.look.take_dyn.Goals as goal
+
+pub returns-in-None : goal.returns-in-None
+returns-in-None c r =
+    let es = c.args.cx.now.entries in
+    let V = declared es c.args.decls.now in
+    let d = home_in c.args.decls.now.local c.args.in_crate in
+    ap (λ t. dyn_look V d (t +++ region_trees r)) (trees-is es bounds_lists c.args.bounds.0 (bounds_trees es c.bounds.result.now) c.bounds.ensures.is)
+    ∙ no-principal es V d c.bounds.result.now r c.in-None.is

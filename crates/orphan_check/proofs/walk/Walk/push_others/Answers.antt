@@ -1,0 +1,30 @@
+use Rattle.std.proofs.Common.{refl, ◌∙◌, ap, sym, subst, ◌≡◌, ◌++◌, ◌∷◌, []}
+use Rattle.type_terms.specs.Kinds.{ArgsHeld}
+use Rattle.type_terms.specs.declared.kinds.GenericArgKind.TheVariants.{Ty}
+use Rattle.orphan_check.specs.Walks.{ArePending, pending_steps, reads}
+use Rattle.orphan_check.proofs.Stepping.{each-push, push-last, skip-last, args-held-append}
+use Rattle.orphan_check.proofs.walk.Walk.push_others.Goals as goal
+
+pub others-preserved-in_ok-push : goal.others-preserved-in_ok-push
+others-preserved-in_ok-push g c =
+    let es = c.args.self.now.cx.now.entries in
+    let r = reads g.N.Normalize.answers c.args.self.now in
+    let is : c.others.left.now ≡ c.in-Some.others.now ++ Ty c.in-Ty.ty ∷ [] = c.in-Some.ensures.cases.0 ∙ ap (λ z. c.in-Some.others.now ++ z ∷ []) c.in-Ty.is in
+    let held = args-held-append es c.in-Some.others.now (Ty c.in-Ty.ty) (subst (ArgsHeld es) is c.others.invariant.0) in (
+      held.0,
+      subst (ArePending es) (sym c.in_ok-push.ensures.items) (each-push _ c.others.pending.items _ c.others.invariant.1 held.1),
+      push-last es c.lawful.ensures r c.args.limit c.args.args.now c.others.left.now c.in-Some.others.now c.in-Ty.ty c.args.pending.now.items c.others.pending.items c.push.new.self.items _ is c.others.invariant.0
+          c.in_ok-push.ensures.items refl refl refl c.others.invariant.2,
+    )
+
+pub others-preserved : goal.others-preserved
+others-preserved g c =
+    let es = c.args.self.now.cx.now.entries in
+    let r = reads g.N.Normalize.answers c.args.self.now in
+    let is = c.in-Some.ensures.cases.0 in (
+      (args-held-append es c.in-Some.others.now c.in-Some.last.now (subst (ArgsHeld es) is c.others.invariant.0)).0,
+      c.others.invariant.1,
+      c.others.invariant.2
+          ∙ ap (λ z. z ++ pending_steps es r c.others.pending.items)
+          (skip-last es c.lawful.ensures r c.args.limit c.others.left.now c.in-Some.others.now c.in-Some.last.now is c.others.invariant.0 (λ t e. c.in_default-last.not-Ty _ e)),
+    )

@@ -1,0 +1,61 @@
+-- What the calls of a walk answer.
+use Rattle.std.specs.Prelude.{◌≡◌, ◌⊎◌, Bool, true, false, List, Option, Some, None, Result, Ok, Err}
+use Rattle.model.specs.Trees.{Trees}
+use Rattle.type_terms.specs.Terms.{Entry, trees_at}
+use Rattle.type_terms.specs.declared.kinds.Ty.{Ty}
+use Rattle.orphan_check.specs.declared.errors.InCrate.{InCrate}
+use Rattle.orphan_check.specs.declared.errors.InCrate.TheVariants.{Local, Remote}
+use Rattle.orphan_check.specs.declared.errors.OrphanCheckErr.{OrphanCheckErr}
+use Rattle.orphan_check.specs.declared.errors.OrphanCheckErr.TheVariants.{NonLocalInputType, UncoveredTyParams}
+use Rattle.orphan_check.specs.declared.errors.WalkError.{WalkError}
+use Rattle.orphan_check.specs.declared.errors.WalkError.TheVariants.{Normalize, Deep, Memory}
+use Rattle.orphan_check.specs.declared.errors.Conflict.{Conflict}
+use Rattle.orphan_check.specs.declared.errors.Conflict.TheVariants.{Upstream, Downstream}
+use Rattle.orphan_check.specs.Flags.{leaves_in}
+use Rattle.orphan_check.specs.Steps.{Step, refused, too_deep, met_local, met_open, first_end, second_end, leaves}
+
+-- A local type ends the walk with success, and so does an open place in the walk of another crate.
+abbrev pub Passes : {E : Type 0} → InCrate → Option (Step E) → Type 0
+Passes k (Some (met_local t)) = Unit {0}
+Passes Remote (Some (met_open t)) = Unit {0}
+Passes k s = ⊥
+
+-- The first local type of a second walk, which a refusal ends without one.
+abbrev pub IsLocalType : {E : Type 0} → List Entry → Option Ty → Option (Step E) → Type 0
+IsLocalType es (Some t) (Some (met_local u)) = u ≡ trees_at es t.0
+IsLocalType es None None = Unit {0}
+IsLocalType es None (Some (refused e)) = Unit {0}
+IsLocalType es t s = ⊥
+
+-- The type lies deeper than the limit.
+abbrev pub IsDeep : {E : Type 0} → Option (Step E) → Type 0
+IsDeep (Some (too_deep t first)) = Unit {0}
+IsDeep s = ⊥
+
+-- An open place ends the walk of the crate that asks.
+abbrev pub IsUncovered : {E : Type 0} → InCrate → Option (Step E) → Trees → Type 0
+IsUncovered (Local mode) s t = s ≡ Some (met_open t)
+IsUncovered Remote s t = ⊥
+
+-- The answer of an orphan check whose walk has these steps.
+abbrev pub IsOrphanAnswer : {E : Type 0} → List Entry → InCrate → List (Step E) → Result (Result (Unit {0}) (OrphanCheckErr Ty)) (WalkError E) → Type 0
+IsOrphanAnswer es k ss (Ok (Ok u)) = Passes k (first_end ss)
+IsOrphanAnswer es k ss (Ok (Err (NonLocalInputType v))) = (first_end ss ≡ None) × (leaves_in es v.items ≡ leaves ss)
+IsOrphanAnswer es k ss (Ok (Err (UncoveredTyParams u))) = IsUncovered k (first_end ss) (trees_at es u.uncovered.0) × IsLocalType es u.local_ty (second_end ss)
+IsOrphanAnswer es k ss (Err (Normalize e)) = first_end ss ≡ Some (refused e)
+IsOrphanAnswer es k ss (Err Deep) = IsDeep (first_end ss) ⊎ ((t : Trees) × IsUncovered k (first_end ss) t × IsDeep (second_end ss))
+IsOrphanAnswer es k ss (Err Memory) = Unit {0}
+
+-- No type passes, and none is uncovered or refused: the first walk ran out.
+abbrev pub RanOut : {E : Type 0} → List (Step E) → Type 0
+RanOut ss = first_end ss ≡ None
+
+-- Whether a reference is known whose trait is the crate's own or fundamental, or is not; its walk for other crates has the
+-- steps rs, and for the crate that asks the steps ls.
+abbrev pub IsKnowableAnswer : {E : Type 0} → Bool → List (Step E) → List (Step E) → InCrate → Result (Result (Unit {0}) Conflict) (WalkError E) → Type 0
+IsKnowableAnswer own rs ls k (Ok (Ok u)) = RanOut rs × ((own ≡ true) ⊎ Passes k (first_end ls))
+IsKnowableAnswer own rs ls k (Ok (Err Downstream)) = Passes Remote (first_end rs)
+IsKnowableAnswer own rs ls k (Ok (Err Upstream)) = RanOut rs × (own ≡ false) × (Passes k (first_end ls) → ⊥)
+IsKnowableAnswer {E} own rs ls k (Err (Normalize e)) = (first_end rs ≡ Some (refused e)) ⊎ (RanOut rs × (first_end ls ≡ Some (refused e)))
+IsKnowableAnswer own rs ls k (Err Deep) = IsDeep (first_end rs) ⊎ IsDeep (first_end ls) ⊎ IsDeep (second_end ls)
+IsKnowableAnswer own rs ls k (Err Memory) = Unit {0}

@@ -1,0 +1,15 @@
+-- Flags of leaves, as a contract sees them.
+use Rattle.std.specs.Prelude.{Bool, true, false, List, map}
+use Rattle.model.specs.Trees.{Trees}
+use Rattle.type_terms.specs.Terms.{Entry, trees_at}
+use Rattle.type_terms.specs.declared.kinds.Ty.{Ty}
+use Rattle.orphan_check.specs.declared.errors.IsFirstInputType.{IsFirstInputType}
+use Rattle.orphan_check.specs.declared.errors.IsFirstInputType.TheVariants.{No, Yes}
+
+abbrev pub is_first : IsFirstInputType → Bool
+is_first No = false
+is_first Yes = true
+
+-- Leaves with their flags, over the terms of an interner.
+abbrev pub leaves_in : List Entry → List (Ty × IsFirstInputType) → List (Trees × Bool)
+leaves_in es ps = map (λ p. (trees_at es p.0.0, is_first p.1)) ps

@@ -1,0 +1,36 @@
+-- Which references that may hold unknowns are known to a crate: those of which no other crate can have an impl for an instance.
+use Rattle.std.specs.Prelude.{ℕ, Bool, true, not, ◌&&◌, ◌||◌, ◌==◌, List, None, Result}
+use Rattle.std.specs.List.{list_any, list_all}
+use Rattle.model.specs.Worlds.{World, Reference}
+use Rattle.model.specs.Walks.{visited, trait_is, item_in, open_walk, is_known_in}
+use Rattle.model.specs.LinkedSet.{is_open_place}
+use Rattle.model.specs.Trees.{Trees}
+use Rattle.type_terms.specs.Terms.{Entry, trees_at}
+use Rattle.term_folds.specs.declared.predicate.TraitRef.{TraitRef}
+use Rattle.declarations.specs.Items.{Items, declared}
+use Rattle.infer_table.specs.Content.{Table}
+use Rattle.orphan_check.specs.declared.errors.Conflict.{Conflict}
+use Rattle.orphan_check.specs.declared.errors.WalkError.{WalkError}
+use Rattle.orphan_check.specs.declared.errors.OrphanCheckMode.TheVariants.{Proper}
+use Rattle.orphan_check.specs.declared.errors.InCrate.TheVariants.{Local, Remote}
+use Rattle.orphan_check.specs.Steps.{reading, steps}
+use Rattle.orphan_check.specs.Answers.{IsKnowableAnswer}
+
+-- The open walk of the reference visits a parameter, a variable, a placeholder or a bound type.
+abbrev pub meets_open : World → Reference → Bool
+meets_open V r = list_any is_open_place (visited V None r.args)
+
+-- Known as it is written, and no open place is visited: else a crate that uses this one may write its own type there.
+abbrev pub is_knowable : World → ℕ → Reference → Bool
+is_knowable V c r = is_known_in V c r && not (meets_open V r)
+
+-- What the open walk of the reference meets is declared, and so is its trait.
+abbrev pub is_written_in : World → Reference → Bool
+is_written_in V r = trait_is (λ _. true) V r.trait && list_all (item_in V) (open_walk V r)
+
+-- The answer of a call, by the walks for other crates and for the crate that asks.
+abbrev pub IsKnowableBy : {E : Type 0} → List Entry → Items → Table → (Trees → Result Trees E) → ℕ → TraitRef → Result (Result (Unit {0}) Conflict) (WalkError E) → Type 0
+IsKnowableBy es d t f limit r a =
+    let args = trees_at es r.args.0 in
+    let own = trait_is (λ x. (x.home == d.local) || x.is_fundamental) (declared es d) r.def_id.index in
+    IsKnowableAnswer own (steps (reading es d t f Remote) limit args) (steps (reading es d t f (Local Proper)) limit args) (Local Proper) a

@@ -1,0 +1,92 @@
+-- The steps of a walk that reads types by the values of variables and by a normalizer, down to a limit.
+use Rattle.std.specs.Prelude.{ℕ, zero, suc, Bool, true, false, if◌then◌else◌, List, [], ◌∷◌, ◌++◌, Option, Some, None, Result, Ok, Err}
+use Rattle.model.specs.Label.{of_type}
+use Rattle.model.specs.Trees.{Trees, none, tree, is_sort, sort_of}
+use Rattle.model.specs.Worlds.{World}
+use Rattle.type_terms.specs.Terms.{Entry}
+use Rattle.declarations.specs.Items.{Items, declared}
+use Rattle.infer_table.specs.Solutions.{Binding}
+use Rattle.infer_table.specs.Content.{Table, content}
+use Rattle.infer_table.specs.Resolving.{followed, is_open}
+use Rattle.orphan_check.specs.declared.errors.InCrate.{InCrate}
+use Rattle.orphan_check.specs.declared.errors.InCrate.TheVariants.{Local, Remote}
+use Rattle.orphan_check.specs.Looks.{Look, local_type, open_type, leaf_type, passage, look}
+
+-- Where a walk reads: the declarations, the crate whose items are local, the values of variables, and what the normalizer
+-- answers at a type.
+pub record Reading (E : Type 0) : Type 0 where
+  pub view : World
+  pub home : Option ℕ
+  pub values : List Binding
+  pub answers : Trees → Result Trees E
+
+-- In the walk of another crate nothing is local.
+abbrev pub home_in : ℕ → InCrate → Option ℕ
+home_in c (Local mode) = Some c
+home_in c Remote = None
+
+abbrev pub reading : {E : Type 0} → List Entry → Items → Table → (Trees → Result Trees E) → InCrate → Reading E
+reading es d t f k = record { view = declared es d; home = home_in d.local k; values = content es t.values; answers = f }
+
+-- One step: the normalizer refused a type; a type lies deeper than the limit; a type was entered; or it was met as local, as an
+-- open place, or as a leaf.
+pub data Step (E : Type 0) : Type 0 where
+  refused : E → Step E
+  too_deep met_foreign : Trees → Bool → Step E
+  entered : Step E
+  met_local met_open : Trees → Step E
+
+-- A type is read as the normalizer answers it, or as it is where that is a variable.
+abbrev pub settled : {E : Type 0} → Trees → Result Trees E → Result Trees E
+settled t (Ok u) = if is_open u then Ok t else Ok u
+settled t (Err e) = Err e
+
+-- The normalizer is handed the type with the value of a variable in its place.
+abbrev pub read : {E : Type 0} → Reading E → Trees → Result Trees E
+read r t = settled (followed r.values t) (r.answers (followed r.values t))
+
+-- The steps of the types of a list, of which the first may be the first of all.
+abbrev pub steps_in : {E : Type 0} → (Bool → Trees → List (Step E)) → Bool → Trees → List (Step E)
+steps_in go first none = []
+steps_in go first (tree l c o) = if is_sort (sort_of l) of_type then go first (tree l c none) ++ steps_in go false o else steps_in go first o
+
+abbrev pub step_of : {E : Type 0} → Look → Trees → Bool → List (Step E) → List (Step E)
+step_of local_type t first inner = met_local t ∷ []
+step_of open_type t first inner = met_open t ∷ []
+step_of leaf_type t first inner = met_foreign t first ∷ []
+step_of passage t first inner = entered ∷ inner
+
+abbrev pub steps_at : {E : Type 0} → (Bool → Trees → List (Step E)) → Reading E → Bool → Result Trees E → List (Step E)
+steps_at go r first (Ok none) = []
+steps_at go r first (Ok (tree l c o)) = step_of (look r.view r.home l c) (tree l c o) first (steps_in go first c)
+steps_at go r first (Err e) = refused e ∷ []
+
+-- The steps at a type, in which so many types may lie in one another.
+abbrev pub steps_to : {E : Type 0} → Reading E → ℕ → Bool → Trees → List (Step E)
+steps_to r zero first t = too_deep t first ∷ []
+steps_to r (suc n) first t = steps_at (λ f u. steps_to r n f u) r first (read r t)
+
+-- The steps at all arguments.
+abbrev pub steps : {E : Type 0} → Reading E → ℕ → Trees → List (Step E)
+steps r limit args = steps_in (λ f u. steps_to r limit f u) true args
+
+-- What ends a first walk: all but a leaf.
+abbrev pub first_end : {E : Type 0} → List (Step E) → Option (Step E)
+first_end [] = None
+first_end (entered ∷ ss) = first_end ss
+first_end (met_foreign t first ∷ ss) = first_end ss
+first_end (s ∷ ss) = Some s
+
+-- What ends a second walk, which looks for a local type alone.
+abbrev pub second_end : {E : Type 0} → List (Step E) → Option (Step E)
+second_end [] = None
+second_end (entered ∷ ss) = second_end ss
+second_end (met_foreign t first ∷ ss) = second_end ss
+second_end (met_open t ∷ ss) = second_end ss
+second_end (s ∷ ss) = Some s
+
+-- The leaves.
+abbrev pub leaves : {E : Type 0} → List (Step E) → List (Trees × Bool)
+leaves [] = []
+leaves (met_foreign t first ∷ ss) = (t, first) ∷ leaves ss
+leaves (s ∷ ss) = leaves ss

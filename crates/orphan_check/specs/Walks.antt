@@ -1,0 +1,88 @@
+-- What the parts of a walk answer.
+use Rattle.std.specs.Prelude.{◌≡◌, ◌⊎◌, ℕ, Bool, List, [], ◌∷◌, ◌++◌, Option, Some, None, Result, Ok, Err}
+use Rattle.model.specs.Trees.{Trees, none, tree, ◌+++◌}
+use Rattle.model.specs.Worlds.{World}
+use Rattle.type_terms.specs.Terms.{Entry, Has, types, args_lists, trees_at}
+use Rattle.type_terms.specs.Kinds.{region_trees}
+use Rattle.type_terms.specs.declared.region.Region.{Region}
+use Rattle.type_terms.specs.declared.kinds.Ty.{Ty}
+use Rattle.declarations.specs.Merges.{Each}
+use Rattle.orphan_check.specs.declared.look.Taken.{Taken}
+use Rattle.orphan_check.specs.declared.look.Taken.TheVariants.{Local, NonLocal, Uncovered, Reference, Fundamental}
+use Rattle.orphan_check.specs.declared.walk.Pending.{Pending}
+use Rattle.orphan_check.specs.declared.walk.Walk.{Walk}
+use Rattle.orphan_check.specs.declared.walk.Met.{Met}
+use Rattle.orphan_check.specs.declared.walk.Met.TheVariants.{Entered, Local as MetLocal, NonLocal as MetNonLocal, Uncovered as MetUncovered}
+use Rattle.orphan_check.specs.declared.walk.End.{End}
+use Rattle.orphan_check.specs.declared.walk.End.TheVariants.{Local as EndLocal, Uncovered as EndUncovered, NonLocal as EndNonLocal}
+use Rattle.orphan_check.specs.declared.errors.WalkError.{WalkError}
+use Rattle.orphan_check.specs.declared.errors.WalkError.TheVariants.{Normalize, Deep, Memory}
+use Rattle.orphan_check.specs.Looks.{local_type, open_type, leaf_type, passage, look}
+use Rattle.orphan_check.specs.Flags.{is_first, leaves_in}
+use Rattle.orphan_check.specs.Steps.{Reading, Step, refused, too_deep, entered, met_local, met_open, met_foreign, reading, steps_in, steps_to, first_end, second_end, leaves}
+
+-- The type is taken as it looks; what is entered is there with its arguments.
+abbrev pub IsTaken : List Entry → World → Option ℕ → Trees → Taken → Type 0
+IsTaken es V d none k = ⊥
+IsTaken es V d (tree l c o) Local = look V d l c ≡ local_type
+IsTaken es V d (tree l c o) NonLocal = look V d l c ≡ leaf_type
+IsTaken es V d (tree l c o) Uncovered = look V d l c ≡ open_type
+IsTaken es V d (tree l c o) (Reference to) = (look V d l c ≡ passage) × Has es types to.0 × ((r : Region) × (c ≡ region_trees r +++ trees_at es to.0))
+IsTaken es V d (tree l c o) (Fundamental args) = (look V d l c ≡ passage) × Has es args_lists args.0 × (c ≡ trees_at es args.0)
+
+-- A type is read so, or refused.
+abbrev pub IsRead : {E : Type 0} → List Entry → Result Trees E → Result Ty (WalkError E) → Type 0
+IsRead es u (Ok t) = (u ≡ Ok (trees_at es t.0)) × Has es types t.0
+IsRead es u (Err (Normalize e)) = u ≡ Err e
+IsRead es u (Err x) = ⊥
+
+-- Where a walk reads, with what its normalizer answers.
+abbrev pub reads : {N E : Type 0} → (N → Trees → Result Trees E) → Walk N → Reading E
+reads answers w = reading w.cx.now.entries w.decls.now w.infcx.now (answers w.normalize.now) w.in_crate
+
+-- The types that wait are the interner's.
+abbrev pub ArePending : List Entry → List Pending → Type 0
+ArePending es ps = Each (λ p. Has es types p.ty.0) ps
+
+-- The steps at the types that wait, the last of which comes first, and then further ones.
+abbrev pub steps_before : {E : Type 0} → List Entry → Reading E → List Pending → List (Step E) → List (Step E)
+steps_before es r [] ss = ss
+steps_before es r (p ∷ ps) ss = steps_before es r ps (steps_to r p.limit (is_first p.first) (trees_at es p.ty.0) ++ ss)
+
+abbrev pub pending_steps : {E : Type 0} → List Entry → Reading E → List Pending → List (Step E)
+pending_steps es r ps = steps_before es r ps []
+
+-- The steps at types that were put on the stack come first.
+abbrev pub ArePushed : {E : Type 0} → List Entry → Reading E → ℕ → Bool → Trees → List Pending → List Pending → Type 0
+ArePushed es r limit first args old new = pending_steps es r new ≡ steps_in (λ f u. steps_to r limit f u) first args ++ pending_steps es r old
+
+abbrev pub step_met : {E : Type 0} → List Entry → Met → Step E
+step_met es Entered = entered
+step_met es (MetLocal t) = met_local (trees_at es t.0)
+step_met es (MetUncovered t) = met_open (trees_at es t.0)
+step_met es (MetNonLocal t first) = met_foreign (trees_at es t.0) (is_first first)
+
+-- The first step of a list, and the others.
+abbrev pub IsStep : {E : Type 0} → List Entry → List (Step E) → Result (Option Met) (WalkError E) → List (Step E) → Type 0
+IsStep es before (Ok None) after = before ≡ []
+IsStep es before (Ok (Some m)) after = before ≡ step_met es m ∷ after
+IsStep {E} es before (Err (Normalize e)) after = (rest : List (Step E)) × (before ≡ refused e ∷ rest)
+IsStep {E} es before (Err Deep) after = (t : Trees) × (first : Bool) × (rest : List (Step E)) × (before ≡ too_deep t first ∷ rest)
+IsStep es before (Err Memory) after = Unit {0}
+
+-- What ends a first walk; where nothing does, these are all leaves.
+abbrev pub IsFirstEnd : {E : Type 0} → List Entry → List (Step E) → Result End (WalkError E) → Type 0
+IsFirstEnd es ss (Ok EndLocal) = (t : Trees) × (first_end ss ≡ Some (met_local t))
+IsFirstEnd es ss (Ok (EndUncovered t)) = first_end ss ≡ Some (met_open (trees_at es t.0))
+IsFirstEnd es ss (Ok (EndNonLocal v)) = (first_end ss ≡ None) × (leaves_in es v.items ≡ leaves ss)
+IsFirstEnd es ss (Err (Normalize e)) = first_end ss ≡ Some (refused e)
+IsFirstEnd es ss (Err Deep) = (t : Trees) × (first : Bool) × (first_end ss ≡ Some (too_deep t first))
+IsFirstEnd es ss (Err Memory) = Unit {0}
+
+-- What ends a second walk: a local type, or none where the steps run out or a type is refused.
+abbrev pub IsSecondEnd : {E : Type 0} → List Entry → List (Step E) → Result (Option Ty) (WalkError E) → Type 0
+IsSecondEnd es ss (Ok (Some t)) = second_end ss ≡ Some (met_local (trees_at es t.0))
+IsSecondEnd {E} es ss (Ok None) = (second_end ss ≡ None) ⊎ ((e : E) × (second_end ss ≡ Some (refused e)))
+IsSecondEnd es ss (Err (Normalize e)) = ⊥
+IsSecondEnd es ss (Err Deep) = (t : Trees) × (first : Bool) × (second_end ss ≡ Some (too_deep t first))
+IsSecondEnd es ss (Err Memory) = Unit {0}

@@ -1,0 +1,9 @@
+//! The orphan check (RFC 2451), and which references are known to a crate.
+#![tactic(auto)]
+
+pub mod errors;
+pub mod knowable;
+mod look;
+pub mod normalize;
+pub mod orphan;
+mod walk;

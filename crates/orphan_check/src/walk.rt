@@ -1,0 +1,214 @@
+//! The walk of a reference's types, which keeps the types that are still to be visited on a stack of its own.
+ghost use Rattle.std.specs.Prelude.{false, OnOk};
+ghost use Rattle.type_terms.specs.Terms.{Has, types, args_lists, trees_at};
+ghost use Rattle.type_terms.specs.Kinds.{ArgsHeld, args_trees};
+ghost use Rattle.infer_table.specs.Content.{Ready};
+ghost use Rattle.orphan_check.specs.Flags.{is_first};
+ghost use Rattle.orphan_check.specs.Steps.{read, steps};
+
+use crate::errors::{InCrate, IsFirstInputType, WalkError};
+use crate::look::{Taken, take};
+use crate::normalize::Normalize;
+use declarations::declarations::Declarations;
+use infer_table::infer_ctxt::InferCtxt;
+use std::alloc::{AllocFailed, Global};
+use type_terms::interner::Interner;
+use type_terms::kinds::{GenericArgKind, GenericArgs, Ty, TyKind};
+
+/// A type that is still to be visited.
+#[derive(Clone, Copy)]
+pub(crate) struct Pending {
+    pub ty: Ty,
+    /// How many types may lie in one another from here on.
+    pub limit: u32,
+    /// Whether no visited type will have been left before it.
+    pub first: IsFirstInputType,
+}
+
+/// What was met at a type.
+#[derive(Clone, Copy)]
+pub(crate) enum Met {
+    /// A reference or a fundamental struct, whose arguments are pending now.
+    Entered,
+    Local(Ty),
+    Uncovered(Ty),
+    NonLocal(Ty, IsFirstInputType),
+}
+
+/// What ended a walk that stops at the first local type or open place.
+pub(crate) enum End {
+    Local,
+    Uncovered(Ty),
+    /// Nothing: these are all types that were met.
+    NonLocal(Vec<(Ty, IsFirstInputType)>),
+}
+
+/// Where a walk reads types (`OrphanChecker`).
+#[derive_where(Clone, Copy)]
+pub(crate) struct Walk<'a, N> {
+    pub cx: &'a Interner,
+    pub infcx: &'a InferCtxt,
+    pub decls: &'a Declarations,
+    pub normalize: &'a N,
+    pub in_crate: InCrate,
+}
+
+impl<N: Normalize> Walk<'_, N> {
+    ghost use Rattle.orphan_check.specs.Walks.{IsRead, IsStep, IsFirstEnd, IsSecondEnd, ArePending, ArePushed, pending_steps, reads};
+
+    /// The type as the normalizer answers it, or as it is where that is a variable. Variables have their values.
+    fn read(&self, ty: Ty) -> Result<Ty, WalkError<N::Error>>
+        requires held { Has self.now.cx.now.entries types ty.0 }
+        requires ready { Ready self.now.cx.now.entries self.now.infcx.now }
+        ensures { IsRead self.now.cx.now.entries (read (reads N.answers self.now) (trees_at self.now.cx.now.entries ty.0)) result }
+    {
+        let ty = self.infcx.shallow_resolve(self.cx, ty);
+        match self.normalize.normalize(self.cx, ty) {
+            Ok(normal) => match self.cx.kind(normal) {
+                TyKind::Infer(_) => Ok(ty),
+                _ => Ok(normal),
+            },
+            Err(error) => Err(WalkError::Normalize(error)),
+        }
+    }
+
+    /// Puts the types of a list on the stack, of which the first of all types is not one.
+    fn push_others(
+        &self,
+        args: &[GenericArgKind],
+        limit: u32,
+        pending: &mut Vec<Pending>,
+    ) -> Result<(), AllocFailed<Pending>>
+        requires held { ArgsHeld self.now.cx.now.entries args.now }
+        requires pending_held { ArePending self.now.cx.now.entries pending.old.items }
+        ensures held { OnOk result (ArePending self.now.cx.now.entries pending.new.items) }
+        ensures pushed { OnOk result (ArePushed self.now.cx.now.entries (reads N.answers self.now) limit false (args_trees self.now.cx.now.entries args.now) pending.old.items pending.new.items) }
+    {
+        self.cx.lawful();
+        let mut left = args;
+        'others: while let Some((last, others)) = left.split_last() {
+            if let GenericArgKind::Ty(ty) = last {
+                pending.push(Pending {
+                    ty: *ty,
+                    limit,
+                    first: IsFirstInputType::No,
+                })?;
+            }
+            left = others;
+        }
+        Ok(())
+    }
+
+    /// Puts the types of these arguments on the stack, the first one uppermost.
+    fn push_types(
+        &self,
+        args: GenericArgs,
+        limit: u32,
+        first: IsFirstInputType,
+        pending: &mut Vec<Pending>,
+    ) -> Result<(), AllocFailed<Pending>>
+        requires held { Has self.now.cx.now.entries args_lists args.0 }
+        requires pending_held { ArePending self.now.cx.now.entries pending.old.items }
+        ensures held { OnOk result (ArePending self.now.cx.now.entries pending.new.items) }
+        ensures pushed { OnOk result (ArePushed self.now.cx.now.entries (reads N.answers self.now) limit (is_first first) (trees_at self.now.cx.now.entries args.0) pending.old.items pending.new.items) }
+    {
+        self.cx.lawful();
+        let mut left = self.cx.args(args);
+        'types: while let Some((arg, others)) = left.split_first() {
+            if let GenericArgKind::Ty(ty) = arg {
+                self.push_others(others, limit, pending)?;
+                pending.push(Pending {
+                    ty: *ty,
+                    limit,
+                    first,
+                })?;
+                return Ok(());
+            }
+            left = others;
+        }
+        Ok(())
+    }
+
+    /// Visits the next type, if there is one.
+    fn step(&self, pending: &mut Vec<Pending>) -> Result<Option<Met>, WalkError<N::Error>>
+        requires ready { Ready self.now.cx.now.entries self.now.infcx.now }
+        requires pending_held { ArePending self.now.cx.now.entries pending.old.items }
+        ensures held { OnOk result (ArePending self.now.cx.now.entries pending.new.items) }
+        ensures stepped { let es = self.now.cx.now.entries in let r = reads N.answers self.now in IsStep es (pending_steps es r pending.old.items) result (pending_steps es r pending.new.items) }
+    {
+        self.cx.lawful();
+        let Some(next) = pending.pop() else {
+            return Ok(None);
+        };
+        if next.limit == 0 {
+            return Err(WalkError::Deep);
+        }
+        let inside = next.limit - 1;
+        let ty = self.read(next.ty)?;
+        match take(self.cx, self.decls, self.in_crate, ty) {
+            Taken::Local => Ok(Some(Met::Local(ty))),
+            Taken::Uncovered => Ok(Some(Met::Uncovered(ty))),
+            Taken::NonLocal => Ok(Some(Met::NonLocal(ty, next.first))),
+            Taken::Reference(to) => {
+                pending.push(Pending {
+                    ty: to,
+                    limit: inside,
+                    first: next.first,
+                })?;
+                Ok(Some(Met::Entered))
+            }
+            Taken::Fundamental(args) => {
+                self.push_types(args, inside, next.first, pending)?;
+                Ok(Some(Met::Entered))
+            }
+        }
+    }
+
+    /// Walks to the first local type or open place.
+    pub fn first_end(
+        &self,
+        alloc: Global,
+        args: GenericArgs,
+        limit: u32,
+    ) -> Result<End, WalkError<N::Error>>
+        requires held { Has self.now.cx.now.entries args_lists args.0 }
+        requires ready { Ready self.now.cx.now.entries self.now.infcx.now }
+        ensures { IsFirstEnd self.now.cx.now.entries (steps (reads N.answers self.now) limit (trees_at self.now.cx.now.entries args.0)) result }
+    {
+        let mut pending = Vec::new(alloc);
+        self.push_types(args, limit, IsFirstInputType::Yes, &mut pending)?;
+        let mut leaves = Vec::new(alloc);
+        'walk: while let Some(met) = self.step(&mut pending)? {
+            match met {
+                Met::Entered => {}
+                Met::Local(_) => return Ok(End::Local),
+                Met::Uncovered(ty) => return Ok(End::Uncovered(ty)),
+                Met::NonLocal(ty, first) => leaves.push((ty, first))?,
+            }
+        }
+        Ok(End::NonLocal(leaves))
+    }
+
+    /// Walks to the first local type, if there is one before a type that is refused.
+    pub fn first_local(
+        &self,
+        alloc: Global,
+        args: GenericArgs,
+        limit: u32,
+    ) -> Result<Option<Ty>, WalkError<N::Error>>
+        requires held { Has self.now.cx.now.entries args_lists args.0 }
+        requires ready { Ready self.now.cx.now.entries self.now.infcx.now }
+        ensures { IsSecondEnd self.now.cx.now.entries (steps (reads N.answers self.now) limit (trees_at self.now.cx.now.entries args.0)) result }
+    {
+        let mut pending = Vec::new(alloc);
+        self.push_types(args, limit, IsFirstInputType::Yes, &mut pending)?;
+        'walk: loop {
+            match self.step(&mut pending) {
+                Ok(Some(Met::Local(ty))) => return Ok(Some(ty)),
+                Ok(Some(_)) => {}
+                Ok(None) | Err(WalkError::Normalize(_)) => return Ok(None),
+                Err(error) => return Err(error),
+            }
+        }
+    }
+}
