@@ -135,6 +135,16 @@ impl<'t, 'a> Cursor<'t, 'a> {
         None
     }
 
+    /// A cursor of its own over the tokens that are left.
+    pub fn rest(&self) -> Self
+        ensures { result ≡ self.now }
+    {
+        Cursor {
+            tokens: self.tokens,
+            at: self.at,
+        }
+    }
+
     /// Whether all tokens are read.
     pub fn is_empty(&self) -> bool
         ensures { result ≡ is_nil self.now }

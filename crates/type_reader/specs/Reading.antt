@@ -1,5 +1,5 @@
 -- The type at the front of tokens, as a function.
-use Rattle.std.specs.Prelude.{◌≡◌, ℕ, ◌+◌, ◌*◌, List, [], length, Option, Some, None, Result, Ok, Err}
+use Rattle.std.specs.Prelude.{◌≡◌, ◌+◌, ◌*◌, List, [], length, Option, Some, None, Result, Ok, Err}
 use Rattle.text_definitions.specs.Tokens.{Token}
 use Rattle.line_tokens.specs.declared.line_error.LineError.{LineError}
 use Rattle.line_tokens.specs.declared.line_error.LineError.TheVariants as errors

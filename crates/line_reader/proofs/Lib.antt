@@ -1,0 +1,7 @@
+mod IsPart
+mod EachMark
+mod Types
+mod ParamOrder
+mod Lists
+mod Lines
+mod Going

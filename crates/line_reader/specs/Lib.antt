@@ -1,0 +1,5 @@
+pub mod Statement
+pub mod Parts
+pub mod Views
+pub mod Steps
+pub mod Lines
