@@ -5,3 +5,4 @@ mod ParamOrder
 mod Lists
 mod Lines
 mod Going
+mod Standing

@@ -3,3 +3,4 @@ pub mod Parts
 pub mod Views
 pub mod Steps
 pub mod Lines
+pub mod Places

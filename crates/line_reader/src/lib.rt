@@ -15,5 +15,13 @@ mod statement;
 mod struct_line;
 mod trait_line;
 
-pub use line::read_line;
+ghost use Rattle.line_reader.specs.Places.{SpansStand};
+
+pub use line::{is_ascii, is_blank, read_line};
 pub use statement::{ClauseSpans, LineRead, Param, Span, Statement};
+
+/// Each type and bound of a line stands where its statement says: within the cells, one or more, as if it had been put behind the cells
+/// before it.
+pub fn spans_stand()
+    ensures { SpansStand }
+{}

@@ -1,7 +1,7 @@
 //! One line.
-ghost use Rattle.std.specs.Prelude.{IfOk, IsErrOf};
+ghost use Rattle.std.specs.Prelude.{◌≡◌, ◌==◌, length, take_while, IfOk, IsErrOf};
 ghost use Rattle.text_definitions.specs.Syntax.{Line};
-ghost use Rattle.text_definitions.specs.Written.{IsWritten};
+ghost use Rattle.text_definitions.specs.Written.{IsWritten, is_ascii, is_blank};
 ghost use Rattle.line_tokens.specs.Views.{tokens_in};
 ghost use Rattle.line_reader.specs.Lines.{ReadsLine, SaysLine};
 ghost use Rattle.line_reader.specs.Parts.{auto_front, fundamental_front, statement_at, line_at, written_in};
@@ -52,6 +52,27 @@ impl<'t, 'a> Reader<'t, 'a> {
             _ => Err(LineError::Syntax),
         }
     }
+}
+
+/// Whether all bytes are below 128.
+pub fn is_ascii(line: &[u8]) -> bool
+    ensures { result ≡ is_ascii line.now }
+{
+    line.iter().all(|b| *b < 128)
+}
+
+fn spaces(line: &[u8]) -> usize
+    ensures { result ≡ length (take_while (λ b. b == 32) line.now) }
+{
+    line.iter().take_while(|b| **b == b' ').count()
+}
+
+/// Whether a line has nothing to read: spaces, and behind them nothing or a comment.
+pub fn is_blank(line: &[u8]) -> bool
+    ensures { result ≡ is_blank line.now }
+{
+    let rest = line.split_at(spaces(line)).1;
+    rest.is_empty() || rest.starts_with(b"//")
 }
 
 /// The line that these tokens spell.
