@@ -51,20 +51,22 @@ onto_both o i x c = i x.1 (o x.0 c)
 abbrev pub place_both : {T U Y Z : Type 0} → (T → List Cell → List Cell) → (T → List Cell → Y) → (U → List Cell → Z) → T × U → List Cell → Y × Z
 place_both o l k x c = (l x.0 c, k x.1 (o x.0 c))
 
+both-found : {T U Y Z : Type 0} {s : T → List Token} {r : U → List Token} {o : T → List Cell → List Cell} {i : U → List Cell → List Cell} {l : T → List Cell → Y} {k : U → List Cell → Z} {p q u : Progress} {y : Y} {z : Z}
+    → Found s o l p q y → Found r i k q u z → Found (spell_both s r) (onto_both o i) (place_both o l k) p u (y, z)
+both-found {T} {U} {Y} {Z} {s} {r} {o} {i} {l} {k} {p} {q} {u} {y} {z} m n = record {
+  tree = (m.tree, n.tree);
+  tokens = m.tokens ∙ ap (λ x. s m.tree ++ x) n.tokens ∙ sym (append_assoc (s m.tree) (r n.tree) u.1);
+  placed = ap (λ x. (x, z)) m.placed ∙ ap (λ x. (l m.tree p.0, x)) (n.placed ∙ ap (k n.tree) m.cells);
+  cells = n.cells ∙ ap (i n.tree) m.cells;
+}
+
 pub both-part : {T U Y Z : Type 0} {f : Part Y} {g : Part Z} {s : T → List Token} {r : U → List Token} {o : T → List Cell → List Cell} {i : U → List Cell → List Cell} {l : T → List Cell → Y} {k : U → List Cell → Z} {B C : List Token → Type 0}
     → IsPart f s o l B → IsPart g r i k C → ((u : U) (ts : List Token) → C ts → B (r u ++ ts)) → IsPart (both f g) (spell_both s r) (onto_both o i) (place_both o l k) C
 both-part {T} {U} {Y} {Z} {f} {g} {s} {r} {o} {i} {l} {k} {B} {C} w v fits = record {
   takes = λ p q z e.
       let a = bind-some (f p) (λ x. g x.1 >>= λ y. Some ((x.0, y.0), y.1)) (z, q) e in
       let b = bind-some (g a.0.1) (λ y. Some ((a.0.0, y.0), y.1)) (z, q) a.2 in
-      let m = w.takes p a.0.1 a.0.0 a.1 in
-      let n = v.takes a.0.1 b.0.1 b.0.0 b.1 in
-      let found : Found (spell_both s r) (onto_both o i) (place_both o l k) p b.0.1 (a.0.0, b.0.0) = record {
-        tree = (m.tree, n.tree);
-        tokens = m.tokens ∙ ap (λ x. s m.tree ++ x) n.tokens ∙ sym (append_assoc (s m.tree) (r n.tree) b.0.1.1);
-        placed = ap (λ x. (x, b.0.0)) m.placed ∙ ap (λ x. (l m.tree p.0, x)) (n.placed ∙ ap (k n.tree) m.cells);
-        cells = n.cells ∙ ap (i n.tree) m.cells;
-      } in
+      let found = both-found (w.takes p a.0.1 a.0.0 a.1) (v.takes a.0.1 b.0.1 b.0.0 b.1) in
       moved ((a.0.0, b.0.0), b.0.1) (z, q) found (same_Some ((a.0.0, b.0.0), b.0.1) (z, q) b.2);
   again = λ c t ts h.
       ap (λ x. both f g (c, x)) (append_assoc (s t.0) (r t.1) ts)
@@ -93,18 +95,20 @@ behind-part {T} {Y} {m} {k} {f} {s} {o} {l} {B} mark w = record {
   again = λ c t r b. ap (λ x. x >>= λ ts. f (c, ts)) (mark.again (s t ++ r)) ∙ w.again c t r b;
 }
 
+before-found : {T Y : Type 0} {m : Mark} {k : Token} {s : T → List Token} {o : T → List Cell → List Cell} {l : T → List Cell → Y} {p q : Progress} {y : Y} {ts : List Token} → IsMark m k → Found s o l p q y → m q.1 ≡ Some ts → Found (λ t. s t ++ k ∷ []) o l p (q.0, ts) y
+before-found {T} {Y} {m} {k} {s} {o} {l} {p} {q} {y} {ts} mark n e = record {
+  tree = n.tree;
+  tokens = n.tokens ∙ ap (λ x. s n.tree ++ x) (mark.takes q.1 ts e) ∙ sym (append_assoc (s n.tree) (k ∷ []) ts);
+  placed = n.placed;
+  cells = n.cells;
+}
+
 pub before-part : {T Y : Type 0} {m : Mark} {k : Token} {f : Part Y} {s : T → List Token} {o : T → List Cell → List Cell} {l : T → List Cell → Y} {B : List Token → Type 0} → IsMark m k → IsPart f s o l B → ((r : List Token) → B (k ∷ r)) → IsPart (before_mark f m) (λ t. s t ++ k ∷ []) o l Any
 before-part {T} {Y} {m} {k} {f} {s} {o} {l} {B} mark w fits = record {
   takes = λ p q y e.
       let a = bind-some (f p) (λ x. m x.1.1 >>= λ ts. Some (x.0, (x.1.0, ts))) (y, q) e in
       let b = bind-some (m a.0.1.1) (λ ts. Some (a.0.0, (a.0.1.0, ts))) (y, q) a.2 in
-      let n = w.takes p a.0.1 a.0.0 a.1 in
-      let found : Found (λ t. s t ++ k ∷ []) o l p (a.0.1.0, b.0) a.0.0 = record {
-        tree = n.tree;
-        tokens = n.tokens ∙ ap (λ x. s n.tree ++ x) (mark.takes a.0.1.1 b.0 b.1) ∙ sym (append_assoc (s n.tree) (k ∷ []) b.0);
-        placed = n.placed;
-        cells = n.cells;
-      } in
+      let found = before-found mark (w.takes p a.0.1 a.0.0 a.1) b.1 in
       moved (a.0.0, (a.0.1.0, b.0)) (y, q) found (same_Some (a.0.0, (a.0.1.0, b.0)) (y, q) b.2);
   again = λ c t r b.
       ap (λ x. before_mark f m (c, x)) (append_assoc (s t) (k ∷ []) r)
@@ -113,6 +117,14 @@ before-part {T} {Y} {m} {k} {f} {s} {o} {l} {B} mark w fits = record {
 }
 
 -- ---- those of which a test holds
+kept-found : {T U Y : Type 0} {s : T → List Token} {o : T → List Cell → List Cell} {l : T → List Cell → Y} {p q : Progress} {y : Y} (good : U → T) → (n : Found s o l p q y) → (u : U) → n.tree ≡ good u → Found (λ v. s (good v)) (λ v. o (good v)) (λ v. l (good v)) p q y
+kept-found {T} {U} {Y} {s} {o} {l} {p} {q} {y} good n u e = record {
+  tree = u;
+  tokens = n.tokens ∙ ap (λ t. s t ++ q.1) e;
+  placed = n.placed ∙ ap (λ t. l t p.0) e;
+  cells = n.cells ∙ ap (λ t. o t p.0) e;
+}
+
 pub kept-part : {T U Y : Type 0} {f : Part Y} {s : T → List Token} {o : T → List Cell → List Cell} {l : T → List Cell → Y} {B : List Token → Type 0} (test : Y → Bool) (good : U → T)
     → IsPart f s o l B → ((u : U) (c : List Cell) → test (l (good u) c) ≡ true) → ((t : T) (c : List Cell) → test (l t c) ≡ true → (u : U) × (t ≡ good u))
     → IsPart (kept test f) (λ u. s (good u)) (λ u. o (good u)) (λ u. l (good u)) B
@@ -122,12 +134,7 @@ kept-part {T} {U} {Y} {f} {s} {o} {l} {B} test good w holds only = record {
       let b = if-some (test a.0.0) (Some a.0) (y, q) a.2 in
       let n = w.takes p a.0.1 a.0.0 a.1 in
       let u = only n.tree p.0 (ap test (sym n.placed) ∙ b.0) in
-      let found : Found (λ v. s (good v)) (λ v. o (good v)) (λ v. l (good v)) p a.0.1 a.0.0 = record {
-        tree = u.0;
-        tokens = n.tokens ∙ ap (λ t. s t ++ a.0.1.1) u.1;
-        placed = n.placed ∙ ap (λ t. l t p.0) u.1;
-        cells = n.cells ∙ ap (λ t. o t p.0) u.1;
-      } in
+      let found = kept-found good n u.0 u.1 in
       moved a.0 (y, q) found (same_Some a.0 (y, q) b.1);
   again = λ c u r b.
       ap (λ x. x >>= λ y. if test y.0 then Some y else None) (w.again c (good u) r b)
@@ -158,26 +165,32 @@ onto_list o x c = all_onto o (x.0 ∷ x.1) c
 abbrev pub place_list : {T Y : Type 0} → (T → List Cell → List Cell) → (T → List Cell → Y) → T × List T → List Cell → List Y
 place_list o l x c = all_spans o l (x.0 ∷ x.1) c
 
+more-found : {T Y : Type 0} {s : T → List Token} {o : T → List Cell → List Cell} {l : T → List Cell → Y} {m : Mark} {g : Sign} {p q r : Progress} {y : Y} {ys : List Y} {ts : List Token} → IsMark m (sign g)
+    → Found s o l p q y → m q.1 ≡ Some ts → Found (spell_list s g) (onto_list o) (place_list o l) (q.0, ts) r ys → Found (spell_list s g) (onto_list o) (place_list o l) p r (y ∷ ys)
+more-found {T} {Y} {s} {o} {l} {m} {g} {p} {q} {r} {y} {ys} {ts} mark u e n = record {
+  tree = (u.tree, n.tree.0 ∷ n.tree.1);
+  tokens = u.tokens ∙ ap (λ z. s u.tree ++ z) (mark.takes q.1 ts e ∙ ap (λ z. sign g ∷ z) n.tokens) ∙ sym (append_assoc (s u.tree) (behind g (map s (n.tree.0 ∷ n.tree.1))) r.1);
+  placed = ap (λ z. z ∷ ys) u.placed ∙ ap (λ z. l u.tree p.0 ∷ z) (n.placed ∙ ap (place_list o l n.tree) u.cells);
+  cells = n.cells ∙ ap (onto_list o n.tree) u.cells;
+}
+
+last-found : {T Y : Type 0} {s : T → List Token} {o : T → List Cell → List Cell} {l : T → List Cell → Y} {p q : Progress} {y : Y} (g : Sign) → Found s o l p q y → Found (spell_list s g) (onto_list o) (place_list o l) p q (y ∷ [])
+last-found {T} {Y} {s} {o} {l} {p} {q} {y} g u = record {
+  tree = (u.tree, []);
+  tokens = u.tokens ∙ ap (λ z. z ++ q.1) (sym (append-nil (s u.tree)));
+  placed = ap (λ z. z ∷ []) u.placed;
+  cells = u.cells;
+}
+
 next-takes : {T Y : Type 0} {s : T → List Token} {o : T → List Cell → List Cell} {l : T → List Cell → Y} {m : Mark} {g : Sign} → IsMark m (sign g) → (more : Part (List Y))
     → ((p q : Progress) (ys : List Y) → more p ≡ Some (ys, q) → Found (spell_list s g) (onto_list o) (place_list o l) p q ys) → (p : Progress) (x : Y × Progress) → Found s o l p x.1 x.0
     → (r : Option (List Token)) → m x.1.1 ≡ r → (q : Progress) (ys : List Y) → next_with r more x ≡ Some (ys, q) → Found (spell_list s g) (onto_list o) (place_list o l) p q ys
 next-takes {T} {Y} {s} {o} {l} {m} {g} mark more w p x u (Some ts) e q ys d =
     let a = bind-some (more (x.1.0, ts)) (λ zs. Some (x.0 ∷ zs.0, zs.1)) (ys, q) d in
-    let n = w (x.1.0, ts) a.0.1 a.0.0 a.1 in
-    let found : Found (spell_list s g) (onto_list o) (place_list o l) p a.0.1 (x.0 ∷ a.0.0) = record {
-      tree = (u.tree, n.tree.0 ∷ n.tree.1);
-      tokens = u.tokens ∙ ap (λ z. s u.tree ++ z) (mark.takes x.1.1 ts e ∙ ap (λ z. sign g ∷ z) n.tokens) ∙ sym (append_assoc (s u.tree) (behind g (map s (n.tree.0 ∷ n.tree.1))) a.0.1.1);
-      placed = ap (λ z. z ∷ a.0.0) u.placed ∙ ap (λ z. l u.tree p.0 ∷ z) (n.placed ∙ ap (place_list o l n.tree) u.cells);
-      cells = n.cells ∙ ap (onto_list o n.tree) u.cells;
-    } in
+    let found = more-found mark u e (w (x.1.0, ts) a.0.1 a.0.0 a.1) in
     moved (x.0 ∷ a.0.0, a.0.1) (ys, q) found (same_Some (x.0 ∷ a.0.0, a.0.1) (ys, q) a.2)
 next-takes {T} {Y} {s} {o} {l} {m} {g} mark more w p x u None e q ys d =
-    let found : Found (spell_list s g) (onto_list o) (place_list o l) p x.1 (x.0 ∷ []) = record {
-      tree = (u.tree, []);
-      tokens = u.tokens ∙ ap (λ z. z ++ x.1.1) (sym (append-nil (s u.tree)));
-      placed = ap (λ z. z ∷ []) u.placed;
-      cells = u.cells;
-    } in
+    let found = last-found g u in
     moved (x.0 ∷ [], x.1) (ys, q) found (same_Some (x.0 ∷ [], x.1) (ys, q) d)
 
 below-takes : {T Y : Type 0} {f : Part Y} {s : T → List Token} {o : T → List Cell → List Cell} {l : T → List Cell → Y} {B : List Token → Type 0} {m : Mark} {g : Sign} → IsPart f s o l B → IsMark m (sign g)

@@ -5,4 +5,4 @@ mod ParamOrder
 mod Lists
 mod Lines
 mod Going
-mod Standing
+pub mod Standing
