@@ -7,3 +7,4 @@ mod Stacks
 mod Weights
 mod Turning
 pub mod TypeAt
+pub mod Reading

@@ -17,14 +17,14 @@ run-then zero m x = let e : 0 + m ≡ m = omega arith in rw e refl
 run-then (suc n) m x = let e : suc n + m ≡ suc (n + m) = omega arith in rw e (run-then n m (step x))
 
 -- the order doesn't matter
-run-again : (n m : ℕ) (x : State) → run m (run n x) ≡ run n (run m x)
+pub run-again : (n m : ℕ) (x : State) → run m (run n x) ≡ run n (run m x)
 run-again n m x = let e : n + m ≡ m + n = omega arith in run-then n m x ∙ ap (λ k. run k x) e ∙ sym (run-then m n x)
 
-stays-finished : (n : ℕ) (out : List Cell) (r : List Token) → run n (finished out r) ≡ finished out r
+pub stays-finished : (n : ℕ) (out : List Cell) (r : List Token) → run n (finished out r) ≡ finished out r
 stays-finished zero out r = refl
 stays-finished (suc n) out r = stays-finished n out r
 
-stays-stuck : (n : ℕ) → run n stuck ≡ stuck
+pub stays-stuck : (n : ℕ) → run n stuck ≡ stuck
 stays-stuck zero = refl
 stays-stuck (suc n) = stays-stuck n
 
@@ -45,7 +45,7 @@ one-end x out o r q (n, e) (m, f) =
 no-end : (x : State) (out : List Cell) (r : List Token) → Reaches x (finished out r) → Reaches x stuck → finished out r ≡ stuck
 no-end x out r (n, e) (m, f) = sym (stays-finished m out r) ∙ ap (run m) (sym e) ∙ run-again n m x ∙ ap (run n) f ∙ stays-stuck n
 
-reaches : (o : List Cell) (t : TypeTree) (r : List Token) → Follows r → Reaches (opening [] o (type_spelling t ++ r)) (finished (type_onto t o) r)
+pub reaches : (o : List Cell) (t : TypeTree) (r : List Token) → Follows r → Reaches (opening [] o (type_spelling t ++ r)) (finished (type_onto t o) r)
 reaches o t r h =
     let p = all_read t r h in
     (p.steps, sym (view-run o p.steps (trees.opening [] (type_spelling t ++ r))) ∙ ap (view o) p.comes)
@@ -103,7 +103,7 @@ one_type t u r q h k e =
     (ap (tree-of t) f, ap rest-of f)
 
 -- ---- bounds
-bound-reaches : (o : List Cell) (n : List ℕ) (args : Args) (r : List Token) → NoAngle r → Reaches (opening [] o (type_spelling (named n args) ++ r)) (finished (type_onto (named n args) o) r)
+pub bound-reaches : (o : List Cell) (n : List ℕ) (args : Args) (r : List Token) → NoAngle r → Reaches (opening [] o (type_spelling (named n args) ++ r)) (finished (type_onto (named n args) o) r)
 bound-reaches o n args r h =
     let p = bound_read n args r h in
     (p.steps, sym (view-run o p.steps (trees.opening [] (type_spelling (named n args) ++ r))) ∙ ap (view o) p.comes)

@@ -4,6 +4,7 @@ ghost use Rattle.std.specs.Option.{option_map};
 ghost use Rattle.line_tokens.specs.Views.{text_of};
 ghost use Rattle.type_reader.specs.Views.{cells_in, open_of, opens_in, length_of};
 ghost use Rattle.type_reader.specs.Laws.{SpellsType, ReadsType, IfSpelled};
+ghost use Rattle.type_reader.specs.Reading.{type_read, GivesType};
 
 use crate::cell::{Cell, Length, Next, Open};
 use line_tokens::{Cursor, Keyword, LineError, Sign, Token};
@@ -546,6 +547,8 @@ pub fn read_type<'t, 'a>(
     ensures only { IfSpelled cursor.entry (λ t rest. IfOk result (λ r. ReadsType t (cells_in cells.entry.items) (cells_in r.cells.items) rest r.left)) }
     // Nothing is refused that spells a type.
     ensures refused { IsErrOf result LineError.Syntax → IfSpelled cursor.entry (λ t rest. ⊥) }
+    // All of this at once: what is returned is what the function of the definitions gives.
+    ensures reads { GivesType result (type_read (cells_in cells.entry.items) cursor.entry) }
 {
     let mut reader = Reader {
         cursor,

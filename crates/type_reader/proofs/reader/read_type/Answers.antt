@@ -1,6 +1,7 @@
 use Rattle.type_reader.specs.Views.{cells_in}
 use Rattle.type_reader.proofs.MachineLaws.{finds, machine_reads}
 use Rattle.type_reader.proofs.Turning.{is-refused}
+use Rattle.type_reader.proofs.Reading.{reads-finished, gives-error}
 use Rattle.type_reader.proofs.reader.read_type.Goals as goal
 
 pub returns-in_err-run-clause-refused : goal.returns-in_err-run-clause-refused
@@ -14,3 +15,11 @@ returns-clause-found c = finds (cells_in c.args.cells.items) c.args.cursor c.run
 pub returns-clause-only : goal.returns-clause-only
 returns-clause-only c t rest h k =
     machine_reads (cells_in c.args.cells.items) c.args.cursor c.run.new.self.cursor (cells_in c.run.new.self.cells.items) t rest (rw c.new.ensures.items at c.in_ok-run.ensures) h k
+
+pub returns-clause-reads : goal.returns-clause-reads
+returns-clause-reads c = reads-finished (cells_in c.args.cells.items) c.args.cursor c.run.new.self.cursor (cells_in c.run.new.self.cells.items) (rw c.new.ensures.items at c.in_ok-run.ensures)
+
+pub returns-in_err-run-clause-reads : goal.returns-in_err-run-clause-reads
+returns-in_err-run-clause-reads c =
+    gives-error c.from_residual.result c.in_err-run.field-0.0 (cells_in c.args.cells.items) c.args.cursor c.run.new.self.cursor (cells_in c.run.new.self.cells.items) c.from_residual.ensures.1
+    (rw c.new.ensures.items at (c.in_err-run.ensures {u = tt}))

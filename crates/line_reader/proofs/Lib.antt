@@ -1,0 +1,8 @@
+mod IsPart
+mod EachMark
+mod Types
+mod ParamOrder
+mod Lists
+mod Lines
+mod Going
+pub mod Standing

@@ -1,0 +1,6 @@
+pub mod Statement
+pub mod Parts
+pub mod Views
+pub mod Steps
+pub mod Lines
+pub mod Places

@@ -1,0 +1,47 @@
+//! `crate NAME uses NAME, NAME, ..`
+ghost use Rattle.line_tokens.specs.Marks.{after_comma};
+ghost use Rattle.line_reader.specs.Parts.{name_at, uses_at, crate_at, parts_between};
+ghost use Rattle.line_reader.specs.Steps.{Reads};
+ghost use Rattle.line_reader.specs.Views.{texts_in, statement_of};
+
+use crate::reader::Reader;
+use crate::statement::Statement;
+use line_tokens::LineError;
+
+impl<'t, 'a> Reader<'t, 'a> {
+    /// Names with commas between them.
+    fn names(&mut self) -> Result<Vec<&'a [u8]>, LineError>
+        ensures { Reads (λ v. texts_in v.items) result (parts_between name_at after_comma) self.old self.new }
+    {
+        let mut names = Vec::new(self.alloc);
+        'names: loop {
+            let name = self.name()?;
+            names.push(name)?;
+            if !self.cursor.take_comma() {
+                return Ok(names);
+            }
+        }
+    }
+
+    /// The names behind `uses`, or none.
+    #[tactic(auto, unfolding(crate::specs::Parts::uses_at))]
+    fn uses(&mut self) -> Result<Vec<&'a [u8]>, LineError>
+        ensures { Reads (λ v. texts_in v.items) result uses_at self.old self.new }
+    {
+        if self.cursor.take_uses() {
+            self.names()
+        } else {
+            Ok(Vec::new(self.alloc))
+        }
+    }
+
+    /// Behind `crate`.
+    #[tactic(auto, unfolding(crate::specs::Parts::crate_at))]
+    pub(crate) fn crate_line(&mut self) -> Result<Statement<'a>, LineError>
+        ensures { Reads statement_of result crate_at self.old self.new }
+    {
+        let name = self.name()?;
+        let uses = self.uses()?;
+        Ok(Statement::Crate { name, uses })
+    }
+}

@@ -1,0 +1,27 @@
+//! Whole lines as they are written: their statement, and the types in it as places in one list of cells.
+//!
+//! `read_line` reads a line of bytes from left to right, once. However deep its types are nested, nothing recurses; time and memory are
+//! linear in the line.
+#![tactic(auto)]
+
+mod clauses;
+mod crate_line;
+mod impl_line;
+mod line;
+mod params;
+mod question_lines;
+mod reader;
+mod statement;
+mod struct_line;
+mod trait_line;
+
+ghost use Rattle.line_reader.specs.Places.{SpansStand};
+
+pub use line::{is_ascii, is_blank, read_line};
+pub use statement::{ClauseSpans, LineRead, Param, Span, Statement};
+
+/// Each type and bound of a line stands where its statement says: within the cells, one or more, as if it had been put behind the cells
+/// before it.
+pub fn spans_stand()
+    ensures { SpansStand }
+{}
