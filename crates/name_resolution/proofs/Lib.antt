@@ -1,0 +1,4 @@
+pub mod StandingLaws
+pub mod Counting
+pub mod Uses
+pub mod Going

@@ -1,0 +1,4 @@
+pub mod Resolved
+pub mod Standing
+pub mod Back
+pub mod Machine
