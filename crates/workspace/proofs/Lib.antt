@@ -1,0 +1,5 @@
+mod Each
+mod Crates
+mod Names
+mod Consistent
+mod Lines

@@ -1,0 +1,5 @@
+pub mod TermCells
+pub mod Numbered
+pub mod Views
+pub mod Tables
+pub mod Parts

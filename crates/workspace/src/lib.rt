@@ -1,0 +1,13 @@
+//! What a text of the whole language declares and asks, kept so that names and numbers are found at once.
+//!
+//! `Tables` are filled line after line, from `core` on; a `Workspace` is what they hold at the end. Types stand in it as lists of
+//! cells: parts of a type in postfix order, by numbers alone.
+#![tactic(auto)]
+
+mod cell;
+mod declared;
+mod tables;
+
+pub use cell::{ParamKind, TermCell};
+pub use declared::{Asked, Known, Param, QuestionEntry, ReferenceCells};
+pub use tables::{ENTRY_LIMIT, Tables};
