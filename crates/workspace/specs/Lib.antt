@@ -3,3 +3,4 @@ pub mod Numbered
 pub mod Views
 pub mod Tables
 pub mod Parts
+pub mod Stored

@@ -106,6 +106,9 @@ abbrev pub is_refute : Asked → Bool
 is_refute (asks.Prove c) = false
 is_refute (asks.Refute c) = true
 
+abbrev pub asked_of : Asked → Bool × ℕ
+asked_of a = (is_refute a, asker_of a)
+
 abbrev pub variable_of : Param → text.Variable
 variable_of p = record { text = p.name.items; kind = sort_of_kind p.kind }
 

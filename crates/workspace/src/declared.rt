@@ -20,8 +20,9 @@ pub(crate) struct CrateEntry {
     pub sees: Vec<bool>,
 }
 
+/// A struct with the kinds of its parameters and its fields.
 #[derive(Drop)]
-pub(crate) struct StructEntry {
+pub struct StructEntry {
     pub id: AdtId,
     pub name: Vec<u8>,
     pub owner: CrateId,
@@ -30,8 +31,9 @@ pub(crate) struct StructEntry {
     pub fields: Vec<TermCell>,
 }
 
+/// A trait as it is declared.
 #[derive(Drop)]
-pub(crate) struct TraitEntry {
+pub struct TraitEntry {
     pub id: TraitId,
     pub name: Vec<u8>,
     pub owner: CrateId,
@@ -43,8 +45,9 @@ pub(crate) struct TraitEntry {
     pub bounds: Vec<ReferenceCells>,
 }
 
+/// An impl: what its header says holds where its clauses hold.
 #[derive(Drop)]
-pub(crate) struct ImplEntry {
+pub struct ImplEntry {
     pub id: ImplId,
     pub owner: CrateId,
     /// Its number among the impls of its crate, from 1.

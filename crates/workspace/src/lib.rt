@@ -7,7 +7,11 @@
 mod cell;
 mod declared;
 mod tables;
+mod workspace;
 
 pub use cell::{ParamKind, TermCell};
-pub use declared::{Asked, Known, Param, QuestionEntry, ReferenceCells};
+pub use declared::{
+    Asked, ImplEntry, Known, Param, QuestionEntry, ReferenceCells, StructEntry, TraitEntry,
+};
 pub use tables::{ENTRY_LIMIT, Tables};
+pub use workspace::Workspace;

@@ -32,14 +32,14 @@ pub const ENTRY_LIMIT: usize = 1_048_640;
 /// any more then.
 #[derive(Drop)]
 pub struct Tables {
-    alloc: Global,
-    crates: Vec<CrateEntry>,
-    ids: Vec<CrateId>,
-    structs: Vec<StructEntry>,
-    traits: Vec<TraitEntry>,
-    impls: Vec<ImplEntry>,
-    questions: Vec<QuestionEntry>,
-    asked: Vec<Asked>,
+    pub(crate) alloc: Global,
+    pub(crate) crates: Vec<CrateEntry>,
+    pub(crate) ids: Vec<CrateId>,
+    pub(crate) structs: Vec<StructEntry>,
+    pub(crate) traits: Vec<TraitEntry>,
+    pub(crate) impls: Vec<ImplEntry>,
+    pub(crate) questions: Vec<QuestionEntry>,
+    pub(crate) asked: Vec<Asked>,
     /// What each name stands for.
     names: HashMap<Vec<u8>, Named>,
     /// How many impls the last crate has.
@@ -129,6 +129,21 @@ impl Tables {
     {
         let entry = &self.crates[seeing.index as usize];
         is_marked(&entry.sees, seen.index)
+    }
+
+    /// The crates that a crate sees, in the order of the text.
+    pub fn seen_from(&self, seeing: CrateId) -> Result<Vec<CrateId>, AllocError>
+        requires consistent { IsConsistent self.now }
+        requires there { seeing.index < length self.now.crates.items }
+        ensures { IfOk result (λ seen. seen.items ≡ filter (λ i. sees (world_of (declared self.now)) seeing.index i.index) self.now.ids.items) }
+    {
+        let mut seen = Vec::new(self.alloc);
+        for id in &self.ids {
+            if self.sees(seeing, *id) {
+                seen.push(*id)?;
+            }
+        }
+        Ok(seen)
     }
 
     /// The crate of the last line of a crate.
