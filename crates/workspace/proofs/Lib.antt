@@ -3,3 +3,4 @@ mod Crates
 mod Names
 mod Consistent
 mod Lines
+mod CoreLemmas

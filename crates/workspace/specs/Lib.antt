@@ -4,3 +4,4 @@ pub mod Views
 pub mod Tables
 pub mod Parts
 pub mod Stored
+pub mod CoreItems

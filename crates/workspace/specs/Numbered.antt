@@ -1,5 +1,5 @@
 -- How the declarations of a text are numbered, and how many there are: laws of every text's declarations.
-use Rattle.std.specs.Prelude.{◌≡◌, ℕ, ◌<◌, ◌≤◌, List, length, Some, slice_get, All}
+use Rattle.std.specs.Prelude.{◌≡◌, ℕ, ◌<◌, List, length, Some, slice_get, All}
 use Rattle.text_definitions.specs.Declarations.{Declarations}
 
 -- P holds of each element with its place

@@ -5,6 +5,7 @@
 #![tactic(auto)]
 
 mod cell;
+mod core_items;
 mod declared;
 mod tables;
 mod workspace;
