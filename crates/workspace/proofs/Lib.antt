@@ -1,0 +1,6 @@
+mod Each
+mod Crates
+mod Names
+mod Consistent
+mod Lines
+mod CoreLemmas

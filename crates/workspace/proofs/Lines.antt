@@ -1,0 +1,61 @@
+-- What the parts of a line declare is what the line adds.
+use Rattle.std.proofs.Common.{◌≡◌, ℕ, Bool, List, ◌++◌, length, ap, ◌∙◌, arith, length-append}
+use Rattle.std.proofs.lemmas.List.{length-map}
+use Rattle.std.specs.Prelude.{map}
+use Rattle.model.specs.Label.{Sort, of_type, of_const, of_lifetime}
+use Rattle.model.specs.Trees.{Trees}
+use Rattle.model.specs.Worlds.{Reference}
+use Rattle.text_definitions.specs.Syntax.{Params, Line, struct_line, trait_line, impl_line, prove_line, refute_line}
+use Rattle.text_definitions.specs.Declarations.{Declarations, Question, kinds_of, names_of, last_crate}
+use Rattle.text_definitions.specs.Adding.{added, item_meanings}
+use Rattle.text_definitions.specs.Lowering.{clause_reference}
+use Rattle.workspace.specs.Tables.{with_struct, with_trait, with_impl, with_question}
+use Rattle.workspace.specs.Parts.{IsStructLine, IsTraitLine, IsImplLine, IsQuestionLine, new_struct, new_trait, new_impl}
+
+pub struct-added : (d : Declarations) (n : List ℕ) (f : Bool) (kinds : List Sort) (fields : List Trees) (l : Line) → IsStructLine d n f kinds fields l → with_struct d (new_struct d n f kinds fields) ≡ added d l
+struct-added d n f kinds fields (struct_line g m ps fs) h =
+    ap (λ x. with_struct d (new_struct d x f kinds fields)) h.0
+    ∙ ap (λ x. with_struct d (new_struct d m x kinds fields)) h.1
+    ∙ ap (λ x. with_struct d (new_struct d m g x fields)) h.2
+    ∙ ap (λ x. with_struct d (new_struct d m g (kinds_of ps) x)) h.3
+struct-added d n f kinds fields _ h = absurd h
+
+pub trait-added : (d : Declarations) (n : List ℕ) (f a : Bool) (kinds : List Sort) (bounds : List Reference) (l : Line) → IsTraitLine d n f a kinds bounds l → with_trait d (new_trait d n f a kinds bounds) ≡ added d l
+trait-added d n f a kinds bounds (trait_line g b m ps bs) h =
+    ap (λ x. with_trait d (new_trait d x f a kinds bounds)) h.0
+    ∙ ap (λ x. with_trait d (new_trait d m x a kinds bounds)) h.1
+    ∙ ap (λ x. with_trait d (new_trait d m g x kinds bounds)) h.2
+    ∙ ap (λ x. with_trait d (new_trait d m g b x bounds)) h.3
+    ∙ ap (λ x. with_trait d (new_trait d m g b (kinds_of ps) x)) h.4
+trait-added d n f a kinds bounds _ h = absurd h
+
+as_many : (ps : Params) → length (names_of ps) ≡ length (kinds_of ps)
+as_many ps =
+    omega (
+      arith,
+      length-append (ps.lifetimes ++ ps.types) ps.consts,
+      length-append ps.lifetimes ps.types,
+      length-append (map (λ _. of_lifetime) ps.lifetimes ++ map (λ _. of_type) ps.types) (map (λ _. of_const) ps.consts),
+      length-append (map (λ _. of_lifetime) ps.lifetimes) (map (λ _. of_type) ps.types),
+      length-map ps.lifetimes (λ _. of_lifetime),
+      length-map ps.types (λ _. of_type),
+      length-map ps.consts (λ _. of_const),
+    )
+
+pub impl-added : (d : Declarations) (params : List (List ℕ)) (header : Reference) (clauses : List Reference) (l : Line) → IsImplLine d params header clauses l → with_impl d (new_impl d params header clauses) ≡ added d l
+impl-added d params header clauses (impl_line ps h ks) e =
+    ap (λ x. with_impl d (new_impl d x header clauses)) e.0
+    ∙ ap (λ x. with_impl d (new_impl d (names_of ps) x clauses)) e.1
+    ∙ ap (λ x. with_impl d (new_impl d (names_of ps) (clause_reference (item_meanings d (impl_line ps h ks) 0) h) x)) e.2
+    ∙ ap
+    (λ k. with_impl d (record {
+      params = names_of ps;
+      item = record { name = length d.impls; home = last_crate d; params = k; header = clause_reference (item_meanings d (impl_line ps h ks) 0) h; clauses = map (clause_reference (item_meanings d (impl_line ps h ks) 0)) ks };
+    }))
+    (as_many ps)
+impl-added d params header clauses _ e = absurd e
+
+pub question-added : (d : Declarations) (q : Question) (l : Line) → IsQuestionLine d q l → with_question d q ≡ added d l
+question-added d q (prove_line c ps a ks) h = ap (with_question d) h
+question-added d q (refute_line c ps a) h = ap (with_question d) h
+question-added d q _ h = absurd h

@@ -1,0 +1,74 @@
+-- The items of `core` one after the other, as they are added.
+use Rattle.std.specs.Prelude.{◌≡◌, ℕ, ◌<◌, Bool, false, List, [], ◌∷◌, ◌++◌, length, take, Option, Some, None, if◌then◌else◌}
+use Rattle.model.specs.Label.{Sort, of_type, of_const, of_lifetime, array, adt, ref, raw_pointer, param}
+use Rattle.model.specs.Trees.{Trees, none, tree, leaf}
+use Rattle.model.specs.Worlds.{Reference, core}
+use Rattle.model.specs.Core.{type_param, box, box_impl}
+use Rattle.model.specs.Rules.{asked, clone}
+use Rattle.text_definitions.specs.Declarations.{Declarations, NamedImpl, last_crate, nothing_declared, copied, name_a, name_T, name_N}
+use Rattle.type_terms.specs.declared.TraitId.{TraitId}
+use Rattle.workspace.specs.declared.cell.TermCell.{TermCell}
+use Rattle.workspace.specs.TermCells.{trees_of, joined}
+use Rattle.workspace.specs.Tables.{core_alone}
+use Rattle.workspace.specs.Parts.{new_impl}
+use Rattle.workspace.specs.Views.{cell_of}
+
+-- few enough of each for what `core` has to come
+pub record HasRoom (d : Declarations) : Type 0 where
+  pub few_crates : length d.crates < 1000
+  pub few_structs : length d.structs < 1000
+  pub few_traits : length d.traits < 1000
+  pub few_impls : length d.impls < 1000
+  pub few_questions : length d.questions < 1000
+
+-- the last crate is `core`, and there is room for one half of its impls
+pub record IsInCore (d : Declarations) : Type 0 where
+  pub home : last_crate d ≡ core
+  pub few_crates : length d.crates < 500
+  pub few_structs : length d.structs < 500
+  pub few_traits : length d.traits < 500
+  pub few_impls : length d.impls < 500
+  pub few_questions : length d.questions < 500
+
+abbrev pub core_kinds : Bool → List Sort
+core_kinds takes_type = if takes_type then of_type ∷ [] else []
+
+-- a bound of Self and the parameter, if there is one
+abbrev pub core_args : Bool → Trees
+core_args takes_type = if takes_type then tree (param of_type 0) none (type_param 1) else type_param 0
+
+abbrev pub core_bounds : Bool → Option TraitId → List Reference
+core_bounds takes_type None = []
+core_bounds takes_type (Some t) = record { trait = t.index; args = core_args takes_type } ∷ []
+
+-- `core` with its struct
+abbrev pub core_structs : Declarations
+core_structs = record core_alone { structs = nothing_declared.structs }
+
+-- and its first traits
+abbrev pub core_traits_to : ℕ → Declarations
+core_traits_to n = record core_structs { traits = take n nothing_declared.traits }
+
+-- and its impls of `Clone`, for `Box` apart
+abbrev pub core_cloned : Declarations
+core_cloned = record (core_traits_to 9) { impls = copied 0 clone }
+
+-- and for `Box`
+abbrev pub core_boxed : Declarations
+core_boxed = record core_cloned { impls = copied 0 clone ++ record { params = name_T ∷ []; item = box_impl } ∷ [] }
+
+-- `impl Tr for T` at a type of one cell
+abbrev pub impl_for : Declarations → ℕ → TermCell → NamedImpl
+impl_for d t c = new_impl d [] (asked t (joined (trees_of (cell_of c ∷ [])))) []
+
+abbrev pub ref_impl : Declarations → ℕ → NamedImpl
+ref_impl d t = new_impl d (name_a ∷ name_T ∷ []) (asked t (tree (ref false) (tree (param of_lifetime 0) none (type_param 1)) none)) []
+
+abbrev pub pointer_impl : Declarations → ℕ → Bool → NamedImpl
+pointer_impl d t m = new_impl d (name_T ∷ []) (asked t (tree (raw_pointer m) (type_param 0) none)) []
+
+abbrev pub array_impl : Declarations → ℕ → NamedImpl
+array_impl d t = new_impl d (name_T ∷ name_N ∷ []) (asked t (tree array (tree (param of_type 0) none (leaf (param of_const 1))) none)) (asked t (type_param 0) ∷ [])
+
+abbrev pub boxed_impl : Declarations → NamedImpl
+boxed_impl d = new_impl d (name_T ∷ []) (asked clone (tree (adt box) (type_param 0) none)) (asked clone (type_param 0) ∷ [])

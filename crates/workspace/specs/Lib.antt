@@ -1,0 +1,7 @@
+pub mod TermCells
+pub mod Numbered
+pub mod Views
+pub mod Tables
+pub mod Parts
+pub mod Stored
+pub mod CoreItems

@@ -1,0 +1,25 @@
+-- How the declarations of a text are numbered, and how many there are: laws of every text's declarations.
+use Rattle.std.specs.Prelude.{◌≡◌, ℕ, ◌<◌, List, length, Some, slice_get, All}
+use Rattle.text_definitions.specs.Declarations.{Declarations}
+
+-- P holds of each element with its place
+abbrev pub Each : {A : Type 0} → (ℕ → A → Type 0) → List A → Type 0
+Each {A} P xs = (k : ℕ) (x : A) → slice_get xs k ≡ Some x → P k x
+
+-- A number is a place among all of the kind, those of `core` included, and a crate uses earlier crates alone. Each item belongs to
+-- a crate that is there, and each question asks in one.
+pub record IsNumbered (d : Declarations) : Type 0 where
+  pub has_core : 0 < length d.crates
+  pub crates : Each (λ k c. (c.item.name ≡ k) × All (λ u. u < k) c.item.uses) d.crates
+  pub structs : Each (λ k s. (s.item.name ≡ k) × (s.item.home < length d.crates)) d.structs
+  pub traits : Each (λ k t. (t.item.name ≡ k) × (t.item.home < length d.crates)) d.traits
+  pub impls : Each (λ k i. (i.item.name ≡ k) × (i.item.home < length d.crates)) d.impls
+  pub questions : Each (λ k q. q.asker < length d.crates) d.questions
+
+-- fewer than k of each
+pub record IsFew (d : Declarations) (k : ℕ) : Type 0 where
+  pub few_crates : length d.crates < k
+  pub few_structs : length d.structs < k
+  pub few_traits : length d.traits < k
+  pub few_impls : length d.impls < k
+  pub few_questions : length d.questions < k

@@ -1,0 +1,43 @@
+-- The parts of a line that declares, as they are handed to the tables, and the line that they are of.
+use Rattle.std.specs.Prelude.{◌≡◌, ℕ, Bool, true, false, List, [], map, length}
+use Rattle.model.specs.Label.{Sort, of_type, param}
+use Rattle.model.specs.Trees.{Trees, leaf}
+use Rattle.model.specs.Worlds.{Reference}
+use Rattle.text_definitions.specs.Syntax.{Line, struct_line, trait_line, impl_line, prove_line, refute_line}
+use Rattle.text_definitions.specs.Declarations.{Declarations, NamedStruct, NamedTrait, NamedImpl, Question, kinds_of, names_of, last_crate}
+use Rattle.text_definitions.specs.Lowering.{field_trees, with_self, clause_reference}
+use Rattle.text_definitions.specs.Adding.{item_meanings, question_meanings, question_of}
+
+-- `fundamental struct n<..>(..)`: parameters of these kinds, and fields that are these types
+abbrev pub IsStructLine : Declarations → List ℕ → Bool → List Sort → List Trees → Line → Type 0
+IsStructLine d n f kinds fields (struct_line g m ps fs) =
+    (n ≡ m) × (f ≡ g) × (kinds ≡ kinds_of ps) × (fields ≡ field_trees (item_meanings d (struct_line g m ps fs) 0) fs)
+IsStructLine d n f kinds fields _ = ⊥
+
+-- `fundamental auto trait n<..>: ..`: parameters of these kinds, and bounds that are these references of Self
+abbrev pub IsTraitLine : Declarations → List ℕ → Bool → Bool → List Sort → List Reference → Line → Type 0
+IsTraitLine d n f a kinds bounds (trait_line g b m ps bs) =
+    (n ≡ m) × (f ≡ g) × (a ≡ b) × (kinds ≡ kinds_of ps) × (bounds ≡ map (with_self (item_meanings d (trait_line g b m ps bs) 1) (leaf (param of_type 0))) bs)
+IsTraitLine d n f a kinds bounds _ = ⊥
+
+-- `impl<..> h where ..`
+abbrev pub IsImplLine : Declarations → List (List ℕ) → Reference → List Reference → Line → Type 0
+IsImplLine d params header clauses (impl_line ps h ks) =
+    (params ≡ names_of ps) × (header ≡ clause_reference (item_meanings d (impl_line ps h ks) 0) h) × (clauses ≡ map (clause_reference (item_meanings d (impl_line ps h ks) 0)) ks)
+IsImplLine d params header clauses _ = ⊥
+
+-- `prove in C<..> a where ..`, `refute in C<..> a`
+abbrev pub IsQuestionLine : Declarations → Question → Line → Type 0
+IsQuestionLine d q (prove_line c ps a ks) = q ≡ question_of d (question_meanings d (prove_line c ps a ks)) false c ps a ks
+IsQuestionLine d q (refute_line c ps a) = q ≡ question_of d (question_meanings d (refute_line c ps a)) true c ps a []
+IsQuestionLine d q _ = ⊥
+
+-- ---- what the parts declare
+abbrev pub new_struct : Declarations → List ℕ → Bool → List Sort → List Trees → NamedStruct
+new_struct d n f kinds fields = record { text = n; kinds = kinds; item = record { name = length d.structs; home = last_crate d; is_fundamental = f; fields = fields } }
+
+abbrev pub new_trait : Declarations → List ℕ → Bool → Bool → List Sort → List Reference → NamedTrait
+new_trait d n f a kinds bounds = record { text = n; kinds = kinds; item = record { name = length d.traits; home = last_crate d; is_fundamental = f; is_auto = a; bounds = bounds } }
+
+abbrev pub new_impl : Declarations → List (List ℕ) → Reference → List Reference → NamedImpl
+new_impl d params header clauses = record { params = params; item = record { name = length d.impls; home = last_crate d; params = length params; header = header; clauses = clauses } }

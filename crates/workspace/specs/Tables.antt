@@ -1,0 +1,99 @@
+-- The tables of a text: what they declare, and when they agree with one another.
+use Rattle.std.specs.Prelude.{◌≡◌, ℕ, suc, Bool, false, ◌||◌, List, [], ◌∷◌, ◌++◌, map, take, count_by, Option, Some, None, slice_get, unwrap_or, find, codes, ◌==◌}
+use Rattle.std.specs.List.{list_any}
+use Rattle.std.specs.Option.{option_map, option_or}
+use Rattle.std.specs.Str.{bytes_eq}
+use Rattle.std.specs.HashMap.{get_by}
+use Rattle.model.specs.Worlds.{World, core, sees}
+use Rattle.text_definitions.specs.Declarations.{Declarations, NamedCrate, NamedStruct, NamedTrait, NamedImpl, Question, Known, a_crate, world_of, last_crate}
+use Rattle.text_definitions.specs.Faults.{last_items}
+use Rattle.type_terms.specs.declared.CrateId.{CrateId}
+use Rattle.workspace.specs.declared.tables.Tables.{Tables}
+use Rattle.workspace.specs.declared.declared.ImplEntry.{ImplEntry}
+use Rattle.workspace.specs.declared.declared.Named.{Named}
+use Rattle.workspace.specs.declared.declared.Named.TheVariants as named
+use Rattle.workspace.specs.Numbered.{Each, IsNumbered}
+use Rattle.workspace.specs.Views.{crate_of, struct_of, trait_of, impl_of, question_of, numbers_of}
+
+-- what the tables declare
+abbrev pub declared : Tables → Declarations
+declared t = record {
+  crates = map crate_of t.crates.items;
+  structs = map struct_of t.structs.items;
+  traits = map trait_of t.traits.items;
+  impls = map impl_of t.impls.items;
+  questions = map question_of t.questions.items;
+}
+
+-- ---- put behind what is there
+abbrev pub with_crate : Declarations → NamedCrate → Declarations
+with_crate d c = record d { crates = d.crates ++ c ∷ [] }
+
+abbrev pub with_struct : Declarations → NamedStruct → Declarations
+with_struct d s = record d { structs = d.structs ++ s ∷ [] }
+
+abbrev pub with_trait : Declarations → NamedTrait → Declarations
+with_trait d t = record d { traits = d.traits ++ t ∷ [] }
+
+abbrev pub with_impl : Declarations → NamedImpl → Declarations
+with_impl d i = record d { impls = d.impls ++ i ∷ [] }
+
+abbrev pub with_question : Declarations → Question → Declarations
+with_question d q = record d { questions = d.questions ++ q ∷ [] }
+
+-- the crate `core` without its items
+abbrev pub core_alone : Declarations
+core_alone = record { crates = record { text = codes "core"; item = record { name = core; uses = [] } } ∷ []; structs = []; traits = []; impls = []; questions = [] }
+
+-- a crate's number, its name, and the crates that it uses
+abbrev pub new_crate : ℕ → List ℕ → List CrateId → NamedCrate
+new_crate c n us = record { text = n; item = record { name = c; uses = numbers_of us } }
+
+-- ---- the item of a name, by its number
+pub data Item : Type 0 where
+  crate_item struct_item trait_item : (number : ℕ) → Item
+
+abbrev pub item_of : Named → Item
+item_of (named.Crate k) = crate_item k.index
+item_of (named.Struct k) = struct_item k.index
+item_of (named.Trait k) = trait_item k.index
+
+abbrev pub crate_named : List NamedCrate → List ℕ → Option Item
+crate_named cs n = option_map (λ c. crate_item c.item.name) (find (λ c. bytes_eq c.text n) cs)
+
+abbrev pub struct_named : List NamedStruct → List ℕ → Option Item
+struct_named ss n = option_map (λ s. struct_item s.item.name) (find (λ s. bytes_eq s.text n) ss)
+
+abbrev pub trait_named : List NamedTrait → List ℕ → Option Item
+trait_named ts n = option_map (λ t. trait_item t.item.name) (find (λ t. bytes_eq t.text n) ts)
+
+abbrev pub item_named : Declarations → List ℕ → Option Item
+item_named d n = option_or (crate_named d.crates n) (option_or (struct_named d.structs n) (trait_named d.traits n))
+
+abbrev pub number_of_crate : Known → Option ℕ
+number_of_crate (a_crate k) = Some k
+number_of_crate _ = None
+
+-- ---- what is seen
+-- the row marks each crate that crate c sees; behind its end nothing is marked
+abbrev pub MarksSeen : World → ℕ → List Bool → Type 0
+MarksSeen W c row = (e : ℕ) → unwrap_or (slice_get row e) false ≡ sees W c e
+
+-- a new crate that uses these sees `core` and what they see
+abbrev pub will_see : World → List CrateId → ℕ → Bool
+will_see W us e = (e == core) || list_any (λ u. sees W u.index e) us
+
+-- how many impls of crate c are among these
+abbrev pub impls_of : ℕ → List ImplEntry → ℕ
+impls_of c is = count_by (λ i. i.owner.index == c) is
+
+-- the tables agree with what they declare
+pub record IsConsistent (t : Tables) : Type 0 where
+  pub numbered : IsNumbered (declared t)
+  pub ids : numbers_of t.ids.items ≡ map (λ c. c.id.index) t.crates.items
+  pub asked : t.asked.items ≡ map (λ q. q.asked_how) t.questions.items
+  pub rows : Each (λ c entry. MarksSeen (world_of (declared t)) c entry.sees.items) t.crates.items
+  pub names : (n : List ℕ) → option_map item_of (get_by (λ k. bytes_eq n k.items) t.names) ≡ item_named (declared t) n
+  pub numbers : Each (λ k i. i.number_in_crate ≡ impls_of i.owner.index (take (suc k) t.impls.items)) t.impls.items
+  pub last_impls : t.last_impls ≡ impls_of (last_crate (declared t)) t.impls.items
+  pub last_items : t.last_items ≡ last_items (declared t)

@@ -1,0 +1,42 @@
+-- Types as they are kept: lists of cells by numbers alone, and the trees that these stand for. What stands inside a cell comes
+-- before it, and the cell says how many trees that is.
+use Rattle.std.specs.Prelude.{ℕ, zero, suc, Bool, List, [], ◌∷◌, reverse}
+use Rattle.model.specs.Label.{Label, ref}
+use Rattle.model.specs.Trees.{Trees, none, tree, leaf, ◌+++◌}
+
+pub data TermCell : Type 0 where
+  node_cell : Label → (inside : ℕ) → TermCell
+  -- `&'a T`, over T
+  reference_cell : (lifetime : Label) → (is_mut : Bool) → TermCell
+
+-- ---- read from left to right with a stack of trees
+-- the k topmost trees, the last of them on top, before others
+abbrev pub gathered : ℕ → List Trees → Trees → Trees
+gathered zero S o = o
+gathered (suc k) [] o = o
+gathered (suc k) (t ∷ S) o = gathered k S (t +++ o)
+
+abbrev pub below : ℕ → List Trees → List Trees
+below zero S = S
+below (suc k) [] = []
+below (suc k) (t ∷ S) = below k S
+
+-- the stack behind one cell
+abbrev pub behind_cell : TermCell → List Trees → List Trees
+behind_cell (node_cell l k) S = tree l (gathered k S none) none ∷ below k S
+behind_cell (reference_cell r m) [] = []
+behind_cell (reference_cell r m) (t ∷ S) = tree (ref m) (leaf r +++ t) none ∷ S
+
+-- the stack behind all cells
+abbrev pub behind_cells : List TermCell → List Trees → List Trees
+behind_cells [] S = S
+behind_cells (c ∷ cs) S = behind_cells cs (behind_cell c S)
+
+-- the types, or the arguments, that cells stand for, in order
+abbrev pub trees_of : List TermCell → List Trees
+trees_of cs = reverse (behind_cells cs [])
+
+-- one after the other
+abbrev pub joined : List Trees → Trees
+joined [] = none
+joined (t ∷ ts) = t +++ joined ts

@@ -1,0 +1,321 @@
+//! The items of `core`, as its lines declare them.
+ghost use Rattle.std.specs.Prelude.{◌≡◌, ◌++◌, None, false, map, length, OnOk, IfOk};
+ghost use Rattle.model.specs.Worlds.{core};
+ghost use Rattle.text_definitions.specs.Declarations.{known, last_crate, nothing_declared, bare_impl, copied};
+ghost use Rattle.model.specs.Core.{impls_for, scalars};
+ghost use Rattle.workspace.specs.Numbered.{IsFew};
+ghost use Rattle.workspace.specs.Tables.{declared, core_alone, with_struct, with_trait, with_impl, IsConsistent};
+ghost use Rattle.workspace.specs.Parts.{new_trait};
+ghost use Rattle.workspace.specs.Views.{sort_of_kind, reference_of, cells_of};
+ghost use Rattle.workspace.specs.TermCells.{trees_of, joined};
+ghost use Rattle.workspace.specs.CoreItems.{core_kinds, core_bounds, core_structs, core_traits_to, HasRoom, IsInCore, impl_for, ref_impl, pointer_impl, array_impl, boxed_impl};
+ghost use Rattle.type_terms.specs.Kinds.{is_mut};
+
+use crate::cell::{ParamKind, TermCell};
+use crate::declared::{Param, ReferenceCells};
+use crate::tables::Tables;
+use std::alloc::{AllocError, Global};
+use type_terms::kinds::{ConstKind, IntTy, Mutability, UintTy};
+use type_terms::region::{Region, RegionKind};
+use type_terms::{AdtId, TraitId};
+
+const SIZED: TraitId = TraitId { index: 0 };
+
+const CLONE: TraitId = TraitId { index: 1 };
+
+const COPY: TraitId = TraitId { index: 2 };
+
+const FN_ONCE: TraitId = TraitId { index: 5 };
+
+const FN_MUT: TraitId = TraitId { index: 6 };
+
+/// The types that are copied by `core`'s impls without parameters.
+const SCALARS: [TermCell; 15] = [
+    TermCell::Bool,
+    TermCell::Char,
+    TermCell::Never,
+    TermCell::Int(IntTy::I8),
+    TermCell::Int(IntTy::I16),
+    TermCell::Int(IntTy::I32),
+    TermCell::Int(IntTy::I64),
+    TermCell::Int(IntTy::I128),
+    TermCell::Int(IntTy::Isize),
+    TermCell::Uint(UintTy::U8),
+    TermCell::Uint(UintTy::U16),
+    TermCell::Uint(UintTy::U32),
+    TermCell::Uint(UintTy::U64),
+    TermCell::Uint(UintTy::U128),
+    TermCell::Uint(UintTy::Usize),
+];
+
+fn param(alloc: Global, name: &[u8], kind: ParamKind) -> Result<Param, AllocError>
+    ensures name { IfOk result (λ p. p.name.items ≡ name.now) }
+{
+    Ok(Param {
+        name: Vec::from_slice(alloc, name)?,
+        kind,
+    })
+}
+
+fn reference(
+    alloc: Global,
+    trait_id: TraitId,
+    args: &[TermCell],
+) -> Result<ReferenceCells, AllocError>
+    ensures { IfOk result (λ r. reference_of r ≡ record { trait = trait_id.index; args = joined (trees_of (cells_of args.now)) }) }
+{
+    Ok(ReferenceCells {
+        trait_id,
+        args: Vec::from_slice(alloc, args)?,
+    })
+}
+
+/// The parameters of a trait of `core`.
+fn core_params(alloc: Global, takes_type: bool) -> Result<Vec<ParamKind>, AllocError>
+    ensures { IfOk result (λ ps. map sort_of_kind ps.items ≡ core_kinds takes_type) }
+{
+    if takes_type {
+        return Ok(vec![in alloc; ParamKind::Type]?);
+    }
+    Ok(Vec::new(alloc))
+}
+
+/// The bounds of a trait of `core`, which has one at most, of the same parameters.
+fn core_bounds(
+    alloc: Global,
+    takes_type: bool,
+    bound: Option<TraitId>,
+) -> Result<Vec<ReferenceCells>, AllocError>
+    ensures { IfOk result (λ bs. map reference_of bs.items ≡ core_bounds takes_type bound) }
+{
+    let Some(trait_id) = bound else {
+        return Ok(Vec::new(alloc));
+    };
+    let bound = if takes_type {
+        reference(alloc, trait_id, &[TermCell::Param(0), TermCell::Param(1)])?
+    } else {
+        reference(alloc, trait_id, &[TermCell::Param(0)])?
+    };
+    Ok(vec![in alloc; bound]?)
+}
+
+impl Tables {
+    fn add_core_trait(
+        &mut self,
+        name: &[u8],
+        is_fundamental: bool,
+        takes_type: bool,
+        bound: Option<TraitId>,
+    ) -> Result<(), AllocError>
+        requires consistent { IsConsistent self.old }
+        requires new { known (declared self.old) name.now ≡ None }
+        requires room { HasRoom (declared self.old) }
+        ensures declared { OnOk result (declared self.new ≡ with_trait (declared self.old) (new_trait (declared self.old) name.now is_fundamental false (core_kinds takes_type) (core_bounds takes_type bound))) }
+        ensures consistent { OnOk result (IsConsistent self.new) }
+    {
+        let params = core_params(self.alloc, takes_type)?;
+        let bounds = core_bounds(self.alloc, takes_type, bound)?;
+        self.add_trait(name, is_fundamental, false, params, bounds)?;
+        Ok(())
+    }
+
+    /// `fundamental struct Box<T>(*const T)`
+    fn add_box(&mut self) -> Result<(), AllocError>
+        requires consistent { IsConsistent self.old }
+        requires before { declared self.old ≡ core_alone }
+        ensures declared { OnOk result (declared self.new ≡ core_structs) }
+        ensures consistent { OnOk result (IsConsistent self.new) }
+    {
+        let params = vec![in self.alloc; ParamKind::Type]?;
+        let pointer = TermCell::RawPtr {
+            mutability: Mutability::Not,
+        };
+        let fields = vec![in self.alloc; TermCell::Param(0), pointer]?;
+        self.add_struct(b"Box", true, params, fields)?;
+        Ok(())
+    }
+
+    /// `fundamental trait Sized; trait Clone: Sized; trait Copy: Clone`
+    fn add_first_traits(&mut self) -> Result<(), AllocError>
+        requires consistent { IsConsistent self.old }
+        requires before { declared self.old ≡ core_traits_to 0 }
+        ensures declared { OnOk result (declared self.new ≡ core_traits_to 3) }
+        ensures consistent { OnOk result (IsConsistent self.new) }
+    {
+        self.add_core_trait(b"Sized", true, false, None)?;
+        self.add_core_trait(b"Clone", false, false, Some(SIZED))?;
+        self.add_core_trait(b"Copy", false, false, Some(CLONE))?;
+        Ok(())
+    }
+
+    /// `trait Tuple; trait FnPtr; fundamental trait FnOnce<A>`
+    fn add_second_traits(&mut self) -> Result<(), AllocError>
+        requires consistent { IsConsistent self.old }
+        requires before { declared self.old ≡ core_traits_to 3 }
+        ensures declared { OnOk result (declared self.new ≡ core_traits_to 6) }
+        ensures consistent { OnOk result (IsConsistent self.new) }
+    {
+        self.add_core_trait(b"Tuple", false, false, None)?;
+        self.add_core_trait(b"FnPtr", false, false, None)?;
+        self.add_core_trait(b"FnOnce", true, true, None)?;
+        Ok(())
+    }
+
+    /// `fundamental trait FnMut<A>: FnOnce<A>; fundamental trait Fn<A>: FnMut<A>; trait Unsize<T>`
+    fn add_third_traits(&mut self) -> Result<(), AllocError>
+        requires consistent { IsConsistent self.old }
+        requires before { declared self.old ≡ core_traits_to 6 }
+        ensures declared { OnOk result (declared self.new ≡ core_traits_to 9) }
+        ensures consistent { OnOk result (IsConsistent self.new) }
+    {
+        self.add_core_trait(b"FnMut", true, true, Some(FN_ONCE))?;
+        self.add_core_trait(b"Fn", true, true, Some(FN_MUT))?;
+        self.add_core_trait(b"Unsize", false, true, None)?;
+        Ok(())
+    }
+
+    /// `impl Tr for T`
+    fn add_bare_impl(&mut self, trait_id: TraitId, self_type: TermCell) -> Result<(), AllocError>
+        requires consistent { IsConsistent self.old }
+        requires room { HasRoom (declared self.old) }
+        ensures declared { OnOk result (declared self.new ≡ with_impl (declared self.old) (impl_for (declared self.old) trait_id.index self_type)) }
+        ensures consistent { OnOk result (IsConsistent self.new) }
+    {
+        let header = reference(self.alloc, trait_id, &[self_type])?;
+        let params = Vec::new(self.alloc);
+        let clauses = Vec::new(self.alloc);
+        self.add_impl(params, header, clauses)?;
+        Ok(())
+    }
+
+    fn add_scalar_impls(&mut self, trait_id: TraitId) -> Result<(), AllocError>
+        requires consistent { IsConsistent self.old }
+        requires core { IsInCore (declared self.old) }
+        ensures declared { OnOk result (declared self.new ≡ record (declared self.old) { impls = (declared self.old).impls ++ map bare_impl (impls_for (length (declared self.old).impls) trait_id.index scalars) }) }
+        ensures consistent { OnOk result (IsConsistent self.new) }
+    {
+        for scalar in &SCALARS {
+            self.add_bare_impl(trait_id, *scalar)?;
+        }
+        Ok(())
+    }
+
+    /// `impl<'a, T> Tr for &'a T`
+    fn add_ref_impl(&mut self, trait_id: TraitId) -> Result<(), AllocError>
+        requires consistent { IsConsistent self.old }
+        requires room { HasRoom (declared self.old) }
+        ensures declared { OnOk result (declared self.new ≡ with_impl (declared self.old) (ref_impl (declared self.old) trait_id.index)) }
+        ensures consistent { OnOk result (IsConsistent self.new) }
+    {
+        let lifetime = param(self.alloc, b"a", ParamKind::Lifetime)?;
+        let referred = param(self.alloc, b"T", ParamKind::Type)?;
+        let params = vec![in self.alloc; lifetime, referred]?;
+        let reference_cell = TermCell::Ref {
+            region: Region {
+                kind: RegionKind::ReEarlyParam(0),
+            },
+            mutability: Mutability::Not,
+        };
+        let header = reference(self.alloc, trait_id, &[TermCell::Param(1), reference_cell])?;
+        let clauses = Vec::new(self.alloc);
+        self.add_impl(params, header, clauses)?;
+        Ok(())
+    }
+
+    /// `impl<T> Tr for *const T`, `impl<T> Tr for *mut T`
+    fn add_pointer_impl(
+        &mut self,
+        trait_id: TraitId,
+        mutability: Mutability,
+    ) -> Result<(), AllocError>
+        requires consistent { IsConsistent self.old }
+        requires room { HasRoom (declared self.old) }
+        ensures declared { OnOk result (declared self.new ≡ with_impl (declared self.old) (pointer_impl (declared self.old) trait_id.index (is_mut mutability))) }
+        ensures consistent { OnOk result (IsConsistent self.new) }
+    {
+        let params = vec![in self.alloc; param(self.alloc, b"T", ParamKind::Type)?]?;
+        let header = reference(
+            self.alloc,
+            trait_id,
+            &[TermCell::Param(0), TermCell::RawPtr { mutability }],
+        )?;
+        let clauses = Vec::new(self.alloc);
+        self.add_impl(params, header, clauses)?;
+        Ok(())
+    }
+
+    /// `impl<T, const N> Tr for [T; N] where T: Tr`
+    fn add_array_impl(&mut self, trait_id: TraitId) -> Result<(), AllocError>
+        requires consistent { IsConsistent self.old }
+        requires room { HasRoom (declared self.old) }
+        ensures declared { OnOk result (declared self.new ≡ with_impl (declared self.old) (array_impl (declared self.old) trait_id.index)) }
+        ensures consistent { OnOk result (IsConsistent self.new) }
+    {
+        let item = param(self.alloc, b"T", ParamKind::Type)?;
+        let len = param(self.alloc, b"N", ParamKind::Const)?;
+        let params = vec![in self.alloc; item, len]?;
+        let header = reference(
+            self.alloc,
+            trait_id,
+            &[
+                TermCell::Param(0),
+                TermCell::Const(ConstKind::Param(1)),
+                TermCell::Array,
+            ],
+        )?;
+        let clause = reference(self.alloc, trait_id, &[TermCell::Param(0)])?;
+        let clauses = vec![in self.alloc; clause]?;
+        self.add_impl(params, header, clauses)?;
+        Ok(())
+    }
+
+    /// `impl<T> Clone for Box<T> where T: Clone`
+    fn add_box_impl(&mut self) -> Result<(), AllocError>
+        requires consistent { IsConsistent self.old }
+        requires room { HasRoom (declared self.old) }
+        ensures declared { OnOk result (declared self.new ≡ with_impl (declared self.old) (boxed_impl (declared self.old))) }
+        ensures consistent { OnOk result (IsConsistent self.new) }
+    {
+        let params = vec![in self.alloc; param(self.alloc, b"T", ParamKind::Type)?]?;
+        let boxed = TermCell::Adt {
+            id: AdtId { index: 0 },
+            args: 1,
+        };
+        let header = reference(self.alloc, CLONE, &[TermCell::Param(0), boxed])?;
+        let clause = reference(self.alloc, CLONE, &[TermCell::Param(0)])?;
+        let clauses = vec![in self.alloc; clause]?;
+        self.add_impl(params, header, clauses)?;
+        Ok(())
+    }
+
+    /// The impls of `Clone`, or of `Copy`.
+    fn add_copied(&mut self, trait_id: TraitId) -> Result<(), AllocError>
+        requires consistent { IsConsistent self.old }
+        requires core { IsInCore (declared self.old) }
+        ensures declared { OnOk result (declared self.new ≡ record (declared self.old) { impls = (declared self.old).impls ++ copied (length (declared self.old).impls) trait_id.index }) }
+        ensures consistent { OnOk result (IsConsistent self.new) }
+    {
+        self.add_scalar_impls(trait_id)?;
+        self.add_ref_impl(trait_id)?;
+        self.add_pointer_impl(trait_id, Mutability::Not)?;
+        self.add_pointer_impl(trait_id, Mutability::Mut)?;
+        self.add_array_impl(trait_id)?;
+        Ok(())
+    }
+
+    /// `core` with its items.
+    pub fn new(alloc: Global) -> Result<Self, AllocError>
+        ensures declared { IfOk result (λ t. declared t ≡ nothing_declared) }
+        ensures consistent { IfOk result (λ t. IsConsistent t) }
+    {
+        let mut tables = Tables::core_alone(alloc)?;
+        tables.add_box()?;
+        tables.add_first_traits()?;
+        tables.add_second_traits()?;
+        tables.add_third_traits()?;
+        tables.add_copied(CLONE)?;
+        tables.add_box_impl()?;
+        tables.add_copied(COPY)?;
+        Ok(tables)
+    }
+}

@@ -1,0 +1,394 @@
+//! The tables that a text fills, line after line.
+ghost use Rattle.std.specs.Prelude.{◌≡◌, ◌<◌, ◌++◌, ◌∷◌, [], ℕ, None, true, false, All, length, map, filter, nat_le, slice_get, unwrap_or, OnOk, IfOk, IfSome};
+ghost use Rattle.std.specs.List.{list_any};
+ghost use Rattle.std.specs.Option.{option_map, option_and_then};
+ghost use Rattle.model.specs.Worlds.{sees};
+ghost use Rattle.text_definitions.specs.Syntax.{Line, crate_line};
+ghost use Rattle.text_definitions.specs.Declarations.{known, world_of, last_crate};
+ghost use Rattle.text_definitions.specs.Faults.{last_items};
+ghost use Rattle.text_definitions.specs.Lowering.{crate_number};
+ghost use Rattle.text_definitions.specs.Adding.{added};
+ghost use Rattle.workspace.specs.Numbered.{IsFew};
+ghost use Rattle.workspace.specs.Tables.{declared, with_crate, with_struct, with_trait, with_impl, with_question, new_crate, will_see, item_of, item_named, core_alone, IsConsistent, MarksSeen, number_of_crate};
+ghost use Rattle.workspace.specs.Parts.{IsStructLine, IsTraitLine, IsImplLine, IsQuestionLine, new_struct, new_trait, new_impl};
+ghost use Rattle.workspace.specs.Views.{known_of, sorts_of, cells_of, reference_of, question_of, asker_of, param_names, numbers_of, name_texts};
+ghost use Rattle.workspace.specs.TermCells.{trees_of};
+
+use crate::cell::{ParamKind, TermCell};
+use crate::declared::{
+    Asked, CrateEntry, ImplEntry, Known, Named, Param, QuestionEntry, ReferenceCells, StructEntry,
+    TraitEntry,
+};
+use std::alloc::{AllocError, Global};
+use std::collections::HashMap;
+use type_terms::{AdtId, CrateId, ImplId, TraitId};
+
+/// No list of a text's declarations is as long: a text has a line more than bytes at most, and `core` is there before.
+pub const ENTRY_LIMIT: usize = 1_048_640;
+
+/// What lines have declared and asked so far, in the order of the text, `core` first, and what makes it quick to search.
+///
+/// An item's number is its place among all of its kind. A call that adds something can run out of memory; the tables are not used
+/// any more then.
+#[derive(Drop)]
+pub struct Tables {
+    pub(crate) alloc: Global,
+    pub(crate) crates: Vec<CrateEntry>,
+    pub(crate) ids: Vec<CrateId>,
+    pub(crate) structs: Vec<StructEntry>,
+    pub(crate) traits: Vec<TraitEntry>,
+    pub(crate) impls: Vec<ImplEntry>,
+    pub(crate) questions: Vec<QuestionEntry>,
+    pub(crate) asked: Vec<Asked>,
+    /// What each name stands for.
+    names: HashMap<Vec<u8>, Named>,
+    /// How many impls the last crate has.
+    last_impls: u32,
+    /// How many structs, traits and impls the last crate has.
+    last_items: u32,
+}
+
+/// Whether a row is marked at a place; behind its end it isn't.
+fn is_marked(row: &[bool], place: u32) -> bool
+    ensures { result ≡ unwrap_or (slice_get row.now place) false }
+{
+    row.get(place as usize).copied().unwrap_or(false)
+}
+
+impl Tables {
+    /// The crate `core` without its items.
+    pub(crate) fn core_alone(alloc: Global) -> Result<Self, AllocError>
+        ensures declared { IfOk result (λ t. declared t ≡ core_alone) }
+        ensures consistent { IfOk result (λ t. IsConsistent t) }
+    {
+        let core = CrateId { index: 0 };
+        let mut crates = Vec::new(alloc);
+        crates.push(CrateEntry {
+            id: core,
+            name: Vec::from_slice(alloc, b"core")?,
+            uses: Vec::new(alloc),
+            sees: vec![in alloc; true]?,
+        })?;
+        let mut names = HashMap::new(alloc);
+        names.insert(Vec::from_slice(alloc, b"core")?, Named::Crate(core))?;
+        Ok(Tables {
+            alloc,
+            crates,
+            ids: vec![in alloc; core]?,
+            structs: Vec::new(alloc),
+            traits: Vec::new(alloc),
+            impls: Vec::new(alloc),
+            questions: Vec::new(alloc),
+            asked: Vec::new(alloc),
+            names,
+            last_impls: 0,
+            last_items: 0,
+        })
+    }
+
+    fn named(&self, name: &[u8]) -> Option<Named>
+        requires { IsConsistent self.now }
+        ensures { option_map item_of result ≡ item_named (declared self.now) name.now }
+    {
+        self.names.get(name).copied()
+    }
+
+    /// What a name stands for.
+    pub fn known(&self, name: &[u8]) -> Option<Known<'_>>
+        requires { IsConsistent self.now }
+        ensures { option_map known_of result ≡ known (declared self.now) name.now }
+    {
+        match self.named(name) {
+            None => None,
+            Some(Named::Crate(id)) => Some(Known::Crate(id)),
+            Some(Named::Struct(id)) => {
+                let entry = &self.structs[id.index as usize];
+                Some(Known::Struct {
+                    id,
+                    owner: entry.owner,
+                    params: &entry.params,
+                })
+            }
+            Some(Named::Trait(id)) => {
+                let entry = &self.traits[id.index as usize];
+                Some(Known::Trait {
+                    id,
+                    owner: entry.owner,
+                    is_auto: entry.is_auto,
+                    params: &entry.params,
+                })
+            }
+        }
+    }
+
+    /// Whether crate `seeing` sees crate `seen`.
+    pub fn sees(&self, seeing: CrateId, seen: CrateId) -> bool
+        requires consistent { IsConsistent self.now }
+        requires there { seeing.index < length self.now.crates.items }
+        ensures { result ≡ sees (world_of (declared self.now)) seeing.index seen.index }
+    {
+        let entry = &self.crates[seeing.index as usize];
+        is_marked(&entry.sees, seen.index)
+    }
+
+    /// The crates that a crate sees, in the order of the text.
+    pub fn seen_from(&self, seeing: CrateId) -> Result<Vec<CrateId>, AllocError>
+        requires consistent { IsConsistent self.now }
+        requires there { seeing.index < length self.now.crates.items }
+        ensures { IfOk result (λ seen. seen.items ≡ filter (λ i. sees (world_of (declared self.now)) seeing.index i.index) self.now.ids.items) }
+    {
+        let mut seen = Vec::new(self.alloc);
+        for id in &self.ids {
+            if self.sees(seeing, *id) {
+                seen.push(*id)?;
+            }
+        }
+        Ok(seen)
+    }
+
+    /// The crate of the last line of a crate.
+    pub fn last_crate(&self) -> CrateId
+        requires { IsConsistent self.now }
+        ensures { result.index ≡ last_crate (declared self.now) }
+    {
+        self.ids[self.ids.len() - 1]
+    }
+
+    /// Whether only `core` is there.
+    pub fn has_no_crate(&self) -> bool
+        ensures { result ≡ nat_le (length (declared self.now).crates) 1 }
+    {
+        self.crates.len() <= 1
+    }
+
+    /// How many structs, traits and impls the last crate has.
+    pub fn last_items(&self) -> u32
+        requires { IsConsistent self.now }
+        ensures { result ≡ last_items (declared self.now) }
+    {
+        self.last_items
+    }
+
+    /// The crate that a name stands for, if it stands for one.
+    pub fn crate_named(&self, name: &[u8]) -> Option<CrateId>
+        requires { IsConsistent self.now }
+        ensures number { option_map (λ c. c.index) result ≡ option_and_then number_of_crate (known (declared self.now) name.now) }
+        ensures there { IfSome result (λ c. c.index < length self.now.crates.items) }
+    {
+        match self.known(name) {
+            Some(Known::Crate(id)) => Some(id),
+            _ => None,
+        }
+    }
+
+    fn crate_id(&self, name: &[u8]) -> CrateId
+        requires { IsConsistent self.now }
+        ensures number { result.index ≡ crate_number (known (declared self.now) name.now) }
+        ensures there { result.index < length self.now.crates.items }
+    {
+        match self.crate_named(name) {
+            Some(id) => id,
+            None => CrateId { index: 0 },
+        }
+    }
+
+    /// The crates that a line names, as it names them.
+    fn crate_ids(&self, used: &[&[u8]]) -> Result<Vec<CrateId>, AllocError>
+        requires { IsConsistent self.now }
+        ensures numbers { IfOk result (λ ids. numbers_of ids.items ≡ map (λ u. crate_number (known (declared self.now) u)) (name_texts used.now)) }
+        ensures there { IfOk result (λ ids. All (λ u. u.index < length self.now.crates.items) ids.items) }
+    {
+        let mut ids = Vec::new(self.alloc);
+        for name in used {
+            ids.push(self.crate_id(name))?;
+        }
+        Ok(ids)
+    }
+
+    fn any_sees(&self, uses: &[CrateId], seen: CrateId) -> bool
+        requires consistent { IsConsistent self.now }
+        requires there { All (λ u. u.index < length self.now.crates.items) uses.now }
+        ensures { result ≡ list_any (λ u. sees (world_of (declared self.now)) u.index seen.index) uses.now }
+    {
+        uses.iter().any(|used| self.sees(*used, seen))
+    }
+
+    /// Whether a new crate that uses these sees the crate: `core`, what they see, and itself.
+    fn will_see(&self, uses: &[CrateId], seen: CrateId) -> bool
+        requires consistent { IsConsistent self.now }
+        requires there { All (λ u. u.index < length self.now.crates.items) uses.now }
+        ensures { result ≡ will_see (world_of (declared self.now)) uses.now seen.index }
+    {
+        seen.index == 0 || self.any_sees(uses, seen)
+    }
+
+    /// For each crate so far, whether a new one that uses these sees it, and that it sees itself.
+    fn seen_by(&self, uses: &[CrateId]) -> Result<Vec<bool>, AllocError>
+        requires consistent { IsConsistent self.now }
+        requires there { All (λ u. u.index < length self.now.crates.items) uses.now }
+        ensures { IfOk result (λ row. row.items ≡ map (λ i. will_see (world_of (declared self.now)) uses.now i.index) self.now.ids.items ++ true ∷ []) }
+    {
+        let mut row = Vec::new(self.alloc);
+        for id in &self.ids {
+            row.push(self.will_see(uses, *id))?;
+        }
+        row.push(true)?;
+        Ok(row)
+    }
+
+    fn push_crate(
+        &mut self,
+        name: &[u8],
+        uses: Vec<CrateId>,
+        row: Vec<bool>,
+    ) -> Result<(), AllocError>
+        requires consistent { IsConsistent self.old }
+        requires new { known (declared self.old) name.now ≡ None }
+        requires few { IsFew (declared self.old) ENTRY_LIMIT }
+        requires uses { All (λ u. u.index < length self.old.crates.items) uses.items }
+        requires row { MarksSeen (world_of (with_crate (declared self.old) (new_crate (length self.old.crates.items) name.now uses.items))) (length self.old.crates.items) row.items }
+        ensures declared { OnOk result (declared self.new ≡ with_crate (declared self.old) (new_crate (length self.old.crates.items) name.now uses.items)) }
+        ensures consistent { OnOk result (IsConsistent self.new) }
+    {
+        let id = CrateId {
+            index: self.crates.len() as u32,
+        };
+        self.names
+            .insert(Vec::from_slice(self.alloc, name)?, Named::Crate(id))?;
+        self.crates.push(CrateEntry {
+            id,
+            name: Vec::from_slice(self.alloc, name)?,
+            uses,
+            sees: row,
+        })?;
+        self.ids.push(id)?;
+        self.last_impls = 0;
+        self.last_items = 0;
+        Ok(())
+    }
+
+    /// Adds a crate that uses these, by their names, which stand for earlier crates.
+    pub fn add_crate(&mut self, name: &[u8], used: &[&[u8]]) -> Result<(), AllocError>
+        requires consistent { IsConsistent self.old }
+        requires new { known (declared self.old) name.now ≡ None }
+        requires few { IsFew (declared self.old) ENTRY_LIMIT }
+        ensures added { OnOk result (declared self.new ≡ added (declared self.old) (crate_line name.now (name_texts used.now))) }
+        ensures consistent { OnOk result (IsConsistent self.new) }
+    {
+        let uses = self.crate_ids(used)?;
+        let row = self.seen_by(&uses)?;
+        self.push_crate(name, uses, row)
+    }
+
+    /// Adds a struct of the last crate, with the kinds of its parameters and its fields.
+    pub fn add_struct(
+        &mut self,
+        name: &[u8],
+        is_fundamental: bool,
+        params: Vec<ParamKind>,
+        fields: Vec<TermCell>,
+    ) -> Result<(), AllocError>
+        requires consistent { IsConsistent self.old }
+        requires new { known (declared self.old) name.now ≡ None }
+        requires few { IsFew (declared self.old) ENTRY_LIMIT }
+        ensures declared { OnOk result (declared self.new ≡ with_struct (declared self.old) (new_struct (declared self.old) name.now is_fundamental (sorts_of params.items) (trees_of (cells_of fields.items)))) }
+        ensures added { OnOk result ((l : Line) → IsStructLine (declared self.old) name.now is_fundamental (sorts_of params.items) (trees_of (cells_of fields.items)) l → declared self.new ≡ added (declared self.old) l) }
+        ensures consistent { OnOk result (IsConsistent self.new) }
+    {
+        let id = AdtId {
+            index: self.structs.len() as u32,
+        };
+        let owner = self.last_crate();
+        self.names
+            .insert(Vec::from_slice(self.alloc, name)?, Named::Struct(id))?;
+        self.structs.push(StructEntry {
+            id,
+            name: Vec::from_slice(self.alloc, name)?,
+            owner,
+            is_fundamental,
+            params,
+            fields,
+        })?;
+        self.last_items += 1;
+        Ok(())
+    }
+
+    /// Adds a trait of the last crate, with the kinds of its parameters but for Self, and its bounds.
+    pub fn add_trait(
+        &mut self,
+        name: &[u8],
+        is_fundamental: bool,
+        is_auto: bool,
+        params: Vec<ParamKind>,
+        bounds: Vec<ReferenceCells>,
+    ) -> Result<(), AllocError>
+        requires consistent { IsConsistent self.old }
+        requires new { known (declared self.old) name.now ≡ None }
+        requires few { IsFew (declared self.old) ENTRY_LIMIT }
+        ensures declared { OnOk result (declared self.new ≡ with_trait (declared self.old) (new_trait (declared self.old) name.now is_fundamental is_auto (sorts_of params.items) (map reference_of bounds.items))) }
+        ensures added { OnOk result ((l : Line) → IsTraitLine (declared self.old) name.now is_fundamental is_auto (sorts_of params.items) (map reference_of bounds.items) l → declared self.new ≡ added (declared self.old) l) }
+        ensures consistent { OnOk result (IsConsistent self.new) }
+    {
+        let id = TraitId {
+            index: self.traits.len() as u32,
+        };
+        let owner = self.last_crate();
+        self.names
+            .insert(Vec::from_slice(self.alloc, name)?, Named::Trait(id))?;
+        self.traits.push(TraitEntry {
+            id,
+            name: Vec::from_slice(self.alloc, name)?,
+            owner,
+            is_fundamental,
+            is_auto,
+            params,
+            bounds,
+        })?;
+        self.last_items += 1;
+        Ok(())
+    }
+
+    /// Adds an impl of the last crate.
+    pub fn add_impl(
+        &mut self,
+        params: Vec<Param>,
+        header: ReferenceCells,
+        clauses: Vec<ReferenceCells>,
+    ) -> Result<(), AllocError>
+        requires consistent { IsConsistent self.old }
+        requires few { IsFew (declared self.old) ENTRY_LIMIT }
+        ensures declared { OnOk result (declared self.new ≡ with_impl (declared self.old) (new_impl (declared self.old) (param_names params.items) (reference_of header) (map reference_of clauses.items))) }
+        ensures added { OnOk result ((l : Line) → IsImplLine (declared self.old) (param_names params.items) (reference_of header) (map reference_of clauses.items) l → declared self.new ≡ added (declared self.old) l) }
+        ensures consistent { OnOk result (IsConsistent self.new) }
+    {
+        let id = ImplId {
+            index: self.impls.len() as u32,
+        };
+        let owner = self.last_crate();
+        let number_in_crate = self.last_impls + 1;
+        self.impls.push(ImplEntry {
+            id,
+            owner,
+            number_in_crate,
+            params,
+            header,
+            clauses,
+        })?;
+        self.last_impls = number_in_crate;
+        self.last_items += 1;
+        Ok(())
+    }
+
+    /// Adds a question.
+    pub fn add_question(&mut self, entry: QuestionEntry) -> Result<(), AllocError>
+        requires consistent { IsConsistent self.old }
+        requires asker { asker_of entry.asked_how < length (declared self.old).crates }
+        ensures declared { OnOk result (declared self.new ≡ with_question (declared self.old) (question_of entry)) }
+        ensures added { OnOk result ((l : Line) → IsQuestionLine (declared self.old) (question_of entry) l → declared self.new ≡ added (declared self.old) l) }
+        ensures consistent { OnOk result (IsConsistent self.new) }
+    {
+        self.asked.push(entry.asked_how)?;
+        self.questions.push(entry)?;
+        Ok(())
+    }
+}

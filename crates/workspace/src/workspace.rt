@@ -1,0 +1,136 @@
+//! The declarations and questions of a text.
+ghost use Rattle.std.specs.Prelude.{◌≡◌, ◌<◌, Some, length, map, take, suc, count_by, slice_get, ◌==◌, IfOk};
+ghost use Rattle.std.specs.Option.{option_map};
+ghost use Rattle.model.specs.Worlds.{sees, view_of};
+ghost use Rattle.text_definitions.specs.Declarations.{known, world_of};
+ghost use Rattle.workspace.specs.Numbered.{IsNumbered, IsFew};
+ghost use Rattle.workspace.specs.Views.{known_of, struct_of, trait_of, impl_of, question_of, numbers_of, asked_of};
+
+use crate::declared::{Asked, ImplEntry, Known, QuestionEntry, StructEntry, TraitEntry};
+use crate::tables::{ENTRY_LIMIT, Tables};
+use std::alloc::AllocError;
+use std::marker::Model;
+use type_terms::{CrateId, ImplId};
+
+/// What a text declares and asks, in its order. The crate `core` and its items stand first.
+///
+/// Crates, structs, traits and impls go by numbers: an item's number is its place among all of its kind.
+#[derive(Drop)]
+pub struct Workspace {
+    tables: Tables,
+}
+
+impl Model for Workspace {
+    ghost use Rattle.text_definitions.specs.Declarations.{Declarations};
+    ghost use Rattle.workspace.specs.Numbered.{IsFew};
+    ghost use Rattle.workspace.specs.Stored.{declarations_code};
+    ghost use Rattle.workspace.specs.Tables.{declared, IsConsistent};
+
+    ghost Value = { Declarations };
+
+    ghost coded = { declarations_code };
+
+    ghost view = { λ w. declared w.tables };
+
+    ghost invariant = { λ w. IsConsistent w.tables × IsFew (declared w.tables) 1048640 };
+}
+
+impl Workspace {
+    ghost use Rattle.workspace.specs.Tables.{declared, IsConsistent};
+
+    /// What the tables of a whole text hold.
+    pub fn new(tables: Tables) -> Self
+        requires consistent { IsConsistent tables }
+        requires few { IsFew (declared tables) ENTRY_LIMIT }
+        ensures { result ≡ declared tables }
+    {
+        Workspace { tables }
+    }
+
+    /// The crates in the order of the text, `core` first.
+    pub fn crates(&self) -> &[CrateId]
+        ensures crates { numbers_of result.now ≡ map (λ c. c.item.name) self.now.crates }
+        ensures numbered { IsNumbered self.now }
+        ensures few { IsFew self.now ENTRY_LIMIT }
+    {
+        &self.tables.ids
+    }
+
+    /// What each question asks, and in which crate.
+    pub fn questions(&self) -> &[Asked]
+        ensures { map asked_of result.now ≡ map (λ q. (q.is_refute, q.asker)) self.now.questions }
+    {
+        &self.tables.asked
+    }
+
+    /// The name of a crate.
+    pub fn crate_name(&self, id: CrateId) -> &[u8]
+        requires { id.index < length self.now.crates }
+        ensures { option_map (λ c. c.text) (slice_get self.now.crates id.index) ≡ Some result.now }
+    {
+        &self.tables.crates[id.index as usize].name
+    }
+
+    /// What a name stands for.
+    pub fn known(&self, name: &[u8]) -> Option<Known<'_>>
+        ensures { option_map known_of result ≡ known self.now name.now }
+    {
+        self.tables.known(name)
+    }
+
+    /// Whether crate `seeing` sees crate `seen`.
+    pub fn sees(&self, seeing: CrateId, seen: CrateId) -> bool
+        requires { seeing.index < length self.now.crates }
+        ensures { result ≡ sees (world_of self.now) seeing.index seen.index }
+    {
+        self.tables.sees(seeing, seen)
+    }
+
+    /// What a crate sees: itself and all that it uses, directly or through others, `core` first and the crate last, in the order
+    /// of the text.
+    pub fn view(&self, crate_id: CrateId) -> Result<Vec<CrateId>, AllocError>
+        requires { crate_id.index < length self.now.crates }
+        ensures { IfOk result (λ seen. numbers_of seen.items ≡ map (λ c. c.name) (view_of (world_of self.now) crate_id.index).crates) }
+    {
+        let seen = self.tables.seen_from(crate_id)?;
+        Ok(seen)
+    }
+
+    /// The crate of an impl, and the impl's number among those of its crate, from 1.
+    pub fn impl_place(&self, id: ImplId) -> (CrateId, u32)
+        requires { id.index < length self.now.impls }
+        ensures home { option_map (λ i. i.item.home) (slice_get self.now.impls id.index) ≡ Some result.0.index }
+        ensures number { result.1 ≡ count_by (λ i. i.item.home == result.0.index) (take (suc id.index) self.now.impls) }
+    {
+        let entry = &self.tables.impls[id.index as usize];
+        (entry.owner, entry.number_in_crate)
+    }
+
+    /// The structs in the order of the text.
+    pub fn structs(&self) -> &[StructEntry]
+        ensures { map struct_of result.now ≡ self.now.structs }
+    {
+        &self.tables.structs
+    }
+
+    /// The traits in the order of the text.
+    pub fn traits(&self) -> &[TraitEntry]
+        ensures { map trait_of result.now ≡ self.now.traits }
+    {
+        &self.tables.traits
+    }
+
+    /// The impls in the order of the text.
+    pub fn impls(&self) -> &[ImplEntry]
+        ensures { map impl_of result.now ≡ self.now.impls }
+    {
+        &self.tables.impls
+    }
+
+    /// The questions in the order of the text.
+    pub fn question_entries(&self) -> &[QuestionEntry]
+        ensures { map question_of result.now ≡ self.now.questions }
+    {
+        &self.tables.questions
+    }
+}
