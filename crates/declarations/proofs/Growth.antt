@@ -15,10 +15,10 @@ use Rattle.declarations.specs.declared.items.ImplDef.{ImplDef}
 use Rattle.declarations.specs.Heads.{head_of, begins_declared}
 use Rattle.declarations.specs.Merges.{Each}
 use Rattle.declarations.specs.Unsizing.{field_trees, unsizing_flags}
-use Rattle.declarations.specs.Items.{Items, HeldImpl, reference_in, struct_in, trait_in, impl_in, declared}
+use Rattle.declarations.specs.Items.{Items, HeldImpl, reference_in, struct_in, trait_in, impl_in, written, declared}
 use Rattle.declarations.specs.Held.{ReferenceHeld, StructHeld, TraitHeld, ImplHeld, AreHeld}
 
-each-kept : {A : Type 0} (P Q : A → Type 0) → ((x : A) → P x → Q x) → (xs : List A) → Each P xs → Each Q xs
+pub each-kept : {A : Type 0} (P Q : A → Type 0) → ((x : A) → P x → Q x) → (xs : List A) → Each P xs → Each Q xs
 each-kept P Q f [] h = tt
 each-kept P Q f (x ∷ xs) h = (f x h.0, each-kept P Q f xs h.1)
 
@@ -42,10 +42,10 @@ same-world : (a b : List StructDecl) (p q : List TraitDecl) (x y : List ImplDecl
 same-world a b p q x y e f g = ap (λ z. world z p x) e ∙ ap (λ z. world b z x) f ∙ ap (world b q) g
 
 module _ (old new : List Entry) (k : Keeps old new) where
-  reference-kept : (r : TraitRef) → ReferenceHeld old r → ReferenceHeld new r
+  pub reference-kept : (r : TraitRef) → ReferenceHeld old r → ReferenceHeld new r
   reference-kept r h = has-later old new k args_lists r.args.0 h
 
-  args-same : (r : TraitRef) → ReferenceHeld old r → trees_at new r.args.0 ≡ trees_at old r.args.0
+  pub args-same : (r : TraitRef) → ReferenceHeld old r → trees_at new r.args.0 ≡ trees_at old r.args.0
   args-same r h = trees-later old new k args_lists r.args.0 h
 
   pub reference-same : (r : TraitRef) → ReferenceHeld old r → reference_in new r ≡ reference_in old r
@@ -103,11 +103,13 @@ module _ (old new : List Entry) (k : Keeps old new) where
         heads = heads-kept d.impls h.impls h.heads;
       }
 
-  pub all-declared : (d : Items) → AreHeld old d → declared new d ≡ declared old d
-  all-declared d h =
-      ap erased_world
-      (same-world (map (struct_in new) d.structs) (map (struct_in old) d.structs) (map (trait_in new) d.traits) (map (trait_in old) d.traits)
+  pub all-written : (d : Items) → AreHeld old d → written new d ≡ written old d
+  all-written d h =
+      same-world (map (struct_in new) d.structs) (map (struct_in old) d.structs) (map (trait_in new) d.traits) (map (trait_in old) d.traits)
       (map (λ i. impl_in new i.id i.def) d.impls) (map (λ i. impl_in old i.id i.def) d.impls)
       (read-same (λ (x : AdtId × AdtDef). StructHeld old x.1) (struct_in new) (struct_in old) struct-same d.structs h.structs)
       (read-same (λ (x : TraitId × TraitDef). TraitHeld old x.1) (trait_in new) (trait_in old) trait-same d.traits h.traits)
-      (read-same (λ (i : HeldImpl). ImplHeld old i.def) (λ i. impl_in new i.id i.def) (λ i. impl_in old i.id i.def) impl-same d.impls h.impls))
+      (read-same (λ (i : HeldImpl). ImplHeld old i.def) (λ i. impl_in new i.id i.def) (λ i. impl_in old i.id i.def) impl-same d.impls h.impls)
+
+  pub all-declared : (d : Items) → AreHeld old d → declared new d ≡ declared old d
+  all-declared d h = ap erased_world (all-written d h)

@@ -1,8 +1,15 @@
-mod Lookups
-mod Keys
-mod Merging
-mod Relevance
-mod Named
-mod Pushed
-mod Growth
-mod Unsized
+pub mod Lookups
+pub mod Keys
+pub mod Merging
+pub mod Relevance
+pub mod Named
+pub mod Pushed
+pub mod Growth
+pub mod Unsized
+pub mod Written
+pub mod Instances
+pub mod Bounded
+pub mod Levels
+pub mod Stacks
+pub mod Extending
+pub mod Elaborating

@@ -1,5 +1,5 @@
 -- What a contract sees of declarations, and the world that they are.
-use Rattle.std.specs.Prelude.{◌≡◌, ℕ, ◌<◌, ◌==◌, ◌&&◌, List, [], ◌∷◌, ◌++◌, map, filter, length, Option, None, Some}
+use Rattle.std.specs.Prelude.{◌≡◌, ℕ, ◌<◌, ◌==◌, ◌&&◌, if◌then◌else◌, List, [], ◌∷◌, ◌++◌, map, filter, length, Option, None, Some}
 use Rattle.model.specs.Label.{Label}
 use Rattle.model.specs.Worlds.{World, Reference, StructDecl, TraitDecl, ImplDecl}
 use Rattle.model.specs.Terms.{erased_world}
@@ -80,6 +80,16 @@ ids_with t h is = map (λ i. i.id) (filter (λ i. (i.def.header.def_id.index == 
 abbrev pub ids_headed : ℕ → Option Label → List HeldImpl → List ImplId
 ids_headed t None is = []
 ids_headed t (Some l) is = ids_with t (Some l) is
+
+-- The trait of a number.
+abbrev pub trait_at : ℕ → List (TraitId × TraitDef) → Option TraitDef
+trait_at n [] = None
+trait_at n (x ∷ xs) = if n == x.0.index then Some x.1 else trait_at n xs
+
+-- The struct of a number.
+abbrev pub struct_at : ℕ → List (AdtId × AdtDef) → Option AdtDef
+struct_at n [] = None
+struct_at n (x ∷ xs) = if n == x.0.index then Some x.1 else struct_at n xs
 
 -- What was found, read as f reads it, is the only item; where nothing was found there is none.
 abbrev pub IsOnly : {R D : Type 0} → (R → D) → Option R → List D → Type 0

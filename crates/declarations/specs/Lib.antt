@@ -6,4 +6,6 @@ pub mod Unsizing
 pub mod Elaboration
 pub mod Held
 pub mod Relevant
+pub mod Applied
+pub mod Stacked
 pub mod Inside

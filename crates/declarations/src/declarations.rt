@@ -7,7 +7,7 @@ ghost use Rattle.model.specs.Terms.{erased_struct, erased_trait, erased_impl};
 ghost use Rattle.model.specs.Worlds.{structs_named, traits_named};
 ghost use Rattle.model.specs.Walks.{trait_is};
 ghost use Rattle.declarations.specs.Heads.{label_of};
-ghost use Rattle.declarations.specs.Items.{IsOnly, ids_with, ids_headed, with_struct, with_trait, with_impl, struct_in, trait_in, impl_in, declared, held_impl, IsAbove};
+ghost use Rattle.declarations.specs.Items.{IsOnly, ids_with, ids_headed, with_struct, with_trait, with_impl, struct_in, trait_in, impl_in, struct_at, trait_at, written, declared, held_impl, IsAbove};
 ghost use Rattle.declarations.specs.Merges.{Rises};
 ghost use Rattle.declarations.specs.Held.{AreHeld, StructHeld, TraitHeld, ImplHeld};
 ghost use Rattle.declarations.specs.Unsizing.{TellUnsizing};
@@ -127,7 +127,9 @@ impl Declarations {
 
     /// The struct with a number, if it is declared (`adt_def`).
     pub fn adt_def(&self, id: AdtId) -> Option<&AdtDef>
+        ensures is { option_map (λ def. def.now) result ≡ struct_at id.index self.now.structs }
         ensures found { (es : List Entry) → IsOnly (λ def. erased_struct (struct_in es (id, def.now))) result (structs_named (declared es self.now) id.index) }
+        ensures written { (es : List Entry) → IsOnly (λ def. struct_in es (id, def.now)) result (structs_named (written es self.now) id.index) }
         ensures held { (es : List Entry) → AreHeld es self.now → IfSome result (λ def. StructHeld es def.now) }
     {
         let _ = self.adts.len();
@@ -147,7 +149,9 @@ impl Declarations {
 
     /// The trait with a number, if it is declared (`trait_def`).
     pub fn trait_def(&self, id: TraitId) -> Option<&TraitDef>
+        ensures is { option_map (λ def. def.now) result ≡ trait_at id.index self.now.traits }
         ensures found { (es : List Entry) → IsOnly (λ def. erased_trait (trait_in es (id, def.now))) result (traits_named (declared es self.now) id.index) }
+        ensures written { (es : List Entry) → IsOnly (λ def. trait_in es (id, def.now)) result (traits_named (written es self.now) id.index) }
         ensures held { (es : List Entry) → AreHeld es self.now → IfSome result (λ def. TraitHeld es def.now) }
     {
         let _ = self.traits.len();

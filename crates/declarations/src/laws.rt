@@ -2,14 +2,20 @@
 ghost use Rattle.std.specs.Prelude.{◌≡◌, ◌∷◌, [], List};
 ghost use Rattle.model.specs.Worlds.{World, Reference};
 ghost use Rattle.type_terms.specs.Terms.{Entry, Keeps};
-ghost use Rattle.declarations.specs.Items.{Items, declared};
-ghost use Rattle.declarations.specs.Held.{AreHeld};
+ghost use Rattle.declarations.specs.Items.{Items, written, declared};
+ghost use Rattle.declarations.specs.Held.{AreHeld, ReferenceHeld};
+ghost use Rattle.term_folds.specs.declared.predicate.TraitRef.{TraitRef};
+ghost use Rattle.declarations.specs.Applied.{HaveBounds, IsApplied};
 ghost use Rattle.declarations.specs.Elaboration.{elaborate, supertraits, diamond, asked_of_u8};
 
-/// Declarations whose terms are an interner's stay so as it grows, and they are the same world.
+/// Declarations whose terms are an interner's stay so as it grows, and they are the same world, with supertraits that can be read
+/// off references. A reference that has its trait's arguments has them still.
 pub fn declarations_are_kept()
     ensures held { (old new : List Entry) (d : Items) → Keeps old new → AreHeld old d → AreHeld new d }
     ensures declares { (old new : List Entry) (d : Items) → Keeps old new → AreHeld old d → declared new d ≡ declared old d }
+    ensures written { (old new : List Entry) (d : Items) → Keeps old new → AreHeld old d → written new d ≡ written old d }
+    ensures bounds { (old new : List Entry) (d : Items) → Keeps old new → AreHeld old d → HaveBounds old d → HaveBounds new d }
+    ensures applied { (old new : List Entry) (d : Items) (r : TraitRef) → Keeps old new → ReferenceHeld old r → IsApplied old d r → IsApplied new d r }
 {}
 
 /// To elaborate one reference gives it and then its supertraits. With `trait Bottom: Left + Right`, both of which have `Top`,

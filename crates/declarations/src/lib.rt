@@ -3,6 +3,7 @@
 #![tactic(auto)]
 
 pub mod declarations;
+mod elaborate;
 mod heads;
 pub mod items;
 pub mod laws;

@@ -1,0 +1,32 @@
+use Rattle.std.proofs.Common.{◌≡◌, sym, ap, ◌∙◌, subst, None, Ok, Err}
+use Rattle.std.specs.Prelude.{Result, IfOk}
+use Rattle.type_terms.specs.Terms.{trees_at}
+use Rattle.term_folds.specs.Arguments.{first_misfit}
+use Rattle.model.specs.Worlds.{all_with_args}
+use Rattle.declarations.specs.Applied.{references_in, AllHeld}
+use Rattle.declarations.specs.Merges.{Each}
+use Rattle.declarations.proofs.Elaborating.{bounds-fit, bounds-applied}
+use Rattle.declarations.proofs.declarations.Declarations.written_supertraits.Goals as goal
+
+pub instantiate_bounds-requires-clause-held : goal.instantiate_bounds-requires-clause-held
+instantiate_bounds-requires-clause-held c = subst (AllHeld c.args.cx.now.entries) (sym c.deref.ensures.value) (c.in-Some.ensures.held c.args.cx.now.entries c.requires.held)
+
+pub instantiate_bounds-requires-clause-fits : goal.instantiate_bounds-requires-clause-fits
+instantiate_bounds-requires-clause-fits c =
+    subst (Each (λ b. first_misfit (trees_at c.args.cx.now.entries c.args.trait_ref.args.0) (trees_at c.args.cx.now.entries b.args.0) ≡ None)) (sym c.deref.ensures.value)
+    (bounds-fit c.args.cx.now.entries c.args.self.now c.requires.bounds c.args.trait_ref c.requires.applied c.in-Some.def.now c.in-Some.ensures.is)
+
+mapped : {T E : Type 0} (P Q : T → Type 0) (r : Result T E) → ((v : T) → P v → Q v) → IfOk r P → IfOk r Q
+mapped P Q (Ok v) f h = f v h
+mapped P Q (Err e) f h = tt
+
+pub returns-in-Some-clause-applied : goal.returns-in-Some-clause-applied
+returns-in-Some-clause-applied c =
+    let old = c.args.cx.now.entries in
+    let new = c.instantiate_bounds.new.cx.entries in
+    let A = trees_at old c.args.trait_ref.args.0 in
+    mapped _ _ c.instantiate_bounds.result
+    (λ v are.
+    bounds-applied old new c.args.self.now c.requires.bounds c.args.trait_ref c.requires.applied c.in-Some.def.now c.in-Some.ensures.is v.items
+    (are ∙ ap (λ l. all_with_args A (references_in old l)) c.deref.ensures.value))
+    c.instantiate_bounds.ensures.are

@@ -1,0 +1,210 @@
+//! Supertraits of references.
+ghost use Rattle.std.specs.Prelude.{◌≡◌, ◌&&◌, ◌==◌, ◌++◌, ◌∷◌, [], Err, IfOk, IfErr, OnOk, None};
+ghost use Rattle.std.specs.List.{list_any};
+ghost use Rattle.model.specs.Trees.{outer_binder};
+ghost use Rattle.model.specs.Worlds.{with_args, all_with_args};
+ghost use Rattle.model.specs.Rules.{written_supertraits};
+ghost use Rattle.type_terms.specs.Terms.{Keeps, Has, args_lists, trees_at};
+ghost use Rattle.type_terms.specs.declared.Fault.TheVariants.{Memory};
+ghost use Rattle.term_folds.specs.Arguments.{first_misfit};
+ghost use Rattle.term_folds.specs.Failures.{SomeKindIsFull};
+ghost use Rattle.declarations.specs.Items.{reference_in, written};
+ghost use Rattle.declarations.specs.Held.{ReferenceHeld, AreHeld};
+ghost use Rattle.declarations.specs.Elaboration.{is_put, new_of, elaborate, supertraits, rest_of};
+ghost use Rattle.declarations.specs.Applied.{references_in, AllHeld, IsApplied, AreApplied, HaveBounds};
+ghost use Rattle.declarations.specs.Stacked.{Extends};
+ghost use Rattle.declarations.specs.Merges.{Each};
+
+use crate::declarations::Declarations;
+use std::alloc::Global;
+use term_folds::binder::EarlyBinder;
+use term_folds::instantiate::InstantiateError;
+use term_folds::laws::closed_arguments_are_in_range;
+use term_folds::predicate::TraitRef;
+use type_terms::Fault;
+use type_terms::interner::Interner;
+use type_terms::kinds::GenericArgs;
+
+/// A reference with arguments in the place of its parameters.
+fn with_arguments(
+    alloc: Global,
+    cx: &mut Interner,
+    bound: TraitRef,
+    args: GenericArgs,
+) -> Result<TraitRef, Fault>
+    requires held { ReferenceHeld cx.old.entries bound }
+    requires args { Has cx.old.entries args_lists args.0 }
+    requires closed { outer_binder (trees_at cx.old.entries args.0) ≡ 0 }
+    requires fits { first_misfit (trees_at cx.old.entries args.0) (trees_at cx.old.entries bound.args.0) ≡ None }
+    ensures keeps { Keeps cx.old.entries cx.new.entries }
+    ensures limit { cx.new.limit ≡ cx.old.limit }
+    ensures held { IfOk result (ReferenceHeld cx.new.entries) }
+    ensures is { IfOk result (λ r. reference_in cx.new.entries r ≡ with_args (trees_at cx.old.entries args.0) (reference_in cx.old.entries bound)) }
+    ensures full { result ≡ Err Fault.Full → SomeKindIsFull cx.new.entries cx.new.limit }
+{
+    closed_arguments_are_in_range();
+    match EarlyBinder::bind(bound).instantiate(alloc, cx, args) {
+        Ok(instance) => Ok(instance),
+        Err(InstantiateError::Fault(fault)) => Err(fault),
+        Err(InstantiateError::ParamOutOfRange) => unreachable!(),
+        Err(InstantiateError::ParamKind) => unreachable!(),
+    }
+}
+
+/// Puts a reference behind the others. The error is `Memory`.
+fn put(found: &mut Vec<TraitRef>, next: TraitRef) -> Result<(), Fault>
+    ensures put { OnOk result (found.new.items ≡ found.old.items ++ next ∷ []) }
+    ensures memory { IfErr result (λ fault. fault ≡ Memory) }
+{
+    found.push(next)?;
+    Ok(())
+}
+
+/// The supertraits that a trait is declared with, with the arguments of a reference to it. With `trait Sub<U>: Sup<U>` and the
+/// arguments `[u8, bool]` it is `u8: Sup<bool>`.
+fn instantiate_bounds(
+    alloc: Global,
+    cx: &mut Interner,
+    bounds: &[TraitRef],
+    args: GenericArgs,
+) -> Result<Vec<TraitRef>, Fault>
+    requires held { AllHeld cx.old.entries bounds.now }
+    requires args { Has cx.old.entries args_lists args.0 }
+    requires closed { outer_binder (trees_at cx.old.entries args.0) ≡ 0 }
+    requires fits { Each (λ b. first_misfit (trees_at cx.old.entries args.0) (trees_at cx.old.entries b.args.0) ≡ None) bounds.now }
+    ensures keeps { Keeps cx.old.entries cx.new.entries }
+    ensures limit { cx.new.limit ≡ cx.old.limit }
+    ensures held { IfOk result (λ v. AllHeld cx.new.entries v.items) }
+    ensures are { IfOk result (λ v. references_in cx.new.entries v.items ≡ all_with_args (trees_at cx.old.entries args.0) (references_in cx.old.entries bounds.now)) }
+    ensures full { result ≡ Err Fault.Full → SomeKindIsFull cx.new.entries cx.new.limit }
+{
+    let mut found = Vec::new(alloc);
+    let mut left = bounds;
+    'bounds: while let Some((bound, others)) = left.split_first() {
+        let next = with_arguments(alloc, cx, *bound, args)?;
+        put(&mut found, next)?;
+        left = others;
+    }
+    Ok(found)
+}
+
+/// Whether the reference is one of these.
+fn is_among(references: &[TraitRef], trait_ref: TraitRef) -> bool
+    ensures { result ≡ list_any (λ s. (trait_ref.def_id.index == s.def_id.index) && (trait_ref.args.0 == s.args.0)) references.now }
+{
+    references.iter().any(|other| {
+        trait_ref.def_id.index == other.def_id.index && trait_ref.args.0 == other.args.0
+    })
+}
+
+/// References that wait to be elaborated, and those that were put among them at any time (`Elaborator`).
+#[derive(Drop)]
+struct Elaborator {
+    stack: Vec<TraitRef>,
+    visited: Vec<TraitRef>,
+}
+
+impl Elaborator {
+    /// Puts those on the stack that were not put there before (`extend_deduped`). The error is `Memory`.
+    fn extend_deduped(&mut self, cx: &Interner, references: &[TraitRef]) -> Result<(), Fault>
+        requires held { AllHeld cx.now.entries references.now }
+        requires visited { AllHeld cx.now.entries self.old.visited.items }
+        ensures extends { OnOk result (Extends cx.now.entries references.now self.old self.new) }
+        ensures memory { IfErr result (λ fault. fault ≡ Memory) }
+    {
+        cx.lawful();
+        let mut left = references;
+        'references: while let Some((next, others)) = left.split_first() {
+            if !is_among(&self.visited, *next) {
+                put(&mut self.visited, *next)?;
+                put(&mut self.stack, *next)?;
+            }
+            left = others;
+        }
+        Ok(())
+    }
+}
+
+impl Declarations {
+    /// The supertraits that the reference's trait is declared with, with the reference's arguments.
+    fn written_supertraits(
+        &self,
+        alloc: Global,
+        cx: &mut Interner,
+        trait_ref: TraitRef,
+    ) -> Result<Vec<TraitRef>, Fault>
+        requires held { AreHeld cx.old.entries self.now }
+        requires bounds { HaveBounds cx.old.entries self.now }
+        requires reference { ReferenceHeld cx.old.entries trait_ref }
+        requires applied { IsApplied cx.old.entries self.now trait_ref }
+        ensures keeps { Keeps cx.old.entries cx.new.entries }
+        ensures limit { cx.new.limit ≡ cx.old.limit }
+        ensures held { IfOk result (λ v. AllHeld cx.new.entries v.items) }
+        ensures applied { IfOk result (λ v. AreApplied cx.new.entries self.now v.items) }
+        ensures are { IfOk result (λ v. references_in cx.new.entries v.items ≡ written_supertraits (written cx.old.entries self.now) (reference_in cx.old.entries trait_ref)) }
+        ensures full { result ≡ Err Fault.Full → SomeKindIsFull cx.new.entries cx.new.limit }
+    {
+        match self.trait_def(trait_ref.def_id) {
+            Some(def) => instantiate_bounds(alloc, cx, &def.bounds, trait_ref.args),
+            None => Ok(Vec::new(alloc)),
+        }
+    }
+
+    /// The references with their supertraits through all levels, each once: they are put on a stack in their order, and each step
+    /// takes the last one off and puts its written supertraits on (`elaborate`). For `S: A1 + B1` it is S, B1, A1.
+    ///
+    /// Each reference has its trait's arguments, and no trait is its own supertrait. The error is a refusal of memory, or `Full`.
+    pub fn elaborate(
+        &self,
+        alloc: Global,
+        cx: &mut Interner,
+        references: &[TraitRef],
+    ) -> Result<Vec<TraitRef>, Fault>
+        requires held { AreHeld cx.old.entries self.now }
+        requires bounds { HaveBounds cx.old.entries self.now }
+        requires references { AllHeld cx.old.entries references.now }
+        requires applied { AreApplied cx.old.entries self.now references.now }
+        ensures keeps { Keeps cx.old.entries cx.new.entries }
+        ensures limit { cx.new.limit ≡ cx.old.limit }
+        ensures held { IfOk result (λ v. AllHeld cx.new.entries v.items) }
+        ensures applied { IfOk result (λ v. AreApplied cx.new.entries self.now v.items) }
+        ensures are { IfOk result (λ v. references_in cx.new.entries v.items ≡ elaborate (written cx.old.entries self.now) (references_in cx.old.entries references.now)) }
+        ensures full { result ≡ Err Fault.Full → SomeKindIsFull cx.new.entries cx.new.limit }
+    {
+        let mut elaborator = Elaborator {
+            stack: Vec::new(alloc),
+            visited: Vec::new(alloc),
+        };
+        elaborator.extend_deduped(cx, references)?;
+        let mut found = Vec::new(alloc);
+        'stack: while let Some(next) = elaborator.stack.pop() {
+            put(&mut found, next)?;
+            let supertraits = self.written_supertraits(alloc, cx, next)?;
+            elaborator.extend_deduped(cx, &supertraits)?;
+        }
+        Ok(found)
+    }
+
+    /// The strict supertraits of a reference through all levels, each once, in the order of `elaborate` (`supertraits`).
+    pub fn supertraits(
+        &self,
+        alloc: Global,
+        cx: &mut Interner,
+        trait_ref: TraitRef,
+    ) -> Result<Vec<TraitRef>, Fault>
+        requires held { AreHeld cx.old.entries self.now }
+        requires bounds { HaveBounds cx.old.entries self.now }
+        requires reference { ReferenceHeld cx.old.entries trait_ref }
+        requires applied { IsApplied cx.old.entries self.now trait_ref }
+        ensures keeps { Keeps cx.old.entries cx.new.entries }
+        ensures limit { cx.new.limit ≡ cx.old.limit }
+        ensures held { IfOk result (λ v. AllHeld cx.new.entries v.items) }
+        ensures applied { IfOk result (λ v. AreApplied cx.new.entries self.now v.items) }
+        ensures are { IfOk result (λ v. references_in cx.new.entries v.items ≡ supertraits (written cx.old.entries self.now) (reference_in cx.old.entries trait_ref)) }
+        ensures full { result ≡ Err Fault.Full → SomeKindIsFull cx.new.entries cx.new.limit }
+    {
+        let mut found = self.elaborate(alloc, cx, &[trait_ref])?;
+        let _ = found.remove(0);
+        Ok(found)
+    }
+}
