@@ -7,6 +7,7 @@ use Rattle.model.specs.Trees.{Trees, none, tree, some_node, Single}
 use Rattle.model.specs.Worlds.{World, Reference, StructDecl, TraitDecl, ImplDecl}
 use Rattle.model.proofs.Members.{same-number}
 use Rattle.model.proofs.NoHolds.{member-each}
+use Rattle.model.proofs.Fitting.{not-true}
 use Rattle.model.proofs.Walking.{left, right}
 use Rattle.assembly_laws.specs.Candidates.{is_param}
 use Rattle.assembly_laws.specs.Declared.{is_declared_view, BoundsAreErased, is_lifetime_parameter, parameters_are_sorted, LeadDown}
@@ -14,10 +15,6 @@ use Rattle.assembly_laws.specs.Determined.{ImplsAreDetermined}
 use Rattle.assembly_laws.specs.DeclaredWell.{is_loose, impls_are_determined, bounds_are_erased, height_in, bounds_lead_down, are_distinct, is_single, TestsTell, CoreIsDeclaredWell}
 use Rattle.assembly_laws.proofs.Reading.{true-false}
 use Rattle.assembly_laws.proofs.ReadOff.{none-passes}
-
-not-true : (b : Bool) → not b ≡ true → b ≡ false
-not-true true e = absurd (true-false (sym e))
-not-true false e = refl
 
 not-not : (b : Bool) → not b ≡ false → b ≡ true
 not-not true e = refl

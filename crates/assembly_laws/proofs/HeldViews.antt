@@ -10,7 +10,8 @@ use Rattle.model.specs.Proofs.{In}
 use Rattle.model.proofs.Members.{here, there, in-nothing, in-cases}
 use Rattle.model.proofs.Entries.{map-in}
 use Rattle.model.proofs.NoHolds.{member-each}
-use Rattle.model.proofs.Walking.{left, right}
+use Rattle.model.proofs.Fitting.{not-true}
+use Rattle.model.proofs.Walking.{left, right, both}
 use Rattle.type_terms.specs.Made.{terms, is_made, is_in_range}
 use Rattle.type_terms.specs.Terms.{Entry, Has, Lawful, trees_at, types, args_lists, bounds_lists}
 use Rattle.term_folds.specs.declared.predicate.TraitRef.{TraitRef}
@@ -36,13 +37,6 @@ each-of P (y ∷ xs) x e i = by (in-cases x y xs i) (λ j. each-of P xs x e.1 j)
 all-of : {A : Type 0} (p : A → Bool) (xs : List A) → ((x : A) → In x xs → p x ≡ true) → list_all p xs ≡ true
 all-of p [] h = refl
 all-of p (x ∷ xs) h = both (p x) (list_all p xs) (h x (here x xs)) (all-of p xs (λ y i. h y (there y x xs i)))
-  where
-    both : (a b : Bool) → a ≡ true → b ≡ true → a && b ≡ true
-    both a b q r = rw (q, r) refl
-
-not-true : (b : Bool) → not b ≡ true → b ≡ false
-not-true true e = cc
-not-true false e = refl
 
 -- ---- terms that are held
 module _ (es : List Entry) (lawful : Lawful es) where
@@ -157,9 +151,6 @@ module _ (es : List Entry) (lawful : Lawful es) where
           (λ x i. both (are_terms x.header.args) (are_references x.clauses) (reference-terms x.header (header-from x i) (not-true (some_node is_stray x.header.args) (left (own x.header.args) (all_args own x.clauses) (impl-shut x i))))
           (all-of (λ (r : Reference). are_terms r.args) x.clauses
           (λ c j. reference-terms c (clause-from x c i j) (not-true (some_node is_stray c.args) (member-each (λ (r : Reference). own r.args) x.clauses c (right (own x.header.args) (all_args own x.clauses) (impl-shut x i)) j)))))))
-        where
-          both : (a b : Bool) → a ≡ true → b ≡ true → a && b ≡ true
-          both a b q r = rw (q, r) refl
 
 pub held-is-declared-well : HeldIsDeclaredWell
 held-is-declared-well es lawful d held e =

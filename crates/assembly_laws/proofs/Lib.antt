@@ -58,6 +58,7 @@ pub mod BoundTerms
 pub mod PlainRules
 pub mod SoundRows
 pub mod SoundCalls
+pub mod DeclaredParts
 pub mod ReadOff
 pub mod SoundImpls
 pub mod LawfulAll

@@ -1,6 +1,6 @@
 -- The supertraits of an instance are the instances of the supertraits, through all levels, also where places are open; and plain if the instance is.
-use Rattle.std.proofs.Common.{◌≡◌, ℕ, zero, suc, ◌<◌, true, ◌&&◌, ◌==◌, List, [], ◌∷◌, map, length, ◌⊎◌, inl, inr, refl, sym, ◌∙◌, ap, subst, arith}
-use Rattle.std.specs.List.{flat_map, list_all}
+use Rattle.std.proofs.Common.{◌≡◌, ℕ, zero, suc, ◌<◌, true, ◌==◌, List, [], ◌∷◌, map, length, ◌⊎◌, inl, inr, refl, sym, ◌∙◌, ap, subst, arith}
+use Rattle.std.specs.List.{flat_map}
 use Rattle.model.specs.Label.{principal, auto_trait}
 use Rattle.model.specs.Trees.{Trees, none, tree}
 use Rattle.model.specs.Worlds.{World, Reference, TraitDecl, traits_named, with_args, all_with_args}
@@ -10,19 +10,18 @@ use Rattle.model.proofs.Members.{here, there, in-nothing, in-cases, in-left, in-
 use Rattle.model.proofs.Entries.{map-in}
 use Rattle.model.proofs.Supertraits.{flat-same}
 use Rattle.model.proofs.Fitting.{child-shut, append-shut}
-use Rattle.model.proofs.NoHolds.{member-each}
-use Rattle.model.proofs.Walking.{left, right}
 use Rattle.evaluation.specs.Lists.{Every}
 use Rattle.table_laws.specs.Instances.{read_with}
 use Rattle.table_laws.specs.Content.{given}
 use Rattle.assembly_laws.specs.Facts.{is_unerased}
-use Rattle.assembly_laws.specs.Declared.{are_terms, are_references, is_declared_view}
+use Rattle.assembly_laws.specs.Declared.{are_terms, is_declared_view}
 use Rattle.declarations.specs.Elaboration.{supertraits}
 use Rattle.assembly_laws.specs.Cover.{read_reference}
 use Rattle.assembly_laws.proofs.Instances.{read-unbound}
 use Rattle.assembly_laws.proofs.Supers.{every-supertrait}
 use Rattle.assembly_laws.proofs.PlainRules.{Plain, IsPlainReference, plain-unbound, plain-instance}
 use Rattle.assembly_laws.proofs.Objects.{map-flat, flat-map}
+use Rattle.assembly_laws.proofs.DeclaredParts.{bound-declared}
 use Rattle.assembly_laws.proofs.Levels.{LeadDown}
 use Rattle.assembly_laws.proofs.Stack.{elaborated-all}
 
@@ -34,12 +33,6 @@ module _ (V : World) (declared : is_declared_view V ≡ true) (xs : List Trees) 
   -- written up to lifetimes with these terms for its variables
   abbrev pub PlainRead : Reference → Type 0
   PlainRead r = Plain (read_with (given xs) r.args)
-
-  bound-declared : (x : TraitDecl) (b : Reference) → In x V.traits → In b x.bounds → are_terms b.args ≡ true
-  bound-declared x b i j =
-      let second = right (list_all (λ y. list_all are_terms y.fields) V.structs) (list_all (λ (y : TraitDecl). are_references y.bounds) V.traits && list_all (λ i. are_terms i.header.args && are_references i.clauses) V.impls) declared in
-      let traits = left (list_all (λ (y : TraitDecl). are_references y.bounds) V.traits) (list_all (λ i. are_terms i.header.args && are_references i.clauses) V.impls) second in
-      member-each (λ (r : Reference). are_terms r.args) x.bounds b (member-each (λ (y : TraitDecl). are_references y.bounds) V.traits x traits i) j
 
   named : (r : Reference) (t : TraitDecl) → In t (traits_named V r.trait) → In t V.traits
   named r t i = (in-filter (λ (y : TraitDecl). y.name == r.trait) V.traits t i).0
@@ -53,14 +46,14 @@ module _ (V : World) (declared : is_declared_view V ≡ true) (xs : List Trees) 
   written-read : (r : Reference) → PlainRead r → written_supertraits V (read_reference xs r) ≡ map (read_reference xs) (written_supertraits V r)
   written-read r h =
       flat-same (λ (t : TraitDecl). all_with_args (read r.args) t.bounds) (λ (t : TraitDecl). map (read_reference xs) (all_with_args r.args t.bounds)) (traits_named V r.trait)
-      (λ t i. bounds-read r.args h t.bounds (λ b j. bound-declared t b (named r t i) j))
+      (λ t i. bounds-read r.args h t.bounds (λ b j. bound-declared V declared t b (named r t i) j))
       ∙ sym (map-flat (read_reference xs) (λ (t : TraitDecl). all_with_args r.args t.bounds) (traits_named V r.trait))
 
   written-plain : (r s : Reference) → PlainRead r → In s (written_supertraits V r) → PlainRead s
   written-plain r s h i =
       let m = in-flat (λ (t : TraitDecl). all_with_args r.args t.bounds) (traits_named V r.trait) s i in
       let b = map-in (with_args r.args) m.0.bounds s m.2 in
-      let d = bound-declared m.0 b.0 (named r m.0 m.1) b.1 in
+      let d = bound-declared V declared m.0 b.0 (named r m.0 m.1) b.1 in
       subst (λ (q : Reference). PlainRead q) b.2 (subst Plain (sym (read-unbound xs r.args (plain-unbound (read r.args) h) b.0.args d)) (plain-instance (read r.args) b.0.args h d))
 
   within-read : (n : ℕ) (r : Reference) → PlainRead r → strict_supertraits_within n V (read_reference xs r) ≡ map (read_reference xs) (strict_supertraits_within n V r)

@@ -5,10 +5,9 @@ use Rattle.std.proofs.lemmas.Bool.Decides.{nat_tests}
 use Rattle.model.specs.Label.{Label, Sort, of_type, of_const, of_lifetime, static, fn_ptr, principal, param, placeholder, infer, canonical, bound, inside}
 use Rattle.model.specs.Label.{never}
 use Rattle.model.specs.Trees.{Trees, none, tree, leaf, ◌+++◌, is_a, is_sort, fits, nth, instantiate, some_node, first_of, standing_at, arguments_from, arguments}
-use Rattle.model.proofs.Fitting.{append-shut, child-shut, next-shut, first-shut, standing-shut, no-left, or-no}
+use Rattle.model.proofs.Fitting.{not-true, append-shut, child-shut, next-shut, first-shut, standing-shut, no-left, or-no}
 use Rattle.model.proofs.Matching.{first-left, nth-arguments}
 use Rattle.model.proofs.Members.{self-number, same-number}
-use Rattle.model.proofs.Walking.{or-cases}
 use Rattle.table_laws.specs.Instances.{read_with, put_in, default_label, of_sort, term_at}
 use Rattle.table_laws.specs.Content.{given}
 use Rattle.table_laws.proofs.Reading.{EachLabel}
@@ -23,7 +22,7 @@ use Rattle.assembly_laws.proofs.Instances.{Unbound, shift-unbound, nth-unbound}
 use Rattle.assembly_laws.proofs.Headers.{child-some, next-some, here-some}
 use Rattle.assembly_laws.proofs.Determining.{HasLeaves, made-leaves}
 use Rattle.assembly_laws.proofs.PlainRules.{Plain}
-use Rattle.model.proofs.Walking.{left, right}
+use Rattle.model.proofs.Walking.{left, right, both, or-cases}
 
 -- ---- what is declared, node by node
 -- a label that instances and readings leave as it is
@@ -55,11 +54,7 @@ module _ (P : Trees → Type 0) (nothing : P none) (at_param : (s : Sort) (i : �
   pub by-declared : (t : Trees) → are_terms t ≡ true → P t
   by-declared t e =
       let m = left (is_made is_declared terms t) (not (some_node is_counted t)) e in
-      by-labels t (made-labels is_declared terms t m) (made-leaves is_declared terms t m) (not-false (some_node is_counted t) (right (is_made is_declared terms t) (not (some_node is_counted t)) e))
-    where
-      not-false : (b : Bool) → not b ≡ true → b ≡ false
-      not-false true e = absurd (true-false (sym e))
-      not-false false e = refl
+      by-labels t (made-labels is_declared terms t m) (made-leaves is_declared terms t m) (not-true (some_node is_counted t) (right (is_made is_declared terms t) (not (some_node is_counted t)) e))
 
 kept-no-param : (s : Sort) (i : ℕ) (l : Label) → is_kept l ≡ true → is_param s i l ≡ false
 kept-no-param s i (param k j) e = absurd (true-false (sym e))
@@ -76,9 +71,6 @@ kept-fits A l c o e = refl
 kept-standing : (i : ℕ) (l : Label) (c o x y : Trees) → is_kept l ≡ true → standing_at i (tree l c o) (tree l x y) ≡ first_of (standing_at i c x) (standing_at i o y)
 kept-standing i (param k j) c o x y e = absurd (true-false (sym e))
 kept-standing i l c o x y e = refl
-
-both : (x y : Bool) → x ≡ true → y ≡ true → x && y ≡ true
-both x y p q = rw (p, q) refl
 
 or-no-three : (x y z : Bool) → x ≡ false → y ≡ false → z ≡ false → x || y || z ≡ false
 or-no-three x y z p q r = or-no (x || y) z (or-no x y p q) r

@@ -1,15 +1,15 @@
 -- Impls are sound candidates: where the header is read as the goal, the impl's arguments can be read off the goal's instance.
 use Rattle.std.proofs.Common.{◌≡◌, ℕ, zero, ◌==◌, Bool, true, false, not, ◌&&◌, if◌then◌else◌, List, [], ◌∷◌, ◌++◌, map, length, refl, sym, ◌∙◌, ap, subst, Some}
-use Rattle.std.specs.List.{flat_map, list_all}
+use Rattle.std.specs.List.{flat_map}
 use Rattle.model.specs.Label.{Sort, of_trait, predicate}
 use Rattle.model.specs.Trees.{Trees, none, tree, fits, some_node, instantiate, arguments}
-use Rattle.model.specs.Worlds.{World, Reference, StructDecl, TraitDecl, ImplDecl, with_args, all_with_args}
+use Rattle.model.specs.Worlds.{World, Reference, ImplDecl, with_args, all_with_args}
 use Rattle.model.specs.Rules.{Rule, by_impl, impl_rules, same_reference, built_in_rules, clause_rules, is_coinductive}
 use Rattle.model.specs.Proofs.{In}
 use Rattle.model.proofs.Members.{here, there, in-left, flat-in, self-number, same-number}
-use Rattle.model.proofs.Fitting.{child-shut}
+use Rattle.model.proofs.Fitting.{not-true, child-shut}
 use Rattle.model.proofs.NoHolds.{member-each}
-use Rattle.model.proofs.Walking.{left, right}
+use Rattle.model.proofs.Walking.{left, both}
 use Rattle.type_terms.specs.Made.{terms, is_made}
 use Rattle.infer_table.specs.Canonical.{CanonicalForm}
 use Rattle.evaluation.specs.Lists.{Every}
@@ -20,7 +20,7 @@ use Rattle.evaluation_laws.specs.Operations.{begin}
 use Rattle.evaluation_laws.specs.Operations.{fresh}
 use Rattle.assembly_laws.specs.Facts.{Follows, is_plain, is_unerased, clauses_of}
 use Rattle.assembly_laws.specs.Meaning.{Meaning}
-use Rattle.assembly_laws.specs.Declared.{is_declared, is_counted, are_terms, are_references, is_declared_view, is_unsorted, parameters_are_sorted}
+use Rattle.assembly_laws.specs.Declared.{is_declared, is_counted, are_terms, is_declared_view, is_unsorted, parameters_are_sorted}
 use Rattle.assembly_laws.specs.Determined.{ImplsAreDetermined}
 use Rattle.assembly_laws.specs.Asking.{Asked, asked, all_known, are_clauses, self_of}
 use Rattle.assembly_laws.specs.Candidates.{premise, is_param, kinds_of_params, behind, all_equal, by_the_impl, is_relevant_to, by_impls}
@@ -31,7 +31,7 @@ use Rattle.assembly_laws.proofs.Facts.{same-self}
 use Rattle.assembly_laws.proofs.Determined.{heads}
 use Rattle.assembly_laws.proofs.LawfulCandidates.{asked-clauses}
 use Rattle.assembly_laws.proofs.SoundCandidates.{goal-is, follows-by}
-use Rattle.assembly_laws.proofs.SoundRows.{not-true-false}
+use Rattle.assembly_laws.proofs.DeclaredParts.{header-declared, clause-declared}
 use Rattle.assembly_laws.proofs.PlainRules.{Plain, plain-unbound, plain-instance}
 use Rattle.assembly_laws.proofs.ReadOff.{AreValues, instance-is, values-fit, arguments-are, arguments-plain}
 
@@ -48,9 +48,6 @@ impl-concludes r i f e = by (fits A i.header.args && same_reference (with_args A
 
     u : Rule
     u = record { way = by_impl i.name; premises = all_with_args A i.clauses }
-
-    both : (x y : Bool) → x ≡ true → y ≡ true → x && y ≡ true
-    both x y p q = rw (p, q) refl
 
     by : (b : Bool) → b ≡ true → In u (if b then u ∷ [] else [])
     by true p = here u []
@@ -69,15 +66,8 @@ module _ (m : Meaning) (declared : is_declared_view m.view ≡ true) (determined
   are : are_clauses a.kinds a.environment ≡ true
   are = asked-clauses V f.goal.environment f.goal.predicate (all_known f.kinds) a is_asked
 
-  impl-declared : (i : ImplDecl) → In i V.impls → (are_terms i.header.args ≡ true) × (are_references i.clauses ≡ true)
-  impl-declared i j =
-      let later = right (list_all (λ (x : StructDecl). list_all are_terms x.fields) V.structs) (list_all (λ (x : TraitDecl). are_references x.bounds) V.traits && list_all (λ (x : ImplDecl). are_terms x.header.args && are_references x.clauses) V.impls) declared in
-      let impls = right (list_all (λ (x : TraitDecl). are_references x.bounds) V.traits) (list_all (λ (x : ImplDecl). are_terms x.header.args && are_references x.clauses) V.impls) later in
-      let one = member-each (λ (x : ImplDecl). are_terms x.header.args && are_references x.clauses) V.impls i impls j in
-      (left (are_terms i.header.args) (are_references i.clauses) one, right (are_terms i.header.args) (are_references i.clauses) one)
-
   impl-sorted : (i : ImplDecl) → In i V.impls → some_node (is_unsorted i.params i.header.args) i.header.args ≡ false
-  impl-sorted i j = not-true-false (some_node (is_unsorted i.params i.header.args) i.header.args) (member-each (λ (x : ImplDecl). not (some_node (is_unsorted x.params x.header.args) x.header.args)) V.impls i sorted j)
+  impl-sorted i j = not-true (some_node (is_unsorted i.params i.header.args) i.header.args) (member-each (λ (x : ImplDecl). not (some_node (is_unsorted x.params x.header.args) x.header.args)) V.impls i sorted j)
 
   module _ (i : ImplDecl) (member : In i V.impls) (same_trait : (i.header.trait == a.reference.trait) ≡ true) (s : Terms) (l : Allows (fresh (begin a.kinds) (kinds_of_params i.header.args zero i.params)) s)
       (meets : Every (λ e. Meets e s) (all_equal a.reference.args (behind (length a.kinds) i.header).args)) (proper : (s.own.proper && fit_values f.kinds s.own.terms) ≡ true) (plain : is_plain (goal_fact f s.own) ≡ true) where
@@ -90,22 +80,22 @@ module _ (m : Meaning) (declared : is_declared_view m.view ≡ true) (determined
     abbrev A : Trees
     A = arguments i.params i.header.args rx.args
 
-    header-declared : are_terms i.header.args ≡ true
-    header-declared = (impl-declared i member).0
+    header : are_terms i.header.args ≡ true
+    header = header-declared V declared i member
 
     header-is : rx.args ≡ read_with (given s.slots) (behind n i.header).args
-    header-is = heads a is.over are (kinds_of_params i.header.args zero i.params) s i.header.args (left (is_made is_declared terms i.header.args) (not (some_node is_counted i.header.args)) header-declared) meets
+    header-is = heads a is.over are (kinds_of_params i.header.args zero i.params) s i.header.args (left (is_made is_declared terms i.header.args) (not (some_node is_counted i.header.args)) header) meets
 
     goal-plain : Plain rx.args
     goal-plain =
         child-shut is_unerased (predicate (of_trait a.reference.trait)) rx.args none
-        (not-true-false (some_node is_unerased (tree (predicate (of_trait a.reference.trait)) rx.args none)) (subst (λ z. is_plain z ≡ true) (goal-is V f a is are (kinds_of_params i.header.args zero i.params) s l proper true) plain))
+        (not-true (some_node is_unerased (tree (predicate (of_trait a.reference.trait)) rx.args none)) (subst (λ z. is_plain z ≡ true) (goal-is V f a is are (kinds_of_params i.header.args zero i.params) s l proper true) plain))
 
     A-plain : Plain A
     A-plain = arguments-plain zero i.params i.header.args rx.args goal-plain
 
     header-values : AreValues n s.slots A i.header.args
-    header-values = subst (λ t. AreValues n s.slots (arguments i.params i.header.args t) i.header.args) (sym header-is) (arguments-are i.params i.header.args (impl-sorted i member) n s.slots header-declared)
+    header-values = subst (λ t. AreValues n s.slots (arguments i.params i.header.args t) i.header.args) (sym header-is) (arguments-are i.params i.header.args (impl-sorted i member) n s.slots header)
 
     -- what is declared over parameters of the header is read as the instance by what is read off
     instance : (t : Trees) → are_terms t ≡ true → ((k : Sort) (j : ℕ) → some_node (is_param k j) t ≡ true → some_node (is_param k j) i.header.args ≡ true) → instantiate zero A t ≡ read_with (given s.slots) (behind n (record { trait = 0; args = t })).args
@@ -115,15 +105,12 @@ module _ (m : Meaning) (declared : is_declared_view m.view ≡ true) (determined
     same-references t u x y e g = cc
 
     concludes : with_args A i.header ≡ rx
-    concludes = same-references i.header.trait a.reference.trait _ _ (same-number i.header.trait a.reference.trait same_trait) (instance i.header.args header-declared (λ k j e. e) ∙ sym header-is)
-
-    clause-declared : (c : Reference) → In c i.clauses → are_terms c.args ≡ true
-    clause-declared c j = member-each (λ (r : Reference). are_terms r.args) i.clauses c (impl-declared i member).1 j
+    concludes = same-references i.header.trait a.reference.trait _ _ (same-number i.header.trait a.reference.trait same_trait) (instance i.header.args header (λ k j e. e) ∙ sym header-is)
 
     each-clause : (cs : List Reference) → ((c : Reference) → In c cs → In c i.clauses) → all_with_args A cs ≡ map (read_reference s.slots) (map (behind n) cs)
     each-clause [] g = refl
     each-clause (c ∷ cs) g =
-        ap (λ z. record { trait = c.trait; args = z } ∷ all_with_args A cs) (instance c.args (clause-declared c (g c (here c cs))) (λ k j e. determined i c member (g c (here c cs)) k j e))
+        ap (λ z. record { trait = c.trait; args = z } ∷ all_with_args A cs) (instance c.args (clause-declared V declared i c member (g c (here c cs))) (λ k j e. determined i c member (g c (here c cs)) k j e))
         ∙ ap (λ z. read_reference s.slots (behind n c) ∷ z) (each-clause cs (λ d j. g d (there d c cs j)))
 
     abbrev IsPlainRead : Reference → Type 0
@@ -132,14 +119,14 @@ module _ (m : Meaning) (declared : is_declared_view m.view ≡ true) (determined
     each-plain : (cs : List Reference) → ((c : Reference) → In c cs → In c i.clauses) → Every IsPlainRead (map (behind n) cs)
     each-plain [] g = tt
     each-plain (c ∷ cs) g = (
-      subst Plain (instance c.args (clause-declared c (g c (here c cs))) (λ k j e. determined i c member (g c (here c cs)) k j e)) (plain-instance A c.args A-plain (clause-declared c (g c (here c cs)))),
+      subst Plain (instance c.args (clause-declared V declared i c member (g c (here c cs))) (λ k j e. determined i c member (g c (here c cs)) k j e)) (plain-instance A c.args A-plain (clause-declared V declared i c member (g c (here c cs)))),
       each-plain cs (λ d j. g d (there d c cs j)),
     )
 
     rule : In (record { way = by_impl i.name; premises = map (read_reference s.slots) (map (behind n) i.clauses) }) (flat_map (impl_rules rx) V.impls)
     rule =
         flat-in (impl_rules rx) V.impls i (record { way = by_impl i.name; premises = map (read_reference s.slots) (map (behind n) i.clauses) }) member
-        (subst (λ ps. In (record { way = by_impl i.name; premises = ps }) (impl_rules rx i)) (each-clause i.clauses (λ c j. j)) (impl-concludes rx i (values-fit n s.slots A i.header.args header-declared header-values) concludes))
+        (subst (λ ps. In (record { way = by_impl i.name; premises = ps }) (impl_rules rx i)) (each-clause i.clauses (λ c j. j)) (impl-concludes rx i (values-fit n s.slots A i.header.args header header-values) concludes))
 
     follows : Follows V (goal_fact f s.own) (map (λ (x : Nested). fact x s) (map (premise a (is_coinductive V a.reference.trait)) (map (behind n) i.clauses)))
     follows =

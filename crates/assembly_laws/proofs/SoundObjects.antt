@@ -9,7 +9,7 @@ use Rattle.model.specs.Rules.{Rule, Way, BuiltIn, built_in, row, object_auto, ob
 use Rattle.model.specs.Proofs.{In}
 use Rattle.model.proofs.Members.{here, there, in-nothing, in-cases, in-left, in-right, in-map, member-some, same-number}
 use Rattle.model.proofs.Fitting.{head-shut, child-shut}
-use Rattle.model.proofs.Walking.{left, right}
+use Rattle.model.proofs.Walking.{left, right, both}
 use Rattle.type_terms.specs.Made.{terms, bounds, is_made}
 use Rattle.infer_table.specs.Canonical.{CanonicalForm}
 use Rattle.evaluation.specs.Lists.{Every, IsAmong}
@@ -135,9 +135,6 @@ module _ (m : Meaning) (declared : is_declared_view m.view ≡ true) (f : Canoni
 
   same-references : (t u : ℕ) (x y : Trees) → t ≡ u → x ≡ y → ◌≡◌ {A = Reference} (record { trait = t; args = x }) (record { trait = u; args = y })
   same-references t u x y e g = cc
-
-  both : (x y : Bool) → x ≡ true → y ≡ true → x && y ≡ true
-  both x y p q = rw (p, q) refl
 
   -- a bound of the goal's trait whose arguments are equated is read as the goal
   pub met-bound : (r : Reference) → (r.trait == a.reference.trait) ≡ true → is_made is_open_label terms r.args ≡ true → (s : Terms) → Every (λ e. Meets e s) (all_equal a.reference.args r.args) → read_reference s.slots r ≡ instance s

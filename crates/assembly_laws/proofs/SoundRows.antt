@@ -54,7 +54,7 @@ unknown-or-rigid none e = absurd (true-false (sym e))
 unknown-or-rigid (tree (canonical of_type i) c o) e = inl (record { number = i; children = c; others = o; is = refl })
 unknown-or-rigid (tree l c o) e = inr (record { label = l; children = c; others = o; is = refl; rigid = e })
 
-pub not-true-false : (b : Bool) → not b ≡ true → b ≡ false
+not-true-false : (b : Bool) → not b ≡ true → b ≡ false
 not-true-false true e = absurd (true-false (sym e))
 not-true-false false e = refl
 

@@ -8,7 +8,7 @@ use Rattle.model.specs.Rules.{Rule, built_in, row, unsize, unsize_to_dyn, asked 
 use Rattle.model.specs.Proofs.{In}
 use Rattle.model.proofs.Members.{here, in-left, in-right}
 use Rattle.model.proofs.Fitting.{head-shut, child-shut, next-shut}
-use Rattle.model.proofs.Walking.{left, right}
+use Rattle.model.proofs.Walking.{left, right, both}
 use Rattle.type_terms.specs.Made.{terms, bounds, is_made}
 use Rattle.infer_table.specs.Canonical.{CanonicalForm}
 use Rattle.infer_table.specs.declared.canonical.CanonicalVarKind.{CanonicalVarKind}
@@ -130,9 +130,6 @@ module _ (m : Meaning) (declared : is_declared_view m.view ≡ true) (f : Canoni
             both (not (is_dyn k)) (are_dyn_compatible V (principal_with (Read s self) (Read s b))) (ap not h)
             (ap (are_dyn_compatible V) (principal-read V declared s.slots is_open_label self b target_made)
             ∙ compatible-same V (map (read_reference s.slots) (principal_with self b)) (principal_with self b) (traits-stay V declared s.slots (principal_with self b)) ∙ compatible)
-          where
-            both : (x y : Bool) → x ≡ true → y ≡ true → x && y ≡ true
-            both x y p q = rw (p, q) refl
 
         rule : (s : Terms) → Held m declared f a is_asked s → In (Of (map (read_reference s.slots) (asks_of self b))) (unsize_to_dyn_rules V (Read s a.reference.args))
         rule s h =

@@ -8,7 +8,7 @@ use Rattle.std.specs.List.{list_all}
 use Rattle.model.specs.Proofs.{In}
 use Rattle.model.proofs.Members.{here, there, in-left, in-right, in-map, flat-in, same-number}
 use Rattle.model.proofs.Fitting.{head-shut, child-shut}
-use Rattle.model.proofs.Walking.{left, right}
+use Rattle.model.proofs.Walking.{left, right, both}
 use Rattle.type_terms.specs.Made.{terms, bounds, is_made}
 use Rattle.infer_table.specs.Canonical.{CanonicalForm}
 use Rattle.evaluation.specs.Lists.{Every}
@@ -52,9 +52,6 @@ module _ (m : Meaning) (declared : is_declared_view m.view ≡ true) (erased : B
 
   same-references : (t u : ℕ) (x y : Trees) → t ≡ u → x ≡ y → ◌≡◌ {A = Reference} (record { trait = t; args = x }) (record { trait = u; args = y })
   same-references t u x y e g = cc
-
-  both : (x y : Bool) → x ≡ true → y ≡ true → x && y ≡ true
-  both x y p q = rw (p, q) refl
 
   module _ (is_unsize : (a.reference.trait == unsize) ≡ true) where
     of-upcasts : (s : Terms) (u : Rule) → In u (unsize_upcast_rules V (Read s a.reference.args)) → In u (built_in_rules V (read_reference s.slots a.reference))
