@@ -2,7 +2,7 @@
 use Rattle.std.proofs.Common.{◌≡◌, ℕ, zero, suc, ◌+◌, ◌-◌, ◌<◌, ◌≤◌, Bool, true, false, List, [], ◌∷◌, ◌++◌, map, length, drop, refl, sym, ap, ◌∙◌, arith, length-append, append_assoc, inl, inr}
 use Rattle.std.specs.Prelude.{if◌then◌else◌, min, nat_le, nat_lt, ◌==◌, not}
 use Rattle.std.proofs.lemmas.Bool.Decides.{nat_tests, leb_tells}
-use Rattle.std.proofs.lemmas.List.{append-nil}
+use Rattle.std.proofs.lemmas.List.{append-nil, length-drop}
 use Rattle.std.proofs.Math.Seq.{drop-append_seam}
 use Rattle.text_definitions.specs.Syntax.{TypeTree, of_primitive, never_type, variable_type, named, reference_to, pointer_to, slice_of, array_of, tuple_of, fn_of, fn_to, dyn_of, Types, no_types, and_type, Args, no_args, and_arg, Arg, lifetime_arg, number_arg, type_arg, Item, bound_item, lifetime_item, Items, no_items, and_item}
 use Rattle.text_definitions.specs.Uses.{ItemShape, bound_shape, types_count, args_count, item_shape, item_shapes, has_names}
@@ -21,10 +21,10 @@ if-false false x y e = refl
 not-le : (a b : ℕ) → b < a → nat_le a b ≡ false
 not-le a b h = grind (arith, nat_tests)
 
-not-lt : (a b : ℕ) → b ≤ a → nat_lt a b ≡ false
+pub not-lt : (a b : ℕ) → b ≤ a → nat_lt a b ≡ false
 not-lt a b h = grind (arith, nat_tests)
 
-is-lt : (a b : ℕ) → a < b → nat_lt a b ≡ true
+pub is-lt : (a b : ℕ) → a < b → nat_lt a b ≡ true
 is-lt a b h = grind (arith, nat_tests)
 
 is-le : (a b : ℕ) → a ≤ b → nat_le a b ≡ true
@@ -179,12 +179,12 @@ item-longer i r =
     omega arith
 
 -- ---- counting
-parts-none : (start end : ℕ) (r later : List Cell) → end ≤ start → parts start end r later ≡ later
+pub parts-none : (start end : ℕ) (r later : List Cell) → end ≤ start → parts start end r later ≡ later
 parts-none start end [] later h = refl
 parts-none start end (c ∷ r) later h = if-true (nat_le end start) later _ (is-le end start h)
 
 -- what stands further inside is passed over
-parts-skip : (start : ℕ) (ys r later : List Cell) → parts start (length r) (ys ++ r) later ≡ parts start (length r) r later
+pub parts-skip : (start : ℕ) (ys r later : List Cell) → parts start (length r) (ys ++ r) later ≡ parts start (length r) r later
 parts-skip start [] r later = refl
 parts-skip start (y ∷ ys) r later = elim (leb_tells (length r) start) [
   | inl h ↦ parts-none start (length r) (y ∷ (ys ++ r)) later h.1 ∙ sym (parts-none start (length r) r later h.1)
@@ -207,6 +207,10 @@ parts-part start c body r later (ys, e) f h =
 parts-of : (start : ℕ) (xs r later : List Cell) (p : Part xs r) → start ≤ length r → parts start (length xs) xs later ≡ parts start (length r) r (p.cell ∷ later)
 parts-of start xs r later p h =
     ap (λ x. parts start (length x) x later) p.is ∙ parts-part start p.cell p.body r later p.rest (ap begins (sym p.is) ∙ p.from) h
+
+pub parts-one : (start : ℕ) (c : Cell) (body later : List Cell) → start < suc (length body) → parts start (suc (length body)) (c ∷ body) later ≡ parts start (begins (c ∷ body)) body (c ∷ later)
+parts-one start c body later m =
+    if-false (nat_le (suc (length body)) start) later _ (not-le (suc (length body)) start m) ∙ if-true (suc (length body) == suc (length body)) _ _ (is-eq (suc (length body)) (suc (length body)) refl)
 
 -- the parts' own cells, before others
 type-cells : Types → List Cell → List Cell → List Cell
@@ -329,7 +333,7 @@ names-skip start inner (y ∷ ys) r later h k = passed y (names-skip start inner
         if-false (nat_lt (length (ys ++ r)) start) later _ past ∙ ap (names_before start inner (ys ++ r)) (if-false (nat_lt (length (ys ++ r)) inner) (n ∷ later) later within) ∙ plain
     passed _ plain = if-false (nat_lt (length (ys ++ r)) start) later _ past ∙ plain
 
-name-collected : (start inner : ℕ) (n : List ℕ) (r : List Cell) (later : List (List ℕ)) → start ≤ length r → length r < inner → names_before start inner (binder_cell n ∷ r) later ≡ names_before start inner r (n ∷ later)
+pub name-collected : (start inner : ℕ) (n : List ℕ) (r : List Cell) (later : List (List ℕ)) → start ≤ length r → length r < inner → names_before start inner (binder_cell n ∷ r) later ≡ names_before start inner r (n ∷ later)
 name-collected start inner n r later h i =
     if-false (nat_lt (length r) start) later _ (not-lt (length r) start h) ∙ ap (names_before start inner r) (if-true (nat_lt (length r) inner) (n ∷ later) later (is-lt (length r) inner i))
 
@@ -362,3 +366,46 @@ names-of b r xs (ys, e) =
     let k : length (binder_back b r) ≤ length (binder_back b r) = omega arith in
     let m : length r ≤ length r = omega arith in
     ap (λ x. names_before s i x []) e ∙ names-skip s i ys (binder_back b r) [] h k ∙ names-collected s i b r [] m k ∙ names-end i r (b ++ []) ∙ append-nil b
+
+-- ---- from where a binder's names are collected
+pub names-none : (start inner : ℕ) (r : List Cell) (later : List (List ℕ)) → length r ≤ start → names_before start inner r later ≡ later
+names-none start inner [] later h = refl
+names-none start inner (c ∷ r) later h = ended c
+  where
+    short : nat_lt (length r) start ≡ true
+    short = let m : length r < start = omega arith in is-lt (length r) start m
+
+    ended : (c : Cell) → names_before start inner (c ∷ r) later ≡ later
+    ended (binder_cell n) = if-true (nat_lt (length r) start) later _ short
+    ended _ = if-true (nat_lt (length r) start) later _ short
+
+drop-nothing : (n : ℕ) → let none : List Cell = [] in drop n none ≡ none
+drop-nothing zero = refl
+drop-nothing (suc n) = refl
+
+-- a cell that is in no binder that begins further before
+names-past : (start inner : ℕ) (c : Cell) (r : List Cell) (later : List (List ℕ)) → inner ≤ length r → nat_lt (length r) start ≡ false → names_before start inner (c ∷ r) later ≡ names_before start inner r later
+names-past start inner (binder_cell n) r later h e =
+    if-false (nat_lt (length r) start) later _ e ∙ ap (names_before start inner r) (if-false (nat_lt (length r) inner) (n ∷ later) later (not-lt (length r) inner h))
+names-past start inner _ r later h e = if-false (nat_lt (length r) start) later _ e
+
+pub names-jump : (start inner : ℕ) (r : List Cell) (later : List (List ℕ)) → names_before start inner r later ≡ names_before start inner (down_to inner r) later
+names-jump start inner [] later = ap (λ x. names_before start inner x later) (sym (drop-nothing (0 - inner)))
+names-jump start inner (c ∷ r) later = elim (leb_tells (suc (length r)) inner) [
+  | inl h ↦ let small : suc (length r) ≤ inner = h.1 in let e : suc (length r) - inner ≡ 0 = omega arith in ap (λ n. names_before start inner (drop n (c ∷ r)) later) (sym e)
+  | inr h ↦
+      let great : inner < suc (length r) = h.1 in
+      let k : inner ≤ length r = omega arith in
+      let e : suc (length r) - inner ≡ suc (length r - inner) = omega arith in
+      first start inner c r later k (names-jump start inner r later) ∙ ap (λ n. names_before start inner (drop n (c ∷ r)) later) (sym e)
+]
+  where
+    first : (start inner : ℕ) (c : Cell) (r : List Cell) (later : List (List ℕ)) → inner ≤ length r → names_before start inner r later ≡ names_before start inner (down_to inner r) later
+        → names_before start inner (c ∷ r) later ≡ names_before start inner (down_to inner r) later
+    first start inner c r later k ih = elim (leb_tells (suc (length r)) start) [
+      | inl h ↦ let l : length (c ∷ r) ≤ start = h.1 in let m : length r ≤ start = omega arith in names-none start inner (c ∷ r) later l ∙ sym (names-none start inner r later m) ∙ ih
+      | inr h ↦ names-past start inner c r later k h.0 ∙ ih
+    ]
+
+pub length-down-to : (start : ℕ) (r : List Cell) → length (down_to start r) ≤ start
+length-down-to start r = let e : length (down_to start r) ≡ length r - (length r - start) = length-drop (length r - start) r in omega arith

@@ -13,8 +13,10 @@ use Rattle.name_resolution.specs.Resolved as resolved
 use Rattle.name_resolution.specs.Resolved.{ResolvedCell, optional_region, region_of, length_cell, dyn_before, last_region, item_region, principals, principals_count, type_before, types_before, args_before, arg_before, item_before, items_before}
 use Rattle.name_resolution.specs.Back.{binder_back, type_back, types_back, args_back, arg_back, item_back, items_back, count_above, down_to}
 use Rattle.name_resolution.specs.Machine.{Sight, items, params, Found, using, keeping, deepening, deeper, Place, type_place, arg_place, types_inside, items_inside, args_inside, Frame, State, visiting, going, sort_misfits, name_misfits, is_const_place, name_cells, fn_frame, shape_autos, shape_principals, last_item_region, inside_step, outer_scope, step, run, Reaches}
+use Rattle.name_resolution.specs.Machine.{sinking, finished}
+use Rattle.name_resolution.specs.Laws.{with_arg, with_args, MachineResolves, ArgsResolved}
 use Rattle.name_resolution.proofs.Counting.{if-true, if-false, is-eq, not-eq, same, longer, further, down, binder-extends, types-extends, type-extends, args-extends, count-types, count-output, count-args, shapes-above, names-of, arg-longer, type-longer, item-longer}
-use Rattle.name_resolution.proofs.Uses.{using-append, using-none, using-swap, using-first, sinking, sink-suc, sink-one, sink-max, sink-none, sink-at}
+use Rattle.name_resolution.proofs.Uses.{using-append, using-none, using-swap, using-first, sink-suc, sink-one, sink-max, sink-none, sink-at}
 
 -- ---- what one state leads to
 pub record Leads (v : Sight) (x z : State) : Type 0 where
@@ -45,14 +47,8 @@ keep-none : (b : Bool) (a : Found) → keeping b (λ cs. cs) a ≡ a
 keep-none b a = ap (λ cs. celled cs a) (if-same b a.cells)
 
 -- ---- what is found behind a part
-abbrev with_arg : Sight → List (List (List ℕ)) → Place → Arg → Found → Found
-with_arg v s pl x a = using v (arg_uses (items v) s pl.kind x) (sinking pl.room (arg_depth (items v) x) (keeping pl.is_kept (arg_before (items v) (params v) s pl.kind x) a))
-
 abbrev with_types : Sight → List (List (List ℕ)) → Option ℕ → Bool → Types → Found → Found
 with_types v s room kept ts a = using v (types_uses (items v) s ts) (sinking room (types_depth (items v) ts) (keeping kept (types_before (items v) (params v) s ts) a))
-
-abbrev with_args : Sight → List (List (List ℕ)) → List Sort → Option ℕ → Bool → Args → Found → Found
-with_args v s ks room kept args a = using v (args_uses (items v) s ks args) (sinking room (args_depth (items v) ks args) (keeping kept (args_before (items v) (params v) s ks args) a))
 
 abbrev with_item : Sight → List (List (List ℕ)) → Option ℕ → Bool → Item → Found → Found
 with_item v s room kept i a = using v (item_uses (items v) s i) (sinking room (item_depth (items v) i) (keeping kept (item_before (items v) (params v) s i) a))
@@ -549,3 +545,23 @@ mutual
       at-items is v fs f s (item_back i r) a e k
       ▸ at-item i v fs f s r (with_items v s f.room f.is_kept is a) e h
       ▸ leads-is v _ _ (ap (going (f ∷ fs) s r) (and-item v s f.room f.is_kept i is a))
+
+-- ---- the laws
+reached : (v : Sight) (x z : State) → Leads v x z → Reaches v x z
+reached v x z l = l.on z (0, refl)
+
+pub machine_resolves : MachineResolves
+machine_resolves v pl x r a =
+    reached v (visiting pl [] [] (arg_back x r) a) (finished r (with_arg v [] pl x a)) (at-arg x v pl [] [] r a ▸ leads-step v (going [] [] r (with_arg v [] pl x a)) (finished r (with_arg v [] pl x a)) refl)
+
+pub args_resolved : ArgsResolved
+args_resolved v ks room kept args r a =
+    let f : Frame = record { start = length r; inner = length r; binds = false; holds = types_inside; room = room; is_kept = kept } in
+    let k = args_count args in
+    let z : args_count args ≡ 0 + args_count args = omega arith in
+    let h : length r ≤ length r = omega arith in
+    reached v _ _
+    (leads-is v _ _ (ap (λ j. going (args_frame f ks j ∷ []) [] (args_back args r) a) z)
+    ▸ at-args args v [] f ks 0 [] r a h
+    ▸ leads-close v (args_frame f ks 0) [] [] r r (with_args v [] ks room kept args a) refl (down r r (same r))
+    ▸ leads-step v (going [] [] r (with_args v [] ks room kept args a)) (finished r (with_args v [] ks room kept args a)) refl)

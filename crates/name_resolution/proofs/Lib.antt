@@ -2,3 +2,9 @@ pub mod StandingLaws
 pub mod Counting
 pub mod Uses
 pub mod Going
+pub mod Stacks
+pub mod Places
+pub mod Turned
+pub mod Scopes
+pub mod Parts
+pub mod Judged

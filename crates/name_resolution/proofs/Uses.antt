@@ -8,7 +8,8 @@ use Rattle.model.specs.Label.{Sort, of_type, of_const, of_lifetime}
 use Rattle.text_definitions.specs.Uses.{Use, crate_use, name_use, trait_use, lifetime_use, binder_use, variable_use, misfit_use, dyn_use, items_use, number_use, at_place}
 use Rattle.text_definitions.specs.Faults.{is_taken_binder, is_unknown_use, is_hidden_use, looking_crate, is_other_sort, is_use_of, is_bad_dyn, passes_in, variables_in}
 use Rattle.text_definitions.specs.Uses.{declared_name}
-use Rattle.name_resolution.specs.Machine.{Sight, items, Findings, findings, either, Found, using, has_room, deepening, deeper, room_at}
+use Rattle.name_resolution.specs.declared.findings.Findings.{Findings}
+use Rattle.name_resolution.specs.Machine.{Sight, items, findings, either, Found, using, has_room, deep_in, sinking, deepening, deeper, room_at}
 
 or-assoc : (a b c : Bool) → (a || b) || c ≡ a || (b || c)
 or-assoc true b c = refl
@@ -107,13 +108,6 @@ pub using-first : (v : Sight) (own inside us : List Use) (a : Found) → variabl
 using-first v own inside us a h e = sym (using-swap v own inside a h) ∙ sym (using-append v own inside a) ∙ ap (λ x. using v x a) (sym e)
 
 -- ---- room
--- there is no room for types that are so deep
-abbrev pub deep_in : Option ℕ → ℕ → Bool
-deep_in r k = option_map_or (λ n. nat_lt n k) r false
-
-abbrev pub sinking : Option ℕ → ℕ → Found → Found
-sinking r k a = record a { is_deep = a.is_deep || deep_in r k }
-
 one-less : (n k : ℕ) → not (not (n == 0)) || nat_lt (n - 1) k ≡ nat_lt n (suc k)
 one-less zero k = let h : zero < suc k = omega arith in sym (is-lt zero (suc k) h)
   where

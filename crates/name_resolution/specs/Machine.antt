@@ -1,5 +1,5 @@
 -- Going over the cells of a type from the last to the first: what is found, with a stack of what is open.
-use Rattle.std.specs.Prelude.{◌≡◌, ℕ, zero, suc, ◌-◌, ◌==◌, Bool, true, false, not, ◌||◌, ◌&&◌, List, [], ◌∷◌, ◌++◌, length, map, drop, Option, None, if◌then◌else◌}
+use Rattle.std.specs.Prelude.{◌≡◌, ℕ, zero, suc, ◌-◌, ◌==◌, Bool, true, false, not, ◌||◌, ◌&&◌, List, [], ◌∷◌, ◌++◌, length, map, drop, Option, None, if◌then◌else◌, nat_lt}
 use Rattle.std.specs.List.{list_any}
 use Rattle.std.specs.Option.{option_map, option_map_or}
 use Rattle.model.specs.Label.{Label, Sort, of_type, of_const, of_lifetime, never, array, slice, tuple, fn_ptr, value, raw_pointer, principal}
@@ -11,6 +11,7 @@ use Rattle.text_definitions.specs.Uses.{declared_name}
 use Rattle.text_definitions.specs.Lowering.{trait_number, inserted}
 use Rattle.type_reader.specs.Cells.{Cell, primitive_cell, never_cell, slice_cell, variable_cell, lifetime_cell, number_cell, named_cell, reference_cell, pointer_cell, array_cell, tuple_cell, dyn_cell, fn_cell, fn_to_cell, bound_cell}
 use Rattle.name_resolution.specs.Resolved as resolved
+use Rattle.name_resolution.specs.declared.findings.Findings.{Findings}
 use Rattle.name_resolution.specs.Resolved.{ResolvedCell, Region, static_region, region_of, optional_region, const_cell, length_cell, dyn_before}
 use Rattle.name_resolution.specs.Back.{parts_above, count_above, names_between, down_to, shape_of}
 
@@ -26,15 +27,6 @@ abbrev pub params : Sight → Params
 params v = params_of v.line
 
 -- ---- what is wrong with what is used, one flag for each test over the uses
-pub record Findings : Type 0 where
-  pub takes_names : Bool
-  pub uses_unknown : Bool
-  pub uses_hidden : Bool
-  pub uses_other_sort : Bool
-  pub uses_own : Bool
-  pub has_bad_dyn : Bool
-  pub passes_limit : Bool
-
 abbrev pub findings : Sight → List Use → Findings
 findings v us = record {
   takes_names = list_any (is_taken_binder v.line) us;
@@ -78,6 +70,13 @@ has_room r = option_map_or (λ n. not (n == 0)) r true
 
 abbrev pub deepening : Option ℕ → Found → Found
 deepening r a = record a { is_deep = a.is_deep || not (has_room r) }
+
+-- there is no room for types that are so deep
+abbrev pub deep_in : Option ℕ → ℕ → Bool
+deep_in r k = option_map_or (λ n. nat_lt n k) r false
+
+abbrev pub sinking : Option ℕ → ℕ → Found → Found
+sinking r k a = record a { is_deep = a.is_deep || deep_in r k }
 
 abbrev pub deeper : Option ℕ → Option ℕ
 deeper r = option_map (λ n. n - 1) r

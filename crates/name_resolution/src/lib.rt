@@ -1,9 +1,31 @@
 //! Names of types looked up: what a type uses, what is wrong with that, and its cells with numbers in the place of names.
 #![tactic(auto)]
 
+mod binders;
+mod findings;
+mod found;
+mod judge;
+mod names;
+mod resolved;
+mod rest;
+
 ghost use Rattle.name_resolution.specs.Standing.{CellsStand};
+ghost use Rattle.name_resolution.specs.Laws.{MachineResolves, ArgsResolved, TypesTurned, ArgsTurned};
+
+pub use findings::Findings;
+pub use names::{Known, Names, Sort};
+pub use resolved::{NodeLabel, Region, ResolvedCell, Variable};
 
 /// The resolved cells of a type stand for the type's tree.
 pub fn cells_stand()
     ensures { CellsStand }
+{}
+
+/// Going over the cells of a type from the last to the first comes to what the definitions say of the type: its uses, whether it is
+/// too deep, and its resolved cells.
+pub fn machine_laws()
+    ensures types { MachineResolves }
+    ensures args { ArgsResolved }
+    ensures types_turned { TypesTurned }
+    ensures args_turned { ArgsTurned }
 {}

@@ -1,0 +1,68 @@
+//! What is found, as the cells of a type are gone over from the last to the first.
+ghost use Rattle.std.specs.Prelude.{◌≡◌, ◌∷◌, [], ◌||◌, false, OnOk, IfOk};
+ghost use Rattle.name_resolution.specs.Sorts.{sort_of};
+ghost use Rattle.name_resolution.specs.Views.{resolved_in};
+
+use crate::findings::Findings;
+use crate::names::Sort;
+use crate::resolved::{ResolvedCell, Variable};
+use std::alloc::{AllocError, Global};
+use std::marker::Model;
+
+/// What is found so far. What was met last comes first: the variables and the resolved cells are turned round at the end.
+#[derive(Drop)]
+pub(crate) struct Found<'a> {
+    faults: Findings,
+    variables: Vec<Variable<'a>>,
+    is_deep: bool,
+    cells: Vec<ResolvedCell<'a>>,
+}
+
+impl<'a> Model for Found<'a> {
+    ghost use Rattle.std.specs.Prelude.{[]};
+    ghost use Rattle.name_resolution.specs.Machine.{Found};
+    ghost use Rattle.name_resolution.specs.Views.{resolved_onto, variables_onto};
+
+    ghost Value = { Found };
+
+    ghost view = { λ f. record { faults = f.faults; variables = variables_onto f.variables.items []; is_deep = f.is_deep; cells = resolved_onto f.cells.items [] } };
+}
+
+impl<'a> Found<'a> {
+    ghost use Rattle.name_resolution.specs.Machine.{keeping, deepening, either};
+    ghost use Rattle.name_resolution.specs.Views.{resolved_in};
+
+    /// Something more is wrong.
+    pub fn note(&mut self, faults: Findings)
+        ensures { self.new ≡ record self.old { faults = either faults self.old.faults } }
+    {
+        self.faults = faults.either(self.faults);
+    }
+
+    /// A variable before those that were met.
+    pub fn note_variable(&mut self, name: &'a [u8], sort: Sort) -> Result<(), AllocError>
+        ensures { OnOk result (self.new ≡ record self.old { variables = (name.now, sort_of sort) ∷ self.old.variables }) }
+    {
+        self.variables.push(Variable { name, sort })?;
+        Ok(())
+    }
+
+    /// A cell before those that were met, unless it is dropped.
+    pub fn keep(&mut self, is_kept: bool, cell: ResolvedCell<'a>) -> Result<(), AllocError>
+        ensures { OnOk result (self.new ≡ keeping is_kept (λ cs. resolved_in cell.entry ∷ cs) self.old) }
+    {
+        if is_kept {
+            self.cells.push(cell)?;
+        }
+        Ok(())
+    }
+
+    /// A type where there is room for so many around each other.
+    pub fn deepen(&mut self, room: Option<usize>)
+        ensures { self.new ≡ deepening room self.old }
+    {
+        if let Some(0) = room {
+            self.is_deep = true;
+        }
+    }
+}

@@ -1,0 +1,310 @@
+//! What is wrong with one use.
+ghost use Rattle.std.specs.Prelude.{◌≡◌, ℕ, [], ◌∷◌, false, map, not, nat_le, ◌^◌};
+ghost use Rattle.std.specs.Option.{option_map, option_map_or, option_and_then};
+ghost use Rattle.model.specs.Label as label;
+ghost use Rattle.line_tokens.specs.Views.{text_of};
+ghost use Rattle.text_definitions.specs.Tokens.{number_from};
+ghost use Rattle.text_definitions.specs.Uses.{name_use, trait_use, lifetime_use, variable_use, misfit_use, items_use, number_use};
+ghost use Rattle.text_definitions.specs.Faults.{is_unknown_use, is_other_sort, is_param, home_of, is_known_name, is_hidden_name, looking_crate, is_param_of, is_type_of, is_trait_of, is_in_scope};
+ghost use Rattle.text_definitions.specs.Declarations.{Known, known};
+ghost use Rattle.name_resolution.specs.Sorts.{known_of};
+ghost use Rattle.name_resolution.specs.LookUps.{is_hidden_home};
+ghost use Rattle.name_resolution.specs.Sorts.{sort_of};
+ghost use Rattle.name_resolution.specs.Views.{region_in};
+ghost use Rattle.name_resolution.specs.Resolved.{region_of};
+ghost use Rattle.name_resolution.specs.Machine.{Sight, findings, items, params, sort_misfits, name_misfits};
+
+use crate::binders::Binders;
+use crate::findings::Findings;
+use crate::names::{Known, Names, Sort};
+use crate::resolved::Region;
+
+/// Bytes that a name may have.
+const NAME_LIMIT: usize = 64;
+
+/// Items that a tuple or the inputs of a fn may have.
+const LIST_LIMIT: usize = 12;
+
+/// An argument that can't be of the kind of its place.
+const MISFIT: Findings = Findings {
+    takes_names: false,
+    uses_unknown: false,
+    uses_hidden: false,
+    uses_other_sort: true,
+    uses_own: false,
+    has_bad_dyn: false,
+    passes_limit: false,
+};
+
+/// A limit that is passed, if it is.
+fn limit(is_passed: bool) -> Findings
+    ensures { result ≡ record { takes_names = false; uses_unknown = false; uses_hidden = false; uses_other_sort = false; uses_own = false; has_bad_dyn = false; passes_limit = is_passed } }
+{
+    Findings {
+        takes_names: false,
+        uses_unknown: false,
+        uses_hidden: false,
+        uses_other_sort: false,
+        uses_own: false,
+        has_bad_dyn: false,
+        passes_limit: is_passed,
+    }
+}
+
+/// A type that isn't a name alone or a variable, at a place of this sort.
+pub(crate) fn misfits(sort: Sort) -> Findings
+    ensures { (v : Sight) → result ≡ findings v (sort_misfits (sort_of sort)) }
+{
+    match sort {
+        Sort::Type => Findings::NONE,
+        Sort::Const => MISFIT,
+        Sort::Lifetime => MISFIT,
+    }
+}
+
+/// A name or a variable at a place of this sort.
+pub(crate) fn named_misfits(sort: Sort) -> Findings
+    ensures { (v : Sight) → result ≡ findings v (name_misfits (sort_of sort)) }
+{
+    match sort {
+        Sort::Type => Findings::NONE,
+        Sort::Const => Findings::NONE,
+        Sort::Lifetime => MISFIT,
+    }
+}
+
+/// A variable.
+#[tactic(auto, using(crate::proofs::Judged::one_variable))]
+pub(crate) fn variable(name: &[u8]) -> Findings
+    ensures { (v : Sight) (p : label.Sort) → result ≡ findings v (variable_use p name.now ∷ []) }
+{
+    limit(name.len() > NAME_LIMIT)
+}
+
+/// So many items of a tuple, or inputs of a fn.
+#[tactic(auto, using(crate::proofs::Judged::one_items))]
+pub(crate) fn items(count: usize) -> Findings
+    ensures { (v : Sight) → result ≡ findings v (items_use count ∷ []) }
+{
+    limit(count > LIST_LIMIT)
+}
+
+/// Whether a lifetime isn't known.
+fn is_unknown_lifetime<N: Names>(names: &N, binders: &Binders<'_>, name: &[u8]) -> bool
+    ensures { result ≡ is_unknown_use (N.sight names.now).before (N.sight names.now).line (lifetime_use binders.now name.now) }
+{
+    if name == b"static".as_slice() {
+        return false;
+    }
+    if let Some(_) = names.param_place(Sort::Lifetime, name) {
+        return false;
+    }
+    if let Some(_) = binders.find(name) {
+        return false;
+    }
+    true
+}
+
+/// A lifetime.
+#[tactic(auto, using(crate::proofs::Judged::one_lifetime))]
+pub(crate) fn lifetime<N: Names>(names: &N, binders: &Binders<'_>, name: &[u8]) -> Findings
+    ensures { result ≡ findings (N.sight names.now) (lifetime_use binders.now name.now ∷ []) }
+{
+    Findings {
+        uses_unknown: is_unknown_lifetime(names, binders, name),
+        ..Findings::NONE
+    }
+}
+
+/// What a lifetime stands for.
+pub(crate) fn region<N: Names>(names: &N, binders: &Binders<'_>, name: &[u8]) -> Region
+    ensures { region_in result ≡ region_of (params (N.sight names.now)) binders.now name.now }
+{
+    if name == b"static".as_slice() {
+        return Region::Static;
+    }
+    if let Some((binder, place)) = binders.find(name) {
+        return Region::Bound { binder, place };
+    }
+    match names.param_place(Sort::Lifetime, name) {
+        Some(place) => Region::Param(place),
+        None => Region::Param(names.param_count(Sort::Lifetime)),
+    }
+}
+
+/// Whether a name is a type or const parameter of the line.
+fn is_param<N: Names>(names: &N, name: &[u8]) -> bool
+    ensures { result ≡ is_param (N.sight names.now).line name.now }
+{
+    if let Some(_) = names.param_place(Sort::Type, name) {
+        return true;
+    }
+    if let Some(_) = names.param_place(Sort::Const, name) {
+        return true;
+    }
+    false
+}
+
+/// The crate of a struct or a trait.
+fn home(meaning: Option<Known<'_>>) -> Option<usize>
+    ensures { result ≡ option_and_then home_of (option_map known_of meaning.entry) }
+{
+    match meaning {
+        Some(Known::Struct { home, .. }) => Some(home),
+        Some(Known::Trait { home, .. }) => Some(home),
+        _ => None,
+    }
+}
+
+/// Whether the line's crate doesn't see what a name stands for.
+fn is_hidden<N: Names>(names: &N, meaning: Option<Known<'_>>) -> bool
+    ensures { result ≡ option_map_or (λ h. is_hidden_home (N.sight names.now) h) (option_and_then home_of (option_map known_of meaning.entry)) false }
+{
+    match home(meaning) {
+        Some(home) => names.hides(home),
+        None => false,
+    }
+}
+
+/// Whether a name isn't known.
+fn is_unknown<N: Names>(names: &N, name: &[u8], meaning: Option<Known<'_>>) -> bool
+    requires { option_map known_of meaning ≡ known (items (N.sight names.now)) name.now }
+    ensures { result ≡ not (is_known_name (N.sight names.now).before (N.sight names.now).line name.now) }
+{
+    if is_param(names, name) {
+        return false;
+    }
+    match meaning {
+        Some(_) => false,
+        None => true,
+    }
+}
+
+/// Whether the line's crate doesn't see what a name stands for, which is no parameter.
+fn is_hidden_known<N: Names>(names: &N, name: &[u8], meaning: Option<Known<'_>>) -> bool
+    requires { option_map known_of meaning ≡ known (items (N.sight names.now)) name.now }
+    ensures { result ≡ option_map_or (λ c. is_hidden_name (N.sight names.now).before (N.sight names.now).line c name.now) (looking_crate (N.sight names.now).before (N.sight names.now).line) false }
+{
+    if is_param(names, name) {
+        return false;
+    }
+    is_hidden(names, meaning)
+}
+
+/// Whether a parameter may stand at a place of this sort with so many arguments.
+fn fits_param<N: Names>(names: &N, sort: Sort, name: &[u8], count: usize) -> bool
+    ensures { result ≡ is_param_of (N.sight names.now).line (sort_of sort) name.now count }
+{
+    if count != 0 {
+        return false;
+    }
+    match sort {
+        Sort::Lifetime => false,
+        Sort::Type => match names.param_place(Sort::Type, name) {
+            Some(_) => true,
+            None => false,
+        },
+        Sort::Const => match names.param_place(Sort::Const, name) {
+            Some(_) => true,
+            None => false,
+        },
+    }
+}
+
+/// Whether this is a struct with so many parameters, at a place of this sort.
+fn is_struct_of(sort: Sort, count: usize, meaning: Option<Known<'_>>) -> bool
+    ensures { result ≡ option_map_or (is_type_of (sort_of sort) count) (option_map known_of meaning.entry) false }
+{
+    match meaning {
+        Some(Known::Struct { kinds, .. }) => match sort {
+            Sort::Type => kinds.len() == count,
+            _ => false,
+        },
+        _ => false,
+    }
+}
+
+/// Whether this is a trait with so many parameters.
+fn is_trait_of(count: usize, meaning: Option<Known<'_>>) -> bool
+    ensures { result ≡ option_map_or (is_trait_of count) (option_map known_of meaning.entry) false }
+{
+    match meaning {
+        Some(Known::Trait { kinds, .. }) => kinds.len() == count,
+        _ => false,
+    }
+}
+
+/// Whether a name is of another sort than its place needs, or has a wrong number of arguments.
+fn is_other_name<N: Names>(
+    names: &N,
+    sort: Sort,
+    name: &[u8],
+    count: usize,
+    meaning: Option<Known<'_>>,
+) -> bool
+    requires { option_map known_of meaning ≡ known (items (N.sight names.now)) name.now }
+    ensures { result ≡ is_other_sort (N.sight names.now).before (N.sight names.now).line (name_use (sort_of sort) name.now count) }
+{
+    if is_param(names, name) {
+        !fits_param(names, sort, name, count)
+    } else {
+        !is_struct_of(sort, count, meaning)
+    }
+}
+
+/// Whether the name of a bound is no trait, or has a wrong number of arguments.
+fn is_other_trait<N: Names>(
+    names: &N,
+    name: &[u8],
+    count: usize,
+    meaning: Option<Known<'_>>,
+) -> bool
+    requires { option_map known_of meaning ≡ known (items (N.sight names.now)) name.now }
+    ensures { result ≡ is_other_sort (N.sight names.now).before (N.sight names.now).line (trait_use name.now count) }
+{
+    if is_param(names, name) {
+        return true;
+    }
+    !is_trait_of(count, meaning)
+}
+
+/// A name with so many arguments, at a place of this sort; it stands for this.
+#[tactic(auto, using(crate::proofs::Judged::one_name))]
+pub(crate) fn name<N: Names>(
+    names: &N,
+    sort: Sort,
+    name: &[u8],
+    count: usize,
+    meaning: Option<Known<'_>>,
+) -> Findings
+    requires { option_map known_of meaning ≡ known (items (N.sight names.now)) name.now }
+    ensures { result ≡ findings (N.sight names.now) (name_use (sort_of sort) name.now count ∷ []) }
+{
+    Findings {
+        uses_unknown: is_unknown(names, name, meaning),
+        uses_hidden: is_hidden_known(names, name, meaning),
+        uses_other_sort: is_other_name(names, sort, name, count, meaning),
+        uses_own: names.is_own(name),
+        ..Findings::NONE
+    }
+}
+
+/// The name of a bound with so many arguments; it stands for this.
+#[tactic(auto, using(crate::proofs::Judged::one_trait))]
+pub(crate) fn bound<N: Names>(
+    names: &N,
+    name: &[u8],
+    count: usize,
+    meaning: Option<Known<'_>>,
+) -> Findings
+    requires { option_map known_of meaning ≡ known (items (N.sight names.now)) name.now }
+    ensures { result ≡ findings (N.sight names.now) (trait_use name.now count ∷ []) }
+{
+    Findings {
+        uses_unknown: is_unknown(names, name, meaning),
+        uses_hidden: is_hidden_known(names, name, meaning),
+        uses_other_sort: is_other_trait(names, name, count, meaning),
+        uses_own: names.is_own(name),
+        ..Findings::NONE
+    }
+}
