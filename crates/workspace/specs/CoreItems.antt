@@ -1,16 +1,16 @@
 -- The items of `core` one after the other, as they are added.
-use Rattle.std.specs.Prelude.{◌≡◌, ℕ, ◌<◌, Bool, false, List, [], ◌∷◌, ◌++◌, length, take, Option, Some, None, if◌then◌else◌}
+use Rattle.std.specs.Prelude.{◌≡◌, ℕ, ◌<◌, Bool, false, List, [], ◌∷◌, ◌++◌, length, map, take, Option, Some, None, if◌then◌else◌}
 use Rattle.model.specs.Label.{Sort, of_type, of_const, of_lifetime, array, adt, ref, raw_pointer, param}
 use Rattle.model.specs.Trees.{Trees, none, tree, leaf}
 use Rattle.model.specs.Worlds.{Reference, core}
-use Rattle.model.specs.Core.{type_param, box, box_impl}
+use Rattle.model.specs.Core.{type_param, box, box_impl, impls_for, scalars}
 use Rattle.model.specs.Rules.{asked, clone}
-use Rattle.text_definitions.specs.Declarations.{Declarations, NamedImpl, last_crate, nothing_declared, copied, name_a, name_T, name_N}
+use Rattle.text_definitions.specs.Declarations.{Declarations, NamedTrait, NamedImpl, bare_impl, last_crate, nothing_declared, copied, name_a, name_T, name_N}
 use Rattle.type_terms.specs.declared.TraitId.{TraitId}
 use Rattle.workspace.specs.declared.cell.TermCell.{TermCell}
 use Rattle.workspace.specs.TermCells.{trees_of, joined}
 use Rattle.workspace.specs.Tables.{core_alone}
-use Rattle.workspace.specs.Parts.{new_impl}
+use Rattle.workspace.specs.Parts.{new_trait, new_impl}
 use Rattle.workspace.specs.Views.{cell_of}
 
 -- few enough of each for what `core` has to come
@@ -40,6 +40,18 @@ core_args takes_type = if takes_type then tree (param of_type 0) none (type_para
 abbrev pub core_bounds : Bool → Option TraitId → List Reference
 core_bounds takes_type None = []
 core_bounds takes_type (Some t) = record { trait = t.index; args = core_args takes_type } ∷ []
+
+-- a trait of `core`
+abbrev pub core_trait : Declarations → List ℕ → Bool → Bool → Option TraitId → NamedTrait
+core_trait d n is_fundamental takes_type bound = new_trait d n is_fundamental false (core_kinds takes_type) (core_bounds takes_type bound)
+
+-- more impls behind the others
+abbrev pub with_impls : Declarations → List NamedImpl → Declarations
+with_impls d is = record d { impls = d.impls ++ is }
+
+-- the impls of a trait for scalars, numbered from n on
+abbrev pub scalar_impls : ℕ → ℕ → List NamedImpl
+scalar_impls n t = map bare_impl (impls_for n t scalars)
 
 -- `core` with its struct
 abbrev pub core_structs : Declarations

@@ -1,4 +1,5 @@
 pub mod TermCells
+pub mod Made
 pub mod Numbered
 pub mod Views
 pub mod Tables

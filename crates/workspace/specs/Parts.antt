@@ -6,7 +6,14 @@ use Rattle.model.specs.Worlds.{Reference}
 use Rattle.text_definitions.specs.Syntax.{Line, struct_line, trait_line, impl_line, prove_line, refute_line}
 use Rattle.text_definitions.specs.Declarations.{Declarations, NamedStruct, NamedTrait, NamedImpl, Question, kinds_of, names_of, last_crate}
 use Rattle.text_definitions.specs.Lowering.{field_trees, with_self, clause_reference}
-use Rattle.text_definitions.specs.Adding.{item_meanings, question_meanings, question_of}
+use Rattle.text_definitions.specs.Adding.{item_meanings, question_meanings, question_of, added}
+use Rattle.workspace.specs.declared.cell.ParamKind.{ParamKind}
+use Rattle.workspace.specs.declared.cell.TermCell.{TermCell}
+use Rattle.workspace.specs.declared.declared.Param.{Param}
+use Rattle.workspace.specs.declared.declared.ReferenceCells.{ReferenceCells}
+use Rattle.workspace.specs.TermCells.{trees_of}
+use Rattle.workspace.specs.Views.{sorts_of, cells_of, reference_of, param_names}
+use Rattle.workspace.specs.Tables.{with_struct, with_trait, with_impl}
 
 -- `fundamental struct n<..>(..)`: parameters of these kinds, and fields that are these types
 abbrev pub IsStructLine : Declarations → List ℕ → Bool → List Sort → List Trees → Line → Type 0
@@ -41,3 +48,26 @@ new_trait d n f a kinds bounds = record { text = n; kinds = kinds; item = record
 
 abbrev pub new_impl : Declarations → List (List ℕ) → Reference → List Reference → NamedImpl
 new_impl d params header clauses = record { params = params; item = record { name = length d.impls; home = last_crate d; params = length params; header = header; clauses = clauses } }
+
+-- ---- what a call that is handed the parts adds, from the declarations d to e
+abbrev pub AddsStruct : (d e : Declarations) → List ℕ → Bool → List ParamKind → List TermCell → Type 0
+AddsStruct d e n f params fields = e ≡ with_struct d (new_struct d n f (sorts_of params) (trees_of (cells_of fields)))
+
+-- what the line adds, of which these are the parts
+abbrev pub AddsStructLine : (d e : Declarations) → List ℕ → Bool → List ParamKind → List TermCell → Type 0
+AddsStructLine d e n f params fields = (l : Line) → IsStructLine d n f (sorts_of params) (trees_of (cells_of fields)) l → e ≡ added d l
+
+abbrev pub AddsTrait : (d e : Declarations) → List ℕ → (is_fundamental is_auto : Bool) → List ParamKind → List ReferenceCells → Type 0
+AddsTrait d e n f a params bounds = e ≡ with_trait d (new_trait d n f a (sorts_of params) (map reference_of bounds))
+
+abbrev pub AddsTraitLine : (d e : Declarations) → List ℕ → (is_fundamental is_auto : Bool) → List ParamKind → List ReferenceCells → Type 0
+AddsTraitLine d e n f a params bounds = (l : Line) → IsTraitLine d n f a (sorts_of params) (map reference_of bounds) l → e ≡ added d l
+
+abbrev pub AddsImpl : (d e : Declarations) → List Param → ReferenceCells → List ReferenceCells → Type 0
+AddsImpl d e params header clauses = e ≡ with_impl d (new_impl d (param_names params) (reference_of header) (map reference_of clauses))
+
+abbrev pub AddsImplLine : (d e : Declarations) → List Param → ReferenceCells → List ReferenceCells → Type 0
+AddsImplLine d e params header clauses = (l : Line) → IsImplLine d (param_names params) (reference_of header) (map reference_of clauses) l → e ≡ added d l
+
+abbrev pub AddsQuestionLine : (d e : Declarations) → Question → Type 0
+AddsQuestionLine d e q = (l : Line) → IsQuestionLine d q l → e ≡ added d l

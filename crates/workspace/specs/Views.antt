@@ -1,5 +1,5 @@
 -- What the values of the code stand for among the definitions.
-use Rattle.std.specs.Prelude.{ℕ, Bool, true, false, List, map, length}
+use Rattle.std.specs.Prelude.{ℕ, suc, Bool, true, false, List, map, length}
 use Rattle.std.specs.Borrow.{Bor}
 use Rattle.model.specs.Label.{Sort, of_type, of_const, of_lifetime, bool, char, str, never, array, slice, tuple, dynamic, auto_trait, int, uint, adt, fn_ptr, raw_pointer, principal, param, placeholder, infer}
 use Rattle.model.specs.Worlds.{Reference}
@@ -58,7 +58,8 @@ cell_of (cells.Tuple n) = cell.node_cell tuple n
 cell_of (cells.FnPtr b n) = cell.node_cell (fn_ptr b) n
 cell_of (cells.Principal b t n) = cell.node_cell (principal b t.index) n
 cell_of (cells.Auto t) = cell.node_cell (auto_trait t.index) 0
-cell_of (cells.Dynamic n) = cell.node_cell dynamic n
+cell_of (cells.Dynamic false n) = cell.node_cell dynamic (suc n)
+cell_of (cells.Dynamic true n) = cell.node_cell dynamic (suc (suc n))
 
 abbrev pub cells_of : List TermCell → List cell.TermCell
 cells_of cs = map cell_of cs

@@ -73,6 +73,7 @@ pub enum TermCell {
     Auto(TraitId),
     /// `dyn Tr + Auto + 'a` behind its principal trait, if it has one, its auto traits by rising number, and its lifetime.
     Dynamic {
-        inside: u32,
+        has_principal: bool,
+        autos: u32,
     },
 }

@@ -9,8 +9,8 @@ ghost use Rattle.text_definitions.specs.Faults.{last_items};
 ghost use Rattle.text_definitions.specs.Lowering.{crate_number};
 ghost use Rattle.text_definitions.specs.Adding.{added};
 ghost use Rattle.workspace.specs.Numbered.{IsFew};
-ghost use Rattle.workspace.specs.Tables.{declared, with_crate, with_struct, with_trait, with_impl, with_question, new_crate, will_see, item_of, item_named, core_alone, IsConsistent, MarksSeen, number_of_crate};
-ghost use Rattle.workspace.specs.Parts.{IsStructLine, IsTraitLine, IsImplLine, IsQuestionLine, new_struct, new_trait, new_impl};
+ghost use Rattle.workspace.specs.Tables.{declared, with_crate, with_question, new_crate, will_see, item_of, item_named, core_alone, number_of_crate, IsConsistent, MarksSeen};
+ghost use Rattle.workspace.specs.Parts.{AddsStruct, AddsStructLine, AddsTrait, AddsTraitLine, AddsImpl, AddsImplLine, AddsQuestionLine};
 ghost use Rattle.workspace.specs.Views.{known_of, sorts_of, cells_of, reference_of, question_of, asker_of, param_names, numbers_of, name_texts};
 ghost use Rattle.workspace.specs.TermCells.{trees_of};
 
@@ -291,8 +291,8 @@ impl Tables {
         requires consistent { IsConsistent self.old }
         requires new { known (declared self.old) name.now ≡ None }
         requires few { IsFew (declared self.old) ENTRY_LIMIT }
-        ensures declared { OnOk result (declared self.new ≡ with_struct (declared self.old) (new_struct (declared self.old) name.now is_fundamental (sorts_of params.items) (trees_of (cells_of fields.items)))) }
-        ensures added { OnOk result ((l : Line) → IsStructLine (declared self.old) name.now is_fundamental (sorts_of params.items) (trees_of (cells_of fields.items)) l → declared self.new ≡ added (declared self.old) l) }
+        ensures declared { OnOk result (AddsStruct (declared self.old) (declared self.new) name.now is_fundamental params.items fields.items) }
+        ensures added { OnOk result (AddsStructLine (declared self.old) (declared self.new) name.now is_fundamental params.items fields.items) }
         ensures consistent { OnOk result (IsConsistent self.new) }
     {
         let id = AdtId {
@@ -325,8 +325,8 @@ impl Tables {
         requires consistent { IsConsistent self.old }
         requires new { known (declared self.old) name.now ≡ None }
         requires few { IsFew (declared self.old) ENTRY_LIMIT }
-        ensures declared { OnOk result (declared self.new ≡ with_trait (declared self.old) (new_trait (declared self.old) name.now is_fundamental is_auto (sorts_of params.items) (map reference_of bounds.items))) }
-        ensures added { OnOk result ((l : Line) → IsTraitLine (declared self.old) name.now is_fundamental is_auto (sorts_of params.items) (map reference_of bounds.items) l → declared self.new ≡ added (declared self.old) l) }
+        ensures declared { OnOk result (AddsTrait (declared self.old) (declared self.new) name.now is_fundamental is_auto params.items bounds.items) }
+        ensures added { OnOk result (AddsTraitLine (declared self.old) (declared self.new) name.now is_fundamental is_auto params.items bounds.items) }
         ensures consistent { OnOk result (IsConsistent self.new) }
     {
         let id = TraitId {
@@ -357,8 +357,8 @@ impl Tables {
     ) -> Result<(), AllocError>
         requires consistent { IsConsistent self.old }
         requires few { IsFew (declared self.old) ENTRY_LIMIT }
-        ensures declared { OnOk result (declared self.new ≡ with_impl (declared self.old) (new_impl (declared self.old) (param_names params.items) (reference_of header) (map reference_of clauses.items))) }
-        ensures added { OnOk result ((l : Line) → IsImplLine (declared self.old) (param_names params.items) (reference_of header) (map reference_of clauses.items) l → declared self.new ≡ added (declared self.old) l) }
+        ensures declared { OnOk result (AddsImpl (declared self.old) (declared self.new) params.items header clauses.items) }
+        ensures added { OnOk result (AddsImplLine (declared self.old) (declared self.new) params.items header clauses.items) }
         ensures consistent { OnOk result (IsConsistent self.new) }
     {
         let id = ImplId {
@@ -384,7 +384,7 @@ impl Tables {
         requires consistent { IsConsistent self.old }
         requires asker { asker_of entry.asked_how < length (declared self.old).crates }
         ensures declared { OnOk result (declared self.new ≡ with_question (declared self.old) (question_of entry)) }
-        ensures added { OnOk result ((l : Line) → IsQuestionLine (declared self.old) (question_of entry) l → declared self.new ≡ added (declared self.old) l) }
+        ensures added { OnOk result (AddsQuestionLine (declared self.old) (declared self.new) (question_of entry)) }
         ensures consistent { OnOk result (IsConsistent self.new) }
     {
         self.asked.push(entry.asked_how)?;

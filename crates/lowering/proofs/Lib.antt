@@ -1,0 +1,3 @@
+mod Stacks
+mod Lowering
+mod CellLists
