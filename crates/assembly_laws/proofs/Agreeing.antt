@@ -12,7 +12,7 @@ use Rattle.table_laws.specs.Instances.{read_with, of_sort, term_at, other_terms}
 use Rattle.table_laws.specs.Content.{given}
 use Rattle.table_laws.specs.Frames.{kind_at}
 use Rattle.table_laws.specs.Answers.{is_kind_of}
-use Rattle.assembly_laws.specs.Asking.{is_variable_over}
+use Rattle.evaluation_laws.specs.Variables.{is_variable_over}
 use Rattle.assembly_laws.specs.Cover.{padded}
 use Rattle.assembly_laws.proofs.Reading.{true-false}
 

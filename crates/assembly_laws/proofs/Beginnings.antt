@@ -20,7 +20,7 @@ use Rattle.model.proofs.TreeLaws.{append-none}
 use Rattle.assembly_laws.proofs.Plain.{sort-self}
 use Rattle.table_laws.proofs.Answering.{overflow_is_bare}
 use Rattle.table_laws.specs.Frames.{labels_from}
-use Rattle.evaluation_laws.specs.Operations.{begin}
+use Rattle.table_laws.specs.Operations.{begin}
 
 -- ---- labels that are open, each another than those before
 abbrev pub AreFresh : List Label → List Label → Type 0

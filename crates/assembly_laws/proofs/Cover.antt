@@ -20,7 +20,8 @@ use Rattle.declarations.specs.Elaboration.{supertraits}
 use Rattle.assembly_laws.specs.Meaning.{Meaning}
 use Rattle.assembly_laws.specs.Knowing.{is_knowable}
 use Rattle.assembly_laws.specs.Declared.{is_declared_view}
-use Rattle.assembly_laws.specs.Asking.{Asked, asked_if, asked_with, with_first, all_known, is_variable_over, are_clauses, begins_with_type, next_of}
+use Rattle.assembly_laws.specs.Asking.{Asked, asked_if, asked_with, with_first, all_known, are_clauses, begins_with_type, next_of}
+use Rattle.evaluation_laws.specs.Variables.{is_variable_over}
 use Rattle.assembly_laws.specs.Candidates.{premise, unknowable}
 use Rattle.assembly_laws.specs.Solver.{IsSolution}
 use Rattle.assembly_laws.specs.Cover.{slots, nested_at, Gives, all_candidates, goal_fact, ViewRulesAreCandidates, SolutionsAreCandidates}

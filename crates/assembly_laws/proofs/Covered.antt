@@ -12,8 +12,8 @@ use Rattle.evaluation.specs.Law.{Realizes}
 use Rattle.evaluation.specs.Handler.{Handled}
 use Rattle.table_laws.specs.Content.{Values}
 use Rattle.table_laws.specs.Frames.{kinds_known, FrameTable}
-use Rattle.evaluation_laws.specs.Operations.{begin}
-use Rattle.evaluation_laws.proofs.OperationLaws.{begins-free}
+use Rattle.table_laws.specs.Operations.{begin}
+use Rattle.evaluation_laws.proofs.OperationLaws.{begins-free, begins-within}
 use Rattle.evaluation_laws.specs.Tables.{frame_tables}
 use Rattle.evaluation_laws.proofs.Laws.{tables_are_lawful}
 use Rattle.evaluation.specs.Handler.{IsLawful}
@@ -115,13 +115,13 @@ module _ (applicable : AnswerTrees → Bool) (same : AnswerTrees → AnswerTrees
         keeps_more frame_tables h (1 + 0) h.candidates (0 + 0) h.number [] (each_of frame_tables (unsure ∷ []) (everything applicable same start) [])
         (omega arith) (omega arith)
         (keeps_each frame_tables h 0 0 (unsure ∷ []) (everything applicable same start) [] (unsure-lawful, tt)
-        (λ later g. all_merged_keeps frame_tables tables_are_lawful applicable is_test same is_same h says tt 0 0 later
+        (λ later g. all_merged_keeps frame_tables tables_are_lawful applicable is_test same is_same h says (begins-within h.widest (kinds_known f.kinds)) 0 0 later
         (λ w v s. goes_through frame_tables (P w v s) (unsure ∷ []) [] later g (inl (unsure-realizes w.linked.set (kinds_known f.kinds) v w.no_placeholders)))))
 
     asked-keeps : IsAsMeant m → (a : Asked) → asked m.view f ≡ Some a → begins_unknown a.kinds (self_of a) ≡ false → Keeps frame_tables h h.candidates h.number [] (in_coherence applicable same start m.view m.crate a)
     asked-keeps x a e known =
         let l = lawful a e in
-        coherence_keeps tables_are_lawful applicable is_test same is_same h says tt m.view m.crate a l.each
+        coherence_keeps tables_are_lawful applicable is_test same is_same h says (begins-within h.widest (kinds_known f.kinds)) m.view m.crate a l.each
         (record {
           by_view = λ k w v s. by-candidates m (complete x) f a e known w v s (asked-terms m x.declared f a e (x.bounds f a e) w) k;
           by_others = λ w v s. by-unknowable m (complete x) f a e known w v s (asked-terms m x.declared f a e (x.bounds f a e) w);
@@ -145,6 +145,6 @@ coherence-is-lawful applicable same is_test is_same m sound f lawful =
     (record {
       begins = λ v. begins-free (kinds_known f.kinds) v;
       says_nothing = λ c. begin-says-nothing (kinds_known f.kinds) c;
-      begins_within = tt;
+      begins_within = begins-within _ (kinds_known f.kinds);
       keeps = plan-keeps applicable same m sound f is_test is_same lawful (asked m.view f) refl;
     })

@@ -16,14 +16,15 @@ use Rattle.table_laws.specs.Frames.{kind_at, FrameTable, Allows, Nested, fact, M
 use Rattle.type_terms.proofs.Made.{false-true}
 use Rattle.model.proofs.Walking.{left, right}
 use Rattle.table_laws.proofs.Labels.{made-labels, IsGoodLabel, made-more}
-use Rattle.evaluation_laws.specs.Operations.{begin}
+use Rattle.table_laws.specs.Operations.{begin}
 use Rattle.table_laws.specs.Frames.{labels_from}
-use Rattle.evaluation_laws.specs.Operations.{fresh}
-use Rattle.assembly_laws.specs.Asking.{Asked, are_clauses, is_variable_over}
+use Rattle.table_laws.specs.Operations.{fresh}
+use Rattle.assembly_laws.specs.Asking.{Asked, are_clauses}
+use Rattle.evaluation_laws.specs.Variables.{is_variable_over}
 use Rattle.assembly_laws.specs.Declared.{is_declared}
 use Rattle.assembly_laws.specs.Candidates.{premise, behind, is_param, moved, all_equal}
-use Rattle.assembly_laws.proofs.Determining.{Agree, AgreeIn, made-leaves, reads-agree, reads-determine}
-use Rattle.assembly_laws.proofs.OwnSlots.{own_slot, slot-is, slots-agree, each-stands}
+use Rattle.evaluation_laws.proofs.Readings.{Agree, AgreeIn, made-leaves, reads-agree, reads-determine}
+use Rattle.evaluation_laws.proofs.Slots.{own_slot, slot-is, slots-agree, each-stands}
 use Rattle.assembly_laws.proofs.Moving.{made-moved, stands-back, stands-on, met-reads, Came}
 
 pub same-fact : (trait : Option ℕ) (g k : GoalTrees) (p q : Bool) → g ≡ k → p ≡ q → ◌≡◌ {A = Fact} (record { trait = trait; goal = g; proper = p }) (record { trait = trait; goal = k; proper = q })

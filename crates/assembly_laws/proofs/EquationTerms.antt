@@ -22,7 +22,8 @@ use Rattle.type_terms.proofs.Made.{is_ordinary, made-append}
 use Rattle.table_laws.proofs.Labels.{IsLeafFor, PutsLeaves, made-put-in, made-more}
 use Rattle.declarations.specs.Elaboration.{elaborate, supertraits, rest_of}
 use Rattle.assembly_laws.specs.Declared.{is_declared, is_counted, are_terms, are_references, is_declared_view}
-use Rattle.assembly_laws.specs.Asking.{Asked, clauses, is_variable_over, self_of, with_plain_head}
+use Rattle.assembly_laws.specs.Asking.{Asked, clauses, self_of, with_plain_head}
+use Rattle.evaluation_laws.specs.Variables.{is_variable_over}
 use Rattle.assembly_laws.specs.Candidates.{first_value, all_equal, moved}
 use Rattle.assembly_laws.specs.Cover.{AreTermsOf, BoundsAreTerms, all_candidates}
 use Rattle.assembly_laws.proofs.Rowwise.{AreRows, all-so}

@@ -8,13 +8,14 @@ use Rattle.evaluation.proofs.ListLaws.{Every-mono, Every-both}
 use Rattle.table_laws.specs.Instances.{read_with, goal_read, first_term, other_terms}
 use Rattle.table_laws.specs.Content.{Fact, given, trait_of, Terms}
 use Rattle.table_laws.specs.Frames.{Nested, Equation, term_of, Meets}
-use Rattle.evaluation_laws.specs.Operations.{begin}
-use Rattle.evaluation_laws.specs.Operations.{fresh}
+use Rattle.table_laws.specs.Operations.{begin}
+use Rattle.table_laws.specs.Operations.{fresh}
 use Rattle.evaluation_laws.specs.Tables.{frame_tables}
 use Rattle.assembly_laws.specs.Slots.{own_slot, as_slots, with_slots}
 use Rattle.assembly_laws.specs.Solver.{IsSolution}
 use Rattle.assembly_laws.specs.Cover.{padded, slots, nested_at, GivenIsRealized}
-use Rattle.assembly_laws.proofs.Filled.{IsNotPlace, no-placeholder, filled, filled-allowed, filled-slots}
+use Rattle.assembly_laws.proofs.Filled.{no-placeholder, filled, filled-allowed, filled-slots}
+use Rattle.evaluation_laws.proofs.Unplaced.{IsNotPlace}
 
 -- slots are not padded
 padded-slots : (ks : List CanonicalVarKind) (ts : List Trees) → padded ks (as_slots ks ts) ≡ as_slots ks ts

@@ -19,10 +19,11 @@ use Rattle.table_laws.specs.Frames.{Allows, Meets, is_open_label}
 use Rattle.type_terms.proofs.Made.{false-true}
 use Rattle.model.proofs.Walking.{left, right}
 use Rattle.table_laws.proofs.Labels.{made-more}
-use Rattle.evaluation_laws.specs.Operations.{begin}
-use Rattle.evaluation_laws.specs.Operations.{fresh}
+use Rattle.table_laws.specs.Operations.{begin}
+use Rattle.table_laws.specs.Operations.{fresh}
 use Rattle.assembly_laws.specs.Facts.{Follows, clauses_of}
-use Rattle.assembly_laws.specs.Asking.{Asked, all_known, are_clauses, is_variable_over}
+use Rattle.assembly_laws.specs.Asking.{Asked, all_known, are_clauses}
+use Rattle.evaluation_laws.specs.Variables.{is_variable_over}
 use Rattle.assembly_laws.specs.Candidates.{all_equal}
 use Rattle.assembly_laws.specs.Cover.{goal_fact, read_reference}
 use Rattle.assembly_laws.proofs.Cover.{IsAsked}

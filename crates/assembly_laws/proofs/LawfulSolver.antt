@@ -11,7 +11,7 @@ use Rattle.evaluation.specs.Law.{Realizes}
 use Rattle.evaluation.specs.Handler.{Handled, IsHandler}
 use Rattle.table_laws.specs.Content.{Values, fits}
 use Rattle.table_laws.specs.Frames.{kinds_known}
-use Rattle.evaluation_laws.proofs.OperationLaws.{begins-free}
+use Rattle.evaluation_laws.proofs.OperationLaws.{begins-free, begins-within}
 use Rattle.evaluation_laws.specs.Tables.{frame_tables}
 use Rattle.evaluation_laws.proofs.Laws.{tables_are_lawful}
 use Rattle.evaluation.specs.Handler.{IsLawful}
@@ -44,7 +44,7 @@ module _ (applicable : AnswerTrees → Bool) (is_test : IsTest frame_tables appl
     says_nothing c = begin-says-nothing (kinds_known f.kinds) c
 
     begins_within : frame_tables.TableWithin h.widest h.begin
-    begins_within = tt
+    begins_within = begins-within h.widest (kinds_known f.kinds)
 
     fitting : (v : Values) → (v.proper && fits f.kinds v.terms) ≡ true → (v.proper ≡ true) × (fits f.kinds v.terms ≡ true)
     fitting v e = (left v.proper (fits f.kinds v.terms) e, right v.proper (fits f.kinds v.terms) e)

@@ -19,7 +19,6 @@ pub mod Calls
 pub mod Filled
 pub mod ImplSlots
 pub mod Given
-pub mod AskingTables
 pub mod Considering
 pub mod Rowwise
 pub mod Worlds
@@ -37,8 +36,6 @@ pub mod ErasedHeads
 pub mod LinkedBounds
 pub mod EqualRows
 pub mod WorkedUnsizing
-pub mod Determining
-pub mod OwnSlots
 pub mod LawfulSolver
 pub mod Moving
 pub mod Determined

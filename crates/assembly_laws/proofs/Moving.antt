@@ -19,7 +19,8 @@ use Rattle.assembly_laws.proofs.Plain.{is-sort}
 use Rattle.assembly_laws.specs.Declared.{is_declared}
 use Rattle.assembly_laws.specs.Candidates.{moved, first_value, all_equal, is_param}
 use Rattle.assembly_laws.proofs.Reading.{begins}
-use Rattle.assembly_laws.proofs.Determining.{StandsIn, HasLeaves}
+use Rattle.evaluation_laws.proofs.Readings.{HasLeaves}
+use Rattle.evaluation_laws.specs.Variables.{StandsIn}
 
 -- ---- how they are made
 open-behind : (n : ℕ) → PutsLeaves is_declared is_open_label (moved n)

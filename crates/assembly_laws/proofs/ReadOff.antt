@@ -20,7 +20,7 @@ use Rattle.assembly_laws.proofs.Plain.{is-sort, sort-self}
 use Rattle.assembly_laws.proofs.Reading.{true-false, begins, append-none}
 use Rattle.assembly_laws.proofs.Instances.{Unbound, shift-unbound, nth-unbound}
 use Rattle.assembly_laws.proofs.Headers.{child-some, next-some, here-some}
-use Rattle.assembly_laws.proofs.Determining.{HasLeaves, made-leaves}
+use Rattle.evaluation_laws.proofs.Readings.{HasLeaves, made-leaves}
 use Rattle.assembly_laws.proofs.PlainRules.{Plain}
 use Rattle.model.proofs.Walking.{left, right, both, or-cases}
 

@@ -22,7 +22,8 @@ use Rattle.assembly_laws.specs.Facts.{reference_in, children_of, trait_or_first}
 use Rattle.assembly_laws.specs.Meaning.{Meaning}
 use Rattle.assembly_laws.specs.Declared.{is_declared_view}
 use Rattle.assembly_laws.specs.Determined.{ImplsAreDetermined}
-use Rattle.assembly_laws.specs.Asking.{all_known, is_variable_over, is_rigid, begins_with_type, with_plain_head, next_of, self_of, is_unknown_kind, begins_unknown}
+use Rattle.assembly_laws.specs.Asking.{all_known, is_rigid, begins_with_type, with_plain_head, next_of, self_of, is_unknown_kind, begins_unknown}
+use Rattle.evaluation_laws.specs.Variables.{is_variable_over}
 use Rattle.assembly_laws.specs.Candidates.{Candidate, by_unsize, call_of, unsize_array_of, upcasts_of, unsize_struct_of, unsize_known, as_written, misc, unsure, if_so, by_objects, objects_of}
 use Rattle.assembly_laws.specs.Solver.{has_placeholder}
 use Rattle.assembly_laws.specs.Cover.{slots, Gives, goal_fact, ViewRulesAreCandidates, SolutionsAreCandidates, SolutionsAreByCandidates}

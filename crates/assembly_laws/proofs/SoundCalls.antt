@@ -20,7 +20,8 @@ use Rattle.table_laws.proofs.Labels.{made-more}
 use Rattle.assembly_laws.specs.Facts.{is_unerased}
 use Rattle.assembly_laws.specs.Meaning.{Meaning}
 use Rattle.assembly_laws.specs.Declared.{is_declared_view}
-use Rattle.assembly_laws.specs.Asking.{Asked, asked, is_rigid, is_variable_over, self_of, with_plain_head}
+use Rattle.assembly_laws.specs.Asking.{Asked, asked, is_rigid, self_of, with_plain_head}
+use Rattle.evaluation_laws.specs.Variables.{is_variable_over}
 use Rattle.assembly_laws.specs.Candidates.{all_equal, misc, if_so, call_of, by_sized, by_copy, by_auto, by_tuple, by_fn_ptr, by_call}
 use Rattle.assembly_laws.specs.Cover.{read_reference}
 use Rattle.assembly_laws.specs.Lawful.{IsSoundFor, row_candidates, RowsAreSound}

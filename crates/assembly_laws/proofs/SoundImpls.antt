@@ -16,8 +16,8 @@ use Rattle.evaluation.specs.Lists.{Every}
 use Rattle.table_laws.specs.Instances.{read_with}
 use Rattle.table_laws.specs.Content.{fits as fit_values, given, Terms}
 use Rattle.table_laws.specs.Frames.{Allows, Nested, fact, Meets}
-use Rattle.evaluation_laws.specs.Operations.{begin}
-use Rattle.evaluation_laws.specs.Operations.{fresh}
+use Rattle.table_laws.specs.Operations.{begin}
+use Rattle.table_laws.specs.Operations.{fresh}
 use Rattle.assembly_laws.specs.Facts.{Follows, is_plain, is_unerased, clauses_of}
 use Rattle.assembly_laws.specs.Meaning.{Meaning}
 use Rattle.assembly_laws.specs.Declared.{is_declared, is_counted, are_terms, is_declared_view, is_unsorted, parameters_are_sorted}

@@ -16,8 +16,8 @@ use Rattle.evaluation.specs.declared.candidate.BuiltinImplSource.TheVariants.{Tr
 use Rattle.table_laws.specs.Instances.{read_with}
 use Rattle.table_laws.specs.Content.{fits, given, Terms}
 use Rattle.table_laws.specs.Frames.{Allows, Equation, Meets}
-use Rattle.evaluation_laws.specs.Operations.{begin}
-use Rattle.evaluation_laws.specs.Operations.{fresh}
+use Rattle.table_laws.specs.Operations.{begin}
+use Rattle.table_laws.specs.Operations.{fresh}
 use Rattle.assembly_laws.specs.Facts.{is_plain, is_unerased, clauses_of}
 use Rattle.assembly_laws.specs.Meaning.{Meaning}
 use Rattle.assembly_laws.specs.Declared.{is_declared_view}

@@ -18,18 +18,19 @@ use Rattle.table_laws.specs.Instances.{read_with, of_sort, is_place, as_place, t
 use Rattle.table_laws.specs.Content.{given, Terms}
 use Rattle.table_laws.specs.Frames.{kind_at, is_open_label}
 use Rattle.table_laws.specs.Answers.{is_kind_of}
-use Rattle.evaluation_laws.specs.Operations.{begin}
-use Rattle.evaluation_laws.specs.Operations.{fresh}
+use Rattle.table_laws.specs.Operations.{begin}
+use Rattle.table_laws.specs.Operations.{fresh}
 use Rattle.assembly_laws.specs.Facts.{is_unerased}
 use Rattle.assembly_laws.specs.Meaning.{Meaning}
 use Rattle.assembly_laws.specs.Declared.{is_declared_view}
-use Rattle.assembly_laws.specs.Asking.{Asked, asked, is_variable_over, is_rigid, self_of, with_plain_head, is_unknown_kind, begins_unknown}
+use Rattle.evaluation_laws.specs.Variables.{is_variable_over}
+use Rattle.assembly_laws.specs.Asking.{Asked, asked, is_rigid, self_of, with_plain_head, is_unknown_kind, begins_unknown}
 use Rattle.assembly_laws.specs.Candidates.{as_written, misc, if_so}
 use Rattle.assembly_laws.specs.Cover.{read_reference}
 use Rattle.assembly_laws.specs.Lawful.{IsSoundFor, ToDynIsSound}
 use Rattle.assembly_laws.proofs.Reading.{true-false, begins, append-none}
 use Rattle.assembly_laws.proofs.ByView.{rigid-read, rigid-head}
-use Rattle.assembly_laws.proofs.OwnSlots.{slot-is}
+use Rattle.evaluation_laws.proofs.Slots.{slot-is}
 use Rattle.assembly_laws.proofs.Unsizing.{map-append, compatible-same, principal-read, autos-read, traits-stay}
 use Rattle.assembly_laws.proofs.CandidateKinds.{every-append}
 use Rattle.assembly_laws.proofs.PlainRules.{Plain, IsPlainReference}

@@ -1,5 +1,6 @@
 -- In coherence the questions of a goal without where-clauses and placeholders have none.
 use Rattle.std.proofs.Common.{◌≡◌, Bool, true, false, not, ◌||◌, if◌then◌else◌, List, [], ◌∷◌, map, length, refl, sym, ◌∙◌, ap, Option, Some, None}
+use Rattle.std.specs.Prelude.{option_map}
 use Rattle.model.specs.Label.{Label, of_type, of_const, of_lifetime, infer, param, placeholder, static}
 use Rattle.model.specs.Trees.{none}
 use Rattle.model.specs.Worlds.{World, Reference}
@@ -15,11 +16,13 @@ use Rattle.table_laws.specs.Content.{Question}
 use Rattle.table_laws.specs.Frames.{kinds_known, good_in, FrameTable, IsMadeFrame, Nested, slot_at, goal_in}
 use Rattle.type_terms.proofs.Made.{false-true}
 use Rattle.model.proofs.Walking.{left}
-use Rattle.evaluation_laws.specs.Operations.{begin}
-use Rattle.table_laws.proofs.Equating.{frame-of}
-use Rattle.table_laws.specs.Frames.{frame_if}
+use Rattle.table_laws.specs.Operations.{begin, with_content}
+use Rattle.table_laws.proofs.Beginning.{begin-made}
+use Rattle.table_laws.proofs.Equating.{with-content-is}
 use Rattle.table_laws.proofs.Applying.{AreTheirs, goal-leaves}
 use Rattle.evaluation_laws.specs.Tables.{frame_tables}
+use Rattle.evaluation_laws.proofs.Laws.{tables_are_lawful}
+use Rattle.evaluation.proofs.Kept.{AreKept, AreSo, questions_so, made_kept}
 use Rattle.evaluation.specs.Plans.{Plan, each_of, first_alone, after}
 use Rattle.declarations.specs.Elaboration.{supertraits}
 use Rattle.assembly_laws.specs.Meaning.{Meaning}
@@ -30,28 +33,31 @@ use Rattle.assembly_laws.specs.Solver.{Past, everything, in_coherence, by_mode, 
 use Rattle.assembly_laws.specs.Cover.{all_candidates}
 use Rattle.assembly_laws.specs.Worlds.{KeepWorlds}
 use Rattle.assembly_laws.proofs.Cover.{asked-by}
-use Rattle.assembly_laws.proofs.Filled.{no-placeholder, place-kind}
+use Rattle.assembly_laws.proofs.Filled.{no-placeholder}
+use Rattle.evaluation_laws.proofs.Unplaced.{place-kind}
 use Rattle.assembly_laws.proofs.Rowwise.{AreRows, all-so}
 use Rattle.assembly_laws.proofs.Considering.{ConsidersOnly, after-only, wanted-only, each-only, first-only}
-use Rattle.assembly_laws.proofs.AskingTables.{AreKept, AreSo, questions-so}
-
--- ---- tables keep the kinds of the goal
-abbrev HasNone : FrameTable → Type 0
-HasNone T = has_placeholder T.kinds ≡ false
-
-none-after : (T : FrameTable) (o : Option TableTrees) (f : (u : TableTrees) → o ≡ Some u → IsMadeFrame T.kinds T.labels u) (U : FrameTable) → frame_if T o f ≡ Some U → HasNone T → HasNone U
-none-after T o f U e h = ap has_placeholder (frame-of T o f U e).2.kinds ∙ h
 
 -- the question has no where-clauses and no placeholders
 abbrev IsBare : Question → Type 0
 IsBare q = (q.form.goal.environment ≡ none) × (has_placeholder (kinds_known q.form.kinds) ≡ false)
 
+-- ---- tables keep the kinds of the goal
+abbrev HasNone : FrameTable → Type 0
+HasNone T = IsMadeFrame T × (has_placeholder T.kinds ≡ false)
+
+none-after : (T : FrameTable) (o : Option TableTrees) (U : FrameTable) → option_map (with_content T) o ≡ Some U → HasNone T → has_placeholder U.kinds ≡ false
+none-after T o U e h = ap (λ (V : FrameTable). has_placeholder V.kinds) (sym (with-content-is T o U e).2) ∙ h.1
+
+made : AreKept frame_tables IsBare IsMadeFrame
+made = made_kept frame_tables tables_are_lawful IsBare
+
 kept-tables : AreKept frame_tables IsBare HasNone
 kept-tables = record {
-  fresh = λ T kinds h. h;
-  equate = λ T U es e h. none-after T _ _ U e h;
-  recorded = λ T c h. h;
-  apply = λ T U n r e h. none-after T _ _ U e h;
+  fresh = λ T kinds h. (made.fresh T kinds h.0, h.1);
+  equate = λ T U es h e. (made.equate T U es h.0 e, none-after T _ U e h);
+  recorded = λ T c h. (made.recorded T c h.0, h.1);
+  apply = λ T U n r h e. (made.apply T U n r h.0 e, none-after T _ U e h);
 }
 
 -- ---- questions
@@ -67,8 +73,8 @@ no-kinds T h (infer of_lifetime v ∷ ls) e = no-kinds T h ls e.1
 no-kinds T h (param of_type v ∷ ls) e = absurd (false-true e.0)
 no-kinds T h (param of_const v ∷ ls) e = absurd (false-true e.0)
 no-kinds T h (param of_lifetime v ∷ ls) e = no-kinds T h ls e.1
-no-kinds T h (placeholder of_type v ∷ ls) e = absurd (place-kind T.kinds (no-placeholder T.kinds h) of_type v (left (good_in T (placeholder of_type v)) _ e.0) refl)
-no-kinds T h (placeholder of_const v ∷ ls) e = absurd (place-kind T.kinds (no-placeholder T.kinds h) of_const v (left (good_in T (placeholder of_const v)) _ e.0) refl)
+no-kinds T h (placeholder of_type v ∷ ls) e = absurd (place-kind T.kinds (no-placeholder T.kinds h.1) of_type v (left (good_in T (placeholder of_type v)) _ e.0) refl)
+no-kinds T h (placeholder of_const v ∷ ls) e = absurd (place-kind T.kinds (no-placeholder T.kinds h.1) of_const v (left (good_in T (placeholder of_const v)) _ e.0) refl)
 no-kinds T h (placeholder of_lifetime v ∷ ls) e = no-kinds T h ls e.1
 no-kinds T h (static ∷ ls) e = no-kinds T h ls e.1
 no-kinds T h (l ∷ ls) e = no-kinds T h ls e.1
@@ -77,7 +83,7 @@ bare-question : (n : Nested) → n.goal.environment ≡ none → AreSo frame_tab
 bare-question n e T h = (
   ap (λ z. relabeled kind_in_clause (canonical_label (goal_leaves (goal_in T n))) (resolved T.content.bindings (put_in (slot_at T.labels) z))) e
       ∙ ap (relabeled kind_in_clause (canonical_label (goal_leaves (goal_in T n)))) (resolved-none T.content.bindings),
-  no-kinds T h (goal_leaves (goal_in T n)) (goal-leaves T n),
+  no-kinds T h (goal_leaves (goal_in T n)) (goal-leaves T h.0 n),
 )
 
 -- ---- candidates
@@ -157,6 +163,6 @@ keep-worlds applicable same m Coherence f heard q came e x =
     let plan = plan_for applicable same start m Coherence (asked m.view f) in
     let only = plan-only applicable same start m (asked m.view f) (λ a is. asked-bare m f x.no_clauses a is) in
     let bare =
-    questions-so frame_tables IsBare HasNone kept-tables (solver_handled applicable same m Coherence f) x.no_placeholders
+    questions_so frame_tables IsBare HasNone kept-tables (solver_handled applicable same m Coherence f) (begin-made (kinds_known f.kinds), x.no_placeholders)
     (λ seen c is. wanted-only frame_tables AreBare (after frame_tables plan seen) c (after-only frame_tables AreBare plan seen only) is) heard q came e in
     (record { linked = x.linked; no_clauses = bare.0; no_placeholders = bare.1 }, λ g p. p)

@@ -1,6 +1,6 @@
 -- The goals that are decided: references with where-clauses over canonical variables.
 use Rattle.std.specs.Prelude.{Bool, true, false, ◌&&◌, ◌||◌, ◌==◌, not, List, [], ◌∷◌, Option, Some, None}
-use Rattle.model.specs.Label.{Label, of_type, of_trait, predicate, canonical, infer, param, placeholder}
+use Rattle.model.specs.Label.{Label, of_type, of_trait, predicate, canonical}
 use Rattle.model.specs.Trees.{Trees, none, tree, erase_label, is_sort, sort_of}
 use Rattle.model.specs.Worlds.{World, Reference}
 use Rattle.model.specs.Answers.{written_in, is_open}
@@ -11,7 +11,7 @@ use Rattle.infer_table.specs.Canonical.{CanonicalForm}
 use Rattle.infer_table.specs.declared.canonical.CanonicalVarKind.{CanonicalVarKind}
 use Rattle.infer_table.specs.declared.canonical.CanonicalVarKind.TheVariants.{Ty}
 use Rattle.table_laws.specs.Frames.{kind_at}
-use Rattle.table_laws.specs.Answers.{is_kind_of}
+use Rattle.evaluation_laws.specs.Variables.{is_variable_over}
 use Rattle.assembly_laws.specs.Facts.{clauses_of}
 
 -- a goal over variables of these kinds
@@ -33,14 +33,6 @@ with_first None ks = None
 abbrev pub all_known : List (Option CanonicalVarKind) → Option (List CanonicalVarKind)
 all_known [] = Some []
 all_known (o ∷ os) = with_first o (all_known os)
-
--- a variable of these kinds, or what is not open
-abbrev pub is_variable_over : List CanonicalVarKind → Label → Bool
-is_variable_over kinds (canonical s i) = is_kind_of s (kind_at kinds i)
-is_variable_over kinds (infer k v) = false
-is_variable_over kinds (param k v) = false
-is_variable_over kinds (placeholder k v) = false
-is_variable_over kinds l = true
 
 -- each clause has terms over these variables, and is none itself
 abbrev pub are_clauses : List CanonicalVarKind → Trees → Bool

@@ -16,7 +16,7 @@ use Rattle.evaluation.specs.Law.{Realizes}
 use Rattle.table_laws.specs.Instances.{read_with, goal_read, first_term, other_terms}
 use Rattle.table_laws.specs.Content.{Values, Fact, fits, given, trait_of, fact_of}
 use Rattle.table_laws.specs.Frames.{Nested, Equation, term_of, is_open_label}
-use Rattle.evaluation_laws.specs.Operations.{begin}
+use Rattle.table_laws.specs.Operations.{begin}
 use Rattle.evaluation_laws.specs.Tables.{frame_tables}
 use Rattle.assembly_laws.specs.Facts.{reference_in}
 use Rattle.assembly_laws.specs.Slots.{as_slots, with_slots}

@@ -10,8 +10,8 @@ use Rattle.evaluation.specs.Handler.{IsHandler}
 use Rattle.infer_table.specs.declared.certainty.Certainty.TheVariants.{Yes}
 use Rattle.table_laws.specs.Content.{Terms}
 use Rattle.table_laws.specs.Frames.{Allows, Meets, fact}
-use Rattle.evaluation_laws.specs.Operations.{begin}
-use Rattle.evaluation_laws.specs.Operations.{fresh}
+use Rattle.table_laws.specs.Operations.{begin}
+use Rattle.table_laws.specs.Operations.{fresh}
 use Rattle.evaluation_laws.specs.Tables.{frame_tables}
 use Rattle.evaluation.specs.Handler.{IsLawful}
 use Rattle.evaluation.specs.Merge.{IsTest, TellsApart}

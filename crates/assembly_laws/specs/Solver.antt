@@ -23,7 +23,7 @@ use Rattle.table_laws.specs.Content.{Fact, fact_of, trait_of}
 use Rattle.table_laws.specs.Frames.{kinds_known, FrameTable}
 use Rattle.table_laws.specs.Answers.{has_values}
 use Rattle.table_laws.specs.Widths.{width, count, number_of}
-use Rattle.evaluation_laws.specs.Operations.{begin}
+use Rattle.table_laws.specs.Operations.{begin}
 use Rattle.evaluation_laws.specs.Tables.{frame_tables}
 use Rattle.evaluation.specs.Plans.{Plan, Planned, planned, each_of, first_alone}
 use Rattle.evaluation.specs.PlanAnswers.{all_merged, kept_merged, first_taken}

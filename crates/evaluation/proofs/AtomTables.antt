@@ -112,10 +112,11 @@ pub atoms_are_lawful : IsTable atoms
 atoms_are_lawful = record {
   instance = λ table n x h. ap (λ v. (n.predicate, v)) (value-resolved table n.argument x h);
   made_of_own = λ table n free is x h. inl refl;
-  equate_narrows = λ table new es e x h. unify_all_narrows es table new x e h;
-  equate_meets = λ table new es e x h. unify_all_meets es table new x e h;
-  apply_narrows = λ table new n r e x h. put_narrows table n.argument r.value x (subst (λ t. AllowsValue t x) (sym (ap (some_or new) e)) h);
-  recorded_narrows = λ table regions x h. h;
+  fresh_made = λ table kinds m. tt;
+  equate_narrows = λ table new es m e. record { made = tt; allows = λ x h. unify_all_narrows es table new x e h };
+  equate_meets = λ table new es m e x h. unify_all_meets es table new x e h;
+  apply_narrows = λ table new n r m e. record { made = tt; allows = λ x h. put_narrows table n.argument r.value x (subst (λ t. AllowsValue t x) (sym (ap (some_or new) e)) h) };
+  recorded_narrows = λ table regions m. record { made = tt; allows = λ x h. h };
   apart = λ table x h. h;
   equate_keeps = λ table es x h m. let y = unify_all_keeps es table x h m in record { table = y.0; assignment = x; is = y.1; allows = y.2; extends = extends table y.0 x };
   apply_keeps = λ table n r x h k g. record {
@@ -128,9 +129,10 @@ atoms_are_lawful = record {
   recorded_keeps = λ table regions x h. record { table = table; assignment = x; is = refl; allows = h; extends = extends table table x };
   respond_keeps = λ table c x h. answer_keeps table c x h;
   respond_certainty = λ table c. answer_certainty table c;
-  respond_free = λ table e x. (x, free table x e, refl);
+  respond_free = λ table m e x. (x, free table x e, refl);
   respond_overflow = λ table. refl;
   agrees = λ r e x. free r.value x e;
+  within_made = λ n table h. tt;
   fresh_within = λ n table kinds h. tt;
   equate_within = λ n table new es h q e. tt;
   recorded_within = λ n table regions h. tt;

@@ -1,5 +1,5 @@
 -- What a lawful frame keeps, in its histories.
-use Rattle.std.proofs.Common.{◌≡◌, ℕ, suc, ◌*◌, List, [], ◌∷◌, inl, inr, refl, Option}
+use Rattle.std.proofs.Common.{◌≡◌, ℕ, suc, ◌*◌, ◌≤◌, List, [], ◌∷◌, inl, inr, refl, Option}
 use Rattle.evaluation.specs.declared.TheConstants.{FIXPOINT_STEP_LIMIT}
 use Rattle.evaluation.specs.Lists.{IsAmong, IsNoneOf}
 use Rattle.evaluation.specs.Table.{Tables, IsTable}
@@ -11,7 +11,8 @@ use Rattle.evaluation.specs.Promises.{frame_of_goal, Anything, Fair, DefiniteYes
 use Rattle.evaluation.proofs.ListLaws.{Every-mono, SomeOf-mono}
 use Rattle.evaluation.proofs.Frames.{FrameGains, FrameCovers, frame_gains, frame_covers, frame_ignores}
 use Rattle.evaluation.proofs.Costs.{frame_ends}
-use Rattle.evaluation.proofs.Numbers.{IsSmall, frame_stays}
+use Rattle.evaluation.proofs.Scripts.{FrameAsks}
+use Rattle.evaluation.proofs.Kept.{Invariant, IsKept, IsFrameSo, frame_so}
 use Rattle.evaluation.proofs.Histories.{oldest_first, at_the_end, ignores_once, at_a_question, no_longer, asks_so, answers_so}
 
 among-later : {A : Type 0} (x : A) (xs more : List A) → IsAmong x more → IsAmong x (oldest_first xs more)
@@ -66,8 +67,39 @@ module _ {Question Response : Type 0} (t : Tables Question Response) (laws : IsT
       at_the_end (Covers t (h.Proves w)) (FrameCovers t laws h handler FIXPOINT_STEP_LIMIT w) (frame_of_goal t h)
       (frame_covers t laws h handler FIXPOINT_STEP_LIMIT w (suc h.candidates) [] [] tt refl tt) heard a came e
 
+  -- ---- no question and no answer is wider than the handler allows
+  abbrev IsSmall : Question → Type 0
+  IsSmall q = t.number_of q ≤ h.widest
+
+  abbrev small : Invariant t
+  small = record { Tabled = t.TableWithin h.widest; Nested = t.NestedWithin h.widest; Asked = IsSmall; Heard = Fair t h; Responded = AnswerWithin t h.widest }
+
+  small_kept : IsKept t small
+  small_kept = record {
+    question = laws.question_within h.widest;
+    apply = λ T U n r u w f e. laws.apply_within h.widest T U n r u (f (laws.question_within h.widest T n u w)) e;
+    recorded = laws.recorded_within h.widest;
+    respond = laws.respond_within h.widest;
+    refused = tt;
+  }
+
+  frame_small : IsFrameSo t small small_kept h
+  frame_small = record {
+    begins = handler.begins_within;
+    each = λ seen c hist e.
+        let law = (handler.candidate seen c hist e).lawful in
+        record {
+          equated = λ U is. laws.equate_within h.widest (t.fresh h.begin c.kinds) U c.equations (laws.fresh_within h.widest h.begin c.kinds handler.begins_within) law.equations_within is;
+          nested = law.nested_within;
+        };
+    ends = λ seen a ignored hist e d. (handler.answer seen a ignored hist e).within d;
+  }
+
+  frame_stays : FrameAsks IsSmall (Fair t h) (AnswerWithin t h.widest) [] (frame_of_goal t h)
+  frame_stays = frame_so t small small_kept h frame_small FIXPOINT_STEP_LIMIT (suc h.candidates) [] tt tt
+
   pub keeps_number : KeepsNumber t h
   keeps_number = record {
-    questions = λ heard q came e. asks_so (Fair t h) (IsSmall t laws h.widest) (AnswerWithin t h.widest) (frame_of_goal t h) (frame_stays t laws h handler FIXPOINT_STEP_LIMIT (suc h.candidates) [] tt tt) heard q came e;
-    answer = λ heard a came e. answers_so (Fair t h) (IsSmall t laws h.widest) (AnswerWithin t h.widest) (frame_of_goal t h) (frame_stays t laws h handler FIXPOINT_STEP_LIMIT (suc h.candidates) [] tt tt) heard a came e;
+    questions = λ heard q came e. asks_so (Fair t h) IsSmall (AnswerWithin t h.widest) (frame_of_goal t h) frame_stays heard q came e;
+    answer = λ heard a came e. answers_so (Fair t h) IsSmall (AnswerWithin t h.widest) (frame_of_goal t h) frame_stays heard a came e;
   }

@@ -12,7 +12,7 @@ use Rattle.evaluation.specs.Handler.{Handled, IsHandler, FollowsFrom}
 use Rattle.evaluation.specs.Promises.{Anything}
 use Rattle.evaluation.proofs.ListLaws.{Every-mono, Every-at, Every-among, Every-map, SomeOf-both, SomeOf-found, SomeOf-at}
 use Rattle.evaluation.proofs.Scripts.{FrameLeads, Leads-mono, Leads-any}
-use Rattle.evaluation.proofs.Gains.{yes_response, CandidateGains, candidate_gains}
+use Rattle.evaluation.proofs.Gains.{yes_certain, CandidateGains, candidate_gains}
 use Rattle.evaluation.proofs.Keeps.{candidate_keeps}
 
 module _ {Question Response : Type 0} (t : Tables Question Response) (h : Handled t) where
@@ -115,11 +115,11 @@ module _ {Question Response : Type 0} (t : Tables Question Response) (laws : IsT
       (λ replies a. (n : ℕ) → IsNoneOf n (numbers heard) → FrameLeads (Anything t h) FrameGains ((n, replies) ∷ heard) (frame (workings t) limit h.begin h.next fuel (record { spec = c; response = a; number = n } ∷ seen)))
       (λ replies a g n new. rest (record { spec = c; response = a; number = n } ∷ seen) ((n, replies) ∷ heard) (e, new_number t h n seen heard m new, hist) (ap (λ ns. n ∷ ns) m)
       (backed seen c hist e heard replies a n g, Every-mono (Backed heard) (Backed ((n, replies) ∷ heard)) (λ b f y. inr (f y)) seen d))
-      [] (candidate (workings t) limit h.begin c) (candidate_gains t laws (Anything t h) limit h.begin c (handler.candidate seen c hist e).lawful.determined)
+      [] (candidate (workings t) limit h.begin c) (candidate_gains t laws (Anything t h) limit h.begin c (laws.within_made h.widest h.begin handler.begins_within) (handler.candidate seen c hist e).lawful.determined)
 
   -- no answer was found
   unsure_no : IsYes t (Some (t.respond h.begin (Maybe Ambiguity))) → ⊥
-  unsure_no y = let x = yes_response t laws h.begin (Maybe Ambiguity) y in let no : Maybe Ambiguity ≡ Yes = x.0 in cc
+  unsure_no y = let no : Maybe Ambiguity ≡ Yes = yes_certain t laws h.begin (Maybe Ambiguity) y in cc
 
   pub frame_gains : (fuel : ℕ) → Gaining fuel
   frame_gains zero seen heard hist m d = λ y. absurd (unsure_no y)

@@ -3,12 +3,12 @@ pub mod Scripts
 pub mod Gains
 pub mod Keeps
 pub mod Costs
-pub mod Numbers
 pub mod Frames
 pub mod Merges
 pub mod Plans
 pub mod PlanAnswers
 pub mod Histories
+pub mod Kept
 pub mod Ends
 pub mod Correspondences
 pub mod Unfold

@@ -8,7 +8,7 @@ use Rattle.evaluation.specs.Operations.{is_yes}
 use Rattle.evaluation.specs.Table.{Tables, operations, IsTable}
 use Rattle.evaluation.specs.Merge.{TellsApart, IsTest, is_always_applicable, common, or_else, merge_by, flounder, merge_or_flounder, IsMerge}
 use Rattle.evaluation.proofs.ListLaws.{Every-at, both-left, both-right, not-true}
-use Rattle.evaluation.proofs.Gains.{yes_response, unsettled_no}
+use Rattle.evaluation.proofs.Gains.{yes_certain, unsettled_no}
 
 pub always_is_test : {Question Response : Type 0} (t : Tables Question Response) → IsTest t (is_always_applicable t)
 always_is_test t r a = both-left (is_yes (operations t) r) (not (t.has_regions r)) a
@@ -83,7 +83,7 @@ module _ {Question Response : Type 0} (t : Tables Question Response) (laws : IsT
   floundered (r ∷ rs) =
       let c = all_joined (map t.certainty (r ∷ rs)) in
       record {
-        yes = λ y. absurd (unsettled_no c (yes_response t laws begin (unsettled c) y).0);
+        yes = λ y. absurd (unsettled_no c (yes_certain t laws begin (unsettled c) y));
         covers = λ v s. laws.agrees (t.respond begin (unsettled c)) (says_nothing (unsettled c)) v;
         within = λ n b w. laws.respond_within n begin (unsettled c) b;
       }

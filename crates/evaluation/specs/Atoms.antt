@@ -82,6 +82,7 @@ atoms = record {
   Equation = Argument × Argument;
   Kinds = Unit {0};
   Regions = Unit {0};
+  Made = λ table. Unit {0};
   Allows = AllowsValue;
   AllowsApart = AllowsValue;
   Knows = λ table n. Unit {0};

@@ -19,6 +19,8 @@ pub record Tables (Question Response : Type 0) : Type 1 where
   pub Equation : Type 0
   pub Kinds : Type 0
   pub Regions : Type 0
+  -- it is made as tables are; no other table allows anything
+  pub Made : Table → Type 0
   pub Allows : Table → Assignment → Type 0
   -- it is allowed, and different placeholders stand for different terms
   pub AllowsApart : Table → Assignment → Type 0
@@ -51,8 +53,9 @@ pub record Tables (Question Response : Type 0) : Type 1 where
   -- how wide the terms of a question and the values of a response are
   pub number_of : Question → ℕ
   pub number_in : Response → ℕ
-  -- no term is wider
+  -- it is made as tables are, and no term is wider
   pub TableWithin : ℕ → Table → Type 0
+  -- no term is wider
   pub NestedWithin : ℕ → Nested → Type 0
   pub EquationWithin : ℕ → Equation → Type 0
 
@@ -83,9 +86,10 @@ module _ {Question Response : Type 0} (t : Tables Question Response) where
         respond = t.respond;
       }
 
-  -- the second table allows no more than the first
-  abbrev pub Narrows : t.Table → t.Table → Type 0
-  Narrows T U = (s : t.Assignment) → t.Allows U s → t.Allows T s
+  -- the second table is made as tables are, and allows no more than the first
+  pub record Narrows (T U : t.Table) : Type 0 where
+    pub made : t.Made U
+    pub allows : (s : t.Assignment) → t.Allows U s → t.Allows T s
 
   -- the variables with which the table began can have all values
   abbrev pub IsFree : t.Table → Type 0
@@ -115,10 +119,11 @@ module _ {Question Response : Type 0} (t : Tables Question Response) where
     -- where its own variables are free, a table knows of a nested goal that they determine nothing but their values
     pub made_of_own : (T : t.Table) (n : t.Nested) → IsFree T → IsDetermined T n → (s : t.Assignment) → t.Allows T s → IsAmong (t.at T n s) (t.made_of (t.question T n) (t.own s))
     -- nothing is gained
-    pub equate_narrows : (T U : t.Table) (es : List t.Equation) → t.equate T es ≡ Some U → Narrows T U
-    pub equate_meets : (T U : t.Table) (es : List t.Equation) → t.equate T es ≡ Some U → (s : t.Assignment) → t.Allows U s → Every (λ e. t.Meets e s) es
-    pub apply_narrows : (T U : t.Table) (n : t.Nested) (r : Response) → t.apply T n r ≡ Some U → Narrows T U
-    pub recorded_narrows : (T : t.Table) (c : t.Regions) → Narrows T (t.recorded T c)
+    pub fresh_made : (T : t.Table) (kinds : t.Kinds) → t.Made T → t.Made (t.fresh T kinds)
+    pub equate_narrows : (T U : t.Table) (es : List t.Equation) → t.Made T → t.equate T es ≡ Some U → Narrows T U
+    pub equate_meets : (T U : t.Table) (es : List t.Equation) → t.Made T → t.equate T es ≡ Some U → (s : t.Assignment) → t.Allows U s → Every (λ e. t.Meets e s) es
+    pub apply_narrows : (T U : t.Table) (n : t.Nested) (r : Response) → t.Made T → t.apply T n r ≡ Some U → Narrows T U
+    pub recorded_narrows : (T : t.Table) (c : t.Regions) → t.Made T → Narrows T (t.recorded T c)
     -- nothing is lost that tells placeholders apart
     pub apart : (T : t.Table) (s : t.Assignment) → t.AllowsApart T s → t.Allows T s
     pub equate_keeps : (T : t.Table) (es : List t.Equation) (s : t.Assignment) → t.AllowsApart T s → Every (λ e. t.Meets e s) es → Goes T s (t.equate T es)
@@ -127,11 +132,12 @@ module _ {Question Response : Type 0} (t : Tables Question Response) where
     pub respond_keeps : (T : t.Table) (c : Certainty) (s : t.Assignment) → t.AllowsApart T s → t.Agrees (t.respond T c) (t.own s)
     -- a response is as sure as is said; a yes without values leaves the own variables free; an overflow carries no values
     pub respond_certainty : (T : t.Table) (c : Certainty) → t.certainty (t.respond T c) ≡ c
-    pub respond_free : (T : t.Table) → t.has_values (t.respond T Yes) ≡ false → IsFree T
+    pub respond_free : (T : t.Table) → t.Made T → t.has_values (t.respond T Yes) ≡ false → IsFree T
     pub respond_overflow : (T : t.Table) → t.has_values (t.respond T (Maybe Overflow)) ≡ false
     -- a response without values agrees with all values
     pub agrees : (r : Response) → t.has_values r ≡ false → (v : t.Values) → t.Agrees r v
     -- nothing makes greater terms than were put in
+    pub within_made : (n : ℕ) (T : t.Table) → t.TableWithin n T → t.Made T
     pub fresh_within : (n : ℕ) (T : t.Table) (kinds : t.Kinds) → t.TableWithin n T → t.TableWithin n (t.fresh T kinds)
     pub equate_within : (n : ℕ) (T U : t.Table) (es : List t.Equation) → t.TableWithin n T → Every (t.EquationWithin n) es → t.equate T es ≡ Some U → t.TableWithin n U
     pub recorded_within : (n : ℕ) (T : t.Table) (c : t.Regions) → t.TableWithin n T → t.TableWithin n (t.recorded T c)

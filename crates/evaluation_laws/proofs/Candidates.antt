@@ -22,10 +22,12 @@ use Rattle.evaluation.specs.Correspondences.{RoundsEnd}
 use Rattle.evaluation.proofs.Correspondences.{Alike, alike_followed, alike_runs, rounds_alike}
 use Rattle.table_laws.specs.Content as Asked
 use Rattle.table_laws.specs.Instances.{put_in, goal_put_in}
-use Rattle.table_laws.specs.Frames.{FrameTable, IsMadeFrame, Nested, Equation, slot_at, pair_in, in_turn, labels_from, first_content, frame_if, pairs_in, labels_for}
+use Rattle.table_laws.specs.Frames.{FrameTable, IsMadeFrame, Nested, Equation, slot_at, pair_in, in_turn, labels_from, first_content, pairs_in, labels_for}
 use Rattle.table_laws.specs.Answers.{leaf_value, own_labels}
-use Rattle.evaluation_laws.specs.Operations.{begin, equate, fresh, recorded}
-use Rattle.table_laws.proofs.Equating.{made-in-turn, some-is}
+use Rattle.table_laws.specs.Operations.{begin, equate, fresh, recorded, with_content}
+use Rattle.table_laws.proofs.Equating.{made-in-turn, none-some, some-is}
+use Rattle.table_laws.proofs.Beginning.{begin-made}
+use Rattle.table_laws.proofs.Fresh.{fresh-made, recorded-made}
 use Rattle.evaluation_laws.specs.Tables.{frame_tables}
 use Rattle.evaluation.specs.Evaluating.{Question, NestedTrees, evaluation}
 use Rattle.evaluation.specs.OwnAnswers.{answer_of}
@@ -38,9 +40,6 @@ use Rattle.evaluation_laws.proofs.Filling.{filled-is, goal-filled-is, side-is}
 use Rattle.evaluation_laws.proofs.Rounds.{rounds-are-one}
 use Rattle.evaluation_laws.proofs.Beginnings.{own-values-are, first-content-is, unknowns-are, unknown-table-is, map-append, turns-are, own-stay}
 use Rattle.evaluation_laws.proofs.Responding.{respond-is}
-
-none-some : {A : Type 0} (x : A) (T : Type 0) → None ≡ Some x → T
-none-some x T e = absurd (cc)
 
 some-none : {A : Type 0} (x : A) (T : Type 0) → Some x ≡ None → T
 some-none x T e = absurd (cc)
@@ -113,7 +112,7 @@ module _ (mode : TypingMode) (coinductive : Bool) (kinds own : List CanonicalVar
 
   answer-is : (t : FrameTable) (u : TableTrees) (c : Certainty) → AreOneTable mode coinductive kinds labels t u → (workings frame_tables).respond t c ≡ answer_of kinds (own_values kinds) u c
   answer-is t u c h =
-      respond-is t c
+      respond-is t h.made c
       ∙ ap (λ ks. answer_of ks (map leaf_value (own_labels ks t.labels)) t.content c) h.kinds_are
       ∙ ap (λ ls. answer_of kinds (map leaf_value (own_labels kinds ls)) t.content c) h.labels_are
       ∙ ap (λ w. answer_of kinds (map leaf_value (own_labels kinds labels)) w c) h.content_is
@@ -148,6 +147,7 @@ module _ (mode : TypingMode) (coinductive : Bool) (kinds own : List CanonicalVar
         (rounds_alike (operations frame_tables) (evaluation mode) (in_rounds mode coinductive kinds labels) (rounds-are-one mode coinductive kinds labels) FIXPOINT_STEP_LIMIT
         x.nested (map (nested_filled code.values) y.nested) (goals-are x.nested y.nested nested) (recorded t x.regions) (with_constraints (filled code.values y.constraints) u)
         (record {
+          made = recorded-made t h.made x.regions;
           kinds_are = h.kinds_are;
           labels_are = h.labels_are;
           content_is =
@@ -158,16 +158,16 @@ module _ (mode : TypingMode) (coinductive : Bool) (kinds own : List CanonicalVar
               ∙ ap (with_constraints (filled code.values y.constraints)) h.content_is;
         }))
 
-    equated-alike : (o : Option TableTrees) (f : (u : TableTrees) → o ≡ Some u → IsMadeFrame table.kinds table.labels u) (p : Option TableTrees) → o ≡ p
-        → Same (Frames.equated (workings frame_tables) FIXPOINT_STEP_LIMIT x (frame_if table o f)) (equated mode y (option_map (λ u. record code { table = u }) p))
-    equated-alike None f None e = refl
-    equated-alike (Some u) f (Some v) e = asked-alike (record { kinds = table.kinds; labels = table.labels; content = u; made = f u refl }) v (record { kinds_are = refl; labels_are = refl; content_is = some-is u v e })
-    equated-alike None f (Some v) e = none-some v _ e
-    equated-alike (Some u) f None e = some-none u _ e
+    equated-alike : (o p : Option TableTrees) → ((u : TableTrees) → o ≡ Some u → IsMadeFrame (with_content table u)) → o ≡ p
+        → Same (Frames.equated (workings frame_tables) FIXPOINT_STEP_LIMIT x (option_map (with_content table) o)) (equated mode y (option_map (λ u. record code { table = u }) p))
+    equated-alike None None f e = refl
+    equated-alike (Some u) (Some v) f e = asked-alike (with_content table u) v (record { made = f u refl; kinds_are = refl; labels_are = refl; content_is = some-is u v e })
+    equated-alike None (Some v) f e = none-some v _ e
+    equated-alike (Some u) None f e = some-none u _ e
 
     candidate-alike : Same (Frames.equated (workings frame_tables) FIXPOINT_STEP_LIMIT x (equate table x.equations)) (candidate mode (begun kinds) (record y { kinds = own }))
     candidate-alike =
-        equated-alike (in_turn (pairs_in table x.equations) table.content) (made-in-turn table x.equations) (solved code.table (map (pair_filled code.values) y.equations)) (solved-is x.equations y.equations equations)
+        equated-alike (in_turn (pairs_in table x.equations) table.content) (solved code.table (map (pair_filled code.values) y.equations)) (made-in-turn table (fresh-made (begin kinds) (begin-made kinds) own) x.equations) (solved-is x.equations y.equations equations)
 
 pub candidates-are-one : CandidatesAreOne
 candidates-are-one mode coinductive kinds x y answers others h answered =

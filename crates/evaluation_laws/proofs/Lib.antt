@@ -6,3 +6,6 @@ pub mod Rounds
 pub mod Beginnings
 pub mod Responding
 pub mod Candidates
+pub mod Readings
+pub mod Slots
+pub mod Unplaced

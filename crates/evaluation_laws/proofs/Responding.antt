@@ -12,7 +12,7 @@ use Rattle.infer_table.proofs.SolutionLaws.{resolved-append, resolved-none}
 use Rattle.infer_table.specs.Values.{Value}
 use Rattle.infer_table.specs.Applied.{trees_of}
 use Rattle.infer_table.specs.Responses.{AnswerTrees}
-use Rattle.table_laws.specs.Frames.{FrameTable}
+use Rattle.table_laws.specs.Frames.{FrameTable, IsMadeFrame}
 use Rattle.table_laws.specs.Answers.{own_labels, own_values, joined, answer_leaves, numbered, value_numbered, with_kind, kinds_of, respond, leaf_value}
 use Rattle.table_laws.proofs.Whole.{IsOne}
 use Rattle.table_laws.proofs.Free.{resolved-one}
@@ -53,22 +53,22 @@ first-value ls k x rest i =
     ∙ ap (λ (z : Sort). record { sort = z; trees = relabeled kind_of_leaf (canonical_label ls) (tree i.label i.children none) } ∷ values_in rest) (label-sort ls i.label (is_some (kind_of_leaf i.label)) ∙ i.sort)
     ∙ ap (λ z. record { sort = k; trees = relabeled kind_of_leaf (canonical_label ls) z } ∷ values_in rest) (sym i.is)
 
-values-are : (t : FrameTable) (ls own : List Label)
+values-are : (t : FrameTable) → IsMadeFrame t → (ls own : List Label)
     → values_in (relabeled kind_of_leaf (canonical_label ls) (joined (map (λ l. resolved t.content.bindings (leaf l)) own)))
     ≡ map (λ (l : Label). record { sort = sort_of l; trees = relabeled kind_of_leaf (canonical_label ls) (resolved t.content.bindings (leaf l)) }) own
-values-are t ls [] = refl
-values-are t ls (l ∷ own) =
+values-are t made ls [] = refl
+values-are t made ls (l ∷ own) =
     ap values_in (relabeled-append kind_of_leaf (canonical_label ls) (resolved t.content.bindings (leaf l)) (joined (map (λ m. resolved t.content.bindings (leaf m)) own)))
     ∙ first-value ls (sort_of l) (resolved t.content.bindings (leaf l)) (relabeled kind_of_leaf (canonical_label ls) (joined (map (λ m. resolved t.content.bindings (leaf m)) own)))
-    (resolved-one _ t.content.bindings t.made.table.values (leaf l) refl)
-    ∙ ap (λ z. record { sort = sort_of l; trees = relabeled kind_of_leaf (canonical_label ls) (resolved t.content.bindings (leaf l)) } ∷ z) (values-are t ls own)
+    (resolved-one _ t.content.bindings made.table.values (leaf l) refl)
+    ∙ ap (λ z. record { sort = sort_of l; trees = relabeled kind_of_leaf (canonical_label ls) (resolved t.content.bindings (leaf l)) } ∷ z) (values-are t made ls own)
 
 -- ---- the answer
 answer-same : (c : Certainty) (a b : List CanonicalVarKind) (v w : List Value) (x y : Trees) → a ≡ b → v ≡ w → x ≡ y
     → ◌≡◌ {A = AnswerTrees} (record { kinds = a; certainty = c; values = v; constraints = x }) (record { kinds = b; certainty = c; values = w; constraints = y })
 answer-same c a b v w x y p q r = cc
 
-module _ (t : FrameTable) where
+module _ (t : FrameTable) (made : IsMadeFrame t) where
   abbrev own : List Value
   own = map leaf_value (own_labels t.kinds t.labels)
 
@@ -90,7 +90,7 @@ module _ (t : FrameTable) where
   known-is c =
       answer-same c _ _ _ _ _ _
       (sym (kinds-are (answer_leaves t)) ∙ ap (λ ls. kinds_in (map kind_of_leaf ls)) (sym leaves-are))
-      (sym (values-are t (answer_leaves t) (own_labels t.kinds t.labels))
+      (sym (values-are t made (answer_leaves t) (own_labels t.kinds t.labels))
       ∙ ap (λ z. values_in (relabeled kind_of_leaf (canonical_label (answer_leaves t)) z)) (sym (values-joined t.content.bindings (own_labels t.kinds t.labels)))
       ∙ ap (λ ls. values_in (relabeled kind_of_leaf (canonical_label ls) (resolved t.content.bindings (trees_of own)))) (sym leaves-are))
       (ap (λ ls. relabeled kind_of_leaf (canonical_label ls) (resolved t.content.bindings t.content.constraints)) (sym leaves-are))

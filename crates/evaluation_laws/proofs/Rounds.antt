@@ -1,5 +1,6 @@
 -- What rounds do with a table of a frame is what an evaluation does with its content.
 use Rattle.std.proofs.Common.{◌≡◌, Bool, not, List, refl, ◌∙◌, ap, Option, Some, None}
+use Rattle.std.specs.Prelude.{option_map}
 use Rattle.model.specs.Label.{Label}
 use Rattle.infer_table.specs.Canonical.{canonical_form}
 use Rattle.infer_table.specs.Unification.{TableTrees}
@@ -12,7 +13,8 @@ use Rattle.evaluation.specs.Table.{operations}
 use Rattle.evaluation.proofs.Correspondences.{rounds_correspond}
 use Rattle.evaluation.specs.Responses.{is_identity_modulo_regions}
 use Rattle.table_laws.specs.Instances.{goal_put_in}
-use Rattle.table_laws.specs.Frames.{FrameTable, IsMadeFrame, Nested, slot_at, goal_in, frame_if}
+use Rattle.table_laws.specs.Frames.{FrameTable, IsMadeFrame, Nested, slot_at, goal_in}
+use Rattle.table_laws.specs.Operations.{with_content}
 use Rattle.table_laws.specs.Answers as Frames
 use Rattle.table_laws.specs.Answers.{IsWellFormed, originals_of}
 use Rattle.table_laws.proofs.Equating.{some-is}
@@ -24,12 +26,12 @@ use Rattle.evaluation_laws.proofs.Filling.{put-alike, same-values}
 
 module _ (mode : TypingMode) (coinductive : Bool) (kinds : List CanonicalVarKind) (labels : List Label) where
   -- the frame that is left has the content that is left
-  frames-alike : (t : FrameTable) (o : Option TableTrees) (f : (u : TableTrees) → o ≡ Some u → IsMadeFrame t.kinds t.labels u) (x : Option TableTrees) → t.kinds ≡ kinds → t.labels ≡ labels → o ≡ x
-      → OnBoth (AreOneTable mode coinductive kinds labels) (frame_if t o f) x
-  frames-alike t None f None k l e = tt
-  frames-alike t (Some u) f (Some x) k l e = record { kinds_are = k; labels_are = l; content_is = some-is u x e }
-  frames-alike t None f (Some x) k l e = absurd (cc)
-  frames-alike t (Some u) f None k l e = absurd (cc)
+  frames-alike : (t : FrameTable) (o x : Option TableTrees) → ((u : TableTrees) → o ≡ Some u → IsMadeFrame (with_content t u)) → t.kinds ≡ kinds → t.labels ≡ labels → o ≡ x
+      → OnBoth (AreOneTable mode coinductive kinds labels) (option_map (with_content t) o) x
+  frames-alike t None None f k l e = tt
+  frames-alike t (Some u) (Some x) f k l e = record { made = f u refl; kinds_are = k; labels_are = l; content_is = some-is u x e }
+  frames-alike t None (Some x) f k l e = absurd (cc)
+  frames-alike t (Some u) None f k l e = absurd (cc)
 
   goal-is : (t : FrameTable) (u : TableTrees) (n : Nested) (m : NestedTrees) → AreOneTable mode coinductive kinds labels t u → AreOneGoal mode coinductive kinds labels n m → goal_in t n ≡ goal_resolved u.bindings m.goal
   goal-is t u n m h g =
@@ -49,7 +51,7 @@ pub rounds-are-one : RoundsAreOne
 rounds-are-one mode coinductive kinds labels = record {
   question = λ t u n m h g. record { mode_is = refl; form_is = ap canonical_form (goal-is mode coinductive kinds labels t u n m h g); step_is = g.step_is };
   apply = λ t u n m a b h g x.
-      frames-alike mode coinductive kinds labels t (Frames.put_into t.content (originals_of t n) a) (put-made t n a) (put_into u (goal_values (goal_resolved u.bindings m.goal)) b) h.kinds_are h.labels_are
+      frames-alike mode coinductive kinds labels t (Frames.put_into t.content (originals_of t n) a) (put_into u (goal_values (goal_resolved u.bindings m.goal)) b) (put-made t h.made n a) h.kinds_are h.labels_are
       (applies-alike mode coinductive kinds labels t u n m a b h g x.is x.fits);
   certainty = λ q a b x. ap (λ (z : AnswerTrees). z.certainty) x.is;
   has_values = λ q a b x. same-values a x.fits ∙ ap (λ (z : AnswerTrees). not (is_identity_modulo_regions 0 z.values)) x.is;

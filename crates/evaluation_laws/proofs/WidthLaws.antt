@@ -1,5 +1,5 @@
 -- The questions and the answers of a frame's table are no wider than what was put in, nor is what equations and answers leave.
-use Rattle.std.proofs.Common.{◌≡◌, ℕ, ◌+◌, ◌≤◌, arith, Bool, true, false, ◌&&◌, if◌then◌else◌, List, [], ◌∷◌, map, Option, Some, None, refl, sym, ap, subst, ◌⊎◌, inl, inr}
+use Rattle.std.proofs.Common.{◌≡◌, ℕ, ◌+◌, ◌≤◌, arith, Bool, true, false, ◌&&◌, if◌then◌else◌, List, [], ◌∷◌, map, Some, sym, subst, ◌⊎◌, inl, inr}
 use Rattle.model.specs.Label.{Label, of_type, of_const, of_lifetime, infer, param, placeholder, canonical, bound, static}
 use Rattle.model.specs.Trees.{Trees, leaf, sort_of, is_a}
 use Rattle.infer_table.specs.Canonical.{OpenKinds, kind_of_leaf, kind_in_clause, relabeled, canonical_label, goal_leaves}
@@ -17,11 +17,12 @@ use Rattle.evaluation.specs.Lists.{Every}
 use Rattle.table_laws.specs.Instances.{put_in, default_label}
 use Rattle.type_terms.specs.Made.{terms, is_made}
 use Rattle.table_laws.specs.Equations.{IsValue}
-use Rattle.table_laws.specs.Frames.{FrameTable, IsMadeFrame, Nested, slot_at, goal_in, question, Equation, is_open_label, term_of, in_turn, frame_if, pairs_in, unknown}
+use Rattle.table_laws.specs.Frames.{FrameTable, Nested, slot_at, goal_in, question, Equation, is_open_label, term_of, in_turn, pairs_in, unknown}
 use Rattle.table_laws.specs.Answers.{own_labels, answer_leaves, respond, is_fitting_answer, put_into, originals_of}
 use Rattle.table_laws.specs.Widths.{width, width_of_predicates, number_of, number_of_values, BindingsWithin, TableWithin, NestedWithin, EquationWithin}
-use Rattle.table_laws.proofs.Equating.{made-in-turn}
-use Rattle.evaluation_laws.specs.Operations.{equate, apply, fresh, recorded}
+use Rattle.table_laws.proofs.Equating.{made-in-turn, with-content-is}
+use Rattle.table_laws.proofs.Fresh.{fresh-made, recorded-made}
+use Rattle.table_laws.specs.Operations.{equate, apply, fresh, recorded}
 use Rattle.table_laws.proofs.Applying.{for-bindings, put-cases, put-made}
 use Rattle.table_laws.proofs.Widths.{AllOneValues, leaf-values-one, applied-within, IsWithin, within, width-within, single-count, leaf-one, AllOne, within-resolved, IsOneIf, within-put, MakesNoBounds, within-relabeled, predicates-within, width-of-predicates, predicates-resolved, predicates-put, predicates-relabeled, PairsWithin, in-turn-within}
 
@@ -32,7 +33,7 @@ values-one n good (b ∷ bs) v h = (record { one = single-count b.value v.0.sing
 
 -- the values of a table are single terms
 pub table-one : (n : ℕ) (t : FrameTable) → TableWithin n t → AllOne n t.content.bindings
-table-one n t h = values-one n _ t.content.bindings t.made.table.values h
+table-one n t h = values-one n _ t.content.bindings h.made.table.values h.values
 
 -- what stands for a canonical variable is a leaf
 slot-one : (n : ℕ) (ls : List Label) (l : Label) → IsOneIf n (slot_at ls l)
@@ -79,21 +80,10 @@ pairs-within : (n : ℕ) (t : FrameTable) (es : List Equation) → Every (Equati
 pairs-within n t [] h = tt
 pairs-within n t (e ∷ es) h = ((put-within n t.labels (term_of e.left) (term-within n e.left h.0.0), put-within n t.labels (term_of e.right) (term-within n e.right h.0.1)), pairs-within n t es h.1)
 
-abbrev content_or : TableTrees → Option FrameTable → TableTrees
-content_or c None = c
-content_or c (Some u) = u.content
-
--- what a table that was not refused holds
-pub content-of : (t : FrameTable) (o : Option TableTrees) (f : (u : TableTrees) → o ≡ Some u → IsMadeFrame t.kinds t.labels u) (u : FrameTable) → frame_if t o f ≡ Some u → o ≡ Some u.content
-content-of t None f u e = absurd (cc)
-content-of t (Some c) f u e = ap Some (is e)
-  where
-    is : Some (record { kinds = t.kinds; labels = t.labels; content = c; made = f c refl }) ≡ Some u → c ≡ u.content
-    is e = ap (content_or c) e
-
 pub equate_within : (n : ℕ) (t u : FrameTable) (es : List Equation) → TableWithin n t → Every (EquationWithin n) es → equate t es ≡ Some u → TableWithin n u
 equate_within n t u es h g e =
-    in-turn-within n t.content (pairs_in t es) u.content h (pairs-within n t es g) (content-of t (in_turn (pairs_in t es) t.content) (made-in-turn t es) u e)
+    let x = with-content-is t (in_turn (pairs_in t es) t.content) u e in
+    subst (TableWithin n) x.2 (record { made = made-in-turn t h.made es x.0 x.1; values = in-turn-within n t.content (pairs_in t es) x.0 h.values (pairs-within n t es g) x.1 })
 
 -- ---- answers
 pub resolved-number : (n : ℕ) (t : FrameTable) (all ls : List Label) → TableWithin n t
@@ -124,12 +114,15 @@ put-into-within n t originals a u h g r e = by (put-cases t originals a u e)
 
 pub apply_within : (n : ℕ) (t u : FrameTable) (g : Nested) (a : AnswerTrees) → TableWithin n t → number_of_values a.values ≤ n → apply t g a ≡ Some u → TableWithin n u
 apply_within n t u g a h r e =
-    put-into-within n t.content (originals_of t g) a u.content h (leaf-values-one n (goal_leaves (goal_in t g))) r
-    (content-of t (put_into t.content (originals_of t g) a) (put-made t g a) u e)
+    let x = with-content-is t (put_into t.content (originals_of t g) a) u e in
+    subst (TableWithin n) x.2 (record {
+      made = put-made t h.made g a x.0 x.1;
+      values = put-into-within n t.content (originals_of t g) a x.0 h.values (leaf-values-one n (goal_leaves (goal_in t g))) r x.1;
+    })
 
 -- ---- new unknowns and constraints
 pub fresh_within : (n : ℕ) (t : FrameTable) (ks : List CanonicalVarKind) → TableWithin n t → TableWithin n (fresh t ks)
-fresh_within n t ks h = subst (BindingsWithin n) (sym (for-bindings unknown t.content 0 ks)) h
+fresh_within n t ks h = record { made = fresh-made t h.made ks; values = subst (BindingsWithin n) (sym (for-bindings unknown t.content 0 ks)) h.values }
 
 pub recorded_within : (n : ℕ) (t : FrameTable) (c : Trees) → TableWithin n t → TableWithin n (recorded t c)
-recorded_within n t c h = h
+recorded_within n t c h = record { made = recorded-made t h.made c; values = h.values }

@@ -14,7 +14,7 @@ use Rattle.evaluation.specs.Readings.{is_coinductive_step}
 use Rattle.evaluation.specs.Replays.{run}
 use Rattle.evaluation.specs.Correspondences.{AreAnswers, Runs}
 use Rattle.table_laws.specs.Frames.{Nested, Equation}
-use Rattle.evaluation_laws.specs.Operations.{begin, fresh}
+use Rattle.table_laws.specs.Operations.{begin, fresh}
 use Rattle.evaluation_laws.specs.Tables.{frame_tables}
 use Rattle.evaluation.specs.Evaluating.{NestedTrees, evaluation}
 use Rattle.evaluation.specs.Frames.{begun}

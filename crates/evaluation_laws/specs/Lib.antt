@@ -1,6 +1,6 @@
-pub mod Operations
 pub mod Tables
 pub mod Answers
 pub mod Fitting
+pub mod Variables
 pub mod Rounds
 pub mod Candidates

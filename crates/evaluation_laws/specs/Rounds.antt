@@ -10,15 +10,16 @@ use Rattle.evaluation.specs.Readings.{is_coinductive_step}
 use Rattle.evaluation.specs.Correspondences.{Correspondence, IsCorrespondence, RoundsCorrespond}
 use Rattle.table_laws.specs.Instances.{goal_put_in}
 use Rattle.table_laws.specs.Content as Frames
-use Rattle.table_laws.specs.Frames.{FrameTable, Nested, slot_at}
+use Rattle.table_laws.specs.Frames.{FrameTable, IsMadeFrame, Nested, slot_at}
 use Rattle.table_laws.specs.Answers.{IsWellFormed}
 use Rattle.evaluation_laws.specs.Tables.{frame_tables}
 use Rattle.evaluation.specs.Evaluating.{Question, NestedTrees, evaluation}
 
 -- in this mode, for a goal whose trait is coinductive or not, in tables of these kinds and labels
 module _ (mode : TypingMode) (coinductive : Bool) (kinds : List CanonicalVarKind) (labels : List Label) where
-  -- the table of a frame has this content
+  -- the table of a frame, which is made as such tables are, has this content
   pub record AreOneTable (t : FrameTable) (u : TableTrees) : Type 0 where
+    pub made : IsMadeFrame t
     pub kinds_are : t.kinds ≡ kinds
     pub labels_are : t.labels ≡ labels
     pub content_is : t.content ≡ u

@@ -5,11 +5,11 @@ use Rattle.infer_table.specs.declared.canonical.CanonicalVarKind.{CanonicalVarKi
 use Rattle.infer_table.specs.Responses.{AnswerTrees}
 use Rattle.evaluation.specs.Table.{Tables}
 use Rattle.table_laws.specs.Content.{Values, Fact, Question, fact_of, Terms}
-use Rattle.table_laws.specs.Frames.{FrameTable, Allows, AllowsApart, Nested, question, fact, values_at, Equation, Meets}
+use Rattle.table_laws.specs.Frames.{FrameTable, IsMadeFrame, Allows, AllowsApart, Nested, question, fact, values_at, Equation, Meets}
 use Rattle.table_laws.specs.Answers.{has_values, Agrees, respond}
 use Rattle.table_laws.specs.Finite.{made_of}
 use Rattle.table_laws.specs.Widths.{number_of, number_of_values, TableWithin, NestedWithin, EquationWithin}
-use Rattle.evaluation_laws.specs.Operations.{equate, fresh, recorded, apply}
+use Rattle.table_laws.specs.Operations.{equate, fresh, recorded, apply}
 
 -- assignments are terms for all unknowns, references are asked with their clauses, and a number is the greatest count of
 -- children that a node has
@@ -23,6 +23,7 @@ frame_tables = record {
   Equation = Equation;
   Kinds = List CanonicalVarKind;
   Regions = Trees;
+  Made = IsMadeFrame;
   Allows = Allows;
   AllowsApart = AllowsApart;
   Knows = λ t n. Unit {0};

@@ -8,14 +8,15 @@ ghost use Rattle.evaluation_laws.specs.Candidates.{CandidatesAreOne};
 ghost use Rattle.evaluation_laws.specs.Rounds.{RoundsAreOne, RoundsEndAlike};
 ghost use Rattle.evaluation_laws.specs.Answers.{AnswersAreWellFormed, AnswersAnswerTheirGoals};
 
-/// The tables of frames are lawful: an instance of a canonical question is one of its goal; equations, answers and constraints
-/// that are put in allow nothing new, and lose no terms that meet them and tell placeholders apart; an answer agrees with all
-/// that its table allows, and one without values leaves the goal's variables free; and nothing makes wider terms than were put in.
+/// The tables of frames are lawful: those that are made of terms stay so; an instance of a canonical question is one of its goal;
+/// equations, answers and constraints that are put in allow nothing new, and lose no terms that meet them and tell placeholders
+/// apart; an answer agrees with all that its table allows, and one without values leaves the goal's variables free; and nothing
+/// makes wider terms than were put in.
 pub fn tables_are_lawful()
     ensures { IsTable frame_tables }
 {}
 
-/// The answers that the tables of frames give are well-formed: each value is a term of its sort over the answer's own variables.
+/// The answers that tables made of terms give are well-formed: each value is a term of its sort over the answer's own variables.
 /// And each is an answer to the goal of its table: it has a value for each of the goal's variables, of the variable's sort.
 pub fn answers_are_well_formed()
     ensures well_formed { AnswersAreWellFormed }

@@ -1,5 +1,5 @@
 -- Goals that are made as canonical forms are.
-use Rattle.std.proofs.Common.{◌≡◌, zero, Bool, true, false, List, [], ◌∷◌, map, refl, ◌∙◌, ap, subst, Option, Some, None, if◌then◌else◌}
+use Rattle.std.proofs.Common.{◌≡◌, Bool, true, false, List, [], ◌∷◌, map, refl, ◌∙◌, ap, subst, Option, Some, None, if◌then◌else◌}
 use Rattle.model.specs.Label.{of_trait, predicate}
 use Rattle.model.specs.Trees.{Trees, none, tree}
 use Rattle.type_terms.specs.Made.{terms, is_made}
@@ -7,7 +7,8 @@ use Rattle.infer_table.specs.Canonical.{CanonicalForm}
 use Rattle.infer_table.specs.declared.canonical.CanonicalVarKind.{CanonicalVarKind}
 use Rattle.table_laws.specs.Frames.{kinds_known}
 use Rattle.type_terms.proofs.Made.{left, right}
-use Rattle.goal_frames.specs.Rules.{Bound, goal_of, IsOver, is_variable_over}
+use Rattle.goal_frames.specs.Rules.{Bound, goal_of, IsOver}
+use Rattle.evaluation_laws.specs.Variables.{is_variable_over}
 use Rattle.goal_frames.specs.Handlers.{Asked, with_first, all_known, bound_of, places_stand, is_asked, asked_with, asked}
 use Rattle.goal_frames.proofs.KnownKinds.{all-known}
 

@@ -20,7 +20,7 @@ use Rattle.table_laws.specs.Answers.{is_variable_itself, are_variables, has_valu
 use Rattle.type_terms.proofs.Made.{false-true}
 use Rattle.table_laws.proofs.Reading.{append-none}
 use Rattle.table_laws.proofs.Answering.{overflow_is_bare}
-use Rattle.evaluation_laws.specs.Operations.{begin}
+use Rattle.table_laws.specs.Operations.{begin}
 use Rattle.table_laws.specs.Frames.{labels_from}
 use Rattle.table_laws.proofs.Labels.{every-end}
 

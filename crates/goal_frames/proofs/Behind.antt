@@ -10,7 +10,8 @@ use Rattle.table_laws.specs.Frames.{is_open_label}
 use Rattle.type_terms.proofs.Made.{false-true, is_ordinary}
 use Rattle.table_laws.proofs.Reading.{append-none, IsPutIn, read-put}
 use Rattle.table_laws.proofs.Labels.{IsLeafFor, PutsLeaves, made-put-in, made-more}
-use Rattle.goal_frames.specs.Rules.{Bound, goal_of, is_variable_over}
+use Rattle.goal_frames.specs.Rules.{Bound, goal_of}
+use Rattle.evaluation_laws.specs.Variables.{is_variable_over}
 use Rattle.goal_frames.specs.Handlers.{moved, behind}
 
 -- all but the first n

@@ -14,9 +14,11 @@ use Rattle.table_laws.specs.Instances.{read_with, goal_read, of_sort, is_place, 
 use Rattle.table_laws.specs.Content.{Values, fits_kind, fits, given, fact_of}
 use Rattle.type_terms.proofs.Made.{false-true, left, right}
 use Rattle.table_laws.proofs.Questions.{sort-of-sort, place-is-a}
-use Rattle.goal_frames.specs.Rules.{StandsIn, HasNoPlace, IsClosed, is_variable_over}
+use Rattle.evaluation_laws.proofs.Unplaced.{IsNotPlace}
+use Rattle.goal_frames.specs.Rules.{HasNoPlace, IsClosed}
+use Rattle.evaluation_laws.specs.Variables.{StandsIn, is_variable_over}
 use Rattle.goal_frames.specs.Handlers.{Asked, is_variable_label, places_stand}
-use Rattle.goal_frames.proofs.Readings.{HasLeaves, made-leaves}
+use Rattle.evaluation_laws.proofs.Readings.{HasLeaves, made-leaves}
 use Rattle.goal_frames.proofs.Asked.{IsAsked}
 
 -- ---- where a variable stands
@@ -103,11 +105,6 @@ no-place xs k i v t g s h p =
     (subst HasNoPlace (sort-of-sort k (term_at xs i) (place-is-a k k (term_at xs i) p v ∙ sort-self k)) (no-place-read xs k i v t g (some-stands k i t s) h))
 
 -- ---- kinds
-abbrev pub IsNotPlace : CanonicalVarKind → Type 0
-IsNotPlace PlaceholderTy = ⊥
-IsNotPlace PlaceholderConst = ⊥
-IsNotPlace k = Unit {0}
-
 next-places : (xs : List Trees) (i : ℕ) (ts : List Trees) → ((j : ℕ) → term_at ts j ≡ term_at xs (i + j)) → (j : ℕ) → term_at (other_terms ts) j ≡ term_at xs (suc i + j)
 next-places xs i ts e j = e (suc j) ∙ ap (term_at xs) (plus-suc i j)
   where

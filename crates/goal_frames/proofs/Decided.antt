@@ -12,22 +12,24 @@ use Rattle.evaluation.specs.Table.{workings}
 use Rattle.evaluation.specs.Candidate.{Spec}
 use Rattle.evaluation.specs.History.{evaluate, asks, CameInOrder}
 use Rattle.evaluation.specs.Promises.{frame_of_goal, Anything, History}
+use Rattle.evaluation.proofs.Kept.{AreSo, questions_so, made_kept}
 use Rattle.evaluation.proofs.ListLaws.{Every-mono, Every-map}
 use Rattle.table_laws.specs.Instances.{put_in}
 use Rattle.table_laws.specs.Content.{Question}
-use Rattle.table_laws.specs.Frames.{kinds_known, good_in, FrameTable, slot_at, goal_in, question}
+use Rattle.table_laws.specs.Frames.{kinds_known, good_in, FrameTable, IsMadeFrame, slot_at, goal_in, question}
 use Rattle.type_terms.proofs.Made.{false-true}
 use Rattle.table_laws.proofs.Labels.{made-more}
 use Rattle.table_laws.proofs.Equating.{made-put, slots-of}
 use Rattle.table_laws.proofs.Resolved.{made-resolved}
+use Rattle.table_laws.proofs.Beginning.{begin-made}
 use Rattle.evaluation_laws.specs.Tables.{frame_tables}
+use Rattle.evaluation_laws.proofs.Laws.{tables_are_lawful}
 use Rattle.goal_frames.specs.Rules.{Bound, goal_of, Rule, RuleBook, IsOver, IsRule, AreRules}
 use Rattle.goal_frames.specs.Handlers.{Asked, asked, behind, nested_of_bound, spec_of, candidates_of, handled_by, listing_of, same_answer, applies_always}
 use Rattle.goal_frames.specs.Forms.{is_unnumbered}
 use Rattle.goal_frames.proofs.Listings.{listed-each}
 use Rattle.goal_frames.proofs.Behind.{made-behind}
 use Rattle.goal_frames.proofs.Handlers.{each-spec}
-use Rattle.goal_frames.proofs.Asking.{AreSo, questions-so}
 use Rattle.goal_frames.proofs.Forms.{canonical-goals-are-asked}
 
 abbrev pub IsDecided : Question → Type 0
@@ -45,7 +47,7 @@ resolved-trait (b ∷ older) i c = ap (replace b.sort b.var (resolved older b.va
 same-goal : (e d p q : Trees) → e ≡ d → p ≡ q → ◌≡◌ {A = GoalTrees} (record { environment = e; predicate = p }) (record { environment = d; predicate = q })
 same-goal e d p q x y = cc
 
-module _ (T : FrameTable) (kind : Bool) (n : ℕ) (kinds : List CanonicalVarKind) (b : Bound) (over : IsOver kinds b) where
+module _ (T : FrameTable) (made : IsMadeFrame T) (kind : Bool) (n : ℕ) (kinds : List CanonicalVarKind) (b : Bound) (over : IsOver kinds b) where
   abbrev inside : Bound
   inside = record { trait = b.trait; arguments = resolved T.content.bindings (put_in (slot_at T.labels) (behind n b).arguments) }
 
@@ -59,29 +61,29 @@ module _ (T : FrameTable) (kind : Bool) (n : ℕ) (kinds : List CanonicalVarKind
   made-inside : is_made is_unnumbered terms inside.arguments ≡ true
   made-inside =
       made-more (good_in T) is_unnumbered unnumbered terms inside.arguments
-      (made-resolved (good_in T) T.content.bindings T.made.table.values terms (put_in (slot_at T.labels) (behind n b).arguments)
-      (made-put (good_in T) T.labels (slots-of T) terms (behind n b).arguments (made-behind kinds n terms b.arguments over)))
+      (made-resolved (good_in T) T.content.bindings made.table.values terms (put_in (slot_at T.labels) (behind n b).arguments)
+      (made-put (good_in T) T.labels (slots-of T made) terms (behind n b).arguments (made-behind kinds n terms b.arguments over)))
 
   question-decided : IsDecided (question T (nested_of_bound kind (behind n b)))
   question-decided = let x = canonical-goals-are-asked inside made-inside in (x.0, ap (λ g. asked (canonical_form g)) goal-inside ∙ x.1)
 
 -- ---- the candidates
-each-decided : (book : RuleBook) → AreRules book → (o : Option Asked) → Every (λ (c : Spec (workings frame_tables)). Every (AreSo frame_tables IsDecided) c.nested) (candidates_of book o)
+each-decided : (book : RuleBook) → AreRules book → (o : Option Asked) → Every (λ (c : Spec (workings frame_tables)). Every (AreSo frame_tables IsDecided IsMadeFrame) c.nested) (candidates_of book o)
 each-decided book rules_are None = (tt, tt)
 each-decided book rules_are (Some a) =
-    each-spec (book.coinductive a.bound.trait) a (λ (c : Spec (workings frame_tables)). Every (AreSo frame_tables IsDecided) c.nested) book.rules
-    (Every-mono IsRule (λ (r : Rule). r.head.trait ≡ a.bound.trait → Every (AreSo frame_tables IsDecided) (spec_of (book.coinductive a.bound.trait) a r).nested) one book.rules rules_are)
+    each-spec (book.coinductive a.bound.trait) a (λ (c : Spec (workings frame_tables)). Every (AreSo frame_tables IsDecided IsMadeFrame) c.nested) book.rules
+    (Every-mono IsRule (λ (r : Rule). r.head.trait ≡ a.bound.trait → Every (AreSo frame_tables IsDecided IsMadeFrame) (spec_of (book.coinductive a.bound.trait) a r).nested) one book.rules rules_are)
   where
-    one : (r : Rule) → IsRule r → r.head.trait ≡ a.bound.trait → Every (AreSo frame_tables IsDecided) (spec_of (book.coinductive a.bound.trait) a r).nested
+    one : (r : Rule) → IsRule r → r.head.trait ≡ a.bound.trait → Every (AreSo frame_tables IsDecided IsMadeFrame) (spec_of (book.coinductive a.bound.trait) a r).nested
     one r good e =
-        Every-map (AreSo frame_tables IsDecided) (λ b. nested_of_bound (book.coinductive a.bound.trait) (behind (length a.kinds) b)) r.premises
-        (Every-mono (IsOver r.kinds) (λ b. AreSo frame_tables IsDecided (nested_of_bound (book.coinductive a.bound.trait) (behind (length a.kinds) b)))
-        (λ b over T. question-decided T (book.coinductive a.bound.trait) (length a.kinds) r.kinds b over) r.premises good.premises)
+        Every-map (AreSo frame_tables IsDecided IsMadeFrame) (λ b. nested_of_bound (book.coinductive a.bound.trait) (behind (length a.kinds) b)) r.premises
+        (Every-mono (IsOver r.kinds) (λ b. AreSo frame_tables IsDecided IsMadeFrame (nested_of_bound (book.coinductive a.bound.trait) (behind (length a.kinds) b)))
+        (λ b over T made. question-decided T made (book.coinductive a.bound.trait) (length a.kinds) r.kinds b over) r.premises good.premises)
 
 pub questions-decided : (book : RuleBook) → AreRules book → (mode : TypingMode) (f : CanonicalForm) (heard : History frame_tables (handled_by book mode f)) (q : Question)
     → CameInOrder (Anything frame_tables (handled_by book mode f)) (frame_of_goal frame_tables (handled_by book mode f)) heard
     → asks (frame_of_goal frame_tables (handled_by book mode f)) heard ≡ evaluate q → IsDecided q
 questions-decided book rules_are mode f =
-    questions-so frame_tables IsDecided (handled_by book mode f)
-    (λ seen c e. listed-each frame_tables applies_always same_answer (λ (c : Spec (workings frame_tables)). Every (AreSo frame_tables IsDecided) c.nested) (listing_of book mode f (kinds_known f.kinds) (asked f))
+    questions_so frame_tables IsDecided IsMadeFrame (made_kept frame_tables tables_are_lawful IsDecided) (handled_by book mode f) (begin-made (kinds_known f.kinds))
+    (λ seen c e. listed-each frame_tables applies_always same_answer (λ (c : Spec (workings frame_tables)). Every (AreSo frame_tables IsDecided IsMadeFrame) c.nested) (listing_of book mode f (kinds_known f.kinds) (asked f))
     (each-decided book rules_are (asked f)) seen c e)

@@ -1,24 +1,23 @@
 -- The answers of candidates are well-formed.
 use Rattle.std.proofs.Common.{◌≡◌, List, [], ◌∷◌, refl, subst, Bool, Option, Some, None}
 use Rattle.model.specs.Label.{Label}
-use Rattle.infer_table.specs.Certainties.{joined}
 use Rattle.infer_table.specs.declared.canonical.CanonicalVarKind.{CanonicalVarKind}
-use Rattle.infer_table.specs.declared.certainty.Certainty.{Certainty}
 use Rattle.infer_table.specs.declared.certainty.TypingMode.{TypingMode}
 use Rattle.infer_table.specs.Responses.{AnswerTrees}
 use Rattle.evaluation.specs.declared.TheConstants.{FIXPOINT_STEP_LIMIT}
-use Rattle.evaluation.specs.Candidate.{Spec, answered, equated, candidate}
+use Rattle.evaluation.specs.Candidate.{Spec, candidate}
 use Rattle.evaluation.specs.Replays.{Run, ready, run}
-use Rattle.evaluation.specs.Rounds.{Rounds, rounds}
+use Rattle.evaluation.specs.Lists.{Every}
 use Rattle.evaluation.specs.Script.{Script, done, ask}
-use Rattle.evaluation.specs.Table.{operations, workings}
-use Rattle.evaluation.proofs.Scripts.{Asks, Asks-followed}
+use Rattle.evaluation.specs.Table.{workings}
+use Rattle.evaluation.proofs.Scripts.{Asks}
+use Rattle.evaluation.proofs.Kept.{AreSo, responds_so, made_kept}
 use Rattle.table_laws.specs.Answers.{IsWellFormed}
 use Rattle.table_laws.specs.Content.{Question}
-use Rattle.table_laws.specs.Frames.{FrameTable}
-use Rattle.evaluation_laws.specs.Operations.{fresh, recorded, equate}
+use Rattle.table_laws.specs.Frames.{FrameTable, IsMadeFrame, Nested}
 use Rattle.table_laws.proofs.WellFormed.{answers_well_formed}
 use Rattle.evaluation_laws.specs.Tables.{frame_tables}
+use Rattle.evaluation_laws.proofs.Laws.{tables_are_lawful}
 use Rattle.evaluation_laws.specs.Rounds.{AreOneAnswer}
 
 pub one-answer : (mode : TypingMode) (coinductive : Bool) (kinds : List CanonicalVarKind) (ls : List Label) (p : Question) (a : AnswerTrees) → IsWellFormed a → AreOneAnswer mode coinductive kinds ls p a a
@@ -34,11 +33,6 @@ Any-question q = Unit {0}
 abbrev Any-answer : Question → Option AnswerTrees → Type 0
 Any-answer q a = Unit {0}
 
--- whatever a script asks
-asks-any : {X : Type 0} (s : Script Question (Option AnswerTrees) X) → Asks Any-question Any-answer (λ x. Unit {0}) s
-asks-any (done x) = tt
-asks-any (ask q k) = (tt, λ a r. asks-any (k a))
-
 ends-fitting : (s : Script Question (Option AnswerTrees) (Option AnswerTrees)) (replies : List (Option AnswerTrees)) (x : Option AnswerTrees) (more : List (Option AnswerTrees))
     → Asks Any-question Any-answer Fits s → run s replies ≡ ready x more → Fits x
 ends-fitting (done y) replies x more h e = subst Fits (same e) h where
@@ -47,18 +41,13 @@ ends-fitting (done y) replies x more h e = subst Fits (same e) h where
 ends-fitting (ask q k) [] x more h e = absurd (cc)
 ends-fitting (ask q k) (a ∷ replies) x more h e = ends-fitting (k a) replies x more (h.1 a tt) e
 
-answered-fits : (c : Certainty) (o : Option (Rounds (operations frame_tables))) → Asks Any-question Any-answer Fits (answered (workings frame_tables) c o)
-answered-fits c None = tt
-answered-fits c (Some o) = answers_well_formed o.table (joined c o.certainty)
-
-equated-fits : (s : Spec (workings frame_tables)) (o : Option FrameTable) → Asks Any-question Any-answer Fits (equated (workings frame_tables) FIXPOINT_STEP_LIMIT s o)
-equated-fits s None = tt
-equated-fits s (Some t) =
-    Asks-followed Any-question Any-answer (λ x. Unit {0}) Fits (answered (workings frame_tables) s.certainty) (λ x u. answered-fits s.certainty x)
-    (rounds (operations frame_tables) FIXPOINT_STEP_LIMIT s.nested (recorded t s.regions)) (asks-any (rounds (operations frame_tables) FIXPOINT_STEP_LIMIT s.nested (recorded t s.regions)))
+each-nested : (ns : List Nested) → Every (AreSo frame_tables Any-question IsMadeFrame) ns
+each-nested [] = tt
+each-nested (n ∷ ns) = (λ T made. tt, each-nested ns)
 
 -- what a candidate answers in a frame's table
-pub candidate-fits : (t : FrameTable) (s : Spec (workings frame_tables)) (replies : List (Option AnswerTrees)) (a : AnswerTrees) (more : List (Option AnswerTrees))
+pub candidate-fits : (t : FrameTable) → IsMadeFrame t → (s : Spec (workings frame_tables)) (replies : List (Option AnswerTrees)) (a : AnswerTrees) (more : List (Option AnswerTrees))
     → run (candidate (workings frame_tables) FIXPOINT_STEP_LIMIT t s) replies ≡ ready (Some a) more → IsWellFormed a
-candidate-fits t s replies a more e =
-    ends-fitting (candidate (workings frame_tables) FIXPOINT_STEP_LIMIT t s) replies (Some a) more (equated-fits s (equate (fresh t s.kinds) s.equations)) e
+candidate-fits t made s replies a more e =
+    ends-fitting (candidate (workings frame_tables) FIXPOINT_STEP_LIMIT t s) replies (Some a) more
+    (responds_so frame_tables Any-question IsMadeFrame (made_kept frame_tables tables_are_lawful Any-question) Fits (λ T c m. answers_well_formed T m c) tt FIXPOINT_STEP_LIMIT t s made (each-nested s.nested)) e

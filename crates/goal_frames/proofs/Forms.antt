@@ -16,7 +16,8 @@ use Rattle.table_laws.specs.Answers.{is_kind_of, with_kind, kinds_of}
 use Rattle.type_terms.proofs.Made.{false-true, left, right, both, no-tree, is_ordinary, made-ordinary, makes-ordinary, IsLast, last-bound, last-trait, never-dynamic, never-dynamic-bound, never-principal}
 use Rattle.table_laws.proofs.Reading.{EachLabel}
 use Rattle.table_laws.proofs.Nodes.{every-leaf}
-use Rattle.goal_frames.specs.Rules.{Bound, is_variable_over}
+use Rattle.goal_frames.specs.Rules.{Bound}
+use Rattle.evaluation_laws.specs.Variables.{is_variable_over}
 use Rattle.goal_frames.specs.Handlers.{with_first, all_known, is_variable_label, places_stand, asked_with}
 use Rattle.goal_frames.specs.Forms.{is_unnumbered, CanonicalGoalsAreAsked}
 use Rattle.goal_frames.proofs.Beginnings.{AreFresh, append-list, length-more, place-is, number-self}

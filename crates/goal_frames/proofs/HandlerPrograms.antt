@@ -14,7 +14,7 @@ use Rattle.evaluation.specs.Law.{IsYes}
 use Rattle.table_laws.specs.Answers.{respond, has_values}
 use Rattle.table_laws.specs.Content.{Fact}
 use Rattle.table_laws.specs.Widths.{TableWithin}
-use Rattle.evaluation_laws.specs.Operations.{begin}
+use Rattle.table_laws.specs.Operations.{begin}
 use Rattle.table_laws.proofs.Finite.{made-of-closed}
 use Rattle.evaluation_laws.proofs.WidthLaws.{respond_within}
 use Rattle.evaluation_laws.specs.Tables.{frame_tables}

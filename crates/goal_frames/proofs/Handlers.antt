@@ -23,23 +23,24 @@ use Rattle.table_laws.specs.Content.{Values, fits, given, trait_of, Fact, fact_o
 use Rattle.table_laws.specs.Frames.{kinds_known, Nested, fact, Meets}
 use Rattle.table_laws.specs.Widths.{width_of_predicates}
 use Rattle.type_terms.proofs.Made.{false-true, right}
-use Rattle.evaluation_laws.proofs.OperationLaws.{begins-free}
-use Rattle.evaluation_laws.specs.Operations.{begin, fresh}
+use Rattle.evaluation_laws.proofs.OperationLaws.{begins-free, begins-within}
+use Rattle.table_laws.specs.Operations.{begin, fresh}
 use Rattle.evaluation_laws.specs.Tables.{frame_tables}
 use Rattle.evaluation_laws.proofs.Laws.{tables_are_lawful}
 use Rattle.goal_frames.specs.Listings.{listed, IsListing}
 use Rattle.goal_frames.specs.Rules.{Bound, goal_of, Rule, RuleBook, IsOver, IsRule, AreRules, instance_of, IsBy, IsClosed, is_coinductive_trait, is_coinductive, FollowsClosed, HasProofByBook}
 use Rattle.goal_frames.specs.Handlers.{Asked, asked, behind, as_one, nested_of_bound, spec_of, specs_for, unsure, number_of_rules, same_answer, applies_always, has_placeholder, world_of, widest_of, listing_of, handled_by}
 use Rattle.goal_frames.proofs.Listings.{listings-are-lawful}
-use Rattle.goal_frames.proofs.Readings.{reads-agree}
+use Rattle.evaluation_laws.proofs.Readings.{reads-agree}
 use Rattle.goal_frames.proofs.Behind.{dropped, read-behind, made-behind, made-open}
 use Rattle.goal_frames.proofs.Asked.{IsAsked, asked-is, kinds-are}
-use Rattle.goal_frames.proofs.Slots.{own-slots-agree}
+use Rattle.evaluation_laws.proofs.Slots.{own-slots-agree}
 use Rattle.goal_frames.proofs.Sound.{term-one, fact-behind, sound, determined}
 use Rattle.goal_frames.proofs.Widths.{width-behind, rule-within, premises-behind, few}
 use Rattle.goal_frames.proofs.Beginnings.{begin-says-nothing}
 use Rattle.goal_frames.proofs.Same.{answers-are, applies-to-yeses}
-use Rattle.goal_frames.proofs.Closed.{IsNotPlace, closed-kinds}
+use Rattle.goal_frames.proofs.Closed.{closed-kinds}
+use Rattle.evaluation_laws.proofs.Unplaced.{IsNotPlace}
 use Rattle.goal_frames.proofs.Filled.{filled, filled-allowed, filled-agrees}
 
 -- ---- the candidates are the rules
@@ -180,7 +181,7 @@ module _ (book : RuleBook) (rules_are : AreRules book) (mode : TypingMode) (f : 
   asked-listing = record {
     begins = λ v. begins-free a.kinds v;
     says_nothing = λ c. begin-says-nothing a.kinds c;
-    begins_within = tt;
+    begins_within = begins-within _ a.kinds;
     each =
         each-spec kind a IsRuleFor book.rules
         (Every-both IsRule (λ r. IsAmong r book.rules) (λ r. r.head.trait ≡ a.bound.trait → IsRuleFor (spec_of kind a r))
@@ -209,7 +210,7 @@ unsure-listing : (book : RuleBook) (mode : TypingMode) (f : CanonicalForm) → a
 unsure-listing book mode f e = record {
   begins = λ v. begins-free (kinds_known f.kinds) v;
   says_nothing = λ c. begin-says-nothing (kinds_known f.kinds) c;
-  begins_within = tt;
+  begins_within = begins-within _ (kinds_known f.kinds);
   each = (record { sound = λ y s l m. absurd (not-yes y); steps = λ y T. tt; determined = λ s r l k m n e. tt; equations_within = tt; nested_within = tt }, tt);
   asks = less _;
   cover = λ w v p. inl (realizes v (searched-kinds mode f e w));

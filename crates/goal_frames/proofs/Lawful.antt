@@ -13,7 +13,7 @@ use Rattle.evaluation.specs.Law.{IsYes, AnsweredYes, Counts, IsInstance, Covers}
 use Rattle.evaluation.specs.Handler.{Handled, AnswerWithin}
 use Rattle.evaluation.specs.Frame.{Frame, Finished}
 use Rattle.evaluation.specs.History as Frames
-use Rattle.evaluation.specs.History.{CameInOrder, finished_in, ignored_in, results}
+use Rattle.evaluation.specs.History.{CameInOrder, finished_in, ignored_in}
 use Rattle.evaluation.specs.Promises.{frame_of_goal, Anything, Fair}
 use Rattle.evaluation.proofs.ListLaws.{Every-mono, SomeOf-mono}
 use Rattle.evaluation.proofs.Ends.{is_bounded, yes_follows, covers_goal, keeps_number}

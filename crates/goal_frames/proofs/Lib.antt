@@ -5,11 +5,9 @@ pub mod Orders
 pub mod Graphs
 pub mod Books
 pub mod Listings
-pub mod Readings
 pub mod Behind
 pub mod Asked
 pub mod Shortages
-pub mod Slots
 pub mod Sound
 pub mod Widths
 pub mod Beginnings
@@ -20,7 +18,6 @@ pub mod Handlers
 pub mod RulePrograms
 pub mod RuleFitting
 pub mod Forms
-pub mod Asking
 pub mod Decided
 pub mod Silences
 pub mod Moves

@@ -1,5 +1,5 @@
 -- What the numbers of a store stand for.
-use Rattle.std.proofs.Common.{rules, ◌≡◌, ◌↔◌, ◌∙◌, List, refl, ap, sym, subst, Option, Some, None, option_map, true}
+use Rattle.std.proofs.Common.{rules, ◌≡◌, ◌∙◌, List, refl, ap, sym, subst, Option, Some, None, option_map, true}
 use Rattle.std.specs.Bool.{Decides}
 use Rattle.std.proofs.lemmas.Option.{same_Some}
 use Rattle.type_terms.specs.Terms.{Entry, Keeps, Lawful}
@@ -13,7 +13,7 @@ use Rattle.infer_table.specs.declared.response.CanonicalResponse.{CanonicalRespo
 use Rattle.infer_table.specs.contracts.input.CanonicalInputPartialEq.TheImpl.{ghosts as input}
 use Rattle.infer_table.specs.contracts.response.CanonicalResponsePartialEq.TheImpl.{ghosts as response}
 use Rattle.infer_table.specs.Goals.{GoalHeld, ClausesHeld, PredicateHeld}
-use Rattle.infer_table.specs.Inputs.{AreEqual, IsCanonicalInput, IsWithoutCanonical, IsOneQuestion}
+use Rattle.infer_table.specs.Inputs.{AreEqual, IsCanonicalInput}
 use Rattle.infer_table.proofs.Numbers.{goal-trees-later}
 use Rattle.infer_table.proofs.CanonicalLaws.{canonical_form-renamed, canonical_form-equal}
 use Rattle.infer_table.proofs.Questions.{input-eq, forms-equal, equal-forms}

@@ -21,10 +21,11 @@ use Rattle.table_laws.proofs.Reading.{EachLabel}
 use Rattle.table_laws.proofs.Labels.{IsGoodLabel, made-labels}
 use Rattle.evaluation_laws.specs.Tables.{frame_tables}
 use Rattle.evaluation_laws.specs.Fitting.{is_of_sort, is_slot, AreOver, IsGoalOver, IsValueOver}
-use Rattle.goal_frames.specs.Rules.{Bound, goal_of, Rule, IsOver, IsRule, is_variable_over}
+use Rattle.goal_frames.specs.Rules.{Bound, goal_of, Rule, IsOver, IsRule}
+use Rattle.evaluation_laws.specs.Variables.{is_variable_over}
 use Rattle.goal_frames.specs.Handlers.{Asked, asked, moved, behind, as_one, nested_of_bound, spec_of, candidates_of}
 use Rattle.goal_frames.specs.RuleFitting.{slots_of, IsOverSlots, CandidatesFit}
-use Rattle.goal_frames.proofs.Readings.{HasLeaves, made-leaves}
+use Rattle.evaluation_laws.proofs.Readings.{HasLeaves, made-leaves}
 use Rattle.goal_frames.proofs.Behind.{made-behind, made-open}
 use Rattle.goal_frames.proofs.Asked.{IsAsked, asked-is, kinds-are}
 use Rattle.goal_frames.proofs.Handlers.{each-spec}

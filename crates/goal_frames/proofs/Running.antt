@@ -11,7 +11,7 @@ use Rattle.infer_table.specs.Goals.{goal_trees}
 use Rattle.infer_table.specs.Responses.{AnswerTrees, answer_trees}
 use Rattle.evaluation.specs.Ends.{IsRefused, Awaits, EndsIn}
 use Rattle.evaluation.specs.Evaluating as InCode
-use Rattle.evaluation.specs.Evaluating.{NestedTrees, nested_trees, goals_trees, replies_trees, evaluation}
+use Rattle.evaluation.specs.Evaluating.{replies_trees, evaluation}
 use Rattle.evaluation.specs.Frames.{begun}
 use Rattle.evaluation.specs.Trial.{spec_trees, equations_trees, premises_trees, candidate}
 use Rattle.evaluation.specs.declared.TheConstants.{FIXPOINT_STEP_LIMIT}
@@ -28,7 +28,9 @@ use Rattle.evaluation.specs.Script.{Script, done, ask}
 use Rattle.evaluation.specs.Table.{operations, workings}
 use Rattle.table_laws.specs.Content.{Question}
 use Rattle.table_laws.specs.Answers.{IsWellFormed}
-use Rattle.evaluation_laws.specs.Operations.{begin}
+use Rattle.table_laws.specs.Frames.{IsMadeFrame}
+use Rattle.table_laws.specs.Operations.{begin}
+use Rattle.table_laws.proofs.Beginning.{begin-made}
 use Rattle.evaluation_laws.specs.Tables.{frame_tables}
 use Rattle.evaluation_laws.specs.Fitting.{IsGoalOver}
 use Rattle.evaluation_laws.specs.Rounds.{AreOneQuestion, in_rounds}
@@ -139,7 +141,7 @@ module _ (h : Handled frame_tables) (mode : TypingMode) (kinds : List CanonicalV
   pub answer-fits : (x : AnswerTrees) → EndsIn (λ y more. x ≡ y) code-run → IsWellFormed x
   answer-fits x e =
       let there = ends-too (run (candidate_of h spec) (replies_trees es rs)) code-run x runs-are-one e in
-      candidate-fits h.begin spec (replies_trees es rs) x there.0 there.1
+      candidate-fits h.begin (subst IsMadeFrame (sym begins) (begin-made kinds)) spec (replies_trees es rs) x there.0 there.1
 
   module _ (xs : List Shown) (p : Standing) (inside_it : IsInside h xs spec (replies_trees es rs) p) where
     pub asks-question : (q : InCode.Question) → Awaits code-run q

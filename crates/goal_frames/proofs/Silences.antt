@@ -12,7 +12,7 @@ use Rattle.infer_table.specs.Values.{Value}
 use Rattle.infer_table.specs.Raw.{sort_of_kind, variable_value, variables_from}
 use Rattle.infer_table.specs.Responses.{AnswerTrees}
 use Rattle.table_laws.specs.Answers.{own_labels, answer_leaves, value_numbered, with_kind, kinds_of, without_values, respond}
-use Rattle.evaluation_laws.specs.Operations.{begin}
+use Rattle.table_laws.specs.Operations.{begin}
 use Rattle.table_laws.specs.Frames.{labels_from}
 use Rattle.goal_frames.proofs.Beginnings.{AreFresh, append-list, length-more, place-is, value_by, own-labels-all, begin-fresh, begin-leaves}
 

@@ -10,13 +10,14 @@ use Rattle.table_laws.specs.Instances.{read_with, goal_read}
 use Rattle.table_laws.specs.Content.{Values, fits, given, Fact, fact_of, Terms}
 use Rattle.table_laws.specs.Frames.{FrameTable, Allows, Nested, fact, is_open_label, term_of, Meets}
 use Rattle.type_terms.proofs.Made.{right}
-use Rattle.evaluation_laws.specs.Operations.{begin, fresh}
-use Rattle.goal_frames.specs.Rules.{Bound, Rule, RuleBook, IsDeterminedBy, IsRule, instance_of, IsBy, FollowsByRule, is_variable_over}
+use Rattle.table_laws.specs.Operations.{begin, fresh}
+use Rattle.goal_frames.specs.Rules.{Bound, Rule, RuleBook, IsDeterminedBy, IsRule, instance_of, IsBy, FollowsByRule}
+use Rattle.evaluation_laws.specs.Variables.{is_variable_over}
 use Rattle.goal_frames.specs.Handlers.{Asked, behind, as_one, nested_of_bound, spec_of}
-use Rattle.goal_frames.proofs.Readings.{AgreeIn, made-leaves, reads-agree, reads-determine}
+use Rattle.evaluation_laws.proofs.Readings.{AgreeIn, made-leaves, reads-agree, reads-determine}
 use Rattle.goal_frames.proofs.Behind.{dropped, read-behind, bound-behind, made-behind, made-open}
 use Rattle.goal_frames.proofs.Asked.{IsAsked}
-use Rattle.goal_frames.proofs.Slots.{own-slots-agree, slots-agree}
+use Rattle.evaluation_laws.proofs.Slots.{own-slots-agree, slots-agree}
 
 -- all arguments are one term
 pub term-one : (b : Bound) → is_made is_open_label terms b.arguments ≡ true → term_of (as_one b) ≡ tree (adt b.trait) b.arguments none

@@ -16,7 +16,7 @@ use Rattle.table_laws.specs.Answers.{respond}
 use Rattle.table_laws.specs.Content.{Values, Fact, Question, fact_of}
 use Rattle.table_laws.specs.Finite.{made_of}
 use Rattle.table_laws.specs.Widths.{number_of}
-use Rattle.evaluation_laws.specs.Operations.{begin}
+use Rattle.table_laws.specs.Operations.{begin}
 use Rattle.evaluation_laws.specs.Tables.{frame_tables}
 use Rattle.goal_frames.specs.Programs.{Programs, ArePrograms}
 use Rattle.goal_frames.specs.Readings.{kinds_known}

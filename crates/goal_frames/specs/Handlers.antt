@@ -1,5 +1,5 @@
 -- The handler of a goal for a list of rules.
-use Rattle.std.specs.Prelude.{◌≡◌, ℕ, zero, suc, ◌+◌, ◌==◌, max, Bool, true, false, ◌&&◌, ◌||◌, not, if◌then◌else◌, List, [], ◌∷◌, map, length, Option, Some, None, is_some}
+use Rattle.std.specs.Prelude.{◌≡◌, ℕ, suc, ◌+◌, ◌==◌, max, Bool, true, false, ◌&&◌, ◌||◌, not, if◌then◌else◌, List, [], ◌∷◌, map, length, Option, Some, None, is_some}
 use Rattle.model.specs.Label.{Label, Sort, of_type, of_const, canonical, adt, of_trait, predicate}
 use Rattle.model.specs.Trees.{Trees, none, tree, leaf, is_sort, is_no_tree, some_node}
 use Rattle.model.specs.Codes.{same}
@@ -25,10 +25,11 @@ use Rattle.table_laws.specs.Instances.{put_in}
 use Rattle.table_laws.specs.Content.{trait_of, fact_of}
 use Rattle.table_laws.specs.Frames.{kinds_known, Nested}
 use Rattle.table_laws.specs.Widths.{width_of_predicates, number_of}
-use Rattle.evaluation_laws.specs.Operations.{begin}
+use Rattle.table_laws.specs.Operations.{begin}
 use Rattle.evaluation_laws.specs.Tables.{frame_tables}
 use Rattle.goal_frames.specs.Listings.{Listing, listed}
-use Rattle.goal_frames.specs.Rules.{Bound, goal_of, Rule, RuleBook, AreRules, is_coinductive_trait, FollowsByRule, HasProofByBook, is_variable_over}
+use Rattle.goal_frames.specs.Rules.{Bound, goal_of, Rule, RuleBook, AreRules, is_coinductive_trait, FollowsByRule, HasProofByBook}
+use Rattle.evaluation_laws.specs.Variables.{is_variable_over}
 
 -- ---- goals
 -- a goal without where-clauses, over variables of these kinds

@@ -7,7 +7,7 @@ use Rattle.evaluation.specs.Lists.{Every}
 use Rattle.evaluation.specs.Table.{workings}
 use Rattle.evaluation.specs.Candidate.{Spec}
 use Rattle.table_laws.specs.Frames.{kinds_known, Nested, Equation}
-use Rattle.evaluation_laws.specs.Operations.{begin, fresh}
+use Rattle.table_laws.specs.Operations.{begin, fresh}
 use Rattle.evaluation_laws.specs.Tables.{frame_tables}
 use Rattle.evaluation_laws.specs.Fitting.{AreOver, IsGoalOver, IsValueOver}
 use Rattle.goal_frames.specs.Rules.{RuleBook, AreRules}

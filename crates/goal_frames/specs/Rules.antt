@@ -1,6 +1,6 @@
 -- Lists of rules over trees, and what they prove.
-use Rattle.std.specs.Prelude.{◌≡◌, ◌⊎◌, ℕ, Bool, true, false, List, map, Option, Some, None}
-use Rattle.model.specs.Label.{Label, Sort, infer, param, placeholder, canonical, of_trait, predicate}
+use Rattle.std.specs.Prelude.{◌≡◌, ℕ, Bool, true, false, List, map, Option, Some, None}
+use Rattle.model.specs.Label.{Sort, param, placeholder, canonical, of_trait, predicate}
 use Rattle.model.specs.Trees.{Trees, none, tree}
 use Rattle.type_terms.specs.Made.{terms, is_made}
 use Rattle.infer_table.specs.Canonical.{GoalTrees}
@@ -10,8 +10,7 @@ use Rattle.evaluation.specs.Lists.{Every, SomeOf}
 use Rattle.evaluation.specs.Proof.{HasProof}
 use Rattle.table_laws.specs.Instances.{goal_read}
 use Rattle.table_laws.specs.Content.{given, Fact}
-use Rattle.table_laws.specs.Frames.{kind_at}
-use Rattle.table_laws.specs.Answers.{is_kind_of}
+use Rattle.evaluation_laws.specs.Variables.{is_variable_over, StandsIn}
 
 -- ---- rules
 -- a trait with its arguments, the self type first: `?0: Show<u8>`
@@ -44,22 +43,9 @@ IsUnknown PlaceholderTy = ⊥
 IsUnknown PlaceholderConst = ⊥
 IsUnknown Region = ⊥
 
--- a variable of these kinds, or what is not open
-abbrev pub is_variable_over : List CanonicalVarKind → Label → Bool
-is_variable_over kinds (canonical s i) = is_kind_of s (kind_at kinds i)
-is_variable_over kinds (infer k v) = false
-is_variable_over kinds (param k v) = false
-is_variable_over kinds (placeholder k v) = false
-is_variable_over kinds l = true
-
 -- the arguments are terms over variables of these kinds
 abbrev pub IsOver : List CanonicalVarKind → Bound → Type 0
 IsOver kinds b = is_made (is_variable_over kinds) terms b.arguments ≡ true
-
--- the label stands in the trees
-abbrev pub StandsIn : Label → Trees → Type 0
-StandsIn l none = ⊥
-StandsIn l (tree m c o) = (m ≡ l) ⊎ StandsIn l c ⊎ StandsIn l o
 
 -- what stands in a premise stands in the head
 abbrev pub IsDeterminedBy : Bound → Bound → Type 0

@@ -10,7 +10,7 @@ ghost use Rattle.evaluation.specs.Handler.{Handled, IsHandler};
 ghost use Rattle.evaluation.specs.Promises.{DefiniteYesFollows, AnswerCoversGoal, IsBounded, KeepsNumber, IgnoresFinishedOnce};
 ghost use Rattle.evaluation.specs.Readings.{IsOfTrait, ConsideredHeld, StepHeld};
 ghost use Rattle.table_laws.specs.Content.{Fact};
-ghost use Rattle.evaluation_laws.specs.Operations.{begin};
+ghost use Rattle.table_laws.specs.Operations.{begin};
 ghost use Rattle.evaluation_laws.specs.Tables.{frame_tables};
 ghost use Rattle.goal_frames.specs.Readings.{handled_for, kinds_known, HasHistory, IsNextAfter};
 ghost use Rattle.goal_frames.specs.Fitting.{ConsideredFits, StepFits};

@@ -33,7 +33,7 @@ use Rattle.type_terms.proofs.Made.{left, right}
 use Rattle.table_laws.proofs.Nodes.{every-leaf}
 use Rattle.table_laws.proofs.Questions.{sort-of-sort}
 use Rattle.table_laws.proofs.Reading.{EachLabel}
-use Rattle.goal_frames.proofs.Readings.{HasLeaves, made-leaves}
+use Rattle.evaluation_laws.proofs.Readings.{HasLeaves, made-leaves}
 use Rattle.root_goals.specs.Roots.{values_under, values_in}
 use Rattle.root_goals.proofs.Leaves.{arg-leaves}
 

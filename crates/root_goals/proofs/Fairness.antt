@@ -7,7 +7,7 @@ use Rattle.infer_table.specs.declared.certainty.Certainty.{Certainty}
 use Rattle.infer_table.specs.declared.certainty.TypingMode.{TypingMode}
 use Rattle.evaluation.specs.Handler.{Handled, IsHandler}
 use Rattle.table_laws.specs.Content.{Fact}
-use Rattle.evaluation_laws.specs.Operations.{begin}
+use Rattle.table_laws.specs.Operations.{begin}
 use Rattle.evaluation_laws.specs.Tables.{frame_tables}
 use Rattle.evaluation_laws.proofs.Laws.{tables_are_lawful}
 use Rattle.goal_frames.proofs.Lawful as Searches

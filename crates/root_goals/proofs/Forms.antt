@@ -17,7 +17,7 @@ use Rattle.table_laws.specs.Content.{trait_at, trait_of, Fact, fact_of, fits, fi
 use Rattle.table_laws.specs.Finite.{default_terms, made_of}
 use Rattle.table_laws.proofs.Finite.{AreOf, made-hold}
 use Rattle.table_laws.proofs.Questions.{IsNoCanonical, clean-parts, sort-of-sort, term-place}
-use Rattle.goal_frames.proofs.Readings.{HasLeaves}
+use Rattle.evaluation_laws.proofs.Readings.{HasLeaves}
 use Rattle.root_goals.specs.Roots.{fact_under, values_under, question_of}
 
 false-true : false ≡ true → ⊥

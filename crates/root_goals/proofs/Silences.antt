@@ -7,7 +7,8 @@ use Rattle.infer_table.specs.declared.certainty.Certainty.{Certainty}
 use Rattle.infer_table.specs.declared.certainty.TypingMode.{TypingMode}
 use Rattle.infer_table.specs.declared.input.CanonicalInput.{CanonicalInput}
 use Rattle.table_laws.specs.Answers.{IsWellFormed, without_values, respond}
-use Rattle.evaluation_laws.specs.Operations.{begin}
+use Rattle.table_laws.specs.Operations.{begin}
+use Rattle.table_laws.proofs.Beginning.{begin-made}
 use Rattle.table_laws.proofs.WellFormed.{answers_well_formed}
 use Rattle.goal_frames.specs.declared.store.InputId.{InputId}
 use Rattle.goal_frames.specs.Stores.{input_at}
@@ -26,7 +27,7 @@ pub mode-of : {Handler : Type 0} (c : SolverCx Handler) (i : InputId) (a : Canon
 mode-of c i a at = ap (λ o. (asked_or_none (entries_of c) o).0) at
 
 pub silent-fits : (ks : List CanonicalVarKind) (k : Certainty) → IsWellFormed (without_values ks k)
-silent-fits ks k = subst IsWellFormed (silent-is ks k) (answers_well_formed (begin ks) k)
+silent-fits ks k = subst IsWellFormed (silent-is ks k) (answers_well_formed (begin ks) (begin-made ks) k)
 
 -- what a goal is answered that is asked under itself
 pub cycle-some : (mode : TypingMode) (f : CanonicalForm) (kind : PathKind) (k : Certainty) → cycle_certainty mode kind ≡ Some k → cycle_answer mode f kind ≡ silent f k

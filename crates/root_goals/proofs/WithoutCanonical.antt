@@ -1,5 +1,5 @@
 -- Evaluations bring no canonical variables into a table.
-use Rattle.std.proofs.Common.{◌≡◌, ℕ, Bool, true, false, ◌&&◌, refl, ap, sym, ◌∙◌, subst, List, [], ◌∷◌, ◌++◌, map, Option, Some, None, if◌then◌else◌}
+use Rattle.std.proofs.Common.{◌≡◌, ℕ, Bool, true, false, ◌&&◌, refl, ap, sym, ◌∙◌, subst, List, [], ◌∷◌, ◌++◌, map, Some, None, if◌then◌else◌}
 use Rattle.std.specs.Prelude.{is_some}
 use Rattle.model.specs.Label.{Label, Sort, of_type, of_const, of_lifetime, canonical}
 use Rattle.model.specs.Trees.{Trees, none, tree, is_sort, sort_of, is_a, is_no_tree}
@@ -7,14 +7,13 @@ use Rattle.infer_table.specs.declared.canonical.CanonicalVarKind.{CanonicalVarKi
 use Rattle.infer_table.specs.Canonical.{OpenKinds, GoalTrees, kind_of_leaf, kind_in_clause, is_among, with_label, leaves, goal_leaves}
 use Rattle.infer_table.specs.Unification.{TableTrees, term_sort}
 use Rattle.infer_table.specs.Values.{Value}
-use Rattle.infer_table.specs.Responses.{AnswerTrees}
 use Rattle.infer_table.specs.Answers.{is_answer_to}
-use Rattle.infer_table.specs.Applied.{trees_of, applied}
+use Rattle.infer_table.specs.Applied.{applied}
 use Rattle.infer_table.specs.WithoutCanonical.{HaveNoCanonical, AreWithoutCanonical, AreOfTheirSorts}
 use Rattle.infer_table.proofs.WithoutCanonical.{IsNoCanonical, clean-node, and-left, and-right, answers-keep-out}
 use Rattle.infer_table.proofs.SolutionLaws.{is_sort-equal}
 use Rattle.evaluation.specs.Lists.{Every}
-use Rattle.table_laws.specs.Answers.{is_fitting, are_fitting, is_fitting_answer, leaf_value, put_into}
+use Rattle.table_laws.specs.Answers.{is_fitting, are_fitting, is_fitting_answer, leaf_value}
 use Rattle.root_goals.specs.Roots.{values_in}
 use Rattle.root_goals.specs.WithoutCanonical.{EvaluationsKeepOut}
 use Rattle.root_goals.proofs.Answers.{values-numbered}

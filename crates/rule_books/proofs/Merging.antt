@@ -23,7 +23,8 @@ use Rattle.evaluation.specs.Lists.{Every}
 use Rattle.evaluation.specs.Merge.{or_else, common, merge_by, flounder}
 use Rattle.evaluation.specs.Responses.{Content, content, are_variables, is_always_applicable}
 use Rattle.table_laws.specs.Answers.{is_variable_itself, is_fitting, IsWellFormed, respond}
-use Rattle.evaluation_laws.specs.Operations.{begin}
+use Rattle.table_laws.specs.Operations.{begin}
+use Rattle.table_laws.proofs.Beginning.{begin-made}
 use Rattle.table_laws.proofs.WellFormed.{answers_well_formed}
 use Rattle.evaluation_laws.specs.Tables.{frame_tables}
 use Rattle.evaluation_laws.proofs.Filling.{itself-root}
@@ -180,7 +181,7 @@ floundered-trees es new ks r first rest v c d w =
 -- ---- answers are well-formed
 flounder-fits : (ks : List CanonicalVarKind) (rs : List AnswerTrees) → IfSome (flounder frame_tables (begin ks) rs) IsWellFormed
 flounder-fits ks [] = tt
-flounder-fits ks (r ∷ rs) = answers_well_formed (begin ks) (unsettled (all_joined (map frame_tables.certainty (r ∷ rs))))
+flounder-fits ks (r ∷ rs) = answers_well_formed (begin ks) (begin-made ks) (unsettled (all_joined (map frame_tables.certainty (r ∷ rs))))
 
 pub answer-fits : (es : List Entry) (ks : List CanonicalVarKind) (rs : List CanonicalResponse) → Every (Trees_fit es) rs → IfSome (merge_of es ks rs) IsWellFormed
 answer-fits es ks rs fit =

@@ -21,7 +21,8 @@ use Rattle.table_laws.proofs.Labels.{IsGoodLabel, made-labels}
 use Rattle.type_terms.proofs.Made.{false-true}
 use Rattle.table_laws.proofs.Reading.{EachLabel}
 use Rattle.type_terms.specs.Made.{terms}
-use Rattle.goal_frames.specs.Rules.{Bound, goal_of, is_variable_over}
+use Rattle.goal_frames.specs.Rules.{Bound, goal_of}
+use Rattle.evaluation_laws.specs.Variables.{is_variable_over}
 use Rattle.goal_frames.specs.Handlers.{moved, behind}
 use Rattle.rule_books.specs.Books.{bound_read, is_over}
 

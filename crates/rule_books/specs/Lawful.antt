@@ -18,7 +18,7 @@ use Rattle.goal_frames.specs.Handlers.{is_variable_label, handled_by}
 use Rattle.goal_frames.specs.RulePrograms.{DeclaredRules}
 use Rattle.goal_frames.proofs.RulePrograms.{rules-are-programs}
 use Rattle.goal_frames.proofs.Closed.{some-stands}
-use Rattle.goal_frames.proofs.Slots.{kind-of}
+use Rattle.evaluation_laws.proofs.Slots.{kind-of}
 use Rattle.goal_frames.specs.HandlerPrograms.{KeepNumbers, KeepWorlds}
 use Rattle.rule_books.specs.Books.{is_unknown, is_over, all_stand, are_terms_over, is_rule, sound_rules, sound_book}
 

@@ -8,7 +8,7 @@ ghost use Rattle.type_terms.specs.Terms.{Has, args_lists, trees_at};
 ghost use Rattle.table_laws.specs.Answers.{is_kind_of};
 ghost use Rattle.table_laws.specs.Frames.{kind_at};
 ghost use Rattle.infer_table.specs.Raw.{sort_of_kind};
-ghost use Rattle.goal_frames.specs.Rules.{is_variable_over};
+ghost use Rattle.evaluation_laws.specs.Variables.{is_variable_over};
 ghost use Rattle.goal_frames.specs.Handlers.{is_variable_label};
 ghost use Rattle.rule_books.specs.Finding.{BreaksAt};
 ghost use Rattle.type_terms.specs.Made.{terms, is_made};

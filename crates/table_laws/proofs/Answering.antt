@@ -208,13 +208,13 @@ module _ (t : FrameTable) (s : Terms) (a : AllowsApart t s) where
   value-read : (l : Label) → LabelAmong l (own_labels t.kinds t.labels) → is_made good terms (leaf l) ≡ true
       → read_with (picked (leaf_terms s ls)) (numbered t (resolved t.content.bindings (leaf l))) ≡ reading_of s l
   value-read l i m =
-      let clean = clean-resolved good (excludes-canonical t) t.content.bindings t.made.table.values (leaf l) (made-clean good (excludes-canonical t) terms (leaf l) m) in
+      let clean = clean-resolved good (excludes-canonical t) t.content.bindings a.allowed.made.table.values (leaf l) (made-clean good (excludes-canonical t) terms (leaf l) m) in
       read-numbered s a.allowed.sorted ls (resolved t.content.bindings (leaf l)) clean
       (λ n h. leaves-hold kind_of_leaf n [] (joined (own_values t) +++ resolved t.content.bindings t.content.constraints)
       (stands-left kind_of_leaf (joined (own_values t)) (resolved t.content.bindings t.content.constraints) n
       (joined-stands kind_of_leaf (own_values t) (resolved t.content.bindings (leaf l)) n
       (among-map (λ x. resolved t.content.bindings (leaf x)) l (own_labels t.kinds t.labels) i) h)))
-      ∙ read-resolved good s t.content.bindings t.made.table.values a.allowed.hold (leaf l)
+      ∙ read-resolved good s t.content.bindings a.allowed.made.table.values a.allowed.hold (leaf l)
 
   -- the value that is given is what stands for the goal's variable
   place-of-place : (k : Sort) (x : Trees) → is_place k x ≡ true → HasValues k → of_sort k x ≡ as_place k x +++ none
@@ -274,7 +274,7 @@ module _ (t : FrameTable) (s : Terms) (a : AllowsApart t s) where
 
   table-agrees : (c : Certainty) → ArePicked (leaf_terms s ls) (map (value_numbered t) (own_labels t.kinds t.labels)) s.own.terms
   table-agrees c =
-      picked-values 0 t.kinds t.labels s.own.terms t.made.own (λ l h. h) t.made.leaves
+      picked-values 0 t.kinds t.labels s.own.terms a.allowed.made.own (λ l h. h) a.allowed.made.leaves
       (subst (HaveValues t.kinds s.own.terms) a.allowed.slots a.allowed.own) a.fit (λ j. ap (term_at all) (zero-plus j))
     where
       zero-plus : (j : ℕ) → j ≡ 0 + j

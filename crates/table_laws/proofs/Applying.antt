@@ -24,6 +24,7 @@ use Rattle.type_terms.specs.Made.{terms, is_made}
 use Rattle.table_laws.specs.Content.{Values, Terms, fits, standing, reading_of, Stands}
 use Rattle.table_laws.specs.Equations.{AreOne, IsTerm, IsPair, IsValue, HasLifetimes, IsMade, IsApart}
 use Rattle.table_laws.specs.Frames.{kind_at, is_good, good_in, FrameTable, IsMadeFrame, AllowsApart, Nested, goal_in, slot_at, in_turn, and_then}
+use Rattle.table_laws.specs.Operations.{with_content}
 use Rattle.table_laws.specs.Answers.{picked, IsPicked, ArePicked, is_kind_of, is_variable_of, is_fitting, are_fitting, is_fitting_answer, put_into, leaf_value, originals_of}
 use Rattle.type_terms.proofs.Made.{false-true, left, right, no-tree, is_ordinary, made-ordinary}
 use Rattle.table_laws.proofs.Reading.{append-none, append-assoc, EachLabel, IsPutIn, read-lifetime, GiveOne, same-read, cons}
@@ -56,9 +57,9 @@ slots-leaves good ls h (tree l c o) = by (slot-cases good ls h l) (slots-leaves 
 abbrev pub AreTheirs : (Label → Bool) → List Label → Type 0
 AreTheirs good ls = Every (λ l. is_made good terms (leaf l) ≡ true) ls
 
-pub goal-leaves : (t : FrameTable) (n : Nested) → AreTheirs (good_in t) (goal_leaves (goal_in t n))
-goal-leaves t n =
-    let part = λ (x : Trees). each-resolved (good_in t) t.content.bindings t.made.table.values (put_in (slot_at t.labels) x) (slots-leaves (good_in t) t.labels (slots-of t) x) in
+pub goal-leaves : (t : FrameTable) → IsMadeFrame t → (n : Nested) → AreTheirs (good_in t) (goal_leaves (goal_in t n))
+goal-leaves t made n =
+    let part = λ (x : Trees). each-resolved (good_in t) t.content.bindings made.table.values (put_in (slot_at t.labels) x) (slots-leaves (good_in t) t.labels (slots-of t made) x) in
     let environment = resolved t.content.bindings (put_in (slot_at t.labels) n.goal.environment) in
     every-leaf kind_of_leaf (λ l. is_made (good_in t) terms (leaf l) ≡ true) (leaves kind_in_clause [] environment)
     (every-leaf kind_in_clause (λ l. is_made (good_in t) terms (leaf l) ≡ true) [] tt environment
@@ -679,9 +680,9 @@ map-some f (Some w) u e = (w, refl, some-is (f w) u e)
 pub with-constraints-made : (good : Label → Bool) (c : Trees) (w : TableTrees) → IsMade good w → IsMade good (with_constraints c w)
 with-constraints-made good c w m = record { acyclic = m.acyclic; values = m.values; counted = record { types = m.counted.types; consts = m.counted.consts } }
 
-module _ (t : FrameTable) (n : Nested) (a : AnswerTrees) (answers : is_fitting_answer (originals_of t n) a ≡ true) where
+module _ (t : FrameTable) (made : IsMadeFrame t) (n : Nested) (a : AnswerTrees) (answers : is_fitting_answer (originals_of t n) a ≡ true) where
   abbrev theirs_of : AreTheirs (good_in t) (goal_leaves (goal_in t n))
-  theirs_of = goal-leaves t n
+  theirs_of = goal-leaves t made n
 
   abbrev pub known_in : ℕ → Option Value
   known_in i = known t.kinds t.content (goal_leaves (goal_in t n)) theirs_of a answers i
@@ -717,24 +718,24 @@ module _ (t : FrameTable) (n : Nested) (a : AnswerTrees) (answers : is_fitting_a
 
   pub turned : (u : TableTrees) → in_turn todo grown_of ≡ Some u → InTurn better_in opens grown_of todo u
   turned u e =
-      in-turn-narrows better_in opens todo grown_of u (grown-made t.kinds t.content (goal_leaves (goal_in t n)) theirs_of a answers t.made.table)
+      in-turn-narrows better_in opens todo grown_of u (grown-made t.kinds t.content (goal_leaves (goal_in t n)) theirs_of a answers made.table)
       (pairs-made t.kinds t.content (goal_leaves (goal_in t n)) theirs_of a answers) e
 
   labels-made : (ls : List Label) → AreTheirs (good_in t) ls → AreTheirs better_in ls
   labels-made [] h = tt
   labels-made (l ∷ ls) h = (made-more (good_in t) better_in (better-too t.kinds t.content (goal_leaves (goal_in t n)) theirs_of a answers) terms (leaf l) h.0, labels-made ls h.1)
 
-  left-made : (u : TableTrees) → IsLeft u → IsMadeFrame t.kinds t.labels u
+  left-made : (u : TableTrees) → IsLeft u → IsMadeFrame (with_content t u)
   left-made u x =
       let w = x.before in
       let y = turned w x.solved in
       let same : better_in ≡ is_good t.kinds w.ty_vars w.const_vars =
       ap (λ n. is_good t.kinds n grown_of.const_vars) (sym y.after.ty_vars) ∙ ap (λ n. is_good t.kinds w.ty_vars n) (sym y.after.const_vars) in
-      subst (IsMadeFrame t.kinds t.labels) x.is
+      subst (λ v. IsMadeFrame (with_content t v)) x.is
       (record {
         table = with-constraints-made (is_good t.kinds w.ty_vars w.const_vars) (filled values_in a.constraints) w (subst (λ g. IsMade g w) same y.after.made);
-        leaves = subst (λ g. AreTheirs g t.labels) same (labels-made t.labels t.made.leaves);
-        own = t.made.own;
+        leaves = subst (λ g. AreTheirs g t.labels) same (labels-made t.labels made.leaves);
+        own = made.own;
       })
 
 -- the table is as the answer leaves it, or as it was
@@ -746,12 +747,12 @@ put-cases t originals a u e = by (is_fitting_answer originals a) refl e
     by true h q = inl (h, q)
     by false h q = inr (some-is t u q)
 
-pub put-made : (t : FrameTable) (n : Nested) (a : AnswerTrees) (u : TableTrees) → put_into t.content (originals_of t n) a ≡ Some u → IsMadeFrame t.kinds t.labels u
-put-made t n a u e = by (put-cases t.content (originals_of t n) a u e)
+pub put-made : (t : FrameTable) → IsMadeFrame t → (n : Nested) (a : AnswerTrees) (u : TableTrees) → put_into t.content (originals_of t n) a ≡ Some u → IsMadeFrame (with_content t u)
+put-made t made n a u e = by (put-cases t.content (originals_of t n) a u e)
   where
-    by : ((is_fitting_answer (originals_of t n) a ≡ true) × (applied t.content (originals_of t n) a ≡ Some u)) ⊎ (t.content ≡ u) → IsMadeFrame t.kinds t.labels u
-    by (inl x) = left-made t n a x.0 u (is-left t n a x.0 u x.1)
-    by (inr x) = subst (IsMadeFrame t.kinds t.labels) x t.made
+    by : ((is_fitting_answer (originals_of t n) a ≡ true) × (applied t.content (originals_of t n) a ≡ Some u)) ⊎ (t.content ≡ u) → IsMadeFrame (with_content t u)
+    by (inl x) = left-made t made n a x.0 u (is-left t made n a x.0 u x.1)
+    by (inr x) = subst (λ v. IsMadeFrame (with_content t v)) x made
 
 -- ---- nothing is lost that agrees with the answer
 module _ (t : FrameTable) (s : Terms) (q : Assignment) (known : ℕ → Option Value) (ks : List CanonicalVarKind) where

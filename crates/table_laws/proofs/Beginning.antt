@@ -12,8 +12,9 @@ use Rattle.evaluation.specs.Lists.{Every}
 use Rattle.table_laws.specs.Instances.{default_label, of_sort, first_term, other_terms}
 use Rattle.type_terms.specs.Made.{terms, is_made}
 use Rattle.table_laws.specs.Content.{Values, Terms, fits, reading_of}
-use Rattle.table_laws.specs.Frames.{kind_at, is_good, is_placeholder_of, AreOwn, IsMadeFrame, HaveValues, consts_in, first_content, labels_from, types_in}
+use Rattle.table_laws.specs.Frames.{kind_at, is_good, is_placeholder_of, AreOwn, IsMadeFrame, HaveValues, consts_in, labels_from, types_in}
 use Rattle.type_terms.proofs.Made.{false-true, left}
+use Rattle.table_laws.specs.Operations.{begin}
 use Rattle.table_laws.proofs.Reading.{append-none}
 use Rattle.table_laws.proofs.Equating.{single-of}
 
@@ -75,7 +76,7 @@ pub zero-plus : (j : ℕ) → 0 + j ≡ j
 zero-plus j = omega arith
 
 -- ---- the table
-pub begin-made : (kinds : List CanonicalVarKind) → IsMadeFrame kinds (labels_from 0 0 0 0 kinds) (first_content kinds)
+pub begin-made : (kinds : List CanonicalVarKind) → IsMadeFrame (begin kinds)
 begin-made kinds = record {
   table = record { acyclic = tt; values = tt; counted = record { types = λ v h. below-is v (types_in kinds) h; consts = λ v h. below-is v (consts_in kinds) h } };
   leaves = leaves-made kinds (types_in kinds) (consts_in kinds) 0 0 0 0 kinds (omega arith) (omega arith) (λ j. ap (kind_at kinds) (zero-plus j));

@@ -11,7 +11,7 @@ use Rattle.infer_table.proofs.SolutionLaws.{is_variable-equal, is_variable-self}
 use Rattle.evaluation.specs.Lists.{Every, IsAmong}
 use Rattle.table_laws.specs.Instances.{read_with, put_in, default_label, of_sort, is_place, as_place, first_term, other_terms, term_at}
 use Rattle.table_laws.specs.Content.{Values, Fact, Terms, given, fits, standing, reading_of}
-use Rattle.table_laws.specs.Frames.{good_in, AreOwn, FrameTable, HaveValues, Allows, Nested, slot_at, goal_in, question, fact}
+use Rattle.table_laws.specs.Frames.{good_in, AreOwn, FrameTable, IsMadeFrame, HaveValues, Allows, Nested, slot_at, goal_in, question, fact}
 use Rattle.table_laws.specs.Finite.{default_terms, IsFree, IsDetermined, OwnDetermine}
 use Rattle.type_terms.proofs.Made.{false-true}
 use Rattle.table_laws.proofs.Reading.{append-none, read-put, reads-same, same-map, same-hold}
@@ -54,7 +54,7 @@ never-rigid : (t : FrameTable) (j : Sort) (m : Label) (x : Label) (d : Trees) �
 never-rigid t j m x d g can e h = by j g can
   where
     read-as : (r : Terms) (z : Trees) → Allows t r → reading_of r m ≡ z → read_with (standing r) (tree x d none) ≡ z
-    read-as r z a q = ap (read_with (standing r)) (sym e) ∙ read-resolved (good_in t) r t.content.bindings t.made.table.values a.hold (leaf m) ∙ q
+    read-as r z a q = ap (read_with (standing r)) (sym e) ∙ read-resolved (good_in t) r t.content.bindings a.made.table.values a.hold (leaf m) ∙ q
 
     apart : bool ≡ char → ⊥
     apart q = cc
@@ -94,9 +94,9 @@ reading-unknown s of_const g v = refl
 reading-unknown s of_lifetime g v = absurd g
 
 -- the goal that is asked, part by part
-goal-nodes : (t : FrameTable) (x : Trees) → AreNodes (resolved t.content.bindings (put_in (slot_at t.labels) x))
-goal-nodes t x =
-    nodes-resolved t.kinds t.content.ty_vars t.content.const_vars t.content.bindings t.made.table.values (put_in (slot_at t.labels) x) (nodes-put t.kinds t.content.ty_vars t.content.const_vars t.labels t.made.leaves x)
+goal-nodes : (t : FrameTable) → IsMadeFrame t → (x : Trees) → AreNodes (resolved t.content.bindings (put_in (slot_at t.labels) x))
+goal-nodes t made x =
+    nodes-resolved t.kinds t.content.ty_vars t.content.const_vars t.content.bindings made.table.values (put_in (slot_at t.labels) x) (nodes-put t.kinds t.content.ty_vars t.content.const_vars t.labels made.leaves x)
 
 module _ (t : FrameTable) (s : Terms) (a : Allows t s) (k : Sort) (g : HasValues k) (v : ℕ) where
   abbrev bindings : List Binding
@@ -109,16 +109,16 @@ module _ (t : FrameTable) (s : Terms) (a : Allows t s) (k : Sort) (g : HasValues
   base-sorted j w = with-default-sorted k v s.unknowns a.sorted j w
 
   abbrev low : Terms
-  low = based (good_in t) t.content t.made.table.values t.made.table.acyclic s.own base base-sorted
+  low = based (good_in t) t.content a.made.table.values a.made.table.acyclic s.own base base-sorted
 
   abbrev filled : Terms
-  filled = completed (good_in t) t.content t.made.table.values t.made.table.acyclic s.own base base-sorted
+  filled = completed (good_in t) t.content a.made.table.values a.made.table.acyclic s.own base base-sorted
 
   abbrev other : Terms
   other = record { own = s.own; slots = map (reading_of filled) t.labels; unknowns = filled.unknowns; proper = s.own.proper && fits (map Some t.kinds) s.own.terms }
 
   other-reads : (x : Trees) → IsProper x → read_with (standing other) x ≡ read_with (standing low) (resolved bindings x)
-  other-reads x h = reads-same other filled refl refl x ∙ completed-reads (good_in t) t.content t.made.table.values t.made.table.acyclic s.own base base-sorted x h
+  other-reads x h = reads-same other filled refl refl x ∙ completed-reads (good_in t) t.content a.made.table.values a.made.table.acyclic s.own base base-sorted x h
 
   -- the unknown is read as its default
   low-reads : reading_of low (infer k v) ≡ leaf (default_label k)
@@ -136,7 +136,7 @@ module _ (t : FrameTable) (s : Terms) (a : Allows t s) (k : Sort) (g : HasValues
   own-at j m h can = by (occurs k v (resolved bindings (leaf m))) refl
     where
       as-resolved : reading_of s m ≡ read_with (standing s) (resolved bindings (leaf m))
-      as-resolved = sym (read-resolved (good_in t) s bindings t.made.table.values a.hold (leaf m))
+      as-resolved = sym (read-resolved (good_in t) s bindings a.made.table.values a.hold (leaf m))
 
       or-none : (b : Bool) → (b || false) ≡ b
       or-none true = refl
@@ -154,7 +154,7 @@ module _ (t : FrameTable) (s : Terms) (a : Allows t s) (k : Sort) (g : HasValues
       root l d e o = absurd (never-rigid t j m l d h can e refl)
 
       by : (b : Bool) → occurs k v (resolved bindings (leaf m)) ≡ b → (reading_of s m ≡ reading_of s (infer k v)) ⊎ (reading_of s m ≡ reading_of other m)
-      by true o = let y = resolved-one (good_in t) bindings t.made.table.values (leaf m) refl in inl (root y.label y.children y.is o)
+      by true o = let y = resolved-one (good_in t) bindings a.made.table.values (leaf m) refl in inl (root y.label y.children y.is o)
       by false o = inr (as-resolved ∙ low-same (resolved bindings (leaf m)) o ∙ sym (other-reads (leaf m) (leaf-proper m)))
 
   -- the unknown is read as one of the own values
@@ -196,8 +196,9 @@ module _ (t : FrameTable) (s : Terms) (a : Allows t s) (k : Sort) (g : HasValues
 
   other-allowed : HaveValues t.kinds s.own.terms (map (reading_of other) t.labels) → Allows t other
   other-allowed h = record {
-    sorted = completed-sorted (good_in t) t.content t.made.table.values t.made.table.acyclic s.own base base-sorted;
-    hold = same-hold filled other refl refl bindings (completed-holds (good_in t) t.content t.made.table.values t.made.table.acyclic s.own base base-sorted);
+    made = a.made;
+    sorted = completed-sorted (good_in t) t.content a.made.table.values a.made.table.acyclic s.own base base-sorted;
+    hold = same-hold filled other refl refl bindings (completed-holds (good_in t) t.content a.made.table.values a.made.table.acyclic s.own base base-sorted);
     slots = same-map filled other refl refl t.labels;
     own = subst (HaveValues t.kinds s.own.terms) (sym (same-map filled other refl refl t.labels)) h;
     proper = refl;
@@ -211,22 +212,22 @@ module _ (t : FrameTable) (s : Terms) (a : Allows t s) (k : Sort) (g : HasValues
     part-reads : (x : Trees) → Allows t other → read_with (given s.slots) x ≡ read_with (given other.slots) x
         → read_with (standing s) (resolved bindings (put_in (slot_at t.labels) x)) ≡ read_with (standing low) (resolved bindings (put_in (slot_at t.labels) x))
     part-reads x b e =
-        read-resolved (good_in t) s bindings t.made.table.values a.hold (put_in (slot_at t.labels) x)
+        read-resolved (good_in t) s bindings a.made.table.values a.hold (put_in (slot_at t.labels) x)
         ∙ read-put (standing s) (given s.slots) (slot_at t.labels) (put-in-slots s a.sorted t.labels a.slots) x
         ∙ e
         ∙ sym (read-put (standing other) (given other.slots) (slot_at t.labels) (put-in-slots other b.sorted t.labels b.slots) x)
-        ∙ other-reads (put_in (slot_at t.labels) x) (nodes-proper (put_in (slot_at t.labels) x) (nodes-put t.kinds t.content.ty_vars t.content.const_vars t.labels t.made.leaves x))
+        ∙ other-reads (put_in (slot_at t.labels) x) (nodes-proper (put_in (slot_at t.labels) x) (nodes-put t.kinds t.content.ty_vars t.content.const_vars t.labels a.made.leaves x))
 
     default-read : Allows t other → fact n s ≡ fact n other → StandsInGoal (goal_in t n) (infer k v) → reading_of s (infer k v) ≡ leaf (default_label k)
     default-read b e (inl i) =
-        read-at s low a.sorted base-sorted kind_in_clause k v (goal_in t n).environment (goal-nodes t n.goal.environment) (part-reads n.goal.environment b (ap (λ (z : Fact). z.goal.environment) e)) i
+        read-at s low a.sorted base-sorted kind_in_clause k v (goal_in t n).environment (goal-nodes t a.made n.goal.environment) (part-reads n.goal.environment b (ap (λ (z : Fact). z.goal.environment) e)) i
         ∙ low-reads
     default-read b e (inr i) =
-        read-at s low a.sorted base-sorted kind_of_leaf k v (goal_in t n).predicate (goal-nodes t n.goal.predicate) (part-reads n.goal.predicate b (ap (λ (z : Fact). z.goal.predicate) e)) i
+        read-at s low a.sorted base-sorted kind_of_leaf k v (goal_in t n).predicate (goal-nodes t a.made n.goal.predicate) (part-reads n.goal.predicate b (ap (λ (z : Fact). z.goal.predicate) e)) i
         ∙ low-reads
 
     pub unknown-made : IsFree t → IsDetermined t n → StandsInGoal (goal_in t n) (infer k v) → IsAmong (reading_of s (infer k v)) (s.own.terms ++ default_terms)
-    unknown-made free determined i = by (own-or-kept 0 t.kinds t.labels s.own.terms t.made.own (subst (HaveValues t.kinds s.own.terms) a.slots a.own) (free-from free))
+    unknown-made free determined i = by (own-or-kept 0 t.kinds t.labels s.own.terms a.made.own (subst (HaveValues t.kinds s.own.terms) a.slots a.own) (free-from free))
       where
         by : IsOwnValue s.own.terms ⊎ HaveValues t.kinds s.own.terms (map (reading_of other) t.labels) → IsAmong (reading_of s (infer k v)) (s.own.terms ++ default_terms)
         by (inl x) = subst (λ z. IsAmong z (s.own.terms ++ default_terms)) (sym x.2) (of-sort-made x.0 s.own.terms x.1)
@@ -245,8 +246,8 @@ open-in-clause l x = absurd (false-true x.is_open)
 
 module _ (t : FrameTable) (n : Nested) (free : IsFree t) (determined : IsDetermined t n) (s : Terms) (a : Allows t s) where
   leaf-node : (l : Label) → StandsInGoal (goal_in t n) l → IsOpenNode kind_of_leaf l
-  leaf-node l (inl i) = open-in-clause l (open-node kind_in_clause (goal_in t n).environment (goal-nodes t n.goal.environment) l i)
-  leaf-node l (inr i) = open-node kind_of_leaf (goal_in t n).predicate (goal-nodes t n.goal.predicate) l i
+  leaf-node l (inl i) = open-in-clause l (open-node kind_in_clause (goal_in t n).environment (goal-nodes t a.made n.goal.environment) l i)
+  leaf-node l (inr i) = open-node kind_of_leaf (goal_in t n).predicate (goal-nodes t a.made n.goal.predicate) l i
 
   leaf-made : (l : Label) → StandsInGoal (goal_in t n) l → IsAmong (reading_of s l) (s.own.terms ++ default_terms)
   leaf-made l i = by l (leaf-node l i) i

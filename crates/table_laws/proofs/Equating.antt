@@ -1,5 +1,5 @@
 -- Equations of a candidate over a frame's table.
-use Rattle.std.proofs.Common.{◌≡◌, ℕ, zero, suc, Bool, true, false, not, ◌&&◌, ◌||◌, List, [], ◌∷◌, map, refl, sym, ◌∙◌, ap, subst, Option, Some, None, if◌then◌else◌, ◌⊎◌, inl, inr}
+use Rattle.std.proofs.Common.{◌≡◌, ℕ, zero, suc, Bool, true, false, not, ◌&&◌, ◌||◌, List, [], ◌∷◌, refl, sym, ◌∙◌, ap, subst, Option, Some, None, if◌then◌else◌, ◌⊎◌, inl, inr}
 use Rattle.model.specs.Label.{Label, Sort, of_type, of_const, of_lifetime, infer, param, placeholder, canonical, static, dynamic, principal, auto_trait, bound, predicate}
 use Rattle.model.specs.Trees.{Trees, none, tree, leaf, ◌+++◌, sort_of, is_sort, is_a, is_no_tree, placed, Single}
 use Rattle.infer_table.specs.Unification.{TableTrees, Worklist, unified}
@@ -8,11 +8,13 @@ use Rattle.infer_table.specs.declared.canonical.CanonicalVarKind.{CanonicalVarKi
 use Rattle.infer_table.specs.Values.{Value}
 use Rattle.infer_table.proofs.SolutionLaws.{is_sort-equal as is-sort}
 use Rattle.evaluation.specs.Lists.{Every}
-use Rattle.table_laws.specs.Instances.{put_in, default_label, as_place, term_at}
+use Rattle.table_laws.specs.Instances.{put_in, default_label}
 use Rattle.type_terms.specs.Made.{Standing, terms, bounds, traits, is_leaf_label, is_made}
-use Rattle.table_laws.specs.Content.{Terms, fits, standing, given, reading_of}
+use Rattle.table_laws.specs.Content.{Terms, standing, given}
 use Rattle.table_laws.specs.Equations.{AreOne, Hold, IsTerm, IsPair, HasLifetimes, IsMade, IsAfter, IsApart}
-use Rattle.table_laws.specs.Frames.{HaveValues, is_good, is_placeholder_of, kind_at, FrameTable, IsMadeFrame, Allows, AllowsApart, label_at, label_of_sort, slot_at, Equation, is_open_label, term_of, Meets, pair_in, and_then, in_turn, frame_if, pairs_in}
+use Rattle.table_laws.specs.Frames.{is_good, FrameTable, IsMadeFrame, Allows, AllowsApart, label_at, label_of_sort, slot_at, Equation, is_open_label, term_of, Meets, pair_in, and_then, in_turn, good_in, pairs_in}
+use Rattle.table_laws.specs.Operations.{with_content}
+use Rattle.std.specs.Prelude.{option_map}
 use Rattle.table_laws.proofs.Reading.{read-put, append-none}
 use Rattle.type_terms.proofs.Made.{false-true, left, right, both, no-tree, is_ordinary, made-ordinary, makes-ordinary, made-append, IsLast, last-bound, last-trait, never-dynamic, never-dynamic-bound, never-principal}
 use Rattle.table_laws.proofs.Questions.{put-in-slots}
@@ -219,17 +221,21 @@ single-put good ls h (tree l c o) s = subst (λ z. Single (put_in (slot_at ls) (
     by (inl y) = subst (λ z. Single (placed z (tree l (put_in (slot_at ls) c) none) +++ none)) (sym y.1) (subst (λ z. Single (z +++ none)) (sym y.2.is) refl)
     by (inr e) = subst (λ z. Single (placed z (tree l (put_in (slot_at ls) c) none) +++ none)) (sym e) refl
 
-pub slots-of : (t : FrameTable) → AreSlots (is_good t.kinds t.content.ty_vars t.content.const_vars) t.labels
-slots-of t = frame-slots t.kinds t.content.ty_vars t.content.const_vars t.labels t.made.leaves
+pub slots-of : (t : FrameTable) → IsMadeFrame t → AreSlots (good_in t) t.labels
+slots-of t made = frame-slots t.kinds t.content.ty_vars t.content.const_vars t.labels made.leaves
 
-pub pair-terms : (t : FrameTable) (e : Equation) → IsPair (is_good t.kinds t.content.ty_vars t.content.const_vars) (pair_in t e)
-pair-terms t e = (one e.left, one e.right)
+pair-terms : (t : FrameTable) → IsMadeFrame t → (e : Equation) → IsPair (good_in t) (pair_in t e)
+pair-terms t made e = (one e.left, one e.right)
   where
-    one : (v : Value) → IsTerm (is_good t.kinds t.content.ty_vars t.content.const_vars) (put_in (slot_at t.labels) (term_of v))
+    one : (v : Value) → IsTerm (good_in t) (put_in (slot_at t.labels) (term_of v))
     one v = record {
-      single = single-put (is_good t.kinds t.content.ty_vars t.content.const_vars) t.labels (slots-of t) (term_of v) (term-single v);
-      made = made-put (is_good t.kinds t.content.ty_vars t.content.const_vars) t.labels (slots-of t) terms (term_of v) (term-made v);
+      single = single-put (good_in t) t.labels (slots-of t made) (term_of v) (term-single v);
+      made = made-put (good_in t) t.labels (slots-of t made) terms (term_of v) (term-made v);
     }
+
+pub pairs-terms : (t : FrameTable) → IsMadeFrame t → (es : List Equation) → Every (IsPair (good_in t)) (pairs_in t es)
+pairs-terms t made [] = tt
+pairs-terms t made (e ∷ es) = (pair-terms t made e, pairs-terms t made es)
 
 -- the equation is met exactly where its pair is read as one term
 pub pair-reads : (t : FrameTable) (s : Terms) → Allows t s → (e : Equation) → (AreOne s (pair_in t e) → Meets e s) × (Meets e s → AreOne s (pair_in t e))
@@ -238,10 +244,10 @@ pair-reads t s a e =
     (λ h. sym (side e.left) ∙ h ∙ side e.right, λ h. side e.left ∙ h ∙ sym (side e.right))
 
 -- ---- equations in turn
-pub none-some : (u : TableTrees) (T : Type 0) → None ≡ Some u → T
+pub none-some : {A : Type 0} (u : A) (T : Type 0) → None ≡ Some u → T
 none-some u T e = absurd (cc)
 
-pub some-is : (t u : TableTrees) → Some t ≡ Some u → t ≡ u
+pub some-is : {A : Type 0} (t u : A) → Some t ≡ Some u → t ≡ u
 some-is t u e = cc
 
 module _ (good : Label → Bool) (opens : HasLifetimes good) where
@@ -280,56 +286,29 @@ pub lifetimes-good : (kinds : List CanonicalVarKind) (types consts : ℕ) → Ha
 lifetimes-good kinds types consts v = refl
 
 -- another table of the same unknowns
-frame-after : (t : FrameTable) (u : TableTrees) → IsAfter (is_good t.kinds t.content.ty_vars t.content.const_vars) t.content u → IsMadeFrame t.kinds t.labels u
-frame-after t u a =
+frame-after : (t : FrameTable) → IsMadeFrame t → (u : TableTrees) → IsAfter (good_in t) t.content u → IsMadeFrame (with_content t u)
+frame-after t made u a =
     let same : is_good t.kinds t.content.ty_vars t.content.const_vars ≡ is_good t.kinds u.ty_vars u.const_vars =
     ap (λ n. is_good t.kinds n t.content.const_vars) (sym a.ty_vars) ∙ ap (λ n. is_good t.kinds u.ty_vars n) (sym a.const_vars) in
     record {
       table = subst (λ g. IsMade g u) same a.made;
-      leaves = subst (λ (g : Label → Bool). Every (λ l. is_made g terms (leaf l) ≡ true) t.labels) same t.made.leaves;
-      own = t.made.own;
+      leaves = subst (λ (g : Label → Bool). Every (λ l. is_made g terms (leaf l) ≡ true) t.labels) same made.leaves;
+      own = made.own;
     }
 
-pub every-map : {A B : Type 0} (f : A → B) (P : B → Type 0) → ((x : A) → P (f x)) → (xs : List A) → Every P (map f xs)
-every-map f P h [] = tt
-every-map f P h (x ∷ xs) = (h x, every-map f P h xs)
+pub equations-narrow : (t : FrameTable) → IsMadeFrame t → (es : List Equation) (u : TableTrees) → in_turn (pairs_in t es) t.content ≡ Some u
+    → InTurn (good_in t) (lifetimes-good t.kinds t.content.ty_vars t.content.const_vars) t.content (pairs_in t es) u
+equations-narrow t made es u e = in-turn-narrows (good_in t) (lifetimes-good t.kinds t.content.ty_vars t.content.const_vars) (pairs_in t es) t.content u made.table (pairs-terms t made es) e
 
-pub made-in-turn : (t : FrameTable) (es : List Equation) (u : TableTrees) → in_turn (pairs_in t es) t.content ≡ Some u → IsMadeFrame t.kinds t.labels u
-made-in-turn t es u e =
-    let good = is_good t.kinds t.content.ty_vars t.content.const_vars in
-    frame-after t u (in-turn-narrows good (lifetimes-good t.kinds t.content.ty_vars t.content.const_vars) (pairs_in t es) t.content u t.made.table (every-map (pair_in t) (IsPair good) (pair-terms t) es) e).after
+pub made-in-turn : (t : FrameTable) → IsMadeFrame t → (es : List Equation) (u : TableTrees) → in_turn (pairs_in t es) t.content ≡ Some u → IsMadeFrame (with_content t u)
+made-in-turn t made es u e = frame-after t made u (equations-narrow t made es u e).after
 
 -- what a table is that was not refused
-pub record IsFrame (t : FrameTable) (c : TableTrees) (u : FrameTable) : Type 0 where
-  pub kinds : u.kinds ≡ t.kinds
-  pub labels : u.labels ≡ t.labels
-  pub content : u.content ≡ c
-
-abbrev or_else : FrameTable → Option FrameTable → FrameTable
-or_else x None = x
-or_else x (Some y) = y
-
-pub frame-of : (t : FrameTable) (o : Option TableTrees) (f : (u : TableTrees) → o ≡ Some u → IsMadeFrame t.kinds t.labels u) (u : FrameTable) → frame_if t o f ≡ Some u → (c : TableTrees) × (o ≡ Some c) × IsFrame t c u
-frame-of t None f u e = absurd (cc)
-frame-of t (Some c) f u e = (c, refl, subst (IsFrame t c) (is (record { kinds = t.kinds; labels = t.labels; content = c; made = f c refl }) u e) (record { kinds = refl; labels = refl; content = refl }))
-  where
-    is : (x y : FrameTable) → Some x ≡ Some y → x ≡ y
-    is x y e = ap (or_else x) e
-
-pub frame-is : (t : FrameTable) (o : Option TableTrees) (f : (u : TableTrees) → o ≡ Some u → IsMadeFrame t.kinds t.labels u) (c : TableTrees) → o ≡ Some c → (u : FrameTable) × (frame_if t o f ≡ Some u) × IsFrame t c u
-frame-is t None f c e = none-some c _ e
-frame-is t (Some d) f c e = (record { kinds = t.kinds; labels = t.labels; content = d; made = f d refl }, refl, record { kinds = refl; labels = refl; content = some-is d c e })
+pub with-content-is : (t : FrameTable) (o : Option TableTrees) (u : FrameTable) → option_map (with_content t) o ≡ Some u → (c : TableTrees) × (o ≡ Some c) × (with_content t c ≡ u)
+with-content-is t None u e = none-some u _ e
+with-content-is t (Some c) u e = (c, refl, some-is (with_content t c) u e)
 
 -- ---- the laws of equations over frames
-pub allows-of : (t u : FrameTable) (c : TableTrees) (s : Terms) → IsFrame t c u → Hold s t.content → Allows u s → Allows t s
-allows-of t u c s i h a = record {
-  sorted = a.sorted;
-  hold = h;
-  slots = a.slots ∙ ap (map (reading_of s)) i.labels;
-  own = subst (λ ks. HaveValues ks s.own.terms s.slots) i.kinds a.own;
-  proper = a.proper ∙ ap (λ ks. s.own.proper && fits (map Some ks) s.own.terms) i.kinds;
-}
-
 -- terms that tell the placeholders of a table apart lose nothing
 pub is-apart : (t : FrameTable) (s : Terms) → AllowsApart t s → IsApart (is_good t.kinds t.content.ty_vars t.content.const_vars) s
 is-apart t s a = record {
@@ -347,8 +326,3 @@ is-apart t s a = record {
     value-sort of_type v = refl
     value-sort of_const v = refl
     value-sort of_lifetime v = absurd v
-
-abbrev pub ApartIn : List CanonicalVarKind → Terms → Type 0
-ApartIn ks s =
-    (k : Sort) (i j : ℕ) → is_placeholder_of k (kind_at ks i) ≡ true → is_placeholder_of k (kind_at ks j) ≡ true
-    → as_place k (term_at s.own.terms i) ≡ as_place k (term_at s.own.terms j) → (is_sort k of_lifetime ≡ false) → i ≡ j

@@ -15,7 +15,7 @@ use Rattle.evaluation.specs.Lists.{Every}
 use Rattle.table_laws.specs.Instances.{read_with, of_sort, first_term, other_terms, term_at}
 use Rattle.type_terms.specs.Made.{terms, is_made}
 use Rattle.table_laws.specs.Content.{Values, Terms, fits, standing, reading_of}
-use Rattle.table_laws.specs.Frames.{kind_at, is_placeholder_of, is_good, AreOwn, FrameTable, HaveValues, Allows}
+use Rattle.table_laws.specs.Frames.{kind_at, is_placeholder_of, is_good, AreOwn, FrameTable, IsMadeFrame, HaveValues, Allows}
 use Rattle.table_laws.specs.Answers.{is_variable_itself, are_variables, has_values, own_labels, answer_leaves, numbered, value_numbered, respond}
 use Rattle.infer_table.specs.declared.certainty.Certainty.TheVariants.{Yes}
 use Rattle.type_terms.proofs.Made.{false-true, left, right}
@@ -172,7 +172,7 @@ placeholder-at of_const g place (x ∷ kinds) (l ∷ labels) (suc j) o h =
 placeholder-at k g place (x ∷ kinds) (l ∷ labels) zero o h = absurd (false-true h)
 
 -- ---- the table's own values
-module _ (t : FrameTable) where
+module _ (t : FrameTable) (made : IsMadeFrame t) where
   abbrev good : Label → Bool
   good l = is_good t.kinds t.content.ty_vars t.content.const_vars l
 
@@ -183,10 +183,10 @@ module _ (t : FrameTable) where
   own = own_labels t.kinds t.labels
 
   value-one : (l : Label) → IsOne (sort_of l) (value l)
-  value-one l = resolved-one good t.content.bindings t.made.table.values (leaf l) refl
+  value-one l = resolved-one good t.content.bindings made.table.values (leaf l) refl
 
   value-made : (l : Label) → is_made good terms (leaf l) ≡ true → is_made good terms (value l) ≡ true
-  value-made l h = made-resolved good t.content.bindings t.made.table.values terms (leaf l) h
+  value-made l h = made-resolved good t.content.bindings made.table.values terms (leaf l) h
 
   free-here : (place : ℕ) (l : Label) → is_made good terms (leaf l) ≡ true → is_variable_itself place (sort_of l) (numbered t (value l)) ≡ true → HasValues (sort_of l) → IsFreeAt value (answer_leaves t) place l
   free-here place l m h g =
@@ -237,7 +237,7 @@ module _ (t : FrameTable) where
     base-sorted k n = (node-is k (chosen_value value k n own v.terms)).sort
 
     abbrev whole : Terms
-    whole = completed good t.content t.made.table.values t.made.table.acyclic v base base-sorted
+    whole = completed good t.content made.table.values made.table.acyclic v base base-sorted
 
     label-of : (x y : Label) (c : Trees) → leaf x ≡ tree y c none → x ≡ y
     label-of x y c e = cc
@@ -249,7 +249,7 @@ module _ (t : FrameTable) where
     own-reads : (k : Sort) → HasValues k → (d : ℕ) (l : Label) → sort_of l ≡ k → IsAt d l own → is_made good terms (leaf l) ≡ true → (is_placeholder_of k (kind_at t.kinds d) ≡ true → ⊥)
         → reading_of whole l ≡ of_sort k (term_at v.terms d)
     own-reads k g d l e at m n =
-        completed-reads good t.content t.made.table.values t.made.table.acyclic v base base-sorted (leaf l) (made-proper good terms (leaf l) m)
+        completed-reads good t.content made.table.values made.table.acyclic v base base-sorted (leaf l) (made-proper good terms (leaf l) m)
         ∙ by (open-cases k x.label g sort x.is_open (sym (ap (is_made good terms) x.is) ∙ value-made l m))
       where
         x : IsFreeAt value (answer_leaves t) (free-at value (answer_leaves t) 0 own d l free at (subst HasValues (sym e) g)).place l
@@ -261,21 +261,21 @@ module _ (t : FrameTable) where
         sorts : (n : ℕ) (m : Label) → value m ≡ leaf (infer k n) → HasValues (sort_of m)
         sorts n m q = let y = value-one m in subst HasValues (ap sort_of (label-of (infer k n) y.label y.children (sym q ∙ y.is)) ∙ y.sort) g
 
-        variable-read : (k : Sort) (n : ℕ) → HasValues k → read_with (standing (based good t.content t.made.table.values t.made.table.acyclic v base base-sorted)) (leaf (infer k n)) ≡ tree_of (base k n)
+        variable-read : (k : Sort) (n : ℕ) → HasValues k → read_with (standing (based good t.content made.table.values made.table.acyclic v base base-sorted)) (leaf (infer k n)) ≡ tree_of (base k n)
         variable-read of_type n g = append-none (tree_of (base of_type n))
         variable-read of_const n g = append-none (tree_of (base of_const n))
         variable-read of_lifetime n g = absurd g
 
         by : ((n : ℕ) × (x.label ≡ infer k n)) ⊎ ((j : ℕ) × (x.label ≡ placeholder k j) × (is_placeholder_of k (kind_at t.kinds j) ≡ true))
-            → read_with (standing (based good t.content t.made.table.values t.made.table.acyclic v base base-sorted)) (value l) ≡ of_sort k (term_at v.terms d)
+            → read_with (standing (based good t.content made.table.values made.table.acyclic v base base-sorted)) (value l) ≡ of_sort k (term_at v.terms d)
         by (inl y) =
             let is : value l ≡ leaf (infer k y.0) = x.is ∙ ap leaf y.1 in
-            ap (read_with (standing (based good t.content t.made.table.values t.made.table.acyclic v base base-sorted))) is ∙ variable-read k y.0 g
+            ap (read_with (standing (based good t.content made.table.values made.table.acyclic v base base-sorted))) is ∙ variable-read k y.0 g
             ∙ (node-is k (chosen_value value k y.0 own v.terms)).whole
             ∙ ap (of_sort k) (chosen-is value (answer_leaves t) k y.0 (λ m q. sorts y.0 m q) 0 own v.terms d l free at is)
         by (inr y) =
             let j = y.0 in
-            let place : IsAt j (placeholder k (0 + j)) own = placeholder-at k g 0 t.kinds t.labels j t.made.own y.2 in
+            let place : IsAt j (placeholder k (0 + j)) own = placeholder-at k g 0 t.kinds t.labels j made.own y.2 in
             let rigid : value (placeholder k (0 + j)) ≡ leaf (placeholder k (0 + j)) =
             resolved-rigid t.content.bindings (placeholder k (0 + j)) none none refl ∙ ap (λ c. tree (placeholder k (0 + j)) c (resolved t.content.bindings none)) (resolved-none t.content.bindings)
             ∙ ap (λ o. tree (placeholder k (0 + j)) none o) (resolved-none t.content.bindings) in
@@ -284,11 +284,11 @@ module _ (t : FrameTable) where
             absurd (n (subst (λ q. is_placeholder_of k (kind_at t.kinds q) ≡ true) (sym places) y.2))
 
 -- ---- a bare answer leaves all free
-module _ (t : FrameTable) (v : Values) (free : AreFree (value t) (answer_leaves t) 0 (own t)) where
+module _ (t : FrameTable) (made : IsMadeFrame t) (v : Values) (free : AreFree (value t made) (answer_leaves t) 0 (own t made)) where
   -- the rest of kinds, labels and values from a place on
   record IsRest (place : ℕ) (ks : List CanonicalVarKind) (labels : List Label) (ts : List Trees) : Type 0 where
     pub kinds : (j : ℕ) → kind_at t.kinds (place + j) ≡ kind_at ks j
-    pub places : (j : ℕ) (l : Label) → IsAt j l (own_labels ks labels) → IsAt (place + j) l (own t)
+    pub places : (j : ℕ) (l : Label) → IsAt j l (own_labels ks labels) → IsAt (place + j) l (own t made)
     pub terms : (j : ℕ) → term_at v.terms (place + j) ≡ term_at ts j
 
   plus-suc : (i j : ℕ) → suc i + j ≡ i + suc j
@@ -300,27 +300,27 @@ module _ (t : FrameTable) (v : Values) (free : AreFree (value t) (answer_leaves 
   rest-on : (place : ℕ) (k : CanonicalVarKind) (ks : List CanonicalVarKind) (l : Label) (labels : List Label) (ts : List Trees) → IsRest place (k ∷ ks) (l ∷ labels) ts → IsRest (suc place) ks labels (other_terms ts)
   rest-on place k ks l labels ts r = record {
     kinds = λ j. ap (kind_at t.kinds) (plus-suc place j) ∙ r.kinds (suc j);
-    places = λ j m at. subst (λ z. IsAt z m (own t)) (sym (plus-suc place j)) (r.places (suc j) m at);
+    places = λ j m at. subst (λ z. IsAt z m (own t made)) (sym (plus-suc place j)) (r.places (suc j) m at);
     terms = λ j. ap (term_at v.terms) (plus-suc place j) ∙ r.terms (suc j);
   }
 
-  at-here : (place : ℕ) (k : CanonicalVarKind) (ks : List CanonicalVarKind) (l : Label) (labels : List Label) (ts : List Trees) → IsRest place (k ∷ ks) (l ∷ labels) ts → IsAt place l (own t)
-  at-here place k ks l labels ts r = subst (λ z. IsAt z l (own t)) (plus-zero place) (r.places zero l refl)
+  at-here : (place : ℕ) (k : CanonicalVarKind) (ks : List CanonicalVarKind) (l : Label) (labels : List Label) (ts : List Trees) → IsRest place (k ∷ ks) (l ∷ labels) ts → IsAt place l (own t made)
+  at-here place k ks l labels ts r = subst (λ z. IsAt z l (own t made)) (plus-zero place) (r.places zero l refl)
 
   kind-here : (place : ℕ) (k : CanonicalVarKind) (ks : List CanonicalVarKind) (l : Label) (labels : List Label) (ts : List Trees) → IsRest place (k ∷ ks) (l ∷ labels) ts → kind_at t.kinds place ≡ Some k
   kind-here place k ks l labels ts r = ap (kind_at t.kinds) (sym (plus-zero place)) ∙ r.kinds zero
 
-  have-all : (place : ℕ) (ks : List CanonicalVarKind) (labels : List Label) (ts : List Trees) → AreOwn place ks labels → Every (λ l. is_made (good t) terms (leaf l) ≡ true) labels → IsRest place ks labels ts
-      → HaveValues ks ts (map (reading_of (whole t v free)) labels)
+  have-all : (place : ℕ) (ks : List CanonicalVarKind) (labels : List Label) (ts : List Trees) → AreOwn place ks labels → Every (λ l. is_made (good t made) terms (leaf l) ≡ true) labels → IsRest place ks labels ts
+      → HaveValues ks ts (map (reading_of (whole t made v free)) labels)
   have-all place [] labels ts o m r = tt
   have-all place (k ∷ ks) [] ts o m r = absurd o
   have-all place (Ty ∷ ks) (l ∷ labels) ts o m r = (
-    sym (own-reads t v free of_type tt place l (ap sort_of o.0.1) (at-here place Ty ks l labels ts r) m.0 (λ h. false-true (sym (ap (is_placeholder_of of_type) (kind-here place Ty ks l labels ts r)) ∙ h))
+    sym (own-reads t made v free of_type tt place l (ap sort_of o.0.1) (at-here place Ty ks l labels ts r) m.0 (λ h. false-true (sym (ap (is_placeholder_of of_type) (kind-here place Ty ks l labels ts r)) ∙ h))
         ∙ ap (of_sort of_type) (ap (term_at v.terms) (sym (plus-zero place)) ∙ r.terms zero)),
     have-all (suc place) ks labels (other_terms ts) o.1 m.1 (rest-on place Ty ks l labels ts r),
   )
   have-all place (Const ∷ ks) (l ∷ labels) ts o m r = (
-    sym (own-reads t v free of_const tt place l (ap sort_of o.0.1) (at-here place Const ks l labels ts r) m.0 (λ h. false-true (sym (ap (is_placeholder_of of_const) (kind-here place Const ks l labels ts r)) ∙ h))
+    sym (own-reads t made v free of_const tt place l (ap sort_of o.0.1) (at-here place Const ks l labels ts r) m.0 (λ h. false-true (sym (ap (is_placeholder_of of_const) (kind-here place Const ks l labels ts r)) ∙ h))
         ∙ ap (of_sort of_const) (ap (term_at v.terms) (sym (plus-zero place)) ∙ r.terms zero)),
     have-all (suc place) ks labels (other_terms ts) o.1 m.1 (rest-on place Const ks l labels ts r),
   )
@@ -331,23 +331,24 @@ module _ (t : FrameTable) (v : Values) (free : AreFree (value t) (answer_leaves 
   abbrev final : Terms
   final = record {
     own = v;
-    slots = map (reading_of (whole t v free)) t.labels;
-    unknowns = (whole t v free).unknowns;
+    slots = map (reading_of (whole t made v free)) t.labels;
+    unknowns = (whole t made v free).unknowns;
     proper = v.proper && fits (map Some t.kinds) v.terms;
   }
 
   final-allowed : Allows t final
   final-allowed = record {
-    sorted = completed-sorted (good t) t.content t.made.table.values t.made.table.acyclic v (base t v free) (base-sorted t v free);
-    hold = same-hold (whole t v free) final refl refl t.content.bindings (completed-holds (good t) t.content t.made.table.values t.made.table.acyclic v (base t v free) (base-sorted t v free));
-    slots = same-map (whole t v free) final refl refl t.labels;
-    own = have-all 0 t.kinds t.labels v.terms t.made.own t.made.leaves
-        (record { kinds = λ j. ap (kind_at t.kinds) (zero-plus j); places = λ j l at. subst (λ z. IsAt z l (own t)) (sym (zero-plus j)) at; terms = λ j. ap (term_at v.terms) (zero-plus j) });
+    made = made;
+    sorted = completed-sorted (good t made) t.content made.table.values made.table.acyclic v (base t made v free) (base-sorted t made v free);
+    hold = same-hold (whole t made v free) final refl refl t.content.bindings (completed-holds (good t made) t.content made.table.values made.table.acyclic v (base t made v free) (base-sorted t made v free));
+    slots = same-map (whole t made v free) final refl refl t.labels;
+    own = have-all 0 t.kinds t.labels v.terms made.own made.leaves
+        (record { kinds = λ j. ap (kind_at t.kinds) (zero-plus j); places = λ j l at. subst (λ z. IsAt z l (own t made)) (sym (zero-plus j)) at; terms = λ j. ap (term_at v.terms) (zero-plus j) });
     proper = refl;
   }
 
 -- where the answer is a yes without values, the variables of the goal can have all values
-pub respond_free : (t : FrameTable) → has_values (respond t Yes) ≡ false → (v : Values) → (s : Terms) × Allows t s × (s.own ≡ v)
-respond_free t h v =
-    let free = all-free t 0 t.kinds t.labels t.made.leaves (not-false (are_variables 0 (map (value_numbered t) (own_labels t.kinds t.labels))) h) in
-    (final t v free, final-allowed t v free, refl)
+pub respond_free : (t : FrameTable) → IsMadeFrame t → has_values (respond t Yes) ≡ false → (v : Values) → (s : Terms) × Allows t s × (s.own ≡ v)
+respond_free t made h v =
+    let free = all-free t made 0 t.kinds t.labels made.leaves (not-false (are_variables 0 (map (value_numbered t) (own_labels t.kinds t.labels))) h) in
+    (final t made v free, final-allowed t made v free, refl)

@@ -13,7 +13,8 @@ use Rattle.evaluation.specs.Lists.{Every}
 use Rattle.table_laws.specs.Instances.{put_in}
 use Rattle.type_terms.specs.Made.{terms, is_made}
 use Rattle.table_laws.specs.Equations.{IsValue}
-use Rattle.table_laws.specs.Frames.{is_good, AreOwn, FrameTable, IsMadeFrame, slot_at, labels_for, recorded_content, unknown}
+use Rattle.table_laws.specs.Frames.{is_good, AreOwn, FrameTable, IsMadeFrame, slot_at, labels_for, unknown}
+use Rattle.table_laws.specs.Operations.{fresh, recorded}
 use Rattle.table_laws.proofs.Beginning.{below-is}
 use Rattle.table_laws.proofs.Labels.{made-more}
 use Rattle.table_laws.proofs.Applying.{AreTheirs, for-bindings, for-more, after-own, new-value, good-grows, infer-leaf, with-constraints-made, itself}
@@ -40,7 +41,7 @@ every-both : (good : Label → Bool) (ls more : List Label) → AreTheirs good l
 every-both good [] more h g = g
 every-both good (l ∷ ls) more h g = (h.0, every-both good ls more h.1 g)
 
-module _ (t : FrameTable) (ks : List CanonicalVarKind) where
+module _ (t : FrameTable) (made : IsMadeFrame t) (ks : List CanonicalVarKind) where
   abbrev grown : TableTrees
   grown = table_for unknown t.content 0 ks
 
@@ -64,22 +65,22 @@ module _ (t : FrameTable) (ks : List CanonicalVarKind) where
     each-value bs h.1,
   )
 
-  pub fresh-made : IsMadeFrame t.kinds (t.labels ++ labels_for t.content 0 ks) grown
+  pub fresh-made : IsMadeFrame (fresh t ks)
   fresh-made =
       record {
         table = record {
-          acyclic = subst Acyclic (sym (for-bindings unknown t.content 0 ks)) t.made.table.acyclic;
-          values = subst (Every (IsValue better)) (sym (for-bindings unknown t.content 0 ks)) (each-value t.content.bindings t.made.table.values);
+          acyclic = subst Acyclic (sym (for-bindings unknown t.content 0 ks)) made.table.acyclic;
+          values = subst (Every (IsValue better)) (sym (for-bindings unknown t.content 0 ks)) (each-value t.content.bindings made.table.values);
           counted = record { types = λ v h. below-is v grown.ty_vars h; consts = λ v h. below-is v grown.const_vars h };
         };
-        leaves = every-both better t.labels (labels_for t.content 0 ks) (labels-made t.labels t.made.leaves) (new-leaves t.kinds grown t.content 0 ks (λ s. itself (unknowns_of grown s)));
-        own = own-more zero t.kinds t.labels (labels_for t.content 0 ks) t.made.own;
+        leaves = every-both better t.labels (labels_for t.content 0 ks) (labels-made t.labels made.leaves) (new-leaves t.kinds grown t.content 0 ks (λ s. itself (unknowns_of grown s)));
+        own = own-more zero t.kinds t.labels (labels_for t.content 0 ks) made.own;
       }
 
 -- ---- constraints on lifetimes
-pub recorded-made : (t : FrameTable) (c : Trees) → IsMadeFrame t.kinds t.labels (recorded_content t c)
-recorded-made t c = record {
-  table = with-constraints-made (is_good t.kinds t.content.ty_vars t.content.const_vars) (put_in (slot_at t.labels) c) t.content t.made.table;
-  leaves = t.made.leaves;
-  own = t.made.own;
+pub recorded-made : (t : FrameTable) → IsMadeFrame t → (c : Trees) → IsMadeFrame (recorded t c)
+recorded-made t made c = record {
+  table = with-constraints-made (is_good t.kinds t.content.ty_vars t.content.const_vars) (put_in (slot_at t.labels) c) t.content made.table;
+  leaves = made.leaves;
+  own = made.own;
 }

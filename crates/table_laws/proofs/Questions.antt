@@ -390,7 +390,7 @@ excludes-canonical t k i = refl
 
 read-goal-in : (t : FrameTable) (n : Nested) (s : Terms) → Allows t s → goal_read (standing s) (goal_in t n) ≡ goal_read (given s.slots) n.goal
 read-goal-in t n s a =
-    let part = λ (x : Trees). read-resolved (is_good t.kinds t.content.ty_vars t.content.const_vars) s t.content.bindings t.made.table.values a.hold (put_in (slot_at t.labels) x)
+    let part = λ (x : Trees). read-resolved (is_good t.kinds t.content.ty_vars t.content.const_vars) s t.content.bindings a.made.table.values a.hold (put_in (slot_at t.labels) x)
     ∙ read-put (standing s) (given s.slots) (slot_at t.labels) (put-in-slots s a.sorted t.labels a.slots) x in
     same-goals _ _ _ _ (part n.goal.environment) (part n.goal.predicate)
 
@@ -401,8 +401,8 @@ labels-clean good e (l ∷ ls) h = ((clean-parts l none none (made-clean good e 
 pub instance_of_question : InstanceOfQuestion
 instance_of_question t n s a =
     let good = is_good t.kinds t.content.ty_vars t.content.const_vars in
-    let clean = λ (x : Trees). clean-resolved good (excludes-canonical t) t.content.bindings t.made.table.values (put_in (slot_at t.labels) x)
-    (put-clean t.labels (labels-clean good (excludes-canonical t) t.labels t.made.leaves) x) in
-    same-fact _ _ _ _ _ _ (trait-of-question t n)
+    let clean = λ (x : Trees). clean-resolved good (excludes-canonical t) t.content.bindings a.made.table.values (put_in (slot_at t.labels) x)
+    (put-clean t.labels (labels-clean good (excludes-canonical t) t.labels a.made.leaves) x) in
+    same-fact _ _ _ _ _ _ (trait-of-question t a.made n)
     (read-form s a.sorted (goal_in t n) (clean n.goal.environment) (clean n.goal.predicate) ∙ read-goal-in t n s a)
     (ap (λ b. s.proper && b) (fits-leaves s a.sorted (goal_leaves (goal_in t n))) ∙ and-true s.proper)

@@ -9,7 +9,7 @@ use Rattle.evaluation.specs.Lists.{Every}
 use Rattle.table_laws.specs.Instances.{put_in, default_label}
 use Rattle.table_laws.specs.Content.{trait_at, trait_of}
 use Rattle.table_laws.specs.Equations.{IsValue}
-use Rattle.table_laws.specs.Frames.{good_in, FrameTable, Nested, label_at, label_of_sort, slot_at, goal_in, question}
+use Rattle.table_laws.specs.Frames.{good_in, FrameTable, IsMadeFrame, Nested, label_at, label_of_sort, slot_at, goal_in, question}
 use Rattle.type_terms.proofs.Made.{false-true}
 
 -- ---- trees that do not begin with a reference
@@ -105,8 +105,8 @@ trait-numbered ls (tree l c o) = by l
     by static = refl
     by l = refl
 
-pub trait-of-question : (t : FrameTable) (n : Nested) → trait_of (question t n).form.goal.predicate ≡ trait_of n.goal.predicate
-trait-of-question t n =
+pub trait-of-question : (t : FrameTable) → IsMadeFrame t → (n : Nested) → trait_of (question t n).form.goal.predicate ≡ trait_of n.goal.predicate
+trait-of-question t made n =
     trait-numbered (goal_leaves (goal_in t n)) (goal_in t n).predicate
-    ∙ trait-resolved (good_in t) t.content.bindings t.made.table.values (put_in (slot_at t.labels) n.goal.predicate)
-    ∙ trait-put (good_in t) t.labels t.made.leaves n.goal.predicate
+    ∙ trait-resolved (good_in t) t.content.bindings made.table.values (put_in (slot_at t.labels) n.goal.predicate)
+    ∙ trait-put (good_in t) t.labels made.leaves n.goal.predicate

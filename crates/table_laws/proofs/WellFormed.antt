@@ -19,7 +19,7 @@ use Rattle.infer_table.specs.Raw.{sort_of_kind, variable_value, variables_from}
 use Rattle.infer_table.specs.Answers.{have_same_sorts, is_answer_to}
 use Rattle.infer_table.proofs.SolutionLaws.{is_sort-self as sort-self}
 use Rattle.evaluation.specs.Lists.{Every}
-use Rattle.table_laws.specs.Frames.{kind_at, good_in, FrameTable, IsOwn, AreOwn}
+use Rattle.table_laws.specs.Frames.{kind_at, good_in, FrameTable, IsMadeFrame, IsOwn, AreOwn}
 use Rattle.table_laws.specs.Answers.{own_labels, own_values, joined, answer_leaves, numbered, value_numbered, kinds_of, with_kind, respond, is_kind_of, is_variable_of, is_fitting, IsWellFormed}
 use Rattle.type_terms.proofs.Made.{false-true, left, right, both, no-tree, is_ordinary, made-ordinary, makes-ordinary, IsLast, last-bound, last-trait, never-dynamic, never-dynamic-bound, never-principal}
 use Rattle.table_laws.proofs.Reading.{EachLabel}
@@ -122,7 +122,7 @@ kind-placed l k (m ∷ ms) h e a =
     by j p true q a r = sym p ∙ ap kind_of_leaf (same-label-sound m l q) ∙ e
     by j p false q a r = r a
 
-module _ (t : FrameTable) where
+module _ (t : FrameTable) (made : IsMadeFrame t) where
   abbrev ls : List Label
   ls = answer_leaves t
 
@@ -172,17 +172,17 @@ module _ (t : FrameTable) where
   value-fits : (l : Label) → LabelAmong l (own_labels t.kinds t.labels) → is_made (good_in t) terms (leaf l) ≡ true → is_fitting ks (value_numbered t l) ≡ true
   value-fits l i m =
       let x = resolved t.content.bindings (leaf l) in
-      let one = resolved-one (good_in t) t.content.bindings t.made.table.values (leaf l) refl in
+      let one = resolved-one (good_in t) t.content.bindings made.table.values (leaf l) refl in
       let listed = each-listed x (λ n h. leaves-hold kind_of_leaf n [] (joined (own_values t) +++ resolved t.content.bindings t.content.constraints)
       (stands-left kind_of_leaf (joined (own_values t)) (resolved t.content.bindings t.content.constraints) n
       (joined-stands kind_of_leaf (own_values t) x n (among-map (λ y. resolved t.content.bindings (leaf y)) l (own_labels t.kinds t.labels) i) h))) in
-      let made : is_made (is_variable_of ks) terms (numbered t x) ≡ true =
-      made-again (good_in t) (is_variable_of ks) f terms x (made-resolved (good_in t) t.content.bindings t.made.table.values terms (leaf l) m) (each-label IsListed Renamed renamed x listed) in
+      let again : is_made (is_variable_of ks) terms (numbered t x) ≡ true =
+      made-again (good_in t) (is_variable_of ks) f terms x (made-resolved (good_in t) t.content.bindings made.table.values terms (leaf l) m) (each-label IsListed Renamed renamed x listed) in
       let tree_is : numbered t x ≡ tree (new (good_in t) (is_variable_of ks) f one.label) (numbered t one.children) none = ap (numbered t) one.is in
       let sort = label-sort one.label (is_some (kind_of_leaf one.label)) ∙ one.sort in
       both (is_a (sort_of l) (numbered t x)) _
-      (ap (is_a (sort_of l)) tree_is ∙ made-is-a (is_variable_of ks) (sort_of l) (new (good_in t) (is_variable_of ks) f one.label) (numbered t one.children) sort (subst (λ z. is_made (is_variable_of ks) terms z ≡ true) tree_is made))
-      made
+      (ap (is_a (sort_of l)) tree_is ∙ made-is-a (is_variable_of ks) (sort_of l) (new (good_in t) (is_variable_of ks) f one.label) (numbered t one.children) sort (subst (λ z. is_made (is_variable_of ks) terms z ≡ true) tree_is again))
+      again
     where
       label-sort : (l : Label) (b : Bool) → sort_of (if b then f l else l) ≡ sort_of l
       label-sort l true = refl
@@ -195,7 +195,7 @@ module _ (t : FrameTable) where
   values-fit (k ∷ kinds) (l ∷ labels) i m = (value-fits l (i l (inl refl)) m.0, values-fit kinds labels (λ n h. i n (inr h)) m.1)
 
   known-fit : Every (λ (v : Value). is_fitting ks v ≡ true) (map (value_numbered t) (own_labels t.kinds t.labels))
-  known-fit = values-fit t.kinds t.labels (λ l h. h) t.made.leaves
+  known-fit = values-fit t.kinds t.labels (λ l h. h) made.leaves
 
 -- ---- variables that stand for themselves
 variable-is-a : (k : Sort) (i : ℕ) → is_a k (leaf (canonical k i)) ≡ true
@@ -218,10 +218,10 @@ variables-fit all i (k ∷ ks) h = (variable-fits all i k (ap (kind_at all) (her
     next : (i j : ℕ) → (i + 1) + j ≡ i + suc j
     next i j = omega arith
 
-pub answers_well_formed : (t : FrameTable) (c : Certainty) → IsWellFormed (respond t c)
-answers_well_formed t Yes = known-fit t
-answers_well_formed t (Maybe Ambiguity) = known-fit t
-answers_well_formed t (Maybe Overflow) = variables-fit t.kinds 0 t.kinds (λ j. ap (kind_at t.kinds) (from-zero j))
+pub answers_well_formed : (t : FrameTable) → IsMadeFrame t → (c : Certainty) → IsWellFormed (respond t c)
+answers_well_formed t made Yes = known-fit t made
+answers_well_formed t made (Maybe Ambiguity) = known-fit t made
+answers_well_formed t made (Maybe Overflow) = variables-fit t.kinds 0 t.kinds (λ j. ap (kind_at t.kinds) (from-zero j))
   where
     from-zero : (j : ℕ) → 0 + j ≡ j
     from-zero j = omega arith
@@ -243,7 +243,7 @@ same-sorts : (vs : List Value) → have_same_sorts vs vs ≡ true
 same-sorts [] = refl
 same-sorts (v ∷ vs) = both (is_sort v.sort v.sort) _ (sort-self v.sort) (same-sorts vs)
 
-pub answers_to_own_goal : (t : FrameTable) (c : Certainty) → is_answer_to (variables_from 0 t.kinds) (respond t c) ≡ true
-answers_to_own_goal t Yes = own-sorts t 0 0 t.kinds t.labels t.made.own
-answers_to_own_goal t (Maybe Ambiguity) = own-sorts t 0 0 t.kinds t.labels t.made.own
-answers_to_own_goal t (Maybe Overflow) = same-sorts (variables_from 0 t.kinds)
+pub answers_to_own_goal : (t : FrameTable) → IsMadeFrame t → (c : Certainty) → is_answer_to (variables_from 0 t.kinds) (respond t c) ≡ true
+answers_to_own_goal t made Yes = own-sorts t 0 0 t.kinds t.labels made.own
+answers_to_own_goal t made (Maybe Ambiguity) = own-sorts t 0 0 t.kinds t.labels made.own
+answers_to_own_goal t made (Maybe Overflow) = same-sorts (variables_from 0 t.kinds)

@@ -1,5 +1,5 @@
 -- The tables of frames: what they hold, as trees, which terms they allow, and what can be done with them.
-use Rattle.std.specs.Prelude.{◌≡◌, ℕ, zero, suc, ltb, Bool, true, false, ◌&&◌, List, [], ◌∷◌, map, Option, Some, None, if◌then◌else◌, refl}
+use Rattle.std.specs.Prelude.{◌≡◌, ℕ, zero, suc, ltb, Bool, true, false, ◌&&◌, List, [], ◌∷◌, map, Option, Some, None, if◌then◌else◌}
 use Rattle.model.specs.Label.{Label, Sort, of_type, of_const, of_lifetime, param, placeholder, infer, canonical, bound, static}
 use Rattle.model.specs.Trees.{Trees, leaf, sort_of, is_sort, is_a, none}
 use Rattle.infer_table.specs.Canonical.{GoalTrees, canonical_form, goal_leaves}
@@ -65,25 +65,20 @@ AreOwn place (k ∷ ks) [] = ⊥
 AreOwn place (k ∷ ks) (l ∷ ls) = IsOwn place k l × AreOwn (suc place) ks ls
 
 -- ---- tables
--- a table whose terms are made as they are to be, and what stands for the canonical variables of goal and candidate
-pub record IsMadeFrame (kinds : List CanonicalVarKind) (labels : List Label) (content : TableTrees) : Type 0 where
-  pub table : IsMade (is_good kinds content.ty_vars content.const_vars) content
-  pub leaves : Every (λ l. is_made (is_good kinds content.ty_vars content.const_vars) terms (leaf l) ≡ true) labels
-  pub own : AreOwn zero kinds labels
-
+-- the kinds of the goal's variables, what stands for the canonical variables of goal and candidate, and the unknowns
 pub record FrameTable : Type 0 where
   pub kinds : List CanonicalVarKind
   pub labels : List Label
   pub content : TableTrees
-  pub made : IsMadeFrame kinds labels content
-
--- the table with this content, if it was not refused
-abbrev pub frame_if : (t : FrameTable) (o : Option TableTrees) → ((u : TableTrees) → o ≡ Some u → IsMadeFrame t.kinds t.labels u) → Option FrameTable
-frame_if t None f = None
-frame_if t (Some u) f = Some (record { kinds = t.kinds; labels = t.labels; content = u; made = f u refl })
 
 abbrev pub good_in : FrameTable → Label → Bool
 good_in t l = is_good t.kinds t.content.ty_vars t.content.const_vars l
+
+-- its terms are made as they are to be
+pub record IsMadeFrame (t : FrameTable) : Type 0 where
+  pub table : IsMade (good_in t) t.content
+  pub leaves : Every (λ l. is_made (good_in t) terms (leaf l) ≡ true) t.labels
+  pub own : AreOwn zero t.kinds t.labels
 
 -- the unknowns of the goal have the values that are given
 abbrev pub HaveValues : List CanonicalVarKind → List Trees → List Trees → Type 0
@@ -93,6 +88,7 @@ HaveValues (Const ∷ ks) ts slots = (of_sort of_const (first_term ts) ≡ first
 HaveValues (k ∷ ks) ts slots = HaveValues ks (other_terms ts) (other_terms slots)
 
 pub record Allows (t : FrameTable) (s : Terms) : Type 0 where
+  pub made : IsMadeFrame t
   pub sorted : IsSorted s.unknowns
   pub hold : Hold s t.content
   pub slots : s.slots ≡ map (reading_of s) t.labels

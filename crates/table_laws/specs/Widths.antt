@@ -6,7 +6,7 @@ use Rattle.infer_table.specs.Solutions.{Binding}
 use Rattle.infer_table.specs.Values.{Value}
 use Rattle.evaluation.specs.Lists.{Every}
 use Rattle.table_laws.specs.Content.{Question}
-use Rattle.table_laws.specs.Frames.{FrameTable, Nested, Equation}
+use Rattle.table_laws.specs.Frames.{FrameTable, IsMadeFrame, Nested, Equation}
 
 -- how many trees stand in a row
 abbrev pub count : Trees → ℕ
@@ -43,8 +43,9 @@ number_of_values (v ∷ vs) = max (width v.trees) (number_of_values vs)
 abbrev pub BindingsWithin : ℕ → List Binding → Type 0
 BindingsWithin n bs = Every (λ b. width b.value ≤ n) bs
 
-abbrev pub TableWithin : ℕ → FrameTable → Type 0
-TableWithin n t = BindingsWithin n t.content.bindings
+pub record TableWithin (n : ℕ) (t : FrameTable) : Type 0 where
+  pub made : IsMadeFrame t
+  pub values : BindingsWithin n t.content.bindings
 
 abbrev pub NestedWithin : ℕ → Nested → Type 0
 NestedWithin n g = (width_of_predicates g.goal.environment ≤ n) × (width_of_predicates g.goal.predicate ≤ n)

@@ -2,25 +2,21 @@
 use Rattle.std.proofs.Common.{◌≡◌, ℕ, zero, suc, ◌+◌, arith, Bool, true, false, List, [], ◌∷◌, map, inl, inr, refl, sym, ◌∙◌, ap, subst, Option, Some, None, if◌then◌else◌}
 use Rattle.model.specs.Label.{Label, Sort, of_type, of_const, of_lifetime, canonical, placeholder, static}
 use Rattle.model.specs.Trees.{Trees, none, tree, leaf, ◌+++◌, is_sort, is_a}
-use Rattle.type_terms.specs.Made.{terms}
-use Rattle.type_terms.specs.Made.{is_made}
+use Rattle.type_terms.specs.Made.{terms, is_made}
 use Rattle.infer_table.specs.Solutions.{HasValues}
 use Rattle.infer_table.specs.declared.canonical.CanonicalVarKind.{CanonicalVarKind}
 use Rattle.infer_table.specs.declared.canonical.CanonicalVarKind.TheVariants.{Ty, PlaceholderTy, Const, PlaceholderConst, Region}
 use Rattle.infer_table.specs.Raw.{sort_of_kind}
+use Rattle.infer_table.proofs.SolutionLaws.{is_sort-equal as is-sort}
 use Rattle.table_laws.specs.Instances.{default_label, of_sort, as_place, first_term, other_terms, term_at}
 use Rattle.table_laws.specs.Content.{Values, fits_kind, fits, Terms, reading_of}
 use Rattle.table_laws.specs.Frames.{kind_at, IsOwn, AreOwn, FrameTable, HaveValues, Allows}
 use Rattle.table_laws.specs.Answers.{is_kind_of}
-use Rattle.type_terms.proofs.Made.{false-true}
-use Rattle.model.proofs.Walking.{left, right}
-use Rattle.model.proofs.TreeLaws.{append-none}
-use Rattle.table_laws.proofs.Reading.{EachLabel}
-use Rattle.assembly_laws.proofs.Plain.{is-sort}
-use Rattle.table_laws.proofs.Reading.{read-lifetime}
+use Rattle.type_terms.proofs.Made.{false-true, left, right}
+use Rattle.table_laws.proofs.Reading.{append-none, EachLabel, read-lifetime}
 use Rattle.table_laws.proofs.Labels.{IsGoodLabel, made-labels}
-use Rattle.assembly_laws.specs.Asking.{is_variable_over}
-use Rattle.assembly_laws.proofs.Determining.{StandsIn, AgreeIn}
+use Rattle.evaluation_laws.specs.Variables.{StandsIn, is_variable_over}
+use Rattle.evaluation_laws.proofs.Readings.{AgreeIn}
 
 -- ---- slots
 -- what the slot of a variable of this kind is, where the variable has this value
@@ -67,7 +63,7 @@ slots-from s place (j ∷ ks) (l ∷ ls) ts o h e (suc i) k q =
 pub slot-is : (t : FrameTable) (s : Terms) → Allows t s → (i : ℕ) (k : CanonicalVarKind) → kind_at t.kinds i ≡ Some k → term_at s.slots i ≡ own_slot k (term_at s.own.terms i)
 slot-is t s a i k q =
     ap (λ z. term_at z i) a.slots
-    ∙ slots-from s 0 t.kinds t.labels s.own.terms t.made.own (subst (HaveValues t.kinds s.own.terms) a.slots a.own) (λ j. ap (term_at s.own.terms) (zero-plus j)) i k q
+    ∙ slots-from s 0 t.kinds t.labels s.own.terms a.made.own (subst (HaveValues t.kinds s.own.terms) a.slots a.own) (λ j. ap (term_at s.own.terms) (zero-plus j)) i k q
   where
     zero-plus : (j : ℕ) → j ≡ 0 + j
     zero-plus j = omega arith

@@ -2,22 +2,13 @@
 use Rattle.std.proofs.Common.{◌≡◌, ℕ, Bool, true, false, ◌||◌, not, List, ◌⊎◌, inl, inr, refl, sym, ◌∙◌, ap, subst, Option, Some, None, if◌then◌else◌}
 use Rattle.model.specs.Label.{Label, Sort, of_type, of_const, of_lifetime, infer, param, placeholder, canonical, bound, static, principal, dynamic, auto_trait, predicate}
 use Rattle.model.specs.Trees.{Trees, none, tree, leaf, ◌+++◌, erase_label, placed, is_a, is_no_tree, Single}
-use Rattle.type_terms.specs.Made.{Standing, is_leaf_label, is_made}
-use Rattle.type_terms.specs.Made.{terms}
-use Rattle.type_terms.specs.Made.{bounds}
-use Rattle.type_terms.specs.Made.{traits}
+use Rattle.type_terms.specs.Made.{Standing, terms, bounds, traits, is_leaf_label, is_made}
 use Rattle.infer_table.specs.Solutions.{HasValues}
 use Rattle.table_laws.specs.Instances.{read_with, default_label, of_sort, term_at}
 use Rattle.table_laws.specs.Content.{given}
-use Rattle.type_terms.proofs.Made.{false-true}
-use Rattle.model.proofs.Walking.{left, right}
-use Rattle.type_terms.proofs.Made.{no-tree, made-ordinary, IsLast, last-bound, last-trait, never-dynamic, never-dynamic-bound, never-principal}
+use Rattle.type_terms.proofs.Made.{false-true, left, right, no-tree, made-ordinary, IsLast, last-bound, last-trait, never-dynamic, never-dynamic-bound, never-principal}
 use Rattle.table_laws.proofs.Equating.{single-of}
-
--- the label stands in the trees
-abbrev pub StandsIn : Label → Trees → Type 0
-StandsIn l none = ⊥
-StandsIn l (tree m c o) = (m ≡ l) ⊎ StandsIn l c ⊎ StandsIn l o
+use Rattle.evaluation_laws.specs.Variables.{StandsIn}
 
 -- ---- made terms have leaves
 -- a lifetime, a variable or a number has no children
@@ -41,20 +32,20 @@ made-leaves good terms (tree dynamic c o) h =
     (λ e. absurd (false-true e), made-leaves good bounds c (left (is_made good bounds c) (is_made good terms o) h), made-leaves good terms o (right (is_made good bounds c) (is_made good terms o) h))
 made-leaves good terms (tree (principal a b) c o) h = absurd (false-true h)
 made-leaves good terms (tree (auto_trait a) c o) h = absurd (false-true h)
-made-leaves good terms (tree (predicate a) c o) h = absurd (false-true h)
+made-leaves good terms (tree (predicate k) c o) h = absurd (false-true h)
 made-leaves good terms (tree l c o) h = let x = made-ordinary good l c o refl h in (ordinary-leaf l c x.1, made-leaves good terms c x.2, made-leaves good terms o x.3)
 made-leaves good bounds none h = absurd (false-true h)
 made-leaves good bounds (tree (principal a b) c o) h =
     (λ e. absurd (false-true e), made-leaves good terms c (left (is_made good terms c) (is_made good traits o) h), made-leaves good traits o (right (is_made good terms c) (is_made good traits o) h))
+made-leaves good bounds (tree (predicate k) c o) h = absurd (false-true h)
 made-leaves good bounds (tree (auto_trait a) c o) h =
     (λ e. absurd (false-true e), subst HasLeaves (sym (no-tree c (left (is_no_tree c) (is_made good traits o) h))) tt, made-leaves good traits o (right (is_no_tree c) (is_made good traits o) h))
-made-leaves good bounds (tree (predicate a) c o) h = absurd (false-true h)
 made-leaves good bounds (tree dynamic c o) h = absurd (never-dynamic-bound good c o h)
 made-leaves good bounds (tree l c o) h = last-leaves good l c o (last-bound good l c o refl h)
 made-leaves good traits none h = absurd (false-true h)
+made-leaves good traits (tree (predicate k) c o) h = absurd (false-true h)
 made-leaves good traits (tree (auto_trait a) c o) h =
     (λ e. absurd (false-true e), subst HasLeaves (sym (no-tree c (left (is_no_tree c) (is_made good traits o) h))) tt, made-leaves good traits o (right (is_no_tree c) (is_made good traits o) h))
-made-leaves good traits (tree (predicate a) c o) h = absurd (false-true h)
 made-leaves good traits (tree dynamic c o) h = absurd (never-dynamic good c o h)
 made-leaves good traits (tree (principal a b) c o) h = absurd (never-principal good a b c o h)
 made-leaves good traits (tree l c o) h = last-leaves good l c o (last-trait good l c o refl h)
