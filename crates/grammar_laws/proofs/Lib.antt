@@ -1,2 +1,3 @@
 mod LineAt
 mod LineAgain
+mod Outcome

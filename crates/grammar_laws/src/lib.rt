@@ -4,11 +4,16 @@
 //! from reading a spelling from left to right.
 #![tactic(auto)]
 
-ghost use Rattle.grammar_laws.specs.Grammar.{OneLine, SyntaxFaults, UnwrittenLines};
+ghost use Rattle.grammar_laws.specs.Grammar.{OneLine, OneOutcome, SyntaxFaults, UnwrittenLines};
 
 /// A line says at most one thing.
 pub fn one_line()
     ensures { OneLine }
+{}
+
+/// A text gives one thing: the same declarations, or the same fault, however it is read.
+pub fn one_outcome()
+    ensures { OneOutcome }
 {}
 
 /// Worked lines that say nothing, and the fault of a text with such a line.

@@ -6,3 +6,4 @@ mod Lists
 mod Lines
 mod Going
 pub mod Standing
+pub mod PartsOfLines

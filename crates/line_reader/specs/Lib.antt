@@ -4,3 +4,4 @@ pub mod Views
 pub mod Steps
 pub mod Lines
 pub mod Places
+pub mod LineParts
