@@ -50,12 +50,18 @@ IsOrphanAnswer es k ss (Err Memory) = Unit {0}
 abbrev pub RanOut : {E : Type 0} → List (Step E) → Type 0
 RanOut ss = first_end ss ≡ None
 
+-- No local type comes first: all types are of others, or an open place is met.
+abbrev pub IsBarred : {E : Type 0} → Option (Step E) → Type 0
+IsBarred None = Unit {0}
+IsBarred (Some (met_open t)) = Unit {0}
+IsBarred s = ⊥
+
 -- Whether a reference is known whose trait is the crate's own or fundamental, or is not; its walk for other crates has the
 -- steps rs, and for the crate that asks the steps ls.
 abbrev pub IsKnowableAnswer : {E : Type 0} → Bool → List (Step E) → List (Step E) → InCrate → Result (Result (Unit {0}) Conflict) (WalkError E) → Type 0
 IsKnowableAnswer own rs ls k (Ok (Ok u)) = RanOut rs × ((own ≡ true) ⊎ Passes k (first_end ls))
 IsKnowableAnswer own rs ls k (Ok (Err Downstream)) = Passes Remote (first_end rs)
-IsKnowableAnswer own rs ls k (Ok (Err Upstream)) = RanOut rs × (own ≡ false) × (Passes k (first_end ls) → ⊥)
+IsKnowableAnswer own rs ls k (Ok (Err Upstream)) = RanOut rs × (own ≡ false) × IsBarred (first_end ls)
 IsKnowableAnswer {E} own rs ls k (Err (Normalize e)) = (first_end rs ≡ Some (refused e)) ⊎ (RanOut rs × (first_end ls ≡ Some (refused e)))
 IsKnowableAnswer own rs ls k (Err Deep) = IsDeep (first_end rs) ⊎ IsDeep (first_end ls) ⊎ IsDeep (second_end ls)
 IsKnowableAnswer own rs ls k (Err Memory) = Unit {0}

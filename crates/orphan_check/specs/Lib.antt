@@ -6,3 +6,4 @@ pub mod Flags
 pub mod Walks
 pub mod Answers
 pub mod Knowing
+pub mod Exact
