@@ -4,3 +4,4 @@ pub mod Stepping
 pub mod Ending
 pub mod Reading
 pub mod Calm
+pub mod Exactness

@@ -9,6 +9,7 @@ use Rattle.type_terms.specs.Terms.{Entry, trees_at}
 use Rattle.type_terms.specs.declared.kinds.Ty.{Ty}
 use Rattle.term_folds.specs.declared.predicate.TraitRef.{TraitRef}
 use Rattle.infer_table.specs.Solutions.{resolved}
+use Rattle.declarations.specs.Items.{Items, declared}
 use Rattle.infer_table.specs.Content.{Table, content}
 use Rattle.orphan_check.specs.declared.errors.Conflict.{Conflict}
 use Rattle.orphan_check.specs.declared.errors.Conflict.TheVariants.{Upstream, Downstream}
@@ -22,6 +23,10 @@ use Rattle.orphan_check.specs.declared.errors.WalkError.TheVariants.{Normalize, 
 use Rattle.orphan_check.specs.Flags.{is_first}
 use Rattle.orphan_check.specs.Items.{OrphanError, nonlocal, uncovered, items, foreign_leaves, orphan_error}
 use Rattle.orphan_check.specs.Knowing.{meets_open, is_knowable, is_written_in}
+
+-- A normalizer that answers its input.
+abbrev pub AnswersItsInput : {E : Type 0} → (Trees → Result Trees E) → Type 0
+AnswersItsInput f = (t : Trees) → f t ≡ Ok t
 
 -- The reference with the values of its variables in their places.
 abbrev pub reference_read : List Entry → Table → TraitRef → Reference
@@ -50,6 +55,9 @@ IsOrphanCheck es t V c k limit r (Err (Normalize e)) = ⊥
 IsOrphanCheck es t V c k limit r (Err Deep) = limit < depth r.args
 IsOrphanCheck es t V c k limit r (Err Memory) = Unit {0}
 
+abbrev pub IsOrphanCheckOf : {E : Type 0} → List Entry → Items → Table → InCrate → ℕ → TraitRef → Result (Result (Unit {0}) (OrphanCheckErr Ty)) (WalkError E) → Type 0
+IsOrphanCheckOf es d t k limit r a = IsOrphanCheck es t (declared es d) d.local k limit (reference_read es t r) a
+
 -- A reference that is written in the view is knowable; or an open place is visited; or none is, and it is not known.
 abbrev pub IsKnown : {E : Type 0} → World → ℕ → ℕ → Reference → Result (Result (Unit {0}) Conflict) (WalkError E) → Type 0
 IsKnown V c limit r (Ok (Ok u)) = is_written_in V r ≡ true → is_knowable V c r ≡ true
@@ -58,3 +66,6 @@ IsKnown V c limit r (Ok (Err Upstream)) = (meets_open V r ≡ false) × (is_know
 IsKnown V c limit r (Err (Normalize e)) = ⊥
 IsKnown V c limit r (Err Deep) = limit < depth r.args
 IsKnown V c limit r (Err Memory) = Unit {0}
+
+abbrev pub IsKnownOf : {E : Type 0} → List Entry → Items → Table → ℕ → TraitRef → Result (Result (Unit {0}) Conflict) (WalkError E) → Type 0
+IsKnownOf es d t limit r a = IsKnown (declared es d) d.local limit (reference_read es t r) a
