@@ -1,5 +1,5 @@
 -- What the calls of a walk answer.
-use Rattle.std.specs.Prelude.{◌≡◌, ◌⊎◌, Bool, true, false, List, Option, Some, None, Result, Ok, Err}
+use Rattle.std.specs.Prelude.{◌≡◌, ◌⊎◌, ℕ, Bool, true, false, List, Option, Some, None, Result, Ok, Err}
 use Rattle.model.specs.Trees.{Trees}
 use Rattle.type_terms.specs.Terms.{Entry, trees_at}
 use Rattle.type_terms.specs.declared.kinds.Ty.{Ty}
@@ -12,7 +12,10 @@ use Rattle.orphan_check.specs.declared.errors.WalkError.TheVariants.{Normalize, 
 use Rattle.orphan_check.specs.declared.errors.Conflict.{Conflict}
 use Rattle.orphan_check.specs.declared.errors.Conflict.TheVariants.{Upstream, Downstream}
 use Rattle.orphan_check.specs.Flags.{leaves_in}
-use Rattle.orphan_check.specs.Steps.{Step, refused, too_deep, met_local, met_open, first_end, second_end, leaves}
+use Rattle.term_folds.specs.declared.predicate.TraitRef.{TraitRef}
+use Rattle.declarations.specs.Items.{Items}
+use Rattle.infer_table.specs.Content.{Table}
+use Rattle.orphan_check.specs.Steps.{Step, reading, steps, refused, too_deep, met_local, met_open, first_end, second_end, leaves}
 
 -- A local type ends the walk with success, and so does an open place in the walk of another crate.
 abbrev pub Passes : {E : Type 0} → InCrate → Option (Step E) → Type 0
@@ -45,6 +48,10 @@ IsOrphanAnswer es k ss (Ok (Err (UncoveredTyParams u))) = IsUncovered k (first_e
 IsOrphanAnswer es k ss (Err (Normalize e)) = first_end ss ≡ Some (refused e)
 IsOrphanAnswer es k ss (Err Deep) = IsDeep (first_end ss) ⊎ ((t : Trees) × IsUncovered k (first_end ss) t × IsDeep (second_end ss))
 IsOrphanAnswer es k ss (Err Memory) = Unit {0}
+
+-- The answer of an orphan check whose normalizer answers so.
+abbrev pub IsOrphanBy : {E : Type 0} → List Entry → Items → Table → (Trees → Result Trees E) → InCrate → ℕ → TraitRef → Result (Result (Unit {0}) (OrphanCheckErr Ty)) (WalkError E) → Type 0
+IsOrphanBy es d t f k limit r a = IsOrphanAnswer es k (steps (reading es d t f k) limit (trees_at es r.args.0)) a
 
 -- No type passes, and none is uncovered or refused: the first walk ran out.
 abbrev pub RanOut : {E : Type 0} → List (Step E) → Type 0

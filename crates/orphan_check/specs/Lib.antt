@@ -7,3 +7,4 @@ pub mod Walks
 pub mod Answers
 pub mod Knowing
 pub mod Exact
+pub mod Worked

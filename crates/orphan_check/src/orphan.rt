@@ -1,8 +1,7 @@
 //! The orphan check of a reference.
-ghost use Rattle.type_terms.specs.Terms.{Has, args_lists, trees_at};
+ghost use Rattle.type_terms.specs.Terms.{Has, args_lists};
 ghost use Rattle.infer_table.specs.Content.{Ready};
-ghost use Rattle.orphan_check.specs.Steps.{reading, steps};
-ghost use Rattle.orphan_check.specs.Answers.{IsOrphanAnswer};
+ghost use Rattle.orphan_check.specs.Answers.{IsOrphanBy};
 ghost use Rattle.orphan_check.specs.Exact.{AnswersItsInput, IsOrphanCheckOf};
 
 use crate::errors::{InCrate, OrphanCheckErr, WalkError};
@@ -37,7 +36,7 @@ pub fn orphan_check_trait_ref<N: Normalize>(
 ) -> Result<Result<(), OrphanCheckErr<Ty>>, WalkError<N::Error>>
     requires held { Has cx.now.entries args_lists trait_ref.args.0 }
     requires ready { Ready cx.now.entries infcx.now }
-    ensures walked { let r = reading cx.now.entries decls.now infcx.now (N.answers normalize.now) in_crate in IsOrphanAnswer cx.now.entries in_crate (steps r limit (trees_at cx.now.entries trait_ref.args.0)) result }
+    ensures walked { IsOrphanBy cx.now.entries decls.now infcx.now (N.answers normalize.now) in_crate limit trait_ref result }
     ensures exact { AnswersItsInput (N.answers normalize.now) → IsOrphanCheckOf cx.now.entries decls.now infcx.now in_crate limit trait_ref result }
 {
     cx.lawful();

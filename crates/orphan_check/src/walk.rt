@@ -111,7 +111,7 @@ impl<N: Normalize> Walk<'_, N> {
         requires held { Has self.now.cx.now.entries args_lists args.0 }
         requires pending_held { ArePending self.now.cx.now.entries pending.old.items }
         ensures held { OnOk result (ArePending self.now.cx.now.entries pending.new.items) }
-        ensures pushed { OnOk result (ArePushed self.now.cx.now.entries (reads N.answers self.now) limit (is_first first) (trees_at self.now.cx.now.entries args.0) pending.old.items pending.new.items) }
+        ensures pushed { let es = self.now.cx.now.entries in OnOk result (ArePushed es (reads N.answers self.now) limit (is_first first) (trees_at es args.0) pending.old.items pending.new.items) }
     {
         self.cx.lawful();
         let mut left = self.cx.args(args);
