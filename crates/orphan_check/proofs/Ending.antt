@@ -1,5 +1,5 @@
 -- Ends of walks.
-use Rattle.std.proofs.Common.{true, false, ◌≡◌, sym, ap, subst, ◌∙◌, inr, List, Option, Some, Result, Ok, Err}
+use Rattle.std.proofs.Common.{false, ◌≡◌, sym, ap, subst, ◌∙◌, inr, List, Option, Some, Result, Ok, Err}
 use Rattle.model.specs.Trees.{Trees}
 use Rattle.type_terms.specs.Terms.{Entry, trees_at}
 use Rattle.type_terms.specs.declared.kinds.Ty.{Ty}
@@ -17,7 +17,7 @@ use Rattle.orphan_check.specs.Walks.{IsStep, IsFirstEnd, IsSecondEnd}
 use Rattle.orphan_check.specs.declared.errors.OrphanCheckErr.{OrphanCheckErr}
 use Rattle.orphan_check.specs.declared.errors.OrphanCheckErr.TheVariants.{NonLocalInputType, UncoveredTyParams}
 use Rattle.std.specs.Result.{is_ok}
-use Rattle.orphan_check.specs.Answers.{IsOrphanAnswer, IsDeep, IsUncovered, Passes, RanOut}
+use Rattle.orphan_check.specs.Answers.{IsOrphanAnswer, IsDeep, IsUncovered, RanOut, IsBarred}
 
 pub ended-local : {E : Type 0} (es : List Entry) (all before after : List (Step E)) (m : Option Met) (t : Ty) → m ≡ Some (MetLocal t) → first_end all ≡ first_end before → IsStep es before (Ok m) after
     → first_end all ≡ Some (met_local (trees_at es t.0))
@@ -41,11 +41,7 @@ ran-out es ss (Ok u) e h = cc
 ran-out es ss (Err (NonLocalInputType v)) e h = h.0
 ran-out es ss (Err (UncoveredTyParams u)) e h = absurd h.0
 
-pub not-passed : {E : Type 0} (es : List Entry) (mode : OrphanCheckMode) (ss : List (Step E)) (o : Result (Unit {0}) (OrphanCheckErr Ty)) → is_ok o ≡ false → IsOrphanAnswer es (Local mode) ss (Ok o) → Passes (Local mode) (first_end ss) → ⊥
-not-passed es mode ss (Ok u) e h p = cc
-not-passed es mode ss (Err (NonLocalInputType v)) e h p = subst (Passes (Local mode)) h.0 p
-not-passed es mode ss (Err (UncoveredTyParams u)) e h p = subst (Passes (Local mode)) h.0 p
-
-pub passed : {E : Type 0} (es : List Entry) (k : InCrate) (ss : List (Step E)) (o : Result (Unit {0}) (OrphanCheckErr Ty)) → is_ok o ≡ true → IsOrphanAnswer es k ss (Ok o) → Passes k (first_end ss)
-passed es k ss (Ok u) e h = h
-passed es k ss (Err x) e h = cc
+pub not-passed : {E : Type 0} (es : List Entry) (mode : OrphanCheckMode) (ss : List (Step E)) (o : Result (Unit {0}) (OrphanCheckErr Ty)) → is_ok o ≡ false → IsOrphanAnswer es (Local mode) ss (Ok o) → IsBarred (first_end ss)
+not-passed es mode ss (Ok u) e h = cc
+not-passed es mode ss (Err (NonLocalInputType v)) e h = subst IsBarred (sym h.0) tt
+not-passed es mode ss (Err (UncoveredTyParams u)) e h = subst IsBarred (sym h.0) tt

@@ -2,3 +2,6 @@ pub mod Visiting
 pub mod Looking
 pub mod Stepping
 pub mod Ending
+pub mod Reading
+pub mod Calm
+pub mod Exactness

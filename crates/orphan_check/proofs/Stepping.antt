@@ -20,7 +20,7 @@ use Rattle.orphan_check.specs.Flags.{is_first}
 use Rattle.orphan_check.specs.Steps.{Reading, Step, refused, entered, met_local, met_open, met_foreign, read, steps_in, step_of, steps_at, steps_to}
 use Rattle.orphan_check.specs.declared.errors.WalkError.{WalkError}
 use Rattle.orphan_check.specs.declared.errors.WalkError.TheVariants.{Normalize, Deep, Memory}
-use Rattle.orphan_check.specs.Walks.{IsTaken, IsRead, IsStep, steps_before, pending_steps}
+use Rattle.orphan_check.specs.Walks.{IsTaken, IsRead, IsStep, ArePending, steps_before, pending_steps}
 
 if-true : {A : Type 0} (x : Bool) (a b : A) → x ≡ true → (if x then a else b) ≡ a
 if-true true a b e = refl
@@ -101,6 +101,9 @@ push-steps es r ps qs p e = ap (pending_steps es r) e ∙ push-before es r ps p 
 pub each-push : {A : Type 0} (P : A → Type 0) (xs : List A) (x : A) → Each P xs → P x → Each P (xs ++ x ∷ [])
 each-push P [] x h p = (p, tt)
 each-push P (y ∷ xs) x h p = (h.0, each-push P xs x h.1 p)
+
+pub pending-push : (es : List Entry) (ps qs : List Pending) (p : Pending) → qs ≡ ps ++ p ∷ [] → ArePending es ps → Has es types p.ty.0 → ArePending es qs
+pending-push es ps qs p e h k = subst (ArePending es) (sym e) (each-push (λ x. Has es types x.ty.0) ps p h k)
 
 pub each-pop : {A : Type 0} (P : A → Type 0) (xs : List A) (x : A) → Each P (xs ++ x ∷ []) → Each P xs × P x
 each-pop P [] x h = (tt, h.0)

@@ -1,8 +1,8 @@
 -- The items of a walk, and what the model's walk visits.
-use Rattle.std.proofs.Common.{◌≡◌, ℕ, refl, sym, ap, ◌∙◌, Bool, true, false, ◌||◌, if◌then◌else◌, List, [], ◌∷◌, ◌++◌, Option, Some, None}
+use Rattle.std.proofs.Common.{◌≡◌, ℕ, refl, sym, ap, ◌∙◌, Bool, true, false, ◌||◌, ◌↔◌, if◌then◌else◌, List, [], ◌∷◌, ◌++◌, Option, Some, None}
 use Rattle.std.specs.List.{list_any}
 use Rattle.model.specs.Label.{of_type, of_const, of_lifetime, adt, ref, dynamic, principal, param, placeholder, infer, canonical, bound, value, static}
-use Rattle.model.specs.Trees.{Trees, none, tree}
+use Rattle.model.specs.Trees.{Trees, none, tree, erase}
 use Rattle.model.specs.Worlds.{World, StructDecl, TraitDecl, structs_named, traits_named}
 use Rattle.model.specs.Walks.{Met, local, struct_leaf, dyn_leaf, entered, other_leaf, open_place, struct_is, trait_is, is_home, dyn_met, visited, until_decisive, ends_local}
 use Rattle.model.specs.LinkedSet.{is_open_place}
@@ -197,3 +197,58 @@ open-decides V first (tree (bound of_lifetime k i) c o) = open-decides V first o
 open-decides V first (tree (value n) c o) = open-decides V first o
 open-decides V first (tree static c o) = open-decides V first o
 open-decides V first (tree l c o) = open-decides V false o
+
+none-is : {A : Type 0} (x : Option A) → is_none x ≡ true → x ≡ None
+none-is None h = refl
+none-is (Some x) h = cc
+
+pub no-error-both : (V : World) (c : ℕ) (t : Trees) → orphan_error V c t ≡ None ↔ (ends_local (until_decisive (visited V (Some c) t)) ≡ true)
+no-error-both V c t = (λ h. sym (no-error-is V c t) ∙ ap is_none h, λ h. none-is (orphan_error V c t) (no-error-is V c t ∙ h))
+
+-- ---- lifetimes
+dyn-erased : (V : World) (d : Option ℕ) (c : Trees) → dyn_met V d (erase c) ≡ dyn_met V d c
+dyn-erased V d none = refl
+dyn-erased V d (tree (param of_lifetime i) c o) = refl
+dyn-erased V d (tree (placeholder of_lifetime i) c o) = refl
+dyn-erased V d (tree (infer of_lifetime i) c o) = refl
+dyn-erased V d (tree (canonical of_lifetime i) c o) = refl
+dyn-erased V d (tree (bound of_lifetime k i) c o) = refl
+dyn-erased V d (tree (param of_type i) c o) = refl
+dyn-erased V d (tree (placeholder of_type i) c o) = refl
+dyn-erased V d (tree (infer of_type i) c o) = refl
+dyn-erased V d (tree (canonical of_type i) c o) = refl
+dyn-erased V d (tree (bound of_type k i) c o) = refl
+dyn-erased V d (tree (param of_const i) c o) = refl
+dyn-erased V d (tree (placeholder of_const i) c o) = refl
+dyn-erased V d (tree (infer of_const i) c o) = refl
+dyn-erased V d (tree (canonical of_const i) c o) = refl
+dyn-erased V d (tree (bound of_const k i) c o) = refl
+dyn-erased V d (tree l c o) = refl
+
+joins : (ks ms ls ns : List Met) → ks ≡ ls → ms ≡ ns → ks ++ ms ≡ ls ++ ns
+joins ks ms ls ns h k = ap (λ z. z ++ ms) h ∙ ap (λ z. ls ++ z) k
+
+pub erased-visits : (V : World) (d : Option ℕ) (t : Trees) → visited V d (erase t) ≡ visited V d t
+erased-visits V d none = refl
+erased-visits V d (tree (ref b) c o) = joins (visited V d (erase c)) (visited V d (erase o)) (visited V d c) (visited V d o) (erased-visits V d c) (erased-visits V d o)
+erased-visits V d (tree (adt s) c o) = joins (struct_mets V d s (erase c)) (visited V d (erase o)) (struct_mets V d s c) (visited V d o)
+    (ap (λ z. if struct_is (λ x. is_home d x.home) V s then local ∷ [] else if struct_is (λ x. x.is_fundamental) V s then entered s ∷ z else struct_leaf s ∷ []) (erased-visits V d c)) (erased-visits V d o)
+erased-visits V d (tree dynamic c o) = joins (dyn_met V d (erase c)) (visited V d (erase o)) (dyn_met V d c) (visited V d o) (dyn-erased V d c) (erased-visits V d o)
+erased-visits V d (tree (param of_type i) c o) = ap (λ z. open_place ∷ z) (erased-visits V d o)
+erased-visits V d (tree (placeholder of_type i) c o) = ap (λ z. open_place ∷ z) (erased-visits V d o)
+erased-visits V d (tree (infer of_type i) c o) = ap (λ z. open_place ∷ z) (erased-visits V d o)
+erased-visits V d (tree (canonical of_type i) c o) = ap (λ z. open_place ∷ z) (erased-visits V d o)
+erased-visits V d (tree (bound of_type k i) c o) = ap (λ z. open_place ∷ z) (erased-visits V d o)
+erased-visits V d (tree (param of_const i) c o) = erased-visits V d o
+erased-visits V d (tree (placeholder of_const i) c o) = erased-visits V d o
+erased-visits V d (tree (infer of_const i) c o) = erased-visits V d o
+erased-visits V d (tree (canonical of_const i) c o) = erased-visits V d o
+erased-visits V d (tree (bound of_const k i) c o) = erased-visits V d o
+erased-visits V d (tree (param of_lifetime i) c o) = erased-visits V d o
+erased-visits V d (tree (placeholder of_lifetime i) c o) = erased-visits V d o
+erased-visits V d (tree (infer of_lifetime i) c o) = erased-visits V d o
+erased-visits V d (tree (canonical of_lifetime i) c o) = erased-visits V d o
+erased-visits V d (tree (bound of_lifetime k i) c o) = erased-visits V d o
+erased-visits V d (tree (value n) c o) = erased-visits V d o
+erased-visits V d (tree static c o) = erased-visits V d o
+erased-visits V d (tree l c o) = ap (λ z. other_leaf ∷ z) (erased-visits V d o)

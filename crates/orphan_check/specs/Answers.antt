@@ -1,5 +1,5 @@
 -- What the calls of a walk answer.
-use Rattle.std.specs.Prelude.{◌≡◌, ◌⊎◌, Bool, true, false, List, Option, Some, None, Result, Ok, Err}
+use Rattle.std.specs.Prelude.{◌≡◌, ◌⊎◌, ℕ, Bool, true, false, List, Option, Some, None, Result, Ok, Err}
 use Rattle.model.specs.Trees.{Trees}
 use Rattle.type_terms.specs.Terms.{Entry, trees_at}
 use Rattle.type_terms.specs.declared.kinds.Ty.{Ty}
@@ -12,7 +12,10 @@ use Rattle.orphan_check.specs.declared.errors.WalkError.TheVariants.{Normalize, 
 use Rattle.orphan_check.specs.declared.errors.Conflict.{Conflict}
 use Rattle.orphan_check.specs.declared.errors.Conflict.TheVariants.{Upstream, Downstream}
 use Rattle.orphan_check.specs.Flags.{leaves_in}
-use Rattle.orphan_check.specs.Steps.{Step, refused, too_deep, met_local, met_open, first_end, second_end, leaves}
+use Rattle.term_folds.specs.declared.predicate.TraitRef.{TraitRef}
+use Rattle.declarations.specs.Items.{Items}
+use Rattle.infer_table.specs.Content.{Table}
+use Rattle.orphan_check.specs.Steps.{Step, reading, steps, refused, too_deep, met_local, met_open, first_end, second_end, leaves}
 
 -- A local type ends the walk with success, and so does an open place in the walk of another crate.
 abbrev pub Passes : {E : Type 0} → InCrate → Option (Step E) → Type 0
@@ -46,16 +49,26 @@ IsOrphanAnswer es k ss (Err (Normalize e)) = first_end ss ≡ Some (refused e)
 IsOrphanAnswer es k ss (Err Deep) = IsDeep (first_end ss) ⊎ ((t : Trees) × IsUncovered k (first_end ss) t × IsDeep (second_end ss))
 IsOrphanAnswer es k ss (Err Memory) = Unit {0}
 
+-- The answer of an orphan check whose normalizer answers so.
+abbrev pub IsOrphanBy : {E : Type 0} → List Entry → Items → Table → (Trees → Result Trees E) → InCrate → ℕ → TraitRef → Result (Result (Unit {0}) (OrphanCheckErr Ty)) (WalkError E) → Type 0
+IsOrphanBy es d t f k limit r a = IsOrphanAnswer es k (steps (reading es d t f k) limit (trees_at es r.args.0)) a
+
 -- No type passes, and none is uncovered or refused: the first walk ran out.
 abbrev pub RanOut : {E : Type 0} → List (Step E) → Type 0
 RanOut ss = first_end ss ≡ None
+
+-- No local type comes first: all types are of others, or an open place is met.
+abbrev pub IsBarred : {E : Type 0} → Option (Step E) → Type 0
+IsBarred None = Unit {0}
+IsBarred (Some (met_open t)) = Unit {0}
+IsBarred s = ⊥
 
 -- Whether a reference is known whose trait is the crate's own or fundamental, or is not; its walk for other crates has the
 -- steps rs, and for the crate that asks the steps ls.
 abbrev pub IsKnowableAnswer : {E : Type 0} → Bool → List (Step E) → List (Step E) → InCrate → Result (Result (Unit {0}) Conflict) (WalkError E) → Type 0
 IsKnowableAnswer own rs ls k (Ok (Ok u)) = RanOut rs × ((own ≡ true) ⊎ Passes k (first_end ls))
 IsKnowableAnswer own rs ls k (Ok (Err Downstream)) = Passes Remote (first_end rs)
-IsKnowableAnswer own rs ls k (Ok (Err Upstream)) = RanOut rs × (own ≡ false) × (Passes k (first_end ls) → ⊥)
+IsKnowableAnswer own rs ls k (Ok (Err Upstream)) = RanOut rs × (own ≡ false) × IsBarred (first_end ls)
 IsKnowableAnswer {E} own rs ls k (Err (Normalize e)) = (first_end rs ≡ Some (refused e)) ⊎ (RanOut rs × (first_end ls ≡ Some (refused e)))
 IsKnowableAnswer own rs ls k (Err Deep) = IsDeep (first_end rs) ⊎ IsDeep (first_end ls) ⊎ IsDeep (second_end ls)
 IsKnowableAnswer own rs ls k (Err Memory) = Unit {0}

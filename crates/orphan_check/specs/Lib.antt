@@ -6,3 +6,5 @@ pub mod Flags
 pub mod Walks
 pub mod Answers
 pub mod Knowing
+pub mod Exact
+pub mod Worked

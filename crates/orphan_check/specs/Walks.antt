@@ -7,6 +7,8 @@ use Rattle.type_terms.specs.Kinds.{region_trees}
 use Rattle.type_terms.specs.declared.region.Region.{Region}
 use Rattle.type_terms.specs.declared.kinds.Ty.{Ty}
 use Rattle.declarations.specs.Merges.{Each}
+use Rattle.declarations.specs.Items.{Items, declared}
+use Rattle.orphan_check.specs.declared.errors.InCrate.{InCrate}
 use Rattle.orphan_check.specs.declared.look.Taken.{Taken}
 use Rattle.orphan_check.specs.declared.look.Taken.TheVariants.{Local, NonLocal, Uncovered, Reference, Fundamental}
 use Rattle.orphan_check.specs.declared.walk.Pending.{Pending}
@@ -19,7 +21,7 @@ use Rattle.orphan_check.specs.declared.errors.WalkError.{WalkError}
 use Rattle.orphan_check.specs.declared.errors.WalkError.TheVariants.{Normalize, Deep, Memory}
 use Rattle.orphan_check.specs.Looks.{local_type, open_type, leaf_type, passage, look}
 use Rattle.orphan_check.specs.Flags.{is_first, leaves_in}
-use Rattle.orphan_check.specs.Steps.{Reading, Step, refused, too_deep, entered, met_local, met_open, met_foreign, reading, steps_in, steps_to, first_end, second_end, leaves}
+use Rattle.orphan_check.specs.Steps.{Reading, Step, refused, too_deep, entered, met_local, met_open, met_foreign, home_in, reading, steps_in, steps_to, first_end, second_end, leaves}
 
 -- The type is taken as it looks; what is entered is there with its arguments.
 abbrev pub IsTaken : List Entry → World → Option ℕ → Trees → Taken → Type 0
@@ -29,6 +31,9 @@ IsTaken es V d (tree l c o) NonLocal = look V d l c ≡ leaf_type
 IsTaken es V d (tree l c o) Uncovered = look V d l c ≡ open_type
 IsTaken es V d (tree l c o) (Reference to) = (look V d l c ≡ passage) × Has es types to.0 × ((r : Region) × (c ≡ region_trees r +++ trees_at es to.0))
 IsTaken es V d (tree l c o) (Fundamental args) = (look V d l c ≡ passage) × Has es args_lists args.0 × (c ≡ trees_at es args.0)
+
+abbrev pub IsTakenIn : List Entry → Items → InCrate → Trees → Taken → Type 0
+IsTakenIn es d k t x = IsTaken es (declared es d) (home_in d.local k) t x
 
 -- A type is read so, or refused.
 abbrev pub IsRead : {E : Type 0} → List Entry → Result Trees E → Result Ty (WalkError E) → Type 0

@@ -3,6 +3,7 @@
 
 pub mod errors;
 pub mod knowable;
+pub mod laws;
 mod look;
 pub mod normalize;
 pub mod orphan;

@@ -8,7 +8,7 @@ ghost use Rattle.type_terms.specs.Kinds.{region_trees};
 ghost use Rattle.type_terms.specs.declared.region.Region.{Region};
 ghost use Rattle.declarations.specs.Items.{declared};
 ghost use Rattle.orphan_check.specs.Steps.{home_in};
-ghost use Rattle.orphan_check.specs.Walks.{IsTaken};
+ghost use Rattle.orphan_check.specs.Walks.{IsTakenIn};
 
 use crate::errors::InCrate;
 use declarations::declarations::Declarations;
@@ -41,7 +41,7 @@ fn def_id_is_local(decls: &Declarations, in_crate: InCrate, home: CrateId) -> bo
 
 /// How a walk takes a struct.
 fn take_adt(decls: &Declarations, in_crate: InCrate, id: AdtId, args: GenericArgs) -> Taken
-    ensures { (es : List Entry) → Has es args_lists args.0 → IsTaken es (declared es decls.now) (home_in decls.now.local in_crate) (tree (adt id.index) (trees_at es args.0) none) result }
+    ensures { (es : List Entry) → Has es args_lists args.0 → IsTakenIn es decls.now in_crate (tree (adt id.index) (trees_at es args.0) none) result }
 {
     match decls.adt_def(id) {
         Some(def) => {
@@ -70,7 +70,7 @@ fn trait_is_local(decls: &Declarations, in_crate: InCrate, id: TraitId) -> bool
 /// How a walk takes a `dyn`: by its principal.
 fn take_dyn(cx: &Interner, decls: &Declarations, in_crate: InCrate, bounds: Bounds) -> Taken
     requires { Has cx.now.entries bounds_lists bounds.0 }
-    ensures { (r : Region) → IsTaken cx.now.entries (declared cx.now.entries decls.now) (home_in decls.now.local in_crate) (tree dynamic (trees_at cx.now.entries bounds.0 +++ region_trees r) none) result }
+    ensures { let es = cx.now.entries in (r : Region) → IsTakenIn es decls.now in_crate (tree dynamic (trees_at es bounds.0 +++ region_trees r) none) result }
 {
     match cx.bounds(bounds).principal {
         Some(principal) => {
@@ -87,7 +87,7 @@ fn take_dyn(cx: &Interner, decls: &Declarations, in_crate: InCrate, bounds: Boun
 /// How a walk takes a type, which was read before.
 pub(crate) fn take(cx: &Interner, decls: &Declarations, in_crate: InCrate, ty: Ty) -> Taken
     requires { Has cx.now.entries types ty.0 }
-    ensures { IsTaken cx.now.entries (declared cx.now.entries decls.now) (home_in decls.now.local in_crate) (trees_at cx.now.entries ty.0) result }
+    ensures { IsTakenIn cx.now.entries decls.now in_crate (trees_at cx.now.entries ty.0) result }
 {
     match cx.kind(ty) {
         TyKind::Ref(_, to, _) => Taken::Reference(to),

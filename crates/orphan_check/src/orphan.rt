@@ -1,13 +1,12 @@
 //! The orphan check of a reference.
-ghost use Rattle.std.specs.Prelude.{◌≡◌};
-ghost use Rattle.type_terms.specs.Terms.{Has, args_lists, trees_at};
+ghost use Rattle.type_terms.specs.Terms.{Has, args_lists};
 ghost use Rattle.infer_table.specs.Content.{Ready};
-ghost use Rattle.orphan_check.specs.Steps.{reading, steps};
-ghost use Rattle.orphan_check.specs.Answers.{IsOrphanAnswer};
+ghost use Rattle.orphan_check.specs.Answers.{IsOrphanBy};
+ghost use Rattle.orphan_check.specs.Exact.{AnswersItsInput, IsOrphanCheckOf};
 
-use crate::errors::{InCrate, OrphanCheckErr, UncoveredTyParams, WalkError};
+use crate::errors::{InCrate, OrphanCheckErr, WalkError};
 use crate::normalize::Normalize;
-use crate::walk::{End, Walk};
+use crate::walk::Walk;
 use declarations::declarations::Declarations;
 use infer_table::infer_ctxt::InferCtxt;
 use std::alloc::Global;
@@ -37,8 +36,10 @@ pub fn orphan_check_trait_ref<N: Normalize>(
 ) -> Result<Result<(), OrphanCheckErr<Ty>>, WalkError<N::Error>>
     requires held { Has cx.now.entries args_lists trait_ref.args.0 }
     requires ready { Ready cx.now.entries infcx.now }
-    ensures { let r = reading cx.now.entries decls.now infcx.now (N.answers normalize.now) in_crate in IsOrphanAnswer cx.now.entries in_crate (steps r limit (trees_at cx.now.entries trait_ref.args.0)) result }
+    ensures walked { IsOrphanBy cx.now.entries decls.now infcx.now (N.answers normalize.now) in_crate limit trait_ref result }
+    ensures exact { AnswersItsInput (N.answers normalize.now) → IsOrphanCheckOf cx.now.entries decls.now infcx.now in_crate limit trait_ref result }
 {
+    cx.lawful();
     let walk = Walk {
         cx,
         infcx,
@@ -46,18 +47,5 @@ pub fn orphan_check_trait_ref<N: Normalize>(
         normalize,
         in_crate,
     };
-    match walk.first_end(alloc, trait_ref.args, limit)? {
-        End::Local => Ok(Ok(())),
-        End::NonLocal(leaves) => Ok(Err(OrphanCheckErr::NonLocalInputType(leaves))),
-        End::Uncovered(uncovered) => match in_crate {
-            InCrate::Local { .. } => {
-                let local_ty = walk.first_local(alloc, trait_ref.args, limit)?;
-                Ok(Err(OrphanCheckErr::UncoveredTyParams(UncoveredTyParams {
-                    uncovered,
-                    local_ty,
-                })))
-            }
-            InCrate::Remote => Ok(Ok(())),
-        },
-    }
+    walk.orphan_check(alloc, trait_ref.args, limit)
 }

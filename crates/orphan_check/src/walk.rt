@@ -6,7 +6,7 @@ ghost use Rattle.infer_table.specs.Content.{Ready};
 ghost use Rattle.orphan_check.specs.Flags.{is_first};
 ghost use Rattle.orphan_check.specs.Steps.{read, steps};
 
-use crate::errors::{InCrate, IsFirstInputType, WalkError};
+use crate::errors::{InCrate, IsFirstInputType, OrphanCheckErr, UncoveredTyParams, WalkError};
 use crate::look::{Taken, take};
 use crate::normalize::Normalize;
 use declarations::declarations::Declarations;
@@ -54,6 +54,7 @@ pub(crate) struct Walk<'a, N> {
 }
 
 impl<N: Normalize> Walk<'_, N> {
+    ghost use Rattle.orphan_check.specs.Answers.{IsOrphanAnswer};
     ghost use Rattle.orphan_check.specs.Walks.{IsRead, IsStep, IsFirstEnd, IsSecondEnd, ArePending, ArePushed, pending_steps, reads};
 
     /// The type as the normalizer answers it, or as it is where that is a variable. Variables have their values.
@@ -110,7 +111,7 @@ impl<N: Normalize> Walk<'_, N> {
         requires held { Has self.now.cx.now.entries args_lists args.0 }
         requires pending_held { ArePending self.now.cx.now.entries pending.old.items }
         ensures held { OnOk result (ArePending self.now.cx.now.entries pending.new.items) }
-        ensures pushed { OnOk result (ArePushed self.now.cx.now.entries (reads N.answers self.now) limit (is_first first) (trees_at self.now.cx.now.entries args.0) pending.old.items pending.new.items) }
+        ensures pushed { let es = self.now.cx.now.entries in OnOk result (ArePushed es (reads N.answers self.now) limit (is_first first) (trees_at es args.0) pending.old.items pending.new.items) }
     {
         self.cx.lawful();
         let mut left = self.cx.args(args);
@@ -209,6 +210,33 @@ impl<N: Normalize> Walk<'_, N> {
                 Ok(None) | Err(WalkError::Normalize(_)) => return Ok(None),
                 Err(error) => return Err(error),
             }
+        }
+    }
+
+    /// The answer of the check: what ends the first walk, and behind an uncovered place the first local type of a second one.
+    pub fn orphan_check(
+        &self,
+        alloc: Global,
+        args: GenericArgs,
+        limit: u32,
+    ) -> Result<Result<(), OrphanCheckErr<Ty>>, WalkError<N::Error>>
+        requires held { Has self.now.cx.now.entries args_lists args.0 }
+        requires ready { Ready self.now.cx.now.entries self.now.infcx.now }
+        ensures { IsOrphanAnswer self.now.cx.now.entries self.now.in_crate (steps (reads N.answers self.now) limit (trees_at self.now.cx.now.entries args.0)) result }
+    {
+        match self.first_end(alloc, args, limit)? {
+            End::Local => Ok(Ok(())),
+            End::NonLocal(leaves) => Ok(Err(OrphanCheckErr::NonLocalInputType(leaves))),
+            End::Uncovered(uncovered) => match self.in_crate {
+                InCrate::Local { .. } => {
+                    let local_ty = self.first_local(alloc, args, limit)?;
+                    Ok(Err(OrphanCheckErr::UncoveredTyParams(UncoveredTyParams {
+                        uncovered,
+                        local_ty,
+                    })))
+                }
+                InCrate::Remote => Ok(Ok(())),
+            },
         }
     }
 }

@@ -1,16 +1,7 @@
-use Rattle.std.proofs.Common.{◌∙◌, ap, sym, subst, Err}
-use Rattle.std.proofs.lemmas.Result.{err_from_is_err_and}
-use Rattle.type_terms.specs.Terms.{trees_at}
-use Rattle.orphan_check.specs.Steps.{reading, steps}
-use Rattle.orphan_check.specs.Answers.{IsOrphanAnswer}
-use Rattle.orphan_check.proofs.Ending.{second-refused}
+use Rattle.orphan_check.proofs.Exactness.{orphan-exact}
 use Rattle.orphan_check.proofs.orphan.orphan_check_trait_ref.Goals as goal
 
-pub returns-in_err-local_ty-in-Local-in_crate : goal.returns-in_err-local_ty-in-Local-in_crate
-returns-in_err-local_ty-in-Local-in_crate g c =
-    let es = c.args.cx.now.entries in
-    let r = reading es c.args.decls.now c.args.infcx.now (g.N.Normalize.answers c.args.normalize.now) c.args.in_crate in
-    let ss = steps r c.args.limit (trees_at es c.args.trait_ref.args.0) in
-    let e = err_from_is_err_and c.from_residual-in_err-local_ty-in-Local-in_crate.result c.from_residual-in_err-local_ty-in-Local-in_crate.ensures.1 in
-    subst (λ z. IsOrphanAnswer es c.args.in_crate ss z) (sym (e.1 ∙ ap Err e.2))
-    (second-refused es c.args.in_crate c.in-Local-in_crate.mode ss c.in_ok-first_end.field-0 c.in-Uncovered.uncovered c.in_err-local_ty-in-Local-in_crate.field-0.0 c.in-Local-in_crate.is c.in-Uncovered.is c.in_ok-first_end.ensures c.in_err-local_ty-in-Local-in_crate.ensures)
+pub returns-clause-exact : goal.returns-clause-exact
+returns-clause-exact g c = λ same.
+    orphan-exact c.args.cx.now.entries c.lawful.ensures c.args.decls.now c.args.infcx.now c.requires.ready (g.N.Normalize.answers c.args.normalize.now) c.args.limit c.args.trait_ref c.requires.held same c.args.in_crate
+    c.orphan_check.result c.orphan_check.ensures

@@ -1,8 +1,8 @@
-use Rattle.std.proofs.Common.{refl, ◌∙◌, ap, sym, subst, ◌≡◌, ◌++◌, ◌∷◌, []}
+use Rattle.std.proofs.Common.{refl, ◌∙◌, ap, subst, ◌≡◌, ◌++◌, ◌∷◌, []}
 use Rattle.type_terms.specs.Kinds.{ArgsHeld}
 use Rattle.type_terms.specs.declared.kinds.GenericArgKind.TheVariants.{Ty}
-use Rattle.orphan_check.specs.Walks.{ArePending, pending_steps, reads}
-use Rattle.orphan_check.proofs.Stepping.{each-push, push-last, skip-last, args-held-append}
+use Rattle.orphan_check.specs.Walks.{pending_steps, reads}
+use Rattle.orphan_check.proofs.Stepping.{pending-push, push-last, skip-last, args-held-append}
 use Rattle.orphan_check.proofs.walk.Walk.push_others.Goals as goal
 
 pub others-preserved-in_ok-push : goal.others-preserved-in_ok-push
@@ -12,7 +12,7 @@ others-preserved-in_ok-push g c =
     let is : c.others.left.now ≡ c.in-Some.others.now ++ Ty c.in-Ty.ty ∷ [] = c.in-Some.ensures.cases.0 ∙ ap (λ z. c.in-Some.others.now ++ z ∷ []) c.in-Ty.is in
     let held = args-held-append es c.in-Some.others.now (Ty c.in-Ty.ty) (subst (ArgsHeld es) is c.others.invariant.0) in (
       held.0,
-      subst (ArePending es) (sym c.in_ok-push.ensures.items) (each-push _ c.others.pending.items _ c.others.invariant.1 held.1),
+      pending-push es c.others.pending.items c.push.new.self.items _ c.in_ok-push.ensures.items c.others.invariant.1 held.1,
       push-last es c.lawful.ensures r c.args.limit c.args.args.now c.others.left.now c.in-Some.others.now c.in-Ty.ty c.args.pending.now.items c.others.pending.items c.push.new.self.items _ is c.others.invariant.0
           c.in_ok-push.ensures.items refl refl refl c.others.invariant.2,
     )

@@ -1,0 +1,71 @@
+-- What the calls answer where nothing has to be normalized, in the words of the walk of a reference with the values of its
+-- variables.
+use Rattle.std.specs.Prelude.{◌≡◌, ℕ, ◌<◌, Bool, true, false, List, map, Some, None, Result, Ok, Err}
+use Rattle.std.specs.Option.{option_map}
+use Rattle.model.specs.Trees.{Trees, depth}
+use Rattle.model.specs.Worlds.{World, Reference}
+use Rattle.model.specs.Walks.{walk, ends_local, is_known_in}
+use Rattle.type_terms.specs.Terms.{Entry, trees_at}
+use Rattle.type_terms.specs.declared.kinds.Ty.{Ty}
+use Rattle.term_folds.specs.declared.predicate.TraitRef.{TraitRef}
+use Rattle.infer_table.specs.Solutions.{resolved}
+use Rattle.declarations.specs.Items.{Items, declared}
+use Rattle.infer_table.specs.Content.{Table, content}
+use Rattle.orphan_check.specs.declared.errors.Conflict.{Conflict}
+use Rattle.orphan_check.specs.declared.errors.Conflict.TheVariants.{Upstream, Downstream}
+use Rattle.orphan_check.specs.declared.errors.InCrate.{InCrate}
+use Rattle.orphan_check.specs.declared.errors.InCrate.TheVariants.{Local, Remote}
+use Rattle.orphan_check.specs.declared.errors.IsFirstInputType.{IsFirstInputType}
+use Rattle.orphan_check.specs.declared.errors.OrphanCheckErr.{OrphanCheckErr}
+use Rattle.orphan_check.specs.declared.errors.OrphanCheckErr.TheVariants.{NonLocalInputType, UncoveredTyParams}
+use Rattle.orphan_check.specs.declared.errors.WalkError.{WalkError}
+use Rattle.orphan_check.specs.declared.errors.WalkError.TheVariants.{Normalize, Deep, Memory}
+use Rattle.orphan_check.specs.Flags.{is_first}
+use Rattle.orphan_check.specs.Items.{OrphanError, nonlocal, uncovered, items, foreign_leaves, orphan_error}
+use Rattle.orphan_check.specs.Knowing.{meets_open, is_knowable, is_written_in}
+
+-- A normalizer that answers its input.
+abbrev pub AnswersItsInput : {E : Type 0} → (Trees → Result Trees E) → Type 0
+AnswersItsInput f = (t : Trees) → f t ≡ Ok t
+
+-- The reference with the values of its variables in their places.
+abbrev pub reference_read : List Entry → Table → TraitRef → Reference
+reference_read es t r = record { trait = r.def_id.index; args = resolved (content es t.values) (trees_at es r.args.0) }
+
+-- A type, with the values of its variables.
+abbrev pub type_read : List Entry → Table → Ty → Trees
+type_read es t x = resolved (content es t.values) (trees_at es x.0)
+
+abbrev pub leaves_read : List Entry → Table → List (Ty × IsFirstInputType) → List (Trees × Bool)
+leaves_read es t ps = map (λ p. (type_read es t p.0, is_first p.1)) ps
+
+-- The error, with the values of variables.
+abbrev pub error_read : List Entry → Table → OrphanCheckErr Ty → OrphanError
+error_read es t (NonLocalInputType v) = nonlocal (leaves_read es t v.items)
+error_read es t (UncoveredTyParams u) = uncovered (type_read es t u.uncovered) (option_map (type_read es t) u.local_ty)
+
+-- The crate that asks passes exactly if its walk ends at a local type, and another crate exactly if its walk meets an open
+-- place; the error is that of the walk. `Deep` comes only where types are nested deeper than the limit.
+abbrev pub IsOrphanCheck : {E : Type 0} → List Entry → Table → World → ℕ → InCrate → ℕ → Reference → Result (Result (Unit {0}) (OrphanCheckErr Ty)) (WalkError E) → Type 0
+IsOrphanCheck es t V c (Local mode) limit r (Ok (Ok u)) = ends_local (walk V c r) ≡ true
+IsOrphanCheck es t V c (Local mode) limit r (Ok (Err e)) = (ends_local (walk V c r) ≡ false) × (orphan_error V c r.args ≡ Some (error_read es t e))
+IsOrphanCheck es t V c Remote limit r (Ok (Ok u)) = meets_open V r ≡ true
+IsOrphanCheck es t V c Remote limit r (Ok (Err e)) = (meets_open V r ≡ false) × (error_read es t e ≡ nonlocal (foreign_leaves (items V None true r.args)))
+IsOrphanCheck es t V c k limit r (Err (Normalize e)) = ⊥
+IsOrphanCheck es t V c k limit r (Err Deep) = limit < depth r.args
+IsOrphanCheck es t V c k limit r (Err Memory) = Unit {0}
+
+abbrev pub IsOrphanCheckOf : {E : Type 0} → List Entry → Items → Table → InCrate → ℕ → TraitRef → Result (Result (Unit {0}) (OrphanCheckErr Ty)) (WalkError E) → Type 0
+IsOrphanCheckOf es d t k limit r a = IsOrphanCheck es t (declared es d) d.local k limit (reference_read es t r) a
+
+-- A reference that is written in the view is knowable; or an open place is visited; or none is, and it is not known.
+abbrev pub IsKnown : {E : Type 0} → World → ℕ → ℕ → Reference → Result (Result (Unit {0}) Conflict) (WalkError E) → Type 0
+IsKnown V c limit r (Ok (Ok u)) = is_written_in V r ≡ true → is_knowable V c r ≡ true
+IsKnown V c limit r (Ok (Err Downstream)) = meets_open V r ≡ true
+IsKnown V c limit r (Ok (Err Upstream)) = (meets_open V r ≡ false) × (is_known_in V c r ≡ false)
+IsKnown V c limit r (Err (Normalize e)) = ⊥
+IsKnown V c limit r (Err Deep) = limit < depth r.args
+IsKnown V c limit r (Err Memory) = Unit {0}
+
+abbrev pub IsKnownOf : {E : Type 0} → List Entry → Items → Table → ℕ → TraitRef → Result (Result (Unit {0}) Conflict) (WalkError E) → Type 0
+IsKnownOf es d t limit r a = IsKnown (declared es d) d.local limit (reference_read es t r) a
