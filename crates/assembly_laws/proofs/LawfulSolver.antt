@@ -30,7 +30,7 @@ use Rattle.assembly_laws.specs.Lawful.{SolverPremises, SolverIsLawful, SolverIsL
 use Rattle.assembly_laws.proofs.Solver.{solutions-by}
 use Rattle.assembly_laws.proofs.LawfulAll.{sound-and-narrow-is-lawful}
 use Rattle.assembly_laws.proofs.Reading.{true-false}
-use Rattle.assembly_laws.proofs.Beginnings.{begin-says-nothing}
+use Rattle.table_laws.proofs.FirstAnswers.{begin-says-nothing}
 use Rattle.assembly_laws.proofs.Cover.{asked-by, known-kinds}
 use Rattle.assembly_laws.proofs.CandidateBounds.{candidates-are-few}
 use Rattle.assembly_laws.proofs.NarrowCandidates.{candidates-are-narrow}
