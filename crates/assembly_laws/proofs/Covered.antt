@@ -32,7 +32,7 @@ use Rattle.assembly_laws.proofs.Solver.{solutions-by}
 use Rattle.assembly_laws.proofs.Plans.{coherence_keeps}
 use Rattle.assembly_laws.proofs.Covering.{Holds, answered, each-holds, first-holds}
 use Rattle.assembly_laws.proofs.Realizing.{asked-terms, by-candidates, by-unknowable, unsure-realizes}
-use Rattle.assembly_laws.proofs.Beginnings.{begin-says-nothing}
+use Rattle.table_laws.proofs.FirstAnswers.{begin-says-nothing}
 
 no-first : (x y : Bool) → x || y ≡ false → y ≡ false
 no-first true y e = absurd (cc)

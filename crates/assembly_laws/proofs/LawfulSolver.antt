@@ -27,7 +27,7 @@ use Rattle.assembly_laws.proofs.Realizing.{by-candidates, by-unknowable, unsure-
 use Rattle.assembly_laws.specs.Cover.{AreTermsOf, GivenIsRealized, all_candidates, SolutionsAreCandidates}
 use Rattle.assembly_laws.proofs.Premises.{SolverPremises, SolverIsLawful}
 use Rattle.assembly_laws.proofs.Reading.{true-false}
-use Rattle.assembly_laws.proofs.Beginnings.{begin-says-nothing}
+use Rattle.table_laws.proofs.FirstAnswers.{begin-says-nothing}
 use Rattle.assembly_laws.proofs.Cover.{asked-by, known-kinds}
 use Rattle.assembly_laws.proofs.Plans.{coherence_keeps, outside_keeps, Realized}
 

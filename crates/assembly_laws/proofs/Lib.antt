@@ -25,7 +25,6 @@ pub mod Worlds
 pub mod EquationTerms
 pub mod Covering
 pub mod Realizing
-pub mod Beginnings
 pub mod Covered
 pub mod Levels
 pub mod Stack

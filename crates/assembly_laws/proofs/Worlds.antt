@@ -6,9 +6,10 @@ use Rattle.model.specs.Trees.{none}
 use Rattle.model.specs.Worlds.{World, Reference}
 use Rattle.model.specs.Rules.{is_coinductive}
 use Rattle.infer_table.specs.Canonical.{CanonicalForm, kind_of_leaf, kind_in_clause, goal_leaves, canonical_label, relabeled}
-use Rattle.infer_table.specs.Solutions.{Binding, replace, resolved}
+use Rattle.infer_table.specs.Solutions.{resolved}
 use Rattle.infer_table.specs.Unification.{TableTrees}
 use Rattle.infer_table.specs.declared.certainty.TypingMode.TheVariants.{Coherence, PostAnalysis}
+use Rattle.infer_table.proofs.SolutionLaws.{resolved-none}
 use Rattle.infer_table.specs.Responses.{AnswerTrees}
 use Rattle.evaluation.specs.Lists.{Every}
 use Rattle.table_laws.specs.Instances.{put_in}
@@ -61,10 +62,6 @@ kept-tables = record {
 }
 
 -- ---- questions
-resolved-none : (bs : List Binding) → resolved bs none ≡ none
-resolved-none [] = refl
-resolved-none (b ∷ older) = ap (replace b.sort b.var (resolved older b.value)) (resolved-none older)
-
 no-kinds : (T : FrameTable) → HasNone T → (ls : List Label) → AreTheirs (good_in T) ls → has_placeholder (kinds_known (map kind_of_leaf ls)) ≡ false
 no-kinds T h [] e = refl
 no-kinds T h (infer of_type v ∷ ls) e = no-kinds T h ls e.1

@@ -20,8 +20,8 @@ use Rattle.table_laws.specs.Widths.{TableWithin}
 use Rattle.table_laws.proofs.Reading.{same-map}
 use Rattle.table_laws.proofs.Beginning.{begin-made, terms_for, values-sorted, given-values}
 use Rattle.table_laws.proofs.Fresh.{recorded-made}
-use Rattle.table_laws.proofs.Equating.{equations-narrow, in-turn-keeps, is-apart, lifetimes-good, made-in-turn, pair-reads, pairs-terms, with-content-is}
-use Rattle.table_laws.proofs.Applying.{all-agree, better_in, extended-sorted, for-bindings, further, further-apart, further-holds, further-map, goal-leaves, grown-made, grown_of, is-left, known_in, opens, pairs-made, pairs-one, put-cases, put-made, todo, turned, turns, values_in, with_unknowns, zero-plus}
+use Rattle.table_laws.proofs.Equating.{equations-narrow, in-turn-keeps, is-apart, lifetimes-good, made-in-turn, pair-reads, pairs-terms, with-content-is, further-apart}
+use Rattle.table_laws.proofs.Applying.{all-agree, better_in, extended-sorted, for-bindings, further, further-holds, further-map, goal-leaves, grown-made, grown_of, is-left, known_in, opens, pairs-made, pairs-one, put-cases, put-made, todo, turned, turns, values_in, with_unknowns, zero-plus}
 use Rattle.evaluation_laws.specs.Tables.{frame_tables}
 
 -- ---- the table with which a frame begins

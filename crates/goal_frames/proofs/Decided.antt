@@ -5,6 +5,7 @@ use Rattle.model.specs.Trees.{Trees, none, tree}
 use Rattle.type_terms.specs.Made.{terms, is_made}
 use Rattle.infer_table.specs.Canonical.{GoalTrees, CanonicalForm, canonical_form}
 use Rattle.infer_table.specs.Solutions.{Binding, replace, resolved}
+use Rattle.infer_table.proofs.SolutionLaws.{resolved-none}
 use Rattle.infer_table.specs.declared.canonical.CanonicalVarKind.{CanonicalVarKind}
 use Rattle.infer_table.specs.declared.certainty.TypingMode.{TypingMode}
 use Rattle.evaluation.specs.Lists.{Every}
@@ -36,10 +37,6 @@ abbrev pub IsDecided : Question → Type 0
 IsDecided q = (a : Asked) × (asked q.form ≡ Some a)
 
 -- ---- a nested goal over the table's unknowns
-resolved-none : (bs : List Binding) → resolved bs none ≡ none
-resolved-none [] = refl
-resolved-none (b ∷ older) = ap (replace b.sort b.var (resolved older b.value)) (resolved-none older)
-
 resolved-trait : (bs : List Binding) (i : ℕ) (c : Trees) → resolved bs (tree (predicate (of_trait i)) c none) ≡ tree (predicate (of_trait i)) (resolved bs c) none
 resolved-trait [] i c = refl
 resolved-trait (b ∷ older) i c = ap (replace b.sort b.var (resolved older b.value)) (resolved-trait older i c)

@@ -20,7 +20,7 @@ use Rattle.goal_frames.specs.Rules.{Bound}
 use Rattle.evaluation_laws.specs.Variables.{is_variable_over}
 use Rattle.goal_frames.specs.Handlers.{with_first, all_known, is_variable_label, places_stand, asked_with}
 use Rattle.goal_frames.specs.Forms.{is_unnumbered, CanonicalGoalsAreAsked}
-use Rattle.goal_frames.proofs.Beginnings.{AreFresh, append-list, length-more, place-is, number-self}
+use Rattle.table_laws.proofs.FirstAnswers.{AreFresh, append-list, length-more, place-is, number-self}
 
 -- ---- kinds of open leaves
 abbrev AreOpen : List Label → Type 0

@@ -37,7 +37,7 @@ use Rattle.goal_frames.proofs.Asked.{IsAsked, asked-is, kinds-are}
 use Rattle.evaluation_laws.proofs.Slots.{own-slots-agree}
 use Rattle.goal_frames.proofs.Sound.{term-one, fact-behind, sound, determined}
 use Rattle.goal_frames.proofs.Widths.{width-behind, rule-within, premises-behind, few}
-use Rattle.goal_frames.proofs.Beginnings.{begin-says-nothing}
+use Rattle.table_laws.proofs.FirstAnswers.{begin-says-nothing}
 use Rattle.goal_frames.proofs.Same.{answers-are, applies-to-yeses}
 use Rattle.goal_frames.proofs.Closed.{closed-kinds}
 use Rattle.evaluation_laws.proofs.Unplaced.{IsNotPlace}

@@ -10,7 +10,6 @@ pub mod Asked
 pub mod Shortages
 pub mod Sound
 pub mod Widths
-pub mod Beginnings
 pub mod Same
 pub mod Closed
 pub mod Filled

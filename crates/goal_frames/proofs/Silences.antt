@@ -14,7 +14,7 @@ use Rattle.infer_table.specs.Responses.{AnswerTrees}
 use Rattle.table_laws.specs.Answers.{own_labels, answer_leaves, value_numbered, with_kind, kinds_of, without_values, respond}
 use Rattle.table_laws.specs.Operations.{begin}
 use Rattle.table_laws.specs.Frames.{labels_from}
-use Rattle.goal_frames.proofs.Beginnings.{AreFresh, append-list, length-more, place-is, value_by, own-labels-all, begin-fresh, begin-leaves}
+use Rattle.table_laws.proofs.FirstAnswers.{AreFresh, append-list, length-more, place-is, value_by, own-labels-all, begin-fresh, begin-leaves}
 
 -- the labels are of these kinds
 abbrev AreOf : List CanonicalVarKind → List Label → Type 0

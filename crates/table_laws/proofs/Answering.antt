@@ -28,7 +28,8 @@ use Rattle.table_laws.specs.Answers.{is_variable_itself, are_variables, has_valu
 use Rattle.type_terms.proofs.Made.{false-true, left, right}
 use Rattle.table_laws.proofs.Reading.{append-none, read-leaf, EachLabel, Carries, read-relabeled}
 use Rattle.table_laws.proofs.Beginning.{node_of, node-is}
-use Rattle.table_laws.proofs.Questions.{place-is-a, IsNoCanonical, clean-parts, reading-sorted, sort-of-sort, read-resolved, clean-resolved, excludes-canonical, made-clean, some-none}
+use Rattle.table_laws.proofs.Questions.{place-is-a, reading-sorted, sort-of-sort, read-resolved, clean-resolved, excludes-canonical, made-clean, some-none}
+use Rattle.infer_table.proofs.WithoutCanonical.{IsNoCanonical, clean-parts}
 
 -- ---- an answer without values agrees with all
 pub not-false : (b : Bool) → not b ≡ false → b ≡ true

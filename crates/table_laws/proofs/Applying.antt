@@ -19,11 +19,11 @@ use Rattle.infer_table.specs.Answers.{have_same_sorts, is_answer_to}
 use Rattle.infer_table.specs.Applying.{is_numbered, root_labels, original_of, next_unknown, unknowns_of, table_after, values_for, table_for, known_value}
 use Rattle.infer_table.specs.Applied.{trees_of, solved_in_turn, with_constraints, applied}
 use Rattle.evaluation.specs.Lists.{Every}
-use Rattle.table_laws.specs.Instances.{read_with, put_in, of_sort, as_place, term_at}
+use Rattle.table_laws.specs.Instances.{read_with, put_in, of_sort}
 use Rattle.type_terms.specs.Made.{terms, is_made}
-use Rattle.table_laws.specs.Content.{Values, Terms, fits, standing, reading_of, Stands}
-use Rattle.table_laws.specs.Equations.{AreOne, IsTerm, IsPair, IsValue, HasLifetimes, IsMade, IsApart}
-use Rattle.table_laws.specs.Frames.{kind_at, is_good, good_in, FrameTable, IsMadeFrame, AllowsApart, Nested, goal_in, slot_at, in_turn, and_then}
+use Rattle.table_laws.specs.Content.{Terms, fits, standing, reading_of, Stands}
+use Rattle.table_laws.specs.Equations.{AreOne, IsTerm, IsPair, IsValue, HasLifetimes, IsMade}
+use Rattle.table_laws.specs.Frames.{kind_at, is_good, good_in, FrameTable, IsMadeFrame, Nested, goal_in, slot_at, in_turn, and_then}
 use Rattle.table_laws.specs.Operations.{with_content}
 use Rattle.table_laws.specs.Answers.{picked, IsPicked, ArePicked, is_kind_of, is_variable_of, is_fitting, are_fitting, is_fitting_answer, put_into, leaf_value, originals_of}
 use Rattle.type_terms.proofs.Made.{false-true, left, right, no-tree, is_ordinary, made-ordinary}
@@ -783,23 +783,6 @@ module _ (t : FrameTable) (s : Terms) (q : Assignment) (known : ℕ → Option V
     ap tree_of (extended-old s.unknowns q known t.content 0 ks b.sort b.var (counted-by b.sort b.var h.0.sort h.0.known)) ∙ g.0 ∙ sym (further-read b.value h.0.made),
     further-holds bs h.1 g.1,
   )
-
-pub further-apart : (t : FrameTable) (s r : Terms) (a b : ℕ) → AllowsApart t s → r.own ≡ s.own → IsSorted r.unknowns → IsApart (is_good t.kinds a b) r
-further-apart t s r a b h e sorted = record { sorted = sorted; no_parameter = parameter; apart = placeholders }
-  where
-    parameter : (k : Sort) (i : ℕ) → HasValues k → is_good t.kinds a b (param k i) ≡ true → ⊥
-    parameter of_type i v g = false-true g
-    parameter of_const i v g = false-true g
-    parameter of_lifetime i v g = v
-
-    value-sort : (k : Sort) → HasValues k → is_sort k of_lifetime ≡ false
-    value-sort of_type v = refl
-    value-sort of_const v = refl
-    value-sort of_lifetime v = absurd v
-
-    placeholders : (k : Sort) (i j : ℕ) → HasValues k → is_good t.kinds a b (placeholder k i) ≡ true → is_good t.kinds a b (placeholder k j) ≡ true
-        → as_place k (term_at r.own.terms i) ≡ as_place k (term_at r.own.terms j) → i ≡ j
-    placeholders k i j v g g' q = h.apart k i j g g' (subst (λ (o : Values). as_place k (term_at o.terms i) ≡ as_place k (term_at o.terms j)) e q) (value-sort k v)
 
 abbrev pub with_unknowns : Terms → Assignment → Terms
 with_unknowns s u = record { own = s.own; slots = s.slots; unknowns = u; proper = s.proper }

@@ -3,14 +3,14 @@ use Rattle.std.proofs.Common.{◌≡◌, ℕ, zero, suc, Bool, true, false, not,
 use Rattle.model.specs.Label.{Label, Sort, of_type, of_const, of_lifetime, infer, param, placeholder, canonical, static, dynamic, principal, auto_trait, bound, predicate}
 use Rattle.model.specs.Trees.{Trees, none, tree, leaf, ◌+++◌, sort_of, is_sort, is_a, is_no_tree, placed, Single}
 use Rattle.infer_table.specs.Unification.{TableTrees, Worklist, unified}
-use Rattle.infer_table.specs.Solutions.{HasValues}
+use Rattle.infer_table.specs.Solutions.{IsSorted, HasValues}
 use Rattle.infer_table.specs.declared.canonical.CanonicalVarKind.{CanonicalVarKind}
 use Rattle.infer_table.specs.Values.{Value}
 use Rattle.infer_table.proofs.SolutionLaws.{is_sort-equal as is-sort}
 use Rattle.evaluation.specs.Lists.{Every}
-use Rattle.table_laws.specs.Instances.{put_in, default_label}
+use Rattle.table_laws.specs.Instances.{put_in, default_label, as_place, term_at}
 use Rattle.type_terms.specs.Made.{Standing, terms, bounds, traits, is_leaf_label, is_made}
-use Rattle.table_laws.specs.Content.{Terms, standing, given}
+use Rattle.table_laws.specs.Content.{Values, Terms, standing, given}
 use Rattle.table_laws.specs.Equations.{AreOne, Hold, IsTerm, IsPair, HasLifetimes, IsMade, IsAfter, IsApart}
 use Rattle.table_laws.specs.Frames.{is_good, FrameTable, IsMadeFrame, Allows, AllowsApart, label_at, label_of_sort, slot_at, Equation, is_open_label, term_of, Meets, pair_in, and_then, in_turn, good_in, pairs_in}
 use Rattle.table_laws.specs.Operations.{with_content}
@@ -309,15 +309,11 @@ with-content-is t None u e = none-some u _ e
 with-content-is t (Some c) u e = (c, refl, some-is (with_content t c) u e)
 
 -- ---- the laws of equations over frames
--- terms that tell the placeholders of a table apart lose nothing
-pub is-apart : (t : FrameTable) (s : Terms) → AllowsApart t s → IsApart (is_good t.kinds t.content.ty_vars t.content.const_vars) s
-is-apart t s a = record {
-  sorted = a.allowed.sorted;
-  no_parameter = λ k i v g. parameter k i v g;
-  apart = λ k i j v g h e. a.apart k i j g h e (value-sort k v);
-}
+-- terms that tell the placeholders of a table apart lose nothing, nor do those with other unknowns
+pub further-apart : (t : FrameTable) (s r : Terms) (a b : ℕ) → AllowsApart t s → r.own ≡ s.own → IsSorted r.unknowns → IsApart (is_good t.kinds a b) r
+further-apart t s r a b h e sorted = record { sorted = sorted; no_parameter = parameter; apart = placeholders }
   where
-    parameter : (k : Sort) (i : ℕ) → HasValues k → is_good t.kinds t.content.ty_vars t.content.const_vars (param k i) ≡ true → ⊥
+    parameter : (k : Sort) (i : ℕ) → HasValues k → is_good t.kinds a b (param k i) ≡ true → ⊥
     parameter of_type i v g = false-true g
     parameter of_const i v g = false-true g
     parameter of_lifetime i v g = v
@@ -326,3 +322,10 @@ is-apart t s a = record {
     value-sort of_type v = refl
     value-sort of_const v = refl
     value-sort of_lifetime v = absurd v
+
+    placeholders : (k : Sort) (i j : ℕ) → HasValues k → is_good t.kinds a b (placeholder k i) ≡ true → is_good t.kinds a b (placeholder k j) ≡ true
+        → as_place k (term_at r.own.terms i) ≡ as_place k (term_at r.own.terms j) → i ≡ j
+    placeholders k i j v g g' q = h.apart k i j g g' (subst (λ (o : Values). as_place k (term_at o.terms i) ≡ as_place k (term_at o.terms j)) e q) (value-sort k v)
+
+pub is-apart : (t : FrameTable) (s : Terms) → AllowsApart t s → IsApart (good_in t) s
+is-apart t s h = further-apart t s s t.content.ty_vars t.content.const_vars h refl h.allowed.sorted

@@ -20,7 +20,8 @@ use Rattle.table_laws.specs.Answers.{is_variable_itself, are_variables, has_valu
 use Rattle.infer_table.specs.declared.certainty.Certainty.TheVariants.{Yes}
 use Rattle.type_terms.proofs.Made.{false-true, left, right}
 use Rattle.table_laws.proofs.Reading.{append-none, same-map, same-hold}
-use Rattle.table_laws.proofs.Questions.{IsNoCanonical, clean-parts, excludes-canonical, made-clean}
+use Rattle.table_laws.proofs.Questions.{excludes-canonical, made-clean}
+use Rattle.infer_table.proofs.WithoutCanonical.{IsNoCanonical, clean-parts}
 use Rattle.table_laws.proofs.Resolved.{made-resolved}
 use Rattle.table_laws.proofs.Whole.{IsOne}
 use Rattle.table_laws.proofs.Beginning.{node_of, node-is, zero-plus}

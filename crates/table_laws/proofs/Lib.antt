@@ -17,3 +17,4 @@ pub mod Nodes
 pub mod Determined
 pub mod Widths
 pub mod WellFormed
+pub mod FirstAnswers

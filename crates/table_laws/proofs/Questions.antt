@@ -6,9 +6,10 @@ use Rattle.model.specs.Trees.{Trees, none, tree, leaf, ◌+++◌, erase_label, s
 use Rattle.model.specs.Codes.{same_label}
 use Rattle.model.proofs.Matching.{same-label-sound}
 use Rattle.infer_table.specs.Canonical.{OpenKinds, GoalTrees, kind_of_leaf, kind_in_clause, StandsIn, HasNoCanonical, is_among, place_of, canonical_label, goal_leaves, leaves, renamed}
-use Rattle.infer_table.specs.Solutions.{Binding, tree_of, replace, resolved, HasValues, is_variable}
+use Rattle.infer_table.specs.Solutions.{Binding, tree_of, resolved, HasValues}
 use Rattle.infer_table.proofs.CanonicalLaws.{leaves-keep, leaves-hold}
 use Rattle.evaluation.specs.Lists.{Every}
+use Rattle.infer_table.proofs.WithoutCanonical.{IsNoCanonical, clean-parts, clean-node, clean-append, clean-replace}
 use Rattle.table_laws.specs.Instances.{read_with, goal_read, put_in, default_label, of_sort, is_place, as_place, term_at}
 use Rattle.type_terms.specs.Made.{Standing, terms, bounds, traits, is_made}
 use Rattle.table_laws.specs.Content.{Terms, Fact, given, fits, fits_kind, standing, reading_of, Stands}
@@ -178,32 +179,6 @@ put-in-slots s h ls e static = refl
 put-in-slots s h ls e l = refl
 
 -- ---- canonical variables
-abbrev pub IsNoCanonical : Label → Type 0
-IsNoCanonical (canonical s i) = ⊥
-IsNoCanonical l = Unit {0}
-
-pub clean-parts : (l : Label) (c o : Trees) → HasNoCanonical (tree l c o) → IsNoCanonical l × HasNoCanonical c × HasNoCanonical o
-clean-parts (canonical s i) c o h = absurd h
-clean-parts l c o h = (tt, h.0, h.1)
-
-clean-node : (l : Label) (c o : Trees) → IsNoCanonical l → HasNoCanonical c → HasNoCanonical o → HasNoCanonical (tree l c o)
-clean-node (canonical s i) c o h p q = absurd h
-clean-node l c o h p q = (p, q)
-
-clean-append : (a b : Trees) → HasNoCanonical a → HasNoCanonical b → HasNoCanonical (a +++ b)
-clean-append none b p q = q
-clean-append (tree l c o) b p q = let x = clean-parts l c o p in clean-node l c (o +++ b) x.0 x.1 (clean-append o b x.2 q)
-
-clean-replace : (k : Sort) (v : ℕ) (r t : Trees) → HasNoCanonical r → HasNoCanonical t → HasNoCanonical (replace k v r t)
-clean-replace k v r none p q = q
-clean-replace k v r (tree (infer j w) c o) p q = by (is_variable j w k v) (clean-replace k v r o p q.1)
-  where
-    by : (b : Bool) → HasNoCanonical (replace k v r o) → HasNoCanonical (if b then r +++ replace k v r o else tree (infer j w) c (replace k v r o))
-    by true h = clean-append r (replace k v r o) p h
-    by false h = (q.0, h)
-clean-replace k v r (tree (canonical s i) c o) p q = absurd q
-clean-replace k v r (tree l c o) p q = (clean-replace k v r c p q.0, clean-replace k v r o p q.1)
-
 -- no good label is a canonical variable
 abbrev pub ExcludesCanonical : (Label → Bool) → Type 0
 ExcludesCanonical good = (k : Sort) (i : ℕ) → good (canonical k i) ≡ false
