@@ -7,3 +7,4 @@ mod Lines
 mod Going
 pub mod Standing
 pub mod PartsOfLines
+pub mod WhatIsSaid

@@ -5,3 +5,4 @@ pub mod Steps
 pub mod Lines
 pub mod Places
 pub mod LineParts
+pub mod Says

@@ -8,6 +8,11 @@ use Rattle.line_reader.specs.declared.statement.ClauseSpans.{ClauseSpans}
 pub data Param : Type 0 where
   lifetime_param type_param const_param : List ℕ → Param
 
+abbrev pub param_name : Param → List ℕ
+param_name (lifetime_param n) = n
+param_name (type_param n) = n
+param_name (const_param n) = n
+
 pub data Statement : Type 0 where
   crate_statement : (name : List ℕ) (uses : List (List ℕ)) → Statement
   struct_statement : (is_fundamental : Bool) (name : List ℕ) (params : List Param) (fields : List Span) → Statement

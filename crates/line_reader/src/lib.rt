@@ -12,12 +12,14 @@ mod params;
 mod parts;
 mod question_lines;
 mod reader;
+mod says;
 mod statement;
 mod struct_line;
 mod trait_line;
 
 ghost use Rattle.line_reader.specs.LineParts.{PartsStand, UsesOfParts, AskedOfParts, DepthOfParts};
 ghost use Rattle.line_reader.specs.Places.{SpansStand};
+ghost use Rattle.line_reader.specs.Says.{NameIsSaid, ParamsAreSaid, ParamsAreCounted, PartsAreCounted, TestsAgree};
 
 pub use line::{is_ascii, is_blank, read_line};
 pub use parts::LinePart;
@@ -36,4 +38,13 @@ pub fn line_parts()
     ensures uses { UsesOfParts }
     ensures asked { AskedOfParts }
     ensures depth { DepthOfParts }
+{}
+
+/// What a statement says without its types is what its line says.
+pub fn what_is_said()
+    ensures name { NameIsSaid }
+    ensures params { ParamsAreSaid }
+    ensures count { ParamsAreCounted }
+    ensures parts { PartsAreCounted }
+    ensures tests { TestsAgree }
 {}
