@@ -17,6 +17,7 @@ use Rattle.text_definitions.specs.Declarations.{Declarations, NamedCrate, NamedS
 use Rattle.text_definitions.specs.Faults.{last_items}
 use Rattle.type_terms.specs.declared.CrateId.{CrateId}
 use Rattle.workspace.specs.Numbered.{Each, IsNumbered}
+use Rattle.workspace.specs.Made.{AreMade, ReferenceMade, ReferencesMade, is_type}
 use Rattle.workspace.specs.declared.tables.Tables.{Tables}
 use Rattle.workspace.specs.declared.declared.CrateEntry.{CrateEntry}
 use Rattle.workspace.specs.declared.declared.StructEntry.{StructEntry}
@@ -115,11 +116,11 @@ rows-kept : (t : Tables) (d : Declarations) → IsConsistent t → (world_of d).
 rows-kept t d i s = Each-weaken t.crates.items (λ c x p e. p e ∙ sym (sees-same (world_of d) (world_of (declared t)) c e s)) i.rows
 
 -- ---- a struct
-pub struct-consistent : (t : Tables) (structs : Vec StructEntry Global) (names : NameTable) (items : ℕ) (s : StructEntry) (key n : List ℕ) (v : Named) → IsConsistent t
+pub struct-consistent : (t : Tables) (structs : Vec StructEntry Global) (names : NameTable) (items : ℕ) (s : StructEntry) (key n : List ℕ) (v : Named) → IsConsistent t → AreMade is_type s.fields.items
     → structs.items ≡ t.structs.items ++ s ∷ [] → s.name.items ≡ n → s.id.index ≡ length t.structs.items → s.owner.index ≡ last_crate (declared t) → items ≡ t.last_items + 1
     → known (declared t) n ≡ None → key ≡ n → item_of v ≡ struct_item s.id.index → UpdatesBy (λ x y. bytes_eq x.items y.items) (λ x. bytes_eq key x.items) t.names names (Some v)
     → IsConsistent (record t { structs = structs; names = names; last_items = items })
-struct-consistent t structs names items s key n v i behind text number home more new same value updated =
+struct-consistent t structs names items s key n v i good behind text number home more new same value updated =
     let d = declared t in
     let u : Tables = record t { structs = structs; names = names; last_items = items } in
     let e : declared u ≡ with_struct d (struct_of s) = ap (λ ss. record d { structs = ss }) (ap (map struct_of) behind ∙ map_push struct_of t.structs.items s) in
@@ -132,6 +133,7 @@ struct-consistent t structs names items s key n v i behind text number home more
       numbers = i.numbers;
       last_impls = i.last_impls;
       last_items = more ∙ ap (λ k. k + 1) i.last_items ∙ sym (items-struct d (struct_of s) home) ∙ ap last_items (sym e);
+      made = record { fields = subst (Each (λ k x. AreMade is_type x.fields.items)) (sym behind) (Each-push t.structs.items s i.made.fields good); bounds = i.made.bounds; headers = i.made.headers; clauses = i.made.clauses; asked = i.made.asked; given = i.made.given };
     }
 
 pub struct-declared : (t : Tables) (structs : List StructEntry) (s : StructEntry) (n : List ℕ)
@@ -146,11 +148,11 @@ struct-declared t structs s n behind text number home =
     ∙ ap (λ h. with_struct d (record { text = n; kinds = sorts_of s.params.items; item = record (struct_of s).item { name = length d.structs; home = h } })) home
 
 -- ---- a trait
-pub trait-consistent : (t : Tables) (traits : Vec TraitEntry Global) (names : NameTable) (items : ℕ) (s : TraitEntry) (key n : List ℕ) (v : Named) → IsConsistent t
+pub trait-consistent : (t : Tables) (traits : Vec TraitEntry Global) (names : NameTable) (items : ℕ) (s : TraitEntry) (key n : List ℕ) (v : Named) → IsConsistent t → ReferencesMade s.bounds.items
     → traits.items ≡ t.traits.items ++ s ∷ [] → s.name.items ≡ n → s.id.index ≡ length t.traits.items → s.owner.index ≡ last_crate (declared t) → items ≡ t.last_items + 1
     → known (declared t) n ≡ None → key ≡ n → item_of v ≡ trait_item s.id.index → UpdatesBy (λ x y. bytes_eq x.items y.items) (λ x. bytes_eq key x.items) t.names names (Some v)
     → IsConsistent (record t { traits = traits; names = names; last_items = items })
-trait-consistent t traits names items s key n v i behind text number home more new same value updated =
+trait-consistent t traits names items s key n v i good behind text number home more new same value updated =
     let d = declared t in
     let u : Tables = record t { traits = traits; names = names; last_items = items } in
     let e : declared u ≡ with_trait d (trait_of s) = ap (λ ss. record d { traits = ss }) (ap (map trait_of) behind ∙ map_push trait_of t.traits.items s) in
@@ -163,6 +165,7 @@ trait-consistent t traits names items s key n v i behind text number home more n
       numbers = i.numbers;
       last_impls = i.last_impls;
       last_items = more ∙ ap (λ k. k + 1) i.last_items ∙ sym (items-trait d (trait_of s) home) ∙ ap last_items (sym e);
+      made = record { fields = i.made.fields; bounds = subst (Each (λ k x. ReferencesMade x.bounds.items)) (sym behind) (Each-push t.traits.items s i.made.bounds good); headers = i.made.headers; clauses = i.made.clauses; asked = i.made.asked; given = i.made.given };
     }
 
 pub trait-declared : (t : Tables) (traits : List TraitEntry) (s : TraitEntry) (n : List ℕ)
@@ -183,10 +186,10 @@ question-declared t questions q behind =
     let d = declared t in
     ap (λ qs. record d { questions = qs }) (ap (map question_of) behind ∙ map_push question_of t.questions.items q)
 
-pub question-consistent : (t : Tables) (questions : Vec QuestionEntry Global) (asked : Vec Asked Global) (q : QuestionEntry) → IsConsistent t
+pub question-consistent : (t : Tables) (questions : Vec QuestionEntry Global) (asked : Vec Asked Global) (q : QuestionEntry) → IsConsistent t → ReferenceMade q.asked → ReferencesMade q.clauses.items
     → questions.items ≡ t.questions.items ++ q ∷ [] → asked.items ≡ t.asked.items ++ q.asked_how ∷ [] → asker_of q.asked_how < length t.crates.items
     → IsConsistent (record t { questions = questions; asked = asked })
-question-consistent t questions asked q i behind also there =
+question-consistent t questions asked q i good goods behind also there =
     let d = declared t in
     let u : Tables = record t { questions = questions; asked = asked } in
     let e : declared u ≡ with_question d (question_of q) = ap (λ qs. record d { questions = qs }) (ap (map question_of) behind ∙ map_push question_of t.questions.items q) in
@@ -199,13 +202,14 @@ question-consistent t questions asked q i behind also there =
       numbers = i.numbers;
       last_impls = i.last_impls;
       last_items = i.last_items;
+      made = record { fields = i.made.fields; bounds = i.made.bounds; headers = i.made.headers; clauses = i.made.clauses; asked = subst (Each (λ k x. ReferenceMade x.asked)) (sym behind) (Each-push t.questions.items q i.made.asked good); given = subst (Each (λ k x. ReferencesMade x.clauses.items)) (sym behind) (Each-push t.questions.items q i.made.given goods) };
     }
 
 -- ---- an impl
-pub impl-consistent : (t : Tables) (impls : Vec ImplEntry Global) (last items : ℕ) (m : ImplEntry) → IsConsistent t
+pub impl-consistent : (t : Tables) (impls : Vec ImplEntry Global) (last items : ℕ) (m : ImplEntry) → IsConsistent t → ReferenceMade m.header → ReferencesMade m.clauses.items
     → impls.items ≡ t.impls.items ++ m ∷ [] → m.id.index ≡ length t.impls.items → m.owner.index ≡ last_crate (declared t) → m.number_in_crate ≡ t.last_impls + 1 → last ≡ m.number_in_crate → items ≡ t.last_items + 1
     → IsConsistent (record t { impls = impls; last_impls = last; last_items = items })
-impl-consistent t impls last items m i behind number home place now more =
+impl-consistent t impls last items m i good goods behind number home place now more =
     let d = declared t in
     let u : Tables = record t { impls = impls; last_impls = last; last_items = items } in
     let e : declared u ≡ with_impl d (impl_of m) = ap (λ ms. record d { impls = ms }) (ap (map impl_of) behind ∙ map_push impl_of t.impls.items m) in
@@ -224,6 +228,7 @@ impl-consistent t impls last items m i behind number home place now more =
       numbers = rw behind numbers;
       last_impls = now ∙ last-number ∙ ap (impls_of (last_crate d)) (sym behind);
       last_items = more ∙ ap (λ k. k + 1) i.last_items ∙ sym (items-impl d (impl_of m) home) ∙ ap last_items (sym e);
+      made = record { fields = i.made.fields; bounds = i.made.bounds; headers = subst (Each (λ k x. ReferenceMade x.header)) (sym behind) (Each-push t.impls.items m i.made.headers good); clauses = subst (Each (λ k x. ReferencesMade x.clauses.items)) (sym behind) (Each-push t.impls.items m i.made.clauses goods); asked = i.made.asked; given = i.made.given };
     }
 
 pub impl-declared : (t : Tables) (impls : List ImplEntry) (m : ImplEntry)
@@ -278,6 +283,7 @@ crate-consistent t crates ids names x y key n v i behind also same-number text n
       numbers = i.numbers;
       last_impls = sym (count_by-none (λ m. m.owner.index == last_crate (declared u)) t.impls.items (Every-from_Each t.impls.items (λ k m p. ne_eqb m.owner.index (last_crate (declared u)) (λ q. absurd (omega (arith, p.1, q, last)))) homes));
       last_items = sym (ap last_items e ∙ items-crate d (crate_of x) i.numbered);
+      made = record { fields = i.made.fields; bounds = i.made.bounds; headers = i.made.headers; clauses = i.made.clauses; asked = i.made.asked; given = i.made.given };
     }
 
 -- ---- the row of a new crate
@@ -330,7 +336,7 @@ row-of-new t row uses c i earlier number used is e =
     ap (λ r. unwrap_or (slice_get r e) false) is ∙ row-at t i uses earlier e ∙ sym wanted
 
 -- ---- `core` alone
-Each-nothing : {A : Type 0} (P : ℕ → A → Type 0) → Each P []
+pub Each-nothing : {A : Type 0} (P : ℕ → A → Type 0) → Each P []
 Each-nothing P = λ k x e. absurd (omega (arith, slice_get_within [] k x e))
 
 numbered-core : IsNumbered core_alone
@@ -390,4 +396,12 @@ core-consistent t old zs x y key v behind ids updated none number name uses stru
       numbers = subst (λ is. Each (λ k i. i.number_in_crate ≡ impls_of i.owner.index (take (suc k) is)) is) (sym impls) (Each-nothing (λ k i. i.number_in_crate ≡ impls_of i.owner.index (take (suc k) [])));
       last_impls = no-impls ∙ sym (ap (impls_of (last_crate (declared t))) impls);
       last_items = no-items ∙ sym (ap last_items e);
+      made = record {
+        fields = subst (Each (λ k x. AreMade is_type x.fields.items)) (sym structs) (Each-nothing (λ k x. AreMade is_type x.fields.items));
+        bounds = subst (Each (λ k x. ReferencesMade x.bounds.items)) (sym traits) (Each-nothing (λ k x. ReferencesMade x.bounds.items));
+        headers = subst (Each (λ k x. ReferenceMade x.header)) (sym impls) (Each-nothing (λ k x. ReferenceMade x.header));
+        clauses = subst (Each (λ k x. ReferencesMade x.clauses.items)) (sym impls) (Each-nothing (λ k x. ReferencesMade x.clauses.items));
+        asked = subst (Each (λ k x. ReferenceMade x.asked)) (sym questions) (Each-nothing (λ k x. ReferenceMade x.asked));
+        given = subst (Each (λ k x. ReferencesMade x.clauses.items)) (sym questions) (Each-nothing (λ k x. ReferencesMade x.clauses.items));
+      };
     }

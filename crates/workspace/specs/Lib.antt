@@ -1,6 +1,6 @@
 pub mod TermCells
-pub mod Made
 pub mod Numbered
+pub mod Made
 pub mod Views
 pub mod Tables
 pub mod Parts

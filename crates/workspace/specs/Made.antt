@@ -3,6 +3,8 @@ use Rattle.std.specs.Prelude.{◌≡◌, ℕ, zero, suc, Bool, true, false, List
 use Rattle.std.specs.Option.{option_map, option_and_then}
 use Rattle.std.specs.List.{list_all}
 use Rattle.type_terms.specs.Kinds.{RegionHeld, ConstHeld}
+use Rattle.workspace.specs.Numbered.{Each}
+use Rattle.workspace.specs.declared.declared.ReferenceCells.{ReferenceCells}
 use Rattle.workspace.specs.declared.cell.TermCell.{TermCell}
 use Rattle.workspace.specs.declared.cell.TermCell.TheVariants as cells
 
@@ -95,3 +97,10 @@ CellsHeld (c ∷ cs) = CellHeld c × CellsHeld cs
 pub record AreMade (p : Part → Bool) (cs : List TermCell) : Type 0 where
   pub held : CellsHeld cs
   pub parts : option_map (list_all p) (parts_of cs []) ≡ Some true
+
+-- a reference of arguments, Self first
+abbrev pub ReferenceMade : ReferenceCells → Type 0
+ReferenceMade r = AreMade is_arg r.args.items
+
+abbrev pub ReferencesMade : List ReferenceCells → Type 0
+ReferencesMade rs = Each (λ k r. ReferenceMade r) rs

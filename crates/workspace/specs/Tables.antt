@@ -13,6 +13,7 @@ use Rattle.workspace.specs.declared.declared.ImplEntry.{ImplEntry}
 use Rattle.workspace.specs.declared.declared.Named.{Named}
 use Rattle.workspace.specs.declared.declared.Named.TheVariants as named
 use Rattle.workspace.specs.Numbered.{Each, IsNumbered}
+use Rattle.workspace.specs.Made.{AreMade, ReferenceMade, ReferencesMade, is_type}
 use Rattle.workspace.specs.Views.{crate_of, struct_of, trait_of, impl_of, question_of, numbers_of}
 
 -- what the tables declare
@@ -87,6 +88,15 @@ will_see W us e = (e == core) || list_any (λ u. sees W u.index e) us
 abbrev pub impls_of : ℕ → List ImplEntry → ℕ
 impls_of c is = count_by (λ i. i.owner.index == c) is
 
+-- all cells are made as types or as arguments are
+pub record AllMade (t : Tables) : Type 0 where
+  pub fields : Each (λ k s. AreMade is_type s.fields.items) t.structs.items
+  pub bounds : Each (λ k x. ReferencesMade x.bounds.items) t.traits.items
+  pub headers : Each (λ k i. ReferenceMade i.header) t.impls.items
+  pub clauses : Each (λ k i. ReferencesMade i.clauses.items) t.impls.items
+  pub asked : Each (λ k q. ReferenceMade q.asked) t.questions.items
+  pub given : Each (λ k q. ReferencesMade q.clauses.items) t.questions.items
+
 -- the tables agree with what they declare
 pub record IsConsistent (t : Tables) : Type 0 where
   pub numbered : IsNumbered (declared t)
@@ -97,3 +107,4 @@ pub record IsConsistent (t : Tables) : Type 0 where
   pub numbers : Each (λ k i. i.number_in_crate ≡ impls_of i.owner.index (take (suc k) t.impls.items)) t.impls.items
   pub last_impls : t.last_impls ≡ impls_of (last_crate (declared t)) t.impls.items
   pub last_items : t.last_items ≡ last_items (declared t)
+  pub made : AllMade t

@@ -1,10 +1,11 @@
 //! The items of `core`, as its lines declare them.
-ghost use Rattle.std.specs.Prelude.{◌≡◌, ◌++◌, None, false, map, length, OnOk, IfOk};
+ghost use Rattle.std.specs.Prelude.{◌≡◌, ◌∷◌, [], ◌++◌, None, false, map, length, OnOk, IfOk};
 ghost use Rattle.model.specs.Worlds.{core};
 ghost use Rattle.text_definitions.specs.Declarations.{known, last_crate, nothing_declared, bare_impl, copied};
 ghost use Rattle.model.specs.Core.{impls_for, scalars};
 ghost use Rattle.workspace.specs.Numbered.{IsFew};
 ghost use Rattle.workspace.specs.Tables.{declared, core_alone, with_struct, with_trait, with_impl, IsConsistent};
+ghost use Rattle.workspace.specs.Made.{AreMade, ReferenceMade, ReferencesMade, is_arg};
 ghost use Rattle.workspace.specs.Parts.{new_trait};
 ghost use Rattle.workspace.specs.Views.{sort_of_kind, reference_of, cells_of};
 ghost use Rattle.workspace.specs.TermCells.{trees_of, joined};
@@ -62,7 +63,9 @@ fn reference(
     trait_id: TraitId,
     args: &[TermCell],
 ) -> Result<ReferenceCells, AllocError>
-    ensures { IfOk result (λ r. reference_of r ≡ record { trait = trait_id.index; args = joined (trees_of (cells_of args.now)) }) }
+    requires { AreMade is_arg args.now }
+    ensures is { IfOk result (λ r. reference_of r ≡ record { trait = trait_id.index; args = joined (trees_of (cells_of args.now)) }) }
+    ensures made { IfOk result (λ r. ReferenceMade r) }
 {
     Ok(ReferenceCells {
         trait_id,
@@ -80,23 +83,32 @@ fn core_params(alloc: Global, takes_type: bool) -> Result<Vec<ParamKind>, AllocE
     Ok(Vec::new(alloc))
 }
 
+fn one_reference(alloc: Global, bound: ReferenceCells) -> Result<Vec<ReferenceCells>, AllocError>
+    requires { ReferenceMade bound }
+    ensures is { IfOk result (λ bs. map reference_of bs.items ≡ reference_of bound ∷ []) }
+    ensures made { IfOk result (λ bs. ReferencesMade bs.items) }
+{
+    Ok(vec![in alloc; bound]?)
+}
+
 /// The bounds of a trait of `core`, which has one at most, of the same parameters.
 fn core_bounds(
     alloc: Global,
     takes_type: bool,
     bound: Option<TraitId>,
 ) -> Result<Vec<ReferenceCells>, AllocError>
-    ensures { IfOk result (λ bs. map reference_of bs.items ≡ core_bounds takes_type bound) }
+    ensures is { IfOk result (λ bs. map reference_of bs.items ≡ core_bounds takes_type bound) }
+    ensures made { IfOk result (λ bs. ReferencesMade bs.items) }
 {
     let Some(trait_id) = bound else {
         return Ok(Vec::new(alloc));
     };
-    let bound = if takes_type {
-        reference(alloc, trait_id, &[TermCell::Param(0), TermCell::Param(1)])?
-    } else {
-        reference(alloc, trait_id, &[TermCell::Param(0)])?
-    };
-    Ok(vec![in alloc; bound]?)
+    if takes_type {
+        let bound = reference(alloc, trait_id, &[TermCell::Param(0), TermCell::Param(1)])?;
+        return one_reference(alloc, bound);
+    }
+    let bound = reference(alloc, trait_id, &[TermCell::Param(0)])?;
+    one_reference(alloc, bound)
 }
 
 impl Tables {
@@ -177,6 +189,7 @@ impl Tables {
     /// `impl Tr for T`
     fn add_bare_impl(&mut self, trait_id: TraitId, self_type: TermCell) -> Result<(), AllocError>
         requires consistent { IsConsistent self.old }
+        requires made { AreMade is_arg (self_type ∷ []) }
         requires room { HasRoom (declared self.old) }
         ensures declared { OnOk result (declared self.new ≡ with_impl (declared self.old) (impl_for (declared self.old) trait_id.index self_type)) }
         ensures consistent { OnOk result (IsConsistent self.new) }
@@ -264,7 +277,7 @@ impl Tables {
             ],
         )?;
         let clause = reference(self.alloc, trait_id, &[TermCell::Param(0)])?;
-        let clauses = vec![in self.alloc; clause]?;
+        let clauses = one_reference(self.alloc, clause)?;
         self.add_impl(params, header, clauses)?;
         Ok(())
     }
@@ -283,7 +296,7 @@ impl Tables {
         };
         let header = reference(self.alloc, CLONE, &[TermCell::Param(0), boxed])?;
         let clause = reference(self.alloc, CLONE, &[TermCell::Param(0)])?;
-        let clauses = vec![in self.alloc; clause]?;
+        let clauses = one_reference(self.alloc, clause)?;
         self.add_impl(params, header, clauses)?;
         Ok(())
     }

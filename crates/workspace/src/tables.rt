@@ -10,6 +10,7 @@ ghost use Rattle.text_definitions.specs.Lowering.{crate_number};
 ghost use Rattle.text_definitions.specs.Adding.{added};
 ghost use Rattle.workspace.specs.Numbered.{IsFew};
 ghost use Rattle.workspace.specs.Tables.{declared, with_crate, with_question, new_crate, will_see, item_of, item_named, core_alone, number_of_crate, IsConsistent, MarksSeen};
+ghost use Rattle.workspace.specs.Made.{AreMade, ReferenceMade, ReferencesMade, is_type};
 ghost use Rattle.workspace.specs.Parts.{AddsStruct, AddsStructLine, AddsTrait, AddsTraitLine, AddsImpl, AddsImplLine, AddsQuestionLine};
 ghost use Rattle.workspace.specs.Views.{known_of, sorts_of, cells_of, reference_of, question_of, asker_of, param_names, numbers_of, name_texts};
 ghost use Rattle.workspace.specs.TermCells.{trees_of};
@@ -289,6 +290,7 @@ impl Tables {
         fields: Vec<TermCell>,
     ) -> Result<(), AllocError>
         requires consistent { IsConsistent self.old }
+        requires made { AreMade is_type fields.items }
         requires new { known (declared self.old) name.now ≡ None }
         requires few { IsFew (declared self.old) ENTRY_LIMIT }
         ensures declared { OnOk result (AddsStruct (declared self.old) (declared self.new) name.now is_fundamental params.items fields.items) }
@@ -323,6 +325,7 @@ impl Tables {
         bounds: Vec<ReferenceCells>,
     ) -> Result<(), AllocError>
         requires consistent { IsConsistent self.old }
+        requires made { ReferencesMade bounds.items }
         requires new { known (declared self.old) name.now ≡ None }
         requires few { IsFew (declared self.old) ENTRY_LIMIT }
         ensures declared { OnOk result (AddsTrait (declared self.old) (declared self.new) name.now is_fundamental is_auto params.items bounds.items) }
@@ -356,6 +359,8 @@ impl Tables {
         clauses: Vec<ReferenceCells>,
     ) -> Result<(), AllocError>
         requires consistent { IsConsistent self.old }
+        requires header { ReferenceMade header }
+        requires clauses { ReferencesMade clauses.items }
         requires few { IsFew (declared self.old) ENTRY_LIMIT }
         ensures declared { OnOk result (AddsImpl (declared self.old) (declared self.new) params.items header clauses.items) }
         ensures added { OnOk result (AddsImplLine (declared self.old) (declared self.new) params.items header clauses.items) }
@@ -382,6 +387,8 @@ impl Tables {
     /// Adds a question.
     pub fn add_question(&mut self, entry: QuestionEntry) -> Result<(), AllocError>
         requires consistent { IsConsistent self.old }
+        requires asked { ReferenceMade entry.asked }
+        requires clauses { ReferencesMade entry.clauses.items }
         requires asker { asker_of entry.asked_how < length (declared self.old).crates }
         ensures declared { OnOk result (declared self.new ≡ with_question (declared self.old) (question_of entry)) }
         ensures added { OnOk result (AddsQuestionLine (declared self.old) (declared self.new) (question_of entry)) }

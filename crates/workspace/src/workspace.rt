@@ -3,7 +3,8 @@ ghost use Rattle.std.specs.Prelude.{◌≡◌, ◌<◌, Some, length, map, take,
 ghost use Rattle.std.specs.Option.{option_map};
 ghost use Rattle.model.specs.Worlds.{sees, view_of};
 ghost use Rattle.text_definitions.specs.Declarations.{known, world_of};
-ghost use Rattle.workspace.specs.Numbered.{IsNumbered, IsFew};
+ghost use Rattle.workspace.specs.Numbered.{Each, IsNumbered, IsFew};
+ghost use Rattle.workspace.specs.Made.{AreMade, ReferenceMade, ReferencesMade, is_type};
 ghost use Rattle.workspace.specs.Views.{known_of, struct_of, trait_of, impl_of, question_of, numbers_of, asked_of};
 
 use crate::declared::{Asked, ImplEntry, Known, QuestionEntry, StructEntry, TraitEntry};
@@ -108,28 +109,34 @@ impl Workspace {
 
     /// The structs in the order of the text.
     pub fn structs(&self) -> &[StructEntry]
-        ensures { map struct_of result.now ≡ self.now.structs }
+        ensures items { map struct_of result.now ≡ self.now.structs }
+        ensures made { Each (λ k s. AreMade is_type s.fields.items) result.now }
     {
         &self.tables.structs
     }
 
     /// The traits in the order of the text.
     pub fn traits(&self) -> &[TraitEntry]
-        ensures { map trait_of result.now ≡ self.now.traits }
+        ensures items { map trait_of result.now ≡ self.now.traits }
+        ensures made { Each (λ k t. ReferencesMade t.bounds.items) result.now }
     {
         &self.tables.traits
     }
 
     /// The impls in the order of the text.
     pub fn impls(&self) -> &[ImplEntry]
-        ensures { map impl_of result.now ≡ self.now.impls }
+        ensures items { map impl_of result.now ≡ self.now.impls }
+        ensures headers { Each (λ k i. ReferenceMade i.header) result.now }
+        ensures clauses { Each (λ k i. ReferencesMade i.clauses.items) result.now }
     {
         &self.tables.impls
     }
 
     /// The questions in the order of the text.
     pub fn question_entries(&self) -> &[QuestionEntry]
-        ensures { map question_of result.now ≡ self.now.questions }
+        ensures items { map question_of result.now ≡ self.now.questions }
+        ensures asked { Each (λ k q. ReferenceMade q.asked) result.now }
+        ensures clauses { Each (λ k q. ReferencesMade q.clauses.items) result.now }
     {
         &self.tables.questions
     }

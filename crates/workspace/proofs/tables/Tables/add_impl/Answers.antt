@@ -11,4 +11,4 @@ returns-clause-added c = λ l h. returns-clause-declared c ∙ impl-added _ _ _ 
 
 pub returns-clause-consistent : goal.returns-clause-consistent
 returns-clause-consistent c =
-    impl-consistent c.args.self.now _ _ _ _ c.requires.consistent c.in_ok-push.ensures.items (omega (arith, c.len.ensures)) c.last_crate-owner.ensures refl refl refl
+    impl-consistent c.args.self.now _ _ _ _ c.requires.consistent c.requires.header c.requires.clauses c.in_ok-push.ensures.items (omega (arith, c.len.ensures)) c.last_crate-owner.ensures refl refl refl

@@ -13,5 +13,5 @@ returns-clause-added c = λ l h. returns-clause-declared c ∙ question-added _ 
 
 pub returns-clause-consistent : goal.returns-clause-consistent
 returns-clause-consistent c =
-    question-consistent c.args.self.now _ _ c.args.entry c.requires.consistent c.in_ok-push-2.ensures.items c.in_ok-push.ensures.items
+    question-consistent c.args.self.now _ _ c.args.entry c.requires.consistent c.requires.asked c.requires.clauses c.in_ok-push-2.ensures.items c.in_ok-push.ensures.items
     (omega (arith, c.requires.asker, length-map c.args.self.now.crates.items crate_of))

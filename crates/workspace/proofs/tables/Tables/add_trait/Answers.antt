@@ -12,5 +12,5 @@ returns-clause-added c = λ l h. returns-clause-declared c ∙ trait-added _ _ _
 
 pub returns-clause-consistent : goal.returns-clause-consistent
 returns-clause-consistent c =
-    trait-consistent c.args.self.now _ _ _ _ _ c.args.name.now _ c.requires.consistent c.in_ok-push.ensures.items c.in_ok-from_slice-2.ensures.items (omega (arith, c.len.ensures)) c.last_crate-owner.ensures refl
+    trait-consistent c.args.self.now _ _ _ _ _ c.args.name.now _ c.requires.consistent c.requires.made c.in_ok-push.ensures.items c.in_ok-from_slice-2.ensures.items (omega (arith, c.len.ensures)) c.last_crate-owner.ensures refl
     c.requires.new c.in_ok-from_slice.ensures.items refl c.in_ok-insert.ensures.updates
