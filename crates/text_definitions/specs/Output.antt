@@ -1,10 +1,9 @@
 -- The lines of the answer, as text.
 use Rattle.std.specs.Prelude.{ℕ, suc, Bool, true, false, List, [], ◌∷◌, ◌++◌, map, Option, Some, None, codes, ◌==◌, ◌&&◌, if◌then◌else◌}
-use Rattle.std.specs.Str.{bytes_eq}
 use Rattle.std.specs.Fmt.{decimal}
 use Rattle.std.specs.List.{list_any}
 use Rattle.model.specs.Label.{Label, Sort, of_lifetime, bool, char, str, never, array, slice, tuple, dynamic, static, int, uint, adt, fn_ptr, auto_trait, value, ref, raw_pointer, principal, param, placeholder, infer, canonical, bound, predicate}
-use Rattle.model.specs.Trees.{Trees, none, tree, sort_of, is_sort}
+use Rattle.model.specs.Trees.{Trees, none, tree, sort_of, is_sort, is_no_tree}
 
 -- ---- types
 -- a text for each struct, trait, parameter of a declaration or of a question, and unknown
@@ -40,47 +39,56 @@ last_text [] = []
 last_text (t ∷ []) = t
 last_text (t ∷ u ∷ ts) = last_text (u ∷ ts)
 
--- `-> ()` is left out
-abbrev pub output_part : List ℕ → List ℕ
-output_part t = if bytes_eq t (codes "()") then [] else codes " -> " ++ t
+-- the last tree is `()`
+abbrev pub is_unit : Label → Trees → Bool
+is_unit tuple c = is_no_tree c
+is_unit _ c = false
+
+abbrev pub ends_in_unit : Trees → Bool
+ends_in_unit none = false
+ends_in_unit (tree l c o) = if is_no_tree o then is_unit l c else ends_in_unit o
+
+-- the output of a fn behind its inputs: `-> ()` is left out
+abbrev pub output_part : Trees → List ℕ → List ℕ
+output_part c t = if ends_in_unit c then [] else codes " -> " ++ t
 
 abbrev pub int_name : ℕ → List ℕ
 int_name n = if n == 0 then codes "8" else (if n == 1 then codes "16" else (if n == 2 then codes "32" else (if n == 3 then codes "64" else (if n == 4 then codes "128" else codes "size"))))
 
--- a node with the texts of its children
-abbrev pub node_text : Names → Label → List (List ℕ) → List ℕ
-node_text N bool ts = codes "bool"
-node_text N char ts = codes "char"
-node_text N str ts = codes "str"
-node_text N never ts = codes "!"
-node_text N (int n) ts = codes "i" ++ int_name n
-node_text N (uint n) ts = codes "u" ++ int_name n
-node_text N (adt s) ts = N.of_struct s ++ angled ts
-node_text N (ref false) ts = codes "&" ++ last_text ts
-node_text N (ref true) ts = codes "&mut " ++ last_text ts
-node_text N (raw_pointer false) ts = codes "*const " ++ last_text ts
-node_text N (raw_pointer true) ts = codes "*mut " ++ last_text ts
-node_text N slice ts = codes "[" ++ last_text ts ++ codes "]"
-node_text N array ts = codes "[" ++ between (codes "; ") ts ++ codes "]"
-node_text N tuple ts = tuple_text ts
-node_text N (fn_ptr n) ts = codes "fn(" ++ between (codes ", ") (inputs ts) ++ codes ")" ++ output_part (last_text ts)
-node_text N dynamic ts = codes "dyn " ++ between (codes " + ") ts
-node_text N (principal n t) ts = N.of_trait t ++ angled ts
-node_text N (auto_trait t) ts = N.of_trait t
-node_text N (value n) ts = decimal n
-node_text N (param s i) ts = N.of_param s i
-node_text N (placeholder s i) ts = N.of_placeholder s i
-node_text N (infer s i) ts = N.of_unknown s i
+-- a node with its children and their texts
+abbrev pub node_text : Names → Label → Trees → List (List ℕ) → List ℕ
+node_text N bool c ts = codes "bool"
+node_text N char c ts = codes "char"
+node_text N str c ts = codes "str"
+node_text N never c ts = codes "!"
+node_text N (int n) c ts = codes "i" ++ int_name n
+node_text N (uint n) c ts = codes "u" ++ int_name n
+node_text N (adt s) c ts = N.of_struct s ++ angled ts
+node_text N (ref false) c ts = codes "&" ++ last_text ts
+node_text N (ref true) c ts = codes "&mut " ++ last_text ts
+node_text N (raw_pointer false) c ts = codes "*const " ++ last_text ts
+node_text N (raw_pointer true) c ts = codes "*mut " ++ last_text ts
+node_text N slice c ts = codes "[" ++ last_text ts ++ codes "]"
+node_text N array c ts = codes "[" ++ between (codes "; ") ts ++ codes "]"
+node_text N tuple c ts = tuple_text ts
+node_text N (fn_ptr n) c ts = codes "fn(" ++ between (codes ", ") (inputs ts) ++ codes ")" ++ output_part c (last_text ts)
+node_text N dynamic c ts = codes "dyn " ++ between (codes " + ") ts
+node_text N (principal n t) c ts = N.of_trait t ++ angled ts
+node_text N (auto_trait t) c ts = N.of_trait t
+node_text N (value n) c ts = decimal n
+node_text N (param s i) c ts = N.of_param s i
+node_text N (placeholder s i) c ts = N.of_placeholder s i
+node_text N (infer s i) c ts = N.of_unknown s i
 -- these aren't printed
-node_text N static ts = []
-node_text N (canonical s i) ts = []
-node_text N (bound s k v) ts = []
-node_text N (predicate k) ts = []
+node_text N static c ts = []
+node_text N (canonical s i) c ts = []
+node_text N (bound s k v) c ts = []
+node_text N (predicate k) c ts = []
 
 -- the texts of trees, one after the other, lifetimes left out
 abbrev pub texts : Names → Trees → List (List ℕ)
 texts N none = []
-texts N (tree l c o) = if is_sort (sort_of l) of_lifetime then texts N o else node_text N l (texts N c) ∷ texts N o
+texts N (tree l c o) = if is_sort (sort_of l) of_lifetime then texts N o else node_text N l c (texts N c) ∷ texts N o
 
 -- of a single type or const
 abbrev pub type_text : Names → Trees → List ℕ

@@ -1,0 +1,297 @@
+//! The lines of the answer.
+ghost use Rattle.std.specs.Prelude.{◌≡◌, ◌++◌, IfOk, OnOk, map, codes};
+ghost use Rattle.text_definitions.specs.Output.{output_text, accepted, fault, nonlocal, uncovered, overlap, yes, maybe, unproved, no, unrefuted, value_text, values_text, before_text};
+ghost use Rattle.answer_lines.specs.Answers.{answer_of, value_of, text_of, more_values};
+ghost use Rattle.answer_lines.specs.Answers as answers;
+ghost use Rattle.std.specs.Option.{option_map};
+ghost use Rattle.text_definitions.specs.Output as output;
+
+use crate::printer::push_number;
+use std::alloc::{AllocError, Global};
+
+/// The value of a variable of a question, as text.
+#[derive(Debug, Drop)]
+pub struct ValueText {
+    /// The variable's name, without `?`.
+    pub variable: Vec<u8>,
+    /// The type or const.
+    pub term: Vec<u8>,
+}
+
+/// A line of the answer. Crates go by their names, impls and questions by their numbers, from 1; types by their texts.
+#[derive(Clone, Copy, Debug)]
+pub enum Answer<'a> {
+    /// The first faulty line of the text, with the number of its fault. It stands alone.
+    Fault {
+        line: u32,
+        number: u32,
+    },
+    /// The crate keeps the orphan rule, and no two impls that it brings together overlap.
+    Accepted {
+        name: &'a [u8],
+    },
+    /// An impl's header has no local type (`NonLocalInputType`).
+    Nonlocal {
+        name: &'a [u8],
+        number: u32,
+    },
+    /// An impl's header has a parameter before its first local type, if it has one (`UncoveredTyParams`).
+    Uncovered {
+        name: &'a [u8],
+        number: u32,
+        param: &'a [u8],
+        before: Option<&'a [u8]>,
+    },
+    /// An impl of the crate and one of the other crate overlap.
+    Overlap {
+        name: &'a [u8],
+        number: u32,
+        other: &'a [u8],
+        other_number: u32,
+    },
+    /// Proved, with the values of the question's variables.
+    Yes {
+        question: u32,
+        values: &'a [ValueText],
+    },
+    /// Neither proved nor refuted within the limits.
+    Maybe {
+        question: u32,
+    },
+    Unproved {
+        question: u32,
+    },
+    /// Refuted: no proof wherever the crate is linked.
+    No {
+        question: u32,
+    },
+    /// Not refuted.
+    Open {
+        question: u32,
+    },
+}
+
+/// How the line of a crate begins.
+fn crate_start(alloc: Global, name: &[u8]) -> Result<Vec<u8>, AllocError>
+    ensures { IfOk result (λ text. text.items ≡ output.crate_start name.now) }
+{
+    let mut text = Vec::new(alloc);
+    text.extend_from_slice(b"crate ")?;
+    text.extend_from_slice(name)?;
+    text.extend_from_slice(b": ")?;
+    Ok(text)
+}
+
+/// How the line of a `prove` question begins.
+fn prove_start(alloc: Global, question: u32) -> Result<Vec<u8>, AllocError>
+    ensures { IfOk result (λ text. text.items ≡ output.prove_start question) }
+{
+    let mut text = Vec::new(alloc);
+    text.extend_from_slice(b"prove ")?;
+    push_number(&mut text, u64::from(question))?;
+    text.extend_from_slice(b": ")?;
+    Ok(text)
+}
+
+/// How the line of a `refute` question begins.
+fn refute_start(alloc: Global, question: u32) -> Result<Vec<u8>, AllocError>
+    ensures { IfOk result (λ text. text.items ≡ output.refute_start question) }
+{
+    let mut text = Vec::new(alloc);
+    text.extend_from_slice(b"refute ")?;
+    push_number(&mut text, u64::from(question))?;
+    text.extend_from_slice(b": ")?;
+    Ok(text)
+}
+
+fn fault_line(alloc: Global, line: u32, number: u32) -> Result<Vec<u8>, AllocError>
+    ensures { IfOk result (λ text. text.items ≡ output_text (fault line number)) }
+{
+    let mut text = Vec::new(alloc);
+    text.extend_from_slice(b"line ")?;
+    push_number(&mut text, u64::from(line))?;
+    text.extend_from_slice(b": fault ")?;
+    push_number(&mut text, u64::from(number))?;
+    text.push(b'\n')?;
+    Ok(text)
+}
+
+fn accepted_line(alloc: Global, name: &[u8]) -> Result<Vec<u8>, AllocError>
+    ensures { IfOk result (λ text. text.items ≡ output_text (accepted name.now)) }
+{
+    let mut text = crate_start(alloc, name)?;
+    text.extend_from_slice(b"accepted\n")?;
+    Ok(text)
+}
+
+/// How the line of a crate with an orphan impl begins.
+fn orphan_start(alloc: Global, name: &[u8], number: u32) -> Result<Vec<u8>, AllocError>
+    ensures { IfOk result (λ text. text.items ≡ answers.orphan_start name.now number) }
+{
+    let mut text = crate_start(alloc, name)?;
+    text.extend_from_slice(b"orphan impl ")?;
+    push_number(&mut text, u64::from(number))?;
+    Ok(text)
+}
+
+fn nonlocal_line(alloc: Global, name: &[u8], number: u32) -> Result<Vec<u8>, AllocError>
+    ensures { IfOk result (λ text. text.items ≡ output_text (nonlocal name.now number)) }
+{
+    let mut text = orphan_start(alloc, name, number)?;
+    text.extend_from_slice(b" nonlocal\n")?;
+    Ok(text)
+}
+
+fn push_before(text: &mut Vec<u8>, before: Option<&[u8]>) -> Result<(), AllocError>
+    ensures { OnOk result (text.new.items ≡ text.old.items ++ before_text (option_map text_of before.entry)) }
+{
+    match before {
+        None => Ok(()),
+        Some(local) => {
+            text.extend_from_slice(b" before ")?;
+            text.extend_from_slice(local)
+        }
+    }
+}
+
+fn uncovered_line(
+    alloc: Global,
+    name: &[u8],
+    number: u32,
+    param: &[u8],
+    before: Option<&[u8]>,
+) -> Result<Vec<u8>, AllocError>
+    ensures { IfOk result (λ text. text.items ≡ output_text (uncovered name.now number param.now (option_map text_of before.entry))) }
+{
+    let mut text = orphan_start(alloc, name, number)?;
+    text.extend_from_slice(b" uncovered ")?;
+    text.extend_from_slice(param)?;
+    push_before(&mut text, before)?;
+    text.push(b'\n')?;
+    Ok(text)
+}
+
+fn overlap_line(
+    alloc: Global,
+    name: &[u8],
+    number: u32,
+    other: &[u8],
+    other_number: u32,
+) -> Result<Vec<u8>, AllocError>
+    ensures { IfOk result (λ text. text.items ≡ output_text (overlap name.now number other.now other_number)) }
+{
+    let mut text = crate_start(alloc, name)?;
+    text.extend_from_slice(b"overlap impl ")?;
+    push_number(&mut text, u64::from(number))?;
+    text.extend_from_slice(b" with ")?;
+    text.extend_from_slice(other)?;
+    text.extend_from_slice(b" ")?;
+    push_number(&mut text, u64::from(other_number))?;
+    text.push(b'\n')?;
+    Ok(text)
+}
+
+fn push_value(text: &mut Vec<u8>, value: &ValueText) -> Result<(), AllocError>
+    ensures { OnOk result (text.new.items ≡ text.old.items ++ value_text (value_of value.now)) }
+{
+    text.extend_from_slice(b"?")?;
+    text.extend_from_slice(&value.variable)?;
+    text.extend_from_slice(b" = ")?;
+    text.extend_from_slice(&value.term)?;
+    Ok(())
+}
+
+fn push_values(text: &mut Vec<u8>, values: &[ValueText]) -> Result<(), AllocError>
+    ensures { OnOk result (text.new.items ≡ text.old.items ++ values_text (map value_of values.now)) }
+{
+    match values.split_first() {
+        None => Ok(()),
+        Some((first, rest)) => {
+            text.extend_from_slice(b" ")?;
+            push_value(text, first)?;
+            push_more_values(text, rest)?;
+            Ok(())
+        }
+    }
+}
+
+/// Values behind the first one.
+fn push_more_values(text: &mut Vec<u8>, values: &[ValueText]) -> Result<(), AllocError>
+    ensures { OnOk result (text.new.items ≡ text.old.items ++ more_values (map value_of values.now)) }
+{
+    for value in values {
+        text.extend_from_slice(b", ")?;
+        push_value(text, value)?;
+    }
+    Ok(())
+}
+
+fn yes_line(alloc: Global, question: u32, values: &[ValueText]) -> Result<Vec<u8>, AllocError>
+    ensures { IfOk result (λ text. text.items ≡ output_text (yes question (map value_of values.now))) }
+{
+    let mut text = prove_start(alloc, question)?;
+    text.extend_from_slice(b"yes")?;
+    push_values(&mut text, values)?;
+    text.push(b'\n')?;
+    Ok(text)
+}
+
+fn maybe_line(alloc: Global, question: u32) -> Result<Vec<u8>, AllocError>
+    ensures { IfOk result (λ text. text.items ≡ output_text (maybe question)) }
+{
+    let mut text = prove_start(alloc, question)?;
+    text.extend_from_slice(b"maybe\n")?;
+    Ok(text)
+}
+
+fn unproved_line(alloc: Global, question: u32) -> Result<Vec<u8>, AllocError>
+    ensures { IfOk result (λ text. text.items ≡ output_text (unproved question)) }
+{
+    let mut text = prove_start(alloc, question)?;
+    text.extend_from_slice(b"unproved\n")?;
+    Ok(text)
+}
+
+fn no_line(alloc: Global, question: u32) -> Result<Vec<u8>, AllocError>
+    ensures { IfOk result (λ text. text.items ≡ output_text (no question)) }
+{
+    let mut text = refute_start(alloc, question)?;
+    text.extend_from_slice(b"no\n")?;
+    Ok(text)
+}
+
+fn open_line(alloc: Global, question: u32) -> Result<Vec<u8>, AllocError>
+    ensures { IfOk result (λ text. text.items ≡ output_text (unrefuted question)) }
+{
+    let mut text = refute_start(alloc, question)?;
+    text.extend_from_slice(b"open\n")?;
+    Ok(text)
+}
+
+/// The text of a line, with its end. The error is a refused request for memory.
+pub fn print_line(alloc: Global, answer: &Answer<'_>) -> Result<Vec<u8>, AllocError>
+    ensures { IfOk result (λ text. text.items ≡ output_text (answer_of answer.now)) }
+{
+    match answer {
+        Answer::Fault { line, number } => fault_line(alloc, *line, *number),
+        Answer::Accepted { name } => accepted_line(alloc, name),
+        Answer::Nonlocal { name, number } => nonlocal_line(alloc, name, *number),
+        Answer::Uncovered {
+            name,
+            number,
+            param,
+            before,
+        } => uncovered_line(alloc, name, *number, param, *before),
+        Answer::Overlap {
+            name,
+            number,
+            other,
+            other_number,
+        } => overlap_line(alloc, name, *number, other, *other_number),
+        Answer::Yes { question, values } => yes_line(alloc, *question, values),
+        Answer::Maybe { question } => maybe_line(alloc, *question),
+        Answer::Unproved { question } => unproved_line(alloc, *question),
+        Answer::No { question } => no_line(alloc, *question),
+        Answer::Open { question } => open_line(alloc, *question),
+    }
+}

@@ -1,0 +1,10 @@
+//! The lines of the answer: constants as text, and each kind of line.
+#![tactic(auto)]
+
+mod answer;
+mod names;
+mod printer;
+
+pub use answer::{Answer, ValueText, print_line};
+pub use names::{PrintNames, TermKind};
+pub use printer::print_const;
