@@ -1,0 +1,6 @@
+pub mod Lists
+pub mod Trees
+pub mod Structs
+pub mod Asking
+pub mod Heads
+pub mod Pairs

@@ -1,0 +1,24 @@
+-- The candidates of built-in rules that read the self type alone, whatever trait the goal asks.
+use Rattle.std.specs.Prelude.{List}
+use Rattle.model.specs.Worlds.{World}
+use Rattle.model.specs.Rules.{sized_rules, copy_rules, tuple_rules, fn_ptr_rules}
+use Rattle.evaluation.specs.declared.candidate.CandidateSource.TheVariants.{BuiltinImpl}
+use Rattle.evaluation.specs.declared.candidate.BuiltinImplSource.TheVariants.{Trivial}
+use Rattle.assembly_laws.specs.Asking.{Asked, self_of}
+use Rattle.assembly_laws.specs.Candidates.{Candidate, as_written, misc}
+
+-- Of `Sized`.
+abbrev pub sized_candidates : World → Asked → List Candidate
+sized_candidates V a = as_written V a (BuiltinImpl Trivial) (sized_rules V (self_of a))
+
+-- Of `Copy` and `Clone`.
+abbrev pub copy_candidates : World → Asked → List Candidate
+copy_candidates V a = as_written V a misc (copy_rules a.reference.trait (self_of a))
+
+-- Of `Tuple`.
+abbrev pub tuple_candidates : World → Asked → List Candidate
+tuple_candidates V a = as_written V a misc (tuple_rules (self_of a))
+
+-- Of `FnPtr`.
+abbrev pub fn_ptr_candidates : World → Asked → List Candidate
+fn_ptr_candidates V a = as_written V a misc (fn_ptr_rules (self_of a))

@@ -1,0 +1,22 @@
+-- Equations between lists of arguments.
+use Rattle.std.specs.Prelude.{◌≡◌, Bool, true, false, List, [], ◌∷◌, ◌++◌, map}
+use Rattle.type_terms.specs.Terms.{Entry, Lawful}
+use Rattle.type_terms.specs.Kinds.{ArgsHeld, args_trees}
+use Rattle.type_terms.specs.declared.kinds.GenericArgKind.{GenericArgKind}
+use Rattle.infer_table.specs.declared.terms.Equation as Code
+use Rattle.evaluation.specs.Lists.{Every}
+use Rattle.evaluation.specs.Readings.{EquationHeld}
+use Rattle.table_laws.specs.Frames.{Equation}
+use Rattle.goal_frames.specs.Readings.{equation_read}
+use Rattle.assembly_laws.specs.Candidates.{all_equal, never_met}
+
+-- An equation that no terms meet, where one list is longer.
+abbrev pub never_if : Bool → List Equation
+never_if true = never_met ∷ []
+never_if false = []
+
+-- Each argument is the one in its place, and it is told whether one list is longer.
+abbrev pub ArePaired : List GenericArgKind → List GenericArgKind → List Code.Equation × Bool → Type 0
+ArePaired xs ys r =
+    (es : List Entry) → Lawful es → ArgsHeld es xs → ArgsHeld es ys
+    → Every (EquationHeld es) r.0 × (map (equation_read es) r.0 ++ never_if r.1 ≡ all_equal (args_trees es xs) (args_trees es ys))

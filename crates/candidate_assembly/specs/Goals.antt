@@ -1,0 +1,32 @@
+-- What is asked of a goal in code.
+use Rattle.std.specs.Prelude.{ℕ, List, Bool, map}
+use Rattle.model.specs.Worlds.{World}
+use Rattle.model.specs.Rules.{is_coinductive}
+use Rattle.type_terms.specs.Terms.{Entry}
+use Rattle.infer_table.specs.declared.goal.Goal.{Goal}
+use Rattle.infer_table.specs.declared.input.CanonicalInput.{CanonicalInput}
+use Rattle.infer_table.specs.Goals.{GoalHeld, environment_trees}
+use Rattle.evaluation.specs.declared.candidate.CandidateSpec.{CandidateSpec}
+use Rattle.evaluation.specs.declared.goal.GoalSource.{GoalSource}
+use Rattle.evaluation.specs.Lists.{Every}
+use Rattle.table_laws.specs.Frames.{Nested}
+use Rattle.goal_frames.specs.Readings.{nested_read, spec_read}
+use Rattle.declarations.specs.Items.{reference_in}
+use Rattle.assembly_laws.specs.Asking.{Asked}
+use Rattle.assembly_laws.specs.Candidates.{Candidate}
+
+-- The goal of a canonical input: its where-clauses and the reference that it asks, over the variables of its kinds.
+abbrev pub asked_of : List Entry → CanonicalInput → Asked
+asked_of es a = record { kinds = a.variables.items; environment = environment_trees es a.goal.param_env.items; reference = reference_in es a.goal.predicate.trait_ref }
+
+-- The candidate that a spec is, for a goal of the trait t.
+abbrev pub candidate_of : World → ℕ → List Entry → CandidateSpec → Candidate
+candidate_of V t es s = spec_read es (is_coinductive V t) s
+
+-- The nested goals, where steps to premises are coinductive or not.
+abbrev pub nested_of : List Entry → Bool → List (GoalSource × Goal) → List Nested
+nested_of es kind ns = map (nested_read es kind) ns
+
+-- The goals' terms are the interner's.
+abbrev pub NestedHeld : List Entry → List (GoalSource × Goal) → Type 0
+NestedHeld es ns = Every (λ (n : GoalSource × Goal). GoalHeld es n.1) ns

@@ -1,0 +1,4 @@
+pub mod Goals
+pub mod Constituents
+pub mod BuiltIn
+pub mod Equations

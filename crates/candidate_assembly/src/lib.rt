@@ -1,0 +1,8 @@
+//! The candidates of a goal in code: what can prove it, read off the declarations. So far those by the built-in rules of `Sized`,
+//! `Copy`, `Clone`, `Tuple` and `FnPtr`, and the parts of which the others are made.
+#![tactic(auto)]
+
+pub mod built_in;
+mod parts;
+mod relate;
+mod structural;
