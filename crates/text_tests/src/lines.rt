@@ -55,5 +55,6 @@ fn a_header_has_its_trait_first(rt: HostRuntime) -> Result<(), Fail> {
     };
     assert_eq!(rt; (header.bound.start, header.bound.end), (0, 2));
     assert_eq!(rt; (header.subject.start, header.subject.end), (2, 4));
+    assert_eq!(rt; read.statement.parts(rt.alloc())?.len(), 2);
     Ok(())
 }
