@@ -19,7 +19,7 @@ mk_ty-requires c = (
       (tys-held c.args.cx.now.entries c.in_ok-list.list.items (held-pushed c.args.cx.now.entries _ _ (subst (StackHeld c.args.cx.now.entries) c.in_ok-list.ensures.pushed c.requires.held)).0),
 )
 
-pub returns : goal.returns
-returns c =
+pub returns-clause-lowers : goal.returns-clause-lowers
+returns-clause-lowers c =
     fn-lowers c.args.bound_vars c.args.types c.in_ok-list.list.items c.args.cx.now.entries _ _ (stack_of c.args.stack.now.items) _ c.in_ok-tys.tys.0 c.in_ok-ty.ty c.requires.made c.in_ok-list.ensures.pushed c.in_ok-list.ensures.count c.requires.held
     c.in_ok-tys.ensures.is c.in_ok-tys.ensures.keeps c.in_ok-ty.ensures.is c.in_ok-ty.ensures.keeps
