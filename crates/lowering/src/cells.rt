@@ -25,6 +25,7 @@ fn lower_leaf(
     requires ready { IsReady cell cx.old.entries stack.now.items }
     ensures lowers { IfOk result (λ x. Lowers cell cx.old.entries cx.new.entries (stack_of stack.now.items) x (stack_of stack.now.items)) }
     ensures keeps { Keeps cx.old.entries cx.new.entries }
+    ensures limit { cx.new.limit ≡ cx.old.limit }
 {
     let _at = stack;
     let _of = cell;
@@ -36,6 +37,7 @@ fn lower_const(cx: &mut Interner, stack: &Vec<Lowered>, kind: ConstKind) -> Resu
     requires { IsReady (TermCell.Const kind) cx.old.entries stack.now.items }
     ensures lowers { IfOk result (λ x. Lowers (TermCell.Const kind) cx.old.entries cx.new.entries (stack_of stack.now.items) x (stack_of stack.now.items)) }
     ensures keeps { Keeps cx.old.entries cx.new.entries }
+    ensures limit { cx.new.limit ≡ cx.old.limit }
 {
     let _at = stack;
     let value = cx.mk_const(kind)?;
@@ -52,6 +54,7 @@ fn lower_adt(
     requires { IsReady (TermCell.Adt id args) cx.old.entries stack.old.items }
     ensures lowers { IfOk result (λ x. Lowers (TermCell.Adt id args) cx.old.entries cx.new.entries (stack_of stack.old.items) x (stack_of stack.new.items)) }
     ensures keeps { Keeps cx.old.entries cx.new.entries }
+    ensures limit { cx.new.limit ≡ cx.old.limit }
 {
     let list = pop_args(alloc, stack, args)?;
     let args = cx.mk_args(list)?;
@@ -68,6 +71,7 @@ fn lower_ref(
     requires { IsReady (TermCell.Ref region mutability) cx.old.entries stack.old.items }
     ensures lowers { IfOk result (λ x. Lowers (TermCell.Ref region mutability) cx.old.entries cx.new.entries (stack_of stack.old.items) x (stack_of stack.new.items)) }
     ensures keeps { Keeps cx.old.entries cx.new.entries }
+    ensures limit { cx.new.limit ≡ cx.old.limit }
 {
     let referred = pop_type(stack);
     let ty = cx.mk_ty(TyKind::Ref(region, referred, mutability))?;
@@ -82,6 +86,7 @@ fn lower_raw_ptr(
     requires { IsReady (TermCell.RawPtr mutability) cx.old.entries stack.old.items }
     ensures lowers { IfOk result (λ x. Lowers (TermCell.RawPtr mutability) cx.old.entries cx.new.entries (stack_of stack.old.items) x (stack_of stack.new.items)) }
     ensures keeps { Keeps cx.old.entries cx.new.entries }
+    ensures limit { cx.new.limit ≡ cx.old.limit }
 {
     let pointed = pop_type(stack);
     let ty = cx.mk_ty(TyKind::RawPtr(pointed, mutability))?;
@@ -92,6 +97,7 @@ fn lower_slice(cx: &mut Interner, stack: &mut Vec<Lowered>) -> Result<Lowered, F
     requires { IsReady TermCell.Slice cx.old.entries stack.old.items }
     ensures lowers { IfOk result (λ x. Lowers TermCell.Slice cx.old.entries cx.new.entries (stack_of stack.old.items) x (stack_of stack.new.items)) }
     ensures keeps { Keeps cx.old.entries cx.new.entries }
+    ensures limit { cx.new.limit ≡ cx.old.limit }
 {
     let item = pop_type(stack);
     let ty = cx.mk_ty(TyKind::Slice(item))?;
@@ -102,6 +108,7 @@ fn lower_array(cx: &mut Interner, stack: &mut Vec<Lowered>) -> Result<Lowered, F
     requires { IsReady TermCell.Array cx.old.entries stack.old.items }
     ensures lowers { IfOk result (λ x. Lowers TermCell.Array cx.old.entries cx.new.entries (stack_of stack.old.items) x (stack_of stack.new.items)) }
     ensures keeps { Keeps cx.old.entries cx.new.entries }
+    ensures limit { cx.new.limit ≡ cx.old.limit }
 {
     let len = pop_const(stack);
     let item = pop_type(stack);
@@ -118,6 +125,7 @@ fn lower_tuple(
     requires { IsReady (TermCell.Tuple items) cx.old.entries stack.old.items }
     ensures lowers { IfOk result (λ x. Lowers (TermCell.Tuple items) cx.old.entries cx.new.entries (stack_of stack.old.items) x (stack_of stack.new.items)) }
     ensures keeps { Keeps cx.old.entries cx.new.entries }
+    ensures limit { cx.new.limit ≡ cx.old.limit }
 {
     let list = pop_types(alloc, stack, items)?;
     let tys = cx.mk_tys(list)?;
@@ -135,6 +143,7 @@ fn lower_fn_ptr(
     requires { IsReady (TermCell.FnPtr bound_vars types) cx.old.entries stack.old.items }
     ensures lowers { IfOk result (λ x. Lowers (TermCell.FnPtr bound_vars types) cx.old.entries cx.new.entries (stack_of stack.old.items) x (stack_of stack.new.items)) }
     ensures keeps { Keeps cx.old.entries cx.new.entries }
+    ensures limit { cx.new.limit ≡ cx.old.limit }
 {
     cx.lawful();
     let list = pop_types(alloc, stack, types)?;
@@ -154,6 +163,7 @@ fn lower_principal(
     requires { IsReady (TermCell.Principal bound_vars def_id args) cx.old.entries stack.old.items }
     ensures lowers { IfOk result (λ x. Lowers (TermCell.Principal bound_vars def_id args) cx.old.entries cx.new.entries (stack_of stack.old.items) x (stack_of stack.new.items)) }
     ensures keeps { Keeps cx.old.entries cx.new.entries }
+    ensures limit { cx.new.limit ≡ cx.old.limit }
 {
     let list = pop_args(alloc, stack, args)?;
     let args = cx.mk_args(list)?;
@@ -174,6 +184,7 @@ fn lower_dynamic(
     requires { IsReady (TermCell.Dynamic has_principal autos) cx.old.entries stack.old.items }
     ensures lowers { IfOk result (λ x. Lowers (TermCell.Dynamic has_principal autos) cx.old.entries cx.new.entries (stack_of stack.old.items) x (stack_of stack.new.items)) }
     ensures keeps { Keeps cx.old.entries cx.new.entries }
+    ensures limit { cx.new.limit ≡ cx.old.limit }
 {
     let region = pop_lifetime(stack);
     let autos = pop_autos(alloc, stack, autos)?;
@@ -193,6 +204,7 @@ pub(crate) fn lower_cell(
     requires { IsReady cell cx.old.entries stack.old.items }
     ensures lowers { IfOk result (λ x. Lowers cell cx.old.entries cx.new.entries (stack_of stack.old.items) x (stack_of stack.new.items)) }
     ensures keeps { Keeps cx.old.entries cx.new.entries }
+    ensures limit { cx.new.limit ≡ cx.old.limit }
 {
     match cell {
         TermCell::Bool => lower_leaf(cx, stack, cell, TyKind::Bool),

@@ -23,6 +23,7 @@ fn lower_cells(alloc: Global, cx: &mut Interner, cells: &[TermCell]) -> Result<V
     ensures trees { IfOk result (λ stack. behind_cells (cells_of cells.now) [] ≡ trees_of_stack cx.new.entries (stack_of stack.items)) }
     ensures held { IfOk result (λ stack. StackHeld cx.new.entries (stack_of stack.items)) }
     ensures keeps { Keeps cx.old.entries cx.new.entries }
+    ensures limit { cx.new.limit ≡ cx.old.limit }
 {
     let mut stack = Vec::new(alloc);
     for cell in cells {
@@ -69,6 +70,7 @@ pub fn lower_types(alloc: Global, cx: &mut Interner, cells: &[TermCell]) -> Resu
     ensures is { IfOk result (λ tys. map (λ t. trees_at cx.new.entries t.0) tys.items ≡ trees_of (cells_of cells.now)) }
     ensures held { IfOk result (λ tys. TysHeld cx.new.entries tys.items) }
     ensures keeps { Keeps cx.old.entries cx.new.entries }
+    ensures limit { cx.new.limit ≡ cx.old.limit }
 {
     let stack = lower_cells(alloc, cx, cells)?;
     let tys = types_in(alloc, &stack)?;
@@ -84,6 +86,7 @@ pub fn lower_args(
     requires { AreMade is_arg cells.now }
     ensures is { IfOk result (λ args. Is cx.new.entries args_lists args.0 (joined (trees_of (cells_of cells.now)))) }
     ensures keeps { Keeps cx.old.entries cx.new.entries }
+    ensures limit { cx.new.limit ≡ cx.old.limit }
 {
     let stack = lower_cells(alloc, cx, cells)?;
     let list = args_in(alloc, &stack)?;
