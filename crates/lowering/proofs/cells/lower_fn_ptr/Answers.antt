@@ -1,4 +1,4 @@
-use Rattle.std.proofs.Common.{subst, ap, sym, ◌∙◌}
+use Rattle.std.proofs.Common.{subst, ap, ◌∙◌}
 use Rattle.model.specs.Trees.{is_no_tree}
 use Rattle.lowering.specs.Stack.{stack_of, parts_in, StackHeld}
 use Rattle.type_terms.specs.Terms.{type_lists}
