@@ -5,7 +5,7 @@ use Rattle.std.proofs.lemmas.Option.{same_Some}
 use Rattle.std.specs.Prelude.{reverse}
 use Rattle.std.specs.List.{list_all}
 use Rattle.std.specs.Option.{option_map, option_and_then}
-use Rattle.model.specs.Trees.{Trees, ◌+++◌}
+use Rattle.model.specs.Trees.{◌+++◌}
 use Rattle.type_terms.specs.Terms.{Entry, trees_at}
 use Rattle.type_terms.specs.Kinds.{args_trees}
 use Rattle.type_terms.specs.declared.kinds.Ty.{Ty}
@@ -13,7 +13,7 @@ use Rattle.type_terms.specs.declared.kinds.GenericArgKind.{GenericArgKind}
 use Rattle.workspace.specs.declared.cell.TermCell.{TermCell}
 use Rattle.workspace.specs.TermCells.{behind_cells, trees_of, joined}
 use Rattle.workspace.specs.Made.{Part, is_type, is_arg, parts_of, parts_behind, AreMade, CellHeld, CellsHeld}
-use Rattle.workspace.specs.Views.{cell_of, cells_of}
+use Rattle.workspace.specs.Views.{cells_of}
 use Rattle.lowering.specs.declared.stack.Lowered.{Lowered}
 use Rattle.lowering.specs.declared.stack.Lowered.TheVariants as lowered
 use Rattle.type_terms.specs.declared.kinds.Const.{Const}

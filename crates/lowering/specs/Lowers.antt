@@ -1,6 +1,5 @@
 -- What it is to lower a cell: the terms of the stack that stand inside it are taken off, and its term is made of them.
-use Rattle.std.specs.Prelude.{◌≡◌, List, [], ◌∷◌, map, Some, IsSome}
-use Rattle.model.specs.Trees.{Trees}
+use Rattle.std.specs.Prelude.{◌≡◌, List, ◌∷◌, map, Some, IsSome}
 use Rattle.type_terms.specs.Terms.{Entry, Keeps}
 use Rattle.type_terms.specs.declared.kinds.TyKind.{TyKind}
 use Rattle.type_terms.specs.declared.kinds.TyKind.TheVariants as kinds

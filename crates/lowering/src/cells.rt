@@ -1,5 +1,6 @@
 //! Cells, made terms one after the other.
 ghost use Rattle.std.specs.Prelude.{◌≡◌, IfOk};
+ghost use Rattle.type_terms.specs.Terms.{Keeps};
 ghost use Rattle.lowering.specs.Stack.{stack_of};
 ghost use Rattle.lowering.specs.Lowers.{IsReady, Lowers, IsLeafOf};
 
@@ -22,7 +23,9 @@ fn lower_leaf(
 ) -> Result<Lowered, Fault>
     requires leaf { IsLeafOf cell kind }
     requires ready { IsReady cell cx.old.entries stack.now.items }
-    ensures { IfOk result (λ x. Lowers cell cx.old.entries cx.new.entries (stack_of stack.now.items) x (stack_of stack.now.items)) }
+    ensures lowers { IfOk result (λ x. Lowers cell cx.old.entries cx.new.entries (stack_of stack.now.items) x (stack_of stack.now.items)) }
+    ensures keeps { Keeps cx.old.entries cx.new.entries }
+    ensures limit { cx.new.limit ≡ cx.old.limit }
 {
     let _at = stack;
     let _of = cell;
@@ -32,7 +35,9 @@ fn lower_leaf(
 
 fn lower_const(cx: &mut Interner, stack: &Vec<Lowered>, kind: ConstKind) -> Result<Lowered, Fault>
     requires { IsReady (TermCell.Const kind) cx.old.entries stack.now.items }
-    ensures { IfOk result (λ x. Lowers (TermCell.Const kind) cx.old.entries cx.new.entries (stack_of stack.now.items) x (stack_of stack.now.items)) }
+    ensures lowers { IfOk result (λ x. Lowers (TermCell.Const kind) cx.old.entries cx.new.entries (stack_of stack.now.items) x (stack_of stack.now.items)) }
+    ensures keeps { Keeps cx.old.entries cx.new.entries }
+    ensures limit { cx.new.limit ≡ cx.old.limit }
 {
     let _at = stack;
     let value = cx.mk_const(kind)?;
@@ -47,7 +52,9 @@ fn lower_adt(
     args: u32,
 ) -> Result<Lowered, Fault>
     requires { IsReady (TermCell.Adt id args) cx.old.entries stack.old.items }
-    ensures { IfOk result (λ x. Lowers (TermCell.Adt id args) cx.old.entries cx.new.entries (stack_of stack.old.items) x (stack_of stack.new.items)) }
+    ensures lowers { IfOk result (λ x. Lowers (TermCell.Adt id args) cx.old.entries cx.new.entries (stack_of stack.old.items) x (stack_of stack.new.items)) }
+    ensures keeps { Keeps cx.old.entries cx.new.entries }
+    ensures limit { cx.new.limit ≡ cx.old.limit }
 {
     let list = pop_args(alloc, stack, args)?;
     let args = cx.mk_args(list)?;
@@ -62,7 +69,9 @@ fn lower_ref(
     mutability: Mutability,
 ) -> Result<Lowered, Fault>
     requires { IsReady (TermCell.Ref region mutability) cx.old.entries stack.old.items }
-    ensures { IfOk result (λ x. Lowers (TermCell.Ref region mutability) cx.old.entries cx.new.entries (stack_of stack.old.items) x (stack_of stack.new.items)) }
+    ensures lowers { IfOk result (λ x. Lowers (TermCell.Ref region mutability) cx.old.entries cx.new.entries (stack_of stack.old.items) x (stack_of stack.new.items)) }
+    ensures keeps { Keeps cx.old.entries cx.new.entries }
+    ensures limit { cx.new.limit ≡ cx.old.limit }
 {
     let referred = pop_type(stack);
     let ty = cx.mk_ty(TyKind::Ref(region, referred, mutability))?;
@@ -75,7 +84,9 @@ fn lower_raw_ptr(
     mutability: Mutability,
 ) -> Result<Lowered, Fault>
     requires { IsReady (TermCell.RawPtr mutability) cx.old.entries stack.old.items }
-    ensures { IfOk result (λ x. Lowers (TermCell.RawPtr mutability) cx.old.entries cx.new.entries (stack_of stack.old.items) x (stack_of stack.new.items)) }
+    ensures lowers { IfOk result (λ x. Lowers (TermCell.RawPtr mutability) cx.old.entries cx.new.entries (stack_of stack.old.items) x (stack_of stack.new.items)) }
+    ensures keeps { Keeps cx.old.entries cx.new.entries }
+    ensures limit { cx.new.limit ≡ cx.old.limit }
 {
     let pointed = pop_type(stack);
     let ty = cx.mk_ty(TyKind::RawPtr(pointed, mutability))?;
@@ -84,7 +95,9 @@ fn lower_raw_ptr(
 
 fn lower_slice(cx: &mut Interner, stack: &mut Vec<Lowered>) -> Result<Lowered, Fault>
     requires { IsReady TermCell.Slice cx.old.entries stack.old.items }
-    ensures { IfOk result (λ x. Lowers TermCell.Slice cx.old.entries cx.new.entries (stack_of stack.old.items) x (stack_of stack.new.items)) }
+    ensures lowers { IfOk result (λ x. Lowers TermCell.Slice cx.old.entries cx.new.entries (stack_of stack.old.items) x (stack_of stack.new.items)) }
+    ensures keeps { Keeps cx.old.entries cx.new.entries }
+    ensures limit { cx.new.limit ≡ cx.old.limit }
 {
     let item = pop_type(stack);
     let ty = cx.mk_ty(TyKind::Slice(item))?;
@@ -93,7 +106,9 @@ fn lower_slice(cx: &mut Interner, stack: &mut Vec<Lowered>) -> Result<Lowered, F
 
 fn lower_array(cx: &mut Interner, stack: &mut Vec<Lowered>) -> Result<Lowered, Fault>
     requires { IsReady TermCell.Array cx.old.entries stack.old.items }
-    ensures { IfOk result (λ x. Lowers TermCell.Array cx.old.entries cx.new.entries (stack_of stack.old.items) x (stack_of stack.new.items)) }
+    ensures lowers { IfOk result (λ x. Lowers TermCell.Array cx.old.entries cx.new.entries (stack_of stack.old.items) x (stack_of stack.new.items)) }
+    ensures keeps { Keeps cx.old.entries cx.new.entries }
+    ensures limit { cx.new.limit ≡ cx.old.limit }
 {
     let len = pop_const(stack);
     let item = pop_type(stack);
@@ -108,7 +123,9 @@ fn lower_tuple(
     items: u32,
 ) -> Result<Lowered, Fault>
     requires { IsReady (TermCell.Tuple items) cx.old.entries stack.old.items }
-    ensures { IfOk result (λ x. Lowers (TermCell.Tuple items) cx.old.entries cx.new.entries (stack_of stack.old.items) x (stack_of stack.new.items)) }
+    ensures lowers { IfOk result (λ x. Lowers (TermCell.Tuple items) cx.old.entries cx.new.entries (stack_of stack.old.items) x (stack_of stack.new.items)) }
+    ensures keeps { Keeps cx.old.entries cx.new.entries }
+    ensures limit { cx.new.limit ≡ cx.old.limit }
 {
     let list = pop_types(alloc, stack, items)?;
     let tys = cx.mk_tys(list)?;
@@ -124,7 +141,9 @@ fn lower_fn_ptr(
     types: u32,
 ) -> Result<Lowered, Fault>
     requires { IsReady (TermCell.FnPtr bound_vars types) cx.old.entries stack.old.items }
-    ensures { IfOk result (λ x. Lowers (TermCell.FnPtr bound_vars types) cx.old.entries cx.new.entries (stack_of stack.old.items) x (stack_of stack.new.items)) }
+    ensures lowers { IfOk result (λ x. Lowers (TermCell.FnPtr bound_vars types) cx.old.entries cx.new.entries (stack_of stack.old.items) x (stack_of stack.new.items)) }
+    ensures keeps { Keeps cx.old.entries cx.new.entries }
+    ensures limit { cx.new.limit ≡ cx.old.limit }
 {
     cx.lawful();
     let list = pop_types(alloc, stack, types)?;
@@ -142,7 +161,9 @@ fn lower_principal(
     args: u32,
 ) -> Result<Lowered, Fault>
     requires { IsReady (TermCell.Principal bound_vars def_id args) cx.old.entries stack.old.items }
-    ensures { IfOk result (λ x. Lowers (TermCell.Principal bound_vars def_id args) cx.old.entries cx.new.entries (stack_of stack.old.items) x (stack_of stack.new.items)) }
+    ensures lowers { IfOk result (λ x. Lowers (TermCell.Principal bound_vars def_id args) cx.old.entries cx.new.entries (stack_of stack.old.items) x (stack_of stack.new.items)) }
+    ensures keeps { Keeps cx.old.entries cx.new.entries }
+    ensures limit { cx.new.limit ≡ cx.old.limit }
 {
     let list = pop_args(alloc, stack, args)?;
     let args = cx.mk_args(list)?;
@@ -161,7 +182,9 @@ fn lower_dynamic(
     autos: u32,
 ) -> Result<Lowered, Fault>
     requires { IsReady (TermCell.Dynamic has_principal autos) cx.old.entries stack.old.items }
-    ensures { IfOk result (λ x. Lowers (TermCell.Dynamic has_principal autos) cx.old.entries cx.new.entries (stack_of stack.old.items) x (stack_of stack.new.items)) }
+    ensures lowers { IfOk result (λ x. Lowers (TermCell.Dynamic has_principal autos) cx.old.entries cx.new.entries (stack_of stack.old.items) x (stack_of stack.new.items)) }
+    ensures keeps { Keeps cx.old.entries cx.new.entries }
+    ensures limit { cx.new.limit ≡ cx.old.limit }
 {
     let region = pop_lifetime(stack);
     let autos = pop_autos(alloc, stack, autos)?;
@@ -179,7 +202,9 @@ pub(crate) fn lower_cell(
     cell: TermCell,
 ) -> Result<Lowered, Fault>
     requires { IsReady cell cx.old.entries stack.old.items }
-    ensures { IfOk result (λ x. Lowers cell cx.old.entries cx.new.entries (stack_of stack.old.items) x (stack_of stack.new.items)) }
+    ensures lowers { IfOk result (λ x. Lowers cell cx.old.entries cx.new.entries (stack_of stack.old.items) x (stack_of stack.new.items)) }
+    ensures keeps { Keeps cx.old.entries cx.new.entries }
+    ensures limit { cx.new.limit ≡ cx.old.limit }
 {
     match cell {
         TermCell::Bool => lower_leaf(cx, stack, cell, TyKind::Bool),

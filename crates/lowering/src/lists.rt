@@ -22,7 +22,8 @@ fn lower_cells(alloc: Global, cx: &mut Interner, cells: &[TermCell]) -> Result<V
     ensures parts { IfOk result (λ stack. parts_of cells.now [] ≡ Some (parts_in stack.items)) }
     ensures trees { IfOk result (λ stack. behind_cells (cells_of cells.now) [] ≡ trees_of_stack cx.new.entries (stack_of stack.items)) }
     ensures held { IfOk result (λ stack. StackHeld cx.new.entries (stack_of stack.items)) }
-    ensures keeps { IfOk result (λ stack. Keeps cx.old.entries cx.new.entries) }
+    ensures keeps { Keeps cx.old.entries cx.new.entries }
+    ensures limit { cx.new.limit ≡ cx.old.limit }
 {
     let mut stack = Vec::new(alloc);
     for cell in cells {
@@ -68,7 +69,8 @@ pub fn lower_types(alloc: Global, cx: &mut Interner, cells: &[TermCell]) -> Resu
     requires { AreMade is_type cells.now }
     ensures is { IfOk result (λ tys. map (λ t. trees_at cx.new.entries t.0) tys.items ≡ trees_of (cells_of cells.now)) }
     ensures held { IfOk result (λ tys. TysHeld cx.new.entries tys.items) }
-    ensures keeps { IfOk result (λ tys. Keeps cx.old.entries cx.new.entries) }
+    ensures keeps { Keeps cx.old.entries cx.new.entries }
+    ensures limit { cx.new.limit ≡ cx.old.limit }
 {
     let stack = lower_cells(alloc, cx, cells)?;
     let tys = types_in(alloc, &stack)?;
@@ -83,7 +85,8 @@ pub fn lower_args(
 ) -> Result<GenericArgs, Fault>
     requires { AreMade is_arg cells.now }
     ensures is { IfOk result (λ args. Is cx.new.entries args_lists args.0 (joined (trees_of (cells_of cells.now)))) }
-    ensures keeps { IfOk result (λ args. Keeps cx.old.entries cx.new.entries) }
+    ensures keeps { Keeps cx.old.entries cx.new.entries }
+    ensures limit { cx.new.limit ≡ cx.old.limit }
 {
     let stack = lower_cells(alloc, cx, cells)?;
     let list = args_in(alloc, &stack)?;

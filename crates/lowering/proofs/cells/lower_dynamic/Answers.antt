@@ -12,8 +12,8 @@ mk_bounds-requires c = (
   c.in_ok-autos.ensures.rise,
 )
 
-pub returns : goal.returns
-returns c =
+pub returns-clause-lowers : goal.returns-clause-lowers
+returns-clause-lowers c =
     dyn-lowers c.args.has_principal c.args.autos c.in_ok-autos.autos.items c.pop_lifetime-region.result c.pop_principal-principal.result c.args.cx.now.entries _ _ (stack_of c.args.stack.now.items) _ _ _ c.in_ok-bounds.bounds.0 c.in_ok-ty.ty c.requires.made
     c.pop_lifetime-region.ensures c.in_ok-autos.ensures.count c.in_ok-autos.ensures.pushed c.pop_principal-principal.ensures c.requires.held
     c.in_ok-bounds.ensures.is c.in_ok-bounds.ensures.keeps c.in_ok-ty.ensures.is c.in_ok-ty.ensures.keeps

@@ -1,4 +1,4 @@
-use Rattle.std.proofs.Common.{subst, ap, sym, ◌∙◌}
+use Rattle.std.proofs.Common.{subst, ap, ◌∙◌}
 use Rattle.model.specs.Trees.{is_no_tree}
 use Rattle.lowering.specs.Stack.{stack_of, parts_in, StackHeld}
 use Rattle.type_terms.specs.Terms.{type_lists}
@@ -19,7 +19,7 @@ mk_ty-requires c = (
       (tys-held c.args.cx.now.entries c.in_ok-list.list.items (held-pushed c.args.cx.now.entries _ _ (subst (StackHeld c.args.cx.now.entries) c.in_ok-list.ensures.pushed c.requires.held)).0),
 )
 
-pub returns : goal.returns
-returns c =
+pub returns-clause-lowers : goal.returns-clause-lowers
+returns-clause-lowers c =
     fn-lowers c.args.bound_vars c.args.types c.in_ok-list.list.items c.args.cx.now.entries _ _ (stack_of c.args.stack.now.items) _ c.in_ok-tys.tys.0 c.in_ok-ty.ty c.requires.made c.in_ok-list.ensures.pushed c.in_ok-list.ensures.count c.requires.held
     c.in_ok-tys.ensures.is c.in_ok-tys.ensures.keeps c.in_ok-ty.ensures.is c.in_ok-ty.ensures.keeps

@@ -6,7 +6,7 @@ use Rattle.lowering.specs.Stack.{stack_of}
 use Rattle.lowering.proofs.Lowering.{over-lowers}
 use Rattle.lowering.proofs.cells.lower_raw_ptr.Goals as goal
 
-pub returns : goal.returns
-returns c =
+pub returns-clause-lowers : goal.returns-clause-lowers
+returns-clause-lowers c =
     over-lowers (cells.RawPtr c.args.mutability) (raw_pointer (is_mut c.args.mutability)) c.pop_type-pointed.result c.args.cx.now.entries _ (stack_of c.args.stack.now.items) _ c.in_ok-ty.ty refl (λ T. refl) c.pop_type-pointed.ensures c.requires.held
     c.in_ok-ty.ensures.is c.in_ok-ty.ensures.keeps

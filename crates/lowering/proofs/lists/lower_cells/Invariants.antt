@@ -12,4 +12,5 @@ invariant-loop-cell l = record {
   trees : behind_cells (cells_of (drop l.cell-index l.cells)) (trees_of_stack l.cx.entries (stack_of l.stack.items)) ≡ behind_cells (cells_of l.cells) [];
   held : StackHeld l.cx.entries (stack_of l.stack.items);
   keeps : Keeps l.fn.cx.entries l.cx.entries;
+  limit : l.cx.limit ≡ l.fn.cx.limit;
 }

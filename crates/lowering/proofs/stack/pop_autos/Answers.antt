@@ -1,4 +1,4 @@
-use Rattle.std.proofs.Common.{◌≡◌, ◌-◌, ap, sym, ◌∙◌, map, subst, arith, [], ◌∷◌, ◌++◌, length, length-append, Some}
+use Rattle.std.proofs.Common.{◌-◌, ap, sym, ◌∙◌, map, subst, arith, [], ◌∷◌, length, length-append}
 use Rattle.std.proofs.lemmas.List.{reverse-append}
 use Rattle.std.specs.Prelude.{reverse, IsSome}
 use Rattle.std.specs.List.Sorted.{IsStrictlyIncreasing}
