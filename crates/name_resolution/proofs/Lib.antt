@@ -8,3 +8,4 @@ pub mod Turned
 pub mod Scopes
 pub mod Parts
 pub mod Judged
+pub mod Walking

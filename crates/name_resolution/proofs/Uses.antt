@@ -49,7 +49,7 @@ findings-are x y p q r s t u w =
     ∙ ap (λ z. all-of y.takes_names y.uses_unknown y.uses_hidden y.uses_other_sort y.uses_own z x.passes_limit) u
     ∙ ap (λ z. all-of y.takes_names y.uses_unknown y.uses_hidden y.uses_other_sort y.uses_own y.has_bad_dyn z) w
 
-findings-append : (v : Sight) (xs ys : List Use) → findings v (xs ++ ys) ≡ either (findings v xs) (findings v ys)
+pub findings-append : (v : Sight) (xs ys : List Use) → findings v (xs ++ ys) ≡ either (findings v xs) (findings v ys)
 findings-append v xs ys =
     findings-are (findings v (xs ++ ys)) (either (findings v xs) (findings v ys)) (any-append (is_taken_binder v.line) xs ys) (any-append (is_unknown_use v.before v.line) xs ys)
     (option-any (looking_crate v.before v.line) (is_hidden_use v.before v.line) xs ys) (any-append (is_other_sort v.before v.line) xs ys)

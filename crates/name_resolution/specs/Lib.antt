@@ -7,3 +7,4 @@ pub mod Sorts
 pub mod Views
 pub mod Laws
 pub mod Steps
+pub mod WalkViews

@@ -56,6 +56,9 @@ pub record Found : Type 0 where
   pub is_deep : Bool
   pub cells : List ResolvedCell
 
+abbrev pub noting : Findings → Found → Found
+noting f a = record a { faults = either f a.faults }
+
 -- with these uses before
 abbrev pub using : Sight → List Use → Found → Found
 using v us a = record a { faults = either (findings v us) a.faults; variables = variables_in us ++ a.variables }
@@ -128,6 +131,11 @@ abbrev pub name_misfits : Sort → List Use
 name_misfits of_lifetime = misfit_use ∷ []
 name_misfits _ = []
 
+-- a lifetime where an argument of this sort has to stand
+abbrev pub lifetime_misfits : Sort → List Use
+lifetime_misfits of_lifetime = []
+lifetime_misfits _ = misfit_use ∷ []
+
 abbrev pub is_const_place : Sort → Bool
 is_const_place of_const = true
 is_const_place _ = false
@@ -155,6 +163,9 @@ named_step v pl fs s n start r a =
 abbrev pub wrapped_step : Sight → Place → List Frame → List (List (List ℕ)) → List Use → (List ResolvedCell → List ResolvedCell) → List Cell → Found → State
 wrapped_step v pl fs s us f r a =
     visiting (type_place (deeper pl.room) pl.is_kept) fs s r (using v (sort_misfits pl.kind ++ us) (deepening pl.room (keeping pl.is_kept f a)))
+
+abbrev pub reference_step : Sight → Place → List Frame → List (List (List ℕ)) → Option (List ℕ) → Bool → List Cell → Found → State
+reference_step v pl fs s l m r a = wrapped_step v pl fs s (lifetime_uses s l) (λ cs. resolved.reference_cell (optional_region (params v) s l) m ∷ cs) r a
 
 abbrev pub tuple_step : Sight → Place → List Frame → List (List (List ℕ)) → ℕ → List Cell → Found → State
 tuple_step v pl fs s start r a =
@@ -222,7 +233,7 @@ visit_step v pl fs s (variable_cell n ∷ r) a = variable_step v pl fs s n r a
 visit_step v pl fs s (lifetime_cell n ∷ r) a = lifetime_step v pl fs s n r a
 visit_step v pl fs s (number_cell n ∷ r) a = number_step v pl fs s n r a
 visit_step v pl fs s (named_cell n start ∷ r) a = named_step v pl fs s n start r a
-visit_step v pl fs s (reference_cell l m ∷ r) a = wrapped_step v pl fs s (lifetime_uses s l) (λ cs. resolved.reference_cell (optional_region (params v) s l) m ∷ cs) r a
+visit_step v pl fs s (reference_cell l m ∷ r) a = reference_step v pl fs s l m r a
 visit_step v pl fs s (pointer_cell m ∷ r) a = wrapped_step v pl fs s [] (λ cs. resolved.node_cell (raw_pointer m) 1 ∷ cs) r a
 visit_step v pl fs s (slice_cell ∷ r) a = wrapped_step v pl fs s [] (λ cs. resolved.node_cell slice 1 ∷ cs) r a
 visit_step v pl fs s (array_cell n ∷ r) a = wrapped_step v pl fs s (length_uses n) (λ cs. length_cell (params v) n ∷ resolved.node_cell array 2 ∷ cs) r a

@@ -6,6 +6,7 @@ ghost use Rattle.name_resolution.specs.Views.{resolved_in};
 use crate::findings::Findings;
 use crate::names::Sort;
 use crate::resolved::{ResolvedCell, Variable};
+use crate::walk::Place;
 use std::alloc::{AllocError, Global};
 use std::marker::Model;
 
@@ -29,12 +30,12 @@ impl<'a> Model for Found<'a> {
 }
 
 impl<'a> Found<'a> {
-    ghost use Rattle.name_resolution.specs.Machine.{keeping, deepening, either};
+    ghost use Rattle.name_resolution.specs.Machine.{keeping, deepening, noting};
     ghost use Rattle.name_resolution.specs.Views.{resolved_in};
 
     /// Something more is wrong.
     pub fn note(&mut self, faults: Findings)
-        ensures { self.new ≡ record self.old { faults = either faults self.old.faults } }
+        ensures { self.new ≡ noting faults self.old }
     {
         self.faults = faults.either(self.faults);
     }
@@ -64,5 +65,20 @@ impl<'a> Found<'a> {
         if let Some(0) = room {
             self.is_deep = true;
         }
+    }
+
+    /// A type with its cell and what is wrong with it, before what was met.
+    pub fn add(
+        &mut self,
+        place: Place,
+        faults: Findings,
+        cell: ResolvedCell<'a>,
+    ) -> Result<(), AllocError>
+        ensures { OnOk result (self.new ≡ noting faults (deepening place.room (keeping place.is_kept (λ cs. resolved_in cell.entry ∷ cs) self.old))) }
+    {
+        self.keep(place.is_kept, cell)?;
+        self.deepen(place.room);
+        self.note(faults);
+        Ok(())
     }
 }

@@ -4,15 +4,15 @@ ghost use Rattle.std.specs.Option.{option_map, option_map_or, option_and_then};
 ghost use Rattle.model.specs.Label as label;
 ghost use Rattle.line_tokens.specs.Views.{text_of};
 ghost use Rattle.text_definitions.specs.Tokens.{number_from};
-ghost use Rattle.text_definitions.specs.Uses.{name_use, trait_use, lifetime_use, variable_use, misfit_use, items_use, number_use};
+ghost use Rattle.text_definitions.specs.Uses.{name_use, trait_use, lifetime_use, lifetime_uses, variable_use, misfit_use, items_use, number_use};
 ghost use Rattle.text_definitions.specs.Faults.{is_unknown_use, is_other_sort, is_param, home_of, is_known_name, is_hidden_name, looking_crate, is_param_of, is_type_of, is_trait_of, is_in_scope};
 ghost use Rattle.text_definitions.specs.Declarations.{Known, known};
 ghost use Rattle.name_resolution.specs.Sorts.{known_of};
 ghost use Rattle.name_resolution.specs.LookUps.{is_hidden_home};
 ghost use Rattle.name_resolution.specs.Sorts.{sort_of};
 ghost use Rattle.name_resolution.specs.Views.{region_in};
-ghost use Rattle.name_resolution.specs.Resolved.{region_of};
-ghost use Rattle.name_resolution.specs.Machine.{Sight, findings, items, params, sort_misfits, name_misfits};
+ghost use Rattle.name_resolution.specs.Resolved.{region_of, optional_region};
+ghost use Rattle.name_resolution.specs.Machine.{Sight, findings, items, params, sort_misfits, name_misfits, lifetime_misfits};
 
 use crate::binders::Binders;
 use crate::findings::Findings;
@@ -73,6 +73,17 @@ pub(crate) fn named_misfits(sort: Sort) -> Findings
     }
 }
 
+/// A lifetime at a place of this sort.
+pub(crate) fn lifetime_misfits(sort: Sort) -> Findings
+    ensures { (v : Sight) → result ≡ findings v (lifetime_misfits (sort_of sort)) }
+{
+    match sort {
+        Sort::Type => MISFIT,
+        Sort::Const => MISFIT,
+        Sort::Lifetime => Findings::NONE,
+    }
+}
+
 /// A variable.
 #[tactic(auto, using(crate::proofs::Judged::one_variable))]
 pub(crate) fn variable(name: &[u8]) -> Findings
@@ -129,6 +140,41 @@ pub(crate) fn region<N: Names>(names: &N, binders: &Binders<'_>, name: &[u8]) ->
     match names.param_place(Sort::Lifetime, name) {
         Some(place) => Region::Param(place),
         None => Region::Param(names.param_count(Sort::Lifetime)),
+    }
+}
+
+/// A lifetime that may be omitted.
+pub(crate) fn optional_lifetime<N: Names>(
+    names: &N,
+    binders: &Binders<'_>,
+    name: Option<&[u8]>,
+) -> Findings
+    ensures { result ≡ findings (N.sight names.now) (lifetime_uses binders.now (option_map text_of name.entry)) }
+{
+    match name {
+        Some(name) => lifetime(names, binders, name),
+        None => no_use(),
+    }
+}
+
+/// Nothing is used.
+fn no_use() -> Findings
+    ensures { (v : Sight) → result ≡ findings v [] }
+{
+    Findings::NONE
+}
+
+/// What a lifetime stands for; an omitted one is `'static`.
+pub(crate) fn optional_region<N: Names>(
+    names: &N,
+    binders: &Binders<'_>,
+    name: Option<&[u8]>,
+) -> Region
+    ensures { region_in result ≡ optional_region (params (N.sight names.now)) binders.now (option_map text_of name.entry) }
+{
+    match name {
+        Some(name) => region(names, binders, name),
+        None => Region::Static,
     }
 }
 

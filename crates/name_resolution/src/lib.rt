@@ -8,6 +8,7 @@ mod judge;
 mod names;
 mod resolved;
 mod rest;
+mod walk;
 
 ghost use Rattle.name_resolution.specs.Standing.{CellsStand};
 ghost use Rattle.name_resolution.specs.Laws.{MachineResolves, ArgsResolved, TypesTurned, ArgsTurned};
