@@ -4,3 +4,4 @@ pub mod Structs
 pub mod Asking
 pub mod Heads
 pub mod Pairs
+pub mod Clauses

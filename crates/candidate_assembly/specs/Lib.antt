@@ -2,3 +2,4 @@ pub mod Goals
 pub mod Constituents
 pub mod BuiltIn
 pub mod Equations
+pub mod Clauses

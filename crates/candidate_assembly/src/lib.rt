@@ -1,8 +1,9 @@
-//! The candidates of a goal in code: what can prove it, read off the declarations. So far those by the built-in rules of `Sized`,
-//! `Copy`, `Clone`, `Tuple` and `FnPtr`, and the parts of which the others are made.
+//! The candidates of a goal in code: what can prove it, read off the declarations. So far those by where-clauses and by the built-in
+//! rules of `Sized`, `Copy`, `Clone`, `Tuple` and `FnPtr`, and the parts of which the others are made.
 #![tactic(auto)]
 
 pub mod built_in;
+pub mod param_env;
 mod parts;
 mod relate;
 mod structural;

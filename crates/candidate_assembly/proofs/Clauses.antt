@@ -1,0 +1,99 @@
+-- Where-clauses of a goal, found by place.
+use Rattle.std.proofs.Common.{◌≡◌, ℕ, zero, suc, Bool, true, false, ◌||◌, List, [], ◌∷◌, Option, Some, None, is_some, refl, ap, subst}
+use Rattle.std.specs.Prelude.{◌==◌, option_map, if◌then◌else◌}
+use Rattle.std.specs.List.{slice_get}
+use Rattle.model.specs.Trees.{Trees, some_node}
+use Rattle.model.specs.Answers.{is_open}
+use Rattle.model.specs.Worlds.{World}
+use Rattle.type_terms.specs.Terms.{Entry}
+use Rattle.term_folds.specs.Visits.{Visits, ended, passed, broken, entered, broken_below}
+use Rattle.term_folds.specs.declared.visit.Seen.{Seen}
+use Rattle.term_folds.specs.declared.visit.Seen.TheVariants.{Break, Enter, Pass}
+use Rattle.term_folds.specs.declared.predicate.Clause.{Clause}
+use Rattle.term_folds.specs.declared.predicate.Clause.TheVariants.{Trait, RegionOutlives, TypeOutlives}
+use Rattle.term_folds.specs.declared.predicate.TraitRef.{TraitRef}
+use Rattle.infer_table.specs.Goals.{ClausesHeld, environment_trees}
+use Rattle.evaluation.specs.declared.candidate.CandidateSource.TheVariants.{ParamEnv}
+use Rattle.declarations.specs.Items.{reference_in}
+use Rattle.declarations.specs.Held.{ReferenceHeld}
+use Rattle.declarations.specs.Applied.{AllHeld}
+use Rattle.assembly_laws.specs.Facts.{clauses_of}
+use Rattle.assembly_laws.specs.Asking.{Asked}
+use Rattle.assembly_laws.specs.Candidates.{Candidate, by_rule, by_clauses, clause_source, all_equal}
+use Rattle.candidate_assembly.specs.Clauses.{begins_open, BreaksAt, reference_of, with_reference, references_to}
+
+-- ---- a visit that breaks at open places
+says-pass : (B : Type 0) (m : Bool) → BreaksAt {B = B} m Pass → ⊥
+says-pass B true h = h
+says-pass B false h = h
+
+says-enter : (B : Type 0) (m : Bool) → BreaksAt {B = B} m Enter → m ≡ false
+says-enter B true h = absurd h
+says-enter B false h = refl
+
+says-break : {B : Type 0} (m : Bool) (b : B) → BreaksAt m (Break b) → m ≡ true
+says-break true b h = refl
+says-break false b h = absurd h
+
+here-test : (p q r : Bool) → p ≡ true → true ≡ (p || q || r)
+here-test p q r h = rw h refl
+
+below-test : (p q r : Bool) → p ≡ false → true ≡ q → true ≡ (p || q || r)
+below-test p q r h k = rw (h, ← k) refl
+
+behind-test : (a p q r : Bool) → p ≡ false → false ≡ q → a ≡ r → a ≡ (p || q || r)
+behind-test a p q r h k e = rw (h, ← k) e
+
+abbrev Sees : {V : Type 0} → (B : Type 0) → List ℕ → Trees → V → V → Seen B → Type 0
+Sees B bs t v w a = (w ≡ v) × BreaksAt (begins_open t) a
+
+pub visits-find : {V B : Type 0} {bs : List ℕ} {t : Trees} {v w : V} {r : Option B} → Visits (Sees B) bs t v w r → is_some r ≡ some_node is_open t
+visits-find ended = refl
+visits-find (passed s o) = absurd (says-pass _ _ s.1)
+visits-find (broken s) = here-test _ _ _ (says-break _ _ s.1)
+visits-find (entered s a b) = behind-test _ _ _ _ (says-enter _ _ s.1) (visits-find a) (visits-find b)
+visits-find (broken_below s a) = below-test _ _ _ (says-enter _ _ s.1) (visits-find a)
+
+-- ---- one clause after the other
+pub known-next : (t n : ℕ) (c : Clause) (cs : List Clause) (r : TraitRef) → Some r ≡ reference_of t c → slice_get (references_to t cs) n ≡ slice_get (references_to t (c ∷ cs)) (suc n)
+known-next t n c cs r e = ap (λ o. slice_get (with_reference o (references_to t cs)) (suc n)) e
+
+pub other-next : (t n : ℕ) (c : Clause) (cs : List Clause) → None ≡ reference_of t c → slice_get (references_to t cs) n ≡ slice_get (references_to t (c ∷ cs)) n
+other-next t n c cs e = ap (λ o. slice_get (with_reference o (references_to t cs)) n) e
+
+pub first-known : (t : ℕ) (c : Clause) (cs : List Clause) (r : TraitRef) → Some r ≡ reference_of t c → Some r ≡ slice_get (references_to t (c ∷ cs)) 0
+first-known t c cs r e = ap (λ o. slice_get (with_reference o (references_to t cs)) 0) e
+
+-- ---- their terms
+pub references-held : (es : List Entry) (t : ℕ) (cs : List Clause) → ClausesHeld es cs → AllHeld es (references_to t cs)
+references-held es t [] h = tt
+references-held es t (Trait p ∷ cs) h = by (p.trait_ref.def_id.index == t) (references-held es t cs h.1)
+  where
+    by : (b : Bool) → AllHeld es (references_to t cs) → AllHeld es (with_reference (if b then Some p.trait_ref else None) (references_to t cs))
+    by true g = (h.0, g)
+    by false g = g
+references-held es t (RegionOutlives a b ∷ cs) h = references-held es t cs h.1
+references-held es t (TypeOutlives a r ∷ cs) h = references-held es t cs h.1
+
+pub held-at : (es : List Entry) (rs : List TraitRef) (n : ℕ) (r : TraitRef) → AllHeld es rs → Some r ≡ slice_get rs n → ReferenceHeld es r
+held-at es [] n r h e = absurd cc
+held-at es (x ∷ rs) zero r h e = let q : x ≡ r = cc in subst (ReferenceHeld es) q h.0
+held-at es (x ∷ rs) (suc n) r h e = held-at es rs n r h.1 e
+
+-- ---- as candidates
+module _ (V : World) (es : List Entry) (a : Asked) where
+  abbrev pub of_clause : TraitRef → Candidate
+  of_clause r = by_rule V a (ParamEnv (clause_source (reference_in es r))) (all_equal a.reference.args (reference_in es r).args) []
+
+  pub clause-at : (cs : List Clause) (n : ℕ) → slice_get (by_clauses V a (clauses_of (environment_trees es cs))) n ≡ option_map of_clause (slice_get (references_to a.reference.trait cs) n)
+  clause-at [] n = refl
+  clause-at (Trait p ∷ cs) n = by (p.trait_ref.def_id.index == a.reference.trait) n (λ m. clause-at cs m)
+    where
+      by : (b : Bool) (m : ℕ) → ((k : ℕ) → slice_get (by_clauses V a (clauses_of (environment_trees es cs))) k ≡ option_map of_clause (slice_get (references_to a.reference.trait cs) k))
+          → slice_get (if b then of_clause p.trait_ref ∷ by_clauses V a (clauses_of (environment_trees es cs)) else by_clauses V a (clauses_of (environment_trees es cs))) m
+          ≡ option_map of_clause (slice_get (with_reference (if b then Some p.trait_ref else None) (references_to a.reference.trait cs)) m)
+      by true zero go = refl
+      by true (suc m) go = go m
+      by false m go = go m
+  clause-at (RegionOutlives x y ∷ cs) n = clause-at cs n
+  clause-at (TypeOutlives x r ∷ cs) n = clause-at cs n

@@ -1,0 +1,165 @@
+//! Candidates by where-clauses.
+ghost use Rattle.std.specs.Prelude.{◌≡◌, IfOk, IfSome, Err, option_map};
+ghost use Rattle.std.specs.List.{slice_get};
+ghost use Rattle.model.specs.Worlds.{World};
+ghost use Rattle.type_terms.specs.Terms.{Keeps};
+ghost use Rattle.term_folds.specs.Failures.{SomeKindIsFull};
+ghost use Rattle.infer_table.specs.Goals.{GoalHeld};
+ghost use Rattle.evaluation.specs.Readings.{SpecHeld};
+ghost use Rattle.declarations.specs.Items.{reference_in};
+ghost use Rattle.declarations.specs.Held.{ReferenceHeld};
+ghost use Rattle.assembly_laws.specs.Asking.{clauses};
+ghost use Rattle.assembly_laws.specs.Candidates.{clause_source, by_clauses};
+ghost use Rattle.candidate_assembly.specs.Goals.{asked_of, candidate_of};
+ghost use Rattle.candidate_assembly.specs.Clauses.{reference_of, references_to};
+
+use crate::parts::by_rule;
+use crate::relate::relate_args;
+use evaluation::{CandidateSource, CandidateSpec, ParamEnvSource};
+use infer_table::input::CanonicalInput;
+use std::alloc::Global;
+use std::ops::ControlFlow;
+use term_folds::binders::Binders;
+use term_folds::predicate::{Clause, TraitRef};
+use term_folds::visit::{Seen, TypeVisitor, visit_args};
+use type_terms::interner::Interner;
+use type_terms::kinds::{Const, ConstKind, Ty, TyKind};
+use type_terms::region::{Region, RegionKind};
+use type_terms::{Fault, TraitId};
+
+/// Looks for a parameter, an unknown, a bound variable, or a lifetime but `'static` (`FindParamInClause`).
+#[derive(Clone, Copy)]
+struct FindsOpen;
+
+impl TypeVisitor for FindsOpen {
+    type Break = ();
+
+    ghost use Rattle.std.proofs.Common.{refl};
+    ghost use Rattle.candidate_assembly.specs.Clauses.{begins_open, BreaksAt, bounds-are-closed};
+
+    ghost ready = { λ _ _. Unit {0} };
+
+    ghost sees = { λ es bs t v w a. (w ≡ v) × BreaksAt (begins_open t) a };
+
+    ghost enters_bounds = { λ v es bs t h. (refl, bounds-are-closed _ t h) };
+
+    fn visit_ty(&mut self, cx: &Interner, ty: Ty, _binders: &Binders) -> Seen<()> {
+        match cx.kind(ty) {
+            TyKind::Param(_) | TyKind::Placeholder(_) | TyKind::Infer(_) | TyKind::Bound(_, _) => {
+                Seen::Break(())
+            }
+            TyKind::Bool
+            | TyKind::Char
+            | TyKind::Int(_)
+            | TyKind::Uint(_)
+            | TyKind::Str
+            | TyKind::Never
+            | TyKind::Adt(_, _)
+            | TyKind::Ref(_, _, _)
+            | TyKind::RawPtr(_, _)
+            | TyKind::Array(_, _)
+            | TyKind::Slice(_)
+            | TyKind::Tuple(_)
+            | TyKind::FnPtr(_, _)
+            | TyKind::Dynamic(_, _) => Seen::Enter,
+        }
+    }
+
+    fn visit_const(&mut self, cx: &Interner, ct: Const, _binders: &Binders) -> Seen<()> {
+        match cx.const_kind(ct) {
+            ConstKind::Value(_) => Seen::Enter,
+            ConstKind::Param(_)
+            | ConstKind::Placeholder(_)
+            | ConstKind::Infer(_)
+            | ConstKind::Bound(_, _) => Seen::Break(()),
+        }
+    }
+
+    fn visit_region(&mut self, _cx: &Interner, region: Region, _binders: &Binders) -> Seen<()> {
+        match region.kind {
+            RegionKind::ReStatic => Seen::Enter,
+            RegionKind::ReEarlyParam(_)
+            | RegionKind::RePlaceholder(_)
+            | RegionKind::ReBound(_, _)
+            | RegionKind::ReVar(_) => Seen::Break(()),
+        }
+    }
+}
+
+/// Whether a where-clause is global: it holds no parameter, unknown, bound variable, or lifetime but `'static`
+/// (`characterize_param_env_assumption`).
+fn clause_source(cx: &Interner, trait_ref: TraitRef) -> ParamEnvSource
+    requires { ReferenceHeld cx.now.entries trait_ref }
+    ensures { result ≡ clause_source (reference_in cx.now.entries trait_ref) }
+{
+    match visit_args(cx, &mut FindsOpen, trait_ref.args, &Binders::Outermost) {
+        ControlFlow::Break(()) => ParamEnvSource::NonGlobal,
+        ControlFlow::Continue(()) => ParamEnvSource::Global,
+    }
+}
+
+/// The reference of a where-clause, if it is one to this trait.
+fn reference_of(clause: &Clause, def_id: TraitId) -> Option<TraitRef>
+    ensures { result ≡ reference_of def_id.index clause.now }
+{
+    match clause {
+        Clause::Trait(predicate) => {
+            if predicate.trait_ref.def_id.index == def_id.index {
+                Some(predicate.trait_ref)
+            } else {
+                None
+            }
+        }
+        Clause::RegionOutlives(_, _) => None,
+        Clause::TypeOutlives(_, _) => None,
+    }
+}
+
+/// The reference at this place among those to the trait.
+fn reference_at(clauses: &[Clause], def_id: TraitId, place: usize) -> Option<TraitRef>
+    ensures { result ≡ slice_get (references_to def_id.index clauses.now) place }
+{
+    let mut before = place;
+    let mut left = clauses;
+    'clauses: while let Some((clause, others)) = left.split_first() {
+        left = others;
+        match reference_of(clause, def_id) {
+            Some(trait_ref) => {
+                if before == 0 {
+                    return Some(trait_ref);
+                }
+                before -= 1;
+            }
+            None => {}
+        }
+    }
+    None
+}
+
+/// The candidate by the where-clause at this place among those of the goal's trait, if there is one: it is certain where the arguments are
+/// equal (`consider_param_env_candidate`).
+pub fn consider_param_env_candidate(
+    alloc: Global,
+    cx: &mut Interner,
+    goal: &CanonicalInput,
+    place: usize,
+) -> Result<Option<CandidateSpec>, Fault>
+    requires { GoalHeld cx.old.entries goal.now.goal }
+    ensures keeps { Keeps cx.old.entries cx.new.entries }
+    ensures limit { cx.new.limit ≡ cx.old.limit }
+    ensures held { IfOk result (λ o. IfSome o (SpecHeld cx.new.entries)) }
+    ensures is { IfOk result (λ o. (V : World) → option_map (candidate_of V goal.now.goal.predicate.trait_ref.def_id.index cx.new.entries) o
+        ≡ slice_get (by_clauses V (asked_of cx.old.entries goal.now) (clauses (asked_of cx.old.entries goal.now))) place) }
+    ensures full { result ≡ Err Fault.Full → SomeKindIsFull cx.new.entries cx.new.limit }
+{
+    let asked = goal.goal.predicate.trait_ref;
+    match reference_at(&goal.goal.param_env, asked.def_id, place) {
+        Some(trait_ref) => {
+            let source = CandidateSource::ParamEnv(clause_source(cx, trait_ref));
+            let equations = relate_args(alloc, cx, asked.args, trait_ref.args)?;
+            let candidate = by_rule(alloc, goal, source, equations, &[])?;
+            Ok(Some(candidate))
+        }
+        None => Ok(None),
+    }
+}
