@@ -1,0 +1,5 @@
+//! Tests of the orphan check and of known references, by public calls.
+#![tactic(auto)]
+
+#[cfg(test)]
+mod walks;
