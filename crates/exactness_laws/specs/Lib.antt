@@ -1,0 +1,9 @@
+pub mod Ways
+pub mod ModelWays
+pub mod Closed
+pub mod ClosedTables
+pub mod Plays
+pub mod Exact
+pub mod Found
+pub mod RuleWays
+pub mod RuleAnswers
