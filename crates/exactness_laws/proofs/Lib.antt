@@ -16,6 +16,7 @@ pub mod Answering
 pub mod Ordered
 pub mod Induction
 pub mod Found
+pub mod ExactPlans
 pub mod Listed
 pub mod RuleMatching
 pub mod RuleFilling

@@ -24,7 +24,7 @@ use Rattle.infer_table.proofs.SolutionLaws.{is_sort-self}
 use Rattle.table_laws.proofs.Assignments.{all-valued}
 use Rattle.table_laws.proofs.Labels.{every-end}
 use Rattle.table_laws.proofs.Answering.{overflow_is_bare}
-use Rattle.goal_frames.proofs.Beginnings.{append-list, length-more, place-is, number-self, value_by}
+use Rattle.table_laws.proofs.FirstAnswers.{append-list, length-more, place-is, number-self, value_by}
 use Rattle.exactness_laws.specs.ClosedTables.{AreClosed}
 
 -- ---- leaves are added at the end

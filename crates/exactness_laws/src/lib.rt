@@ -4,19 +4,19 @@
 #![tactic(auto)]
 
 ghost use Rattle.std.specs.Prelude.{Option};
+ghost use Rattle.infer_table.specs.Responses.{AnswerTrees};
 ghost use Rattle.evaluation.specs.Table.{Tables, IsTable};
+ghost use Rattle.table_laws.specs.Content.{Fact};
 ghost use Rattle.evaluation_laws.specs.Tables.{frame_tables};
 ghost use Rattle.goal_frames.specs.Programs.{Programs, ArePrograms};
 ghost use Rattle.goal_frames.specs.Searches.{Handles, Asked};
+ghost use Rattle.goal_frames.specs.RulePrograms.{DeclaredRules};
 ghost use Rattle.exactness_laws.specs.Closed.{Closing, IsClosing};
 ghost use Rattle.exactness_laws.specs.ClosedTables.{closed_tables};
 ghost use Rattle.exactness_laws.specs.Exact.{AnswersExactly, AreSure, PlainIsExact, PlainIsRight, PlainAnswers};
 ghost use Rattle.exactness_laws.specs.Found.{FoundIsExact, FoundIsRight};
 ghost use Rattle.exactness_laws.specs.ModelWays.{ProofsAreByWays, SingleWayIsDecided, PossibleIsByWays, ShortIsByWays};
 ghost use Rattle.exactness_laws.specs.RuleAnswers.{rule_programs, RulesAreExact, RulesAreRight, RulesAnswer};
-ghost use Rattle.infer_table.specs.Responses.{AnswerTrees};
-ghost use Rattle.table_laws.specs.Content.{Fact};
-ghost use Rattle.goal_frames.specs.RulePrograms.{DeclaredRules};
 ghost use Rattle.exactness_laws.specs.Ways.{HoldsByWays};
 
 /// By the rules of a set of crates and of where-clauses a reference has a proof exactly if the premises of one of its rules have
