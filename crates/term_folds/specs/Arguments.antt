@@ -1,5 +1,5 @@
 -- Parameters and the arguments that stand for them.
-use Rattle.std.specs.Prelude.{◌≡◌, refl, ℕ, zero, suc, List, [], ◌∷◌, length, min, cond, Bool, true, false, Option, Some, None, ◌||◌}
+use Rattle.std.specs.Prelude.{◌≡◌, refl, ℕ, zero, suc, List, [], ◌∷◌, length, min, cond, Bool, true, false, Option, Some, None, ◌||◌, ◌↔◌, Result, Err}
 use Rattle.std.proofs.Common.{ap}
 use Rattle.std.specs.Option.{option_or}
 use Rattle.model.specs.Label.{Label, Sort, of_type, of_const, of_lifetime, param, principal, auto_trait, inside}
@@ -49,6 +49,10 @@ first_misfit A (tree l c o) = option_or (first_misfit A c) (first_misfit A o)
 abbrev pub first_misfit_in : Trees → List Piece → Option InstantiateError
 first_misfit_in A [] = None
 first_misfit_in A (p ∷ ps) = option_or (first_misfit A p.trees) (first_misfit_in A ps)
+
+-- the result is this error exactly where that is what is wrong first
+abbrev pub IsTheMisfit : {T : Type 0} → InstantiateError → Result T InstantiateError → Trees → List Piece → Type 0
+IsTheMisfit e r A ps = (r ≡ Err e) ↔ (first_misfit_in A ps ≡ Some e)
 
 -- under d binders, each parameter's argument can be shifted by the binders above it
 abbrev pub ArgsInRange : ℕ → Trees → Trees → Type 0

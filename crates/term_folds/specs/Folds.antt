@@ -1,5 +1,5 @@
 -- What a folder does at a node, and what a fold is.
-use Rattle.std.specs.Prelude.{◌≡◌, ℕ, ◌≤◌, List, ◌∷◌}
+use Rattle.std.specs.Prelude.{[], ◌≡◌, ℕ, ◌≤◌, List, ◌∷◌}
 use Rattle.std.proofs.Common.{arith}
 use Rattle.model.specs.Label.{Label, fn_ptr, principal, auto_trait}
 use Rattle.model.specs.Trees.{Trees, none, tree, ◌+++◌}
@@ -58,6 +58,10 @@ pub record IsFold (f : List ℕ → Trees → Does) (bs : List ℕ) (t : Trees) 
 pub record IsFoldBelow (f : List ℕ → Trees → Does) (bs : List ℕ) (t : Trees) (es : List Entry) (table i : ℕ) : Type 0 where
   pub has : Has es table i
   pub folded : FoldsBelow f bs t (trees_at es i)
+
+-- the term of the one number, its root entered, is folded to the term of the other
+abbrev pub IsSuperFold : (List ℕ → Trees → Does) → List Entry → List Entry → (table from to : ℕ) → Type 0
+IsSuperFold f old new table i j = IsFoldBelow f [] (trees_at old i) new table j
 
 -- a bound of a `dyn`: a folder is not asked there
 abbrev pub IsBound : Trees → Type 0
