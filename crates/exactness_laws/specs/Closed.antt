@@ -23,10 +23,11 @@ module _ {Question Response : Type 0} (t : Tables Question Response) where
     pub equate : (T U : t.Table) (es : List t.Equation) → t.equate T es ≡ Some U → k.shape U ≡ k.shape T
     pub recorded : (T : t.Table) (c : t.Regions) → k.shape (t.recorded T c) ≡ k.shape T
     pub apply : (T U : t.Table) (n : t.Nested) (r : Response) → t.apply T n r ≡ Some U → k.shape U ≡ k.shape T
-    -- there are such values
+    -- there are values that tell placeholders apart
     pub some : (x : k.Shape) → k.IsClosed x → (v : t.Values) × k.IsApart x v
     -- every table that is made as tables are has solutions, whatever the goal's placeholders stand for
     pub free : (T : t.Table) → t.Made T → k.IsClosed (k.shape T) → IsFree t T
+    -- what is allowed at such values tells placeholders apart
     pub tells : (T : t.Table) (s : t.Assignment) → k.IsApart (k.shape T) (t.own s) → t.Allows T s → t.AllowsApart T s
     -- an answer says nothing but how sure it is
     pub silent : (T : t.Table) (c : Certainty) → t.Made T → k.IsClosed (k.shape T) → t.has_values (t.respond T c) ≡ false
@@ -34,6 +35,7 @@ module _ {Question Response : Type 0} (t : Tables Question Response) where
     pub closed : (T : t.Table) (n : t.Nested) → t.Made T → k.IsClosed (k.shape T) → IsDetermined t T n → k.IsClosed (k.shape_of (t.question T n))
     pub apart : (T : t.Table) (n : t.Nested) → k.IsClosed (k.shape T) → IsDetermined t T n
         → (s : t.Assignment) → t.Allows T s → k.IsApart (k.shape T) (t.own s) → k.IsApart (k.shape_of (t.question T n)) (t.at T n s)
+    -- each table knows all nested goals
     pub knows : (T : t.Table) (n : t.Nested) → t.Knows T n
 
   -- ---- a candidate at values of the goal's placeholders

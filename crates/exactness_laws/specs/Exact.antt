@@ -39,6 +39,7 @@ module _ {Question Response : Type 0} (t : Tables Question Response) where
 module _ {Question Response : Type 0} (t : Tables Question Response) (k : Closing t) where
   -- what the handler of a question without unknowns is: its candidates are its ways, and nothing else
   pub record IsExactHandler (ways : t.Fact → List (List t.Fact)) (IsAsked : Question → Type 0) (q : Question) (h : Handled t) : Type 1 where
+    -- its frame begins with a table for the question, made as tables are, and its instances are the question's
     pub begins : k.shape h.begin ≡ k.shape_of q
     pub made : t.Made h.begin
     pub goal : (v : t.Values) → h.goal v ≡ t.fact_of q v
