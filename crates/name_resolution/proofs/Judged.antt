@@ -12,7 +12,8 @@ use Rattle.text_definitions.specs.Uses.{Use, name_use, trait_use, lifetime_use, 
 use Rattle.text_definitions.specs.Faults.{is_among, is_taken_binder, is_unknown_use, is_hidden_use, looking_crate, is_other_sort, is_use_of, is_bad_dyn, passes_in, static_name, is_param, is_hidden_name, is_known_name, home_of, is_param_of, is_type_of, is_trait_of, repeats, is_long, is_in_scope}
 use Rattle.text_definitions.specs.Lowering.{place_among}
 use Rattle.name_resolution.specs.declared.findings.Findings.{Findings}
-use Rattle.name_resolution.specs.Machine.{Sight, items, params, findings}
+use Rattle.name_resolution.specs.Machine.{Sight, items, params, findings, either}
+use Rattle.name_resolution.proofs.Uses.{findings-append}
 use Rattle.name_resolution.specs.LookUps.{place_in, scope_place, is_hidden_home, is_own_name}
 use Rattle.name_resolution.specs.Resolved.{static_region, region_of, param_region, bound_region, region_under}
 
@@ -206,3 +207,8 @@ pub in-scope : (l : Line) (s : List (List (List ℕ))) (n : List ℕ) (o : Optio
 in-scope l s n o q e f =
     ap (λ x. is_some x || is_some q) e ∙ ap (λ b. b || is_some q) (among-place 0 n (params_of l).lifetimes)
     ∙ ap (λ x. is_among n (params_of l).lifetimes || is_some x) f ∙ ap (λ b. is_among n (params_of l).lifetimes || b) (among-scope 0 n s)
+
+-- a number where no const stands
+pub misfit_number : (v : Sight) (n : ℕ) (f g : Findings) → f ≡ findings v (number_use n ∷ []) → g ≡ either f (made false false false true false false false) → g ≡ findings v (number_use n ∷ misfit_use ∷ [])
+misfit_number v n f g e h =
+    h ∙ ap (λ x. either x (made false false false true false false false)) e ∙ ap (either (findings v (number_use n ∷ []))) (one-misfit v) ∙ sym (findings-append v (number_use n ∷ []) (misfit_use ∷ []))

@@ -10,3 +10,4 @@ pub mod Parts
 pub mod Judged
 pub mod Walking
 pub mod Numbers
+pub mod Meanings

@@ -4,8 +4,9 @@ ghost use Rattle.std.specs.List.{list_any};
 ghost use Rattle.std.specs.Option.{option_map, option_map_or, option_and_then};
 ghost use Rattle.model.specs.Label as label;
 ghost use Rattle.line_tokens.specs.Views.{text_of};
+ghost use Rattle.type_reader.specs.Views.{length_of};
 ghost use Rattle.text_definitions.specs.Tokens.{number_from};
-ghost use Rattle.text_definitions.specs.Uses.{name_use, trait_use, lifetime_use, lifetime_uses, variable_use, misfit_use, items_use, number_use, binder_uses};
+ghost use Rattle.text_definitions.specs.Uses.{name_use, trait_use, lifetime_use, lifetime_uses, variable_use, misfit_use, items_use, number_use, number_arg_uses, length_uses, binder_uses};
 ghost use Rattle.text_definitions.specs.Faults.{is_unknown_use, is_other_sort, is_param, home_of, is_known_name, is_hidden_name, looking_crate, is_param_of, is_type_of, is_trait_of, is_in_scope, is_among, repeats, is_long, static_name};
 ghost use Rattle.text_definitions.specs.Declarations.{Known, known};
 ghost use Rattle.name_resolution.specs.Sorts.{known_of};
@@ -19,6 +20,7 @@ use crate::binders::{Binders, place_in};
 use crate::findings::Findings;
 use crate::names::{Known, Names, Sort};
 use crate::resolved::Region;
+use type_reader::Length;
 
 /// Bytes that a name may have.
 const NAME_LIMIT: usize = 64;
@@ -386,6 +388,29 @@ pub(crate) fn number(digits: &[u8]) -> Findings
     ensures { (v : Sight) → result ≡ findings v (number_use (number_from 0 digits.now) ∷ []) }
 {
     limit(is_large(digits))
+}
+
+/// A number where an argument for a parameter of this sort stands.
+#[tactic(auto, using(crate::proofs::Judged::misfit_number))]
+pub(crate) fn number_argument(sort: Sort, digits: &[u8]) -> Findings
+    ensures { (v : Sight) → result ≡ findings v (number_arg_uses (sort_of sort) (number_from 0 digits.now)) }
+{
+    match sort {
+        Sort::Const => number(digits),
+        Sort::Type => number(digits).either(MISFIT),
+        Sort::Lifetime => number(digits).either(MISFIT),
+    }
+}
+
+/// The length of an array.
+pub(crate) fn length<N: Names>(names: &N, length: Length<'_>) -> Findings
+    ensures { result ≡ findings (N.sight names.now) (length_uses (length_of length.entry)) }
+{
+    match length {
+        Length::Number(digits) => number(digits),
+        Length::Name(constant) => name(names, Sort::Const, constant, 0, names.known(constant)),
+        Length::Variable(unknown) => variable(unknown),
+    }
 }
 
 /// Whether a name comes again.

@@ -1,14 +1,14 @@
 -- What names stand for among the resolved cells.
-use Rattle.std.proofs.Common.{◌≡◌, ℕ, Bool, true, false, List, [], ◌∷◌, Option, Some, None, refl, sym, ap, ◌∙◌}
+use Rattle.std.proofs.Common.{◌≡◌, ℕ, Bool, false, List, Option, Some, None, ap, ◌∙◌}
 use Rattle.std.specs.Prelude.{is_some, if◌then◌else◌}
 use Rattle.std.specs.Option.{option_map_or}
 use Rattle.model.specs.Label.{Label, of_type}
 use Rattle.text_definitions.specs.Declarations.{Declarations, Known, a_crate, a_struct, a_trait, known}
-use Rattle.text_definitions.specs.Faults.{is_among, is_auto_name}
+use Rattle.text_definitions.specs.Faults.{is_auto_name}
 use Rattle.text_definitions.specs.Lowering.{place_among, struct_label}
 use Rattle.text_definitions.specs.Syntax.{Params}
 use Rattle.name_resolution.specs.LookUps.{place_in}
-use Rattle.name_resolution.specs.Resolved.{ResolvedCell, named_cell, param_cell, node_cell}
+use Rattle.name_resolution.specs.Resolved.{named_cell, param_cell, node_cell}
 use Rattle.name_resolution.proofs.Judged.{among-place, place-is}
 
 abbrev pub auto_of : Option Known → Bool
