@@ -1,6 +1,6 @@
 -- What is wrong with one use.
 use Rattle.std.proofs.Common.{◌≡◌, ℕ, suc, ◌+◌, Bool, true, false, List, [], ◌∷◌, ◌++◌, length, Option, Some, None, refl, sym, ap, ◌∙◌, cond, arith}
-use Rattle.std.specs.Prelude.{◌==◌, ◌||◌, ◌&&◌, not, is_some, nat_lt, if◌then◌else◌}
+use Rattle.std.specs.Prelude.{◌==◌, ◌^◌, nat_le, ◌||◌, ◌&&◌, not, is_some, nat_lt, if◌then◌else◌}
 use Rattle.std.specs.List.{list_any, position_from}
 use Rattle.std.specs.Option.{option_map_or, option_and_then}
 use Rattle.model.specs.Label.{Sort}
@@ -8,11 +8,12 @@ use Rattle.model.specs.Worlds.{sees}
 use Rattle.std.specs.Str.{bytes_eq}
 use Rattle.text_definitions.specs.Syntax.{Params, Line}
 use Rattle.text_definitions.specs.Declarations.{Known, known, world_of}
-use Rattle.text_definitions.specs.Uses.{Use, name_use, trait_use, lifetime_use, variable_use, misfit_use, items_use, declared_name, params_of}
-use Rattle.text_definitions.specs.Faults.{is_among, is_taken_binder, is_unknown_use, is_hidden_use, looking_crate, is_other_sort, is_use_of, is_bad_dyn, passes_in, static_name, is_param, is_hidden_name, is_known_name, home_of, is_param_of, is_type_of, is_trait_of}
+use Rattle.text_definitions.specs.Uses.{Use, name_use, trait_use, lifetime_use, variable_use, misfit_use, items_use, number_use, binder_use, binder_uses, declared_name, params_of}
+use Rattle.text_definitions.specs.Faults.{is_among, is_taken_binder, is_unknown_use, is_hidden_use, looking_crate, is_other_sort, is_use_of, is_bad_dyn, passes_in, static_name, is_param, is_hidden_name, is_known_name, home_of, is_param_of, is_type_of, is_trait_of, repeats, is_long, is_in_scope}
 use Rattle.text_definitions.specs.Lowering.{place_among}
 use Rattle.name_resolution.specs.declared.findings.Findings.{Findings}
-use Rattle.name_resolution.specs.Machine.{Sight, items, params, findings}
+use Rattle.name_resolution.specs.Machine.{Sight, items, params, findings, either}
+use Rattle.name_resolution.proofs.Uses.{findings-append}
 use Rattle.name_resolution.specs.LookUps.{place_in, scope_place, is_hidden_home, is_own_name}
 use Rattle.name_resolution.specs.Resolved.{static_region, region_of, param_region, bound_region, region_under}
 
@@ -189,3 +190,25 @@ other-name v p n k b x y e f g =
 
 pub other-trait : (v : Sight) (n : List ℕ) (k : ℕ) (b y : Bool) → b ≡ is_param v.line n → y ≡ option_map_or (is_trait_of k) (known (items v) n) false → b || not y ≡ is_other_sort v.before v.line (trait_use n k)
 other-trait v n k b y e g = ap (λ z. z || not y) e ∙ ap (λ z. is_param v.line n || not z) g
+
+pub one_number : (v : Sight) (n : ℕ) (b : Bool) → b ≡ nat_le (2 ^ 64) n → made false false false false false false b ≡ findings v (number_use n ∷ [])
+one_number v n b e = one-use v (number_use n) false false false false false false b refl refl (no-look v) refl (no-own v) refl e
+
+-- a binder of no lifetime is no use, and nothing is wrong with it
+pub one_binder : (v : Sight) (s : List (List (List ℕ))) (ns : List (List ℕ)) (a b c d : Bool) → a ≡ repeats ns → b ≡ is_among static_name ns → c ≡ list_any (is_in_scope v.line s) ns → d ≡ list_any is_long ns
+    → made (a || (b || c)) false false false false false d ≡ findings v (binder_uses s ns)
+one_binder v s [] a b c d e f g h =
+    ap (λ z. made (z || (b || c)) false false false false false d) e ∙ ap (λ z. made (z || c) false false false false false d) f ∙ ap (λ z. made z false false false false false d) g ∙ ap (made false false false false false false) h ∙ no-uses v
+one_binder v s (n ∷ ns) a b c d e f g h =
+    one-use v (binder_use s (n ∷ ns)) (a || (b || c)) false false false false false d
+    (ap (λ z. z || (b || c)) e ∙ ap (λ z. repeats (n ∷ ns) || (z || c)) f ∙ ap (λ z. repeats (n ∷ ns) || (is_among static_name (n ∷ ns) || z)) g) refl (no-look v) refl (no-own v) refl h
+
+pub in-scope : (l : Line) (s : List (List (List ℕ))) (n : List ℕ) (o : Option ℕ) (q : Option (ℕ × ℕ)) → o ≡ place_in n (params_of l).lifetimes → q ≡ scope_place 0 s n → is_some o || is_some q ≡ is_in_scope l s n
+in-scope l s n o q e f =
+    ap (λ x. is_some x || is_some q) e ∙ ap (λ b. b || is_some q) (among-place 0 n (params_of l).lifetimes)
+    ∙ ap (λ x. is_among n (params_of l).lifetimes || is_some x) f ∙ ap (λ b. is_among n (params_of l).lifetimes || b) (among-scope 0 n s)
+
+-- a number where no const stands
+pub misfit_number : (v : Sight) (n : ℕ) (f g : Findings) → f ≡ findings v (number_use n ∷ []) → g ≡ either f (made false false false true false false false) → g ≡ findings v (number_use n ∷ misfit_use ∷ [])
+misfit_number v n f g e h =
+    h ∙ ap (λ x. either x (made false false false true false false false)) e ∙ ap (either (findings v (number_use n ∷ []))) (one-misfit v) ∙ sym (findings-append v (number_use n ∷ []) (misfit_use ∷ []))

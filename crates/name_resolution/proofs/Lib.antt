@@ -9,3 +9,5 @@ pub mod Scopes
 pub mod Parts
 pub mod Judged
 pub mod Walking
+pub mod Numbers
+pub mod Meanings

@@ -1,14 +1,15 @@
 -- Steps of the walk.
-use Rattle.std.proofs.Common.{◌≡◌, ◌↔◌, ℕ, ◌<◌, List, [], ◌∷◌, ◌++◌, length, Option, Some, None, IsSome, refl, sym, ap, ◌∙◌, arith}
-use Rattle.std.specs.Prelude.{MatchOption}
+use Rattle.std.proofs.Common.{Bool, true, false, ◌≡◌, ◌↔◌, ℕ, ◌<◌, List, [], ◌∷◌, ◌++◌, length, Option, Some, None, IsSome, refl, sym, ap, ◌∙◌, arith}
+use Rattle.std.specs.Prelude.{MatchOption, if◌then◌else◌, not, ◌&&◌}
 use Rattle.std.specs.Option.{option_to_list}
-use Rattle.text_definitions.specs.Uses.{Use, variable_use, lifetime_use, lifetime_uses, lifetime_arg_uses}
+use Rattle.text_definitions.specs.Uses.{Use, name_use, variable_use, lifetime_use, lifetime_uses, lifetime_arg_uses}
 use Rattle.text_definitions.specs.Faults.{variables_in}
 use Rattle.model.specs.Label.{Sort, of_type, of_const, of_lifetime}
 use Rattle.type_reader.specs.Cells.{Cell}
 use Rattle.name_resolution.specs.declared.findings.Findings.{Findings}
 use Rattle.name_resolution.specs.Machine as machine
 use Rattle.name_resolution.specs.Machine.{Sight, Found, findings, either, using, keeping, deepening, noting, sort_misfits, name_misfits, lifetime_misfits}
+use Rattle.name_resolution.specs.Resolved as resolved
 use Rattle.name_resolution.specs.declared.walk.Frame.{Frame}
 use Rattle.name_resolution.specs.WalkViews.{frame_of, frames_onto, frames_in}
 use Rattle.name_resolution.proofs.Uses.{findings-append}
@@ -72,3 +73,39 @@ no-lifetime-variables s of_lifetime n = refl
 pub optional-variables : (s : List (List (List ℕ))) (l : Option (List ℕ)) → variables_in (lifetime_uses s l) ≡ []
 optional-variables s None = refl
 optional-variables s (Some n) = refl
+
+-- ---- cells and variables together
+abbrev more-variables : List (List ℕ × Sort) → Found → Found
+more-variables vs b = record b { variables = vs ++ b.variables }
+
+abbrev found-with : Found → Findings → List (List ℕ × Sort) → Found
+found-with a f vs = record a { faults = either f a.faults; variables = vs ++ a.variables }
+
+pub noted-with : (v : Sight) (us : List Use) (vs : List (List ℕ × Sort)) (f : Findings) (a b c : Found) → variables_in us ≡ vs → f ≡ findings v us → b ≡ noting f a → c ≡ record b { variables = vs ++ b.variables } → using v us a ≡ c
+noted-with v us vs f a b c h e g k =
+    ap (found-with a (findings v us)) h ∙ ap (λ y. found-with a y vs) (sym e) ∙ ap (more-variables vs) (sym g) ∙ sym k
+
+pub misfit-variables : (p : Sort) (us : List Use) → variables_in (sort_misfits p ++ us) ≡ variables_in us
+misfit-variables of_type us = refl
+misfit-variables of_const us = refl
+misfit-variables of_lifetime us = refl
+
+pub name-variables : (p : Sort) (n : List ℕ) (k : ℕ) → variables_in (name_misfits p ++ name_use p n k ∷ []) ≡ []
+name-variables of_type n k = refl
+name-variables of_const n k = refl
+name-variables of_lifetime n k = refl
+
+pub kept-twice : (b : Bool) (f g : List resolved.ResolvedCell → List resolved.ResolvedCell) (a : Found) → keeping b (λ cs. f (g cs)) a ≡ keeping b f (keeping b g a)
+kept-twice true f g a = refl
+kept-twice false f g a = refl
+
+pub kept-same : (b : Bool) (f g : List resolved.ResolvedCell → List resolved.ResolvedCell) (a : Found) → f a.cells ≡ g a.cells → keeping b f a ≡ keeping b g a
+kept-same b f g a h = ap (λ z. record a { cells = if b then z else a.cells }) h
+
+pub const-dropped : (b : Bool) → false ≡ (b && not true)
+const-dropped true = refl
+const-dropped false = refl
+
+pub others-kept : (b : Bool) → b ≡ (b && not false)
+others-kept true = refl
+others-kept false = refl

@@ -1,5 +1,8 @@
 //! What is found, as the cells of a type are gone over from the last to the first.
-ghost use Rattle.std.specs.Prelude.{◌≡◌, ◌∷◌, [], ◌||◌, false, OnOk, IfOk};
+ghost use Rattle.std.specs.Prelude.{◌≡◌, ◌∷◌, ◌++◌, [], ◌||◌, false, OnOk, IfOk};
+ghost use Rattle.text_definitions.specs.Uses.{length_uses};
+ghost use Rattle.text_definitions.specs.Faults.{variables_in};
+ghost use Rattle.type_reader.specs.Views.{length_of};
 ghost use Rattle.name_resolution.specs.Sorts.{sort_of};
 ghost use Rattle.name_resolution.specs.Views.{resolved_in};
 
@@ -9,6 +12,7 @@ use crate::resolved::{ResolvedCell, Variable};
 use crate::walk::Place;
 use std::alloc::{AllocError, Global};
 use std::marker::Model;
+use type_reader::Length;
 
 /// What is found so far. What was met last comes first: the variables and the resolved cells are turned round at the end.
 #[derive(Drop)]
@@ -45,6 +49,16 @@ impl<'a> Found<'a> {
         ensures { OnOk result (self.new ≡ record self.old { variables = (name.now, sort_of sort) ∷ self.old.variables }) }
     {
         self.variables.push(Variable { name, sort })?;
+        Ok(())
+    }
+
+    /// The variable that is the length of an array, if it is one.
+    pub fn note_length(&mut self, length: Length<'a>) -> Result<(), AllocError>
+        ensures { OnOk result (self.new ≡ record self.old { variables = variables_in (length_uses (length_of length.entry)) ++ self.old.variables }) }
+    {
+        if let Length::Variable(name) = length {
+            self.note_variable(name, Sort::Const)?;
+        }
         Ok(())
     }
 

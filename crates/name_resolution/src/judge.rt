@@ -1,11 +1,13 @@
 //! What is wrong with one use.
-ghost use Rattle.std.specs.Prelude.{◌≡◌, ℕ, [], ◌∷◌, false, map, not, nat_le, ◌^◌};
+ghost use Rattle.std.specs.Prelude.{◌≡◌, ℕ, ◌+◌, ◌-◌, ◌*◌, ◌^◌, ◌≤◌, [], ◌∷◌, false, map, not, nat_le, MatchOption};
+ghost use Rattle.std.specs.List.{list_any};
 ghost use Rattle.std.specs.Option.{option_map, option_map_or, option_and_then};
 ghost use Rattle.model.specs.Label as label;
 ghost use Rattle.line_tokens.specs.Views.{text_of};
+ghost use Rattle.type_reader.specs.Views.{length_of};
 ghost use Rattle.text_definitions.specs.Tokens.{number_from};
-ghost use Rattle.text_definitions.specs.Uses.{name_use, trait_use, lifetime_use, lifetime_uses, variable_use, misfit_use, items_use, number_use};
-ghost use Rattle.text_definitions.specs.Faults.{is_unknown_use, is_other_sort, is_param, home_of, is_known_name, is_hidden_name, looking_crate, is_param_of, is_type_of, is_trait_of, is_in_scope};
+ghost use Rattle.text_definitions.specs.Uses.{name_use, trait_use, lifetime_use, lifetime_uses, variable_use, misfit_use, items_use, number_use, number_arg_uses, length_uses, binder_uses};
+ghost use Rattle.text_definitions.specs.Faults.{is_unknown_use, is_other_sort, is_param, home_of, is_known_name, is_hidden_name, looking_crate, is_param_of, is_type_of, is_trait_of, is_in_scope, is_among, repeats, is_long, static_name};
 ghost use Rattle.text_definitions.specs.Declarations.{Known, known};
 ghost use Rattle.name_resolution.specs.Sorts.{known_of};
 ghost use Rattle.name_resolution.specs.LookUps.{is_hidden_home};
@@ -14,10 +16,11 @@ ghost use Rattle.name_resolution.specs.Views.{region_in};
 ghost use Rattle.name_resolution.specs.Resolved.{region_of, optional_region};
 ghost use Rattle.name_resolution.specs.Machine.{Sight, findings, items, params, sort_misfits, name_misfits, lifetime_misfits};
 
-use crate::binders::Binders;
+use crate::binders::{Binders, place_in};
 use crate::findings::Findings;
 use crate::names::{Known, Names, Sort};
 use crate::resolved::Region;
+use type_reader::Length;
 
 /// Bytes that a name may have.
 const NAME_LIMIT: usize = 64;
@@ -351,6 +354,132 @@ pub(crate) fn bound<N: Names>(
         uses_hidden: is_hidden_known(names, name, meaning),
         uses_other_sort: is_other_trait(names, name, count, meaning),
         uses_own: names.is_own(name),
+        ..Findings::NONE
+    }
+}
+
+/// A number with one more digit, where it stays below 2^64.
+fn with_digit(value: u64, digit: u8) -> Option<u64>
+    ensures { MatchOption result (2 ^ 64 ≤ 10 * value + (digit - 48)) (λ n. n ≡ 10 * value + (digit - 48)) }
+{
+    match value.checked_mul(10) {
+        Some(tens) => tens.checked_add(digit.saturating_sub(b'0') as u64),
+        None => None,
+    }
+}
+
+/// Whether a number isn't below 2^64, by its digits.
+fn is_large(digits: &[u8]) -> bool
+    ensures { result ≡ nat_le (2 ^ 64) (number_from 0 digits.now) }
+{
+    let mut value: u64 = 0;
+    for digit in digits {
+        match with_digit(value, *digit) {
+            Some(more) => value = more,
+            None => return true,
+        }
+    }
+    false
+}
+
+/// A number by its digits.
+#[tactic(auto, using(crate::proofs::Judged::one_number))]
+pub(crate) fn number(digits: &[u8]) -> Findings
+    ensures { (v : Sight) → result ≡ findings v (number_use (number_from 0 digits.now) ∷ []) }
+{
+    limit(is_large(digits))
+}
+
+/// A number where an argument for a parameter of this sort stands.
+#[tactic(auto, using(crate::proofs::Judged::misfit_number))]
+pub(crate) fn number_argument(sort: Sort, digits: &[u8]) -> Findings
+    ensures { (v : Sight) → result ≡ findings v (number_arg_uses (sort_of sort) (number_from 0 digits.now)) }
+{
+    match sort {
+        Sort::Const => number(digits),
+        Sort::Type => number(digits).either(MISFIT),
+        Sort::Lifetime => number(digits).either(MISFIT),
+    }
+}
+
+/// The length of an array.
+pub(crate) fn length<N: Names>(names: &N, length: Length<'_>) -> Findings
+    ensures { result ≡ findings (N.sight names.now) (length_uses (length_of length.entry)) }
+{
+    match length {
+        Length::Number(digits) => number(digits),
+        Length::Name(constant) => name(names, Sort::Const, constant, 0, names.known(constant)),
+        Length::Variable(unknown) => variable(unknown),
+    }
+}
+
+/// Whether a name comes again.
+fn repeats(names: &[&[u8]]) -> bool
+    ensures { result ≡ repeats (map text_of names.now) }
+{
+    for (i, name) in names.iter().enumerate() {
+        if let Some(_) = place_in(&names[i + 1..], name) {
+            return true;
+        }
+    }
+    false
+}
+
+/// Whether `'static` is among the names.
+fn has_static(names: &[&[u8]]) -> bool
+    ensures { result ≡ is_among static_name (map text_of names.now) }
+{
+    match place_in(names, b"static".as_slice()) {
+        Some(_) => true,
+        None => false,
+    }
+}
+
+/// Whether a name is too long.
+fn has_long(names: &[&[u8]]) -> bool
+    ensures { result ≡ list_any is_long (map text_of names.now) }
+{
+    for name in names {
+        if name.len() > NAME_LIMIT {
+            return true;
+        }
+    }
+    false
+}
+
+/// Whether a lifetime is a parameter of the line or bound around.
+fn is_in_scope<N: Names>(names: &N, binders: &Binders<'_>, name: &[u8]) -> bool
+    ensures { result ≡ is_in_scope (N.sight names.now).line binders.now name.now }
+{
+    if let Some(_) = names.param_place(Sort::Lifetime, name) {
+        return true;
+    }
+    match binders.find(name) {
+        Some(_) => true,
+        None => false,
+    }
+}
+
+/// Whether a name of a binder is in scope already.
+fn hides_others<N: Names>(names: &N, binders: &Binders<'_>, bound: &[&[u8]]) -> bool
+    ensures { result ≡ list_any (is_in_scope (N.sight names.now).line binders.now) (map text_of bound.now) }
+{
+    for name in bound {
+        if is_in_scope(names, binders, name) {
+            return true;
+        }
+    }
+    false
+}
+
+/// A binder of these lifetimes, under those that are around.
+#[tactic(auto, using(crate::proofs::Judged::one_binder))]
+pub(crate) fn binder<N: Names>(names: &N, binders: &Binders<'_>, bound: &[&[u8]]) -> Findings
+    ensures { result ≡ findings (N.sight names.now) (binder_uses binders.now (map text_of bound.now)) }
+{
+    Findings {
+        takes_names: repeats(bound) || has_static(bound) || hides_others(names, binders, bound),
+        passes_limit: has_long(bound),
         ..Findings::NONE
     }
 }

@@ -4,6 +4,7 @@
 mod binders;
 mod findings;
 mod found;
+mod heads;
 mod judge;
 mod names;
 mod resolved;

@@ -1,22 +1,27 @@
 //! Going over the cells of a type from the last to the first.
-ghost use Rattle.std.specs.Prelude.{◌≡◌, ◌∷◌, [], OnOk, MatchOption};
+ghost use Rattle.std.specs.Prelude.{◌≡◌, ◌+◌, ◌<◌, ◌^◌, ◌∷◌, [], length, map, not, ◌&&◌, OnOk, MatchOption};
 ghost use Rattle.std.specs.Option.{option_map};
 ghost use Rattle.line_tokens.specs.Views.{text_of};
 ghost use Rattle.name_resolution.specs.Sorts.{sort_of};
 ghost use Rattle.name_resolution.specs.Views.{resolved_in, label_in};
 ghost use Rattle.name_resolution.specs.WalkViews.{place_of, frame_of, frames_in, Steps};
-ghost use Rattle.name_resolution.specs.Machine.{Sight, reference_step, lifetime_step, leaf_step, variable_step, wrapped_step, tuple_step, deeper, type_place, outer_scope};
+ghost use Rattle.name_resolution.specs.Machine.{Sight, reference_step, lifetime_step, leaf_step, variable_step, number_step, named_step, wrapped_step, tuple_step, fn_step, fn_to_step, bound_step, fn_frame, params, is_const_place, deeper, type_place, outer_scope};
 ghost use Rattle.name_resolution.specs.Back.{down_to};
-ghost use Rattle.name_resolution.specs.Resolved.{node_cell};
+ghost use Rattle.name_resolution.specs.Resolved.{node_cell, length_cell};
+ghost use Rattle.model.specs.Label as label;
+ghost use Rattle.text_definitions.specs.Tokens.{number_from};
+ghost use Rattle.text_definitions.specs.Uses.{length_uses};
+ghost use Rattle.type_reader.specs.Views.{length_of};
 
 use crate::binders::Binders;
 use crate::findings::Findings;
 use crate::found::Found;
-use crate::judge;
 use crate::names::{Names, Sort};
 use crate::resolved::{NodeLabel, ResolvedCell};
 use crate::rest::Rest;
-use std::alloc::AllocError;
+use crate::{heads, judge};
+use std::alloc::{AllocError, Global};
+use type_reader::Length;
 
 /// Where an argument or a type stands.
 #[derive(Clone, Copy)]
@@ -151,6 +156,65 @@ impl<'n, 'c, 'a> Walk<'n, 'c, 'a> {
         Ok(Next::Going)
     }
 
+    /// A number where an argument stands.
+    pub fn number(&mut self, place: Place, digits: &'a [u8]) -> Result<Next, AllocError>
+        ensures { (v : Sight) → Steps result (λ fs s r a. number_step v (place_of place) fs s (number_from 0 digits.now) r a) self.old self.new }
+    {
+        let faults = judge::number_argument(place.sort, digits);
+        let label = NodeLabel::Value(digits);
+        self.found
+            .keep(place.is_kept, ResolvedCell::Node { label, inside: 0 })?;
+        self.found.note(faults);
+        Ok(Next::Going)
+    }
+
+    /// A struct or a parameter with its arguments.
+    pub fn named<N: Names>(
+        &mut self,
+        names: &'n N,
+        place: Place,
+        name: &'a [u8],
+        start: usize,
+    ) -> Result<Next, AllocError>
+        ensures { Steps result (λ fs s r a. named_step (N.sight names.now) (place_of place) fs s name.now start r a) self.old self.new }
+    {
+        let count = self.rest.count_above(start);
+        let meaning = names.known(name);
+        let misfits = judge::named_misfits(place.sort);
+        let faults = misfits.either(judge::name(names, place.sort, name, count, meaning));
+        let cell = heads::named_cell(names, place.sort, name, count, meaning);
+        self.found.add(place, faults, cell)?;
+        let kinds = heads::struct_kinds(meaning);
+        self.push(Frame {
+            start,
+            inner: start,
+            binds: false,
+            holds: Inside::Args { kinds, left: count },
+            room: deeper(place.room),
+            is_kept: keeps_args(place),
+        })?;
+        Ok(Next::Going)
+    }
+
+    /// An array over the type that comes next.
+    pub fn array<N: Names>(
+        &mut self,
+        names: &N,
+        place: Place,
+        length: Length<'a>,
+    ) -> Result<Next, AllocError>
+        ensures { Steps result (λ fs s r a. wrapped_step (N.sight names.now) (place_of place) fs s (length_uses (length_of length.entry)) (λ cs. length_cell (params (N.sight names.now)) (length_of length.entry) ∷ node_cell label.array 2 ∷ cs) r a) self.old self.new }
+    {
+        let faults = judge::misfits(place.sort).either(judge::length(names, length));
+        let label = NodeLabel::Array;
+        self.found
+            .keep(place.is_kept, ResolvedCell::Node { label, inside: 2 })?;
+        let cell = heads::length_cell(names, length);
+        self.found.add(place, faults, cell)?;
+        self.found.note_length(length)?;
+        Ok(Next::Visiting(inner_place(place)))
+    }
+
     /// A pointer or a slice over the type that comes next.
     pub fn wrapped(&mut self, place: Place, label: NodeLabel<'a>) -> Result<Next, AllocError>
         ensures { (v : Sight) → Steps result (λ fs s r a. wrapped_step v (place_of place) fs s [] (λ cs. node_cell (label_in label.entry) 1 ∷ cs) r a) self.old self.new }
@@ -212,5 +276,15 @@ pub(crate) fn inner_place(place: Place) -> Place
         sort: Sort::Type,
         room: deeper(place.room),
         is_kept: place.is_kept,
+    }
+}
+
+/// Whether the resolved cells of a name's arguments are wanted: those of a const aren't.
+fn keeps_args(place: Place) -> bool
+    ensures { result ≡ (place.is_kept && not (is_const_place (sort_of place.sort))) }
+{
+    match place.sort {
+        Sort::Const => false,
+        _ => place.is_kept,
     }
 }
