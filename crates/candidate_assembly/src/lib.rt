@@ -1,5 +1,5 @@
-//! The candidates of a goal in code: what can prove it, read off the declarations. So far those by where-clauses and by the built-in
-//! rules of `Sized`, `Copy`, `Clone`, `Tuple` and `FnPtr`, and the parts of which the others are made.
+//! The candidates of a goal in code: what can prove it, read off the declarations. So far those by where-clauses, by what unseen crates
+//! may say and by the built-in rules of `Sized`, `Copy`, `Clone`, `Tuple` and `FnPtr`, and the parts of which the others are made.
 #![tactic(auto)]
 
 pub mod built_in;
@@ -7,3 +7,4 @@ pub mod param_env;
 mod parts;
 mod relate;
 mod structural;
+pub mod unknowable;

@@ -1,0 +1,50 @@
+//! The candidate for what crates that are not seen may say.
+ghost use Rattle.std.specs.Prelude.{◌≡◌, IfOk, Err};
+ghost use Rattle.type_terms.specs.Terms.{Keeps};
+ghost use Rattle.term_folds.specs.Failures.{SomeKindIsFull};
+ghost use Rattle.infer_table.specs.Goals.{GoalHeld};
+ghost use Rattle.evaluation.specs.Readings.{SpecHeld};
+ghost use Rattle.declarations.specs.Items.{written};
+ghost use Rattle.declarations.specs.Held.{AreHeld};
+ghost use Rattle.declarations.specs.Applied.{IsApplied, HaveBounds};
+ghost use Rattle.assembly_laws.specs.Candidates.{unknowable};
+ghost use Rattle.candidate_assembly.specs.Goals.{asked_of, candidate_of};
+
+use crate::parts::nested_goals;
+use declarations::declarations::Declarations;
+use evaluation::{CandidateSource, CandidateSpec, Certainty, GoalSource, MaybeCause};
+use infer_table::input::CanonicalInput;
+use std::alloc::Global;
+use type_terms::Fault;
+use type_terms::interner::Interner;
+
+/// The candidate that a crate which is not seen may have an impl of the goal: it is ambiguous, and such an impl has the goal's
+/// supertraits, so where one of these fails there is none (`consider_coherence_unknowable_candidate`).
+pub fn consider_coherence_unknowable_candidate(
+    alloc: Global,
+    cx: &mut Interner,
+    declarations: &Declarations,
+    goal: &CanonicalInput,
+) -> Result<CandidateSpec, Fault>
+    requires goal { GoalHeld cx.old.entries goal.now.goal }
+    requires declared { AreHeld cx.old.entries declarations.now }
+    requires bounds { HaveBounds cx.old.entries declarations.now }
+    requires applied { IsApplied cx.old.entries declarations.now goal.now.goal.predicate.trait_ref }
+    ensures keeps { Keeps cx.old.entries cx.new.entries }
+    ensures limit { cx.new.limit ≡ cx.old.limit }
+    ensures held { IfOk result (SpecHeld cx.new.entries) }
+    ensures is { IfOk result (λ s. candidate_of (written cx.old.entries declarations.now) goal.now.goal.predicate.trait_ref.def_id.index cx.new.entries s
+        ≡ unknowable (written cx.old.entries declarations.now) (asked_of cx.old.entries goal.now)) }
+    ensures full { result ≡ Err Fault.Full → SomeKindIsFull cx.new.entries cx.new.limit }
+{
+    let supertraits = declarations.supertraits(alloc, cx, goal.goal.predicate.trait_ref)?;
+    let nested_goals = nested_goals(alloc, goal, GoalSource::Misc, &supertraits)?;
+    Ok(CandidateSpec {
+        source: CandidateSource::CoherenceUnknowable,
+        variables: Vec::new(alloc),
+        equations: Vec::new(alloc),
+        region_constraints: Vec::new(alloc),
+        nested_goals,
+        certainty: Certainty::Maybe(MaybeCause::Ambiguity),
+    })
+}
