@@ -1,0 +1,2 @@
+pub mod SolverWays
+pub mod SolverPlans

@@ -1,0 +1,12 @@
+//! The solver's handler on goals without unknowns: that its candidates are the ways of a goal, and in what order it considers them.
+#![tactic(auto)]
+
+ghost use Rattle.solver_exactness.specs.SolverPlans.{PlansAreExact};
+
+/// Of a goal without unknowns the solver considers its candidates in order, in both modes. In coherence the unknowable candidate is the
+/// first, where there is one, and if it is not refused, its response is the answer; outside, impls and object bounds may be left out
+/// where a where-clause was not refused. Where all are refused, none was left out, and the goal is refused; else it is answered. The
+/// answer holds no values where the responses hold none, and the only response is the answer if it is a definite yes.
+pub fn plans_are_exact()
+    ensures { PlansAreExact }
+{}
