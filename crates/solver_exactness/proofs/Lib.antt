@@ -1,2 +1,5 @@
 pub mod Preferences
 pub mod SolverPlans
+pub mod Instances
+pub mod Rows
+pub mod Clauses

@@ -1,2 +1,3 @@
 pub mod SolverWays
 pub mod SolverPlans
+pub mod RowWays

@@ -1,6 +1,7 @@
 //! The solver's handler on goals without unknowns: that its candidates are the ways of a goal, and in what order it considers them.
 #![tactic(auto)]
 
+ghost use Rattle.solver_exactness.specs.RowWays.{RowsAreWays, ClausesAreWays};
 ghost use Rattle.solver_exactness.specs.SolverPlans.{PlansAreExact};
 
 /// Of a goal without unknowns the solver considers its candidates in order, in both modes. In coherence the unknowable candidate is the
@@ -9,4 +10,16 @@ ghost use Rattle.solver_exactness.specs.SolverPlans.{PlansAreExact};
 /// answer holds no values where the responses hold none, and the only response is the answer if it is a definite yes.
 pub fn plans_are_exact()
     ensures { PlansAreExact }
+{}
+
+/// On a goal without unknowns the candidates of `Sized`, `Copy` and `Clone`, auto traits, `Tuple` and `FnPtr` apply with the premises of
+/// the rules of the goal's instance, one for each rule and in their order, whatever places the goal's placeholders stand for.
+pub fn rows_are_ways()
+    ensures { RowsAreWays }
+{}
+
+/// On a goal without unknowns the candidate of a where-clause applies, and asks nothing, if the clause is the goal's instance, and else
+/// refuses.
+pub fn clauses_are_ways()
+    ensures { ClausesAreWays }
 {}

@@ -1,0 +1,50 @@
+-- The candidates by built-in rules that read the outermost types alone, and by where-clauses, as ways of goals without unknowns.
+use Rattle.std.specs.Prelude.{◌≡◌, ◌==◌, Bool, true, false, ◌||◌, List, [], ◌∷◌, Some, if◌then◌else◌}
+use Rattle.model.specs.Worlds.{World, Reference}
+use Rattle.model.specs.Rules.{Rule, same_reference, sized, copy, clone, tuple_trait, fn_ptr_trait, is_auto, sized_rules, copy_rules, auto_rules, tuple_rules, fn_ptr_rules}
+use Rattle.infer_table.specs.Canonical.{CanonicalForm}
+use Rattle.table_laws.specs.Content.{Values, Fact}
+use Rattle.table_laws.specs.Operations.{begin}
+use Rattle.evaluation_laws.specs.Tables.{frame_tables}
+use Rattle.exactness_laws.specs.Closed.{AreWays}
+use Rattle.exactness_laws.specs.ClosedTables.{AreClosed, ArePlaces}
+use Rattle.assembly_laws.specs.Facts.{clauses_of, reference_in, is_plain}
+use Rattle.assembly_laws.specs.Declared.{is_declared_view}
+use Rattle.assembly_laws.specs.Meaning.{Meaning}
+use Rattle.assembly_laws.specs.Asking.{Asked, asked, clauses}
+use Rattle.assembly_laws.specs.Candidates.{Candidate, by_sized, by_copy, by_auto, by_tuple, by_fn_ptr, by_clauses}
+use Rattle.assembly_laws.specs.Cover.{goal_fact}
+use Rattle.solver_exactness.specs.SolverWays.{facts_beside, premises_of}
+
+-- the rules of a row, where it is one of the trait
+abbrev pub if_of : Bool → List Rule → List Rule
+if_of b us = if b then us else []
+
+-- where-clauses that are the reference conclude it from nothing
+abbrev pub clause_ways : Reference → List Reference → List (List Reference)
+clause_ways r [] = []
+clause_ways r (s ∷ ss) = if same_reference s r then [] ∷ clause_ways r ss else clause_ways r ss
+
+-- at these values the candidates are these ways to conclude the fact
+abbrev pub AreWaysOf : Asked → Values → Fact → List Candidate → List (List Reference) → Type 0
+AreWaysOf a v g cs ways = AreWays frame_tables (begin a.kinds) v cs (facts_beside g ways)
+
+-- each candidate applies with the premises of one rule of the instance, in the order of the rules, or refuses
+pub record RowsAreWaysAt (V : World) (a : Asked) (v : Values) (g : Fact) (r : Reference) : Type 0 where
+  pub sizeds : AreWaysOf a v g (by_sized V a) (premises_of (if_of (r.trait == sized) (sized_rules V r.args)))
+  pub copies : AreWaysOf a v g (by_copy V a) (premises_of (if_of ((r.trait == copy) || (r.trait == clone)) (copy_rules r.trait r.args)))
+  pub autos : AreWaysOf a v g (by_auto V a) (premises_of (if_of (is_auto V r.trait) (auto_rules V r.trait r.args)))
+  pub tuples : AreWaysOf a v g (by_tuple V a) (premises_of (if_of (r.trait == tuple_trait) (tuple_rules r.args)))
+  pub fn_ptrs : AreWaysOf a v g (by_fn_ptr V a) (premises_of (if_of (r.trait == fn_ptr_trait) (fn_ptr_rules r.args)))
+
+-- of an instance that is written up to lifetimes
+abbrev pub RowsAreWays : Type 0
+RowsAreWays =
+    (m : Meaning) → is_declared_view m.view ≡ true → (f : CanonicalForm) (a : Asked) → asked m.view f ≡ Some a → AreClosed f.kinds
+    → (v : Values) → ArePlaces f.kinds v → is_plain (goal_fact f v) ≡ true → RowsAreWaysAt m.view a v (goal_fact f v) (reference_in (goal_fact f v))
+
+-- where-clauses apply with no premises where they are the instance
+abbrev pub ClausesAreWays : Type 0
+ClausesAreWays =
+    (m : Meaning) (f : CanonicalForm) (a : Asked) → asked m.view f ≡ Some a → AreClosed f.kinds → (v : Values) → ArePlaces f.kinds v
+    → AreWaysOf a v (goal_fact f v) (by_clauses m.view a (clauses a)) (clause_ways (reference_in (goal_fact f v)) (clauses_of (goal_fact f v).goal.environment))
