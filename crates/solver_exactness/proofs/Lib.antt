@@ -3,3 +3,4 @@ pub mod SolverPlans
 pub mod Instances
 pub mod Rows
 pub mod Clauses
+pub mod SolverSpecs

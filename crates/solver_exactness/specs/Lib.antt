@@ -1,3 +1,4 @@
 pub mod SolverWays
 pub mod SolverPlans
 pub mod RowWays
+pub mod SolverSpecs

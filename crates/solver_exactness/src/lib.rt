@@ -3,6 +3,7 @@
 
 ghost use Rattle.solver_exactness.specs.RowWays.{RowsAreWays, ClausesAreWays};
 ghost use Rattle.solver_exactness.specs.SolverPlans.{PlansAreExact};
+ghost use Rattle.solver_exactness.specs.SolverSpecs.{SpecsAreDetermined, SpecsAreFew, SpecsAreSure};
 
 /// Of a goal without unknowns the solver considers its candidates in order, in both modes. In coherence the unknowable candidate is the
 /// first, where there is one, and if it is not refused, its response is the answer; outside, impls and object bounds may be left out
@@ -22,4 +23,12 @@ pub fn rows_are_ways()
 /// refuses.
 pub fn clauses_are_ways()
     ensures { ClausesAreWays }
+{}
+
+/// Where the view is declared well, a goal determines the nested goals of each of its candidates, also of the unknowable one, and there
+/// are not too many candidates; and outside coherence no candidate of a goal without unknowns is unsure by itself.
+pub fn specs_are_lawful()
+    ensures determined { SpecsAreDetermined }
+    ensures few { SpecsAreFew }
+    ensures sure { SpecsAreSure }
 {}

@@ -1,0 +1,34 @@
+-- The solver's candidates for goals without unknowns: what they determine, how many there are, and how sure they are.
+use Rattle.std.specs.Prelude.{◌≡◌, ◌≤◌, List, length, Some}
+use Rattle.infer_table.specs.Canonical.{CanonicalForm}
+use Rattle.infer_table.specs.declared.certainty.Certainty.TheVariants.{Yes}
+use Rattle.evaluation.specs.Lists.{Every}
+use Rattle.table_laws.specs.Frames.{kinds_known}
+use Rattle.table_laws.specs.Operations.{begin}
+use Rattle.evaluation_laws.specs.Tables.{frame_tables}
+use Rattle.exactness_laws.specs.Closed.{DeterminesNested}
+use Rattle.exactness_laws.specs.ClosedTables.{AreClosed}
+use Rattle.assembly_laws.specs.Meaning.{Meaning}
+use Rattle.assembly_laws.specs.DeclaredWell.{IsDeclaredWell}
+use Rattle.assembly_laws.specs.Asking.{Asked, asked}
+use Rattle.assembly_laws.specs.Candidates.{Candidate}
+use Rattle.assembly_laws.specs.Solver.{most_candidates}
+use Rattle.solver_exactness.specs.SolverPlans.{specs_in_coherence, specs_outside}
+
+-- the goal determines the nested goals of each candidate, sure or not
+abbrev pub AreDetermined : CanonicalForm → List Candidate → Type 0
+AreDetermined f specs = Every (DeterminesNested frame_tables (begin (kinds_known f.kinds))) specs
+
+abbrev pub AreFew : Meaning → CanonicalForm → List Candidate → Type 0
+AreFew m f specs = length specs ≤ most_candidates m.view f
+
+-- in both modes
+abbrev pub SpecsAreDetermined : Type 0
+SpecsAreDetermined = (m : Meaning) → IsDeclaredWell m.view → (f : CanonicalForm) (a : Asked) → asked m.view f ≡ Some a → AreDetermined f (specs_in_coherence m a) × AreDetermined f (specs_outside m a)
+
+abbrev pub SpecsAreFew : Type 0
+SpecsAreFew = (m : Meaning) → IsDeclaredWell m.view → (f : CanonicalForm) (a : Asked) → asked m.view f ≡ Some a → AreFew m f (specs_in_coherence m a) × AreFew m f (specs_outside m a)
+
+-- outside coherence no candidate is unsure by itself
+abbrev pub SpecsAreSure : Type 0
+SpecsAreSure = (m : Meaning) (f : CanonicalForm) (a : Asked) → asked m.view f ≡ Some a → AreClosed f.kinds → Every (λ (c : Candidate). c.certainty ≡ Yes) (specs_outside m a)
