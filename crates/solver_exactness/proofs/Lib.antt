@@ -1,3 +1,4 @@
+pub mod ReadBack
 pub mod Preferences
 pub mod SolverPlans
 pub mod Instances

@@ -1,4 +1,5 @@
 pub mod SolverWays
+pub mod ReadBack
 pub mod SolverPlans
 pub mod RowWays
 pub mod SolverSpecs

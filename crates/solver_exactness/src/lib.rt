@@ -1,9 +1,17 @@
 //! The solver's handler on goals without unknowns: that its candidates are the ways of a goal, and in what order it considers them.
 #![tactic(auto)]
 
+ghost use Rattle.solver_exactness.specs.ReadBack.{OutsideComesBack, CoherenceComesBack};
 ghost use Rattle.solver_exactness.specs.RowWays.{RowsAreWays, ClausesAreWays};
 ghost use Rattle.solver_exactness.specs.SolverPlans.{PlansAreExact};
 ghost use Rattle.solver_exactness.specs.SolverSpecs.{SpecsAreDetermined, SpecsAreFew, SpecsAreSure};
+
+/// The ways of facts are those of the references that they speak of, by the rules of the view and the fact's where-clauses; in
+/// coherence of closed references without where-clauses, those by which a crate tells what is possible.
+pub fn ways_come_back()
+    ensures outside { OutsideComesBack }
+    ensures coherence { CoherenceComesBack }
+{}
 
 /// Of a goal without unknowns the solver considers its candidates in order, in both modes. In coherence the unknowable candidate is the
 /// first, where there is one, and if it is not refused, its response is the answer; outside, impls and object bounds may be left out
