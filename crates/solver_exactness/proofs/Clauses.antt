@@ -1,12 +1,9 @@
 -- The candidates by where-clauses are the ways by these.
-use Rattle.std.proofs.Common.{◌≡◌, ◌==◌, Bool, true, false, not, ◌&&◌, ◌||◌, if◌then◌else◌, List, [], ◌∷◌, inl, inr, refl, sym, ◌∙◌, ap, subst, Some, None}
-use Rattle.std.proofs.lemmas.Bool.{eq-eqb}
-use Rattle.model.specs.Label.{Label, of_type, of_const, of_lifetime, bool, tuple, dynamic, fn_ptr, principal, auto_trait, infer, param, placeholder, canonical, bound, static, of_trait, predicate}
+use Rattle.std.proofs.Common.{◌≡◌, ◌==◌, Bool, true, false, not, ◌&&◌, ◌||◌, if◌then◌else◌, List, [], ◌∷◌, refl, sym, ◌∙◌, ap, subst, Some}
+use Rattle.model.specs.Label.{Label, of_type, of_const, of_lifetime, dynamic, principal, auto_trait, infer, param, placeholder, canonical, bound, static, of_trait, predicate}
 use Rattle.model.specs.Trees.{Trees, none, tree, is_a, is_no_tree, sort_of}
 use Rattle.model.specs.Codes.{same}
-use Rattle.model.specs.Worlds.{World, Reference}
-use Rattle.model.specs.Rules.{same_reference}
-use Rattle.model.specs.Answers.{is_open}
+use Rattle.model.specs.Worlds.{Reference}
 use Rattle.model.proofs.Matching.{same-sound}
 use Rattle.model.proofs.Walking.{left, right}
 use Rattle.type_terms.specs.Made.{terms, bounds, is_leaf_label, is_made}
@@ -87,7 +84,6 @@ all-terms none none h g = tt
 all-terms none (tree m d p) h g = ((refl, refl), tt)
 all-terms (tree l c o) none h g = ((refl, refl), tt)
 all-terms (tree l c o) (tree m d p) h g = ((term-is l c o h, term-is m d p g), all-terms o p (rest-made l c o h) (rest-made m d p g))
-
 
 -- lists that are read as one meet their equations
 pub equal-meets : (s : Terms) (x y : Trees) → IsOpenTerms x → IsOpenTerms y → read_with (given s.slots) x ≡ read_with (given s.slots) y → Every (λ e. Meets e s) (all_equal x y)

@@ -1,6 +1,7 @@
 -- Terms for the variables of a goal without unknowns, and candidates without variables of their own at these.
-use Rattle.std.proofs.Common.{◌≡◌, ℕ, zero, suc, Bool, true, false, not, ◌&&◌, List, [], ◌∷◌, map, ◌⊎◌, inl, inr, refl, sym, ◌∙◌, ap, subst, Option, Some, None}
-use Rattle.model.specs.Label.{Label, Sort, of_type, of_const, of_lifetime, canonical, param, placeholder}
+use Rattle.assembly_laws.specs.Meaning.{Meaning}
+use Rattle.std.proofs.Common.{◌≡◌, ℕ, Bool, true, ◌&&◌, List, [], ◌∷◌, map, ◌⊎◌, inl, inr, refl, sym, ◌∙◌, ap, subst, Some}
+use Rattle.model.specs.Label.{of_type, of_const, of_lifetime, canonical, param, placeholder}
 use Rattle.model.specs.Trees.{Trees, none, tree, leaf, ◌+++◌}
 use Rattle.model.specs.Worlds.{World, Reference}
 use Rattle.model.specs.Rules.{is_coinductive}
@@ -12,9 +13,9 @@ use Rattle.infer_table.specs.declared.canonical.CanonicalVarKind.{CanonicalVarKi
 use Rattle.infer_table.specs.declared.canonical.CanonicalVarKind.TheVariants.{Ty, PlaceholderTy, Const, PlaceholderConst, Region}
 use Rattle.evaluation.specs.Lists.{Every}
 use Rattle.evaluation.specs.declared.candidate.CandidateSource.{CandidateSource}
-use Rattle.table_laws.specs.Instances.{read_with, is_place, as_place, of_sort, term_at}
+use Rattle.table_laws.specs.Instances.{read_with, as_place, of_sort, term_at}
 use Rattle.table_laws.specs.Content.{Values, Fact, Terms, fits, given}
-use Rattle.table_laws.specs.Frames.{Allows, Equation, Meets, Nested, fact, kind_at}
+use Rattle.table_laws.specs.Frames.{Allows, Equation, Meets, Nested, fact}
 use Rattle.table_laws.specs.Operations.{begin, fresh}
 use Rattle.evaluation_laws.specs.Tables.{frame_tables}
 use Rattle.evaluation_laws.specs.Variables.{is_variable_over}
@@ -62,7 +63,7 @@ pub record BeginsWithPlace (t o : Trees) : Type 0 where
   pub number : ℕ
   pub is : (t ≡ tree (param of_type number) none o) ⊎ (t ≡ tree (placeholder of_type number) none o)
 
-module _ (m : Rattle.assembly_laws.specs.Meaning.Meaning) (f : CanonicalForm) (a : Asked) (is_asked : asked m.view f ≡ Some a) (closed : AreClosed f.kinds) (v : Values) (places : ArePlaces f.kinds v) where
+module _ (m : Meaning) (f : CanonicalForm) (a : Asked) (is_asked : asked m.view f ≡ Some a) (closed : AreClosed f.kinds) (v : Values) (places : ArePlaces f.kinds v) where
   abbrev pub V : World
   V = m.view
 

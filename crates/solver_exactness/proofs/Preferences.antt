@@ -1,19 +1,16 @@
 -- What the solver makes of the responses outside coherence is lawful: no preference drops all of them, and the only one stays.
-use Rattle.std.proofs.Common.{◌≡◌, ◌≤◌, ℕ, zero, suc, ◌+◌, arith, Bool, true, false, not, ◌&&◌, ◌||◌, if◌then◌else◌, List, [], ◌∷◌, ◌++◌, length, length-append, filter, ◌⊎◌, inl, inr, refl, sym, ◌∙◌, ap, subst, Option, Some, None, is_some}
-use Rattle.std.specs.List.{list_any}
+use Rattle.exactness_laws.specs.Closed.{IsBare}
+use Rattle.std.proofs.Common.{◌≡◌, ◌≤◌, arith, Bool, true, false, not, ◌&&◌, ◌||◌, if◌then◌else◌, List, [], ◌∷◌, ◌++◌, length, length-append, filter, ◌⊎◌, inl, inr, refl, sym, ◌∙◌, ap, subst, Option, Some, None, is_some}
 use Rattle.infer_table.specs.Responses.{AnswerTrees}
 use Rattle.infer_table.specs.declared.certainty.Certainty.{Certainty}
 use Rattle.evaluation.specs.declared.candidate.CandidateSource.{CandidateSource}
 use Rattle.evaluation.specs.declared.candidate.CandidateSource.TheVariants.{Impl, BuiltinImpl, ParamEnv, CoherenceUnknowable}
-use Rattle.evaluation.specs.declared.candidate.BuiltinImplSource.TheVariants.{Trivial, Object}
-use Rattle.evaluation.specs.declared.candidate.ParamEnvSource.TheVariants.{Global, NonGlobal}
 use Rattle.evaluation.specs.Lists.{Every, SomeOf}
 use Rattle.evaluation.specs.Table.{workings}
 use Rattle.evaluation.specs.Candidate.{Considered}
 use Rattle.evaluation.specs.Merge.{responses, if_there, or_else}
-use Rattle.evaluation.specs.PlanAnswers.{passes, first_passing, if_so, taken_or_merged}
-use Rattle.evaluation.proofs.ListLaws.{Every-mono, SomeOf-mono}
-use Rattle.table_laws.specs.Answers.{has_values}
+use Rattle.evaluation.specs.PlanAnswers.{passes, first_passing, if_so, taken_or_merged, first_taken}
+use Rattle.evaluation.proofs.ListLaws.{SomeOf-mono}
 use Rattle.table_laws.specs.Frames.{FrameTable}
 use Rattle.evaluation_laws.specs.Tables.{frame_tables}
 use Rattle.exactness_laws.specs.Exact.{IsMade}
@@ -272,7 +269,7 @@ module _ (applicable : AnswerTrees → Bool) (same : AnswerTrees → AnswerTrees
     taken c e = record {
       refused = λ n. absurd ((passing-holds (λ r. ⊥) (filter (from p) seen) c e (kept-every (λ r. ⊥) p seen (subst (λ rs. Every (λ r. ⊥) rs) (sym n) tt))).2);
       answers = λ r rs n. let y = passing-holds (λ r. Unit {0}) (filter (from p) seen) c e (all-units (responses frame_tables (filter (from p) seen))) in (y.0, y.1);
-      bare = λ h. let y = passing-holds Bare (filter (from p) seen) c e (kept-every Bare p seen h) in subst (λ o. Rattle.exactness_laws.specs.Closed.IsBare frame_tables o) (sym y.1) y.2;
+      bare = λ h. let y = passing-holds Bare (filter (from p) seen) c e (kept-every Bare p seen h) in subst (λ o. IsBare frame_tables o) (sym y.1) y.2;
       only = λ r n i. let y = passing-holds (λ x. x ≡ r) (filter (from p) seen) c e (kept-every (λ x. x ≡ r) p seen (subst (λ rs. Every (λ x. x ≡ r) rs) (sym n) (refl, tt))) in y.1 ∙ ap Some y.2;
     }
       where
@@ -296,7 +293,7 @@ module _ (applicable : AnswerTrees → Bool) (same : AnswerTrees → AnswerTrees
     where
       by : (b : Bool) → holds_from is_trivial seen ≡ b → (d : Bool) → holds_from is_non_global seen ≡ d
           → IsExactFrom frame_tables left seen (if b then Rattle.assembly_laws.specs.Solver.merged applicable same begin is_trivial seen
-          else if d then Rattle.evaluation.specs.PlanAnswers.first_taken frame_tables applicable same begin (from is_clause) seen
+          else if d then first_taken frame_tables applicable same begin (from is_clause) seen
           else Rattle.assembly_laws.specs.Solver.merged applicable same begin (remains seen) seen)
       by true e d f = kept-made is_trivial left seen none_left (λ h. heard-from is_trivial seen e)
       by false e true f =

@@ -1,10 +1,10 @@
 -- The ways of facts come back as those of references.
-use Rattle.std.proofs.Common.{◌≡◌, ℕ, Bool, true, false, not, ◌&&◌, ◌||◌, if◌then◌else◌, List, [], ◌∷◌, ◌++◌, map, refl, sym, ◌∙◌, ap, Option, None}
+use Rattle.std.proofs.Common.{◌≡◌, ℕ, Bool, true, false, not, ◌&&◌, ◌||◌, if◌then◌else◌, List, [], ◌∷◌, ◌++◌, map, refl, sym, ◌∙◌, ap, None}
 use Rattle.std.specs.List.{list_any}
-use Rattle.model.specs.Label.{Label, of_type, adt, ref, dynamic, principal, param, placeholder, infer, canonical, bound}
+use Rattle.model.specs.Label.{adt, ref, dynamic, principal, param, placeholder, infer, canonical, bound}
 use Rattle.model.specs.Trees.{Trees, none, tree, some_node}
 use Rattle.model.specs.Worlds.{World, Reference}
-use Rattle.model.specs.Walks.{Met, local, struct_leaf, entered, visited, dyn_met, struct_is, trait_is, is_home, is_known_in}
+use Rattle.model.specs.Walks.{Met, local, struct_leaf, entered, visited, dyn_met, struct_is, trait_is, is_home, is_known_in, dyn_leaf}
 use Rattle.model.specs.Rules.{strict_supertraits}
 use Rattle.model.specs.Answers.{is_open, is_closed}
 use Rattle.model.specs.LinkedSet.{is_open_place}
@@ -13,10 +13,9 @@ use Rattle.type_terms.proofs.Made.{false-true}
 use Rattle.table_laws.specs.Content.{Fact}
 use Rattle.assembly_laws.specs.Facts.{clauses_of, reference_in, beside}
 use Rattle.assembly_laws.specs.Knowing.{is_knowable}
-use Rattle.assembly_laws.specs.Meaning.{Meaning}
 use Rattle.assembly_laws.proofs.Supers.{open-none}
-use Rattle.exactness_laws.specs.ModelWays.{ways_under, ways_for}
-use Rattle.solver_exactness.specs.SolverWays.{facts_beside, ways_outside}
+use Rattle.exactness_laws.specs.ModelWays.{ways_under}
+use Rattle.solver_exactness.specs.SolverWays.{facts_beside}
 use Rattle.solver_exactness.specs.ReadBack.{read_back, OutsideComesBack, CoherenceComesBack}
 
 -- ---- what stands beside a fact is read back
@@ -49,7 +48,7 @@ both-none (m ∷ ms) ns h g = by (is_open_place m) h (λ q. both-none ms ns q g)
 dyn-none : (V : World) (t : Trees) → NoneOpen (dyn_met V None t)
 dyn-none V (tree (principal n t) c o) = by (trait_is (λ x. is_home None x.home) V t)
   where
-    by : (b : Bool) → NoneOpen ((if b then local else Rattle.model.specs.Walks.dyn_leaf t) ∷ [])
+    by : (b : Bool) → NoneOpen ((if b then local else dyn_leaf t) ∷ [])
     by true = refl
     by false = refl
 dyn-none V none = refl

@@ -1,7 +1,7 @@
 -- The candidates by built-in rules that read the outermost types alone are the ways by these rules.
 use Rattle.std.proofs.Common.{◌≡◌, ℕ, Bool, true, false, ◌||◌, ◌==◌, if◌then◌else◌, List, [], ◌∷◌, map, ◌⊎◌, inl, inr, refl, sym, ◌∙◌, ap, subst, Some}
 use Rattle.model.specs.Label.{Label, of_type, canonical, param, placeholder}
-use Rattle.model.specs.Trees.{Trees, tree, erase_label, some_node}
+use Rattle.model.specs.Trees.{Trees, tree, erase_label, some_node, none}
 use Rattle.model.specs.Rules.{Rule, sized, copy, clone, tuple_trait, fn_ptr_trait, is_auto, is_written, sized_rules, copy_rules, auto_rules, tuple_rules, fn_ptr_rules}
 use Rattle.model.proofs.Fitting.{child-shut}
 use Rattle.type_terms.specs.Made.{terms, is_made}
@@ -26,7 +26,7 @@ use Rattle.assembly_laws.proofs.Rows.{read_rule, sized-unbound, copy-natural, au
 use Rattle.assembly_laws.proofs.SoundRows.{Unknown, Rigid, unknown-or-rigid, Held, held}
 use Rattle.solver_exactness.specs.SolverWays.{premises_of}
 use Rattle.solver_exactness.specs.RowWays.{AreWaysOf, RowsAreWaysAt, RowsAreWays}
-use Rattle.solver_exactness.proofs.Instances.{V, is, terms_of, allowed, proper, Read, instance, instance-is, rule-applies, BeginsWithPlace, read-place}
+use Rattle.solver_exactness.proofs.Instances.{is, terms_of, allowed, proper, Read, instance, instance-is, rule-applies, BeginsWithPlace, read-place}
 
 module _ (m : Meaning) (declared : is_declared_view m.view ≡ true) (f : CanonicalForm) (a : Asked) (is_asked : asked m.view f ≡ Some a) (closed : AreClosed f.kinds) (v : Values) (places : ArePlaces f.kinds v)
     (plain : is_plain (goal_fact f v) ≡ true) where
@@ -59,9 +59,9 @@ module _ (m : Meaning) (declared : is_declared_view m.view ≡ true) (f : Canoni
       none-there : (t o : Trees) → BeginsWithPlace t o → F t ≡ []
       none-there t o p = either p.is
         where
-          either : (t ≡ tree (param of_type p.number) Rattle.model.specs.Trees.none o) ⊎ (t ≡ tree (placeholder of_type p.number) Rattle.model.specs.Trees.none o) → F t ≡ []
-          either (inl e) = ap F e ∙ params p.number Rattle.model.specs.Trees.none o
-          either (inr e) = ap F e ∙ placeholders p.number Rattle.model.specs.Trees.none o
+          either : (t ≡ tree (param of_type p.number) none o) ⊎ (t ≡ tree (placeholder of_type p.number) none o) → F t ≡ []
+          either (inl e) = ap F e ∙ params p.number none o
+          either (inr e) = ap F e ∙ placeholders p.number none o
 
       by : Unknown a.reference.args ⊎ Rigid a.reference.args → Stays F
       by (inl x) =

@@ -1,5 +1,6 @@
 -- The solver's plans consider the candidates of a goal without unknowns as exact plans do.
-use Rattle.std.proofs.Common.{◌≡◌, ℕ, Bool, true, false, not, ◌||◌, if◌then◌else◌, List, [], ◌∷◌, ◌++◌, map, inl, inr, refl, sym, ◌∙◌, ap, subst, Option, Some, None}
+use Rattle.infer_table.specs.declared.certainty.TypingMode.{TypingMode}
+use Rattle.std.proofs.Common.{◌≡◌, ℕ, Bool, true, false, not, ◌||◌, if◌then◌else◌, List, [], ◌∷◌, ◌++◌, map, refl, sym, ◌∙◌, ap, subst, Option, Some, None, zero, suc}
 use Rattle.model.specs.Label.{of_type, canonical}
 use Rattle.model.specs.Trees.{Trees, none, tree}
 use Rattle.infer_table.specs.Canonical.{CanonicalForm}
@@ -8,8 +9,8 @@ use Rattle.infer_table.specs.declared.canonical.CanonicalVarKind.{CanonicalVarKi
 use Rattle.infer_table.specs.declared.canonical.CanonicalVarKind.TheVariants.{Ty, PlaceholderTy, Const, PlaceholderConst, Region}
 use Rattle.infer_table.specs.declared.certainty.Certainty.{Certainty}
 use Rattle.infer_table.specs.declared.certainty.TypingMode.TheVariants.{Coherence, PostAnalysis}
-use Rattle.evaluation.specs.Plans.{Plan, each_of, came, if_refused}
-use Rattle.evaluation.specs.Merge.{responses, if_there}
+use Rattle.evaluation.specs.Plans.{Plan, each_of, came, if_refused, first_alone}
+use Rattle.evaluation.specs.Merge.{responses}
 use Rattle.table_laws.specs.Frames.{FrameTable, kind_at, kinds_known}
 use Rattle.table_laws.specs.Operations.{begin}
 use Rattle.table_laws.proofs.Beginning.{begin-made}
@@ -25,7 +26,7 @@ use Rattle.assembly_laws.specs.Knowing.{is_knowable}
 use Rattle.assembly_laws.specs.Asking.{Asked, asked, all_known, clauses, self_of, begins_unknown, is_unknown_kind}
 use Rattle.assembly_laws.specs.Candidates.{Candidate, unknowable, by_clauses, built_in, by_impls, by_objects}
 use Rattle.assembly_laws.specs.Cover.{all_candidates}
-use Rattle.assembly_laws.specs.Solver.{Past, everything, preferred, is_settled, in_coherence, outside_coherence, plan_for, solver_planned}
+use Rattle.assembly_laws.specs.Solver.{Past, everything, preferred, is_settled, in_coherence, outside_coherence, plan_for, solver_planned, solver_handled, by_mode}
 use Rattle.assembly_laws.proofs.Cover.{asked-by, known-kinds}
 use Rattle.assembly_laws.proofs.SoundCandidates.{kinds-whole}
 use Rattle.solver_exactness.specs.SolverPlans.{specs_in_coherence, specs_outside, GoesThrough, PlansAreExact}
@@ -70,7 +71,7 @@ module _ (applicable : AnswerTrees → Bool) (same : AnswerTrees → AnswerTrees
         by : (b : Bool)
             → IsExactFrom frame_tables (if b then all else unknowable m.view a ∷ all) []
             (if b then each_of frame_tables all (everything applicable same begin_table) []
-            else Rattle.evaluation.specs.Plans.first_alone frame_tables (unknowable m.view a) (λ seen. each_of frame_tables all (everything applicable same begin_table) seen) (everything applicable same begin_table) [])
+            else first_alone frame_tables (unknowable m.view a) (λ seen. each_of frame_tables all (everything applicable same begin_table) seen) (everything applicable same begin_table) [])
         by true = each-exact frame_tables applicable same begin_table silent all []
         by false = ([], all, refl, λ n. refl, after-first)
 
@@ -97,8 +98,8 @@ module _ (applicable : AnswerTrees → Bool) (same : AnswerTrees → AnswerTrees
 -- ---- goals without unknowns
 pub closed-at : (ks : List CanonicalVarKind) → AreClosed (map Some ks) → (i : ℕ) (k : CanonicalVarKind) → kind_at ks i ≡ Some k → IsClosedKind (Some k)
 closed-at [] c i k e = absurd (cc)
-closed-at (j ∷ ks) c Rattle.std.specs.Prelude.zero k e = subst (λ o. IsClosedKind o) e c.0
-closed-at (j ∷ ks) c (Rattle.std.specs.Prelude.suc i) k e = closed-at ks c.1 i k e
+closed-at (j ∷ ks) c zero k e = subst (λ o. IsClosedKind o) e c.0
+closed-at (j ∷ ks) c (suc i) k e = closed-at ks c.1 i k e
 
 no-unknown : (o : Option CanonicalVarKind) → ((k : CanonicalVarKind) → o ≡ Some k → IsClosedKind (Some k)) → is_unknown_kind o ≡ false
 no-unknown None h = refl
@@ -131,19 +132,19 @@ module _ (applicable : AnswerTrees → Bool) (same : AnswerTrees → AnswerTrees
   decided true true e g p q = absurd (cc)
   decided false d e g p q = absurd (cc)
 
-  module _ (mode : Rattle.infer_table.specs.declared.certainty.TypingMode.TypingMode) where
+  module _ (mode : TypingMode) where
     abbrev table : FrameTable
     table = begin (kinds_known f.kinds)
 
     abbrev by_its_mode : Plan frame_tables
-    by_its_mode = Rattle.assembly_laws.specs.Solver.by_mode applicable same table m mode a
+    by_its_mode = by_mode applicable same table m mode a
 
     pub plan-is : (solver_planned applicable same m mode f).plan ≡ by_its_mode
     plan-is =
         ap (plan_for applicable same table m mode) is_asked
         ∙ decided m.is_sound (begins_unknown a.kinds (self_of a)) sound (begins-known a.kinds kinds-closed (self_of a)) _ by_its_mode
 
-    pub goes-through : (specs : List Candidate) → IsExactFrom frame_tables specs [] by_its_mode → GoesThrough (Rattle.assembly_laws.specs.Solver.solver_handled applicable same m mode f) specs
+    pub goes-through : (specs : List Candidate) → IsExactFrom frame_tables specs [] by_its_mode → GoesThrough (solver_handled applicable same m mode f) specs
     goes-through specs e =
         let p = (solver_planned applicable same m mode f).plan in
         let x : IsExactFrom frame_tables specs [] p = subst (IsExactFrom frame_tables specs []) (sym plan-is) e in

@@ -1,7 +1,7 @@
 -- The solver's candidates determine their nested goals, are not too many, and are sure outside coherence.
 use Rattle.std.proofs.Common.{◌≡◌, ℕ, suc, ◌≤◌, arith, Bool, true, false, not, ◌&&◌, ◌||◌, ◌==◌, if◌then◌else◌, List, [], ◌∷◌, ◌++◌, length, refl, sym, ap, subst, Some}
 use Rattle.std.specs.List.{flat_map}
-use Rattle.model.specs.Label.{Label, dynamic, array, slice, adt, fn_ptr}
+use Rattle.model.specs.Label.{dynamic, array, slice, adt, fn_ptr}
 use Rattle.model.specs.Trees.{Trees, none, tree}
 use Rattle.model.specs.Worlds.{World, Reference, StructDecl, ImplDecl, structs_named}
 use Rattle.model.specs.Rules.{Rule, sized, clone, copy, tuple_trait, fn_ptr_trait, is_fn_trait, unsize, is_auto, sized_rules, copy_rules, auto_rules, tuple_rules, fn_ptr_rules, unsize_to_dyn_rules, principal_with, autos_with, are_dyn_compatible, are_declared, upcasts_autos, some_unsizing}
@@ -22,7 +22,7 @@ use Rattle.assembly_laws.specs.Meaning.{Meaning}
 use Rattle.assembly_laws.specs.Knowing.{is_knowable}
 use Rattle.assembly_laws.specs.DeclaredWell.{IsDeclaredWell}
 use Rattle.assembly_laws.specs.Asking.{Asked, asked, all_known, clauses, self_of, next_of, begins_unknown}
-use Rattle.assembly_laws.specs.Candidates.{Candidate, unsure, unknowable, by_clauses, is_relevant_to, by_impls, as_written, misc, if_so, by_sized, by_copy, by_auto, by_tuple, by_fn_ptr, call_of, by_call, unsize_array_of, upcasts_from, upcasts_to, upcasts_of, unsize_by_struct, unsize_struct_of, unsize_known, by_unsize, built_in, bounds_from, object_source, written_source, objects_of, by_objects}
+use Rattle.assembly_laws.specs.Candidates.{Candidate, unsure, unknowable, by_clauses, is_relevant_to, by_impls, as_written, misc, if_so, by_sized, by_copy, by_auto, by_tuple, by_fn_ptr, call_of, by_call, unsize_array_of, upcasts_from, upcasts_to, upcasts_of, unsize_by_struct, unsize_struct_of, unsize_known, by_unsize, built_in, bounds_from, object_source, written_source, objects_of, by_objects, upcast_source, all_equal, by_rule}
 use Rattle.assembly_laws.specs.Cover.{all_candidates}
 use Rattle.assembly_laws.specs.Solver.{most_candidates}
 use Rattle.assembly_laws.proofs.CandidateKinds.{all-made}
@@ -122,7 +122,7 @@ module _ (V : World) (a : Asked) where
   upcasts-sure q i (r ∷ rs) = by (r.trait == q.trait) (upcasts-sure q (suc i) rs)
     where
       by : (b : Bool) → Every Sure (upcasts_from V a q (suc i) rs)
-          → Every Sure (if b then Rattle.assembly_laws.specs.Candidates.by_rule V a (Rattle.assembly_laws.specs.Candidates.upcast_source i) (Rattle.assembly_laws.specs.Candidates.all_equal r.args q.args) [] ∷ upcasts_from V a q (suc i) rs else upcasts_from V a q (suc i) rs)
+          → Every Sure (if b then by_rule V a (upcast_source i) (all_equal r.args q.args) [] ∷ upcasts_from V a q (suc i) rs else upcasts_from V a q (suc i) rs)
       by true h = (refl, h)
       by false h = h
 
@@ -132,7 +132,7 @@ module _ (V : World) (a : Asked) where
   upcasts-to-sure [] (q ∷ qs) = tt
   upcasts-to-sure (p ∷ ps) (q ∷ qs) = by (p.trait == q.trait)
     where
-      by : (b : Bool) → Every Sure (if b then Rattle.assembly_laws.specs.Candidates.by_rule V a misc (Rattle.assembly_laws.specs.Candidates.all_equal p.args q.args) [] ∷ [] else upcasts_from V a q 1 (supertraits V p))
+      by : (b : Bool) → Every Sure (if b then by_rule V a misc (all_equal p.args q.args) [] ∷ [] else upcasts_from V a q 1 (supertraits V p))
       by true = (refl, tt)
       by false = upcasts-sure q 1 (supertraits V p)
 

@@ -1,5 +1,5 @@
 -- The candidates by built-in rules that read the outermost types alone, and by where-clauses, as ways of goals without unknowns.
-use Rattle.std.specs.Prelude.{◌≡◌, ◌==◌, Bool, true, false, ◌||◌, List, [], ◌∷◌, Some, if◌then◌else◌}
+use Rattle.std.specs.Prelude.{◌≡◌, ◌==◌, Bool, true, ◌||◌, List, [], ◌∷◌, Some, if◌then◌else◌}
 use Rattle.model.specs.Worlds.{World, Reference}
 use Rattle.model.specs.Rules.{Rule, same_reference, sized, copy, clone, tuple_trait, fn_ptr_trait, is_auto, sized_rules, copy_rules, auto_rules, tuple_rules, fn_ptr_rules}
 use Rattle.infer_table.specs.Canonical.{CanonicalForm}

@@ -1,10 +1,9 @@
 -- In what order the solver considers the candidates of a goal without unknowns, and what it makes of their responses.
-use Rattle.std.specs.Prelude.{◌≡◌, ℕ, Bool, true, false, List, [], ◌∷◌, ◌++◌, Option, Some, if◌then◌else◌}
+use Rattle.std.specs.Prelude.{◌≡◌, ℕ, Bool, true, List, [], ◌∷◌, ◌++◌, Option, Some, if◌then◌else◌}
 use Rattle.infer_table.specs.Canonical.{CanonicalForm}
 use Rattle.infer_table.specs.Responses.{AnswerTrees}
 use Rattle.infer_table.specs.declared.certainty.TypingMode.TheVariants.{Coherence, PostAnalysis}
-use Rattle.evaluation.specs.Table.{workings}
-use Rattle.evaluation.specs.Candidate.{Considered, consider, answer}
+use Rattle.evaluation.specs.Candidate.{consider, answer}
 use Rattle.evaluation.specs.Handler.{Handled}
 use Rattle.evaluation_laws.specs.Tables.{frame_tables}
 use Rattle.exactness_laws.specs.ClosedTables.{AreClosed}
