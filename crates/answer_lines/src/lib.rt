@@ -3,6 +3,7 @@
 
 mod answer;
 mod names;
+mod piece;
 mod printer;
 
 pub use answer::{Answer, ValueText, print_line};
