@@ -1,5 +1,5 @@
 -- The steps at lists of types and of auto traits.
-use Rattle.std.proofs.Common.{◌≡◌, ℕ, ◌+◌, ◌<◌, ◌≤◌, Bool, true, false, List, [], ◌∷◌, ◌++◌, length, ◌≢◌, if◌then◌else◌, refl, sym, ap, ◌∙◌, subst, append_assoc, append-nil, arith, codes}
+use Rattle.std.proofs.Common.{◌≡◌, ℕ, ◌+◌, true, false, List, [], ◌∷◌, ◌++◌, length, ◌≢◌, if◌then◌else◌, refl, sym, ap, ◌∙◌, subst, append_assoc, append-nil, arith, codes}
 use Rattle.std.specs.Borrow.{Bor}
 use Rattle.model.specs.Label.{of_type, of_const, tuple, array, fn_ptr}
 use Rattle.model.specs.Trees.{Trees, none, tree, ◌+++◌, IsA, is_no_tree}
@@ -12,8 +12,8 @@ use Rattle.type_terms.specs.declared.TraitId.{TraitId}
 use Rattle.type_terms.specs.declared.kinds.GenericArgKind.{GenericArgKind}
 use Rattle.answer_lines.specs.declared.piece.Piece.{Piece}
 use Rattle.answer_lines.specs.declared.piece.Piece.TheVariants.{Ty as PTy, Const as PConst, Text, Types, Args, Autos}
-use Rattle.answer_lines.specs.Pieces.{behind, load, Prints, PushesTypes, PushesOutput, PrintsPrincipal, PrintsAutos, PrintsTrees}
-use Rattle.answer_lines.proofs.Texts.{texts-append, load-append, type-one, const-one, between-behind}
+use Rattle.answer_lines.specs.Pieces.{behind, load, PushesTypes, PushesOutput, PrintsPrincipal, PrintsAutos, PrintsTrees}
+use Rattle.answer_lines.proofs.Texts.{texts-append, load-append, type-one, const-one}
 use Rattle.answer_lines.proofs.Steps.{nothing, one, before, both, list-text, single-text, inputs-of, last-of}
 
 -- ---- texts

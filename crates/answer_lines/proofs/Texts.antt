@@ -1,11 +1,11 @@
 -- Texts of trees, and what pieces come to.
-use Rattle.std.proofs.Common.{◌≡◌, ℕ, ◌+◌, ◌<◌, ◌≤◌, Bool, true, false, List, [], ◌∷◌, ◌++◌, refl, sym, ap, ◌∙◌, subst, append_assoc, append-nil, arith, cond, codes}
-use Rattle.model.specs.Label.{Label, Sort, of_type, of_const, of_lifetime}
+use Rattle.std.proofs.Common.{◌≡◌, ℕ, ◌+◌, true, false, List, [], ◌∷◌, ◌++◌, refl, sym, ap, append_assoc, append-nil, arith, cond}
+use Rattle.model.specs.Label.{Sort, of_type, of_const, of_lifetime}
 use Rattle.model.specs.Trees.{Trees, none, tree, ◌+++◌, sort_of, is_sort, IsA}
-use Rattle.text_definitions.specs.Output.{Names, texts, type_text, node_text, last_text, between, angled}
-use Rattle.type_terms.specs.Terms.{Entry, Is, Has, trees_at, types, consts, Lawful, Sorted}
+use Rattle.text_definitions.specs.Output.{Names, texts, type_text, node_text, between}
+use Rattle.type_terms.specs.Terms.{Entry}
 use Rattle.answer_lines.specs.declared.piece.Piece.{Piece}
-use Rattle.answer_lines.specs.Pieces.{behind, pending, piece_text, PiecesHeld, PieceHeld, load, piece_load, pieces_load, Prints}
+use Rattle.answer_lines.specs.Pieces.{behind, pending, piece_text, PiecesHeld, load, pieces_load}
 
 -- ---- texts of trees
 pub texts-append : (N : Names) (x y : Trees) → texts N (x +++ y) ≡ texts N x ++ texts N y

@@ -1,5 +1,5 @@
 -- What pieces stand for.
-use Rattle.std.specs.Prelude.{◌≡◌, ℕ, ◌+◌, ◌≤◌, ◌<◌, Bool, true, false, List, [], ◌∷◌, ◌++◌, codes}
+use Rattle.std.specs.Prelude.{◌≡◌, ℕ, ◌+◌, ◌<◌, Bool, true, false, List, [], ◌∷◌, ◌++◌, codes}
 use Rattle.model.specs.Trees.{Trees, none, tree}
 use Rattle.text_definitions.specs.Output.{Names, angled, between, texts, type_text, output_part}
 use Rattle.type_terms.specs.Terms.{Entry, Has, trees_at, types, consts}

@@ -3,7 +3,7 @@ ghost use Rattle.std.specs.Prelude.{◌≡◌, ◌≢◌, ◌++◌, false, lengt
 ghost use Rattle.std.specs.Fmt.{decimal};
 ghost use Rattle.model.specs.Trees.{tree, none, is_no_tree};
 ghost use Rattle.model.specs.Label.{tuple, fn_ptr, adt};
-ghost use Rattle.type_terms.specs.Terms.{Has, Lawful, trees_at, types, consts};
+ghost use Rattle.type_terms.specs.Terms.{Has, Lawful, trees_at, types, consts, bounds_lists};
 ghost use Rattle.type_terms.specs.Kinds.{kind_trees, args_trees, tys_trees, autos_trees, int_number, uint_number, is_mut, KindHeld, ArgsHeld, TysHeld};
 ghost use Rattle.text_definitions.specs.Output.{type_text, int_name, ends_in_unit};
 ghost use Rattle.answer_lines.specs.Pieces.{ref_sign, raw_ptr_sign, PrintsTrees, PrintsPiece, PushesTypes, PushesOutput, PrintsPrincipal, PrintsAutos};
@@ -325,5 +325,80 @@ fn start_autos<'i, N: PrintNames>(
             stack.push(Piece::Autos(rest))?;
             Ok(())
         }
+    }
+}
+
+fn start_dyn<'i, N: PrintNames>(
+    interner: &'i Interner,
+    names: &N,
+    bounds: Bounds,
+    region: Region,
+    stack: &mut Vec<Piece<'i>>,
+    out: &mut Vec<u8>,
+) -> Result<(), AllocError>
+    requires { Has interner.now.entries bounds_lists bounds.0 }
+    ensures { OnOk result (PrintsTrees (N.names names.now) interner.now.entries (kind_trees interner.now.entries (TyKind.Dynamic bounds region)) stack.old.items stack.new.items out.old.items out.new.items) }
+{
+    let data = interner.bounds(bounds);
+    match data.principal {
+        None => {
+            start_autos(interner, names, &data.autos, stack, out)?;
+            Ok(())
+        }
+        Some(principal) => {
+            let args = interner.args(principal.args);
+            start_principal(
+                interner,
+                names,
+                principal.def_id,
+                args,
+                &data.autos,
+                stack,
+                out,
+            )?;
+            Ok(())
+        }
+    }
+}
+
+/// The first step at a type.
+fn start_kind<'i, N: PrintNames>(
+    interner: &'i Interner,
+    names: &N,
+    kind: TyKind,
+    stack: &mut Vec<Piece<'i>>,
+    out: &mut Vec<u8>,
+) -> Result<(), AllocError>
+    requires lawful { Lawful interner.now.entries }
+    requires held { KindHeld interner.now.entries kind }
+    ensures { OnOk result (PrintsTrees (N.names names.now) interner.now.entries (kind_trees interner.now.entries kind) stack.old.items stack.new.items out.old.items out.new.items) }
+{
+    match kind {
+        TyKind::Bool => out.extend_from_slice(b"bool"),
+        TyKind::Char => out.extend_from_slice(b"char"),
+        TyKind::Int(int) => out.extend_from_slice(int_text(int)),
+        TyKind::Uint(uint) => out.extend_from_slice(uint_text(uint)),
+        TyKind::Str => out.extend_from_slice(b"str"),
+        TyKind::Never => out.extend_from_slice(b"!"),
+        TyKind::Adt(id, args) => { start_adt(interner, names, id, interner.args(args), stack, out) }
+        TyKind::Ref(region, ty, mutability) => {
+            start_ref(interner, names, region, ty, mutability, stack, out)
+        }
+        TyKind::RawPtr(ty, mutability) => {
+            start_raw_ptr(interner, names, ty, mutability, stack, out)
+        }
+        TyKind::Array(ty, len) => start_array(interner, names, ty, len, stack, out),
+        TyKind::Slice(ty) => start_slice(interner, names, ty, stack, out),
+        TyKind::Tuple(items) => { start_tuple(interner, names, interner.tys(items), stack, out) }
+        TyKind::FnPtr(bound_vars, tys) => {
+            start_fn(interner, names, bound_vars, interner.tys(tys), stack, out)
+        }
+        TyKind::Dynamic(bounds, region) => {
+            start_dyn(interner, names, bounds, region, stack, out)
+        }
+        TyKind::Param(index) => names.push_param(TermKind::Ty, index, out),
+        TyKind::Placeholder(index) => names.push_placeholder(TermKind::Ty, index, out),
+        TyKind::Bound(_, _) => Ok(()),
+        TyKind::Infer(vid) => names.push_unknown(TermKind::Ty, vid.index, out),
     }
 }
