@@ -88,6 +88,11 @@ abbrev pub raw_ptr_sign : Bool → List ℕ
 raw_ptr_sign false = codes "*const "
 raw_ptr_sign true = codes "*mut "
 
+-- ---- what stands before an argument
+abbrev pub arg_sign : Bool → List ℕ
+arg_sign false = codes "<"
+arg_sign true = codes ", "
+
 -- ---- steps that write nothing at once: types with commas between them, and what stands behind the inputs of a fn
 abbrev pub PushesTypes : List Entry → Trees → List Piece → List Piece → Type 0
 PushesTypes es t so sn = (N : Names) (o : List ℕ) → Prints N es (between (codes ", ") (texts N t)) (2 + load t) so sn o o
@@ -101,3 +106,13 @@ PrintsPrincipal N es t args autos so sn oo on = Prints N es (codes "dyn " ++ bet
 
 abbrev pub PrintsAutos : Names → List Entry → Trees → List Piece → List Piece → List ℕ → List ℕ → Type 0
 PrintsAutos N es autos so sn oo on = Prints N es (codes "dyn " ++ between (codes " + ") (texts N autos)) (6 + load autos) so sn oo on
+
+-- ---- the next of types, of arguments and of auto traits behind those that are printed
+abbrev pub PrintsTypes : Names → List Entry → Trees → List Piece → List Piece → List ℕ → List ℕ → Type 0
+PrintsTypes N es t so sn oo on = Prints N es (behind (codes ", ") (texts N t)) (1 + load t) so sn oo on
+
+abbrev pub PrintsArgs : Names → List Entry → Bool → Trees → List Piece → List Piece → List ℕ → List ℕ → Type 0
+PrintsArgs N es is_open t so sn oo on = Prints N es (more_args is_open (texts N t)) (1 + load t) so sn oo on
+
+abbrev pub PrintsMoreAutos : Names → List Entry → Trees → List Piece → List Piece → List ℕ → List ℕ → Type 0
+PrintsMoreAutos N es t so sn oo on = Prints N es (behind (codes " + ") (texts N t)) (1 + load t) so sn oo on

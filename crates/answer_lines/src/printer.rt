@@ -1,12 +1,12 @@
 //! Types and constants as text.
-ghost use Rattle.std.specs.Prelude.{◌≡◌, ◌≢◌, ◌++◌, false, length, OnOk, codes};
+ghost use Rattle.std.specs.Prelude.{◌≡◌, ◌≢◌, ◌++◌, false, length, OnOk, codes, []};
 ghost use Rattle.std.specs.Fmt.{decimal};
-ghost use Rattle.model.specs.Trees.{tree, none, is_no_tree};
+ghost use Rattle.model.specs.Trees.{tree, none, is_no_tree, ◌+++◌};
 ghost use Rattle.model.specs.Label.{tuple, fn_ptr, adt};
 ghost use Rattle.type_terms.specs.Terms.{Has, Lawful, trees_at, types, consts, bounds_lists};
 ghost use Rattle.type_terms.specs.Kinds.{kind_trees, args_trees, tys_trees, autos_trees, int_number, uint_number, is_mut, KindHeld, ArgsHeld, TysHeld};
 ghost use Rattle.text_definitions.specs.Output.{type_text, int_name, ends_in_unit};
-ghost use Rattle.answer_lines.specs.Pieces.{ref_sign, raw_ptr_sign, PrintsTrees, PrintsPiece, PushesTypes, PushesOutput, PrintsPrincipal, PrintsAutos};
+ghost use Rattle.answer_lines.specs.Pieces.{ref_sign, raw_ptr_sign, arg_sign, more_args, PieceHeld, PrintsTrees, PrintsPiece, PushesTypes, PushesOutput, PrintsPrincipal, PrintsAutos, PrintsTypes, PrintsArgs, PrintsMoreAutos};
 
 use crate::names::{PrintNames, TermKind};
 use crate::piece::Piece;
@@ -401,4 +401,223 @@ fn start_kind<'i, N: PrintNames>(
         TyKind::Bound(_, _) => Ok(()),
         TyKind::Infer(vid) => names.push_unknown(TermKind::Ty, vid.index, out),
     }
+}
+
+/// The first step at the type of a handle.
+fn start_type<'i, N: PrintNames>(
+    interner: &'i Interner,
+    names: &N,
+    ty: Ty,
+    stack: &mut Vec<Piece<'i>>,
+    out: &mut Vec<u8>,
+) -> Result<(), AllocError>
+    requires lawful { Lawful interner.now.entries }
+    requires held { Has interner.now.entries types ty.0 }
+    ensures { OnOk result (PrintsTrees (N.names names.now) interner.now.entries (trees_at interner.now.entries ty.0) stack.old.items stack.new.items out.old.items out.new.items) }
+{
+    start_kind(interner, names, interner.kind(ty), stack, out)?;
+    Ok(())
+}
+
+/// A constant, as a step: nothing of it is left.
+fn start_const<'i, N: PrintNames>(
+    interner: &'i Interner,
+    names: &N,
+    value: Const,
+    stack: &mut Vec<Piece<'i>>,
+    out: &mut Vec<u8>,
+) -> Result<(), AllocError>
+    requires lawful { Lawful interner.now.entries }
+    requires held { Has interner.now.entries consts value.0 }
+    ensures { OnOk result (PrintsTrees (N.names names.now) interner.now.entries (trees_at interner.now.entries value.0) stack.old.items stack.new.items out.old.items out.new.items) }
+{
+    print_const(interner, names, value, out)?;
+    Ok(())
+}
+
+/// The next of types behind commas.
+fn next_type<'i, N: PrintNames>(
+    interner: &'i Interner,
+    names: &N,
+    list: &'i [Ty],
+    stack: &mut Vec<Piece<'i>>,
+    out: &mut Vec<u8>,
+) -> Result<(), AllocError>
+    requires lawful { Lawful interner.now.entries }
+    requires held { TysHeld interner.now.entries list.now }
+    ensures { OnOk result (PrintsTypes (N.names names.now) interner.now.entries (tys_trees interner.now.entries list.now) stack.old.items stack.new.items out.old.items out.new.items) }
+{
+    match list.split_first() {
+        None => Ok(()),
+        Some((first, rest)) => {
+            out.extend_from_slice(b", ")?;
+            stack.push(Piece::Types(rest))?;
+            start_type(interner, names, *first, stack, out)?;
+            Ok(())
+        }
+    }
+}
+
+/// What stands before an argument.
+fn arg_sign(is_open: bool) -> &'static [u8]
+    ensures { result.now ≡ arg_sign is_open }
+{
+    if is_open { b", " } else { b"<" }
+}
+
+/// The next of arguments, a type.
+fn next_type_arg<'i, N: PrintNames>(
+    interner: &'i Interner,
+    names: &N,
+    ty: Ty,
+    rest: &'i [GenericArgKind],
+    is_open: bool,
+    stack: &mut Vec<Piece<'i>>,
+    out: &mut Vec<u8>,
+) -> Result<(), AllocError>
+    requires lawful { Lawful interner.now.entries }
+    requires held { Has interner.now.entries types ty.0 }
+    requires rest { ArgsHeld interner.now.entries rest.now }
+    ensures { OnOk result (PrintsArgs (N.names names.now) interner.now.entries is_open (trees_at interner.now.entries ty.0 +++ args_trees interner.now.entries rest.now) stack.old.items stack.new.items out.old.items out.new.items) }
+{
+    out.extend_from_slice(arg_sign(is_open))?;
+    stack.push(Piece::Args {
+        rest,
+        is_open: true,
+    })?;
+    start_type(interner, names, ty, stack, out)?;
+    Ok(())
+}
+
+/// The next of arguments, a const.
+fn next_const_arg<'i, N: PrintNames>(
+    interner: &'i Interner,
+    names: &N,
+    value: Const,
+    rest: &'i [GenericArgKind],
+    is_open: bool,
+    stack: &mut Vec<Piece<'i>>,
+    out: &mut Vec<u8>,
+) -> Result<(), AllocError>
+    requires lawful { Lawful interner.now.entries }
+    requires held { Has interner.now.entries consts value.0 }
+    requires rest { ArgsHeld interner.now.entries rest.now }
+    ensures { OnOk result (PrintsArgs (N.names names.now) interner.now.entries is_open (trees_at interner.now.entries value.0 +++ args_trees interner.now.entries rest.now) stack.old.items stack.new.items out.old.items out.new.items) }
+{
+    out.extend_from_slice(arg_sign(is_open))?;
+    stack.push(Piece::Args {
+        rest,
+        is_open: true,
+    })?;
+    start_const(interner, names, value, stack, out)?;
+    Ok(())
+}
+
+/// Where arguments end.
+fn end_args(is_open: bool, out: &mut Vec<u8>) -> Result<(), AllocError>
+    ensures { OnOk result (out.new.items ≡ out.old.items ++ more_args is_open []) }
+{
+    if is_open {
+        out.extend_from_slice(b">")?;
+    }
+    Ok(())
+}
+
+/// The next of arguments.
+fn next_arg<'i, N: PrintNames>(
+    interner: &'i Interner,
+    names: &N,
+    list: &'i [GenericArgKind],
+    is_open: bool,
+    stack: &mut Vec<Piece<'i>>,
+    out: &mut Vec<u8>,
+) -> Result<(), AllocError>
+    requires lawful { Lawful interner.now.entries }
+    requires held { ArgsHeld interner.now.entries list.now }
+    ensures { OnOk result (PrintsArgs (N.names names.now) interner.now.entries is_open (args_trees interner.now.entries list.now) stack.old.items stack.new.items out.old.items out.new.items) }
+{
+    match list.split_first() {
+        None => {
+            end_args(is_open, out)?;
+            Ok(())
+        }
+        Some((first, rest)) => match *first {
+            GenericArgKind::Lifetime(_) => {
+                stack.push(Piece::Args { rest, is_open })?;
+                Ok(())
+            }
+            GenericArgKind::Ty(ty) => {
+                next_type_arg(interner, names, ty, rest, is_open, stack, out)?;
+                Ok(())
+            }
+            GenericArgKind::Const(value) => {
+                next_const_arg(interner, names, value, rest, is_open, stack, out)?;
+                Ok(())
+            }
+        },
+    }
+}
+
+/// The next of auto traits behind `+`.
+fn next_auto<'i, N: PrintNames>(
+    interner: &'i Interner,
+    names: &N,
+    list: &'i [TraitId],
+    stack: &mut Vec<Piece<'i>>,
+    out: &mut Vec<u8>,
+) -> Result<(), AllocError>
+    ensures { OnOk result (PrintsMoreAutos (N.names names.now) interner.now.entries (autos_trees list.now) stack.old.items stack.new.items out.old.items out.new.items) }
+{
+    match list.split_first() {
+        None => Ok(()),
+        Some((first, rest)) => {
+            out.extend_from_slice(b" + ")?;
+            names.push_trait(*first, out)?;
+            stack.push(Piece::Autos(rest))?;
+            Ok(())
+        }
+    }
+}
+
+/// The next step at a piece.
+fn step<'i, N: PrintNames>(
+    interner: &'i Interner,
+    names: &N,
+    piece: Piece<'i>,
+    stack: &mut Vec<Piece<'i>>,
+    out: &mut Vec<u8>,
+) -> Result<(), AllocError>
+    requires lawful { Lawful interner.now.entries }
+    requires held { PieceHeld interner.now.entries piece }
+    ensures { OnOk result (PrintsPiece (N.names names.now) interner.now.entries piece.entry stack.old.items stack.new.items out.old.items out.new.items) }
+{
+    match piece {
+        Piece::Ty(ty) => start_type(interner, names, ty, stack, out),
+        Piece::Const(value) => start_const(interner, names, value, stack, out),
+        Piece::Text(text) => out.extend_from_slice(text),
+        Piece::Types(list) => next_type(interner, names, list, stack, out),
+        Piece::Args { rest, is_open } => next_arg(interner, names, rest, is_open, stack, out),
+        Piece::Autos(list) => next_auto(interner, names, list, stack, out),
+    }
+}
+
+/// Appends the text of a type.
+///
+/// A call fails where a request for memory is refused, and may have appended a part of the text then.
+pub fn print_type<N: PrintNames>(
+    interner: &Interner,
+    names: &N,
+    ty: Ty,
+    out: &mut Vec<u8>,
+) -> Result<(), AllocError>
+    requires { Has interner.now.entries types ty.0 }
+    ensures { OnOk result (out.new.items ≡ out.old.items ++ type_text (N.names names.now) (trees_at interner.now.entries ty.0)) }
+{
+    interner.lawful();
+    let mut stack = Vec::new(*out.allocator());
+    stack.push(Piece::Ty(ty))?;
+    while let Some(piece) = stack.pop() {
+        step(interner, names, piece, &mut stack, out)?;
+    }
+    Ok(())
 }
