@@ -1,21 +1,21 @@
 -- The steps at what is left of lists, and what a loop over pieces keeps.
-use Rattle.std.proofs.Common.{◌≡◌, ℕ, ◌+◌, ◌<◌, ◌≤◌, Bool, true, false, List, [], ◌∷◌, ◌++◌, length, refl, sym, ap, ◌∙◌, subst, append_assoc, append-nil, arith, codes}
+use Rattle.std.proofs.Common.{◌≡◌, ℕ, ◌+◌, ◌<◌, Bool, true, false, List, [], ◌∷◌, ◌++◌, length, sym, ap, ◌∙◌, subst, append_assoc, append-nil, arith, codes}
 use Rattle.std.specs.Borrow.{Bor}
 use Rattle.model.specs.Label.{of_const}
 use Rattle.model.specs.Trees.{Trees, none, tree, ◌+++◌, IsA}
 use Rattle.text_definitions.specs.Output.{Names, texts, type_text}
-use Rattle.type_terms.specs.Terms.{Entry, Is, Has, trees_at, types, consts, Lawful}
-use Rattle.type_terms.specs.Kinds.{TysHeld, tys_trees, args_trees, arg_trees, autos_trees, ArgHeld, ArgsHeld, region_trees}
+use Rattle.type_terms.specs.Terms.{Entry, Has, trees_at, types, consts, Lawful}
+use Rattle.type_terms.specs.Kinds.{TysHeld, tys_trees, args_trees, arg_trees, autos_trees, ArgsHeld, region_trees}
 use Rattle.type_terms.specs.declared.TraitId.{TraitId}
 use Rattle.type_terms.specs.declared.region.Region.{Region}
 use Rattle.type_terms.specs.declared.kinds.Ty.{Ty}
 use Rattle.type_terms.specs.declared.kinds.GenericArgKind.{GenericArgKind}
 use Rattle.answer_lines.specs.declared.piece.Piece.{Piece}
-use Rattle.answer_lines.specs.declared.piece.Piece.TheVariants.{Ty as PTy, Types, Args, Autos}
-use Rattle.answer_lines.specs.Pieces.{behind, more_args, arg_sign, pending, PiecesHeld, PieceHeld, load, piece_load, pieces_load, Prints, PrintsTrees, PrintsPiece, PrintsTypes, PrintsArgs, PrintsMoreAutos}
+use Rattle.answer_lines.specs.declared.piece.Piece.TheVariants.{Types, Args}
+use Rattle.answer_lines.specs.Pieces.{behind, more_args, arg_sign, pending, PiecesHeld, PieceHeld, load, pieces_load, PrintsTrees, PrintsPiece, PrintsTypes, PrintsArgs, PrintsMoreAutos}
 use Rattle.answer_lines.proofs.Texts.{texts-append, load-append, type-one, const-one, between-behind, pending-append, load-pieces, held-append, held-front, held-back}
 use Rattle.answer_lines.proofs.Steps.{nothing, one, before}
-use Rattle.answer_lines.proofs.Lists.{trees-of, is-type, is-const, first-texts}
+use Rattle.answer_lines.proofs.Lists.{is-type, is-const, first-texts}
 use Rattle.answer_lines.proofs.Dyns.{no-region}
 
 -- ---- a constant
