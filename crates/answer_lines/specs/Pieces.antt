@@ -1,9 +1,14 @@
 -- What pieces stand for.
 use Rattle.std.specs.Prelude.{◌≡◌, ℕ, ◌+◌, ◌<◌, Bool, true, false, List, [], ◌∷◌, ◌++◌, codes}
-use Rattle.model.specs.Trees.{Trees, none, tree}
+use Rattle.model.specs.Trees.{Trees, none, tree, ◌+++◌}
+use Rattle.model.specs.Label.{adt, tuple, fn_ptr}
 use Rattle.text_definitions.specs.Output.{Names, angled, between, texts, type_text, output_part}
 use Rattle.type_terms.specs.Terms.{Entry, Has, trees_at, types, consts}
-use Rattle.type_terms.specs.Kinds.{args_trees, tys_trees, autos_trees, ArgsHeld, TysHeld}
+use Rattle.type_terms.specs.Kinds.{kind_trees, args_trees, tys_trees, autos_trees, ArgsHeld, TysHeld}
+use Rattle.type_terms.specs.declared.TraitId.{TraitId}
+use Rattle.type_terms.specs.declared.kinds.Ty.{Ty}
+use Rattle.type_terms.specs.declared.kinds.TyKind.{TyKind}
+use Rattle.type_terms.specs.declared.kinds.GenericArgKind.{GenericArgKind}
 use Rattle.answer_lines.specs.declared.piece.Piece.{Piece}
 use Rattle.answer_lines.specs.declared.piece.Piece.TheVariants.{Ty as PTy, Const as PConst, Text, Types, Args, Autos}
 
@@ -116,3 +121,23 @@ PrintsArgs N es is_open t so sn oo on = Prints N es (more_args is_open (texts N 
 
 abbrev pub PrintsMoreAutos : Names → List Entry → Trees → List Piece → List Piece → List ℕ → List ℕ → Type 0
 PrintsMoreAutos N es t so sn oo on = Prints N es (behind (codes " + ") (texts N t)) (1 + load t) so sn oo on
+
+-- ---- the text of a kind, of a struct with its arguments, of a tuple and of a fn by their types, of a principal trait by its arguments and the auto
+-- traits, and of arguments by the first one's tree
+abbrev pub PrintsKind : Names → List Entry → TyKind → List Piece → List Piece → List ℕ → List ℕ → Type 0
+PrintsKind N es k so sn oo on = PrintsTrees N es (kind_trees es k) so sn oo on
+
+abbrev pub PrintsAdt : Names → List Entry → ℕ → List GenericArgKind → List Piece → List Piece → List ℕ → List ℕ → Type 0
+PrintsAdt N es s xs so sn oo on = PrintsTrees N es (tree (adt s) (args_trees es xs) none) so sn oo on
+
+abbrev pub PrintsTuple : Names → List Entry → List Ty → List Piece → List Piece → List ℕ → List ℕ → Type 0
+PrintsTuple N es ts so sn oo on = PrintsTrees N es (tree tuple (tys_trees es ts) none) so sn oo on
+
+abbrev pub PrintsFn : Names → List Entry → ℕ → List Ty → List Piece → List Piece → List ℕ → List ℕ → Type 0
+PrintsFn N es n ts so sn oo on = PrintsTrees N es (tree (fn_ptr n) (tys_trees es ts) none) so sn oo on
+
+abbrev pub PrintsPrincipalOf : Names → List Entry → ℕ → List GenericArgKind → List TraitId → List Piece → List Piece → List ℕ → List ℕ → Type 0
+PrintsPrincipalOf N es t xs us so sn oo on = PrintsPrincipal N es t (args_trees es xs) (autos_trees us) so sn oo on
+
+abbrev pub PrintsFirstArg : Names → List Entry → Bool → Trees → List GenericArgKind → List Piece → List Piece → List ℕ → List ℕ → Type 0
+PrintsFirstArg N es is_open t xs so sn oo on = PrintsArgs N es is_open (t +++ args_trees es xs) so sn oo on

@@ -1,12 +1,12 @@
 //! Types and constants as text.
 ghost use Rattle.std.specs.Prelude.{◌≡◌, ◌≢◌, ◌++◌, false, length, OnOk, codes, []};
 ghost use Rattle.std.specs.Fmt.{decimal};
-ghost use Rattle.model.specs.Trees.{tree, none, is_no_tree, ◌+++◌};
+ghost use Rattle.model.specs.Trees.{is_no_tree};
 ghost use Rattle.model.specs.Label.{tuple, fn_ptr, adt};
 ghost use Rattle.type_terms.specs.Terms.{Has, Lawful, trees_at, types, consts, bounds_lists};
 ghost use Rattle.type_terms.specs.Kinds.{kind_trees, args_trees, tys_trees, autos_trees, int_number, uint_number, is_mut, KindHeld, ArgsHeld, TysHeld};
 ghost use Rattle.text_definitions.specs.Output.{type_text, int_name, ends_in_unit};
-ghost use Rattle.answer_lines.specs.Pieces.{ref_sign, raw_ptr_sign, arg_sign, more_args, PieceHeld, PrintsTrees, PrintsPiece, PushesTypes, PushesOutput, PrintsPrincipal, PrintsAutos, PrintsTypes, PrintsArgs, PrintsMoreAutos};
+ghost use Rattle.answer_lines.specs.Pieces.{ref_sign, raw_ptr_sign, arg_sign, more_args, PieceHeld, PrintsTrees, PrintsPiece, PushesTypes, PushesOutput, PrintsPrincipalOf, PrintsAutos, PrintsKind, PrintsAdt, PrintsTuple, PrintsFn, PrintsFirstArg, PrintsTypes, PrintsArgs, PrintsMoreAutos};
 
 use crate::names::{PrintNames, TermKind};
 use crate::piece::Piece;
@@ -82,7 +82,7 @@ fn start_adt<'i, N: PrintNames>(
     out: &mut Vec<u8>,
 ) -> Result<(), AllocError>
     requires { ArgsHeld interner.now.entries args.now }
-    ensures { OnOk result (PrintsTrees (N.names names.now) interner.now.entries (tree (adt id.index) (args_trees interner.now.entries args.now) none) stack.old.items stack.new.items out.old.items out.new.items) }
+    ensures { OnOk result (PrintsAdt (N.names names.now) interner.now.entries id.index args.now stack.old.items stack.new.items out.old.items out.new.items) }
 {
     names.push_struct(id, out)?;
     stack.push(Piece::Args {
@@ -120,7 +120,7 @@ fn start_ref<'i, N: PrintNames>(
     out: &mut Vec<u8>,
 ) -> Result<(), AllocError>
     requires { Has interner.now.entries types ty.0 }
-    ensures { OnOk result (PrintsTrees (N.names names.now) interner.now.entries (kind_trees interner.now.entries (TyKind.Ref region ty mutability)) stack.old.items stack.new.items out.old.items out.new.items) }
+    ensures { OnOk result (PrintsKind (N.names names.now) interner.now.entries (TyKind.Ref region ty mutability) stack.old.items stack.new.items out.old.items out.new.items) }
 {
     out.extend_from_slice(ref_sign(mutability))?;
     stack.push(Piece::Ty(ty))?;
@@ -136,7 +136,7 @@ fn start_raw_ptr<'i, N: PrintNames>(
     out: &mut Vec<u8>,
 ) -> Result<(), AllocError>
     requires { Has interner.now.entries types ty.0 }
-    ensures { OnOk result (PrintsTrees (N.names names.now) interner.now.entries (kind_trees interner.now.entries (TyKind.RawPtr ty mutability)) stack.old.items stack.new.items out.old.items out.new.items) }
+    ensures { OnOk result (PrintsKind (N.names names.now) interner.now.entries (TyKind.RawPtr ty mutability) stack.old.items stack.new.items out.old.items out.new.items) }
 {
     out.extend_from_slice(raw_ptr_sign(mutability))?;
     stack.push(Piece::Ty(ty))?;
@@ -151,7 +151,7 @@ fn start_slice<'i, N: PrintNames>(
     out: &mut Vec<u8>,
 ) -> Result<(), AllocError>
     requires { Has interner.now.entries types ty.0 }
-    ensures { OnOk result (PrintsTrees (N.names names.now) interner.now.entries (kind_trees interner.now.entries (TyKind.Slice ty)) stack.old.items stack.new.items out.old.items out.new.items) }
+    ensures { OnOk result (PrintsKind (N.names names.now) interner.now.entries (TyKind.Slice ty) stack.old.items stack.new.items out.old.items out.new.items) }
 {
     out.extend_from_slice(b"[")?;
     stack.push(Piece::Text(b"]"))?;
@@ -170,7 +170,7 @@ fn start_array<'i, N: PrintNames>(
     requires lawful { Lawful interner.now.entries }
     requires ty { Has interner.now.entries types ty.0 }
     requires len { Has interner.now.entries consts len.0 }
-    ensures { OnOk result (PrintsTrees (N.names names.now) interner.now.entries (kind_trees interner.now.entries (TyKind.Array ty len)) stack.old.items stack.new.items out.old.items out.new.items) }
+    ensures { OnOk result (PrintsKind (N.names names.now) interner.now.entries (TyKind.Array ty len) stack.old.items stack.new.items out.old.items out.new.items) }
 {
     out.extend_from_slice(b"[")?;
     stack.push(Piece::Text(b"]"))?;
@@ -217,7 +217,7 @@ fn start_tuple<'i, N: PrintNames>(
 ) -> Result<(), AllocError>
     requires lawful { Lawful interner.now.entries }
     requires held { TysHeld interner.now.entries items.now }
-    ensures { OnOk result (PrintsTrees (N.names names.now) interner.now.entries (tree tuple (tys_trees interner.now.entries items.now) none) stack.old.items stack.new.items out.old.items out.new.items) }
+    ensures { OnOk result (PrintsTuple (N.names names.now) interner.now.entries items.now stack.old.items stack.new.items out.old.items out.new.items) }
 {
     out.extend_from_slice(b"(")?;
     stack.push(Piece::Text(tuple_end(items)))?;
@@ -271,7 +271,7 @@ fn start_fn<'i, N: PrintNames>(
     requires lawful { Lawful interner.now.entries }
     requires held { TysHeld interner.now.entries list.now }
     requires output { is_no_tree (tys_trees interner.now.entries list.now) ≡ false }
-    ensures { OnOk result (PrintsTrees (N.names names.now) interner.now.entries (tree (fn_ptr bound_vars) (tys_trees interner.now.entries list.now) none) stack.old.items stack.new.items out.old.items out.new.items) }
+    ensures { OnOk result (PrintsFn (N.names names.now) interner.now.entries bound_vars list.now stack.old.items stack.new.items out.old.items out.new.items) }
 {
     match list.split_last() {
         None => unreachable!(),
@@ -295,7 +295,7 @@ fn start_principal<'i, N: PrintNames>(
     out: &mut Vec<u8>,
 ) -> Result<(), AllocError>
     requires { ArgsHeld interner.now.entries args.now }
-    ensures { OnOk result (PrintsPrincipal (N.names names.now) interner.now.entries def_id.index (args_trees interner.now.entries args.now) (autos_trees autos.now) stack.old.items stack.new.items out.old.items out.new.items) }
+    ensures { OnOk result (PrintsPrincipalOf (N.names names.now) interner.now.entries def_id.index args.now autos.now stack.old.items stack.new.items out.old.items out.new.items) }
 {
     out.extend_from_slice(b"dyn ")?;
     names.push_trait(def_id, out)?;
@@ -337,7 +337,7 @@ fn start_dyn<'i, N: PrintNames>(
     out: &mut Vec<u8>,
 ) -> Result<(), AllocError>
     requires { Has interner.now.entries bounds_lists bounds.0 }
-    ensures { OnOk result (PrintsTrees (N.names names.now) interner.now.entries (kind_trees interner.now.entries (TyKind.Dynamic bounds region)) stack.old.items stack.new.items out.old.items out.new.items) }
+    ensures { OnOk result (PrintsKind (N.names names.now) interner.now.entries (TyKind.Dynamic bounds region) stack.old.items stack.new.items out.old.items out.new.items) }
 {
     let data = interner.bounds(bounds);
     match data.principal {
@@ -371,7 +371,7 @@ fn start_kind<'i, N: PrintNames>(
 ) -> Result<(), AllocError>
     requires lawful { Lawful interner.now.entries }
     requires held { KindHeld interner.now.entries kind }
-    ensures { OnOk result (PrintsTrees (N.names names.now) interner.now.entries (kind_trees interner.now.entries kind) stack.old.items stack.new.items out.old.items out.new.items) }
+    ensures { OnOk result (PrintsKind (N.names names.now) interner.now.entries kind stack.old.items stack.new.items out.old.items out.new.items) }
 {
     match kind {
         TyKind::Bool => out.extend_from_slice(b"bool"),
@@ -478,7 +478,7 @@ fn next_type_arg<'i, N: PrintNames>(
     requires lawful { Lawful interner.now.entries }
     requires held { Has interner.now.entries types ty.0 }
     requires rest { ArgsHeld interner.now.entries rest.now }
-    ensures { OnOk result (PrintsArgs (N.names names.now) interner.now.entries is_open (trees_at interner.now.entries ty.0 +++ args_trees interner.now.entries rest.now) stack.old.items stack.new.items out.old.items out.new.items) }
+    ensures { OnOk result (PrintsFirstArg (N.names names.now) interner.now.entries is_open (trees_at interner.now.entries ty.0) rest.now stack.old.items stack.new.items out.old.items out.new.items) }
 {
     out.extend_from_slice(arg_sign(is_open))?;
     stack.push(Piece::Args {
@@ -502,7 +502,7 @@ fn next_const_arg<'i, N: PrintNames>(
     requires lawful { Lawful interner.now.entries }
     requires held { Has interner.now.entries consts value.0 }
     requires rest { ArgsHeld interner.now.entries rest.now }
-    ensures { OnOk result (PrintsArgs (N.names names.now) interner.now.entries is_open (trees_at interner.now.entries value.0 +++ args_trees interner.now.entries rest.now) stack.old.items stack.new.items out.old.items out.new.items) }
+    ensures { OnOk result (PrintsFirstArg (N.names names.now) interner.now.entries is_open (trees_at interner.now.entries value.0) rest.now stack.old.items stack.new.items out.old.items out.new.items) }
 {
     out.extend_from_slice(arg_sign(is_open))?;
     stack.push(Piece::Args {
