@@ -139,5 +139,5 @@ PrintsFn N es n ts so sn oo on = PrintsTrees N es (tree (fn_ptr n) (tys_trees es
 abbrev pub PrintsPrincipalOf : Names → List Entry → ℕ → List GenericArgKind → List TraitId → List Piece → List Piece → List ℕ → List ℕ → Type 0
 PrintsPrincipalOf N es t xs us so sn oo on = PrintsPrincipal N es t (args_trees es xs) (autos_trees us) so sn oo on
 
-abbrev pub PrintsFirstArg : Names → List Entry → Bool → Trees → List GenericArgKind → List Piece → List Piece → List ℕ → List ℕ → Type 0
-PrintsFirstArg N es is_open t xs so sn oo on = PrintsArgs N es is_open (t +++ args_trees es xs) so sn oo on
+abbrev pub PrintsArg : Names → List Entry → Bool → Trees → List GenericArgKind → List Piece → List Piece → List ℕ → List ℕ → Type 0
+PrintsArg N es is_open t xs so sn oo on = PrintsArgs N es is_open (t +++ args_trees es xs) so sn oo on

@@ -6,11 +6,11 @@ ghost use Rattle.model.specs.Label.{tuple, fn_ptr, adt};
 ghost use Rattle.type_terms.specs.Terms.{Has, Lawful, trees_at, types, consts, bounds_lists};
 ghost use Rattle.type_terms.specs.Kinds.{kind_trees, args_trees, tys_trees, autos_trees, int_number, uint_number, is_mut, KindHeld, ArgsHeld, TysHeld};
 ghost use Rattle.text_definitions.specs.Output.{type_text, int_name, ends_in_unit};
-ghost use Rattle.answer_lines.specs.Pieces.{ref_sign, raw_ptr_sign, arg_sign, more_args, PieceHeld, PrintsTrees, PrintsPiece, PushesTypes, PushesOutput, PrintsPrincipalOf, PrintsAutos, PrintsKind, PrintsAdt, PrintsTuple, PrintsFn, PrintsFirstArg, PrintsTypes, PrintsArgs, PrintsMoreAutos};
+ghost use Rattle.answer_lines.specs.Pieces.{ref_sign, raw_ptr_sign, arg_sign, more_args, PieceHeld, PrintsTrees, PrintsPiece, PushesTypes, PushesOutput, PrintsPrincipalOf, PrintsAutos, PrintsKind, PrintsAdt, PrintsTuple, PrintsFn, PrintsArg, PrintsTypes, PrintsArgs, PrintsMoreAutos};
 
 use crate::names::{PrintNames, TermKind};
 use crate::piece::Piece;
-use std::alloc::{AllocError, Global};
+use std::alloc::AllocError;
 use type_terms::interner::Interner;
 use type_terms::kinds::{
     Bounds, Const, ConstKind, GenericArgKind, IntTy, Mutability, Ty, TyKind, UintTy,
@@ -478,7 +478,7 @@ fn next_type_arg<'i, N: PrintNames>(
     requires lawful { Lawful interner.now.entries }
     requires held { Has interner.now.entries types ty.0 }
     requires rest { ArgsHeld interner.now.entries rest.now }
-    ensures { OnOk result (PrintsFirstArg (N.names names.now) interner.now.entries is_open (trees_at interner.now.entries ty.0) rest.now stack.old.items stack.new.items out.old.items out.new.items) }
+    ensures { OnOk result (PrintsArg (N.names names.now) interner.now.entries is_open (trees_at interner.now.entries ty.0) rest.now stack.old.items stack.new.items out.old.items out.new.items) }
 {
     out.extend_from_slice(arg_sign(is_open))?;
     stack.push(Piece::Args {
@@ -502,7 +502,7 @@ fn next_const_arg<'i, N: PrintNames>(
     requires lawful { Lawful interner.now.entries }
     requires held { Has interner.now.entries consts value.0 }
     requires rest { ArgsHeld interner.now.entries rest.now }
-    ensures { OnOk result (PrintsFirstArg (N.names names.now) interner.now.entries is_open (trees_at interner.now.entries value.0) rest.now stack.old.items stack.new.items out.old.items out.new.items) }
+    ensures { OnOk result (PrintsArg (N.names names.now) interner.now.entries is_open (trees_at interner.now.entries value.0) rest.now stack.old.items stack.new.items out.old.items out.new.items) }
 {
     out.extend_from_slice(arg_sign(is_open))?;
     stack.push(Piece::Args {
