@@ -2,7 +2,7 @@
 use Rattle.std.proofs.Common.{Bool, true, false, ◌≡◌, ◌↔◌, ℕ, ◌<◌, List, [], ◌∷◌, ◌++◌, length, Option, Some, None, IsSome, refl, sym, ap, ◌∙◌, arith}
 use Rattle.std.specs.Prelude.{MatchOption, if◌then◌else◌, not, ◌&&◌}
 use Rattle.std.specs.Option.{option_to_list}
-use Rattle.text_definitions.specs.Uses.{Use, name_use, variable_use, lifetime_use, lifetime_uses, lifetime_arg_uses}
+use Rattle.text_definitions.specs.Uses.{Use, binder_uses, items_use, name_use, variable_use, lifetime_use, lifetime_uses, lifetime_arg_uses}
 use Rattle.text_definitions.specs.Faults.{variables_in}
 use Rattle.model.specs.Label.{Sort, of_type, of_const, of_lifetime}
 use Rattle.type_reader.specs.Cells.{Cell}
@@ -109,3 +109,11 @@ const-dropped false = refl
 pub others-kept : (b : Bool) → b ≡ (b && not false)
 others-kept true = refl
 others-kept false = refl
+
+-- a binder and inputs
+pub binder-variables : (s : List (List (List ℕ))) (b : List (List ℕ)) (us : List Use) → variables_in (binder_uses s b ++ us) ≡ variables_in us
+binder-variables s [] us = refl
+binder-variables s (n ∷ ns) us = refl
+
+pub fn-variables : (p : Sort) (s : List (List (List ℕ))) (b : List (List ℕ)) (k : ℕ) → variables_in (sort_misfits p ++ (binder_uses s b ++ items_use k ∷ [])) ≡ []
+fn-variables p s b k = misfit-variables p (binder_uses s b ++ items_use k ∷ []) ∙ binder-variables s b (items_use k ∷ [])

@@ -266,6 +266,58 @@ impl<'n, 'c, 'a> Walk<'n, 'c, 'a> {
         })?;
         Ok(Next::Going)
     }
+    /// Opens what binds these lifetimes.
+    fn open(&mut self, frame: Frame<'n>, bound: Vec<&'a [u8]>) -> Result<(), AllocError>
+        ensures frames { OnOk result (frames_in self.new.frames.items ≡ frame_of frame.entry ∷ frames_in self.old.frames.items) }
+        ensures binders { OnOk result (self.new.binders ≡ map text_of bound.entry.items ∷ self.old.binders) }
+        ensures rest { self.new.rest ≡ self.old.rest }
+        ensures found { self.new.found ≡ self.old.found }
+    {
+        self.binders.enter(bound)?;
+        self.push(frame)?;
+        Ok(())
+    }
+
+    /// A fn with a written output, which is the last of its types.
+    pub fn fn_to<N: Names>(
+        &mut self,
+        names: &N,
+        alloc: Global,
+        place: Place,
+        start: usize,
+        inner: usize,
+    ) -> Result<Next, AllocError>
+        ensures { Steps result (λ fs s r a. fn_to_step (N.sight names.now) (place_of place) fs s start inner r a) self.old self.new }
+    {
+        let bound = self.rest.names_between(alloc, start, inner)?;
+        let count = self.rest.count_above(inner);
+        let inputs = count.saturating_sub(1);
+        let taken = judge::binder(names, &self.binders, &bound);
+        let own = taken.either(judge::items(inputs));
+        let faults = judge::misfits(place.sort).either(own);
+        let label = NodeLabel::Fn(bound.len());
+        let cell = ResolvedCell::Node {
+            label,
+            inside: count,
+        };
+        self.found.add(place, faults, cell)?;
+        self.open(fn_frame(place, start, inner), bound)?;
+        Ok(Next::Going)
+    }
+}
+
+/// What a fn is open with.
+fn fn_frame<'n>(place: Place, start: usize, inner: usize) -> Frame<'n>
+    ensures { frame_of result ≡ fn_frame (place_of place) start inner }
+{
+    Frame {
+        start,
+        inner,
+        binds: true,
+        holds: Inside::Types,
+        room: deeper(place.room),
+        is_kept: place.is_kept,
+    }
 }
 
 /// The place of the type inside a type of one type.
