@@ -2,7 +2,7 @@
 use Rattle.std.proofs.Common.{Bool, true, false, ◌≡◌, ◌↔◌, ℕ, ◌<◌, List, [], ◌∷◌, ◌++◌, length, Option, Some, None, IsSome, refl, sym, ap, ◌∙◌, arith}
 use Rattle.std.specs.Prelude.{MatchOption, if◌then◌else◌, not, ◌&&◌}
 use Rattle.std.specs.Option.{option_to_list}
-use Rattle.text_definitions.specs.Uses.{Use, binder_uses, items_use, name_use, variable_use, lifetime_use, lifetime_uses, lifetime_arg_uses}
+use Rattle.text_definitions.specs.Uses.{Use, binder_uses, items_use, trait_use, name_use, variable_use, lifetime_use, lifetime_uses, lifetime_arg_uses}
 use Rattle.text_definitions.specs.Faults.{variables_in}
 use Rattle.model.specs.Label.{Sort, of_type, of_const, of_lifetime}
 use Rattle.type_reader.specs.Cells.{Cell}
@@ -117,3 +117,6 @@ binder-variables s (n ∷ ns) us = refl
 
 pub fn-variables : (p : Sort) (s : List (List (List ℕ))) (b : List (List ℕ)) (k : ℕ) → variables_in (sort_misfits p ++ (binder_uses s b ++ items_use k ∷ [])) ≡ []
 fn-variables p s b k = misfit-variables p (binder_uses s b ++ items_use k ∷ []) ∙ binder-variables s b (items_use k ∷ [])
+
+pub bound-variables : (s : List (List (List ℕ))) (b : List (List ℕ)) (n : List ℕ) (k : ℕ) → variables_in (binder_uses s b ++ trait_use n k ∷ []) ≡ []
+bound-variables s b n k = binder-variables s b (trait_use n k ∷ [])

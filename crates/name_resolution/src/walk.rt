@@ -304,6 +304,54 @@ impl<'n, 'c, 'a> Walk<'n, 'c, 'a> {
         self.open(fn_frame(place, start, inner), bound)?;
         Ok(Next::Going)
     }
+    /// A bound of a `dyn`, which is the outer frame.
+    pub fn bound<N: Names>(
+        &mut self,
+        names: &'n N,
+        alloc: Global,
+        outer: Frame<'n>,
+        name: &'a [u8],
+        start: usize,
+        inner: usize,
+    ) -> Result<Next, AllocError>
+        ensures { Steps result (λ fs s r a. bound_step (N.sight names.now) (frame_of outer.entry) fs s name.now start inner r a) self.old self.new }
+    {
+        let bound = self.rest.names_between(alloc, start, inner)?;
+        let count = self.rest.count_above(inner);
+        let meaning = names.known(name);
+        let taken = judge::binder(names, &self.binders, &bound);
+        let faults = taken.either(judge::bound(names, name, count, meaning));
+        let is_kept = is_kept_but(outer.is_kept, heads::is_auto(names, name, meaning));
+        let label = NodeLabel::Principal {
+            names: bound.len(),
+            number: heads::trait_number(meaning),
+        };
+        let cell = ResolvedCell::Node {
+            label,
+            inside: count,
+        };
+        self.found.keep(is_kept, cell)?;
+        self.found.note(faults);
+        self.push(outer)?;
+        let kinds = heads::trait_kinds(meaning);
+        let frame = Frame {
+            start,
+            inner,
+            binds: true,
+            holds: Inside::Args { kinds, left: count },
+            room: outer.room,
+            is_kept,
+        };
+        self.open(frame, bound)?;
+        Ok(Next::Going)
+    }
+}
+
+/// Whether what was wanted stays wanted, if this isn't so.
+fn is_kept_but(is_kept: bool, is_auto: bool) -> bool
+    ensures { result ≡ (is_kept && not is_auto) }
+{
+    is_kept && !is_auto
 }
 
 /// What a fn is open with.
