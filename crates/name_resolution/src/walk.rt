@@ -304,6 +304,36 @@ impl<'n, 'c, 'a> Walk<'n, 'c, 'a> {
         self.open(fn_frame(place, start, inner), bound)?;
         Ok(Next::Going)
     }
+    /// A fn without a written output.
+    pub fn fn_to_unit<N: Names>(
+        &mut self,
+        names: &N,
+        alloc: Global,
+        place: Place,
+        start: usize,
+        inner: usize,
+    ) -> Result<Next, AllocError>
+        requires { length self.old.rest + 1 < 2 ^ 64 }
+        ensures { Steps result (λ fs s r a. fn_step (N.sight names.now) (place_of place) fs s start inner r a) self.old self.new }
+    {
+        let bound = self.rest.names_between(alloc, start, inner)?;
+        let count = self.rest.count_above(inner);
+        let taken = judge::binder(names, &self.binders, &bound);
+        let own = taken.either(judge::items(count));
+        let faults = judge::misfits(place.sort).either(own);
+        let label = NodeLabel::Fn(bound.len());
+        let inside = count + 1;
+        self.found
+            .keep(place.is_kept, ResolvedCell::Node { label, inside })?;
+        let output = ResolvedCell::Node {
+            label: NodeLabel::Tuple,
+            inside: 0,
+        };
+        self.found.add(place, faults, output)?;
+        self.open(fn_frame(place, start, inner), bound)?;
+        Ok(Next::Going)
+    }
+
     /// A bound of a `dyn`, which is the outer frame.
     pub fn bound<N: Names>(
         &mut self,
