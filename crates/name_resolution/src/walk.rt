@@ -5,12 +5,12 @@ ghost use Rattle.line_tokens.specs.Views.{text_of};
 ghost use Rattle.name_resolution.specs.Sorts.{sort_of};
 ghost use Rattle.name_resolution.specs.Views.{resolved_in, label_in};
 ghost use Rattle.name_resolution.specs.WalkViews.{place_of, frame_of, frames_in, Steps};
-ghost use Rattle.name_resolution.specs.Machine.{Sight, reference_step, lifetime_step, leaf_step, variable_step, number_step, named_step, wrapped_step, tuple_step, fn_step, fn_to_step, bound_step, fn_frame, params, is_const_place, deeper, type_place, outer_scope};
+ghost use Rattle.name_resolution.specs.Machine.{Sight, reference_step, lifetime_step, leaf_step, variable_step, number_step, named_step, wrapped_step, tuple_step, fn_step, fn_to_step, bound_step, fn_frame, params, is_const_place, deeper, type_place, outer_scope, going, using};
 ghost use Rattle.name_resolution.specs.Back.{down_to};
 ghost use Rattle.name_resolution.specs.Resolved.{node_cell, length_cell};
 ghost use Rattle.model.specs.Label as label;
 ghost use Rattle.text_definitions.specs.Tokens.{number_from};
-ghost use Rattle.text_definitions.specs.Uses.{length_uses};
+ghost use Rattle.text_definitions.specs.Uses.{length_uses, lifetime_use};
 ghost use Rattle.type_reader.specs.Views.{length_of};
 
 use crate::binders::Binders;
@@ -331,6 +331,21 @@ impl<'n, 'c, 'a> Walk<'n, 'c, 'a> {
         };
         self.found.add(place, faults, output)?;
         self.open(fn_frame(place, start, inner), bound)?;
+        Ok(Next::Going)
+    }
+
+    /// A lifetime of a `dyn`, which is the outer frame.
+    pub fn bound_lifetime<N: Names>(
+        &mut self,
+        names: &N,
+        outer: Frame<'n>,
+        name: &'a [u8],
+    ) -> Result<Next, AllocError>
+        ensures { Steps result (λ fs s r a. going (frame_of outer.entry ∷ fs) s r (using (N.sight names.now) (lifetime_use s name.now ∷ []) a)) self.old self.new }
+    {
+        let faults = judge::lifetime(names, &self.binders, name);
+        self.found.note(faults);
+        self.push(outer)?;
         Ok(Next::Going)
     }
 
