@@ -1,8 +1,8 @@
 -- Steps of the walk.
-use Rattle.std.proofs.Common.{Bool, true, false, ◌≡◌, ◌↔◌, ℕ, ◌<◌, List, [], ◌∷◌, ◌++◌, length, Option, Some, None, IsSome, refl, sym, ap, ◌∙◌, arith}
-use Rattle.std.specs.Prelude.{MatchOption, if◌then◌else◌, not, ◌&&◌}
+use Rattle.std.proofs.Common.{suc, ◌+◌, ◌≤◌, Bool, true, false, ◌≡◌, ◌↔◌, ℕ, ◌<◌, List, [], ◌∷◌, ◌++◌, length, Option, Some, None, IsSome, refl, sym, ap, ◌∙◌, arith}
+use Rattle.std.specs.Prelude.{◌==◌, nat_le, MatchOption, if◌then◌else◌, not, ◌&&◌}
 use Rattle.std.specs.Option.{option_to_list}
-use Rattle.text_definitions.specs.Uses.{Use, name_use, variable_use, lifetime_use, lifetime_uses, lifetime_arg_uses}
+use Rattle.text_definitions.specs.Uses.{Use, binder_uses, items_use, trait_use, name_use, variable_use, lifetime_use, lifetime_uses, lifetime_arg_uses}
 use Rattle.text_definitions.specs.Faults.{variables_in}
 use Rattle.model.specs.Label.{Sort, of_type, of_const, of_lifetime}
 use Rattle.type_reader.specs.Cells.{Cell}
@@ -10,6 +10,7 @@ use Rattle.name_resolution.specs.declared.findings.Findings.{Findings}
 use Rattle.name_resolution.specs.Machine as machine
 use Rattle.name_resolution.specs.Machine.{Sight, Found, findings, either, using, keeping, deepening, noting, sort_misfits, name_misfits, lifetime_misfits}
 use Rattle.name_resolution.specs.Resolved as resolved
+use Rattle.name_resolution.specs.Back.{begins, parts, count_above}
 use Rattle.name_resolution.specs.declared.walk.Frame.{Frame}
 use Rattle.name_resolution.specs.WalkViews.{frame_of, frames_onto, frames_in}
 use Rattle.name_resolution.proofs.Uses.{findings-append}
@@ -109,3 +110,28 @@ const-dropped false = refl
 pub others-kept : (b : Bool) → b ≡ (b && not false)
 others-kept true = refl
 others-kept false = refl
+
+-- a binder and inputs
+pub binder-variables : (s : List (List (List ℕ))) (b : List (List ℕ)) (us : List Use) → variables_in (binder_uses s b ++ us) ≡ variables_in us
+binder-variables s [] us = refl
+binder-variables s (n ∷ ns) us = refl
+
+pub fn-variables : (p : Sort) (s : List (List (List ℕ))) (b : List (List ℕ)) (k : ℕ) → variables_in (sort_misfits p ++ (binder_uses s b ++ items_use k ∷ [])) ≡ []
+fn-variables p s b k = misfit-variables p (binder_uses s b ++ items_use k ∷ []) ∙ binder-variables s b (items_use k ∷ [])
+
+pub bound-variables : (s : List (List (List ℕ))) (b : List (List ℕ)) (n : List ℕ) (k : ℕ) → variables_in (binder_uses s b ++ trait_use n k ∷ []) ≡ []
+bound-variables s b n k = binder-variables s b (trait_use n k ∷ [])
+
+-- there are no more parts than cells
+parts-within : (start end : ℕ) (r later : List Cell) → length (parts start end r later) ≤ length later + length r
+parts-within start end [] later = omega arith
+parts-within start end (c ∷ r) later = by (nat_le end start) (suc (length r) == end) (parts-within start (begins (c ∷ r)) r (c ∷ later)) (parts-within start end r later)
+  where
+    by : (a b : Bool) → length (parts start (begins (c ∷ r)) r (c ∷ later)) ≤ length (c ∷ later) + length r → length (parts start end r later) ≤ length later + length r
+        → length (if a then later else (if b then parts start (begins (c ∷ r)) r (c ∷ later) else parts start end r later)) ≤ length later + length (c ∷ r)
+    by true b h k = omega arith
+    by false true h k = omega arith
+    by false false h k = omega arith
+
+pub count-within : (start : ℕ) (r : List Cell) → count_above start r ≤ length r
+count-within start r = let h : length (parts start (length r) r []) ≤ 0 + length r = parts-within start (length r) r [] in omega arith

@@ -3,7 +3,7 @@ use Rattle.std.specs.Prelude.{◌≡◌, ℕ, zero, suc, ◌-◌, ◌==◌, Bool
 use Rattle.std.specs.List.{list_any}
 use Rattle.std.specs.Option.{option_map, option_map_or}
 use Rattle.model.specs.Label.{Label, Sort, of_type, of_const, of_lifetime, never, array, slice, tuple, fn_ptr, value, raw_pointer, principal}
-use Rattle.text_definitions.specs.Syntax.{Params, Line}
+use Rattle.text_definitions.specs.Syntax.{Params, Line, Length}
 use Rattle.text_definitions.specs.Declarations.{Declarations, known}
 use Rattle.text_definitions.specs.Uses.{ItemShape, bound_shape, lifetime_shape, Use, name_use, trait_use, lifetime_use, variable_use, misfit_use, dyn_use, items_use, next_kind, kinds_of_struct, kinds_of_trait, length_uses, lifetime_uses, lifetime_arg_uses, number_arg_uses, binder_uses, params_of}
 use Rattle.text_definitions.specs.Faults.{with_own, is_taken_binder, is_unknown_use, is_hidden_use, looking_crate, is_other_sort, is_use_of, is_bad_dyn, passes_in, is_auto_name, variables_in}
@@ -164,6 +164,9 @@ abbrev pub wrapped_step : Sight → Place → List Frame → List (List (List �
 wrapped_step v pl fs s us f r a =
     visiting (type_place (deeper pl.room) pl.is_kept) fs s r (using v (sort_misfits pl.kind ++ us) (deepening pl.room (keeping pl.is_kept f a)))
 
+abbrev pub array_step : Sight → Place → List Frame → List (List (List ℕ)) → Length → List Cell → Found → State
+array_step v pl fs s n r a = wrapped_step v pl fs s (length_uses n) (λ cs. length_cell (params v) n ∷ resolved.node_cell array 2 ∷ cs) r a
+
 abbrev pub reference_step : Sight → Place → List Frame → List (List (List ℕ)) → Option (List ℕ) → Bool → List Cell → Found → State
 reference_step v pl fs s l m r a = wrapped_step v pl fs s (lifetime_uses s l) (λ cs. resolved.reference_cell (optional_region (params v) s l) m ∷ cs) r a
 
@@ -236,7 +239,7 @@ visit_step v pl fs s (named_cell n start ∷ r) a = named_step v pl fs s n start
 visit_step v pl fs s (reference_cell l m ∷ r) a = reference_step v pl fs s l m r a
 visit_step v pl fs s (pointer_cell m ∷ r) a = wrapped_step v pl fs s [] (λ cs. resolved.node_cell (raw_pointer m) 1 ∷ cs) r a
 visit_step v pl fs s (slice_cell ∷ r) a = wrapped_step v pl fs s [] (λ cs. resolved.node_cell slice 1 ∷ cs) r a
-visit_step v pl fs s (array_cell n ∷ r) a = wrapped_step v pl fs s (length_uses n) (λ cs. length_cell (params v) n ∷ resolved.node_cell array 2 ∷ cs) r a
+visit_step v pl fs s (array_cell n ∷ r) a = array_step v pl fs s n r a
 visit_step v pl fs s (tuple_cell start ∷ r) a = tuple_step v pl fs s start r a
 visit_step v pl fs s (fn_cell start inner ∷ r) a = fn_step v pl fs s start inner r a
 visit_step v pl fs s (fn_to_cell start inner ∷ r) a = fn_to_step v pl fs s start inner r a

@@ -5,12 +5,12 @@ ghost use Rattle.line_tokens.specs.Views.{text_of};
 ghost use Rattle.name_resolution.specs.Sorts.{sort_of};
 ghost use Rattle.name_resolution.specs.Views.{resolved_in, label_in};
 ghost use Rattle.name_resolution.specs.WalkViews.{place_of, frame_of, frames_in, Steps};
-ghost use Rattle.name_resolution.specs.Machine.{Sight, reference_step, lifetime_step, leaf_step, variable_step, number_step, named_step, wrapped_step, tuple_step, fn_step, fn_to_step, bound_step, fn_frame, params, is_const_place, deeper, type_place, outer_scope};
+ghost use Rattle.name_resolution.specs.Machine.{Sight, reference_step, lifetime_step, leaf_step, variable_step, number_step, named_step, wrapped_step, array_step, tuple_step, fn_step, fn_to_step, bound_step, fn_frame, params, is_const_place, deeper, type_place, outer_scope, going, using};
 ghost use Rattle.name_resolution.specs.Back.{down_to};
 ghost use Rattle.name_resolution.specs.Resolved.{node_cell, length_cell};
 ghost use Rattle.model.specs.Label as label;
 ghost use Rattle.text_definitions.specs.Tokens.{number_from};
-ghost use Rattle.text_definitions.specs.Uses.{length_uses};
+ghost use Rattle.text_definitions.specs.Uses.{length_uses, lifetime_use};
 ghost use Rattle.type_reader.specs.Views.{length_of};
 
 use crate::binders::Binders;
@@ -203,7 +203,7 @@ impl<'n, 'c, 'a> Walk<'n, 'c, 'a> {
         place: Place,
         length: Length<'a>,
     ) -> Result<Next, AllocError>
-        ensures { Steps result (λ fs s r a. wrapped_step (N.sight names.now) (place_of place) fs s (length_uses (length_of length.entry)) (λ cs. length_cell (params (N.sight names.now)) (length_of length.entry) ∷ node_cell label.array 2 ∷ cs) r a) self.old self.new }
+        ensures { Steps result (λ fs s r a. array_step (N.sight names.now) (place_of place) fs s (length_of length.entry) r a) self.old self.new }
     {
         let faults = judge::misfits(place.sort).either(judge::length(names, length));
         let label = NodeLabel::Array;
@@ -265,6 +265,151 @@ impl<'n, 'c, 'a> Walk<'n, 'c, 'a> {
             is_kept: place.is_kept,
         })?;
         Ok(Next::Going)
+    }
+    /// Opens what binds these lifetimes.
+    fn open(&mut self, frame: Frame<'n>, bound: Vec<&'a [u8]>) -> Result<(), AllocError>
+        ensures frames { OnOk result (frames_in self.new.frames.items ≡ frame_of frame.entry ∷ frames_in self.old.frames.items) }
+        ensures binders { OnOk result (self.new.binders ≡ map text_of bound.entry.items ∷ self.old.binders) }
+        ensures rest { self.new.rest ≡ self.old.rest }
+        ensures found { self.new.found ≡ self.old.found }
+    {
+        self.binders.enter(bound)?;
+        self.push(frame)?;
+        Ok(())
+    }
+
+    /// A fn with a written output, which is the last of its types.
+    pub fn fn_to<N: Names>(
+        &mut self,
+        names: &N,
+        alloc: Global,
+        place: Place,
+        start: usize,
+        inner: usize,
+    ) -> Result<Next, AllocError>
+        ensures { Steps result (λ fs s r a. fn_to_step (N.sight names.now) (place_of place) fs s start inner r a) self.old self.new }
+    {
+        let bound = self.rest.names_between(alloc, start, inner)?;
+        let count = self.rest.count_above(inner);
+        let inputs = count.saturating_sub(1);
+        let taken = judge::binder(names, &self.binders, &bound);
+        let own = taken.either(judge::items(inputs));
+        let faults = judge::misfits(place.sort).either(own);
+        let label = NodeLabel::Fn(bound.len());
+        let cell = ResolvedCell::Node {
+            label,
+            inside: count,
+        };
+        self.found.add(place, faults, cell)?;
+        self.open(fn_frame(place, start, inner), bound)?;
+        Ok(Next::Going)
+    }
+    /// A fn without a written output.
+    pub fn fn_to_unit<N: Names>(
+        &mut self,
+        names: &N,
+        alloc: Global,
+        place: Place,
+        start: usize,
+        inner: usize,
+    ) -> Result<Next, AllocError>
+        requires { length self.old.rest + 1 < 2 ^ 64 }
+        ensures { Steps result (λ fs s r a. fn_step (N.sight names.now) (place_of place) fs s start inner r a) self.old self.new }
+    {
+        let bound = self.rest.names_between(alloc, start, inner)?;
+        let count = self.rest.count_above(inner);
+        let taken = judge::binder(names, &self.binders, &bound);
+        let own = taken.either(judge::items(count));
+        let faults = judge::misfits(place.sort).either(own);
+        let label = NodeLabel::Fn(bound.len());
+        let inside = count + 1;
+        self.found
+            .keep(place.is_kept, ResolvedCell::Node { label, inside })?;
+        let output = ResolvedCell::Node {
+            label: NodeLabel::Tuple,
+            inside: 0,
+        };
+        self.found.add(place, faults, output)?;
+        self.open(fn_frame(place, start, inner), bound)?;
+        Ok(Next::Going)
+    }
+
+    /// A lifetime of a `dyn`, which is the outer frame.
+    pub fn bound_lifetime<N: Names>(
+        &mut self,
+        names: &N,
+        outer: Frame<'n>,
+        name: &'a [u8],
+    ) -> Result<Next, AllocError>
+        ensures { Steps result (λ fs s r a. going (frame_of outer.entry ∷ fs) s r (using (N.sight names.now) (lifetime_use s name.now ∷ []) a)) self.old self.new }
+    {
+        let faults = judge::lifetime(names, &self.binders, name);
+        self.found.note(faults);
+        self.push(outer)?;
+        Ok(Next::Going)
+    }
+
+    /// A bound of a `dyn`, which is the outer frame.
+    pub fn bound<N: Names>(
+        &mut self,
+        names: &'n N,
+        alloc: Global,
+        outer: Frame<'n>,
+        name: &'a [u8],
+        start: usize,
+        inner: usize,
+    ) -> Result<Next, AllocError>
+        ensures { Steps result (λ fs s r a. bound_step (N.sight names.now) (frame_of outer.entry) fs s name.now start inner r a) self.old self.new }
+    {
+        let bound = self.rest.names_between(alloc, start, inner)?;
+        let count = self.rest.count_above(inner);
+        let meaning = names.known(name);
+        let taken = judge::binder(names, &self.binders, &bound);
+        let faults = taken.either(judge::bound(names, name, count, meaning));
+        let is_kept = is_kept_but(outer.is_kept, heads::is_auto(names, name, meaning));
+        let label = NodeLabel::Principal {
+            names: bound.len(),
+            number: heads::trait_number(meaning),
+        };
+        let cell = ResolvedCell::Node {
+            label,
+            inside: count,
+        };
+        self.found.keep(is_kept, cell)?;
+        self.found.note(faults);
+        self.push(outer)?;
+        let kinds = heads::trait_kinds(meaning);
+        let frame = Frame {
+            start,
+            inner,
+            binds: true,
+            holds: Inside::Args { kinds, left: count },
+            room: outer.room,
+            is_kept,
+        };
+        self.open(frame, bound)?;
+        Ok(Next::Going)
+    }
+}
+
+/// Whether what was wanted stays wanted, if this isn't so.
+fn is_kept_but(is_kept: bool, is_auto: bool) -> bool
+    ensures { result ≡ (is_kept && not is_auto) }
+{
+    is_kept && !is_auto
+}
+
+/// What a fn is open with.
+fn fn_frame<'n>(place: Place, start: usize, inner: usize) -> Frame<'n>
+    ensures { frame_of result ≡ fn_frame (place_of place) start inner }
+{
+    Frame {
+        start,
+        inner,
+        binds: true,
+        holds: Inside::Types,
+        room: deeper(place.room),
+        is_kept: place.is_kept,
     }
 }
 
