@@ -5,6 +5,7 @@ ghost use Rattle.infer_table.specs.Content.{Ready};
 ghost use Rattle.benchmarks.specs.declared.TheConstants.{MOST};
 
 use crate::MOST;
+use crate::terms::pairs;
 use infer_table::certainty::EqError;
 use infer_table::infer_ctxt::InferCtxt;
 use std::alloc::Global;
@@ -83,4 +84,19 @@ pub fn chained(alloc: Global, count: u32, order: Order) -> Result<u32, EqError>
     let mut table = InferCtxt::new(alloc);
     link_all(&mut cx, &mut table, count, order)?;
     Ok(resolve_all(&mut cx, &table, count)?)
+}
+
+/// Equates two types that each double at so many levels, over a variable each; answers how many of the two variables stand for
+/// the first.
+///
+/// Each level is one pair of handles, and the time goes by these.
+pub fn equated(alloc: Global, levels: u32) -> Result<u32, EqError> {
+    let mut cx = Interner::new(alloc, HANDLES);
+    let mut table = InferCtxt::new(alloc);
+    let left = cx.mk_ty(TyKind::Infer(TyVid { index: 0 }))?;
+    let left = pairs(&mut cx, alloc, left, levels)?;
+    let right = cx.mk_ty(TyKind::Infer(TyVid { index: 1 }))?;
+    let right = pairs(&mut cx, alloc, right, levels)?;
+    table.eq(&mut cx, GenericArgKind::Ty(left), GenericArgKind::Ty(right))?;
+    Ok(resolve_all(&mut cx, &table, 2)?)
 }

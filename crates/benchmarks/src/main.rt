@@ -33,6 +33,8 @@ enum Program {
     Cached,
     /// Goals that ask one another round.
     Cyclic,
+    /// An equation of two types that double at each level.
+    Equated,
     /// Variables that are each equated with the next, the first pair first.
     Chained,
     /// The same, the last pair first.
@@ -51,6 +53,7 @@ fn program_named(name: &str) -> Option<Program> {
         "canonical" => Some(Program::Canonical),
         "cached" => Some(Program::Cached),
         "cyclic" => Some(Program::Cyclic),
+        "equated" => Some(Program::Equated),
         "chained" => Some(Program::Chained),
         "chained_backward" => Some(Program::ChainedBackward),
         _ => None,
@@ -108,6 +111,10 @@ fn run(rt: &impl Print, alloc: Global, program: Program, count: u32) -> Result<(
                 "{} goals, {} yes, {} frames",
                 counts.goals, counts.yes, counts.frames
             )
+        }
+        Program::Equated => {
+            let found = equations::equated(alloc, count).map_err(|_| Failed)?;
+            println!(rt; "{found} variables")
         }
         Program::Chained => {
             let found = equations::chained(alloc, count, Order::Forward).map_err(|_| Failed)?;

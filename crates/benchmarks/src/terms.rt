@@ -78,12 +78,13 @@ pub fn instantiated(alloc: Global, count: u32) -> Result<u32, InstantiateError> 
     instantiate_often(alloc, &mut cx, ty, args, count)
 }
 
-/// The parameter 0 at the ends of pairs of pairs, so many levels deep: a tree that doubles at each level.
-fn pairs(cx: &mut Interner, alloc: Global, levels: u32) -> Result<Ty, Fault>
+/// A type at the ends of pairs of pairs, so many levels deep: a tree that doubles at each level.
+pub fn pairs(cx: &mut Interner, alloc: Global, leaf: Ty, levels: u32) -> Result<Ty, Fault>
+    requires leaf { Has cx.old.entries types leaf.0 }
     ensures made { IfOk result (λ ty. Has cx.new.entries types ty.0) }
     ensures keeps { Keeps cx.old.entries cx.new.entries }
 {
-    let mut ty = cx.mk_ty(TyKind::Param(0))?;
+    let mut ty = leaf;
     for _ in 0..levels {
         let pair = cx.mk_tys(vec![in alloc; ty, ty]?)?;
         ty = cx.mk_ty(TyKind::Tuple(pair))?;
@@ -97,6 +98,7 @@ fn pairs(cx: &mut Interner, alloc: Global, levels: u32) -> Result<Ty, Fault>
 pub fn doubled(alloc: Global, levels: u32) -> Result<u32, InstantiateError> {
     let mut cx = Interner::new(alloc, HANDLES);
     let (_, args) = type_and_args(&mut cx, alloc)?;
-    let ty = pairs(&mut cx, alloc, levels)?;
+    let leaf = cx.mk_ty(TyKind::Param(0))?;
+    let ty = pairs(&mut cx, alloc, leaf, levels)?;
     instantiate_often(alloc, &mut cx, ty, args, 1)
 }
