@@ -29,7 +29,7 @@ option-or : {A : Type 0} (o : Option A) (p : A → Bool) → option_map_or (λ c
 option-or None p = refl
 option-or (Some c) p = or-false (p c)
 
-abbrev made : Bool → Bool → Bool → Bool → Bool → Bool → Bool → Findings
+abbrev pub made : Bool → Bool → Bool → Bool → Bool → Bool → Bool → Findings
 made a b c d e f g = record { takes_names = a; uses_unknown = b; uses_hidden = c; uses_other_sort = d; uses_own = e; has_bad_dyn = f; passes_limit = g }
 
 -- the findings of one use, test by test

@@ -11,3 +11,6 @@ pub mod Judged
 pub mod Walking
 pub mod Numbers
 pub mod Meanings
+pub mod Weights
+pub mod Summed
+pub mod Resolving

@@ -7,4 +7,6 @@ pub mod Sorts
 pub mod Views
 pub mod Laws
 pub mod Steps
+pub mod Shapes
+pub mod Resolving
 pub mod WalkViews

@@ -7,8 +7,11 @@ mod found;
 mod heads;
 mod judge;
 mod names;
+mod resolve;
 mod resolved;
 mod rest;
+mod shapes;
+mod turn;
 mod walk;
 
 ghost use Rattle.name_resolution.specs.Standing.{CellsStand};
@@ -16,6 +19,7 @@ ghost use Rattle.name_resolution.specs.Laws.{MachineResolves, ArgsResolved, Type
 
 pub use findings::Findings;
 pub use names::{Known, Names, Sort};
+pub use resolve::{Resolved, ResolvedBound, resolve_bound, resolve_type};
 pub use resolved::{NodeLabel, Region, ResolvedCell, Variable};
 
 /// The resolved cells of a type stand for the type's tree.
