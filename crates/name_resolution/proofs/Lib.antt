@@ -14,3 +14,4 @@ pub mod Meanings
 pub mod Weights
 pub mod Summed
 pub mod Resolving
+pub mod UsedLaws

@@ -38,12 +38,12 @@ found-variable f xs ys d cs x now e h =
     ap (λ zs. view (variables_onto zs [])) e ∙ ap view (variables-push xs x []) ∙ ap more h
 
 -- ---- the cells before a place
-get-map : (cs : List Cell) (k : ℕ) (d : Cell) → get_or (map cell_of cs) k (cell_of d) ≡ cell_of (get_or cs k d)
+pub get-map : (cs : List Cell) (k : ℕ) (d : Cell) → get_or (map cell_of cs) k (cell_of d) ≡ cell_of (get_or cs k d)
 get-map [] k d = refl
 get-map (c ∷ cs) zero d = refl
 get-map (c ∷ cs) (suc k) d = get-map cs k d
 
-length-cells : (cs : List Cell) → length (cells_in cs) ≡ length cs
+pub length-cells : (cs : List Cell) → length (cells_in cs) ≡ length cs
 length-cells [] = refl
 length-cells (c ∷ cs) = ap suc (length-cells cs)
 

@@ -9,4 +9,5 @@ pub mod Laws
 pub mod Steps
 pub mod Shapes
 pub mod Resolving
+pub mod UsedNames
 pub mod WalkViews

@@ -12,19 +12,28 @@ mod resolved;
 mod rest;
 mod shapes;
 mod turn;
+mod used;
 mod walk;
 
 ghost use Rattle.name_resolution.specs.Standing.{CellsStand};
+ghost use Rattle.name_resolution.specs.UsedNames.{TypesUseNames, ArgsUseNames};
 ghost use Rattle.name_resolution.specs.Laws.{MachineResolves, ArgsResolved, TypesTurned, ArgsTurned};
 
 pub use findings::Findings;
 pub use names::{Known, Names, Sort};
 pub use resolve::{Resolved, ResolvedBound, resolve_bound, resolve_type};
 pub use resolved::{NodeLabel, Region, ResolvedCell, Variable};
+pub use used::UsedNames;
 
 /// The resolved cells of a type stand for the type's tree.
 pub fn cells_stand()
     ensures { CellsStand }
+{}
+
+/// The names in the cells of a type, or of arguments, are those that these use where a type or a const has to stand.
+pub fn used_names()
+    ensures types { TypesUseNames }
+    ensures args { ArgsUseNames }
 {}
 
 /// Going over the cells of a type from the last to the first comes to what the definitions say of the type: its uses, whether it is

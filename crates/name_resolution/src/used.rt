@@ -1,0 +1,62 @@
+//! The names that a header uses, for the parameters that have to be among them.
+ghost use Rattle.std.specs.Prelude.{◌≡◌, ℕ, List, [], ◌∷◌, ◌++◌, OnOk};
+ghost use Rattle.text_definitions.specs.Faults.{is_among};
+ghost use Rattle.type_reader.specs.Views.{cell_of, cells_in};
+ghost use Rattle.name_resolution.specs.UsedNames.{Holds, name_of, names_with};
+
+use std::alloc::{AllocError, Global};
+use std::collections::HashSet;
+use type_reader::{Cell, Length};
+
+/// Names that stand where a type or a const has to stand, in types that were read.
+#[derive(Drop)]
+pub struct UsedNames<'a> {
+    names: HashSet<&'a [u8]>,
+}
+
+impl<'a> UsedNames<'a> {
+    /// There is none.
+    pub fn new(alloc: Global) -> Self
+        ensures { Holds result [] }
+    {
+        UsedNames {
+            names: HashSet::new(alloc),
+        }
+    }
+
+    fn insert(&mut self, name: &'a [u8]) -> Result<(), AllocError>
+        ensures { OnOk result ((ns : List (List ℕ)) → Holds self.old ns → Holds self.new (name.now ∷ ns)) }
+    {
+        let _ = self.names.insert(name)?;
+        Ok(())
+    }
+
+    fn add_cell(&mut self, cell: Cell<'a>) -> Result<(), AllocError>
+        ensures { OnOk result ((ns : List (List ℕ)) → Holds self.old ns → Holds self.new (name_of (cell_of cell.entry) ++ ns)) }
+    {
+        match cell {
+            Cell::Named { name, .. } => self.insert(name),
+            Cell::Array(Length::Name(name)) => self.insert(name),
+            _ => Ok(()),
+        }
+    }
+
+    /// Those in these cells too. The cells of a bound are those of its arguments: its own name is a trait's.
+    ///
+    /// The error says that a request for memory was refused; then only some of them were added.
+    pub fn add(&mut self, cells: &[Cell<'a>]) -> Result<(), AllocError>
+        ensures { OnOk result ((ns : List (List ℕ)) → Holds self.old ns → Holds self.new (names_with (cells_in cells.now) ns)) }
+    {
+        for cell in cells {
+            self.add_cell(*cell)?;
+        }
+        Ok(())
+    }
+
+    /// Whether this is one of them.
+    pub fn contains(&self, name: &[u8]) -> bool
+        ensures { (ns : List (List ℕ)) → Holds self.now ns → result ≡ is_among name.now ns }
+    {
+        self.names.contains(name)
+    }
+}
