@@ -10,7 +10,7 @@ use Rattle.text_definitions.specs.Declarations.{Declarations}
 use Rattle.text_definitions.specs.Faults.{is_among, is_name_use}
 use Rattle.text_definitions.specs.Uses.{type_uses, args_uses}
 use Rattle.type_reader.specs.Cells.{Cell, named_cell, array_cell, type_onto, args_onto}
-use Rattle.name_resolution.specs.declared.used.UsedNames.{UsedNames}
+use Rattle.name_resolution.specs.declared.name_set.NameSet.{NameSet}
 
 abbrev pub name_of : Cell → List (List ℕ)
 name_of (named_cell n start) = n ∷ []
@@ -23,7 +23,7 @@ names_with [] ns = ns
 names_with (c ∷ cs) ns = names_with cs (name_of c ++ ns)
 
 -- the set holds these names and no other
-abbrev pub Holds : UsedNames → List (List ℕ) → Type 0
+abbrev pub Holds : NameSet → List (List ℕ) → Type 0
 Holds u ns = (n : Bor (List ℕ)) → contains (λ a b. bytes_eq a.now b.now) u.names n ≡ is_among n.now ns
 
 -- The names in the cells of a type are those that it uses where a type or a const has to stand.

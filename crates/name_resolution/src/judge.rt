@@ -1,5 +1,5 @@
 //! What is wrong with one use.
-ghost use Rattle.std.specs.Prelude.{◌≡◌, ℕ, ◌+◌, ◌-◌, ◌*◌, ◌^◌, ◌≤◌, [], ◌∷◌, false, map, not, nat_le, MatchOption};
+ghost use Rattle.std.specs.Prelude.{◌≡◌, ℕ, ◌+◌, ◌-◌, ◌*◌, ◌^◌, ◌≤◌, [], ◌∷◌, false, map, not, nat_le, IfOk, MatchOption};
 ghost use Rattle.std.specs.List.{list_any};
 ghost use Rattle.std.specs.Option.{option_map, option_map_or, option_and_then};
 ghost use Rattle.model.specs.Label as label;
@@ -18,8 +18,10 @@ ghost use Rattle.name_resolution.specs.Machine.{Sight, findings, items, params, 
 
 use crate::binders::{Binders, place_in};
 use crate::findings::Findings;
+use crate::name_set::NameSet;
 use crate::names::{Known, Names, Sort};
 use crate::resolved::Region;
+use std::alloc::{AllocError, Global};
 use type_reader::Length;
 
 /// Bytes that a name may have.
@@ -414,15 +416,20 @@ pub(crate) fn length<N: Names>(names: &N, length: Length<'_>) -> Findings
 }
 
 /// Whether a name comes again.
-fn repeats(names: &[&[u8]]) -> bool
-    ensures { result ≡ repeats (map text_of names.now) }
+fn repeats(alloc: Global, names: &[&[u8]]) -> Result<bool, AllocError>
+    ensures { IfOk result (λ b. b ≡ repeats (map text_of names.now)) }
 {
-    for (i, name) in names.iter().enumerate() {
-        if let Some(_) = place_in(&names[i + 1..], name) {
-            return true;
+    let mut behind = NameSet::new(alloc);
+    let mut at = names.len();
+    while at > 0 {
+        at -= 1;
+        let name = names[at];
+        if behind.contains(name) {
+            return Ok(true);
         }
+        behind.insert(name)?;
     }
-    false
+    Ok(false)
 }
 
 /// Whether `'static` is among the names.
@@ -474,12 +481,18 @@ fn hides_others<N: Names>(names: &N, binders: &Binders<'_>, bound: &[&[u8]]) -> 
 
 /// A binder of these lifetimes, under those that are around.
 #[tactic(auto, using(crate::proofs::Judged::one_binder))]
-pub(crate) fn binder<N: Names>(names: &N, binders: &Binders<'_>, bound: &[&[u8]]) -> Findings
-    ensures { result ≡ findings (N.sight names.now) (binder_uses binders.now (map text_of bound.now)) }
+pub(crate) fn binder<N: Names>(
+    names: &N,
+    alloc: Global,
+    binders: &Binders<'_>,
+    bound: &[&[u8]],
+) -> Result<Findings, AllocError>
+    ensures { IfOk result (λ f. f ≡ findings (N.sight names.now) (binder_uses binders.now (map text_of bound.now))) }
 {
-    Findings {
-        takes_names: repeats(bound) || has_static(bound) || hides_others(names, binders, bound),
+    let is_repeated = repeats(alloc, bound)?;
+    Ok(Findings {
+        takes_names: is_repeated || has_static(bound) || hides_others(names, binders, bound),
         passes_limit: has_long(bound),
         ..Findings::NONE
-    }
+    })
 }

@@ -6,13 +6,13 @@ mod findings;
 mod found;
 mod heads;
 mod judge;
+mod name_set;
 mod names;
 mod resolve;
 mod resolved;
 mod rest;
 mod shapes;
 mod turn;
-mod used;
 mod walk;
 
 ghost use Rattle.name_resolution.specs.Standing.{CellsStand};
@@ -20,10 +20,10 @@ ghost use Rattle.name_resolution.specs.UsedNames.{TypesUseNames, ArgsUseNames};
 ghost use Rattle.name_resolution.specs.Laws.{MachineResolves, ArgsResolved, TypesTurned, ArgsTurned};
 
 pub use findings::Findings;
+pub use name_set::NameSet;
 pub use names::{Known, Names, Sort};
 pub use resolve::{Resolved, ResolvedBound, resolve_bound, resolve_type};
 pub use resolved::{NodeLabel, Region, ResolvedCell, Variable};
-pub use used::UsedNames;
 
 /// The resolved cells of a type stand for the type's tree.
 pub fn cells_stand()

@@ -322,7 +322,7 @@ impl<'n, 'c, 'a> Walk<'n, 'c, 'a> {
         let bound = self.rest.names_between(alloc, start, inner)?;
         let count = self.rest.count_above(inner);
         let inputs = count.saturating_sub(1);
-        let taken = judge::binder(names, &self.binders, &bound);
+        let taken = judge::binder(names, alloc, &self.binders, &bound)?;
         let own = taken.either(judge::items(inputs));
         let faults = judge::misfits(place.sort).either(own);
         let label = NodeLabel::Fn(bound.len());
@@ -348,7 +348,7 @@ impl<'n, 'c, 'a> Walk<'n, 'c, 'a> {
     {
         let bound = self.rest.names_between(alloc, start, inner)?;
         let count = self.rest.count_above(inner);
-        let taken = judge::binder(names, &self.binders, &bound);
+        let taken = judge::binder(names, alloc, &self.binders, &bound)?;
         let own = taken.either(judge::items(count));
         let faults = judge::misfits(place.sort).either(own);
         let label = NodeLabel::Fn(bound.len());
@@ -394,7 +394,7 @@ impl<'n, 'c, 'a> Walk<'n, 'c, 'a> {
         let bound = self.rest.names_between(alloc, start, inner)?;
         let count = self.rest.count_above(inner);
         let meaning = names.known(name);
-        let taken = judge::binder(names, &self.binders, &bound);
+        let taken = judge::binder(names, alloc, &self.binders, &bound)?;
         let faults = taken.either(judge::bound(names, name, count, meaning));
         let is_kept = is_kept_but(outer.is_kept, heads::is_auto(names, name, meaning));
         let label = NodeLabel::Principal {

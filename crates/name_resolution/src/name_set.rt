@@ -1,4 +1,4 @@
-//! The names that a header uses, for the parameters that have to be among them.
+//! Sets of names.
 ghost use Rattle.std.specs.Prelude.{◌≡◌, ℕ, List, [], ◌∷◌, ◌++◌, OnOk};
 ghost use Rattle.text_definitions.specs.Faults.{is_among};
 ghost use Rattle.type_reader.specs.Views.{cell_of, cells_in};
@@ -8,23 +8,24 @@ use std::alloc::{AllocError, Global};
 use std::collections::HashSet;
 use type_reader::{Cell, Length};
 
-/// Names that stand where a type or a const has to stand, in types that were read.
+/// A set of names.
 #[derive(Drop)]
-pub struct UsedNames<'a> {
+pub struct NameSet<'a> {
     names: HashSet<&'a [u8]>,
 }
 
-impl<'a> UsedNames<'a> {
+impl<'a> NameSet<'a> {
     /// There is none.
     pub fn new(alloc: Global) -> Self
         ensures { Holds result [] }
     {
-        UsedNames {
+        NameSet {
             names: HashSet::new(alloc),
         }
     }
 
-    fn insert(&mut self, name: &'a [u8]) -> Result<(), AllocError>
+    /// This name too.
+    pub(crate) fn insert(&mut self, name: &'a [u8]) -> Result<(), AllocError>
         ensures { OnOk result ((ns : List (List ℕ)) → Holds self.old ns → Holds self.new (name.now ∷ ns)) }
     {
         let _ = self.names.insert(name)?;
@@ -41,10 +42,11 @@ impl<'a> UsedNames<'a> {
         }
     }
 
-    /// Those in these cells too. The cells of a bound are those of its arguments: its own name is a trait's.
+    /// The names too that stand in these cells where a type or a const has to stand. The cells of a bound are those of its arguments:
+    /// its own name is a trait's.
     ///
     /// The error says that a request for memory was refused; then only some of them were added.
-    pub fn add(&mut self, cells: &[Cell<'a>]) -> Result<(), AllocError>
+    pub fn add_used(&mut self, cells: &[Cell<'a>]) -> Result<(), AllocError>
         ensures { OnOk result ((ns : List (List ℕ)) → Holds self.old ns → Holds self.new (names_with (cells_in cells.now) ns)) }
     {
         for cell in cells {

@@ -2,7 +2,7 @@ use Rattle.std.proofs.Common.{take, sym, subst}
 use Rattle.type_reader.specs.Views.{cells_in}
 use Rattle.name_resolution.specs.UsedNames.{Holds, names_with}
 use Rattle.name_resolution.proofs.UsedLaws.{names-step}
-use Rattle.name_resolution.proofs.used.UsedNames.add.Goals as goal
+use Rattle.name_resolution.proofs.name_set.NameSet.add_used.Goals as goal
 
 pub loop-cell-preserved : goal.loop-cell-preserved
 loop-cell-preserved c ns h =
