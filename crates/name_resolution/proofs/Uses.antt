@@ -76,7 +76,7 @@ either-none v x =
     (ap (λ b. b || x.uses_own) (option-none (declared_name v.line) is_use_of)) refl refl
 
 -- ---- uses
-variables-append : (xs ys : List Use) → variables_in (xs ++ ys) ≡ variables_in xs ++ variables_in ys
+pub variables-append : (xs ys : List Use) → variables_in (xs ++ ys) ≡ variables_in xs ++ variables_in ys
 variables-append [] ys = refl
 variables-append (variable_use p n ∷ xs) ys = ap (λ vs. (n, p) ∷ vs) (variables-append xs ys)
 variables-append (crate_use n ∷ xs) ys = variables-append xs ys

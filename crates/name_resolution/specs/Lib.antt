@@ -10,4 +10,5 @@ pub mod Steps
 pub mod Shapes
 pub mod Resolving
 pub mod UsedNames
+pub mod Together
 pub mod WalkViews

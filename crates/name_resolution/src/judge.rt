@@ -6,8 +6,8 @@ ghost use Rattle.model.specs.Label as label;
 ghost use Rattle.line_tokens.specs.Views.{text_of};
 ghost use Rattle.type_reader.specs.Views.{length_of};
 ghost use Rattle.text_definitions.specs.Tokens.{number_from};
-ghost use Rattle.text_definitions.specs.Uses.{name_use, trait_use, lifetime_use, lifetime_uses, variable_use, misfit_use, items_use, number_use, number_arg_uses, length_uses, binder_uses};
-ghost use Rattle.text_definitions.specs.Faults.{is_unknown_use, is_other_sort, is_param, home_of, is_known_name, is_hidden_name, looking_crate, is_param_of, is_type_of, is_trait_of, is_in_scope, is_among, repeats, is_long, static_name};
+ghost use Rattle.text_definitions.specs.Uses.{crate_use, name_use, trait_use, lifetime_use, lifetime_uses, variable_use, misfit_use, items_use, number_use, number_arg_uses, length_uses, binder_uses};
+ghost use Rattle.text_definitions.specs.Faults.{is_crate, is_unknown_use, is_other_sort, is_param, home_of, is_known_name, is_hidden_name, looking_crate, is_param_of, is_type_of, is_trait_of, is_in_scope, is_among, repeats, is_long, static_name};
 ghost use Rattle.text_definitions.specs.Declarations.{Known, known};
 ghost use Rattle.name_resolution.specs.Sorts.{known_of};
 ghost use Rattle.name_resolution.specs.LookUps.{is_hidden_home};
@@ -356,6 +356,30 @@ pub(crate) fn bound<N: Names>(
         uses_hidden: is_hidden_known(names, name, meaning),
         uses_other_sort: is_other_trait(names, name, count, meaning),
         uses_own: names.is_own(name),
+        ..Findings::NONE
+    }
+}
+
+/// Whether this is a crate.
+fn is_crate(meaning: Option<Known<'_>>) -> bool
+    ensures { result ≡ option_map_or is_crate (option_map known_of meaning.entry) false }
+{
+    match meaning {
+        Some(Known::Crate { .. }) => true,
+        _ => false,
+    }
+}
+
+/// What is wrong with the name of a crate, on a line that declares no struct and no trait.
+#[tactic(auto, using(crate::proofs::Judged::one_crate))]
+pub fn crate_name<N: Names>(names: &N, name: &[u8]) -> Findings
+    requires { items (N.sight names.now) ≡ (N.sight names.now).before }
+    ensures { result ≡ findings (N.sight names.now) (crate_use name.now ∷ []) }
+{
+    let meaning = names.known(name);
+    Findings {
+        uses_unknown: is_unknown(names, name, meaning),
+        uses_other_sort: !is_crate(meaning),
         ..Findings::NONE
     }
 }
