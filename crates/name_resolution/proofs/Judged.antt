@@ -8,7 +8,7 @@ use Rattle.model.specs.Worlds.{sees}
 use Rattle.std.specs.Str.{bytes_eq}
 use Rattle.text_definitions.specs.Syntax.{Params, Line}
 use Rattle.text_definitions.specs.Declarations.{Known, known, world_of}
-use Rattle.text_definitions.specs.Uses.{Use, name_use, trait_use, lifetime_use, variable_use, misfit_use, items_use, number_use, binder_use, binder_uses, declared_name, params_of}
+use Rattle.text_definitions.specs.Uses.{Use, crate_use, name_use, trait_use, lifetime_use, variable_use, misfit_use, items_use, number_use, binder_use, binder_uses, declared_name, params_of}
 use Rattle.text_definitions.specs.Faults.{is_among, is_taken_binder, is_unknown_use, is_hidden_use, looking_crate, is_other_sort, is_use_of, is_bad_dyn, passes_in, static_name, is_param, is_hidden_name, is_known_name, home_of, is_param_of, is_type_of, is_trait_of, repeats, is_long, is_in_scope}
 use Rattle.text_definitions.specs.Lowering.{place_among}
 use Rattle.name_resolution.specs.declared.findings.Findings.{Findings}
@@ -29,7 +29,7 @@ option-or : {A : Type 0} (o : Option A) (p : A → Bool) → option_map_or (λ c
 option-or None p = refl
 option-or (Some c) p = or-false (p c)
 
-abbrev made : Bool → Bool → Bool → Bool → Bool → Bool → Bool → Findings
+abbrev pub made : Bool → Bool → Bool → Bool → Bool → Bool → Bool → Findings
 made a b c d e f g = record { takes_names = a; uses_unknown = b; uses_hidden = c; uses_other_sort = d; uses_own = e; has_bad_dyn = f; passes_limit = g }
 
 -- the findings of one use, test by test
@@ -56,6 +56,10 @@ no-uses v = ap (λ z. made false false z false false false false) (no-look v) �
 
 pub one-misfit : (v : Sight) → made false false false true false false false ≡ findings v (misfit_use ∷ [])
 one-misfit v = one-use v misfit_use false false false true false false false refl refl (no-look v) refl (no-own v) refl refl
+
+-- the name of a crate
+pub one_crate : (v : Sight) (n : List ℕ) (b d : Bool) → b ≡ is_unknown_use v.before v.line (crate_use n) → d ≡ is_other_sort v.before v.line (crate_use n) → made false b false d false false false ≡ findings v (crate_use n ∷ [])
+one_crate v n b d hb hd = one-use v (crate_use n) false b false d false false false refl hb (no-look v) hd (no-own v) refl refl
 
 -- ---- places
 pub among-place : (k : ℕ) (n : List ℕ) (ns : List (List ℕ)) → is_some (position_from (λ m. bytes_eq m n) k ns) ≡ is_among n ns

@@ -11,3 +11,7 @@ pub mod Judged
 pub mod Walking
 pub mod Numbers
 pub mod Meanings
+pub mod Weights
+pub mod Summed
+pub mod Resolving
+pub mod UsedLaws

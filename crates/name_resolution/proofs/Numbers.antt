@@ -1,14 +1,11 @@
 -- Numbers by their digits, and names one by one.
-use Rattle.std.proofs.Common.{rules, ◌≡◌, ℕ, zero, suc, ◌+◌, ◌-◌, ◌*◌, ◌<◌, ◌≤◌, true, false, List, [], ◌∷◌, Option, map, take, drop, length, get_or, refl, sym, ap, ◌∙◌, arith}
-use Rattle.std.specs.Prelude.{◌||◌, is_some, nat_le}
+use Rattle.std.proofs.Common.{rules, Bool, drop-cons, ◌≡◌, ℕ, zero, suc, ◌+◌, ◌-◌, ◌*◌, ◌<◌, ◌≤◌, true, false, List, [], ◌∷◌, map, drop, length, get_or, refl, sym, ap, ◌∙◌, arith}
+use Rattle.std.specs.Prelude.{◌||◌, nat_le}
 use Rattle.std.specs.Borrow.{Bor}
-use Rattle.std.proofs.lemmas.List.{length-drop}
 use Rattle.std.proofs.lemmas.Bool.Decides.{nat_tests}
 use Rattle.line_tokens.specs.Views.{text_of}
 use Rattle.text_definitions.specs.Tokens.{number_from}
 use Rattle.text_definitions.specs.Faults.{is_among, repeats}
-use Rattle.name_resolution.specs.LookUps.{place_in}
-use Rattle.name_resolution.proofs.Judged.{among-place}
 
 pub number-grows : (n : ℕ) (ds : List ℕ) → n ≤ number_from n ds
 number-grows n [] = omega arith
@@ -42,31 +39,25 @@ small-now m v i ds h k e =
     search (rules, nat_tests)
 
 -- ---- names that come again
-pub repeats-step : (ns : List (Bor (List ℕ))) (i : ℕ) (d : Bor (List ℕ)) → i < length ns
-    → repeats (map text_of (drop i ns)) ≡ is_among (get_or ns i d).now (map text_of (drop (i + 1) ns)) || repeats (map text_of (drop (i + 1) ns))
-repeats-step [] i d h = absurd (omega arith)
-repeats-step (x ∷ ns) zero d h = refl
-repeats-step (x ∷ ns) (suc i) d h =
-    let k : i < length ns = omega arith in
-    let e : suc i + 1 ≡ suc (i + 1) = omega arith in
-    repeats-step ns i d k ∙ ap (λ m. is_among (get_or ns i d).now (map text_of (drop m (x ∷ ns))) || repeats (map text_of (drop m (x ∷ ns)))) (sym e)
+repeats-behind : (ns : List (Bor (List ℕ))) (i : ℕ) → repeats (map text_of (drop i ns)) ≡ true → repeats (map text_of ns) ≡ true
+repeats-behind ns zero h = h
+repeats-behind [] (suc i) h = h
+repeats-behind (x ∷ ns) (suc i) h = ap (λ b. is_among x.now (map text_of ns) || b) (repeats-behind ns i h) ∙ or-true (is_among x.now (map text_of ns))
+  where
+    or-true : (b : Bool) → b || true ≡ true
+    or-true true = refl
+    or-true false = refl
 
-pub repeats-end : (ns : List (Bor (List ℕ))) (i : ℕ) → i ≡ length ns → repeats (map text_of (drop i ns)) ≡ false
-repeats-end [] zero h = refl
-repeats-end [] (suc i) h = refl
-repeats-end (x ∷ ns) zero h = absurd cc
-repeats-end (x ∷ ns) (suc i) h = let k : i ≡ length ns = omega arith in repeats-end ns i k
+-- a name before those from a place on
+pub one-before : (ns : List (Bor (List ℕ))) (at : ℕ) (d : Bor (List ℕ)) → 0 < at → at ≤ length ns → map text_of (drop (at - 1) ns) ≡ (get_or ns (at - 1) d).now ∷ map text_of (drop at ns)
+one-before ns at d h k =
+    let l : at - 1 < length ns = omega arith in
+    let e : suc (at - 1) ≡ at = omega arith in
+    ap (map text_of) (drop-cons ns (at - 1) d l) ∙ ap (λ j. (get_or ns (at - 1) d).now ∷ map text_of (drop j ns)) e
 
-take-whole : {A : Type 0} (n : ℕ) (l : List A) → n ≡ length l → take n l ≡ l
-take-whole zero [] h = refl
-take-whole zero (x ∷ l) h = absurd cc
-take-whole (suc n) [] h = absurd cc
-take-whole (suc n) (x ∷ l) h = let k : n ≡ length l = omega arith in ap (λ t. x ∷ t) (take-whole n l k)
+pub repeats-found : (ns : List (Bor (List ℕ))) (at : ℕ) (d : Bor (List ℕ)) → 0 < at → at ≤ length ns → is_among (get_or ns (at - 1) d).now (map text_of (drop at ns)) ≡ true → true ≡ repeats (map text_of ns)
+repeats-found ns at d h k e = sym (repeats-behind ns (at - 1) (ap repeats (one-before ns at d h k) ∙ ap (λ b. b || repeats (map text_of (drop at ns))) e))
 
--- a name is looked for behind its place
-again : (ns : List (Bor (List ℕ))) (n : List ℕ) (k : ℕ) (o : Option ℕ) → o ≡ place_in n (map text_of (take (length ns - k) (drop k ns))) → is_some o ≡ is_among n (map text_of (drop k ns))
-again ns n k o e = ap is_some e ∙ ap (λ l. is_some (place_in n (map text_of l))) (take-whole (length ns - k) (drop k ns) (sym (length-drop k ns))) ∙ among-place 0 n (map text_of (drop k ns))
-
-pub repeats-by : (ns : List (Bor (List ℕ))) (i : ℕ) (d : Bor (List ℕ)) (o : Option ℕ) → i < length ns → o ≡ place_in (get_or ns i d).now (map text_of (take (length ns - (i + 1)) (drop (i + 1) ns)))
-    → repeats (map text_of (drop i ns)) ≡ repeats (map text_of ns) → is_some o || repeats (map text_of (drop (i + 1) ns)) ≡ repeats (map text_of ns)
-repeats-by ns i d o h e f = ap (λ b. b || repeats (map text_of (drop (i + 1) ns))) (again ns (get_or ns i d).now (i + 1) o e) ∙ sym (repeats-step ns i d h) ∙ f
+pub repeats-none : (ns : List (Bor (List ℕ))) (at : ℕ) (d : Bor (List ℕ)) → 0 < at → at ≤ length ns → is_among (get_or ns (at - 1) d).now (map text_of (drop at ns)) ≡ false → repeats (map text_of (drop at ns)) ≡ false
+    → repeats (map text_of (drop (at - 1) ns)) ≡ false
+repeats-none ns at d h k e f = ap repeats (one-before ns at d h k) ∙ ap (λ b. b || repeats (map text_of (drop at ns))) e ∙ f

@@ -77,3 +77,11 @@ counted-all start self rest count h k = sym k.many ∙ ap length (sym (parts-non
 pub part-taken : (r : Option code.Cell) (old mid new : List Cell) (start : ℕ) → MatchOption r (old ≡ []) (λ c. old ≡ cell_of c ∷ mid) → start ≡ begins old → new ≡ down_to start mid → TakesPart r old new
 part-taken None old mid new start h e f = h
 part-taken (Some c) old mid new start h e f = (mid, h, f ∙ ap (λ k. down_to k mid) e)
+
+-- the parts stay the same
+pub later-more : (start : ℕ) (c : code.Cell) (old new later whole : List Cell) → TakesPart (Some c) old new → start < length old → parts start (length old) old later ≡ whole → parts start (length new) new (cell_of c ∷ later) ≡ whole
+later-more start c old new later whole (body, e, f) h k =
+    let l : length old ≡ suc (length body) = ap length e in
+    let m : start < suc (length body) = omega arith in
+    let g : new ≡ down_to (begins (cell_of c ∷ body)) body = f ∙ ap (λ x. down_to (begins x) body) e in
+    ap (λ x. parts start (length x) x (cell_of c ∷ later)) g ∙ sym (part-step start (cell_of c) body later m) ∙ sym (ap (λ x. parts start (length x) x later) e) ∙ k

@@ -1,6 +1,6 @@
 -- Vectors as stacks, and the cells before a place.
-use Rattle.std.proofs.Common.{◌≡◌, ℕ, zero, suc, ◌+◌, ◌-◌, ◌<◌, ◌≤◌, Bool, true, List, [], ◌∷◌, ◌++◌, map, length, get_or, take, drop, reverse, refl, sym, ap, ◌∙◌, arith, length-append}
-use Rattle.std.proofs.lemmas.List.{reverse-append, length-reverse, take-append-drop}
+use Rattle.std.proofs.Common.{◌≡◌, ℕ, zero, suc, ◌+◌, ◌-◌, ◌<◌, ◌≤◌, Bool, true, List, [], ◌∷◌, ◌++◌, map, length, get_or, take, drop, reverse, refl, sym, ap, ◌∙◌, arith, length-append, append_assoc}
+use Rattle.std.proofs.lemmas.List.{append-nil, map-append, reverse-append, length-reverse, take-append-drop}
 use Rattle.std.proofs.Math.Seq.{drop-append_seam, take-suc}
 use Rattle.model.specs.Label.{Sort}
 use Rattle.type_reader.specs.Views.{cell_of, cells_in}
@@ -38,12 +38,12 @@ found-variable f xs ys d cs x now e h =
     ap (λ zs. view (variables_onto zs [])) e ∙ ap view (variables-push xs x []) ∙ ap more h
 
 -- ---- the cells before a place
-get-map : (cs : List Cell) (k : ℕ) (d : Cell) → get_or (map cell_of cs) k (cell_of d) ≡ cell_of (get_or cs k d)
+pub get-map : (cs : List Cell) (k : ℕ) (d : Cell) → get_or (map cell_of cs) k (cell_of d) ≡ cell_of (get_or cs k d)
 get-map [] k d = refl
 get-map (c ∷ cs) zero d = refl
 get-map (c ∷ cs) (suc k) d = get-map cs k d
 
-length-cells : (cs : List Cell) → length (cells_in cs) ≡ length cs
+pub length-cells : (cs : List Cell) → length (cells_in cs) ≡ length cs
 length-cells [] = refl
 length-cells (c ∷ cs) = ap suc (length-cells cs)
 
@@ -91,3 +91,25 @@ cells-down cs start at h k =
   where
     le : (a b c : ℕ) → a ≤ b → b ≤ c → a ≤ c
     le a b c h k = omega arith
+
+-- ---- turned round
+one-last : {A : Type 0} (x : A) (xs : List A) → reverse (x ∷ xs) ≡ reverse xs ++ x ∷ []
+one-last x xs = reverse-append (x ∷ []) xs
+
+variables-onto : (xs : List Variable) (vs : List (List ℕ × Sort)) → variables_onto xs vs ≡ map variable_in (reverse xs) ++ vs
+variables-onto [] vs = refl
+variables-onto (x ∷ xs) vs =
+    variables-onto xs (variable_in x ∷ vs) ∙ sym (append_assoc (map variable_in (reverse xs)) (variable_in x ∷ []) vs)
+    ∙ ap (λ ys. ys ++ vs) (sym (map-append variable_in (reverse xs) (x ∷ []))) ∙ ap (λ ys. map variable_in ys ++ vs) (sym (one-last x xs))
+
+cells-onto : (xs : List ResolvedCell) (cs : List resolved.ResolvedCell) → resolved_onto xs cs ≡ map resolved_in (reverse xs) ++ cs
+cells-onto [] cs = refl
+cells-onto (x ∷ xs) cs =
+    cells-onto xs (resolved_in x ∷ cs) ∙ sym (append_assoc (map resolved_in (reverse xs)) (resolved_in x ∷ []) cs)
+    ∙ ap (λ ys. ys ++ cs) (sym (map-append resolved_in (reverse xs) (x ∷ []))) ∙ ap (λ ys. map resolved_in ys ++ cs) (sym (one-last x xs))
+
+pub variables-turned : (xs : List Variable) → map variable_in (reverse xs) ≡ variables_onto xs []
+variables-turned xs = sym (variables-onto xs [] ∙ append-nil (map variable_in (reverse xs)))
+
+pub cells-turned : (xs : List ResolvedCell) → map resolved_in (reverse xs) ≡ resolved_onto xs []
+cells-turned xs = sym (cells-onto xs [] ∙ append-nil (map resolved_in (reverse xs)))

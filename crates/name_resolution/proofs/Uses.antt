@@ -65,13 +65,18 @@ either-comm x y =
     findings-are (either x y) (either y x) (or-comm x.takes_names y.takes_names) (or-comm x.uses_unknown y.uses_unknown) (or-comm x.uses_hidden y.uses_hidden)
     (or-comm x.uses_other_sort y.uses_other_sort) (or-comm x.uses_own y.uses_own) (or-comm x.has_bad_dyn y.has_bad_dyn) (or-comm x.passes_limit y.passes_limit)
 
+pub either-nothing : (x : Findings) → either x (all-of false false false false false false false) ≡ x
+either-nothing x =
+    findings-are (either x (all-of false false false false false false false)) x (or-comm x.takes_names false) (or-comm x.uses_unknown false) (or-comm x.uses_hidden false) (or-comm x.uses_other_sort false)
+    (or-comm x.uses_own false) (or-comm x.has_bad_dyn false) (or-comm x.passes_limit false)
+
 either-none : (v : Sight) (x : Findings) → either (findings v []) x ≡ x
 either-none v x =
     findings-are (either (findings v []) x) x refl refl (ap (λ b. b || x.uses_hidden) (option-none (looking_crate v.before v.line) (is_hidden_use v.before v.line))) refl
     (ap (λ b. b || x.uses_own) (option-none (declared_name v.line) is_use_of)) refl refl
 
 -- ---- uses
-variables-append : (xs ys : List Use) → variables_in (xs ++ ys) ≡ variables_in xs ++ variables_in ys
+pub variables-append : (xs ys : List Use) → variables_in (xs ++ ys) ≡ variables_in xs ++ variables_in ys
 variables-append [] ys = refl
 variables-append (variable_use p n ∷ xs) ys = ap (λ vs. (n, p) ∷ vs) (variables-append xs ys)
 variables-append (crate_use n ∷ xs) ys = variables-append xs ys

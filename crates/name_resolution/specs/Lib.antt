@@ -7,4 +7,8 @@ pub mod Sorts
 pub mod Views
 pub mod Laws
 pub mod Steps
+pub mod Shapes
+pub mod Resolving
+pub mod UsedNames
+pub mod Together
 pub mod WalkViews

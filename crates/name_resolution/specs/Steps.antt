@@ -1,5 +1,6 @@
 -- What the methods did.
-use Rattle.std.specs.Prelude.{◌≡◌, List, [], ◌∷◌, Option, Some, None}
+use Rattle.std.specs.Prelude.{◌≡◌, ℕ, List, [], ◌∷◌, Option, Some, None}
+use Rattle.std.specs.Borrow.{Bor}
 use Rattle.type_reader.specs.Cells as cell
 use Rattle.type_reader.specs.Views.{cell_of}
 use Rattle.type_reader.specs.declared.cell.Cell.{Cell}
@@ -9,3 +10,8 @@ use Rattle.name_resolution.specs.Back.{begins, down_to}
 abbrev pub TakesPart : Option Cell → List cell.Cell → List cell.Cell → Type 0
 TakesPart None old new = old ≡ []
 TakesPart (Some c) old new = (body : List cell.Cell) × (old ≡ cell_of c ∷ body) × (new ≡ down_to (begins old) body)
+
+-- a name was taken, or none stands last
+abbrev pub TakesNamed : Option (Bor (List ℕ) × ℕ) → List cell.Cell → List cell.Cell → Type 0
+TakesNamed None old new = (n : List ℕ) (start : ℕ) (body : List cell.Cell) → old ≡ cell.named_cell n start ∷ body → ⊥
+TakesNamed (Some (n, start)) old new = old ≡ cell.named_cell n.now start ∷ new

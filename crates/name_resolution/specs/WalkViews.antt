@@ -1,9 +1,9 @@
 -- What the walk over the cells stands for, and what its methods did.
-use Rattle.std.specs.Prelude.{◌≡◌, ℕ, List, [], ◌∷◌, Result, Ok, Err}
+use Rattle.std.specs.Prelude.{◌≡◌, ℕ, Bool, true, false, List, [], ◌∷◌, Result, Ok, Err}
 use Rattle.std.specs.declared.alloc.AllocError.{AllocError}
 use Rattle.name_resolution.specs.Sorts.{sort_of, sorts_of}
 use Rattle.name_resolution.specs.Machine as machine
-use Rattle.name_resolution.specs.Machine.{State, visiting, going, Found}
+use Rattle.name_resolution.specs.Machine.{Sight, State, visiting, going, finished, Found, Reaches}
 use Rattle.type_reader.specs.Cells.{Cell}
 use Rattle.name_resolution.specs.declared.walk.Place.{Place}
 use Rattle.name_resolution.specs.declared.walk.Inside.{Inside}
@@ -36,8 +36,23 @@ frames_in fs = frames_onto fs []
 abbrev pub state_in : Next → Walk → State
 state_in (nexts.Visiting p) w = visiting (place_of p) (frames_in w.frames.items) w.binders w.rest w.found
 state_in nexts.Going w = going (frames_in w.frames.items) w.binders w.rest w.found
+state_in nexts.Finished w = finished w.rest w.found
 
--- The method did this step of the machine; if memory ran out nothing is said.
+-- What was returned, with the walk as it was left, is this state; if memory ran out nothing is said.
+abbrev pub Comes : Result Next AllocError → State → Walk → Type 0
+Comes (Ok n) x w = x ≡ state_in n w
+Comes (Err e) x w = Unit {0}
+
+-- The method did this step of the machine.
 abbrev pub Steps : Result Next AllocError → (List machine.Frame → List (List (List ℕ)) → List Cell → Found → State) → Walk → Walk → Type 0
-Steps (Ok n) f old new = f (frames_in old.frames.items) old.binders old.rest old.found ≡ state_in n new
-Steps (Err e) f old new = Unit {0}
+Steps result f old new = Comes result (f (frames_in old.frames.items) old.binders old.rest old.found) new
+
+-- nothing is to come
+abbrev pub is_finished : Next → Bool
+is_finished nexts.Finished = true
+is_finished _ = false
+
+-- The walk went from this state to the end.
+abbrev pub Ends : Result (Unit {0}) AllocError → Sight → State → Walk → Type 0
+Ends (Ok u) v x w = Reaches v x (finished w.rest w.found)
+Ends (Err e) v x w = Unit {0}

@@ -8,6 +8,7 @@ ghost use Rattle.name_resolution.specs.Views.{resolved_in};
 
 use crate::findings::Findings;
 use crate::names::Sort;
+use crate::resolve::Resolved;
 use crate::resolved::{ResolvedCell, Variable};
 use crate::walk::Place;
 use std::alloc::{AllocError, Global};
@@ -34,8 +35,41 @@ impl<'a> Model for Found<'a> {
 }
 
 impl<'a> Found<'a> {
+    ghost use Rattle.name_resolution.specs.Resolving.{found_in, nothing_found};
     ghost use Rattle.name_resolution.specs.Machine.{keeping, deepening, noting};
     ghost use Rattle.name_resolution.specs.Views.{resolved_in};
+
+    /// Nothing yet.
+    pub fn new(alloc: Global) -> Self
+        ensures { result ≡ nothing_found }
+    {
+        Found {
+            faults: Findings::NONE,
+            variables: Vec::new(alloc),
+            is_deep: false,
+            cells: Vec::new(alloc),
+        }
+    }
+
+    /// All of it in the order of the text.
+    pub fn finish(self) -> Resolved<'a>
+        ensures { found_in result ≡ self.entry }
+    {
+        let Found {
+            faults,
+            mut variables,
+            is_deep,
+            mut cells,
+        } = self;
+        variables.reverse();
+        cells.reverse();
+        Resolved {
+            faults,
+            variables,
+            is_deep,
+            cells,
+        }
+    }
 
     /// Something more is wrong.
     pub fn note(&mut self, faults: Findings)

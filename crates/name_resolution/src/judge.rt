@@ -1,13 +1,13 @@
 //! What is wrong with one use.
-ghost use Rattle.std.specs.Prelude.{◌≡◌, ℕ, ◌+◌, ◌-◌, ◌*◌, ◌^◌, ◌≤◌, [], ◌∷◌, false, map, not, nat_le, MatchOption};
+ghost use Rattle.std.specs.Prelude.{◌≡◌, ℕ, ◌+◌, ◌-◌, ◌*◌, ◌^◌, ◌≤◌, [], ◌∷◌, false, map, not, nat_le, IfOk, MatchOption};
 ghost use Rattle.std.specs.List.{list_any};
 ghost use Rattle.std.specs.Option.{option_map, option_map_or, option_and_then};
 ghost use Rattle.model.specs.Label as label;
 ghost use Rattle.line_tokens.specs.Views.{text_of};
 ghost use Rattle.type_reader.specs.Views.{length_of};
 ghost use Rattle.text_definitions.specs.Tokens.{number_from};
-ghost use Rattle.text_definitions.specs.Uses.{name_use, trait_use, lifetime_use, lifetime_uses, variable_use, misfit_use, items_use, number_use, number_arg_uses, length_uses, binder_uses};
-ghost use Rattle.text_definitions.specs.Faults.{is_unknown_use, is_other_sort, is_param, home_of, is_known_name, is_hidden_name, looking_crate, is_param_of, is_type_of, is_trait_of, is_in_scope, is_among, repeats, is_long, static_name};
+ghost use Rattle.text_definitions.specs.Uses.{crate_use, name_use, trait_use, lifetime_use, lifetime_uses, variable_use, misfit_use, items_use, number_use, number_arg_uses, length_uses, binder_uses};
+ghost use Rattle.text_definitions.specs.Faults.{is_crate, is_unknown_use, is_other_sort, is_param, home_of, is_known_name, is_hidden_name, looking_crate, is_param_of, is_type_of, is_trait_of, is_in_scope, is_among, repeats, is_long, static_name};
 ghost use Rattle.text_definitions.specs.Declarations.{Known, known};
 ghost use Rattle.name_resolution.specs.Sorts.{known_of};
 ghost use Rattle.name_resolution.specs.LookUps.{is_hidden_home};
@@ -18,8 +18,10 @@ ghost use Rattle.name_resolution.specs.Machine.{Sight, findings, items, params, 
 
 use crate::binders::{Binders, place_in};
 use crate::findings::Findings;
+use crate::name_set::NameSet;
 use crate::names::{Known, Names, Sort};
 use crate::resolved::Region;
+use std::alloc::{AllocError, Global};
 use type_reader::Length;
 
 /// Bytes that a name may have.
@@ -358,6 +360,30 @@ pub(crate) fn bound<N: Names>(
     }
 }
 
+/// Whether this is a crate.
+fn is_crate(meaning: Option<Known<'_>>) -> bool
+    ensures { result ≡ option_map_or is_crate (option_map known_of meaning.entry) false }
+{
+    match meaning {
+        Some(Known::Crate { .. }) => true,
+        _ => false,
+    }
+}
+
+/// What is wrong with the name of a crate, on a line that declares no struct and no trait.
+#[tactic(auto, using(crate::proofs::Judged::one_crate))]
+pub fn crate_name<N: Names>(names: &N, name: &[u8]) -> Findings
+    requires { items (N.sight names.now) ≡ (N.sight names.now).before }
+    ensures { result ≡ findings (N.sight names.now) (crate_use name.now ∷ []) }
+{
+    let meaning = names.known(name);
+    Findings {
+        uses_unknown: is_unknown(names, name, meaning),
+        uses_other_sort: !is_crate(meaning),
+        ..Findings::NONE
+    }
+}
+
 /// A number with one more digit, where it stays below 2^64.
 fn with_digit(value: u64, digit: u8) -> Option<u64>
     ensures { MatchOption result (2 ^ 64 ≤ 10 * value + (digit - 48)) (λ n. n ≡ 10 * value + (digit - 48)) }
@@ -414,15 +440,20 @@ pub(crate) fn length<N: Names>(names: &N, length: Length<'_>) -> Findings
 }
 
 /// Whether a name comes again.
-fn repeats(names: &[&[u8]]) -> bool
-    ensures { result ≡ repeats (map text_of names.now) }
+fn repeats(alloc: Global, names: &[&[u8]]) -> Result<bool, AllocError>
+    ensures { IfOk result (λ b. b ≡ repeats (map text_of names.now)) }
 {
-    for (i, name) in names.iter().enumerate() {
-        if let Some(_) = place_in(&names[i + 1..], name) {
-            return true;
+    let mut behind = NameSet::new(alloc);
+    let mut at = names.len();
+    while at > 0 {
+        at -= 1;
+        let name = names[at];
+        if behind.contains(name) {
+            return Ok(true);
         }
+        behind.insert(name)?;
     }
-    false
+    Ok(false)
 }
 
 /// Whether `'static` is among the names.
@@ -474,12 +505,18 @@ fn hides_others<N: Names>(names: &N, binders: &Binders<'_>, bound: &[&[u8]]) -> 
 
 /// A binder of these lifetimes, under those that are around.
 #[tactic(auto, using(crate::proofs::Judged::one_binder))]
-pub(crate) fn binder<N: Names>(names: &N, binders: &Binders<'_>, bound: &[&[u8]]) -> Findings
-    ensures { result ≡ findings (N.sight names.now) (binder_uses binders.now (map text_of bound.now)) }
+pub(crate) fn binder<N: Names>(
+    names: &N,
+    alloc: Global,
+    binders: &Binders<'_>,
+    bound: &[&[u8]],
+) -> Result<Findings, AllocError>
+    ensures { IfOk result (λ f. f ≡ findings (N.sight names.now) (binder_uses binders.now (map text_of bound.now))) }
 {
-    Findings {
-        takes_names: repeats(bound) || has_static(bound) || hides_others(names, binders, bound),
+    let is_repeated = repeats(alloc, bound)?;
+    Ok(Findings {
+        takes_names: is_repeated || has_static(bound) || hides_others(names, binders, bound),
         passes_limit: has_long(bound),
         ..Findings::NONE
-    }
+    })
 }

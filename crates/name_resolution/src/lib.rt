@@ -6,21 +6,43 @@ mod findings;
 mod found;
 mod heads;
 mod judge;
+mod name_set;
 mod names;
+mod resolve;
 mod resolved;
 mod rest;
+mod shapes;
+mod turn;
 mod walk;
 
 ghost use Rattle.name_resolution.specs.Standing.{CellsStand};
+ghost use Rattle.name_resolution.specs.Together.{FindingsTogether, VariablesTogether, NothingFound};
+ghost use Rattle.name_resolution.specs.UsedNames.{TypesUseNames, ArgsUseNames};
 ghost use Rattle.name_resolution.specs.Laws.{MachineResolves, ArgsResolved, TypesTurned, ArgsTurned};
 
 pub use findings::Findings;
+pub use judge::crate_name;
+pub use name_set::NameSet;
 pub use names::{Known, Names, Sort};
+pub use resolve::{Resolved, ResolvedBound, resolve_bound, resolve_type};
 pub use resolved::{NodeLabel, Region, ResolvedCell, Variable};
 
 /// The resolved cells of a type stand for the type's tree.
 pub fn cells_stand()
     ensures { CellsStand }
+{}
+
+/// What is found of two lists of uses is what is found of both together.
+pub fn found_together()
+    ensures findings { FindingsTogether }
+    ensures variables { VariablesTogether }
+    ensures none { NothingFound }
+{}
+
+/// The names in the cells of a type, or of arguments, are those that these use where a type or a const has to stand.
+pub fn used_names()
+    ensures types { TypesUseNames }
+    ensures args { ArgsUseNames }
 {}
 
 /// Going over the cells of a type from the last to the first comes to what the definitions say of the type: its uses, whether it is

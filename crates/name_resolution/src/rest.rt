@@ -1,5 +1,5 @@
 //! The cells that are not gone over yet.
-ghost use Rattle.std.specs.Prelude.{◌≡◌, ◌<◌, ◌≤◌, [], ◌∷◌, length, map, reverse, MatchOption, IfOk};
+ghost use Rattle.std.specs.Prelude.{◌≡◌, ◌+◌, ◌^◌, ◌<◌, ◌≤◌, [], ◌∷◌, length, map, reverse, MatchOption, IfOk};
 ghost use Rattle.line_tokens.specs.Views.{text_of};
 
 use std::alloc::{AllocError, Global};
@@ -28,7 +28,7 @@ impl<'c, 'a> Model for Rest<'c, 'a> {
 impl<'c, 'a> Rest<'c, 'a> {
     ghost use Rattle.type_reader.specs.Views.{cell_of, cells_in};
     ghost use Rattle.name_resolution.specs.Back.{begins, down_to, count_above, names_between};
-    ghost use Rattle.name_resolution.specs.Steps.{TakesPart};
+    ghost use Rattle.name_resolution.specs.Steps.{TakesPart, TakesNamed};
 
     /// All cells of the line.
     pub fn new(cells: &'c [Cell<'a>]) -> Self
@@ -49,7 +49,8 @@ impl<'c, 'a> Rest<'c, 'a> {
 
     /// Takes the last one.
     pub fn next(&mut self) -> Option<Cell<'a>>
-        ensures { MatchOption result (self.old ≡ []) (λ c. self.old ≡ cell_of c ∷ self.new) }
+        ensures cell { MatchOption result (self.old ≡ []) (λ c. self.old ≡ cell_of c ∷ self.new) }
+        ensures room { length self.new + 1 < 2 ^ 64 }
     {
         if self.at > 0 {
             self.at -= 1;
@@ -57,6 +58,16 @@ impl<'c, 'a> Rest<'c, 'a> {
             Some(cell)
         } else {
             None
+        }
+    }
+
+    /// Takes the last one if it is a name with its arguments, and says where these begin.
+    pub fn next_named(&mut self) -> Option<(&'a [u8], usize)>
+        ensures { TakesNamed result self.old self.new }
+    {
+        match self.next() {
+            Some(Cell::Named { name, start }) => Some((name, start)),
+            _ => None,
         }
     }
 

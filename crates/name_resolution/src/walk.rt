@@ -1,5 +1,5 @@
 //! Going over the cells of a type from the last to the first.
-ghost use Rattle.std.specs.Prelude.{◌≡◌, ◌+◌, ◌<◌, ◌^◌, ◌∷◌, [], length, map, not, ◌&&◌, OnOk, MatchOption};
+ghost use Rattle.std.specs.Prelude.{◌≡◌, ◌+◌, ◌<◌, ◌^◌, ◌∷◌, [], length, map, reverse, not, ◌&&◌, OnOk, MatchOption};
 ghost use Rattle.std.specs.Option.{option_map};
 ghost use Rattle.line_tokens.specs.Views.{text_of};
 ghost use Rattle.name_resolution.specs.Sorts.{sort_of};
@@ -11,7 +11,8 @@ ghost use Rattle.name_resolution.specs.Resolved.{node_cell, length_cell};
 ghost use Rattle.model.specs.Label as label;
 ghost use Rattle.text_definitions.specs.Tokens.{number_from};
 ghost use Rattle.text_definitions.specs.Uses.{length_uses, lifetime_use};
-ghost use Rattle.type_reader.specs.Views.{length_of};
+ghost use Rattle.type_reader.specs.Views.{cells_in, length_of};
+ghost use Rattle.name_resolution.specs.Resolving.{nothing_found};
 
 use crate::binders::Binders;
 use crate::findings::Findings;
@@ -21,7 +22,7 @@ use crate::resolved::{NodeLabel, ResolvedCell};
 use crate::rest::Rest;
 use crate::{heads, judge};
 use std::alloc::{AllocError, Global};
-use type_reader::Length;
+use type_reader::{Cell, Length};
 
 /// Where an argument or a type stands.
 #[derive(Clone, Copy)]
@@ -54,11 +55,12 @@ pub(crate) struct Frame<'n> {
     pub is_kept: bool,
 }
 
-/// What is to come: a type or an argument, or what is open.
+/// What is to come: a type or an argument, what is open, or nothing.
 #[derive(Clone, Copy)]
 pub(crate) enum Next {
     Visiting(Place),
     Going,
+    Finished,
 }
 
 /// Going over the cells of a type.
@@ -81,6 +83,34 @@ pub(crate) fn deeper(room: Option<usize>) -> Option<usize>
 }
 
 impl<'n, 'c, 'a> Walk<'n, 'c, 'a> {
+    /// Behind the last of these cells.
+    pub fn new(alloc: Global, cells: &'c [Cell<'a>]) -> Self
+        ensures rest { result.rest ≡ reverse (cells_in cells.now) }
+        ensures frames { frames_in result.frames.items ≡ [] }
+        ensures binders { result.binders ≡ [] }
+        ensures found { result.found ≡ nothing_found }
+    {
+        Walk {
+            rest: Rest::new(cells),
+            frames: Vec::new(alloc),
+            binders: Binders::new(alloc),
+            found: Found::new(alloc),
+        }
+    }
+
+    /// What was found.
+    pub fn into_found(self) -> Found<'a>
+        ensures { result ≡ self.entry.found }
+    {
+        let Walk {
+            rest: _,
+            frames: _,
+            binders: _,
+            found,
+        } = self;
+        found
+    }
+
     /// Opens what the last cell is.
     pub fn push(&mut self, frame: Frame<'n>) -> Result<(), AllocError>
         ensures frames { OnOk result (frames_in self.new.frames.items ≡ frame_of frame.entry ∷ frames_in self.old.frames.items) }
@@ -292,7 +322,7 @@ impl<'n, 'c, 'a> Walk<'n, 'c, 'a> {
         let bound = self.rest.names_between(alloc, start, inner)?;
         let count = self.rest.count_above(inner);
         let inputs = count.saturating_sub(1);
-        let taken = judge::binder(names, &self.binders, &bound);
+        let taken = judge::binder(names, alloc, &self.binders, &bound)?;
         let own = taken.either(judge::items(inputs));
         let faults = judge::misfits(place.sort).either(own);
         let label = NodeLabel::Fn(bound.len());
@@ -318,7 +348,7 @@ impl<'n, 'c, 'a> Walk<'n, 'c, 'a> {
     {
         let bound = self.rest.names_between(alloc, start, inner)?;
         let count = self.rest.count_above(inner);
-        let taken = judge::binder(names, &self.binders, &bound);
+        let taken = judge::binder(names, alloc, &self.binders, &bound)?;
         let own = taken.either(judge::items(count));
         let faults = judge::misfits(place.sort).either(own);
         let label = NodeLabel::Fn(bound.len());
@@ -364,7 +394,7 @@ impl<'n, 'c, 'a> Walk<'n, 'c, 'a> {
         let bound = self.rest.names_between(alloc, start, inner)?;
         let count = self.rest.count_above(inner);
         let meaning = names.known(name);
-        let taken = judge::binder(names, &self.binders, &bound);
+        let taken = judge::binder(names, alloc, &self.binders, &bound)?;
         let faults = taken.either(judge::bound(names, name, count, meaning));
         let is_kept = is_kept_but(outer.is_kept, heads::is_auto(names, name, meaning));
         let label = NodeLabel::Principal {

@@ -35,8 +35,8 @@ returns g c =
     λ b l k j h. going (frame (kinds_of_trait o) k h ∷ outer) (b ∷ s) w.rest (using v (binder_uses s b ++ trait_use n k ∷ []) (keeping h (λ cs. resolved.node_cell (principal l j) k ∷ cs) w.found)) in
     let x : Found = keeping held (λ cs. resolved.node_cell (principal l c.trait_number.result) k ∷ cs) w.found in
     let many : length names ≡ l = length-map c.in_ok-bound.bound.items text_of ∙ sym (c.len.ensures ∙ c.in_ok-bound.bound.ok.0) in
-    let taken : c.binder-taken.result ≡ findings v (binder_uses s names) = c.binder-taken.ensures ∙ ap (λ z. findings v (binder_uses s (map text_of z))) c.deref.ensures.value in
-    let both = together v (binder_uses s names) (trait_use n k ∷ []) c.binder-taken.result c.bound.result c.either-faults.result taken c.bound.ensures c.either-faults.ensures in
+    let taken : c.in_ok-taken.taken ≡ findings v (binder_uses s names) = c.in_ok-taken.ensures ∙ ap (λ z. findings v (binder_uses s (map text_of z))) c.deref.ensures.value in
+    let both = together v (binder_uses s names) (trait_use n k ∷ []) c.in_ok-taken.taken c.bound.result c.either-faults.result taken c.bound.ensures c.either-faults.ensures in
     let e : using v us x ≡ c.note.new.self = noted v us c.either-faults.result x c.note.new.self (bound-variables s names n k) both (c.note.ensures ∙ ap (noting c.either-faults.result) c.in_ok-keep.ensures) in
     let f = frame (kinds_of_trait o) k held in
     let h : frames_in c.open.new.self.frames.items ≡ f ∷ outer =

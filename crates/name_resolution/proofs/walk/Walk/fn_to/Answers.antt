@@ -29,9 +29,9 @@ returns g c =
     let at : List (List ℕ) → ℕ → ℕ → State =
     λ b l k. going fs (b ∷ s) w.rest (using v (sort_misfits p ++ (binder_uses s b ++ items_use (k - 1) ∷ [])) (deepening room (keeping kept (λ cs. resolved.node_cell (fn_ptr l) k ∷ cs) w.found))) in
     let many : length names ≡ l = length-map c.in_ok-bound.bound.items text_of ∙ sym (c.len.ensures ∙ c.in_ok-bound.bound.ok.0) in
-    let taken : c.binder-taken.result ≡ findings v (binder_uses s names) = c.binder-taken.ensures ∙ ap (λ z. findings v (binder_uses s (map text_of z))) c.deref.ensures.value in
+    let taken : c.in_ok-taken.taken ≡ findings v (binder_uses s names) = c.in_ok-taken.ensures ∙ ap (λ z. findings v (binder_uses s (map text_of z))) c.deref.ensures.value in
     let inputs : c.items.result ≡ findings v (items_use (k - 1) ∷ []) = c.items.ensures v ∙ ap (λ z. findings v (items_use z ∷ [])) c.saturating_sub-inputs.ensures in
-    let own = together v (binder_uses s names) (items_use (k - 1) ∷ []) c.binder-taken.result c.items.result c.either-own.result taken inputs c.either-own.ensures in
+    let own = together v (binder_uses s names) (items_use (k - 1) ∷ []) c.in_ok-taken.taken c.items.result c.either-own.result taken inputs c.either-own.ensures in
     let both = together v (sort_misfits p) (binder_uses s names ++ items_use (k - 1) ∷ []) c.misfits.result c.either-own.result c.either-faults.result (c.misfits.ensures v) own c.either-faults.ensures in
     let e : using v us x ≡ c.add.new.self = noted v us c.either-faults.result x c.add.new.self (fn-variables p s names (k - 1)) both c.in_ok-add.ensures in
     let h : frames_in c.open.new.self.frames.items ≡ fs = c.in_ok-open.ensures.frames ∙ ap (λ z. z ∷ frames_in w.frames.items) c.fn_frame.ensures in
