@@ -78,7 +78,7 @@ term-within n v h = by (is_a v.sort v.trees && is_made is_open_label terms v.tre
 
 pairs-within : (n : ℕ) (t : FrameTable) (es : List Equation) → Every (EquationWithin n) es → PairsWithin n (pairs_in t es)
 pairs-within n t [] h = tt
-pairs-within n t (e ∷ es) h = ((put-within n t.labels (term_of e.left) (term-within n e.left h.0.0), put-within n t.labels (term_of e.right) (term-within n e.right h.0.1)), pairs-within n t es h.1)
+pairs-within n t (e ∷ es) h = (put-within n t.labels (term_of e.left) (term-within n e.left h.0.0), put-within n t.labels (term_of e.right) (term-within n e.right h.0.1), pairs-within n t es h.1)
 
 pub equate_within : (n : ℕ) (t u : FrameTable) (es : List Equation) → TableWithin n t → Every (EquationWithin n) es → equate t es ≡ Some u → TableWithin n u
 equate_within n t u es h g e =

@@ -34,3 +34,6 @@ pub mod Places
 pub mod Answers
 pub mod Numbers
 mod Keeping
+pub mod Merging
+pub mod Responses
+pub mod Collecting

@@ -17,3 +17,4 @@ pub mod Shortages
 pub mod HandlerPrograms
 pub mod Steps
 pub mod Stores
+pub mod Merges

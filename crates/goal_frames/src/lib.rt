@@ -6,6 +6,7 @@ mod frame;
 mod handler;
 mod keep;
 pub mod laws;
+mod merge;
 mod read;
 mod rules;
 mod searches;
@@ -13,6 +14,7 @@ pub mod store;
 
 pub use frame::GoalFrame;
 pub use handler::{GoalHandler, frames_keep_promises, handlers_are_programs};
+pub use merge::merged;
 pub use rules::{
     Listed, candidates_fit, canonical_goals_are_asked, listings_are_lawful,
     rule_handlers_are_lawful, rules_are_programs,

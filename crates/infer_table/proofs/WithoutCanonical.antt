@@ -1,18 +1,16 @@
 -- No canonical variable comes into the terms of a table, or into a goal that it resolves.
-use Rattle.std.proofs.Common.{◌≡◌, ℕ, zero, suc, ◌+◌, ltb, Bool, true, false, refl, ap, sym, ◌∙◌, arith, List, [], ◌∷◌, ◌++◌, subst, Option, Some, None, if◌then◌else◌, cond}
-use Rattle.std.specs.Prelude.{◌&&◌, ◌==◌, option_map, option_and_then, unwrap_or}
+use Rattle.std.proofs.Common.{◌≡◌, ℕ, zero, suc, ◌+◌, Bool, true, false, refl, ap, sym, ◌∙◌, arith, List, [], ◌∷◌, subst, Option, Some, None, if◌then◌else◌, cond}
+use Rattle.std.specs.Prelude.{◌&&◌, ◌==◌, option_map, unwrap_or}
 use Rattle.std.specs.List.{slice_get}
 use Rattle.std.proofs.lemmas.Bool.Decides.{nat_tests}
 use Rattle.model.specs.Label.{Label, Sort, of_type, of_const, of_lifetime, infer, canonical, bound, fn_ptr, dynamic, principal, auto_trait, inside}
 use Rattle.model.specs.Trees.{Trees, none, tree, ◌+++◌, is_sort, placed}
-use Rattle.model.specs.Codes.{same}
 use Rattle.infer_table.specs.declared.canonical.CanonicalVarKind.{CanonicalVarKind}
 use Rattle.infer_table.specs.declared.canonical.CanonicalVarKind.TheVariants.{Ty, PlaceholderTy, Const, PlaceholderConst, Region}
-use Rattle.infer_table.specs.Solutions.{Binding, is_variable, replace, resolved, occurs}
+use Rattle.infer_table.specs.Solutions.{Binding, is_variable, replace, resolved}
 use Rattle.infer_table.specs.Resolving.{followed, is_root}
-use Rattle.infer_table.specs.Equations.{unbound_in}
 use Rattle.infer_table.specs.Opened.{is_opened, opened_label, opened}
-use Rattle.infer_table.specs.Unification.{TableTrees, with_binding, with_regions, term_sort, variable_at, head_of, object_parts, parts_of, binds, Worklist, pairs, Outcome, refused, onward, bound_to, in_pairs, by_parts, by_variables, by_sort, compared, step, load, Solver, after, steps, rounds, unified}
+use Rattle.infer_table.specs.Unification.{TableTrees, with_binding, term_sort, object_parts, parts_of, Worklist}
 use Rattle.infer_table.specs.Canonical.{HasNoCanonical}
 use Rattle.infer_table.specs.Values.{Value, if_of_sort, filled}
 use Rattle.infer_table.specs.Raw.{sort_of_kind}
@@ -24,6 +22,7 @@ use Rattle.infer_table.specs.Covers.{AreNumbered}
 use Rattle.infer_table.specs.WithoutCanonical.{HaveNoCanonical, EquateNoCanonical, AreWithoutCanonical, AreOfTheirSorts, ResolvingKeepsOut, EquationsKeepOut, AnswersKeepOut}
 use Rattle.infer_table.proofs.SolutionLaws.{is_sort-equal, is_sort-self}
 use Rattle.infer_table.proofs.Covers.{numbered-parts}
+use Rattle.infer_table.proofs.Kept.{Keeps, OfPairs, unified-keeps, turns-keep}
 
 -- ---- trees
 abbrev pub IsNoCanonical : Label → Type 0
@@ -94,112 +93,36 @@ clean-terms first (tree dynamic c o) h = clean-object first c h.0
 clean-terms first (tree (canonical s i) c o) h = absurd h
 clean-terms first (tree l c o) h = h.0
 
-abbrev IfPaired : Option Worklist → Type 0
-IfPaired None = Unit {0}
-IfPaired (Some todo) = EquateNoCanonical todo
-
-clean-pairs : (a b : Trees) → HasNoCanonical a → HasNoCanonical b → IfPaired (pairs a b)
-clean-pairs none none p q = tt
-clean-pairs none (tree m d u) p q = tt
-clean-pairs (tree l c o) none p q = tt
-clean-pairs (tree l c o) (tree m d u) p q =
-    let x = clean-parts l c o p in
-    let y = clean-parts m d u q in
-    by (pairs o u) (clean-node l c none x.0 x.1 tt) (clean-node m d none y.0 y.1 tt) (clean-pairs o u x.2 y.2)
-  where
-    by : (r : Option Worklist) → HasNoCanonical (tree l c none) → HasNoCanonical (tree m d none) → IfPaired r → IfPaired (option_map (λ rest. (tree l c none, tree m d none) ∷ rest) r)
-    by None p q h = tt
-    by (Some rest) p q h = (p, q, h)
-
-clean-both : (xs ys : Worklist) → EquateNoCanonical xs → EquateNoCanonical ys → EquateNoCanonical (xs ++ ys)
-clean-both [] ys p q = q
-clean-both (x ∷ xs) ys p q = (p.0, p.1, clean-both xs ys p.2 q)
-
--- ---- a step
-abbrev Stays : Outcome → Type 0
-Stays refused = Unit {0}
-Stays (onward found u left) = HaveNoCanonical u.bindings × EquateNoCanonical left
-
-either : (b : Bool) (x y : Outcome) → Stays x → Stays y → Stays (if b then x else y)
-either true x y p q = p
-either false x y p q = q
-
 binding-stays : (t : TableTrees) (k : Sort) (v : ℕ) (x : Trees) → HaveNoCanonical t.bindings → HasNoCanonical x → HaveNoCanonical (with_binding t k v x).bindings
 binding-stays t of_type v x h q = (q, h)
 binding-stays t of_const v x h q = (q, h)
 binding-stays t of_lifetime v x h q = h
 
-bound-stays : (t : TableTrees) (k : Sort) (v : ℕ) (x : Trees) (rest : Worklist) → HaveNoCanonical t.bindings → HasNoCanonical x → EquateNoCanonical rest → Stays (bound_to t k v x rest)
-bound-stays t k v x rest h q r = either (occurs k v (resolved t.bindings x)) refused (onward true (with_binding t k v x) rest) tt (binding-stays t k v x h q, r)
+-- ---- equations
+abbrev IsClean : TableTrees → Type 0
+IsClean t = HaveNoCanonical t.bindings
 
-parts-stay : (t : TableTrees) (a b : Trees) (rest : Worklist) → HaveNoCanonical t.bindings → HasNoCanonical a → HasNoCanonical b → EquateNoCanonical rest → Stays (by_parts t a b rest)
-parts-stay t a b rest h p q r =
-    let o = pairs (parts_of t.region_vars a) (parts_of (t.region_vars + binds a) b) in
-    either (same (head_of a) (head_of b)) (in_pairs (with_regions t (binds a + binds b)) o rest) refused
-    (in-pairs o (clean-pairs (parts_of t.region_vars a) (parts_of (t.region_vars + binds a) b) (clean-terms t.region_vars a p) (clean-terms (t.region_vars + binds a) b q))) tt
-  where
-    in-pairs : (o : Option Worklist) → IfPaired o → Stays (in_pairs (with_regions t (binds a + binds b)) o rest)
-    in-pairs None g = tt
-    in-pairs (Some ps) g = (h, clean-both ps rest g r)
+keeps-out : Keeps HasNoCanonical IsClean
+keeps-out =
+    record {
+      first = λ l c o h. let p = clean-parts l c o h in clean-node l c none p.0 p.1 tt;
+      others = λ l c o h. (clean-parts l c o h).2;
+      parts = clean-terms;
+      values = λ t x h p. clean-followed t.bindings x h p;
+      bindings = binding-stays;
+      regions = λ t n h. h;
+      equal = λ t a b h. h;
+    }
 
-variables-stay : (t : TableTrees) (k : Sort) (a b : Trees) (o p : Option ℕ) (rest : Worklist) → HaveNoCanonical t.bindings → HasNoCanonical a → HasNoCanonical b → EquateNoCanonical rest → Stays (by_variables t k a b o p rest)
-variables-stay t k a b (Some v) (Some w) rest h x y r = either (ltb v w) (bound_to t k w a rest) (bound_to t k v b rest) (bound-stays t k w a rest h x r) (bound-stays t k v b rest h y r)
-variables-stay t k a b (Some v) None rest h x y r = bound-stays t k v b rest h y r
-variables-stay t k a b None (Some w) rest h x y r = bound-stays t k w a rest h x r
-variables-stay t k a b None None rest h x y r = parts-stay t a b rest h x y r
-
-sort-stays : (t : TableTrees) (k : Sort) (a b : Trees) (rest : Worklist) → HaveNoCanonical t.bindings → HasNoCanonical a → HasNoCanonical b → EquateNoCanonical rest → Stays (by_sort t k a b rest)
-sort-stays t of_type a b rest h x y r = variables-stay t of_type a b (variable_at a) (variable_at b) rest h x y r
-sort-stays t of_const a b rest h x y r = variables-stay t of_const a b (variable_at a) (variable_at b) rest h x y r
-sort-stays t of_lifetime a b rest h x y r = (h, r)
-
-step-stays : (t : TableTrees) (e : Trees × Trees) (rest : Worklist) → HaveNoCanonical t.bindings → HasNoCanonical e.0 → HasNoCanonical e.1 → EquateNoCanonical rest → Stays (step t e rest)
-unfolding step
-step-stays t e rest h p q r =
-    let x = followed t.bindings e.0 in
-    let y = followed t.bindings e.1 in
-    let k = term_sort e.0 in
-    either (is_sort k (term_sort e.1)) (compared t k x y rest) refused
-    (either (same x y) (onward false t rest) (by_sort t k x y rest) (h, r) (sort-stays t k x y rest h (clean-followed t.bindings e.0 h p) (clean-followed t.bindings e.1 h q) r)) tt
-
--- ---- all of them
-some-one : (t u : TableTrees) → Some t ≡ Some u → t ≡ u
-some-one t u e = cc
-
-abbrev AllStay : Solver → Type 0
-AllStay f = (t u : TableTrees) (todo : Worklist) → HaveNoCanonical t.bindings → EquateNoCanonical todo → f t todo ≡ Some u → HaveNoCanonical u.bindings
-
-after-stays : (anew next : Solver) → AllStay anew → AllStay next → (u : TableTrees) (o : Outcome) → Stays o → after anew next o ≡ Some u → HaveNoCanonical u.bindings
-after-stays anew next p q u refused a e = cc
-after-stays anew next p q u (onward true w left) a e = p w u left a.0 a.1 e
-after-stays anew next p q u (onward false w left) a e = q w u left a.0 a.1 e
-
-steps-stay : (anew : Solver) → AllStay anew → (n : ℕ) → AllStay (steps anew n)
-steps-stay anew p zero t u todo h g e = cc
-steps-stay anew p (suc n) t u [] h g e = subst (λ (w : TableTrees). HaveNoCanonical w.bindings) (some-one t u e) h
-steps-stay anew p (suc n) t u (x ∷ rest) h g e = after-stays anew (steps anew n) p (steps-stay anew p n) u (step t x rest) (step-stays t x rest h g.0 g.1 g.2) e
-
-rounds-stay : (n : ℕ) → AllStay (rounds n)
-rounds-stay zero t u todo h g e = cc
-rounds-stay (suc n) t u todo h g e = steps-stay (rounds n) (rounds-stay n) (suc (load t.bindings todo)) t u todo h g e
+of-pairs : (todo : Worklist) → EquateNoCanonical todo → OfPairs HasNoCanonical todo
+of-pairs [] h = tt
+of-pairs (e ∷ rest) h = (h.0, h.1, of-pairs rest h.2)
 
 pub equations-keep-out : EquationsKeepOut
-unfolding unified
-equations-keep-out t u todo h g e = rounds-stay (suc (unbound_in t.bindings + t.ty_vars + t.const_vars)) t u todo h g e
+equations-keep-out t u todo h g e = unified-keeps HasNoCanonical IsClean keeps-out t u todo h (of-pairs todo g) e
 
 turn-stays : (t u : TableTrees) (x y : Trees) → HaveNoCanonical t.bindings → HasNoCanonical x → HasNoCanonical y → solved_in_turn t x y ≡ Some u → HaveNoCanonical u.bindings
-turn-stays t u none none h p q e = subst (λ (w : TableTrees). HaveNoCanonical w.bindings) (some-one t u e) h
-turn-stays t u none (tree m d y) h p q e = cc
-turn-stays t u (tree l c x) none h p q e = cc
-turn-stays t u (tree l c x) (tree m d y) h p q e =
-    let a = clean-parts l c x p in
-    let b = clean-parts m d y q in
-    by (unified t ((tree l c none, tree m d none) ∷ [])) refl (clean-node l c none a.0 a.1 tt) (clean-node m d none b.0 b.1 tt) (λ w g f. turn-stays w u x y g a.2 b.2 f) e
-  where
-    by : (r : Option TableTrees) → unified t ((tree l c none, tree m d none) ∷ []) ≡ r → HasNoCanonical (tree l c none) → HasNoCanonical (tree m d none)
-        → ((w : TableTrees) → HaveNoCanonical w.bindings → solved_in_turn w x y ≡ Some u → HaveNoCanonical u.bindings) → option_and_then (λ w. solved_in_turn w x y) r ≡ Some u → HaveNoCanonical u.bindings
-    by None i f g next e = cc
-    by (Some w) i f g next e = next w (equations-keep-out t w ((tree l c none, tree m d none) ∷ []) h (f, g, tt) i) e
+turn-stays = turns-keep HasNoCanonical IsClean keeps-out
 
 -- ---- the values that are put in for the variables of an answer
 -- a value of the kind's sort
@@ -290,6 +213,9 @@ original-suits ks n k (w ∷ ws) (o ∷ os) e s h q g =
     by false i m rest = rest
 
 -- ---- an answer
+some-one : (t u : TableTrees) → Some t ≡ Some u → t ≡ u
+some-one t u e = cc
+
 clean-values : (vs : List Value) → AreWithoutCanonical vs → HasNoCanonical (trees_of vs)
 clean-values [] h = tt
 clean-values (v ∷ vs) h = clean-append v.trees (trees_of vs) h.0 (clean-values vs h.1)

@@ -1,9 +1,6 @@
 mod Candidates
-mod Collecting
 mod Finding
 mod Fits
-mod Merging
 mod Nexts
 mod Renumbering
-mod Responses
 mod Standing

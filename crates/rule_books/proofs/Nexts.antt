@@ -22,7 +22,7 @@ use Rattle.goal_frames.specs.Handlers.{Asked, spec_of, specs_for, same_answer, a
 use Rattle.goal_frames.specs.Readings.{Shown, shown, shown_by, Shows, kinds_known}
 use Rattle.goal_frames.proofs.KnownKinds.{all-known as known-some}
 use Rattle.rule_books.specs.declared.rule.Rule as Rules
-use Rattle.rule_books.specs.Answers.{with_response, responses_of, merge_of}
+use Rattle.goal_frames.specs.Merges.{with_response, responses_of, merge_of}
 use Rattle.rule_books.specs.Books.{rule_read, rules_of, is_rule, sound_rules, RuleHeld}
 
 -- ---- the candidates of rules in code

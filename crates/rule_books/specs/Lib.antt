@@ -1,4 +1,3 @@
-pub mod Answers
 pub mod Behind
 pub mod Books
 pub mod Finding

@@ -3,17 +3,15 @@ ghost use Rattle.std.specs.Prelude.{◌≡◌, ◌⊎◌, ◌<◌, length, [], B
 ghost use Rattle.type_terms.specs.Terms.{Keeps};
 ghost use Rattle.type_terms.specs.declared.TheConstants.{MAX_INDEX};
 ghost use Rattle.term_folds.specs.Failures.{SomeKindIsFull};
-ghost use Rattle.infer_table.specs.Responses.{ResponseHeld, answer_trees};
 ghost use Rattle.evaluation.specs.Candidate.{answer};
-ghost use Rattle.evaluation.specs.Lists.{Every};
-ghost use Rattle.evaluation.specs.Readings.{ConsideredHeld, ResultHeld, StepHeld};
+ghost use Rattle.evaluation.specs.Readings.{ConsideredHeld, StepHeld};
 ghost use Rattle.evaluation.specs.Responses.{content};
 ghost use Rattle.goal_frames.specs.Fitting.{ConsideredFits, StepFits};
-ghost use Rattle.goal_frames.specs.Readings.{next_read, result_read};
-ghost use Rattle.table_laws.specs.Answers.{IsWellFormed};
-ghost use Rattle.rule_books.specs.Answers.{responses_of, merge_of};
+ghost use Rattle.goal_frames.specs.Readings.{next_read};
+ghost use Rattle.goal_frames.specs.Merges.{responses_of, merge_of};
 
-use evaluation::{Considered, HandlerStep, copy_response, flounder, try_merge_candidates};
+use evaluation::{Considered, HandlerStep, copy_response};
+use goal_frames::merged;
 use infer_table::canonical::CanonicalVarKind;
 use infer_table::response::CanonicalResponse;
 use std::alloc::{AllocError, Global};
@@ -31,29 +29,6 @@ fn responses(alloc: Global, done: &[Considered]) -> Result<Vec<CanonicalResponse
         }
     }
     Ok(responses)
-}
-
-/// The merge of the responses, or what stands for them where there is none: no response without them.
-fn merged(
-    alloc: Global,
-    cx: &mut Interner,
-    variables: &[CanonicalVarKind],
-    responses: &[CanonicalResponse],
-) -> Result<Option<CanonicalResponse>, Fault>
-    requires held { Every (ResponseHeld cx.old.entries) responses.now }
-    requires fits { Every (λ r. IsWellFormed (answer_trees cx.old.entries r)) responses.now }
-    ensures keeps { Keeps cx.old.entries cx.new.entries }
-    ensures limit { cx.new.limit ≡ cx.old.limit }
-    ensures held { IfOk result (ResultHeld cx.new.entries) }
-    ensures is { IfOk result (λ r. result_read cx.new.entries r ≡ merge_of cx.old.entries variables.now responses.now) }
-    ensures full { result ≡ Err Fault.Full → SomeKindIsFull cx.new.entries cx.new.limit ⊎ (MAX_INDEX < length variables.now) }
-{
-    cx.lawful();
-    let merged = try_merge_candidates(alloc, cx, responses)?;
-    if let Some((response, _info)) = merged {
-        return Ok(Some(response));
-    }
-    flounder(alloc, cx, variables, responses)
 }
 
 /// The merge of all responses, or what stands for them where there is none; no candidate is ignored. A goal without responses has no

@@ -21,7 +21,7 @@ use Rattle.infer_table.specs.Applied.{trees_of, solved_in_turn, with_constraints
 use Rattle.evaluation.specs.Lists.{Every}
 use Rattle.table_laws.specs.Instances.{read_with, put_in, of_sort}
 use Rattle.type_terms.specs.Made.{terms, is_made}
-use Rattle.table_laws.specs.Content.{Terms, fits, standing, reading_of, Stands}
+use Rattle.table_laws.specs.Content.{Terms, standing, reading_of, Stands}
 use Rattle.table_laws.specs.Equations.{AreOne, IsTerm, IsPair, IsValue, HasLifetimes, IsMade}
 use Rattle.table_laws.specs.Frames.{kind_at, is_good, good_in, FrameTable, IsMadeFrame, Nested, goal_in, slot_at, in_turn, and_then}
 use Rattle.table_laws.specs.Operations.{with_content}

@@ -4,7 +4,6 @@ use Rattle.model.specs.Label.{Label, Sort, of_type, of_const, of_lifetime, param
 use Rattle.model.specs.Trees.{Trees, none, tree, leaf, ◌+++◌, erase_label, sort_of}
 use Rattle.infer_table.proofs.SolutionLaws.{is_sort-equal as is-sort}
 use Rattle.table_laws.specs.Instances.{read_with, is_place, as_place, term_at}
-use Rattle.type_terms.specs.Made.{terms}
 use Rattle.table_laws.specs.Content.{Terms, standing}
 use Rattle.type_terms.proofs.Made.{false-true}
 use Rattle.table_laws.proofs.Questions.{is-place}

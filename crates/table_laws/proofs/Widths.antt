@@ -1,16 +1,15 @@
 -- Nothing makes wider terms than were put in: replacing, unification, and answers that are applied.
-use Rattle.std.proofs.Common.{◌≡◌, ℕ, zero, suc, ◌+◌, ◌≤◌, ltb, arith, Bool, true, false, if◌then◌else◌, List, [], ◌∷◌, ◌++◌, map, Option, Some, None, refl, sym, ◌∙◌, ap, subst}
-use Rattle.std.specs.Prelude.{is_some, option_map, option_and_then, unwrap_or}
+use Rattle.std.proofs.Common.{◌≡◌, ℕ, zero, suc, ◌+◌, ◌≤◌, arith, Bool, true, false, if◌then◌else◌, List, [], ◌∷◌, map, Option, Some, None, refl, sym, ◌∙◌, ap, subst}
+use Rattle.std.specs.Prelude.{is_some, option_map, unwrap_or}
 use Rattle.std.specs.List.{slice_get}
 use Rattle.model.specs.Label.{Label, Sort, of_type, of_const, of_lifetime, infer, bound, canonical, fn_ptr, dynamic, principal, auto_trait, inside}
 use Rattle.model.specs.Trees.{Trees, none, tree, leaf, ◌+++◌, is_sort, sort_of, placed, Single}
-use Rattle.model.specs.Codes.{same}
 use Rattle.infer_table.specs.Canonical.{OpenKinds, relabeled}
-use Rattle.infer_table.specs.Solutions.{Binding, is_variable, replace, resolved, occurs}
+use Rattle.infer_table.specs.Solutions.{Binding, is_variable, replace, resolved}
 use Rattle.infer_table.specs.Resolving.{is_root, followed}
 use Rattle.infer_table.specs.Opened.{opened}
-use Rattle.infer_table.specs.Equations.{unbound_in}
-use Rattle.infer_table.specs.Unification.{TableTrees, with_binding, with_regions, term_sort, variable_at, binds, head_of, object_parts, parts_of, Worklist, pairs, Outcome, refused, onward, bound_to, in_pairs, by_parts, by_variables, by_sort, compared, step, load, Solver, after, steps, rounds, unified}
+use Rattle.infer_table.specs.Unification.{TableTrees, with_binding, object_parts, parts_of, Worklist, unified}
+use Rattle.infer_table.proofs.Kept.{Keeps, OfPairs, unified-keeps, turns-keep}
 use Rattle.infer_table.specs.declared.canonical.CanonicalVarKind.{CanonicalVarKind}
 use Rattle.infer_table.specs.declared.canonical.CanonicalVarKind.TheVariants.{Ty, PlaceholderTy, Const, PlaceholderConst, Region}
 use Rattle.infer_table.specs.Values.{Value, if_of_sort, value_for, filled}
@@ -244,11 +243,7 @@ abbrev pub AreWithin : ℕ → List Binding → Type 0
 AreWithin n bs = Every (λ b. IsWithin n b.value) bs
 
 abbrev pub PairsWithin : ℕ → Worklist → Type 0
-PairsWithin n todo = Every (λ (e : Trees × Trees). IsWithin n e.0 × IsWithin n e.1) todo
-
-pairs-append : (n : ℕ) (xs ys : Worklist) → PairsWithin n xs → PairsWithin n ys → PairsWithin n (xs ++ ys)
-pairs-append n [] ys h g = g
-pairs-append n (x ∷ xs) ys h g = (h.0, pairs-append n xs ys h.1 g)
+PairsWithin n = OfPairs (IsWithin n)
 
 within-followed : (n : ℕ) (bs : List Binding) (t : Trees) → AreWithin n bs → IsWithin n t → IsWithin n (followed bs t)
 within-followed n [] t h g = g
@@ -270,127 +265,40 @@ within-parts n first (tree (fn_ptr m) c o) h = within-opened n first m zero c h.
 within-parts n first (tree dynamic c o) h = within-object n first c h.1
 within-parts n first (tree l c o) h = h.1
 
-abbrev PairsIf : ℕ → Option Worklist → Type 0
-PairsIf n None = Unit {0}
-PairsIf n (Some todo) = PairsWithin n todo
+binding-within : (n : ℕ) (t : TableTrees) (k : Sort) (v : ℕ) (x : Trees) → AreWithin n t.bindings → IsWithin n x → AreWithin n (with_binding t k v x).bindings
+binding-within n t of_type v x h g = (g, h)
+binding-within n t of_const v x h g = (g, h)
+binding-within n t of_lifetime v x h g = h
 
-within-pairs : (n : ℕ) (a b : Trees) → IsWithin n a → IsWithin n b → PairsIf n (pairs a b)
-within-pairs n none none h g = tt
-within-pairs n none (tree m d p) h g = tt
-within-pairs n (tree l c o) none h g = tt
-within-pairs n (tree l c o) (tree m d p) h g = by (pairs o p) (within-pairs n o p h.2 g.2)
+abbrev HasWithin : ℕ → TableTrees → Type 0
+HasWithin n t = AreWithin n t.bindings
+
+keeps-within : (n : ℕ) → Keeps (IsWithin n) (HasWithin n)
+keeps-within n =
+    record {
+      first = λ l c o h. (h.0, h.1, tt);
+      others = λ l c o h. h.2;
+      parts = within-parts n;
+      values = λ t x h g. within-followed n t.bindings x h g;
+      bindings = binding-within n;
+      regions = λ t m h. h;
+      equal = λ t a b h. h;
+    }
+
+-- equations in turn
+then-keeps : (n : ℕ) (f : TableTrees → Option TableTrees) (u : TableTrees) (o : Option TableTrees) → ((w : TableTrees) → o ≡ Some w → f w ≡ Some u → HasWithin n u) → and_then f o ≡ Some u → HasWithin n u
+then-keeps n f u None h e = cc
+then-keeps n f u (Some w) h e = h w refl e
+
+in-turn-keeps : (n : ℕ) (t u : TableTrees) (todo : Worklist) → HasWithin n t → PairsWithin n todo → in_turn todo t ≡ Some u → HasWithin n u
+in-turn-keeps n t u [] h g e = subst (HasWithin n) (is e) h
   where
-    by : (x : Option Worklist) → PairsIf n x → PairsIf n (option_map (λ rest. (tree l c none, tree m d none) ∷ rest) x)
-    by None e = tt
-    by (Some rest) e = (((h.0, h.1, tt), (g.0, g.1, tt)), e)
+    is : Some t ≡ Some u → t ≡ u
+    is e = cc
+in-turn-keeps n t u (x ∷ todo) h g e =
+    then-keeps n (in_turn todo) u (unified t (x ∷ [])) (λ w i f. in-turn-keeps n w u todo (unified-keeps (IsWithin n) (HasWithin n) (keeps-within n) t w (x ∷ []) h (g.0, g.1, tt) i) g.2 f) e
 
 module _ (n : ℕ) where
-  -- what a step leaves
-  abbrev Post : Outcome → Type 0
-  Post refused = Unit {0}
-  Post (onward c u left) = AreWithin n u.bindings × PairsWithin n left
-
-  module _ (t : TableTrees) (rest : Worklist) (table : AreWithin n t.bindings) (others : PairsWithin n rest) where
-    post-bound : (k : Sort) (v : ℕ) (x : Trees) → IsWithin n x → Post (bound_to t k v x rest)
-    post-bound k v x h = by (occurs k v (resolved t.bindings x))
-      where
-        bound-within : (k : Sort) → AreWithin n (with_binding t k v x).bindings
-        bound-within of_type = (h, table)
-        bound-within of_const = (h, table)
-        bound-within of_lifetime = table
-
-        by : (b : Bool) → Post (if b then refused else onward true (with_binding t k v x) rest)
-        by true = tt
-        by false = (bound-within k, others)
-
-    post-pairs : (m : ℕ) (q : Option Worklist) → PairsIf n q → Post (in_pairs (with_regions t m) q rest)
-    post-pairs m None h = tt
-    post-pairs m (Some parts) h = (table, pairs-append n parts rest h others)
-
-    post-parts : (a b : Trees) → IsWithin n a → IsWithin n b → Post (by_parts t a b rest)
-    post-parts a b h g = by (same (head_of a) (head_of b))
-      where
-        by : (x : Bool) → Post (if x then in_pairs (with_regions t (binds a + binds b)) (pairs (parts_of t.region_vars a) (parts_of (t.region_vars + binds a) b)) rest else refused)
-        by true = post-pairs (binds a + binds b) (pairs (parts_of t.region_vars a) (parts_of (t.region_vars + binds a) b))
-            (within-pairs n (parts_of t.region_vars a) (parts_of (t.region_vars + binds a) b) (within-parts n t.region_vars a h) (within-parts n (t.region_vars + binds a) b g))
-        by false = tt
-
-    post-variables : (k : Sort) (a b : Trees) (x y : Option ℕ) → IsWithin n a → IsWithin n b → Post (by_variables t k a b x y rest)
-    post-variables k a b (Some v) (Some w) h g = by (ltb v w)
-      where
-        by : (x : Bool) → Post (if x then bound_to t k w a rest else bound_to t k v b rest)
-        by true = post-bound k w a h
-        by false = post-bound k v b g
-    post-variables k a b (Some v) None h g = post-bound k v b g
-    post-variables k a b None (Some w) h g = post-bound k w a h
-    post-variables k a b None None h g = post-parts a b h g
-
-    post-sort : (k : Sort) (a b : Trees) → IsWithin n a → IsWithin n b → Post (by_sort t k a b rest)
-    post-sort of_lifetime a b h g = (table, others)
-    post-sort of_type a b h g = post-variables of_type a b (variable_at a) (variable_at b) h g
-    post-sort of_const a b h g = post-variables of_const a b (variable_at a) (variable_at b) h g
-
-    post-compared : (k : Sort) (a b : Trees) → IsWithin n a → IsWithin n b → Post (compared t k a b rest)
-    post-compared k a b h g = by (same a b)
-      where
-        by : (x : Bool) → Post (if x then onward false t rest else by_sort t k a b rest)
-        by true = (table, others)
-        by false = post-sort k a b h g
-
-    post-step : (e : Trees × Trees) → IsWithin n e.0 → IsWithin n e.1 → Post (step t e rest)
-    unfolding step
-    post-step e h g = by (is_sort (term_sort e.0) (term_sort e.1))
-      where
-        by : (x : Bool) → Post (if x then compared t (term_sort e.0) (followed t.bindings e.0) (followed t.bindings e.1) rest else refused)
-        by true = post-compared (term_sort e.0) (followed t.bindings e.0) (followed t.bindings e.1) (within-followed n t.bindings e.0 table h) (within-followed n t.bindings e.1 table g)
-        by false = tt
-
-  abbrev TableIf : Option TableTrees → Type 0
-  TableIf None = Unit {0}
-  TableIf (Some u) = AreWithin n u.bindings
-
-  abbrev Keeps : Solver → Type 0
-  Keeps solver = (t : TableTrees) (todo : Worklist) → AreWithin n t.bindings → PairsWithin n todo → TableIf (solver t todo)
-
-  after-keeps : (anew next : Solver) → Keeps anew → Keeps next → (o : Outcome) → Post o → TableIf (after anew next o)
-  after-keeps anew next f g refused h = tt
-  after-keeps anew next f g (onward true t left) h = f t left h.0 h.1
-  after-keeps anew next f g (onward false t left) h = g t left h.0 h.1
-
-  steps-keep : (anew : Solver) → Keeps anew → (m : ℕ) → Keeps (steps anew m)
-  steps-keep anew f zero t todo h g = tt
-  steps-keep anew f (suc m) t [] h g = h
-  steps-keep anew f (suc m) t (e ∷ rest) h g = after-keeps anew (steps anew m) f (steps-keep anew f m) (step t e rest) (post-step t rest h g.1 e g.0.0 g.0.1)
-
-  rounds-keep : (m : ℕ) → Keeps (rounds m)
-  rounds-keep zero t todo h g = tt
-  rounds-keep (suc m) t todo h g = steps-keep (rounds m) (rounds-keep m) (suc (load t.bindings todo)) t todo h g
-
-  unified-keeps : Keeps unified
-  unfolding unified
-  unified-keeps t todo h g = rounds-keep (suc (unbound_in t.bindings + t.ty_vars + t.const_vars)) t todo h g
-
-  -- equations in turn
-  then-keeps : (f : TableTrees → Option TableTrees) → ((u : TableTrees) → AreWithin n u.bindings → TableIf (f u)) → (o : Option TableTrees) → TableIf o → TableIf (and_then f o)
-  then-keeps f g None h = tt
-  then-keeps f g (Some u) h = g u h
-
-  in-turn-keeps : (todo : Worklist) (t : TableTrees) → AreWithin n t.bindings → PairsWithin n todo → TableIf (in_turn todo t)
-  in-turn-keeps [] t h g = h
-  in-turn-keeps (e ∷ todo) t h g = then-keeps (in_turn todo) (λ u q. in-turn-keeps todo u q g.1) (unified t (e ∷ [])) (unified-keeps t (e ∷ []) h (g.0, tt))
-
-  then-solves : (f : TableTrees → Option TableTrees) → ((u : TableTrees) → AreWithin n u.bindings → TableIf (f u)) → (o : Option TableTrees) → TableIf o → TableIf (option_and_then f o)
-  then-solves f g None h = tt
-  then-solves f g (Some u) h = g u h
-
-  solved-keeps : (t : TableTrees) (a b : Trees) → AreWithin n t.bindings → IsWithin n a → IsWithin n b → TableIf (solved_in_turn t a b)
-  solved-keeps t none none h p q = h
-  solved-keeps t none (tree m d r) h p q = tt
-  solved-keeps t (tree l c o) none h p q = tt
-  solved-keeps t (tree l c o) (tree m d r) h p q =
-      then-solves (λ u. solved_in_turn u o r) (λ u g. solved-keeps u o r g p.2 q.2) (unified t ((tree l c none, tree m d none) ∷ []))
-      (unified-keeps t ((tree l c none, tree m d none) ∷ []) h (((p.0, p.1, tt), (q.0, q.1, tt)), tt))
-
   -- answers
   abbrev IsOneValue : Option Value → Type 0
   IsOneValue None = Unit {0}
@@ -428,18 +336,22 @@ module _ (n : ℕ) where
   originals-within [] h = tt
   originals-within (v ∷ vs) h = (h.0.within, originals-within vs h.1)
 
-  constraints-keep : (c : Trees) (o : Option TableTrees) → TableIf o → TableIf (option_map (with_constraints c) o)
-  constraints-keep c None h = tt
-  constraints-keep c (Some u) h = h
+  constraints-keep : (c : Trees) (o : Option TableTrees) (u : TableTrees) → ((w : TableTrees) → o ≡ Some w → HasWithin n w) → option_map (with_constraints c) o ≡ Some u → HasWithin n u
+  constraints-keep c None u h e = cc
+  constraints-keep c (Some w) u h e = subst (HasWithin n) (is e) (h w refl)
+    where
+      is : Some (with_constraints c w) ≡ Some u → with_constraints c w ≡ u
+      is e = cc
 
-  applied-keeps : (t : TableTrees) (originals : List Value) (a : AnswerTrees) → AreWithin n t.bindings → AllOneValues n originals → Every (λ v. IsWithin n v.trees) a.values → TableIf (applied t originals a)
-  applied-keeps t originals a h g r =
+  applied-keeps : (t u : TableTrees) (originals : List Value) (a : AnswerTrees) → HasWithin n t → AllOneValues n originals → Every (λ v. IsWithin n v.trees) a.values → applied t originals a ≡ Some u → HasWithin n u
+  applied-keeps t u originals a h g r e =
       let known = known_value a originals in
       let vs = applied_values t originals a in
       let ones = values-one known (λ i. original-one i (root_labels a.values) originals g) t 0 a.kinds in
-      constraints-keep (filled vs a.constraints) (solved_in_turn (applied_table t originals a) (trees_of originals) (filled vs (trees_of a.values)))
-      (solved-keeps (applied_table t originals a) (trees_of originals) (filled vs (trees_of a.values))
-      (subst (AreWithin n) (sym (for-bindings known t 0 a.kinds)) h) (row-within originals (originals-within originals g)) (within-filled n vs ones (trees_of a.values) (row-within a.values r)))
+      constraints-keep (filled vs a.constraints) (solved_in_turn (applied_table t originals a) (trees_of originals) (filled vs (trees_of a.values))) u
+      (λ w f. turns-keep (IsWithin n) (HasWithin n) (keeps-within n) (applied_table t originals a) w (trees_of originals) (filled vs (trees_of a.values))
+      (subst (AreWithin n) (sym (for-bindings known t 0 a.kinds)) h) (row-within originals (originals-within originals g)) (within-filled n vs ones (trees_of a.values) (row-within a.values r)) f)
+      e
 
 -- ---- the same of widths
 pub are-within : (n : ℕ) (bs : List Binding) → BindingsWithin n bs → AreWithin n bs
@@ -459,17 +371,9 @@ pub leaf-values-one : (n : ℕ) (ls : List Label) → AllOneValues n (map (λ (l
 leaf-values-one n [] = tt
 leaf-values-one n (l ∷ ls) = (leaf-one n l, leaf-values-one n ls)
 
-table-of : (n : ℕ) (o : Option TableTrees) (u : TableTrees) → TableIf n o → o ≡ Some u → AreWithin n u.bindings
-table-of n None u h e = absurd (cc)
-table-of n (Some w) u h e = subst (λ (z : TableTrees). AreWithin n z.bindings) (is e) h
-  where
-    is : Some w ≡ Some u → w ≡ u
-    is e = cc
-
 pub in-turn-within : (n : ℕ) (t : TableTrees) (todo : Worklist) (u : TableTrees) → BindingsWithin n t.bindings → PairsWithin n todo → in_turn todo t ≡ Some u → BindingsWithin n u.bindings
-in-turn-within n t todo u h g e = bindings-within n u.bindings (table-of n (in_turn todo t) u (in-turn-keeps n todo t (are-within n t.bindings h) g) e)
+in-turn-within n t todo u h g e = bindings-within n u.bindings (in-turn-keeps n t u todo (are-within n t.bindings h) g e)
 
 pub applied-within : (n : ℕ) (t : TableTrees) (originals : List Value) (a : AnswerTrees) (u : TableTrees) → BindingsWithin n t.bindings → AllOneValues n originals → number_of_values a.values ≤ n
     → applied t originals a ≡ Some u → BindingsWithin n u.bindings
-applied-within n t originals a u h g r e =
-    bindings-within n u.bindings (table-of n (applied t originals a) u (applied-keeps n t originals a (are-within n t.bindings h) g (values-within n a.values r)) e)
+applied-within n t originals a u h g r e = bindings-within n u.bindings (applied-keeps n t u originals a (are-within n t.bindings h) g (values-within n a.values r) e)

@@ -8,9 +8,9 @@ use Rattle.table_laws.specs.Operations.{begin}
 use Rattle.evaluation_laws.specs.Tables.{frame_tables}
 use Rattle.goal_frames.specs.Handlers.{same_answer, applies_always}
 use Rattle.goal_frames.specs.Readings.{result_read}
-use Rattle.rule_books.specs.Answers.{responses_of, merge_of}
-use Rattle.rule_books.proofs.Collecting.{collected-held, collected-fit, collected-trees, one-end}
-use Rattle.rule_books.proofs.Merging.{answer-fits}
+use Rattle.goal_frames.specs.Merges.{responses_of, merge_of}
+use Rattle.goal_frames.proofs.Collecting.{collected-held, collected-fit, collected-trees, one-end}
+use Rattle.goal_frames.proofs.Merging.{answer-fits}
 use Rattle.rule_books.proofs.answer.answer.Goals as goal
 
 pub merged-requires-clause-held : goal.merged-requires-clause-held

@@ -1,6 +1,6 @@
 use Rattle.std.proofs.Common.{◌≡◌, ◌++◌, map, drop}
 use Rattle.evaluation.specs.Responses.{content}
-use Rattle.rule_books.specs.Answers.{responses_of}
+use Rattle.goal_frames.specs.Merges.{responses_of}
 use Rattle.rule_books.proofs.answer.responses.Given as goal
 
 abbrev pub invariant-loop-considered : goal.invariant-loop-considered

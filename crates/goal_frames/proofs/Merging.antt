@@ -30,8 +30,8 @@ use Rattle.evaluation_laws.specs.Tables.{frame_tables}
 use Rattle.evaluation_laws.proofs.Filling.{itself-root}
 use Rattle.goal_frames.specs.Handlers.{same_answer, are_own_variables, applies_always}
 use Rattle.goal_frames.specs.Readings.{result_read}
-use Rattle.rule_books.specs.Answers.{merge_of}
-use Rattle.rule_books.proofs.Responses.{content_trees, equal-is}
+use Rattle.goal_frames.specs.Merges.{merge_of}
+use Rattle.goal_frames.proofs.Responses.{content_trees, equal-is}
 use Rattle.goal_frames.proofs.Silences.{silent-is}
 
 abbrev Trees_fit : List Entry → CanonicalResponse → Type 0

@@ -15,8 +15,8 @@ use Rattle.evaluation.specs.Table.{workings}
 use Rattle.table_laws.specs.Answers.{IsWellFormed}
 use Rattle.evaluation_laws.specs.Tables.{frame_tables}
 use Rattle.goal_frames.specs.Fitting.{ResultFits, ConsideredFits}
-use Rattle.rule_books.specs.Answers.{with_response, responses_of}
-use Rattle.rule_books.proofs.Responses.{content_trees}
+use Rattle.goal_frames.specs.Merges.{with_response, responses_of}
+use Rattle.goal_frames.proofs.Responses.{content_trees}
 
 append-none : {A : Type 0} (xs : List A) → xs ++ [] ≡ xs
 append-none [] = refl

@@ -7,8 +7,8 @@ use Rattle.table_laws.specs.Operations.{begin}
 use Rattle.evaluation_laws.specs.Tables.{frame_tables}
 use Rattle.goal_frames.specs.Handlers.{same_answer, applies_always}
 use Rattle.goal_frames.specs.Readings.{result_read}
-use Rattle.rule_books.proofs.Merging.{response_of, response-content, merged-held, merged-trees, taken, floundered-result}
-use Rattle.rule_books.proofs.answer.merged.Goals as goal
+use Rattle.goal_frames.proofs.Merging.{response_of, response-content, merged-held, merged-trees, taken, floundered-result}
+use Rattle.goal_frames.proofs.merge.merged.Goals as goal
 
 pub returns-in-Some-clause-held : goal.returns-in-Some-clause-held
 returns-in-Some-clause-held c =

@@ -1,0 +1,46 @@
+//! The merge of responses, as handlers answer with it.
+
+ghost use Rattle.std.specs.Prelude.{◌≡◌, ◌⊎◌, ◌<◌, length, Err, IfOk};
+ghost use Rattle.type_terms.specs.Terms.{Keeps};
+ghost use Rattle.type_terms.specs.declared.TheConstants.{MAX_INDEX};
+ghost use Rattle.term_folds.specs.Failures.{SomeKindIsFull};
+ghost use Rattle.infer_table.specs.Responses.{ResponseHeld, answer_trees};
+ghost use Rattle.evaluation.specs.Lists.{Every};
+ghost use Rattle.evaluation.specs.Readings.{ResultHeld};
+ghost use Rattle.table_laws.specs.Answers.{IsWellFormed};
+ghost use Rattle.goal_frames.specs.Merges.{merge_of};
+ghost use Rattle.goal_frames.specs.Readings.{result_read};
+
+use evaluation::{flounder, try_merge_candidates};
+use infer_table::canonical::CanonicalVarKind;
+use infer_table::response::CanonicalResponse;
+use std::alloc::Global;
+use type_terms::Fault;
+use type_terms::interner::Interner;
+
+/// The merge of the responses to a goal with variables of these kinds, or what stands for them where there is none; no response
+/// where there are none. (`EvalCtxt::try_merge_candidates` of the original, and `flounder` behind it.)
+///
+/// `Full` comes where there are more variables than numbers for them or one of the interner's tables is full, `Memory` where
+/// memory is refused.
+pub fn merged(
+    alloc: Global,
+    cx: &mut Interner,
+    variables: &[CanonicalVarKind],
+    responses: &[CanonicalResponse],
+) -> Result<Option<CanonicalResponse>, Fault>
+    requires held { Every (ResponseHeld cx.old.entries) responses.now }
+    requires fits { Every (λ r. IsWellFormed (answer_trees cx.old.entries r)) responses.now }
+    ensures keeps { Keeps cx.old.entries cx.new.entries }
+    ensures limit { cx.new.limit ≡ cx.old.limit }
+    ensures held { IfOk result (ResultHeld cx.new.entries) }
+    ensures is { IfOk result (λ r. result_read cx.new.entries r ≡ merge_of cx.old.entries variables.now responses.now) }
+    ensures full { result ≡ Err Fault.Full → SomeKindIsFull cx.new.entries cx.new.limit ⊎ (MAX_INDEX < length variables.now) }
+{
+    cx.lawful();
+    let merged = try_merge_candidates(alloc, cx, responses)?;
+    if let Some((response, _info)) = merged {
+        return Ok(Some(response));
+    }
+    flounder(alloc, cx, variables, responses)
+}
