@@ -1,21 +1,18 @@
 //! What equating variables and resolving them costs.
-ghost use Rattle.std.specs.Prelude.{◌≤◌};
+ghost use Rattle.std.specs.Prelude.{◌≤◌, ◌<◌};
 ghost use Rattle.type_terms.specs.Terms.{Keeps};
 ghost use Rattle.infer_table.specs.Content.{Ready};
 ghost use Rattle.benchmarks.specs.declared.TheConstants.{MOST};
 
 use crate::MOST;
-use crate::terms::pairs;
+use crate::terms::HANDLES;
 use infer_table::certainty::EqError;
 use infer_table::infer_ctxt::InferCtxt;
 use std::alloc::Global;
 use type_terms::Fault;
 use type_terms::interner::Interner;
-use type_terms::kinds::{GenericArgKind, Ty, TyKind};
+use type_terms::kinds::{GenericArgKind, TyKind};
 use type_terms::number::TyVid;
-
-/// More handles of each kind than a run makes.
-const HANDLES: u32 = 16_777_216;
 
 /// In which order the pairs of neighbours are equated.
 #[derive(Clone, Copy)]
@@ -86,17 +83,40 @@ pub fn chained(alloc: Global, count: u32, order: Order) -> Result<u32, EqError>
     Ok(resolve_all(&mut cx, &table, count)?)
 }
 
-/// Equates two types that each double at so many levels, over a variable each; answers how many of the two variables stand for
-/// the first.
+/// Gives a type variable the slice of the next one as its value.
+fn nest(cx: &mut Interner, table: &mut InferCtxt, index: u32) -> Result<(), EqError>
+    requires index { index < MOST }
+    requires ready { Ready cx.old.entries table.old }
+    ensures ready { Ready cx.new.entries table.new }
+{
+    let next = cx.mk_ty(TyKind::Infer(TyVid { index: index + 1 }))?;
+    let value = cx.mk_ty(TyKind::Slice(next))?;
+    let variable = cx.mk_ty(TyKind::Infer(TyVid { index }))?;
+    table.eq(cx, GenericArgKind::Ty(variable), GenericArgKind::Ty(value))
+}
+
+/// Gives each of so many type variables the slice of the next one as its value.
+fn nest_all(cx: &mut Interner, table: &mut InferCtxt, count: u32) -> Result<(), EqError>
+    requires count { count ≤ MOST }
+    requires ready { Ready cx.old.entries table.old }
+    ensures { Ready cx.new.entries table.new }
+{
+    for index in 0..count {
+        nest(cx, table, index)?;
+    }
+    Ok(())
+}
+
+/// Gives each of so many type variables the slice of the next one as its value, and resolves the first; answers how deep it is.
 ///
-/// Each level is one pair of handles, and the time goes by these.
-pub fn equated(alloc: Global, levels: u32) -> Result<u32, EqError> {
+/// No type that was equated is deep, but what comes out is.
+pub fn nested_values(alloc: Global, count: u32) -> Result<u32, EqError>
+    requires { count ≤ MOST }
+{
     let mut cx = Interner::new(alloc, HANDLES);
     let mut table = InferCtxt::new(alloc);
-    let left = cx.mk_ty(TyKind::Infer(TyVid { index: 0 }))?;
-    let left = pairs(&mut cx, alloc, left, levels)?;
-    let right = cx.mk_ty(TyKind::Infer(TyVid { index: 1 }))?;
-    let right = pairs(&mut cx, alloc, right, levels)?;
-    table.eq(&mut cx, GenericArgKind::Ty(left), GenericArgKind::Ty(right))?;
-    Ok(resolve_all(&mut cx, &table, 2)?)
+    nest_all(&mut cx, &mut table, count)?;
+    let first = cx.mk_ty(TyKind::Infer(TyVid { index: 0 }))?;
+    let resolved = table.eager_resolve_vars(&mut cx, first)?;
+    Ok(cx.depth(resolved))
 }

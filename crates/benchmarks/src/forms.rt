@@ -37,7 +37,7 @@ fn unknowns(
 }
 
 /// A goal about the tuple of these types.
-fn tuple_goal(alloc: Global, cx: &mut Interner, items: Vec<Ty>) -> Result<Goal, Fault>
+pub fn tuple_goal(alloc: Global, cx: &mut Interner, items: Vec<Ty>) -> Result<Goal, Fault>
     requires { TysHeld cx.old.entries items.items }
     ensures keeps { Keeps cx.old.entries cx.new.entries }
     ensures held { IfOk result (λ g. GoalHeld cx.new.entries g) }

@@ -8,6 +8,7 @@ mod equations;
 mod forms;
 mod searches;
 mod terms;
+mod walks;
 
 ghost use Rattle.std.specs.Prelude.{IfSome, ◌≤◌};
 ghost use Rattle.benchmarks.specs.declared.TheConstants.{MOST};
@@ -17,6 +18,7 @@ use std::alloc::Global;
 use std::process::ExitCode;
 use std::rt::Env;
 use std::{env, io};
+use walks::Shape;
 
 /// The programs.
 #[derive(Clone, Copy)]
@@ -25,20 +27,37 @@ enum Program {
     Nested,
     /// Instances of one deep type.
     Instantiated,
-    /// An instance of a type that doubles at each level.
-    Doubled,
     /// The canonical form of a goal with many unknowns.
     Canonical,
     /// Goals that each ask ten which are cached.
     Cached,
     /// Goals that ask one another round.
     Cyclic,
-    /// An equation of two types that double at each level.
-    Equated,
+    /// A walk of a large term.
+    Walked(Walk, Shape),
     /// Variables that are each equated with the next, the first pair first.
     Chained,
     /// The same, the last pair first.
     ChainedBackward,
+    /// Variables whose values are slices of the next.
+    NestedValues,
+}
+
+/// What is done with a large term.
+#[derive(Clone, Copy)]
+enum Walk {
+    /// An argument is put for its parameter.
+    Instantiated,
+    /// Its variable is resolved.
+    Resolved,
+    /// It becomes a variable's value.
+    Bound,
+    /// It is equated with another.
+    Equated,
+    /// A goal about it gets its canonical form.
+    Canonicalized,
+    /// And the form gets new unknowns.
+    Reopened,
 }
 
 /// The greatest count that a run takes.
@@ -49,13 +68,38 @@ fn program_named(name: &str) -> Option<Program> {
     match name {
         "nested" => Some(Program::Nested),
         "instantiated" => Some(Program::Instantiated),
-        "doubled" => Some(Program::Doubled),
         "canonical" => Some(Program::Canonical),
         "cached" => Some(Program::Cached),
         "cyclic" => Some(Program::Cyclic),
-        "equated" => Some(Program::Equated),
         "chained" => Some(Program::Chained),
         "chained_backward" => Some(Program::ChainedBackward),
+        "nested_values" => Some(Program::NestedValues),
+        _ => {
+            let (shape, walk) = name.split_once('_')?;
+            Some(Program::Walked(walk_named(walk)?, shape_named(shape)?))
+        }
+    }
+}
+
+/// The walk of that name.
+fn walk_named(name: &str) -> Option<Walk> {
+    match name {
+        "instantiated" => Some(Walk::Instantiated),
+        "resolved" => Some(Walk::Resolved),
+        "bound" => Some(Walk::Bound),
+        "equated" => Some(Walk::Equated),
+        "canonicalized" => Some(Walk::Canonicalized),
+        "reopened" => Some(Walk::Reopened),
+        _ => None,
+    }
+}
+
+/// The shape of that name.
+fn shape_named(name: &str) -> Option<Shape> {
+    match name {
+        "pairs" => Some(Shape::Pairs),
+        "slices" => Some(Shape::Slices),
+        "structs" => Some(Shape::Structs),
         _ => None,
     }
 }
@@ -90,10 +134,6 @@ fn run(rt: &impl Print, alloc: Global, program: Program, count: u32) -> Result<(
             let instances = terms::instantiated(alloc, count).map_err(|_| Failed)?;
             println!(rt; "{instances} instances")
         }
-        Program::Doubled => {
-            let instances = terms::doubled(alloc, count).map_err(|_| Failed)?;
-            println!(rt; "{instances} instance")
-        }
         Program::Canonical => {
             let variables = forms::canonical(alloc, count).map_err(|_| Failed)?;
             println!(rt; "a form with {variables} variables")
@@ -112,10 +152,7 @@ fn run(rt: &impl Print, alloc: Global, program: Program, count: u32) -> Result<(
                 counts.goals, counts.yes, counts.frames
             )
         }
-        Program::Equated => {
-            let found = equations::equated(alloc, count).map_err(|_| Failed)?;
-            println!(rt; "{found} variables")
-        }
+        Program::Walked(walk, shape) => return run_walk(rt, alloc, walk, shape, count),
         Program::Chained => {
             let found = equations::chained(alloc, count, Order::Forward).map_err(|_| Failed)?;
             println!(rt; "{found} variables")
@@ -123,6 +160,47 @@ fn run(rt: &impl Print, alloc: Global, program: Program, count: u32) -> Result<(
         Program::ChainedBackward => {
             let found = equations::chained(alloc, count, Order::Backward).map_err(|_| Failed)?;
             println!(rt; "{found} variables")
+        }
+        Program::NestedValues => {
+            let depth = equations::nested_values(alloc, count).map_err(|_| Failed)?;
+            println!(rt; "a type {depth} deep")
+        }
+    };
+    printed.map_err(|_| Failed)
+}
+
+/// Walks a term of that shape, so many levels deep, and prints what came of it.
+fn run_walk(
+    rt: &impl Print,
+    alloc: Global,
+    walk: Walk,
+    shape: Shape,
+    levels: u32,
+) -> Result<(), Failed> {
+    let printed = match walk {
+        Walk::Instantiated => {
+            let depth = walks::instantiated(alloc, shape, levels).map_err(|_| Failed)?;
+            println!(rt; "an instance {depth} deep")
+        }
+        Walk::Resolved => {
+            let depth = walks::resolved(alloc, shape, levels).map_err(|_| Failed)?;
+            println!(rt; "a type {depth} deep")
+        }
+        Walk::Bound => {
+            let depth = walks::bound(alloc, shape, levels).map_err(|_| Failed)?;
+            println!(rt; "a value {depth} deep")
+        }
+        Walk::Equated => {
+            let depth = walks::equated(alloc, shape, levels).map_err(|_| Failed)?;
+            println!(rt; "two types {depth} deep")
+        }
+        Walk::Canonicalized => {
+            let variables = walks::canonicalized(alloc, shape, levels).map_err(|_| Failed)?;
+            println!(rt; "a form with {variables} variable")
+        }
+        Walk::Reopened => {
+            let unknowns = walks::reopened(alloc, shape, levels).map_err(|_| Failed)?;
+            println!(rt; "a goal with {unknowns} unknown")
         }
     };
     printed.map_err(|_| Failed)

@@ -6,21 +6,36 @@ use std::alloc::Global;
 use term_folds::binder::EarlyBinder;
 use term_folds::instantiate::InstantiateError;
 use term_folds::laws::closed_arguments_are_in_range;
-use type_terms::Fault;
 use type_terms::interner::Interner;
 use type_terms::kinds::{GenericArgKind, GenericArgs, Ty, TyKind, UintTy};
+use type_terms::{AdtId, Fault};
 
 /// More handles of each kind than a run makes.
 pub const HANDLES: u32 = 16_777_216;
 
-/// The parameter 0 in so many slices, one in the other.
-fn slices(cx: &mut Interner, count: u32) -> Result<Ty, Fault>
+/// A type in so many slices, one in the other.
+pub fn slices(cx: &mut Interner, leaf: Ty, count: u32) -> Result<Ty, Fault>
+    requires leaf { Has cx.old.entries types leaf.0 }
     ensures made { IfOk result (λ ty. Has cx.new.entries types ty.0) }
     ensures keeps { Keeps cx.old.entries cx.new.entries }
 {
-    let mut ty = cx.mk_ty(TyKind::Param(0))?;
+    let mut ty = leaf;
     for _ in 0..count {
         ty = cx.mk_ty(TyKind::Slice(ty))?;
+    }
+    Ok(ty)
+}
+
+/// A type in so many structs of one argument, one in the other.
+pub fn structs(cx: &mut Interner, alloc: Global, leaf: Ty, count: u32) -> Result<Ty, Fault>
+    requires leaf { Has cx.old.entries types leaf.0 }
+    ensures made { IfOk result (λ ty. Has cx.new.entries types ty.0) }
+    ensures keeps { Keeps cx.old.entries cx.new.entries }
+{
+    let mut ty = leaf;
+    for _ in 0..count {
+        let args = cx.mk_args(vec![in alloc; GenericArgKind::Ty(ty)]?)?;
+        ty = cx.mk_ty(TyKind::Adt(AdtId { index: 0 }, args))?;
     }
     Ok(ty)
 }
@@ -28,19 +43,18 @@ fn slices(cx: &mut Interner, count: u32) -> Result<Ty, Fault>
 /// Makes so many types, each nested in the next; answers how deep the last one is.
 pub fn nested(alloc: Global, count: u32) -> Result<u32, Fault> {
     let mut cx = Interner::new(alloc, HANDLES);
-    let ty = slices(&mut cx, count)?;
+    let leaf = cx.mk_ty(TyKind::Param(0))?;
+    let ty = slices(&mut cx, leaf, count)?;
     Ok(cx.depth(ty))
 }
 
-/// A type with a parameter, and the list of the argument `u8` alone.
-fn type_and_args(cx: &mut Interner, alloc: Global) -> Result<(Ty, GenericArgs), Fault>
-    ensures ty { IfOk result (λ made. Has cx.new.entries types made.0.0) }
-    ensures args { IfOk result (λ made. Has cx.new.entries args_lists made.1.0) }
+/// The list of the argument `u8` alone.
+pub fn byte_args(cx: &mut Interner, alloc: Global) -> Result<GenericArgs, Fault>
+    ensures made { IfOk result (λ args. Has cx.new.entries args_lists args.0) }
+    ensures keeps { Keeps cx.old.entries cx.new.entries }
 {
     let byte = cx.mk_ty(TyKind::Uint(UintTy::U8))?;
-    let args = cx.mk_args(vec![in alloc; GenericArgKind::Ty(byte)]?)?;
-    let ty = slices(cx, DEEP - 1)?;
-    Ok((ty, args))
+    cx.mk_args(vec![in alloc; GenericArgKind::Ty(byte)]?)
 }
 
 /// How deep the type with a parameter is that `instantiated` uses.
@@ -74,7 +88,9 @@ fn instantiate_often(
 /// Puts `u8` for the parameter of a type that is 64 deep, so many times; answers how often another type came out.
 pub fn instantiated(alloc: Global, count: u32) -> Result<u32, InstantiateError> {
     let mut cx = Interner::new(alloc, HANDLES);
-    let (ty, args) = type_and_args(&mut cx, alloc)?;
+    let args = byte_args(&mut cx, alloc)?;
+    let leaf = cx.mk_ty(TyKind::Param(0))?;
+    let ty = slices(&mut cx, leaf, DEEP - 1)?;
     instantiate_often(alloc, &mut cx, ty, args, count)
 }
 
@@ -90,15 +106,4 @@ pub fn pairs(cx: &mut Interner, alloc: Global, leaf: Ty, levels: u32) -> Result<
         ty = cx.mk_ty(TyKind::Tuple(pair))?;
     }
     Ok(ty)
-}
-
-/// Puts `u8` for the parameter of a type that doubles at each of so many levels; answers how often another type came out.
-///
-/// It has a few handles for each level, and the time goes by these.
-pub fn doubled(alloc: Global, levels: u32) -> Result<u32, InstantiateError> {
-    let mut cx = Interner::new(alloc, HANDLES);
-    let (_, args) = type_and_args(&mut cx, alloc)?;
-    let leaf = cx.mk_ty(TyKind::Param(0))?;
-    let ty = pairs(&mut cx, alloc, leaf, levels)?;
-    instantiate_often(alloc, &mut cx, ty, args, 1)
 }

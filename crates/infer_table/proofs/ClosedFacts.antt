@@ -26,10 +26,10 @@ or-at a b m i h = ap (λ z. min z (bit_at m i)) (sym (bit_at_or a b i)) ∙ and-
 nothing-at : (a m : ℕ) → ((i : ℕ) → min (bit_at a i) (bit_at m i) ≡ 0) → bit_and a m ≡ 0
 nothing-at a m h = same_from_bits (bit_and a m) 0 (λ i. bit_at_and a m i ∙ h i ∙ sym (bit_at-zero i))
 
-or-left : (a b m : ℕ) → bit_and (bit_or a b) m ≡ 0 → bit_and a m ≡ 0
+pub or-left : (a b m : ℕ) → bit_and (bit_or a b) m ≡ 0 → bit_and a m ≡ 0
 or-left a b m h = nothing-at a m (λ i. low-part (bit_at a i) (bit_at b i) (bit_at m i) (or-at a b m i h))
 
-or-right : (a b m : ℕ) → bit_and (bit_or a b) m ≡ 0 → bit_and b m ≡ 0
+pub or-right : (a b m : ℕ) → bit_and (bit_or a b) m ≡ 0 → bit_and b m ≡ 0
 or-right a b m h = nothing-at b m (λ i. high-part (bit_at a i) (bit_at b i) (bit_at m i) (or-at a b m i h))
 
 -- what is in no flag of a union is in none of a part of it
@@ -107,7 +107,7 @@ module _ (b : Bool) where
   unmarked-only (tree l c o) h =
       (λ q. absurd (false-true (sym (here l c o h) ∙ q)), unmarked-only c (below l c o h), unmarked-only o (after l c o h))
 
-zero-test : (n : ℕ) → (n == 0) ≡ true → n ≡ 0
+pub zero-test : (n : ℕ) → (n == 0) ≡ true → n ≡ 0
 zero-test n h = grind (arith, nat_tests)
 
 flags-are : (b : Bool) → open_flags b ≡ mask b

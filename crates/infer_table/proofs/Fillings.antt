@@ -1,22 +1,45 @@
 -- The instantiating folder puts the values in.
-use Rattle.std.proofs.Common.{◌≡◌, ℕ, refl, ap, sym, ◌∙◌, List, [], ◌∷◌, Option, Some, None, zero, suc, subst, option_map}
+use Rattle.std.proofs.Common.{◌≡◌, ℕ, Bool, true, false, refl, ap, sym, ◌∙◌, List, [], ◌∷◌, Option, Some, None, zero, suc, subst, option_map, if◌then◌else◌, ◌&&◌}
+use Rattle.std.specs.Prelude.{bit_and, bit_or}
 use Rattle.std.specs.List.{slice_get}
-use Rattle.model.specs.Label.{Label, Sort, canonical, of_trait, predicate}
-use Rattle.model.specs.Trees.{Trees, none, tree, leaf, ◌+++◌, placed}
+use Rattle.model.specs.Label.{Label, Sort, of_type, of_const, of_lifetime, canonical, of_trait, predicate}
+use Rattle.model.specs.Trees.{Trees, none, tree, leaf, ◌+++◌, placed, flags, label_flags, Single}
 use Rattle.model.proofs.TreeLaws.{append-none, append-assoc}
 use Rattle.type_terms.specs.Terms.{Entry, trees_at}
-use Rattle.type_terms.specs.Kinds.{ArgHeld, ArgsHeld, region_trees}
+use Rattle.type_terms.specs.Kinds.{ArgHeld, ArgsHeld, region_trees, kind_trees}
 use Rattle.type_terms.specs.declared.kinds.GenericArgKind.{GenericArgKind}
+use Rattle.type_terms.specs.declared.kinds.TyKind.{TyKind}
+use Rattle.type_terms.specs.declared.kinds.TyKind.TheVariants.{Bound as KBound}
+use Rattle.type_terms.specs.declared.number.BoundVarIndexKind.TheVariants.{Bound as KBinder, Canonical as KCanonical}
 use Rattle.term_folds.specs.declared.predicate.Clause.{Clause}
 use Rattle.term_folds.specs.declared.predicate.Clause.TheVariants.{Trait, RegionOutlives, TypeOutlives}
 use Rattle.term_folds.specs.Clauses.{clause_outline, clause_pieces}
-use Rattle.term_folds.specs.Folds.{enters, puts, Folds}
+use Rattle.term_folds.specs.Folds.{Does, enters, puts, Folds}
 use Rattle.term_folds.specs.Pieces.{FoldsEach, one_piece}
 use Rattle.term_folds.proofs.Replacing.{Describes, folds-are}
 use Rattle.infer_table.specs.Goals.{clause_label, clause_terms, environment_trees, goal_trees, ClausesFold, GoalFolds}
 use Rattle.infer_table.specs.declared.goal.Goal.{Goal}
-use Rattle.infer_table.specs.Values.{Value, value_of, values_of, if_of_sort, value_for, filled, goal_filled, put_if_there, filling, filling-once}
+use Rattle.infer_table.specs.Values.{Value, value_of, values_of, if_of_sort, value_for, filled, goal_filled, put_if_there, is_unbound, filling, filling-once}
+use Rattle.infer_table.specs.Leaves.{root_label, is_type_label}
+use Rattle.infer_table.proofs.ClosedFacts.{or-left, or-right, zero-test}
 use Rattle.infer_table.proofs.Numbers.{goal-same}
+
+-- a label without the flags of bound variables is no canonical variable
+unbound-label : (vs : List Value) (l : Label) → bit_and (label_flags l) 2184 ≡ 0 → value_for vs l ≡ None
+unbound-label vs (canonical of_type i) h = cc
+unbound-label vs (canonical of_const i) h = cc
+unbound-label vs (canonical of_lifetime i) h = cc
+unbound-label vs l h = refl
+
+unbound-stays : (vs : List Value) (t : Trees) → bit_and (flags t) 2184 ≡ 0 → filled vs t ≡ t
+unbound-stays vs none h = refl
+unbound-stays vs (tree l c o) h =
+    let here = or-left (bit_or (label_flags l) (flags c)) (flags o) 2184 h in
+    placed-none _ _ _ _ _ _ (unbound-label vs l (or-left (label_flags l) (flags c) 2184 here)) (unbound-stays vs c (or-right (label_flags l) (flags c) 2184 here))
+    (unbound-stays vs o (or-right (bit_or (label_flags l) (flags c)) (flags o) 2184 h))
+  where
+    placed-none : (v : Option Trees) (l : Label) (c c' o o' : Trees) → v ≡ None → c' ≡ c → o' ≡ o → placed v (tree l c' none) +++ o' ≡ tree l c o
+    placed-none v l c c' o o' p q r = rw (p, q, r) refl
 
 module _ (vs : List Value) where
   pub filled-append : (x y : Trees) → filled vs (x +++ y) ≡ filled vs x +++ filled vs y
@@ -26,18 +49,31 @@ module _ (vs : List Value) where
       ∙ sym (append-assoc (placed (value_for vs l) (tree l (filled vs c) none)) (filled vs o) (filled vs y))
 
   enters-is : (bs : List ℕ) (l : Label) (c : Trees) → filling vs (tree l c none) ≡ enters → filled vs (tree l c none) ≡ tree l (filled vs c) none
-  enters-is bs l c e = by (value_for vs l) e
+  enters-is bs l c e = by (is_type_label l && is_unbound (tree l c none)) (value_for vs l) (tree l c none) e
     where
-      by : (v : Option Trees) → put_if_there v ≡ enters → placed v (tree l (filled vs c) none) +++ none ≡ tree l (filled vs c) none
-      by None e = refl
-      by (Some t) e = cc
+      by : (b : Bool) (v : Option Trees) (s : Trees) → (if b then puts s else put_if_there v) ≡ enters → placed v (tree l (filled vs c) none) +++ none ≡ tree l (filled vs c) none
+      by true v s e = cc
+      by false None s e = refl
+      by false (Some t) s e = cc
+
+  unbound-filled : (l : Label) (c : Trees) → (is_type_label l && is_unbound (tree l c none)) ≡ true → filled vs (tree l c none) ≡ tree l c none
+  unbound-filled l c h = by (is_type_label l) h
+    where
+      by : (y : Bool) → (y && is_unbound (tree l c none)) ≡ true → filled vs (tree l c none) ≡ tree l c none
+      by true e = unbound-stays vs (tree l c none) (zero-test _ e)
+      by false e = cc
 
   puts-is : (bs : List ℕ) (l : Label) (c r : Trees) → filling vs (tree l c none) ≡ puts r → filled vs (tree l c none) ≡ r
-  puts-is bs l c r e = by (value_for vs l) e
+  puts-is bs l c r e = by (is_type_label l && is_unbound (tree l c none)) refl (value_for vs l) refl e
     where
-      by : (v : Option Trees) → put_if_there v ≡ puts r → placed v (tree l (filled vs c) none) +++ none ≡ r
-      by None e = cc
-      by (Some t) e = let same : t ≡ r = cc in append-none t ∙ same
+      same : (s t : Trees) → puts s ≡ puts t → s ≡ t
+      same s t e = cc
+
+      by : (b : Bool) → (is_type_label l && is_unbound (tree l c none)) ≡ b → (v : Option Trees) → value_for vs l ≡ v
+          → (if b then puts (tree l c none) else put_if_there v) ≡ puts r → filled vs (tree l c none) ≡ r
+      by true p v q e = unbound-filled l c p ∙ same _ _ e
+      by false p None q e = cc
+      by false p (Some t) q e = ap (λ (z : Option Trees). placed z (tree l (filled vs c) none) +++ none) q ∙ append-none t ∙ same _ _ e
 
   filling-describes : Describes (λ bs t. filling vs t) (λ bs t. filled vs t)
   filling-describes = record {
@@ -113,5 +149,24 @@ held-at es [] i a h e = cc
 held-at es (x ∷ xs) zero a h e = let same : x ≡ a = cc in subst (ArgHeld es) same h.0
 held-at es (x ∷ xs) (suc i) a h e = held-at es xs i a h.1 e
 
-pub fills : (vs : List Value) (l : Label) (r : Option Trees) → value_for vs l ≡ r → filling vs (leaf l) ≡ put_if_there r
-fills vs l r e = ap put_if_there e
+pub fills : (vs : List Value) (s : Sort) (i : ℕ) (r : Option Trees) → value_for vs (canonical s i) ≡ r → filling vs (leaf (canonical s i)) ≡ put_if_there r
+fills vs of_type i r e = ap put_if_there e
+fills vs of_const i r e = ap put_if_there e
+fills vs of_lifetime i r e = ap put_if_there e
+
+-- ---- what the folder answers at one type
+pub kind-is-type : (es : List Entry) (k : TyKind) → is_type_label (root_label (kind_trees es k)) ≡ true
+kind-is-type es (KBound (KBinder i) v) = refl
+kind-is-type es (KBound KCanonical v) = refl
+kind-is-type es k = refl
+
+at-single : (P : Trees → Type 0) → ((l : Label) (c : Trees) → P (tree l c none)) → (t : Trees) → Single t → P t
+at-single P f none s = absurd s
+at-single P f (tree l c o) s = subst (λ z. P (tree l c z)) (sym s) (f l c)
+
+pub stays-at : (vs : List Value) (t : Trees) → Single t → is_type_label (root_label t) ≡ true → is_unbound t ≡ true → filling vs t ≡ puts t
+stays-at vs t s =
+    at-single (λ t. is_type_label (root_label t) ≡ true → is_unbound t ≡ true → filling vs t ≡ puts t) (λ l c p q. chosen (is_type_label l) (is_unbound (tree l c none)) _ _ p q) t s
+  where
+    chosen : (x y : Bool) (d e : Does) → x ≡ true → y ≡ true → (if x && y then d else e) ≡ d
+    chosen x y d e p q = rw (p, q) refl

@@ -1,9 +1,9 @@
 -- Values put in for canonical variables.
-use Rattle.std.specs.Prelude.{◌≡◌, ℕ, List, [], ◌∷◌, map, Option, Some, None, if◌then◌else◌, refl}
+use Rattle.std.specs.Prelude.{◌≡◌, ℕ, Bool, true, false, List, [], ◌∷◌, map, Option, Some, None, if◌then◌else◌, ◌==◌, ◌&&◌, bit_and, refl}
 use Rattle.std.specs.List.{slice_get}
 use Rattle.std.proofs.Common.{ap}
 use Rattle.model.specs.Label.{Label, Sort, of_type, of_const, of_lifetime, canonical, principal, auto_trait}
-use Rattle.model.specs.Trees.{Trees, none, tree, ◌+++◌, is_sort, placed}
+use Rattle.model.specs.Trees.{Trees, none, tree, ◌+++◌, is_sort, placed, flags}
 use Rattle.type_terms.specs.Terms.{Entry, Keeps}
 use Rattle.type_terms.specs.Kinds.{ArgsHeld, arg_trees}
 use Rattle.type_terms.specs.declared.kinds.GenericArgKind.{GenericArgKind}
@@ -11,6 +11,8 @@ use Rattle.type_terms.specs.declared.kinds.GenericArgKind.TheVariants.{Lifetime,
 use Rattle.term_folds.specs.Folds.{Does, enters, puts, again, IsBound}
 use Rattle.term_folds.specs.Kept.{arg-trees-later}
 use Rattle.infer_table.specs.Canonical.{GoalTrees}
+use Rattle.infer_table.specs.Leaves.{is_type_label}
+use Rattle.infer_table.specs.declared.instantiate.TheConstants.{BOUND_FLAGS}
 
 -- a value: what it is, and its tree
 pub record Value : Type 0 where
@@ -50,9 +52,17 @@ abbrev pub put_if_there : Option Trees → Does
 put_if_there None = enters
 put_if_there (Some t) = puts t
 
+-- no bound variable stands in trees with these flags, canonical or not
+abbrev pub are_unbound_flags : ℕ → Bool
+are_unbound_flags f = bit_and f BOUND_FLAGS == 0
+
+abbrev pub is_unbound : Trees → Bool
+is_unbound t = are_unbound_flags (flags t)
+
+-- a type without bound variables stays
 abbrev pub filling : List Value → Trees → Does
 filling vs none = enters
-filling vs (tree l c o) = put_if_there (value_for vs l)
+filling vs (tree l c o) = if is_type_label l && is_unbound (tree l c none) then puts (tree l c none) else put_if_there (value_for vs l)
 
 pub filling-bounds : (vs : List Value) (t : Trees) → IsBound t → filling vs t ≡ enters
 filling-bounds vs (tree (principal n i) c o) h = refl
@@ -62,11 +72,12 @@ filling-bounds vs (tree l c o) h = absurd h
 
 pub filling-once : (vs : List Value) (t s : Trees) → filling vs t ≡ again s → ⊥
 filling-once vs none s e = cc
-filling-once vs (tree l c o) s e = by (value_for vs l) e
+filling-once vs (tree l c o) s e = by (is_type_label l && is_unbound (tree l c none)) (value_for vs l) (tree l c none) e
   where
-    by : (v : Option Trees) → put_if_there v ≡ again s → ⊥
-    by None e = cc
-    by (Some t) e = cc
+    by : (b : Bool) (v : Option Trees) (t : Trees) → (if b then puts t else put_if_there v) ≡ again s → ⊥
+    by true v t e = cc
+    by false None t e = cc
+    by false (Some u) t e = cc
 
 next : (v w : Value) (vs ws : List Value) → v ≡ w → vs ≡ ws → ◌≡◌ {A = List Value} (v ∷ vs) (w ∷ ws)
 next v w vs ws p q = cc

@@ -6,22 +6,36 @@ ghost use Rattle.type_terms.specs.Terms.{Entry, Keeps, Has, types, consts, trees
 ghost use Rattle.type_terms.specs.Kinds.{ArgsHeld, RegionHeld, region_trees};
 ghost use Rattle.term_folds.specs.Failures.{SomeKindIsFull};
 ghost use Rattle.infer_table.specs.Goals.{GoalHeld, goal_trees};
-ghost use Rattle.infer_table.specs.Values.{values_of, value_for, goal_filled};
+ghost use Rattle.infer_table.specs.Values.{values_of, value_for, goal_filled, are_unbound_flags};
 
 use crate::goal::Goal;
+use crate::known::type_has_kind;
 use std::alloc::Global;
 use term_folds::binders::Binders;
 use term_folds::fold::Answer;
 use term_folds::folder::TypeFolder;
 use type_terms::Fault;
+use type_terms::flags::TypeFlags;
 use type_terms::interner::Interner;
 use type_terms::kinds::{Const, ConstKind, GenericArgKind, Ty, TyKind};
 use type_terms::number::{BoundVar, BoundVarIndexKind};
 use type_terms::region::{Region, RegionKind};
 
+/// The flags of bound variables, canonical ones among them.
+pub const BOUND_FLAGS: u32 = TypeFlags::HAS_TY_BOUND.0
+    | TypeFlags::HAS_RE_BOUND.0
+    | TypeFlags::HAS_CT_BOUND.0;
+
+/// No bound variable stands in terms with these flags: one look, however large they are.
+fn is_unbound(flags: TypeFlags) -> bool
+    ensures { result ≡ are_unbound_flags flags.0 }
+{
+    flags.0 & BOUND_FLAGS == 0
+}
+
 /// Puts values in the place of canonical variables. A variable with no value of its sort stays.
 ///
-/// `CanonicalInstantiator` of `rustc_type_ir`.
+/// `CanonicalInstantiator` of `rustc_type_ir`. It stops at a type in which no bound variable stands.
 #[derive(Clone, Copy)]
 pub struct CanonicalInstantiator<'a> {
     /// Value i is that of canonical variable i.
@@ -113,6 +127,11 @@ impl TypeFolder for CanonicalInstantiator<'_> {
     ghost below_right = { λ f es x y. none_above };
 
     fn fold_ty(&self, cx: &mut Interner, ty: Ty, _binders: &Binders) -> Result<Answer<Ty>, Fault> {
+        cx.lawful();
+        type_has_kind(cx, ty);
+        if is_unbound(cx.flags(ty)) {
+            return Ok(Answer::Replace(ty));
+        }
         match cx.kind(ty) {
             TyKind::Bound(index, variable) => match index {
                 BoundVarIndexKind::Canonical => match self.ty_value(variable) {

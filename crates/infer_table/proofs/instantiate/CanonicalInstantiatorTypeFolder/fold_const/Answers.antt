@@ -18,5 +18,5 @@ returns-in-Some-clause-answer c =
     let here : trees_at es c.args.ct.0 ≡ leaf (canonical of_const c.in-Bound.variable.index) =
     trees-is es consts c.args.ct.0 _ c.in-Bound.ensures.is ∙ ap (λ i. leaf (bound_label of_const i c.in-Bound.variable)) c.in-Canonical.is in
     says-stays (ConstIs es) (filling vs (trees_at es c.args.ct.0)) (trees_at es v.0) v
-    (ap (filling vs) here ∙ fills vs (canonical of_const c.in-Bound.variable.index) (Some (trees_at es v.0)) (c.in-Some.ensures.value es))
+    (ap (filling vs) here ∙ fills vs of_const c.in-Bound.variable.index (Some (trees_at es v.0)) (c.in-Some.ensures.value es))
     (is-at es consts v.0 (c.in-Some.ensures.held es c.requires.ready))

@@ -1,8 +1,11 @@
-use Rattle.std.proofs.Common.{refl, ap, ◌∙◌}
+use Rattle.std.proofs.Common.{refl, ap, ◌∙◌, Some}
+use Rattle.model.specs.Label.{of_lifetime}
+use Rattle.model.specs.Trees.{leaf}
 use Rattle.type_terms.specs.Kinds.{region_label, region_trees}
 use Rattle.type_terms.specs.declared.region.RegionKind.TheVariants.{ReBound}
 use Rattle.term_folds.proofs.FoldFacts.{RegionIs}
-use Rattle.infer_table.specs.Values.{values_of, value_for, put_if_there}
+use Rattle.infer_table.specs.Values.{values_of, filling}
+use Rattle.infer_table.proofs.Fillings.{fills}
 use Rattle.infer_table.proofs.Numbers.{says-stays}
 use Rattle.infer_table.proofs.instantiate.CanonicalInstantiatorTypeFolder.fold_region.Goals as goal
 
@@ -11,6 +14,7 @@ returns-in-Some-clause-answer c =
     let es = c.args._cx.now.entries in
     let vs = values_of es c.args.self.now.values.now in
     let v = c.in-Some.value in
-    says-stays RegionIs (put_if_there (value_for vs (region_label c.args.region.kind))) (region_trees v) v
-    (ap put_if_there (ap (λ k. value_for vs (region_label k)) (c.in-ReBound.is ∙ ap (λ i. ReBound i c.in-ReBound.variable) c.in-Canonical.is) ∙ c.in-Some.ensures.value es))
+    says-stays RegionIs (filling vs (region_trees c.args.region)) (region_trees v) v
+    (ap (λ k. filling vs (leaf (region_label k))) (c.in-ReBound.is ∙ ap (λ i. ReBound i c.in-ReBound.variable) c.in-Canonical.is)
+    ∙ fills vs of_lifetime c.in-ReBound.variable.index (Some (region_trees v)) (c.in-Some.ensures.value es))
     (refl, c.in-Some.ensures.held es c.requires.ready)
