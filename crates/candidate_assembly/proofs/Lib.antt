@@ -5,3 +5,4 @@ pub mod Asking
 pub mod Heads
 pub mod Pairs
 pub mod Clauses
+pub mod Variables

@@ -3,6 +3,7 @@
 #![tactic(auto)]
 
 pub mod built_in;
+mod instances;
 pub mod param_env;
 mod parts;
 mod relate;
