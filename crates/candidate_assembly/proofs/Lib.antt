@@ -6,3 +6,4 @@ pub mod Heads
 pub mod Pairs
 pub mod Clauses
 pub mod Variables
+pub mod Behind
