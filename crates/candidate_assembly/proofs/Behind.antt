@@ -1,11 +1,17 @@
 -- An impl's terms with variables in the place of its parameters.
-use Rattle.std.proofs.Common.{◌≡◌, ℕ, zero, suc, ◌+◌, arith, Bool, true, false, List, [], ◌∷◌, map, refl, sym, ap, ◌∙◌, Option, Some, None}
+use Rattle.std.proofs.Math.Bridge.{le_prop}
+use Rattle.std.proofs.Common.{◌≡◌, ℕ, zero, suc, ◌+◌, ◌≤◌, subst, arith, Bool, true, false, List, [], ◌∷◌, length, map, refl, sym, ap, ◌∙◌, Option, Some, None}
 use Rattle.std.specs.Prelude.{cond}
 use Rattle.std.specs.Option.{option_or}
 use Rattle.model.specs.Label.{Label, Sort, canonical, param, inside}
 use Rattle.model.specs.Trees.{Trees, none, tree, leaf, ◌+++◌, nth, shift, instantiate, is_sort, outer_binder}
 use Rattle.model.specs.Worlds.{Reference, with_args, all_with_args}
-use Rattle.type_terms.specs.Terms.{Entry, trees_at}
+use Rattle.type_terms.specs.Terms.{Entry, Is, Keeps, args_lists, trees_at}
+use Rattle.type_terms.specs.declared.ImplId.{ImplId}
+use Rattle.type_terms.specs.declared.TheConstants.{MAX_INDEX}
+use Rattle.term_folds.specs.Kept.{trees-is, has-later, trees-later}
+use Rattle.declarations.specs.Applied.{AllHeld}
+use Rattle.declarations.specs.Held.{ReferenceHeld}
 use Rattle.type_terms.specs.Kinds.{args_trees, arg_trees}
 use Rattle.type_terms.specs.declared.kinds.GenericArgKind.{GenericArgKind}
 use Rattle.term_folds.specs.Arguments.{sort_at, misfit, first_misfit}
@@ -22,7 +28,7 @@ use Rattle.declarations.specs.Items.{reference_in}
 use Rattle.declarations.specs.Merges.{Each}
 use Rattle.term_folds.specs.declared.predicate.TraitRef.{TraitRef}
 use Rattle.table_laws.specs.Instances.{put_in}
-use Rattle.assembly_laws.specs.Candidates.{moved, behind}
+use Rattle.assembly_laws.specs.Candidates.{moved, behind, impl_id}
 use Rattle.candidate_assembly.specs.Headers.{var_kind}
 
 -- the trees of values, one after the other
@@ -114,3 +120,34 @@ pub all-fit : (es : List Entry) (sorts : List Sort) (A : Trees) → sorts_of A �
     → Each (λ (r : TraitRef). first_misfit A (trees_at es r.args.0) ≡ None) rs
 all-fit es sorts A e [] h = tt
 all-fit es sorts A e (r ∷ rs) h = (h.0 A e, all-fit es sorts A e rs h.1)
+
+-- ---- while the interner grows
+module _ (es fs : List Entry) (kept : Keeps es fs) where
+  pub reference-later : (r : TraitRef) → ReferenceHeld es r → reference_in fs r ≡ reference_in es r
+  reference-later r h = ap (λ (t : Trees). let q : Reference = record { trait = r.def_id.index; args = t } in q) (trees-later es fs kept args_lists r.args.0 h)
+
+  pub references-later : (rs : List TraitRef) → AllHeld es rs → references_in fs rs ≡ references_in es rs
+  references-later [] h = refl
+  references-later (r ∷ rs) h = ap (λ x. x ∷ references_in fs rs) (reference-later r h.0) ∙ ap (λ l. reference_in es r ∷ l) (references-later rs h.1)
+
+  pub all-held-later : (rs : List TraitRef) → AllHeld es rs → AllHeld fs rs
+  all-held-later [] h = tt
+  all-held-later (r ∷ rs) h = (has-later es fs kept args_lists r.args.0 h.0, all-held-later rs h.1)
+
+  pub fits-later : (A : Trees) (rs : List TraitRef) → AllHeld es rs → Each (λ (r : TraitRef). first_misfit A (trees_at es r.args.0) ≡ None) rs → Each (λ (r : TraitRef). first_misfit A (trees_at fs r.args.0) ≡ None) rs
+  fits-later A [] h g = tt
+  fits-later A (r ∷ rs) h g = (subst (λ (t : Trees). first_misfit A t ≡ None) (sym (trees-later es fs kept args_lists r.args.0 h.0)) g.0, fits-later A rs h.1 g.1)
+
+-- ---- the arguments of an impl's instance
+pub arguments-are : (es fs : List Entry) (i n : ℕ) (xs : List GenericArgKind) (ks : List CanonicalVarKind) → Is fs args_lists i (args_trees es xs) → values_of es xs ≡ variables_from n ks → trees_at fs i ≡ variables n ks
+arguments-are es fs i n xs ks is e = trees-is fs args_lists i (args_trees es xs) is ∙ args-variables es xs n ks e
+
+pub kinds-length : (ps : List GenericParamKind) → length (map var_kind ps) ≡ length ps
+kinds-length [] = refl
+kinds-length (p ∷ ps) = ap suc (kinds-length ps)
+
+impl-back : (a b : ImplId) → a.index ≡ b.index → a ≡ b
+impl-back a b h = subst (λ (m : ℕ). (p : m ≤ MAX_INDEX) → a ≡ record { index = m; in_range = p }) h (λ p. ap (λ (q : a.index ≤ MAX_INDEX). record { index = a.index; in_range = q }) (le_prop a.in_range p)) b.in_range
+
+pub same-impl : (i : ImplId) → impl_id i.index ≡ i
+same-impl i = impl-back (impl_id i.index) i (let r = i.in_range in omega (arith, r))
