@@ -5,3 +5,5 @@ pub mod Asking
 pub mod Heads
 pub mod Pairs
 pub mod Clauses
+pub mod Variables
+pub mod Behind

@@ -3,3 +3,4 @@ pub mod Constituents
 pub mod BuiltIn
 pub mod Equations
 pub mod Clauses
+pub mod Headers

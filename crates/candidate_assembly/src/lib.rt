@@ -1,8 +1,11 @@
-//! The candidates of a goal in code: what can prove it, read off the declarations. So far those by where-clauses, by what unseen crates
-//! may say and by the built-in rules of `Sized`, `Copy`, `Clone`, `Tuple` and `FnPtr`, and the parts of which the others are made.
+//! The candidates of a goal in code: what can prove it, read off the declarations. So far those by impls, by where-clauses, by what
+//! unseen crates may say and by the built-in rules of `Sized`, `Copy`, `Clone`, `Tuple` and `FnPtr`, and the parts of which the others
+//! are made.
 #![tactic(auto)]
 
 pub mod built_in;
+pub mod impls;
+mod instances;
 pub mod param_env;
 mod parts;
 mod relate;

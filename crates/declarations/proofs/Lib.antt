@@ -13,3 +13,4 @@ pub mod Levels
 pub mod Stacks
 pub mod Extending
 pub mod Elaborating
+pub mod Above

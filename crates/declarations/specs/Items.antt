@@ -91,6 +91,11 @@ abbrev pub struct_at : ℕ → List (AdtId × AdtDef) → Option AdtDef
 struct_at n [] = None
 struct_at n (x ∷ xs) = if n == x.0.index then Some x.1 else struct_at n xs
 
+-- The impl of a number.
+abbrev pub impl_at : ℕ → List HeldImpl → Option ImplDef
+impl_at n [] = None
+impl_at n (i ∷ is) = if n == i.id.index then Some i.def else impl_at n is
+
 -- What was found, read as f reads it, is the only item; where nothing was found there is none.
 abbrev pub IsOnly : {R D : Type 0} → (R → D) → Option R → List D → Type 0
 IsOnly f None ds = ds ≡ []

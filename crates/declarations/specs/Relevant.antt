@@ -1,5 +1,5 @@
 -- Impls by number, and those that can match a self type.
-use Rattle.std.specs.Prelude.{◌≡◌, ℕ, Bool, false, ◌==◌, ◌&&◌, List, map, filter}
+use Rattle.std.specs.Prelude.{◌≡◌, ℕ, Bool, true, false, ◌==◌, ◌&&◌, nat_lt, if◌then◌else◌, List, [], ◌∷◌, map, filter, Option, Some, None}
 use Rattle.model.specs.Trees.{Trees, none, tree, erase}
 use Rattle.model.specs.Worlds.{World, ImplDecl}
 use Rattle.model.specs.Rules.{same_head}
@@ -28,6 +28,16 @@ names_of ids = map (λ i. i.index) ids
 -- The numbers of the impls of the trait that can match the type S, over the terms of an interner.
 abbrev pub relevant_in : List Entry → Items → ℕ → Trees → List ℕ
 relevant_in es d t S = map (λ i. i.name) (relevant_impls (declared es d) t (erase S))
+
+-- The number is above the last one considered, if there is one.
+abbrev pub is_above : Option ImplId → ℕ → Bool
+is_above None n = true
+is_above (Some last) n = nat_lt last.index n
+
+-- The first of the numbers that is above the last one considered.
+abbrev pub next_above : Option ImplId → List ℕ → Option ℕ
+next_above last [] = None
+next_above last (n ∷ ns) = if is_above last n then Some n else next_above last ns
 
 -- Steps of a closure, one at each impl of these numbers, in their order.
 abbrev pub CallsAtEach : {F : Type 0} → (F → ImplId → F → Type 0) → F → List ℕ → Type 0

@@ -7,15 +7,15 @@ ghost use Rattle.model.specs.Terms.{erased_struct, erased_trait, erased_impl};
 ghost use Rattle.model.specs.Worlds.{structs_named, traits_named};
 ghost use Rattle.model.specs.Walks.{trait_is};
 ghost use Rattle.declarations.specs.Heads.{label_of};
-ghost use Rattle.declarations.specs.Items.{IsOnly, ids_with, ids_headed, with_struct, with_trait, with_impl, struct_in, trait_in, impl_in, struct_at, trait_at, written, declared, held_impl, IsAbove};
+ghost use Rattle.declarations.specs.Items.{IsOnly, ids_with, ids_headed, with_struct, with_trait, with_impl, struct_in, trait_in, impl_in, struct_at, trait_at, impl_at, written, declared, held_impl, IsAbove};
 ghost use Rattle.declarations.specs.Merges.{Rises};
 ghost use Rattle.declarations.specs.Held.{AreHeld, StructHeld, TraitHeld, ImplHeld};
 ghost use Rattle.declarations.specs.Unsizing.{TellUnsizing};
-ghost use Rattle.declarations.specs.Relevant.{impls_named, relevant_in, CallsAtEach};
+ghost use Rattle.declarations.specs.Relevant.{impls_named, relevant_in, next_above, CallsAtEach};
 
 use crate::heads::{ImplHead, add_head, impls_with_head};
 use crate::items::{AdtDef, ImplDef, TraitDef};
-use crate::merge::for_each_merged;
+use crate::merge::{for_each_merged, ids_above, split_smaller};
 use crate::simplify::{SimplifiedType, simplify_type};
 use indexmap::IndexMap;
 use std::alloc::Global;
@@ -160,7 +160,9 @@ impl Declarations {
 
     /// The impl with a number, if it is declared.
     pub fn impl_def(&self, id: ImplId) -> Option<&ImplDef>
+        ensures is { option_map (λ def. def.now) result ≡ impl_at id.index self.now.impls }
         ensures found { (es : List Entry) → IsOnly (λ def. erased_impl (impl_in es id def.now)) result (impls_named (declared es self.now) id.index) }
+        ensures written { (es : List Entry) → IsOnly (λ def. impl_in es id def.now) result (impls_named (written es self.now) id.index) }
         ensures held { (es : List Entry) → AreHeld es self.now → IfSome result (λ def. ImplHeld es def.now) }
     {
         let _ = self.impls.len();
@@ -218,6 +220,29 @@ impl Declarations {
         let blanket = self.impls_with(trait_id, None);
         let same_head = self.with_head(trait_id, simplify_type(cx, self_ty));
         for_each_merged(blanket, same_head, f);
+    }
+
+    /// The first impl above `last` at which `for_each_relevant_impl` calls. So a walk over these impls may stop at each, and go on
+    /// behind it without the others being looked at again.
+    pub fn next_relevant_impl(
+        &self,
+        cx: &Interner,
+        trait_id: TraitId,
+        self_ty: Ty,
+        last: Option<ImplId>,
+    ) -> Option<ImplId>
+        requires held { AreHeld cx.now.entries self.now }
+        requires self_held { Has cx.now.entries types self_ty.0 }
+        ensures is { option_map (λ i. i.index) result ≡ next_above last (relevant_in cx.now.entries self.now trait_id.index (trees_at cx.now.entries self_ty.0)) }
+        ensures rises { Rises (map (λ i. i.id) self.now.impls) }
+    {
+        cx.lawful();
+        let blanket = ids_above(self.impls_with(trait_id, None), last);
+        let same_head = ids_above(self.with_head(trait_id, simplify_type(cx, self_ty)), last);
+        match split_smaller(blanket, same_head) {
+            Some((id, _, _)) => Some(id),
+            None => None,
+        }
     }
 
     /// The impls of a trait whose self type has that head; without a head those whose self type is a parameter.

@@ -1,13 +1,28 @@
 //! Two rising lists, one after the other by rising numbers.
-ghost use Rattle.std.specs.Prelude.{◌≡◌, ◌∷◌, [], ◌+◌, List, MatchOption, length, Some, None};
+ghost use Rattle.std.specs.Prelude.{◌≡◌, ◌∷◌, [], ◌+◌, List, MatchOption, length, filter, Some, None};
 ghost use Rattle.std.specs.List.{FoldsTo};
 ghost use Rattle.declarations.specs.Merges.{IsMerge, IsNext, Rises};
+ghost use Rattle.declarations.specs.Relevant.{is_above};
 ghost use Rattle.type_terms.specs.declared.ImplId.{ImplId};
 
 use type_terms::ImplId;
 
+/// Those of rising numbers that are above `last`; all where there is none.
+pub(crate) fn ids_above(ids: &[ImplId], last: Option<ImplId>) -> &[ImplId]
+    requires { Rises ids.now }
+    ensures { result.now ≡ filter (λ i. is_above last i.index) ids.now }
+{
+    match last {
+        Some(last) => {
+            let considered = ids.partition_point(|id| id.index <= last.index);
+            &ids[considered..]
+        }
+        None => ids,
+    }
+}
+
 /// The smaller of the first of two lists, with what is left of both.
-fn split_smaller<'a>(
+pub(crate) fn split_smaller<'a>(
     first: &'a [ImplId],
     second: &'a [ImplId],
 ) -> Option<(ImplId, &'a [ImplId], &'a [ImplId])>

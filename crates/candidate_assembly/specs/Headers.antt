@@ -1,0 +1,27 @@
+-- Impls whose parameters can be made unknowns of a candidate.
+use Rattle.std.specs.Prelude.{◌≡◌, List, length, map}
+use Rattle.type_terms.specs.Terms.{Entry, trees_at}
+use Rattle.infer_table.specs.declared.canonical.CanonicalVarKind.{CanonicalVarKind}
+use Rattle.infer_table.specs.declared.canonical.CanonicalVarKind.TheVariants.{Ty, Const as ConstVar, Region}
+use Rattle.declarations.specs.declared.items.GenericParamKind.{GenericParamKind}
+use Rattle.declarations.specs.declared.items.GenericParamKind.TheVariants.{Lifetime, «Type» as TypeParam, Const}
+use Rattle.declarations.specs.declared.items.ImplDef.{ImplDef}
+use Rattle.term_folds.specs.declared.predicate.TraitRef.{TraitRef}
+use Rattle.declarations.specs.Applied.{sort_of_param, SpeaksOf}
+use Rattle.declarations.specs.Merges.{Each}
+use Rattle.assembly_laws.specs.Candidates.{kinds_of_params}
+
+-- The kind of the unknown that stands for a parameter.
+abbrev pub var_kind : GenericParamKind → CanonicalVarKind
+var_kind Lifetime = Region
+var_kind TypeParam = Ty
+var_kind Const = ConstVar
+
+-- Each parameter that is a type or a constant stands in the header, so that the header tells its kind: `impl<T> Show for u8` is refused.
+abbrev pub StandInHeader : List Entry → ImplDef → Type 0
+StandInHeader es def = map var_kind def.params.items ≡ kinds_of_params (trees_at es def.header.args.0) 0 (length def.params.items)
+
+-- The header and the where-clauses speak of the impl's parameters.
+pub record SpeaksOfParameters (es : List Entry) (def : ImplDef) : Type 0 where
+  pub header : SpeaksOf (map sort_of_param def.params.items) (trees_at es def.header.args.0)
+  pub clauses : Each (λ (r : TraitRef). SpeaksOf (map sort_of_param def.params.items) (trees_at es r.args.0)) def.clauses.items

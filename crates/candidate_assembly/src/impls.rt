@@ -1,0 +1,98 @@
+//! Candidates by impls.
+ghost use Rattle.std.specs.Prelude.{◌≡◌, ◌⊎◌, ◌+◌, ◌<◌, length, map, IfOk, Err};
+ghost use Rattle.model.specs.Worlds.{World};
+ghost use Rattle.type_terms.specs.Terms.{Keeps};
+ghost use Rattle.type_terms.specs.declared.TheConstants.{MAX_INDEX};
+ghost use Rattle.term_folds.specs.Failures.{SomeKindIsFull};
+ghost use Rattle.infer_table.specs.Goals.{GoalHeld};
+ghost use Rattle.evaluation.specs.Readings.{SpecHeld};
+ghost use Rattle.declarations.specs.Applied.{references_in, AllHeld};
+ghost use Rattle.declarations.specs.Items.{reference_in, impl_in};
+ghost use Rattle.declarations.specs.Held.{ImplHeld, ReferenceHeld};
+ghost use Rattle.assembly_laws.specs.Candidates.{behind, by_the_impl};
+ghost use Rattle.candidate_assembly.specs.Goals.{asked_of, candidate_of};
+ghost use Rattle.candidate_assembly.specs.Headers.{var_kind, StandInHeader, SpeaksOfParameters};
+
+use crate::instances::{all_with_arguments, variable_kinds, variables_behind, with_arguments};
+use crate::parts::nested_goals;
+use crate::relate::relate_args;
+use declarations::items::ImplDef;
+use evaluation::{CandidateSource, CandidateSpec, Certainty, GoalSource};
+use infer_table::canonical::CanonicalVarKind;
+use infer_table::input::CanonicalInput;
+use std::alloc::Global;
+use term_folds::predicate::TraitRef;
+use type_terms::interner::Interner;
+use type_terms::{Fault, ImplId};
+
+/// An impl with unknowns in the place of its parameters: their kinds, its header and its where-clauses.
+#[derive(Drop)]
+struct Instance {
+    variables: Vec<CanonicalVarKind>,
+    header: TraitRef,
+    clauses: Vec<TraitRef>,
+}
+
+/// The impl with unknowns behind so many others in the place of its parameters.
+fn instance_behind(
+    alloc: Global,
+    cx: &mut Interner,
+    others: usize,
+    def: &ImplDef,
+) -> Result<Instance, Fault>
+    requires held { ImplHeld cx.old.entries def.now }
+    requires speaks { SpeaksOfParameters cx.old.entries def.now }
+    ensures keeps { Keeps cx.old.entries cx.new.entries }
+    ensures limit { cx.new.limit ≡ cx.old.limit }
+    ensures header_held { IfOk result (λ n. ReferenceHeld cx.new.entries n.header) }
+    ensures clauses_held { IfOk result (λ n. AllHeld cx.new.entries n.clauses.items) }
+    ensures variables { IfOk result (λ n. n.variables.items ≡ map var_kind def.now.params.items) }
+    ensures header { IfOk result (λ n. reference_in cx.new.entries n.header ≡ behind others (reference_in cx.old.entries def.now.header)) }
+    ensures clauses { IfOk result (λ n. references_in cx.new.entries n.clauses.items ≡ map (behind others) (references_in cx.old.entries def.now.clauses.items)) }
+    ensures full { result ≡ Err Fault.Full → SomeKindIsFull cx.new.entries cx.new.limit ⊎ (MAX_INDEX < others + length def.now.params.items) }
+{
+    let variables = variable_kinds(alloc, &def.params)?;
+    let values = variables_behind(alloc, cx, others, &variables)?;
+    let args = cx.mk_args(values)?;
+    let header = with_arguments(alloc, cx, def.header, args)?;
+    let clauses = all_with_arguments(alloc, cx, &def.clauses, args)?;
+    Ok(Instance {
+        variables,
+        header,
+        clauses,
+    })
+}
+
+/// The candidate by an impl: its parameters are unknowns behind the goal's variables, the goal's arguments are its header's, and its
+/// where-clauses are asked (`consider_impl_candidate`).
+pub fn consider_impl_candidate(
+    alloc: Global,
+    cx: &mut Interner,
+    goal: &CanonicalInput,
+    id: ImplId,
+    def: &ImplDef,
+) -> Result<CandidateSpec, Fault>
+    requires goal { GoalHeld cx.old.entries goal.now.goal }
+    requires held { ImplHeld cx.old.entries def.now }
+    requires params { StandInHeader cx.old.entries def.now }
+    requires speaks { SpeaksOfParameters cx.old.entries def.now }
+    ensures keeps { Keeps cx.old.entries cx.new.entries }
+    ensures limit { cx.new.limit ≡ cx.old.limit }
+    ensures held { IfOk result (SpecHeld cx.new.entries) }
+    ensures is { IfOk result (λ s. (V : World)
+        → candidate_of V goal.now.goal.predicate.trait_ref.def_id.index cx.new.entries s ≡ by_the_impl V (asked_of cx.old.entries goal.now) (impl_in cx.old.entries id def.now)) }
+    ensures full { result ≡ Err Fault.Full → SomeKindIsFull cx.new.entries cx.new.limit ⊎ (MAX_INDEX < length goal.now.variables.items + length def.now.params.items) }
+{
+    let instance = instance_behind(alloc, cx, goal.variables.len(), def)?;
+    let asked = goal.goal.predicate.trait_ref.args;
+    let equations = relate_args(alloc, cx, asked, instance.header.args)?;
+    let nested_goals = nested_goals(alloc, goal, GoalSource::ImplWhereBound, &instance.clauses)?;
+    Ok(CandidateSpec {
+        source: CandidateSource::Impl(id),
+        variables: instance.variables,
+        equations,
+        region_constraints: Vec::new(alloc),
+        nested_goals,
+        certainty: Certainty::Yes,
+    })
+}
