@@ -4,4 +4,6 @@ pub mod SolverPlans
 pub mod Instances
 pub mod Rows
 pub mod Clauses
+pub mod Equating
+pub mod EquatedRows
 pub mod SolverSpecs

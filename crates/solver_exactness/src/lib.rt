@@ -2,7 +2,7 @@
 #![tactic(auto)]
 
 ghost use Rattle.solver_exactness.specs.ReadBack.{OutsideComesBack, CoherenceComesBack};
-ghost use Rattle.solver_exactness.specs.RowWays.{RowsAreWays, ClausesAreWays};
+ghost use Rattle.solver_exactness.specs.RowWays.{RowsAreWays, EquatedRowsAreWays, ClausesAreWays};
 ghost use Rattle.solver_exactness.specs.SolverPlans.{PlansAreExact};
 ghost use Rattle.solver_exactness.specs.SolverSpecs.{SpecsAreDetermined, SpecsAreFew, SpecsAreSure};
 
@@ -25,6 +25,12 @@ pub fn plans_are_exact()
 /// the rules of the goal's instance, one for each rule and in their order, whatever places the goal's placeholders stand for.
 pub fn rows_are_ways()
     ensures { RowsAreWays }
+{}
+
+/// So it is of the candidates by calls of fn pointers, and by arrays, types that are no `dyn`, and structs that unsize: where the terms
+/// that they equate are read as one they apply, and else they refuse.
+pub fn equated_rows_are_ways()
+    ensures { EquatedRowsAreWays }
 {}
 
 /// On a goal without unknowns the candidate of a where-clause applies, and asks nothing, if the clause is the goal's instance, and else
