@@ -73,11 +73,11 @@ alone-made : (l : Label) (c o : Trees) → IsOpenTerms (tree l c o) → IsOpenTe
 alone-made l c o h = first-before is_open_label l c o none h refl
 
 -- ---- ways of lists of candidates
-facts-append : (g : Fact) (ws vs : List (List Reference)) → facts_beside g (ws ++ vs) ≡ facts_beside g ws ++ facts_beside g vs
+pub facts-append : (g : Fact) (ws vs : List (List Reference)) → facts_beside g (ws ++ vs) ≡ facts_beside g ws ++ facts_beside g vs
 facts-append g [] vs = refl
 facts-append g (w ∷ ws) vs = ap (λ z. map (beside g) w ∷ z) (facts-append g ws vs)
 
-premises-append : (us vs : List Rule) → premises_of (us ++ vs) ≡ premises_of us ++ premises_of vs
+pub premises-append : (us vs : List Rule) → premises_of (us ++ vs) ≡ premises_of us ++ premises_of vs
 premises-append [] vs = refl
 premises-append (u ∷ us) vs = ap (λ z. u.premises ∷ z) (premises-append us vs)
 
@@ -163,12 +163,12 @@ module _ (m : Meaning) (declared : is_declared_view m.view ≡ true) (f : Canoni
       (subst (λ t. (not (a.reference.trait == unsize) || begins_with_type (next_of t)) ≡ true) e (is m f a is_asked closed v places).target))
 
   -- where a place stands as the target
-  read-target : (x : Trees) (u : Unknown x) → is_made (is_variable_over a.kinds) terms x ≡ true → BeginsWithPlace (Read x) (Read u.others)
+  pub read-target : (x : Trees) (u : Unknown x) → is_made (is_variable_over a.kinds) terms x ≡ true → BeginsWithPlace (Read x) (Read u.others)
   read-target x u h =
       subst (λ t. BeginsWithPlace (Read t) (Read u.others)) (sym u.is)
       (read-place m f a is_asked closed v places u.number u.children u.others (subst (λ t. is_made (is_variable_over a.kinds) terms t ≡ true) u.is h))
 
-  abbrev IsOver : Trees → Type 0
+  abbrev pub IsOver : Trees → Type 0
   IsOver x = is_made (is_variable_over a.kinds) terms x ≡ true
 
   -- ---- arrays
@@ -227,7 +227,7 @@ module _ (m : Meaning) (declared : is_declared_view m.view ≡ true) (f : Canoni
   arrays-at l c o r g over s = no_more
 
   -- the rest of the arguments
-  rest-over : (l : Label) (c o : Trees) → a.reference.args ≡ tree l c o → IsOver o
+  pub rest-over : (l : Label) (c o : Trees) → a.reference.args ≡ tree l c o → IsOver o
   rest-over l c o e = made-rest (is_variable_over a.kinds) l c o (subst IsOver e (args-over m f a is_asked closed v places))
 
   pub arrays : (a.reference.trait == unsize) ≡ true → Here (unsize_array_of V a (self_of a)) (unsize_array_rules (Read a.reference.args))

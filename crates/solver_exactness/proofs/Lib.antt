@@ -6,4 +6,7 @@ pub mod Rows
 pub mod Clauses
 pub mod Equating
 pub mod EquatedRows
+pub mod Selecting
+pub mod Once
+pub mod BoundRows
 pub mod SolverSpecs

@@ -1,7 +1,9 @@
 -- The candidates by built-in rules that read the outermost types alone, and by where-clauses, as ways of goals without unknowns.
-use Rattle.std.specs.Prelude.{◌≡◌, ◌==◌, Bool, true, ◌||◌, List, [], ◌∷◌, Some, if◌then◌else◌}
+use Rattle.std.specs.Prelude.{◌≡◌, ◌==◌, Bool, true, ◌||◌, List, [], ◌∷◌, map, Some, if◌then◌else◌}
 use Rattle.model.specs.Worlds.{World, Reference}
-use Rattle.model.specs.Rules.{Rule, same_reference, sized, copy, clone, tuple_trait, fn_ptr_trait, is_fn_trait, unsize, is_auto, sized_rules, copy_rules, auto_rules, tuple_rules, fn_ptr_rules, call_rules, unsize_array_rules, unsize_to_dyn_rules, unsize_struct_rules}
+use Rattle.model.specs.Rules.{Rule, same_reference, sized, copy, clone, tuple_trait, fn_ptr_trait, is_fn_trait, unsize, is_auto, sized_rules, copy_rules, auto_rules, tuple_rules, fn_ptr_rules, autos_with, call_rules, unsize_array_rules, unsize_to_dyn_rules, unsize_struct_rules}
+use Rattle.model.specs.Label.{dynamic}
+use Rattle.model.specs.Trees.{Trees, none, tree}
 use Rattle.infer_table.specs.Canonical.{CanonicalForm}
 use Rattle.table_laws.specs.Content.{Values, Fact}
 use Rattle.table_laws.specs.Operations.{begin}
@@ -10,6 +12,7 @@ use Rattle.exactness_laws.specs.Closed.{AreWays}
 use Rattle.exactness_laws.specs.ClosedTables.{AreClosed, ArePlaces}
 use Rattle.assembly_laws.specs.Facts.{clauses_of, reference_in, is_plain}
 use Rattle.assembly_laws.specs.Declared.{is_declared_view}
+use Rattle.assembly_laws.specs.DeclaredWell.{are_distinct}
 use Rattle.assembly_laws.specs.Meaning.{Meaning}
 use Rattle.assembly_laws.specs.Asking.{Asked, asked, clauses, self_of}
 use Rattle.assembly_laws.specs.Candidates.{Candidate, by_sized, by_copy, by_auto, by_tuple, by_fn_ptr, by_call, by_clauses, misc, if_so, as_written, unsize_array_of, unsize_struct_of}
@@ -29,6 +32,11 @@ clause_ways r (s ∷ ss) = if same_reference s r then [] ∷ clause_ways r ss el
 abbrev pub equal_ways : List Reference → Reference → List Reference → List (List Reference)
 equal_ways ps r [] = []
 equal_ways ps r (s ∷ ss) = if same_reference s r then ps ∷ equal_ways ps r ss else equal_ways ps r ss
+
+-- no auto trait stands twice among the bounds of a `dyn`
+abbrev pub autos_stand_once : Trees → Bool
+autos_stand_once (tree dynamic bounds o) = are_distinct (map (λ (r : Reference). r.trait) (autos_with none bounds))
+autos_stand_once t = true
 
 -- at these values the candidates are these ways to conclude the fact
 abbrev pub AreWaysOf : Asked → Values → Fact → List Candidate → List (List Reference) → Type 0
