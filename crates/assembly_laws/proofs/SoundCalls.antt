@@ -58,7 +58,7 @@ made-rest good (auto_trait i) c o m = absurd (true-false (sym m))
 made-rest good (predicate k) c o m = absurd (true-false (sym m))
 made-rest good l c o m = last-part (good l) (not (is_leaf_label l) || is_no_tree c) (is_made good terms c) (is_made good terms o) m
 
-made-but-last : (good : Label → Bool) (t : Trees) → is_made good terms t ≡ true → is_made good terms (but_last t) ≡ true
+pub made-but-last : (good : Label → Bool) (t : Trees) → is_made good terms t ≡ true → is_made good terms (but_last t) ≡ true
 made-but-last good none m = refl
 made-but-last good (tree l c none) m = refl
 made-but-last good (tree l c (tree k d o)) m = first-before good l c (tree k d o) (but_last (tree k d o)) m (made-but-last good (tree k d o) (made-rest good l c (tree k d o) m))

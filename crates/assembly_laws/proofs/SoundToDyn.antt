@@ -77,7 +77,7 @@ unknown-or-place (Some Const) e f = absurd (true-false (sym e))
 unknown-or-place (Some PlaceholderConst) e f = absurd (true-false (sym e))
 unknown-or-place (Some Region) e f = absurd (true-false (sym e))
 
-erased-twice : (l : Label) → is_rigid l ≡ true → erase_label (erase_label l) ≡ erase_label l
+pub erased-twice : (l : Label) → is_rigid l ≡ true → erase_label (erase_label l) ≡ erase_label l
 erased-twice (param s i) r = absurd (true-false (sym (right (is_sort s of_type) false r)))
 erased-twice (placeholder s i) r = absurd (true-false (sym (right (is_sort s of_type) false r)))
 erased-twice (infer s i) r = absurd (true-false (sym (right (is_sort s of_type) false r)))

@@ -36,7 +36,7 @@ use Rattle.assembly_laws.proofs.SoundRows.{Unknown, Rigid, unknown-or-rigid, Hel
 use Rattle.assembly_laws.proofs.SoundCalls.{first-before, made-rest, open-made}
 
 -- ---- terms
-made-unsizing : (fs : List Trees) (k : ℕ) (t s : Trees) → is_made is_open_label terms t ≡ true → is_made is_open_label terms s ≡ true → is_made is_open_label terms (with_unsizing fs k t s) ≡ true
+pub made-unsizing : (fs : List Trees) (k : ℕ) (t s : Trees) → is_made is_open_label terms t ≡ true → is_made is_open_label terms s ≡ true → is_made is_open_label terms (with_unsizing fs k t s) ≡ true
 made-unsizing fs k none s m n = refl
 made-unsizing fs k (tree l c o) none m n = m
 made-unsizing fs k (tree l c o) (tree i d p) m n = by (is_unsizing fs k) (made-unsizing fs (suc k) o p (made-rest is_open_label l c o m) (made-rest is_open_label i d p n))
@@ -51,7 +51,7 @@ plain-unsizes (f ∷ []) e t s h g = let d = left (are_terms f) true e in (appen
 plain-unsizes (f ∷ f' ∷ fs) e t s h g = plain-unsizes (f' ∷ fs) (right (are_terms f) (list_all are_terms (f' ∷ fs)) e) t s h g
 
 -- the children of a tree of made terms that is no `dyn`
-adt-made : (s : ℕ) (c o : Trees) → is_made is_open_label terms (tree (adt s) c o) ≡ true → (is_made is_open_label terms c ≡ true) × (is_made is_open_label terms o ≡ true)
+pub adt-made : (s : ℕ) (c o : Trees) → is_made is_open_label terms (tree (adt s) c o) ≡ true → (is_made is_open_label terms c ≡ true) × (is_made is_open_label terms o ≡ true)
 adt-made s c o m = (left (is_made is_open_label terms c) (is_made is_open_label terms o) m, right (is_made is_open_label terms c) (is_made is_open_label terms o) m)
 
 -- ---- rules

@@ -7,14 +7,14 @@ use Rattle.evaluation.specs.Table.{Tables, operations, workings, IsTable, Narrow
 use Rattle.evaluation.specs.Rounds.{Round, Rounds, kept, judged, applied, replied, round, settled, next_round, rounds}
 use Rattle.evaluation.specs.Candidate.{Spec, answered, equated, candidate}
 use Rattle.exactness_laws.specs.Plays.{Ends}
-use Rattle.exactness_laws.specs.Closed.{Closing, IsClosing, IsBare, Applies, Refuses, DeterminesNested, AreWays, refused, applied as applies}
+use Rattle.exactness_laws.specs.Closed.{Closing, IsClosing, IsBare, Applies, Refuses, DeterminesNested, AsksSuch, AreWays, refused, applied as applies}
 use Rattle.exactness_laws.proofs.Plays.{Ends-follows}
 use Rattle.exactness_laws.proofs.Rounds.{IsNested, all_narrowed, RoundEnds, one_round}
-use Rattle.exactness_laws.proofs.Candidates.{narrows_by, meets_by, nested_all}
+use Rattle.exactness_laws.proofs.Candidates.{narrows_by, meets_by, asked_in, nested_all}
 
-module _ {Question Response : Type 0} (t : Tables Question Response) (laws : IsTable t) (k : Closing t) (closing : IsClosing t k) (IsAsked : Question → Type 0) (P : Question → Option Response → Type 0)
-    (bare : (q : Question) (a : Option Response) → IsAsked q → k.IsClosed (k.shape_of q) → P q a → IsBare t a)
-    (Short : t.Fact → Type 0) (answer : (q : Question) (v : t.Values) → IsAsked q → k.IsClosed (k.shape_of q) → k.IsApart (k.shape_of q) v → Short (t.fact_of q v) → (a : Option Response) × P q a) (v : t.Values) where
+module _ {Question Response : Type 0} (t : Tables Question Response) (laws : IsTable t) (k : Closing t) (closing : IsClosing t k) (IsAsked : Question → t.Values → Type 0) (P : Question → Option Response → Type 0)
+    (bare : (q : Question) (v : t.Values) (a : Option Response) → IsAsked q v → k.IsClosed (k.shape_of q) → k.IsApart (k.shape_of q) v → P q a → IsBare t a)
+    (Short : t.Fact → Type 0) (answer : (q : Question) (v : t.Values) → IsAsked q v → k.IsClosed (k.shape_of q) → k.IsApart (k.shape_of q) v → Short (t.fact_of q v) → (a : Option Response) × P q a) (v : t.Values) where
   abbrev IsNestedHere : t.Table → t.Nested → t.Fact → Type 0
   IsNestedHere T n f = IsNested t laws k closing IsAsked P T v n f
 
@@ -23,7 +23,7 @@ module _ {Question Response : Type 0} (t : Tables Question Response) (laws : IsT
   asked_now T n f m c d i h =
       let x = closing.free T m c v in
       let apart = subst (k.IsApart (k.shape T)) (sym x.2) d in
-      answer (t.question T n) (t.at T n x.0) (i.asked T m) (closing.closed T n m c i.determined) (closing.apart T n c i.determined x.0 x.1 apart)
+      answer (t.question T n) (t.at T n x.0) (i.asked T x.0 m x.1 x.1 x.2) (closing.closed T n m c i.determined) (closing.apart T n c i.determined x.0 x.1 apart)
       (subst Short (sym (laws.instance T n x.0 x.1 ∙ i.is x.0 x.1 x.2)) h)
 
   abbrev CanRound : t.Table → List t.Nested → Type 0
@@ -103,7 +103,7 @@ module _ {Question Response : Type 0} (t : Tables Question Response) (laws : IsT
         some-is : {A : Type 0} (x y : A) → Some x ≡ Some y → x ≡ y
         some-is x y e = cc
 
-    can_apply : DeterminesNested t begin s → Every (λ n. (T : t.Table) → t.Made T → IsAsked (t.question T n)) s.nested → (premises : List t.Fact) → Applies t begin v s premises → Every Short premises → CanEndCandidate
+    can_apply : DeterminesNested t begin s → AsksSuch t IsAsked begin v s → (premises : List t.Fact) → Applies t begin v s premises → Every Short premises → CanEndCandidate
     can_apply determined asked premises a h = by (t.equate (t.fresh begin s.kinds) s.equations) refl
       where
         by : (o : Option t.Table) → t.equate (t.fresh begin s.kinds) s.equations ≡ o → (x : Option Response) × Ends P (equated (workings t) (suc limited) s o) x
@@ -119,7 +119,7 @@ module _ {Question Response : Type 0} (t : Tables Question Response) (laws : IsT
             let apart = subst (λ y. k.IsApart y v) (sym shape) d in
             let ns = nested_all t laws k closing IsAsked P bare (suc limited) begin m v c d s determined asked limited refl w a.assignment a.own s.nested
             (λ b r h i o. determined b r (onto b h) (onto r i) (meets b h) (meets r i) o)
-            (λ b h o. determined b a.assignment (onto b h) a.allowed (meets b h) a.meets o) asked in
+            (λ b h o. determined b a.assignment (onto b h) a.allowed (meets b h) a.meets o) (asked_in t laws k closing IsAsked P bare (suc limited) begin m v c d s determined asked limited refl w onto meets) in
             let x = can_round s.nested (map (λ n. t.fact n a.assignment) s.nested) (subst (Every Short) (sym a.needs) h) w narrow.made closed apart ns in
             let y = can_go w (map (λ n. t.fact n a.assignment) s.nested) x.0 (one_round t laws k closing IsAsked P bare v s.nested (map (λ n. t.fact n a.assignment) s.nested) w x.0 narrow.made closed apart ns x.1) in
             let z = can_answer y.0 in (
@@ -130,7 +130,7 @@ module _ {Question Response : Type 0} (t : Tables Question Response) (laws : IsT
 
   -- each candidate of the list ends
   pub can_all : (limited : ℕ) (begin : t.Table) → t.Made begin → k.IsClosed (k.shape begin) → k.IsApart (k.shape begin) v → (cs : List (Spec (workings t))) (ways : List (List t.Fact)) → AreWays t begin v cs ways
-      → Every (DeterminesNested t begin) cs → Every (λ (s : Spec (workings t)). Every (λ n. (T : t.Table) → t.Made T → IsAsked (t.question T n)) s.nested) cs → Every (Every Short) ways
+      → Every (DeterminesNested t begin) cs → Every (AsksSuch t IsAsked begin v) cs → Every (Every Short) ways
       → Every (λ (s : Spec (workings t)). (x : Option Response) × Ends P (candidate (workings t) (suc limited) begin s) x) cs
   can_all limited begin m c d [] [] u a b h = tt
   can_all limited begin m c d [] (premises ∷ ways) u a b h = tt

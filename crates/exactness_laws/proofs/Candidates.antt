@@ -4,15 +4,16 @@ use Rattle.infer_table.specs.declared.certainty.Certainty.{Certainty}
 use Rattle.infer_table.specs.declared.certainty.Certainty.TheVariants.{Yes, Maybe}
 use Rattle.infer_table.specs.Certainties.{joined, unsettled}
 use Rattle.evaluation.specs.Lists.{Every, SomeOf, Pairwise}
+use Rattle.evaluation.proofs.ListLaws.{Every-mono}
 use Rattle.evaluation.specs.Table.{Tables, operations, workings, IsTable, Narrows}
 use Rattle.evaluation.specs.Rounds.{Round, Rounds, round, settled, next_round, rounds}
 use Rattle.evaluation.specs.Candidate.{Spec, answered, equated, candidate}
 use Rattle.exactness_laws.specs.Plays.{Ends}
-use Rattle.exactness_laws.specs.Closed.{Closing, IsClosing, IsBare, Applies, Refuses, DeterminesNested}
+use Rattle.exactness_laws.specs.Closed.{Closing, IsClosing, IsBare, Applies, Refuses, DeterminesNested, AsksSuch}
 use Rattle.exactness_laws.proofs.Plays.{Ends-followed}
 use Rattle.exactness_laws.proofs.Rounds.{Says, SaysSome, SaysYes, SaysMaybe, IsNested, Lasts, RoundEnds, one_round}
 
-module _ {Question Response : Type 0} (t : Tables Question Response) (laws : IsTable t) (k : Closing t) (closing : IsClosing t k) (IsAsked : Question → Type 0) (P : Question → Option Response → Type 0) where
+module _ {Question Response : Type 0} (t : Tables Question Response) (laws : IsTable t) (k : Closing t) (closing : IsClosing t k) (IsAsked : Question → t.Values → Type 0) (P : Question → Option Response → Type 0) where
   -- what a candidate with these premises says
   pub record Answered (premises : List t.Fact) (r : Response) (sure : Certainty) : Type 0 where
     pub bare : t.has_values r ≡ false
@@ -27,7 +28,7 @@ module _ {Question Response : Type 0} (t : Tables Question Response) (laws : IsT
   joined-yes Yes = refl
   joined-yes (Maybe cause) = refl
 
-  module _ (bare : (q : Question) (a : Option Response) → IsAsked q → k.IsClosed (k.shape_of q) → P q a → IsBare t a) (limit : ℕ) (begin : t.Table) (m : t.Made begin) (v : t.Values)
+  module _ (bare : (q : Question) (v : t.Values) (a : Option Response) → IsAsked q v → k.IsClosed (k.shape_of q) → k.IsApart (k.shape_of q) v → P q a → IsBare t a) (limit : ℕ) (begin : t.Table) (m : t.Made begin) (v : t.Values)
       (c : k.IsClosed (k.shape begin)) (d : k.IsApart (k.shape begin) v) (s : Spec (workings t)) where
     -- where its equations hold for no choice, the candidate is refused
     pub narrows_by : (U : t.Table) → t.equate (t.fresh begin s.kinds) s.equations ≡ Some U → Narrows t (t.fresh begin s.kinds) U
@@ -47,12 +48,19 @@ module _ {Question Response : Type 0} (t : Tables Question Response) (laws : IsT
             let y = closing.free U narrow.made (subst k.IsClosed (sym shape) c) v in
             absurd (none_meets y.0 (narrow.allows y.0 y.1) y.2 (meets_by U q y.0 y.1))
 
-    module _ (determined : DeterminesNested t begin s) (asked : Every (λ n. (T : t.Table) → t.Made T → IsAsked (t.question T n)) s.nested) (limited : ℕ) (more : limit ≡ suc limited) where
+    module _ (determined : DeterminesNested t begin s) (asked : AsksSuch t IsAsked begin v s) (limited : ℕ) (more : limit ≡ suc limited) where
       -- the nested goals, over a table in which the equations hold
+      abbrev pub AreAsked : t.Table → t.Nested → Type 0
+      AreAsked U n = (W : t.Table) (b : t.Assignment) → t.Made W → t.Allows W b → t.Allows U b → t.own b ≡ v → IsAsked (t.question W n) (t.at W n b)
+
+      -- where the equations hold
+      pub asked_in : (U : t.Table) → ((b : t.Assignment) → t.Allows U b → t.Allows (t.fresh begin s.kinds) b) → ((b : t.Assignment) → t.Allows U b → Every (λ e. t.Meets e b) s.equations) → Every (AreAsked U) s.nested
+      asked_in U onto meets = Every-mono _ (AreAsked U) (λ n h W b i a j e. h W b i a (onto b j) (meets b j) e) s.nested asked
+
       pub nested_all : (U : t.Table) (a : t.Assignment) → t.own a ≡ v → (ns : List t.Nested)
           → ((s r : t.Assignment) → t.Allows U s → t.Allows U r → t.own s ≡ t.own r → Every (λ n. t.fact n s ≡ t.fact n r) ns)
           → ((s : t.Assignment) → t.Allows U s → t.own s ≡ t.own a → Every (λ n. t.fact n s ≡ t.fact n a) ns)
-          → Every (λ n. (T : t.Table) → t.Made T → IsAsked (t.question T n)) ns → Pairwise (IsNested t laws k closing IsAsked P U v) ns (map (λ n. t.fact n a) ns)
+          → Every (AreAsked U) ns → Pairwise (IsNested t laws k closing IsAsked P U v) ns (map (λ n. t.fact n a) ns)
       nested_all U a o [] both one h = tt
       nested_all U a o (n ∷ ns) both one h = (
         record { determined = λ s r x y e. (both s r x y e).0; is = λ s x e. (one s x (e ∙ sym o)).0; asked = h.0 },
@@ -131,7 +139,7 @@ module _ {Question Response : Type 0} (t : Tables Question Response) (laws : IsT
               let shape = closing.recorded U s.regions ∙ closing.equate (t.fresh begin s.kinds) U s.equations q ∙ closing.fresh begin s.kinds in
               let ns = nested_all w a.assignment a.own s.nested
               (λ b r h i o. determined b r (onto b h) (onto r i) (meets b h) (meets r i) o)
-              (λ b h o. determined b a.assignment (onto b h) a.allowed (meets b h) a.meets o) asked in
+              (λ b h o. determined b a.assignment (onto b h) a.allowed (meets b h) a.meets o) (asked_in w onto meets) in
               let u = Ends-followed P (next_round (operations t) (rounds (operations t) limited)) (round (operations t) s.nested w) z.0 z.1 in
               let ends = one_round t laws k closing IsAsked P bare v s.nested (map (λ n. t.fact n a.assignment) s.nested) w u.0 narrow.made
               (subst k.IsClosed (sym shape) c) (subst (λ y. k.IsApart y v) (sym shape) d) ns u.1 in

@@ -5,7 +5,7 @@ use Rattle.evaluation.specs.Table.{Tables, workings}
 use Rattle.evaluation.specs.Candidate.{Spec, Considered, Next, consider, answer}
 use Rattle.evaluation.specs.Merge.{responses}
 use Rattle.evaluation.specs.Plans.{Plan, considers, answers, told, after, wanted, came, Planned, planned}
-use Rattle.exactness_laws.specs.Closed.{Closing, AreWays, DeterminesNested}
+use Rattle.exactness_laws.specs.Closed.{Closing, AreWays, DeterminesNested, AsksSuch}
 use Rattle.exactness_laws.specs.Ways.{IsSelection}
 use Rattle.exactness_laws.specs.Exact.{WereConsidered, GoesTo, IsMade, IsExactHandler}
 
@@ -19,18 +19,18 @@ module _ {Question Response : Type 0} (t : Tables Question Response) where
       × ((a : Option Response) (n : ℕ) → IsExactFrom rest (came t s a n ∷ seen) (go a n))
 
   -- the laws of a plan for a question without unknowns
-  pub record IsExactPlan (k : Closing t) (ways : t.Fact → List (List t.Fact)) (IsAsked : Question → Type 0) (q : Question) (p : Planned t) : Type 1 where
+  pub record IsExactPlan (k : Closing t) (ways : t.Fact → List (List t.Fact)) (IsAsked : Question → t.Values → Type 0) (q : Question) (v : t.Values) (p : Planned t) : Type 1 where
     pub begins : k.shape p.begin ≡ k.shape_of q
     pub made : t.Made p.begin
-    pub goal : (v : t.Values) → p.goal v ≡ t.fact_of q v
+    pub goal : p.goal v ≡ t.fact_of q v
     pub specs : List (Spec (workings t))
     pub few : length specs ≤ p.candidates
     pub exact : IsExactFrom specs [] p.plan
     pub determined : Every (DeterminesNested t p.begin) specs
-    pub nested : Every (λ (c : Spec (workings t)). Every (λ n. (T : t.Table) → t.Made T → IsAsked (t.question T n)) c.nested) specs
-    pub found : t.Values → List (List t.Fact)
-    pub applies : (v : t.Values) → k.IsApart (k.shape p.begin) v → AreWays t p.begin v specs (found v)
-    pub selects : (v : t.Values) → k.IsApart (k.shape p.begin) v → IsSelection (found v) (ways (p.goal v))
+    pub nested : Every (AsksSuch t IsAsked p.begin v) specs
+    pub found : List (List t.Fact)
+    pub applies : AreWays t p.begin v specs found
+    pub selects : IsSelection found (ways (p.goal v))
 
   consider-is : (c d : Spec (workings t)) → ◌≡◌ {A = Next (workings t)} (consider c) (consider d) → c ≡ d
   consider-is c d e = cc
@@ -104,8 +104,8 @@ module _ {Question Response : Type 0} (t : Tables Question Response) where
     pub makes : (seen : List (Considered (workings t))) (a : Option Response) (ignored : List ℕ) → WereConsidered t next seen → next seen ≡ answer a ignored → IsMade t (left_at seen) seen a
     makes seen a ignored w e = makes-by (at seen).plan (at seen).left (at seen).heard (at seen).exact seen (heard-is seen w) a ignored (ap (wanted t) (plan-is seen) ∙ e)
 
-  abbrev pub planned-exact : (k : Closing t) (ways : t.Fact → List (List t.Fact)) (IsAsked : Question → Type 0) (q : Question) (p : Planned t) → IsExactPlan k ways IsAsked q p → IsExactHandler t k ways IsAsked q (planned t p)
-  planned-exact k ways IsAsked q p is = record {
+  abbrev pub planned-exact : (k : Closing t) (ways : t.Fact → List (List t.Fact)) (IsAsked : Question → t.Values → Type 0) (q : Question) (v : t.Values) (p : Planned t) → IsExactPlan k ways IsAsked q v p → IsExactHandler t k ways IsAsked q v (planned t p)
+  planned-exact k ways IsAsked q v p is = record {
     begins = is.begins;
     made = is.made;
     goal = is.goal;

@@ -16,7 +16,7 @@ use Rattle.search_graph.specs.Plain.{IsPlain}
 use Rattle.goal_frames.specs.Programs.{Programs}
 use Rattle.goal_frames.specs.Searches.{Handles, Asked, goal_in, kind_of, meaning}
 use Rattle.exactness_laws.specs.Plays.{CanEnd}
-use Rattle.exactness_laws.specs.Closed.{Closing, IsClosing, IsBare, Applies, DeterminesNested, AreWays, no_more, refused, applied}
+use Rattle.exactness_laws.specs.Closed.{Closing, IsClosing, IsBare, Applies, DeterminesNested, AsksSuch, AreWays, no_more, refused, applied}
 use Rattle.exactness_laws.specs.Ways.{AtMostOne, IsSelection, HasShortChains, IsPossible, IsDecided, HoldsByWays, IsExactFor, IsRightFor}
 use Rattle.exactness_laws.specs.Exact.{IsMade, IsExactHandler, AnswersExactly, AreSure, Plain, PlainIsExact, PlainIsRight, PlainAnswers}
 use Rattle.exactness_laws.proofs.Merging.{present}
@@ -91,9 +91,9 @@ module _ {Question Response : Type 0} (t : Tables Question Response) (laws : IsT
   thin-every Q left (c ∷ cs) (d ∷ taken) (take x) h = (h.0, thin-every Q left cs taken x h.1)
   thin-every Q left (c ∷ cs) taken (skip x) h = thin-every Q left cs taken x h.1
 
-  module _ (q : Question) (v : t.Values) (asked : e.IsAsked q) (closed : k.IsClosed (k.shape_of q)) (apart : k.IsApart (k.shape_of q) v) where
-    abbrev is : IsExactHandler t k e.ways e.IsAsked q (handled_of q)
-    is = e.exact q asked closed
+  module _ (q : Question) (v : t.Values) (asked : e.IsAsked q v) (closed : k.IsClosed (k.shape_of q)) (apart : k.IsApart (k.shape_of q) v) where
+    abbrev is : IsExactHandler t k e.ways e.IsAsked q v (handled_of q)
+    is = e.exact q v asked closed apart
 
     begin_closed : k.IsClosed (k.shape (handled_of q).begin)
     begin_closed = subst k.IsClosed (sym is.begins) closed
@@ -101,8 +101,8 @@ module _ {Question Response : Type 0} (t : Tables Question Response) (laws : IsT
     begin_apart : k.IsApart (k.shape (handled_of q).begin) v
     begin_apart = subst (λ z. k.IsApart z v) (sym is.begins) apart
 
-    selection : IsSelection (is.found v) (e.ways (t.fact_of q v))
-    selection = subst (λ f. IsSelection (is.found v) (e.ways f)) (is.goal v) (is.selects v begin_apart)
+    selection : IsSelection is.found (e.ways (t.fact_of q v))
+    selection = subst (λ f. IsSelection is.found (e.ways f)) is.goal is.selects
 
     -- what plain recursion hears of the candidates
     abbrev Heard : ℕ → Option Response → Type 0
@@ -114,20 +114,20 @@ module _ {Question Response : Type 0} (t : Tables Question Response) (laws : IsT
         considers_some t (By n) 8 (handled_of q).begin (handled_of q).next is.left is.considers (suc (handled_of q).candidates) is.specs [] (less-next (length is.specs) (handled_of q).candidates is.few) tt is.all a f
 
     module _ (n : ℕ) (a : Option Response) (h : Heard n a) where
-      ways_of : Parts (handled_of q).begin v h.taken (is.found v)
-      ways_of = parts (handled_of q).begin v (is.left h.last) is.specs h.taken (is.found v) h.thinned (is.applies v begin_apart)
+      ways_of : Parts (handled_of q).begin v h.taken is.found
+      ways_of = parts (handled_of q).begin v (is.left h.last) is.specs h.taken is.found h.thinned is.applies
 
       made : IsMade t (is.left h.last) h.last a
       made = is.makes h.last a h.ignored h.were h.answered
 
       abbrev Bare : Type 0
-      Bare = (q : Question) (a : Option Response) → e.IsAsked q → k.IsClosed (k.shape_of q) → By n q a → IsBare t a
+      Bare = (q : Question) (v : t.Values) (a : Option Response) → e.IsAsked q v → k.IsClosed (k.shape_of q) → k.IsApart (k.shape_of q) v → By n q a → IsBare t a
 
       all_told : Bare → (Sure : Certainty → Type 0) → Every (λ (s : Spec (workings t)). Sure s.certainty) is.specs → Tells t laws k closing e.IsAsked (By n) Sure ways_of.first h.results
       all_told bare Sure sure =
           tells t laws k closing e.IsAsked (By n) Sure bare 7 (handled_of q).begin is.made v begin_closed begin_apart h.taken ways_of.first ways_of.are
           (thin-every (DeterminesNested t (handled_of q).begin) (is.left h.last) is.specs h.taken h.thinned is.determined)
-          (thin-every (λ (s : Spec (workings t)). Every (λ n. (T : t.Table) → t.Made T → e.IsAsked (t.question T n)) s.nested) (is.left h.last) is.specs h.taken h.thinned is.nested)
+          (thin-every (AsksSuch t e.IsAsked (handled_of q).begin v) (is.left h.last) is.specs h.taken h.thinned is.nested)
           (thin-every (λ (s : Spec (workings t)). Sure s.certainty) (is.left h.last) is.specs h.taken h.thinned sure) h.results h.each
 
       -- where all were refused, all candidates were considered
@@ -136,22 +136,22 @@ module _ {Question Response : Type 0} (t : Tables Question Response) (laws : IsT
           let x = made.refused (h.heard ∙ r) in
           (x.0, sym (h.whole (h.heard ∙ r) ∙ ap (λ z. h.taken ++ z) x.1 ∙ append-nil h.taken))
 
-      whole_told : Bare → (Sure : Certainty → Type 0) → Every (λ (s : Spec (workings t)). Sure s.certainty) is.specs → h.taken ≡ is.specs → Tells t laws k closing e.IsAsked (By n) Sure (is.found v) h.results
+      whole_told : Bare → (Sure : Certainty → Type 0) → Every (λ (s : Spec (workings t)). Sure s.certainty) is.specs → h.taken ≡ is.specs → Tells t laws k closing e.IsAsked (By n) Sure is.found h.results
       whole_told bare Sure sure r =
-          tells t laws k closing e.IsAsked (By n) Sure bare 7 (handled_of q).begin is.made v begin_closed begin_apart is.specs (is.found v) (is.applies v begin_apart) is.determined is.nested sure h.results
+          tells t laws k closing e.IsAsked (By n) Sure bare 7 (handled_of q).begin is.made v begin_closed begin_apart is.specs is.found is.applies is.determined is.nested sure h.results
           (subst (λ cs. Pairwise (CandidateEnds t (By n) 8 (handled_of q).begin (handled_of q).next is.left is.considers) cs h.results) r h.each)
 
-      some_way : (Q : List t.Fact → Type 0) → SomeOf Q ways_of.first → SomeOf Q (e.ways (t.fact_of q v))
-      some_way Q s = selection.back Q (ways_of.back Q s)
+      some_way : (Q : t.Fact → Type 0) → SomeOf (Every Q) ways_of.first → SomeOf (Every Q) (e.ways (t.fact_of q v))
+      some_way Q s = selection.back Q (ways_of.back (Every Q) s)
 
   -- ---- refused exactly if it is not possible
   abbrev Exact : ℕ → Type 0
   Exact n =
-      (q : Question) (v : t.Values) (a : Option Response) → e.IsAsked q → k.IsClosed (k.shape_of q) → k.IsApart (k.shape_of q) v
+      (q : Question) (v : t.Values) (a : Option Response) → e.IsAsked q v → k.IsClosed (k.shape_of q) → k.IsApart (k.shape_of q) v
       → By n q a → IsBare t a × IsExactFor e.ways n (t.fact_of q v) a
 
-  bare_by : (n : ℕ) → Exact n → (q : Question) (a : Option Response) → e.IsAsked q → k.IsClosed (k.shape_of q) → By n q a → IsBare t a
-  bare_by n ih q a i c x = let v = closing.some (k.shape_of q) c in (ih q v.0 a i c v.1 x).0
+  bare_by : (n : ℕ) → Exact n → (q : Question) (v : t.Values) (a : Option Response) → e.IsAsked q v → k.IsClosed (k.shape_of q) → k.IsApart (k.shape_of q) v → By n q a → IsBare t a
+  bare_by n ih q v a i c d x = (ih q v a i c d x).0
 
   abbrev SaysSo : ℕ → t.Fact → Option Response → Type 0
   SaysSo n f a = Says t laws k closing e.IsAsked (By n) f a
@@ -172,11 +172,11 @@ module _ {Question Response : Type 0} (t : Tables Question Response) (laws : IsT
       let b = tells_bare t laws k closing e.IsAsked (By n) Any (ways_of q v asked closed apart n a h).first h.results u in
       ((made q v asked closed apart n a h).bare (subst (Every (λ r. t.has_values r ≡ false)) (sym h.heard) b), by h u (present h.results) refl)
     where
-      none_possible : (m : ℕ) → Every (λ premises. SomeOf (λ f. SaysSo n f None) premises) ((is q v asked closed apart).found v) → IsPossible e.ways m (t.fact_of q v) → ⊥
+      none_possible : (m : ℕ) → Every (λ premises. SomeOf (λ f. SaysSo n f None) premises) (is q v asked closed apart).found → IsPossible e.ways m (t.fact_of q v) → ⊥
       none_possible zero z y = y
       none_possible (suc m) z y =
-          Every-at (λ premises. SomeOf (λ f. SaysSo n f None) premises) (Every (IsPossible e.ways m)) ⊥ (λ premises s i. has_no n ih m premises s i) ((is q v asked closed apart).found v) z
-          ((selection q v asked closed apart).some (Every (IsPossible e.ways m)) y)
+          Every-at (λ premises. SomeOf (λ f. SaysSo n f None) premises) (Every (IsPossible e.ways m)) ⊥ (λ premises s i. has_no n ih m premises s i) (is q v asked closed apart).found z
+          ((selection q v asked closed apart).some (IsPossible e.ways m) y)
 
       by : (h : Heard q v asked closed apart n a) → Tells t laws k closing e.IsAsked (By n) Any (ways_of q v asked closed apart n a h).first h.results → (rs : List Response) → present h.results ≡ rs
           → IsExactFor e.ways (suc n) (t.fact_of q v) a
@@ -184,11 +184,11 @@ module _ {Question Response : Type 0} (t : Tables Question Response) (laws : IsT
           let y = refused_all q v asked closed apart n a h r in
           let whole = whole_told q v asked closed apart n a h (bare_by n ih) Any (every-unit (is q v asked closed apart).specs) y.1 in
           subst (IsExactFor e.ways (suc n) (t.fact_of q v)) (sym y.0)
-          (λ m z. none_possible m (tells_none t laws k closing e.IsAsked (By n) Any ((is q v asked closed apart).found v) h.results whole r) z)
+          (λ m z. none_possible m (tells_none t laws k closing e.IsAsked (By n) Any (is q v asked closed apart).found h.results whole r) z)
       by h u (c ∷ rs) r =
           let s = (made q v asked closed apart n a h).answers c rs (h.heard ∙ r) in
           subst (IsExactFor e.ways (suc n) (t.fact_of q v)) (sym s.1)
-          (some_way q v asked closed apart n a h (Every (IsPossible e.ways n))
+          (some_way q v asked closed apart n a h (IsPossible e.ways n)
           (SomeOf-mono (λ premises. Every (SaysSome t laws k closing e.IsAsked (By n)) premises) (Every (IsPossible e.ways n))
           (λ premises i. Every-mono (SaysSome t laws k closing e.IsAsked (By n)) (IsPossible e.ways n) (says_some n ih) premises i) (ways_of q v asked closed apart n a h).first
           (tells_some t laws k closing e.IsAsked (By n) Any (ways_of q v asked closed apart n a h).first h.results u c rs r)))
@@ -204,7 +204,7 @@ module _ {Question Response : Type 0} (t : Tables Question Response) (laws : IsT
 
     abbrev Right : ℕ → Type 0
     Right n =
-        (q : Question) (v : t.Values) (a : Option Response) → e.IsAsked q → k.IsClosed (k.shape_of q) → k.IsApart (k.shape_of q) v
+        (q : Question) (v : t.Values) (a : Option Response) → e.IsAsked q v → k.IsClosed (k.shape_of q) → k.IsApart (k.shape_of q) v
         → IsDecided e.ways Holds n (t.fact_of q v) → By n q a → IsRightFor t Holds (t.fact_of q v) a
 
     says_right : (n : ℕ) → Right n → (f : t.Fact) (a : Option Response) → IsDecided e.ways Holds n f → SaysSo n f a → IsRightFor t Holds f a
@@ -223,9 +223,9 @@ module _ {Question Response : Type 0} (t : Tables Question Response) (laws : IsT
         let bare = bare_by n (λ q v a j c d y. plain_is_exact n q v a j c d y) in
         let s = selection q v asked closed apart in
         let y = ways_of q v asked closed apart n a h in
-        by bare h (s.one (Every Holds) i.0) (s.every (Every (IsDecided e.ways Holds n)) i.1)
-        (settled_by n ih y.first h.results (all_told q v asked closed apart n a h bare IsYesOnly (sure q asked closed)) (y.one (Every Holds) (s.one (Every Holds) i.0))
-        (y.every (Every (IsDecided e.ways Holds n)) (s.every (Every (IsDecided e.ways Holds n)) i.1)))
+        by bare h (s.one Holds i.0) (s.every (IsDecided e.ways Holds n) i.1)
+        (settled_by n ih y.first h.results (all_told q v asked closed apart n a h bare IsYesOnly (sure q v asked closed apart)) (y.one (Every Holds) (s.one Holds i.0))
+        (y.every (Every (IsDecided e.ways Holds n)) (s.every (IsDecided e.ways Holds n) i.1)))
       where
         no-cons : (r : Response) (rs : List Response) → rs ≡ [] → rs ≡ r ∷ [] → ⊥
         no-cons r rs e f = cc
@@ -236,18 +236,18 @@ module _ {Question Response : Type 0} (t : Tables Question Response) (laws : IsT
         none-holds found rs e (inl z) s = z.1 s
         none-holds found rs e (inr z) s = no-cons z.0 rs e z.1
 
-        by : ((q : Question) (a : Option Response) → e.IsAsked q → k.IsClosed (k.shape_of q) → By n q a → IsBare t a) → (h : Heard q v asked closed apart n a)
-            → AtMostOne (Every Holds) ((is q v asked closed apart).found v) → Every (Every (IsDecided e.ways Holds n)) ((is q v asked closed apart).found v)
+        by : ((q : Question) (v : t.Values) (a : Option Response) → e.IsAsked q v → k.IsClosed (k.shape_of q) → k.IsApart (k.shape_of q) v → By n q a → IsBare t a) → (h : Heard q v asked closed apart n a)
+            → AtMostOne (Every Holds) (is q v asked closed apart).found → Every (Every (IsDecided e.ways Holds n)) (is q v asked closed apart).found
             → ((present h.results ≡ []) × (SomeOf (λ premises. Every Holds premises) (ways_of q v asked closed apart n a h).first → ⊥))
             ⊎ ((r : Response) × (present h.results ≡ r ∷ []) × (is_yes (operations t) r ≡ true) × SomeOf (λ premises. Every Holds premises) (ways_of q v asked closed apart n a h).first)
             → IsRightFor t Holds (t.fact_of q v) a
         by bare h one known (inl z) =
             let y = refused_all q v asked closed apart n a h z.0 in
-            let u = settled_by n ih ((is q v asked closed apart).found v) h.results (whole_told q v asked closed apart n a h bare IsYesOnly (sure q asked closed) y.1) one known in
-            inr ((λ x. none-holds ((is q v asked closed apart).found v) (present h.results) z.0 u ((selection q v asked closed apart).some (Every Holds) (ways.has_way (t.fact_of q v) x))), y.0)
+            let u = settled_by n ih (is q v asked closed apart).found h.results (whole_told q v asked closed apart n a h bare IsYesOnly (sure q v asked closed apart) y.1) one known in
+            inr ((λ x. none-holds (is q v asked closed apart).found (present h.results) z.0 u ((selection q v asked closed apart).some Holds (ways.has_way (t.fact_of q v) x))), y.0)
         by bare h one known (inr z) =
             inl (
-              ways.by_way (t.fact_of q v) (some_way q v asked closed apart n a h (Every Holds) z.3),
+              ways.by_way (t.fact_of q v) (some_way q v asked closed apart n a h Holds z.3),
               subst (IsYes t) (sym ((made q v asked closed apart n a h).only z.0 (h.heard ∙ z.1) z.2)) z.2,
             )
 
@@ -261,14 +261,14 @@ module _ {Question Response : Type 0} (t : Tables Question Response) (laws : IsT
   -- ---- a goal of short chains has an answer
   module _ (ordered : (n : ℕ) (q : Question) (heard : List (Reply (Option Response))) → AreReplies m (IsPlain m w n) w (mode, p.goal_of q) heard → IsInOrder m w (mode, p.goal_of q) heard (m.asks w (mode, p.goal_of q) heard)) where
     answers_step : (n : ℕ)
-        → ((q : Question) (v : t.Values) → e.IsAsked q → k.IsClosed (k.shape_of q) → k.IsApart (k.shape_of q) v → HasShortChains e.ways n (t.fact_of q v) → (a : Option Response) × By n q a)
-        → (q : Question) (v : t.Values) → e.IsAsked q → k.IsClosed (k.shape_of q) → k.IsApart (k.shape_of q) v → HasShortChains e.ways (suc n) (t.fact_of q v) → (a : Option Response) × By (suc n) q a
+        → ((q : Question) (v : t.Values) → e.IsAsked q v → k.IsClosed (k.shape_of q) → k.IsApart (k.shape_of q) v → HasShortChains e.ways n (t.fact_of q v) → (a : Option Response) × By n q a)
+        → (q : Question) (v : t.Values) → e.IsAsked q v → k.IsClosed (k.shape_of q) → k.IsApart (k.shape_of q) v → HasShortChains e.ways (suc n) (t.fact_of q v) → (a : Option Response) × By (suc n) q a
     answers_step n ih q v asked closed apart short =
         let h = handled_of q in
         let x = is q v asked closed apart in
         let bare = bare_by n (λ q v a j c d y. plain_is_exact n q v a j c d y) in
-        let each = can_all t laws k closing e.IsAsked (By n) bare (HasShortChains e.ways n) ih v 7 h.begin x.made (begin_closed q v asked closed apart) (begin_apart q v asked closed apart) x.specs (x.found v)
-        (x.applies v (begin_apart q v asked closed apart)) x.determined x.nested ((selection q v asked closed apart).every (Every (HasShortChains e.ways n)) short) in
+        let each = can_all t laws k closing e.IsAsked (By n) bare (HasShortChains e.ways n) ih v 7 h.begin x.made (begin_closed q v asked closed apart) (begin_apart q v asked closed apart) x.specs x.found
+        x.applies x.determined x.nested ((selection q v asked closed apart).every (HasShortChains e.ways n) short) in
         let can : CanEnd (By n) (frame_of_goal t h) =
         can_consider t (By n) 8 h.begin h.next x.left x.considers (suc h.candidates) x.specs [] (less-next (length x.specs) h.candidates x.few) tt x.all each in
         let y = completes m Question (goal_in t p mode) (kind_of t) w (mode, p.goal_of q) (frame_of_goal t h) (λ h. refl) (IsPlain m w n) (ordered n q) can in

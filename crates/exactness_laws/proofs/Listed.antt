@@ -8,24 +8,24 @@ use Rattle.evaluation.specs.Merge.{responses, merge_or_flounder}
 use Rattle.evaluation.specs.Plans.{came, each_of}
 use Rattle.evaluation.specs.PlanAnswers.{all_merged}
 use Rattle.goal_frames.specs.Listings.{Listing, as_plan, listed}
-use Rattle.exactness_laws.specs.Closed.{Closing, IsClosing, AreWays, DeterminesNested}
+use Rattle.exactness_laws.specs.Closed.{Closing, IsClosing, AreWays, DeterminesNested, AsksSuch}
 use Rattle.exactness_laws.specs.Ways.{IsSelection}
 use Rattle.exactness_laws.specs.Exact.{IsExactHandler}
 use Rattle.exactness_laws.proofs.ExactPlans.{IsExactFrom, IsExactPlan, planned-exact}
 use Rattle.exactness_laws.proofs.Merging.{merged-one, merged-some, merged-bare}
 
 -- a list whose candidates are the ways of its goal
-module _ {Question Response : Type 0} (t : Tables Question Response) (k : Closing t) (ways : t.Fact → List (List t.Fact)) (IsAsked : Question → Type 0) (q : Question) where
+module _ {Question Response : Type 0} (t : Tables Question Response) (k : Closing t) (ways : t.Fact → List (List t.Fact)) (IsAsked : Question → t.Values → Type 0) (q : Question) (v : t.Values) where
   pub record IsExactListing (l : Listing t) : Type 1 where
     pub begins : k.shape l.begin ≡ k.shape_of q
     pub made : t.Made l.begin
-    pub goal : (v : t.Values) → l.goal v ≡ t.fact_of q v
+    pub goal : l.goal v ≡ t.fact_of q v
     pub closed : k.IsClosed (k.shape l.begin)
     pub determined : Every (DeterminesNested t l.begin) l.specs
-    pub nested : Every (λ (c : Spec (workings t)). Every (λ n. (T : t.Table) → t.Made T → IsAsked (t.question T n)) c.nested) l.specs
-    pub found : t.Values → List (List t.Fact)
-    pub applies : (v : t.Values) → k.IsApart (k.shape l.begin) v → AreWays t l.begin v l.specs (found v)
-    pub selects : (v : t.Values) → k.IsApart (k.shape l.begin) v → IsSelection (found v) (ways (l.goal v))
+    pub nested : Every (AsksSuch t IsAsked l.begin v) l.specs
+    pub found : List (List t.Fact)
+    pub applies : AreWays t l.begin v l.specs found
+    pub selects : IsSelection found (ways (l.goal v))
 
 module _ {Question Response : Type 0} (t : Tables Question Response) (applicable : Response → Bool) (same : Response → Response → Bool) (begin : t.Table) (silent : (c : Certainty) → t.has_values (t.respond begin c) ≡ false) where
   abbrev pub merged : List Response → Option Response
@@ -41,12 +41,12 @@ module _ {Question Response : Type 0} (t : Tables Question Response) (applicable
   }
   each-exact (s ∷ left) seen = ([], left, refl, λ h. refl, λ a n. each-exact left (came t s a n ∷ seen))
 
-module _ {Question Response : Type 0} (t : Tables Question Response) (k : Closing t) (closing : IsClosing t k) (ways : t.Fact → List (List t.Fact)) (IsAsked : Question → Type 0) (q : Question)
-    (applicable : Response → Bool) (same : Response → Response → Bool) (l : Listing t) (is : IsExactListing t k ways IsAsked q l) where
+module _ {Question Response : Type 0} (t : Tables Question Response) (k : Closing t) (closing : IsClosing t k) (ways : t.Fact → List (List t.Fact)) (IsAsked : Question → t.Values → Type 0) (q : Question) (v : t.Values)
+    (applicable : Response → Bool) (same : Response → Response → Bool) (l : Listing t) (is : IsExactListing t k ways IsAsked q v l) where
   pub itself : (n : ℕ) → n ≤ n
   itself n = omega arith
 
-  abbrev pub listed-plan : IsExactPlan t k ways IsAsked q (as_plan t applicable same l)
+  abbrev pub listed-plan : IsExactPlan t k ways IsAsked q v (as_plan t applicable same l)
   listed-plan = record {
     begins = is.begins;
     made = is.made;
@@ -61,5 +61,5 @@ module _ {Question Response : Type 0} (t : Tables Question Response) (k : Closin
     selects = is.selects;
   }
 
-  abbrev pub listed-exact : IsExactHandler t k ways IsAsked q (listed t applicable same l)
-  listed-exact = planned-exact t k ways IsAsked q (as_plan t applicable same l) listed-plan
+  abbrev pub listed-exact : IsExactHandler t k ways IsAsked q v (listed t applicable same l)
+  listed-exact = planned-exact t k ways IsAsked q v (as_plan t applicable same l) listed-plan

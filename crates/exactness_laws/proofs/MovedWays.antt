@@ -16,11 +16,11 @@ module _ {A B : Type 0} (read : A → B) (ways : A → List (List A)) (others : 
     pub decided : (Holds : B → Type 0) (n : ℕ) (a : A) → IsDecided others Holds n (read a) → IsDecided ways (λ b. Holds (read b)) n a
     pub holds : (Holds : B → Type 0) → HoldsByWays others Holds → HoldsByWays ways (λ b. Holds (read b))
 
-every-from : {A B : Type 0} (f : A → B) (P : B → Type 0) (S : A → Type 0) → ((x : A) → P (f x) → S x) → (xs : List A) → Every P (map f xs) → Every S xs
+pub every-from : {A B : Type 0} (f : A → B) (P : B → Type 0) (S : A → Type 0) → ((x : A) → P (f x) → S x) → (xs : List A) → Every P (map f xs) → Every S xs
 every-from f P S g [] h = tt
 every-from f P S g (x ∷ xs) h = (g x h.0, every-from f P S g xs h.1)
 
-every-to : {A B : Type 0} (f : A → B) (P : B → Type 0) (S : A → Type 0) → ((x : A) → S x → P (f x)) → (xs : List A) → Every S xs → Every P (map f xs)
+pub every-to : {A B : Type 0} (f : A → B) (P : B → Type 0) (S : A → Type 0) → ((x : A) → S x → P (f x)) → (xs : List A) → Every S xs → Every P (map f xs)
 every-to f P S g [] h = tt
 every-to f P S g (x ∷ xs) h = (g x h.0, every-to f P S g xs h.1)
 

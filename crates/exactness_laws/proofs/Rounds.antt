@@ -8,12 +8,12 @@ use Rattle.exactness_laws.specs.Plays.{Ends}
 use Rattle.exactness_laws.specs.Closed.{Closing, IsClosing, IsBare}
 use Rattle.exactness_laws.proofs.Plays.{Ends-followed}
 
-module _ {Question Response : Type 0} (t : Tables Question Response) (laws : IsTable t) (k : Closing t) (closing : IsClosing t k) (IsAsked : Question → Type 0) (P : Question → Option Response → Type 0) where
+module _ {Question Response : Type 0} (t : Tables Question Response) (laws : IsTable t) (k : Closing t) (closing : IsClosing t k) (IsAsked : Question → t.Values → Type 0) (P : Question → Option Response → Type 0) where
   -- P answers a goal without unknowns, of which this is the reference, so
   pub record Says (f : t.Fact) (a : Option Response) : Type 0 where
     pub question : Question
     pub values : t.Values
-    pub asked : IsAsked question
+    pub asked : IsAsked question values
     pub closed : k.IsClosed (k.shape_of question)
     pub apart : k.IsApart (k.shape_of question) values
     pub fact : t.fact_of question values ≡ f
@@ -32,13 +32,13 @@ module _ {Question Response : Type 0} (t : Tables Question Response) (laws : IsT
   pub record IsNested (T : t.Table) (v : t.Values) (n : t.Nested) (f : t.Fact) : Type 0 where
     pub determined : IsDetermined t T n
     pub is : (s : t.Assignment) → t.Allows T s → t.own s ≡ v → t.fact n s ≡ f
-    pub asked : (U : t.Table) → t.Made U → IsAsked (t.question U n)
+    pub asked : (U : t.Table) (s : t.Assignment) → t.Made U → t.Allows U s → t.Allows T s → t.own s ≡ v → IsAsked (t.question U n) (t.at U n s)
 
   narrowed : (T U : t.Table) (v : t.Values) (n : t.Nested) (f : t.Fact) → Narrows t T U → IsNested T v n f → IsNested U v n f
   narrowed T U v n f narrow i = record {
     determined = λ s r a b e. i.determined s r (narrow.allows s a) (narrow.allows r b) e;
     is = λ s a e. i.is s (narrow.allows s a) e;
-    asked = i.asked;
+    asked = λ W s m a b e. i.asked W s m a (narrow.allows s b) e;
   }
 
   pub all_narrowed : (T U : t.Table) (v : t.Values) (ns : List t.Nested) (fs : List t.Fact) → Narrows t T U → Pairwise (IsNested T v) ns fs → Pairwise (IsNested U v) ns fs
@@ -58,7 +58,7 @@ module _ {Question Response : Type 0} (t : Tables Question Response) (laws : IsT
       record {
         question = t.question T n;
         values = t.at T n x.0;
-        asked = i.asked T m;
+        asked = i.asked T x.0 m x.1 x.1 x.2;
         closed = closing.closed T n m c i.determined;
         apart = closing.apart T n c i.determined x.0 x.1 apart;
         fact = laws.instance T n x.0 x.1 ∙ i.is x.0 x.1 x.2;
@@ -90,7 +90,7 @@ module _ {Question Response : Type 0} (t : Tables Question Response) (laws : IsT
   or-both : (a b : Bool) → a ≡ false → b ≡ false → (a || b) ≡ false
   or-both a b e f = ap (λ x. x || b) e ∙ f
 
-  module _ (bare : (q : Question) (a : Option Response) → IsAsked q → k.IsClosed (k.shape_of q) → P q a → IsBare t a) (v : t.Values) where
+  module _ (bare : (q : Question) (v : t.Values) (a : Option Response) → IsAsked q v → k.IsClosed (k.shape_of q) → k.IsApart (k.shape_of q) v → P q a → IsBare t a) (v : t.Values) where
     -- a definite yes drops the goal
     dropped : (T U : t.Table) (f : t.Fact) (fs : List t.Fact) (o : Option (Round (operations t))) → Narrows t T U → k.shape U ≡ k.shape T → SaysYes f → RoundEnds U fs o → RoundEnds T (f ∷ fs) o
     dropped T U f fs o narrow shape y (inl x) = inl (x.0, inr x.1)
@@ -162,4 +162,6 @@ module _ {Question Response : Type 0} (t : Tables Question Response) (laws : IsT
 
         by : Onward ns fs → (a : Option Response) → P (t.question T n) a → Ends P (replied (operations t) (round (operations t) ns) T n a) o → RoundEnds T (f ∷ fs) o
         by go None q g = inl (sym g, inl (says T v n f None m c d p.0 q))
-        by go (Some r) q g = put go r (t.apply T n r) refl (says T v n f (Some r) m c d p.0 q) (bare (t.question T n) (Some r) (p.0.asked T m) (closing.closed T n m c p.0.determined) q) g
+        by go (Some r) q g =
+            let y = says T v n f (Some r) m c d p.0 q in
+            put go r (t.apply T n r) refl y (bare y.question y.values (Some r) y.asked y.closed y.apart y.says) g

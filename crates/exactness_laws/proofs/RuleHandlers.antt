@@ -38,7 +38,7 @@ use Rattle.goal_frames.proofs.Asked.{IsAsked, asked-is, kinds-are}
 use Rattle.goal_frames.proofs.Sound.{term-one, fact-behind, heads, determined}
 use Rattle.goal_frames.proofs.Forms.{canonical-goals-are-asked}
 use Rattle.evaluation_laws.specs.Variables.{is_variable_over}
-use Rattle.exactness_laws.specs.Closed.{Applies, Refuses, AreWays, no_more, refused, applied, DeterminesNested}
+use Rattle.exactness_laws.specs.Closed.{Applies, Refuses, AreWays, no_more, refused, applied, DeterminesNested, AsksSuch}
 use Rattle.exactness_laws.specs.ClosedTables.{AreClosed, ArePlaces, closed_tables}
 use Rattle.exactness_laws.specs.Ways.{IsSelection}
 use Rattle.exactness_laws.specs.Exact.{AnswersExactly, AreSure}
@@ -214,46 +214,54 @@ each-spec P kind a (r ∷ rules) g f = by (r.head.trait == a.bound.trait) (each-
     by true h = (f r g.0, h)
     by false h = h
 
-itself : {A : Type 0} (xs : List A) → IsSelection xs xs
+itself : {A : Type 0} (xs : List (List A)) → IsSelection xs xs
 itself xs = record { every = λ P h. h; some = λ P s. s; back = λ P s. s; one = λ P h. h }
 
-module _ (book : RuleBook) (rules_are : AreRules book) (mode : TypingMode) (q : Question) (closed : AreClosed q.form.kinds) where
-  exact-listing : (a : Asked) → IsAsked q.form a → IsExactListing frame_tables closed_tables (rule_ways book.rules) IsAskedForm q (listing_of book mode q.form a.kinds (Some a))
+-- whatever its placeholders stand for
+abbrev AskedAt : Question → Values → Type 0
+AskedAt q v = IsAskedForm q
+
+module _ (book : RuleBook) (rules_are : AreRules book) (mode : TypingMode) (q : Question) (v : Values) (closed : AreClosed q.form.kinds) (places : ArePlaces q.form.kinds v) where
+  exact-listing : (a : Asked) → IsAsked q.form a → IsExactListing frame_tables closed_tables (rule_ways book.rules) AskedAt q v (listing_of book mode q.form a.kinds (Some a))
   exact-listing a h =
       let kind = book.coinductive a.bound.trait in
       let c = subst AreClosed h.kinds closed in
       record {
         begins = sym h.kinds;
         made = begin-made a.kinds;
-        goal = λ v. refl;
+        goal = refl;
         closed = c;
         determined = each-spec (DeterminesNested frame_tables (begin a.kinds)) kind a book.rules rules_are (λ r good s t l k m e o. determined q.form a h r good kind s t l k m e o);
         nested =
-            each-spec (λ (c : Spec (workings frame_tables)). Every (λ n. (T : FrameTable) → IsMadeFrame T → IsAskedForm (question T n)) c.nested) kind a book.rules rules_are
+            each-spec (AsksSuch frame_tables AskedAt (begin a.kinds) v) kind a book.rules rules_are
             (λ r good.
-            Every-map (λ (n : Nested). (T : FrameTable) → IsMadeFrame T → IsAskedForm (question T n)) (λ b. nested_of_bound kind (behind (length a.kinds) b)) r.premises
-            (Every-mono (IsOver r.kinds) (λ b. (T : FrameTable) → IsMadeFrame T → IsAskedForm (question T (nested_of_bound kind (behind (length a.kinds) b))))
-            (λ b over T made. question-asked T made kind (length a.kinds) r.kinds b over) r.premises good.premises));
-        found = λ v. rule_ways book.rules (fact_of q v);
-        applies = λ v p. all-ways q.form a h c kind v p book.rules rules_are;
-        selects = λ v p. itself (rule_ways book.rules (fact_of q v));
+            Every-map (Asks r) (λ b. nested_of_bound kind (behind (length a.kinds) b)) r.premises
+            (Every-mono (IsOver r.kinds) (λ b. Asks r (nested_of_bound kind (behind (length a.kinds) b)))
+            (λ b over T s made l i e o. question-asked T made kind (length a.kinds) r.kinds b over) r.premises good.premises));
+        found = rule_ways book.rules (fact_of q v);
+        applies = all-ways q.form a h c kind v (subst (λ ks. ArePlaces ks v) h.kinds places) book.rules rules_are;
+        selects = itself (rule_ways book.rules (fact_of q v));
       }
+    where
+      Asks : Rule → Nested → Type 0
+      Asks r n =
+          (T : FrameTable) (s : Terms) → IsMadeFrame T → Allows T s → Allows (fresh (begin a.kinds) r.kinds) s → Every (λ e. Meets e s) (spec_of (book.coinductive a.bound.trait) a r).equations → s.own ≡ v → IsAskedForm (question T n)
 
   -- the same, of the goal's form as it is
-  pub form-listing : IsAskedForm q → IsExactListing frame_tables closed_tables (rule_ways book.rules) IsAskedForm q (listing_of book mode q.form (kinds_known q.form.kinds) (asked q.form))
+  pub form-listing : IsAskedForm q → IsExactListing frame_tables closed_tables (rule_ways book.rules) AskedAt q v (listing_of book mode q.form (kinds_known q.form.kinds) (asked q.form))
   form-listing x =
       let h = asked-is q.form x.0 x.1 in
-      subst (λ o. IsExactListing frame_tables closed_tables (rule_ways book.rules) IsAskedForm q (listing_of book mode q.form (kinds_known q.form.kinds) o)) (sym x.1)
-      (subst (λ ks. IsExactListing frame_tables closed_tables (rule_ways book.rules) IsAskedForm q (listing_of book mode q.form ks (Some x.0))) (sym (kinds-are q.form x.0 h)) (exact-listing x.0 h))
+      subst (λ o. IsExactListing frame_tables closed_tables (rule_ways book.rules) AskedAt q v (listing_of book mode q.form (kinds_known q.form.kinds) o)) (sym x.1)
+      (subst (λ ks. IsExactListing frame_tables closed_tables (rule_ways book.rules) AskedAt q v (listing_of book mode q.form ks (Some x.0))) (sym (kinds-are q.form x.0 h)) (exact-listing x.0 h))
 
 -- lists of rules answer exactly, in each mode
 abbrev pub rules_answer_exactly : (w : DeclaredRules) (mode : TypingMode) → AnswersExactly frame_tables closed_tables rule_programs w mode
 rules_answer_exactly w mode = record {
-  IsAsked = IsAskedForm;
+  IsAsked = AskedAt;
   ways = rule_ways w.rules;
-  exact = λ q i c.
+  exact = λ q v i c d.
       let book = book_of w in
-      listed-exact frame_tables closed_tables closed_tables_are_lawful (rule_ways w.rules) IsAskedForm q applies_always same_answer (listing_of book mode q.form (kinds_known q.form.kinds) (asked q.form)) (form-listing book w.made mode q c i);
+      listed-exact frame_tables closed_tables closed_tables_are_lawful (rule_ways w.rules) AskedAt q v applies_always same_answer (listing_of book mode q.form (kinds_known q.form.kinds) (asked q.form)) (form-listing book w.made mode q v c d i);
 }
 
 -- ---- none of their candidates is unsure
@@ -264,4 +272,4 @@ specs-sure book rules_are mode q closed a x h =
     (each-spec (λ (c : Spec (workings frame_tables)). c.certainty ≡ Yes) (book.coinductive a.bound.trait) a book.rules rules_are (λ r good. refl))
 
 pub rules_are_sure : (w : DeclaredRules) (mode : TypingMode) → AreSure frame_tables closed_tables rule_programs w mode (rules_answer_exactly w mode)
-rules_are_sure w mode q i c = specs-sure (book_of w) w.made mode q c i.0 i.1 (asked-is q.form i.0 i.1)
+rules_are_sure w mode q v i c d = specs-sure (book_of w) w.made mode q c i.0 i.1 (asked-is q.form i.0 i.1)

@@ -8,13 +8,13 @@ use Rattle.evaluation.specs.Operations.{is_yes}
 use Rattle.evaluation.specs.Table.{Tables, operations, workings, IsTable}
 use Rattle.evaluation.specs.Candidate.{Spec, candidate}
 use Rattle.exactness_laws.specs.Plays.{Ends}
-use Rattle.exactness_laws.specs.Closed.{Closing, IsClosing, IsBare, AreWays, no_more, refused, applied, DeterminesNested}
+use Rattle.exactness_laws.specs.Closed.{Closing, IsClosing, IsBare, AreWays, no_more, refused, applied, DeterminesNested, AsksSuch}
 use Rattle.exactness_laws.specs.Ways.{AtMostOne, IsRightFor}
 use Rattle.exactness_laws.proofs.Rounds.{Says, SaysSome, SaysYes, SaysMaybe}
 use Rattle.exactness_laws.proofs.Candidates.{Told, refused_is, applied_is}
 use Rattle.exactness_laws.proofs.Merging.{present}
 
-module _ {Question Response : Type 0} (t : Tables Question Response) (laws : IsTable t) (k : Closing t) (closing : IsClosing t k) (IsAsked : Question → Type 0) (P : Question → Option Response → Type 0) (Sure : Certainty → Type 0) where
+module _ {Question Response : Type 0} (t : Tables Question Response) (laws : IsTable t) (k : Closing t) (closing : IsClosing t k) (IsAsked : Question → t.Values → Type 0) (P : Question → Option Response → Type 0) (Sure : Certainty → Type 0) where
   abbrev SaysSo : t.Fact → Option Response → Type 0
   SaysSo f a = Says t laws k closing IsAsked P f a
 
@@ -29,13 +29,13 @@ module _ {Question Response : Type 0} (t : Tables Question Response) (laws : IsT
   skip_if None e s = skip s
   skip_if (Some r) e s = absurd (cc)
 
-  module _ (bare : (q : Question) (a : Option Response) → IsAsked q → k.IsClosed (k.shape_of q) → P q a → IsBare t a) (limited : ℕ) (begin : t.Table) (made : t.Made begin) (v : t.Values)
+  module _ (bare : (q : Question) (v : t.Values) (a : Option Response) → IsAsked q v → k.IsClosed (k.shape_of q) → k.IsApart (k.shape_of q) v → P q a → IsBare t a) (limited : ℕ) (begin : t.Table) (made : t.Made begin) (v : t.Values)
       (c : k.IsClosed (k.shape begin)) (d : k.IsApart (k.shape begin) v) where
     abbrev pub CandidateEnds : Spec (workings t) → Option Response → Type 0
     CandidateEnds s x = Ends P (candidate (workings t) (suc limited) begin s) x
 
     pub tells : (cs : List (Spec (workings t))) (ways : List (List t.Fact)) → AreWays t begin v cs ways → Every (DeterminesNested t begin) cs
-        → Every (λ (s : Spec (workings t)). Every (λ n. (T : t.Table) → t.Made T → IsAsked (t.question T n)) s.nested) cs → Every (λ (s : Spec (workings t)). Sure s.certainty) cs
+        → Every (AsksSuch t IsAsked begin v) cs → Every (λ (s : Spec (workings t)). Sure s.certainty) cs
         → (xs : List (Option Response)) → Pairwise CandidateEnds cs xs → Tells ways xs
     tells [] [] no_more a b s [] p = end
     tells [] [] no_more a b s (x ∷ xs) p = absurd p

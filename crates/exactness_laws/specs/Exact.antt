@@ -10,7 +10,7 @@ use Rattle.evaluation.specs.Handler.{Handled}
 use Rattle.goal_frames.specs.Programs.{Programs}
 use Rattle.goal_frames.specs.Searches.{Handles, Asked, meaning}
 use Rattle.search_graph.specs.Plain.{IsPlain}
-use Rattle.exactness_laws.specs.Closed.{Closing, AreWays, DeterminesNested, IsBare}
+use Rattle.exactness_laws.specs.Closed.{Closing, AreWays, DeterminesNested, AsksSuch, IsBare}
 use Rattle.exactness_laws.specs.Ways.{IsSelection, HasShortChains, IsDecided, IsExactFor, IsRightFor}
 
 module _ {Question Response : Type 0} (t : Tables Question Response) where
@@ -37,12 +37,13 @@ module _ {Question Response : Type 0} (t : Tables Question Response) where
     pub only : (r : Response) → responses t seen ≡ r ∷ [] → is_yes (operations t) r ≡ true → a ≡ Some r
 
 module _ {Question Response : Type 0} (t : Tables Question Response) (k : Closing t) where
-  -- what the handler of a question without unknowns is: its candidates are its ways, and nothing else
-  pub record IsExactHandler (ways : t.Fact → List (List t.Fact)) (IsAsked : Question → Type 0) (q : Question) (h : Handled t) : Type 1 where
+  -- what the handler of a question without unknowns is, at values that tell its placeholders apart: its candidates are the ways of its
+  -- instance, and nothing else
+  pub record IsExactHandler (ways : t.Fact → List (List t.Fact)) (IsAsked : Question → t.Values → Type 0) (q : Question) (v : t.Values) (h : Handled t) : Type 1 where
     -- its frame begins with a table for the question, made as tables are, and its instances are the question's
     pub begins : k.shape h.begin ≡ k.shape_of q
     pub made : t.Made h.begin
-    pub goal : (v : t.Values) → h.goal v ≡ t.fact_of q v
+    pub goal : h.goal v ≡ t.fact_of q v
     -- the candidates, in the order in which they are considered
     pub specs : List (Spec (workings t))
     pub few : length specs ≤ h.candidates
@@ -55,24 +56,26 @@ module _ {Question Response : Type 0} (t : Tables Question Response) (k : Closin
         → WereConsidered t h.next seen → h.next seen ≡ answer a ignored → IsMade t (left seen) seen a
     -- the goal determines the nested goals of each, and these are goals that are asked
     pub determined : Every (DeterminesNested t h.begin) specs
-    pub nested : Every (λ (c : Spec (workings t)). Every (λ n. (T : t.Table) → t.Made T → IsAsked (t.question T n)) c.nested) specs
-    -- those that apply are the goal's ways
-    pub found : t.Values → List (List t.Fact)
-    pub applies : (v : t.Values) → k.IsApart (k.shape h.begin) v → AreWays t h.begin v specs (found v)
-    pub selects : (v : t.Values) → k.IsApart (k.shape h.begin) v → IsSelection (found v) (ways (h.goal v))
+    pub nested : Every (AsksSuch t IsAsked h.begin v) specs
+    -- those that apply are the ways of the goal's instance
+    pub found : List (List t.Fact)
+    pub applies : AreWays t h.begin v specs found
+    pub selects : IsSelection found (ways (h.goal v))
 
   module _ (p : Programs t) (w : p.World) (mode : p.Mode) where
     -- what programs say of goals without unknowns, beside their laws
     pub record AnswersExactly : Type 1 where
-      -- the goals that are asked at all
-      pub IsAsked : Question → Type 0
+      -- the goals that are asked at all, with what their placeholders stand for
+      pub IsAsked : Question → t.Values → Type 0
       -- what a reference follows from
       pub ways : t.Fact → List (List t.Fact)
-      pub exact : (q : Question) → IsAsked q → k.IsClosed (k.shape_of q) → IsExactHandler ways IsAsked q (p.handled w mode (p.goal_of q))
+      pub exact : (q : Question) (v : t.Values) → IsAsked q v → k.IsClosed (k.shape_of q) → k.IsApart (k.shape_of q) v → IsExactHandler ways IsAsked q v (p.handled w mode (p.goal_of q))
 
     -- no candidate is unsure by itself
     abbrev pub AreSure : AnswersExactly → Type 0
-    AreSure e = (q : Question) (i : e.IsAsked q) (c : k.IsClosed (k.shape_of q)) → Every (λ (c : Spec (workings t)). c.certainty ≡ Yes) (e.exact q i c).specs
+    AreSure e =
+        (q : Question) (v : t.Values) (i : e.IsAsked q v) (c : k.IsClosed (k.shape_of q)) (d : k.IsApart (k.shape_of q) v)
+        → Every (λ (c : Spec (workings t)). c.certainty ≡ Yes) (e.exact q v i c d).specs
 
     module _ (e : AnswersExactly) {C I R F : Type 0} (handles : Handles C I R F p.World (Asked t p) (Option Response)) where
       -- plain recursion in chains of fewer than n questions
@@ -82,17 +85,17 @@ module _ {Question Response : Type 0} (t : Tables Question Response) (k : Closin
       -- if plain recursion refuses the goal, it is not possible, and if it gives another answer, it is possible
       abbrev pub PlainIsExact : Type 0
       PlainIsExact =
-          (n : ℕ) (q : Question) (v : t.Values) (a : Option Response) → e.IsAsked q → k.IsClosed (k.shape_of q) → k.IsApart (k.shape_of q) v
+          (n : ℕ) (q : Question) (v : t.Values) (a : Option Response) → e.IsAsked q v → k.IsClosed (k.shape_of q) → k.IsApart (k.shape_of q) v
           → Plain n q a → IsBare t a × IsExactFor e.ways n (t.fact_of q v) a
 
       -- where each reference has one way at most that holds, its answer is a definite yes, or a refusal
       abbrev pub PlainIsRight : (t.Fact → Type 0) → Type 0
       PlainIsRight Holds =
-          (n : ℕ) (q : Question) (v : t.Values) (a : Option Response) → e.IsAsked q → k.IsClosed (k.shape_of q) → k.IsApart (k.shape_of q) v
+          (n : ℕ) (q : Question) (v : t.Values) (a : Option Response) → e.IsAsked q v → k.IsClosed (k.shape_of q) → k.IsApart (k.shape_of q) v
           → IsDecided e.ways Holds n (t.fact_of q v) → Plain n q a → IsRightFor t Holds (t.fact_of q v) a
 
       -- a goal whose chains of premises are short enough has an answer by plain recursion
       abbrev pub PlainAnswers : Type 0
       PlainAnswers =
-          (n : ℕ) (q : Question) (v : t.Values) → e.IsAsked q → k.IsClosed (k.shape_of q) → k.IsApart (k.shape_of q) v
+          (n : ℕ) (q : Question) (v : t.Values) → e.IsAsked q v → k.IsClosed (k.shape_of q) → k.IsApart (k.shape_of q) v
           → HasShortChains e.ways n (t.fact_of q v) → (a : Option Response) × Plain n q a

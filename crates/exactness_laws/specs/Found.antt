@@ -17,17 +17,17 @@ module _ {Question Response : Type 0} (t : Tables Question Response) (k : Closin
   -- there is an answer of plain recursion, and it is this one
   abbrev pub FoundIsPlain : Type 0
   FoundIsPlain =
-      (n limit : ℕ) (q : Question) (v : t.Values) (a : Option Response) → n ≤ limit → e.IsAsked q → k.IsClosed (k.shape_of q) → k.IsApart (k.shape_of q) v
+      (n limit : ℕ) (q : Question) (v : t.Values) (a : Option Response) → n ≤ limit → e.IsAsked q v → k.IsClosed (k.shape_of q) → k.IsApart (k.shape_of q) v
       → HasShortChains e.ways n (t.fact_of q v) → IsOnly limit q a → Plain t k p w mode e handles n q a
 
   -- so a bounded goal is refused exactly if it is not possible
   abbrev pub FoundIsExact : Type 0
   FoundIsExact =
-      (n limit : ℕ) (q : Question) (v : t.Values) (a : Option Response) → n ≤ limit → e.IsAsked q → k.IsClosed (k.shape_of q) → k.IsApart (k.shape_of q) v
+      (n limit : ℕ) (q : Question) (v : t.Values) (a : Option Response) → n ≤ limit → e.IsAsked q v → k.IsClosed (k.shape_of q) → k.IsApart (k.shape_of q) v
       → HasShortChains e.ways n (t.fact_of q v) → IsOnly limit q a → IsExactFor e.ways n (t.fact_of q v) a
 
   -- and a decided one is answered by a definite yes if it holds, and refused if it does not
   abbrev pub FoundIsRight : (t.Fact → Type 0) → Type 0
   FoundIsRight Holds =
-      (n limit : ℕ) (q : Question) (v : t.Values) (a : Option Response) → n ≤ limit → e.IsAsked q → k.IsClosed (k.shape_of q) → k.IsApart (k.shape_of q) v
+      (n limit : ℕ) (q : Question) (v : t.Values) (a : Option Response) → n ≤ limit → e.IsAsked q v → k.IsClosed (k.shape_of q) → k.IsApart (k.shape_of q) v
       → IsDecided e.ways Holds n (t.fact_of q v) → IsOnly limit q a → IsRightFor t Holds (t.fact_of q v) a

@@ -9,12 +9,13 @@ abbrev pub AtMostOne : {A : Type 0} → (A → Type 0) → List A → Type 0
 AtMostOne P [] = Unit {0}
 AtMostOne P (x ∷ xs) = (P x → SomeOf P xs → ⊥) × AtMostOne P xs
 
--- the first list has what the second has, in any order, but for what stands there twice
-pub record IsSelection {A : Type 0} (found all : List A) : Type 1 where
-  pub every : (P : A → Type 0) → Every P all → Every P found
-  pub some : (P : A → Type 0) → SomeOf P all → SomeOf P found
-  pub back : (P : A → Type 0) → SomeOf P found → SomeOf P all
-  pub one : (P : A → Type 0) → AtMostOne P all → AtMostOne P found
+-- the first ways are the second ones, in any order, but for ways that stand there twice, and for the order of premises and what stands
+-- twice among them: of ways it is only asked of which references all premises are
+pub record IsSelection {Fact : Type 0} (found all : List (List Fact)) : Type 1 where
+  pub every : (P : Fact → Type 0) → Every (Every P) all → Every (Every P) found
+  pub some : (P : Fact → Type 0) → SomeOf (Every P) all → SomeOf (Every P) found
+  pub back : (P : Fact → Type 0) → SomeOf (Every P) found → SomeOf (Every P) all
+  pub one : (P : Fact → Type 0) → AtMostOne (Every P) all → AtMostOne (Every P) found
 
 module _ {Fact : Type 0} (ways : Fact → List (List Fact)) where
   -- each chain of premises has fewer than n steps

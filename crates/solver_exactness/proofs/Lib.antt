@@ -4,4 +4,9 @@ pub mod SolverPlans
 pub mod Instances
 pub mod Rows
 pub mod Clauses
+pub mod Equating
+pub mod EquatedRows
+pub mod Selecting
+pub mod Once
+pub mod BoundRows
 pub mod SolverSpecs

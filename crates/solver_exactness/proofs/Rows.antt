@@ -36,14 +36,14 @@ module _ (m : Meaning) (declared : is_declared_view m.view ≡ true) (f : Canoni
   abbrev its_instance : Fact
   its_instance = instance m f a is_asked closed v places
 
-  abbrev read_all : Rule → Rule
+  abbrev pub read_all : Rule → Rule
   read_all u = read_rule m.view declared (terms_of m f a is_asked closed v places).slots u
 
-  is-held : Held m declared f a is_asked (terms_of m f a is_asked closed v places)
+  pub is-held : Held m declared f a is_asked (terms_of m f a is_asked closed v places)
   is-held = held m declared f a is_asked (terms_of m f a is_asked closed v places) (allowed m f a is_asked closed v places) (proper m f a is_asked closed v places) plain
 
   -- each rule of the goal as it is written applies with its premises
-  written-ways : (source : CandidateSource) (us : List Rule) → AreWaysOf a v its_instance (as_written m.view a source us) (premises_of (map read_all us))
+  pub written-ways : (source : CandidateSource) (us : List Rule) → AreWaysOf a v its_instance (as_written m.view a source us) (premises_of (map read_all us))
   written-ways source [] = no_more
   written-ways source (u ∷ us) = applied (rule-applies m f a is_asked closed v places source [] u.premises tt) (written-ways source us)
 

@@ -1,7 +1,9 @@
 -- The candidates by built-in rules that read the outermost types alone, and by where-clauses, as ways of goals without unknowns.
-use Rattle.std.specs.Prelude.{◌≡◌, ◌==◌, Bool, true, ◌||◌, List, [], ◌∷◌, Some, if◌then◌else◌}
+use Rattle.std.specs.Prelude.{◌≡◌, ◌==◌, Bool, true, ◌||◌, List, [], ◌∷◌, map, Some, if◌then◌else◌}
 use Rattle.model.specs.Worlds.{World, Reference}
-use Rattle.model.specs.Rules.{Rule, same_reference, sized, copy, clone, tuple_trait, fn_ptr_trait, is_auto, sized_rules, copy_rules, auto_rules, tuple_rules, fn_ptr_rules}
+use Rattle.model.specs.Rules.{Rule, same_reference, sized, copy, clone, tuple_trait, fn_ptr_trait, is_fn_trait, unsize, is_auto, sized_rules, copy_rules, auto_rules, tuple_rules, fn_ptr_rules, autos_with, call_rules, unsize_array_rules, unsize_to_dyn_rules, unsize_struct_rules}
+use Rattle.model.specs.Label.{dynamic}
+use Rattle.model.specs.Trees.{Trees, none, tree}
 use Rattle.infer_table.specs.Canonical.{CanonicalForm}
 use Rattle.table_laws.specs.Content.{Values, Fact}
 use Rattle.table_laws.specs.Operations.{begin}
@@ -10,9 +12,10 @@ use Rattle.exactness_laws.specs.Closed.{AreWays}
 use Rattle.exactness_laws.specs.ClosedTables.{AreClosed, ArePlaces}
 use Rattle.assembly_laws.specs.Facts.{clauses_of, reference_in, is_plain}
 use Rattle.assembly_laws.specs.Declared.{is_declared_view}
+use Rattle.assembly_laws.specs.DeclaredWell.{are_distinct}
 use Rattle.assembly_laws.specs.Meaning.{Meaning}
-use Rattle.assembly_laws.specs.Asking.{Asked, asked, clauses}
-use Rattle.assembly_laws.specs.Candidates.{Candidate, by_sized, by_copy, by_auto, by_tuple, by_fn_ptr, by_clauses}
+use Rattle.assembly_laws.specs.Asking.{Asked, asked, clauses, self_of}
+use Rattle.assembly_laws.specs.Candidates.{Candidate, by_sized, by_copy, by_auto, by_tuple, by_fn_ptr, by_call, by_clauses, misc, if_so, as_written, unsize_array_of, unsize_struct_of}
 use Rattle.assembly_laws.specs.Cover.{goal_fact}
 use Rattle.solver_exactness.specs.SolverWays.{facts_beside, premises_of}
 
@@ -24,6 +27,16 @@ if_of b us = if b then us else []
 abbrev pub clause_ways : Reference → List Reference → List (List Reference)
 clause_ways r [] = []
 clause_ways r (s ∷ ss) = if same_reference s r then [] ∷ clause_ways r ss else clause_ways r ss
+
+-- one way, by these premises, for each of the references that is r
+abbrev pub equal_ways : List Reference → Reference → List Reference → List (List Reference)
+equal_ways ps r [] = []
+equal_ways ps r (s ∷ ss) = if same_reference s r then ps ∷ equal_ways ps r ss else equal_ways ps r ss
+
+-- no auto trait stands twice among the bounds of a `dyn`
+abbrev pub autos_stand_once : Trees → Bool
+autos_stand_once (tree dynamic bounds o) = are_distinct (map (λ (r : Reference). r.trait) (autos_with none bounds))
+autos_stand_once t = true
 
 -- at these values the candidates are these ways to conclude the fact
 abbrev pub AreWaysOf : Asked → Values → Fact → List Candidate → List (List Reference) → Type 0
@@ -42,6 +55,18 @@ abbrev pub RowsAreWays : Type 0
 RowsAreWays =
     (m : Meaning) → is_declared_view m.view ≡ true → (f : CanonicalForm) (a : Asked) → asked m.view f ≡ Some a → AreClosed f.kinds
     → (v : Values) → ArePlaces f.kinds v → is_plain (goal_fact f v) ≡ true → RowsAreWaysAt m.view a v (goal_fact f v) (reference_in (goal_fact f v))
+
+-- the same of rules that equate: calls of fn pointers, and arrays, types that are no `dyn`, and structs that unsize
+pub record EquatedRowsAreWaysAt (V : World) (a : Asked) (v : Values) (g : Fact) (r : Reference) : Type 0 where
+  pub calls : AreWaysOf a v g (by_call V a) (premises_of (if_of (is_fn_trait r.trait) (call_rules r.args)))
+  pub arrays : AreWaysOf a v g (if_so (r.trait == unsize) (unsize_array_of V a (self_of a))) (premises_of (if_of (r.trait == unsize) (unsize_array_rules r.args)))
+  pub to_dyns : AreWaysOf a v g (if_so (r.trait == unsize) (as_written V a misc (unsize_to_dyn_rules V (self_of a)))) (premises_of (if_of (r.trait == unsize) (unsize_to_dyn_rules V r.args)))
+  pub structs : AreWaysOf a v g (if_so (r.trait == unsize) (unsize_struct_of V a (self_of a))) (premises_of (if_of (r.trait == unsize) (unsize_struct_rules V r.args)))
+
+abbrev pub EquatedRowsAreWays : Type 0
+EquatedRowsAreWays =
+    (m : Meaning) → is_declared_view m.view ≡ true → (f : CanonicalForm) (a : Asked) → asked m.view f ≡ Some a → AreClosed f.kinds
+    → (v : Values) → ArePlaces f.kinds v → is_plain (goal_fact f v) ≡ true → EquatedRowsAreWaysAt m.view a v (goal_fact f v) (reference_in (goal_fact f v))
 
 -- where-clauses apply with no premises where they are the instance
 abbrev pub ClausesAreWays : Type 0

@@ -2,7 +2,9 @@
 #![tactic(auto)]
 
 ghost use Rattle.solver_exactness.specs.ReadBack.{OutsideComesBack, CoherenceComesBack};
-ghost use Rattle.solver_exactness.specs.RowWays.{RowsAreWays, ClausesAreWays};
+ghost use Rattle.solver_exactness.specs.RowWays.{RowsAreWays, EquatedRowsAreWays, ClausesAreWays};
+ghost use Rattle.table_laws.specs.Content.{Fact};
+ghost use Rattle.solver_exactness.specs.BoundWays.{BoundRowsAreWays};
 ghost use Rattle.solver_exactness.specs.SolverPlans.{PlansAreExact};
 ghost use Rattle.solver_exactness.specs.SolverSpecs.{SpecsAreDetermined, SpecsAreFew, SpecsAreSure};
 
@@ -25,6 +27,24 @@ pub fn plans_are_exact()
 /// the rules of the goal's instance, one for each rule and in their order, whatever places the goal's placeholders stand for.
 pub fn rows_are_ways()
     ensures { RowsAreWays }
+{}
+
+/// So it is of the candidates by calls of fn pointers, and by arrays, types that are no `dyn`, and structs that unsize: where the terms
+/// that they equate are read as one they apply, and else they refuse.
+pub fn equated_rows_are_ways()
+    ensures { EquatedRowsAreWays }
+{}
+
+/// What is judged of facts, as that they have proofs.
+pub trait Judging {
+    ghost Judged: { Fact → Type 0 };
+}
+
+/// The candidates by a `dyn` that unsizes to another, and by object bounds where no auto trait stands twice, are ways of the goal's
+/// instance too. Each supertrait is a candidate once, and asks each of the goal's supertraits once; so they are the ways by the rules
+/// but for order and repeats, whatever is judged of facts.
+pub fn bounds_are_ways<J: Judging>()
+    ensures { BoundRowsAreWays J.Judged }
 {}
 
 /// On a goal without unknowns the candidate of a where-clause applies, and asks nothing, if the clause is the goal's instance, and else
