@@ -1,0 +1,4 @@
+mod Going
+mod References
+mod Structs
+mod Views
