@@ -2,3 +2,4 @@ mod Going
 mod References
 mod Structs
 mod Views
+mod Unknowns
