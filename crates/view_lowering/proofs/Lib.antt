@@ -1,0 +1,5 @@
+mod Going
+mod References
+mod Structs
+mod Views
+mod Unknowns

@@ -1,0 +1,225 @@
+-- The items of a view, added one after the other.
+use Rattle.std.proofs.Common.{◌≡◌, ℕ, ◌+◌, ◌<◌, true, false, cond, List, [], ◌∷◌, ◌++◌, length, map, Some, refl, sym, ap, ◌∙◌, subst, arith}
+use Rattle.std.specs.Prelude.{◌==◌, filter, slice_get}
+use Rattle.std.proofs.lemmas.Bool.{ne_eqb}
+use Rattle.std.proofs.lemmas.List.{length-map}
+use Rattle.model.specs.Label.{Sort, of_type}
+use Rattle.model.proofs.TermRules.{erased-views}
+use Rattle.model.specs.Terms.{erased_struct, erased_trait, erased_world}
+use Rattle.model.specs.Worlds.{World, StructDecl, TraitDecl, ImplDecl, sees, structs_named, traits_named}
+use Rattle.text_definitions.specs.Declarations as text
+use Rattle.text_definitions.specs.Declarations.{world_of}
+use Rattle.type_terms.specs.Terms.{Entry, Keeps}
+use Rattle.type_terms.specs.declared.AdtId.{AdtId}
+use Rattle.type_terms.specs.declared.TraitId.{TraitId}
+use Rattle.declarations.specs.declared.items.AdtDef.{AdtDef}
+use Rattle.declarations.specs.declared.items.TraitDef.{TraitDef}
+use Rattle.declarations.specs.Held.{AreHeld}
+use Rattle.declarations.specs.Items.{Items, HeldImpl, struct_in, trait_in, impl_in, written, declared, with_struct, with_trait, with_impl}
+use Rattle.declarations.specs.Merges.{Each}
+use Rattle.declarations.proofs.Growth.{all-written}
+use Rattle.view_lowering.specs.Seen.{seen_from, rules_seen_from, struct_sorts, trait_sorts, struct_sorts_seen, trait_sorts_seen}
+use Rattle.view_lowering.proofs.Going.{Gone, gone-first, gone-passed, gone-taken, gone-again, all-taken}
+
+-- numbers that are below n are not n
+none-there : {A B C : Type 0} (number : A → ℕ) (name : C → ℕ) (read : A → B) (erase : B → C) → ((x : A) → name (erase (read x)) ≡ number x) → (n : ℕ) (xs : List A) → Each (λ x. number x < n) xs
+    → filter (λ x. name x == n) (map erase (map read xs)) ≡ []
+none-there number name read erase same n [] h = refl
+none-there number name read erase same n (x ∷ xs) h =
+    ap (λ b. cond b (erase (read x) ∷ filter (λ y. name y == n) (map erase (map read xs))) (filter (λ y. name y == n) (map erase (map read xs))))
+    (ap (λ k. k == n) (same x) ∙ ne_eqb (number x) n (λ e. omega (arith, e, h.0))) ∙ none-there number name read erase same n xs h.1
+
+abbrev pub held_in : List Entry → HeldImpl → ImplDecl
+held_in es i = impl_in es i.id i.def
+
+abbrev pub no_sorts : HeldImpl → List Sort
+no_sorts i = []
+
+abbrev pub no_kinds : text.NamedImpl → List Sort
+no_kinds i = []
+
+-- ---- Structs: the state of the loop
+abbrev pub StructsGone : text.Declarations → ℕ → List Entry → ℕ → List (AdtId × AdtDef) → Type 0
+StructsGone d c es i xs = Gone (struct_in es) (struct_sorts) (λ x. x.0.index) (λ s. s.item) (λ s. s.kinds) (λ (x : StructDecl). sees (world_of d) c x.home) d.structs i xs
+
+pub record StructsAdded (d : text.Declarations) (c : ℕ) (old : List Entry) (limit : ℕ) (start : Items) (i : ℕ) (es : List Entry) (now_limit : ℕ) (now : Items) : Type 0 where
+  pub keeps : Keeps old es
+  pub limited : now_limit ≡ limit
+  pub others : now ≡ record start { structs = now.structs }
+  pub held : AreHeld es now
+  pub gone : StructsGone d c es i now.structs
+
+module _ (d : text.Declarations) (c : ℕ) (old : List Entry) (limit : ℕ) (start : Items) where
+  pub structs-first : start.structs ≡ [] → AreHeld old start → StructsAdded d c old limit start 0 old limit start
+  structs-first none held =
+      record {
+        keeps = λ j e h. h;
+        limited = refl;
+        others = refl;
+        held = held;
+        gone = gone-first (struct_in old) (struct_sorts) (λ x. x.0.index) (λ s. s.item) (λ s. s.kinds) (λ (x : StructDecl). sees (world_of d) c x.home) d.structs start.structs none;
+      }
+
+  pub structs-passed : (i : ℕ) (es : List Entry) (now_limit : ℕ) (now : Items) (s : text.NamedStruct) → slice_get d.structs i ≡ Some s → sees (world_of d) c s.item.home ≡ false → StructsAdded d c old limit start i es now_limit now
+      → StructsAdded d c old limit start (i + 1) es now_limit now
+  structs-passed i es now_limit now s there unseen a =
+      record {
+        keeps = a.keeps;
+        limited = a.limited;
+        others = a.others;
+        held = a.held;
+        gone = gone-passed (struct_in es) (struct_sorts) (λ x. x.0.index) (λ y. y.item) (λ s. s.kinds) (λ (x : StructDecl). sees (world_of d) c x.home) d.structs i s now.structs there unseen a.gone;
+      }
+
+  pub structs-taken : (i : ℕ) (es : List Entry) (now_limit : ℕ) (now : Items) (s : text.NamedStruct) (new : List Entry) (new_limit : ℕ) (id : AdtId) (def : AdtDef) (next : Items)
+      → slice_get d.structs i ≡ Some s → sees (world_of d) c s.item.home ≡ true → s.item.name ≡ i → Keeps es new → new_limit ≡ now_limit
+      → struct_in new (id, def) ≡ s.item → struct_sorts (id, def) ≡ s.kinds → next ≡ with_struct now (id, def) → AreHeld new next → StructsAdded d c old limit start i es now_limit now
+      → StructsAdded d c old limit start (i + 1) new new_limit next
+  structs-taken i es now_limit now s new new_limit id def next there seen number k same_limit same sorted put held a =
+      record {
+        keeps = λ j e h. k j e (a.keeps j e h);
+        limited = same_limit ∙ a.limited;
+        others = put ∙ ap (λ (n : Items). record n { structs = now.structs ++ (id, def) ∷ [] }) a.others ∙ ap (λ l. record start { structs = l }) (sym (ap (λ n. n.structs) put));
+        held = held;
+        gone =
+            subst (StructsGone d c new (i + 1)) (sym (ap (λ n. n.structs) put))
+            (gone-taken (struct_in new) (struct_sorts) (λ x. x.0.index) (λ y. y.item) (λ s. s.kinds) (λ (x : StructDecl). sees (world_of d) c x.home) d.structs i s now.structs (id, def) there seen same (sorted) (ap (λ x. x.name) same ∙ number)
+            (gone-again (struct_in es) (struct_in new) (struct_sorts) (λ x. x.0.index) (λ y. y.item) (λ s. s.kinds) (λ (x : StructDecl). sees (world_of d) c x.home) d.structs i now.structs (ap (λ w. w.structs) (all-written es new k now a.held)) a.gone));
+      }
+
+  pub structs-all : (i : ℕ) (es : List Entry) (now_limit : ℕ) (now : Items) → length d.structs ≡ i → StructsAdded d c old limit start i es now_limit now → map (struct_in es) now.structs ≡ (seen_from d c).structs
+  structs-all i es now_limit now e a = a.gone.are ∙ ap (filter (λ (x : StructDecl). sees (world_of d) c x.home)) (all-taken (world_of d).structs i (sym e ∙ sym (length-map d.structs (λ (s : text.NamedStruct). s.item))))
+
+  pub structs-sorted : (i : ℕ) (es : List Entry) (now_limit : ℕ) (now : Items) → length d.structs ≡ i → StructsAdded d c old limit start i es now_limit now → map struct_sorts now.structs ≡ struct_sorts_seen d c
+  structs-sorted i es now_limit now e a = a.gone.sorts_are ∙ ap (λ l. map (λ s. s.kinds) (filter (λ (s : text.NamedStruct). sees (world_of d) c s.item.home) l)) (all-taken d.structs i (sym e))
+
+-- ---- Traits: the state of the loop
+abbrev pub TraitsGone : text.Declarations → ℕ → List Entry → ℕ → List (TraitId × TraitDef) → Type 0
+TraitsGone d c es i xs = Gone (trait_in es) (trait_sorts) (λ x. x.0.index) (λ s. s.item) (λ t. of_type ∷ t.kinds) (λ (x : TraitDecl). sees (world_of d) c x.home) d.traits i xs
+
+pub record TraitsAdded (d : text.Declarations) (c : ℕ) (old : List Entry) (limit : ℕ) (start : Items) (i : ℕ) (es : List Entry) (now_limit : ℕ) (now : Items) : Type 0 where
+  pub keeps : Keeps old es
+  pub limited : now_limit ≡ limit
+  pub others : now ≡ record start { traits = now.traits }
+  pub held : AreHeld es now
+  pub gone : TraitsGone d c es i now.traits
+
+module _ (d : text.Declarations) (c : ℕ) (old : List Entry) (limit : ℕ) (start : Items) where
+  pub traits-first : start.traits ≡ [] → AreHeld old start → TraitsAdded d c old limit start 0 old limit start
+  traits-first none held =
+      record {
+        keeps = λ j e h. h;
+        limited = refl;
+        others = refl;
+        held = held;
+        gone = gone-first (trait_in old) (trait_sorts) (λ x. x.0.index) (λ s. s.item) (λ t. of_type ∷ t.kinds) (λ (x : TraitDecl). sees (world_of d) c x.home) d.traits start.traits none;
+      }
+
+  pub traits-passed : (i : ℕ) (es : List Entry) (now_limit : ℕ) (now : Items) (s : text.NamedTrait) → slice_get d.traits i ≡ Some s → sees (world_of d) c s.item.home ≡ false → TraitsAdded d c old limit start i es now_limit now
+      → TraitsAdded d c old limit start (i + 1) es now_limit now
+  traits-passed i es now_limit now s there unseen a =
+      record {
+        keeps = a.keeps;
+        limited = a.limited;
+        others = a.others;
+        held = a.held;
+        gone = gone-passed (trait_in es) (trait_sorts) (λ x. x.0.index) (λ y. y.item) (λ t. of_type ∷ t.kinds) (λ (x : TraitDecl). sees (world_of d) c x.home) d.traits i s now.traits there unseen a.gone;
+      }
+
+  pub traits-taken : (i : ℕ) (es : List Entry) (now_limit : ℕ) (now : Items) (s : text.NamedTrait) (new : List Entry) (new_limit : ℕ) (id : TraitId) (def : TraitDef) (next : Items)
+      → slice_get d.traits i ≡ Some s → sees (world_of d) c s.item.home ≡ true → s.item.name ≡ i → Keeps es new → new_limit ≡ now_limit
+      → trait_in new (id, def) ≡ s.item → trait_sorts (id, def) ≡ of_type ∷ s.kinds → next ≡ with_trait now (id, def) → AreHeld new next → TraitsAdded d c old limit start i es now_limit now
+      → TraitsAdded d c old limit start (i + 1) new new_limit next
+  traits-taken i es now_limit now s new new_limit id def next there seen number k same_limit same sorted put held a =
+      record {
+        keeps = λ j e h. k j e (a.keeps j e h);
+        limited = same_limit ∙ a.limited;
+        others = put ∙ ap (λ (n : Items). record n { traits = now.traits ++ (id, def) ∷ [] }) a.others ∙ ap (λ l. record start { traits = l }) (sym (ap (λ n. n.traits) put));
+        held = held;
+        gone =
+            subst (TraitsGone d c new (i + 1)) (sym (ap (λ n. n.traits) put))
+            (gone-taken (trait_in new) (trait_sorts) (λ x. x.0.index) (λ y. y.item) (λ t. of_type ∷ t.kinds) (λ (x : TraitDecl). sees (world_of d) c x.home) d.traits i s now.traits (id, def) there seen same (sorted) (ap (λ x. x.name) same ∙ number)
+            (gone-again (trait_in es) (trait_in new) (trait_sorts) (λ x. x.0.index) (λ y. y.item) (λ t. of_type ∷ t.kinds) (λ (x : TraitDecl). sees (world_of d) c x.home) d.traits i now.traits (ap (λ w. w.traits) (all-written es new k now a.held)) a.gone));
+      }
+
+  pub traits-all : (i : ℕ) (es : List Entry) (now_limit : ℕ) (now : Items) → length d.traits ≡ i → TraitsAdded d c old limit start i es now_limit now → map (trait_in es) now.traits ≡ (seen_from d c).traits
+  traits-all i es now_limit now e a = a.gone.are ∙ ap (filter (λ (x : TraitDecl). sees (world_of d) c x.home)) (all-taken (world_of d).traits i (sym e ∙ sym (length-map d.traits (λ (s : text.NamedTrait). s.item))))
+
+  pub traits-sorted : (i : ℕ) (es : List Entry) (now_limit : ℕ) (now : Items) → length d.traits ≡ i → TraitsAdded d c old limit start i es now_limit now → map trait_sorts now.traits ≡ trait_sorts_seen d c
+  traits-sorted i es now_limit now e a = a.gone.sorts_are ∙ ap (λ l. map (λ t. of_type ∷ t.kinds) (filter (λ (s : text.NamedTrait). sees (world_of d) c s.item.home) l)) (all-taken d.traits i (sym e))
+
+-- ---- Impls: the state of the loop
+abbrev pub ImplsGone : text.Declarations → ℕ → List Entry → ℕ → List (HeldImpl) → Type 0
+ImplsGone d c es i xs = Gone (held_in es) (no_sorts) (λ x. x.id.index) (λ s. s.item) (no_kinds) (λ (x : ImplDecl). sees (world_of d) c x.home) d.impls i xs
+
+pub record ImplsAdded (d : text.Declarations) (c : ℕ) (old : List Entry) (limit : ℕ) (start : Items) (i : ℕ) (es : List Entry) (now_limit : ℕ) (now : Items) : Type 0 where
+  pub keeps : Keeps old es
+  pub limited : now_limit ≡ limit
+  pub others : now ≡ record start { impls = now.impls }
+  pub held : AreHeld es now
+  pub gone : ImplsGone d c es i now.impls
+
+module _ (d : text.Declarations) (c : ℕ) (old : List Entry) (limit : ℕ) (start : Items) where
+  pub impls-first : start.impls ≡ [] → AreHeld old start → ImplsAdded d c old limit start 0 old limit start
+  impls-first none held =
+      record {
+        keeps = λ j e h. h;
+        limited = refl;
+        others = refl;
+        held = held;
+        gone = gone-first (held_in old) (no_sorts) (λ x. x.id.index) (λ s. s.item) (no_kinds) (λ (x : ImplDecl). sees (world_of d) c x.home) d.impls start.impls none;
+      }
+
+  pub impls-passed : (i : ℕ) (es : List Entry) (now_limit : ℕ) (now : Items) (s : text.NamedImpl) → slice_get d.impls i ≡ Some s → sees (world_of d) c s.item.home ≡ false → ImplsAdded d c old limit start i es now_limit now
+      → ImplsAdded d c old limit start (i + 1) es now_limit now
+  impls-passed i es now_limit now s there unseen a =
+      record {
+        keeps = a.keeps;
+        limited = a.limited;
+        others = a.others;
+        held = a.held;
+        gone = gone-passed (held_in es) (no_sorts) (λ x. x.id.index) (λ y. y.item) (no_kinds) (λ (x : ImplDecl). sees (world_of d) c x.home) d.impls i s now.impls there unseen a.gone;
+      }
+
+  pub impls-taken : (i : ℕ) (es : List Entry) (now_limit : ℕ) (now : Items) (s : text.NamedImpl) (new : List Entry) (new_limit : ℕ) (x : HeldImpl) (next : Items)
+      → slice_get d.impls i ≡ Some s → sees (world_of d) c s.item.home ≡ true → s.item.name ≡ i → Keeps es new → new_limit ≡ now_limit
+      → held_in new (x) ≡ s.item → next ≡ with_impl now (x) → AreHeld new next → ImplsAdded d c old limit start i es now_limit now
+      → ImplsAdded d c old limit start (i + 1) new new_limit next
+  impls-taken i es now_limit now s new new_limit x next there seen number k same_limit same put held a =
+      record {
+        keeps = λ j e h. k j e (a.keeps j e h);
+        limited = same_limit ∙ a.limited;
+        others = put ∙ ap (λ (n : Items). record n { impls = now.impls ++ x ∷ [] }) a.others ∙ ap (λ l. record start { impls = l }) (sym (ap (λ n. n.impls) put));
+        held = held;
+        gone =
+            subst (ImplsGone d c new (i + 1)) (sym (ap (λ n. n.impls) put))
+            (gone-taken (held_in new) (no_sorts) (λ x. x.id.index) (λ y. y.item) (no_kinds) (λ (x : ImplDecl). sees (world_of d) c x.home) d.impls i s now.impls (x) there seen same (refl) (ap (λ x. x.name) same ∙ number)
+            (gone-again (held_in es) (held_in new) (no_sorts) (λ x. x.id.index) (λ y. y.item) (no_kinds) (λ (x : ImplDecl). sees (world_of d) c x.home) d.impls i now.impls (ap (λ w. w.impls) (all-written es new k now a.held)) a.gone));
+      }
+
+  pub impls-all : (i : ℕ) (es : List Entry) (now_limit : ℕ) (now : Items) → length d.impls ≡ i → ImplsAdded d c old limit start i es now_limit now → map (held_in es) now.impls ≡ (seen_from d c).impls
+  impls-all i es now_limit now e a = a.gone.are ∙ ap (filter (λ (x : ImplDecl). sees (world_of d) c x.home)) (all-taken (world_of d).impls i (sym e ∙ sym (length-map d.impls (λ (s : text.NamedImpl). s.item))))
+
+pub structs-absent : (d : text.Declarations) (c : ℕ) (old : List Entry) (limit : ℕ) (start : Items) (i : ℕ) (es : List Entry) (now_limit : ℕ) (now : Items) (n : ℕ) → n ≡ i → StructsAdded d c old limit start i es now_limit now → structs_named (declared [] now) n ≡ []
+structs-absent d c old limit start i es now_limit now n e a = none-there (λ x. x.0.index) (λ s. s.name) (struct_in []) erased_struct (λ x. refl) n now.structs (subst (λ j. Each (λ x. x.0.index < j) now.structs) (sym e) a.gone.below)
+
+pub traits-absent : (d : text.Declarations) (c : ℕ) (old : List Entry) (limit : ℕ) (start : Items) (i : ℕ) (es : List Entry) (now_limit : ℕ) (now : Items) (n : ℕ) → n ≡ i → TraitsAdded d c old limit start i es now_limit now → traits_named (declared [] now) n ≡ []
+traits-absent d c old limit start i es now_limit now n e a = none-there (λ x. x.0.index) (λ s. s.name) (trait_in []) erased_trait (λ x. refl) n now.traits (subst (λ j. Each (λ x. x.0.index < j) now.traits) (sym e) a.gone.below)
+
+-- ---- all three
+abbrev world : List StructDecl → List TraitDecl → List ImplDecl → World
+world xs ts is = record { crates = []; structs = xs; traits = ts; impls = is }
+
+same-world : (a b : List StructDecl) (p q : List TraitDecl) (x y : List ImplDecl) → a ≡ b → p ≡ q → x ≡ y → world a p x ≡ world b q y
+same-world a b p q x y e f g = ap (λ z. world z p x) e ∙ ap (λ z. world b z x) f ∙ ap (world b q) g
+
+pub view-written : (one two all : List Entry) → Keeps one two → Keeps two all → (first second last : Items) → second ≡ record first { traits = second.traits } → last ≡ record second { impls = last.impls }
+    → AreHeld one first → AreHeld two second → (xs : List StructDecl) (ts : List TraitDecl) (is : List ImplDecl) → map (struct_in one) first.structs ≡ xs → map (trait_in two) second.traits ≡ ts
+    → map (held_in all) last.impls ≡ is → written all last ≡ world xs ts is
+view-written one two all j k first second last e f h g xs ts is structs traits impls =
+    same-world (map (struct_in all) last.structs) xs (map (trait_in all) last.traits) ts (map (held_in all) last.impls) is
+    (ap (λ (l : Items). map (struct_in all) l.structs) f ∙ ap (λ (l : Items). map (struct_in all) l.structs) e ∙ ap (λ w. w.structs) (all-written one all (λ i x m. k i x (j i x m)) first h) ∙ structs)
+    (ap (λ (l : Items). map (trait_in all) l.traits) f ∙ ap (λ w. w.traits) (all-written two all k second g) ∙ traits) impls
+
+pub view-rules : (es : List Entry) (items : Items) (d : text.Declarations) (c : ℕ) → written es items ≡ seen_from d c → declared es items ≡ rules_seen_from d c
+view-rules es items d c e = ap erased_world e ∙ ap (λ (V : World). record V { crates = [] }) (sym (erased-views (world_of d) c))

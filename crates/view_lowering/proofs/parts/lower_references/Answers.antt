@@ -1,0 +1,30 @@
+use Rattle.std.proofs.Common.{◌∙◌, ap, sym, subst, refl}
+use Rattle.std.proofs.lemmas.Option.{slice_get_read}
+use Rattle.declarations.specs.Applied.{references_in, AllHeld}
+use Rattle.declarations.proofs.Bounded.{held-more}
+use Rattle.view_lowering.proofs.References.{one-more-lowered}
+use Rattle.view_lowering.proofs.parts.lower_references.Goals as goal
+
+pub lower_reference-requires : goal.lower_reference-requires
+lower_reference-requires c =
+    let i = c.loop-cells.cells-index in
+    c.requires i c.cells-item.result (slice_get_read c.args.list.now _ i c.cells-item.result refl c.loop-cells-test.true c.cells-item.is)
+
+pub loop-cells-preserved : goal.loop-cells-preserved
+loop-cells-preserved c =
+    let i = c.loop-cells.cells-index in
+    let x = c.cells-item.result in
+    let e = slice_get_read c.args.list.now _ i x refl c.loop-cells-test.true c.cells-item.is in
+    let rs = c.loop-cells.refs.items in
+    let r = c.in_ok-trait_ref.trait_ref in
+    let old = c.loop-cells.cx.entries in
+    let new = c.lower_reference.new.cx.entries in
+    let k = c.lower_reference.ensures.keeps in
+    let inv = c.loop-cells.invariant in
+    let put = c.in_ok-push.ensures.items in
+    record {
+      keeps = λ j y h. k j y (inv.keeps j y h);
+      limit = c.lower_reference.ensures.limit ∙ inv.limit;
+      are = ap (references_in new) put ∙ one-more-lowered old new k rs r c.args.list.now i x inv.held e inv.are c.in_ok-trait_ref.ensures.is;
+      held = subst (AllHeld new) (sym put) (held-more old new k rs r inv.held c.in_ok-trait_ref.ensures.held);
+    }

@@ -1,0 +1,65 @@
+use Rattle.std.proofs.Common.{◌+◌, ◌∙◌, ap, sym, subst, refl}
+use Rattle.std.proofs.lemmas.Option.{slice_get_read, slice_get-map}
+use Rattle.std.specs.Prelude.{slice_get, ◌<◌}
+use Rattle.std.specs.Option.{option_map}
+use Rattle.declarations.specs.Items.{held_impl}
+use Rattle.declarations.specs.Merges.{Each}
+use Rattle.declarations.proofs.Growth.{all-held}
+use Rattle.workspace.specs.Views.{impl_of}
+use Rattle.view_lowering.proofs.Views.{ImplsAdded, impls-passed, impls-taken}
+use Rattle.view_lowering.proofs.view.lower_impls.Goals.{then-sees+in_ok-def+in_ok-add_impl, else-sees}
+use Rattle.view_lowering.proofs.view.lower_impls.Goals as goal
+
+pub lower_impl-requires-clause-header : goal.lower_impl-requires-clause-header
+lower_impl-requires-clause-header c =
+    let i = c.loop-entry.entry-index in
+    c.impls-entries.ensures.headers i c.entry-item.result (slice_get_read c.impls-entries.result.now _ i c.entry-item.result refl c.loop-entry-test.true c.entry-item.is)
+
+pub lower_impl-requires-clause-clauses : goal.lower_impl-requires-clause-clauses
+lower_impl-requires-clause-clauses c =
+    let i = c.loop-entry.entry-index in
+    c.impls-entries.ensures.clauses i c.entry-item.result (slice_get_read c.impls-entries.result.now _ i c.entry-item.result refl c.loop-entry-test.true c.entry-item.is)
+
+pub lower_impl-requires-clause-begins : goal.lower_impl-requires-clause-begins
+lower_impl-requires-clause-begins c =
+    let i = c.loop-entry.entry-index in
+    let x = c.entry-item.result in
+    let there = slice_get_read c.impls-entries.result.now _ i x refl c.loop-entry-test.true c.entry-item.is in
+    let at = sym (ap (λ l. slice_get l i) (c.impls-entries.ensures.items)) ∙ slice_get-map impl_of c.impls-entries.result.now i ∙ ap (option_map impl_of) there in
+    c.requires.begin i (impl_of x) at
+
+pub add_impl-requires-clause-above : goal.add_impl-requires-clause-above
+add_impl-requires-clause-above c =
+    let i = c.loop-entry.entry-index in
+    let x = c.entry-item.result in
+    let there = slice_get_read c.impls-entries.result.now _ i x refl c.loop-entry-test.true c.entry-item.is in
+    let at = sym (ap (λ l. slice_get l i) (c.impls-entries.ensures.items)) ∙ slice_get-map impl_of c.impls-entries.result.now i ∙ ap (option_map impl_of) there in
+    subst (λ j. Each (λ h. h.id.index < j) c.loop-entry.decls.impls) (sym (c.crates.ensures.numbered.impls i (impl_of x) at).0) c.loop-entry.invariant.gone.below
+
+pub loop-entry-preserved : goal.loop-entry-preserved
+loop-entry-preserved c =
+    let d = c.args.workspace.now in
+    let n = c.args.crate_id.index in
+    let old = c.args.cx.now in
+    let i = c.loop-entry.entry-index in
+    let x = c.entry-item.result in
+    let es = c.loop-entry.cx in
+    let now = c.loop-entry.decls in
+    let inv = c.loop-entry.invariant in
+    let there = slice_get_read c.impls-entries.result.now _ i x refl c.loop-entry-test.true c.entry-item.is in
+    let at = sym (ap (λ l. slice_get l i) (c.impls-entries.ensures.items)) ∙ slice_get-map impl_of c.impls-entries.result.now i ∙ ap (option_map impl_of) there in
+    elim c.if-sees.branch [
+      | then-sees+in_ok-def+in_ok-add_impl w ↦
+          let new = w.lower_impl.new.cx in
+          let next = w.add_impl.new.self in
+          let k = w.lower_impl.ensures.keeps in
+          let held = w.in_ok-add_impl.ensures.held (all-held es.entries new.entries k now inv.held) in
+          subst (λ y. ImplsAdded d n old.entries old.limit c.args.decls.now (i + 1) y.entries y.limit c.if-sees.decls) (sym w.cx-is)
+          (subst (λ ds. ImplsAdded d n old.entries old.limit c.args.decls.now (i + 1) new.entries new.limit ds) (sym w.decls-is)
+          (impls-taken d n old.entries old.limit c.args.decls.now i es.entries es.limit now (impl_of x) new.entries new.limit (held_impl new.entries x.id w.in_ok-def.def) next at (sym c.sees.ensures ∙ w.if-sees.true)
+          (c.crates.ensures.numbered.impls i (impl_of x) at).0 k w.lower_impl.ensures.limit w.in_ok-def.ensures.is w.in_ok-add_impl.ensures.added held inv))
+      | else-sees w ↦
+          subst (λ y. ImplsAdded d n old.entries old.limit c.args.decls.now (i + 1) y.entries y.limit c.if-sees.decls) (sym w.cx-is)
+          (subst (λ ds. ImplsAdded d n old.entries old.limit c.args.decls.now (i + 1) es.entries es.limit ds) (sym w.decls-is)
+          (impls-passed d n old.entries old.limit c.args.decls.now i es.entries es.limit now (impl_of x) at (sym c.sees.ensures ∙ w.if-sees.false) inv))
+    ]

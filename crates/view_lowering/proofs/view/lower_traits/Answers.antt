@@ -1,0 +1,51 @@
+use Rattle.std.proofs.Common.{◌+◌, ◌∙◌, ap, sym, subst, refl}
+use Rattle.std.proofs.lemmas.Option.{slice_get_read, slice_get-map}
+use Rattle.std.specs.Prelude.{slice_get}
+use Rattle.std.specs.Option.{option_map}
+use Rattle.declarations.proofs.Growth.{all-held}
+use Rattle.workspace.specs.Views.{trait_of}
+use Rattle.view_lowering.proofs.Views.{TraitsAdded, traits-passed, traits-taken, traits-absent}
+use Rattle.view_lowering.proofs.view.lower_traits.Goals.{then-sees+in_ok-def+in_ok-add_trait, else-sees}
+use Rattle.view_lowering.proofs.view.lower_traits.Goals as goal
+
+pub lower_trait-requires : goal.lower_trait-requires
+lower_trait-requires c =
+    let i = c.loop-entry.entry-index in
+    c.traits-entries.ensures.made i c.entry-item.result (slice_get_read c.traits-entries.result.now _ i c.entry-item.result refl c.loop-entry-test.true c.entry-item.is)
+
+pub add_trait-requires : goal.add_trait-requires
+add_trait-requires c =
+    let i = c.loop-entry.entry-index in
+    let x = c.entry-item.result in
+    let there = slice_get_read c.traits-entries.result.now _ i x refl c.loop-entry-test.true c.entry-item.is in
+    let at = sym (ap (λ l. slice_get l i) (c.traits-entries.ensures.items)) ∙ slice_get-map trait_of c.traits-entries.result.now i ∙ ap (option_map trait_of) there in
+    traits-absent c.args.workspace.now c.args.crate_id.index c.args.cx.now.entries c.args.cx.now.limit c.args.decls.now i c.loop-entry.cx.entries c.loop-entry.cx.limit c.loop-entry.decls x.id.index
+    (c.crates.ensures.numbered.traits i (trait_of x) at).0 c.loop-entry.invariant
+
+pub loop-entry-preserved : goal.loop-entry-preserved
+loop-entry-preserved c =
+    let d = c.args.workspace.now in
+    let n = c.args.crate_id.index in
+    let old = c.args.cx.now in
+    let i = c.loop-entry.entry-index in
+    let x = c.entry-item.result in
+    let es = c.loop-entry.cx in
+    let now = c.loop-entry.decls in
+    let inv = c.loop-entry.invariant in
+    let there = slice_get_read c.traits-entries.result.now _ i x refl c.loop-entry-test.true c.entry-item.is in
+    let at = sym (ap (λ l. slice_get l i) (c.traits-entries.ensures.items)) ∙ slice_get-map trait_of c.traits-entries.result.now i ∙ ap (option_map trait_of) there in
+    elim c.if-sees.branch [
+      | then-sees+in_ok-def+in_ok-add_trait w ↦
+          let new = w.lower_trait.new.cx in
+          let next = w.add_trait.new.self in
+          let k = w.lower_trait.ensures.keeps in
+          let held = w.in_ok-add_trait.ensures.held new.entries (all-held es.entries new.entries k now inv.held) w.in_ok-def.ensures.held in
+          subst (λ y. TraitsAdded d n old.entries old.limit c.args.decls.now (i + 1) y.entries y.limit c.if-sees.decls) (sym w.cx-is)
+          (subst (λ ds. TraitsAdded d n old.entries old.limit c.args.decls.now (i + 1) new.entries new.limit ds) (sym w.decls-is)
+          (traits-taken d n old.entries old.limit c.args.decls.now i es.entries es.limit now (trait_of x) new.entries new.limit x.id w.in_ok-def.def next at (sym c.sees.ensures ∙ w.if-sees.true) (c.crates.ensures.numbered.traits i (trait_of x) at).0 k
+          w.lower_trait.ensures.limit w.in_ok-def.ensures.is w.in_ok-def.ensures.sorts w.in_ok-add_trait.ensures.added held inv))
+      | else-sees w ↦
+          subst (λ y. TraitsAdded d n old.entries old.limit c.args.decls.now (i + 1) y.entries y.limit c.if-sees.decls) (sym w.cx-is)
+          (subst (λ ds. TraitsAdded d n old.entries old.limit c.args.decls.now (i + 1) es.entries es.limit ds) (sym w.decls-is)
+          (traits-passed d n old.entries old.limit c.args.decls.now i es.entries es.limit now (trait_of x) at (sym c.sees.ensures ∙ w.if-sees.false) inv))
+    ]

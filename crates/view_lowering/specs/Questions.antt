@@ -1,0 +1,34 @@
+-- Questions of a text, and their terms.
+use Rattle.std.specs.Prelude.{◌≡◌, ◌≤◌, ◌-◌, ℕ, List, ◌∷◌, map, Some, slice_get}
+use Rattle.text_definitions.specs.Declarations.{Declarations, Question, Variable}
+use Rattle.text_definitions.specs.Names.{own_from, own_unknowns}
+use Rattle.type_terms.specs.Kinds.{arg_trees, ArgsHeld}
+use Rattle.type_terms.specs.Terms.{Entry}
+use Rattle.type_terms.specs.declared.kinds.GenericArgKind.{GenericArgKind}
+use Rattle.declarations.specs.Applied.{references_in, AllHeld}
+use Rattle.declarations.specs.Held.{ReferenceHeld}
+use Rattle.declarations.specs.Items.{reference_in}
+use Rattle.workspace.specs.Views.{sort_of_kind}
+use Rattle.workspace.specs.declared.cell.ParamKind.{ParamKind}
+use Rattle.view_lowering.specs.declared.question.LoweredQuestion.{LoweredQuestion}
+use Rattle.view_lowering.specs.declared.question.Counts.{Counts}
+
+-- question number n of the text, counted from 1, is q
+pub record IsQuestion (d : Declarations) (n : ℕ) (q : Question) : Type 0 where
+  pub counted : 1 ≤ n
+  pub there : slice_get d.questions (n - 1) ≡ Some q
+
+-- The terms are the question's: its parameters stand in them as placeholders, its variables as unknowns. For each variable, in
+-- their order, there is the unknown that stands for it.
+pub record IsLowered (es : List Entry) (q : Question) (l : LoweredQuestion) : Type 0 where
+  pub asked : reference_in es l.asked ≡ q.asked
+  pub clauses : references_in es l.clauses.items ≡ q.clauses
+  pub unknowns : map (arg_trees es) l.unknowns.items ≡ own_unknowns q
+  pub asked_held : ReferenceHeld es l.asked
+  pub clauses_held : AllHeld es l.clauses.items
+  pub unknowns_held : ArgsHeld es l.unknowns.items
+
+-- the unknown of the first of variables, of this kind, behind as many of each kind as were counted
+abbrev pub IsNextUnknown : List Entry → ParamKind → Counts → GenericArgKind → Counts → Type 0
+IsNextUnknown es kind before arg behind =
+    (v : Variable) (vs : List Variable) → v.kind ≡ sort_of_kind kind → own_from before.types before.consts (v ∷ vs) ≡ arg_trees es arg ∷ own_from behind.types behind.consts vs

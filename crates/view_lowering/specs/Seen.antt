@@ -1,0 +1,40 @@
+-- What a crate sees of a text's declarations, and items of an interner's terms with the sorts of their parameters.
+use Rattle.std.specs.Prelude.{◌≡◌, ℕ, true, List, [], ◌∷◌, map, filter}
+use Rattle.model.specs.Label.{Sort, of_type}
+use Rattle.model.specs.Terms.{erased_world}
+use Rattle.model.specs.Worlds.{World, sees, view_of}
+use Rattle.text_definitions.specs.Declarations as text
+use Rattle.text_definitions.specs.Declarations.{world_of}
+use Rattle.type_terms.specs.declared.AdtId.{AdtId}
+use Rattle.type_terms.specs.declared.TraitId.{TraitId}
+use Rattle.declarations.specs.declared.items.AdtDef.{AdtDef}
+use Rattle.declarations.specs.declared.items.TraitDef.{TraitDef}
+use Rattle.declarations.specs.Applied.{sort_of_param}
+use Rattle.declarations.specs.Heads.{begins_declared}
+use Rattle.workspace.specs.Numbered.{Each}
+
+-- what crate c sees: the items of all crates that it sees. The crates themselves are left out, for rules don't read them
+abbrev pub seen_from : text.Declarations → ℕ → World
+seen_from d c = record (view_of (world_of d) c) { crates = [] }
+
+-- the same without lifetimes, as rules are read from it
+abbrev pub rules_seen_from : text.Declarations → ℕ → World
+rules_seen_from d c = record (view_of (erased_world (world_of d)) c) { crates = [] }
+
+-- ---- the sorts of an item's parameters
+abbrev pub struct_sorts : AdtId × AdtDef → List Sort
+struct_sorts x = map sort_of_param x.1.params.items
+
+abbrev pub trait_sorts : TraitId × TraitDef → List Sort
+trait_sorts x = map sort_of_param x.1.params.items
+
+-- ---- of the items that crate c sees; a trait has Self before its written parameters
+abbrev pub struct_sorts_seen : text.Declarations → ℕ → List (List Sort)
+struct_sorts_seen d c = map (λ s. s.kinds) (filter (λ s. sees (world_of d) c s.item.home) d.structs)
+
+abbrev pub trait_sorts_seen : text.Declarations → ℕ → List (List Sort)
+trait_sorts_seen d c = map (λ t. of_type ∷ t.kinds) (filter (λ t. sees (world_of d) c t.item.home) d.traits)
+
+-- the self type of each impl is a parameter, or no variable or placeholder
+abbrev pub BeginDeclared : text.Declarations → Type 0
+BeginDeclared d = Each (λ k i. begins_declared i.item.header.args ≡ true) d.impls

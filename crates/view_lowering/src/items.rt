@@ -1,0 +1,109 @@
+//! A struct, a trait, an impl.
+ghost use Rattle.std.specs.Prelude.{◌≡◌, ◌∷◌, true, map, IfOk};
+ghost use Rattle.model.specs.Label.{of_type};
+ghost use Rattle.type_terms.specs.Terms.{Keeps};
+ghost use Rattle.declarations.specs.Applied.{sort_of_param};
+ghost use Rattle.declarations.specs.Heads.{begins_declared};
+ghost use Rattle.declarations.specs.Items.{struct_in, trait_in, impl_in};
+ghost use Rattle.declarations.specs.Held.{StructHeld, TraitHeld, ImplHeld};
+ghost use Rattle.workspace.specs.Made.{AreMade, ReferenceMade, ReferencesMade, is_type};
+ghost use Rattle.workspace.specs.Views.{struct_of, trait_of, impl_of, sorts_of, sort_of_kind};
+ghost use Rattle.view_lowering.specs.Seen.{struct_sorts, trait_sorts};
+
+use crate::parts::{lower_reference, lower_references, param_kind, push_params};
+use declarations::items::{AdtDef, GenericParamKind, ImplDef, TraitDef};
+use lowering::lower_types;
+use std::alloc::{AllocError, Global};
+use type_terms::Fault;
+use type_terms::interner::Interner;
+use workspace::{ImplEntry, Param, ParamKind, StructEntry, TraitEntry};
+
+/// The struct of a row.
+pub(crate) fn lower_struct(
+    alloc: Global,
+    cx: &mut Interner,
+    entry: &StructEntry,
+) -> Result<AdtDef, Fault>
+    requires { AreMade is_type entry.now.fields.items }
+    ensures is { IfOk result (λ def. struct_in cx.new.entries (entry.now.id, def) ≡ (struct_of entry.now).item) }
+    ensures sorts { IfOk result (λ def. struct_sorts (entry.now.id, def) ≡ (struct_of entry.now).kinds) }
+    ensures held { IfOk result (λ def. StructHeld cx.new.entries def) }
+    ensures keeps { Keeps cx.old.entries cx.new.entries }
+    ensures limit { cx.new.limit ≡ cx.old.limit }
+{
+    let mut params = Vec::new(alloc);
+    push_params(&mut params, &entry.params)?;
+    let fields = lower_types(alloc, cx, &entry.fields)?;
+    AdtDef::new(alloc, cx, entry.owner, entry.is_fundamental, params, fields)
+}
+
+/// The parameters of a trait: Self and those that are written.
+fn trait_params(alloc: Global, kinds: &[ParamKind]) -> Result<Vec<GenericParamKind>, AllocError>
+    ensures { IfOk result (λ params. map sort_of_param params.items ≡ of_type ∷ sorts_of kinds.now) }
+{
+    let mut params = Vec::new(alloc);
+    params.push(GenericParamKind::Type)?;
+    push_params(&mut params, kinds)?;
+    Ok(params)
+}
+
+/// The trait of a row.
+pub(crate) fn lower_trait(
+    alloc: Global,
+    cx: &mut Interner,
+    entry: &TraitEntry,
+) -> Result<TraitDef, Fault>
+    requires { ReferencesMade entry.now.bounds.items }
+    ensures is { IfOk result (λ def. trait_in cx.new.entries (entry.now.id, def) ≡ (trait_of entry.now).item) }
+    ensures sorts { IfOk result (λ def. trait_sorts (entry.now.id, def) ≡ of_type ∷ (trait_of entry.now).kinds) }
+    ensures held { IfOk result (λ def. TraitHeld cx.new.entries def) }
+    ensures keeps { Keeps cx.old.entries cx.new.entries }
+    ensures limit { cx.new.limit ≡ cx.old.limit }
+{
+    let params = trait_params(alloc, &entry.params)?;
+    let bounds = lower_references(alloc, cx, &entry.bounds)?;
+    Ok(TraitDef {
+        home: entry.owner,
+        is_fundamental: entry.is_fundamental,
+        is_auto: entry.is_auto,
+        params,
+        bounds,
+    })
+}
+
+/// The parameters of an impl.
+fn impl_params(alloc: Global, list: &[Param]) -> Result<Vec<GenericParamKind>, AllocError>
+    ensures { IfOk result (λ params. map sort_of_param params.items ≡ map (λ p. sort_of_kind p.kind) list.now) }
+{
+    let mut params = Vec::new(alloc);
+    for param in list {
+        params.push(param_kind(param.kind))?;
+    }
+    Ok(params)
+}
+
+/// The impl of a row, whose self type is a parameter, or no variable or placeholder.
+pub(crate) fn lower_impl(
+    alloc: Global,
+    cx: &mut Interner,
+    entry: &ImplEntry,
+) -> Result<ImplDef, Fault>
+    requires header { ReferenceMade entry.now.header }
+    requires clauses { ReferencesMade entry.now.clauses.items }
+    requires begins { begins_declared (impl_of entry.now).item.header.args ≡ true }
+    ensures is { IfOk result (λ def. impl_in cx.new.entries entry.now.id def ≡ (impl_of entry.now).item) }
+    ensures sorts { IfOk result (λ def. map sort_of_param def.params.items ≡ map (λ p. sort_of_kind p.kind) entry.now.params.items) }
+    ensures held { IfOk result (λ def. ImplHeld cx.new.entries def) }
+    ensures keeps { Keeps cx.old.entries cx.new.entries }
+    ensures limit { cx.new.limit ≡ cx.old.limit }
+{
+    let params = impl_params(alloc, &entry.params)?;
+    let header = lower_reference(alloc, cx, &entry.header)?;
+    let clauses = lower_references(alloc, cx, &entry.clauses)?;
+    Ok(ImplDef {
+        home: entry.owner,
+        params,
+        header,
+        clauses,
+    })
+}

@@ -1,0 +1,11 @@
+//! What a crate sees of a text's declarations, as rules are read from it, and the text's questions: with their types made terms of
+//! an interner.
+#![tactic(auto)]
+
+mod items;
+mod parts;
+mod question;
+mod view;
+
+pub use question::{LoweredQuestion, lower_question};
+pub use view::lower;

@@ -1,0 +1,80 @@
+//! Parameters and references.
+ghost use Rattle.std.specs.Prelude.{◌≡◌, ◌++◌, [], ◌∷◌, map, IfOk, OnOk};
+ghost use Rattle.type_terms.specs.Terms.{Keeps};
+ghost use Rattle.declarations.specs.Applied.{sort_of_param, references_in};
+ghost use Rattle.declarations.specs.Held.{ReferenceHeld};
+ghost use Rattle.declarations.specs.Items.{reference_in};
+ghost use Rattle.declarations.specs.Merges.{Each};
+ghost use Rattle.workspace.specs.Made.{ReferenceMade, ReferencesMade};
+ghost use Rattle.workspace.specs.Views.{sort_of_kind, sorts_of, reference_of};
+
+use declarations::items::GenericParamKind;
+use lowering::lower_args;
+use std::alloc::{AllocError, Global};
+use term_folds::predicate::TraitRef;
+use type_terms::Fault;
+use type_terms::interner::Interner;
+use workspace::{ParamKind, ReferenceCells};
+
+/// What a parameter stands for, as declarations have it.
+pub(crate) fn param_kind(kind: ParamKind) -> GenericParamKind
+    ensures { sort_of_param result ≡ sort_of_kind kind }
+{
+    match kind {
+        ParamKind::Lifetime => GenericParamKind::Lifetime,
+        ParamKind::Type => GenericParamKind::Type,
+        ParamKind::Const => GenericParamKind::Const,
+    }
+}
+
+/// Puts parameters behind others.
+pub(crate) fn push_params(
+    params: &mut Vec<GenericParamKind>,
+    kinds: &[ParamKind],
+) -> Result<(), AllocError>
+    ensures { OnOk result (map sort_of_param params.new.items ≡ map sort_of_param params.old.items ++ sorts_of kinds.now) }
+{
+    for kind in kinds {
+        params.push(param_kind(*kind))?;
+    }
+    Ok(())
+}
+
+/// A reference whose arguments are terms. Errors are those of `lower_args`.
+pub(crate) fn lower_reference(
+    alloc: Global,
+    cx: &mut Interner,
+    cells: &ReferenceCells,
+) -> Result<TraitRef, Fault>
+    requires { ReferenceMade cells.now }
+    ensures is { IfOk result (λ trait_ref. reference_in cx.new.entries trait_ref ≡ reference_of cells.now) }
+    ensures held { IfOk result (λ trait_ref. ReferenceHeld cx.new.entries trait_ref) }
+    ensures keeps { Keeps cx.old.entries cx.new.entries }
+    ensures limit { cx.new.limit ≡ cx.old.limit }
+{
+    let args = lower_args(alloc, cx, &cells.args)?;
+    Ok(TraitRef {
+        def_id: cells.trait_id,
+        args,
+    })
+}
+
+/// References whose arguments are terms, in order.
+pub(crate) fn lower_references(
+    alloc: Global,
+    cx: &mut Interner,
+    list: &[ReferenceCells],
+) -> Result<Vec<TraitRef>, Fault>
+    requires { ReferencesMade list.now }
+    ensures are { IfOk result (λ refs. references_in cx.new.entries refs.items ≡ map reference_of list.now) }
+    ensures held { IfOk result (λ refs. Each (ReferenceHeld cx.new.entries) refs.items) }
+    ensures keeps { Keeps cx.old.entries cx.new.entries }
+    ensures limit { cx.new.limit ≡ cx.old.limit }
+{
+    let mut refs = Vec::new(alloc);
+    for cells in list {
+        let trait_ref = lower_reference(alloc, cx, cells)?;
+        refs.push(trait_ref)?;
+    }
+    Ok(refs)
+}

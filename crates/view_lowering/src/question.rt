@@ -1,0 +1,137 @@
+//! Questions.
+ghost use Rattle.std.specs.Prelude.{◌≡◌, [], map, IfOk};
+ghost use Rattle.text_definitions.specs.Declarations.{Question};
+ghost use Rattle.text_definitions.specs.Names.{own_from};
+ghost use Rattle.type_terms.specs.Kinds.{arg_trees, ArgsHeld, ArgHeld};
+ghost use Rattle.type_terms.specs.Terms.{Keeps};
+ghost use Rattle.workspace.specs.Made.{ReferenceMade, ReferencesMade};
+ghost use Rattle.workspace.specs.Views.{question_of, variable_of};
+ghost use Rattle.view_lowering.specs.Questions.{IsQuestion, IsLowered, IsNextUnknown};
+
+use crate::parts::{lower_reference, lower_references};
+use std::alloc::Global;
+use term_folds::predicate::TraitRef;
+use type_terms::interner::Interner;
+use type_terms::kinds::{ConstKind, GenericArgKind, TyKind};
+use type_terms::number::{ConstVid, RegionVid, TyVid};
+use type_terms::region::{Region, RegionKind};
+use type_terms::{Fault, MAX_INDEX};
+use workspace::{Param, ParamKind, QuestionEntry, Workspace};
+
+/// A question with its types as terms. Its parameters are placeholders, its variables unknowns.
+#[derive(Drop)]
+pub struct LoweredQuestion {
+    /// What is asked.
+    pub asked: TraitRef,
+    /// The where-clauses as they are written.
+    pub clauses: Vec<TraitRef>,
+    /// For each variable, by first place, the unknown that stands for it: those of one kind are counted from 0.
+    pub unknowns: Vec<GenericArgKind>,
+}
+
+/// How many unknowns of each kind there are.
+#[derive(Clone, Copy)]
+pub(crate) struct Counts {
+    pub types: u32,
+    pub consts: u32,
+}
+
+/// The unknown of the next variable, of this kind.
+fn next_unknown(
+    cx: &mut Interner,
+    kind: ParamKind,
+    counts: &mut Counts,
+) -> Result<GenericArgKind, Fault>
+    ensures is { IfOk result (λ arg. IsNextUnknown cx.new.entries kind counts.old arg counts.new) }
+    ensures held { IfOk result (λ arg. ArgHeld cx.new.entries arg) }
+    ensures keeps { Keeps cx.old.entries cx.new.entries }
+    ensures limit { cx.new.limit ≡ cx.old.limit }
+{
+    match kind {
+        ParamKind::Lifetime => Ok(GenericArgKind::Lifetime(Region {
+            kind: RegionKind::ReVar(RegionVid { index: 0 }),
+        })),
+        ParamKind::Type => {
+            if counts.types >= MAX_INDEX {
+                return Err(Fault::Full);
+            }
+            let ty = cx.mk_ty(TyKind::Infer(TyVid {
+                index: counts.types,
+            }))?;
+            counts.types += 1;
+            Ok(GenericArgKind::Ty(ty))
+        }
+        ParamKind::Const => {
+            if counts.consts >= MAX_INDEX {
+                return Err(Fault::Full);
+            }
+            let value = cx.mk_const(ConstKind::Infer(ConstVid {
+                index: counts.consts,
+            }))?;
+            counts.consts += 1;
+            Ok(GenericArgKind::Const(value))
+        }
+    }
+}
+
+/// The unknowns that stand for the variables, in their order.
+fn own_unknowns(
+    alloc: Global,
+    cx: &mut Interner,
+    variables: &[Param],
+) -> Result<Vec<GenericArgKind>, Fault>
+    ensures are { IfOk result (λ args. map (arg_trees cx.new.entries) args.items ≡ own_from 0 0 (map variable_of variables.now)) }
+    ensures held { IfOk result (λ args. ArgsHeld cx.new.entries args.items) }
+    ensures keeps { Keeps cx.old.entries cx.new.entries }
+    ensures limit { cx.new.limit ≡ cx.old.limit }
+{
+    let mut unknowns = Vec::new(alloc);
+    let mut counts = Counts {
+        types: 0,
+        consts: 0,
+    };
+    for variable in variables {
+        let unknown = next_unknown(cx, variable.kind, &mut counts)?;
+        unknowns.push(unknown)?;
+    }
+    Ok(unknowns)
+}
+
+/// The question of a row.
+fn lower_entry(
+    alloc: Global,
+    cx: &mut Interner,
+    entry: &QuestionEntry,
+) -> Result<LoweredQuestion, Fault>
+    requires asked { ReferenceMade entry.now.asked }
+    requires clauses { ReferencesMade entry.now.clauses.items }
+    ensures lowered { IfOk result (λ lowered. IsLowered cx.new.entries (question_of entry.now) lowered) }
+    ensures keeps { Keeps cx.old.entries cx.new.entries }
+    ensures limit { cx.new.limit ≡ cx.old.limit }
+{
+    let asked = lower_reference(alloc, cx, &entry.asked)?;
+    let clauses = lower_references(alloc, cx, &entry.clauses)?;
+    let unknowns = own_unknowns(alloc, cx, &entry.variables)?;
+    Ok(LoweredQuestion {
+        asked,
+        clauses,
+        unknowns,
+    })
+}
+
+/// The question with a number, counted from 1. The error is `Memory`, or `Full` where a table of the interner is full; the
+/// interner may then hold more terms than before.
+pub fn lower_question(
+    alloc: Global,
+    cx: &mut Interner,
+    workspace: &Workspace,
+    number: u32,
+) -> Result<LoweredQuestion, Fault>
+    requires { (q : Question) × IsQuestion workspace.now number q }
+    ensures lowered { (q : Question) → IsQuestion workspace.now number q → IfOk result (λ lowered. IsLowered cx.new.entries q lowered) }
+    ensures keeps { Keeps cx.old.entries cx.new.entries }
+    ensures limit { cx.new.limit ≡ cx.old.limit }
+{
+    let entries = workspace.question_entries();
+    lower_entry(alloc, cx, &entries[number as usize - 1])
+}
