@@ -15,3 +15,4 @@ pub mod Weights
 pub mod Summed
 pub mod Resolving
 pub mod UsedLaws
+pub mod Firsts

@@ -439,8 +439,8 @@ pub(crate) fn length<N: Names>(names: &N, length: Length<'_>) -> Findings
     }
 }
 
-/// Whether a name comes again.
-fn repeats(alloc: Global, names: &[&[u8]]) -> Result<bool, AllocError>
+/// Whether a name comes again. The error says that a request for memory was refused.
+pub fn repeats(alloc: Global, names: &[&[u8]]) -> Result<bool, AllocError>
     ensures { IfOk result (λ b. b ≡ repeats (map text_of names.now)) }
 {
     let mut behind = NameSet::new(alloc);
@@ -457,7 +457,7 @@ fn repeats(alloc: Global, names: &[&[u8]]) -> Result<bool, AllocError>
 }
 
 /// Whether `'static` is among the names.
-fn has_static(names: &[&[u8]]) -> bool
+pub fn has_static(names: &[&[u8]]) -> bool
     ensures { result ≡ is_among static_name (map text_of names.now) }
 {
     match place_in(names, b"static".as_slice()) {

@@ -13,6 +13,7 @@ mod resolved;
 mod rest;
 mod shapes;
 mod turn;
+mod variables;
 mod walk;
 
 ghost use Rattle.name_resolution.specs.Standing.{CellsStand};
@@ -21,11 +22,12 @@ ghost use Rattle.name_resolution.specs.UsedNames.{TypesUseNames, ArgsUseNames};
 ghost use Rattle.name_resolution.specs.Laws.{MachineResolves, ArgsResolved, TypesTurned, ArgsTurned};
 
 pub use findings::Findings;
-pub use judge::crate_name;
+pub use judge::{crate_name, has_static, repeats};
 pub use name_set::NameSet;
 pub use names::{Known, Names, Sort};
 pub use resolve::{Resolved, ResolvedBound, resolve_bound, resolve_type};
 pub use resolved::{NodeLabel, Region, ResolvedCell, Variable};
+pub use variables::each_once;
 
 /// The resolved cells of a type stand for the type's tree.
 pub fn cells_stand()

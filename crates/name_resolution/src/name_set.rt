@@ -24,8 +24,8 @@ impl<'a> NameSet<'a> {
         }
     }
 
-    /// This name too.
-    pub(crate) fn insert(&mut self, name: &'a [u8]) -> Result<(), AllocError>
+    /// This name too. The error says that a request for memory was refused; then it was not added.
+    pub fn insert(&mut self, name: &'a [u8]) -> Result<(), AllocError>
         ensures { OnOk result ((ns : List (List ℕ)) → Holds self.old ns → Holds self.new (name.now ∷ ns)) }
     {
         let _ = self.names.insert(name)?;
