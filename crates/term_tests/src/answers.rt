@@ -13,23 +13,29 @@ use infer_table::infer_ctxt::InferCtxt;
 use infer_table::raw::response_no_constraints_raw;
 use infer_table::response::CanonicalResponse;
 use std::alloc::Global;
-use std::test::Fail;
 use type_terms::Fault;
 use type_terms::interner::Interner;
 use type_terms::kinds::{GenericArgKind, Ty, TyKind, UintTy};
 use type_terms::number::{BoundVar, BoundVarIndexKind, TyVid};
 
-#[test]
-fn an_answer_that_says_nothing_gives_each_variable_itself(rt: HostRuntime) -> Result<(), Fail> {
-    let mut cx = Interner::new(rt.alloc(), 100);
-    let variables = vec![in rt.alloc(); CanonicalVarKind::Ty, CanonicalVarKind::Region]?;
-    let answer = response_no_constraints_raw(rt.alloc(), &mut cx, variables, Certainty::Yes)?;
+/// Whether the values of an answer that says nothing of a type and a lifetime are two, of which the type's is the variable itself, and
+/// no lifetime is constrained.
+fn says_nothing(alloc: Global, cx: &mut Interner) -> Result<[bool; 3], Fault> {
+    let variables = vec![in alloc; CanonicalVarKind::Ty, CanonicalVarKind::Region]?;
+    let answer = response_no_constraints_raw(alloc, cx, variables, Certainty::Yes)?;
     let index = BoundVarIndexKind::Canonical;
     let first = cx.mk_ty(TyKind::Bound(index, BoundVar { index: 0 }))?;
-    assert_eq!(rt; answer.var_values.len(), 2);
-    assert!(rt; answer.var_values[0] == GenericArgKind::Ty(first));
-    assert!(rt; answer.region_constraints.is_empty());
-    Ok(())
+    Ok([
+        answer.var_values.len() == 2,
+        answer.var_values.first().copied() == Some(GenericArgKind::Ty(first)),
+        answer.region_constraints.is_empty(),
+    ])
+}
+
+#[test]
+fn an_answer_that_says_nothing_gives_each_variable_itself(rt: HostRuntime) {
+    let mut cx = Interner::new(rt.alloc(), 100);
+    assert!(rt; says_nothing(rt.alloc(), &mut cx) == Ok([true; 3]));
 }
 
 /// An answer with two values, which both are `u8`.
@@ -56,17 +62,26 @@ fn applied_to(alloc: Global, cx: &mut Interner, other: Sample) -> Result<(bool, 
     Ok((equated(applied)?, table.shallow_resolve(cx, unknown)))
 }
 
+/// Whether that answer can be applied so, and whether `?3` stands for this type then.
+fn is_applied(
+    alloc: Global,
+    cx: &mut Interner,
+    other: Sample,
+    value: Sample,
+) -> Result<[bool; 2], Fault> {
+    let (is_applied, found) = applied_to(alloc, cx, other)?;
+    let value = make(alloc, cx, Shape::Plain(value))?;
+    Ok([is_applied, found == value])
+}
+
 // It is refused after `?3` was made `u8`.
 #[test]
-fn an_answer_is_applied_whole_or_not_at_all(rt: HostRuntime) -> Result<(), Fail> {
-    for (other, is_applied, value) in [
-        (Sample::Byte, true, Sample::Byte),
-        (Sample::Bool, false, THIRD),
+fn an_answer_is_applied_whole_or_not_at_all(rt: HostRuntime) {
+    for (other, value, wanted) in [
+        (Sample::Byte, Sample::Byte, [true, true]),
+        (Sample::Bool, THIRD, [false, true]),
     ] {
         let mut cx = Interner::new(rt.alloc(), 100);
-        let found = applied_to(rt.alloc(), &mut cx, other)?;
-        let value = make(rt.alloc(), &mut cx, Shape::Plain(value))?;
-        assert!(rt; found == (is_applied, value));
+        assert!(rt; is_applied(rt.alloc(), &mut cx, other, value) == Ok(wanted));
     }
-    Ok(())
 }

@@ -5,7 +5,7 @@ ghost use Rattle.type_terms.specs.Kinds.{RegionHeld, region_label};
 ghost use Rattle.model.specs.Label.{bound, of_lifetime, ref, uint};
 ghost use Rattle.model.specs.Trees.{tree, none, leaf};
 
-use std::test::Fail;
+use std::alloc::Global;
 use term_folds::binder::{Binder, EarlyBinder};
 use term_folds::binders::Binders;
 use term_folds::predicate::Clause;
@@ -66,39 +66,76 @@ fn byte_reference(cx: &mut Interner, kind: RegionKind) -> Result<Ty, Fault>
     cx.mk_ty(TyKind::Ref(Region { kind }, byte, Mutability::Not))
 }
 
-#[test]
-fn free_lifetimes_become_static(rt: HostRuntime) -> Result<(), Fail> {
-    let alloc = rt.alloc();
-    let mut cx = Interner::new(alloc, 8);
-    let inner = byte_reference(&mut cx, RegionKind::ReStatic)?;
-    let wanted = reference_to(&mut cx, RegionKind::ReStatic, inner)?;
-    let inner = byte_reference(&mut cx, RegionKind::ReStatic)?;
-    let ty = reference_to(&mut cx, RegionKind::ReEarlyParam(0), inner)?;
-    assert!(rt; fold_regions(alloc, &mut cx, ty, &AllStatic)? == wanted);
-    Ok(())
+/// Whether `&'a &'static u8` becomes `&'static &'static u8`.
+fn type_becomes_static(alloc: Global, cx: &mut Interner) -> Result<bool, Fault> {
+    let inner = byte_reference(cx, RegionKind::ReStatic)?;
+    let wanted = reference_to(cx, RegionKind::ReStatic, inner)?;
+    let inner = byte_reference(cx, RegionKind::ReStatic)?;
+    let ty = reference_to(cx, RegionKind::ReEarlyParam(0), inner)?;
+    Ok(fold_regions(alloc, cx, ty, &AllStatic)? == wanted)
+}
+
+const STATIC: Region = Region {
+    kind: RegionKind::ReStatic,
+};
+
+const PARAMETER: Region = Region {
+    kind: RegionKind::ReEarlyParam(0),
+};
+
+/// Whether `'a: 'static` becomes `'static: 'static`, and `for<'b> 'b: 'a` becomes `for<'b> 'b: 'static`.
+fn clauses_become_static(alloc: Global, cx: &mut Interner) -> Result<[bool; 2], Fault> {
+    let clause = Clause::RegionOutlives(PARAMETER, STATIC);
+    let folded = fold_regions(alloc, cx, clause, &AllStatic)?;
+    let bound = Region {
+        kind: bound_region(0, 0),
+    };
+    let binder = Binder::bind_with_vars(Clause::RegionOutlives(bound, PARAMETER), 1);
+    let below = fold_regions(alloc, cx, binder, &AllStatic)?;
+    let wanted = Binder::bind_with_vars(Clause::RegionOutlives(bound, STATIC), 1);
+    Ok([
+        folded == Clause::RegionOutlives(STATIC, STATIC),
+        below == wanted,
+    ])
 }
 
 #[test]
-fn a_shift_moves_outer_lifetimes(rt: HostRuntime) -> Result<(), Fail> {
-    let alloc = rt.alloc();
-    let mut cx = Interner::new(alloc, 8);
-    let wanted = byte_reference(&mut cx, bound_region(1, 0))?;
-    let ty = byte_reference(&mut cx, bound_region(0, 0))?;
-    assert!(rt; shift_vars(alloc, &mut cx, ty, 1)? == wanted);
-    let ty = byte_reference(&mut cx, bound_region(0, 0))?;
-    assert!(rt; shift_vars(alloc, &mut cx, ty, 0)? == ty);
-    Ok(())
+fn free_lifetimes_become_static(rt: HostRuntime) {
+    let mut cx = Interner::new(rt.alloc(), 8);
+    assert!(rt; type_becomes_static(rt.alloc(), &mut cx) == Ok(true));
+    assert!(rt; clauses_become_static(rt.alloc(), &mut cx) == Ok([true, true]));
+}
+
+/// Whether a shift by one moves a lifetime of the innermost binder out by one, and whether a shift by none leaves it.
+fn shifts(alloc: Global, cx: &mut Interner) -> Result<[bool; 2], Fault> {
+    let wanted = byte_reference(cx, bound_region(1, 0))?;
+    let ty = byte_reference(cx, bound_region(0, 0))?;
+    let is_moved = shift_vars(alloc, cx, ty, 1)? == wanted;
+    let ty = byte_reference(cx, bound_region(0, 0))?;
+    Ok([is_moved, shift_vars(alloc, cx, ty, 0)? == ty])
 }
 
 #[test]
-fn a_variable_has_to_match_its_binder(rt: HostRuntime) -> Result<(), Fail> {
-    let mut cx = Interner::new(rt.alloc(), 16);
-    let ty = byte_reference(&mut cx, bound_region(0, 1))?;
+fn a_shift_moves_outer_lifetimes(rt: HostRuntime) {
+    let mut cx = Interner::new(rt.alloc(), 8);
+    assert!(rt; shifts(rt.alloc(), &mut cx) == Ok([true, true]));
+}
+
+/// Whether the second lifetime of a binder is found to be wrong below it, with one lifetime and with two.
+fn mismatches(cx: &mut Interner) -> Result<[bool; 3], Fault> {
+    let ty = byte_reference(cx, bound_region(0, 1))?;
     let mut one = ValidateBoundVars::new(1);
-    assert!(rt; ty.super_visit_with(&cx, &mut one).is_break());
-    assert!(rt; ValidateBoundVars::new(1).validate(&cx, ty).is_break());
-    assert!(rt; ValidateBoundVars::new(2).validate(&cx, ty).is_continue());
-    Ok(())
+    Ok([
+        ty.super_visit_with(cx, &mut one).is_break(),
+        ValidateBoundVars::new(1).validate(cx, ty).is_break(),
+        ValidateBoundVars::new(2).validate(cx, ty).is_break(),
+    ])
+}
+
+#[test]
+fn a_variable_has_to_match_its_binder(rt: HostRuntime) {
+    let mut cx = Interner::new(rt.alloc(), 16);
+    assert!(rt; mismatches(&mut cx) == Ok([true, true, false]));
 }
 
 #[test]
@@ -122,26 +159,4 @@ fn binders_are_counted_and_give_their_value_back(rt: HostRuntime) {
         EarlyBinder::bind(7).instantiate_identity(),
     ];
     assert!(rt; values == [7, 7, 7]);
-}
-
-#[test]
-fn lifetimes_of_a_clause_become_static(rt: HostRuntime) -> Result<(), Fail> {
-    let alloc = rt.alloc();
-    let mut cx = Interner::new(alloc, 8);
-    let region = Region {
-        kind: RegionKind::ReStatic,
-    };
-    let longer = Region {
-        kind: RegionKind::ReEarlyParam(0),
-    };
-    let clause = Clause::RegionOutlives(longer, region);
-    let wanted = Clause::RegionOutlives(region, region);
-    assert!(rt; fold_regions(alloc, &mut cx, clause, &AllStatic)? == wanted);
-    let bound = Region {
-        kind: bound_region(0, 0),
-    };
-    let binder = Binder::bind_with_vars(Clause::RegionOutlives(bound, longer), 1);
-    let wanted = Binder::bind_with_vars(Clause::RegionOutlives(bound, region), 1);
-    assert!(rt; fold_regions(alloc, &mut cx, binder, &AllStatic)? == wanted);
-    Ok(())
 }

@@ -9,13 +9,12 @@ use crate::traversal::FirstRegion;
 use infer_table::certainty::TypingMode;
 use infer_table::goal::Goal;
 use infer_table::infer_ctxt::InferCtxt;
-use infer_table::input::{Canonicalized, canonicalize_goal, is_same_question};
+use infer_table::input::{CanonicalInput, Canonicalized, canonicalize_goal, is_same_question};
 use infer_table::unknowns::instantiate_canonical;
 use std::alloc::Global;
-use std::test::Fail;
 use term_folds::predicate::{TraitPredicate, TraitRef};
 use type_terms::interner::Interner;
-use type_terms::kinds::{GenericArgKind, Ty};
+use type_terms::kinds::{GenericArgKind, GenericArgs, Ty};
 use type_terms::number::TyVid;
 use type_terms::{Fault, TraitId};
 
@@ -70,6 +69,16 @@ fn unknown(index: u32) -> Sample
     Sample::Unknown(TyVid { index })
 }
 
+/// The canonical form, in a table without variables, of the goal that a type of this shape is `Show`.
+fn form(alloc: Global, cx: &mut Interner, shape: Shape) -> Result<Canonicalized, Fault>
+    ensures keeps { Keeps cx.old.entries cx.new.entries }
+    ensures held { IfOk result (λ r. GoalHeld cx.new.entries r.input.goal) }
+{
+    let table = InferCtxt::new(alloc);
+    let ty = make(alloc, cx, shape)?;
+    shown_goal(alloc, cx, &table, ty)
+}
+
 /// Whether that two types are `Show` is one question.
 fn is_one_question(
     alloc: Global,
@@ -77,40 +86,53 @@ fn is_one_question(
     left: Shape,
     right: Shape,
 ) -> Result<bool, Fault> {
-    let table = InferCtxt::new(alloc);
-    let left = make(alloc, cx, left)?;
-    let left = shown_goal(alloc, cx, &table, left)?;
-    let right = make(alloc, cx, right)?;
-    let right = shown_goal(alloc, cx, &table, right)?;
+    let left = form(alloc, cx, left)?;
+    let right = form(alloc, cx, right)?;
     Ok(is_same_question(cx, &left.input, &right.input))
 }
 
 // Whatever the numbers of the unknowns are, but not whatever their pattern is.
 #[test]
-fn goals_are_one_question_up_to_the_numbers_of_unknowns(rt: HostRuntime) -> Result<(), Fail> {
+fn goals_are_one_question_up_to_the_numbers_of_unknowns(rt: HostRuntime) {
     let mut cx = Interner::new(rt.alloc(), 100);
     let (third, fifth) = (unknown(3), unknown(5));
     for (left, right, is_one) in [
         (Shape::VecOf(third), Shape::VecOf(fifth), true),
         (Shape::Pair(third, third), Shape::Pair(third, fifth), false),
     ] {
-        assert!(rt; is_one_question(rt.alloc(), &mut cx, left, right)? == is_one);
+        assert!(rt; is_one_question(rt.alloc(), &mut cx, left, right) == Ok(is_one));
     }
-    Ok(())
+}
+
+/// Whether no lifetime stands in what the question asks in a table without variables, and the arguments of its trait there.
+fn opened(
+    alloc: Global,
+    cx: &mut Interner,
+    input: &CanonicalInput,
+) -> Result<(bool, GenericArgs), Fault>
+    requires { GoalHeld cx.old.entries input.now.goal }
+{
+    let mut table = InferCtxt::new(alloc);
+    let inside = instantiate_canonical(alloc, cx, &mut table, input)?;
+    let found = inside.goal.visit_with(cx, &mut FirstRegion);
+    Ok((found.is_continue(), inside.goal.predicate.trait_ref.args))
+}
+
+/// Whether the form of `V<?3>: Show` has one value, and gives `V<?0>: Show`, in which no lifetime stands.
+fn form_is_opened(alloc: Global, cx: &mut Interner) -> Result<[bool; 3], Fault> {
+    let form = form(alloc, cx, Shape::VecOf(unknown(3)))?;
+    let (has_no_lifetime, args) = opened(alloc, cx, &form.input)?;
+    let list = make(alloc, cx, Shape::VecOf(unknown(0)))?;
+    let wanted = shown(alloc, cx, list)?;
+    Ok([
+        form.values.len() == 1,
+        has_no_lifetime,
+        args == wanted.trait_ref.args,
+    ])
 }
 
 #[test]
-fn a_form_gives_its_goal_with_the_next_unknown(rt: HostRuntime) -> Result<(), Fail> {
-    let alloc = rt.alloc();
-    let mut cx = Interner::new(alloc, 100);
-    let mut table = InferCtxt::new(alloc);
-    let list = make(alloc, &mut cx, Shape::VecOf(unknown(3)))?;
-    let form = shown_goal(alloc, &mut cx, &table, list)?;
-    assert!(rt; form.values.len() == 1);
-    let inside = instantiate_canonical(alloc, &mut cx, &mut table, &form.input)?;
-    assert!(rt; inside.goal.visit_with(&cx, &mut FirstRegion).is_continue());
-    let list = make(alloc, &mut cx, Shape::VecOf(unknown(0)))?;
-    let wanted = shown(alloc, &mut cx, list)?;
-    assert!(rt; inside.goal.predicate.trait_ref.args == wanted.trait_ref.args);
-    Ok(())
+fn a_form_gives_its_goal_with_the_next_unknown(rt: HostRuntime) {
+    let mut cx = Interner::new(rt.alloc(), 100);
+    assert!(rt; form_is_opened(rt.alloc(), &mut cx) == Ok([true; 3]));
 }

@@ -3,7 +3,6 @@ ghost use Rattle.std.specs.Prelude.{◌<◌, IfOk};
 ghost use Rattle.type_terms.specs.Terms.{Has, args_lists, type_lists, bounds_lists};
 
 use std::alloc::Global;
-use std::test::Fail;
 use type_terms::flags::TypeFlags;
 use type_terms::interner::Interner;
 use type_terms::kinds::{
@@ -12,42 +11,25 @@ use type_terms::kinds::{
 use type_terms::region::{Region, RegionKind};
 use type_terms::{Fault, TraitId};
 
-/// A type of the tests.
-#[derive(Clone, Copy)]
-enum Leaf {
-    Byte,
-    Bool,
-    Char,
-}
-
-/// Makes the type.
-fn make(cx: &mut Interner, leaf: Leaf) -> Result<Ty, Fault> {
-    match leaf {
-        Leaf::Byte => cx.mk_ty(TyKind::Uint(UintTy::U8)),
-        Leaf::Bool => cx.mk_ty(TyKind::Bool),
-        Leaf::Char => cx.mk_ty(TyKind::Char),
-    }
-}
-
-/// Makes the type, once more where memory was refused: a refusal leaves everything as it was.
-fn make_again(cx: &mut Interner, leaf: Leaf) -> Result<Ty, Fault> {
-    match make(cx, leaf) {
-        Err(Fault::Memory) => make(cx, leaf),
-        answer => answer,
-    }
+/// Types that are made in a table for two: `u8` twice, `bool`, `char` and `bool`; which of them are one, and that `char` is refused.
+fn types_for_two(cx: &mut Interner) -> Result<[bool; 4], Fault> {
+    let byte = cx.mk_ty(TyKind::Uint(UintTy::U8))?;
+    let same = cx.mk_ty(TyKind::Uint(UintTy::U8))?;
+    let boolean = cx.mk_ty(TyKind::Bool)?;
+    let full = cx.mk_ty(TyKind::Char);
+    let found = cx.mk_ty(TyKind::Bool)?;
+    Ok([
+        byte == same,
+        byte == boolean,
+        boolean == found,
+        full == Err(Fault::Full),
+    ])
 }
 
 #[test]
-fn a_full_table_still_finds_its_terms(rt: HostRuntime) -> Result<(), Fail> {
+fn a_full_table_still_finds_its_terms(rt: HostRuntime) {
     let mut cx = Interner::new(rt.alloc(), 2);
-    let byte = make_again(&mut cx, Leaf::Byte)?;
-    let same = make_again(&mut cx, Leaf::Byte)?;
-    let boolean = make_again(&mut cx, Leaf::Bool)?;
-    let full = make_again(&mut cx, Leaf::Char);
-    let found = make_again(&mut cx, Leaf::Bool)?;
-    assert!(rt; [byte == same, byte == boolean, boolean == found] == [true, false, true]);
-    assert!(rt; full == Err(Fault::Full));
-    Ok(())
+    assert!(rt; types_for_two(&mut cx) == Ok([true, false, true, true]));
 }
 
 /// Lists of two lifetimes, in this order or in the other.
@@ -76,16 +58,13 @@ fn constants(cx: &mut Interner) -> Result<[bool; 3], Fault> {
     Ok([has_value, three == same, three == other])
 }
 
-#[test]
-fn equal_constants_and_lists_of_arguments_have_one_handle(rt: HostRuntime) -> Result<(), Fail> {
-    let mut cx = Interner::new(rt.alloc(), 2);
-    assert!(rt; constants(&mut cx)? == [true, true, false]);
-    let there = lifetimes(&mut cx, rt.alloc(), true)?;
-    assert!(rt; cx.args(there).len() == 2);
-    let same = lifetimes(&mut cx, rt.alloc(), true)?;
-    let back = lifetimes(&mut cx, rt.alloc(), false)?;
-    assert!(rt; [there == same, there == back] == [true, false]);
-    Ok(())
+/// Lists of lifetimes that are made twice.
+fn lists_of_lifetimes(alloc: Global, cx: &mut Interner) -> Result<[bool; 3], Fault> {
+    let there = lifetimes(cx, alloc, true)?;
+    let has_two = cx.args(there).len() == 2;
+    let same = lifetimes(cx, alloc, true)?;
+    let back = lifetimes(cx, alloc, false)?;
+    Ok([has_two, there == same, there == back])
 }
 
 /// The list of `u8` and `bool` in this order, or in the other.
@@ -101,17 +80,14 @@ fn types(cx: &mut Interner, alloc: Global, byte_first: bool) -> Result<Tys, Faul
     }
 }
 
-#[test]
-fn equal_lists_of_types_have_one_handle(rt: HostRuntime) -> Result<(), Fail> {
-    let alloc = rt.alloc();
-    let mut cx = Interner::new(alloc, 2);
-    let there = types(&mut cx, alloc, true)?;
-    assert!(rt; cx.tys(there).len() == 2);
-    let same = types(&mut cx, alloc, true)?;
-    let back = types(&mut cx, alloc, false)?;
-    assert!(rt; [there == same, there == back] == [true, false]);
-    assert!(rt; cx.mk_tys(Vec::new(alloc)) == Err(Fault::Full));
-    Ok(())
+/// Lists of types that are made twice; then the table is full.
+fn lists_of_types(alloc: Global, cx: &mut Interner) -> Result<[bool; 4], Fault> {
+    let there = types(cx, alloc, true)?;
+    let has_two = cx.tys(there).len() == 2;
+    let same = types(cx, alloc, true)?;
+    let back = types(cx, alloc, false)?;
+    let is_full = cx.mk_tys(Vec::new(alloc)) == Err(Fault::Full);
+    Ok([has_two, there == same, there == back, is_full])
 }
 
 /// The bounds `dyn for<'a> P + A` of a principal without arguments and an auto trait.
@@ -129,20 +105,36 @@ fn object_bounds(cx: &mut Interner, alloc: Global, auto_trait: u32) -> Result<Bo
     cx.mk_bounds(BoundsData { principal, autos })
 }
 
+/// What is known of bounds: their flags, their outer binder and their depth, where they have one auto trait.
+fn numbers_of_bounds(alloc: Global, cx: &mut Interner) -> Result<Option<[u32; 3]>, Fault> {
+    let bounds = object_bounds(cx, alloc, 1)?;
+    if cx.bounds(bounds).autos.len() != 1 {
+        return Ok(None);
+    }
+    let outer = cx.outer_exclusive_binder(bounds).index;
+    Ok(Some([cx.flags(bounds).0, outer, cx.depth(bounds)]))
+}
+
+/// Bounds that are made twice.
+fn bounds(alloc: Global, cx: &mut Interner) -> Result<[bool; 2], Fault> {
+    let first = object_bounds(cx, alloc, 1)?;
+    let same = object_bounds(cx, alloc, 1)?;
+    let other = object_bounds(cx, alloc, 2)?;
+    Ok([first == same, first == other])
+}
+
 #[test]
-fn equal_bounds_have_one_handle(rt: HostRuntime) -> Result<(), Fail> {
-    let alloc = rt.alloc();
-    let mut cx = Interner::new(alloc, 2);
-    let first = object_bounds(&mut cx, alloc, 1)?;
-    assert!(rt; cx.bounds(first).autos.len() == 1);
-    let numbers = [
-        cx.flags(first).0,
-        cx.outer_exclusive_binder(first).index,
-        cx.depth(first),
-    ];
-    assert!(rt; numbers == [TypeFlags::HAS_BINDER_VARS.0, 0, 1]);
-    let same = object_bounds(&mut cx, alloc, 1)?;
-    let other = object_bounds(&mut cx, alloc, 2)?;
-    assert!(rt; [first == same, first == other] == [true, false]);
-    Ok(())
+fn equal_terms_have_one_handle(rt: HostRuntime) {
+    let mut cx = Interner::new(rt.alloc(), 2);
+    assert!(rt; constants(&mut cx) == Ok([true, true, false]));
+    assert!(rt; lists_of_lifetimes(rt.alloc(), &mut cx) == Ok([true, true, false]));
+    assert!(rt; lists_of_types(rt.alloc(), &mut cx) == Ok([true, true, false, true]));
+}
+
+#[test]
+fn equal_bounds_have_one_handle(rt: HostRuntime) {
+    let mut cx = Interner::new(rt.alloc(), 2);
+    assert!(rt; bounds(rt.alloc(), &mut cx) == Ok([true, false]));
+    let numbers = Some([TypeFlags::HAS_BINDER_VARS.0, 0, 1]);
+    assert!(rt; numbers_of_bounds(rt.alloc(), &mut cx) == Ok(numbers));
 }

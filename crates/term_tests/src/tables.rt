@@ -8,7 +8,6 @@ use infer_table::certainty::EqError;
 use infer_table::infer_ctxt::InferCtxt;
 use infer_table::terms::RegionConstraint;
 use std::alloc::Global;
-use std::test::Fail;
 use term_folds::binder::Binder;
 use term_folds::fn_sig::FnSig;
 use type_terms::interner::Interner;
@@ -135,46 +134,78 @@ pub(crate) fn empty_table(alloc: Global, cx: &Interner) -> InferCtxt
     InferCtxt::new(alloc)
 }
 
-/// A table with two unknown types.
-fn two_unknowns(alloc: Global, cx: &mut Interner) -> Result<InferCtxt, Fault>
-    ensures { IfOk result (λ table. Ready cx.new.entries table) }
+/// Makes two unknown types.
+fn two_unknowns(cx: &mut Interner, table: &mut InferCtxt) -> Result<(), Fault>
+    requires { Ready cx.old.entries table.old }
+    ensures { Ready cx.new.entries table.new }
 {
-    let mut table = empty_table(alloc, cx);
     table.next_ty_var(cx)?;
     table.next_ty_var(cx)?;
-    Ok(table)
+    Ok(())
 }
 
 const FIRST: Sample = Sample::Unknown(TyVid { index: 0 });
 
 const SECOND: Sample = Sample::Unknown(TyVid { index: 1 });
 
-#[test]
-fn variables_are_numbered_from_zero(rt: HostRuntime) -> Result<(), Fail> {
-    let mut cx = Interner::new(rt.alloc(), 32);
-    let mut table = empty_table(rt.alloc(), &cx);
-    table.next_ty_var(&mut cx)?;
-    let second = table.next_ty_var(&mut cx)?;
-    assert!(rt; cx.kind(second) == TyKind::Infer(TyVid { index: 1 }));
+/// The second unknown type of a table.
+fn second_unknown(cx: &mut Interner, table: &mut InferCtxt) -> Result<TyKind, Fault>
+    requires { Ready cx.old.entries table.old }
+{
+    table.next_ty_var(cx)?;
+    let second = table.next_ty_var(cx)?;
+    Ok(cx.kind(second))
+}
+
+/// The first lifetime variable of a table, and how many constraints it has once one on that lifetime is registered.
+fn constrained_lifetime(table: &mut InferCtxt) -> Result<(RegionKind, usize), Fault> {
     let lifetime = table.next_region_var()?;
-    assert!(rt; lifetime.kind == RegionKind::ReVar(RegionVid { index: 0 }));
     table.register_region_constraint(RegionConstraint::RegionOutlives(lifetime, lifetime))?;
-    assert!(rt; table.region_constraints().len() == 1);
-    Ok(())
+    Ok((lifetime.kind, table.region_constraints().len()))
 }
 
 #[test]
-fn an_equation_gives_an_unknown_its_value(rt: HostRuntime) -> Result<(), Fail> {
-    let alloc = rt.alloc();
-    let mut cx = Interner::new(alloc, 32);
-    let mut table = two_unknowns(alloc, &mut cx)?;
+fn variables_are_numbered_from_zero(rt: HostRuntime) {
+    let mut cx = Interner::new(rt.alloc(), 32);
+    let mut table = empty_table(rt.alloc(), &cx);
+    let second = TyKind::Infer(TyVid { index: 1 });
+    assert!(rt; second_unknown(&mut cx, &mut table) == Ok(second));
+    let lifetime = RegionKind::ReVar(RegionVid { index: 0 });
+    assert!(rt; constrained_lifetime(&mut table) == Ok((lifetime, 1)));
+}
+
+/// Whether `V<?0>` is `V<u8>` once they are equated.
+fn list_gets_its_type(
+    alloc: Global,
+    cx: &mut Interner,
+    table: &mut InferCtxt,
+) -> Result<bool, EqError>
+    requires { Ready cx.old.entries table.old }
+{
+    two_unknowns(cx, table)?;
     let bytes = Shape::VecOf(Sample::Byte);
-    let equal = equate(alloc, &mut cx, &mut table, Shape::VecOf(FIRST), bytes);
-    assert!(rt; equated(equal)?);
-    let resolved = resolve(alloc, &mut cx, &table, Shape::VecOf(FIRST))?;
-    let wanted = make(alloc, &mut cx, bytes)?;
-    assert!(rt; resolved == wanted);
-    Ok(())
+    equate(alloc, cx, table, Shape::VecOf(FIRST), bytes)?;
+    let resolved = resolve(alloc, cx, table, Shape::VecOf(FIRST))?;
+    Ok(resolved == make(alloc, cx, bytes)?)
+}
+
+/// Whether an unknown constant is the first, and is 3 once they are equated.
+fn constant_gets_its_value(alloc: Global, cx: &mut Interner) -> Result<[bool; 2], EqError> {
+    let three = cx.mk_const(ConstKind::Value(3))?;
+    let mut table = empty_table(alloc, cx);
+    let unknown = table.next_const_var(cx)?;
+    let is_first = cx.const_kind(unknown) == ConstKind::Infer(ConstVid { index: 0 });
+    let left = GenericArgKind::Const(unknown);
+    table.eq(cx, left, GenericArgKind::Const(three))?;
+    Ok([is_first, table.shallow_resolve_const(cx, unknown) == three])
+}
+
+#[test]
+fn equations_give_unknowns_their_values(rt: HostRuntime) {
+    let mut cx = Interner::new(rt.alloc(), 32);
+    let mut table = empty_table(rt.alloc(), &cx);
+    assert!(rt; list_gets_its_type(rt.alloc(), &mut cx, &mut table) == Ok(true));
+    assert!(rt; constant_gets_its_value(rt.alloc(), &mut cx) == Ok([true, true]));
 }
 
 /// Whether two types are refused, and `?1` is without value then and no lifetime constrained.
@@ -187,6 +218,7 @@ fn are_refused(
 ) -> Result<bool, Fault>
     requires { Ready cx.old.entries table.old }
 {
+    two_unknowns(cx, table)?;
     let answer = equate(alloc, cx, table, left, right);
     let value = value_of(alloc, cx, table, Shape::Plain(SECOND))?;
     let unknown = make(alloc, cx, Shape::Plain(SECOND))?;
@@ -194,9 +226,20 @@ fn are_refused(
     Ok(!equated(answer)? && is_unchanged)
 }
 
+/// Whether `?1` is without value once its equation with `u8` is undone.
+fn is_undone(alloc: Global, cx: &mut Interner, table: &mut InferCtxt) -> Result<bool, EqError>
+    requires { Ready cx.old.entries table.old }
+{
+    two_unknowns(cx, table)?;
+    let left = Shape::Plain(SECOND);
+    equate_and_undo(alloc, cx, table, left, Shape::Plain(Sample::Byte))?;
+    let value = value_of(alloc, cx, table, left)?;
+    Ok(value == make(alloc, cx, left)?)
+}
+
 // The last one is refused after `?1` was made `bool`.
 #[test]
-fn a_refused_equation_leaves_the_table_unchanged(rt: HostRuntime) -> Result<(), Fail> {
+fn a_refused_equation_leaves_the_table_unchanged(rt: HostRuntime) {
     for (left, right) in [
         (Shape::VecOf(Sample::Byte), Shape::VecOf(Sample::Bool)),
         (Shape::Plain(SECOND), Shape::VecOf(SECOND)),
@@ -206,24 +249,16 @@ fn a_refused_equation_leaves_the_table_unchanged(rt: HostRuntime) -> Result<(), 
         ),
     ] {
         let mut cx = Interner::new(rt.alloc(), 32);
-        let mut table = two_unknowns(rt.alloc(), &mut cx)?;
-        assert!(rt; are_refused(rt.alloc(), &mut cx, &mut table, left, right)?);
+        let mut table = empty_table(rt.alloc(), &cx);
+        assert!(rt; are_refused(rt.alloc(), &mut cx, &mut table, left, right) == Ok(true));
     }
-    Ok(())
 }
 
 #[test]
-fn a_roll_back_takes_a_value_away(rt: HostRuntime) -> Result<(), Fail> {
-    let alloc = rt.alloc();
-    let mut cx = Interner::new(alloc, 32);
-    let mut table = two_unknowns(alloc, &mut cx)?;
-    let left = Shape::Plain(SECOND);
-    let undone = equate_and_undo(alloc, &mut cx, &mut table, left, Shape::Plain(Sample::Byte));
-    assert!(rt; equated(undone)?);
-    let value = value_of(alloc, &mut cx, &table, left)?;
-    let wanted = make(alloc, &mut cx, left)?;
-    assert!(rt; value == wanted);
-    Ok(())
+fn a_roll_back_takes_a_value_away(rt: HostRuntime) {
+    let mut cx = Interner::new(rt.alloc(), 32);
+    let mut table = empty_table(rt.alloc(), &cx);
+    assert!(rt; is_undone(rt.alloc(), &mut cx, &mut table) == Ok(true));
 }
 
 /// `fn(&'a u8)` with this lifetime for `'a`.
@@ -255,48 +290,42 @@ fn byte_reference(cx: &mut Interner, region: Region) -> Result<Ty, Fault>
     cx.mk_ty(TyKind::Ref(region, byte, Mutability::Not))
 }
 
-#[test]
-fn an_opened_signature_has_a_lifetime_variable(rt: HostRuntime) -> Result<(), Fail> {
-    let alloc = rt.alloc();
-    let mut cx = Interner::new(alloc, 32);
-    let binder = BoundVarIndexKind::Bound(DebruijnIndex { index: 0 });
-    let bound = Region {
-        kind: RegionKind::ReBound(binder, BoundVar { index: 0 }),
-    };
-    let value = signature(alloc, &mut cx, bound)?;
-    let mut table = empty_table(alloc, &cx);
-    let opened = table.instantiate_binder_with_infer(&mut cx, Binder { value, count: 1 })?;
-    let free = Region {
-        kind: RegionKind::ReVar(RegionVid { index: 0 }),
-    };
-    let wanted = signature(alloc, &mut cx, free)?;
-    assert!(rt; opened.inputs_and_output == wanted.inputs_and_output);
-    Ok(())
+/// Lifetime 0 of the innermost binder.
+const BOUND: Region = Region {
+    kind: RegionKind::ReBound(
+        BoundVarIndexKind::Bound(DebruijnIndex { index: 0 }),
+        BoundVar { index: 0 },
+    ),
+};
+
+/// The first lifetime variable.
+const FREE: Region = Region {
+    kind: RegionKind::ReVar(RegionVid { index: 0 }),
+};
+
+/// Whether `for<'a> fn(&'a u8)` has a lifetime variable for `'a` once it is opened.
+fn is_opened(alloc: Global, cx: &mut Interner) -> Result<bool, Fault> {
+    let value = signature(alloc, cx, BOUND)?;
+    let mut table = empty_table(alloc, cx);
+    let opened = table.instantiate_binder_with_infer(cx, Binder { value, count: 1 })?;
+    let wanted = signature(alloc, cx, FREE)?;
+    Ok(opened.inputs_and_output == wanted.inputs_and_output)
 }
 
-#[test]
-fn a_signature_has_its_inputs_and_its_output(rt: HostRuntime) -> Result<(), Fail> {
-    let mut cx = Interner::new(rt.alloc(), 8);
+/// Whether `fn(u8) -> bool` has one input, and the output `bool`.
+fn has_input_and_output(alloc: Global, cx: &mut Interner) -> Result<[bool; 2], Fault> {
     let byte = cx.mk_ty(TyKind::Uint(UintTy::U8))?;
     let truth = cx.mk_ty(TyKind::Bool)?;
     cx.lawful();
     let sig = FnSig {
-        inputs_and_output: cx.mk_tys(vec![in rt.alloc(); byte, truth]?)?,
+        inputs_and_output: cx.mk_tys(vec![in alloc; byte, truth]?)?,
     };
-    assert!(rt; sig.inputs(&cx).len() == 1);
-    assert!(rt; sig.output(&cx) == truth);
-    Ok(())
+    Ok([sig.inputs(cx).len() == 1, sig.output(cx) == truth])
 }
 
 #[test]
-fn an_equation_gives_an_unknown_constant_its_value(rt: HostRuntime) -> Result<(), Fail> {
+fn an_opened_signature_has_a_lifetime_variable(rt: HostRuntime) {
     let mut cx = Interner::new(rt.alloc(), 32);
-    let three = cx.mk_const(ConstKind::Value(3))?;
-    let mut table = empty_table(rt.alloc(), &cx);
-    let unknown = table.next_const_var(&mut cx)?;
-    assert!(rt; cx.const_kind(unknown) == ConstKind::Infer(ConstVid { index: 0 }));
-    let left = GenericArgKind::Const(unknown);
-    table.eq(&mut cx, left, GenericArgKind::Const(three))?;
-    assert!(rt; table.shallow_resolve_const(&cx, unknown) == three);
-    Ok(())
+    assert!(rt; is_opened(rt.alloc(), &mut cx) == Ok(true));
+    assert!(rt; has_input_and_output(rt.alloc(), &mut cx) == Ok([true, true]));
 }

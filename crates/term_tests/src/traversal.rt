@@ -4,7 +4,6 @@ ghost use Rattle.type_terms.specs.Terms.{Has, Keeps, types};
 ghost use Rattle.type_terms.specs.Kinds.{RegionHeld};
 
 use std::alloc::Global;
-use std::test::Fail;
 use term_folds::binder::Binder;
 use term_folds::binders::Binders;
 use term_folds::fn_sig::FnSig;
@@ -86,7 +85,7 @@ impl TypeFolder for Identity {
 }
 
 /// Why a fold by `NoBool` ends.
-#[derive(Clone, Copy, PartialEq, Eq, Debug)]
+#[derive(Clone, Copy)]
 enum Refusal {
     Bool,
     Fault(Fault),
@@ -255,13 +254,12 @@ fn constant_stays(alloc: Global, cx: &mut Interner, fold: Fold) -> Result<bool, 
 }
 
 #[test]
-fn identity_folds_give_the_same_handle(rt: HostRuntime) -> Result<(), Fail> {
+fn identity_folds_give_the_same_handle(rt: HostRuntime) {
     let mut cx = Interner::new(rt.alloc(), 8);
     for fold in FOLDS {
-        assert!(rt; type_stays(rt.alloc(), &mut cx, fold)?);
-        assert!(rt; constant_stays(rt.alloc(), &mut cx, fold)?);
+        assert!(rt; type_stays(rt.alloc(), &mut cx, fold) == Ok(true));
+        assert!(rt; constant_stays(rt.alloc(), &mut cx, fold) == Ok(true));
     }
-    Ok(())
 }
 
 /// `bool` or `char`.
@@ -275,30 +273,23 @@ fn bool_or_char(cx: &mut Interner, is_bool: bool) -> Result<Ty, Fault>
     }
 }
 
-/// What `NoBool` makes of `V<bool>` or `V<char>`, if it does not refuse it, and that type.
-fn without_bool(
-    alloc: Global,
-    cx: &mut Interner,
-    is_bool: bool,
-) -> Result<(Option<Ty>, Ty), Fault> {
+/// Whether `NoBool` leaves `V<bool>` or `V<char>` as it is, or none where it refuses it.
+fn without_bool(alloc: Global, cx: &mut Interner, is_bool: bool) -> Result<Option<bool>, Fault> {
     let argument = bool_or_char(cx, is_bool)?;
     let args = cx.mk_args(vec![in alloc; GenericArgKind::Ty(argument)]?)?;
     let ty = cx.mk_ty(TyKind::Adt(AdtId { index: 0 }, args))?;
     match ty.try_fold_with(alloc, cx, &NoBool) {
-        Ok(folded) => Ok((Some(folded), ty)),
-        Err(Refusal::Bool) => Ok((None, ty)),
+        Ok(folded) => Ok(Some(folded == ty)),
+        Err(Refusal::Bool) => Ok(None),
         Err(Refusal::Fault(fault)) => Err(fault),
     }
 }
 
 #[test]
-fn a_refusal_below_a_struct_is_the_answer(rt: HostRuntime) -> Result<(), Fail> {
+fn a_refusal_below_a_struct_is_the_answer(rt: HostRuntime) {
     let mut cx = Interner::new(rt.alloc(), 8);
-    let (folded, _) = without_bool(rt.alloc(), &mut cx, true)?;
-    assert!(rt; folded.is_none());
-    let (folded, list) = without_bool(rt.alloc(), &mut cx, false)?;
-    assert!(rt; folded == Some(list));
-    Ok(())
+    assert!(rt; without_bool(rt.alloc(), &mut cx, true) == Ok(None));
+    assert!(rt; without_bool(rt.alloc(), &mut cx, false) == Ok(Some(true)));
 }
 
 /// What shows whether a lifetime stands in a value: a visit that looks for one; the flags; and the outer binder.
@@ -362,7 +353,7 @@ fn term_shows(alloc: Global, cx: &mut Interner, term: Term) -> Result<(Shown, bo
 }
 
 #[test]
-fn a_bound_lifetime_shows_in_terms_and_stays(rt: HostRuntime) -> Result<(), Fail> {
+fn a_bound_lifetime_shows_in_terms_and_stays(rt: HostRuntime) {
     let mut cx = Interner::new(rt.alloc(), 8);
     let wanted = ((true, TypeFlags::HAS_RE_BOUND.0, 1), true);
     for term in [
@@ -372,9 +363,8 @@ fn a_bound_lifetime_shows_in_terms_and_stays(rt: HostRuntime) -> Result<(), Fail
         Term::Ty,
         Term::Tys,
     ] {
-        assert!(rt; term_shows(rt.alloc(), &mut cx, term)? == wanted);
+        assert!(rt; term_shows(rt.alloc(), &mut cx, term) == Ok(wanted));
     }
-    Ok(())
 }
 
 /// A value in which it stands: one that is made of terms. The second clause is under the lifetime's binder.
@@ -412,9 +402,7 @@ fn value_shows(alloc: Global, cx: &mut Interner, value: Value) -> Result<(Shown,
 }
 
 #[test]
-fn a_bound_lifetime_leads_out_of_clauses_but_not_of_its_binder(
-    rt: HostRuntime,
-) -> Result<(), Fail> {
+fn a_bound_lifetime_leads_out_of_clauses_but_not_of_its_binder(rt: HostRuntime) {
     let mut cx = Interner::new(rt.alloc(), 8);
     for (value, outer) in [
         (Value::Clause, 1),
@@ -424,9 +412,8 @@ fn a_bound_lifetime_leads_out_of_clauses_but_not_of_its_binder(
         (Value::FnSig, 1),
     ] {
         let wanted = ((true, TypeFlags::HAS_RE_BOUND.0, outer), true);
-        assert!(rt; value_shows(rt.alloc(), &mut cx, value)? == wanted);
+        assert!(rt; value_shows(rt.alloc(), &mut cx, value) == Ok(wanted));
     }
-    Ok(())
 }
 
 /// Bounds of one auto trait.
@@ -448,14 +435,6 @@ fn constant_shows(alloc: Global, cx: &mut Interner) -> Result<(Shown, bool), Fau
     shown_and_folded(alloc, cx, three)
 }
 
-#[test]
-fn nothing_shows_in_constants_and_auto_traits(rt: HostRuntime) -> Result<(), Fail> {
-    let mut cx = Interner::new(rt.alloc(), 8);
-    assert!(rt; bounds_show(rt.alloc(), &mut cx)? == ((false, 0, 0), true));
-    assert!(rt; constant_shows(rt.alloc(), &mut cx)? == ((false, 0, 0), true));
-    Ok(())
-}
-
 /// Whether a parameter, an unknown, a type parameter and a bound variable stand in `V<T>`.
 fn parameter_shows(alloc: Global, cx: &mut Interner) -> Result<[bool; 4], Fault> {
     let parameter = cx.mk_ty(TyKind::Param(0))?;
@@ -470,8 +449,11 @@ fn parameter_shows(alloc: Global, cx: &mut Interner) -> Result<[bool; 4], Fault>
 }
 
 #[test]
-fn a_parameter_below_a_struct_is_seen(rt: HostRuntime) -> Result<(), Fail> {
+fn nothing_shows_in_constants_and_auto_traits_but_a_parameter_below_a_struct(rt: HostRuntime) {
     let mut cx = Interner::new(rt.alloc(), 8);
-    assert!(rt; parameter_shows(rt.alloc(), &mut cx)? == [true, false, true, false]);
-    Ok(())
+    let nothing = ((false, 0, 0), true);
+    assert!(rt; bounds_show(rt.alloc(), &mut cx) == Ok(nothing));
+    assert!(rt; constant_shows(rt.alloc(), &mut cx) == Ok(nothing));
+    let parameter = [true, false, true, false];
+    assert!(rt; parameter_shows(rt.alloc(), &mut cx) == Ok(parameter));
 }
