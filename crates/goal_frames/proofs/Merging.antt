@@ -34,7 +34,7 @@ use Rattle.goal_frames.specs.Merges.{merge_of}
 use Rattle.goal_frames.proofs.Responses.{content_trees, equal-is}
 use Rattle.goal_frames.proofs.Silences.{silent-is}
 
-abbrev Trees_fit : List Entry → CanonicalResponse → Type 0
+abbrev pub Trees_fit : List Entry → CanonicalResponse → Type 0
 Trees_fit es r = IsWellFormed (answer_trees es r)
 
 -- ---- lists, and what is chosen of them
@@ -110,7 +110,7 @@ own-variables es own i (x ∷ xs) h =
     next : (i : ℕ) → i + 1 ≡ suc i
     next i = omega arith
 
-always-is : (es : List Entry) (r : CanonicalResponse) → Trees_fit es r → is_always_applicable es r ≡ applies_always (answer_trees es r)
+pub always-is : (es : List Entry) (r : CanonicalResponse) → Trees_fit es r → is_always_applicable es r ≡ applies_always (answer_trees es r)
 always-is es r h =
     ap (λ z. is_certain r.certainty && (z && (length r.region_constraints.items == 0))) (own-variables es r.variables.items 0 r.var_values.items h)
     ∙ ap (λ z. is_certain r.certainty && (are_own_variables 0 (values_of es r.var_values.items) && z)) (no-constraint es r.region_constraints.items)
