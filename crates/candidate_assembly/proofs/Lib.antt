@@ -7,3 +7,6 @@ pub mod Pairs
 pub mod Clauses
 pub mod Variables
 pub mod Behind
+pub mod Shown
+pub mod Ends
+pub mod Collected

@@ -4,3 +4,5 @@ pub mod BuiltIn
 pub mod Equations
 pub mod Clauses
 pub mod Headers
+pub mod Merging
+pub mod Shown

@@ -1,0 +1,55 @@
+-- What the answer of a trait goal merges of the candidates that were considered.
+use Rattle.std.specs.Prelude.{◌≡◌, Bool, true, ◌&&◌, ◌||◌, not, List, [], map, filter}
+use Rattle.type_terms.specs.Terms.{Entry}
+use Rattle.infer_table.specs.declared.canonical.CanonicalVarKind.{CanonicalVarKind}
+use Rattle.infer_table.specs.declared.certainty.TypingMode.{TypingMode}
+use Rattle.infer_table.specs.declared.certainty.TypingMode.TheVariants.{Coherence, PostAnalysis}
+use Rattle.evaluation.specs.declared.candidate.CandidateSource.{CandidateSource}
+use Rattle.evaluation.specs.declared.candidate.Considered.{Considered}
+use Rattle.evaluation.specs.declared.candidate.HandlerStep.{HandlerStep}
+use Rattle.evaluation.specs.Candidate.{answer}
+use Rattle.evaluation.specs.Plans.{Plan, wanted}
+use Rattle.evaluation.specs.PlanAnswers.{first_taken}
+use Rattle.table_laws.specs.Operations.{begin}
+use Rattle.evaluation_laws.specs.Tables.{frame_tables}
+use Rattle.goal_frames.specs.Handlers.{same_answer, applies_always}
+use Rattle.goal_frames.specs.Merges.{responses_of, merge_of}
+use Rattle.goal_frames.specs.Readings.{next_read, Shows, shown_by}
+use Rattle.assembly_laws.specs.Solver.{Past, from, remains, is_clause, is_non_global, is_global, is_impl, is_object, is_trivial, preferred, everything}
+use Rattle.candidate_assembly.specs.declared.merge.Sources.{Sources}
+use Rattle.candidate_assembly.specs.declared.merge.Sources.TheVariants.{All, Trivial, NonGlobalClauses, Clauses, Bounds, Remaining}
+
+-- ---- sources
+abbrev pub is_among : Sources → CandidateSource → Bool
+is_among All s = true
+is_among Trivial s = is_trivial s
+is_among NonGlobalClauses s = is_non_global s
+is_among Clauses s = is_clause s
+is_among Bounds s = is_object s
+is_among (Remaining impls global_clauses) s = (impls || not (is_impl s)) && (global_clauses || not (is_global s))
+
+-- the candidates from there
+abbrev pub from_sources : Sources → List Considered → List Considered
+from_sources sources done = filter (λ (d : Considered). is_among sources d.source) done
+
+-- ---- the answer
+-- how the plan of a goal of this mode, over variables of these kinds, ends once no candidate is left
+abbrev pub end_in : TypingMode → List CanonicalVarKind → Past → Plan frame_tables
+end_in Coherence kinds seen = everything applies_always same_answer (begin kinds) seen
+end_in PostAnalysis kinds seen = preferred applies_always same_answer (begin kinds) seen
+
+-- where a where-clause is preferred: the first that is a yes without values and constraints is taken
+abbrev pub clause_taken : List CanonicalVarKind → Past → Plan frame_tables
+clause_taken kinds seen = first_taken frame_tables applies_always same_answer (begin kinds) (from is_clause) seen
+
+-- the step is that end, for each past that shows these candidates
+abbrev pub IsEnd : (Past → Plan frame_tables) → List Entry → List Considered → List Entry → HandlerStep → Type 0
+IsEnd end old done new step = (seen : Past) → Shows (map (shown_by old) done) seen → (coinductive : Bool) → next_read new coinductive step ≡ wanted frame_tables (end seen)
+
+-- the merge of the responses from there, with no candidate ignored
+abbrev pub MergesFrom : Sources → List CanonicalVarKind → List Entry → List Considered → List Entry → HandlerStep → Type 0
+MergesFrom sources kinds old done new step = (coinductive : Bool) → next_read new coinductive step ≡ answer (merge_of old kinds (responses_of (from_sources sources done))) []
+
+-- the sources that remain, for each past that shows these candidates
+abbrev pub AreRemaining : Sources → List Entry → List Considered → Type 0
+AreRemaining sources es done = (seen : Past) → Shows (map (shown_by es) done) seen → (s : CandidateSource) → is_among sources s ≡ remains seen s
