@@ -7,3 +7,4 @@ pub mod Pairs
 pub mod Clauses
 pub mod Variables
 pub mod Behind
+pub mod Walking
