@@ -8,3 +8,4 @@ pub mod Clauses
 pub mod Variables
 pub mod Behind
 pub mod Walking
+pub mod Autos
