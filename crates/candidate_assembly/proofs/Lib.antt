@@ -10,3 +10,5 @@ pub mod Behind
 pub mod Shown
 pub mod Ends
 pub mod Collected
+pub mod Walking
+pub mod Autos

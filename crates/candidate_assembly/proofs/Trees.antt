@@ -18,7 +18,7 @@ pub none-after : (t : Trees) → t +++ none ≡ t
 none-after none = refl
 none-after (tree l c o) = ap (λ z. tree l c z) (none-after o)
 
-one-asked : (t : ℕ) (x y : Trees) → IsA of_type x → each_asked t (x +++ y) ≡ asked t x ∷ each_asked t y
+pub one-asked : (t : ℕ) (x y : Trees) → IsA of_type x → each_asked t (x +++ y) ≡ asked t x ∷ each_asked t y
 one-asked t none y h = absurd h
 one-asked t (tree l c o) y h = subst (λ z. each_asked t (tree l c z +++ y) ≡ asked t (tree l c z) ∷ each_asked t y) (sym h.1) refl
 

@@ -1,7 +1,7 @@
 -- The candidates of built-in rules that read the self type alone, whatever trait the goal asks.
 use Rattle.std.specs.Prelude.{List}
 use Rattle.model.specs.Worlds.{World}
-use Rattle.model.specs.Rules.{sized_rules, copy_rules, tuple_rules, fn_ptr_rules}
+use Rattle.model.specs.Rules.{sized_rules, copy_rules, auto_rules, tuple_rules, fn_ptr_rules}
 use Rattle.evaluation.specs.declared.candidate.CandidateSource.TheVariants.{BuiltinImpl}
 use Rattle.evaluation.specs.declared.candidate.BuiltinImplSource.TheVariants.{Trivial}
 use Rattle.assembly_laws.specs.Asking.{Asked, self_of}
@@ -14,6 +14,10 @@ sized_candidates V a = as_written V a (BuiltinImpl Trivial) (sized_rules V (self
 -- Of `Copy` and `Clone`.
 abbrev pub copy_candidates : World → Asked → List Candidate
 copy_candidates V a = as_written V a misc (copy_rules a.reference.trait (self_of a))
+
+-- Of an auto trait.
+abbrev pub auto_candidates : World → Asked → List Candidate
+auto_candidates V a = as_written V a misc (auto_rules V a.reference.trait (self_of a))
 
 -- Of `Tuple`.
 abbrev pub tuple_candidates : World → Asked → List Candidate

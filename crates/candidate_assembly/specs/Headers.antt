@@ -1,6 +1,10 @@
 -- Impls whose parameters can be made unknowns of a candidate.
-use Rattle.std.specs.Prelude.{◌≡◌, List, length, map}
+use Rattle.std.specs.Prelude.{◌≡◌, ◌+◌, ◌<◌, ℕ, List, length, map, filter, Option}
+use Rattle.model.specs.Proofs.{In}
+use Rattle.model.specs.Worlds.{World, ImplDecl}
 use Rattle.type_terms.specs.Terms.{Entry, trees_at}
+use Rattle.type_terms.specs.declared.ImplId.{ImplId}
+use Rattle.type_terms.specs.declared.TheConstants.{MAX_INDEX}
 use Rattle.infer_table.specs.declared.canonical.CanonicalVarKind.{CanonicalVarKind}
 use Rattle.infer_table.specs.declared.canonical.CanonicalVarKind.TheVariants.{Ty, Const as ConstVar, Region}
 use Rattle.declarations.specs.declared.items.GenericParamKind.{GenericParamKind}
@@ -8,7 +12,10 @@ use Rattle.declarations.specs.declared.items.GenericParamKind.TheVariants.{Lifet
 use Rattle.declarations.specs.declared.items.ImplDef.{ImplDef}
 use Rattle.term_folds.specs.declared.predicate.TraitRef.{TraitRef}
 use Rattle.declarations.specs.Applied.{sort_of_param, SpeaksOf}
+use Rattle.declarations.specs.Items.{Items}
 use Rattle.declarations.specs.Merges.{Each}
+use Rattle.declarations.specs.Relevant.{is_above}
+use Rattle.assembly_laws.specs.Asking.{with_plain_head}
 use Rattle.assembly_laws.specs.Candidates.{kinds_of_params}
 
 -- The kind of the unknown that stands for a parameter.
@@ -25,3 +32,21 @@ StandInHeader es def = map var_kind def.params.items ≡ kinds_of_params (trees_
 pub record SpeaksOfParameters (es : List Entry) (def : ImplDef) : Type 0 where
   pub header : SpeaksOf (map sort_of_param def.params.items) (trees_at es def.header.args.0)
   pub clauses : Each (λ (r : TraitRef). SpeaksOf (map sort_of_param def.params.items) (trees_at es r.args.0)) def.clauses.items
+
+-- An impl that can be a candidate: its parameters can be made unknowns, and its self type binds no lifetimes outermost.
+pub record CanBeCandidate (es : List Entry) (def : ImplDef) : Type 0 where
+  pub params : StandInHeader es def
+  pub speaks : SpeaksOfParameters es def
+  pub plain : with_plain_head (trees_at es def.header.args.0) ≡ trees_at es def.header.args.0
+
+-- Each impl can be one.
+abbrev pub HaveCandidates : List Entry → Items → Type 0
+HaveCandidates es d = Each (λ i. CanBeCandidate es i.def) d.impls
+
+-- The impls above the last one considered, or all if none was.
+abbrev pub impls_above : Option ImplId → List ImplDecl → List ImplDecl
+impls_above last is = filter (λ i. is_above last i.name) is
+
+-- Some impl has so many parameters that there are no numbers for them behind n variables.
+abbrev pub NumbersRunOut : World → ℕ → Type 0
+NumbersRunOut V n = (i : ImplDecl) × In i V.impls × (MAX_INDEX < n + i.params)

@@ -1,4 +1,4 @@
-//! Candidates by the built-in rules of single traits.
+//! Candidates by the built-in rules of single traits, and of auto traits.
 ghost use Rattle.std.specs.Prelude.{◌≡◌, List, IfOk, IfSome, Err};
 ghost use Rattle.model.specs.Worlds.{World};
 ghost use Rattle.model.specs.Rules.{Rule, sized, asked};
@@ -13,12 +13,14 @@ ghost use Rattle.declarations.specs.Applied.{references_in, AllHeld};
 ghost use Rattle.assembly_laws.specs.Candidates.{as_written};
 ghost use Rattle.candidate_assembly.specs.Goals.{asked_of};
 ghost use Rattle.candidate_assembly.specs.Constituents.{AreConstituents, TypesHeld, CanBeConsidered, types_asked, candidates_of};
-ghost use Rattle.candidate_assembly.specs.BuiltIn.{sized_candidates, copy_candidates, tuple_candidates, fn_ptr_candidates};
+ghost use Rattle.candidate_assembly.specs.BuiltIn.{sized_candidates, copy_candidates, auto_candidates, tuple_candidates, fn_ptr_candidates};
+ghost use Rattle.candidate_assembly.specs.Headers.{HaveCandidates};
 
 use crate::parts::by_rule;
 use crate::structural::{
     constituents_for_fn_ptr_trait, constituents_for_tuple_trait,
-    instantiate_constituent_tys_for_copy_clone_trait, instantiate_constituent_tys_for_sized_trait,
+    instantiate_constituent_tys_for_auto_trait, instantiate_constituent_tys_for_copy_clone_trait,
+    instantiate_constituent_tys_for_sized_trait,
 };
 use declarations::declarations::Declarations;
 use evaluation::{BuiltinImplSource, CandidateSource, CandidateSpec};
@@ -200,4 +202,33 @@ pub fn consider_builtin_fn_ptr_trait_candidate(
         goal.goal.predicate.trait_ref.def_id,
         tys,
     )
+}
+
+/// The candidate by an auto trait's own rule, which asks the types that the self type is made of. Where an impl of the trait is written
+/// for a type of this head there is none (`consider_auto_trait_candidate`).
+pub fn consider_auto_trait_candidate(
+    alloc: Global,
+    cx: &mut Interner,
+    declarations: &Declarations,
+    goal: &CanonicalInput,
+) -> Result<Option<CandidateSpec>, Fault>
+    requires considered { CanBeConsidered cx.old.entries declarations.now goal.now }
+    requires impls { HaveCandidates cx.old.entries declarations.now }
+    ensures keeps { Keeps cx.old.entries cx.new.entries }
+    ensures limit { cx.new.limit ≡ cx.old.limit }
+    ensures held { IfOk result (λ o. IfSome o (SpecHeld cx.new.entries)) }
+    ensures is { let V = written cx.old.entries declarations.now in
+        IfOk result (λ o. candidates_of V goal.now.goal.predicate.trait_ref.def_id.index cx.new.entries o ≡ auto_candidates V (asked_of cx.old.entries goal.now)) }
+    ensures full { result ≡ Err Fault.Full → SomeKindIsFull cx.new.entries cx.new.limit }
+{
+    let trait_ref = goal.goal.predicate.trait_ref;
+    let self_ty = goal.goal.predicate.self_ty(cx);
+    match declarations.next_relevant_impl(cx, trait_ref.def_id, self_ty, None) {
+        Some(_) => Ok(None),
+        None => {
+            let tys = instantiate_constituent_tys_for_auto_trait(alloc, cx, declarations, self_ty)?;
+            let source = CandidateSource::BuiltinImpl(BuiltinImplSource::Misc);
+            for_constituent_tys(alloc, cx, goal, source, trait_ref.def_id, tys)
+        }
+    }
 }

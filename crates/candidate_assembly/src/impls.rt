@@ -1,21 +1,24 @@
 //! Candidates by impls.
-ghost use Rattle.std.specs.Prelude.{◌≡◌, ◌⊎◌, ◌+◌, ◌<◌, length, map, IfOk, Err};
+ghost use Rattle.std.specs.Prelude.{◌≡◌, ◌⊎◌, ◌+◌, ◌<◌, length, map, IfOk, IfSome, Err, option_map};
+ghost use Rattle.std.specs.List.{slice_get};
 ghost use Rattle.model.specs.Worlds.{World};
-ghost use Rattle.type_terms.specs.Terms.{Keeps};
+ghost use Rattle.type_terms.specs.Terms.{Keeps, trees_at};
 ghost use Rattle.type_terms.specs.declared.TheConstants.{MAX_INDEX};
 ghost use Rattle.term_folds.specs.Failures.{SomeKindIsFull};
+ghost use Rattle.term_folds.specs.Signatures.{StartsWithType};
 ghost use Rattle.infer_table.specs.Goals.{GoalHeld};
 ghost use Rattle.evaluation.specs.Readings.{SpecHeld};
 ghost use Rattle.declarations.specs.Applied.{references_in, AllHeld};
-ghost use Rattle.declarations.specs.Items.{reference_in, impl_in};
-ghost use Rattle.declarations.specs.Held.{ImplHeld, ReferenceHeld};
-ghost use Rattle.assembly_laws.specs.Candidates.{behind, by_the_impl};
+ghost use Rattle.declarations.specs.Items.{reference_in, impl_in, written};
+ghost use Rattle.declarations.specs.Held.{AreHeld, ImplHeld, ReferenceHeld};
+ghost use Rattle.assembly_laws.specs.Candidates.{behind, by_the_impl, by_impls};
 ghost use Rattle.candidate_assembly.specs.Goals.{asked_of, candidate_of};
-ghost use Rattle.candidate_assembly.specs.Headers.{var_kind, StandInHeader, SpeaksOfParameters};
+ghost use Rattle.candidate_assembly.specs.Headers.{var_kind, StandInHeader, SpeaksOfParameters, HaveCandidates, NumbersRunOut, impls_above};
 
 use crate::instances::{all_with_arguments, variable_kinds, variables_behind, with_arguments};
 use crate::parts::nested_goals;
 use crate::relate::relate_args;
+use declarations::declarations::Declarations;
 use declarations::items::ImplDef;
 use evaluation::{CandidateSource, CandidateSpec, Certainty, GoalSource};
 use infer_table::canonical::CanonicalVarKind;
@@ -95,4 +98,40 @@ pub fn consider_impl_candidate(
         nested_goals,
         certainty: Certainty::Yes,
     })
+}
+
+/// The candidate by the impl of the lowest number above `last` among those that can match the goal's self type, if there is one. So
+/// after each candidate it is told where to go on, and no impl before that is looked at again (`assemble_impl_candidates`).
+pub fn next_impl_candidate(
+    alloc: Global,
+    cx: &mut Interner,
+    declarations: &Declarations,
+    goal: &CanonicalInput,
+    last: Option<ImplId>,
+) -> Result<Option<CandidateSpec>, Fault>
+    requires goal { GoalHeld cx.old.entries goal.now.goal }
+    requires first { StartsWithType (trees_at cx.old.entries goal.now.goal.predicate.trait_ref.args.0) }
+    requires declared { AreHeld cx.old.entries declarations.now }
+    requires impls { HaveCandidates cx.old.entries declarations.now }
+    ensures keeps { Keeps cx.old.entries cx.new.entries }
+    ensures limit { cx.new.limit ≡ cx.old.limit }
+    ensures held { IfOk result (λ o. IfSome o (SpecHeld cx.new.entries)) }
+    ensures is { let V = written cx.old.entries declarations.now in
+        IfOk result (λ o. option_map (candidate_of V goal.now.goal.predicate.trait_ref.def_id.index cx.new.entries) o
+        ≡ slice_get (by_impls V (asked_of cx.old.entries goal.now) (impls_above last V.impls)) 0) }
+    ensures full { result ≡ Err Fault.Full → SomeKindIsFull cx.new.entries cx.new.limit
+        ⊎ NumbersRunOut (written cx.old.entries declarations.now) (length goal.now.variables.items) }
+{
+    let trait_ref = goal.goal.predicate.trait_ref;
+    let self_ty = trait_ref.self_ty(cx);
+    match declarations.next_relevant_impl(cx, trait_ref.def_id, self_ty, last) {
+        Some(id) => match declarations.impl_def(id) {
+            Some(def) => {
+                let candidate = consider_impl_candidate(alloc, cx, goal, id, def)?;
+                Ok(Some(candidate))
+            }
+            None => unreachable!(),
+        },
+        None => Ok(None),
+    }
 }

@@ -1,0 +1,159 @@
+-- A walk over the impls that can match a goal, from one to the next.
+use Rattle.std.proofs.Common.{◌≡◌, ℕ, suc, Bool, true, false, cond, ◌&&◌, arith, List, [], ◌∷◌, Option, Some, None, refl, sym, ap, subst, ◌∙◌}
+use Rattle.std.proofs.lemmas.Bool.Decides.{nat_tests}
+use Rattle.std.specs.Prelude.{◌==◌, map, filter, if◌then◌else◌}
+use Rattle.std.specs.List.{slice_get}
+use Rattle.model.specs.Label.{Label, param}
+use Rattle.model.specs.Trees.{Trees, none, tree, nth, erase, erase_label}
+use Rattle.model.specs.Worlds.{World, ImplDecl}
+use Rattle.model.specs.Rules.{same_head}
+use Rattle.model.specs.Proofs.{In}
+use Rattle.model.specs.Terms.{erased_impl}
+use Rattle.type_terms.specs.Terms.{Entry, trees_at}
+use Rattle.type_terms.specs.declared.ImplId.{ImplId}
+use Rattle.term_folds.specs.Signatures.{StartsWithType}
+use Rattle.declarations.specs.declared.items.ImplDef.{ImplDef}
+use Rattle.declarations.specs.Items.{Items, HeldImpl, impl_in, impl_at, written}
+use Rattle.declarations.specs.Merges.{Each}
+use Rattle.declarations.specs.Relevant.{is_above, next_above, relevant_in}
+use Rattle.assembly_laws.specs.Asking.{Asked, self_of, with_plain_head}
+use Rattle.assembly_laws.specs.Candidates.{by_impls, by_the_impl, is_relevant_to}
+use Rattle.candidate_assembly.specs.Headers.{CanBeCandidate}
+
+abbrev pub names : List ImplDecl → List ℕ
+names is = map (λ (i : ImplDecl). i.name) is
+
+-- ---- impls match by their heads, with lifetimes or without
+head-alone : (k m : Label) (c o d q : Trees) → same_head k (tree m c o) ≡ same_head k (tree m d q)
+head-alone k (param s i) c o d q = refl
+head-alone k m c o d q = refl
+
+label-is : (m n : Label) (c o d q : Trees) → tree m c o ≡ tree n d q → m ≡ n
+label-is m n c o d q h = cc
+
+plain-head : (k : Label) (H : Trees) → with_plain_head H ≡ H → same_head k (erase H) ≡ same_head k H
+plain-head k none h = refl
+plain-head k (tree m d q) h = head-alone k (erase_label m) (erase d) (erase q) d q ∙ ap (λ x. same_head k (tree x d q)) (label-is (erase_label m) m d q d q h)
+
+module _ (t : ℕ) (l : Label) (c o : Trees) where
+  abbrev relevant : ImplDecl → Bool
+  relevant i = (i.header.trait == t) && is_relevant_to (tree (erase_label l) c o) i.header.args
+
+  abbrev erased-relevant : ImplDecl → Bool
+  erased-relevant i = (i.header.trait == t) && is_relevant_to (tree (erase_label l) (erase c) none) i.header.args
+
+  one-name : (p q : Bool) (i : ImplDecl) (es fs : List ImplDecl) → p ≡ q → names es ≡ names fs → names (cond p (erased_impl i ∷ es) es) ≡ names (cond q (i ∷ fs) fs)
+  one-name true true i es fs e r = ap (λ ns. i.name ∷ ns) r
+  one-name true false i es fs e r = absurd cc
+  one-name false true i es fs e r = absurd cc
+  one-name false false i es fs e r = r
+
+  pub names-written : (es : List Entry) (is : List HeldImpl) → Each (λ i. CanBeCandidate es i.def) is
+      → names (filter erased-relevant (map erased_impl (map (λ i. impl_in es i.id i.def) is))) ≡ names (filter relevant (map (λ i. impl_in es i.id i.def) is))
+  names-written es [] h = refl
+  names-written es (i ∷ is) h =
+      one-name (erased-relevant (erased_impl (impl_in es i.id i.def))) (relevant (impl_in es i.id i.def)) (impl_in es i.id i.def)
+      (filter erased-relevant (map erased_impl (map (λ i. impl_in es i.id i.def) is))) (filter relevant (map (λ i. impl_in es i.id i.def) is))
+      (ap (λ b. (i.def.header.def_id.index == t) && b) (plain-head (erase_label l) (trees_at es i.def.header.args.0) h.0.plain)) (names-written es is h.1)
+
+-- ---- the first that is above the last one considered
+same-number : (m n : ℕ) → m ≡ n → (n == m) ≡ true
+same-number m n h = grind (arith, nat_tests)
+
+module _ (V : World) (a : Asked) (last : Option ImplId) where
+  abbrev rel : ImplDecl → Bool
+  rel i = (i.header.trait == a.reference.trait) && is_relevant_to (self_of a) i.header.args
+
+  abbrev above : ImplDecl → Bool
+  above i = is_above last i.name
+
+  -- the impl is skipped, since it isn't above
+  passed : (i : ImplDecl) (ns : List ℕ) (o : Option ℕ) → above i ≡ false → o ≡ next_above last (i.name ∷ ns) → o ≡ next_above last ns
+  passed i ns o e h = h ∙ ap (λ b. if b then Some i.name else next_above last ns) e
+
+  taken : (i : ImplDecl) (ns : List ℕ) (o : Option ℕ) → above i ≡ true → o ≡ next_above last (i.name ∷ ns) → o ≡ Some i.name
+  taken i ns o e h = h ∙ ap (λ b. if b then Some i.name else next_above last ns) e
+
+  kept : (i : ImplDecl) (is : List ImplDecl) (b : Bool) → rel i ≡ b → by_impls V a (i ∷ is) ≡ cond b (by_the_impl V a i ∷ by_impls V a is) (by_impls V a is)
+  kept i is b e = ap (λ b. if b then by_the_impl V a i ∷ by_impls V a is else by_impls V a is) e
+
+  pub no-next : (is : List ImplDecl) → None ≡ next_above last (names (filter rel is)) → slice_get (by_impls V a (filter above is)) 0 ≡ None
+  no-next [] h = refl
+  no-next (i ∷ is) h = by (rel i) (above i) refl refl h (no-next is)
+    where
+      by : (p q : Bool) → rel i ≡ p → above i ≡ q → None ≡ next_above last (names (cond p (i ∷ filter rel is) (filter rel is)))
+          → (None ≡ next_above last (names (filter rel is)) → slice_get (by_impls V a (filter above is)) 0 ≡ None)
+          → slice_get (by_impls V a (cond q (i ∷ filter above is) (filter above is))) 0 ≡ None
+      by true true e f h rest = let bad = taken i (names (filter rel is)) None f h in absurd cc
+      by true false e f h rest = rest (passed i (names (filter rel is)) None f h)
+      by false true e f h rest = ap (λ l. slice_get l 0) (kept i (filter above is) false e) ∙ rest h
+      by false false e f h rest = rest h
+
+  -- what holds of all impls of the number holds of the one that is next
+  abbrev pub IsNext : (ImplDecl → Type 0) → List ImplDecl → Type 0
+  IsNext P is = (j : ImplDecl) × P j × (slice_get (by_impls V a (filter above is)) 0 ≡ Some (by_the_impl V a j))
+
+  pub one-next : (P : ImplDecl → Type 0) (n : ℕ) (is : List ImplDecl) → Each (λ j. (j.name == n) ≡ true → P j) is → Some n ≡ next_above last (names (filter rel is)) → IsNext P is
+  one-next P n [] k h = absurd cc
+  one-next P n (i ∷ is) k h = by (rel i) (above i) refl refl h (one-next P n is k.1)
+    where
+      by : (p q : Bool) → rel i ≡ p → above i ≡ q → Some n ≡ next_above last (names (cond p (i ∷ filter rel is) (filter rel is)))
+          → (Some n ≡ next_above last (names (filter rel is)) → IsNext P is)
+          → (j : ImplDecl) × P j × (slice_get (by_impls V a (cond q (i ∷ filter above is) (filter above is))) 0 ≡ Some (by_the_impl V a j))
+      by true true e f h rest =
+          let found : Some n ≡ Some i.name = taken i (names (filter rel is)) (Some n) f h in
+          let number : n ≡ i.name = cc in
+          (i, k.0 (same-number n i.name number), ap (λ l. slice_get l 0) (kept i (filter above is) true e))
+      by true false e f h rest = rest (passed i (names (filter rel is)) (Some n) f h)
+      by false true e f h rest = let r = rest h in (r.0, r.1, ap (λ l. slice_get l 0) (kept i (filter above is) false e) ∙ r.2)
+      by false false e f h rest = rest h
+
+-- ---- impls of a number
+pub none-of-number : (P : ImplDecl → Type 0) (n : ℕ) (is : List ImplDecl) → filter (λ (j : ImplDecl). j.name == n) is ≡ [] → Each (λ j. (j.name == n) ≡ true → P j) is
+none-of-number P n [] h = tt
+none-of-number P n (i ∷ is) h = by (i.name == n) refl h (none-of-number P n is)
+  where
+    by : (b : Bool) → (i.name == n) ≡ b → cond b (i ∷ filter (λ (j : ImplDecl). j.name == n) is) (filter (λ (j : ImplDecl). j.name == n) is) ≡ []
+        → (filter (λ (j : ImplDecl). j.name == n) is ≡ [] → Each (λ j. (j.name == n) ≡ true → P j) is) → ((i.name == n) ≡ true → P i) × Each (λ j. (j.name == n) ≡ true → P j) is
+    by true e h rest = absurd cc
+    by false e h rest = (λ t. let bad : true ≡ false = sym t ∙ e in absurd cc, rest h)
+
+pub one-of-number : (x : ImplDecl) (n : ℕ) (is : List ImplDecl) → filter (λ (j : ImplDecl). j.name == n) is ≡ x ∷ [] → Each (λ j. (j.name == n) ≡ true → j ≡ x) is
+one-of-number x n [] h = tt
+one-of-number x n (i ∷ is) h = by (i.name == n) refl h (one-of-number x n is)
+  where
+    by : (b : Bool) → (i.name == n) ≡ b → cond b (i ∷ filter (λ (j : ImplDecl). j.name == n) is) (filter (λ (j : ImplDecl). j.name == n) is) ≡ x ∷ []
+        → (filter (λ (j : ImplDecl). j.name == n) is ≡ x ∷ [] → Each (λ j. (j.name == n) ≡ true → j ≡ x) is) → ((i.name == n) ≡ true → i ≡ x) × Each (λ j. (j.name == n) ≡ true → j ≡ x) is
+    by true e h rest =
+        let first : i ≡ x = cc in
+        let others : filter (λ (j : ImplDecl). j.name == n) is ≡ [] = cc in
+        (λ t. first, none-of-number (λ j. j ≡ x) n is others)
+    by false e h rest = (λ t. let bad : true ≡ false = sym t ∙ e in absurd cc, rest h)
+
+pub in-filtered : (x : ImplDecl) (n : ℕ) (is : List ImplDecl) → filter (λ (j : ImplDecl). j.name == n) is ≡ x ∷ [] → In x is
+in-filtered x n [] h = absurd cc
+in-filtered x n (i ∷ is) h = by (i.name == n) h (in-filtered x n is)
+  where
+    by : (b : Bool) → cond b (i ∷ filter (λ (j : ImplDecl). j.name == n) is) (filter (λ (j : ImplDecl). j.name == n) is) ≡ x ∷ []
+        → (filter (λ (j : ImplDecl). j.name == n) is ≡ x ∷ [] → In x is) → In x (i ∷ is)
+    by true h rest = let first : i ≡ x = cc in (0, ap (λ (y : ImplDecl). Some y) first)
+    by false h rest = let r = rest h in (suc r.0, r.1)
+
+pub at-number : (P : ImplDef → Type 0) (n : ℕ) (is : List HeldImpl) (def : ImplDef) → Each (λ i. P i.def) is → Some def ≡ impl_at n is → P def
+at-number P n [] def h e = absurd cc
+at-number P n (i ∷ is) def h e = by (n == i.id.index) e (at-number P n is def h.1)
+  where
+    by : (b : Bool) → Some def ≡ cond b (Some i.def) (impl_at n is) → (Some def ≡ impl_at n is → P def) → P def
+    by true e rest = let same : i.def ≡ def = cc in subst P same h.0
+    by false e rest = rest e
+
+-- ---- over declarations
+module _ (es : List Entry) (d : Items) (a : Asked) (S : Trees) (starts : StartsWithType a.reference.args) (self : S ≡ nth a.reference.args 0)
+    (can : Each (λ i. CanBeCandidate es i.def) d.impls) where
+  names-at : (T : Trees) → StartsWithType T → S ≡ nth T 0
+      → relevant_in es d a.reference.trait S ≡ names (filter (λ i. (i.header.trait == a.reference.trait) && is_relevant_to (with_plain_head T) i.header.args) (written es d).impls)
+  names-at none s e = absurd s
+  names-at (tree l c o) s e = ap (relevant_in es d a.reference.trait) e ∙ names-written a.reference.trait l c o es d.impls can
+
+  pub relevant-names : relevant_in es d a.reference.trait S ≡ names (filter (λ i. (i.header.trait == a.reference.trait) && is_relevant_to (self_of a) i.header.args) (written es d).impls)
+  relevant-names = names-at a.reference.args starts self
