@@ -182,7 +182,7 @@ open-behind n = record { leaf_or_stays = λ l i g. by l g; others = λ l i. stay
     stays (param k i) e = absurd (false-true (sym e))
     stays l e = refl
 
-made-behind : (n : ℕ) (t : Trees) → is_made is_declared terms t ≡ true → IsOpenTerms (put_in (moved n) t)
+pub made-behind : (n : ℕ) (t : Trees) → is_made is_declared terms t ≡ true → IsOpenTerms (put_in (moved n) t)
 made-behind n t h = made-put-in is_declared is_open_label (moved n) (open-behind n) terms t h
 
 -- ---- the candidates

@@ -85,12 +85,12 @@ closed-lifetime (tree l c o) a h = absurd (no a.0)
     no : of_type ≡ of_lifetime → ⊥
     no e = cc
 
-type-at : (A : Trees) (i : ℕ) → IsA of_type (nth A i) → of_sort of_type (term_at (as_list A) i) ≡ nth A i
+pub type-at : (A : Trees) (i : ℕ) → IsA of_type (nth A i) → of_sort of_type (term_at (as_list A) i) ≡ nth A i
 type-at none i a = ap (of_sort of_type) (nothing-at i)
 type-at (tree l c o) zero a = type-is (tree l c none) a
 type-at (tree l c o) (suc i) a = type-at o i a
 
-const-at : (A : Trees) (i : ℕ) → IsA of_const (nth A i) → of_sort of_const (term_at (as_list A) i) ≡ nth A i
+pub const-at : (A : Trees) (i : ℕ) → IsA of_const (nth A i) → of_sort of_const (term_at (as_list A) i) ≡ nth A i
 const-at none i a = absurd (not-const a)
 const-at (tree l c o) zero a = const-is (tree l c none) a
 const-at (tree l c o) (suc i) a = const-at o i a

@@ -51,7 +51,7 @@ number-is : (x y : ℕ) → (x == y) ≡ true → x ≡ y
 number-is x y e = same-number x y e
 
 -- what fits is of the sorts that stand there
-fits-sorted : (A t : Trees) → Fits A t → (s : Sort) (j : ℕ) → some_node (is_param s j) t ≡ true → IsA s (nth A j)
+pub fits-sorted : (A t : Trees) → Fits A t → (s : Sort) (j : ℕ) → some_node (is_param s j) t ≡ true → IsA s (nth A j)
 fits-sorted A none f s j e = absurd (true-false (sym e))
 fits-sorted A (tree (param k i) c o) f s j e = by (or-cases ((is_sort s k && (j == i)) || some_node (is_param s j) c) (some_node (is_param s j) o) e) (λ g. fits-sorted A o f.2 s j g)
   where

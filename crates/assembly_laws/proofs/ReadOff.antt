@@ -232,7 +232,7 @@ none-passes q s i (tree l c o) e f = by (or-cases (is_param s i l || some_node (
     by (inr g) go on = on g
 
 module _ (count : ℕ) (header : Trees) (sorted : some_node (is_unsorted count header) header ≡ false) where
-  below : (s : Sort) (i : ℕ) → some_node (is_param s i) header ≡ true → i < count
+  pub below : (s : Sort) (i : ℕ) → some_node (is_param s i) header ≡ true → i < count
   below s i e = by (nat_lt i count) refl (no-left (not (nat_lt i count)) (some_node (is_otherwise s i) header) (none-passes (is_unsorted count header) s i header e sorted))
     where
       less : nat_lt i count ≡ true → i < count
@@ -242,7 +242,7 @@ module _ (count : ℕ) (header : Trees) (sorted : some_node (is_unsorted count h
       by true p q = less p
       by false p q = absurd (true-false q)
 
-  one-sort : (s k : Sort) (i : ℕ) → some_node (is_param s i) header ≡ true → some_node (is_param k i) header ≡ true → k ≡ s
+  pub one-sort : (s k : Sort) (i : ℕ) → some_node (is_param s i) header ≡ true → some_node (is_param k i) header ≡ true → k ≡ s
   one-sort s k i e f =
       is-sort k s (by (is_sort k s) (i == i) (self-number i) (none-passes (is_otherwise s i) k i header f (or-right (not (nat_lt i count)) (some_node (is_otherwise s i) header) (none-passes (is_unsorted count header) s i header e sorted))))
     where

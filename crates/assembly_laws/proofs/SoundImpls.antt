@@ -66,7 +66,7 @@ module _ (m : Meaning) (declared : is_declared_view m.view ≡ true) (determined
   are : are_clauses a.kinds a.environment ≡ true
   are = asked-clauses V f.goal.environment f.goal.predicate (all_known f.kinds) a is_asked
 
-  impl-sorted : (i : ImplDecl) → In i V.impls → some_node (is_unsorted i.params i.header.args) i.header.args ≡ false
+  pub impl-sorted : (i : ImplDecl) → In i V.impls → some_node (is_unsorted i.params i.header.args) i.header.args ≡ false
   impl-sorted i j = not-true (some_node (is_unsorted i.params i.header.args) i.header.args) (member-each (λ (x : ImplDecl). not (some_node (is_unsorted x.params x.header.args) x.header.args)) V.impls i sorted j)
 
   module _ (i : ImplDecl) (member : In i V.impls) (same_trait : (i.header.trait == a.reference.trait) ≡ true) (s : Terms) (l : Allows (fresh (begin a.kinds) (kinds_of_params i.header.args zero i.params)) s)
@@ -123,10 +123,12 @@ module _ (m : Meaning) (declared : is_declared_view m.view ≡ true) (determined
       each-plain cs (λ d j. g d (there d c cs j)),
     )
 
+    -- the impl concludes the instance
+    pub own-rule : In (record { way = by_impl i.name; premises = map (read_reference s.slots) (map (behind n) i.clauses) }) (impl_rules rx i)
+    own-rule = subst (λ ps. In (record { way = by_impl i.name; premises = ps }) (impl_rules rx i)) (each-clause i.clauses (λ c j. j)) (impl-concludes rx i (values-fit n s.slots A i.header.args header header-values) concludes)
+
     rule : In (record { way = by_impl i.name; premises = map (read_reference s.slots) (map (behind n) i.clauses) }) (flat_map (impl_rules rx) V.impls)
-    rule =
-        flat-in (impl_rules rx) V.impls i (record { way = by_impl i.name; premises = map (read_reference s.slots) (map (behind n) i.clauses) }) member
-        (subst (λ ps. In (record { way = by_impl i.name; premises = ps }) (impl_rules rx i)) (each-clause i.clauses (λ c j. j)) (impl-concludes rx i (values-fit n s.slots A i.header.args header header-values) concludes))
+    rule = flat-in (impl_rules rx) V.impls i (record { way = by_impl i.name; premises = map (read_reference s.slots) (map (behind n) i.clauses) }) member own-rule
 
     follows : Follows V (goal_fact f s.own) (map (λ (x : Nested). fact x s) (map (premise a (is_coinductive V a.reference.trait)) (map (behind n) i.clauses)))
     follows =

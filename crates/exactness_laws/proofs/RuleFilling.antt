@@ -30,7 +30,7 @@ use Rattle.exactness_laws.proofs.FreeTables.{low, whole, whole-allowed, whole-re
 cons : {A : Type 0} (x y : A) (xs ys : List A) → x ≡ y → xs ≡ ys → x ∷ xs ≡ y ∷ ys
 cons x y xs ys e f = cc
 
-plus-one : (n : ℕ) → n + 1 ≡ suc n
+pub plus-one : (n : ℕ) → n + 1 ≡ suc n
 plus-one n = omega arith
 
 -- the labels of unknowns don't depend on lifetimes and places
@@ -56,7 +56,7 @@ new-labels t i j (PlaceholderTy ∷ ks) h = absurd h.0
 new-labels t i j (PlaceholderConst ∷ ks) h = absurd h.0
 new-labels t i j (Region ∷ ks) h = absurd h.0
 
-no-types : (ks : List CanonicalVarKind) → AreClosed (map Some ks) → types_in ks ≡ 0
+pub no-types : (ks : List CanonicalVarKind) → AreClosed (map Some ks) → types_in ks ≡ 0
 no-types [] c = refl
 no-types (Ty ∷ ks) c = absurd c.0
 no-types (Const ∷ ks) c = absurd c.0
@@ -64,7 +64,7 @@ no-types (PlaceholderTy ∷ ks) c = no-types ks c.1
 no-types (PlaceholderConst ∷ ks) c = no-types ks c.1
 no-types (Region ∷ ks) c = no-types ks c.1
 
-no-consts : (ks : List CanonicalVarKind) → AreClosed (map Some ks) → consts_in ks ≡ 0
+pub no-consts : (ks : List CanonicalVarKind) → AreClosed (map Some ks) → consts_in ks ≡ 0
 no-consts [] c = refl
 no-consts (Ty ∷ ks) c = absurd c.0
 no-consts (Const ∷ ks) c = absurd c.0
@@ -77,7 +77,7 @@ behind-labels : (ks js : List CanonicalVarKind) → AreClosed (map Some ks) → 
 behind-labels ks js c h =
     new-labels (first_content ks) 0 0 js h ∙ from-types (types_in ks) (consts_in ks) 0 0 0 js (no-types ks c) ∙ from-consts 0 (consts_in ks) 0 0 0 js (no-consts ks c)
 
-drop-first : (f : Label → Trees) (a b c i : ℕ) (ks : List CanonicalVarKind) (more : List Label) → dropped (length ks) (map f (labels_from a b c i ks ++ more)) ≡ map f more
+pub drop-first : (f : Label → Trees) (a b c i : ℕ) (ks : List CanonicalVarKind) (more : List Label) → dropped (length ks) (map f (labels_from a b c i ks ++ more)) ≡ map f more
 drop-first f a b c i [] more = refl
 drop-first f a b c i (Ty ∷ ks) more = drop-first f (suc a) b c (suc i) ks more
 drop-first f a b c i (Const ∷ ks) more = drop-first f a (suc b) c (suc i) ks more

@@ -129,13 +129,13 @@ module _ (m : Meaning) (well : IsDeclaredWell m.view) (f : CanonicalForm) (a : A
   every-among P ys zs among h = every-in P zs (λ x i. member-of P ys x h (among x i))
 
   -- what holds of all of these beside the instance holds of all of those
-  facts-among : (P : Fact → Type 0) (ys zs : List Reference) → ((x : Reference) → In x zs → In x ys) → Every P (map (beside g) (map rd ys)) → Every P (map (beside g) (map rd zs))
+  pub facts-among : (P : Fact → Type 0) (ys zs : List Reference) → ((x : Reference) → In x zs → In x ys) → Every P (map (beside g) (map rd ys)) → Every P (map (beside g) (map rd zs))
   facts-among P ys zs among h =
       every-to (beside g) P (λ r. P (beside g r)) (λ r p. p) (map rd zs)
       (every-to rd (λ r. P (beside g r)) (λ r. P (beside g (rd r))) (λ r p. p) zs
       (every-among (λ r. P (beside g (rd r))) ys zs among (every-from rd (λ r. P (beside g r)) (λ r. P (beside g (rd r))) (λ r p. p) ys (every-from (beside g) P (λ r. P (beside g r)) (λ r p. p) (map rd ys) h))))
 
-  args-plain : Plain (Read a.reference.args)
+  pub args-plain : Plain (Read a.reference.args)
   args-plain = (is-held m well.terms f a is_asked closed v places plain).plain
 
   module _ (c o : Trees) (self_is : self_of a ≡ tree dynamic c o) (made : is_made is_open_label bounds c ≡ true) (read_is : Read a.reference.args ≡ tree dynamic (Read c) (Read o)) where
@@ -373,7 +373,7 @@ module _ (m : Meaning) (well : IsDeclaredWell m.view) (f : CanonicalForm) (a : A
           (subst (λ t. Selected (objects_of V a (tree (erase_label x.label) x.children x.others)) (premises_of (object_rules V (rd a.reference) t))) (sym (read-rigid x))
           (rigid x.label x.children x.others x.rigid (open-rigid x) (self-rigid x) (read-rigid x)))
 
-  selected-for : (P : Fact → Type 0) (cs : List Candidate) (ways : List (List Reference)) → Selected cs ways → AreSelectedFor P a v g cs ways
+  pub selected-for : (P : Fact → Type 0) (cs : List Candidate) (ways : List (List Reference)) → Selected cs ways → AreSelectedFor P a v g cs ways
   selected-for P cs ways x = record { found = x.found; are = x.are; every = x.selects.every P; some = x.selects.some P; back = x.selects.back P; one = x.selects.one P }
 
   pub upcasts-under : Selected (if_so (a.reference.trait == unsize) (upcasts_of V a (self_of a))) (premises_of (if_of (a.reference.trait == unsize) (unsize_upcast_rules V (Read a.reference.args))))

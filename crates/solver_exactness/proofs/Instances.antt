@@ -97,7 +97,7 @@ module _ (m : Meaning) (f : CanonicalForm) (a : Asked) (is_asked : asked m.view 
   instance-is = goal-is V f a is are [] terms_of allowed proper true
 
   -- ---- candidates that equate nothing, or what is equal
-  premises-are : (kind : Bool) (ps : List Reference) → map (λ (n : Nested). fact n terms_of) (map (premise a kind) ps) ≡ map (beside instance) (map (read_reference terms_of.slots) ps)
+  pub premises-are : (kind : Bool) (ps : List Reference) → map (λ (n : Nested). fact n terms_of) (map (premise a kind) ps) ≡ map (beside instance) (map (read_reference terms_of.slots) ps)
   premises-are kind [] = refl
   premises-are kind (p ∷ ps) = ap (λ z. fact (premise a kind p) terms_of ∷ z) (premises-are kind ps)
 

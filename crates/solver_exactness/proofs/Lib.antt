@@ -9,4 +9,6 @@ pub mod EquatedRows
 pub mod Selecting
 pub mod Once
 pub mod BoundRows
+pub mod Filling
+pub mod ImplRows
 pub mod SolverSpecs

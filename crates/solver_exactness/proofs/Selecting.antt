@@ -21,15 +21,15 @@ use Rattle.solver_exactness.proofs.Equating.{number-swap, same-swap}
 
 -- ---- lists one after the other
 module _ {A : Type 0} (Q : A → Type 0) where
-  every-left : (xs ys : List A) → Every Q (xs ++ ys) → Every Q xs
+  pub every-left : (xs ys : List A) → Every Q (xs ++ ys) → Every Q xs
   every-left [] ys h = tt
   every-left (x ∷ xs) ys h = (h.0, every-left xs ys h.1)
 
-  every-right : (xs ys : List A) → Every Q (xs ++ ys) → Every Q ys
+  pub every-right : (xs ys : List A) → Every Q (xs ++ ys) → Every Q ys
   every-right [] ys h = h
   every-right (x ∷ xs) ys h = every-right xs ys h.1
 
-  some-cases : (xs ys : List A) → SomeOf Q (xs ++ ys) → SomeOf Q xs ⊎ SomeOf Q ys
+  pub some-cases : (xs ys : List A) → SomeOf Q (xs ++ ys) → SomeOf Q xs ⊎ SomeOf Q ys
   some-cases [] ys s = inr s
   some-cases (x ∷ xs) ys (inl p) = inl (inl p)
   some-cases (x ∷ xs) ys (inr s) = by (some-cases xs ys s)
@@ -38,24 +38,24 @@ module _ {A : Type 0} (Q : A → Type 0) where
       by (inl t) = inl (inr t)
       by (inr t) = inr t
 
-  some-both : (xs ys : List A) → SomeOf Q xs ⊎ SomeOf Q ys → SomeOf Q (xs ++ ys)
+  pub some-both : (xs ys : List A) → SomeOf Q xs ⊎ SomeOf Q ys → SomeOf Q (xs ++ ys)
   some-both xs ys (inl s) = some-left Q xs ys s
   some-both xs ys (inr s) = some-right Q xs ys s
 
-  one-left : (xs ys : List A) → AtMostOne Q (xs ++ ys) → AtMostOne Q xs
+  pub one-left : (xs ys : List A) → AtMostOne Q (xs ++ ys) → AtMostOne Q xs
   one-left [] ys h = tt
   one-left (x ∷ xs) ys h = (λ p s. h.0 p (some-left Q xs ys s), one-left xs ys h.1)
 
-  one-right : (xs ys : List A) → AtMostOne Q (xs ++ ys) → AtMostOne Q ys
+  pub one-right : (xs ys : List A) → AtMostOne Q (xs ++ ys) → AtMostOne Q ys
   one-right [] ys h = h
   one-right (x ∷ xs) ys h = one-right xs ys h.1
 
-  one-cross : (xs ys : List A) → AtMostOne Q (xs ++ ys) → SomeOf Q xs → SomeOf Q ys → ⊥
+  pub one-cross : (xs ys : List A) → AtMostOne Q (xs ++ ys) → SomeOf Q xs → SomeOf Q ys → ⊥
   one-cross [] ys h s t = s
   one-cross (x ∷ xs) ys h (inl p) t = h.0 p (some-right Q xs ys t)
   one-cross (x ∷ xs) ys h (inr s) t = one-cross xs ys h.1 s t
 
-  one-both : (xs ys : List A) → AtMostOne Q xs → AtMostOne Q ys → (SomeOf Q xs → SomeOf Q ys → ⊥) → AtMostOne Q (xs ++ ys)
+  pub one-both : (xs ys : List A) → AtMostOne Q xs → AtMostOne Q ys → (SomeOf Q xs → SomeOf Q ys → ⊥) → AtMostOne Q (xs ++ ys)
   one-both [] ys h g c = g
   one-both (x ∷ xs) ys h g c = (λ p s. by p (some-cases xs ys s), one-both xs ys h.1 g (λ s t. c (inr s) t))
     where
@@ -69,11 +69,11 @@ itself xs = record { every = λ P h. h; some = λ P s. s; back = λ P s. s; one 
 pub chained : {F : Type 0} (xs ys zs : List (List F)) → IsSelection xs ys → IsSelection ys zs → IsSelection xs zs
 chained xs ys zs f g = record { every = λ P h. f.every P (g.every P h); some = λ P s. f.some P (g.some P s); back = λ P s. g.back P (f.back P s); one = λ P h. f.one P (g.one P h) }
 
-map-either : {A B C D : Type 0} → (A → C) → (B → D) → A ⊎ B → C ⊎ D
+pub map-either : {A B C D : Type 0} → (A → C) → (B → D) → A ⊎ B → C ⊎ D
 map-either f g (inl x) = inl (f x)
 map-either f g (inr x) = inr (g x)
 
-turned : {A B : Type 0} → A ⊎ B → B ⊎ A
+pub turned : {A B : Type 0} → A ⊎ B → B ⊎ A
 turned (inl x) = inr x
 turned (inr x) = inl x
 
@@ -199,7 +199,7 @@ hits-fewer (x ∷ xs) ss once among p =
     more true n k l = omega (arith, l)
     more false n k l = l
 
-hit : {A : Type 0} (p : A → Bool) (xs : List A) (x : A) → In x xs → p x ≡ true → 1 ≤ hits p xs
+pub hit : {A : Type 0} (p : A → Bool) (xs : List A) (x : A) → In x xs → p x ≡ true → 1 ≤ hits p xs
 hit p [] x i e = absurd (in-nothing x i)
 hit p (y ∷ xs) x i e = by (in-cases x y xs i) (p y) refl (λ j. hit p xs x j e)
   where
@@ -208,7 +208,7 @@ hit p (y ∷ xs) x i e = by (in-cases x y xs i) (p y) refl (λ j. hit p xs x j e
     by (inl r) false q go = absurd (false-true (sym q ∙ ap p r ∙ e))
     by (inr j) false q go = go j
 
-which : {A : Type 0} (p : A → Bool) (xs : List A) → 1 ≤ hits p xs → (x : A) × In x xs × (p x ≡ true)
+pub which : {A : Type 0} (p : A → Bool) (xs : List A) → 1 ≤ hits p xs → (x : A) × In x xs × (p x ≡ true)
 which p [] l = absurd (omega (arith, l))
 which p (x ∷ xs) l = by (p x) refl l (λ k. which p xs k)
   where
@@ -242,7 +242,7 @@ rows-copies b ps r k (s ∷ ss) = by (same_reference r s) (rows-copies b ps r (s
     by true e = ap (λ z. ps ∷ z) e
     by false e = e
 
-facts-copies : (g : Fact) (n : ℕ) (ps : List Reference) → facts_beside g (copies n ps) ≡ copies n (map (beside g) ps)
+pub facts-copies : (g : Fact) (n : ℕ) (ps : List Reference) → facts_beside g (copies n ps) ≡ copies n (map (beside g) ps)
 facts-copies g zero ps = refl
 facts-copies g (suc n) ps = ap (λ z. map (beside g) ps ∷ z) (facts-copies g n ps)
 

@@ -41,7 +41,7 @@ append-assoc : (xs ys zs : List Candidate) → xs ++ (ys ++ zs) ≡ (xs ++ ys) +
 append-assoc [] ys zs = refl
 append-assoc (x ∷ xs) ys zs = ap (λ l. x ∷ l) (append-assoc xs ys zs)
 
-outside-is : (m : Meaning) (a : Asked) → all_candidates m.view a ≡ specs_outside m a
+pub outside-is : (m : Meaning) (a : Asked) → all_candidates m.view a ≡ specs_outside m a
 outside-is m a = append-assoc (by_clauses m.view a (clauses a)) (built_in m.view a) (by_impls m.view a m.view.impls ++ by_objects m.view a)
 
 -- ---- what is determined

@@ -1,8 +1,9 @@
--- The candidates by a `dyn` that unsizes to another, and by object bounds, as ways of goals without unknowns: each bound is a candidate
--- once, and the rules have one entry for each path of written bounds.
+-- The candidates by a `dyn` that unsizes to another, by object bounds, and by impls, as ways of goals without unknowns: each bound is a
+-- candidate once, and the rules have one entry for each path of written bounds.
 use Rattle.std.specs.Prelude.{◌≡◌, ◌==◌, true, List, Some}
+use Rattle.std.specs.List.{flat_map}
 use Rattle.model.specs.Worlds.{World, Reference}
-use Rattle.model.specs.Rules.{unsize, unsize_upcast_rules, object_rules}
+use Rattle.model.specs.Rules.{unsize, impl_rules, unsize_upcast_rules, object_rules}
 use Rattle.infer_table.specs.Canonical.{CanonicalForm}
 use Rattle.evaluation.specs.Lists.{Every, SomeOf}
 use Rattle.table_laws.specs.Content.{Values, Fact}
@@ -12,7 +13,7 @@ use Rattle.assembly_laws.specs.Facts.{reference_in, is_plain}
 use Rattle.assembly_laws.specs.DeclaredWell.{IsDeclaredWell}
 use Rattle.assembly_laws.specs.Meaning.{Meaning}
 use Rattle.assembly_laws.specs.Asking.{Asked, asked, self_of}
-use Rattle.assembly_laws.specs.Candidates.{Candidate, if_so, upcasts_of, by_objects}
+use Rattle.assembly_laws.specs.Candidates.{Candidate, if_so, upcasts_of, by_impls, by_objects}
 use Rattle.assembly_laws.specs.Cover.{goal_fact}
 use Rattle.solver_exactness.specs.SolverWays.{facts_beside, premises_of}
 use Rattle.solver_exactness.specs.RowWays.{AreWaysOf, if_of, autos_stand_once}
@@ -36,3 +37,10 @@ abbrev pub BoundRowsAreWays : (Fact → Type 0) → Type 0
 BoundRowsAreWays P =
     (m : Meaning) → IsDeclaredWell m.view → (f : CanonicalForm) (a : Asked) → asked m.view f ≡ Some a → AreClosed f.kinds
     → (v : Values) → ArePlaces f.kinds v → is_plain (goal_fact f v) ≡ true → BoundRowsAreWaysAt P m.view a v (goal_fact f v) (reference_in (goal_fact f v))
+
+-- impls that conclude the instance apply with their clauses, in their order, and others refuse
+abbrev pub ImplsAreWays : Type 0
+ImplsAreWays =
+    (m : Meaning) → IsDeclaredWell m.view → (f : CanonicalForm) (a : Asked) → asked m.view f ≡ Some a → AreClosed f.kinds
+    → (v : Values) → ArePlaces f.kinds v → is_plain (goal_fact f v) ≡ true
+    → AreWaysOf a v (goal_fact f v) (by_impls m.view a m.view.impls) (premises_of (flat_map (impl_rules (reference_in (goal_fact f v))) m.view.impls))

@@ -4,7 +4,7 @@
 ghost use Rattle.solver_exactness.specs.ReadBack.{OutsideComesBack, CoherenceComesBack};
 ghost use Rattle.solver_exactness.specs.RowWays.{RowsAreWays, EquatedRowsAreWays, ClausesAreWays};
 ghost use Rattle.table_laws.specs.Content.{Fact};
-ghost use Rattle.solver_exactness.specs.BoundWays.{BoundRowsAreWays};
+ghost use Rattle.solver_exactness.specs.BoundWays.{BoundRowsAreWays, ImplsAreWays};
 ghost use Rattle.solver_exactness.specs.SolverPlans.{PlansAreExact};
 ghost use Rattle.solver_exactness.specs.SolverSpecs.{SpecsAreDetermined, SpecsAreFew, SpecsAreSure};
 
@@ -33,6 +33,12 @@ pub fn rows_are_ways()
 /// that they equate are read as one they apply, and else they refuse.
 pub fn equated_rows_are_ways()
     ensures { EquatedRowsAreWays }
+{}
+
+/// The candidates by impls apply with the clauses of those impls that conclude the goal's instance, in their order, and else refuse,
+/// whatever places the goal's placeholders stand for.
+pub fn impls_are_ways()
+    ensures { ImplsAreWays }
 {}
 
 /// What is judged of facts, as that they have proofs.
