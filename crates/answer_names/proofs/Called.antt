@@ -9,9 +9,8 @@ use Rattle.std.specs.Fmt.{decimal}
 use Rattle.text_definitions.specs.Output.{place_in, unknown_text}
 use Rattle.text_definitions.specs.Declarations.{Variable}
 use Rattle.text_definitions.specs.Names.{of_kind, text_at, param_texts}
-use Rattle.workspace.specs.Views.{sort_of_kind, variable_of}
+use Rattle.workspace.specs.Views.{sort_of_kind, sorted_params, variable_of}
 use Rattle.workspace.specs.declared.declared.Param.{Param}
-use Rattle.answer_names.specs.Called.{sorted_params}
 
 abbrev pub of_sort : Sort → List Param → List Param
 of_sort s ps = filter (λ p. is_sort (sort_of_kind p.kind) s) ps

@@ -2,13 +2,7 @@
 use Rattle.std.specs.Prelude.{ℕ, List, map}
 use Rattle.model.specs.Label.{Sort}
 use Rattle.answer_lines.specs.Kinds as term
-use Rattle.workspace.specs.Views as param
-use Rattle.workspace.specs.declared.declared.Param.{Param}
 use Rattle.answer_names.specs.declared.question.Unknown.{Unknown}
-
--- parameters with their sorts
-abbrev pub sorted_params : List Param → List (List ℕ × Sort)
-sorted_params ps = map (λ p. (p.name.items, param.sort_of_kind p.kind)) ps
 
 -- unknowns that a question doesn't hold
 abbrev pub unknowns_of : List Unknown → List (Sort × ℕ)

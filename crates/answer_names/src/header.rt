@@ -19,7 +19,7 @@ pub struct HeaderNames<'w> {
 
 impl<'w> PrintNames for HeaderNames<'w> {
     ghost use Rattle.text_definitions.specs.Names.{header_names};
-    ghost use Rattle.answer_names.specs.Called.{sorted_params};
+    ghost use Rattle.workspace.specs.Views.{sorted_params};
 
     ghost names = { λ h. header_names h.workspace.now (sorted_params h.params.now) };
 
