@@ -3,7 +3,7 @@ use Rattle.std.specs.Prelude.{ℕ, false, true, Bool, List, [], ◌∷◌, ◌++
 use Rattle.model.specs.Label.{of_type, param, placeholder}
 use Rattle.model.specs.Trees.{leaf}
 use Rattle.text_definitions.specs.Syntax.{Params, Bound, Clause, Types, Line, crate_line, struct_line, trait_line, impl_line, prove_line, refute_line}
-use Rattle.text_definitions.specs.Declarations.{Declarations, NamedCrate, NamedStruct, NamedTrait, NamedImpl, Question, known, kinds_of, names_of, last_crate}
+use Rattle.text_definitions.specs.Declarations.{Declarations, NamedCrate, NamedStruct, NamedTrait, NamedImpl, Question, known, kinds_of, names_of, sorted_names, last_crate}
 use Rattle.text_definitions.specs.Uses.{asked_uses, params_of}
 use Rattle.text_definitions.specs.Faults.{with_own, variables_in, once}
 use Rattle.text_definitions.specs.Lowering.{Meanings, crate_number, field_trees, with_self, clause_reference}
@@ -27,7 +27,7 @@ trait_of d e f a n ps bs = record { text = n; kinds = kinds_of ps; item = record
 
 abbrev pub impl_of : Declarations → Meanings → Params → Clause → List Clause → NamedImpl
 impl_of d e ps h ks = record {
-  params = names_of ps;
+  params = sorted_names ps;
   item = record { name = length d.impls; home = last_crate d; params = length (kinds_of ps); header = clause_reference e h; clauses = map (clause_reference e) ks };
 }
 

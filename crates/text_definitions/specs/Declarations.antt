@@ -24,9 +24,9 @@ pub record NamedTrait : Type 0 where
   pub kinds : List Sort
   pub item : TraitDecl
 
--- an impl with the names of its parameters, by number
+-- an impl with the names and sorts of its parameters, by number
 pub record NamedImpl : Type 0 where
-  pub params : List (List ℕ)
+  pub params : List (List ℕ × Sort)
   pub item : ImplDecl
 
 -- a variable of a question
@@ -62,6 +62,13 @@ kinds_of p = map (λ _. of_lifetime) p.lifetimes ++ map (λ _. of_type) p.types 
 
 abbrev pub names_of : Params → List (List ℕ)
 names_of p = p.lifetimes ++ p.types ++ p.consts
+
+abbrev pub with_sort : Sort → List (List ℕ) → List (List ℕ × Sort)
+with_sort s ns = map (λ n. (n, s)) ns
+
+-- names with their sorts
+abbrev pub sorted_names : Params → List (List ℕ × Sort)
+sorted_names p = with_sort of_lifetime p.lifetimes ++ with_sort of_type p.types ++ with_sort of_const p.consts
 
 -- ---- what a name stands for: an item's number, its crate and its parameters' kinds
 pub data Known : Type 0 where
@@ -102,14 +109,14 @@ named_traits _ _ = []
 abbrev pub bare_impl : ImplDecl → NamedImpl
 bare_impl i = record { params = []; item = i }
 
-abbrev pub name_a : List ℕ
-name_a = codes "a"
+abbrev pub lifetime_a : List ℕ × Sort
+lifetime_a = (codes "a", of_lifetime)
 
-abbrev pub name_T : List ℕ
-name_T = codes "T"
+abbrev pub type_T : List ℕ × Sort
+type_T = (codes "T", of_type)
 
-abbrev pub name_N : List ℕ
-name_N = codes "N"
+abbrev pub const_N : List ℕ × Sort
+const_N = (codes "N", of_const)
 
 -- The impls of `Clone`, or of `Copy`, for scalars, `<'a, T> &'a T`, `<T> *const T`, `<T> *mut T`, `<T, const N> [T; N]`, numbered from
 -- n on. A text keeps lifetimes: what rules read is the same without them.
@@ -117,13 +124,13 @@ abbrev pub copied : ℕ → ℕ → List NamedImpl
 copied n t =
     map bare_impl (impls_for n t scalars)
     ++ record {
-      params = name_a ∷ name_T ∷ [];
+      params = lifetime_a ∷ type_T ∷ [];
       item = record { name = n + 15; home = core; params = 2; header = asked t (tree (ref false) (tree (param of_lifetime 0) none (type_param 1)) none); clauses = [] };
     }
-    ∷ record { params = name_T ∷ []; item = record { name = n + 16; home = core; params = 1; header = asked t (tree (raw_pointer false) (type_param 0) none); clauses = [] } }
-    ∷ record { params = name_T ∷ []; item = record { name = n + 17; home = core; params = 1; header = asked t (tree (raw_pointer true) (type_param 0) none); clauses = [] } }
+    ∷ record { params = type_T ∷ []; item = record { name = n + 16; home = core; params = 1; header = asked t (tree (raw_pointer false) (type_param 0) none); clauses = [] } }
+    ∷ record { params = type_T ∷ []; item = record { name = n + 17; home = core; params = 1; header = asked t (tree (raw_pointer true) (type_param 0) none); clauses = [] } }
     ∷ record {
-      params = name_T ∷ name_N ∷ [];
+      params = type_T ∷ const_N ∷ [];
       item = record { name = n + 18; home = core; params = 2; header = asked t (tree array (tree (param of_type 0) none (leaf (param of_const 1))) none); clauses = asked t (type_param 0) ∷ [] };
     }
     ∷ []
@@ -134,6 +141,6 @@ nothing_declared = record {
   crates = record { text = codes "core"; item = record { name = core; uses = [] } } ∷ [];
   structs = map (λ s. record { text = codes "Box"; kinds = of_type ∷ []; item = s }) core_world.structs;
   traits = named_traits core_trait_names core_traits;
-  impls = copied 0 clone ++ record { params = name_T ∷ []; item = box_impl } ∷ copied 20 copy;
+  impls = copied 0 clone ++ record { params = type_T ∷ []; item = box_impl } ∷ copied 20 copy;
   questions = [];
 }

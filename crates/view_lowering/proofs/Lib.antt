@@ -3,3 +3,4 @@ mod References
 mod Structs
 mod Views
 mod Unknowns
+mod Begins

@@ -3,7 +3,7 @@ use Rattle.std.proofs.Common.{◌≡◌, ℕ, ◌+◌, ◌<◌, true, false, con
 use Rattle.std.specs.Prelude.{◌==◌, filter, slice_get}
 use Rattle.std.proofs.lemmas.Bool.{ne_eqb}
 use Rattle.std.proofs.lemmas.List.{length-map}
-use Rattle.model.specs.Label.{Sort, of_type}
+use Rattle.model.specs.Label.{of_type}
 use Rattle.model.proofs.TermRules.{erased-views}
 use Rattle.model.specs.Terms.{erased_struct, erased_trait, erased_world}
 use Rattle.model.specs.Worlds.{World, StructDecl, TraitDecl, ImplDecl, sees, structs_named, traits_named}
@@ -18,7 +18,7 @@ use Rattle.declarations.specs.Held.{AreHeld}
 use Rattle.declarations.specs.Items.{Items, HeldImpl, struct_in, trait_in, impl_in, written, declared, with_struct, with_trait, with_impl}
 use Rattle.declarations.specs.Merges.{Each}
 use Rattle.declarations.proofs.Growth.{all-written}
-use Rattle.view_lowering.specs.Seen.{seen_from, rules_seen_from, struct_sorts, trait_sorts, struct_sorts_seen, trait_sorts_seen}
+use Rattle.view_lowering.specs.Seen.{seen_from, rules_seen_from, impl_sorts, param_sorts, impl_sorts_seen, struct_sorts, trait_sorts, struct_sorts_seen, trait_sorts_seen}
 use Rattle.view_lowering.proofs.Going.{Gone, gone-first, gone-passed, gone-taken, gone-again, all-taken}
 
 -- numbers that are below n are not n
@@ -31,12 +31,6 @@ none-there number name read erase same n (x ∷ xs) h =
 
 abbrev pub held_in : List Entry → HeldImpl → ImplDecl
 held_in es i = impl_in es i.id i.def
-
-abbrev pub no_sorts : HeldImpl → List Sort
-no_sorts i = []
-
-abbrev pub no_kinds : text.NamedImpl → List Sort
-no_kinds i = []
 
 -- ---- Structs: the state of the loop
 abbrev pub StructsGone : text.Declarations → ℕ → List Entry → ℕ → List (AdtId × AdtDef) → Type 0
@@ -150,7 +144,7 @@ module _ (d : text.Declarations) (c : ℕ) (old : List Entry) (limit : ℕ) (sta
 
 -- ---- Impls: the state of the loop
 abbrev pub ImplsGone : text.Declarations → ℕ → List Entry → ℕ → List (HeldImpl) → Type 0
-ImplsGone d c es i xs = Gone (held_in es) (no_sorts) (λ x. x.id.index) (λ s. s.item) (no_kinds) (λ (x : ImplDecl). sees (world_of d) c x.home) d.impls i xs
+ImplsGone d c es i xs = Gone (held_in es) (impl_sorts) (λ x. x.id.index) (λ s. s.item) (param_sorts) (λ (x : ImplDecl). sees (world_of d) c x.home) d.impls i xs
 
 pub record ImplsAdded (d : text.Declarations) (c : ℕ) (old : List Entry) (limit : ℕ) (start : Items) (i : ℕ) (es : List Entry) (now_limit : ℕ) (now : Items) : Type 0 where
   pub keeps : Keeps old es
@@ -167,7 +161,7 @@ module _ (d : text.Declarations) (c : ℕ) (old : List Entry) (limit : ℕ) (sta
         limited = refl;
         others = refl;
         held = held;
-        gone = gone-first (held_in old) (no_sorts) (λ x. x.id.index) (λ s. s.item) (no_kinds) (λ (x : ImplDecl). sees (world_of d) c x.home) d.impls start.impls none;
+        gone = gone-first (held_in old) (impl_sorts) (λ x. x.id.index) (λ s. s.item) (param_sorts) (λ (x : ImplDecl). sees (world_of d) c x.home) d.impls start.impls none;
       }
 
   pub impls-passed : (i : ℕ) (es : List Entry) (now_limit : ℕ) (now : Items) (s : text.NamedImpl) → slice_get d.impls i ≡ Some s → sees (world_of d) c s.item.home ≡ false → ImplsAdded d c old limit start i es now_limit now
@@ -178,14 +172,14 @@ module _ (d : text.Declarations) (c : ℕ) (old : List Entry) (limit : ℕ) (sta
         limited = a.limited;
         others = a.others;
         held = a.held;
-        gone = gone-passed (held_in es) (no_sorts) (λ x. x.id.index) (λ y. y.item) (no_kinds) (λ (x : ImplDecl). sees (world_of d) c x.home) d.impls i s now.impls there unseen a.gone;
+        gone = gone-passed (held_in es) (impl_sorts) (λ x. x.id.index) (λ y. y.item) (param_sorts) (λ (x : ImplDecl). sees (world_of d) c x.home) d.impls i s now.impls there unseen a.gone;
       }
 
   pub impls-taken : (i : ℕ) (es : List Entry) (now_limit : ℕ) (now : Items) (s : text.NamedImpl) (new : List Entry) (new_limit : ℕ) (x : HeldImpl) (next : Items)
       → slice_get d.impls i ≡ Some s → sees (world_of d) c s.item.home ≡ true → s.item.name ≡ i → Keeps es new → new_limit ≡ now_limit
-      → held_in new (x) ≡ s.item → next ≡ with_impl now (x) → AreHeld new next → ImplsAdded d c old limit start i es now_limit now
+      → held_in new (x) ≡ s.item → impl_sorts x ≡ param_sorts s → next ≡ with_impl now (x) → AreHeld new next → ImplsAdded d c old limit start i es now_limit now
       → ImplsAdded d c old limit start (i + 1) new new_limit next
-  impls-taken i es now_limit now s new new_limit x next there seen number k same_limit same put held a =
+  impls-taken i es now_limit now s new new_limit x next there seen number k same_limit same sorted put held a =
       record {
         keeps = λ j e h. k j e (a.keeps j e h);
         limited = same_limit ∙ a.limited;
@@ -193,12 +187,15 @@ module _ (d : text.Declarations) (c : ℕ) (old : List Entry) (limit : ℕ) (sta
         held = held;
         gone =
             subst (ImplsGone d c new (i + 1)) (sym (ap (λ n. n.impls) put))
-            (gone-taken (held_in new) (no_sorts) (λ x. x.id.index) (λ y. y.item) (no_kinds) (λ (x : ImplDecl). sees (world_of d) c x.home) d.impls i s now.impls (x) there seen same (refl) (ap (λ x. x.name) same ∙ number)
-            (gone-again (held_in es) (held_in new) (no_sorts) (λ x. x.id.index) (λ y. y.item) (no_kinds) (λ (x : ImplDecl). sees (world_of d) c x.home) d.impls i now.impls (ap (λ w. w.impls) (all-written es new k now a.held)) a.gone));
+            (gone-taken (held_in new) (impl_sorts) (λ x. x.id.index) (λ y. y.item) (param_sorts) (λ (x : ImplDecl). sees (world_of d) c x.home) d.impls i s now.impls (x) there seen same (sorted) (ap (λ x. x.name) same ∙ number)
+            (gone-again (held_in es) (held_in new) (impl_sorts) (λ x. x.id.index) (λ y. y.item) (param_sorts) (λ (x : ImplDecl). sees (world_of d) c x.home) d.impls i now.impls (ap (λ w. w.impls) (all-written es new k now a.held)) a.gone));
       }
 
   pub impls-all : (i : ℕ) (es : List Entry) (now_limit : ℕ) (now : Items) → length d.impls ≡ i → ImplsAdded d c old limit start i es now_limit now → map (held_in es) now.impls ≡ (seen_from d c).impls
   impls-all i es now_limit now e a = a.gone.are ∙ ap (filter (λ (x : ImplDecl). sees (world_of d) c x.home)) (all-taken (world_of d).impls i (sym e ∙ sym (length-map d.impls (λ (s : text.NamedImpl). s.item))))
+
+  pub impls-sorted : (i : ℕ) (es : List Entry) (now_limit : ℕ) (now : Items) → length d.impls ≡ i → ImplsAdded d c old limit start i es now_limit now → map impl_sorts now.impls ≡ impl_sorts_seen d c
+  impls-sorted i es now_limit now e a = a.gone.sorts_are ∙ ap (λ l. map (param_sorts) (filter (λ (s : text.NamedImpl). sees (world_of d) c s.item.home) l)) (all-taken d.impls i (sym e))
 
 pub structs-absent : (d : text.Declarations) (c : ℕ) (old : List Entry) (limit : ℕ) (start : Items) (i : ℕ) (es : List Entry) (now_limit : ℕ) (now : Items) (n : ℕ) → n ≡ i → StructsAdded d c old limit start i es now_limit now → structs_named (declared [] now) n ≡ []
 structs-absent d c old limit start i es now_limit now n e a = none-there (λ x. x.0.index) (λ s. s.name) (struct_in []) erased_struct (λ x. refl) n now.structs (subst (λ j. Each (λ x. x.0.index < j) now.structs) (sym e) a.gone.below)

@@ -11,6 +11,7 @@ use Rattle.declarations.specs.declared.items.AdtDef.{AdtDef}
 use Rattle.declarations.specs.declared.items.TraitDef.{TraitDef}
 use Rattle.declarations.specs.Applied.{sort_of_param}
 use Rattle.declarations.specs.Heads.{begins_declared}
+use Rattle.declarations.specs.Items.{HeldImpl}
 use Rattle.workspace.specs.Numbered.{Each}
 
 -- what crate c sees: the items of all crates that it sees. The crates themselves are left out, for rules don't read them
@@ -28,12 +29,21 @@ struct_sorts x = map sort_of_param x.1.params.items
 abbrev pub trait_sorts : TraitId × TraitDef → List Sort
 trait_sorts x = map sort_of_param x.1.params.items
 
+abbrev pub impl_sorts : HeldImpl → List Sort
+impl_sorts i = map sort_of_param i.def.params.items
+
 -- ---- of the items that crate c sees; a trait has Self before its written parameters
 abbrev pub struct_sorts_seen : text.Declarations → ℕ → List (List Sort)
 struct_sorts_seen d c = map (λ s. s.kinds) (filter (λ s. sees (world_of d) c s.item.home) d.structs)
 
 abbrev pub trait_sorts_seen : text.Declarations → ℕ → List (List Sort)
 trait_sorts_seen d c = map (λ t. of_type ∷ t.kinds) (filter (λ t. sees (world_of d) c t.item.home) d.traits)
+
+abbrev pub param_sorts : text.NamedImpl → List Sort
+param_sorts i = map (λ p. p.1) i.params
+
+abbrev pub impl_sorts_seen : text.Declarations → ℕ → List (List Sort)
+impl_sorts_seen d c = map param_sorts (filter (λ i. sees (world_of d) c i.item.home) d.impls)
 
 -- the self type of each impl is a parameter, or no variable or placeholder
 abbrev pub BeginDeclared : text.Declarations → Type 0

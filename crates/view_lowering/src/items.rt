@@ -8,7 +8,7 @@ ghost use Rattle.declarations.specs.Items.{struct_in, trait_in, impl_in};
 ghost use Rattle.declarations.specs.Held.{StructHeld, TraitHeld, ImplHeld};
 ghost use Rattle.workspace.specs.Made.{AreMade, ReferenceMade, ReferencesMade, is_type};
 ghost use Rattle.workspace.specs.Views.{struct_of, trait_of, impl_of, sorts_of, sort_of_kind};
-ghost use Rattle.view_lowering.specs.Seen.{struct_sorts, trait_sorts};
+ghost use Rattle.view_lowering.specs.Seen.{struct_sorts, trait_sorts, param_sorts};
 
 use crate::parts::{lower_reference, lower_references, param_kind, push_params};
 use declarations::items::{AdtDef, GenericParamKind, ImplDef, TraitDef};
@@ -92,7 +92,7 @@ pub(crate) fn lower_impl(
     requires clauses { ReferencesMade entry.now.clauses.items }
     requires begins { begins_declared (impl_of entry.now).item.header.args ≡ true }
     ensures is { IfOk result (λ def. impl_in cx.new.entries entry.now.id def ≡ (impl_of entry.now).item) }
-    ensures sorts { IfOk result (λ def. map sort_of_param def.params.items ≡ map (λ p. sort_of_kind p.kind) entry.now.params.items) }
+    ensures sorts { IfOk result (λ def. map sort_of_param def.params.items ≡ param_sorts (impl_of entry.now)) }
     ensures held { IfOk result (λ def. ImplHeld cx.new.entries def) }
     ensures keeps { Keeps cx.old.entries cx.new.entries }
     ensures limit { cx.new.limit ≡ cx.old.limit }

@@ -3,6 +3,7 @@
 #![tactic(auto)]
 
 mod items;
+pub mod laws;
 mod parts;
 mod question;
 mod view;

@@ -3,7 +3,7 @@ ghost use Rattle.std.specs.Prelude.{◌≡◌, ◌<◌, [], length, map, OnOk, I
 ghost use Rattle.type_terms.specs.Terms.{Keeps};
 ghost use Rattle.declarations.specs.Held.{AreHeld};
 ghost use Rattle.declarations.specs.Items.{written, declared, struct_in, trait_in, impl_in};
-ghost use Rattle.view_lowering.specs.Seen.{BeginDeclared, seen_from, rules_seen_from, struct_sorts, trait_sorts, struct_sorts_seen, trait_sorts_seen};
+ghost use Rattle.view_lowering.specs.Seen.{BeginDeclared, seen_from, rules_seen_from, struct_sorts, trait_sorts, impl_sorts, struct_sorts_seen, trait_sorts_seen, impl_sorts_seen};
 
 use crate::items::{lower_impl, lower_struct, lower_trait};
 use declarations::declarations::Declarations;
@@ -83,6 +83,7 @@ fn lower_impls(
     requires none { decls.old.impls ≡ [] }
     requires held { AreHeld cx.old.entries decls.old }
     ensures impls { OnOk result (map (λ i. impl_in cx.new.entries i.id i.def) decls.new.impls ≡ (seen_from workspace.now crate_id.index).impls) }
+    ensures sorts { OnOk result (map impl_sorts decls.new.impls ≡ impl_sorts_seen workspace.now crate_id.index) }
     ensures others { OnOk result (decls.new ≡ record decls.old { impls = decls.new.impls }) }
     ensures held { OnOk result (AreHeld cx.new.entries decls.new) }
     ensures keeps { Keeps cx.old.entries cx.new.entries }
@@ -115,6 +116,7 @@ pub fn lower(
     ensures rules { IfOk result (λ decls. declared cx.new.entries decls ≡ rules_seen_from workspace.now crate_id.index) }
     ensures struct_sorts { IfOk result (λ decls. map struct_sorts decls.structs ≡ struct_sorts_seen workspace.now crate_id.index) }
     ensures trait_sorts { IfOk result (λ decls. map trait_sorts decls.traits ≡ trait_sorts_seen workspace.now crate_id.index) }
+    ensures impl_sorts { IfOk result (λ decls. map impl_sorts decls.impls ≡ impl_sorts_seen workspace.now crate_id.index) }
     ensures local { IfOk result (λ decls. decls.local ≡ crate_id.index) }
     ensures held { IfOk result (λ decls. AreHeld cx.new.entries decls) }
     ensures keeps { Keeps cx.old.entries cx.new.entries }

@@ -26,7 +26,7 @@ use Rattle.workspace.specs.declared.declared.ImplEntry.{ImplEntry}
 use Rattle.workspace.specs.declared.declared.QuestionEntry.{QuestionEntry}
 use Rattle.workspace.specs.declared.declared.Asked.{Asked}
 use Rattle.workspace.specs.declared.declared.Named.{Named}
-use Rattle.workspace.specs.Views.{crate_of, struct_of, trait_of, impl_of, question_of, asker_of, numbers_of, sorts_of, cells_of, reference_of, param_names}
+use Rattle.workspace.specs.Views.{crate_of, struct_of, trait_of, impl_of, question_of, asker_of, numbers_of, sorts_of, cells_of, reference_of, sort_of_kind, sorted_params}
 use Rattle.workspace.specs.TermCells.{trees_of}
 use Rattle.workspace.specs.Parts.{new_struct, new_trait, new_impl}
 use Rattle.workspace.specs.Tables.{IsConsistent, declared, impls_of, will_see, with_crate, with_struct, with_trait, with_impl, with_question, Item, crate_item, struct_item, trait_item, item_of, item_named, core_alone}
@@ -234,13 +234,13 @@ impl-consistent t impls last items m i good goods behind number home place now m
 pub impl-declared : (t : Tables) (impls : List ImplEntry) (m : ImplEntry)
     → impls ≡ t.impls.items ++ m ∷ [] → m.id.index ≡ length t.impls.items → m.owner.index ≡ last_crate (declared t)
     → record (declared t) { impls = map impl_of impls }
-    ≡ with_impl (declared t) (new_impl (declared t) (param_names m.params.items) (reference_of m.header) (map reference_of m.clauses.items))
+    ≡ with_impl (declared t) (new_impl (declared t) (sorted_params m.params.items) (reference_of m.header) (map reference_of m.clauses.items))
 impl-declared t impls m behind number home =
     let d = declared t in
     ap (λ ms. record d { impls = ms }) (ap (map impl_of) behind ∙ map_push impl_of t.impls.items m)
-    ∙ ap (λ k. with_impl d (record { params = param_names m.params.items; item = record (impl_of m).item { name = k } })) (number ∙ sym (length-map t.impls.items impl_of))
-    ∙ ap (λ h. with_impl d (record { params = param_names m.params.items; item = record (impl_of m).item { name = length d.impls; home = h } })) home
-    ∙ ap (λ k. with_impl d (record { params = param_names m.params.items; item = record (impl_of m).item { name = length d.impls; home = last_crate d; params = k } })) (sym (length-map m.params.items (λ p. p.name.items)))
+    ∙ ap (λ k. with_impl d (record { params = sorted_params m.params.items; item = record (impl_of m).item { name = k } })) (number ∙ sym (length-map t.impls.items impl_of))
+    ∙ ap (λ h. with_impl d (record { params = sorted_params m.params.items; item = record (impl_of m).item { name = length d.impls; home = h } })) home
+    ∙ ap (λ k. with_impl d (record { params = sorted_params m.params.items; item = record (impl_of m).item { name = length d.impls; home = last_crate d; params = k } })) (sym (length-map m.params.items (λ p. (p.name.items, sort_of_kind p.kind))))
 
 -- ---- crates and their numbers
 pub ids-at : (t : Tables) → IsConsistent t → Each (λ k x. x.index ≡ k) t.ids.items

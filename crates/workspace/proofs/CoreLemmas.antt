@@ -2,6 +2,7 @@
 use Rattle.std.proofs.Common.{◌≡◌, ℕ, zero, suc, ◌+◌, ◌<◌, ◌≤◌, true, false, List, [], ◌∷◌, ◌++◌, length, take, refl, sym, ap, subst, ◌∙◌, arith, length-append, append_assoc, get_or, add-one}
 use Rattle.std.proofs.lemmas.List.{map_push, length-map}
 use Rattle.std.specs.Prelude.{map}
+use Rattle.model.specs.Label.{Sort}
 use Rattle.model.specs.Trees.{Trees}
 use Rattle.model.specs.Worlds.{Reference, ImplDecl, core}
 use Rattle.model.specs.Core.{impls_for, scalars}
@@ -29,11 +30,11 @@ few-of_room d h = record {
 
 -- ---- impls
 -- an impl of `core` with this number
-abbrev impl_at : ℕ → List (List ℕ) → Reference → List Reference → NamedImpl
+abbrev impl_at : ℕ → List (List ℕ × Sort) → Reference → List Reference → NamedImpl
 impl_at n ps h cs = record { params = ps; item = record { name = n; home = core; params = length ps; header = h; clauses = cs } }
 
 -- one more behind those that were put there
-pub put-behind : (d e : Declarations) (M : List NamedImpl) (m : ℕ) (ps : List (List ℕ)) (h : Reference) (cs : List Reference) → last_crate d ≡ core → length M ≡ m → e ≡ record d { impls = d.impls ++ M }
+pub put-behind : (d e : Declarations) (M : List NamedImpl) (m : ℕ) (ps : List (List ℕ × Sort)) (h : Reference) (cs : List Reference) → last_crate d ≡ core → length M ≡ m → e ≡ record d { impls = d.impls ++ M }
     → with_impl e (new_impl e ps h cs) ≡ record d { impls = d.impls ++ (M ++ impl_at (length d.impls + m) ps h cs ∷ []) }
 put-behind d e M m ps h cs home long before =
     let number : length (d.impls ++ M) ≡ length d.impls + m = omega (arith, length-append d.impls M, long) in

@@ -6,7 +6,7 @@ use Rattle.model.specs.Label.{Sort, of_type, of_const, of_lifetime}
 use Rattle.model.specs.Trees.{Trees}
 use Rattle.model.specs.Worlds.{Reference}
 use Rattle.text_definitions.specs.Syntax.{Params, Line, struct_line, trait_line, impl_line, prove_line, refute_line}
-use Rattle.text_definitions.specs.Declarations.{Declarations, Question, kinds_of, names_of, last_crate}
+use Rattle.text_definitions.specs.Declarations.{Declarations, Question, kinds_of, with_sort, sorted_names, last_crate}
 use Rattle.text_definitions.specs.Adding.{added, item_meanings}
 use Rattle.text_definitions.specs.Lowering.{clause_reference}
 use Rattle.workspace.specs.Tables.{with_struct, with_trait, with_impl, with_question}
@@ -29,12 +29,18 @@ trait-added d n f a kinds bounds (trait_line g b m ps bs) h =
     ∙ ap (λ x. with_trait d (new_trait d m g b (kinds_of ps) x)) h.4
 trait-added d n f a kinds bounds _ h = absurd h
 
-as_many : (ps : Params) → length (names_of ps) ≡ length (kinds_of ps)
+sorted-length : (s : Sort) (ns : List (List ℕ)) → length (with_sort s ns) ≡ length ns
+sorted-length s ns = length-map {B = List ℕ × Sort} ns (λ n. (n, s))
+
+as_many : (ps : Params) → length (sorted_names ps) ≡ length (kinds_of ps)
 as_many ps =
     omega (
       arith,
-      length-append (ps.lifetimes ++ ps.types) ps.consts,
-      length-append ps.lifetimes ps.types,
+      length-append (with_sort of_lifetime ps.lifetimes ++ with_sort of_type ps.types) (with_sort of_const ps.consts),
+      length-append (with_sort of_lifetime ps.lifetimes) (with_sort of_type ps.types),
+      sorted-length of_lifetime ps.lifetimes,
+      sorted-length of_type ps.types,
+      sorted-length of_const ps.consts,
       length-append (map (λ _. of_lifetime) ps.lifetimes ++ map (λ _. of_type) ps.types) (map (λ _. of_const) ps.consts),
       length-append (map (λ _. of_lifetime) ps.lifetimes) (map (λ _. of_type) ps.types),
       length-map ps.lifetimes (λ _. of_lifetime),
@@ -42,14 +48,14 @@ as_many ps =
       length-map ps.consts (λ _. of_const),
     )
 
-pub impl-added : (d : Declarations) (params : List (List ℕ)) (header : Reference) (clauses : List Reference) (l : Line) → IsImplLine d params header clauses l → with_impl d (new_impl d params header clauses) ≡ added d l
+pub impl-added : (d : Declarations) (params : List (List ℕ × Sort)) (header : Reference) (clauses : List Reference) (l : Line) → IsImplLine d params header clauses l → with_impl d (new_impl d params header clauses) ≡ added d l
 impl-added d params header clauses (impl_line ps h ks) e =
     ap (λ x. with_impl d (new_impl d x header clauses)) e.0
-    ∙ ap (λ x. with_impl d (new_impl d (names_of ps) x clauses)) e.1
-    ∙ ap (λ x. with_impl d (new_impl d (names_of ps) (clause_reference (item_meanings d (impl_line ps h ks) 0) h) x)) e.2
+    ∙ ap (λ x. with_impl d (new_impl d (sorted_names ps) x clauses)) e.1
+    ∙ ap (λ x. with_impl d (new_impl d (sorted_names ps) (clause_reference (item_meanings d (impl_line ps h ks) 0) h) x)) e.2
     ∙ ap
     (λ k. with_impl d (record {
-      params = names_of ps;
+      params = sorted_names ps;
       item = record { name = length d.impls; home = last_crate d; params = k; header = clause_reference (item_meanings d (impl_line ps h ks) 0) h; clauses = map (clause_reference (item_meanings d (impl_line ps h ks) 0)) ks };
     }))
     (as_many ps)

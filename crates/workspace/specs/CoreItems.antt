@@ -5,7 +5,7 @@ use Rattle.model.specs.Trees.{Trees, none, tree, leaf}
 use Rattle.model.specs.Worlds.{Reference, core}
 use Rattle.model.specs.Core.{type_param, box, box_impl, impls_for, scalars}
 use Rattle.model.specs.Rules.{asked, clone}
-use Rattle.text_definitions.specs.Declarations.{Declarations, NamedTrait, NamedImpl, bare_impl, last_crate, nothing_declared, copied, name_a, name_T, name_N}
+use Rattle.text_definitions.specs.Declarations.{Declarations, NamedTrait, NamedImpl, bare_impl, last_crate, nothing_declared, copied, lifetime_a, type_T, const_N}
 use Rattle.type_terms.specs.declared.TraitId.{TraitId}
 use Rattle.workspace.specs.declared.cell.TermCell.{TermCell}
 use Rattle.workspace.specs.TermCells.{trees_of, joined}
@@ -67,20 +67,20 @@ core_cloned = record (core_traits_to 9) { impls = copied 0 clone }
 
 -- and for `Box`
 abbrev pub core_boxed : Declarations
-core_boxed = record core_cloned { impls = copied 0 clone ++ record { params = name_T ∷ []; item = box_impl } ∷ [] }
+core_boxed = record core_cloned { impls = copied 0 clone ++ record { params = type_T ∷ []; item = box_impl } ∷ [] }
 
 -- `impl Tr for T` at a type of one cell
 abbrev pub impl_for : Declarations → ℕ → TermCell → NamedImpl
 impl_for d t c = new_impl d [] (asked t (joined (trees_of (cell_of c ∷ [])))) []
 
 abbrev pub ref_impl : Declarations → ℕ → NamedImpl
-ref_impl d t = new_impl d (name_a ∷ name_T ∷ []) (asked t (tree (ref false) (tree (param of_lifetime 0) none (type_param 1)) none)) []
+ref_impl d t = new_impl d (lifetime_a ∷ type_T ∷ []) (asked t (tree (ref false) (tree (param of_lifetime 0) none (type_param 1)) none)) []
 
 abbrev pub pointer_impl : Declarations → ℕ → Bool → NamedImpl
-pointer_impl d t m = new_impl d (name_T ∷ []) (asked t (tree (raw_pointer m) (type_param 0) none)) []
+pointer_impl d t m = new_impl d (type_T ∷ []) (asked t (tree (raw_pointer m) (type_param 0) none)) []
 
 abbrev pub array_impl : Declarations → ℕ → NamedImpl
-array_impl d t = new_impl d (name_T ∷ name_N ∷ []) (asked t (tree array (tree (param of_type 0) none (leaf (param of_const 1))) none)) (asked t (type_param 0) ∷ [])
+array_impl d t = new_impl d (type_T ∷ const_N ∷ []) (asked t (tree array (tree (param of_type 0) none (leaf (param of_const 1))) none)) (asked t (type_param 0) ∷ [])
 
 abbrev pub boxed_impl : Declarations → NamedImpl
-boxed_impl d = new_impl d (name_T ∷ []) (asked clone (tree (adt box) (type_param 0) none)) (asked clone (type_param 0) ∷ [])
+boxed_impl d = new_impl d (type_T ∷ []) (asked clone (tree (adt box) (type_param 0) none)) (asked clone (type_param 0) ∷ [])

@@ -4,7 +4,7 @@ use Rattle.model.specs.Label.{Sort, of_type, param}
 use Rattle.model.specs.Trees.{Trees, leaf}
 use Rattle.model.specs.Worlds.{Reference}
 use Rattle.text_definitions.specs.Syntax.{Line, struct_line, trait_line, impl_line, prove_line, refute_line}
-use Rattle.text_definitions.specs.Declarations.{Declarations, NamedStruct, NamedTrait, NamedImpl, Question, kinds_of, names_of, last_crate}
+use Rattle.text_definitions.specs.Declarations.{Declarations, NamedStruct, NamedTrait, NamedImpl, Question, kinds_of, sorted_names, last_crate}
 use Rattle.text_definitions.specs.Lowering.{field_trees, with_self, clause_reference}
 use Rattle.text_definitions.specs.Adding.{item_meanings, question_meanings, question_of, added}
 use Rattle.workspace.specs.declared.cell.ParamKind.{ParamKind}
@@ -12,7 +12,7 @@ use Rattle.workspace.specs.declared.cell.TermCell.{TermCell}
 use Rattle.workspace.specs.declared.declared.Param.{Param}
 use Rattle.workspace.specs.declared.declared.ReferenceCells.{ReferenceCells}
 use Rattle.workspace.specs.TermCells.{trees_of}
-use Rattle.workspace.specs.Views.{sorts_of, cells_of, reference_of, param_names}
+use Rattle.workspace.specs.Views.{sorts_of, cells_of, reference_of, sorted_params}
 use Rattle.workspace.specs.Tables.{with_struct, with_trait, with_impl}
 
 -- `fundamental struct n<..>(..)`: parameters of these kinds, and fields that are these types
@@ -28,9 +28,9 @@ IsTraitLine d n f a kinds bounds (trait_line g b m ps bs) =
 IsTraitLine d n f a kinds bounds _ = ⊥
 
 -- `impl<..> h where ..`
-abbrev pub IsImplLine : Declarations → List (List ℕ) → Reference → List Reference → Line → Type 0
+abbrev pub IsImplLine : Declarations → List (List ℕ × Sort) → Reference → List Reference → Line → Type 0
 IsImplLine d params header clauses (impl_line ps h ks) =
-    (params ≡ names_of ps) × (header ≡ clause_reference (item_meanings d (impl_line ps h ks) 0) h) × (clauses ≡ map (clause_reference (item_meanings d (impl_line ps h ks) 0)) ks)
+    (params ≡ sorted_names ps) × (header ≡ clause_reference (item_meanings d (impl_line ps h ks) 0) h) × (clauses ≡ map (clause_reference (item_meanings d (impl_line ps h ks) 0)) ks)
 IsImplLine d params header clauses _ = ⊥
 
 -- `prove in C<..> a where ..`, `refute in C<..> a`
@@ -46,7 +46,7 @@ new_struct d n f kinds fields = record { text = n; kinds = kinds; item = record 
 abbrev pub new_trait : Declarations → List ℕ → Bool → Bool → List Sort → List Reference → NamedTrait
 new_trait d n f a kinds bounds = record { text = n; kinds = kinds; item = record { name = length d.traits; home = last_crate d; is_fundamental = f; is_auto = a; bounds = bounds } }
 
-abbrev pub new_impl : Declarations → List (List ℕ) → Reference → List Reference → NamedImpl
+abbrev pub new_impl : Declarations → List (List ℕ × Sort) → Reference → List Reference → NamedImpl
 new_impl d params header clauses = record { params = params; item = record { name = length d.impls; home = last_crate d; params = length params; header = header; clauses = clauses } }
 
 -- ---- what a call that is handed the parts adds, from the declarations d to e
@@ -64,10 +64,10 @@ abbrev pub AddsTraitLine : (d e : Declarations) → List ℕ → (is_fundamental
 AddsTraitLine d e n f a params bounds = (l : Line) → IsTraitLine d n f a (sorts_of params) (map reference_of bounds) l → e ≡ added d l
 
 abbrev pub AddsImpl : (d e : Declarations) → List Param → ReferenceCells → List ReferenceCells → Type 0
-AddsImpl d e params header clauses = e ≡ with_impl d (new_impl d (param_names params) (reference_of header) (map reference_of clauses))
+AddsImpl d e params header clauses = e ≡ with_impl d (new_impl d (sorted_params params) (reference_of header) (map reference_of clauses))
 
 abbrev pub AddsImplLine : (d e : Declarations) → List Param → ReferenceCells → List ReferenceCells → Type 0
-AddsImplLine d e params header clauses = (l : Line) → IsImplLine d (param_names params) (reference_of header) (map reference_of clauses) l → e ≡ added d l
+AddsImplLine d e params header clauses = (l : Line) → IsImplLine d (sorted_params params) (reference_of header) (map reference_of clauses) l → e ≡ added d l
 
 abbrev pub AddsQuestionLine : (d e : Declarations) → Question → Type 0
 AddsQuestionLine d e q = (l : Line) → IsQuestionLine d q l → e ≡ added d l

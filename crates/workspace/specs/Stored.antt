@@ -41,7 +41,7 @@ trait_code =
 
 abbrev pub impl_code : Coded NamedImpl
 impl_code =
-    code_by (List (List ℕ) × (ℕ × (ℕ × (ℕ × (Reference × List Reference))))) (coded× (coded_list text_code) (coded× coded_ℕ (coded× coded_ℕ (coded× coded_ℕ (coded× reference_code (coded_list reference_code))))))
+    code_by (List (List ℕ × Sort) × (ℕ × (ℕ × (ℕ × (Reference × List Reference))))) (coded× (coded_list (coded× text_code sort_code)) (coded× coded_ℕ (coded× coded_ℕ (coded× coded_ℕ (coded× reference_code (coded_list reference_code))))))
     (λ i. (i.params, (i.item.name, (i.item.home, (i.item.params, (i.item.header, i.item.clauses))))))
     (λ (ps, (n, (h, (p, (r, cs))))). record { params = ps; item = record { name = n; home = h; params = p; header = r; clauses = cs } }) (λ _. refl)
 

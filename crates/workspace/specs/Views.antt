@@ -36,6 +36,9 @@ sorts_of ks = map sort_of_kind ks
 abbrev pub param_names : List Param → List (List ℕ)
 param_names ps = map (λ p. p.name.items) ps
 
+abbrev pub sorted_params : List Param → List (List ℕ × Sort)
+sorted_params ps = map (λ p. (p.name.items, sort_of_kind p.kind)) ps
+
 -- ---- types
 abbrev pub cell_of : TermCell → cell.TermCell
 cell_of cells.Bool = cell.node_cell bool 0
@@ -93,7 +96,7 @@ trait_of t = record {
 
 abbrev pub impl_of : ImplEntry → text.NamedImpl
 impl_of i = record {
-  params = param_names i.params.items;
+  params = sorted_params i.params.items;
   item = record { name = i.id.index; home = i.owner.index; params = length i.params.items; header = reference_of i.header; clauses = map reference_of i.clauses.items };
 }
 

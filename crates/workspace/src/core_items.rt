@@ -51,6 +51,7 @@ const SCALARS: [TermCell; 15] = [
 
 fn param(alloc: Global, name: &[u8], kind: ParamKind) -> Result<Param, AllocError>
     ensures name { IfOk result (λ p. p.name.items ≡ name.now) }
+    ensures kind { IfOk result (λ p. p.kind ≡ kind) }
 {
     Ok(Param {
         name: Vec::from_slice(alloc, name)?,

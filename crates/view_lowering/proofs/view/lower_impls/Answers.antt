@@ -57,7 +57,7 @@ loop-entry-preserved c =
           subst (λ y. ImplsAdded d n old.entries old.limit c.args.decls.now (i + 1) y.entries y.limit c.if-sees.decls) (sym w.cx-is)
           (subst (λ ds. ImplsAdded d n old.entries old.limit c.args.decls.now (i + 1) new.entries new.limit ds) (sym w.decls-is)
           (impls-taken d n old.entries old.limit c.args.decls.now i es.entries es.limit now (impl_of x) new.entries new.limit (held_impl new.entries x.id w.in_ok-def.def) next at (sym c.sees.ensures ∙ w.if-sees.true)
-          (c.crates.ensures.numbered.impls i (impl_of x) at).0 k w.lower_impl.ensures.limit w.in_ok-def.ensures.is w.in_ok-add_impl.ensures.added held inv))
+          (c.crates.ensures.numbered.impls i (impl_of x) at).0 k w.lower_impl.ensures.limit w.in_ok-def.ensures.is w.in_ok-def.ensures.sorts w.in_ok-add_impl.ensures.added held inv))
       | else-sees w ↦
           subst (λ y. ImplsAdded d n old.entries old.limit c.args.decls.now (i + 1) y.entries y.limit c.if-sees.decls) (sym w.cx-is)
           (subst (λ ds. ImplsAdded d n old.entries old.limit c.args.decls.now (i + 1) es.entries es.limit ds) (sym w.decls-is)

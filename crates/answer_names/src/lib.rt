@@ -1,0 +1,11 @@
+//! What things are called in the lines of the answer: items by their names in the text, unknowns by the impl's parameters or the
+//! question's variables that they stand for.
+#![tactic(auto)]
+
+mod header;
+mod items;
+mod params;
+mod question;
+
+pub use header::HeaderNames;
+pub use question::{QuestionNames, Unknown};

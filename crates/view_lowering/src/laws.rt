@@ -1,0 +1,11 @@
+//! Laws of texts.
+ghost use Rattle.std.specs.Prelude.{ℕ, List, Ok};
+ghost use Rattle.text_definitions.specs.Declarations.{Declarations};
+ghost use Rattle.text_definitions.specs.Text.{TextGives};
+ghost use Rattle.view_lowering.specs.Seen.{BeginDeclared};
+
+/// In a text without a fault the self type of each impl is a parameter, or begins with no variable or placeholder: so each of its
+/// views can be lowered.
+pub fn impls_begin_declared()
+    ensures { (bytes : List ℕ) (d : Declarations) → TextGives bytes (Ok d) → BeginDeclared d }
+{}
