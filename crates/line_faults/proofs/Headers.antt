@@ -27,7 +27,7 @@ use Rattle.line_reader.proofs.Standing.{spans-stand}
 use Rattle.name_resolution.specs.Machine.{Sight, items}
 use Rattle.name_resolution.specs.UsedNames.{names_with}
 use Rattle.name_resolution.proofs.UsedLaws.{types_use_names, args_use_names}
-use Rattle.line_faults.specs.Header.{header_said, name_of, last_name, names_own_struct}
+use Rattle.line_faults.specs.Header.{header_said, name_of, last_name, names_own_struct, names_in_header}
 use Rattle.line_faults.specs.Params.{others_said}
 use Rattle.line_faults.specs.Speaks.{Speaks}
 use Rattle.line_faults.proofs.Bare.{same-items, same-params, others-of}
@@ -203,10 +203,7 @@ front cells xs c e h k =
 begins : (cells : List Cell) (t : TypeTree) (s : Span) → TypeStands cells t s → length (take s.start cells) ≡ s.start
 begins cells t s h = let a = h.0 in let b = h.1 in length-take-le s.start cells (omega (arith, a, b))
 
-abbrev pub header_set : List Cell → ClauseSpans → List (List ℕ)
-header_set cells h = names_with (drop h.bound.start (take (h.bound.end - 1) cells)) (names_with (drop h.subject.start (take h.subject.end cells)) [])
-
-used-in-header : (d : Declarations) (cells : List Cell) (k : Clause) (h : ClauseSpans) (n : List ℕ) → TypeStands cells k.subject h.subject → BoundStands cells k.bound h.bound → is_among n (header_set cells h) ≡ list_any (is_name_use n) (header_uses d k)
+used-in-header : (d : Declarations) (cells : List Cell) (k : Clause) (h : ClauseSpans) (n : List ℕ) → TypeStands cells k.subject h.subject → BoundStands cells k.bound h.bound → is_among n (names_in_header cells h) ≡ list_any (is_name_use n) (header_uses d k)
 used-in-header d cells k h n st bt =
     let o = take h.bound.start cells in
     let q = take h.subject.start cells in
@@ -224,15 +221,15 @@ used-in-header d cells k h n st bt =
     ∙ sym (list_any-append (is_name_use n) args type)
 
 free-params : (d : Declarations) (cells : List Cell) (k : Clause) (h : ClauseSpans) → TypeStands cells k.subject h.subject → BoundStands cells k.bound h.bound → (ns : List (List ℕ))
-    → list_any (λ n. not (is_among n (header_set cells h))) ns ≡ list_any (λ n. not (list_any (is_name_use n) (header_uses d k))) ns
+    → list_any (λ n. not (is_among n (names_in_header cells h))) ns ≡ list_any (λ n. not (list_any (is_name_use n) (header_uses d k))) ns
 free-params d cells k h st bt [] = refl
 free-params d cells k h st bt (n ∷ ns) =
-    ap (λ b. not b || list_any (λ m. not (is_among m (header_set cells h))) ns) (used-in-header d cells k h n st bt)
+    ap (λ b. not b || list_any (λ m. not (is_among m (names_in_header cells h))) ns) (used-in-header d cells k h n st bt)
     ∙ ap (λ b. not (list_any (is_name_use n) (header_uses d k)) || b) (free-params d cells k h st bt ns)
 
 -- of the parameters that were read
 pub free-is : (d : Declarations) (l : Line) (r : LineRead) (h : ClauseSpans) (ns : List (List ℕ)) → ReadsLine l r → IsImpl l (cells_in r.cells.items) h → ns ≡ others_said (params_said (statement_of r.statement))
-    → list_any (λ n. not (is_among n (header_set (cells_in r.cells.items) h))) ns ≡ has_free_param d l
+    → list_any (λ n. not (is_among n (names_in_header (cells_in r.cells.items) h))) ns ≡ has_free_param d l
 free-is d l r h ns e i en =
     let cells = cells_in r.cells.items in
     let line = impl_line i.params i.header i.clauses in

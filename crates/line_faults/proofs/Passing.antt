@@ -13,7 +13,7 @@ use Rattle.line_reader.specs.Statement.{Statement, line_statement}
 use Rattle.line_reader.specs.Views.{param_of, params_in}
 use Rattle.line_reader.specs.declared.statement.Param.{Param}
 use Rattle.line_reader.proofs.WhatIsSaid.{params-are-counted, parts-are-counted, tests-agree}
-use Rattle.line_faults.specs.Limits.{is_full_for}
+use Rattle.line_faults.specs.Limits.{is_full_for, is_large_for}
 
 pub params_counted : (ps : List Param) (qs : List said.Param) → params_in ps ≡ qs → nat_lt param_limit (length ps) ≡ nat_lt param_limit (length qs)
 params_counted ps qs e = ap (nat_lt param_limit) (sym (length-map ps param_of) ∙ ap length e)
@@ -26,9 +26,6 @@ full-for d (impl_line ps h ks) = refl
 full-for d (prove_line c ps k ks) = refl
 full-for d (refute_line c ps k) = refl
 
-abbrev pub large : Declarations → Statement → Bool
-large d s = is_full_for d s || (has_long s || (nat_lt param_limit (length (params_said s)) || nat_lt part_limit (count_said s)))
-
 -- the test, in groups
 or-grouped : (a b c e x : Bool) → (a || (b || (c || e))) || x ≡ a || (b || (c || (e || x)))
 or-grouped true b c e x = refl
@@ -36,13 +33,13 @@ or-grouped false true c e x = refl
 or-grouped false false true e x = refl
 or-grouped false false false e x = refl
 
-pub limits-are : (d : Declarations) (l : Line) (s : Statement) (a b c e : Bool) → s ≡ line_statement l → a ≡ large d s → b ≡ nat_lt depth_limit (line_depth (with_own d l) l) → c ≡ nat_lt variable_limit (length (once (variables_in (asked_uses d l))))
+pub limits-are : (d : Declarations) (l : Line) (s : Statement) (a b c e : Bool) → s ≡ line_statement l → a ≡ is_large_for d s → b ≡ nat_lt depth_limit (line_depth (with_own d l) l) → c ≡ nat_lt variable_limit (length (once (variables_in (asked_uses d l))))
     → e ≡ list_any passes_in (uses (with_own d l) l) → a || (b || (c || e)) ≡ passes_limit d l
 limits-are d l s a b c e es ea eb ec ee =
     let x = nat_lt depth_limit (line_depth (with_own d l) l) || (nat_lt variable_limit (length (once (variables_in (asked_uses d l)))) || list_any passes_in (uses (with_own d l) l)) in
     let t = line_statement l in
-    ap (λ z. z || (b || (c || e))) (ea ∙ ap (large d) es) ∙ ap (λ z. large d t || (z || (c || e))) eb ∙ ap (λ z. large d t || (nat_lt depth_limit (line_depth (with_own d l) l) || (z || e))) ec
-    ∙ ap (λ z. large d t || (nat_lt depth_limit (line_depth (with_own d l) l) || (nat_lt variable_limit (length (once (variables_in (asked_uses d l)))) || z))) ee
+    ap (λ z. z || (b || (c || e))) (ea ∙ ap (is_large_for d) es) ∙ ap (λ z. is_large_for d t || (z || (c || e))) eb ∙ ap (λ z. is_large_for d t || (nat_lt depth_limit (line_depth (with_own d l) l) || (z || e))) ec
+    ∙ ap (λ z. is_large_for d t || (nat_lt depth_limit (line_depth (with_own d l) l) || (nat_lt variable_limit (length (once (variables_in (asked_uses d l)))) || z))) ee
     ∙ or-grouped (is_full_for d t) (has_long t) (nat_lt param_limit (length (params_said t))) (nat_lt part_limit (count_said t)) x
     ∙ ap (λ z. z || (has_long t || (nat_lt param_limit (length (params_said t)) || (nat_lt part_limit (count_said t) || x)))) (full-for d l)
     ∙ ap (λ z. is_full d l || (z || (nat_lt param_limit (length (params_said t)) || (nat_lt part_limit (count_said t) || x)))) (tests-agree l).3

@@ -1,9 +1,11 @@
 -- The names of parameters: those of lifetimes are apart from all others.
-use Rattle.std.specs.Prelude.{ℕ, Bool, ◌||◌, List, [], ◌∷◌, is_some}
+use Rattle.std.specs.Prelude.{ℕ, Bool, false, ◌||◌, List, [], ◌∷◌, is_some}
 use Rattle.std.specs.List.{list_any, flat_map}
+use Rattle.std.specs.Option.{option_map_or}
 use Rattle.text_definitions.specs.Declarations.{Declarations, known}
 use Rattle.text_definitions.specs.Faults.{is_among, repeats, static_name}
-use Rattle.line_reader.specs.Statement.{Param, lifetime_param, type_param, const_param}
+use Rattle.line_reader.specs.Says.{name_said, params_said}
+use Rattle.line_reader.specs.Statement.{Statement, Param, lifetime_param, type_param, const_param}
 
 abbrev pub lifetime_name : Param → List (List ℕ)
 lifetime_name (lifetime_param n) = n ∷ []
@@ -27,3 +29,7 @@ names_taken d ls os = repeats ls || (is_among static_name ls || (repeats os || l
 
 abbrev pub are_taken : Declarations → List Param → Bool
 are_taken d ps = names_taken d (lifetimes_said ps) (others_said ps)
+
+-- The name that the statement declares was known before, or that of a parameter is taken; `own` knows the statement's own item.
+abbrev pub takes_said : (before own : Declarations) → Statement → Bool
+takes_said before own s = option_map_or (λ n. is_some (known before n)) (name_said s) false || are_taken own (params_said s)

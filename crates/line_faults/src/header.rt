@@ -11,7 +11,7 @@ ghost use Rattle.line_reader.specs.Lines.{ReadsLine};
 ghost use Rattle.line_reader.specs.Views.{statement_of};
 ghost use Rattle.name_resolution.specs.Machine.{items};
 ghost use Rattle.name_resolution.specs.UsedNames.{Holds, names_with};
-ghost use Rattle.line_faults.specs.Header.{header_said, name_of, last_name, names_own_struct};
+ghost use Rattle.line_faults.specs.Header.{header_said, name_of, last_name, names_own_struct, names_foreign_auto, names_in_header};
 ghost use Rattle.line_faults.specs.Speaks.{Speaks};
 
 use crate::names::LineNames;
@@ -131,7 +131,7 @@ fn is_own_struct<N: LineNames>(names: &N, name: Option<&[u8]>) -> bool
 
 /// Whether this is an auto trait, and that no struct of the last crate.
 fn is_foreign<N: LineNames>(names: &N, name: Option<&[u8]>, subject: Option<&[u8]>) -> bool
-    ensures { result ≡ (option_map_or (is_auto_name (items (N.sight names.now))) (option_map text_of name.entry) false && not (option_map_or (names_own_struct (N.sight names.now)) (option_map text_of subject.entry) false)) }
+    ensures { result ≡ names_foreign_auto (N.sight names.now) (option_map text_of name.entry) (option_map text_of subject.entry) }
 {
     is_auto_trait(names, name) && !is_own_struct(names, subject)
 }
@@ -176,7 +176,7 @@ fn header_names<'a>(
     cells: &[Cell<'a>],
     header: ClauseSpans,
 ) -> Result<NameSet<'a>, AllocError>
-    ensures { IfOk result (λ set. Holds set (names_with (drop header.bound.start (take (header.bound.end - 1) (cells_in cells.now))) (names_with (drop header.subject.start (take header.subject.end (cells_in cells.now))) []))) }
+    ensures { IfOk result (λ set. Holds set (names_in_header (cells_in cells.now) header)) }
 {
     let mut used = NameSet::new(alloc);
     used.add_used(cells_between(cells, header.subject.start, header.subject.end))?;

@@ -1,18 +1,18 @@
 //! The fault of a line that was read.
 ghost use Rattle.std.specs.Prelude.{◌≡◌, ◌||◌, ◌&&◌, false, map, is_some, length, nat_le, IfOk};
-ghost use Rattle.std.specs.List.{list_any};
 ghost use Rattle.std.specs.Option.{option_map, option_map_or};
 ghost use Rattle.text_definitions.specs.Syntax.{Line};
 ghost use Rattle.text_definitions.specs.Declarations.{known};
-ghost use Rattle.text_definitions.specs.Faults.{is_any, is_of_other_kind, tests, fault_of};
+ghost use Rattle.text_definitions.specs.Faults.{is_any, tests, fault_of};
 ghost use Rattle.line_reader.specs.Lines.{ReadsLine};
-ghost use Rattle.line_reader.specs.Says.{name_said, params_said, is_item};
+ghost use Rattle.line_reader.specs.Says.{name_said, is_item};
 ghost use Rattle.line_reader.specs.Views.{statement_of};
 ghost use Rattle.name_resolution.specs.Machine.{items};
 ghost use Rattle.name_resolution.specs.Views.{variable_in};
 ghost use Rattle.line_faults.specs.FaultNumbers.{fault_number, numbered};
-ghost use Rattle.line_faults.specs.Params.{are_taken};
+ghost use Rattle.line_faults.specs.Params.{takes_said};
 ghost use Rattle.line_faults.specs.Speaks.{Speaks, is_trait_said};
+ghost use Rattle.line_faults.specs.Variables.{have_two_kinds};
 
 use crate::fault::{FaultKind, Tests};
 use crate::header::{has_free_param, implements_built_in, is_foreign_auto};
@@ -47,7 +47,7 @@ fn takes_names<N: LineNames>(
     alloc: Global,
     statement: &Statement<'_>,
 ) -> Result<bool, AllocError>
-    ensures { IfOk result (λ b. b ≡ (option_map_or (λ n. is_some (known (N.sight names.now).before n)) (name_said (statement_of statement.now)) false || are_taken (items (N.sight names.now)) (params_said (statement_of statement.now)))) }
+    ensures { IfOk result (λ b. b ≡ takes_said (N.sight names.now).before (items (N.sight names.now)) (statement_of statement.now)) }
 {
     if declares_taken(names, statement) {
         return Ok(true);
@@ -66,7 +66,7 @@ fn is_trait(statement: &Statement<'_>) -> bool
 
 /// Whether there is a variable outside what a question asks, or one of two kinds.
 fn has_stray_variable(alloc: Global, found: &LineFound<'_>) -> Result<bool, AllocError>
-    ensures { IfOk result (λ b. b ≡ (is_any (map variable_in found.now.others.variables.items) || list_any (λ v. list_any (is_of_other_kind v) (map variable_in found.now.asked.variables.items)) (map variable_in found.now.asked.variables.items))) }
+    ensures { IfOk result (λ b. b ≡ (is_any (map variable_in found.now.others.variables.items) || have_two_kinds (map variable_in found.now.asked.variables.items))) }
 {
     if !found.others.variables.is_empty() {
         return Ok(true);

@@ -1,11 +1,11 @@
 //! Limits that a line passes.
-ghost use Rattle.std.specs.Prelude.{◌≡◌, ◌||◌, length, nat_lt, IfOk};
+ghost use Rattle.std.specs.Prelude.{◌≡◌, length, nat_lt, IfOk};
 ghost use Rattle.text_definitions.specs.Syntax.{Line};
-ghost use Rattle.text_definitions.specs.Faults.{param_limit, part_limit, passes_limit};
+ghost use Rattle.text_definitions.specs.Faults.{param_limit, passes_limit};
 ghost use Rattle.line_reader.specs.Lines.{ReadsLine};
-ghost use Rattle.line_reader.specs.Says.{params_said, count_said, has_long};
+ghost use Rattle.line_reader.specs.Says.{params_said};
 ghost use Rattle.line_reader.specs.Views.{statement_of};
-ghost use Rattle.line_faults.specs.Limits.{is_full_for};
+ghost use Rattle.line_faults.specs.Limits.{is_full_for, is_large_for};
 ghost use Rattle.line_faults.specs.LineFound.{IsLineFound};
 ghost use Rattle.line_faults.specs.Speaks.{Speaks};
 
@@ -52,7 +52,7 @@ fn has_many_params(statement: &Statement<'_>) -> bool
 
 /// Whether the statement without its types passes a limit.
 fn is_large<N: LineNames>(names: &N, statement: &Statement<'_>) -> bool
-    ensures { result ≡ (is_full_for (N.sight names.now).before (statement_of statement.now) || (has_long (statement_of statement.now) || (nat_lt param_limit (length (params_said (statement_of statement.now))) || nat_lt part_limit (count_said (statement_of statement.now))))) }
+    ensures { result ≡ is_large_for (N.sight names.now).before (statement_of statement.now) }
 {
     if is_full(names, statement) {
         return true;

@@ -7,7 +7,7 @@ ghost use Rattle.text_definitions.specs.Faults.{is_of_other_kind};
 ghost use Rattle.name_resolution.specs.Sorts.{sort_of};
 ghost use Rattle.name_resolution.specs.UsedNames.{Holds};
 ghost use Rattle.name_resolution.specs.Views.{variable_in};
-ghost use Rattle.line_faults.specs.Variables.{other_kind_names, HoldsKinds};
+ghost use Rattle.line_faults.specs.Variables.{other_kind_names, HoldsKinds, have_two_kinds};
 
 use name_resolution::{NameSet, Sort, Variable};
 use std::alloc::{AllocError, Global};
@@ -89,7 +89,7 @@ pub(crate) fn are_of_two_kinds(
     alloc: Global,
     variables: &[Variable<'_>],
 ) -> Result<bool, AllocError>
-    ensures { IfOk result (λ b. b ≡ list_any (λ v. list_any (is_of_other_kind v) (map variable_in variables.now)) (map variable_in variables.now)) }
+    ensures { IfOk result (λ b. b ≡ have_two_kinds (map variable_in variables.now)) }
 {
     let others = OtherKinds::of(alloc, variables)?;
     Ok(any_in(&others, variables))
