@@ -1,0 +1,10 @@
+pub mod Finding
+pub mod Crates
+pub mod Splitting
+pub mod Bare
+pub mod LineTests
+pub mod Passing
+pub mod OtherSorts
+pub mod Headers
+pub mod OwnNames
+pub mod Judging

@@ -1,0 +1,17 @@
+use Rattle.std.proofs.Common.{sym, ◌∙◌, arith, subst, map, drop}
+use Rattle.name_resolution.specs.Sorts.{sort_of}
+use Rattle.name_resolution.specs.UsedNames.{Holds}
+use Rattle.name_resolution.specs.Views.{variable_in}
+use Rattle.line_faults.specs.Variables.{other_kind_names}
+use Rattle.line_faults.proofs.OtherSorts.{other-before}
+use Rattle.line_faults.proofs.variables.names_but.Goals as goal
+
+pub loop-at-preserved-in-Continue-1 : goal.loop-at-preserved-in-Continue-1
+loop-at-preserved-in-Continue-1 c =
+    let vs = c.args.variables.now in
+    let p = sort_of c.args.sort in
+    let i = c.loop-at.invariant in
+    record {
+      within = omega (arith, i.within);
+      held = subst (Holds c.insert.new.self) (other-before p vs c.loop-at.at _ c.loop-at-test.true i.within (sym c.is_same.ensures ∙ c.if-not-is_same.true)) (c.in_ok-insert.ensures (other_kind_names p (map variable_in (drop c.loop-at.at vs))) i.held);
+    }

@@ -1,0 +1,17 @@
+-- Which limits a statement without its types passes.
+use Rattle.std.specs.Prelude.{Bool, ◌||◌, length, nat_le, nat_lt}
+use Rattle.text_definitions.specs.Declarations.{Declarations}
+use Rattle.text_definitions.specs.Faults.{crate_limit, question_limit, item_limit, last_items, param_limit, part_limit}
+use Rattle.line_reader.specs.Says.{params_said, count_said, has_long}
+use Rattle.line_reader.specs.Statement.{Statement, crate_statement, prove_statement, refute_statement}
+
+-- there are as many already as there may be; `core` isn't counted
+abbrev pub is_full_for : Declarations → Statement → Bool
+is_full_for d (crate_statement n us) = nat_lt crate_limit (length d.crates)
+is_full_for d (prove_statement c ps k ks) = nat_le question_limit (length d.questions)
+is_full_for d (refute_statement c ps k) = nat_le question_limit (length d.questions)
+is_full_for d s = nat_le item_limit (last_items d)
+
+-- it passes a limit by itself, without its types
+abbrev pub is_large_for : Declarations → Statement → Bool
+is_large_for d s = is_full_for d s || (has_long s || (nat_lt param_limit (length (params_said s)) || nat_lt part_limit (count_said s)))
