@@ -33,9 +33,10 @@ fn says_nothing(alloc: Global, cx: &mut Interner) -> Result<[bool; 3], Fault> {
 }
 
 #[test]
-fn an_answer_that_says_nothing_gives_each_variable_itself(rt: HostRuntime) {
+fn an_answer_that_says_nothing_gives_each_variable_itself(rt: HostRuntime) -> Result<(), Fault> {
     let mut cx = Interner::new(rt.alloc(), 100);
-    assert!(rt; says_nothing(rt.alloc(), &mut cx) == Ok([true; 3]));
+    assert!(rt; says_nothing(rt.alloc(), &mut cx)? == [true; 3]);
+    Ok(())
 }
 
 /// An answer with two values, which both are `u8`.
@@ -76,12 +77,13 @@ fn is_applied(
 
 // It is refused after `?3` was made `u8`.
 #[test]
-fn an_answer_is_applied_whole_or_not_at_all(rt: HostRuntime) {
+fn an_answer_is_applied_whole_or_not_at_all(rt: HostRuntime) -> Result<(), Fault> {
     for (other, value, wanted) in [
         (Sample::Byte, Sample::Byte, [true, true]),
         (Sample::Bool, THIRD, [false, true]),
     ] {
         let mut cx = Interner::new(rt.alloc(), 100);
-        assert!(rt; is_applied(rt.alloc(), &mut cx, other, value) == Ok(wanted));
+        assert!(rt; is_applied(rt.alloc(), &mut cx, other, value)? == wanted);
     }
+    Ok(())
 }

@@ -99,11 +99,17 @@ fn clauses_become_static(alloc: Global, cx: &mut Interner) -> Result<[bool; 2], 
     ])
 }
 
+/// Whether types and clauses do so.
+fn all_become_static(alloc: Global, cx: &mut Interner) -> Result<(bool, [bool; 2]), Fault> {
+    let ty = type_becomes_static(alloc, cx)?;
+    Ok((ty, clauses_become_static(alloc, cx)?))
+}
+
 #[test]
-fn free_lifetimes_become_static(rt: HostRuntime) {
+fn free_lifetimes_become_static(rt: HostRuntime) -> Result<(), Fault> {
     let mut cx = Interner::new(rt.alloc(), 8);
-    assert!(rt; type_becomes_static(rt.alloc(), &mut cx) == Ok(true));
-    assert!(rt; clauses_become_static(rt.alloc(), &mut cx) == Ok([true, true]));
+    assert!(rt; all_become_static(rt.alloc(), &mut cx)? == (true, [true, true]));
+    Ok(())
 }
 
 /// Whether a shift by one moves a lifetime of the innermost binder out by one, and whether a shift by none leaves it.
@@ -116,9 +122,10 @@ fn shifts(alloc: Global, cx: &mut Interner) -> Result<[bool; 2], Fault> {
 }
 
 #[test]
-fn a_shift_moves_outer_lifetimes(rt: HostRuntime) {
+fn a_shift_moves_outer_lifetimes(rt: HostRuntime) -> Result<(), Fault> {
     let mut cx = Interner::new(rt.alloc(), 8);
-    assert!(rt; shifts(rt.alloc(), &mut cx) == Ok([true, true]));
+    assert!(rt; shifts(rt.alloc(), &mut cx)? == [true, true]);
+    Ok(())
 }
 
 /// Whether the second lifetime of a binder is found to be wrong below it, with one lifetime and with two.
@@ -133,9 +140,10 @@ fn mismatches(cx: &mut Interner) -> Result<[bool; 3], Fault> {
 }
 
 #[test]
-fn a_variable_has_to_match_its_binder(rt: HostRuntime) {
+fn a_variable_has_to_match_its_binder(rt: HostRuntime) -> Result<(), Fault> {
     let mut cx = Interner::new(rt.alloc(), 16);
-    assert!(rt; mismatches(&mut cx) == Ok([true, true, false]));
+    assert!(rt; mismatches(&mut cx)? == [true, true, false]);
+    Ok(())
 }
 
 #[test]

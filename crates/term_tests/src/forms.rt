@@ -93,15 +93,16 @@ fn is_one_question(
 
 // Whatever the numbers of the unknowns are, but not whatever their pattern is.
 #[test]
-fn goals_are_one_question_up_to_the_numbers_of_unknowns(rt: HostRuntime) {
+fn goals_are_one_question_up_to_the_numbers_of_unknowns(rt: HostRuntime) -> Result<(), Fault> {
     let mut cx = Interner::new(rt.alloc(), 100);
     let (third, fifth) = (unknown(3), unknown(5));
     for (left, right, is_one) in [
         (Shape::VecOf(third), Shape::VecOf(fifth), true),
         (Shape::Pair(third, third), Shape::Pair(third, fifth), false),
     ] {
-        assert!(rt; is_one_question(rt.alloc(), &mut cx, left, right) == Ok(is_one));
+        assert!(rt; is_one_question(rt.alloc(), &mut cx, left, right)? == is_one);
     }
+    Ok(())
 }
 
 /// Whether no lifetime stands in what the question asks in a table without variables, and the arguments of its trait there.
@@ -132,7 +133,8 @@ fn form_is_opened(alloc: Global, cx: &mut Interner) -> Result<[bool; 3], Fault> 
 }
 
 #[test]
-fn a_form_gives_its_goal_with_the_next_unknown(rt: HostRuntime) {
+fn a_form_gives_its_goal_with_the_next_unknown(rt: HostRuntime) -> Result<(), Fault> {
     let mut cx = Interner::new(rt.alloc(), 100);
-    assert!(rt; form_is_opened(rt.alloc(), &mut cx) == Ok([true; 3]));
+    assert!(rt; form_is_opened(rt.alloc(), &mut cx)? == [true; 3]);
+    Ok(())
 }

@@ -11,25 +11,30 @@ use type_terms::kinds::{
 use type_terms::region::{Region, RegionKind};
 use type_terms::{Fault, TraitId};
 
+/// Whether a term was refused because a table is full.
+fn is_full<T: Drop>(answer: Result<T, Fault>) -> Result<bool, Fault> {
+    match answer {
+        Ok(_) => Ok(false),
+        Err(Fault::Full) => Ok(true),
+        Err(fault) => Err(fault),
+    }
+}
+
 /// Types that are made in a table for two: `u8` twice, `bool`, `char` and `bool`; which of them are one, and that `char` is refused.
 fn types_for_two(cx: &mut Interner) -> Result<[bool; 4], Fault> {
     let byte = cx.mk_ty(TyKind::Uint(UintTy::U8))?;
     let same = cx.mk_ty(TyKind::Uint(UintTy::U8))?;
     let boolean = cx.mk_ty(TyKind::Bool)?;
-    let full = cx.mk_ty(TyKind::Char);
+    let is_refused = is_full(cx.mk_ty(TyKind::Char))?;
     let found = cx.mk_ty(TyKind::Bool)?;
-    Ok([
-        byte == same,
-        byte == boolean,
-        boolean == found,
-        full == Err(Fault::Full),
-    ])
+    Ok([byte == same, byte == boolean, boolean == found, is_refused])
 }
 
 #[test]
-fn a_full_table_still_finds_its_terms(rt: HostRuntime) {
+fn a_full_table_still_finds_its_terms(rt: HostRuntime) -> Result<(), Fault> {
     let mut cx = Interner::new(rt.alloc(), 2);
-    assert!(rt; types_for_two(&mut cx) == Ok([true, false, true, true]));
+    assert!(rt; types_for_two(&mut cx)? == [true, false, true, true]);
+    Ok(())
 }
 
 /// Lists of two lifetimes, in this order or in the other.
@@ -86,8 +91,8 @@ fn lists_of_types(alloc: Global, cx: &mut Interner) -> Result<[bool; 4], Fault> 
     let has_two = cx.tys(there).len() == 2;
     let same = types(cx, alloc, true)?;
     let back = types(cx, alloc, false)?;
-    let is_full = cx.mk_tys(Vec::new(alloc)) == Err(Fault::Full);
-    Ok([has_two, there == same, there == back, is_full])
+    let is_refused = is_full(cx.mk_tys(Vec::new(alloc)))?;
+    Ok([has_two, there == same, there == back, is_refused])
 }
 
 /// The bounds `dyn for<'a> P + A` of a principal without arguments and an auto trait.
@@ -105,36 +110,42 @@ fn object_bounds(cx: &mut Interner, alloc: Global, auto_trait: u32) -> Result<Bo
     cx.mk_bounds(BoundsData { principal, autos })
 }
 
-/// What is known of bounds: their flags, their outer binder and their depth, where they have one auto trait.
-fn numbers_of_bounds(alloc: Global, cx: &mut Interner) -> Result<Option<[u32; 3]>, Fault> {
-    let bounds = object_bounds(cx, alloc, 1)?;
-    if cx.bounds(bounds).autos.len() != 1 {
-        return Ok(None);
-    }
-    let outer = cx.outer_exclusive_binder(bounds).index;
-    Ok(Some([cx.flags(bounds).0, outer, cx.depth(bounds)]))
+/// Constants, lists of lifetimes and lists of types.
+type Equal = ([bool; 3], [bool; 3], [bool; 4]);
+
+/// All of these.
+fn equal_terms(alloc: Global, cx: &mut Interner) -> Result<Equal, Fault> {
+    let constants = constants(cx)?;
+    let lifetimes = lists_of_lifetimes(alloc, cx)?;
+    let types = lists_of_types(alloc, cx)?;
+    Ok((constants, lifetimes, types))
 }
 
-/// Bounds that are made twice.
-fn bounds(alloc: Global, cx: &mut Interner) -> Result<[bool; 2], Fault> {
+#[test]
+fn equal_terms_have_one_handle(rt: HostRuntime) -> Result<(), Fault> {
+    let mut cx = Interner::new(rt.alloc(), 2);
+    let same = [true, true, false];
+    let wanted = (same, same, [true, true, false, true]);
+    assert!(rt; equal_terms(rt.alloc(), &mut cx)? == wanted);
+    Ok(())
+}
+
+/// Bounds that are made twice: which of them are one; and the flags, the outer binder and the depth of the first, and how many auto
+/// traits it has.
+fn bounds(alloc: Global, cx: &mut Interner) -> Result<([bool; 2], [u32; 3], usize), Fault> {
     let first = object_bounds(cx, alloc, 1)?;
+    let outer = cx.outer_exclusive_binder(first).index;
+    let numbers = [cx.flags(first).0, outer, cx.depth(first)];
+    let count = cx.bounds(first).autos.len();
     let same = object_bounds(cx, alloc, 1)?;
     let other = object_bounds(cx, alloc, 2)?;
-    Ok([first == same, first == other])
+    Ok(([first == same, first == other], numbers, count))
 }
 
 #[test]
-fn equal_terms_have_one_handle(rt: HostRuntime) {
+fn equal_bounds_have_one_handle(rt: HostRuntime) -> Result<(), Fault> {
     let mut cx = Interner::new(rt.alloc(), 2);
-    assert!(rt; constants(&mut cx) == Ok([true, true, false]));
-    assert!(rt; lists_of_lifetimes(rt.alloc(), &mut cx) == Ok([true, true, false]));
-    assert!(rt; lists_of_types(rt.alloc(), &mut cx) == Ok([true, true, false, true]));
-}
-
-#[test]
-fn equal_bounds_have_one_handle(rt: HostRuntime) {
-    let mut cx = Interner::new(rt.alloc(), 2);
-    assert!(rt; bounds(rt.alloc(), &mut cx) == Ok([true, false]));
-    let numbers = Some([TypeFlags::HAS_BINDER_VARS.0, 0, 1]);
-    assert!(rt; numbers_of_bounds(rt.alloc(), &mut cx) == Ok(numbers));
+    let numbers = [TypeFlags::HAS_BINDER_VARS.0, 0, 1];
+    assert!(rt; bounds(rt.alloc(), &mut cx)? == ([true, false], numbers, 1));
+    Ok(())
 }

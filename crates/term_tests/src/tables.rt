@@ -164,17 +164,23 @@ fn constrained_lifetime(table: &mut InferCtxt) -> Result<(RegionKind, usize), Fa
     Ok((lifetime.kind, table.region_constraints().len()))
 }
 
-#[test]
-fn variables_are_numbered_from_zero(rt: HostRuntime) {
-    let mut cx = Interner::new(rt.alloc(), 32);
-    let mut table = empty_table(rt.alloc(), &cx);
-    let second = TyKind::Infer(TyVid { index: 1 });
-    assert!(rt; second_unknown(&mut cx, &mut table) == Ok(second));
-    let lifetime = RegionKind::ReVar(RegionVid { index: 0 });
-    assert!(rt; constrained_lifetime(&mut table) == Ok((lifetime, 1)));
+/// Both.
+fn variables(alloc: Global, cx: &mut Interner) -> Result<(TyKind, (RegionKind, usize)), Fault> {
+    let mut table = empty_table(alloc, cx);
+    let second = second_unknown(cx, &mut table)?;
+    Ok((second, constrained_lifetime(&mut table)?))
 }
 
-/// Whether `V<?0>` is `V<u8>` once they are equated.
+#[test]
+fn variables_are_numbered_from_zero(rt: HostRuntime) -> Result<(), Fault> {
+    let mut cx = Interner::new(rt.alloc(), 32);
+    let second = TyKind::Infer(TyVid { index: 1 });
+    let lifetime = RegionKind::ReVar(RegionVid { index: 0 });
+    assert!(rt; variables(rt.alloc(), &mut cx)? == (second, (lifetime, 1)));
+    Ok(())
+}
+
+/// Whether `V<?0>` is `V<u8>` once they are equated in this table.
 fn list_gets_its_type(
     alloc: Global,
     cx: &mut Interner,
@@ -200,12 +206,18 @@ fn constant_gets_its_value(alloc: Global, cx: &mut Interner) -> Result<[bool; 2]
     Ok([is_first, table.shallow_resolve_const(cx, unknown) == three])
 }
 
+/// Both.
+fn values(alloc: Global, cx: &mut Interner) -> Result<(bool, [bool; 2]), EqError> {
+    let mut table = empty_table(alloc, cx);
+    let list = list_gets_its_type(alloc, cx, &mut table)?;
+    Ok((list, constant_gets_its_value(alloc, cx)?))
+}
+
 #[test]
-fn equations_give_unknowns_their_values(rt: HostRuntime) {
+fn equations_give_unknowns_their_values(rt: HostRuntime) -> Result<(), EqError> {
     let mut cx = Interner::new(rt.alloc(), 32);
-    let mut table = empty_table(rt.alloc(), &cx);
-    assert!(rt; list_gets_its_type(rt.alloc(), &mut cx, &mut table) == Ok(true));
-    assert!(rt; constant_gets_its_value(rt.alloc(), &mut cx) == Ok([true, true]));
+    assert!(rt; values(rt.alloc(), &mut cx)? == (true, [true, true]));
+    Ok(())
 }
 
 /// Whether two types are refused, and `?1` is without value then and no lifetime constrained.
@@ -239,7 +251,7 @@ fn is_undone(alloc: Global, cx: &mut Interner, table: &mut InferCtxt) -> Result<
 
 // The last one is refused after `?1` was made `bool`.
 #[test]
-fn a_refused_equation_leaves_the_table_unchanged(rt: HostRuntime) {
+fn a_refused_equation_leaves_the_table_unchanged(rt: HostRuntime) -> Result<(), Fault> {
     for (left, right) in [
         (Shape::VecOf(Sample::Byte), Shape::VecOf(Sample::Bool)),
         (Shape::Plain(SECOND), Shape::VecOf(SECOND)),
@@ -250,15 +262,17 @@ fn a_refused_equation_leaves_the_table_unchanged(rt: HostRuntime) {
     ] {
         let mut cx = Interner::new(rt.alloc(), 32);
         let mut table = empty_table(rt.alloc(), &cx);
-        assert!(rt; are_refused(rt.alloc(), &mut cx, &mut table, left, right) == Ok(true));
+        assert!(rt; are_refused(rt.alloc(), &mut cx, &mut table, left, right)?);
     }
+    Ok(())
 }
 
 #[test]
-fn a_roll_back_takes_a_value_away(rt: HostRuntime) {
+fn a_roll_back_takes_a_value_away(rt: HostRuntime) -> Result<(), EqError> {
     let mut cx = Interner::new(rt.alloc(), 32);
     let mut table = empty_table(rt.alloc(), &cx);
-    assert!(rt; is_undone(rt.alloc(), &mut cx, &mut table) == Ok(true));
+    assert!(rt; is_undone(rt.alloc(), &mut cx, &mut table)?);
+    Ok(())
 }
 
 /// `fn(&'a u8)` with this lifetime for `'a`.
@@ -323,9 +337,15 @@ fn has_input_and_output(alloc: Global, cx: &mut Interner) -> Result<[bool; 2], F
     Ok([sig.inputs(cx).len() == 1, sig.output(cx) == truth])
 }
 
+/// Both.
+fn signatures(alloc: Global, cx: &mut Interner) -> Result<(bool, [bool; 2]), Fault> {
+    let is_opened = is_opened(alloc, cx)?;
+    Ok((is_opened, has_input_and_output(alloc, cx)?))
+}
+
 #[test]
-fn an_opened_signature_has_a_lifetime_variable(rt: HostRuntime) {
+fn an_opened_signature_has_a_lifetime_variable(rt: HostRuntime) -> Result<(), Fault> {
     let mut cx = Interner::new(rt.alloc(), 32);
-    assert!(rt; is_opened(rt.alloc(), &mut cx) == Ok(true));
-    assert!(rt; has_input_and_output(rt.alloc(), &mut cx) == Ok([true, true]));
+    assert!(rt; signatures(rt.alloc(), &mut cx)? == (true, [true, true]));
+    Ok(())
 }

@@ -253,13 +253,19 @@ fn constant_stays(alloc: Global, cx: &mut Interner, fold: Fold) -> Result<bool, 
     Ok(folded == three)
 }
 
+/// Both.
+fn stay(alloc: Global, cx: &mut Interner, fold: Fold) -> Result<[bool; 2], Fault> {
+    let ty = type_stays(alloc, cx, fold)?;
+    Ok([ty, constant_stays(alloc, cx, fold)?])
+}
+
 #[test]
-fn identity_folds_give_the_same_handle(rt: HostRuntime) {
+fn identity_folds_give_the_same_handle(rt: HostRuntime) -> Result<(), Fault> {
     let mut cx = Interner::new(rt.alloc(), 8);
     for fold in FOLDS {
-        assert!(rt; type_stays(rt.alloc(), &mut cx, fold) == Ok(true));
-        assert!(rt; constant_stays(rt.alloc(), &mut cx, fold) == Ok(true));
+        assert!(rt; stay(rt.alloc(), &mut cx, fold)? == [true, true]);
     }
+    Ok(())
 }
 
 /// `bool` or `char`.
@@ -286,10 +292,12 @@ fn without_bool(alloc: Global, cx: &mut Interner, is_bool: bool) -> Result<Optio
 }
 
 #[test]
-fn a_refusal_below_a_struct_is_the_answer(rt: HostRuntime) {
+fn a_refusal_below_a_struct_is_the_answer(rt: HostRuntime) -> Result<(), Fault> {
     let mut cx = Interner::new(rt.alloc(), 8);
-    assert!(rt; without_bool(rt.alloc(), &mut cx, true) == Ok(None));
-    assert!(rt; without_bool(rt.alloc(), &mut cx, false) == Ok(Some(true)));
+    for (is_bool, wanted) in [(true, None), (false, Some(true))] {
+        assert!(rt; without_bool(rt.alloc(), &mut cx, is_bool)? == wanted);
+    }
+    Ok(())
 }
 
 /// What shows whether a lifetime stands in a value: a visit that looks for one; the flags; and the outer binder.
@@ -353,7 +361,7 @@ fn term_shows(alloc: Global, cx: &mut Interner, term: Term) -> Result<(Shown, bo
 }
 
 #[test]
-fn a_bound_lifetime_shows_in_terms_and_stays(rt: HostRuntime) {
+fn a_bound_lifetime_shows_in_terms_and_stays(rt: HostRuntime) -> Result<(), Fault> {
     let mut cx = Interner::new(rt.alloc(), 8);
     let wanted = ((true, TypeFlags::HAS_RE_BOUND.0, 1), true);
     for term in [
@@ -363,8 +371,9 @@ fn a_bound_lifetime_shows_in_terms_and_stays(rt: HostRuntime) {
         Term::Ty,
         Term::Tys,
     ] {
-        assert!(rt; term_shows(rt.alloc(), &mut cx, term) == Ok(wanted));
+        assert!(rt; term_shows(rt.alloc(), &mut cx, term)? == wanted);
     }
+    Ok(())
 }
 
 /// A value in which it stands: one that is made of terms. The second clause is under the lifetime's binder.
@@ -402,7 +411,9 @@ fn value_shows(alloc: Global, cx: &mut Interner, value: Value) -> Result<(Shown,
 }
 
 #[test]
-fn a_bound_lifetime_leads_out_of_clauses_but_not_of_its_binder(rt: HostRuntime) {
+fn a_bound_lifetime_leads_out_of_clauses_but_not_of_its_binder(
+    rt: HostRuntime,
+) -> Result<(), Fault> {
     let mut cx = Interner::new(rt.alloc(), 8);
     for (value, outer) in [
         (Value::Clause, 1),
@@ -412,8 +423,9 @@ fn a_bound_lifetime_leads_out_of_clauses_but_not_of_its_binder(rt: HostRuntime) 
         (Value::FnSig, 1),
     ] {
         let wanted = ((true, TypeFlags::HAS_RE_BOUND.0, outer), true);
-        assert!(rt; value_shows(rt.alloc(), &mut cx, value) == Ok(wanted));
+        assert!(rt; value_shows(rt.alloc(), &mut cx, value)? == wanted);
     }
+    Ok(())
 }
 
 /// Bounds of one auto trait.
@@ -448,12 +460,23 @@ fn parameter_shows(alloc: Global, cx: &mut Interner) -> Result<[bool; 4], Fault>
     ])
 }
 
+/// What shows in auto traits and in a constant, and whether they stay.
+fn rest_shows(alloc: Global, cx: &mut Interner) -> Result<[(Shown, bool); 2], Fault> {
+    let bounds = bounds_show(alloc, cx)?;
+    Ok([bounds, constant_shows(alloc, cx)?])
+}
+
 #[test]
-fn nothing_shows_in_constants_and_auto_traits_but_a_parameter_below_a_struct(rt: HostRuntime) {
+fn nothing_shows_in_constants_and_auto_traits(rt: HostRuntime) -> Result<(), Fault> {
     let mut cx = Interner::new(rt.alloc(), 8);
     let nothing = ((false, 0, 0), true);
-    assert!(rt; bounds_show(rt.alloc(), &mut cx) == Ok(nothing));
-    assert!(rt; constant_shows(rt.alloc(), &mut cx) == Ok(nothing));
-    let parameter = [true, false, true, false];
-    assert!(rt; parameter_shows(rt.alloc(), &mut cx) == Ok(parameter));
+    assert!(rt; rest_shows(rt.alloc(), &mut cx)? == [nothing, nothing]);
+    Ok(())
+}
+
+#[test]
+fn a_parameter_below_a_struct_is_seen(rt: HostRuntime) -> Result<(), Fault> {
+    let mut cx = Interner::new(rt.alloc(), 8);
+    assert!(rt; parameter_shows(rt.alloc(), &mut cx)? == [true, false, true, false]);
+    Ok(())
 }

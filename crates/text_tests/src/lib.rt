@@ -6,6 +6,8 @@
 #[cfg(test)]
 mod lines;
 #[cfg(test)]
+mod printed;
+#[cfg(test)]
 mod runs;
 #[cfg(test)]
 mod sessions;

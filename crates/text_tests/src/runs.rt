@@ -1,11 +1,19 @@
 //! From bytes to bytes, also where reading or writing fails.
 use coherence::{Limits, RunFault, Status, run};
+use std::alloc::Global;
 use std::io;
 use std::io::{Read, Write};
-use std::test::Fail;
 
-fn limits() -> Result<Limits, Fail> {
-    Ok(Limits::new(8, 16_777_216).ok_or("limits")?)
+/// How a run ended, and how many bytes of its answer it has written.
+type Ended = (Result<Status, RunFault>, usize);
+
+/// How it ended, if what it has written is the beginning of this answer.
+fn ended(status: Result<Status, RunFault>, written: &[u8], answer: &[u8]) -> Option<Ended> {
+    if answer.starts_with(written) {
+        Some((status, written.len()))
+    } else {
+        None
+    }
 }
 
 /// Gives one byte at a time, and fails once `left` reads are done.
@@ -30,25 +38,25 @@ impl Read for FailingReader {
     }
 }
 
+/// How a run ends whose reader fails once `left` reads are done.
+fn with_reads(alloc: Global, left: usize) -> Option<Ended> {
+    let limits = Limits::new(8, 16_777_216)?;
+    let mut reader = FailingReader {
+        bytes: b"crate base",
+        left,
+    };
+    let mut output = Vec::new(alloc);
+    let status = run(alloc, &mut reader, &mut output, limits);
+    ended(status, &output, b"crate base: accepted\n")
+}
+
 // Ten bytes are read, and then the end.
 #[test]
-fn a_reader_that_fails_ends_the_run(rt: HostRuntime) -> Result<(), Fail> {
-    for left in 0..12usize {
-        let mut reader = FailingReader {
-            bytes: b"crate base",
-            left,
-        };
-        let mut output = Vec::new(rt.alloc());
-        let status = run(rt.alloc(), &mut reader, &mut output, limits()?);
-        if left < 11 {
-            assert_eq!(rt; status, Err(RunFault::Read));
-            assert!(rt; output.is_empty());
-        } else {
-            assert_eq!(rt; status, Ok(Status::Done));
-            assert!(rt; output.as_slice() == b"crate base: accepted\n".as_slice());
-        }
+fn a_reader_that_fails_ends_the_run(rt: HostRuntime) {
+    for left in 0..11usize {
+        assert!(rt; with_reads(rt.alloc(), left) == Some((Err(RunFault::Read), 0)));
     }
-    Ok(())
+    assert!(rt; with_reads(rt.alloc(), 11) == Some((Ok(Status::Done), 21)));
 }
 
 /// Takes one byte at a time, and fails or takes none once `left` are taken.
@@ -80,31 +88,29 @@ impl Write for ShortWriter {
     }
 }
 
+/// How a run ends whose writer fails, or takes none, once `left` bytes are taken.
+fn with_room(alloc: Global, left: usize, fails: bool) -> Option<Ended> {
+    let limits = Limits::new(8, 16_777_216)?;
+    let mut reader =
+        b"crate base\ntrait Show\ncrate a uses base\nstruct A\nimpl Show for A".as_slice();
+    let taken = Vec::new(alloc);
+    let mut writer = ShortWriter { taken, left, fails };
+    let status = run(alloc, &mut reader, &mut writer, limits);
+    ended(
+        status,
+        &writer.taken,
+        b"crate base: accepted\ncrate a: accepted\n",
+    )
+}
+
+// The whole answer has 39 bytes.
 #[test]
-fn a_writer_that_stops_has_a_prefix(rt: HostRuntime) -> Result<(), Fail> {
-    let wanted: &[u8] = b"crate base: accepted\ncrate a: accepted\n";
+fn a_writer_that_stops_has_a_prefix(rt: HostRuntime) {
     for fails in [true, false] {
-        for left in 0..wanted.len() + 1 {
-            let mut reader =
-                b"crate base\ntrait Show\ncrate a uses base\nstruct A\nimpl Show for A".as_slice();
-            let mut writer = ShortWriter {
-                taken: Vec::new(rt.alloc()),
-                left,
-                fails,
-            };
-            let status = run(rt.alloc(), &mut reader, &mut writer, limits()?);
-            let whole = left == wanted.len();
-            assert!(rt;
-                status
-                    == if whole {
-                        Ok(Status::Done)
-                    } else {
-                        Err(RunFault::Write)
-                    }
-            );
-            assert_eq!(rt; writer.taken.len(), left);
-            assert!(rt; wanted.starts_with(&writer.taken));
+        for left in 0..39usize {
+            let stopped = Some((Err(RunFault::Write), left));
+            assert!(rt; with_room(rt.alloc(), left, fails) == stopped);
         }
+        assert!(rt; with_room(rt.alloc(), 39, fails) == Some((Ok(Status::Done), 39)));
     }
-    Ok(())
 }

@@ -8,6 +8,7 @@ use coherence::{Limits, ProveAnswer, Session, Verdict, parse_depth};
 use coherence_text::{QuestionEntry, Workspace, parse};
 use std::alloc::Global;
 use std::test::Fail;
+use type_terms::Fault;
 
 #[test]
 fn depths_and_limits_have_their_ranges(rt: HostRuntime) {
@@ -37,25 +38,25 @@ fn question_at(workspace: &Workspace, place: usize) -> QuestionEntry
     workspace.question_entries()[place]
 }
 
-/// The verdict on the crate that asks the question at a place, and the question's answer, on a session of its own, each asked
-/// again; and how many frames that took.
-fn asked_twice(
-    alloc: Global,
-    workspace: &Workspace,
-    place: usize,
-) -> Result<([Verdict; 2], [ProveAnswer; 2], u64), Fail>
+/// A verdict and an answer, each asked for twice, and how many frames that took.
+type Asked = ([Verdict; 2], [ProveAnswer; 2], u64);
+
+/// The verdict on the crate that asks the question at a place, and the question's answer, on a session of its own.
+fn asked_twice(alloc: Global, workspace: &Workspace, place: usize) -> Result<Option<Asked>, Fault>
     requires parsed { IsOfText workspace.now }
     requires numbered { IsNumbered workspace.now }
     requires few { IsFew workspace.now 1048578 }
     requires there { place < length workspace.now.questions }
 {
-    let limits = Limits::new(8, 16_777_216).ok_or("limits")?;
+    let Some(limits) = Limits::new(8, 16_777_216) else {
+        return Ok(None);
+    };
     let question = question_at(workspace, place);
     let mut session = Session::new(alloc, workspace, question.asker, limits)?;
     let number = place as u32 + 1;
     let verdicts = [session.check_crate()?, session.check_crate()?];
     let answers = [session.prove(number)?, session.prove(number)?];
-    Ok((verdicts, answers, session.frames()))
+    Ok(Some((verdicts, answers, session.frames())))
 }
 
 #[test]
@@ -66,9 +67,9 @@ fn a_session_is_asked_again(rt: HostRuntime) -> Result<(), Fail> {
     let _numbered = workspace.crates();
     assert!(rt; workspace.question_entries().len() == 2);
     let accepted = [Verdict::Accepted, Verdict::Accepted];
-    let first = asked_twice(rt.alloc(), &workspace, 0)?;
-    assert!(rt; first == (accepted, [ProveAnswer::Yes, ProveAnswer::Yes], 0));
-    let second = asked_twice(rt.alloc(), &workspace, 1)?;
-    assert!(rt; second == (accepted, [ProveAnswer::Unproved, ProveAnswer::Unproved], 0));
+    let yes = Some((accepted, [ProveAnswer::Yes, ProveAnswer::Yes], 0));
+    assert!(rt; asked_twice(rt.alloc(), &workspace, 0) == Ok(yes));
+    let unproved = Some((accepted, [ProveAnswer::Unproved, ProveAnswer::Unproved], 0));
+    assert!(rt; asked_twice(rt.alloc(), &workspace, 1) == Ok(unproved));
     Ok(())
 }

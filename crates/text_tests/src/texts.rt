@@ -7,28 +7,31 @@ use type_terms::{AdtId, CrateId, ImplId, TraitId};
 const TWO_CRATES: &[u8] =
     b"// two crates\ncrate base\nstruct A\ntrait Show\nimpl Show for u8\nimpl Show for A\n\ncrate next uses base\nimpl Show for !\nprove in next u8: Show\nprove in base A : Show";
 
-/// The name of a crate, and how many crates it sees, if it is there.
-fn name_and_view(
+/// How many crates this one sees, if it has this name.
+fn view_of(
     alloc: Global,
     workspace: &Workspace,
-    id: CrateId,
-) -> Result<(&[u8], usize), AllocError> {
-    if (id.index as usize) < workspace.crates().len() {
-        Ok((workspace.crate_name(id), workspace.view(alloc, id)?.len()))
-    } else {
-        Ok((b"", 0))
+    index: u32,
+    name: &[u8],
+) -> Result<Option<usize>, AllocError> {
+    let id = CrateId { index };
+    if index as usize >= workspace.crates().len() || workspace.crate_name(id) != name {
+        return Ok(None);
     }
+    Ok(Some(workspace.view(alloc, id)?.len()))
 }
 
 #[test]
 fn a_crate_sees_core_and_what_it_uses(rt: HostRuntime) -> Result<(), Fail> {
     let workspace = parse(rt.alloc(), TWO_CRATES)?;
-    let names: [&[u8]; 3] = [b"core", b"base", b"next"];
-    assert_eq!(rt; workspace.crates().len(), 3);
-    for (place, id) in workspace.crates().iter().enumerate() {
-        let (name, seen) = name_and_view(rt.alloc(), &workspace, *id)?;
-        assert!(rt; names.get(place).copied() == Some(name));
-        assert_eq!(rt; seen, place + 1);
+    let names: [(u32, &[u8], Option<usize>); 4] = [
+        (0, b"core", Some(1)),
+        (1, b"base", Some(2)),
+        (2, b"next", Some(3)),
+        (3, b"", None),
+    ];
+    for (index, name, seen) in names {
+        assert!(rt; view_of(rt.alloc(), &workspace, index, name) == Ok(seen));
     }
     Ok(())
 }
@@ -42,26 +45,35 @@ fn place_of(workspace: &Workspace, id: ImplId) -> (u32, u32) {
     (owner.index, number)
 }
 
+/// The crates of a trait and of a struct.
+fn owners(workspace: &Workspace) -> [Option<CrateId>; 2] {
+    [
+        workspace.trait_owner(TraitId { index: 9 }),
+        workspace.struct_owner(AdtId { index: 1 }),
+    ]
+}
+
+/// The crates that ask the two questions, and how many impls have what the first asks for their header.
+fn askers(workspace: &Workspace) -> Option<([u32; 2], usize)> {
+    match workspace.question_entries() {
+        [first, second] => {
+            let same = workspace.impls_with_header(first.trait_id, first.self_type);
+            Some(([first.asker.index, second.asker.index], same.len()))
+        }
+        _ => None,
+    }
+}
+
 // The 39 impls and the nine traits of `core` come before the text's own.
 #[test]
 fn items_and_questions_belong_to_their_crates(rt: HostRuntime) -> Result<(), Fail> {
     let workspace = parse(rt.alloc(), TWO_CRATES)?;
     for (index, place) in [(39, (1, 1)), (40, (1, 2)), (41, (2, 1)), (42, (0, 0))] {
-        assert_eq!(rt; place_of(&workspace, ImplId { index }), place);
+        assert!(rt; place_of(&workspace, ImplId { index }) == place);
     }
-    let owners = [
-        workspace.trait_owner(TraitId { index: 9 }),
-        workspace.struct_owner(AdtId { index: 1 }),
-    ];
     let base = Some(CrateId { index: 1 });
-    assert!(rt; owners == [base, base]);
-    assert_eq!(rt; workspace.questions().len(), 2);
-    let [first, second] = workspace.question_entries() else {
-        return Err("two questions".into());
-    };
-    assert!(rt; [first.asker.index, second.asker.index] == [2, 1]);
-    let same = workspace.impls_with_header(first.trait_id, first.self_type);
-    assert_eq!(rt; same.len(), 1);
+    assert!(rt; owners(&workspace) == [base, base]);
+    assert!(rt; askers(&workspace) == Some(([2, 1], 1)));
     Ok(())
 }
 
