@@ -2,4 +2,6 @@
 #![tactic(auto)]
 
 #[cfg(test)]
+mod samples;
+#[cfg(test)]
 mod walks;

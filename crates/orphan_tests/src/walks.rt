@@ -1,61 +1,42 @@
-//! Headers and references of a crate 2 with `struct Loc<T>`, which sees a crate 1 with `trait Num`.
-ghost use Rattle.std.specs.Prelude.{IfOk};
-ghost use Rattle.type_terms.specs.Terms.{Has, types, args_lists};
+//! Headers and references of a crate that sees another one.
 ghost use Rattle.infer_table.specs.Content.{Ready};
 
-use declarations::declarations::Declarations;
-use declarations::items::{AdtDef, TraitDef};
+use crate::samples::{Around, Asked, Inmost, Sample, make, make_reference, shop};
 use infer_table::infer_ctxt::InferCtxt;
-use orphan_check::errors::{Conflict, InCrate, OrphanCheckErr, OrphanCheckMode};
+use orphan_check::errors::{
+    Conflict, InCrate, IsFirstInputType, OrphanCheckErr, OrphanCheckMode, WalkError,
+};
 use orphan_check::knowable::trait_ref_is_knowable;
-use orphan_check::normalize::AlreadyNormal;
+use orphan_check::normalize::{AlreadyNormal, Normalize};
 use orphan_check::orphan::orphan_check_trait_ref;
 use std::alloc::Global;
-use term_folds::predicate::TraitRef;
+use std::test::Fail;
+use type_terms::Fault;
 use type_terms::interner::Interner;
-use type_terms::kinds::{GenericArgKind, GenericArgs, Mutability, Ty, TyKind, UintTy};
-use type_terms::number::TyVid;
-use type_terms::region::{Region, RegionKind};
-use type_terms::{AdtId, CrateId, Fault, TraitId};
+use type_terms::kinds::{Ty, TyKind};
 
-/// The self type of a reference to Num.
+/// Answers its input, or refuses unsigned integers with the error 5.
 #[derive(Clone, Copy)]
-enum Sample {
-    /// `u8`
-    Byte,
-    /// `&'static ?0`
-    ReferenceToUnknown,
-    /// `Loc<u8>`
-    Loc,
+struct Reader {
+    refuses: bool,
 }
 
-/// Makes the type.
-fn make(alloc: Global, cx: &mut Interner, sample: Sample) -> Result<Ty, Fault>
-    ensures { IfOk result (λ ty. Has cx.new.entries types ty.0) }
-{
-    match sample {
-        Sample::Byte => cx.mk_ty(TyKind::Uint(UintTy::U8)),
-        Sample::ReferenceToUnknown => {
-            let unknown = cx.mk_ty(TyKind::Infer(TyVid { index: 0 }))?;
-            let region = Region {
-                kind: RegionKind::ReStatic,
-            };
-            cx.mk_ty(TyKind::Ref(region, unknown, Mutability::Not))
+impl Normalize for Reader {
+    type Error = u32;
+
+    ghost use Rattle.orphan_tests.specs.Refusing.{unless_byte};
+
+    ghost answers = { λ r t. unless_byte r.refuses t };
+
+    fn normalize(&self, cx: &Interner, ty: Ty) -> Result<Ty, u32> {
+        if !self.refuses {
+            return Ok(ty);
         }
-        Sample::Loc => {
-            let byte = cx.mk_ty(TyKind::Uint(UintTy::U8))?;
-            let args = cx.mk_args(vec![in alloc; GenericArgKind::Ty(byte)]?)?;
-            cx.mk_ty(TyKind::Adt(AdtId { index: 0 }, args))
+        match cx.kind(ty) {
+            TyKind::Uint(_) => Err(5),
+            _ => Ok(ty),
         }
     }
-}
-
-/// Makes the arguments of a reference.
-fn make_args(alloc: Global, cx: &mut Interner, sample: Sample) -> Result<GenericArgs, Fault>
-    ensures { IfOk result (λ args. Has cx.new.entries args_lists args.0) }
-{
-    let ty = make(alloc, cx, sample)?;
-    cx.mk_args(vec![in alloc; GenericArgKind::Ty(ty)]?)
 }
 
 /// A table without variables.
@@ -66,77 +47,160 @@ fn empty_table(alloc: Global, cx: &Interner) -> InferCtxt
     InferCtxt::new(alloc)
 }
 
-/// What crate 2 sees.
-fn shop(alloc: Global, cx: &Interner) -> Result<Declarations, Fault> {
-    let mut decls = Declarations::new(alloc, CrateId { index: 2 });
-    let (params, fields) = (Vec::new(alloc), Vec::new(alloc));
-    let loc = AdtDef::new(alloc, cx, CrateId { index: 2 }, false, params, fields)?;
-    decls.add_struct(AdtId { index: 0 }, loc)?;
-    let num = TraitDef {
-        home: CrateId { index: 1 },
-        is_fundamental: false,
-        is_auto: false,
-        params: Vec::new(alloc),
-        bounds: Vec::new(alloc),
-    };
-    decls.add_trait(TraitId { index: 0 }, num)?;
-    Ok(decls)
+/// What an orphan check answers, but for the types.
+#[derive(Clone, Copy, PartialEq, Eq, Debug)]
+enum Verdict {
+    Passes,
+    Uncovered,
+    NonLocal,
+    Refused(u32),
+    Deep,
 }
 
-/// Whether the reference is known.
-fn known(alloc: Global, sample: Sample) -> Result<Result<(), Conflict>, Fault> {
-    let mut cx = Interner::new(alloc, 100);
-    let args = make_args(alloc, &mut cx, sample)?;
-    let decls = shop(alloc, &cx)?;
-    let infcx = empty_table(alloc, &cx);
-    let def_id = TraitId { index: 0 };
-    let trait_ref = TraitRef { def_id, args };
-    match trait_ref_is_knowable(alloc, &cx, &infcx, &decls, trait_ref, 2, &AlreadyNormal) {
-        Ok(answer) => Ok(answer),
-        Err(_) => Err(Fault::Full),
+/// The open place and the local type behind it, or the leaf that comes first and one more.
+type Found = (Verdict, Option<Ty>, Option<Ty>);
+
+/// What the check answers, if it is not that memory was refused.
+fn found(answer: Result<Result<(), OrphanCheckErr<Ty>>, WalkError<u32>>) -> Option<Found> {
+    match answer {
+        Ok(Ok(())) => Some((Verdict::Passes, None, None)),
+        Ok(Err(OrphanCheckErr::UncoveredTyParams(open))) => {
+            Some((Verdict::Uncovered, Some(open.uncovered), open.local_ty))
+        }
+        Ok(Err(OrphanCheckErr::NonLocalInputType(leaves))) => match &leaves[..] {
+            [(ty, IsFirstInputType::Yes)] => Some((Verdict::NonLocal, Some(*ty), None)),
+            [(ty, IsFirstInputType::Yes), (other, IsFirstInputType::No)] => {
+                Some((Verdict::NonLocal, Some(*ty), Some(*other)))
+            }
+            _ => None,
+        },
+        Err(WalkError::Normalize(error)) => Some((Verdict::Refused(error), None, None)),
+        Err(WalkError::Deep) => Some((Verdict::Deep, None, None)),
+        Err(WalkError::Memory) => None,
     }
 }
 
-/// How many leaves the error of crate 2 lists, or none where it may write an impl of the header.
-fn leaves(alloc: Global, sample: Sample) -> Result<Option<usize>, Fault> {
+/// Makes the type, if there is one.
+fn make_some(
+    alloc: Global,
+    cx: &mut Interner,
+    sample: Option<Sample>,
+) -> Result<Option<Ty>, Fault> {
+    match sample {
+        Some(sample) => Ok(Some(make(alloc, cx, sample)?)),
+        None => Ok(None),
+    }
+}
+
+/// Whether the check of crate 2 answers so to the header.
+fn holds(
+    alloc: Global,
+    header: Asked,
+    limit: u32,
+    refuses: bool,
+    expected: (Verdict, Option<Sample>, Option<Sample>),
+) -> Result<bool, Fault> {
     let mut cx = Interner::new(alloc, 100);
-    let args = make_args(alloc, &mut cx, sample)?;
+    let ty = make_some(alloc, &mut cx, expected.1)?;
+    let other = make_some(alloc, &mut cx, expected.2)?;
+    let header = make_reference(alloc, &mut cx, header)?;
     let decls = shop(alloc, &cx)?;
     let infcx = empty_table(alloc, &cx);
-    let def_id = TraitId { index: 0 };
-    let trait_ref = TraitRef { def_id, args };
     let mode = OrphanCheckMode::Proper;
     let local = InCrate::Local { mode };
-    match orphan_check_trait_ref(
-        alloc,
-        &cx,
-        &infcx,
-        &decls,
-        trait_ref,
-        local,
-        2,
-        &AlreadyNormal,
-    ) {
-        Ok(Ok(())) => Ok(None),
-        Ok(Err(OrphanCheckErr::NonLocalInputType(leaves))) => Ok(Some(leaves.len())),
-        Ok(Err(OrphanCheckErr::UncoveredTyParams(_))) => Ok(Some(0)),
-        Err(_) => Err(Fault::Full),
+    let reader = Reader { refuses };
+    let answer = orphan_check_trait_ref(alloc, &cx, &infcx, &decls, header, local, limit, &reader);
+    Ok(found(answer) == Some((expected.0, ty, other)))
+}
+
+/// Whether the reference is known to crate 2.
+fn known(alloc: Global, asked: Asked) -> Result<Result<(), Conflict>, Fault> {
+    let mut cx = Interner::new(alloc, 100);
+    let trait_ref = make_reference(alloc, &mut cx, asked)?;
+    let decls = shop(alloc, &cx)?;
+    let infcx = empty_table(alloc, &cx);
+    match trait_ref_is_knowable(alloc, &cx, &infcx, &decls, trait_ref, 4, &AlreadyNormal) {
+        Ok(answer) => Ok(answer),
+        Err(_) => Err(Fault::Memory),
     }
 }
 
 #[test]
-fn references_are_known_or_other_crates_may_add_impls(rt: HostRuntime) {
-    let rows = [
-        (Sample::Byte, Err(Conflict::Upstream), Some(1)),
+fn headers_keep_the_rule_or_break_it(rt: HostRuntime) -> Result<(), Fail> {
+    let unknown = Sample(&[], Inmost::Unknown);
+    let byte = Sample(&[], Inmost::Byte);
+    let truth = Sample(&[], Inmost::Truth);
+    let both = Sample(&[], Inmost::ByteAndTruth);
+    let to_byte = Sample(&[Around::Reference], Inmost::Byte);
+    let to_truth = Sample(&[Around::Reference], Inmost::Truth);
+    let vec = Sample(&[Around::Vec], Inmost::Unknown);
+    let boxed = Sample(&[Around::Box], Inmost::Unknown);
+    let loc = Sample(&[Around::Loc], Inmost::Unknown);
+    let vec_of_loc = Sample(&[Around::Vec, Around::Loc], Inmost::Unknown);
+    let loc_of_vec = Sample(&[Around::Loc, Around::Vec], Inmost::Unknown);
+    let boxed_vec = Sample(&[Around::Box, Around::Vec, Around::Loc], Inmost::Unknown);
+    let boxed_loc = Sample(&[Around::Box, Around::Loc], Inmost::Byte);
+    let pair = Sample(&[Around::Pair, Around::Box, Around::Loc], Inmost::Byte);
+    let passes = (Verdict::Passes, None, None);
+    for (header, limit, refuses, expected) in [
+        (Asked::Tr(vec, loc), 4, false, passes),
         (
-            Sample::ReferenceToUnknown,
-            Err(Conflict::Downstream),
-            Some(0),
+            Asked::Tr(boxed, loc),
+            4,
+            false,
+            (Verdict::Uncovered, Some(unknown), Some(loc)),
         ),
-        (Sample::Loc, Ok(()), None),
-    ];
-    for (sample, answer, listed) in rows {
-        assert!(rt; known(rt.alloc(), sample) == Ok(answer));
-        assert!(rt; leaves(rt.alloc(), sample) == Ok(listed));
+        (
+            Asked::Num(boxed_vec),
+            4,
+            false,
+            (Verdict::NonLocal, Some(vec_of_loc), None),
+        ),
+        (
+            Asked::Num(both),
+            2,
+            false,
+            (Verdict::NonLocal, Some(both), None),
+        ),
+        (Asked::Tr(to_byte, loc), 2, false, passes),
+        (
+            Asked::Tr(to_truth, byte),
+            2,
+            false,
+            (Verdict::NonLocal, Some(truth), Some(byte)),
+        ),
+        (Asked::Num(boxed_loc), 4, false, passes),
+        (Asked::Num(boxed_loc), 1, false, (Verdict::Deep, None, None)),
+        (Asked::Num(loc_of_vec), 4, false, passes),
+        (Asked::Num(pair), 4, false, passes),
+        (Asked::Num(byte), 1, true, (Verdict::Refused(5), None, None)),
+        (
+            Asked::Tr(unknown, byte),
+            1,
+            true,
+            (Verdict::Uncovered, Some(unknown), None),
+        ),
+    ] {
+        assert!(rt; holds(rt.alloc(), header, limit, refuses, expected)?);
     }
+    Ok(())
+}
+
+#[test]
+fn references_are_known_or_other_crates_may_add_impls(rt: HostRuntime) -> Result<(), Fail> {
+    for (sample, answer) in [
+        (Sample(&[], Inmost::Byte), Err(Conflict::Upstream)),
+        (
+            Sample(&[Around::Reference], Inmost::Unknown),
+            Err(Conflict::Downstream),
+        ),
+        (
+            Sample(&[Around::Own], Inmost::Unknown),
+            Err(Conflict::Downstream),
+        ),
+        (Sample(&[Around::Loc], Inmost::Byte), Ok(())),
+    ] {
+        assert!(rt; known(rt.alloc(), Asked::Num(sample))? == answer);
+    }
+    Ok(())
 }

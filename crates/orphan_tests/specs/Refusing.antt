@@ -1,0 +1,9 @@
+-- What a normalizer of the tests answers.
+use Rattle.std.specs.Prelude.{ℕ, Bool, true, Result, Ok, Err}
+use Rattle.model.specs.Label.{uint}
+use Rattle.model.specs.Trees.{Trees, tree}
+
+-- Each type is answered as it is; if it refuses bytes, unsigned integers are refused with the error 5.
+abbrev pub unless_byte : Bool → Trees → Result Trees ℕ
+unless_byte true (tree (uint n) c o) = Err 5
+unless_byte refuses t = Ok t
