@@ -1,6 +1,6 @@
 -- Terms that give an impl's parameters these values, whatever the placeholders of the goal stand for.
-use Rattle.std.proofs.Common.{◌≡◌, ℕ, zero, suc, ◌+◌, true, List, [], ◌∷◌, map, length, refl, sym, ◌∙◌, ap, subst, Some}
-use Rattle.model.specs.Label.{Label, Sort, of_type, of_const, of_lifetime, infer}
+use Rattle.std.proofs.Common.{◌≡◌, ℕ, suc, ◌+◌, true, List, [], ◌∷◌, map, length, refl, sym, ◌∙◌, ap, Some}
+use Rattle.model.specs.Label.{Sort, of_type, of_const, of_lifetime, infer}
 use Rattle.model.specs.Trees.{Trees, leaf, sort_of}
 use Rattle.infer_table.specs.Solutions.{resolved, HasValues}
 use Rattle.infer_table.specs.Unification.{TableTrees}
@@ -11,7 +11,7 @@ use Rattle.std.specs.Prelude.{None}
 use Rattle.evaluation.specs.Lists.{Every}
 use Rattle.table_laws.specs.Instances.{read_with, term_at}
 use Rattle.table_laws.specs.Content.{Values, Terms, standing, reading_of}
-use Rattle.table_laws.specs.Frames.{kind_at, FrameTable, IsMadeFrame, Allows, types_in, consts_in, labels_from, first_content, unknown, labels_for}
+use Rattle.table_laws.specs.Frames.{kind_at, FrameTable, IsMadeFrame, Allows, consts_in, labels_from, first_content, unknown, labels_for}
 use Rattle.table_laws.proofs.Applying.{for-bindings}
 use Rattle.table_laws.proofs.Beginning.{begin-made}
 use Rattle.table_laws.proofs.Fresh.{fresh-made}

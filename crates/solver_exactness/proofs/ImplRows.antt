@@ -2,20 +2,19 @@
 use Rattle.std.proofs.Common.{◌≡◌, ◌⊎◌, inl, inr, ℕ, zero, suc, ◌+◌, ◌<◌, arith, zero-add, ◌==◌, Bool, true, false, not, ◌&&◌, ◌||◌, if◌then◌else◌, List, [], ◌∷◌, ◌++◌, map, length, refl, sym, ◌∙◌, ap, subst, Some}
 use Rattle.std.specs.List.{flat_map}
 use Rattle.model.specs.Label.{Label, Sort, of_type, of_const, of_lifetime, static, param, placeholder, infer, canonical, bound}
-use Rattle.model.specs.Trees.{Trees, none, tree, leaf, ◌+++◌, IsA, nth, instantiate, arguments, fits, some_node, is_sort, erase_label}
-use Rattle.model.specs.Codes.{same, same_label, numbers}
-use Rattle.model.specs.Worlds.{World, Reference, ImplDecl, with_args, all_with_args}
-use Rattle.model.specs.Rules.{Rule, impl_rules, same_reference, same_head, is_coinductive}
+use Rattle.model.specs.Trees.{Trees, none, tree, leaf, IsA, nth, instantiate, arguments, some_node, erase_label}
+use Rattle.model.specs.Codes.{same_label, numbers}
+use Rattle.model.specs.Worlds.{World, Reference, ImplDecl, all_with_args}
+use Rattle.model.specs.Rules.{Rule, impl_rules, is_coinductive}
 use Rattle.model.specs.Proofs.{In}
-use Rattle.model.proofs.Members.{here, there, in-nothing, self-number, same-number}
-use Rattle.model.proofs.Fitting.{ByImpl, impl-rule, not-true, next-shut, child-shut}
-use Rattle.model.proofs.NoHolds.{member-each}
-use Rattle.model.proofs.Walking.{left, right}
+use Rattle.model.proofs.Members.{here, there, in-nothing, self-number}
+use Rattle.model.proofs.Fitting.{ByImpl, impl-rule, next-shut}
+use Rattle.model.proofs.Walking.{left}
 use Rattle.type_terms.specs.Made.{terms, is_made}
 use Rattle.type_terms.proofs.Made.{false-true}
 use Rattle.infer_table.specs.Canonical.{CanonicalForm}
 use Rattle.infer_table.specs.declared.canonical.CanonicalVarKind.{CanonicalVarKind}
-use Rattle.infer_table.specs.declared.canonical.CanonicalVarKind.TheVariants.{Ty, PlaceholderTy, Const, PlaceholderConst, Region}
+use Rattle.infer_table.specs.declared.canonical.CanonicalVarKind.TheVariants.{Ty, Const, Region}
 use Rattle.evaluation.specs.Lists.{Every}
 use Rattle.table_laws.specs.Instances.{read_with, of_sort, term_at}
 use Rattle.table_laws.specs.Content.{fits as fit_values, Values, Fact, Terms, given}
@@ -39,15 +38,15 @@ use Rattle.assembly_laws.proofs.Facts.{same-numbers-self}
 use Rattle.assembly_laws.proofs.Headers.{as_list, type-at, const-at}
 use Rattle.assembly_laws.proofs.Impls.{fits-sorted}
 use Rattle.assembly_laws.proofs.PlainRules.{Plain, plain-unbound}
-use Rattle.assembly_laws.proofs.ReadOff.{AreValues, for_param, read_behind, instance-is, below, one-sort, arguments-plain}
+use Rattle.assembly_laws.proofs.ReadOff.{AreValues, read_behind, instance-is, below, one-sort, arguments-plain}
 use Rattle.assembly_laws.proofs.Reading.{append-none}
 use Rattle.assembly_laws.proofs.SoundCandidates.{goal-is}
 use Rattle.assembly_laws.proofs.SoundImpls.{impl-sorted, own-rule}
-use Rattle.assembly_laws.proofs.SoundRows.{Unknown, Rigid, unknown-or-rigid}
-use Rattle.solver_exactness.specs.SolverWays.{facts_beside, premises_of}
+use Rattle.assembly_laws.proofs.SoundRows.{Unknown, Rigid}
+use Rattle.solver_exactness.specs.SolverWays.{premises_of}
 use Rattle.solver_exactness.specs.RowWays.{AreWaysOf}
 use Rattle.solver_exactness.specs.BoundWays.{ImplsAreWays}
-use Rattle.solver_exactness.proofs.Instances.{is, are, kinds-closed, proper, terms_of, allowed, instance, instance-is as instance-stands, BeginsWithPlace, read-place}
+use Rattle.solver_exactness.proofs.Instances.{is, are, kinds-closed, proper, terms_of, instance, instance-is as instance-stands, BeginsWithPlace, read-place}
 use Rattle.solver_exactness.proofs.Rows.{is-held}
 use Rattle.solver_exactness.proofs.Clauses.{equal-meets}
 use Rattle.solver_exactness.proofs.Equating.{args-over, args-open}

@@ -12,3 +12,6 @@ pub mod BoundRows
 pub mod Filling
 pub mod ImplRows
 pub mod SolverSpecs
+pub mod Arranging
+pub mod Knowability
+pub mod SolverSelections

@@ -4,3 +4,4 @@ pub mod SolverPlans
 pub mod RowWays
 pub mod BoundWays
 pub mod SolverSpecs
+pub mod SolverChoices

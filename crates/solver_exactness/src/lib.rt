@@ -5,6 +5,7 @@ ghost use Rattle.solver_exactness.specs.ReadBack.{OutsideComesBack, CoherenceCom
 ghost use Rattle.solver_exactness.specs.RowWays.{RowsAreWays, EquatedRowsAreWays, ClausesAreWays};
 ghost use Rattle.table_laws.specs.Content.{Fact};
 ghost use Rattle.solver_exactness.specs.BoundWays.{BoundRowsAreWays, ImplsAreWays};
+ghost use Rattle.solver_exactness.specs.SolverChoices.{SpecsAreWays, CoherenceSpecsAreWays};
 ghost use Rattle.solver_exactness.specs.SolverPlans.{PlansAreExact};
 ghost use Rattle.solver_exactness.specs.SolverSpecs.{SpecsAreDetermined, SpecsAreFew, SpecsAreSure};
 
@@ -65,4 +66,12 @@ pub fn specs_are_lawful()
     ensures determined { SpecsAreDetermined }
     ensures few { SpecsAreFew }
     ensures sure { SpecsAreSure }
+{}
+
+/// So all candidates together are the ways of the goal's instance but for order and repeats, whatever is judged of facts: outside
+/// coherence by the rules of the view and the goal's where-clauses, and in coherence by the supertraits too of what is not knowable.
+/// The where-clauses have to be elaborated, and no auto trait of a `dyn` may stand twice.
+pub fn specs_are_ways<J: Judging>()
+    ensures outside { SpecsAreWays J.Judged }
+    ensures coherence { CoherenceSpecsAreWays J.Judged }
 {}
