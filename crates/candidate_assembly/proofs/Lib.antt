@@ -9,3 +9,4 @@ pub mod Variables
 pub mod Behind
 pub mod Walking
 pub mod Autos
+pub mod InOrder
