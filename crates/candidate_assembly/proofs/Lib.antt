@@ -12,3 +12,4 @@ pub mod Ends
 pub mod Collected
 pub mod Walking
 pub mod Autos
+pub mod InOrder

@@ -7,6 +7,7 @@ pub mod built_in;
 pub mod impls;
 mod instances;
 pub mod merge;
+pub mod laws;
 pub mod param_env;
 mod parts;
 mod relate;

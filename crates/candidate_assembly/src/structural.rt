@@ -319,7 +319,8 @@ pub(crate) fn instantiate_constituent_tys_for_auto_trait(
     requires applied { StructIsApplied declarations.now (trees_at cx.old.entries self_ty.0) }
     ensures keeps { Keeps cx.old.entries cx.new.entries }
     ensures limit { cx.new.limit ≡ cx.old.limit }
-    ensures are { IfOk result (λ o. (t : ℕ) → AreConstituents (λ v. v.items) cx.new.entries t (auto_rules_plain (written cx.old.entries declarations.now) t (with_plain_head (trees_at cx.old.entries self_ty.0))) o) }
+    ensures are { IfOk result (λ o. (t : ℕ)
+        → AreConstituents (λ v. v.items) cx.new.entries t (auto_rules_plain (written cx.old.entries declarations.now) t (with_plain_head (trees_at cx.old.entries self_ty.0))) o) }
     ensures held { IfOk result (λ o. IfSome o (λ v. TypesHeld cx.new.entries v.items)) }
     ensures full { result ≡ Err Fault.Full → SomeKindIsFull cx.new.entries cx.new.limit }
 {

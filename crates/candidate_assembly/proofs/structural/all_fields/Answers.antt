@@ -8,7 +8,7 @@ use Rattle.term_folds.specs.Arguments.{first_misfit}
 use Rattle.infer_table.proofs.FullFacts.{handed-on}
 use Rattle.declarations.specs.Merges.{Each}
 use Rattle.declarations.specs.Unsizing.{field_trees}
-use Rattle.candidate_assembly.specs.Constituents.{premises_of, types_asked, TypesHeld}
+use Rattle.candidate_assembly.specs.Constituents.{premises_of, TypesHeld}
 use Rattle.candidate_assembly.proofs.Structs.{fields-fit}
 use Rattle.candidate_assembly.proofs.Autos.{fields-asked}
 use Rattle.candidate_assembly.proofs.structural.all_fields.Goals as goal

@@ -1,0 +1,21 @@
+//! Laws of candidates, over what the contracts speak of.
+ghost use Rattle.std.specs.Prelude.{◌≡◌, ◌+◌, ℕ, List, Some, None, map};
+ghost use Rattle.std.specs.List.{slice_get};
+ghost use Rattle.type_terms.specs.Terms.{Entry};
+ghost use Rattle.type_terms.specs.declared.ImplId.{ImplId};
+ghost use Rattle.evaluation.specs.declared.candidate.CandidateSource.TheVariants.{Impl};
+ghost use Rattle.declarations.specs.Items.{Items, written};
+ghost use Rattle.declarations.specs.Merges.{Rises};
+ghost use Rattle.assembly_laws.specs.Asking.{Asked};
+ghost use Rattle.assembly_laws.specs.Candidates.{Candidate, by_impls};
+ghost use Rattle.candidate_assembly.specs.Headers.{impls_above};
+
+/// A walk over the impls of a goal meets the definitions' candidates one after the other: without a last one considered it is at the
+/// first, and behind the impl of any of them at the one after that.
+pub fn walks_meet_all_impls()
+    ensures begins { (es : List Entry) (d : Items) (a : Asked) → let V = written es d in
+        slice_get (by_impls V a (impls_above None V.impls)) 0 ≡ slice_get (by_impls V a V.impls) 0 }
+    ensures goes_on { (es : List Entry) (d : Items) (a : Asked) (n : ℕ) (c : Candidate) (last : ImplId) → let V = written es d in
+        Rises (map (λ i. i.id) d.impls) → slice_get (by_impls V a V.impls) n ≡ Some c → c.source ≡ Impl last
+        → slice_get (by_impls V a (impls_above (Some last) V.impls)) 0 ≡ slice_get (by_impls V a V.impls) (n + 1) }
+{}
