@@ -1,18 +1,14 @@
--- Which references that may hold unknowns are known to a crate: those of which no other crate can have an impl for an instance.
-use Rattle.std.specs.Prelude.{◌≡◌, ℕ, Bool, true, IsTrue, not, ◌&&◌, List, [], None}
-use Rattle.std.specs.List.{list_any}
+-- What is known to a crate of references in a linked set.
+use Rattle.std.specs.Prelude.{◌≡◌, ℕ, true, IsTrue, List, []}
 use Rattle.model.specs.Worlds.{World, Reference, view_of}
 use Rattle.model.specs.Rules.{Rule, rules, strict_supertraits}
 use Rattle.model.specs.Proofs.{In, Every, HasProof}
-use Rattle.model.specs.Walks.{visited, is_known_in}
+use Rattle.model.specs.Walks.{is_known_in}
 use Rattle.model.specs.Answers.{is_closed}
 use Rattle.model.specs.Renumbering.{View}
-use Rattle.model.specs.LinkedSet.{LinkedSet, is_open_place}
-
--- known as it is written, and no type that its open walk visits is a variable: else a crate that uses this one may write its own
--- type there
-abbrev pub is_knowable : World → ℕ → Reference → Bool
-is_knowable V c r = is_known_in V c r && not (list_any is_open_place (visited V None r.args))
+use Rattle.model.specs.LinkedSet.{LinkedSet}
+-- which references that may hold unknowns are known: those of which no other crate can have an impl for an instance
+pub use Rattle.orphan_check.specs.Knowing.{is_knowable}
 
 -- in a linked set what has a proof has its strict supertraits proved
 abbrev pub SupersStand : World → Type 0
