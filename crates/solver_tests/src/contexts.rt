@@ -7,7 +7,6 @@ use crate::samples::{Sample, begun, make, shown};
 use evaluation::{EvalCtxt, EvalError, GoalSource};
 use infer_table::certainty::{Certainty, MaybeCause, TypingMode};
 use std::alloc::Global;
-use std::test::Fail;
 use type_terms::Fault;
 use type_terms::interner::Interner;
 use type_terms::kinds::GenericArgKind;
@@ -88,7 +87,7 @@ fn are_refused(alloc: Global, way: Way, left: Sample, right: Sample) -> Result<b
 }
 
 #[test]
-fn types_that_differ_have_no_solution(rt: HostRuntime) -> Result<(), Fail> {
+fn types_that_differ_have_no_solution(rt: HostRuntime) -> Result<(), Fault> {
     for way in [Way::Equated, Way::Related, Way::Probed] {
         assert!(rt; are_refused(rt.alloc(), way, Sample::Byte, Sample::Bool)?);
         assert!(rt; !are_refused(rt.alloc(), way, Sample::Unknown, Sample::Bool)?);
@@ -104,30 +103,56 @@ fn add_two(alloc: Global, cx: &mut Interner, context: &mut EvalCtxt) -> Result<(
     context.add_goals(GoalSource::ImplWhereBound, vec![in alloc; second]?)
 }
 
-#[test]
-fn goals_stand_in_the_order_in_which_they_were_added(rt: HostRuntime) -> Result<(), Fail> {
-    let mut cx = Interner::new(rt.alloc(), 100);
-    let mut context = begun(rt.alloc(), &mut cx)?;
-    add_two(rt.alloc(), &mut cx, &mut context)?;
-    let [first, second] = context.nested_goals() else {
-        return Err("two goals".into());
-    };
-    assert!(rt; first.0 == GoalSource::Misc && second.0 == GoalSource::ImplWhereBound);
-    Ok(())
+/// The sources of the two goals that stand in an evaluation to which they are added.
+fn sources(alloc: Global, cx: &mut Interner) -> Result<Option<[GoalSource; 2]>, Fault> {
+    let mut context = begun(alloc, cx)?;
+    add_two(alloc, cx, &mut context)?;
+    match context.nested_goals() {
+        [first, second] => Ok(Some([first.0, second.0])),
+        _ => Ok(None),
+    }
 }
 
 #[test]
-fn an_evaluation_that_is_given_up_is_ambiguous(rt: HostRuntime) -> Result<(), Fail> {
+fn goals_stand_in_the_order_in_which_they_were_added(rt: HostRuntime) -> Result<(), Fault> {
     let mut cx = Interner::new(rt.alloc(), 100);
-    let context = begun(rt.alloc(), &mut cx)?;
-    let counts = [
+    let wanted = Some([GoalSource::Misc, GoalSource::ImplWhereBound]);
+    assert!(rt; sources(rt.alloc(), &mut cx)? == wanted);
+    Ok(())
+}
+
+/// How many variables, values of them and constraints an evaluation has that is begun.
+fn counts_of_begun(alloc: Global, cx: &mut Interner) -> Result<[usize; 3], Fault> {
+    let context = begun(alloc, cx)?;
+    Ok([
         context.variables().len(),
         context.var_values().len(),
         context.table().region_constraints().len(),
-    ];
-    assert!(rt; counts == [1, 1, 0]);
-    assert!(rt; context.typing_mode() == TypingMode::PostAnalysis);
-    let answer = context.forced_ambiguity(&mut cx, MaybeCause::Ambiguity)?;
-    assert!(rt; answer.certainty == Certainty::Maybe(MaybeCause::Ambiguity));
+    ])
+}
+
+/// The mode of an evaluation, and how sure its answer is where it is given up.
+fn given_up(alloc: Global, cx: &mut Interner) -> Result<(TypingMode, Certainty), Fault> {
+    let context = begun(alloc, cx)?;
+    let mode = context.typing_mode();
+    let answer = context.forced_ambiguity(cx, MaybeCause::Ambiguity)?;
+    Ok((mode, answer.certainty))
+}
+
+/// Both.
+fn begun_and_given_up(
+    alloc: Global,
+    cx: &mut Interner,
+) -> Result<([usize; 3], (TypingMode, Certainty)), Fault> {
+    let counts = counts_of_begun(alloc, cx)?;
+    Ok((counts, given_up(alloc, cx)?))
+}
+
+#[test]
+fn an_evaluation_that_is_given_up_is_ambiguous(rt: HostRuntime) -> Result<(), Fault> {
+    let mut cx = Interner::new(rt.alloc(), 100);
+    let doubt = Certainty::Maybe(MaybeCause::Ambiguity);
+    let wanted = ([1, 1, 0], (TypingMode::PostAnalysis, doubt));
+    assert!(rt; begun_and_given_up(rt.alloc(), &mut cx)? == wanted);
     Ok(())
 }

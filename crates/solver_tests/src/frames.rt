@@ -8,22 +8,26 @@ use infer_table::response::CanonicalResponse;
 use rule_books::RuleBook;
 use search_graph::{Reply, Request};
 use std::alloc::Global;
-use std::test::Fail;
 use type_terms::interner::Interner;
 use type_terms::{Fault, TraitId};
 
-#[test]
-fn a_goal_without_rules_is_refused(rt: HostRuntime) -> Result<(), Fail> {
-    let mut cx = Interner::new(rt.alloc(), 100);
-    let input = question(rt.alloc(), &mut cx, byte_is(Name::Show))?;
+/// Whether a goal is refused at once by an empty list of rules, in which no trait is coinductive.
+fn is_refused_without_rules(alloc: Global, cx: &mut Interner) -> Result<bool, Fault> {
+    let input = question(alloc, cx, byte_is(Name::Show))?;
     let book = RuleBook {
-        rules: Vec::new(rt.alloc()),
-        coinductive: Vec::new(rt.alloc()),
+        rules: Vec::new(alloc),
+        coinductive: Vec::new(alloc),
     };
-    let mut frame = GoalFrame::new::<RuleBook>(rt.alloc(), input);
-    let request = frame.step(rt.alloc(), &mut cx, &book, Reply::Begin)?;
-    assert!(rt; matches!(request, Request::Done(None)));
-    assert!(rt; !book.trait_is_coinductive(TraitId { index: 2 }));
+    let mut frame = GoalFrame::new::<RuleBook>(alloc, input);
+    let request = frame.step(alloc, cx, &book, Reply::Begin)?;
+    let is_coinductive = book.trait_is_coinductive(TraitId { index: 2 });
+    Ok(matches!(request, Request::Done(None)) && !is_coinductive)
+}
+
+#[test]
+fn a_goal_without_rules_is_refused(rt: HostRuntime) -> Result<(), Fault> {
+    let mut cx = Interner::new(rt.alloc(), 100);
+    assert!(rt; is_refused_without_rules(rt.alloc(), &mut cx)?);
     Ok(())
 }
 
@@ -61,14 +65,33 @@ fn answer_is_found(alloc: Global, store: &mut GoalStore) -> Result<bool, Fault> 
     Ok(store.keep_response(copy)? == first)
 }
 
+/// Whether there is no room for another answer.
+fn is_full_of_answers(alloc: Global, store: &mut GoalStore) -> bool {
+    let doubt = answer(alloc, Certainty::Maybe(MaybeCause::Ambiguity));
+    matches!(store.keep_response(doubt), Err(Fault::Full))
+}
+
+/// All of these, for a store with room for one goal and one answer.
+fn store_finds(
+    alloc: Global,
+    cx: &mut Interner,
+    store: &mut GoalStore,
+) -> Result<[bool; 4], Fault> {
+    let goal = goal_is_found(alloc, cx, store)?;
+    let no_other_goal = is_full_of_goals(alloc, cx, store)?;
+    let answer = answer_is_found(alloc, store)?;
+    Ok([
+        goal,
+        no_other_goal,
+        answer,
+        is_full_of_answers(alloc, store),
+    ])
+}
+
 #[test]
-fn a_full_store_still_finds_its_goal_and_its_answer(rt: HostRuntime) -> Result<(), Fail> {
+fn a_full_store_still_finds_its_goal_and_its_answer(rt: HostRuntime) -> Result<(), Fault> {
     let mut cx = Interner::new(rt.alloc(), 100);
     let mut store = GoalStore::new(rt.alloc(), 1);
-    assert!(rt; goal_is_found(rt.alloc(), &mut cx, &mut store)?);
-    assert!(rt; is_full_of_goals(rt.alloc(), &mut cx, &mut store)?);
-    assert!(rt; answer_is_found(rt.alloc(), &mut store)?);
-    let doubt = answer(rt.alloc(), Certainty::Maybe(MaybeCause::Ambiguity));
-    assert!(rt; matches!(store.keep_response(doubt), Err(Fault::Full)));
+    assert!(rt; store_finds(rt.alloc(), &mut cx, &mut store)? == [true; 4]);
     Ok(())
 }

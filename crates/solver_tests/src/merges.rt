@@ -11,7 +11,6 @@ use infer_table::canonical::CanonicalVarKind;
 use infer_table::certainty::{Certainty, MaybeCause};
 use infer_table::response::CanonicalResponse;
 use std::alloc::Global;
-use std::test::Fail;
 use type_terms::Fault;
 use type_terms::interner::Interner;
 use type_terms::kinds::{GenericArgKind, Ty, TyKind, UintTy};
@@ -73,13 +72,20 @@ fn is_merged_alone(
     }
 }
 
+/// Whether none of no responses, the first of the first alone, and none of both is their merge.
+fn merges(alloc: Global, cx: &mut Interner) -> Result<[bool; 3], Fault> {
+    let both = responses(alloc, cx)?;
+    Ok([
+        try_merge_candidates(alloc, cx, &both[..0])?.is_none(),
+        is_merged_alone(alloc, cx, &both)?,
+        try_merge_candidates(alloc, cx, &both)?.is_none(),
+    ])
+}
+
 #[test]
-fn responses_with_different_values_have_no_merge(rt: HostRuntime) -> Result<(), Fail> {
+fn responses_with_different_values_have_no_merge(rt: HostRuntime) -> Result<(), Fault> {
     let mut cx = Interner::new(rt.alloc(), 100);
-    let both = responses(rt.alloc(), &mut cx)?;
-    assert!(rt; try_merge_candidates(rt.alloc(), &cx, &both[..0])?.is_none());
-    assert!(rt; is_merged_alone(rt.alloc(), &cx, &both)?);
-    assert!(rt; try_merge_candidates(rt.alloc(), &cx, &both)?.is_none());
+    assert!(rt; merges(rt.alloc(), &mut cx)? == [true; 3]);
     Ok(())
 }
 
@@ -95,14 +101,21 @@ fn floundered(
     }
 }
 
+/// How sure the answer is to a goal without responses and to one with two, where it has one, and where it is given up.
+fn sureness(alloc: Global, cx: &mut Interner) -> Result<[Option<Certainty>; 3], Fault> {
+    let both = responses(alloc, cx)?;
+    let answer = bail_with_ambiguity(alloc, cx, &[CanonicalVarKind::Ty], &both)?;
+    Ok([
+        floundered(alloc, cx, &[])?,
+        floundered(alloc, cx, &both)?,
+        Some(answer.certainty),
+    ])
+}
+
 #[test]
-fn a_goal_flounders_unless_it_has_no_responses(rt: HostRuntime) -> Result<(), Fail> {
+fn a_goal_flounders_unless_it_has_no_responses(rt: HostRuntime) -> Result<(), Fault> {
     let mut cx = Interner::new(rt.alloc(), 100);
-    let both = responses(rt.alloc(), &mut cx)?;
-    let doubt = Certainty::Maybe(MaybeCause::Ambiguity);
-    assert!(rt; floundered(rt.alloc(), &mut cx, &[])?.is_none());
-    assert!(rt; floundered(rt.alloc(), &mut cx, &both)? == Some(doubt));
-    let answer = bail_with_ambiguity(rt.alloc(), &mut cx, &[CanonicalVarKind::Ty], &both)?;
-    assert!(rt; answer.certainty == doubt);
+    let doubt = Some(Certainty::Maybe(MaybeCause::Ambiguity));
+    assert!(rt; sureness(rt.alloc(), &mut cx)? == [None, doubt, doubt]);
     Ok(())
 }

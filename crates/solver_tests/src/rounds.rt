@@ -8,7 +8,6 @@ use evaluation::{EvalCtxt, EvalError, EvalStep, GoalSource};
 use infer_table::certainty::Certainty;
 use infer_table::response::CanonicalResponse;
 use std::alloc::Global;
-use std::test::Fail;
 use type_terms::Fault;
 use type_terms::interner::Interner;
 
@@ -52,14 +51,23 @@ fn evaluate(cx: &mut Interner, context: &mut EvalCtxt) -> Result<Option<Certaint
     }
 }
 
+/// How sure it is that `u8: Show`, before and after the reply that it holds, and how many goals are left then.
+fn asked_and_dropped(
+    alloc: Global,
+    cx: &mut Interner,
+) -> Result<([Option<Certainty>; 2], usize), EvalError> {
+    let mut context = begun_with(alloc, cx, Sample::Byte)?;
+    let before = evaluate(cx, &mut context)?;
+    hear(cx, &mut context, holds(alloc))?;
+    let after = evaluate(cx, &mut context)?;
+    Ok(([before, after], context.nested_goals().len()))
+}
+
 #[test]
-fn a_goal_is_asked_and_dropped_where_it_holds(rt: HostRuntime) -> Result<(), Fail> {
+fn a_goal_is_asked_and_dropped_where_it_holds(rt: HostRuntime) -> Result<(), EvalError> {
     let mut cx = Interner::new(rt.alloc(), 100);
-    let mut context = begun_with(rt.alloc(), &mut cx, Sample::Byte)?;
-    assert!(rt; evaluate(&mut cx, &mut context)?.is_none());
-    hear(&cx, &mut context, holds(rt.alloc()))?;
-    assert!(rt; evaluate(&mut cx, &mut context)? == Some(Certainty::Yes));
-    assert!(rt; context.nested_goals().is_empty());
+    let wanted = ([None, Some(Certainty::Yes)], 0);
+    assert!(rt; asked_and_dropped(rt.alloc(), &mut cx)? == wanted);
     Ok(())
 }
 
@@ -77,14 +85,19 @@ fn is_byte(cx: &mut Interner, context: &mut EvalCtxt) -> Result<bool, EvalError>
     }
 }
 
+/// Whether the goal of an unknown type, for which it holds if that is `u8`, is asked once more, and then is a yes with `u8`.
+fn asked_again(alloc: Global, cx: &mut Interner) -> Result<[bool; 2], EvalError> {
+    let mut context = begun_with(alloc, cx, Sample::Unknown)?;
+    hear_byte(alloc, cx, &mut context)?;
+    let is_asked = evaluate(cx, &mut context)?.is_none();
+    hear(cx, &mut context, holds(alloc))?;
+    Ok([is_asked, is_byte(cx, &mut context)?])
+}
+
 // A yes with values is no definite yes: its goal is asked once more, with the values put in.
 #[test]
-fn a_value_is_applied_and_its_goal_asked_again(rt: HostRuntime) -> Result<(), Fail> {
+fn a_value_is_applied_and_its_goal_asked_again(rt: HostRuntime) -> Result<(), EvalError> {
     let mut cx = Interner::new(rt.alloc(), 100);
-    let mut context = begun_with(rt.alloc(), &mut cx, Sample::Unknown)?;
-    hear_byte(rt.alloc(), &mut cx, &mut context)?;
-    assert!(rt; evaluate(&mut cx, &mut context)?.is_none());
-    hear(&cx, &mut context, holds(rt.alloc()))?;
-    assert!(rt; is_byte(&mut cx, &mut context)?);
+    assert!(rt; asked_again(rt.alloc(), &mut cx)? == [true, true]);
     Ok(())
 }

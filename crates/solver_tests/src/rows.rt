@@ -5,7 +5,6 @@ use crate::rules::Written;
 use crate::solver::{AMBIGUOUS, BYTE, Found, OPEN, OVERFLOW, Said, YES, YES_WITH_VALUES, by_rules};
 use infer_table::certainty::TypingMode;
 use std::alloc::Global;
-use std::test::Fail;
 use type_terms::Fault;
 
 /// That a type has a trait: so many lists around a leaf.
@@ -197,9 +196,9 @@ fn first_that_differs(alloc: Global, rows: &[Row]) -> Result<Option<usize>, Faul
 }
 
 #[test]
-fn rules_answer_by_facts_premises_and_cycles(rt: HostRuntime) -> Result<(), Fail> {
-    assert_eq!(rt; first_that_differs(rt.alloc(), &FACTS)?, None);
-    assert_eq!(rt; first_that_differs(rt.alloc(), &PREMISES)?, None);
-    assert_eq!(rt; first_that_differs(rt.alloc(), &CYCLES)?, None);
+fn rules_answer_by_facts_premises_and_cycles(rt: HostRuntime) -> Result<(), Fault> {
+    assert!(rt; first_that_differs(rt.alloc(), &FACTS)?.is_none());
+    assert!(rt; first_that_differs(rt.alloc(), &PREMISES)?.is_none());
+    assert!(rt; first_that_differs(rt.alloc(), &CYCLES)?.is_none());
     Ok(())
 }

@@ -6,7 +6,6 @@ ghost use Rattle.scripted_goals.specs.Toy.{toy_meaning};
 use scripted_goals::{AMBIGUOUS, NO, OVERFLOW, Rule, Script, Scripts, Step, Toy, YES};
 use search_graph::{GlobalCache, GraphFault, PathKind, SearchGraph};
 use std::alloc::{AllocError, Global};
-use std::test::Fail;
 
 /// Goals 0 to 20: each asks the one before by an unknown step, and the first is a yes.
 const CHAIN: usize = 21;
@@ -199,19 +198,29 @@ fn solve(
     }
 }
 
+/// The same with a new cache.
+fn solve_alone(
+    alloc: Global,
+    scripts: &mut Scripts,
+    depth: usize,
+    goal: usize,
+) -> Result<(Found, bool), GraphFault> {
+    let mut cache: GlobalCache<Toy> = GlobalCache::new(alloc)?;
+    solve(alloc, scripts, &mut cache, depth, goal)
+}
+
 #[test]
-fn goals_are_answered_with_a_new_cache(rt: HostRuntime) -> Result<(), Fail> {
+fn goals_are_answered_with_a_new_cache(rt: HostRuntime) -> Result<(), GraphFault> {
     let mut scripts = all_goals(rt.alloc())?;
     for (depth, goal, wanted) in ALONE {
-        let mut cache: GlobalCache<Toy> = GlobalCache::new(rt.alloc())?;
-        let found = solve(rt.alloc(), &mut scripts, &mut cache, depth, goal)?;
+        let found = solve_alone(rt.alloc(), &mut scripts, depth, goal)?;
         assert!(rt; found == (wanted, true), "goal {goal}");
     }
     Ok(())
 }
 
 #[test]
-fn goals_are_answered_with_one_cache(rt: HostRuntime) -> Result<(), Fail> {
+fn goals_are_answered_with_one_cache(rt: HostRuntime) -> Result<(), GraphFault> {
     let mut scripts = all_goals(rt.alloc())?;
     let mut cache: GlobalCache<Toy> = GlobalCache::new(rt.alloc())?;
     for (depth, goal, wanted) in TOGETHER {

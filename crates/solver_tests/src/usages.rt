@@ -1,17 +1,23 @@
 //! Usages that are counted and merged, and paths that are extended.
 
 use search_graph::{CandidateHeadUsages, PathKind, PathsToNested};
-use std::test::Fail;
+use std::alloc::Global;
+use type_terms::Fault;
 
-#[test]
-fn usages_are_added_and_lesser_paths_extended(rt: HostRuntime) -> Result<(), Fail> {
-    let mut first = CandidateHeadUsages::new(rt.alloc());
+/// How often a head is used on an unknown path, where one usage and two are merged.
+fn merged_usages(alloc: Global) -> Result<u32, Fault> {
+    let mut first = CandidateHeadUsages::new(alloc);
     first.add_usage(4, PathKind::Unknown)?;
-    let mut second = CandidateHeadUsages::new(rt.alloc());
+    let mut second = CandidateHeadUsages::new(alloc);
     second.add_usage(4, PathKind::Unknown)?;
     second.add_usage(4, PathKind::Unknown)?;
     first.merge_usages(second)?;
-    assert_eq!(rt; first.count(4, PathKind::Unknown), 3);
+    Ok(first.count(4, PathKind::Unknown))
+}
+
+#[test]
+fn usages_are_added_and_lesser_paths_extended(rt: HostRuntime) -> Result<(), Fault> {
+    assert!(rt; merged_usages(rt.alloc())? == 3);
     let lesser = PathsToNested::EMPTY.extend_with(PathKind::Unknown);
     assert!(rt; lesser == PathsToNested::UNKNOWN);
     let greater = PathsToNested::COINDUCTIVE.extend_with(PathKind::Unknown);
