@@ -6,8 +6,8 @@
 pub mod built_in;
 pub mod impls;
 mod instances;
-pub mod merge;
 pub mod laws;
+pub mod merge;
 pub mod param_env;
 mod parts;
 mod relate;
