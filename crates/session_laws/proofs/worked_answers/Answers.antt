@@ -1,0 +1,15 @@
+use Rattle.session_laws.proofs.AllValues.{refuted-for-all}
+use Rattle.session_laws.proofs.WorkedAnswers.{two-texts-accepted, values-of-both-kinds, parameters-stand}
+use Rattle.session_laws.proofs.worked_answers.Goals as goal
+
+pub returns-clause-two_texts : goal.returns-clause-two_texts
+returns-clause-two_texts c = two-texts-accepted
+
+pub returns-clause-values : goal.returns-clause-values
+returns-clause-values c = values-of-both-kinds
+
+pub returns-clause-parameters : goal.returns-clause-parameters
+returns-clause-parameters c = parameters-stand
+
+pub returns-clause-for_all : goal.returns-clause-for_all
+returns-clause-for_all c = refuted-for-all

@@ -1,0 +1,5 @@
+pub mod Headers
+pub mod Verdicts
+pub mod Questions
+pub mod Laws
+pub mod Worked
