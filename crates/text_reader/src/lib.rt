@@ -6,10 +6,14 @@
 //! or names the first faulty line with the smallest number of a fault in it.
 #![tactic(auto)]
 
+mod declares;
 mod fault;
 mod form;
 mod lines;
+mod text;
 
+pub use declares::Declares;
 pub use fault::{TextError, TextFault};
 pub use form::{LineForm, line_form};
 pub use lines::{TEXT_LIMIT, long_line, split_line};
+pub use text::read_text;
