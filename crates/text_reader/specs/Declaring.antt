@@ -11,6 +11,10 @@ use Rattle.line_reader.specs.declared.statement.LineRead.{LineRead}
 use Rattle.line_faults.specs.FaultNumbers.{fault_number}
 use Rattle.line_faults.specs.declared.fault.FaultKind.{FaultKind}
 
+-- some line was read
+abbrev pub IsRead : LineRead → Type 0
+IsRead read = (l : Line) × ReadsLine l read
+
 -- This fault was found, or none: whichever line was read, it has that fault.
 abbrev pub FindsFault : Declarations → LineRead → Option FaultKind → Type 0
 FindsFault d read found = (l : Line) → ReadsLine l read → option_map fault_number found ≡ fault_of d l

@@ -1,7 +1,7 @@
 //! What lines are declared in, one after the other.
 ghost use Rattle.std.specs.Prelude.{◌≡◌, IfOk, OnOk};
 ghost use Rattle.text_definitions.specs.Declarations.{Declarations, nothing_declared};
-ghost use Rattle.text_reader.specs.Declaring.{FindsFault, IsFaultless, AddsLine};
+ghost use Rattle.text_reader.specs.Declaring.{IsRead, FindsFault, IsFaultless, AddsLine};
 ghost use Rattle.workspace.specs.Numbered.{IsFew};
 
 use line_faults::FaultKind;
@@ -26,7 +26,9 @@ pub trait Declares: Drop {
     /// What is wrong with a line that was read: of all faults that apply the one with the smallest number, or none. The error says that
     /// a request for memory was refused.
     fn fault_of(&self, alloc: Global, read: &LineRead<'_>) -> Result<Option<FaultKind>, AllocError>
-        requires { agrees self.now }
+        requires agrees { agrees self.now }
+        requires few { IsFew (so_far self.now) ENTRY_LIMIT }
+        requires read { IsRead read.now }
         ensures { IfOk result (λ found. FindsFault (so_far self.now) read.now found) };
 
     /// Declares a line without a fault, or asks what it asks. The error says that a request for memory was refused; what was declared
