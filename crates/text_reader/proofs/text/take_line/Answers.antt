@@ -1,0 +1,17 @@
+use Rattle.text_reader.proofs.Taking.{other_byte_gives, blank_gives, unwritten_gives, faulty_gives, added_gives}
+use Rattle.text_reader.proofs.text.take_line.Goals as goal
+
+pub returns-in-OtherByte-clause-gives : goal.returns-in-OtherByte-clause-gives
+returns-in-OtherByte-clause-gives g c = other_byte_gives _ _ _ c.in_ok-line_form.ensures c.in-OtherByte.is
+
+pub returns-in-Unwritten-clause-gives : goal.returns-in-Unwritten-clause-gives
+returns-in-Unwritten-clause-gives g c = unwritten_gives _ _ _ c.in_ok-line_form.ensures c.in-Unwritten.is
+
+pub returns-in-Blank-clause-gives : goal.returns-in-Blank-clause-gives
+returns-in-Blank-clause-gives g c = blank_gives _ _ _ c.in_ok-line_form.ensures c.in-Blank.is
+
+pub returns-in-Some-clause-gives : goal.returns-in-Some-clause-gives
+returns-in-Some-clause-gives g c = faulty_gives _ _ _ c.in-Read.read _ c.in-Some.kind c.in_ok-line_form.ensures c.in-Read.is c.in_ok-kind-in-Read.ensures c.in-Some.is
+
+pub returns-in_ok-declare-in-Read-clause-gives : goal.returns-in_ok-declare-in-Read-clause-gives
+returns-in_ok-declare-in-Read-clause-gives g c = added_gives _ _ _ _ c.in-Read.read _ c.in_ok-line_form.ensures c.in-Read.is c.in_ok-kind-in-Read.ensures c.in_default.is c.in_ok-declare-in-Read.ensures.added

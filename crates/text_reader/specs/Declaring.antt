@@ -1,0 +1,28 @@
+-- A line that was read, after the declarations of the lines before it. Whoever has the declarations judges such a line, and adds it
+-- where it has no fault.
+use Rattle.std.specs.Prelude.{◌≡◌, None, Option}
+use Rattle.std.specs.Option.{option_map}
+use Rattle.text_definitions.specs.Syntax.{Line}
+use Rattle.text_definitions.specs.Declarations.{Declarations}
+use Rattle.text_definitions.specs.Faults.{fault_of}
+use Rattle.text_definitions.specs.Adding.{added}
+use Rattle.line_reader.specs.Lines.{ReadsLine}
+use Rattle.line_reader.specs.declared.statement.LineRead.{LineRead}
+use Rattle.line_faults.specs.FaultNumbers.{fault_number}
+use Rattle.line_faults.specs.declared.fault.FaultKind.{FaultKind}
+
+-- some line was read
+abbrev pub IsRead : LineRead → Type 0
+IsRead read = (l : Line) × ReadsLine l read
+
+-- This fault was found, or none: whichever line was read, it has that fault.
+abbrev pub FindsFault : Declarations → LineRead → Option FaultKind → Type 0
+FindsFault d read found = (l : Line) → ReadsLine l read → option_map fault_number found ≡ fault_of d l
+
+-- A line was read that has no fault.
+abbrev pub IsFaultless : Declarations → LineRead → Type 0
+IsFaultless d read = (l : Line) × ReadsLine l read × (fault_of d l ≡ None)
+
+-- The declarations are e then: whichever line was read, they are those with this line.
+abbrev pub AddsLine : Declarations → LineRead → Declarations → Type 0
+AddsLine d read e = (l : Line) → ReadsLine l read → e ≡ added d l

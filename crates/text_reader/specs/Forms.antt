@@ -1,0 +1,14 @@
+-- What a line is by itself.
+use Rattle.std.specs.Prelude.{◌≡◌, ℕ, true, false, List}
+use Rattle.text_definitions.specs.Syntax.{Line}
+use Rattle.text_definitions.specs.Written.{IsWritten, is_ascii, is_blank}
+use Rattle.line_reader.specs.Lines.{SaysLine}
+use Rattle.text_reader.specs.declared.form.LineForm.{LineForm}
+use Rattle.text_reader.specs.declared.form.LineForm.TheVariants as forms
+
+-- one of four; the first that holds
+abbrev pub IsForm : List ℕ → LineForm → Type 0
+IsForm line forms.OtherByte = is_ascii line ≡ false
+IsForm line forms.Blank = (is_ascii line ≡ true) × (is_blank line ≡ true)
+IsForm line forms.Unwritten = (is_ascii line ≡ true) × (is_blank line ≡ false) × ((l : Line) → IsWritten line l → ⊥)
+IsForm line (forms.Read r) = (is_ascii line ≡ true) × (is_blank line ≡ false) × SaysLine line r

@@ -1,0 +1,4 @@
+pub mod Lines
+pub mod Forms
+pub mod Declaring
+pub mod Outcomes

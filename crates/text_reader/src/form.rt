@@ -1,0 +1,37 @@
+//! What a line is by itself.
+ghost use Rattle.std.specs.Prelude.{IfOk};
+ghost use Rattle.text_reader.specs.Forms.{IsForm};
+
+use line_reader::{LineRead, is_ascii, is_blank, read_line};
+use line_tokens::LineError;
+use std::alloc::{AllocError, Global};
+
+/// What a line of a text is, before any name is looked up.
+#[derive(Drop)]
+pub enum LineForm<'a> {
+    /// A byte of 128 or more stands in it.
+    OtherByte,
+    /// Nothing is to be read: spaces, and behind them nothing or a comment.
+    Blank,
+    /// The grammar has no such line.
+    Unwritten,
+    /// What it says.
+    Read(LineRead<'a>),
+}
+
+/// What a line is by itself. The error says that a request for memory was refused.
+pub fn line_form(alloc: Global, line: &[u8]) -> Result<LineForm<'_>, AllocError>
+    ensures { IfOk result (λ form. IsForm line.now form) }
+{
+    if !is_ascii(line) {
+        return Ok(LineForm::OtherByte);
+    }
+    if is_blank(line) {
+        return Ok(LineForm::Blank);
+    }
+    match read_line(alloc, line) {
+        Err(LineError::Memory) => Err(AllocError),
+        Err(LineError::Syntax) => Ok(LineForm::Unwritten),
+        Ok(read) => Ok(LineForm::Read(read)),
+    }
+}

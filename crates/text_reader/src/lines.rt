@@ -1,0 +1,44 @@
+//! The lines of a text.
+ghost use Rattle.std.specs.Prelude.{◌≡◌, ◌==◌, ◌∷◌, ◌<◌, ◌≤◌, count_by, length, take_while, not, IfSome};
+ghost use Rattle.text_definitions.specs.Text.{lines_of, long_line};
+ghost use Rattle.text_reader.specs.Lines.{lines_behind, line_too_far};
+
+/// The greatest length of a text.
+pub const TEXT_LIMIT: usize = 1_048_576;
+
+fn line_end(bytes: &[u8]) -> usize
+    ensures { result ≡ length (take_while (λ b. not (b == 10)) bytes.now) }
+{
+    bytes.iter().take_while(|b| **b != b'\n').count()
+}
+
+fn line_ends(bytes: &[u8]) -> usize
+    ensures count { result ≡ count_by (λ b. b == 10) bytes.now }
+    ensures within { result ≤ length bytes.now }
+{
+    bytes.iter().filter(|b| **b == b'\n').count()
+}
+
+/// The line that holds the first byte too many, counted from 1, if the text is longer than texts may be.
+pub fn long_line(bytes: &[u8]) -> Option<u32>
+    ensures { result ≡ line_too_far bytes.now }
+{
+    if bytes.len() <= TEXT_LIMIT {
+        return None;
+    }
+    let (front, _rest) = bytes.split_at(TEXT_LIMIT);
+    Some(line_ends(front) as u32 + 1)
+}
+
+/// The first line of a text without its end, and what stands behind that end. A line that nothing ends is the last.
+pub fn split_line(bytes: &[u8]) -> (&[u8], Option<&[u8]>)
+    ensures lines { lines_of bytes.now ≡ result.0.now ∷ lines_behind result.1 }
+    // What is left is shorter, so that the lines of a text end.
+    ensures left { IfSome result.1 (λ rest. length rest.now < length bytes.now) }
+{
+    let (line, after) = bytes.split_at(line_end(bytes));
+    match after {
+        [] => (line, None),
+        [_, rest @ ..] => (line, Some(rest)),
+    }
+}

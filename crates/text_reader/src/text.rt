@@ -1,0 +1,88 @@
+//! Whole texts.
+ghost use Rattle.std.specs.Prelude.{◌≡◌, ◌≤◌, length, IfOk, IfErr, OnOk, Ok};
+ghost use Rattle.text_definitions.specs.Text.{LinesGive, lines_of, TextGives};
+ghost use Rattle.text_reader.specs.Outcomes.{TakesLine, AreRefused, IsTextError};
+ghost use Rattle.workspace.specs.Numbered.{IsFew};
+
+use crate::declares::Declares;
+use crate::fault::{TextError, TextFault};
+use crate::form::{LineForm, line_form};
+use crate::lines::{TEXT_LIMIT, long_line, split_line};
+use line_faults::FaultKind;
+use std::alloc::{AllocError, Global};
+use workspace::ENTRY_LIMIT;
+
+/// More than `core` has of anything.
+const CORE_LIMIT: usize = 50;
+
+/// Takes a line. The answer is its fault, or nothing where the line was taken.
+fn take_line<D: Declares>(
+    alloc: Global,
+    tables: &mut D,
+    line: &[u8],
+) -> Result<Option<FaultKind>, AllocError>
+    requires agrees { D.agrees tables.old }
+    requires few { IsFew (D.so_far tables.old) ENTRY_LIMIT }
+    ensures gives { IfOk result (λ found. TakesLine (D.so_far tables.old) line.now found (D.so_far tables.new)) }
+    ensures agrees { OnOk result (D.agrees tables.new) }
+{
+    match line_form(alloc, line)? {
+        LineForm::OtherByte => Ok(Some(FaultKind::OtherByte)),
+        LineForm::Unwritten => Ok(Some(FaultKind::Syntax)),
+        LineForm::Blank => Ok(None),
+        LineForm::Read(read) => {
+            if let Some(kind) = tables.fault_of(alloc, &read)? {
+                return Ok(Some(kind));
+            }
+            tables.declare(alloc, &read)?;
+            Ok(None)
+        }
+    }
+}
+
+/// Takes the lines of a text, one after the other, up to the first faulty one.
+fn take_lines<D: Declares>(alloc: Global, tables: &mut D, bytes: &[u8]) -> Result<(), TextError>
+    requires agrees { D.agrees tables.old }
+    requires few { IsFew (D.so_far tables.old) CORE_LIMIT }
+    requires short { length bytes.now ≤ TEXT_LIMIT }
+    ensures taken { OnOk result (LinesGive (D.so_far tables.old) 1 (lines_of bytes.now) (Ok (D.so_far tables.new))) }
+    ensures agrees { OnOk result (D.agrees tables.new) }
+    ensures few { OnOk result (IsFew (D.so_far tables.new) ENTRY_LIMIT) }
+    ensures refused { IfErr result (λ e. AreRefused (D.so_far tables.old) (lines_of bytes.now) e) }
+{
+    let mut rest = bytes;
+    let mut place = 1u32;
+    'lines: loop {
+        let (line, behind) = split_line(rest);
+        if let Some(kind) = take_line(alloc, tables, line)? {
+            return Err(TextError::Text(TextFault { line: place, kind }));
+        }
+        match behind {
+            None => return Ok(()),
+            Some(others) => {
+                rest = others;
+                place += 1;
+            }
+        }
+    }
+}
+
+/// Reads a whole text: each of its lines is declared after the lines before it.
+pub fn read_text<D: Declares>(alloc: Global, bytes: &[u8]) -> Result<D, TextError>
+    // What is taken is what the text gives.
+    ensures taken { IfOk result (λ t. TextGives bytes.now (Ok (D.so_far t))) }
+    ensures agrees { IfOk result (λ t. D.agrees t) }
+    ensures few { IfOk result (λ t. IsFew (D.so_far t) ENTRY_LIMIT) }
+    // A fault is the first faulty line, with the fault that has the smallest number.
+    ensures refused { IfErr result (λ e. IsTextError bytes.now e) }
+{
+    if let Some(line) = long_line(bytes) {
+        return Err(TextError::Text(TextFault {
+            line,
+            kind: FaultKind::Limit,
+        }));
+    }
+    let mut tables = D::core(alloc)?;
+    take_lines(alloc, &mut tables, bytes)?;
+    Ok(tables)
+}
