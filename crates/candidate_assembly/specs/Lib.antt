@@ -7,3 +7,5 @@ pub mod Headers
 pub mod Merging
 pub mod Shown
 pub mod Sections
+pub mod Solving
+pub mod SolverLaws

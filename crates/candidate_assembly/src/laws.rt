@@ -10,6 +10,9 @@ ghost use Rattle.assembly_laws.specs.Asking.{Asked};
 ghost use Rattle.assembly_laws.specs.Candidates.{Candidate, by_impls};
 ghost use Rattle.candidate_assembly.specs.Headers.{impls_above, WellDeclaredHaveCandidates};
 ghost use Rattle.candidate_assembly.specs.Sections.{HistoriesTell};
+ghost use Rattle.candidate_assembly.specs.Solving.{solver_for, coinductive_for};
+ghost use Rattle.assembly_laws.specs.Facts.{FollowsByView};
+ghost use Rattle.goal_frames.specs.HandlerPrograms.{HandlersArePrograms};
 
 /// A walk over the impls of a goal meets the definitions' candidates one after the other: without a last one considered it is at the
 /// first, and behind the impl of any of them at the one after that.
@@ -32,4 +35,11 @@ pub fn histories_tell_what_is_next()
 /// header and where-clauses then speak of the impl's parameters alone, and its self type binds no lifetimes outermost.
 pub fn well_declared_have_candidates()
     ensures { WellDeclaredHaveCandidates }
+{}
+
+/// What the solver means for goals are lawful programs for a search, for each view and whatever is asked of goals beside that they are
+/// decided: for each goal it is a lawful handler, in coherence its answers cover the solutions in every linked set, terms get no wider
+/// and questions no more from goal to goal, and the solutions of nested goals are looked for where those of the goal are.
+pub fn solver_keeps_the_laws_of_handlers()
+    ensures { HandlersArePrograms solver_for (λ s. FollowsByView s.view) coinductive_for }
 {}
