@@ -13,3 +13,8 @@ pub mod Collected
 pub mod Walking
 pub mod Autos
 pub mod InOrder
+pub mod Taken
+pub mod Along
+pub mod SourcesOf
+pub mod Histories
+pub mod WellDeclared

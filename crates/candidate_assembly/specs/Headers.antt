@@ -12,11 +12,13 @@ use Rattle.declarations.specs.declared.items.GenericParamKind.TheVariants.{Lifet
 use Rattle.declarations.specs.declared.items.ImplDef.{ImplDef}
 use Rattle.term_folds.specs.declared.predicate.TraitRef.{TraitRef}
 use Rattle.declarations.specs.Applied.{sort_of_param, SpeaksOf}
-use Rattle.declarations.specs.Items.{Items}
+use Rattle.declarations.specs.Held.{AreHeld}
+use Rattle.declarations.specs.Items.{Items, written}
 use Rattle.declarations.specs.Merges.{Each}
 use Rattle.declarations.specs.Relevant.{is_above}
 use Rattle.assembly_laws.specs.Asking.{with_plain_head}
 use Rattle.assembly_laws.specs.Candidates.{kinds_of_params}
+use Rattle.assembly_laws.specs.DeclaredWell.{IsDeclaredWell}
 
 -- The kind of the unknown that stands for a parameter.
 abbrev pub var_kind : GenericParamKind → CanonicalVarKind
@@ -42,6 +44,11 @@ pub record CanBeCandidate (es : List Entry) (def : ImplDef) : Type 0 where
 -- Each impl can be one.
 abbrev pub HaveCandidates : List Entry → Items → Type 0
 HaveCandidates es d = Each (λ i. CanBeCandidate es i.def) d.impls
+
+-- Declarations that are declared well have them, where each type and constant parameter of an impl stands in its header.
+abbrev pub WellDeclaredHaveCandidates : Type 0
+WellDeclaredHaveCandidates =
+    (es : List Entry) (d : Items) → AreHeld es d → IsDeclaredWell (written es d) → Each (λ i. StandInHeader es i.def) d.impls → HaveCandidates es d
 
 -- The impls above the last one considered, or all if none was.
 abbrev pub impls_above : Option ImplId → List ImplDecl → List ImplDecl

@@ -6,3 +6,6 @@ pub mod Clauses
 pub mod Headers
 pub mod Merging
 pub mod Shown
+pub mod Sections
+pub mod Solving
+pub mod SolverLaws

@@ -8,7 +8,11 @@ ghost use Rattle.declarations.specs.Items.{Items, written};
 ghost use Rattle.declarations.specs.Merges.{Rises};
 ghost use Rattle.assembly_laws.specs.Asking.{Asked};
 ghost use Rattle.assembly_laws.specs.Candidates.{Candidate, by_impls};
-ghost use Rattle.candidate_assembly.specs.Headers.{impls_above};
+ghost use Rattle.candidate_assembly.specs.Headers.{impls_above, WellDeclaredHaveCandidates};
+ghost use Rattle.candidate_assembly.specs.Sections.{HistoriesTell};
+ghost use Rattle.candidate_assembly.specs.Solving.{solver_for, coinductive_for};
+ghost use Rattle.assembly_laws.specs.Facts.{FollowsByView};
+ghost use Rattle.goal_frames.specs.HandlerPrograms.{HandlersArePrograms};
 
 /// A walk over the impls of a goal meets the definitions' candidates one after the other: without a last one considered it is at the
 /// first, and behind the impl of any of them at the one after that.
@@ -18,4 +22,24 @@ pub fn walks_meet_all_impls()
     ensures goes_on { (es : List Entry) (d : Items) (a : Asked) (n : ℕ) (c : Candidate) (last : ImplId) → let V = written es d in
         Rises (map (λ i. i.id) d.impls) → slice_get (by_impls V a V.impls) n ≡ Some c → c.source ≡ Impl last
         → slice_get (by_impls V a (impls_above (Some last) V.impls)) 0 ≡ slice_get (by_impls V a V.impls) (n + 1) }
+{}
+
+/// What was considered tells what is next: after each history of a goal, in both modes, the plan wants the candidate at the place that is
+/// counted in the first section that has one there, and where none has it wants the answer. The sections are where-clauses, built-in
+/// rules, impls and object bounds, with what other crates may say before them.
+pub fn histories_tell_what_is_next()
+    ensures { HistoriesTell }
+{}
+
+/// Impls of declarations that are declared well can be candidates, where each type and constant parameter stands in its impl's header:
+/// header and where-clauses then speak of the impl's parameters alone, and its self type binds no lifetimes outermost.
+pub fn well_declared_have_candidates()
+    ensures { WellDeclaredHaveCandidates }
+{}
+
+/// What the solver means for goals are lawful programs for a search, for each view and whatever is asked of goals beside that they are
+/// decided: for each goal it is a lawful handler, in coherence its answers cover the solutions in every linked set, terms get no wider
+/// and questions no more from goal to goal, and the solutions of nested goals are looked for where those of the goal are.
+pub fn solver_keeps_the_laws_of_handlers()
+    ensures { HandlersArePrograms solver_for (λ s. FollowsByView s.view) coinductive_for }
 {}

@@ -1,0 +1,121 @@
+-- Where the assembly of a goal stands. The candidates of a goal come in sections, one after the other, and what was considered tells
+-- how many of each there were: so what is next is a function of the goal and of that.
+use Rattle.std.specs.Prelude.{◌≡◌, ℕ, Bool, true, false, ◌&&◌, ◌||◌, ◌==◌, not, if◌then◌else◌, List, [], ◌∷◌, length, filter, Option, Some, None, IfSome}
+use Rattle.std.specs.List.{slice_get, list_any}
+use Rattle.model.specs.Label.{dynamic}
+use Rattle.model.specs.Trees.{Trees, none, tree}
+use Rattle.model.specs.Worlds.{World, Reference}
+use Rattle.model.specs.Rules.{unsize, autos_with}
+use Rattle.infer_table.specs.declared.canonical.CanonicalVarKind.{CanonicalVarKind}
+use Rattle.infer_table.specs.declared.certainty.TypingMode.{TypingMode}
+use Rattle.infer_table.specs.declared.certainty.TypingMode.TheVariants.{Coherence, PostAnalysis}
+use Rattle.infer_table.specs.Canonical.{CanonicalForm}
+use Rattle.evaluation.specs.declared.candidate.CandidateSource.{CandidateSource}
+use Rattle.evaluation.specs.declared.candidate.CandidateSource.TheVariants.{BuiltinImpl, CoherenceUnknowable}
+use Rattle.evaluation.specs.declared.candidate.BuiltinImplSource.TheVariants.{Trivial, Misc, Object, TraitUpcasting}
+use Rattle.evaluation.specs.Candidate.{Next, consider, IsHistory}
+use Rattle.evaluation.specs.Merge.{or_else}
+use Rattle.evaluation.specs.Plans.{Plan, wanted}
+use Rattle.evaluation.specs.Table.{workings}
+use Rattle.table_laws.specs.Frames.{kinds_known}
+use Rattle.evaluation_laws.specs.Tables.{frame_tables}
+use Rattle.goal_frames.specs.Handlers.{same_answer, applies_always}
+use Rattle.assembly_laws.specs.Meaning.{Meaning}
+use Rattle.assembly_laws.specs.Knowing.{is_knowable}
+use Rattle.assembly_laws.specs.Asking.{Asked, asked, clauses, self_of, begins_unknown}
+use Rattle.assembly_laws.specs.Candidates.{Candidate, unsure, unknowable, by_clauses, built_in, by_impls, by_objects}
+use Rattle.assembly_laws.specs.Solver.{Past, from, holds_from, is_clause, is_impl, is_settled, solver_handled}
+use Rattle.candidate_assembly.specs.Merging.{end_in}
+
+-- ---- sections
+-- the self type is a `dyn`
+abbrev pub begins_dyn : Trees → Bool
+begins_dyn (tree dynamic c o) = true
+begins_dyn t = false
+
+-- A source that is no more than a built-in rule, for this goal, is a bound: of a `dyn` only `Unsize` has such rules, and the auto
+-- traits that it is written with are such bounds.
+abbrev pub misc_is_bound : Asked → Bool
+misc_is_bound a = begins_dyn (self_of a) && not (a.reference.trait == unsize)
+
+abbrev pub is_unknowable : CandidateSource → Bool
+is_unknowable CoherenceUnknowable = true
+is_unknowable s = false
+
+abbrev pub is_built_in : Bool → CandidateSource → Bool
+is_built_in b (BuiltinImpl Trivial) = true
+is_built_in b (BuiltinImpl Misc) = not b
+is_built_in b (BuiltinImpl (TraitUpcasting i)) = true
+is_built_in b s = false
+
+abbrev pub is_bound : Bool → CandidateSource → Bool
+is_bound b (BuiltinImpl (Object i)) = true
+is_bound b (BuiltinImpl Misc) = b
+is_bound b s = false
+
+-- the auto traits that a `dyn` is written with
+abbrev pub autos_of : Trees → List Reference
+autos_of (tree dynamic bounds o) = autos_with (tree dynamic bounds none) bounds
+autos_of t = []
+
+-- The sources tell the sections apart: no `dyn` is written with `Unsize` as an auto trait.
+abbrev pub sources_tell : Asked → Bool
+sources_tell a = not (a.reference.trait == unsize) || not (list_any (λ (r : Reference). r.trait == unsize) (autos_of (self_of a)))
+
+-- so many of those from there were considered
+abbrev pub considered_from : (CandidateSource → Bool) → Past → ℕ
+considered_from p seen = length (filter (from p) seen)
+
+-- ---- what is next
+-- of where-clauses and built-in rules
+abbrev pub early : World → Asked → Past → Option Candidate
+early V a seen = or_else (slice_get (by_clauses V a (clauses a)) (considered_from is_clause seen)) (slice_get (built_in V a) (considered_from (is_built_in (misc_is_bound a)) seen))
+
+-- of impls and object bounds
+abbrev pub late : World → Asked → Past → Option Candidate
+late V a seen = or_else (slice_get (by_impls V a V.impls) (considered_from is_impl seen)) (slice_get (by_objects V a) (considered_from (is_bound (misc_is_bound a)) seen))
+
+abbrev pub is_first : Past → Bool
+is_first [] = true
+is_first (c ∷ seen) = false
+
+-- in coherence first that other crates may have an impl, where the goal isn't knowable, and nothing else if that holds
+abbrev pub next_inside : World → ℕ → Asked → Past → Option Candidate
+next_inside V crate a seen =
+    if is_first seen && not (is_knowable V crate a.reference) then Some (unknowable V a)
+    else if holds_from is_unknowable seen then None else or_else (early V a seen) (late V a seen)
+
+-- outside it impls and object bounds only where no where-clause has settled the goal
+abbrev pub next_outside : World → Asked → Past → Option Candidate
+next_outside V a seen = or_else (early V a seen) (if is_settled seen then None else late V a seen)
+
+abbrev pub next_in : Meaning → TypingMode → Asked → Past → Option Candidate
+next_in m Coherence a seen = next_inside m.view m.crate a seen
+next_in m PostAnalysis a seen = next_outside m.view a seen
+
+-- the goal, if it is decided
+abbrev pub decided : Meaning → Option Asked → Option Asked
+decided m None = None
+decided m (Some a) = if not m.is_sound || begins_unknown a.kinds (self_of a) then None else Some a
+
+-- for a goal that is not decided there is one candidate, which is not sure
+abbrev pub next_candidate : Meaning → TypingMode → Option Asked → Past → Option Candidate
+next_candidate m mode None seen = if is_first seen then Some unsure else None
+next_candidate m mode (Some a) seen = next_in m mode a seen
+
+-- the answer once none is left: what is not decided is merged as in coherence
+abbrev pub end_of : TypingMode → Option Asked → List CanonicalVarKind → Past → Plan frame_tables
+end_of mode None kinds seen = end_in Coherence kinds seen
+end_of mode (Some a) kinds seen = end_in mode kinds seen
+
+-- the candidate, or else the end
+abbrev pub or_end : Option Candidate → Plan frame_tables → Next (workings frame_tables)
+or_end (Some s) end = consider s
+or_end None end = wanted frame_tables end
+
+-- After each history of a goal the plan wants the candidate that is next there, or, where there is none, its end.
+abbrev pub HistoriesTell : Type 0
+HistoriesTell =
+    (m : Meaning) (mode : TypingMode) (f : CanonicalForm) → let o = decided m (asked m.view f) in IfSome o (λ a. sources_tell a ≡ true)
+    → let next = (solver_handled applies_always same_answer m mode f).next in
+    (seen : Past) → IsHistory (workings frame_tables) next seen → next seen ≡ or_end (next_candidate m mode o seen) (end_of mode o (kinds_known f.kinds) seen)

@@ -1,0 +1,73 @@
+-- What the solver means for goals keeps the laws of handlers: it is lawful for each goal, terms get no wider and questions no more from
+-- goal to goal, and the solutions of nested goals are looked for where those of the goal are.
+use Rattle.std.proofs.Common.{◌≡◌, ◌≤◌, ℕ, ◌+◌, ◌*◌, max, arith, Bool, true, false, ◌&&◌, refl}
+use Rattle.std.proofs.lemmas.Nat.{mul-le}
+use Rattle.model.specs.Worlds.{World}
+use Rattle.infer_table.specs.Canonical.{CanonicalForm}
+use Rattle.infer_table.specs.declared.certainty.TypingMode.{TypingMode}
+use Rattle.infer_table.specs.declared.certainty.TypingMode.TheVariants.{Coherence, PostAnalysis}
+use Rattle.evaluation.specs.Handler.{IsHandler}
+use Rattle.table_laws.specs.Widths.{number_of}
+use Rattle.evaluation_laws.specs.Tables.{frame_tables}
+use Rattle.goal_frames.specs.Handlers.{same_answer, applies_always}
+use Rattle.goal_frames.specs.HandlerPrograms.{KeepNumbers, KeepWorlds, LookInCoherenceOnly, InstancesAreGoals, KindsAreOf, RulesAreOf}
+use Rattle.goal_frames.proofs.Same.{answers-are, applies-to-yeses}
+use Rattle.assembly_laws.specs.Facts.{FollowsByView}
+use Rattle.assembly_laws.specs.DeclaredWell.{is_declared_well}
+use Rattle.assembly_laws.specs.Lawful.{ViewIsDeclaredWell}
+use Rattle.assembly_laws.specs.Solver.{declared_width, widest_of, number_at, clauses_in}
+use Rattle.assembly_laws.proofs.DeclaredWell.{tests-tell}
+use Rattle.assembly_laws.proofs.SolverLaw.{solver-is-lawful-and-covers}
+use Rattle.assembly_laws.proofs.Worlds.{keep-worlds}
+use Rattle.candidate_assembly.specs.Solving.{Solving, meaning_for, solver_for, coinductive_for}
+
+-- ---- each goal
+first-true : (x y : Bool) → (x && y) ≡ true → x ≡ true
+first-true true y h = refl
+first-true false y h = absurd cc
+
+declared-well : (s : Solving) (f : CanonicalForm) → ViewIsDeclaredWell (meaning_for s f)
+declared-well s f e = tests-tell s.view (first-true (is_declared_well s.view) (s.fits f) e)
+
+pub solver-is-lawful : (s : Solving) (mode : TypingMode) (f : CanonicalForm) → IsHandler frame_tables (solver_for s mode f)
+solver-is-lawful s mode f = (solver-is-lawful-and-covers applies_always applies-to-yeses same_answer answers-are (meaning_for s f) (declared-well s f) f).0 mode
+
+-- ---- goals together
+greater-first : (a b d : ℕ) → a ≤ max b d → max a d ≤ max b d
+greater-first a b d h = omega (arith, h)
+
+-- the bound on nested goals grows with the width
+number-grows : (V : World) (m k : ℕ) → m ≤ k → number_at V m ≤ number_at V k
+number-grows V m k h = sums (clauses_in V) ((m + (m + 1)) * m) ((k + (k + 1)) * k) (mul-le (m + (m + 1)) m (k + (k + 1)) k (omega (arith, h)) h)
+  where
+    sums : (c x y : ℕ) → x ≤ y → c + (x + (4 * m + 4)) ≤ c + (y + (4 * k + 4))
+    sums c x y e = omega (arith, h, e)
+
+pub numbers-are-kept : KeepNumbers solver_for
+numbers-are-kept s mode g q h =
+    let wide : widest_of s.view q.form ≤ widest_of s.view g = greater-first (number_of q) (number_of (record { form = g; coinductive = false })) (declared_width s.view) h in
+    (wide, number-grows s.view (widest_of s.view q.form) (widest_of s.view g) wide)
+
+pub worlds-are-kept : KeepWorlds solver_for
+worlds-are-kept s PostAnalysis g heard q came e x = absurd x
+worlds-are-kept s Coherence g heard q came e x =
+    let k = keep-worlds applies_always same_answer (meaning_for s g) Coherence g heard q came e x in (
+      record {
+        linked = record { set = k.0.linked.set; views = k.0.linked.views; rank = k.0.linked.rank; linked = k.0.linked.linked; view_is = k.0.linked.view_is; supers_stand = k.0.linked.supers_stand };
+        no_clauses = k.0.no_clauses;
+        no_placeholders = k.0.no_placeholders;
+      },
+      k.1,
+    )
+
+pub instances-are-goals : InstancesAreGoals solver_for
+instances-are-goals s mode q v = refl
+
+pub rules-are-of : RulesAreOf solver_for (λ s. FollowsByView s.view)
+rules-are-of s mode g f premises r = r
+
+pub kinds-are-of : KindsAreOf solver_for coinductive_for
+kinds-are-of s mode g v = refl
+
+pub outside-is-nowhere : LookInCoherenceOnly solver_for
+outside-is-nowhere s g x = x

@@ -1,0 +1,30 @@
+-- What the solver means: the declarations of a crate's view, for goals whose terms fit them.
+use Rattle.std.specs.Prelude.{ℕ, Bool, ◌&&◌}
+use Rattle.model.specs.Worlds.{World}
+use Rattle.infer_table.specs.Canonical.{CanonicalForm}
+use Rattle.infer_table.specs.declared.certainty.TypingMode.{TypingMode}
+use Rattle.evaluation.specs.Handler.{Handled}
+use Rattle.table_laws.specs.Content.{Fact}
+use Rattle.evaluation_laws.specs.Tables.{frame_tables}
+use Rattle.goal_frames.specs.Handlers.{same_answer, applies_always}
+use Rattle.assembly_laws.specs.Facts.{is_coinductive_fact}
+use Rattle.assembly_laws.specs.Meaning.{Meaning}
+use Rattle.assembly_laws.specs.DeclaredWell.{is_declared_well}
+use Rattle.assembly_laws.specs.Solver.{solver_handled}
+
+-- The declarations that a crate sees, the crate, and which goals fit them: the arguments of their traits and structs are as many, and of
+-- the sorts, that are declared. A view tells neither.
+pub record Solving : Type 0 where
+  pub view : World
+  pub crate : ℕ
+  pub fits : CanonicalForm → Bool
+
+-- What is meant for a goal: of a view that is not declared well, or a goal that does not fit it, nothing is decided.
+abbrev pub meaning_for : Solving → CanonicalForm → Meaning
+meaning_for s f = record { view = s.view; crate = s.crate; is_sound = is_declared_well s.view && s.fits f }
+
+abbrev pub solver_for : Solving → TypingMode → CanonicalForm → Handled frame_tables
+solver_for s mode f = solver_handled applies_always same_answer (meaning_for s f) mode f
+
+abbrev pub coinductive_for : Solving → Fact → Bool
+coinductive_for s f = is_coinductive_fact s.view f
