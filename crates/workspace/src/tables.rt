@@ -162,6 +162,34 @@ impl Tables {
         self.crates.len() <= 1
     }
 
+    /// How many crates there are, `core` among them.
+    pub fn crate_count(&self) -> usize
+        ensures { result ≡ length (declared self.now).crates }
+    {
+        self.crates.len()
+    }
+
+    /// How many structs there are, those of `core` among them.
+    pub fn struct_count(&self) -> usize
+        ensures { result ≡ length (declared self.now).structs }
+    {
+        self.structs.len()
+    }
+
+    /// How many traits there are, those of `core` among them.
+    pub fn trait_count(&self) -> usize
+        ensures { result ≡ length (declared self.now).traits }
+    {
+        self.traits.len()
+    }
+
+    /// How many questions there are.
+    pub fn question_count(&self) -> usize
+        ensures { result ≡ length (declared self.now).questions }
+    {
+        self.questions.len()
+    }
+
     /// How many structs, traits and impls the last crate has.
     pub fn last_items(&self) -> u32
         requires { IsConsistent self.now }
