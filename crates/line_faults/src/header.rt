@@ -4,7 +4,7 @@ ghost use Rattle.std.specs.List.{list_any};
 ghost use Rattle.std.specs.Option.{option_copied, option_map, option_map_or};
 ghost use Rattle.text_definitions.specs.Syntax.{Line};
 ghost use Rattle.text_definitions.specs.Declarations.{Declarations, known, last_crate};
-ghost use Rattle.text_definitions.specs.Faults.{has_free_param, implements_built_in, is_among, is_auto_name, is_built_in, is_foreign_auto, is_param, is_struct_in};
+ghost use Rattle.text_definitions.specs.Faults.{has_free_param, implements_built_in, is_among, is_auto_name, is_built_in, is_foreign_auto, is_struct_in};
 ghost use Rattle.line_tokens.specs.Views.{text_of};
 ghost use Rattle.type_reader.specs.Views.{cell_of, cells_in};
 ghost use Rattle.line_reader.specs.Lines.{ReadsLine};
@@ -18,12 +18,13 @@ use crate::names::LineNames;
 use crate::params::ParamNames;
 use crate::parts::cells_to;
 use line_reader::{ClauseSpans, LineRead, Statement};
-use name_resolution::{Known, NameSet, Names, Sort};
+use name_resolution::{NameSet, Names, is_param};
 use std::alloc::{AllocError, Global};
 use type_reader::Cell;
+use workspace::Known;
 
 /// Traits of `core` that have built-in rules alone: `Sized`, `Tuple`, `FnPtr`, `FnOnce`, `FnMut`, `Fn`, `Unsize`.
-const BUILT_IN_TRAITS: [usize; 7] = [0, 3, 4, 5, 6, 7, 8];
+const BUILT_IN_TRAITS: [u32; 7] = [0, 3, 4, 5, 6, 7, 8];
 
 /// The header of an impl.
 fn impl_header(statement: &Statement<'_>) -> Option<ClauseSpans>
@@ -52,19 +53,6 @@ fn last_name<'a>(cells: &[Cell<'a>], end: usize) -> Option<&'a [u8]>
     cell_name(cells_to(cells, end).last())
 }
 
-/// Whether a name is a type or const parameter of the line.
-fn is_param<N: Names>(names: &N, name: &[u8]) -> bool
-    ensures { result ≡ is_param (N.sight names.now).line name.now }
-{
-    if let Some(_) = names.param_place(Sort::Type, name) {
-        return true;
-    }
-    if let Some(_) = names.param_place(Sort::Const, name) {
-        return true;
-    }
-    false
-}
-
 /// Whether a name is an auto trait's.
 fn is_auto<N: Names>(names: &N, name: &[u8]) -> bool
     ensures { result ≡ is_auto_name (items (N.sight names.now)) name.now }
@@ -80,7 +68,7 @@ fn is_built_in<N: Names>(names: &N, name: &[u8]) -> bool
     ensures { result ≡ option_map_or is_built_in (known (items (N.sight names.now)) name.now) false }
 {
     match names.known(name) {
-        Some(Known::Trait { number, .. }) => BUILT_IN_TRAITS.contains(&number),
+        Some(Known::Trait { id, .. }) => BUILT_IN_TRAITS.contains(&id.index),
         _ => false,
     }
 }
@@ -90,7 +78,7 @@ fn is_struct_of_crate<N: LineNames>(names: &N, name: &[u8]) -> bool
     ensures { result ≡ option_map_or (is_struct_in (last_crate (N.sight names.now).before)) (known (items (N.sight names.now)) name.now) false }
 {
     match names.known(name) {
-        Some(Known::Struct { home, .. }) => home == names.last_crate(),
+        Some(Known::Struct { owner, .. }) => owner.index == names.last_crate().index,
         _ => false,
     }
 }

@@ -4,6 +4,7 @@ ghost use Rattle.text_definitions.specs.Declarations.{known, last_crate};
 ghost use Rattle.text_definitions.specs.Faults.{last_items};
 
 use name_resolution::Names;
+use type_terms::CrateId;
 
 /// What the names of one line are looked up in, and how much is declared before it.
 pub trait LineNames: Names {
@@ -16,8 +17,8 @@ pub trait LineNames: Names {
         ensures { result ≡ length (Self.sight self.now).before.questions };
 
     /// The last crate.
-    fn last_crate(&self) -> usize
-        ensures { result ≡ last_crate (Self.sight self.now).before };
+    fn last_crate(&self) -> CrateId
+        ensures { result.index ≡ last_crate (Self.sight self.now).before };
 
     /// How many structs, traits and impls the last crate has.
     fn last_items(&self) -> usize

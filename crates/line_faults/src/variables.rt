@@ -4,13 +4,14 @@ ghost use Rattle.std.specs.List.{list_any};
 ghost use Rattle.model.specs.Label as label;
 ghost use Rattle.model.specs.Trees.{is_sort};
 ghost use Rattle.text_definitions.specs.Faults.{is_of_other_kind};
-ghost use Rattle.name_resolution.specs.Sorts.{sort_of};
+ghost use Rattle.workspace.specs.Views.{sort_of_kind};
 ghost use Rattle.name_resolution.specs.UsedNames.{Holds};
 ghost use Rattle.name_resolution.specs.Views.{variable_in};
 ghost use Rattle.line_faults.specs.Variables.{other_kind_names, HoldsKinds, have_two_kinds};
 
-use name_resolution::{NameSet, Sort, Variable};
+use name_resolution::{NameSet, Variable};
 use std::alloc::{AllocError, Global};
+use workspace::ParamKind;
 
 /// The names of variables of another sort than this.
 #[derive(Drop)]
@@ -20,13 +21,13 @@ pub(crate) struct OtherKinds<'a> {
     than_lifetime: NameSet<'a>,
 }
 
-fn is_same(first: Sort, second: Sort) -> bool
-    ensures { result ≡ is_sort (sort_of first) (sort_of second) }
+fn is_same(first: ParamKind, second: ParamKind) -> bool
+    ensures { result ≡ is_sort (sort_of_kind first) (sort_of_kind second) }
 {
     match first {
-        Sort::Type => matches!(second, Sort::Type),
-        Sort::Const => matches!(second, Sort::Const),
-        Sort::Lifetime => matches!(second, Sort::Lifetime),
+        ParamKind::Type => matches!(second, ParamKind::Type),
+        ParamKind::Const => matches!(second, ParamKind::Const),
+        ParamKind::Lifetime => matches!(second, ParamKind::Lifetime),
     }
 }
 
@@ -34,9 +35,9 @@ fn is_same(first: Sort, second: Sort) -> bool
 fn names_but<'a>(
     alloc: Global,
     variables: &[Variable<'a>],
-    sort: Sort,
+    sort: ParamKind,
 ) -> Result<NameSet<'a>, AllocError>
-    ensures { IfOk result (λ set. Holds set (other_kind_names (sort_of sort) (map variable_in variables.now))) }
+    ensures { IfOk result (λ set. Holds set (other_kind_names (sort_of_kind sort) (map variable_in variables.now))) }
 {
     let mut others = NameSet::new(alloc);
     let mut at = variables.len();
@@ -55,9 +56,9 @@ impl<'a> OtherKinds<'a> {
         ensures { IfOk result (λ others. HoldsKinds others (map variable_in variables.now)) }
     {
         Ok(OtherKinds {
-            than_type: names_but(alloc, variables, Sort::Type)?,
-            than_const: names_but(alloc, variables, Sort::Const)?,
-            than_lifetime: names_but(alloc, variables, Sort::Lifetime)?,
+            than_type: names_but(alloc, variables, ParamKind::Type)?,
+            than_const: names_but(alloc, variables, ParamKind::Const)?,
+            than_lifetime: names_but(alloc, variables, ParamKind::Lifetime)?,
         })
     }
 
@@ -66,9 +67,9 @@ impl<'a> OtherKinds<'a> {
         ensures { (vs : List (List ℕ × label.Sort)) → HoldsKinds self.now vs → result ≡ list_any (is_of_other_kind (variable_in variable.entry)) vs }
     {
         match variable.sort {
-            Sort::Type => self.than_type.contains(variable.name),
-            Sort::Const => self.than_const.contains(variable.name),
-            Sort::Lifetime => self.than_lifetime.contains(variable.name),
+            ParamKind::Type => self.than_type.contains(variable.name),
+            ParamKind::Const => self.than_const.contains(variable.name),
+            ParamKind::Lifetime => self.than_lifetime.contains(variable.name),
         }
     }
 }

@@ -5,8 +5,8 @@ use Rattle.std.specs.List.{position_from}
 use Rattle.std.specs.Str.{bytes_eq}
 use Rattle.line_tokens.specs.Views.{text_of}
 use Rattle.text_definitions.specs.Uses.{next_kind}
-use Rattle.name_resolution.specs.Sorts.{sort_of, sorts_of}
-use Rattle.name_resolution.specs.declared.names.Sort.{Sort}
+use Rattle.workspace.specs.Views.{sort_of_kind, sorts_of}
+use Rattle.workspace.specs.declared.cell.ParamKind.{ParamKind}
 
 -- looked for from place i on
 abbrev pub place_from : List ℕ → ℕ → List (Bor (List ℕ)) → Option ℕ
@@ -30,7 +30,7 @@ place-nowhere [] n j (suc i) h = absurd cc
 place-nowhere (x ∷ ns) n j zero h = absurd cc
 place-nowhere (x ∷ ns) n j (suc i) h = let k : i ≡ length ns = cc in place-nowhere ns n j i k
 
-pub kind-there : (ks : List Sort) (k : ℕ) (d : Sort) → k < length ks → sort_of (get_or ks k d) ≡ next_kind (drop k (sorts_of ks))
+pub kind-there : (ks : List ParamKind) (k : ℕ) (d : ParamKind) → k < length ks → sort_of_kind (get_or ks k d) ≡ next_kind (drop k (sorts_of ks))
 kind-there [] k d h = absurd (omega arith)
 kind-there (x ∷ ks) zero d h = refl
 kind-there (x ∷ ks) (suc k) d h = let l : k < length ks = omega arith in kind-there ks k d l

@@ -3,7 +3,6 @@ pub mod Standing
 pub mod Back
 pub mod Machine
 pub mod LookUps
-pub mod Sorts
 pub mod Views
 pub mod Laws
 pub mod Steps

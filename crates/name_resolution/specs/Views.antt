@@ -8,7 +8,7 @@ use Rattle.line_tokens.specs.Views.{primitive_label, text_of}
 use Rattle.type_reader.specs.Views.{cells_in}
 use Rattle.type_reader.specs.Cells as cell
 use Rattle.type_reader.specs.declared.cell.Cell.{Cell}
-use Rattle.name_resolution.specs.Sorts.{sort_of}
+use Rattle.workspace.specs.Views.{sort_of_kind}
 use Rattle.name_resolution.specs.Resolved as resolved
 use Rattle.name_resolution.specs.declared.resolved.Region.{Region}
 use Rattle.name_resolution.specs.declared.resolved.Region.TheVariants as regions
@@ -39,13 +39,13 @@ label_in (labels.Value d) = label.value (number_from 0 d.now)
 
 abbrev pub resolved_in : ResolvedCell → resolved.ResolvedCell
 resolved_in (cells.Node l k) = resolved.node_cell (label_in l) k
-resolved_in (cells.Param p i k) = resolved.param_cell (sort_of p) i k
-resolved_in (cells.Variable p n) = resolved.variable_cell (sort_of p) n.now
+resolved_in (cells.Param p i k) = resolved.param_cell (sort_of_kind p) i k
+resolved_in (cells.Variable p n) = resolved.variable_cell (sort_of_kind p) n.now
 resolved_in (cells.Lifetime r) = resolved.lifetime_cell (region_in r)
 resolved_in (cells.Reference r m) = resolved.reference_cell (region_in r) m
 
 abbrev pub variable_in : Variable → List ℕ × label.Sort
-variable_in v = (v.name.now, sort_of v.sort)
+variable_in v = (v.name.now, sort_of_kind v.sort)
 
 -- what was put down last comes first
 abbrev pub resolved_onto : List ResolvedCell → List resolved.ResolvedCell → List resolved.ResolvedCell

@@ -1,7 +1,7 @@
 -- What the walk over the cells stands for, and what its methods did.
 use Rattle.std.specs.Prelude.{◌≡◌, ℕ, Bool, true, false, List, [], ◌∷◌, Result, Ok, Err}
 use Rattle.std.specs.declared.alloc.AllocError.{AllocError}
-use Rattle.name_resolution.specs.Sorts.{sort_of, sorts_of}
+use Rattle.workspace.specs.Views.{sort_of_kind, sorts_of}
 use Rattle.name_resolution.specs.Machine as machine
 use Rattle.name_resolution.specs.Machine.{Sight, State, visiting, going, finished, Found, Reaches}
 use Rattle.type_reader.specs.Cells.{Cell}
@@ -14,7 +14,7 @@ use Rattle.name_resolution.specs.declared.walk.Next.TheVariants as nexts
 use Rattle.name_resolution.specs.declared.walk.Walk.{Walk}
 
 abbrev pub place_of : Place → machine.Place
-place_of p = record { kind = sort_of p.sort; room = p.room; is_kept = p.is_kept }
+place_of p = record { kind = sort_of_kind p.sort; room = p.room; is_kept = p.is_kept }
 
 abbrev pub inside_of : Inside → machine.Inside
 inside_of insides.Types = machine.types_inside

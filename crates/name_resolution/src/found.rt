@@ -3,17 +3,17 @@ ghost use Rattle.std.specs.Prelude.{◌≡◌, ◌∷◌, ◌++◌, [], ◌||◌
 ghost use Rattle.text_definitions.specs.Uses.{length_uses};
 ghost use Rattle.text_definitions.specs.Faults.{variables_in};
 ghost use Rattle.type_reader.specs.Views.{length_of};
-ghost use Rattle.name_resolution.specs.Sorts.{sort_of};
+ghost use Rattle.workspace.specs.Views.{sort_of_kind};
 ghost use Rattle.name_resolution.specs.Views.{resolved_in};
 
 use crate::findings::Findings;
-use crate::names::Sort;
 use crate::resolve::Resolved;
 use crate::resolved::{ResolvedCell, Variable};
 use crate::walk::Place;
 use std::alloc::{AllocError, Global};
 use std::marker::Model;
 use type_reader::Length;
+use workspace::ParamKind;
 
 /// What is found so far. What was met last comes first: the variables and the resolved cells are turned round at the end.
 #[derive(Drop)]
@@ -79,8 +79,8 @@ impl<'a> Found<'a> {
     }
 
     /// A variable before those that were met.
-    pub fn note_variable(&mut self, name: &'a [u8], sort: Sort) -> Result<(), AllocError>
-        ensures { OnOk result (self.new ≡ record self.old { variables = (name.now, sort_of sort) ∷ self.old.variables }) }
+    pub fn note_variable(&mut self, name: &'a [u8], sort: ParamKind) -> Result<(), AllocError>
+        ensures { OnOk result (self.new ≡ record self.old { variables = (name.now, sort_of_kind sort) ∷ self.old.variables }) }
     {
         self.variables.push(Variable { name, sort })?;
         Ok(())
@@ -91,7 +91,7 @@ impl<'a> Found<'a> {
         ensures { OnOk result (self.new ≡ record self.old { variables = variables_in (length_uses (length_of length.entry)) ++ self.old.variables }) }
     {
         if let Length::Variable(name) = length {
-            self.note_variable(name, Sort::Const)?;
+            self.note_variable(name, ParamKind::Const)?;
         }
         Ok(())
     }

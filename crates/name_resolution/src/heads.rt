@@ -10,16 +10,17 @@ ghost use Rattle.name_resolution.specs.LookUps.{params_of_sort};
 ghost use Rattle.name_resolution.specs.Machine.{items, params, name_cells};
 ghost use Rattle.name_resolution.specs.Resolved as resolved;
 ghost use Rattle.name_resolution.specs.Resolved.{const_cell, length_cell, named_cell};
-ghost use Rattle.name_resolution.specs.Sorts.{sort_of, sorts_of, known_of};
+ghost use Rattle.workspace.specs.Views.{sort_of_kind, sorts_of, known_of};
 ghost use Rattle.name_resolution.specs.Views.{label_in, resolved_in};
 
-use crate::names::{Known, Names, Sort};
+use crate::names::Names;
 use crate::resolved::{NodeLabel, ResolvedCell};
 use type_reader::Length;
+use workspace::{Known, ParamKind};
 
 /// The place of a name among the line's parameters of this sort, or their number where it is none of them.
-fn place_among<N: Names>(names: &N, sort: Sort, name: &[u8]) -> usize
-    ensures { result ≡ place_among name.now (params_of_sort (params (N.sight names.now)) (sort_of sort)) }
+fn place_among<N: Names>(names: &N, sort: ParamKind, name: &[u8]) -> usize
+    ensures { result ≡ place_among name.now (params_of_sort (params (N.sight names.now)) (sort_of_kind sort)) }
 {
     match names.param_place(sort, name) {
         Some(place) => place,
@@ -32,8 +33,8 @@ fn const_cell<'a, N: Names>(names: &N, name: &[u8]) -> ResolvedCell<'a>
     ensures { resolved_in result ≡ const_cell (params (N.sight names.now)) name.now }
 {
     ResolvedCell::Param {
-        sort: Sort::Const,
-        place: place_among(names, Sort::Const, name),
+        sort: ParamKind::Const,
+        place: place_among(names, ParamKind::Const, name),
         inside: 0,
     }
 }
@@ -49,7 +50,7 @@ pub(crate) fn length_cell<'a, N: Names>(names: &N, length: Length<'a>) -> Resolv
         },
         Length::Name(name) => const_cell(names, name),
         Length::Variable(name) => ResolvedCell::Variable {
-            sort: Sort::Const,
+            sort: ParamKind::Const,
             name,
         },
     }
@@ -60,7 +61,7 @@ fn struct_label<'a>(meaning: Option<Known<'_>>) -> NodeLabel<'a>
     ensures { label_in result ≡ struct_label (option_map known_of meaning.entry) }
 {
     match meaning {
-        Some(Known::Struct { number, .. }) => NodeLabel::Struct(number),
+        Some(Known::Struct { id, .. }) => NodeLabel::Struct(id.index as usize),
         _ => NodeLabel::Never,
     }
 }
@@ -75,9 +76,9 @@ fn type_cell<'a, N: Names>(
     requires { option_map known_of meaning ≡ known (items (N.sight names.now)) name.now }
     ensures { resolved_in result ≡ named_cell (items (N.sight names.now)) (params (N.sight names.now)) name.now count }
 {
-    match names.param_place(Sort::Type, name) {
+    match names.param_place(ParamKind::Type, name) {
         Some(place) => ResolvedCell::Param {
-            sort: Sort::Type,
+            sort: ParamKind::Type,
             place,
             inside: count,
         },
@@ -91,37 +92,37 @@ fn type_cell<'a, N: Names>(
 /// A name over so many arguments, at a place of this sort.
 pub(crate) fn named_cell<'a, N: Names>(
     names: &N,
-    sort: Sort,
+    sort: ParamKind,
     name: &[u8],
     count: usize,
     meaning: Option<Known<'_>>,
 ) -> ResolvedCell<'a>
     requires { option_map known_of meaning ≡ known (items (N.sight names.now)) name.now }
-    ensures { (cs : List resolved.ResolvedCell) → name_cells (N.sight names.now) (sort_of sort) name.now count cs ≡ resolved_in result ∷ cs }
+    ensures { (cs : List resolved.ResolvedCell) → name_cells (N.sight names.now) (sort_of_kind sort) name.now count cs ≡ resolved_in result ∷ cs }
 {
     match sort {
-        Sort::Const => const_cell(names, name),
-        Sort::Type => type_cell(names, name, count, meaning),
-        Sort::Lifetime => type_cell(names, name, count, meaning),
+        ParamKind::Const => const_cell(names, name),
+        ParamKind::Type => type_cell(names, name, count, meaning),
+        ParamKind::Lifetime => type_cell(names, name, count, meaning),
     }
 }
 
 /// The kinds of a struct's parameters.
-pub(crate) fn struct_kinds(meaning: Option<Known<'_>>) -> &[Sort]
+pub(crate) fn struct_kinds(meaning: Option<Known<'_>>) -> &[ParamKind]
     ensures { sorts_of result.now ≡ kinds_of_struct (option_map known_of meaning.entry) }
 {
     match meaning {
-        Some(Known::Struct { kinds, .. }) => kinds,
+        Some(Known::Struct { params, .. }) => params,
         _ => &[],
     }
 }
 
 /// The kinds of a trait's parameters.
-pub(crate) fn trait_kinds(meaning: Option<Known<'_>>) -> &[Sort]
+pub(crate) fn trait_kinds(meaning: Option<Known<'_>>) -> &[ParamKind]
     ensures { sorts_of result.now ≡ kinds_of_trait (option_map known_of meaning.entry) }
 {
     match meaning {
-        Some(Known::Trait { kinds, .. }) => kinds,
+        Some(Known::Trait { params, .. }) => params,
         _ => &[],
     }
 }
@@ -131,7 +132,7 @@ pub(crate) fn trait_number(meaning: Option<Known<'_>>) -> usize
     ensures { result ≡ trait_number (option_map known_of meaning.entry) }
 {
     match meaning {
-        Some(Known::Trait { number, .. }) => number,
+        Some(Known::Trait { id, .. }) => id.index as usize,
         _ => 0,
     }
 }

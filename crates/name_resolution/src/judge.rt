@@ -9,9 +9,8 @@ ghost use Rattle.text_definitions.specs.Tokens.{number_from};
 ghost use Rattle.text_definitions.specs.Uses.{crate_use, name_use, trait_use, lifetime_use, lifetime_uses, variable_use, misfit_use, items_use, number_use, number_arg_uses, length_uses, binder_uses};
 ghost use Rattle.text_definitions.specs.Faults.{is_crate, is_unknown_use, is_other_sort, is_param, home_of, is_known_name, is_hidden_name, looking_crate, is_param_of, is_type_of, is_trait_of, is_in_scope, is_among, repeats, is_long, static_name};
 ghost use Rattle.text_definitions.specs.Declarations.{Known, known};
-ghost use Rattle.name_resolution.specs.Sorts.{known_of};
 ghost use Rattle.name_resolution.specs.LookUps.{is_hidden_home};
-ghost use Rattle.name_resolution.specs.Sorts.{sort_of};
+ghost use Rattle.workspace.specs.Views.{known_of, sort_of_kind};
 ghost use Rattle.name_resolution.specs.Views.{region_in};
 ghost use Rattle.name_resolution.specs.Resolved.{region_of, optional_region};
 ghost use Rattle.name_resolution.specs.Machine.{Sight, findings, items, params, sort_misfits, name_misfits, lifetime_misfits};
@@ -19,10 +18,12 @@ ghost use Rattle.name_resolution.specs.Machine.{Sight, findings, items, params, 
 use crate::binders::{Binders, place_in};
 use crate::findings::Findings;
 use crate::name_set::NameSet;
-use crate::names::{Known, Names, Sort};
+use crate::names::Names;
 use crate::resolved::Region;
 use std::alloc::{AllocError, Global};
 use type_reader::Length;
+use type_terms::CrateId;
+use workspace::{Known, ParamKind};
 
 /// Bytes that a name may have.
 const NAME_LIMIT: usize = 64;
@@ -57,35 +58,35 @@ fn limit(is_passed: bool) -> Findings
 }
 
 /// A type that isn't a name alone or a variable, at a place of this sort.
-pub(crate) fn misfits(sort: Sort) -> Findings
-    ensures { (v : Sight) → result ≡ findings v (sort_misfits (sort_of sort)) }
+pub(crate) fn misfits(sort: ParamKind) -> Findings
+    ensures { (v : Sight) → result ≡ findings v (sort_misfits (sort_of_kind sort)) }
 {
     match sort {
-        Sort::Type => Findings::NONE,
-        Sort::Const => MISFIT,
-        Sort::Lifetime => MISFIT,
+        ParamKind::Type => Findings::NONE,
+        ParamKind::Const => MISFIT,
+        ParamKind::Lifetime => MISFIT,
     }
 }
 
 /// A name or a variable at a place of this sort.
-pub(crate) fn named_misfits(sort: Sort) -> Findings
-    ensures { (v : Sight) → result ≡ findings v (name_misfits (sort_of sort)) }
+pub(crate) fn named_misfits(sort: ParamKind) -> Findings
+    ensures { (v : Sight) → result ≡ findings v (name_misfits (sort_of_kind sort)) }
 {
     match sort {
-        Sort::Type => Findings::NONE,
-        Sort::Const => Findings::NONE,
-        Sort::Lifetime => MISFIT,
+        ParamKind::Type => Findings::NONE,
+        ParamKind::Const => Findings::NONE,
+        ParamKind::Lifetime => MISFIT,
     }
 }
 
 /// A lifetime at a place of this sort.
-pub(crate) fn lifetime_misfits(sort: Sort) -> Findings
-    ensures { (v : Sight) → result ≡ findings v (lifetime_misfits (sort_of sort)) }
+pub(crate) fn lifetime_misfits(sort: ParamKind) -> Findings
+    ensures { (v : Sight) → result ≡ findings v (lifetime_misfits (sort_of_kind sort)) }
 {
     match sort {
-        Sort::Type => MISFIT,
-        Sort::Const => MISFIT,
-        Sort::Lifetime => Findings::NONE,
+        ParamKind::Type => MISFIT,
+        ParamKind::Const => MISFIT,
+        ParamKind::Lifetime => Findings::NONE,
     }
 }
 
@@ -112,7 +113,7 @@ fn is_unknown_lifetime<N: Names>(names: &N, binders: &Binders<'_>, name: &[u8]) 
     if name == b"static".as_slice() {
         return false;
     }
-    if let Some(_) = names.param_place(Sort::Lifetime, name) {
+    if let Some(_) = names.param_place(ParamKind::Lifetime, name) {
         return false;
     }
     if let Some(_) = binders.find(name) {
@@ -142,9 +143,9 @@ pub(crate) fn region<N: Names>(names: &N, binders: &Binders<'_>, name: &[u8]) ->
     if let Some((binder, place)) = binders.find(name) {
         return Region::Bound { binder, place };
     }
-    match names.param_place(Sort::Lifetime, name) {
+    match names.param_place(ParamKind::Lifetime, name) {
         Some(place) => Region::Param(place),
-        None => Region::Param(names.param_count(Sort::Lifetime)),
+        None => Region::Param(names.param_count(ParamKind::Lifetime)),
     }
 }
 
@@ -184,25 +185,25 @@ pub(crate) fn optional_region<N: Names>(
 }
 
 /// Whether a name is a type or const parameter of the line.
-fn is_param<N: Names>(names: &N, name: &[u8]) -> bool
+pub fn is_param<N: Names>(names: &N, name: &[u8]) -> bool
     ensures { result ≡ is_param (N.sight names.now).line name.now }
 {
-    if let Some(_) = names.param_place(Sort::Type, name) {
+    if let Some(_) = names.param_place(ParamKind::Type, name) {
         return true;
     }
-    if let Some(_) = names.param_place(Sort::Const, name) {
+    if let Some(_) = names.param_place(ParamKind::Const, name) {
         return true;
     }
     false
 }
 
 /// The crate of a struct or a trait.
-fn home(meaning: Option<Known<'_>>) -> Option<usize>
-    ensures { result ≡ option_and_then home_of (option_map known_of meaning.entry) }
+fn home(meaning: Option<Known<'_>>) -> Option<CrateId>
+    ensures { option_map (λ c. c.index) result ≡ option_and_then home_of (option_map known_of meaning.entry) }
 {
     match meaning {
-        Some(Known::Struct { home, .. }) => Some(home),
-        Some(Known::Trait { home, .. }) => Some(home),
+        Some(Known::Struct { owner, .. }) => Some(owner),
+        Some(Known::Trait { owner, .. }) => Some(owner),
         _ => None,
     }
 }
@@ -243,19 +244,19 @@ fn is_hidden_known<N: Names>(names: &N, name: &[u8], meaning: Option<Known<'_>>)
 }
 
 /// Whether a parameter may stand at a place of this sort with so many arguments.
-fn fits_param<N: Names>(names: &N, sort: Sort, name: &[u8], count: usize) -> bool
-    ensures { result ≡ is_param_of (N.sight names.now).line (sort_of sort) name.now count }
+fn fits_param<N: Names>(names: &N, sort: ParamKind, name: &[u8], count: usize) -> bool
+    ensures { result ≡ is_param_of (N.sight names.now).line (sort_of_kind sort) name.now count }
 {
     if count != 0 {
         return false;
     }
     match sort {
-        Sort::Lifetime => false,
-        Sort::Type => match names.param_place(Sort::Type, name) {
+        ParamKind::Lifetime => false,
+        ParamKind::Type => match names.param_place(ParamKind::Type, name) {
             Some(_) => true,
             None => false,
         },
-        Sort::Const => match names.param_place(Sort::Const, name) {
+        ParamKind::Const => match names.param_place(ParamKind::Const, name) {
             Some(_) => true,
             None => false,
         },
@@ -263,12 +264,12 @@ fn fits_param<N: Names>(names: &N, sort: Sort, name: &[u8], count: usize) -> boo
 }
 
 /// Whether this is a struct with so many parameters, at a place of this sort.
-fn is_struct_of(sort: Sort, count: usize, meaning: Option<Known<'_>>) -> bool
-    ensures { result ≡ option_map_or (is_type_of (sort_of sort) count) (option_map known_of meaning.entry) false }
+fn is_struct_of(sort: ParamKind, count: usize, meaning: Option<Known<'_>>) -> bool
+    ensures { result ≡ option_map_or (is_type_of (sort_of_kind sort) count) (option_map known_of meaning.entry) false }
 {
     match meaning {
-        Some(Known::Struct { kinds, .. }) => match sort {
-            Sort::Type => kinds.len() == count,
+        Some(Known::Struct { params, .. }) => match sort {
+            ParamKind::Type => params.len() == count,
             _ => false,
         },
         _ => false,
@@ -280,7 +281,7 @@ fn is_trait_of(count: usize, meaning: Option<Known<'_>>) -> bool
     ensures { result ≡ option_map_or (is_trait_of count) (option_map known_of meaning.entry) false }
 {
     match meaning {
-        Some(Known::Trait { kinds, .. }) => kinds.len() == count,
+        Some(Known::Trait { params, .. }) => params.len() == count,
         _ => false,
     }
 }
@@ -288,13 +289,13 @@ fn is_trait_of(count: usize, meaning: Option<Known<'_>>) -> bool
 /// Whether a name is of another sort than its place needs, or has a wrong number of arguments.
 fn is_other_name<N: Names>(
     names: &N,
-    sort: Sort,
+    sort: ParamKind,
     name: &[u8],
     count: usize,
     meaning: Option<Known<'_>>,
 ) -> bool
     requires { option_map known_of meaning ≡ known (items (N.sight names.now)) name.now }
-    ensures { result ≡ is_other_sort (N.sight names.now).before (N.sight names.now).line (name_use (sort_of sort) name.now count) }
+    ensures { result ≡ is_other_sort (N.sight names.now).before (N.sight names.now).line (name_use (sort_of_kind sort) name.now count) }
 {
     if is_param(names, name) {
         !fits_param(names, sort, name, count)
@@ -323,13 +324,13 @@ fn is_other_trait<N: Names>(
 #[tactic(auto, using(crate::proofs::Judged::one_name))]
 pub(crate) fn name<N: Names>(
     names: &N,
-    sort: Sort,
+    sort: ParamKind,
     name: &[u8],
     count: usize,
     meaning: Option<Known<'_>>,
 ) -> Findings
     requires { option_map known_of meaning ≡ known (items (N.sight names.now)) name.now }
-    ensures { result ≡ findings (N.sight names.now) (name_use (sort_of sort) name.now count ∷ []) }
+    ensures { result ≡ findings (N.sight names.now) (name_use (sort_of_kind sort) name.now count ∷ []) }
 {
     Findings {
         uses_unknown: is_unknown(names, name, meaning),
@@ -418,13 +419,13 @@ pub(crate) fn number(digits: &[u8]) -> Findings
 
 /// A number where an argument for a parameter of this sort stands.
 #[tactic(auto, using(crate::proofs::Judged::misfit_number))]
-pub(crate) fn number_argument(sort: Sort, digits: &[u8]) -> Findings
-    ensures { (v : Sight) → result ≡ findings v (number_arg_uses (sort_of sort) (number_from 0 digits.now)) }
+pub(crate) fn number_argument(sort: ParamKind, digits: &[u8]) -> Findings
+    ensures { (v : Sight) → result ≡ findings v (number_arg_uses (sort_of_kind sort) (number_from 0 digits.now)) }
 {
     match sort {
-        Sort::Const => number(digits),
-        Sort::Type => number(digits).either(MISFIT),
-        Sort::Lifetime => number(digits).either(MISFIT),
+        ParamKind::Const => number(digits),
+        ParamKind::Type => number(digits).either(MISFIT),
+        ParamKind::Lifetime => number(digits).either(MISFIT),
     }
 }
 
@@ -434,7 +435,7 @@ pub(crate) fn length<N: Names>(names: &N, length: Length<'_>) -> Findings
 {
     match length {
         Length::Number(digits) => number(digits),
-        Length::Name(constant) => name(names, Sort::Const, constant, 0, names.known(constant)),
+        Length::Name(constant) => name(names, ParamKind::Const, constant, 0, names.known(constant)),
         Length::Variable(unknown) => variable(unknown),
     }
 }
@@ -482,7 +483,7 @@ fn has_long(names: &[&[u8]]) -> bool
 fn is_in_scope<N: Names>(names: &N, binders: &Binders<'_>, name: &[u8]) -> bool
     ensures { result ≡ is_in_scope (N.sight names.now).line binders.now name.now }
 {
-    if let Some(_) = names.param_place(Sort::Lifetime, name) {
+    if let Some(_) = names.param_place(ParamKind::Lifetime, name) {
         return true;
     }
     match binders.find(name) {

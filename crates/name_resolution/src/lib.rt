@@ -22,9 +22,9 @@ ghost use Rattle.name_resolution.specs.UsedNames.{TypesUseNames, ArgsUseNames};
 ghost use Rattle.name_resolution.specs.Laws.{MachineResolves, ArgsResolved, TypesTurned, ArgsTurned};
 
 pub use findings::Findings;
-pub use judge::{crate_name, has_static, repeats};
+pub use judge::{crate_name, has_static, is_param, repeats};
 pub use name_set::NameSet;
-pub use names::{Known, Names, Sort};
+pub use names::Names;
 pub use resolve::{Resolved, ResolvedBound, resolve_bound, resolve_type};
 pub use resolved::{NodeLabel, Region, ResolvedCell, Variable};
 pub use variables::each_once;

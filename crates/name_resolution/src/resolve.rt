@@ -4,12 +4,13 @@ ghost use Rattle.type_reader.specs.Views.{cells_in};
 ghost use Rattle.name_resolution.specs.Resolving.{ResolvesType, ResolvesBound};
 
 use crate::findings::Findings;
-use crate::names::{Names, Sort};
+use crate::names::Names;
 use crate::resolved::{ResolvedCell, Variable};
 use crate::walk::{Frame, Inside, Next, Place, Walk};
 use crate::{heads, judge};
 use std::alloc::{AllocError, Global};
 use type_reader::Cell;
+use workspace::ParamKind;
 
 /// How many types may be around each other.
 const DEPTH_LIMIT: usize = 64;
@@ -48,7 +49,7 @@ pub fn resolve_type<'a, N: Names>(
 {
     let mut walk = Walk::new(alloc, cells);
     let place = Place {
-        sort: Sort::Type,
+        sort: ParamKind::Type,
         room: Some(DEPTH_LIMIT),
         is_kept: true,
     };

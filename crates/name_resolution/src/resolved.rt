@@ -1,7 +1,7 @@
 //! Types whose names are looked up, as lists of cells.
 
-use crate::names::Sort;
 use line_tokens::Primitive;
+use workspace::ParamKind;
 
 /// A lifetime.
 #[derive(Clone, Copy)]
@@ -44,13 +44,13 @@ pub enum ResolvedCell<'a> {
     },
     /// A type or const parameter, by its place among the line's parameters of its sort.
     Param {
-        sort: Sort,
+        sort: ParamKind,
         place: usize,
         inside: usize,
     },
     /// A variable of a question.
     Variable {
-        sort: Sort,
+        sort: ParamKind,
         name: &'a [u8],
     },
     Lifetime(Region),
@@ -65,5 +65,5 @@ pub enum ResolvedCell<'a> {
 #[derive(Clone, Copy)]
 pub struct Variable<'a> {
     pub name: &'a [u8],
-    pub sort: Sort,
+    pub sort: ParamKind,
 }

@@ -2,21 +2,22 @@
 ghost use Rattle.std.specs.Prelude.{◌≡◌, drop};
 ghost use Rattle.text_definitions.specs.Uses.{next_kind};
 ghost use Rattle.name_resolution.specs.Machine.{Sight, arg_place, args_inside, frame_step, inside_step, item_step, step, type_place, types_inside, visit_step};
-ghost use Rattle.name_resolution.specs.Sorts.{sort_of, sorts_of};
+ghost use Rattle.workspace.specs.Views.{sort_of_kind, sorts_of};
 ghost use Rattle.name_resolution.specs.WalkViews.{frame_of, inside_of, place_of, state_in, is_finished, Steps, Comes, Ends};
 
-use crate::names::{Names, Sort};
+use crate::names::Names;
 use crate::resolved::NodeLabel;
 use crate::walk::{Frame, Inside, Next, Place, Walk};
 use std::alloc::{AllocError, Global};
 use type_reader::Cell;
+use workspace::ParamKind;
 
 /// The place of an argument for a parameter of this sort; only types are around one another.
-fn arg_place(sort: Sort, room: Option<usize>, is_kept: bool) -> Place
-    ensures { place_of result ≡ arg_place (sort_of sort) room is_kept }
+fn arg_place(sort: ParamKind, room: Option<usize>, is_kept: bool) -> Place
+    ensures { place_of result ≡ arg_place (sort_of_kind sort) room is_kept }
 {
     let room = match sort {
-        Sort::Type => room,
+        ParamKind::Type => room,
         _ => None,
     };
     Place {
@@ -31,20 +32,20 @@ fn type_place(room: Option<usize>, is_kept: bool) -> Place
     ensures { place_of result ≡ type_place room is_kept }
 {
     Place {
-        sort: Sort::Type,
+        sort: ParamKind::Type,
         room,
         is_kept,
     }
 }
 
 /// The kind of the parameter at this place.
-fn kind_at(kinds: &[Sort], place: usize) -> Sort
-    ensures { sort_of result ≡ next_kind (drop place (sorts_of kinds.now)) }
+fn kind_at(kinds: &[ParamKind], place: usize) -> ParamKind
+    ensures { sort_of_kind result ≡ next_kind (drop place (sorts_of kinds.now)) }
 {
     if place < kinds.len() {
         kinds[place]
     } else {
-        Sort::Type
+        ParamKind::Type
     }
 }
 
@@ -53,7 +54,7 @@ impl<'n, 'c, 'a> Walk<'n, 'c, 'a> {
     fn args_inside(
         &mut self,
         frame: Frame<'n>,
-        kinds: &'n [Sort],
+        kinds: &'n [ParamKind],
         left: usize,
     ) -> Result<Next, AllocError>
         ensures { (v : Sight) → Steps result (λ fs s r a. inside_step v (args_inside (sorts_of kinds.now) left) (frame_of frame.entry) fs s r a) self.old self.new }

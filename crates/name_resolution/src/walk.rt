@@ -2,7 +2,7 @@
 ghost use Rattle.std.specs.Prelude.{◌≡◌, ◌+◌, ◌<◌, ◌^◌, ◌∷◌, [], length, map, reverse, not, ◌&&◌, OnOk, MatchOption};
 ghost use Rattle.std.specs.Option.{option_map};
 ghost use Rattle.line_tokens.specs.Views.{text_of};
-ghost use Rattle.name_resolution.specs.Sorts.{sort_of};
+ghost use Rattle.workspace.specs.Views.{sort_of_kind};
 ghost use Rattle.name_resolution.specs.Views.{resolved_in, label_in};
 ghost use Rattle.name_resolution.specs.WalkViews.{place_of, frame_of, frames_in, Steps};
 ghost use Rattle.name_resolution.specs.Machine.{Sight, reference_step, lifetime_step, leaf_step, variable_step, number_step, named_step, wrapped_step, array_step, tuple_step, fn_step, fn_to_step, bound_step, fn_frame, params, is_const_place, deeper, type_place, outer_scope, going, using};
@@ -17,17 +17,18 @@ ghost use Rattle.name_resolution.specs.Resolving.{nothing_found};
 use crate::binders::Binders;
 use crate::findings::Findings;
 use crate::found::Found;
-use crate::names::{Names, Sort};
+use crate::names::Names;
 use crate::resolved::{NodeLabel, ResolvedCell};
 use crate::rest::Rest;
 use crate::{heads, judge};
 use std::alloc::{AllocError, Global};
 use type_reader::{Cell, Length};
+use workspace::ParamKind;
 
 /// Where an argument or a type stands.
 #[derive(Clone, Copy)]
 pub(crate) struct Place {
-    pub sort: Sort,
+    pub sort: ParamKind,
     /// How many types may be around each other from here on, or any number.
     pub room: Option<usize>,
     /// Whether its resolved cells are wanted.
@@ -41,7 +42,7 @@ pub(crate) enum Inside<'n> {
     /// The items of a `dyn`.
     Items,
     /// Arguments for parameters of these kinds, of which so many are left.
-    Args { kinds: &'n [Sort], left: usize },
+    Args { kinds: &'n [ParamKind], left: usize },
 }
 
 /// What is open. What stands inside it begins at `inner`, and it begins itself at `start`.
@@ -448,7 +449,7 @@ pub(crate) fn inner_place(place: Place) -> Place
     ensures { place_of result ≡ type_place (deeper place.room) place.is_kept }
 {
     Place {
-        sort: Sort::Type,
+        sort: ParamKind::Type,
         room: deeper(place.room),
         is_kept: place.is_kept,
     }
@@ -456,10 +457,10 @@ pub(crate) fn inner_place(place: Place) -> Place
 
 /// Whether the resolved cells of a name's arguments are wanted: those of a const aren't.
 fn keeps_args(place: Place) -> bool
-    ensures { result ≡ (place.is_kept && not (is_const_place (sort_of place.sort))) }
+    ensures { result ≡ (place.is_kept && not (is_const_place (sort_of_kind place.sort))) }
 {
     match place.sort {
-        Sort::Const => false,
+        ParamKind::Const => false,
         _ => place.is_kept,
     }
 }

@@ -1,5 +1,5 @@
 use Rattle.std.proofs.Common.{sym, ◌∙◌, arith, subst, map, drop}
-use Rattle.name_resolution.specs.Sorts.{sort_of}
+use Rattle.workspace.specs.Views.{sort_of_kind}
 use Rattle.name_resolution.specs.UsedNames.{Holds}
 use Rattle.name_resolution.specs.Views.{variable_in}
 use Rattle.line_faults.specs.Variables.{other_kind_names}
@@ -9,7 +9,7 @@ use Rattle.line_faults.proofs.variables.names_but.Goals as goal
 pub loop-at-preserved-in-Continue-1 : goal.loop-at-preserved-in-Continue-1
 loop-at-preserved-in-Continue-1 c =
     let vs = c.args.variables.now in
-    let p = sort_of c.args.sort in
+    let p = sort_of_kind c.args.sort in
     let i = c.loop-at.invariant in
     record {
       within = omega (arith, i.within);

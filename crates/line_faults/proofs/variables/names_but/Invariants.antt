@@ -1,5 +1,5 @@
 use Rattle.std.proofs.Common.{◌≤◌, length, drop, map}
-use Rattle.name_resolution.specs.Sorts.{sort_of}
+use Rattle.workspace.specs.Views.{sort_of_kind}
 use Rattle.name_resolution.specs.UsedNames.{Holds}
 use Rattle.name_resolution.specs.Views.{variable_in}
 use Rattle.line_faults.specs.Variables.{other_kind_names}
@@ -8,7 +8,7 @@ use Rattle.line_faults.proofs.variables.names_but.Given as goal
 abbrev pub invariant-loop-at : goal.invariant-loop-at
 invariant-loop-at l = record {
   within : l.at ≤ length l.variables;
-  held : Holds l.others (other_kind_names (sort_of l.sort) (map variable_in (drop l.at l.variables)));
+  held : Holds l.others (other_kind_names (sort_of_kind l.sort) (map variable_in (drop l.at l.variables)));
 }
 
 abbrev pub decreases-loop-at : goal.decreases-loop-at

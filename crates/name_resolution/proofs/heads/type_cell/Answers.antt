@@ -1,5 +1,5 @@
 use Rattle.std.specs.Option.{option_map}
-use Rattle.name_resolution.specs.Sorts.{known_of}
+use Rattle.workspace.specs.Views.{known_of}
 use Rattle.name_resolution.specs.Views.{label_in}
 use Rattle.name_resolution.specs.Machine.{items, params}
 use Rattle.name_resolution.proofs.Meanings.{type-param, type-item}

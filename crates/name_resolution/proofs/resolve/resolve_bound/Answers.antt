@@ -7,7 +7,7 @@ use Rattle.type_reader.specs.Views.{cells_in}
 use Rattle.name_resolution.specs.Back.{count_above}
 use Rattle.name_resolution.specs.Laws.{bound_args}
 use Rattle.name_resolution.specs.Machine.{Frame, items, findings, noting, args_inside}
-use Rattle.name_resolution.specs.Sorts.{sorts_of}
+use Rattle.workspace.specs.Views.{sorts_of}
 use Rattle.name_resolution.specs.WalkViews.{frames_in}
 use Rattle.name_resolution.proofs.Counting.{count-args}
 use Rattle.name_resolution.proofs.Resolving.{bound-begins, bound-resolved}

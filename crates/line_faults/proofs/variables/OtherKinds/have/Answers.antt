@@ -1,15 +1,15 @@
 use Rattle.std.proofs.Common.{ap, sym}
 use Rattle.model.specs.Label.{of_type, of_const, of_lifetime}
-use Rattle.name_resolution.specs.Sorts.{sort_of}
+use Rattle.workspace.specs.Views.{sort_of_kind}
 use Rattle.line_faults.specs.Variables.{other_kind_names}
 use Rattle.line_faults.proofs.OtherSorts.{has-other}
 use Rattle.line_faults.proofs.variables.OtherKinds.have.Goals as goal
 
 pub returns-in-Type : goal.returns-in-Type
-returns-in-Type c vs h = has-other c.args.variable of_type _ vs (ap sort_of (sym c.in-Type.is)) (c.contains.ensures (other_kind_names of_type vs) h.0)
+returns-in-Type c vs h = has-other c.args.variable of_type _ vs (ap sort_of_kind (sym c.in-Type.is)) (c.contains.ensures (other_kind_names of_type vs) h.0)
 
 pub returns-in-Const : goal.returns-in-Const
-returns-in-Const c vs h = has-other c.args.variable of_const _ vs (ap sort_of (sym c.in-Const.is)) (c.contains-in-Const.ensures (other_kind_names of_const vs) h.1)
+returns-in-Const c vs h = has-other c.args.variable of_const _ vs (ap sort_of_kind (sym c.in-Const.is)) (c.contains-in-Const.ensures (other_kind_names of_const vs) h.1)
 
 pub returns-in-Lifetime : goal.returns-in-Lifetime
-returns-in-Lifetime c vs h = has-other c.args.variable of_lifetime _ vs (ap sort_of (sym c.in-Lifetime.is)) (c.contains-in-Lifetime.ensures (other_kind_names of_lifetime vs) h.2)
+returns-in-Lifetime c vs h = has-other c.args.variable of_lifetime _ vs (ap sort_of_kind (sym c.in-Lifetime.is)) (c.contains-in-Lifetime.ensures (other_kind_names of_lifetime vs) h.2)

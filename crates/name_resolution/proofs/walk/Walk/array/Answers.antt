@@ -3,7 +3,7 @@ use Rattle.model.specs.Label.{array}
 use Rattle.text_definitions.specs.Uses.{length_uses}
 use Rattle.text_definitions.specs.Faults.{variables_in}
 use Rattle.type_reader.specs.Views.{length_of}
-use Rattle.name_resolution.specs.Sorts.{sort_of}
+use Rattle.workspace.specs.Views.{sort_of_kind}
 use Rattle.name_resolution.specs.Views.{resolved_in}
 use Rattle.name_resolution.specs.Resolved as resolved
 use Rattle.name_resolution.specs.Machine.{Found, params, visiting, keeping, deepening, deeper, using, sort_misfits, type_place}
@@ -14,7 +14,7 @@ use Rattle.name_resolution.proofs.walk.Walk.array.Goals as goal
 pub returns : goal.returns
 returns g c =
     let v = g.N.Names.sight c.args.names.now in
-    let p = sort_of c.args.place.sort in
+    let p = sort_of_kind c.args.place.sort in
     let l = length_of c.args.length in
     let b = c.args.place.is_kept in
     let room = c.args.place.room in

@@ -4,7 +4,7 @@ use Rattle.name_resolution.specs.Back.{parts_above, shape_of}
 use Rattle.name_resolution.specs.Resolved.{Region}
 use Rattle.name_resolution.specs.Machine.{Frame, Found, items, params, going, using, noting, keeping, deepening, deeper, sort_misfits, items_inside, shape_autos, shape_principals, last_item_region}
 use Rattle.name_resolution.specs.Shapes.{dyn_cells, summary}
-use Rattle.name_resolution.specs.Sorts.{sort_of}
+use Rattle.workspace.specs.Views.{sort_of_kind}
 use Rattle.name_resolution.specs.Views.{region_in}
 use Rattle.name_resolution.specs.WalkViews.{frames_in}
 use Rattle.name_resolution.proofs.Summed.{autos-gathered, principals-counted, cells-room}
@@ -23,7 +23,7 @@ pub returns : goal.returns
 returns g c =
     let v = g.N.Names.sight c.args.names.now in
     let d = items v in
-    let p = sort_of c.args.place.sort in
+    let p = sort_of_kind c.args.place.sort in
     let b = c.args.place.is_kept in
     let room = c.args.place.room in
     let w = c.args.self.now in

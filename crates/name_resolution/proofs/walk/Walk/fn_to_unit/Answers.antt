@@ -3,7 +3,7 @@ use Rattle.std.proofs.lemmas.List.{length-map}
 use Rattle.model.specs.Label.{tuple, fn_ptr}
 use Rattle.line_tokens.specs.Views.{text_of}
 use Rattle.text_definitions.specs.Uses.{items_use, binder_uses}
-use Rattle.name_resolution.specs.Sorts.{sort_of}
+use Rattle.workspace.specs.Views.{sort_of_kind}
 use Rattle.name_resolution.specs.Resolved as resolved
 use Rattle.name_resolution.specs.Back.{count_above}
 use Rattle.name_resolution.specs.Machine.{Found, State, findings, going, keeping, deepening, using, sort_misfits, fn_frame}
@@ -14,7 +14,7 @@ use Rattle.name_resolution.proofs.walk.Walk.fn_to_unit.Goals as goal
 pub returns : goal.returns
 returns g c =
     let v = g.N.Names.sight c.args.names.now in
-    let p = sort_of c.args.place.sort in
+    let p = sort_of_kind c.args.place.sort in
     let k = c.count_above-count.result in
     let w = c.args.self.now in
     let s = w.binders in

@@ -1,6 +1,6 @@
 use Rattle.std.proofs.Common.{◌≡◌, ◌∷◌, [], sym, ap, ◌∙◌}
 use Rattle.text_definitions.specs.Uses.{lifetime_use, lifetime_arg_uses}
-use Rattle.name_resolution.specs.Sorts.{sort_of}
+use Rattle.workspace.specs.Views.{sort_of_kind}
 use Rattle.name_resolution.specs.Views.{region_in}
 use Rattle.name_resolution.specs.Resolved as resolved
 use Rattle.name_resolution.specs.Machine.{Found, findings, going, keeping, using, noting, lifetime_misfits}
@@ -11,7 +11,7 @@ use Rattle.name_resolution.proofs.walk.Walk.lifetime.Goals as goal
 pub returns : goal.returns
 returns g c =
     let v = g.N.Names.sight c.args.names.now in
-    let p = sort_of c.args.place.sort in
+    let p = sort_of_kind c.args.place.sort in
     let n = c.args.name.now in
     let w = c.args.self.now in
     let fs = frames_in w.frames.items in

@@ -3,7 +3,7 @@ use Rattle.std.specs.Prelude.{not, ◌&&◌}
 use Rattle.model.specs.Label.{Sort}
 use Rattle.text_definitions.specs.Declarations.{known}
 use Rattle.text_definitions.specs.Uses.{name_use, kinds_of_struct}
-use Rattle.name_resolution.specs.Sorts.{sort_of}
+use Rattle.workspace.specs.Views.{sort_of_kind}
 use Rattle.name_resolution.specs.Views.{resolved_in}
 use Rattle.name_resolution.specs.Machine.{Frame, Found, items, going, keeping, deepening, deeper, using, name_misfits, name_cells, is_const_place, args_inside}
 use Rattle.name_resolution.specs.WalkViews.{frames_in}
@@ -13,7 +13,7 @@ use Rattle.name_resolution.proofs.walk.Walk.named.Goals as goal
 pub returns : goal.returns
 returns g c =
     let v = g.N.Names.sight c.args.names.now in
-    let p = sort_of c.args.place.sort in
+    let p = sort_of_kind c.args.place.sort in
     let n = c.args.name.now in
     let k = c.count_above-count.result in
     let b = c.args.place.is_kept in

@@ -2,7 +2,7 @@ use Rattle.std.proofs.Common.{◌∷◌, ◌++◌, sym, ap, ◌∙◌}
 use Rattle.std.specs.Option.{option_map}
 use Rattle.line_tokens.specs.Views.{text_of}
 use Rattle.text_definitions.specs.Uses.{lifetime_uses}
-use Rattle.name_resolution.specs.Sorts.{sort_of}
+use Rattle.workspace.specs.Views.{sort_of_kind}
 use Rattle.name_resolution.specs.Views.{region_in}
 use Rattle.name_resolution.specs.Resolved as resolved
 use Rattle.name_resolution.specs.Machine.{Found, visiting, keeping, deepening, deeper, using, sort_misfits, type_place}
@@ -13,7 +13,7 @@ use Rattle.name_resolution.proofs.walk.Walk.reference.Goals as goal
 pub returns : goal.returns
 returns g c =
     let v = g.N.Names.sight c.args.names.now in
-    let p = sort_of c.args.place.sort in
+    let p = sort_of_kind c.args.place.sort in
     let l = option_map text_of c.args.lifetime in
     let m = c.args.is_mut in
     let w = c.args.self.now in

@@ -1,7 +1,7 @@
 use Rattle.std.proofs.Common.{◌≡◌, ◌∷◌, [], ◌++◌, refl, sym, ap, ◌∙◌, false}
 use Rattle.model.specs.Label.{tuple}
 use Rattle.text_definitions.specs.Uses.{items_use}
-use Rattle.name_resolution.specs.Sorts.{sort_of}
+use Rattle.workspace.specs.Views.{sort_of_kind}
 use Rattle.name_resolution.specs.Resolved as resolved
 use Rattle.name_resolution.specs.Machine.{Frame, Found, going, using, keeping, deepening, deeper, sort_misfits, types_inside, tuple_step}
 use Rattle.name_resolution.specs.WalkViews.{place_of, frames_in}
@@ -10,7 +10,7 @@ use Rattle.name_resolution.proofs.walk.Walk.tuple.Goals as goal
 
 pub returns : goal.returns
 returns c v =
-    let p = sort_of c.args.place.sort in
+    let p = sort_of_kind c.args.place.sort in
     let k = c.count_above-count.result in
     let us = sort_misfits p ++ items_use k ∷ [] in
     let w = c.args.self.now in

@@ -1,6 +1,6 @@
 use Rattle.std.proofs.Common.{◌∷◌, [], ap}
 use Rattle.text_definitions.specs.Uses.{variable_use}
-use Rattle.name_resolution.specs.Sorts.{sort_of}
+use Rattle.workspace.specs.Views.{sort_of_kind}
 use Rattle.name_resolution.specs.Resolved as resolved
 use Rattle.name_resolution.specs.Machine.{Found, going, keeping, deepening, name_misfits}
 use Rattle.name_resolution.specs.WalkViews.{frames_in}
@@ -9,7 +9,7 @@ use Rattle.name_resolution.proofs.walk.Walk.variable.Goals as goal
 
 pub returns : goal.returns
 returns c v =
-    let p = sort_of c.args.place.sort in
+    let p = sort_of_kind c.args.place.sort in
     let n = c.args.name.now in
     let w = c.args.self.now in
     let x : Found = deepening c.args.place.room (keeping c.args.place.is_kept (λ cs. resolved.variable_cell p n ∷ cs) w.found) in
