@@ -12,8 +12,15 @@ mod form;
 mod lines;
 mod text;
 
+ghost use Rattle.text_reader.specs.Prefixes.{FirstBytesDecide};
+
 pub use declares::Declares;
 pub use fault::{TextError, TextFault};
 pub use form::{LineForm, line_form};
 pub use lines::{TEXT_LIMIT, long_line, split_line};
 pub use text::read_text;
+
+/// A text gives what its first 1,048,577 bytes give: whoever reads it need not read on behind the first byte too many.
+pub fn first_bytes()
+    ensures { FirstBytesDecide }
+{}
