@@ -55,6 +55,10 @@ impl TypeFolder for EagerResolver<'_> {
 
     ghost below_right = { λ f es x y. below-right (content es f.table.now.values) x y };
 
+    fn leads_on(&self) -> bool {
+        self.table.has_values()
+    }
+
     fn fold_ty(&self, cx: &mut Interner, ty: Ty, _binders: &Binders) -> Result<Answer<Ty>, Fault> {
         match cx.kind(ty) {
             TyKind::Infer(_) => {

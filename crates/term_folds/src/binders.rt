@@ -16,6 +16,8 @@ pub enum Binders<'a> {
     Outermost,
     /// A binder of so many lifetimes, and the binders around it.
     Inside(u32, &'a Binders<'a>),
+    /// So many binders, each of no lifetime: for a folder, to which their number alone matters.
+    Empty(u32),
 }
 
 impl Binders<'_> {
@@ -27,6 +29,9 @@ impl Binders<'_> {
     {
         match self {
             Binders::Outermost => DebruijnIndex { index: 0 },
+            Binders::Empty(count) => DebruijnIndex {
+                index: (*count).min(MAX_INDEX),
+            },
             Binders::Inside(_, outer) => {
                 let depth = outer.depth();
                 if depth.index == MAX_INDEX {
@@ -44,6 +49,7 @@ impl Binders<'_> {
     {
         match self {
             Binders::Outermost => None,
+            Binders::Empty(count) => { if binder.index < *count { Some(0) } else { None } }
             Binders::Inside(count, _) if binder.index == 0 => Some(*count),
             Binders::Inside(_, outer) => outer.count(binder.shifted_out(1)),
         }

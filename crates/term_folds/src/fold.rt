@@ -9,15 +9,15 @@ ghost use Rattle.term_folds.specs.Failures.{FailsBy};
 ghost use Rattle.term_folds.specs.Folds.{Does, enters, again, Folds, FoldsBelow, IsFold, IsFoldBelow, IsBound, TyAnswer, ConstAnswer, RegionAnswer};
 
 use crate::binders::Binders;
-use crate::memo::Memo;
-use crate::walk::{super_walk_ty, walk_arg, walk_args, walk_bounds, walk_ty, walk_tys};
+use crate::deep::begin;
+use crate::walk::{super_walk_ty, walk_args, walk_bounds, walk_ty, walk_tys};
 use std::alloc::Global;
-use type_terms::Fault;
 use type_terms::interner::Interner;
 use type_terms::kinds::{
     Bounds, BoundsData, Const, GenericArgKind, GenericArgs, Principal, Ty, TyKind, Tys,
 };
-use type_terms::region::Region;
+use type_terms::region::{Region, RegionKind};
+use type_terms::{AdtId, Fault};
 
 /// What a folder does at a node.
 #[derive(Clone, Copy)]
@@ -88,6 +88,11 @@ pub trait FallibleTypeFolder {
         requires held { RegionHeld region.kind }
         ensures answer { IfOk result (λ r. RegionAnswer (action self.now cx.now.entries (counts_of binders.now) (region_trees region)) r) }
         ensures failed { IfErr result (λ e. FailsBy (fails self.now) Self.Error.from_gives cx.now.entries cx.now.limit e) };
+
+    /// It may answer `Again`, with a value that is deeper than the type.
+    fn leads_on(&self) -> bool {
+        false
+    }
 
     // Handles stay ready while the interner grows.
     ghost ready_kept: { (f : Self) (old new : List Entry) → Keeps old new → ready f old → ready f new };
@@ -170,7 +175,9 @@ pub fn fold_ty<F: FallibleTypeFolder>(
     ensures folded { IfOk result (λ r. IsFold (F.action folder.now cx.old.entries) (counts_of binders.now) (trees_at cx.old.entries ty.0) cx.new.entries types r.0) }
     ensures failed { IfErr result (λ e. FailsBy (F.fails folder.now) F.Error.from_gives cx.new.entries cx.new.limit e) }
 {
-    walk_ty(alloc, cx, folder, ty, binders, &mut Memo::new(alloc))
+    let depth = cx.depth(ty);
+    let mut memo = begin(alloc, cx, folder, TyKind::Slice(ty), depth, binders)?;
+    walk_ty(alloc, cx, folder, ty, binders, &mut memo)
 }
 
 /// The type over the folds of its children; the folder is not asked at the type itself.
@@ -188,7 +195,10 @@ pub fn super_fold_ty<F: FallibleTypeFolder>(
     ensures folded { IfOk result (λ r. IsFoldBelow (F.action folder.now cx.old.entries) (counts_of binders.now) (trees_at cx.old.entries ty.0) cx.new.entries types r.0) }
     ensures failed { IfErr result (λ e. FailsBy (F.fails folder.now) F.Error.from_gives cx.new.entries cx.new.limit e) }
 {
-    super_walk_ty(alloc, cx, folder, ty, binders, &mut Memo::new(alloc))
+    let depth = cx.depth(ty);
+    let parts = cx.kind(ty);
+    let mut memo = begin(alloc, cx, folder, parts, depth, binders)?;
+    super_walk_ty(alloc, cx, folder, ty, binders, &mut memo)
 }
 
 /// The list of the folds of these types.
@@ -207,7 +217,9 @@ pub(crate) fn fold_tys<F: FallibleTypeFolder>(
     ensures whole { IfOk result (λ r. is_no_tree (trees_at cx.new.entries r.0) ≡ is_no_tree (trees_at cx.old.entries tys.0)) }
     ensures failed { IfErr result (λ e. FailsBy (F.fails folder.now) F.Error.from_gives cx.new.entries cx.new.limit e) }
 {
-    walk_tys(alloc, cx, folder, tys, binders, &mut Memo::new(alloc))
+    let depth = cx.depth(tys);
+    let mut memo = begin(alloc, cx, folder, TyKind::Tuple(tys), depth, binders)?;
+    walk_tys(alloc, cx, folder, tys, binders, &mut memo)
 }
 
 /// The list of the folds of these arguments.
@@ -225,7 +237,10 @@ pub fn fold_args<F: FallibleTypeFolder>(
     ensures folded { IfOk result (λ r. IsFold (F.action folder.now cx.old.entries) (counts_of binders.now) (trees_at cx.old.entries args.0) cx.new.entries args_lists r.0) }
     ensures failed { IfErr result (λ e. FailsBy (F.fails folder.now) F.Error.from_gives cx.new.entries cx.new.limit e) }
 {
-    walk_args(alloc, cx, folder, args, binders, &mut Memo::new(alloc))
+    let depth = cx.depth(args);
+    let parts = TyKind::Adt(AdtId { index: 0 }, args);
+    let mut memo = begin(alloc, cx, folder, parts, depth, binders)?;
+    walk_args(alloc, cx, folder, args, binders, &mut memo)
 }
 
 /// The fold of an argument.
@@ -244,7 +259,15 @@ pub(crate) fn fold_arg<F: FallibleTypeFolder>(
     ensures folded { IfOk result (λ a. Folds (F.action folder.now cx.old.entries) (counts_of binders.now) (arg_trees cx.old.entries arg) (arg_trees cx.new.entries a)) }
     ensures failed { IfErr result (λ e. FailsBy (F.fails folder.now) F.Error.from_gives cx.new.entries cx.new.limit e) }
 {
-    walk_arg(alloc, cx, folder, arg, binders, &mut Memo::new(alloc))
+    match arg {
+        GenericArgKind::Lifetime(region) => {
+            Ok(GenericArgKind::Lifetime(fold_region(cx, folder, region, binders)?))
+        }
+        GenericArgKind::Ty(ty) => Ok(GenericArgKind::Ty(fold_ty(alloc, cx, folder, ty, binders)?)),
+        GenericArgKind::Const(ct) => {
+            Ok(GenericArgKind::Const(fold_const(cx, folder, ct, binders)?))
+        }
+    }
 }
 
 /// The bounds with the folds of the principal's arguments.
@@ -262,5 +285,11 @@ pub(crate) fn fold_bounds<F: FallibleTypeFolder>(
     ensures folded { IfOk result (λ r. IsFold (F.action folder.now cx.old.entries) (counts_of binders.now) (trees_at cx.old.entries bounds.0) cx.new.entries bounds_lists r.0) }
     ensures failed { IfErr result (λ e. FailsBy (F.fails folder.now) F.Error.from_gives cx.new.entries cx.new.limit e) }
 {
-    walk_bounds(alloc, cx, folder, bounds, binders, &mut Memo::new(alloc))
+    let depth = cx.depth(bounds);
+    let region = Region {
+        kind: RegionKind::ReStatic,
+    };
+    let parts = TyKind::Dynamic(bounds, region);
+    let mut memo = begin(alloc, cx, folder, parts, depth, binders)?;
+    walk_bounds(alloc, cx, folder, bounds, binders, &mut memo)
 }

@@ -67,6 +67,11 @@ pub trait TypeFolder {
         ensures answer { IfOk result (λ r. RegionAnswer (action self.now cx.now.entries (counts_of binders.now) (region_trees region)) r) }
         ensures full { result ≡ Err Fault.Full → SomeKindIsFull cx.now.entries cx.now.limit ⊎ refuses self.now };
 
+    /// It may answer `Again`, with a value that is deeper than the type.
+    fn leads_on(&self) -> bool {
+        false
+    }
+
     // Handles stay ready while the interner grows.
     ghost ready_kept: { (f : Self) (old new : List Entry) → Keeps old new → ready f old → ready f new };
 
@@ -125,6 +130,10 @@ impl<F: TypeFolder> FallibleTypeFolder for Infallible<'_, F> {
     ghost below_left = { λ f es x y. F.below_left f.0.now es x y };
 
     ghost below_right = { λ f es x y. F.below_right f.0.now es x y };
+
+    fn leads_on(&self) -> bool {
+        self.0.leads_on()
+    }
 
     fn try_fold_ty(
         &self,

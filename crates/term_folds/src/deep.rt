@@ -1,0 +1,215 @@
+//! Deep types folded from their parts up.
+//!
+//! A walk recurses on the depth of a type, and finds in its memo what was folded before. So before it walks a deep type, the
+//! types in it are folded one by one, each after its own parts, by a list in memory: then no walk goes deep. What a walk gives
+//! does not rest on it.
+ghost use Rattle.std.specs.Prelude.{◌≡◌, OnOk, IfOk, IfErr};
+ghost use Rattle.type_terms.specs.Terms.{Has, Keeps, args_lists, type_lists, types};
+ghost use Rattle.type_terms.specs.Kinds.{ArgHeld, KindHeld};
+ghost use Rattle.term_folds.specs.Failures.{FailsBy};
+ghost use Rattle.term_folds.specs.Memos.{Remembers};
+ghost use Rattle.term_folds.specs.Deep.{StepsHeld};
+
+use crate::binders::Binders;
+use crate::fold::{Answer, FallibleTypeFolder};
+use crate::memo::Memo;
+use crate::walk::walk_ty;
+use std::alloc::Global;
+use type_terms::Fault;
+use type_terms::interner::Interner;
+use type_terms::kinds::{GenericArgKind, GenericArgs, Ty, TyKind, Tys};
+
+/// A type under so many binders: to be entered, or to be walked since its parts were.
+#[derive(Clone, Copy)]
+pub(crate) struct Step {
+    pub ty: Ty,
+    pub depth: u32,
+    pub is_entered: bool,
+}
+
+/// Types no deeper than this are walked by recursion alone.
+const SHALLOW: u32 = 128;
+
+/// What the walk of these parts begins with: nothing, or where they are deep or the folder leads on, the folds of what
+/// stands in them.
+pub(crate) fn begin<F: FallibleTypeFolder>(
+    alloc: Global,
+    cx: &mut Interner,
+    folder: &F,
+    parts: TyKind,
+    depth: u32,
+    binders: &Binders,
+) -> Result<Memo, F::Error>
+    requires ready { F.ready folder.now cx.old.entries }
+    requires held { KindHeld cx.old.entries parts }
+    ensures keeps { Keeps cx.old.entries cx.new.entries }
+    ensures limit { cx.new.limit ≡ cx.old.limit }
+    ensures known { IfOk result (λ memo. Remembers (F.action folder.now cx.new.entries) cx.new.entries memo) }
+    ensures failed { IfErr result (λ e. FailsBy (F.fails folder.now) F.Error.from_gives cx.new.entries cx.new.limit e) }
+{
+    let mut memo = Memo::new(alloc);
+    if folder.leads_on() || depth > SHALLOW {
+        let mut todo = Vec::new(alloc);
+        push_parts(cx, parts, binders.depth().index, &mut todo)?;
+        fold_parts(alloc, cx, folder, todo, &mut memo)?;
+    }
+    Ok(memo)
+}
+
+/// Folds the listed types, each after its own parts, for the walk that comes next.
+fn fold_parts<F: FallibleTypeFolder>(
+    alloc: Global,
+    cx: &mut Interner,
+    folder: &F,
+    mut todo: Vec<Step>,
+    memo: &mut Memo,
+) -> Result<(), F::Error>
+    requires ready { F.ready folder.now cx.old.entries }
+    requires known { Remembers (F.action folder.now cx.old.entries) cx.old.entries memo.old }
+    requires todo { StepsHeld cx.old.entries todo.items }
+    ensures keeps { Keeps cx.old.entries cx.new.entries }
+    ensures limit { cx.new.limit ≡ cx.old.limit }
+    ensures known { OnOk result (Remembers (F.action folder.now cx.new.entries) cx.new.entries memo.new) }
+    ensures failed { IfErr result (λ e. FailsBy (F.fails folder.now) F.Error.from_gives cx.new.entries cx.new.limit e) }
+{
+    for _ in 0..u64::MAX {
+        let Some(step) = todo.pop() else {
+            return Ok(());
+        };
+        take_step(alloc, cx, folder, step, &mut todo, memo)?;
+    }
+    Ok(())
+}
+
+/// Walks a type whose parts were walked, or puts it on the list behind its parts.
+fn take_step<F: FallibleTypeFolder>(
+    alloc: Global,
+    cx: &mut Interner,
+    folder: &F,
+    step: Step,
+    todo: &mut Vec<Step>,
+    memo: &mut Memo,
+) -> Result<(), F::Error>
+    requires ready { F.ready folder.now cx.old.entries }
+    requires known { Remembers (F.action folder.now cx.old.entries) cx.old.entries memo.old }
+    requires held { Has cx.old.entries types step.ty.0 }
+    requires todo { StepsHeld cx.old.entries todo.old.items }
+    ensures keeps { Keeps cx.old.entries cx.new.entries }
+    ensures limit { cx.new.limit ≡ cx.old.limit }
+    ensures known { OnOk result (Remembers (F.action folder.now cx.new.entries) cx.new.entries memo.new) }
+    ensures todo { OnOk result (StepsHeld cx.new.entries todo.new.items) }
+    ensures failed { IfErr result (λ e. FailsBy (F.fails folder.now) F.Error.from_gives cx.new.entries cx.new.limit e) }
+{
+    let binders = Binders::Empty(step.depth);
+    if step.is_entered {
+        let _ = walk_ty(alloc, cx, folder, step.ty, &binders, memo)?;
+        return Ok(());
+    }
+    match folder.try_fold_ty(cx, step.ty, &binders)? {
+        Answer::Replace(_) => Ok(()),
+        Answer::Again(next) => Ok(push(cx, todo, next, step.depth, false)?),
+        Answer::Enter => {
+            if memo.known(step.ty, &binders).is_some() {
+                return Ok(());
+            }
+            push(cx, todo, step.ty, step.depth, true)?;
+            Ok(push_parts(cx, cx.kind(step.ty), step.depth, todo)?)
+        }
+    }
+}
+
+/// The types that stand in one of this kind are put on the list, each under so many binders or one more.
+fn push_parts(cx: &Interner, kind: TyKind, depth: u32, todo: &mut Vec<Step>) -> Result<(), Fault>
+    requires held { KindHeld cx.now.entries kind }
+    requires todo { StepsHeld cx.now.entries todo.old.items }
+    ensures todo { OnOk result (StepsHeld cx.now.entries todo.new.items) }
+    ensures memory { IfErr result (λ e. e ≡ Fault.Memory) }
+{
+    match kind {
+        TyKind::Adt(_, args) => push_args(cx, args, depth, todo),
+        TyKind::Ref(_, to, _) => push(cx, todo, to, depth, false),
+        TyKind::RawPtr(to, _) => push(cx, todo, to, depth, false),
+        TyKind::Array(item, _) => push(cx, todo, item, depth, false),
+        TyKind::Slice(item) => push(cx, todo, item, depth, false),
+        TyKind::Tuple(items) => push_tys(cx, items, depth, todo),
+        TyKind::FnPtr(_, items) => push_tys(cx, items, depth.saturating_add(1), todo),
+        TyKind::Dynamic(bounds, _) => match cx.bounds(bounds).principal {
+            Some(principal) => push_args(cx, principal.args, depth.saturating_add(1), todo),
+            None => Ok(()),
+        },
+        _ => Ok(()),
+    }
+}
+
+/// The types among the arguments are put on the list.
+fn push_args(
+    cx: &Interner,
+    args: GenericArgs,
+    depth: u32,
+    todo: &mut Vec<Step>,
+) -> Result<(), Fault>
+    requires held { Has cx.now.entries args_lists args.0 }
+    requires todo { StepsHeld cx.now.entries todo.old.items }
+    ensures todo { OnOk result (StepsHeld cx.now.entries todo.new.items) }
+    ensures memory { IfErr result (λ e. e ≡ Fault.Memory) }
+{
+    for arg in cx.args(args) {
+        push_arg(cx, *arg, depth, todo)?;
+    }
+    Ok(())
+}
+
+/// An argument is put on the list, if it is a type.
+fn push_arg(
+    cx: &Interner,
+    arg: GenericArgKind,
+    depth: u32,
+    todo: &mut Vec<Step>,
+) -> Result<(), Fault>
+    requires held { ArgHeld cx.now.entries arg }
+    requires todo { StepsHeld cx.now.entries todo.old.items }
+    ensures todo { OnOk result (StepsHeld cx.now.entries todo.new.items) }
+    ensures memory { IfErr result (λ e. e ≡ Fault.Memory) }
+{
+    match arg {
+        GenericArgKind::Ty(ty) => push(cx, todo, ty, depth, false),
+        GenericArgKind::Lifetime(_) => Ok(()),
+        GenericArgKind::Const(_) => Ok(()),
+    }
+}
+
+/// The types are put on the list.
+fn push_tys(cx: &Interner, tys: Tys, depth: u32, todo: &mut Vec<Step>) -> Result<(), Fault>
+    requires held { Has cx.now.entries type_lists tys.0 }
+    requires todo { StepsHeld cx.now.entries todo.old.items }
+    ensures todo { OnOk result (StepsHeld cx.now.entries todo.new.items) }
+    ensures memory { IfErr result (λ e. e ≡ Fault.Memory) }
+{
+    for ty in cx.tys(tys) {
+        push(cx, todo, *ty, depth, false)?;
+    }
+    Ok(())
+}
+
+/// One more type on the list.
+#[tactic(auto, using(crate::proofs::DeepFacts::steps_push))]
+fn push(
+    cx: &Interner,
+    todo: &mut Vec<Step>,
+    ty: Ty,
+    depth: u32,
+    is_entered: bool,
+) -> Result<(), Fault>
+    requires held { Has cx.now.entries types ty.0 }
+    requires todo { StepsHeld cx.now.entries todo.old.items }
+    ensures todo { OnOk result (StepsHeld cx.now.entries todo.new.items) }
+    ensures memory { IfErr result (λ e. e ≡ Fault.Memory) }
+{
+    let _ = cx.depth(ty);
+    todo.push(Step {
+        ty,
+        depth,
+        is_entered,
+    })?;
+    Ok(())
+}
