@@ -44,7 +44,7 @@ module _ {A : Type 0} where
   both P [] ys h g = g
   both P (x ∷ xs) ys h g = (h.0, both P xs ys h.1 g)
 
-  count-last : (p : A → Bool) (xs : List A) (x : A) → count p (xs ++ x ∷ []) ≡ count p (x ∷ xs)
+  pub count-last : (p : A → Bool) (xs : List A) (x : A) → count p (xs ++ x ∷ []) ≡ count p (x ∷ xs)
   count-last p [] x = refl
   count-last p (y ∷ xs) x = by (p y) (p x) (count-last p xs x)
     where

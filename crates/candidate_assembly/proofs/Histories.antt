@@ -25,7 +25,7 @@ use Rattle.candidate_assembly.specs.Sections.{misc_is_bound, is_unknowable, is_b
 use Rattle.candidate_assembly.proofs.Along.{Follows, Answers, same-considered, chosen, outside-next, known-next, unknown-next}
 use Rattle.candidate_assembly.proofs.SourcesOf.{built-clause, impl-clause, bound-clause, impl-built, bound-built, bound-impl, clause-impl, clause-bound, built-impl, built-bound, clause-known, built-known, impl-known, bound-known, impl-quiet, bound-quiet, clauses-are, impls-are, built-in-are, objects-are}
 
-abbrev Plans : Type 0
+abbrev pub Plans : Type 0
 Plans = Plan frame_tables
 
 -- ---- ends are answers

@@ -18,3 +18,5 @@ pub mod Along
 pub mod SourcesOf
 pub mod Histories
 pub mod WellDeclared
+pub mod GoingOn
+pub mod Counted

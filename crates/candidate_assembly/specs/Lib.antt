@@ -9,3 +9,4 @@ pub mod Shown
 pub mod Sections
 pub mod Solving
 pub mod SolverLaws
+pub mod Counted

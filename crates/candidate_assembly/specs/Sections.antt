@@ -1,17 +1,19 @@
 -- Where the assembly of a goal stands. The candidates of a goal come in sections, one after the other, and what was considered tells
 -- how many of each there were: so what is next is a function of the goal and of that.
-use Rattle.std.specs.Prelude.{◌≡◌, ℕ, Bool, true, false, ◌&&◌, ◌||◌, ◌==◌, not, if◌then◌else◌, List, [], ◌∷◌, length, filter, Option, Some, None, IfSome}
+use Rattle.std.specs.Prelude.{◌≡◌, ℕ, Bool, true, false, ◌&&◌, ◌||◌, ◌==◌, not, if◌then◌else◌, List, [], ◌∷◌, map, length, filter, Option, Some, None, IfSome}
 use Rattle.std.specs.List.{slice_get, list_any}
 use Rattle.model.specs.Label.{dynamic}
 use Rattle.model.specs.Trees.{Trees, none, tree}
 use Rattle.model.specs.Worlds.{World, Reference}
 use Rattle.model.specs.Rules.{unsize, autos_with}
+use Rattle.type_terms.specs.Terms.{Entry}
+use Rattle.type_terms.specs.declared.ImplId.{ImplId}
 use Rattle.infer_table.specs.declared.canonical.CanonicalVarKind.{CanonicalVarKind}
 use Rattle.infer_table.specs.declared.certainty.TypingMode.{TypingMode}
 use Rattle.infer_table.specs.declared.certainty.TypingMode.TheVariants.{Coherence, PostAnalysis}
 use Rattle.infer_table.specs.Canonical.{CanonicalForm}
 use Rattle.evaluation.specs.declared.candidate.CandidateSource.{CandidateSource}
-use Rattle.evaluation.specs.declared.candidate.CandidateSource.TheVariants.{BuiltinImpl, CoherenceUnknowable}
+use Rattle.evaluation.specs.declared.candidate.CandidateSource.TheVariants.{Impl, BuiltinImpl, CoherenceUnknowable}
 use Rattle.evaluation.specs.declared.candidate.BuiltinImplSource.TheVariants.{Trivial, Misc, Object, TraitUpcasting}
 use Rattle.evaluation.specs.Candidate.{Next, consider, IsHistory}
 use Rattle.evaluation.specs.Merge.{or_else}
@@ -19,12 +21,15 @@ use Rattle.evaluation.specs.Plans.{Plan, wanted}
 use Rattle.evaluation.specs.Table.{workings}
 use Rattle.table_laws.specs.Frames.{kinds_known}
 use Rattle.evaluation_laws.specs.Tables.{frame_tables}
+use Rattle.declarations.specs.Items.{Items, written}
+use Rattle.declarations.specs.Merges.{Rises}
 use Rattle.goal_frames.specs.Handlers.{same_answer, applies_always}
 use Rattle.assembly_laws.specs.Meaning.{Meaning}
 use Rattle.assembly_laws.specs.Knowing.{is_knowable}
 use Rattle.assembly_laws.specs.Asking.{Asked, asked, clauses, self_of, begins_unknown}
 use Rattle.assembly_laws.specs.Candidates.{Candidate, unsure, unknowable, by_clauses, built_in, by_impls, by_objects}
 use Rattle.assembly_laws.specs.Solver.{Past, from, holds_from, is_clause, is_impl, is_settled, solver_handled}
+use Rattle.candidate_assembly.specs.Headers.{impls_above}
 use Rattle.candidate_assembly.specs.Merging.{end_in}
 
 -- ---- sections
@@ -119,3 +124,22 @@ HistoriesTell =
     (m : Meaning) (mode : TypingMode) (f : CanonicalForm) → let o = decided m (asked m.view f) in IfSome o (λ a. sources_tell a ≡ true)
     → let next = (solver_handled applies_always same_answer m mode f).next in
     (seen : Past) → IsHistory (workings frame_tables) next seen → next seen ≡ or_end (next_candidate m mode o seen) (end_of mode o (kinds_known f.kinds) seen)
+
+-- ---- where the walk over impls goes on
+abbrev pub impl_or : CandidateSource → Option ImplId → Option ImplId
+impl_or (Impl i) other = Some i
+impl_or s other = other
+
+-- the impl that was considered last
+abbrev pub last_impl : Past → Option ImplId
+last_impl [] = None
+last_impl (c ∷ seen) = impl_or c.spec.source (last_impl seen)
+
+-- After each history of a goal that is decided the next candidate by an impl is the first by impls above the one considered last, where
+-- numbers of impls rise.
+abbrev pub WalksGoOn : Type 0
+WalksGoOn =
+    (es : List Entry) (d : Items) → Rises (map (λ i. i.id) d.impls) → (m : Meaning) → m.view ≡ written es d
+    → (mode : TypingMode) (f : CanonicalForm) (a : Asked) → decided m (asked m.view f) ≡ Some a → sources_tell a ≡ true
+    → (seen : Past) → IsHistory (workings frame_tables) (solver_handled applies_always same_answer m mode f).next seen
+    → let is = (written es d).impls in slice_get (by_impls (written es d) a (impls_above (last_impl seen) is)) 0 ≡ slice_get (by_impls (written es d) a is) (considered_from is_impl seen)

@@ -9,7 +9,7 @@ ghost use Rattle.declarations.specs.Merges.{Rises};
 ghost use Rattle.assembly_laws.specs.Asking.{Asked};
 ghost use Rattle.assembly_laws.specs.Candidates.{Candidate, by_impls};
 ghost use Rattle.candidate_assembly.specs.Headers.{impls_above, WellDeclaredHaveCandidates};
-ghost use Rattle.candidate_assembly.specs.Sections.{HistoriesTell};
+ghost use Rattle.candidate_assembly.specs.Sections.{HistoriesTell, WalksGoOn};
 ghost use Rattle.candidate_assembly.specs.Solving.{solver_for, coinductive_for};
 ghost use Rattle.assembly_laws.specs.Facts.{FollowsByView};
 ghost use Rattle.goal_frames.specs.HandlerPrograms.{HandlersArePrograms};
@@ -26,9 +26,11 @@ pub fn walks_meet_all_impls()
 
 /// What was considered tells what is next: after each history of a goal, in both modes, the plan wants the candidate at the place that is
 /// counted in the first section that has one there, and where none has it wants the answer. The sections are where-clauses, built-in
-/// rules, impls and object bounds, with what other crates may say before them.
+/// rules, impls and object bounds, with what other crates may say before them. The next candidate by an impl is the first by impls above
+/// the one that was considered last.
 pub fn histories_tell_what_is_next()
-    ensures { HistoriesTell }
+    ensures next { HistoriesTell }
+    ensures impls { WalksGoOn }
 {}
 
 /// Impls of declarations that are declared well can be candidates, where each type and constant parameter stands in its impl's header:

@@ -3,6 +3,7 @@
 //! the others are made.
 #![tactic(auto)]
 
+pub mod assembly;
 pub mod built_in;
 pub mod impls;
 mod instances;

@@ -1,0 +1,142 @@
+//! How the candidates of a goal are assembled: one after the other, each told by those that were considered.
+
+ghost use Rattle.std.specs.Prelude.{◌≡◌, ◌⊎◌, ℕ, None, length, IfOk, IfSome, Err, option_map};
+ghost use Rattle.std.specs.List.{slice_get};
+ghost use Rattle.model.specs.Worlds.{World};
+ghost use Rattle.type_terms.specs.Terms.{Keeps, trees_at};
+ghost use Rattle.term_folds.specs.Failures.{SomeKindIsFull};
+ghost use Rattle.term_folds.specs.Signatures.{StartsWithType};
+ghost use Rattle.infer_table.specs.Goals.{GoalHeld};
+ghost use Rattle.evaluation.specs.Readings.{SpecHeld};
+ghost use Rattle.declarations.specs.Items.{written};
+ghost use Rattle.declarations.specs.Held.{AreHeld};
+ghost use Rattle.assembly_laws.specs.Asking.{clauses};
+ghost use Rattle.assembly_laws.specs.Candidates.{by_clauses, by_impls};
+ghost use Rattle.assembly_laws.specs.Solver.{is_clause};
+ghost use Rattle.candidate_assembly.specs.Counted.{is_of, count_from, last_from, ForEachPast};
+ghost use Rattle.candidate_assembly.specs.Goals.{asked_of, candidate_of};
+ghost use Rattle.candidate_assembly.specs.Headers.{HaveCandidates, NumbersRunOut, impls_above};
+ghost use Rattle.candidate_assembly.specs.Sections.{considered_from, last_impl};
+
+use crate::impls::next_impl_candidate;
+use crate::param_env::consider_param_env_candidate;
+use declarations::declarations::Declarations;
+use evaluation::{BuiltinImplSource, CandidateSource, CandidateSpec, Considered};
+use infer_table::input::CanonicalInput;
+use std::alloc::Global;
+use type_terms::interner::Interner;
+use type_terms::{Fault, ImplId};
+
+/// The sections in which the candidates of a goal come, in their order.
+#[derive(Clone, Copy)]
+enum Section {
+    WhereClauses,
+    BuiltInRules,
+    Impls,
+    /// The bounds of the `dyn` that is the self type.
+    ObjectBounds,
+}
+
+impl Section {
+    /// Whether the source is one of the section. A source that is no more than a built-in rule is a bound for some goals.
+    fn has(self, source: CandidateSource, misc_is_bound: bool) -> bool
+        ensures { result ≡ is_of misc_is_bound self source }
+    {
+        match (self, source) {
+            (Section::WhereClauses, CandidateSource::ParamEnv(_)) => true,
+            (Section::WhereClauses, _) => false,
+            (Section::BuiltInRules, CandidateSource::BuiltinImpl(rule)) => match rule {
+                BuiltinImplSource::Trivial => true,
+                BuiltinImplSource::Misc => !misc_is_bound,
+                BuiltinImplSource::Object(_) => false,
+                BuiltinImplSource::TraitUpcasting(_) => true,
+            },
+            (Section::BuiltInRules, _) => false,
+            (Section::Impls, CandidateSource::Impl(_)) => true,
+            (Section::Impls, _) => false,
+            (Section::ObjectBounds, CandidateSource::BuiltinImpl(rule)) => match rule {
+                BuiltinImplSource::Trivial => false,
+                BuiltinImplSource::Misc => misc_is_bound,
+                BuiltinImplSource::Object(_) => true,
+                BuiltinImplSource::TraitUpcasting(_) => false,
+            },
+            (Section::ObjectBounds, _) => false,
+        }
+    }
+}
+
+/// How many candidates of the section were considered.
+fn considered_from(done: &[Considered], section: Section, misc_is_bound: bool) -> usize
+    ensures { result ≡ count_from (is_of misc_is_bound section) done.now }
+{
+    let mut count = 0;
+    'done: for considered in done {
+        if section.has(considered.source, misc_is_bound) {
+            count += 1;
+        }
+    }
+    count
+}
+
+/// The impl that was considered last, if one was.
+fn last_impl(done: &[Considered]) -> Option<ImplId>
+    ensures { result ≡ last_from None done.now }
+{
+    let mut last = None;
+    'done: for considered in done {
+        match considered.source {
+            CandidateSource::Impl(id) => last = Some(id),
+            CandidateSource::BuiltinImpl(_) => {}
+            CandidateSource::ParamEnv(_) => {}
+            CandidateSource::CoherenceUnknowable => {}
+        }
+    }
+    last
+}
+
+/// The candidate by the where-clause of the goal's trait that is next after these candidates were considered, if one is left
+/// (`assemble_param_env_candidates`).
+pub fn assemble_param_env_candidates(
+    alloc: Global,
+    cx: &mut Interner,
+    goal: &CanonicalInput,
+    done: &[Considered],
+) -> Result<Option<CandidateSpec>, Fault>
+    requires { GoalHeld cx.old.entries goal.now.goal }
+    ensures keeps { Keeps cx.old.entries cx.new.entries }
+    ensures limit { cx.new.limit ≡ cx.old.limit }
+    ensures held { IfOk result (λ o. IfSome o (SpecHeld cx.new.entries)) }
+    ensures is { let a = asked_of cx.old.entries goal.now in
+        IfOk result (λ o. (V : World) → ForEachPast cx.old.entries done.now (λ seen. option_map (candidate_of V a.reference.trait cx.new.entries) o
+        ≡ slice_get (by_clauses V a (clauses a)) (considered_from is_clause seen))) }
+    ensures full { result ≡ Err Fault.Full → SomeKindIsFull cx.new.entries cx.new.limit }
+{
+    let place = considered_from(done, Section::WhereClauses, false);
+    consider_param_env_candidate(alloc, cx, goal, place)
+}
+
+/// The candidate by an impl that is next after these candidates were considered, if one is left: the walk over impls goes on behind
+/// the one that was considered last (`assemble_impl_candidates`).
+pub fn assemble_impl_candidates(
+    alloc: Global,
+    cx: &mut Interner,
+    declarations: &Declarations,
+    goal: &CanonicalInput,
+    done: &[Considered],
+) -> Result<Option<CandidateSpec>, Fault>
+    requires goal { GoalHeld cx.old.entries goal.now.goal }
+    requires first { StartsWithType (trees_at cx.old.entries goal.now.goal.predicate.trait_ref.args.0) }
+    requires declared { AreHeld cx.old.entries declarations.now }
+    requires impls { HaveCandidates cx.old.entries declarations.now }
+    ensures keeps { Keeps cx.old.entries cx.new.entries }
+    ensures limit { cx.new.limit ≡ cx.old.limit }
+    ensures held { IfOk result (λ o. IfSome o (SpecHeld cx.new.entries)) }
+    ensures is { let V = written cx.old.entries declarations.now in let a = asked_of cx.old.entries goal.now in
+        IfOk result (λ o. ForEachPast cx.old.entries done.now (λ seen. option_map (candidate_of V a.reference.trait cx.new.entries) o
+        ≡ slice_get (by_impls V a (impls_above (last_impl seen) V.impls)) 0)) }
+    ensures full { result ≡ Err Fault.Full → SomeKindIsFull cx.new.entries cx.new.limit
+        ⊎ NumbersRunOut (written cx.old.entries declarations.now) (length goal.now.variables.items) }
+{
+    let last = last_impl(done);
+    next_impl_candidate(alloc, cx, declarations, goal, last)
+}
