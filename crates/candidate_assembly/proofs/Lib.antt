@@ -20,3 +20,4 @@ pub mod Histories
 pub mod WellDeclared
 pub mod GoingOn
 pub mod Counted
+pub mod UnsizingRows

@@ -10,3 +10,4 @@ pub mod Sections
 pub mod Solving
 pub mod SolverLaws
 pub mod Counted
+pub mod Unsizing

@@ -1,6 +1,6 @@
 //! The candidates of a goal in code: what can prove it, read off the declarations. So far those by impls, by where-clauses, by what
-//! unseen crates may say and by the built-in rules of `Sized`, `Copy`, `Clone`, auto traits, `Tuple` and `FnPtr`, and the parts of which
-//! the others are made.
+//! unseen crates may say and by the built-in rules of `Sized`, `Copy`, `Clone`, auto traits, `Tuple` and `FnPtr` and of `Unsize` for
+//! arrays, and the parts of which the others are made.
 #![tactic(auto)]
 
 pub mod assembly;
@@ -14,3 +14,4 @@ mod parts;
 mod relate;
 mod structural;
 pub mod unknowable;
+pub mod unsize;
