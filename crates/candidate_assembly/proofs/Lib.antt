@@ -13,3 +13,4 @@ pub mod Collected
 pub mod Walking
 pub mod Autos
 pub mod InOrder
+pub mod FnPointers

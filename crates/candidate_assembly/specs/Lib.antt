@@ -6,3 +6,4 @@ pub mod Clauses
 pub mod Headers
 pub mod Merging
 pub mod Shown
+pub mod FnPointers

@@ -1,9 +1,10 @@
 //! The candidates of a goal in code: what can prove it, read off the declarations. So far those by impls, by where-clauses, by what
-//! unseen crates may say and by the built-in rules of `Sized`, `Copy`, `Clone`, auto traits, `Tuple` and `FnPtr`, and the parts of which
-//! the others are made.
+//! unseen crates may say and by the built-in rules of `Sized`, `Copy`, `Clone`, auto traits, `Tuple`, `FnPtr` and calls, and the parts of
+//! which the others are made.
 #![tactic(auto)]
 
 pub mod built_in;
+pub mod calls;
 pub mod impls;
 mod instances;
 pub mod laws;
