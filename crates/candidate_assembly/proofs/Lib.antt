@@ -21,3 +21,4 @@ pub mod WellDeclared
 pub mod GoingOn
 pub mod Counted
 pub mod UnsizingRows
+pub mod FnPointers

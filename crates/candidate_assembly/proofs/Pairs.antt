@@ -22,11 +22,11 @@ use Rattle.candidate_assembly.proofs.Lists.{map-push, every-push}
 use Rattle.candidate_assembly.proofs.Trees.{is-type}
 
 -- an argument is one tree of its sort
-record IsOneTree (s : Sort) (t : Trees) : Type 0 where
-  label : Label
-  children : Trees
-  is : t ≡ tree label children none
-  sort : sort_of label ≡ s
+pub record IsOneTree (s : Sort) (t : Trees) : Type 0 where
+  pub label : Label
+  pub children : Trees
+  pub is : t ≡ tree label children none
+  pub sort : sort_of label ≡ s
 
 type-tree : (t : Trees) → IsA of_type t → IsOneTree of_type t
 type-tree none h = absurd h
@@ -44,18 +44,18 @@ region-sort (ReBound (KBinder k) v) = refl
 region-sort (ReBound KCanonical v) = refl
 region-sort (ReVar v) = refl
 
-arg-tree : (es : List Entry) → Lawful es → (a : GenericArgKind) → ArgHeld es a → IsOneTree (sort_of_arg a) (arg_trees es a)
+pub arg-tree : (es : List Entry) → Lawful es → (a : GenericArgKind) → ArgHeld es a → IsOneTree (sort_of_arg a) (arg_trees es a)
 arg-tree es law (Lifetime r) h = record { label = region_label r.kind; children = none; is = refl; sort = region-sort r.kind }
 arg-tree es law (Ty t) h = type-tree (trees_at es t.0) (is-type es law t.0 h)
 arg-tree es law (Const n) h = const-tree (trees_at es n.0) (subst (IsA of_const) (sym (trees-is es consts n.0 h.0 h.1)) ((law.sorted n.0 _ h.1).as_const refl))
 
-abbrev as_value : Sort → Trees → Value
+abbrev pub as_value : Sort → Trees → Value
 as_value s t = record { sort = s; trees = t }
 
-value-is : (s : Sort) (t : Trees) (h : IsOneTree s t) → first_value h.label h.children ≡ as_value s t
+pub value-is : (s : Sort) (t : Trees) (h : IsOneTree s t) → first_value h.label h.children ≡ as_value s t
 value-is s t h = ap (λ x. as_value x (tree h.label h.children none)) h.sort ∙ ap (as_value s) (sym h.is)
 
-abbrev equate : Value → Value → Equation
+abbrev pub equate : Value → Value → Equation
 equate v w = record { left = v; right = w }
 
 pair-first : (s r : Sort) (t u x y : Trees) → IsOneTree s t → IsOneTree r u → all_equal (t +++ x) (u +++ y) ≡ equate (as_value s t) (as_value r u) ∷ all_equal x y

@@ -11,3 +11,4 @@ pub mod Solving
 pub mod SolverLaws
 pub mod Counted
 pub mod Unsizing
+pub mod FnPointers

@@ -32,7 +32,7 @@ use type_terms::kinds::{GenericArgKind, Ty};
 use type_terms::{Fault, TraitId};
 
 /// The trait `Sized` of `core`.
-const SIZED: u32 = 0;
+pub(crate) const SIZED: u32 = 0;
 
 /// A type asked for a trait without further parameters.
 fn type_asked(alloc: Global, cx: &mut Interner, def_id: TraitId, ty: Ty) -> Result<TraitRef, Fault>
@@ -49,7 +49,7 @@ fn type_asked(alloc: Global, cx: &mut Interner, def_id: TraitId, ty: Ty) -> Resu
 }
 
 /// Each of the types asked for a trait without further parameters.
-fn types_asked(
+pub(crate) fn types_asked(
     alloc: Global,
     cx: &mut Interner,
     def_id: TraitId,

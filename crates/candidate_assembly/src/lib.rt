@@ -1,10 +1,11 @@
 //! The candidates of a goal in code: what can prove it, read off the declarations. So far those by impls, by where-clauses, by what
-//! unseen crates may say and by the built-in rules of `Sized`, `Copy`, `Clone`, auto traits, `Tuple` and `FnPtr` and of `Unsize` for
+//! unseen crates may say and by the built-in rules of `Sized`, `Copy`, `Clone`, auto traits, `Tuple`, `FnPtr`, calls, and `Unsize` for
 //! arrays, and the parts of which the others are made.
 #![tactic(auto)]
 
 pub mod assembly;
 pub mod built_in;
+pub mod calls;
 pub mod impls;
 mod instances;
 pub mod laws;

@@ -26,7 +26,7 @@ use type_terms::kinds::{GenericArgs, Ty, TyKind, UintTy};
 use type_terms::{AdtId, Fault};
 
 /// The last of the types alone. The error is `Memory`.
-fn last_alone(alloc: Global, tys: &[Ty]) -> Result<Vec<Ty>, Fault>
+pub(crate) fn last_alone(alloc: Global, tys: &[Ty]) -> Result<Vec<Ty>, Fault>
     ensures is { IfOk result (λ v. v.items ≡ last_of tys.now) }
     ensures memory { IfErr result (λ fault. fault ≡ Memory) }
 {

@@ -1,0 +1,24 @@
+-- Calls of `fn` pointers: the candidates, and what is read off the goal's arguments.
+use Rattle.std.specs.Prelude.{◌≡◌, List, Option, Some, None}
+use Rattle.model.specs.Label.{fn_ptr}
+use Rattle.model.specs.Trees.{Trees, none, tree, ◌+++◌}
+use Rattle.model.specs.Worlds.{World}
+use Rattle.type_terms.specs.Terms.{Entry}
+use Rattle.type_terms.specs.Kinds.{ArgHeld, arg_trees}
+use Rattle.type_terms.specs.declared.kinds.GenericArgKind.{GenericArgKind}
+use Rattle.assembly_laws.specs.Asking.{Asked, self_of}
+use Rattle.assembly_laws.specs.Candidates.{Candidate, call_of}
+
+-- Of `Fn`, `FnMut` and `FnOnce`.
+abbrev pub call_candidates : World → Asked → List Candidate
+call_candidates V a = call_of V a (self_of a)
+
+-- The inputs and the output of a `fn` pointer, if the first type is one.
+abbrev pub signature_of : Trees → Option Trees
+signature_of (tree (fn_ptr n) types o) = Some types
+signature_of t = None
+
+-- The argument is the first of these trees; if there is none, there are no trees.
+abbrev pub IsFirst : List Entry → Trees → Option GenericArgKind → Type 0
+IsFirst es t None = t ≡ none
+IsFirst es t (Some x) = ArgHeld es x × (rest : Trees) × (t ≡ arg_trees es x +++ rest)
