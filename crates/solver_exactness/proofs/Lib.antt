@@ -15,3 +15,5 @@ pub mod SolverSpecs
 pub mod Arranging
 pub mod Knowability
 pub mod SolverSelections
+pub mod SolverHandlers
+pub mod SolverAnswers
