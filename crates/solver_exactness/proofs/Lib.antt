@@ -17,3 +17,5 @@ pub mod Knowability
 pub mod SolverSelections
 pub mod SolverHandlers
 pub mod SolverAnswers
+pub mod LeadingGoals
+pub mod ClosedAnswers

@@ -1,5 +1,5 @@
 -- The goals without unknowns that the solver answers exactly: what is asked of them, and sets of goals that lead to no others.
-use Rattle.std.specs.Prelude.{◌≡◌, true, List, Some}
+use Rattle.std.specs.Prelude.{◌≡◌, ℕ, zero, suc, true, List, Some}
 use Rattle.model.specs.Worlds.{World}
 use Rattle.model.specs.Proofs.{HasProof}
 use Rattle.infer_table.specs.declared.certainty.TypingMode.{TypingMode}
@@ -46,3 +46,19 @@ pub record AreGoals (m : Meaning) (mode : TypingMode) (IsAsked : Question → Va
   pub goals : (q : Question) (v : Values) → IsAsked q v → IsGoal m.view (fact_of q v)
   pub onward : (q : Question) (v : Values) → IsAsked q v → AreClosed q.form.kinds → ArePlaces q.form.kinds v
       → (a : Asked) → asked m.view q.form ≡ Some a → Every (AsksSuch frame_tables IsAsked (begin (kinds_known q.form.kinds)) v) (specs_by m mode a)
+
+-- The question is decided, its instance is such a fact, and so it is of all that its candidates ask where their equations hold, and of
+-- what these ask, in n steps.
+abbrev pub IsGoodFor : Meaning → TypingMode → ℕ → Question → Values → Type 0
+IsGoodFor m mode zero q v = Unit {0}
+IsGoodFor m mode (suc n) q v =
+    IsGoal m.view (fact_of q v)
+    × ((a : Asked) × (asked m.view q.form ≡ Some a) × Every (AsksSuch frame_tables (IsGoodFor m mode n) (begin (kinds_known q.form.kinds)) v) (specs_by m mode a))
+
+-- so it is of all that it leads to
+abbrev pub LeadsToGoals : Meaning → TypingMode → Question → Values → Type 0
+LeadsToGoals m mode q v = (n : ℕ) → IsGoodFor m mode n q v
+
+-- the questions that lead to such goals alone are a set that leads to no others
+abbrev pub LeadingAreGoals : Type 0
+LeadingAreGoals = (m : Meaning) (mode : TypingMode) → AreGoals m mode (LeadsToGoals m mode)

@@ -10,7 +10,8 @@ ghost use Rattle.evaluation_laws.specs.Tables.{frame_tables};
 ghost use Rattle.goal_frames.specs.Programs.{ArePrograms};
 ghost use Rattle.goal_frames.specs.Searches.{Handles, Asked};
 ghost use Rattle.assembly_laws.specs.Meaning.{Meaning};
-ghost use Rattle.solver_exactness.specs.SolverAnswers.{solver_programs, SolverIsExact, SolverSearchesAreExact, SolverSearchesAreRight};
+ghost use Rattle.solver_exactness.specs.SolverAnswers.{solver_programs, SolverIsExact, SolverSearchesAreExact, SolverSearchesAreRight, SolverTellsPossible};
+ghost use Rattle.solver_exactness.specs.SolverGoals.{LeadingAreGoals};
 ghost use Rattle.solver_exactness.specs.BoundWays.{BoundRowsAreWays, ImplsAreWays};
 ghost use Rattle.solver_exactness.specs.SolverChoices.{SpecsAreWays, CoherenceSpecsAreWays};
 ghost use Rattle.solver_exactness.specs.SolverPlans.{PlansAreExact};
@@ -126,4 +127,16 @@ pub fn solver_searches_are_exact<S: SolverSearching>()
 pub fn solver_searches_are_right<S: SolverSearching>()
     requires programs { ArePrograms frame_tables (solver_programs S.applicable S.same S.meaning_of) }
     ensures { SolverSearchesAreRight S.applicable S.same S.meaning_of S.handles S.IsAsked }
+{}
+
+/// Where a set of accepted crates has the crate, a search in coherence refuses a bounded reference without where-clauses exactly if it
+/// is not possible in the crate.
+pub fn solver_tells_possible<S: SolverSearching>()
+    requires programs { ArePrograms frame_tables (solver_programs S.applicable S.same S.meaning_of) }
+    ensures { SolverTellsPossible S.applicable S.same S.meaning_of S.handles S.IsAsked }
+{}
+
+/// The questions that lead to good goals alone, in any number of steps, are a set that leads to no others.
+pub fn leading_are_goals()
+    ensures { LeadingAreGoals }
 {}
