@@ -1,11 +1,13 @@
 -- The questions that lead to good goals alone lead to no others.
-use Rattle.std.proofs.Common.{◌≡◌, ℕ, suc, List, [], ◌∷◌, sym, ◌∙◌, subst, Some}
+use Rattle.std.proofs.Common.{◌≡◌, ℕ, suc, List, [], ◌∷◌, map, sym, ◌∙◌, subst, Some}
 use Rattle.infer_table.specs.declared.certainty.TypingMode.{TypingMode}
 use Rattle.evaluation.specs.Lists.{Every}
 use Rattle.evaluation.proofs.ListLaws.{Every-mono}
 use Rattle.table_laws.specs.Content.{Values, Question, Terms}
 use Rattle.table_laws.specs.Frames.{kinds_known, FrameTable, Nested, IsMadeFrame, Allows, Meets, question, values_at}
 use Rattle.table_laws.specs.Operations.{begin, fresh}
+use Rattle.table_laws.specs.Finite.{IsDetermined}
+use Rattle.exactness_laws.specs.ClosedTables.{AreClosed, closed_tables}
 use Rattle.evaluation_laws.specs.Tables.{frame_tables}
 use Rattle.exactness_laws.specs.Closed.{AsksSuch}
 use Rattle.assembly_laws.specs.Meaning.{Meaning}
@@ -26,25 +28,25 @@ module _ (m : Meaning) (mode : TypingMode) where
     abbrev table : FrameTable
     table = begin (kinds_known q.form.kinds)
 
-    in-steps : (n : ℕ) → Every (AsksSuch frame_tables (IsGoodFor m mode n) table v) (specs_by m mode a)
+    in-steps : (n : ℕ) → Every (AsksSuch frame_tables closed_tables (IsGoodFor m mode n) table v) (specs_by m mode a)
     in-steps n =
         let x = (i (suc n)).1 in
-        subst (λ b. Every (AsksSuch frame_tables (IsGoodFor m mode n) table v) (specs_by m mode b)) (some-is x.0 a (sym x.1 ∙ is_asked)) x.2
+        subst (λ b. Every (AsksSuch frame_tables closed_tables (IsGoodFor m mode n) table v) (specs_by m mode b)) (some-is x.0 a (sym x.1 ∙ is_asked)) x.2
 
     abbrev Within : Candidate → ℕ → Nested → Type 0
     Within c n d =
-        (T : FrameTable) (s : Terms) → IsMadeFrame T → Allows T s → Allows (fresh table c.kinds) s → Every (λ e. Meets e s) c.equations → s.own ≡ v → IsGoodFor m mode n (question T d) (values_at T d s)
+        (T : FrameTable) (s : Terms) → IsMadeFrame T → AreClosed (map Some T.kinds) → IsDetermined T d → Allows T s → Allows (fresh table c.kinds) s → Every (λ e. Meets e s) c.equations → s.own ≡ v → IsGoodFor m mode n (question T d) (values_at T d s)
 
-    of-one : (c : Candidate) → ((n : ℕ) → AsksSuch frame_tables (IsGoodFor m mode n) table v c) → AsksSuch frame_tables (LeadsToGoals m mode) table v c
+    of-one : (c : Candidate) → ((n : ℕ) → AsksSuch frame_tables closed_tables (IsGoodFor m mode n) table v c) → AsksSuch frame_tables closed_tables (LeadsToGoals m mode) table v c
     of-one c h =
         Every-mono (λ d. (n : ℕ) → Within c n d)
-        (λ d. (T : FrameTable) (s : Terms) → IsMadeFrame T → Allows T s → Allows (fresh table c.kinds) s → Every (λ e. Meets e s) c.equations → s.own ≡ v → LeadsToGoals m mode (question T d) (values_at T d s))
-        (λ d g T s made l k e o n. g n T s made l k e o) c.nested (all-numbers (Within c) c.nested h)
+        (λ d. (T : FrameTable) (s : Terms) → IsMadeFrame T → AreClosed (map Some T.kinds) → IsDetermined T d → Allows T s → Allows (fresh table c.kinds) s → Every (λ e. Meets e s) c.equations → s.own ≡ v → LeadsToGoals m mode (question T d) (values_at T d s))
+        (λ d g T s made x y l k e o n. g n T s made x y l k e o) c.nested (all-numbers (Within c) c.nested h)
 
-    onward : Every (AsksSuch frame_tables (LeadsToGoals m mode) table v) (specs_by m mode a)
+    onward : Every (AsksSuch frame_tables closed_tables (LeadsToGoals m mode) table v) (specs_by m mode a)
     onward =
-        Every-mono (λ c. (n : ℕ) → AsksSuch frame_tables (IsGoodFor m mode n) table v c) (AsksSuch frame_tables (LeadsToGoals m mode) table v) of-one (specs_by m mode a)
-        (all-numbers (λ n. AsksSuch frame_tables (IsGoodFor m mode n) table v) (specs_by m mode a) in-steps)
+        Every-mono (λ c. (n : ℕ) → AsksSuch frame_tables closed_tables (IsGoodFor m mode n) table v c) (AsksSuch frame_tables closed_tables (LeadsToGoals m mode) table v) of-one (specs_by m mode a)
+        (all-numbers (λ n. AsksSuch frame_tables closed_tables (IsGoodFor m mode n) table v) (specs_by m mode a) in-steps)
 
 pub leading-are-goals : LeadingAreGoals
 leading-are-goals m mode = record {

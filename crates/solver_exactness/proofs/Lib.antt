@@ -19,3 +19,4 @@ pub mod SolverHandlers
 pub mod SolverAnswers
 pub mod LeadingGoals
 pub mod ClosedAnswers
+pub mod QuestionTerms

@@ -10,7 +10,7 @@ use Rattle.table_laws.specs.Frames.{kinds_known}
 use Rattle.table_laws.specs.Operations.{begin}
 use Rattle.evaluation_laws.specs.Tables.{frame_tables}
 use Rattle.exactness_laws.specs.Closed.{AsksSuch}
-use Rattle.exactness_laws.specs.ClosedTables.{AreClosed, ArePlaces}
+use Rattle.exactness_laws.specs.ClosedTables.{AreClosed, ArePlaces, closed_tables}
 use Rattle.assembly_laws.specs.Facts.{clauses_of, reference_in, is_plain}
 use Rattle.assembly_laws.specs.Meaning.{Meaning}
 use Rattle.assembly_laws.specs.Asking.{Asked, asked}
@@ -45,7 +45,7 @@ pub record AreGoals (m : Meaning) (mode : TypingMode) (IsAsked : Question → Va
   pub decided : (q : Question) (v : Values) → IsAsked q v → (a : Asked) × (asked m.view q.form ≡ Some a)
   pub goals : (q : Question) (v : Values) → IsAsked q v → IsGoal m.view (fact_of q v)
   pub onward : (q : Question) (v : Values) → IsAsked q v → AreClosed q.form.kinds → ArePlaces q.form.kinds v
-      → (a : Asked) → asked m.view q.form ≡ Some a → Every (AsksSuch frame_tables IsAsked (begin (kinds_known q.form.kinds)) v) (specs_by m mode a)
+      → (a : Asked) → asked m.view q.form ≡ Some a → Every (AsksSuch frame_tables closed_tables IsAsked (begin (kinds_known q.form.kinds)) v) (specs_by m mode a)
 
 -- The question is decided, its instance is such a fact, and so it is of all that its candidates ask where their equations hold, and of
 -- what these ask, in n steps.
@@ -53,7 +53,7 @@ abbrev pub IsGoodFor : Meaning → TypingMode → ℕ → Question → Values �
 IsGoodFor m mode zero q v = Unit {0}
 IsGoodFor m mode (suc n) q v =
     IsGoal m.view (fact_of q v)
-    × ((a : Asked) × (asked m.view q.form ≡ Some a) × Every (AsksSuch frame_tables (IsGoodFor m mode n) (begin (kinds_known q.form.kinds)) v) (specs_by m mode a))
+    × ((a : Asked) × (asked m.view q.form ≡ Some a) × Every (AsksSuch frame_tables closed_tables (IsGoodFor m mode n) (begin (kinds_known q.form.kinds)) v) (specs_by m mode a))
 
 -- so it is of all that it leads to
 abbrev pub LeadsToGoals : Meaning → TypingMode → Question → Values → Type 0
