@@ -20,3 +20,4 @@ pub mod SolverAnswers
 pub mod LeadingGoals
 pub mod ClosedAnswers
 pub mod QuestionTerms
+pub mod QuestionNames
