@@ -23,7 +23,7 @@ module _ {Question Response : Type 0} (t : Tables Question Response) (laws : IsT
   asked_now T n f m c d i h =
       let x = closing.free T m c v in
       let apart = subst (k.IsApart (k.shape T)) (sym x.2) d in
-      answer (t.question T n) (t.at T n x.0) (i.asked T x.0 m x.1 x.1 x.2) (closing.closed T n m c i.determined) (closing.apart T n c i.determined x.0 x.1 apart)
+      answer (t.question T n) (t.at T n x.0) (i.asked T x.0 m c i.determined x.1 x.1 x.2) (closing.closed T n m c i.determined) (closing.apart T n c i.determined x.0 x.1 apart)
       (subst Short (sym (laws.instance T n x.0 x.1 ∙ i.is x.0 x.1 x.2)) h)
 
   abbrev CanRound : t.Table → List t.Nested → Type 0
@@ -103,7 +103,7 @@ module _ {Question Response : Type 0} (t : Tables Question Response) (laws : IsT
         some-is : {A : Type 0} (x y : A) → Some x ≡ Some y → x ≡ y
         some-is x y e = cc
 
-    can_apply : DeterminesNested t begin s → AsksSuch t IsAsked begin v s → (premises : List t.Fact) → Applies t begin v s premises → Every Short premises → CanEndCandidate
+    can_apply : DeterminesNested t begin s → AsksSuch t k IsAsked begin v s → (premises : List t.Fact) → Applies t begin v s premises → Every Short premises → CanEndCandidate
     can_apply determined asked premises a h = by (t.equate (t.fresh begin s.kinds) s.equations) refl
       where
         by : (o : Option t.Table) → t.equate (t.fresh begin s.kinds) s.equations ≡ o → (x : Option Response) × Ends P (equated (workings t) (suc limited) s o) x
@@ -130,7 +130,7 @@ module _ {Question Response : Type 0} (t : Tables Question Response) (laws : IsT
 
   -- each candidate of the list ends
   pub can_all : (limited : ℕ) (begin : t.Table) → t.Made begin → k.IsClosed (k.shape begin) → k.IsApart (k.shape begin) v → (cs : List (Spec (workings t))) (ways : List (List t.Fact)) → AreWays t begin v cs ways
-      → Every (DeterminesNested t begin) cs → Every (AsksSuch t IsAsked begin v) cs → Every (Every Short) ways
+      → Every (DeterminesNested t begin) cs → Every (AsksSuch t k IsAsked begin v) cs → Every (Every Short) ways
       → Every (λ (s : Spec (workings t)). (x : Option Response) × Ends P (candidate (workings t) (suc limited) begin s) x) cs
   can_all limited begin m c d [] [] u a b h = tt
   can_all limited begin m c d [] (premises ∷ ways) u a b h = tt

@@ -5,7 +5,7 @@ use Rattle.infer_table.specs.declared.certainty.Certainty.TheVariants.{Yes, Mayb
 use Rattle.infer_table.specs.Certainties.{joined, unsettled}
 use Rattle.evaluation.specs.Lists.{Every, SomeOf, Pairwise}
 use Rattle.evaluation.proofs.ListLaws.{Every-mono}
-use Rattle.evaluation.specs.Table.{Tables, operations, workings, IsTable, Narrows}
+use Rattle.evaluation.specs.Table.{Tables, operations, workings, IsTable, Narrows, IsDetermined}
 use Rattle.evaluation.specs.Rounds.{Round, Rounds, round, settled, next_round, rounds}
 use Rattle.evaluation.specs.Candidate.{Spec, answered, equated, candidate}
 use Rattle.exactness_laws.specs.Plays.{Ends}
@@ -48,14 +48,14 @@ module _ {Question Response : Type 0} (t : Tables Question Response) (laws : IsT
             let y = closing.free U narrow.made (subst k.IsClosed (sym shape) c) v in
             absurd (none_meets y.0 (narrow.allows y.0 y.1) y.2 (meets_by U q y.0 y.1))
 
-    module _ (determined : DeterminesNested t begin s) (asked : AsksSuch t IsAsked begin v s) (limited : ℕ) (more : limit ≡ suc limited) where
+    module _ (determined : DeterminesNested t begin s) (asked : AsksSuch t k IsAsked begin v s) (limited : ℕ) (more : limit ≡ suc limited) where
       -- the nested goals, over a table in which the equations hold
       abbrev pub AreAsked : t.Table → t.Nested → Type 0
-      AreAsked U n = (W : t.Table) (b : t.Assignment) → t.Made W → t.Allows W b → t.Allows U b → t.own b ≡ v → IsAsked (t.question W n) (t.at W n b)
+      AreAsked U n = (W : t.Table) (b : t.Assignment) → t.Made W → k.IsClosed (k.shape W) → IsDetermined t W n → t.Allows W b → t.Allows U b → t.own b ≡ v → IsAsked (t.question W n) (t.at W n b)
 
       -- where the equations hold
       pub asked_in : (U : t.Table) → ((b : t.Assignment) → t.Allows U b → t.Allows (t.fresh begin s.kinds) b) → ((b : t.Assignment) → t.Allows U b → Every (λ e. t.Meets e b) s.equations) → Every (AreAsked U) s.nested
-      asked_in U onto meets = Every-mono _ (AreAsked U) (λ n h W b i a j e. h W b i a (onto b j) (meets b j) e) s.nested asked
+      asked_in U onto meets = Every-mono _ (AreAsked U) (λ n h W b i x y a j e. h W b i x y a (onto b j) (meets b j) e) s.nested asked
 
       pub nested_all : (U : t.Table) (a : t.Assignment) → t.own a ≡ v → (ns : List t.Nested)
           → ((s r : t.Assignment) → t.Allows U s → t.Allows U r → t.own s ≡ t.own r → Every (λ n. t.fact n s ≡ t.fact n r) ns)

@@ -27,7 +27,7 @@ module _ {Question Response : Type 0} (t : Tables Question Response) where
     pub few : length specs ≤ p.candidates
     pub exact : IsExactFrom specs [] p.plan
     pub determined : Every (DeterminesNested t p.begin) specs
-    pub nested : Every (AsksSuch t IsAsked p.begin v) specs
+    pub nested : Every (AsksSuch t k IsAsked p.begin v) specs
     pub found : List (List t.Fact)
     pub applies : AreWays t p.begin v specs found
     pub selects : IsSelection found (ways (p.goal v))

@@ -127,7 +127,7 @@ module _ {Question Response : Type 0} (t : Tables Question Response) (laws : IsT
       all_told bare Sure sure =
           tells t laws k closing e.IsAsked (By n) Sure bare 7 (handled_of q).begin is.made v begin_closed begin_apart h.taken ways_of.first ways_of.are
           (thin-every (DeterminesNested t (handled_of q).begin) (is.left h.last) is.specs h.taken h.thinned is.determined)
-          (thin-every (AsksSuch t e.IsAsked (handled_of q).begin v) (is.left h.last) is.specs h.taken h.thinned is.nested)
+          (thin-every (AsksSuch t k e.IsAsked (handled_of q).begin v) (is.left h.last) is.specs h.taken h.thinned is.nested)
           (thin-every (λ (s : Spec (workings t)). Sure s.certainty) (is.left h.last) is.specs h.taken h.thinned sure) h.results h.each
 
       -- where all were refused, all candidates were considered

@@ -23,3 +23,4 @@ pub mod RuleFilling
 pub mod RuleHandlers
 pub mod RuleAnswers
 pub mod Worked
+pub mod NestedFacts

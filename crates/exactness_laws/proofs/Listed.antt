@@ -22,7 +22,7 @@ module _ {Question Response : Type 0} (t : Tables Question Response) (k : Closin
     pub goal : l.goal v ≡ t.fact_of q v
     pub closed : k.IsClosed (k.shape l.begin)
     pub determined : Every (DeterminesNested t l.begin) l.specs
-    pub nested : Every (AsksSuch t IsAsked l.begin v) l.specs
+    pub nested : Every (AsksSuch t k IsAsked l.begin v) l.specs
     pub found : List (List t.Fact)
     pub applies : AreWays t l.begin v l.specs found
     pub selects : IsSelection found (ways (l.goal v))

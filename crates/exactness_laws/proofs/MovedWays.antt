@@ -24,12 +24,12 @@ pub every-to : {A B : Type 0} (f : A → B) (P : B → Type 0) (S : A → Type 0
 every-to f P S g [] h = tt
 every-to f P S g (x ∷ xs) h = (g x h.0, every-to f P S g xs h.1)
 
-some-from : {A B : Type 0} (f : A → B) (P : B → Type 0) (S : A → Type 0) → ((x : A) → P (f x) → S x) → (xs : List A) → SomeOf P (map f xs) → SomeOf S xs
+pub some-from : {A B : Type 0} (f : A → B) (P : B → Type 0) (S : A → Type 0) → ((x : A) → P (f x) → S x) → (xs : List A) → SomeOf P (map f xs) → SomeOf S xs
 some-from f P S g [] s = absurd s
 some-from f P S g (x ∷ xs) (inl p) = inl (g x p)
 some-from f P S g (x ∷ xs) (inr s) = inr (some-from f P S g xs s)
 
-some-to : {A B : Type 0} (f : A → B) (P : B → Type 0) (S : A → Type 0) → ((x : A) → S x → P (f x)) → (xs : List A) → SomeOf S xs → SomeOf P (map f xs)
+pub some-to : {A B : Type 0} (f : A → B) (P : B → Type 0) (S : A → Type 0) → ((x : A) → S x → P (f x)) → (xs : List A) → SomeOf S xs → SomeOf P (map f xs)
 some-to f P S g [] s = absurd s
 some-to f P S g (x ∷ xs) (inl p) = inl (g x p)
 some-to f P S g (x ∷ xs) (inr s) = inr (some-to f P S g xs s)
@@ -37,6 +37,10 @@ some-to f P S g (x ∷ xs) (inr s) = inr (some-to f P S g xs s)
 one-from : {A B : Type 0} (f : A → B) (P : B → Type 0) (S : A → Type 0) → ((x : A) → S x → P (f x)) → (xs : List A) → AtMostOne P (map f xs) → AtMostOne S xs
 one-from f P S g [] h = tt
 one-from f P S g (x ∷ xs) h = (λ p s. h.0 (g x p) (some-to f P S g xs s), one-from f P S g xs h.1)
+
+pub one-to : {A B : Type 0} (f : A → B) (P : B → Type 0) (S : A → Type 0) → ((x : A) → P (f x) → S x) → (xs : List A) → AtMostOne S xs → AtMostOne P (map f xs)
+one-to f P S g [] h = tt
+one-to f P S g (x ∷ xs) h = (λ p s. h.0 (g x p) (some-from f P S g xs s), one-to f P S g xs h.1)
 
 module _ {A B : Type 0} (read : A → B) (ways : A → List (List A)) (others : B → List (List B)) (are : AreMoved read ways others) where
   possible-to : (n : ℕ) (a : A) → IsPossible others n (read a) → IsPossible ways n a

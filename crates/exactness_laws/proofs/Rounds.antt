@@ -32,13 +32,13 @@ module _ {Question Response : Type 0} (t : Tables Question Response) (laws : IsT
   pub record IsNested (T : t.Table) (v : t.Values) (n : t.Nested) (f : t.Fact) : Type 0 where
     pub determined : IsDetermined t T n
     pub is : (s : t.Assignment) → t.Allows T s → t.own s ≡ v → t.fact n s ≡ f
-    pub asked : (U : t.Table) (s : t.Assignment) → t.Made U → t.Allows U s → t.Allows T s → t.own s ≡ v → IsAsked (t.question U n) (t.at U n s)
+    pub asked : (U : t.Table) (s : t.Assignment) → t.Made U → k.IsClosed (k.shape U) → IsDetermined t U n → t.Allows U s → t.Allows T s → t.own s ≡ v → IsAsked (t.question U n) (t.at U n s)
 
   narrowed : (T U : t.Table) (v : t.Values) (n : t.Nested) (f : t.Fact) → Narrows t T U → IsNested T v n f → IsNested U v n f
   narrowed T U v n f narrow i = record {
     determined = λ s r a b e. i.determined s r (narrow.allows s a) (narrow.allows r b) e;
     is = λ s a e. i.is s (narrow.allows s a) e;
-    asked = λ W s m a b e. i.asked W s m a (narrow.allows s b) e;
+    asked = λ W s m x y a b e. i.asked W s m x y a (narrow.allows s b) e;
   }
 
   pub all_narrowed : (T U : t.Table) (v : t.Values) (ns : List t.Nested) (fs : List t.Fact) → Narrows t T U → Pairwise (IsNested T v) ns fs → Pairwise (IsNested U v) ns fs
@@ -58,7 +58,7 @@ module _ {Question Response : Type 0} (t : Tables Question Response) (laws : IsT
       record {
         question = t.question T n;
         values = t.at T n x.0;
-        asked = i.asked T x.0 m x.1 x.1 x.2;
+        asked = i.asked T x.0 m c i.determined x.1 x.1 x.2;
         closed = closing.closed T n m c i.determined;
         apart = closing.apart T n c i.determined x.0 x.1 apart;
         fact = laws.instance T n x.0 x.1 ∙ i.is x.0 x.1 x.2;

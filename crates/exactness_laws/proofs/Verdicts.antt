@@ -35,7 +35,7 @@ module _ {Question Response : Type 0} (t : Tables Question Response) (laws : IsT
     CandidateEnds s x = Ends P (candidate (workings t) (suc limited) begin s) x
 
     pub tells : (cs : List (Spec (workings t))) (ways : List (List t.Fact)) → AreWays t begin v cs ways → Every (DeterminesNested t begin) cs
-        → Every (AsksSuch t IsAsked begin v) cs → Every (λ (s : Spec (workings t)). Sure s.certainty) cs
+        → Every (AsksSuch t k IsAsked begin v) cs → Every (λ (s : Spec (workings t)). Sure s.certainty) cs
         → (xs : List (Option Response)) → Pairwise CandidateEnds cs xs → Tells ways xs
     tells [] [] no_more a b s [] p = end
     tells [] [] no_more a b s (x ∷ xs) p = absurd p

@@ -67,10 +67,11 @@ module _ {Question Response : Type 0} (t : Tables Question Response) where
       → Every (λ e. t.Meets e s) c.equations → Every (λ e. t.Meets e r) c.equations → t.own s ≡ t.own r
       → Every (λ n. t.fact n s ≡ t.fact n r) c.nested
 
-  -- where its equations hold, its nested goals are such goals, from whatever table they are asked
-  abbrev pub AsksSuch : (Question → t.Values → Type 0) → t.Table → t.Values → Spec (workings t) → Type 0
-  AsksSuch IsAsked begin v c =
-      Every (λ n. (T : t.Table) (s : t.Assignment) → t.Made T → t.Allows T s → t.Allows (t.fresh begin c.kinds) s → Every (λ e. t.Meets e s) c.equations → t.own s ≡ v
+  -- where its equations hold, its nested goals are such goals, from whatever table without unknowns they are asked that determines them
+  abbrev pub AsksSuch : Closing → (Question → t.Values → Type 0) → t.Table → t.Values → Spec (workings t) → Type 0
+  AsksSuch k IsAsked begin v c =
+      Every (λ n. (T : t.Table) (s : t.Assignment) → t.Made T → k.IsClosed (k.shape T) → IsDetermined t T n → t.Allows T s → t.Allows (t.fresh begin c.kinds) s
+      → Every (λ e. t.Meets e s) c.equations → t.own s ≡ v
       → IsAsked (t.question T n) (t.at T n s)) c.nested
 
 -- the answer holds no values

@@ -56,7 +56,7 @@ module _ {Question Response : Type 0} (t : Tables Question Response) (k : Closin
         → WereConsidered t h.next seen → h.next seen ≡ answer a ignored → IsMade t (left seen) seen a
     -- the goal determines the nested goals of each, and these are goals that are asked
     pub determined : Every (DeterminesNested t h.begin) specs
-    pub nested : Every (AsksSuch t IsAsked h.begin v) specs
+    pub nested : Every (AsksSuch t k IsAsked h.begin v) specs
     -- those that apply are the ways of the goal's instance
     pub found : List (List t.Fact)
     pub applies : AreWays t h.begin v specs found

@@ -7,3 +7,4 @@ pub mod Exact
 pub mod Found
 pub mod RuleWays
 pub mod RuleAnswers
+pub mod NestedFacts

@@ -18,6 +18,7 @@ ghost use Rattle.exactness_laws.specs.Found.{FoundIsExact, FoundIsRight};
 ghost use Rattle.exactness_laws.specs.ModelWays.{ProofsAreByWays, SingleWayIsDecided, PossibleIsByWays, ShortIsByWays};
 ghost use Rattle.exactness_laws.specs.RuleAnswers.{rule_programs, RulesAreExact, RulesAreRight, RulesAnswer};
 ghost use Rattle.exactness_laws.specs.Ways.{HoldsByWays};
+ghost use Rattle.exactness_laws.specs.NestedFacts.{PremisesAreAsked};
 
 /// By the rules of a set of crates and of where-clauses a reference has a proof exactly if the premises of one of its rules have
 /// proofs.
@@ -77,6 +78,12 @@ pub trait ExactPrograms {
 
     ghost handles: { Handles Context Input Result Frame programs.World (Asked tables programs) (Option Response) };
 }
+
+/// What holds of all premises of the ways that candidates are holds of all nested goals that these ask where their equations hold,
+/// with whatever terms.
+pub fn premises_are_asked<E: ExactPrograms>()
+    ensures { PremisesAreAsked E.tables E.Holds }
+{}
 
 /// What plain recursion refuses is not possible, and what it does not refuse is.
 pub fn plain_recursion_is_exact<E: ExactPrograms>()

@@ -15,3 +15,9 @@ pub mod SolverSpecs
 pub mod Arranging
 pub mod Knowability
 pub mod SolverSelections
+pub mod SolverHandlers
+pub mod SolverAnswers
+pub mod LeadingGoals
+pub mod ClosedAnswers
+pub mod QuestionTerms
+pub mod QuestionNames

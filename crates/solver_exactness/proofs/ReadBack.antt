@@ -26,7 +26,7 @@ references-back f (p ∷ ps) = ap (λ z. p ∷ z) (references-back f ps)
 cons : (x y : List Reference) (xs ys : List (List Reference)) → x ≡ y → xs ≡ ys → x ∷ xs ≡ y ∷ ys
 cons x y xs ys e g = cc
 
-ways-back : (f : Fact) (ways : List (List Reference)) → read_back (facts_beside f ways) ≡ ways
+pub ways-back : (f : Fact) (ways : List (List Reference)) → read_back (facts_beside f ways) ≡ ways
 ways-back f [] = refl
 ways-back f (ps ∷ ways) = cons _ _ _ _ (references-back f ps) (ways-back f ways)
 

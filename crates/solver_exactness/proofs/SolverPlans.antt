@@ -118,13 +118,13 @@ module _ (applicable : AnswerTrees → Bool) (same : AnswerTrees → AnswerTrees
   pub kinds-closed : AreClosed (map Some a.kinds)
   kinds-closed = subst AreClosed (sym (kinds-whole f.kinds a.kinds (asked-by m.view f.goal.environment f.goal.predicate (all_known f.kinds) a is_asked).kinds_are)) closed
 
-  kinds-are : kinds_known f.kinds ≡ a.kinds
+  pub kinds-are : kinds_known f.kinds ≡ a.kinds
   kinds-are = known-kinds f.kinds a.kinds (asked-by m.view f.goal.environment f.goal.predicate (all_known f.kinds) a is_asked).kinds_are
 
   begin-closed : AreClosed (map Some (kinds_known f.kinds))
   begin-closed = subst (λ ks. AreClosed (map Some ks)) (sym kinds-are) kinds-closed
 
-  silent : (c : Certainty) → frame_tables.has_values (frame_tables.respond (begin (kinds_known f.kinds)) c) ≡ false
+  pub silent : (c : Certainty) → frame_tables.has_values (frame_tables.respond (begin (kinds_known f.kinds)) c) ≡ false
   silent c = closed_tables_are_lawful.silent (begin (kinds_known f.kinds)) c (begin-made (kinds_known f.kinds)) begin-closed
 
   decided : (b d : Bool) → b ≡ true → d ≡ false → (p q : Plan frame_tables) → (if not b || d then p else q) ≡ q

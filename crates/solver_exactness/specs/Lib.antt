@@ -5,3 +5,5 @@ pub mod RowWays
 pub mod BoundWays
 pub mod SolverSpecs
 pub mod SolverChoices
+pub mod SolverGoals
+pub mod SolverAnswers

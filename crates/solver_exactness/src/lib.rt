@@ -3,7 +3,15 @@
 
 ghost use Rattle.solver_exactness.specs.ReadBack.{OutsideComesBack, CoherenceComesBack};
 ghost use Rattle.solver_exactness.specs.RowWays.{RowsAreWays, EquatedRowsAreWays, ClausesAreWays};
-ghost use Rattle.table_laws.specs.Content.{Fact};
+ghost use Rattle.std.specs.Prelude.{Bool, Option};
+ghost use Rattle.infer_table.specs.Responses.{AnswerTrees};
+ghost use Rattle.table_laws.specs.Content.{Fact, Question, Values};
+ghost use Rattle.evaluation_laws.specs.Tables.{frame_tables};
+ghost use Rattle.goal_frames.specs.Programs.{ArePrograms};
+ghost use Rattle.goal_frames.specs.Searches.{Handles, Asked};
+ghost use Rattle.assembly_laws.specs.Meaning.{Meaning};
+ghost use Rattle.solver_exactness.specs.SolverAnswers.{solver_programs, SolverIsExact, SolverSearchesAreExact, SolverSearchesAreRight, SolverTellsPossible};
+ghost use Rattle.solver_exactness.specs.SolverGoals.{LeadingAreGoals};
 ghost use Rattle.solver_exactness.specs.BoundWays.{BoundRowsAreWays, ImplsAreWays};
 ghost use Rattle.solver_exactness.specs.SolverChoices.{SpecsAreWays, CoherenceSpecsAreWays};
 ghost use Rattle.solver_exactness.specs.SolverPlans.{PlansAreExact};
@@ -74,4 +82,61 @@ pub fn specs_are_lawful()
 pub fn specs_are_ways<J: Judging>()
     ensures outside { SpecsAreWays J.Judged }
     ensures coherence { CoherenceSpecsAreWays J.Judged }
+{}
+
+/// The solver as a search runs it, and a set of questions with values for their placeholders.
+pub trait SolverSearching {
+    /// What a context declares.
+    ghost World: { Type 0 };
+
+    ghost meaning_of: { World → Meaning };
+
+    /// Which where-clauses may be taken alone, and which answers are one, as the solver merges them.
+    ghost applicable: { AnswerTrees → Bool };
+
+    ghost same: { AnswerTrees → AnswerTrees → Bool };
+
+    ghost Context: { Type 0 };
+
+    ghost Input: { Type 0 };
+
+    ghost Result: { Type 0 };
+
+    ghost Frame: { Type 0 };
+
+    ghost handles: { Handles Context Input Result Frame World (Asked frame_tables (solver_programs applicable same meaning_of)) (Option AnswerTrees) };
+
+    ghost IsAsked: { Question → Values → Type 0 };
+}
+
+/// On a set of goals without unknowns that leads to no others, plain recursion over the solver's frames refuses, in both modes, only
+/// what is not possible by the rules of the view, and does not refuse what is not possible.
+pub fn solver_is_exact<S: SolverSearching>()
+    ensures { SolverIsExact S.applicable S.same S.meaning_of S.handles S.IsAsked }
+{}
+
+/// So a search that comes to no other answer than plain recursion within its limit, as `evaluate_root_goal` promises of one more than
+/// its depth, refuses a goal of the set whose chains of premises are short exactly if it is not possible.
+pub fn solver_searches_are_exact<S: SolverSearching>()
+    requires programs { ArePrograms frame_tables (solver_programs S.applicable S.same S.meaning_of) }
+    ensures { SolverSearchesAreExact S.applicable S.same S.meaning_of S.handles S.IsAsked }
+{}
+
+/// And outside coherence it answers a definite yes to one that has a proof by the rules of the view and its where-clauses, and refuses
+/// one that has none, where by short chains each reference has one rule at most whose premises have proofs.
+pub fn solver_searches_are_right<S: SolverSearching>()
+    requires programs { ArePrograms frame_tables (solver_programs S.applicable S.same S.meaning_of) }
+    ensures { SolverSearchesAreRight S.applicable S.same S.meaning_of S.handles S.IsAsked }
+{}
+
+/// Where a set of accepted crates has the crate, a search in coherence refuses a bounded reference without where-clauses exactly if it
+/// is not possible in the crate.
+pub fn solver_tells_possible<S: SolverSearching>()
+    requires programs { ArePrograms frame_tables (solver_programs S.applicable S.same S.meaning_of) }
+    ensures { SolverTellsPossible S.applicable S.same S.meaning_of S.handles S.IsAsked }
+{}
+
+/// The questions that lead to good goals alone, in any number of steps, are a set that leads to no others.
+pub fn leading_are_goals()
+    ensures { LeadingAreGoals }
 {}

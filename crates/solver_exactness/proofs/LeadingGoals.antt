@@ -1,0 +1,56 @@
+-- The questions that lead to good goals alone lead to no others.
+use Rattle.std.proofs.Common.{◌≡◌, ℕ, suc, List, [], ◌∷◌, map, sym, ◌∙◌, subst, Some}
+use Rattle.infer_table.specs.declared.certainty.TypingMode.{TypingMode}
+use Rattle.evaluation.specs.Lists.{Every}
+use Rattle.evaluation.proofs.ListLaws.{Every-mono}
+use Rattle.table_laws.specs.Content.{Values, Question, Terms}
+use Rattle.table_laws.specs.Frames.{kinds_known, FrameTable, Nested, IsMadeFrame, Allows, Meets, question, values_at}
+use Rattle.table_laws.specs.Operations.{begin, fresh}
+use Rattle.table_laws.specs.Finite.{IsDetermined}
+use Rattle.exactness_laws.specs.ClosedTables.{AreClosed, closed_tables}
+use Rattle.evaluation_laws.specs.Tables.{frame_tables}
+use Rattle.exactness_laws.specs.Closed.{AsksSuch}
+use Rattle.assembly_laws.specs.Meaning.{Meaning}
+use Rattle.assembly_laws.specs.Asking.{Asked, asked}
+use Rattle.assembly_laws.specs.Candidates.{Candidate}
+use Rattle.solver_exactness.specs.SolverGoals.{specs_by, IsGoodFor, LeadsToGoals, LeadingAreGoals}
+
+-- what holds of each for all numbers
+all-numbers : {A : Type 0} (P : ℕ → A → Type 0) (xs : List A) → ((n : ℕ) → Every (P n) xs) → Every (λ x. (n : ℕ) → P n x) xs
+all-numbers P [] h = tt
+all-numbers P (x ∷ xs) h = (λ n. (h n).0, all-numbers P xs (λ n. (h n).1))
+
+some-is : {A : Type 0} (a b : A) → Some a ≡ Some b → a ≡ b
+some-is a b e = cc
+
+module _ (m : Meaning) (mode : TypingMode) where
+  module _ (q : Question) (v : Values) (i : LeadsToGoals m mode q v) (a : Asked) (is_asked : asked m.view q.form ≡ Some a) where
+    abbrev table : FrameTable
+    table = begin (kinds_known q.form.kinds)
+
+    in-steps : (n : ℕ) → Every (AsksSuch frame_tables closed_tables (IsGoodFor m mode n) table v) (specs_by m mode a)
+    in-steps n =
+        let x = (i (suc n)).1 in
+        subst (λ b. Every (AsksSuch frame_tables closed_tables (IsGoodFor m mode n) table v) (specs_by m mode b)) (some-is x.0 a (sym x.1 ∙ is_asked)) x.2
+
+    abbrev Within : Candidate → ℕ → Nested → Type 0
+    Within c n d =
+        (T : FrameTable) (s : Terms) → IsMadeFrame T → AreClosed (map Some T.kinds) → IsDetermined T d → Allows T s → Allows (fresh table c.kinds) s → Every (λ e. Meets e s) c.equations → s.own ≡ v → IsGoodFor m mode n (question T d) (values_at T d s)
+
+    of-one : (c : Candidate) → ((n : ℕ) → AsksSuch frame_tables closed_tables (IsGoodFor m mode n) table v c) → AsksSuch frame_tables closed_tables (LeadsToGoals m mode) table v c
+    of-one c h =
+        Every-mono (λ d. (n : ℕ) → Within c n d)
+        (λ d. (T : FrameTable) (s : Terms) → IsMadeFrame T → AreClosed (map Some T.kinds) → IsDetermined T d → Allows T s → Allows (fresh table c.kinds) s → Every (λ e. Meets e s) c.equations → s.own ≡ v → LeadsToGoals m mode (question T d) (values_at T d s))
+        (λ d g T s made x y l k e o n. g n T s made x y l k e o) c.nested (all-numbers (Within c) c.nested h)
+
+    onward : Every (AsksSuch frame_tables closed_tables (LeadsToGoals m mode) table v) (specs_by m mode a)
+    onward =
+        Every-mono (λ c. (n : ℕ) → AsksSuch frame_tables closed_tables (IsGoodFor m mode n) table v c) (AsksSuch frame_tables closed_tables (LeadsToGoals m mode) table v) of-one (specs_by m mode a)
+        (all-numbers (λ n. AsksSuch frame_tables closed_tables (IsGoodFor m mode n) table v) (specs_by m mode a) in-steps)
+
+pub leading-are-goals : LeadingAreGoals
+leading-are-goals m mode = record {
+  decided = λ q v i. let x = (i 1).1 in (x.0, x.1);
+  goals = λ q v i. (i 1).0;
+  onward = λ q v i closed places a e. onward m mode q v i a e;
+}

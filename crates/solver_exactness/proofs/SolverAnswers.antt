@@ -1,0 +1,74 @@
+-- What plain recursion over the solver's frames, and so a search, answers to goals without unknowns.
+use Rattle.std.proofs.Common.{ℕ, zero, suc, Bool, List, map, Option}
+use Rattle.model.specs.Worlds.{World, Reference}
+use Rattle.model.specs.Proofs.{HasProof}
+use Rattle.infer_table.specs.declared.certainty.TypingMode.TheVariants.{PostAnalysis}
+use Rattle.infer_table.specs.Responses.{AnswerTrees}
+use Rattle.evaluation.specs.Lists.{Every}
+use Rattle.table_laws.specs.Content.{Values, Fact, Question, fact_of}
+use Rattle.evaluation_laws.specs.Tables.{frame_tables}
+use Rattle.evaluation_laws.proofs.Laws.{tables_are_lawful}
+use Rattle.goal_frames.specs.Programs.{ArePrograms}
+use Rattle.goal_frames.specs.Searches.{Handles, Asked}
+use Rattle.exactness_laws.specs.ClosedTables.{closed_tables}
+use Rattle.exactness_laws.specs.ModelWays.{ways_under}
+use Rattle.exactness_laws.specs.Ways.{IsDecided, HoldsByWays}
+use Rattle.exactness_laws.proofs.ClosedLaws.{closed_tables_are_lawful}
+use Rattle.exactness_laws.proofs.Induction.{plain_is_exact}
+use Rattle.exactness_laws.proofs.Found.{found_is_exact, found_is_right}
+use Rattle.exactness_laws.proofs.ModelWays.{proofs_are_by_ways, single_way_is_decided}
+use Rattle.exactness_laws.proofs.MovedWays.{every-from, every-to, some-from, some-to, one-to}
+use Rattle.assembly_laws.specs.Facts.{clauses_of, reference_in, beside}
+use Rattle.assembly_laws.specs.Meaning.{Meaning}
+use Rattle.solver_exactness.specs.SolverWays.{ways_outside}
+use Rattle.solver_exactness.specs.SolverGoals.{IsProved}
+use Rattle.solver_exactness.specs.SolverAnswers.{solver_programs, SolverIsExact, SolverSearchesAreExact, SolverSearchesAreRight}
+use Rattle.solver_exactness.proofs.SolverHandlers.{solver_answers_exactly, solver_is_sure}
+
+-- ---- the truth of facts
+module _ (V : World) where
+  abbrev under : Fact → Reference → List (List Reference)
+  under f r = ways_under V (clauses_of f.goal.environment) r
+
+  abbrev Proved : Fact → Reference → Type 0
+  Proved f r = HasProof V (clauses_of f.goal.environment) r
+
+  -- a fact is proved exactly if the premises of one of its ways are
+  proved-by-ways : HoldsByWays (ways_outside V) (IsProved V)
+  proved-by-ways = record {
+    by_way = λ f s.
+        (proofs_are_by_ways V (clauses_of f.goal.environment)).by_way (reference_in f)
+        (some-from (map (beside f)) (Every (IsProved V)) (Every (Proved f)) (λ ps i. every-from (beside f) (IsProved V) (Proved f) (λ r p. p) ps i) (under f (reference_in f)) s);
+    has_way = λ f p.
+        some-to (map (beside f)) (Every (IsProved V)) (Every (Proved f)) (λ ps i. every-to (beside f) (IsProved V) (Proved f) (λ r q. q) ps i) (under f (reference_in f))
+        ((proofs_are_by_ways V (clauses_of f.goal.environment)).has_way (reference_in f) p);
+  }
+
+  -- and decided where its reference is
+  decided-facts : (n : ℕ) (f : Fact) → IsDecided (under f) (Proved f) n (reference_in f) → IsDecided (ways_outside V) (IsProved V) n f
+  decided-facts zero f h = absurd h
+  decided-facts (suc n) f h = (
+    one-to (map (beside f)) (Every (IsProved V)) (Every (Proved f)) (λ ps i. every-from (beside f) (IsProved V) (Proved f) (λ r p. p) ps i) (under f (reference_in f)) h.0,
+    every-to (map (beside f)) (Every (IsDecided (ways_outside V) (IsProved V) n)) (Every (IsDecided (under f) (Proved f) n))
+        (λ ps i. every-to (beside f) (IsDecided (ways_outside V) (IsProved V) n) (IsDecided (under f) (Proved f) n) (λ r j. decided-facts n (beside f r) j) ps i) (under f (reference_in f)) h.1,
+  )
+
+module _ {W : Type 0} (applicable : AnswerTrees → Bool) (same : AnswerTrees → AnswerTrees → Bool) (meaning_of : W → Meaning) {C I R F : Type 0}
+    (handles : Handles C I R F W (Asked frame_tables (solver_programs applicable same meaning_of)) (Option AnswerTrees)) (IsAsked : Question → Values → Type 0) where
+  pub solver-is-exact : SolverIsExact applicable same meaning_of handles IsAsked
+  solver-is-exact w mode good n q v a goal x =
+      (plain_is_exact frame_tables tables_are_lawful closed_tables closed_tables_are_lawful (solver_programs applicable same meaning_of) w mode
+      (solver_answers_exactly applicable same meaning_of w good.sound good.well IsAsked mode good.goals) handles n q v a goal.asked goal.closed goal.places x).1
+
+  module _ (programs : ArePrograms frame_tables (solver_programs applicable same meaning_of)) where
+    pub solver-searches-are-exact : SolverSearchesAreExact applicable same meaning_of handles IsAsked
+    solver-searches-are-exact w mode good n limit q v a l goal short only =
+        found_is_exact frame_tables tables_are_lawful closed_tables closed_tables_are_lawful (solver_programs applicable same meaning_of) programs w mode
+        (solver_answers_exactly applicable same meaning_of w good.sound good.well IsAsked mode good.goals) handles n limit q v a l goal.asked goal.closed goal.places short only
+
+    pub solver-searches-are-right : SolverSearchesAreRight applicable same meaning_of handles IsAsked
+    solver-searches-are-right w good n limit q v a l goal single only =
+        found_is_right frame_tables tables_are_lawful closed_tables closed_tables_are_lawful (solver_programs applicable same meaning_of) programs w PostAnalysis
+        (solver_answers_exactly applicable same meaning_of w good.sound good.well IsAsked PostAnalysis good.goals) handles
+        (solver_is_sure applicable same meaning_of w good.sound good.well IsAsked good.goals) (IsProved (meaning_of w).view) (proved-by-ways (meaning_of w).view) n limit q v a l goal.asked goal.closed goal.places
+        (decided-facts (meaning_of w).view n (fact_of q v) (single_way_is_decided (meaning_of w).view (clauses_of (fact_of q v).goal.environment) n (reference_in (fact_of q v)) single)) only

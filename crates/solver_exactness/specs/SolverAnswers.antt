@@ -1,0 +1,80 @@
+-- What plain recursion over the solver's frames, and so a search, answers to goals without unknowns.
+use Rattle.std.specs.Prelude.{◌≡◌, ◌≤◌, ℕ, Bool, true, false, [], Option, Some, None}
+use Rattle.model.specs.Worlds.{World, Reference}
+use Rattle.model.specs.Answers.{SingleWay, is_bounded, is_possible}
+use Rattle.infer_table.specs.declared.certainty.TypingMode.{TypingMode}
+use Rattle.infer_table.specs.declared.certainty.TypingMode.TheVariants.{Coherence, PostAnalysis}
+use Rattle.infer_table.specs.Responses.{AnswerTrees}
+use Rattle.search_graph.specs.Plain.{IsPlain}
+use Rattle.table_laws.specs.Content.{Values, Question, fact_of}
+use Rattle.evaluation_laws.specs.Tables.{frame_tables}
+use Rattle.goal_frames.specs.Programs.{Programs}
+use Rattle.goal_frames.specs.Searches.{Handles, Asked, meaning}
+use Rattle.goal_frames.specs.HandlerPrograms.{programs_of}
+use Rattle.exactness_laws.specs.ClosedTables.{AreClosed, ArePlaces}
+use Rattle.exactness_laws.specs.Ways.{HasShortChains, IsExactFor, IsRightFor}
+use Rattle.assembly_laws.specs.Facts.{FollowsByView, is_coinductive_fact, clauses_of, reference_in}
+use Rattle.assembly_laws.specs.Meaning.{Meaning, LinkedWith}
+use Rattle.assembly_laws.specs.DeclaredWell.{IsDeclaredWell}
+use Rattle.assembly_laws.specs.Solver.{solver_handled}
+use Rattle.solver_exactness.specs.SolverGoals.{ways_by, IsProved, AreGoals}
+
+-- the solver's goals as programs, where contexts mean declarations
+abbrev pub solver_programs : {W : Type 0} → (AnswerTrees → Bool) → (AnswerTrees → AnswerTrees → Bool) → (W → Meaning) → Programs frame_tables
+solver_programs applicable same meaning_of =
+    programs_of (λ w mode f. solver_handled applicable same (meaning_of w) mode f) (λ w. FollowsByView (meaning_of w).view) (λ w. is_coinductive_fact (meaning_of w).view)
+
+-- to a reference in a crate with this view the answer is a refusal if the reference is not possible in chains of fewer than n steps, and
+-- is none if it is
+pub record TellsPossible (V : World) (crate n : ℕ) (r : Reference) (a : Option AnswerTrees) : Type 0 where
+  pub refused : a ≡ None → is_possible n V crate r ≡ false
+  pub answered : (x : AnswerTrees) → a ≡ Some x → is_possible n V crate r ≡ true
+
+module _ {W : Type 0} (applicable : AnswerTrees → Bool) (same : AnswerTrees → AnswerTrees → Bool) (meaning_of : W → Meaning) {C I R F : Type 0}
+    (handles : Handles C I R F W (Asked frame_tables (solver_programs applicable same meaning_of)) (Option AnswerTrees)) (IsAsked : Question → Values → Type 0) where
+  -- plain recursion answers the question so, in chains of fewer than n questions
+  abbrev pub IsPlainFor : W → TypingMode → ℕ → Question → Option AnswerTrees → Type 0
+  IsPlainFor w mode n q a = IsPlain (meaning frame_tables (solver_programs applicable same meaning_of) handles) w n (mode, q.form) a
+
+  -- and it comes to no other answer
+  abbrev pub IsOnlyFor : W → TypingMode → ℕ → Question → Option AnswerTrees → Type 0
+  IsOnlyFor w mode limit q a = (b : Option AnswerTrees) → IsPlainFor w mode limit q b → b ≡ a
+
+  -- the declarations are found to be good, and are so, and the set leads to no other goals in this mode
+  pub record IsGood (w : W) (mode : TypingMode) : Type 0 where
+    pub sound : (meaning_of w).is_sound ≡ true
+    pub well : IsDeclaredWell (meaning_of w).view
+    pub goals : AreGoals (meaning_of w) mode IsAsked
+
+  -- a question of the set without unknowns, and places for its placeholders
+  pub record IsClosedGoal (q : Question) (v : Values) : Type 0 where
+    pub asked : IsAsked q v
+    pub closed : AreClosed q.form.kinds
+    pub places : ArePlaces q.form.kinds v
+
+  -- what plain recursion refuses is not possible by the rules of the view, and what it does not refuse is: in coherence also by the
+  -- supertraits of what is not knowable
+  abbrev pub SolverIsExact : Type 0
+  SolverIsExact =
+      (w : W) (mode : TypingMode) → IsGood w mode → (n : ℕ) (q : Question) (v : Values) (a : Option AnswerTrees) → IsClosedGoal q v
+      → IsPlainFor w mode n q a → IsExactFor (ways_by (meaning_of w) mode) n (fact_of q v) a
+
+  -- so a search that comes to no other answer within its limit refuses a bounded goal exactly if it is not possible
+  abbrev pub SolverSearchesAreExact : Type 0
+  SolverSearchesAreExact =
+      (w : W) (mode : TypingMode) → IsGood w mode → (n limit : ℕ) (q : Question) (v : Values) (a : Option AnswerTrees) → n ≤ limit → IsClosedGoal q v
+      → HasShortChains (ways_by (meaning_of w) mode) n (fact_of q v) → IsOnlyFor w mode limit q a → IsExactFor (ways_by (meaning_of w) mode) n (fact_of q v) a
+
+  -- outside coherence it answers a definite yes to a decided reference that has a proof, and refuses one that has none
+  abbrev pub SolverSearchesAreRight : Type 0
+  SolverSearchesAreRight =
+      (w : W) → IsGood w PostAnalysis → (n limit : ℕ) (q : Question) (v : Values) (a : Option AnswerTrees) → n ≤ limit → IsClosedGoal q v
+      → SingleWay n (meaning_of w).view (clauses_of (fact_of q v).goal.environment) (reference_in (fact_of q v)) → IsOnlyFor w PostAnalysis limit q a
+      → IsRightFor frame_tables (IsProved (meaning_of w).view) (fact_of q v) a
+
+  -- in coherence, of a bounded reference without where-clauses, where some linked set has the crate: it refuses exactly what is not possible
+  abbrev pub SolverTellsPossible : Type 0
+  SolverTellsPossible =
+      (w : W) → IsGood w Coherence → LinkedWith (meaning_of w) → (n limit : ℕ) (q : Question) (v : Values) (a : Option AnswerTrees) → n ≤ limit → IsClosedGoal q v
+      → clauses_of (fact_of q v).goal.environment ≡ [] → is_bounded n (meaning_of w).view (meaning_of w).crate (reference_in (fact_of q v)) ≡ true → IsOnlyFor w Coherence limit q a
+      → TellsPossible (meaning_of w).view (meaning_of w).crate n (reference_in (fact_of q v)) a

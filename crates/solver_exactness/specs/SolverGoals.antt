@@ -1,0 +1,64 @@
+-- The goals without unknowns that the solver answers exactly: what is asked of them, and sets of goals that lead to no others.
+use Rattle.std.specs.Prelude.{◌≡◌, ℕ, zero, suc, true, List, Some}
+use Rattle.model.specs.Worlds.{World}
+use Rattle.model.specs.Proofs.{HasProof}
+use Rattle.infer_table.specs.declared.certainty.TypingMode.{TypingMode}
+use Rattle.infer_table.specs.declared.certainty.TypingMode.TheVariants.{Coherence, PostAnalysis}
+use Rattle.evaluation.specs.Lists.{Every}
+use Rattle.table_laws.specs.Content.{Values, Fact, Question, fact_of}
+use Rattle.table_laws.specs.Frames.{kinds_known}
+use Rattle.table_laws.specs.Operations.{begin}
+use Rattle.evaluation_laws.specs.Tables.{frame_tables}
+use Rattle.exactness_laws.specs.Closed.{AsksSuch}
+use Rattle.exactness_laws.specs.ClosedTables.{AreClosed, ArePlaces, closed_tables}
+use Rattle.assembly_laws.specs.Facts.{clauses_of, reference_in, is_plain}
+use Rattle.assembly_laws.specs.Meaning.{Meaning}
+use Rattle.assembly_laws.specs.Asking.{Asked, asked}
+use Rattle.assembly_laws.specs.Candidates.{Candidate}
+use Rattle.solver_exactness.specs.SolverWays.{ways_outside, ways_in_coherence}
+use Rattle.solver_exactness.specs.SolverPlans.{specs_in_coherence, specs_outside}
+use Rattle.solver_exactness.specs.RowWays.{autos_stand_once}
+use Rattle.solver_exactness.specs.SolverChoices.{IsElaborated}
+
+-- what is considered in each mode, and what facts follow from
+abbrev pub specs_by : Meaning → TypingMode → Asked → List Candidate
+specs_by m Coherence a = specs_in_coherence m a
+specs_by m PostAnalysis a = specs_outside m a
+
+abbrev pub ways_by : Meaning → TypingMode → Fact → List (List Fact)
+ways_by m Coherence f = ways_in_coherence m f
+ways_by m PostAnalysis f = ways_outside m.view f
+
+-- the fact's reference has a proof by the rules of the view, under the fact's where-clauses
+abbrev pub IsProved : World → Fact → Type 0
+IsProved V f = HasProof V (clauses_of f.goal.environment) (reference_in f)
+
+-- a fact that is written up to lifetimes, in which no auto trait of a `dyn` stands twice, under where-clauses that are elaborated
+pub record IsGoal (V : World) (f : Fact) : Type 0 where
+  pub plain : is_plain f ≡ true
+  pub once : autos_stand_once (reference_in f).args ≡ true
+  pub elaborated : IsElaborated V (clauses_of f.goal.environment)
+
+-- A set of questions, with values for their placeholders, that leads to no others. Each is decided, and its instance is such a fact;
+-- and what its candidates ask, where their equations hold, is in the set again.
+pub record AreGoals (m : Meaning) (mode : TypingMode) (IsAsked : Question → Values → Type 0) : Type 0 where
+  pub decided : (q : Question) (v : Values) → IsAsked q v → (a : Asked) × (asked m.view q.form ≡ Some a)
+  pub goals : (q : Question) (v : Values) → IsAsked q v → IsGoal m.view (fact_of q v)
+  pub onward : (q : Question) (v : Values) → IsAsked q v → AreClosed q.form.kinds → ArePlaces q.form.kinds v
+      → (a : Asked) → asked m.view q.form ≡ Some a → Every (AsksSuch frame_tables closed_tables IsAsked (begin (kinds_known q.form.kinds)) v) (specs_by m mode a)
+
+-- The question is decided, its instance is such a fact, and so it is of all that its candidates ask where their equations hold, and of
+-- what these ask, in n steps.
+abbrev pub IsGoodFor : Meaning → TypingMode → ℕ → Question → Values → Type 0
+IsGoodFor m mode zero q v = Unit {0}
+IsGoodFor m mode (suc n) q v =
+    IsGoal m.view (fact_of q v)
+    × ((a : Asked) × (asked m.view q.form ≡ Some a) × Every (AsksSuch frame_tables closed_tables (IsGoodFor m mode n) (begin (kinds_known q.form.kinds)) v) (specs_by m mode a))
+
+-- so it is of all that it leads to
+abbrev pub LeadsToGoals : Meaning → TypingMode → Question → Values → Type 0
+LeadsToGoals m mode q v = (n : ℕ) → IsGoodFor m mode n q v
+
+-- the questions that lead to such goals alone are a set that leads to no others
+abbrev pub LeadingAreGoals : Type 0
+LeadingAreGoals = (m : Meaning) (mode : TypingMode) → AreGoals m mode (LeadsToGoals m mode)
