@@ -1,3 +1,4 @@
 mod LineAt
 mod LineAgain
 mod Outcome
+mod NoFault
