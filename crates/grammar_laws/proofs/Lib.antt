@@ -2,3 +2,4 @@ mod LineAt
 mod LineAgain
 mod Outcome
 mod NoFault
+mod FittingUses

@@ -18,7 +18,7 @@ NoneHolds ((n, b) ∷ ts) = (b ≡ false) × NoneHolds ts
 never : {n : ℕ} → Some n ≡ None → ⊥
 never e = cc
 
-not-both : true ≡ false → ⊥
+pub not-both : true ≡ false → ⊥
 not-both e = cc
 
 none-holds : (ts : List (ℕ × Bool)) → first_of ts ≡ None → NoneHolds ts
@@ -46,15 +46,15 @@ passes-tests d l e =
       keeps_limits = p.1.1.1.1.1.1.1.1.1.1.1.1.1.0;
     }
 
-or-first : (a b : Bool) → a || b ≡ false → a ≡ false
+pub or-first : (a b : Bool) → a || b ≡ false → a ≡ false
 or-first true b e = absurd (not-both e)
 or-first false b e = refl
 
-or-second : (a b : Bool) → a || b ≡ false → b ≡ false
+pub or-second : (a b : Bool) → a || b ≡ false → b ≡ false
 or-second true b e = absurd (not-both e)
 or-second false b e = e
 
-not-false : (a : Bool) → not a ≡ false → a ≡ true
+pub not-false : (a : Bool) → not a ≡ false → a ≡ true
 not-false true e = refl
 not-false false e = absurd (not-both e)
 

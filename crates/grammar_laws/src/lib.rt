@@ -4,7 +4,7 @@
 //! from reading a spelling from left to right. What is known of a line without a fault follows from the tests of faults.
 #![tactic(auto)]
 
-ghost use Rattle.grammar_laws.specs.Faultless.{BelongsToCrate, DeclaresNew, FaultlessPasses, UsesCrates};
+ghost use Rattle.grammar_laws.specs.Faultless.{BelongsToCrate, DeclaresNew, FaultlessLimits, FaultlessPasses, FaultlessUses, UsesCrates};
 ghost use Rattle.grammar_laws.specs.Grammar.{OneLine, OneOutcome, SyntaxFaults, UnwrittenLines};
 
 /// A line says at most one thing.
@@ -23,11 +23,14 @@ pub fn worked_syntax_faults()
     ensures texts { SyntaxFaults }
 {}
 
-/// A line without a fault fails none of the tests: what it declares has a new name, the crates that it names are crates, and an item
-/// stands behind the line of a crate.
+/// A line without a fault fails none of the tests: what it declares has a new name, the crates that it names are crates, an item
+/// stands behind the line of a crate, each name that it uses stands for what its place needs with as many arguments as it takes, and
+/// no limit is passed.
 pub fn faultless_lines()
     ensures tests { FaultlessPasses }
     ensures names { DeclaresNew }
     ensures crates { UsesCrates }
     ensures homes { BelongsToCrate }
+    ensures uses { FaultlessUses }
+    ensures limits { FaultlessLimits }
 {}
