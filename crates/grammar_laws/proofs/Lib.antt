@@ -1,3 +1,5 @@
 mod LineAt
 mod LineAgain
 mod Outcome
+mod NoFault
+mod FittingUses
