@@ -1,5 +1,5 @@
 -- Ends of walks.
-use Rattle.std.proofs.Common.{false, ◌≡◌, sym, ap, subst, ◌∙◌, inr, List, Option, Some, Result, Ok, Err}
+use Rattle.std.proofs.Common.{false, Bool, ◌≡◌, sym, ap, subst, ◌∙◌, inr, List, Option, Some, Result, Ok, Err}
 use Rattle.model.specs.Trees.{Trees}
 use Rattle.type_terms.specs.Terms.{Entry, trees_at}
 use Rattle.type_terms.specs.declared.kinds.Ty.{Ty}
@@ -17,7 +17,8 @@ use Rattle.orphan_check.specs.Walks.{IsStep, IsFirstEnd, IsSecondEnd}
 use Rattle.orphan_check.specs.declared.errors.OrphanCheckErr.{OrphanCheckErr}
 use Rattle.orphan_check.specs.declared.errors.OrphanCheckErr.TheVariants.{NonLocalInputType, UncoveredTyParams}
 use Rattle.std.specs.Result.{is_ok}
-use Rattle.orphan_check.specs.Answers.{IsOrphanAnswer, IsDeep, IsUncovered, RanOut, IsBarred}
+use Rattle.orphan_check.specs.declared.errors.Conflict.{Conflict}
+use Rattle.orphan_check.specs.Answers.{IsOrphanAnswer, IsKnowableAnswer, IsDeep, IsUncovered, RanOut, IsBarred}
 
 pub ended-local : {E : Type 0} (es : List Entry) (all before after : List (Step E)) (m : Option Met) (t : Ty) → m ≡ Some (MetLocal t) → first_end all ≡ first_end before → IsStep es before (Ok m) after
     → first_end all ≡ Some (met_local (trees_at es t.0))
@@ -45,3 +46,10 @@ pub not-passed : {E : Type 0} (es : List Entry) (mode : OrphanCheckMode) (ss : L
 not-passed es mode ss (Ok u) e h = cc
 not-passed es mode ss (Err (NonLocalInputType v)) e h = subst IsBarred (sym h.0) tt
 not-passed es mode ss (Err (UncoveredTyParams u)) e h = subst IsBarred (sym h.0) tt
+
+-- what ends the walk for the crate that asks with an error ends the whole with it
+pub own-error : {E : Type 0} (es : List Entry) (mode : OrphanCheckMode) (own : Bool) (rs ls : List (Step E)) (x : WalkError E) → RanOut rs → own ≡ false → IsOrphanAnswer es (Local mode) ls (Err x)
+    → IsKnowableAnswer own rs ls (Local mode) (Err x)
+own-error es mode own rs ls (Normalize e) r o h = inr (r, o, h)
+own-error es mode own rs ls Deep r o h = inr (r, o, h)
+own-error es mode own rs ls Memory r o h = tt

@@ -22,7 +22,7 @@ use Rattle.orphan_check.specs.declared.errors.WalkError.TheVariants.{Normalize, 
 use Rattle.orphan_check.specs.Flags.{is_first, leaves_in}
 use Rattle.orphan_check.specs.Items.{Item, local_item, open_item, items, decisive, first_local, foreign_leaves, OrphanError, nonlocal, uncovered, error_at, orphan_error}
 use Rattle.orphan_check.specs.Steps.{Reading, Step, refused, too_deep, entered, met_local, met_open, met_foreign, first_end, second_end, leaves}
-use Rattle.orphan_check.specs.Answers.{Passes, IsLocalType, IsDeep, IsOrphanAnswer, IsBarred, IsKnowableAnswer}
+use Rattle.orphan_check.specs.Answers.{Passes, IsLocalType, IsDeep, IsTooDeep, IsOrphanAnswer, IsBarred, IsKnowableAnswer}
 use Rattle.orphan_check.specs.Knowing.{meets_open}
 use Rattle.type_terms.specs.Terms.{Lawful, Has, args_lists}
 use Rattle.type_terms.specs.Made.{is_in_range, terms}
@@ -223,13 +223,14 @@ module _ {E : Type 0} (es : List Entry) (t : Table) (q r : Reading E) (u : q.val
     unknown-is (trait_is (λ _. true) V ref.trait) (list_all (item_in V) (open_walk V ref)) _ _ h.1 (barred-local es t r v limit ref ls lcalm V c lis (first_end ls) refl h.2),
   )
   known-exact (Err (Normalize x)) (inl h) = calm-first (limit < depth ref.args) rs (refused x) rcalm h
-  known-exact (Err (Normalize x)) (inr h) = calm-first (limit < depth ref.args) ls (refused x) lcalm h.1
-  known-exact (Err Deep) h = by h
+  known-exact (Err (Normalize x)) (inr h) = calm-first (limit < depth ref.args) ls (refused x) lcalm h.2
+  known-exact (Err Deep) (inl (inl h)) = first-deep es t q u limit ref rs rcalm (first_end rs) refl h
+  known-exact (Err Deep) (inl (inr h)) = absurd h.1
+  known-exact (Err Deep) (inr h) = by h.2
     where
-      by : IsDeep (first_end rs) ⊎ IsDeep (first_end ls) ⊎ IsDeep (second_end ls) → limit < depth ref.args
-      by (inl h) = first-deep es t q u limit ref rs rcalm (first_end rs) refl h
-      by (inr (inl h)) = first-deep es t r v limit ref ls lcalm (first_end ls) refl h
-      by (inr (inr h)) = second-deep es t r v limit ref ls lcalm (second_end ls) refl h
+      by : IsTooDeep (Local mode) ls → limit < depth ref.args
+      by (inl g) = first-deep es t r v limit ref ls lcalm (first_end ls) refl g
+      by (inr g) = second-deep es t r v limit ref ls lcalm (second_end ls) refl g.2
   known-exact (Err Memory) h = tt
 
 -- ---- of an interner and a table

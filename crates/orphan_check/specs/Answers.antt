@@ -40,13 +40,17 @@ abbrev pub IsUncovered : {E : Type 0} → InCrate → Option (Step E) → Trees 
 IsUncovered (Local mode) s t = s ≡ Some (met_open t)
 IsUncovered Remote s t = ⊥
 
+-- A type lies deeper than the limit before anything decides, or behind an uncovered place before the first local type.
+abbrev pub IsTooDeep : {E : Type 0} → InCrate → List (Step E) → Type 0
+IsTooDeep k ss = IsDeep (first_end ss) ⊎ ((t : Trees) × IsUncovered k (first_end ss) t × IsDeep (second_end ss))
+
 -- The answer of an orphan check whose walk has these steps.
 abbrev pub IsOrphanAnswer : {E : Type 0} → List Entry → InCrate → List (Step E) → Result (Result (Unit {0}) (OrphanCheckErr Ty)) (WalkError E) → Type 0
 IsOrphanAnswer es k ss (Ok (Ok u)) = Passes k (first_end ss)
 IsOrphanAnswer es k ss (Ok (Err (NonLocalInputType v))) = (first_end ss ≡ None) × (leaves_in es v.items ≡ leaves ss)
 IsOrphanAnswer es k ss (Ok (Err (UncoveredTyParams u))) = IsUncovered k (first_end ss) (trees_at es u.uncovered.0) × IsLocalType es u.local_ty (second_end ss)
 IsOrphanAnswer es k ss (Err (Normalize e)) = first_end ss ≡ Some (refused e)
-IsOrphanAnswer es k ss (Err Deep) = IsDeep (first_end ss) ⊎ ((t : Trees) × IsUncovered k (first_end ss) t × IsDeep (second_end ss))
+IsOrphanAnswer es k ss (Err Deep) = IsTooDeep k ss
 IsOrphanAnswer es k ss (Err Memory) = Unit {0}
 
 -- The answer of an orphan check whose normalizer answers so.
@@ -69,6 +73,6 @@ abbrev pub IsKnowableAnswer : {E : Type 0} → Bool → List (Step E) → List (
 IsKnowableAnswer own rs ls k (Ok (Ok u)) = RanOut rs × ((own ≡ true) ⊎ Passes k (first_end ls))
 IsKnowableAnswer own rs ls k (Ok (Err Downstream)) = Passes Remote (first_end rs)
 IsKnowableAnswer own rs ls k (Ok (Err Upstream)) = RanOut rs × (own ≡ false) × IsBarred (first_end ls)
-IsKnowableAnswer {E} own rs ls k (Err (Normalize e)) = (first_end rs ≡ Some (refused e)) ⊎ (RanOut rs × (first_end ls ≡ Some (refused e)))
-IsKnowableAnswer own rs ls k (Err Deep) = IsDeep (first_end rs) ⊎ IsDeep (first_end ls) ⊎ IsDeep (second_end ls)
+IsKnowableAnswer {E} own rs ls k (Err (Normalize e)) = (first_end rs ≡ Some (refused e)) ⊎ (RanOut rs × (own ≡ false) × (first_end ls ≡ Some (refused e)))
+IsKnowableAnswer own rs ls k (Err Deep) = IsTooDeep Remote rs ⊎ (RanOut rs × (own ≡ false) × IsTooDeep k ls)
 IsKnowableAnswer own rs ls k (Err Memory) = Unit {0}
