@@ -1,0 +1,3 @@
+pub mod BareLines
+pub mod OwnItems
+pub mod Sights

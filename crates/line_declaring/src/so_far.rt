@@ -1,0 +1,109 @@
+//! What is declared before a line.
+ghost use Rattle.std.specs.Prelude.{◌≡◌, ◌<◌, length, IfSome};
+ghost use Rattle.std.specs.Option.{option_map, option_and_then};
+ghost use Rattle.model.specs.Worlds.{sees};
+ghost use Rattle.text_definitions.specs.Declarations.{known, last_crate, world_of};
+ghost use Rattle.text_definitions.specs.Faults.{last_items, number_of_crate};
+ghost use Rattle.workspace.specs.Numbered.{IsFew};
+ghost use Rattle.workspace.specs.Views.{known_of};
+
+use std::marker::Model;
+use type_terms::{AdtId, CrateId, TraitId};
+use workspace::{ENTRY_LIMIT, Known, Tables};
+
+/// The tables of the lines before a line, which agree with what they declare. Contracts see the declarations.
+#[derive(Drop)]
+pub(crate) struct SoFar<'w> {
+    tables: &'w Tables,
+}
+
+impl<'w> Model for SoFar<'w> {
+    ghost use Rattle.text_definitions.specs.Declarations.{Declarations};
+    ghost use Rattle.workspace.specs.Numbered.{IsFew};
+    ghost use Rattle.workspace.specs.Stored.{declarations_code};
+    ghost use Rattle.workspace.specs.Tables.{declared, IsConsistent};
+
+    ghost Value = { Declarations };
+
+    ghost coded = { declarations_code };
+
+    ghost view = { λ s. declared s.tables.now };
+
+    ghost invariant = { λ s. IsConsistent s.tables.now × IsFew (declared s.tables.now) 1048640 };
+}
+
+impl<'w> SoFar<'w> {
+    ghost use Rattle.workspace.specs.Tables.{declared, IsConsistent};
+
+    pub fn new(tables: &'w Tables) -> Self
+        requires agrees { IsConsistent tables.now }
+        requires few { IsFew (declared tables.now) ENTRY_LIMIT }
+        ensures { result ≡ declared tables.now }
+    {
+        SoFar { tables }
+    }
+
+    pub fn known(&self, name: &[u8]) -> Option<Known<'_>>
+        ensures { option_map known_of result ≡ known self.now name.now }
+    {
+        self.tables.known(name)
+    }
+
+    pub fn sees(&self, seeing: CrateId, seen: CrateId) -> bool
+        requires { seeing.index < length self.now.crates }
+        ensures { result ≡ sees (world_of self.now) seeing.index seen.index }
+    {
+        self.tables.sees(seeing, seen)
+    }
+
+    /// The crate of the last line of a crate.
+    pub fn last_crate(&self) -> CrateId
+        ensures number { result.index ≡ last_crate self.now }
+        ensures there { result.index < length self.now.crates }
+    {
+        self.tables.last_crate()
+    }
+
+    pub fn crate_named(&self, name: &[u8]) -> Option<CrateId>
+        ensures number { option_map (λ c. c.index) result ≡ option_and_then number_of_crate (known self.now name.now) }
+        ensures there { IfSome result (λ c. c.index < length self.now.crates) }
+    {
+        self.tables.crate_named(name)
+    }
+
+    /// The number of the next struct.
+    pub fn next_struct(&self) -> AdtId
+        ensures { result.index ≡ length self.now.structs }
+    {
+        AdtId {
+            index: self.tables.struct_count() as u32,
+        }
+    }
+
+    /// The number of the next trait.
+    pub fn next_trait(&self) -> TraitId
+        ensures { result.index ≡ length self.now.traits }
+    {
+        TraitId {
+            index: self.tables.trait_count() as u32,
+        }
+    }
+
+    pub fn crate_count(&self) -> usize
+        ensures { result ≡ length self.now.crates }
+    {
+        self.tables.crate_count()
+    }
+
+    pub fn question_count(&self) -> usize
+        ensures { result ≡ length self.now.questions }
+    {
+        self.tables.question_count()
+    }
+
+    pub fn last_items(&self) -> u32
+        ensures { result ≡ last_items self.now }
+    {
+        self.tables.last_items()
+    }
+}
