@@ -1,29 +1,25 @@
 -- The goals that where-clauses are, once headers are equal: from solutions to common instances and back.
-use Rattle.std.proofs.Common.{◌≡◌, ℕ, zero, suc, ◌+◌, ◌≤◌, ◌<◌, arith, ltb, Bool, true, false, not, if◌then◌else◌, List, [], ◌∷◌, ◌++◌, map, refl, sym, ap, ◌∙◌, subst, Option, Some, None, ◌&&◌, ◌==◌, ◌||◌, IsTrue, ◌⊎◌, inl, inr, unwrap_or}
+use Rattle.std.proofs.Common.{◌≡◌, ℕ, zero, suc, ◌+◌, ◌≤◌, ◌<◌, arith, ltb, Bool, true, false, not, if◌then◌else◌, List, [], ◌∷◌, ◌++◌, refl, sym, ap, ◌∙◌, subst, Option, Some, ◌==◌, ◌||◌, IsTrue, ◌⊎◌, inl, inr, unwrap_or}
 use Rattle.std.specs.List.{slice_get}
 use Rattle.std.proofs.lemmas.Bool.Decides.{nat_tests}
-use Rattle.model.specs.Label.{Label, Sort, of_type, of_const, of_lifetime, infer, param, placeholder, canonical, bound}
-use Rattle.model.specs.Trees.{Trees, none, tree, leaf, ◌+++◌, sort_of, IsA, Fits, erase, erase_label, some_node, nth, instantiate, is_sort, is_a}
-use Rattle.model.specs.Terms.{erased_impl, erased_reference, mentions, IsCovered}
-use Rattle.model.specs.Worlds.{Reference, ImplDecl, with_args}
-use Rattle.model.specs.Proofs.{In, Every}
-use Rattle.model.specs.Answers.{is_open, is_closed, is_variable, CommonInstance, FixedLeft, FixedRight}
+use Rattle.model.specs.Label.{Sort, of_type, of_const, of_lifetime, infer, param, placeholder, canonical, bound}
+use Rattle.model.specs.Trees.{Trees, none, tree, leaf, IsA, Fits, erase, some_node, nth, is_a}
+use Rattle.model.specs.Terms.{mentions}
+use Rattle.model.specs.Proofs.{Every}
+use Rattle.model.specs.Answers.{is_open, is_closed}
 use Rattle.model.proofs.Fitting.{next-shut, head-shut}
 use Rattle.model.proofs.Walking.{or-left, or-right, or-cases}
-use Rattle.model.proofs.Members.{in-map, same-number, self-number}
-use Rattle.model.proofs.Entries.{map-in}
-use Rattle.infer_table.specs.Solutions.{Assignment, Binding, instance, tree_of, IsSorted, HasValues, occurs, resolved, Solves, Equates, HasNoSolution, is_variable as is_unknown}
+use Rattle.model.proofs.Members.{same-number, self-number}
+use Rattle.infer_table.specs.Solutions.{Assignment, instance, tree_of, IsSorted, HasValues, occurs, is_variable as is_unknown}
 use Rattle.infer_table.specs.Content.{Table, variables_of, IsProper}
-use Rattle.infer_table.proofs.SolutionLaws.{is_sort-self, is_variable-self}
+use Rattle.infer_table.proofs.SolutionLaws.{is_variable-self}
 use Rattle.model.proofs.Fitting.{no-left as no-first, no-right as no-second}
 use Rattle.term_folds.specs.Arguments.{sort_at}
-use Rattle.session_laws.specs.Laws.{CoversLeft, CoversRight}
-use Rattle.session_laws.specs.Questions.{FitKinds, of_kind, filled, filled_reference}
-use Rattle.overlap_check.specs.Fresh.{with_unknown, with_unknowns, fresh_unknowns, HasArguments as Speaks}
-use Rattle.overlap_check.specs.Goals.{repeated, unknown_kinds, goal_of, IsInstantiable, IsGoalLeft, IsGoalRight}
-use Rattle.overlap_check.proofs.Standing.{default_node, root, own, rest_of, assigned, assigned-sorted, assigned-younger, Gives, fresh-gives, all-no-fewer}
-use Rattle.overlap_check.proofs.Instances.{node, joined, IsShut, shut_by, shut-by-sorted, shut-by-shut, shut-equal, shut-instance, instance-put, own-gives, own-fits, own-shut, nth-shut, no-type, no-const}
-use Rattle.overlap_check.proofs.Solved.{Facts, proper-put, below-put, stays-known, fixed-known, plain-instance, some-solution}
+use Rattle.session_laws.specs.Questions.{FitKinds, of_kind, filled}
+use Rattle.overlap_check.specs.Fresh.{with_unknown, HasArguments as Speaks}
+use Rattle.overlap_check.specs.Goals.{repeated, unknown_kinds}
+use Rattle.overlap_check.proofs.Standing.{default_node, root, own, rest_of, assigned}
+use Rattle.overlap_check.proofs.Instances.{node, joined, IsShut, nth-shut, no-type, no-const}
 
 -- ---- the values of all unknowns
 abbrev run : Assignment → Sort → ℕ → ℕ → List Trees

@@ -1,15 +1,15 @@
 -- Instances of what an impl declares: by solutions of a table, and by closed terms.
-use Rattle.std.proofs.Common.{◌≡◌, ℕ, zero, suc, ◌+◌, ◌≤◌, ◌<◌, arith, Bool, true, false, not, if◌then◌else◌, List, [], ◌∷◌, refl, sym, ap, ◌∙◌, subst, Option, Some, None, ◌&&◌, ◌==◌, ◌||◌, IsTrue}
-use Rattle.model.specs.Label.{Label, Sort, of_type, of_const, of_lifetime, infer, never, param, placeholder, canonical, bound, static, fn_ptr, principal, dynamic, inside}
-use Rattle.model.specs.Trees.{Trees, none, tree, leaf, ◌+++◌, nth, shift, instantiate, sort_of, IsA, Fits, erase, erase_label, some_node}
-use Rattle.model.specs.Answers.{is_open, is_closed}
+use Rattle.std.proofs.Common.{◌≡◌, ℕ, zero, suc, Bool, true, false, if◌then◌else◌, List, [], ◌∷◌, refl, sym, ap, ◌∙◌, subst, Some, ◌||◌}
+use Rattle.model.specs.Label.{Label, Sort, of_type, of_const, of_lifetime, infer, param, placeholder, canonical, bound, static, fn_ptr, principal, inside}
+use Rattle.model.specs.Trees.{Trees, none, tree, ◌+++◌, nth, shift, instantiate, sort_of, IsA, Fits, erase, erase_label, some_node}
+use Rattle.model.specs.Answers.{is_open}
 use Rattle.model.specs.LinkedSet.{is_stray}
-use Rattle.model.proofs.Fitting.{head-shut, child-shut, next-shut, no-left, no-right, or-no, not-true}
+use Rattle.model.proofs.Fitting.{head-shut, child-shut, next-shut, no-left, or-no}
 use Rattle.infer_table.specs.Solutions.{Assignment, instance, tree_of, IsSorted, HasValues}
-use Rattle.infer_table.specs.Content.{Table, variables_of}
+use Rattle.infer_table.specs.Content.{Table}
 use Rattle.infer_table.proofs.SolutionLaws.{instance-append}
 use Rattle.term_folds.specs.Arguments.{sort_at}
-use Rattle.overlap_check.specs.Fresh.{with_unknown, with_unknowns, fresh_unknowns, HasArguments as Speaks}
+use Rattle.overlap_check.specs.Fresh.{with_unknown, fresh_unknowns, HasArguments as Speaks}
 use Rattle.overlap_check.proofs.Standing.{Gives, default_node, fresh-lifetime}
 
 pub node : {l m : Label} {c d o p : Trees} → l ≡ m → c ≡ d → o ≡ p → tree l c o ≡ tree m d p

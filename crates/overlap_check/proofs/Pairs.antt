@@ -1,15 +1,15 @@
 -- A pair of impls with unknowns for their parameters: common instances from solutions, goals that cover where-clauses, and back.
-use Rattle.std.proofs.Common.{◌≡◌, ℕ, zero, suc, ◌≤◌, arith, Bool, true, false, not, List, [], ◌∷◌, map, refl, sym, ap, ◌∙◌, subst, ◌||◌}
+use Rattle.std.proofs.Common.{◌≡◌, ℕ, zero, ◌≤◌, arith, false, not, List, [], map, refl, sym, ap, ◌∙◌, subst, ◌||◌}
 use Rattle.model.specs.Label.{Label, Sort, of_type, of_const, of_lifetime, infer, canonical}
 use Rattle.model.specs.Trees.{Trees, none, tree, Fits, erase, some_node, instantiate}
-use Rattle.model.specs.Terms.{erased_impl, erased_reference, mentions}
-use Rattle.model.specs.Worlds.{Reference, ImplDecl, with_args}
+use Rattle.model.specs.Terms.{erased_impl, erased_reference}
+use Rattle.model.specs.Worlds.{Reference, ImplDecl}
 use Rattle.model.specs.Proofs.{In}
 use Rattle.model.specs.Answers.{is_open, is_variable, CommonInstance, FixedLeft, FixedRight}
 use Rattle.model.proofs.Fitting.{child-shut, next-shut, no-left, or-no, not-true}
 use Rattle.model.proofs.Members.{in-map}
 use Rattle.model.proofs.Entries.{map-in}
-use Rattle.infer_table.specs.Solutions.{Assignment, Binding, instance, IsSorted, HasValues, occurs, resolved, Solves, Equates, HasNoSolution}
+use Rattle.infer_table.specs.Solutions.{Assignment, Binding, instance, IsSorted, HasValues, occurs, resolved, Equates, HasNoSolution}
 use Rattle.infer_table.specs.Content.{Table, variables_of, IsProper}
 use Rattle.session_laws.specs.Questions.{filled}
 use Rattle.overlap_check.specs.Fresh.{with_unknowns, fresh_unknowns, HasArguments}

@@ -1,7 +1,7 @@
 -- What the solutions of equated headers say of where-clauses.
-use Rattle.std.proofs.Common.{◌≡◌, ℕ, zero, suc, ◌+◌, ◌≤◌, ◌<◌, arith, Bool, true, false, not, if◌then◌else◌, List, [], ◌∷◌, refl, sym, ap, ◌∙◌, subst, Option, Some, None, ◌&&◌, ◌==◌, ◌||◌, IsTrue, ◌⊎◌, inl, inr}
-use Rattle.model.specs.Label.{Label, Sort, of_type, of_const, of_lifetime, infer, bool, value, uint, static, param, placeholder, canonical, bound, inside}
-use Rattle.model.specs.Trees.{Trees, none, tree, leaf, ◌+++◌, sort_of, erase, erase_label, some_node, nth, shift, instantiate}
+use Rattle.std.proofs.Common.{◌≡◌, ℕ, zero, suc, ◌≤◌, arith, Bool, true, false, if◌then◌else◌, List, [], ◌∷◌, refl, sym, ap, ◌∙◌, subst, Option, Some, None, ◌||◌, ◌⊎◌, inl, inr}
+use Rattle.model.specs.Label.{Label, Sort, of_type, of_const, of_lifetime, infer, bool, value, static, param, inside}
+use Rattle.model.specs.Trees.{Trees, none, tree, ◌+++◌, sort_of, erase, nth, shift, instantiate}
 use Rattle.model.proofs.Walking.{or-cases}
 use Rattle.model.proofs.Members.{so-false}
 use Rattle.model.proofs.Fitting.{no-left as or-left, no-right as or-right, or-no as or-both}

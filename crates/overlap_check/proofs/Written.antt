@@ -1,10 +1,10 @@
 -- Terms as an interner makes them have their arguments.
-use Rattle.std.proofs.Common.{◌≡◌, ℕ, Bool, true, false, not, List, [], ◌∷◌, map, refl, sym, ap, ◌∙◌, subst, Option, Some, None, ◌&&◌, ◌||◌, cond, ◌⊎◌, inl, inr}
+use Rattle.std.proofs.Common.{◌≡◌, ℕ, Bool, true, false, not, List, [], ◌∷◌, map, refl, sym, ap, subst, Option, Some, None, ◌&&◌, ◌||◌, cond, ◌⊎◌, inl, inr}
 use Rattle.std.specs.Option.{option_or}
 use Rattle.model.specs.Label.{Label, Sort, of_type, of_const, of_lifetime, param, infer, dynamic, principal, auto_trait, predicate}
 use Rattle.model.specs.Trees.{Trees, none, tree, erase, erase_label, sort_of, is_sort, is_no_tree, some_node}
 use Rattle.model.specs.LinkedSet.{is_stray}
-use Rattle.model.specs.Worlds.{Reference, ImplDecl}
+use Rattle.model.specs.Worlds.{Reference}
 use Rattle.model.specs.Proofs.{In}
 use Rattle.model.proofs.Fitting.{child-shut, next-shut, no-left}
 use Rattle.model.proofs.Walking.{left, right}

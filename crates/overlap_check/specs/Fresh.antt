@@ -1,5 +1,5 @@
 -- Fresh unknowns for the parameters of impls.
-use Rattle.std.specs.Prelude.{◌≡◌, ℕ, ◌+◌, false, List, [], ◌∷◌, Some}
+use Rattle.std.specs.Prelude.{◌≡◌, ◌+◌, false, List, [], ◌∷◌, Some}
 use Rattle.model.specs.Label.{Sort, of_type, of_const, of_lifetime, infer, param}
 use Rattle.model.specs.Trees.{Trees, none, tree, erase_label}
 use Rattle.model.specs.LinkedSet.{is_stray}

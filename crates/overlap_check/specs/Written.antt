@@ -2,7 +2,6 @@
 use Rattle.std.specs.Prelude.{◌≡◌, false, List, map}
 use Rattle.model.specs.Trees.{some_node, erase}
 use Rattle.model.specs.Terms.{erased_impl, IsCovered}
-use Rattle.model.specs.Worlds.{ImplDecl}
 use Rattle.model.specs.LinkedSet.{is_stray}
 use Rattle.type_terms.specs.Terms.{Entry, Lawful, trees_at}
 use Rattle.type_terms.specs.declared.ImplId.{ImplId}
