@@ -1,0 +1,7 @@
+pub mod Standing
+pub mod Instances
+pub mod Solved
+pub mod Covering
+pub mod Pairs
+pub mod Verdicts
+pub mod Written

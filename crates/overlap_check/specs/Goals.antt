@@ -1,0 +1,59 @@
+-- What the check of a pair of impls finds: the goals that its where-clauses are, once the headers are equal.
+use Rattle.std.specs.Prelude.{◌≡◌, ℕ, suc, zero, false, List, [], ◌∷◌, ◌++◌}
+use Rattle.model.specs.Label.{Sort, of_type, of_const}
+use Rattle.model.specs.Trees.{Trees, some_node, instantiate, erase}
+use Rattle.model.specs.Terms.{erased_impl, IsCovered}
+use Rattle.model.specs.Worlds.{Reference, ImplDecl}
+use Rattle.model.specs.Proofs.{In}
+use Rattle.model.specs.Answers.{CommonInstance, FixedLeft, FixedRight, is_variable}
+use Rattle.infer_table.specs.Solutions.{Binding, resolved}
+use Rattle.infer_table.specs.Content.{Table}
+use Rattle.session_laws.specs.Laws.{CoversLeft, CoversRight}
+use Rattle.overlap_check.specs.Fresh.{with_unknowns, fresh_unknowns, HasArguments}
+
+abbrev pub repeated : Sort → ℕ → List Sort
+repeated k zero = []
+repeated k (suc n) = k ∷ repeated k n
+
+-- The kinds of a table's unknowns, but for those of lifetimes.
+abbrev pub unknown_kinds : Table → List Sort
+unknown_kinds t = repeated of_type t.ty_vars ++ repeated of_const t.const_vars
+
+-- A where-clause of an impl as a goal over a table: with the unknowns put in for its parameters, and their values for these, without
+-- lifetimes.
+abbrev pub goal_of : List Binding → Trees → Reference → Reference
+goal_of bs I k = record { trait = k.trait; args = erase (resolved bs (instantiate zero I k.args)) }
+
+-- The goal g is made of the where-clause k of i: it covers it, and holds no unknown where the clause is fixed.
+pub record IsGoalLeft (i j : ImplDecl) (ks : List Sort) (k g : Reference) : Type 0 where
+  pub covers : CoversLeft i j k ks g
+  pub determined : (r : Reference) → FixedLeft i j k r → some_node is_variable g.args ≡ false
+
+-- The same of a where-clause of j.
+pub record IsGoalRight (i j : ImplDecl) (ks : List Sort) (k g : Reference) : Type 0 where
+  pub covers : CoversRight i j k ks g
+  pub determined : (r : Reference) → FixedRight i j k r → some_node is_variable g.args ≡ false
+
+-- The pair has a common instance, and these are the goals that its where-clauses are, all of them and no others.
+pub record HasGoals (i j : ImplDecl) (ks : List Sort) (left right : List Reference) : Type 0 where
+  pub common : CommonInstance i j
+  pub left_asked : (k : Reference) → In k i.clauses → (g : Reference) × In g left × IsGoalLeft i j ks k g
+  pub right_asked : (k : Reference) → In k j.clauses → (g : Reference) × In g right × IsGoalRight i j ks k g
+  pub left_only : (g : Reference) → In g left → (k : Reference) × IsGoalLeft i j ks k g
+  pub right_only : (g : Reference) → In g right → (k : Reference) × IsGoalRight i j ks k g
+
+-- An impl as it is written, with lifetimes: where these stand for its parameters, each parameter of its header and of its where-clauses
+-- has its argument, and its where-clauses speak of parameters that stand in its header.
+pub record IsInstantiable (I : Trees) (i : ImplDecl) : Type 0 where
+  pub header : HasArguments I i.header.args
+  pub clauses : (k : Reference) → In k i.clauses → HasArguments I k.args
+  pub covered : IsCovered (erased_impl i)
+
+-- Both are, the second one with unknowns that come after those of the first one: for parameters of these sorts.
+pub record IsPairWith (t : Table) (ps qs : List Sort) (w x : ImplDecl) : Type 0 where
+  pub left : IsInstantiable (fresh_unknowns t ps) w
+  pub right : IsInstantiable (fresh_unknowns (with_unknowns t ps) qs) x
+
+-- The header's arguments with a row of terms in the place of parameters.
+abbrev pub header_with : Trees → ImplDecl → Trees
+header_with I i = instantiate zero I i.header.args

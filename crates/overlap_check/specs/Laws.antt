@@ -1,0 +1,47 @@
+-- What equating the headers of two impls says of their common instances, and what the answers to its goals say of the pair. The impls
+-- w and x are as they are written, with lifetimes.
+use Rattle.std.specs.Prelude.{◌≡◌, ℕ, ◌≤◌, List, [], map, ◌⊎◌}
+use Rattle.model.specs.Label.{Sort}
+use Rattle.model.specs.Terms.{erased_impl}
+use Rattle.model.specs.Worlds.{World, Reference, ImplDecl}
+use Rattle.model.specs.Proofs.{In}
+use Rattle.model.specs.Answers.{CommonInstance}
+use Rattle.type_terms.specs.Terms.{Entry}
+use Rattle.infer_table.specs.Solutions.{Equates, HasNoSolution}
+use Rattle.infer_table.specs.Content.{Table, content, variables_of, Ready}
+use Rattle.session_laws.specs.Laws.{IsPassed, IsRefused}
+use Rattle.session_laws.specs.Questions.{IsRefuted, IsRefuteAnswer, unrefuted}
+use Rattle.overlap_check.specs.Fresh.{fresh_unknowns, with_unknowns}
+use Rattle.overlap_check.specs.Goals.{IsPairWith, header_with, unknown_kinds, goal_of, HasGoals}
+
+-- Where no values make the headers equal, the impls have no common instance.
+abbrev pub ApartHaveNoInstance : Type 0
+ApartHaveNoInstance =
+    (w x : ImplDecl) (t : Table) (ps qs : List Sort) → IsPairWith t ps qs w x
+    → HasNoSolution [] (header_with (fresh_unknowns t ps) w) (header_with (fresh_unknowns (with_unknowns t ps) qs) x)
+    → CommonInstance (erased_impl w) (erased_impl x) → ⊥
+
+-- Nor do impls of two traits.
+abbrev pub OtherTraitsHaveNoInstance : Type 0
+OtherTraitsHaveNoInstance = (w x : ImplDecl) → (w.header.trait ≡ x.header.trait → ⊥) → CommonInstance (erased_impl w) (erased_impl x) → ⊥
+
+-- A table whose solutions are the values that make the headers of one trait equal has the goals of the pair.
+abbrev pub EquatedHaveGoals : Type 0
+EquatedHaveGoals =
+    (w x : ImplDecl) (t : Table) (ps qs : List Sort) → IsPairWith t ps qs w x → w.header.trait ≡ x.header.trait
+    → (es : List Entry) (u : Table) → Ready es u → ((k : Sort) → variables_of (with_unknowns (with_unknowns t ps) qs) k ≤ variables_of u k)
+    → Equates [] (content es u.values) (header_with (fresh_unknowns t ps) w) (header_with (fresh_unknowns (with_unknowns t ps) qs) x)
+    → HasGoals (erased_impl w) (erased_impl x) (unknown_kinds u) (map (goal_of (content es u.values) (fresh_unknowns t ps)) w.clauses)
+    (map (goal_of (content es u.values) (fresh_unknowns (with_unknowns t ps) qs)) x.clauses)
+
+-- One goal that is refused in coherence is enough to pass the pair.
+abbrev pub RefusedGoalPasses : Type 0
+RefusedGoalPasses =
+    (V : World) (c : ℕ) (i j : ImplDecl) (ks : List Sort) (left right : List Reference) → HasGoals i j ks left right
+    → (g : Reference) → In g left ⊎ In g right → IsRefuted V c ks g → IsPassed V c i j
+
+-- A pair none of whose goals is refused is refused itself. `unrefuted` promises that no goal without unknowns that is impossible was left.
+abbrev pub OpenGoalsRefuse : Type 0
+OpenGoalsRefuse =
+    (limit : ℕ) (V : World) (c : ℕ) (i j : ImplDecl) (ks : List Sort) (left right : List Reference) → HasGoals i j ks left right
+    → ((g : Reference) → In g left ⊎ In g right → IsRefuteAnswer limit V c ks g unrefuted) → IsRefused limit V c i j

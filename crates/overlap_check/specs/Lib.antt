@@ -1,0 +1,4 @@
+pub mod Fresh
+pub mod Goals
+pub mod Laws
+pub mod Written

@@ -1,0 +1,31 @@
+-- Impls as a text writes them, over the terms of an interner.
+use Rattle.std.specs.Prelude.{◌≡◌, false, List, map}
+use Rattle.model.specs.Trees.{some_node, erase}
+use Rattle.model.specs.Terms.{erased_impl, IsCovered}
+use Rattle.model.specs.LinkedSet.{is_stray}
+use Rattle.type_terms.specs.Terms.{Entry, Lawful, trees_at}
+use Rattle.type_terms.specs.declared.ImplId.{ImplId}
+use Rattle.term_folds.specs.declared.predicate.TraitRef.{TraitRef}
+use Rattle.infer_table.specs.Content.{Table}
+use Rattle.declarations.specs.Applied.{sort_of_param, SpeaksOf}
+use Rattle.declarations.specs.Held.{ImplHeld}
+use Rattle.declarations.specs.Items.{impl_in}
+use Rattle.declarations.specs.Merges.{Each}
+use Rattle.declarations.specs.declared.items.ImplDef.{ImplDef}
+use Rattle.overlap_check.specs.Fresh.{fresh_unknowns}
+use Rattle.overlap_check.specs.Goals.{IsInstantiable}
+
+-- The header and the where-clauses speak of the impl's parameters, no other place is open in them, and each type or constant that a
+-- where-clause speaks of stands in the header: `impl<T> Show for u8 where T: Num` is refused.
+pub record IsWrittenWell (es : List Entry) (def : ImplDef) : Type 0 where
+  pub header : SpeaksOf (map sort_of_param def.params.items) (trees_at es def.header.args.0)
+  pub clauses : Each (λ (r : TraitRef). SpeaksOf (map sort_of_param def.params.items) (trees_at es r.args.0)) def.clauses.items
+  pub plain_header : some_node is_stray (erase (trees_at es def.header.args.0)) ≡ false
+  pub plain_clauses : Each (λ (r : TraitRef). some_node is_stray (erase (trees_at es r.args.0)) ≡ false) def.clauses.items
+  pub covered : (id : ImplId) → IsCovered (erased_impl (impl_in es id def))
+
+-- Such impls have arguments in the unknowns for their parameters, whichever these are.
+abbrev pub WrittenIsInstantiable : Type 0
+WrittenIsInstantiable =
+    (es : List Entry) → Lawful es → (id : ImplId) (def : ImplDef) → ImplHeld es def → IsWrittenWell es def
+    → (t : Table) → IsInstantiable (fresh_unknowns t (map sort_of_param def.params.items)) (impl_in es id def)

@@ -1,0 +1,8 @@
+//! Whether two impls overlap: a pair of them, up to the goals that its where-clauses are.
+//!
+//! `impl<T> Show for V<T> where T: Num` and `impl<U> Show for V<U> where U: Copy` have the headers `V<?0>: Show` and `V<?1>: Show`
+//! over fresh unknowns. Once they are equal, `?1` is `?0`, and what is left to ask is `?0: Num` and `?0: Copy`: where one of them has no
+//! solution in any linked set, the impls do not overlap (`overlap` in the original's coherence).
+#![tactic(auto)]
+
+pub mod laws;
