@@ -1,5 +1,5 @@
 mod LineAt
 mod LineAgain
-mod Outcome
-mod NoFault
-mod FittingUses
+pub mod Outcome
+pub mod NoFault
+pub mod FittingUses

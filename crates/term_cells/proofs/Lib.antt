@@ -1,0 +1,10 @@
+pub mod Sizes
+pub mod Stacks
+pub mod Plain
+pub mod TypesMade
+pub mod Standing
+pub mod Each
+pub mod Fits
+pub mod KeptCells
+pub mod KeptTypes
+pub mod Digits
