@@ -1,12 +1,10 @@
 -- The crate that a line looks from.
-use Rattle.std.proofs.Common.{◌≡◌, ◌<◌, ◌-◌, ℕ, List, Option, Some, None, length, map, refl, ap, arith, subst, sym}
+use Rattle.std.proofs.Common.{◌≡◌, Option, Some, None, refl}
 use Rattle.std.specs.Option.{option_and_then}
-use Rattle.std.proofs.lemmas.List.{length-map}
 use Rattle.text_definitions.specs.Declarations.{Known, a_crate, a_struct, a_trait}
 use Rattle.text_definitions.specs.Faults as faults
 use Rattle.workspace.specs.Tables as tables
 use Rattle.workspace.specs.Tables.{declared, IsConsistent}
-use Rattle.workspace.specs.declared.tables.Tables.{Tables}
 
 pub same-number : (o : Option Known) → option_and_then tables.number_of_crate o ≡ option_and_then faults.number_of_crate o
 same-number None = refl

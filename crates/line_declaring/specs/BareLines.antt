@@ -1,15 +1,19 @@
 -- The line of a statement with all that names stand for, and without its types: what a name stands for depends on nothing else.
-use Rattle.std.specs.Prelude.{ℕ, List, [], ◌∷◌, map}
+use Rattle.std.specs.Prelude.{ℕ, List, [], ◌∷◌}
 use Rattle.std.specs.List.{flat_map}
 use Rattle.model.specs.Label.{Sort, of_type, of_const, of_lifetime}
 use Rattle.text_definitions.specs.Syntax.{never_type, no_types, no_args, Params, Clause, Line, crate_line, struct_line, trait_line, impl_line, prove_line, refute_line}
-use Rattle.line_reader.specs.Statement.{Param, lifetime_param, type_param, const_param, Statement, crate_statement, struct_statement, trait_statement, impl_statement, prove_statement, refute_statement}
+use Rattle.line_reader.specs.Statement.{Param, lifetime_param, type_param, const_param, param_name, Statement, crate_statement, struct_statement, trait_statement, impl_statement, prove_statement, refute_statement}
 
 -- ---- parameters
 abbrev pub sort_of_param : Param → Sort
 sort_of_param (lifetime_param n) = of_lifetime
 sort_of_param (type_param n) = of_type
 sort_of_param (const_param n) = of_const
+
+-- a parameter's name and what it stands for
+abbrev pub sorted_param : Param → List ℕ × Sort
+sorted_param p = (param_name p, sort_of_param p)
 
 abbrev pub name_of_sort : Sort → Param → List (List ℕ)
 name_of_sort of_lifetime (lifetime_param n) = n ∷ []

@@ -1,3 +1,5 @@
 pub mod BareLines
+pub mod Entries
 pub mod OwnItems
+pub mod Parsing
 pub mod Sights

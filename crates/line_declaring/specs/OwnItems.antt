@@ -1,7 +1,7 @@
 -- A name where the line's own struct or trait is known beside what is declared before it.
 use Rattle.std.specs.Prelude.{Option, Some, None}
 use Rattle.std.specs.Option.{option_or}
-use Rattle.text_definitions.specs.Declarations.{Known, a_crate, a_struct, a_trait}
+use Rattle.text_definitions.specs.Declarations.{Known, a_trait}
 
 -- a struct of the line is found before traits, and behind crates and other structs
 abbrev pub known_with_struct : (before own : Option Known) → Option Known

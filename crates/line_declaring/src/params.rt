@@ -2,10 +2,12 @@
 ghost use Rattle.std.specs.Prelude.{◌≡◌, ◌∷◌, [], length, map, IfOk, MatchOption};
 ghost use Rattle.line_reader.specs.Views.{param_of, params_in};
 ghost use Rattle.name_resolution.specs.LookUps.{place_in};
-ghost use Rattle.workspace.specs.Views.{sort_of_kind, sorts_of};
-ghost use Rattle.line_declaring.specs.BareLines.{sort_of_param, name_of_sort, names_of_sort};
+ghost use Rattle.name_resolution.specs.Views.{variable_in};
+ghost use Rattle.workspace.specs.Views.{sort_of_kind, sorts_of, sorted_params};
+ghost use Rattle.line_declaring.specs.BareLines.{sort_of_param, sorted_param, name_of_sort, names_of_sort};
 
 use line_reader::Param;
+use name_resolution::Variable;
 use std::alloc::{AllocError, Global};
 use workspace::ParamKind;
 
@@ -31,6 +33,44 @@ pub(crate) fn kinds_of(alloc: Global, params: &[Param<'_>]) -> Result<Vec<ParamK
         rest = behind;
     }
     Ok(kinds)
+}
+
+/// The parameters with their names and kinds, in their order.
+pub(crate) fn named_params(
+    alloc: Global,
+    params: &[Param<'_>],
+) -> Result<Vec<workspace::Param>, AllocError>
+    ensures { IfOk result (λ named. sorted_params named.items ≡ map sorted_param (params_in params.now)) }
+{
+    let mut named = Vec::new(alloc);
+    let mut rest = params;
+    while let [param, behind @ ..] = rest {
+        named.push(workspace::Param {
+            name: Vec::from_slice(alloc, param.name())?,
+            kind: kind_of(param),
+        })?;
+        rest = behind;
+    }
+    Ok(named)
+}
+
+/// The variables with their names and kinds, in their order.
+pub(crate) fn named_variables(
+    alloc: Global,
+    variables: &[Variable<'_>],
+) -> Result<Vec<workspace::Param>, AllocError>
+    ensures { IfOk result (λ named. sorted_params named.items ≡ map variable_in variables.now) }
+{
+    let mut named = Vec::new(alloc);
+    let mut rest = variables;
+    while let [variable, behind @ ..] = rest {
+        named.push(workspace::Param {
+            name: Vec::from_slice(alloc, variable.name)?,
+            kind: variable.sort,
+        })?;
+        rest = behind;
+    }
+    Ok(named)
 }
 
 /// The parameter's name, if it is of this sort.

@@ -4,6 +4,7 @@ ghost use Rattle.std.specs.Option.{option_map, option_and_then};
 ghost use Rattle.model.specs.Worlds.{sees};
 ghost use Rattle.text_definitions.specs.Declarations.{known, last_crate, world_of};
 ghost use Rattle.text_definitions.specs.Faults.{last_items, number_of_crate};
+ghost use Rattle.text_definitions.specs.Lowering.{crate_number};
 ghost use Rattle.workspace.specs.Numbered.{IsFew};
 ghost use Rattle.workspace.specs.Views.{known_of};
 
@@ -69,6 +70,17 @@ impl<'w> SoFar<'w> {
         ensures there { IfSome result (λ c. c.index < length self.now.crates) }
     {
         self.tables.crate_named(name)
+    }
+
+    /// The crate in which a question is asked, by its name.
+    pub fn asking_crate(&self, name: &[u8]) -> CrateId
+        ensures number { result.index ≡ crate_number (known self.now name.now) }
+        ensures there { result.index < length self.now.crates }
+    {
+        match self.tables.crate_named(name) {
+            Some(id) => id,
+            None => CrateId { index: 0 },
+        }
     }
 
     /// The number of the next struct.

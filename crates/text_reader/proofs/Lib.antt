@@ -1,3 +1,4 @@
 mod Texts
 mod FirstBytes
+mod Shortness
 mod Taking

@@ -3,10 +3,12 @@ use Rattle.std.proofs.Common.{◌≡◌, ℕ, ◌+◌, ◌≤◌, cond, List, le
 use Rattle.std.specs.Prelude.{nat_lt}
 use Rattle.std.specs.Option.{option_map}
 use Rattle.std.proofs.lemmas.Bool.{cases_Bool, ltb-true, ltb-false}
+use Rattle.std.proofs.lemmas.List.{length-map}
 use Rattle.text_definitions.specs.Syntax.{Line, crate_line, struct_line, trait_line, impl_line, prove_line, refute_line}
 use Rattle.text_definitions.specs.Declarations.{Declarations, nothing_declared}
 use Rattle.text_definitions.specs.Adding.{added}
 use Rattle.text_definitions.specs.Text.{LineGives, other_byte, blank, unwritten, faulty, adds, lines_of, text_limit, long_line, TextGives, too_long, fits}
+use Rattle.type_reader.specs.Views.{cell_of}
 use Rattle.workspace.specs.Numbered.{IsFew}
 use Rattle.line_reader.specs.declared.statement.LineRead.{LineRead}
 use Rattle.line_faults.specs.FaultNumbers.{fault_number}
@@ -15,6 +17,7 @@ use Rattle.text_reader.specs.Lines.{line_too_far}
 use Rattle.text_reader.specs.Forms.{IsForm}
 use Rattle.text_reader.specs.Declaring.{FindsFault, AddsLine}
 use Rattle.text_reader.specs.Outcomes.{AreRefused, IsTextError}
+use Rattle.text_reader.proofs.Shortness.{cells-are-few}
 use Rattle.text_reader.specs.declared.fault.TextError.{TextError}
 use Rattle.text_reader.specs.declared.fault.TextError.TheVariants as errors
 use Rattle.text_reader.specs.declared.form.LineForm.{LineForm}
@@ -45,6 +48,13 @@ added_gives d e line form read found h is finds none new =
     let said : IsForm line (forms.Read read) = subst (λ f. IsForm line f) is h in
     let (l, w, r) = said.2 in
     subst (λ x. LineGives d line (Ok x)) (sym (new l r)) (adds l said.0 said.1 w (sym (finds l r) ∙ ap (option_map fault_number) none))
+
+-- a line that was read has no more cells than bytes
+pub read_short : (line : List ℕ) (form : LineForm) (read : LineRead) (k : ℕ) → IsForm line form → form ≡ forms.Read read → length line ≤ k → length read.cells.items ≤ k
+read_short line form read k h is short =
+    let said : IsForm line (forms.Read read) = subst (λ f. IsForm line f) is h in
+    let (l, w, r) = said.2 in
+    omega (arith, cells-are-few line l w, ap length r.1, length-map read.cells.items cell_of, short)
 
 -- ---- how many there are
 added-few : (d : Declarations) (l : Line) (k : ℕ) → IsFew d k → IsFew (added d l) (k + 1)

@@ -19,9 +19,9 @@ IsRead read = (l : Line) × ReadsLine l read
 abbrev pub FindsFault : Declarations → LineRead → Option FaultKind → Type 0
 FindsFault d read found = (l : Line) → ReadsLine l read → option_map fault_number found ≡ fault_of d l
 
--- A line was read that has no fault.
+-- A line was read, and whichever it was, it has no fault.
 abbrev pub IsFaultless : Declarations → LineRead → Type 0
-IsFaultless d read = (l : Line) × ReadsLine l read × (fault_of d l ≡ None)
+IsFaultless d read = IsRead read × ((l : Line) → ReadsLine l read → fault_of d l ≡ None)
 
 -- The declarations are e then: whichever line was read, they are those with this line.
 abbrev pub AddsLine : Declarations → LineRead → Declarations → Type 0

@@ -1,9 +1,10 @@
 //! What lines are declared in, one after the other.
-ghost use Rattle.std.specs.Prelude.{◌≡◌, IfOk, OnOk};
+ghost use Rattle.std.specs.Prelude.{◌≡◌, ◌≤◌, length, IfOk, OnOk};
 ghost use Rattle.text_definitions.specs.Declarations.{Declarations, nothing_declared};
 ghost use Rattle.text_reader.specs.Declaring.{IsRead, FindsFault, IsFaultless, AddsLine};
 ghost use Rattle.workspace.specs.Numbered.{IsFew};
 
+use crate::lines::TEXT_LIMIT;
 use line_faults::FaultKind;
 use line_reader::LineRead;
 use std::alloc::{AllocError, Global};
@@ -37,6 +38,8 @@ pub trait Declares: Drop {
         requires agrees { agrees self.old }
         requires few { IsFew (so_far self.old) ENTRY_LIMIT }
         requires faultless { IsFaultless (so_far self.old) read.now }
+        // As many as a text has bytes.
+        requires short { length read.now.cells.items ≤ TEXT_LIMIT }
         ensures added { OnOk result (AddsLine (so_far self.old) read.now (so_far self.new)) }
         ensures agrees { OnOk result (agrees self.new) };
 }

@@ -33,6 +33,7 @@ pub fn long_line(bytes: &[u8]) -> Option<u32>
 /// The first line of a text without its end, and what stands behind that end. A line that nothing ends is the last.
 pub fn split_line(bytes: &[u8]) -> (&[u8], Option<&[u8]>)
     ensures lines { lines_of bytes.now ≡ result.0.now ∷ lines_behind result.1 }
+    ensures within { length result.0.now ≤ length bytes.now }
     // What is left is shorter, so that the lines of a text end.
     ensures left { IfSome result.1 (λ rest. length rest.now < length bytes.now) }
 {

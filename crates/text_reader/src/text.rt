@@ -23,6 +23,7 @@ fn take_line<D: Declares>(
 ) -> Result<Option<FaultKind>, AllocError>
     requires agrees { D.agrees tables.old }
     requires few { IsFew (D.so_far tables.old) ENTRY_LIMIT }
+    requires short { length line.now ≤ TEXT_LIMIT }
     ensures gives { IfOk result (λ found. TakesLine (D.so_far tables.old) line.now found (D.so_far tables.new)) }
     ensures agrees { OnOk result (D.agrees tables.new) }
 {

@@ -1,4 +1,4 @@
-use Rattle.text_reader.proofs.Taking.{other_byte_gives, blank_gives, unwritten_gives, faulty_gives, added_gives}
+use Rattle.text_reader.proofs.Taking.{other_byte_gives, blank_gives, unwritten_gives, faulty_gives, added_gives, read_short}
 use Rattle.text_reader.proofs.text.take_line.Goals as goal
 
 pub returns-in-OtherByte-clause-gives : goal.returns-in-OtherByte-clause-gives
@@ -15,3 +15,6 @@ returns-in-Some-clause-gives g c = faulty_gives _ _ _ c.in-Read.read _ c.in-Some
 
 pub returns-in_ok-declare-in-Read-clause-gives : goal.returns-in_ok-declare-in-Read-clause-gives
 returns-in_ok-declare-in-Read-clause-gives g c = added_gives _ _ _ _ c.in-Read.read _ c.in_ok-line_form.ensures c.in-Read.is c.in_ok-kind-in-Read.ensures c.in_default.is c.in_ok-declare-in-Read.ensures.added
+
+pub declare-requires-clause-short : goal.declare-requires-clause-short
+declare-requires-clause-short g c = read_short c.args.line.now _ c.in-Read.read 1048576 c.in_ok-line_form.ensures c.in-Read.is c.requires.short

@@ -29,6 +29,7 @@ lines-preserved g c =
     record {
       agrees = c.in_ok-kind.ensures.agrees;
       few = few-weaken _ (c.lines.place + 49 + 1) (c.lines.place + 1 + 49) (omega arith) (given-few _ _ _ (c.lines.place + 49) given c.lines.invariant.few);
+      counted = omega arith;
       short = omega (arith, shorter, c.lines.invariant.short);
       so_far = λ r h. c.lines.invariant.so_far r (subst (λ ls. LinesGive (g.D.Declares.so_far c.lines.tables) c.lines.place ls r) (sym whole) (goes_on _ _ _ _ _ _ given (rw add-one at h)));
     }

@@ -8,6 +8,7 @@ abbrev pub invariant-lines : goal.invariant-lines
 invariant-lines g l = record {
   agrees : g.D.Declares.agrees l.tables;
   few : IsFew (g.D.Declares.so_far l.tables) (l.place + 49);
+  counted : 1 ≤ l.place;
   short : l.place + length l.rest ≤ 1048577;
   so_far : (r : Result Declarations (ℕ × ℕ)) → LinesGive (g.D.Declares.so_far l.tables) l.place (lines_of l.rest) r → LinesGive (g.D.Declares.so_far l.fn.tables) 1 (lines_of l.bytes) r;
 }
