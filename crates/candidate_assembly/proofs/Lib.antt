@@ -22,3 +22,8 @@ pub mod GoingOn
 pub mod Counted
 pub mod UnsizingRows
 pub mod FnPointers
+pub mod Finding
+pub mod Fitting
+pub mod Knowing
+pub mod Deciding
+pub mod Firsts

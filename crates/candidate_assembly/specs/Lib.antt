@@ -12,3 +12,5 @@ pub mod SolverLaws
 pub mod Counted
 pub mod Unsizing
 pub mod FnPointers
+pub mod Fitting
+pub mod Finding

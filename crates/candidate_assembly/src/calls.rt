@@ -59,7 +59,7 @@ fn signature(cx: &Interner, self_ty: Ty) -> Option<Tys>
 }
 
 /// The argument after the first, if there is one.
-fn second_argument(cx: &Interner, args: GenericArgs) -> Option<GenericArgKind>
+pub(crate) fn second_argument(cx: &Interner, args: GenericArgs) -> Option<GenericArgKind>
     requires { Has cx.now.entries args_lists args.0 }
     ensures { IsFirst cx.now.entries (next_of (trees_at cx.now.entries args.0)) result }
 {

@@ -1,11 +1,14 @@
 //! Laws of candidates, over what the contracts speak of.
 ghost use Rattle.std.specs.Prelude.{◌≡◌, ◌+◌, ℕ, List, Some, None, map};
 ghost use Rattle.std.specs.List.{slice_get};
+ghost use Rattle.model.specs.Worlds.{World, Reference};
+ghost use Rattle.model.specs.Terms.{erased_world, erased_reference};
 ghost use Rattle.type_terms.specs.Terms.{Entry};
 ghost use Rattle.type_terms.specs.declared.ImplId.{ImplId};
 ghost use Rattle.evaluation.specs.declared.candidate.CandidateSource.TheVariants.{Impl};
 ghost use Rattle.declarations.specs.Items.{Items, written};
 ghost use Rattle.declarations.specs.Merges.{Rises};
+ghost use Rattle.assembly_laws.specs.Knowing.{is_knowable};
 ghost use Rattle.assembly_laws.specs.Asking.{Asked};
 ghost use Rattle.assembly_laws.specs.Candidates.{Candidate, by_impls};
 ghost use Rattle.candidate_assembly.specs.Headers.{impls_above, WellDeclaredHaveCandidates};
@@ -44,4 +47,10 @@ pub fn well_declared_have_candidates()
 /// and questions no more from goal to goal, and the solutions of nested goals are looked for where those of the goal are.
 pub fn solver_keeps_the_laws_of_handlers()
     ensures { HandlersArePrograms solver_for (λ s. FollowsByView s.view) coinductive_for }
+{}
+
+/// Which references are knowable does not depend on lifetimes, neither on those of declarations nor on those of the reference.
+pub fn knowing_is_up_to_lifetimes()
+    ensures declarations { (W : World) (c : ℕ) (r : Reference) → is_knowable (erased_world W) c r ≡ is_knowable W c r }
+    ensures references { (W : World) (c : ℕ) (r : Reference) → is_knowable W c (erased_reference r) ≡ is_knowable W c r }
 {}

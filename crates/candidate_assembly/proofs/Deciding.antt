@@ -1,0 +1,106 @@
+-- When a goal is decided.
+use Rattle.std.proofs.Common.{◌≡◌, refl, sym, ap, ◌∙◌, Bool, true, false, ◌&&◌, ◌||◌, not, List, [], ◌∷◌, map, Option, Some, None, if◌then◌else◌}
+use Rattle.std.specs.Prelude.{◌==◌}
+use Rattle.model.specs.Trees.{Trees}
+use Rattle.model.specs.Worlds.{World, Reference}
+use Rattle.model.specs.Rules.{unsize}
+use Rattle.model.specs.Answers.{written_in}
+use Rattle.type_terms.specs.Terms.{Entry, trees_at}
+use Rattle.type_terms.specs.Made.{terms, is_made}
+use Rattle.type_terms.proofs.Made.{false-true, left, right}
+use Rattle.infer_table.specs.Canonical.{CanonicalForm}
+use Rattle.infer_table.specs.declared.canonical.CanonicalVarKind.{CanonicalVarKind}
+use Rattle.infer_table.specs.declared.input.CanonicalInput.{CanonicalInput}
+use Rattle.infer_table.specs.Goals.{environment_trees, predicate_trees}
+use Rattle.infer_table.specs.Inputs.{form_of}
+use Rattle.evaluation_laws.specs.Variables.{is_variable_over}
+use Rattle.declarations.specs.Items.{Items, reference_in, written}
+use Rattle.assembly_laws.specs.Asking.{Asked, asked, asked_if, asked_with, all_known, with_first, are_clauses, begins_with_type, begins_unknown, next_of, self_of}
+use Rattle.assembly_laws.specs.DeclaredWell.{is_declared_well}
+use Rattle.assembly_laws.specs.Meaning.{Meaning}
+use Rattle.candidate_assembly.specs.Goals.{asked_of}
+use Rattle.candidate_assembly.specs.Sections.{decided}
+use Rattle.candidate_assembly.specs.Solving.{meaning_for}
+use Rattle.candidate_assembly.specs.Fitting.{reference_fits, solving_of, GoalFits}
+use Rattle.candidate_assembly.proofs.Fitting.{goal-fits}
+
+all-known : (ks : List CanonicalVarKind) → all_known (map Some ks) ≡ Some ks
+all-known [] = refl
+all-known (k ∷ ks) = ap (with_first (Some k)) (all-known ks)
+
+module _ (es : List Entry) (d : Items) (g : CanonicalInput) where
+  abbrev V : World
+  V = written es d
+
+  abbrev f : CanonicalForm
+  f = form_of es g
+
+  abbrev a : Asked
+  a = asked_of es g
+
+  abbrev own : Reference
+  own = reference_in es g.goal.predicate.trait_ref
+
+  abbrev T : Trees
+  T = trees_at es g.goal.predicate.trait_ref.args.0
+
+  abbrev types : Bool
+  types = begins_with_type T && (not (own.trait == unsize) || begins_with_type (next_of T))
+
+  abbrev clauses : Bool
+  clauses = are_clauses g.variables.items (environment_trees es g.goal.param_env.items)
+
+  abbrev tests : Bool
+  tests = written_in V own && (is_made (is_variable_over g.variables.items) terms T && (types && clauses))
+
+  abbrev over : Bool
+  over = is_made (is_variable_over g.variables.items) terms T
+
+  pub not-over : written_in V own ≡ true → over ≡ false → false ≡ tests
+  not-over e h = sym (ap (λ z. z && (over && (types && clauses))) e ∙ ap (λ z. z && (types && clauses)) h)
+
+  pub all-over : written_in V own ≡ true → over ≡ true → types ≡ true → (r : Bool) → r ≡ clauses → r ≡ tests
+  all-over e h k r q = q ∙ sym (ap (λ z. z && (over && (types && clauses))) e ∙ ap (λ z. z && (types && clauses)) h ∙ ap (λ z. z && clauses) k)
+
+  asked-tests : asked V f ≡ asked_if tests a
+  asked-tests = ap (asked_with V (environment_trees es g.goal.param_env.items) (predicate_trees es g.goal.predicate)) (all-known g.variables.items)
+
+  asked-if : (b : Bool) → asked_if b a ≡ (if b then Some a else None)
+  asked-if true = refl
+  asked-if false = refl
+
+  -- what the four tests answer
+  pub asked-by : (r : Bool) → r ≡ tests → asked V f ≡ (if r then Some a else None)
+  asked-by r e = asked-tests ∙ asked-if tests ∙ ap (λ b. if b then Some a else None) (sym e)
+
+  pub tests-hold : asked V f ≡ Some a → tests ≡ true
+  tests-hold e = by tests (sym asked-tests ∙ e)
+    where
+      by : (b : Bool) → asked_if b a ≡ Some a → b ≡ true
+      by true e = refl
+      by false e = absurd cc
+
+  abbrev m : Meaning
+  m = meaning_for (solving_of es d) f
+
+  abbrev unknown : Bool
+  unknown = begins_unknown g.variables.items (self_of a)
+
+  -- the goal is asked, it fits, and its self type is no unknown
+  pub decided-by : is_declared_well V ≡ true → (b : Bool) → asked V f ≡ (if b then Some a else None) → decided m (asked V f) ≡ (if (b && (reference_fits d own && not unknown)) then Some a else None)
+  decided-by well b e = ap (decided m) e ∙ by b
+    where
+      cases : (w fits u : Bool) → w ≡ true → ◌≡◌ {A = Option Asked} (if not (w && fits) || u then None else Some a) (if fits && not u then Some a else None)
+      cases true true true e = refl
+      cases true true false e = refl
+      cases true false u e = refl
+      cases false fits u e = absurd (false-true e)
+
+      by : (b : Bool) → decided m (if b then Some a else None) ≡ (if (b && (reference_fits d own && not unknown)) then Some a else None)
+      by true = cases (is_declared_well V) (reference_fits d own) unknown well
+      by false = refl
+
+  pub decided-fits : asked V f ≡ Some a → reference_fits d own ≡ true → GoalFits es d g
+  decided-fits e fits =
+      let h = tests-hold e in
+      goal-fits es d g (left (written_in V own) _ h) (left types clauses (right (is_made (is_variable_over g.variables.items) terms T) _ (right (written_in V own) _ h))) fits

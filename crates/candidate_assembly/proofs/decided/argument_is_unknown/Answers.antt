@@ -1,0 +1,22 @@
+use Rattle.std.proofs.Common.{◌∙◌, true, false}
+use Rattle.type_terms.specs.declared.kinds.GenericArgKind.TheVariants.{Lifetime, Ty, Const}
+use Rattle.candidate_assembly.proofs.Firsts.{first-is, first-region, first-const, unknown_first, unknown-type, unknown-other}
+use Rattle.candidate_assembly.proofs.decided.argument_is_unknown.Goals as goal
+
+pub returns-in-Ty : goal.returns-in-Ty
+returns-in-Ty c = λ t h.
+    let es = c.args.cx.now.entries in
+    let ks = c.args.kinds.now in
+    c.is_unknown.ensures ∙ unknown-type ks es c.lawful.ensures t c.in-Ty.ty (first-is es t c.args.arg c.in-Some.arg (Ty c.in-Ty.ty) c.in-Some.is c.in-Ty.is h)
+
+pub returns-in-Lifetime : goal.returns-in-Lifetime
+returns-in-Lifetime c = λ t h.
+    let es = c.args.cx.now.entries in
+    let ks = c.args.kinds.now in
+    first-region (unknown_first ks) false (unknown-other ks) es c.lawful.ensures t c.in-Lifetime.field-0 (first-is es t c.args.arg c.in-Some.arg (Lifetime c.in-Lifetime.field-0) c.in-Some.is c.in-Lifetime.is h)
+
+pub returns-in-Const : goal.returns-in-Const
+returns-in-Const c = λ t h.
+    let es = c.args.cx.now.entries in
+    let ks = c.args.kinds.now in
+    first-const (unknown_first ks) false (unknown-other ks) es c.lawful.ensures t c.in-Const.field-0 (first-is es t c.args.arg c.in-Some.arg (Const c.in-Const.field-0) c.in-Some.is c.in-Const.is h)

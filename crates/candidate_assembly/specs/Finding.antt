@@ -1,0 +1,46 @@
+-- Visitors that look for names that are not declared, and for what is open and no variable of a goal.
+use Rattle.std.specs.Prelude.{Bool, false, ◌||◌, not, List}
+use Rattle.model.specs.Label.{Label, adt, dynamic, principal, auto_trait}
+use Rattle.model.specs.Trees.{Trees, none, tree}
+use Rattle.model.specs.Worlds.{World}
+use Rattle.model.specs.Walks.{struct_is}
+use Rattle.model.specs.Answers.{is_undeclared}
+use Rattle.term_folds.specs.Folds.{IsBound}
+use Rattle.term_folds.specs.declared.visit.Seen.TheVariants.{Enter}
+use Rattle.infer_table.specs.declared.canonical.CanonicalVarKind.{CanonicalVarKind}
+use Rattle.evaluation_laws.specs.Variables.{is_variable_over}
+use Rattle.candidate_assembly.specs.Clauses.{BreaksAt}
+
+-- The label of the first tree passes the test.
+abbrev pub at_root : (Label → Bool) → Trees → Bool
+at_root p none = false
+at_root p (tree l c o) = p l
+
+-- The label of one of the trees does, what is below them left aside.
+abbrev pub some_root : (Label → Bool) → Trees → Bool
+some_root p none = false
+some_root p (tree l c o) = p l || some_root p o
+
+-- Open, and no variable of these kinds.
+abbrev pub is_foreign : List CanonicalVarKind → Trees → Bool
+is_foreign kinds t = at_root (λ l. not (is_variable_over kinds l)) t
+
+-- The first type names a struct, or among its bounds a trait, that is not declared.
+abbrev pub names_undeclared : World → Trees → Bool
+names_undeclared V (tree (adt s) c o) = is_undeclared V (adt s)
+names_undeclared V (tree dynamic b o) = some_root (is_undeclared V) b
+names_undeclared V t = false
+
+-- The bounds of a `dyn` are no variables.
+pub bounds-are-own : (B : Type 0) (kinds : List CanonicalVarKind) (t : Trees) → IsBound t → BreaksAt {B = B} (is_foreign kinds t) Enter
+bounds-are-own B kinds (tree (principal m i) c o) h = tt
+bounds-are-own B kinds (tree (auto_trait i) c o) h = tt
+bounds-are-own B kinds none h = tt
+bounds-are-own B kinds (tree l c o) h = absurd h
+
+-- The bounds of a `dyn` are looked at where it stands.
+pub bounds-are-seen : (B : Type 0) (V : World) (t : Trees) → IsBound t → BreaksAt {B = B} (names_undeclared V t) Enter
+bounds-are-seen B V (tree (principal m i) c o) h = tt
+bounds-are-seen B V (tree (auto_trait i) c o) h = tt
+bounds-are-seen B V none h = tt
+bounds-are-seen B V (tree l c o) h = absurd h

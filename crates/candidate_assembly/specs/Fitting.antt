@@ -1,0 +1,108 @@
+-- Which goals fit declarations: the arguments of the goal's trait, and of the structs and `dyn` types that it asks of, are as many, and of
+-- the sorts, that are declared.
+use Rattle.std.specs.Prelude.{◌≡◌, ℕ, Bool, true, false, ◌&&◌, ◌||◌, ◌==◌, not, List, [], ◌∷◌, map, IfSome}
+use Rattle.std.specs.Option.{option_map_or}
+use Rattle.std.specs.List.{list_any}
+use Rattle.model.specs.Label.{Sort, of_type, of_trait, predicate, dynamic, principal, adt}
+use Rattle.model.specs.Trees.{Trees, none, tree, is_sort, outer_binder}
+use Rattle.model.specs.Worlds.{Reference}
+use Rattle.model.specs.Rules.{unsize, principal_with, autos_with}
+use Rattle.model.specs.Answers.{written_in}
+use Rattle.type_terms.specs.Terms.{Entry, trees_at}
+use Rattle.term_folds.specs.Signatures.{StartsWithType}
+use Rattle.infer_table.specs.Canonical.{CanonicalForm}
+use Rattle.infer_table.specs.declared.input.CanonicalInput.{CanonicalInput}
+use Rattle.declarations.specs.Items.{Items, reference_in, struct_at, trait_at, written}
+use Rattle.declarations.specs.Merges.{Each}
+use Rattle.declarations.specs.Applied.{sort_of_param, sorts_of, sorts_of_params, IsApplied}
+use Rattle.assembly_laws.specs.Asking.{self_of, next_of}
+use Rattle.candidate_assembly.specs.Goals.{asked_of}
+use Rattle.candidate_assembly.specs.Constituents.{AreArguments, StructIsApplied}
+use Rattle.candidate_assembly.specs.Sections.{sources_tell}
+use Rattle.candidate_assembly.specs.Solving.{Solving}
+
+-- Two lists of sorts are one.
+abbrev pub same_sorts : List Sort → List Sort → Bool
+same_sorts [] [] = true
+same_sorts (s ∷ ss) (t ∷ ts) = is_sort s t && same_sorts ss ts
+same_sorts _ _ = false
+
+-- The sorts are those of the trait's parameters, Self first, if it is declared.
+abbrev pub are_of_trait : Items → ℕ → List Sort → Bool
+are_of_trait d t sorts = option_map_or (λ def. same_sorts sorts (sorts_of_params def)) (trait_at t d.traits) true
+
+-- The sorts are those of the struct's parameters, if it is declared.
+abbrev pub are_of_struct : Items → ℕ → List Sort → Bool
+are_of_struct d s sorts = option_map_or (λ def. same_sorts sorts (map sort_of_param def.params.items)) (struct_at s d.structs) true
+
+-- No binder number leads out of the trees.
+abbrev pub is_shut : Trees → Bool
+is_shut t = outer_binder t == 0
+
+-- `Unsize` is among the auto traits of these bounds.
+abbrev pub names_unsize : Trees → Bool
+names_unsize bounds = list_any (λ (r : Reference). r.trait == unsize) (autos_with none bounds)
+
+-- The principal among the bounds of a `dyn`, if there is one, has an argument for each parameter of its trait but Self, and does not use
+-- the lifetimes that it binds. `dyn for<'a> Conv<&'a u8>` does.
+abbrev pub principal_fits : Items → Trees → Bool
+principal_fits d (tree (principal n t) args others) = are_of_trait d t (of_type ∷ sorts_of args) && is_shut args
+principal_fits d bounds = true
+
+-- If the first type is a struct, it has an argument for each parameter; if it is a `dyn`, its principal fits, and its auto traits are
+-- others than `Unsize`.
+abbrev pub type_fits : Items → Trees → Bool
+type_fits d (tree (adt s) args others) = are_of_struct d s (sorts_of args)
+type_fits d (tree dynamic bounds others) = principal_fits d bounds && not (names_unsize bounds)
+type_fits d t = true
+
+-- The reference has an argument for each parameter of its trait, no binder number leads out of it, and its self type fits; of `Unsize` the
+-- target fits too.
+abbrev pub reference_fits : Items → Reference → Bool
+reference_fits d r = are_of_trait d r.trait (sorts_of r.args) && (is_shut r.args && (type_fits d r.args && (not (r.trait == unsize) || type_fits d (next_of r.args))))
+
+abbrev pub predicate_fits : Items → Trees → Bool
+predicate_fits d (tree (predicate (of_trait t)) args others) = reference_fits d (record { trait = t; args = args })
+predicate_fits d t = false
+
+-- The goal fits the declarations.
+abbrev pub fits_declared : Items → CanonicalForm → Bool
+fits_declared d f = predicate_fits d f.goal.predicate
+
+-- What declarations mean for the solver.
+abbrev pub solving_of : List Entry → Items → Solving
+solving_of es d = record { view = written es d; crate = d.local; fits = fits_declared d }
+
+-- ---- what is known of a goal that fits
+-- The reference has an argument of its sort for each parameter of its trait, if that is declared, and no binder number leads out of it.
+pub record FitsTrait (d : Items) (r : Reference) : Type 0 where
+  pub sorts : IfSome (trait_at r.trait d.traits) (λ def. sorts_of r.args ≡ sorts_of_params def)
+  pub closed : outer_binder r.args ≡ 0
+
+-- If the first type is a `dyn`, its principal has an argument for each parameter of its trait, the `dyn` itself for Self.
+abbrev pub ObjectFits : Items → Trees → Type 0
+ObjectFits d (tree dynamic bounds others) = Each (FitsTrait d) (principal_with (tree dynamic bounds none) bounds)
+ObjectFits d t = Unit {0}
+
+-- If the second type is a `dyn`, its principal has an argument for each parameter of its trait, the first type for Self; if it is a struct,
+-- it has an argument for each of its parameters.
+abbrev pub TargetFits : Items → Trees → Type 0
+TargetFits d (tree l c (tree dynamic bounds others)) = Each (FitsTrait d) (principal_with (tree l c none) bounds)
+TargetFits d (tree l c (tree (adt s) args others)) = AreArguments d s args
+TargetFits d t = Unit {0}
+
+-- The type after the first can be unsized to.
+pub record FitsUnsize (d : Items) (args : Trees) : Type 0 where
+  pub target : StartsWithType (next_of args)
+  pub applied : TargetFits d args
+
+-- All that the candidates ask of a goal: its names are declared, it has its trait's arguments, its first argument is a type, and what
+-- stands outermost there has its arguments; of `Unsize` so has the target. Sources tell the sections of its candidates apart.
+pub record GoalFits (es : List Entry) (d : Items) (g : CanonicalInput) : Type 0 where
+  pub written : written_in (written es d) (reference_in es g.goal.predicate.trait_ref) ≡ true
+  pub applied : IsApplied es d g.goal.predicate.trait_ref
+  pub first : StartsWithType (trees_at es g.goal.predicate.trait_ref.args.0)
+  pub struct : StructIsApplied d (trees_at es g.goal.predicate.trait_ref.args.0)
+  pub object : ObjectFits d (trees_at es g.goal.predicate.trait_ref.args.0)
+  pub unsizing : (g.goal.predicate.trait_ref.def_id.index == unsize) ≡ true → FitsUnsize d (self_of (asked_of es g))
+  pub tells : sources_tell (asked_of es g) ≡ true

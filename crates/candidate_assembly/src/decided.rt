@@ -1,0 +1,425 @@
+//! Which goals are decided: those that the declarations' names and parameters fit, and whose self type is known.
+ghost use Rattle.std.specs.Prelude.{◌≡◌, ◌&&◌, ◌||◌, ◌==◌, not, ◌∷◌, true, IsTrue, IfSome, map, Some, None, if◌then◌else◌};
+ghost use Rattle.std.specs.List.{list_any};
+ghost use Rattle.model.specs.Label.{of_type};
+ghost use Rattle.model.specs.Trees.{Trees, ◌+++◌, is_sort};
+ghost use Rattle.model.specs.Rules.{unsize};
+ghost use Rattle.model.specs.Answers.{written_in};
+ghost use Rattle.type_terms.specs.Terms.{Has, types, args_lists, bounds_lists, trees_at};
+ghost use Rattle.type_terms.specs.Kinds.{ArgHeld, region_trees};
+ghost use Rattle.type_terms.specs.Made.{terms, is_made};
+ghost use Rattle.type_terms.specs.declared.region.Region.{Region};
+ghost use Rattle.term_folds.specs.Clauses.{ClauseHeld};
+ghost use Rattle.infer_table.specs.Goals.{GoalHeld, ClausesHeld, clause_terms, environment_trees};
+ghost use Rattle.infer_table.specs.Inputs.{form_of};
+ghost use Rattle.infer_table.specs.Values.{sort_of_arg};
+ghost use Rattle.evaluation_laws.specs.Variables.{is_variable_over};
+ghost use Rattle.declarations.specs.Items.{reference_in, written};
+ghost use Rattle.declarations.specs.Applied.{sort_of_param, sorts_of};
+ghost use Rattle.declarations.specs.Held.{ReferenceHeld};
+ghost use Rattle.assembly_laws.specs.Asking.{asked, are_clauses, begins_with_type, begins_unknown, next_of, with_plain_head};
+ghost use Rattle.assembly_laws.specs.DeclaredWell.{is_declared_well};
+ghost use Rattle.candidate_assembly.specs.Goals.{asked_of};
+ghost use Rattle.candidate_assembly.specs.FnPointers.{IsFirst};
+ghost use Rattle.candidate_assembly.specs.Sections.{decided};
+ghost use Rattle.candidate_assembly.specs.Solving.{meaning_for};
+ghost use Rattle.candidate_assembly.specs.Fitting.{same_sorts, are_of_trait, are_of_struct, is_shut, names_unsize, principal_fits, type_fits, reference_fits, solving_of, GoalFits};
+
+use crate::calls::second_argument;
+use crate::visitors::{
+    args_are_declared, args_are_over, kind_of, region_is_over, trait_is_declared, ty_is_over,
+};
+use declarations::declarations::Declarations;
+use declarations::items::GenericParamKind;
+use infer_table::canonical::CanonicalVarKind;
+use infer_table::input::CanonicalInput;
+use term_folds::predicate::{Clause, TraitRef};
+use type_terms::interner::Interner;
+use type_terms::kinds::{Bounds, GenericArgKind, GenericArgs, Principal, Ty, TyKind};
+use type_terms::number::BoundVarIndexKind;
+use type_terms::{AdtId, TraitId};
+
+/// The trait `Unsize` of `core`.
+const UNSIZE: u32 = 8;
+
+/// Whether the argument is of the parameter's kind.
+fn is_for(arg: GenericArgKind, param: GenericParamKind) -> bool
+    ensures { result ≡ is_sort (sort_of_arg arg) (sort_of_param param) }
+{
+    match (arg, param) {
+        (GenericArgKind::Lifetime(_), GenericParamKind::Lifetime) => true,
+        (GenericArgKind::Lifetime(_), _) => false,
+        (GenericArgKind::Ty(_), GenericParamKind::Type) => true,
+        (GenericArgKind::Ty(_), _) => false,
+        (GenericArgKind::Const(_), GenericParamKind::Const) => true,
+        (GenericArgKind::Const(_), _) => false,
+    }
+}
+
+/// Whether there is an argument of its kind for each parameter, and no other.
+fn are_for(args: &[GenericArgKind], params: &[GenericParamKind]) -> bool
+    ensures { result ≡ same_sorts (map sort_of_arg args.now) (map sort_of_param params.now) }
+{
+    let mut xs = args;
+    let mut ps = params;
+    'params: loop {
+        match (xs.split_first(), ps.split_first()) {
+            (Some((x, xs_left)), Some((p, ps_left))) => {
+                if !is_for(*x, *p) {
+                    return false;
+                }
+                xs = xs_left;
+                ps = ps_left;
+            }
+            (None, None) => return true,
+            (Some(_), None) => return false,
+            (None, Some(_)) => return false,
+        }
+    }
+}
+
+/// Whether the arguments are for the trait's parameters, Self first, if it is declared.
+fn args_are_for_trait(
+    cx: &Interner,
+    declarations: &Declarations,
+    id: TraitId,
+    args: GenericArgs,
+) -> bool
+    requires { Has cx.now.entries args_lists args.0 }
+    ensures { result ≡ are_of_trait declarations.now id.index (sorts_of (trees_at cx.now.entries args.0)) }
+{
+    cx.lawful();
+    match declarations.trait_def(id) {
+        Some(def) => are_for(cx.args(args), &def.params),
+        None => true,
+    }
+}
+
+/// Whether the arguments are for the struct's parameters, if it is declared.
+fn args_are_for_struct(
+    cx: &Interner,
+    declarations: &Declarations,
+    id: AdtId,
+    args: GenericArgs,
+) -> bool
+    requires { Has cx.now.entries args_lists args.0 }
+    ensures { result ≡ are_of_struct declarations.now id.index (sorts_of (trees_at cx.now.entries args.0)) }
+{
+    cx.lawful();
+    match declarations.adt_def(id) {
+        Some(def) => are_for(cx.args(args), &def.params),
+        None => true,
+    }
+}
+
+/// Whether the arguments, behind one for Self, are for the trait's parameters, if it is declared.
+fn args_are_for_principal(
+    cx: &Interner,
+    declarations: &Declarations,
+    id: TraitId,
+    args: GenericArgs,
+) -> bool
+    requires { Has cx.now.entries args_lists args.0 }
+    ensures { result ≡ are_of_trait declarations.now id.index (of_type ∷ sorts_of (trees_at cx.now.entries args.0)) }
+{
+    cx.lawful();
+    match declarations.trait_def(id) {
+        Some(def) => match def.params.split_first() {
+            Some((GenericParamKind::Type, others)) => are_for(cx.args(args), others),
+            Some((GenericParamKind::Lifetime, _)) => false,
+            Some((GenericParamKind::Const, _)) => false,
+            None => false,
+        },
+        None => true,
+    }
+}
+
+/// Whether `Unsize` is one of these traits.
+fn names_unsize(ids: &[TraitId]) -> bool
+    ensures { result ≡ list_any (λ (id : TraitId). id.index == unsize) ids.now }
+{
+    ids.iter().any(|id| id.index == UNSIZE)
+}
+
+/// Whether the principal of a `dyn` has an argument for each parameter of its trait but Self, and does not use the lifetimes that it binds.
+fn principal_fits(cx: &Interner, declarations: &Declarations, principal: Principal) -> bool
+    requires { Has cx.now.entries args_lists principal.args.0 }
+    ensures { let args = trees_at cx.now.entries principal.args.0 in result ≡ (are_of_trait declarations.now principal.def_id.index (of_type ∷ sorts_of args) && is_shut args) }
+{
+    args_are_for_principal(cx, declarations, principal.def_id, principal.args)
+        && cx.outer_exclusive_binder(principal.args).index == 0
+}
+
+/// Whether the bounds of a `dyn` fit: its principal has its arguments, and `Unsize` is no auto trait of it.
+fn bounds_fit(cx: &Interner, declarations: &Declarations, bounds: Bounds) -> bool
+    requires { Has cx.now.entries bounds_lists bounds.0 }
+    ensures { (r : Region) → let bs = trees_at cx.now.entries bounds.0 +++ region_trees r in result ≡ (principal_fits declarations.now bs && not (names_unsize bs)) }
+{
+    let bounds = cx.bounds(bounds);
+    match bounds.principal {
+        Some(principal) => {
+            principal_fits(cx, declarations, principal) && !names_unsize(&bounds.autos)
+        }
+        None => !names_unsize(&bounds.autos),
+    }
+}
+
+/// Whether the type fits: a struct, or the principal of a `dyn`, has its arguments.
+fn type_fits(cx: &Interner, declarations: &Declarations, ty: Ty) -> bool
+    requires { Has cx.now.entries types ty.0 }
+    ensures { result ≡ type_fits declarations.now (trees_at cx.now.entries ty.0) }
+{
+    cx.lawful();
+    match cx.kind(ty) {
+        TyKind::Adt(id, args) => args_are_for_struct(cx, declarations, id, args),
+        TyKind::Dynamic(bounds, _) => bounds_fit(cx, declarations, bounds),
+        TyKind::Bool
+        | TyKind::Char
+        | TyKind::Int(_)
+        | TyKind::Uint(_)
+        | TyKind::Str
+        | TyKind::Never
+        | TyKind::Ref(_, _, _)
+        | TyKind::RawPtr(_, _)
+        | TyKind::Array(_, _)
+        | TyKind::Slice(_)
+        | TyKind::Tuple(_)
+        | TyKind::FnPtr(_, _)
+        | TyKind::Param(_)
+        | TyKind::Placeholder(_)
+        | TyKind::Bound(_, _)
+        | TyKind::Infer(_) => true,
+    }
+}
+
+/// Whether the argument, if there is one, fits.
+fn argument_fits(cx: &Interner, declarations: &Declarations, arg: Option<GenericArgKind>) -> bool
+    requires { IfSome arg (ArgHeld cx.now.entries) }
+    ensures { (t : Trees) → IsFirst cx.now.entries t arg → result ≡ type_fits declarations.now t }
+{
+    cx.lawful();
+    match arg {
+        Some(arg) => match arg {
+            GenericArgKind::Ty(ty) => type_fits(cx, declarations, ty),
+            GenericArgKind::Lifetime(_) => true,
+            GenericArgKind::Const(_) => true,
+        },
+        None => true,
+    }
+}
+
+/// Whether the type is a variable of a canonical form, or its outermost constructor is known.
+fn is_variable_or_rigid(cx: &Interner, ty: Ty) -> bool
+    requires { Has cx.now.entries types ty.0 }
+    ensures { result ≡ begins_with_type (trees_at cx.now.entries ty.0) }
+{
+    cx.lawful();
+    match cx.kind(ty) {
+        TyKind::Param(_)
+        | TyKind::Placeholder(_)
+        | TyKind::Bound(BoundVarIndexKind::Bound(_), _)
+        | TyKind::Infer(_) => false,
+        TyKind::Bound(BoundVarIndexKind::Canonical, _)
+        | TyKind::Bool
+        | TyKind::Char
+        | TyKind::Int(_)
+        | TyKind::Uint(_)
+        | TyKind::Str
+        | TyKind::Never
+        | TyKind::Adt(_, _)
+        | TyKind::Ref(_, _, _)
+        | TyKind::RawPtr(_, _)
+        | TyKind::Array(_, _)
+        | TyKind::Slice(_)
+        | TyKind::Tuple(_)
+        | TyKind::FnPtr(_, _)
+        | TyKind::Dynamic(_, _) => true,
+    }
+}
+
+/// Whether the argument is such a type.
+fn argument_is_type(cx: &Interner, arg: Option<GenericArgKind>) -> bool
+    requires { IfSome arg (ArgHeld cx.now.entries) }
+    ensures { (t : Trees) → IsFirst cx.now.entries t arg → result ≡ begins_with_type t }
+{
+    cx.lawful();
+    match arg {
+        Some(arg) => match arg {
+            GenericArgKind::Ty(ty) => is_variable_or_rigid(cx, ty),
+            GenericArgKind::Lifetime(_) => false,
+            GenericArgKind::Const(_) => false,
+        },
+        None => false,
+    }
+}
+
+/// Whether the type is an unknown of these kinds.
+fn is_unknown(cx: &Interner, kinds: &[CanonicalVarKind], ty: Ty) -> bool
+    requires { Has cx.now.entries types ty.0 }
+    ensures { result ≡ begins_unknown kinds.now (trees_at cx.now.entries ty.0) }
+{
+    cx.lawful();
+    match cx.kind(ty) {
+        TyKind::Bound(BoundVarIndexKind::Canonical, variable) => {
+            matches!(kind_of(kinds, variable), Some(CanonicalVarKind::Ty))
+        }
+        TyKind::Bound(BoundVarIndexKind::Bound(_), _)
+        | TyKind::Bool
+        | TyKind::Char
+        | TyKind::Int(_)
+        | TyKind::Uint(_)
+        | TyKind::Str
+        | TyKind::Never
+        | TyKind::Adt(_, _)
+        | TyKind::Ref(_, _, _)
+        | TyKind::RawPtr(_, _)
+        | TyKind::Array(_, _)
+        | TyKind::Slice(_)
+        | TyKind::Tuple(_)
+        | TyKind::FnPtr(_, _)
+        | TyKind::Dynamic(_, _)
+        | TyKind::Param(_)
+        | TyKind::Placeholder(_)
+        | TyKind::Infer(_) => false,
+    }
+}
+
+/// Whether the argument is an unknown type of these kinds.
+fn argument_is_unknown(
+    cx: &Interner,
+    kinds: &[CanonicalVarKind],
+    arg: Option<GenericArgKind>,
+) -> bool
+    requires { IfSome arg (ArgHeld cx.now.entries) }
+    ensures { (t : Trees) → IsFirst cx.now.entries t arg → result ≡ begins_unknown kinds.now (with_plain_head t) }
+{
+    cx.lawful();
+    match arg {
+        Some(arg) => match arg {
+            GenericArgKind::Ty(ty) => is_unknown(cx, kinds, ty),
+            GenericArgKind::Lifetime(_) => false,
+            GenericArgKind::Const(_) => false,
+        },
+        None => false,
+    }
+}
+
+/// The first argument, if there is one.
+fn first_argument(cx: &Interner, args: GenericArgs) -> Option<GenericArgKind>
+    requires { Has cx.now.entries args_lists args.0 }
+    ensures { IsFirst cx.now.entries (trees_at cx.now.entries args.0) result }
+{
+    cx.lawful();
+    cx.args(args).first().copied()
+}
+
+/// Whether the reference fits the declarations: its arguments are for its trait's parameters, and its self type, and of `Unsize` the
+/// target, have theirs.
+fn reference_fits(cx: &Interner, declarations: &Declarations, trait_ref: TraitRef) -> bool
+    requires { ReferenceHeld cx.now.entries trait_ref }
+    ensures { result ≡ reference_fits declarations.now (reference_in cx.now.entries trait_ref) }
+{
+    let args = trait_ref.args;
+    args_are_for_trait(cx, declarations, trait_ref.def_id, args)
+        && cx.outer_exclusive_binder(args).index == 0
+        && argument_fits(cx, declarations, first_argument(cx, args))
+        && (trait_ref.def_id.index != UNSIZE
+            || argument_fits(cx, declarations, second_argument(cx, args)))
+}
+
+/// Whether the first argument, and of `Unsize` the second, is a type that is a variable or whose outermost constructor is known.
+fn begins_with_types(cx: &Interner, trait_ref: TraitRef) -> bool
+    requires { ReferenceHeld cx.now.entries trait_ref }
+    ensures { let args = trees_at cx.now.entries trait_ref.args.0 in
+        result ≡ (begins_with_type args && (not (trait_ref.def_id.index == unsize) || begins_with_type (next_of args))) }
+{
+    let args = trait_ref.args;
+    argument_is_type(cx, first_argument(cx, args))
+        && (trait_ref.def_id.index != UNSIZE || argument_is_type(cx, second_argument(cx, args)))
+}
+
+/// Whether all names in the reference are declared.
+fn reference_is_declared(
+    cx: &Interner,
+    declarations: &Declarations,
+    trait_ref: TraitRef,
+) -> bool
+    requires { ReferenceHeld cx.now.entries trait_ref }
+    ensures { result ≡ written_in (written cx.now.entries declarations.now) (reference_in cx.now.entries trait_ref) }
+{
+    trait_is_declared(declarations, trait_ref.def_id)
+        && args_are_declared(cx, declarations, trait_ref.args)
+}
+
+/// Whether the where-clause speaks of variables of these kinds alone.
+fn clause_is_over(cx: &Interner, kinds: &[CanonicalVarKind], clause: Clause) -> bool
+    requires { ClauseHeld cx.now.entries clause }
+    ensures { result ≡ is_made (is_variable_over kinds.now) terms (clause_terms cx.now.entries clause) }
+{
+    cx.lawful();
+    match clause {
+        Clause::Trait(predicate) => args_are_over(cx, kinds, predicate.trait_ref.args),
+        Clause::RegionOutlives(longer, shorter) => {
+            region_is_over(kinds, longer) && region_is_over(kinds, shorter)
+        }
+        Clause::TypeOutlives(ty, region) => {
+            ty_is_over(cx, kinds, ty) && region_is_over(kinds, region)
+        }
+    }
+}
+
+/// Whether the where-clauses do.
+fn clauses_are_over(cx: &Interner, kinds: &[CanonicalVarKind], clauses: &[Clause]) -> bool
+    requires { ClausesHeld cx.now.entries clauses.now }
+    ensures { result ≡ are_clauses kinds.now (environment_trees cx.now.entries clauses.now) }
+{
+    let mut left = clauses;
+    'clauses: while let Some((clause, others)) = left.split_first() {
+        if !clause_is_over(cx, kinds, *clause) {
+            return false;
+        }
+        left = others;
+    }
+    true
+}
+
+/// Whether the goal is one that the solver asks: its names are declared, its terms speak of its variables alone, and it begins with
+/// types.
+fn is_asked(cx: &Interner, declarations: &Declarations, goal: &CanonicalInput) -> bool
+    requires { GoalHeld cx.now.entries goal.now.goal }
+    ensures { let es = cx.now.entries in asked (written es declarations.now) (form_of es goal.now) ≡ (if result then Some (asked_of es goal.now) else None) }
+{
+    let trait_ref = goal.goal.predicate.trait_ref;
+    if !reference_is_declared(cx, declarations, trait_ref) {
+        return false;
+    }
+    if !args_are_over(cx, &goal.variables, trait_ref.args) {
+        return false;
+    }
+    if !begins_with_types(cx, trait_ref) {
+        return false;
+    }
+    clauses_are_over(cx, &goal.variables, &goal.goal.param_env)
+}
+
+/// Whether the goal is decided by its candidates: the declarations have its names, its terms speak of its own variables, its trait, its
+/// self type and the target of `Unsize` have their arguments, and its self type is no unknown. Of any other goal nothing is known.
+///
+/// The declarations are declared well. What the candidates ask of a goal then holds.
+pub fn is_decided(cx: &Interner, declarations: &Declarations, goal: &CanonicalInput) -> bool
+    requires goal { GoalHeld cx.now.entries goal.now.goal }
+    requires well { is_declared_well (written cx.now.entries declarations.now) ≡ true }
+    ensures is { let es = cx.now.entries in let f = form_of es goal.now in
+        decided (meaning_for (solving_of es declarations.now) f) (asked (written es declarations.now) f) ≡ (if result then Some (asked_of es goal.now) else None) }
+    ensures fits { IsTrue result → GoalFits cx.now.entries declarations.now goal.now }
+{
+    let trait_ref = goal.goal.predicate.trait_ref;
+    if !is_asked(cx, declarations, goal) {
+        return false;
+    }
+    if !reference_fits(cx, declarations, trait_ref) {
+        return false;
+    }
+    let first = first_argument(cx, trait_ref.args);
+    !argument_is_unknown(cx, &goal.variables, first)
+}

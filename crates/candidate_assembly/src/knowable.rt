@@ -1,0 +1,54 @@
+//! Which goals are known to the crate that asks.
+ghost use Rattle.std.specs.Prelude.{◌≡◌, true, IfOk, IfErr};
+ghost use Rattle.model.specs.Answers.{written_in};
+ghost use Rattle.type_terms.specs.declared.Fault.TheVariants.{Memory};
+ghost use Rattle.declarations.specs.Items.{reference_in, written};
+ghost use Rattle.declarations.specs.Held.{ReferenceHeld};
+ghost use Rattle.assembly_laws.specs.Knowing.{is_knowable};
+
+use declarations::declarations::Declarations;
+use infer_table::infer_ctxt::InferCtxt;
+use orphan_check::errors::WalkError;
+use orphan_check::knowable::trait_ref_is_knowable;
+use orphan_check::normalize::AlreadyNormal;
+use std::alloc::Global;
+use term_folds::predicate::TraitRef;
+use type_terms::Fault;
+use type_terms::interner::Interner;
+
+/// Whether all impls that could apply to the reference are known to the crate that asks, whatever its variables stand for: no other crate
+/// may write one (`trait_ref_is_knowable`). The names in the reference are declared. The error is `Memory`.
+pub fn is_knowable(
+    alloc: Global,
+    cx: &Interner,
+    declarations: &Declarations,
+    trait_ref: TraitRef,
+) -> Result<bool, Fault>
+    requires held { ReferenceHeld cx.now.entries trait_ref }
+    requires declared { written_in (written cx.now.entries declarations.now) (reference_in cx.now.entries trait_ref) ≡ true }
+    ensures is { IfOk result (λ b. b ≡ is_knowable (written cx.now.entries declarations.now) declarations.now.local (reference_in cx.now.entries trait_ref)) }
+    ensures memory { IfErr result (λ fault. fault ≡ Memory) }
+{
+    // No canonical variable has a value, nothing has to be normalized, and no walk goes deeper than the arguments are.
+    let infcx = InferCtxt::new(alloc);
+    let limit = cx.depth(trait_ref.args);
+    match trait_ref_is_knowable(
+        alloc,
+        cx,
+        &infcx,
+        declarations,
+        trait_ref,
+        limit,
+        &AlreadyNormal,
+    ) {
+        Ok(answer) => match answer {
+            Ok(()) => Ok(true),
+            Err(_) => Ok(false),
+        },
+        Err(error) => match error {
+            WalkError::Memory => Err(Fault::Memory),
+            WalkError::Deep => unreachable!(),
+            WalkError::Normalize(_) => unreachable!(),
+        },
+    }
+}

@@ -1,0 +1,301 @@
+//! What stands in the terms of a goal: variables that are not the goal's, and names that are not declared.
+ghost use Rattle.std.specs.Prelude.{◌≡◌, true, not, List};
+ghost use Rattle.model.specs.Label.{of_type, of_const, of_lifetime};
+ghost use Rattle.model.specs.Trees.{some_node};
+ghost use Rattle.model.specs.Walks.{struct_is, trait_is};
+ghost use Rattle.model.specs.Answers.{is_undeclared};
+ghost use Rattle.type_terms.specs.Terms.{Entry, Has, types, args_lists, bounds_lists, trees_at};
+ghost use Rattle.type_terms.specs.Kinds.{autos_trees, region_label};
+ghost use Rattle.type_terms.specs.Made.{terms, is_made};
+ghost use Rattle.table_laws.specs.Answers.{is_kind_of};
+ghost use Rattle.table_laws.specs.Frames.{kind_at};
+ghost use Rattle.evaluation_laws.specs.Variables.{is_variable_over};
+ghost use Rattle.declarations.specs.Items.{written};
+ghost use Rattle.candidate_assembly.specs.Clauses.{BreaksAt};
+ghost use Rattle.candidate_assembly.specs.Finding.{some_root};
+
+use declarations::declarations::Declarations;
+use infer_table::canonical::CanonicalVarKind;
+use std::ops::ControlFlow;
+use term_folds::binders::Binders;
+use term_folds::visit::{Seen, TypeVisitor, visit_args, visit_ty};
+use type_terms::interner::Interner;
+use type_terms::kinds::{Bounds, Const, ConstKind, GenericArgs, Ty, TyKind};
+use type_terms::number::{BoundVar, BoundVarIndexKind};
+use type_terms::region::{Region, RegionKind};
+use type_terms::{AdtId, TraitId};
+
+/// A break, if this is so.
+fn break_if(found: bool) -> Seen<()>
+    ensures { BreaksAt found result }
+{
+    if found { Seen::Break(()) } else { Seen::Enter }
+}
+
+/// The kind of a canonical variable, if it is one of these.
+pub(crate) fn kind_of(kinds: &[CanonicalVarKind], variable: BoundVar) -> Option<CanonicalVarKind>
+    ensures { result ≡ kind_at kinds.now variable.index }
+{
+    kinds.get(variable.index as usize).copied()
+}
+
+/// It is one of these variables, and a type.
+fn is_type(kinds: &[CanonicalVarKind], variable: BoundVar) -> bool
+    ensures { result ≡ is_kind_of of_type (kind_at kinds.now variable.index) }
+{
+    match kind_of(kinds, variable) {
+        Some(CanonicalVarKind::Ty) => true,
+        Some(CanonicalVarKind::PlaceholderTy) => true,
+        Some(CanonicalVarKind::Const) => false,
+        Some(CanonicalVarKind::PlaceholderConst) => false,
+        Some(CanonicalVarKind::Region) => false,
+        None => false,
+    }
+}
+
+/// It is one of these variables, and a constant.
+fn is_const(kinds: &[CanonicalVarKind], variable: BoundVar) -> bool
+    ensures { result ≡ is_kind_of of_const (kind_at kinds.now variable.index) }
+{
+    match kind_of(kinds, variable) {
+        Some(CanonicalVarKind::Const) => true,
+        Some(CanonicalVarKind::PlaceholderConst) => true,
+        Some(CanonicalVarKind::Ty) => false,
+        Some(CanonicalVarKind::PlaceholderTy) => false,
+        Some(CanonicalVarKind::Region) => false,
+        None => false,
+    }
+}
+
+/// It is one of these variables, and a lifetime.
+fn is_region(kinds: &[CanonicalVarKind], variable: BoundVar) -> bool
+    ensures { result ≡ is_kind_of of_lifetime (kind_at kinds.now variable.index) }
+{
+    match kind_of(kinds, variable) {
+        Some(CanonicalVarKind::Region) => true,
+        Some(CanonicalVarKind::Ty) => false,
+        Some(CanonicalVarKind::PlaceholderTy) => false,
+        Some(CanonicalVarKind::Const) => false,
+        Some(CanonicalVarKind::PlaceholderConst) => false,
+        None => false,
+    }
+}
+
+/// Breaks at what is open and is no canonical variable of these kinds.
+#[derive(Clone, Copy)]
+struct FindsForeign<'a> {
+    kinds: &'a [CanonicalVarKind],
+}
+
+impl TypeVisitor for FindsForeign<'_> {
+    type Break = ();
+
+    ghost use Rattle.std.proofs.Common.{refl};
+    ghost use Rattle.candidate_assembly.specs.Clauses.{BreaksAt};
+    ghost use Rattle.candidate_assembly.specs.Finding.{is_foreign, bounds-are-own};
+
+    ghost ready = { λ _ _. Unit {0} };
+
+    ghost sees = { λ es bs t v w a. (w ≡ v) × BreaksAt (is_foreign v.kinds.now t) a };
+
+    ghost enters_bounds = { λ v es bs t h. (refl, bounds-are-own _ v.kinds.now t h) };
+
+    fn visit_ty(&mut self, cx: &Interner, ty: Ty, _binders: &Binders) -> Seen<()> {
+        match cx.kind(ty) {
+            TyKind::Param(_) | TyKind::Placeholder(_) | TyKind::Infer(_) => Seen::Break(()),
+            TyKind::Bound(BoundVarIndexKind::Canonical, variable) => {
+                break_if(!is_type(self.kinds, variable))
+            }
+            TyKind::Bound(BoundVarIndexKind::Bound(_), _)
+            | TyKind::Bool
+            | TyKind::Char
+            | TyKind::Int(_)
+            | TyKind::Uint(_)
+            | TyKind::Str
+            | TyKind::Never
+            | TyKind::Adt(_, _)
+            | TyKind::Ref(_, _, _)
+            | TyKind::RawPtr(_, _)
+            | TyKind::Array(_, _)
+            | TyKind::Slice(_)
+            | TyKind::Tuple(_)
+            | TyKind::FnPtr(_, _)
+            | TyKind::Dynamic(_, _) => Seen::Enter,
+        }
+    }
+
+    fn visit_const(&mut self, cx: &Interner, ct: Const, _binders: &Binders) -> Seen<()> {
+        match cx.const_kind(ct) {
+            ConstKind::Param(_) | ConstKind::Placeholder(_) | ConstKind::Infer(_) => {
+                Seen::Break(())
+            }
+            ConstKind::Bound(BoundVarIndexKind::Canonical, variable) => {
+                break_if(!is_const(self.kinds, variable))
+            }
+            ConstKind::Bound(BoundVarIndexKind::Bound(_), _) | ConstKind::Value(_) => Seen::Enter,
+        }
+    }
+
+    fn visit_region(&mut self, _cx: &Interner, region: Region, _binders: &Binders) -> Seen<()> {
+        break_if(!region_is_over(self.kinds, region))
+    }
+}
+
+/// Whether the lifetime is `'static`, bound by a binder, or a variable of these kinds.
+pub(crate) fn region_is_over(kinds: &[CanonicalVarKind], region: Region) -> bool
+    ensures { result ≡ is_variable_over kinds.now (region_label region.kind) }
+{
+    match region.kind {
+        RegionKind::ReStatic => true,
+        RegionKind::ReBound(BoundVarIndexKind::Bound(_), _) => true,
+        RegionKind::ReBound(BoundVarIndexKind::Canonical, variable) => is_region(kinds, variable),
+        RegionKind::ReEarlyParam(_) => false,
+        RegionKind::RePlaceholder(_) => false,
+        RegionKind::ReVar(_) => false,
+    }
+}
+
+/// Whether the arguments speak of variables of these kinds alone.
+pub(crate) fn args_are_over(cx: &Interner, kinds: &[CanonicalVarKind], args: GenericArgs) -> bool
+    requires { Has cx.now.entries args_lists args.0 }
+    ensures { result ≡ is_made (is_variable_over kinds.now) terms (trees_at cx.now.entries args.0) }
+{
+    cx.lawful();
+    match visit_args(cx, &mut FindsForeign { kinds }, args, &Binders::Outermost) {
+        ControlFlow::Break(()) => false,
+        ControlFlow::Continue(()) => true,
+    }
+}
+
+/// Whether the type speaks of variables of these kinds alone.
+pub(crate) fn ty_is_over(cx: &Interner, kinds: &[CanonicalVarKind], ty: Ty) -> bool
+    requires { Has cx.now.entries types ty.0 }
+    ensures { result ≡ is_made (is_variable_over kinds.now) terms (trees_at cx.now.entries ty.0) }
+{
+    cx.lawful();
+    match visit_ty(cx, &mut FindsForeign { kinds }, ty, &Binders::Outermost) {
+        ControlFlow::Break(()) => false,
+        ControlFlow::Continue(()) => true,
+    }
+}
+
+/// Whether the struct is declared.
+fn struct_is_declared(declarations: &Declarations, id: AdtId) -> bool
+    ensures { (es : List Entry) → result ≡ struct_is (λ _. true) (written es declarations.now) id.index }
+{
+    match declarations.adt_def(id) {
+        Some(_) => true,
+        None => false,
+    }
+}
+
+/// Whether the trait is declared.
+pub(crate) fn trait_is_declared(declarations: &Declarations, id: TraitId) -> bool
+    ensures { (es : List Entry) → result ≡ trait_is (λ _. true) (written es declarations.now) id.index }
+{
+    match declarations.trait_def(id) {
+        Some(_) => true,
+        None => false,
+    }
+}
+
+/// Whether all of these traits are declared.
+fn traits_are_declared(declarations: &Declarations, ids: &[TraitId]) -> bool
+    ensures { (es : List Entry) → result ≡ not (some_root (is_undeclared (written es declarations.now)) (autos_trees ids.now)) }
+{
+    let mut left = ids;
+    'ids: while let Some((id, others)) = left.split_first() {
+        if !trait_is_declared(declarations, *id) {
+            return false;
+        }
+        left = others;
+    }
+    true
+}
+
+/// Whether the principal among the bounds of a `dyn`, if there is one, and its auto traits are declared.
+fn bounds_are_declared(cx: &Interner, declarations: &Declarations, bounds: Bounds) -> bool
+    requires { Has cx.now.entries bounds_lists bounds.0 }
+    ensures { result ≡ not (some_root (is_undeclared (written cx.now.entries declarations.now)) (trees_at cx.now.entries bounds.0)) }
+{
+    let bounds = cx.bounds(bounds);
+    match bounds.principal {
+        Some(principal) => {
+            trait_is_declared(declarations, principal.def_id)
+                && traits_are_declared(declarations, &bounds.autos)
+        }
+        None => traits_are_declared(declarations, &bounds.autos),
+    }
+}
+
+/// Breaks at a struct that is not declared, and at a `dyn` with a trait that is not.
+#[derive(Clone, Copy)]
+struct FindsUndeclared<'a> {
+    declarations: &'a Declarations,
+}
+
+impl TypeVisitor for FindsUndeclared<'_> {
+    type Break = ();
+
+    ghost use Rattle.std.proofs.Common.{refl};
+    ghost use Rattle.declarations.specs.Items.{written};
+    ghost use Rattle.candidate_assembly.specs.Clauses.{BreaksAt};
+    ghost use Rattle.candidate_assembly.specs.Finding.{names_undeclared, bounds-are-seen};
+
+    ghost ready = { λ _ _. Unit {0} };
+
+    ghost sees = { λ es bs t v w a. (w ≡ v) × BreaksAt (names_undeclared (written es v.declarations.now) t) a };
+
+    ghost enters_bounds = { λ v es bs t h. (refl, bounds-are-seen _ (written es v.declarations.now) t h) };
+
+    fn visit_ty(&mut self, cx: &Interner, ty: Ty, _binders: &Binders) -> Seen<()> {
+        cx.lawful();
+        match cx.kind(ty) {
+            TyKind::Adt(id, _) => break_if(!struct_is_declared(self.declarations, id)),
+            TyKind::Dynamic(bounds, _) => {
+                break_if(!bounds_are_declared(cx, self.declarations, bounds))
+            }
+            TyKind::Bool
+            | TyKind::Char
+            | TyKind::Int(_)
+            | TyKind::Uint(_)
+            | TyKind::Str
+            | TyKind::Never
+            | TyKind::Ref(_, _, _)
+            | TyKind::RawPtr(_, _)
+            | TyKind::Array(_, _)
+            | TyKind::Slice(_)
+            | TyKind::Tuple(_)
+            | TyKind::FnPtr(_, _)
+            | TyKind::Param(_)
+            | TyKind::Placeholder(_)
+            | TyKind::Bound(_, _)
+            | TyKind::Infer(_) => Seen::Enter,
+        }
+    }
+
+    fn visit_const(&mut self, cx: &Interner, _ct: Const, _binders: &Binders) -> Seen<()> {
+        cx.lawful();
+        Seen::Enter
+    }
+
+    fn visit_region(&mut self, _cx: &Interner, _region: Region, _binders: &Binders) -> Seen<()> {
+        Seen::Enter
+    }
+}
+
+/// Whether all structs and traits that the arguments name are declared.
+pub(crate) fn args_are_declared(
+    cx: &Interner,
+    declarations: &Declarations,
+    args: GenericArgs,
+) -> bool
+    requires { Has cx.now.entries args_lists args.0 }
+    ensures { result ≡ not (some_node (is_undeclared (written cx.now.entries declarations.now)) (trees_at cx.now.entries args.0)) }
+{
+    cx.lawful();
+    match visit_args(cx, &mut FindsUndeclared { declarations }, args, &Binders::Outermost) {
+        ControlFlow::Break(()) => false,
+        ControlFlow::Continue(()) => true,
+    }
+}
