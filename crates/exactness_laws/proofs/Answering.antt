@@ -7,7 +7,7 @@ use Rattle.evaluation.specs.Table.{Tables, operations, workings, IsTable, Narrow
 use Rattle.evaluation.specs.Rounds.{Round, Rounds, kept, judged, applied, replied, round, settled, next_round, rounds}
 use Rattle.evaluation.specs.Candidate.{Spec, answered, equated, candidate}
 use Rattle.exactness_laws.specs.Plays.{Ends}
-use Rattle.exactness_laws.specs.Closed.{Closing, IsClosing, IsBare, Applies, Refuses, DeterminesNested, AsksSuch, AreWays, refused, applied as applies}
+use Rattle.exactness_laws.specs.Closed.{Closing, IsClosing, IsBare, Applies, Refuses, DeterminesNested, AsksSuch, AreWays, refused, applied as applies, here, answered as answered_by}
 use Rattle.exactness_laws.proofs.Plays.{Ends-follows}
 use Rattle.exactness_laws.proofs.Rounds.{IsNested, all_narrowed, RoundEnds, one_round}
 use Rattle.exactness_laws.proofs.Candidates.{narrows_by, meets_by, asked_in, nested_all}
@@ -19,12 +19,15 @@ module _ {Question Response : Type 0} (t : Tables Question Response) (laws : IsT
   IsNestedHere T n f = IsNested t laws k closing IsAsked P T v n f
 
   -- the nested goal has an answer
-  asked_now : (T : t.Table) (n : t.Nested) (f : t.Fact) → t.Made T → k.IsClosed (k.shape T) → k.IsApart (k.shape T) v → IsNestedHere T n f → Short f → (a : Option Response) × P (t.question T n) a
+  asked_now : (T : t.Table) (n : t.Nested) (f : t.Fact) → t.Made T → k.IsClosed (k.shape T) → k.IsApart (k.shape T) v → IsNestedHere T n f → Short f → (a : Option Response) × P (t.question T n) a × IsBare t a
   asked_now T n f m c d i h =
       let x = closing.free T m c v in
       let apart = subst (k.IsApart (k.shape T)) (sym x.2) d in
-      answer (t.question T n) (t.at T n x.0) (i.asked T x.0 m c i.determined x.1 x.1 x.2) (closing.closed T n m c i.determined) (closing.apart T n c i.determined x.0 x.1 apart)
-      (subst Short (sym (laws.instance T n x.0 x.1 ∙ i.is x.0 x.1 x.2)) h)
+      let asked = i.asked T x.0 here m c i.determined x.1 x.1 x.2 in
+      let closed = closing.closed T n m c i.determined in
+      let places = closing.apart T n c i.determined x.0 x.1 apart in
+      let a = answer (t.question T n) (t.at T n x.0) asked closed places (subst Short (sym (laws.instance T n x.0 x.1 ∙ i.is x.0 x.1 x.2)) h) in
+      (a.0, a.1, bare (t.question T n) (t.at T n x.0) a.0 asked closed places a.1)
 
   abbrev CanRound : t.Table → List t.Nested → Type 0
   CanRound T ns = (o : Option (Round (operations t))) × Ends P (round (operations t) ns T) o
@@ -42,27 +45,27 @@ module _ {Question Response : Type 0} (t : Tables Question Response) (laws : IsT
   can_round (n ∷ ns) [] h T m c d p = absurd p
   can_round (n ∷ ns) (f ∷ fs) h T m c d p =
       let a = asked_now T n f m c d p.0 h.0 in
-      let x = by (λ U i b e q. can_round ns fs h.1 U i b e q) a.0 in
+      let x = by (λ U i b e q. can_round ns fs h.1 U i b e q) a.0 a.2 in
       (x.0, (a.0, a.1, x.1))
     where
-      judge : Onward ns fs → (r : Response) (U : t.Table) → t.apply T n r ≡ Some U → (b : Bool) → (o : Option (Round (operations t))) × Ends P (judged (operations t) (round (operations t) ns) n r U b) o
-      judge go r U q b =
+      judge : Onward ns fs → (r : Response) (U : t.Table) → t.apply T n r ≡ Some U → t.has_values r ≡ false → (b : Bool) → (o : Option (Round (operations t))) × Ends P (judged (operations t) (round (operations t) ns) n r U b) o
+      judge go r U q w b =
           let narrow = laws.apply_narrows T U n r m q in
           let shape = closing.apply T U n r q in
-          let x = go U narrow.made (subst k.IsClosed (sym shape) c) (subst (λ z. k.IsApart z v) (sym shape) d) (all_narrowed t laws k closing IsAsked P T U v ns fs narrow p.1) in
+          let x = go U narrow.made (subst k.IsClosed (sym shape) c) (subst (λ z. k.IsApart z v) (sym shape) d) (all_narrowed t laws k closing IsAsked P T U v ns fs (answered_by here q w) narrow p.1) in
           at b x
         where
           at : (b : Bool) → CanRound U ns → (o : Option (Round (operations t))) × Ends P (judged (operations t) (round (operations t) ns) n r U b) o
           at true x = x
           at false x = let y = can_keep n r x.0 in (y.0, Ends-follows P (kept (operations t) n r) (round (operations t) ns U) x.0 y.0 x.1 y.1)
 
-      put : Onward ns fs → (r : Response) (U : Option t.Table) → t.apply T n r ≡ U → (o : Option (Round (operations t))) × Ends P (applied (operations t) (round (operations t) ns) n r U) o
-      put go r None q = (None, refl)
-      put go r (Some U) q = judge go r U q (is_yes (operations t) r)
+      put : Onward ns fs → (r : Response) (U : Option t.Table) → t.apply T n r ≡ U → t.has_values r ≡ false → (o : Option (Round (operations t))) × Ends P (applied (operations t) (round (operations t) ns) n r U) o
+      put go r None q w = (None, refl)
+      put go r (Some U) q w = judge go r U q w (is_yes (operations t) r)
 
-      by : Onward ns fs → (a : Option Response) → (o : Option (Round (operations t))) × Ends P (replied (operations t) (round (operations t) ns) T n a) o
-      by go None = (None, refl)
-      by go (Some r) = put go r (t.apply T n r) refl
+      by : Onward ns fs → (a : Option Response) → IsBare t a → (o : Option (Round (operations t))) × Ends P (replied (operations t) (round (operations t) ns) T n a) o
+      by go None w = (None, refl)
+      by go (Some r) w = put go r (t.apply T n r) refl w
 
   module _ (limited : ℕ) (begin : t.Table) (m : t.Made begin) (c : k.IsClosed (k.shape begin)) (d : k.IsApart (k.shape begin) v) (s : Spec (workings t)) where
     abbrev pub CanEndCandidate : Type 0
@@ -119,7 +122,7 @@ module _ {Question Response : Type 0} (t : Tables Question Response) (laws : IsT
             let apart = subst (λ y. k.IsApart y v) (sym shape) d in
             let ns = nested_all t laws k closing IsAsked P bare (suc limited) begin m v c d s determined asked limited refl w a.assignment a.own s.nested
             (λ b r h i o. determined b r (onto b h) (onto r i) (meets b h) (meets r i) o)
-            (λ b h o. determined b a.assignment (onto b h) a.allowed (meets b h) a.meets o) (asked_in t laws k closing IsAsked P bare (suc limited) begin m v c d s determined asked limited refl w onto meets) in
+            (λ b h o. determined b a.assignment (onto b h) a.allowed (meets b h) a.meets o) (asked_in t laws k closing IsAsked P bare (suc limited) begin m v c d s determined asked limited refl U w q refl onto meets) in
             let x = can_round s.nested (map (λ n. t.fact n a.assignment) s.nested) (subst (Every Short) (sym a.needs) h) w narrow.made closed apart ns in
             let y = can_go w (map (λ n. t.fact n a.assignment) s.nested) x.0 (one_round t laws k closing IsAsked P bare v s.nested (map (λ n. t.fact n a.assignment) s.nested) w x.0 narrow.made closed apart ns x.1) in
             let z = can_answer y.0 in (

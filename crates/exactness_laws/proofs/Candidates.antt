@@ -9,7 +9,7 @@ use Rattle.evaluation.specs.Table.{Tables, operations, workings, IsTable, Narrow
 use Rattle.evaluation.specs.Rounds.{Round, Rounds, round, settled, next_round, rounds}
 use Rattle.evaluation.specs.Candidate.{Spec, answered, equated, candidate}
 use Rattle.exactness_laws.specs.Plays.{Ends}
-use Rattle.exactness_laws.specs.Closed.{Closing, IsClosing, IsBare, Applies, Refuses, DeterminesNested, AsksSuch}
+use Rattle.exactness_laws.specs.Closed.{Closing, IsClosing, IsBare, Applies, Refuses, DeterminesNested, Reaches, AsksSuch}
 use Rattle.exactness_laws.proofs.Plays.{Ends-followed}
 use Rattle.exactness_laws.proofs.Rounds.{Says, SaysSome, SaysYes, SaysMaybe, IsNested, Lasts, RoundEnds, one_round}
 
@@ -51,11 +51,11 @@ module _ {Question Response : Type 0} (t : Tables Question Response) (laws : IsT
     module _ (determined : DeterminesNested t begin s) (asked : AsksSuch t k IsAsked begin v s) (limited : ℕ) (more : limit ≡ suc limited) where
       -- the nested goals, over a table in which the equations hold
       abbrev pub AreAsked : t.Table → t.Nested → Type 0
-      AreAsked U n = (W : t.Table) (b : t.Assignment) → t.Made W → k.IsClosed (k.shape W) → IsDetermined t W n → t.Allows W b → t.Allows U b → t.own b ≡ v → IsAsked (t.question W n) (t.at W n b)
+      AreAsked U n = (W : t.Table) (b : t.Assignment) → Reaches t U W → t.Made W → k.IsClosed (k.shape W) → IsDetermined t W n → t.Allows W b → t.Allows U b → t.own b ≡ v → IsAsked (t.question W n) (t.at W n b)
 
       -- where the equations hold
-      pub asked_in : (U : t.Table) → ((b : t.Assignment) → t.Allows U b → t.Allows (t.fresh begin s.kinds) b) → ((b : t.Assignment) → t.Allows U b → Every (λ e. t.Meets e b) s.equations) → Every (AreAsked U) s.nested
-      asked_in U onto meets = Every-mono _ (AreAsked U) (λ n h W b i x y a j e. h W b i x y a (onto b j) (meets b j) e) s.nested asked
+      pub asked_in : (B U : t.Table) → t.equate (t.fresh begin s.kinds) s.equations ≡ Some B → t.recorded B s.regions ≡ U → ((b : t.Assignment) → t.Allows U b → t.Allows (t.fresh begin s.kinds) b) → ((b : t.Assignment) → t.Allows U b → Every (λ e. t.Meets e b) s.equations) → Every (AreAsked U) s.nested
+      asked_in B U q w onto meets = Every-mono _ (AreAsked U) (λ n h W b z i x y a j e. h W b (record { table = B; equal = q; reached = subst (λ u. Reaches t u W) (sym w) z }) i x y a (onto b j) (meets b j) e) s.nested asked
 
       pub nested_all : (U : t.Table) (a : t.Assignment) → t.own a ≡ v → (ns : List t.Nested)
           → ((s r : t.Assignment) → t.Allows U s → t.Allows U r → t.own s ≡ t.own r → Every (λ n. t.fact n s ≡ t.fact n r) ns)
@@ -139,7 +139,7 @@ module _ {Question Response : Type 0} (t : Tables Question Response) (laws : IsT
               let shape = closing.recorded U s.regions ∙ closing.equate (t.fresh begin s.kinds) U s.equations q ∙ closing.fresh begin s.kinds in
               let ns = nested_all w a.assignment a.own s.nested
               (λ b r h i o. determined b r (onto b h) (onto r i) (meets b h) (meets r i) o)
-              (λ b h o. determined b a.assignment (onto b h) a.allowed (meets b h) a.meets o) (asked_in w onto meets) in
+              (λ b h o. determined b a.assignment (onto b h) a.allowed (meets b h) a.meets o) (asked_in U w q refl onto meets) in
               let u = Ends-followed P (next_round (operations t) (rounds (operations t) limited)) (round (operations t) s.nested w) z.0 z.1 in
               let ends = one_round t laws k closing IsAsked P bare v s.nested (map (λ n. t.fact n a.assignment) s.nested) w u.0 narrow.made
               (subst k.IsClosed (sym shape) c) (subst (λ y. k.IsApart y v) (sym shape) d) ns u.1 in

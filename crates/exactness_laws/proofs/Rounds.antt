@@ -5,7 +5,7 @@ use Rattle.evaluation.specs.Operations.{is_yes}
 use Rattle.evaluation.specs.Table.{Tables, operations, Narrows, IsDetermined, IsTable}
 use Rattle.evaluation.specs.Rounds.{Round, kept, judged, applied, replied, round}
 use Rattle.exactness_laws.specs.Plays.{Ends}
-use Rattle.exactness_laws.specs.Closed.{Closing, IsClosing, IsBare}
+use Rattle.exactness_laws.specs.Closed.{Closing, IsClosing, IsBare, Reaches, here, answered}
 use Rattle.exactness_laws.proofs.Plays.{Ends-followed}
 
 module _ {Question Response : Type 0} (t : Tables Question Response) (laws : IsTable t) (k : Closing t) (closing : IsClosing t k) (IsAsked : Question → t.Values → Type 0) (P : Question → Option Response → Type 0) where
@@ -32,20 +32,25 @@ module _ {Question Response : Type 0} (t : Tables Question Response) (laws : IsT
   pub record IsNested (T : t.Table) (v : t.Values) (n : t.Nested) (f : t.Fact) : Type 0 where
     pub determined : IsDetermined t T n
     pub is : (s : t.Assignment) → t.Allows T s → t.own s ≡ v → t.fact n s ≡ f
-    pub asked : (U : t.Table) (s : t.Assignment) → t.Made U → k.IsClosed (k.shape U) → IsDetermined t U n → t.Allows U s → t.Allows T s → t.own s ≡ v → IsAsked (t.question U n) (t.at U n s)
+    pub asked : (U : t.Table) (s : t.Assignment) → Reaches t T U → t.Made U → k.IsClosed (k.shape U) → IsDetermined t U n → t.Allows U s → t.Allows T s → t.own s ≡ v → IsAsked (t.question U n) (t.at U n s)
 
-  narrowed : (T U : t.Table) (v : t.Values) (n : t.Nested) (f : t.Fact) → Narrows t T U → IsNested T v n f → IsNested U v n f
-  narrowed T U v n f narrow i = record {
+  -- what is reached from a table that is reached
+  onward : (T U W : t.Table) → Reaches t T U → Reaches t U W → Reaches t T W
+  onward T U W x here = x
+  onward T U W x (answered y q b) = answered (onward T U _ x y) q b
+
+  narrowed : (T U : t.Table) (v : t.Values) (n : t.Nested) (f : t.Fact) → Reaches t T U → Narrows t T U → IsNested T v n f → IsNested U v n f
+  narrowed T U v n f reach narrow i = record {
     determined = λ s r a b e. i.determined s r (narrow.allows s a) (narrow.allows r b) e;
     is = λ s a e. i.is s (narrow.allows s a) e;
-    asked = λ W s m x y a b e. i.asked W s m x y a (narrow.allows s b) e;
+    asked = λ W s z m x y a b e. i.asked W s (onward T U W reach z) m x y a (narrow.allows s b) e;
   }
 
-  pub all_narrowed : (T U : t.Table) (v : t.Values) (ns : List t.Nested) (fs : List t.Fact) → Narrows t T U → Pairwise (IsNested T v) ns fs → Pairwise (IsNested U v) ns fs
-  all_narrowed T U v [] [] narrow p = tt
-  all_narrowed T U v (n ∷ ns) (f ∷ fs) narrow p = (narrowed T U v n f narrow p.0, all_narrowed T U v ns fs narrow p.1)
-  all_narrowed T U v [] (f ∷ fs) narrow p = absurd p
-  all_narrowed T U v (n ∷ ns) [] narrow p = absurd p
+  pub all_narrowed : (T U : t.Table) (v : t.Values) (ns : List t.Nested) (fs : List t.Fact) → Reaches t T U → Narrows t T U → Pairwise (IsNested T v) ns fs → Pairwise (IsNested U v) ns fs
+  all_narrowed T U v [] [] reach narrow p = tt
+  all_narrowed T U v (n ∷ ns) (f ∷ fs) reach narrow p = (narrowed T U v n f reach narrow p.0, all_narrowed T U v ns fs reach narrow p.1)
+  all_narrowed T U v [] (f ∷ fs) reach narrow p = absurd p
+  all_narrowed T U v (n ∷ ns) [] reach narrow p = absurd p
 
   -- terms that the table allows, at these values
   solution : (T : t.Table) (v : t.Values) → t.Made T → k.IsClosed (k.shape T) → (s : t.Assignment) × t.Allows T s × (t.own s ≡ v)
@@ -58,7 +63,7 @@ module _ {Question Response : Type 0} (t : Tables Question Response) (laws : IsT
       record {
         question = t.question T n;
         values = t.at T n x.0;
-        asked = i.asked T x.0 m c i.determined x.1 x.1 x.2;
+        asked = i.asked T x.0 here m c i.determined x.1 x.1 x.2;
         closed = closing.closed T n m c i.determined;
         apart = closing.apart T n c i.determined x.0 x.1 apart;
         fact = laws.instance T n x.0 x.1 ∙ i.is x.0 x.1 x.2;
@@ -148,13 +153,13 @@ module _ {Question Response : Type 0} (t : Tables Question Response) (laws : IsT
             let narrow = laws.apply_narrows T U n r m q in
             let shape = closing.apply T U n r q in
             dropped T U f fs o narrow shape (r, y, i)
-            (go U o narrow.made (subst k.IsClosed (sym shape) c) (subst (λ z. k.IsApart z v) (sym shape) d) (all_narrowed T U v ns fs narrow p.1) g)
+            (go U o narrow.made (subst k.IsClosed (sym shape) c) (subst (λ z. k.IsApart z v) (sym shape) d) (all_narrowed T U v ns fs (answered here q w) narrow p.1) g)
         yes go r U false q y w i g =
             let narrow = laws.apply_narrows T U n r m q in
             let shape = closing.apply T U n r q in
             let x = Ends-followed P (kept (operations t) n r) (round (operations t) ns U) o g in
             stays T U n r f fs x.0 o narrow shape w y i
-            (go U x.0 narrow.made (subst k.IsClosed (sym shape) c) (subst (λ z. k.IsApart z v) (sym shape) d) (all_narrowed T U v ns fs narrow p.1) x.1) x.2
+            (go U x.0 narrow.made (subst k.IsClosed (sym shape) c) (subst (λ z. k.IsApart z v) (sym shape) d) (all_narrowed T U v ns fs (answered here q w) narrow p.1) x.1) x.2
 
         put : Onward ns fs → (r : Response) (U : Option t.Table) → t.apply T n r ≡ U → Says f (Some r) → t.has_values r ≡ false → Ends P (applied (operations t) (round (operations t) ns) n r U) o → RoundEnds T (f ∷ fs) o
         put go r None q y w g = absurd (goes T v n r m c d w q)

@@ -38,7 +38,7 @@ use Rattle.goal_frames.proofs.Asked.{IsAsked, asked-is, kinds-are}
 use Rattle.goal_frames.proofs.Sound.{term-one, fact-behind, heads, determined}
 use Rattle.goal_frames.proofs.Forms.{canonical-goals-are-asked}
 use Rattle.evaluation_laws.specs.Variables.{is_variable_over}
-use Rattle.exactness_laws.specs.Closed.{Applies, Refuses, AreWays, no_more, refused, applied, DeterminesNested, AsksSuch}
+use Rattle.exactness_laws.specs.Closed.{Applies, Refuses, AreWays, no_more, refused, applied, DeterminesNested, AsksFrom, AsksSuch}
 use Rattle.table_laws.specs.Finite.{IsDetermined}
 use Rattle.exactness_laws.specs.ClosedTables.{AreClosed, ArePlaces, closed_tables}
 use Rattle.exactness_laws.specs.Ways.{IsSelection}
@@ -238,7 +238,7 @@ module _ (book : RuleBook) (rules_are : AreRules book) (mode : TypingMode) (q : 
             (λ r good.
             Every-map (Asks r) (λ b. nested_of_bound kind (behind (length a.kinds) b)) r.premises
             (Every-mono (IsOver r.kinds) (λ b. Asks r (nested_of_bound kind (behind (length a.kinds) b)))
-            (λ b over T s made x d l i e o. question-asked T made kind (length a.kinds) r.kinds b over) r.premises good.premises));
+            (λ b over T s z made x d l i e o. question-asked T made kind (length a.kinds) r.kinds b over) r.premises good.premises));
         found = rule_ways book.rules (fact_of q v);
         applies = all-ways q.form a h c kind v (subst (λ ks. ArePlaces ks v) h.kinds places) book.rules rules_are;
         selects = itself (rule_ways book.rules (fact_of q v));
@@ -246,7 +246,7 @@ module _ (book : RuleBook) (rules_are : AreRules book) (mode : TypingMode) (q : 
     where
       Asks : Rule → Nested → Type 0
       Asks r n =
-          (T : FrameTable) (s : Terms) → IsMadeFrame T → AreClosed (map Some T.kinds) → IsDetermined T n → Allows T s → Allows (fresh (begin a.kinds) r.kinds) s → Every (λ e. Meets e s) (spec_of (book.coinductive a.bound.trait) a r).equations → s.own ≡ v → IsAskedForm (question T n)
+          (T : FrameTable) (s : Terms) → AsksFrom frame_tables (begin a.kinds) (spec_of (book.coinductive a.bound.trait) a r) T → IsMadeFrame T → AreClosed (map Some T.kinds) → IsDetermined T n → Allows T s → Allows (fresh (begin a.kinds) r.kinds) s → Every (λ e. Meets e s) (spec_of (book.coinductive a.bound.trait) a r).equations → s.own ≡ v → IsAskedForm (question T n)
 
   -- the same, of the goal's form as it is
   pub form-listing : IsAskedForm q → IsExactListing frame_tables closed_tables (rule_ways book.rules) AskedAt q v (listing_of book mode q.form (kinds_known q.form.kinds) (asked q.form))

@@ -67,10 +67,22 @@ module _ {Question Response : Type 0} (t : Tables Question Response) where
       → Every (λ e. t.Meets e s) c.equations → Every (λ e. t.Meets e r) c.equations → t.own s ≡ t.own r
       → Every (λ n. t.fact n s ≡ t.fact n r) c.nested
 
-  -- where its equations hold, its nested goals are such goals, from whatever table without unknowns they are asked that determines them
+  -- ---- the tables over which a candidate asks
+  -- what answers without values make of a table
+  pub data Reaches (T : t.Table) : t.Table → Type 0 where
+    here : Reaches T T
+    answered : {U W : t.Table} {n : t.Nested} {r : Response} → Reaches T U → t.apply U n r ≡ Some W → t.has_values r ≡ false → Reaches T W
+
+  -- its equations hold there, and what it says of lifetimes is recorded; and answers without values were put in
+  pub record AsksFrom (begin : t.Table) (c : Spec (workings t)) (T : t.Table) : Type 0 where
+    pub table : t.Table
+    pub equal : t.equate (t.fresh begin c.kinds) c.equations ≡ Some table
+    pub reached : Reaches (t.recorded table c.regions) T
+
+  -- where its equations hold, its nested goals are such goals, from whatever table without unknowns it asks them that determines them
   abbrev pub AsksSuch : Closing → (Question → t.Values → Type 0) → t.Table → t.Values → Spec (workings t) → Type 0
   AsksSuch k IsAsked begin v c =
-      Every (λ n. (T : t.Table) (s : t.Assignment) → t.Made T → k.IsClosed (k.shape T) → IsDetermined t T n → t.Allows T s → t.Allows (t.fresh begin c.kinds) s
+      Every (λ n. (T : t.Table) (s : t.Assignment) → AsksFrom begin c T → t.Made T → k.IsClosed (k.shape T) → IsDetermined t T n → t.Allows T s → t.Allows (t.fresh begin c.kinds) s
       → Every (λ e. t.Meets e s) c.equations → t.own s ≡ v
       → IsAsked (t.question T n) (t.at T n s)) c.nested
 

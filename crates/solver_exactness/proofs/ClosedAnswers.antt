@@ -10,6 +10,7 @@ use Rattle.model.proofs.Members.{here, there, in-left, in-right, flat-in}
 use Rattle.model.proofs.NoHolds.{shut}
 use Rattle.model.proofs.Walking.{left, right}
 use Rattle.infer_table.specs.Responses.{AnswerTrees}
+use Rattle.infer_table.specs.Canonical.{CanonicalForm}
 use Rattle.infer_table.specs.declared.certainty.TypingMode.TheVariants.{Coherence}
 use Rattle.evaluation.specs.Lists.{Every, SomeOf}
 use Rattle.table_laws.specs.Content.{Values, Fact, Question, fact_of}
@@ -123,10 +124,10 @@ module _ (m : Meaning) (linked : LinkedWith m) where
       by false g = refl
   tells n f e z (Some y) h = record { refused = λ q. absurd (cc); answered = λ x q. possible_is_by_ways.from V m.crate n (reference_in f) (facts-possible n f e z h) }
 
-module _ {W : Type 0} (applicable : AnswerTrees → Bool) (same : AnswerTrees → AnswerTrees → Bool) (meaning_of : W → Meaning) {C I R F : Type 0}
-    (handles : Handles C I R F W (Asked frame_tables (solver_programs applicable same meaning_of)) (Option AnswerTrees)) (IsAsked : Question → Values → Type 0)
-    (programs : ArePrograms frame_tables (solver_programs applicable same meaning_of)) where
-  pub solver-tells-possible : SolverTellsPossible applicable same meaning_of handles IsAsked
+module _ {W : Type 0} (applicable : AnswerTrees → Bool) (same : AnswerTrees → AnswerTrees → Bool) (meaning_of : W → Meaning) (fits_in : W → CanonicalForm → Bool) {C I R F : Type 0}
+    (handles : Handles C I R F W (Asked frame_tables (solver_programs applicable same meaning_of fits_in)) (Option AnswerTrees)) (IsAsked : Question → Values → Type 0)
+    (programs : ArePrograms frame_tables (solver_programs applicable same meaning_of fits_in)) where
+  pub solver-tells-possible : SolverTellsPossible applicable same meaning_of fits_in handles IsAsked
   solver-tells-possible w good linked n limit q v a l goal clauses bounded only =
       let V = (meaning_of w).view in
       let c = (meaning_of w).crate in
@@ -134,5 +135,5 @@ module _ {W : Type 0} (applicable : AnswerTrees → Bool) (same : AnswerTrees �
       let closed = left (is_closed r.args) (written_in V r && short_chains n V c r) bounded in
       let short = right (written_in V r) (short_chains n V c r) (right (is_closed r.args) (written_in V r && short_chains n V c r) bounded) in
       tells (meaning_of w) linked n (fact_of q v) clauses closed a
-      (solver-searches-are-exact applicable same meaning_of handles IsAsked programs w Coherence good n limit q v a l goal
+      (solver-searches-are-exact applicable same meaning_of fits_in handles IsAsked programs w Coherence good n limit q v a l goal
       (short-facts (meaning_of w) linked n (fact_of q v) clauses closed (short_is_by_ways V c n r short)) only)

@@ -1,5 +1,6 @@
 -- The questions that lead to good goals alone lead to no others.
-use Rattle.std.proofs.Common.{◌≡◌, ℕ, suc, List, [], ◌∷◌, map, sym, ◌∙◌, subst, Some}
+use Rattle.std.proofs.Common.{◌≡◌, ℕ, suc, Bool, List, [], ◌∷◌, map, sym, ◌∙◌, subst, Some}
+use Rattle.infer_table.specs.Canonical.{CanonicalForm}
 use Rattle.infer_table.specs.declared.certainty.TypingMode.{TypingMode}
 use Rattle.evaluation.specs.Lists.{Every}
 use Rattle.evaluation.proofs.ListLaws.{Every-mono}
@@ -9,7 +10,7 @@ use Rattle.table_laws.specs.Operations.{begin, fresh}
 use Rattle.table_laws.specs.Finite.{IsDetermined}
 use Rattle.exactness_laws.specs.ClosedTables.{AreClosed, closed_tables}
 use Rattle.evaluation_laws.specs.Tables.{frame_tables}
-use Rattle.exactness_laws.specs.Closed.{AsksSuch}
+use Rattle.exactness_laws.specs.Closed.{AsksFrom, AsksSuch}
 use Rattle.assembly_laws.specs.Meaning.{Meaning}
 use Rattle.assembly_laws.specs.Asking.{Asked, asked}
 use Rattle.assembly_laws.specs.Candidates.{Candidate}
@@ -23,34 +24,35 @@ all-numbers P (x ∷ xs) h = (λ n. (h n).0, all-numbers P xs (λ n. (h n).1))
 some-is : {A : Type 0} (a b : A) → Some a ≡ Some b → a ≡ b
 some-is a b e = cc
 
-module _ (m : Meaning) (mode : TypingMode) where
-  module _ (q : Question) (v : Values) (i : LeadsToGoals m mode q v) (a : Asked) (is_asked : asked m.view q.form ≡ Some a) where
+module _ (m : Meaning) (mode : TypingMode) (fits : CanonicalForm → Bool) where
+  module _ (q : Question) (v : Values) (i : LeadsToGoals m mode fits q v) (a : Asked) (is_asked : asked m.view q.form ≡ Some a) where
     abbrev table : FrameTable
     table = begin (kinds_known q.form.kinds)
 
-    in-steps : (n : ℕ) → Every (AsksSuch frame_tables closed_tables (IsGoodFor m mode n) table v) (specs_by m mode a)
+    in-steps : (n : ℕ) → Every (AsksSuch frame_tables closed_tables (IsGoodFor m mode fits n) table v) (specs_by m mode a)
     in-steps n =
-        let x = (i (suc n)).1 in
-        subst (λ b. Every (AsksSuch frame_tables closed_tables (IsGoodFor m mode n) table v) (specs_by m mode b)) (some-is x.0 a (sym x.1 ∙ is_asked)) x.2
+        let x = (i (suc n)).2 in
+        subst (λ b. Every (AsksSuch frame_tables closed_tables (IsGoodFor m mode fits n) table v) (specs_by m mode b)) (some-is x.0 a (sym x.1 ∙ is_asked)) x.2
 
     abbrev Within : Candidate → ℕ → Nested → Type 0
     Within c n d =
-        (T : FrameTable) (s : Terms) → IsMadeFrame T → AreClosed (map Some T.kinds) → IsDetermined T d → Allows T s → Allows (fresh table c.kinds) s → Every (λ e. Meets e s) c.equations → s.own ≡ v → IsGoodFor m mode n (question T d) (values_at T d s)
+        (T : FrameTable) (s : Terms) → AsksFrom frame_tables table c T → IsMadeFrame T → AreClosed (map Some T.kinds) → IsDetermined T d → Allows T s → Allows (fresh table c.kinds) s → Every (λ e. Meets e s) c.equations → s.own ≡ v → IsGoodFor m mode fits n (question T d) (values_at T d s)
 
-    of-one : (c : Candidate) → ((n : ℕ) → AsksSuch frame_tables closed_tables (IsGoodFor m mode n) table v c) → AsksSuch frame_tables closed_tables (LeadsToGoals m mode) table v c
+    of-one : (c : Candidate) → ((n : ℕ) → AsksSuch frame_tables closed_tables (IsGoodFor m mode fits n) table v c) → AsksSuch frame_tables closed_tables (LeadsToGoals m mode fits) table v c
     of-one c h =
         Every-mono (λ d. (n : ℕ) → Within c n d)
-        (λ d. (T : FrameTable) (s : Terms) → IsMadeFrame T → AreClosed (map Some T.kinds) → IsDetermined T d → Allows T s → Allows (fresh table c.kinds) s → Every (λ e. Meets e s) c.equations → s.own ≡ v → LeadsToGoals m mode (question T d) (values_at T d s))
-        (λ d g T s made x y l k e o n. g n T s made x y l k e o) c.nested (all-numbers (Within c) c.nested h)
+        (λ d. (T : FrameTable) (s : Terms) → AsksFrom frame_tables table c T → IsMadeFrame T → AreClosed (map Some T.kinds) → IsDetermined T d → Allows T s → Allows (fresh table c.kinds) s → Every (λ e. Meets e s) c.equations → s.own ≡ v → LeadsToGoals m mode fits (question T d) (values_at T d s))
+        (λ d g T s z made x y l k e o n. g n T s z made x y l k e o) c.nested (all-numbers (Within c) c.nested h)
 
-    onward : Every (AsksSuch frame_tables closed_tables (LeadsToGoals m mode) table v) (specs_by m mode a)
+    onward : Every (AsksSuch frame_tables closed_tables (LeadsToGoals m mode fits) table v) (specs_by m mode a)
     onward =
-        Every-mono (λ c. (n : ℕ) → AsksSuch frame_tables closed_tables (IsGoodFor m mode n) table v c) (AsksSuch frame_tables closed_tables (LeadsToGoals m mode) table v) of-one (specs_by m mode a)
-        (all-numbers (λ n. AsksSuch frame_tables closed_tables (IsGoodFor m mode n) table v) (specs_by m mode a) in-steps)
+        Every-mono (λ c. (n : ℕ) → AsksSuch frame_tables closed_tables (IsGoodFor m mode fits n) table v c) (AsksSuch frame_tables closed_tables (LeadsToGoals m mode fits) table v) of-one (specs_by m mode a)
+        (all-numbers (λ n. AsksSuch frame_tables closed_tables (IsGoodFor m mode fits n) table v) (specs_by m mode a) in-steps)
 
 pub leading-are-goals : LeadingAreGoals
-leading-are-goals m mode = record {
-  decided = λ q v i. let x = (i 1).1 in (x.0, x.1);
-  goals = λ q v i. (i 1).0;
-  onward = λ q v i closed places a e. onward m mode q v i a e;
+leading-are-goals m mode fits = record {
+  decided = λ q v i. let x = (i 1).2 in (x.0, x.1);
+  fitting = λ q v i. (i 1).0;
+  goals = λ q v i. (i 1).1;
+  onward = λ q v i closed places a e. onward m mode fits q v i a e;
 }

@@ -21,3 +21,13 @@ pub mod LeadingGoals
 pub mod ClosedAnswers
 pub mod QuestionTerms
 pub mod QuestionNames
+pub mod Renumbering
+pub mod NestedForms
+pub mod GoalSets
+pub mod FormedInstances
+pub mod FormedFacts
+pub mod FormedWays
+pub mod FormedTests
+pub mod FormedForms
+pub mod FormedAnswers
+pub mod RootAnswers

@@ -2,6 +2,7 @@
 use Rattle.std.proofs.Common.{ℕ, zero, suc, Bool, List, map, Option}
 use Rattle.model.specs.Worlds.{World, Reference}
 use Rattle.model.specs.Proofs.{HasProof}
+use Rattle.infer_table.specs.Canonical.{CanonicalForm}
 use Rattle.infer_table.specs.declared.certainty.TypingMode.TheVariants.{PostAnalysis}
 use Rattle.infer_table.specs.Responses.{AnswerTrees}
 use Rattle.evaluation.specs.Lists.{Every}
@@ -53,22 +54,22 @@ module _ (V : World) where
         (λ ps i. every-to (beside f) (IsDecided (ways_outside V) (IsProved V) n) (IsDecided (under f) (Proved f) n) (λ r j. decided-facts n (beside f r) j) ps i) (under f (reference_in f)) h.1,
   )
 
-module _ {W : Type 0} (applicable : AnswerTrees → Bool) (same : AnswerTrees → AnswerTrees → Bool) (meaning_of : W → Meaning) {C I R F : Type 0}
-    (handles : Handles C I R F W (Asked frame_tables (solver_programs applicable same meaning_of)) (Option AnswerTrees)) (IsAsked : Question → Values → Type 0) where
-  pub solver-is-exact : SolverIsExact applicable same meaning_of handles IsAsked
+module _ {W : Type 0} (applicable : AnswerTrees → Bool) (same : AnswerTrees → AnswerTrees → Bool) (meaning_of : W → Meaning) (fits_in : W → CanonicalForm → Bool) {C I R F : Type 0}
+    (handles : Handles C I R F W (Asked frame_tables (solver_programs applicable same meaning_of fits_in)) (Option AnswerTrees)) (IsAsked : Question → Values → Type 0) where
+  pub solver-is-exact : SolverIsExact applicable same meaning_of fits_in handles IsAsked
   solver-is-exact w mode good n q v a goal x =
-      (plain_is_exact frame_tables tables_are_lawful closed_tables closed_tables_are_lawful (solver_programs applicable same meaning_of) w mode
-      (solver_answers_exactly applicable same meaning_of w good.sound good.well IsAsked mode good.goals) handles n q v a goal.asked goal.closed goal.places x).1
+      (plain_is_exact frame_tables tables_are_lawful closed_tables closed_tables_are_lawful (solver_programs applicable same meaning_of fits_in) w mode
+      (solver_answers_exactly applicable same meaning_of fits_in w good.sound good.well IsAsked mode good.goals) handles n q v a goal.asked goal.closed goal.places x).1
 
-  module _ (programs : ArePrograms frame_tables (solver_programs applicable same meaning_of)) where
-    pub solver-searches-are-exact : SolverSearchesAreExact applicable same meaning_of handles IsAsked
+  module _ (programs : ArePrograms frame_tables (solver_programs applicable same meaning_of fits_in)) where
+    pub solver-searches-are-exact : SolverSearchesAreExact applicable same meaning_of fits_in handles IsAsked
     solver-searches-are-exact w mode good n limit q v a l goal short only =
-        found_is_exact frame_tables tables_are_lawful closed_tables closed_tables_are_lawful (solver_programs applicable same meaning_of) programs w mode
-        (solver_answers_exactly applicable same meaning_of w good.sound good.well IsAsked mode good.goals) handles n limit q v a l goal.asked goal.closed goal.places short only
+        found_is_exact frame_tables tables_are_lawful closed_tables closed_tables_are_lawful (solver_programs applicable same meaning_of fits_in) programs w mode
+        (solver_answers_exactly applicable same meaning_of fits_in w good.sound good.well IsAsked mode good.goals) handles n limit q v a l goal.asked goal.closed goal.places short only
 
-    pub solver-searches-are-right : SolverSearchesAreRight applicable same meaning_of handles IsAsked
+    pub solver-searches-are-right : SolverSearchesAreRight applicable same meaning_of fits_in handles IsAsked
     solver-searches-are-right w good n limit q v a l goal single only =
-        found_is_right frame_tables tables_are_lawful closed_tables closed_tables_are_lawful (solver_programs applicable same meaning_of) programs w PostAnalysis
-        (solver_answers_exactly applicable same meaning_of w good.sound good.well IsAsked PostAnalysis good.goals) handles
-        (solver_is_sure applicable same meaning_of w good.sound good.well IsAsked good.goals) (IsProved (meaning_of w).view) (proved-by-ways (meaning_of w).view) n limit q v a l goal.asked goal.closed goal.places
+        found_is_right frame_tables tables_are_lawful closed_tables closed_tables_are_lawful (solver_programs applicable same meaning_of fits_in) programs w PostAnalysis
+        (solver_answers_exactly applicable same meaning_of fits_in w good.sound good.well IsAsked PostAnalysis good.goals) handles
+        (solver_is_sure applicable same meaning_of fits_in w good.sound good.well IsAsked good.goals) (IsProved (meaning_of w).view) (proved-by-ways (meaning_of w).view) n limit q v a l goal.asked goal.closed goal.places
         (decided-facts (meaning_of w).view n (fact_of q v) (single_way_is_decided (meaning_of w).view (clauses_of (fact_of q v).goal.environment) n (reference_in (fact_of q v)) single)) only

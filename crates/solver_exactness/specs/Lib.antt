@@ -6,4 +6,9 @@ pub mod BoundWays
 pub mod SolverSpecs
 pub mod SolverChoices
 pub mod SolverGoals
+pub mod GoalSets
+pub mod FormedFacts
+pub mod FormedTests
 pub mod SolverAnswers
+pub mod FormedAnswers
+pub mod RootAnswers

@@ -1,7 +1,8 @@
 -- What plain recursion over the solver's frames, and so a search, answers to goals without unknowns.
-use Rattle.std.specs.Prelude.{◌≡◌, ◌≤◌, ℕ, Bool, true, false, [], Option, Some, None}
+use Rattle.std.specs.Prelude.{◌≡◌, ◌≤◌, ◌&&◌, ℕ, Bool, true, false, [], Option, Some, None}
 use Rattle.model.specs.Worlds.{World, Reference}
 use Rattle.model.specs.Answers.{SingleWay, is_bounded, is_possible}
+use Rattle.infer_table.specs.Canonical.{CanonicalForm}
 use Rattle.infer_table.specs.declared.certainty.TypingMode.{TypingMode}
 use Rattle.infer_table.specs.declared.certainty.TypingMode.TheVariants.{Coherence, PostAnalysis}
 use Rattle.infer_table.specs.Responses.{AnswerTrees}
@@ -19,10 +20,14 @@ use Rattle.assembly_laws.specs.DeclaredWell.{IsDeclaredWell}
 use Rattle.assembly_laws.specs.Solver.{solver_handled}
 use Rattle.solver_exactness.specs.SolverGoals.{ways_by, IsProved, AreGoals}
 
--- the solver's goals as programs, where contexts mean declarations
-abbrev pub solver_programs : {W : Type 0} → (AnswerTrees → Bool) → (AnswerTrees → AnswerTrees → Bool) → (W → Meaning) → Programs frame_tables
-solver_programs applicable same meaning_of =
-    programs_of (λ w mode f. solver_handled applicable same (meaning_of w) mode f) (λ w. FollowsByView (meaning_of w).view) (λ w. is_coinductive_fact (meaning_of w).view)
+-- what is meant for a goal: of one that does not fit the declarations nothing is decided
+abbrev pub meant_for : Meaning → (CanonicalForm → Bool) → CanonicalForm → Meaning
+meant_for m fits f = record { view = m.view; crate = m.crate; is_sound = m.is_sound && fits f }
+
+-- the solver's goals as programs, where contexts mean declarations, and tell which goals fit them
+abbrev pub solver_programs : {W : Type 0} → (AnswerTrees → Bool) → (AnswerTrees → AnswerTrees → Bool) → (W → Meaning) → (W → CanonicalForm → Bool) → Programs frame_tables
+solver_programs applicable same meaning_of fits_in =
+    programs_of (λ w mode f. solver_handled applicable same (meant_for (meaning_of w) (fits_in w) f) mode f) (λ w. FollowsByView (meaning_of w).view) (λ w. is_coinductive_fact (meaning_of w).view)
 
 -- to a reference in a crate with this view the answer is a refusal if the reference is not possible in chains of fewer than n steps, and
 -- is none if it is
@@ -30,51 +35,52 @@ pub record TellsPossible (V : World) (crate n : ℕ) (r : Reference) (a : Option
   pub refused : a ≡ None → is_possible n V crate r ≡ false
   pub answered : (x : AnswerTrees) → a ≡ Some x → is_possible n V crate r ≡ true
 
-module _ {W : Type 0} (applicable : AnswerTrees → Bool) (same : AnswerTrees → AnswerTrees → Bool) (meaning_of : W → Meaning) {C I R F : Type 0}
-    (handles : Handles C I R F W (Asked frame_tables (solver_programs applicable same meaning_of)) (Option AnswerTrees)) (IsAsked : Question → Values → Type 0) where
+module _ {W : Type 0} (applicable : AnswerTrees → Bool) (same : AnswerTrees → AnswerTrees → Bool) (meaning_of : W → Meaning) (fits_in : W → CanonicalForm → Bool) {C I R F : Type 0}
+    (handles : Handles C I R F W (Asked frame_tables (solver_programs applicable same meaning_of fits_in)) (Option AnswerTrees)) where
   -- plain recursion answers the question so, in chains of fewer than n questions
   abbrev pub IsPlainFor : W → TypingMode → ℕ → Question → Option AnswerTrees → Type 0
-  IsPlainFor w mode n q a = IsPlain (meaning frame_tables (solver_programs applicable same meaning_of) handles) w n (mode, q.form) a
+  IsPlainFor w mode n q a = IsPlain (meaning frame_tables (solver_programs applicable same meaning_of fits_in) handles) w n (mode, q.form) a
 
   -- and it comes to no other answer
   abbrev pub IsOnlyFor : W → TypingMode → ℕ → Question → Option AnswerTrees → Type 0
   IsOnlyFor w mode limit q a = (b : Option AnswerTrees) → IsPlainFor w mode limit q b → b ≡ a
 
-  -- the declarations are found to be good, and are so, and the set leads to no other goals in this mode
-  pub record IsGood (w : W) (mode : TypingMode) : Type 0 where
-    pub sound : (meaning_of w).is_sound ≡ true
-    pub well : IsDeclaredWell (meaning_of w).view
-    pub goals : AreGoals (meaning_of w) mode IsAsked
+  module _ (IsAsked : Question → Values → Type 0) where
+    -- the declarations are found to be good, and are so, and the set leads to no other goals in this mode
+    pub record IsGood (w : W) (mode : TypingMode) : Type 0 where
+      pub sound : (meaning_of w).is_sound ≡ true
+      pub well : IsDeclaredWell (meaning_of w).view
+      pub goals : AreGoals (meaning_of w) mode (fits_in w) IsAsked
 
-  -- a question of the set without unknowns, and places for its placeholders
-  pub record IsClosedGoal (q : Question) (v : Values) : Type 0 where
-    pub asked : IsAsked q v
-    pub closed : AreClosed q.form.kinds
-    pub places : ArePlaces q.form.kinds v
+    -- a question of the set without unknowns, and places for its placeholders
+    pub record IsClosedGoal (q : Question) (v : Values) : Type 0 where
+      pub asked : IsAsked q v
+      pub closed : AreClosed q.form.kinds
+      pub places : ArePlaces q.form.kinds v
 
-  -- what plain recursion refuses is not possible by the rules of the view, and what it does not refuse is: in coherence also by the
-  -- supertraits of what is not knowable
-  abbrev pub SolverIsExact : Type 0
-  SolverIsExact =
-      (w : W) (mode : TypingMode) → IsGood w mode → (n : ℕ) (q : Question) (v : Values) (a : Option AnswerTrees) → IsClosedGoal q v
-      → IsPlainFor w mode n q a → IsExactFor (ways_by (meaning_of w) mode) n (fact_of q v) a
+    -- what plain recursion refuses is not possible by the rules of the view, and what it does not refuse is: in coherence also by the
+    -- supertraits of what is not knowable
+    abbrev pub SolverIsExact : Type 0
+    SolverIsExact =
+        (w : W) (mode : TypingMode) → IsGood w mode → (n : ℕ) (q : Question) (v : Values) (a : Option AnswerTrees) → IsClosedGoal q v
+        → IsPlainFor w mode n q a → IsExactFor (ways_by (meaning_of w) mode) n (fact_of q v) a
 
-  -- so a search that comes to no other answer within its limit refuses a bounded goal exactly if it is not possible
-  abbrev pub SolverSearchesAreExact : Type 0
-  SolverSearchesAreExact =
-      (w : W) (mode : TypingMode) → IsGood w mode → (n limit : ℕ) (q : Question) (v : Values) (a : Option AnswerTrees) → n ≤ limit → IsClosedGoal q v
-      → HasShortChains (ways_by (meaning_of w) mode) n (fact_of q v) → IsOnlyFor w mode limit q a → IsExactFor (ways_by (meaning_of w) mode) n (fact_of q v) a
+    -- so a search that comes to no other answer within its limit refuses a bounded goal exactly if it is not possible
+    abbrev pub SolverSearchesAreExact : Type 0
+    SolverSearchesAreExact =
+        (w : W) (mode : TypingMode) → IsGood w mode → (n limit : ℕ) (q : Question) (v : Values) (a : Option AnswerTrees) → n ≤ limit → IsClosedGoal q v
+        → HasShortChains (ways_by (meaning_of w) mode) n (fact_of q v) → IsOnlyFor w mode limit q a → IsExactFor (ways_by (meaning_of w) mode) n (fact_of q v) a
 
-  -- outside coherence it answers a definite yes to a decided reference that has a proof, and refuses one that has none
-  abbrev pub SolverSearchesAreRight : Type 0
-  SolverSearchesAreRight =
-      (w : W) → IsGood w PostAnalysis → (n limit : ℕ) (q : Question) (v : Values) (a : Option AnswerTrees) → n ≤ limit → IsClosedGoal q v
-      → SingleWay n (meaning_of w).view (clauses_of (fact_of q v).goal.environment) (reference_in (fact_of q v)) → IsOnlyFor w PostAnalysis limit q a
-      → IsRightFor frame_tables (IsProved (meaning_of w).view) (fact_of q v) a
+    -- outside coherence it answers a definite yes to a decided reference that has a proof, and refuses one that has none
+    abbrev pub SolverSearchesAreRight : Type 0
+    SolverSearchesAreRight =
+        (w : W) → IsGood w PostAnalysis → (n limit : ℕ) (q : Question) (v : Values) (a : Option AnswerTrees) → n ≤ limit → IsClosedGoal q v
+        → SingleWay n (meaning_of w).view (clauses_of (fact_of q v).goal.environment) (reference_in (fact_of q v)) → IsOnlyFor w PostAnalysis limit q a
+        → IsRightFor frame_tables (IsProved (meaning_of w).view) (fact_of q v) a
 
-  -- in coherence, of a bounded reference without where-clauses, where some linked set has the crate: it refuses exactly what is not possible
-  abbrev pub SolverTellsPossible : Type 0
-  SolverTellsPossible =
-      (w : W) → IsGood w Coherence → LinkedWith (meaning_of w) → (n limit : ℕ) (q : Question) (v : Values) (a : Option AnswerTrees) → n ≤ limit → IsClosedGoal q v
-      → clauses_of (fact_of q v).goal.environment ≡ [] → is_bounded n (meaning_of w).view (meaning_of w).crate (reference_in (fact_of q v)) ≡ true → IsOnlyFor w Coherence limit q a
-      → TellsPossible (meaning_of w).view (meaning_of w).crate n (reference_in (fact_of q v)) a
+    -- in coherence, of a bounded reference without where-clauses, where some linked set has the crate: it refuses exactly what is not possible
+    abbrev pub SolverTellsPossible : Type 0
+    SolverTellsPossible =
+        (w : W) → IsGood w Coherence → LinkedWith (meaning_of w) → (n limit : ℕ) (q : Question) (v : Values) (a : Option AnswerTrees) → n ≤ limit → IsClosedGoal q v
+        → clauses_of (fact_of q v).goal.environment ≡ [] → is_bounded n (meaning_of w).view (meaning_of w).crate (reference_in (fact_of q v)) ≡ true → IsOnlyFor w Coherence limit q a
+        → TellsPossible (meaning_of w).view (meaning_of w).crate n (reference_in (fact_of q v)) a

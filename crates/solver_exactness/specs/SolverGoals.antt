@@ -1,7 +1,8 @@
 -- The goals without unknowns that the solver answers exactly: what is asked of them, and sets of goals that lead to no others.
-use Rattle.std.specs.Prelude.{◌≡◌, ℕ, zero, suc, true, List, Some}
+use Rattle.std.specs.Prelude.{◌≡◌, ℕ, zero, suc, Bool, true, List, Some}
 use Rattle.model.specs.Worlds.{World}
 use Rattle.model.specs.Proofs.{HasProof}
+use Rattle.infer_table.specs.Canonical.{CanonicalForm}
 use Rattle.infer_table.specs.declared.certainty.TypingMode.{TypingMode}
 use Rattle.infer_table.specs.declared.certainty.TypingMode.TheVariants.{Coherence, PostAnalysis}
 use Rattle.evaluation.specs.Lists.{Every}
@@ -39,26 +40,28 @@ pub record IsGoal (V : World) (f : Fact) : Type 0 where
   pub once : autos_stand_once (reference_in f).args ≡ true
   pub elaborated : IsElaborated V (clauses_of f.goal.environment)
 
--- A set of questions, with values for their placeholders, that leads to no others. Each is decided, and its instance is such a fact;
--- and what its candidates ask, where their equations hold, is in the set again.
-pub record AreGoals (m : Meaning) (mode : TypingMode) (IsAsked : Question → Values → Type 0) : Type 0 where
+-- A set of questions, with values for their placeholders, that leads to no others. Each is decided and fits the declarations, and its
+-- instance is such a fact; and what its candidates ask, where their equations hold, is in the set again.
+pub record AreGoals (m : Meaning) (mode : TypingMode) (fits : CanonicalForm → Bool) (IsAsked : Question → Values → Type 0) : Type 0 where
   pub decided : (q : Question) (v : Values) → IsAsked q v → (a : Asked) × (asked m.view q.form ≡ Some a)
+  pub fitting : (q : Question) (v : Values) → IsAsked q v → fits q.form ≡ true
   pub goals : (q : Question) (v : Values) → IsAsked q v → IsGoal m.view (fact_of q v)
   pub onward : (q : Question) (v : Values) → IsAsked q v → AreClosed q.form.kinds → ArePlaces q.form.kinds v
       → (a : Asked) → asked m.view q.form ≡ Some a → Every (AsksSuch frame_tables closed_tables IsAsked (begin (kinds_known q.form.kinds)) v) (specs_by m mode a)
 
--- The question is decided, its instance is such a fact, and so it is of all that its candidates ask where their equations hold, and of
--- what these ask, in n steps.
-abbrev pub IsGoodFor : Meaning → TypingMode → ℕ → Question → Values → Type 0
-IsGoodFor m mode zero q v = Unit {0}
-IsGoodFor m mode (suc n) q v =
-    IsGoal m.view (fact_of q v)
-    × ((a : Asked) × (asked m.view q.form ≡ Some a) × Every (AsksSuch frame_tables closed_tables (IsGoodFor m mode n) (begin (kinds_known q.form.kinds)) v) (specs_by m mode a))
+-- The question fits and is decided, its instance is such a fact, and so it is of all that its candidates ask where their equations hold,
+-- and of what these ask, in n steps.
+abbrev pub IsGoodFor : Meaning → TypingMode → (CanonicalForm → Bool) → ℕ → Question → Values → Type 0
+IsGoodFor m mode fits zero q v = Unit {0}
+IsGoodFor m mode fits (suc n) q v =
+    (fits q.form ≡ true)
+    × IsGoal m.view (fact_of q v)
+    × ((a : Asked) × (asked m.view q.form ≡ Some a) × Every (AsksSuch frame_tables closed_tables (IsGoodFor m mode fits n) (begin (kinds_known q.form.kinds)) v) (specs_by m mode a))
 
 -- so it is of all that it leads to
-abbrev pub LeadsToGoals : Meaning → TypingMode → Question → Values → Type 0
-LeadsToGoals m mode q v = (n : ℕ) → IsGoodFor m mode n q v
+abbrev pub LeadsToGoals : Meaning → TypingMode → (CanonicalForm → Bool) → Question → Values → Type 0
+LeadsToGoals m mode fits q v = (n : ℕ) → IsGoodFor m mode fits n q v
 
 -- the questions that lead to such goals alone are a set that leads to no others
 abbrev pub LeadingAreGoals : Type 0
-LeadingAreGoals = (m : Meaning) (mode : TypingMode) → AreGoals m mode (LeadsToGoals m mode)
+LeadingAreGoals = (m : Meaning) (mode : TypingMode) (fits : CanonicalForm → Bool) → AreGoals m mode fits (LeadsToGoals m mode fits)

@@ -1,9 +1,12 @@
 //! The solver's handler on goals without unknowns: that its candidates are the ways of a goal, and in what order it considers them.
 #![tactic(auto)]
 
+pub mod laws;
+
 ghost use Rattle.solver_exactness.specs.ReadBack.{OutsideComesBack, CoherenceComesBack};
 ghost use Rattle.solver_exactness.specs.RowWays.{RowsAreWays, EquatedRowsAreWays, ClausesAreWays};
 ghost use Rattle.std.specs.Prelude.{Bool, Option};
+ghost use Rattle.infer_table.specs.Canonical.{CanonicalForm};
 ghost use Rattle.infer_table.specs.Responses.{AnswerTrees};
 ghost use Rattle.table_laws.specs.Content.{Fact, Question, Values};
 ghost use Rattle.evaluation_laws.specs.Tables.{frame_tables};
@@ -91,6 +94,9 @@ pub trait SolverSearching {
 
     ghost meaning_of: { World → Meaning };
 
+    /// Which goals fit the declarations: of others nothing is decided.
+    ghost fits_in: { World → CanonicalForm → Bool };
+
     /// Which where-clauses may be taken alone, and which answers are one, as the solver merges them.
     ghost applicable: { AnswerTrees → Bool };
 
@@ -104,7 +110,7 @@ pub trait SolverSearching {
 
     ghost Frame: { Type 0 };
 
-    ghost handles: { Handles Context Input Result Frame World (Asked frame_tables (solver_programs applicable same meaning_of)) (Option AnswerTrees) };
+    ghost handles: { Handles Context Input Result Frame World (Asked frame_tables (solver_programs applicable same meaning_of fits_in)) (Option AnswerTrees) };
 
     ghost IsAsked: { Question → Values → Type 0 };
 }
@@ -112,28 +118,28 @@ pub trait SolverSearching {
 /// On a set of goals without unknowns that leads to no others, plain recursion over the solver's frames refuses, in both modes, only
 /// what is not possible by the rules of the view, and does not refuse what is not possible.
 pub fn solver_is_exact<S: SolverSearching>()
-    ensures { SolverIsExact S.applicable S.same S.meaning_of S.handles S.IsAsked }
+    ensures { SolverIsExact S.applicable S.same S.meaning_of S.fits_in S.handles S.IsAsked }
 {}
 
 /// So a search that comes to no other answer than plain recursion within its limit, as `evaluate_root_goal` promises of one more than
 /// its depth, refuses a goal of the set whose chains of premises are short exactly if it is not possible.
 pub fn solver_searches_are_exact<S: SolverSearching>()
-    requires programs { ArePrograms frame_tables (solver_programs S.applicable S.same S.meaning_of) }
-    ensures { SolverSearchesAreExact S.applicable S.same S.meaning_of S.handles S.IsAsked }
+    requires programs { ArePrograms frame_tables (solver_programs S.applicable S.same S.meaning_of S.fits_in) }
+    ensures { SolverSearchesAreExact S.applicable S.same S.meaning_of S.fits_in S.handles S.IsAsked }
 {}
 
 /// And outside coherence it answers a definite yes to one that has a proof by the rules of the view and its where-clauses, and refuses
 /// one that has none, where by short chains each reference has one rule at most whose premises have proofs.
 pub fn solver_searches_are_right<S: SolverSearching>()
-    requires programs { ArePrograms frame_tables (solver_programs S.applicable S.same S.meaning_of) }
-    ensures { SolverSearchesAreRight S.applicable S.same S.meaning_of S.handles S.IsAsked }
+    requires programs { ArePrograms frame_tables (solver_programs S.applicable S.same S.meaning_of S.fits_in) }
+    ensures { SolverSearchesAreRight S.applicable S.same S.meaning_of S.fits_in S.handles S.IsAsked }
 {}
 
 /// Where a set of accepted crates has the crate, a search in coherence refuses a bounded reference without where-clauses exactly if it
 /// is not possible in the crate.
 pub fn solver_tells_possible<S: SolverSearching>()
-    requires programs { ArePrograms frame_tables (solver_programs S.applicable S.same S.meaning_of) }
-    ensures { SolverTellsPossible S.applicable S.same S.meaning_of S.handles S.IsAsked }
+    requires programs { ArePrograms frame_tables (solver_programs S.applicable S.same S.meaning_of S.fits_in) }
+    ensures { SolverTellsPossible S.applicable S.same S.meaning_of S.fits_in S.handles S.IsAsked }
 {}
 
 /// The questions that lead to good goals alone, in any number of steps, are a set that leads to no others.

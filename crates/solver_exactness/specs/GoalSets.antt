@@ -1,0 +1,63 @@
+-- Sets of goals without unknowns that lead to no others: decided goals of facts that can be asked, where the ways of such facts keep to
+-- such facts.
+use Rattle.std.specs.Prelude.{◌≡◌, ◌==◌, Bool, true, false, ◌||◌, not, Some}
+use Rattle.model.specs.Label.{Label, of_type}
+use Rattle.model.specs.Trees.{Trees, none, tree, is_sort, sort_of}
+use Rattle.model.specs.Worlds.{World}
+use Rattle.model.specs.Rules.{unsize}
+use Rattle.model.specs.Answers.{written_in}
+use Rattle.type_terms.specs.Made.{terms, is_made}
+use Rattle.infer_table.specs.Canonical.{CanonicalForm}
+use Rattle.infer_table.specs.declared.certainty.TypingMode.{TypingMode}
+use Rattle.evaluation.specs.Lists.{Every}
+use Rattle.table_laws.specs.Content.{Values, Fact, Question, fact_of}
+use Rattle.table_laws.specs.Frames.{kinds_known}
+use Rattle.table_laws.specs.Operations.{begin}
+use Rattle.evaluation_laws.specs.Tables.{frame_tables}
+use Rattle.exactness_laws.specs.Closed.{AsksSuch}
+use Rattle.exactness_laws.specs.ClosedTables.{AreClosed, ArePlaces, closed_tables}
+use Rattle.assembly_laws.specs.Facts.{reference_in}
+use Rattle.assembly_laws.specs.DeclaredWell.{IsDeclaredWell}
+use Rattle.assembly_laws.specs.Meaning.{Meaning}
+use Rattle.assembly_laws.specs.Asking.{Asked, asked, next_of}
+use Rattle.solver_exactness.specs.SolverGoals.{specs_by, ways_by, IsGoal, AreGoals}
+
+-- the first of the trees is a type
+abbrev pub begins_typed : Trees → Bool
+begins_typed none = false
+begins_typed (tree l c o) = is_sort (sort_of l) of_type
+
+abbrev pub any_label : Label → Bool
+any_label l = true
+
+-- the fact's terms are made as terms are, of names of the view, and the self type is a type, as is what it is to unsize to
+pub record IsAskable (V : World) (f : Fact) : Type 0 where
+  pub goal : IsGoal V f
+  pub made : is_made any_label terms (reference_in f).args ≡ true
+  pub written : written_in V (reference_in f) ≡ true
+  pub begins : begins_typed (reference_in f).args ≡ true
+  pub target : (not ((reference_in f).trait == unsize) || begins_typed (next_of (reference_in f).args)) ≡ true
+
+-- facts of which P holds can be asked, and what they follow from are such facts
+pub record AreKept (m : Meaning) (mode : TypingMode) (P : Fact → Type 0) : Type 0 where
+  pub askable : (f : Fact) → P f → IsAskable m.view f
+  pub kept : (f : Fact) → P f → Every (Every P) (ways_by m mode f)
+
+-- the decided questions of such facts that are admitted
+pub record IsGoalOf (V : World) (admits : CanonicalForm → Bool) (P : Fact → Type 0) (q : Question) (v : Values) : Type 0 where
+  pub form : Asked
+  pub decided : asked V q.form ≡ Some form
+  pub admitted : admits q.form ≡ true
+  pub of_fact : P (fact_of q v)
+
+-- what is asked of a goal that is admitted, is admitted; and only what fits the declarations is
+pub record FitsAreKept (m : Meaning) (mode : TypingMode) (fits admits : CanonicalForm → Bool) (P : Fact → Type 0) : Type 0 where
+  pub fitting : (f : CanonicalForm) → admits f ≡ true → fits f ≡ true
+  pub kept : (q : Question) (v : Values) → IsGoalOf m.view admits P q v → AreClosed q.form.kinds → ArePlaces q.form.kinds v → (a : Asked) → asked m.view q.form ≡ Some a
+      → Every (AsksSuch frame_tables closed_tables (λ (p : Question) (u : Values). admits p.form ≡ true) (begin (kinds_known q.form.kinds)) v) (specs_by m mode a)
+
+-- so these questions are a set that leads to no others, in each mode in which facts and fits are kept
+abbrev pub GoalsLeadToGoals : (Fact → Type 0) → Type 0
+GoalsLeadToGoals P =
+    (m : Meaning) (mode : TypingMode) (fits admits : CanonicalForm → Bool) → IsDeclaredWell m.view → AreKept m mode P → FitsAreKept m mode fits admits P
+    → AreGoals m mode fits (IsGoalOf m.view admits P)

@@ -1,0 +1,66 @@
+-- What `evaluate_root_goal` is told of goals of formed facts, where the handler means what the solver means.
+use Rattle.std.specs.Prelude.{◌≡◌, ◌≤◌, ◌+◌, ℕ, Bool, true, List, [], Option}
+use Rattle.type_terms.specs.Terms.{Entry}
+use Rattle.model.specs.Answers.{SingleWay, is_bounded}
+use Rattle.infer_table.specs.Canonical.{CanonicalForm}
+use Rattle.infer_table.specs.declared.certainty.TypingMode.{TypingMode}
+use Rattle.infer_table.specs.declared.certainty.TypingMode.TheVariants.{Coherence, PostAnalysis}
+use Rattle.infer_table.specs.Responses.{AnswerTrees}
+use Rattle.search_graph.specs.Meaning as Search
+use Rattle.evaluation.specs.Handler.{Handled}
+use Rattle.table_laws.specs.Content.{Values, Question, fact_of}
+use Rattle.evaluation_laws.specs.Tables.{frame_tables}
+use Rattle.goal_frames.specs.declared.store.InputId.{InputId}
+use Rattle.goal_frames.specs.declared.store.ResponseId.{ResponseId}
+use Rattle.goal_frames.specs.declared.frame.GoalFrame.{GoalFrame}
+use Rattle.root_goals.specs.declared.context.SolverCx.{SolverCx}
+use Rattle.root_goals.specs.Contexts.{entries_of}
+use Rattle.root_goals.specs.Evaluations.{IsFound}
+use Rattle.root_goals.specs.Searching.{solver_meaning}
+use Rattle.exactness_laws.specs.Ways.{HasShortChains, IsExactFor, IsRightFor}
+use Rattle.assembly_laws.specs.Facts.{FollowsByView, is_coinductive_fact, clauses_of, reference_in}
+use Rattle.assembly_laws.specs.Meaning.{Meaning, LinkedWith}
+use Rattle.assembly_laws.specs.Solver.{solver_handled}
+use Rattle.solver_exactness.specs.SolverGoals.{ways_by, IsProved}
+use Rattle.solver_exactness.specs.SolverAnswers.{meant_for, TellsPossible}
+use Rattle.solver_exactness.specs.FormedFacts.{Sorts}
+use Rattle.solver_exactness.specs.FormedAnswers.{IsFormedGoal, AreDeclared}
+
+module _ {W : Type 0} (applicable : AnswerTrees → Bool) (same : AnswerTrees → AnswerTrees → Bool) (meaning_of : W → Meaning) (fits_in : W → CanonicalForm → Bool)
+    {Handler : Type 0} (is_ready : Handler → List Entry → Type 0) (declares : Handler → List Entry → W) where
+  -- the solver for each goal, and what it means to the search of a context with such a handler
+  abbrev pub solver_in : W → TypingMode → CanonicalForm → Handled frame_tables
+  solver_in w mode f = solver_handled applicable same (meant_for (meaning_of w) (fits_in w) f) mode f
+
+  abbrev pub root_meaning : Search.Meaning (SolverCx Handler) InputId (Option ResponseId) GoalFrame
+  root_meaning = solver_meaning solver_in (λ w. FollowsByView (meaning_of w).view) (λ w. is_coinductive_fact (meaning_of w).view) is_ready declares
+
+  abbrev pub declared_in : SolverCx Handler → W
+  declared_in c = declares c.handler (entries_of c)
+
+  -- the search within this depth gives the question this answer
+  abbrev pub Gives : SolverCx Handler → ℕ → TypingMode → Question → Option AnswerTrees → Type 0
+  Gives c depth mode q a = IsFound root_meaning (declared_in c) depth (mode, q.form) a
+
+  -- a bounded goal is refused exactly if it is not possible
+  abbrev pub RootsAreExact : Type 0
+  RootsAreExact =
+      (c : SolverCx Handler) (depth n : ℕ) (mode : TypingMode) (sorts : Sorts) (admits : CanonicalForm → Bool) → let m = meaning_of (declared_in c) in
+      AreDeclared m mode (fits_in (declared_in c)) admits sorts → (q : Question) (v : Values) (a : Option AnswerTrees) → IsFormedGoal m.view sorts admits q v
+      → n ≤ depth + 1 → HasShortChains (ways_by m mode) n (fact_of q v) → Gives c depth mode q a → IsExactFor (ways_by m mode) n (fact_of q v) a
+
+  -- outside coherence a decided reference is answered a definite yes if it has a proof, and refused if not
+  abbrev pub RootsAreRight : Type 0
+  RootsAreRight =
+      (c : SolverCx Handler) (depth n : ℕ) (sorts : Sorts) (admits : CanonicalForm → Bool) → let m = meaning_of (declared_in c) in
+      AreDeclared m PostAnalysis (fits_in (declared_in c)) admits sorts → (q : Question) (v : Values) (a : Option AnswerTrees) → IsFormedGoal m.view sorts admits q v
+      → n ≤ depth + 1 → SingleWay n m.view (clauses_of (fact_of q v).goal.environment) (reference_in (fact_of q v)) → Gives c depth PostAnalysis q a
+      → IsRightFor frame_tables (IsProved m.view) (fact_of q v) a
+
+  -- in coherence a bounded reference without where-clauses is refused exactly if it is not possible in the crate
+  abbrev pub RootsTellPossible : Type 0
+  RootsTellPossible =
+      (c : SolverCx Handler) (depth n : ℕ) (sorts : Sorts) (admits : CanonicalForm → Bool) → let m = meaning_of (declared_in c) in
+      AreDeclared m Coherence (fits_in (declared_in c)) admits sorts → LinkedWith m → (q : Question) (v : Values) (a : Option AnswerTrees) → IsFormedGoal m.view sorts admits q v
+      → n ≤ depth + 1 → clauses_of (fact_of q v).goal.environment ≡ [] → is_bounded n m.view m.crate (reference_in (fact_of q v)) ≡ true → Gives c depth Coherence q a
+      → TellsPossible m.view m.crate n (reference_in (fact_of q v)) a
