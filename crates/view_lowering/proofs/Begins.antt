@@ -17,38 +17,46 @@ use Rattle.text_definitions.specs.Faults.{is_among, variables_in, is_any, has_st
 use Rattle.text_definitions.specs.Lowering.{Meanings, type_tree, args_trees, struct_label, place_among}
 use Rattle.text_definitions.specs.Adding.{item_meanings, impl_of, added}
 use Rattle.text_definitions.specs.Text.{LineGives, other_byte, blank, unwritten, faulty, adds, LinesGive, ends, fails, goes_on, TextGives, too_long, fits}
-use Rattle.declarations.specs.Heads.{is_rigid, begins_declared}
+use Rattle.declarations.specs.Heads.{begins_declared}
 use Rattle.workspace.specs.Numbered.{Each}
 use Rattle.view_lowering.specs.Seen.{BeginDeclared}
 
 -- ---- primitive tokens are primitive types
-abbrev Fine : Token → Type 0
-Fine (primitive p) = is_rigid p ≡ true
+abbrev pub is_scalar : Label → Bool
+is_scalar bool = true
+is_scalar char = true
+is_scalar str = true
+is_scalar (int n) = true
+is_scalar (uint n) = true
+is_scalar l = false
+
+abbrev pub Fine : Token → Type 0
+Fine (primitive p) = is_scalar p ≡ true
 Fine _ = Unit {0}
 
-abbrev AllFine : List Token → Type 0
+abbrev pub AllFine : List Token → Type 0
 AllFine [] = Unit {0}
 AllFine (t ∷ ts) = Fine t × AllFine ts
 
-abbrev AllRigid : List (List ℕ × Label) → Type 0
-AllRigid [] = Unit {0}
-AllRigid (p ∷ ps) = (is_rigid p.1 ≡ true) × AllRigid ps
+abbrev AllScalar : List (List ℕ × Label) → Type 0
+AllScalar [] = Unit {0}
+AllScalar (p ∷ ps) = (is_scalar p.1 ≡ true) × AllScalar ps
 
-found-rigid : (f : List ℕ × Label → Bool) (ps : List (List ℕ × Label)) (l : Label) → AllRigid ps → option_map (λ p. p.1) (find f ps) ≡ Some l → is_rigid l ≡ true
-found-rigid f [] l h e = absurd cc
-found-rigid f (p ∷ ps) l h e = by (f p) e (λ g. found-rigid f ps l h.1 g)
+found-scalar : (f : List ℕ × Label → Bool) (ps : List (List ℕ × Label)) (l : Label) → AllScalar ps → option_map (λ p. p.1) (find f ps) ≡ Some l → is_scalar l ≡ true
+found-scalar f [] l h e = absurd cc
+found-scalar f (p ∷ ps) l h e = by (f p) e (λ g. found-scalar f ps l h.1 g)
   where
-    by : (b : Bool) → option_map (λ q. q.1) (cond b (Some p) (find f ps)) ≡ Some l → (option_map (λ q. q.1) (find f ps) ≡ Some l → is_rigid l ≡ true) → is_rigid l ≡ true
-    by true g k = ap is_rigid (sym (same_Some p.1 l g)) ∙ h.0
+    by : (b : Bool) → option_map (λ q. q.1) (cond b (Some p) (find f ps)) ≡ Some l → (option_map (λ q. q.1) (find f ps) ≡ Some l → is_scalar l ≡ true) → is_scalar l ≡ true
+    by true g k = ap is_scalar (sym (same_Some p.1 l g)) ∙ h.0
     by false g k = k g
 
-all-rigid : AllRigid primitives
-all-rigid = (refl, (refl, (refl, (refl, (refl, (refl, (refl, (refl, (refl, (refl, (refl, (refl, (refl, (refl, (refl, tt)))))))))))))))
+all-scalar : AllScalar primitives
+all-scalar = (refl, (refl, (refl, (refl, (refl, (refl, (refl, (refl, (refl, (refl, (refl, (refl, (refl, (refl, (refl, tt)))))))))))))))
 
 name-fine : (w : List ℕ) → Fine (name_token w)
-name-fine w = by (keyword_named w) (primitive_named w) (λ l e. found-rigid (λ p. bytes_eq w p.0) primitives l all-rigid e)
+name-fine w = by (keyword_named w) (primitive_named w) (λ l e. found-scalar (λ p. bytes_eq w p.0) primitives l all-scalar e)
   where
-    by : (k : Option Keyword) (p : Option Label) → ((l : Label) → p ≡ Some l → is_rigid l ≡ true) → Fine (elim k [ Some x ↦ keyword x | None ↦ elim p [ Some y ↦ primitive y | None ↦ name w ] ])
+    by : (k : Option Keyword) (p : Option Label) → ((l : Label) → p ≡ Some l → is_scalar l ≡ true) → Fine (elim k [ Some x ↦ keyword x | None ↦ elim p [ Some y ↦ primitive y | None ↦ name w ] ])
     by (Some x) p h = tt
     by None (Some y) h = h y refl
     by None None h = tt
@@ -92,7 +100,7 @@ sign-fine : (o : Option Sign) (x : Token) → option_map sign o ≡ Some x → F
 sign-fine None x e = absurd cc
 sign-fine (Some s) x e = subst Fine (same_Some (sign s) x e) tt
 
-tokens-fine : (ps : List Piece) (ts : List Token) → tokens_from ps ≡ Some ts → AllFine ts
+pub tokens-fine : (ps : List Piece) (ts : List Token) → tokens_from ps ≡ Some ts → AllFine ts
 tokens-fine [] ts e = subst AllFine (same_Some [] ts e) tt
 tokens-fine (word w ∷ ps) ts e = in-front (word_token w) (tokens_from ps) ts e (λ x g. word-fine w x g) (λ rest g. tokens-fine ps rest g)
 tokens-fine (quoted w ∷ ps) ts e = in-front (as_lifetime (word_token w)) (tokens_from ps) ts e (λ x g. lifetime-fine (word_token w) x g) (λ rest g. tokens-fine ps rest g)
@@ -105,11 +113,11 @@ tokens-fine (byte b ∷ ps) ts e = by (b == 32) e (λ rest g. tokens-fine ps res
     by false g h = in-front (sign_token b) (tokens_from ps) ts g (λ x q. sign-fine (sign_at b) x q) h
 
 -- ---- the subject of a written header
-fine-behind : (xs ys : List Token) → AllFine (xs ++ ys) → AllFine ys
+pub fine-behind : (xs ys : List Token) → AllFine (xs ++ ys) → AllFine ys
 fine-behind [] ys h = h
 fine-behind (x ∷ xs) ys h = fine-behind xs ys h.1
 
-fine-front : (xs ys : List Token) → AllFine (xs ++ ys) → AllFine xs
+pub fine-front : (xs ys : List Token) → AllFine (xs ++ ys) → AllFine xs
 fine-front [] ys h = tt
 fine-front (x ∷ xs) ys h = (h.0, fine-front xs ys h.1)
 
@@ -150,35 +158,35 @@ named-begins : (b : Bool) (i : ℕ) (k : Option Known) (c o : Trees) → begins_
 named-begins true i k c o = refl
 named-begins false i k c o = struct-rigid k c o
 
-rigid-begins : (l : Label) (c o : Trees) → is_rigid l ≡ true → begins_declared (tree l c o) ≡ true
-rigid-begins bool c o h = refl
-rigid-begins char c o h = refl
-rigid-begins str c o h = refl
-rigid-begins never c o h = refl
-rigid-begins array c o h = refl
-rigid-begins slice c o h = refl
-rigid-begins tuple c o h = refl
-rigid-begins dynamic c o h = refl
-rigid-begins (int n) c o h = refl
-rigid-begins (uint n) c o h = refl
-rigid-begins (adt n) c o h = refl
-rigid-begins (fn_ptr n) c o h = refl
-rigid-begins (ref n) c o h = refl
-rigid-begins (raw_pointer n) c o h = refl
-rigid-begins static c o h = absurd cc
-rigid-begins (auto_trait x) c o h = absurd cc
-rigid-begins (value x) c o h = absurd cc
-rigid-begins (principal x y) c o h = absurd cc
-rigid-begins (param x y) c o h = absurd cc
-rigid-begins (placeholder x y) c o h = absurd cc
-rigid-begins (infer x y) c o h = absurd cc
-rigid-begins (canonical x y) c o h = absurd cc
-rigid-begins (bound x y z) c o h = absurd cc
-rigid-begins (predicate x) c o h = absurd cc
+scalar-begins : (l : Label) (c o : Trees) → is_scalar l ≡ true → begins_declared (tree l c o) ≡ true
+scalar-begins bool c o h = refl
+scalar-begins char c o h = refl
+scalar-begins str c o h = refl
+scalar-begins (int n) c o h = refl
+scalar-begins (uint n) c o h = refl
+scalar-begins never c o h = absurd cc
+scalar-begins array c o h = absurd cc
+scalar-begins slice c o h = absurd cc
+scalar-begins tuple c o h = absurd cc
+scalar-begins dynamic c o h = absurd cc
+scalar-begins (adt n) c o h = absurd cc
+scalar-begins (fn_ptr n) c o h = absurd cc
+scalar-begins (ref n) c o h = absurd cc
+scalar-begins (raw_pointer n) c o h = absurd cc
+scalar-begins static c o h = absurd cc
+scalar-begins (auto_trait x) c o h = absurd cc
+scalar-begins (value x) c o h = absurd cc
+scalar-begins (principal x y) c o h = absurd cc
+scalar-begins (param x y) c o h = absurd cc
+scalar-begins (placeholder x y) c o h = absurd cc
+scalar-begins (infer x y) c o h = absurd cc
+scalar-begins (canonical x y) c o h = absurd cc
+scalar-begins (bound x y z) c o h = absurd cc
+scalar-begins (predicate x) c o h = absurd cc
 
 -- a type whose parameters are parameters begins so, if it is no variable
 type-begins : (e : Meanings) (t : TypeTree) (o : Trees) → e.parameter ≡ param → AllFine (type_spelling t) → ((n : List ℕ) → t ≡ variable_type n → ⊥) → begins_declared (type_tree e [] of_type t +++ o) ≡ true
-type-begins e (of_primitive l) o p f v = rigid-begins l none o f.0
+type-begins e (of_primitive l) o p f v = scalar-begins l none o f.0
 type-begins e never_type o p f v = refl
 type-begins e (variable_type n) o p f v = absurd (v n refl)
 type-begins e (named n args) o p f v =

@@ -3,4 +3,7 @@ mod References
 mod Structs
 mod Views
 mod Unknowns
-mod Begins
+pub mod Begins
+mod Plainly
+mod Named
+mod PlainLists

@@ -1,10 +1,10 @@
 -- The items of a view, added one after the other.
-use Rattle.std.proofs.Common.{◌≡◌, ℕ, ◌+◌, ◌<◌, true, false, cond, List, [], ◌∷◌, ◌++◌, length, map, Some, refl, sym, ap, ◌∙◌, subst, arith}
+use Rattle.std.proofs.Common.{◌≡◌, ℕ, ◌+◌, ◌<◌, Bool, true, false, cond, List, [], ◌∷◌, ◌++◌, length, map, take, Some, refl, sym, ap, ◌∙◌, subst, arith}
 use Rattle.std.specs.Prelude.{◌==◌, filter, slice_get}
 use Rattle.std.proofs.lemmas.Bool.{ne_eqb}
 use Rattle.std.proofs.lemmas.List.{length-map}
 use Rattle.model.specs.Label.{of_type}
-use Rattle.model.proofs.TermRules.{erased-views}
+use Rattle.model.proofs.TermRules.{erased-views, filter-map}
 use Rattle.model.specs.Terms.{erased_struct, erased_trait, erased_world}
 use Rattle.model.specs.Worlds.{World, StructDecl, TraitDecl, ImplDecl, sees, structs_named, traits_named}
 use Rattle.text_definitions.specs.Declarations as text
@@ -18,6 +18,8 @@ use Rattle.declarations.specs.Held.{AreHeld}
 use Rattle.declarations.specs.Items.{Items, HeldImpl, struct_in, trait_in, impl_in, written, declared, with_struct, with_trait, with_impl}
 use Rattle.declarations.specs.Merges.{Each}
 use Rattle.declarations.proofs.Growth.{all-written}
+use Rattle.view_lowering.specs.Plain.{plain_struct, plain_trait, plain_impl, plainly_seen_from}
+use Rattle.view_lowering.proofs.Plainly.{world-erased}
 use Rattle.view_lowering.specs.Seen.{seen_from, rules_seen_from, impl_sorts, param_sorts, impl_sorts_seen, struct_sorts, trait_sorts, struct_sorts_seen, trait_sorts_seen}
 use Rattle.view_lowering.proofs.Going.{Gone, gone-first, gone-passed, gone-taken, gone-again, all-taken}
 
@@ -29,12 +31,22 @@ none-there number name read erase same n (x ∷ xs) h =
     ap (λ b. cond b (erase (read x) ∷ filter (λ y. name y == n) (map erase (map read xs))) (filter (λ y. name y == n) (map erase (map read xs))))
     (ap (λ k. k == n) (same x) ∙ ne_eqb (number x) n (λ e. omega (arith, e, h.0))) ∙ none-there number name read erase same n xs h.1
 
+-- all are gone over, each read plainly: those that pass, which is told by what stays
+all-plain : {N D : Type 0} (plain : D → D) (item : N → D) (p : D → Bool) → ((x : D) → p (plain x) ≡ p x) → (ns : List N) (i : ℕ) → i ≡ length ns
+    → filter p (take i (map (λ n. plain (item n)) ns)) ≡ map plain (filter p (map item ns))
+all-plain plain item p h ns i e =
+    ap (filter p) (all-taken (map (λ n. plain (item n)) ns) i (e ∙ sym (length-map ns (λ n. plain (item n)))) ∙ in-turn plain item ns) ∙ filter-map plain p p h (map item ns)
+  where
+    in-turn : {N D : Type 0} (plain : D → D) (item : N → D) (ns : List N) → map (λ n. plain (item n)) ns ≡ map plain (map item ns)
+    in-turn plain item [] = refl
+    in-turn plain item (n ∷ ns) = ap (λ l. plain (item n) ∷ l) (in-turn plain item ns)
+
 abbrev pub held_in : List Entry → HeldImpl → ImplDecl
 held_in es i = impl_in es i.id i.def
 
 -- ---- Structs: the state of the loop
 abbrev pub StructsGone : text.Declarations → ℕ → List Entry → ℕ → List (AdtId × AdtDef) → Type 0
-StructsGone d c es i xs = Gone (struct_in es) (struct_sorts) (λ x. x.0.index) (λ s. s.item) (λ s. s.kinds) (λ (x : StructDecl). sees (world_of d) c x.home) d.structs i xs
+StructsGone d c es i xs = Gone (struct_in es) (struct_sorts) (λ x. x.0.index) (λ s. plain_struct s.item) (λ s. s.kinds) (λ (x : StructDecl). sees (world_of d) c x.home) d.structs i xs
 
 pub record StructsAdded (d : text.Declarations) (c : ℕ) (old : List Entry) (limit : ℕ) (start : Items) (i : ℕ) (es : List Entry) (now_limit : ℕ) (now : Items) : Type 0 where
   pub keeps : Keeps old es
@@ -51,7 +63,7 @@ module _ (d : text.Declarations) (c : ℕ) (old : List Entry) (limit : ℕ) (sta
         limited = refl;
         others = refl;
         held = held;
-        gone = gone-first (struct_in old) (struct_sorts) (λ x. x.0.index) (λ s. s.item) (λ s. s.kinds) (λ (x : StructDecl). sees (world_of d) c x.home) d.structs start.structs none;
+        gone = gone-first (struct_in old) (struct_sorts) (λ x. x.0.index) (λ s. plain_struct s.item) (λ s. s.kinds) (λ (x : StructDecl). sees (world_of d) c x.home) d.structs start.structs none;
       }
 
   pub structs-passed : (i : ℕ) (es : List Entry) (now_limit : ℕ) (now : Items) (s : text.NamedStruct) → slice_get d.structs i ≡ Some s → sees (world_of d) c s.item.home ≡ false → StructsAdded d c old limit start i es now_limit now
@@ -62,12 +74,12 @@ module _ (d : text.Declarations) (c : ℕ) (old : List Entry) (limit : ℕ) (sta
         limited = a.limited;
         others = a.others;
         held = a.held;
-        gone = gone-passed (struct_in es) (struct_sorts) (λ x. x.0.index) (λ y. y.item) (λ s. s.kinds) (λ (x : StructDecl). sees (world_of d) c x.home) d.structs i s now.structs there unseen a.gone;
+        gone = gone-passed (struct_in es) (struct_sorts) (λ x. x.0.index) (λ y. plain_struct y.item) (λ s. s.kinds) (λ (x : StructDecl). sees (world_of d) c x.home) d.structs i s now.structs there unseen a.gone;
       }
 
   pub structs-taken : (i : ℕ) (es : List Entry) (now_limit : ℕ) (now : Items) (s : text.NamedStruct) (new : List Entry) (new_limit : ℕ) (id : AdtId) (def : AdtDef) (next : Items)
       → slice_get d.structs i ≡ Some s → sees (world_of d) c s.item.home ≡ true → s.item.name ≡ i → Keeps es new → new_limit ≡ now_limit
-      → struct_in new (id, def) ≡ s.item → struct_sorts (id, def) ≡ s.kinds → next ≡ with_struct now (id, def) → AreHeld new next → StructsAdded d c old limit start i es now_limit now
+      → struct_in new (id, def) ≡ plain_struct s.item → struct_sorts (id, def) ≡ s.kinds → next ≡ with_struct now (id, def) → AreHeld new next → StructsAdded d c old limit start i es now_limit now
       → StructsAdded d c old limit start (i + 1) new new_limit next
   structs-taken i es now_limit now s new new_limit id def next there seen number k same_limit same sorted put held a =
       record {
@@ -77,19 +89,19 @@ module _ (d : text.Declarations) (c : ℕ) (old : List Entry) (limit : ℕ) (sta
         held = held;
         gone =
             subst (StructsGone d c new (i + 1)) (sym (ap (λ n. n.structs) put))
-            (gone-taken (struct_in new) (struct_sorts) (λ x. x.0.index) (λ y. y.item) (λ s. s.kinds) (λ (x : StructDecl). sees (world_of d) c x.home) d.structs i s now.structs (id, def) there seen same (sorted) (ap (λ x. x.name) same ∙ number)
-            (gone-again (struct_in es) (struct_in new) (struct_sorts) (λ x. x.0.index) (λ y. y.item) (λ s. s.kinds) (λ (x : StructDecl). sees (world_of d) c x.home) d.structs i now.structs (ap (λ w. w.structs) (all-written es new k now a.held)) a.gone));
+            (gone-taken (struct_in new) (struct_sorts) (λ x. x.0.index) (λ y. plain_struct y.item) (λ s. s.kinds) (λ (x : StructDecl). sees (world_of d) c x.home) d.structs i s now.structs (id, def) there seen same (sorted) (ap (λ x. x.name) same ∙ number)
+            (gone-again (struct_in es) (struct_in new) (struct_sorts) (λ x. x.0.index) (λ y. plain_struct y.item) (λ s. s.kinds) (λ (x : StructDecl). sees (world_of d) c x.home) d.structs i now.structs (ap (λ w. w.structs) (all-written es new k now a.held)) a.gone));
       }
 
-  pub structs-all : (i : ℕ) (es : List Entry) (now_limit : ℕ) (now : Items) → length d.structs ≡ i → StructsAdded d c old limit start i es now_limit now → map (struct_in es) now.structs ≡ (seen_from d c).structs
-  structs-all i es now_limit now e a = a.gone.are ∙ ap (filter (λ (x : StructDecl). sees (world_of d) c x.home)) (all-taken (world_of d).structs i (sym e ∙ sym (length-map d.structs (λ (s : text.NamedStruct). s.item))))
+  pub structs-all : (i : ℕ) (es : List Entry) (now_limit : ℕ) (now : Items) → length d.structs ≡ i → StructsAdded d c old limit start i es now_limit now → map (struct_in es) now.structs ≡ (plainly_seen_from d c).structs
+  structs-all i es now_limit now e a = a.gone.are ∙ all-plain plain_struct (λ (s : text.NamedStruct). s.item) (λ (x : StructDecl). sees (world_of d) c x.home) (λ x. refl) d.structs i (sym e)
 
   pub structs-sorted : (i : ℕ) (es : List Entry) (now_limit : ℕ) (now : Items) → length d.structs ≡ i → StructsAdded d c old limit start i es now_limit now → map struct_sorts now.structs ≡ struct_sorts_seen d c
   structs-sorted i es now_limit now e a = a.gone.sorts_are ∙ ap (λ l. map (λ s. s.kinds) (filter (λ (s : text.NamedStruct). sees (world_of d) c s.item.home) l)) (all-taken d.structs i (sym e))
 
 -- ---- Traits: the state of the loop
 abbrev pub TraitsGone : text.Declarations → ℕ → List Entry → ℕ → List (TraitId × TraitDef) → Type 0
-TraitsGone d c es i xs = Gone (trait_in es) (trait_sorts) (λ x. x.0.index) (λ s. s.item) (λ t. of_type ∷ t.kinds) (λ (x : TraitDecl). sees (world_of d) c x.home) d.traits i xs
+TraitsGone d c es i xs = Gone (trait_in es) (trait_sorts) (λ x. x.0.index) (λ s. plain_trait s.item) (λ t. of_type ∷ t.kinds) (λ (x : TraitDecl). sees (world_of d) c x.home) d.traits i xs
 
 pub record TraitsAdded (d : text.Declarations) (c : ℕ) (old : List Entry) (limit : ℕ) (start : Items) (i : ℕ) (es : List Entry) (now_limit : ℕ) (now : Items) : Type 0 where
   pub keeps : Keeps old es
@@ -106,7 +118,7 @@ module _ (d : text.Declarations) (c : ℕ) (old : List Entry) (limit : ℕ) (sta
         limited = refl;
         others = refl;
         held = held;
-        gone = gone-first (trait_in old) (trait_sorts) (λ x. x.0.index) (λ s. s.item) (λ t. of_type ∷ t.kinds) (λ (x : TraitDecl). sees (world_of d) c x.home) d.traits start.traits none;
+        gone = gone-first (trait_in old) (trait_sorts) (λ x. x.0.index) (λ s. plain_trait s.item) (λ t. of_type ∷ t.kinds) (λ (x : TraitDecl). sees (world_of d) c x.home) d.traits start.traits none;
       }
 
   pub traits-passed : (i : ℕ) (es : List Entry) (now_limit : ℕ) (now : Items) (s : text.NamedTrait) → slice_get d.traits i ≡ Some s → sees (world_of d) c s.item.home ≡ false → TraitsAdded d c old limit start i es now_limit now
@@ -117,12 +129,12 @@ module _ (d : text.Declarations) (c : ℕ) (old : List Entry) (limit : ℕ) (sta
         limited = a.limited;
         others = a.others;
         held = a.held;
-        gone = gone-passed (trait_in es) (trait_sorts) (λ x. x.0.index) (λ y. y.item) (λ t. of_type ∷ t.kinds) (λ (x : TraitDecl). sees (world_of d) c x.home) d.traits i s now.traits there unseen a.gone;
+        gone = gone-passed (trait_in es) (trait_sorts) (λ x. x.0.index) (λ y. plain_trait y.item) (λ t. of_type ∷ t.kinds) (λ (x : TraitDecl). sees (world_of d) c x.home) d.traits i s now.traits there unseen a.gone;
       }
 
   pub traits-taken : (i : ℕ) (es : List Entry) (now_limit : ℕ) (now : Items) (s : text.NamedTrait) (new : List Entry) (new_limit : ℕ) (id : TraitId) (def : TraitDef) (next : Items)
       → slice_get d.traits i ≡ Some s → sees (world_of d) c s.item.home ≡ true → s.item.name ≡ i → Keeps es new → new_limit ≡ now_limit
-      → trait_in new (id, def) ≡ s.item → trait_sorts (id, def) ≡ of_type ∷ s.kinds → next ≡ with_trait now (id, def) → AreHeld new next → TraitsAdded d c old limit start i es now_limit now
+      → trait_in new (id, def) ≡ plain_trait s.item → trait_sorts (id, def) ≡ of_type ∷ s.kinds → next ≡ with_trait now (id, def) → AreHeld new next → TraitsAdded d c old limit start i es now_limit now
       → TraitsAdded d c old limit start (i + 1) new new_limit next
   traits-taken i es now_limit now s new new_limit id def next there seen number k same_limit same sorted put held a =
       record {
@@ -132,19 +144,19 @@ module _ (d : text.Declarations) (c : ℕ) (old : List Entry) (limit : ℕ) (sta
         held = held;
         gone =
             subst (TraitsGone d c new (i + 1)) (sym (ap (λ n. n.traits) put))
-            (gone-taken (trait_in new) (trait_sorts) (λ x. x.0.index) (λ y. y.item) (λ t. of_type ∷ t.kinds) (λ (x : TraitDecl). sees (world_of d) c x.home) d.traits i s now.traits (id, def) there seen same (sorted) (ap (λ x. x.name) same ∙ number)
-            (gone-again (trait_in es) (trait_in new) (trait_sorts) (λ x. x.0.index) (λ y. y.item) (λ t. of_type ∷ t.kinds) (λ (x : TraitDecl). sees (world_of d) c x.home) d.traits i now.traits (ap (λ w. w.traits) (all-written es new k now a.held)) a.gone));
+            (gone-taken (trait_in new) (trait_sorts) (λ x. x.0.index) (λ y. plain_trait y.item) (λ t. of_type ∷ t.kinds) (λ (x : TraitDecl). sees (world_of d) c x.home) d.traits i s now.traits (id, def) there seen same (sorted) (ap (λ x. x.name) same ∙ number)
+            (gone-again (trait_in es) (trait_in new) (trait_sorts) (λ x. x.0.index) (λ y. plain_trait y.item) (λ t. of_type ∷ t.kinds) (λ (x : TraitDecl). sees (world_of d) c x.home) d.traits i now.traits (ap (λ w. w.traits) (all-written es new k now a.held)) a.gone));
       }
 
-  pub traits-all : (i : ℕ) (es : List Entry) (now_limit : ℕ) (now : Items) → length d.traits ≡ i → TraitsAdded d c old limit start i es now_limit now → map (trait_in es) now.traits ≡ (seen_from d c).traits
-  traits-all i es now_limit now e a = a.gone.are ∙ ap (filter (λ (x : TraitDecl). sees (world_of d) c x.home)) (all-taken (world_of d).traits i (sym e ∙ sym (length-map d.traits (λ (s : text.NamedTrait). s.item))))
+  pub traits-all : (i : ℕ) (es : List Entry) (now_limit : ℕ) (now : Items) → length d.traits ≡ i → TraitsAdded d c old limit start i es now_limit now → map (trait_in es) now.traits ≡ (plainly_seen_from d c).traits
+  traits-all i es now_limit now e a = a.gone.are ∙ all-plain plain_trait (λ (s : text.NamedTrait). s.item) (λ (x : TraitDecl). sees (world_of d) c x.home) (λ x. refl) d.traits i (sym e)
 
   pub traits-sorted : (i : ℕ) (es : List Entry) (now_limit : ℕ) (now : Items) → length d.traits ≡ i → TraitsAdded d c old limit start i es now_limit now → map trait_sorts now.traits ≡ trait_sorts_seen d c
   traits-sorted i es now_limit now e a = a.gone.sorts_are ∙ ap (λ l. map (λ t. of_type ∷ t.kinds) (filter (λ (s : text.NamedTrait). sees (world_of d) c s.item.home) l)) (all-taken d.traits i (sym e))
 
 -- ---- Impls: the state of the loop
 abbrev pub ImplsGone : text.Declarations → ℕ → List Entry → ℕ → List (HeldImpl) → Type 0
-ImplsGone d c es i xs = Gone (held_in es) (impl_sorts) (λ x. x.id.index) (λ s. s.item) (param_sorts) (λ (x : ImplDecl). sees (world_of d) c x.home) d.impls i xs
+ImplsGone d c es i xs = Gone (held_in es) (impl_sorts) (λ x. x.id.index) (λ s. plain_impl s.item) (param_sorts) (λ (x : ImplDecl). sees (world_of d) c x.home) d.impls i xs
 
 pub record ImplsAdded (d : text.Declarations) (c : ℕ) (old : List Entry) (limit : ℕ) (start : Items) (i : ℕ) (es : List Entry) (now_limit : ℕ) (now : Items) : Type 0 where
   pub keeps : Keeps old es
@@ -161,7 +173,7 @@ module _ (d : text.Declarations) (c : ℕ) (old : List Entry) (limit : ℕ) (sta
         limited = refl;
         others = refl;
         held = held;
-        gone = gone-first (held_in old) (impl_sorts) (λ x. x.id.index) (λ s. s.item) (param_sorts) (λ (x : ImplDecl). sees (world_of d) c x.home) d.impls start.impls none;
+        gone = gone-first (held_in old) (impl_sorts) (λ x. x.id.index) (λ s. plain_impl s.item) (param_sorts) (λ (x : ImplDecl). sees (world_of d) c x.home) d.impls start.impls none;
       }
 
   pub impls-passed : (i : ℕ) (es : List Entry) (now_limit : ℕ) (now : Items) (s : text.NamedImpl) → slice_get d.impls i ≡ Some s → sees (world_of d) c s.item.home ≡ false → ImplsAdded d c old limit start i es now_limit now
@@ -172,12 +184,12 @@ module _ (d : text.Declarations) (c : ℕ) (old : List Entry) (limit : ℕ) (sta
         limited = a.limited;
         others = a.others;
         held = a.held;
-        gone = gone-passed (held_in es) (impl_sorts) (λ x. x.id.index) (λ y. y.item) (param_sorts) (λ (x : ImplDecl). sees (world_of d) c x.home) d.impls i s now.impls there unseen a.gone;
+        gone = gone-passed (held_in es) (impl_sorts) (λ x. x.id.index) (λ y. plain_impl y.item) (param_sorts) (λ (x : ImplDecl). sees (world_of d) c x.home) d.impls i s now.impls there unseen a.gone;
       }
 
   pub impls-taken : (i : ℕ) (es : List Entry) (now_limit : ℕ) (now : Items) (s : text.NamedImpl) (new : List Entry) (new_limit : ℕ) (x : HeldImpl) (next : Items)
       → slice_get d.impls i ≡ Some s → sees (world_of d) c s.item.home ≡ true → s.item.name ≡ i → Keeps es new → new_limit ≡ now_limit
-      → held_in new (x) ≡ s.item → impl_sorts x ≡ param_sorts s → next ≡ with_impl now (x) → AreHeld new next → ImplsAdded d c old limit start i es now_limit now
+      → held_in new (x) ≡ plain_impl s.item → impl_sorts x ≡ param_sorts s → next ≡ with_impl now (x) → AreHeld new next → ImplsAdded d c old limit start i es now_limit now
       → ImplsAdded d c old limit start (i + 1) new new_limit next
   impls-taken i es now_limit now s new new_limit x next there seen number k same_limit same sorted put held a =
       record {
@@ -187,12 +199,12 @@ module _ (d : text.Declarations) (c : ℕ) (old : List Entry) (limit : ℕ) (sta
         held = held;
         gone =
             subst (ImplsGone d c new (i + 1)) (sym (ap (λ n. n.impls) put))
-            (gone-taken (held_in new) (impl_sorts) (λ x. x.id.index) (λ y. y.item) (param_sorts) (λ (x : ImplDecl). sees (world_of d) c x.home) d.impls i s now.impls (x) there seen same (sorted) (ap (λ x. x.name) same ∙ number)
-            (gone-again (held_in es) (held_in new) (impl_sorts) (λ x. x.id.index) (λ y. y.item) (param_sorts) (λ (x : ImplDecl). sees (world_of d) c x.home) d.impls i now.impls (ap (λ w. w.impls) (all-written es new k now a.held)) a.gone));
+            (gone-taken (held_in new) (impl_sorts) (λ x. x.id.index) (λ y. plain_impl y.item) (param_sorts) (λ (x : ImplDecl). sees (world_of d) c x.home) d.impls i s now.impls (x) there seen same (sorted) (ap (λ x. x.name) same ∙ number)
+            (gone-again (held_in es) (held_in new) (impl_sorts) (λ x. x.id.index) (λ y. plain_impl y.item) (param_sorts) (λ (x : ImplDecl). sees (world_of d) c x.home) d.impls i now.impls (ap (λ w. w.impls) (all-written es new k now a.held)) a.gone));
       }
 
-  pub impls-all : (i : ℕ) (es : List Entry) (now_limit : ℕ) (now : Items) → length d.impls ≡ i → ImplsAdded d c old limit start i es now_limit now → map (held_in es) now.impls ≡ (seen_from d c).impls
-  impls-all i es now_limit now e a = a.gone.are ∙ ap (filter (λ (x : ImplDecl). sees (world_of d) c x.home)) (all-taken (world_of d).impls i (sym e ∙ sym (length-map d.impls (λ (s : text.NamedImpl). s.item))))
+  pub impls-all : (i : ℕ) (es : List Entry) (now_limit : ℕ) (now : Items) → length d.impls ≡ i → ImplsAdded d c old limit start i es now_limit now → map (held_in es) now.impls ≡ (plainly_seen_from d c).impls
+  impls-all i es now_limit now e a = a.gone.are ∙ all-plain plain_impl (λ (s : text.NamedImpl). s.item) (λ (x : ImplDecl). sees (world_of d) c x.home) (λ x. refl) d.impls i (sym e)
 
   pub impls-sorted : (i : ℕ) (es : List Entry) (now_limit : ℕ) (now : Items) → length d.impls ≡ i → ImplsAdded d c old limit start i es now_limit now → map impl_sorts now.impls ≡ impl_sorts_seen d c
   impls-sorted i es now_limit now e a = a.gone.sorts_are ∙ ap (λ l. map (param_sorts) (filter (λ (s : text.NamedImpl). sees (world_of d) c s.item.home) l)) (all-taken d.impls i (sym e))
@@ -218,5 +230,5 @@ view-written one two all j k first second last e f h g xs ts is structs traits i
     (ap (λ (l : Items). map (struct_in all) l.structs) f ∙ ap (λ (l : Items). map (struct_in all) l.structs) e ∙ ap (λ w. w.structs) (all-written one all (λ i x m. k i x (j i x m)) first h) ∙ structs)
     (ap (λ (l : Items). map (trait_in all) l.traits) f ∙ ap (λ w. w.traits) (all-written two all k second g) ∙ traits) impls
 
-pub view-rules : (es : List Entry) (items : Items) (d : text.Declarations) (c : ℕ) → written es items ≡ seen_from d c → declared es items ≡ rules_seen_from d c
-view-rules es items d c e = ap erased_world e ∙ ap (λ (V : World). record V { crates = [] }) (sym (erased-views (world_of d) c))
+pub view-rules : (es : List Entry) (items : Items) (d : text.Declarations) (c : ℕ) → written es items ≡ plainly_seen_from d c → declared es items ≡ rules_seen_from d c
+view-rules es items d c e = ap erased_world e ∙ world-erased (seen_from d c) ∙ ap (λ (V : World). record V { crates = [] }) (sym (erased-views (world_of d) c))

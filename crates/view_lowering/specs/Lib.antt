@@ -1,2 +1,4 @@
 pub mod Seen
 pub mod Questions
+pub mod Plain
+pub mod PlainCells

@@ -10,6 +10,7 @@ use Rattle.declarations.specs.Held.{ReferenceHeld}
 use Rattle.declarations.specs.Items.{reference_in}
 use Rattle.workspace.specs.Views.{sort_of_kind}
 use Rattle.workspace.specs.declared.cell.ParamKind.{ParamKind}
+use Rattle.view_lowering.specs.Plain.{unbound_reference, unbound_references}
 use Rattle.view_lowering.specs.declared.question.LoweredQuestion.{LoweredQuestion}
 use Rattle.view_lowering.specs.declared.question.Counts.{Counts}
 
@@ -18,11 +19,11 @@ pub record IsQuestion (d : Declarations) (n : ℕ) (q : Question) : Type 0 where
   pub counted : 1 ≤ n
   pub there : slice_get d.questions (n - 1) ≡ Some q
 
--- The terms are the question's: its parameters stand in them as placeholders, its variables as unknowns. For each variable, in
--- their order, there is the unknown that stands for it.
+-- The terms are the question's, without binders: its parameters stand in them as placeholders, its variables as unknowns. For each
+-- variable, in their order, there is the unknown that stands for it.
 pub record IsLowered (es : List Entry) (q : Question) (l : LoweredQuestion) : Type 0 where
-  pub asked : reference_in es l.asked ≡ q.asked
-  pub clauses : references_in es l.clauses.items ≡ q.clauses
+  pub asked : reference_in es l.asked ≡ unbound_reference q.asked
+  pub clauses : references_in es l.clauses.items ≡ unbound_references q.clauses
   pub unknowns : map (arg_trees es) l.unknowns.items ≡ own_unknowns q
   pub asked_held : ReferenceHeld es l.asked
   pub clauses_held : AllHeld es l.clauses.items

@@ -8,9 +8,11 @@ ghost use Rattle.declarations.specs.Items.{struct_in, trait_in, impl_in};
 ghost use Rattle.declarations.specs.Held.{StructHeld, TraitHeld, ImplHeld};
 ghost use Rattle.workspace.specs.Made.{AreMade, ReferenceMade, ReferencesMade, is_type};
 ghost use Rattle.workspace.specs.Views.{struct_of, trait_of, impl_of, sorts_of, sort_of_kind};
+ghost use Rattle.view_lowering.specs.Plain.{plain_struct, plain_trait, plain_impl};
 ghost use Rattle.view_lowering.specs.Seen.{struct_sorts, trait_sorts, param_sorts};
 
 use crate::parts::{lower_reference, lower_references, param_kind, push_params};
+use crate::plain::{Kept, plain_cells, plain_reference, plain_references};
 use declarations::items::{AdtDef, GenericParamKind, ImplDef, TraitDef};
 use lowering::lower_types;
 use std::alloc::{AllocError, Global};
@@ -18,14 +20,14 @@ use type_terms::Fault;
 use type_terms::interner::Interner;
 use workspace::{ImplEntry, Param, ParamKind, StructEntry, TraitEntry};
 
-/// The struct of a row.
+/// The struct of a row, with the lifetimes that its fields name.
 pub(crate) fn lower_struct(
     alloc: Global,
     cx: &mut Interner,
     entry: &StructEntry,
 ) -> Result<AdtDef, Fault>
     requires { AreMade is_type entry.now.fields.items }
-    ensures is { IfOk result (λ def. struct_in cx.new.entries (entry.now.id, def) ≡ (struct_of entry.now).item) }
+    ensures is { IfOk result (λ def. struct_in cx.new.entries (entry.now.id, def) ≡ plain_struct (struct_of entry.now).item) }
     ensures sorts { IfOk result (λ def. struct_sorts (entry.now.id, def) ≡ (struct_of entry.now).kinds) }
     ensures held { IfOk result (λ def. StructHeld cx.new.entries def) }
     ensures keeps { Keeps cx.old.entries cx.new.entries }
@@ -33,7 +35,8 @@ pub(crate) fn lower_struct(
 {
     let mut params = Vec::new(alloc);
     push_params(&mut params, &entry.params)?;
-    let fields = lower_types(alloc, cx, &entry.fields)?;
+    let cells = plain_cells(alloc, &entry.fields, Kept::All)?;
+    let fields = lower_types(alloc, cx, &cells)?;
     AdtDef::new(alloc, cx, entry.owner, entry.is_fundamental, params, fields)
 }
 
@@ -47,21 +50,22 @@ fn trait_params(alloc: Global, kinds: &[ParamKind]) -> Result<Vec<GenericParamKi
     Ok(params)
 }
 
-/// The trait of a row.
+/// The trait of a row. Its bounds hold no lifetime but `'static`.
 pub(crate) fn lower_trait(
     alloc: Global,
     cx: &mut Interner,
     entry: &TraitEntry,
 ) -> Result<TraitDef, Fault>
     requires { ReferencesMade entry.now.bounds.items }
-    ensures is { IfOk result (λ def. trait_in cx.new.entries (entry.now.id, def) ≡ (trait_of entry.now).item) }
+    ensures is { IfOk result (λ def. trait_in cx.new.entries (entry.now.id, def) ≡ plain_trait (trait_of entry.now).item) }
     ensures sorts { IfOk result (λ def. trait_sorts (entry.now.id, def) ≡ of_type ∷ (trait_of entry.now).kinds) }
     ensures held { IfOk result (λ def. TraitHeld cx.new.entries def) }
     ensures keeps { Keeps cx.old.entries cx.new.entries }
     ensures limit { cx.new.limit ≡ cx.old.limit }
 {
     let params = trait_params(alloc, &entry.params)?;
-    let bounds = lower_references(alloc, cx, &entry.bounds)?;
+    let cells = plain_references(alloc, &entry.bounds, Kept::None)?;
+    let bounds = lower_references(alloc, cx, &cells)?;
     Ok(TraitDef {
         home: entry.owner,
         is_fundamental: entry.is_fundamental,
@@ -82,7 +86,8 @@ fn impl_params(alloc: Global, list: &[Param]) -> Result<Vec<GenericParamKind>, A
     Ok(params)
 }
 
-/// The impl of a row, whose self type is a parameter, or no variable or placeholder.
+/// The impl of a row, whose self type is a parameter, or no variable or placeholder. Its where-clauses hold the lifetimes of the header
+/// and `'static`.
 pub(crate) fn lower_impl(
     alloc: Global,
     cx: &mut Interner,
@@ -91,15 +96,17 @@ pub(crate) fn lower_impl(
     requires header { ReferenceMade entry.now.header }
     requires clauses { ReferencesMade entry.now.clauses.items }
     requires begins { begins_declared (impl_of entry.now).item.header.args ≡ true }
-    ensures is { IfOk result (λ def. impl_in cx.new.entries entry.now.id def ≡ (impl_of entry.now).item) }
+    ensures is { IfOk result (λ def. impl_in cx.new.entries entry.now.id def ≡ plain_impl (impl_of entry.now).item) }
     ensures sorts { IfOk result (λ def. map sort_of_param def.params.items ≡ param_sorts (impl_of entry.now)) }
     ensures held { IfOk result (λ def. ImplHeld cx.new.entries def) }
     ensures keeps { Keeps cx.old.entries cx.new.entries }
     ensures limit { cx.new.limit ≡ cx.old.limit }
 {
     let params = impl_params(alloc, &entry.params)?;
-    let header = lower_reference(alloc, cx, &entry.header)?;
-    let clauses = lower_references(alloc, cx, &entry.clauses)?;
+    let plain_header = plain_reference(alloc, &entry.header, Kept::All)?;
+    let header = lower_reference(alloc, cx, &plain_header)?;
+    let plain_clauses = plain_references(alloc, &entry.clauses, Kept::NamedIn(&entry.header.args))?;
+    let clauses = lower_references(alloc, cx, &plain_clauses)?;
     Ok(ImplDef {
         home: entry.owner,
         params,

@@ -5,6 +5,7 @@
 mod items;
 pub mod laws;
 mod parts;
+mod plain;
 mod question;
 mod view;
 

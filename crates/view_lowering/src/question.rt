@@ -9,6 +9,7 @@ ghost use Rattle.workspace.specs.Views.{question_of, variable_of};
 ghost use Rattle.view_lowering.specs.Questions.{IsQuestion, IsLowered, IsNextUnknown};
 
 use crate::parts::{lower_reference, lower_references};
+use crate::plain::{Kept, plain_reference, plain_references};
 use std::alloc::Global;
 use term_folds::predicate::TraitRef;
 use type_terms::interner::Interner;
@@ -18,7 +19,8 @@ use type_terms::region::{Region, RegionKind};
 use type_terms::{Fault, MAX_INDEX};
 use workspace::{Param, ParamKind, QuestionEntry, Workspace};
 
-/// A question with its types as terms. Its parameters are placeholders, its variables unknowns.
+/// A question with its types as terms, which bind no lifetimes: one that a `for<..>` binds is `'static`. Its parameters are
+/// placeholders, its variables unknowns.
 #[derive(Drop)]
 pub struct LoweredQuestion {
     /// What is asked.
@@ -109,8 +111,10 @@ fn lower_entry(
     ensures keeps { Keeps cx.old.entries cx.new.entries }
     ensures limit { cx.new.limit ≡ cx.old.limit }
 {
-    let asked = lower_reference(alloc, cx, &entry.asked)?;
-    let clauses = lower_references(alloc, cx, &entry.clauses)?;
+    let plain_asked = plain_reference(alloc, &entry.asked, Kept::All)?;
+    let asked = lower_reference(alloc, cx, &plain_asked)?;
+    let plain_clauses = plain_references(alloc, &entry.clauses, Kept::All)?;
+    let clauses = lower_references(alloc, cx, &plain_clauses)?;
     let unknowns = own_unknowns(alloc, cx, &entry.variables)?;
     Ok(LoweredQuestion {
         asked,

@@ -3,7 +3,8 @@ ghost use Rattle.std.specs.Prelude.{◌≡◌, ◌<◌, [], length, map, OnOk, I
 ghost use Rattle.type_terms.specs.Terms.{Keeps};
 ghost use Rattle.declarations.specs.Held.{AreHeld};
 ghost use Rattle.declarations.specs.Items.{written, declared, struct_in, trait_in, impl_in};
-ghost use Rattle.view_lowering.specs.Seen.{BeginDeclared, seen_from, rules_seen_from, struct_sorts, trait_sorts, impl_sorts, struct_sorts_seen, trait_sorts_seen, impl_sorts_seen};
+ghost use Rattle.view_lowering.specs.Plain.{plainly_seen_from};
+ghost use Rattle.view_lowering.specs.Seen.{BeginDeclared, rules_seen_from, struct_sorts, trait_sorts, impl_sorts, struct_sorts_seen, trait_sorts_seen, impl_sorts_seen};
 
 use crate::items::{lower_impl, lower_struct, lower_trait};
 use declarations::declarations::Declarations;
@@ -23,7 +24,7 @@ fn lower_structs(
     requires there { crate_id.index < length workspace.now.crates }
     requires none { decls.old.structs ≡ [] }
     requires held { AreHeld cx.old.entries decls.old }
-    ensures structs { OnOk result (map (struct_in cx.new.entries) decls.new.structs ≡ (seen_from workspace.now crate_id.index).structs) }
+    ensures structs { OnOk result (map (struct_in cx.new.entries) decls.new.structs ≡ (plainly_seen_from workspace.now crate_id.index).structs) }
     ensures sorts { OnOk result (map struct_sorts decls.new.structs ≡ struct_sorts_seen workspace.now crate_id.index) }
     ensures others { OnOk result (decls.new ≡ record decls.old { structs = decls.new.structs }) }
     ensures held { OnOk result (AreHeld cx.new.entries decls.new) }
@@ -52,7 +53,7 @@ fn lower_traits(
     requires there { crate_id.index < length workspace.now.crates }
     requires none { decls.old.traits ≡ [] }
     requires held { AreHeld cx.old.entries decls.old }
-    ensures traits { OnOk result (map (trait_in cx.new.entries) decls.new.traits ≡ (seen_from workspace.now crate_id.index).traits) }
+    ensures traits { OnOk result (map (trait_in cx.new.entries) decls.new.traits ≡ (plainly_seen_from workspace.now crate_id.index).traits) }
     ensures sorts { OnOk result (map trait_sorts decls.new.traits ≡ trait_sorts_seen workspace.now crate_id.index) }
     ensures others { OnOk result (decls.new ≡ record decls.old { traits = decls.new.traits }) }
     ensures held { OnOk result (AreHeld cx.new.entries decls.new) }
@@ -82,7 +83,7 @@ fn lower_impls(
     requires begin { BeginDeclared workspace.now }
     requires none { decls.old.impls ≡ [] }
     requires held { AreHeld cx.old.entries decls.old }
-    ensures impls { OnOk result (map (λ i. impl_in cx.new.entries i.id i.def) decls.new.impls ≡ (seen_from workspace.now crate_id.index).impls) }
+    ensures impls { OnOk result (map (λ i. impl_in cx.new.entries i.id i.def) decls.new.impls ≡ (plainly_seen_from workspace.now crate_id.index).impls) }
     ensures sorts { OnOk result (map impl_sorts decls.new.impls ≡ impl_sorts_seen workspace.now crate_id.index) }
     ensures others { OnOk result (decls.new ≡ record decls.old { impls = decls.new.impls }) }
     ensures held { OnOk result (AreHeld cx.new.entries decls.new) }
@@ -112,7 +113,7 @@ pub fn lower(
 ) -> Result<Declarations, Fault>
     requires there { crate_id.index < length workspace.now.crates }
     requires begin { BeginDeclared workspace.now }
-    ensures written { IfOk result (λ decls. written cx.new.entries decls ≡ seen_from workspace.now crate_id.index) }
+    ensures written { IfOk result (λ decls. written cx.new.entries decls ≡ plainly_seen_from workspace.now crate_id.index) }
     ensures rules { IfOk result (λ decls. declared cx.new.entries decls ≡ rules_seen_from workspace.now crate_id.index) }
     ensures struct_sorts { IfOk result (λ decls. map struct_sorts decls.structs ≡ struct_sorts_seen workspace.now crate_id.index) }
     ensures trait_sorts { IfOk result (λ decls. map trait_sorts decls.traits ≡ trait_sorts_seen workspace.now crate_id.index) }

@@ -1,9 +1,16 @@
-use Rattle.std.proofs.Common.{◌≡◌, List, [], ◌∷◌, map, refl, subst, sym, ap, ◌∙◌}
+use Rattle.std.proofs.Common.{◌≡◌, ℕ, List, [], ◌∷◌, map, length, refl, subst, sym, ap, ◌∙◌}
+use Rattle.std.proofs.lemmas.List.{length-map}
+use Rattle.model.specs.Worlds.{ImplDecl, Reference}
+use Rattle.declarations.specs.Applied.{sort_of_param}
 use Rattle.declarations.specs.Heads.{begins_declared}
-use Rattle.declarations.proofs.Growth.{reference-kept, args-same}
-use Rattle.workspace.specs.Made.{ReferencesMade}
-use Rattle.workspace.specs.Views.{sort_of_kind, sorted_params}
+use Rattle.declarations.proofs.Growth.{reference-kept, reference-same, args-same}
+use Rattle.workspace.specs.Made.{ReferencesMade, is_arg}
+use Rattle.workspace.specs.Views.{sort_of_kind, sorted_params, reference_of}
 use Rattle.workspace.specs.declared.declared.Param.{Param}
+use Rattle.view_lowering.specs.Plain.{all_kept, stands_in, plain_reference, unbound_reference}
+use Rattle.view_lowering.specs.PlainCells.{named_in}
+use Rattle.view_lowering.proofs.Plainly.{references-same, begins-plain}
+use Rattle.view_lowering.proofs.Named.{named-stands}
 use Rattle.view_lowering.proofs.items.lower_impl.Goals as goal
 
 twice : (ps : List Param) → map (λ q. q.1) (sorted_params ps) ≡ map (λ p. sort_of_kind p.kind) ps
@@ -11,7 +18,23 @@ twice [] = refl
 twice (p ∷ ps) = ap (λ l. sort_of_kind p.kind ∷ l) (twice ps)
 
 pub lower_references-requires : goal.lower_references-requires
-lower_references-requires c = subst ReferencesMade (sym c.deref-2.ensures.value) c.requires.clauses
+lower_references-requires c = subst ReferencesMade (sym c.deref-4.ensures.value) (c.in_ok-plain_clauses.ensures.made (subst ReferencesMade (sym c.deref-2.ensures.value) c.requires.clauses))
+
+pub returns-clause-is : goal.returns-clause-is
+returns-clause-is c =
+    let e = c.args.entry.now in
+    let old = c.lower_reference.new.cx.entries in
+    let new = c.lower_references.new.cx.entries in
+    let cs = e.header.args.items in
+    join e.id.index e.owner.index _ _ _ _ _ _
+    (sym (length-map c.in_ok-params.params.items sort_of_param) ∙ ap length (c.in_ok-params.ensures ∙ ap (map (λ p. sort_of_kind p.kind)) c.deref.ensures.value) ∙ length-map e.params.items (λ p. sort_of_kind p.kind))
+    (reference-same old new c.lower_references.ensures.keeps c.in_ok-header.header c.in_ok-header.ensures.held ∙ c.in_ok-header.ensures.is ∙ c.in_ok-plain_header.ensures.is)
+    (c.in_ok-clauses.ensures.are ∙ ap (map reference_of) c.deref-4.ensures.value ∙ c.in_ok-plain_clauses.ensures.are ∙ ap (λ x. map (plain_reference (named_in c.deref-3.result.now)) (map reference_of x)) c.deref-2.ensures.value
+    ∙ references-same (named_in c.deref-3.result.now) (stands_in (reference_of e.header).args) (λ i. ap (λ x. named_in x i) c.deref-3.ensures.value ∙ named-stands is_arg cs c.requires.header i) (map reference_of e.clauses.items))
+  where
+    join : (n h p q : ℕ) (x y : Reference) (ks ls : List Reference) → p ≡ q → x ≡ y → ks ≡ ls
+        → (let i : ImplDecl = record { name = n; home = h; params = p; header = x; clauses = ks } in i) ≡ record { name = n; home = h; params = q; header = y; clauses = ls }
+    join n h p q x y ks ls a b d = cc
 
 pub returns-clause-held : goal.returns-clause-held
 returns-clause-held c =
@@ -22,7 +45,9 @@ returns-clause-held c =
     record {
       header = reference-kept old new k r c.in_ok-header.ensures.held;
       clauses = c.in_ok-clauses.ensures.held;
-      begins = ap begins_declared (args-same old new k r c.in_ok-header.ensures.held) ∙ ap (λ x. begins_declared x.args) c.in_ok-header.ensures.is ∙ c.requires.begins;
+      begins =
+          ap begins_declared (args-same old new k r c.in_ok-header.ensures.held) ∙ ap (λ x. begins_declared x.args) (c.in_ok-header.ensures.is ∙ c.in_ok-plain_header.ensures.is)
+          ∙ begins-plain all_kept (reference_of c.args.entry.now.header).args ∙ c.requires.begins;
     }
 
 pub returns-clause-sorts : goal.returns-clause-sorts

@@ -1,6 +1,15 @@
-use Rattle.std.proofs.Common.{subst, sym}
+use Rattle.std.proofs.Common.{subst, sym, ap, ◌∙◌, map}
+use Rattle.model.specs.Worlds.{TraitDecl}
 use Rattle.workspace.specs.Made.{ReferencesMade}
+use Rattle.workspace.specs.Views.{reference_of}
+use Rattle.view_lowering.specs.Plain.{none_kept, plain_reference}
 use Rattle.view_lowering.proofs.items.lower_trait.Goals as goal
 
 pub lower_references-requires : goal.lower_references-requires
-lower_references-requires c = subst ReferencesMade (sym c.deref-2.ensures.value) c.requires
+lower_references-requires c = subst ReferencesMade (sym c.deref-3.ensures.value) (c.in_ok-cells.ensures.made (subst ReferencesMade (sym c.deref-2.ensures.value) c.requires))
+
+pub returns-clause-is : goal.returns-clause-is
+returns-clause-is c =
+    let e = c.args.entry.now in
+    ap (λ bs. (let t : TraitDecl = record { name = e.id.index; home = e.owner.index; is_fundamental = e.is_fundamental; is_auto = e.is_auto; bounds = bs } in t))
+    (c.in_ok-bounds.ensures.are ∙ ap (map reference_of) c.deref-3.ensures.value ∙ c.in_ok-cells.ensures.are ∙ ap (λ x. map (plain_reference none_kept) (map reference_of x)) c.deref-2.ensures.value)

@@ -5,10 +5,11 @@ use Rattle.declarations.proofs.Growth.{reference-same, reference-kept, reference
 use Rattle.declarations.proofs.Bounded.{all-same}
 use Rattle.workspace.specs.Made.{ReferencesMade}
 use Rattle.workspace.specs.Views.{reference_of, variable_of}
+use Rattle.view_lowering.specs.Plain.{unbound_references}
 use Rattle.view_lowering.proofs.question.lower_entry.Goals as goal
 
 pub lower_references-requires : goal.lower_references-requires
-lower_references-requires c = subst ReferencesMade (sym c.deref.ensures.value) c.requires.clauses
+lower_references-requires c = subst ReferencesMade (sym c.deref-2.ensures.value) (c.in_ok-plain_clauses.ensures.made (subst ReferencesMade (sym c.deref.ensures.value) c.requires.clauses))
 
 pub returns-clause-lowered : goal.returns-clause-lowered
 returns-clause-lowered c =
@@ -21,9 +22,11 @@ returns-clause-lowered c =
     let asked = c.in_ok-asked.asked in
     let clauses = c.in_ok-clauses.clauses.items in
     record {
-      asked = reference-same one all jk asked c.in_ok-asked.ensures.held ∙ c.in_ok-asked.ensures.is;
-      clauses = all-same two all k clauses c.in_ok-clauses.ensures.held ∙ c.in_ok-clauses.ensures.are ∙ ap (map reference_of) c.deref.ensures.value;
-      unknowns = c.in_ok-unknowns.ensures.are ∙ ap (λ vs. own_from 0 0 (map variable_of vs)) c.deref-2.ensures.value;
+      asked = reference-same one all jk asked c.in_ok-asked.ensures.held ∙ c.in_ok-asked.ensures.is ∙ c.in_ok-plain_asked.ensures.is;
+      clauses =
+          all-same two all k clauses c.in_ok-clauses.ensures.held ∙ c.in_ok-clauses.ensures.are ∙ ap (map reference_of) c.deref-2.ensures.value ∙ c.in_ok-plain_clauses.ensures.are
+          ∙ ap (λ x. unbound_references (map reference_of x)) c.deref.ensures.value;
+      unknowns = c.in_ok-unknowns.ensures.are ∙ ap (λ vs. own_from 0 0 (map variable_of vs)) c.deref-3.ensures.value;
       asked_held = reference-kept one all jk asked c.in_ok-asked.ensures.held;
       clauses_held = references-kept two all k clauses c.in_ok-clauses.ensures.held;
       unknowns_held = c.in_ok-unknowns.ensures.held;

@@ -1,4 +1,5 @@
-use Rattle.std.proofs.Common.{◌+◌, ◌∙◌, ap, sym, subst, refl}
+use Rattle.std.proofs.Common.{◌≡◌, ◌≤◌, ℕ, length, arith, ◌+◌, ◌∙◌, ap, sym, subst, refl}
+use Rattle.std.proofs.lemmas.List.{length-map}
 use Rattle.std.proofs.lemmas.Option.{slice_get_read, slice_get-map}
 use Rattle.std.specs.Prelude.{slice_get, ◌<◌}
 use Rattle.std.specs.Option.{option_map}
@@ -6,7 +7,7 @@ use Rattle.declarations.specs.Items.{held_impl}
 use Rattle.declarations.specs.Merges.{Each}
 use Rattle.declarations.proofs.Growth.{all-held}
 use Rattle.workspace.specs.Views.{impl_of}
-use Rattle.view_lowering.proofs.Views.{ImplsAdded, impls-passed, impls-taken}
+use Rattle.view_lowering.proofs.Views.{ImplsAdded, impls-passed, impls-all, impls-taken}
 use Rattle.view_lowering.proofs.view.lower_impls.Goals.{then-sees+in_ok-def+in_ok-add_impl, else-sees}
 use Rattle.view_lowering.proofs.view.lower_impls.Goals as goal
 
@@ -63,3 +64,13 @@ loop-entry-preserved c =
           (subst (λ ds. ImplsAdded d n old.entries old.limit c.args.decls.now (i + 1) es.entries es.limit ds) (sym w.decls-is)
           (impls-passed d n old.entries old.limit c.args.decls.now i es.entries es.limit now (impl_of x) at (sym c.sees.ensures ∙ w.if-sees.false) inv))
     ]
+
+pub returns-clause-impls : goal.returns-clause-impls
+returns-clause-impls c =
+    let l = c.loop-entry in
+    let rows = c.impls-entries.result.now in
+    impls-all c.args.workspace.now c.args.crate_id.index c.args.cx.now.entries c.args.cx.now.limit c.args.decls.now l.entry-index l.cx.entries l.cx.limit l.decls
+    (sym (ap length c.impls-entries.ensures.items) ∙ length-map rows impl_of ∙ at-end (length rows) l.entry-index c.loop-entry-test.false l.auto.entry-index-end) l.invariant
+  where
+    at-end : (n i : ℕ) → n ≤ i → i ≤ n → n ≡ i
+    at-end n i h g = omega (arith, h, g)

@@ -1,10 +1,11 @@
-use Rattle.std.proofs.Common.{◌+◌, ◌∙◌, ap, sym, subst, refl}
+use Rattle.std.proofs.Common.{◌≡◌, ◌≤◌, ℕ, length, arith, ◌+◌, ◌∙◌, ap, sym, subst, refl}
+use Rattle.std.proofs.lemmas.List.{length-map}
 use Rattle.std.proofs.lemmas.Option.{slice_get_read, slice_get-map}
 use Rattle.std.specs.Prelude.{slice_get}
 use Rattle.std.specs.Option.{option_map}
 use Rattle.declarations.proofs.Growth.{all-held}
 use Rattle.workspace.specs.Views.{struct_of}
-use Rattle.view_lowering.proofs.Views.{StructsAdded, structs-passed, structs-taken, structs-absent}
+use Rattle.view_lowering.proofs.Views.{StructsAdded, structs-passed, structs-all, structs-taken, structs-absent}
 use Rattle.view_lowering.proofs.view.lower_structs.Goals.{then-sees+in_ok-def+in_ok-add_struct, else-sees}
 use Rattle.view_lowering.proofs.view.lower_structs.Goals as goal
 
@@ -49,3 +50,13 @@ loop-entry-preserved c =
           (subst (λ ds. StructsAdded d n old.entries old.limit c.args.decls.now (i + 1) es.entries es.limit ds) (sym w.decls-is)
           (structs-passed d n old.entries old.limit c.args.decls.now i es.entries es.limit now (struct_of x) at (sym c.sees.ensures ∙ w.if-sees.false) inv))
     ]
+
+pub returns-clause-structs : goal.returns-clause-structs
+returns-clause-structs c =
+    let l = c.loop-entry in
+    let rows = c.structs-entries.result.now in
+    structs-all c.args.workspace.now c.args.crate_id.index c.args.cx.now.entries c.args.cx.now.limit c.args.decls.now l.entry-index l.cx.entries l.cx.limit l.decls
+    (sym (ap length c.structs-entries.ensures.items) ∙ length-map rows struct_of ∙ at-end (length rows) l.entry-index c.loop-entry-test.false l.auto.entry-index-end) l.invariant
+  where
+    at-end : (n i : ℕ) → n ≤ i → i ≤ n → n ≡ i
+    at-end n i h g = omega (arith, h, g)

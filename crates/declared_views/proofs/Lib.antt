@@ -1,0 +1,15 @@
+mod Sorts
+mod Tests
+mod Trees
+mod Scalars
+mod Types
+mod Standing
+mod Lines
+mod Params
+mod ScalarTokens
+mod Items
+mod Texts
+mod Views
+mod Headers
+mod Heights
+mod WellSeen

@@ -1,0 +1,63 @@
+-- Declarations and questions as goals are made of them: they bind no lifetimes. A lifetime that a `for<..>` binds is `'static`, and so are
+-- a parameter of an impl that stands in its where-clauses alone and each parameter in the bounds of a trait. Up to lifetimes nothing
+-- changes.
+use Rattle.std.specs.Prelude.{ℕ, zero, Bool, true, false, ◌==◌, List, map, if◌then◌else◌}
+use Rattle.model.specs.Label.{Label, of_lifetime, static, fn_ptr, principal, param, bound}
+use Rattle.model.specs.Trees.{Trees, none, tree, some_node}
+use Rattle.model.specs.Worlds.{World, Reference, StructDecl, TraitDecl, ImplDecl}
+use Rattle.text_definitions.specs.Declarations as text
+use Rattle.view_lowering.specs.Seen.{seen_from}
+
+-- ---- labels and trees, with the lifetime parameters that are kept
+abbrev pub plain_label : (ℕ → Bool) → Label → Label
+plain_label kept (param of_lifetime i) = if kept i then param of_lifetime i else static
+plain_label kept (bound of_lifetime k i) = static
+plain_label kept (fn_ptr n) = fn_ptr zero
+plain_label kept (principal n t) = principal zero t
+plain_label kept l = l
+
+abbrev pub plain : (ℕ → Bool) → Trees → Trees
+plain kept none = none
+plain kept (tree l c o) = tree (plain_label kept l) (plain kept c) (plain kept o)
+
+abbrev pub plain_reference : (ℕ → Bool) → Reference → Reference
+plain_reference kept r = record { trait = r.trait; args = plain kept r.args }
+
+-- ---- questions, which have no parameters of this kind
+abbrev pub all_kept : ℕ → Bool
+all_kept i = true
+
+abbrev pub unbound_reference : Reference → Reference
+unbound_reference r = plain_reference all_kept r
+
+abbrev pub unbound_references : List Reference → List Reference
+unbound_references rs = map unbound_reference rs
+
+-- ---- declarations
+abbrev pub none_kept : ℕ → Bool
+none_kept i = false
+
+-- the lifetime parameter of this number
+abbrev pub is_lifetime : ℕ → Label → Bool
+is_lifetime i (param of_lifetime j) = i == j
+is_lifetime i l = false
+
+-- it stands in the tree
+abbrev pub stands_in : Trees → ℕ → Bool
+stands_in t i = some_node (is_lifetime i) t
+
+abbrev pub plain_struct : StructDecl → StructDecl
+plain_struct x = record x { fields = map (plain all_kept) x.fields }
+
+abbrev pub plain_trait : TraitDecl → TraitDecl
+plain_trait x = record x { bounds = map (plain_reference none_kept) x.bounds }
+
+abbrev pub plain_impl : ImplDecl → ImplDecl
+plain_impl i = record i { header = unbound_reference i.header; clauses = map (plain_reference (stands_in i.header.args)) i.clauses }
+
+abbrev pub plain_world : World → World
+plain_world W = record W { structs = map plain_struct W.structs; traits = map plain_trait W.traits; impls = map plain_impl W.impls }
+
+-- what crate c sees
+abbrev pub plainly_seen_from : text.Declarations → ℕ → World
+plainly_seen_from d c = plain_world (seen_from d c)

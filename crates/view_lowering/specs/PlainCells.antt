@@ -1,0 +1,28 @@
+-- Cells with the lifetimes that are kept, and no binders.
+use Rattle.std.specs.Prelude.{ℕ, Bool, true, false, List}
+use Rattle.std.specs.List.{list_any}
+use Rattle.type_terms.specs.Kinds.{region_label}
+use Rattle.workspace.specs.TermCells.{TermCell as Cell, node_cell, reference_cell}
+use Rattle.workspace.specs.declared.cell.TermCell.{TermCell}
+use Rattle.workspace.specs.declared.cell.TermCell.TheVariants as cells
+use Rattle.view_lowering.specs.Plain.{plain_label, is_lifetime}
+use Rattle.view_lowering.specs.declared.plain.Kept.{Kept}
+use Rattle.view_lowering.specs.declared.plain.Kept.TheVariants as kept
+
+-- the cell is the lifetime parameter of this number, or a reference for that
+abbrev pub names : ℕ → TermCell → Bool
+names i (cells.Lifetime r) = is_lifetime i (region_label r.kind)
+names i (cells.Ref r m) = is_lifetime i (region_label r.kind)
+names i _ = false
+
+abbrev pub named_in : List TermCell → ℕ → Bool
+named_in cs i = list_any (names i) cs
+
+abbrev pub is_kept : Kept → ℕ → Bool
+is_kept kept.All i = true
+is_kept (kept.NamedIn cs) i = named_in cs.now i
+is_kept kept.None i = false
+
+abbrev pub plain_cell : (ℕ → Bool) → Cell → Cell
+plain_cell k (node_cell l n) = node_cell (plain_label k l) n
+plain_cell k (reference_cell r m) = reference_cell (plain_label k r) m

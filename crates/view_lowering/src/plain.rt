@@ -1,0 +1,159 @@
+//! Cells without binders, and with the lifetimes that are kept.
+ghost use Rattle.std.specs.Prelude.{◌≡◌, List, Bool, map, IfOk};
+ghost use Rattle.type_terms.specs.Kinds.{region_label, RegionHeld};
+ghost use Rattle.workspace.specs.Made.{Part, AreMade, ReferenceMade, ReferencesMade, CellHeld, parts_behind};
+ghost use Rattle.workspace.specs.Views.{cell_of, cells_of, reference_of};
+ghost use Rattle.view_lowering.specs.Plain.{plain_label, is_lifetime, plain_reference};
+ghost use Rattle.view_lowering.specs.PlainCells.{names, named_in, is_kept, plain_cell};
+
+use std::alloc::{AllocError, Global};
+use type_terms::number::BoundVarIndexKind;
+use type_terms::region::{Region, RegionKind};
+use workspace::{ReferenceCells, TermCell};
+
+/// Which lifetime parameters are kept.
+#[derive(Clone, Copy)]
+pub(crate) enum Kept<'c> {
+    All,
+    /// Those that stand among these cells.
+    NamedIn(&'c [TermCell]),
+    None,
+}
+
+/// Whether the lifetime is the parameter of this number.
+fn is_param(region: Region, param: u32) -> bool
+    ensures { result ≡ is_lifetime param (region_label region.kind) }
+{
+    match region.kind {
+        RegionKind::ReEarlyParam(place) => param == place,
+        RegionKind::ReStatic
+        | RegionKind::RePlaceholder(_)
+        | RegionKind::ReBound(_, _)
+        | RegionKind::ReVar(_) => false,
+    }
+}
+
+/// Whether the cell is that parameter, or a reference for so long.
+fn names(cell: TermCell, param: u32) -> bool
+    ensures { result ≡ names param cell }
+{
+    match cell {
+        TermCell::Lifetime(region) => is_param(region, param),
+        TermCell::Ref { region, .. } => is_param(region, param),
+        _ => false,
+    }
+}
+
+/// Whether that parameter stands among the cells.
+fn named_in(cells: &[TermCell], param: u32) -> bool
+    ensures { result ≡ named_in cells.now param }
+{
+    cells.iter().any(|cell| names(*cell, param))
+}
+
+impl<'c> Kept<'c> {
+    /// Whether the parameter of this number is kept.
+    fn has(self, param: u32) -> bool
+        ensures { result ≡ is_kept self.entry param }
+    {
+        match self {
+            Kept::All => true,
+            Kept::NamedIn(cells) => named_in(cells, param),
+            Kept::None => false,
+        }
+    }
+}
+
+/// The lifetime; `'static` for one that is bound, and for a parameter that is not kept.
+fn plain_region(region: Region, kept: Kept<'_>) -> Region
+    ensures is { region_label result.kind ≡ plain_label (is_kept kept.entry) (region_label region.kind) }
+    ensures held { RegionHeld region.kind → RegionHeld result.kind }
+{
+    let kind = match region.kind {
+        RegionKind::ReEarlyParam(param) => {
+            if kept.has(param) {
+                RegionKind::ReEarlyParam(param)
+            } else {
+                RegionKind::ReStatic
+            }
+        }
+        RegionKind::ReBound(BoundVarIndexKind::Bound(_), _) => RegionKind::ReStatic,
+        other => other,
+    };
+    Region { kind }
+}
+
+/// The cell with the lifetimes that are kept, and without a binder.
+fn plain_cell(cell: TermCell, kept: Kept<'_>) -> TermCell
+    ensures is { cell_of result ≡ plain_cell (is_kept kept.entry) (cell_of cell) }
+    ensures parts { (S : List Part) → parts_behind result S ≡ parts_behind cell S }
+    ensures held { CellHeld cell → CellHeld result }
+{
+    match cell {
+        TermCell::Lifetime(region) => TermCell::Lifetime(plain_region(region, kept)),
+        TermCell::Ref { region, mutability } => TermCell::Ref {
+            region: plain_region(region, kept),
+            mutability,
+        },
+        TermCell::FnPtr { types, .. } => TermCell::FnPtr {
+            bound_vars: 0,
+            types,
+        },
+        TermCell::Principal { def_id, args, .. } => TermCell::Principal {
+            bound_vars: 0,
+            def_id,
+            args,
+        },
+        _ => cell,
+    }
+}
+
+/// The cells with the lifetimes that are kept, and without binders. The error says that a request for memory was refused.
+pub(crate) fn plain_cells(
+    alloc: Global,
+    cells: &[TermCell],
+    kept: Kept<'_>,
+) -> Result<Vec<TermCell>, AllocError>
+    ensures are { IfOk result (λ plain. cells_of plain.items ≡ map (plain_cell (is_kept kept.entry)) (cells_of cells.now)) }
+    ensures made { (p : Part → Bool) → AreMade p cells.now → IfOk result (λ plain. AreMade p plain.items) }
+{
+    let mut plain = Vec::new(alloc);
+    for cell in cells {
+        plain.push(plain_cell(*cell, kept))?;
+    }
+    Ok(plain)
+}
+
+/// The reference with the lifetimes that are kept, and without binders. The error says that a request for memory was refused.
+pub(crate) fn plain_reference(
+    alloc: Global,
+    cells: &ReferenceCells,
+    kept: Kept<'_>,
+) -> Result<ReferenceCells, AllocError>
+    ensures is { IfOk result (λ plain. reference_of plain ≡ plain_reference (is_kept kept.entry) (reference_of cells.now)) }
+    ensures made { ReferenceMade cells.now → IfOk result (λ plain. ReferenceMade plain) }
+{
+    let args = plain_cells(alloc, &cells.args, kept)?;
+    Ok(ReferenceCells {
+        trait_id: cells.trait_id,
+        args,
+    })
+}
+
+/// The references with the lifetimes that are kept, and without binders, in order. The error says that a request for memory was
+/// refused.
+pub(crate) fn plain_references(
+    alloc: Global,
+    list: &[ReferenceCells],
+    kept: Kept<'_>,
+) -> Result<Vec<ReferenceCells>, AllocError>
+    ensures are { IfOk result (λ plain. map reference_of plain.items ≡ map (plain_reference (is_kept kept.entry)) (map reference_of list.now)) }
+    ensures made { ReferencesMade list.now → IfOk result (λ plain. ReferencesMade plain.items) }
+{
+    let mut plain = Vec::new(alloc);
+    for cells in list {
+        let reference = plain_reference(alloc, cells, kept)?;
+        plain.push(reference)?;
+    }
+    Ok(plain)
+}
