@@ -13,3 +13,5 @@ mod runs;
 mod sessions;
 #[cfg(test)]
 mod texts;
+#[cfg(test)]
+mod whole_texts;
