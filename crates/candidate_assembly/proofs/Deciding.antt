@@ -1,5 +1,5 @@
 -- When a goal is decided.
-use Rattle.std.proofs.Common.{◌≡◌, refl, sym, ap, ◌∙◌, Bool, true, false, ◌&&◌, ◌||◌, not, List, [], ◌∷◌, map, Option, Some, None, if◌then◌else◌}
+use Rattle.std.proofs.Common.{◌≡◌, refl, sym, ap, ◌∙◌, Bool, true, false, ◌&&◌, ◌||◌, not, List, [], ◌∷◌, map, Some, None, if◌then◌else◌}
 use Rattle.std.specs.Prelude.{◌==◌}
 use Rattle.model.specs.Trees.{Trees}
 use Rattle.model.specs.Worlds.{World, Reference}
@@ -7,7 +7,7 @@ use Rattle.model.specs.Rules.{unsize}
 use Rattle.model.specs.Answers.{written_in}
 use Rattle.type_terms.specs.Terms.{Entry, trees_at}
 use Rattle.type_terms.specs.Made.{terms, is_made}
-use Rattle.type_terms.proofs.Made.{false-true, left, right}
+use Rattle.type_terms.proofs.Made.{left, right}
 use Rattle.infer_table.specs.Canonical.{CanonicalForm}
 use Rattle.infer_table.specs.declared.canonical.CanonicalVarKind.{CanonicalVarKind}
 use Rattle.infer_table.specs.declared.input.CanonicalInput.{CanonicalInput}
@@ -15,13 +15,9 @@ use Rattle.infer_table.specs.Goals.{environment_trees, predicate_trees}
 use Rattle.infer_table.specs.Inputs.{form_of}
 use Rattle.evaluation_laws.specs.Variables.{is_variable_over}
 use Rattle.declarations.specs.Items.{Items, reference_in, written}
-use Rattle.assembly_laws.specs.Asking.{Asked, asked, asked_if, asked_with, all_known, with_first, are_clauses, begins_with_type, begins_unknown, next_of, self_of}
-use Rattle.assembly_laws.specs.DeclaredWell.{is_declared_well}
-use Rattle.assembly_laws.specs.Meaning.{Meaning}
+use Rattle.assembly_laws.specs.Asking.{Asked, asked, asked_if, asked_with, all_known, with_first, are_clauses, begins_with_type, next_of}
 use Rattle.candidate_assembly.specs.Goals.{asked_of}
-use Rattle.candidate_assembly.specs.Sections.{decided}
-use Rattle.candidate_assembly.specs.Solving.{meaning_for}
-use Rattle.candidate_assembly.specs.Fitting.{reference_fits, solving_of, GoalFits}
+use Rattle.candidate_assembly.specs.Fitting.{reference_fits, GoalFits}
 use Rattle.candidate_assembly.proofs.Fitting.{goal-fits}
 
 all-known : (ks : List CanonicalVarKind) → all_known (map Some ks) ≡ Some ks
@@ -80,26 +76,7 @@ module _ (es : List Entry) (d : Items) (g : CanonicalInput) where
       by true e = refl
       by false e = absurd cc
 
-  abbrev m : Meaning
-  m = meaning_for (solving_of es d) f
-
-  abbrev unknown : Bool
-  unknown = begins_unknown g.variables.items (self_of a)
-
-  -- the goal is asked, it fits, and its self type is no unknown
-  pub decided-by : is_declared_well V ≡ true → (b : Bool) → asked V f ≡ (if b then Some a else None) → decided m (asked V f) ≡ (if (b && (reference_fits d own && not unknown)) then Some a else None)
-  decided-by well b e = ap (decided m) e ∙ by b
-    where
-      cases : (w fits u : Bool) → w ≡ true → ◌≡◌ {A = Option Asked} (if not (w && fits) || u then None else Some a) (if fits && not u then Some a else None)
-      cases true true true e = refl
-      cases true true false e = refl
-      cases true false u e = refl
-      cases false fits u e = absurd (false-true e)
-
-      by : (b : Bool) → decided m (if b then Some a else None) ≡ (if (b && (reference_fits d own && not unknown)) then Some a else None)
-      by true = cases (is_declared_well V) (reference_fits d own) unknown well
-      by false = refl
-
+  -- what the candidates ask of it holds
   pub decided-fits : asked V f ≡ Some a → reference_fits d own ≡ true → GoalFits es d g
   decided-fits e fits =
       let h = tests-hold e in

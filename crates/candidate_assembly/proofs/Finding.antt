@@ -244,7 +244,7 @@ module _ (V : World) where
   pub own-names : (t : Trees) → is_made is_in_range terms t ≡ true → not (undeclared t) ≡ not (some_tree (names_undeclared V) t)
   own-names t h = ap not (sym (made-named terms t h))
 
--- ---- the traits of a `dyn`
+  -- ---- the traits of a `dyn`
   pub bounds-named : (x y : Trees) → among (x +++ y) ≡ (among x || among y)
   bounds-named none y = refl
   bounds-named (tree l c o) y = by (is_undeclared V l) (bounds-named o y)

@@ -1,30 +1,23 @@
 -- What is read off the first of some arguments.
-use Rattle.std.proofs.Common.{◌≡◌, ℕ, refl, sym, ap, ◌∙◌, subst, Bool, true, false, ◌&&◌, not, List, Option, Some, None, cond}
-use Rattle.std.specs.Prelude.{IfSome}
+use Rattle.std.proofs.Common.{◌≡◌, refl, sym, ap, ◌∙◌, subst, Bool, true, false, ◌&&◌, not, List, Option, Some}
 use Rattle.model.specs.Label.{Label, Sort, of_type, of_const, of_lifetime, adt, dynamic, param, placeholder, infer, canonical, bound}
 use Rattle.model.specs.Trees.{Trees, none, tree, ◌+++◌, sort_of, is_sort}
 use Rattle.model.specs.Answers.{is_open}
 use Rattle.type_terms.specs.Terms.{Entry, Lawful, trees_at}
-use Rattle.type_terms.specs.Kinds.{ArgHeld, arg_trees}
+use Rattle.type_terms.specs.Kinds.{arg_trees}
 use Rattle.type_terms.specs.declared.kinds.GenericArgKind.{GenericArgKind}
 use Rattle.type_terms.specs.declared.kinds.GenericArgKind.TheVariants.{Lifetime, Ty as AType, Const as AConst}
 use Rattle.type_terms.specs.declared.kinds.Ty.{Ty}
 use Rattle.type_terms.specs.declared.kinds.Const.{Const}
 use Rattle.type_terms.specs.declared.region.Region.{Region}
-use Rattle.type_terms.proofs.Made.{false-true}
-use Rattle.infer_table.specs.Values.{sort_of_arg}
 use Rattle.infer_table.specs.declared.canonical.CanonicalVarKind.{CanonicalVarKind}
 use Rattle.declarations.specs.Items.{Items}
-use Rattle.assembly_laws.specs.Asking.{begins_with_type, begins_unknown, with_plain_head, is_rigid}
+use Rattle.assembly_laws.specs.Asking.{begins_with_type, begins_unknown, with_plain_head}
 use Rattle.candidate_assembly.specs.FnPointers.{IsFirst}
 use Rattle.candidate_assembly.specs.Fitting.{type_fits}
 use Rattle.candidate_assembly.proofs.Pairs.{IsOneTree, arg-tree}
 
--- the argument is the interner's
-pub first-held : (es : List Entry) (t : Trees) (o : Option GenericArgKind) → IsFirst es t o → IfSome o (ArgHeld es)
-first-held es t None h = tt
-first-held es t (Some x) h = h.0
-
+-- an argument that is there
 pub first-is : (es : List Entry) (t : Trees) (o : Option GenericArgKind) (x y : GenericArgKind) → o ≡ Some x → x ≡ y → IsFirst es t o → IsFirst es t (Some y)
 first-is es t o x y e f h = subst (IsFirst es t) (e ∙ ap Some f) h
 

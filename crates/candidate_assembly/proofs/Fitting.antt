@@ -1,16 +1,16 @@
 -- What follows for a goal that fits declarations.
-use Rattle.std.proofs.Common.{◌≡◌, ℕ, zero, suc, refl, sym, ap, ◌∙◌, subst, arith, Bool, true, false, ◌&&◌, ◌||◌, not, max, List, [], ◌∷◌, map, Option, Some, None}
+use Rattle.std.proofs.Common.{◌≡◌, ℕ, refl, sym, ap, ◌∙◌, subst, arith, Bool, true, false, ◌&&◌, ◌||◌, not, max, List, [], ◌∷◌, map, Option, Some, None}
 use Rattle.std.specs.Prelude.{◌==◌, IfSome}
 use Rattle.std.specs.Option.{option_map_or}
 use Rattle.std.specs.List.{list_any}
 use Rattle.std.proofs.lemmas.Bool.{eqb-true}
-use Rattle.model.specs.Label.{Label, Sort, of_type, of_const, of_lifetime, adt, dynamic, principal, auto_trait, fn_ptr, param, placeholder, infer, canonical, bound}
+use Rattle.model.specs.Label.{Label, Sort, of_type, of_const, of_lifetime, adt, dynamic, principal, auto_trait, param, placeholder, infer, canonical, bound}
 use Rattle.model.specs.Trees.{Trees, none, tree, leaf, ◌+++◌, sort_of, is_sort, own_binder, outside, outer_binder, erase_label}
-use Rattle.model.specs.Worlds.{World, Reference}
+use Rattle.model.specs.Worlds.{Reference}
 use Rattle.model.specs.Rules.{unsize, principal_with, autos_with}
-use Rattle.model.specs.Answers.{written_in, is_open}
+use Rattle.model.specs.Answers.{written_in}
 use Rattle.type_terms.specs.Terms.{Entry, Lawful, trees_at}
-use Rattle.type_terms.specs.Kinds.{ArgsHeld, arg_trees, args_trees, autos_trees, principal_trees, bounds_trees, region_label, region_trees}
+use Rattle.type_terms.specs.Kinds.{ArgsHeld, args_trees, autos_trees, principal_trees, bounds_trees, region_label, region_trees}
 use Rattle.type_terms.specs.declared.TraitId.{TraitId}
 use Rattle.type_terms.specs.declared.kinds.GenericArgKind.{GenericArgKind}
 use Rattle.type_terms.specs.declared.kinds.Principal.{Principal}
@@ -23,18 +23,16 @@ use Rattle.type_terms.proofs.Made.{false-true, left, right}
 use Rattle.term_folds.specs.Signatures.{StartsWithType}
 use Rattle.infer_table.specs.declared.input.CanonicalInput.{CanonicalInput}
 use Rattle.infer_table.specs.Values.{sort_of_arg}
-use Rattle.declarations.specs.declared.items.GenericParamKind.{GenericParamKind}
 use Rattle.declarations.specs.declared.items.AdtDef.{AdtDef}
 use Rattle.declarations.specs.declared.items.TraitDef.{TraitDef}
 use Rattle.declarations.specs.Items.{Items, reference_in, struct_at, trait_at, written}
 use Rattle.declarations.specs.Merges.{Each}
-use Rattle.declarations.specs.Applied.{sort_of_param, sorts_of, sorts_of_params, IsApplied}
-use Rattle.assembly_laws.specs.Asking.{self_of, next_of, with_plain_head, begins_with_type, is_rigid}
-use Rattle.candidate_assembly.specs.Goals.{asked_of}
+use Rattle.declarations.specs.Applied.{sort_of_param, sorts_of, sorts_of_params}
+use Rattle.assembly_laws.specs.Asking.{next_of, with_plain_head, begins_with_type, is_rigid}
 use Rattle.candidate_assembly.specs.Constituents.{AreArguments, StructIsApplied}
-use Rattle.candidate_assembly.specs.Sections.{sources_tell, autos_of}
+use Rattle.candidate_assembly.specs.Sections.{autos_of}
 use Rattle.candidate_assembly.specs.Fitting.{same_sorts, are_of_trait, are_of_struct, is_shut, names_unsize, principal_fits, type_fits, reference_fits, FitsTrait, ObjectFits, TargetFits, FitsUnsize, GoalFits}
-use Rattle.candidate_assembly.proofs.Pairs.{IsOneTree, arg-tree}
+use Rattle.candidate_assembly.proofs.Pairs.{arg-tree}
 
 -- ---- sorts
 same-sort : (s t : Sort) → is_sort s t ≡ true → s ≡ t
@@ -61,41 +59,13 @@ args-sorts es law (x ∷ xs) h =
     let one = arg-tree es law x h.0 in
     ap (λ t. sorts_of (t +++ args_trees es xs)) one.is ∙ ap (λ s. s ∷ sorts_of (args_trees es xs)) one.sort ∙ ap (λ l. sort_of_arg x ∷ l) (args-sorts es law xs h.1)
 
--- one argument after the other
-module _ (xs : List GenericArgKind) (ps : List GenericParamKind) (r : Bool) where
-  abbrev alike : List GenericArgKind → List GenericParamKind → Bool
-  alike ys qs = same_sorts (map sort_of_arg ys) (map sort_of_param qs)
-
-  pub sorts-go-on : (x : GenericArgKind) (p : GenericParamKind) (ys : List GenericArgKind) (qs : List GenericParamKind) → xs ≡ x ∷ ys → ps ≡ p ∷ qs
-      → is_sort (sort_of_arg x) (sort_of_param p) ≡ true → alike xs ps ≡ r → alike ys qs ≡ r
-  sorts-go-on x p ys qs e f h k = sym (ap (λ b. b && alike ys qs) h) ∙ sym (ap (λ l. alike l (p ∷ qs)) e) ∙ sym (ap (alike xs) f) ∙ k
-
-  pub sorts-differ : (x : GenericArgKind) (p : GenericParamKind) (ys : List GenericArgKind) (qs : List GenericParamKind) → xs ≡ x ∷ ys → ps ≡ p ∷ qs
-      → is_sort (sort_of_arg x) (sort_of_param p) ≡ false → alike xs ps ≡ r → false ≡ r
-  sorts-differ x p ys qs e f h k = sym (ap (λ b. b && alike ys qs) h) ∙ sym (ap (λ l. alike l (p ∷ qs)) e) ∙ sym (ap (alike xs) f) ∙ k
-
-  pub sorts-end : xs ≡ [] → ps ≡ [] → alike xs ps ≡ r → true ≡ r
-  sorts-end e f k = sym (ap (λ l. alike l []) e) ∙ sym (ap (alike xs) f) ∙ k
-
-  pub sorts-left : (x : GenericArgKind) (ys : List GenericArgKind) → xs ≡ x ∷ ys → ps ≡ [] → alike xs ps ≡ r → false ≡ r
-  sorts-left x ys e f k = sym (ap (λ l. alike l []) e) ∙ sym (ap (alike xs) f) ∙ k
-
-  pub sorts-right : (p : GenericParamKind) (qs : List GenericParamKind) → xs ≡ [] → ps ≡ p ∷ qs → alike xs ps ≡ r → false ≡ r
-  sorts-right p qs e f k = sym (ap (λ l. alike l (p ∷ qs)) e) ∙ sym (ap (alike xs) f) ∙ k
-
 -- ---- what is declared
 module _ (d : Items) where
   pub trait-found : (t : ℕ) (ss : List Sort) (def : TraitDef) → Some def ≡ trait_at t d.traits → same_sorts ss (sorts_of_params def) ≡ are_of_trait d t ss
   trait-found t ss def e = ap (λ o. option_map_or (λ x. same_sorts ss (sorts_of_params x)) o true) e
 
-  pub trait-missing : (t : ℕ) (ss : List Sort) → None ≡ trait_at t d.traits → true ≡ are_of_trait d t ss
-  trait-missing t ss e = ap (λ o. option_map_or (λ x. same_sorts ss (sorts_of_params x)) o true) e
-
   pub struct-found : (s : ℕ) (ss : List Sort) (def : AdtDef) → Some def ≡ struct_at s d.structs → same_sorts ss (map sort_of_param def.params.items) ≡ are_of_struct d s ss
   struct-found s ss def e = ap (λ o. option_map_or (λ x. same_sorts ss (map sort_of_param x.params.items)) o true) e
-
-  pub struct-missing : (s : ℕ) (ss : List Sort) → None ≡ struct_at s d.structs → true ≡ are_of_struct d s ss
-  struct-missing s ss e = ap (λ o. option_map_or (λ x. same_sorts ss (map sort_of_param x.params.items)) o true) e
 
 -- ---- what tests tell
 of-trait : (ss : List Sort) (o : Option TraitDef) → option_map_or (λ def. same_sorts ss (sorts_of_params def)) o true ≡ true → IfSome o (λ def. ss ≡ sorts_of_params def)

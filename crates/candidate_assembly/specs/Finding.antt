@@ -3,7 +3,6 @@ use Rattle.std.specs.Prelude.{Bool, false, ◌||◌, not, List}
 use Rattle.model.specs.Label.{Label, adt, dynamic, principal, auto_trait}
 use Rattle.model.specs.Trees.{Trees, none, tree}
 use Rattle.model.specs.Worlds.{World}
-use Rattle.model.specs.Walks.{struct_is}
 use Rattle.model.specs.Answers.{is_undeclared}
 use Rattle.term_folds.specs.Folds.{IsBound}
 use Rattle.term_folds.specs.declared.visit.Seen.TheVariants.{Enter}

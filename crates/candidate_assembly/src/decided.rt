@@ -339,11 +339,7 @@ fn begins_with_types(cx: &Interner, trait_ref: TraitRef) -> bool
 }
 
 /// Whether all names in the reference are declared.
-fn reference_is_declared(
-    cx: &Interner,
-    declarations: &Declarations,
-    trait_ref: TraitRef,
-) -> bool
+fn reference_is_declared(cx: &Interner, declarations: &Declarations, trait_ref: TraitRef) -> bool
     requires { ReferenceHeld cx.now.entries trait_ref }
     ensures { result ≡ written_in (written cx.now.entries declarations.now) (reference_in cx.now.entries trait_ref) }
 {

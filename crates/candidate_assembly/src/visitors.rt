@@ -294,7 +294,12 @@ pub(crate) fn args_are_declared(
     ensures { result ≡ not (some_node (is_undeclared (written cx.now.entries declarations.now)) (trees_at cx.now.entries args.0)) }
 {
     cx.lawful();
-    match visit_args(cx, &mut FindsUndeclared { declarations }, args, &Binders::Outermost) {
+    match visit_args(
+        cx,
+        &mut FindsUndeclared { declarations },
+        args,
+        &Binders::Outermost,
+    ) {
         ControlFlow::Break(()) => false,
         ControlFlow::Continue(()) => true,
     }

@@ -143,7 +143,7 @@ module _ (P : Fact → Type 0) (m : Meaning) (mode : TypingMode) (fits admits : 
 pub goals-lead-to-goals : (P : Fact → Type 0) → GoalsLeadToGoals P
 goals-lead-to-goals P m mode fits admits well kept fits_kept = record {
   decided = λ q v i. (i.form, i.decided);
-  fitting = λ q v i. fits_kept.fitting q.form i.admitted;
+  fitting = λ q v i. fits_kept.fitting q v i;
   goals = λ q v i. (kept.askable (fact_of q v) i.of_fact).goal;
   onward = λ q v i closed places a e. onward P m mode fits admits well kept fits_kept q v i closed places a e;
 }

@@ -31,3 +31,6 @@ pub mod FormedTests
 pub mod FormedForms
 pub mod FormedAnswers
 pub mod RootAnswers
+pub mod UnboundTerms
+pub mod UnboundCandidates
+pub mod UnboundGoals

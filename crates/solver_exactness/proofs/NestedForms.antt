@@ -43,7 +43,7 @@ use Rattle.solver_exactness.proofs.Renumbering.{kinds-known, made-numbered, made
 none-of : (a b c : Bool) → a ≡ false → b ≡ false → c ≡ false → (a || b || c) ≡ false
 none-of a b c e f g = rw (e, f, g) refl
 
-no-unknowns : (t : Trees) → ((k : Sort) (v : ℕ) → HasValues k → StandsIn kind_of_leaf t (infer k v) → ⊥) → some_node is_unknown t ≡ false
+pub no-unknowns : (t : Trees) → ((k : Sort) (v : ℕ) → HasValues k → StandsIn kind_of_leaf t (infer k v) → ⊥) → some_node is_unknown t ≡ false
 no-unknowns none h = refl
 no-unknowns (tree l c o) h = none-of (is_unknown l) (some_node is_unknown c) (some_node is_unknown o) (first l (λ k v g e i. h k v g (inl (e, i)))) (no-unknowns c (λ k v g i. h k v g (inr (inl i)))) (no-unknowns o (λ k v g i. h k v g (inr (inr i))))
   where

@@ -50,9 +50,9 @@ pub record IsGoalOf (V : World) (admits : CanonicalForm → Bool) (P : Fact → 
   pub admitted : admits q.form ≡ true
   pub of_fact : P (fact_of q v)
 
--- what is asked of a goal that is admitted, is admitted; and only what fits the declarations is
+-- what is asked of such a goal is admitted again; and such goals fit the declarations
 pub record FitsAreKept (m : Meaning) (mode : TypingMode) (fits admits : CanonicalForm → Bool) (P : Fact → Type 0) : Type 0 where
-  pub fitting : (f : CanonicalForm) → admits f ≡ true → fits f ≡ true
+  pub fitting : (q : Question) (v : Values) → IsGoalOf m.view admits P q v → fits q.form ≡ true
   pub kept : (q : Question) (v : Values) → IsGoalOf m.view admits P q v → AreClosed q.form.kinds → ArePlaces q.form.kinds v → (a : Asked) → asked m.view q.form ≡ Some a
       → Every (AsksSuch frame_tables closed_tables (λ (p : Question) (u : Values). admits p.form ≡ true) (begin (kinds_known q.form.kinds)) v) (specs_by m mode a)
 

@@ -12,3 +12,4 @@ pub mod FormedTests
 pub mod SolverAnswers
 pub mod FormedAnswers
 pub mod RootAnswers
+pub mod UnboundGoals

@@ -9,6 +9,7 @@ ghost use Rattle.goal_frames.specs.Programs.{ArePrograms};
 ghost use Rattle.solver_exactness.specs.SolverAnswers.{solver_programs};
 ghost use Rattle.solver_exactness.specs.GoalSets.{GoalsLeadToGoals};
 ghost use Rattle.solver_exactness.specs.FormedFacts.{FormedAreKept, FormedGoalsFit};
+ghost use Rattle.solver_exactness.specs.UnboundGoals.{UnboundAreKept, UnboundAreAdmitted};
 ghost use Rattle.solver_exactness.specs.FormedTests.{FormedTestTells, CoreIsFormed};
 ghost use Rattle.solver_exactness.specs.RootAnswers.{RootsAreExact, RootsAreRight, RootsTellPossible};
 ghost use Rattle.solver_exactness.specs.FormedAnswers.{FormedIsExact, FormedSearchesAreExact, FormedSearchesAreRight, FormedTellsPossible};
@@ -32,6 +33,13 @@ pub fn formed_facts_are_kept()
 /// of formed facts fit declarations, as far as names and sorts go.
 pub fn formed_goals_fit()
     ensures { FormedGoalsFit }
+{}
+
+/// In a view that is declared well goals in which no binder binds what stands there lead to such goals, from all tables that the frame
+/// comes to. So a test of forms that reads names and sorts alone is kept by goals of formed facts in which nothing is bound.
+pub fn unbound_goals_are_kept()
+    ensures kept { UnboundAreKept }
+    ensures admitted { UnboundAreAdmitted }
 {}
 
 /// A view that passes the test is formed, and `core` passes it, with the sorts that its structs and traits take.

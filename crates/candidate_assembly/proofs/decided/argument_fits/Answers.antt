@@ -1,4 +1,4 @@
-use Rattle.std.proofs.Common.{◌∙◌, true, false}
+use Rattle.std.proofs.Common.{◌∙◌, true}
 use Rattle.type_terms.specs.declared.kinds.GenericArgKind.TheVariants.{Lifetime, Ty, Const}
 use Rattle.candidate_assembly.specs.Fitting.{type_fits}
 use Rattle.candidate_assembly.proofs.Firsts.{first-is, first-type, first-region, first-const, fits-alone, fits-other}

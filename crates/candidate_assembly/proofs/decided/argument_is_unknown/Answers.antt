@@ -1,4 +1,4 @@
-use Rattle.std.proofs.Common.{◌∙◌, true, false}
+use Rattle.std.proofs.Common.{◌∙◌, false}
 use Rattle.type_terms.specs.declared.kinds.GenericArgKind.TheVariants.{Lifetime, Ty, Const}
 use Rattle.candidate_assembly.proofs.Firsts.{first-is, first-region, first-const, unknown_first, unknown-type, unknown-other}
 use Rattle.candidate_assembly.proofs.decided.argument_is_unknown.Goals as goal

@@ -1,5 +1,4 @@
-use Rattle.std.proofs.Common.{sym, ap, ◌∙◌, not, ◌||◌, true}
-use Rattle.model.specs.Walks.{trait_is}
+use Rattle.std.proofs.Common.{sym, ap, ◌∙◌, not, ◌||◌}
 use Rattle.type_terms.specs.Terms.{bounds_lists}
 use Rattle.type_terms.specs.Kinds.{autos_trees, bounds_trees}
 use Rattle.term_folds.specs.Kept.{trees-is}
