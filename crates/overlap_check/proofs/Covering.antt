@@ -22,7 +22,7 @@ use Rattle.overlap_check.proofs.Standing.{default_node, root, own, rest_of, assi
 use Rattle.overlap_check.proofs.Instances.{node, joined, IsShut, nth-shut, no-type, no-const}
 
 -- ---- the values of all unknowns
-abbrev run : Assignment → Sort → ℕ → ℕ → List Trees
+abbrev pub run : Assignment → Sort → ℕ → ℕ → List Trees
 run S k i zero = []
 run S k i (suc n) = tree_of (S k i) ∷ run S k (suc i) n
 

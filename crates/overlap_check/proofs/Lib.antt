@@ -5,3 +5,8 @@ pub mod Covering
 pub mod Pairs
 pub mod Verdicts
 pub mod Written
+pub mod Unknowns
+pub mod Headers
+pub mod Owning
+pub mod Values
+pub mod Posed

@@ -2,17 +2,22 @@
 -- w and x are as they are written, with lifetimes.
 use Rattle.std.specs.Prelude.{◌≡◌, ℕ, ◌≤◌, List, [], map, ◌⊎◌}
 use Rattle.model.specs.Label.{Sort}
+use Rattle.model.specs.Trees.{Trees}
 use Rattle.model.specs.Terms.{erased_impl}
 use Rattle.model.specs.Worlds.{World, Reference, ImplDecl}
 use Rattle.model.specs.Proofs.{In}
 use Rattle.model.specs.Answers.{CommonInstance}
-use Rattle.type_terms.specs.Terms.{Entry}
-use Rattle.infer_table.specs.Solutions.{Equates, HasNoSolution}
+use Rattle.type_terms.specs.Terms.{Entry, Lawful}
+use Rattle.term_folds.specs.declared.predicate.TraitRef.{TraitRef}
+use Rattle.infer_table.specs.Solutions.{Assignment, Solves, Equates, HasNoSolution}
 use Rattle.infer_table.specs.Content.{Table, content, variables_of, Ready}
+use Rattle.declarations.specs.Held.{ReferenceHeld}
+use Rattle.declarations.specs.Items.{reference_in}
 use Rattle.session_laws.specs.Laws.{IsPassed, IsRefused}
-use Rattle.session_laws.specs.Questions.{IsRefuted, IsRefuteAnswer, unrefuted}
+use Rattle.session_laws.specs.Questions.{FitKinds, filled_reference, IsRefuted, IsRefuteAnswer, unrefuted}
 use Rattle.overlap_check.specs.Fresh.{fresh_unknowns, with_unknowns}
 use Rattle.overlap_check.specs.Goals.{IsPairWith, header_with, unknown_kinds, goal_of, HasGoals}
+use Rattle.overlap_check.specs.Headers.{IsOfTable, resolved_reference, with_instance}
 
 -- Where no values make the headers equal, the impls have no common instance.
 abbrev pub ApartHaveNoInstance : Type 0
@@ -45,3 +50,12 @@ abbrev pub OpenGoalsRefuse : Type 0
 OpenGoalsRefuse =
     (limit : ℕ) (V : World) (c : ℕ) (i j : ImplDecl) (ks : List Sort) (left right : List Reference) → HasGoals i j ks left right
     → ((g : Reference) → In g left ⊎ In g right → IsRefuteAnswer limit V c ks g unrefuted) → IsRefused limit V c i j
+
+-- Values for a table's unknowns are those of one of its solutions: a goal over the table, with the values put in, is the instance by
+-- it. So where no solution of the table has a proof of the goal, no values have.
+abbrev pub ValuesAreOfSolutions : Type 0
+ValuesAreOfSolutions =
+    (es : List Entry) → Lawful es → (t : Table) → Ready es t → (ts : List Trees) → FitKinds (unknown_kinds t) ts
+    → (s : Assignment) × Solves s (content es t.values)
+    × ((r : TraitRef) → ReferenceHeld es r → IsOfTable es t r
+    → with_instance s (reference_in es r) ≡ filled_reference (unknown_kinds t) ts (resolved_reference (content es t.values) (reference_in es r)))

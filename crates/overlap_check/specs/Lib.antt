@@ -1,4 +1,5 @@
 pub mod Fresh
 pub mod Goals
+pub mod Headers
 pub mod Laws
 pub mod Written

@@ -1,5 +1,5 @@
 //! Laws of pairs of impls: from the solutions of equated headers to common instances and back, and from answers to verdicts.
-ghost use Rattle.overlap_check.specs.Laws.{ApartHaveNoInstance, OtherTraitsHaveNoInstance, EquatedHaveGoals, RefusedGoalPasses, OpenGoalsRefuse};
+ghost use Rattle.overlap_check.specs.Laws.{ApartHaveNoInstance, OtherTraitsHaveNoInstance, EquatedHaveGoals, RefusedGoalPasses, OpenGoalsRefuse, ValuesAreOfSolutions};
 ghost use Rattle.overlap_check.specs.Written.{WrittenIsInstantiable};
 
 /// Headers over fresh unknowns that cannot be made equal have no common instance. Those that can have one, and the where-clauses, with
@@ -20,4 +20,10 @@ pub fn written_impls_are_instantiable()
 pub fn answers_to_goals()
     ensures passed { RefusedGoalPasses }
     ensures refused { OpenGoalsRefuse }
+{}
+
+/// Values for the unknowns of a table are those of one of its solutions: a goal over the table with the values put in is the instance by
+/// it. So a goal that has a proof at no solution of the table has none at any values of its unknowns.
+pub fn values_are_of_solutions()
+    ensures { ValuesAreOfSolutions }
 {}

@@ -5,4 +5,8 @@
 //! solution in any linked set, the impls do not overlap (`overlap` in the original's coherence).
 #![tactic(auto)]
 
+pub mod equate;
+pub mod fresh;
+pub mod header;
+pub mod intersection;
 pub mod laws;

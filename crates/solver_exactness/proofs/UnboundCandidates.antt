@@ -1,10 +1,10 @@
 -- Candidates of goals in which nothing is bound ask such goals, and those by impls equate such terms.
-use Rattle.std.proofs.Common.{◌≡◌, ℕ, zero, suc, ◌==◌, Bool, true, false, not, ◌&&◌, ◌||◌, List, [], ◌∷◌, ◌++◌, map, length, ◌⊎◌, inl, inr, refl, ap, subst, if◌then◌else◌}
+use Rattle.std.proofs.Common.{◌≡◌, ℕ, zero, suc, ◌==◌, Bool, true, false, not, ◌&&◌, List, [], ◌∷◌, ◌++◌, map, length, ◌⊎◌, inl, inr, refl, subst, if◌then◌else◌}
 use Rattle.std.specs.List.{flat_map, list_all}
 use Rattle.model.specs.Label.{Label, bool, char, never, int, uint, str, array, slice, tuple, dynamic, adt, fn_ptr, ref, raw_pointer, principal, auto_trait, of_trait, predicate, param, placeholder, infer, canonical, bound, Sort, of_type, of_const, of_lifetime}
-use Rattle.model.specs.Trees.{Trees, none, tree, leaf, ◌+++◌, erase_label, instantiate, some_node, is_a}
+use Rattle.model.specs.Trees.{Trees, none, tree, leaf, erase_label, instantiate, is_a}
 use Rattle.model.specs.Worlds.{World, Reference, StructDecl, TraitDecl, ImplDecl, structs_named, traits_named, all_with_args}
-use Rattle.model.specs.Rules.{Rule, row, sized, clone, copy, tuple_trait, fn_ptr_trait, is_fn_trait, unsize, is_auto, is_coinductive, is_written, is_dyn, sized_struct, auto_struct, each_asked, last_asked, fields_of, together, sized_rules, copy_rules, auto_rules_plain, auto_rules, tuple_rules, fn_ptr_rules, but_last, principal_with, autos_with, asked as asked_for, are_dyn_compatible, are_declared, upcasts_autos, unsize_to_dyn_rules, some_unsizing, with_unsizing, last_unsizes, written_supertraits, strict_supertraits_within, strict_supertraits}
+use Rattle.model.specs.Rules.{Rule, row, sized, is_fn_trait, unsize, is_coinductive, is_written, is_dyn, sized_struct, auto_struct, each_asked, last_asked, fields_of, together, sized_rules, copy_rules, auto_rules_plain, auto_rules, tuple_rules, fn_ptr_rules, but_last, principal_with, autos_with, are_dyn_compatible, are_declared, upcasts_autos, unsize_to_dyn_rules, some_unsizing, with_unsizing, last_unsizes, written_supertraits, strict_supertraits_within, strict_supertraits}
 use Rattle.model.specs.Proofs.{In}
 use Rattle.model.proofs.Members.{here, there, in-filter, in-cases, in-nothing}
 use Rattle.model.proofs.NoHolds.{member-each}
@@ -355,9 +355,10 @@ module _ (V : World) (well : IsDeclaredWell V) where
 
     impl-fine : (i : ImplDecl) → In i V.impls → IsFine (by_the_impl V a i)
     impl-fine i k =
-        let d = member-each (λ (x : ImplDecl). are_terms x.header.args && are_references x.clauses) V.impls i impls-declared k in
-        (premises-shut (is_coinductive V a.reference.trait) (map (behind (length a.kinds)) i.clauses) (clauses-moved i.clauses (right (are_terms i.header.args) _ d)),
-        inr (equal-unbound a.reference.args (behind (length a.kinds) i.header).args open_shut (moved-shut (length a.kinds) i.header.args (declared-unbound i.header.args (left (are_terms i.header.args) _ d)))))
+        let d = member-each (λ (x : ImplDecl). are_terms x.header.args && are_references x.clauses) V.impls i impls-declared k in (
+          premises-shut (is_coinductive V a.reference.trait) (map (behind (length a.kinds)) i.clauses) (clauses-moved i.clauses (right (are_terms i.header.args) _ d)),
+          inr (equal-unbound a.reference.args (behind (length a.kinds) i.header).args open_shut (moved-shut (length a.kinds) i.header.args (declared-unbound i.header.args (left (are_terms i.header.args) _ d)))),
+        )
       where
         clauses-moved : (cs : List Reference) → are_references cs ≡ true → Every Shut (map (behind (length a.kinds)) cs)
         clauses-moved [] e = tt

@@ -1,0 +1,131 @@
+-- Pairs of impls over the terms of an interner: with unknowns for their parameters, and with equal headers.
+use Rattle.std.specs.Prelude.{◌≡◌, zero, false, List, [], map, Some, ◌⊎◌}
+use Rattle.model.specs.Label.{Sort}
+use Rattle.model.specs.Trees.{Trees, erase, instantiate, some_node}
+use Rattle.model.specs.Terms.{erased_impl}
+use Rattle.model.specs.Worlds.{Reference, with_args}
+use Rattle.model.specs.Answers.{CommonInstance, is_variable}
+use Rattle.type_terms.specs.Terms.{Entry, Has, args_lists, trees_at}
+use Rattle.type_terms.specs.declared.ImplId.{ImplId}
+use Rattle.term_folds.specs.declared.predicate.TraitRef.{TraitRef}
+use Rattle.infer_table.specs.Solutions.{Assignment, Binding, Equates, instance, resolved}
+use Rattle.infer_table.specs.Applied.{solved_in_turn}
+use Rattle.infer_table.specs.Canonical.{HasNoCanonical}
+use Rattle.infer_table.specs.Content.{Table, content, variables_of, Ready, Grows}
+use Rattle.infer_table.specs.Covers.{AreKnown, IsOfKnown}
+use Rattle.infer_table.specs.Unification.{table_trees}
+use Rattle.infer_table.specs.Shortages.{SomeRunsOut}
+use Rattle.declarations.specs.Applied.{sort_of_param, references_in, AllHeld}
+use Rattle.declarations.specs.Held.{ReferenceHeld}
+use Rattle.declarations.specs.Items.{reference_in, impl_in}
+use Rattle.declarations.specs.Merges.{Each}
+use Rattle.declarations.specs.declared.items.ImplDef.{ImplDef}
+use Rattle.overlap_check.specs.Fresh.{with_unknowns, fresh_unknowns, SomeHaveNoNumber}
+use Rattle.overlap_check.specs.Goals.{unknown_kinds, HasGoals}
+use Rattle.overlap_check.specs.declared.header.ImplHeader.{ImplHeader}
+use Rattle.overlap_check.specs.declared.intersection.ImplIntersection.{ImplIntersection}
+
+-- The sorts of an impl's parameters.
+abbrev pub sorts_of_impl : ImplDef → List Sort
+sorts_of_impl def = map sort_of_param def.params.items
+
+-- The table's next unknowns, for them.
+abbrev pub unknowns_for : Table → ImplDef → Trees
+unknowns_for t def = fresh_unknowns t (sorts_of_impl def)
+
+-- The table that has these.
+abbrev pub with_unknowns_for : Table → ImplDef → Table
+with_unknowns_for t def = with_unknowns t (sorts_of_impl def)
+
+-- The header's arguments are the table's next unknowns for the impl's parameters.
+pub record IsUnknownsFor (es : List Entry) (t : Table) (def : ImplDef) (h : ImplHeader) : Type 0 where
+  pub held : Has es args_lists h.impl_args.0
+  pub are : trees_at es h.impl_args.0 ≡ unknowns_for t def
+
+-- The header, over an interner that has grown, is the impl's with the table's next unknowns for its parameters.
+pub record IsHeaderOver (old : List Entry) (t : Table) (def : ImplDef) (new : List Entry) (h : ImplHeader) : Type 0 where
+  pub unknowns : IsUnknownsFor new t def h
+  pub held : ReferenceHeld new h.trait_ref
+  pub is : reference_in new h.trait_ref ≡ with_args (unknowns_for t def) (reference_in old def.header)
+
+-- The header's arguments.
+abbrev pub args_at : List Entry → ImplHeader → Trees
+args_at es h = trees_at es h.trait_ref.args.0
+
+-- ---- pairs
+abbrev pub empty_table : Table
+empty_table = record { ty_vars = 0; const_vars = 0; region_vars = 0; values = []; constraints = [] }
+
+-- The table of a pair: with unknowns for the parameters of the first impl and then for those of the second one.
+abbrev pub pair_table : ImplDef → ImplDef → Table
+pair_table w x = with_unknowns_for (with_unknowns_for empty_table w) x
+
+-- The arguments of their headers, over it.
+abbrev pub left_args : List Entry → ImplDef → Trees
+left_args es w = instantiate zero (unknowns_for empty_table w) (trees_at es w.header.args.0)
+
+abbrev pub right_args : List Entry → ImplDef → ImplDef → Trees
+right_args es w x = instantiate zero (unknowns_for (with_unknowns_for empty_table w) x) (trees_at es x.header.args.0)
+
+-- No number is left for an unknown of a parameter, or for one of a lifetime that is met when the headers are made equal.
+abbrev pub PairRunsOut : List Entry → ImplDef → ImplDef → Type 0
+PairRunsOut es w x =
+    SomeHaveNoNumber empty_table (sorts_of_impl w)
+    ⊎ SomeHaveNoNumber (with_unknowns_for empty_table w) (sorts_of_impl x)
+    ⊎ SomeRunsOut (table_trees es (pair_table w x)) (left_args es w) (right_args es w x)
+
+-- Whatever their numbers are, the impls have no common instance.
+abbrev pub AreApart : List Entry → ImplDef → ImplDef → Type 0
+AreApart es w x = (i j : ImplId) → CommonInstance (erased_impl (impl_in es i w)) (erased_impl (impl_in es j x)) → ⊥
+
+-- The headers of both, over an interner that has grown, are equal in this table: its solutions are the values that make them equal, and
+-- what it holds is a function of their trees.
+pub record AreEqualHeaders (old : List Entry) (w x : ImplDef) (new : List Entry) (u : Table) (left right : ImplHeader) : Type 0 where
+  pub ready : Ready new u
+  pub grows : Grows (pair_table w x) u
+  pub left_unknowns : IsUnknownsFor new empty_table w left
+  pub right_unknowns : IsUnknownsFor new (with_unknowns_for empty_table w) x right
+  pub left_held : ReferenceHeld new left.trait_ref
+  pub right_held : ReferenceHeld new right.trait_ref
+  pub left_is : args_at new left ≡ left_args old w
+  pub right_is : args_at new right ≡ right_args old w x
+  pub one_trait : w.header.def_id.index ≡ x.header.def_id.index
+  pub equates : Equates [] (content new u.values) (left_args old w) (right_args old w x)
+  pub exact : solved_in_turn (table_trees new (pair_table w x)) (left_args old w) (right_args old w x) ≡ Some (table_trees new u)
+
+-- The reference with the values of unknowns for these, without lifetimes.
+abbrev pub resolved_reference : List Binding → Reference → Reference
+resolved_reference bs r = record { trait = r.trait; args = erase (resolved bs r.args) }
+
+-- The reference with the assigned terms for its unknowns, without lifetimes.
+abbrev pub with_instance : Assignment → Reference → Reference
+with_instance s r = record { trait = r.trait; args = instance s r.args }
+
+-- What is asked by references over a table.
+abbrev pub goals_over : List Entry → Table → List TraitRef → List Reference
+goals_over es t rs = map (resolved_reference (content es t.values)) (references_in es rs)
+
+-- What was found of the impls, over an interner that has grown: the goals of the pair, whatever the numbers of the impls are.
+pub record IsIntersection (old : List Entry) (w x : ImplDef) (new : List Entry) (found : ImplIntersection) : Type 0 where
+  pub ready : Ready new found.table
+  pub left_held : AllHeld new found.left.items
+  pub right_held : AllHeld new found.right.items
+  pub goals : (i j : ImplId) → HasGoals (erased_impl (impl_in old i w)) (erased_impl (impl_in old j x)) (unknown_kinds found.table)
+      (goals_over new found.table found.left.items) (goals_over new found.table found.right.items)
+
+-- ---- what is left to ask speaks of the table's own unknowns
+-- No unknown and no canonical variable stands in the impl's terms, of lifetimes neither.
+pub record IsWithoutVariables (es : List Entry) (def : ImplDef) : Type 0 where
+  pub header : some_node is_variable (trees_at es def.header.args.0) ≡ false
+  pub clauses : Each (λ (r : TraitRef). some_node is_variable (trees_at es r.args.0) ≡ false) def.clauses.items
+
+-- As the table resolves it, the reference speaks of the table's own unknowns and of no canonical variable.
+pub record IsOfTable (es : List Entry) (t : Table) (r : TraitRef) : Type 0 where
+  pub known : AreKnown (variables_of t) (resolved (content es t.values) (trees_at es r.args.0))
+  pub clean : HasNoCanonical (resolved (content es t.values) (trees_at es r.args.0))
+
+-- So do all that are to be asked; and the table speaks of no others.
+pub record IsPosed (es : List Entry) (found : ImplIntersection) : Type 0 where
+  pub table : IsOfKnown (variables_of found.table) (content es found.table.values)
+  pub left : Each (IsOfTable es found.table) found.left.items
+  pub right : Each (IsOfTable es found.table) found.right.items

@@ -1,0 +1,117 @@
+//! Headers and where-clauses of impls over fresh unknowns.
+ghost use Rattle.std.specs.Prelude.{◌≡◌, ◌⊎◌, IfOk, OnOk, Err, None};
+ghost use Rattle.model.specs.Trees.{outer_binder};
+ghost use Rattle.model.specs.Worlds.{with_args, all_with_args};
+ghost use Rattle.type_terms.specs.Terms.{Keeps, Has, args_lists, trees_at};
+ghost use Rattle.term_folds.specs.Arguments.{first_misfit};
+ghost use Rattle.term_folds.specs.Failures.{SomeKindIsFull};
+ghost use Rattle.infer_table.specs.Content.{Ready};
+ghost use Rattle.declarations.specs.Applied.{references_in, AllHeld};
+ghost use Rattle.declarations.specs.Held.{ReferenceHeld, ImplHeld};
+ghost use Rattle.declarations.specs.Items.{reference_in};
+ghost use Rattle.declarations.specs.Merges.{Each};
+ghost use Rattle.overlap_check.specs.Fresh.{SomeHaveNoNumber};
+ghost use Rattle.overlap_check.specs.Headers.{sorts_of_impl, with_unknowns_for, IsHeaderOver};
+ghost use Rattle.overlap_check.specs.Written.{IsWrittenWell};
+
+use crate::fresh::fresh_args_for_item;
+use declarations::items::ImplDef;
+use infer_table::infer_ctxt::InferCtxt;
+use std::alloc::Global;
+use term_folds::binder::EarlyBinder;
+use term_folds::instantiate::InstantiateError;
+use term_folds::laws::closed_arguments_are_in_range;
+use term_folds::predicate::TraitRef;
+use type_terms::Fault;
+use type_terms::interner::Interner;
+use type_terms::kinds::GenericArgs;
+
+/// The header of an impl with unknowns for its parameters (`ImplHeader`): `?0` and `V<?0>: Show` of `impl<T> Show for V<T>`.
+#[derive(Clone, Copy, PartialEq, Eq, Debug)]
+pub struct ImplHeader {
+    /// The unknowns.
+    pub impl_args: GenericArgs,
+    /// The reference that the impl proves, with the unknowns.
+    pub trait_ref: TraitRef,
+}
+
+/// A reference with arguments in the place of its parameters.
+fn instantiate_trait_ref(
+    alloc: Global,
+    cx: &mut Interner,
+    trait_ref: TraitRef,
+    args: GenericArgs,
+) -> Result<TraitRef, Fault>
+    requires held { ReferenceHeld cx.old.entries trait_ref }
+    requires args { Has cx.old.entries args_lists args.0 }
+    requires closed { outer_binder (trees_at cx.old.entries args.0) ≡ 0 }
+    requires fits { first_misfit (trees_at cx.old.entries args.0) (trees_at cx.old.entries trait_ref.args.0) ≡ None }
+    ensures keeps { Keeps cx.old.entries cx.new.entries }
+    ensures limit { cx.new.limit ≡ cx.old.limit }
+    ensures held { IfOk result (ReferenceHeld cx.new.entries) }
+    ensures is { IfOk result (λ r. reference_in cx.new.entries r ≡ with_args (trees_at cx.old.entries args.0) (reference_in cx.old.entries trait_ref)) }
+    ensures full { result ≡ Err Fault.Full → SomeKindIsFull cx.new.entries cx.new.limit }
+{
+    closed_arguments_are_in_range();
+    match EarlyBinder::bind(trait_ref).instantiate(alloc, cx, args) {
+        Ok(instance) => Ok(instance),
+        Err(InstantiateError::Fault(fault)) => Err(fault),
+        Err(InstantiateError::ParamOutOfRange) => unreachable!(),
+        Err(InstantiateError::ParamKind) => unreachable!(),
+    }
+}
+
+/// Each where-clause with arguments in the place of its parameters, in order (`predicates_of`, instantiated).
+pub(crate) fn instantiate_clauses(
+    alloc: Global,
+    cx: &mut Interner,
+    clauses: &[TraitRef],
+    args: GenericArgs,
+) -> Result<Vec<TraitRef>, Fault>
+    requires held { AllHeld cx.old.entries clauses.now }
+    requires args { Has cx.old.entries args_lists args.0 }
+    requires closed { outer_binder (trees_at cx.old.entries args.0) ≡ 0 }
+    requires fits { Each (λ k. first_misfit (trees_at cx.old.entries args.0) (trees_at cx.old.entries k.args.0) ≡ None) clauses.now }
+    ensures keeps { Keeps cx.old.entries cx.new.entries }
+    ensures limit { cx.new.limit ≡ cx.old.limit }
+    ensures held { IfOk result (λ v. AllHeld cx.new.entries v.items) }
+    ensures are { IfOk result (λ v. references_in cx.new.entries v.items ≡ all_with_args (trees_at cx.old.entries args.0) (references_in cx.old.entries clauses.now)) }
+    ensures full { result ≡ Err Fault.Full → SomeKindIsFull cx.new.entries cx.new.limit }
+{
+    let mut found = Vec::new(alloc);
+    let mut left = clauses;
+    'clauses: while let Some((clause, others)) = left.split_first() {
+        let next = instantiate_trait_ref(alloc, cx, *clause, args)?;
+        found.push(next)?;
+        left = others;
+    }
+    Ok(found)
+}
+
+/// The header of an impl with new unknowns of the table for its parameters (`fresh_impl_header`).
+///
+/// `Full` comes only where some kind of term has reached its limit or there is no number left for an unknown, `Memory` where memory
+/// is refused. After a refusal the table may have some of the unknowns.
+pub fn fresh_impl_header(
+    alloc: Global,
+    cx: &mut Interner,
+    table: &mut InferCtxt,
+    def: &ImplDef,
+) -> Result<ImplHeader, Fault>
+    requires ready { Ready cx.old.entries table.old }
+    requires held { ImplHeld cx.old.entries def.now }
+    requires written { IsWrittenWell cx.old.entries def.now }
+    ensures ready { Ready cx.new.entries table.new }
+    ensures keeps { Keeps cx.old.entries cx.new.entries }
+    ensures limit { cx.new.limit ≡ cx.old.limit }
+    ensures header { IfOk result (IsHeaderOver cx.old.entries table.old def.now cx.new.entries) }
+    ensures made { OnOk result (table.new ≡ with_unknowns_for table.old def.now) }
+    ensures full { result ≡ Err Fault.Full → SomeKindIsFull cx.new.entries cx.new.limit ⊎ SomeHaveNoNumber table.old (sorts_of_impl def.now) }
+{
+    let impl_args = fresh_args_for_item(alloc, cx, table, &def.params)?;
+    let trait_ref = instantiate_trait_ref(alloc, cx, def.header, impl_args)?;
+    Ok(ImplHeader {
+        impl_args,
+        trait_ref,
+    })
+}
