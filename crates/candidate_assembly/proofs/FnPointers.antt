@@ -1,17 +1,16 @@
 -- Calls of `fn` pointers.
-use Rattle.std.proofs.Common.{◌≡◌, ℕ, false, List, [], ◌∷◌, ◌++◌, Some, None, refl, sym, ap, subst, ◌∙◌}
+use Rattle.std.proofs.Common.{◌≡◌, false, List, [], ◌∷◌, ◌++◌, Some, None, refl, sym, ap, subst, ◌∙◌}
 use Rattle.std.specs.List.{slice_get}
 use Rattle.std.proofs.lemmas.Option.{same_Some}
 use Rattle.model.specs.Label.{Label, Sort, of_type, of_const, of_lifetime, tuple, fn_ptr, param, placeholder, infer, canonical, bound}
 use Rattle.model.specs.Trees.{Trees, none, tree, ◌+++◌, IsA, nth, is_no_tree}
 use Rattle.model.specs.Worlds.{World}
 use Rattle.model.specs.Rules.{but_last, last_asked, sized}
-use Rattle.type_terms.specs.Terms.{Entry, Lawful, types, trees_at}
-use Rattle.type_terms.specs.Kinds.{ArgHeld, ArgsHeld, TysHeld, arg_trees, args_trees, tys_trees}
+use Rattle.type_terms.specs.Terms.{Entry, Lawful, trees_at}
+use Rattle.type_terms.specs.Kinds.{ArgsHeld, TysHeld, args_trees, tys_trees}
 use Rattle.type_terms.specs.declared.kinds.GenericArgKind.{GenericArgKind}
 use Rattle.type_terms.specs.declared.kinds.Ty.{Ty}
 use Rattle.term_folds.specs.Signatures.{StartsWithType}
-use Rattle.infer_table.specs.Values.{sort_of_arg}
 use Rattle.assembly_laws.specs.Asking.{Asked, with_plain_head, next_of}
 use Rattle.assembly_laws.specs.Candidates.{call_of, by_rule, all_equal, misc}
 use Rattle.candidate_assembly.specs.FnPointers.{signature_of, IsFirst}

@@ -27,3 +27,15 @@ pub mod Fitting
 pub mod Knowing
 pub mod Deciding
 pub mod Firsts
+pub mod Later
+pub mod StructRows
+pub mod ToDyn
+pub mod UnsizeRows
+pub mod Objects
+pub mod Over
+pub mod OverRows
+pub mod OverCandidates
+pub mod Settled
+pub mod DecidedGoals
+pub mod TraitGoals
+pub mod RuleAfterRule

@@ -1,7 +1,7 @@
 -- Rows of `Unsize`, by what is read off the two types.
 use Rattle.std.proofs.Common.{◌≡◌, List, [], ◌∷◌, Option, Some, None, refl, sym, ap, subst, ◌∙◌}
 use Rattle.model.specs.Label.{Label, Sort, of_type, array, slice}
-use Rattle.model.specs.Trees.{Trees, none, tree, ◌+++◌, IsA, sort_of}
+use Rattle.model.specs.Trees.{Trees, none, tree, ◌+++◌, IsA}
 use Rattle.model.specs.Worlds.{World}
 use Rattle.infer_table.specs.Values.{Value}
 use Rattle.table_laws.specs.Frames.{Equation}

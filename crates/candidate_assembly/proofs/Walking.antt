@@ -1,5 +1,5 @@
 -- A walk over the impls that can match a goal, from one to the next.
-use Rattle.std.proofs.Common.{◌≡◌, ℕ, suc, Bool, true, false, cond, ◌&&◌, arith, List, [], ◌∷◌, Option, Some, None, refl, sym, ap, subst, ◌∙◌}
+use Rattle.std.proofs.Common.{◌≡◌, ℕ, zero, suc, length, Bool, true, false, cond, ◌&&◌, arith, List, [], ◌∷◌, Option, Some, None, refl, sym, ap, subst, ◌∙◌}
 use Rattle.std.proofs.lemmas.Bool.Decides.{nat_tests}
 use Rattle.std.specs.Prelude.{◌==◌, map, filter, if◌then◌else◌}
 use Rattle.std.specs.List.{slice_get}
@@ -7,7 +7,6 @@ use Rattle.model.specs.Label.{Label, param}
 use Rattle.model.specs.Trees.{Trees, none, tree, nth, erase, erase_label}
 use Rattle.model.specs.Worlds.{World, ImplDecl}
 use Rattle.model.specs.Rules.{same_head}
-use Rattle.model.specs.Proofs.{In}
 use Rattle.model.specs.Terms.{erased_impl}
 use Rattle.type_terms.specs.Terms.{Entry, trees_at}
 use Rattle.type_terms.specs.declared.ImplId.{ImplId}
@@ -17,7 +16,7 @@ use Rattle.declarations.specs.Items.{Items, HeldImpl, impl_in, impl_at, written}
 use Rattle.declarations.specs.Merges.{Each}
 use Rattle.declarations.specs.Relevant.{is_above, next_above, relevant_in}
 use Rattle.assembly_laws.specs.Asking.{Asked, self_of, with_plain_head}
-use Rattle.assembly_laws.specs.Candidates.{by_impls, by_the_impl, is_relevant_to}
+use Rattle.assembly_laws.specs.Candidates.{kinds_of_params, by_impls, by_the_impl, is_relevant_to}
 use Rattle.candidate_assembly.specs.Headers.{CanBeCandidate}
 
 abbrev pub names : List ImplDecl → List ℕ
@@ -130,14 +129,10 @@ one-of-number x n (i ∷ is) h = by (i.name == n) refl h (one-of-number x n is)
         (λ t. first, none-of-number (λ j. j ≡ x) n is others)
     by false e h rest = (λ t. let bad : true ≡ false = sym t ∙ e in absurd cc, rest h)
 
-pub in-filtered : (x : ImplDecl) (n : ℕ) (is : List ImplDecl) → filter (λ (j : ImplDecl). j.name == n) is ≡ x ∷ [] → In x is
-in-filtered x n [] h = absurd cc
-in-filtered x n (i ∷ is) h = by (i.name == n) h (in-filtered x n is)
-  where
-    by : (b : Bool) → cond b (i ∷ filter (λ (j : ImplDecl). j.name == n) is) (filter (λ (j : ImplDecl). j.name == n) is) ≡ x ∷ []
-        → (filter (λ (j : ImplDecl). j.name == n) is ≡ x ∷ [] → In x is) → In x (i ∷ is)
-    by true h rest = let first : i ≡ x = cc in (0, ap (λ (y : ImplDecl). Some y) first)
-    by false h rest = let r = rest h in (suc r.0, r.1)
+-- an impl's candidate has as many variables as the impl has parameters
+pub kinds-counted : (h : Trees) (i n : ℕ) → length (kinds_of_params h i n) ≡ n
+kinds-counted h i zero = refl
+kinds-counted h i (suc n) = ap suc (kinds-counted h (suc i) n)
 
 pub at-number : (P : ImplDef → Type 0) (n : ℕ) (is : List HeldImpl) (def : ImplDef) → Each (λ i. P i.def) is → Some def ≡ impl_at n is → P def
 at-number P n [] def h e = absurd cc

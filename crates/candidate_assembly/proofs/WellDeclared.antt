@@ -61,12 +61,12 @@ not-both false h g = absurd cc
 same-number : (m n : ℕ) → (m == n) ≡ true → m ≡ n
 same-number m n h = grind (arith, nat_tests)
 
-is-less : (m n : ℕ) → nat_lt m n ≡ true → m < n
+pub is-less : (m n : ℕ) → nat_lt m n ≡ true → m < n
 is-less m n h = grind (arith, nat_tests)
 
 -- ---- nodes
 -- a label that passes one test passes no test that no node passes
-found : (p q : Label → Bool) (t : Trees) → some_node p t ≡ true → some_node q t ≡ false → (l : Label) × (p l ≡ true) × (q l ≡ false)
+pub found : (p q : Label → Bool) (t : Trees) → some_node p t ≡ true → some_node q t ≡ false → (l : Label) × (p l ≡ true) × (q l ≡ false)
 found p q none h g = absurd cc
 found p q (tree l c o) h g = by (p l) refl (some_node p c) refl h (λ e. found p q c e qc) (λ e. found p q o e qo)
   where
@@ -89,14 +89,14 @@ none-passes p q f t h = by (some_node p t) refl
     by true e = let m = found p q t e h in absurd (not-both (q m.0) (f m.0 m.1) m.2)
     by false e = refl
 
-in-children : (p : Label → Bool) (l : Label) (c o : Trees) → some_node p c ≡ true → some_node p (tree l c o) ≡ true
+pub in-children : (p : Label → Bool) (l : Label) (c o : Trees) → some_node p c ≡ true → some_node p (tree l c o) ≡ true
 in-children p l c o h = ap (λ b. p l || b || some_node p o) h ∙ by (p l)
   where
     by : (b : Bool) → (b || true || some_node p o) ≡ true
     by true = refl
     by false = refl
 
-behind-it : (p : Label → Bool) (l : Label) (c o : Trees) → some_node p o ≡ true → some_node p (tree l c o) ≡ true
+pub behind-it : (p : Label → Bool) (l : Label) (c o : Trees) → some_node p o ≡ true → some_node p (tree l c o) ≡ true
 behind-it p l c o h = ap (λ b. p l || some_node p c || b) h ∙ by (p l) (some_node p c)
   where
     by : (b c : Bool) → (b || c || true) ≡ true
@@ -116,7 +116,7 @@ same-sort of_const of_const h = refl
 same-sort of_lifetime of_lifetime h = refl
 same-sort s r h = absurd cc
 
-label-of : (s : Sort) (i : ℕ) (l : Label) → is_param s i l ≡ true → l ≡ param s i
+pub label-of : (s : Sort) (i : ℕ) (l : Label) → is_param s i l ≡ true → l ≡ param s i
 label-of s i (param r j) h =
     let first = same-sort s r (left-true (is_sort s r) (i == j) h) in
     let second = same-number i j (right-true (is_sort s r) (i == j) h) in
@@ -126,11 +126,11 @@ label-of s i l h = absurd cc
 same-itself : (i : ℕ) → (i == i) ≡ true
 same-itself i = grind (arith, nat_tests)
 
-itself : (s : Sort) (i : ℕ) → is_param s i (param s i) ≡ true
+pub itself : (s : Sort) (i : ℕ) → is_param s i (param s i) ≡ true
 itself s i = ap (λ b. b && (i == i)) (one-sort s) ∙ same-itself i
 
 -- the kind of a parameter of this sort
-abbrev kind_for : Sort → CanonicalVarKind
+abbrev pub kind_for : Sort → CanonicalVarKind
 kind_for of_type = Ty
 kind_for of_const = ConstVar
 kind_for of_lifetime = Region
@@ -148,7 +148,7 @@ sort-back Const of_type h = absurd cc
 
 module _ (H : Trees) where
   -- a parameter that stands in the header with one sort has its kind
-  kind-is : (s : Sort) (i : ℕ) → some_node (is_param s i) H ≡ true → some_node (is_otherwise s i) H ≡ false → kind_of_param H i ≡ kind_for s
+  pub kind-is : (s : Sort) (i : ℕ) → some_node (is_param s i) H ≡ true → some_node (is_otherwise s i) H ≡ false → kind_of_param H i ≡ kind_for s
   kind-is of_type i h g = ap (λ b. if b then Ty else if some_node (is_param of_const i) H then ConstVar else Region) h
   kind-is of_const i h g =
       ap (λ b. if b then Ty else if some_node (is_param of_const i) H then ConstVar else Region) (none-passes (is_param of_type i) (is_otherwise of_const i) types-are-other H g)
@@ -175,7 +175,7 @@ module _ (H : Trees) where
       consts-are-other (param of_lifetime j) k = absurd cc
       consts-are-other l k = absurd cc
 
-  kinds-at : (k n i : ℕ) → i < n → slice_get (kinds_of_params H k n) i ≡ Some (kind_of_param H (k + i))
+  pub kinds-at : (k n i : ℕ) → i < n → slice_get (kinds_of_params H k n) i ≡ Some (kind_of_param H (k + i))
   kinds-at k zero i h = absurd (omega (arith, h))
   kinds-at k (suc n) zero h = ap (λ m. Some (kind_of_param H m)) (plain k)
     where

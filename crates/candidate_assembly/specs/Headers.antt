@@ -1,7 +1,6 @@
 -- Impls whose parameters can be made unknowns of a candidate.
-use Rattle.std.specs.Prelude.{◌≡◌, ◌+◌, ◌<◌, ℕ, List, length, map, filter, Option}
-use Rattle.model.specs.Proofs.{In}
-use Rattle.model.specs.Worlds.{World, ImplDecl}
+use Rattle.std.specs.Prelude.{◌≡◌, ◌+◌, ◌<◌, ℕ, List, length, map, filter, Option, Some, None}
+use Rattle.model.specs.Worlds.{ImplDecl}
 use Rattle.type_terms.specs.Terms.{Entry, trees_at}
 use Rattle.type_terms.specs.declared.ImplId.{ImplId}
 use Rattle.type_terms.specs.declared.TheConstants.{MAX_INDEX}
@@ -17,7 +16,7 @@ use Rattle.declarations.specs.Items.{Items, written}
 use Rattle.declarations.specs.Merges.{Each}
 use Rattle.declarations.specs.Relevant.{is_above}
 use Rattle.assembly_laws.specs.Asking.{with_plain_head}
-use Rattle.assembly_laws.specs.Candidates.{kinds_of_params}
+use Rattle.assembly_laws.specs.Candidates.{Candidate, kinds_of_params}
 use Rattle.assembly_laws.specs.DeclaredWell.{IsDeclaredWell}
 
 -- The kind of the unknown that stands for a parameter.
@@ -54,6 +53,7 @@ WellDeclaredHaveCandidates =
 abbrev pub impls_above : Option ImplId → List ImplDecl → List ImplDecl
 impls_above last is = filter (λ i. is_above last i.name) is
 
--- Some impl has so many parameters that there are no numbers for them behind n variables.
-abbrev pub NumbersRunOut : World → ℕ → Type 0
-NumbersRunOut V n = (i : ImplDecl) × In i V.impls × (MAX_INDEX < n + i.params)
+-- The candidate has so many variables of its own that there are no numbers for them behind n others.
+abbrev pub HasTooMany : ℕ → Option Candidate → Type 0
+HasTooMany n None = ⊥
+HasTooMany n (Some c) = MAX_INDEX < n + length c.kinds

@@ -14,3 +14,8 @@ pub mod Unsizing
 pub mod FnPointers
 pub mod Fitting
 pub mod Finding
+pub mod BuiltInRules
+pub mod Objects
+pub mod Ready
+pub mod Nexts
+pub mod Kept

@@ -1,8 +1,9 @@
 //! How the candidates of a goal are assembled: one after the other, each told by those that were considered.
 
-ghost use Rattle.std.specs.Prelude.{◌≡◌, ◌⊎◌, ℕ, None, length, IfOk, IfSome, Err, option_map};
+ghost use Rattle.std.specs.Prelude.{◌≡◌, ◌==◌, ◌⊎◌, ℕ, None, true, length, map, IfOk, IfSome, Err, option_map};
 ghost use Rattle.std.specs.List.{slice_get};
 ghost use Rattle.model.specs.Worlds.{World};
+ghost use Rattle.model.specs.Rules.{unsize};
 ghost use Rattle.type_terms.specs.Terms.{Keeps, trees_at};
 ghost use Rattle.term_folds.specs.Failures.{SomeKindIsFull};
 ghost use Rattle.term_folds.specs.Signatures.{StartsWithType};
@@ -10,16 +11,24 @@ ghost use Rattle.infer_table.specs.Goals.{GoalHeld};
 ghost use Rattle.evaluation.specs.Readings.{SpecHeld};
 ghost use Rattle.declarations.specs.Items.{written};
 ghost use Rattle.declarations.specs.Held.{AreHeld};
-ghost use Rattle.assembly_laws.specs.Asking.{clauses};
-ghost use Rattle.assembly_laws.specs.Candidates.{by_clauses, by_impls};
+ghost use Rattle.declarations.specs.Applied.{HaveBounds};
+ghost use Rattle.declarations.specs.Merges.{Rises};
+ghost use Rattle.assembly_laws.specs.Asking.{clauses, self_of};
+ghost use Rattle.assembly_laws.specs.Candidates.{by_clauses, built_in, by_impls};
 ghost use Rattle.assembly_laws.specs.Solver.{is_clause};
+ghost use Rattle.candidate_assembly.specs.Constituents.{CanBeConsidered};
 ghost use Rattle.candidate_assembly.specs.Counted.{is_of, count_from, last_from, ForEachPast};
 ghost use Rattle.candidate_assembly.specs.Goals.{asked_of, candidate_of};
-ghost use Rattle.candidate_assembly.specs.Headers.{HaveCandidates, NumbersRunOut, impls_above};
-ghost use Rattle.candidate_assembly.specs.Sections.{considered_from, last_impl};
+ghost use Rattle.candidate_assembly.specs.Headers.{HaveCandidates, HasTooMany, impls_above};
+ghost use Rattle.candidate_assembly.specs.Objects.{ObjectIsApplied};
+ghost use Rattle.candidate_assembly.specs.Sections.{considered_from, last_impl, is_built_in, misc_is_bound};
+ghost use Rattle.candidate_assembly.specs.Unsizing.{CanUnsize};
 
+use crate::built_in_rules::consider_builtin_candidate;
+use crate::dyn_type::dyn_bounds;
 use crate::impls::next_impl_candidate;
 use crate::param_env::consider_param_env_candidate;
+use crate::unsize_struct::UNSIZE;
 use declarations::declarations::Declarations;
 use evaluation::{BuiltinImplSource, CandidateSource, CandidateSpec, Considered};
 use infer_table::input::CanonicalInput;
@@ -29,7 +38,7 @@ use type_terms::{Fault, ImplId};
 
 /// The sections in which the candidates of a goal come, in their order.
 #[derive(Clone, Copy)]
-enum Section {
+pub(crate) enum Section {
     WhereClauses,
     BuiltInRules,
     Impls,
@@ -66,7 +75,7 @@ impl Section {
 }
 
 /// How many candidates of the section were considered.
-fn considered_from(done: &[Considered], section: Section, misc_is_bound: bool) -> usize
+pub(crate) fn considered_from(done: &[Considered], section: Section, misc_is_bound: bool) -> usize
     ensures { result ≡ count_from (is_of misc_is_bound section) done.now }
 {
     let mut count = 0;
@@ -115,6 +124,45 @@ pub fn assemble_param_env_candidates(
     consider_param_env_candidate(alloc, cx, goal, place)
 }
 
+/// Whether a source that is no more than a built-in rule is a bound for the goal: of a `dyn` only `Unsize` has such rules.
+pub(crate) fn misc_is_bound(cx: &Interner, goal: &CanonicalInput) -> bool
+    requires goal { GoalHeld cx.now.entries goal.now.goal }
+    requires first { StartsWithType (trees_at cx.now.entries goal.now.goal.predicate.trait_ref.args.0) }
+    ensures { result ≡ misc_is_bound (asked_of cx.now.entries goal.now) }
+{
+    let trait_ref = goal.goal.predicate.trait_ref;
+    match dyn_bounds(cx, trait_ref.self_ty(cx)) {
+        Some(_) => trait_ref.def_id.index != UNSIZE,
+        None => false,
+    }
+}
+
+/// The candidate by a built-in rule that is next after these candidates were considered, if one is left
+/// (`assemble_builtin_impl_candidates`).
+pub fn assemble_builtin_impl_candidates(
+    alloc: Global,
+    cx: &mut Interner,
+    declarations: &Declarations,
+    goal: &CanonicalInput,
+    done: &[Considered],
+) -> Result<Option<CandidateSpec>, Fault>
+    requires considered { CanBeConsidered cx.old.entries declarations.now goal.now }
+    requires impls { HaveCandidates cx.old.entries declarations.now }
+    requires bounds { HaveBounds cx.old.entries declarations.now }
+    requires object { ObjectIsApplied declarations.now (trees_at cx.old.entries goal.now.goal.predicate.trait_ref.args.0) }
+    requires unsizing { (goal.now.goal.predicate.trait_ref.def_id.index == unsize) ≡ true → CanUnsize declarations.now (self_of (asked_of cx.old.entries goal.now)) }
+    ensures keeps { Keeps cx.old.entries cx.new.entries }
+    ensures limit { cx.new.limit ≡ cx.old.limit }
+    ensures held { IfOk result (λ o. IfSome o (SpecHeld cx.new.entries)) }
+    ensures is { let V = written cx.old.entries declarations.now in let a = asked_of cx.old.entries goal.now in
+        IfOk result (λ o. ForEachPast cx.old.entries done.now (λ seen. option_map (candidate_of V a.reference.trait cx.new.entries) o
+        ≡ slice_get (built_in V a) (considered_from (is_built_in (misc_is_bound a)) seen))) }
+    ensures full { result ≡ Err Fault.Full → SomeKindIsFull cx.new.entries cx.new.limit }
+{
+    let place = considered_from(done, Section::BuiltInRules, misc_is_bound(cx, goal));
+    consider_builtin_candidate(alloc, cx, declarations, goal, place)
+}
+
 /// The candidate by an impl that is next after these candidates were considered, if one is left: the walk over impls goes on behind
 /// the one that was considered last (`assemble_impl_candidates`).
 pub fn assemble_impl_candidates(
@@ -134,8 +182,10 @@ pub fn assemble_impl_candidates(
     ensures is { let V = written cx.old.entries declarations.now in let a = asked_of cx.old.entries goal.now in
         IfOk result (λ o. ForEachPast cx.old.entries done.now (λ seen. option_map (candidate_of V a.reference.trait cx.new.entries) o
         ≡ slice_get (by_impls V a (impls_above (last_impl seen) V.impls)) 0)) }
-    ensures full { result ≡ Err Fault.Full → SomeKindIsFull cx.new.entries cx.new.limit
-        ⊎ NumbersRunOut (written cx.old.entries declarations.now) (length goal.now.variables.items) }
+    ensures rises { Rises (map (λ i. i.id) declarations.now.impls) }
+    ensures full { let V = written cx.old.entries declarations.now in let a = asked_of cx.old.entries goal.now in
+        result ≡ Err Fault.Full → SomeKindIsFull cx.new.entries cx.new.limit
+        ⊎ ForEachPast cx.old.entries done.now (λ seen. HasTooMany (length goal.now.variables.items) (slice_get (by_impls V a (impls_above (last_impl seen) V.impls)) 0)) }
 {
     let last = last_impl(done);
     next_impl_candidate(alloc, cx, declarations, goal, last)

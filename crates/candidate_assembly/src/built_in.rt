@@ -35,7 +35,12 @@ use type_terms::{Fault, TraitId};
 pub(crate) const SIZED: u32 = 0;
 
 /// A type asked for a trait without further parameters.
-fn type_asked(alloc: Global, cx: &mut Interner, def_id: TraitId, ty: Ty) -> Result<TraitRef, Fault>
+pub(crate) fn type_asked(
+    alloc: Global,
+    cx: &mut Interner,
+    def_id: TraitId,
+    ty: Ty,
+) -> Result<TraitRef, Fault>
     requires { Has cx.old.entries types ty.0 }
     ensures keeps { Keeps cx.old.entries cx.new.entries }
     ensures limit { cx.new.limit ≡ cx.old.limit }

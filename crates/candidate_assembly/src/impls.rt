@@ -11,9 +11,10 @@ ghost use Rattle.evaluation.specs.Readings.{SpecHeld};
 ghost use Rattle.declarations.specs.Applied.{references_in, AllHeld};
 ghost use Rattle.declarations.specs.Items.{reference_in, impl_in, written};
 ghost use Rattle.declarations.specs.Held.{AreHeld, ImplHeld, ReferenceHeld};
+ghost use Rattle.declarations.specs.Merges.{Rises};
 ghost use Rattle.assembly_laws.specs.Candidates.{behind, by_the_impl, by_impls};
 ghost use Rattle.candidate_assembly.specs.Goals.{asked_of, candidate_of};
-ghost use Rattle.candidate_assembly.specs.Headers.{var_kind, StandInHeader, SpeaksOfParameters, HaveCandidates, NumbersRunOut, impls_above};
+ghost use Rattle.candidate_assembly.specs.Headers.{var_kind, StandInHeader, SpeaksOfParameters, HaveCandidates, HasTooMany, impls_above};
 
 use crate::instances::{all_with_arguments, variable_kinds, variables_behind, with_arguments};
 use crate::parts::nested_goals;
@@ -119,8 +120,10 @@ pub fn next_impl_candidate(
     ensures is { let V = written cx.old.entries declarations.now in
         IfOk result (λ o. option_map (candidate_of V goal.now.goal.predicate.trait_ref.def_id.index cx.new.entries) o
         ≡ slice_get (by_impls V (asked_of cx.old.entries goal.now) (impls_above last V.impls)) 0) }
-    ensures full { result ≡ Err Fault.Full → SomeKindIsFull cx.new.entries cx.new.limit
-        ⊎ NumbersRunOut (written cx.old.entries declarations.now) (length goal.now.variables.items) }
+    ensures rises { Rises (map (λ i. i.id) declarations.now.impls) }
+    ensures full { let V = written cx.old.entries declarations.now in
+        result ≡ Err Fault.Full → SomeKindIsFull cx.new.entries cx.new.limit
+        ⊎ HasTooMany (length goal.now.variables.items) (slice_get (by_impls V (asked_of cx.old.entries goal.now) (impls_above last V.impls)) 0) }
 {
     let trait_ref = goal.goal.predicate.trait_ref;
     let self_ty = trait_ref.self_ty(cx);

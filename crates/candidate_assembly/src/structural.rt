@@ -37,7 +37,12 @@ pub(crate) fn last_alone(alloc: Global, tys: &[Ty]) -> Result<Vec<Ty>, Fault>
 }
 
 /// A struct's field with the struct's arguments in the place of its parameters.
-fn field_with(alloc: Global, cx: &mut Interner, field: Ty, args: GenericArgs) -> Result<Ty, Fault>
+pub(crate) fn field_with(
+    alloc: Global,
+    cx: &mut Interner,
+    field: Ty,
+    args: GenericArgs,
+) -> Result<Ty, Fault>
     requires field { Has cx.old.entries types field.0 }
     requires args { Has cx.old.entries args_lists args.0 }
     requires closed { outer_binder (trees_at cx.old.entries args.0) ≡ 0 }

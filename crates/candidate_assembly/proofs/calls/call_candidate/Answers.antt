@@ -1,4 +1,4 @@
-use Rattle.std.proofs.Common.{[], ◌∷◌, map, ap, sym, ◌∙◌, subst, Err}
+use Rattle.std.proofs.Common.{map, ap, sym, ◌∙◌, subst, Err}
 use Rattle.model.specs.Label.{tuple}
 use Rattle.model.specs.Trees.{tree, none}
 use Rattle.model.specs.Rules.{but_last, last_asked, sized}

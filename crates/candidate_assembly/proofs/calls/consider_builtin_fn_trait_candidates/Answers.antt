@@ -1,4 +1,4 @@
-use Rattle.std.proofs.Common.{◌≡◌, None, Some, [], ◌∷◌, ap, sym, ◌∙◌, subst, Err}
+use Rattle.std.proofs.Common.{[], ◌∷◌, ap, ◌∙◌, Err}
 use Rattle.type_terms.specs.Terms.{types, trees_at}
 use Rattle.term_folds.specs.Kept.{trees-is}
 use Rattle.infer_table.specs.Values.{sort_of_arg}

@@ -1,4 +1,4 @@
-use Rattle.std.proofs.Common.{ap, sym, ◌∙◌, subst}
+use Rattle.std.proofs.Common.{sym, ◌∙◌, subst}
 use Rattle.type_terms.specs.Terms.{args_lists}
 use Rattle.type_terms.specs.Kinds.{args_trees}
 use Rattle.term_folds.specs.Kept.{trees-is}

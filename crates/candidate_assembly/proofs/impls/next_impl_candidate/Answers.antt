@@ -1,13 +1,14 @@
-use Rattle.std.proofs.Common.{◌≡◌, ◌⊎◌, sym, ap, ◌∙◌, inl, inr, Some, Err}
+use Rattle.std.proofs.Common.{◌≡◌, ◌+◌, ◌<◌, length, sym, ap, subst, ◌∙◌, Some, Err}
 use Rattle.type_terms.specs.Terms.{types, trees_at}
+use Rattle.type_terms.specs.declared.TheConstants.{MAX_INDEX}
 use Rattle.term_folds.specs.Kept.{trees-is}
-use Rattle.infer_table.proofs.FullFacts.{handed-on}
+use Rattle.infer_table.proofs.FullFacts.{handed-on, or-then}
 use Rattle.declarations.specs.Items.{written, impl_in}
 use Rattle.declarations.specs.Relevant.{next_above}
 use Rattle.assembly_laws.specs.Candidates.{by_the_impl}
 use Rattle.candidate_assembly.specs.Goals.{asked_of}
-use Rattle.candidate_assembly.specs.Headers.{CanBeCandidate}
-use Rattle.candidate_assembly.proofs.Walking.{relevant-names, no-next, one-next, none-of-number, one-of-number, in-filtered, at-number}
+use Rattle.candidate_assembly.specs.Headers.{CanBeCandidate, HasTooMany}
+use Rattle.candidate_assembly.proofs.Walking.{relevant-names, no-next, one-next, none-of-number, one-of-number, at-number, kinds-counted}
 use Rattle.candidate_assembly.proofs.impls.next_impl_candidate.Goals as goal
 
 pub consider_impl_candidate-requires-clause-params : goal.consider_impl_candidate-requires-clause-params
@@ -23,14 +24,19 @@ consider_impl_candidate-requires-clause-speaks c =
 pub returns-in_err-candidate-in-Some-impl_def-clause-full : goal.returns-in_err-candidate-in-Some-impl_def-clause-full
 returns-in_err-candidate-in-Some-impl_def-clause-full c = λ q.
     let old = c.args.cx.now.entries in
-    let V = written old c.args.declarations.now in
+    let d = c.args.declarations.now in
+    let V = written old d in
+    let g = c.args.goal.now in
+    let a = asked_of old g in
+    let S = trees_at old c.self_ty-self_ty.result.0 in
+    let first = trees-is old types c.self_ty-self_ty.result.0 _ c.self_ty-self_ty.ensures.is in
+    let named = relevant-names old d a S c.requires.first first c.requires.impls in
+    let found = c.in-Some.ensures.is ∙ ap (next_above c.args.last) named in
     let i = impl_in old c.in-Some.id c.in-Some-impl_def.def.now in
-    let named = in-filtered i c.in-Some.id.index V.impls (c.in-Some-impl_def.ensures.written old) in
-    widened (λ more. (i, named, more)) (handed-on c.from_residual.result c.from_residual.ensures.1 (λ p. c.in_err-candidate-in-Some-impl_def.ensures.full (ap Err p)) q)
-  where
-    widened : {A P Q : Type 0} → (P → Q) → A ⊎ P → A ⊎ Q
-    widened f (inl a) = inl a
-    widened f (inr p) = inr (f p)
+    let next = one-next V a c.args.last (λ j. j ≡ i) c.in-Some.id.index V.impls (one-of-number i c.in-Some.id.index V.impls (c.in-Some-impl_def.ensures.written old)) found in
+    or-then
+    (λ more. subst (HasTooMany (length g.variables.items)) (sym (next.2 ∙ ap (λ j. Some (by_the_impl V a j)) next.1)) (subst (λ n. MAX_INDEX < length g.variables.items + n) (sym (kinds-counted i.header.args 0 i.params)) more))
+    (handed-on c.from_residual.result c.from_residual.ensures.1 (λ p. c.in_err-candidate-in-Some-impl_def.ensures.full (ap Err p)) q)
 
 pub unreachable-requires : goal.unreachable-requires
 unreachable-requires c =

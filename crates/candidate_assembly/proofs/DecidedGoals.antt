@@ -1,0 +1,187 @@
+-- Goals that are decided, while the interner grows, and what comes next for them.
+use Rattle.std.proofs.Common.{◌≡◌, ◌==◌, ℕ, suc, arith, Bool, true, false, if◌then◌else◌, List, [], ◌∷◌, ◌++◌, map, length, reverse, refl, sym, ◌∙◌, ap, subst, Option, Some, None}
+use Rattle.std.proofs.lemmas.Bool.Decides.{nat_tests}
+use Rattle.std.proofs.lemmas.List.{reverse-append}
+use Rattle.std.specs.List.{slice_get}
+use Rattle.model.specs.Label.{adt, dynamic}
+use Rattle.model.specs.Trees.{Trees, none, tree}
+use Rattle.model.specs.Worlds.{World, Reference}
+use Rattle.model.specs.Rules.{unsize, principal_with}
+use Rattle.model.specs.Answers.{written_in}
+use Rattle.type_terms.specs.Terms.{Entry, Keeps, trees_at}
+use Rattle.term_folds.specs.Signatures.{StartsWithType}
+use Rattle.infer_table.specs.Canonical.{CanonicalForm, GoalTrees}
+use Rattle.infer_table.specs.Inputs.{form_of}
+use Rattle.infer_table.specs.declared.input.CanonicalInput.{CanonicalInput}
+use Rattle.infer_table.proofs.Numbers.{goal-held-later, goal-trees-later}
+use Rattle.evaluation.specs.declared.candidate.Considered as InCode
+use Rattle.evaluation.specs.Candidate.{Considered, IsHistory}
+use Rattle.evaluation.specs.Merge.{or_else}
+use Rattle.evaluation.specs.Readings.{ConsideredHeld}
+use Rattle.evaluation.specs.Table.{workings}
+use Rattle.evaluation_laws.specs.Tables.{frame_tables}
+use Rattle.goal_frames.specs.Readings.{Shown, shown, Shows, shown_by}
+use Rattle.goal_frames.proofs.Later.{shown-later}
+use Rattle.declarations.specs.Items.{Items, reference_in, written}
+use Rattle.declarations.specs.Merges.{Rises}
+use Rattle.declarations.proofs.Growth.{each-kept, reference-same, args-same, all-written}
+use Rattle.assembly_laws.specs.Asking.{Asked, asked, self_of}
+use Rattle.assembly_laws.specs.Candidates.{Candidate, by_impls, by_objects}
+use Rattle.assembly_laws.specs.Solver.{Past, is_impl}
+use Rattle.candidate_assembly.specs.Constituents.{StructIsApplied, CanBeConsidered}
+use Rattle.candidate_assembly.specs.Counted.{ForEachPast}
+use Rattle.candidate_assembly.specs.Fitting.{FitsTrait, ObjectFits, TargetFits, FitsUnsize, GoalFits, solving_of}
+use Rattle.candidate_assembly.specs.Goals.{asked_of}
+use Rattle.candidate_assembly.specs.Headers.{HasTooMany, impls_above}
+use Rattle.candidate_assembly.specs.Kept.{applied-later, ready-kept, solving-kept}
+use Rattle.candidate_assembly.specs.Nexts.{handled_in, ForEachHistory}
+use Rattle.candidate_assembly.specs.Objects.{AreArgumentsOf, ObjectIsApplied}
+use Rattle.candidate_assembly.specs.Ready.{IsDecided}
+use Rattle.candidate_assembly.specs.Sections.{sources_tell, decided, considered_from, is_bound, is_first, misc_is_bound, last_impl}
+use Rattle.candidate_assembly.specs.Solving.{Solving, meaning_for, solver_for}
+use Rattle.candidate_assembly.specs.Unsizing.{TargetIsApplied, CanUnsize}
+use Rattle.candidate_assembly.proofs.Asking.{asked-later}
+use Rattle.candidate_assembly.proofs.GoingOn.{walks-go-on}
+
+-- ---- what candidates ask of a goal
+abbrev of-trait : (d : Items) (r : Reference) → FitsTrait d r → AreArgumentsOf d r
+of-trait d r h = record { sorts = h.sorts; closed = h.closed }
+
+object-is : (d : Items) (t : Trees) → ObjectFits d t → ObjectIsApplied d t
+object-is d none h = tt
+object-is d (tree dynamic b o) h = each-kept (FitsTrait d) (AreArgumentsOf d) (of-trait d) (principal_with (tree dynamic b none) b) h
+object-is d (tree l c o) h = tt
+
+target-is : (d : Items) (t : Trees) → TargetFits d t → TargetIsApplied d t
+target-is d none h = tt
+target-is d (tree l c none) h = tt
+target-is d (tree l c (tree dynamic b o)) h = each-kept (FitsTrait d) (AreArgumentsOf d) (of-trait d) (principal_with (tree l c none) b) h
+target-is d (tree l c (tree (adt s) b o)) h = h
+target-is d (tree l c (tree m b o)) h = tt
+
+module _ (es : List Entry) (d : Items) (g : CanonicalInput) (h : IsDecided es d g) where
+  pub can-be : CanBeConsidered es d g
+  can-be = record { goal = h.goal; first = h.fits.first; declared = h.ready.held; fields = h.ready.fields; applied = h.fits.struct }
+
+  pub object : ObjectIsApplied d (trees_at es g.goal.predicate.trait_ref.args.0)
+  object = object-is d (trees_at es g.goal.predicate.trait_ref.args.0) h.fits.object
+
+  pub unsizing : (g.goal.predicate.trait_ref.def_id.index == unsize) ≡ true → CanUnsize d (self_of (asked_of es g))
+  unsizing e = let u = h.fits.unsizing e in record { target = u.target; applied = target-is d (self_of (asked_of es g)) u.applied }
+
+-- ---- while the interner grows
+module _ (old new : List Entry) (k : Keeps old new) (d : Items) (g : CanonicalInput) (h : IsDecided old d g) where
+  view-same : written new d ≡ written old d
+  view-same = all-written old new k d h.ready.held
+
+  asked-same : asked_of new g ≡ asked_of old g
+  asked-same = asked-later old new k g h.goal
+
+  form-same : form_of new g ≡ form_of old g
+  form-same = ap (λ (t : GoalTrees). let f : CanonicalForm = record { goal = t; kinds = map Some g.variables.items } in f) (goal-trees-later old new k g.goal h.goal)
+
+  solving-same : solving_of new d ≡ solving_of old d
+  solving-same = solving-kept d old new k h.ready
+
+  fits-same : GoalFits new d g
+  fits-same =
+      let r = g.goal.predicate.trait_ref in
+      let same = sym (args-same old new k r h.goal.predicate) in
+      record {
+        written = ap (λ (V : World). written_in V (reference_in new r)) view-same ∙ ap (written_in (written old d)) (reference-same old new k r h.goal.predicate) ∙ h.fits.written;
+        applied = applied-later old new k d r h.goal.predicate h.fits.applied;
+        first = subst StartsWithType same h.fits.first;
+        struct = subst (StructIsApplied d) same h.fits.struct;
+        object = subst (ObjectFits d) same h.fits.object;
+        unsizing = λ e. subst (λ (a : Asked). FitsUnsize d (self_of a)) (sym asked-same) (h.fits.unsizing e);
+        tells = ap sources_tell asked-same ∙ h.fits.tells;
+      }
+
+  pub decided-later : IsDecided new d g
+  decided-later = record {
+    ready = ready-kept d old new k h.ready;
+    goal = goal-held-later old new k g.goal h.goal;
+    is =
+        ap (λ (s : Solving). decided (meaning_for s (form_of new g)) (asked s.view (form_of new g))) solving-same
+        ∙ ap (λ (f : CanonicalForm). decided (meaning_for (solving_of old d) f) (asked (written old d) f)) form-same
+        ∙ h.is ∙ ap (λ (a : Asked). Some a) (sym asked-same);
+    fits = fits-same;
+  }
+
+  module _ (done : List InCode.Considered) (held : ConsideredHeld old done) where
+    shows-later : (seen : Past) → Shows (map (shown_by old) done) seen → Shows (map (shown_by new) done) seen
+    shows-later seen s = shown-later old new k done held ∙ s
+
+    -- what holds of each past
+    pub past-later : (P : World → Asked → Past → Type 0) → ForEachPast new done (λ seen. P (written new d) (asked_of new g) seen) → ForEachPast old done (λ seen. P (written old d) (asked_of old g) seen)
+    past-later P f seen s = subst (λ (V : World). P V (asked_of old g) seen) view-same (subst (λ (a : Asked). P (written new d) a seen) asked-same (f seen (shows-later seen s)))
+
+    history-later : (seen : Past) → IsHistory (workings frame_tables) (handled_in old d g).next seen → IsHistory (workings frame_tables) (handled_in new d g).next seen
+    history-later seen s =
+        subst (λ (x : Solving). IsHistory (workings frame_tables) (solver_for x g.mode (form_of new g)).next seen) (sym solving-same)
+        (subst (λ (f : CanonicalForm). IsHistory (workings frame_tables) (solver_for (solving_of old d) g.mode f).next seen) (sym form-same) s)
+
+    -- and of each history
+    pub histories-later : (P : World → Asked → Past → Type 0) → ForEachHistory new d g done (λ seen. P (written new d) (asked_of new g) seen) → ForEachHistory old d g done (λ seen. P (written old d) (asked_of old g) seen)
+    histories-later P f seen s t = subst (λ (V : World). P V (asked_of old g) seen) view-same (subst (λ (a : Asked). P (written new d) a seen) asked-same (f seen (shows-later seen s) (history-later seen t)))
+
+-- ---- the walk over impls
+pub walk-in : (es : List Entry) (d : Items) (g : CanonicalInput) → IsDecided es d g → Rises (map (λ i. i.id) d.impls) → (done : List InCode.Considered)
+    → ForEachHistory es d g done (λ seen. let V = written es d in let a = asked_of es g in slice_get (by_impls V a (impls_above (last_impl seen) V.impls)) 0 ≡ slice_get (by_impls V a V.impls) (considered_from is_impl seen))
+walk-in es d g h rises done seen s t = walks-go-on es d rises (meaning_for (solving_of es d) (form_of es g)) refl g.mode (form_of es g) (asked_of es g) h.is h.fits.tells seen t
+
+-- ---- what is first of two
+pub first-of : (c : Candidate) (x y : Option Candidate) → Some c ≡ x → Some c ≡ or_else x y
+first-of c x y e = ap (λ z. or_else z y) e
+
+pub second-of : (x y o : Option Candidate) → None ≡ x → o ≡ y → o ≡ or_else x y
+second-of x y o e f = f ∙ ap (λ z. or_else z y) e
+
+pub many-first : (n : ℕ) (x y : Option Candidate) → HasTooMany n x → HasTooMany n (or_else x y)
+many-first n None y h = absurd h
+many-first n (Some c) y h = h
+
+pub many-second : (n : ℕ) (x y : Option Candidate) → None ≡ x → HasTooMany n y → HasTooMany n (or_else x y)
+many-second n x y e h = subst (λ z. HasTooMany n (or_else z y)) e h
+
+-- what is found at a place that is told in two ways
+pub many-at : (n : ℕ) (x y : Option Candidate) → x ≡ y → HasTooMany n x → HasTooMany n y
+many-at n x y e h = subst (HasTooMany n) e h
+
+-- ---- sections
+abbrev pub next_impl : World → Asked → Past → Option Candidate
+next_impl V a seen = slice_get (by_impls V a V.impls) (considered_from is_impl seen)
+
+abbrev pub impl_behind : World → Asked → Past → Option Candidate
+impl_behind V a seen = slice_get (by_impls V a (impls_above (last_impl seen) V.impls)) 0
+
+abbrev pub next_bound : World → Asked → Past → Option Candidate
+next_bound V a seen = slice_get (by_objects V a) (considered_from (is_bound (misc_is_bound a)) seen)
+
+-- ---- in coherence
+pub inside-same : (b u : Bool) (k o : Option Candidate) → b ≡ false → u ≡ false → o ≡ (if b then k else if u then None else o)
+inside-same false false k o e f = refl
+inside-same true u k o e f = absurd cc
+inside-same false true k o e f = absurd cc
+
+pub inside-none : (b u : Bool) (k o : Option Candidate) → b ≡ false → u ≡ true → None ≡ (if b then k else if u then None else o)
+inside-none false true k o e f = refl
+inside-none true u k o e f = absurd cc
+inside-none false false k o e f = absurd cc
+
+-- ---- nothing was considered
+reverse-one : (c : Considered (workings frame_tables)) (seen : Past) → reverse (map shown (c ∷ seen)) ≡ reverse (map shown seen) ++ shown c ∷ []
+reverse-one c seen = reverse-append (shown c ∷ []) (map shown seen)
+
+no-end : (xs : List Shown) (x : Shown) → [] ≡ xs ++ x ∷ [] → ⊥
+no-end [] x e = cc
+no-end (y ∷ xs) x e = cc
+
+some-length : (n : ℕ) → (suc n == 0) ≡ false
+some-length n = grind (arith, nat_tests)
+
+pub first-is : (es : List Entry) (done : List InCode.Considered) (seen : Past) → Shows (map (shown_by es) done) seen → (length done == 0) ≡ is_first seen
+first-is es [] [] h = refl
+first-is es [] (c ∷ seen) h = absurd (no-end (reverse (map shown seen)) (shown c) (h ∙ reverse-one c seen))
+first-is es (x ∷ done) [] h = absurd cc
+first-is es (x ∷ done) (c ∷ seen) h = some-length (length done)

@@ -1,0 +1,215 @@
+-- Terms over the variables of a candidate: those of the goal, and behind them its own.
+use Rattle.std.proofs.Common.{◌≡◌, ℕ, zero, suc, ◌+◌, arith, true, false, ◌||◌, List, [], ◌∷◌, ◌++◌, length, refl, sym, ◌∙◌, ap, None}
+use Rattle.std.specs.List.{slice_get}
+use Rattle.model.specs.Label.{Label, Sort, of_type, of_const, of_lifetime, infer, param, placeholder, canonical, bound, fn_ptr, principal, inside, shift_label, bool, char}
+use Rattle.model.specs.Trees.{Trees, none, tree, ◌+++◌, erase_label, shift, nth, instantiate, some_node}
+use Rattle.model.specs.Worlds.{Reference}
+use Rattle.type_terms.specs.Made.{terms, is_leaf_label, is_made}
+use Rattle.type_terms.proofs.Made.{false-true, left}
+use Rattle.infer_table.specs.Unification.{TableTrees}
+use Rattle.infer_table.specs.declared.canonical.CanonicalVarKind.{CanonicalVarKind}
+use Rattle.infer_table.specs.declared.canonical.CanonicalVarKind.TheVariants.{Ty, PlaceholderTy, Const, PlaceholderConst, Region}
+use Rattle.infer_table.specs.Applying.{table_after}
+use Rattle.evaluation.specs.Lists.{Every}
+use Rattle.table_laws.specs.Answers.{is_kind_of}
+use Rattle.table_laws.specs.Frames.{kind_at, labels_from, first_content, labels_for, Equation}
+use Rattle.table_laws.specs.Instances.{put_in}
+use Rattle.table_laws.proofs.Labels.{IsGoodLabel, made-labels}
+use Rattle.table_laws.proofs.Reading.{EachLabel}
+use Rattle.evaluation_laws.specs.Fitting.{is_of_sort, is_slot, AreOver}
+use Rattle.evaluation_laws.specs.Variables.{is_variable_over}
+use Rattle.evaluation_laws.proofs.Readings.{HasLeaves, made-leaves}
+use Rattle.goal_frames.specs.RuleFitting.{slots_of}
+use Rattle.assembly_laws.specs.Asking.{with_plain_head}
+use Rattle.assembly_laws.specs.Candidates.{all_equal, moved, is_param}
+use Rattle.assembly_laws.specs.Declared.{is_declared, are_terms}
+use Rattle.assembly_laws.specs.Facts.{tree_of_reference}
+use Rattle.candidate_assembly.proofs.WellDeclared.{itself, in-children, behind-it}
+
+-- ---- what stands at the places of variables
+own-slots : (a b c i : ℕ) (ks : List CanonicalVarKind) (more : List Label) (s : Sort) (j : ℕ) → is_kind_of s (kind_at ks j) ≡ true → is_of_sort s (slice_get (labels_from a b c i ks ++ more) j) ≡ true
+own-slots a b c i [] more s j h = absurd (false-true h)
+own-slots a b c i (Ty ∷ ks) more s zero h = h
+own-slots a b c i (Const ∷ ks) more s zero h = h
+own-slots a b c i (Region ∷ ks) more s zero h = h
+own-slots a b c i (PlaceholderTy ∷ ks) more s zero h = h
+own-slots a b c i (PlaceholderConst ∷ ks) more s zero h = h
+own-slots a b c i (Ty ∷ ks) more s (suc j) h = own-slots (suc a) b c (suc i) ks more s j h
+own-slots a b c i (Const ∷ ks) more s (suc j) h = own-slots a (suc b) c (suc i) ks more s j h
+own-slots a b c i (Region ∷ ks) more s (suc j) h = own-slots a b (suc c) (suc i) ks more s j h
+own-slots a b c i (PlaceholderTy ∷ ks) more s (suc j) h = own-slots a b c (suc i) ks more s j h
+own-slots a b c i (PlaceholderConst ∷ ks) more s (suc j) h = own-slots a b c (suc i) ks more s j h
+
+new-slots : (t : TableTrees) (i : ℕ) (ks : List CanonicalVarKind) (s : Sort) (j : ℕ) → is_kind_of s (kind_at ks j) ≡ true → is_of_sort s (slice_get (labels_for t i ks) j) ≡ true
+new-slots t i [] s j h = absurd (false-true h)
+new-slots t i (Ty ∷ ks) s zero h = h
+new-slots t i (Const ∷ ks) s zero h = h
+new-slots t i (Region ∷ ks) s zero h = h
+new-slots t i (PlaceholderTy ∷ ks) s zero h = h
+new-slots t i (PlaceholderConst ∷ ks) s zero h = h
+new-slots t i (k ∷ ks) s (suc j) h = new-slots (table_after None t k) (i + 1) ks s j h
+
+own-length : (a b c i : ℕ) (ks : List CanonicalVarKind) → length (labels_from a b c i ks) ≡ length ks
+own-length a b c i [] = refl
+own-length a b c i (Ty ∷ ks) = ap suc (own-length (suc a) b c (suc i) ks)
+own-length a b c i (Const ∷ ks) = ap suc (own-length a (suc b) c (suc i) ks)
+own-length a b c i (Region ∷ ks) = ap suc (own-length a b (suc c) (suc i) ks)
+own-length a b c i (PlaceholderTy ∷ ks) = ap suc (own-length a b c (suc i) ks)
+own-length a b c i (PlaceholderConst ∷ ks) = ap suc (own-length a b c (suc i) ks)
+
+zero-plus : (n : ℕ) → 0 + n ≡ n
+zero-plus n = omega arith
+
+get-behind : (xs ys : List Label) (j : ℕ) → slice_get (xs ++ ys) (length xs + j) ≡ slice_get ys j
+get-behind [] ys j = ap (slice_get ys) (zero-plus j)
+get-behind (x ∷ xs) ys j = ap (slice_get (x ∷ (xs ++ ys))) (next (length xs) j) ∙ get-behind xs ys j
+  where
+    next : (n i : ℕ) → suc n + i ≡ suc (n + i)
+    next n i = omega arith
+
+-- each variable of these kinds, that many places on, stands for a label of its sort
+abbrev HaveSlots : ℕ → List CanonicalVarKind → List Label → Type 0
+HaveSlots n kinds ls = (s : Sort) (j : ℕ) → is_kind_of s (kind_at kinds j) ≡ true → is_of_sort s (slice_get ls (n + j)) ≡ true
+
+goal-slots : (kinds own : List CanonicalVarKind) → HaveSlots 0 kinds (slots_of kinds own)
+goal-slots kinds own s j h = ap (λ z. is_of_sort s (slice_get (slots_of kinds own) z)) (zero-plus j) ∙ own-slots 0 0 0 0 kinds (labels_for (first_content kinds) 0 own) s j h
+
+pub new-places : (kinds own : List CanonicalVarKind) → HaveSlots (length kinds) own (slots_of kinds own)
+new-places kinds own s j h =
+    ap (λ z. is_of_sort s (slice_get (slots_of kinds own) (z + j))) (sym (own-length 0 0 0 0 kinds))
+    ∙ ap (is_of_sort s) (get-behind (labels_from 0 0 0 0 kinds) (labels_for (first_content kinds) 0 own) j)
+    ∙ new-slots (first_content kinds) 0 own s j h
+
+-- ---- the goal's terms
+over-label : (kinds : List CanonicalVarKind) (ls : List Label) → HaveSlots 0 kinds ls → (l : Label) → IsGoodLabel (is_variable_over kinds) l → is_slot ls l ≡ true
+over-label kinds ls h (canonical s j) g = ap (λ z. is_of_sort s (slice_get ls z)) (sym (zero-plus j)) ∙ h s j (g refl)
+over-label kinds ls h (infer k v) g = absurd (false-true (g refl))
+over-label kinds ls h (param k v) g = absurd (false-true (g refl))
+over-label kinds ls h (placeholder k v) g = absurd (false-true (g refl))
+over-label kinds ls h l g = refl
+
+over-labels : (kinds : List CanonicalVarKind) (ls : List Label) → HaveSlots 0 kinds ls → (t : Trees) → EachLabel (IsGoodLabel (is_variable_over kinds)) t → HasLeaves t → AreOver ls t
+over-labels kinds ls h none e g = tt
+over-labels kinds ls h (tree l c o) e g = (over-label kinds ls h l e.0, g.0, over-labels kinds ls h c e.1 g.1, over-labels kinds ls h o e.2 g.2)
+
+pub goal-over : (kinds own : List CanonicalVarKind) (t : Trees) → is_made (is_variable_over kinds) terms t ≡ true → AreOver (slots_of kinds own) t
+goal-over kinds own t h = over-labels kinds (slots_of kinds own) (goal-slots kinds own) t (made-labels (is_variable_over kinds) terms t h) (made-leaves (is_variable_over kinds) terms t h)
+
+-- ---- what is declared
+-- of open places but bound ones only parameters stand in it, and nothing below a leaf
+abbrev pub ArePlain : Trees → Type 0
+ArePlain t = EachLabel (IsGoodLabel is_declared) t × HasLeaves t
+
+pub declared-plain : (t : Trees) → are_terms t ≡ true → ArePlain t
+declared-plain t h = let made = left (is_made is_declared terms t) _ h in (made-labels is_declared terms t made, made-leaves is_declared terms t made)
+
+module _ (ls : List Label) where
+  pub over-head : (l : Label) (c o : Trees) → AreOver ls (tree l c o) → AreOver ls (tree l c none)
+  over-head l c o h = (h.0, h.1, h.2, tt)
+
+  pub over-append : (s t : Trees) → AreOver ls s → AreOver ls t → AreOver ls (s +++ t)
+  over-append none t h g = g
+  over-append (tree l c o) t h g = (h.0, h.1, h.2, over-append o t h.3 g)
+
+  over-nth : (t : Trees) (i : ℕ) → AreOver ls t → AreOver ls (nth t i)
+  over-nth none i h = (refl, λ e. absurd (false-true e), tt, tt)
+  over-nth (tree l c o) zero h = over-head l c o h
+  over-nth (tree l c o) (suc i) h = over-nth o i h.3
+
+  shift-slot : (d a : ℕ) (l : Label) → is_slot ls (shift_label d a l) ≡ is_slot ls l
+  shift-slot d a (bound s k v) = refl
+  shift-slot d a l = refl
+
+  shift-leaf : (d a : ℕ) (l : Label) → is_leaf_label (shift_label d a l) ≡ is_leaf_label l
+  shift-leaf d a (bound s k v) = refl
+  shift-leaf d a l = refl
+
+  over-shift : (d a : ℕ) (t : Trees) → AreOver ls t → AreOver ls (shift d a t)
+  over-shift d a none h = tt
+  over-shift d a (tree l c o) h = (shift-slot d a l ∙ h.0, λ e. ap (shift (inside l d) a) (h.1 (sym (shift-leaf d a l) ∙ e)), over-shift (inside l d) a c h.2, over-shift d a o h.3)
+
+  -- with arguments in the place of parameters
+  over-put : (A : Trees) → AreOver ls A → (d : ℕ) (t : Trees) → EachLabel (IsGoodLabel is_declared) t → HasLeaves t → AreOver ls (instantiate d A t)
+  over-put A h d none e g = tt
+  over-put A h d (tree (param s i) c o) e g = over-append (shift zero d (nth A i)) (instantiate d A o) (over-shift zero d (nth A i) (over-nth A i h)) (over-put A h d o e.2 g.2)
+  over-put A h d (tree (infer k v) c o) e g = absurd (false-true (e.0 refl))
+  over-put A h d (tree (placeholder k v) c o) e g = absurd (false-true (e.0 refl))
+  over-put A h d (tree (canonical k v) c o) e g = absurd (false-true (e.0 refl))
+  over-put A h d (tree l c o) e g = (refl, λ x. ap (instantiate (inside l d) A) (g.0 x), over-put A h (inside l d) c e.1 g.1, over-put A h d o e.2 g.2)
+
+  pub over-instance : (A t : Trees) → AreOver ls A → ArePlain t → AreOver ls (instantiate zero A t)
+  over-instance A t h p = over-put A h zero t p.0 p.1
+
+  -- with variables in the place of parameters, each of its parameter's sort
+  over-moved : (n : ℕ) (t : Trees) → ((s : Sort) (j : ℕ) → some_node (is_param s j) t ≡ true → is_of_sort s (slice_get ls (n + j)) ≡ true) → EachLabel (IsGoodLabel is_declared) t → HasLeaves t → AreOver ls (put_in (moved n) t)
+  over-moved n none f e g = tt
+  over-moved n (tree (param s i) c o) f e g = (f s i (ap (λ b. b || some_node (is_param s i) c || some_node (is_param s i) o) (itself s i)), λ x. refl, tt, over-moved n o (λ r j h. f r j (behind-it (is_param r j) (param s i) c o h)) e.2 g.2)
+  over-moved n (tree (infer k v) c o) f e g = absurd (false-true (e.0 refl))
+  over-moved n (tree (placeholder k v) c o) f e g = absurd (false-true (e.0 refl))
+  over-moved n (tree (canonical k v) c o) f e g = absurd (false-true (e.0 refl))
+  over-moved n (tree l c o) f e g =
+      (refl, λ x. ap (put_in (moved n)) (g.0 x), over-moved n c (λ r j h. f r j (in-children (is_param r j) l c o h)) e.1 g.1, over-moved n o (λ r j h. f r j (behind-it (is_param r j) l c o h)) e.2 g.2)
+
+  pub over-behind : (n : ℕ) (t : Trees) → ((s : Sort) (j : ℕ) → some_node (is_param s j) t ≡ true → is_of_sort s (slice_get ls (n + j)) ≡ true) → ArePlain t → AreOver ls (put_in (moved n) t)
+  over-behind n t f p = over-moved n t f p.0 p.1
+
+  -- up to lifetimes
+  erased-slot : (l : Label) → is_slot ls l ≡ true → is_slot ls (erase_label l) ≡ true
+  erased-slot (fn_ptr n) h = refl
+  erased-slot (principal n i) h = refl
+  erased-slot (param of_lifetime i) h = refl
+  erased-slot (placeholder of_lifetime i) h = refl
+  erased-slot (infer of_lifetime i) h = refl
+  erased-slot (canonical of_lifetime i) h = refl
+  erased-slot (bound of_lifetime k i) h = refl
+  erased-slot (param of_type i) h = h
+  erased-slot (param of_const i) h = h
+  erased-slot (placeholder of_type i) h = h
+  erased-slot (placeholder of_const i) h = h
+  erased-slot (infer of_type i) h = h
+  erased-slot (infer of_const i) h = h
+  erased-slot (canonical of_type i) h = h
+  erased-slot (canonical of_const i) h = h
+  erased-slot (bound of_type k i) h = h
+  erased-slot (bound of_const k i) h = h
+  erased-slot l h = h
+
+  erased-leaf : (l : Label) → is_leaf_label (erase_label l) ≡ is_leaf_label l
+  erased-leaf (fn_ptr n) = refl
+  erased-leaf (principal n i) = refl
+  erased-leaf (param of_lifetime i) = refl
+  erased-leaf (placeholder of_lifetime i) = refl
+  erased-leaf (infer of_lifetime i) = refl
+  erased-leaf (canonical of_lifetime i) = refl
+  erased-leaf (bound of_lifetime k i) = refl
+  erased-leaf (param of_type i) = refl
+  erased-leaf (param of_const i) = refl
+  erased-leaf (placeholder of_type i) = refl
+  erased-leaf (placeholder of_const i) = refl
+  erased-leaf (infer of_type i) = refl
+  erased-leaf (infer of_const i) = refl
+  erased-leaf (canonical of_type i) = refl
+  erased-leaf (canonical of_const i) = refl
+  erased-leaf (bound of_type k i) = refl
+  erased-leaf (bound of_const k i) = refl
+  erased-leaf l = refl
+
+  pub over-plain-head : (t : Trees) → AreOver ls t → AreOver ls (with_plain_head t)
+  over-plain-head none h = tt
+  over-plain-head (tree l c o) h = (erased-slot l h.0, λ e. h.1 (sym (erased-leaf l) ∙ e), h.2, h.3)
+
+  -- ---- equations and references
+  abbrev pub AreOverSides : List Equation → Type 0
+  AreOverSides es = Every (λ (e : Equation). AreOver ls e.left.trees × AreOver ls e.right.trees) es
+
+  single : (l : Label) (x : is_slot ls l ≡ true) → (is_leaf_label l ≡ false) → AreOver ls (tree l none none)
+  single l x y = (x, λ e. refl, tt, tt)
+
+  pub over-equal : (x y : Trees) → AreOver ls x → AreOver ls y → AreOverSides (all_equal x y)
+  over-equal none none h g = tt
+  over-equal none (tree m d p) h g = ((single bool refl refl, single char refl refl), tt)
+  over-equal (tree l c o) none h g = ((single bool refl refl, single char refl refl), tt)
+  over-equal (tree l c o) (tree m d p) h g = ((over-head l c o h, over-head m d p g), over-equal o p h.3 g.3)
+
+  pub over-reference : (r : Reference) → AreOver ls r.args → AreOver ls (tree_of_reference r none)
+  over-reference r h = (refl, λ e. absurd (false-true e), h, tt)

@@ -1,0 +1,75 @@
+-- What comes next for a goal in code, after each history that the candidates that were considered show.
+use Rattle.std.specs.Prelude.{◌≡◌, Bool, if◌then◌else◌, List, length, map, Option, Some, None, option_map}
+use Rattle.type_terms.specs.Terms.{Entry}
+use Rattle.infer_table.specs.Inputs.{form_of}
+use Rattle.infer_table.specs.declared.certainty.TypingMode.{TypingMode}
+use Rattle.infer_table.specs.declared.certainty.TypingMode.TheVariants.{Coherence}
+use Rattle.infer_table.specs.declared.input.CanonicalInput.{CanonicalInput}
+use Rattle.evaluation.specs.declared.candidate.CandidateSpec.{CandidateSpec}
+use Rattle.evaluation.specs.declared.candidate.Considered.{Considered}
+use Rattle.evaluation.specs.Candidate.{IsHistory}
+use Rattle.evaluation.specs.Handler.{Handled}
+use Rattle.evaluation.specs.Merge.{or_else}
+use Rattle.evaluation.specs.Table.{workings}
+use Rattle.evaluation_laws.specs.Tables.{frame_tables}
+use Rattle.goal_frames.specs.Readings.{Shows, shown_by, handled_for}
+use Rattle.declarations.specs.Items.{Items, written}
+use Rattle.assembly_laws.specs.Asking.{asked}
+use Rattle.assembly_laws.specs.Candidates.{Candidate, unsure}
+use Rattle.assembly_laws.specs.Solver.{Past}
+use Rattle.candidate_assembly.specs.Fitting.{solving_of}
+use Rattle.candidate_assembly.specs.Goals.{asked_of, candidate_of}
+use Rattle.candidate_assembly.specs.Headers.{HasTooMany}
+use Rattle.candidate_assembly.specs.Sections.{early, late, is_first, next_inside, next_outside, next_in, decided, next_candidate}
+use Rattle.candidate_assembly.specs.Solving.{meaning_for, solver_for}
+
+-- What is meant for the goal.
+abbrev pub handled_in : List Entry → Items → CanonicalInput → Handled frame_tables
+handled_in es d g = handled_for solver_for (λ (items : Items) (entries : List Entry). solving_of entries items) d es g
+
+-- What holds of each history of the goal that shows these candidates.
+abbrev pub ForEachHistory : List Entry → Items → CanonicalInput → List Considered → (Past → Type 0) → Type 0
+ForEachHistory es d g done P = (seen : Past) → Shows (map (shown_by es) done) seen → IsHistory (workings frame_tables) (handled_in es d g).next seen → P seen
+
+-- The candidate is the one that is next in each of them; if there is none, none is.
+abbrev pub IsNextBy : (Past → Option Candidate) → List Entry → Items → CanonicalInput → List Considered → List Entry → Option CandidateSpec → Type 0
+IsNextBy next old d g done new o = ForEachHistory old d g done (λ seen. option_map (candidate_of (written old d) g.goal.predicate.trait_ref.def_id.index new) o ≡ next seen)
+
+-- It has more variables of its own than there are numbers for, in each of them.
+abbrev pub RunsOutBy : (Past → Option Candidate) → List Entry → Items → CanonicalInput → List Considered → Type 0
+RunsOutBy next es d g done = ForEachHistory es d g done (λ seen. HasTooMany (length g.variables.items) (next seen))
+
+-- ---- what is next for the goal
+abbrev pub early_in : List Entry → Items → CanonicalInput → Past → Option Candidate
+early_in es d g seen = early (written es d) (asked_of es g) seen
+
+abbrev pub late_in : List Entry → Items → CanonicalInput → Past → Option Candidate
+late_in es d g seen = late (written es d) (asked_of es g) seen
+
+-- Where it stops none of these comes.
+abbrev pub late_unless : Bool → List Entry → Items → CanonicalInput → Past → Option Candidate
+late_unless stops es d g seen = if stops then None else late_in es d g seen
+
+abbrev pub until : Bool → List Entry → Items → CanonicalInput → Past → Option Candidate
+until stops es d g seen = or_else (early_in es d g seen) (late_unless stops es d g seen)
+
+abbrev pub next_inside_in : List Entry → Items → CanonicalInput → Past → Option Candidate
+next_inside_in es d g seen = next_inside (written es d) d.local (asked_of es g) seen
+
+abbrev pub next_outside_in : List Entry → Items → CanonicalInput → Past → Option Candidate
+next_outside_in es d g seen = next_outside (written es d) (asked_of es g) seen
+
+abbrev pub next_decided : List Entry → Items → CanonicalInput → Past → Option Candidate
+next_decided es d g seen = next_in (meaning_for (solving_of es d) (form_of es g)) g.mode (asked_of es g) seen
+
+abbrev pub next_undecided : Past → Option Candidate
+next_undecided seen = if is_first seen then Some unsure else None
+
+abbrev pub next_for : List Entry → Items → CanonicalInput → Past → Option Candidate
+next_for es d g seen =
+    let m = meaning_for (solving_of es d) (form_of es g) in
+    next_candidate m g.mode (decided m (asked m.view (form_of es g))) seen
+
+-- What is not decided is merged as in coherence.
+abbrev pub mode_at_end : TypingMode → Bool → TypingMode
+mode_at_end mode b = if b then mode else Coherence

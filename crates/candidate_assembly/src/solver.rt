@@ -1,0 +1,102 @@
+//! The solver: what a crate declares, as a handler of goals.
+ghost use Rattle.std.specs.Prelude.{◌≡◌, List};
+ghost use Rattle.model.specs.Rules.{is_coinductive};
+ghost use Rattle.type_terms.specs.Terms.{Entry};
+ghost use Rattle.declarations.specs.Items.{written};
+ghost use Rattle.assembly_laws.specs.Facts.{FollowsByView};
+ghost use Rattle.candidate_assembly.specs.Fitting.{solving_of};
+ghost use Rattle.candidate_assembly.specs.Kept.{ready-kept, solving-kept};
+ghost use Rattle.candidate_assembly.specs.Ready.{IsReady};
+ghost use Rattle.candidate_assembly.specs.Solving.{Solving, solver_for, coinductive_for};
+ghost use Rattle.candidate_assembly.specs.SolverLaws.{solver-is-lawful, numbers-are-kept, worlds-are-kept, instances-are-goals, rules-are-of, kinds-are-of, outside-is-nowhere};
+
+use crate::built_in::SIZED;
+use crate::built_in_rules::is_auto;
+use crate::trait_goals::compute_trait_goal;
+use declarations::declarations::Declarations;
+use evaluation::{Considered, HandlerStep};
+use goal_frames::GoalHandler;
+use infer_table::input::CanonicalInput;
+use std::alloc::Global;
+use type_terms::interner::Interner;
+use type_terms::{Fault, TraitId};
+
+/// The solver of trait goals: the rules of goals are those of the declarations that a crate sees.
+///
+/// It is ready over an interner (`IsReady`) where the declarations' terms are the interner's, they are declared well, and impls,
+/// fields and supertraits speak of their parameters alone; it stays so while the interner grows. It means what the declarations
+/// mean as they are written (`solving_of`): goals that do not fit them are not decided.
+///
+/// `rustc_next_trait_solver::solve::SolverDelegate` with the declarations behind it.
+#[derive(Drop)]
+pub struct Solver {
+    /// What is declared.
+    pub declarations: Declarations,
+}
+
+impl Solver {
+    /// The solver of goals by these declarations. It takes no memory.
+    pub fn new(declarations: Declarations) -> Solver
+        ensures { result.declarations ≡ declarations }
+    {
+        Solver { declarations }
+    }
+}
+
+/// Whether a goal of the trait holds if it needs nothing but itself: of `Sized` and of auto traits.
+fn is_coinductive(declarations: &Declarations, def_id: TraitId) -> bool
+    ensures { (es : List Entry) → result ≡ is_coinductive (written es declarations.now) def_id.index }
+{
+    is_auto(declarations, def_id) || def_id.index == SIZED
+}
+
+/// Candidates come one after the other as `compute_trait_goal` says, and the answer is the merge of their responses.
+impl GoalHandler for Solver {
+    ghost use Rattle.std.proofs.Common.{refl};
+
+    ghost Meaning = { Solving };
+
+    ghost handled = { solver_for };
+
+    ghost Rule = { λ s. FollowsByView s.view };
+
+    ghost coinductive = { coinductive_for };
+
+    ghost ready = { λ h es. IsReady es h.declarations };
+
+    ghost meaning = { λ h es. solving_of es h.declarations };
+
+    fn step(
+        &self,
+        alloc: Global,
+        cx: &mut Interner,
+        goal: &CanonicalInput,
+        done: &[Considered],
+    ) -> Result<HandlerStep, Fault> {
+        compute_trait_goal(alloc, cx, &self.declarations, goal, done)
+    }
+
+    fn trait_is_coinductive(&self, def_id: TraitId) -> bool {
+        is_coinductive(&self.declarations, def_id)
+    }
+
+    ghost ready_kept = { λ h old new k r. ready-kept h.declarations old new k r };
+
+    ghost meaning_kept = { λ h old new k r. solving-kept h.declarations old new k r };
+
+    ghost begins = { λ s mode form. refl };
+
+    ghost lawful = { solver-is-lawful };
+
+    ghost instances = { instances-are-goals };
+
+    ghost rules = { rules-are-of };
+
+    ghost kinds = { kinds-are-of };
+
+    ghost numbers = { numbers-are-kept };
+
+    ghost worlds = { worlds-are-kept };
+
+    ghost outside = { outside-is-nowhere };
+}

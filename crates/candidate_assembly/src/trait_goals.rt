@@ -1,0 +1,404 @@
+//! What comes next for a trait goal: a candidate, or the answer.
+ghost use Rattle.std.specs.Prelude.{◌≡◌, ◌⊎◌, ◌==◌, ◌&&◌, not, length, map, Some, Bool, List, Err, IfErr, IfOk, IfSome, is_some, option_map};
+ghost use Rattle.std.specs.List.{list_any, slice_get};
+ghost use Rattle.type_terms.specs.Terms.{Entry, Keeps};
+ghost use Rattle.type_terms.specs.declared.Fault.TheVariants.{Memory};
+ghost use Rattle.term_folds.specs.Failures.{SomeKindIsFull};
+ghost use Rattle.infer_table.specs.Goals.{GoalHeld};
+ghost use Rattle.infer_table.specs.Responses.{ResponseHeld, answer_trees};
+ghost use Rattle.evaluation.specs.Readings.{ConsideredHeld, ResultHeld, SpecHeld, StepHeld};
+ghost use Rattle.goal_frames.specs.Fitting.{ConsideredFits, ResultFits, StepFits};
+ghost use Rattle.goal_frames.specs.Readings.{result_read, shown_by, spec_read, HasHistory, IsNextAfter};
+ghost use Rattle.goal_frames.specs.Shortages.{NextRunsOut};
+ghost use Rattle.table_laws.specs.Answers.{IsWellFormed};
+ghost use Rattle.declarations.specs.Items.{written};
+ghost use Rattle.assembly_laws.specs.Knowing.{is_knowable};
+ghost use Rattle.assembly_laws.specs.Candidates.{unsure, by_objects};
+ghost use Rattle.assembly_laws.specs.Solver.{says_nothing, is_non_global, is_settled};
+ghost use Rattle.candidate_assembly.specs.Counted.{ForEachPast};
+ghost use Rattle.candidate_assembly.specs.Goals.{asked_of, candidate_of};
+ghost use Rattle.candidate_assembly.specs.Nexts.{handled_in, IsNextBy, RunsOutBy, early_in, late_in, late_unless, until, next_inside_in, next_outside_in, next_decided, next_undecided, next_for, mode_at_end};
+ghost use Rattle.candidate_assembly.specs.Ready.{IsReady, Decides, IsDecided};
+ghost use Rattle.candidate_assembly.specs.Sections.{is_unknowable, is_bound, is_first, misc_is_bound, considered_from};
+
+use crate::assembly::{
+    Section, assemble_builtin_impl_candidates, assemble_impl_candidates,
+    assemble_param_env_candidates, considered_from, misc_is_bound,
+};
+use crate::decided::is_decided;
+use crate::knowable::is_knowable;
+use crate::merge::merge_trait_candidates;
+use crate::object::consider_object_bound_candidate;
+use crate::parts::unsure;
+use crate::unknowable::consider_coherence_unknowable_candidate;
+use declarations::declarations::Declarations;
+use evaluation::{
+    CandidateSource, CandidateSpec, Considered, HandlerStep, ParamEnvSource, TypingMode,
+    is_identity_modulo_regions,
+};
+use infer_table::input::CanonicalInput;
+use infer_table::response::CanonicalResponse;
+use std::alloc::Global;
+use type_terms::Fault;
+use type_terms::interner::Interner;
+
+/// The response has no constraints on lifetimes.
+fn has_no_constraints(response: &CanonicalResponse) -> bool
+    ensures { result ≡ (length response.now.region_constraints.items == 0) }
+{
+    response.region_constraints.is_empty()
+}
+
+/// Whether the response gives no types and consts, and says nothing of lifetimes.
+fn says_nothing(cx: &Interner, response: &CanonicalResponse) -> bool
+    requires held { ResponseHeld cx.now.entries response.now }
+    requires fits { IsWellFormed (answer_trees cx.now.entries response.now) }
+    ensures { result ≡ says_nothing (Some (answer_trees cx.now.entries response.now)) }
+{
+    is_identity_modulo_regions(cx, &response.var_values) && has_no_constraints(response)
+}
+
+/// Whether the candidate is by a where-clause that is not global, and its response says nothing.
+fn settles(cx: &Interner, considered: &Considered) -> bool
+    requires held { ResultHeld cx.now.entries considered.now.result }
+    requires fits { ResultFits cx.now.entries considered.now.result }
+    ensures { result ≡ (is_non_global considered.now.source && says_nothing (result_read cx.now.entries considered.now.result)) }
+{
+    match considered.source {
+        CandidateSource::ParamEnv(ParamEnvSource::NonGlobal) => match &considered.result {
+            Some(response) => says_nothing(cx, response),
+            None => false,
+        },
+        CandidateSource::ParamEnv(ParamEnvSource::Global)
+        | CandidateSource::Impl(_)
+        | CandidateSource::BuiltinImpl(_)
+        | CandidateSource::CoherenceUnknowable => false,
+    }
+}
+
+/// Whether a where-clause has settled the goal.
+fn is_settled(cx: &Interner, done: &[Considered]) -> bool
+    requires held { ConsideredHeld cx.now.entries done.now }
+    requires fits { ConsideredFits cx.now.entries done.now }
+    ensures { result ≡ list_any (λ x. is_non_global x.source && says_nothing x.result) (map (shown_by cx.now.entries) done.now) }
+{
+    'done: for considered in done {
+        if settles(cx, considered) {
+            return true;
+        }
+    }
+    false
+}
+
+/// Whether it was found that a crate which is not seen may have an impl.
+fn unknowable_holds(done: &[Considered]) -> bool
+    ensures { result ≡ list_any (λ d. is_unknowable d.source && is_some d.result) done.now }
+{
+    done.iter().any(|considered| {
+        matches!(considered.source, CandidateSource::CoherenceUnknowable)
+            && considered.result.is_some()
+    })
+}
+
+/// Whether nothing was considered, and a crate which is not seen may have an impl. The error is `Memory`.
+fn begins_unknowable(
+    alloc: Global,
+    cx: &Interner,
+    declarations: &Declarations,
+    goal: &CanonicalInput,
+    done: &[Considered],
+) -> Result<bool, Fault>
+    requires { IsDecided cx.now.entries declarations.now goal.now }
+    ensures is { let V = written cx.now.entries declarations.now in let r = (asked_of cx.now.entries goal.now).reference in
+        IfOk result (λ b. ForEachPast cx.now.entries done.now (λ seen. b ≡ (is_first seen && not (is_knowable V declarations.now.local r)))) }
+    ensures memory { IfErr result (λ fault. fault ≡ Memory) }
+{
+    if done.is_empty() {
+        let known = is_knowable(alloc, cx, declarations, goal.goal.predicate.trait_ref)?;
+        Ok(!known)
+    } else {
+        Ok(false)
+    }
+}
+
+/// The candidate by a bound of the `dyn` that is the self type, that is next after these candidates were considered, if one is left
+/// (`assemble_object_bound_candidates`).
+fn assemble_object_bound_candidates(
+    alloc: Global,
+    cx: &mut Interner,
+    declarations: &Declarations,
+    goal: &CanonicalInput,
+    done: &[Considered],
+) -> Result<Option<CandidateSpec>, Fault>
+    requires { IsDecided cx.old.entries declarations.now goal.now }
+    ensures keeps { Keeps cx.old.entries cx.new.entries }
+    ensures limit { cx.new.limit ≡ cx.old.limit }
+    ensures held { IfOk result (λ o. IfSome o (SpecHeld cx.new.entries)) }
+    ensures is { let V = written cx.old.entries declarations.now in let a = asked_of cx.old.entries goal.now in
+        IfOk result (λ o. ForEachPast cx.old.entries done.now (λ seen. option_map (candidate_of V a.reference.trait cx.new.entries) o
+        ≡ slice_get (by_objects V a) (considered_from (is_bound (misc_is_bound a)) seen))) }
+    ensures full { result ≡ Err Fault.Full → SomeKindIsFull cx.new.entries cx.new.limit }
+{
+    let place = considered_from(done, Section::ObjectBounds, misc_is_bound(cx, goal));
+    consider_object_bound_candidate(alloc, cx, declarations, goal, place)
+}
+
+/// The next candidate by a where-clause or a built-in rule.
+fn early_candidate(
+    alloc: Global,
+    cx: &mut Interner,
+    declarations: &Declarations,
+    goal: &CanonicalInput,
+    done: &[Considered],
+) -> Result<Option<CandidateSpec>, Fault>
+    requires decided { IsDecided cx.old.entries declarations.now goal.now }
+    requires done { ConsideredHeld cx.old.entries done.now }
+    ensures keeps { Keeps cx.old.entries cx.new.entries }
+    ensures limit { cx.new.limit ≡ cx.old.limit }
+    ensures held { IfOk result (λ o. IfSome o (SpecHeld cx.new.entries)) }
+    ensures is { IfOk result (IsNextBy (early_in cx.old.entries declarations.now goal.now) cx.old.entries declarations.now goal.now done.now cx.new.entries) }
+    ensures full { result ≡ Err Fault.Full → SomeKindIsFull cx.new.entries cx.new.limit }
+{
+    match assemble_param_env_candidates(alloc, cx, goal, done)? {
+        Some(candidate) => Ok(Some(candidate)),
+        None => assemble_builtin_impl_candidates(alloc, cx, declarations, goal, done),
+    }
+}
+
+/// The next candidate by an impl or a bound of the `dyn` that is the self type.
+fn late_candidate(
+    alloc: Global,
+    cx: &mut Interner,
+    declarations: &Declarations,
+    goal: &CanonicalInput,
+    done: &[Considered],
+) -> Result<Option<CandidateSpec>, Fault>
+    requires decided { IsDecided cx.old.entries declarations.now goal.now }
+    requires done { ConsideredHeld cx.old.entries done.now }
+    ensures keeps { Keeps cx.old.entries cx.new.entries }
+    ensures limit { cx.new.limit ≡ cx.old.limit }
+    ensures held { IfOk result (λ o. IfSome o (SpecHeld cx.new.entries)) }
+    ensures is { IfOk result (IsNextBy (late_in cx.old.entries declarations.now goal.now) cx.old.entries declarations.now goal.now done.now cx.new.entries) }
+    ensures full { result ≡ Err Fault.Full → SomeKindIsFull cx.new.entries cx.new.limit
+        ⊎ RunsOutBy (late_in cx.old.entries declarations.now goal.now) cx.old.entries declarations.now goal.now done.now }
+{
+    match assemble_impl_candidates(alloc, cx, declarations, goal, done)? {
+        Some(candidate) => Ok(Some(candidate)),
+        None => assemble_object_bound_candidates(alloc, cx, declarations, goal, done),
+    }
+}
+
+/// The next candidate by an impl or a bound, unless none of these comes.
+fn late_candidate_unless(
+    alloc: Global,
+    cx: &mut Interner,
+    declarations: &Declarations,
+    goal: &CanonicalInput,
+    done: &[Considered],
+    stops: bool,
+) -> Result<Option<CandidateSpec>, Fault>
+    requires decided { IsDecided cx.old.entries declarations.now goal.now }
+    requires done { ConsideredHeld cx.old.entries done.now }
+    ensures keeps { Keeps cx.old.entries cx.new.entries }
+    ensures limit { cx.new.limit ≡ cx.old.limit }
+    ensures held { IfOk result (λ o. IfSome o (SpecHeld cx.new.entries)) }
+    ensures is { IfOk result (IsNextBy (late_unless stops cx.old.entries declarations.now goal.now) cx.old.entries declarations.now goal.now done.now cx.new.entries) }
+    ensures full { result ≡ Err Fault.Full → SomeKindIsFull cx.new.entries cx.new.limit
+        ⊎ RunsOutBy (late_unless stops cx.old.entries declarations.now goal.now) cx.old.entries declarations.now goal.now done.now }
+{
+    if stops {
+        Ok(None)
+    } else {
+        late_candidate(alloc, cx, declarations, goal, done)
+    }
+}
+
+/// The next candidate by a where-clause or a built-in rule, or else, where it does not stop there, by an impl or a bound.
+fn candidate_until(
+    alloc: Global,
+    cx: &mut Interner,
+    declarations: &Declarations,
+    goal: &CanonicalInput,
+    done: &[Considered],
+    stops: bool,
+) -> Result<Option<CandidateSpec>, Fault>
+    requires decided { IsDecided cx.old.entries declarations.now goal.now }
+    requires done { ConsideredHeld cx.old.entries done.now }
+    ensures keeps { Keeps cx.old.entries cx.new.entries }
+    ensures limit { cx.new.limit ≡ cx.old.limit }
+    ensures held { IfOk result (λ o. IfSome o (SpecHeld cx.new.entries)) }
+    ensures is { IfOk result (IsNextBy (until stops cx.old.entries declarations.now goal.now) cx.old.entries declarations.now goal.now done.now cx.new.entries) }
+    ensures full { result ≡ Err Fault.Full → SomeKindIsFull cx.new.entries cx.new.limit
+        ⊎ RunsOutBy (until stops cx.old.entries declarations.now goal.now) cx.old.entries declarations.now goal.now done.now }
+{
+    match early_candidate(alloc, cx, declarations, goal, done)? {
+        Some(candidate) => Ok(Some(candidate)),
+        None => late_candidate_unless(alloc, cx, declarations, goal, done, stops),
+    }
+}
+
+/// The next candidate in coherence: first that other crates may have an impl, where the goal isn't knowable, and nothing else if that
+/// holds.
+fn candidate_in_coherence(
+    alloc: Global,
+    cx: &mut Interner,
+    declarations: &Declarations,
+    goal: &CanonicalInput,
+    done: &[Considered],
+) -> Result<Option<CandidateSpec>, Fault>
+    requires decided { IsDecided cx.old.entries declarations.now goal.now }
+    requires done { ConsideredHeld cx.old.entries done.now }
+    ensures keeps { Keeps cx.old.entries cx.new.entries }
+    ensures limit { cx.new.limit ≡ cx.old.limit }
+    ensures held { IfOk result (λ o. IfSome o (SpecHeld cx.new.entries)) }
+    ensures is { IfOk result (IsNextBy (next_inside_in cx.old.entries declarations.now goal.now) cx.old.entries declarations.now goal.now done.now cx.new.entries) }
+    ensures full { result ≡ Err Fault.Full → SomeKindIsFull cx.new.entries cx.new.limit
+        ⊎ RunsOutBy (next_inside_in cx.old.entries declarations.now goal.now) cx.old.entries declarations.now goal.now done.now }
+{
+    if begins_unknowable(alloc, cx, declarations, goal, done)? {
+        let candidate = consider_coherence_unknowable_candidate(alloc, cx, declarations, goal)?;
+        return Ok(Some(candidate));
+    }
+    if unknowable_holds(done) {
+        return Ok(None);
+    }
+    candidate_until(alloc, cx, declarations, goal, done, false)
+}
+
+/// The next candidate outside coherence: by impls and bounds only where no where-clause has settled the goal.
+fn candidate_outside_coherence(
+    alloc: Global,
+    cx: &mut Interner,
+    declarations: &Declarations,
+    goal: &CanonicalInput,
+    done: &[Considered],
+) -> Result<Option<CandidateSpec>, Fault>
+    requires decided { IsDecided cx.old.entries declarations.now goal.now }
+    requires done { ConsideredHeld cx.old.entries done.now }
+    requires fits { ConsideredFits cx.old.entries done.now }
+    ensures keeps { Keeps cx.old.entries cx.new.entries }
+    ensures limit { cx.new.limit ≡ cx.old.limit }
+    ensures held { IfOk result (λ o. IfSome o (SpecHeld cx.new.entries)) }
+    ensures is { IfOk result (IsNextBy (next_outside_in cx.old.entries declarations.now goal.now) cx.old.entries declarations.now goal.now done.now cx.new.entries) }
+    ensures full { result ≡ Err Fault.Full → SomeKindIsFull cx.new.entries cx.new.limit
+        ⊎ RunsOutBy (next_outside_in cx.old.entries declarations.now goal.now) cx.old.entries declarations.now goal.now done.now }
+{
+    let settled = is_settled(cx, done);
+    candidate_until(alloc, cx, declarations, goal, done, settled)
+}
+
+/// The next candidate of a goal that is decided, in the goal's mode.
+fn decided_candidate(
+    alloc: Global,
+    cx: &mut Interner,
+    declarations: &Declarations,
+    goal: &CanonicalInput,
+    done: &[Considered],
+) -> Result<Option<CandidateSpec>, Fault>
+    requires decided { IsDecided cx.old.entries declarations.now goal.now }
+    requires done { ConsideredHeld cx.old.entries done.now }
+    requires fits { ConsideredFits cx.old.entries done.now }
+    ensures keeps { Keeps cx.old.entries cx.new.entries }
+    ensures limit { cx.new.limit ≡ cx.old.limit }
+    ensures held { IfOk result (λ o. IfSome o (SpecHeld cx.new.entries)) }
+    ensures is { IfOk result (IsNextBy (next_decided cx.old.entries declarations.now goal.now) cx.old.entries declarations.now goal.now done.now cx.new.entries) }
+    ensures full { result ≡ Err Fault.Full → SomeKindIsFull cx.new.entries cx.new.limit
+        ⊎ RunsOutBy (next_decided cx.old.entries declarations.now goal.now) cx.old.entries declarations.now goal.now done.now }
+{
+    match goal.mode {
+        TypingMode::Coherence => candidate_in_coherence(alloc, cx, declarations, goal, done),
+        TypingMode::PostAnalysis => {
+            candidate_outside_coherence(alloc, cx, declarations, goal, done)
+        }
+    }
+}
+
+/// The one candidate of a goal that is not decided, if nothing was considered: it is not sure.
+fn undecided_candidate(alloc: Global, done: &[Considered]) -> Option<CandidateSpec>
+    ensures is { (es new : List Entry) (kind : Bool) → ForEachPast es done.now (λ seen. option_map (spec_read new kind) result ≡ next_undecided seen) }
+    ensures held { (es : List Entry) → IfSome result (SpecHeld es) }
+{
+    if done.is_empty() {
+        Some(unsure(alloc))
+    } else {
+        None
+    }
+}
+
+/// The candidate that is next for a goal after these were considered, the oldest first, if one is left; whether the goal is decided is
+/// told. (`EvalCtxt::assemble_and_evaluate_candidates` of the original, which evaluates them too.)
+///
+/// In coherence the first is that other crates may have an impl, where the goal isn't knowable, and nothing else comes if that holds.
+/// Then come where-clauses, built-in rules, impls, and bounds of the `dyn` that is the self type. Outside coherence no impl or bound
+/// comes where a where-clause has settled the goal. A goal that is not decided has one candidate, which is not sure.
+///
+/// `Full` comes where one of the interner's tables is full, or the impl that is next has more parameters than there are numbers for
+/// behind the goal's variables; `Memory` where memory is refused.
+pub fn assemble_and_evaluate_candidates(
+    alloc: Global,
+    cx: &mut Interner,
+    declarations: &Declarations,
+    goal: &CanonicalInput,
+    decided: bool,
+    done: &[Considered],
+) -> Result<Option<CandidateSpec>, Fault>
+    requires ready { IsReady cx.old.entries declarations.now }
+    requires goal { GoalHeld cx.old.entries goal.now.goal }
+    requires decides { Decides cx.old.entries declarations.now goal.now decided }
+    requires done { ConsideredHeld cx.old.entries done.now }
+    requires fits { ConsideredFits cx.old.entries done.now }
+    ensures keeps { Keeps cx.old.entries cx.new.entries }
+    ensures limit { cx.new.limit ≡ cx.old.limit }
+    ensures held { IfOk result (λ o. IfSome o (SpecHeld cx.new.entries)) }
+    ensures is { IfOk result (IsNextBy (next_for cx.old.entries declarations.now goal.now) cx.old.entries declarations.now goal.now done.now cx.new.entries) }
+    ensures full { result ≡ Err Fault.Full → SomeKindIsFull cx.new.entries cx.new.limit
+        ⊎ RunsOutBy (next_for cx.old.entries declarations.now goal.now) cx.old.entries declarations.now goal.now done.now }
+{
+    if decided {
+        decided_candidate(alloc, cx, declarations, goal, done)
+    } else {
+        Ok(undecided_candidate(alloc, done))
+    }
+}
+
+/// The mode in which the candidates of a goal are merged that was asked in this one, and is decided or not.
+fn mode_at_end(mode: TypingMode, decided: bool) -> TypingMode
+    ensures { result ≡ mode_at_end mode decided }
+{
+    if decided { mode } else { TypingMode::Coherence }
+}
+
+/// What the frame of a trait goal is to do next, after these candidates were considered, the oldest first: to consider the next one,
+/// or to answer with the merge of their responses (`EvalCtxt::compute_trait_goal`).
+///
+/// `Full` comes where one of the interner's tables is full, or where there are no numbers for the variables of what is next;
+/// `Memory` where memory is refused.
+pub fn compute_trait_goal(
+    alloc: Global,
+    cx: &mut Interner,
+    declarations: &Declarations,
+    goal: &CanonicalInput,
+    done: &[Considered],
+) -> Result<HandlerStep, Fault>
+    requires ready { IsReady cx.old.entries declarations.now }
+    requires goal { GoalHeld cx.old.entries goal.now.goal }
+    requires done { ConsideredHeld cx.old.entries done.now }
+    requires fits { ConsideredFits cx.old.entries done.now }
+    requires history { HasHistory cx.old.entries (handled_in cx.old.entries declarations.now goal.now) done.now }
+    ensures keeps { Keeps cx.old.entries cx.new.entries }
+    ensures limit { cx.new.limit ≡ cx.old.limit }
+    ensures held { IfOk result (StepHeld cx.new.entries) }
+    ensures fits { IfOk result (StepFits goal.now.variables.items cx.new.entries) }
+    ensures next { IfOk result (IsNextAfter cx.old.entries (handled_in cx.old.entries declarations.now goal.now) done.now cx.new.entries) }
+    ensures full { result ≡ Err Fault.Full → SomeKindIsFull cx.new.entries cx.new.limit
+        ⊎ NextRunsOut cx.old.entries (handled_in cx.old.entries declarations.now goal.now) goal.now.variables.items done.now }
+{
+    let decided = is_decided(cx, declarations, goal);
+    match assemble_and_evaluate_candidates(alloc, cx, declarations, goal, decided, done)? {
+        Some(candidate) => Ok(HandlerStep::Consider(candidate)),
+        None => {
+            let mode = mode_at_end(goal.mode, decided);
+            merge_trait_candidates(alloc, cx, mode, &goal.variables, done)
+        }
+    }
+}
