@@ -1,5 +1,5 @@
 -- Headers of impls: what stands in where-clauses stands there with its sort, and each parameter has one.
-use Rattle.std.proofs.Common.{◌≡◌, ℕ, zero, suc, ◌+◌, ◌<◌, ◌≤◌, Bool, true, false, ◌&&◌, ◌||◌, List, [], ◌∷◌, map, length, Option, Some, None, refl, sym, ap, ◌∙◌, subst, arith}
+use Rattle.std.proofs.Common.{◌≡◌, ℕ, ◌+◌, ◌<◌, Bool, true, false, ◌&&◌, ◌||◌, List, length, Some, refl, sym, ap, ◌∙◌, subst, arith}
 use Rattle.std.proofs.lemmas.Bool.{eqb-true}
 use Rattle.std.proofs.lemmas.Bool.Decides.{Decides-ltb}
 use Rattle.std.proofs.lemmas.Option.{same_Some, slice_get_within}
@@ -8,17 +8,16 @@ use Rattle.std.specs.List.{list_all}
 use Rattle.model.specs.Label.{Label, Sort, of_lifetime, of_type, of_const, static, fn_ptr, principal, param, bound}
 use Rattle.model.specs.Trees.{Trees, none, tree, some_node, is_sort}
 use Rattle.model.specs.Worlds.{Reference}
-use Rattle.type_terms.specs.Made.{terms, is_made}
 use Rattle.text_definitions.specs.Declarations.{NamedImpl}
 use Rattle.assembly_laws.specs.Candidates.{is_param}
-use Rattle.assembly_laws.specs.Declared.{is_declared, is_otherwise, is_unsorted}
+use Rattle.assembly_laws.specs.Declared.{is_otherwise, is_unsorted}
 use Rattle.assembly_laws.specs.DeclaredWell.{is_loose}
 use Rattle.view_lowering.specs.Plain.{plain_label, plain, plain_reference, plain_impl, all_kept, is_lifetime, stands_in}
 use Rattle.view_lowering.specs.Seen.{param_sorts}
 use Rattle.declared_views.proofs.Sorts.{is_bad}
 use Rattle.declared_views.proofs.Tests.{is_good, is_good_impl, all_stand}
-use Rattle.declared_views.proofs.Trees.{and, and-left, and-right, or, or-left, or-right}
-use Rattle.declared_views.proofs.Views.{sort-there, sort-same, stands-by, not-true, good-fits, all-mapped}
+use Rattle.declared_views.proofs.Trees.{and-left, and-right, or, or-left, or-right}
+use Rattle.declared_views.proofs.Views.{sort-there, stands-by, not-true, good-fits, all-mapped}
 
 -- ---- a parameter stands in the plain header as in the header
 label-kept : (s : Sort) (i : ℕ) (l : Label) → is_param s i l ≡ true → is_param s i (plain_label all_kept l) ≡ true
@@ -30,7 +29,7 @@ label-kept s i (fn_ptr n) h = absurd cc
 label-kept s i (principal n t) h = absurd cc
 label-kept s i l h = h
 
-still : (s : Sort) (i : ℕ) (t : Trees) → some_node (is_param s i) t ≡ true → some_node (is_param s i) (plain all_kept t) ≡ true
+pub still : (s : Sort) (i : ℕ) (t : Trees) → some_node (is_param s i) t ≡ true → some_node (is_param s i) (plain all_kept t) ≡ true
 still s i none h = h
 still s i (tree l c o) h = by (is_param s i l) (some_node (is_param s i) c) (some_node (is_param s i) o) (label-kept s i l) (still s i c) (still s i o) h
   where
@@ -52,6 +51,7 @@ lifetime-param i (tree l c o) h = by (is_lifetime i l) (some_node (is_lifetime i
     label (param of_type j) q = absurd cc
     label (param of_const j) q = absurd cc
     label m q = q
+
     by : (a b d : Bool) {x y z : Bool} → (a ≡ true → x ≡ true) → (b ≡ true → y ≡ true) → (d ≡ true → z ≡ true) → a || b || d ≡ true → x || y || z ≡ true
     by a b d {x = true} f g k q = refl
     by a b d {x = false} {y = true} f g k q = refl
@@ -99,12 +99,15 @@ module _ (header : Trees) (sorts : List Sort) (stand : all_stand header 0 sorts 
       same-sort of_type b q = subst (λ x. is_sort of_type x ≡ true) q refl
       same-sort of_const b q = subst (λ x. is_sort of_const x ≡ true) q refl
       same-sort of_lifetime b q = subst (λ x. is_sort of_lifetime x ≡ true) q refl
+
       both : (a : Bool) → a ≡ true → not a && true ≡ false
       both true q = refl
       both false q = absurd cc
+
       never : (a : Bool) → not a && false ≡ false
       never true = refl
       never false = refl
+
       by : (b : Bool) → (i == j) ≡ b → not (is_sort r s) && b ≡ false
       by false q = never (is_sort r s)
       by true q = both (is_sort r s) (same-sort r s (same_Some r s (sym (sort-there sorts r j h) ∙ ap (slice_get sorts) (sym (eqb-true i j q)) ∙ e)))

@@ -1,10 +1,10 @@
 -- Bounds of traits lead down, where each names a trait of a lower number.
-use Rattle.std.proofs.Common.{◌≡◌, ℕ, zero, suc, ◌+◌, ◌<◌, ◌≤◌, max, Bool, true, false, cond, ◌&&◌, List, [], ◌∷◌, map, length, Option, Some, None, refl, sym, ap, ◌∙◌, subst, arith}
-use Rattle.std.proofs.lemmas.Bool.{eqb-true, eq-eqb, ne_eqb}
+use Rattle.std.proofs.Common.{◌≡◌, ℕ, zero, suc, ◌<◌, ◌≤◌, max, Bool, true, false, cond, List, [], ◌∷◌, map, length, Some, refl, sym, ap, ◌∙◌, arith}
+use Rattle.std.proofs.lemmas.Bool.{eqb-true, eq-eqb}
 use Rattle.std.proofs.lemmas.Bool.Decides.{Decides-ltb}
 use Rattle.std.proofs.lemmas.Option.{same_Some, slice_get-map}
 use Rattle.std.proofs.Math.Nat.{le-max_left, le-max_right}
-use Rattle.std.specs.Prelude.{not, ◌==◌, nat_lt, filter, fold, slice_get}
+use Rattle.std.specs.Prelude.{◌==◌, nat_lt, filter, fold, slice_get}
 use Rattle.std.specs.List.{list_all}
 use Rattle.std.specs.Option.{option_map}
 use Rattle.model.proofs.Members.{in-filter, filter-in}
@@ -12,7 +12,7 @@ use Rattle.model.specs.Proofs.{In}
 use Rattle.model.specs.Worlds.{World, Reference, TraitDecl, traits_named}
 use Rattle.assembly_laws.specs.DeclaredWell.{height_within, height_in, bounds_lead_down}
 use Rattle.assembly_laws.specs.Solver.{greatest}
-use Rattle.declared_views.proofs.Trees.{and, and-left, and-right}
+use Rattle.declared_views.proofs.Trees.{and}
 
 -- bounds of these traits have lower numbers
 abbrev pub LowerBounds : List TraitDecl → Type 0
@@ -135,6 +135,7 @@ module _ (V : World) (lower : LowerBounds V.traits) where
       all-bounds : (x : TraitDecl) → In x V.traits → (bs : List Reference) → ((b : Reference) → In b bs → In b x.bounds) → list_all (λ (b : Reference). nat_lt (height_in V b.trait) (height_in V x.name)) bs ≡ true
       all-bounds x i [] f = refl
       all-bounds x i (b ∷ bs) f = and _ _ (lt-true (height_in V b.trait) (height_in V x.name) (higher x b i (f b (zero, refl)))) (all-bounds x i bs (λ c m. f c (suc m.0, m.1)))
+
       all-traits : (xs : List TraitDecl) → ((x : TraitDecl) → In x xs → In x V.traits) → list_all (λ (x : TraitDecl). list_all (λ (b : Reference). nat_lt (height_in V b.trait) (height_in V x.name)) x.bounds) xs ≡ true
       all-traits [] f = refl
       all-traits (x ∷ xs) f = and _ _ (all-bounds x (f x (zero, refl)) x.bounds (λ b m. m)) (all-traits xs (λ y m. f y (suc m.0, m.1)))

@@ -3,31 +3,29 @@ use Rattle.std.proofs.Common.{◌≡◌, ℕ, zero, suc, ◌+◌, ◌<◌, Bool,
 use Rattle.std.proofs.lemmas.Bool.{eq-eqb}
 use Rattle.std.proofs.lemmas.Bool.Decides.{Decides-ltb}
 use Rattle.std.proofs.lemmas.List.{map-append}
-use Rattle.std.proofs.lemmas.Option.{same_Some}
+use Rattle.std.proofs.lemmas.Option.{same_Some, slice_get_within}
 use Rattle.std.specs.Prelude.{not, if◌then◌else◌, ◌==◌, slice_get, nat_lt, find}
 use Rattle.std.specs.List.{list_any, list_all, flat_map}
 use Rattle.std.specs.Option.{option_map, option_map_or, option_or}
 use Rattle.std.specs.Str.{bytes_eq}
-use Rattle.model.specs.Label.{Label, Sort, of_lifetime, of_type, of_const, param}
-use Rattle.model.specs.Trees.{Trees, none, tree, leaf, some_node, ◌+++◌}
+use Rattle.model.specs.Label.{Sort, of_lifetime, of_type, of_const, param}
+use Rattle.model.specs.Trees.{Trees, leaf, some_node}
 use Rattle.model.specs.Worlds.{Reference}
-use Rattle.text_definitions.specs.Syntax.{TypeTree, Types, Params, Bound, Clause, Line, struct_line, trait_line, impl_line}
-use Rattle.text_definitions.specs.Declarations.{Declarations, NamedCrate, NamedStruct, NamedTrait, NamedImpl, Known, a_crate, a_struct, a_trait, known, crate_known, struct_known, trait_known, kinds_of, sorted_names, with_sort}
-use Rattle.text_definitions.specs.Uses.{Use, name_use, trait_use, variable_use, kinds_of_trait, args_count, args_uses, type_uses, types_uses, bound_uses, clause_uses, header_uses, uses, other_uses, params_of}
-use Rattle.text_definitions.specs.Faults.{with_own, own_trait, is_among, repeats, is_any, variables_in, has_stray_variable, has_free_param, bounds_use_own, is_use_of, is_name_use, is_taken_param, takes_names, fault_of, is_trait_of}
-use Rattle.text_definitions.specs.Lowering.{trait_number, place_among, type_tree, args_trees, field_trees, with_self, clause_reference}
+use Rattle.text_definitions.specs.Syntax.{Types, Params, Bound, Clause, Line, struct_line, trait_line, impl_line}
+use Rattle.text_definitions.specs.Declarations.{Declarations, NamedCrate, NamedStruct, NamedTrait, Known, a_crate, a_struct, a_trait, known, kinds_of, sorted_names, with_sort}
+use Rattle.text_definitions.specs.Uses.{Use, variable_use, kinds_of_trait, args_count, type_uses, types_uses, bound_uses, clause_uses, header_uses}
+use Rattle.text_definitions.specs.Faults.{with_own, own_trait, is_among, repeats, is_any, variables_in, has_free_param, bounds_use_own, is_use_of, is_name_use, is_trait_of}
+use Rattle.text_definitions.specs.Lowering.{trait_number, type_tree, args_trees, with_self, clause_reference}
 use Rattle.text_definitions.specs.Adding.{item_meanings, struct_of, trait_of, impl_of}
-use Rattle.text_definitions.specs.Written.{IsWritten}
-use Rattle.grammar_laws.specs.Faultless.{UseFits, UsesFit, PassesTests}
+use Rattle.grammar_laws.specs.Faultless.{UsesFit}
 use Rattle.view_lowering.specs.Plain.{all_kept, none_kept, stands_in}
-use Rattle.view_lowering.specs.Seen.{param_sorts}
 use Rattle.assembly_laws.specs.Candidates.{is_param as is_label_of}
 use Rattle.declared_views.proofs.Tests.{is_good, is_good_struct, is_good_trait, is_good_impl, all_stand}
-use Rattle.declared_views.proofs.Trees.{Good, good-append, good-param, and, or-left, or-right}
-use Rattle.declared_views.proofs.Types.{AllFit, IsFixed, first-fit, rest-fit, good-type, good-args}
-use Rattle.declared_views.proofs.Scalars.{Scalars, ScalarTypes, ScalarArgs}
+use Rattle.declared_views.proofs.Trees.{good-append, good-param, and, or-left, or-right}
+use Rattle.declared_views.proofs.Types.{AllFit, first-fit, rest-fit, good-type, good-args}
+use Rattle.declared_views.proofs.Scalars.{ScalarTypes}
 use Rattle.declared_views.proofs.ScalarTokens.{ScalarBounds, ScalarClause, ScalarClauses}
-use Rattle.declared_views.proofs.Standing.{AutosAreBare, is_use_as, Either, this, that, any-split, some-append, type-stands, args-stand, number_as, IsNamed}
+use Rattle.declared_views.proofs.Standing.{AutosAreBare, is_use_as, this, that, any-split, some-append, type-stands, args-stand, number_as, IsNamed}
 use Rattle.declared_views.proofs.Params.{same-names, turned, params-stand, types-used, consts-used, among-first, among-second}
 use Rattle.declared_views.proofs.Lines.{kinds-numbered, trait-numbered, good-test, fields-good}
 
@@ -57,36 +55,42 @@ found-at f (y ∷ ys) x h = by (f y) refl h (found-at f ys x)
     by false e g r = (let q = r g in (suc q.0, q.1, omega (arith, q.2), q.3))
 
 -- the trait that a name stands for beside the line's own
-known-below : (d : Declarations) (own : NamedTrait) (m : List ℕ) (k : ℕ) → TraitsNumbered d → bytes_eq own.text m ≡ false
-    → option_map_or (is_trait_of k) (known (record d { traits = d.traits ++ own ∷ [] }) m) false ≡ true → trait_number (known (record d { traits = d.traits ++ own ∷ [] }) m) < length d.traits
-known-below d own m k numbered apart h = by (find (λ c. bytes_eq c.text m) d.crates) (find (λ x. bytes_eq x.text m) d.structs) (find (λ t. bytes_eq t.text m) (d.traits ++ own ∷ [])) refl h
+abbrev pub TraitAt : Declarations → Option Known → Type 0
+TraitAt d o = (t : NamedTrait) × (slice_get d.traits (trait_number o) ≡ Some t) × (kinds_of_trait o ≡ t.kinds)
+
+pub known-at : (d : Declarations) (own : NamedTrait) (m : List ℕ) (k : ℕ) → TraitsNumbered d → bytes_eq own.text m ≡ false
+    → option_map_or (is_trait_of k) (known (record d { traits = d.traits ++ own ∷ [] }) m) false ≡ true → TraitAt d (known (record d { traits = d.traits ++ own ∷ [] }) m)
+known-at d own m k numbered apart h = by (find (λ c. bytes_eq c.text m) d.crates) (find (λ x. bytes_eq x.text m) d.structs) (find (λ t. bytes_eq t.text m) (d.traits ++ own ∷ [])) refl h
   where
-    as-trait : Option NamedTrait → Option Known
-    as-trait t = option_map (λ (x : NamedTrait). a_trait x.item.name x.item.home x.item.is_auto x.kinds) t
-    place-below : (i : ℕ) (x : NamedTrait) (xs : List NamedTrait) → slice_get (xs ++ own ∷ []) i ≡ Some x → i < suc (length xs) → ((slice_get xs i ≡ Some x) × (i < length xs)) ⊎ (x ≡ own)
+    place-below : (i : ℕ) (x : NamedTrait) (xs : List NamedTrait) → slice_get (xs ++ own ∷ []) i ≡ Some x → i < suc (length xs) → (slice_get xs i ≡ Some x) ⊎ (x ≡ own)
     place-below zero x [] e h = inr (sym (same_Some own x e))
     place-below (suc i) x [] e h = absurd (omega (arith, h))
-    place-below zero x (y ∷ ys) e h = inl (e, omega arith)
-    place-below (suc i) x (y ∷ ys) e h = elim (place-below i x ys e (omega (arith, h))) [ inl q ↦ inl (q.0, omega (arith, q.1)) | inr q ↦ inr q ]
+    place-below zero x (y ∷ ys) e h = inl e
+    place-below (suc i) x (y ∷ ys) e h = elim (place-below i x ys e (omega (arith, h))) [ inl q ↦ inl q | inr q ↦ inr q ]
+
     not-both : (b : Bool) → b ≡ true → b ≡ false → ⊥
     not-both true p q = absurd cc
     not-both false p q = absurd cc
+
     by : (c : Option NamedCrate) (s : Option NamedStruct) (t : Option NamedTrait) → find (λ (x : NamedTrait). bytes_eq x.text m) (d.traits ++ own ∷ []) ≡ t
         → option_map_or (is_trait_of k) (option_or (option_map (λ (x : NamedCrate). a_crate x.item.name) c) (option_or (option_map (λ (x : NamedStruct). a_struct x.item.name x.item.home x.kinds) s) (option_map (λ (x : NamedTrait). a_trait x.item.name x.item.home x.item.is_auto x.kinds) t))) false ≡ true
-        → trait_number (option_or (option_map (λ (x : NamedCrate). a_crate x.item.name) c) (option_or (option_map (λ (x : NamedStruct). a_struct x.item.name x.item.home x.kinds) s) (option_map (λ (x : NamedTrait). a_trait x.item.name x.item.home x.item.is_auto x.kinds) t)))
-        < length d.traits
+        → TraitAt d (option_or (option_map (λ (x : NamedCrate). a_crate x.item.name) c) (option_or (option_map (λ (x : NamedStruct). a_struct x.item.name x.item.home x.kinds) s) (option_map (λ (x : NamedTrait). a_trait x.item.name x.item.home x.item.is_auto x.kinds) t)))
     by (Some c) s t e g = absurd cc
     by None (Some s) t e g = absurd cc
     by None None None e g = absurd cc
     by None None (Some t) e g =
         let q = found-at (λ (x : NamedTrait). bytes_eq x.text m) (d.traits ++ own ∷ []) t e in
         elim (place-below q.0 t d.traits q.1 (subst (λ n. q.0 < n) (length-append d.traits (own ∷ []) ∙ more (length d.traits)) q.2)) [
-          | inl w ↦ subst (λ n. n < length d.traits) (sym (numbered q.0 t w.0)) w.1
+          | inl w ↦ (t, subst (λ n. slice_get d.traits n ≡ Some t) (sym (numbered q.0 t w)) w, refl)
           | inr w ↦ absurd (not-both (bytes_eq own.text m) (subst (λ (x : NamedTrait). bytes_eq x.text m ≡ true) w q.3) apart)
         ]
       where
         more : (n : ℕ) → n + 1 ≡ suc n
         more n = omega arith
+
+known-below : (d : Declarations) (own : NamedTrait) (m : List ℕ) (k : ℕ) → TraitsNumbered d → bytes_eq own.text m ≡ false
+    → option_map_or (is_trait_of k) (known (record d { traits = d.traits ++ own ∷ [] }) m) false ≡ true → trait_number (known (record d { traits = d.traits ++ own ∷ [] }) m) < length d.traits
+known-below d own m k numbered apart h = let t = known-at d own m k numbered apart h in slice_get_within d.traits (trait_number (known (record d { traits = d.traits ++ own ∷ [] }) m)) t.0 t.1
 
 bounds-good : (d : Declarations) (f a : Bool) (n : List ℕ) (ps : Params) (all bs : List Bound) → let l = trait_line f a n ps all in TraitsNumbered d → ScalarBounds bs → AllFit d l (flat_map (bound_uses (with_own d l)) bs)
     → list_any (is_use_of n) (flat_map (bound_uses d) bs) ≡ false
@@ -105,6 +109,7 @@ bounds-good d f a n ps all (b ∷ bs) k s h u =
   where
     apart : (m : List ℕ) → bytes_eq m n ≡ false → bytes_eq n m ≡ false
     apart m e = turned n m e
+
     later : (xs ys : List Use) → list_any (is_use_of n) (xs ++ ys) ≡ false → list_any (is_use_of n) ys ≡ false
     later [] ys e = e
     later (x ∷ xs) ys e = later xs ys (or-right (is_use_of n x) _ e)
@@ -122,6 +127,7 @@ sorts-are ps =
     one : (s : Sort) (ns : List (List ℕ)) → map (λ (p : List ℕ × Sort). p.1) (with_sort s ns) ≡ map (λ (n : List ℕ). s) ns
     one s [] = refl
     one s (n ∷ ns) = ap (λ l. s ∷ l) (one s ns)
+
     two : {a b c d : List Sort} → a ≡ b → c ≡ d → a ++ c ≡ b ++ d
     two p q = cc
 
@@ -162,6 +168,7 @@ module _ (d : Declarations) (ps : Params) (h : Clause) (ks : List Clause) (bare 
       not-not : (b : Bool) → not b ≡ false → b ≡ true
       not-not true q = refl
       not-not false q = absurd cc
+
       by : (b : Bool) → bytes_eq m n ≡ b → b || is_among n ms ≡ true → (is_among n ms ≡ true → list_any (is_name_use n) (header_uses d h) ≡ true) → list_any (is_name_use n) (header_uses d h) ≡ true
       by true e q r = subst (λ z. list_any (is_name_use z) (header_uses d h) ≡ true) (same-names m n e) (not-not _ (or-left _ _ f))
       by false e q r = r q

@@ -8,8 +8,14 @@ mod Lines
 mod Params
 mod ScalarTokens
 mod Items
+mod Spoken
+mod Applied
 mod Texts
 mod Views
 mod Headers
 mod Heights
 mod WellSeen
+mod Matched
+mod Told
+mod ReadySeen
+mod SolverReady

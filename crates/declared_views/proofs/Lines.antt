@@ -1,28 +1,24 @@
 -- What a line without a fault declares is declared well.
-use Rattle.std.proofs.Common.{◌≡◌, ℕ, zero, suc, ◌+◌, ◌<◌, Bool, true, false, ◌&&◌, ◌||◌, List, [], ◌∷◌, ◌++◌, map, length, Option, Some, None, append_assoc, refl, sym, ap, ◌∙◌, subst, arith}
-use Rattle.std.proofs.lemmas.Bool.{eqb-true, eq-eqb}
-use Rattle.std.specs.Prelude.{not, if◌then◌else◌, ◌==◌, slice_get}
-use Rattle.std.specs.List.{list_any, list_all, flat_map}
+use Rattle.std.proofs.Common.{◌≡◌, ℕ, zero, suc, ◌+◌, ◌<◌, Bool, true, false, ◌&&◌, ◌||◌, List, [], ◌∷◌, ◌++◌, map, length, Some, append_assoc, refl, sym, ap, ◌∙◌, subst, arith}
+use Rattle.std.specs.Prelude.{not, if◌then◌else◌, slice_get}
+use Rattle.std.specs.List.{list_all}
 use Rattle.std.specs.Option.{option_map_or}
 use Rattle.std.specs.Str.{bytes_eq}
-use Rattle.model.specs.Label.{Label, Sort, of_lifetime, of_type, of_const, param}
-use Rattle.model.specs.Trees.{Trees, none, tree, leaf, some_node, is_sort, ◌+++◌}
-use Rattle.model.specs.Worlds.{Reference}
-use Rattle.type_terms.specs.Made.{terms, is_made}
-use Rattle.text_definitions.specs.Syntax.{TypeTree, of_primitive, never_type, variable_type, named, reference_to, pointer_to, slice_of, array_of, tuple_of, fn_of, fn_to, dyn_of, Types, no_types, and_type, Params, Bound, Clause, Line, crate_line, struct_line, trait_line, impl_line}
-use Rattle.text_definitions.specs.Declarations.{Declarations, NamedStruct, NamedTrait, NamedImpl, kinds_of, sorted_names, with_sort}
-use Rattle.text_definitions.specs.Uses.{Use, name_use, type_uses, types_uses, bound_uses, clause_uses, header_uses, params_of}
-use Rattle.text_definitions.specs.Faults.{with_own, is_among, repeats}
-use Rattle.text_definitions.specs.Lowering.{place_among, type_tree, args_trees, field_trees, with_self, clause_reference}
+use Rattle.model.specs.Label.{Sort, of_lifetime, of_type, of_const, param}
+use Rattle.model.specs.Trees.{Trees, is_sort}
+use Rattle.text_definitions.specs.Syntax.{TypeTree, of_primitive, never_type, variable_type, named, reference_to, pointer_to, slice_of, array_of, tuple_of, fn_of, fn_to, dyn_of, Types, no_types, and_type, Params, Line}
+use Rattle.text_definitions.specs.Declarations.{Declarations, kinds_of}
+use Rattle.text_definitions.specs.Uses.{type_uses, types_uses, params_of}
+use Rattle.text_definitions.specs.Faults.{with_own, is_among}
+use Rattle.text_definitions.specs.Lowering.{place_among, type_tree, field_trees}
 use Rattle.text_definitions.specs.Adding.{item_meanings}
-use Rattle.assembly_laws.specs.Declared.{is_declared}
 use Rattle.assembly_laws.specs.DeclaredWell.{is_single}
-use Rattle.view_lowering.specs.Plain.{plain, all_kept, none_kept, stands_in}
-use Rattle.declared_views.proofs.Sorts.{has_sort, is_bad}
+use Rattle.view_lowering.specs.Plain.{all_kept}
+use Rattle.declared_views.proofs.Sorts.{has_sort}
 use Rattle.declared_views.proofs.Tests.{is_good}
-use Rattle.declared_views.proofs.Scalars.{Scalars, ScalarTypes, ScalarArgs}
-use Rattle.declared_views.proofs.Trees.{Good, good-append, good-param, and, and-left, and-right}
-use Rattle.declared_views.proofs.Types.{AllFit, first-fit, rest-fit, NumberedBy, Numbered, good-type, good-args}
+use Rattle.declared_views.proofs.Scalars.{ScalarTypes}
+use Rattle.declared_views.proofs.Trees.{Good, and}
+use Rattle.declared_views.proofs.Types.{AllFit, first-fit, rest-fit, NumberedBy, Numbered, good-type}
 
 -- ---- the sorts of a line's parameters, by number
 place-found : (n : List ℕ) (ns : List (List ℕ)) → is_among n ns ≡ true → place_among n ns < length ns
@@ -49,7 +45,7 @@ behind s (n ∷ ns) rest i = ap (slice_get (s ∷ (of-sort s ns ++ rest))) (more
     more : (k : ℕ) → suc k + i ≡ suc (k + i)
     more k = omega arith
 
-sort-self : (s : Sort) → is_sort s s ≡ true
+pub sort-self : (s : Sort) → is_sort s s ≡ true
 sort-self of_type = refl
 sort-self of_const = refl
 sort-self of_lifetime = refl

@@ -1,14 +1,14 @@
 -- The parameters of an impl that its header uses stand there.
-use Rattle.std.proofs.Common.{◌≡◌, ℕ, zero, suc, ◌+◌, ◌<◌, Bool, true, false, ◌&&◌, ◌||◌, List, [], ◌∷◌, ◌++◌, map, length, append-nil, append_assoc, length-append, Option, Some, None, refl, sym, ap, ◌∙◌, subst, arith}
-use Rattle.std.specs.Prelude.{not, if◌then◌else◌}
+use Rattle.std.proofs.Common.{◌≡◌, ℕ, suc, ◌+◌, Bool, true, false, ◌||◌, List, [], ◌∷◌, ◌++◌, map, length, append-nil, append_assoc, length-append, refl, sym, ap, ◌∙◌, subst, arith}
+use Rattle.std.specs.Prelude.{if◌then◌else◌}
 use Rattle.std.specs.List.{list_any}
 use Rattle.std.specs.Option.{option_map_or}
 use Rattle.std.specs.Str.{bytes_eq}
 use Rattle.std.proofs.lemmas.Slice.Eq.{bytes_eq-Decides}
-use Rattle.model.specs.Label.{Label, Sort, of_lifetime, of_type, of_const, param}
-use Rattle.model.specs.Trees.{Trees, some_node, is_sort}
+use Rattle.model.specs.Label.{Sort, of_lifetime, of_type, of_const}
+use Rattle.model.specs.Trees.{Trees, some_node}
 use Rattle.text_definitions.specs.Syntax.{Params, Line}
-use Rattle.text_definitions.specs.Declarations.{Declarations, Known, a_crate, a_struct, a_trait, known, kinds_of}
+use Rattle.text_definitions.specs.Declarations.{Declarations, known, kinds_of}
 use Rattle.text_definitions.specs.Uses.{Use, crate_use, name_use, trait_use, lifetime_use, binder_use, variable_use, misfit_use, dyn_use, items_use, number_use, params_of}
 use Rattle.text_definitions.specs.Faults.{with_own, is_among, repeats, is_param, is_param_of, is_type_of, is_name_use}
 use Rattle.text_definitions.specs.Lowering.{place_among}
@@ -101,6 +101,7 @@ repeats-first (x ∷ xs) ys h = by (is_among x xs) refl (repeats-first xs ys (or
         join : (a b : Bool) → a ≡ false → b ≡ false → a || b ≡ false
         join false b p q = q
         join true b p q = absurd cc
+
     by : (b : Bool) → is_among x xs ≡ b → repeats xs ≡ false → b || repeats xs ≡ false
     by false e g = g
     by true e g = absurd (clash (is_among x xs) e (fewer xs (or-left (is_among x (xs ++ ys)) _ h)))
@@ -158,9 +159,11 @@ module _ (d : Declarations) (l : Line) (apart : repeats ((params_of l).types ++ 
           some : (b : Bool) {c : Bool} → c ≡ true → b || c ≡ true
           some true e = refl
           some false e = e
+
       clash : (b : Bool) → b ≡ true → b ≡ false → ⊥
       clash true p q = absurd cc
       clash false p q = absurd cc
+
       by : (b : Bool) → bytes_eq x n ≡ b → b || is_among n xs ≡ true → (is_among n xs ≡ true → ⊥) → ⊥
       by true e q w = clash (is_among n (xs ++ ys)) (shown xs g) (subst (λ z. is_among z (xs ++ ys) ≡ false) (same-names x n e) (or-left (is_among x (xs ++ ys)) _ r))
       by false e q w = w q

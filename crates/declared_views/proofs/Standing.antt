@@ -1,5 +1,5 @@
 -- A parameter that the types of a line use stands in their trees.
-use Rattle.std.proofs.Common.{◌≡◌, ℕ, zero, suc, ◌+◌, Bool, true, false, ◌&&◌, ◌||◌, List, [], ◌∷◌, ◌++◌, map, length, Option, Some, None, refl, sym, ap, ◌∙◌, subst, arith}
+use Rattle.std.proofs.Common.{◌≡◌, ℕ, suc, ◌+◌, Bool, true, false, ◌&&◌, ◌||◌, List, [], ◌∷◌, ◌++◌, length, Option, Some, None, refl, sym, subst, arith}
 use Rattle.std.proofs.lemmas.Bool.{eqb-true, eq-eqb}
 use Rattle.std.specs.Prelude.{not, if◌then◌else◌, ◌==◌}
 use Rattle.std.specs.List.{list_any}
@@ -9,14 +9,14 @@ use Rattle.model.specs.Label.{Label, Sort, of_lifetime, of_type, of_const, tuple
 use Rattle.model.specs.Trees.{Trees, none, tree, leaf, some_node, is_sort, ◌+++◌}
 use Rattle.text_definitions.specs.Syntax.{TypeTree, of_primitive, never_type, variable_type, named, reference_to, pointer_to, slice_of, array_of, tuple_of, fn_of, fn_to, dyn_of, Types, no_types, and_type, Args, no_args, and_arg, Arg, lifetime_arg, number_arg, type_arg, Item, bound_item, lifetime_item, Items, no_items, and_item, Length, number_length, name_length, variable_length, Line}
 use Rattle.text_definitions.specs.Declarations.{Declarations, Known, a_crate, a_struct, a_trait, known}
-use Rattle.text_definitions.specs.Uses.{Use, crate_use, name_use, trait_use, lifetime_use, binder_use, variable_use, misfit_use, dyn_use, items_use, number_use, item_shape, item_shapes, args_count, types_count, kinds_of_struct, kinds_of_trait, next_kind, other_kinds, type_misfits, length_uses, lifetime_uses, lifetime_arg_uses, number_arg_uses, binder_uses, type_uses, types_uses, args_uses, arg_uses, item_uses, items_uses, params_of}
+use Rattle.text_definitions.specs.Uses.{Use, name_use, trait_use, dyn_use, items_use, item_shape, item_shapes, args_count, types_count, kinds_of_struct, kinds_of_trait, next_kind, other_kinds, length_uses, lifetime_uses, binder_uses, type_uses, types_uses, args_uses, arg_uses, item_uses, items_uses, params_of}
 use Rattle.text_definitions.specs.Faults.{with_own, is_among, is_param, is_param_of, is_type_of, is_trait_of, is_late, is_auto_name}
-use Rattle.text_definitions.specs.Lowering.{Meanings, place_among, type_label, const_label, lifetime_label, optional_lifetime, length_label, struct_label, trait_number, auto_leaves, autos, with_auto, last_lifetime, type_tree, types_trees, args_trees, arg_tree, item_tree, items_trees}
+use Rattle.text_definitions.specs.Lowering.{Meanings, place_among, type_label, const_label, optional_lifetime, length_label, struct_label, trait_number, auto_leaves, autos, with_auto, last_lifetime, type_tree, types_trees, args_trees, arg_tree, item_tree, items_trees}
 use Rattle.text_definitions.specs.Adding.{item_meanings}
 use Rattle.grammar_laws.specs.Faultless.{UseFits}
 use Rattle.assembly_laws.specs.Candidates.{is_param as is_label_of}
 use Rattle.declared_views.proofs.Trees.{or-left, or-right}
-use Rattle.declared_views.proofs.Types.{AllFit, first-fit, rest-fit, IsFixed}
+use Rattle.declared_views.proofs.Types.{AllFit, first-fit, rest-fit}
 
 -- ---- tests of lists and of trees
 any-first : {A : Type 0} (q : A → Bool) (xs ys : List A) → list_any q xs ≡ true → list_any q (xs ++ ys) ≡ true
@@ -155,6 +155,7 @@ module _ (d : Declarations) (l : Line) (first : ℕ) (bare : AutosAreBare (with_
       none-counted : (xs : Args) → (0 == args_count xs) ≡ true → xs ≡ no_args
       none-counted no_args g = refl
       none-counted (and_arg x xs) g = absurd (omega (arith, eqb-true 0 (suc (args_count xs)) g))
+
       by : (o : Option Known) → known (with_own d l) m ≡ o → option_map_or (λ k. elim k [ a_crate i ↦ false | a_struct i h kinds ↦ false | a_trait i h b kinds ↦ b ]) o false ≡ true
           → option_map_or (is_trait_of (args_count args)) o false ≡ true → args ≡ no_args
       by None e g t = absurd cc
@@ -172,8 +173,10 @@ module _ (d : Declarations) (l : Line) (first : ℕ) (bare : AutosAreBare (with_
       not-not : (c : Bool) → not c ≡ false → c ≡ true
       not-not true g = refl
       not-not false g = absurd cc
+
       bare-args : args ≡ no_args
       bare-args = auto-bare m args (not-not _ e) (rest-fit d l (binder_uses s b) (trait_use m (args_count args) ∷ args_uses (with_own d l) (b ∷ s) (kinds_of_trait (known (with_own d l) m)) args) f).0.0
+
       by : Either (used (binder_uses s b)) (used (trait_use m (args_count args) ∷ args_uses (with_own d l) (b ∷ s) (kinds_of_trait (known (with_own d l) m)) args)) → ⊥
       by (this g) = no-binder s b g
       by (that g) = false-true (subst (λ x. used (args_uses (with_own d l) (b ∷ s) (kinds_of_trait (known (with_own d l) m)) x) ≡ true) bare-args g)
@@ -185,9 +188,11 @@ module _ (d : Declarations) (l : Line) (first : ℕ) (bare : AutosAreBare (with_
       one : (a b : Bool) → a || b ≡ false → a ≡ false
       one false b g = refl
       one true b g = absurd cc
+
       second : (a b : Bool) → a || b ≡ false → b ≡ false
       second false b g = g
       second true b g = absurd cc
+
       by : Either (used (item_uses (with_own d l) s i)) (used (items_uses (with_own d l) s is)) → (used (items_uses (with_own d l) s is) ≡ true → ⊥) → ⊥
       by (this g) r = late-unused s i (first-fit d l (item_uses (with_own d l) s i) (items_uses (with_own d l) s is) f) (one (is_late (with_own d l) (item_shape i)) _ e) g
       by (that g) r = r g
@@ -202,9 +207,11 @@ module _ (d : Declarations) (l : Line) (first : ℕ) (bare : AutosAreBare (with_
       none-counted : (xs : Args) → (args_count xs == 0) ≡ true → xs ≡ no_args
       none-counted no_args g = refl
       none-counted (and_arg x xs) g = absurd (omega (arith, eqb-true (suc (args_count xs)) 0 g))
+
       second : (a b : Bool) → a && b ≡ true → b ≡ true
       second true b g = g
       second false b g = absurd cc
+
       by : (b : Bool) (o : Option Known) → (if b then is_param_of l of_const m (args_count args) else option_map_or (is_type_of of_const (args_count args)) o false) ≡ true → (args_count args == 0) ≡ true
       by true o g = second _ _ g
       by false None g = absurd cc
@@ -276,6 +283,7 @@ module _ (d : Declarations) (l : Line) (first : ℕ) (bare : AutosAreBare (with_
       where
         fits : UseFits d l (trait_use m (args_count args))
         fits = (rest-fit d l (binder_uses s b) (trait_use m (args_count args) ∷ args_uses (with_own d l) (b ∷ s) (kinds_of_trait (known (with_own d l) m)) args) f).0.0
+
         by : (a : Bool) → is_auto_name (with_own d l) m ≡ a → used (args_uses (with_own d l) (b ∷ s) (kinds_of_trait (known (with_own d l) m)) args) ≡ true
             → (used (args_uses (with_own d l) (b ∷ s) (kinds_of_trait (known (with_own d l) m)) args) ≡ true → some_node q (args_trees means (b ∷ s) (kinds_of_trait (known (with_own d l) m)) args) ≡ true)
             → some_node q (if a then none else tree (principal (length b) (trait_number (known (with_own d l) m))) (args_trees means (b ∷ s) (kinds_of_trait (known (with_own d l) m)) args) none) ≡ true

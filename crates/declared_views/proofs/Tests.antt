@@ -1,8 +1,8 @@
 -- Items of a text that are declared well once they are plain.
-use Rattle.std.specs.Prelude.{ℕ, suc, Bool, true, false, ◌&&◌, ◌==◌, not, List, [], ◌∷◌, map, length, nat_lt}
+use Rattle.std.specs.Prelude.{ℕ, suc, Bool, true, ◌&&◌, ◌==◌, not, List, [], ◌∷◌, length, nat_lt}
 use Rattle.std.specs.List.{list_all}
 use Rattle.model.specs.Label.{Sort, of_type, of_const, of_lifetime}
-use Rattle.model.specs.Trees.{Trees, none, tree, some_node}
+use Rattle.model.specs.Trees.{Trees, some_node}
 use Rattle.model.specs.Worlds.{Reference}
 use Rattle.type_terms.specs.Made.{terms, is_made}
 use Rattle.text_definitions.specs.Declarations.{Declarations, NamedStruct, NamedTrait, NamedImpl}

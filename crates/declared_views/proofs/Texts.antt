@@ -1,28 +1,28 @@
 -- What a text without a fault declares is declared well.
-use Rattle.std.proofs.Common.{◌≡◌, ℕ, zero, suc, ◌+◌, ◌<◌, Bool, true, false, ◌&&◌, ◌||◌, List, [], ◌∷◌, ◌++◌, map, length, append-nil, Option, Some, None, Result, Ok, Err, refl, sym, ap, ◌∙◌, subst, arith}
+use Rattle.std.proofs.Common.{◌≡◌, ℕ, zero, suc, ◌+◌, Bool, true, false, ◌&&◌, ◌||◌, List, [], ◌∷◌, ◌++◌, length, Option, Some, None, Result, Ok, Err, refl, sym, ap, ◌∙◌, subst, arith}
 use Rattle.std.proofs.lemmas.Bool.{ne_eqb}
 use Rattle.std.proofs.lemmas.List.Folds.{list_all-append}
 use Rattle.std.proofs.lemmas.Option.{same_Some}
 use Rattle.std.specs.Prelude.{not, if◌then◌else◌, ◌==◌, slice_get, find}
-use Rattle.std.specs.List.{list_any, list_all, flat_map}
-use Rattle.std.specs.Option.{option_map, option_or}
+use Rattle.std.specs.List.{list_all}
+use Rattle.std.specs.Option.{option_map, option_map_or, option_or}
 use Rattle.std.specs.Str.{bytes_eq}
 use Rattle.model.specs.Label.{Sort}
-use Rattle.text_definitions.specs.Syntax.{Types, Params, Bound, Clause, Line, crate_line, struct_line, trait_line, impl_line, prove_line, refute_line}
-use Rattle.text_definitions.specs.Declarations.{Declarations, NamedCrate, NamedStruct, NamedTrait, NamedImpl, Known, a_crate, a_struct, a_trait, known, nothing_declared, kinds_of}
+use Rattle.text_definitions.specs.Syntax.{Params, Bound, Line, crate_line, struct_line, trait_line, impl_line, prove_line, refute_line}
+use Rattle.text_definitions.specs.Declarations.{Declarations, NamedCrate, NamedStruct, NamedTrait, Known, a_crate, a_struct, a_trait, nothing_declared, kinds_of}
 use Rattle.text_definitions.specs.Uses.{uses, params_of}
-use Rattle.text_definitions.specs.Faults.{fault_of, with_own, is_any, variables_in, repeats, is_taken_param, takes_names, is_among, static_name, is_loaded_auto, has_free_param, bounds_use_own}
+use Rattle.text_definitions.specs.Faults.{fault_of, with_own, repeats, takes_names, is_loaded_auto}
 use Rattle.text_definitions.specs.Adding.{added, struct_of, trait_of, impl_of, item_meanings}
 use Rattle.text_definitions.specs.Written.{IsWritten}
 use Rattle.text_definitions.specs.Text.{LineGives, other_byte, blank, unwritten, faulty, adds, LinesGive, ends, fails, goes_on, TextGives, too_long, fits}
-use Rattle.grammar_laws.specs.Faultless.{PassesTests}
+use Rattle.declarations.specs.Merges.{Each}
 use Rattle.grammar_laws.proofs.NoFault.{passes-tests}
 use Rattle.grammar_laws.proofs.FittingUses.{faultless-uses}
-use Rattle.declared_views.proofs.Tests.{is_good_struct, is_good_trait, is_good_impl, are_good}
-use Rattle.declared_views.proofs.Trees.{and, and-left, and-right, or-left, or-right}
-use Rattle.declared_views.proofs.Types.{AllFit}
+use Rattle.declared_views.proofs.Tests.{is_good_struct, is_good_trait, is_good_impl}
+use Rattle.declared_views.proofs.Trees.{and-left, and-right, or-left, or-right}
 use Rattle.declared_views.proofs.ScalarTokens.{struct-scalars, trait-scalars, impl-scalars}
 use Rattle.declared_views.proofs.Standing.{AutosAreBare}
+use Rattle.declared_views.proofs.Applied.{BoundsFit, each-more, still-fit, bounds-still-fit, bounds-fit}
 use Rattle.declared_views.proofs.Items.{TraitsNumbered, all-fit, good-struct, good-trait, good-impl}
 
 -- ---- what is kept from line to line
@@ -41,6 +41,7 @@ pub record Well (d : Declarations) : Type 0 where
   pub struct_numbers : (k : ℕ) (x : NamedStruct) → slice_get d.structs k ≡ Some x → x.item.name ≡ k
   pub trait_numbers : TraitsNumbered d
   pub bare : list_all is_bare d.traits ≡ true
+  pub bounds : Each (BoundsFit d.traits) d.traits
 
 -- ---- lists
 one-more : {A : Type 0} (p : A → Bool) (xs : List A) (x : A) → list_all p xs ≡ true → p x ≡ true → list_all p (xs ++ x ∷ []) ≡ true
@@ -56,8 +57,10 @@ at-place number xs x h e k y g = by xs 0 (λ j z q. h j z q ∙ plus-zero j) (e 
   where
     plus-zero : (n : ℕ) → n ≡ 0 + n
     plus-zero n = omega arith
+
     more : (a i : ℕ) → a + suc i ≡ suc a + i
     more a i = omega arith
+
     by : (zs : List _) (b : ℕ) → ((j : ℕ) (z : _) → slice_get zs j ≡ Some z → number z ≡ b + j) → number x ≡ b + length zs → (j : ℕ) → slice_get (zs ++ x ∷ []) j ≡ Some y → number y ≡ b + j
     by [] b f n zero q = ap number (sym (same_Some x y q)) ∙ n
     by [] b f n (suc j) q = absurd cc
@@ -90,6 +93,7 @@ autos-bare d h n k home ks e = by (find (λ (c : NamedCrate). bytes_eq c.text n)
     nil true [] g q = refl
     nil true (s ∷ xs) g q = absurd cc
     nil false xs g q = absurd cc
+
     by : (c : Option NamedCrate) (s : Option NamedStruct) (t : Option NamedTrait) → find (λ (x : NamedTrait). bytes_eq x.text n) d.traits ≡ t
         → option_or (option_map (λ (x : NamedCrate). a_crate x.item.name) c) (option_or (option_map (λ (x : NamedStruct). a_struct x.item.name x.item.home x.kinds) s) (option_map (λ (x : NamedTrait). a_trait x.item.name x.item.home x.item.is_auto x.kinds) t))
         ≡ Some (a_trait k home true ks) → ks ≡ []
@@ -112,17 +116,18 @@ bare-auto true f n ps bs h = by (kinds_of ps) h
     clash : (x y : Bool) → x ≡ false → not (x && y) ≡ false → {A : Type 0} → A
     clash false y e q = absurd cc
     clash true y e q = absurd cc
+
     by : (ks : List Sort) → not ((length ks == 0) && (length bs == 0)) ≡ false → is_nil ks ≡ true
     by [] g = refl
     by (k ∷ ks) g = clash (length (k ∷ ks) == 0) (length bs == 0) (ne_eqb (suc (length ks)) 0 (λ e. omega (arith, e))) g
 
 line-added : (d : Declarations) (line : List ℕ) (l : Line) → IsWritten line l → fault_of d l ≡ None → Well d → Well (added d l)
 line-added d line (crate_line n us) w f h =
-    record { structs = h.structs; traits = h.traits; impls = h.impls; struct_numbers = h.struct_numbers; trait_numbers = h.trait_numbers; bare = h.bare }
+    record { structs = h.structs; traits = h.traits; impls = h.impls; struct_numbers = h.struct_numbers; trait_numbers = h.trait_numbers; bare = h.bare; bounds = h.bounds }
 line-added d line (prove_line c ps a ks) w f h =
-    record { structs = h.structs; traits = h.traits; impls = h.impls; struct_numbers = h.struct_numbers; trait_numbers = h.trait_numbers; bare = h.bare }
+    record { structs = h.structs; traits = h.traits; impls = h.impls; struct_numbers = h.struct_numbers; trait_numbers = h.trait_numbers; bare = h.bare; bounds = h.bounds }
 line-added d line (refute_line c ps a) w f h =
-    record { structs = h.structs; traits = h.traits; impls = h.impls; struct_numbers = h.struct_numbers; trait_numbers = h.trait_numbers; bare = h.bare }
+    record { structs = h.structs; traits = h.traits; impls = h.impls; struct_numbers = h.struct_numbers; trait_numbers = h.trait_numbers; bare = h.bare; bounds = h.bounds }
 line-added d line (struct_line g n ps fs) w f h =
     let l = struct_line g n ps fs in
     let p = passes-tests d l f in
@@ -135,6 +140,7 @@ line-added d line (struct_line g n ps fs) w f h =
       struct_numbers = at-place (λ (y : NamedStruct). y.item.name) d.structs x h.struct_numbers refl;
       trait_numbers = h.trait_numbers;
       bare = h.bare;
+      bounds = h.bounds;
     }
 line-added d line (trait_line g a n ps bs) w f h =
     let l = trait_line g a n ps bs in
@@ -148,6 +154,8 @@ line-added d line (trait_line g a n ps bs) w f h =
       struct_numbers = h.struct_numbers;
       trait_numbers = at-place (λ (y : NamedTrait). y.item.name) d.traits x h.trait_numbers refl;
       bare = one-more is_bare d.traits x h.bare (bare-auto a g n ps bs p.is_bare_auto);
+      bounds = each-more (BoundsFit (d.traits ++ x ∷ [])) d.traits x (bounds-still-fit d.traits (x ∷ []) d.traits h.bounds)
+          (still-fit d.traits (x ∷ []) x.item.bounds (bounds-fit d g a n ps bs bs h.trait_numbers (trait-scalars line g a n ps bs w) fit p.has_other_bounds));
     }
 line-added d line (impl_line ps k ks) w f h =
     let l = impl_line ps k ks in
@@ -161,6 +169,7 @@ line-added d line (impl_line ps k ks) w f h =
       struct_numbers = h.struct_numbers;
       trait_numbers = h.trait_numbers;
       bare = h.bare;
+      bounds = h.bounds;
     }
 
 -- ---- texts
@@ -189,8 +198,10 @@ places {A = A} number xs h k x e = by xs 0 h k e ∙ plus-zero k
   where
     plus-zero : (n : ℕ) → 0 + n ≡ n
     plus-zero n = omega arith
+
     more : (a i : ℕ) → suc a + i ≡ a + suc i
     more a i = omega arith
+
     by : (zs : List A) (b : ℕ) → AtPlaces number b zs → (j : ℕ) → slice_get zs j ≡ Some x → number x ≡ b + j
     by [] b f j q = absurd cc
     by (z ∷ zs) b f zero q = ap number (sym (same_Some z x q)) ∙ f.0 ∙ sym (no-more b)
@@ -198,6 +209,9 @@ places {A = A} number xs h k x e = by xs 0 h k e ∙ plus-zero k
         no-more : (n : ℕ) → n + 0 ≡ n
         no-more n = omega arith
     by (z ∷ zs) b f (suc j) q = by zs (suc b) f.1 j q ∙ more b j
+
+abbrev core_trait_named : ℕ → NamedTrait
+core_trait_named k = option_map_or (λ t. t) (slice_get nothing_declared.traits k) (record { text = []; kinds = []; item = record { name = 0; home = 0; is_fundamental = false; is_auto = false; bounds = [] } })
 
 core-well : Well nothing_declared
 core-well =
@@ -208,6 +222,7 @@ core-well =
       struct_numbers = places (λ (y : NamedStruct). y.item.name) nothing_declared.structs (refl, tt);
       trait_numbers = places (λ (y : NamedTrait). y.item.name) nothing_declared.traits (refl, (refl, (refl, (refl, (refl, (refl, (refl, (refl, (refl, tt)))))))));
       bare = refl;
+      bounds = (tt, (((core_trait_named 0, refl, refl), tt), (((core_trait_named 1, refl, refl), tt), (tt, (tt, (tt, (((core_trait_named 5, refl, refl), tt), (((core_trait_named 6, refl, refl), tt), (tt, tt)))))))));
     }
 
 text-well : (bytes : List ℕ) (r : Result Declarations (ℕ × ℕ)) → TextGives bytes r → WellIfTaken r

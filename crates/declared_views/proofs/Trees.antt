@@ -1,10 +1,10 @@
 -- Trees that are made as declarations are to be, once they are plain: their parts.
-use Rattle.std.proofs.Common.{◌≡◌, ℕ, zero, suc, Bool, true, false, ◌&&◌, ◌||◌, List, refl, sym, ap, ◌∙◌, subst}
+use Rattle.std.proofs.Common.{◌≡◌, ℕ, Bool, true, false, ◌&&◌, ◌||◌, List, refl}
 use Rattle.std.specs.Prelude.{not, if◌then◌else◌}
 use Rattle.model.specs.Label.{Label, Sort, of_lifetime, of_type, of_const, bool, char, str, never, array, slice, tuple, dynamic, static, int, uint, adt, fn_ptr, auto_trait, value, ref, raw_pointer, principal, param, placeholder, infer, canonical, bound, predicate}
-use Rattle.model.specs.Trees.{Trees, none, tree, leaf, some_node, is_no_tree, sort_of, is_sort, ◌+++◌}
-use Rattle.type_terms.specs.Made.{terms, bounds, traits, is_made, is_leaf_label}
-use Rattle.assembly_laws.specs.Declared.{is_declared, is_counted}
+use Rattle.model.specs.Trees.{Trees, none, tree, leaf, some_node, is_no_tree, ◌+++◌}
+use Rattle.type_terms.specs.Made.{terms, bounds, traits, is_made}
+use Rattle.assembly_laws.specs.Declared.{is_declared}
 use Rattle.view_lowering.specs.Plain.{plain_label, plain}
 use Rattle.declared_views.proofs.Sorts.{has_sort, is_bad}
 
@@ -51,6 +51,7 @@ module _ (kept : ℕ → Bool) (sorts : List Sort) where
       last true true false r q = absurd cc
       last true false d r q = absurd cc
       last false b d r q = absurd cc
+
       by : (m : Label) → is_made is_declared terms (tree m (plain kept c) (plain kept o)) ≡ true → (is_made is_declared terms (plain kept o) ≡ true → is_made is_declared terms (plain kept (o +++ y)) ≡ true)
           → is_made is_declared terms (tree m (plain kept c) (plain kept (o +++ y))) ≡ true
       by dynamic q r = last true true (is_made is_declared bounds (plain kept c)) r q
@@ -158,6 +159,7 @@ module _ (kept : ℕ → Bool) (sorts : List Sort) where
       made : (b : Bool) → is_made is_declared terms (leaf (if b then param of_lifetime i else static)) ≡ true
       made true = refl
       made false = refl
+
       fits : (b : Bool) → some_node (is_bad sorts) (leaf (if b then param of_lifetime i else static)) ≡ false
       fits true = param-fits of_lifetime i h
       fits false = refl
@@ -183,9 +185,11 @@ module _ (kept : ℕ → Bool) (sorts : List Sort) where
       none-first : (b : Bool) → is_made is_declared bounds (leaf (if b then param of_lifetime i else static)) ≡ true
       none-first true = refl
       none-first false = refl
+
       some-first : (b : Bool) → is_made is_declared traits (leaf (if b then param of_lifetime i else static)) ≡ true
       some-first true = refl
       some-first false = refl
+
       fits : (b : Bool) → some_node (is_bad sorts) (leaf (if b then param of_lifetime i else static)) ≡ false
       fits true = param-fits of_lifetime i h
       fits false = refl

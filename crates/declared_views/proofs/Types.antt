@@ -1,5 +1,5 @@
 -- The types of a line without a fault are made as declarations are to be, once they are plain.
-use Rattle.std.proofs.Common.{◌≡◌, ℕ, zero, suc, ◌+◌, Bool, true, false, ◌&&◌, ◌||◌, List, [], ◌∷◌, ◌++◌, map, length, Option, Some, None, refl, sym, ap, ◌∙◌, subst, arith}
+use Rattle.std.proofs.Common.{◌≡◌, ℕ, suc, ◌+◌, Bool, true, false, ◌&&◌, ◌||◌, List, [], ◌∷◌, ◌++◌, length, Option, Some, None, refl, sym, ap, ◌∙◌, subst, arith}
 use Rattle.std.proofs.lemmas.Bool.{eqb-true}
 use Rattle.std.specs.Prelude.{not, if◌then◌else◌, ◌==◌}
 use Rattle.std.specs.List.{list_any}
@@ -7,18 +7,16 @@ use Rattle.std.specs.Option.{option_map_or}
 use Rattle.std.specs.Str.{bytes_eq}
 use Rattle.model.specs.Label.{Label, Sort, of_lifetime, of_type, of_const, bool, char, str, never, array, slice, tuple, dynamic, static, int, uint, adt, fn_ptr, auto_trait, value, ref, raw_pointer, principal, param, placeholder, infer, canonical, bound, predicate}
 use Rattle.model.specs.Trees.{Trees, none, tree, leaf, ◌+++◌}
-use Rattle.text_definitions.specs.Words.{Keyword, Sign}
-use Rattle.text_definitions.specs.Tokens.{Token, sign, keyword, name, lifetime, arrow}
-use Rattle.text_definitions.specs.Syntax.{TypeTree, of_primitive, never_type, variable_type, named, reference_to, pointer_to, slice_of, array_of, tuple_of, fn_of, fn_to, dyn_of, Types, no_types, and_type, Args, no_args, and_arg, Arg, lifetime_arg, number_arg, type_arg, Item, bound_item, lifetime_item, Items, no_items, and_item, Length, number_length, name_length, variable_length, Params, Line, Bound, Clause}
+use Rattle.text_definitions.specs.Syntax.{TypeTree, of_primitive, never_type, variable_type, named, reference_to, pointer_to, slice_of, array_of, tuple_of, fn_of, fn_to, dyn_of, Types, no_types, and_type, Args, no_args, and_arg, Arg, lifetime_arg, number_arg, type_arg, Item, bound_item, lifetime_item, Items, no_items, and_item, Length, number_length, name_length, variable_length, Params, Line}
 use Rattle.text_definitions.specs.Declarations.{Declarations, Known, a_crate, a_struct, a_trait, known}
-use Rattle.text_definitions.specs.Uses.{Use, crate_use, name_use, trait_use, lifetime_use, binder_use, variable_use, misfit_use, dyn_use, items_use, number_use, ItemShape, bound_shape, lifetime_shape, item_shape, item_shapes, args_count, types_count, kinds_of_struct, kinds_of_trait, next_kind, other_kinds, type_misfits, length_uses, lifetime_uses, lifetime_arg_uses, number_arg_uses, binder_uses, type_uses, types_uses, args_uses, arg_uses, item_uses, items_uses, bound_uses, clause_uses, params_of}
-use Rattle.text_definitions.specs.Faults.{with_own, is_among, is_param, is_param_of, is_type_of, is_in_scope, static_name, is_bad_dyn, is_late, is_auto_name, others}
-use Rattle.text_definitions.specs.Lowering.{Meanings, place_among, type_label, const_label, lifetime_under, lifetime_label, optional_lifetime, length_label, struct_label, trait_number, auto_leaves, autos, with_auto, item_lifetime, last_lifetime, type_tree, types_trees, args_trees, arg_tree, item_tree, items_trees, field_trees, with_self, clause_reference}
+use Rattle.text_definitions.specs.Uses.{Use, name_use, trait_use, variable_use, dyn_use, items_use, item_shape, item_shapes, args_count, types_count, kinds_of_struct, kinds_of_trait, next_kind, other_kinds, length_uses, lifetime_uses, binder_uses, type_uses, types_uses, args_uses, arg_uses, item_uses, items_uses, params_of}
+use Rattle.text_definitions.specs.Faults.{with_own, is_among, is_param, is_param_of, is_type_of, is_in_scope, static_name, is_late, is_auto_name}
+use Rattle.text_definitions.specs.Lowering.{Meanings, place_among, type_label, const_label, lifetime_under, lifetime_label, optional_lifetime, length_label, struct_label, trait_number, auto_leaves, autos, with_auto, item_lifetime, last_lifetime, type_tree, types_trees, args_trees, arg_tree, item_tree, items_trees}
 use Rattle.text_definitions.specs.Adding.{item_meanings}
 use Rattle.grammar_laws.specs.Faultless.{UseFits}
 use Rattle.declared_views.proofs.Sorts.{has_sort}
 use Rattle.view_lowering.proofs.Begins.{is_scalar}
-use Rattle.declared_views.proofs.Scalars.{Scalars, ScalarTypes, ScalarArgs, ScalarArg, ScalarItem, ScalarItems}
+use Rattle.declared_views.proofs.Scalars.{Scalars, ScalarTypes, ScalarArgs, ScalarArg, ScalarItem}
 use Rattle.declared_views.proofs.Trees.{Good, Ends, good-none, good-append, good-node, good-value, good-static, good-param, good-bound, ends-static, ends-bound, ends-param, ends-auto, good-dyn, good-bare-dyn, and-left, and-right, or-left, or-right}
 
 -- ---- uses, each of which fits, and none a variable
@@ -111,6 +109,7 @@ module _ (kept : ℕ → Bool) (sorts : List Sort) (d : Declarations) (l : Line)
       never-made : (b : Bool) → b ≡ true → b && true ≡ true
       never-made true h = refl
       never-made false h = absurd cc
+
       never-fits : (b : Bool) → b ≡ false → b || false ≡ false
       never-fits false h = refl
       never-fits true h = absurd cc

@@ -1,22 +1,20 @@
 -- What a crate sees of declarations that are good is declared well.
-use Rattle.std.proofs.Common.{◌≡◌, ℕ, zero, suc, ◌+◌, ◌<◌, ◌≤◌, Bool, true, false, cond, ◌&&◌, ◌||◌, List, [], ◌∷◌, ◌++◌, map, length, Option, Some, None, refl, sym, ap, ◌∙◌, subst, arith}
-use Rattle.std.proofs.lemmas.Bool.{eqb-true, eq-eqb, ne_eqb}
-use Rattle.std.proofs.lemmas.Bool.Decides.{Decides-ltb}
+use Rattle.std.proofs.Common.{◌≡◌, ℕ, zero, suc, ◌+◌, Bool, true, false, cond, ◌&&◌, ◌||◌, List, [], ◌∷◌, map, length, Option, Some, None, refl, sym, ap, ◌∙◌, subst, arith}
 use Rattle.std.proofs.lemmas.Option.{same_Some}
-use Rattle.std.specs.Prelude.{not, if◌then◌else◌, ◌==◌, slice_get, nat_lt, filter}
-use Rattle.std.specs.List.{list_any, list_all}
+use Rattle.std.specs.Prelude.{not, ◌==◌, slice_get, nat_lt, filter}
+use Rattle.std.specs.List.{list_all}
 use Rattle.std.specs.Option.{option_map_or}
-use Rattle.model.specs.Label.{Label, Sort, of_lifetime, of_type, of_const, bool, char, str, never, array, slice, tuple, dynamic, static, int, uint, adt, fn_ptr, auto_trait, value, ref, raw_pointer, principal, param, placeholder, infer, canonical, bound, predicate}
+use Rattle.model.specs.Label.{Label, Sort, of_lifetime, of_type, of_const, fn_ptr, principal, param, bound}
 use Rattle.model.specs.Trees.{Trees, none, tree, some_node, is_sort}
-use Rattle.model.specs.Worlds.{World, Reference, StructDecl, TraitDecl, ImplDecl}
+use Rattle.model.specs.Worlds.{Reference}
 use Rattle.type_terms.specs.Made.{terms, is_made}
 use Rattle.text_definitions.specs.Declarations.{NamedStruct, NamedTrait, NamedImpl}
 use Rattle.assembly_laws.specs.Candidates.{is_param}
-use Rattle.assembly_laws.specs.Declared.{is_declared, is_counted, are_terms, are_references, is_lifetime_parameter, is_otherwise, is_unsorted}
-use Rattle.assembly_laws.specs.DeclaredWell.{is_loose, is_single}
-use Rattle.view_lowering.specs.Plain.{plain_label, plain, plain_reference, plain_struct, plain_trait, plain_impl, all_kept, none_kept, is_lifetime, stands_in}
+use Rattle.assembly_laws.specs.Declared.{is_declared, is_counted, are_terms, are_references, is_lifetime_parameter}
+use Rattle.assembly_laws.specs.DeclaredWell.{is_single}
+use Rattle.view_lowering.specs.Plain.{plain_label, plain, plain_reference, plain_struct, plain_trait, plain_impl, all_kept, none_kept, stands_in}
 use Rattle.view_lowering.specs.Seen.{param_sorts}
-use Rattle.declared_views.proofs.Sorts.{has_sort, is_bad}
+use Rattle.declared_views.proofs.Sorts.{is_bad}
 use Rattle.declared_views.proofs.Tests.{is_good, is_good_struct, is_good_trait, is_good_impl, all_stand}
 use Rattle.declared_views.proofs.Trees.{and, and-left, and-right, or, or-left, or-right}
 
@@ -43,7 +41,7 @@ not-false false h = refl
 not-false true h = absurd cc
 
 -- a test that is false of each label of the tree by another
-some-weaker : (p q : Label → Bool) → ((l : Label) → p l ≡ false → q l ≡ false) → (t : Trees) → some_node p t ≡ false → some_node q t ≡ false
+pub some-weaker : (p q : Label → Bool) → ((l : Label) → p l ≡ false → q l ≡ false) → (t : Trees) → some_node p t ≡ false → some_node q t ≡ false
 some-weaker p q f none h = refl
 some-weaker p q f (tree l c o) h =
     or _ _ (or _ _ (f l (or-left (p l) _ (or-left (p l || some_node p c) _ h))) (some-weaker p q f c (or-right (p l) _ (or-left (p l || some_node p c) _ h)))) (some-weaker p q f o (or-right (p l || some_node p c) _ h))
@@ -122,6 +120,7 @@ sort-there sorts s i h = by (slice_get sorts i) refl (drop h)
         not-not : (b : Bool) → false || not b ≡ false → b ≡ true
         not-not true e = refl
         not-not false e = absurd cc
+
     by : (o : Option Sort) → slice_get sorts i ≡ o → option_map_or (is_sort s) o false ≡ true → slice_get sorts i ≡ Some s
     by None e g = absurd cc
     by (Some r) e g = e ∙ ap Some (sym (sort-same s r g))

@@ -1,5 +1,5 @@
 -- What a crate sees of a text without a fault is declared well.
-use Rattle.std.proofs.Common.{◌≡◌, ℕ, zero, suc, ◌+◌, ◌<◌, ◌≤◌, Bool, true, false, cond, ◌&&◌, ◌||◌, List, [], ◌∷◌, map, length, Option, Some, None, Ok, refl, sym, ap, ◌∙◌, subst, arith}
+use Rattle.std.proofs.Common.{◌≡◌, ℕ, zero, suc, ◌+◌, ◌<◌, Bool, true, false, cond, ◌&&◌, List, [], ◌∷◌, map, Some, Ok, refl, ◌∙◌, subst, arith}
 use Rattle.std.proofs.lemmas.Bool.{ne_eqb}
 use Rattle.std.proofs.lemmas.Bool.Decides.{Decides-ltb}
 use Rattle.std.proofs.lemmas.Option.{same_Some}
@@ -7,13 +7,12 @@ use Rattle.std.specs.Prelude.{not, ◌==◌, nat_lt, filter, slice_get}
 use Rattle.std.specs.List.{list_any, list_all}
 use Rattle.model.specs.Label.{of_type}
 use Rattle.model.specs.Trees.{some_node}
-use Rattle.model.specs.Proofs.{In}
-use Rattle.model.specs.Worlds.{World, Reference, StructDecl, TraitDecl, ImplDecl, sees}
+use Rattle.model.specs.Worlds.{Reference, StructDecl, TraitDecl, ImplDecl, sees}
 use Rattle.text_definitions.specs.Declarations.{Declarations, NamedStruct, NamedTrait, NamedImpl, world_of}
 use Rattle.text_definitions.specs.Text.{TextGives}
 use Rattle.assembly_laws.specs.Declared.{are_terms, are_references, is_lifetime_parameter, is_unsorted}
 use Rattle.assembly_laws.specs.DeclaredWell.{is_declared_well, is_loose, is_single, are_distinct}
-use Rattle.view_lowering.specs.Plain.{plain, plain_reference, plain_struct, plain_trait, plain_impl, none_kept, plainly_seen_from}
+use Rattle.view_lowering.specs.Plain.{plain_reference, plain_struct, plain_trait, plain_impl, none_kept, plainly_seen_from}
 use Rattle.declared_views.proofs.Tests.{is_good, is_good_struct, is_good_trait, is_good_impl}
 use Rattle.declared_views.proofs.Trees.{and, and-left, and-right, or}
 use Rattle.declared_views.proofs.Views.{seen-all, all-mapped, struct-terms, struct-single, trait-terms, trait-erased, impl-terms}
@@ -28,6 +27,7 @@ to-places number b (x ∷ xs) h = (h zero x refl ∙ no-more b, to-places number
   where
     no-more : (n : ℕ) → n + zero ≡ n
     no-more n = omega arith
+
     more : (a i : ℕ) → a + suc i ≡ suc a + i
     more a i = omega arith
 
@@ -51,6 +51,7 @@ module _ (pass : StructDecl → Bool) where
       no : (q : Bool) → q ≡ false → not q ≡ true
       no false e = refl
       no true e = absurd cc
+
       by : (q : Bool) → are_distinct (names ns) ≡ true
           → are_distinct (map (λ (x : StructDecl). x.name) (map plain_struct (cond q (n.item ∷ filter pass (map (λ (s : NamedStruct). s.item) ns)) (filter pass (map (λ (s : NamedStruct). s.item) ns))))) ≡ true
       by true g = and _ _ (no _ (above n.item.name (suc b) (omega (arith, p.0)) ns p.1)) g

@@ -1,11 +1,38 @@
 //! Mathematics without running code: what a crate sees of a text without a fault is declared well, so that goals can be decided by it.
 #![tactic(auto)]
 
+ghost use Rattle.declarations.specs.Applied.{HaveBounds};
 ghost use Rattle.declared_views.specs.Laws.{TextsAreDeclaredWell};
+ghost use Rattle.declared_views.specs.Ready.{OfTexts, FieldsSpeak, HeadersTell, ImplsSpeak};
+ghost use Rattle.declared_views.specs.Solving.{AreReady};
 
 /// Each crate of a text without a fault sees declarations by which goals can be decided: their terms are made as they are to be, of
 /// the item's own parameters and of no binder that counts its lifetimes; the where-clauses of an impl speak of parameters of its
 /// header; bounds lead down; and a number stands for one struct.
 pub fn texts_are_declared_well()
     ensures { TextsAreDeclaredWell }
+{}
+
+/// The fields of each struct that a crate sees of a text without a fault speak of the struct's parameters alone, each by its number and
+/// its sort.
+pub fn fields_speak_of_parameters()
+    ensures { OfTexts FieldsSpeak }
+{}
+
+/// The header of each impl that a crate sees of a text without a fault tells the kinds of the impl's parameters, and the header and the
+/// where-clauses speak of these alone.
+pub fn impls_speak_of_parameters()
+    ensures kinds { OfTexts HeadersTell }
+    ensures speaks { OfTexts ImplsSpeak }
+{}
+
+/// Each bound of a trait that a crate sees of a text without a fault has an argument of its sort for each parameter of the bound's trait,
+/// speaks of the trait's own parameters alone, and names an earlier trait.
+pub fn bounds_are_applied()
+    ensures { OfTexts HaveBounds }
+{}
+
+/// What a crate sees of a text without a fault is ready for the solver, where its terms are an interner's.
+pub fn declarations_are_ready()
+    ensures { OfTexts AreReady }
 {}
