@@ -1,7 +1,7 @@
 -- Names of parameters and variables of one kind.
 use Rattle.std.proofs.Common.{◌≡◌, ℕ, suc, ◌+◌, arith, Bool, true, false, cond, List, [], ◌∷◌, ◌++◌, map, Option, Some, None, refl, sym, ap, ◌∙◌}
 use Rattle.std.proofs.lemmas.Option.{slice_get-map}
-use Rattle.std.specs.Prelude.{slice_get, filter, codes}
+use Rattle.std.specs.Prelude.{slice_get, filter, codes, length}
 use Rattle.std.specs.Option.{option_map, option_map_or}
 use Rattle.model.specs.Label.{Sort}
 use Rattle.model.specs.Trees.{is_sort}
@@ -53,3 +53,11 @@ one-up n = omega arith
 
 pub numbered-called : (us : List (Sort × ℕ)) (s : Sort) (i n : ℕ) → n ≡ place_in s i us → codes "?" ++ decimal (n + 1) ≡ unknown_text us s i
 numbered-called us s i n e = ap (λ m. codes "?" ++ decimal m) (one-up n ∙ ap suc e)
+
+length-map : {A B : Type 0} (f : A → B) (xs : List A) → length xs ≡ length (map f xs)
+length-map f [] = refl
+length-map f (x ∷ xs) = ap suc (length-map f xs)
+
+-- as many parameters are of a sort as variables
+pub own-read : (s : Sort) (vs : List Param) → length (of_sort s vs) ≡ length (of_kind s (map variable_of vs))
+own-read s vs = length-map variable_of (of_sort s vs) ∙ ap length (sym (filter-read variable_of (λ (v : Variable). is_sort v.kind s) vs))

@@ -1,1 +1,4 @@
 mod Called
+mod Visiting
+mod Listing
+mod Texts

@@ -1,1 +1,4 @@
 pub mod Called
+pub mod Listed
+pub mod Listing
+pub mod Valued
