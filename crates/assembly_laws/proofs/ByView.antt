@@ -1,19 +1,15 @@
 -- A rule of the view that concludes a solution is a candidate: row by row.
 use Rattle.std.proofs.Common.{◌≡◌, ℕ, Bool, true, false, ◌||◌, ◌==◌, if◌then◌else◌, List, [], ◌∷◌, ◌++◌, map, ◌⊎◌, inl, inr, refl, sym, ◌∙◌, ap, subst}
 use Rattle.std.specs.List.{flat_map}
-use Rattle.model.specs.Renumbering.{View}
 use Rattle.model.specs.Label.{Label, of_type, param, placeholder, infer, canonical, bound, static}
 use Rattle.model.specs.Label.{value}
 use Rattle.model.specs.Trees.{Trees, tree, erase_label, is_sort, some_node}
-use Rattle.model.specs.Worlds.{World, Reference, view_of}
+use Rattle.model.specs.Worlds.{World, Reference}
 use Rattle.model.specs.Rules.{Rule, rules, impl_rules, built_in_rules, plain_rules, sized, copy, clone, tuple_trait, fn_ptr_trait, is_fn_trait, unsize, is_auto, sized_rules, copy_rules, auto_rules, tuple_rules, fn_ptr_rules, call_rules, unsize_rules, object_rules, strict_supertraits}
 use Rattle.model.specs.Proofs.{In, HasProof}
 use Rattle.model.specs.Proofs as Model
-use Rattle.model.specs.Walks.{is_known_in}
 use Rattle.model.specs.Answers.{is_closed, is_open}
-use Rattle.model.specs.LinkedSet.{LinkedSet}
-use Rattle.model.proofs.Members.{here, there, in-nothing, in-cases, in-append, in-left, flat-in}
-use Rattle.model.proofs.NoHolds.{shut}
+use Rattle.model.proofs.Members.{here, there, in-nothing, in-cases, in-append}
 use Rattle.model.proofs.Fitting.{child-shut}
 use Rattle.model.proofs.Walking.{right}
 use Rattle.evaluation.specs.Lists.{Every, SomeOf}
@@ -29,6 +25,7 @@ use Rattle.assembly_laws.specs.Solver.{IsSolution}
 use Rattle.assembly_laws.specs.Cover.{slots, nested_at, Gives, all_candidates}
 use Rattle.assembly_laws.proofs.Reading.{read_reference, true-false}
 use Rattle.assembly_laws.proofs.Supers.{Proved, open-none}
+use Rattle.assembly_laws.proofs.HavingViews.{ProvesBy}
 use Rattle.assembly_laws.proofs.Rows.{read_rule, sized-natural, copy-natural, auto-natural, tuple-natural, fn-ptr-natural}
 
 -- ---- lists
@@ -61,55 +58,46 @@ rigid-head (bound s k i) r = absurd (true-false (sym (right (is_sort s of_type) 
 rigid-head l r = r
 
 -- each premise of a rule that concludes what is closed is closed
-module _ (W : World) (vs : List View) (rank : ℕ → ℕ) (l : LinkedSet W vs rank) (c : ℕ) where
-  pub premises-proved : (r : Reference) (u : Rule) → is_closed r.args ≡ true → In u (rules (view_of W c) [] r) → (ps : List Reference) → ((p : Reference) → In p ps → In p u.premises) → Model.Every (HasProof W []) ps → Every (Proved W) ps
-  premises-proved r u z i [] among e = tt
-  premises-proved r u z i (p ∷ ps) among e = (
-    (
-      shut W vs rank l c r p z
-          (in-left p (flat_map (λ (x : Rule). x.premises) (rules (view_of W c) [] r)) (if is_known_in (view_of W c) c r then [] else strict_supertraits (view_of W c) r)
-          (flat-in (λ (x : Rule). x.premises) (rules (view_of W c) [] r) u p i (among p (here p ps)))),
-      e.0,
-    ),
-    premises-proved r u z i ps (λ q j. among q (there q p ps j)) e.1,
-  )
+pub premises-proved : (V : World) (crate : ℕ) (H : Reference → Type 0) → ProvesBy V crate H → (r : Reference) (u : Rule) → is_closed r.args ≡ true → In u (rules V [] r) → (ps : List Reference) → ((p : Reference) → In p ps → In p u.premises) → Model.Every H ps → Every (Proved H) ps
+premises-proved V crate H l r u z i [] among e = tt
+premises-proved V crate H l r u z i (p ∷ ps) among e = ((l.shut r u z i p (among p (here p ps)), e.0), premises-proved V crate H l r u z i ps (λ q j. among q (there q p ps j)) e.1)
 
-module _ (W V : World) (declared : is_declared_view V ≡ true) (a : Asked) (v : Values) where
+module _ (H : Reference → Type 0) (V : World) (declared : is_declared_view V ≡ true) (a : Asked) (v : Values) where
   abbrev xs : List Trees
   xs = slots a.kinds v []
 
   abbrev Given : List Candidate → Type 0
-  Given cs = SomeOf (Gives W a.kinds v) cs
+  Given cs = SomeOf (Gives H a.kinds v) cs
 
-  gives-rule : (source : CandidateSource) (ps : List Reference) → Every (Proved W) (map (read_reference xs) ps) → Gives W a.kinds v (by_rule V a source [] ps)
+  gives-rule : (source : CandidateSource) (ps : List Reference) → Every (Proved H) (map (read_reference xs) ps) → Gives H a.kinds v (by_rule V a source [] ps)
   gives-rule source ps e = record { own = []; sorted = refl; equal = tt; solves = each ps e }
     where
-      each : (qs : List Reference) → Every (Proved W) (map (read_reference xs) qs) → Every (λ n. IsSolution W (nested_at xs n)) (map (premise a (Rattle.model.specs.Rules.is_coinductive V a.reference.trait)) qs)
+      each : (qs : List Reference) → Every (Proved H) (map (read_reference xs) qs) → Every (λ n. IsSolution H (nested_at xs n)) (map (premise a (Rattle.model.specs.Rules.is_coinductive V a.reference.trait)) qs)
       each [] f = tt
       each (q ∷ qs) f = (record { asks = refl; proper = refl; closed = f.0.0; proof = f.0.1 }, each qs f.1)
 
   -- a rule of an instance is the candidate of the rule of what is asked
-  pub written : (source : CandidateSource) (us : List Rule) (u : Rule) → In u (map (read_rule V declared xs) us) → Every (Proved W) u.premises → Given (as_written V a source us)
+  pub written : (source : CandidateSource) (us : List Rule) (u : Rule) → In u (map (read_rule V declared xs) us) → Every (Proved H) u.premises → Given (as_written V a source us)
   written source [] u i e = absurd (in-nothing u i)
   written source (x ∷ us) u i e = by (in-cases u (read_rule V declared xs x) (map (read_rule V declared xs) us) i) (λ j. written source us u j e)
     where
       by : (read_rule V declared xs x ≡ u) ⊎ In u (map (read_rule V declared xs) us) → (In u (map (read_rule V declared xs) us) → Given (as_written V a source us)) → Given (as_written V a source (x ∷ us))
-      by (inl q) go = inl (gives-rule source x.premises (subst (λ (z : Rule). Every (Proved W) z.premises) (sym q) e))
+      by (inl q) go = inl (gives-rule source x.premises (subst (λ (z : Rule). Every (Proved H) z.premises) (sym q) e))
       by (inr j) go = inr (go j)
 
   -- a row that stands under a test
-  under : (b : Bool) (source : CandidateSource) (here there : List Rule) (u : Rule) → here ≡ map (read_rule V declared xs) there → In u (if b then here else []) → Every (Proved W) u.premises → Given (if_so b (as_written V a source there))
+  under : (b : Bool) (source : CandidateSource) (here there : List Rule) (u : Rule) → here ≡ map (read_rule V declared xs) there → In u (if b then here else []) → Every (Proved H) u.premises → Given (if_so b (as_written V a source there))
   under true source here there u n i e = written source there u (subst (λ z. In u z) n i) e
   under false source here there u n i e = absurd (in-nothing u i)
 
   -- the rows that are left: impls, calls, `Unsize` and object bounds
   pub record OtherRows : Type 0 where
-    pub impls : (u : Rule) → In u (flat_map (impl_rules (read_reference xs a.reference)) V.impls) → Every (Proved W) u.premises → Given (by_impls V a V.impls)
-    pub calls : (u : Rule) → In u (if is_fn_trait a.reference.trait then call_rules (read_with (given xs) a.reference.args) else []) → Every (Proved W) u.premises → Given (by_call V a)
-    pub unsizes : (u : Rule) → In u (if a.reference.trait == unsize then unsize_rules V (read_with (given xs) a.reference.args) else []) → Every (Proved W) u.premises → Given (by_unsize V a)
-    pub objects : (u : Rule) → In u (object_rules V (read_reference xs a.reference) (read_with (given xs) a.reference.args)) → Every (Proved W) u.premises → Given (by_objects V a)
+    pub impls : (u : Rule) → In u (flat_map (impl_rules (read_reference xs a.reference)) V.impls) → Every (Proved H) u.premises → Given (by_impls V a V.impls)
+    pub calls : (u : Rule) → In u (if is_fn_trait a.reference.trait then call_rules (read_with (given xs) a.reference.args) else []) → Every (Proved H) u.premises → Given (by_call V a)
+    pub unsizes : (u : Rule) → In u (if a.reference.trait == unsize then unsize_rules V (read_with (given xs) a.reference.args) else []) → Every (Proved H) u.premises → Given (by_unsize V a)
+    pub objects : (u : Rule) → In u (object_rules V (read_reference xs a.reference) (read_with (given xs) a.reference.args)) → Every (Proved H) u.premises → Given (by_objects V a)
 
-  pub unsure-gives : Gives W a.kinds v unsure
+  pub unsure-gives : Gives H a.kinds v unsure
   unsure-gives = record { own = []; sorted = refl; equal = tt; solves = tt }
 
   module _ (l : Label) (c o : Trees) (args_are : a.reference.args ≡ tree l c o) (rigid : is_rigid l ≡ true) (closed : is_closed (read_with (given xs) a.reference.args) ≡ true) (other : OtherRows) where
@@ -132,7 +120,7 @@ module _ (W V : World) (declared : is_declared_view V ≡ true) (a : Asked) (v :
     abbrev row_list : Bool → (Trees → List Rule) → List Rule
     row_list b F = if b then F (read_with (given xs) a.reference.args) else []
 
-    by-plain : (u : Rule) → In u (plain_rules (read_reference xs a.reference)) → Every (Proved W) u.premises → Given (built_in V a)
+    by-plain : (u : Rule) → In u (plain_rules (read_reference xs a.reference)) → Every (Proved H) u.premises → Given (built_in V a)
     by-plain u i e = first (in-append u copies (tuples ++ (fn_ptrs ++ calls)) i)
       where
         copies : List Rule
@@ -148,36 +136,36 @@ module _ (W V : World) (declared : is_declared_view V ≡ true) (a : Asked) (v :
         calls = row_list (is_fn_trait a.reference.trait) call_rules
 
         after-sized : Given (by_copy V a ++ (by_auto V a ++ (by_tuple V a ++ (by_fn_ptr V a ++ (by_call V a ++ by_unsize V a))))) → Given (built_in V a)
-        after-sized s = some-right (Gives W a.kinds v) (by_sized V a) (by_copy V a ++ (by_auto V a ++ (by_tuple V a ++ (by_fn_ptr V a ++ (by_call V a ++ by_unsize V a))))) s
+        after-sized s = some-right (Gives H a.kinds v) (by_sized V a) (by_copy V a ++ (by_auto V a ++ (by_tuple V a ++ (by_fn_ptr V a ++ (by_call V a ++ by_unsize V a))))) s
 
         after-auto : Given (by_tuple V a ++ (by_fn_ptr V a ++ (by_call V a ++ by_unsize V a))) → Given (built_in V a)
         after-auto s =
-            after-sized (some-right (Gives W a.kinds v) (by_copy V a) (by_auto V a ++ (by_tuple V a ++ (by_fn_ptr V a ++ (by_call V a ++ by_unsize V a))))
-            (some-right (Gives W a.kinds v) (by_auto V a) (by_tuple V a ++ (by_fn_ptr V a ++ (by_call V a ++ by_unsize V a))) s))
+            after-sized (some-right (Gives H a.kinds v) (by_copy V a) (by_auto V a ++ (by_tuple V a ++ (by_fn_ptr V a ++ (by_call V a ++ by_unsize V a))))
+            (some-right (Gives H a.kinds v) (by_auto V a) (by_tuple V a ++ (by_fn_ptr V a ++ (by_call V a ++ by_unsize V a))) s))
 
         third : In u fn_ptrs ⊎ In u calls → Given (built_in V a)
         third (inl j) =
-            after-auto (some-right (Gives W a.kinds v) (by_tuple V a) (by_fn_ptr V a ++ (by_call V a ++ by_unsize V a))
-            (some-left (Gives W a.kinds v) (by_fn_ptr V a) (by_call V a ++ by_unsize V a)
+            after-auto (some-right (Gives H a.kinds v) (by_tuple V a) (by_fn_ptr V a ++ (by_call V a ++ by_unsize V a))
+            (some-left (Gives H a.kinds v) (by_fn_ptr V a) (by_call V a ++ by_unsize V a)
             (under (a.reference.trait == fn_ptr_trait) misc (fn_ptr_rules (read_with (given xs) a.reference.args)) (fn_ptr_rules (self_of a)) u (at-self fn_ptr_rules (fn-ptr-natural V declared xs (erase_label l) c o)) j e)))
         third (inr j) =
-            after-auto (some-right (Gives W a.kinds v) (by_tuple V a) (by_fn_ptr V a ++ (by_call V a ++ by_unsize V a))
-            (some-right (Gives W a.kinds v) (by_fn_ptr V a) (by_call V a ++ by_unsize V a) (some-left (Gives W a.kinds v) (by_call V a) (by_unsize V a) (other.calls u j e))))
+            after-auto (some-right (Gives H a.kinds v) (by_tuple V a) (by_fn_ptr V a ++ (by_call V a ++ by_unsize V a))
+            (some-right (Gives H a.kinds v) (by_fn_ptr V a) (by_call V a ++ by_unsize V a) (some-left (Gives H a.kinds v) (by_call V a) (by_unsize V a) (other.calls u j e))))
 
         second : In u tuples ⊎ In u (fn_ptrs ++ calls) → Given (built_in V a)
         second (inl j) =
-            after-auto (some-left (Gives W a.kinds v) (by_tuple V a) (by_fn_ptr V a ++ (by_call V a ++ by_unsize V a))
+            after-auto (some-left (Gives H a.kinds v) (by_tuple V a) (by_fn_ptr V a ++ (by_call V a ++ by_unsize V a))
             (under (a.reference.trait == tuple_trait) misc (tuple_rules (read_with (given xs) a.reference.args)) (tuple_rules (self_of a)) u (at-self tuple_rules (tuple-natural V declared xs (erase_label l) c o)) j e))
         second (inr j) = third (in-append u fn_ptrs calls j)
 
         first : In u copies ⊎ In u (tuples ++ (fn_ptrs ++ calls)) → Given (built_in V a)
         first (inl j) =
-            after-sized (some-left (Gives W a.kinds v) (by_copy V a) (by_auto V a ++ (by_tuple V a ++ (by_fn_ptr V a ++ (by_call V a ++ by_unsize V a))))
+            after-sized (some-left (Gives H a.kinds v) (by_copy V a) (by_auto V a ++ (by_tuple V a ++ (by_fn_ptr V a ++ (by_call V a ++ by_unsize V a))))
             (under ((a.reference.trait == copy) || (a.reference.trait == clone)) misc (copy_rules a.reference.trait (read_with (given xs) a.reference.args)) (copy_rules a.reference.trait (self_of a)) u
             (at-self (copy_rules a.reference.trait) (copy-natural V declared xs a.reference.trait (erase_label l) c o)) j e))
         first (inr j) = second (in-append u tuples (fn_ptrs ++ calls) j)
 
-    by-built-in : (u : Rule) → In u (built_in_rules V (read_reference xs a.reference)) → Every (Proved W) u.premises → Given (built_in V a) ⊎ Given (by_objects V a)
+    by-built-in : (u : Rule) → In u (built_in_rules V (read_reference xs a.reference)) → Every (Proved H) u.premises → Given (built_in V a) ⊎ Given (by_objects V a)
     by-built-in u i e = first (in-append u (plain_rules (read_reference xs a.reference)) (sizeds ++ (autos ++ (unsizes ++ objects))) i)
       where
         sizeds : List Rule
@@ -194,25 +182,25 @@ module _ (W V : World) (declared : is_declared_view V ≡ true) (a : Asked) (v :
 
         fourth : In u unsizes ⊎ In u objects → Given (built_in V a) ⊎ Given (by_objects V a)
         fourth (inl j) =
-            inl (some-right (Gives W a.kinds v) (by_sized V a) (by_copy V a ++ (by_auto V a ++ (by_tuple V a ++ (by_fn_ptr V a ++ (by_call V a ++ by_unsize V a)))))
-            (some-right (Gives W a.kinds v) (by_copy V a) (by_auto V a ++ (by_tuple V a ++ (by_fn_ptr V a ++ (by_call V a ++ by_unsize V a))))
-            (some-right (Gives W a.kinds v) (by_auto V a) (by_tuple V a ++ (by_fn_ptr V a ++ (by_call V a ++ by_unsize V a)))
-            (some-right (Gives W a.kinds v) (by_tuple V a) (by_fn_ptr V a ++ (by_call V a ++ by_unsize V a))
-            (some-right (Gives W a.kinds v) (by_fn_ptr V a) (by_call V a ++ by_unsize V a) (some-right (Gives W a.kinds v) (by_call V a) (by_unsize V a) (other.unsizes u j e)))))))
+            inl (some-right (Gives H a.kinds v) (by_sized V a) (by_copy V a ++ (by_auto V a ++ (by_tuple V a ++ (by_fn_ptr V a ++ (by_call V a ++ by_unsize V a)))))
+            (some-right (Gives H a.kinds v) (by_copy V a) (by_auto V a ++ (by_tuple V a ++ (by_fn_ptr V a ++ (by_call V a ++ by_unsize V a))))
+            (some-right (Gives H a.kinds v) (by_auto V a) (by_tuple V a ++ (by_fn_ptr V a ++ (by_call V a ++ by_unsize V a)))
+            (some-right (Gives H a.kinds v) (by_tuple V a) (by_fn_ptr V a ++ (by_call V a ++ by_unsize V a))
+            (some-right (Gives H a.kinds v) (by_fn_ptr V a) (by_call V a ++ by_unsize V a) (some-right (Gives H a.kinds v) (by_call V a) (by_unsize V a) (other.unsizes u j e)))))))
         fourth (inr j) = inr (other.objects u j e)
 
         third : In u autos ⊎ In u (unsizes ++ objects) → Given (built_in V a) ⊎ Given (by_objects V a)
         third (inl j) =
-            inl (some-right (Gives W a.kinds v) (by_sized V a) (by_copy V a ++ (by_auto V a ++ (by_tuple V a ++ (by_fn_ptr V a ++ (by_call V a ++ by_unsize V a)))))
-            (some-right (Gives W a.kinds v) (by_copy V a) (by_auto V a ++ (by_tuple V a ++ (by_fn_ptr V a ++ (by_call V a ++ by_unsize V a))))
-            (some-left (Gives W a.kinds v) (by_auto V a) (by_tuple V a ++ (by_fn_ptr V a ++ (by_call V a ++ by_unsize V a)))
+            inl (some-right (Gives H a.kinds v) (by_sized V a) (by_copy V a ++ (by_auto V a ++ (by_tuple V a ++ (by_fn_ptr V a ++ (by_call V a ++ by_unsize V a)))))
+            (some-right (Gives H a.kinds v) (by_copy V a) (by_auto V a ++ (by_tuple V a ++ (by_fn_ptr V a ++ (by_call V a ++ by_unsize V a))))
+            (some-left (Gives H a.kinds v) (by_auto V a) (by_tuple V a ++ (by_fn_ptr V a ++ (by_call V a ++ by_unsize V a)))
             (under (is_auto V a.reference.trait) misc (auto_rules V a.reference.trait (read_with (given xs) a.reference.args)) (auto_rules V a.reference.trait (self_of a)) u
             (at-self (auto_rules V a.reference.trait) (auto-natural V declared xs a.reference.trait (erase_label l) c o (rigid-head l rigid) inner)) j e))))
         third (inr j) = fourth (in-append u unsizes objects j)
 
         second : In u sizeds ⊎ In u (autos ++ (unsizes ++ objects)) → Given (built_in V a) ⊎ Given (by_objects V a)
         second (inl j) =
-            inl (some-left (Gives W a.kinds v) (by_sized V a) (by_copy V a ++ (by_auto V a ++ (by_tuple V a ++ (by_fn_ptr V a ++ (by_call V a ++ by_unsize V a)))))
+            inl (some-left (Gives H a.kinds v) (by_sized V a) (by_copy V a ++ (by_auto V a ++ (by_tuple V a ++ (by_fn_ptr V a ++ (by_call V a ++ by_unsize V a)))))
             (under (a.reference.trait == sized) (BuiltinImpl Trivial) (sized_rules V (read_with (given xs) a.reference.args)) (sized_rules V (self_of a)) u
             (at-self (sized_rules V) (sized-natural V declared xs (erase_label l) c o (rigid-head l rigid) inner)) j e))
         second (inr j) = third (in-append u autos (unsizes ++ objects) j)
@@ -222,18 +210,18 @@ module _ (W V : World) (declared : is_declared_view V ≡ true) (a : Asked) (v :
         first (inr j) = second (in-append u sizeds (autos ++ (unsizes ++ objects)) j)
 
     -- a rule of the view is a candidate
-    pub by-view : (u : Rule) → In u (rules V [] (read_reference xs a.reference)) → Every (Proved W) u.premises → Given (all_candidates V a)
+    pub by-view : (u : Rule) → In u (rules V [] (read_reference xs a.reference)) → Every (Proved H) u.premises → Given (all_candidates V a)
     by-view u i e = first (in-append u impls (built_in_rules V (read_reference xs a.reference) ++ []) i)
       where
         impls : List Rule
         impls = flat_map (impl_rules (read_reference xs a.reference)) V.impls
 
         after : Given (built_in V a ++ (by_impls V a V.impls ++ by_objects V a)) → Given (all_candidates V a)
-        after s = some-right (Gives W a.kinds v) (by_clauses V a (clauses a)) (built_in V a ++ (by_impls V a V.impls ++ by_objects V a)) s
+        after s = some-right (Gives H a.kinds v) (by_clauses V a (clauses a)) (built_in V a ++ (by_impls V a V.impls ++ by_objects V a)) s
 
         third : Given (built_in V a) ⊎ Given (by_objects V a) → Given (all_candidates V a)
-        third (inl s) = after (some-left (Gives W a.kinds v) (built_in V a) (by_impls V a V.impls ++ by_objects V a) s)
-        third (inr s) = after (some-right (Gives W a.kinds v) (built_in V a) (by_impls V a V.impls ++ by_objects V a) (some-right (Gives W a.kinds v) (by_impls V a V.impls) (by_objects V a) s))
+        third (inl s) = after (some-left (Gives H a.kinds v) (built_in V a) (by_impls V a V.impls ++ by_objects V a) s)
+        third (inr s) = after (some-right (Gives H a.kinds v) (built_in V a) (by_impls V a V.impls ++ by_objects V a) (some-right (Gives H a.kinds v) (by_impls V a V.impls) (by_objects V a) s))
 
         second : In u (built_in_rules V (read_reference xs a.reference)) ⊎ In u [] → Given (all_candidates V a)
         second (inl j) = third (by-built-in u j e)
@@ -241,5 +229,5 @@ module _ (W V : World) (declared : is_declared_view V ≡ true) (a : Asked) (v :
 
         first : In u impls ⊎ In u (built_in_rules V (read_reference xs a.reference) ++ []) → Given (all_candidates V a)
         first (inl j) =
-            after (some-right (Gives W a.kinds v) (built_in V a) (by_impls V a V.impls ++ by_objects V a) (some-left (Gives W a.kinds v) (by_impls V a V.impls) (by_objects V a) (other.impls u j e)))
+            after (some-right (Gives H a.kinds v) (built_in V a) (by_impls V a V.impls ++ by_objects V a) (some-left (Gives H a.kinds v) (by_impls V a V.impls) (by_objects V a) (other.impls u j e)))
         first (inr j) = second (in-append u (built_in_rules V (read_reference xs a.reference)) [] j)

@@ -24,8 +24,8 @@ use Rattle.assembly_laws.specs.Asking.{Asked, asked_if, asked_with, with_first, 
 use Rattle.evaluation_laws.specs.Variables.{is_variable_over}
 use Rattle.assembly_laws.specs.Candidates.{premise, unknowable}
 use Rattle.assembly_laws.specs.Solver.{IsSolution}
-use Rattle.assembly_laws.specs.Cover.{slots, nested_at, Gives, all_candidates, goal_fact, ViewRulesAreCandidates, SolutionsAreCandidates}
-use Rattle.assembly_laws.proofs.Views.{known-by-view-rule}
+use Rattle.assembly_laws.specs.Cover.{slots, nested_at, Gives, all_candidates, goal_fact}
+use Rattle.assembly_laws.proofs.HavingViews.{ViewRulesAreCandidates, ThereAreCandidates}
 use Rattle.assembly_laws.proofs.Knowing.{instances-are-known}
 use Rattle.assembly_laws.proofs.Reading.{read_reference}
 use Rattle.assembly_laws.proofs.Agreeing.{own-read}
@@ -77,43 +77,37 @@ known-kinds (Some k ∷ os) ks e = by (all_known os) e (λ js f. known-kinds os 
 
 -- ---- solutions
 module _ (m : Meaning) (declared : is_declared_view m.view ≡ true) (complete : ViewRulesAreCandidates m) where
-  pub solutions-are-candidates : SolutionsAreCandidates m
-  solutions-are-candidates f a e known w v s = (by-view, by-others)
+  pub solutions-are-candidates : ThereAreCandidates m
+  solutions-are-candidates H f a e known w v s = (by-view, by-others)
     where
-      W : World
-      W = w.linked.set
-
       is : IsAsked m.view f.goal.environment f.goal.predicate (all_known f.kinds) a
       is = asked-by m.view f.goal.environment f.goal.predicate (all_known f.kinds) a e
 
       reference-is : reference_in (goal_fact f v) ≡ read_reference v.terms a.reference
       reference-is = ap (λ p. record { trait = trait_or_first (trait_of p); args = children_of (read_with (given v.terms) p) }) is.predicate_is
 
-      by-view : is_knowable m.view m.crate a.reference ≡ true → SomeOf (Gives W a.kinds v) (all_candidates m.view a)
+      by-view : is_knowable m.view m.crate a.reference ≡ true → SomeOf (Gives H a.kinds v) (all_candidates m.view a)
       by-view k =
           let r = subst (λ z. is_known_in m.view m.crate z ≡ true) (sym reference-is) (instances-are-known (is_variable_over a.kinds) m.view m.crate a.reference is.over k v.terms) in
-          let u = known-by-view-rule W w.linked.views w.linked.rank w.linked.linked m.crate m.view w.linked.view_is (reference_in (goal_fact f v)) s.closed r s.proof in
-          complete f a e known w v s u.0 u.1 u.2
+          let u = w.linked.rule (reference_in (goal_fact f v)) s.closed r s.proof in
+          complete H f a e known w v s u.0 u.1 u.2
 
-      goal-proved : Proved W (read_reference (slots a.kinds v []) a.reference)
+      goal-proved : Proved H (read_reference (slots a.kinds v []) a.reference)
       goal-proved =
-          subst (Proved W) (reference-is ∙ ap (λ z. record { trait = a.reference.trait; args = z }) (sym (own-read a.kinds v.terms [] a.reference.args is.over))) (s.closed, s.proof)
+          subst (Proved H) (reference-is ∙ ap (λ z. record { trait = a.reference.trait; args = z }) (sym (own-read a.kinds v.terms [] a.reference.args is.over))) (s.closed, s.proof)
 
-      supers : Every (λ r. Proved W (read_reference (slots a.kinds v []) r)) (supertraits m.view a.reference)
-      supers =
-          subst (λ V. Every (λ r. Proved W (read_reference (slots a.kinds v []) r)) (supertraits V a.reference)) w.linked.view_is
-          (supertraits-proved W w.linked.views w.linked.rank w.linked.linked w.linked.supers_stand m.crate (subst (λ V. is_declared_view V ≡ true) (sym w.linked.view_is) declared) (slots a.kinds v [])
-          a.reference goal-proved)
+      supers : Every (λ r. Proved H (read_reference (slots a.kinds v []) r)) (supertraits m.view a.reference)
+      supers = supertraits-proved m.view m.crate H w.linked declared (slots a.kinds v []) a.reference goal-proved
 
-      solution : (r : Reference) → Proved W (read_reference (slots a.kinds v []) r) → IsSolution W (nested_at (slots a.kinds v []) (premise a false r))
+      solution : (r : Reference) → Proved H (read_reference (slots a.kinds v []) r) → IsSolution H (nested_at (slots a.kinds v []) (premise a false r))
       solution r p = record { asks = refl; proper = refl; closed = p.0; proof = p.1 }
 
-      by-others : Gives W a.kinds v (unknowable m.view a)
+      by-others : Gives H a.kinds v (unknowable m.view a)
       by-others = record {
         own = [];
         sorted = refl;
         equal = tt;
         solves =
-            Every-map (λ n. IsSolution W (nested_at (slots a.kinds v []) n)) (premise a false) (supertraits m.view a.reference)
-            (Every-mono (λ r. Proved W (read_reference (slots a.kinds v []) r)) (λ r. IsSolution W (nested_at (slots a.kinds v []) (premise a false r))) solution (supertraits m.view a.reference) supers);
+            Every-map (λ n. IsSolution H (nested_at (slots a.kinds v []) n)) (premise a false) (supertraits m.view a.reference)
+            (Every-mono (λ r. Proved H (read_reference (slots a.kinds v []) r)) (λ r. IsSolution H (nested_at (slots a.kinds v []) (premise a false r))) solution (supertraits m.view a.reference) supers);
       }

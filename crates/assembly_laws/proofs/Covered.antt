@@ -21,14 +21,15 @@ use Rattle.evaluation.specs.Plans.{Keeps, each_of, first_alone, Goes}
 use Rattle.evaluation.specs.Merge.{IsTest, TellsApart}
 use Rattle.evaluation.proofs.Plans.{plan_is_lawful, keeps_more, keeps_each, goes_on, goes_through}
 use Rattle.evaluation.proofs.PlanAnswers.{all_merged_keeps}
-use Rattle.assembly_laws.specs.Meaning.{Meaning}
+use Rattle.assembly_laws.specs.Meaning.{Meaning, proved_in}
+use Rattle.assembly_laws.specs.Lifetimes.{GivesLifetimes}
 use Rattle.assembly_laws.specs.Knowing.{is_knowable}
 use Rattle.assembly_laws.specs.Asking.{Asked, asked, self_of, begins_unknown}
 use Rattle.assembly_laws.specs.Candidates.{Candidate, unsure, unknowable}
 use Rattle.assembly_laws.specs.Solver.{Past, everything, in_coherence, by_mode, plan_for, Searched, IsSolution, solver_planned, solver_handled}
 use Rattle.assembly_laws.specs.Cover.{all_candidates, goal_fact, SolutionsAreCandidates}
 use Rattle.assembly_laws.specs.CoverLaw.{AnswersCover, IsAsMeant, CandidatesAreLawful, CoherenceIsCovered, CoherenceIsLawful}
-use Rattle.assembly_laws.proofs.Solver.{solutions-by}
+use Rattle.assembly_laws.proofs.ErasedViews.{solutions-by}
 use Rattle.assembly_laws.proofs.Plans.{coherence_keeps}
 use Rattle.assembly_laws.proofs.Covering.{Holds, answered, each-holds, first-holds}
 use Rattle.assembly_laws.proofs.Realizing.{asked-terms, by-candidates, by-unknowable, unsure-realizes}
@@ -46,7 +47,7 @@ is-true : (x : Bool) → not x ≡ false → x ≡ true
 is-true true e = refl
 is-true false e = absurd (cc)
 
-module _ (applicable : AnswerTrees → Bool) (same : AnswerTrees → AnswerTrees → Bool) (m : Meaning) (sound : m.is_sound ≡ true → IsAsMeant m) (f : CanonicalForm) where
+module _ (applicable : AnswerTrees → Bool) (same : AnswerTrees → AnswerTrees → Bool) (m : Meaning) (sound : m.is_sound ≡ true → IsAsMeant m) (f : CanonicalForm) (fits : GivesLifetimes m f) where
   abbrev h : Handled frame_tables
   h = solver_handled applicable same m Coherence f
 
@@ -54,12 +55,12 @@ module _ (applicable : AnswerTrees → Bool) (same : AnswerTrees → AnswerTrees
   start = begin (kinds_known f.kinds)
 
   complete : IsAsMeant m → SolutionsAreCandidates m
-  complete x = solutions-by m x.declared x.determined
+  complete x = solutions-by m x.declared x.determined x.erased
 
   -- ---- the law of cover
-  module _ (w : Searched m f) (v : Values) (s : IsSolution w.linked.set (goal_fact f v)) where
+  module _ (w : Searched m f) (v : Values) (s : IsSolution (proved_in w.linked) (goal_fact f v)) where
     abbrev P : Candidate → Type 0
-    P c = Realizes frame_tables (IsSolution w.linked.set) start v c
+    P c = Realizes frame_tables (IsSolution (proved_in w.linked)) start v c
 
     abbrev Q : Considered (workings frame_tables) → Type 0
     Q c = P c.spec
@@ -67,20 +68,20 @@ module _ (applicable : AnswerTrees → Bool) (same : AnswerTrees → AnswerTrees
     unsure-holds : Holds frame_tables Q [] (each_of frame_tables (unsure ∷ []) (everything applicable same start) [])
     unsure-holds =
         each-holds frame_tables Q (unsure ∷ []) (everything applicable same start) []
-        (λ later g. goes_through frame_tables P (unsure ∷ []) [] later g (inl (unsure-realizes w.linked.set (kinds_known f.kinds) v w.no_placeholders)))
+        (λ later g. goes_through frame_tables P (unsure ∷ []) [] later g (inl (unsure-realizes (proved_in w.linked) (kinds_known f.kinds) v w.no_placeholders)))
 
-    asked-holds : IsAsMeant m → (a : Asked) → asked m.view f ≡ Some a → begins_unknown a.kinds (self_of a) ≡ false → Holds frame_tables Q [] (in_coherence applicable same start m.view m.crate a)
-    asked-holds x a e known = by (is_knowable m.view m.crate a.reference) refl
+    asked-holds : IsAsMeant m → m.is_sound ≡ true → (a : Asked) → asked m.view f ≡ Some a → begins_unknown a.kinds (self_of a) ≡ false → Holds frame_tables Q [] (in_coherence applicable same start m.view m.crate a)
+    asked-holds x is_yes a e known = by (is_knowable m.view m.crate a.reference) refl
       where
         alone : (seen : Past) → Goes frame_tables (unknowable m.view a ∷ []) [] seen → SomeOf Q seen
-        alone seen g = goes_through frame_tables P (unknowable m.view a ∷ []) [] seen g (inl (by-unknowable m (complete x) f a e known w v s (asked-terms m x.declared f a e (x.bounds f a e) w)))
+        alone seen g = goes_through frame_tables P (unknowable m.view a ∷ []) [] seen g (inl (by-unknowable m (complete x) f a e known (fits is_yes a e) w v s (asked-terms m x.declared f a e (x.bounds f a e) w)))
 
         by : (b : Bool) → is_knowable m.view m.crate a.reference ≡ b
             → Holds frame_tables Q [] (if b then each_of frame_tables (all_candidates m.view a) (everything applicable same start) []
             else first_alone frame_tables (unknowable m.view a) (λ seen. each_of frame_tables (all_candidates m.view a) (everything applicable same start) seen) (everything applicable same start) [])
         by true k =
             each-holds frame_tables Q (all_candidates m.view a) (everything applicable same start) []
-            (λ later g. goes_through frame_tables P (all_candidates m.view a) [] later g (by-candidates m (complete x) f a e known w v s (asked-terms m x.declared f a e (x.bounds f a e) w) k))
+            (λ later g. goes_through frame_tables P (all_candidates m.view a) [] later g (by-candidates m (complete x) f a e known (fits is_yes a e) w v s (asked-terms m x.declared f a e (x.bounds f a e) w) k))
         by false k =
             first-holds frame_tables Q (unknowable m.view a) (λ seen. each_of frame_tables (all_candidates m.view a) (everything applicable same start) seen) (everything applicable same start) []
             (λ seen g. each-holds frame_tables Q (all_candidates m.view a) (everything applicable same start) seen (λ later i. goes_on frame_tables Q (all_candidates m.view a) seen later i (alone seen g)))
@@ -93,7 +94,7 @@ module _ (applicable : AnswerTrees → Bool) (same : AnswerTrees → AnswerTrees
         by : (b : Bool) → (not m.is_sound || begins_unknown a.kinds (self_of a)) ≡ b
             → Holds frame_tables Q [] (if b then each_of frame_tables (unsure ∷ []) (everything applicable same start) [] else by_mode applicable same start m Coherence a)
         by true k = unsure-holds
-        by false k = asked-holds (sound (is-true m.is_sound (first-no (not m.is_sound) (begins_unknown a.kinds (self_of a)) k))) a e (no-first (not m.is_sound) (begins_unknown a.kinds (self_of a)) k)
+        by false k = asked-holds (sound (is-true m.is_sound (first-no (not m.is_sound) (begins_unknown a.kinds (self_of a)) k))) (is-true m.is_sound (first-no (not m.is_sound) (begins_unknown a.kinds (self_of a)) k)) a e (no-first (not m.is_sound) (begins_unknown a.kinds (self_of a)) k)
 
   answers-cover : AnswersCover h
   answers-cover seen a ignored hist e w v s =
@@ -116,15 +117,15 @@ module _ (applicable : AnswerTrees → Bool) (same : AnswerTrees → AnswerTrees
         (omega arith) (omega arith)
         (keeps_each frame_tables h 0 0 (unsure ∷ []) (everything applicable same start) [] (unsure-lawful, tt)
         (λ later g. all_merged_keeps frame_tables tables_are_lawful applicable is_test same is_same h says (begins-within h.widest (kinds_known f.kinds)) 0 0 later
-        (λ w v s. goes_through frame_tables (P w v s) (unsure ∷ []) [] later g (inl (unsure-realizes w.linked.set (kinds_known f.kinds) v w.no_placeholders)))))
+        (λ w v s. goes_through frame_tables (P w v s) (unsure ∷ []) [] later g (inl (unsure-realizes (proved_in w.linked) (kinds_known f.kinds) v w.no_placeholders)))))
 
-    asked-keeps : IsAsMeant m → (a : Asked) → asked m.view f ≡ Some a → begins_unknown a.kinds (self_of a) ≡ false → Keeps frame_tables h h.candidates h.number [] (in_coherence applicable same start m.view m.crate a)
-    asked-keeps x a e known =
+    asked-keeps : IsAsMeant m → m.is_sound ≡ true → (a : Asked) → asked m.view f ≡ Some a → begins_unknown a.kinds (self_of a) ≡ false → Keeps frame_tables h h.candidates h.number [] (in_coherence applicable same start m.view m.crate a)
+    asked-keeps x is_yes a e known =
         let l = lawful a e in
         coherence_keeps tables_are_lawful applicable is_test same is_same h says (begins-within h.widest (kinds_known f.kinds)) m.view m.crate a l.each
         (record {
-          by_view = λ k w v s. by-candidates m (complete x) f a e known w v s (asked-terms m x.declared f a e (x.bounds f a e) w) k;
-          by_others = λ w v s. by-unknowable m (complete x) f a e known w v s (asked-terms m x.declared f a e (x.bounds f a e) w);
+          by_view = λ k w v s. by-candidates m (complete x) f a e known (fits is_yes a e) w v s (asked-terms m x.declared f a e (x.bounds f a e) w) k;
+          by_others = λ w v s. by-unknowable m (complete x) f a e known (fits is_yes a e) w v s (asked-terms m x.declared f a e (x.bounds f a e) w);
         }) l.few l.asks
 
     plan-keeps : (o : Option Asked) → asked m.view f ≡ o → Keeps frame_tables h h.candidates h.number [] (plan_for applicable same start m Coherence o)
@@ -134,17 +135,17 @@ module _ (applicable : AnswerTrees → Bool) (same : AnswerTrees → AnswerTrees
         by : (b : Bool) → (not m.is_sound || begins_unknown a.kinds (self_of a)) ≡ b
             → Keeps frame_tables h h.candidates h.number [] (if b then each_of frame_tables (unsure ∷ []) (everything applicable same start) [] else by_mode applicable same start m Coherence a)
         by true k = unsure-keeps
-        by false k = asked-keeps (sound (is-true m.is_sound (first-no (not m.is_sound) (begins_unknown a.kinds (self_of a)) k))) a e (no-first (not m.is_sound) (begins_unknown a.kinds (self_of a)) k)
+        by false k = asked-keeps (sound (is-true m.is_sound (first-no (not m.is_sound) (begins_unknown a.kinds (self_of a)) k))) (is-true m.is_sound (first-no (not m.is_sound) (begins_unknown a.kinds (self_of a)) k)) a e (no-first (not m.is_sound) (begins_unknown a.kinds (self_of a)) k)
 
 pub coherence-is-covered : CoherenceIsCovered
-coherence-is-covered applicable same m sound f = answers-cover applicable same m sound f
+coherence-is-covered applicable same m sound f fits = answers-cover applicable same m sound f fits
 
 pub coherence-is-lawful : CoherenceIsLawful
-coherence-is-lawful applicable same is_test is_same m sound f lawful =
+coherence-is-lawful applicable same is_test is_same m sound f fits lawful =
     plan_is_lawful frame_tables (solver_planned applicable same m Coherence f)
     (record {
       begins = λ v. begins-free (kinds_known f.kinds) v;
       says_nothing = λ c. begin-says-nothing (kinds_known f.kinds) c;
       begins_within = begins-within _ (kinds_known f.kinds);
-      keeps = plan-keeps applicable same m sound f is_test is_same lawful (asked m.view f) refl;
+      keeps = plan-keeps applicable same m sound f fits is_test is_same lawful (asked m.view f) refl;
     })

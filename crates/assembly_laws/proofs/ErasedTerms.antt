@@ -122,6 +122,53 @@ module _ (good : Label → Bool) where
   pub erased-terms : (t : Trees) → is_made good terms t ≡ true → some_node is_stray (erase t) ≡ false → are_terms (erase t) ≡ true
   erased-terms t h e = both (is_made is_declared terms (erase t)) (not (some_node is_counted (erase t))) (erased-made terms t h e) (ap not (uncounted t))
 
+-- a declared term without its lifetimes is a declared one
+declared-label : (l : Label) → is_declared l ≡ true → is_declared (erase_label l) ≡ true
+declared-label (param of_type i) e = refl
+declared-label (param of_const i) e = refl
+declared-label (param of_lifetime i) e = refl
+declared-label (placeholder k i) e = absurd (false-true e)
+declared-label (infer k i) e = absurd (false-true e)
+declared-label (canonical k i) e = absurd (false-true e)
+declared-label (bound s k i) e = absurd (false-true e)
+declared-label l e = refl
+
+declared-made : (m : Standing) (t : Trees) → is_made is_declared m t ≡ true → is_made is_declared m (erase t) ≡ true
+declared-made terms none h = refl
+declared-made terms (tree dynamic c o) h =
+    both (is_made is_declared bounds (erase c)) _ (declared-made bounds c (left (is_made is_declared bounds c) (is_made is_declared terms o) h)) (declared-made terms o (right (is_made is_declared bounds c) (is_made is_declared terms o) h))
+declared-made terms (tree (principal n t) c o) h = absurd (false-true h)
+declared-made terms (tree (auto_trait t) c o) h = absurd (false-true h)
+declared-made terms (tree (predicate k) c o) h = absurd (false-true h)
+declared-made terms (tree l c o) h =
+    let x = made-ordinary is_declared l c o refl h in
+    let y = erased-label l in
+    makes-ordinary is_declared (erase_label l) (erase c) (erase o) y.ordinary (declared-label l x.0) (ap (λ b. not b || is_no_tree (erase c)) y.leaf ∙ ap (λ b. not (is_leaf_label l) || b) (erased-empty c) ∙ x.1)
+    (declared-made terms c x.2) (declared-made terms o x.3)
+declared-made bounds none h = absurd (false-true h)
+declared-made bounds (tree (principal n t) c o) h =
+    both (is_made is_declared terms (erase c)) _ (declared-made terms c (left (is_made is_declared terms c) (is_made is_declared traits o) h)) (declared-made traits o (right (is_made is_declared terms c) (is_made is_declared traits o) h))
+declared-made bounds (tree (auto_trait t) c o) h = both (is_no_tree (erase c)) _ (erased-empty c ∙ left (is_no_tree c) (is_made is_declared traits o) h) (declared-made traits o (right (is_no_tree c) (is_made is_declared traits o) h))
+declared-made bounds (tree (predicate k) c o) h = absurd (false-true h)
+declared-made bounds (tree dynamic c o) h = absurd (never-dynamic-bound is_declared c o h)
+declared-made bounds (tree l c o) h =
+    let x = last-bound is_declared l c o refl h in
+    let y = erased-label l in
+    last-bound-is (erase_label l) (erase c) (erase o) y.ordinary (declared-label l x.good_label) (y.sort ∙ lifetime-is (sort_of l) x.lifetime) (erased-none c x.children) (erased-none o x.rest)
+declared-made traits none h = absurd (false-true h)
+declared-made traits (tree (auto_trait t) c o) h = both (is_no_tree (erase c)) _ (erased-empty c ∙ left (is_no_tree c) (is_made is_declared traits o) h) (declared-made traits o (right (is_no_tree c) (is_made is_declared traits o) h))
+declared-made traits (tree (predicate k) c o) h = absurd (false-true h)
+declared-made traits (tree dynamic c o) h = absurd (never-dynamic is_declared c o h)
+declared-made traits (tree (principal n t) c o) h = absurd (never-principal is_declared n t c o h)
+declared-made traits (tree l c o) h =
+    let x = last-trait is_declared l c o refl h in
+    let y = erased-label l in
+    last-trait-is (erase_label l) (erase c) (erase o) y.ordinary (declared-label l x.good_label) (y.sort ∙ lifetime-is (sort_of l) x.lifetime) (erased-none c x.children) (erased-none o x.rest)
+
+pub declared-stays : (t : Trees) → are_terms t ≡ true → are_terms (erase t) ≡ true
+declared-stays t e =
+    both (is_made is_declared terms (erase t)) (not (some_node is_counted (erase t))) (declared-made terms t (left (is_made is_declared terms t) (not (some_node is_counted t)) e)) (ap not (uncounted is_declared t))
+
 pub erased-lifetimes : (t : Trees) → some_node is_lifetime_parameter (erase t) ≡ false
 erased-lifetimes none = refl
 erased-lifetimes (tree l c o) =

@@ -13,6 +13,7 @@ use Rattle.table_laws.specs.Operations.{fresh}
 use Rattle.evaluation_laws.specs.Tables.{frame_tables}
 use Rattle.assembly_laws.specs.Slots.{own_slot, as_slots, with_slots}
 use Rattle.assembly_laws.specs.Solver.{IsSolution}
+use Rattle.assembly_laws.specs.Meaning.{proved_in}
 use Rattle.assembly_laws.specs.Cover.{padded, slots, nested_at, GivenIsRealized}
 use Rattle.assembly_laws.proofs.Filled.{no-placeholder, filled, filled-allowed, filled-slots}
 use Rattle.evaluation_laws.proofs.Unplaced.{IsNotPlace}
@@ -29,7 +30,7 @@ same-fact ts us n p e q =
     ∙ ap (λ (z : Bool). record { trait = trait_of n.goal.predicate; goal = goal_read (given us) n.goal; proper = z }) q
 
 pub given-is-realized : GivenIsRealized
-given-is-realized W ks v c are h g p gives = record {
+given-is-realized m w ks v c are h g p gives = record {
   assignment = terms_of;
   allowed = filled-allowed ks c.kinds no_places own_places v gives.own;
   own = refl;
@@ -37,8 +38,8 @@ given-is-realized W ks v c are h g p gives = record {
       Every-both (λ (e : Equation). read_with (given (slots ks (with_slots ks v) gives.own)) e.left.trees ≡ read_with (given (slots ks (with_slots ks v) gives.own)) e.right.trees)
       (λ (e : Equation). (term_of e.left ≡ e.left.trees) × (term_of e.right ≡ e.right.trees)) (λ e. Meets e terms_of) (λ e q r. meets e q r) c.equations gives.equal are;
   solves =
-      Every-mono (λ n. IsSolution W (nested_at (slots ks (with_slots ks v) gives.own) n)) (Solves frame_tables (IsSolution W) (fresh (begin ks) c.kinds) terms_of)
-      (λ n s. (tt, subst (IsSolution W) (sym (same-fact terms_of.slots (slots ks (with_slots ks v) gives.own) n terms_of.proper slots-are p)) s)) c.nested gives.solves;
+      Every-mono (λ n. IsSolution (proved_in w) (nested_at (slots ks (with_slots ks v) gives.own) n)) (Solves frame_tables (IsSolution (proved_in w)) (fresh (begin ks) c.kinds) terms_of)
+      (λ n s. (tt, subst (IsSolution (proved_in w)) (sym (same-fact terms_of.slots (slots ks (with_slots ks v) gives.own) n terms_of.proper slots-are p)) s)) c.nested gives.solves;
 }
   where
     no_places : Every IsNotPlace ks

@@ -19,7 +19,8 @@ use Rattle.evaluation.specs.Plans.{Keeps, nested_in, each_of}
 use Rattle.evaluation.specs.Merge.{IsTest, TellsApart}
 use Rattle.evaluation.proofs.Plans.{plan_is_lawful}
 use Rattle.evaluation.proofs.PlanAnswers.{list_keeps}
-use Rattle.assembly_laws.specs.Meaning.{Meaning}
+use Rattle.assembly_laws.specs.Meaning.{Meaning, proved_in}
+use Rattle.assembly_laws.specs.Lifetimes.{GivesLifetimes, goal_gives_lifetimes}
 use Rattle.assembly_laws.specs.Asking.{Asked, asked, clauses, self_of, begins_unknown, all_known}
 use Rattle.assembly_laws.specs.Candidates.{Candidate, unsure, unknowable, by_clauses, built_in, by_impls, by_objects}
 use Rattle.assembly_laws.specs.Solver.{solver_planned, solver_handled, most_candidates, number_at, widest_of, plan_for, by_mode, everything, in_coherence, outside_coherence}
@@ -56,7 +57,7 @@ module _ (applicable : AnswerTrees → Bool) (is_test : IsTest frame_tables appl
         by : (mo : TypingMode) → mode ≡ mo → (w : (solver_handled applicable same m mo f).World) → (solver_handled applicable same m mo f).Proves w (h.goal v)
             → Realizes frame_tables ((solver_handled applicable same m mo f).Proves w) h.begin v unsure
         by Coherence e w s =
-            unsure-realizes w.linked.set (kinds_known f.kinds) v w.no_placeholders
+            unsure-realizes (proved_in w.linked) (kinds_known f.kinds) v w.no_placeholders
         by PostAnalysis e w s = absurd w
 
     unsure-keeps : Keeps frame_tables h h.candidates h.number [] (plan_for applicable same h.begin m mode None)
@@ -66,7 +67,7 @@ module _ (applicable : AnswerTrees → Bool) (is_test : IsTest frame_tables appl
         few = omega arith
 
     -- ---- goals that are decided
-    module _ (a : Asked) (is : asked m.view f ≡ Some a) (known : begins_unknown a.kinds (self_of a) ≡ false) (covers : SolutionsAreCandidates m) (terms : Every AreTermsOf (all_candidates m.view a)) where
+    module _ (a : Asked) (is : asked m.view f ≡ Some a) (known : begins_unknown a.kinds (self_of a) ≡ false) (given : goal_gives_lifetimes m.view a ≡ true) (covers : SolutionsAreCandidates m) (terms : Every AreTermsOf (all_candidates m.view a)) where
       kinds-are : kinds_known f.kinds ≡ a.kinds
       kinds-are = known-kinds f.kinds a.kinds (asked-by m.view f.goal.environment f.goal.predicate (all_known f.kinds) a is).kinds_are
 
@@ -78,8 +79,8 @@ module _ (applicable : AnswerTrees → Bool) (is_test : IsTest frame_tables appl
 
       are-realized : Realized tables_are_lawful applicable is_test same is_same inside says_nothing begins_within m.view m.crate a
       are-realized = record {
-        by_view = λ k w v s. by-candidates m covers f a is known w v s terms k;
-        by_others = λ w v s. by-unknowable m covers f a is known w v s terms;
+        by_view = λ k w v s. by-candidates m covers f a is known given w v s terms k;
+        by_others = λ w v s. by-unknowable m covers f a is known given w v s terms;
       }
 
       module _ (few : suc (length (all_candidates m.view a)) ≤ most_candidates m.view f) (asks : nested_in frame_tables (unknowable m.view a ∷ all_candidates m.view a) ≤ number_at m.view (widest_of m.view f)) where
@@ -129,11 +130,11 @@ module _ (applicable : AnswerTrees → Bool) (is_test : IsTest frame_tables appl
     not-either true c e = (refl, e)
     not-either false c e = absurd (true-false e)
 
-    module _ (p : SolverPremises m) where
+    module _ (p : SolverPremises m) (fits : GivesLifetimes m f) where
       decided-keeps : (a : Asked) → asked m.view f ≡ Some a → m.is_sound ≡ true → begins_unknown a.kinds (self_of a) ≡ false → (mo : TypingMode) → mode ≡ mo
           → Keeps frame_tables (solver_handled applicable same m mo f) h.candidates h.number [] (by_mode applicable same h.begin m mo a)
-      decided-keeps a is sound known Coherence e = inside-keeps a is known (p.covers sound) (p.terms sound f a is) (p.few sound f a is) (p.asks sound f a is) (p.lawful sound applicable same Coherence f a is known)
-      decided-keeps a is sound known PostAnalysis e = outside-keeps a is known (p.covers sound) (p.terms sound f a is) (p.few sound f a is) (p.asks sound f a is) (p.lawful sound applicable same PostAnalysis f a is known)
+      decided-keeps a is sound known Coherence e = inside-keeps a is known (fits sound a is) (p.covers sound) (p.terms sound f a is) (p.few sound f a is) (p.asks sound f a is) (p.lawful sound applicable same Coherence f a is known)
+      decided-keeps a is sound known PostAnalysis e = outside-keeps a is known (fits sound a is) (p.covers sound) (p.terms sound f a is) (p.few sound f a is) (p.asks sound f a is) (p.lawful sound applicable same PostAnalysis f a is known)
 
       plan-keeps : (o : Option Asked) → asked m.view f ≡ o → Keeps frame_tables h h.candidates h.number [] (plan_for applicable same h.begin m mode o)
       plan-keeps None e = unsure-keeps
@@ -153,4 +154,4 @@ module _ (applicable : AnswerTrees → Bool) (is_test : IsTest frame_tables appl
       })
 
 pub solver-is-lawful : SolverIsLawful
-solver-is-lawful applicable is_test same is_same m p mode f = is-lawful applicable is_test same is_same m p.realized mode f p
+solver-is-lawful applicable is_test same is_same m p mode f fits = is-lawful applicable is_test same is_same m p.realized mode f p fits

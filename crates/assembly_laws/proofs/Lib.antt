@@ -67,6 +67,13 @@ pub mod DeclaredWell
 pub mod SoundAll
 pub mod SolverLaw
 pub mod ErasedTerms
+pub mod ErasedReading
+pub mod ErasedCandidates
+pub mod ErasedRows
+pub mod HavingViews
+pub mod NumberedViews
+pub mod ErasedViews
+pub mod WrittenCore
 pub mod HeldViews
 pub mod WorkedViews
 pub mod Premises

@@ -116,23 +116,23 @@ pub dyn-shut : (c o : Trees) → Shut (tree dynamic c o) → Shut (tree dynamic 
 dyn-shut c o h = or-no (is_open dynamic || some_node is_open c) false (child-shut is_open dynamic c o h) refl
 
 -- ---- rows
-module _ (W V : World) (declared : is_declared_view V ≡ true) (plain : BoundsArePlain V) (rank : ℕ → ℕ) (down : LeadDown V rank) (a : Asked) (v : Values) where
+module _ (H : Reference → Type 0) (V : World) (declared : is_declared_view V ≡ true) (plain : BoundsArePlain V) (rank : ℕ → ℕ) (down : LeadDown V rank) (a : Asked) (v : Values) where
   abbrev ys : List Trees
   ys = slots a.kinds v []
 
   abbrev asks : Reference
   asks = read_reference ys a.reference
 
-  module _ (supers : Every (Proved W) (map (read_reference ys) (supertraits V a.reference))) where
+  module _ (supers : Every (Proved H) (map (read_reference ys) (supertraits V a.reference))) where
     -- a bound that is read as what is asked gives the candidate
-    from-bound : (source : ℕ → CandidateSource) (i : ℕ) (rs : List Reference) (t : Reference) → In t rs → read_reference ys t ≡ asks → SomeOf (Gives W a.kinds v) (bounds_from V a source i rs)
+    from-bound : (source : ℕ → CandidateSource) (i : ℕ) (rs : List Reference) (t : Reference) → In t rs → read_reference ys t ≡ asks → SomeOf (Gives H a.kinds v) (bounds_from V a source i rs)
     from-bound source i [] t j e = absurd (in-nothing t j)
     from-bound source i (r ∷ rs) t j e = by (r.trait == a.reference.trait) refl (in-cases t r rs j) (λ k g. from-bound source k rs t g e)
       where
-        by : (b : Bool) → (r.trait == a.reference.trait) ≡ b → (r ≡ t) ⊎ In t rs → ((k : ℕ) → In t rs → SomeOf (Gives W a.kinds v) (bounds_from V a source k rs))
-            → SomeOf (Gives W a.kinds v) (if b then by_rule V a (source i) (all_equal a.reference.args r.args) (supertraits V a.reference) ∷ bounds_from V a source (suc i) rs else bounds_from V a source (suc i) rs)
+        by : (b : Bool) → (r.trait == a.reference.trait) ≡ b → (r ≡ t) ⊎ In t rs → ((k : ℕ) → In t rs → SomeOf (Gives H a.kinds v) (bounds_from V a source k rs))
+            → SomeOf (Gives H a.kinds v) (if b then by_rule V a (source i) (all_equal a.reference.args r.args) (supertraits V a.reference) ∷ bounds_from V a source (suc i) rs else bounds_from V a source (suc i) rs)
         by true q (inl g) go =
-            inl (gives-equal W V a v (source i) (all_equal a.reference.args r.args) (supertraits V a.reference)
+            inl (gives-equal H V a v (source i) (all_equal a.reference.args r.args) (supertraits V a.reference)
             (pairwise ys a.reference.args r.args (sym (ap (λ (z : Reference). z.args) (ap (read_reference ys) g ∙ e)))) supers)
         by true q (inr g) go = inr (go (suc i) g)
         by false q (inl g) go = absurd (true-false (sym (self-number a.reference.trait) ∙ ap (λ z. z == a.reference.trait) (sym (ap (λ (z : Reference). z.trait) (ap (read_reference ys) g ∙ e))) ∙ q))
@@ -143,7 +143,7 @@ module _ (W V : World) (declared : is_declared_view V ≡ true) (plain : BoundsA
     read-as-asked rs s i e = let m = map-in (read_reference ys) rs s i in (m.0, m.1, m.2 ∙ sym (same-reference-sound asks s e))
 
     at-dyn : (good : Label → Bool) (c o : Trees) → is_made good bounds c ≡ true → Shut (tree dynamic (read_with (given ys) c) (read_with (given ys) o)) → (u : Rule)
-        → In u (object_rules V asks (tree dynamic (read_with (given ys) c) (read_with (given ys) o))) → SomeOf (Gives W a.kinds v) (objects_of V a (tree dynamic c o))
+        → In u (object_rules V asks (tree dynamic (read_with (given ys) c) (read_with (given ys) o))) → SomeOf (Gives H a.kinds v) (objects_of V a (tree dynamic c o))
     at-dyn good c o made shut u i = by (are_dyn_compatible V ps) compatible (in-append u (if list_any (same_reference asks) (map (read_reference ys) qs) then row object_auto (strict_supertraits V asks) else []) _ (rule.1))
       where
         self : Trees
@@ -185,20 +185,20 @@ module _ (W V : World) (declared : is_declared_view V ≡ true) (plain : BoundsA
         principals = if not (asks.trait == sized) then equal_rows object_principal (strict_supertraits V asks) asks 0 (elaborated V (map (read_reference ys) ps)) else []
 
         by : (b : Bool) → b ≡ true → In u autos ⊎ In u principals
-            → SomeOf (Gives W a.kinds v) (if_so b (bounds_from V a written_source 0 qs ++ if_so (not (a.reference.trait == sized)) (bounds_from V a object_source 0 (elaborate V ps))))
+            → SomeOf (Gives H a.kinds v) (if_so b (bounds_from V a written_source 0 qs ++ if_so (not (a.reference.trait == sized)) (bounds_from V a object_source 0 (elaborate V ps))))
         by false e g = absurd (true-false (sym e))
         by true e (inl g) =
             let m = one-row asks (map (read_reference ys) qs) true (row object_auto (strict_supertraits V asks)) u g in
             let t = read-as-asked qs m.1.0 m.1.1 m.1.2 in
-            some-left (Gives W a.kinds v) (bounds_from V a written_source 0 qs) _ (from-bound written_source 0 qs t.0 t.1 t.2)
+            some-left (Gives H a.kinds v) (bounds_from V a written_source 0 qs) _ (from-bound written_source 0 qs t.0 t.1 t.2)
         by true e (inr g) =
             let m = each-row object_principal (strict_supertraits V asks) asks 0 (elaborated V (map (read_reference ys) ps)) (not (asks.trait == sized)) u g in
             let t = in-elaborate m.1.0 m.1.1 m.1.2 in
-            some-right (Gives W a.kinds v) (bounds_from V a written_source 0 qs) _
-            (subst (λ b. SomeOf (Gives W a.kinds v) (if_so b (bounds_from V a object_source 0 (elaborate V ps)))) (sym m.0) (from-bound object_source 0 (elaborate V ps) t.0 t.1 t.2))
+            some-right (Gives H a.kinds v) (bounds_from V a written_source 0 qs) _
+            (subst (λ b. SomeOf (Gives H a.kinds v) (if_so b (bounds_from V a object_source 0 (elaborate V ps)))) (sym m.0) (from-bound object_source 0 (elaborate V ps) t.0 t.1 t.2))
 
     -- the row of object bounds, where the head of Self is known
     pub objects-at : (good : Label → Bool) (k : Label) (c o : Trees) → (k ≡ dynamic → is_made good bounds c ≡ true) → Shut (tree k (read_with (given ys) c) (read_with (given ys) o)) → (u : Rule)
-        → In u (object_rules V asks (tree k (read_with (given ys) c) (read_with (given ys) o))) → SomeOf (Gives W a.kinds v) (objects_of V a (tree k c o))
+        → In u (object_rules V asks (tree k (read_with (given ys) c) (read_with (given ys) o))) → SomeOf (Gives H a.kinds v) (objects_of V a (tree k c o))
     objects-at good dynamic c o made shut u i = at-dyn good c o (made refl) shut u i
     objects-at good k c o made shut u i = absurd (in-nothing u i)

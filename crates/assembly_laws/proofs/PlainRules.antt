@@ -37,7 +37,7 @@ node-none p l c o e f g = or-no (p l || some_node p c) (some_node p o) (or-no (p
 
 -- ---- what is declared
 -- unerased, but for parameters, in whose place arguments are put
-abbrev is_wild : Label → Bool
+abbrev pub is_wild : Label → Bool
 is_wild (param s i) = false
 is_wild l = is_unerased l
 
@@ -108,7 +108,7 @@ not-false : (b : Bool) → not b ≡ true → b ≡ false
 not-false true e = absurd (true-false (sym e))
 not-false false e = refl
 
-tame : (t : Trees) → are_terms t ≡ true → some_node is_wild t ≡ false
+pub tame : (t : Trees) → are_terms t ≡ true → some_node is_wild t ≡ false
 tame t e = tame-terms t (left (is_made is_declared terms t) (not (some_node is_counted t)) e) (not-false (some_node is_counted t) (right (is_made is_declared terms t) (not (some_node is_counted t)) e))
 
 nth-plain : (t : Trees) (i : ℕ) → Plain t → Plain (nth t i)

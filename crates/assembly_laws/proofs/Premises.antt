@@ -11,6 +11,7 @@ use Rattle.evaluation_laws.specs.Tables.{frame_tables}
 use Rattle.evaluation.specs.Plans.{nested_in}
 use Rattle.evaluation.specs.Merge.{IsTest, TellsApart}
 use Rattle.assembly_laws.specs.Meaning.{Meaning}
+use Rattle.assembly_laws.specs.Lifetimes.{GivesLifetimes}
 use Rattle.assembly_laws.specs.Asking.{Asked, asked, self_of, begins_unknown}
 use Rattle.assembly_laws.specs.Candidates.{Candidate, unknowable, built_in, misc, if_so, as_written, upcasts_of, by_impls, by_objects}
 use Rattle.assembly_laws.specs.Declared.{is_declared_view}
@@ -68,4 +69,4 @@ pub record SolverPremises (m : Meaning) : Type 0 where
 abbrev pub SolverIsLawful : Type 0
 SolverIsLawful =
     (applicable : AnswerTrees → Bool) → IsTest frame_tables applicable → (same : AnswerTrees → AnswerTrees → Bool) → TellsApart same
-    → (m : Meaning) → SolverPremises m → (mode : TypingMode) (f : CanonicalForm) → IsHandler frame_tables (solver_handled applicable same m mode f)
+    → (m : Meaning) → SolverPremises m → (mode : TypingMode) (f : CanonicalForm) → GivesLifetimes m f → IsHandler frame_tables (solver_handled applicable same m mode f)

@@ -17,7 +17,8 @@ use Rattle.table_laws.specs.Operations.{begin}
 use Rattle.evaluation_laws.specs.Tables.{frame_tables}
 use Rattle.assembly_laws.specs.Slots.{as_slots, with_slots}
 use Rattle.assembly_laws.specs.Facts.{clauses_of}
-use Rattle.assembly_laws.specs.Meaning.{Meaning}
+use Rattle.assembly_laws.specs.Meaning.{Meaning, proved_in}
+use Rattle.assembly_laws.specs.Lifetimes.{goal_gives_lifetimes}
 use Rattle.assembly_laws.specs.Knowing.{is_knowable}
 use Rattle.assembly_laws.specs.Declared.{is_declared_view}
 use Rattle.assembly_laws.specs.Asking.{Asked, asked, clauses, self_of, begins_unknown, with_first, all_known}
@@ -142,9 +143,9 @@ asked-terms m declared f a e bounds_are w =
     all-are-terms m.view declared a (asked-by m.view f.goal.environment f.goal.predicate (all_known f.kinds) a e).over (subst (λ (rs : List Reference). Every (λ (r : Reference). IsOpenTerms r.args) rs) (sym (ap clauses_of (asked-bare m f w.no_clauses a e))) tt) bounds_are
 
 module _ (m : Meaning) (complete : SolutionsAreCandidates m) (f : CanonicalForm) (a : Asked) (e : asked m.view f ≡ Some a)
-    (known : begins_unknown a.kinds (self_of a) ≡ false) (w : Searched m f) (v : Values) (s : IsSolution w.linked.set (goal_fact f v)) (are : Every AreTermsOf (all_candidates m.view a)) where
-  abbrev pub W : World
-  W = w.linked.set
+    (known : begins_unknown a.kinds (self_of a) ≡ false) (given-lifetimes : goal_gives_lifetimes m.view a ≡ true) (w : Searched m f) (v : Values) (s : IsSolution (proved_in w.linked) (goal_fact f v)) (are : Every AreTermsOf (all_candidates m.view a)) where
+  abbrev pub H : Reference → Type 0
+  H = proved_in w.linked
 
   is : IsAsked m.view f.goal.environment f.goal.predicate (all_known f.kinds) a
   is = asked-by m.view f.goal.environment f.goal.predicate (all_known f.kinds) a e
@@ -173,26 +174,26 @@ module _ (m : Meaning) (complete : SolutionsAreCandidates m) (f : CanonicalForm)
       left-of true y h = refl
       left-of false y h = absurd (true-false (sym h))
 
-  solution : IsSolution W (goal_fact f (with_slots a.kinds v))
-  solution = subst (IsSolution W) (sym same-goal) s
+  solution : IsSolution H (goal_fact f (with_slots a.kinds v))
+  solution = subst (IsSolution H) (sym same-goal) s
 
-  realized : (c : Candidate) → AreTermsOf c → has_placeholder c.kinds ≡ false → Gives W a.kinds (with_slots a.kinds v) c → Realizes frame_tables (IsSolution W) (begin (kinds_known f.kinds)) v c
-  realized c are own gives = subst (λ ks. Realizes frame_tables (IsSolution W) (begin ks) v c) (sym kinds-are) (given-is-realized W a.kinds v c are no_placeholders own proper-is gives)
+  realized : (c : Candidate) → AreTermsOf c → has_placeholder c.kinds ≡ false → Gives H a.kinds (with_slots a.kinds v) c → Realizes frame_tables (IsSolution H) (begin (kinds_known f.kinds)) v c
+  realized c are own gives = subst (λ ks. Realizes frame_tables (IsSolution H) (begin ks) v c) (sym kinds-are) (given-is-realized m w.linked a.kinds v c are no_placeholders own proper-is gives)
 
-  pub by-candidates : is_knowable m.view m.crate a.reference ≡ true → SomeOf (Realizes frame_tables (IsSolution W) (begin (kinds_known f.kinds)) v) (all_candidates m.view a)
+  pub by-candidates : is_knowable m.view m.crate a.reference ≡ true → SomeOf (Realizes frame_tables (IsSolution H) (begin (kinds_known f.kinds)) v) (all_candidates m.view a)
   by-candidates k =
-      SomeOf-both (λ c. AreTermsOf c × HasNone c) (Gives W a.kinds (with_slots a.kinds v)) (Realizes frame_tables (IsSolution W) (begin (kinds_known f.kinds)) v)
+      SomeOf-both (λ c. AreTermsOf c × HasNone c) (Gives H a.kinds (with_slots a.kinds v)) (Realizes frame_tables (IsSolution H) (begin (kinds_known f.kinds)) v)
       (λ c h g. realized c h.0 h.1 g) (all_candidates m.view a)
       (Every-both AreTermsOf HasNone (λ c. AreTermsOf c × HasNone c) (λ c x y. (x, y)) (all_candidates m.view a)
       are (none-own m.view a))
-      ((complete f a e known w (with_slots a.kinds v) solution).0 k)
+      ((complete f a e known given-lifetimes w (with_slots a.kinds v) solution).0 k)
 
-  pub by-unknowable : Realizes frame_tables (IsSolution W) (begin (kinds_known f.kinds)) v (unknowable m.view a)
-  by-unknowable = realized (unknowable m.view a) tt refl (complete f a e known w (with_slots a.kinds v) solution).1
+  pub by-unknowable : Realizes frame_tables (IsSolution H) (begin (kinds_known f.kinds)) v (unknowable m.view a)
+  by-unknowable = realized (unknowable m.view a) tt refl (complete f a e known given-lifetimes w (with_slots a.kinds v) solution).1
 
 -- what is not decided is open to all values
-pub unsure-realizes : (W : World) (ks : List CanonicalVarKind) (v : Values) → has_placeholder ks ≡ false → Realizes frame_tables (IsSolution W) (begin ks) v unsure
-unsure-realizes W ks v h = record {
+pub unsure-realizes : (H : Reference → Type 0) (ks : List CanonicalVarKind) (v : Values) → has_placeholder ks ≡ false → Realizes frame_tables (IsSolution H) (begin ks) v unsure
+unsure-realizes H ks v h = record {
   assignment = filled ks [] (no-placeholder ks h) tt v [];
   allowed = filled-allowed ks [] (no-placeholder ks h) tt v [];
   own = refl;

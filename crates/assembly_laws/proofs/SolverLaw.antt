@@ -1,7 +1,7 @@
 -- The solver is a lawful handler in both modes, and in coherence covers each solution, where the view is declared well.
 use Rattle.assembly_laws.specs.Lawful.{WellDeclaredIsLawful, SolverIsLawfulAndCovers}
 use Rattle.assembly_laws.proofs.Given.{given-is-realized}
-use Rattle.assembly_laws.proofs.Solver.{solutions-by}
+use Rattle.assembly_laws.proofs.ErasedViews.{solutions-by}
 use Rattle.assembly_laws.proofs.BoundTerms.{equations-are-terms, bounds-are-left}
 use Rattle.assembly_laws.proofs.CandidateBounds.{candidates-are-few}
 use Rattle.assembly_laws.proofs.NarrowCandidates.{candidates-are-narrow}
@@ -14,16 +14,16 @@ pub well-declared-is-lawful : WellDeclaredIsLawful
 well-declared-is-lawful m w = sound-and-narrow-is-lawful m w.terms w.determined (candidates-are-sound m w) (candidates-are-narrow m w.one_field)
 
 pub solver-is-lawful-and-covers : SolverIsLawfulAndCovers
-solver-is-lawful-and-covers applicable is_test same is_same m well f = (
+solver-is-lawful-and-covers applicable is_test same is_same m well f fits = (
   λ mode. solver-is-lawful applicable is_test same is_same m
       (record {
         realized = given-is-realized;
-        covers = λ e. solutions-by m (well e).terms (well e).determined;
+        covers = λ e. solutions-by m (well e).terms (well e).determined (well e).erased;
         terms = λ e. equations-are-terms m (well e).terms (well e).erased;
         lawful = λ e. well-declared-is-lawful m (well e);
         few = λ e. (candidates-are-few m (well e).one_struct).0;
         asks = λ e. (candidates-are-few m (well e).one_struct).1;
       })
-      mode f,
-  coherence-is-covered applicable same m (λ e. record { declared = (well e).terms; determined = (well e).determined; bounds = bounds-are-left m (well e).terms (well e).erased }) f,
+      mode f fits,
+  coherence-is-covered applicable same m (λ e. record { declared = (well e).terms; determined = (well e).determined; erased = (well e).erased; bounds = bounds-are-left m (well e).terms (well e).erased }) f fits,
 )

@@ -1,29 +1,27 @@
 -- The supertraits of a solution are solutions.
-use Rattle.std.proofs.Common.{◌≡◌, ℕ, zero, suc, Bool, true, false, not, ◌&&◌, ◌||◌, ◌==◌, if◌then◌else◌, List, [], ◌∷◌, ◌++◌, filter, length, ◌⊎◌, inl, inr, refl, sym, ◌∙◌, ap, subst}
-use Rattle.std.specs.List.{flat_map, list_all}
-use Rattle.model.specs.Renumbering.{View}
+use Rattle.std.proofs.Common.{◌≡◌, ℕ, zero, suc, Bool, true, false, not, ◌||◌, ◌==◌, if◌then◌else◌, List, [], ◌∷◌, ◌++◌, filter, length, ◌⊎◌, inl, inr, refl, sym, ◌∙◌, ap, subst}
+use Rattle.std.specs.List.{flat_map}
 use Rattle.model.specs.Label.{Label, param, placeholder, infer, canonical, bound, inside, shift_label}
 use Rattle.model.specs.Trees.{Trees, none, tree, nth, instantiate, shift, some_node}
-use Rattle.model.specs.Worlds.{World, Reference, TraitDecl, traits_named, view_of, sees, with_args, all_with_args}
+use Rattle.model.specs.Worlds.{World, Reference, TraitDecl, traits_named, with_args, all_with_args}
 use Rattle.model.specs.Rules.{written_supertraits, strict_supertraits, strict_supertraits_within}
 use Rattle.model.specs.Proofs.{In, HasProof}
 use Rattle.model.specs.Proofs as Model
 use Rattle.model.specs.Answers.{is_closed, is_open}
-use Rattle.model.specs.LinkedSet.{LinkedSet, is_stray}
+use Rattle.model.specs.LinkedSet.{is_stray}
 use Rattle.model.proofs.Members.{here, there, in-nothing, in-cases, in-flat, flat-in, in-map, in-filter}
 use Rattle.model.proofs.Entries.{map-in}
 use Rattle.model.proofs.Fitting.{head-shut, child-shut, next-shut, append-shut, or-no}
-use Rattle.model.proofs.NoHolds.{supers-of-view, member-each}
 use Rattle.evaluation.specs.Lists.{Every}
 use Rattle.table_laws.specs.Instances.{read_with}
 use Rattle.table_laws.specs.Content.{given}
-use Rattle.assembly_laws.specs.Declared.{are_terms, are_references, is_declared_view}
-use Rattle.assembly_laws.specs.Knowing.{SupersStand}
+use Rattle.assembly_laws.specs.Declared.{is_declared_view}
+use Rattle.assembly_laws.proofs.HavingViews.{ProvesBy}
+use Rattle.assembly_laws.proofs.DeclaredParts.{bound-declared}
 pub use Rattle.assembly_laws.specs.Cover.{Proved}
 use Rattle.declarations.specs.Elaboration.{is_put, new_of, pushed, off_stack, all_levels, elaborate, rest_of, supertraits}
 use Rattle.assembly_laws.proofs.Reading.{true-false, read_reference}
 use Rattle.assembly_laws.proofs.Instances.{read-declared}
-use Rattle.model.proofs.Walking.{left, right}
 
 -- ---- what is made of closed terms and declarations is closed
 abbrev Shuts : Trees → Type 0
@@ -128,35 +126,26 @@ module _ (V : World) (P : Reference → Type 0) (keeps : (r : Reference) → P r
       every-rest (elaborate V (r ∷ []))
       (every-off (length (all_levels V (r ∷ []))) (new_of [] (r ∷ [])) (pushed (new_of [] (r ∷ [])) []) (every-pushed (new_of [] (r ∷ [])) [] (every-new [] (r ∷ []) (p, tt)) tt))
 
--- ---- in a linked set
-
-module _ (W : World) (vs : List View) (rank : ℕ → ℕ) (l : LinkedSet W vs rank) (stand : SupersStand W) (c : ℕ) (declared : is_declared_view (view_of W c) ≡ true) (ts : List Trees) where
-  bound-declared : (x : TraitDecl) (b : Reference) → In x (view_of W c).traits → In b x.bounds → are_terms b.args ≡ true
-  bound-declared x b i j =
-      let second = right (list_all (λ y. list_all are_terms y.fields) (view_of W c).structs) (list_all (λ (y : TraitDecl). are_references y.bounds) (view_of W c).traits && list_all (λ i. are_terms i.header.args && are_references i.clauses) (view_of W c).impls) declared in
-      let traits = left (list_all (λ (y : TraitDecl). are_references y.bounds) (view_of W c).traits) (list_all (λ i. are_terms i.header.args && are_references i.clauses) (view_of W c).impls) second in
-      member-each (λ (r : Reference). are_terms r.args) x.bounds b (member-each (λ (y : TraitDecl). are_references y.bounds) (view_of W c).traits x traits i) j
-
-  written-proved : (s : Reference) → Proved W (read_reference ts s) → Every (λ r. Proved W (read_reference ts r)) (written_supertraits (view_of W c) s)
-  written-proved s p = each (λ r. Proved W (read_reference ts r)) (written_supertraits (view_of W c) s) one
+-- ---- where solutions are looked for
+module _ (V : World) (crate : ℕ) (H : Reference → Type 0) (l : ProvesBy V crate H) (declared : is_declared_view V ≡ true) (ts : List Trees) where
+  written-proved : (s : Reference) → Proved H (read_reference ts s) → Every (λ r. Proved H (read_reference ts r)) (written_supertraits V s)
+  written-proved s p = each (λ r. Proved H (read_reference ts r)) (written_supertraits V s) one
     where
-      one : (r : Reference) → In r (written_supertraits (view_of W c) s) → Proved W (read_reference ts r)
+      one : (r : Reference) → In r (written_supertraits V s) → Proved H (read_reference ts r)
       one r i =
-          let m = in-flat (λ (t : TraitDecl). all_with_args s.args t.bounds) (traits_named (view_of W c) s.trait) r i in
-          let named = in-filter (λ (y : TraitDecl). y.name == s.trait) (view_of W c).traits m.0 m.1 in
-          let whole = in-filter (λ (y : TraitDecl). sees W c y.home) W.traits m.0 named.0 in
+          let m = in-flat (λ (t : TraitDecl). all_with_args s.args t.bounds) (traits_named V s.trait) r i in
+          let named = in-filter (λ (y : TraitDecl). y.name == s.trait) V.traits m.0 m.1 in
           let b = map-in (with_args s.args) m.0.bounds r m.2 in
           let A = read_with (given ts) s.args in
           let same : with_args A b.0 ≡ read_reference ts r
-          = ap (λ z. record { trait = b.0.trait; args = z }) (sym (read-declared ts s.args (open-none A p.0) b.0.args (bound-declared m.0 b.0 named.0 b.1))) ∙ ap (read_reference ts) b.2 in
-          let written : In (with_args A b.0) (written_supertraits (view_of W c) (read_reference ts s))
-          = flat-in (λ (t : TraitDecl). all_with_args A t.bounds) (traits_named (view_of W c) s.trait) m.0 (with_args A b.0) m.1 (in-map (with_args A) m.0.bounds b.0 b.1) in
-          subst (Proved W) same (
-            none-open (instantiate zero A b.0.args) (plain-shut zero A b.0.args (open-none A p.0) (l.plain_bounds m.0 b.0 whole.0 b.1)),
-            member (HasProof W []) (strict_supertraits W (read_reference ts s)) (with_args A b.0) (stand (read_reference ts s) p.0 p.1)
-                (supers-of-view W c (read_reference ts s) (with_args A b.0) (written-strict (view_of W c) (read_reference ts s) (with_args A b.0) written)),
+          = ap (λ z. record { trait = b.0.trait; args = z }) (sym (read-declared ts s.args (open-none A p.0) b.0.args (bound-declared V declared m.0 b.0 named.0 b.1))) ∙ ap (read_reference ts) b.2 in
+          let written : In (with_args A b.0) (written_supertraits V (read_reference ts s))
+          = flat-in (λ (t : TraitDecl). all_with_args A t.bounds) (traits_named V s.trait) m.0 (with_args A b.0) m.1 (in-map (with_args A) m.0.bounds b.0 b.1) in
+          subst (Proved H) same (
+            none-open (instantiate zero A b.0.args) (plain-shut zero A b.0.args (open-none A p.0) (l.plain m.0 b.0 named.0 b.1)),
+            l.supers (read_reference ts s) p.0 p.1 (with_args A b.0) (written-strict V (read_reference ts s) (with_args A b.0) written),
           )
 
   -- each of the supertraits of the goal has a proof where the goal has
-  pub supertraits-proved : (r : Reference) → Proved W (read_reference ts r) → Every (λ s. Proved W (read_reference ts s)) (supertraits (view_of W c) r)
-  supertraits-proved r p = every-supertrait (view_of W c) (λ s. Proved W (read_reference ts s)) (λ s q. written-proved s q) r p
+  pub supertraits-proved : (r : Reference) → Proved H (read_reference ts r) → Every (λ s. Proved H (read_reference ts s)) (supertraits V r)
+  supertraits-proved r p = every-supertrait V (λ s. Proved H (read_reference ts s)) (λ s q. written-proved s q) r p

@@ -5,10 +5,8 @@ use Rattle.model.specs.Trees.{Trees, none, tree}
 use Rattle.type_terms.specs.Made.{terms}
 use Rattle.type_terms.specs.Made.{is_made}
 use Rattle.model.specs.Worlds.{World, Reference}
-use Rattle.model.specs.Rules.{Rule, rules, principal_with}
+use Rattle.model.specs.Rules.{principal_with}
 use Rattle.model.specs.Answers.{is_closed}
-use Rattle.model.specs.Proofs.{In, HasProof}
-use Rattle.model.specs.Proofs as Model
 use Rattle.infer_table.specs.Canonical.{CanonicalForm}
 use Rattle.infer_table.specs.declared.canonical.CanonicalVarKind.{CanonicalVarKind}
 use Rattle.evaluation.specs.Lists.{Every, SomeOf}
@@ -18,12 +16,12 @@ use Rattle.table_laws.specs.Content.{Values, Fact, fits, given, trait_of, fact_o
 use Rattle.table_laws.specs.Frames.{Nested, Equation, term_of, is_open_label}
 use Rattle.table_laws.specs.Operations.{begin}
 use Rattle.evaluation_laws.specs.Tables.{frame_tables}
-use Rattle.assembly_laws.specs.Facts.{reference_in}
 use Rattle.assembly_laws.specs.Slots.{as_slots, with_slots}
 use Rattle.declarations.specs.Elaboration.{elaborate}
-use Rattle.assembly_laws.specs.Meaning.{Meaning}
+use Rattle.assembly_laws.specs.Meaning.{Meaning, LinkedWith, proved_in}
+use Rattle.assembly_laws.specs.Lifetimes.{goal_gives_lifetimes}
 use Rattle.assembly_laws.specs.Knowing.{is_knowable}
-use Rattle.assembly_laws.specs.Declared.{is_declared_view}
+use Rattle.assembly_laws.specs.Declared.{is_declared_view, BoundsAreErased}
 use Rattle.assembly_laws.specs.Asking.{Asked, asked, clauses, self_of, begins_unknown}
 use Rattle.assembly_laws.specs.Candidates.{Candidate, unknowable, by_clauses, built_in, by_impls, by_objects}
 use Rattle.assembly_laws.specs.Determined.{ImplsAreDetermined}
@@ -41,12 +39,12 @@ slots ks v own = padded ks v.terms ++ own
 abbrev pub nested_at : List Trees → Nested → Fact
 nested_at ts n = record { trait = trait_of n.goal.predicate; goal = goal_read (given ts) n.goal; proper = true }
 
--- terms for the candidate's own variables, as tables have them, with which its equations hold and its premises are solutions in W
-pub record Gives (W : World) (kinds : List CanonicalVarKind) (v : Values) (c : Candidate) : Type 0 where
+-- terms for the candidate's own variables, as tables have them, with which its equations hold and its premises are solutions
+pub record Gives (H : Reference → Type 0) (kinds : List CanonicalVarKind) (v : Values) (c : Candidate) : Type 0 where
   pub own : List Trees
   pub sorted : as_slots c.kinds own ≡ own
   pub equal : Every (λ (e : Equation). read_with (given (slots kinds v own)) e.left.trees ≡ read_with (given (slots kinds v own)) e.right.trees) c.equations
-  pub solves : Every (λ n. IsSolution W (nested_at (slots kinds v own) n)) c.nested
+  pub solves : Every (λ n. IsSolution H (nested_at (slots kinds v own) n)) c.nested
 
 -- the terms of the equations are made as terms are, each of its sort
 abbrev pub AreTermsOf : Candidate → Type 0
@@ -61,8 +59,8 @@ BoundsAreTerms V a =
 -- the table of the candidate allows these terms, and with them it realizes the values
 abbrev pub GivenIsRealized : Type 0
 GivenIsRealized =
-    (W : World) (kinds : List CanonicalVarKind) (v : Values) (c : Candidate) → AreTermsOf c → has_placeholder kinds ≡ false → has_placeholder c.kinds ≡ false
-    → (v.proper && fits (map Some kinds) v.terms) ≡ true → Gives W kinds (with_slots kinds v) c → Realizes frame_tables (IsSolution W) (begin kinds) v c
+    (m : Meaning) (w : LinkedWith m) (kinds : List CanonicalVarKind) (v : Values) (c : Candidate) → AreTermsOf c → has_placeholder kinds ≡ false → has_placeholder c.kinds ≡ false
+    → (v.proper && fits (map Some kinds) v.terms) ≡ true → Gives (proved_in w) kinds (with_slots kinds v) c → Realizes frame_tables (IsSolution (proved_in w)) (begin kinds) v c
 
 -- all candidates but the unknowable one
 abbrev pub all_candidates : World → Asked → List Candidate
@@ -71,27 +69,22 @@ all_candidates V a = by_clauses V a (clauses a) ++ (built_in V a ++ (by_impls V 
 abbrev pub goal_fact : CanonicalForm → Values → Fact
 goal_fact f v = fact_of (record { form = f; coinductive = false }) v
 
--- a rule of the view that concludes a closed instance, with proved premises, is a candidate
-abbrev pub ViewRulesAreCandidates : Meaning → Type 0
-ViewRulesAreCandidates m =
-    (f : CanonicalForm) (a : Asked) → asked m.view f ≡ Some a → begins_unknown a.kinds (self_of a) ≡ false → (w : Searched m f) (v : Values) → IsSolution w.linked.set (goal_fact f v)
-    → (u : Rule) → In u (rules m.view [] (reference_in (goal_fact f v))) → Model.Every (HasProof w.linked.set []) u.premises
-    → SomeOf (Gives w.linked.set a.kinds v) (all_candidates m.view a)
-
--- where the goal is knowable each solution is one by a candidate, and in any case it is one by the unknowable candidate
+-- of a goal that gives its structs their lifetimes: where it is knowable each solution is one by a candidate, and in any case it is one
+-- by the unknowable candidate
 abbrev pub SolutionsAreCandidates : Meaning → Type 0
 SolutionsAreCandidates m =
-    (f : CanonicalForm) (a : Asked) → asked m.view f ≡ Some a → begins_unknown a.kinds (self_of a) ≡ false → (w : Searched m f) (v : Values) → IsSolution w.linked.set (goal_fact f v)
-    → (is_knowable m.view m.crate a.reference ≡ true → SomeOf (Gives w.linked.set a.kinds v) (all_candidates m.view a)) × Gives w.linked.set a.kinds v (unknowable m.view a)
+    (f : CanonicalForm) (a : Asked) → asked m.view f ≡ Some a → begins_unknown a.kinds (self_of a) ≡ false → goal_gives_lifetimes m.view a ≡ true
+    → (w : Searched m f) (v : Values) → IsSolution (proved_in w.linked) (goal_fact f v)
+    → (is_knowable m.view m.crate a.reference ≡ true → SomeOf (Gives (proved_in w.linked) a.kinds v) (all_candidates m.view a)) × Gives (proved_in w.linked) a.kinds v (unknowable m.view a)
 
 -- the reference with terms for its variables
 abbrev pub read_reference : List Trees → Reference → Reference
 read_reference ts r = record { trait = r.trait; args = read_with (given ts) r.args }
 
 -- closed, with a proof
-abbrev pub Proved : World → Reference → Type 0
-Proved W r = (is_closed r.args ≡ true) × HasProof W [] r
+abbrev pub Proved : (Reference → Type 0) → Reference → Type 0
+Proved H r = (is_closed r.args ≡ true) × H r
 
--- in every linked set in which the crate has this view, each solution is one by the candidates that are considered
+-- in every linked set that holds the crate's view, each solution is one by the candidates that are considered
 abbrev pub SolutionsAreByCandidates : Type 0
-SolutionsAreByCandidates = (m : Meaning) → is_declared_view m.view ≡ true → ImplsAreDetermined m.view → SolutionsAreCandidates m
+SolutionsAreByCandidates = (m : Meaning) → is_declared_view m.view ≡ true → ImplsAreDetermined m.view → BoundsAreErased m.view → SolutionsAreCandidates m

@@ -15,6 +15,7 @@ use Rattle.evaluation.specs.Handler.{IsLawful}
 use Rattle.evaluation.specs.Plans.{nested_in}
 use Rattle.evaluation.specs.Merge.{IsTest, TellsApart}
 use Rattle.assembly_laws.specs.Meaning.{Meaning}
+use Rattle.assembly_laws.specs.Lifetimes.{GivesLifetimes}
 use Rattle.assembly_laws.specs.Declared.{is_declared_view, BoundsAreErased}
 use Rattle.assembly_laws.specs.Determined.{ImplsAreDetermined}
 use Rattle.assembly_laws.specs.Asking.{Asked, asked}
@@ -40,12 +41,13 @@ ErasedBoundsAreLeft = (m : Meaning) → is_declared_view m.view ≡ true → Bou
 pub record IsAsMeant (m : Meaning) : Type 0 where
   pub declared : is_declared_view m.view ≡ true
   pub determined : ImplsAreDetermined m.view
+  pub erased : BoundsAreErased m.view
   pub bounds : BoundsAreLeft m
 
 abbrev pub CoherenceIsCovered : Type 0
 CoherenceIsCovered =
     (applicable : AnswerTrees → Bool) (same : AnswerTrees → AnswerTrees → Bool) (m : Meaning) → (m.is_sound ≡ true → IsAsMeant m)
-    → (f : CanonicalForm) → AnswersCover (solver_handled applicable same m Coherence f)
+    → (f : CanonicalForm) → GivesLifetimes m f → AnswersCover (solver_handled applicable same m Coherence f)
 
 -- the candidates of a goal that is decided are lawful, and there are not too many of them
 pub record CandidatesAreLawful (h : Handled frame_tables) (V : World) (a : Asked) : Type 0 where
@@ -58,5 +60,5 @@ abbrev pub CoherenceIsLawful : Type 0
 CoherenceIsLawful =
     (applicable : AnswerTrees → Bool) (same : AnswerTrees → AnswerTrees → Bool) → IsTest frame_tables applicable → TellsApart same
     → (m : Meaning) → (m.is_sound ≡ true → IsAsMeant m)
-    → (f : CanonicalForm) → ((a : Asked) → asked m.view f ≡ Some a → CandidatesAreLawful (solver_handled applicable same m Coherence f) m.view a)
+    → (f : CanonicalForm) → GivesLifetimes m f → ((a : Asked) → asked m.view f ≡ Some a → CandidatesAreLawful (solver_handled applicable same m Coherence f) m.view a)
     → IsHandler frame_tables (solver_handled applicable same m Coherence f)

@@ -16,6 +16,7 @@ use Rattle.evaluation_laws.specs.Tables.{frame_tables}
 use Rattle.evaluation.specs.Handler.{IsLawful}
 use Rattle.evaluation.specs.Merge.{IsTest, TellsApart}
 use Rattle.assembly_laws.specs.Meaning.{Meaning}
+use Rattle.assembly_laws.specs.Lifetimes.{GivesLifetimes}
 use Rattle.assembly_laws.specs.Asking.{Asked, asked, self_of, begins_unknown}
 use Rattle.assembly_laws.specs.Candidates.{Candidate, unknowable, by_sized, by_copy, by_auto, by_tuple, by_fn_ptr, by_call, misc, if_so, as_written, unsize_array_of, upcasts_of, unsize_struct_of, by_impls, by_objects}
 use Rattle.assembly_laws.specs.Facts.{FollowsByView}
@@ -85,10 +86,10 @@ ViewIsDeclaredWell m = m.is_sound ≡ true → IsDeclaredWell m.view
 abbrev pub WellDeclaredIsLawful : Type 0
 WellDeclaredIsLawful = (m : Meaning) → IsDeclaredWell m.view → CandidatesAreLawful m
 
--- the solver is a lawful handler of every goal in both modes, and in coherence the candidates that were considered before an answer
+-- the solver is a lawful handler of every goal that gives its structs their lifetimes, in both modes, and in coherence the candidates that were considered before an answer
 -- cover each solution of the goal in every linked set
 abbrev pub SolverIsLawfulAndCovers : Type 0
 SolverIsLawfulAndCovers =
     (applicable : AnswerTrees → Bool) → IsTest frame_tables applicable → (same : AnswerTrees → AnswerTrees → Bool) → TellsApart same
-    → (m : Meaning) → ViewIsDeclaredWell m → (f : CanonicalForm)
+    → (m : Meaning) → ViewIsDeclaredWell m → (f : CanonicalForm) → GivesLifetimes m f
     → ((mode : TypingMode) → IsHandler frame_tables (solver_handled applicable same m mode f)) × AnswersCover (solver_handled applicable same m Coherence f)

@@ -1,22 +1,29 @@
 -- What declarations mean, and where solutions are looked for.
-use Rattle.std.specs.Prelude.{◌≡◌, ℕ, Bool, List}
-use Rattle.model.specs.Worlds.{World, view_of}
-use Rattle.model.specs.Renumbering.{View}
+use Rattle.std.specs.Prelude.{ℕ, Bool, List, []}
+use Rattle.model.specs.Worlds.{World, CrateDecl, Reference}
+use Rattle.model.specs.Terms.{erased_world}
+use Rattle.model.specs.Renumbering.{View, Renumbering, HoldsView, renumbered_reference}
+use Rattle.model.specs.Proofs.{HasProof}
 use Rattle.model.specs.LinkedSet.{LinkedSet}
-use Rattle.assembly_laws.specs.Knowing.{SupersStand}
 
--- the crates that a crate sees, up to lifetimes, and the crate; and whether they are found to be declared well. If they are not, no
--- goal is decided
+-- the declarations that a crate sees, as they are written, and the crate; and whether they are found to be declared well, and the goal to
+-- fit them. If not, no goal is decided
 pub record Meaning : Type 0 where
   pub view : World
   pub crate : ℕ
   pub is_sound : Bool
 
--- a linked set in which the crate has this view
+-- a linked set that holds the crate's view, up to lifetimes and by other numbers: `impl<'a, T> Clone for &'a T` stands there as for
+-- `&'static T`. Which crates a view lists no rule reads
 pub record LinkedWith (m : Meaning) : Type 0 where
   pub set : World
   pub views : List View
   pub rank : ℕ → ℕ
   pub linked : LinkedSet set views rank
-  pub view_is : view_of set m.crate ≡ m.view
-  pub supers_stand : SupersStand set
+  pub numbers : Renumbering
+  pub crates : List CrateDecl
+  pub holds : HoldsView set (record { numbers = numbers; asker = m.crate; world = record (erased_world m.view) { crates = crates } })
+
+-- what has a proof there, by the view's numbers
+abbrev pub proved_in : {m : Meaning} → LinkedWith m → Reference → Type 0
+proved_in w r = HasProof w.set [] (renumbered_reference w.numbers r)

@@ -4,7 +4,6 @@ use Rattle.std.specs.List.{list_any}
 use Rattle.model.specs.Trees.{none, is_no_tree}
 use Rattle.model.specs.Worlds.{World, Reference, StructDecl, TraitDecl, ImplDecl}
 use Rattle.model.specs.Rules.{strict_supertraits, together}
-use Rattle.model.specs.Proofs.{HasProof}
 use Rattle.model.specs.Answers.{is_closed}
 use Rattle.infer_table.specs.Canonical.{CanonicalForm}
 use Rattle.infer_table.specs.declared.canonical.CanonicalVarKind.{CanonicalVarKind}
@@ -28,7 +27,7 @@ use Rattle.evaluation_laws.specs.Tables.{frame_tables}
 use Rattle.evaluation.specs.Plans.{Plan, Planned, planned, each_of, first_alone}
 use Rattle.evaluation.specs.PlanAnswers.{all_merged, kept_merged, first_taken}
 use Rattle.assembly_laws.specs.Facts.{FollowsByView, is_coinductive_trait, reference_in, beside}
-use Rattle.assembly_laws.specs.Meaning.{Meaning, LinkedWith}
+use Rattle.assembly_laws.specs.Meaning.{Meaning, LinkedWith, proved_in}
 use Rattle.assembly_laws.specs.Knowing.{is_knowable}
 use Rattle.assembly_laws.specs.Asking.{Asked, asked, clauses, self_of, begins_unknown}
 use Rattle.assembly_laws.specs.Candidates.{unsure, unknowable, by_clauses, built_in, by_impls, by_objects}
@@ -181,14 +180,15 @@ abbrev pub world_of : Meaning → TypingMode → CanonicalForm → Type 0
 world_of m Coherence f = Searched m f
 world_of m PostAnalysis f = ⊥
 
-pub record IsSolution (W : World) (f : Fact) : Type 0 where
+-- of what has a proof: a proper fact of a closed reference that has one
+pub record IsSolution (H : Reference → Type 0) (f : Fact) : Type 0 where
   pub asks : beside f (reference_in f) ≡ f
   pub proper : f.proper ≡ true
   pub closed : is_closed (reference_in f).args ≡ true
-  pub proof : HasProof W [] (reference_in f)
+  pub proof : H (reference_in f)
 
 abbrev pub proves_in : (m : Meaning) (mode : TypingMode) (f : CanonicalForm) → world_of m mode f → Fact → Type 0
-proves_in m Coherence f w g = IsSolution w.linked.set g
+proves_in m Coherence f w g = IsSolution (proved_in w.linked) g
 proves_in m PostAnalysis f w g = ⊥
 
 -- ---- the handler

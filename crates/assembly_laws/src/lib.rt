@@ -3,6 +3,7 @@
 
 ghost use Rattle.assembly_laws.specs.Facts.{ProofsOfFactsAreProofs, ReferencesComeBack};
 ghost use Rattle.assembly_laws.specs.Knowing.{WhatIsKnownFollowsByTheView, SupertraitsByTheViewStand};
+ghost use Rattle.assembly_laws.specs.WrittenCore.{WrittenCoreIsLinked};
 ghost use Rattle.assembly_laws.specs.Cover.{SolutionsAreByCandidates, GivenIsRealized};
 ghost use Rattle.assembly_laws.specs.Lawful.{SolverIsLawfulAndCovers, WellDeclaredIsLawful, RowsAreSound, UnsizingIsSound, ImplsAreSound, ObjectBoundsAreSound, UpcastsAreSound, ToDynIsSound};
 ghost use Rattle.assembly_laws.specs.DeclaredWell.{TestsTell, CoreIsDeclaredWell};
@@ -17,14 +18,16 @@ pub fn facts_are_references()
 {}
 
 /// In a linked set what a crate knows follows by a rule of its view, and the supertraits that the view gives to what has a proof
-/// have proofs, if in the set all supertraits of what has a proof have proofs.
+/// have proofs, if in the set all supertraits of what has a proof have proofs. `core` as it is written, with lifetimes, stands in a
+/// linked set.
 pub fn views_tell()
     ensures known { WhatIsKnownFollowsByTheView }
     ensures supertraits { SupertraitsByTheViewStand }
+    ensures core { WrittenCoreIsLinked }
 {}
 
-/// In every linked set in which the crate has this view, a solution of a goal without where-clauses and placeholders is one by the
-/// unknowable candidate; where the crate knows the goal, whatever its unknowns stand for, it is one by a where-clause, a built-in
+/// In every linked set that holds the crate's view, up to lifetimes and by other numbers, a solution of a goal without where-clauses and placeholders,
+/// whose structs are given lifetimes where their fields name them, is one by the unknowable candidate; where the crate knows the goal, whatever its unknowns stand for, it is one by a where-clause, a built-in
 /// rule, an impl or an object bound.
 pub fn solutions_are_by_candidates()
     ensures { SolutionsAreByCandidates }
@@ -41,7 +44,7 @@ pub fn worlds_are_kept()
     ensures { KeepWorlds }
 {}
 
-/// In coherence each solution of a goal is realized by a candidate that was considered before the answer; and where the candidates
+/// In coherence each solution of a goal, whose structs are given their lifetimes, is realized by a candidate that was considered before the answer; and where the candidates
 /// are lawful, so is the handler. Bounds of `dyn` types are terms where the bounds of traits are up to lifetimes.
 pub fn coherence_is_covered()
     ensures covered { CoherenceIsCovered }
@@ -70,7 +73,7 @@ pub fn rows_are_sound()
     ensures to_dyn { ToDynIsSound }
 {}
 
-/// Where the view is declared well, the solver is a lawful handler of every goal in both modes; and in coherence each solution of a
+/// Where the view is declared well, the solver is a lawful handler of every goal whose structs are given their lifetimes, in both modes; and in coherence each solution of a
 /// goal, in every linked set with the crate, is realized by a candidate that was considered before the answer. If the view is not found
 /// to be declared well, no goal is decided. Each candidate of a goal whose self type is known is lawful.
 pub fn solver_is_lawful()

@@ -7,7 +7,7 @@ use Rattle.model.specs.Rules.{unsize}
 use Rattle.model.specs.Answers.{written_in}
 use Rattle.type_terms.specs.Terms.{Entry, trees_at}
 use Rattle.type_terms.specs.Made.{terms, is_made}
-use Rattle.type_terms.proofs.Made.{left, right}
+use Rattle.type_terms.proofs.Made.{left, right, both}
 use Rattle.infer_table.specs.Canonical.{CanonicalForm}
 use Rattle.infer_table.specs.declared.canonical.CanonicalVarKind.{CanonicalVarKind}
 use Rattle.infer_table.specs.declared.input.CanonicalInput.{CanonicalInput}
@@ -15,14 +15,29 @@ use Rattle.infer_table.specs.Goals.{environment_trees, predicate_trees}
 use Rattle.infer_table.specs.Inputs.{form_of}
 use Rattle.evaluation_laws.specs.Variables.{is_variable_over}
 use Rattle.declarations.specs.Items.{Items, reference_in, written}
-use Rattle.assembly_laws.specs.Asking.{Asked, asked, asked_if, asked_with, all_known, with_first, are_clauses, begins_with_type, next_of}
+use Rattle.assembly_laws.specs.Asking.{Asked, asked, asked_if, asked_with, all_known, with_first, are_clauses, begins_with_type, begins_unknown, next_of, self_of}
+use Rattle.assembly_laws.specs.DeclaredWell.{is_declared_well}
+use Rattle.assembly_laws.specs.Lifetimes.{gives_lifetimes, given_by, form_gives_lifetimes}
+use Rattle.assembly_laws.proofs.DeclaredWell.{tests-tell}
 use Rattle.candidate_assembly.specs.Goals.{asked_of}
-use Rattle.candidate_assembly.specs.Fitting.{reference_fits, GoalFits}
+use Rattle.candidate_assembly.specs.Constituents.{HaveFields}
+use Rattle.candidate_assembly.specs.Fitting.{reference_fits, fits_declared, solving_of, GoalFits}
+use Rattle.candidate_assembly.specs.Sections.{decided}
+use Rattle.candidate_assembly.specs.Solving.{meaning_for}
 use Rattle.candidate_assembly.proofs.Fitting.{goal-fits}
+use Rattle.candidate_assembly.proofs.GivenLifetimes.{first-given, target-given}
 
 all-known : (ks : List CanonicalVarKind) → all_known (map Some ks) ≡ Some ks
 all-known [] = refl
 all-known (k ∷ ks) = ap (with_first (Some k)) (all-known ks)
+
+unless : (b x : Bool) → (b ≡ true → x ≡ true) → (not b || x) ≡ true
+unless true x f = f refl
+unless false x f = refl
+
+otherwise : (r : Bool) (a : Asked) → (if r then None else Some a) ≡ (if not r then Some a else None)
+otherwise true a = refl
+otherwise false a = refl
 
 module _ (es : List Entry) (d : Items) (g : CanonicalInput) where
   abbrev V : World
@@ -81,3 +96,21 @@ module _ (es : List Entry) (d : Items) (g : CanonicalInput) where
   decided-fits e fits =
       let h = tests-hold e in
       goal-fits es d g (left (written_in V own) _ h) (left types clauses (right (is_made (is_variable_over g.variables.items) terms T) _ (right (written_in V own) _ h))) fits
+
+  -- and its structs are given the lifetimes that their fields name
+  gives-lifetimes : asked V f ≡ Some a → HaveFields es d → is_declared_well V ≡ true → GoalFits es d g → form_gives_lifetimes V f ≡ true
+  gives-lifetimes e fields well fits =
+      let made = left over _ (right (written_in V own) _ (tests-hold e)) in
+      let good = is_variable_over g.variables.items in
+      ap (given_by V) e
+      ∙ both (gives_lifetimes V (self_of a)) _ (first-given es d fields (tests-tell V well) good T made fits.struct)
+      (unless (own.trait == unsize) (gives_lifetimes V (next_of (self_of a))) (λ u. target-given es d fields (tests-tell V well) good T made (fits.unsizing u).applied))
+
+  -- so it is decided, if its self type is no unknown
+  pub decided-is : asked V f ≡ Some a → HaveFields es d → is_declared_well V ≡ true → reference_fits d own ≡ true → (r : Bool) → r ≡ begins_unknown a.kinds (self_of a)
+      → decided (meaning_for (solving_of es d) f) (asked V f) ≡ (if not r then Some a else None)
+  decided-is e fields well fits r u =
+      let gives = gives-lifetimes e fields well (decided-fits e fits) in
+      ap (decided (meaning_for (solving_of es d) f)) e
+      ∙ ap (λ b. if not b || begins_unknown a.kinds (self_of a) then None else Some a) (both (is_declared_well V) _ well (both (fits_declared d f) _ fits gives))
+      ∙ ap (λ b. if b then None else Some a) (sym u) ∙ otherwise r a

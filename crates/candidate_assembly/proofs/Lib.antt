@@ -25,6 +25,7 @@ pub mod FnPointers
 pub mod Finding
 pub mod Fitting
 pub mod Knowing
+pub mod GivenLifetimes
 pub mod Deciding
 pub mod Firsts
 pub mod Later

@@ -1,6 +1,6 @@
 -- What the solver means for goals keeps the laws of handlers: it is lawful for each goal, terms get no wider and questions no more from
 -- goal to goal, and the solutions of nested goals are looked for where those of the goal are.
-use Rattle.std.proofs.Common.{◌≡◌, ◌≤◌, ℕ, ◌+◌, ◌*◌, max, arith, Bool, true, false, ◌&&◌, refl}
+use Rattle.std.proofs.Common.{◌≡◌, ◌≤◌, ℕ, ◌+◌, ◌*◌, max, arith, Bool, true, false, ◌&&◌, refl, sym, ◌∙◌, ap}
 use Rattle.std.proofs.lemmas.Nat.{mul-le}
 use Rattle.model.specs.Worlds.{World}
 use Rattle.infer_table.specs.Canonical.{CanonicalForm}
@@ -14,6 +14,7 @@ use Rattle.goal_frames.specs.HandlerPrograms.{KeepNumbers, KeepWorlds, LookInCoh
 use Rattle.goal_frames.proofs.Same.{answers-are, applies-to-yeses}
 use Rattle.assembly_laws.specs.Facts.{FollowsByView}
 use Rattle.assembly_laws.specs.DeclaredWell.{is_declared_well}
+use Rattle.assembly_laws.specs.Lifetimes.{form_gives_lifetimes, given_by, GivesLifetimes}
 use Rattle.assembly_laws.specs.Lawful.{ViewIsDeclaredWell}
 use Rattle.assembly_laws.specs.Solver.{declared_width, widest_of, number_at, clauses_in}
 use Rattle.assembly_laws.proofs.DeclaredWell.{tests-tell}
@@ -27,10 +28,18 @@ first-true true y h = refl
 first-true false y h = absurd cc
 
 declared-well : (s : Solving) (f : CanonicalForm) → ViewIsDeclaredWell (meaning_for s f)
-declared-well s f e = tests-tell s.view (first-true (is_declared_well s.view) (s.fits f) e)
+declared-well s f e = tests-tell s.view (first-true (is_declared_well s.view) (s.fits f && form_gives_lifetimes s.view f) e)
+
+second-true : (x y : Bool) → (x && y) ≡ true → y ≡ true
+second-true true y h = h
+second-true false y h = absurd cc
+
+lifetimes-given : (s : Solving) (f : CanonicalForm) → GivesLifetimes (meaning_for s f) f
+lifetimes-given s f e a is =
+    ap (given_by s.view) (sym is) ∙ second-true (s.fits f) (form_gives_lifetimes s.view f) (second-true (is_declared_well s.view) (s.fits f && form_gives_lifetimes s.view f) e)
 
 pub solver-is-lawful : (s : Solving) (mode : TypingMode) (f : CanonicalForm) → IsHandler frame_tables (solver_for s mode f)
-solver-is-lawful s mode f = (solver-is-lawful-and-covers applies_always applies-to-yeses same_answer answers-are (meaning_for s f) (declared-well s f) f).0 mode
+solver-is-lawful s mode f = (solver-is-lawful-and-covers applies_always applies-to-yeses same_answer answers-are (meaning_for s f) (declared-well s f) f (lifetimes-given s f)).0 mode
 
 -- ---- goals together
 greater-first : (a b d : ℕ) → a ≤ max b d → max a d ≤ max b d
@@ -53,7 +62,7 @@ worlds-are-kept s PostAnalysis g heard q came e x = absurd x
 worlds-are-kept s Coherence g heard q came e x =
     let k = keep-worlds applies_always same_answer (meaning_for s g) Coherence g heard q came e x in (
       record {
-        linked = record { set = k.0.linked.set; views = k.0.linked.views; rank = k.0.linked.rank; linked = k.0.linked.linked; view_is = k.0.linked.view_is; supers_stand = k.0.linked.supers_stand };
+        linked = record { set = k.0.linked.set; views = k.0.linked.views; rank = k.0.linked.rank; linked = k.0.linked.linked; numbers = k.0.linked.numbers; crates = k.0.linked.crates; holds = k.0.linked.holds };
         no_clauses = k.0.no_clauses;
         no_placeholders = k.0.no_placeholders;
       },

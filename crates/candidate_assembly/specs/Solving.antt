@@ -10,6 +10,7 @@ use Rattle.goal_frames.specs.Handlers.{same_answer, applies_always}
 use Rattle.assembly_laws.specs.Facts.{is_coinductive_fact}
 use Rattle.assembly_laws.specs.Meaning.{Meaning}
 use Rattle.assembly_laws.specs.DeclaredWell.{is_declared_well}
+use Rattle.assembly_laws.specs.Lifetimes.{form_gives_lifetimes}
 use Rattle.assembly_laws.specs.Solver.{solver_handled}
 
 -- The declarations that a crate sees, the crate, and which goals fit them: the arguments of their traits and structs are as many, and of
@@ -19,9 +20,10 @@ pub record Solving : Type 0 where
   pub crate : ℕ
   pub fits : CanonicalForm → Bool
 
--- What is meant for a goal: of a view that is not declared well, or a goal that does not fit it, nothing is decided.
+-- What is meant for a goal: of a view that is not declared well, or a goal that does not fit it, nothing is decided. A goal that fits gives
+-- its structs lifetimes where their fields name them.
 abbrev pub meaning_for : Solving → CanonicalForm → Meaning
-meaning_for s f = record { view = s.view; crate = s.crate; is_sound = is_declared_well s.view && s.fits f }
+meaning_for s f = record { view = s.view; crate = s.crate; is_sound = is_declared_well s.view && (s.fits f && form_gives_lifetimes s.view f) }
 
 abbrev pub solver_for : Solving → TypingMode → CanonicalForm → Handled frame_tables
 solver_for s mode f = solver_handled applies_always same_answer (meaning_for s f) mode f

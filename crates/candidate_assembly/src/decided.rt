@@ -19,6 +19,7 @@ ghost use Rattle.declarations.specs.Applied.{sort_of_param, sorts_of};
 ghost use Rattle.declarations.specs.Held.{ReferenceHeld};
 ghost use Rattle.assembly_laws.specs.Asking.{asked, are_clauses, begins_with_type, begins_unknown, next_of, with_plain_head};
 ghost use Rattle.assembly_laws.specs.DeclaredWell.{is_declared_well};
+ghost use Rattle.candidate_assembly.specs.Constituents.{HaveFields};
 ghost use Rattle.candidate_assembly.specs.Goals.{asked_of};
 ghost use Rattle.candidate_assembly.specs.FnPointers.{IsFirst};
 ghost use Rattle.candidate_assembly.specs.Sections.{decided};
@@ -401,10 +402,12 @@ fn is_asked(cx: &Interner, declarations: &Declarations, goal: &CanonicalInput) -
 /// Whether the goal is decided by its candidates: the declarations have its names, its terms speak of its own variables, its trait, its
 /// self type and the target of `Unsize` have their arguments, and its self type is no unknown. Of any other goal nothing is known.
 ///
-/// The declarations are declared well. What the candidates ask of a goal then holds.
+/// The declarations are declared well, and the fields of structs speak of their parameters: so structs that have their arguments are given
+/// the lifetimes that their fields name. What the candidates ask of a goal then holds.
 pub fn is_decided(cx: &Interner, declarations: &Declarations, goal: &CanonicalInput) -> bool
     requires goal { GoalHeld cx.now.entries goal.now.goal }
     requires well { is_declared_well (written cx.now.entries declarations.now) ≡ true }
+    requires fields { HaveFields cx.now.entries declarations.now }
     ensures is { let es = cx.now.entries in let f = form_of es goal.now in
         decided (meaning_for (solving_of es declarations.now) f) (asked (written es declarations.now) f) ≡ (if result then Some (asked_of es goal.now) else None) }
     ensures fits { IsTrue result → GoalFits cx.now.entries declarations.now goal.now }

@@ -5,9 +5,8 @@ use Rattle.model.specs.Worlds.{World, Reference}
 use Rattle.model.specs.Rules.{Rule, rules, strict_supertraits}
 use Rattle.model.specs.Proofs.{In}
 use Rattle.model.specs.Walks.{is_known_in}
-use Rattle.model.specs.Answers.{is_closed, written_in, short_chains, children, is_possible}
+use Rattle.model.specs.Answers.{is_closed, written_in, short_chains, is_possible}
 use Rattle.model.proofs.Members.{here, there, in-left, in-right, flat-in}
-use Rattle.model.proofs.NoHolds.{shut}
 use Rattle.model.proofs.Walking.{left, right}
 use Rattle.infer_table.specs.Responses.{AnswerTrees}
 use Rattle.infer_table.specs.Canonical.{CanonicalForm}
@@ -22,10 +21,11 @@ use Rattle.exactness_laws.specs.Ways.{HasShortChains, IsPossible, IsExactFor}
 use Rattle.exactness_laws.proofs.ModelWays.{possible_is_by_ways, short_is_by_ways}
 use Rattle.exactness_laws.proofs.MovedWays.{every-to, some-from, some-to, every-from}
 use Rattle.assembly_laws.specs.Facts.{clauses_of, reference_in, beside}
-use Rattle.assembly_laws.specs.Meaning.{Meaning, LinkedWith}
+use Rattle.assembly_laws.specs.Meaning.{Meaning}
 use Rattle.solver_exactness.specs.SolverWays.{facts_beside, ways_in_coherence}
 use Rattle.solver_exactness.specs.SolverAnswers.{solver_programs, TellsPossible, SolverTellsPossible}
 use Rattle.solver_exactness.proofs.ReadBack.{ways-back, coherence-comes-back}
+use Rattle.solver_exactness.proofs.ClosedPremises.{LeadsToClosed, leads-to-closed}
 use Rattle.solver_exactness.proofs.SolverAnswers.{solver-searches-are-exact}
 
 -- ---- lists of which something else is known too
@@ -46,7 +46,7 @@ every-append : {A : Type 0} (P : A → Type 0) (xs ys : List A) → Every P xs �
 every-append P [] ys h g = g
 every-append P (x ∷ xs) ys h g = (h.0, every-append P xs ys h.1 g)
 
-module _ (m : Meaning) (linked : LinkedWith m) where
+module _ (m : Meaning) (is-shut : LeadsToClosed m.view m.crate) where
   abbrev V : World
   V = m.view
 
@@ -55,12 +55,6 @@ module _ (m : Meaning) (linked : LinkedWith m) where
 
   abbrev ways : Reference → List (List Reference)
   ways r = ways_for V m.crate r
-
-  abbrev LeadsToClosed : World → Type 0
-  LeadsToClosed U = (r s : Reference) → is_closed r.args ≡ true → In s (children U m.crate r) → is_closed s.args ≡ true
-
-  is-shut : LeadsToClosed V
-  is-shut = subst LeadsToClosed linked.view_is (shut linked.set linked.views linked.rank linked.linked m.crate)
 
   -- what a closed reference leads to is closed
   closed-ways : (r : Reference) → Closed r → Every (Every Closed) (ways r)
@@ -128,12 +122,13 @@ module _ {W : Type 0} (applicable : AnswerTrees → Bool) (same : AnswerTrees �
     (handles : Handles C I R F W (Asked frame_tables (solver_programs applicable same meaning_of fits_in)) (Option AnswerTrees)) (IsAsked : Question → Values → Type 0)
     (programs : ArePrograms frame_tables (solver_programs applicable same meaning_of fits_in)) where
   pub solver-tells-possible : SolverTellsPossible applicable same meaning_of fits_in handles IsAsked
-  solver-tells-possible w good linked n limit q v a l goal clauses bounded only =
+  solver-tells-possible w good n limit q v a l goal clauses bounded only =
       let V = (meaning_of w).view in
       let c = (meaning_of w).crate in
       let r = reference_in (fact_of q v) in
+      let shut = leads-to-closed V good.well.terms c in
       let closed = left (is_closed r.args) (written_in V r && short_chains n V c r) bounded in
       let short = right (written_in V r) (short_chains n V c r) (right (is_closed r.args) (written_in V r && short_chains n V c r) bounded) in
-      tells (meaning_of w) linked n (fact_of q v) clauses closed a
+      tells (meaning_of w) shut n (fact_of q v) clauses closed a
       (solver-searches-are-exact applicable same meaning_of fits_in handles IsAsked programs w Coherence good n limit q v a l goal
-      (short-facts (meaning_of w) linked n (fact_of q v) clauses closed (short_is_by_ways V c n r short)) only)
+      (short-facts (meaning_of w) shut n (fact_of q v) clauses closed (short_is_by_ways V c n r short)) only)

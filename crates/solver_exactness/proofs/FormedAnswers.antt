@@ -50,5 +50,5 @@ module _ {W : Type 0} (applicable : AnswerTrees â†’ Bool) (same : AnswerTrees â†
         solver-searches-are-right applicable same meaning_of fits_in handles (Set w sorts admits) programs w (good w PostAnalysis sorts admits d) n limit q v a l (closed w sorts admits q v g) single only
 
     pub formed-tells-possible : FormedTellsPossible applicable same meaning_of fits_in handles
-    formed-tells-possible w sorts admits d linked n limit q v a l g clauses bounded only =
-        solver-tells-possible applicable same meaning_of fits_in handles (Set w sorts admits) programs w (good w Coherence sorts admits d) linked n limit q v a l (closed w sorts admits q v g) clauses bounded only
+    formed-tells-possible w sorts admits d n limit q v a l g clauses bounded only =
+        solver-tells-possible applicable same meaning_of fits_in handles (Set w sorts admits) programs w (good w Coherence sorts admits d) n limit q v a l (closed w sorts admits q v g) clauses bounded only

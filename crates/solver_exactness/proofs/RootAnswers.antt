@@ -27,7 +27,7 @@ module _ {W : Type 0} (applicable : AnswerTrees → Bool) (same : AnswerTrees �
       programs (declared_in applicable same meaning_of fits_in is_ready declares c) sorts admits d n (depth + 1) q v a l g single found.plain
 
   pub roots-tell-possible : RootsTellPossible applicable same meaning_of fits_in is_ready declares
-  roots-tell-possible c depth n sorts admits d linked q v a g l clauses bounded found =
+  roots-tell-possible c depth n sorts admits d q v a g l clauses bounded found =
       formed-tells-possible applicable same meaning_of fits_in
       (handles (solver_in applicable same meaning_of fits_in is_ready declares) (λ w. FollowsByView (meaning_of w).view) (λ w. is_coinductive_fact (meaning_of w).view) is_ready declares)
-      programs (declared_in applicable same meaning_of fits_in is_ready declares c) sorts admits d linked n (depth + 1) q v a l g clauses bounded found.plain
+      programs (declared_in applicable same meaning_of fits_in is_ready declares c) sorts admits d n (depth + 1) q v a l g clauses bounded found.plain

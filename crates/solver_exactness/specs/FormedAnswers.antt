@@ -12,7 +12,7 @@ use Rattle.goal_frames.specs.Searches.{Handles, Asked}
 use Rattle.exactness_laws.specs.ClosedTables.{AreClosed, ArePlaces}
 use Rattle.exactness_laws.specs.Ways.{HasShortChains, IsExactFor, IsRightFor}
 use Rattle.assembly_laws.specs.Facts.{clauses_of, reference_in}
-use Rattle.assembly_laws.specs.Meaning.{Meaning, LinkedWith}
+use Rattle.assembly_laws.specs.Meaning.{Meaning}
 use Rattle.assembly_laws.specs.DeclaredWell.{IsDeclaredWell}
 use Rattle.solver_exactness.specs.SolverGoals.{ways_by, IsProved}
 use Rattle.solver_exactness.specs.GoalSets.{IsGoalOf, FitsAreKept}
@@ -54,9 +54,9 @@ module _ {W : Type 0} (applicable : AnswerTrees → Bool) (same : AnswerTrees �
       → IsFormedGoal (meaning_of w).view sorts admits q v → SingleWay n (meaning_of w).view (clauses_of (fact_of q v).goal.environment) (reference_in (fact_of q v))
       → IsOnlyFor applicable same meaning_of fits_in handles w PostAnalysis limit q a → IsRightFor frame_tables (IsProved (meaning_of w).view) (fact_of q v) a
 
-  -- in coherence, of a bounded reference without where-clauses, where some linked set has the crate: it refuses exactly what is not possible
+  -- in coherence, of a bounded reference without where-clauses, it refuses exactly what is not possible
   abbrev pub FormedTellsPossible : Type 0
   FormedTellsPossible =
-      (w : W) (sorts : Sorts) (admits : CanonicalForm → Bool) → AreDeclared (meaning_of w) Coherence (fits_in w) admits sorts → LinkedWith (meaning_of w) → (n limit : ℕ) (q : Question) (v : Values) (a : Option AnswerTrees) → n ≤ limit
+      (w : W) (sorts : Sorts) (admits : CanonicalForm → Bool) → AreDeclared (meaning_of w) Coherence (fits_in w) admits sorts → (n limit : ℕ) (q : Question) (v : Values) (a : Option AnswerTrees) → n ≤ limit
       → IsFormedGoal (meaning_of w).view sorts admits q v → clauses_of (fact_of q v).goal.environment ≡ [] → is_bounded n (meaning_of w).view (meaning_of w).crate (reference_in (fact_of q v)) ≡ true
       → IsOnlyFor applicable same meaning_of fits_in handles w Coherence limit q a → TellsPossible (meaning_of w).view (meaning_of w).crate n (reference_in (fact_of q v)) a

@@ -19,7 +19,7 @@ use Rattle.root_goals.specs.Evaluations.{IsFound}
 use Rattle.root_goals.specs.Searching.{solver_meaning}
 use Rattle.exactness_laws.specs.Ways.{HasShortChains, IsExactFor, IsRightFor}
 use Rattle.assembly_laws.specs.Facts.{FollowsByView, is_coinductive_fact, clauses_of, reference_in}
-use Rattle.assembly_laws.specs.Meaning.{Meaning, LinkedWith}
+use Rattle.assembly_laws.specs.Meaning.{Meaning}
 use Rattle.assembly_laws.specs.Solver.{solver_handled}
 use Rattle.solver_exactness.specs.SolverGoals.{ways_by, IsProved}
 use Rattle.solver_exactness.specs.SolverAnswers.{meant_for, TellsPossible}
@@ -61,6 +61,6 @@ module _ {W : Type 0} (applicable : AnswerTrees → Bool) (same : AnswerTrees �
   abbrev pub RootsTellPossible : Type 0
   RootsTellPossible =
       (c : SolverCx Handler) (depth n : ℕ) (sorts : Sorts) (admits : CanonicalForm → Bool) → let m = meaning_of (declared_in c) in
-      AreDeclared m Coherence (fits_in (declared_in c)) admits sorts → LinkedWith m → (q : Question) (v : Values) (a : Option AnswerTrees) → IsFormedGoal m.view sorts admits q v
+      AreDeclared m Coherence (fits_in (declared_in c)) admits sorts → (q : Question) (v : Values) (a : Option AnswerTrees) → IsFormedGoal m.view sorts admits q v
       → n ≤ depth + 1 → clauses_of (fact_of q v).goal.environment ≡ [] → is_bounded n m.view m.crate (reference_in (fact_of q v)) ≡ true → Gives c depth Coherence q a
       → TellsPossible m.view m.crate n (reference_in (fact_of q v)) a

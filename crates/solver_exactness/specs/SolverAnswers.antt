@@ -15,7 +15,7 @@ use Rattle.goal_frames.specs.HandlerPrograms.{programs_of}
 use Rattle.exactness_laws.specs.ClosedTables.{AreClosed, ArePlaces}
 use Rattle.exactness_laws.specs.Ways.{HasShortChains, IsExactFor, IsRightFor}
 use Rattle.assembly_laws.specs.Facts.{FollowsByView, is_coinductive_fact, clauses_of, reference_in}
-use Rattle.assembly_laws.specs.Meaning.{Meaning, LinkedWith}
+use Rattle.assembly_laws.specs.Meaning.{Meaning}
 use Rattle.assembly_laws.specs.DeclaredWell.{IsDeclaredWell}
 use Rattle.assembly_laws.specs.Solver.{solver_handled}
 use Rattle.solver_exactness.specs.SolverGoals.{ways_by, IsProved, AreGoals}
@@ -78,9 +78,9 @@ module _ {W : Type 0} (applicable : AnswerTrees → Bool) (same : AnswerTrees �
         → SingleWay n (meaning_of w).view (clauses_of (fact_of q v).goal.environment) (reference_in (fact_of q v)) → IsOnlyFor w PostAnalysis limit q a
         → IsRightFor frame_tables (IsProved (meaning_of w).view) (fact_of q v) a
 
-    -- in coherence, of a bounded reference without where-clauses, where some linked set has the crate: it refuses exactly what is not possible
+    -- in coherence, of a bounded reference without where-clauses, it refuses exactly what is not possible
     abbrev pub SolverTellsPossible : Type 0
     SolverTellsPossible =
-        (w : W) → IsGood w Coherence → LinkedWith (meaning_of w) → (n limit : ℕ) (q : Question) (v : Values) (a : Option AnswerTrees) → n ≤ limit → IsClosedGoal q v
+        (w : W) → IsGood w Coherence → (n limit : ℕ) (q : Question) (v : Values) (a : Option AnswerTrees) → n ≤ limit → IsClosedGoal q v
         → clauses_of (fact_of q v).goal.environment ≡ [] → is_bounded n (meaning_of w).view (meaning_of w).crate (reference_in (fact_of q v)) ≡ true → IsOnlyFor w Coherence limit q a
         → TellsPossible (meaning_of w).view (meaning_of w).crate n (reference_in (fact_of q v)) a

@@ -135,8 +135,7 @@ pub fn solver_searches_are_right<S: SolverSearching>()
     ensures { SolverSearchesAreRight S.applicable S.same S.meaning_of S.fits_in S.handles S.IsAsked }
 {}
 
-/// Where a set of accepted crates has the crate, a search in coherence refuses a bounded reference without where-clauses exactly if it
-/// is not possible in the crate.
+/// In coherence a search refuses a bounded reference without where-clauses exactly if it is not possible in the crate.
 pub fn solver_tells_possible<S: SolverSearching>()
     requires programs { ArePrograms frame_tables (solver_programs S.applicable S.same S.meaning_of S.fits_in) }
     ensures { SolverTellsPossible S.applicable S.same S.meaning_of S.fits_in S.handles S.IsAsked }

@@ -1,4 +1,4 @@
-use Rattle.assembly_laws.proofs.Solver.{solutions-by}
+use Rattle.assembly_laws.proofs.ErasedViews.{solutions-by}
 use Rattle.assembly_laws.proofs.solutions_are_by_candidates.Goals as goal
 
 pub returns : goal.returns

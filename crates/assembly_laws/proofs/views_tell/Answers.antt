@@ -1,3 +1,4 @@
+use Rattle.assembly_laws.proofs.WrittenCore.{written-core-is-linked}
 use Rattle.assembly_laws.proofs.Views.{known-by-view-rule, supers-by-view}
 use Rattle.assembly_laws.proofs.views_tell.Goals as goal
 
@@ -6,3 +7,6 @@ returns-clause-known g W = known-by-view-rule W
 
 pub returns-clause-supertraits : goal.returns-clause-supertraits
 returns-clause-supertraits g W = supers-by-view W
+
+pub returns-clause-core : goal.returns-clause-core
+returns-clause-core g = written-core-is-linked

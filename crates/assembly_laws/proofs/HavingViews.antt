@@ -1,0 +1,50 @@
+-- What is asked of where solutions are looked for, by a view alone: what is known and has a proof follows by a rule of the view.
+use Rattle.std.specs.Prelude.{◌≡◌, ℕ, true, false, [], Some}
+use Rattle.model.specs.LinkedSet.{is_stray}
+use Rattle.model.specs.Trees.{none, some_node}
+use Rattle.model.specs.Worlds.{World, Reference, TraitDecl}
+use Rattle.model.specs.Rules.{Rule, rules, strict_supertraits}
+use Rattle.model.specs.Proofs.{In}
+use Rattle.model.specs.Proofs as Model
+use Rattle.model.specs.Answers.{is_closed}
+use Rattle.model.specs.Walks.{is_known_in}
+use Rattle.infer_table.specs.Canonical.{CanonicalForm}
+use Rattle.evaluation.specs.Lists.{SomeOf}
+use Rattle.table_laws.specs.Content.{Values}
+use Rattle.table_laws.specs.Frames.{kinds_known}
+use Rattle.assembly_laws.specs.Declared.{LeadDown}
+use Rattle.assembly_laws.specs.Meaning.{Meaning}
+use Rattle.assembly_laws.specs.Knowing.{is_knowable}
+use Rattle.assembly_laws.specs.Facts.{reference_in}
+use Rattle.assembly_laws.specs.Asking.{Asked, asked, self_of, begins_unknown}
+use Rattle.assembly_laws.specs.Candidates.{unknowable}
+use Rattle.assembly_laws.specs.Solver.{IsSolution, has_placeholder}
+use Rattle.assembly_laws.specs.Cover.{Gives, all_candidates, goal_fact}
+
+pub record ProvesBy (V : World) (crate : ℕ) (H : Reference → Type 0) : Type 0 where
+  pub rule : (r : Reference) → is_closed r.args ≡ true → is_known_in V crate r ≡ true → H r → (u : Rule) × In u (rules V [] r) × Model.Every H u.premises
+  -- rules that conclude what is closed ask what is closed
+  pub shut : (r : Reference) (u : Rule) → is_closed r.args ≡ true → In u (rules V [] r) → (p : Reference) → In p u.premises → is_closed p.args ≡ true
+  -- the supertraits of what has a proof have proofs
+  pub supers : (r : Reference) → is_closed r.args ≡ true → H r → (s : Reference) → In s (strict_supertraits V r) → H s
+  pub trait_rank : ℕ → ℕ
+  pub down : LeadDown V trait_rank
+  pub plain : (x : TraitDecl) (b : Reference) → In x V.traits → In b x.bounds → some_node is_stray b.args ≡ false
+
+pub record SearchedThere (m : Meaning) (H : Reference → Type 0) (f : CanonicalForm) : Type 0 where
+  pub linked : ProvesBy m.view m.crate H
+  pub no_clauses : f.goal.environment ≡ none
+  pub no_placeholders : has_placeholder (kinds_known f.kinds) ≡ false
+
+-- a rule of the view that concludes a closed instance, with proved premises, is a candidate
+abbrev pub ViewRulesAreCandidates : Meaning → Type 1
+ViewRulesAreCandidates m =
+    (H : Reference → Type 0) (f : CanonicalForm) (a : Asked) → asked m.view f ≡ Some a → begins_unknown a.kinds (self_of a) ≡ false → (w : SearchedThere m H f) (v : Values) → IsSolution H (goal_fact f v)
+    → (u : Rule) → In u (rules m.view [] (reference_in (goal_fact f v))) → Model.Every H u.premises
+    → SomeOf (Gives H a.kinds v) (all_candidates m.view a)
+
+-- each solution is one by a candidate
+abbrev pub ThereAreCandidates : Meaning → Type 1
+ThereAreCandidates m =
+    (H : Reference → Type 0) (f : CanonicalForm) (a : Asked) → asked m.view f ≡ Some a → begins_unknown a.kinds (self_of a) ≡ false → (w : SearchedThere m H f) (v : Values) → IsSolution H (goal_fact f v)
+    → (is_knowable m.view m.crate a.reference ≡ true → SomeOf (Gives H a.kinds v) (all_candidates m.view a)) × Gives H a.kinds v (unknowable m.view a)
