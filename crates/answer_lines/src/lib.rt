@@ -1,11 +1,21 @@
-//! The lines of the answer: types and constants as text, and each kind of line.
+//! Lines of the answer: types, constants and values as text, what items, parameters and unknowns are called, and each kind of line.
 #![tactic(auto)]
 
 mod answer;
+mod free;
+mod header;
+mod items;
+mod listed;
+mod named_values;
 mod names;
+mod params;
 mod piece;
 mod printer;
+mod question;
 
 pub use answer::{Answer, ValueText, print_line};
+pub use header::HeaderNames;
+pub use named_values::answer_values;
 pub use names::{PrintNames, TermKind};
 pub use printer::{print_const, print_type};
+pub use question::{QuestionNames, Unknown};

@@ -17,7 +17,7 @@ use Rattle.text_definitions.specs.Uses.{Use, variable_use, kinds_of_trait, args_
 use Rattle.text_definitions.specs.Faults.{with_own, own_trait, is_among, repeats, is_any, variables_in, has_free_param, bounds_use_own, is_use_of, is_name_use, is_trait_of}
 use Rattle.text_definitions.specs.Lowering.{trait_number, type_tree, args_trees, with_self, clause_reference}
 use Rattle.text_definitions.specs.Adding.{item_meanings, struct_of, trait_of, impl_of}
-use Rattle.grammar_laws.specs.Faultless.{UsesFit}
+use Rattle.line_reader.specs.Faultless.{UsesFit}
 use Rattle.view_lowering.specs.Plain.{all_kept, none_kept, stands_in}
 use Rattle.assembly_laws.specs.Candidates.{is_param as is_label_of}
 use Rattle.declared_views.proofs.Tests.{is_good, is_good_struct, is_good_trait, is_good_impl, all_stand}

@@ -12,7 +12,7 @@ use Rattle.text_definitions.specs.Declarations.{Declarations, known, kinds_of}
 use Rattle.text_definitions.specs.Uses.{Use, crate_use, name_use, trait_use, lifetime_use, binder_use, variable_use, misfit_use, dyn_use, items_use, number_use, params_of}
 use Rattle.text_definitions.specs.Faults.{with_own, is_among, repeats, is_param, is_param_of, is_type_of, is_name_use}
 use Rattle.text_definitions.specs.Lowering.{place_among}
-use Rattle.grammar_laws.specs.Faultless.{UseFits}
+use Rattle.line_reader.specs.Faultless.{UseFits}
 use Rattle.assembly_laws.specs.Candidates.{is_param as is_label_of}
 use Rattle.declared_views.proofs.Tests.{all_stand}
 use Rattle.declared_views.proofs.Trees.{and, and-left, or-left, or-right}

@@ -13,7 +13,7 @@ use Rattle.text_definitions.specs.Uses.{Use, name_use, trait_use, dyn_use, items
 use Rattle.text_definitions.specs.Faults.{with_own, is_among, is_param, is_param_of, is_type_of, is_trait_of, is_late, is_auto_name}
 use Rattle.text_definitions.specs.Lowering.{Meanings, place_among, type_label, const_label, optional_lifetime, length_label, struct_label, trait_number, auto_leaves, autos, with_auto, last_lifetime, type_tree, types_trees, args_trees, arg_tree, item_tree, items_trees}
 use Rattle.text_definitions.specs.Adding.{item_meanings}
-use Rattle.grammar_laws.specs.Faultless.{UseFits}
+use Rattle.line_reader.specs.Faultless.{UseFits}
 use Rattle.assembly_laws.specs.Candidates.{is_param as is_label_of}
 use Rattle.declared_views.proofs.Trees.{or-left, or-right}
 use Rattle.declared_views.proofs.Types.{AllFit, first-fit, rest-fit}

@@ -16,8 +16,8 @@ use Rattle.text_definitions.specs.Adding.{added, struct_of, trait_of, impl_of, i
 use Rattle.text_definitions.specs.Written.{IsWritten}
 use Rattle.text_definitions.specs.Text.{LineGives, other_byte, blank, unwritten, faulty, adds, LinesGive, ends, fails, goes_on, TextGives, too_long, fits}
 use Rattle.declarations.specs.Merges.{Each}
-use Rattle.grammar_laws.proofs.NoFault.{passes-tests}
-use Rattle.grammar_laws.proofs.FittingUses.{faultless-uses}
+use Rattle.line_reader.proofs.NoFault.{passes-tests}
+use Rattle.line_reader.proofs.FittingUses.{faultless-uses}
 use Rattle.declared_views.proofs.Tests.{is_good_struct, is_good_trait, is_good_impl}
 use Rattle.declared_views.proofs.Trees.{and-left, and-right, or-left, or-right}
 use Rattle.declared_views.proofs.ScalarTokens.{struct-scalars, trait-scalars, impl-scalars}

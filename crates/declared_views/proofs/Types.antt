@@ -13,7 +13,7 @@ use Rattle.text_definitions.specs.Uses.{Use, name_use, trait_use, variable_use, 
 use Rattle.text_definitions.specs.Faults.{with_own, is_among, is_param, is_param_of, is_type_of, is_in_scope, static_name, is_late, is_auto_name}
 use Rattle.text_definitions.specs.Lowering.{Meanings, place_among, type_label, const_label, lifetime_under, lifetime_label, optional_lifetime, length_label, struct_label, trait_number, auto_leaves, autos, with_auto, item_lifetime, last_lifetime, type_tree, types_trees, args_trees, arg_tree, item_tree, items_trees}
 use Rattle.text_definitions.specs.Adding.{item_meanings}
-use Rattle.grammar_laws.specs.Faultless.{UseFits}
+use Rattle.line_reader.specs.Faultless.{UseFits}
 use Rattle.declared_views.proofs.Sorts.{has_sort}
 use Rattle.view_lowering.proofs.Begins.{is_scalar}
 use Rattle.declared_views.proofs.Scalars.{Scalars, ScalarTypes, ScalarArgs, ScalarArg, ScalarItem}

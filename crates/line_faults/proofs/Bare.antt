@@ -6,7 +6,7 @@ use Rattle.text_definitions.specs.Declarations.{Declarations}
 use Rattle.text_definitions.specs.Faults.{with_own}
 use Rattle.text_definitions.specs.Uses.{Use, params_of}
 use Rattle.line_reader.specs.Statement.{Param, lifetime_param, type_param, const_param, param_list, line_statement}
-use Rattle.name_resolution.specs.Machine.{Sight, items, findings}
+use Rattle.line_faults.specs.Machine.{Sight, items, findings}
 use Rattle.line_faults.specs.Params.{lifetime_name, other_name, lifetimes_said, others_said}
 use Rattle.line_faults.specs.Speaks.{Speaks}
 

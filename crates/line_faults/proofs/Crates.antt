@@ -2,14 +2,14 @@
 use Rattle.std.proofs.Common.{◌≡◌, ℕ, suc, ◌+◌, ◌<◌, List, [], ◌∷◌, ◌++◌, length, take, get_or, map, refl, sym, ap, ◌∙◌, arith, take-suc}
 use Rattle.std.specs.Borrow.{Bor}
 use Rattle.std.proofs.lemmas.List.{map-append}
-use Rattle.line_tokens.specs.Views.{text_of}
+use Rattle.line_reader.specs.TokenViews.{text_of}
 use Rattle.text_definitions.specs.Syntax.{Line, crate_line, struct_line, trait_line, impl_line, prove_line, refute_line}
 use Rattle.text_definitions.specs.Uses.{crate_use}
 use Rattle.line_reader.specs.LineParts.{named_crates}
 use Rattle.line_reader.specs.Statement.{line_statement}
-use Rattle.name_resolution.specs.Machine.{Sight, findings, either}
-use Rattle.name_resolution.specs.declared.findings.Findings.{Findings}
-use Rattle.name_resolution.proofs.Uses.{findings-append}
+use Rattle.line_faults.specs.Machine.{Sight, findings, either}
+use Rattle.line_faults.specs.declared.findings.Findings.{Findings}
+use Rattle.line_faults.proofs.Uses.{findings-append}
 use Rattle.line_faults.specs.Speaks.{crates_named}
 
 pub crates-step : (v : Sight) (ns : List (Bor (List ℕ))) (i : ℕ) (d : Bor (List ℕ)) (f x : Findings) → i < length ns → f ≡ findings v (map crate_use (map text_of (take i ns))) → x ≡ findings v (crate_use (text_of (get_or ns i d)) ∷ [])

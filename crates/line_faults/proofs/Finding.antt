@@ -6,20 +6,20 @@ use Rattle.std.proofs.lemmas.Grind.{flat_map-append}
 use Rattle.std.proofs.lemmas.Bool.Decides.{nat_tests}
 use Rattle.model.specs.Label.{Sort}
 use Rattle.text_definitions.specs.Faults.{variables_in, depth_limit}
-use Rattle.type_reader.specs.Cells.{Cell}
+use Rattle.line_reader.specs.Cells.{Cell}
 use Rattle.line_reader.specs.LineParts.{LinePart, type_part, bound_part, PartStands, part_uses, part_depth}
 use Rattle.line_reader.specs.Places.{EachOf}
 use Rattle.line_reader.specs.declared.parts.LinePart as places
 use Rattle.line_reader.specs.declared.parts.LinePart.TheVariants as place
 use Rattle.line_reader.specs.declared.statement.Span.{Span}
-use Rattle.name_resolution.specs.Machine.{Sight, items, findings, either}
-use Rattle.name_resolution.specs.Resolving.{nothing_found, found_in, type_found, bound_found, ResolvesType, ResolvesBound}
-use Rattle.name_resolution.specs.Views.{variable_in}
-use Rattle.name_resolution.specs.declared.findings.Findings.{Findings}
-use Rattle.name_resolution.specs.declared.resolve.Resolved.{Resolved}
-use Rattle.name_resolution.specs.declared.resolve.ResolvedBound.{ResolvedBound}
-use Rattle.name_resolution.proofs.Judged.{no-uses}
-use Rattle.name_resolution.proofs.Uses.{findings-append, variables-append}
+use Rattle.line_faults.specs.Machine.{Sight, items, findings, either}
+use Rattle.line_faults.specs.Resolving.{nothing_found, found_in, type_found, bound_found, ResolvesType, ResolvesBound}
+use Rattle.line_faults.specs.Views.{variable_in}
+use Rattle.line_faults.specs.declared.findings.Findings.{Findings}
+use Rattle.line_faults.specs.declared.resolve.Resolved.{Resolved}
+use Rattle.line_faults.specs.declared.resolve.ResolvedBound.{ResolvedBound}
+use Rattle.line_faults.proofs.Judged.{no-uses}
+use Rattle.line_faults.proofs.Uses.{findings-append, variables-append}
 use Rattle.line_faults.specs.Found.{uses_of, depth_of, IsFound, FindsParts, AddsPart}
 use Rattle.line_faults.specs.declared.parts.PartsFound.{PartsFound}
 

@@ -12,9 +12,9 @@ use Rattle.text_definitions.specs.Syntax.{TypeTree, of_primitive, never_type, va
 use Rattle.text_definitions.specs.Declarations.{Declarations, known, last_crate}
 use Rattle.text_definitions.specs.Uses.{args_uses, type_uses, kinds_of_trait, params_of, header_uses}
 use Rattle.text_definitions.specs.Faults.{has_free_param, implements_built_in, is_among, is_auto_name, is_built_in, is_foreign_auto, is_name_use, is_own_struct, is_param, is_struct_in}
-use Rattle.type_reader.specs.Cells.{Cell, primitive_cell, never_cell, slice_cell, variable_cell, named_cell, reference_cell, pointer_cell, array_cell, tuple_cell, dyn_cell, fn_cell, fn_to_cell, binder_onto, type_onto, types_onto, args_onto, item_onto, items_onto}
-use Rattle.type_reader.specs.Views.{cell_of, cells_in}
-use Rattle.type_reader.specs.declared.cell.Cell as code
+use Rattle.line_reader.specs.Cells.{Cell, primitive_cell, never_cell, slice_cell, variable_cell, named_cell, reference_cell, pointer_cell, array_cell, tuple_cell, dyn_cell, fn_cell, fn_to_cell, binder_onto, type_onto, types_onto, args_onto, item_onto, items_onto}
+use Rattle.line_reader.specs.TypeViews.{cell_of, cells_in}
+use Rattle.line_reader.specs.declared.cell.Cell as code
 use Rattle.line_reader.specs.Lines.{ReadsLine}
 use Rattle.line_reader.specs.Places.{TypeStands, BoundStands}
 use Rattle.line_reader.specs.Says.{params_said}
@@ -24,9 +24,9 @@ use Rattle.line_reader.specs.declared.statement.ClauseSpans.{ClauseSpans}
 use Rattle.line_reader.specs.declared.statement.LineRead.{LineRead}
 use Rattle.line_reader.specs.declared.statement.Span.{Span}
 use Rattle.line_reader.proofs.Standing.{spans-stand}
-use Rattle.name_resolution.specs.Machine.{Sight, items}
-use Rattle.name_resolution.specs.UsedNames.{names_with}
-use Rattle.name_resolution.proofs.UsedLaws.{types_use_names, args_use_names}
+use Rattle.line_faults.specs.Machine.{Sight, items}
+use Rattle.line_faults.specs.UsedNames.{names_with}
+use Rattle.line_faults.proofs.UsedLaws.{types_use_names, args_use_names}
 use Rattle.line_faults.specs.Header.{header_said, name_of, last_name, names_own_struct, names_in_header}
 use Rattle.line_faults.specs.Params.{others_said}
 use Rattle.line_faults.specs.Speaks.{Speaks}

@@ -12,9 +12,9 @@ use Rattle.text_definitions.specs.Faults.{with_own, is_any, is_among, is_of_othe
 use Rattle.line_reader.specs.Says.{name_said, params_said, is_item}
 use Rattle.line_reader.specs.Statement.{Statement, param_list, line_statement}
 use Rattle.line_reader.proofs.WhatIsSaid.{name-is-said, params-are-said, tests-agree}
-use Rattle.name_resolution.specs.Machine.{Sight, items, findings}
-use Rattle.name_resolution.specs.Views.{variable_in}
-use Rattle.name_resolution.specs.declared.findings.Findings.{Findings}
+use Rattle.line_faults.specs.Machine.{Sight, items, findings}
+use Rattle.line_faults.specs.Views.{variable_in}
+use Rattle.line_faults.specs.declared.findings.Findings.{Findings}
 use Rattle.line_faults.specs.FaultNumbers.{numbered}
 use Rattle.line_faults.specs.Params.{others_said, names_taken, are_taken}
 use Rattle.line_faults.specs.Speaks.{Speaks, is_trait_said}

@@ -11,9 +11,9 @@ use Rattle.text_definitions.specs.Uses.{crate_use, uses, asked_uses, other_uses,
 use Rattle.line_reader.specs.LineParts.{part_uses, line_parts, asked_parts, clause_parts, named_crates}
 use Rattle.line_reader.specs.Statement.{line_statement}
 use Rattle.line_reader.proofs.PartsOfLines.{uses-of-parts, asked-of-parts, depth-of-parts}
-use Rattle.name_resolution.specs.Machine.{Sight, items, findings, either}
-use Rattle.name_resolution.specs.Views.{variable_in}
-use Rattle.name_resolution.proofs.Uses.{findings-append}
+use Rattle.line_faults.specs.Machine.{Sight, items, findings, either}
+use Rattle.line_faults.specs.Views.{variable_in}
+use Rattle.line_faults.proofs.Uses.{findings-append}
 use Rattle.line_faults.specs.Found.{uses_of, depth_of}
 use Rattle.line_faults.specs.Speaks.{Speaks}
 use Rattle.line_faults.specs.LineFound.{other_parts, IsLineFound}

@@ -7,8 +7,8 @@ use Rattle.std.proofs.lemmas.Cmp.{nat_list_eq_equiv}
 use Rattle.model.specs.Label.{Sort}
 use Rattle.model.specs.Trees.{is_sort}
 use Rattle.text_definitions.specs.Faults.{is_among, is_of_other_kind}
-use Rattle.name_resolution.specs.Views.{variable_in}
-use Rattle.name_resolution.specs.declared.resolved.Variable.{Variable}
+use Rattle.line_faults.specs.Views.{variable_in}
+use Rattle.line_faults.specs.declared.resolved.Variable.{Variable}
 use Rattle.line_faults.specs.Variables.{other_kind_names}
 
 and-false : (a b : Bool) → a && false || b ≡ b

@@ -9,7 +9,7 @@ use Rattle.text_definitions.specs.Syntax.{TypeTree, of_primitive, never_type, va
 use Rattle.text_definitions.specs.Declarations.{Declarations, known}
 use Rattle.text_definitions.specs.Uses.{Use, trait_use, items_use, binder_uses, lifetime_uses, lifetime_arg_uses, number_arg_uses, length_uses, type_misfits, types_count, args_count, next_kind, other_kinds, kinds_of_struct, kinds_of_trait, type_uses, types_uses, args_uses, arg_uses, item_uses, items_uses, bound_uses, uses}
 use Rattle.text_definitions.specs.Faults.{is_use_of, with_own, bounds_use_own}
-use Rattle.name_resolution.specs.Machine.{findings}
+use Rattle.line_faults.specs.Machine.{findings}
 use Rattle.line_reader.specs.Statement.{line_statement}
 use Rattle.line_faults.specs.Speaks.{is_trait_said}
 use Rattle.line_faults.proofs.Bare.{sight}

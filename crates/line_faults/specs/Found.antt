@@ -3,12 +3,12 @@ use Rattle.std.specs.Prelude.{◌≡◌, ℕ, List, [], ◌∷◌, ◌++◌, map
 use Rattle.std.specs.List.{flat_map}
 use Rattle.text_definitions.specs.Faults.{variables_in, depth_limit}
 use Rattle.text_definitions.specs.Uses.{Use, greatest}
-use Rattle.type_reader.specs.Cells.{Cell}
+use Rattle.line_reader.specs.Cells.{Cell}
 use Rattle.line_reader.specs.LineParts.{LinePart, PartStands, part_uses, part_depth}
 use Rattle.line_reader.specs.Places.{EachOf}
 use Rattle.line_reader.specs.declared.parts.LinePart as places
-use Rattle.name_resolution.specs.Machine.{Sight, items, findings}
-use Rattle.name_resolution.specs.Views.{variable_in}
+use Rattle.line_faults.specs.Machine.{Sight, items, findings}
+use Rattle.line_faults.specs.Views.{variable_in}
 use Rattle.line_faults.specs.declared.parts.PartsFound.{PartsFound}
 
 -- what these use

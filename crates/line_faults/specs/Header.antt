@@ -3,11 +3,11 @@ use Rattle.std.specs.Prelude.{ℕ, ◌-◌, Bool, false, not, ◌&&◌, List, []
 use Rattle.std.specs.Option.{option_map_or}
 use Rattle.text_definitions.specs.Declarations.{known, last_crate}
 use Rattle.text_definitions.specs.Faults.{is_auto_name, is_param, is_struct_in}
-use Rattle.type_reader.specs.Cells.{Cell, named_cell}
+use Rattle.line_reader.specs.Cells.{Cell, named_cell}
 use Rattle.line_reader.specs.Statement.{Statement, impl_statement}
 use Rattle.line_reader.specs.declared.statement.ClauseSpans.{ClauseSpans}
-use Rattle.name_resolution.specs.Machine.{Sight, items}
-use Rattle.name_resolution.specs.UsedNames.{names_with}
+use Rattle.line_faults.specs.Machine.{Sight, items}
+use Rattle.line_faults.specs.UsedNames.{names_with}
 
 abbrev pub header_said : Statement → Option ClauseSpans
 header_said (impl_statement ps h ks) = Some h

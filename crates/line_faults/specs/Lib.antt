@@ -1,3 +1,16 @@
+pub mod Resolved
+pub mod Standing
+pub mod Back
+pub mod Machine
+pub mod LookUps
+pub mod Views
+pub mod Laws
+pub mod Steps
+pub mod Shapes
+pub mod Resolving
+pub mod UsedNames
+pub mod Together
+pub mod WalkViews
 pub mod Params
 pub mod Found
 pub mod Speaks

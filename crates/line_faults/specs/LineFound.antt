@@ -7,7 +7,7 @@ use Rattle.line_reader.specs.LineParts.{LinePart, clause_parts, line_parts, name
 use Rattle.line_reader.specs.Lines.{ReadsLine}
 use Rattle.line_reader.specs.Statement.{Statement, prove_statement, refute_statement}
 use Rattle.line_reader.specs.declared.statement.LineRead.{LineRead}
-use Rattle.name_resolution.specs.Machine.{Sight, findings}
+use Rattle.line_faults.specs.Machine.{Sight, findings}
 use Rattle.line_faults.specs.Found.{IsFound}
 use Rattle.line_faults.specs.declared.line.LineFound.{LineFound}
 

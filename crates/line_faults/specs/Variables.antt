@@ -4,7 +4,7 @@ use Rattle.model.specs.Label.{Sort, of_type, of_const, of_lifetime}
 use Rattle.model.specs.Trees.{is_sort}
 use Rattle.std.specs.List.{list_any}
 use Rattle.text_definitions.specs.Faults.{is_of_other_kind}
-use Rattle.name_resolution.specs.UsedNames.{Holds}
+use Rattle.line_faults.specs.UsedNames.{Holds}
 use Rattle.line_faults.specs.declared.variables.OtherKinds.{OtherKinds}
 
 -- the names of those that are of another sort

@@ -5,22 +5,23 @@ ghost use Rattle.std.specs.Option.{option_copied, option_map, option_map_or};
 ghost use Rattle.text_definitions.specs.Syntax.{Line};
 ghost use Rattle.text_definitions.specs.Declarations.{Declarations, known, last_crate};
 ghost use Rattle.text_definitions.specs.Faults.{has_free_param, implements_built_in, is_among, is_auto_name, is_built_in, is_foreign_auto, is_struct_in};
-ghost use Rattle.line_tokens.specs.Views.{text_of};
-ghost use Rattle.type_reader.specs.Views.{cell_of, cells_in};
+ghost use Rattle.line_reader.specs.TokenViews.{text_of};
+ghost use Rattle.line_reader.specs.TypeViews.{cell_of, cells_in};
 ghost use Rattle.line_reader.specs.Lines.{ReadsLine};
 ghost use Rattle.line_reader.specs.Views.{statement_of};
-ghost use Rattle.name_resolution.specs.Machine.{items};
-ghost use Rattle.name_resolution.specs.UsedNames.{Holds, names_with};
+ghost use Rattle.line_faults.specs.Machine.{items};
+ghost use Rattle.line_faults.specs.UsedNames.{Holds, names_with};
 ghost use Rattle.line_faults.specs.Header.{header_said, name_of, last_name, names_own_struct, names_foreign_auto, names_in_header};
 ghost use Rattle.line_faults.specs.Speaks.{Speaks};
 
+use crate::judge_use::is_param;
+use crate::looked_up::Names;
+use crate::name_set::NameSet;
 use crate::names::LineNames;
 use crate::params::ParamNames;
 use crate::parts::cells_to;
-use line_reader::{ClauseSpans, LineRead, Statement};
-use name_resolution::{NameSet, Names, is_param};
+use line_reader::{Cell, ClauseSpans, LineRead, Statement};
 use std::alloc::{AllocError, Global};
-use type_reader::Cell;
 use workspace::Known;
 
 /// Traits of `core` that have built-in rules alone: `Sized`, `Tuple`, `FnPtr`, `FnOnce`, `FnMut`, `Fn`, `Unsize`.

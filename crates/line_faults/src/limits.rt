@@ -9,10 +9,10 @@ ghost use Rattle.line_faults.specs.Limits.{is_full_for, is_large_for};
 ghost use Rattle.line_faults.specs.LineFound.{IsLineFound};
 ghost use Rattle.line_faults.specs.Speaks.{Speaks};
 
+use crate::found_variables::each_once;
 use crate::line::LineFound;
 use crate::names::LineNames;
 use line_reader::{LineRead, Statement};
-use name_resolution::each_once;
 use std::alloc::{AllocError, Global};
 
 /// Crates of a text, `core` among them.

@@ -1,15 +1,17 @@
 //! What is found of a line.
 ghost use Rattle.std.specs.Prelude.{◌≡◌, [], map, IfOk};
-ghost use Rattle.line_tokens.specs.Views.{text_of};
+ghost use Rattle.line_reader.specs.TokenViews.{text_of};
 ghost use Rattle.text_definitions.specs.Uses.{crate_use};
 ghost use Rattle.line_reader.specs.Views.{statement_of};
-ghost use Rattle.name_resolution.specs.Machine.{Sight, items, findings, either};
+ghost use Rattle.line_faults.specs.Machine.{Sight, items, findings, either};
 ghost use Rattle.line_faults.specs.Speaks.{Speaks, crates_named};
 ghost use Rattle.line_faults.specs.LineFound.{asked_count, FindsLine};
 
+use crate::findings::Findings;
+use crate::judge_use::crate_name;
+use crate::looked_up::Names;
 use crate::parts::{PartsFound, find_parts};
 use line_reader::{LineRead, Statement};
-use name_resolution::{Findings, Names, crate_name};
 use std::alloc::{AllocError, Global};
 
 /// What was found of a line.

@@ -3,7 +3,7 @@ ghost use Rattle.std.specs.Prelude.{◌≡◌, length, is_some};
 ghost use Rattle.text_definitions.specs.Declarations.{known, last_crate};
 ghost use Rattle.text_definitions.specs.Faults.{last_items};
 
-use name_resolution::Names;
+use crate::looked_up::Names;
 use type_terms::CrateId;
 
 /// What the names of one line are looked up in, and how much is declared before it.

@@ -2,13 +2,14 @@
 ghost use Rattle.std.specs.Prelude.{◌≡◌, ◌++◌, [], map, is_some, IfOk, OnOk};
 ghost use Rattle.std.specs.List.{list_any};
 ghost use Rattle.text_definitions.specs.Declarations.{known};
-ghost use Rattle.line_tokens.specs.Views.{text_of};
+ghost use Rattle.line_reader.specs.TokenViews.{text_of};
 ghost use Rattle.line_reader.specs.Views.{param_of, params_in};
-ghost use Rattle.name_resolution.specs.Machine.{items};
+ghost use Rattle.line_faults.specs.Machine.{items};
 ghost use Rattle.line_faults.specs.Params.{lifetimes_said, others_said, lifetime_name, other_name, names_taken, are_taken};
 
+use crate::judge_use::{has_static, repeats};
+use crate::looked_up::Names;
 use line_reader::Param;
-use name_resolution::{Names, has_static, repeats};
 use std::alloc::{AllocError, Global};
 
 /// The names of parameters. Those of lifetimes are apart from all others.

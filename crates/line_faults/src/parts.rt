@@ -1,16 +1,18 @@
 //! What is found of the types and bounds of a line.
 ghost use Rattle.std.specs.Prelude.{◌≡◌, ◌||◌, ◌++◌, [], ◌∷◌, ℕ, List, false, map, take, nat_lt, IfOk, OnOk};
-ghost use Rattle.type_reader.specs.Cells as cell;
-ghost use Rattle.type_reader.specs.Views.{cells_in};
+ghost use Rattle.line_reader.specs.Cells as cell;
+ghost use Rattle.line_reader.specs.TypeViews.{cells_in};
 ghost use Rattle.line_reader.specs.LineParts.{LinePart};
-ghost use Rattle.name_resolution.specs.Machine.{Sight, either};
-ghost use Rattle.name_resolution.specs.Views.{variable_in};
+ghost use Rattle.line_faults.specs.Machine.{Sight, either};
+ghost use Rattle.line_faults.specs.Views.{variable_in};
 ghost use Rattle.line_faults.specs.Found.{IsFound, FindsParts, AddsPart};
 
-use line_reader::LinePart;
-use name_resolution::{Findings, Names, Resolved, Variable, resolve_bound, resolve_type};
+use crate::findings::Findings;
+use crate::looked_up::Names;
+use crate::resolve::{Resolved, resolve_bound, resolve_type};
+use crate::resolved::Variable;
+use line_reader::{Cell, LinePart};
 use std::alloc::{AllocError, Global};
-use type_reader::Cell;
 
 /// What was found of types and bounds that stand one behind the other.
 #[derive(Drop)]

@@ -5,11 +5,12 @@ ghost use Rattle.model.specs.Label as label;
 ghost use Rattle.model.specs.Trees.{is_sort};
 ghost use Rattle.text_definitions.specs.Faults.{is_of_other_kind};
 ghost use Rattle.workspace.specs.Views.{sort_of_kind};
-ghost use Rattle.name_resolution.specs.UsedNames.{Holds};
-ghost use Rattle.name_resolution.specs.Views.{variable_in};
+ghost use Rattle.line_faults.specs.UsedNames.{Holds};
+ghost use Rattle.line_faults.specs.Views.{variable_in};
 ghost use Rattle.line_faults.specs.Variables.{other_kind_names, HoldsKinds, have_two_kinds};
 
-use name_resolution::{NameSet, Variable};
+use crate::name_set::NameSet;
+use crate::resolved::Variable;
 use std::alloc::{AllocError, Global};
 use workspace::ParamKind;
 

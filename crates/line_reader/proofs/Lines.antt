@@ -6,12 +6,12 @@ use Rattle.text_definitions.specs.Words.{crate_word, fundamental_word, struct_wo
 use Rattle.text_definitions.specs.Tokens.{Token, keyword, tokens_of}
 use Rattle.text_definitions.specs.Syntax.{Types, no_types, and_type, Params, Bound, Clause, Line, crate_line, struct_line, trait_line, impl_line, prove_line, refute_line, type_spelling, bound_spelling, clause_spelling, uses_spelling, params_spelling, fields_spelling, spelling}
 use Rattle.text_definitions.specs.Written.{IsWritten}
-use Rattle.line_tokens.specs.Marks.{after_open_angle, is_nil}
-use Rattle.line_tokens.specs.Steps.{NoAngle}
-use Rattle.line_tokens.specs.declared.line_error.LineError.{LineError}
-use Rattle.line_tokens.specs.declared.line_error.LineError.TheVariants as errors
-use Rattle.type_reader.specs.Cells.{Cell}
-use Rattle.type_reader.specs.Follows.{Follows}
+use Rattle.line_reader.specs.Marks.{after_open_angle, is_nil}
+use Rattle.line_reader.specs.TokenSteps.{NoAngle}
+use Rattle.line_reader.specs.declared.line_error.LineError.{LineError}
+use Rattle.line_reader.specs.declared.line_error.LineError.TheVariants as errors
+use Rattle.line_reader.specs.Cells.{Cell}
+use Rattle.line_reader.specs.Follows.{Follows}
 use Rattle.line_reader.specs.Statement.{Statement, crate_statement, struct_statement, trait_statement, impl_statement, prove_statement, refute_statement, param_list, bound_onto, bound_span, clause_onto, clause_spans, header_onto, header_spans, all_onto, all_spans, line_cells, line_statement}
 use Rattle.line_reader.specs.Parts.{Progress, ◌>>=◌, crate_at, struct_at, trait_at, impl_at, prove_at, refute_at, auto_front, fundamental_front, statement_front, statement_at, line_at, written_in}
 use Rattle.line_reader.specs.Lines.{ReadsLine, SaysLine}

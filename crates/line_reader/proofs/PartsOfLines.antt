@@ -6,7 +6,7 @@ use Rattle.model.specs.Label.{of_type}
 use Rattle.text_definitions.specs.Syntax.{TypeTree, Types, no_types, and_type, Bound, Clause, Line, crate_line, struct_line, trait_line, impl_line, prove_line, refute_line}
 use Rattle.text_definitions.specs.Declarations.{Declarations}
 use Rattle.text_definitions.specs.Uses.{crate_use, type_uses, types_uses, bound_uses, clause_uses, type_depth, types_depth, bound_depth, clause_depth, greatest}
-use Rattle.type_reader.specs.Cells.{Cell}
+use Rattle.line_reader.specs.Cells.{Cell}
 use Rattle.line_reader.specs.Statement.{Statement, crate_statement, struct_statement, trait_statement, impl_statement, prove_statement, refute_statement, type_list, line_cells, line_statement}
 use Rattle.line_reader.specs.Places.{TypeStands, BoundStands, ClauseStands, EachOf, LineStands}
 use Rattle.line_reader.specs.LineParts.{type_part, bound_part, clause_parts, line_parts, type_place, bound_place, clause_places, places_in, PartStands, PartsStand, part_uses, part_depth, UsesOfParts, AskedOfParts, DepthOfParts}

@@ -8,7 +8,7 @@ use Rattle.text_definitions.specs.Syntax.{Types, no_types, and_type, Params, cra
 use Rattle.text_definitions.specs.Declarations.{kinds_of, names_of}
 use Rattle.text_definitions.specs.Uses.{types_count}
 use Rattle.text_definitions.specs.Faults.{is_long}
-use Rattle.type_reader.specs.Cells.{Cell, type_onto}
+use Rattle.line_reader.specs.Cells.{Cell, type_onto}
 use Rattle.line_reader.specs.Statement.{lifetime_param, type_param, const_param, param_name, param_list, bound_onto, bound_span, clause_onto, clause_spans, header_onto, type_span, all_spans, type_list}
 use Rattle.line_reader.specs.Says.{NameIsSaid, ParamsAreSaid, ParamsAreCounted, PartsAreCounted, TestsAgree}
 

@@ -5,7 +5,7 @@ use Rattle.model.specs.Label.{of_type}
 use Rattle.text_definitions.specs.Syntax.{TypeTree, Bound, Clause, Line, crate_line, struct_line, trait_line, impl_line, prove_line, refute_line}
 use Rattle.text_definitions.specs.Declarations.{Declarations}
 use Rattle.text_definitions.specs.Uses.{Use, crate_use, type_uses, bound_uses, uses, asked_uses, type_depth, bound_depth, greatest, line_depth}
-use Rattle.type_reader.specs.Cells.{Cell}
+use Rattle.line_reader.specs.Cells.{Cell}
 use Rattle.line_reader.specs.Statement.{Statement, crate_statement, struct_statement, trait_statement, impl_statement, prove_statement, refute_statement, type_list, line_cells, line_statement}
 use Rattle.line_reader.specs.Places.{TypeStands, BoundStands, EachOf}
 use Rattle.line_reader.specs.declared.statement.Span.{Span}

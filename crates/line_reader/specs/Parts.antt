@@ -2,9 +2,9 @@
 use Rattle.std.specs.Prelude.{ℕ, zero, suc, Bool, true, false, ◌&&◌, List, [], ◌∷◌, length, Option, Some, None, nat_le, if◌then◌else◌}
 use Rattle.text_definitions.specs.Words.{crate_word, fundamental_word, struct_word, auto_word, trait_word, impl_word, prove_word, refute_word, const_word}
 use Rattle.text_definitions.specs.Tokens.{Token, keyword, name, lifetime, tokens_of}
-use Rattle.line_tokens.specs.Marks.{after_comma, after_plus, after_colon, after_open_angle, after_close_angle, after_open_round, after_close_round, after_uses, after_where, after_for, after_in, name_front, is_name, is_nil}
-use Rattle.type_reader.specs.Cells.{Cell}
-use Rattle.type_reader.specs.Reading.{type_read}
+use Rattle.line_reader.specs.Marks.{after_comma, after_plus, after_colon, after_open_angle, after_close_angle, after_open_round, after_close_round, after_uses, after_where, after_for, after_in, name_front, is_name, is_nil}
+use Rattle.line_reader.specs.Cells.{Cell}
+use Rattle.line_reader.specs.TypeReading.{type_read}
 use Rattle.line_reader.specs.declared.statement.Span.{Span}
 use Rattle.line_reader.specs.declared.statement.ClauseSpans.{ClauseSpans}
 use Rattle.line_reader.specs.Statement.{Param, lifetime_param, type_param, const_param, Statement, crate_statement, struct_statement, trait_statement, impl_statement, prove_statement, refute_statement}

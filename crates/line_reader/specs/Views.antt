@@ -1,9 +1,9 @@
 -- What the values of the code stand for among the definitions.
 use Rattle.std.specs.Prelude.{ℕ, List, map}
 use Rattle.std.specs.Borrow.{Bor}
-use Rattle.line_tokens.specs.Views.{text_of}
-use Rattle.type_reader.specs.Cells.{Cell}
-use Rattle.type_reader.specs.Views.{cells_in}
+use Rattle.line_reader.specs.TokenViews.{text_of}
+use Rattle.line_reader.specs.Cells.{Cell}
+use Rattle.line_reader.specs.TypeViews.{cells_in}
 use Rattle.line_reader.specs.Statement as said
 use Rattle.line_reader.specs.declared.statement.Param.{Param}
 use Rattle.line_reader.specs.declared.statement.Param.TheVariants as params

@@ -1,12 +1,12 @@
 //! `crate NAME uses NAME, NAME, ..`
-ghost use Rattle.line_tokens.specs.Marks.{after_comma};
+ghost use Rattle.line_reader.specs.Marks.{after_comma};
 ghost use Rattle.line_reader.specs.Parts.{name_at, uses_at, crate_at, parts_between};
 ghost use Rattle.line_reader.specs.Steps.{Reads};
 ghost use Rattle.line_reader.specs.Views.{texts_in, statement_of};
 
+use crate::line_error::LineError;
 use crate::reader::Reader;
 use crate::statement::Statement;
-use line_tokens::LineError;
 
 impl<'t, 'a> Reader<'t, 'a> {
     /// Names with commas between them.

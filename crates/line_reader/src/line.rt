@@ -2,15 +2,17 @@
 ghost use Rattle.std.specs.Prelude.{◌≡◌, ◌==◌, length, take_while, IfOk, IsErrOf};
 ghost use Rattle.text_definitions.specs.Syntax.{Line};
 ghost use Rattle.text_definitions.specs.Written.{IsWritten, is_ascii, is_blank};
-ghost use Rattle.line_tokens.specs.Views.{tokens_in};
+ghost use Rattle.line_reader.specs.TokenViews.{tokens_in};
 ghost use Rattle.line_reader.specs.Lines.{ReadsLine, SaysLine};
 ghost use Rattle.line_reader.specs.Parts.{auto_front, fundamental_front, statement_at, line_at, written_in};
 ghost use Rattle.line_reader.specs.Steps.{Reads, Gives};
 ghost use Rattle.line_reader.specs.Views.{statement_of, read_of};
 
+use crate::cursor::Cursor;
+use crate::line_error::LineError;
 use crate::reader::Reader;
 use crate::statement::{LineRead, Statement};
-use line_tokens::{Cursor, Keyword, LineError, Token, tokens};
+use crate::token::{Keyword, Token, tokens};
 use std::alloc::Global;
 
 impl<'t, 'a> Reader<'t, 'a> {

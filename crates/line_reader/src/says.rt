@@ -3,7 +3,7 @@ ghost use Rattle.std.specs.Prelude.{◌≡◌, false};
 ghost use Rattle.std.specs.List.{list_any};
 ghost use Rattle.std.specs.Option.{option_map, option_map_or};
 ghost use Rattle.text_definitions.specs.Faults.{is_long};
-ghost use Rattle.line_tokens.specs.Views.{text_of};
+ghost use Rattle.line_reader.specs.TokenViews.{text_of};
 ghost use Rattle.line_reader.specs.Says.{name_said, params_said, count_said, is_item, is_loaded, refutes_some, has_long};
 ghost use Rattle.line_reader.specs.Statement as said;
 ghost use Rattle.line_reader.specs.Views.{param_of, params_in, statement_of};

@@ -3,7 +3,7 @@ ghost use Rattle.std.specs.Prelude.{◌≡◌};
 ghost use Rattle.line_reader.specs.Parts.{rank};
 ghost use Rattle.line_reader.specs.Views.{param_of};
 
-use type_reader::Cell;
+use crate::cell::Cell;
 
 /// Where the cells of a type stand: from `start` on, and before `end`. The last of them is the type's own. A bound stands there as the
 /// type of its name and arguments: its last cell is a `Named` with the trait's name.

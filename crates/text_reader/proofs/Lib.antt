@@ -1,4 +1,22 @@
+pub mod Sizes
+pub mod Stacks
+pub mod Plain
+pub mod TypesMade
+pub mod Standing
+pub mod Each
+pub mod Fits
+pub mod KeptCells
+pub mod KeptTypes
+pub mod Digits
 mod Texts
 mod FirstBytes
 mod Shortness
 mod Taking
+pub mod Ordering
+pub mod WhatIsAdded
+pub mod OwnKnown
+pub mod Looking
+pub mod Sighted
+pub mod Meaning
+pub mod Adding
+pub mod Parsed

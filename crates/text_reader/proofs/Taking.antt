@@ -8,7 +8,7 @@ use Rattle.text_definitions.specs.Syntax.{Line, crate_line, struct_line, trait_l
 use Rattle.text_definitions.specs.Declarations.{Declarations, nothing_declared}
 use Rattle.text_definitions.specs.Adding.{added}
 use Rattle.text_definitions.specs.Text.{LineGives, other_byte, blank, unwritten, faulty, adds, lines_of, text_limit, long_line, TextGives, too_long, fits}
-use Rattle.type_reader.specs.Views.{cell_of}
+use Rattle.line_reader.specs.TypeViews.{cell_of}
 use Rattle.workspace.specs.Numbered.{IsFew}
 use Rattle.line_reader.specs.declared.statement.LineRead.{LineRead}
 use Rattle.line_faults.specs.FaultNumbers.{fault_number}

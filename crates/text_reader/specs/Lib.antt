@@ -1,5 +1,16 @@
+pub mod Making
+pub mod Meant
+pub mod Numbering
+pub mod Keeping
+pub mod Laws
+pub mod Kept
 pub mod Lines
 pub mod Forms
 pub mod Declaring
 pub mod Outcomes
 pub mod Prefixes
+pub mod BareLines
+pub mod Entries
+pub mod OwnItems
+pub mod Parsing
+pub mod Sights

@@ -2,8 +2,7 @@
 ghost use Rattle.std.specs.Prelude.{IfOk};
 ghost use Rattle.text_reader.specs.Forms.{IsForm};
 
-use line_reader::{LineRead, is_ascii, is_blank, read_line};
-use line_tokens::LineError;
+use line_reader::{LineError, LineRead, is_ascii, is_blank, read_line};
 use std::alloc::{AllocError, Global};
 
 /// What a line of a text is, before any name is looked up.

@@ -1,24 +1,51 @@
-//! Whole texts: their lines, what each of them is by itself, and what they declare one after the other.
-//!
-//! A text is a list of lines, and each line stands after the declarations of the lines before it. `long_line` says whether a text is
-//! longer than texts may be, which is looked at before all else; `split_line` takes the first line off a text; `line_form` says what a
-//! line is before any name is looked up; and `read_text` reads a text whole into anything that lines can be declared in (`Declares`),
-//! or names the first faulty line with the smallest number of a fault in it.
+//! Whole texts, line after line: what each line declares is added to the tables of a workspace, and the first faulty line is named
+//! with the smallest number that applies.
 #![tactic(auto)]
 
-mod declares;
-mod fault;
-mod form;
-mod lines;
-mod text;
-
+ghost use Rattle.text_reader.specs.Laws.{FaultlessParts, NumbersAreSmall};
 ghost use Rattle.text_reader.specs.Prefixes.{FirstBytesDecide};
 
+mod cell;
+mod declares;
+mod declaring;
+mod entries;
+mod fault;
+mod faults;
+mod form;
+mod keep;
+mod line_tables;
+mod lines;
+mod numbering;
+mod own_items;
+mod params;
+mod parsing;
+mod parts;
+mod small;
+mod so_far;
+mod text;
+mod text_tables;
+
 pub use declares::Declares;
+pub use declaring::declare;
 pub use fault::{TextError, TextFault};
+pub use faults::line_fault;
 pub use form::{LineForm, line_form};
 pub use lines::{TEXT_LIMIT, long_line, split_line};
+pub use numbering::Numbering;
+pub use parsing::parse;
+pub use parts::{asked_variables, bound_cells, clause_cells, clauses_cells, field_cells};
 pub use text::read_text;
+use workspace::ENTRY_LIMIT;
+
+/// What the types and bounds of a line without a fault use fits, part by part.
+pub fn faultless_parts()
+    ensures { FaultlessParts }
+{}
+
+/// Where declarations are numbered by their places and are few, the numbers of the structs and traits that a line knows are small.
+pub fn small_numbers()
+    ensures { NumbersAreSmall ENTRY_LIMIT }
+{}
 
 /// A text gives what its first 1,048,577 bytes give: whoever reads it need not read on behind the first byte too many.
 pub fn first_bytes()

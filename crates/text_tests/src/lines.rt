@@ -1,6 +1,5 @@
 //! Lines of the whole language: which are read, and how many cells their types have.
-use line_reader::{Statement, read_line};
-use line_tokens::LineError;
+use line_reader::{LineError, Statement, read_line};
 use std::alloc::Global;
 
 /// How many cells the types of a line have, or nothing where the grammar has no such line.

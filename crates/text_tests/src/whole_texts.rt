@@ -1,7 +1,6 @@
 //! Whole texts of the whole language, read into workspaces.
-use line_declaring::parse;
 use std::alloc::Global;
-use text_reader::TextError;
+use text_reader::{TextError, parse};
 use workspace::Workspace;
 
 const EACH_KIND: &[u8] =

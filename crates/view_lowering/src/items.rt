@@ -14,11 +14,10 @@ ghost use Rattle.view_lowering.specs.Seen.{struct_sorts, trait_sorts, param_sort
 use crate::parts::{lower_reference, lower_references, param_kind, push_params};
 use crate::plain::{Kept, plain_cells, plain_reference, plain_references};
 use declarations::items::{AdtDef, GenericParamKind, ImplDef, TraitDef};
-use lowering::lower_types;
 use std::alloc::{AllocError, Global};
 use type_terms::Fault;
 use type_terms::interner::Interner;
-use workspace::{ImplEntry, Param, ParamKind, StructEntry, TraitEntry};
+use workspace::{ImplEntry, Param, ParamKind, StructEntry, TraitEntry, lower_types};
 
 /// The struct of a row, with the lifetimes that its fields name.
 pub(crate) fn lower_struct(

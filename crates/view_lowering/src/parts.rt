@@ -9,12 +9,11 @@ ghost use Rattle.workspace.specs.Made.{ReferenceMade, ReferencesMade};
 ghost use Rattle.workspace.specs.Views.{sort_of_kind, sorts_of, reference_of};
 
 use declarations::items::GenericParamKind;
-use lowering::lower_args;
 use std::alloc::{AllocError, Global};
 use term_folds::predicate::TraitRef;
 use type_terms::Fault;
 use type_terms::interner::Interner;
-use workspace::{ParamKind, ReferenceCells};
+use workspace::{ParamKind, ReferenceCells, lower_args};
 
 /// What a parameter stands for, as declarations have it.
 pub(crate) fn param_kind(kind: ParamKind) -> GenericParamKind

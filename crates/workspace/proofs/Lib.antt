@@ -4,3 +4,6 @@ mod Names
 mod Consistent
 mod Lines
 mod CoreLemmas
+mod Stacks
+mod Lowering
+mod CellLists

@@ -6,3 +6,5 @@ pub mod Tables
 pub mod Parts
 pub mod Stored
 pub mod CoreItems
+pub mod Stack
+pub mod Lowers

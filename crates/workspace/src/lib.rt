@@ -1,12 +1,15 @@
-//! What a text of the whole language declares and asks, kept so that names and numbers are found at once.
+//! What a text of the whole language declares and asks, in tables, and its types made terms of an interner.
 //!
-//! `Tables` are filled line after line, from `core` on; a `Workspace` is what they hold at the end. Types stand in it as lists of
-//! cells: parts of a type in postfix order, by numbers alone.
+//! Names and what they stand for, what each crate sees, and types as lists of cells by numbers; `core` with its items. The terms that
+//! cells stand for are made by a loop with a stack, parts before what they stand in.
 #![tactic(auto)]
 
 mod cell;
+mod cells;
 mod core_items;
 mod declared;
+mod lists;
+mod stack;
 mod tables;
 mod workspace;
 
@@ -14,5 +17,6 @@ pub use cell::{ParamKind, TermCell};
 pub use declared::{
     Asked, ImplEntry, Known, Param, QuestionEntry, ReferenceCells, StructEntry, TraitEntry,
 };
+pub use lists::{lower_args, lower_types};
 pub use tables::{ENTRY_LIMIT, Tables};
 pub use workspace::Workspace;

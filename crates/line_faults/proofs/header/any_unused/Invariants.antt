@@ -1,9 +1,9 @@
 use Rattle.std.proofs.Common.{◌≡◌, ℕ, List, drop, map}
 use Rattle.std.specs.Prelude.{not}
 use Rattle.std.specs.List.{list_any}
-use Rattle.line_tokens.specs.Views.{text_of}
+use Rattle.line_reader.specs.TokenViews.{text_of}
 use Rattle.text_definitions.specs.Faults.{is_among}
-use Rattle.name_resolution.specs.UsedNames.{Holds}
+use Rattle.line_faults.specs.UsedNames.{Holds}
 use Rattle.line_faults.proofs.header.any_unused.Given as goal
 
 abbrev pub invariant-loop-name : goal.invariant-loop-name

@@ -1,7 +1,7 @@
 use Rattle.std.proofs.Common.{◌≡◌, ap, ◌∙◌, map, subst}
-use Rattle.line_tokens.specs.Views.{text_of}
-use Rattle.type_reader.specs.Views.{cells_in}
-use Rattle.name_resolution.specs.UsedNames.{Holds}
+use Rattle.line_reader.specs.TokenViews.{text_of}
+use Rattle.line_reader.specs.TypeViews.{cells_in}
+use Rattle.line_faults.specs.UsedNames.{Holds}
 use Rattle.line_faults.specs.Params.{others_said}
 use Rattle.line_faults.specs.Header.{names_in_header}
 use Rattle.line_faults.proofs.Headers.{read-impl, free-is}

@@ -1,5 +1,5 @@
 use Rattle.std.proofs.Common.{◌∙◌, ap, take}
-use Rattle.type_reader.specs.Views.{cells_in}
+use Rattle.line_reader.specs.TypeViews.{cells_in}
 use Rattle.line_faults.specs.Header.{last_name}
 use Rattle.line_faults.proofs.Headers.{read-built, no-built}
 use Rattle.line_faults.proofs.header.implements_built_in.Goals as goal

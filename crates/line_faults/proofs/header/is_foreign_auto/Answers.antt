@@ -1,5 +1,5 @@
 use Rattle.std.proofs.Common.{◌∙◌, ap, take}
-use Rattle.type_reader.specs.Views.{cells_in}
+use Rattle.line_reader.specs.TypeViews.{cells_in}
 use Rattle.line_faults.specs.Header.{last_name}
 use Rattle.line_faults.proofs.Headers.{read-foreign, no-foreign}
 use Rattle.line_faults.proofs.header.is_foreign_auto.Goals as goal

@@ -5,7 +5,7 @@ use Rattle.std.proofs.lemmas.List.{length-map}
 use Rattle.text_definitions.specs.Faults.{once, variables_in, variable_limit}
 use Rattle.text_definitions.specs.Uses.{asked_uses}
 use Rattle.line_reader.specs.Views.{statement_of}
-use Rattle.name_resolution.specs.Views.{variable_in}
+use Rattle.line_faults.specs.Views.{variable_in}
 use Rattle.line_faults.specs.Speaks.{Speaks}
 use Rattle.line_faults.proofs.LineTests.{line-findings, line-deep, asked-variables}
 use Rattle.line_faults.proofs.Passing.{limits-are}

@@ -1,5 +1,5 @@
 use Rattle.std.proofs.Common.{◌∙◌}
-use Rattle.name_resolution.proofs.Judged.{no-uses}
+use Rattle.line_faults.proofs.Judged.{no-uses}
 use Rattle.line_faults.proofs.Crates.{crates-step}
 use Rattle.line_faults.proofs.line.crate_names.Goals as goal
 

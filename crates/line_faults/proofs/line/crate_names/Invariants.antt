@@ -1,7 +1,7 @@
 use Rattle.std.proofs.Common.{◌≡◌, take, map}
-use Rattle.line_tokens.specs.Views.{text_of}
+use Rattle.line_reader.specs.TokenViews.{text_of}
 use Rattle.text_definitions.specs.Uses.{crate_use}
-use Rattle.name_resolution.specs.Machine.{findings}
+use Rattle.line_faults.specs.Machine.{findings}
 use Rattle.line_faults.proofs.line.crate_names.Given as goal
 
 abbrev pub invariant-loop-name : goal.invariant-loop-name

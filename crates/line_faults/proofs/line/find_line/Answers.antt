@@ -1,8 +1,8 @@
 use Rattle.std.proofs.Common.{◌≡◌, ◌-◌, ap, ◌∙◌, map, take, drop, length, arith}
 use Rattle.std.specs.Prelude.{min}
 use Rattle.text_definitions.specs.Uses.{crate_use}
-use Rattle.type_reader.specs.Views.{cells_in}
-use Rattle.name_resolution.specs.Machine.{findings}
+use Rattle.line_reader.specs.TypeViews.{cells_in}
+use Rattle.line_faults.specs.Machine.{findings}
 use Rattle.line_reader.specs.LineParts.{asked_parts}
 use Rattle.line_reader.specs.Views.{statement_of}
 use Rattle.line_faults.specs.LineFound.{other_parts, asked_count}

@@ -2,8 +2,8 @@ use Rattle.std.proofs.Common.{◌≡◌, drop, map}
 use Rattle.std.specs.Prelude.{is_some}
 use Rattle.std.specs.List.{list_any}
 use Rattle.text_definitions.specs.Declarations.{known}
-use Rattle.line_tokens.specs.Views.{text_of}
-use Rattle.name_resolution.specs.Machine.{items}
+use Rattle.line_reader.specs.TokenViews.{text_of}
+use Rattle.line_faults.specs.Machine.{items}
 use Rattle.line_faults.proofs.params.any_known.Given as goal
 
 abbrev pub invariant-loop-name : goal.invariant-loop-name

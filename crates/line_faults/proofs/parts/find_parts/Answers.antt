@@ -1,6 +1,6 @@
 use Rattle.std.proofs.Common.{subst, refl}
 use Rattle.std.proofs.lemmas.List.{drop_all}
-use Rattle.type_reader.specs.Views.{cells_in}
+use Rattle.line_reader.specs.TypeViews.{cells_in}
 use Rattle.line_faults.proofs.Finding.{Going, going-starts, going-at, going-ends}
 use Rattle.line_faults.proofs.parts.find_parts.Goals as goal
 

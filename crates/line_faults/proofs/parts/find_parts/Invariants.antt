@@ -1,5 +1,5 @@
 use Rattle.std.proofs.Common.{List, drop}
-use Rattle.type_reader.specs.Views.{cells_in}
+use Rattle.line_reader.specs.TypeViews.{cells_in}
 use Rattle.line_reader.specs.LineParts.{LinePart, PartStands}
 use Rattle.line_reader.specs.Places.{EachOf}
 use Rattle.line_faults.proofs.Finding.{Going}

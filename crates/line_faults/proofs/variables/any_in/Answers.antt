@@ -2,7 +2,7 @@ use Rattle.std.proofs.Common.{◌+◌, sym, ap, ◌∙◌, map, drop}
 use Rattle.std.specs.Prelude.{◌||◌}
 use Rattle.std.specs.List.{list_any}
 use Rattle.text_definitions.specs.Faults.{is_of_other_kind}
-use Rattle.name_resolution.specs.Views.{variable_in}
+use Rattle.line_faults.specs.Views.{variable_in}
 use Rattle.line_faults.proofs.OtherSorts.{any-behind}
 use Rattle.line_faults.proofs.variables.any_in.Goals as goal
 

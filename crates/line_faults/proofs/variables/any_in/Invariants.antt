@@ -2,7 +2,7 @@ use Rattle.std.proofs.Common.{◌≡◌, ℕ, List, drop, map}
 use Rattle.std.specs.List.{list_any}
 use Rattle.model.specs.Label.{Sort}
 use Rattle.text_definitions.specs.Faults.{is_of_other_kind}
-use Rattle.name_resolution.specs.Views.{variable_in}
+use Rattle.line_faults.specs.Views.{variable_in}
 use Rattle.line_faults.specs.Variables.{HoldsKinds}
 use Rattle.line_faults.proofs.variables.any_in.Given as goal
 

@@ -1,5 +1,5 @@
 use Rattle.std.proofs.Common.{map}
-use Rattle.name_resolution.specs.Views.{variable_in}
+use Rattle.line_faults.specs.Views.{variable_in}
 use Rattle.line_faults.proofs.variables.are_of_two_kinds.Goals as goal
 
 pub returns : goal.returns

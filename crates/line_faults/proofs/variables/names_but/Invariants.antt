@@ -1,7 +1,7 @@
 use Rattle.std.proofs.Common.{◌≤◌, length, drop, map}
 use Rattle.workspace.specs.Views.{sort_of_kind}
-use Rattle.name_resolution.specs.UsedNames.{Holds}
-use Rattle.name_resolution.specs.Views.{variable_in}
+use Rattle.line_faults.specs.UsedNames.{Holds}
+use Rattle.line_faults.specs.Views.{variable_in}
 use Rattle.line_faults.specs.Variables.{other_kind_names}
 use Rattle.line_faults.proofs.variables.names_but.Given as goal
 

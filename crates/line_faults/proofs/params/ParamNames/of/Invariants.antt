@@ -1,5 +1,5 @@
 use Rattle.std.proofs.Common.{◌≡◌, ◌++◌, map, length}
-use Rattle.line_tokens.specs.Views.{text_of}
+use Rattle.line_reader.specs.TokenViews.{text_of}
 use Rattle.line_reader.specs.Views.{params_in}
 use Rattle.line_faults.specs.Params.{lifetimes_said, others_said}
 use Rattle.line_faults.proofs.params.ParamNames.of.Given as goal

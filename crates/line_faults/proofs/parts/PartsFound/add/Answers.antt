@@ -1,6 +1,6 @@
 use Rattle.std.proofs.Common.{ap, ◌∙◌, sym, subst}
 use Rattle.std.proofs.lemmas.List.{take-map}
-use Rattle.type_reader.specs.Views.{cells_in, cell_of}
+use Rattle.line_reader.specs.TypeViews.{cells_in, cell_of}
 use Rattle.line_faults.specs.Found.{AddsPart}
 use Rattle.line_faults.proofs.Finding.{adds-type, adds-bound}
 use Rattle.line_faults.proofs.parts.PartsFound.add.Goals as goal

@@ -1,0 +1,9 @@
+-- What the values of the code stand for among the definitions.
+use Rattle.std.specs.Prelude.{ℕ, List, map}
+use Rattle.model.specs.Label.{Sort}
+use Rattle.answer_lines.specs.Kinds as term
+use Rattle.answer_lines.specs.declared.question.Unknown.{Unknown}
+
+-- unknowns that a question doesn't hold
+abbrev pub unknowns_of : List Unknown → List (Sort × ℕ)
+unknowns_of us = map (λ u. (term.sort_of_kind u.kind, u.index)) us

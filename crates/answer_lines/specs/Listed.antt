@@ -1,0 +1,38 @@
+-- What listed values stand for among the definitions.
+use Rattle.std.specs.Prelude.{ℕ, suc, List, [], ◌∷◌, if◌then◌else◌}
+use Rattle.model.specs.Label.{infer}
+use Rattle.model.specs.Trees.{Trees, leaf}
+use Rattle.model.specs.Codes.{same}
+use Rattle.text_definitions.specs.Declarations.{Variable}
+use Rattle.type_terms.specs.Kinds.{arg_trees, ArgHeld}
+use Rattle.type_terms.specs.Terms.{Entry}
+use Rattle.type_terms.specs.declared.kinds.GenericArgKind.{GenericArgKind}
+use Rattle.workspace.specs.Views.{sort_of_kind, variable_of}
+use Rattle.workspace.specs.declared.cell.ParamKind.{ParamKind}
+use Rattle.workspace.specs.declared.cell.ParamKind.TheVariants as kinds
+use Rattle.workspace.specs.declared.declared.Param.{Param}
+use Rattle.answer_lines.specs.declared.listed.Listed.{Listed}
+use Rattle.answer_lines.specs.declared.listed.Counts.{Counts}
+
+abbrev pub listed_of : List Entry → Listed → Variable × Trees
+listed_of es l = (variable_of l.variable.now, arg_trees es l.value)
+
+abbrev pub ListHeld : List Entry → List Listed → Type 0
+ListHeld es [] = Unit {0}
+ListHeld es (l ∷ ls) = ArgHeld es l.value × ListHeld es ls
+
+-- the number of the unknown that stands for the next variable, of this kind
+abbrev pub own_number : ParamKind → Counts → ℕ
+own_number kinds.Lifetime n = 0
+own_number kinds.Type n = n.types
+own_number kinds.Const n = n.consts
+
+-- the counts behind a variable of this kind
+abbrev pub counted : ParamKind → Counts → Counts
+counted kinds.Lifetime n = n
+counted kinds.Type n = record { types = suc n.types; consts = n.consts }
+counted kinds.Const n = record { types = n.types; consts = suc n.consts }
+
+-- a variable with this value, which the unknown with this number stands for: it is listed unless that is its value
+abbrev pub valued_one : List Entry → Param → GenericArgKind → ℕ → List (Variable × Trees)
+valued_one es p a n = if same (leaf (infer (sort_of_kind p.kind) n)) (arg_trees es a) then [] else (variable_of p, arg_trees es a) ∷ []

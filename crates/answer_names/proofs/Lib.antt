@@ -1,4 +1,0 @@
-mod Called
-mod Visiting
-mod Listing
-mod Texts

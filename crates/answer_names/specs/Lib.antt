@@ -1,4 +1,0 @@
-pub mod Called
-pub mod Listed
-pub mod Listing
-pub mod Valued

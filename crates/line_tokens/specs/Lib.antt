@@ -1,4 +1,0 @@
-pub mod Views
-pub mod Reading
-pub mod Steps
-pub mod Marks

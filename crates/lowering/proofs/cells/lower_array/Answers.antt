@@ -1,7 +1,0 @@
-use Rattle.lowering.specs.Stack.{stack_of}
-use Rattle.lowering.proofs.Lowering.{array-lowers}
-use Rattle.lowering.proofs.cells.lower_array.Goals as goal
-
-pub returns-clause-lowers : goal.returns-clause-lowers
-returns-clause-lowers c =
-    array-lowers c.pop_type-item.result c.pop_const-len.result c.args.cx.now.entries _ (stack_of c.args.stack.now.items) _ _ c.in_ok-ty.ty c.pop_const-len.ensures c.pop_type-item.ensures c.requires.held c.in_ok-ty.ensures.is c.in_ok-ty.ensures.keeps

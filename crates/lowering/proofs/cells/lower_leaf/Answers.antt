@@ -1,9 +1,0 @@
-use Rattle.lowering.specs.Stack.{stack_of}
-use Rattle.lowering.proofs.Lowering.{leaf-lowers, leaf-held}
-use Rattle.lowering.proofs.cells.lower_leaf.Goals as goal
-
-pub mk_ty-requires : goal.mk_ty-requires
-mk_ty-requires c = leaf-held c.args.cell c.args.kind c.args.cx.now.entries c.requires.leaf
-
-pub returns-clause-lowers : goal.returns-clause-lowers
-returns-clause-lowers c = leaf-lowers c.args.cell c.args.kind c.args.cx.now.entries _ c.in_ok-ty.ty c.requires.leaf c.in_ok-ty.ensures.is c.in_ok-ty.ensures.keeps (stack_of c.args.stack.now.items) c.requires.ready.held

@@ -1,9 +1,0 @@
-use Rattle.type_reader.specs.Views.{cells_in}
-use Rattle.term_cells.specs.Numbering.{meanings}
-use Rattle.term_cells.proofs.KeptTypes.{line-ready}
-use Rattle.term_cells.proofs.parts.clause_cells.Goals as goal
-
-pub returns : goal.returns
-returns g c line k s st f =
-    let v = g.N.Names.sight c.args.names.now in
-    c.in_ok-made.ensures (meanings v c.args.numbering) c.of-numbers.ensures line k (line-ready v c.args.numbering (cells_in c.args.cells.now) line c.requires s) st f

@@ -1,6 +1,0 @@
-pub mod Making
-pub mod Meant
-pub mod Numbering
-pub mod Keeping
-pub mod Laws
-pub mod Kept

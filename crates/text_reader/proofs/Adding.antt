@@ -1,0 +1,64 @@
+-- What the tables add is what the line that was read adds.
+use Rattle.std.proofs.Common.{◌≡◌, ℕ, Bool, List, map, Some, None, sym, ap, ◌∙◌}
+use Rattle.text_definitions.specs.Syntax.{crate_line}
+use Rattle.text_definitions.specs.Declarations.{Declarations, known}
+use Rattle.text_definitions.specs.Adding.{added}
+use Rattle.line_reader.proofs.NoFault.{declares-new}
+use Rattle.line_reader.specs.Says.{name_said}
+use Rattle.line_reader.specs.Statement.{Param, Statement, crate_statement, struct_statement, trait_statement, impl_statement}
+use Rattle.line_reader.specs.Views.{statement_of}
+use Rattle.line_reader.specs.declared.statement.ClauseSpans.{ClauseSpans}
+use Rattle.line_reader.specs.declared.statement.LineRead.{LineRead}
+use Rattle.line_reader.specs.declared.statement.Span.{Span}
+use Rattle.line_reader.proofs.WhatIsSaid.{name-is-said}
+use Rattle.text_reader.specs.Declaring.{IsFaultless, AddsLine}
+use Rattle.workspace.specs.Parts.{AddsStructLine, AddsTraitLine, AddsImplLine, AddsQuestionLine}
+use Rattle.workspace.specs.TermCells.{trees_of}
+use Rattle.workspace.specs.Views.{sorts_of, cells_of, reference_of, sorted_params, question_of, is_refute, asker_of}
+use Rattle.workspace.specs.declared.cell.ParamKind.{ParamKind}
+use Rattle.workspace.specs.declared.cell.TermCell.{TermCell}
+use Rattle.workspace.specs.declared.declared.Asked.{Asked}
+use Rattle.workspace.specs.declared.declared.Param as kept
+use Rattle.workspace.specs.declared.declared.QuestionEntry.{QuestionEntry}
+use Rattle.workspace.specs.declared.declared.ReferenceCells.{ReferenceCells}
+use Rattle.text_reader.specs.BareLines.{sort_of_param, sorted_param}
+use Rattle.text_reader.specs.Entries.{OfRead, AreFields, AreBounds, IsMain, AreClauses, IsAsking, IsEntry}
+use Rattle.text_reader.proofs.WhatIsAdded.{crate-line, struct-line, trait-line, impl-line, question-line, Says, firsts, firsts-kept, variables-kept}
+
+-- the name that it declares is new
+pub new-name : (d : Declarations) (read : LineRead) (s : Statement) (n : List ℕ) → IsFaultless d read → statement_of read.statement ≡ s → name_said s ≡ Some n → known d n ≡ None
+new-name d read s n f e h =
+    let (l, r) = f.0 in
+    declares-new d l n (f.1 l r) (sym (name-is-said l) ∙ ap name_said (sym r.0 ∙ e) ∙ h)
+
+pub crate-adds : (d e : Declarations) (read : LineRead) (n : List ℕ) (us : List (List ℕ)) → statement_of read.statement ≡ crate_statement n us → e ≡ added d (crate_line n us) → AddsLine d read e
+crate-adds d e read n us line is = λ l r. is ∙ ap (added d) (crate-line n us l (sym line ∙ r.0))
+
+pub struct-adds : (d e : Declarations) (read : LineRead) (f : Bool) (n : List ℕ) (ps : List Param) (ss : List Span) (kinds : List ParamKind) (cells : List TermCell)
+    → statement_of read.statement ≡ struct_statement f n ps ss → sorts_of kinds ≡ map sort_of_param ps → OfRead read (λ l. AreFields d l (trees_of (cells_of cells))) → AddsStructLine d e n f kinds cells → AddsLine d read e
+struct-adds d e read f n ps ss kinds cells line k are adds = λ l r. adds l (struct-line d f n ps ss (sorts_of kinds) (trees_of (cells_of cells)) l (sym line ∙ r.0) k (are l r))
+
+pub trait-adds : (d e : Declarations) (read : LineRead) (f a : Bool) (n : List ℕ) (ps : List Param) (ss : List Span) (kinds : List ParamKind) (rs : List ReferenceCells)
+    → statement_of read.statement ≡ trait_statement f a n ps ss → sorts_of kinds ≡ map sort_of_param ps → OfRead read (λ l. AreBounds d l (map reference_of rs)) → AddsTraitLine d e n f a kinds rs → AddsLine d read e
+trait-adds d e read f a n ps ss kinds rs line k are adds = λ l r. adds l (trait-line d f a n ps ss (sorts_of kinds) (map reference_of rs) l (sym line ∙ r.0) k (are l r))
+
+pub impl-adds : (d e : Declarations) (read : LineRead) (ps : List Param) (k : ClauseSpans) (ks : List ClauseSpans) (params : List kept.Param) (header : ReferenceCells) (rs : List ReferenceCells)
+    → statement_of read.statement ≡ impl_statement ps k ks → sorted_params params ≡ map sorted_param ps → OfRead read (λ l. IsMain d l (reference_of header)) → OfRead read (λ l. AreClauses d l (map reference_of rs))
+    → AddsImplLine d e params header rs → AddsLine d read e
+impl-adds d e read ps k ks params header rs line named main are adds =
+    λ l r. adds l (impl-line d ps k ks (sorted_params params) (reference_of header) (map reference_of rs) l (sym line ∙ r.0) named (main l r) (are l r))
+
+pub question-adds : (d e : Declarations) (read : LineRead) (how : Asked) (ps : List Param) (k : ClauseSpans) (ks : List ClauseSpans) (q : QuestionEntry)
+    → IsAsking d (statement_of read.statement) how ps k ks → q.asked_how ≡ how → IsEntry d ps read q → AddsQuestionLine d e (question_of q) → AddsLine d read e
+question-adds d e read how ps k ks q asking same entry adds = λ l r.
+    let says : Says d (is_refute how) asking.0 ps (question_of q) l = record {
+      refutes = ap is_refute same;
+      asks = ap asker_of same ∙ asking.2;
+      names = sym (firsts-kept q.params.items) ∙ ap firsts entry.named;
+      main = entry.asked l r;
+      clauses = entry.clauses l r;
+      found = sorted_params q.variables.items;
+      variables = variables-kept q.variables.items;
+      are = entry.variables l r;
+    } in
+    adds l (question-line d (statement_of read.statement) (is_refute how) asking.0 ps k ks (question_of q) l r.0 asking.1 says)

@@ -1,0 +1,31 @@
+-- What the names of a line are looked up in is what the line knows.
+use Rattle.std.proofs.Common.{◌≡◌, Result, Ok, Err, IfOk, sym, ap, ◌∙◌, subst}
+use Rattle.text_definitions.specs.Syntax.{Line}
+use Rattle.text_definitions.specs.Declarations.{Declarations}
+use Rattle.text_definitions.specs.Faults.{with_own}
+use Rattle.line_reader.specs.Lines.{ReadsLine}
+use Rattle.line_reader.specs.Statement.{line_statement}
+use Rattle.line_reader.specs.Views.{statement_of}
+use Rattle.line_reader.specs.declared.statement.LineRead.{LineRead}
+use Rattle.line_faults.specs.Machine.{Sight}
+use Rattle.line_faults.specs.Speaks.{Speaks}
+use Rattle.line_faults.proofs.Bare.{same-items, same-params}
+use Rattle.text_reader.specs.BareLines.{bare_line}
+use Rattle.text_reader.specs.Sights.{IsSightOfRead}
+use Rattle.text_reader.proofs.Ordering.{line-ordered, speaks-bare}
+
+-- it speaks of whichever line was read
+speaks : (read : LineRead) (v : Sight) → v.line ≡ bare_line (statement_of read.statement) → (l : Line) → ReadsLine l read → Speaks v.line (line_statement l)
+speaks read v e l r = subst (λ x. Speaks x (line_statement l)) (sym (e ∙ ap bare_line r.0)) (speaks-bare (line_statement l) (line-ordered l))
+
+pub sighted : (d : Declarations) (read : LineRead) (v : Sight) → v.before ≡ d → v.line ≡ bare_line (statement_of read.statement) → IsSightOfRead d read v
+sighted d read v b e = record {
+  before = b;
+  items = λ l r. same-items v l (speaks read v e l r) ∙ ap (λ x. with_own x l) b;
+  params = λ l r. same-params v l (speaks read v e l r);
+}
+
+-- two things of one result
+pub both-ok : {T E : Type 0} (P Q R : T → Type 0) (r : Result T E) → ((x : T) → P x → Q x → R x) → IfOk r P → IfOk r Q → IfOk r R
+both-ok P Q R (Ok x) f p q = f x p q
+both-ok P Q R (Err e) f p q = tt

@@ -1,0 +1,23 @@
+use Rattle.std.proofs.Common.{arith}
+use Rattle.std.proofs.lemmas.Result.{IfOk-weaker}
+use Rattle.workspace.specs.Tables.{declared}
+use Rattle.text_reader.specs.Sights.{sight_of}
+use Rattle.text_reader.proofs.Meaning.{bounds-are, ready-item}
+use Rattle.text_reader.proofs.entries.trait_bounds.Goals as goal
+
+pub bound_cells-requires : goal.bound_cells-requires
+bound_cells-requires c =
+    ready-item (declared c.args.tables.now) c.args.read.now (sight_of c.in_ok-names.names) 1 _ c.deref.ensures.value c.requires.agrees.numbered c.requires.few c.in_ok-names.ensures c.requires.faultless c.requires.short (omega arith)
+
+pub returns-clause-made : goal.returns-clause-made
+returns-clause-made c =
+    let (l, r) = c.requires.faultless.0 in
+    IfOk-weaker c.bound_cells.result _ _
+    (λ rs means. (bounds-are (declared c.args.tables.now) c.args.read.now (sight_of c.in_ok-names.names) c.args.bounds.now rs.items _ c.deref.ensures.value c.in_ok-names.ensures c.requires.faultless c.requires.line means l r).1)
+    c.bound_cells.ensures
+
+pub returns-clause-are : goal.returns-clause-are
+returns-clause-are c =
+    IfOk-weaker c.bound_cells.result _ _
+    (λ rs means l r. (bounds-are (declared c.args.tables.now) c.args.read.now (sight_of c.in_ok-names.names) c.args.bounds.now rs.items _ c.deref.ensures.value c.in_ok-names.ensures c.requires.faultless c.requires.line means l r).0)
+    c.bound_cells.ensures

@@ -1,0 +1,10 @@
+use Rattle.std.proofs.Common.{map, ap, ◌∙◌}
+use Rattle.line_reader.specs.Views.{statement_of}
+use Rattle.text_reader.specs.BareLines.{sort_of_param}
+use Rattle.text_reader.proofs.Ordering.{kinds-of-bare}
+use Rattle.text_reader.proofs.line_tables.LineTables.new.Goals as goal
+
+pub invariant_of-result : goal.invariant_of-result
+invariant_of-result c = record {
+  kinds_said = c.in_ok-kinds.ensures ∙ ap (map sort_of_param) c.params.ensures ∙ kinds-of-bare (statement_of c.args.statement.now) c.requires.ordered;
+}

@@ -1,0 +1,84 @@
+-- What the parts of a line stand for, as they are handed to the tables.
+use Rattle.std.specs.Prelude.{◌≡◌, ℕ, Bool, true, false, List, [], map}
+use Rattle.model.specs.Label.{Sort, of_type, param}
+use Rattle.model.specs.Trees.{Trees, leaf}
+use Rattle.model.specs.Worlds.{Reference}
+use Rattle.text_definitions.specs.Syntax.{Line, struct_line, trait_line, impl_line, prove_line, refute_line}
+use Rattle.text_definitions.specs.Declarations.{Declarations, known}
+use Rattle.text_definitions.specs.Uses.{asked_uses}
+use Rattle.text_definitions.specs.Faults.{variables_in, once}
+use Rattle.text_definitions.specs.Lowering.{crate_number, field_trees, with_self, clause_reference}
+use Rattle.text_definitions.specs.Adding.{item_meanings, question_meanings}
+use Rattle.line_reader.specs.Lines.{ReadsLine}
+use Rattle.line_reader.specs.Statement.{Param, Statement, struct_statement, trait_statement, impl_statement, prove_statement, refute_statement}
+use Rattle.line_reader.specs.declared.statement.ClauseSpans.{ClauseSpans}
+use Rattle.line_reader.specs.declared.statement.LineRead.{LineRead}
+use Rattle.line_reader.specs.declared.statement.Span.{Span}
+use Rattle.workspace.specs.Views.{asker_of, is_refute, reference_of, sorted_params}
+use Rattle.workspace.specs.declared.declared.Asked.{Asked}
+use Rattle.workspace.specs.declared.declared.QuestionEntry.{QuestionEntry}
+use Rattle.text_reader.specs.BareLines.{sorted_param}
+
+-- ---- the parts of a line; nothing is said of a line that has no such part
+-- the fields of a struct
+abbrev pub AreFields : Declarations → Line → List Trees → Type 0
+AreFields d (struct_line f n ps fs) fields = fields ≡ field_trees (item_meanings d (struct_line f n ps fs) 0) fs
+AreFields d _ fields = Unit {0}
+
+-- the bounds of a trait, of its Self
+abbrev pub AreBounds : Declarations → Line → List Reference → Type 0
+AreBounds d (trait_line f a n ps bs) bounds = bounds ≡ map (with_self (item_meanings d (trait_line f a n ps bs) 1) (leaf (param of_type 0))) bs
+AreBounds d _ bounds = Unit {0}
+
+-- the header of an impl, or what is asked
+abbrev pub IsMain : Declarations → Line → Reference → Type 0
+IsMain d (impl_line ps h ks) r = r ≡ clause_reference (item_meanings d (impl_line ps h ks) 0) h
+IsMain d (prove_line c ps a ks) r = r ≡ clause_reference (question_meanings d (prove_line c ps a ks)) a
+IsMain d (refute_line c ps a) r = r ≡ clause_reference (question_meanings d (refute_line c ps a)) a
+IsMain d _ r = Unit {0}
+
+-- the clauses of an impl or of a question
+abbrev pub AreClauses : Declarations → Line → List Reference → Type 0
+AreClauses d (impl_line ps h ks) rs = rs ≡ map (clause_reference (item_meanings d (impl_line ps h ks) 0)) ks
+AreClauses d (prove_line c ps a ks) rs = rs ≡ map (clause_reference (question_meanings d (prove_line c ps a ks))) ks
+AreClauses d (refute_line c ps a) rs = rs ≡ []
+AreClauses d _ rs = Unit {0}
+
+-- the variables of a question, each once
+abbrev pub AreVariables : Declarations → Line → List (List ℕ × Sort) → Type 0
+AreVariables d l vs = vs ≡ once (variables_in (asked_uses d l))
+
+-- ---- whichever line was read, it holds of that
+abbrev pub OfRead : LineRead → (Line → Type 0) → Type 0
+OfRead read P = (l : Line) → ReadsLine l read → P l
+
+-- ---- questions
+-- the statement asks so: in this crate, with these parameters, this reference where these clauses hold
+abbrev pub Asks : Statement → (is_refute : Bool) → (asker : List ℕ) → List Param → ClauseSpans → List ClauseSpans → Type 0
+Asks (prove_statement c ps k ks) false a qs j js = (c ≡ a) × (ps ≡ qs) × (k ≡ j) × (ks ≡ js)
+Asks (refute_statement c ps k) true a qs j js = (c ≡ a) × (ps ≡ qs) × (k ≡ j) × (js ≡ [])
+Asks _ _ a qs j js = ⊥
+
+-- and the crate has this number
+abbrev pub IsAsking : Declarations → Statement → Asked → List Param → ClauseSpans → List ClauseSpans → Type 0
+IsAsking d s how ps k ks = (c : List ℕ) × Asks s (is_refute how) c ps k ks × (asker_of how ≡ crate_number (known d c))
+
+-- the entry of a question has what was read
+pub record IsEntry (d : Declarations) (params : List Param) (read : LineRead) (q : QuestionEntry) : Type 0 where
+  pub named : sorted_params q.params.items ≡ map sorted_param params
+  pub asked : OfRead read (λ l. IsMain d l (reference_of q.asked))
+  pub clauses : OfRead read (λ l. AreClauses d l (map reference_of q.clauses.items))
+  pub variables : OfRead read (λ l. AreVariables d l (sorted_params q.variables.items))
+
+-- ---- what the statement of the code holds of these parts
+abbrev pub HasFields : Statement → List Span → Type 0
+HasFields (struct_statement f n ps ss) fields = ss ≡ fields
+HasFields _ fields = ⊥
+
+abbrev pub HasBounds : Statement → List Span → Type 0
+HasBounds (trait_statement f a n ps ss) bounds = ss ≡ bounds
+HasBounds _ bounds = ⊥
+
+abbrev pub HasHeader : Statement → ClauseSpans → List ClauseSpans → Type 0
+HasHeader (impl_statement ps h ks) header clauses = (h ≡ header) × (ks ≡ clauses)
+HasHeader _ header clauses = ⊥

@@ -1,0 +1,29 @@
+-- Which trees a list of kept cells stands for, and what it is to put cells behind others.
+use Rattle.std.specs.Prelude.{◌≡◌, List, [], ◌∷◌, ◌++◌, map, Some}
+use Rattle.model.specs.Trees.{Trees}
+use Rattle.text_definitions.specs.Lowering.{Meanings}
+use Rattle.line_faults.specs.Resolved.{ResolvedCell}
+use Rattle.workspace.specs.TermCells.{behind_cells}
+use Rattle.workspace.specs.Made.{Part, parts_of, CellsHeld}
+use Rattle.workspace.specs.Views.{cells_of}
+use Rattle.workspace.specs.declared.cell.TermCell.{TermCell}
+use Rattle.text_reader.specs.Making.{Makes, term_of}
+
+-- put on a stack one after the other
+abbrev pub pushed : {A : Type 0} → List A → List A → List A
+pushed [] S = S
+pushed (x ∷ xs) S = pushed xs (x ∷ S)
+
+-- the cells put these trees, which are such parts, on any stack
+pub record Keeps (cs : List TermCell) (ts : List Trees) (xs : List Part) : Type 0 where
+  pub held : CellsHeld cs
+  pub trees : (S : List Trees) → behind_cells (cells_of cs) S ≡ pushed ts S
+  pub parts : (S : List Part) → parts_of cs S ≡ Some (pushed xs S)
+
+-- the cells that are kept for these were put behind others
+pub record AddsCells (e : Meanings) (cs : List ResolvedCell) (old new : List TermCell) : Type 0 where
+  pub added : List TermCell
+  pub behind : new ≡ old ++ added
+  pub held : CellsHeld added
+  pub parts : (S R : List Part) → Makes e 0 cs S R → parts_of added S ≡ Some R
+  pub cells : (S R : List Part) → Makes e 0 cs S R → cells_of added ≡ map (term_of e) cs

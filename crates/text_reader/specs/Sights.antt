@@ -1,0 +1,25 @@
+-- What the names of a line are looked up in.
+use Rattle.std.specs.Prelude.{◌≡◌}
+use Rattle.text_definitions.specs.Syntax.{Line}
+use Rattle.text_definitions.specs.Declarations.{Declarations}
+use Rattle.text_definitions.specs.Faults.{with_own}
+use Rattle.text_definitions.specs.Uses.{params_of}
+use Rattle.line_reader.specs.Lines.{ReadsLine}
+use Rattle.line_reader.specs.Views.{statement_of}
+use Rattle.line_reader.specs.declared.statement.LineRead.{LineRead}
+use Rattle.line_faults.specs.Machine.{Sight, items, params}
+use Rattle.text_reader.specs.BareLines.{bare_line}
+use Rattle.text_reader.specs.declared.line_tables.LineTables.{LineTables}
+
+abbrev pub sight_of : LineTables → Sight
+sight_of t = record { before = t.before; line = bare_line (statement_of t.statement.now) }
+
+-- some line was read
+abbrev pub IsOfLine : LineRead → Type 0
+IsOfLine read = (l : Line) × ReadsLine l read
+
+-- Names are looked up in what is declared before the line that was read, and in what that line declares itself.
+pub record IsSightOfRead (d : Declarations) (read : LineRead) (v : Sight) : Type 0 where
+  pub before : v.before ≡ d
+  pub items : (l : Line) → ReadsLine l read → items v ≡ with_own d l
+  pub params : (l : Line) → ReadsLine l read → params v ≡ params_of l

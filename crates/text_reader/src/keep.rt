@@ -1,0 +1,28 @@
+//! Cells one after the other.
+ghost use Rattle.std.specs.Prelude.{◌≡◌, map, OnOk};
+ghost use Rattle.text_definitions.specs.Lowering.{Meanings};
+ghost use Rattle.line_faults.specs.Views.{resolved_in};
+ghost use Rattle.text_reader.specs.Keeping.{AddsCells};
+ghost use Rattle.text_reader.specs.Numbering.{IsNumbersOf};
+
+use crate::cell::next_autos;
+use crate::numbering::Numbers;
+use line_faults::ResolvedCell;
+use std::alloc::AllocError;
+use workspace::TermCell;
+
+/// Puts the cells that are kept for these behind others.
+pub(crate) fn push_cells<'a>(
+    numbers: &Numbers<'_, 'a>,
+    cells: &[ResolvedCell<'a>],
+    kept: &mut Vec<TermCell>,
+) -> Result<(), AllocError>
+    ensures { OnOk result ((e : Meanings) → IsNumbersOf numbers.now e → AddsCells e (map resolved_in cells.now) kept.old.items kept.new.items) }
+{
+    let mut autos = 0;
+    for resolved in cells {
+        kept.push(numbers.cell(*resolved, autos))?;
+        autos = next_autos(autos, *resolved);
+    }
+    Ok(())
+}

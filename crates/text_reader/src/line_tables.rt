@@ -1,0 +1,163 @@
+//! What the names of one line are looked up in.
+ghost use Rattle.std.specs.Prelude.{◌≡◌, length, ◌<◌, if◌then◌else◌, Some, None, IfOk, IfSome, not};
+ghost use Rattle.std.specs.Option.{option_map};
+ghost use Rattle.text_definitions.specs.Declarations.{a_struct, a_trait, kinds_of, last_crate};
+ghost use Rattle.text_definitions.specs.Faults.{looking_crate};
+ghost use Rattle.text_definitions.specs.Uses.{params_of};
+ghost use Rattle.line_reader.specs.Says.{params_said};
+ghost use Rattle.line_reader.specs.Statement.{param_list};
+ghost use Rattle.line_reader.specs.Views.{statement_of};
+ghost use Rattle.workspace.specs.Views.{known_of, sorts_of};
+ghost use Rattle.text_reader.specs.BareLines.{bare_line, params_from};
+
+use crate::own_items::{with_struct, with_trait};
+use crate::params::{count_of, kinds_of, place_of};
+use crate::so_far::SoFar;
+use line_faults::{LineNames, Names};
+use line_reader::Statement;
+use std::alloc::{AllocError, Global};
+use type_terms::CrateId;
+use workspace::{Known, ParamKind};
+
+/// What is declared before a line, and its statement: its own item and its parameters are known beside that.
+#[derive(Drop)]
+pub(crate) struct LineTables<'w, 's, 'a> {
+    before: SoFar<'w>,
+    statement: &'s Statement<'a>,
+    /// The kinds of its parameters.
+    kinds: Vec<ParamKind>,
+    ghost kinds_said: { sorts_of kinds.items ≡ kinds_of (params_of (bare_line (statement_of statement.now))) },
+}
+
+impl<'w, 's, 'a> LineTables<'w, 's, 'a> {
+    ghost use Rattle.text_reader.specs.Sights.{sight_of};
+
+    /// Of this line.
+    pub fn new(
+        alloc: Global,
+        before: SoFar<'w>,
+        statement: &'s Statement<'a>,
+    ) -> Result<Self, AllocError>
+        requires ordered { param_list (params_from (params_said (statement_of statement.now))) ≡ params_said (statement_of statement.now) }
+        ensures before { IfOk result (λ names. names.before ≡ before.entry) }
+        ensures statement { IfOk result (λ names. names.statement.now ≡ statement.now) }
+    {
+        let kinds = kinds_of(alloc, statement.params())?;
+        Ok(LineTables {
+            before,
+            statement,
+            kinds,
+        })
+    }
+
+    /// The line's own struct, if the name is its.
+    fn own_struct(&self, is_own: bool) -> Option<Known<'_>>
+        ensures { option_map known_of result ≡ (if is_own then Some (a_struct (length self.now.before.structs) (last_crate self.now.before) (sorts_of self.now.kinds.items)) else None) }
+    {
+        if is_own {
+            return Some(Known::Struct {
+                id: self.before.next_struct(),
+                owner: self.before.last_crate(),
+                params: &self.kinds,
+            });
+        }
+        None
+    }
+
+    /// The line's own trait, if the name is its.
+    fn own_trait(&self, is_own: bool, is_auto: bool) -> Option<Known<'_>>
+        ensures { option_map known_of result ≡ (if is_own then Some (a_trait (length self.now.before.traits) (last_crate self.now.before) is_auto (sorts_of self.now.kinds.items)) else None) }
+    {
+        if is_own {
+            return Some(Known::Trait {
+                id: self.before.next_trait(),
+                owner: self.before.last_crate(),
+                is_auto,
+                params: &self.kinds,
+            });
+        }
+        None
+    }
+
+    /// The crate of the line's items; of a question the one that asks.
+    fn looking_crate(&self) -> Option<CrateId>
+        ensures number { option_map (λ c. c.index) result ≡ looking_crate (sight_of self.now).before (sight_of self.now).line }
+        ensures there { IfSome result (λ c. c.index < length self.now.before.crates) }
+    {
+        match self.statement {
+            Statement::Crate { .. } => None,
+            Statement::Prove { crate_name, .. } => self.before.crate_named(crate_name),
+            Statement::Refute { crate_name, .. } => self.before.crate_named(crate_name),
+            _ => Some(self.before.last_crate()),
+        }
+    }
+}
+
+impl<'w, 's, 'a> Names for LineTables<'w, 's, 'a> {
+    ghost use Rattle.text_reader.specs.Sights.{sight_of};
+
+    ghost sight = { λ t. sight_of t };
+
+    fn known(&self, name: &[u8]) -> Option<Known<'_>> {
+        let before = self.before.known(name);
+        match self.statement {
+            Statement::Struct { name: own, .. } => with_struct(
+                before,
+                self.own_struct(*own == name),
+            ),
+            Statement::Trait {
+                name: own,
+                is_auto,
+                ..
+            } => with_trait(before, self.own_trait(*own == name, *is_auto)),
+            _ => before,
+        }
+    }
+
+    fn hides(&self, home: CrateId) -> bool {
+        match self.looking_crate() {
+            Some(seeing) => !self.before.sees(seeing, home),
+            None => false,
+        }
+    }
+
+    fn is_own(&self, name: &[u8]) -> bool {
+        match self.statement.declared_name() {
+            Some(own) => name == own,
+            None => false,
+        }
+    }
+
+    fn param_place(&self, sort: ParamKind, name: &[u8]) -> Option<usize> {
+        place_of(self.statement.params(), sort, name)
+    }
+
+    fn param_count(&self, sort: ParamKind) -> usize {
+        count_of(self.statement.params(), sort)
+    }
+}
+
+impl<'w, 's, 'a> LineNames for LineTables<'w, 's, 'a> {
+    fn crate_count(&self) -> usize {
+        self.before.crate_count()
+    }
+
+    fn question_count(&self) -> usize {
+        self.before.question_count()
+    }
+
+    fn last_crate(&self) -> CrateId {
+        self.before.last_crate()
+    }
+
+    fn last_items(&self) -> usize {
+        self.before.last_items() as usize
+    }
+
+    fn was_known(&self, name: &[u8]) -> bool {
+        match self.before.known(name) {
+            Some(_) => true,
+            None => false,
+        }
+    }
+}

@@ -1,0 +1,19 @@
+use Rattle.workspace.specs.Stack.{stack_of}
+use Rattle.workspace.proofs.Lowering.{dyn-lowers, principal-made, principal-held}
+use Rattle.workspace.proofs.cells.lower_dynamic.Goals as goal
+
+pub pop_principal-principal-requires : goal.pop_principal-principal-requires
+pop_principal-principal-requires c =
+    principal-made c.args.has_principal c.args.autos c.in_ok-autos.autos.items c.pop_lifetime-region.result (stack_of c.args.stack.now.items) _ _ c.requires.made c.pop_lifetime-region.ensures c.in_ok-autos.ensures.count c.in_ok-autos.ensures.pushed
+
+pub mk_bounds-requires : goal.mk_bounds-requires
+mk_bounds-requires c = (
+  principal-held c.args.cx.now.entries c.args.has_principal c.in_ok-autos.autos.items c.pop_lifetime-region.result c.pop_principal-principal.result (stack_of c.args.stack.now.items) _ _ _ c.pop_lifetime-region.ensures c.in_ok-autos.ensures.pushed c.pop_principal-principal.ensures c.requires.held,
+  c.in_ok-autos.ensures.rise,
+)
+
+pub returns-clause-lowers : goal.returns-clause-lowers
+returns-clause-lowers c =
+    dyn-lowers c.args.has_principal c.args.autos c.in_ok-autos.autos.items c.pop_lifetime-region.result c.pop_principal-principal.result c.args.cx.now.entries _ _ (stack_of c.args.stack.now.items) _ _ _ c.in_ok-bounds.bounds.0 c.in_ok-ty.ty c.requires.made
+    c.pop_lifetime-region.ensures c.in_ok-autos.ensures.count c.in_ok-autos.ensures.pushed c.pop_principal-principal.ensures c.requires.held
+    c.in_ok-bounds.ensures.is c.in_ok-bounds.ensures.keeps c.in_ok-ty.ensures.is c.in_ok-ty.ensures.keeps

@@ -1,0 +1,25 @@
+use Rattle.std.proofs.Common.{subst, ap, ◌∙◌}
+use Rattle.model.specs.Trees.{is_no_tree}
+use Rattle.workspace.specs.Stack.{stack_of, parts_in, StackHeld}
+use Rattle.type_terms.specs.Terms.{type_lists}
+use Rattle.workspace.proofs.Lowering.{held-pushed, tys-held, fn-lowers, fn-output, fn-made, is-tree}
+use Rattle.workspace.proofs.cells.lower_fn_ptr.Goals as goal
+
+pub pop_types-requires : goal.pop_types-requires
+pop_types-requires c = fn-made c.args.bound_vars c.args.types (parts_in c.args.stack.now.items) c.requires.made
+
+pub mk_tys-requires : goal.mk_tys-requires
+mk_tys-requires c = tys-held c.args.cx.now.entries c.in_ok-list.list.items (held-pushed c.args.cx.now.entries _ _ (subst (StackHeld c.args.cx.now.entries) c.in_ok-list.ensures.pushed c.requires.held)).0
+
+pub mk_ty-requires : goal.mk_ty-requires
+mk_ty-requires c = (
+  (_, c.in_ok-tys.ensures.is),
+  ap is_no_tree (is-tree _ type_lists c.in_ok-tys.tys.0 _ c.in_ok-tys.ensures.is)
+      ∙ fn-output c.args.bound_vars c.args.types c.in_ok-list.list.items c.args.cx.now.entries (parts_in c.args.stack.now.items) c.lawful.ensures c.requires.made c.in_ok-list.ensures.count
+      (tys-held c.args.cx.now.entries c.in_ok-list.list.items (held-pushed c.args.cx.now.entries _ _ (subst (StackHeld c.args.cx.now.entries) c.in_ok-list.ensures.pushed c.requires.held)).0),
+)
+
+pub returns-clause-lowers : goal.returns-clause-lowers
+returns-clause-lowers c =
+    fn-lowers c.args.bound_vars c.args.types c.in_ok-list.list.items c.args.cx.now.entries _ _ (stack_of c.args.stack.now.items) _ c.in_ok-tys.tys.0 c.in_ok-ty.ty c.requires.made c.in_ok-list.ensures.pushed c.in_ok-list.ensures.count c.requires.held
+    c.in_ok-tys.ensures.is c.in_ok-tys.ensures.keeps c.in_ok-ty.ensures.is c.in_ok-ty.ensures.keeps

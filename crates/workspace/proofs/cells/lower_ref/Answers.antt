@@ -1,0 +1,6 @@
+use Rattle.workspace.specs.Stack.{stack_of}
+use Rattle.workspace.proofs.Lowering.{ref-lowers}
+use Rattle.workspace.proofs.cells.lower_ref.Goals as goal
+
+pub returns-clause-lowers : goal.returns-clause-lowers
+returns-clause-lowers c = ref-lowers c.args.region c.args.mutability c.pop_type-referred.result c.args.cx.now.entries _ (stack_of c.args.stack.now.items) _ c.in_ok-ty.ty c.pop_type-referred.ensures c.requires.held c.in_ok-ty.ensures.is c.in_ok-ty.ensures.keeps

@@ -1,0 +1,12 @@
+use Rattle.std.proofs.Common.{subst}
+use Rattle.workspace.specs.Stack.{stack_of, StackHeld}
+use Rattle.workspace.proofs.Lowering.{held-pushed, tys-held, tuple-lowers}
+use Rattle.workspace.proofs.cells.lower_tuple.Goals as goal
+
+pub mk_tys-requires : goal.mk_tys-requires
+mk_tys-requires c = tys-held c.args.cx.now.entries c.in_ok-list.list.items (held-pushed c.args.cx.now.entries _ _ (subst (StackHeld c.args.cx.now.entries) c.in_ok-list.ensures.pushed c.requires.held)).0
+
+pub returns-clause-lowers : goal.returns-clause-lowers
+returns-clause-lowers c =
+    tuple-lowers c.args.items c.in_ok-list.list.items c.args.cx.now.entries _ _ (stack_of c.args.stack.now.items) _ c.in_ok-tys.tys.0 c.in_ok-ty.ty c.in_ok-list.ensures.pushed c.in_ok-list.ensures.count c.requires.held
+    c.in_ok-tys.ensures.is c.in_ok-tys.ensures.keeps c.in_ok-ty.ensures.is c.in_ok-ty.ensures.keeps

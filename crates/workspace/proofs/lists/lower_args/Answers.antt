@@ -1,0 +1,21 @@
+use Rattle.std.proofs.Common.{subst, sym, ◌∙◌}
+use Rattle.type_terms.specs.Terms.{Is, args_lists}
+use Rattle.workspace.specs.Made.{is_arg}
+use Rattle.workspace.specs.Stack.{StackHeld, AllParts}
+use Rattle.workspace.proofs.Lowering.{args-held}
+use Rattle.workspace.proofs.CellLists.{all-parts, args-are, stack-held}
+use Rattle.workspace.proofs.lists.lower_args.Goals as goal
+
+pub args_in-requires : goal.args_in-requires
+args_in-requires c = subst (AllParts is_arg) (sym c.deref.ensures.value) (all-parts is_arg c.args.cells.now c.in_ok-stack.stack.items c.requires c.in_ok-stack.ensures.parts)
+
+pub mk_args-requires : goal.mk_args-requires
+mk_args-requires c =
+    let es = c.lower_cells.new.cx.entries in
+    args-held es c.in_ok-list.list.items (subst (StackHeld es) (sym (c.in_ok-list.ensures ∙ c.deref.ensures.value)) (stack-held es c.in_ok-stack.stack.items c.in_ok-stack.ensures.held))
+
+pub returns-clause-is : goal.returns-clause-is
+returns-clause-is c =
+    let es = c.lower_cells.new.cx.entries in
+    subst (λ t. Is c.mk_args.new.self.entries args_lists c.in_ok-args.args.0 t)
+    (args-are es c.args.cells.now c.in_ok-stack.stack.items c.in_ok-list.list.items c.in_ok-stack.ensures.trees (c.in_ok-list.ensures ∙ c.deref.ensures.value)) c.in_ok-args.ensures.is

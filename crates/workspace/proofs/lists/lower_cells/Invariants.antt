@@ -1,0 +1,16 @@
+use Rattle.std.proofs.Common.{◌≡◌, [], drop}
+use Rattle.type_terms.specs.Terms.{Keeps}
+use Rattle.workspace.specs.Made.{parts_of}
+use Rattle.workspace.specs.TermCells.{behind_cells}
+use Rattle.workspace.specs.Views.{cells_of}
+use Rattle.workspace.specs.Stack.{stack_of, parts_in, trees_of_stack, StackHeld}
+use Rattle.workspace.proofs.lists.lower_cells.Given as goal
+
+abbrev pub invariant-loop-cell : goal.invariant-loop-cell
+invariant-loop-cell l = record {
+  parts : parts_of (drop l.cell-index l.cells) (parts_in l.stack.items) ≡ parts_of l.cells [];
+  trees : behind_cells (cells_of (drop l.cell-index l.cells)) (trees_of_stack l.cx.entries (stack_of l.stack.items)) ≡ behind_cells (cells_of l.cells) [];
+  held : StackHeld l.cx.entries (stack_of l.stack.items);
+  keeps : Keeps l.fn.cx.entries l.cx.entries;
+  limit : l.cx.limit ≡ l.fn.cx.limit;
+}

@@ -1,0 +1,18 @@
+use Rattle.std.proofs.Common.{subst, sym, ◌∙◌}
+use Rattle.workspace.specs.Made.{is_type}
+use Rattle.workspace.specs.Stack.{StackHeld, AllParts}
+use Rattle.workspace.proofs.Lowering.{tys-held}
+use Rattle.workspace.proofs.CellLists.{all-parts, types-are, stack-held}
+use Rattle.workspace.proofs.lists.lower_types.Goals as goal
+
+pub types_in-requires : goal.types_in-requires
+types_in-requires c = subst (AllParts is_type) (sym c.deref.ensures.value) (all-parts is_type c.args.cells.now c.in_ok-stack.stack.items c.requires c.in_ok-stack.ensures.parts)
+
+pub returns-clause-is : goal.returns-clause-is
+returns-clause-is c =
+    types-are _ c.args.cells.now c.in_ok-stack.stack.items c.in_ok-tys.tys.items c.in_ok-stack.ensures.trees (c.in_ok-tys.ensures ∙ c.deref.ensures.value)
+
+pub returns-clause-held : goal.returns-clause-held
+returns-clause-held c =
+    let es = c.lower_cells.new.cx.entries in
+    tys-held es c.in_ok-tys.tys.items (subst (StackHeld es) (sym (c.in_ok-tys.ensures ∙ c.deref.ensures.value)) (stack-held es c.in_ok-stack.stack.items c.in_ok-stack.ensures.held))

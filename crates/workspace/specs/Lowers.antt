@@ -1,0 +1,39 @@
+-- What it is to lower a cell: the terms of the stack that stand inside it are taken off, and its term is made of them.
+use Rattle.std.specs.Prelude.{◌≡◌, List, ◌∷◌, map, Some, IsSome}
+use Rattle.type_terms.specs.Terms.{Entry, Keeps}
+use Rattle.type_terms.specs.declared.kinds.TyKind.{TyKind}
+use Rattle.type_terms.specs.declared.kinds.TyKind.TheVariants as kinds
+use Rattle.workspace.specs.declared.cell.TermCell.{TermCell}
+use Rattle.workspace.specs.declared.cell.TermCell.TheVariants as cells
+use Rattle.workspace.specs.TermCells.{behind_cell}
+use Rattle.workspace.specs.Made.{parts_behind, CellHeld}
+use Rattle.workspace.specs.Views.{cell_of}
+use Rattle.workspace.specs.declared.stack.Lowered.{Lowered}
+use Rattle.workspace.specs.Stack.{stack_of, parts_in, part_of, tree_of, trees_of_stack, LoweredHeld, StackHeld}
+
+-- the cell finds on the stack what has to stand inside it, and the stack is the interner's
+pub record IsReady (cell : TermCell) (es : List Entry) (stack : List Lowered) : Type 0 where
+  pub made : IsSome (parts_behind cell (parts_in stack))
+  pub held : StackHeld es (stack_of stack)
+  pub range : CellHeld cell
+
+-- from the stack S the term x was made, and R is left
+pub record Lowers (cell : TermCell) (old new : List Entry) (S : List Lowered) (x : Lowered) (R : List Lowered) : Type 0 where
+  pub parts : parts_behind cell (map part_of S) ≡ Some (part_of x ∷ map part_of R)
+  pub trees : behind_cell (cell_of cell) (trees_of_stack old S) ≡ tree_of new x ∷ trees_of_stack new R
+  pub term_held : LoweredHeld new x
+  pub stack_held : StackHeld new R
+  pub keeps : Keeps old new
+
+-- the kind of a type of one cell
+abbrev pub IsLeafOf : TermCell → TyKind → Type 0
+IsLeafOf cells.Bool k = k ≡ kinds.Bool
+IsLeafOf cells.Char k = k ≡ kinds.Char
+IsLeafOf cells.Str k = k ≡ kinds.Str
+IsLeafOf cells.Never k = k ≡ kinds.Never
+IsLeafOf (cells.Int w) k = k ≡ kinds.Int w
+IsLeafOf (cells.Uint w) k = k ≡ kinds.Uint w
+IsLeafOf (cells.Param i) k = k ≡ kinds.Param i
+IsLeafOf (cells.Placeholder i) k = k ≡ kinds.Placeholder i
+IsLeafOf (cells.Infer v) k = k ≡ kinds.Infer v
+IsLeafOf _ k = ⊥
