@@ -6,7 +6,7 @@ use Rattle.model.specs.Proofs.{In}
 use Rattle.model.proofs.Members.{here, there}
 use Rattle.evaluation.specs.Lists.{Every, SomeOf}
 use Rattle.table_laws.specs.Content.{Fact}
-use Rattle.exactness_laws.specs.Ways.{AtMostOne, IsSelection}
+use Rattle.solver_exactness.specs.Ways.{AtMostOne, IsSelection}
 use Rattle.assembly_laws.specs.Facts.{beside}
 use Rattle.assembly_laws.proofs.CandidateKinds.{every-append}
 use Rattle.solver_exactness.specs.SolverWays.{facts_beside, premises_of}

@@ -19,9 +19,9 @@ use Rattle.table_laws.specs.Instances.{read_with}
 use Rattle.table_laws.specs.Content.{Values, Fact, given}
 use Rattle.table_laws.specs.Frames.{is_open_label}
 use Rattle.evaluation_laws.specs.Variables.{is_variable_over}
-use Rattle.exactness_laws.specs.Closed.{no_more, applied}
-use Rattle.exactness_laws.specs.ClosedTables.{AreClosed, ArePlaces}
-use Rattle.exactness_laws.specs.Ways.{IsSelection}
+use Rattle.solver_exactness.specs.Closed.{no_more, applied}
+use Rattle.solver_exactness.specs.ClosedTables.{AreClosed, ArePlaces}
+use Rattle.solver_exactness.specs.Ways.{IsSelection}
 use Rattle.assembly_laws.specs.Facts.{is_plain, is_unerased, beside, reference_in}
 use Rattle.assembly_laws.specs.Meaning.{Meaning}
 use Rattle.assembly_laws.specs.DeclaredWell.{IsDeclaredWell, are_distinct}
@@ -32,7 +32,7 @@ use Rattle.declarations.specs.Elaboration.{elaborate, supertraits}
 use Rattle.assembly_laws.proofs.BoundTerms.{bounds-are-left}
 use Rattle.assembly_laws.proofs.ByView.{rigid-read}
 use Rattle.assembly_laws.proofs.Elaborating.{every-in}
-use Rattle.exactness_laws.proofs.MovedWays.{every-from, every-to}
+use Rattle.solver_exactness.proofs.MovedWays.{every-from, every-to}
 use Rattle.assembly_laws.proofs.EquationTerms.{IsOpenTerms, principal-terms}
 use Rattle.assembly_laws.proofs.OpenLevels.{PlainRead, strict-open, elaborated-open, strict-in-supertraits, principal-plain}
 use Rattle.assembly_laws.proofs.PlainRules.{Plain, IsPlainReference}

@@ -20,8 +20,8 @@ use Rattle.evaluation_laws.specs.Tables.{frame_tables}
 use Rattle.evaluation_laws.specs.Variables.{is_variable_over}
 use Rattle.evaluation_laws.proofs.Readings.{reads-agree}
 use Rattle.evaluation_laws.proofs.Slots.{slots-agree}
-use Rattle.exactness_laws.specs.Closed.{Refuses, no_more, refused, applied}
-use Rattle.exactness_laws.specs.ClosedTables.{AreClosed, ArePlaces}
+use Rattle.solver_exactness.specs.Closed.{Refuses, no_more, refused, applied}
+use Rattle.solver_exactness.specs.ClosedTables.{AreClosed, ArePlaces}
 use Rattle.assembly_laws.specs.Facts.{clauses_of, reference_in}
 use Rattle.assembly_laws.specs.Meaning.{Meaning}
 use Rattle.assembly_laws.specs.Asking.{Asked, asked, clauses, are_clauses}

@@ -16,10 +16,10 @@ use Rattle.table_laws.specs.Content.{Values, Fact, Question, fact_of}
 use Rattle.evaluation_laws.specs.Tables.{frame_tables}
 use Rattle.goal_frames.specs.Programs.{ArePrograms}
 use Rattle.goal_frames.specs.Searches.{Handles, Asked}
-use Rattle.exactness_laws.specs.ModelWays.{ways_for}
-use Rattle.exactness_laws.specs.Ways.{HasShortChains, IsPossible, IsExactFor}
-use Rattle.exactness_laws.proofs.ModelWays.{possible_is_by_ways, short_is_by_ways}
-use Rattle.exactness_laws.proofs.MovedWays.{every-to, some-from, some-to, every-from}
+use Rattle.solver_exactness.specs.ModelWays.{ways_for}
+use Rattle.solver_exactness.specs.Ways.{HasShortChains, IsPossible, IsExactFor}
+use Rattle.solver_exactness.proofs.ModelWays.{possible_is_by_ways, short_is_by_ways}
+use Rattle.solver_exactness.proofs.MovedWays.{every-to, some-from, some-to, every-from}
 use Rattle.assembly_laws.specs.Facts.{clauses_of, reference_in, beside}
 use Rattle.assembly_laws.specs.Meaning.{Meaning}
 use Rattle.solver_exactness.specs.SolverWays.{facts_beside, ways_in_coherence}

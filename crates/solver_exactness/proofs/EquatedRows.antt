@@ -20,8 +20,8 @@ use Rattle.table_laws.specs.Frames.{is_open_label}
 use Rattle.table_laws.specs.Operations.{begin}
 use Rattle.evaluation_laws.specs.Tables.{frame_tables}
 use Rattle.evaluation_laws.specs.Variables.{is_variable_over}
-use Rattle.exactness_laws.specs.Closed.{AreWays, no_more, refused, applied}
-use Rattle.exactness_laws.specs.ClosedTables.{AreClosed, ArePlaces}
+use Rattle.solver_exactness.specs.Closed.{AreWays, no_more, refused, applied}
+use Rattle.solver_exactness.specs.ClosedTables.{AreClosed, ArePlaces}
 use Rattle.assembly_laws.specs.Facts.{is_plain, is_unerased, beside, reference_in}
 use Rattle.assembly_laws.specs.Declared.{are_terms, is_declared_view}
 use Rattle.assembly_laws.specs.Meaning.{Meaning}

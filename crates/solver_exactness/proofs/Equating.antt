@@ -20,8 +20,8 @@ use Rattle.table_laws.specs.Frames.{Allows, labels_from}
 use Rattle.table_laws.specs.Operations.{begin, fresh}
 use Rattle.evaluation_laws.specs.Tables.{frame_tables}
 use Rattle.evaluation_laws.specs.Variables.{is_variable_over}
-use Rattle.exactness_laws.specs.Closed.{Refuses, no_more, refused, applied}
-use Rattle.exactness_laws.specs.ClosedTables.{AreClosed, ArePlaces}
+use Rattle.solver_exactness.specs.Closed.{Refuses, no_more, refused, applied}
+use Rattle.solver_exactness.specs.ClosedTables.{AreClosed, ArePlaces}
 use Rattle.assembly_laws.specs.Meaning.{Meaning}
 use Rattle.assembly_laws.specs.Asking.{Asked, asked}
 use Rattle.assembly_laws.specs.Candidates.{Candidate, all_equal, by_rule, bounds_from, upcast_source, upcasts_from}

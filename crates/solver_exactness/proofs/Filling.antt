@@ -19,9 +19,9 @@ use Rattle.table_laws.specs.Operations.{begin, fresh}
 use Rattle.evaluation_laws.proofs.OperationLaws.{begins-free}
 use Rattle.evaluation_laws.proofs.Slots.{own_slot, slot-is}
 use Rattle.goal_frames.proofs.Behind.{dropped, term-dropped}
-use Rattle.exactness_laws.specs.ClosedTables.{AreClosed}
-use Rattle.exactness_laws.proofs.FreeTables.{low, whole, whole-allowed, whole-reads}
-use Rattle.exactness_laws.proofs.RuleFilling.{plus-one, no-types, no-consts, drop-first}
+use Rattle.solver_exactness.specs.ClosedTables.{AreClosed}
+use Rattle.solver_exactness.proofs.FreeTables.{low, whole, whole-allowed, whole-reads}
+use Rattle.solver_exactness.proofs.RuleFilling.{plus-one, no-types, no-consts, drop-first}
 
 -- an unknown or a lifetime
 abbrev pub IsOwnKind : CanonicalVarKind → Type 0

@@ -13,8 +13,8 @@ use Rattle.infer_table.specs.declared.certainty.TypingMode.TheVariants.{Coherenc
 use Rattle.evaluation.specs.Lists.{Every}
 use Rattle.table_laws.specs.Content.{Fact}
 use Rattle.declarations.specs.Applied.{sorts_of}
-use Rattle.exactness_laws.specs.ModelWays.{ways_under}
-use Rattle.exactness_laws.proofs.MovedWays.{every-to}
+use Rattle.solver_exactness.specs.ModelWays.{ways_under}
+use Rattle.solver_exactness.proofs.MovedWays.{every-to}
 use Rattle.assembly_laws.specs.Facts.{clauses_of, reference_in, beside}
 use Rattle.assembly_laws.specs.DeclaredWell.{IsDeclaredWell}
 use Rattle.assembly_laws.specs.Knowing.{is_knowable}

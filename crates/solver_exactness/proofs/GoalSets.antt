@@ -12,10 +12,10 @@ use Rattle.table_laws.specs.Operations.{begin, fresh}
 use Rattle.table_laws.specs.Finite.{IsDetermined}
 use Rattle.table_laws.proofs.Questions.{instance_of_question}
 use Rattle.evaluation_laws.specs.Tables.{frame_tables}
-use Rattle.exactness_laws.specs.Closed.{AreWays, AsksFrom, AsksSuch, DeterminesNested}
-use Rattle.exactness_laws.specs.ClosedTables.{AreClosed, ArePlaces, closed_tables}
-use Rattle.exactness_laws.specs.NestedFacts.{AsksOnly}
-use Rattle.exactness_laws.proofs.NestedFacts.{premises-asked}
+use Rattle.solver_exactness.specs.Closed.{AreWays, AsksFrom, AsksSuch, DeterminesNested}
+use Rattle.solver_exactness.specs.ClosedTables.{AreClosed, ArePlaces, closed_tables}
+use Rattle.solver_exactness.specs.NestedFacts.{AsksOnly}
+use Rattle.solver_exactness.proofs.NestedFacts.{premises-asked}
 use Rattle.declarations.specs.Elaboration.{supertraits}
 use Rattle.assembly_laws.specs.Meaning.{Meaning}
 use Rattle.assembly_laws.specs.DeclaredWell.{IsDeclaredWell}

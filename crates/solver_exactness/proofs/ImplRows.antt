@@ -23,8 +23,8 @@ use Rattle.table_laws.specs.Operations.{begin, fresh}
 use Rattle.evaluation_laws.specs.Tables.{frame_tables}
 use Rattle.evaluation_laws.specs.Variables.{is_variable_over}
 use Rattle.evaluation_laws.proofs.Slots.{own_slot, of-sort-twice}
-use Rattle.exactness_laws.specs.Closed.{Applies, Refuses, no_more, refused, applied}
-use Rattle.exactness_laws.specs.ClosedTables.{AreClosed, ArePlaces}
+use Rattle.solver_exactness.specs.Closed.{Applies, Refuses, no_more, refused, applied}
+use Rattle.solver_exactness.specs.ClosedTables.{AreClosed, ArePlaces}
 use Rattle.assembly_laws.specs.Facts.{is_plain, is_unerased, beside, children_of, reference_in, tree_of_reference}
 use Rattle.assembly_laws.specs.Declared.{is_declared, is_counted, are_terms, is_unsorted}
 use Rattle.assembly_laws.specs.DeclaredWell.{IsDeclaredWell}

@@ -20,10 +20,10 @@ use Rattle.table_laws.specs.Operations.{begin, fresh}
 use Rattle.evaluation_laws.specs.Tables.{frame_tables}
 use Rattle.evaluation_laws.specs.Variables.{is_variable_over}
 use Rattle.evaluation_laws.proofs.Slots.{HasKind, kind-of, slot-is}
-use Rattle.exactness_laws.specs.Closed.{Applies}
-use Rattle.exactness_laws.specs.ClosedTables.{AreClosed, ArePlaces, IsClosedKind}
-use Rattle.exactness_laws.proofs.ClosedQuestions.{places-fit}
-use Rattle.exactness_laws.proofs.RuleFilling.{filled, filled-allowed}
+use Rattle.solver_exactness.specs.Closed.{Applies}
+use Rattle.solver_exactness.specs.ClosedTables.{AreClosed, ArePlaces, IsClosedKind}
+use Rattle.solver_exactness.proofs.ClosedQuestions.{places-fit}
+use Rattle.solver_exactness.proofs.RuleFilling.{filled, filled-allowed}
 use Rattle.assembly_laws.specs.Facts.{beside}
 use Rattle.assembly_laws.specs.Asking.{Asked, asked, all_known, are_clauses}
 use Rattle.assembly_laws.specs.Candidates.{premise, by_rule}

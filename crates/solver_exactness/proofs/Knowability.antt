@@ -13,7 +13,7 @@ use Rattle.infer_table.specs.Canonical.{CanonicalForm}
 use Rattle.table_laws.specs.Instances.{read_with, of_sort, term_at}
 use Rattle.table_laws.specs.Content.{Values, given}
 use Rattle.evaluation_laws.specs.Variables.{is_variable_over}
-use Rattle.exactness_laws.specs.ClosedTables.{AreClosed, ArePlaces}
+use Rattle.solver_exactness.specs.ClosedTables.{AreClosed, ArePlaces}
 use Rattle.assembly_laws.specs.Meaning.{Meaning}
 use Rattle.assembly_laws.specs.Knowing.{is_knowable}
 use Rattle.assembly_laws.specs.Asking.{Asked, asked}

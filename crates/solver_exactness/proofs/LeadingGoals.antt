@@ -8,9 +8,9 @@ use Rattle.table_laws.specs.Content.{Values, Question, Terms}
 use Rattle.table_laws.specs.Frames.{kinds_known, FrameTable, Nested, IsMadeFrame, Allows, Meets, question, values_at}
 use Rattle.table_laws.specs.Operations.{begin, fresh}
 use Rattle.table_laws.specs.Finite.{IsDetermined}
-use Rattle.exactness_laws.specs.ClosedTables.{AreClosed, closed_tables}
+use Rattle.solver_exactness.specs.ClosedTables.{AreClosed, closed_tables}
 use Rattle.evaluation_laws.specs.Tables.{frame_tables}
-use Rattle.exactness_laws.specs.Closed.{AsksFrom, AsksSuch}
+use Rattle.solver_exactness.specs.Closed.{AsksFrom, AsksSuch}
 use Rattle.assembly_laws.specs.Meaning.{Meaning}
 use Rattle.assembly_laws.specs.Asking.{Asked, asked}
 use Rattle.assembly_laws.specs.Candidates.{Candidate}

@@ -30,8 +30,8 @@ use Rattle.table_laws.proofs.Resolved.{made-resolved}
 use Rattle.table_laws.proofs.Whole.{as-place-one, read-one}
 use Rattle.evaluation_laws.specs.Variables.{is_variable_over}
 use Rattle.goal_frames.specs.Forms.{is_unnumbered}
-use Rattle.exactness_laws.specs.ClosedTables.{AreClosed}
-use Rattle.exactness_laws.proofs.FreeTables.{no-unknown}
+use Rattle.solver_exactness.specs.ClosedTables.{AreClosed}
+use Rattle.solver_exactness.proofs.FreeTables.{no-unknown}
 use Rattle.assembly_laws.specs.Facts.{is_unerased, reference_in}
 use Rattle.assembly_laws.specs.Asking.{Asked, asked, asked_if, asked_with, are_clauses, begins_with_type, next_of}
 use Rattle.solver_exactness.specs.GoalSets.{begins_typed, any_label, IsAskable}

@@ -1,5 +1,5 @@
 -- What the solver makes of the responses outside coherence is lawful: no preference drops all of them, and the only one stays.
-use Rattle.exactness_laws.specs.Closed.{IsBare}
+use Rattle.solver_exactness.specs.Closed.{IsBare}
 use Rattle.std.proofs.Common.{◌≡◌, ◌≤◌, arith, Bool, true, false, not, ◌&&◌, ◌||◌, if◌then◌else◌, List, [], ◌∷◌, ◌++◌, length, length-append, filter, ◌⊎◌, inl, inr, refl, sym, ◌∙◌, ap, subst, Option, Some, None, is_some}
 use Rattle.infer_table.specs.Responses.{AnswerTrees}
 use Rattle.infer_table.specs.declared.certainty.Certainty.{Certainty}
@@ -13,9 +13,9 @@ use Rattle.evaluation.specs.PlanAnswers.{passes, first_passing, if_so, taken_or_
 use Rattle.evaluation.proofs.ListLaws.{SomeOf-mono}
 use Rattle.table_laws.specs.Frames.{FrameTable}
 use Rattle.evaluation_laws.specs.Tables.{frame_tables}
-use Rattle.exactness_laws.specs.Exact.{IsMade}
-use Rattle.exactness_laws.proofs.ExactPlans.{IsExactFrom}
-use Rattle.exactness_laws.proofs.Merging.{merged, merged-one, merged-some, merged-bare}
+use Rattle.solver_exactness.specs.Exact.{IsMade}
+use Rattle.solver_exactness.proofs.ExactPlans.{IsExactFrom}
+use Rattle.solver_exactness.proofs.Merging.{merged, merged-one, merged-some, merged-bare}
 use Rattle.assembly_laws.specs.Candidates.{Candidate}
 use Rattle.assembly_laws.specs.Solver.{Past, from, holds_from, is_clause, is_non_global, is_global, is_impl, is_object, is_trivial, gives_none, oldest_gives_none, remain, remains, says_nothing, is_settled, preferred}
 

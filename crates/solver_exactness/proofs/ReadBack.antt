@@ -14,7 +14,7 @@ use Rattle.table_laws.specs.Content.{Fact}
 use Rattle.assembly_laws.specs.Facts.{clauses_of, reference_in, beside}
 use Rattle.assembly_laws.specs.Knowing.{is_knowable}
 use Rattle.assembly_laws.proofs.Supers.{open-none}
-use Rattle.exactness_laws.specs.ModelWays.{ways_under}
+use Rattle.solver_exactness.specs.ModelWays.{ways_under}
 use Rattle.solver_exactness.specs.SolverWays.{facts_beside}
 use Rattle.solver_exactness.specs.ReadBack.{read_back, OutsideComesBack, CoherenceComesBack}
 

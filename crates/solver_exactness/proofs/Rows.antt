@@ -11,8 +11,8 @@ use Rattle.evaluation.specs.declared.candidate.CandidateSource.TheVariants.{Buil
 use Rattle.evaluation.specs.declared.candidate.BuiltinImplSource.TheVariants.{Trivial}
 use Rattle.table_laws.specs.Content.{Values, Fact}
 use Rattle.evaluation_laws.specs.Variables.{is_variable_over}
-use Rattle.exactness_laws.specs.Closed.{no_more, applied}
-use Rattle.exactness_laws.specs.ClosedTables.{AreClosed, ArePlaces}
+use Rattle.solver_exactness.specs.Closed.{no_more, applied}
+use Rattle.solver_exactness.specs.ClosedTables.{AreClosed, ArePlaces}
 use Rattle.assembly_laws.specs.Facts.{is_plain, is_unerased, reference_in}
 use Rattle.assembly_laws.specs.Declared.{is_declared_view}
 use Rattle.assembly_laws.specs.Meaning.{Meaning}

@@ -11,14 +11,14 @@ use Rattle.evaluation_laws.specs.Tables.{frame_tables}
 use Rattle.evaluation_laws.proofs.Laws.{tables_are_lawful}
 use Rattle.goal_frames.specs.Programs.{ArePrograms}
 use Rattle.goal_frames.specs.Searches.{Handles, Asked}
-use Rattle.exactness_laws.specs.ClosedTables.{closed_tables}
-use Rattle.exactness_laws.specs.ModelWays.{ways_under}
-use Rattle.exactness_laws.specs.Ways.{IsDecided, HoldsByWays}
-use Rattle.exactness_laws.proofs.ClosedLaws.{closed_tables_are_lawful}
-use Rattle.exactness_laws.proofs.Induction.{plain_is_exact}
-use Rattle.exactness_laws.proofs.Found.{found_is_exact, found_is_right}
-use Rattle.exactness_laws.proofs.ModelWays.{proofs_are_by_ways, single_way_is_decided}
-use Rattle.exactness_laws.proofs.MovedWays.{every-from, every-to, some-from, some-to, one-to}
+use Rattle.solver_exactness.specs.ClosedTables.{closed_tables}
+use Rattle.solver_exactness.specs.ModelWays.{ways_under}
+use Rattle.solver_exactness.specs.Ways.{IsDecided, HoldsByWays}
+use Rattle.solver_exactness.proofs.ClosedLaws.{closed_tables_are_lawful}
+use Rattle.solver_exactness.proofs.Induction.{plain_is_exact}
+use Rattle.solver_exactness.proofs.Found.{found_is_exact, found_is_right}
+use Rattle.solver_exactness.proofs.ModelWays.{proofs_are_by_ways, single_way_is_decided}
+use Rattle.solver_exactness.proofs.MovedWays.{every-from, every-to, some-from, some-to, one-to}
 use Rattle.assembly_laws.specs.Facts.{clauses_of, reference_in, beside}
 use Rattle.assembly_laws.specs.Meaning.{Meaning}
 use Rattle.solver_exactness.specs.SolverWays.{ways_outside}

@@ -11,11 +11,11 @@ use Rattle.table_laws.specs.Frames.{kinds_known}
 use Rattle.table_laws.specs.Operations.{begin}
 use Rattle.table_laws.proofs.Beginning.{begin-made}
 use Rattle.evaluation_laws.specs.Tables.{frame_tables}
-use Rattle.exactness_laws.specs.Closed.{AreWays, AsksSuch}
-use Rattle.exactness_laws.specs.ClosedTables.{AreClosed, ArePlaces, closed_tables}
-use Rattle.exactness_laws.specs.Ways.{IsSelection}
-use Rattle.exactness_laws.specs.Exact.{AnswersExactly, AreSure}
-use Rattle.exactness_laws.proofs.ExactPlans.{IsExactFrom, IsExactPlan, planned-exact}
+use Rattle.solver_exactness.specs.Closed.{AreWays, AsksSuch}
+use Rattle.solver_exactness.specs.ClosedTables.{AreClosed, ArePlaces, closed_tables}
+use Rattle.solver_exactness.specs.Ways.{IsSelection}
+use Rattle.solver_exactness.specs.Exact.{AnswersExactly, AreSure}
+use Rattle.solver_exactness.proofs.ExactPlans.{IsExactFrom, IsExactPlan, planned-exact}
 use Rattle.assembly_laws.specs.Meaning.{Meaning}
 use Rattle.assembly_laws.specs.DeclaredWell.{IsDeclaredWell}
 use Rattle.assembly_laws.specs.Asking.{Asked, asked, all_known}

@@ -15,12 +15,12 @@ use Rattle.table_laws.specs.Frames.{FrameTable, kind_at, kinds_known}
 use Rattle.table_laws.specs.Operations.{begin}
 use Rattle.table_laws.proofs.Beginning.{begin-made}
 use Rattle.evaluation_laws.specs.Tables.{frame_tables}
-use Rattle.exactness_laws.specs.ClosedTables.{AreClosed, IsClosedKind}
-use Rattle.exactness_laws.specs.Exact.{IsMade}
-use Rattle.exactness_laws.proofs.ClosedLaws.{closed_tables_are_lawful}
-use Rattle.exactness_laws.proofs.ExactPlans.{IsExactFrom, left_at, goes, makes}
-use Rattle.exactness_laws.proofs.Listed.{each-exact}
-use Rattle.exactness_laws.proofs.Merging.{merged, merged-one, merged-some, merged-bare}
+use Rattle.solver_exactness.specs.ClosedTables.{AreClosed, IsClosedKind}
+use Rattle.solver_exactness.specs.Exact.{IsMade}
+use Rattle.solver_exactness.proofs.ClosedLaws.{closed_tables_are_lawful}
+use Rattle.solver_exactness.proofs.ExactPlans.{IsExactFrom, left_at, goes, makes}
+use Rattle.solver_exactness.proofs.Listed.{each-exact}
+use Rattle.solver_exactness.proofs.Merging.{merged, merged-one, merged-some, merged-bare}
 use Rattle.assembly_laws.specs.Meaning.{Meaning}
 use Rattle.assembly_laws.specs.Knowing.{is_knowable}
 use Rattle.assembly_laws.specs.Asking.{Asked, asked, all_known, clauses, self_of, begins_unknown, is_unknown_kind}

@@ -21,10 +21,10 @@ use Rattle.table_laws.proofs.Beginning.{begin-made}
 use Rattle.table_laws.proofs.Equating.{with-content-is, equations-narrow}
 use Rattle.evaluation_laws.specs.Tables.{frame_tables}
 use Rattle.evaluation_laws.proofs.Laws.{tables_are_lawful}
-use Rattle.exactness_laws.specs.Closed.{AsksFrom, AsksSuch, DeterminesNested}
-use Rattle.exactness_laws.specs.ClosedTables.{AreClosed, closed_tables}
-use Rattle.exactness_laws.proofs.FreeTables.{no-unknown}
-use Rattle.exactness_laws.proofs.RuleFilling.{no-types, no-consts}
+use Rattle.solver_exactness.specs.Closed.{AsksFrom, AsksSuch, DeterminesNested}
+use Rattle.solver_exactness.specs.ClosedTables.{AreClosed, closed_tables}
+use Rattle.solver_exactness.proofs.FreeTables.{no-unknown}
+use Rattle.solver_exactness.proofs.RuleFilling.{no-types, no-consts}
 use Rattle.assembly_laws.specs.DeclaredWell.{IsDeclaredWell}
 use Rattle.assembly_laws.specs.Knowing.{is_knowable}
 use Rattle.assembly_laws.specs.Meaning.{Meaning}

@@ -30,7 +30,7 @@ use Rattle.table_laws.specs.Operations.{apply, begin, fresh, equate}
 use Rattle.table_laws.proofs.Applying.{for-bindings}
 use Rattle.table_laws.proofs.Equating.{with-content-is, pairs-terms, in-turn-narrows}
 use Rattle.evaluation_laws.specs.Tables.{frame_tables}
-use Rattle.exactness_laws.specs.Closed.{Reaches, here, answered}
+use Rattle.solver_exactness.specs.Closed.{Reaches, here, answered}
 use Rattle.assembly_laws.proofs.Instances.{is_bound, Unbound, shift-unbound}
 use Rattle.solver_exactness.proofs.QuestionTerms.{is_unknown}
 

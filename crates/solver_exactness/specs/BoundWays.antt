@@ -7,8 +7,8 @@ use Rattle.model.specs.Rules.{unsize, impl_rules, unsize_upcast_rules, object_ru
 use Rattle.infer_table.specs.Canonical.{CanonicalForm}
 use Rattle.evaluation.specs.Lists.{Every, SomeOf}
 use Rattle.table_laws.specs.Content.{Values, Fact}
-use Rattle.exactness_laws.specs.ClosedTables.{AreClosed, ArePlaces}
-use Rattle.exactness_laws.specs.Ways.{AtMostOne}
+use Rattle.solver_exactness.specs.ClosedTables.{AreClosed, ArePlaces}
+use Rattle.solver_exactness.specs.Ways.{AtMostOne}
 use Rattle.assembly_laws.specs.Facts.{reference_in, is_plain}
 use Rattle.assembly_laws.specs.DeclaredWell.{IsDeclaredWell}
 use Rattle.assembly_laws.specs.Meaning.{Meaning}

@@ -9,8 +9,8 @@ use Rattle.infer_table.specs.Responses.{AnswerTrees}
 use Rattle.table_laws.specs.Content.{Values, Question, fact_of}
 use Rattle.evaluation_laws.specs.Tables.{frame_tables}
 use Rattle.goal_frames.specs.Searches.{Handles, Asked}
-use Rattle.exactness_laws.specs.ClosedTables.{AreClosed, ArePlaces}
-use Rattle.exactness_laws.specs.Ways.{HasShortChains, IsExactFor, IsRightFor}
+use Rattle.solver_exactness.specs.ClosedTables.{AreClosed, ArePlaces}
+use Rattle.solver_exactness.specs.Ways.{HasShortChains, IsExactFor, IsRightFor}
 use Rattle.assembly_laws.specs.Facts.{clauses_of, reference_in}
 use Rattle.assembly_laws.specs.Meaning.{Meaning}
 use Rattle.assembly_laws.specs.DeclaredWell.{IsDeclaredWell}

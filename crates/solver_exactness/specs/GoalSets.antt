@@ -14,8 +14,8 @@ use Rattle.table_laws.specs.Content.{Values, Fact, Question, fact_of}
 use Rattle.table_laws.specs.Frames.{kinds_known}
 use Rattle.table_laws.specs.Operations.{begin}
 use Rattle.evaluation_laws.specs.Tables.{frame_tables}
-use Rattle.exactness_laws.specs.Closed.{AsksSuch}
-use Rattle.exactness_laws.specs.ClosedTables.{AreClosed, ArePlaces, closed_tables}
+use Rattle.solver_exactness.specs.Closed.{AsksSuch}
+use Rattle.solver_exactness.specs.ClosedTables.{AreClosed, ArePlaces, closed_tables}
 use Rattle.assembly_laws.specs.Facts.{reference_in}
 use Rattle.assembly_laws.specs.DeclaredWell.{IsDeclaredWell}
 use Rattle.assembly_laws.specs.Meaning.{Meaning}

@@ -1,3 +1,13 @@
+pub mod Ways
+pub mod ModelWays
+pub mod Closed
+pub mod ClosedTables
+pub mod Plays
+pub mod Exact
+pub mod Found
+pub mod RuleWays
+pub mod RuleAnswers
+pub mod NestedFacts
 pub mod SolverWays
 pub mod ReadBack
 pub mod SolverPlans

@@ -5,7 +5,7 @@ use Rattle.model.specs.Answers.{is_closed}
 use Rattle.table_laws.specs.Content.{Fact}
 use Rattle.assembly_laws.specs.Facts.{clauses_of, reference_in}
 use Rattle.assembly_laws.specs.Meaning.{Meaning}
-use Rattle.exactness_laws.specs.ModelWays.{ways_under, ways_for}
+use Rattle.solver_exactness.specs.ModelWays.{ways_under, ways_for}
 use Rattle.solver_exactness.specs.SolverWays.{ways_outside, ways_in_coherence}
 
 -- facts read back as references

@@ -8,8 +8,8 @@ use Rattle.infer_table.specs.Canonical.{CanonicalForm}
 use Rattle.table_laws.specs.Content.{Values, Fact}
 use Rattle.table_laws.specs.Operations.{begin}
 use Rattle.evaluation_laws.specs.Tables.{frame_tables}
-use Rattle.exactness_laws.specs.Closed.{AreWays}
-use Rattle.exactness_laws.specs.ClosedTables.{AreClosed, ArePlaces}
+use Rattle.solver_exactness.specs.Closed.{AreWays}
+use Rattle.solver_exactness.specs.ClosedTables.{AreClosed, ArePlaces}
 use Rattle.assembly_laws.specs.Facts.{clauses_of, reference_in, is_plain}
 use Rattle.assembly_laws.specs.Declared.{is_declared_view}
 use Rattle.assembly_laws.specs.DeclaredWell.{are_distinct}

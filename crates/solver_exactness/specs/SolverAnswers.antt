@@ -12,8 +12,8 @@ use Rattle.evaluation_laws.specs.Tables.{frame_tables}
 use Rattle.goal_frames.specs.Programs.{Programs}
 use Rattle.goal_frames.specs.Searches.{Handles, Asked, meaning}
 use Rattle.goal_frames.specs.HandlerPrograms.{programs_of}
-use Rattle.exactness_laws.specs.ClosedTables.{AreClosed, ArePlaces}
-use Rattle.exactness_laws.specs.Ways.{HasShortChains, IsExactFor, IsRightFor}
+use Rattle.solver_exactness.specs.ClosedTables.{AreClosed, ArePlaces}
+use Rattle.solver_exactness.specs.Ways.{HasShortChains, IsExactFor, IsRightFor}
 use Rattle.assembly_laws.specs.Facts.{FollowsByView, is_coinductive_fact, clauses_of, reference_in}
 use Rattle.assembly_laws.specs.Meaning.{Meaning}
 use Rattle.assembly_laws.specs.DeclaredWell.{IsDeclaredWell}

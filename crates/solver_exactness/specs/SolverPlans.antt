@@ -6,8 +6,8 @@ use Rattle.infer_table.specs.declared.certainty.TypingMode.TheVariants.{Coherenc
 use Rattle.evaluation.specs.Candidate.{consider, answer}
 use Rattle.evaluation.specs.Handler.{Handled}
 use Rattle.evaluation_laws.specs.Tables.{frame_tables}
-use Rattle.exactness_laws.specs.ClosedTables.{AreClosed}
-use Rattle.exactness_laws.specs.Exact.{WereConsidered, GoesTo, IsMade}
+use Rattle.solver_exactness.specs.ClosedTables.{AreClosed}
+use Rattle.solver_exactness.specs.Exact.{WereConsidered, GoesTo, IsMade}
 use Rattle.assembly_laws.specs.Meaning.{Meaning}
 use Rattle.assembly_laws.specs.Knowing.{is_knowable}
 use Rattle.assembly_laws.specs.Asking.{Asked, asked, clauses}

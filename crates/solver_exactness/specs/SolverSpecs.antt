@@ -6,8 +6,8 @@ use Rattle.evaluation.specs.Lists.{Every}
 use Rattle.table_laws.specs.Frames.{kinds_known}
 use Rattle.table_laws.specs.Operations.{begin}
 use Rattle.evaluation_laws.specs.Tables.{frame_tables}
-use Rattle.exactness_laws.specs.Closed.{DeterminesNested}
-use Rattle.exactness_laws.specs.ClosedTables.{AreClosed}
+use Rattle.solver_exactness.specs.Closed.{DeterminesNested}
+use Rattle.solver_exactness.specs.ClosedTables.{AreClosed}
 use Rattle.assembly_laws.specs.Meaning.{Meaning}
 use Rattle.assembly_laws.specs.DeclaredWell.{IsDeclaredWell}
 use Rattle.assembly_laws.specs.Asking.{Asked, asked}

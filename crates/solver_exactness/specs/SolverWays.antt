@@ -6,7 +6,7 @@ use Rattle.table_laws.specs.Content.{Fact}
 use Rattle.assembly_laws.specs.Facts.{clauses_of, reference_in, beside}
 use Rattle.assembly_laws.specs.Knowing.{is_knowable}
 use Rattle.assembly_laws.specs.Meaning.{Meaning}
-use Rattle.exactness_laws.specs.ModelWays.{ways_under}
+use Rattle.solver_exactness.specs.ModelWays.{ways_under}
 
 -- references as facts, under the where-clauses of this one
 abbrev pub facts_beside : Fact → List (List Reference) → List (List Fact)

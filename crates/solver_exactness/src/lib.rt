@@ -1,7 +1,8 @@
-//! The solver's handler on goals without unknowns: that its candidates are the ways of a goal, and in what order it considers them.
+//! Mathematics without running code: on goals without unknowns the solver answers exactly what has a proof, and within plain recursion.
+//!
+//! First for every handler that keeps its laws (`any_handler`), then for the solver's: its candidates are the ways of a goal, considered
+//! in order, and its answers those of the root call.
 #![tactic(auto)]
-
-pub mod laws;
 
 ghost use Rattle.solver_exactness.specs.ReadBack.{OutsideComesBack, CoherenceComesBack};
 ghost use Rattle.solver_exactness.specs.RowWays.{RowsAreWays, EquatedRowsAreWays, ClausesAreWays};
@@ -19,6 +20,16 @@ ghost use Rattle.solver_exactness.specs.BoundWays.{BoundRowsAreWays, ImplsAreWay
 ghost use Rattle.solver_exactness.specs.SolverChoices.{SpecsAreWays, CoherenceSpecsAreWays};
 ghost use Rattle.solver_exactness.specs.SolverPlans.{PlansAreExact};
 ghost use Rattle.solver_exactness.specs.SolverSpecs.{SpecsAreDetermined, SpecsAreFew, SpecsAreSure};
+
+mod any_handler;
+pub mod laws;
+
+pub use any_handler::{
+    ExactPrograms, RuleSearching, bounded_by_ways, closed_tables_are_lawful, decided_by_ways,
+    plain_recursion_answers, plain_recursion_is_exact, plain_recursion_is_right, possible_by_ways,
+    premises_are_asked, proofs_are_by_ways, rules_answer, rules_are_exact, rules_are_right,
+    searches_are_exact, searches_are_right,
+};
 
 /// The ways of facts are those of the references that they speak of, by the rules of the view and the fact's where-clauses; in
 /// coherence of closed references without where-clauses, those by which a crate tells what is possible.

@@ -1,5 +1,0 @@
-use Rattle.exactness_laws.proofs.RuleAnswers as Lemmas
-use Rattle.exactness_laws.proofs.rules_are_right.Goals as goal
-
-pub returns : goal.returns
-returns g c = Lemmas.rules_are_right g.S.RuleSearching.handles g.S.RuleSearching.Holds
