@@ -1,9 +1,10 @@
 -- What listed values stand for among the definitions.
-use Rattle.std.specs.Prelude.{ℕ, suc, List, [], ◌∷◌, if◌then◌else◌}
+use Rattle.std.specs.Prelude.{ℕ, suc, List, [], ◌∷◌, map, if◌then◌else◌}
 use Rattle.model.specs.Label.{infer}
 use Rattle.model.specs.Trees.{Trees, leaf}
 use Rattle.model.specs.Codes.{same}
 use Rattle.text_definitions.specs.Declarations.{Variable}
+use Rattle.text_definitions.specs.Names.{valued, own_from}
 use Rattle.type_terms.specs.Kinds.{arg_trees, ArgHeld}
 use Rattle.type_terms.specs.Terms.{Entry}
 use Rattle.type_terms.specs.declared.kinds.GenericArgKind.{GenericArgKind}
@@ -36,3 +37,7 @@ counted kinds.Const n = record { types = n.types; consts = suc n.consts }
 -- a variable with this value, which the unknown with this number stands for: it is listed unless that is its value
 abbrev pub valued_one : List Entry → Param → GenericArgKind → ℕ → List (Variable × Trees)
 valued_one es p a n = if same (leaf (infer (sort_of_kind p.kind) n)) (arg_trees es a) then [] else (variable_of p, arg_trees es a) ∷ []
+
+-- the variables with a value of their own, of these with these values
+abbrev pub valued_of : List Entry → List Param → List GenericArgKind → List (Variable × Trees)
+valued_of es ps values = valued (map variable_of ps) (own_from 0 0 (map variable_of ps)) (map (arg_trees es) values)

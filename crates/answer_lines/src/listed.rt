@@ -3,11 +3,10 @@ ghost use Rattle.std.specs.Prelude.{◌≡◌, ◌≤◌, ◌++◌, ◌∷◌, [
 ghost use Rattle.model.specs.Label.{infer};
 ghost use Rattle.model.specs.Trees.{leaf};
 ghost use Rattle.model.specs.Codes.{same};
-ghost use Rattle.text_definitions.specs.Names.{valued, own_from};
 ghost use Rattle.type_terms.specs.Kinds.{region_trees, arg_trees, ArgHeld, ArgsHeld};
 ghost use Rattle.type_terms.specs.Terms.{Has, types, consts, trees_at};
-ghost use Rattle.workspace.specs.Views.{sort_of_kind, variable_of};
-ghost use Rattle.answer_lines.specs.Listed.{listed_of, ListHeld, own_number, counted, valued_one};
+ghost use Rattle.workspace.specs.Views.{sort_of_kind};
+ghost use Rattle.answer_lines.specs.Listed.{listed_of, ListHeld, own_number, counted, valued_one, valued_of};
 
 use std::alloc::{AllocError, Global};
 use type_terms::interner::Interner;
@@ -128,7 +127,7 @@ pub(crate) fn listed_values<'w>(
 ) -> Result<Vec<Listed<'w>>, AllocError>
     requires { ArgsHeld cx.now.entries values.now }
     ensures held { IfOk result (λ listed. ListHeld cx.now.entries listed.items) }
-    ensures listed { IfOk result (λ listed. map (listed_of cx.now.entries) listed.items ≡ valued (map variable_of variables.now) (own_from 0 0 (map variable_of variables.now)) (map (arg_trees cx.now.entries) values.now)) }
+    ensures listed { IfOk result (λ listed. map (listed_of cx.now.entries) listed.items ≡ valued_of cx.now.entries variables.now values.now) }
 {
     let mut listed = Vec::new(alloc);
     let mut counts = Counts {
