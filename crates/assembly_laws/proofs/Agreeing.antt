@@ -8,11 +8,11 @@ use Rattle.type_terms.specs.Made.{bounds}
 use Rattle.type_terms.specs.Made.{traits}
 use Rattle.type_terms.specs.Made.{is_leaf_label, is_made}
 use Rattle.infer_table.specs.declared.canonical.CanonicalVarKind.{CanonicalVarKind}
-use Rattle.table_laws.specs.Instances.{read_with, of_sort, term_at, other_terms}
-use Rattle.table_laws.specs.Content.{given}
-use Rattle.table_laws.specs.Frames.{kind_at}
-use Rattle.table_laws.specs.Answers.{is_kind_of}
-use Rattle.evaluation_laws.specs.Variables.{is_variable_over}
+use Rattle.evaluation.specs.Instances.{read_with, of_sort, term_at, other_terms}
+use Rattle.evaluation.specs.Content.{given}
+use Rattle.evaluation.specs.FrameTables.{kind_at}
+use Rattle.evaluation.specs.TableAnswers.{is_kind_of}
+use Rattle.evaluation.specs.Variables.{is_variable_over}
 use Rattle.assembly_laws.specs.Cover.{padded}
 use Rattle.assembly_laws.proofs.Reading.{true-false}
 

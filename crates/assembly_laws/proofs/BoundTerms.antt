@@ -12,11 +12,11 @@ use Rattle.type_terms.specs.Made.{Standing, terms, bounds, traits, is_leaf_label
 use Rattle.type_terms.proofs.Made.{left, right, both, false-true, no-tree, made-ordinary, makes-ordinary, made-rest, made-alone, made-append, last-bound, last-trait, never-dynamic, never-dynamic-bound, never-principal}
 use Rattle.infer_table.specs.declared.canonical.CanonicalVarKind.{CanonicalVarKind}
 use Rattle.evaluation.specs.Lists.{Every}
-use Rattle.table_laws.specs.Frames.{is_open_label}
+use Rattle.evaluation.specs.FrameTables.{is_open_label}
 use Rattle.assembly_laws.specs.Facts.{clauses_of}
 use Rattle.assembly_laws.specs.Meaning.{Meaning}
 use Rattle.assembly_laws.specs.Asking.{Asked, all_known, are_clauses}
-use Rattle.evaluation_laws.specs.Variables.{is_variable_over}
+use Rattle.evaluation.specs.Variables.{is_variable_over}
 use Rattle.assembly_laws.specs.Declared.{is_declared, are_terms, are_references, is_declared_view, is_counted, is_lifetime_parameter, BoundsAreErased}
 use Rattle.assembly_laws.specs.Cover.{BoundsAreTerms}
 use Rattle.assembly_laws.proofs.Premises.{EquationsAreTerms}

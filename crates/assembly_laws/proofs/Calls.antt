@@ -11,9 +11,9 @@ use Rattle.model.proofs.Matching.{same-sound}
 use Rattle.model.proofs.OpenWorld.{was-true}
 use Rattle.evaluation.specs.Lists.{Every, SomeOf}
 use Rattle.evaluation.specs.declared.candidate.CandidateSource.{CandidateSource}
-use Rattle.table_laws.specs.Instances.{read_with}
-use Rattle.table_laws.specs.Content.{Values, given}
-use Rattle.table_laws.specs.Frames.{Equation}
+use Rattle.evaluation.specs.Instances.{read_with}
+use Rattle.evaluation.specs.Content.{Values, given}
+use Rattle.evaluation.specs.FrameTables.{Equation}
 use Rattle.assembly_laws.specs.Asking.{Asked}
 use Rattle.assembly_laws.specs.Candidates.{premise, by_rule, all_equal, misc, if_so, call_of, unsize_array_of}
 use Rattle.assembly_laws.specs.Solver.{IsSolution}

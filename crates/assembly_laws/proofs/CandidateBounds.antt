@@ -10,9 +10,9 @@ use Rattle.infer_table.specs.Canonical.{CanonicalForm}
 use Rattle.evaluation.specs.Plans.{nested_in}
 use Rattle.evaluation.specs.declared.candidate.CandidateSource.TheVariants.{BuiltinImpl, ParamEnv}
 use Rattle.evaluation.specs.declared.candidate.BuiltinImplSource.TheVariants.{Trivial}
-use Rattle.evaluation_laws.specs.Tables.{frame_tables}
-use Rattle.table_laws.specs.Widths.{count, with_self, width, width_of_predicates, number_of}
-use Rattle.table_laws.proofs.Widths.{IsWithin, within}
+use Rattle.evaluation.specs.Tables.{frame_tables}
+use Rattle.evaluation.specs.Widths.{count, with_self, width, width_of_predicates, number_of}
+use Rattle.evaluation.proofs.Widths.{IsWithin, within}
 use Rattle.assembly_laws.specs.Facts.{clauses_of}
 use Rattle.assembly_laws.specs.Asking.{Asked, asked, all_known, self_of, next_of, begins_unknown, with_plain_head, clauses}
 use Rattle.declarations.specs.Elaboration.{elaborate, supertraits}

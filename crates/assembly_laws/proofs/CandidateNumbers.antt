@@ -9,9 +9,9 @@ use Rattle.model.specs.Proofs.{In}
 use Rattle.model.proofs.Members.{here, in-filter, same-number}
 use Rattle.evaluation.specs.Plans.{nested_in}
 use Rattle.evaluation.specs.declared.candidate.CandidateSource.{CandidateSource}
-use Rattle.evaluation_laws.specs.Tables.{frame_tables}
-use Rattle.table_laws.specs.Widths.{count}
-use Rattle.table_laws.proofs.Widths.{IsWithin, count-append}
+use Rattle.evaluation.specs.Tables.{frame_tables}
+use Rattle.evaluation.specs.Widths.{count}
+use Rattle.evaluation.proofs.Widths.{IsWithin, count-append}
 use Rattle.assembly_laws.specs.Asking.{Asked}
 use Rattle.assembly_laws.specs.Candidates.{Candidate, premise, as_written, if_so, by_rule, all_equal, misc, upcast_source, upcasts_from, upcasts_to, upcasts_of, unsize_by_struct, bounds_from}
 use Rattle.declarations.specs.Elaboration.{all_levels, elaborate, supertraits}

@@ -5,8 +5,8 @@ use Rattle.model.specs.Label.{never}
 use Rattle.model.specs.Trees.{Trees, none, tree, nth, shift, instantiate}
 use Rattle.model.specs.Worlds.{Reference}
 use Rattle.evaluation.specs.Lists.{Every}
-use Rattle.table_laws.specs.Widths.{count, with_self, width, width_of_predicates, NestedWithin, EquationWithin}
-use Rattle.table_laws.proofs.Widths.{IsWithin, IsOneIf, IsOne, leaf-one, count-put, within-put, within, width-within, count-append, within-append}
+use Rattle.evaluation.specs.Widths.{count, with_self, width, width_of_predicates, NestedWithin, EquationWithin}
+use Rattle.evaluation.proofs.Widths.{IsWithin, IsOneIf, IsOne, leaf-one, count-put, within-put, within, width-within, count-append, within-append}
 use Rattle.assembly_laws.specs.Asking.{Asked}
 use Rattle.assembly_laws.specs.Candidates.{premise, all_equal, moved, behind}
 use Rattle.assembly_laws.specs.Solver.{width_of}

@@ -12,16 +12,16 @@ use Rattle.type_terms.specs.Made.{is_made}
 use Rattle.infer_table.specs.declared.canonical.CanonicalVarKind.{CanonicalVarKind}
 use Rattle.evaluation.specs.Lists.{Every, SomeOf}
 use Rattle.evaluation.proofs.ListLaws.{Every-map, Every-mono}
-use Rattle.table_laws.specs.Instances.{read_with}
-use Rattle.table_laws.specs.Content.{given, trait_of}
-use Rattle.table_laws.specs.Frames.{kinds_known}
+use Rattle.evaluation.specs.Instances.{read_with}
+use Rattle.evaluation.specs.Content.{given, trait_of}
+use Rattle.evaluation.specs.FrameTables.{kinds_known}
 use Rattle.assembly_laws.specs.Facts.{reference_in, children_of, trait_or_first}
 use Rattle.declarations.specs.Elaboration.{supertraits}
 use Rattle.assembly_laws.specs.Meaning.{Meaning}
 use Rattle.assembly_laws.specs.Knowing.{is_knowable}
 use Rattle.assembly_laws.specs.Declared.{is_declared_view}
 use Rattle.assembly_laws.specs.Asking.{Asked, asked_if, asked_with, with_first, all_known, are_clauses, begins_with_type, next_of}
-use Rattle.evaluation_laws.specs.Variables.{is_variable_over}
+use Rattle.evaluation.specs.Variables.{is_variable_over}
 use Rattle.assembly_laws.specs.Candidates.{premise, unknowable}
 use Rattle.assembly_laws.specs.Solver.{IsSolution}
 use Rattle.assembly_laws.specs.Cover.{slots, nested_at, Gives, all_candidates, goal_fact}

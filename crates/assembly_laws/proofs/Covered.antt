@@ -10,12 +10,12 @@ use Rattle.evaluation.specs.Table.{workings}
 use Rattle.evaluation.specs.Candidate.{Considered}
 use Rattle.evaluation.specs.Law.{Realizes}
 use Rattle.evaluation.specs.Handler.{Handled}
-use Rattle.table_laws.specs.Content.{Values}
-use Rattle.table_laws.specs.Frames.{kinds_known, FrameTable}
-use Rattle.table_laws.specs.Operations.{begin}
-use Rattle.evaluation_laws.proofs.OperationLaws.{begins-free, begins-within}
-use Rattle.evaluation_laws.specs.Tables.{frame_tables}
-use Rattle.evaluation_laws.proofs.Laws.{tables_are_lawful}
+use Rattle.evaluation.specs.Content.{Values}
+use Rattle.evaluation.specs.FrameTables.{kinds_known, FrameTable}
+use Rattle.evaluation.specs.TableOperations.{begin}
+use Rattle.evaluation.proofs.OperationLaws.{begins-free, begins-within}
+use Rattle.evaluation.specs.Tables.{frame_tables}
+use Rattle.evaluation.proofs.FrameTableLaws.{tables_are_lawful}
 use Rattle.evaluation.specs.Handler.{IsLawful}
 use Rattle.evaluation.specs.Plans.{Keeps, each_of, first_alone, Goes}
 use Rattle.evaluation.specs.Merge.{IsTest, TellsApart}
@@ -33,7 +33,7 @@ use Rattle.assembly_laws.proofs.ErasedViews.{solutions-by}
 use Rattle.assembly_laws.proofs.Plans.{coherence_keeps}
 use Rattle.assembly_laws.proofs.Covering.{Holds, answered, each-holds, first-holds}
 use Rattle.assembly_laws.proofs.Realizing.{asked-terms, by-candidates, by-unknowable, unsure-realizes}
-use Rattle.table_laws.proofs.FirstAnswers.{begin-says-nothing}
+use Rattle.evaluation.proofs.FirstAnswers.{begin-says-nothing}
 
 no-first : (x y : Bool) → x || y ≡ false → y ≡ false
 no-first true y e = absurd (cc)

@@ -6,7 +6,7 @@ use Rattle.model.specs.Rules.{is_coinductive}
 use Rattle.model.specs.Proofs.{In}
 use Rattle.model.proofs.Members.{here, there, in-cases, in-nothing}
 use Rattle.evaluation.specs.Lists.{Every}
-use Rattle.table_laws.specs.Widths.{width, width_of_predicates}
+use Rattle.evaluation.specs.Widths.{width, width_of_predicates}
 use Rattle.assembly_laws.specs.Asking.{Asked}
 use Rattle.assembly_laws.specs.Candidates.{by_the_impl, behind}
 use Rattle.assembly_laws.specs.Solver.{greatest, width_of, declared_width}

@@ -10,21 +10,21 @@ use Rattle.infer_table.specs.Canonical.{GoalTrees}
 use Rattle.infer_table.specs.declared.canonical.CanonicalVarKind.{CanonicalVarKind}
 use Rattle.infer_table.specs.declared.canonical.CanonicalVarKind.TheVariants.{Ty, PlaceholderTy, Const, PlaceholderConst, Region}
 use Rattle.evaluation.specs.Lists.{Every}
-use Rattle.table_laws.specs.Instances.{read_with, goal_read, put_in, of_sort, term_at}
-use Rattle.table_laws.specs.Content.{Values, fits, given, Fact, Terms, trait_of}
-use Rattle.table_laws.specs.Frames.{kind_at, FrameTable, Allows, Nested, fact, Meets, is_open_label}
+use Rattle.evaluation.specs.Instances.{read_with, goal_read, put_in, of_sort, term_at}
+use Rattle.evaluation.specs.Content.{Values, fits, given, Fact, Terms, trait_of}
+use Rattle.evaluation.specs.FrameTables.{kind_at, FrameTable, Allows, Nested, fact, Meets, is_open_label}
 use Rattle.type_terms.proofs.Made.{false-true}
 use Rattle.model.proofs.Walking.{left, right}
-use Rattle.table_laws.proofs.Labels.{made-labels, IsGoodLabel, made-more}
-use Rattle.table_laws.specs.Operations.{begin}
-use Rattle.table_laws.specs.Frames.{labels_from}
-use Rattle.table_laws.specs.Operations.{fresh}
+use Rattle.evaluation.proofs.Labels.{made-labels, IsGoodLabel, made-more}
+use Rattle.evaluation.specs.TableOperations.{begin}
+use Rattle.evaluation.specs.FrameTables.{labels_from}
+use Rattle.evaluation.specs.TableOperations.{fresh}
 use Rattle.assembly_laws.specs.Asking.{Asked, are_clauses}
-use Rattle.evaluation_laws.specs.Variables.{is_variable_over}
+use Rattle.evaluation.specs.Variables.{is_variable_over}
 use Rattle.assembly_laws.specs.Declared.{is_declared}
 use Rattle.assembly_laws.specs.Candidates.{premise, behind, is_param, moved, all_equal}
-use Rattle.evaluation_laws.proofs.Readings.{Agree, AgreeIn, made-leaves, reads-agree, reads-determine}
-use Rattle.evaluation_laws.proofs.Slots.{own_slot, slot-is, slots-agree, each-stands}
+use Rattle.evaluation.proofs.Readings.{Agree, AgreeIn, made-leaves, reads-agree, reads-determine}
+use Rattle.evaluation.proofs.Slots.{own_slot, slot-is, slots-agree, each-stands}
 use Rattle.assembly_laws.proofs.Moving.{made-moved, stands-back, stands-on, met-reads, Came}
 
 pub same-fact : (trait : Option ℕ) (g k : GoalTrees) (p q : Bool) → g ≡ k → p ≡ q → ◌≡◌ {A = Fact} (record { trait = trait; goal = g; proper = p }) (record { trait = trait; goal = k; proper = q })

@@ -14,16 +14,16 @@ use Rattle.type_terms.specs.Made.{traits}
 use Rattle.infer_table.specs.declared.canonical.CanonicalVarKind.{CanonicalVarKind}
 use Rattle.evaluation.specs.Lists.{Every}
 use Rattle.evaluation.proofs.ListLaws.{Every-mono, Every-both}
-use Rattle.table_laws.specs.Instances.{put_in, default_label}
-use Rattle.table_laws.specs.Frames.{is_open_label, term_of, Equation}
+use Rattle.evaluation.specs.Instances.{put_in, default_label}
+use Rattle.evaluation.specs.FrameTables.{is_open_label, term_of, Equation}
 use Rattle.type_terms.proofs.Made.{false-true}
 use Rattle.model.proofs.Walking.{left, right}
 use Rattle.type_terms.proofs.Made.{is_ordinary, made-append}
-use Rattle.table_laws.proofs.Labels.{IsLeafFor, PutsLeaves, made-put-in, made-more}
+use Rattle.evaluation.proofs.Labels.{IsLeafFor, PutsLeaves, made-put-in, made-more}
 use Rattle.declarations.specs.Elaboration.{elaborate, supertraits, rest_of}
 use Rattle.assembly_laws.specs.Declared.{is_declared, is_counted, are_terms, are_references, is_declared_view}
 use Rattle.assembly_laws.specs.Asking.{Asked, clauses, self_of, with_plain_head}
-use Rattle.evaluation_laws.specs.Variables.{is_variable_over}
+use Rattle.evaluation.specs.Variables.{is_variable_over}
 use Rattle.assembly_laws.specs.Candidates.{first_value, all_equal, moved}
 use Rattle.assembly_laws.specs.Cover.{AreTermsOf, BoundsAreTerms, all_candidates}
 use Rattle.assembly_laws.proofs.Rowwise.{AreRows, all-so}

@@ -13,9 +13,9 @@ use Rattle.declarations.specs.Elaboration.{elaborate, supertraits, off_stack, ne
 use Rattle.evaluation.specs.Lists.{Every, SomeOf}
 use Rattle.evaluation.specs.declared.candidate.CandidateSource.{CandidateSource}
 use Rattle.evaluation.specs.declared.candidate.CandidateSource.TheVariants.{ParamEnv}
-use Rattle.table_laws.specs.Instances.{read_with}
-use Rattle.table_laws.specs.Content.{Fact, Values, given}
-use Rattle.table_laws.specs.Frames.{Equation}
+use Rattle.evaluation.specs.Instances.{read_with}
+use Rattle.evaluation.specs.Content.{Fact, Values, given}
+use Rattle.evaluation.specs.FrameTables.{Equation}
 use Rattle.assembly_laws.specs.Facts.{tree_of_reference}
 use Rattle.assembly_laws.specs.Lifetimes.{lacks_lifetime, are_given}
 use Rattle.assembly_laws.specs.Asking.{Asked}

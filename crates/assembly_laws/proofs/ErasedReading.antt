@@ -4,8 +4,8 @@ use Rattle.model.specs.Label.{Label, of_type, of_const, of_lifetime, static, fn_
 use Rattle.model.specs.Trees.{Trees, none, tree, leaf, ◌+++◌, is_a, is_no_tree, is_sort, sort_of, nth, instantiate, shift, some_node, erase}
 use Rattle.model.proofs.Fitting.{child-shut, next-shut, no-left}
 use Rattle.model.proofs.Walking.{left, right}
-use Rattle.table_laws.specs.Instances.{read_with, put_in, of_sort, term_at}
-use Rattle.table_laws.specs.Content.{given}
+use Rattle.evaluation.specs.Instances.{read_with, put_in, of_sort, term_at}
+use Rattle.evaluation.specs.Content.{given}
 use Rattle.assembly_laws.specs.Candidates.{moved}
 use Rattle.assembly_laws.specs.Lifetimes.{lacks_lifetime}
 use Rattle.assembly_laws.proofs.Reading.{true-false, read-append}

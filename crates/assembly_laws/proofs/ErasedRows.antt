@@ -15,9 +15,9 @@ use Rattle.evaluation.specs.Lists.{Every, SomeOf}
 use Rattle.evaluation.specs.declared.candidate.CandidateSource.{CandidateSource}
 use Rattle.evaluation.specs.declared.candidate.CandidateSource.TheVariants.{BuiltinImpl}
 use Rattle.evaluation.specs.declared.candidate.BuiltinImplSource.TheVariants.{Trivial}
-use Rattle.table_laws.specs.Instances.{read_with}
-use Rattle.table_laws.specs.Content.{Values, given}
-use Rattle.table_laws.specs.Frames.{Equation}
+use Rattle.evaluation.specs.Instances.{read_with}
+use Rattle.evaluation.specs.Content.{Values, given}
+use Rattle.evaluation.specs.FrameTables.{Equation}
 use Rattle.assembly_laws.specs.Declared.{are_terms, is_lifetime_parameter}
 use Rattle.assembly_laws.specs.Lifetimes.{are_given, gives_lifetimes, goal_gives_lifetimes}
 use Rattle.assembly_laws.specs.Asking.{Asked, clauses, self_of, next_of, begins_unknown}

@@ -22,7 +22,7 @@ use Rattle.model.proofs.TermRules.{filter-map}
 use Rattle.infer_table.specs.Canonical.{CanonicalForm}
 use Rattle.infer_table.specs.declared.canonical.CanonicalVarKind.{CanonicalVarKind}
 use Rattle.type_terms.specs.Made.{terms, is_made}
-use Rattle.evaluation_laws.specs.Variables.{is_variable_over}
+use Rattle.evaluation.specs.Variables.{is_variable_over}
 use Rattle.assembly_laws.specs.Declared.{are_terms, are_references, is_declared_view, is_lifetime_parameter, BoundsAreErased}
 use Rattle.assembly_laws.specs.Determined.{ImplsAreDetermined}
 use Rattle.assembly_laws.specs.Meaning.{Meaning, proved_in}

@@ -12,7 +12,7 @@ use Rattle.model.proofs.Matching.{same-sound}
 use Rattle.model.proofs.Members.{self-number}
 use Rattle.evaluation.specs.ByRules.{HasRule, HasProofByRules}
 use Rattle.evaluation.proofs.ByRules.{proofs_are_proofs}
-use Rattle.table_laws.specs.Content.{Fact}
+use Rattle.evaluation.specs.Content.{Fact}
 use Rattle.assembly_laws.specs.Facts.{clauses_of, reference_in, beside, is_plain, FollowsByView, is_coinductive_trait, is_coinductive_fact, ProofsOfFactsAreProofs, ReferencesComeBack}
 
 true-false : true ≡ false → ⊥

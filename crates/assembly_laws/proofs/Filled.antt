@@ -4,15 +4,15 @@ use Rattle.model.specs.Trees.{Trees}
 use Rattle.infer_table.specs.declared.canonical.CanonicalVarKind.{CanonicalVarKind}
 use Rattle.infer_table.specs.declared.canonical.CanonicalVarKind.TheVariants.{Ty, PlaceholderTy, Const, PlaceholderConst, Region}
 use Rattle.evaluation.specs.Lists.{Every}
-use Rattle.table_laws.specs.Instances.{first_term, other_terms}
-use Rattle.table_laws.specs.Content.{Values, Terms, reading_of}
-use Rattle.table_laws.specs.Frames.{HaveValues, AllowsApart}
+use Rattle.evaluation.specs.Instances.{first_term, other_terms}
+use Rattle.evaluation.specs.Content.{Values, Terms, reading_of}
+use Rattle.evaluation.specs.FrameTables.{HaveValues, AllowsApart}
 use Rattle.type_terms.proofs.Made.{false-true}
-use Rattle.table_laws.specs.Frames.{labels_from}
-use Rattle.table_laws.specs.Operations.{begin}
-use Rattle.table_laws.specs.Operations.{fresh}
-use Rattle.table_laws.proofs.Reading.{cons}
-use Rattle.evaluation_laws.proofs.Unplaced.{IsNotPlace, both-kinds, filled_with, filled-with-allowed, whole, whole-allowed, whole-values}
+use Rattle.evaluation.specs.FrameTables.{labels_from}
+use Rattle.evaluation.specs.TableOperations.{begin}
+use Rattle.evaluation.specs.TableOperations.{fresh}
+use Rattle.evaluation.proofs.Reading.{cons}
+use Rattle.evaluation.proofs.Unplaced.{IsNotPlace, both-kinds, filled_with, filled-with-allowed, whole, whole-allowed, whole-values}
 use Rattle.assembly_laws.specs.Slots.{own_slot, as_slots}
 use Rattle.assembly_laws.specs.Solver.{has_placeholder}
 use Rattle.assembly_laws.specs.Cover.{padded}

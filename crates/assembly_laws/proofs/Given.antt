@@ -5,18 +5,18 @@ use Rattle.infer_table.specs.declared.canonical.CanonicalVarKind.{CanonicalVarKi
 use Rattle.evaluation.specs.Lists.{Every}
 use Rattle.evaluation.specs.Law.{Solves}
 use Rattle.evaluation.proofs.ListLaws.{Every-mono, Every-both}
-use Rattle.table_laws.specs.Instances.{read_with, goal_read, first_term, other_terms}
-use Rattle.table_laws.specs.Content.{Fact, given, trait_of, Terms}
-use Rattle.table_laws.specs.Frames.{Nested, Equation, term_of, Meets}
-use Rattle.table_laws.specs.Operations.{begin}
-use Rattle.table_laws.specs.Operations.{fresh}
-use Rattle.evaluation_laws.specs.Tables.{frame_tables}
+use Rattle.evaluation.specs.Instances.{read_with, goal_read, first_term, other_terms}
+use Rattle.evaluation.specs.Content.{Fact, given, trait_of, Terms}
+use Rattle.evaluation.specs.FrameTables.{Nested, Equation, term_of, Meets}
+use Rattle.evaluation.specs.TableOperations.{begin}
+use Rattle.evaluation.specs.TableOperations.{fresh}
+use Rattle.evaluation.specs.Tables.{frame_tables}
 use Rattle.assembly_laws.specs.Slots.{own_slot, as_slots, with_slots}
 use Rattle.assembly_laws.specs.Solver.{IsSolution}
 use Rattle.assembly_laws.specs.Meaning.{proved_in}
 use Rattle.assembly_laws.specs.Cover.{padded, slots, nested_at, GivenIsRealized}
 use Rattle.assembly_laws.proofs.Filled.{no-placeholder, filled, filled-allowed, filled-slots}
-use Rattle.evaluation_laws.proofs.Unplaced.{IsNotPlace}
+use Rattle.evaluation.proofs.Unplaced.{IsNotPlace}
 
 -- slots are not padded
 padded-slots : (ks : List CanonicalVarKind) (ts : List Trees) → padded ks (as_slots ks ts) ≡ as_slots ks ts

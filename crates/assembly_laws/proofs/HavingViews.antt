@@ -10,8 +10,8 @@ use Rattle.model.specs.Answers.{is_closed}
 use Rattle.model.specs.Walks.{is_known_in}
 use Rattle.infer_table.specs.Canonical.{CanonicalForm}
 use Rattle.evaluation.specs.Lists.{SomeOf}
-use Rattle.table_laws.specs.Content.{Values}
-use Rattle.table_laws.specs.Frames.{kinds_known}
+use Rattle.evaluation.specs.Content.{Values}
+use Rattle.evaluation.specs.FrameTables.{kinds_known}
 use Rattle.assembly_laws.specs.Declared.{LeadDown}
 use Rattle.assembly_laws.specs.Meaning.{Meaning}
 use Rattle.assembly_laws.specs.Knowing.{is_knowable}

@@ -12,8 +12,8 @@ use Rattle.type_terms.specs.Made.{bounds}
 use Rattle.type_terms.specs.Made.{traits}
 use Rattle.type_terms.specs.Made.{is_leaf_label, is_made}
 use Rattle.infer_table.specs.declared.canonical.CanonicalVarKind.{CanonicalVarKind}
-use Rattle.table_laws.specs.Instances.{read_with, put_in, of_sort, term_at, other_terms}
-use Rattle.table_laws.specs.Content.{given}
+use Rattle.evaluation.specs.Instances.{read_with, put_in, of_sort, term_at, other_terms}
+use Rattle.evaluation.specs.Content.{given}
 use Rattle.assembly_laws.specs.Declared.{is_declared, is_counted, IsDeclared}
 use Rattle.assembly_laws.specs.Candidates.{is_param, moved}
 use Rattle.assembly_laws.specs.Cover.{padded}

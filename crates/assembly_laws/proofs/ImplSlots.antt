@@ -9,10 +9,10 @@ use Rattle.type_terms.specs.Made.{is_made}
 use Rattle.infer_table.specs.Solutions.{HasValues}
 use Rattle.infer_table.specs.declared.canonical.CanonicalVarKind.{CanonicalVarKind}
 use Rattle.infer_table.specs.declared.canonical.CanonicalVarKind.TheVariants.{Ty, PlaceholderTy, Const, PlaceholderConst, Region}
-use Rattle.table_laws.specs.Instances.{read_with, put_in, default_label, of_sort, is_place, as_place, first_term, term_at, other_terms}
-use Rattle.table_laws.specs.Content.{given, fits, fits_kind}
-use Rattle.table_laws.proofs.Reading.{EachLabel}
-use Rattle.table_laws.proofs.Labels.{IsGoodLabel, made-labels}
+use Rattle.evaluation.specs.Instances.{read_with, put_in, default_label, of_sort, is_place, as_place, first_term, term_at, other_terms}
+use Rattle.evaluation.specs.Content.{given, fits, fits_kind}
+use Rattle.evaluation.proofs.Reading.{EachLabel}
+use Rattle.evaluation.proofs.Labels.{IsGoodLabel, made-labels}
 use Rattle.assembly_laws.specs.Slots.{own_slot, as_slots}
 use Rattle.assembly_laws.specs.Solver.{has_placeholder}
 use Rattle.assembly_laws.specs.Declared.{is_declared}

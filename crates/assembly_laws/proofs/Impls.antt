@@ -17,14 +17,14 @@ use Rattle.type_terms.specs.Made.{terms}
 use Rattle.type_terms.specs.Made.{is_made}
 use Rattle.infer_table.specs.declared.canonical.CanonicalVarKind.TheVariants.{Ty, Const, Region}
 use Rattle.evaluation.specs.Lists.{Every, SomeOf}
-use Rattle.table_laws.specs.Instances.{read_with, put_in}
-use Rattle.table_laws.specs.Content.{Values, given, fits, fits_kind}
-use Rattle.table_laws.specs.Frames.{Equation}
+use Rattle.evaluation.specs.Instances.{read_with, put_in}
+use Rattle.evaluation.specs.Content.{Values, given, fits, fits_kind}
+use Rattle.evaluation.specs.FrameTables.{Equation}
 use Rattle.assembly_laws.specs.Declared.{is_declared, is_counted, IsDeclared, are_terms, are_references, is_declared_view}
 use Rattle.assembly_laws.specs.Slots.{as_slots}
 use Rattle.assembly_laws.specs.Determined.{ImplsAreDetermined}
 use Rattle.assembly_laws.specs.Asking.{Asked, self_of}
-use Rattle.evaluation_laws.specs.Variables.{is_variable_over}
+use Rattle.evaluation.specs.Variables.{is_variable_over}
 use Rattle.assembly_laws.specs.Candidates.{Candidate, premise, all_equal, is_param, kind_of_param, kinds_of_params, moved, behind, by_the_impl, is_relevant_to, by_impls}
 use Rattle.assembly_laws.specs.Solver.{IsSolution}
 use Rattle.assembly_laws.specs.Cover.{slots, nested_at, Gives}

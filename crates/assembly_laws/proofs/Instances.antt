@@ -9,8 +9,8 @@ use Rattle.type_terms.specs.Made.{terms}
 use Rattle.type_terms.specs.Made.{bounds}
 use Rattle.type_terms.specs.Made.{traits}
 use Rattle.type_terms.specs.Made.{is_leaf_label, is_made}
-use Rattle.table_laws.specs.Instances.{read_with, default_label, of_sort, term_at}
-use Rattle.table_laws.specs.Content.{given}
+use Rattle.evaluation.specs.Instances.{read_with, default_label, of_sort, term_at}
+use Rattle.evaluation.specs.Content.{given}
 use Rattle.assembly_laws.specs.Declared.{is_declared, is_counted, IsDeclared}
 use Rattle.assembly_laws.proofs.Reading.{true-false, begins, read-append, read-nth}
 

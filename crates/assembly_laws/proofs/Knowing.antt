@@ -13,8 +13,8 @@ use Rattle.model.proofs.Walking.{left, right}
 use Rattle.type_terms.specs.Made.{terms}
 use Rattle.type_terms.specs.Made.{bounds}
 use Rattle.type_terms.specs.Made.{is_leaf_label, is_made}
-use Rattle.table_laws.specs.Instances.{read_with, default_label, of_sort, term_at}
-use Rattle.table_laws.specs.Content.{given}
+use Rattle.evaluation.specs.Instances.{read_with, default_label, of_sort, term_at}
+use Rattle.evaluation.specs.Content.{given}
 use Rattle.assembly_laws.specs.Knowing.{is_knowable}
 pub use Rattle.assembly_laws.specs.Cover.{read_reference}
 

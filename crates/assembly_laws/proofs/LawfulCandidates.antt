@@ -21,18 +21,18 @@ use Rattle.evaluation.specs.Lists.{Every}
 use Rattle.evaluation.specs.Handler.{Handled}
 use Rattle.evaluation.specs.declared.candidate.CandidateSource.TheVariants.{ParamEnv}
 use Rattle.evaluation.proofs.ListLaws.{Every-both, among-all}
-use Rattle.table_laws.specs.Content.{Terms, trait_of}
-use Rattle.table_laws.specs.Frames.{kinds_known, Allows, Meets, Nested, fact}
-use Rattle.table_laws.specs.Widths.{width, count, width_of_predicates}
+use Rattle.evaluation.specs.Content.{Terms, trait_of}
+use Rattle.evaluation.specs.FrameTables.{kinds_known, Allows, Meets, Nested, fact}
+use Rattle.evaluation.specs.Widths.{width, count, width_of_predicates}
 use Rattle.assembly_laws.proofs.CandidateKinds.{every-append}
-use Rattle.table_laws.specs.Operations.{begin}
-use Rattle.table_laws.specs.Operations.{fresh}
-use Rattle.evaluation_laws.specs.Tables.{frame_tables}
+use Rattle.evaluation.specs.TableOperations.{begin}
+use Rattle.evaluation.specs.TableOperations.{fresh}
+use Rattle.evaluation.specs.Tables.{frame_tables}
 use Rattle.evaluation.specs.Handler.{IsLawful}
 use Rattle.assembly_laws.specs.Facts.{is_coinductive_trait, clauses_of}
 use Rattle.assembly_laws.specs.Meaning.{Meaning}
 use Rattle.assembly_laws.specs.Asking.{Asked, asked, asked_if, asked_with, all_known, are_clauses, begins_with_type, next_of, clauses}
-use Rattle.evaluation_laws.specs.Variables.{is_variable_over}
+use Rattle.evaluation.specs.Variables.{is_variable_over}
 use Rattle.assembly_laws.specs.Candidates.{Candidate, premise, by_rule, by_the_impl, unknowable, by_clauses, behind, clause_source, all_equal}
 use Rattle.assembly_laws.specs.Declared.{are_terms, are_references, is_declared_view, is_declared, is_counted}
 use Rattle.assembly_laws.specs.Determined.{ImplsAreDetermined}

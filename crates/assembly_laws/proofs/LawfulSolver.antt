@@ -9,11 +9,11 @@ use Rattle.model.proofs.Walking.{left, right}
 use Rattle.evaluation.specs.Lists.{Every}
 use Rattle.evaluation.specs.Law.{Realizes}
 use Rattle.evaluation.specs.Handler.{Handled, IsHandler}
-use Rattle.table_laws.specs.Content.{Values, fits}
-use Rattle.table_laws.specs.Frames.{kinds_known}
-use Rattle.evaluation_laws.proofs.OperationLaws.{begins-free, begins-within}
-use Rattle.evaluation_laws.specs.Tables.{frame_tables}
-use Rattle.evaluation_laws.proofs.Laws.{tables_are_lawful}
+use Rattle.evaluation.specs.Content.{Values, fits}
+use Rattle.evaluation.specs.FrameTables.{kinds_known}
+use Rattle.evaluation.proofs.OperationLaws.{begins-free, begins-within}
+use Rattle.evaluation.specs.Tables.{frame_tables}
+use Rattle.evaluation.proofs.FrameTableLaws.{tables_are_lawful}
 use Rattle.evaluation.specs.Handler.{IsLawful}
 use Rattle.evaluation.specs.Plans.{Keeps, nested_in, each_of}
 use Rattle.evaluation.specs.Merge.{IsTest, TellsApart}
@@ -28,7 +28,7 @@ use Rattle.assembly_laws.proofs.Realizing.{by-candidates, by-unknowable, unsure-
 use Rattle.assembly_laws.specs.Cover.{AreTermsOf, GivenIsRealized, all_candidates, SolutionsAreCandidates}
 use Rattle.assembly_laws.proofs.Premises.{SolverPremises, SolverIsLawful}
 use Rattle.assembly_laws.proofs.Reading.{true-false}
-use Rattle.table_laws.proofs.FirstAnswers.{begin-says-nothing}
+use Rattle.evaluation.proofs.FirstAnswers.{begin-says-nothing}
 use Rattle.assembly_laws.proofs.Cover.{asked-by, known-kinds}
 use Rattle.assembly_laws.proofs.Plans.{coherence_keeps, outside_keeps, Realized}
 

@@ -8,19 +8,19 @@ use Rattle.type_terms.specs.Made.{terms}
 use Rattle.type_terms.specs.Made.{bounds}
 use Rattle.type_terms.specs.Made.{is_leaf_label, is_made}
 use Rattle.evaluation.specs.Lists.{Every}
-use Rattle.table_laws.specs.Instances.{read_with, put_in, default_label}
-use Rattle.table_laws.specs.Content.{given}
-use Rattle.table_laws.specs.Frames.{Equation, is_open_label, term_of}
+use Rattle.evaluation.specs.Instances.{read_with, put_in, default_label}
+use Rattle.evaluation.specs.Content.{given}
+use Rattle.evaluation.specs.FrameTables.{Equation, is_open_label, term_of}
 use Rattle.type_terms.proofs.Made.{false-true}
 use Rattle.type_terms.proofs.Made.{is_ordinary}
 use Rattle.model.proofs.Walking.{left, right}
-use Rattle.table_laws.proofs.Labels.{IsLeafFor, PutsLeaves, made-put-in}
+use Rattle.evaluation.proofs.Labels.{IsLeafFor, PutsLeaves, made-put-in}
 use Rattle.assembly_laws.proofs.Plain.{is-sort}
 use Rattle.assembly_laws.specs.Declared.{is_declared}
 use Rattle.assembly_laws.specs.Candidates.{moved, first_value, all_equal, is_param}
 use Rattle.assembly_laws.proofs.Reading.{begins}
-use Rattle.evaluation_laws.proofs.Readings.{HasLeaves}
-use Rattle.evaluation_laws.specs.Variables.{StandsIn}
+use Rattle.evaluation.proofs.Readings.{HasLeaves}
+use Rattle.evaluation.specs.Variables.{StandsIn}
 
 -- ---- how they are made
 open-behind : (n : ℕ) → PutsLeaves is_declared is_open_label (moved n)

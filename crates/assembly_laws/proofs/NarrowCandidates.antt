@@ -11,9 +11,9 @@ use Rattle.evaluation.specs.Lists.{Every}
 use Rattle.evaluation.specs.declared.candidate.CandidateSource.{CandidateSource}
 use Rattle.evaluation.specs.declared.candidate.CandidateSource.TheVariants.{BuiltinImpl}
 use Rattle.evaluation.specs.declared.candidate.BuiltinImplSource.TheVariants.{Trivial}
-use Rattle.table_laws.specs.Frames.{Equation}
-use Rattle.table_laws.specs.Widths.{count, width, width_of_predicates, EquationWithin, number_of}
-use Rattle.table_laws.proofs.Widths.{IsWithin, within, width-within, single-count}
+use Rattle.evaluation.specs.FrameTables.{Equation}
+use Rattle.evaluation.specs.Widths.{count, width, width_of_predicates, EquationWithin, number_of}
+use Rattle.evaluation.proofs.Widths.{IsWithin, within, width-within, single-count}
 use Rattle.assembly_laws.specs.Asking.{Asked, all_known, self_of, next_of, begins_unknown}
 use Rattle.declarations.specs.Elaboration.{elaborate, supertraits}
 use Rattle.assembly_laws.specs.Meaning.{Meaning}

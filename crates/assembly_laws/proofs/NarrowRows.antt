@@ -7,8 +7,8 @@ use Rattle.model.specs.Rules.{Rule, row, sized_struct, auto_struct, unsize_to_dy
 use Rattle.model.specs.Proofs.{In}
 use Rattle.model.proofs.Members.{in-filter}
 use Rattle.evaluation.specs.Lists.{Every}
-use Rattle.table_laws.specs.Widths.{count}
-use Rattle.table_laws.proofs.Widths.{IsWithin, within, width-within, count-append, within-append}
+use Rattle.evaluation.specs.Widths.{count}
+use Rattle.evaluation.proofs.Widths.{IsWithin, within, width-within, count-append, within-append}
 use Rattle.declarations.specs.Elaboration.{elaborate, supertraits}
 use Rattle.assembly_laws.specs.Solver.{width_of}
 use Rattle.assembly_laws.proofs.CandidateWidths.{count-instance, within-instance, instance-within}

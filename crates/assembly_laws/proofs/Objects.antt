@@ -19,8 +19,8 @@ use Rattle.type_terms.specs.Made.{bounds}
 use Rattle.type_terms.specs.Made.{is_made}
 use Rattle.evaluation.specs.Lists.{Every, SomeOf}
 use Rattle.evaluation.specs.declared.candidate.CandidateSource.{CandidateSource}
-use Rattle.table_laws.specs.Instances.{read_with}
-use Rattle.table_laws.specs.Content.{Values, given}
+use Rattle.evaluation.specs.Instances.{read_with}
+use Rattle.evaluation.specs.Content.{Values, given}
 use Rattle.assembly_laws.specs.Declared.{are_terms, are_references, is_declared_view}
 use Rattle.declarations.specs.Elaboration.{supertraits, elaborate}
 use Rattle.assembly_laws.specs.Asking.{Asked}

@@ -11,8 +11,8 @@ use Rattle.model.proofs.Entries.{map-in}
 use Rattle.model.proofs.Supertraits.{flat-same}
 use Rattle.model.proofs.Fitting.{child-shut, append-shut}
 use Rattle.evaluation.specs.Lists.{Every}
-use Rattle.table_laws.specs.Instances.{read_with}
-use Rattle.table_laws.specs.Content.{given}
+use Rattle.evaluation.specs.Instances.{read_with}
+use Rattle.evaluation.specs.Content.{given}
 use Rattle.assembly_laws.specs.Facts.{is_unerased}
 use Rattle.assembly_laws.specs.Declared.{are_terms, is_declared_view}
 use Rattle.declarations.specs.Elaboration.{supertraits}

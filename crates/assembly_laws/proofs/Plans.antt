@@ -8,7 +8,7 @@ use Rattle.evaluation.specs.Table.{IsTable, workings}
 use Rattle.evaluation.specs.Candidate.{Considered}
 use Rattle.evaluation.specs.Law.{Realizes}
 use Rattle.evaluation.specs.Handler.{Handled}
-use Rattle.evaluation_laws.specs.Tables.{frame_tables}
+use Rattle.evaluation.specs.Tables.{frame_tables}
 use Rattle.evaluation.specs.Plans.{Plan, Keeps, each_of, first_alone, nested_in}
 use Rattle.evaluation.specs.Handler.{IsLawful}
 use Rattle.evaluation.specs.Merge.{IsTest, TellsApart}

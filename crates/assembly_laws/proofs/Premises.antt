@@ -6,8 +6,8 @@ use Rattle.infer_table.specs.declared.certainty.TypingMode.{TypingMode}
 use Rattle.infer_table.specs.Responses.{AnswerTrees}
 use Rattle.evaluation.specs.Lists.{Every}
 use Rattle.evaluation.specs.Handler.{IsHandler}
-use Rattle.table_laws.specs.Widths.{EquationWithin, NestedWithin}
-use Rattle.evaluation_laws.specs.Tables.{frame_tables}
+use Rattle.evaluation.specs.Widths.{EquationWithin, NestedWithin}
+use Rattle.evaluation.specs.Tables.{frame_tables}
 use Rattle.evaluation.specs.Plans.{nested_in}
 use Rattle.evaluation.specs.Merge.{IsTest, TellsApart}
 use Rattle.assembly_laws.specs.Meaning.{Meaning}

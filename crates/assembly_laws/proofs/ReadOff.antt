@@ -8,10 +8,10 @@ use Rattle.model.specs.Trees.{Trees, none, tree, leaf, ◌+++◌, is_a, is_sort,
 use Rattle.model.proofs.Fitting.{not-true, append-shut, child-shut, next-shut, first-shut, standing-shut, no-left, or-no}
 use Rattle.model.proofs.Matching.{first-left, nth-arguments}
 use Rattle.model.proofs.Members.{self-number, same-number}
-use Rattle.table_laws.specs.Instances.{read_with, put_in, default_label, of_sort, term_at}
-use Rattle.table_laws.specs.Content.{given}
-use Rattle.table_laws.proofs.Reading.{EachLabel}
-use Rattle.table_laws.proofs.Labels.{IsGoodLabel, made-labels}
+use Rattle.evaluation.specs.Instances.{read_with, put_in, default_label, of_sort, term_at}
+use Rattle.evaluation.specs.Content.{given}
+use Rattle.evaluation.proofs.Reading.{EachLabel}
+use Rattle.evaluation.proofs.Labels.{IsGoodLabel, made-labels}
 use Rattle.assembly_laws.specs.Facts.{is_unerased}
 use Rattle.assembly_laws.specs.Declared.{is_declared, is_counted, are_terms, is_otherwise, is_unsorted}
 use Rattle.type_terms.specs.Made.{terms, is_made}
@@ -20,7 +20,7 @@ use Rattle.assembly_laws.proofs.Plain.{is-sort, sort-self}
 use Rattle.assembly_laws.proofs.Reading.{true-false, begins, append-none}
 use Rattle.assembly_laws.proofs.Instances.{Unbound, shift-unbound, nth-unbound}
 use Rattle.assembly_laws.proofs.Headers.{child-some, next-some, here-some}
-use Rattle.evaluation_laws.proofs.Readings.{HasLeaves, made-leaves}
+use Rattle.evaluation.proofs.Readings.{HasLeaves, made-leaves}
 use Rattle.assembly_laws.proofs.PlainRules.{Plain}
 use Rattle.model.proofs.Walking.{left, right, both, or-cases}
 

@@ -5,8 +5,8 @@ use Rattle.model.specs.Label.{never}
 use Rattle.model.specs.Label.{value}
 use Rattle.model.specs.Trees.{Trees, none, tree, leaf, ◌+++◌, is_a, is_sort, sort_of, erase_label, placed, nth}
 use Rattle.model.specs.Rules.{asked, each_asked, last_asked}
-use Rattle.table_laws.specs.Instances.{read_with, default_label, of_sort, term_at}
-use Rattle.table_laws.specs.Content.{given}
+use Rattle.evaluation.specs.Instances.{read_with, default_label, of_sort, term_at}
+use Rattle.evaluation.specs.Content.{given}
 pub use Rattle.assembly_laws.specs.Cover.{read_reference}
 
 pub true-false : true ≡ false → ⊥

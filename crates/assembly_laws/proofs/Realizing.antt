@@ -9,12 +9,12 @@ use Rattle.infer_table.specs.declared.canonical.CanonicalVarKind.TheVariants.{Ty
 use Rattle.evaluation.specs.Lists.{Every, SomeOf}
 use Rattle.evaluation.specs.Law.{Realizes}
 use Rattle.evaluation.proofs.ListLaws.{Every-both, SomeOf-both}
-use Rattle.table_laws.specs.Instances.{read_with, goal_read, default_label, of_sort, term_at, first_term, other_terms}
-use Rattle.table_laws.specs.Content.{Values, given, fits, Fact, trait_of}
-use Rattle.table_laws.specs.Frames.{kind_at, kinds_known}
-use Rattle.table_laws.specs.Answers.{is_kind_of}
-use Rattle.table_laws.specs.Operations.{begin}
-use Rattle.evaluation_laws.specs.Tables.{frame_tables}
+use Rattle.evaluation.specs.Instances.{read_with, goal_read, default_label, of_sort, term_at, first_term, other_terms}
+use Rattle.evaluation.specs.Content.{Values, given, fits, Fact, trait_of}
+use Rattle.evaluation.specs.FrameTables.{kind_at, kinds_known}
+use Rattle.evaluation.specs.TableAnswers.{is_kind_of}
+use Rattle.evaluation.specs.TableOperations.{begin}
+use Rattle.evaluation.specs.Tables.{frame_tables}
 use Rattle.assembly_laws.specs.Slots.{as_slots, with_slots}
 use Rattle.assembly_laws.specs.Facts.{clauses_of}
 use Rattle.assembly_laws.specs.Meaning.{Meaning, proved_in}
@@ -22,7 +22,7 @@ use Rattle.assembly_laws.specs.Lifetimes.{goal_gives_lifetimes}
 use Rattle.assembly_laws.specs.Knowing.{is_knowable}
 use Rattle.assembly_laws.specs.Declared.{is_declared_view}
 use Rattle.assembly_laws.specs.Asking.{Asked, asked, clauses, self_of, begins_unknown, with_first, all_known}
-use Rattle.evaluation_laws.specs.Variables.{is_variable_over}
+use Rattle.evaluation.specs.Variables.{is_variable_over}
 use Rattle.assembly_laws.specs.Candidates.{Candidate, unsure, unknowable}
 use Rattle.assembly_laws.specs.Solver.{has_placeholder, Searched, IsSolution}
 use Rattle.assembly_laws.specs.Cover.{AreTermsOf, BoundsAreTerms, Gives, all_candidates, goal_fact, SolutionsAreCandidates}
@@ -30,7 +30,7 @@ use Rattle.assembly_laws.proofs.Reading.{true-false}
 use Rattle.assembly_laws.proofs.Agreeing.{agree-terms}
 use Rattle.assembly_laws.proofs.Cover.{IsAsked, asked-by, known-kinds}
 use Rattle.assembly_laws.proofs.Filled.{no-placeholder, filled, filled-allowed}
-use Rattle.evaluation_laws.proofs.Unplaced.{IsNotPlace}
+use Rattle.evaluation.proofs.Unplaced.{IsNotPlace}
 use Rattle.assembly_laws.proofs.ImplSlots.{sort-again, params-no-places}
 use Rattle.assembly_laws.proofs.Given.{given-is-realized}
 use Rattle.assembly_laws.proofs.Rowwise.{AreRows, all-so}

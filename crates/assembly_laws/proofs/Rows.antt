@@ -12,8 +12,8 @@ use Rattle.model.proofs.Supertraits.{flat-same}
 use Rattle.model.proofs.NoHolds.{member-each}
 use Rattle.model.proofs.Walking.{left, right}
 use Rattle.model.specs.Answers.{is_open}
-use Rattle.table_laws.specs.Instances.{read_with}
-use Rattle.table_laws.specs.Content.{given}
+use Rattle.evaluation.specs.Instances.{read_with}
+use Rattle.evaluation.specs.Content.{given}
 use Rattle.assembly_laws.specs.Declared.{are_terms, are_references, is_declared_view}
 use Rattle.assembly_laws.specs.Asking.{is_rigid}
 use Rattle.assembly_laws.proofs.Reading.{begins, read-append, read-each-asked, read-last-asked, read_reference}

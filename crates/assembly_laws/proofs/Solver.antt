@@ -14,16 +14,16 @@ use Rattle.type_terms.specs.Made.{is_leaf_label, is_made}
 use Rattle.infer_table.specs.declared.canonical.CanonicalVarKind.{CanonicalVarKind}
 use Rattle.infer_table.specs.declared.canonical.CanonicalVarKind.TheVariants.{Ty, PlaceholderTy, Const, PlaceholderConst, Region}
 use Rattle.evaluation.specs.Lists.{Every, SomeOf}
-use Rattle.table_laws.specs.Instances.{read_with}
-use Rattle.table_laws.specs.Content.{given, trait_of}
-use Rattle.table_laws.specs.Frames.{kind_at}
-use Rattle.table_laws.specs.Answers.{is_kind_of}
+use Rattle.evaluation.specs.Instances.{read_with}
+use Rattle.evaluation.specs.Content.{given, trait_of}
+use Rattle.evaluation.specs.FrameTables.{kind_at}
+use Rattle.evaluation.specs.TableAnswers.{is_kind_of}
 use Rattle.assembly_laws.specs.Facts.{reference_in, children_of, trait_or_first}
 use Rattle.assembly_laws.specs.Meaning.{Meaning}
 use Rattle.assembly_laws.specs.Declared.{is_declared_view}
 use Rattle.assembly_laws.specs.Determined.{ImplsAreDetermined}
 use Rattle.assembly_laws.specs.Asking.{all_known, is_rigid, begins_with_type, with_plain_head, next_of, self_of, is_unknown_kind, begins_unknown}
-use Rattle.evaluation_laws.specs.Variables.{is_variable_over}
+use Rattle.evaluation.specs.Variables.{is_variable_over}
 use Rattle.assembly_laws.specs.Candidates.{Candidate, by_unsize, call_of, unsize_array_of, upcasts_of, unsize_struct_of, unsize_known, as_written, misc, unsure, if_so, by_objects, objects_of}
 use Rattle.assembly_laws.specs.Solver.{has_placeholder}
 use Rattle.assembly_laws.specs.Cover.{slots, Gives, goal_fact}

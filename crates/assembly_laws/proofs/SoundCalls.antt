@@ -13,15 +13,15 @@ use Rattle.type_terms.specs.Made.{bounds}
 use Rattle.type_terms.specs.Made.{is_leaf_label, is_made}
 use Rattle.infer_table.specs.Canonical.{CanonicalForm}
 use Rattle.evaluation.specs.Lists.{Every}
-use Rattle.table_laws.specs.Instances.{read_with}
-use Rattle.table_laws.specs.Content.{given, Terms}
-use Rattle.table_laws.specs.Frames.{Meets, is_open_label}
-use Rattle.table_laws.proofs.Labels.{made-more}
+use Rattle.evaluation.specs.Instances.{read_with}
+use Rattle.evaluation.specs.Content.{given, Terms}
+use Rattle.evaluation.specs.FrameTables.{Meets, is_open_label}
+use Rattle.evaluation.proofs.Labels.{made-more}
 use Rattle.assembly_laws.specs.Facts.{is_unerased}
 use Rattle.assembly_laws.specs.Meaning.{Meaning}
 use Rattle.assembly_laws.specs.Declared.{is_declared_view}
 use Rattle.assembly_laws.specs.Asking.{Asked, asked, is_rigid, self_of, with_plain_head}
-use Rattle.evaluation_laws.specs.Variables.{is_variable_over}
+use Rattle.evaluation.specs.Variables.{is_variable_over}
 use Rattle.assembly_laws.specs.Candidates.{all_equal, misc, if_so, call_of, by_sized, by_copy, by_auto, by_tuple, by_fn_ptr, by_call}
 use Rattle.assembly_laws.specs.Cover.{read_reference}
 use Rattle.assembly_laws.specs.Lawful.{IsSoundFor, row_candidates, RowsAreSound}

@@ -12,21 +12,21 @@ use Rattle.infer_table.specs.Canonical.{CanonicalForm, GoalTrees}
 use Rattle.infer_table.specs.declared.canonical.CanonicalVarKind.{CanonicalVarKind}
 use Rattle.evaluation.specs.Lists.{Every, IsAmong}
 use Rattle.evaluation.proofs.ListLaws.{Every-mono}
-use Rattle.table_laws.specs.Instances.{read_with}
-use Rattle.table_laws.specs.Content.{fits, given, Terms, trait_of}
-use Rattle.table_laws.specs.Frames.{FrameTable, Allows, Nested, fact}
+use Rattle.evaluation.specs.Instances.{read_with}
+use Rattle.evaluation.specs.Content.{fits, given, Terms, trait_of}
+use Rattle.evaluation.specs.FrameTables.{FrameTable, Allows, Nested, fact}
 use Rattle.type_terms.proofs.Made.{false-true}
 use Rattle.model.proofs.Walking.{left, right}
-use Rattle.table_laws.specs.Operations.{begin}
-use Rattle.table_laws.specs.Operations.{fresh}
+use Rattle.evaluation.specs.TableOperations.{begin}
+use Rattle.evaluation.specs.TableOperations.{fresh}
 use Rattle.assembly_laws.specs.Facts.{Follows, is_plain, is_unerased, clauses_of, beside}
 use Rattle.assembly_laws.specs.Asking.{Asked, all_known, with_first, are_clauses}
-use Rattle.evaluation_laws.specs.Variables.{is_variable_over}
+use Rattle.evaluation.specs.Variables.{is_variable_over}
 use Rattle.assembly_laws.specs.Candidates.{premise}
 use Rattle.assembly_laws.specs.Cover.{goal_fact, read_reference}
 use Rattle.assembly_laws.proofs.Cover.{IsAsked}
-use Rattle.evaluation_laws.proofs.Readings.{AgreeIn, reads-agree}
-use Rattle.evaluation_laws.proofs.Slots.{own-slots-agree}
+use Rattle.evaluation.proofs.Readings.{AgreeIn, reads-agree}
+use Rattle.evaluation.proofs.Slots.{own-slots-agree}
 use Rattle.assembly_laws.proofs.Determined.{same-fact}
 
 -- kinds that are all known

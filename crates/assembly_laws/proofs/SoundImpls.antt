@@ -13,11 +13,11 @@ use Rattle.model.proofs.Walking.{left, both}
 use Rattle.type_terms.specs.Made.{terms, is_made}
 use Rattle.infer_table.specs.Canonical.{CanonicalForm}
 use Rattle.evaluation.specs.Lists.{Every}
-use Rattle.table_laws.specs.Instances.{read_with}
-use Rattle.table_laws.specs.Content.{fits as fit_values, given, Terms}
-use Rattle.table_laws.specs.Frames.{Allows, Nested, fact, Meets}
-use Rattle.table_laws.specs.Operations.{begin}
-use Rattle.table_laws.specs.Operations.{fresh}
+use Rattle.evaluation.specs.Instances.{read_with}
+use Rattle.evaluation.specs.Content.{fits as fit_values, given, Terms}
+use Rattle.evaluation.specs.FrameTables.{Allows, Nested, fact, Meets}
+use Rattle.evaluation.specs.TableOperations.{begin}
+use Rattle.evaluation.specs.TableOperations.{fresh}
 use Rattle.assembly_laws.specs.Facts.{Follows, is_plain, is_unerased, clauses_of}
 use Rattle.assembly_laws.specs.Meaning.{Meaning}
 use Rattle.assembly_laws.specs.Declared.{is_declared, is_counted, are_terms, is_declared_view, is_unsorted, parameters_are_sorted}

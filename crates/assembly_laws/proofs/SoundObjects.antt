@@ -14,9 +14,9 @@ use Rattle.type_terms.specs.Made.{terms, bounds, is_made}
 use Rattle.infer_table.specs.Canonical.{CanonicalForm}
 use Rattle.evaluation.specs.Lists.{Every, IsAmong}
 use Rattle.evaluation.specs.declared.candidate.CandidateSource.{CandidateSource}
-use Rattle.table_laws.specs.Instances.{read_with}
-use Rattle.table_laws.specs.Content.{given, Terms}
-use Rattle.table_laws.specs.Frames.{Nested, fact, Equation, Meets, is_open_label}
+use Rattle.evaluation.specs.Instances.{read_with}
+use Rattle.evaluation.specs.Content.{given, Terms}
+use Rattle.evaluation.specs.FrameTables.{Nested, fact, Equation, Meets, is_open_label}
 use Rattle.assembly_laws.specs.Facts.{Follows, is_plain, is_unerased, clauses_of, beside}
 use Rattle.declarations.specs.Elaboration.{supertraits, elaborate}
 use Rattle.assembly_laws.specs.Meaning.{Meaning}

@@ -13,11 +13,11 @@ use Rattle.evaluation.specs.Lists.{Every}
 use Rattle.evaluation.specs.declared.candidate.CandidateSource.{CandidateSource}
 use Rattle.evaluation.specs.declared.candidate.CandidateSource.TheVariants.{BuiltinImpl}
 use Rattle.evaluation.specs.declared.candidate.BuiltinImplSource.TheVariants.{Trivial}
-use Rattle.table_laws.specs.Instances.{read_with}
-use Rattle.table_laws.specs.Content.{fits, given, Terms}
-use Rattle.table_laws.specs.Frames.{Allows, Equation, Meets}
-use Rattle.table_laws.specs.Operations.{begin}
-use Rattle.table_laws.specs.Operations.{fresh}
+use Rattle.evaluation.specs.Instances.{read_with}
+use Rattle.evaluation.specs.Content.{fits, given, Terms}
+use Rattle.evaluation.specs.FrameTables.{Allows, Equation, Meets}
+use Rattle.evaluation.specs.TableOperations.{begin}
+use Rattle.evaluation.specs.TableOperations.{fresh}
 use Rattle.assembly_laws.specs.Facts.{is_plain, is_unerased, clauses_of}
 use Rattle.assembly_laws.specs.Meaning.{Meaning}
 use Rattle.assembly_laws.specs.Declared.{is_declared_view}

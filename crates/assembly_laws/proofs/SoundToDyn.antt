@@ -14,23 +14,23 @@ use Rattle.infer_table.specs.Canonical.{CanonicalForm}
 use Rattle.infer_table.specs.declared.canonical.CanonicalVarKind.{CanonicalVarKind}
 use Rattle.infer_table.specs.declared.canonical.CanonicalVarKind.TheVariants.{Ty, PlaceholderTy, Const, PlaceholderConst, Region}
 use Rattle.evaluation.specs.Lists.{Every}
-use Rattle.table_laws.specs.Instances.{read_with, of_sort, is_place, as_place, term_at}
-use Rattle.table_laws.specs.Content.{given, Terms}
-use Rattle.table_laws.specs.Frames.{kind_at, is_open_label}
-use Rattle.table_laws.specs.Answers.{is_kind_of}
-use Rattle.table_laws.specs.Operations.{begin}
-use Rattle.table_laws.specs.Operations.{fresh}
+use Rattle.evaluation.specs.Instances.{read_with, of_sort, is_place, as_place, term_at}
+use Rattle.evaluation.specs.Content.{given, Terms}
+use Rattle.evaluation.specs.FrameTables.{kind_at, is_open_label}
+use Rattle.evaluation.specs.TableAnswers.{is_kind_of}
+use Rattle.evaluation.specs.TableOperations.{begin}
+use Rattle.evaluation.specs.TableOperations.{fresh}
 use Rattle.assembly_laws.specs.Facts.{is_unerased}
 use Rattle.assembly_laws.specs.Meaning.{Meaning}
 use Rattle.assembly_laws.specs.Declared.{is_declared_view}
-use Rattle.evaluation_laws.specs.Variables.{is_variable_over}
+use Rattle.evaluation.specs.Variables.{is_variable_over}
 use Rattle.assembly_laws.specs.Asking.{Asked, asked, is_rigid, self_of, with_plain_head, is_unknown_kind, begins_unknown}
 use Rattle.assembly_laws.specs.Candidates.{as_written, misc, if_so}
 use Rattle.assembly_laws.specs.Cover.{read_reference}
 use Rattle.assembly_laws.specs.Lawful.{IsSoundFor, ToDynIsSound}
 use Rattle.assembly_laws.proofs.Reading.{true-false, begins, append-none}
 use Rattle.assembly_laws.proofs.ByView.{rigid-read, rigid-head}
-use Rattle.evaluation_laws.proofs.Slots.{slot-is}
+use Rattle.evaluation.proofs.Slots.{slot-is}
 use Rattle.assembly_laws.proofs.Unsizing.{map-append, compatible-same, principal-read, autos-read, traits-stay}
 use Rattle.assembly_laws.proofs.CandidateKinds.{every-append}
 use Rattle.assembly_laws.proofs.PlainRules.{Plain, IsPlainReference}

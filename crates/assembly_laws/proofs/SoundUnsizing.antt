@@ -14,9 +14,9 @@ use Rattle.type_terms.specs.Made.{terms}
 use Rattle.type_terms.specs.Made.{is_made}
 use Rattle.infer_table.specs.Canonical.{CanonicalForm}
 use Rattle.evaluation.specs.Lists.{Every}
-use Rattle.table_laws.specs.Instances.{read_with}
-use Rattle.table_laws.specs.Content.{given, Terms}
-use Rattle.table_laws.specs.Frames.{Meets, is_open_label}
+use Rattle.evaluation.specs.Instances.{read_with}
+use Rattle.evaluation.specs.Content.{given, Terms}
+use Rattle.evaluation.specs.FrameTables.{Meets, is_open_label}
 use Rattle.assembly_laws.specs.Facts.{is_unerased}
 use Rattle.assembly_laws.specs.Meaning.{Meaning}
 use Rattle.assembly_laws.specs.Declared.{are_terms, is_declared_view}

@@ -13,9 +13,9 @@ use Rattle.type_terms.specs.Made.{terms, bounds, is_made}
 use Rattle.infer_table.specs.Canonical.{CanonicalForm}
 use Rattle.evaluation.specs.Lists.{Every}
 use Rattle.evaluation.specs.declared.candidate.CandidateSource.{CandidateSource}
-use Rattle.table_laws.specs.Instances.{read_with}
-use Rattle.table_laws.specs.Content.{given, Terms}
-use Rattle.table_laws.specs.Frames.{Equation, Meets, is_open_label}
+use Rattle.evaluation.specs.Instances.{read_with}
+use Rattle.evaluation.specs.Content.{given, Terms}
+use Rattle.evaluation.specs.FrameTables.{Equation, Meets, is_open_label}
 use Rattle.assembly_laws.specs.Facts.{is_unerased}
 use Rattle.declarations.specs.Elaboration.{supertraits, elaborate}
 use Rattle.assembly_laws.specs.Meaning.{Meaning}

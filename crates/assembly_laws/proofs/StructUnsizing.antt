@@ -14,8 +14,8 @@ use Rattle.model.proofs.NoHolds.{member-each}
 use Rattle.model.proofs.OpenWorld.{was-true}
 use Rattle.model.proofs.Walking.{left, right}
 use Rattle.evaluation.specs.Lists.{Every, SomeOf}
-use Rattle.table_laws.specs.Instances.{read_with}
-use Rattle.table_laws.specs.Content.{Values, given}
+use Rattle.evaluation.specs.Instances.{read_with}
+use Rattle.evaluation.specs.Content.{Values, given}
 use Rattle.assembly_laws.specs.Declared.{are_terms, are_references, is_declared_view}
 use Rattle.assembly_laws.specs.Asking.{Asked}
 use Rattle.assembly_laws.specs.Candidates.{Candidate, by_rule, all_equal, misc, if_so, unsize_by_struct, unsize_struct_of}

@@ -13,8 +13,8 @@ use Rattle.model.proofs.Members.{here, there, in-nothing, in-cases, in-flat, fla
 use Rattle.model.proofs.Entries.{map-in}
 use Rattle.model.proofs.Fitting.{head-shut, child-shut, next-shut, append-shut, or-no}
 use Rattle.evaluation.specs.Lists.{Every}
-use Rattle.table_laws.specs.Instances.{read_with}
-use Rattle.table_laws.specs.Content.{given}
+use Rattle.evaluation.specs.Instances.{read_with}
+use Rattle.evaluation.specs.Content.{given}
 use Rattle.assembly_laws.specs.Declared.{is_declared_view}
 use Rattle.assembly_laws.proofs.HavingViews.{ProvesBy}
 use Rattle.assembly_laws.proofs.DeclaredParts.{bound-declared}

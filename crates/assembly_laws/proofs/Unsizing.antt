@@ -10,8 +10,8 @@ use Rattle.type_terms.specs.Made.{terms}
 use Rattle.type_terms.specs.Made.{bounds}
 use Rattle.type_terms.specs.Made.{traits}
 use Rattle.type_terms.specs.Made.{is_made}
-use Rattle.table_laws.specs.Instances.{read_with}
-use Rattle.table_laws.specs.Content.{given}
+use Rattle.evaluation.specs.Instances.{read_with}
+use Rattle.evaluation.specs.Content.{given}
 use Rattle.assembly_laws.specs.Declared.{is_declared_view}
 use Rattle.assembly_laws.proofs.Reading.{true-false, read-append, read_reference}
 use Rattle.assembly_laws.proofs.Rows.{read_rule}

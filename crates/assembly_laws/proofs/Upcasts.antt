@@ -15,8 +15,8 @@ use Rattle.model.proofs.Walking.{left, right}
 use Rattle.type_terms.specs.Made.{bounds}
 use Rattle.type_terms.specs.Made.{is_made}
 use Rattle.evaluation.specs.Lists.{SomeOf}
-use Rattle.table_laws.specs.Instances.{read_with}
-use Rattle.table_laws.specs.Content.{Values, given}
+use Rattle.evaluation.specs.Instances.{read_with}
+use Rattle.evaluation.specs.Content.{Values, given}
 use Rattle.assembly_laws.specs.Declared.{is_declared_view}
 use Rattle.declarations.specs.Elaboration.{supertraits}
 use Rattle.assembly_laws.specs.Asking.{Asked}

@@ -9,7 +9,7 @@ use Rattle.infer_table.specs.declared.canonical.CanonicalVarKind.TheVariants.{Ty
 use Rattle.evaluation.specs.declared.candidate.CandidateSource.{CandidateSource}
 use Rattle.evaluation.specs.declared.candidate.CandidateSource.TheVariants.{BuiltinImpl}
 use Rattle.evaluation.specs.declared.candidate.BuiltinImplSource.TheVariants.{Misc, Object, TraitUpcasting}
-use Rattle.table_laws.specs.Frames.{Nested}
+use Rattle.evaluation.specs.FrameTables.{Nested}
 use Rattle.assembly_laws.specs.Facts.{tree_of_reference}
 use Rattle.assembly_laws.specs.Asking.{Asked}
 use Rattle.assembly_laws.specs.Candidates.{Candidate, by_unsize, by_objects}

@@ -12,17 +12,17 @@ use Rattle.infer_table.specs.declared.certainty.TypingMode.TheVariants.{Coherenc
 use Rattle.infer_table.proofs.SolutionLaws.{resolved-none}
 use Rattle.infer_table.specs.Responses.{AnswerTrees}
 use Rattle.evaluation.specs.Lists.{Every}
-use Rattle.table_laws.specs.Instances.{put_in}
-use Rattle.table_laws.specs.Content.{Question}
-use Rattle.table_laws.specs.Frames.{kinds_known, good_in, FrameTable, IsMadeFrame, Nested, slot_at, goal_in}
+use Rattle.evaluation.specs.Instances.{put_in}
+use Rattle.evaluation.specs.Content.{Question}
+use Rattle.evaluation.specs.FrameTables.{kinds_known, good_in, FrameTable, IsMadeFrame, Nested, slot_at, goal_in}
 use Rattle.type_terms.proofs.Made.{false-true}
 use Rattle.model.proofs.Walking.{left}
-use Rattle.table_laws.specs.Operations.{begin, with_content}
-use Rattle.table_laws.proofs.Beginning.{begin-made}
-use Rattle.table_laws.proofs.Equating.{with-content-is}
-use Rattle.table_laws.proofs.Applying.{AreTheirs, goal-leaves}
-use Rattle.evaluation_laws.specs.Tables.{frame_tables}
-use Rattle.evaluation_laws.proofs.Laws.{tables_are_lawful}
+use Rattle.evaluation.specs.TableOperations.{begin, with_content}
+use Rattle.evaluation.proofs.TableBeginning.{begin-made}
+use Rattle.evaluation.proofs.Equating.{with-content-is}
+use Rattle.evaluation.proofs.Applying.{AreTheirs, goal-leaves}
+use Rattle.evaluation.specs.Tables.{frame_tables}
+use Rattle.evaluation.proofs.FrameTableLaws.{tables_are_lawful}
 use Rattle.evaluation.proofs.Kept.{AreKept, AreSo, questions_so, made_kept}
 use Rattle.evaluation.specs.Plans.{Plan, each_of, first_alone, after}
 use Rattle.declarations.specs.Elaboration.{supertraits}
@@ -35,7 +35,7 @@ use Rattle.assembly_laws.specs.Cover.{all_candidates}
 use Rattle.assembly_laws.specs.Worlds.{KeepWorlds}
 use Rattle.assembly_laws.proofs.Cover.{asked-by}
 use Rattle.assembly_laws.proofs.Filled.{no-placeholder}
-use Rattle.evaluation_laws.proofs.Unplaced.{place-kind}
+use Rattle.evaluation.proofs.Unplaced.{place-kind}
 use Rattle.assembly_laws.proofs.Rowwise.{AreRows, all-so}
 use Rattle.assembly_laws.proofs.Considering.{ConsidersOnly, after-only, wanted-only, each-only, first-only}
 

@@ -10,8 +10,8 @@ use Rattle.type_terms.specs.Made.{is_made}
 use Rattle.infer_table.specs.Canonical.{CanonicalForm}
 use Rattle.infer_table.specs.declared.canonical.CanonicalVarKind.{CanonicalVarKind}
 use Rattle.infer_table.specs.declared.canonical.CanonicalVarKind.TheVariants.{Ty}
-use Rattle.table_laws.specs.Frames.{kind_at}
-use Rattle.evaluation_laws.specs.Variables.{is_variable_over}
+use Rattle.evaluation.specs.FrameTables.{kind_at}
+use Rattle.evaluation.specs.Variables.{is_variable_over}
 use Rattle.assembly_laws.specs.Facts.{clauses_of}
 
 -- a goal over variables of these kinds

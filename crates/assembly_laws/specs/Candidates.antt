@@ -19,9 +19,9 @@ use Rattle.evaluation.specs.declared.candidate.ParamEnvSource.{ParamEnvSource}
 use Rattle.evaluation.specs.declared.candidate.ParamEnvSource.TheVariants.{Global, NonGlobal}
 use Rattle.evaluation.specs.Table.{workings}
 use Rattle.evaluation.specs.Candidate.{Spec}
-use Rattle.table_laws.specs.Instances.{put_in}
-use Rattle.table_laws.specs.Frames.{Nested, Equation}
-use Rattle.evaluation_laws.specs.Tables.{frame_tables}
+use Rattle.evaluation.specs.Instances.{put_in}
+use Rattle.evaluation.specs.FrameTables.{Nested, Equation}
+use Rattle.evaluation.specs.Tables.{frame_tables}
 use Rattle.std.proofs.Math.Nat.{min-le_right}
 use Rattle.type_terms.specs.declared.ImplId.{ImplId}
 use Rattle.type_terms.specs.declared.TheConstants.{MAX_INDEX}

@@ -11,11 +11,11 @@ use Rattle.infer_table.specs.Canonical.{CanonicalForm}
 use Rattle.infer_table.specs.declared.canonical.CanonicalVarKind.{CanonicalVarKind}
 use Rattle.evaluation.specs.Lists.{Every, SomeOf}
 use Rattle.evaluation.specs.Law.{Realizes}
-use Rattle.table_laws.specs.Instances.{read_with, goal_read, first_term, other_terms}
-use Rattle.table_laws.specs.Content.{Values, Fact, fits, given, trait_of, fact_of}
-use Rattle.table_laws.specs.Frames.{Nested, Equation, term_of, is_open_label}
-use Rattle.table_laws.specs.Operations.{begin}
-use Rattle.evaluation_laws.specs.Tables.{frame_tables}
+use Rattle.evaluation.specs.Instances.{read_with, goal_read, first_term, other_terms}
+use Rattle.evaluation.specs.Content.{Values, Fact, fits, given, trait_of, fact_of}
+use Rattle.evaluation.specs.FrameTables.{Nested, Equation, term_of, is_open_label}
+use Rattle.evaluation.specs.TableOperations.{begin}
+use Rattle.evaluation.specs.Tables.{frame_tables}
 use Rattle.assembly_laws.specs.Slots.{as_slots, with_slots}
 use Rattle.declarations.specs.Elaboration.{elaborate}
 use Rattle.assembly_laws.specs.Meaning.{Meaning, LinkedWith, proved_in}

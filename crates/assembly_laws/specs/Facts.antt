@@ -8,7 +8,7 @@ use Rattle.model.specs.Proofs.{In}
 use Rattle.model.specs.Proofs as Model
 use Rattle.evaluation.specs.Lists.{Every, IsAmong}
 use Rattle.evaluation.specs.Proof.{HasProof}
-use Rattle.table_laws.specs.Content.{Fact}
+use Rattle.evaluation.specs.Content.{Fact}
 
 -- ---- references and where-clauses as trees, and back
 abbrev pub tree_of_reference : Reference → Trees → Trees

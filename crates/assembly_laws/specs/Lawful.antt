@@ -8,11 +8,11 @@ use Rattle.infer_table.specs.Responses.{AnswerTrees}
 use Rattle.evaluation.specs.Lists.{Every}
 use Rattle.evaluation.specs.Handler.{IsHandler}
 use Rattle.infer_table.specs.declared.certainty.Certainty.TheVariants.{Yes}
-use Rattle.table_laws.specs.Content.{Terms}
-use Rattle.table_laws.specs.Frames.{Allows, Meets, fact}
-use Rattle.table_laws.specs.Operations.{begin}
-use Rattle.table_laws.specs.Operations.{fresh}
-use Rattle.evaluation_laws.specs.Tables.{frame_tables}
+use Rattle.evaluation.specs.Content.{Terms}
+use Rattle.evaluation.specs.FrameTables.{Allows, Meets, fact}
+use Rattle.evaluation.specs.TableOperations.{begin}
+use Rattle.evaluation.specs.TableOperations.{fresh}
+use Rattle.evaluation.specs.Tables.{frame_tables}
 use Rattle.evaluation.specs.Handler.{IsLawful}
 use Rattle.evaluation.specs.Merge.{IsTest, TellsApart}
 use Rattle.assembly_laws.specs.Meaning.{Meaning}

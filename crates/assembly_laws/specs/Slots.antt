@@ -4,8 +4,8 @@ use Rattle.model.specs.Label.{of_type, of_const, static}
 use Rattle.model.specs.Trees.{Trees, leaf}
 use Rattle.infer_table.specs.declared.canonical.CanonicalVarKind.{CanonicalVarKind}
 use Rattle.infer_table.specs.declared.canonical.CanonicalVarKind.TheVariants.{Ty, PlaceholderTy, Const, PlaceholderConst, Region}
-use Rattle.table_laws.specs.Instances.{of_sort, as_place, first_term, other_terms}
-use Rattle.table_laws.specs.Content.{Values}
+use Rattle.evaluation.specs.Instances.{of_sort, as_place, first_term, other_terms}
+use Rattle.evaluation.specs.Content.{Values}
 
 -- a term of the variable's sort; lifetimes are `'static`
 abbrev pub own_slot : CanonicalVarKind → Trees → Trees

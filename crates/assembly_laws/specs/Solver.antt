@@ -18,12 +18,12 @@ use Rattle.evaluation.specs.declared.candidate.ParamEnvSource.TheVariants.{Globa
 use Rattle.evaluation.specs.Table.{workings}
 use Rattle.evaluation.specs.Candidate.{Considered}
 use Rattle.evaluation.specs.Handler.{Handled}
-use Rattle.table_laws.specs.Content.{Fact, fact_of, trait_of}
-use Rattle.table_laws.specs.Frames.{kinds_known, FrameTable}
-use Rattle.table_laws.specs.Answers.{has_values}
-use Rattle.table_laws.specs.Widths.{width, count, number_of}
-use Rattle.table_laws.specs.Operations.{begin}
-use Rattle.evaluation_laws.specs.Tables.{frame_tables}
+use Rattle.evaluation.specs.Content.{Fact, fact_of, trait_of}
+use Rattle.evaluation.specs.FrameTables.{kinds_known, FrameTable}
+use Rattle.evaluation.specs.TableAnswers.{has_values}
+use Rattle.evaluation.specs.Widths.{width, count, number_of}
+use Rattle.evaluation.specs.TableOperations.{begin}
+use Rattle.evaluation.specs.Tables.{frame_tables}
 use Rattle.evaluation.specs.Plans.{Plan, Planned, planned, each_of, first_alone}
 use Rattle.evaluation.specs.PlanAnswers.{all_merged, kept_merged, first_taken}
 use Rattle.assembly_laws.specs.Facts.{FollowsByView, is_coinductive_trait, reference_in, beside}

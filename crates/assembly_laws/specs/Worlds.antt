@@ -6,8 +6,8 @@ use Rattle.infer_table.specs.Responses.{AnswerTrees}
 use Rattle.evaluation.specs.Handler.{Handled}
 use Rattle.evaluation.specs.History.{evaluate, asks, CameInOrder}
 use Rattle.evaluation.specs.Promises.{frame_of_goal, Anything, History}
-use Rattle.table_laws.specs.Content.{Fact, Question}
-use Rattle.evaluation_laws.specs.Tables.{frame_tables}
+use Rattle.evaluation.specs.Content.{Fact, Question}
+use Rattle.evaluation.specs.Tables.{frame_tables}
 use Rattle.assembly_laws.specs.Meaning.{Meaning}
 use Rattle.assembly_laws.specs.Solver.{solver_handled}
 

@@ -27,7 +27,7 @@ use Rattle.declarations.specs.Applied.{sort_of_param, sorts_of, SpeaksOf, refere
 use Rattle.declarations.specs.Items.{reference_in}
 use Rattle.declarations.specs.Merges.{Each}
 use Rattle.term_folds.specs.declared.predicate.TraitRef.{TraitRef}
-use Rattle.table_laws.specs.Instances.{put_in}
+use Rattle.evaluation.specs.Instances.{put_in}
 use Rattle.assembly_laws.specs.Candidates.{moved, behind, impl_id}
 use Rattle.candidate_assembly.specs.Headers.{var_kind}
 

@@ -8,7 +8,7 @@ use Rattle.evaluation.specs.declared.candidate.CandidateSource.{CandidateSource}
 use Rattle.evaluation.specs.declared.candidate.Considered as InCode
 use Rattle.evaluation.specs.Candidate.{Considered}
 use Rattle.evaluation.specs.Table.{workings}
-use Rattle.evaluation_laws.specs.Tables.{frame_tables}
+use Rattle.evaluation.specs.Tables.{frame_tables}
 use Rattle.goal_frames.specs.Readings.{Shown, shown, shown_by}
 use Rattle.assembly_laws.specs.Solver.{Past, from}
 use Rattle.candidate_assembly.specs.Counted.{count_from, last_from, ForEachPast}

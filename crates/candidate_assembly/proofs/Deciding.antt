@@ -13,7 +13,7 @@ use Rattle.infer_table.specs.declared.canonical.CanonicalVarKind.{CanonicalVarKi
 use Rattle.infer_table.specs.declared.input.CanonicalInput.{CanonicalInput}
 use Rattle.infer_table.specs.Goals.{environment_trees, predicate_trees}
 use Rattle.infer_table.specs.Inputs.{form_of}
-use Rattle.evaluation_laws.specs.Variables.{is_variable_over}
+use Rattle.evaluation.specs.Variables.{is_variable_over}
 use Rattle.declarations.specs.Items.{Items, reference_in, written}
 use Rattle.assembly_laws.specs.Asking.{Asked, asked, asked_if, asked_with, all_known, with_first, are_clauses, begins_with_type, begins_unknown, next_of, self_of}
 use Rattle.assembly_laws.specs.DeclaredWell.{is_declared_well}

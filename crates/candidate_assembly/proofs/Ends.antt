@@ -18,10 +18,10 @@ use Rattle.evaluation.specs.PlanAnswers.{kept_merged, first_passing, taken_or_me
 use Rattle.evaluation.specs.Plans.{Plan, wanted}
 use Rattle.evaluation.specs.Responses.{is_identity_modulo_regions}
 use Rattle.evaluation.specs.Table.{workings}
-use Rattle.table_laws.specs.Answers.{IsWellFormed}
-use Rattle.table_laws.specs.Operations.{begin}
-use Rattle.evaluation_laws.specs.Tables.{frame_tables}
-use Rattle.evaluation_laws.proofs.Filling.{same-values}
+use Rattle.evaluation.specs.TableAnswers.{IsWellFormed}
+use Rattle.evaluation.specs.TableOperations.{begin}
+use Rattle.evaluation.specs.Tables.{frame_tables}
+use Rattle.evaluation.proofs.Filling.{same-values}
 use Rattle.goal_frames.specs.Fitting.{ResultFits, ConsideredFits}
 use Rattle.goal_frames.specs.Handlers.{same_answer, applies_always}
 use Rattle.goal_frames.specs.Merges.{responses_of, merge_of}

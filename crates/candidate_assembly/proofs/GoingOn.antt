@@ -14,8 +14,8 @@ use Rattle.evaluation.specs.Candidate.{Next, consider, IsHistory}
 use Rattle.evaluation.specs.Merge.{or_else}
 use Rattle.evaluation.specs.Plans.{wanted}
 use Rattle.evaluation.specs.Table.{workings}
-use Rattle.table_laws.specs.Frames.{kinds_known}
-use Rattle.evaluation_laws.specs.Tables.{frame_tables}
+use Rattle.evaluation.specs.FrameTables.{kinds_known}
+use Rattle.evaluation.specs.Tables.{frame_tables}
 use Rattle.goal_frames.specs.Handlers.{same_answer, applies_always}
 use Rattle.declarations.specs.Items.{Items, written}
 use Rattle.declarations.specs.Merges.{Rises}

@@ -11,9 +11,9 @@ use Rattle.evaluation.specs.Merge.{or_else}
 use Rattle.evaluation.specs.Plans.{Plan, answers, told, after, wanted, came, each_of, first_alone}
 use Rattle.evaluation.specs.PlanAnswers.{kept_merged, first_passing, taken_or_merged, first_taken}
 use Rattle.evaluation.specs.Table.{workings}
-use Rattle.table_laws.specs.Frames.{kinds_known}
-use Rattle.table_laws.specs.Operations.{begin}
-use Rattle.evaluation_laws.specs.Tables.{frame_tables}
+use Rattle.evaluation.specs.FrameTables.{kinds_known}
+use Rattle.evaluation.specs.TableOperations.{begin}
+use Rattle.evaluation.specs.Tables.{frame_tables}
 use Rattle.goal_frames.specs.Handlers.{same_answer, applies_always}
 use Rattle.assembly_laws.specs.Meaning.{Meaning}
 use Rattle.assembly_laws.specs.Knowing.{is_knowable}

@@ -11,14 +11,14 @@ use Rattle.infer_table.specs.declared.canonical.CanonicalVarKind.{CanonicalVarKi
 use Rattle.infer_table.specs.declared.canonical.CanonicalVarKind.TheVariants.{Ty, PlaceholderTy, Const, PlaceholderConst, Region}
 use Rattle.infer_table.specs.Applying.{table_after}
 use Rattle.evaluation.specs.Lists.{Every}
-use Rattle.table_laws.specs.Answers.{is_kind_of}
-use Rattle.table_laws.specs.Frames.{kind_at, labels_from, first_content, labels_for, Equation}
-use Rattle.table_laws.specs.Instances.{put_in}
-use Rattle.table_laws.proofs.Labels.{IsGoodLabel, made-labels}
-use Rattle.table_laws.proofs.Reading.{EachLabel}
-use Rattle.evaluation_laws.specs.Fitting.{is_of_sort, is_slot, AreOver}
-use Rattle.evaluation_laws.specs.Variables.{is_variable_over}
-use Rattle.evaluation_laws.proofs.Readings.{HasLeaves, made-leaves}
+use Rattle.evaluation.specs.TableAnswers.{is_kind_of}
+use Rattle.evaluation.specs.FrameTables.{kind_at, labels_from, first_content, labels_for, Equation}
+use Rattle.evaluation.specs.Instances.{put_in}
+use Rattle.evaluation.proofs.Labels.{IsGoodLabel, made-labels}
+use Rattle.evaluation.proofs.Reading.{EachLabel}
+use Rattle.evaluation.specs.Fitting.{is_of_sort, is_slot, AreOver}
+use Rattle.evaluation.specs.Variables.{is_variable_over}
+use Rattle.evaluation.proofs.Readings.{HasLeaves, made-leaves}
 use Rattle.goal_frames.specs.RuleFitting.{slots_of}
 use Rattle.assembly_laws.specs.Asking.{with_plain_head}
 use Rattle.assembly_laws.specs.Candidates.{all_equal, moved, is_param}

@@ -20,11 +20,11 @@ use Rattle.evaluation.specs.declared.candidate.CandidateSource.TheVariants.{Buil
 use Rattle.evaluation.specs.declared.candidate.BuiltinImplSource.TheVariants.{Trivial}
 use Rattle.evaluation.specs.Lists.{Every}
 use Rattle.evaluation.proofs.ListLaws.{Every-both, Every-map}
-use Rattle.table_laws.specs.Answers.{is_kind_of}
-use Rattle.table_laws.specs.Frames.{Nested, Equation, kind_at, term_of, is_open_label}
-use Rattle.table_laws.specs.Instances.{default_label}
-use Rattle.evaluation_laws.specs.Fitting.{is_of_sort, AreOver, IsGoalOver, IsValueOver}
-use Rattle.evaluation_laws.specs.Variables.{is_variable_over}
+use Rattle.evaluation.specs.TableAnswers.{is_kind_of}
+use Rattle.evaluation.specs.FrameTables.{Nested, Equation, kind_at, term_of, is_open_label}
+use Rattle.evaluation.specs.Instances.{default_label}
+use Rattle.evaluation.specs.Fitting.{is_of_sort, AreOver, IsGoalOver, IsValueOver}
+use Rattle.evaluation.specs.Variables.{is_variable_over}
 use Rattle.goal_frames.specs.RuleFitting.{slots_of, IsOverSlots}
 use Rattle.declarations.specs.Elaboration.{elaborate, supertraits}
 use Rattle.assembly_laws.specs.Asking.{Asked, clauses, self_of, next_of, begins_unknown, all_known, are_clauses, asked}

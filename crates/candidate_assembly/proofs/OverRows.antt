@@ -8,7 +8,7 @@ use Rattle.model.specs.Proofs.{In}
 use Rattle.model.proofs.Members.{in-filter}
 use Rattle.type_terms.proofs.Made.{false-true}
 use Rattle.evaluation.specs.Lists.{Every}
-use Rattle.evaluation_laws.specs.Fitting.{AreOver}
+use Rattle.evaluation.specs.Fitting.{AreOver}
 use Rattle.declarations.specs.Elaboration.{elaborate, supertraits}
 use Rattle.assembly_laws.proofs.Elaborating.{every-flat, elaborated-so, supertraits-so}
 use Rattle.assembly_laws.proofs.Rowwise.{both-lists}

@@ -14,7 +14,7 @@ use Rattle.infer_table.specs.declared.terms.Equation as Code
 use Rattle.infer_table.specs.Values.{Value, value_of, sort_of_arg}
 use Rattle.evaluation.specs.Lists.{Every}
 use Rattle.evaluation.specs.Readings.{EquationHeld}
-use Rattle.table_laws.specs.Frames.{Equation}
+use Rattle.evaluation.specs.FrameTables.{Equation}
 use Rattle.goal_frames.specs.Readings.{equation_read}
 use Rattle.assembly_laws.specs.Candidates.{all_equal, never_met, first_value}
 use Rattle.candidate_assembly.specs.Equations.{ArePaired}

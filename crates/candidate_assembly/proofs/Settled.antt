@@ -14,8 +14,8 @@ use Rattle.infer_table.specs.declared.terms.RegionConstraint.{RegionConstraint}
 use Rattle.infer_table.proofs.Values.{cut-at}
 use Rattle.evaluation.specs.declared.candidate.Considered as InCode
 use Rattle.evaluation.specs.Responses.{is_identity_modulo_regions}
-use Rattle.table_laws.specs.Answers.{has_values, IsWellFormed}
-use Rattle.evaluation_laws.proofs.Filling.{same-values}
+use Rattle.evaluation.specs.TableAnswers.{has_values, IsWellFormed}
+use Rattle.evaluation.proofs.Filling.{same-values}
 use Rattle.goal_frames.specs.Readings.{Shown, shown, shown_by, Shows}
 use Rattle.assembly_laws.specs.Solver.{Past, is_non_global, says_nothing, is_settled}
 

@@ -13,8 +13,8 @@ use Rattle.evaluation.specs.Candidate.{Considered}
 use Rattle.evaluation.specs.Merge.{or_else, if_there, responses}
 use Rattle.evaluation.specs.PlanAnswers.{if_so, numbers_but, passes, first_passing}
 use Rattle.evaluation.specs.Table.{workings}
-use Rattle.table_laws.specs.Frames.{FrameTable}
-use Rattle.evaluation_laws.specs.Tables.{frame_tables}
+use Rattle.evaluation.specs.FrameTables.{FrameTable}
+use Rattle.evaluation.specs.Tables.{frame_tables}
 use Rattle.goal_frames.specs.Handlers.{same_answer, applies_always}
 use Rattle.goal_frames.specs.Merges.{responses_of}
 use Rattle.goal_frames.specs.Readings.{Shown, Shows, shown, shown_by, result_read}

@@ -21,10 +21,10 @@ use Rattle.evaluation.specs.Lists.{Every}
 use Rattle.evaluation.specs.Merge.{or_else}
 use Rattle.evaluation.specs.Plans.{Plan, wanted}
 use Rattle.evaluation.specs.Table.{workings}
-use Rattle.table_laws.specs.Frames.{kinds_known, Nested, Equation}
-use Rattle.evaluation_laws.specs.Fitting.{AreOver, IsGoalOver, IsValueOver}
-use Rattle.evaluation_laws.specs.Tables.{frame_tables}
-use Rattle.evaluation_laws.specs.Variables.{is_variable_over}
+use Rattle.evaluation.specs.FrameTables.{kinds_known, Nested, Equation}
+use Rattle.evaluation.specs.Fitting.{AreOver, IsGoalOver, IsValueOver}
+use Rattle.evaluation.specs.Tables.{frame_tables}
+use Rattle.evaluation.specs.Variables.{is_variable_over}
 use Rattle.goal_frames.specs.Fitting.{IsOver}
 use Rattle.goal_frames.specs.Readings.{equation_read, nested_read, spec_read}
 use Rattle.goal_frames.specs.RuleFitting.{slots_of, IsOverSlots}

@@ -12,7 +12,7 @@ use Rattle.term_folds.specs.Signatures.{StartsWithType}
 use Rattle.evaluation.specs.declared.candidate.CandidateSpec.{CandidateSpec}
 use Rattle.declarations.specs.Items.{Items}
 use Rattle.infer_table.specs.declared.canonical.CanonicalVarKind.{CanonicalVarKind}
-use Rattle.table_laws.specs.Frames.{kind_at}
+use Rattle.evaluation.specs.FrameTables.{kind_at}
 use Rattle.assembly_laws.specs.Asking.{Asked, self_of, next_of, with_plain_head, begins_unknown}
 use Rattle.assembly_laws.specs.Candidates.{Candidate, as_written, misc, if_so, unsure, unsize_array_of, upcasts_of, unsize_struct_of, unsize_known, by_unsize}
 use Rattle.candidate_assembly.specs.Goals.{candidate_of}

@@ -4,7 +4,7 @@ use Rattle.model.specs.Label.{Label, Sort, of_type, array, slice}
 use Rattle.model.specs.Trees.{Trees, none, tree, ◌+++◌, IsA}
 use Rattle.model.specs.Worlds.{World}
 use Rattle.infer_table.specs.Values.{Value}
-use Rattle.table_laws.specs.Frames.{Equation}
+use Rattle.evaluation.specs.FrameTables.{Equation}
 use Rattle.assembly_laws.specs.Asking.{Asked}
 use Rattle.assembly_laws.specs.Candidates.{Candidate, by_rule, misc, all_equal, first_value, unsize_array_of}
 use Rattle.candidate_assembly.specs.Unsizing.{array_element_of, slice_element_of}

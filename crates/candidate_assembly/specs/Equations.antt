@@ -6,7 +6,7 @@ use Rattle.type_terms.specs.declared.kinds.GenericArgKind.{GenericArgKind}
 use Rattle.infer_table.specs.declared.terms.Equation as Code
 use Rattle.evaluation.specs.Lists.{Every}
 use Rattle.evaluation.specs.Readings.{EquationHeld}
-use Rattle.table_laws.specs.Frames.{Equation}
+use Rattle.evaluation.specs.FrameTables.{Equation}
 use Rattle.goal_frames.specs.Readings.{equation_read}
 use Rattle.assembly_laws.specs.Candidates.{all_equal, never_met}
 

@@ -7,7 +7,7 @@ use Rattle.model.specs.Answers.{is_undeclared}
 use Rattle.term_folds.specs.Folds.{IsBound}
 use Rattle.term_folds.specs.declared.visit.Seen.TheVariants.{Enter}
 use Rattle.infer_table.specs.declared.canonical.CanonicalVarKind.{CanonicalVarKind}
-use Rattle.evaluation_laws.specs.Variables.{is_variable_over}
+use Rattle.evaluation.specs.Variables.{is_variable_over}
 use Rattle.candidate_assembly.specs.Clauses.{BreaksAt}
 
 -- The label of the first tree passes the test.

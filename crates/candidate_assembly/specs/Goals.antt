@@ -9,7 +9,7 @@ use Rattle.infer_table.specs.Goals.{GoalHeld, environment_trees}
 use Rattle.evaluation.specs.declared.candidate.CandidateSpec.{CandidateSpec}
 use Rattle.evaluation.specs.declared.goal.GoalSource.{GoalSource}
 use Rattle.evaluation.specs.Lists.{Every}
-use Rattle.table_laws.specs.Frames.{Nested}
+use Rattle.evaluation.specs.FrameTables.{Nested}
 use Rattle.goal_frames.specs.Readings.{nested_read, spec_read}
 use Rattle.declarations.specs.Items.{reference_in}
 use Rattle.assembly_laws.specs.Asking.{Asked}

@@ -10,8 +10,8 @@ use Rattle.evaluation.specs.declared.candidate.HandlerStep.{HandlerStep}
 use Rattle.evaluation.specs.Candidate.{answer}
 use Rattle.evaluation.specs.Plans.{Plan, wanted}
 use Rattle.evaluation.specs.PlanAnswers.{first_taken}
-use Rattle.table_laws.specs.Operations.{begin}
-use Rattle.evaluation_laws.specs.Tables.{frame_tables}
+use Rattle.evaluation.specs.TableOperations.{begin}
+use Rattle.evaluation.specs.Tables.{frame_tables}
 use Rattle.goal_frames.specs.Handlers.{same_answer, applies_always}
 use Rattle.goal_frames.specs.Merges.{responses_of, merge_of}
 use Rattle.goal_frames.specs.Readings.{next_read, Shows, shown_by}

@@ -7,8 +7,8 @@ use Rattle.infer_table.specs.Canonical.{CanonicalForm}
 use Rattle.infer_table.specs.declared.certainty.TypingMode.{TypingMode}
 use Rattle.infer_table.specs.declared.certainty.TypingMode.TheVariants.{Coherence, PostAnalysis}
 use Rattle.evaluation.specs.Handler.{IsHandler}
-use Rattle.table_laws.specs.Widths.{number_of}
-use Rattle.evaluation_laws.specs.Tables.{frame_tables}
+use Rattle.evaluation.specs.Widths.{number_of}
+use Rattle.evaluation.specs.Tables.{frame_tables}
 use Rattle.goal_frames.specs.Handlers.{same_answer, applies_always}
 use Rattle.goal_frames.specs.HandlerPrograms.{KeepNumbers, KeepWorlds, LookInCoherenceOnly, InstancesAreGoals, KindsAreOf, RulesAreOf}
 use Rattle.goal_frames.proofs.Same.{answers-are, applies-to-yeses}

@@ -4,8 +4,8 @@ use Rattle.model.specs.Worlds.{World}
 use Rattle.infer_table.specs.Canonical.{CanonicalForm}
 use Rattle.infer_table.specs.declared.certainty.TypingMode.{TypingMode}
 use Rattle.evaluation.specs.Handler.{Handled}
-use Rattle.table_laws.specs.Content.{Fact}
-use Rattle.evaluation_laws.specs.Tables.{frame_tables}
+use Rattle.evaluation.specs.Content.{Fact}
+use Rattle.evaluation.specs.Tables.{frame_tables}
 use Rattle.goal_frames.specs.Handlers.{same_answer, applies_always}
 use Rattle.assembly_laws.specs.Facts.{is_coinductive_fact}
 use Rattle.assembly_laws.specs.Meaning.{Meaning}

@@ -13,7 +13,7 @@ ghost use Rattle.term_folds.specs.Clauses.{ClauseHeld};
 ghost use Rattle.infer_table.specs.Goals.{GoalHeld, ClausesHeld, clause_terms, environment_trees};
 ghost use Rattle.infer_table.specs.Inputs.{form_of};
 ghost use Rattle.infer_table.specs.Values.{sort_of_arg};
-ghost use Rattle.evaluation_laws.specs.Variables.{is_variable_over};
+ghost use Rattle.evaluation.specs.Variables.{is_variable_over};
 ghost use Rattle.declarations.specs.Items.{reference_in, written};
 ghost use Rattle.declarations.specs.Applied.{sort_of_param, sorts_of};
 ghost use Rattle.declarations.specs.Held.{ReferenceHeld};

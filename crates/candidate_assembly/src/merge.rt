@@ -9,7 +9,7 @@ ghost use Rattle.infer_table.specs.declared.certainty.TypingMode.TheVariants.{Po
 ghost use Rattle.infer_table.specs.Responses.{ResponseHeld, answer_trees};
 ghost use Rattle.evaluation.specs.Readings.{ConsideredHeld, StepHeld};
 ghost use Rattle.evaluation.specs.Responses.{content};
-ghost use Rattle.table_laws.specs.Answers.{IsWellFormed};
+ghost use Rattle.evaluation.specs.TableAnswers.{IsWellFormed};
 ghost use Rattle.goal_frames.specs.Fitting.{ConsideredFits, StepFits};
 ghost use Rattle.goal_frames.specs.Handlers.{applies_always};
 ghost use Rattle.goal_frames.specs.Merges.{responses_of};

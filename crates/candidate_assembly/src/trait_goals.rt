@@ -10,7 +10,7 @@ ghost use Rattle.evaluation.specs.Readings.{ConsideredHeld, ResultHeld, SpecHeld
 ghost use Rattle.goal_frames.specs.Fitting.{ConsideredFits, ResultFits, StepFits};
 ghost use Rattle.goal_frames.specs.Readings.{result_read, shown_by, spec_read, HasHistory, IsNextAfter};
 ghost use Rattle.goal_frames.specs.Shortages.{NextRunsOut};
-ghost use Rattle.table_laws.specs.Answers.{IsWellFormed};
+ghost use Rattle.evaluation.specs.TableAnswers.{IsWellFormed};
 ghost use Rattle.declarations.specs.Items.{written};
 ghost use Rattle.assembly_laws.specs.Knowing.{is_knowable};
 ghost use Rattle.assembly_laws.specs.Candidates.{unsure, by_objects};

@@ -9,7 +9,7 @@ ghost use Rattle.type_terms.specs.declared.Fault.TheVariants.{Memory};
 ghost use Rattle.term_folds.specs.Failures.{SomeKindIsFull};
 ghost use Rattle.term_folds.specs.Signatures.{StartsWithType};
 ghost use Rattle.infer_table.specs.Goals.{GoalHeld};
-ghost use Rattle.table_laws.specs.Frames.{kind_at};
+ghost use Rattle.evaluation.specs.FrameTables.{kind_at};
 ghost use Rattle.evaluation.specs.Readings.{SpecHeld};
 ghost use Rattle.declarations.specs.Items.{written};
 ghost use Rattle.declarations.specs.Held.{AreHeld};

@@ -35,3 +35,17 @@ pub mod Trial
 pub mod TrialEnds
 pub mod Shortages
 pub mod Runs
+pub mod Instances
+pub mod Content
+pub mod Equations
+pub mod FrameTables
+pub mod TableAnswers
+pub mod TableOperations
+pub mod Finite
+pub mod Widths
+pub mod Tables
+pub mod AnswerLaws
+pub mod Fitting
+pub mod Variables
+pub mod RoundLaws
+pub mod Candidates

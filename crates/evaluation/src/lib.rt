@@ -1,15 +1,20 @@
 //! Goals, the frames in which they are evaluated, and their evaluation step by step: what holds so far, which goals are still
 //! to be asked, and one candidate with its equations, its constraints on lifetimes and its nested goals.
+//!
+//! Beside the code stand the tables in which frames are evaluated, as trees, with their laws (`table_laws`), and what evaluations in
+//! code do over them (`laws`).
 #![tactic(auto)]
 
 mod candidate;
 pub mod context;
 mod error;
 mod goal;
+mod laws;
 mod merge;
 pub mod promises;
 mod response;
 mod rounds;
+mod table_laws;
 pub mod toy;
 mod trial;
 
@@ -23,6 +28,7 @@ pub use infer_table::certainty::{Certainty, MaybeCause, NoSolution, TypingMode};
 pub use infer_table::goal::Goal;
 pub use infer_table::input::CanonicalInput;
 pub use infer_table::response::CanonicalResponse;
+pub use laws::{answers_are_well_formed, candidates_are_one, rounds_are_one, tables_are_lawful};
 pub use merge::{
     MergeCandidateInfo, ambiguous_certainty, bail_with_ambiguity, flounder, try_merge_candidates,
 };
@@ -31,6 +37,7 @@ pub use response::{
     is_same_response,
 };
 pub use rounds::have_same_sorts;
+pub use table_laws::{equation_laws, question_laws};
 pub use trial::evaluate_candidate;
 
 /// How many rounds a candidate's nested goals are asked in at most.

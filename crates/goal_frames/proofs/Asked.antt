@@ -5,10 +5,10 @@ use Rattle.model.specs.Trees.{Trees, none, tree}
 use Rattle.type_terms.specs.Made.{terms, is_made}
 use Rattle.infer_table.specs.Canonical.{CanonicalForm}
 use Rattle.infer_table.specs.declared.canonical.CanonicalVarKind.{CanonicalVarKind}
-use Rattle.table_laws.specs.Frames.{kinds_known}
+use Rattle.evaluation.specs.FrameTables.{kinds_known}
 use Rattle.type_terms.proofs.Made.{left, right}
 use Rattle.goal_frames.specs.Rules.{Bound, goal_of, IsOver}
-use Rattle.evaluation_laws.specs.Variables.{is_variable_over}
+use Rattle.evaluation.specs.Variables.{is_variable_over}
 use Rattle.goal_frames.specs.Handlers.{Asked, with_first, all_known, bound_of, places_stand, is_asked, asked_with, asked}
 use Rattle.goal_frames.proofs.KnownKinds.{all-known}
 

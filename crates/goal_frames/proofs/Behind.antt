@@ -4,14 +4,14 @@ use Rattle.model.specs.Label.{Label, of_type, of_const, of_lifetime, infer, para
 use Rattle.model.specs.Trees.{Trees, none, tree}
 use Rattle.type_terms.specs.Made.{Standing, is_made}
 use Rattle.infer_table.specs.declared.canonical.CanonicalVarKind.{CanonicalVarKind}
-use Rattle.table_laws.specs.Instances.{read_with, goal_read, put_in, of_sort, other_terms, term_at}
-use Rattle.table_laws.specs.Content.{given}
-use Rattle.table_laws.specs.Frames.{is_open_label}
+use Rattle.evaluation.specs.Instances.{read_with, goal_read, put_in, of_sort, other_terms, term_at}
+use Rattle.evaluation.specs.Content.{given}
+use Rattle.evaluation.specs.FrameTables.{is_open_label}
 use Rattle.type_terms.proofs.Made.{false-true, is_ordinary}
-use Rattle.table_laws.proofs.Reading.{append-none, IsPutIn, read-put}
-use Rattle.table_laws.proofs.Labels.{IsLeafFor, PutsLeaves, made-put-in, made-more}
+use Rattle.evaluation.proofs.Reading.{append-none, IsPutIn, read-put}
+use Rattle.evaluation.proofs.Labels.{IsLeafFor, PutsLeaves, made-put-in, made-more}
 use Rattle.goal_frames.specs.Rules.{Bound, goal_of}
-use Rattle.evaluation_laws.specs.Variables.{is_variable_over}
+use Rattle.evaluation.specs.Variables.{is_variable_over}
 use Rattle.goal_frames.specs.Handlers.{moved, behind}
 
 -- all but the first n

@@ -10,15 +10,15 @@ use Rattle.infer_table.specs.declared.canonical.CanonicalVarKind.{CanonicalVarKi
 use Rattle.infer_table.specs.declared.canonical.CanonicalVarKind.TheVariants.{Ty, PlaceholderTy, Const, PlaceholderConst, Region}
 use Rattle.infer_table.proofs.SolutionLaws.{is_sort-equal as is-sort, is_sort-self as sort-self}
 use Rattle.evaluation.specs.Lists.{Every}
-use Rattle.table_laws.specs.Instances.{read_with, goal_read, of_sort, is_place, other_terms, term_at}
-use Rattle.table_laws.specs.Content.{Values, fits_kind, fits, given, fact_of}
+use Rattle.evaluation.specs.Instances.{read_with, goal_read, of_sort, is_place, other_terms, term_at}
+use Rattle.evaluation.specs.Content.{Values, fits_kind, fits, given, fact_of}
 use Rattle.type_terms.proofs.Made.{false-true, left, right}
-use Rattle.table_laws.proofs.Questions.{sort-of-sort, place-is-a}
-use Rattle.evaluation_laws.proofs.Unplaced.{IsNotPlace}
+use Rattle.evaluation.proofs.Questions.{sort-of-sort, place-is-a}
+use Rattle.evaluation.proofs.Unplaced.{IsNotPlace}
 use Rattle.goal_frames.specs.Rules.{HasNoPlace, IsClosed}
-use Rattle.evaluation_laws.specs.Variables.{StandsIn, is_variable_over}
+use Rattle.evaluation.specs.Variables.{StandsIn, is_variable_over}
 use Rattle.goal_frames.specs.Handlers.{Asked, is_variable_label, places_stand}
-use Rattle.evaluation_laws.proofs.Readings.{HasLeaves, made-leaves}
+use Rattle.evaluation.proofs.Readings.{HasLeaves, made-leaves}
 use Rattle.goal_frames.proofs.Asked.{IsAsked}
 
 -- ---- where a variable stands

@@ -12,8 +12,8 @@ use Rattle.evaluation.specs.Lists.{Every}
 use Rattle.evaluation.specs.Readings.{ResultHeld, ConsideredHeld}
 use Rattle.evaluation.specs.Responses.{Content, content}
 use Rattle.evaluation.specs.Table.{workings}
-use Rattle.table_laws.specs.Answers.{IsWellFormed}
-use Rattle.evaluation_laws.specs.Tables.{frame_tables}
+use Rattle.evaluation.specs.TableAnswers.{IsWellFormed}
+use Rattle.evaluation.specs.Tables.{frame_tables}
 use Rattle.goal_frames.specs.Fitting.{ResultFits, ConsideredFits}
 use Rattle.goal_frames.specs.Merges.{with_response, responses_of}
 use Rattle.goal_frames.proofs.Responses.{content_trees}

@@ -15,16 +15,16 @@ use Rattle.evaluation.specs.History.{evaluate, asks, CameInOrder}
 use Rattle.evaluation.specs.Promises.{frame_of_goal, Anything, History}
 use Rattle.evaluation.proofs.Kept.{AreSo, questions_so, made_kept}
 use Rattle.evaluation.proofs.ListLaws.{Every-mono, Every-map}
-use Rattle.table_laws.specs.Instances.{put_in}
-use Rattle.table_laws.specs.Content.{Question}
-use Rattle.table_laws.specs.Frames.{kinds_known, good_in, FrameTable, IsMadeFrame, slot_at, goal_in, question}
+use Rattle.evaluation.specs.Instances.{put_in}
+use Rattle.evaluation.specs.Content.{Question}
+use Rattle.evaluation.specs.FrameTables.{kinds_known, good_in, FrameTable, IsMadeFrame, slot_at, goal_in, question}
 use Rattle.type_terms.proofs.Made.{false-true}
-use Rattle.table_laws.proofs.Labels.{made-more}
-use Rattle.table_laws.proofs.Equating.{made-put, slots-of}
-use Rattle.table_laws.proofs.Resolved.{made-resolved}
-use Rattle.table_laws.proofs.Beginning.{begin-made}
-use Rattle.evaluation_laws.specs.Tables.{frame_tables}
-use Rattle.evaluation_laws.proofs.Laws.{tables_are_lawful}
+use Rattle.evaluation.proofs.Labels.{made-more}
+use Rattle.evaluation.proofs.Equating.{made-put, slots-of}
+use Rattle.evaluation.proofs.Resolved.{made-resolved}
+use Rattle.evaluation.proofs.TableBeginning.{begin-made}
+use Rattle.evaluation.specs.Tables.{frame_tables}
+use Rattle.evaluation.proofs.FrameTableLaws.{tables_are_lawful}
 use Rattle.goal_frames.specs.Rules.{Bound, goal_of, Rule, RuleBook, IsOver, IsRule, AreRules}
 use Rattle.goal_frames.specs.Handlers.{Asked, asked, behind, nested_of_bound, spec_of, candidates_of, handled_by, listing_of, same_answer, applies_always}
 use Rattle.goal_frames.specs.Forms.{is_unnumbered}

@@ -17,8 +17,8 @@ use Rattle.evaluation.specs.Table.{workings}
 use Rattle.evaluation.proofs.Ends.{is_bounded}
 use Rattle.evaluation.proofs.Histories.{step, holds}
 use Rattle.evaluation.proofs.ListLaws.{distinct-length, length-map}
-use Rattle.table_laws.specs.Content.{Question}
-use Rattle.evaluation_laws.specs.Tables.{frame_tables}
+use Rattle.evaluation.specs.Content.{Question}
+use Rattle.evaluation.specs.Tables.{frame_tables}
 use Rattle.goal_frames.specs.Readings.{Shown, shown, shown_by, spec_read, result_read}
 use Rattle.goal_frames.specs.Places.{Heard, Standing, candidate_of, frame_with, Past, IsBetween, IsNext, with_result, IsFinishing, Stands, place_read}
 use Rattle.goal_frames.specs.Frames.{History, HasCome, HasHeard}

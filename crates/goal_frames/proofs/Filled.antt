@@ -8,16 +8,16 @@ use Rattle.infer_table.specs.declared.canonical.CanonicalVarKind.TheVariants.{Ty
 use Rattle.infer_table.specs.Raw.{sort_of_kind}
 use Rattle.evaluation.specs.Lists.{Every}
 use Rattle.evaluation.proofs.ListLaws.{Every-mono}
-use Rattle.table_laws.specs.Instances.{of_sort, first_term, other_terms, term_at}
-use Rattle.table_laws.specs.Content.{Values, Terms}
-use Rattle.table_laws.specs.Frames.{kind_at, HaveValues, AllowsApart}
-use Rattle.table_laws.specs.Operations.{begin, fresh}
+use Rattle.evaluation.specs.Instances.{of_sort, first_term, other_terms, term_at}
+use Rattle.evaluation.specs.Content.{Values, Terms}
+use Rattle.evaluation.specs.FrameTables.{kind_at, HaveValues, AllowsApart}
+use Rattle.evaluation.specs.TableOperations.{begin, fresh}
 use Rattle.goal_frames.specs.Rules.{IsUnknown}
-use Rattle.evaluation_laws.specs.Variables.{is_variable_over}
-use Rattle.evaluation_laws.proofs.Readings.{AgreeIn}
+use Rattle.evaluation.specs.Variables.{is_variable_over}
+use Rattle.evaluation.proofs.Readings.{AgreeIn}
 use Rattle.goal_frames.proofs.Behind.{dropped, term-dropped}
-use Rattle.evaluation_laws.proofs.Slots.{kind-of, own_slot, slot-is, of-sort-twice}
-use Rattle.evaluation_laws.proofs.Unplaced.{IsNotPlace, filled_with, filled-with-allowed, whole, whole-allowed, whole-own, whole-values}
+use Rattle.evaluation.proofs.Slots.{kind-of, own_slot, slot-is, of-sort-twice}
+use Rattle.evaluation.proofs.Unplaced.{IsNotPlace, filled_with, filled-with-allowed, whole, whole-allowed, whole-own, whole-values}
 
 -- ---- values one behind the other
 -- the first n of the one list, and then the other

@@ -12,13 +12,13 @@ use Rattle.evaluation.specs.Script.{Script, done, ask}
 use Rattle.evaluation.specs.Table.{workings}
 use Rattle.evaluation.proofs.Scripts.{Asks}
 use Rattle.evaluation.proofs.Kept.{AreSo, responds_so, made_kept}
-use Rattle.table_laws.specs.Answers.{IsWellFormed}
-use Rattle.table_laws.specs.Content.{Question}
-use Rattle.table_laws.specs.Frames.{FrameTable, IsMadeFrame, Nested}
-use Rattle.table_laws.proofs.WellFormed.{answers_well_formed}
-use Rattle.evaluation_laws.specs.Tables.{frame_tables}
-use Rattle.evaluation_laws.proofs.Laws.{tables_are_lawful}
-use Rattle.evaluation_laws.specs.Rounds.{AreOneAnswer}
+use Rattle.evaluation.specs.TableAnswers.{IsWellFormed}
+use Rattle.evaluation.specs.Content.{Question}
+use Rattle.evaluation.specs.FrameTables.{FrameTable, IsMadeFrame, Nested}
+use Rattle.evaluation.proofs.WellFormed.{answers_well_formed}
+use Rattle.evaluation.specs.Tables.{frame_tables}
+use Rattle.evaluation.proofs.FrameTableLaws.{tables_are_lawful}
+use Rattle.evaluation.specs.RoundLaws.{AreOneAnswer}
 
 pub one-answer : (mode : TypingMode) (coinductive : Bool) (kinds : List CanonicalVarKind) (ls : List Label) (p : Question) (a : AnswerTrees) → IsWellFormed a → AreOneAnswer mode coinductive kinds ls p a a
 one-answer mode coinductive kinds ls p a f = record { is = refl; fits = f }

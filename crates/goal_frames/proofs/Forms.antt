@@ -11,16 +11,16 @@ use Rattle.infer_table.specs.declared.canonical.CanonicalVarKind.{CanonicalVarKi
 use Rattle.infer_table.proofs.CanonicalLaws.{leaves-hold}
 use Rattle.infer_table.proofs.SolutionLaws.{is_sort-self as sort-self}
 use Rattle.evaluation.specs.Lists.{Every}
-use Rattle.table_laws.specs.Frames.{kind_at}
-use Rattle.table_laws.specs.Answers.{is_kind_of, with_kind, kinds_of}
+use Rattle.evaluation.specs.FrameTables.{kind_at}
+use Rattle.evaluation.specs.TableAnswers.{is_kind_of, with_kind, kinds_of}
 use Rattle.type_terms.proofs.Made.{false-true, left, right, both, no-tree, is_ordinary, made-ordinary, makes-ordinary, IsLast, last-bound, last-trait, never-dynamic, never-dynamic-bound, never-principal}
-use Rattle.table_laws.proofs.Reading.{EachLabel}
-use Rattle.table_laws.proofs.Nodes.{every-leaf}
+use Rattle.evaluation.proofs.Reading.{EachLabel}
+use Rattle.evaluation.proofs.Nodes.{every-leaf}
 use Rattle.goal_frames.specs.Rules.{Bound}
-use Rattle.evaluation_laws.specs.Variables.{is_variable_over}
+use Rattle.evaluation.specs.Variables.{is_variable_over}
 use Rattle.goal_frames.specs.Handlers.{with_first, all_known, is_variable_label, places_stand, asked_with}
 use Rattle.goal_frames.specs.Forms.{is_unnumbered, CanonicalGoalsAreAsked}
-use Rattle.table_laws.proofs.FirstAnswers.{AreFresh, append-list, length-more, place-is, number-self}
+use Rattle.evaluation.proofs.FirstAnswers.{AreFresh, append-list, length-more, place-is, number-self}
 
 -- ---- kinds of open leaves
 abbrev AreOpen : List Label → Type 0

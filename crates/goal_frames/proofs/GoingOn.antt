@@ -16,8 +16,8 @@ use Rattle.evaluation.specs.Handler.{Handled}
 use Rattle.evaluation.specs.History.{between, request}
 use Rattle.evaluation.specs.Readings.{ConsideredHeld}
 use Rattle.evaluation.specs.Table.{workings}
-use Rattle.table_laws.specs.Content.{Question}
-use Rattle.evaluation_laws.specs.Tables.{frame_tables}
+use Rattle.evaluation.specs.Content.{Question}
+use Rattle.evaluation.specs.Tables.{frame_tables}
 use Rattle.goal_frames.specs.Readings.{Shown, Shows, shown_by, spec_read, next_read}
 use Rattle.goal_frames.specs.Places.{Standing, Stands, IsBetween, IsEntering, IsIgnoring, frame_with, entering}
 use Rattle.goal_frames.specs.Frames.{IsRequest}

@@ -11,13 +11,13 @@ use Rattle.infer_table.specs.declared.certainty.TypingMode.TheVariants.{Coherenc
 use Rattle.infer_table.specs.Responses.{AnswerTrees}
 use Rattle.evaluation.specs.Handler.{Handled, IsHandler}
 use Rattle.evaluation.specs.Law.{IsYes}
-use Rattle.table_laws.specs.Answers.{respond, has_values}
-use Rattle.table_laws.specs.Content.{Fact}
-use Rattle.table_laws.specs.Widths.{TableWithin}
-use Rattle.table_laws.specs.Operations.{begin}
-use Rattle.table_laws.proofs.Finite.{made-of-closed}
-use Rattle.evaluation_laws.proofs.WidthLaws.{respond_within}
-use Rattle.evaluation_laws.specs.Tables.{frame_tables}
+use Rattle.evaluation.specs.TableAnswers.{respond, has_values}
+use Rattle.evaluation.specs.Content.{Fact}
+use Rattle.evaluation.specs.Widths.{TableWithin}
+use Rattle.evaluation.specs.TableOperations.{begin}
+use Rattle.evaluation.proofs.Finite.{made-of-closed}
+use Rattle.evaluation.proofs.WidthLaws.{respond_within}
+use Rattle.evaluation.specs.Tables.{frame_tables}
 use Rattle.goal_frames.specs.Programs.{SaysNothing}
 use Rattle.goal_frames.specs.Readings.{kinds_known}
 use Rattle.goal_frames.specs.HandlerPrograms.{silent, overflow_answer, cycle_answer, programs_of, HandlersArePrograms, InstancesAreGoals, RulesAreOf, KindsAreOf, KeepNumbers, KeepWorlds, LookInCoherenceOnly}

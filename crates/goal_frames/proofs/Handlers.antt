@@ -18,29 +18,29 @@ use Rattle.evaluation.specs.Law.{Solves, Realizes}
 use Rattle.evaluation.specs.Handler.{IsLawful, IsHandler}
 use Rattle.evaluation.proofs.ListLaws.{Every-both, Every-map, SomeOf-both, among-all, not-true}
 use Rattle.evaluation.proofs.RuleBooks.{last_rule}
-use Rattle.table_laws.specs.Instances.{read_with, goal_read}
-use Rattle.table_laws.specs.Content.{Values, fits, given, trait_of, Fact, fact_of, Terms}
-use Rattle.table_laws.specs.Frames.{kinds_known, Nested, fact, Meets}
-use Rattle.table_laws.specs.Widths.{width_of_predicates}
+use Rattle.evaluation.specs.Instances.{read_with, goal_read}
+use Rattle.evaluation.specs.Content.{Values, fits, given, trait_of, Fact, fact_of, Terms}
+use Rattle.evaluation.specs.FrameTables.{kinds_known, Nested, fact, Meets}
+use Rattle.evaluation.specs.Widths.{width_of_predicates}
 use Rattle.type_terms.proofs.Made.{false-true, right}
-use Rattle.evaluation_laws.proofs.OperationLaws.{begins-free, begins-within}
-use Rattle.table_laws.specs.Operations.{begin, fresh}
-use Rattle.evaluation_laws.specs.Tables.{frame_tables}
-use Rattle.evaluation_laws.proofs.Laws.{tables_are_lawful}
+use Rattle.evaluation.proofs.OperationLaws.{begins-free, begins-within}
+use Rattle.evaluation.specs.TableOperations.{begin, fresh}
+use Rattle.evaluation.specs.Tables.{frame_tables}
+use Rattle.evaluation.proofs.FrameTableLaws.{tables_are_lawful}
 use Rattle.goal_frames.specs.Listings.{listed, IsListing}
 use Rattle.goal_frames.specs.Rules.{Bound, goal_of, Rule, RuleBook, IsOver, IsRule, AreRules, instance_of, IsBy, IsClosed, is_coinductive_trait, is_coinductive, FollowsClosed, HasProofByBook}
 use Rattle.goal_frames.specs.Handlers.{Asked, asked, behind, as_one, nested_of_bound, spec_of, specs_for, unsure, number_of_rules, same_answer, applies_always, has_placeholder, world_of, widest_of, listing_of, handled_by}
 use Rattle.goal_frames.proofs.Listings.{listings-are-lawful}
-use Rattle.evaluation_laws.proofs.Readings.{reads-agree}
+use Rattle.evaluation.proofs.Readings.{reads-agree}
 use Rattle.goal_frames.proofs.Behind.{dropped, read-behind, made-behind, made-open}
 use Rattle.goal_frames.proofs.Asked.{IsAsked, asked-is, kinds-are}
-use Rattle.evaluation_laws.proofs.Slots.{own-slots-agree}
+use Rattle.evaluation.proofs.Slots.{own-slots-agree}
 use Rattle.goal_frames.proofs.Sound.{term-one, fact-behind, sound, determined}
 use Rattle.goal_frames.proofs.Widths.{width-behind, rule-within, premises-behind, few}
-use Rattle.table_laws.proofs.FirstAnswers.{begin-says-nothing}
+use Rattle.evaluation.proofs.FirstAnswers.{begin-says-nothing}
 use Rattle.goal_frames.proofs.Same.{answers-are, applies-to-yeses}
 use Rattle.goal_frames.proofs.Closed.{closed-kinds}
-use Rattle.evaluation_laws.proofs.Unplaced.{IsNotPlace}
+use Rattle.evaluation.proofs.Unplaced.{IsNotPlace}
 use Rattle.goal_frames.proofs.Filled.{filled, filled-allowed, filled-agrees}
 
 -- ---- the candidates are the rules

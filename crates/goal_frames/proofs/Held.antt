@@ -5,7 +5,7 @@ use Rattle.infer_table.specs.declared.input.CanonicalInput.{CanonicalInput}
 use Rattle.infer_table.proofs.Numbers.{goal-held-later}
 use Rattle.evaluation.proofs.Contexts.{reply-later, replies-later}
 use Rattle.evaluation.specs.Handler.{Handled}
-use Rattle.evaluation_laws.specs.Tables.{frame_tables}
+use Rattle.evaluation.specs.Tables.{frame_tables}
 use Rattle.goal_frames.specs.Readings.{Shown}
 use Rattle.goal_frames.specs.Places.{PlaceTrees, begun, entering, inside_of, finishing, ignoring, over, Standing, Answers, Stands}
 use Rattle.goal_frames.specs.Frames.{PlaceHeld, FrameHeld}

@@ -26,12 +26,12 @@ use Rattle.evaluation.specs.Candidate.{Spec}
 use Rattle.evaluation.specs.Lists.{Every}
 use Rattle.evaluation.specs.Readings.{ResultHeld, ConsideredHeld, EquationHeld, SpecHeld, is_coinductive_step}
 use Rattle.evaluation.specs.Table.{workings}
-use Rattle.table_laws.specs.Answers.{IsWellFormed}
-use Rattle.table_laws.specs.Frames.{Nested, Equation}
+use Rattle.evaluation.specs.TableAnswers.{IsWellFormed}
+use Rattle.evaluation.specs.FrameTables.{Nested, Equation}
 use Rattle.evaluation.proofs.Later.{equations-held-later, goals-held-later}
-use Rattle.evaluation_laws.specs.Tables.{frame_tables}
-use Rattle.evaluation_laws.specs.Fitting.{AreOver, IsGoalOver, IsValueOver}
-use Rattle.evaluation_laws.specs.Candidates.{labels_of}
+use Rattle.evaluation.specs.Tables.{frame_tables}
+use Rattle.evaluation.specs.Fitting.{AreOver, IsGoalOver, IsValueOver}
+use Rattle.evaluation.specs.Candidates.{labels_of}
 use Rattle.goal_frames.specs.Readings.{equation_read, nested_read, spec_read, result_read, Shown, shown_by}
 use Rattle.goal_frames.specs.Fitting.{ResultFits, ConsideredFits, IsEquationOver, IsOver}
 

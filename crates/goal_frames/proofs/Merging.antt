@@ -22,12 +22,12 @@ use Rattle.evaluation.specs.declared.merge.MergeCandidateInfo.{MergeCandidateInf
 use Rattle.evaluation.specs.Lists.{Every}
 use Rattle.evaluation.specs.Merge.{or_else, common, merge_by, flounder}
 use Rattle.evaluation.specs.Responses.{Content, content, are_variables, is_always_applicable}
-use Rattle.table_laws.specs.Answers.{is_variable_itself, is_fitting, IsWellFormed, respond}
-use Rattle.table_laws.specs.Operations.{begin}
-use Rattle.table_laws.proofs.Beginning.{begin-made}
-use Rattle.table_laws.proofs.WellFormed.{answers_well_formed}
-use Rattle.evaluation_laws.specs.Tables.{frame_tables}
-use Rattle.evaluation_laws.proofs.Filling.{itself-root}
+use Rattle.evaluation.specs.TableAnswers.{is_variable_itself, is_fitting, IsWellFormed, respond}
+use Rattle.evaluation.specs.TableOperations.{begin}
+use Rattle.evaluation.proofs.TableBeginning.{begin-made}
+use Rattle.evaluation.proofs.WellFormed.{answers_well_formed}
+use Rattle.evaluation.specs.Tables.{frame_tables}
+use Rattle.evaluation.proofs.Filling.{itself-root}
 use Rattle.goal_frames.specs.Handlers.{same_answer, are_own_variables, applies_always}
 use Rattle.goal_frames.specs.Readings.{result_read}
 use Rattle.goal_frames.specs.Merges.{merge_of}

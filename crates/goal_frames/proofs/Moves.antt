@@ -11,8 +11,8 @@ use Rattle.evaluation.specs.Lists.{IsNoneOf}
 use Rattle.evaluation.specs.Promises.{frame_of_goal, Anything}
 use Rattle.evaluation.specs.Script.{Script, done, ask}
 use Rattle.evaluation.specs.Table.{workings}
-use Rattle.table_laws.specs.Content.{Question}
-use Rattle.evaluation_laws.specs.Tables.{frame_tables}
+use Rattle.evaluation.specs.Content.{Question}
+use Rattle.evaluation.specs.Tables.{frame_tables}
 use Rattle.goal_frames.specs.Readings.{Shown, shown}
 use Rattle.goal_frames.specs.Places.{after, Heard, Standing, candidate_of, frame_with, IsBetween, with_result, IsEntering, IsInside, IsFinishing, IsIgnoring}
 

@@ -13,19 +13,19 @@ use Rattle.evaluation.specs.Lists.{Every}
 use Rattle.evaluation.specs.Table.{workings}
 use Rattle.evaluation.specs.Candidate.{Spec}
 use Rattle.evaluation.proofs.ListLaws.{Every-mono, Every-map}
-use Rattle.table_laws.specs.Instances.{put_in}
-use Rattle.table_laws.specs.Frames.{kind_at, kinds_known, Nested, is_open_label, labels_from, first_content, labels_for}
-use Rattle.table_laws.specs.Answers.{is_kind_of}
+use Rattle.evaluation.specs.Instances.{put_in}
+use Rattle.evaluation.specs.FrameTables.{kind_at, kinds_known, Nested, is_open_label, labels_from, first_content, labels_for}
+use Rattle.evaluation.specs.TableAnswers.{is_kind_of}
 use Rattle.type_terms.proofs.Made.{false-true, both}
-use Rattle.table_laws.proofs.Reading.{EachLabel}
-use Rattle.table_laws.proofs.Labels.{IsGoodLabel, made-labels}
-use Rattle.evaluation_laws.specs.Tables.{frame_tables}
-use Rattle.evaluation_laws.specs.Fitting.{is_of_sort, is_slot, AreOver, IsGoalOver, IsValueOver}
+use Rattle.evaluation.proofs.Reading.{EachLabel}
+use Rattle.evaluation.proofs.Labels.{IsGoodLabel, made-labels}
+use Rattle.evaluation.specs.Tables.{frame_tables}
+use Rattle.evaluation.specs.Fitting.{is_of_sort, is_slot, AreOver, IsGoalOver, IsValueOver}
 use Rattle.goal_frames.specs.Rules.{Bound, goal_of, Rule, IsOver, IsRule}
-use Rattle.evaluation_laws.specs.Variables.{is_variable_over}
+use Rattle.evaluation.specs.Variables.{is_variable_over}
 use Rattle.goal_frames.specs.Handlers.{Asked, asked, moved, behind, as_one, nested_of_bound, spec_of, candidates_of}
 use Rattle.goal_frames.specs.RuleFitting.{slots_of, IsOverSlots, CandidatesFit}
-use Rattle.evaluation_laws.proofs.Readings.{HasLeaves, made-leaves}
+use Rattle.evaluation.proofs.Readings.{HasLeaves, made-leaves}
 use Rattle.goal_frames.proofs.Behind.{made-behind, made-open}
 use Rattle.goal_frames.proofs.Asked.{IsAsked, asked-is, kinds-are}
 use Rattle.goal_frames.proofs.Handlers.{each-spec}

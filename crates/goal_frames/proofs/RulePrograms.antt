@@ -4,8 +4,8 @@ use Rattle.std.specs.Prelude.{max}
 use Rattle.infer_table.specs.Canonical.{CanonicalForm}
 use Rattle.infer_table.specs.declared.certainty.TypingMode.{TypingMode}
 use Rattle.infer_table.specs.declared.certainty.TypingMode.TheVariants.{Coherence, PostAnalysis}
-use Rattle.table_laws.specs.Content.{Question}
-use Rattle.table_laws.specs.Frames.{kinds_known}
+use Rattle.evaluation.specs.Content.{Question}
+use Rattle.evaluation.specs.FrameTables.{kinds_known}
 use Rattle.goal_frames.specs.Handlers.{has_placeholder, world_of, handled_by}
 use Rattle.goal_frames.specs.Rules.{is_coinductive, FollowsByRule}
 use Rattle.goal_frames.specs.RulePrograms.{book_of, RulesArePrograms}

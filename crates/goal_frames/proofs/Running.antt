@@ -26,16 +26,16 @@ use Rattle.evaluation.specs.Lists.{Every, Pairwise}
 use Rattle.evaluation.specs.Replays.{Run, ready, waits, run}
 use Rattle.evaluation.specs.Script.{Script, done, ask}
 use Rattle.evaluation.specs.Table.{operations, workings}
-use Rattle.table_laws.specs.Content.{Question}
-use Rattle.table_laws.specs.Answers.{IsWellFormed}
-use Rattle.table_laws.specs.Frames.{IsMadeFrame}
-use Rattle.table_laws.specs.Operations.{begin}
-use Rattle.table_laws.proofs.Beginning.{begin-made}
-use Rattle.evaluation_laws.specs.Tables.{frame_tables}
-use Rattle.evaluation_laws.specs.Fitting.{IsGoalOver}
-use Rattle.evaluation_laws.specs.Rounds.{AreOneQuestion, in_rounds}
-use Rattle.evaluation_laws.specs.Candidates.{labels_of, AreOneEquation, AreOnePremise, AreOneCandidate}
-use Rattle.evaluation_laws.proofs.Candidates.{candidates-are-one}
+use Rattle.evaluation.specs.Content.{Question}
+use Rattle.evaluation.specs.TableAnswers.{IsWellFormed}
+use Rattle.evaluation.specs.FrameTables.{IsMadeFrame}
+use Rattle.evaluation.specs.TableOperations.{begin}
+use Rattle.evaluation.proofs.TableBeginning.{begin-made}
+use Rattle.evaluation.specs.Tables.{frame_tables}
+use Rattle.evaluation.specs.Fitting.{IsGoalOver}
+use Rattle.evaluation.specs.RoundLaws.{AreOneQuestion, in_rounds}
+use Rattle.evaluation.specs.Candidates.{labels_of, AreOneEquation, AreOnePremise, AreOneCandidate}
+use Rattle.evaluation.proofs.Candidates.{candidates-are-one}
 use Rattle.goal_frames.specs.Readings.{Shown, equation_read, nested_read, spec_read, result_read}
 use Rattle.goal_frames.specs.Fitting.{ResultFits, IsEquationOver, IsOver}
 use Rattle.goal_frames.specs.Places.{after, Standing, candidate_of, IsInside, IsAsking, IsFinishing, with_result}

@@ -14,10 +14,10 @@ use Rattle.infer_table.specs.Values.{Value}
 use Rattle.infer_table.specs.Responses.{AnswerTrees}
 use Rattle.infer_table.proofs.SolutionLaws.{is_sort-equal as is-sort}
 use Rattle.evaluation.specs.Atoms.{same_certainty}
-use Rattle.table_laws.specs.Answers.{is_variable_itself, are_variables}
+use Rattle.evaluation.specs.TableAnswers.{is_variable_itself, are_variables}
 use Rattle.type_terms.proofs.Made.{left, right}
 use Rattle.evaluation.specs.Merge.{TellsApart, IsTest}
-use Rattle.evaluation_laws.specs.Tables.{frame_tables}
+use Rattle.evaluation.specs.Tables.{frame_tables}
 use Rattle.goal_frames.specs.Handlers.{same_kind, same_kinds, same_values, same_answer, are_own_variables, applies_always}
 
 kind-is : (k j : CanonicalVarKind) → same_kind k j ≡ true → k ≡ j

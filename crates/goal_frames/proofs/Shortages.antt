@@ -19,7 +19,7 @@ use Rattle.evaluation.specs.Lists.{Every}
 use Rattle.evaluation.specs.Readings.{ResultHeld, ConsideredHeld, SpecHeld}
 use Rattle.evaluation.specs.Shortages.{CandidateRunsOut}
 use Rattle.evaluation.specs.Trial.{SpecTrees, spec_trees}
-use Rattle.evaluation_laws.specs.Tables.{frame_tables}
+use Rattle.evaluation.specs.Tables.{frame_tables}
 use Rattle.goal_frames.specs.Frames.{FrameHeld, PlaceHeld, IsReply}
 use Rattle.goal_frames.specs.Shortages.{NextRunsOut, RunsOutAt, FrameRunsOut}
 use Rattle.goal_frames.specs.declared.frame.GoalFrame.{GoalFrame}

@@ -11,10 +11,10 @@ use Rattle.infer_table.specs.declared.certainty.MaybeCause.TheVariants.{Ambiguit
 use Rattle.infer_table.specs.Values.{Value}
 use Rattle.infer_table.specs.Raw.{sort_of_kind, variable_value, variables_from}
 use Rattle.infer_table.specs.Responses.{AnswerTrees}
-use Rattle.table_laws.specs.Answers.{own_labels, answer_leaves, value_numbered, with_kind, kinds_of, without_values, respond}
-use Rattle.table_laws.specs.Operations.{begin}
-use Rattle.table_laws.specs.Frames.{labels_from}
-use Rattle.table_laws.proofs.FirstAnswers.{AreFresh, append-list, length-more, place-is, value_by, own-labels-all, begin-fresh, begin-leaves}
+use Rattle.evaluation.specs.TableAnswers.{own_labels, answer_leaves, value_numbered, with_kind, kinds_of, without_values, respond}
+use Rattle.evaluation.specs.TableOperations.{begin}
+use Rattle.evaluation.specs.FrameTables.{labels_from}
+use Rattle.evaluation.proofs.FirstAnswers.{AreFresh, append-list, length-more, place-is, value_by, own-labels-all, begin-fresh, begin-leaves}
 
 -- the labels are of these kinds
 abbrev AreOf : List CanonicalVarKind → List Label → Type 0

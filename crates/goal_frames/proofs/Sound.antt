@@ -6,18 +6,18 @@ use Rattle.type_terms.specs.Made.{terms, is_made}
 use Rattle.infer_table.specs.Canonical.{GoalTrees, CanonicalForm}
 use Rattle.evaluation.specs.Lists.{Every, IsAmong}
 use Rattle.evaluation.proofs.ListLaws.{Every-mono, Every-map, SomeOf-at}
-use Rattle.table_laws.specs.Instances.{read_with, goal_read}
-use Rattle.table_laws.specs.Content.{Values, fits, given, Fact, fact_of, Terms}
-use Rattle.table_laws.specs.Frames.{FrameTable, Allows, Nested, fact, is_open_label, term_of, Meets}
+use Rattle.evaluation.specs.Instances.{read_with, goal_read}
+use Rattle.evaluation.specs.Content.{Values, fits, given, Fact, fact_of, Terms}
+use Rattle.evaluation.specs.FrameTables.{FrameTable, Allows, Nested, fact, is_open_label, term_of, Meets}
 use Rattle.type_terms.proofs.Made.{right}
-use Rattle.table_laws.specs.Operations.{begin, fresh}
+use Rattle.evaluation.specs.TableOperations.{begin, fresh}
 use Rattle.goal_frames.specs.Rules.{Bound, Rule, RuleBook, IsDeterminedBy, IsRule, instance_of, IsBy, FollowsByRule}
-use Rattle.evaluation_laws.specs.Variables.{is_variable_over}
+use Rattle.evaluation.specs.Variables.{is_variable_over}
 use Rattle.goal_frames.specs.Handlers.{Asked, behind, as_one, nested_of_bound, spec_of}
-use Rattle.evaluation_laws.proofs.Readings.{AgreeIn, made-leaves, reads-agree, reads-determine}
+use Rattle.evaluation.proofs.Readings.{AgreeIn, made-leaves, reads-agree, reads-determine}
 use Rattle.goal_frames.proofs.Behind.{dropped, read-behind, bound-behind, made-behind, made-open}
 use Rattle.goal_frames.proofs.Asked.{IsAsked}
-use Rattle.evaluation_laws.proofs.Slots.{own-slots-agree, slots-agree}
+use Rattle.evaluation.proofs.Slots.{own-slots-agree, slots-agree}
 
 -- all arguments are one term
 pub term-one : (b : Bound) → is_made is_open_label terms b.arguments ≡ true → term_of (as_one b) ≡ tree (adt b.trait) b.arguments none

@@ -14,10 +14,10 @@ use Rattle.evaluation.specs.declared.candidate.Considered as Code
 use Rattle.evaluation.specs.Handler.{Handled, IsHandler}
 use Rattle.evaluation.specs.Frame.{Frame, considers, answers}
 use Rattle.evaluation.specs.Script.{Script, done, ask}
-use Rattle.table_laws.specs.Content.{Question}
+use Rattle.evaluation.specs.Content.{Question}
 use Rattle.evaluation.specs.History.{Reply, begin, entered, ignored, evaluated, finished, between, inside, request, position, IsReply, CameInOrder}
 use Rattle.evaluation.specs.Promises.{frame_of_goal, Anything}
-use Rattle.evaluation_laws.specs.Tables.{frame_tables}
+use Rattle.evaluation.specs.Tables.{frame_tables}
 use Rattle.goal_frames.specs.Readings.{Shown, spec_read, result_read, shown_by}
 use Rattle.goal_frames.specs.Places.{Heard, Standing, Stands, with_result, candidate_of, IsBetween, IsInside, IsIgnoring, place_read}
 use Rattle.goal_frames.specs.Frames.{History, HasCome, HasHeard, FrameHeld, IsRequest, Steps, reply_read}

@@ -4,9 +4,9 @@ use Rattle.std.specs.Prelude.{◌==◌}
 use Rattle.model.specs.Label.{Label, canonical}
 use Rattle.evaluation.specs.Lists.{Every, IsAmong}
 use Rattle.evaluation.proofs.ListLaws.{Every-mono, Every-map, length-map}
-use Rattle.table_laws.specs.Widths.{NestedWithin}
-use Rattle.table_laws.proofs.Widths.{IsOneIf, leaf-one, predicates-put, predicates-within, width-of-predicates}
-use Rattle.evaluation_laws.specs.Tables.{frame_tables}
+use Rattle.evaluation.specs.Widths.{NestedWithin}
+use Rattle.evaluation.proofs.Widths.{IsOneIf, leaf-one, predicates-put, predicates-within, width-of-predicates}
+use Rattle.evaluation.specs.Tables.{frame_tables}
 use Rattle.evaluation.specs.Plans.{nested_in}
 use Rattle.goal_frames.specs.Rules.{Bound, goal_of, Rule}
 use Rattle.goal_frames.specs.Handlers.{Asked, moved, behind, nested_of_bound, spec_of, specs_for, width_of, number_of_premises, number_of_rules}

@@ -16,9 +16,9 @@ use Rattle.evaluation.specs.declared.candidate.Considered.{Considered}
 use Rattle.evaluation.specs.declared.candidate.HandlerStep.{HandlerStep}
 use Rattle.evaluation.specs.declared.candidate.HandlerStep.TheVariants.{Consider, Answer, NoSolution}
 use Rattle.evaluation.specs.declared.goal.GoalSource.{GoalSource}
-use Rattle.table_laws.specs.Answers.{IsWellFormed}
-use Rattle.evaluation_laws.specs.Fitting.{AreOver, IsGoalOver, IsValueOver}
-use Rattle.evaluation_laws.specs.Candidates.{labels_of}
+use Rattle.evaluation.specs.TableAnswers.{IsWellFormed}
+use Rattle.evaluation.specs.Fitting.{AreOver, IsGoalOver, IsValueOver}
+use Rattle.evaluation.specs.Candidates.{labels_of}
 
 -- ---- answers
 -- the values of each are terms over its own variables

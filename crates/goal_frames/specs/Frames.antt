@@ -19,8 +19,8 @@ use Rattle.evaluation.specs.History.{Request, evaluate, enter_candidate, finish_
 use Rattle.evaluation.specs.Lists.{Every}
 use Rattle.evaluation.specs.Promises.{frame_of_goal, Anything}
 use Rattle.evaluation.specs.Readings.{ResultHeld, ConsideredHeld, SpecHeld}
-use Rattle.table_laws.specs.Content.{Question}
-use Rattle.evaluation_laws.specs.Tables.{frame_tables}
+use Rattle.evaluation.specs.Content.{Question}
+use Rattle.evaluation.specs.Tables.{frame_tables}
 use Rattle.goal_frames.specs.Searches.{step_kind}
 use Rattle.goal_frames.specs.Readings.{result_read, shown_by, spec_read}
 use Rattle.goal_frames.specs.Fitting.{ResultFits, ConsideredFits, IsOver}

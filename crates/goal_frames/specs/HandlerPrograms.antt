@@ -12,12 +12,12 @@ use Rattle.infer_table.specs.Responses.{AnswerTrees}
 use Rattle.evaluation.specs.Handler.{Handled}
 use Rattle.evaluation.specs.History.{evaluate, asks, CameInOrder}
 use Rattle.evaluation.specs.Promises.{frame_of_goal, Anything, History}
-use Rattle.table_laws.specs.Answers.{respond}
-use Rattle.table_laws.specs.Content.{Values, Fact, Question, fact_of}
-use Rattle.table_laws.specs.Finite.{made_of}
-use Rattle.table_laws.specs.Widths.{number_of}
-use Rattle.table_laws.specs.Operations.{begin}
-use Rattle.evaluation_laws.specs.Tables.{frame_tables}
+use Rattle.evaluation.specs.TableAnswers.{respond}
+use Rattle.evaluation.specs.Content.{Values, Fact, Question, fact_of}
+use Rattle.evaluation.specs.Finite.{made_of}
+use Rattle.evaluation.specs.Widths.{number_of}
+use Rattle.evaluation.specs.TableOperations.{begin}
+use Rattle.evaluation.specs.Tables.{frame_tables}
 use Rattle.goal_frames.specs.Programs.{Programs, ArePrograms}
 use Rattle.goal_frames.specs.Readings.{kinds_known}
 

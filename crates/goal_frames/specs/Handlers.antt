@@ -20,16 +20,16 @@ use Rattle.evaluation.specs.Table.{workings}
 use Rattle.evaluation.specs.Candidate.{Spec}
 use Rattle.evaluation.specs.Handler.{Handled, IsHandler}
 use Rattle.evaluation.specs.Atoms.{same_certainty}
-use Rattle.table_laws.specs.Answers.{is_variable_itself}
-use Rattle.table_laws.specs.Instances.{put_in}
-use Rattle.table_laws.specs.Content.{trait_of, fact_of}
-use Rattle.table_laws.specs.Frames.{kinds_known, Nested}
-use Rattle.table_laws.specs.Widths.{width_of_predicates, number_of}
-use Rattle.table_laws.specs.Operations.{begin}
-use Rattle.evaluation_laws.specs.Tables.{frame_tables}
+use Rattle.evaluation.specs.TableAnswers.{is_variable_itself}
+use Rattle.evaluation.specs.Instances.{put_in}
+use Rattle.evaluation.specs.Content.{trait_of, fact_of}
+use Rattle.evaluation.specs.FrameTables.{kinds_known, Nested}
+use Rattle.evaluation.specs.Widths.{width_of_predicates, number_of}
+use Rattle.evaluation.specs.TableOperations.{begin}
+use Rattle.evaluation.specs.Tables.{frame_tables}
 use Rattle.goal_frames.specs.Listings.{Listing, listed}
 use Rattle.goal_frames.specs.Rules.{Bound, goal_of, Rule, RuleBook, AreRules, is_coinductive_trait, FollowsByRule, HasProofByBook}
-use Rattle.evaluation_laws.specs.Variables.{is_variable_over}
+use Rattle.evaluation.specs.Variables.{is_variable_over}
 
 -- ---- goals
 -- a goal without where-clauses, over variables of these kinds

@@ -6,8 +6,8 @@ use Rattle.infer_table.specs.declared.response.CanonicalResponse.{CanonicalRespo
 use Rattle.infer_table.specs.Responses.{AnswerTrees, answer_trees}
 use Rattle.evaluation.specs.Merge.{merge_or_flounder}
 use Rattle.evaluation.specs.declared.candidate.Considered.{Considered}
-use Rattle.table_laws.specs.Operations.{begin}
-use Rattle.evaluation_laws.specs.Tables.{frame_tables}
+use Rattle.evaluation.specs.TableOperations.{begin}
+use Rattle.evaluation.specs.Tables.{frame_tables}
 use Rattle.goal_frames.specs.Handlers.{same_answer, applies_always}
 
 abbrev pub with_response : Option CanonicalResponse → List CanonicalResponse → List CanonicalResponse

@@ -22,9 +22,9 @@ use Rattle.evaluation.specs.Candidate.{Spec, Considered, Next, consider, answer,
 use Rattle.evaluation.specs.Handler.{Handled}
 use Rattle.evaluation.specs.Readings.{is_coinductive_step}
 use Rattle.evaluation.specs.Table.{workings}
-use Rattle.table_laws.specs.Frames.{Nested, Equation}
-pub use Rattle.table_laws.specs.Frames.{kinds_known}
-use Rattle.evaluation_laws.specs.Tables.{frame_tables}
+use Rattle.evaluation.specs.FrameTables.{Nested, Equation}
+pub use Rattle.evaluation.specs.FrameTables.{kinds_known}
+use Rattle.evaluation.specs.Tables.{frame_tables}
 
 abbrev pub equation_read : List Entry → Code.Equation → Equation
 equation_read es e = record { left = value_of es e.left; right = value_of es e.right }

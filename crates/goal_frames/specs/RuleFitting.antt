@@ -6,10 +6,10 @@ use Rattle.infer_table.specs.declared.canonical.CanonicalVarKind.{CanonicalVarKi
 use Rattle.evaluation.specs.Lists.{Every}
 use Rattle.evaluation.specs.Table.{workings}
 use Rattle.evaluation.specs.Candidate.{Spec}
-use Rattle.table_laws.specs.Frames.{kinds_known, Nested, Equation}
-use Rattle.table_laws.specs.Operations.{begin, fresh}
-use Rattle.evaluation_laws.specs.Tables.{frame_tables}
-use Rattle.evaluation_laws.specs.Fitting.{AreOver, IsGoalOver, IsValueOver}
+use Rattle.evaluation.specs.FrameTables.{kinds_known, Nested, Equation}
+use Rattle.evaluation.specs.TableOperations.{begin, fresh}
+use Rattle.evaluation.specs.Tables.{frame_tables}
+use Rattle.evaluation.specs.Fitting.{AreOver, IsGoalOver, IsValueOver}
 use Rattle.goal_frames.specs.Rules.{RuleBook, AreRules}
 use Rattle.goal_frames.specs.Handlers.{asked, candidates_of}
 

@@ -8,9 +8,9 @@ use Rattle.infer_table.specs.declared.canonical.CanonicalVarKind.{CanonicalVarKi
 use Rattle.infer_table.specs.declared.canonical.CanonicalVarKind.TheVariants.{Ty, PlaceholderTy, Const, PlaceholderConst, Region}
 use Rattle.evaluation.specs.Lists.{Every, SomeOf}
 use Rattle.evaluation.specs.Proof.{HasProof}
-use Rattle.table_laws.specs.Instances.{goal_read}
-use Rattle.table_laws.specs.Content.{given, Fact}
-use Rattle.evaluation_laws.specs.Variables.{is_variable_over, StandsIn}
+use Rattle.evaluation.specs.Instances.{goal_read}
+use Rattle.evaluation.specs.Content.{given, Fact}
+use Rattle.evaluation.specs.Variables.{is_variable_over, StandsIn}
 
 -- ---- rules
 -- a trait with its arguments, the self type first: `?0: Show<u8>`

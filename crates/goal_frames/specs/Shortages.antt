@@ -14,7 +14,7 @@ use Rattle.evaluation.specs.Handler.{Handled}
 use Rattle.evaluation.specs.Shortages.{CandidateRunsOut}
 use Rattle.evaluation.specs.Table.{workings}
 use Rattle.evaluation.specs.Trial.{spec_trees}
-use Rattle.evaluation_laws.specs.Tables.{frame_tables}
+use Rattle.evaluation.specs.Tables.{frame_tables}
 use Rattle.goal_frames.specs.Readings.{shown_by, Shows}
 use Rattle.goal_frames.specs.declared.frame.GoalFrame.{GoalFrame}
 use Rattle.goal_frames.specs.declared.frame.Place.{Place}

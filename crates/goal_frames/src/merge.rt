@@ -7,7 +7,7 @@ ghost use Rattle.term_folds.specs.Failures.{SomeKindIsFull};
 ghost use Rattle.infer_table.specs.Responses.{ResponseHeld, answer_trees};
 ghost use Rattle.evaluation.specs.Lists.{Every};
 ghost use Rattle.evaluation.specs.Readings.{ResultHeld};
-ghost use Rattle.table_laws.specs.Answers.{IsWellFormed};
+ghost use Rattle.evaluation.specs.TableAnswers.{IsWellFormed};
 ghost use Rattle.goal_frames.specs.Merges.{merge_of};
 ghost use Rattle.goal_frames.specs.Readings.{result_read};
 

@@ -25,15 +25,15 @@ use Rattle.infer_table.specs.Covers as OfValues
 use Rattle.infer_table.proofs.Covers.{chosen-append, instance-single, instance-root, arg-root}
 use Rattle.infer_table.proofs.SolutionLaws.{instance-append}
 use Rattle.evaluation.specs.Lists.{Every}
-use Rattle.table_laws.specs.Answers.{picked, IsPicked, ArePicked, Agrees, is_variable_of, is_kind_of, is_fitting, IsWellFormed, leaf_value}
-use Rattle.table_laws.specs.Frames.{kind_at}
-use Rattle.table_laws.specs.Instances.{read_with, of_sort}
-use Rattle.table_laws.proofs.Labels.{IsGoodLabel, made-labels}
+use Rattle.evaluation.specs.TableAnswers.{picked, IsPicked, ArePicked, Agrees, is_variable_of, is_kind_of, is_fitting, IsWellFormed, leaf_value}
+use Rattle.evaluation.specs.FrameTables.{kind_at}
+use Rattle.evaluation.specs.Instances.{read_with, of_sort}
+use Rattle.evaluation.proofs.Labels.{IsGoodLabel, made-labels}
 use Rattle.type_terms.proofs.Made.{left, right}
-use Rattle.table_laws.proofs.Nodes.{every-leaf}
-use Rattle.table_laws.proofs.Questions.{sort-of-sort}
-use Rattle.table_laws.proofs.Reading.{EachLabel}
-use Rattle.evaluation_laws.proofs.Readings.{HasLeaves, made-leaves}
+use Rattle.evaluation.proofs.Nodes.{every-leaf}
+use Rattle.evaluation.proofs.Questions.{sort-of-sort}
+use Rattle.evaluation.proofs.Reading.{EachLabel}
+use Rattle.evaluation.proofs.Readings.{HasLeaves, made-leaves}
 use Rattle.root_goals.specs.Roots.{values_under, values_in}
 use Rattle.root_goals.proofs.Leaves.{arg-leaves}
 

@@ -25,15 +25,15 @@ use Rattle.infer_table.specs.Responses.{AnswerTrees, answer_trees}
 use Rattle.evaluation.specs.Lists.{Every}
 use Rattle.evaluation.specs.Responses.{is_variable, are_variables, says_nothing, is_identity_modulo_regions}
 use Rattle.evaluation.proofs.SameResponses.{kind-eq, certainty-eq}
-use Rattle.table_laws.specs.Answers.{is_kind_of, is_variable_of, is_fitting, IsWellFormed, has_values, without_values}
-use Rattle.table_laws.specs.Frames.{kind_at}
+use Rattle.evaluation.specs.TableAnswers.{is_kind_of, is_variable_of, is_fitting, IsWellFormed, has_values, without_values}
+use Rattle.evaluation.specs.FrameTables.{kind_at}
 use Rattle.type_terms.proofs.Made.{false-true, left, right, both, no-tree, made-ordinary}
-use Rattle.table_laws.proofs.Beginning.{sort-is}
-use Rattle.table_laws.proofs.Equating.{single-of}
+use Rattle.evaluation.proofs.TableBeginning.{sort-is}
+use Rattle.evaluation.proofs.Equating.{single-of}
 use Rattle.infer_table.specs.Certainties.{is_certain}
-use Rattle.evaluation_laws.specs.Tables.{frame_tables}
+use Rattle.evaluation.specs.Tables.{frame_tables}
 use Rattle.goal_frames.specs.Searches.{is_ambiguous_answer}
-use Rattle.evaluation_laws.proofs.Filling.{same-values}
+use Rattle.evaluation.proofs.Filling.{same-values}
 use Rattle.root_goals.specs.Answers.{holds_nothing}
 
 is-sort : (j k : Sort) → is_sort j k ≡ true → j ≡ k

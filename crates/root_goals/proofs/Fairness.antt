@@ -6,10 +6,10 @@ use Rattle.infer_table.specs.Canonical.{CanonicalForm}
 use Rattle.infer_table.specs.declared.certainty.Certainty.{Certainty}
 use Rattle.infer_table.specs.declared.certainty.TypingMode.{TypingMode}
 use Rattle.evaluation.specs.Handler.{Handled, IsHandler}
-use Rattle.table_laws.specs.Content.{Fact}
-use Rattle.table_laws.specs.Operations.{begin}
-use Rattle.evaluation_laws.specs.Tables.{frame_tables}
-use Rattle.evaluation_laws.proofs.Laws.{tables_are_lawful}
+use Rattle.evaluation.specs.Content.{Fact}
+use Rattle.evaluation.specs.TableOperations.{begin}
+use Rattle.evaluation.specs.Tables.{frame_tables}
+use Rattle.evaluation.proofs.FrameTableLaws.{tables_are_lawful}
 use Rattle.goal_frames.proofs.Lawful as Searches
 use Rattle.goal_frames.specs.HandlerPrograms.{silent, HandlersArePrograms}
 use Rattle.goal_frames.proofs.HandlerPrograms.{is-silent}

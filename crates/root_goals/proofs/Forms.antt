@@ -12,13 +12,13 @@ use Rattle.infer_table.specs.Goals.{goal_resolved}
 use Rattle.infer_table.specs.Inputs.{IsWithoutCanonical}
 use Rattle.evaluation.specs.Lists.{IsAmong}
 use Rattle.evaluation.proofs.Unfold.{among-left}
-use Rattle.table_laws.specs.Instances.{read_with, of_sort, term_at}
-use Rattle.table_laws.specs.Content.{trait_at, trait_of, Fact, fact_of, fits, fits_kind, given}
-use Rattle.table_laws.specs.Finite.{default_terms, made_of}
-use Rattle.table_laws.proofs.Finite.{AreOf, made-hold}
-use Rattle.table_laws.proofs.Questions.{sort-of-sort, term-place}
+use Rattle.evaluation.specs.Instances.{read_with, of_sort, term_at}
+use Rattle.evaluation.specs.Content.{trait_at, trait_of, Fact, fact_of, fits, fits_kind, given}
+use Rattle.evaluation.specs.Finite.{default_terms, made_of}
+use Rattle.evaluation.proofs.Finite.{AreOf, made-hold}
+use Rattle.evaluation.proofs.Questions.{sort-of-sort, term-place}
 use Rattle.infer_table.proofs.WithoutCanonical.{IsNoCanonical, clean-parts}
-use Rattle.evaluation_laws.proofs.Readings.{HasLeaves}
+use Rattle.evaluation.proofs.Readings.{HasLeaves}
 use Rattle.root_goals.specs.Roots.{fact_under, values_under, question_of}
 
 false-true : false ≡ true → ⊥

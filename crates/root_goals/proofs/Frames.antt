@@ -10,7 +10,7 @@ use Rattle.evaluation.specs.Handler.{Handled}
 use Rattle.evaluation.specs.History.{position}
 use Rattle.evaluation.specs.Promises.{frame_of_goal}
 use Rattle.evaluation.specs.Readings.{ConsideredHeld}
-use Rattle.evaluation_laws.specs.Tables.{frame_tables}
+use Rattle.evaluation.specs.Tables.{frame_tables}
 use Rattle.goal_frames.specs.Readings.{Shown, shown_by, spec_read}
 use Rattle.goal_frames.specs.Places.{PlaceTrees, inside_of, place_read, ignoring, finishing, entering, Stands, Standing}
 use Rattle.goal_frames.specs.Frames.{PlaceHeld, History, HasCome, HasHeard}

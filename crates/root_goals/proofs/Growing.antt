@@ -17,9 +17,9 @@ use Rattle.evaluation.specs.Lists.{Every}
 use Rattle.evaluation.specs.Readings.{ResultHeld}
 use Rattle.evaluation.proofs.LaterTrees.{replies-trees-later}
 use Rattle.evaluation.proofs.ListLaws.{Every-mono}
-use Rattle.table_laws.specs.Content.{Fact}
-use Rattle.table_laws.specs.Answers.{IsWellFormed}
-use Rattle.evaluation_laws.specs.Tables.{frame_tables}
+use Rattle.evaluation.specs.Content.{Fact}
+use Rattle.evaluation.specs.TableAnswers.{IsWellFormed}
+use Rattle.evaluation.specs.Tables.{frame_tables}
 use Rattle.goal_frames.specs.Searches.{replies_of}
 use Rattle.goal_frames.specs.declared.store.InputId.{InputId}
 use Rattle.goal_frames.specs.declared.store.ResponseId.{ResponseId}

@@ -18,7 +18,7 @@ use Rattle.infer_table.specs.Values.{Value}
 use Rattle.term_folds.specs.Kept.{args-held-later}
 use Rattle.infer_table.proofs.Numbers.{goal-trees-later}
 use Rattle.infer_table.specs.Responses.{AnswerTrees}
-use Rattle.table_laws.specs.Answers.{put_into}
+use Rattle.evaluation.specs.TableAnswers.{put_into}
 use Rattle.root_goals.specs.Roots.{goal_in, values_in}
 
 pub keeps-further : (a b c : List Entry) → Keeps a b → Keeps b c → Keeps a c

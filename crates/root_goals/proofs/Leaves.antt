@@ -17,7 +17,7 @@ use Rattle.infer_table.specs.WellFormed.{AllTerms, is_numbered}
 use Rattle.infer_table.proofs.Places.{ready-terms, arg-term}
 use Rattle.infer_table.specs.declared.goal.Goal.{Goal}
 use Rattle.infer_table.specs.Goals.{clause_label, clause_terms, environment_trees, ClausesHeld, GoalHeld, goal_trees, goal_resolved}
-use Rattle.evaluation_laws.proofs.Readings.{HasLeaves, made-leaves}
+use Rattle.evaluation.proofs.Readings.{HasLeaves, made-leaves}
 
 false-true : false ≡ true → ⊥
 false-true e = cc

@@ -8,7 +8,7 @@ use Rattle.infer_table.specs.Responses.{AnswerTrees}
 use Rattle.infer_table.specs.Answers.{is_answer_to}
 use Rattle.infer_table.specs.Applied.{applied}
 use Rattle.evaluation.specs.Lists.{Every}
-use Rattle.table_laws.specs.Answers.{is_fitting, are_fitting, IsWellFormed, put_into}
+use Rattle.evaluation.specs.TableAnswers.{is_fitting, are_fitting, IsWellFormed, put_into}
 
 all-fit : (ks : List CanonicalVarKind) (vs : List Value) → Every (λ v. is_fitting ks v ≡ true) vs → are_fitting ks vs ≡ true
 all-fit ks [] h = refl

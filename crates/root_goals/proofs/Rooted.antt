@@ -15,9 +15,9 @@ use Rattle.evaluation.specs.declared.goal.HasChanged.TheVariants.{No}
 use Rattle.goal_frames.specs.declared.store.InputId.{InputId}
 use Rattle.goal_frames.specs.declared.store.ResponseId.{ResponseId}
 use Rattle.goal_frames.specs.declared.frame.GoalFrame.{GoalFrame}
-use Rattle.table_laws.specs.Answers.{has_values}
-use Rattle.table_laws.specs.Content.{Fact}
-use Rattle.evaluation_laws.specs.Tables.{frame_tables}
+use Rattle.evaluation.specs.TableAnswers.{has_values}
+use Rattle.evaluation.specs.Content.{Fact}
+use Rattle.evaluation.specs.Tables.{frame_tables}
 use Rattle.root_goals.specs.declared.context.SolverCx.{SolverCx}
 use Rattle.root_goals.specs.Contexts.{Asked, entries_of, goal_of, IsReady, Advances}
 use Rattle.root_goals.specs.Searching.{solver_meaning, world_of}

@@ -18,8 +18,8 @@ use Rattle.search_graph.specs.Proof.{HasProof}
 use Rattle.evaluation.specs.Handler.{Handled}
 use Rattle.evaluation.specs.Law.{AgreesTo}
 use Rattle.evaluation.specs.Proof as Lists
-use Rattle.table_laws.specs.Content.{trait_of, Fact, fact_of}
-use Rattle.evaluation_laws.specs.Tables.{frame_tables}
+use Rattle.evaluation.specs.Content.{trait_of, Fact, fact_of}
+use Rattle.evaluation.specs.Tables.{frame_tables}
 use Rattle.goal_frames.specs.Searches.{Follows, AnswersGoal}
 use Rattle.goal_frames.proofs.Graphs as Unfolding
 use Rattle.goal_frames.specs.HandlerPrograms.{programs_of, HandlersArePrograms, InstancesAreGoals}

@@ -6,10 +6,10 @@ use Rattle.infer_table.specs.declared.canonical.CanonicalVarKind.{CanonicalVarKi
 use Rattle.infer_table.specs.declared.certainty.Certainty.{Certainty}
 use Rattle.infer_table.specs.declared.certainty.TypingMode.{TypingMode}
 use Rattle.infer_table.specs.declared.input.CanonicalInput.{CanonicalInput}
-use Rattle.table_laws.specs.Answers.{IsWellFormed, without_values, respond}
-use Rattle.table_laws.specs.Operations.{begin}
-use Rattle.table_laws.proofs.Beginning.{begin-made}
-use Rattle.table_laws.proofs.WellFormed.{answers_well_formed}
+use Rattle.evaluation.specs.TableAnswers.{IsWellFormed, without_values, respond}
+use Rattle.evaluation.specs.TableOperations.{begin}
+use Rattle.evaluation.proofs.TableBeginning.{begin-made}
+use Rattle.evaluation.proofs.WellFormed.{answers_well_formed}
 use Rattle.goal_frames.specs.declared.store.InputId.{InputId}
 use Rattle.goal_frames.specs.Stores.{input_at}
 use Rattle.goal_frames.specs.HandlerPrograms.{silent, silent_if, cycle_certainty, cycle_answer}

@@ -21,8 +21,8 @@ use Rattle.evaluation.specs.Handler.{Handled, IsHandler}
 use Rattle.evaluation.specs.History as Histories
 use Rattle.evaluation.specs.Promises.{frame_of_goal}
 use Rattle.evaluation.specs.Promises as Promises
-use Rattle.table_laws.specs.Content.{Fact, Question}
-use Rattle.evaluation_laws.specs.Tables.{frame_tables}
+use Rattle.evaluation.specs.Content.{Fact, Question}
+use Rattle.evaluation.specs.Tables.{frame_tables}
 use Rattle.goal_frames.specs.Searches.{asks, kind_of, reply_of, replies_of, request_of}
 use Rattle.goal_frames.specs.declared.frame.GoalFrame.{GoalFrame}
 use Rattle.goal_frames.specs.declared.frame.Place.{Place}

@@ -13,7 +13,7 @@ use Rattle.infer_table.specs.WithoutCanonical.{HaveNoCanonical, AreWithoutCanoni
 use Rattle.infer_table.proofs.WithoutCanonical.{IsNoCanonical, clean-node, and-left, and-right, answers-keep-out}
 use Rattle.infer_table.proofs.SolutionLaws.{is_sort-equal}
 use Rattle.evaluation.specs.Lists.{Every}
-use Rattle.table_laws.specs.Answers.{is_fitting, are_fitting, is_fitting_answer, leaf_value}
+use Rattle.evaluation.specs.TableAnswers.{is_fitting, are_fitting, is_fitting_answer, leaf_value}
 use Rattle.root_goals.specs.Roots.{values_in}
 use Rattle.root_goals.specs.WithoutCanonical.{EvaluationsKeepOut}
 use Rattle.root_goals.proofs.Answers.{values-numbered}

@@ -10,7 +10,7 @@ use Rattle.model.specs.Trees.{is_no_tree}
 use Rattle.infer_table.specs.declared.input.CanonicalInput.{CanonicalInput}
 use Rattle.infer_table.specs.declared.response.CanonicalResponse.{CanonicalResponse}
 use Rattle.infer_table.specs.Responses.{AnswerTrees}
-use Rattle.table_laws.specs.Answers.{has_values}
+use Rattle.evaluation.specs.TableAnswers.{has_values}
 use Rattle.goal_frames.specs.Readings.{result_read}
 use Rattle.root_goals.specs.Contexts.{Asked, asked_of}
 

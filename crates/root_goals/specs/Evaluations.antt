@@ -10,7 +10,7 @@ use Rattle.search_graph.specs.Plain.{IsPlain}
 use Rattle.search_graph.specs.Proof.{HasProof}
 use Rattle.infer_table.specs.declared.goal.Goal.{Goal}
 use Rattle.infer_table.specs.Responses.{AnswerTrees}
-use Rattle.table_laws.specs.Answers.{has_values}
+use Rattle.evaluation.specs.TableAnswers.{has_values}
 use Rattle.root_goals.specs.Roots.{goal_in}
 use Rattle.root_goals.specs.Changes.{changed}
 use Rattle.root_goals.specs.declared.outcome.GoalEvaluation.{GoalEvaluation}

@@ -18,9 +18,9 @@ use Rattle.infer_table.specs.declared.response.CanonicalResponse.{CanonicalRespo
 use Rattle.infer_table.specs.Covers.{AreKnown, Continues, IsOfKnown}
 use Rattle.evaluation.specs.Handler.{Handled}
 use Rattle.evaluation.specs.Proof as Lists
-use Rattle.table_laws.specs.Answers.{leaf_value, put_into, Agrees}
-use Rattle.table_laws.specs.Content.{Values, trait_of, Fact, Question}
-use Rattle.evaluation_laws.specs.Tables.{frame_tables}
+use Rattle.evaluation.specs.TableAnswers.{leaf_value, put_into, Agrees}
+use Rattle.evaluation.specs.Content.{Values, trait_of, Fact, Question}
+use Rattle.evaluation.specs.Tables.{frame_tables}
 
 -- the goal as the table resolves it
 abbrev pub goal_in : List Entry → Table → Goal → GoalTrees

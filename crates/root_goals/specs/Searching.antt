@@ -12,8 +12,8 @@ use Rattle.infer_table.specs.Responses.{AnswerTrees}
 use Rattle.evaluation.specs.Evaluating.{replies_trees}
 use Rattle.evaluation.specs.Lists.{Every}
 use Rattle.evaluation.specs.Handler.{Handled}
-use Rattle.table_laws.specs.Content.{Fact}
-use Rattle.evaluation_laws.specs.Tables.{frame_tables}
+use Rattle.evaluation.specs.Content.{Fact}
+use Rattle.evaluation.specs.Tables.{frame_tables}
 use Rattle.goal_frames.specs.Programs.{Programs}
 use Rattle.goal_frames.specs.Searches.{Handles, replies_of, meaning}
 use Rattle.goal_frames.specs.declared.store.InputId.{InputId}

@@ -4,7 +4,7 @@ use Rattle.infer_table.specs.Canonical.{GoalTrees}
 use Rattle.infer_table.specs.Unification.{TableTrees}
 use Rattle.infer_table.specs.Responses.{AnswerTrees}
 use Rattle.infer_table.specs.WithoutCanonical.{HaveNoCanonical}
-use Rattle.table_laws.specs.Answers.{put_into}
+use Rattle.evaluation.specs.TableAnswers.{put_into}
 use Rattle.root_goals.specs.Roots.{values_in}
 
 -- an evaluation leaves a table without canonical variables as one without them, whatever the goal and the answer

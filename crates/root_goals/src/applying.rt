@@ -11,7 +11,7 @@ ghost use Rattle.infer_table.specs.Shortages.{IsOutOfNumbers};
 ghost use Rattle.infer_table.specs.Values.{values_of};
 ghost use Rattle.term_folds.specs.Failures.{SomeKindIsFull};
 ghost use Rattle.infer_table.specs.Responses.{ResponseHeld, answer_trees};
-ghost use Rattle.table_laws.specs.Answers.{has_values, IsWellFormed};
+ghost use Rattle.evaluation.specs.TableAnswers.{has_values, IsWellFormed};
 ghost use Rattle.root_goals.specs.Roots.{left_by_answer, AtAgreeingSolutions, GoesOn};
 ghost use Rattle.root_goals.specs.Changes.{changed};
 

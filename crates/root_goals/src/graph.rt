@@ -3,7 +3,7 @@
 ghost use Rattle.std.specs.Prelude.{◌≡◌, ◌↔◌, ◌<◌, Err, IfOk, IfSome, IsSome, IsTrue, Some, true, false};
 ghost use Rattle.infer_table.specs.declared.certainty.Certainty.TheVariants.{Maybe};
 ghost use Rattle.search_graph.specs.Meaning.{Keeps, IsFair, IsDue, IsReply, Steps};
-ghost use Rattle.evaluation_laws.specs.Tables.{frame_tables};
+ghost use Rattle.evaluation.specs.Tables.{frame_tables};
 ghost use Rattle.goal_frames.specs.Searches.{is_ambiguous_answer, is_yes_answer};
 ghost use Rattle.goal_frames.specs.HandlerPrograms.{silent, cycle_answer};
 ghost use Rattle.root_goals.specs.Answers.{certainty_of};

@@ -7,7 +7,7 @@ ghost use Rattle.infer_table.specs.Solutions.{Assignment, Solves};
 ghost use Rattle.infer_table.specs.Unification.{table_trees};
 ghost use Rattle.infer_table.specs.Goals.{GoalHeld, goal_trees};
 ghost use Rattle.infer_table.specs.Responses.{AnswerTrees};
-ghost use Rattle.table_laws.specs.Answers.{put_into};
+ghost use Rattle.evaluation.specs.TableAnswers.{put_into};
 ghost use Rattle.search_graph.specs.Cache.{AreJustified, AreConsistent, HasConflict, KeepsResults};
 ghost use Rattle.search_graph.specs.Meaning as Search;
 ghost use Rattle.root_goals.specs.Contexts.{IsReady};

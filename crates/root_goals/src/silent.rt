@@ -2,9 +2,9 @@
 
 ghost use Rattle.std.specs.Prelude.{◌≡◌, ◌↔◌, Err, IfOk, IsTrue};
 ghost use Rattle.infer_table.specs.Responses.{ResponseHeld, answer_trees};
-ghost use Rattle.table_laws.specs.Answers.{IsWellFormed};
+ghost use Rattle.evaluation.specs.TableAnswers.{IsWellFormed};
 ghost use Rattle.goal_frames.specs.HandlerPrograms.{silent};
-ghost use Rattle.table_laws.specs.Answers.{without_values};
+ghost use Rattle.evaluation.specs.TableAnswers.{without_values};
 ghost use Rattle.goal_frames.specs.HandlerPrograms.{cycle_certainty};
 ghost use Rattle.root_goals.specs.Answers.{holds_nothing};
 ghost use Rattle.root_goals.specs.Contexts.{goal_of, answer_of, IsInput, IsResult, Advances};

@@ -29,9 +29,9 @@ use Rattle.evaluation.specs.Lists.{Every}
 use Rattle.evaluation.specs.Readings.{EquationHeld, is_coinductive_step}
 use Rattle.evaluation.specs.Table.{workings}
 use Rattle.evaluation.proofs.ListLaws.{Every-mono}
-use Rattle.table_laws.specs.Frames.{Nested, Equation}
+use Rattle.evaluation.specs.FrameTables.{Nested, Equation}
 use Rattle.type_terms.proofs.Made.{left, right}
-use Rattle.evaluation_laws.specs.Tables.{frame_tables}
+use Rattle.evaluation.specs.Tables.{frame_tables}
 use Rattle.goal_frames.specs.Rules.{Bound}
 use Rattle.goal_frames.specs.Handlers.{as_one, behind, nested_of_bound, spec_of}
 use Rattle.goal_frames.specs.Readings.{equation_read, nested_read, spec_read}

@@ -9,9 +9,9 @@ use Rattle.term_folds.specs.Visits.{Visits, ended, passed, broken, entered, brok
 use Rattle.term_folds.specs.declared.visit.Seen.{Seen}
 use Rattle.term_folds.specs.declared.visit.Seen.TheVariants.{Break, Enter, Pass}
 use Rattle.infer_table.specs.declared.canonical.CanonicalVarKind.{CanonicalVarKind}
-use Rattle.table_laws.specs.Frames.{kind_at}
+use Rattle.evaluation.specs.FrameTables.{kind_at}
 use Rattle.type_terms.proofs.Made.{false-true, left, right, no-tree, made-ordinary, last-bound, last-trait, never-dynamic, never-dynamic-bound, never-principal}
-use Rattle.evaluation_laws.specs.Variables.{is_variable_over}
+use Rattle.evaluation.specs.Variables.{is_variable_over}
 use Rattle.rule_books.specs.Finding.{at_root, is_foreign_label, BreaksAt}
 
 -- ---- the kind of a variable

@@ -8,9 +8,9 @@ use Rattle.evaluation.specs.declared.candidate.CandidateSpec.{CandidateSpec}
 use Rattle.evaluation.specs.Candidate.{Spec}
 use Rattle.evaluation.specs.Lists.{Every}
 use Rattle.evaluation.specs.Table.{workings}
-use Rattle.table_laws.specs.Frames.{Nested, Equation}
-use Rattle.evaluation_laws.specs.Tables.{frame_tables}
-use Rattle.evaluation_laws.specs.Fitting.{IsGoalOver, IsValueOver}
+use Rattle.evaluation.specs.FrameTables.{Nested, Equation}
+use Rattle.evaluation.specs.Tables.{frame_tables}
+use Rattle.evaluation.specs.Fitting.{IsGoalOver, IsValueOver}
 use Rattle.goal_frames.specs.Rules.{RuleBook, AreRules}
 use Rattle.goal_frames.specs.Handlers.{asked, candidates_of}
 use Rattle.goal_frames.specs.RuleFitting.{slots_of, IsOverSlots}

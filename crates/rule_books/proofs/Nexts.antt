@@ -14,8 +14,8 @@ use Rattle.evaluation.specs.Candidate.{Spec, Considered, consider, answer, IsHis
 use Rattle.evaluation.specs.Lists.{Every}
 use Rattle.evaluation.specs.Merge.{if_there, responses}
 use Rattle.evaluation.specs.Table.{workings}
-use Rattle.table_laws.specs.Operations.{begin}
-use Rattle.evaluation_laws.specs.Tables.{frame_tables}
+use Rattle.evaluation.specs.TableOperations.{begin}
+use Rattle.evaluation.specs.Tables.{frame_tables}
 use Rattle.goal_frames.proofs.Listings.{next_at, listed-next}
 use Rattle.goal_frames.specs.Rules.{RuleBook}
 use Rattle.goal_frames.specs.Handlers.{Asked, spec_of, specs_for, same_answer, applies_always, candidates_of, asked, listing_of, handled_by}

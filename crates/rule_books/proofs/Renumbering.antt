@@ -14,15 +14,15 @@ use Rattle.infer_table.specs.Goals.{environment_trees, predicate_trees, goal_tre
 use Rattle.infer_table.specs.Values.{if_of_sort, value_for, filled, goal_filled, values_of}
 use Rattle.infer_table.specs.Raw.{sort_of_kind, variables_from}
 use Rattle.infer_table.proofs.SolutionLaws.{is_sort-equal as is-sort}
-use Rattle.table_laws.specs.Answers.{is_kind_of}
-use Rattle.table_laws.specs.Frames.{kind_at}
-use Rattle.table_laws.specs.Instances.{put_in}
-use Rattle.table_laws.proofs.Labels.{IsGoodLabel, made-labels}
+use Rattle.evaluation.specs.TableAnswers.{is_kind_of}
+use Rattle.evaluation.specs.FrameTables.{kind_at}
+use Rattle.evaluation.specs.Instances.{put_in}
+use Rattle.evaluation.proofs.Labels.{IsGoodLabel, made-labels}
 use Rattle.type_terms.proofs.Made.{false-true}
-use Rattle.table_laws.proofs.Reading.{EachLabel}
+use Rattle.evaluation.proofs.Reading.{EachLabel}
 use Rattle.type_terms.specs.Made.{terms}
 use Rattle.goal_frames.specs.Rules.{Bound, goal_of}
-use Rattle.evaluation_laws.specs.Variables.{is_variable_over}
+use Rattle.evaluation.specs.Variables.{is_variable_over}
 use Rattle.goal_frames.specs.Handlers.{moved, behind}
 use Rattle.rule_books.specs.Books.{bound_read, is_over}
 

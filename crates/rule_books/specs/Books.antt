@@ -15,7 +15,7 @@ use Rattle.infer_table.specs.Raw.{sort_of_kind}
 use Rattle.evaluation.specs.declared.goal.GoalSource.{GoalSource}
 use Rattle.evaluation.specs.Lists.{Every}
 use Rattle.goal_frames.specs.Rules.{Bound, Rule, RuleBook}
-use Rattle.evaluation_laws.specs.Variables.{is_variable_over}
+use Rattle.evaluation.specs.Variables.{is_variable_over}
 use Rattle.goal_frames.specs.Handlers.{Asked, is_variable_label}
 use Rattle.rule_books.specs.declared.rule.Rule as InCode
 use Rattle.rule_books.specs.declared.rule.RuleBook as Code

@@ -7,7 +7,7 @@ use Rattle.term_folds.specs.declared.visit.Seen.{Seen}
 use Rattle.term_folds.specs.declared.visit.Seen.TheVariants.{Break, Enter}
 use Rattle.infer_table.specs.declared.canonical.CanonicalVarKind.{CanonicalVarKind}
 use Rattle.infer_table.specs.Raw.{sort_of_kind}
-use Rattle.evaluation_laws.specs.Variables.{is_variable_over}
+use Rattle.evaluation.specs.Variables.{is_variable_over}
 use Rattle.goal_frames.specs.Handlers.{is_variable_label}
 
 abbrev pub at_root : (Label → Bool) → Trees → Bool

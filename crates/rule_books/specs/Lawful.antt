@@ -10,15 +10,15 @@ use Rattle.infer_table.specs.Raw.{sort_of_kind}
 use Rattle.evaluation.specs.Handler.{Handled, IsHandler}
 use Rattle.evaluation.specs.Lists.{Every}
 use Rattle.evaluation.proofs.ListLaws.{Every-mono}
-use Rattle.table_laws.specs.Frames.{kind_at}
+use Rattle.evaluation.specs.FrameTables.{kind_at}
 use Rattle.type_terms.proofs.Made.{false-true, left, right}
-use Rattle.evaluation_laws.specs.Tables.{frame_tables}
+use Rattle.evaluation.specs.Tables.{frame_tables}
 use Rattle.goal_frames.specs.Rules.{Bound, Rule, RuleBook, IsUnknown, IsOver, IsDeterminedBy, IsRule}
 use Rattle.goal_frames.specs.Handlers.{is_variable_label, handled_by}
 use Rattle.goal_frames.specs.RulePrograms.{DeclaredRules}
 use Rattle.goal_frames.proofs.RulePrograms.{rules-are-programs}
 use Rattle.goal_frames.proofs.Closed.{some-stands}
-use Rattle.evaluation_laws.proofs.Slots.{kind-of}
+use Rattle.evaluation.proofs.Slots.{kind-of}
 use Rattle.goal_frames.specs.HandlerPrograms.{KeepNumbers, KeepWorlds}
 use Rattle.rule_books.specs.Books.{is_unknown, is_over, all_stand, are_terms_over, is_rule, sound_rules, sound_book}
 

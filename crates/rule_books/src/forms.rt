@@ -5,7 +5,7 @@ ghost use Rattle.type_terms.specs.Terms.{Has, args_lists, trees_at};
 ghost use Rattle.type_terms.specs.Made.{terms, is_made};
 ghost use Rattle.infer_table.specs.Goals.{PredicateHeld};
 ghost use Rattle.infer_table.specs.Inputs.{form_of};
-ghost use Rattle.evaluation_laws.specs.Variables.{is_variable_over};
+ghost use Rattle.evaluation.specs.Variables.{is_variable_over};
 ghost use Rattle.goal_frames.specs.Handlers.{asked, places_stand};
 ghost use Rattle.evaluation.specs.Lists.{Every};
 ghost use Rattle.rule_books.specs.Books.{BoundsHeld, RuleHeld, bound_read, rule_read, all_stand, is_unknown, is_placeholder, is_over, is_head_over, are_terms_over, is_rule, asked_of};

@@ -5,7 +5,7 @@ use Rattle.model.specs.Rules.{Rule, by_clause, by_super, same_reference, strict_
 use Rattle.model.specs.Proofs.{In}
 use Rattle.model.proofs.Members.{here, there}
 use Rattle.evaluation.specs.Lists.{Every, SomeOf}
-use Rattle.table_laws.specs.Content.{Fact}
+use Rattle.evaluation.specs.Content.{Fact}
 use Rattle.solver_exactness.specs.Ways.{AtMostOne, IsSelection}
 use Rattle.assembly_laws.specs.Facts.{beside}
 use Rattle.assembly_laws.proofs.CandidateKinds.{every-append}

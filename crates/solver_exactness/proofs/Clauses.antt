@@ -12,14 +12,14 @@ use Rattle.infer_table.specs.Canonical.{CanonicalForm}
 use Rattle.evaluation.specs.Lists.{Every}
 use Rattle.evaluation.proofs.ListLaws.{Every-both}
 use Rattle.evaluation.specs.declared.candidate.CandidateSource.TheVariants.{ParamEnv}
-use Rattle.table_laws.specs.Instances.{read_with, default_label}
-use Rattle.table_laws.specs.Content.{Values, Fact, Terms, given}
-use Rattle.table_laws.specs.Frames.{Allows, Meets, Equation, is_open_label, term_of}
-use Rattle.table_laws.specs.Operations.{begin, fresh}
-use Rattle.evaluation_laws.specs.Tables.{frame_tables}
-use Rattle.evaluation_laws.specs.Variables.{is_variable_over}
-use Rattle.evaluation_laws.proofs.Readings.{reads-agree}
-use Rattle.evaluation_laws.proofs.Slots.{slots-agree}
+use Rattle.evaluation.specs.Instances.{read_with, default_label}
+use Rattle.evaluation.specs.Content.{Values, Fact, Terms, given}
+use Rattle.evaluation.specs.FrameTables.{Allows, Meets, Equation, is_open_label, term_of}
+use Rattle.evaluation.specs.TableOperations.{begin, fresh}
+use Rattle.evaluation.specs.Tables.{frame_tables}
+use Rattle.evaluation.specs.Variables.{is_variable_over}
+use Rattle.evaluation.proofs.Readings.{reads-agree}
+use Rattle.evaluation.proofs.Slots.{slots-agree}
 use Rattle.solver_exactness.specs.Closed.{Refuses, no_more, refused, applied}
 use Rattle.solver_exactness.specs.ClosedTables.{AreClosed, ArePlaces}
 use Rattle.assembly_laws.specs.Facts.{clauses_of, reference_in}

@@ -12,8 +12,8 @@ use Rattle.infer_table.specs.Responses.{AnswerTrees}
 use Rattle.infer_table.specs.Canonical.{CanonicalForm}
 use Rattle.infer_table.specs.declared.certainty.TypingMode.TheVariants.{Coherence}
 use Rattle.evaluation.specs.Lists.{Every, SomeOf}
-use Rattle.table_laws.specs.Content.{Values, Fact, Question, fact_of}
-use Rattle.evaluation_laws.specs.Tables.{frame_tables}
+use Rattle.evaluation.specs.Content.{Values, Fact, Question, fact_of}
+use Rattle.evaluation.specs.Tables.{frame_tables}
 use Rattle.goal_frames.specs.Programs.{ArePrograms}
 use Rattle.goal_frames.specs.Searches.{Handles, Asked}
 use Rattle.solver_exactness.specs.ModelWays.{ways_for}

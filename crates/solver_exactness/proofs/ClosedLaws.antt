@@ -5,15 +5,15 @@ use Rattle.model.specs.Trees.{Trees, leaf, is_sort}
 use Rattle.infer_table.specs.declared.canonical.CanonicalVarKind.{CanonicalVarKind}
 use Rattle.infer_table.specs.declared.canonical.CanonicalVarKind.TheVariants.{Ty, PlaceholderTy, Const, PlaceholderConst, Region}
 use Rattle.infer_table.specs.Responses.{AnswerTrees}
-use Rattle.table_laws.specs.Instances.{as_place, other_terms, term_at}
-use Rattle.table_laws.specs.Content.{Values, Terms}
-use Rattle.table_laws.specs.Frames.{FrameTable, Allows, AllowsApart, FitPlaceholders, Nested, Equation, is_placeholder_of, in_turn, pairs_in}
-use Rattle.table_laws.specs.Answers.{put_into, originals_of}
+use Rattle.evaluation.specs.Instances.{as_place, other_terms, term_at}
+use Rattle.evaluation.specs.Content.{Values, Terms}
+use Rattle.evaluation.specs.FrameTables.{FrameTable, Allows, AllowsApart, FitPlaceholders, Nested, Equation, is_placeholder_of, in_turn, pairs_in}
+use Rattle.evaluation.specs.TableAnswers.{put_into, originals_of}
 use Rattle.type_terms.proofs.Made.{false-true}
-use Rattle.table_laws.specs.Operations.{equate, apply}
+use Rattle.evaluation.specs.TableOperations.{equate, apply}
 use Rattle.infer_table.proofs.SolutionLaws.{is_sort-self}
-use Rattle.table_laws.proofs.Equating.{with-content-is}
-use Rattle.evaluation_laws.specs.Tables.{frame_tables}
+use Rattle.evaluation.proofs.Equating.{with-content-is}
+use Rattle.evaluation.specs.Tables.{frame_tables}
 use Rattle.solver_exactness.specs.Closed.{IsClosing}
 use Rattle.solver_exactness.specs.ClosedTables.{Kinds, AreClosed, kind_in, FitPlaces, ArePlaces, closed_tables}
 use Rattle.solver_exactness.proofs.FreeTables.{free}

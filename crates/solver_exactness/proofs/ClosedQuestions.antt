@@ -12,15 +12,15 @@ use Rattle.infer_table.specs.declared.canonical.CanonicalVarKind.TheVariants.{Ty
 use Rattle.infer_table.proofs.CanonicalLaws.{same_label-self}
 use Rattle.type_terms.specs.Made.{terms, is_made}
 use Rattle.evaluation.specs.Lists.{Every}
-use Rattle.table_laws.specs.Instances.{put_in, is_place, as_place, first_term, other_terms, term_at}
-use Rattle.table_laws.specs.Content.{Terms, fits, reading_of}
-use Rattle.table_laws.specs.Frames.{FrameTable, IsMadeFrame, Allows, Nested, good_in, goal_in, question, values_at, slot_at, kind_at, is_placeholder_of}
-use Rattle.table_laws.specs.Finite.{IsDetermined}
+use Rattle.evaluation.specs.Instances.{put_in, is_place, as_place, first_term, other_terms, term_at}
+use Rattle.evaluation.specs.Content.{Terms, fits, reading_of}
+use Rattle.evaluation.specs.FrameTables.{FrameTable, IsMadeFrame, Allows, Nested, good_in, goal_in, question, values_at, slot_at, kind_at, is_placeholder_of}
+use Rattle.evaluation.specs.Finite.{IsDetermined}
 use Rattle.type_terms.proofs.Made.{false-true, left}
 use Rattle.model.proofs.TreeLaws.{append-none}
-use Rattle.table_laws.proofs.Questions.{is-place}
-use Rattle.table_laws.proofs.Nodes.{AreNodes, nodes-put, nodes-resolved, IsOpenNode, open-node, every-leaf}
-use Rattle.table_laws.proofs.Applying.{goal-leaves}
+use Rattle.evaluation.proofs.Questions.{is-place}
+use Rattle.evaluation.proofs.Nodes.{AreNodes, nodes-put, nodes-resolved, IsOpenNode, open-node, every-leaf}
+use Rattle.evaluation.proofs.Applying.{goal-leaves}
 use Rattle.solver_exactness.specs.ClosedTables.{Kinds, IsClosedKind, AreClosed, kind_in, FitPlaces, TellPlaces, ArePlaces}
 use Rattle.solver_exactness.proofs.FreeTables.{no-unknown}
 

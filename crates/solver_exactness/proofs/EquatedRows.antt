@@ -14,12 +14,12 @@ use Rattle.type_terms.specs.Made.{terms, bounds, is_made}
 use Rattle.type_terms.proofs.Made.{false-true}
 use Rattle.infer_table.specs.Canonical.{CanonicalForm}
 use Rattle.evaluation.specs.declared.candidate.CandidateSource.{CandidateSource}
-use Rattle.table_laws.specs.Instances.{read_with}
-use Rattle.table_laws.specs.Content.{Values, Fact, given}
-use Rattle.table_laws.specs.Frames.{is_open_label}
-use Rattle.table_laws.specs.Operations.{begin}
-use Rattle.evaluation_laws.specs.Tables.{frame_tables}
-use Rattle.evaluation_laws.specs.Variables.{is_variable_over}
+use Rattle.evaluation.specs.Instances.{read_with}
+use Rattle.evaluation.specs.Content.{Values, Fact, given}
+use Rattle.evaluation.specs.FrameTables.{is_open_label}
+use Rattle.evaluation.specs.TableOperations.{begin}
+use Rattle.evaluation.specs.Tables.{frame_tables}
+use Rattle.evaluation.specs.Variables.{is_variable_over}
 use Rattle.solver_exactness.specs.Closed.{AreWays, no_more, refused, applied}
 use Rattle.solver_exactness.specs.ClosedTables.{AreClosed, ArePlaces}
 use Rattle.assembly_laws.specs.Facts.{is_plain, is_unerased, beside, reference_in}

@@ -14,12 +14,12 @@ use Rattle.infer_table.specs.declared.canonical.CanonicalVarKind.{CanonicalVarKi
 use Rattle.infer_table.specs.declared.canonical.CanonicalVarKind.TheVariants.{Ty, PlaceholderTy, Const, PlaceholderConst, Region}
 use Rattle.evaluation.specs.Lists.{Every}
 use Rattle.evaluation.specs.declared.candidate.CandidateSource.{CandidateSource}
-use Rattle.table_laws.specs.Instances.{read_with, as_place, term_at}
-use Rattle.table_laws.specs.Content.{Values, Fact, Terms, given, reading_of}
-use Rattle.table_laws.specs.Frames.{Allows, labels_from}
-use Rattle.table_laws.specs.Operations.{begin, fresh}
-use Rattle.evaluation_laws.specs.Tables.{frame_tables}
-use Rattle.evaluation_laws.specs.Variables.{is_variable_over}
+use Rattle.evaluation.specs.Instances.{read_with, as_place, term_at}
+use Rattle.evaluation.specs.Content.{Values, Fact, Terms, given, reading_of}
+use Rattle.evaluation.specs.FrameTables.{Allows, labels_from}
+use Rattle.evaluation.specs.TableOperations.{begin, fresh}
+use Rattle.evaluation.specs.Tables.{frame_tables}
+use Rattle.evaluation.specs.Variables.{is_variable_over}
 use Rattle.solver_exactness.specs.Closed.{Refuses, no_more, refused, applied}
 use Rattle.solver_exactness.specs.ClosedTables.{AreClosed, ArePlaces}
 use Rattle.assembly_laws.specs.Meaning.{Meaning}

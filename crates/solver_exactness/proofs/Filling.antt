@@ -9,15 +9,15 @@ use Rattle.infer_table.specs.declared.canonical.CanonicalVarKind.TheVariants.{Ty
 use Rattle.infer_table.specs.Applying.{table_after}
 use Rattle.std.specs.Prelude.{None}
 use Rattle.evaluation.specs.Lists.{Every}
-use Rattle.table_laws.specs.Instances.{read_with, term_at}
-use Rattle.table_laws.specs.Content.{Values, Terms, standing, reading_of}
-use Rattle.table_laws.specs.Frames.{kind_at, FrameTable, IsMadeFrame, Allows, consts_in, labels_from, first_content, unknown, labels_for}
-use Rattle.table_laws.proofs.Applying.{for-bindings}
-use Rattle.table_laws.proofs.Beginning.{begin-made}
-use Rattle.table_laws.proofs.Fresh.{fresh-made}
-use Rattle.table_laws.specs.Operations.{begin, fresh}
-use Rattle.evaluation_laws.proofs.OperationLaws.{begins-free}
-use Rattle.evaluation_laws.proofs.Slots.{own_slot, slot-is}
+use Rattle.evaluation.specs.Instances.{read_with, term_at}
+use Rattle.evaluation.specs.Content.{Values, Terms, standing, reading_of}
+use Rattle.evaluation.specs.FrameTables.{kind_at, FrameTable, IsMadeFrame, Allows, consts_in, labels_from, first_content, unknown, labels_for}
+use Rattle.evaluation.proofs.Applying.{for-bindings}
+use Rattle.evaluation.proofs.TableBeginning.{begin-made}
+use Rattle.evaluation.proofs.Fresh.{fresh-made}
+use Rattle.evaluation.specs.TableOperations.{begin, fresh}
+use Rattle.evaluation.proofs.OperationLaws.{begins-free}
+use Rattle.evaluation.proofs.Slots.{own_slot, slot-is}
 use Rattle.goal_frames.proofs.Behind.{dropped, term-dropped}
 use Rattle.solver_exactness.specs.ClosedTables.{AreClosed}
 use Rattle.solver_exactness.proofs.FreeTables.{low, whole, whole-allowed, whole-reads}

@@ -7,9 +7,9 @@ use Rattle.model.specs.Rules.{autos_with, is_dyn, asked as asked_for}
 use Rattle.type_terms.specs.Made.{Standing, terms, bounds, traits, is_leaf_label, is_made}
 use Rattle.type_terms.proofs.Made.{left, right, false-true, no-tree, made-ordinary, last-bound, last-trait, never-dynamic, never-dynamic-bound, never-principal}
 use Rattle.infer_table.specs.declared.canonical.CanonicalVarKind.{CanonicalVarKind}
-use Rattle.table_laws.specs.Instances.{read_with, default_label, of_sort, term_at}
-use Rattle.table_laws.specs.Content.{given, trait_of}
-use Rattle.evaluation_laws.specs.Variables.{is_variable_over}
+use Rattle.evaluation.specs.Instances.{read_with, default_label, of_sort, term_at}
+use Rattle.evaluation.specs.Content.{given, trait_of}
+use Rattle.evaluation.specs.Variables.{is_variable_over}
 use Rattle.declarations.specs.Applied.{sorts_of}
 use Rattle.assembly_laws.specs.Facts.{trait_or_first, children_of}
 use Rattle.assembly_laws.specs.DeclaredWell.{are_distinct}

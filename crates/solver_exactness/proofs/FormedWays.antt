@@ -11,7 +11,7 @@ use Rattle.model.proofs.Walking.{both}
 use Rattle.infer_table.specs.declared.certainty.TypingMode.{TypingMode}
 use Rattle.infer_table.specs.declared.certainty.TypingMode.TheVariants.{Coherence, PostAnalysis}
 use Rattle.evaluation.specs.Lists.{Every}
-use Rattle.table_laws.specs.Content.{Fact}
+use Rattle.evaluation.specs.Content.{Fact}
 use Rattle.declarations.specs.Applied.{sorts_of}
 use Rattle.solver_exactness.specs.ModelWays.{ways_under}
 use Rattle.solver_exactness.proofs.MovedWays.{every-to}

@@ -7,15 +7,15 @@ use Rattle.infer_table.specs.Solutions.{Assignment, tree_of, is_variable, resolv
 use Rattle.infer_table.specs.declared.canonical.CanonicalVarKind.{CanonicalVarKind}
 use Rattle.infer_table.specs.declared.canonical.CanonicalVarKind.TheVariants.{Ty, PlaceholderTy, Const, PlaceholderConst, Region}
 use Rattle.infer_table.proofs.SolutionLaws.{is_variable-equal, is_variable-self}
-use Rattle.table_laws.specs.Instances.{read_with, put_in, default_label, other_terms}
-use Rattle.table_laws.specs.Content.{Values, Fact, Terms, given, fits, standing, reading_of}
-use Rattle.table_laws.specs.Frames.{good_in, FrameTable, IsMadeFrame, HaveValues, Allows, Nested, slot_at, goal_in, fact}
-use Rattle.table_laws.specs.Finite.{IsFree, IsDetermined}
+use Rattle.evaluation.specs.Instances.{read_with, put_in, default_label, other_terms}
+use Rattle.evaluation.specs.Content.{Values, Fact, Terms, given, fits, standing, reading_of}
+use Rattle.evaluation.specs.FrameTables.{good_in, FrameTable, IsMadeFrame, HaveValues, Allows, Nested, slot_at, goal_in, fact}
+use Rattle.evaluation.specs.Finite.{IsFree, IsDetermined}
 use Rattle.model.proofs.TreeLaws.{append-none}
-use Rattle.table_laws.proofs.Reading.{read-put, reads-same, same-map, same-hold}
-use Rattle.table_laws.proofs.Questions.{put-in-slots}
-use Rattle.table_laws.proofs.Free.{based, completed, completed-reads, completed-holds, completed-sorted}
-use Rattle.table_laws.proofs.Nodes.{AreNodes, nodes-proper, nodes-put, nodes-resolved, read-at}
+use Rattle.evaluation.proofs.Reading.{read-put, reads-same, same-map, same-hold}
+use Rattle.evaluation.proofs.Questions.{put-in-slots}
+use Rattle.evaluation.proofs.Free.{based, completed, completed-reads, completed-holds, completed-sorted}
+use Rattle.evaluation.proofs.Nodes.{AreNodes, nodes-proper, nodes-put, nodes-resolved, read-at}
 use Rattle.infer_table.specs.Content.{IsProper}
 use Rattle.solver_exactness.specs.ClosedTables.{AreClosed}
 

@@ -6,12 +6,12 @@ use Rattle.infer_table.specs.Canonical.{CanonicalForm}
 use Rattle.infer_table.specs.declared.certainty.TypingMode.{TypingMode}
 use Rattle.infer_table.specs.declared.certainty.TypingMode.TheVariants.{Coherence, PostAnalysis}
 use Rattle.evaluation.specs.Lists.{Every}
-use Rattle.table_laws.specs.Content.{Values, Fact, Question, Terms, fact_of}
-use Rattle.table_laws.specs.Frames.{kinds_known, FrameTable, IsMadeFrame, Allows, Nested, Meets, fact, question, values_at}
-use Rattle.table_laws.specs.Operations.{begin, fresh}
-use Rattle.table_laws.specs.Finite.{IsDetermined}
-use Rattle.table_laws.proofs.Questions.{instance_of_question}
-use Rattle.evaluation_laws.specs.Tables.{frame_tables}
+use Rattle.evaluation.specs.Content.{Values, Fact, Question, Terms, fact_of}
+use Rattle.evaluation.specs.FrameTables.{kinds_known, FrameTable, IsMadeFrame, Allows, Nested, Meets, fact, question, values_at}
+use Rattle.evaluation.specs.TableOperations.{begin, fresh}
+use Rattle.evaluation.specs.Finite.{IsDetermined}
+use Rattle.evaluation.proofs.Questions.{instance_of_question}
+use Rattle.evaluation.specs.Tables.{frame_tables}
 use Rattle.solver_exactness.specs.Closed.{AreWays, AsksFrom, AsksSuch, DeterminesNested}
 use Rattle.solver_exactness.specs.ClosedTables.{AreClosed, ArePlaces, closed_tables}
 use Rattle.solver_exactness.specs.NestedFacts.{AsksOnly}

@@ -16,13 +16,13 @@ use Rattle.infer_table.specs.Canonical.{CanonicalForm}
 use Rattle.infer_table.specs.declared.canonical.CanonicalVarKind.{CanonicalVarKind}
 use Rattle.infer_table.specs.declared.canonical.CanonicalVarKind.TheVariants.{Ty, Const, Region}
 use Rattle.evaluation.specs.Lists.{Every}
-use Rattle.table_laws.specs.Instances.{read_with, of_sort, term_at}
-use Rattle.table_laws.specs.Content.{fits as fit_values, Values, Fact, Terms, given}
-use Rattle.table_laws.specs.Frames.{Allows, Meets, Nested, fact, kind_at}
-use Rattle.table_laws.specs.Operations.{begin, fresh}
-use Rattle.evaluation_laws.specs.Tables.{frame_tables}
-use Rattle.evaluation_laws.specs.Variables.{is_variable_over}
-use Rattle.evaluation_laws.proofs.Slots.{own_slot, of-sort-twice}
+use Rattle.evaluation.specs.Instances.{read_with, of_sort, term_at}
+use Rattle.evaluation.specs.Content.{fits as fit_values, Values, Fact, Terms, given}
+use Rattle.evaluation.specs.FrameTables.{Allows, Meets, Nested, fact, kind_at}
+use Rattle.evaluation.specs.TableOperations.{begin, fresh}
+use Rattle.evaluation.specs.Tables.{frame_tables}
+use Rattle.evaluation.specs.Variables.{is_variable_over}
+use Rattle.evaluation.proofs.Slots.{own_slot, of-sort-twice}
 use Rattle.solver_exactness.specs.Closed.{Applies, Refuses, no_more, refused, applied}
 use Rattle.solver_exactness.specs.ClosedTables.{AreClosed, ArePlaces}
 use Rattle.assembly_laws.specs.Facts.{is_plain, is_unerased, beside, children_of, reference_in, tree_of_reference}

@@ -13,13 +13,13 @@ use Rattle.infer_table.specs.declared.canonical.CanonicalVarKind.{CanonicalVarKi
 use Rattle.infer_table.specs.declared.canonical.CanonicalVarKind.TheVariants.{Ty, PlaceholderTy, Const, PlaceholderConst, Region}
 use Rattle.evaluation.specs.Lists.{Every}
 use Rattle.evaluation.specs.declared.candidate.CandidateSource.{CandidateSource}
-use Rattle.table_laws.specs.Instances.{read_with, as_place, of_sort, term_at}
-use Rattle.table_laws.specs.Content.{Values, Fact, Terms, fits, given}
-use Rattle.table_laws.specs.Frames.{Allows, Equation, Meets, Nested, fact}
-use Rattle.table_laws.specs.Operations.{begin, fresh}
-use Rattle.evaluation_laws.specs.Tables.{frame_tables}
-use Rattle.evaluation_laws.specs.Variables.{is_variable_over}
-use Rattle.evaluation_laws.proofs.Slots.{HasKind, kind-of, slot-is}
+use Rattle.evaluation.specs.Instances.{read_with, as_place, of_sort, term_at}
+use Rattle.evaluation.specs.Content.{Values, Fact, Terms, fits, given}
+use Rattle.evaluation.specs.FrameTables.{Allows, Equation, Meets, Nested, fact}
+use Rattle.evaluation.specs.TableOperations.{begin, fresh}
+use Rattle.evaluation.specs.Tables.{frame_tables}
+use Rattle.evaluation.specs.Variables.{is_variable_over}
+use Rattle.evaluation.proofs.Slots.{HasKind, kind-of, slot-is}
 use Rattle.solver_exactness.specs.Closed.{Applies}
 use Rattle.solver_exactness.specs.ClosedTables.{AreClosed, ArePlaces, IsClosedKind}
 use Rattle.solver_exactness.proofs.ClosedQuestions.{places-fit}

@@ -10,9 +10,9 @@ use Rattle.model.proofs.Walking.{left, right}
 use Rattle.type_terms.specs.Made.{terms, bounds, is_leaf_label, is_made}
 use Rattle.type_terms.proofs.Made.{false-true}
 use Rattle.infer_table.specs.Canonical.{CanonicalForm}
-use Rattle.table_laws.specs.Instances.{read_with, of_sort, term_at}
-use Rattle.table_laws.specs.Content.{Values, given}
-use Rattle.evaluation_laws.specs.Variables.{is_variable_over}
+use Rattle.evaluation.specs.Instances.{read_with, of_sort, term_at}
+use Rattle.evaluation.specs.Content.{Values, given}
+use Rattle.evaluation.specs.Variables.{is_variable_over}
 use Rattle.solver_exactness.specs.ClosedTables.{AreClosed, ArePlaces}
 use Rattle.assembly_laws.specs.Meaning.{Meaning}
 use Rattle.assembly_laws.specs.Knowing.{is_knowable}

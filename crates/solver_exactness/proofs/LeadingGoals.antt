@@ -4,12 +4,12 @@ use Rattle.infer_table.specs.Canonical.{CanonicalForm}
 use Rattle.infer_table.specs.declared.certainty.TypingMode.{TypingMode}
 use Rattle.evaluation.specs.Lists.{Every}
 use Rattle.evaluation.proofs.ListLaws.{Every-mono}
-use Rattle.table_laws.specs.Content.{Values, Question, Terms}
-use Rattle.table_laws.specs.Frames.{kinds_known, FrameTable, Nested, IsMadeFrame, Allows, Meets, question, values_at}
-use Rattle.table_laws.specs.Operations.{begin, fresh}
-use Rattle.table_laws.specs.Finite.{IsDetermined}
+use Rattle.evaluation.specs.Content.{Values, Question, Terms}
+use Rattle.evaluation.specs.FrameTables.{kinds_known, FrameTable, Nested, IsMadeFrame, Allows, Meets, question, values_at}
+use Rattle.evaluation.specs.TableOperations.{begin, fresh}
+use Rattle.evaluation.specs.Finite.{IsDetermined}
 use Rattle.solver_exactness.specs.ClosedTables.{AreClosed, closed_tables}
-use Rattle.evaluation_laws.specs.Tables.{frame_tables}
+use Rattle.evaluation.specs.Tables.{frame_tables}
 use Rattle.solver_exactness.specs.Closed.{AsksFrom, AsksSuch}
 use Rattle.assembly_laws.specs.Meaning.{Meaning}
 use Rattle.assembly_laws.specs.Asking.{Asked, asked}

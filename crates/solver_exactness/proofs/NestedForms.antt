@@ -16,19 +16,19 @@ use Rattle.infer_table.specs.Solutions.{Binding, HasValues, replace, resolved}
 use Rattle.infer_table.specs.declared.canonical.CanonicalVarKind.{CanonicalVarKind}
 use Rattle.infer_table.proofs.SolutionLaws.{resolved-none}
 use Rattle.evaluation.specs.Lists.{Every}
-use Rattle.table_laws.specs.Instances.{read_with, put_in, term_at}
-use Rattle.table_laws.specs.Content.{Terms, standing, given}
-use Rattle.table_laws.specs.Frames.{FrameTable, IsMadeFrame, Allows, Nested, good_in, goal_in, question, fact, slot_at, is_open_label}
-use Rattle.table_laws.specs.Answers.{kinds_of}
-use Rattle.table_laws.specs.Finite.{IsDetermined}
-use Rattle.table_laws.proofs.Equating.{made-put, slots-of}
-use Rattle.table_laws.proofs.Labels.{made-more}
-use Rattle.table_laws.proofs.Nodes.{AreNodes, nodes-put, nodes-resolved}
-use Rattle.table_laws.proofs.Questions.{put-in-slots, read-resolved}
-use Rattle.table_laws.proofs.Reading.{read-put, read-append}
-use Rattle.table_laws.proofs.Resolved.{made-resolved}
-use Rattle.table_laws.proofs.Whole.{as-place-one, read-one}
-use Rattle.evaluation_laws.specs.Variables.{is_variable_over}
+use Rattle.evaluation.specs.Instances.{read_with, put_in, term_at}
+use Rattle.evaluation.specs.Content.{Terms, standing, given}
+use Rattle.evaluation.specs.FrameTables.{FrameTable, IsMadeFrame, Allows, Nested, good_in, goal_in, question, fact, slot_at, is_open_label}
+use Rattle.evaluation.specs.TableAnswers.{kinds_of}
+use Rattle.evaluation.specs.Finite.{IsDetermined}
+use Rattle.evaluation.proofs.Equating.{made-put, slots-of}
+use Rattle.evaluation.proofs.Labels.{made-more}
+use Rattle.evaluation.proofs.Nodes.{AreNodes, nodes-put, nodes-resolved}
+use Rattle.evaluation.proofs.Questions.{put-in-slots, read-resolved}
+use Rattle.evaluation.proofs.Reading.{read-put, read-append}
+use Rattle.evaluation.proofs.Resolved.{made-resolved}
+use Rattle.evaluation.proofs.Whole.{as-place-one, read-one}
+use Rattle.evaluation.specs.Variables.{is_variable_over}
 use Rattle.goal_frames.specs.Forms.{is_unnumbered}
 use Rattle.solver_exactness.specs.ClosedTables.{AreClosed}
 use Rattle.solver_exactness.proofs.FreeTables.{no-unknown}

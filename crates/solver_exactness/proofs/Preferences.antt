@@ -11,8 +11,8 @@ use Rattle.evaluation.specs.Candidate.{Considered}
 use Rattle.evaluation.specs.Merge.{responses, if_there, or_else}
 use Rattle.evaluation.specs.PlanAnswers.{passes, first_passing, if_so, taken_or_merged, first_taken}
 use Rattle.evaluation.proofs.ListLaws.{SomeOf-mono}
-use Rattle.table_laws.specs.Frames.{FrameTable}
-use Rattle.evaluation_laws.specs.Tables.{frame_tables}
+use Rattle.evaluation.specs.FrameTables.{FrameTable}
+use Rattle.evaluation.specs.Tables.{frame_tables}
 use Rattle.solver_exactness.specs.Exact.{IsMade}
 use Rattle.solver_exactness.proofs.ExactPlans.{IsExactFrom}
 use Rattle.solver_exactness.proofs.Merging.{merged, merged-one, merged-some, merged-bare}

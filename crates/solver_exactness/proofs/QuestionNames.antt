@@ -7,10 +7,10 @@ use Rattle.model.specs.Answers.{is_undeclared}
 use Rattle.model.proofs.Fitting.{head-shut, child-shut, next-shut}
 use Rattle.type_terms.proofs.Made.{false-true}
 use Rattle.infer_table.specs.Canonical.{OpenKinds, relabeled, canonical_label}
-use Rattle.table_laws.specs.Instances.{read_with, as_place, term_at}
-use Rattle.table_laws.specs.Content.{Terms, standing}
-use Rattle.table_laws.proofs.Nodes.{AreNodes}
-use Rattle.table_laws.proofs.Whole.{as-place-one}
+use Rattle.evaluation.specs.Instances.{read_with, as_place, term_at}
+use Rattle.evaluation.specs.Content.{Terms, standing}
+use Rattle.evaluation.proofs.Nodes.{AreNodes}
+use Rattle.evaluation.proofs.Whole.{as-place-one}
 use Rattle.solver_exactness.proofs.QuestionTerms.{is_unknown}
 
 module _ (V : World) where

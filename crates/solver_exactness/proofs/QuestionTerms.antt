@@ -6,13 +6,13 @@ use Rattle.model.proofs.Fitting.{head-shut, child-shut, next-shut}
 use Rattle.type_terms.specs.Made.{Standing, terms, bounds, traits, is_leaf_label, is_made}
 use Rattle.type_terms.proofs.Made.{false-true, left, right, both, is_ordinary, made-ordinary, makes-ordinary, made-rest, last-bound, last-trait, never-dynamic, never-dynamic-bound, never-principal}
 use Rattle.infer_table.proofs.SolutionLaws.{is_sort-equal as is-sort}
-use Rattle.table_laws.specs.Instances.{read_with, is_place, as_place, term_at}
-use Rattle.table_laws.specs.Content.{Terms, standing}
-use Rattle.table_laws.proofs.Labels.{last-made}
-use Rattle.table_laws.proofs.Nodes.{AreNodes}
-use Rattle.table_laws.proofs.Questions.{is-place}
-use Rattle.table_laws.proofs.Reading.{read-append}
-use Rattle.table_laws.proofs.Whole.{read-one}
+use Rattle.evaluation.specs.Instances.{read_with, is_place, as_place, term_at}
+use Rattle.evaluation.specs.Content.{Terms, standing}
+use Rattle.evaluation.proofs.Labels.{last-made}
+use Rattle.evaluation.proofs.Nodes.{AreNodes}
+use Rattle.evaluation.proofs.Questions.{is-place}
+use Rattle.evaluation.proofs.Reading.{read-append}
+use Rattle.evaluation.proofs.Whole.{read-one}
 use Rattle.goal_frames.specs.Forms.{is_unnumbered}
 
 -- an unknown type or const

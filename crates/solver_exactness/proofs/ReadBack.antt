@@ -10,7 +10,7 @@ use Rattle.model.specs.Answers.{is_open, is_closed}
 use Rattle.model.specs.LinkedSet.{is_open_place}
 use Rattle.model.proofs.Fitting.{child-shut, next-shut}
 use Rattle.type_terms.proofs.Made.{false-true}
-use Rattle.table_laws.specs.Content.{Fact}
+use Rattle.evaluation.specs.Content.{Fact}
 use Rattle.assembly_laws.specs.Facts.{clauses_of, reference_in, beside}
 use Rattle.assembly_laws.specs.Knowing.{is_knowable}
 use Rattle.assembly_laws.proofs.Supers.{open-none}

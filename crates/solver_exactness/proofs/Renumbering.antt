@@ -11,12 +11,12 @@ use Rattle.infer_table.specs.Canonical.{OpenKinds, GoalTrees, StandsInGoal, kind
 use Rattle.infer_table.specs.declared.canonical.CanonicalVarKind.{CanonicalVarKind}
 use Rattle.infer_table.proofs.CanonicalLaws.{leaves-hold, leaves-keep}
 use Rattle.evaluation.specs.Lists.{Every}
-use Rattle.table_laws.specs.Frames.{kind_at}
-use Rattle.table_laws.specs.Answers.{is_kind_of, with_kind, kinds_of}
-use Rattle.table_laws.proofs.Reading.{EachLabel}
-use Rattle.table_laws.proofs.Nodes.{every-leaf}
+use Rattle.evaluation.specs.FrameTables.{kind_at}
+use Rattle.evaluation.specs.TableAnswers.{is_kind_of, with_kind, kinds_of}
+use Rattle.evaluation.proofs.Reading.{EachLabel}
+use Rattle.evaluation.proofs.Nodes.{every-leaf}
 use Rattle.goal_frames.specs.Forms.{is_unnumbered}
-use Rattle.evaluation_laws.specs.Variables.{is_variable_over}
+use Rattle.evaluation.specs.Variables.{is_variable_over}
 use Rattle.assembly_laws.specs.Asking.{with_first, all_known}
 
 -- ---- labels in the place of open leaves

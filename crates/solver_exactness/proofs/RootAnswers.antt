@@ -3,7 +3,7 @@ use Rattle.std.proofs.Common.{◌+◌, Bool, List}
 use Rattle.type_terms.specs.Terms.{Entry}
 use Rattle.infer_table.specs.Canonical.{CanonicalForm}
 use Rattle.infer_table.specs.Responses.{AnswerTrees}
-use Rattle.evaluation_laws.specs.Tables.{frame_tables}
+use Rattle.evaluation.specs.Tables.{frame_tables}
 use Rattle.goal_frames.specs.Programs.{ArePrograms}
 use Rattle.root_goals.specs.Searching.{handles}
 use Rattle.assembly_laws.specs.Facts.{FollowsByView, is_coinductive_fact}

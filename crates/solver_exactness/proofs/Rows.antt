@@ -9,8 +9,8 @@ use Rattle.infer_table.specs.Canonical.{CanonicalForm}
 use Rattle.evaluation.specs.declared.candidate.CandidateSource.{CandidateSource}
 use Rattle.evaluation.specs.declared.candidate.CandidateSource.TheVariants.{BuiltinImpl}
 use Rattle.evaluation.specs.declared.candidate.BuiltinImplSource.TheVariants.{Trivial}
-use Rattle.table_laws.specs.Content.{Values, Fact}
-use Rattle.evaluation_laws.specs.Variables.{is_variable_over}
+use Rattle.evaluation.specs.Content.{Values, Fact}
+use Rattle.evaluation.specs.Variables.{is_variable_over}
 use Rattle.solver_exactness.specs.Closed.{no_more, applied}
 use Rattle.solver_exactness.specs.ClosedTables.{AreClosed, ArePlaces}
 use Rattle.assembly_laws.specs.Facts.{is_plain, is_unerased, reference_in}

@@ -1,9 +1,9 @@
 -- Plain recursion over the frames of a list of rules is exact and right.
 use Rattle.std.proofs.Common.{Option}
 use Rattle.infer_table.specs.Responses.{AnswerTrees}
-use Rattle.table_laws.specs.Content.{Fact}
-use Rattle.evaluation_laws.specs.Tables.{frame_tables}
-use Rattle.evaluation_laws.proofs.Laws.{tables_are_lawful}
+use Rattle.evaluation.specs.Content.{Fact}
+use Rattle.evaluation.specs.Tables.{frame_tables}
+use Rattle.evaluation.proofs.FrameTableLaws.{tables_are_lawful}
 use Rattle.goal_frames.specs.Searches.{Handles, Asked}
 use Rattle.goal_frames.specs.RulePrograms.{DeclaredRules}
 use Rattle.solver_exactness.specs.RuleAnswers.{rule_programs}

@@ -10,19 +10,19 @@ use Rattle.infer_table.specs.declared.canonical.CanonicalVarKind.TheVariants.{Ty
 use Rattle.infer_table.specs.Raw.{sort_of_kind}
 use Rattle.infer_table.specs.Applying.{table_after}
 use Rattle.evaluation.specs.Lists.{Every}
-use Rattle.table_laws.specs.Instances.{read_with, of_sort, term_at}
-use Rattle.table_laws.specs.Content.{Values, Terms, standing, reading_of}
-use Rattle.table_laws.specs.Frames.{kind_at, FrameTable, IsMadeFrame, Allows, types_in, consts_in, labels_from, first_content, unknown, labels_for}
-use Rattle.table_laws.proofs.Applying.{for-bindings}
-use Rattle.table_laws.proofs.Beginning.{begin-made}
-use Rattle.table_laws.proofs.Fresh.{fresh-made}
-use Rattle.table_laws.specs.Operations.{begin, fresh}
-use Rattle.evaluation_laws.proofs.OperationLaws.{begins-free}
+use Rattle.evaluation.specs.Instances.{read_with, of_sort, term_at}
+use Rattle.evaluation.specs.Content.{Values, Terms, standing, reading_of}
+use Rattle.evaluation.specs.FrameTables.{kind_at, FrameTable, IsMadeFrame, Allows, types_in, consts_in, labels_from, first_content, unknown, labels_for}
+use Rattle.evaluation.proofs.Applying.{for-bindings}
+use Rattle.evaluation.proofs.TableBeginning.{begin-made}
+use Rattle.evaluation.proofs.Fresh.{fresh-made}
+use Rattle.evaluation.specs.TableOperations.{begin, fresh}
+use Rattle.evaluation.proofs.OperationLaws.{begins-free}
 use Rattle.goal_frames.specs.Rules.{IsUnknown}
-use Rattle.evaluation_laws.specs.Variables.{is_variable_over}
-use Rattle.evaluation_laws.proofs.Readings.{AgreeIn}
+use Rattle.evaluation.specs.Variables.{is_variable_over}
+use Rattle.evaluation.proofs.Readings.{AgreeIn}
 use Rattle.goal_frames.proofs.Behind.{dropped}
-use Rattle.evaluation_laws.proofs.Slots.{kind-of, own_slot, slot-is, of-sort-twice}
+use Rattle.evaluation.proofs.Slots.{kind-of, own_slot, slot-is, of-sort-twice}
 use Rattle.solver_exactness.specs.ClosedTables.{AreClosed}
 use Rattle.solver_exactness.proofs.FreeTables.{low, whole, whole-allowed, whole-reads}
 

@@ -16,30 +16,30 @@ use Rattle.evaluation.specs.Lists.{Every}
 use Rattle.evaluation.specs.Table.{workings}
 use Rattle.evaluation.specs.Candidate.{Spec}
 use Rattle.evaluation.proofs.ListLaws.{Every-mono, Every-map}
-use Rattle.table_laws.specs.Instances.{read_with, goal_read, put_in}
-use Rattle.table_laws.specs.Content.{Values, Fact, Question, Terms, fits, given, fact_of}
-use Rattle.table_laws.specs.Frames.{FrameTable, IsMadeFrame, Allows, Meets, Nested, fact, kinds_known, good_in, slot_at, goal_in, question}
+use Rattle.evaluation.specs.Instances.{read_with, goal_read, put_in}
+use Rattle.evaluation.specs.Content.{Values, Fact, Question, Terms, fits, given, fact_of}
+use Rattle.evaluation.specs.FrameTables.{FrameTable, IsMadeFrame, Allows, Meets, Nested, fact, kinds_known, good_in, slot_at, goal_in, question}
 use Rattle.type_terms.proofs.Made.{false-true, right}
-use Rattle.table_laws.proofs.Labels.{made-more}
-use Rattle.table_laws.proofs.Equating.{made-put, slots-of}
-use Rattle.table_laws.proofs.Resolved.{made-resolved}
-use Rattle.table_laws.proofs.Beginning.{begin-made}
-use Rattle.table_laws.specs.Operations.{begin, fresh}
-use Rattle.evaluation_laws.specs.Tables.{frame_tables}
+use Rattle.evaluation.proofs.Labels.{made-more}
+use Rattle.evaluation.proofs.Equating.{made-put, slots-of}
+use Rattle.evaluation.proofs.Resolved.{made-resolved}
+use Rattle.evaluation.proofs.TableBeginning.{begin-made}
+use Rattle.evaluation.specs.TableOperations.{begin, fresh}
+use Rattle.evaluation.specs.Tables.{frame_tables}
 use Rattle.goal_frames.specs.Rules.{Bound, goal_of, Rule, RuleBook, IsOver, IsRule, AreRules, instance_of}
 use Rattle.goal_frames.specs.Handlers.{Asked, asked, behind, as_one, nested_of_bound, spec_of, specs_for, candidates_of, listing_of, same_answer, applies_always}
 use Rattle.goal_frames.specs.RulePrograms.{DeclaredRules, book_of}
 use Rattle.solver_exactness.specs.RuleAnswers.{rule_programs}
 use Rattle.goal_frames.specs.Forms.{is_unnumbered}
 use Rattle.goal_frames.proofs.Behind.{dropped, read-behind, made-behind, made-open}
-use Rattle.evaluation_laws.proofs.Readings.{made-leaves, reads-agree}
-use Rattle.evaluation_laws.proofs.Slots.{own-slots-agree, kind-of}
+use Rattle.evaluation.proofs.Readings.{made-leaves, reads-agree}
+use Rattle.evaluation.proofs.Slots.{own-slots-agree, kind-of}
 use Rattle.goal_frames.proofs.Asked.{IsAsked, asked-is, kinds-are}
 use Rattle.goal_frames.proofs.Sound.{term-one, fact-behind, heads, determined}
 use Rattle.goal_frames.proofs.Forms.{canonical-goals-are-asked}
-use Rattle.evaluation_laws.specs.Variables.{is_variable_over}
+use Rattle.evaluation.specs.Variables.{is_variable_over}
 use Rattle.solver_exactness.specs.Closed.{Applies, Refuses, AreWays, no_more, refused, applied, DeterminesNested, AsksFrom, AsksSuch}
-use Rattle.table_laws.specs.Finite.{IsDetermined}
+use Rattle.evaluation.specs.Finite.{IsDetermined}
 use Rattle.solver_exactness.specs.ClosedTables.{AreClosed, ArePlaces, closed_tables}
 use Rattle.solver_exactness.specs.Ways.{IsSelection}
 use Rattle.solver_exactness.specs.Exact.{AnswersExactly, AreSure}

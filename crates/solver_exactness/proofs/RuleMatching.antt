@@ -7,15 +7,15 @@ use Rattle.infer_table.specs.Solutions.{HasValues, tree_of}
 use Rattle.infer_table.specs.declared.canonical.CanonicalVarKind.{CanonicalVarKind}
 use Rattle.infer_table.specs.Raw.{sort_of_kind}
 use Rattle.evaluation.specs.Merge.{or_else}
-use Rattle.table_laws.specs.Instances.{read_with, of_sort, term_at}
-use Rattle.table_laws.specs.Content.{given}
-use Rattle.table_laws.specs.Frames.{kind_at}
+use Rattle.evaluation.specs.Instances.{read_with, of_sort, term_at}
+use Rattle.evaluation.specs.Content.{given}
+use Rattle.evaluation.specs.FrameTables.{kind_at}
 use Rattle.type_terms.proofs.Made.{false-true, left, right}
 use Rattle.infer_table.proofs.SolutionLaws.{is_sort-equal, is_sort-self}
-use Rattle.table_laws.proofs.Beginning.{node_of, node-is}
-use Rattle.evaluation_laws.specs.Variables.{StandsIn}
-use Rattle.evaluation_laws.proofs.Readings.{HasLeaves, AgreeIn}
-use Rattle.evaluation_laws.proofs.Slots.{HasKind, of-sort-twice}
+use Rattle.evaluation.proofs.TableBeginning.{node_of, node-is}
+use Rattle.evaluation.specs.Variables.{StandsIn}
+use Rattle.evaluation.proofs.Readings.{HasLeaves, AgreeIn}
+use Rattle.evaluation.proofs.Slots.{HasKind, of-sort-twice}
 use Rattle.solver_exactness.specs.RuleWays.{value_at, or_none, matched}
 
 module _ (ys : List Trees) (k : Sort) (i : ℕ) (g : HasValues k) where

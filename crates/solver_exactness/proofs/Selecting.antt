@@ -9,7 +9,7 @@ use Rattle.model.proofs.Members.{here, there, in-cases, in-nothing, in-map, same
 use Rattle.model.proofs.Walking.{left, right}
 use Rattle.type_terms.proofs.Made.{false-true}
 use Rattle.evaluation.specs.Lists.{Every, SomeOf}
-use Rattle.table_laws.specs.Content.{Fact}
+use Rattle.evaluation.specs.Content.{Fact}
 use Rattle.solver_exactness.specs.Ways.{AtMostOne, IsSelection}
 use Rattle.assembly_laws.specs.DeclaredWell.{are_distinct}
 use Rattle.assembly_laws.specs.Facts.{beside}

@@ -17,14 +17,14 @@ use Rattle.infer_table.proofs.OccurFacts.{lifetime-unbound}
 use Rattle.infer_table.specs.Values.{Value}
 use Rattle.type_terms.specs.Made.{terms, is_made}
 use Rattle.evaluation.specs.Lists.{Every}
-use Rattle.table_laws.specs.Frames.{FrameTable, IsMadeFrame, AreOwn, good_in}
-use Rattle.table_laws.specs.Answers.{is_variable_itself, are_variables, has_values, own_labels, joined, answer_leaves, value_numbered, respond}
+use Rattle.evaluation.specs.FrameTables.{FrameTable, IsMadeFrame, AreOwn, good_in}
+use Rattle.evaluation.specs.TableAnswers.{is_variable_itself, are_variables, has_values, own_labels, joined, answer_leaves, value_numbered, respond}
 use Rattle.type_terms.proofs.Made.{false-true}
 use Rattle.infer_table.proofs.SolutionLaws.{is_sort-self}
-use Rattle.table_laws.proofs.Assignments.{all-valued}
-use Rattle.table_laws.proofs.Labels.{every-end}
-use Rattle.table_laws.proofs.Answering.{overflow_is_bare}
-use Rattle.table_laws.proofs.FirstAnswers.{append-list, length-more, place-is, number-self, value_by}
+use Rattle.evaluation.proofs.Assignments.{all-valued}
+use Rattle.evaluation.proofs.Labels.{every-end}
+use Rattle.evaluation.proofs.Answering.{overflow_is_bare}
+use Rattle.evaluation.proofs.FirstAnswers.{append-list, length-more, place-is, number-self, value_by}
 use Rattle.solver_exactness.specs.ClosedTables.{AreClosed}
 
 -- ---- leaves are added at the end

@@ -6,9 +6,9 @@ use Rattle.infer_table.specs.Canonical.{CanonicalForm}
 use Rattle.infer_table.specs.declared.certainty.TypingMode.TheVariants.{PostAnalysis}
 use Rattle.infer_table.specs.Responses.{AnswerTrees}
 use Rattle.evaluation.specs.Lists.{Every}
-use Rattle.table_laws.specs.Content.{Values, Fact, Question, fact_of}
-use Rattle.evaluation_laws.specs.Tables.{frame_tables}
-use Rattle.evaluation_laws.proofs.Laws.{tables_are_lawful}
+use Rattle.evaluation.specs.Content.{Values, Fact, Question, fact_of}
+use Rattle.evaluation.specs.Tables.{frame_tables}
+use Rattle.evaluation.proofs.FrameTableLaws.{tables_are_lawful}
 use Rattle.goal_frames.specs.Programs.{ArePrograms}
 use Rattle.goal_frames.specs.Searches.{Handles, Asked}
 use Rattle.solver_exactness.specs.ClosedTables.{closed_tables}

@@ -6,11 +6,11 @@ use Rattle.infer_table.specs.declared.certainty.TypingMode.{TypingMode}
 use Rattle.infer_table.specs.declared.certainty.TypingMode.TheVariants.{Coherence, PostAnalysis}
 use Rattle.model.proofs.Walking.{both}
 use Rattle.evaluation.specs.Lists.{Every}
-use Rattle.table_laws.specs.Content.{Values, Fact, Question}
-use Rattle.table_laws.specs.Frames.{kinds_known}
-use Rattle.table_laws.specs.Operations.{begin}
-use Rattle.table_laws.proofs.Beginning.{begin-made}
-use Rattle.evaluation_laws.specs.Tables.{frame_tables}
+use Rattle.evaluation.specs.Content.{Values, Fact, Question}
+use Rattle.evaluation.specs.FrameTables.{kinds_known}
+use Rattle.evaluation.specs.TableOperations.{begin}
+use Rattle.evaluation.proofs.TableBeginning.{begin-made}
+use Rattle.evaluation.specs.Tables.{frame_tables}
 use Rattle.solver_exactness.specs.Closed.{AreWays, AsksSuch}
 use Rattle.solver_exactness.specs.ClosedTables.{AreClosed, ArePlaces, closed_tables}
 use Rattle.solver_exactness.specs.Ways.{IsSelection}

@@ -11,10 +11,10 @@ use Rattle.infer_table.specs.declared.certainty.Certainty.{Certainty}
 use Rattle.infer_table.specs.declared.certainty.TypingMode.TheVariants.{Coherence, PostAnalysis}
 use Rattle.evaluation.specs.Plans.{Plan, each_of, came, if_refused, first_alone}
 use Rattle.evaluation.specs.Merge.{responses}
-use Rattle.table_laws.specs.Frames.{FrameTable, kind_at, kinds_known}
-use Rattle.table_laws.specs.Operations.{begin}
-use Rattle.table_laws.proofs.Beginning.{begin-made}
-use Rattle.evaluation_laws.specs.Tables.{frame_tables}
+use Rattle.evaluation.specs.FrameTables.{FrameTable, kind_at, kinds_known}
+use Rattle.evaluation.specs.TableOperations.{begin}
+use Rattle.evaluation.proofs.TableBeginning.{begin-made}
+use Rattle.evaluation.specs.Tables.{frame_tables}
 use Rattle.solver_exactness.specs.ClosedTables.{AreClosed, IsClosedKind}
 use Rattle.solver_exactness.specs.Exact.{IsMade}
 use Rattle.solver_exactness.proofs.ClosedLaws.{closed_tables_are_lawful}

@@ -4,10 +4,10 @@ use Rattle.std.specs.List.{flat_map}
 use Rattle.model.specs.Worlds.{World, Reference}
 use Rattle.model.specs.Rules.{Rule, impl_rules, rules, clause_rules, strict_supertraits, sized, copy, clone, tuple_trait, fn_ptr_trait, is_fn_trait, unsize, is_auto, sized_rules, copy_rules, auto_rules, tuple_rules, fn_ptr_rules, call_rules, unsize_rules, unsize_array_rules, unsize_to_dyn_rules, unsize_upcast_rules, unsize_struct_rules, object_rules}
 use Rattle.infer_table.specs.Canonical.{CanonicalForm}
-use Rattle.table_laws.specs.Content.{Values, Fact}
+use Rattle.evaluation.specs.Content.{Values, Fact}
 use Rattle.solver_exactness.specs.Closed.{Applies, no_more, applied}
-use Rattle.table_laws.specs.Operations.{begin}
-use Rattle.evaluation_laws.specs.Tables.{frame_tables}
+use Rattle.evaluation.specs.TableOperations.{begin}
+use Rattle.evaluation.specs.Tables.{frame_tables}
 use Rattle.evaluation.specs.Lists.{Every}
 use Rattle.solver_exactness.specs.ClosedTables.{AreClosed, ArePlaces}
 use Rattle.solver_exactness.specs.Ways.{IsSelection}

@@ -16,8 +16,8 @@ use Rattle.evaluation.specs.Lists.{Every}
 use Rattle.evaluation.specs.declared.candidate.CandidateSource.{CandidateSource}
 use Rattle.evaluation.specs.declared.candidate.CandidateSource.TheVariants.{BuiltinImpl, ParamEnv}
 use Rattle.evaluation.specs.declared.candidate.BuiltinImplSource.TheVariants.{Trivial}
-use Rattle.table_laws.specs.Instances.{put_in, default_label}
-use Rattle.table_laws.specs.Frames.{Nested, Equation, term_of, is_open_label}
+use Rattle.evaluation.specs.Instances.{put_in, default_label}
+use Rattle.evaluation.specs.FrameTables.{Nested, Equation, term_of, is_open_label}
 use Rattle.infer_table.specs.Values.{Value}
 use Rattle.declarations.specs.Elaboration.{elaborate, supertraits}
 use Rattle.assembly_laws.specs.Declared.{is_declared, are_terms, are_references}

@@ -11,16 +11,16 @@ use Rattle.infer_table.specs.declared.certainty.TypingMode.TheVariants.{Coherenc
 use Rattle.evaluation.specs.Lists.{Every}
 use Rattle.evaluation.specs.Table.{Narrows}
 use Rattle.evaluation.proofs.ListLaws.{Every-mono}
-use Rattle.table_laws.specs.Content.{Values, Question, Terms}
-use Rattle.table_laws.specs.Equations.{IsValue}
-use Rattle.table_laws.specs.Finite.{IsDetermined}
-use Rattle.table_laws.specs.Frames.{kinds_known, FrameTable, IsMadeFrame, Allows, Meets, Nested, Equation, good_in, slot_at, goal_in, question, fact, in_turn, pairs_in, types_in, consts_in}
-use Rattle.table_laws.specs.Instances.{put_in}
-use Rattle.table_laws.specs.Operations.{begin, fresh, equate, recorded}
-use Rattle.table_laws.proofs.Beginning.{begin-made}
-use Rattle.table_laws.proofs.Equating.{with-content-is, equations-narrow}
-use Rattle.evaluation_laws.specs.Tables.{frame_tables}
-use Rattle.evaluation_laws.proofs.Laws.{tables_are_lawful}
+use Rattle.evaluation.specs.Content.{Values, Question, Terms}
+use Rattle.evaluation.specs.Equations.{IsValue}
+use Rattle.evaluation.specs.Finite.{IsDetermined}
+use Rattle.evaluation.specs.FrameTables.{kinds_known, FrameTable, IsMadeFrame, Allows, Meets, Nested, Equation, good_in, slot_at, goal_in, question, fact, in_turn, pairs_in, types_in, consts_in}
+use Rattle.evaluation.specs.Instances.{put_in}
+use Rattle.evaluation.specs.TableOperations.{begin, fresh, equate, recorded}
+use Rattle.evaluation.proofs.TableBeginning.{begin-made}
+use Rattle.evaluation.proofs.Equating.{with-content-is, equations-narrow}
+use Rattle.evaluation.specs.Tables.{frame_tables}
+use Rattle.evaluation.proofs.FrameTableLaws.{tables_are_lawful}
 use Rattle.solver_exactness.specs.Closed.{AsksFrom, AsksSuch, DeterminesNested}
 use Rattle.solver_exactness.specs.ClosedTables.{AreClosed, closed_tables}
 use Rattle.solver_exactness.proofs.FreeTables.{no-unknown}

@@ -19,17 +19,17 @@ use Rattle.infer_table.proofs.ExtendFacts.{unified-extends}
 use Rattle.infer_table.specs.Responses.{AnswerTrees}
 use Rattle.infer_table.specs.Values.{Value, filled}
 use Rattle.evaluation.specs.Lists.{Every}
-use Rattle.table_laws.specs.Answers.{put_into, is_fitting_answer, originals_of}
-use Rattle.table_laws.specs.Instances.{put_in, default_label}
-use Rattle.table_laws.specs.Frames.{FrameTable, IsMadeFrame, Nested, Equation, term_of, good_in, label_at, label_of_sort, slot_at, labels_from, labels_for, first_content, unknown, in_turn, pairs_in}
-use Rattle.table_laws.specs.Equations.{IsTerm, IsPair, IsValue, IsMade}
-use Rattle.table_laws.proofs.Beginning.{begin-made}
-use Rattle.table_laws.proofs.Fresh.{fresh-made}
+use Rattle.evaluation.specs.TableAnswers.{put_into, is_fitting_answer, originals_of}
+use Rattle.evaluation.specs.Instances.{put_in, default_label}
+use Rattle.evaluation.specs.FrameTables.{FrameTable, IsMadeFrame, Nested, Equation, term_of, good_in, label_at, label_of_sort, slot_at, labels_from, labels_for, first_content, unknown, in_turn, pairs_in}
+use Rattle.evaluation.specs.Equations.{IsTerm, IsPair, IsValue, IsMade}
+use Rattle.evaluation.proofs.TableBeginning.{begin-made}
+use Rattle.evaluation.proofs.Fresh.{fresh-made}
 use Rattle.evaluation.proofs.ListLaws.{Every-mono}
-use Rattle.table_laws.specs.Operations.{apply, begin, fresh, equate}
-use Rattle.table_laws.proofs.Applying.{for-bindings}
-use Rattle.table_laws.proofs.Equating.{with-content-is, pairs-terms, in-turn-narrows}
-use Rattle.evaluation_laws.specs.Tables.{frame_tables}
+use Rattle.evaluation.specs.TableOperations.{apply, begin, fresh, equate}
+use Rattle.evaluation.proofs.Applying.{for-bindings}
+use Rattle.evaluation.proofs.Equating.{with-content-is, pairs-terms, in-turn-narrows}
+use Rattle.evaluation.specs.Tables.{frame_tables}
 use Rattle.solver_exactness.specs.Closed.{Reaches, here, answered}
 use Rattle.assembly_laws.proofs.Instances.{is_bound, Unbound, shift-unbound}
 use Rattle.solver_exactness.proofs.QuestionTerms.{is_unknown}

@@ -3,7 +3,7 @@ use Rattle.std.proofs.Common.{◌≡◌, true, List, [], ◌∷◌, refl, Some, 
 use Rattle.model.specs.Label.{of_type, adt, placeholder, canonical}
 use Rattle.model.specs.Trees.{Trees, none, tree, leaf}
 use Rattle.infer_table.specs.declared.canonical.CanonicalVarKind.TheVariants.{Ty}
-use Rattle.table_laws.specs.Content.{Fact}
+use Rattle.evaluation.specs.Content.{Fact}
 use Rattle.goal_frames.specs.Rules.{Bound, goal_of, Rule}
 use Rattle.solver_exactness.specs.Ways.{HasShortChains, IsPossible}
 use Rattle.solver_exactness.specs.RuleWays.{rule_ways}

@@ -6,7 +6,7 @@ use Rattle.model.specs.Worlds.{World, Reference}
 use Rattle.model.specs.Rules.{unsize, impl_rules, unsize_upcast_rules, object_rules}
 use Rattle.infer_table.specs.Canonical.{CanonicalForm}
 use Rattle.evaluation.specs.Lists.{Every, SomeOf}
-use Rattle.table_laws.specs.Content.{Values, Fact}
+use Rattle.evaluation.specs.Content.{Values, Fact}
 use Rattle.solver_exactness.specs.ClosedTables.{AreClosed, ArePlaces}
 use Rattle.solver_exactness.specs.Ways.{AtMostOne}
 use Rattle.assembly_laws.specs.Facts.{reference_in, is_plain}

@@ -5,10 +5,10 @@ use Rattle.model.specs.Trees.{Trees, is_sort}
 use Rattle.infer_table.specs.declared.canonical.CanonicalVarKind.{CanonicalVarKind}
 use Rattle.infer_table.specs.declared.canonical.CanonicalVarKind.TheVariants.{Ty, PlaceholderTy, Const, PlaceholderConst, Region}
 use Rattle.evaluation.specs.Lists.{Every}
-use Rattle.table_laws.specs.Instances.{is_place, as_place, first_term, other_terms, term_at}
-use Rattle.table_laws.specs.Content.{Values, Question}
-use Rattle.table_laws.specs.Frames.{FrameTable, is_placeholder_of}
-use Rattle.evaluation_laws.specs.Tables.{frame_tables}
+use Rattle.evaluation.specs.Instances.{is_place, as_place, first_term, other_terms, term_at}
+use Rattle.evaluation.specs.Content.{Values, Question}
+use Rattle.evaluation.specs.FrameTables.{FrameTable, is_placeholder_of}
+use Rattle.evaluation.specs.Tables.{frame_tables}
 use Rattle.solver_exactness.specs.Closed.{Closing}
 
 abbrev pub Kinds : Type 0

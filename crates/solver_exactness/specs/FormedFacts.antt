@@ -9,7 +9,7 @@ use Rattle.model.specs.Proofs.{In}
 use Rattle.model.specs.Walks.{struct_is, trait_is}
 use Rattle.type_terms.specs.Made.{terms, is_made}
 use Rattle.infer_table.specs.declared.certainty.TypingMode.{TypingMode}
-use Rattle.table_laws.specs.Content.{Values, Fact, Question, fact_of}
+use Rattle.evaluation.specs.Content.{Values, Fact, Question, fact_of}
 use Rattle.declarations.specs.Applied.{sorts_of}
 use Rattle.assembly_laws.specs.Facts.{is_unerased, is_plain, clauses_of, reference_in}
 use Rattle.assembly_laws.specs.Asking.{Asked, asked, next_of}

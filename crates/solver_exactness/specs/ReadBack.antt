@@ -2,7 +2,7 @@
 use Rattle.std.specs.Prelude.{◌≡◌, true, List, [], map}
 use Rattle.model.specs.Worlds.{World, Reference}
 use Rattle.model.specs.Answers.{is_closed}
-use Rattle.table_laws.specs.Content.{Fact}
+use Rattle.evaluation.specs.Content.{Fact}
 use Rattle.assembly_laws.specs.Facts.{clauses_of, reference_in}
 use Rattle.assembly_laws.specs.Meaning.{Meaning}
 use Rattle.solver_exactness.specs.ModelWays.{ways_under, ways_for}

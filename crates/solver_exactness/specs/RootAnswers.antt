@@ -8,8 +8,8 @@ use Rattle.infer_table.specs.declared.certainty.TypingMode.TheVariants.{Coherenc
 use Rattle.infer_table.specs.Responses.{AnswerTrees}
 use Rattle.search_graph.specs.Meaning as Search
 use Rattle.evaluation.specs.Handler.{Handled}
-use Rattle.table_laws.specs.Content.{Values, Question, fact_of}
-use Rattle.evaluation_laws.specs.Tables.{frame_tables}
+use Rattle.evaluation.specs.Content.{Values, Question, fact_of}
+use Rattle.evaluation.specs.Tables.{frame_tables}
 use Rattle.goal_frames.specs.declared.store.InputId.{InputId}
 use Rattle.goal_frames.specs.declared.store.ResponseId.{ResponseId}
 use Rattle.goal_frames.specs.declared.frame.GoalFrame.{GoalFrame}

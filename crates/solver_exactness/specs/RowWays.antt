@@ -5,9 +5,9 @@ use Rattle.model.specs.Rules.{Rule, same_reference, sized, copy, clone, tuple_tr
 use Rattle.model.specs.Label.{dynamic}
 use Rattle.model.specs.Trees.{Trees, none, tree}
 use Rattle.infer_table.specs.Canonical.{CanonicalForm}
-use Rattle.table_laws.specs.Content.{Values, Fact}
-use Rattle.table_laws.specs.Operations.{begin}
-use Rattle.evaluation_laws.specs.Tables.{frame_tables}
+use Rattle.evaluation.specs.Content.{Values, Fact}
+use Rattle.evaluation.specs.TableOperations.{begin}
+use Rattle.evaluation.specs.Tables.{frame_tables}
 use Rattle.solver_exactness.specs.Closed.{AreWays}
 use Rattle.solver_exactness.specs.ClosedTables.{AreClosed, ArePlaces}
 use Rattle.assembly_laws.specs.Facts.{clauses_of, reference_in, is_plain}

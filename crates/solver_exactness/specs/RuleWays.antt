@@ -6,8 +6,8 @@ use Rattle.model.specs.Codes.{same}
 use Rattle.infer_table.specs.declared.canonical.CanonicalVarKind.{CanonicalVarKind}
 use Rattle.infer_table.specs.Raw.{sort_of_kind}
 use Rattle.evaluation.specs.Merge.{or_else}
-use Rattle.table_laws.specs.Instances.{goal_read}
-use Rattle.table_laws.specs.Content.{given, Fact, Question}
+use Rattle.evaluation.specs.Instances.{goal_read}
+use Rattle.evaluation.specs.Content.{given, Fact, Question}
 use Rattle.goal_frames.specs.Rules.{goal_of, Rule, instance_of}
 use Rattle.goal_frames.specs.Handlers.{Asked, asked}
 

@@ -4,7 +4,7 @@ use Rattle.model.specs.Worlds.{World, Reference}
 use Rattle.model.specs.Rules.{strict_supertraits}
 use Rattle.model.specs.Proofs.{In}
 use Rattle.infer_table.specs.Canonical.{CanonicalForm}
-use Rattle.table_laws.specs.Content.{Values, Fact}
+use Rattle.evaluation.specs.Content.{Values, Fact}
 use Rattle.solver_exactness.specs.ClosedTables.{AreClosed, ArePlaces}
 use Rattle.solver_exactness.specs.ModelWays.{ways_under}
 use Rattle.assembly_laws.specs.Facts.{clauses_of, reference_in, is_plain}

@@ -5,7 +5,7 @@ use Rattle.infer_table.specs.Responses.{AnswerTrees}
 use Rattle.infer_table.specs.declared.certainty.TypingMode.TheVariants.{Coherence, PostAnalysis}
 use Rattle.evaluation.specs.Candidate.{consider, answer}
 use Rattle.evaluation.specs.Handler.{Handled}
-use Rattle.evaluation_laws.specs.Tables.{frame_tables}
+use Rattle.evaluation.specs.Tables.{frame_tables}
 use Rattle.solver_exactness.specs.ClosedTables.{AreClosed}
 use Rattle.solver_exactness.specs.Exact.{WereConsidered, GoesTo, IsMade}
 use Rattle.assembly_laws.specs.Meaning.{Meaning}

@@ -3,9 +3,9 @@ use Rattle.std.specs.Prelude.{◌≡◌, ◌≤◌, List, length, Some}
 use Rattle.infer_table.specs.Canonical.{CanonicalForm}
 use Rattle.infer_table.specs.declared.certainty.Certainty.TheVariants.{Yes}
 use Rattle.evaluation.specs.Lists.{Every}
-use Rattle.table_laws.specs.Frames.{kinds_known}
-use Rattle.table_laws.specs.Operations.{begin}
-use Rattle.evaluation_laws.specs.Tables.{frame_tables}
+use Rattle.evaluation.specs.FrameTables.{kinds_known}
+use Rattle.evaluation.specs.TableOperations.{begin}
+use Rattle.evaluation.specs.Tables.{frame_tables}
 use Rattle.solver_exactness.specs.Closed.{DeterminesNested}
 use Rattle.solver_exactness.specs.ClosedTables.{AreClosed}
 use Rattle.assembly_laws.specs.Meaning.{Meaning}

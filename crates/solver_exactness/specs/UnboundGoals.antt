@@ -5,10 +5,10 @@ use Rattle.model.specs.Worlds.{World}
 use Rattle.infer_table.specs.Canonical.{CanonicalForm}
 use Rattle.infer_table.specs.declared.certainty.TypingMode.{TypingMode}
 use Rattle.evaluation.specs.Lists.{Every}
-use Rattle.table_laws.specs.Content.{Values, Question}
-use Rattle.table_laws.specs.Frames.{kinds_known}
-use Rattle.table_laws.specs.Operations.{begin}
-use Rattle.evaluation_laws.specs.Tables.{frame_tables}
+use Rattle.evaluation.specs.Content.{Values, Question}
+use Rattle.evaluation.specs.FrameTables.{kinds_known}
+use Rattle.evaluation.specs.TableOperations.{begin}
+use Rattle.evaluation.specs.Tables.{frame_tables}
 use Rattle.solver_exactness.specs.Closed.{AsksSuch}
 use Rattle.solver_exactness.specs.ClosedTables.{AreClosed, closed_tables}
 use Rattle.assembly_laws.specs.DeclaredWell.{IsDeclaredWell}

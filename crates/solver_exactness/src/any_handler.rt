@@ -5,8 +5,8 @@
 ghost use Rattle.std.specs.Prelude.{Option};
 ghost use Rattle.infer_table.specs.Responses.{AnswerTrees};
 ghost use Rattle.evaluation.specs.Table.{Tables, IsTable};
-ghost use Rattle.table_laws.specs.Content.{Fact};
-ghost use Rattle.evaluation_laws.specs.Tables.{frame_tables};
+ghost use Rattle.evaluation.specs.Content.{Fact};
+ghost use Rattle.evaluation.specs.Tables.{frame_tables};
 ghost use Rattle.goal_frames.specs.Programs.{Programs, ArePrograms};
 ghost use Rattle.goal_frames.specs.Searches.{Handles, Asked};
 ghost use Rattle.goal_frames.specs.RulePrograms.{DeclaredRules};

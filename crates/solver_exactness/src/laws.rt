@@ -3,7 +3,7 @@ ghost use Rattle.std.specs.Prelude.{Bool, List};
 ghost use Rattle.type_terms.specs.Terms.{Entry};
 ghost use Rattle.infer_table.specs.Canonical.{CanonicalForm};
 ghost use Rattle.infer_table.specs.Responses.{AnswerTrees};
-ghost use Rattle.evaluation_laws.specs.Tables.{frame_tables};
+ghost use Rattle.evaluation.specs.Tables.{frame_tables};
 ghost use Rattle.assembly_laws.specs.Meaning.{Meaning};
 ghost use Rattle.goal_frames.specs.Programs.{ArePrograms};
 ghost use Rattle.solver_exactness.specs.SolverAnswers.{solver_programs};

@@ -9,8 +9,8 @@ ghost use Rattle.solver_exactness.specs.RowWays.{RowsAreWays, EquatedRowsAreWays
 ghost use Rattle.std.specs.Prelude.{Bool, Option};
 ghost use Rattle.infer_table.specs.Canonical.{CanonicalForm};
 ghost use Rattle.infer_table.specs.Responses.{AnswerTrees};
-ghost use Rattle.table_laws.specs.Content.{Fact, Question, Values};
-ghost use Rattle.evaluation_laws.specs.Tables.{frame_tables};
+ghost use Rattle.evaluation.specs.Content.{Fact, Question, Values};
+ghost use Rattle.evaluation.specs.Tables.{frame_tables};
 ghost use Rattle.goal_frames.specs.Programs.{ArePrograms};
 ghost use Rattle.goal_frames.specs.Searches.{Handles, Asked};
 ghost use Rattle.assembly_laws.specs.Meaning.{Meaning};

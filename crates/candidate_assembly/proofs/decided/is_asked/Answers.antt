@@ -2,7 +2,7 @@ use Rattle.std.proofs.Common.{sym, ap, ◌∙◌, false}
 use Rattle.type_terms.specs.Terms.{trees_at}
 use Rattle.type_terms.specs.Made.{terms, is_made}
 use Rattle.infer_table.specs.Goals.{environment_trees}
-use Rattle.evaluation_laws.specs.Variables.{is_variable_over}
+use Rattle.evaluation.specs.Variables.{is_variable_over}
 use Rattle.assembly_laws.specs.Asking.{are_clauses}
 use Rattle.candidate_assembly.proofs.Deciding.{asked-by, not-over, all-over}
 use Rattle.candidate_assembly.proofs.decided.is_asked.Goals as goal

@@ -15,7 +15,7 @@ use Rattle.infer_table.proofs.Numbers.{goal-held-later}
 use Rattle.infer_table.proofs.StepFacts.{keeps-trans}
 use Rattle.evaluation.specs.declared.candidate.CandidateSource.{CandidateSource}
 use Rattle.evaluation.specs.declared.candidate.CandidateSource.TheVariants.{Impl}
-use Rattle.table_laws.specs.Frames.{Nested, Equation}
+use Rattle.evaluation.specs.FrameTables.{Nested, Equation}
 use Rattle.declarations.specs.Items.{reference_in}
 use Rattle.declarations.specs.Applied.{references_in, AllHeld}
 use Rattle.assembly_laws.specs.Candidates.{Candidate, all_equal, behind, premise}

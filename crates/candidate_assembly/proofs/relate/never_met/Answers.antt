@@ -6,7 +6,7 @@ use Rattle.term_folds.specs.Kept.{trees-is, has-later}
 use Rattle.term_folds.proofs.FailFacts.{refused-term}
 use Rattle.infer_table.specs.Values.{Value}
 use Rattle.infer_table.proofs.FullFacts.{handed-on}
-use Rattle.table_laws.specs.Frames.{Equation}
+use Rattle.evaluation.specs.FrameTables.{Equation}
 use Rattle.candidate_assembly.proofs.relate.never_met.Goals as goal
 
 pub returns-in_err-bool_ty-clause-full : goal.returns-in_err-bool_ty-clause-full

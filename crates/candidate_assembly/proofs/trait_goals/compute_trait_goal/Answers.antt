@@ -3,7 +3,7 @@ use Rattle.std.proofs.lemmas.Result.{IfOk-weaker}
 use Rattle.type_terms.specs.declared.TheConstants.{MAX_INDEX}
 use Rattle.infer_table.proofs.FullFacts.{handed-on, or-then}
 use Rattle.evaluation.specs.Plans.{wanted}
-use Rattle.evaluation_laws.specs.Tables.{frame_tables}
+use Rattle.evaluation.specs.Tables.{frame_tables}
 use Rattle.goal_frames.proofs.Later.{shown-later, considered-later, considered-fits-later}
 use Rattle.declarations.specs.Items.{written}
 use Rattle.candidate_assembly.specs.Goals.{candidate_of}

@@ -10,7 +10,7 @@ use Rattle.infer_table.proofs.FullFacts.{handed-on}
 use Rattle.evaluation.specs.Lists.{Every}
 use Rattle.evaluation.specs.Readings.{EquationHeld}
 use Rattle.evaluation.specs.declared.candidate.CandidateSource.TheVariants.{CoherenceUnknowable}
-use Rattle.table_laws.specs.Frames.{Nested, Equation}
+use Rattle.evaluation.specs.FrameTables.{Nested, Equation}
 use Rattle.goal_frames.specs.Readings.{equation_read}
 use Rattle.model.specs.Rules.{is_coinductive}
 use Rattle.declarations.specs.Items.{written}

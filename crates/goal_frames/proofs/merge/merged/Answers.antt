@@ -3,8 +3,8 @@ use Rattle.infer_table.specs.Responses.{answer_trees}
 use Rattle.evaluation.specs.Merge.{merge_by, flounder}
 use Rattle.evaluation.specs.Responses.{content}
 use Rattle.evaluation.proofs.Shortages.{some-kind}
-use Rattle.table_laws.specs.Operations.{begin}
-use Rattle.evaluation_laws.specs.Tables.{frame_tables}
+use Rattle.evaluation.specs.TableOperations.{begin}
+use Rattle.evaluation.specs.Tables.{frame_tables}
 use Rattle.goal_frames.specs.Handlers.{same_answer, applies_always}
 use Rattle.goal_frames.specs.Readings.{result_read}
 use Rattle.goal_frames.proofs.Merging.{response_of, response-content, merged-held, merged-trees, taken, floundered-result}

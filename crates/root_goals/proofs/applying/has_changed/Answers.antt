@@ -2,7 +2,7 @@ use Rattle.std.proofs.Common.{◌≡◌, true, false, not, sym, ◌∙◌, ap}
 use Rattle.infer_table.specs.Values.{values_of}
 use Rattle.infer_table.specs.Responses.{answer_trees}
 use Rattle.evaluation.specs.Responses.{is_identity_modulo_regions}
-use Rattle.evaluation_laws.proofs.Filling.{same-values}
+use Rattle.evaluation.proofs.Filling.{same-values}
 use Rattle.root_goals.specs.Changes.{changed}
 use Rattle.root_goals.proofs.applying.has_changed.Goals as goal
 

@@ -1,5 +1,5 @@
 use Rattle.std.proofs.Common.{◌∙◌, ap, sym, Err}
-use Rattle.evaluation_laws.specs.Tables.{frame_tables}
+use Rattle.evaluation.specs.Tables.{frame_tables}
 use Rattle.goal_frames.proofs.Orders.{keeps_order}
 use Rattle.root_goals.specs.Contexts.{goal_of}
 use Rattle.root_goals.specs.Searching.{programs, handles, world_of}

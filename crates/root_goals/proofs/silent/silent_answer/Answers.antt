@@ -3,10 +3,10 @@ use Rattle.std.specs.Prelude.{◌<◌}
 use Rattle.type_terms.specs.declared.TheConstants.{MAX_INDEX}
 use Rattle.infer_table.proofs.FullFacts.{handed-on, or-then}
 use Rattle.evaluation.proofs.Shortages.{some-kind}
-use Rattle.table_laws.specs.Answers.{IsWellFormed}
+use Rattle.evaluation.specs.TableAnswers.{IsWellFormed}
 use Rattle.goal_frames.specs.HandlerPrograms.{silent}
 use Rattle.goal_frames.specs.Readings.{result_read}
-use Rattle.table_laws.specs.Answers.{without_values}
+use Rattle.evaluation.specs.TableAnswers.{without_values}
 use Rattle.root_goals.specs.Contexts.{goal_of, answer_of, IsResult}
 use Rattle.root_goals.specs.declared.context.SolverCx.{SolverCx}
 use Rattle.root_goals.proofs.Checks.{raw-is}

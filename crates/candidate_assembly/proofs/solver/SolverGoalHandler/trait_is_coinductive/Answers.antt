@@ -1,5 +1,5 @@
 use Rattle.std.proofs.Common.{sym, ◌∙◌, ap}
-use Rattle.table_laws.specs.Content.{trait_of}
+use Rattle.evaluation.specs.Content.{trait_of}
 use Rattle.declarations.specs.Items.{written}
 use Rattle.assembly_laws.specs.Facts.{is_coinductive_trait}
 use Rattle.candidate_assembly.proofs.solver.SolverGoalHandler.trait_is_coinductive.Goals as goal

@@ -6,7 +6,7 @@ use Rattle.evaluation.specs.Evaluating.{replies_trees}
 use Rattle.evaluation.specs.History.{begin, entered, ignored, evaluated, finished, position, request, CameInOrder}
 use Rattle.evaluation.specs.Promises.{frame_of_goal, Anything}
 use Rattle.evaluation.specs.declared.candidate.Considered.{Considered}
-use Rattle.evaluation_laws.specs.Tables.{frame_tables}
+use Rattle.evaluation.specs.Tables.{frame_tables}
 use Rattle.goal_frames.specs.Readings.{shown_by, spec_read, result_read}
 use Rattle.goal_frames.specs.Places.{Standing, Stands, IsBetween, IsInside, IsIgnoring, place_read}
 use Rattle.goal_frames.specs.Frames.{FrameHeld, PlaceHeld, RequestHeld, IsRequest, Steps, reply_read}

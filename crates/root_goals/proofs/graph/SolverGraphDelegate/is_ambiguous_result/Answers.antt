@@ -1,5 +1,5 @@
 use Rattle.std.proofs.Common.{◌∙◌, refl, sym, ap}
-use Rattle.evaluation_laws.specs.Tables.{frame_tables}
+use Rattle.evaluation.specs.Tables.{frame_tables}
 use Rattle.goal_frames.specs.Searches.{is_ambiguous_answer}
 use Rattle.infer_table.specs.Responses.{answer_trees}
 use Rattle.root_goals.proofs.Checks.{ambiguous-is}

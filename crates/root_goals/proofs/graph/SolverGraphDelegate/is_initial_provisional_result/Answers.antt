@@ -1,7 +1,7 @@
 use Rattle.std.proofs.Common.{◌≡◌, ◌∙◌, Some, sym, ap}
 use Rattle.std.proofs.lemmas.Option.{same_Some}
 use Rattle.goal_frames.specs.HandlerPrograms.{cycle_certainty, cycle_answer}
-use Rattle.table_laws.specs.Answers.{without_values}
+use Rattle.evaluation.specs.TableAnswers.{without_values}
 use Rattle.root_goals.specs.Contexts.{goal_of}
 use Rattle.root_goals.proofs.Growing.{is-there, ready-there, read-there}
 use Rattle.root_goals.proofs.Silences.{silent-to, mode-of, cycle-some}

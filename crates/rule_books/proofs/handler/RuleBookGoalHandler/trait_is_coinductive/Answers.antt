@@ -1,5 +1,5 @@
 use Rattle.std.proofs.Common.{sym, ◌∙◌, ap}
-use Rattle.table_laws.specs.Content.{trait_of}
+use Rattle.evaluation.specs.Content.{trait_of}
 use Rattle.goal_frames.specs.Rules.{is_coinductive_trait}
 use Rattle.rule_books.specs.Books.{book_read, sound_book}
 use Rattle.rule_books.proofs.handler.RuleBookGoalHandler.trait_is_coinductive.Goals as goal

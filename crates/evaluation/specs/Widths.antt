@@ -1,0 +1,54 @@
+-- How wide terms are: a number that nothing in a frame makes greater.
+use Rattle.std.specs.Prelude.{ℕ, zero, suc, max, ◌≤◌, List, [], ◌∷◌}
+use Rattle.model.specs.Label.{Label, principal}
+use Rattle.model.specs.Trees.{Trees, none, tree}
+use Rattle.infer_table.specs.Solutions.{Binding}
+use Rattle.infer_table.specs.Values.{Value}
+use Rattle.evaluation.specs.Lists.{Every}
+use Rattle.evaluation.specs.Content.{Question}
+use Rattle.evaluation.specs.FrameTables.{FrameTable, IsMadeFrame, Nested, Equation}
+
+-- how many trees stand in a row
+abbrev pub count : Trees → ℕ
+count none = zero
+count (tree l c o) = suc (count o)
+
+-- how many terms a node with this label and so many children has: a bound of a `dyn` has its arguments, and before them the self
+-- type that it is a bound of. Without arguments none is counted: no reference has fewer terms than its self type
+abbrev pub with_self : Label → ℕ → ℕ
+with_self (principal m i) zero = zero
+with_self (principal m i) (suc n) = suc (suc n)
+with_self l n = n
+
+-- the greatest count of terms that a node has; the trees of the row itself are not counted. `V<(u8, char, bool), str>` has 3, and so has
+-- `dyn Convert<u8, char>`, for which a type `T` is to be such that `T: Convert<u8, char>`
+abbrev pub width : Trees → ℕ
+width none = zero
+width (tree l c o) = max (with_self l (count c)) (max (width c) (width o))
+
+-- of predicates and where-clauses in a row: their self types stand among their arguments
+abbrev pub width_of_predicates : Trees → ℕ
+width_of_predicates none = zero
+width_of_predicates (tree l c o) = max (count c) (max (width c) (width_of_predicates o))
+
+-- the number of a question is its width, and that of values the greatest width of one of them
+abbrev pub number_of : Question → ℕ
+number_of q = max (width_of_predicates q.form.goal.environment) (width_of_predicates q.form.goal.predicate)
+
+abbrev pub number_of_values : List Value → ℕ
+number_of_values [] = zero
+number_of_values (v ∷ vs) = max (width v.trees) (number_of_values vs)
+
+-- no term is wider than n
+abbrev pub BindingsWithin : ℕ → List Binding → Type 0
+BindingsWithin n bs = Every (λ b. width b.value ≤ n) bs
+
+pub record TableWithin (n : ℕ) (t : FrameTable) : Type 0 where
+  pub made : IsMadeFrame t
+  pub values : BindingsWithin n t.content.bindings
+
+abbrev pub NestedWithin : ℕ → Nested → Type 0
+NestedWithin n g = (width_of_predicates g.goal.environment ≤ n) × (width_of_predicates g.goal.predicate ≤ n)
+
+abbrev pub EquationWithin : ℕ → Equation → Type 0
+EquationWithin n e = (width e.left.trees ≤ n) × (width e.right.trees ≤ n)
