@@ -5,6 +5,7 @@
 //! code do over them (`laws`).
 #![tactic(auto)]
 
+pub mod apply;
 mod candidate;
 pub mod context;
 mod error;

@@ -21,10 +21,10 @@ ghost use Rattle.evaluation.specs.Evaluating.{nested_trees, goals_trees, replies
 ghost use Rattle.evaluation.specs.Steps.{RoundEnds, RoundsEnd, RoundHeld, RoundsHeld};
 ghost use Rattle.infer_table.specs.Values.{sort_of_arg, values_of};
 
+use crate::apply::instantiate_and_apply_query_response;
 use crate::error::EvalError;
 use crate::goal::GoalSource;
 use crate::response::is_identity_modulo_regions;
-use infer_table::apply::instantiate_and_apply_query_response;
 use infer_table::certainty::{Certainty, MaybeCause, TypingMode};
 use infer_table::goal::Goal;
 use infer_table::infer_ctxt::InferCtxt;

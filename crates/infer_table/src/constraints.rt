@@ -39,7 +39,7 @@ pub(crate) fn resolve_constraints(
 }
 
 /// The fold of each constraint, in order.
-pub(crate) fn fold_constraints<F: TypeFolder>(
+pub fn fold_constraints<F: TypeFolder>(
     alloc: Global,
     cx: &mut Interner,
     folder: &F,

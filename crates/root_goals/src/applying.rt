@@ -15,8 +15,8 @@ ghost use Rattle.evaluation.specs.TableAnswers.{has_values, IsWellFormed};
 ghost use Rattle.root_goals.specs.Roots.{left_by_answer, AtAgreeingSolutions, GoesOn};
 ghost use Rattle.root_goals.specs.Changes.{changed};
 
+use evaluation::apply::instantiate_and_apply_query_response;
 use evaluation::{HasChanged, have_same_sorts, is_identity_modulo_regions};
-use infer_table::apply::instantiate_and_apply_query_response;
 use infer_table::certainty::EqError;
 use infer_table::infer_ctxt::InferCtxt;
 use infer_table::response::CanonicalResponse;

@@ -5,7 +5,7 @@ ghost use Rattle.infer_table.specs.Content.{Ready};
 ghost use Rattle.infer_table.specs.Responses.{ResponseHeld};
 
 use crate::tables::{Sample, Shape, empty_table, equated, make};
-use infer_table::apply::instantiate_and_apply_query_response;
+use evaluation::apply::instantiate_and_apply_query_response;
 use infer_table::canonical::CanonicalVarKind;
 use infer_table::canonicalize::canonicalize_response;
 use infer_table::certainty::Certainty;

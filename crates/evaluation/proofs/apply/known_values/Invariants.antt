@@ -1,7 +1,7 @@
 use Rattle.std.proofs.Common.{◌≡◌, ℕ, ◌<◌, length, get_or, drop, None}
 use Rattle.std.specs.Option.{option_or}
 use Rattle.infer_table.proofs.Values.{own_of}
-use Rattle.infer_table.proofs.apply.known_values.Given as goal
+use Rattle.evaluation.proofs.apply.known_values.Given as goal
 
 abbrev pub invariant-loop-value : goal.invariant-loop-value
 invariant-loop-value l = record {

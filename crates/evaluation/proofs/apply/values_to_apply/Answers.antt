@@ -14,7 +14,7 @@ use Rattle.infer_table.specs.Shortages.{HasNoUnknown}
 use Rattle.infer_table.proofs.KnownUnknowns.{one-more-table}
 use Rattle.infer_table.proofs.Shortages.{missing-here, missing-later}
 use Rattle.infer_table.proofs.Values.{own_of, args-held-push, values-push, one-more-value, found-later, same-slot, original-held-later}
-use Rattle.infer_table.proofs.apply.values_to_apply.Goals as goal
+use Rattle.evaluation.proofs.apply.values_to_apply.Goals as goal
 
 pub value_or_unknown-requires-clause-known : goal.value_or_unknown-requires-clause-known
 value_or_unknown-requires-clause-known c =

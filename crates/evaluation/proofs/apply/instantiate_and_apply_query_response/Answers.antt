@@ -5,7 +5,7 @@ use Rattle.infer_table.specs.Kept.{ready-later}
 use Rattle.infer_table.proofs.EquationFacts.{solved-sorted}
 use Rattle.infer_table.proofs.Covers.{applies, refuses}
 use Rattle.infer_table.proofs.KnownUnknowns.{applied-known}
-use Rattle.infer_table.proofs.apply.instantiate_and_apply_query_response.Goals as goal
+use Rattle.evaluation.proofs.apply.instantiate_and_apply_query_response.Goals as goal
 
 pub returns-in-Err-clause-ready : goal.returns-in-Err-clause-ready
 returns-in-Err-clause-ready c =

@@ -6,7 +6,7 @@ use Rattle.infer_table.specs.Content.{content, Ready, Grows}
 use Rattle.infer_table.specs.Unification.{table_trees}
 use Rattle.infer_table.specs.Applied.{solved_in_turn}
 use Rattle.infer_table.specs.Shortages.{SomeRunsOut}
-use Rattle.infer_table.proofs.apply.equate_values.Given as goal
+use Rattle.evaluation.proofs.apply.equate_values.Given as goal
 
 abbrev pub invariant-loop-value : goal.invariant-loop-value
 invariant-loop-value l = record {

@@ -16,7 +16,7 @@ use Rattle.infer_table.specs.Shortages.{SomeRunsOut}
 use Rattle.infer_table.proofs.Shortages.{runs-out-from, runs-out-after}
 use Rattle.infer_table.proofs.InTurn.{next-turn, refused-turn, refused-of-lengths}
 use Rattle.infer_table.proofs.Values.{equates-from, never-from, never-after, never-of-lengths}
-use Rattle.infer_table.proofs.apply.equate_values.Goals as goal
+use Rattle.evaluation.proofs.apply.equate_values.Goals as goal
 
 pub returns-then-left-right-clause-never : goal.returns-then-left-right-clause-never
 returns-then-left-right-clause-never c = λ _.

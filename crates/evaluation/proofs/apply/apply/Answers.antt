@@ -20,7 +20,7 @@ use Rattle.infer_table.proofs.InTurn.{row-of, same-trees, constraints-recorded, 
 use Rattle.infer_table.proofs.ConstraintLists.{constraints-later, constraints-filled}
 use Rattle.infer_table.proofs.Values.{equates-at, never-at, take-drop}
 use Rattle.infer_table.proofs.Shortages.{same-turns}
-use Rattle.infer_table.proofs.apply.apply.Goals as goal
+use Rattle.evaluation.proofs.apply.apply.Goals as goal
 
 pub mk_args-requires : goal.mk_args-requires
 mk_args-requires c =

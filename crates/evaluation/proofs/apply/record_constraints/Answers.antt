@@ -3,7 +3,7 @@ use Rattle.term_folds.proofs.Items.{take-push}
 use Rattle.infer_table.specs.Content.{Table}
 use Rattle.infer_table.specs.Growth.{grows-trans}
 use Rattle.infer_table.proofs.ConstraintLists.{constraint-held-at}
-use Rattle.infer_table.proofs.apply.record_constraints.Goals as goal
+use Rattle.evaluation.proofs.apply.record_constraints.Goals as goal
 
 pub loop-constraint-preserved : goal.loop-constraint-preserved
 loop-constraint-preserved c =

@@ -1,7 +1,7 @@
 use Rattle.std.proofs.Common.{◌≡◌, ◌++◌, take, List}
 use Rattle.type_terms.specs.Terms.{Entry}
 use Rattle.infer_table.specs.Content.{Ready, Grows, AllConstraintsHeld}
-use Rattle.infer_table.proofs.apply.record_constraints.Given as goal
+use Rattle.evaluation.proofs.apply.record_constraints.Given as goal
 
 abbrev pub invariant-loop-constraint : goal.invariant-loop-constraint
 invariant-loop-constraint l = record {

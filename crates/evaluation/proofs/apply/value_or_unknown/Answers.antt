@@ -5,7 +5,7 @@ use Rattle.infer_table.specs.Values.{value_of}
 use Rattle.infer_table.specs.Unification.{table_trees}
 use Rattle.infer_table.specs.Shortages.{HasNoUnknown}
 use Rattle.infer_table.proofs.FullFacts.{or-then}
-use Rattle.infer_table.proofs.apply.value_or_unknown.Goals as goal
+use Rattle.evaluation.proofs.apply.value_or_unknown.Goals as goal
 
 pub returns-in-None-clause-full : goal.returns-in-None-clause-full
 returns-in-None-clause-full c = λ q.

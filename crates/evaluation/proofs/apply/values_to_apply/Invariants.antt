@@ -7,7 +7,7 @@ use Rattle.infer_table.specs.Unification.{table_trees}
 use Rattle.infer_table.specs.Responses.{answer_trees}
 use Rattle.infer_table.specs.Applying.{known_value, values_for, table_for}
 use Rattle.infer_table.specs.Shortages.{SomeHasNoUnknown}
-use Rattle.infer_table.proofs.apply.values_to_apply.Given as goal
+use Rattle.evaluation.proofs.apply.values_to_apply.Given as goal
 
 abbrev pub invariant-loop-number : goal.invariant-loop-number
 invariant-loop-number l = record {

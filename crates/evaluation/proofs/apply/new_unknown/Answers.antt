@@ -4,7 +4,7 @@ use Rattle.infer_table.specs.Unification.{table_trees}
 use Rattle.infer_table.proofs.FullFacts.{or-then, handed-on}
 use Rattle.infer_table.proofs.Refusals.{refused-unknown}
 use Rattle.infer_table.proofs.Shortages.{no-type-number, no-const-number}
-use Rattle.infer_table.proofs.apply.new_unknown.Goals as goal
+use Rattle.evaluation.proofs.apply.new_unknown.Goals as goal
 
 pub returns-in_err-ty-in-Ty-clause-full : goal.returns-in_err-ty-in-Ty-clause-full
 returns-in_err-ty-in-Ty-clause-full c = λ q.

@@ -5,7 +5,7 @@ use Rattle.std.specs.Iterator.Adapters.{zip_first, zip_second}
 use Rattle.std.proofs.lemmas.Slice.Zip.{zip_turn, zip_end}
 use Rattle.type_terms.proofs.InfoFacts.{arg-held-at}
 use Rattle.infer_table.proofs.Values.{own_of, found-end, or-none, found-passed, found-noted, written}
-use Rattle.infer_table.proofs.apply.known_values.Goals as goal
+use Rattle.evaluation.proofs.apply.known_values.Goals as goal
 
 pub variable_number-requires : goal.variable_number-requires
 variable_number-requires c =
