@@ -21,6 +21,10 @@ pub every-append : {A : Type 0} (P : A → Type 0) (xs ys : List A) → Every P 
 every-append P [] ys a b = b
 every-append P (x ∷ xs) ys a b = (a.0, every-append P xs ys a.1 b)
 
+pub every-split : {A : Type 0} (P : A → Type 0) (xs ys : List A) → Every P (xs ++ ys) → Every P xs × Every P ys
+every-split P [] ys e = (tt, e)
+every-split P (x ∷ xs) ys e = let s = every-split P xs ys e.1 in ((e.0, s.0), s.1)
+
 module _ (V : World) (a : Asked) where
   abbrev pub IsMadeAs : Candidate → Type 0
   IsMadeAs c = ((source : CandidateSource) × (es : List Equation) × (ps : List Reference) × (c ≡ by_rule V a source es ps)) ⊎ ((c ≡ unsure) ⊎ ((i : ImplDecl) × In i V.impls × (c ≡ by_the_impl V a i)))

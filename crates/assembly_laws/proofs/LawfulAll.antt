@@ -9,15 +9,11 @@ use Rattle.assembly_laws.specs.Asking.{Asked, asked, self_of, next_of, begins_un
 use Rattle.assembly_laws.specs.Candidates.{Candidate, built_in, by_sized, by_copy, by_auto, by_tuple, by_fn_ptr, by_call, by_unsize, by_impls, by_objects, unsure, misc, if_so, as_written, unsize_array_of, upcasts_of, unsize_struct_of, unsize_known}
 use Rattle.assembly_laws.specs.Lawful.{IsSoundFor}
 use Rattle.assembly_laws.proofs.Premises.{other_candidates, premised_candidates, SoundAndNarrowIsLawful}
-use Rattle.assembly_laws.proofs.CandidateKinds.{every-append}
+use Rattle.assembly_laws.proofs.CandidateKinds.{every-append, every-split}
 use Rattle.assembly_laws.proofs.LawfulCandidates.{each-lawful}
 use Rattle.assembly_laws.proofs.SoundRows.{sized-sound, copy-sound, auto-sound, tuple-sound, fn-ptr-sound}
 use Rattle.assembly_laws.proofs.SoundCalls.{call-sound}
 use Rattle.assembly_laws.proofs.SoundUnsizing.{unsizing-is-sound}
-
-every-split : {A : Type 0} (P : A → Type 0) (xs ys : List A) → Every P (xs ++ ys) → Every P xs × Every P ys
-every-split P [] ys e = (tt, e)
-every-split P (x ∷ xs) ys e = let s = every-split P xs ys e.1 in ((e.0, s.0), s.1)
 
 module _ (m : Meaning) (declared : is_declared_view m.view ≡ true) (f : CanonicalForm) (a : Asked) (is : asked m.view f ≡ Some a) where
   abbrev Sound : Candidate → Type 0

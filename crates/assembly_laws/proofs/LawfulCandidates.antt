@@ -64,10 +64,6 @@ asked-clauses V environment (tree (predicate (of_trait t)) args none) (Some ks) 
 asked-clauses V environment (tree (predicate (of_trait t)) args none) None a e = absurd (cc)
 asked-clauses V environment asks kinds a e = absurd (cc)
 
-every-right : {A : Type 0} (P : A → Type 0) (xs ys : List A) → Every P (xs ++ ys) → Every P ys
-every-right P [] ys e = e
-every-right P (x ∷ xs) ys e = every-right P xs ys e.1
-
 module _ (applicable : AnswerTrees → Bool) (same : AnswerTrees → AnswerTrees → Bool) (m : Meaning) (declared : is_declared_view m.view ≡ true) (determined : ImplsAreDetermined m.view) (mode : TypingMode) (f : CanonicalForm) (a : Asked)
     (is : asked m.view f ≡ Some a) where
   abbrev V : World

@@ -24,6 +24,7 @@ use Rattle.assembly_laws.specs.Lifetimes.{GivesLifetimes, goal_gives_lifetimes}
 use Rattle.assembly_laws.specs.Asking.{Asked, asked, clauses, self_of, begins_unknown, all_known}
 use Rattle.assembly_laws.specs.Candidates.{Candidate, unsure, unknowable, by_clauses, built_in, by_impls, by_objects}
 use Rattle.assembly_laws.specs.Solver.{solver_planned, solver_handled, most_candidates, number_at, widest_of, plan_for, by_mode, everything, in_coherence, outside_coherence}
+use Rattle.assembly_laws.proofs.CandidateKinds.{every-split}
 use Rattle.assembly_laws.proofs.Realizing.{by-candidates, by-unknowable, unsure-realizes}
 use Rattle.assembly_laws.specs.Cover.{AreTermsOf, GivenIsRealized, all_candidates, SolutionsAreCandidates}
 use Rattle.assembly_laws.proofs.Premises.{SolverPremises, SolverIsLawful}
@@ -102,14 +103,6 @@ module _ (applicable : AnswerTrees → Bool) (is_test : IsTest frame_tables appl
         length-append [] ys = omega arith
         length-append (x ∷ xs) ys = let e = length-append xs ys in omega (arith, e)
 
-        every-left : (P : Candidate → Type 0) (xs ys : List Candidate) → Every P (xs ++ ys) → Every P xs
-        every-left P [] ys e = tt
-        every-left P (x ∷ xs) ys e = (e.0, every-left P xs ys e.1)
-
-        every-right : (P : Candidate → Type 0) (xs ys : List Candidate) → Every P (xs ++ ys) → Every P ys
-        every-right P [] ys e = e
-        every-right P (x ∷ xs) ys e = every-right P xs ys e.1
-
         append-assoc : (xs ys zs : List Candidate) → xs ++ (ys ++ zs) ≡ (xs ++ ys) ++ zs
         append-assoc [] ys zs = refl
         append-assoc (x ∷ xs) ys zs = ap (λ l. x ∷ l) (append-assoc xs ys zs)
@@ -121,7 +114,7 @@ module _ (applicable : AnswerTrees → Bool) (is_test : IsTest frame_tables appl
             → Keeps frame_tables outside outside.candidates outside.number [] (outside_coherence applicable same outside.begin m.view a)
         outside-keeps each =
             let e = subst (Every (IsLawful frame_tables outside)) all-is each.1 in
-            outside_keeps tables_are_lawful applicable is_test same is_same outside says_nothing begins_within m.view m.crate a (λ w. w) (every-left (IsLawful frame_tables outside) early late e) (every-right (IsLawful frame_tables outside) early late e)
+            outside_keeps tables_are_lawful applicable is_test same is_same outside says_nothing begins_within m.view m.crate a (λ w. w) (every-split (IsLawful frame_tables outside) early late e).0 (every-split (IsLawful frame_tables outside) early late e).1
             (let l = length-append early late in let q : suc (length (early ++ late)) ≤ most_candidates m.view f = subst (λ (cs : List Candidate). suc (length cs) ≤ most_candidates m.view f) all-is few in omega (arith, l, q))
             (let l = nested-append early late in let q : nested_in frame_tables (unknowable m.view a ∷ (early ++ late)) ≤ number_at m.view (widest_of m.view f) = subst (λ (cs : List Candidate). nested_in frame_tables (unknowable m.view a ∷ cs) ≤ number_at m.view (widest_of m.view f)) all-is asks in omega (arith, l, q))
 

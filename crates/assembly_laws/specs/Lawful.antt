@@ -86,8 +86,8 @@ ViewIsDeclaredWell m = m.is_sound ≡ true → IsDeclaredWell m.view
 abbrev pub WellDeclaredIsLawful : Type 0
 WellDeclaredIsLawful = (m : Meaning) → IsDeclaredWell m.view → CandidatesAreLawful m
 
--- the solver is a lawful handler of every goal that gives its structs their lifetimes, in both modes, and in coherence the candidates that were considered before an answer
--- cover each solution of the goal in every linked set
+-- the solver is a lawful handler of every goal that gives its structs their lifetimes, in both modes, and in coherence the candidates that
+-- were considered before an answer cover each solution of the goal in every linked set
 abbrev pub SolverIsLawfulAndCovers : Type 0
 SolverIsLawfulAndCovers =
     (applicable : AnswerTrees → Bool) → IsTest frame_tables applicable → (same : AnswerTrees → AnswerTrees → Bool) → TellsApart same

@@ -26,9 +26,9 @@ pub fn views_tell()
     ensures core { WrittenCoreIsLinked }
 {}
 
-/// In every linked set that holds the crate's view, up to lifetimes and by other numbers, a solution of a goal without where-clauses and placeholders,
-/// whose structs are given lifetimes where their fields name them, is one by the unknowable candidate; where the crate knows the goal, whatever its unknowns stand for, it is one by a where-clause, a built-in
-/// rule, an impl or an object bound.
+/// In every linked set that holds the crate's view, up to lifetimes and by other numbers, a solution of a goal without where-clauses and
+/// placeholders, whose structs are given lifetimes where their fields name them, is one by the unknowable candidate; where the crate
+/// knows the goal, whatever its unknowns stand for, it is one by a where-clause, a built-in rule, an impl or an object bound.
 pub fn solutions_are_by_candidates()
     ensures { SolutionsAreByCandidates }
 {}
@@ -44,8 +44,9 @@ pub fn worlds_are_kept()
     ensures { KeepWorlds }
 {}
 
-/// In coherence each solution of a goal, whose structs are given their lifetimes, is realized by a candidate that was considered before the answer; and where the candidates
-/// are lawful, so is the handler. Bounds of `dyn` types are terms where the bounds of traits are up to lifetimes.
+/// In coherence each solution of a goal, whose structs are given their lifetimes, is realized by a candidate that was considered before
+/// the answer; and where the candidates are lawful, so is the handler. Bounds of `dyn` types are terms where the bounds of traits are up
+/// to lifetimes.
 pub fn coherence_is_covered()
     ensures covered { CoherenceIsCovered }
     ensures lawful { CoherenceIsLawful }
@@ -73,9 +74,10 @@ pub fn rows_are_sound()
     ensures to_dyn { ToDynIsSound }
 {}
 
-/// Where the view is declared well, the solver is a lawful handler of every goal whose structs are given their lifetimes, in both modes; and in coherence each solution of a
-/// goal, in every linked set with the crate, is realized by a candidate that was considered before the answer. If the view is not found
-/// to be declared well, no goal is decided. Each candidate of a goal whose self type is known is lawful.
+/// Where the view is declared well, the solver is a lawful handler of every goal whose structs are given their lifetimes, in both modes;
+/// and in coherence each solution of a goal, in every linked set with the crate, is realized by a candidate that was considered before
+/// the answer. If the view is not found to be declared well, no goal is decided. Each candidate of a goal whose self type is known is
+/// lawful.
 pub fn solver_is_lawful()
     ensures handler { SolverIsLawfulAndCovers }
     ensures candidates { WellDeclaredIsLawful }

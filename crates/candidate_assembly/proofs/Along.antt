@@ -7,11 +7,8 @@ use Rattle.evaluation.specs.Merge.{or_else}
 use Rattle.evaluation.specs.Table.{Tables, workings}
 use Rattle.evaluation.specs.Candidate.{Spec, Considered, Next, consider, answer}
 use Rattle.evaluation.specs.Plans.{Plan, answers, told, after, wanted, came, each_of, if_refused, first_alone}
+use Rattle.built_in_candidates.proofs.Lists.{append-none}
 use Rattle.candidate_assembly.proofs.Taken.{count, rest_of, AreIn, AreOut, front, past, still-counted, or-none}
-
-append-nothing : {A : Type 0} (xs : List A) → xs ++ [] ≡ xs
-append-nothing [] = refl
-append-nothing (x ∷ xs) = ap (λ l. x ∷ l) (append-nothing xs)
 
 empty-back : {A : Type 0} (xs ys : List A) → xs ++ ys ≡ [] → ys ≡ []
 empty-back [] ys e = e
@@ -60,7 +57,7 @@ module _ {A : Type 0} where
       → slice_get rest 0 ≡ or_else (slice_get xs (count p t)) (slice_get ys (count q t))
   chain2 p q d xs ys i j t rest e =
       let h = past p xs ys i (others-out p q d ys j) t rest e in
-      let g = past q ys [] j tt (rest_of p t) h.left (h.others ∙ sym (append-nothing ys)) in
+      let g = past q ys [] j tt (rest_of p t) h.left (h.others ∙ sym (append-none ys)) in
       let nothing : slice_get g.left 0 ≡ None = ap (λ l. slice_get l 0) (empty-back (rest_of q (rest_of p t)) g.left g.others) in
       h.next
       ∙ ap (or_else (slice_get xs (count p t)))
@@ -108,7 +105,7 @@ module _ {Question Response : Type 0} (T : Tables Question Response) where
   specs_of (c ∷ seen) = specs_of seen ++ c.spec ∷ []
 
   pub specs-append : (later earlier : Past) → specs_of (later ++ earlier) ≡ specs_of earlier ++ specs_of later
-  specs-append [] earlier = sym (append-nothing (specs_of earlier))
+  specs-append [] earlier = sym (append-none (specs_of earlier))
   specs-append (c ∷ later) earlier = ap (λ l. l ++ c.spec ∷ []) (specs-append later earlier) ∙ append_assoc (specs_of earlier) (specs_of later) (c.spec ∷ [])
 
   pub count-specs : (p : (Spec (workings T)) → Bool) (seen : Past) → count p (specs_of seen) ≡ count (λ (c : Considered (workings T)). p c.spec) seen
@@ -161,7 +158,7 @@ module _ {Question Response : Type 0} (T : Tables Question Response) where
           later = c ∷ [];
           earlier = seen;
           split = refl;
-          taken = sym (append-nothing (specs_of seen)) ∙ t;
+          taken = sym (append-none (specs_of seen)) ∙ t;
           is = ap (told T c) e;
           follows = (sym (ap (wanted T) e) ∙ w, tt);
         })
@@ -224,7 +221,7 @@ module _ {Question Response : Type 0} (T : Tables Question Response) where
             let same : b.earlier ≡ seen = ap (λ l. l ++ b.earlier) (sym none) ∙ b.split in
             record {
               left = [];
-              taken = append-nothing (specs_of seen) ∙ ap specs_of (sym same) ∙ b.taken;
+              taken = append-none (specs_of seen) ∙ ap specs_of (sym same) ∙ b.taken;
               is = ap (wanted T) (b.is ∙ ap (after T (end (b.earlier ++ pre))) none ∙ ap (λ l. end (l ++ pre)) same);
             }
 
@@ -307,7 +304,7 @@ module _ {Question Response : Type 0} (T : Tables Question Response) (pU pA pB p
       early-over earlier later t oa ob =
           ap (λ n. or_else (slice_get us n) (slice_get vs (count pB (specs_of T earlier ++ later)))) (out-behind pA (specs_of T earlier) later oa)
           ∙ ap (λ n. or_else (slice_get us (count pA (specs_of T earlier))) (slice_get vs n)) (out-behind pB (specs_of T earlier) later ob)
-          ∙ sym (chain2 pA pB ba us vs ia ib (specs_of T earlier) [] (append-nothing (specs_of T earlier) ∙ t))
+          ∙ sym (chain2 pA pB ba us vs ia ib (specs_of T earlier) [] (append-none (specs_of T earlier) ∙ t))
 
       beyond-next : (earlier later : List (Considered (workings T))) → specs_of T earlier ≡ us ++ vs → Follows T (goes earlier) later
           → wanted T (after T (goes earlier) later) ≡ pick (outside (later ++ earlier)) (later ++ earlier)
@@ -318,7 +315,7 @@ module _ {Question Response : Type 0} (T : Tables Question Response) (pU pA pB p
           by true e g =
               let a = ends earlier in
               let none = nothing-more T a.response a.ignored later (subst (λ p. Follows T p later) a.is g) in
-              let over : early earlier ≡ None = sym (early-is earlier) ∙ ap early_of (sym (append-nothing (specs_of T earlier))) ∙ early-over earlier [] t tt tt in
+              let over : early earlier ≡ None = sym (early-is earlier) ∙ ap early_of (sym (append-none (specs_of T earlier))) ∙ early-over earlier [] t tt tt in
               ap (λ l. wanted T (after T (end earlier) l)) none
               ∙ sym (ap (λ l. pick (outside (l ++ earlier)) (l ++ earlier)) none
               ∙ ap (λ o. pick (or_else o (if settled earlier then None else late earlier)) earlier) over
@@ -352,8 +349,8 @@ module _ {Question Response : Type 0} (T : Tables Question Response) (pU pA pB p
           within : (left : List (Spec (workings T))) → specs_of T seen ++ left ≡ us ++ vs → after T plan seen ≡ each_of T left goes (seen ++ [])
               → wanted T (after T plan seen) ≡ pick (outside seen) seen
           within [] t e =
-              ap (wanted T) e ∙ ap (λ l. wanted T (goes l)) (append-nothing seen)
-              ∙ beyond-next seen [] (sym (append-nothing (specs_of T seen)) ∙ t) tt
+              ap (wanted T) e ∙ ap (λ l. wanted T (goes l)) (append-none seen)
+              ∙ beyond-next seen [] (sym (append-none (specs_of T seen)) ∙ t) tt
           within (s ∷ left) t e =
               let first : early seen ≡ Some s = sym (early-is seen) ∙ sym (chain2 pA pB ba us vs ia ib (specs_of T seen) (s ∷ left) t) in
               ap (wanted T) e ∙ sym (ap (λ o. pick (or_else o (if settled seen then None else late seen)) seen) first)
@@ -361,7 +358,7 @@ module _ {Question Response : Type 0} (T : Tables Question Response) (pU pA pB p
           by : Within T (us ++ vs) goes [] seen ⊎ Beyond T (us ++ vs) goes [] seen → wanted T (after T plan seen) ≡ pick (outside seen) seen
           by (inl w) = within w.left w.taken w.is
           by (inr b) =
-              let same = append-nothing b.earlier in
+              let same = append-none b.earlier in
               ap (wanted T) b.is ∙ ap (λ l. wanted T (after T (goes l) b.later)) same
               ∙ beyond-next b.earlier b.later b.taken (subst (λ l. Follows T (goes l) b.later) same b.follows)
               ∙ ap (λ l. pick (outside l) l) b.split
@@ -395,8 +392,8 @@ module _ {Question Response : Type 0} (T : Tables Question Response) (pU pA pB p
       known-next seen f =
           let h = before-answer T end ends all [] seen f in
           let out : AreOut pU (specs_of T seen) = front (λ s. pU s ≡ false) (specs_of T seen) h.left (subst (AreOut pU) (sym h.taken) none-held) in
-          let none : held seen ≡ false = ap held (sym (append-nothing seen)) ∙ held-of seen [] out in
-          h.is ∙ ap (λ l. chosen T (slice_get h.left 0) (finish l)) (append-nothing seen)
+          let none : held seen ≡ false = ap held (sym (append-none seen)) ∙ held-of seen [] out in
+          h.is ∙ ap (λ l. chosen T (slice_get h.left 0) (finish l)) (append-none seen)
           ∙ ap (λ o. pick o seen) (sections (specs_of T seen) h.left h.taken ∙ ap (λ o. or_else o (late_of (specs_of T seen))) (early-is seen) ∙ ap (or_else (early seen)) (late-is seen))
           ∙ sym (ap (λ (b : Bool). pick (if b then None else or_else (early seen) (late seen)) seen) none)
 

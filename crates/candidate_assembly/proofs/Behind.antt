@@ -29,6 +29,7 @@ use Rattle.declarations.specs.Merges.{Each}
 use Rattle.term_folds.specs.declared.predicate.TraitRef.{TraitRef}
 use Rattle.evaluation.specs.Instances.{put_in}
 use Rattle.assembly_laws.specs.Candidates.{moved, behind, impl_id}
+use Rattle.term_folds.proofs.ParamFacts.{tree-cong}
 use Rattle.candidate_assembly.specs.Headers.{var_kind}
 
 -- the trees of values, one after the other
@@ -66,11 +67,11 @@ plus-zero n = omega arith
 plus-next : (n i : ℕ) → (n + 1) + i ≡ n + suc i
 plus-next n i = omega arith
 
-left-none : (a b : Option InstantiateError) → option_or a b ≡ None → a ≡ None
+pub left-none : (a b : Option InstantiateError) → option_or a b ≡ None → a ≡ None
 left-none None b h = refl
 left-none (Some e) b h = cc
 
-right-none : (a b : Option InstantiateError) → option_or a b ≡ None → b ≡ None
+pub right-none : (a b : Option InstantiateError) → option_or a b ≡ None → b ≡ None
 right-none None b h = h
 right-none (Some e) b h = absurd cc
 
@@ -87,9 +88,6 @@ variable-at d n i [] s h = absurd cc
 variable-at d n zero (k ∷ ks) s h = ap (λ z. leaf (canonical z n)) (fits-sort s (sort_of_kind k) h) ∙ ap (λ m. leaf (canonical s m)) (plus-zero n)
 variable-at d n (suc i) (k ∷ ks) s h = variable-at d (n + 1) i ks s h ∙ ap (λ m. leaf (canonical s m)) (plus-next n i)
 
-same-tree : (l : Label) (x y p q : Trees) → x ≡ y → p ≡ q → tree l x p ≡ tree l y q
-same-tree l x y p q e f = cc
-
 same-joined : (x y p q : Trees) → x ≡ y → p ≡ q → x +++ p ≡ y +++ q
 same-joined x y p q e f = cc
 
@@ -103,7 +101,7 @@ put-behind d n ks (tree (param s i) c o) h =
     (put-behind d n ks o (right-none (misfit s (sort_at A i)) (first_misfit A o) h))
 put-behind d n ks (tree l c o) h =
     let A = variables n ks in
-    same-tree l (instantiate (inside l d) A c) (put_in (moved n) c) (instantiate d A o) (put_in (moved n) o)
+    tree-cong l (instantiate (inside l d) A c) (put_in (moved n) c) (instantiate d A o) (put_in (moved n) o)
     (put-behind (inside l d) n ks c (left-none (first_misfit A c) (first_misfit A o) h))
     (put-behind d n ks o (right-none (first_misfit A c) (first_misfit A o) h))
 
@@ -123,17 +121,6 @@ all-fit es sorts A e (r ∷ rs) h = (h.0 A e, all-fit es sorts A e rs h.1)
 
 -- ---- while the interner grows
 module _ (es fs : List Entry) (kept : Keeps es fs) where
-  pub reference-later : (r : TraitRef) → ReferenceHeld es r → reference_in fs r ≡ reference_in es r
-  reference-later r h = ap (λ (t : Trees). let q : Reference = record { trait = r.def_id.index; args = t } in q) (trees-later es fs kept args_lists r.args.0 h)
-
-  pub references-later : (rs : List TraitRef) → AllHeld es rs → references_in fs rs ≡ references_in es rs
-  references-later [] h = refl
-  references-later (r ∷ rs) h = ap (λ x. x ∷ references_in fs rs) (reference-later r h.0) ∙ ap (λ l. reference_in es r ∷ l) (references-later rs h.1)
-
-  pub all-held-later : (rs : List TraitRef) → AllHeld es rs → AllHeld fs rs
-  all-held-later [] h = tt
-  all-held-later (r ∷ rs) h = (has-later es fs kept args_lists r.args.0 h.0, all-held-later rs h.1)
-
   pub fits-later : (A : Trees) (rs : List TraitRef) → AllHeld es rs → Each (λ (r : TraitRef). first_misfit A (trees_at es r.args.0) ≡ None) rs → Each (λ (r : TraitRef). first_misfit A (trees_at fs r.args.0) ≡ None) rs
   fits-later A [] h g = tt
   fits-later A (r ∷ rs) h g = (subst (λ (t : Trees). first_misfit A t ≡ None) (sym (trees-later es fs kept args_lists r.args.0 h.0)) g.0, fits-later A rs h.1 g.1)

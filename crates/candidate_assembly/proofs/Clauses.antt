@@ -23,25 +23,25 @@ use Rattle.assembly_laws.specs.Candidates.{Candidate, by_rule, by_clauses, claus
 use Rattle.candidate_assembly.specs.Clauses.{begins_open, BreaksAt, reference_of, with_reference, references_to}
 
 -- ---- a visit that breaks at open places
-says-pass : (B : Type 0) (m : Bool) → BreaksAt {B = B} m Pass → ⊥
+pub says-pass : (B : Type 0) (m : Bool) → BreaksAt {B = B} m Pass → ⊥
 says-pass B true h = h
 says-pass B false h = h
 
-says-enter : (B : Type 0) (m : Bool) → BreaksAt {B = B} m Enter → m ≡ false
+pub says-enter : (B : Type 0) (m : Bool) → BreaksAt {B = B} m Enter → m ≡ false
 says-enter B true h = absurd h
 says-enter B false h = refl
 
-says-break : {B : Type 0} (m : Bool) (b : B) → BreaksAt m (Break b) → m ≡ true
+pub says-break : {B : Type 0} (m : Bool) (b : B) → BreaksAt m (Break b) → m ≡ true
 says-break true b h = refl
 says-break false b h = absurd h
 
-here-test : (p q r : Bool) → p ≡ true → true ≡ (p || q || r)
+pub here-test : (p q r : Bool) → p ≡ true → true ≡ (p || q || r)
 here-test p q r h = rw h refl
 
-below-test : (p q r : Bool) → p ≡ false → true ≡ q → true ≡ (p || q || r)
+pub below-test : (p q r : Bool) → p ≡ false → true ≡ q → true ≡ (p || q || r)
 below-test p q r h k = rw (h, ← k) refl
 
-behind-test : (a p q r : Bool) → p ≡ false → false ≡ q → a ≡ r → a ≡ (p || q || r)
+pub behind-test : (a p q r : Bool) → p ≡ false → false ≡ q → a ≡ r → a ≡ (p || q || r)
 behind-test a p q r h k e = rw (h, ← k) e
 
 abbrev Sees : {V : Type 0} → (B : Type 0) → List ℕ → Trees → V → V → Seen B → Type 0

@@ -17,8 +17,8 @@ use Rattle.candidate_assembly.proofs.Along.{count-last}
 use Rattle.candidate_assembly.proofs.Taken.{count}
 
 -- one more candidate stands at the end of what is shown
-next : (c : Considered (workings frame_tables)) (seen : Past) → reverse (map shown (c ∷ seen)) ≡ reverse (map shown seen) ++ shown c ∷ []
-next c seen = reverse-append (shown c ∷ []) (map shown seen)
+pub shown-next : (c : Considered (workings frame_tables)) (seen : Past) → reverse (map shown (c ∷ seen)) ≡ reverse (map shown seen) ++ shown c ∷ []
+shown-next c seen = reverse-append (shown c ∷ []) (map shown seen)
 
 -- ---- counts
 module _ (p : CandidateSource → Bool) where
@@ -37,7 +37,7 @@ module _ (p : CandidateSource → Bool) where
 
   count-shown : (seen : Past) → count from-there (reverse (map shown seen)) ≡ considered_from p seen
   count-shown [] = refl
-  count-shown (c ∷ seen) = ap (count from-there) (next c seen) ∙ count-last from-there (reverse (map shown seen)) (shown c) ∙ by (p c.spec.source) (count-shown seen)
+  count-shown (c ∷ seen) = ap (count from-there) (shown-next c seen) ∙ count-last from-there (reverse (map shown seen)) (shown c) ∙ by (p c.spec.source) (count-shown seen)
     where
       by : (b : Bool) → count from-there (reverse (map shown seen)) ≡ considered_from p seen
           → length (cond b (shown c ∷ filter from-there (reverse (map shown seen))) (filter from-there (reverse (map shown seen)))) ≡ length (cond b (c ∷ filter (from p) seen) (filter (from p) seen))
@@ -62,7 +62,7 @@ last-one o (y ∷ xs) x = last-one (impl_or y.source o) xs x
 
 last-of-shown : (seen : Past) → last-shown None (reverse (map shown seen)) ≡ last_impl seen
 last-of-shown [] = refl
-last-of-shown (c ∷ seen) = ap (last-shown None) (next c seen) ∙ last-one None (reverse (map shown seen)) (shown c) ∙ ap (impl_or c.spec.source) (last-of-shown seen)
+last-of-shown (c ∷ seen) = ap (last-shown None) (shown-next c seen) ∙ last-one None (reverse (map shown seen)) (shown c) ∙ ap (impl_or c.spec.source) (last-of-shown seen)
 
 pub last-is : (es : List Entry) (done : List InCode.Considered) → ForEachPast es done (λ seen. last_from None done ≡ last_impl seen)
 last-is es done seen h = last-read es None done ∙ ap (last-shown None) h ∙ last-of-shown seen

@@ -28,46 +28,34 @@ use Rattle.declarations.proofs.Growth.{each-kept, reference-same, args-same, all
 use Rattle.assembly_laws.specs.Asking.{Asked, asked, self_of}
 use Rattle.assembly_laws.specs.Candidates.{Candidate, by_impls, by_objects}
 use Rattle.assembly_laws.specs.Solver.{Past, is_impl}
-use Rattle.candidate_assembly.specs.Constituents.{StructIsApplied, CanBeConsidered}
+use Rattle.candidate_assembly.proofs.Settled.{some-length}
+use Rattle.candidate_assembly.proofs.Counted.{shown-next}
+use Rattle.built_in_candidates.specs.Constituents.{StructIsApplied, CanBeConsidered}
 use Rattle.candidate_assembly.specs.Counted.{ForEachPast}
-use Rattle.candidate_assembly.specs.Fitting.{FitsTrait, ObjectFits, TargetFits, FitsUnsize, GoalFits, solving_of}
-use Rattle.candidate_assembly.specs.Goals.{asked_of}
+use Rattle.candidate_assembly.specs.Fitting.{GoalFits, solving_of}
+use Rattle.built_in_candidates.specs.Goals.{asked_of}
 use Rattle.candidate_assembly.specs.Headers.{HasTooMany, impls_above}
-use Rattle.candidate_assembly.specs.Kept.{applied-later, ready-kept, solving-kept}
+use Rattle.declarations.proofs.Elaborating.{applied-later}
+use Rattle.candidate_assembly.specs.Kept.{ready-kept, solving-kept}
 use Rattle.candidate_assembly.specs.Nexts.{handled_in, ForEachHistory}
-use Rattle.candidate_assembly.specs.Objects.{AreArgumentsOf, ObjectIsApplied}
+use Rattle.built_in_candidates.specs.Objects.{ObjectIsApplied}
 use Rattle.candidate_assembly.specs.Ready.{IsDecided}
 use Rattle.candidate_assembly.specs.Sections.{sources_tell, decided, considered_from, is_bound, is_first, misc_is_bound, last_impl}
 use Rattle.candidate_assembly.specs.Solving.{Solving, meaning_for, solver_for}
-use Rattle.candidate_assembly.specs.Unsizing.{TargetIsApplied, CanUnsize}
-use Rattle.candidate_assembly.proofs.Asking.{asked-later}
+use Rattle.built_in_candidates.specs.Unsizing.{CanUnsize}
+use Rattle.built_in_candidates.proofs.Asking.{asked-later}
 use Rattle.candidate_assembly.proofs.GoingOn.{walks-go-on}
 
 -- ---- what candidates ask of a goal
-abbrev of-trait : (d : Items) (r : Reference) → FitsTrait d r → AreArgumentsOf d r
-of-trait d r h = record { sorts = h.sorts; closed = h.closed }
-
-object-is : (d : Items) (t : Trees) → ObjectFits d t → ObjectIsApplied d t
-object-is d none h = tt
-object-is d (tree dynamic b o) h = each-kept (FitsTrait d) (AreArgumentsOf d) (of-trait d) (principal_with (tree dynamic b none) b) h
-object-is d (tree l c o) h = tt
-
-target-is : (d : Items) (t : Trees) → TargetFits d t → TargetIsApplied d t
-target-is d none h = tt
-target-is d (tree l c none) h = tt
-target-is d (tree l c (tree dynamic b o)) h = each-kept (FitsTrait d) (AreArgumentsOf d) (of-trait d) (principal_with (tree l c none) b) h
-target-is d (tree l c (tree (adt s) b o)) h = h
-target-is d (tree l c (tree m b o)) h = tt
-
 module _ (es : List Entry) (d : Items) (g : CanonicalInput) (h : IsDecided es d g) where
   pub can-be : CanBeConsidered es d g
   can-be = record { goal = h.goal; first = h.fits.first; declared = h.ready.held; fields = h.ready.fields; applied = h.fits.struct }
 
   pub object : ObjectIsApplied d (trees_at es g.goal.predicate.trait_ref.args.0)
-  object = object-is d (trees_at es g.goal.predicate.trait_ref.args.0) h.fits.object
+  object = h.fits.object
 
   pub unsizing : (g.goal.predicate.trait_ref.def_id.index == unsize) ≡ true → CanUnsize d (self_of (asked_of es g))
-  unsizing e = let u = h.fits.unsizing e in record { target = u.target; applied = target-is d (self_of (asked_of es g)) u.applied }
+  unsizing e = h.fits.unsizing e
 
 -- ---- while the interner grows
 module _ (old new : List Entry) (k : Keeps old new) (d : Items) (g : CanonicalInput) (h : IsDecided old d g) where
@@ -92,8 +80,8 @@ module _ (old new : List Entry) (k : Keeps old new) (d : Items) (g : CanonicalIn
         applied = applied-later old new k d r h.goal.predicate h.fits.applied;
         first = subst StartsWithType same h.fits.first;
         struct = subst (StructIsApplied d) same h.fits.struct;
-        object = subst (ObjectFits d) same h.fits.object;
-        unsizing = λ e. subst (λ (a : Asked). FitsUnsize d (self_of a)) (sym asked-same) (h.fits.unsizing e);
+        object = subst (ObjectIsApplied d) same h.fits.object;
+        unsizing = λ e. subst (λ (a : Asked). CanUnsize d (self_of a)) (sym asked-same) (h.fits.unsizing e);
         tells = ap sources_tell asked-same ∙ h.fits.tells;
       }
 
@@ -170,18 +158,12 @@ inside-none true u k o e f = absurd cc
 inside-none false false k o e f = absurd cc
 
 -- ---- nothing was considered
-reverse-one : (c : Considered (workings frame_tables)) (seen : Past) → reverse (map shown (c ∷ seen)) ≡ reverse (map shown seen) ++ shown c ∷ []
-reverse-one c seen = reverse-append (shown c ∷ []) (map shown seen)
-
 no-end : (xs : List Shown) (x : Shown) → [] ≡ xs ++ x ∷ [] → ⊥
 no-end [] x e = cc
 no-end (y ∷ xs) x e = cc
 
-some-length : (n : ℕ) → (suc n == 0) ≡ false
-some-length n = grind (arith, nat_tests)
-
 pub first-is : (es : List Entry) (done : List InCode.Considered) (seen : Past) → Shows (map (shown_by es) done) seen → (length done == 0) ≡ is_first seen
 first-is es [] [] h = refl
-first-is es [] (c ∷ seen) h = absurd (no-end (reverse (map shown seen)) (shown c) (h ∙ reverse-one c seen))
+first-is es [] (c ∷ seen) h = absurd (no-end (reverse (map shown seen)) (shown c) (h ∙ shown-next c seen))
 first-is es (x ∷ done) [] h = absurd cc
 first-is es (x ∷ done) (c ∷ seen) h = some-length (length done)

@@ -19,8 +19,8 @@ use Rattle.assembly_laws.specs.Asking.{Asked, asked, asked_if, asked_with, all_k
 use Rattle.assembly_laws.specs.DeclaredWell.{is_declared_well}
 use Rattle.assembly_laws.specs.Lifetimes.{gives_lifetimes, given_by, form_gives_lifetimes}
 use Rattle.assembly_laws.proofs.DeclaredWell.{tests-tell}
-use Rattle.candidate_assembly.specs.Goals.{asked_of}
-use Rattle.candidate_assembly.specs.Constituents.{HaveFields}
+use Rattle.built_in_candidates.specs.Goals.{asked_of}
+use Rattle.built_in_candidates.specs.Constituents.{HaveFields}
 use Rattle.candidate_assembly.specs.Fitting.{reference_fits, fits_declared, solving_of, GoalFits}
 use Rattle.candidate_assembly.specs.Sections.{decided}
 use Rattle.candidate_assembly.specs.Solving.{meaning_for}

@@ -24,38 +24,11 @@ use Rattle.infer_table.specs.declared.canonical.CanonicalVarKind.{CanonicalVarKi
 use Rattle.evaluation.specs.FrameTables.{kind_at}
 use Rattle.type_terms.proofs.Made.{false-true, left, right, no-tree, made-ordinary, last-bound, last-trait, never-dynamic, never-dynamic-bound, never-principal}
 use Rattle.evaluation.specs.Variables.{is_variable_over}
+use Rattle.candidate_assembly.proofs.Clauses.{says-pass, says-enter, says-break, here-test, below-test, behind-test}
 use Rattle.candidate_assembly.specs.Clauses.{BreaksAt}
 use Rattle.candidate_assembly.specs.Finding.{at_root, some_root, is_foreign, names_undeclared}
 
--- ---- the kind of a variable
-pub kind-found : (ks : List CanonicalVarKind) (i : ℕ) → slice_get ks i ≡ kind_at ks i
-kind-found [] zero = refl
-kind-found [] (suc i) = refl
-kind-found (k ∷ ks) zero = refl
-kind-found (k ∷ ks) (suc i) = kind-found ks i
-
 -- ---- a visit that breaks at some trees
-says-pass : (B : Type 0) (m : Bool) → BreaksAt {B = B} m Pass → ⊥
-says-pass B true h = h
-says-pass B false h = h
-
-says-enter : (B : Type 0) (m : Bool) → BreaksAt {B = B} m Enter → m ≡ false
-says-enter B true h = absurd h
-says-enter B false h = refl
-
-says-break : {B : Type 0} (m : Bool) (b : B) → BreaksAt m (Break b) → m ≡ true
-says-break true b h = refl
-says-break false b h = absurd h
-
-here-test : (p q r : Bool) → p ≡ true → true ≡ (p || q || r)
-here-test p q r h = rw h refl
-
-below-test : (p q r : Bool) → p ≡ false → true ≡ q → true ≡ (p || q || r)
-below-test p q r h k = rw (h, ← k) refl
-
-behind-test : (a p q r : Bool) → p ≡ false → false ≡ q → a ≡ r → a ≡ (p || q || r)
-behind-test a p q r h k e = rw (h, ← k) e
-
 -- one of the trees, each without those behind it, passes the test
 abbrev pub some_tree : (Trees → Bool) → Trees → Bool
 some_tree p none = false

@@ -13,9 +13,9 @@ use Rattle.type_terms.specs.declared.region.Region.{Region}
 use Rattle.infer_table.specs.declared.canonical.CanonicalVarKind.{CanonicalVarKind}
 use Rattle.declarations.specs.Items.{Items}
 use Rattle.assembly_laws.specs.Asking.{begins_with_type, begins_unknown, with_plain_head}
-use Rattle.candidate_assembly.specs.FnPointers.{IsFirst}
+use Rattle.built_in_candidates.specs.FnPointers.{IsFirst}
 use Rattle.candidate_assembly.specs.Fitting.{type_fits}
-use Rattle.candidate_assembly.proofs.Pairs.{IsOneTree, arg-tree}
+use Rattle.built_in_candidates.proofs.Pairs.{IsOneTree, arg-tree}
 
 -- an argument that is there
 pub first-is : (es : List Entry) (t : Trees) (o : Option GenericArgKind) (x y : GenericArgKind) → o ≡ Some x → x ≡ y → IsFirst es t o → IsFirst es t (Some y)

@@ -29,28 +29,21 @@ use Rattle.declarations.specs.Items.{Items, reference_in, struct_at, trait_at, w
 use Rattle.declarations.specs.Merges.{Each}
 use Rattle.declarations.specs.Applied.{sort_of_param, sorts_of, sorts_of_params}
 use Rattle.assembly_laws.specs.Asking.{next_of, with_plain_head, begins_with_type, is_rigid}
-use Rattle.candidate_assembly.specs.Constituents.{AreArguments, StructIsApplied}
+use Rattle.infer_table.proofs.SolutionLaws.{is_sort-equal}
+use Rattle.infer_table.proofs.EquationFacts.{erase-sort}
+use Rattle.built_in_candidates.specs.Constituents.{AreArguments, StructIsApplied}
 use Rattle.candidate_assembly.specs.Sections.{autos_of}
-use Rattle.candidate_assembly.specs.Fitting.{same_sorts, are_of_trait, are_of_struct, is_shut, names_unsize, principal_fits, type_fits, reference_fits, FitsTrait, ObjectFits, TargetFits, FitsUnsize, GoalFits}
-use Rattle.candidate_assembly.proofs.Pairs.{arg-tree}
+use Rattle.candidate_assembly.specs.Fitting.{same_sorts, are_of_trait, are_of_struct, is_shut, names_unsize, principal_fits, type_fits, reference_fits, GoalFits}
+use Rattle.built_in_candidates.specs.Objects.{AreArgumentsOf, ObjectIsApplied}
+use Rattle.built_in_candidates.specs.Unsizing.{TargetIsApplied, CanUnsize}
+use Rattle.built_in_candidates.proofs.Pairs.{arg-tree}
 
 -- ---- sorts
-same-sort : (s t : Sort) → is_sort s t ≡ true → s ≡ t
-same-sort of_type of_type e = refl
-same-sort of_const of_const e = refl
-same-sort of_lifetime of_lifetime e = refl
-same-sort of_type of_const e = absurd (false-true e)
-same-sort of_type of_lifetime e = absurd (false-true e)
-same-sort of_const of_type e = absurd (false-true e)
-same-sort of_const of_lifetime e = absurd (false-true e)
-same-sort of_lifetime of_type e = absurd (false-true e)
-same-sort of_lifetime of_const e = absurd (false-true e)
-
 sorts-are : (ss ts : List Sort) → same_sorts ss ts ≡ true → ss ≡ ts
 sorts-are [] [] e = refl
 sorts-are [] (t ∷ ts) e = absurd (false-true e)
 sorts-are (s ∷ ss) [] e = absurd (false-true e)
-sorts-are (s ∷ ss) (t ∷ ts) e = ap (λ z. z ∷ ss) (same-sort s t (left (is_sort s t) _ e)) ∙ ap (λ z. t ∷ z) (sorts-are ss ts (right (is_sort s t) _ e))
+sorts-are (s ∷ ss) (t ∷ ts) e = ap (λ z. z ∷ ss) (is_sort-equal s t (left (is_sort s t) _ e)) ∙ ap (λ z. t ∷ z) (sorts-are ss ts (right (is_sort s t) _ e))
 
 -- each argument is one tree of its sort
 pub args-sorts : (es : List Entry) → Lawful es → (xs : List GenericArgKind) → ArgsHeld es xs → sorts_of (args_trees es xs) ≡ map sort_of_arg xs
@@ -83,13 +76,13 @@ is-true : (b : Bool) → not b ≡ true → b ≡ false
 is-true true e = absurd (false-true e)
 is-true false e = refl
 
-second-part : (b x : Bool) → b ≡ true → (not b || x) ≡ true → x ≡ true
+pub second-part : (b x : Bool) → b ≡ true → (not b || x) ≡ true → x ≡ true
 second-part true x e f = f
 second-part false x e f = absurd (false-true e)
 
 -- ---- the first type
 rigid-type : (l : Label) → is_rigid l ≡ true → sort_of l ≡ of_type
-rigid-type l e = same-sort (sort_of l) of_type (left (is_sort (sort_of l) of_type) _ e)
+rigid-type l e = is_sort-equal (sort_of l) of_type (left (is_sort (sort_of l) of_type) _ e)
 
 pub type-first : (t : Trees) → begins_with_type t ≡ true → StartsWithType t
 type-first none e = absurd (false-true e)
@@ -97,24 +90,6 @@ type-first (tree (canonical of_type i) c o) e = refl
 type-first (tree (canonical of_const i) c o) e = absurd (false-true e)
 type-first (tree (canonical of_lifetime i) c o) e = absurd (false-true e)
 type-first (tree l c o) e = rigid-type l e
-
-plain-sort : (l : Label) → sort_of (erase_label l) ≡ sort_of l
-plain-sort (param of_type i) = refl
-plain-sort (param of_const i) = refl
-plain-sort (param of_lifetime i) = refl
-plain-sort (placeholder of_type i) = refl
-plain-sort (placeholder of_const i) = refl
-plain-sort (placeholder of_lifetime i) = refl
-plain-sort (infer of_type i) = refl
-plain-sort (infer of_const i) = refl
-plain-sort (infer of_lifetime i) = refl
-plain-sort (canonical of_type i) = refl
-plain-sort (canonical of_const i) = refl
-plain-sort (canonical of_lifetime i) = refl
-plain-sort (bound of_type i j) = refl
-plain-sort (bound of_const i j) = refl
-plain-sort (bound of_lifetime i j) = refl
-plain-sort l = refl
 
 -- no binder number leads out of a label that is read up to lifetimes, where none did before
 plain-shut : (l : Label) (n : ℕ) → max (own_binder l) (outside l n) ≡ 0 → max (own_binder (erase_label l)) (outside (erase_label l) n) ≡ 0
@@ -158,7 +133,7 @@ module _ (d : Items) where
   struct-applied (tree l c o) e h = tt
 
   -- the principal of these bounds, with a type for Self
-  principal-applied : (l : Label) (c b : Trees) → sort_of l ≡ of_type → outer_binder (tree l c none) ≡ 0 → principal_fits d b ≡ true → Each (FitsTrait d) (principal_with (tree l c none) b)
+  principal-applied : (l : Label) (c b : Trees) → sort_of l ≡ of_type → outer_binder (tree l c none) ≡ 0 → principal_fits d b ≡ true → Each (AreArgumentsOf d) (principal_with (tree l c none) b)
   principal-applied l c none s h e = tt
   principal-applied l c (tree (principal n t) args o) s h e =
       let sorts = of-trait (of_type ∷ sorts_of args) (trait_at t d.traits) (left (are_of_trait d t (of_type ∷ sorts_of args)) _ e) in
@@ -175,12 +150,12 @@ module _ (d : Items) where
   alone l c o h =
       greatest (max (own_binder l) (outside l (outer_binder c))) 0 (greater-first (max (own_binder l) (outside l (outer_binder c))) (outer_binder o) h) refl
 
-  object-applied : (t : Trees) → type_fits d t ≡ true → outer_binder t ≡ 0 → ObjectFits d t
+  object-applied : (t : Trees) → type_fits d t ≡ true → outer_binder t ≡ 0 → ObjectIsApplied d t
   object-applied none e h = tt
   object-applied (tree dynamic b o) e h = principal-applied dynamic b b refl (alone dynamic b o h) (left (principal_fits d b) _ e)
   object-applied (tree l c o) e h = tt
 
-  target-applied : (l : Label) (c o : Trees) → sort_of l ≡ of_type → outer_binder (tree l c none) ≡ 0 → type_fits d o ≡ true → outer_binder o ≡ 0 → TargetFits d (tree l c o)
+  target-applied : (l : Label) (c o : Trees) → sort_of l ≡ of_type → outer_binder (tree l c none) ≡ 0 → type_fits d o ≡ true → outer_binder o ≡ 0 → TargetIsApplied d (tree l c o)
   target-applied l c none s h e g = tt
   target-applied l c (tree dynamic b p) s h e g = principal-applied l c b s h (left (principal_fits d b) _ e)
   target-applied l c (tree (adt k) args p) s h e g = struct-arguments k args p e g
@@ -191,11 +166,11 @@ module _ (d : Items) where
       greatest (max (own_binder (erase_label l)) (outside (erase_label l) (outer_binder c))) 0
       (plain-shut l (outer_binder c) (greater-first (max (own_binder l) (outside l (outer_binder c))) (outer_binder o) h)) refl
 
-  unsizing-fits : (t : Trees) → StartsWithType t → outer_binder t ≡ 0 → begins_with_type (next_of t) ≡ true → type_fits d (next_of t) ≡ true → FitsUnsize d (with_plain_head t)
+  unsizing-fits : (t : Trees) → StartsWithType t → outer_binder t ≡ 0 → begins_with_type (next_of t) ≡ true → type_fits d (next_of t) ≡ true → CanUnsize d (with_plain_head t)
   unsizing-fits none s h b e = absurd s
   unsizing-fits (tree l c o) s h b e = record {
     target = type-first o b;
-    applied = target-applied (erase_label l) c o (plain-sort l ∙ s) (plain-alone l c o h) e (greater-second (max (own_binder l) (outside l (outer_binder c))) (outer_binder o) h);
+    applied = target-applied (erase_label l) c o (erase-sort l ∙ s) (plain-alone l c o h) e (greater-second (max (own_binder l) (outside l (outer_binder c))) (outer_binder o) h);
   }
 
 -- ---- the auto traits of a `dyn`

@@ -22,25 +22,15 @@ use Rattle.assembly_laws.specs.Asking.{next_of, with_plain_head}
 use Rattle.assembly_laws.specs.Declared.{is_declared, are_terms}
 use Rattle.assembly_laws.specs.DeclaredWell.{IsDeclaredWell}
 use Rattle.assembly_laws.specs.Lifetimes.{lacks_lifetime, are_given, gives_lifetimes}
-use Rattle.candidate_assembly.specs.Constituents.{AreArguments, StructIsApplied, HaveFields}
-use Rattle.candidate_assembly.specs.Fitting.{TargetFits}
-
-left-none : (a b : Option InstantiateError) → option_or a b ≡ None → a ≡ None
-left-none None b h = refl
-left-none (Some e) b h = cc
-
-right-none : (a b : Option InstantiateError) → option_or a b ≡ None → b ≡ None
-right-none None b h = h
-right-none (Some e) b h = absurd cc
+use Rattle.candidate_assembly.proofs.Fitting.{second-part}
+use Rattle.candidate_assembly.proofs.Behind.{left-none, right-none}
+use Rattle.built_in_candidates.specs.Constituents.{AreArguments, StructIsApplied, HaveFields}
+use Rattle.built_in_candidates.specs.Unsizing.{TargetIsApplied}
 
 neither : (a b c : Bool) → a ≡ false → b ≡ false → c ≡ false → a || b || c ≡ false
 neither false false c x y z = z
 neither true b c x y z = absurd cc
 neither false true c x y z = absurd cc
-
-behind : (b x : Bool) → b ≡ true → (not b || x) ≡ true → x ≡ true
-behind true x e f = f
-behind false x e f = absurd (false-true e)
 
 -- a label of a lifetime is a leaf's
 record IsLifetime (l : Label) : Type 0 where
@@ -62,7 +52,7 @@ module _ (good : Label → Bool) where
   lifetime-at none i h e = absurd cc
   lifetime-at (tree l c o) zero h e =
       let x = lifetime-label l e in
-      both (is_sort (sort_of l) of_lifetime) (is_no_tree c && true) x.sort (both (is_no_tree c) true (behind (is_leaf_label l) (is_no_tree c) x.leaf (made-ordinary good l c o x.ordinary h).1) refl)
+      both (is_sort (sort_of l) of_lifetime) (is_no_tree c && true) x.sort (both (is_no_tree c) true (second-part (is_leaf_label l) (is_no_tree c) x.leaf (made-ordinary good l c o x.ordinary h).1) refl)
   lifetime-at (tree l c o) (suc i) h e = lifetime-at o i (made-rest good l c o h) e
 
   module _ (A : Trees) (made : is_made good terms A ≡ true) where
@@ -186,11 +176,11 @@ module _ (es : List Entry) (d : Items) (fields : HaveFields es d) (well : IsDecl
   first-given (tree (bound of_lifetime i j) c o) m h = refl
   first-given (tree l c o) m h = refl
 
-  target-of : (l : Label) (c o : Trees) → is_made good terms o ≡ true → TargetFits d (tree l c o) → gives_lifetimes V o ≡ true
+  target-of : (l : Label) (c o : Trees) → is_made good terms o ≡ true → TargetIsApplied d (tree l c o) → gives_lifetimes V o ≡ true
   target-of l c none m h = refl
   target-of l c (tree (adt s) A o) m h = struct-given s A (made-ordinary good (adt s) A o refl m).2 h
   target-of l c (tree k b o) m h = refl
 
-  pub target-given : (t : Trees) → is_made good terms t ≡ true → TargetFits d (with_plain_head t) → gives_lifetimes V (next_of (with_plain_head t)) ≡ true
+  pub target-given : (t : Trees) → is_made good terms t ≡ true → TargetIsApplied d (with_plain_head t) → gives_lifetimes V (next_of (with_plain_head t)) ≡ true
   target-given none m h = refl
   target-given (tree l c o) m h = target-of (erase_label l) c o (made-rest good l c o m) h

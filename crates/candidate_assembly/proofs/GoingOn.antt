@@ -24,6 +24,7 @@ use Rattle.assembly_laws.specs.Knowing.{is_knowable}
 use Rattle.assembly_laws.specs.Asking.{Asked, asked, clauses}
 use Rattle.assembly_laws.specs.Candidates.{Candidate, unknowable, by_clauses, built_in, by_impls, by_objects}
 use Rattle.assembly_laws.specs.Solver.{Past, from, is_clause, is_impl, is_settled, holds_from, solver_handled}
+use Rattle.model.proofs.Members.{not-both}
 use Rattle.candidate_assembly.specs.Headers.{impls_above}
 use Rattle.candidate_assembly.specs.Sections.{misc_is_bound, is_unknowable, is_built_in, is_bound, sources_tell, considered_from, early, late, is_first, next_in, decided, next_candidate, end_of, or_end, impl_or, last_impl, WalksGoOn}
 use Rattle.candidate_assembly.proofs.Along.{Answers}
@@ -36,10 +37,6 @@ some-is x y e = cc
 
 none-is : (x : Candidate) → ◌≡◌ {A = Option Candidate} None (Some x) → ⊥
 none-is x e = cc
-
-not-both : (b : Bool) → b ≡ true → b ≡ false → ⊥
-not-both true h g = absurd cc
-not-both false h g = absurd cc
 
 at-every : (P : Candidate → Type 0) (xs : List Candidate) (n : ℕ) (x : Candidate) → Every P xs → slice_get xs n ≡ Some x → P x
 at-every P [] n x h e = absurd (none-is x e)

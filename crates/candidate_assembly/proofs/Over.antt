@@ -24,74 +24,11 @@ use Rattle.assembly_laws.specs.Asking.{with_plain_head}
 use Rattle.assembly_laws.specs.Candidates.{all_equal, moved, is_param}
 use Rattle.assembly_laws.specs.Declared.{is_declared, are_terms}
 use Rattle.assembly_laws.specs.Facts.{tree_of_reference}
-use Rattle.candidate_assembly.proofs.WellDeclared.{itself, in-children, behind-it}
-
--- ---- what stands at the places of variables
-own-slots : (a b c i : ℕ) (ks : List CanonicalVarKind) (more : List Label) (s : Sort) (j : ℕ) → is_kind_of s (kind_at ks j) ≡ true → is_of_sort s (slice_get (labels_from a b c i ks ++ more) j) ≡ true
-own-slots a b c i [] more s j h = absurd (false-true h)
-own-slots a b c i (Ty ∷ ks) more s zero h = h
-own-slots a b c i (Const ∷ ks) more s zero h = h
-own-slots a b c i (Region ∷ ks) more s zero h = h
-own-slots a b c i (PlaceholderTy ∷ ks) more s zero h = h
-own-slots a b c i (PlaceholderConst ∷ ks) more s zero h = h
-own-slots a b c i (Ty ∷ ks) more s (suc j) h = own-slots (suc a) b c (suc i) ks more s j h
-own-slots a b c i (Const ∷ ks) more s (suc j) h = own-slots a (suc b) c (suc i) ks more s j h
-own-slots a b c i (Region ∷ ks) more s (suc j) h = own-slots a b (suc c) (suc i) ks more s j h
-own-slots a b c i (PlaceholderTy ∷ ks) more s (suc j) h = own-slots a b c (suc i) ks more s j h
-own-slots a b c i (PlaceholderConst ∷ ks) more s (suc j) h = own-slots a b c (suc i) ks more s j h
-
-new-slots : (t : TableTrees) (i : ℕ) (ks : List CanonicalVarKind) (s : Sort) (j : ℕ) → is_kind_of s (kind_at ks j) ≡ true → is_of_sort s (slice_get (labels_for t i ks) j) ≡ true
-new-slots t i [] s j h = absurd (false-true h)
-new-slots t i (Ty ∷ ks) s zero h = h
-new-slots t i (Const ∷ ks) s zero h = h
-new-slots t i (Region ∷ ks) s zero h = h
-new-slots t i (PlaceholderTy ∷ ks) s zero h = h
-new-slots t i (PlaceholderConst ∷ ks) s zero h = h
-new-slots t i (k ∷ ks) s (suc j) h = new-slots (table_after None t k) (i + 1) ks s j h
-
-own-length : (a b c i : ℕ) (ks : List CanonicalVarKind) → length (labels_from a b c i ks) ≡ length ks
-own-length a b c i [] = refl
-own-length a b c i (Ty ∷ ks) = ap suc (own-length (suc a) b c (suc i) ks)
-own-length a b c i (Const ∷ ks) = ap suc (own-length a (suc b) c (suc i) ks)
-own-length a b c i (Region ∷ ks) = ap suc (own-length a b (suc c) (suc i) ks)
-own-length a b c i (PlaceholderTy ∷ ks) = ap suc (own-length a b c (suc i) ks)
-own-length a b c i (PlaceholderConst ∷ ks) = ap suc (own-length a b c (suc i) ks)
-
-zero-plus : (n : ℕ) → 0 + n ≡ n
-zero-plus n = omega arith
-
-get-behind : (xs ys : List Label) (j : ℕ) → slice_get (xs ++ ys) (length xs + j) ≡ slice_get ys j
-get-behind [] ys j = ap (slice_get ys) (zero-plus j)
-get-behind (x ∷ xs) ys j = ap (slice_get (x ∷ (xs ++ ys))) (next (length xs) j) ∙ get-behind xs ys j
-  where
-    next : (n i : ℕ) → suc n + i ≡ suc (n + i)
-    next n i = omega arith
-
--- each variable of these kinds, that many places on, stands for a label of its sort
-abbrev HaveSlots : ℕ → List CanonicalVarKind → List Label → Type 0
-HaveSlots n kinds ls = (s : Sort) (j : ℕ) → is_kind_of s (kind_at kinds j) ≡ true → is_of_sort s (slice_get ls (n + j)) ≡ true
-
-goal-slots : (kinds own : List CanonicalVarKind) → HaveSlots 0 kinds (slots_of kinds own)
-goal-slots kinds own s j h = ap (λ z. is_of_sort s (slice_get (slots_of kinds own) z)) (zero-plus j) ∙ own-slots 0 0 0 0 kinds (labels_for (first_content kinds) 0 own) s j h
-
-pub new-places : (kinds own : List CanonicalVarKind) → HaveSlots (length kinds) own (slots_of kinds own)
-new-places kinds own s j h =
-    ap (λ z. is_of_sort s (slice_get (slots_of kinds own) (z + j))) (sym (own-length 0 0 0 0 kinds))
-    ∙ ap (is_of_sort s) (get-behind (labels_from 0 0 0 0 kinds) (labels_for (first_content kinds) 0 own) j)
-    ∙ new-slots (first_content kinds) 0 own s j h
+use Rattle.assembly_laws.proofs.Headers.{child-some, next-some}
+use Rattle.goal_frames.proofs.RuleFitting.{goal-slots, over-labels}
+use Rattle.candidate_assembly.proofs.WellDeclared.{itself}
 
 -- ---- the goal's terms
-over-label : (kinds : List CanonicalVarKind) (ls : List Label) → HaveSlots 0 kinds ls → (l : Label) → IsGoodLabel (is_variable_over kinds) l → is_slot ls l ≡ true
-over-label kinds ls h (canonical s j) g = ap (λ z. is_of_sort s (slice_get ls z)) (sym (zero-plus j)) ∙ h s j (g refl)
-over-label kinds ls h (infer k v) g = absurd (false-true (g refl))
-over-label kinds ls h (param k v) g = absurd (false-true (g refl))
-over-label kinds ls h (placeholder k v) g = absurd (false-true (g refl))
-over-label kinds ls h l g = refl
-
-over-labels : (kinds : List CanonicalVarKind) (ls : List Label) → HaveSlots 0 kinds ls → (t : Trees) → EachLabel (IsGoodLabel (is_variable_over kinds)) t → HasLeaves t → AreOver ls t
-over-labels kinds ls h none e g = tt
-over-labels kinds ls h (tree l c o) e g = (over-label kinds ls h l e.0, g.0, over-labels kinds ls h c e.1 g.1, over-labels kinds ls h o e.2 g.2)
-
 pub goal-over : (kinds own : List CanonicalVarKind) (t : Trees) → is_made (is_variable_over kinds) terms t ≡ true → AreOver (slots_of kinds own) t
 goal-over kinds own t h = over-labels kinds (slots_of kinds own) (goal-slots kinds own) t (made-labels (is_variable_over kinds) terms t h) (made-leaves (is_variable_over kinds) terms t h)
 
@@ -143,12 +80,12 @@ module _ (ls : List Label) where
   -- with variables in the place of parameters, each of its parameter's sort
   over-moved : (n : ℕ) (t : Trees) → ((s : Sort) (j : ℕ) → some_node (is_param s j) t ≡ true → is_of_sort s (slice_get ls (n + j)) ≡ true) → EachLabel (IsGoodLabel is_declared) t → HasLeaves t → AreOver ls (put_in (moved n) t)
   over-moved n none f e g = tt
-  over-moved n (tree (param s i) c o) f e g = (f s i (ap (λ b. b || some_node (is_param s i) c || some_node (is_param s i) o) (itself s i)), λ x. refl, tt, over-moved n o (λ r j h. f r j (behind-it (is_param r j) (param s i) c o h)) e.2 g.2)
+  over-moved n (tree (param s i) c o) f e g = (f s i (ap (λ b. b || some_node (is_param s i) c || some_node (is_param s i) o) (itself s i)), λ x. refl, tt, over-moved n o (λ r j h. f r j (next-some (is_param r j) (param s i) c o h)) e.2 g.2)
   over-moved n (tree (infer k v) c o) f e g = absurd (false-true (e.0 refl))
   over-moved n (tree (placeholder k v) c o) f e g = absurd (false-true (e.0 refl))
   over-moved n (tree (canonical k v) c o) f e g = absurd (false-true (e.0 refl))
   over-moved n (tree l c o) f e g =
-      (refl, λ x. ap (put_in (moved n)) (g.0 x), over-moved n c (λ r j h. f r j (in-children (is_param r j) l c o h)) e.1 g.1, over-moved n o (λ r j h. f r j (behind-it (is_param r j) l c o h)) e.2 g.2)
+      (refl, λ x. ap (put_in (moved n)) (g.0 x), over-moved n c (λ r j h. f r j (child-some (is_param r j) l c o h)) e.1 g.1, over-moved n o (λ r j h. f r j (next-some (is_param r j) l c o h)) e.2 g.2)
 
   pub over-behind : (n : ℕ) (t : Trees) → ((s : Sort) (j : ℕ) → some_node (is_param s j) t ≡ true → is_of_sort s (slice_get ls (n + j)) ≡ true) → ArePlain t → AreOver ls (put_in (moved n) t)
   over-behind n t f p = over-moved n t f p.0 p.1

@@ -41,7 +41,8 @@ use Rattle.assembly_laws.proofs.Elaborating.{every-in}
 use Rattle.assembly_laws.proofs.LawfulCandidates.{asked-clauses}
 use Rattle.assembly_laws.proofs.Rows.{fields-declared}
 use Rattle.assembly_laws.proofs.Rowwise.{both-lists}
-use Rattle.candidate_assembly.proofs.Over.{ArePlain, declared-plain, new-places, goal-over, over-head, over-behind, over-plain-head, AreOverSides, over-equal, over-reference}
+use Rattle.goal_frames.proofs.RuleFitting.{rule-slots}
+use Rattle.candidate_assembly.proofs.Over.{ArePlain, declared-plain, goal-over, over-head, over-behind, over-plain-head, AreOverSides, over-equal, over-reference}
 use Rattle.candidate_assembly.proofs.OverRows.{AreOverAll, AskOver, last-over, last-unsizes-over, sized-over, copy-over, auto-over, tuple-over, fn-ptr-over, principal-over, autos-over, to-dyn-over, elaborated-over, supertraits-over, but-last-over, unsizing-over}
 use Rattle.candidate_assembly.proofs.WellDeclared.{found, kind_for, kind-is, kinds-at, label-of, is-less}
 
@@ -284,7 +285,7 @@ module _ (V : World) (well : IsDeclaredWell V) (a : Asked) (over : is_made (is_v
 
       at : (s : Sort) (j : ℕ) → some_node (is_param s j) i.header.args ≡ true → is_of_sort s (slice_get ls (length a.kinds + j)) ≡ true
       at s j e =
-          new-places a.kinds own s j
+          rule-slots a.kinds own s j
           (param-kind i.header.args i.params (is-false (some_node (is_unsorted i.params i.header.args) i.header.args) (member-each (λ (x : ImplDecl). not (some_node (is_unsorted x.params x.header.args) x.header.args)) V.impls i well.sorted m)) s j e)
 
 -- ---- equations of made terms

@@ -23,7 +23,7 @@ twice : (b : Bool) → not (not b) ≡ b
 twice true = refl
 twice false = refl
 
-some-length : (n : ℕ) → (suc n == 0) ≡ false
+pub some-length : (n : ℕ) → (suc n == 0) ≡ false
 some-length n = grind (arith, nat_tests)
 
 no-constraint : (es : List Entry) (rs : List RegionConstraint) → (length rs == 0) ≡ is_no_tree (constraints_trees es rs)

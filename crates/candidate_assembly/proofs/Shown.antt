@@ -19,11 +19,9 @@ use Rattle.goal_frames.specs.Handlers.{same_answer, applies_always}
 use Rattle.goal_frames.specs.Merges.{responses_of}
 use Rattle.goal_frames.specs.Readings.{Shown, Shows, shown, shown_by, result_read}
 use Rattle.assembly_laws.specs.Solver.{Past, from, is_clause, is_object, gives_none, holds_from, oldest_gives_none}
+use Rattle.candidate_assembly.proofs.Taken.{or-none}
+use Rattle.candidate_assembly.proofs.Counted.{shown-next}
 use Rattle.candidate_assembly.specs.Shown.{yes_of, clause_yes, first_yes, other_clauses, first_bound_gives_none}
-
--- one more candidate stands at the end of what is shown
-next : (c : Considered (workings frame_tables)) (seen : Past) → reverse (map shown (c ∷ seen)) ≡ reverse (map shown seen) ++ shown c ∷ []
-next c seen = reverse-append (shown c ∷ []) (map shown seen)
 
 -- ---- whether some candidate from there holds
 module _ (P : CandidateSource → Bool) where
@@ -47,7 +45,7 @@ module _ (P : CandidateSource → Bool) where
   holds-shown : (seen : Past) → list_any holds_at (reverse (map shown seen)) ≡ holds_from P seen
   holds-shown [] = refl
   holds-shown (c ∷ seen) =
-      ap (list_any holds_at) (next c seen) ∙ list_any-append holds_at (reverse (map shown seen)) (shown c ∷ [])
+      ap (list_any holds_at) (shown-next c seen) ∙ list_any-append holds_at (reverse (map shown seen)) (shown c ∷ [])
       ∙ turned (list_any holds_at (reverse (map shown seen))) (holds_at (shown c)) ∙ ap (λ b. holds_at (shown c) || b) (holds-shown seen)
 
   pub holds : (es : List Entry) (done : List InCode.Considered) (seen : Past) → Shows (map (shown_by es) done) seen → list_any (λ (d : InCode.Considered). P d.source && is_some d.result) done ≡ holds_from P seen
@@ -82,7 +80,7 @@ module _ (P : CandidateSource → Bool) where
   answers-shown : (seen : Past) → answers_of (reverse (map shown seen)) ≡ responses frame_tables (filter (from P) seen)
   answers-shown [] = refl
   answers-shown (c ∷ seen) =
-      ap answers_of (next c seen) ∙ answers-append (reverse (map shown seen)) (shown c ∷ [])
+      ap answers_of (shown-next c seen) ∙ answers-append (reverse (map shown seen)) (shown c ∷ [])
       ∙ ap (λ z. answers_of (reverse (map shown seen)) ++ z) (append-nil (answer_of (shown c)))
       ∙ ap (λ z. z ++ answer_of (shown c)) (answers-shown seen) ∙ by (P c.spec.source)
     where
@@ -110,7 +108,7 @@ bound-append otherwise (x ∷ xs) ys = ap (gives_none x.result (is_object x.sour
 bound-shown : (otherwise : Bool) (seen : Past) → first_bound_gives_none otherwise (reverse (map shown seen)) ≡ oldest_gives_none is_object otherwise seen
 bound-shown otherwise [] = refl
 bound-shown otherwise (c ∷ seen) =
-    ap (first_bound_gives_none otherwise) (next c seen) ∙ bound-append otherwise (reverse (map shown seen)) (shown c ∷ [])
+    ap (first_bound_gives_none otherwise) (shown-next c seen) ∙ bound-append otherwise (reverse (map shown seen)) (shown c ∷ [])
     ∙ bound-shown (gives_none c.response (is_object c.spec.source) otherwise) seen
 
 pub bound : (es : List Entry) (done : List InCode.Considered) (seen : Past) → Shows (map (shown_by es) done) seen → first_bound_gives_none false (map (shown_by es) done) ≡ oldest_gives_none is_object false seen
@@ -120,10 +118,6 @@ bound es done seen h = ap (first_bound_gives_none false) h ∙ bound-shown false
 else-else : {A : Type 0} (a b c : Option A) → or_else (or_else a b) c ≡ or_else a (or_else b c)
 else-else None b c = refl
 else-else (Some x) b c = refl
-
-else-none : {A : Type 0} (a : Option A) → or_else a None ≡ a
-else-none None = refl
-else-none (Some x) = refl
 
 yes-append : (xs ys : List Shown) → first_yes (xs ++ ys) ≡ or_else (first_yes xs) (first_yes ys)
 yes-append [] ys = refl
@@ -145,8 +139,8 @@ clauses_of seen = filter (from is_clause) seen
 pub yes-shown : (t : FrameTable) (seen : Past) → option_map as_taken (first_yes (reverse (map shown seen))) ≡ option_map taken_of (first_passing frame_tables applies_always same_answer t (clauses_of seen))
 yes-shown t [] = refl
 yes-shown t (c ∷ seen) =
-    ap (λ z. option_map as_taken (first_yes z)) (next c seen)
-    ∙ ap (option_map as_taken) (yes-append (reverse (map shown seen)) (shown c ∷ []) ∙ ap (or_else (first_yes (reverse (map shown seen)))) (else-none (clause_yes (shown c))))
+    ap (λ z. option_map as_taken (first_yes z)) (shown-next c seen)
+    ∙ ap (option_map as_taken) (yes-append (reverse (map shown seen)) (shown c ∷ []) ∙ ap (or_else (first_yes (reverse (map shown seen)))) (or-none (clause_yes (shown c))))
     ∙ map-else as_taken (first_yes (reverse (map shown seen))) (clause_yes (shown c))
     ∙ ap (λ z. or_else z (option_map as_taken (clause_yes (shown c)))) (yes-shown t seen)
     ∙ by (is_clause c.spec.source)
@@ -165,7 +159,7 @@ yes-shown t (c ∷ seen) =
     by : (b : Bool) → or_else (option_map taken_of before) (option_map as_taken (if b then yes_of c.response c.number else None))
         ≡ option_map taken_of (first_passing frame_tables applies_always same_answer t (if b then c ∷ clauses_of seen else clauses_of seen))
     by true = ap (or_else (option_map taken_of before)) (answered c.response refl) ∙ sym (map-else taken_of before (if_so (passes frame_tables applies_always same_answer t c.response) c))
-    by false = else-none (option_map taken_of before)
+    by false = or-none (option_map taken_of before)
 
 -- ---- the numbers of the other where-clauses
 others-append : (n : ℕ) (xs ys : List Shown) → other_clauses n (xs ++ ys) ≡ other_clauses n xs ++ other_clauses n ys
@@ -179,7 +173,7 @@ others-append n (x ∷ xs) ys = ap (λ z. if is_clause x.source && not (x.number
 pub others-shown : (n : ℕ) (seen : Past) → reverse (other_clauses n (reverse (map shown seen))) ≡ numbers_but frame_tables n (clauses_of seen)
 others-shown n [] = refl
 others-shown n (c ∷ seen) =
-    ap (λ z. reverse (other_clauses n z)) (next c seen) ∙ ap reverse (others-append n (reverse (map shown seen)) (shown c ∷ []))
+    ap (λ z. reverse (other_clauses n z)) (shown-next c seen) ∙ ap reverse (others-append n (reverse (map shown seen)) (shown c ∷ []))
     ∙ reverse-append (other_clauses n (reverse (map shown seen))) (other_clauses n (shown c ∷ [])) ∙ ap (λ z. reverse (other_clauses n (shown c ∷ [])) ++ z) (others-shown n seen)
     ∙ by (is_clause c.spec.source)
   where

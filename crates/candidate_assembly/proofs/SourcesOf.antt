@@ -14,6 +14,8 @@ use Rattle.declarations.specs.Elaboration.{elaborate, supertraits}
 use Rattle.assembly_laws.specs.Asking.{Asked, self_of, next_of, begins_unknown}
 use Rattle.assembly_laws.specs.Solver.{is_clause, is_non_global, is_impl}
 use Rattle.assembly_laws.specs.Candidates.{Candidate, unsure, all_equal, by_rule, clause_source, by_clauses, by_the_impl, is_relevant_to, by_impls, as_written, misc, if_so, by_sized, by_copy, by_auto, by_tuple, by_fn_ptr, call_of, by_call, unsize_array_of, upcast_source, upcasts_from, upcasts_to, upcasts_of, unsize_by_struct, unsize_struct_of, unsize_known, built_in, bounds_from, object_source, written_source, objects_of, by_objects}
+use Rattle.model.proofs.Members.{same-number}
+use Rattle.assembly_laws.proofs.CandidateKinds.{every-append}
 use Rattle.candidate_assembly.specs.Sections.{begins_dyn, misc_is_bound, is_unknowable, is_built_in, is_bound, autos_of, sources_tell}
 
 -- ---- sources of different sections
@@ -89,13 +91,6 @@ bound-quiet b (BuiltinImpl i) h = refl
 bound-quiet b s h = absurd cc
 
 -- ---- the sections
-every-append : {A : Type 0} (P : A → Type 0) (xs ys : List A) → Every P xs → Every P ys → Every P (xs ++ ys)
-every-append P [] ys h g = g
-every-append P (x ∷ xs) ys h g = (h.0, every-append P xs ys h.1 g)
-
-same-number : (m n : ℕ) → (m == n) ≡ true → m ≡ n
-same-number m n h = grind (arith, nat_tests)
-
 module _ (V : World) (a : Asked) where
   abbrev pub Are : (CandidateSource → Bool) → List Candidate → Type 0
   Are p cs = Every (λ (c : Candidate). p c.source ≡ true) cs

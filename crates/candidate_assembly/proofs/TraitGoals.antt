@@ -38,8 +38,9 @@ use Rattle.assembly_laws.specs.Meaning.{Meaning}
 use Rattle.assembly_laws.specs.Solver.{Past, is_clause, is_impl, is_settled, holds_from}
 use Rattle.assembly_laws.proofs.DeclaredWell.{tests-tell}
 use Rattle.assembly_laws.proofs.LawfulCandidates.{asked-clauses}
+use Rattle.assembly_laws.proofs.CandidateKinds.{every-split}
 use Rattle.candidate_assembly.specs.Fitting.{solving_of}
-use Rattle.candidate_assembly.specs.Goals.{asked_of, candidate_of}
+use Rattle.built_in_candidates.specs.Goals.{asked_of, candidate_of}
 use Rattle.candidate_assembly.specs.Headers.{HasTooMany}
 use Rattle.candidate_assembly.specs.Merging.{end_in}
 use Rattle.candidate_assembly.specs.Nexts.{handled_in, next_for, mode_at_end}
@@ -151,35 +152,27 @@ either-one : (P : Candidate → Type 0) (o q : Option Candidate) → IfSome o P 
 either-one P None q h k = k
 either-one P (Some x) q h k = h
 
-first-part : (P : Candidate → Type 0) (xs ys : List Candidate) → Every P (xs ++ ys) → Every P xs
-first-part P [] ys h = tt
-first-part P (x ∷ xs) ys h = (h.0, first-part P xs ys h.1)
-
-last-part : (P : Candidate → Type 0) (xs ys : List Candidate) → Every P (xs ++ ys) → Every P ys
-last-part P [] ys h = h
-last-part P (x ∷ xs) ys h = last-part P xs ys h.1
-
 module _ (P : Candidate → Type 0) (n : Meaning) (a : Asked) (all : Every P (by_clauses n.view a (clauses a) ++ (built_in n.view a ++ (by_impls n.view a n.view.impls ++ by_objects n.view a)))) (first : P (unknowable n.view a)) where
   abbrev V : World
   V = n.view
 
   others : Every P (built_in V a ++ (by_impls V a V.impls ++ by_objects V a))
-  others = last-part P (by_clauses V a (clauses a)) (built_in V a ++ (by_impls V a V.impls ++ by_objects V a)) all
+  others = (every-split P (by_clauses V a (clauses a)) (built_in V a ++ (by_impls V a V.impls ++ by_objects V a)) all).1
 
   lasts : Every P (by_impls V a V.impls ++ by_objects V a)
-  lasts = last-part P (built_in V a) (by_impls V a V.impls ++ by_objects V a) others
+  lasts = (every-split P (built_in V a) (by_impls V a V.impls ++ by_objects V a) others).1
 
   early-so : (seen : Past) → IfSome (early V a seen) P
   early-so seen =
       either-one P (slice_get (by_clauses V a (clauses a)) (considered_from is_clause seen)) (slice_get (built_in V a) (considered_from (is_built_in (misc_is_bound a)) seen))
-      (at-place P (by_clauses V a (clauses a)) (considered_from is_clause seen) (first-part P (by_clauses V a (clauses a)) (built_in V a ++ (by_impls V a V.impls ++ by_objects V a)) all))
-      (at-place P (built_in V a) (considered_from (is_built_in (misc_is_bound a)) seen) (first-part P (built_in V a) (by_impls V a V.impls ++ by_objects V a) others))
+      (at-place P (by_clauses V a (clauses a)) (considered_from is_clause seen) (every-split P (by_clauses V a (clauses a)) (built_in V a ++ (by_impls V a V.impls ++ by_objects V a)) all).0)
+      (at-place P (built_in V a) (considered_from (is_built_in (misc_is_bound a)) seen) (every-split P (built_in V a) (by_impls V a V.impls ++ by_objects V a) others).0)
 
   late-so : (seen : Past) → IfSome (late V a seen) P
   late-so seen =
       either-one P (slice_get (by_impls V a V.impls) (considered_from is_impl seen)) (slice_get (by_objects V a) (considered_from (is_bound (misc_is_bound a)) seen))
-      (at-place P (by_impls V a V.impls) (considered_from is_impl seen) (first-part P (by_impls V a V.impls) (by_objects V a) lasts))
-      (at-place P (by_objects V a) (considered_from (is_bound (misc_is_bound a)) seen) (last-part P (by_impls V a V.impls) (by_objects V a) lasts))
+      (at-place P (by_impls V a V.impls) (considered_from is_impl seen) (every-split P (by_impls V a V.impls) (by_objects V a) lasts).0)
+      (at-place P (by_objects V a) (considered_from (is_bound (misc_is_bound a)) seen) (every-split P (by_impls V a V.impls) (by_objects V a) lasts).1)
 
   next-so : (mode : TypingMode) (seen : Past) → IfSome (next_in n mode a seen) P
   next-so Coherence seen = by (is_first seen && not (is_knowable V n.crate a.reference)) (holds_from is_unknowable seen)

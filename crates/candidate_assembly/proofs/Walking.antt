@@ -3,57 +3,18 @@ use Rattle.std.proofs.Common.{◌≡◌, ℕ, zero, suc, length, Bool, true, fal
 use Rattle.std.proofs.lemmas.Bool.Decides.{nat_tests}
 use Rattle.std.specs.Prelude.{◌==◌, map, filter, if◌then◌else◌}
 use Rattle.std.specs.List.{slice_get}
-use Rattle.model.specs.Label.{Label, param}
-use Rattle.model.specs.Trees.{Trees, none, tree, nth, erase, erase_label}
+use Rattle.model.specs.Trees.{Trees}
 use Rattle.model.specs.Worlds.{World, ImplDecl}
-use Rattle.model.specs.Rules.{same_head}
-use Rattle.model.specs.Terms.{erased_impl}
 use Rattle.type_terms.specs.Terms.{Entry, trees_at}
 use Rattle.type_terms.specs.declared.ImplId.{ImplId}
-use Rattle.term_folds.specs.Signatures.{StartsWithType}
 use Rattle.declarations.specs.declared.items.ImplDef.{ImplDef}
-use Rattle.declarations.specs.Items.{Items, HeldImpl, impl_in, impl_at, written}
+use Rattle.declarations.specs.Items.{HeldImpl, impl_at}
 use Rattle.declarations.specs.Merges.{Each}
-use Rattle.declarations.specs.Relevant.{is_above, next_above, relevant_in}
+use Rattle.declarations.specs.Relevant.{is_above, next_above}
 use Rattle.assembly_laws.specs.Asking.{Asked, self_of, with_plain_head}
 use Rattle.assembly_laws.specs.Candidates.{kinds_of_params, by_impls, by_the_impl, is_relevant_to}
+use Rattle.built_in_candidates.proofs.Relevant.{names}
 use Rattle.candidate_assembly.specs.Headers.{CanBeCandidate}
-
-abbrev pub names : List ImplDecl → List ℕ
-names is = map (λ (i : ImplDecl). i.name) is
-
--- ---- impls match by their heads, with lifetimes or without
-head-alone : (k m : Label) (c o d q : Trees) → same_head k (tree m c o) ≡ same_head k (tree m d q)
-head-alone k (param s i) c o d q = refl
-head-alone k m c o d q = refl
-
-label-is : (m n : Label) (c o d q : Trees) → tree m c o ≡ tree n d q → m ≡ n
-label-is m n c o d q h = cc
-
-plain-head : (k : Label) (H : Trees) → with_plain_head H ≡ H → same_head k (erase H) ≡ same_head k H
-plain-head k none h = refl
-plain-head k (tree m d q) h = head-alone k (erase_label m) (erase d) (erase q) d q ∙ ap (λ x. same_head k (tree x d q)) (label-is (erase_label m) m d q d q h)
-
-module _ (t : ℕ) (l : Label) (c o : Trees) where
-  abbrev relevant : ImplDecl → Bool
-  relevant i = (i.header.trait == t) && is_relevant_to (tree (erase_label l) c o) i.header.args
-
-  abbrev erased-relevant : ImplDecl → Bool
-  erased-relevant i = (i.header.trait == t) && is_relevant_to (tree (erase_label l) (erase c) none) i.header.args
-
-  one-name : (p q : Bool) (i : ImplDecl) (es fs : List ImplDecl) → p ≡ q → names es ≡ names fs → names (cond p (erased_impl i ∷ es) es) ≡ names (cond q (i ∷ fs) fs)
-  one-name true true i es fs e r = ap (λ ns. i.name ∷ ns) r
-  one-name true false i es fs e r = absurd cc
-  one-name false true i es fs e r = absurd cc
-  one-name false false i es fs e r = r
-
-  pub names-written : (es : List Entry) (is : List HeldImpl) → Each (λ i. CanBeCandidate es i.def) is
-      → names (filter erased-relevant (map erased_impl (map (λ i. impl_in es i.id i.def) is))) ≡ names (filter relevant (map (λ i. impl_in es i.id i.def) is))
-  names-written es [] h = refl
-  names-written es (i ∷ is) h =
-      one-name (erased-relevant (erased_impl (impl_in es i.id i.def))) (relevant (impl_in es i.id i.def)) (impl_in es i.id i.def)
-      (filter erased-relevant (map erased_impl (map (λ i. impl_in es i.id i.def) is))) (filter relevant (map (λ i. impl_in es i.id i.def) is))
-      (ap (λ b. (i.def.header.def_id.index == t) && b) (plain-head (erase_label l) (trees_at es i.def.header.args.0) h.0.plain)) (names-written es is h.1)
 
 -- ---- the first that is above the last one considered
 same-number : (m n : ℕ) → m ≡ n → (n == m) ≡ true
@@ -142,13 +103,6 @@ at-number P n (i ∷ is) def h e = by (n == i.id.index) e (at-number P n is def 
     by true e rest = let same : i.def ≡ def = cc in subst P same h.0
     by false e rest = rest e
 
--- ---- over declarations
-module _ (es : List Entry) (d : Items) (a : Asked) (S : Trees) (starts : StartsWithType a.reference.args) (self : S ≡ nth a.reference.args 0)
-    (can : Each (λ i. CanBeCandidate es i.def) d.impls) where
-  names-at : (T : Trees) → StartsWithType T → S ≡ nth T 0
-      → relevant_in es d a.reference.trait S ≡ names (filter (λ i. (i.header.trait == a.reference.trait) && is_relevant_to (with_plain_head T) i.header.args) (written es d).impls)
-  names-at none s e = absurd s
-  names-at (tree l c o) s e = ap (relevant_in es d a.reference.trait) e ∙ names-written a.reference.trait l c o es d.impls can
-
-  pub relevant-names : relevant_in es d a.reference.trait S ≡ names (filter (λ i. (i.header.trait == a.reference.trait) && is_relevant_to (self_of a) i.header.args) (written es d).impls)
-  relevant-names = names-at a.reference.args starts self
+pub plain-heads : (es : List Entry) (is : List HeldImpl) → Each (λ i. CanBeCandidate es i.def) is → Each (λ i. with_plain_head (trees_at es i.def.header.args.0) ≡ trees_at es i.def.header.args.0) is
+plain-heads es [] h = tt
+plain-heads es (i ∷ is) h = (h.0.plain, plain-heads es is h.1)

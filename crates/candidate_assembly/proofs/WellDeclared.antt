@@ -8,7 +8,7 @@ use Rattle.model.specs.Label.{Label, Sort, of_type, of_const, of_lifetime, bool,
 use Rattle.model.specs.Trees.{Trees, none, tree, is_sort, some_node}
 use Rattle.model.specs.Worlds.{World, Reference, StructDecl, TraitDecl, ImplDecl}
 use Rattle.model.specs.Proofs.{In}
-use Rattle.model.proofs.Members.{here, there}
+use Rattle.model.proofs.Members.{here, there, not-both, same-number}
 use Rattle.type_terms.specs.Made.{terms, is_made}
 use Rattle.type_terms.specs.Terms.{Entry, trees_at}
 use Rattle.term_folds.specs.Arguments.{sort_at, misfit, first_misfit}
@@ -27,17 +27,12 @@ use Rattle.assembly_laws.specs.Asking.{with_plain_head}
 use Rattle.assembly_laws.specs.Candidates.{is_param, kind_of_param, kinds_of_params}
 use Rattle.assembly_laws.specs.Declared.{is_declared, is_counted, are_terms, are_references, is_otherwise, is_unsorted}
 use Rattle.assembly_laws.specs.Determined.{ImplsAreDetermined}
+use Rattle.infer_table.proofs.SolutionLaws.{is_sort-equal}
+use Rattle.type_terms.proofs.Made.{left, right}
+use Rattle.assembly_laws.proofs.Headers.{child-some, next-some}
 use Rattle.candidate_assembly.specs.Headers.{var_kind, StandInHeader, CanBeCandidate, WellDeclaredHaveCandidates}
 
 -- ---- tests
-left-true : (x y : Bool) → (x && y) ≡ true → x ≡ true
-left-true true y h = refl
-left-true false y h = absurd cc
-
-right-true : (x y : Bool) → (x && y) ≡ true → y ≡ true
-right-true true y h = h
-right-true false y h = absurd cc
-
 was-false : (x : Bool) → not x ≡ true → x ≡ false
 was-false true h = absurd cc
 was-false false h = refl
@@ -53,13 +48,6 @@ left-false false y h = refl
 right-false : (x y : Bool) → (x || y) ≡ false → y ≡ false
 right-false true y h = absurd cc
 right-false false y h = h
-
-not-both : (x : Bool) → x ≡ true → x ≡ false → ⊥
-not-both true h g = absurd cc
-not-both false h g = absurd cc
-
-same-number : (m n : ℕ) → (m == n) ≡ true → m ≡ n
-same-number m n h = grind (arith, nat_tests)
 
 pub is-less : (m n : ℕ) → nat_lt m n ≡ true → m < n
 is-less m n h = grind (arith, nat_tests)
@@ -89,37 +77,16 @@ none-passes p q f t h = by (some_node p t) refl
     by true e = let m = found p q t e h in absurd (not-both (q m.0) (f m.0 m.1) m.2)
     by false e = refl
 
-pub in-children : (p : Label → Bool) (l : Label) (c o : Trees) → some_node p c ≡ true → some_node p (tree l c o) ≡ true
-in-children p l c o h = ap (λ b. p l || b || some_node p o) h ∙ by (p l)
-  where
-    by : (b : Bool) → (b || true || some_node p o) ≡ true
-    by true = refl
-    by false = refl
-
-pub behind-it : (p : Label → Bool) (l : Label) (c o : Trees) → some_node p o ≡ true → some_node p (tree l c o) ≡ true
-behind-it p l c o h = ap (λ b. p l || some_node p c || b) h ∙ by (p l) (some_node p c)
-  where
-    by : (b c : Bool) → (b || c || true) ≡ true
-    by true c = refl
-    by false true = refl
-    by false false = refl
-
 -- ---- parameters
 one-sort : (s : Sort) → is_sort s s ≡ true
 one-sort of_type = refl
 one-sort of_const = refl
 one-sort of_lifetime = refl
 
-same-sort : (s r : Sort) → is_sort s r ≡ true → s ≡ r
-same-sort of_type of_type h = refl
-same-sort of_const of_const h = refl
-same-sort of_lifetime of_lifetime h = refl
-same-sort s r h = absurd cc
-
 pub label-of : (s : Sort) (i : ℕ) (l : Label) → is_param s i l ≡ true → l ≡ param s i
 label-of s i (param r j) h =
-    let first = same-sort s r (left-true (is_sort s r) (i == j) h) in
-    let second = same-number i j (right-true (is_sort s r) (i == j) h) in
+    let first = is_sort-equal s r (left (is_sort s r) (i == j) h) in
+    let second = same-number i j (right (is_sort s r) (i == j) h) in
     sym (ap (λ z. param z i) first ∙ ap (λ n. param r n) second)
 label-of s i l h = absurd cc
 
@@ -218,10 +185,10 @@ module _ (H : Trees) where
     fits A e (tree (param s i) c o) f =
         let here : sort_at A i ≡ Some s = at-sorts A i ∙ ap (λ l. slice_get l i) e ∙ sort-of-param s i (f s i (ap (λ b. b || some_node (is_param s i) c || some_node (is_param s i) o) (itself s i))) in
         ap (λ z. option_or (misfit s z) (first_misfit A o)) here ∙ ap (λ b. option_or (cond b None (Some ParamKind)) (first_misfit A o)) (one-sort s)
-        ∙ fits A e o (λ r j h. f r j (behind-it (is_param r j) (param s i) c o h))
+        ∙ fits A e o (λ r j h. f r j (next-some (is_param r j) (param s i) c o h))
     fits A e (tree l c o) f =
-        ap (λ z. option_or z (first_misfit A o)) (fits A e c (λ r j h. f r j (in-children (is_param r j) l c o h)))
-        ∙ fits A e o (λ r j h. f r j (behind-it (is_param r j) l c o h))
+        ap (λ z. option_or z (first_misfit A o)) (fits A e c (λ r j h. f r j (child-some (is_param r j) l c o h)))
+        ∙ fits A e o (λ r j h. f r j (next-some (is_param r j) l c o h))
 
     speaks : (t : Trees) → ((s : Sort) (i : ℕ) → some_node (is_param s i) t ≡ true → some_node (is_param s i) H ≡ true) → SpeaksOf (map sort_of_param ps) t
     speaks t f A e = fits A e t f
@@ -269,7 +236,7 @@ module _ (es : List Entry) (V : World) (determined : ImplsAreDetermined V) where
           header = speaks H ps stand sorted H (λ s j h. h);
           clauses = clauses-speak ps H stand sorted i.def.clauses.items (λ r m s j h. determined (impl_in es i.id i.def) r k m s j h);
         };
-        plain = plain-head H held.begins (was-false (some_node is_counted H) (right-true (is_made is_declared terms H) (not (some_node is_counted H)) made));
+        plain = plain-head H held.begins (was-false (some_node is_counted H) (right (is_made is_declared terms H) (not (some_node is_counted H)) made));
       }
 
   abbrev decls : List HeldImpl → List ImplDecl
@@ -282,17 +249,17 @@ module _ (es : List Entry) (V : World) (determined : ImplsAreDetermined V) where
   all-can [] f held stand made sorted = tt
   all-can (i ∷ is) f held stand made sorted =
       let x = impl_in es i.id i.def in
-      let now = left-true (are_terms x.header.args && are_references x.clauses) (list_all (λ (y : ImplDecl). are_terms y.header.args && are_references y.clauses) (decls is)) made in
-      let ordered = left-true (not (some_node (is_unsorted x.params x.header.args) x.header.args)) (list_all (λ (y : ImplDecl). not (some_node (is_unsorted y.params y.header.args) y.header.args)) (decls is)) sorted in (
-        one-can i (f x (here x (decls is))) held.0 stand.0 (left-true (are_terms x.header.args) (are_references x.clauses) now) (was-false (some_node (is_unsorted x.params x.header.args) x.header.args) ordered),
+      let now = left (are_terms x.header.args && are_references x.clauses) (list_all (λ (y : ImplDecl). are_terms y.header.args && are_references y.clauses) (decls is)) made in
+      let ordered = left (not (some_node (is_unsorted x.params x.header.args) x.header.args)) (list_all (λ (y : ImplDecl). not (some_node (is_unsorted y.params y.header.args) y.header.args)) (decls is)) sorted in (
+        one-can i (f x (here x (decls is))) held.0 stand.0 (left (are_terms x.header.args) (are_references x.clauses) now) (was-false (some_node (is_unsorted x.params x.header.args) x.header.args) ordered),
         all-can is (λ y k. f y (there y x (decls is) k)) held.1 stand.1
-            (right-true (are_terms x.header.args && are_references x.clauses) (list_all (λ (y : ImplDecl). are_terms y.header.args && are_references y.clauses) (decls is)) made)
-            (right-true (not (some_node (is_unsorted x.params x.header.args) x.header.args)) (list_all (λ (y : ImplDecl). not (some_node (is_unsorted y.params y.header.args) y.header.args)) (decls is)) sorted),
+            (right (are_terms x.header.args && are_references x.clauses) (list_all (λ (y : ImplDecl). are_terms y.header.args && are_references y.clauses) (decls is)) made)
+            (right (not (some_node (is_unsorted x.params x.header.args) x.header.args)) (list_all (λ (y : ImplDecl). not (some_node (is_unsorted y.params y.header.args) y.header.args)) (decls is)) sorted),
       )
 
 pub well-declared-have-candidates : WellDeclaredHaveCandidates
 well-declared-have-candidates es d held well stand =
     let V = written es d in
-    let rest = right-true (list_all (λ (x : StructDecl). list_all are_terms x.fields) V.structs) (list_all (λ (x : TraitDecl). are_references x.bounds) V.traits && list_all (λ (i : ImplDecl). are_terms i.header.args && are_references i.clauses) V.impls) well.terms in
-    let made = right-true (list_all (λ (x : TraitDecl). are_references x.bounds) V.traits) (list_all (λ (i : ImplDecl). are_terms i.header.args && are_references i.clauses) V.impls) rest in
+    let rest = right (list_all (λ (x : StructDecl). list_all are_terms x.fields) V.structs) (list_all (λ (x : TraitDecl). are_references x.bounds) V.traits && list_all (λ (i : ImplDecl). are_terms i.header.args && are_references i.clauses) V.impls) well.terms in
+    let made = right (list_all (λ (x : TraitDecl). are_references x.bounds) V.traits) (list_all (λ (i : ImplDecl). are_terms i.header.args && are_references i.clauses) V.impls) rest in
     all-can es V well.determined d.impls (λ x i. i) held.impls stand made well.sorted

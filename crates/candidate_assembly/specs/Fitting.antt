@@ -16,8 +16,10 @@ use Rattle.declarations.specs.Items.{Items, reference_in, struct_at, trait_at, w
 use Rattle.declarations.specs.Merges.{Each}
 use Rattle.declarations.specs.Applied.{sort_of_param, sorts_of, sorts_of_params, IsApplied}
 use Rattle.assembly_laws.specs.Asking.{self_of, next_of}
-use Rattle.candidate_assembly.specs.Goals.{asked_of}
-use Rattle.candidate_assembly.specs.Constituents.{AreArguments, StructIsApplied}
+use Rattle.built_in_candidates.specs.Goals.{asked_of}
+use Rattle.built_in_candidates.specs.Constituents.{StructIsApplied}
+use Rattle.built_in_candidates.specs.Objects.{ObjectIsApplied}
+use Rattle.built_in_candidates.specs.Unsizing.{CanUnsize}
 use Rattle.candidate_assembly.specs.Sections.{sources_tell}
 use Rattle.candidate_assembly.specs.Solving.{Solving}
 
@@ -74,28 +76,6 @@ abbrev pub solving_of : List Entry → Items → Solving
 solving_of es d = record { view = written es d; crate = d.local; fits = fits_declared d }
 
 -- ---- what is known of a goal that fits
--- The reference has an argument of its sort for each parameter of its trait, if that is declared, and no binder number leads out of it.
-pub record FitsTrait (d : Items) (r : Reference) : Type 0 where
-  pub sorts : IfSome (trait_at r.trait d.traits) (λ def. sorts_of r.args ≡ sorts_of_params def)
-  pub closed : outer_binder r.args ≡ 0
-
--- If the first type is a `dyn`, its principal has an argument for each parameter of its trait, the `dyn` itself for Self.
-abbrev pub ObjectFits : Items → Trees → Type 0
-ObjectFits d (tree dynamic bounds others) = Each (FitsTrait d) (principal_with (tree dynamic bounds none) bounds)
-ObjectFits d t = Unit {0}
-
--- If the second type is a `dyn`, its principal has an argument for each parameter of its trait, the first type for Self; if it is a struct,
--- it has an argument for each of its parameters.
-abbrev pub TargetFits : Items → Trees → Type 0
-TargetFits d (tree l c (tree dynamic bounds others)) = Each (FitsTrait d) (principal_with (tree l c none) bounds)
-TargetFits d (tree l c (tree (adt s) args others)) = AreArguments d s args
-TargetFits d t = Unit {0}
-
--- The type after the first can be unsized to.
-pub record FitsUnsize (d : Items) (args : Trees) : Type 0 where
-  pub target : StartsWithType (next_of args)
-  pub applied : TargetFits d args
-
 -- All that the candidates ask of a goal: its names are declared, it has its trait's arguments, its first argument is a type, and what
 -- stands outermost there has its arguments; of `Unsize` so has the target. Sources tell the sections of its candidates apart.
 pub record GoalFits (es : List Entry) (d : Items) (g : CanonicalInput) : Type 0 where
@@ -103,6 +83,6 @@ pub record GoalFits (es : List Entry) (d : Items) (g : CanonicalInput) : Type 0 
   pub applied : IsApplied es d g.goal.predicate.trait_ref
   pub first : StartsWithType (trees_at es g.goal.predicate.trait_ref.args.0)
   pub struct : StructIsApplied d (trees_at es g.goal.predicate.trait_ref.args.0)
-  pub object : ObjectFits d (trees_at es g.goal.predicate.trait_ref.args.0)
-  pub unsizing : (g.goal.predicate.trait_ref.def_id.index == unsize) ≡ true → FitsUnsize d (self_of (asked_of es g))
+  pub object : ObjectIsApplied d (trees_at es g.goal.predicate.trait_ref.args.0)
+  pub unsizing : (g.goal.predicate.trait_ref.def_id.index == unsize) ≡ true → CanUnsize d (self_of (asked_of es g))
   pub tells : sources_tell (asked_of es g) ≡ true

@@ -1,7 +1,3 @@
-pub mod Goals
-pub mod Constituents
-pub mod BuiltIn
-pub mod Equations
 pub mod Clauses
 pub mod Headers
 pub mod Merging
@@ -10,12 +6,8 @@ pub mod Sections
 pub mod Solving
 pub mod SolverLaws
 pub mod Counted
-pub mod Unsizing
-pub mod FnPointers
 pub mod Fitting
 pub mod Finding
-pub mod BuiltInRules
-pub mod Objects
 pub mod Ready
 pub mod Nexts
 pub mod Kept

@@ -18,7 +18,7 @@ use Rattle.assembly_laws.specs.Asking.{asked}
 use Rattle.assembly_laws.specs.Candidates.{Candidate, unsure}
 use Rattle.assembly_laws.specs.Solver.{Past}
 use Rattle.candidate_assembly.specs.Fitting.{solving_of}
-use Rattle.candidate_assembly.specs.Goals.{asked_of, candidate_of}
+use Rattle.built_in_candidates.specs.Goals.{asked_of, candidate_of}
 use Rattle.candidate_assembly.specs.Headers.{HasTooMany}
 use Rattle.candidate_assembly.specs.Sections.{early, late, is_first, next_inside, next_outside, next_in, decided, next_candidate}
 use Rattle.candidate_assembly.specs.Solving.{meaning_for, solver_for}

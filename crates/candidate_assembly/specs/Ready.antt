@@ -9,9 +9,9 @@ use Rattle.declarations.specs.Held.{AreHeld}
 use Rattle.declarations.specs.Items.{Items, written}
 use Rattle.assembly_laws.specs.Asking.{asked}
 use Rattle.assembly_laws.specs.DeclaredWell.{is_declared_well}
-use Rattle.candidate_assembly.specs.Constituents.{HaveFields}
+use Rattle.built_in_candidates.specs.Constituents.{HaveFields}
 use Rattle.candidate_assembly.specs.Fitting.{GoalFits, solving_of}
-use Rattle.candidate_assembly.specs.Goals.{asked_of}
+use Rattle.built_in_candidates.specs.Goals.{asked_of}
 use Rattle.candidate_assembly.specs.Headers.{HaveCandidates}
 use Rattle.candidate_assembly.specs.Sections.{decided}
 use Rattle.candidate_assembly.specs.Solving.{meaning_for}

@@ -20,23 +20,16 @@ use Rattle.assembly_laws.specs.Solver.{declared_width, widest_of, number_at, cla
 use Rattle.assembly_laws.proofs.DeclaredWell.{tests-tell}
 use Rattle.assembly_laws.proofs.SolverLaw.{solver-is-lawful-and-covers}
 use Rattle.assembly_laws.proofs.Worlds.{keep-worlds}
+use Rattle.type_terms.proofs.Made.{left, right}
 use Rattle.candidate_assembly.specs.Solving.{Solving, meaning_for, solver_for, coinductive_for}
 
 -- ---- each goal
-first-true : (x y : Bool) → (x && y) ≡ true → x ≡ true
-first-true true y h = refl
-first-true false y h = absurd cc
-
 declared-well : (s : Solving) (f : CanonicalForm) → ViewIsDeclaredWell (meaning_for s f)
-declared-well s f e = tests-tell s.view (first-true (is_declared_well s.view) (s.fits f && form_gives_lifetimes s.view f) e)
-
-second-true : (x y : Bool) → (x && y) ≡ true → y ≡ true
-second-true true y h = h
-second-true false y h = absurd cc
+declared-well s f e = tests-tell s.view (left (is_declared_well s.view) (s.fits f && form_gives_lifetimes s.view f) e)
 
 lifetimes-given : (s : Solving) (f : CanonicalForm) → GivesLifetimes (meaning_for s f) f
 lifetimes-given s f e a is =
-    ap (given_by s.view) (sym is) ∙ second-true (s.fits f) (form_gives_lifetimes s.view f) (second-true (is_declared_well s.view) (s.fits f && form_gives_lifetimes s.view f) e)
+    ap (given_by s.view) (sym is) ∙ right (s.fits f) (form_gives_lifetimes s.view f) (right (is_declared_well s.view) (s.fits f && form_gives_lifetimes s.view f) e)
 
 pub solver-is-lawful : (s : Solving) (mode : TypingMode) (f : CanonicalForm) → IsHandler frame_tables (solver_for s mode f)
 solver-is-lawful s mode f = (solver-is-lawful-and-covers applies_always applies-to-yeses same_answer answers-are (meaning_for s f) (declared-well s f) f (lifetimes-given s f)).0 mode

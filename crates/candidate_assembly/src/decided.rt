@@ -19,17 +19,19 @@ ghost use Rattle.declarations.specs.Applied.{sort_of_param, sorts_of};
 ghost use Rattle.declarations.specs.Held.{ReferenceHeld};
 ghost use Rattle.assembly_laws.specs.Asking.{asked, are_clauses, begins_with_type, begins_unknown, next_of, with_plain_head};
 ghost use Rattle.assembly_laws.specs.DeclaredWell.{is_declared_well};
-ghost use Rattle.candidate_assembly.specs.Constituents.{HaveFields};
-ghost use Rattle.candidate_assembly.specs.Goals.{asked_of};
-ghost use Rattle.candidate_assembly.specs.FnPointers.{IsFirst};
+ghost use Rattle.built_in_candidates.specs.Constituents.{HaveFields};
+ghost use Rattle.built_in_candidates.specs.Goals.{asked_of};
+ghost use Rattle.built_in_candidates.specs.FnPointers.{IsFirst};
 ghost use Rattle.candidate_assembly.specs.Sections.{decided};
 ghost use Rattle.candidate_assembly.specs.Solving.{meaning_for};
 ghost use Rattle.candidate_assembly.specs.Fitting.{same_sorts, are_of_trait, are_of_struct, is_shut, names_unsize, principal_fits, type_fits, reference_fits, solving_of, GoalFits};
 
-use crate::calls::second_argument;
 use crate::visitors::{
-    args_are_declared, args_are_over, kind_of, region_is_over, trait_is_declared, ty_is_over,
+    args_are_declared, args_are_over, region_is_over, trait_is_declared, ty_is_over,
 };
+use built_in_candidates::calls::second_argument;
+use built_in_candidates::unsize_struct::UNSIZE;
+use built_in_candidates::variables::is_unknown;
 use declarations::declarations::Declarations;
 use declarations::items::GenericParamKind;
 use infer_table::canonical::CanonicalVarKind;
@@ -39,9 +41,6 @@ use type_terms::interner::Interner;
 use type_terms::kinds::{Bounds, GenericArgKind, GenericArgs, Principal, Ty, TyKind};
 use type_terms::number::BoundVarIndexKind;
 use type_terms::{AdtId, TraitId};
-
-/// The trait `Unsize` of `core`.
-const UNSIZE: u32 = 8;
 
 /// Whether the argument is of the parameter's kind.
 fn is_for(arg: GenericArgKind, param: GenericParamKind) -> bool
@@ -251,37 +250,6 @@ fn argument_is_type(cx: &Interner, arg: Option<GenericArgKind>) -> bool
             GenericArgKind::Const(_) => false,
         },
         None => false,
-    }
-}
-
-/// Whether the type is an unknown of these kinds.
-fn is_unknown(cx: &Interner, kinds: &[CanonicalVarKind], ty: Ty) -> bool
-    requires { Has cx.now.entries types ty.0 }
-    ensures { result ≡ begins_unknown kinds.now (trees_at cx.now.entries ty.0) }
-{
-    cx.lawful();
-    match cx.kind(ty) {
-        TyKind::Bound(BoundVarIndexKind::Canonical, variable) => {
-            matches!(kind_of(kinds, variable), Some(CanonicalVarKind::Ty))
-        }
-        TyKind::Bound(BoundVarIndexKind::Bound(_), _)
-        | TyKind::Bool
-        | TyKind::Char
-        | TyKind::Int(_)
-        | TyKind::Uint(_)
-        | TyKind::Str
-        | TyKind::Never
-        | TyKind::Adt(_, _)
-        | TyKind::Ref(_, _, _)
-        | TyKind::RawPtr(_, _)
-        | TyKind::Array(_, _)
-        | TyKind::Slice(_)
-        | TyKind::Tuple(_)
-        | TyKind::FnPtr(_, _)
-        | TyKind::Dynamic(_, _)
-        | TyKind::Param(_)
-        | TyKind::Placeholder(_)
-        | TyKind::Infer(_) => false,
     }
 }
 

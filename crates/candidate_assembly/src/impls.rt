@@ -13,12 +13,12 @@ ghost use Rattle.declarations.specs.Items.{reference_in, impl_in, written};
 ghost use Rattle.declarations.specs.Held.{AreHeld, ImplHeld, ReferenceHeld};
 ghost use Rattle.declarations.specs.Merges.{Rises};
 ghost use Rattle.assembly_laws.specs.Candidates.{behind, by_the_impl, by_impls};
-ghost use Rattle.candidate_assembly.specs.Goals.{asked_of, candidate_of};
+ghost use Rattle.built_in_candidates.specs.Goals.{asked_of, candidate_of};
 ghost use Rattle.candidate_assembly.specs.Headers.{var_kind, StandInHeader, SpeaksOfParameters, HaveCandidates, HasTooMany, impls_above};
 
 use crate::instances::{all_with_arguments, variable_kinds, variables_behind, with_arguments};
-use crate::parts::nested_goals;
-use crate::relate::relate_args;
+use built_in_candidates::parts::nested_goals;
+use built_in_candidates::relate::relate_args;
 use declarations::declarations::Declarations;
 use declarations::items::ImplDef;
 use evaluation::{CandidateSource, CandidateSpec, Certainty, GoalSource};

@@ -4,26 +4,14 @@
 #![tactic(auto)]
 
 pub mod assembly;
-pub mod built_in;
-pub mod built_in_rules;
-pub mod calls;
 pub mod decided;
-mod dyn_type;
 pub mod impls;
 mod instances;
 pub mod knowable;
 pub mod laws;
 pub mod merge;
-pub mod object;
 pub mod param_env;
-mod parts;
-mod relate;
 pub mod solver;
-mod structural;
 pub mod trait_goals;
 pub mod unknowable;
-pub mod unsize;
-pub mod unsize_struct;
-pub mod unsize_to_dyn;
-pub mod upcast;
 mod visitors;

@@ -10,11 +10,11 @@ ghost use Rattle.declarations.specs.Items.{reference_in};
 ghost use Rattle.declarations.specs.Held.{ReferenceHeld};
 ghost use Rattle.assembly_laws.specs.Asking.{clauses};
 ghost use Rattle.assembly_laws.specs.Candidates.{clause_source, by_clauses};
-ghost use Rattle.candidate_assembly.specs.Goals.{asked_of, candidate_of};
+ghost use Rattle.built_in_candidates.specs.Goals.{asked_of, candidate_of};
 ghost use Rattle.candidate_assembly.specs.Clauses.{reference_of, references_to};
 
-use crate::parts::by_rule;
-use crate::relate::relate_args;
+use built_in_candidates::parts::by_rule;
+use built_in_candidates::relate::relate_args;
 use evaluation::{CandidateSource, CandidateSpec, ParamEnvSource};
 use infer_table::input::CanonicalInput;
 use std::alloc::Global;

@@ -10,9 +10,9 @@ ghost use Rattle.candidate_assembly.specs.Ready.{IsReady};
 ghost use Rattle.candidate_assembly.specs.Solving.{Solving, solver_for, coinductive_for};
 ghost use Rattle.candidate_assembly.specs.SolverLaws.{solver-is-lawful, numbers-are-kept, worlds-are-kept, instances-are-goals, rules-are-of, kinds-are-of, outside-is-nowhere};
 
-use crate::built_in::SIZED;
-use crate::built_in_rules::is_auto;
 use crate::trait_goals::compute_trait_goal;
+use built_in_candidates::built_in::SIZED;
+use built_in_candidates::built_in_rules::is_auto;
 use declarations::declarations::Declarations;
 use evaluation::{Considered, HandlerStep};
 use goal_frames::GoalHandler;

@@ -16,7 +16,7 @@ ghost use Rattle.assembly_laws.specs.Knowing.{is_knowable};
 ghost use Rattle.assembly_laws.specs.Candidates.{unsure, by_objects};
 ghost use Rattle.assembly_laws.specs.Solver.{says_nothing, is_non_global, is_settled};
 ghost use Rattle.candidate_assembly.specs.Counted.{ForEachPast};
-ghost use Rattle.candidate_assembly.specs.Goals.{asked_of, candidate_of};
+ghost use Rattle.built_in_candidates.specs.Goals.{asked_of, candidate_of};
 ghost use Rattle.candidate_assembly.specs.Nexts.{handled_in, IsNextBy, RunsOutBy, early_in, late_in, late_unless, until, next_inside_in, next_outside_in, next_decided, next_undecided, next_for, mode_at_end};
 ghost use Rattle.candidate_assembly.specs.Ready.{IsReady, Decides, IsDecided};
 ghost use Rattle.candidate_assembly.specs.Sections.{is_unknowable, is_bound, is_first, misc_is_bound, considered_from};
@@ -28,9 +28,9 @@ use crate::assembly::{
 use crate::decided::is_decided;
 use crate::knowable::is_knowable;
 use crate::merge::merge_trait_candidates;
-use crate::object::consider_object_bound_candidate;
-use crate::parts::unsure;
 use crate::unknowable::consider_coherence_unknowable_candidate;
+use built_in_candidates::object::consider_object_bound_candidate;
+use built_in_candidates::parts::unsure;
 use declarations::declarations::Declarations;
 use evaluation::{
     CandidateSource, CandidateSpec, Considered, HandlerStep, ParamEnvSource, TypingMode,

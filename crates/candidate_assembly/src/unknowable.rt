@@ -8,9 +8,9 @@ ghost use Rattle.declarations.specs.Items.{written};
 ghost use Rattle.declarations.specs.Held.{AreHeld};
 ghost use Rattle.declarations.specs.Applied.{IsApplied, HaveBounds};
 ghost use Rattle.assembly_laws.specs.Candidates.{unknowable};
-ghost use Rattle.candidate_assembly.specs.Goals.{asked_of, candidate_of};
+ghost use Rattle.built_in_candidates.specs.Goals.{asked_of, candidate_of};
 
-use crate::parts::nested_goals;
+use built_in_candidates::parts::nested_goals;
 use declarations::declarations::Declarations;
 use evaluation::{CandidateSource, CandidateSpec, Certainty, GoalSource, MaybeCause};
 use infer_table::input::CanonicalInput;

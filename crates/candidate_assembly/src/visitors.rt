@@ -14,6 +14,7 @@ ghost use Rattle.declarations.specs.Items.{written};
 ghost use Rattle.candidate_assembly.specs.Clauses.{BreaksAt};
 ghost use Rattle.candidate_assembly.specs.Finding.{some_root};
 
+use built_in_candidates::variables::kind_of;
 use declarations::declarations::Declarations;
 use infer_table::canonical::CanonicalVarKind;
 use std::ops::ControlFlow;
@@ -30,13 +31,6 @@ fn break_if(found: bool) -> Seen<()>
     ensures { BreaksAt found result }
 {
     if found { Seen::Break(()) } else { Seen::Enter }
-}
-
-/// The kind of a canonical variable, if it is one of these.
-pub(crate) fn kind_of(kinds: &[CanonicalVarKind], variable: BoundVar) -> Option<CanonicalVarKind>
-    ensures { result ≡ kind_at kinds.now variable.index }
-{
-    kinds.get(variable.index as usize).copied()
 }
 
 /// It is one of these variables, and a type.

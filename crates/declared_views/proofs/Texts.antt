@@ -121,7 +121,7 @@ bare-auto true f n ps bs h = by (kinds_of ps) h
     by [] g = refl
     by (k ∷ ks) g = clash (length (k ∷ ks) == 0) (length bs == 0) (ne_eqb (suc (length ks)) 0 (λ e. omega (arith, e))) g
 
-line-added : (d : Declarations) (line : List ℕ) (l : Line) → IsWritten line l → fault_of d l ≡ None → Well d → Well (added d l)
+pub line-added : (d : Declarations) (line : List ℕ) (l : Line) → IsWritten line l → fault_of d l ≡ None → Well d → Well (added d l)
 line-added d line (crate_line n us) w f h =
     record { structs = h.structs; traits = h.traits; impls = h.impls; struct_numbers = h.struct_numbers; trait_numbers = h.trait_numbers; bare = h.bare; bounds = h.bounds }
 line-added d line (prove_line c ps a ks) w f h =
@@ -213,7 +213,7 @@ places {A = A} number xs h k x e = by xs 0 h k e ∙ plus-zero k
 abbrev core_trait_named : ℕ → NamedTrait
 core_trait_named k = option_map_or (λ t. t) (slice_get nothing_declared.traits k) (record { text = []; kinds = []; item = record { name = 0; home = 0; is_fundamental = false; is_auto = false; bounds = [] } })
 
-core-well : Well nothing_declared
+pub core-well : Well nothing_declared
 core-well =
     record {
       structs = refl;

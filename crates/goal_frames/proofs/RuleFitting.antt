@@ -72,16 +72,16 @@ get-behind (x ∷ xs) ys j = ap (slice_get (x ∷ (xs ++ ys))) (next (length xs)
     next n i = omega arith
 
 -- each variable of these kinds, that many places on, stands for a label of its sort
-abbrev HaveSlots : ℕ → List CanonicalVarKind → List Label → Type 0
+abbrev pub HaveSlots : ℕ → List CanonicalVarKind → List Label → Type 0
 HaveSlots n kinds ls = (s : Sort) (j : ℕ) → is_kind_of s (kind_at kinds j) ≡ true → is_of_sort s (slice_get ls (n + j)) ≡ true
 
-goal-slots : (kinds own : List CanonicalVarKind) → HaveSlots 0 kinds (slots_of kinds own)
+pub goal-slots : (kinds own : List CanonicalVarKind) → HaveSlots 0 kinds (slots_of kinds own)
 goal-slots kinds own s j h = ap (λ z. is_of_sort s (slice_get (slots_of kinds own) z)) (zero-plus j) ∙ own-slots 0 0 0 0 kinds (labels_for (first_content kinds) 0 own) s j h
   where
     zero-plus : (n : ℕ) → 0 + n ≡ n
     zero-plus n = omega arith
 
-rule-slots : (kinds own : List CanonicalVarKind) → HaveSlots (length kinds) own (slots_of kinds own)
+pub rule-slots : (kinds own : List CanonicalVarKind) → HaveSlots (length kinds) own (slots_of kinds own)
 rule-slots kinds own s j h =
     ap (λ z. is_of_sort s (slice_get (slots_of kinds own) (z + j))) (sym (own-length 0 0 0 0 kinds))
     ∙ ap (is_of_sort s) (get-behind (labels_from 0 0 0 0 kinds) (labels_for (first_content kinds) 0 own) j)
@@ -99,7 +99,7 @@ module _ (kinds : List CanonicalVarKind) (ls : List Label) where
   over-label h (placeholder k v) g = absurd (false-true (g refl))
   over-label h l g = refl
 
-  over-labels : HaveSlots 0 kinds ls → (t : Trees) → EachLabel (IsGoodLabel (is_variable_over kinds)) t → HasLeaves t → AreOver ls t
+  pub over-labels : HaveSlots 0 kinds ls → (t : Trees) → EachLabel (IsGoodLabel (is_variable_over kinds)) t → HasLeaves t → AreOver ls t
   over-labels h none e g = tt
   over-labels h (tree l c o) e g = (over-label h l e.0, g.0, over-labels h c e.1 g.1, over-labels h o e.2 g.2)
 

@@ -10,3 +10,7 @@ pub mod Headers
 pub mod Owning
 pub mod Values
 pub mod Posed
+pub mod Opened
+pub mod Erasing
+pub mod Judged
+pub mod Walked

@@ -3,3 +3,4 @@ pub mod Goals
 pub mod Headers
 pub mod Laws
 pub mod Written
+pub mod Orphans

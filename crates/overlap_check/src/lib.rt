@@ -10,3 +10,4 @@ pub mod fresh;
 pub mod header;
 pub mod intersection;
 pub mod laws;
+pub mod orphans;

@@ -18,6 +18,7 @@ use Rattle.session_laws.specs.Verdicts.{placed}
 use Rattle.session_laws.specs.Questions.{FitKinds, filled_reference}
 use Rattle.session_laws.specs.Worked.{num_view, RefutedForAllValues}
 use Rattle.session_laws.proofs.Filling.{over-filled-reference}
+use Rattle.model.proofs.ElaboratedProofs.{bare-proof}
 use Rattle.session_laws.proofs.WorkedAnswers.{needs-rule}
 
 abbrev goal : Reference
@@ -70,7 +71,7 @@ module _ (W : World) (vs : List View) (rank : ℕ → ℕ) (l : LinkedSet W vs r
   no-solution (t ∷ v ∷ ts) f c p = absurd f.1
 
 pub refuted-for-all : RefutedForAllValues
-refuted-for-all = (((λ m. here m.values m.fitting m.proved), (λ W vs rank l ρ s m. no-solution W vs rank l ρ s m.values m.fitting m.closed m.proved)), (λ b. cc))
+refuted-for-all = (((λ m. here m.values m.fitting (bare-proof num_view [] _ m.proved)), (λ W vs rank l ρ s m. no-solution W vs rank l ρ s m.values m.fitting m.closed m.proved)), (λ b. cc))
   where
     here : (ts : List Trees) → FitKinds (of_type ∷ []) ts → HasProof num_view [] (filled_reference (of_type ∷ []) ts goal) → ⊥
     here [] f p = absurd f

@@ -4,6 +4,8 @@ use Rattle.model.specs.Label.{Sort}
 use Rattle.model.specs.Trees.{Trees, some_node}
 use Rattle.model.specs.Worlds.{World, Reference, ImplDecl, with_args}
 use Rattle.model.specs.Proofs.{In, Every, HasProof}
+use Rattle.model.specs.Elaborated.{HasElaboratedProof}
+use Rattle.model.proofs.ElaboratedProofs.{bare-proof}
 use Rattle.model.specs.Answers.{CommonInstance, is_closed, is_bounded, is_possible, is_variable, IsFixedClause}
 use Rattle.model.specs.Renumbering.{Renumbering, View, HoldsView, renumbered, renumbered_reference, renumbered_impl}
 use Rattle.model.specs.LinkedSet.{LinkedSet, Cleared}
@@ -13,8 +15,8 @@ use Rattle.model.proofs.NoTwo.{no-common-instance}
 use Rattle.model.proofs.Fitting.{not-true}
 use Rattle.model.proofs.ViewLaws.{no-two-of-accepted, proved-in-set, no-in-set}
 use Rattle.model.proofs.RenumberedTrees.{inverse, impl-back, back, over-with-args, over-common, over-closed}
-use Rattle.session_laws.specs.Verdicts.{placed, IsPair, IsCleared}
-use Rattle.session_laws.specs.Questions.{FitKinds, filled_reference, Solution, yes, unproved, maybe, IsRefuteAnswer, unrefuted}
+use Rattle.session_laws.specs.Verdicts.{placed, IsPair, ClearedBy, IsCleared}
+use Rattle.session_laws.specs.Questions.{FitKinds, filled_reference, SolutionBy, Solution, yes, unproved, maybe, IsRefuteAnswer, unrefuted}
 use Rattle.session_laws.specs.Laws.{HeadlineHolds, ApartIsCleared, CoversLeft, CoversRight, CoversClause, RefusedClauseClears, IsPassed, PassedIsAccepted, RefusedIsReal, DecidedIsAnswered, BoundedIsRefuted}
 use Rattle.model.proofs.Members.{not-both}
 use Rattle.session_laws.specs.Verdicts.{InEverySetWith}
@@ -68,22 +70,22 @@ module _ (ks : List Sort) (g : Reference) (ρ : Renumbering) (W : World) (none :
       (in-map (with_args m.right) (map (renumbered_reference ρ) j.clauses) (renumbered_reference ρ k) (in-map (renumbered_reference ρ) j.clauses k c.clause)))
 
 -- the same in the numbers of the text
-here-clears : (ks : List Sort) (g : Reference) (V : World) → (Solution V ks g → ⊥) → (i j : ImplDecl) → CoversClause i j ks g → Cleared V i j
-here-clears ks g V none i j (inl (k, c)) m p q = none (record {
+here-clears : (H : Reference → Type 0) (ks : List Sort) (g : Reference) → (SolutionBy H ks g → ⊥) → (i j : ImplDecl) → CoversClause i j ks g → ClearedBy H i j
+here-clears H ks g none i j (inl (k, c)) m p q = none (record {
   values = c.values m;
   fitting = c.fitting m;
   closed = c.closed m;
-  proved = subst (HasProof V []) (c.instance_of m) (every-member (HasProof V []) (map (with_args m.left) i.clauses) _ p (in-map (with_args m.left) i.clauses k c.clause));
+  proved = subst H (c.instance_of m) (every-member H (map (with_args m.left) i.clauses) _ p (in-map (with_args m.left) i.clauses k c.clause));
 })
-here-clears ks g V none i j (inr (k, c)) m p q = none (record {
+here-clears H ks g none i j (inr (k, c)) m p q = none (record {
   values = c.values m;
   fitting = c.fitting m;
   closed = c.closed m;
-  proved = subst (HasProof V []) (c.instance_of m) (every-member (HasProof V []) (map (with_args m.right) j.clauses) _ q (in-map (with_args m.right) j.clauses k c.clause));
+  proved = subst H (c.instance_of m) (every-member H (map (with_args m.right) j.clauses) _ q (in-map (with_args m.right) j.clauses k c.clause));
 })
 
 pub refused-clears : RefusedClauseClears
-refused-clears V c i j ks g cover refused = (here-clears ks g V refused.0 i j cover, (λ W vs rank l ρ s. clause-clears ks g ρ W (refused.1 W vs rank l ρ s) i j cover))
+refused-clears V c i j ks g cover refused = (here-clears (HasElaboratedProof V []) ks g refused.0 i j cover, (λ W vs rank l ρ s. clause-clears ks g ρ W (refused.1 W vs rank l ρ s) i j cover))
 
 pub passed-accepted : PassedIsAccepted
 passed-accepted V c keeps passed = record { keeps = keeps; cleared = λ i j p. by i j (passed i j p) }
@@ -124,10 +126,13 @@ left true b h = refl
 left false b h = cc
 
 pub bounded-refuted : BoundedIsRefuted
-bounded-refuted limit V c ks r b = ((λ h. ((here h, right h), λ _. h)), (λ a. a.1 b))
+bounded-refuted limit V c ks r b = ((λ h. ((here h, right h), λ _. h)), (λ a. a.1 b), (λ a p. not-both (is_possible limit V c r) (bounded-possible limit V c r b p) (a.1 b)))
   where
-    here : is_possible limit V c r ≡ false → Solution V ks r → ⊥
-    here h m = not-both (is_possible limit V c r) (bounded-possible limit V c r b (subst (HasProof V []) (ap (λ z. (let x : Reference = record { trait = r.trait; args = z } in x)) (filled-closed ks m.values r.args (left (is_closed r.args) _ b))) m.proved)) h
+    here : is_possible limit V c r ≡ false → SolutionBy (HasElaboratedProof V []) ks r → ⊥
+    here h m =
+        not-both (is_possible limit V c r)
+        (bounded-possible limit V c r b
+        (subst (HasProof V []) (ap (λ z. (let x : Reference = record { trait = r.trait; args = z } in x)) (filled-closed ks m.values r.args (left (is_closed r.args) _ b))) (bare-proof V [] _ m.proved))) h
 
     right : is_possible limit V c r ≡ false → InEverySetWith V c (λ W ρ. Solution W ks (renumbered_reference ρ r) → ⊥)
     right h W vs rank l ρ s m =

@@ -5,3 +5,4 @@ pub mod Computing
 pub mod WorkedVerdicts
 pub mod WorkedAnswers
 pub mod AllValues
+pub mod Alone

@@ -16,6 +16,8 @@ use Rattle.session_laws.specs.Verdicts.{placed, IsCleared, IsRealOverlap}
 use Rattle.session_laws.specs.Worked.{ForeignLeaf, UncoveredBeforeLocal, FlagsOfLeaves, show_blanket, show_for_a, cleared_view, ClearedByAClause, day_view, RefusedForSomeDay, lifetimes_view, LifetimesAlone, mine_blanket, mine_for_u8, later_view, ALaterPairIsRefused, NotAcceptedUnlinked}
 use Rattle.model.proofs.Members.{not-both}
 use Rattle.model.specs.Proofs.{HasProof, Every}
+use Rattle.model.specs.Elaborated.{HasElaboratedProof}
+use Rattle.model.proofs.ElaboratedProofs.{bare-proof}
 use Rattle.session_laws.proofs.Possible.{bounded-possible}
 use Rattle.session_laws.proofs.Contracts.{apart-cleared}
 use Rattle.session_laws.proofs.Computing.{keeps-by, the-impl, first-by, one-pair}
@@ -41,9 +43,9 @@ fixed-num = inr (asked 21 T, ((0, refl), (λ m. ap (λ (q : Reference). record {
 by-num : (V : World) → is_bounded 8 V first (asked 21 (leaf (adt 10))) ≡ true → is_possible 8 V first (asked 21 (leaf (adt 10))) ≡ false → IsCleared V first show_for_a show_blanket
 by-num V b h = (here, λ W vs rank l ρ s. cleared-in-set W vs rank l (placed V first ρ) s 8 show_for_a show_blanket (asked 21 (leaf (adt 10))) fixed-num b h)
   where
-    here : (m : CommonInstance show_for_a show_blanket) → Every (HasProof V []) [] → Every (HasProof V []) (with_args m.right (asked 21 T) ∷ []) → ⊥
+    here : (m : CommonInstance show_for_a show_blanket) → Every (HasElaboratedProof V []) [] → Every (HasElaboratedProof V []) (with_args m.right (asked 21 T) ∷ []) → ⊥
     here m p q =
-        not-both (is_possible 8 V first (asked 21 (leaf (adt 10)))) (bounded-possible 8 V first (asked 21 (leaf (adt 10))) b (subst (HasProof V []) (ap (λ (r : Reference). (let x : Reference = record { trait = 21; args = r.args } in x)) (sym m.equal)) q.0)) h
+        not-both (is_possible 8 V first (asked 21 (leaf (adt 10)))) (bounded-possible 8 V first (asked 21 (leaf (adt 10))) b (subst (HasProof V []) (ap (λ (r : Reference). (let x : Reference = record { trait = 21; args = r.args } in x)) (sym m.equal)) (bare-proof V [] _ q.0))) h
 
 pub cleared-by-a-clause : ClearedByAClause
 cleared-by-a-clause = (

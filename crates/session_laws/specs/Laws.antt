@@ -58,7 +58,7 @@ pub record CoversRight (i j : ImplDecl) (k : Reference) (ks : List Sort) (g : Re
 abbrev pub CoversClause : ImplDecl → ImplDecl → List Sort → Reference → Type 0
 CoversClause i j ks g = ((k : Reference) × CoversLeft i j k ks g) ⊎ ((k : Reference) × CoversRight i j k ks g)
 
--- A pair is cleared by a where-clause whose goal was refused in coherence: it has no solution in any linked set with the view.
+-- A pair is cleared by a where-clause whose goal was refused in coherence.
 abbrev pub RefusedClauseClears : Type 0
 RefusedClauseClears = (V : World) (c : ℕ) (i j : ImplDecl) (ks : List Sort) (g : Reference) → CoversClause i j ks g → IsRefuted V c ks g → IsCleared V c i j
 
@@ -86,9 +86,10 @@ DecidedIsAnswered =
     (limit : ℕ) (V : World) (ks : List Sort) (E : List Reference) (r : Reference) (a : ProveAnswer) → IsDecided limit V E r → IsProveAnswer limit V ks E r a
     → ((ts : List Trees) × (a ≡ yes ts) × HasProof V E r) ⊎ ((a ≡ unproved) × (HasProof V E r → ⊥))
 
--- A bounded reference may be answered `no` exactly if it is not possible.
+-- A bounded reference may be answered `no` exactly if it is not possible; then it has no proof at all by the view.
 abbrev pub BoundedIsRefuted : Type 0
 BoundedIsRefuted =
     (limit : ℕ) (V : World) (c : ℕ) (ks : List Sort) (r : Reference) → is_bounded limit V c r ≡ true
     → (is_possible limit V c r ≡ false → IsRefuteAnswer limit V c ks r no)
     × (IsRefuteAnswer limit V c ks r no → is_possible limit V c r ≡ false)
+    × (IsRefuteAnswer limit V c ks r no → HasProof V [] r → ⊥)

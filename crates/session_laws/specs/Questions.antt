@@ -5,6 +5,7 @@ use Rattle.model.specs.Label.{Sort, infer}
 use Rattle.model.specs.Trees.{Trees, none, tree, leaf, ◌+++◌, IsA, is_sort}
 use Rattle.model.specs.Worlds.{World, Reference}
 use Rattle.model.specs.Proofs.{Every, HasProof}
+use Rattle.model.specs.Elaborated.{HasElaboratedProof}
 use Rattle.model.specs.Answers.{is_closed, is_bounded, is_possible, IsDecided}
 use Rattle.model.specs.Renumbering.{renumbered_reference}
 use Rattle.session_laws.specs.Verdicts.{InEverySetWith}
@@ -47,16 +48,21 @@ pub data RefuteAnswer : Type 0 where
   no : RefuteAnswer
   unrefuted : RefuteAnswer
 
--- A solution in W: closed terms for the unknowns with which the reference has a proof in W.
-pub record Solution (W : World) (ks : List Sort) (r : Reference) : Type 0 where
+-- Closed terms for the unknowns with which H holds of the reference.
+pub record SolutionBy (H : Reference → Type 0) (ks : List Sort) (r : Reference) : Type 0 where
   pub values : List Trees
   pub fitting : FitKinds ks values
   pub closed : Every (λ t. IsTrue (is_closed t)) values
-  pub proved : HasProof W [] (filled_reference ks values r)
+  pub proved : H (filled_reference ks values r)
 
--- Neither the view nor any linked set with it has a solution.
+-- A solution in W: with them the reference has a proof in W.
+abbrev pub Solution : World → List Sort → Reference → Type 0
+Solution W ks r = SolutionBy (HasProof W []) ks r
+
+-- No linked set with the view has a solution; nor has the view alone, by a proof that holds the supertraits of all that it concludes.
+-- Other proofs by a view that no linked set holds are not spoken of: what its impls leave unproved the search takes for proved.
 abbrev pub IsRefuted : World → ℕ → List Sort → Reference → Type 0
-IsRefuted V c ks r = (Solution V ks r → ⊥) × InEverySetWith V c (λ W ρ. Solution W ks (renumbered_reference ρ r) → ⊥)
+IsRefuted V c ks r = (SolutionBy (HasElaboratedProof V []) ks r → ⊥) × InEverySetWith V c (λ W ρ. Solution W ks (renumbered_reference ρ r) → ⊥)
 
 -- `no` holds in all of them; of a bounded reference it is said exactly if the reference is not possible.
 abbrev pub IsRefuteAnswer : ℕ → World → ℕ → List Sort → Reference → RefuteAnswer → Type 0

@@ -1,7 +1,8 @@
 -- What a verdict on a crate promises. V is the view of the crate c, without lifetimes.
-use Rattle.std.specs.Prelude.{◌≡◌, ℕ, ◌<◌, ◌≤◌, true, false, List, Some}
-use Rattle.model.specs.Worlds.{World, Reference, ImplDecl}
-use Rattle.model.specs.Proofs.{In}
+use Rattle.std.specs.Prelude.{◌≡◌, ℕ, ◌<◌, ◌≤◌, true, false, List, [], map, Some}
+use Rattle.model.specs.Worlds.{World, Reference, ImplDecl, with_args}
+use Rattle.model.specs.Proofs.{In, Every}
+use Rattle.model.specs.Elaborated.{HasElaboratedProof}
 use Rattle.model.specs.Walks.{keeps_orphan_rule}
 use Rattle.model.specs.Answers.{CommonInstance, IsFixedClause, is_bounded, is_possible}
 use Rattle.model.specs.Renumbering.{Renumbering, View, HoldsView, renumbered_impl}
@@ -43,10 +44,15 @@ pub record IsPair (V : World) (c : ℕ) (i j : ImplDecl) : Type 0 where
   pub own : i.home ≡ c
   pub before : j.home ≡ c → j.name < i.name
 
--- Neither the view nor any linked set with it has a closed common instance of the pair with proofs of both lists of where-clauses.
--- The view is named since there are views that no linked set holds: `trait Sup; trait Sub: Sup; impl Sub for u8`.
+-- At no closed common instance H holds of both lists of where-clauses.
+abbrev pub ClearedBy : (Reference → Type 0) → ImplDecl → ImplDecl → Type 0
+ClearedBy H i j = (m : CommonInstance i j) → Every H (map (with_args m.left) i.clauses) → Every H (map (with_args m.right) j.clauses) → ⊥
+
+-- No linked set with the view has a closed common instance of the pair with proofs of both lists of where-clauses; nor has the view
+-- alone, by proofs that hold the supertraits of all that they conclude. The view is named since there are views that no linked set
+-- holds: `trait Sup; trait Sub: Sup; impl Sub for u8`.
 abbrev pub IsCleared : World → ℕ → ImplDecl → ImplDecl → Type 0
-IsCleared V c i j = Cleared V i j × InEverySetWith V c (λ W ρ. Cleared W (renumbered_impl ρ i) (renumbered_impl ρ j))
+IsCleared V c i j = ClearedBy (HasElaboratedProof V []) i j × InEverySetWith V c (λ W ρ. Cleared W (renumbered_impl ρ i) (renumbered_impl ρ j))
 
 -- The headers have a common instance, and no where-clause that is fixed there as a bounded reference is impossible.
 pub record IsRealOverlap (limit : ℕ) (V : World) (c : ℕ) (i j : ImplDecl) : Type 0 where

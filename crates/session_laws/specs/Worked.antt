@@ -1,10 +1,10 @@
 -- Worked crates: their verdicts, and answers to their questions. Crate first uses base; structs count from 10, traits from 20 and
 -- impls from 100.
 use Rattle.std.specs.Prelude.{◌≡◌, ℕ, true, false, IsTrue, [], ◌∷◌, Some}
-use Rattle.model.specs.Label.{of_type, of_const, bool, str, uint, adt, value, infer, placeholder}
-use Rattle.model.specs.Trees.{none, tree, leaf}
+use Rattle.model.specs.Label.{of_type, of_const, bool, char, str, tuple, uint, adt, fn_ptr, value, infer, param, placeholder}
+use Rattle.model.specs.Trees.{Trees, none, tree, leaf}
 use Rattle.model.specs.Worlds.{World, Reference, ImplDecl, view_of}
-use Rattle.model.specs.Rules.{asked}
+use Rattle.model.specs.Rules.{asked, fn_once}
 use Rattle.model.specs.Proofs.{HasProofByImpl}
 use Rattle.model.specs.Terms.{erased_world}
 use Rattle.model.specs.Answers.{is_closed, CommonInstance}
@@ -12,7 +12,7 @@ use Rattle.model.specs.Core.{box}
 use Rattle.model.specs.Worked.{base, first, beside_core, struct, fundamental_struct, trait_of, impl_of, to, u8, T, applied, fn_of_any, fn_of_static, show_world, text_of_a_user, set_of_two_users}
 use Rattle.orphan_check.specs.Items.{nonlocal, uncovered, items, foreign_leaves}
 use Rattle.session_laws.specs.Verdicts.{IsPair, IsCleared, IsVerdict, accepted, orphan, overlap}
-use Rattle.session_laws.specs.Questions.{IsProveAnswer, yes, unproved, maybe, IsRefuteAnswer, no}
+use Rattle.session_laws.specs.Questions.{Solution, IsProveAnswer, yes, unproved, maybe, IsRefuteAnswer, no}
 
 -- The orphan rule
 -- `crate base; trait Show; crate first uses base; impl Show for u8`: u8, the first type, is foreign.
@@ -132,3 +132,26 @@ num_view = view_of (beside_core (struct 10 base [] ∷ []) (trait_of 20 base [] 
 
 abbrev pub RefutedForAllValues : Type 0
 RefutedForAllValues = IsRefuteAnswer 8 num_view base (of_type ∷ []) (asked 20 (applied 10 (leaf (infer of_type 0)))) no
+
+-- `crate base; trait Sub<A>: FnOnce<(A,)>; impl Sub<bool> for fn(char); crate first uses base; struct S<A>; trait Mine; impl Mine for bool;
+-- impl<A> Mine for S<A> where fn(char): Sub<A>, A: Mine; refute in first S<?a>: Mine` is `no`: wherever `fn(char): Sub<?a>` has its
+-- supertrait proved, ?a is char, and nobody but first may write `char: Mine`. Yet by the view `S<bool>: Mine` has a proof, without the
+-- supertrait `fn(char): FnOnce<(bool,)>`; so no linked set holds the view.
+abbrev pub fn_of_char : Trees → Trees
+fn_of_char others = tree (fn_ptr 0) (tree char none (leaf tuple)) others
+
+abbrev pub fn_is_sub : Trees → Reference
+fn_is_sub a = record { trait = 20; args = fn_of_char a }
+
+abbrev pub alone_view : World
+alone_view =
+    view_of
+    (beside_core (struct 10 first [] ∷ [])
+    (trait_of 20 base (record { trait = fn_once; args = tree (param of_type 0) none (tree tuple (leaf (param of_type 1)) none) } ∷ []) ∷ trait_of 21 first [] ∷ [])
+    (impl_of 100 base 0 (fn_is_sub (leaf bool)) [] ∷ impl_of 101 first 0 (asked 21 (leaf bool)) [] ∷ impl_of 102 first 1 (asked 21 (applied 10 T)) (fn_is_sub T ∷ asked 21 T ∷ []) ∷ []))
+    first
+
+abbrev pub ProvedAloneAndRefuted : Type 0
+ProvedAloneAndRefuted =
+    let goal = asked 21 (applied 10 (leaf (infer of_type 0))) in
+    Solution alone_view (of_type ∷ []) goal × IsRefuteAnswer 8 alone_view first (of_type ∷ []) goal no

@@ -2,7 +2,7 @@
 #![tactic(auto)]
 
 ghost use Rattle.session_laws.specs.Laws.{RefusedIsReal, ApartIsCleared, BoundedIsRefuted, DecidedIsAnswered, HeadlineHolds, PassedIsAccepted, RefusedClauseClears};
-ghost use Rattle.session_laws.specs.Worked.{ALaterPairIsRefused, ClearedByAClause, FlagsOfLeaves, ForeignLeaf, LifetimesAlone, NotAcceptedUnlinked, ParametersStandForThemselves, RefusedForSomeDay, RefutedForAllValues, TwoTextsAccepted, UncoveredBeforeLocal, ValuesOfBothKinds};
+ghost use Rattle.session_laws.specs.Worked.{ALaterPairIsRefused, ClearedByAClause, FlagsOfLeaves, ForeignLeaf, LifetimesAlone, NotAcceptedUnlinked, ParametersStandForThemselves, ProvedAloneAndRefuted, RefusedForSomeDay, RefutedForAllValues, TwoTextsAccepted, UncoveredBeforeLocal, ValuesOfBothKinds};
 
 /// In a linked set of accepted crates, of one text or of several, no closed reference has proofs by two impls; what was answered there holds.
 pub fn accepted_sets_have_one_impl()
@@ -29,7 +29,7 @@ pub fn decided_is_answered()
     ensures { DecidedIsAnswered }
 {}
 
-/// Of a bounded reference `no` says that it is not possible.
+/// Of a bounded reference `no` says that it is not possible, and so has no proof by the view.
 pub fn bounded_is_refuted()
     ensures { BoundedIsRefuted }
 {}
@@ -50,12 +50,13 @@ pub fn worked_pairs()
     ensures unlinked { NotAcceptedUnlinked }
 {}
 
-/// Two texts in one set, and answers to questions.
+/// Two texts in one set, and answers to questions: among them a `no` beside a proof by a view that no linked set holds.
 pub fn worked_answers()
     ensures two_texts { TwoTextsAccepted }
     ensures values { ValuesOfBothKinds }
     ensures parameters { ParametersStandForThemselves }
     ensures for_all { RefutedForAllValues }
+    ensures alone { ProvedAloneAndRefuted }
 {}
 
 /// A pair of which no where-clause was refused, each asked by a goal that covers it, really overlaps.

@@ -1,4 +1,5 @@
 use Rattle.session_laws.proofs.AllValues.{refuted-for-all}
+use Rattle.session_laws.proofs.Alone.{proved-alone}
 use Rattle.session_laws.proofs.WorkedAnswers.{two-texts-accepted, values-of-both-kinds, parameters-stand}
 use Rattle.session_laws.proofs.worked_answers.Goals as goal
 
@@ -13,3 +14,6 @@ returns-clause-parameters c = parameters-stand
 
 pub returns-clause-for_all : goal.returns-clause-for_all
 returns-clause-for_all c = refuted-for-all
+
+pub returns-clause-alone : goal.returns-clause-alone
+returns-clause-alone c = proved-alone

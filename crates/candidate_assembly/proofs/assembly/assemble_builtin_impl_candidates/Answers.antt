@@ -4,11 +4,15 @@ use Rattle.evaluation.specs.declared.candidate.CandidateSpec.{CandidateSpec}
 use Rattle.declarations.specs.Items.{written}
 use Rattle.assembly_laws.specs.Candidates.{built_in}
 use Rattle.candidate_assembly.specs.Counted.{ForEachPast, count_from}
-use Rattle.candidate_assembly.specs.Goals.{asked_of, candidate_of}
+use Rattle.built_in_candidates.specs.Goals.{asked_of, candidate_of}
 use Rattle.candidate_assembly.specs.Sections.{considered_from, is_built_in, misc_is_bound}
 use Rattle.candidate_assembly.proofs.Counted.{counted}
+use Rattle.candidate_assembly.proofs.Walking.{plain-heads}
 use Rattle.candidate_assembly.proofs.Ends.{ok-map}
 use Rattle.candidate_assembly.proofs.assembly.assemble_builtin_impl_candidates.Goals as goal
+
+pub consider_builtin_candidate-requires-clause-impls : goal.consider_builtin_candidate-requires-clause-impls
+consider_builtin_candidate-requires-clause-impls c = plain-heads c.args.cx.now.entries c.args.declarations.now.impls c.requires.impls
 
 pub returns-clause-is : goal.returns-clause-is
 returns-clause-is c =

@@ -5,7 +5,7 @@ use Rattle.infer_table.proofs.FullFacts.{or-then}
 use Rattle.declarations.specs.Items.{written}
 use Rattle.assembly_laws.specs.Candidates.{by_impls}
 use Rattle.candidate_assembly.specs.Counted.{ForEachPast}
-use Rattle.candidate_assembly.specs.Goals.{asked_of, candidate_of}
+use Rattle.built_in_candidates.specs.Goals.{asked_of, candidate_of}
 use Rattle.candidate_assembly.specs.Headers.{HasTooMany, impls_above}
 use Rattle.candidate_assembly.specs.Sections.{last_impl}
 use Rattle.candidate_assembly.proofs.Counted.{last-is}

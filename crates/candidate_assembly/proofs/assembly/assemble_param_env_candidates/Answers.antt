@@ -6,7 +6,7 @@ use Rattle.assembly_laws.specs.Asking.{clauses}
 use Rattle.assembly_laws.specs.Candidates.{by_clauses}
 use Rattle.assembly_laws.specs.Solver.{is_clause}
 use Rattle.candidate_assembly.specs.Counted.{ForEachPast}
-use Rattle.candidate_assembly.specs.Goals.{asked_of, candidate_of}
+use Rattle.built_in_candidates.specs.Goals.{asked_of, candidate_of}
 use Rattle.candidate_assembly.specs.Sections.{considered_from}
 use Rattle.candidate_assembly.proofs.Counted.{counted}
 use Rattle.candidate_assembly.proofs.Ends.{ok-map}

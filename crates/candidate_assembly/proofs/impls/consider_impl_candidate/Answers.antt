@@ -19,9 +19,11 @@ use Rattle.evaluation.specs.FrameTables.{Nested, Equation}
 use Rattle.declarations.specs.Items.{reference_in}
 use Rattle.declarations.specs.Applied.{references_in, AllHeld}
 use Rattle.assembly_laws.specs.Candidates.{Candidate, all_equal, behind, premise}
-use Rattle.candidate_assembly.specs.Goals.{asked_of}
-use Rattle.candidate_assembly.proofs.Asking.{asked-later}
-use Rattle.candidate_assembly.proofs.Behind.{references-later, all-held-later, same-impl}
+use Rattle.built_in_candidates.specs.Goals.{asked_of}
+use Rattle.built_in_candidates.proofs.Asking.{asked-later}
+use Rattle.declarations.proofs.Bounded.{all-same}
+use Rattle.declarations.proofs.Growth.{references-kept}
+use Rattle.candidate_assembly.proofs.Behind.{same-impl}
 use Rattle.candidate_assembly.proofs.impls.consider_impl_candidate.Goals as goal
 
 pub returns-in_err-instance-clause-full : goal.returns-in_err-instance-clause-full
@@ -43,7 +45,7 @@ returns-clause-held c =
     let mid = c.instance_behind.new.cx.entries in
     let new = c.relate_args.new.cx.entries in
     let kept : Keeps old new = keeps-trans old mid new c.in_ok-instance.ensures.keeps c.in_ok-equations.ensures.keeps in
-    let later = all-held-later mid new c.in_ok-equations.ensures.keeps c.in_ok-instance.instance.clauses.items c.in_ok-instance.ensures.clauses_held in
+    let later = references-kept mid new c.in_ok-equations.ensures.keeps c.in_ok-instance.instance.clauses.items c.in_ok-instance.ensures.clauses_held in
     record {
       equations = c.in_ok-equations.ensures.held;
       constraints = subst (AllConstraintsHeld new) (sym c.new.ensures.items) tt;
@@ -72,7 +74,7 @@ returns-clause-is c = λ V.
     let count : c.len.result ≡ length g.variables.items = let e = c.len.ensures in omega (arith, e) in
     let asked = trees-later old mid made.keeps args_lists g.goal.predicate.trait_ref.args.0 c.requires.goal.predicate in
     let header = made.header ∙ ap (λ m. behind m (reference_in old def.header)) count in
-    let clauses = references-later mid new further instance.clauses.items made.clauses_held ∙ made.clauses ∙ ap (λ m. map (behind m) (references_in old def.clauses.items)) count in
+    let clauses = all-same mid new further instance.clauses.items made.clauses_held ∙ made.clauses ∙ ap (λ m. map (behind m) (references_in old def.clauses.items)) count in
     same _ _ _ _ _ _ _ _ _ (ap Impl (sym (same-impl c.args.id))) (made.variables ∙ c.requires.params)
     (c.in_ok-equations.ensures.are ∙ ap (λ z. all_equal z (trees_at mid instance.header.args.0)) asked ∙ ap (λ (r : Reference). all_equal a.reference.args r.args) header)
     (ap (constraints_trees new) c.new.ensures.items)

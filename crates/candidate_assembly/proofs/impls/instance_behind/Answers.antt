@@ -14,8 +14,10 @@ use Rattle.infer_table.proofs.StepFacts.{keeps-trans}
 use Rattle.declarations.specs.Applied.{references_in, AllHeld, sort_of_param}
 use Rattle.declarations.specs.Items.{reference_in}
 use Rattle.declarations.specs.Merges.{Each}
+use Rattle.declarations.proofs.Bounded.{all-same}
+use Rattle.declarations.proofs.Growth.{reference-same, references-kept}
 use Rattle.candidate_assembly.specs.Headers.{var_kind}
-use Rattle.candidate_assembly.proofs.Behind.{variables, variables-closed, variables-sorts, reference-behind, all-behind, all-fit, reference-later, references-later, all-held-later, fits-later, arguments-are, kinds-length}
+use Rattle.candidate_assembly.proofs.Behind.{variables, variables-closed, variables-sorts, reference-behind, all-behind, all-fit, fits-later, arguments-are, kinds-length}
 use Rattle.candidate_assembly.proofs.impls.instance_behind.Goals as goal
 
 pub returns-in_err-values-clause-full : goal.returns-in_err-values-clause-full
@@ -83,7 +85,7 @@ all_with_arguments-requires-clause-held c =
     let still : trees_at gs c.in_ok-args.args.0 ≡ variables n (map var_kind ps) = trees-later fs gs c.in_ok-header.ensures.keeps args_lists c.in_ok-args.args.0 (_, c.in_ok-args.ensures.is) ∙ args in
     let cs = c.args.def.now.clauses.items in
     let slice : c.deref-3.result.now ≡ cs = c.deref-3.ensures.value in
-    subst (λ (rs : List TraitRef). AllHeld gs rs) (sym slice) (all-held-later es gs on cs c.requires.held.clauses)
+    subst (λ (rs : List TraitRef). AllHeld gs rs) (sym slice) (references-kept es gs on cs c.requires.held.clauses)
 
 pub all_with_arguments-requires-clause-closed : goal.all_with_arguments-requires-clause-closed
 all_with_arguments-requires-clause-closed c =
@@ -139,8 +141,8 @@ returns-clause-header c =
     let gs = c.with_arguments.new.cx.entries in
     let hs = c.all_with_arguments.new.cx.entries in
     let header = c.args.def.now.header in
-    reference-later gs hs c.in_ok-clauses.ensures.keeps c.in_ok-header.header c.in_ok-header.ensures.held
-    ∙ c.in_ok-header.ensures.is ∙ ap (λ z. with_args z (reference_in fs header)) args ∙ ap (with_args (variables n (map var_kind ps))) (reference-later es fs to header c.requires.held.header)
+    reference-same gs hs c.in_ok-clauses.ensures.keeps c.in_ok-header.header c.in_ok-header.ensures.held
+    ∙ c.in_ok-header.ensures.is ∙ ap (λ z. with_args z (reference_in fs header)) args ∙ ap (with_args (variables n (map var_kind ps))) (reference-same es fs to header c.requires.held.header)
     ∙ reference-behind n (map var_kind ps) (reference_in es header) fit
 
 pub returns-clause-clauses : goal.returns-clause-clauses
@@ -160,5 +162,5 @@ returns-clause-clauses c =
     let slice : c.deref-3.result.now ≡ cs = c.deref-3.ensures.value in
     let A = variables n (map var_kind ps) in
     c.in_ok-clauses.ensures.are ∙ ap (λ z. all_with_args z (references_in gs c.deref-3.result.now)) still ∙ ap (λ rs. all_with_args A (references_in gs rs)) slice
-    ∙ ap (all_with_args A) (references-later es gs on cs c.requires.held.clauses)
+    ∙ ap (all_with_args A) (all-same es gs on cs c.requires.held.clauses)
     ∙ all-behind es n (map var_kind ps) cs (all-fit es (map sort_of_param ps) A (variables-sorts n ps) cs c.requires.speaks.clauses)

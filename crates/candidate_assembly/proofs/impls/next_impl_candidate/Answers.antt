@@ -6,9 +6,10 @@ use Rattle.infer_table.proofs.FullFacts.{handed-on, or-then}
 use Rattle.declarations.specs.Items.{written, impl_in}
 use Rattle.declarations.specs.Relevant.{next_above}
 use Rattle.assembly_laws.specs.Candidates.{by_the_impl}
-use Rattle.candidate_assembly.specs.Goals.{asked_of}
+use Rattle.built_in_candidates.specs.Goals.{asked_of}
 use Rattle.candidate_assembly.specs.Headers.{CanBeCandidate, HasTooMany}
-use Rattle.candidate_assembly.proofs.Walking.{relevant-names, no-next, one-next, none-of-number, one-of-number, at-number, kinds-counted}
+use Rattle.built_in_candidates.proofs.Relevant.{relevant-names}
+use Rattle.candidate_assembly.proofs.Walking.{plain-heads, no-next, one-next, none-of-number, one-of-number, at-number, kinds-counted}
 use Rattle.candidate_assembly.proofs.impls.next_impl_candidate.Goals as goal
 
 pub consider_impl_candidate-requires-clause-params : goal.consider_impl_candidate-requires-clause-params
@@ -30,7 +31,7 @@ returns-in_err-candidate-in-Some-impl_def-clause-full c = λ q.
     let a = asked_of old g in
     let S = trees_at old c.self_ty-self_ty.result.0 in
     let first = trees-is old types c.self_ty-self_ty.result.0 _ c.self_ty-self_ty.ensures.is in
-    let named = relevant-names old d a S c.requires.first first c.requires.impls in
+    let named = relevant-names old d a S c.requires.first first (plain-heads old d.impls c.requires.impls) in
     let found = c.in-Some.ensures.is ∙ ap (next_above c.args.last) named in
     let i = impl_in old c.in-Some.id c.in-Some-impl_def.def.now in
     let next = one-next V a c.args.last (λ j. j ≡ i) c.in-Some.id.index V.impls (one-of-number i c.in-Some.id.index V.impls (c.in-Some-impl_def.ensures.written old)) found in
@@ -47,7 +48,7 @@ unreachable-requires c =
     let a = asked_of old g in
     let S = trees_at old c.self_ty-self_ty.result.0 in
     let first = trees-is old types c.self_ty-self_ty.result.0 _ c.self_ty-self_ty.ensures.is in
-    let named = relevant-names old d a S c.requires.first first c.requires.impls in
+    let named = relevant-names old d a S c.requires.first first (plain-heads old d.impls c.requires.impls) in
     let found = c.in-Some.ensures.is ∙ ap (next_above c.args.last) named in
     (one-next V a c.args.last (λ j. ⊥) c.in-Some.id.index V.impls (none-of-number (λ j. ⊥) c.in-Some.id.index V.impls (c.in-None-impl_def.ensures.written old)) found).1
 
@@ -60,7 +61,7 @@ returns-in_ok-candidate-in-Some-impl_def-clause-is c =
     let a = asked_of old g in
     let S = trees_at old c.self_ty-self_ty.result.0 in
     let first = trees-is old types c.self_ty-self_ty.result.0 _ c.self_ty-self_ty.ensures.is in
-    let named = relevant-names old d a S c.requires.first first c.requires.impls in
+    let named = relevant-names old d a S c.requires.first first (plain-heads old d.impls c.requires.impls) in
     let found = c.in-Some.ensures.is ∙ ap (next_above c.args.last) named in
     let i = impl_in old c.in-Some.id c.in-Some-impl_def.def.now in
     let next = one-next V a c.args.last (λ j. j ≡ i) c.in-Some.id.index V.impls (one-of-number i c.in-Some.id.index V.impls (c.in-Some-impl_def.ensures.written old)) found in
@@ -75,5 +76,5 @@ returns-in-None-clause-is c =
     let a = asked_of old g in
     let S = trees_at old c.self_ty-self_ty.result.0 in
     let first = trees-is old types c.self_ty-self_ty.result.0 _ c.self_ty-self_ty.ensures.is in
-    let named = relevant-names old d a S c.requires.first first c.requires.impls in
+    let named = relevant-names old d a S c.requires.first first (plain-heads old d.impls c.requires.impls) in
     sym (no-next V a c.args.last V.impls (c.in-None.ensures.is ∙ ap (next_above c.args.last) named))

@@ -8,9 +8,9 @@ use Rattle.goal_frames.specs.Readings.{equation_read}
 use Rattle.declarations.specs.Applied.{AllHeld}
 use Rattle.assembly_laws.specs.Candidates.{by_rule, all_equal}
 use Rattle.type_terms.specs.Terms.{trees_at}
-use Rattle.candidate_assembly.specs.Goals.{asked_of}
+use Rattle.built_in_candidates.specs.Goals.{asked_of}
 use Rattle.candidate_assembly.specs.Clauses.{references_to}
-use Rattle.candidate_assembly.proofs.Asking.{asked-later}
+use Rattle.built_in_candidates.proofs.Asking.{asked-later}
 use Rattle.candidate_assembly.proofs.Clauses.{references-held, held-at, clause-at, of_clause}
 use Rattle.candidate_assembly.proofs.param_env.consider_param_env_candidate.Goals as goal
 

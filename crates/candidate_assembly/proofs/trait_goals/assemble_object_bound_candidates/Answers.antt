@@ -4,7 +4,7 @@ use Rattle.std.proofs.lemmas.Result.{IfOk-weaker}
 use Rattle.declarations.specs.Items.{written}
 use Rattle.assembly_laws.specs.Candidates.{by_objects}
 use Rattle.candidate_assembly.specs.Counted.{is_of, count_from}
-use Rattle.candidate_assembly.specs.Goals.{asked_of}
+use Rattle.built_in_candidates.specs.Goals.{asked_of}
 use Rattle.candidate_assembly.specs.Sections.{is_bound, misc_is_bound}
 use Rattle.candidate_assembly.specs.declared.assembly.Section.TheVariants.{ObjectBounds}
 use Rattle.candidate_assembly.proofs.Counted.{counted}

@@ -5,7 +5,7 @@ use Rattle.declarations.specs.Items.{written}
 use Rattle.assembly_laws.specs.Candidates.{unknowable}
 use Rattle.assembly_laws.specs.Knowing.{is_knowable}
 use Rattle.assembly_laws.specs.Solver.{holds_from}
-use Rattle.candidate_assembly.specs.Goals.{asked_of}
+use Rattle.built_in_candidates.specs.Goals.{asked_of}
 use Rattle.candidate_assembly.specs.Headers.{HasTooMany}
 use Rattle.candidate_assembly.specs.Nexts.{until}
 use Rattle.candidate_assembly.specs.Sections.{is_first, is_unknowable}

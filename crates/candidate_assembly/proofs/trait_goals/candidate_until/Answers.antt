@@ -3,7 +3,7 @@ use Rattle.std.proofs.lemmas.Result.{IfOk-weaker}
 use Rattle.infer_table.proofs.FullFacts.{handed-on, or-then}
 use Rattle.goal_frames.proofs.Later.{considered-later}
 use Rattle.declarations.specs.Items.{written}
-use Rattle.candidate_assembly.specs.Goals.{candidate_of}
+use Rattle.built_in_candidates.specs.Goals.{candidate_of}
 use Rattle.candidate_assembly.specs.Headers.{HasTooMany}
 use Rattle.candidate_assembly.specs.Nexts.{early_in, late_unless}
 use Rattle.candidate_assembly.specs.Sections.{late}

@@ -6,7 +6,7 @@ use Rattle.evaluation.specs.Plans.{wanted}
 use Rattle.evaluation.specs.Tables.{frame_tables}
 use Rattle.goal_frames.proofs.Later.{shown-later, considered-later, considered-fits-later}
 use Rattle.declarations.specs.Items.{written}
-use Rattle.candidate_assembly.specs.Goals.{candidate_of}
+use Rattle.built_in_candidates.specs.Goals.{candidate_of}
 use Rattle.candidate_assembly.specs.Merging.{end_in}
 use Rattle.candidate_assembly.specs.Nexts.{mode_at_end}
 use Rattle.candidate_assembly.specs.Ready.{Decides}

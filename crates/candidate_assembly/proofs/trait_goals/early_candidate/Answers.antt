@@ -6,7 +6,7 @@ use Rattle.declarations.specs.Items.{written}
 use Rattle.assembly_laws.specs.Asking.{clauses}
 use Rattle.assembly_laws.specs.Candidates.{by_clauses, built_in}
 use Rattle.assembly_laws.specs.Solver.{is_clause}
-use Rattle.candidate_assembly.specs.Goals.{asked_of, candidate_of}
+use Rattle.built_in_candidates.specs.Goals.{asked_of, candidate_of}
 use Rattle.candidate_assembly.specs.Sections.{considered_from, is_built_in, misc_is_bound}
 use Rattle.candidate_assembly.proofs.DecidedGoals.{can-be, object, unsizing, decided-later, past-later, first-of, second-of}
 use Rattle.candidate_assembly.proofs.trait_goals.early_candidate.Goals as goal

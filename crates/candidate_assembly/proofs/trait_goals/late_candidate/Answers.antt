@@ -2,7 +2,7 @@ use Rattle.std.proofs.Common.{◌≡◌, length, sym, ◌∙◌, ap, Err, option
 use Rattle.std.proofs.lemmas.Result.{IfOk-weaker}
 use Rattle.infer_table.proofs.FullFacts.{handed-on, or-then}
 use Rattle.declarations.specs.Items.{written}
-use Rattle.candidate_assembly.specs.Goals.{asked_of, candidate_of}
+use Rattle.built_in_candidates.specs.Goals.{asked_of, candidate_of}
 use Rattle.candidate_assembly.proofs.DecidedGoals.{decided-later, past-later, walk-in, first-of, second-of, many-first, many-at, next_impl, impl_behind, next_bound}
 use Rattle.candidate_assembly.proofs.trait_goals.late_candidate.Goals as goal
 

@@ -16,8 +16,8 @@ use Rattle.model.specs.Rules.{is_coinductive}
 use Rattle.declarations.specs.Items.{written}
 use Rattle.declarations.specs.Applied.{references_in, AllHeld}
 use Rattle.assembly_laws.specs.Candidates.{Candidate, premise}
-use Rattle.candidate_assembly.specs.Goals.{asked_of}
-use Rattle.candidate_assembly.proofs.Asking.{asked-later}
+use Rattle.built_in_candidates.specs.Goals.{asked_of}
+use Rattle.built_in_candidates.proofs.Asking.{asked-later}
 use Rattle.candidate_assembly.proofs.unknowable.consider_coherence_unknowable_candidate.Goals as goal
 
 pub returns-in_err-supertraits-clause-full : goal.returns-in_err-supertraits-clause-full

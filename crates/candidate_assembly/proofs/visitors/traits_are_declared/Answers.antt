@@ -1,7 +1,7 @@
 use Rattle.std.proofs.Common.{sym, ◌∙◌}
 use Rattle.type_terms.specs.Kinds.{autos_trees}
 use Rattle.declarations.specs.Items.{written}
-use Rattle.candidate_assembly.proofs.Lists.{empty-is}
+use Rattle.built_in_candidates.proofs.Lists.{empty-is}
 use Rattle.candidate_assembly.proofs.Finding.{among, stray-next, stray-found, stray-none}
 use Rattle.candidate_assembly.proofs.visitors.traits_are_declared.Goals as goal
 

@@ -1,0 +1,17 @@
+pub mod Lists
+pub mod Trees
+pub mod Structs
+pub mod Asking
+pub mod Heads
+pub mod Pairs
+pub mod Autos
+pub mod UnsizingRows
+pub mod FnPointers
+pub mod Later
+pub mod StructRows
+pub mod ToDyn
+pub mod UnsizeRows
+pub mod Objects
+pub mod RuleAfterRule
+pub mod Relevant
+pub mod FoundKinds

@@ -1,0 +1,63 @@
+-- The impls that can match a goal, by the heads of their self types, are those that do.
+use Rattle.std.proofs.Common.{◌≡◌, ℕ, Bool, true, false, cond, ◌&&◌, List, [], ◌∷◌, refl, sym, ap, ◌∙◌}
+use Rattle.std.specs.Prelude.{◌==◌, map, filter}
+use Rattle.model.specs.Label.{Label, param}
+use Rattle.model.specs.Trees.{Trees, none, tree, nth, erase, erase_label}
+use Rattle.model.specs.Worlds.{World, ImplDecl}
+use Rattle.model.specs.Rules.{same_head}
+use Rattle.model.specs.Terms.{erased_impl}
+use Rattle.type_terms.specs.Terms.{Entry, trees_at}
+use Rattle.term_folds.specs.Signatures.{StartsWithType}
+use Rattle.declarations.specs.Items.{Items, HeldImpl, impl_in, written}
+use Rattle.declarations.specs.Merges.{Each}
+use Rattle.declarations.specs.Relevant.{relevant_in}
+use Rattle.assembly_laws.specs.Asking.{Asked, self_of, with_plain_head}
+use Rattle.assembly_laws.specs.Candidates.{is_relevant_to}
+use Rattle.built_in_candidates.specs.BuiltIn.{HavePlainHeads}
+
+abbrev pub names : List ImplDecl → List ℕ
+names is = map (λ (i : ImplDecl). i.name) is
+
+-- ---- impls match by their heads, with lifetimes or without
+head-alone : (k m : Label) (c o d q : Trees) → same_head k (tree m c o) ≡ same_head k (tree m d q)
+head-alone k (param s i) c o d q = refl
+head-alone k m c o d q = refl
+
+label-is : (m n : Label) (c o d q : Trees) → tree m c o ≡ tree n d q → m ≡ n
+label-is m n c o d q h = cc
+
+plain-head : (k : Label) (H : Trees) → with_plain_head H ≡ H → same_head k (erase H) ≡ same_head k H
+plain-head k none h = refl
+plain-head k (tree m d q) h = head-alone k (erase_label m) (erase d) (erase q) d q ∙ ap (λ x. same_head k (tree x d q)) (label-is (erase_label m) m d q d q h)
+
+module _ (t : ℕ) (l : Label) (c o : Trees) where
+  abbrev relevant : ImplDecl → Bool
+  relevant i = (i.header.trait == t) && is_relevant_to (tree (erase_label l) c o) i.header.args
+
+  abbrev erased-relevant : ImplDecl → Bool
+  erased-relevant i = (i.header.trait == t) && is_relevant_to (tree (erase_label l) (erase c) none) i.header.args
+
+  one-name : (p q : Bool) (i : ImplDecl) (es fs : List ImplDecl) → p ≡ q → names es ≡ names fs → names (cond p (erased_impl i ∷ es) es) ≡ names (cond q (i ∷ fs) fs)
+  one-name true true i es fs e r = ap (λ ns. i.name ∷ ns) r
+  one-name true false i es fs e r = absurd cc
+  one-name false true i es fs e r = absurd cc
+  one-name false false i es fs e r = r
+
+  names-written : (es : List Entry) (is : List HeldImpl) → Each (λ i. with_plain_head (trees_at es i.def.header.args.0) ≡ trees_at es i.def.header.args.0) is
+      → names (filter erased-relevant (map erased_impl (map (λ i. impl_in es i.id i.def) is))) ≡ names (filter relevant (map (λ i. impl_in es i.id i.def) is))
+  names-written es [] h = refl
+  names-written es (i ∷ is) h =
+      one-name (erased-relevant (erased_impl (impl_in es i.id i.def))) (relevant (impl_in es i.id i.def)) (impl_in es i.id i.def)
+      (filter erased-relevant (map erased_impl (map (λ i. impl_in es i.id i.def) is))) (filter relevant (map (λ i. impl_in es i.id i.def) is))
+      (ap (λ b. (i.def.header.def_id.index == t) && b) (plain-head (erase_label l) (trees_at es i.def.header.args.0) h.0)) (names-written es is h.1)
+
+-- ---- over declarations
+module _ (es : List Entry) (d : Items) (a : Asked) (S : Trees) (starts : StartsWithType a.reference.args) (self : S ≡ nth a.reference.args 0)
+    (plain : HavePlainHeads es d) where
+  names-at : (T : Trees) → StartsWithType T → S ≡ nth T 0
+      → relevant_in es d a.reference.trait S ≡ names (filter (λ i. (i.header.trait == a.reference.trait) && is_relevant_to (with_plain_head T) i.header.args) (written es d).impls)
+  names-at none s e = absurd s
+  names-at (tree l c o) s e = ap (relevant_in es d a.reference.trait) e ∙ names-written a.reference.trait l c o es d.impls plain
+
+  pub relevant-names : relevant_in es d a.reference.trait S ≡ names (filter (λ i. (i.header.trait == a.reference.trait) && is_relevant_to (self_of a) i.header.args) (written es d).impls)
+  relevant-names = names-at a.reference.args starts self

@@ -1,0 +1,67 @@
+-- Trees of types, one after the other, asked for a trait.
+use Rattle.std.proofs.Common.{◌≡◌, ℕ, List, [], ◌∷◌, ◌++◌, refl, sym, ap, subst, ◌∙◌, map}
+use Rattle.model.specs.Label.{of_type}
+use Rattle.model.specs.Trees.{Trees, none, tree, ◌+++◌, IsA, instantiate}
+use Rattle.model.specs.Worlds.{Reference}
+use Rattle.model.specs.Rules.{asked, each_asked, last_asked, together}
+use Rattle.type_terms.specs.Terms.{Entry, Has, Lawful, types, trees_at}
+use Rattle.type_terms.specs.Kinds.{TysHeld, tys_trees}
+use Rattle.type_terms.specs.declared.kinds.Ty.{Ty}
+use Rattle.term_folds.specs.Kept.{trees-is}
+use Rattle.infer_table.proofs.BindFacts.{type-is}
+use Rattle.model.proofs.TreeLaws.{append-none}
+use Rattle.built_in_candidates.specs.Constituents.{types_asked, TypesHeld, last_of}
+
+pub one-asked : (t : ℕ) (x y : Trees) → IsA of_type x → each_asked t (x +++ y) ≡ asked t x ∷ each_asked t y
+one-asked t none y h = absurd h
+one-asked t (tree l c o) y h = subst (λ z. each_asked t (tree l c z +++ y) ≡ asked t (tree l c z) ∷ each_asked t y) (sym h.1) refl
+
+pub tys-asked : (es : List Entry) → Lawful es → (t : ℕ) (ts : List Ty) → TysHeld es ts → each_asked t (tys_trees es ts) ≡ types_asked es t ts
+tys-asked es law t [] h = refl
+tys-asked es law t (x ∷ ts) h = one-asked t (trees_at es x.0) (tys_trees es ts) (type-is es law x.0 h.0) ∙ ap (λ l. asked t (trees_at es x.0) ∷ l) (tys-asked es law t ts h.1)
+
+pub held-types : (es : List Entry) (ts : List Ty) → TysHeld es ts → TypesHeld es ts
+held-types es [] h = tt
+held-types es (x ∷ ts) h = (h.0, held-types es ts h.1)
+
+pub held-last : (es : List Entry) (ts : List Ty) → TysHeld es ts → TypesHeld es (last_of ts)
+held-last es [] h = tt
+held-last es (x ∷ []) h = (h.0, tt)
+held-last es (x ∷ y ∷ ts) h = held-last es (y ∷ ts) h.1
+
+pub one-last : (t : ℕ) (x : Trees) → IsA of_type x → last_asked t x ≡ asked t x ∷ []
+one-last t none h = absurd h
+one-last t (tree l c o) h = subst (λ z. last_asked t (tree l c z) ≡ asked t (tree l c z) ∷ []) (sym h.1) refl
+
+-- what stands before others does not count
+pub skipped : (t : ℕ) (x y : Trees) (r : Reference) → last_asked t y ≡ r ∷ [] → last_asked t (x +++ y) ≡ r ∷ []
+skipped t x none r e = absurd cc
+skipped t none (tree m d p) r e = e
+skipped t (tree l c none) (tree m d p) r e = e
+skipped t (tree l c (tree n b o)) (tree m d p) r e = skipped t (tree n b o) (tree m d p) r e
+
+pub tys-last : (es : List Entry) → Lawful es → (t : ℕ) (ts : List Ty) → TysHeld es ts → last_asked t (tys_trees es ts) ≡ types_asked es t (last_of ts)
+tys-last es law t [] h = refl
+tys-last es law t (x ∷ []) h = ap (last_asked t) (append-none (trees_at es x.0)) ∙ one-last t (trees_at es x.0) (type-is es law x.0 h.0)
+tys-last es law t (x ∷ y ∷ ts) h = by (last_of (y ∷ ts)) (tys-last es law t (y ∷ ts) h.1) (there y ts)
+  where
+    there : (z : Ty) (zs : List Ty) → (w : Ty) × (last_of (z ∷ zs) ≡ w ∷ [])
+    there z [] = (z, refl)
+    there z (u ∷ zs) = there u zs
+
+    by : (l : List Ty) → last_asked t (tys_trees es (y ∷ ts)) ≡ types_asked es t (last_of (y ∷ ts)) → (w : Ty) × (last_of (y ∷ ts) ≡ w ∷ []) → last_asked t (tys_trees es (x ∷ y ∷ ts)) ≡ types_asked es t (last_of (y ∷ ts))
+    by l e w =
+        let one : types_asked es t (last_of (y ∷ ts)) ≡ asked t (trees_at es w.0.0) ∷ [] = ap (types_asked es t) w.1 in
+        skipped t (trees_at es x.0) (tys_trees es (y ∷ ts)) (asked t (trees_at es w.0.0)) (e ∙ one) ∙ sym one
+
+-- of fields with arguments put in the last one is asked
+pub fields-last : (es : List Entry) (t : ℕ) (A : Trees) (front : List Ty) (f : Ty) (y : Trees) → y ≡ instantiate 0 A (trees_at es f.0) → IsA of_type y
+    → last_asked t (together (map (instantiate 0 A) (map (λ (x : Ty). trees_at es x.0) (front ++ f ∷ [])))) ≡ asked t y ∷ []
+fields-last es t A [] f y e h = ap (last_asked t) (append-none (instantiate 0 A (trees_at es f.0)) ∙ sym e) ∙ one-last t y h
+fields-last es t A (z ∷ front) f y e h =
+    skipped t (instantiate 0 A (trees_at es z.0)) (together (map (instantiate 0 A) (map (λ (x : Ty). trees_at es x.0) (front ++ f ∷ [])))) (asked t y) (fields-last es t A front f y e h)
+
+pub last-is : (front : List Ty) (x : Ty) → last_of (front ++ x ∷ []) ≡ x ∷ []
+last-is [] x = refl
+last-is (y ∷ []) x = refl
+last-is (y ∷ z ∷ front) x = last-is (z ∷ front) x

@@ -1,0 +1,23 @@
+use Rattle.std.proofs.Common.{ap, ◌∙◌, arith, Err}
+use Rattle.model.specs.Trees.{Trees}
+use Rattle.model.specs.Worlds.{Reference}
+use Rattle.type_terms.specs.Terms.{args_lists, trees_at}
+use Rattle.type_terms.specs.Kinds.{args_trees}
+use Rattle.term_folds.specs.Kept.{trees-is}
+use Rattle.term_folds.proofs.FailFacts.{refused-term}
+use Rattle.infer_table.proofs.FullFacts.{handed-on}
+use Rattle.model.proofs.TreeLaws.{append-none}
+use Rattle.built_in_candidates.proofs.built_in.type_asked.Goals as goal
+
+pub returns-in_err-args-clause-full : goal.returns-in_err-args-clause-full
+returns-in_err-args-clause-full c = λ q.
+    let refused = c.in_err-args.ensures in
+    let handed = c.from_residual-in_err-args in
+    handed-on handed.result handed.ensures.1 (λ p. refused-term args_lists (omega arith) (refused.full (ap Err p)) refused.limit refused.refused) q
+
+pub returns-clause-is : goal.returns-clause-is
+returns-clause-is c =
+    let old = c.args.cx.now.entries in
+    let new = c.mk_args.new.self.entries in
+    ap (λ (t : Trees). let r : Reference = record { trait = c.args.def_id.index; args = t } in r)
+    (trees-is new args_lists c.in_ok-args.args.0 _ c.in_ok-args.ensures.is ∙ ap (args_trees old) c.in_ok-list.ensures.items ∙ append-none (trees_at old c.args.ty.0))

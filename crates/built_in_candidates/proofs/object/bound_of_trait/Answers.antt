@@ -1,0 +1,57 @@
+use Rattle.std.proofs.Common.{◌<◌, ◌≤◌, ◌-◌, ap, ◌∙◌, subst, Some, Err}
+use Rattle.std.specs.Prelude.{◌==◌}
+use Rattle.std.specs.List.{slice_get}
+use Rattle.model.specs.Trees.{leaf, ◌+++◌}
+use Rattle.model.specs.Rules.{sized}
+use Rattle.model.specs.Worlds.{Reference}
+use Rattle.type_terms.specs.Terms.{trees_at}
+use Rattle.infer_table.proofs.FullFacts.{handed-on}
+use Rattle.evaluation.specs.declared.candidate.BuiltinImplSource.TheVariants.{Misc, Object}
+use Rattle.declarations.specs.Applied.{references_in}
+use Rattle.built_in_candidates.specs.Objects.{Bound, bounds_to}
+use Rattle.built_in_candidates.proofs.Objects.{bound-at, numbered-held, differ, auto-found, sized-left-out, level-found}
+use Rattle.built_in_candidates.proofs.object.bound_of_trait.Goals as goal
+
+pub returns-in_err-bound-clause-full : goal.returns-in_err-bound-clause-full
+returns-in_err-bound-clause-full c = λ q. handed-on c.from_residual.result c.from_residual.ensures.1 (λ p. c.in_err-bound.ensures.full (ap Err p)) q
+
+pub returns-then-place-autos-clause-is : goal.returns-then-place-autos-clause-is
+returns-then-place-autos-clause-is c = λ l h.
+    let es = c.args.cx.now.entries in
+    let S = trees_at es c.args.self_ty.0 in
+    ap (λ (r : Reference). let b : Bound = record { source = Misc; reference = r } in Some b) c.in_ok-bound.ensures.is
+    ∙ auto-found c.args.def_id.index S (trees_at es c.args.bounds.0 +++ leaf l) (references_in es c.args.elaborated.now) c.args.place
+    (subst (λ m. c.args.place < m) (c.count_autos-autos.ensures S l h) c.if-place-autos.true)
+
+pub returns-then-def_id-eq-SIZED-clause-is : goal.returns-then-def_id-eq-SIZED-clause-is
+returns-then-def_id-eq-SIZED-clause-is c = λ l h.
+    let es = c.args.cx.now.entries in
+    let S = trees_at es c.args.self_ty.0 in
+    sized-left-out c.args.def_id.index S (trees_at es c.args.bounds.0 +++ leaf l) (references_in es c.args.elaborated.now) c.args.place
+    (subst (λ m. m ≤ c.args.place) (c.count_autos-autos.ensures S l h) c.if-place-autos.false) (ap (λ n. n == sized) c.if-def_id-eq-SIZED.true)
+
+pub returns-in-Some-clause-held : goal.returns-in-Some-clause-held
+returns-in-Some-clause-held c =
+    numbered-held c.args.cx.now.entries c.args.def_id.index 0 (c.args.place - c.count_autos-autos.result) c.args.elaborated.now c.in-Some.number c.in-Some.bound c.requires.elaborated c.in-Some.ensures
+
+pub returns-in-Some-clause-is : goal.returns-in-Some-clause-is
+returns-in-Some-clause-is c = λ l h.
+    let es = c.args.cx.now.entries in
+    let t = c.args.def_id.index in
+    let S = trees_at es c.args.self_ty.0 in
+    let rs = references_in es c.args.elaborated.now in
+    let count = c.count_autos-autos.ensures S l h in
+    bound-at Object es t 0 (c.args.place - c.count_autos-autos.result) c.args.elaborated.now _ c.in-Some.ensures
+    ∙ ap (λ m. slice_get (bounds_to t Object 0 rs) (c.args.place - m)) count
+    ∙ level-found t S (trees_at es c.args.bounds.0 +++ leaf l) rs c.args.place (subst (λ m. m ≤ c.args.place) count c.if-place-autos.false) (differ t sized c.if-def_id-eq-SIZED.false)
+
+pub returns-in-None-clause-is : goal.returns-in-None-clause-is
+returns-in-None-clause-is c = λ l h.
+    let es = c.args.cx.now.entries in
+    let t = c.args.def_id.index in
+    let S = trees_at es c.args.self_ty.0 in
+    let rs = references_in es c.args.elaborated.now in
+    let count = c.count_autos-autos.ensures S l h in
+    bound-at Object es t 0 (c.args.place - c.count_autos-autos.result) c.args.elaborated.now _ c.in-None.ensures
+    ∙ ap (λ m. slice_get (bounds_to t Object 0 rs) (c.args.place - m)) count
+    ∙ level-found t S (trees_at es c.args.bounds.0 +++ leaf l) rs c.args.place (subst (λ m. m ≤ c.args.place) count c.if-place-autos.false) (differ t sized c.if-def_id-eq-SIZED.false)

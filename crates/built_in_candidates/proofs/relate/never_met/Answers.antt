@@ -1,0 +1,39 @@
+use Rattle.std.proofs.Common.{◌≡◌, ap, arith, Err}
+use Rattle.model.specs.Label.{bool, char, of_type}
+use Rattle.model.specs.Trees.{Trees, leaf}
+use Rattle.type_terms.specs.Terms.{types, trees_at}
+use Rattle.term_folds.specs.Kept.{trees-is, has-later}
+use Rattle.term_folds.proofs.FailFacts.{refused-term}
+use Rattle.infer_table.specs.Values.{Value}
+use Rattle.infer_table.proofs.FullFacts.{handed-on}
+use Rattle.evaluation.specs.FrameTables.{Equation}
+use Rattle.built_in_candidates.proofs.relate.never_met.Goals as goal
+
+pub returns-in_err-bool_ty-clause-full : goal.returns-in_err-bool_ty-clause-full
+returns-in_err-bool_ty-clause-full c = λ q.
+    let refused = c.in_err-bool_ty.ensures in
+    handed-on c.from_residual.result c.from_residual.ensures.1 (λ p. refused-term types (omega arith) (refused.full (ap Err p)) refused.limit refused.refused) q
+
+pub returns-in_err-char_ty-clause-full : goal.returns-in_err-char_ty-clause-full
+returns-in_err-char_ty-clause-full c = λ q.
+    let refused = c.in_err-char_ty.ensures in
+    let handed = c.from_residual-in_err-char_ty in
+    handed-on handed.result handed.ensures.1 (λ p. refused-term types (omega arith) (refused.full (ap Err p)) refused.limit refused.refused) q
+
+pub returns-clause-held : goal.returns-clause-held
+returns-clause-held c =
+    (has-later c.mk_ty.new.self.entries c.mk_ty-2.new.self.entries c.mk_ty-2.ensures.keeps types c.in_ok-bool_ty.bool_ty.0 (_, c.in_ok-bool_ty.ensures.is), (_, c.in_ok-char_ty.ensures.is))
+
+typed : Trees → Value
+typed t = record { sort = of_type; trees = t }
+
+equated : (s t u v : Trees) → s ≡ u → t ≡ v
+    → ◌≡◌ {A = Equation} (record { left = record { sort = of_type; trees = s }; right = record { sort = of_type; trees = t } }) (record { left = record { sort = of_type; trees = u }; right = record { sort = of_type; trees = v } })
+equated s t u v e f = cc
+
+pub returns-clause-is : goal.returns-clause-is
+returns-clause-is c =
+    let new = c.mk_ty-2.new.self.entries in
+    equated (trees_at new c.in_ok-bool_ty.bool_ty.0) (trees_at new c.in_ok-char_ty.char_ty.0) (leaf bool) (leaf char)
+    (trees-is new types c.in_ok-bool_ty.bool_ty.0 _ (c.mk_ty-2.ensures.keeps c.in_ok-bool_ty.bool_ty.0 _ c.in_ok-bool_ty.ensures.is))
+    (trees-is new types c.in_ok-char_ty.char_ty.0 _ c.in_ok-char_ty.ensures.is)

@@ -1,0 +1,22 @@
+use Rattle.std.proofs.Common.{◌≡◌, ◌++◌, length, None, map}
+use Rattle.model.specs.Trees.{instantiate}
+use Rattle.type_terms.specs.Terms.{Keeps, trees_at}
+use Rattle.type_terms.specs.declared.kinds.Ty.{Ty}
+use Rattle.term_folds.specs.Arguments.{first_misfit}
+use Rattle.declarations.specs.Merges.{Each}
+use Rattle.declarations.specs.Unsizing.{field_trees}
+use Rattle.built_in_candidates.specs.Constituents.{TypesHeld}
+use Rattle.built_in_candidates.proofs.structural.fields_with.Given as goal
+
+abbrev pub invariant-fields : goal.invariant-fields
+invariant-fields l = record {
+  keeps : Keeps l.fn.cx.entries l.cx.entries;
+  limit : l.cx.limit ≡ l.fn.cx.limit;
+  left_held : TypesHeld l.fn.cx.entries l.left;
+  left_fit : Each (λ (f : Ty). first_misfit (trees_at l.fn.cx.entries l.fn.args.0) (trees_at l.fn.cx.entries f.0) ≡ None) l.left;
+  found_held : TypesHeld l.cx.entries l.found.items;
+  are : field_trees l.cx.entries l.found.items ++ map (instantiate 0 (trees_at l.fn.cx.entries l.fn.args.0)) (field_trees l.fn.cx.entries l.left) ≡ map (instantiate 0 (trees_at l.fn.cx.entries l.fn.args.0)) (field_trees l.fn.cx.entries l.fn.fields);
+}
+
+abbrev pub decreases-fields : goal.decreases-fields
+decreases-fields l = length l.left

@@ -1,0 +1,20 @@
+use Rattle.std.proofs.Common.{[], ◌∷◌, sym, ap, ◌∙◌, subst}
+use Rattle.model.specs.Rules.{sized, sized_rules, last_asked}
+use Rattle.type_terms.specs.Terms.{types, type_lists}
+use Rattle.term_folds.specs.Kept.{trees-is}
+use Rattle.declarations.specs.Items.{written}
+use Rattle.assembly_laws.specs.Asking.{with_plain_head}
+use Rattle.built_in_candidates.specs.Constituents.{premises_of, types_asked, TypesHeld}
+use Rattle.built_in_candidates.proofs.Trees.{tys-last, held-last}
+use Rattle.built_in_candidates.proofs.structural.instantiate_constituent_tys_for_sized_trait.Goals as goal
+
+pub returns-in_ok-last-in-Tuple-clause-are : goal.returns-in_ok-last-in-Tuple-clause-are
+returns-in_ok-last-in-Tuple-clause-are c =
+    let es = c.args.cx.now.entries in
+    let self = trees-is es types c.args.self_ty.0 _ c.in-Tuple.ensures.is in
+    let list = trees-is es type_lists c.in-Tuple.tys.0 _ c.tys.ensures.is in
+    ap (λ s. premises_of (sized_rules (written es c.args.declarations.now) (with_plain_head s))) self
+    ∙ ap (λ l. l ∷ []) (ap (last_asked sized) list ∙ tys-last es c.lawful.ensures sized c.tys.result.now c.tys.ensures.held ∙ ap (types_asked es sized) (sym c.in_ok-last-in-Tuple.ensures.is))
+
+pub returns-in_ok-last-in-Tuple-clause-held : goal.returns-in_ok-last-in-Tuple-clause-held
+returns-in_ok-last-in-Tuple-clause-held c = subst (TypesHeld c.args.cx.now.entries) (sym c.in_ok-last-in-Tuple.ensures.is) (held-last c.args.cx.now.entries c.tys.result.now c.tys.ensures.held)

@@ -1,0 +1,35 @@
+-- The candidates of built-in rules that read the self type alone, whatever trait the goal asks.
+use Rattle.std.specs.Prelude.{◌≡◌, List}
+use Rattle.model.specs.Worlds.{World}
+use Rattle.model.specs.Rules.{sized_rules, copy_rules, auto_rules, tuple_rules, fn_ptr_rules}
+use Rattle.type_terms.specs.Terms.{Entry, trees_at}
+use Rattle.evaluation.specs.declared.candidate.CandidateSource.TheVariants.{BuiltinImpl}
+use Rattle.evaluation.specs.declared.candidate.BuiltinImplSource.TheVariants.{Trivial}
+use Rattle.declarations.specs.Items.{Items}
+use Rattle.declarations.specs.Merges.{Each}
+use Rattle.assembly_laws.specs.Asking.{Asked, self_of, with_plain_head}
+use Rattle.assembly_laws.specs.Candidates.{Candidate, as_written, misc}
+
+-- Of `Sized`.
+abbrev pub sized_candidates : World → Asked → List Candidate
+sized_candidates V a = as_written V a (BuiltinImpl Trivial) (sized_rules V (self_of a))
+
+-- Of `Copy` and `Clone`.
+abbrev pub copy_candidates : World → Asked → List Candidate
+copy_candidates V a = as_written V a misc (copy_rules a.reference.trait (self_of a))
+
+-- Of an auto trait.
+abbrev pub auto_candidates : World → Asked → List Candidate
+auto_candidates V a = as_written V a misc (auto_rules V a.reference.trait (self_of a))
+
+-- Of `Tuple`.
+abbrev pub tuple_candidates : World → Asked → List Candidate
+tuple_candidates V a = as_written V a misc (tuple_rules (self_of a))
+
+-- Of `FnPtr`.
+abbrev pub fn_ptr_candidates : World → Asked → List Candidate
+fn_ptr_candidates V a = as_written V a misc (fn_ptr_rules (self_of a))
+
+-- No impl's self type binds lifetimes outermost.
+abbrev pub HavePlainHeads : List Entry → Items → Type 0
+HavePlainHeads es d = Each (λ i. with_plain_head (trees_at es i.def.header.args.0) ≡ trees_at es i.def.header.args.0) d.impls

@@ -1,0 +1,48 @@
+-- The candidates by built-in rules, rule after rule.
+use Rattle.std.specs.Prelude.{◌≡◌, ℕ, Bool, ◌||◌, ◌==◌, List, [], ◌∷◌, ◌++◌, Option, Some, None, option_map}
+use Rattle.std.specs.List.{slice_get}
+use Rattle.model.specs.Worlds.{World}
+use Rattle.model.specs.Rules.{sized, clone, copy, tuple_trait, fn_ptr_trait, is_fn_trait, is_auto}
+use Rattle.type_terms.specs.Terms.{Entry}
+use Rattle.evaluation.specs.declared.candidate.CandidateSpec.{CandidateSpec}
+use Rattle.assembly_laws.specs.Asking.{Asked}
+use Rattle.assembly_laws.specs.Candidates.{Candidate, if_so, by_unsize}
+use Rattle.built_in_candidates.specs.declared.built_in_rules.BuiltInRule.{BuiltInRule}
+use Rattle.built_in_candidates.specs.declared.built_in_rules.BuiltInRule.TheVariants.{«Sized» as RSized, CopyClone, AutoTrait, «Tuple» as RTuple, FnPtr, Calls}
+use Rattle.built_in_candidates.specs.BuiltIn.{sized_candidates, copy_candidates, auto_candidates, tuple_candidates, fn_ptr_candidates}
+use Rattle.built_in_candidates.specs.FnPointers.{call_candidates}
+use Rattle.built_in_candidates.specs.Goals.{candidate_of}
+use Rattle.built_in_candidates.specs.Constituents.{candidates_of}
+
+-- The rule speaks of the trait t.
+abbrev pub speaks_of : World → ℕ → BuiltInRule → Bool
+speaks_of V t RSized = t == sized
+speaks_of V t CopyClone = (t == copy) || (t == clone)
+speaks_of V t AutoTrait = is_auto V t
+speaks_of V t RTuple = t == tuple_trait
+speaks_of V t FnPtr = t == fn_ptr_trait
+speaks_of V t Calls = is_fn_trait t
+
+-- The candidates by the rule, whatever trait the goal asks.
+abbrev pub of_rule : World → Asked → BuiltInRule → List Candidate
+of_rule V a RSized = sized_candidates V a
+of_rule V a CopyClone = copy_candidates V a
+of_rule V a AutoTrait = auto_candidates V a
+of_rule V a RTuple = tuple_candidates V a
+of_rule V a FnPtr = fn_ptr_candidates V a
+of_rule V a Calls = call_candidates V a
+
+-- Those for a goal of a trait that it speaks of.
+abbrev pub by_the_rule : World → Asked → BuiltInRule → List Candidate
+by_the_rule V a r = if_so (speaks_of V a.reference.trait r) (of_rule V a r)
+
+-- Those by these rules and, behind them, by the rule of `Unsize`.
+abbrev pub by_rules : World → Asked → List BuiltInRule → List Candidate
+by_rules V a [] = by_unsize V a
+by_rules V a (r ∷ rs) = by_the_rule V a r ++ by_rules V a rs
+
+-- The candidate at this place, among one if it is there and others behind it, is the one at that place among the others; where no place is
+-- given it is the first.
+abbrev pub IsBehind : Option CandidateSpec → ℕ → Option ℕ → Type 0
+IsBehind o n (Some m) = (V : World) (t : ℕ) (es : List Entry) (others : List Candidate) → slice_get (candidates_of V t es o ++ others) n ≡ slice_get others m
+IsBehind o n None = (V : World) (t : ℕ) (es : List Entry) (others : List Candidate) → slice_get (candidates_of V t es o ++ others) n ≡ option_map (candidate_of V t es) o

@@ -1,0 +1,80 @@
+-- `Unsize`: what is read off the self type and the target, and of which goals the candidates can be made.
+use Rattle.std.specs.Prelude.{◌≡◌, Bool, true, false, if◌then◌else◌, List, [], ◌∷◌, ◌++◌, map, Option, Some, None}
+use Rattle.model.specs.Label.{array, slice, adt, dynamic}
+use Rattle.model.specs.Trees.{Trees, none, tree, ◌+++◌, instantiate, outer_binder}
+use Rattle.model.specs.Worlds.{World, Reference}
+use Rattle.model.specs.Rules.{asked, sized, unsize, are_dyn_compatible, principal_with, autos_with}
+use Rattle.type_terms.specs.Terms.{Entry, Has, args_lists, trees_at}
+use Rattle.type_terms.specs.declared.AdtId.{AdtId}
+use Rattle.type_terms.specs.declared.TraitId.{TraitId}
+use Rattle.type_terms.specs.declared.kinds.GenericArgKind.{GenericArgKind}
+use Rattle.type_terms.specs.declared.kinds.GenericArgs.{GenericArgs}
+use Rattle.term_folds.specs.Signatures.{StartsWithType}
+use Rattle.declarations.specs.declared.items.AdtDef.{AdtDef}
+use Rattle.declarations.specs.Applied.{sort_of_param, sorts_of}
+use Rattle.declarations.specs.Items.{Items}
+use Rattle.declarations.specs.Merges.{Each}
+use Rattle.assembly_laws.specs.Asking.{Asked, next_of}
+use Rattle.assembly_laws.specs.Candidates.{Candidate, by_rule, misc, if_so}
+use Rattle.built_in_candidates.specs.Constituents.{AreArguments}
+use Rattle.built_in_candidates.specs.Objects.{AreArgumentsOf}
+
+-- The element of an array, if the first type is one.
+abbrev pub array_element_of : Trees → Option Trees
+array_element_of (tree array (tree l c n) o) = Some (tree l c none)
+array_element_of t = None
+
+-- The element of a slice.
+abbrev pub slice_element_of : Trees → Option Trees
+slice_element_of (tree slice (tree l c n) o) = Some (tree l c none)
+slice_element_of t = None
+
+-- The trees begin with these.
+abbrev pub BeginsWith : Trees → Trees → Type 0
+BeginsWith t x = (rest : Trees) × (t ≡ x +++ rest)
+
+-- ---- structs
+abbrev pub begins_struct : Trees → Bool
+begins_struct (tree (adt s) c o) = true
+begins_struct t = false
+
+-- The struct and its arguments, if the type is one.
+abbrev pub IsStruct : List Entry → Trees → Option (AdtId × GenericArgs) → Type 0
+IsStruct es t None = begins_struct t ≡ false
+IsStruct es t (Some r) = Has es args_lists r.1.0 × (t ≡ tree (adt r.0.index) (trees_at es r.1.0) none)
+
+-- The target's arguments in the places that are flagged.
+abbrev pub replaced : List Bool → List GenericArgKind → List GenericArgKind → List GenericArgKind
+replaced (b ∷ bs) (x ∷ xs) (y ∷ ys) = (if b then y else x) ∷ replaced bs xs ys
+replaced bs xs ys = []
+
+-- The arguments have the sorts of the struct's parameters, and no binder number leads out of them.
+pub record FitsStruct (def : AdtDef) (args : Trees) : Type 0 where
+  pub sorts : sorts_of args ≡ map sort_of_param def.params.items
+  pub closed : outer_binder args ≡ 0
+
+-- A field with the arguments b asked to unsize to itself with the arguments d.
+abbrev pub tail_asked : Trees → Trees → Trees → Reference
+tail_asked b d f = record { trait = unsize; args = instantiate 0 b f +++ instantiate 0 d f }
+
+-- ---- `dyn`
+-- The type asked for each of the traits.
+abbrev pub traits_asked : List TraitId → Trees → List Reference
+traits_asked ts self = map (λ (t : TraitId). asked t.index self) ts
+
+-- The candidate by which a type unsizes to a `dyn` with these bounds and a lifetime, if the principal is dyn compatible.
+abbrev pub to_dyn : World → Asked → Trees → Trees → List Candidate
+to_dyn V a self b =
+    if_so (are_dyn_compatible V (principal_with self b)) (by_rule V a misc [] (principal_with self b ++ (autos_with self b ++ asked sized self ∷ [])) ∷ [])
+
+-- The target, which comes after the self type: if it is a `dyn`, its principal with the self type for Self has an argument for each
+-- parameter, and if it is a struct, so has it.
+abbrev pub TargetIsApplied : Items → Trees → Type 0
+TargetIsApplied d (tree l c (tree dynamic bounds o)) = Each (AreArgumentsOf d) (principal_with (tree l c none) bounds)
+TargetIsApplied d (tree l c (tree (adt s) args o)) = AreArguments d s args
+TargetIsApplied d t = Unit {0}
+
+-- The self type and the target, in this order, of a goal of `Unsize` whose candidates can be made.
+pub record CanUnsize (d : Items) (args : Trees) : Type 0 where
+  pub target : StartsWithType (next_of args)
+  pub applied : TargetIsApplied d args

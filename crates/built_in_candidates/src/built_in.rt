@@ -1,0 +1,238 @@
+//! Candidates by the built-in rules of single traits, and of auto traits.
+ghost use Rattle.std.specs.Prelude.{◌≡◌, List, IfOk, IfSome, Err};
+ghost use Rattle.model.specs.Worlds.{World};
+ghost use Rattle.model.specs.Rules.{Rule, sized, asked};
+ghost use Rattle.type_terms.specs.Terms.{Keeps, Has, types, trees_at};
+ghost use Rattle.term_folds.specs.Failures.{SomeKindIsFull};
+ghost use Rattle.term_folds.specs.Signatures.{StartsWithType};
+ghost use Rattle.infer_table.specs.Goals.{GoalHeld};
+ghost use Rattle.evaluation.specs.Readings.{SpecHeld};
+ghost use Rattle.declarations.specs.Items.{reference_in, written};
+ghost use Rattle.declarations.specs.Held.{ReferenceHeld};
+ghost use Rattle.declarations.specs.Applied.{references_in, AllHeld};
+ghost use Rattle.assembly_laws.specs.Candidates.{as_written};
+ghost use Rattle.built_in_candidates.specs.Goals.{asked_of};
+ghost use Rattle.built_in_candidates.specs.Constituents.{AreConstituents, TypesHeld, CanBeConsidered, types_asked, candidates_of};
+ghost use Rattle.built_in_candidates.specs.BuiltIn.{sized_candidates, copy_candidates, auto_candidates, tuple_candidates, fn_ptr_candidates, HavePlainHeads};
+
+use crate::parts::by_rule;
+use crate::structural::{
+    constituents_for_fn_ptr_trait, constituents_for_tuple_trait,
+    instantiate_constituent_tys_for_auto_trait, instantiate_constituent_tys_for_copy_clone_trait,
+    instantiate_constituent_tys_for_sized_trait,
+};
+use declarations::declarations::Declarations;
+use evaluation::{BuiltinImplSource, CandidateSource, CandidateSpec};
+use infer_table::input::CanonicalInput;
+use std::alloc::Global;
+use term_folds::predicate::TraitRef;
+use type_terms::interner::Interner;
+use type_terms::kinds::{GenericArgKind, Ty};
+use type_terms::{Fault, TraitId};
+
+/// The trait `Sized` of `core`.
+pub const SIZED: u32 = 0;
+
+/// A type asked for a trait without further parameters.
+pub(crate) fn type_asked(
+    alloc: Global,
+    cx: &mut Interner,
+    def_id: TraitId,
+    ty: Ty,
+) -> Result<TraitRef, Fault>
+    requires { Has cx.old.entries types ty.0 }
+    ensures keeps { Keeps cx.old.entries cx.new.entries }
+    ensures limit { cx.new.limit ≡ cx.old.limit }
+    ensures held { IfOk result (ReferenceHeld cx.new.entries) }
+    ensures is { IfOk result (λ r. reference_in cx.new.entries r ≡ asked def_id.index (trees_at cx.old.entries ty.0)) }
+    ensures full { result ≡ Err Fault.Full → SomeKindIsFull cx.new.entries cx.new.limit }
+{
+    let list = vec![in alloc; GenericArgKind::Ty(ty)]?;
+    let args = cx.mk_args(list)?;
+    Ok(TraitRef { def_id, args })
+}
+
+/// Each of the types asked for a trait without further parameters.
+pub(crate) fn types_asked(
+    alloc: Global,
+    cx: &mut Interner,
+    def_id: TraitId,
+    tys: &[Ty],
+) -> Result<Vec<TraitRef>, Fault>
+    requires { TypesHeld cx.old.entries tys.now }
+    ensures keeps { Keeps cx.old.entries cx.new.entries }
+    ensures limit { cx.new.limit ≡ cx.old.limit }
+    ensures held { IfOk result (λ v. AllHeld cx.new.entries v.items) }
+    ensures are { IfOk result (λ v. references_in cx.new.entries v.items ≡ types_asked cx.old.entries def_id.index tys.now) }
+    ensures full { result ≡ Err Fault.Full → SomeKindIsFull cx.new.entries cx.new.limit }
+{
+    let mut found = Vec::new(alloc);
+    let mut left = tys;
+    'tys: while let Some((ty, others)) = left.split_first() {
+        let trait_ref = type_asked(alloc, cx, def_id, *ty)?;
+        found.push(trait_ref)?;
+        left = others;
+    }
+    Ok(found)
+}
+
+/// The candidate that asks the constituents of a type for a trait, if there are any (`probe_and_evaluate_goal_for_constituent_tys`).
+fn for_constituent_tys(
+    alloc: Global,
+    cx: &mut Interner,
+    goal: &CanonicalInput,
+    source: CandidateSource,
+    def_id: TraitId,
+    tys: Option<Vec<Ty>>,
+) -> Result<Option<CandidateSpec>, Fault>
+    requires goal { GoalHeld cx.old.entries goal.now.goal }
+    requires held { IfSome tys (λ v. TypesHeld cx.old.entries v.items) }
+    ensures keeps { Keeps cx.old.entries cx.new.entries }
+    ensures limit { cx.new.limit ≡ cx.old.limit }
+    ensures held { IfOk result (λ o. IfSome o (SpecHeld cx.new.entries)) }
+    ensures is { IfOk result (λ o. (V : World) (us : List Rule) → AreConstituents (λ v. v.items) cx.old.entries def_id.index us tys
+        → candidates_of V goal.now.goal.predicate.trait_ref.def_id.index cx.new.entries o ≡ as_written V (asked_of cx.old.entries goal.now) source us) }
+    ensures full { result ≡ Err Fault.Full → SomeKindIsFull cx.new.entries cx.new.limit }
+{
+    match tys {
+        Some(tys) => {
+            let premises = types_asked(alloc, cx, def_id, &tys)?;
+            let candidate = by_rule(alloc, goal, source, Vec::new(alloc), &premises)?;
+            Ok(Some(candidate))
+        }
+        None => Ok(None),
+    }
+}
+
+/// The candidate by the rule of `Sized`: nothing is asked of scalars, pointers and arrays, the last item of a tuple, and the last field
+/// of a struct (`consider_builtin_sized_candidate`).
+pub fn consider_builtin_sized_candidate(
+    alloc: Global,
+    cx: &mut Interner,
+    declarations: &Declarations,
+    goal: &CanonicalInput,
+) -> Result<Option<CandidateSpec>, Fault>
+    requires { CanBeConsidered cx.old.entries declarations.now goal.now }
+    ensures keeps { Keeps cx.old.entries cx.new.entries }
+    ensures limit { cx.new.limit ≡ cx.old.limit }
+    ensures held { IfOk result (λ o. IfSome o (SpecHeld cx.new.entries)) }
+    ensures is { let V = written cx.old.entries declarations.now in
+        IfOk result (λ o. candidates_of V goal.now.goal.predicate.trait_ref.def_id.index cx.new.entries o ≡ sized_candidates V (asked_of cx.old.entries goal.now)) }
+    ensures full { result ≡ Err Fault.Full → SomeKindIsFull cx.new.entries cx.new.limit }
+{
+    let self_ty = goal.goal.predicate.self_ty(cx);
+    let tys = instantiate_constituent_tys_for_sized_trait(alloc, cx, declarations, self_ty)?;
+    let source = CandidateSource::BuiltinImpl(BuiltinImplSource::Trivial);
+    let def_id = TraitId { index: SIZED };
+    for_constituent_tys(alloc, cx, goal, source, def_id, tys)
+}
+
+/// The candidate by the rule of `Copy` and `Clone`, for `fn` pointers and tuples (`consider_builtin_copy_clone_candidate`).
+pub fn consider_builtin_copy_clone_candidate(
+    alloc: Global,
+    cx: &mut Interner,
+    goal: &CanonicalInput,
+) -> Result<Option<CandidateSpec>, Fault>
+    requires goal { GoalHeld cx.old.entries goal.now.goal }
+    requires first { StartsWithType (trees_at cx.old.entries goal.now.goal.predicate.trait_ref.args.0) }
+    ensures keeps { Keeps cx.old.entries cx.new.entries }
+    ensures limit { cx.new.limit ≡ cx.old.limit }
+    ensures held { IfOk result (λ o. IfSome o (SpecHeld cx.new.entries)) }
+    ensures is { IfOk result (λ o. (V : World) → candidates_of V goal.now.goal.predicate.trait_ref.def_id.index cx.new.entries o ≡ copy_candidates V (asked_of cx.old.entries goal.now)) }
+    ensures full { result ≡ Err Fault.Full → SomeKindIsFull cx.new.entries cx.new.limit }
+{
+    let self_ty = goal.goal.predicate.self_ty(cx);
+    let tys = instantiate_constituent_tys_for_copy_clone_trait(alloc, cx, self_ty)?;
+    let source = CandidateSource::BuiltinImpl(BuiltinImplSource::Misc);
+    for_constituent_tys(
+        alloc,
+        cx,
+        goal,
+        source,
+        goal.goal.predicate.trait_ref.def_id,
+        tys,
+    )
+}
+
+/// The candidate by the rule of `Tuple`, for tuples (`consider_builtin_tuple_candidate`).
+pub fn consider_builtin_tuple_candidate(
+    alloc: Global,
+    cx: &mut Interner,
+    goal: &CanonicalInput,
+) -> Result<Option<CandidateSpec>, Fault>
+    requires goal { GoalHeld cx.old.entries goal.now.goal }
+    requires first { StartsWithType (trees_at cx.old.entries goal.now.goal.predicate.trait_ref.args.0) }
+    ensures keeps { Keeps cx.old.entries cx.new.entries }
+    ensures limit { cx.new.limit ≡ cx.old.limit }
+    ensures held { IfOk result (λ o. IfSome o (SpecHeld cx.new.entries)) }
+    ensures is { IfOk result (λ o. (V : World) → candidates_of V goal.now.goal.predicate.trait_ref.def_id.index cx.new.entries o ≡ tuple_candidates V (asked_of cx.old.entries goal.now)) }
+    ensures full { result ≡ Err Fault.Full → SomeKindIsFull cx.new.entries cx.new.limit }
+{
+    let self_ty = goal.goal.predicate.self_ty(cx);
+    let tys = constituents_for_tuple_trait(alloc, cx, self_ty);
+    let source = CandidateSource::BuiltinImpl(BuiltinImplSource::Misc);
+    for_constituent_tys(
+        alloc,
+        cx,
+        goal,
+        source,
+        goal.goal.predicate.trait_ref.def_id,
+        tys,
+    )
+}
+
+/// The candidate by the rule of `FnPtr`, for `fn` pointers (`consider_builtin_fn_ptr_trait_candidate`).
+pub fn consider_builtin_fn_ptr_trait_candidate(
+    alloc: Global,
+    cx: &mut Interner,
+    goal: &CanonicalInput,
+) -> Result<Option<CandidateSpec>, Fault>
+    requires goal { GoalHeld cx.old.entries goal.now.goal }
+    requires first { StartsWithType (trees_at cx.old.entries goal.now.goal.predicate.trait_ref.args.0) }
+    ensures keeps { Keeps cx.old.entries cx.new.entries }
+    ensures limit { cx.new.limit ≡ cx.old.limit }
+    ensures held { IfOk result (λ o. IfSome o (SpecHeld cx.new.entries)) }
+    ensures is { IfOk result (λ o. (V : World) → candidates_of V goal.now.goal.predicate.trait_ref.def_id.index cx.new.entries o ≡ fn_ptr_candidates V (asked_of cx.old.entries goal.now)) }
+    ensures full { result ≡ Err Fault.Full → SomeKindIsFull cx.new.entries cx.new.limit }
+{
+    let self_ty = goal.goal.predicate.self_ty(cx);
+    let tys = constituents_for_fn_ptr_trait(alloc, cx, self_ty);
+    let source = CandidateSource::BuiltinImpl(BuiltinImplSource::Misc);
+    for_constituent_tys(
+        alloc,
+        cx,
+        goal,
+        source,
+        goal.goal.predicate.trait_ref.def_id,
+        tys,
+    )
+}
+
+/// The candidate by an auto trait's own rule, which asks the types that the self type is made of. Where an impl of the trait is written
+/// for a type of this head there is none (`consider_auto_trait_candidate`).
+pub fn consider_auto_trait_candidate(
+    alloc: Global,
+    cx: &mut Interner,
+    declarations: &Declarations,
+    goal: &CanonicalInput,
+) -> Result<Option<CandidateSpec>, Fault>
+    requires considered { CanBeConsidered cx.old.entries declarations.now goal.now }
+    requires impls { HavePlainHeads cx.old.entries declarations.now }
+    ensures keeps { Keeps cx.old.entries cx.new.entries }
+    ensures limit { cx.new.limit ≡ cx.old.limit }
+    ensures held { IfOk result (λ o. IfSome o (SpecHeld cx.new.entries)) }
+    ensures is { let V = written cx.old.entries declarations.now in
+        IfOk result (λ o. candidates_of V goal.now.goal.predicate.trait_ref.def_id.index cx.new.entries o ≡ auto_candidates V (asked_of cx.old.entries goal.now)) }
+    ensures full { result ≡ Err Fault.Full → SomeKindIsFull cx.new.entries cx.new.limit }
+{
+    let trait_ref = goal.goal.predicate.trait_ref;
+    let self_ty = goal.goal.predicate.self_ty(cx);
+    match declarations.next_relevant_impl(cx, trait_ref.def_id, self_ty, None) {
+        Some(_) => Ok(None),
+        None => {
+            let tys = instantiate_constituent_tys_for_auto_trait(alloc, cx, declarations, self_ty)?;
+            let source = CandidateSource::BuiltinImpl(BuiltinImplSource::Misc);
+            for_constituent_tys(alloc, cx, goal, source, trait_ref.def_id, tys)
+        }
+    }
+}

@@ -1,0 +1,188 @@
+//! The candidates by built-in rules, one after the other.
+ghost use Rattle.std.specs.Prelude.{◌≡◌, ◌==◌, true, List, IfOk, IfSome, Err, option_map};
+ghost use Rattle.std.specs.List.{slice_get};
+ghost use Rattle.model.specs.Rules.{unsize, is_auto};
+ghost use Rattle.type_terms.specs.Terms.{Keeps, Entry, trees_at};
+ghost use Rattle.term_folds.specs.Failures.{SomeKindIsFull};
+ghost use Rattle.evaluation.specs.Readings.{SpecHeld};
+ghost use Rattle.declarations.specs.Items.{written};
+ghost use Rattle.declarations.specs.Applied.{HaveBounds};
+ghost use Rattle.assembly_laws.specs.Asking.{self_of};
+ghost use Rattle.assembly_laws.specs.Candidates.{built_in};
+ghost use Rattle.built_in_candidates.specs.Goals.{asked_of, candidate_of};
+ghost use Rattle.built_in_candidates.specs.Constituents.{CanBeConsidered, candidates_of};
+ghost use Rattle.built_in_candidates.specs.BuiltIn.{HavePlainHeads};
+ghost use Rattle.built_in_candidates.specs.Objects.{ObjectIsApplied};
+ghost use Rattle.built_in_candidates.specs.Unsizing.{CanUnsize};
+ghost use Rattle.built_in_candidates.specs.BuiltInRules.{speaks_of, of_rule, by_the_rule, IsBehind};
+
+use crate::built_in::{
+    SIZED, consider_auto_trait_candidate, consider_builtin_copy_clone_candidate,
+    consider_builtin_fn_ptr_trait_candidate, consider_builtin_sized_candidate,
+    consider_builtin_tuple_candidate,
+};
+use crate::calls::consider_builtin_fn_trait_candidates;
+use crate::unsize::consider_builtin_unsize_candidate;
+use declarations::declarations::Declarations;
+use evaluation::CandidateSpec;
+use infer_table::input::CanonicalInput;
+use std::alloc::Global;
+use type_terms::interner::Interner;
+use type_terms::{Fault, TraitId};
+
+/// `Clone`, `Copy`, `Tuple`, `FnPtr`, `FnOnce`, `FnMut` and `Fn` of `core`.
+const CLONE: u32 = 1;
+
+const COPY: u32 = 2;
+
+const TUPLE: u32 = 3;
+
+const FN_PTR: u32 = 4;
+
+const FN_ONCE: u32 = 5;
+
+const FN_MUT: u32 = 6;
+
+const FN: u32 = 7;
+
+/// The built-in rules that make one candidate at most.
+#[derive(Clone, Copy)]
+enum BuiltInRule {
+    Sized,
+    CopyClone,
+    AutoTrait,
+    Tuple,
+    FnPtr,
+    Calls,
+}
+
+/// Whether the trait is an auto trait (`trait_is_auto`).
+pub fn is_auto(declarations: &Declarations, def_id: TraitId) -> bool
+    ensures { (es : List Entry) → result ≡ is_auto (written es declarations.now) def_id.index }
+{
+    match declarations.trait_def(def_id) {
+        Some(def) => def.is_auto,
+        None => false,
+    }
+}
+
+/// Whether the trait is one that the rule speaks of.
+fn speaks_of(declarations: &Declarations, rule: BuiltInRule, def_id: TraitId) -> bool
+    ensures { (es : List Entry) → result ≡ speaks_of (written es declarations.now) def_id.index rule }
+{
+    let number = def_id.index;
+    match rule {
+        BuiltInRule::Sized => number == SIZED,
+        BuiltInRule::CopyClone => number == COPY || number == CLONE,
+        BuiltInRule::AutoTrait => is_auto(declarations, def_id),
+        BuiltInRule::Tuple => number == TUPLE,
+        BuiltInRule::FnPtr => number == FN_PTR,
+        BuiltInRule::Calls => number == FN_ONCE || (number == FN_MUT || number == FN),
+    }
+}
+
+/// The candidate by the rule, for a goal of a trait that it speaks of.
+fn consider_rule_for(
+    alloc: Global,
+    cx: &mut Interner,
+    declarations: &Declarations,
+    goal: &CanonicalInput,
+    rule: BuiltInRule,
+) -> Result<Option<CandidateSpec>, Fault>
+    requires considered { CanBeConsidered cx.old.entries declarations.now goal.now }
+    requires impls { HavePlainHeads cx.old.entries declarations.now }
+    ensures keeps { Keeps cx.old.entries cx.new.entries }
+    ensures limit { cx.new.limit ≡ cx.old.limit }
+    ensures held { IfOk result (λ o. IfSome o (SpecHeld cx.new.entries)) }
+    ensures is { let V = written cx.old.entries declarations.now in
+        IfOk result (λ o. candidates_of V goal.now.goal.predicate.trait_ref.def_id.index cx.new.entries o ≡ of_rule V (asked_of cx.old.entries goal.now) rule) }
+    ensures full { result ≡ Err Fault.Full → SomeKindIsFull cx.new.entries cx.new.limit }
+{
+    match rule {
+        BuiltInRule::Sized => consider_builtin_sized_candidate(alloc, cx, declarations, goal),
+        BuiltInRule::CopyClone => consider_builtin_copy_clone_candidate(alloc, cx, goal),
+        BuiltInRule::AutoTrait => consider_auto_trait_candidate(alloc, cx, declarations, goal),
+        BuiltInRule::Tuple => consider_builtin_tuple_candidate(alloc, cx, goal),
+        BuiltInRule::FnPtr => consider_builtin_fn_ptr_trait_candidate(alloc, cx, goal),
+        BuiltInRule::Calls => consider_builtin_fn_trait_candidates(alloc, cx, goal),
+    }
+}
+
+/// The candidate by the rule, if it makes one of the goal.
+fn consider_rule(
+    alloc: Global,
+    cx: &mut Interner,
+    declarations: &Declarations,
+    goal: &CanonicalInput,
+    rule: BuiltInRule,
+) -> Result<Option<CandidateSpec>, Fault>
+    requires considered { CanBeConsidered cx.old.entries declarations.now goal.now }
+    requires impls { HavePlainHeads cx.old.entries declarations.now }
+    ensures keeps { Keeps cx.old.entries cx.new.entries }
+    ensures limit { cx.new.limit ≡ cx.old.limit }
+    ensures held { IfOk result (λ o. IfSome o (SpecHeld cx.new.entries)) }
+    ensures is { let V = written cx.old.entries declarations.now in
+        IfOk result (λ o. candidates_of V goal.now.goal.predicate.trait_ref.def_id.index cx.new.entries o ≡ by_the_rule V (asked_of cx.old.entries goal.now) rule) }
+    ensures full { result ≡ Err Fault.Full → SomeKindIsFull cx.new.entries cx.new.limit }
+{
+    if speaks_of(declarations, rule, goal.goal.predicate.trait_ref.def_id) {
+        consider_rule_for(alloc, cx, declarations, goal, rule)
+    } else {
+        Ok(None)
+    }
+}
+
+/// The place behind the candidate, if it isn't the candidate's own.
+fn place_behind(candidate: &Option<CandidateSpec>, place: usize) -> Option<usize>
+    ensures { IsBehind candidate.now place result }
+{
+    match candidate {
+        Some(_) => { if place == 0 { None } else { Some(place - 1) } }
+        None => Some(place),
+    }
+}
+
+/// The candidate at this place among those by built-in rules, if there is one (`assemble_builtin_impl_candidates`).
+///
+/// No goal has many of them: a rule is that of a trait, beside which the trait may be an auto trait, and only upcasts make more than one.
+pub fn consider_builtin_candidate(
+    alloc: Global,
+    cx: &mut Interner,
+    declarations: &Declarations,
+    goal: &CanonicalInput,
+    place: usize,
+) -> Result<Option<CandidateSpec>, Fault>
+    requires considered { CanBeConsidered cx.old.entries declarations.now goal.now }
+    requires impls { HavePlainHeads cx.old.entries declarations.now }
+    requires bounds { HaveBounds cx.old.entries declarations.now }
+    requires object { ObjectIsApplied declarations.now (trees_at cx.old.entries goal.now.goal.predicate.trait_ref.args.0) }
+    requires unsizing { (goal.now.goal.predicate.trait_ref.def_id.index == unsize) ≡ true → CanUnsize declarations.now (self_of (asked_of cx.old.entries goal.now)) }
+    ensures keeps { Keeps cx.old.entries cx.new.entries }
+    ensures limit { cx.new.limit ≡ cx.old.limit }
+    ensures held { IfOk result (λ o. IfSome o (SpecHeld cx.new.entries)) }
+    ensures is { let V = written cx.old.entries declarations.now in let a = asked_of cx.old.entries goal.now in
+        IfOk result (λ o. option_map (candidate_of V a.reference.trait cx.new.entries) o ≡ slice_get (built_in V a) place) }
+    ensures full { result ≡ Err Fault.Full → SomeKindIsFull cx.new.entries cx.new.limit }
+{
+    let rules = [
+        BuiltInRule::Sized,
+        BuiltInRule::CopyClone,
+        BuiltInRule::AutoTrait,
+        BuiltInRule::Tuple,
+        BuiltInRule::FnPtr,
+        BuiltInRule::Calls,
+    ];
+    let mut before = place;
+    let mut left: &[BuiltInRule] = &rules;
+    'rules: while let Some((rule, others)) = left.split_first() {
+        let candidate = consider_rule(alloc, cx, declarations, goal, *rule)?;
+        match place_behind(&candidate, before) {
+            Some(place) => {
+                before = place;
+                left = others;
+            }
+            None => return Ok(candidate),
+        }
+    }
+    consider_builtin_unsize_candidate(alloc, cx, declarations, goal, before)
+}

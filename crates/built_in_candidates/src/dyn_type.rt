@@ -1,0 +1,229 @@
+//! `dyn` types: what they are written with, their principal with a self type put in, and its supertraits.
+ghost use Rattle.std.specs.Prelude.{◌≡◌, ◌==◌, List, length, filter, count_by, IfOk, Err};
+ghost use Rattle.std.specs.List.{list_any, slice_get};
+ghost use Rattle.model.specs.Trees.{Trees, ◌+++◌};
+ghost use Rattle.model.specs.Rules.{principal_with, autos_with, are_declared, are_dyn_compatible};
+ghost use Rattle.type_terms.specs.Terms.{Keeps, Has, Entry, types, args_lists, bounds_lists, trees_at};
+ghost use Rattle.term_folds.specs.Failures.{SomeKindIsFull};
+ghost use Rattle.evaluation.specs.Merge.{if_there};
+ghost use Rattle.declarations.specs.Items.{written};
+ghost use Rattle.declarations.specs.Held.{AreHeld};
+ghost use Rattle.declarations.specs.Merges.{Each};
+ghost use Rattle.declarations.specs.Applied.{references_in, AllHeld, AreApplied, HaveBounds};
+ghost use Rattle.declarations.specs.Elaboration.{elaborate};
+ghost use Rattle.built_in_candidates.specs.Objects.{AreArgumentsOf, AreBoundsOf, WithLifetime, numbered_to};
+
+use crate::built_in::SIZED;
+use declarations::declarations::Declarations;
+use std::alloc::Global;
+use term_folds::predicate::TraitRef;
+use type_terms::interner::Interner;
+use type_terms::kinds::{Bounds, GenericArgKind, GenericArgs, Ty, TyKind};
+use type_terms::{Fault, TraitId};
+
+/// The bounds of a `dyn`, if the type is one.
+pub fn dyn_bounds(cx: &Interner, ty: Ty) -> Option<Bounds>
+    requires { Has cx.now.entries types ty.0 }
+    ensures { AreBoundsOf cx.now.entries (trees_at cx.now.entries ty.0) result }
+{
+    match cx.kind(ty) {
+        TyKind::Dynamic(bounds, _) => Some(bounds),
+        TyKind::Bool
+        | TyKind::Char
+        | TyKind::Int(_)
+        | TyKind::Uint(_)
+        | TyKind::Str
+        | TyKind::Never
+        | TyKind::Adt(_, _)
+        | TyKind::Ref(_, _, _)
+        | TyKind::RawPtr(_, _)
+        | TyKind::Array(_, _)
+        | TyKind::Slice(_)
+        | TyKind::Tuple(_)
+        | TyKind::FnPtr(_, _)
+        | TyKind::Param(_)
+        | TyKind::Placeholder(_)
+        | TyKind::Bound(_, _)
+        | TyKind::Infer(_) => None,
+    }
+}
+
+/// The arguments behind a self type.
+fn args_with_self(
+    alloc: Global,
+    cx: &mut Interner,
+    self_ty: Ty,
+    args: GenericArgs,
+) -> Result<GenericArgs, Fault>
+    requires self_held { Has cx.old.entries types self_ty.0 }
+    requires args { Has cx.old.entries args_lists args.0 }
+    ensures keeps { Keeps cx.old.entries cx.new.entries }
+    ensures limit { cx.new.limit ≡ cx.old.limit }
+    ensures held { IfOk result (λ r. Has cx.new.entries args_lists r.0) }
+    ensures are { IfOk result (λ r. trees_at cx.new.entries r.0 ≡ trees_at cx.old.entries self_ty.0 +++ trees_at cx.old.entries args.0) }
+    ensures full { result ≡ Err Fault.Full → SomeKindIsFull cx.new.entries cx.new.limit }
+{
+    let mut list = vec![in alloc; GenericArgKind::Ty(self_ty)]?;
+    list.extend_from_slice(cx.args(args))?;
+    let args = cx.mk_args(list)?;
+    Ok(args)
+}
+
+/// The principal of a `dyn` as a reference with this self type, if it has one: of `dyn Conv<u8> + Send`, with `T`, it is `T: Conv<u8>`
+/// (`with_self_ty`).
+pub(crate) fn principal_with(
+    alloc: Global,
+    cx: &mut Interner,
+    self_ty: Ty,
+    bounds: Bounds,
+) -> Result<Option<TraitRef>, Fault>
+    requires self_held { Has cx.old.entries types self_ty.0 }
+    requires bounds { Has cx.old.entries bounds_lists bounds.0 }
+    ensures keeps { Keeps cx.old.entries cx.new.entries }
+    ensures limit { cx.new.limit ≡ cx.old.limit }
+    ensures held { IfOk result (λ o. AllHeld cx.new.entries (if_there o)) }
+    ensures is { IfOk result (λ o. WithLifetime cx.old.entries bounds (λ b. references_in cx.new.entries (if_there o) ≡ principal_with (trees_at cx.old.entries self_ty.0) b)) }
+    ensures full { result ≡ Err Fault.Full → SomeKindIsFull cx.new.entries cx.new.limit }
+{
+    match cx.bounds(bounds).principal {
+        Some(principal) => {
+            let args = args_with_self(alloc, cx, self_ty, principal.args)?;
+            let def_id = principal.def_id;
+            Ok(Some(TraitRef { def_id, args }))
+        }
+        None => Ok(None),
+    }
+}
+
+/// The principal with its supertraits through all levels, if there is one.
+fn elaborate_principal(
+    alloc: Global,
+    cx: &mut Interner,
+    declarations: &Declarations,
+    principal: Option<TraitRef>,
+) -> Result<Vec<TraitRef>, Fault>
+    requires declared { AreHeld cx.old.entries declarations.now }
+    requires bounds { HaveBounds cx.old.entries declarations.now }
+    requires held { AllHeld cx.old.entries (if_there principal) }
+    requires applied { AreApplied cx.old.entries declarations.now (if_there principal) }
+    ensures keeps { Keeps cx.old.entries cx.new.entries }
+    ensures limit { cx.new.limit ≡ cx.old.limit }
+    ensures held { IfOk result (λ v. AllHeld cx.new.entries v.items) }
+    ensures are { IfOk result (λ v. references_in cx.new.entries v.items ≡ elaborate (written cx.old.entries declarations.now) (references_in cx.old.entries (if_there principal))) }
+    ensures full { result ≡ Err Fault.Full → SomeKindIsFull cx.new.entries cx.new.limit }
+{
+    match principal {
+        Some(trait_ref) => declarations.elaborate(alloc, cx, &[trait_ref]),
+        None => Ok(Vec::new(alloc)),
+    }
+}
+
+/// The principal of a `dyn` with the `dyn` as Self, if it has one, and the same with its supertraits.
+#[derive(Drop)]
+pub(crate) struct Elaborated {
+    pub principal: Option<TraitRef>,
+    pub elaborated: Vec<TraitRef>,
+}
+
+/// The principal of a `dyn` with this self type, if it has one, and the same with its supertraits through all levels.
+pub(crate) fn elaborated_principal(
+    alloc: Global,
+    cx: &mut Interner,
+    declarations: &Declarations,
+    self_ty: Ty,
+    bounds: Bounds,
+) -> Result<Elaborated, Fault>
+    requires declared { AreHeld cx.old.entries declarations.now }
+    requires traits { HaveBounds cx.old.entries declarations.now }
+    requires self_held { Has cx.old.entries types self_ty.0 }
+    requires bounds { Has cx.old.entries bounds_lists bounds.0 }
+    requires applied { WithLifetime cx.old.entries bounds (λ b. Each (AreArgumentsOf declarations.now) (principal_with (trees_at cx.old.entries self_ty.0) b)) }
+    ensures keeps { Keeps cx.old.entries cx.new.entries }
+    ensures limit { cx.new.limit ≡ cx.old.limit }
+    ensures principal_held { IfOk result (λ e. AllHeld cx.new.entries (if_there e.principal)) }
+    ensures principal { IfOk result (λ e. WithLifetime cx.old.entries bounds (λ b. references_in cx.new.entries (if_there e.principal) ≡ principal_with (trees_at cx.old.entries self_ty.0) b)) }
+    ensures held { IfOk result (λ e. AllHeld cx.new.entries e.elaborated.items) }
+    ensures elaborated { let V = written cx.old.entries declarations.now in
+        IfOk result (λ e. WithLifetime cx.old.entries bounds (λ b. references_in cx.new.entries e.elaborated.items ≡ elaborate V (principal_with (trees_at cx.old.entries self_ty.0) b))) }
+    ensures full { result ≡ Err Fault.Full → SomeKindIsFull cx.new.entries cx.new.limit }
+{
+    let principal = principal_with(alloc, cx, self_ty, bounds)?;
+    let elaborated = elaborate_principal(alloc, cx, declarations, principal)?;
+    Ok(Elaborated {
+        principal,
+        elaborated,
+    })
+}
+
+/// Whether the trait of the principal is declared, if there is one.
+pub(crate) fn is_declared(declarations: &Declarations, principal: Option<TraitRef>) -> bool
+    ensures { (es now : List Entry) → result ≡ are_declared (written es declarations.now) (references_in now (if_there principal)) }
+{
+    match principal {
+        Some(trait_ref) => match declarations.trait_def(trait_ref.def_id) {
+            Some(_) => true,
+            None => false,
+        },
+        None => true,
+    }
+}
+
+/// Whether one of the references is to the trait.
+pub(crate) fn has_trait(references: &[TraitRef], def_id: TraitId) -> bool
+    ensures { result ≡ list_any (λ r. r.def_id.index == def_id.index) references.now }
+{
+    references
+        .iter()
+        .any(|other| other.def_id.index == def_id.index)
+}
+
+/// Whether the principal, if there is one, is dyn compatible: it is declared, and `Sized` is neither it nor one of its supertraits
+/// (`trait_is_dyn_compatible`). `elaborated` is the principal with its supertraits.
+pub(crate) fn is_dyn_compatible(
+    declarations: &Declarations,
+    principal: Option<TraitRef>,
+    elaborated: &[TraitRef],
+) -> bool
+    ensures { (es now : List Entry) → let V = written es declarations.now in let ps = references_in now (if_there principal) in
+        HaveBounds es declarations.now → references_in now elaborated.now ≡ elaborate V ps → result ≡ are_dyn_compatible V ps }
+{
+    is_declared(declarations, principal) && !has_trait(elaborated, TraitId { index: SIZED })
+}
+
+/// How many of the traits are this one.
+fn count_of(autos: &[TraitId], def_id: TraitId) -> usize
+    ensures { result ≡ count_by (λ x. x.index == def_id.index) autos.now }
+{
+    autos
+        .iter()
+        .filter(|auto| auto.index == def_id.index)
+        .count()
+}
+
+/// How many of the auto traits that a `dyn` is written with are this one: one, or none.
+pub(crate) fn count_autos(cx: &Interner, bounds: Bounds, def_id: TraitId) -> usize
+    requires { Has cx.now.entries bounds_lists bounds.0 }
+    ensures { (self : Trees) → WithLifetime cx.now.entries bounds (λ b. result ≡ length (filter (λ r. r.trait == def_id.index) (autos_with self b))) }
+{
+    count_of(&cx.bounds(bounds).autos, def_id)
+}
+
+/// The reference at this place among those to the trait, with its number in the list.
+pub(crate) fn reference_at(
+    references: &[TraitRef],
+    def_id: TraitId,
+    place: usize,
+) -> Option<(usize, TraitRef)>
+    ensures { result ≡ slice_get (numbered_to def_id.index 0 references.now) place }
+{
+    let mut before = place;
+    'references: for (number, trait_ref) in references.iter().enumerate() {
+        if trait_ref.def_id.index == def_id.index {
+            if before == 0 {
+                return Some((number, *trait_ref));
+            }
+            before -= 1;
+        }
+    }
+    None
+}

@@ -1,0 +1,176 @@
+//! Candidates by the bounds of the `dyn` that is the self type.
+ghost use Rattle.std.specs.Prelude.{◌≡◌, IfOk, IfSome, Err, option_map};
+ghost use Rattle.std.specs.List.{slice_get};
+ghost use Rattle.model.specs.Rules.{principal_with};
+ghost use Rattle.type_terms.specs.Terms.{Keeps, Has, types, bounds_lists, trees_at};
+ghost use Rattle.term_folds.specs.Failures.{SomeKindIsFull};
+ghost use Rattle.term_folds.specs.Signatures.{StartsWithType};
+ghost use Rattle.infer_table.specs.Goals.{GoalHeld};
+ghost use Rattle.evaluation.specs.Readings.{SpecHeld};
+ghost use Rattle.evaluation.specs.declared.candidate.CandidateSource.TheVariants.{BuiltinImpl};
+ghost use Rattle.declarations.specs.Items.{reference_in, written};
+ghost use Rattle.declarations.specs.Held.{AreHeld, ReferenceHeld};
+ghost use Rattle.declarations.specs.Merges.{Each};
+ghost use Rattle.declarations.specs.Applied.{references_in, AllHeld, IsApplied, HaveBounds};
+ghost use Rattle.declarations.specs.Elaboration.{supertraits};
+ghost use Rattle.assembly_laws.specs.Candidates.{all_equal, by_rule, by_objects};
+ghost use Rattle.built_in_candidates.specs.Goals.{asked_of, candidate_of};
+ghost use Rattle.built_in_candidates.specs.Objects.{ObjectIsApplied, AreArgumentsOf, WithLifetime, bound_in, object_bounds, written_and_elaborated};
+
+use crate::built_in::{SIZED, type_asked};
+use crate::dyn_type::{
+    count_autos, dyn_bounds, elaborated_principal, is_dyn_compatible, reference_at,
+};
+use crate::parts::by_rule;
+use crate::relate::relate_args;
+use declarations::declarations::Declarations;
+use evaluation::{BuiltinImplSource, CandidateSource, CandidateSpec};
+use infer_table::input::CanonicalInput;
+use std::alloc::Global;
+use term_folds::predicate::TraitRef;
+use type_terms::interner::Interner;
+use type_terms::kinds::{Bounds, Ty};
+use type_terms::{Fault, TraitId};
+
+/// The bound at this place among those of the trait: the auto traits that the `dyn` is written with, and then its principal with the
+/// supertraits. `Sized` is none of the latter.
+fn bound_of_trait(
+    alloc: Global,
+    cx: &mut Interner,
+    def_id: TraitId,
+    self_ty: Ty,
+    bounds: Bounds,
+    elaborated: &[TraitRef],
+    place: usize,
+) -> Result<Option<(BuiltinImplSource, TraitRef)>, Fault>
+    requires self_held { Has cx.old.entries types self_ty.0 }
+    requires bounds { Has cx.old.entries bounds_lists bounds.0 }
+    requires elaborated { AllHeld cx.old.entries elaborated.now }
+    ensures keeps { Keeps cx.old.entries cx.new.entries }
+    ensures limit { cx.new.limit ≡ cx.old.limit }
+    ensures held { IfOk result (λ o. IfSome o (λ x. ReferenceHeld cx.new.entries x.1)) }
+    ensures is { IfOk result (λ o. WithLifetime cx.old.entries bounds (λ b. option_map (bound_in cx.new.entries) o
+        ≡ slice_get (written_and_elaborated def_id.index (trees_at cx.old.entries self_ty.0) b (references_in cx.old.entries elaborated.now)) place)) }
+    ensures full { result ≡ Err Fault.Full → SomeKindIsFull cx.new.entries cx.new.limit }
+{
+    let autos = count_autos(cx, bounds, def_id);
+    if place < autos {
+        let bound = type_asked(alloc, cx, def_id, self_ty)?;
+        return Ok(Some((BuiltinImplSource::Misc, bound)));
+    }
+    if def_id.index == SIZED {
+        return Ok(None);
+    }
+    match reference_at(elaborated, def_id, place - autos) {
+        Some((number, bound)) => Ok(Some((BuiltinImplSource::Object(number), bound))),
+        None => Ok(None),
+    }
+}
+
+/// The bound of a `dyn` at this place among those of the trait, if the `dyn` is dyn compatible.
+fn object_bound_at(
+    alloc: Global,
+    cx: &mut Interner,
+    declarations: &Declarations,
+    def_id: TraitId,
+    self_ty: Ty,
+    bounds: Bounds,
+    place: usize,
+) -> Result<Option<(BuiltinImplSource, TraitRef)>, Fault>
+    requires declared { AreHeld cx.old.entries declarations.now }
+    requires traits { HaveBounds cx.old.entries declarations.now }
+    requires self_held { Has cx.old.entries types self_ty.0 }
+    requires bounds { Has cx.old.entries bounds_lists bounds.0 }
+    requires applied { WithLifetime cx.old.entries bounds (λ b. Each (AreArgumentsOf declarations.now) (principal_with (trees_at cx.old.entries self_ty.0) b)) }
+    ensures keeps { Keeps cx.old.entries cx.new.entries }
+    ensures limit { cx.new.limit ≡ cx.old.limit }
+    ensures held { IfOk result (λ o. IfSome o (λ x. ReferenceHeld cx.new.entries x.1)) }
+    ensures is { let V = written cx.old.entries declarations.now in
+        IfOk result (λ o. WithLifetime cx.old.entries bounds (λ b. option_map (bound_in cx.new.entries) o
+        ≡ slice_get (object_bounds V def_id.index (trees_at cx.old.entries self_ty.0) b) place)) }
+    ensures full { result ≡ Err Fault.Full → SomeKindIsFull cx.new.entries cx.new.limit }
+{
+    let from = elaborated_principal(alloc, cx, declarations, self_ty, bounds)?;
+    if is_dyn_compatible(declarations, from.principal, &from.elaborated) {
+        bound_of_trait(alloc, cx, def_id, self_ty, bounds, &from.elaborated, place)
+    } else {
+        Ok(None)
+    }
+}
+
+/// The candidate by a bound of a `dyn`: the goal's arguments are those of the bound, and the goal's supertraits are asked
+/// (`probe_and_consider_object_bound_candidate`).
+fn bound_candidate(
+    alloc: Global,
+    cx: &mut Interner,
+    declarations: &Declarations,
+    goal: &CanonicalInput,
+    source: BuiltinImplSource,
+    bound: TraitRef,
+) -> Result<CandidateSpec, Fault>
+    requires goal { GoalHeld cx.old.entries goal.now.goal }
+    requires declared { AreHeld cx.old.entries declarations.now }
+    requires traits { HaveBounds cx.old.entries declarations.now }
+    requires applied { IsApplied cx.old.entries declarations.now goal.now.goal.predicate.trait_ref }
+    requires bound { ReferenceHeld cx.old.entries bound }
+    ensures keeps { Keeps cx.old.entries cx.new.entries }
+    ensures limit { cx.new.limit ≡ cx.old.limit }
+    ensures held { IfOk result (SpecHeld cx.new.entries) }
+    ensures is { let V = written cx.old.entries declarations.now in let a = asked_of cx.old.entries goal.now in
+        IfOk result (λ s. candidate_of V a.reference.trait cx.new.entries s
+        ≡ by_rule V a (BuiltinImpl source) (all_equal a.reference.args (reference_in cx.old.entries bound).args) (supertraits V a.reference)) }
+    ensures full { result ≡ Err Fault.Full → SomeKindIsFull cx.new.entries cx.new.limit }
+{
+    let asked = goal.goal.predicate.trait_ref;
+    let supertraits = declarations.supertraits(alloc, cx, asked)?;
+    let equations = relate_args(alloc, cx, asked.args, bound.args)?;
+    let source = CandidateSource::BuiltinImpl(source);
+    by_rule(alloc, goal, source, equations, &supertraits)
+}
+
+/// The candidate by the bound at this place among those of the goal's trait, where the self type is a `dyn`, if there is one. The
+/// auto traits that it is written with come first, and then its principal and the supertraits, each numbered
+/// (`consider_object_bound_candidate`).
+pub fn consider_object_bound_candidate(
+    alloc: Global,
+    cx: &mut Interner,
+    declarations: &Declarations,
+    goal: &CanonicalInput,
+    place: usize,
+) -> Result<Option<CandidateSpec>, Fault>
+    requires goal { GoalHeld cx.old.entries goal.now.goal }
+    requires first { StartsWithType (trees_at cx.old.entries goal.now.goal.predicate.trait_ref.args.0) }
+    requires declared { AreHeld cx.old.entries declarations.now }
+    requires bounds { HaveBounds cx.old.entries declarations.now }
+    requires applied { IsApplied cx.old.entries declarations.now goal.now.goal.predicate.trait_ref }
+    requires object { ObjectIsApplied declarations.now (trees_at cx.old.entries goal.now.goal.predicate.trait_ref.args.0) }
+    ensures keeps { Keeps cx.old.entries cx.new.entries }
+    ensures limit { cx.new.limit ≡ cx.old.limit }
+    ensures held { IfOk result (λ o. IfSome o (SpecHeld cx.new.entries)) }
+    ensures is { let V = written cx.old.entries declarations.now in let a = asked_of cx.old.entries goal.now in
+        IfOk result (λ o. option_map (candidate_of V a.reference.trait cx.new.entries) o ≡ slice_get (by_objects V a) place) }
+    ensures full { result ≡ Err Fault.Full → SomeKindIsFull cx.new.entries cx.new.limit }
+{
+    let asked = goal.goal.predicate.trait_ref;
+    let self_ty = asked.self_ty(cx);
+    match dyn_bounds(cx, self_ty) {
+        Some(bounds) => {
+            match object_bound_at(
+                alloc,
+                cx,
+                declarations,
+                asked.def_id,
+                self_ty,
+                bounds,
+                place,
+            )? {
+                Some((source, bound)) => {
+                    let candidate = bound_candidate(alloc, cx, declarations, goal, source, bound)?;
+                    Ok(Some(candidate))
+                }
+                None => Ok(None),
+            }
+        }
+        None => Ok(None),
+    }
+}

@@ -1,0 +1,103 @@
+//! Parts of candidates.
+ghost use Rattle.std.specs.Prelude.{◌≡◌, Bool, List, IfOk, IfErr, map, []};
+ghost use Rattle.type_terms.specs.Terms.{Entry};
+ghost use Rattle.type_terms.specs.declared.Fault.TheVariants.{Memory};
+ghost use Rattle.infer_table.specs.Goals.{GoalHeld};
+ghost use Rattle.model.specs.Worlds.{World};
+ghost use Rattle.evaluation.specs.Lists.{Every};
+ghost use Rattle.evaluation.specs.Readings.{SpecHeld, EquationHeld, is_coinductive_step};
+ghost use Rattle.goal_frames.specs.Readings.{nested_read, spec_read, equation_read};
+ghost use Rattle.declarations.specs.Items.{reference_in};
+ghost use Rattle.declarations.specs.Held.{ReferenceHeld};
+ghost use Rattle.declarations.specs.Applied.{references_in, AllHeld};
+ghost use Rattle.assembly_laws.specs.Candidates.{premise, by_rule, unsure};
+ghost use Rattle.built_in_candidates.specs.Goals.{asked_of, candidate_of, nested_of, NestedHeld};
+
+use evaluation::{
+    BuiltinImplSource, CandidateSource, CandidateSpec, Certainty, Goal, GoalSource, MaybeCause,
+};
+use infer_table::input::CanonicalInput;
+use infer_table::terms::Equation;
+use std::alloc::Global;
+use term_folds::predicate::{TraitPredicate, TraitRef};
+use type_terms::Fault;
+
+/// A reference as a nested goal, under the goal's where-clauses. The error is `Memory`.
+fn nested_goal(
+    alloc: Global,
+    goal: &CanonicalInput,
+    source: GoalSource,
+    trait_ref: TraitRef,
+) -> Result<(GoalSource, Goal), Fault>
+    ensures is { IfOk result (λ n. (es : List Entry) (kind : Bool) → nested_read es kind n ≡ premise (asked_of es goal.now) (is_coinductive_step kind source) (reference_in es trait_ref)) }
+    ensures held { IfOk result (λ n. (es : List Entry) → GoalHeld es goal.now.goal → ReferenceHeld es trait_ref → GoalHeld es n.1) }
+    ensures memory { IfErr result (λ fault. fault ≡ Memory) }
+{
+    let goal = Goal {
+        param_env: Vec::from_slice(alloc, &goal.goal.param_env)?,
+        predicate: TraitPredicate { trait_ref },
+    };
+    Ok((source, goal))
+}
+
+/// References as nested goals, under the goal's where-clauses. The error is `Memory`.
+pub fn nested_goals(
+    alloc: Global,
+    goal: &CanonicalInput,
+    source: GoalSource,
+    references: &[TraitRef],
+) -> Result<Vec<(GoalSource, Goal)>, Fault>
+    ensures are { IfOk result (λ v. (es : List Entry) (kind : Bool)
+        → nested_of es kind v.items ≡ map (premise (asked_of es goal.now) (is_coinductive_step kind source)) (references_in es references.now)) }
+    ensures held { IfOk result (λ v. (es : List Entry) → GoalHeld es goal.now.goal → AllHeld es references.now → NestedHeld es v.items) }
+    ensures memory { IfErr result (λ fault. fault ≡ Memory) }
+{
+    let mut nested = Vec::new(alloc);
+    let mut left = references;
+    'references: while let Some((next, others)) = left.split_first() {
+        let goal = nested_goal(alloc, goal, source, *next)?;
+        nested.push(goal)?;
+        left = others;
+    }
+    Ok(nested)
+}
+
+/// The candidate by a rule without variables of its own: where the equations hold it is as sure as its premises, which are asked as
+/// the where-clauses of an impl are. The error is `Memory`.
+pub fn by_rule(
+    alloc: Global,
+    goal: &CanonicalInput,
+    source: CandidateSource,
+    equations: Vec<Equation>,
+    premises: &[TraitRef],
+) -> Result<CandidateSpec, Fault>
+    ensures is { IfOk result (λ s. (es : List Entry) (V : World)
+        → candidate_of V goal.now.goal.predicate.trait_ref.def_id.index es s ≡ by_rule V (asked_of es goal.now) source (map (equation_read es) equations.items) (references_in es premises.now)) }
+    ensures held { IfOk result (λ s. (es : List Entry) → GoalHeld es goal.now.goal → Every (EquationHeld es) equations.items → AllHeld es premises.now → SpecHeld es s) }
+    ensures memory { IfErr result (λ fault. fault ≡ Memory) }
+{
+    let nested_goals = nested_goals(alloc, goal, GoalSource::ImplWhereBound, premises)?;
+    Ok(CandidateSpec {
+        source,
+        variables: Vec::new(alloc),
+        equations,
+        region_constraints: Vec::new(alloc),
+        nested_goals,
+        certainty: Certainty::Yes,
+    })
+}
+
+/// The candidate of a goal of which nothing is known: it is ambiguous.
+pub fn unsure(alloc: Global) -> CandidateSpec
+    ensures is { (es : List Entry) (kind : Bool) → spec_read es kind result ≡ unsure }
+    ensures held { (es : List Entry) → SpecHeld es result }
+{
+    CandidateSpec {
+        source: CandidateSource::BuiltinImpl(BuiltinImplSource::Misc),
+        variables: Vec::new(alloc),
+        equations: Vec::new(alloc),
+        region_constraints: Vec::new(alloc),
+        nested_goals: Vec::new(alloc),
+        certainty: Certainty::Maybe(MaybeCause::Ambiguity),
+    }
+}

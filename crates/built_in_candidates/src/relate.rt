@@ -1,0 +1,87 @@
+//! Equations between the arguments of references.
+ghost use Rattle.std.specs.Prelude.{◌≡◌, IfOk, IfErr, Err, map};
+ghost use Rattle.type_terms.specs.Terms.{Keeps, Has, args_lists, trees_at};
+ghost use Rattle.type_terms.specs.declared.Fault.TheVariants.{Memory};
+ghost use Rattle.term_folds.specs.Failures.{SomeKindIsFull};
+ghost use Rattle.evaluation.specs.Lists.{Every};
+ghost use Rattle.evaluation.specs.Readings.{EquationHeld};
+ghost use Rattle.goal_frames.specs.Readings.{equation_read};
+ghost use Rattle.assembly_laws.specs.Candidates.{all_equal, never_met};
+ghost use Rattle.built_in_candidates.specs.Equations.{ArePaired};
+
+use infer_table::terms::Equation;
+use std::alloc::Global;
+use type_terms::Fault;
+use type_terms::interner::Interner;
+use type_terms::kinds::{GenericArgKind, GenericArgs, TyKind};
+
+/// Equations between the arguments of two lists, place by place, and whether one list is longer. The error is `Memory`.
+fn paired_args(
+    alloc: Global,
+    first: &[GenericArgKind],
+    second: &[GenericArgKind],
+) -> Result<(Vec<Equation>, bool), Fault>
+    ensures are { IfOk result (λ r. ArePaired first.now second.now (r.0.items, r.1)) }
+    ensures memory { IfErr result (λ fault. fault ≡ Memory) }
+{
+    let mut found = Vec::new(alloc);
+    let mut xs = first;
+    let mut ys = second;
+    'pairs: loop {
+        match (xs.split_first(), ys.split_first()) {
+            (Some((x, xs_left)), Some((y, ys_left))) => {
+                found.push(Equation {
+                    left: *x,
+                    right: *y,
+                })?;
+                xs = xs_left;
+                ys = ys_left;
+            }
+            (None, None) => return Ok((found, false)),
+            (Some(_), None) => return Ok((found, true)),
+            (None, Some(_)) => return Ok((found, true)),
+        }
+    }
+}
+
+/// An equation that no terms meet: `bool` is `char`.
+fn never_met(cx: &mut Interner) -> Result<Equation, Fault>
+    ensures keeps { Keeps cx.old.entries cx.new.entries }
+    ensures limit { cx.new.limit ≡ cx.old.limit }
+    ensures held { IfOk result (EquationHeld cx.new.entries) }
+    ensures is { IfOk result (λ e. equation_read cx.new.entries e ≡ never_met) }
+    ensures full { result ≡ Err Fault.Full → SomeKindIsFull cx.new.entries cx.new.limit }
+{
+    let bool_ty = cx.mk_ty(TyKind::Bool)?;
+    let char_ty = cx.mk_ty(TyKind::Char)?;
+    Ok(Equation {
+        left: GenericArgKind::Ty(bool_ty),
+        right: GenericArgKind::Ty(char_ty),
+    })
+}
+
+/// Equations that say that two lists of arguments are equal, place by place. Lists of different lengths are never equal: then there is
+/// an equation that no terms meet (`relate_args`). The errors are `Memory`, and `Full` if there is no room for the terms of that one.
+pub fn relate_args(
+    alloc: Global,
+    cx: &mut Interner,
+    left: GenericArgs,
+    right: GenericArgs,
+) -> Result<Vec<Equation>, Fault>
+    requires left { Has cx.old.entries args_lists left.0 }
+    requires right { Has cx.old.entries args_lists right.0 }
+    ensures keeps { Keeps cx.old.entries cx.new.entries }
+    ensures limit { cx.new.limit ≡ cx.old.limit }
+    ensures held { IfOk result (λ v. Every (EquationHeld cx.new.entries) v.items) }
+    ensures are { IfOk result (λ v. map (equation_read cx.new.entries) v.items ≡ all_equal (trees_at cx.old.entries left.0) (trees_at cx.old.entries right.0)) }
+    ensures full { result ≡ Err Fault.Full → SomeKindIsFull cx.new.entries cx.new.limit }
+{
+    cx.lawful();
+    let (mut equations, is_longer) = paired_args(alloc, cx.args(left), cx.args(right))?;
+    if is_longer {
+        let never = never_met(cx)?;
+        equations.push(never)?;
+        return Ok(equations);
+    }
+    Ok(equations)
+}

@@ -1,7 +1,0 @@
-use Rattle.std.proofs.Common.{◌≡◌, drop}
-use Rattle.std.specs.List.{slice_get}
-use Rattle.candidate_assembly.specs.Objects.{numbered_to}
-use Rattle.candidate_assembly.proofs.dyn_type.reference_at.Given as goal
-
-abbrev pub invariant-references : goal.invariant-references
-invariant-references l = slice_get (numbered_to l.fn.def_id.index l.number (drop l.number l.fn.references)) l.before ≡ slice_get (numbered_to l.fn.def_id.index 0 l.fn.references) l.fn.place

@@ -1,9 +1,0 @@
-use Rattle.std.proofs.Common.{length}
-use Rattle.candidate_assembly.proofs.Pairs.{Pairs}
-use Rattle.candidate_assembly.proofs.relate.paired_args.Given as goal
-
-abbrev pub invariant-pairs : goal.invariant-pairs
-invariant-pairs l = Pairs l.fn.first l.fn.second l.xs l.ys l.found.items
-
-abbrev pub decreases-pairs : goal.decreases-pairs
-decreases-pairs l = length l.xs

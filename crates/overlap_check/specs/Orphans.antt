@@ -1,0 +1,68 @@
+-- The orphan check of the impls that a crate writes, over the terms of an interner.
+use Rattle.std.specs.Prelude.{◌≡◌, ℕ, true, false, List, map, Option, Some, None, slice_get}
+use Rattle.std.specs.Option.{option_map}
+use Rattle.model.specs.Label.{Sort, of_lifetime}
+use Rattle.model.specs.Trees.{Trees, erase, is_sort, some_node}
+use Rattle.model.specs.Proofs.{In}
+use Rattle.model.specs.Walks.{visited, until_decisive, ends_local, keeps_orphan_rule}
+use Rattle.model.specs.Worlds.{World, Reference, ImplDecl}
+use Rattle.type_terms.specs.Terms.{Entry, trees_at}
+use Rattle.type_terms.specs.declared.ImplId.{ImplId}
+use Rattle.type_terms.specs.declared.kinds.Ty.{Ty}
+use Rattle.declarations.specs.Items.{Items, HeldImpl}
+use Rattle.declarations.specs.Merges.{Each}
+use Rattle.declarations.specs.declared.items.ImplDef.{ImplDef}
+use Rattle.orphan_check.specs.Flags.{is_first}
+use Rattle.orphan_check.specs.Items.{OrphanError, nonlocal, uncovered, orphan_error}
+use Rattle.orphan_check.specs.declared.errors.OrphanCheckErr.{OrphanCheckErr}
+use Rattle.orphan_check.specs.declared.errors.OrphanCheckErr.TheVariants.{NonLocalInputType, UncoveredTyParams}
+use Rattle.session_laws.specs.Headers.{is_param, opened}
+use Rattle.session_laws.specs.Verdicts.{KeepsOrphanRule, BreaksOrphanRule, IsFirstOrphan}
+use Rattle.overlap_check.specs.Fresh.{SomeHaveNoNumber}
+use Rattle.overlap_check.specs.Headers.{sorts_of_impl, empty_table}
+use Rattle.overlap_check.specs.Written.{IsWrittenWell}
+
+-- Each parameter that is a type or a constant stands in the trees as such: T and N do in `[T; N]`.
+abbrev pub HoldsParams : List Sort → Trees → Type 0
+HoldsParams sorts t = (i : ℕ) (s : Sort) → slice_get sorts i ≡ Some s → is_sort s of_lifetime ≡ false → some_node (is_param s i) t ≡ true
+
+-- The header of the impl holds its parameters: `impl<T> Show for u8` is refused.
+abbrev pub HeaderHoldsParams : List Entry → ImplDef → Type 0
+HeaderHoldsParams es def = HoldsParams (sorts_of_impl def) (trees_at es def.header.args.0)
+
+-- Each impl is as a text writes it.
+abbrev pub AreWrittenWell : List Entry → Items → Type 0
+AreWrittenWell es d = Each (λ (i : HeldImpl). IsWrittenWell es i.def × HeaderHoldsParams es i.def) d.impls
+
+-- A type without lifetimes, over the terms of an interner.
+abbrev pub type_in : List Entry → Ty → Trees
+type_in es t = erase (trees_at es t.0)
+
+-- The error without lifetimes, over the terms of an interner.
+abbrev pub error_in : List Entry → OrphanCheckErr Ty → OrphanError
+error_in es (NonLocalInputType v) = nonlocal (map (λ p. (type_in es p.0, is_first p.1)) v.items)
+error_in es (UncoveredTyParams u) = uncovered (type_in es u.uncovered) (option_map (type_in es) u.local_ty)
+
+-- The walk of these arguments ends at a local type; or it does not, and that is the error, without lifetimes.
+abbrev pub IsWalkError : World → ℕ → Trees → List Entry → Option (OrphanCheckErr Ty) → Type 0
+IsWalkError V c args es None = ends_local (until_decisive (visited V (Some c) args)) ≡ true
+IsWalkError V c args es (Some e) = (ends_local (until_decisive (visited V (Some c) args)) ≡ false) × (orphan_error V c (erase args) ≡ Some (error_in es e))
+
+-- The header keeps the orphan rule of c; or it breaks it, and that is the error.
+abbrev pub IsHeaderError : World → ℕ → Reference → List Entry → Option (OrphanCheckErr Ty) → Type 0
+IsHeaderError V c r es None = keeps_orphan_rule V c r ≡ true
+IsHeaderError V c r es (Some e) = (keeps_orphan_rule V c r ≡ false) × (orphan_error V c (opened r).args ≡ Some (error_in es e))
+
+-- If number n is that of an impl of c, its header keeps the rule; or it is that of one whose header breaks it, and that is the error.
+abbrev pub IsErrorOf : World → ℕ → ℕ → List Entry → Option (OrphanCheckErr Ty) → Type 0
+IsErrorOf V c n es None = (i : ImplDecl) → In i V.impls → i.name ≡ n → i.home ≡ c → keeps_orphan_rule V c i.header ≡ true
+IsErrorOf V c n es (Some e) = (i : ImplDecl) × (i.name ≡ n) × BreaksOrphanRule V c i × (orphan_error V c (opened i.header).args ≡ Some (error_in es e))
+
+-- All headers of c keep the rule; or it is the first that breaks it, with its error.
+abbrev pub IsFirstError : World → ℕ → List Entry → Option (ImplId × OrphanCheckErr Ty) → Type 0
+IsFirstError V c es None = KeepsOrphanRule V c
+IsFirstError V c es (Some x) = IsFirstOrphan V c x.0.index (error_in es x.1)
+
+-- No number is left for an unknown of a parameter of one of the impls.
+abbrev pub SomeHeaderRunsOut : Items → Type 0
+SomeHeaderRunsOut d = (i : HeldImpl) × In i d.impls × SomeHaveNoNumber empty_table (sorts_of_impl i.def)

@@ -1,0 +1,186 @@
+//! The orphan check of the impls that a crate writes.
+ghost use Rattle.std.specs.Prelude.{◌≡◌, ◌==◌, ◌≤◌, ◌+◌, ◌⊎◌, false, [], IfOk, IfErr, Err, List};
+ghost use Rattle.model.specs.Terms.{erased_reference};
+ghost use Rattle.model.specs.Walks.{trait_is};
+ghost use Rattle.type_terms.specs.Terms.{Entry, Keeps, trees_at};
+ghost use Rattle.type_terms.specs.declared.Fault.TheVariants.{Memory};
+ghost use Rattle.type_terms.specs.declared.TheConstants.{MAX_INDEX};
+ghost use Rattle.term_folds.specs.Failures.{SomeKindIsFull};
+ghost use Rattle.infer_table.specs.Content.{Ready};
+ghost use Rattle.declarations.specs.Held.{AreHeld, ImplHeld, ReferenceHeld};
+ghost use Rattle.declarations.specs.Items.{IsAbove, declared, reference_in};
+ghost use Rattle.overlap_check.specs.Fresh.{SomeHaveNoNumber};
+ghost use Rattle.overlap_check.specs.Headers.{empty_table, sorts_of_impl};
+ghost use Rattle.overlap_check.specs.Orphans.{AreWrittenWell, HeaderHoldsParams, IsErrorOf, IsFirstError, IsHeaderError, IsWalkError, SomeHeaderRunsOut};
+ghost use Rattle.overlap_check.specs.Written.{IsWrittenWell};
+
+use crate::header::fresh_impl_header;
+use declarations::declarations::Declarations;
+use declarations::items::ImplDef;
+use infer_table::infer_ctxt::InferCtxt;
+use orphan_check::errors::{InCrate, OrphanCheckErr, OrphanCheckMode, WalkError};
+use orphan_check::normalize::AlreadyNormal;
+use orphan_check::orphan::orphan_check_trait_ref;
+use std::alloc::Global;
+use term_folds::predicate::TraitRef;
+use type_terms::interner::Interner;
+use type_terms::kinds::Ty;
+use type_terms::{Fault, ImplId, TraitId};
+
+/// Whether a trait is declared by the crate that asks.
+fn trait_is_local(declarations: &Declarations, id: TraitId) -> bool
+    ensures { (es : List Entry) → result ≡ trait_is (λ x. x.home == declarations.now.local) (declared es declarations.now) id.index }
+{
+    match declarations.trait_def(id) {
+        Some(def) => declarations.is_local(def.home),
+        None => false,
+    }
+}
+
+/// Why the crate that asks may not write an impl for a reference over unknowns that have no values; `None` where the walk of its types
+/// ends at a local one. The error is `Memory`.
+fn walk_error(
+    alloc: Global,
+    cx: &Interner,
+    table: &InferCtxt,
+    declarations: &Declarations,
+    trait_ref: TraitRef,
+) -> Result<Option<OrphanCheckErr<Ty>>, Fault>
+    requires held { ReferenceHeld cx.now.entries trait_ref }
+    requires ready { Ready cx.now.entries table.now }
+    requires unvalued { table.now.values ≡ [] }
+    ensures found { IfOk result (IsWalkError (declared cx.now.entries declarations.now) declarations.now.local (trees_at cx.now.entries trait_ref.args.0) cx.now.entries) }
+    ensures memory { IfErr result (λ fault. fault ≡ Memory) }
+{
+    // No walk goes deeper than the arguments are.
+    let limit = cx.depth(trait_ref.args);
+    let in_crate = InCrate::Local {
+        mode: OrphanCheckMode::Proper,
+    };
+    match orphan_check_trait_ref(
+        alloc,
+        cx,
+        table,
+        declarations,
+        trait_ref,
+        in_crate,
+        limit,
+        &AlreadyNormal,
+    ) {
+        Ok(answer) => match answer {
+            Ok(()) => Ok(None),
+            Err(error) => Ok(Some(error)),
+        },
+        Err(error) => match error {
+            WalkError::Memory => Err(Fault::Memory),
+            WalkError::Deep => unreachable!(),
+            WalkError::Normalize(_) => unreachable!(),
+        },
+    }
+}
+
+/// Why the walk of an impl's header with unknowns for its parameters, in an empty table, does not end at a local type; `None` where it
+/// does.
+fn fresh_header_error(
+    alloc: Global,
+    cx: &mut Interner,
+    table: &mut InferCtxt,
+    declarations: &Declarations,
+    def: &ImplDef,
+) -> Result<Option<OrphanCheckErr<Ty>>, Fault>
+    requires empty { table.old ≡ empty_table }
+    requires held { AreHeld cx.old.entries declarations.now }
+    requires impl_held { ImplHeld cx.old.entries def.now }
+    requires written { IsWrittenWell cx.old.entries def.now }
+    requires params { HeaderHoldsParams cx.old.entries def.now }
+    ensures keeps { Keeps cx.old.entries cx.new.entries }
+    ensures limit { cx.new.limit ≡ cx.old.limit }
+    ensures found { trait_is (λ x. x.home == declarations.now.local) (declared cx.old.entries declarations.now) def.now.header.def_id.index ≡ false
+        → IfOk result (IsHeaderError (declared cx.old.entries declarations.now) declarations.now.local (erased_reference (reference_in cx.old.entries def.now.header)) cx.new.entries) }
+    ensures full { result ≡ Err Fault.Full → SomeKindIsFull cx.new.entries cx.new.limit ⊎ SomeHaveNoNumber empty_table (sorts_of_impl def.now) }
+{
+    cx.lawful();
+    let header = fresh_impl_header(alloc, cx, table, def)?;
+    walk_error(alloc, cx, table, declarations, header.trait_ref)
+}
+
+/// Why the header of an impl of the crate that asks breaks the orphan rule; `None` where it keeps it (`orphan_check_impl`).
+///
+/// A header of a local trait keeps it, and so does one whose walk, with an unknown for each parameter, ends at a local type.
+///
+/// `Full` comes only where some kind of term has reached its limit or there is no number left for an unknown, `Memory` where memory is
+/// refused.
+pub fn header_error(
+    alloc: Global,
+    cx: &mut Interner,
+    declarations: &Declarations,
+    def: &ImplDef,
+) -> Result<Option<OrphanCheckErr<Ty>>, Fault>
+    requires held { AreHeld cx.old.entries declarations.now }
+    requires impl_held { ImplHeld cx.old.entries def.now }
+    requires written { IsWrittenWell cx.old.entries def.now }
+    requires params { HeaderHoldsParams cx.old.entries def.now }
+    ensures keeps { Keeps cx.old.entries cx.new.entries }
+    ensures limit { cx.new.limit ≡ cx.old.limit }
+    ensures found { IfOk result (IsHeaderError (declared cx.old.entries declarations.now) declarations.now.local (erased_reference (reference_in cx.old.entries def.now.header)) cx.new.entries) }
+    ensures full { result ≡ Err Fault.Full → SomeKindIsFull cx.new.entries cx.new.limit ⊎ SomeHaveNoNumber empty_table (sorts_of_impl def.now) }
+{
+    if trait_is_local(declarations, def.header.def_id) {
+        return Ok(None);
+    }
+    let mut table = InferCtxt::new(alloc);
+    fresh_header_error(alloc, cx, &mut table, declarations, def)
+}
+
+/// Why the impl with a number breaks the orphan rule, if it is of the crate that asks and does.
+fn impl_error(
+    alloc: Global,
+    cx: &mut Interner,
+    declarations: &Declarations,
+    id: ImplId,
+) -> Result<Option<OrphanCheckErr<Ty>>, Fault>
+    requires held { AreHeld cx.old.entries declarations.now }
+    requires written { AreWrittenWell cx.old.entries declarations.now }
+    ensures keeps { Keeps cx.old.entries cx.new.entries }
+    ensures limit { cx.new.limit ≡ cx.old.limit }
+    ensures found { IfOk result (IsErrorOf (declared cx.old.entries declarations.now) declarations.now.local id.index cx.new.entries) }
+    ensures full { result ≡ Err Fault.Full → SomeKindIsFull cx.new.entries cx.new.limit ⊎ SomeHeaderRunsOut declarations.now }
+{
+    let Some(def) = declarations.impl_def(id) else {
+        return Ok(None);
+    };
+    if declarations.is_local(def.home) {
+        header_error(alloc, cx, declarations, def)
+    } else {
+        Ok(None)
+    }
+}
+
+/// The first impl of the crate that asks whose header breaks the orphan rule, with the error; `None` where all keep it. The numbers of
+/// impls are below `end` (`check_mod` of the original's orphan check).
+///
+/// `Full` comes only where some kind of term has reached its limit or there is no number left for an unknown, `Memory` where memory is
+/// refused.
+pub fn first_orphan(
+    alloc: Global,
+    cx: &mut Interner,
+    declarations: &Declarations,
+    end: u32,
+) -> Result<Option<(ImplId, OrphanCheckErr<Ty>)>, Fault>
+    requires held { AreHeld cx.old.entries declarations.now }
+    requires written { AreWrittenWell cx.old.entries declarations.now }
+    requires numbered { IsAbove end declarations.now }
+    requires in_range { end ≤ MAX_INDEX + 1 }
+    ensures keeps { Keeps cx.old.entries cx.new.entries }
+    ensures limit { cx.new.limit ≡ cx.old.limit }
+    ensures first { IfOk result (IsFirstError (declared cx.old.entries declarations.now) declarations.now.local cx.new.entries) }
+    ensures full { result ≡ Err Fault.Full → SomeKindIsFull cx.new.entries cx.new.limit ⊎ SomeHeaderRunsOut declarations.now }
+{
+    for index in 0..end {
+        let id = ImplId { index };
+        if let Some(error) = impl_error(alloc, cx, declarations, id)? {
+            return Ok(Some((id, error)));
+        }
+    }
+    Ok(None)
+}

@@ -1,0 +1,5 @@
+mod Fitting
+mod Seeing
+mod TextTerms
+mod FormedTexts
+mod FormedViews
