@@ -14,3 +14,4 @@ pub mod Opened
 pub mod Erasing
 pub mod Judged
 pub mod Walked
+pub mod PairLists

@@ -4,3 +4,4 @@ pub mod Headers
 pub mod Laws
 pub mod Written
 pub mod Orphans
+pub mod Partners

@@ -1,5 +1,6 @@
 //! Laws of pairs of impls: from the solutions of equated headers to common instances and back, and from answers to verdicts.
 ghost use Rattle.overlap_check.specs.Laws.{ApartHaveNoInstance, OtherTraitsHaveNoInstance, EquatedHaveGoals, RefusedGoalPasses, OpenGoalsRefuse, ValuesAreOfSolutions};
+ghost use Rattle.overlap_check.specs.Partners.{PairsAreBelow};
 ghost use Rattle.overlap_check.specs.Written.{WrittenIsInstantiable};
 
 /// Headers over fresh unknowns that cannot be made equal have no common instance. Those that can have one, and the where-clauses, with
@@ -26,4 +27,9 @@ pub fn answers_to_goals()
 /// it. So a goal that has a proof at no solution of the table has none at any values of its unknowns.
 pub fn values_are_of_solutions()
     ensures { ValuesAreOfSolutions }
+{}
+
+/// Who looks at all numbers below one that is above those of the impls, finds each pair that a crate brings together.
+pub fn pairs_have_numbers_below()
+    ensures { PairsAreBelow }
 {}

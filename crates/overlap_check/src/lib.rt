@@ -11,3 +11,4 @@ pub mod header;
 pub mod intersection;
 pub mod laws;
 pub mod orphans;
+pub mod partners;
