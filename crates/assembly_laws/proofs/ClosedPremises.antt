@@ -82,7 +82,7 @@ mutual
   plain-traits (tree (bound k j i) c o) m = absurd (true-false (sym m))
   plain-traits (tree l c o) m = last-so l c o refl m
 
-plain : (t : Trees) → are_terms t ≡ true → some_node is_stray t ≡ false
+pub plain : (t : Trees) → are_terms t ≡ true → some_node is_stray t ≡ false
 plain t e = plain-terms t (left (is_made is_declared terms t) (not (some_node is_counted t)) e)
 
 -- ---- lists of references and of rules

@@ -21,7 +21,7 @@ use Rattle.evaluation.specs.Plans.{Keeps, each_of, first_alone, Goes}
 use Rattle.evaluation.specs.Merge.{IsTest, TellsApart}
 use Rattle.evaluation.proofs.Plans.{plan_is_lawful, keeps_more, keeps_each, goes_on, goes_through}
 use Rattle.evaluation.proofs.PlanAnswers.{all_merged_keeps}
-use Rattle.assembly_laws.specs.Meaning.{Meaning, proved_in}
+use Rattle.assembly_laws.specs.Meaning.{Meaning, proved_at}
 use Rattle.assembly_laws.specs.Lifetimes.{GivesLifetimes}
 use Rattle.assembly_laws.specs.Knowing.{is_knowable}
 use Rattle.assembly_laws.specs.Asking.{Asked, asked, self_of, begins_unknown}
@@ -55,12 +55,12 @@ module _ (applicable : AnswerTrees → Bool) (same : AnswerTrees → AnswerTrees
   start = begin (kinds_known f.kinds)
 
   complete : IsAsMeant m → SolutionsAreCandidates m
-  complete x = solutions-by m x.declared x.determined x.erased
+  complete x = solutions-by m x.declared x.determined x.erased x.rank x.acyclic
 
   -- ---- the law of cover
-  module _ (w : Searched m f) (v : Values) (s : IsSolution (proved_in w.linked) (goal_fact f v)) where
+  module _ (w : Searched m f) (v : Values) (s : IsSolution (proved_at w.place) (goal_fact f v)) where
     abbrev P : Candidate → Type 0
-    P c = Realizes frame_tables (IsSolution (proved_in w.linked)) start v c
+    P c = Realizes frame_tables (IsSolution (proved_at w.place)) start v c
 
     abbrev Q : Considered (workings frame_tables) → Type 0
     Q c = P c.spec
@@ -68,7 +68,7 @@ module _ (applicable : AnswerTrees → Bool) (same : AnswerTrees → AnswerTrees
     unsure-holds : Holds frame_tables Q [] (each_of frame_tables (unsure ∷ []) (everything applicable same start) [])
     unsure-holds =
         each-holds frame_tables Q (unsure ∷ []) (everything applicable same start) []
-        (λ later g. goes_through frame_tables P (unsure ∷ []) [] later g (inl (unsure-realizes (proved_in w.linked) (kinds_known f.kinds) v w.no_placeholders)))
+        (λ later g. goes_through frame_tables P (unsure ∷ []) [] later g (inl (unsure-realizes (proved_at w.place) (kinds_known f.kinds) v w.no_placeholders)))
 
     asked-holds : IsAsMeant m → m.is_sound ≡ true → (a : Asked) → asked m.view f ≡ Some a → begins_unknown a.kinds (self_of a) ≡ false → Holds frame_tables Q [] (in_coherence applicable same start m.view m.crate a)
     asked-holds x is_yes a e known = by (is_knowable m.view m.crate a.reference) refl
@@ -117,7 +117,7 @@ module _ (applicable : AnswerTrees → Bool) (same : AnswerTrees → AnswerTrees
         (omega arith) (omega arith)
         (keeps_each frame_tables h 0 0 (unsure ∷ []) (everything applicable same start) [] (unsure-lawful, tt)
         (λ later g. all_merged_keeps frame_tables tables_are_lawful applicable is_test same is_same h says (begins-within h.widest (kinds_known f.kinds)) 0 0 later
-        (λ w v s. goes_through frame_tables (P w v s) (unsure ∷ []) [] later g (inl (unsure-realizes (proved_in w.linked) (kinds_known f.kinds) v w.no_placeholders)))))
+        (λ w v s. goes_through frame_tables (P w v s) (unsure ∷ []) [] later g (inl (unsure-realizes (proved_at w.place) (kinds_known f.kinds) v w.no_placeholders)))))
 
     asked-keeps : IsAsMeant m → m.is_sound ≡ true → (a : Asked) → asked m.view f ≡ Some a → begins_unknown a.kinds (self_of a) ≡ false → Keeps frame_tables h h.candidates h.number [] (in_coherence applicable same start m.view m.crate a)
     asked-keeps x is_yes a e known =

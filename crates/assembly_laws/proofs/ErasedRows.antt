@@ -11,6 +11,7 @@ use Rattle.model.specs.Proofs.{In}
 use Rattle.model.proofs.Members.{here, there, same-number}
 use Rattle.model.proofs.Fitting.{no-left}
 use Rattle.model.proofs.Walking.{left, right}
+use Rattle.declarations.specs.Heads.{begins_declared}
 use Rattle.evaluation.specs.Lists.{Every, SomeOf}
 use Rattle.evaluation.specs.declared.candidate.CandidateSource.{CandidateSource}
 use Rattle.evaluation.specs.declared.candidate.CandidateSource.TheVariants.{BuiltinImpl}
@@ -82,12 +83,37 @@ head-stays l (tree m c o) d e = by m (no-left (is_wild m) (some_node is_wild c) 
     by k w f = f
 
 -- the head of a struct is kept
-struct-head : (l : Label) (t : Trees) (s : ℕ) (ks os : Trees) → erase t ≡ tree (adt s) ks os → same_head l (erase t) ≡ same_head l t
+pub struct-head : (l : Label) (t : Trees) (s : ℕ) (ks os : Trees) → erase t ≡ tree (adt s) ks os → same_head l (erase t) ≡ same_head l t
 struct-head l none s ks os e = refl
 struct-head l (tree m c o) s ks os e = subst (λ z. same_head l (erase (tree z c o)) ≡ same_head l (tree z c o)) (sym (erased-struct m s (label e))) refl
   where
     label : tree (erase_label m) (erase c) (erase o) ≡ tree (adt s) ks os → erase_label m ≡ adt s
     label f = cc
+
+-- and so is that of a type that is a parameter or rigid
+pub declared-head : (l : Label) (h : Trees) → are_terms h ≡ true → begins_declared h ≡ true → same_head l (erase h) ≡ same_head l h
+declared-head l none d b = refl
+declared-head l (tree m c o) d b = by m (no-left (is_wild m) (some_node is_wild c) (no-left (is_wild m || some_node is_wild c) (some_node is_wild o) (tame (tree m c o) d))) b
+  where
+    by : (k : Label) → is_wild k ≡ false → begins_declared (tree k c o) ≡ true → same_head l (tree (erase_label k) (erase c) (erase o)) ≡ same_head l (tree k c o)
+    by (param of_type i) w f = refl
+    by (param of_const i) w f = refl
+    by (param of_lifetime i) w f = absurd (true-false (sym f))
+    by (fn_ptr zero) w f = refl
+    by (fn_ptr (suc n)) w f = absurd (true-false w)
+    by (principal zero t) w f = refl
+    by (principal (suc n) t) w f = absurd (true-false w)
+    by (placeholder of_type i) w f = refl
+    by (placeholder of_const i) w f = refl
+    by (placeholder of_lifetime i) w f = absurd (true-false w)
+    by (infer of_type i) w f = refl
+    by (infer of_const i) w f = refl
+    by (infer of_lifetime i) w f = absurd (true-false w)
+    by (canonical of_type i) w f = refl
+    by (canonical of_const i) w f = refl
+    by (canonical of_lifetime i) w f = absurd (true-false w)
+    by (bound s k i) w f = absurd (true-false w)
+    by k w f = refl
 
 any-map : {A : Type 0} (f : A → A) (p q : A → Bool) (xs : List A) → ((x : A) → In x xs → p (f x) ≡ q x) → list_any p (map f xs) ≡ list_any q xs
 any-map f p q [] h = refl
@@ -113,9 +139,9 @@ joined ts (tree l c o) (tree m d p) e =
     together : (i : Label) (u : Trees) (j : Label) (w : Trees) (x y : Trees) → tree i u none ≡ tree j w none → x ≡ y → tree i u x ≡ tree j w y
     together i u j w x y f g = cc
 
--- an impl of an auto trait is for a struct
-abbrev pub AutosAreOfStructs : World → Type 0
-AutosAreOfStructs V = (i : ImplDecl) → In i V.impls → is_auto V i.header.trait ≡ true → (s : ℕ) × (ks : Trees) × (os : Trees) × (erase i.header.args ≡ tree (adt s) ks os)
+-- the headers of auto traits' impls have the heads up to lifetimes that they have as they are written
+abbrev pub HeadsStay : World → Type 0
+HeadsStay V = (i : ImplDecl) → In i V.impls → is_auto V i.header.trait ≡ true → (l : Label) → same_head l (erase i.header.args) ≡ same_head l i.header.args
 
 module _ (H : Reference → Type 0) (V : World) (cs : List CrateDecl) (a : Asked) (v : Values) where
   abbrev U : World
@@ -149,7 +175,7 @@ module _ (H : Reference → Type 0) (V : World) (cs : List CrateDecl) (a : Asked
   auto-plain t (tree (ref b) (tree r d (tree l c q)) o) h p = p
   auto-plain t (tree l c o) h p = by-same H V cs a v _ _ (written-same H V cs a v misc (auto_rules_plain V t (tree l c o))) p
 
-  module _ (structs : AutosAreOfStructs V) where
+  module _ (heads : HeadsStay V) where
     written-for : (t : ℕ) (l : Label) → is_auto V t ≡ true → is_written U t l ≡ is_written V t l
     written-for t l auto = any-map erased_impl (λ i. (i.header.trait == t) && same_head l i.header.args) (λ i. (i.header.trait == t) && same_head l i.header.args) V.impls one
       where
@@ -158,7 +184,7 @@ module _ (H : Reference → Type 0) (V : World) (cs : List CrateDecl) (a : Asked
           where
             by : (b : Bool) → (i.header.trait == t) ≡ b → (b && same_head l (erase i.header.args)) ≡ (b && same_head l i.header.args)
             by false e = refl
-            by true e = let x = structs i j (ap (is_auto V) (same-number i.header.trait t e) ∙ auto) in struct-head l i.header.args x.0 x.1 x.2 x.3
+            by true e = heads i j (ap (is_auto V) (same-number i.header.trait t e) ∙ auto) l
 
     auto-so : (t : ℕ) (x : Trees) → is_auto V t ≡ true → gives_lifetimes V x ≡ true → SomeOf P (as_written U a misc (auto_rules U t x)) → SomeOf P (as_written V a misc (auto_rules V t x))
     auto-so t none e h p = p
@@ -229,7 +255,7 @@ module _ (H : Reference → Type 0) (V : World) (cs : List CrateDecl) (a : Asked
       by true false false f q go = go q
 
   -- ---- all
-  module _ (structs : AutosAreOfStructs V) (headers : list_all (λ (i : ImplDecl). are_terms i.header.args) V.impls ≡ true) (fits : goal_gives_lifetimes V a ≡ true) where
+  module _ (heads : HeadsStay V) (headers : list_all (λ (i : ImplDecl). are_terms i.header.args) V.impls ≡ true) (fits : goal_gives_lifetimes V a ≡ true) where
     self-given : gives_lifetimes V (self_of a) ≡ true
     self-given = left (gives_lifetimes V (self_of a)) (not (a.reference.trait == unsize) || gives_lifetimes V (next_of (self_of a))) fits
 
@@ -243,7 +269,7 @@ module _ (H : Reference → Type 0) (V : World) (cs : List CrateDecl) (a : Asked
         (some-map P (by_copy U a) (by_auto U a ++ (by_tuple U a ++ (by_fn_ptr U a ++ (by_call U a ++ by_unsize U a)))) (by_copy V a) (by_auto V a ++ (by_tuple V a ++ (by_fn_ptr V a ++ (by_call V a ++ by_unsize V a))))
         (under ((a.reference.trait == copy) || (a.reference.trait == clone)) _ _ (λ e. by-same H V cs a v _ _ (written-same H V cs a v misc (copy_rules a.reference.trait (self_of a)))))
         (some-map P (by_auto U a) (by_tuple U a ++ (by_fn_ptr U a ++ (by_call U a ++ by_unsize U a))) (by_auto V a) (by_tuple V a ++ (by_fn_ptr V a ++ (by_call V a ++ by_unsize V a)))
-        (under (is_auto V a.reference.trait) _ _ (λ e. auto-so structs a.reference.trait (self_of a) e self-given))
+        (under (is_auto V a.reference.trait) _ _ (λ e. auto-so heads a.reference.trait (self_of a) e self-given))
         (some-map P (by_tuple U a) (by_fn_ptr U a ++ (by_call U a ++ by_unsize U a)) (by_tuple V a) (by_fn_ptr V a ++ (by_call V a ++ by_unsize V a))
         (under (a.reference.trait == tuple_trait) _ _ (λ e. by-same H V cs a v _ _ (written-same H V cs a v misc (tuple_rules (self_of a)))))
         (some-map P (by_fn_ptr U a) (by_call U a ++ by_unsize U a) (by_fn_ptr V a) (by_call V a ++ by_unsize V a)

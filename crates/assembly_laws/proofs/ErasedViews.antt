@@ -1,4 +1,4 @@
--- In every linked set in which the crate has a view, up to lifetimes, each solution of a goal is one by a candidate.
+-- By the view alone, and in every linked set that holds it, up to lifetimes, each solution of a goal is one by a candidate.
 use Rattle.std.proofs.Common.{◌≡◌, ℕ, Bool, true, false, not, ◌&&◌, ◌||◌, ◌==◌, if◌then◌else◌, List, [], ◌∷◌, ◌++◌, map, refl, sym, ◌∙◌, ap, subst, Option, Some, None}
 use Rattle.std.specs.List.{list_all, list_any}
 use Rattle.model.specs.Label.{Label, Sort, of_type, of_const, of_lifetime, dynamic, adt, ref, of_trait, principal, param, placeholder, infer, canonical, bound, predicate}
@@ -9,6 +9,7 @@ use Rattle.model.specs.Worlds.{World, CrateDecl, Reference, StructDecl, TraitDec
 use Rattle.model.specs.Terms.{erased_reference, erased_struct, erased_trait, erased_impl, erased_world}
 use Rattle.model.specs.Rules.{unsize}
 use Rattle.model.specs.Proofs.{In}
+use Rattle.model.specs.Elaborated.{HasElaboratedProof}
 use Rattle.model.specs.Answers.{written_in, is_undeclared}
 use Rattle.model.specs.LinkedSet.{is_open_place}
 use Rattle.model.specs.Walks.{Met, local, entered, struct_leaf, open_place, other_leaf, struct_is, trait_is, is_home, dyn_met, visited, until_decisive, item_in, ends_local, is_known_in}
@@ -22,23 +23,29 @@ use Rattle.model.proofs.TermRules.{filter-map}
 use Rattle.infer_table.specs.Canonical.{CanonicalForm}
 use Rattle.infer_table.specs.declared.canonical.CanonicalVarKind.{CanonicalVarKind}
 use Rattle.type_terms.specs.Made.{terms, is_made}
+use Rattle.evaluation.specs.Lists.{SomeOf}
+use Rattle.evaluation.specs.Content.{Values}
+use Rattle.evaluation.specs.FrameTables.{kinds_known}
 use Rattle.evaluation.specs.Variables.{is_variable_over}
 use Rattle.assembly_laws.specs.Declared.{are_terms, are_references, is_declared_view, is_lifetime_parameter, BoundsAreErased}
 use Rattle.assembly_laws.specs.Determined.{ImplsAreDetermined}
-use Rattle.assembly_laws.specs.Meaning.{Meaning, proved_in}
+use Rattle.assembly_laws.specs.Meaning.{Meaning, Place, by_view, in_set, proved_in, proved_at}
 use Rattle.assembly_laws.specs.Knowing.{is_knowable}
-use Rattle.assembly_laws.specs.Asking.{Asked, asked, asked_if, asked_with, all_known, are_clauses, begins_with_type, next_of}
-use Rattle.assembly_laws.specs.Candidates.{is_param}
-use Rattle.assembly_laws.specs.Cover.{SolutionsAreByCandidates}
+use Rattle.assembly_laws.specs.Lifetimes.{goal_gives_lifetimes}
+use Rattle.assembly_laws.specs.Solver.{has_placeholder, IsSolution}
+use Rattle.assembly_laws.specs.Asking.{Asked, asked, asked_if, asked_with, all_known, are_clauses, begins_with_type, next_of, self_of, begins_unknown}
+use Rattle.assembly_laws.specs.Candidates.{is_param, unknowable}
+use Rattle.assembly_laws.specs.Cover.{SolutionsAreByCandidates, Gives, all_candidates, goal_fact}
 use Rattle.assembly_laws.proofs.Reading.{true-false}
 use Rattle.assembly_laws.proofs.DeclaredParts.{header-declared, bound-declared}
 use Rattle.assembly_laws.proofs.Instances.{none-either}
 use Rattle.assembly_laws.proofs.ErasedTerms.{declared-stays, erased-lifetimes}
 use Rattle.assembly_laws.proofs.PlainRules.{is_wild, tame}
 use Rattle.assembly_laws.proofs.ErasedCandidates.{without_lifetimes, types-same, consts-same, unknowable-gives}
-use Rattle.assembly_laws.proofs.ErasedRows.{AutosAreOfStructs, label-stays, candidates-so}
-use Rattle.assembly_laws.proofs.HavingViews.{SearchedThere}
+use Rattle.assembly_laws.proofs.ErasedRows.{HeadsStay, struct-head, declared-head, label-stays, candidates-so}
+use Rattle.assembly_laws.proofs.HavingViews.{ProvesBy, SearchedThere}
 use Rattle.assembly_laws.proofs.NumberedViews.{proves-by, auto-of-struct}
+use Rattle.assembly_laws.proofs.ViewProofs.{view-proves}
 use Rattle.model.specs.Renumbering.{HoldsView}
 use Rattle.assembly_laws.proofs.Solver.{solutions-by-candidates}
 
@@ -224,15 +231,37 @@ module _ (V : World) (cs : List CrateDecl) where
 abbrev meaning_there : Meaning → List CrateDecl → Meaning
 meaning_there m cs = record { view = without_lifetimes m.view cs; crate = m.crate; is_sound = m.is_sound }
 
+-- where what has a proof follows by the view up to lifetimes
+module _ (m : Meaning) (declared : is_declared_view m.view ≡ true) (determined : ImplsAreDetermined m.view) (cs : List CrateDecl) (H : Reference → Type 0)
+    (proves : ProvesBy (without_lifetimes m.view cs) m.crate H) (heads : HeadsStay m.view)
+    (f : CanonicalForm) (a : Asked) (e : asked m.view f ≡ Some a) (known : begins_unknown a.kinds (self_of a) ≡ false) (fits : goal_gives_lifetimes m.view a ≡ true) where
+  abbrev Given : Values → Type 0
+  Given v = (is_knowable m.view m.crate a.reference ≡ true → SomeOf (Gives H a.kinds v) (all_candidates m.view a)) × Gives H a.kinds v (unknowable m.view a)
+
+  given-by : f.goal.environment ≡ none → has_placeholder (kinds_known f.kinds) ≡ false → (v : Values) → IsSolution H (goal_fact f v) → Given v
+  given-by no_clauses no_placeholders v s =
+      let searched : SearchedThere (meaning_there m cs) H f = record { linked = proves; no_clauses = no_clauses; no_placeholders = no_placeholders } in
+      let found = solutions-by-candidates (meaning_there m cs) (declared-so m.view cs declared) (determined-so m.view cs determined) H f a (asked-same m.view cs f ∙ e) known searched v s in (
+        λ k. candidates-so H m.view cs a v heads (headers-so m.view cs declared) fits (found.0 (knowable-same m.view cs m.crate a.reference ∙ k)),
+        unknowable-gives H m.view cs a v found.1,
+      )
+
 pub solutions-by : SolutionsAreByCandidates
-solutions-by m declared determined erased f a e known fits w v s =
-    let cs = w.linked.crates in
-    let V = without_lifetimes m.view cs in
-    let holds : HoldsView w.linked.set (record { numbers = w.linked.numbers; asker = m.crate; world = V })
-    = subst (λ (X : World). HoldsView w.linked.set (record { numbers = w.linked.numbers; asker = m.crate; world = X })) (erased-is m.view declared erased cs) w.linked.holds in
-    let structs : AutosAreOfStructs m.view = λ i j auto. auto-of-struct m w.linked V holds (erased_impl i) (in-map erased_impl m.view.impls i j) auto in
-    let searched : SearchedThere (meaning_there m cs) (proved_in w.linked) f = record { linked = proves-by m w.linked V holds; no_clauses = w.no_clauses; no_placeholders = w.no_placeholders } in
-    let found = solutions-by-candidates (meaning_there m cs) (declared-so m.view cs declared) (determined-so m.view cs determined) (proved_in w.linked) f a (asked-same m.view cs f ∙ e) known searched v s in (
-      λ k. candidates-so (proved_in w.linked) m.view cs a v structs (headers-so m.view cs declared) fits (found.0 (knowable-same m.view cs m.crate a.reference ∙ k)),
-      unknowable-gives (proved_in w.linked) m.view cs a v found.1,
-    )
+solutions-by m declared determined erased rank down f a e known fits w v s = by w.place s
+  where
+    by : (p : Place m) → IsSolution (proved_at p) (goal_fact f v)
+        → (is_knowable m.view m.crate a.reference ≡ true → SomeOf (Gives (proved_at p) a.kinds v) (all_candidates m.view a)) × Gives (proved_at p) a.kinds v (unknowable m.view a)
+    by (by_view cs begin) s =
+        let V = without_lifetimes m.view cs in
+        given-by m declared determined cs (HasElaboratedProof (record (erased_world m.view) { crates = cs }) [])
+        (subst (λ (X : World). ProvesBy V m.crate (HasElaboratedProof X [])) (sym (erased-is m.view declared erased cs)) (view-proves V m.crate (declared-so m.view cs declared) rank down))
+        (λ i j auto l. declared-head l i.header.args (header-declared m.view declared i j) (begin i j))
+        f a e known fits w.no_clauses w.no_placeholders v s
+    by (in_set x) s =
+        let cs = x.crates in
+        let V = without_lifetimes m.view cs in
+        let holds : HoldsView x.set (record { numbers = x.numbers; asker = m.crate; world = V })
+        = subst (λ (X : World). HoldsView x.set (record { numbers = x.numbers; asker = m.crate; world = X })) (erased-is m.view declared erased cs) x.holds in
+        given-by m declared determined cs (proved_in x) (proves-by m x V holds)
+        (λ i j auto l. let y = auto-of-struct m x V holds (erased_impl i) (in-map erased_impl m.view.impls i j) auto in struct-head l i.header.args y.0 y.1 y.2 y.3)
+        f a e known fits w.no_clauses w.no_placeholders v s

@@ -13,7 +13,7 @@ use Rattle.evaluation.specs.TableOperations.{fresh}
 use Rattle.evaluation.specs.Tables.{frame_tables}
 use Rattle.assembly_laws.specs.Slots.{own_slot, as_slots, with_slots}
 use Rattle.assembly_laws.specs.Solver.{IsSolution}
-use Rattle.assembly_laws.specs.Meaning.{proved_in}
+use Rattle.assembly_laws.specs.Meaning.{proved_at}
 use Rattle.assembly_laws.specs.Cover.{padded, slots, nested_at, GivenIsRealized}
 use Rattle.assembly_laws.proofs.Filled.{no-placeholder, filled, filled-allowed, filled-slots}
 use Rattle.evaluation.proofs.Unplaced.{IsNotPlace}
@@ -38,8 +38,8 @@ given-is-realized m w ks v c are h g p gives = record {
       Every-both (λ (e : Equation). read_with (given (slots ks (with_slots ks v) gives.own)) e.left.trees ≡ read_with (given (slots ks (with_slots ks v) gives.own)) e.right.trees)
       (λ (e : Equation). (term_of e.left ≡ e.left.trees) × (term_of e.right ≡ e.right.trees)) (λ e. Meets e terms_of) (λ e q r. meets e q r) c.equations gives.equal are;
   solves =
-      Every-mono (λ n. IsSolution (proved_in w) (nested_at (slots ks (with_slots ks v) gives.own) n)) (Solves frame_tables (IsSolution (proved_in w)) (fresh (begin ks) c.kinds) terms_of)
-      (λ n s. (tt, subst (IsSolution (proved_in w)) (sym (same-fact terms_of.slots (slots ks (with_slots ks v) gives.own) n terms_of.proper slots-are p)) s)) c.nested gives.solves;
+      Every-mono (λ n. IsSolution (proved_at w) (nested_at (slots ks (with_slots ks v) gives.own) n)) (Solves frame_tables (IsSolution (proved_at w)) (fresh (begin ks) c.kinds) terms_of)
+      (λ n s. (tt, subst (IsSolution (proved_at w)) (sym (same-fact terms_of.slots (slots ks (with_slots ks v) gives.own) n terms_of.proper slots-are p)) s)) c.nested gives.solves;
 }
   where
     no_places : Every IsNotPlace ks

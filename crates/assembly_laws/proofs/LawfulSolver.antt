@@ -19,7 +19,7 @@ use Rattle.evaluation.specs.Plans.{Keeps, nested_in, each_of}
 use Rattle.evaluation.specs.Merge.{IsTest, TellsApart}
 use Rattle.evaluation.proofs.Plans.{plan_is_lawful}
 use Rattle.evaluation.proofs.PlanAnswers.{list_keeps}
-use Rattle.assembly_laws.specs.Meaning.{Meaning, proved_in}
+use Rattle.assembly_laws.specs.Meaning.{Meaning, proved_at}
 use Rattle.assembly_laws.specs.Lifetimes.{GivesLifetimes, goal_gives_lifetimes}
 use Rattle.assembly_laws.specs.Asking.{Asked, asked, clauses, self_of, begins_unknown, all_known}
 use Rattle.assembly_laws.specs.Candidates.{Candidate, unsure, unknowable, by_clauses, built_in, by_impls, by_objects}
@@ -58,7 +58,7 @@ module _ (applicable : AnswerTrees → Bool) (is_test : IsTest frame_tables appl
         by : (mo : TypingMode) → mode ≡ mo → (w : (solver_handled applicable same m mo f).World) → (solver_handled applicable same m mo f).Proves w (h.goal v)
             → Realizes frame_tables ((solver_handled applicable same m mo f).Proves w) h.begin v unsure
         by Coherence e w s =
-            unsure-realizes (proved_in w.linked) (kinds_known f.kinds) v w.no_placeholders
+            unsure-realizes (proved_at w.place) (kinds_known f.kinds) v w.no_placeholders
         by PostAnalysis e w s = absurd w
 
     unsure-keeps : Keeps frame_tables h h.candidates h.number [] (plan_for applicable same h.begin m mode None)

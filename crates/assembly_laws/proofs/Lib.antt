@@ -72,6 +72,8 @@ pub mod ErasedCandidates
 pub mod ErasedRows
 pub mod HavingViews
 pub mod NumberedViews
+pub mod ClosedPremises
+pub mod ViewProofs
 pub mod ErasedViews
 pub mod WrittenCore
 pub mod HeldViews

@@ -17,7 +17,7 @@ use Rattle.evaluation.specs.TableOperations.{begin}
 use Rattle.evaluation.specs.Tables.{frame_tables}
 use Rattle.assembly_laws.specs.Slots.{as_slots, with_slots}
 use Rattle.assembly_laws.specs.Facts.{clauses_of}
-use Rattle.assembly_laws.specs.Meaning.{Meaning, proved_in}
+use Rattle.assembly_laws.specs.Meaning.{Meaning, proved_at}
 use Rattle.assembly_laws.specs.Lifetimes.{goal_gives_lifetimes}
 use Rattle.assembly_laws.specs.Knowing.{is_knowable}
 use Rattle.assembly_laws.specs.Declared.{is_declared_view}
@@ -143,9 +143,9 @@ asked-terms m declared f a e bounds_are w =
     all-are-terms m.view declared a (asked-by m.view f.goal.environment f.goal.predicate (all_known f.kinds) a e).over (subst (λ (rs : List Reference). Every (λ (r : Reference). IsOpenTerms r.args) rs) (sym (ap clauses_of (asked-bare m f w.no_clauses a e))) tt) bounds_are
 
 module _ (m : Meaning) (complete : SolutionsAreCandidates m) (f : CanonicalForm) (a : Asked) (e : asked m.view f ≡ Some a)
-    (known : begins_unknown a.kinds (self_of a) ≡ false) (given-lifetimes : goal_gives_lifetimes m.view a ≡ true) (w : Searched m f) (v : Values) (s : IsSolution (proved_in w.linked) (goal_fact f v)) (are : Every AreTermsOf (all_candidates m.view a)) where
+    (known : begins_unknown a.kinds (self_of a) ≡ false) (given-lifetimes : goal_gives_lifetimes m.view a ≡ true) (w : Searched m f) (v : Values) (s : IsSolution (proved_at w.place) (goal_fact f v)) (are : Every AreTermsOf (all_candidates m.view a)) where
   abbrev pub H : Reference → Type 0
-  H = proved_in w.linked
+  H = proved_at w.place
 
   is : IsAsked m.view f.goal.environment f.goal.predicate (all_known f.kinds) a
   is = asked-by m.view f.goal.environment f.goal.predicate (all_known f.kinds) a e
@@ -178,7 +178,7 @@ module _ (m : Meaning) (complete : SolutionsAreCandidates m) (f : CanonicalForm)
   solution = subst (IsSolution H) (sym same-goal) s
 
   realized : (c : Candidate) → AreTermsOf c → has_placeholder c.kinds ≡ false → Gives H a.kinds (with_slots a.kinds v) c → Realizes frame_tables (IsSolution H) (begin (kinds_known f.kinds)) v c
-  realized c are own gives = subst (λ ks. Realizes frame_tables (IsSolution H) (begin ks) v c) (sym kinds-are) (given-is-realized m w.linked a.kinds v c are no_placeholders own proper-is gives)
+  realized c are own gives = subst (λ ks. Realizes frame_tables (IsSolution H) (begin ks) v c) (sym kinds-are) (given-is-realized m w.place a.kinds v c are no_placeholders own proper-is gives)
 
   pub by-candidates : is_knowable m.view m.crate a.reference ≡ true → SomeOf (Realizes frame_tables (IsSolution H) (begin (kinds_known f.kinds)) v) (all_candidates m.view a)
   by-candidates k =

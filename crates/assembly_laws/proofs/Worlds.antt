@@ -1,5 +1,5 @@
 -- In coherence the questions of a goal without where-clauses and placeholders have none.
-use Rattle.std.proofs.Common.{◌≡◌, Bool, true, false, not, ◌||◌, if◌then◌else◌, List, [], ◌∷◌, map, length, refl, sym, ◌∙◌, ap, Option, Some, None}
+use Rattle.std.proofs.Common.{◌≡◌, ℕ, Bool, true, false, not, ◌||◌, if◌then◌else◌, List, [], ◌∷◌, map, length, refl, sym, ◌∙◌, ap, Option, Some, None}
 use Rattle.std.specs.Prelude.{option_map}
 use Rattle.model.specs.Label.{Label, of_type, of_const, of_lifetime, infer, param, placeholder, static}
 use Rattle.model.specs.Trees.{none}
@@ -26,7 +26,7 @@ use Rattle.evaluation.proofs.FrameTableLaws.{tables_are_lawful}
 use Rattle.evaluation.proofs.Kept.{AreKept, AreSo, questions_so, made_kept}
 use Rattle.evaluation.specs.Plans.{Plan, each_of, first_alone, after}
 use Rattle.declarations.specs.Elaboration.{supertraits}
-use Rattle.assembly_laws.specs.Meaning.{Meaning}
+use Rattle.assembly_laws.specs.Meaning.{Meaning, Place, by_view, in_set, proved_at}
 use Rattle.assembly_laws.specs.Knowing.{is_knowable}
 use Rattle.assembly_laws.specs.Asking.{Asked, asked, clauses, self_of, begins_unknown, all_known}
 use Rattle.assembly_laws.specs.Candidates.{Candidate, premise, unsure, unknowable, behind}
@@ -153,6 +153,12 @@ module _ (applicable : AnswerTrees → Bool) (same : AnswerTrees → AnswerTrees
 pub asked-bare : (m : Meaning) (f : CanonicalForm) → f.goal.environment ≡ none → (a : Asked) → asked m.view f ≡ Some a → a.environment ≡ none
 asked-bare m f e a is = sym (asked-by m.view f.goal.environment f.goal.predicate (all_known f.kinds) a is).environment_is ∙ e
 
+-- where solutions are looked for does not depend on whether a goal is decided
+pub same-place : (V : World) (crate : ℕ) (x y : Bool) (p : Place (record { view = V; crate = crate; is_sound = x }))
+    → (q : Place (record { view = V; crate = crate; is_sound = y })) × ((r : Reference) → proved_at p r → proved_at q r)
+same-place V crate x y (by_view crates begin) = (by_view crates begin, λ r h. h)
+same-place V crate x y (in_set w) = (in_set (record { set = w.set; views = w.views; rank = w.rank; linked = w.linked; numbers = w.numbers; crates = w.crates; holds = w.holds }), λ r h. h)
+
 pub keep-worlds : KeepWorlds
 keep-worlds applicable same m PostAnalysis f heard q came e x = absurd x
 keep-worlds applicable same m Coherence f heard q came e x =
@@ -162,4 +168,4 @@ keep-worlds applicable same m Coherence f heard q came e x =
     let bare =
     questions_so frame_tables IsBare HasNone kept-tables (solver_handled applicable same m Coherence f) (begin-made (kinds_known f.kinds), x.no_placeholders)
     (λ seen c is. wanted-only frame_tables AreBare (after frame_tables plan seen) c (after-only frame_tables AreBare plan seen only) is) heard q came e in
-    (record { linked = x.linked; no_clauses = bare.0; no_placeholders = bare.1 }, λ g p. p)
+    (record { place = x.place; no_clauses = bare.0; no_placeholders = bare.1 }, λ g p. p)

@@ -1,5 +1,5 @@
--- Each solution of a goal in a linked set is one by a candidate.
-use Rattle.std.specs.Prelude.{◌≡◌, ◌&&◌, true, false, List, [], ◌∷◌, ◌++◌, map, Some}
+-- Each solution of a goal is one by a candidate.
+use Rattle.std.specs.Prelude.{◌≡◌, ℕ, ◌&&◌, true, false, List, [], ◌∷◌, ◌++◌, map, Some}
 use Rattle.model.specs.Label.{dynamic}
 use Rattle.model.specs.Trees.{Trees, none, tree}
 use Rattle.type_terms.specs.Made.{terms}
@@ -18,10 +18,10 @@ use Rattle.evaluation.specs.TableOperations.{begin}
 use Rattle.evaluation.specs.Tables.{frame_tables}
 use Rattle.assembly_laws.specs.Slots.{as_slots, with_slots}
 use Rattle.declarations.specs.Elaboration.{elaborate}
-use Rattle.assembly_laws.specs.Meaning.{Meaning, LinkedWith, proved_in}
+use Rattle.assembly_laws.specs.Meaning.{Meaning, Place, proved_at}
 use Rattle.assembly_laws.specs.Lifetimes.{goal_gives_lifetimes}
 use Rattle.assembly_laws.specs.Knowing.{is_knowable}
-use Rattle.assembly_laws.specs.Declared.{is_declared_view, BoundsAreErased}
+use Rattle.assembly_laws.specs.Declared.{is_declared_view, BoundsAreErased, LeadDown}
 use Rattle.assembly_laws.specs.Asking.{Asked, asked, clauses, self_of, begins_unknown}
 use Rattle.assembly_laws.specs.Candidates.{Candidate, unknowable, by_clauses, built_in, by_impls, by_objects}
 use Rattle.assembly_laws.specs.Determined.{ImplsAreDetermined}
@@ -59,8 +59,8 @@ BoundsAreTerms V a =
 -- the table of the candidate allows these terms, and with them it realizes the values
 abbrev pub GivenIsRealized : Type 0
 GivenIsRealized =
-    (m : Meaning) (w : LinkedWith m) (kinds : List CanonicalVarKind) (v : Values) (c : Candidate) → AreTermsOf c → has_placeholder kinds ≡ false → has_placeholder c.kinds ≡ false
-    → (v.proper && fits (map Some kinds) v.terms) ≡ true → Gives (proved_in w) kinds (with_slots kinds v) c → Realizes frame_tables (IsSolution (proved_in w)) (begin kinds) v c
+    (m : Meaning) (w : Place m) (kinds : List CanonicalVarKind) (v : Values) (c : Candidate) → AreTermsOf c → has_placeholder kinds ≡ false → has_placeholder c.kinds ≡ false
+    → (v.proper && fits (map Some kinds) v.terms) ≡ true → Gives (proved_at w) kinds (with_slots kinds v) c → Realizes frame_tables (IsSolution (proved_at w)) (begin kinds) v c
 
 -- all candidates but the unknowable one
 abbrev pub all_candidates : World → Asked → List Candidate
@@ -74,8 +74,8 @@ goal_fact f v = fact_of (record { form = f; coinductive = false }) v
 abbrev pub SolutionsAreCandidates : Meaning → Type 0
 SolutionsAreCandidates m =
     (f : CanonicalForm) (a : Asked) → asked m.view f ≡ Some a → begins_unknown a.kinds (self_of a) ≡ false → goal_gives_lifetimes m.view a ≡ true
-    → (w : Searched m f) (v : Values) → IsSolution (proved_in w.linked) (goal_fact f v)
-    → (is_knowable m.view m.crate a.reference ≡ true → SomeOf (Gives (proved_in w.linked) a.kinds v) (all_candidates m.view a)) × Gives (proved_in w.linked) a.kinds v (unknowable m.view a)
+    → (w : Searched m f) (v : Values) → IsSolution (proved_at w.place) (goal_fact f v)
+    → (is_knowable m.view m.crate a.reference ≡ true → SomeOf (Gives (proved_at w.place) a.kinds v) (all_candidates m.view a)) × Gives (proved_at w.place) a.kinds v (unknowable m.view a)
 
 -- the reference with terms for its variables
 abbrev pub read_reference : List Trees → Reference → Reference
@@ -85,6 +85,7 @@ read_reference ts r = record { trait = r.trait; args = read_with (given ts) r.ar
 abbrev pub Proved : (Reference → Type 0) → Reference → Type 0
 Proved H r = (is_closed r.args ≡ true) × H r
 
--- in every linked set that holds the crate's view, each solution is one by the candidates that are considered
+-- by the crate's view alone, and in every linked set that holds it, each solution is one by the candidates that are considered
 abbrev pub SolutionsAreByCandidates : Type 0
-SolutionsAreByCandidates = (m : Meaning) → is_declared_view m.view ≡ true → ImplsAreDetermined m.view → BoundsAreErased m.view → SolutionsAreCandidates m
+SolutionsAreByCandidates =
+    (m : Meaning) → is_declared_view m.view ≡ true → ImplsAreDetermined m.view → BoundsAreErased m.view → (rank : ℕ → ℕ) → LeadDown m.view rank → SolutionsAreCandidates m

@@ -1,4 +1,4 @@
--- In coherence each solution of a goal, in every linked set with the crate, is realized by a candidate that was considered before the answer.
+-- In coherence each solution of a goal, by the view and in every linked set with the crate, is realized by a candidate that was considered before the answer.
 use Rattle.std.specs.Prelude.{◌≡◌, ℕ, suc, ◌≤◌, Bool, true, List, ◌∷◌, length, Option, Some}
 use Rattle.model.specs.Worlds.{World}
 use Rattle.infer_table.specs.Canonical.{CanonicalForm}
@@ -16,7 +16,7 @@ use Rattle.evaluation.specs.Plans.{nested_in}
 use Rattle.evaluation.specs.Merge.{IsTest, TellsApart}
 use Rattle.assembly_laws.specs.Meaning.{Meaning}
 use Rattle.assembly_laws.specs.Lifetimes.{GivesLifetimes}
-use Rattle.assembly_laws.specs.Declared.{is_declared_view, BoundsAreErased}
+use Rattle.assembly_laws.specs.Declared.{is_declared_view, BoundsAreErased, LeadDown}
 use Rattle.assembly_laws.specs.Determined.{ImplsAreDetermined}
 use Rattle.assembly_laws.specs.Asking.{Asked, asked}
 use Rattle.assembly_laws.specs.Candidates.{unknowable}
@@ -42,6 +42,8 @@ pub record IsAsMeant (m : Meaning) : Type 0 where
   pub declared : is_declared_view m.view ≡ true
   pub determined : ImplsAreDetermined m.view
   pub erased : BoundsAreErased m.view
+  pub rank : ℕ → ℕ
+  pub acyclic : LeadDown m.view rank
   pub bounds : BoundsAreLeft m
 
 abbrev pub CoherenceIsCovered : Type 0

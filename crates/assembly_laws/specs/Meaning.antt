@@ -1,10 +1,12 @@
 -- What declarations mean, and where solutions are looked for.
-use Rattle.std.specs.Prelude.{ℕ, Bool, List, []}
-use Rattle.model.specs.Worlds.{World, CrateDecl, Reference}
+use Rattle.std.specs.Prelude.{◌≡◌, ℕ, Bool, true, List, []}
+use Rattle.model.specs.Worlds.{World, CrateDecl, Reference, ImplDecl}
 use Rattle.model.specs.Terms.{erased_world}
 use Rattle.model.specs.Renumbering.{View, Renumbering, HoldsView, renumbered_reference}
-use Rattle.model.specs.Proofs.{HasProof}
+use Rattle.model.specs.Proofs.{In, HasProof}
+use Rattle.model.specs.Elaborated.{HasElaboratedProof}
 use Rattle.model.specs.LinkedSet.{LinkedSet}
+use Rattle.declarations.specs.Heads.{begins_declared}
 
 -- the declarations that a crate sees, as they are written, and the crate; and whether they are found to be declared well, and the goal to
 -- fit them. If not, no goal is decided
@@ -27,3 +29,19 @@ pub record LinkedWith (m : Meaning) : Type 0 where
 -- what has a proof there, by the view's numbers
 abbrev pub proved_in : {m : Meaning} → LinkedWith m → Reference → Type 0
 proved_in w r = HasProof w.set [] (renumbered_reference w.numbers r)
+
+-- the self type of each impl is a parameter, or rigid
+abbrev pub SelfTypesBegin : World → Type 0
+SelfTypesBegin V = (i : ImplDecl) → In i V.impls → begins_declared i.header.args ≡ true
+
+-- where solutions are looked for: by the view alone, whichever crates it lists, also where no linked set holds it; or in a linked set
+pub data Place (m : Meaning) : Type 0 where
+  by_view : List CrateDecl → SelfTypesBegin m.view → Place m
+  in_set : LinkedWith m → Place m
+
+-- what has a proof there; by the view alone, one that holds the supertraits of all that it concludes, since the unknowable candidate asks
+-- for these. By `trait Sub<A>: FnOnce<(A,)>; impl Sub<bool> for fn(char)` alone `fn(char): Sub<bool>` has a proof, and yet in another
+-- crate `fn(char): Sub<?a>` is answered by ?a = char
+abbrev pub proved_at : {m : Meaning} → Place m → Reference → Type 0
+proved_at {m = m} (by_view crates begin) r = HasElaboratedProof (record (erased_world m.view) { crates = crates }) [] r
+proved_at (in_set w) r = proved_in w r

@@ -27,7 +27,7 @@ use Rattle.evaluation.specs.Tables.{frame_tables}
 use Rattle.evaluation.specs.Plans.{Plan, Planned, planned, each_of, first_alone}
 use Rattle.evaluation.specs.PlanAnswers.{all_merged, kept_merged, first_taken}
 use Rattle.assembly_laws.specs.Facts.{FollowsByView, is_coinductive_trait, reference_in, beside}
-use Rattle.assembly_laws.specs.Meaning.{Meaning, LinkedWith, proved_in}
+use Rattle.assembly_laws.specs.Meaning.{Meaning, Place, proved_at}
 use Rattle.assembly_laws.specs.Knowing.{is_knowable}
 use Rattle.assembly_laws.specs.Asking.{Asked, asked, clauses, self_of, begins_unknown}
 use Rattle.assembly_laws.specs.Candidates.{unsure, unknowable, by_clauses, built_in, by_impls, by_objects}
@@ -170,9 +170,10 @@ has_placeholder (PlaceholderTy ∷ ks) = true
 has_placeholder (PlaceholderConst ∷ ks) = true
 has_placeholder (k ∷ ks) = has_placeholder ks
 
--- in coherence in every linked set with the crate, for goals without where-clauses and placeholders; nowhere outside it
+-- in coherence by the crate's view, and in every linked set with the crate, for goals without where-clauses and placeholders; nowhere
+-- outside it
 pub record Searched (m : Meaning) (f : CanonicalForm) : Type 0 where
-  pub linked : LinkedWith m
+  pub place : Place m
   pub no_clauses : f.goal.environment ≡ none
   pub no_placeholders : has_placeholder (kinds_known f.kinds) ≡ false
 
@@ -188,7 +189,7 @@ pub record IsSolution (H : Reference → Type 0) (f : Fact) : Type 0 where
   pub proof : H (reference_in f)
 
 abbrev pub proves_in : (m : Meaning) (mode : TypingMode) (f : CanonicalForm) → world_of m mode f → Fact → Type 0
-proves_in m Coherence f w g = IsSolution (proved_in w.linked) g
+proves_in m Coherence f w g = IsSolution (proved_at w.place) g
 proves_in m PostAnalysis f w g = ⊥
 
 -- ---- the handler

@@ -1,4 +1,4 @@
-//! What the solver means for a goal, and that its candidates cover each solution in every linked set.
+//! What the solver means for a goal, and that its candidates cover each solution by the view and in every linked set.
 #![tactic(auto)]
 
 ghost use Rattle.assembly_laws.specs.Facts.{ProofsOfFactsAreProofs, ReferencesComeBack};
@@ -26,9 +26,10 @@ pub fn views_tell()
     ensures core { WrittenCoreIsLinked }
 {}
 
-/// In every linked set that holds the crate's view, up to lifetimes and by other numbers, a solution of a goal without where-clauses and
-/// placeholders, whose structs are given lifetimes where their fields name them, is one by the unknowable candidate; where the crate
-/// knows the goal, whatever its unknowns stand for, it is one by a where-clause, a built-in rule, an impl or an object bound.
+/// By the crate's view alone, with proofs that hold the supertraits of all that they conclude, and in every linked set that holds the
+/// view, up to lifetimes and by other numbers, a solution of a goal without where-clauses and placeholders, whose structs are given
+/// lifetimes where their fields name them, is one by the unknowable candidate; where the crate knows the goal, whatever its unknowns
+/// stand for, it is one by a where-clause, a built-in rule, an impl or an object bound.
 pub fn solutions_are_by_candidates()
     ensures { SolutionsAreByCandidates }
 {}
@@ -75,9 +76,9 @@ pub fn rows_are_sound()
 {}
 
 /// Where the view is declared well, the solver is a lawful handler of every goal whose structs are given their lifetimes, in both modes;
-/// and in coherence each solution of a goal, in every linked set with the crate, is realized by a candidate that was considered before
-/// the answer. If the view is not found to be declared well, no goal is decided. Each candidate of a goal whose self type is known is
-/// lawful.
+/// and in coherence each solution of a goal, by the view and in every linked set with the crate, is realized by a candidate that was
+/// considered before the answer. If the view is not found to be declared well, no goal is decided. Each candidate of a goal whose self
+/// type is known is lawful.
 pub fn solver_is_lawful()
     ensures handler { SolverIsLawfulAndCovers }
     ensures candidates { WellDeclaredIsLawful }

@@ -12,14 +12,15 @@ use Rattle.evaluation.specs.Tables.{frame_tables}
 use Rattle.goal_frames.specs.Handlers.{same_answer, applies_always}
 use Rattle.goal_frames.specs.HandlerPrograms.{KeepNumbers, KeepWorlds, LookInCoherenceOnly, InstancesAreGoals, KindsAreOf, RulesAreOf}
 use Rattle.goal_frames.proofs.Same.{answers-are, applies-to-yeses}
-use Rattle.assembly_laws.specs.Facts.{FollowsByView}
+use Rattle.assembly_laws.specs.Facts.{FollowsByView, reference_in}
+use Rattle.assembly_laws.specs.Meaning.{proved_at}
 use Rattle.assembly_laws.specs.DeclaredWell.{is_declared_well}
 use Rattle.assembly_laws.specs.Lifetimes.{form_gives_lifetimes, given_by, GivesLifetimes}
 use Rattle.assembly_laws.specs.Lawful.{ViewIsDeclaredWell}
-use Rattle.assembly_laws.specs.Solver.{declared_width, widest_of, number_at, clauses_in}
+use Rattle.assembly_laws.specs.Solver.{declared_width, widest_of, number_at, clauses_in, IsSolution}
 use Rattle.assembly_laws.proofs.DeclaredWell.{tests-tell}
 use Rattle.assembly_laws.proofs.SolverLaw.{solver-is-lawful-and-covers}
-use Rattle.assembly_laws.proofs.Worlds.{keep-worlds}
+use Rattle.assembly_laws.proofs.Worlds.{same-place, keep-worlds}
 use Rattle.type_terms.proofs.Made.{left, right}
 use Rattle.candidate_assembly.specs.Solving.{Solving, meaning_for, solver_for, coinductive_for}
 
@@ -53,13 +54,10 @@ numbers-are-kept s mode g q h =
 pub worlds-are-kept : KeepWorlds solver_for
 worlds-are-kept s PostAnalysis g heard q came e x = absurd x
 worlds-are-kept s Coherence g heard q came e x =
-    let k = keep-worlds applies_always same_answer (meaning_for s g) Coherence g heard q came e x in (
-      record {
-        linked = record { set = k.0.linked.set; views = k.0.linked.views; rank = k.0.linked.rank; linked = k.0.linked.linked; numbers = k.0.linked.numbers; crates = k.0.linked.crates; holds = k.0.linked.holds };
-        no_clauses = k.0.no_clauses;
-        no_placeholders = k.0.no_placeholders;
-      },
-      k.1,
+    let k = keep-worlds applies_always same_answer (meaning_for s g) Coherence g heard q came e x in
+    let p = same-place s.view s.crate (meaning_for s g).is_sound (meaning_for s q.form).is_sound k.0.place in (
+      record { place = p.0; no_clauses = k.0.no_clauses; no_placeholders = k.0.no_placeholders },
+      λ f y. let z : IsSolution (proved_at k.0.place) f = k.1 f y in record { asks = z.asks; proper = z.proper; closed = z.closed; proof = p.1 (reference_in f) z.proof },
     )
 
 pub instances-are-goals : InstancesAreGoals solver_for

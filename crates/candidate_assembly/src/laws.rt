@@ -43,8 +43,8 @@ pub fn well_declared_have_candidates()
 {}
 
 /// What the solver means for goals are lawful programs for a search, for each view and whatever is asked of goals beside that they are
-/// decided: for each goal it is a lawful handler, in coherence its answers cover the solutions in every linked set, terms get no wider
-/// and questions no more from goal to goal, and the solutions of nested goals are looked for where those of the goal are.
+/// decided: for each goal it is a lawful handler, in coherence its answers cover the solutions by the view and in every linked set, terms
+/// get no wider and questions no more from goal to goal, and the solutions of nested goals are looked for where those of the goal are.
 pub fn solver_keeps_the_laws_of_handlers()
     ensures { HandlersArePrograms solver_for (λ s. FollowsByView s.view) coinductive_for }
 {}

@@ -25,7 +25,7 @@ use Rattle.assembly_laws.specs.Meaning.{Meaning}
 use Rattle.solver_exactness.specs.SolverWays.{facts_beside, ways_in_coherence}
 use Rattle.solver_exactness.specs.SolverAnswers.{solver_programs, TellsPossible, SolverTellsPossible}
 use Rattle.solver_exactness.proofs.ReadBack.{ways-back, coherence-comes-back}
-use Rattle.solver_exactness.proofs.ClosedPremises.{LeadsToClosed, leads-to-closed}
+use Rattle.assembly_laws.proofs.ClosedPremises.{LeadsToClosed, leads-to-closed}
 use Rattle.solver_exactness.proofs.SolverAnswers.{solver-searches-are-exact}
 
 -- ---- lists of which something else is known too

@@ -44,7 +44,6 @@ pub mod SolverSelections
 pub mod SolverHandlers
 pub mod SolverAnswers
 pub mod LeadingGoals
-pub mod ClosedPremises
 pub mod ClosedAnswers
 pub mod QuestionTerms
 pub mod QuestionNames
