@@ -3,3 +3,4 @@ mod Seeing
 mod TextTerms
 mod FormedTexts
 mod FormedViews
+mod AskedGoals

@@ -68,7 +68,7 @@ module _ (t : FrameTable) (m : IsMadeFrame t) (closed : AreClosed (map Some t.ki
       (λ l i. leaf-closed l (inr i)))
 
 -- ---- leaves stand once
-abbrev AreOnce : List Label → Type 0
+abbrev pub AreOnce : List Label → Type 0
 AreOnce [] = Unit {0}
 AreOnce (l ∷ ls) = (is_among l ls ≡ false) × AreOnce ls
 
@@ -105,7 +105,7 @@ once-label true l ls h = by (is_among l ls) refl
     by true e = h
     by false e = once-end ls l h e
 
-once-leaves : (kind : OpenKinds) (seen : List Label) (t : Trees) → AreOnce seen → AreOnce (leaves kind seen t)
+pub once-leaves : (kind : OpenKinds) (seen : List Label) (t : Trees) → AreOnce seen → AreOnce (leaves kind seen t)
 once-leaves kind seen none h = h
 once-leaves kind seen (tree l c o) h =
     let a = if is_some (kind l) then with_label l seen else seen in
@@ -181,7 +181,7 @@ at-among l [] i h = absurd h
 at-among l (m ∷ ls) zero h = subst (λ z. is_among z (m ∷ ls) ≡ true) h (among-first m ls)
 at-among l (m ∷ ls) (suc i) h = or-right (same_label m l) (is_among l ls) (at-among l ls i h)
 
-one-place : (l : Label) (ls : List Label) (i j : ℕ) → AreOnce ls → IsAt l ls i → IsAt l ls j → i ≡ j
+pub one-place : (l : Label) (ls : List Label) (i j : ℕ) → AreOnce ls → IsAt l ls i → IsAt l ls j → i ≡ j
 one-place l [] i j o h g = absurd h
 one-place l (m ∷ ls) zero zero o h g = refl
 one-place l (m ∷ ls) zero (suc j) o h g = absurd (false-true (sym (subst (λ z. is_among z ls ≡ false) h o.0) ∙ at-among l ls j g))

@@ -1,0 +1,53 @@
+-- Goals without unknowns, as a search is asked them: a reference under where-clauses, in which placeholders stand for parameters.
+use Rattle.std.specs.Prelude.{◌≡◌, Bool, true, false, List, map}
+use Rattle.std.specs.List.{list_all}
+use Rattle.model.specs.Label.{Label, param, infer, canonical, bound}
+use Rattle.model.specs.Terms.{erased_reference}
+use Rattle.model.specs.Trees.{Trees, none}
+use Rattle.model.specs.Worlds.{World, Reference}
+use Rattle.type_terms.specs.Made.{terms, is_made}
+use Rattle.declarations.specs.Applied.{sorts_of}
+use Rattle.infer_table.specs.Canonical.{GoalTrees}
+use Rattle.infer_table.specs.Solutions.{Assignment, IsSorted}
+use Rattle.evaluation.specs.Content.{fact_of}
+use Rattle.assembly_laws.specs.Facts.{tree_of_reference, trees_of_clauses, clauses_of, reference_in}
+use Rattle.root_goals.specs.Roots.{question_of, values_under}
+use Rattle.solver_exactness.specs.FormedAnswers.{IsFormedGoal}
+use Rattle.solver_exactness.specs.FormedFacts.{Sorts, NodesFit, IsTraitOf, IsFormedView}
+use Rattle.solver_exactness.specs.SolverChoices.{IsElaborated}
+use Rattle.solver_exactness.specs.UnboundGoals.{is_unbound}
+
+-- the reference as a goal, under these where-clauses
+abbrev pub goal_of : List Reference → Reference → GoalTrees
+goal_of E r = record { environment = trees_of_clauses E; predicate = tree_of_reference r none }
+
+-- of open places it may be a placeholder alone
+abbrev pub is_fixed : Label → Bool
+is_fixed (param k i) = false
+is_fixed (infer k i) = false
+is_fixed (canonical k i) = false
+is_fixed (bound k j i) = false
+is_fixed l = true
+
+abbrev pub are_fixed : Trees → Bool
+are_fixed t = is_made is_fixed terms t
+
+-- The terms are made as terms are, of placeholders and no other open places; names are declared, and have their arguments; and the
+-- supertraits of where-clauses are where-clauses, up to lifetimes.
+pub record IsFormedQuestion (V : World) (sorts : Sorts) (E : List Reference) (r : Reference) : Type 0 where
+  pub terms : are_fixed r.args ≡ true
+  pub nodes : NodesFit V sorts r.args
+  pub trait : IsTraitOf V sorts r.trait (sorts_of r.args)
+  pub clauses : list_all (λ (c : Reference). are_fixed c.args) E ≡ true
+  pub elaborated : IsElaborated V (map erased_reference E)
+
+-- what a question asks is up to lifetimes this reference, under these where-clauses, where each placeholder stands for itself
+pub record AsksFor (E : List Reference) (r : Reference) (s : Assignment) : Type 0 where
+  pub reference : reference_in (fact_of (question_of (goal_of E r)) (values_under s (goal_of E r))) ≡ erased_reference r
+  pub clauses : clauses_of (fact_of (question_of (goal_of E r)) (values_under s (goal_of E r))).goal.environment ≡ map erased_reference E
+
+-- where declarations are formed, such a question is a goal that is answered exactly
+abbrev pub FormedQuestionsAreGoals : Type 0
+FormedQuestionsAreGoals =
+    (V : World) (sorts : Sorts) → IsFormedView V sorts → (E : List Reference) (r : Reference) → IsFormedQuestion V sorts E r → (s : Assignment) → IsSorted s
+    → IsFormedGoal V sorts is_unbound (question_of (goal_of E r)) (values_under s (goal_of E r)) × AsksFor E r s
