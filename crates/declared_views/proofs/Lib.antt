@@ -18,4 +18,6 @@ mod WellSeen
 mod Matched
 mod Told
 mod ReadySeen
-mod SolverReady
+mod Variables
+mod QuestionTypes
+mod QuestionTexts

@@ -3,8 +3,8 @@
 
 ghost use Rattle.declarations.specs.Applied.{HaveBounds};
 ghost use Rattle.declared_views.specs.Laws.{TextsAreDeclaredWell};
+ghost use Rattle.declared_views.specs.Questions.{RefutationsHaveVariablesAlone};
 ghost use Rattle.declared_views.specs.Ready.{OfTexts, FieldsSpeak, HeadersTell, ImplsSpeak};
-ghost use Rattle.declared_views.specs.Solving.{AreReady};
 
 /// Each crate of a text without a fault sees declarations by which goals can be decided: their terms are made as they are to be, of
 /// the item's own parameters and of no binder that counts its lifetimes; the where-clauses of an impl speak of parameters of its
@@ -32,7 +32,7 @@ pub fn bounds_are_applied()
     ensures { OfTexts HaveBounds }
 {}
 
-/// What a crate sees of a text without a fault is ready for the solver, where its terms are an interner's.
-pub fn declarations_are_ready()
-    ensures { OfTexts AreReady }
+/// The reference of each `refute` question of a text without a fault holds no parameter, and no unknown but the question's variables.
+pub fn refutations_have_variables_alone()
+    ensures { RefutationsHaveVariablesAlone }
 {}

@@ -10,11 +10,11 @@ use Rattle.assembly_laws.specs.DeclaredWell.{is_declared_well}
 use Rattle.assembly_laws.proofs.DeclaredWell.{tests-tell}
 use Rattle.candidate_assembly.specs.Headers.{var_kind, StandInHeader}
 use Rattle.candidate_assembly.proofs.WellDeclared.{well-declared-have-candidates}
-use Rattle.declared_views.specs.Solving.{AreReady}
-use Rattle.declared_views.specs.Ready.{OfTexts, kind_of_sort, TellsKinds}
-use Rattle.declared_views.proofs.Applied.{each-map}
-use Rattle.declared_views.proofs.ReadySeen.{texts-headers, texts-fields, texts-bounds}
-use Rattle.declared_views.proofs.WellSeen.{texts-seen-well}
+use Rattle.declarations.specs.Applied.{HaveBounds}
+use Rattle.declarations.specs.Merges.{Each}
+use Rattle.declared_views.specs.Laws.{TextsAreDeclaredWell}
+use Rattle.declared_views.specs.Ready.{OfTexts, FieldsSpeak, HeadersTell, kind_of_sort, TellsKinds}
+use Rattle.sessions.specs.Readying.{AreReady}
 
 one-kind : (p : GenericParamKind) → var_kind p ≡ kind_of_sort (sort_of_param p)
 one-kind Lifetime = refl
@@ -32,13 +32,17 @@ as-long (p ∷ ps) = ap suc (as-long ps)
 stands : (es : List Entry) (i : HeldImpl) → TellsKinds es i → StandInHeader es i.def
 stands es i h = all-kinds i.def.params.items ∙ h ∙ ap (kinds_of_params (trees_at es i.def.header.args.0) 0) (as-long i.def.params.items)
 
-pub texts-ready : OfTexts AreReady
-texts-ready bytes d h c es decls seen held =
-    let well : is_declared_well (written es decls) ≡ true = ap is_declared_well seen.written ∙ texts-seen-well bytes d h c in
+each-map : {A : Type 0} (P Q : A → Type 0) → ((x : A) → P x → Q x) → (xs : List A) → Each P xs → Each Q xs
+each-map P Q f [] h = tt
+each-map P Q f (x ∷ xs) h = (f x h.0, each-map P Q f xs h.1)
+
+pub texts-ready : TextsAreDeclaredWell → OfTexts FieldsSpeak → OfTexts HeadersTell → OfTexts HaveBounds → OfTexts AreReady
+texts-ready all-well fields headers bounds bytes d h c es decls seen held =
+    let well : is_declared_well (written es decls) ≡ true = ap is_declared_well seen.written ∙ all-well bytes d h c in
     record {
       held = held;
       well = well;
-      impls = well-declared-have-candidates es decls held (tests-tell (written es decls) well) (each-map (TellsKinds es) (λ (i : HeldImpl). StandInHeader es i.def) (stands es) decls.impls (texts-headers bytes d h c es decls seen));
-      fields = texts-fields bytes d h c es decls seen;
-      bounds = texts-bounds bytes d h c es decls seen;
+      impls = well-declared-have-candidates es decls held (tests-tell (written es decls) well) (each-map (TellsKinds es) (λ (i : HeldImpl). StandInHeader es i.def) (stands es) decls.impls (headers bytes d h c es decls seen));
+      fields = fields bytes d h c es decls seen;
+      bounds = bounds bytes d h c es decls seen;
     }

@@ -1,0 +1,108 @@
+-- References asked over a table without values.
+use Rattle.std.proofs.Common.{◌≡◌, ℕ, zero, suc, ◌+◌, ◌≤◌, ◌<◌, arith, List, [], ◌∷◌, length, drop, get_or, refl, sym, ap, ◌∙◌, subst}
+use Rattle.model.specs.Label.{of_type, of_const, of_trait, predicate}
+use Rattle.model.specs.Trees.{Trees, none, tree}
+use Rattle.model.specs.Worlds.{Reference}
+use Rattle.type_terms.specs.Terms.{Entry, Keeps, Lawful, Has, args_lists, trees_at}
+use Rattle.type_terms.specs.declared.kinds.GenericArgKind.{GenericArgKind}
+use Rattle.type_terms.specs.declared.kinds.GenericArgKind.TheVariants.{Ty, Const, Lifetime}
+use Rattle.term_folds.specs.Kept.{has-later, trees-later}
+use Rattle.term_folds.specs.declared.predicate.TraitRef.{TraitRef}
+use Rattle.declarations.specs.Items.{reference_in}
+use Rattle.infer_table.specs.Canonical.{GoalTrees, CanonicalForm, HasNoCanonical, canonical_form}
+use Rattle.infer_table.specs.Content.{Table, content, variables_of}
+use Rattle.infer_table.specs.Covers.{AreKnown, IsOfKnown}
+use Rattle.infer_table.specs.Goals.{goal_trees, goal_resolved, environment_trees}
+use Rattle.infer_table.specs.Inputs.{IsWithoutCanonical}
+use Rattle.infer_table.specs.Solutions.{Assignment, Solves}
+use Rattle.infer_table.specs.declared.certainty.TypingMode.{TypingMode}
+use Rattle.infer_table.specs.declared.certainty.TypingMode.TheVariants.{Coherence}
+use Rattle.infer_table.specs.declared.goal.Goal.{Goal}
+use Rattle.evaluation.specs.Handler.{Handled}
+use Rattle.evaluation.specs.Tables.{frame_tables}
+use Rattle.root_goals.specs.Roots.{goal_in, fact_under, IsPosed, AtProvedSolutions}
+use Rattle.text_definitions.specs.Declarations.{Question}
+use Rattle.view_lowering.specs.Plain.{unbound_reference}
+use Rattle.view_lowering.specs.Questions.{IsLowered}
+use Rattle.view_lowering.specs.declared.question.LoweredQuestion.{LoweredQuestion}
+use Rattle.declared_views.specs.Questions.{variable_kinds, number_of, HasVariablesAlone}
+use Rattle.sessions.specs.Asking.{HasNoProof, goal_alone, empty_table, with_unknowns}
+use Rattle.sessions.proofs.Posed.{no-canonical, known}
+use Rattle.sessions.proofs.Counted.{Counted, counts-are}
+
+-- ---- the goal
+same-goal : (a b p r : Trees) → a ≡ b → p ≡ r → (let g : GoalTrees = record { environment = a; predicate = p } in g) ≡ record { environment = b; predicate = r }
+same-goal a b p r e f = cc
+
+pub alone-is : (es : List Entry) (goal : Goal) (r : TraitRef) → goal.param_env.items ≡ [] → goal.predicate.trait_ref ≡ r → goal_trees es goal ≡ goal_alone (reference_in es r)
+alone-is es goal r e f = same-goal _ _ _ _ (ap (environment_trees es) e) (ap (λ (z : TraitRef). tree (predicate (of_trait z.def_id.index)) (trees_at es z.args.0) none) f)
+
+module _ (es : List Entry) (t : Table) (goal : Goal) (g : GoalTrees) (no_values : t.values ≡ []) (is : goal_trees es goal ≡ g) where
+  pub resolved-is : goal_in es t goal ≡ g
+  resolved-is = ap (λ vs. goal_resolved (content es vs) (goal_trees es goal)) no_values ∙ is
+
+  pub no-proof : (handled : TypingMode → CanonicalForm → Handled frame_tables) → AtProvedSolutions handled Coherence es t goal (λ s. ⊥) → HasNoCanonical g.environment → HasNoCanonical g.predicate
+      → AreKnown (variables_of t) g.environment → AreKnown (variables_of t) g.predicate → HasNoProof handled g
+  no-proof handled at a b j k x s so p =
+      subst (λ z. let h = handled Coherence (canonical_form z) in (y : h.World) (r : Assignment) → Solves r (content es t.values) → h.Proves y (fact_under r (goal_trees es goal)) → ⊥) resolved-is
+      (at posed) x s (subst (λ vs. Solves s (content es vs)) (sym no_values) so) (subst (λ z. (handled Coherence (canonical_form g)).Proves x (fact_under s z)) (sym is) p)
+    where
+      posed : IsPosed es t goal
+      posed = record {
+        clean = subst IsWithoutCanonical (sym resolved-is) (record { environment = a; predicate = b });
+        environment_known = subst (λ (z : GoalTrees). AreKnown (variables_of t) z.environment) (sym resolved-is) j;
+        predicate_known = subst (λ (z : GoalTrees). AreKnown (variables_of t) z.predicate) (sym resolved-is) k;
+        table_known = subst (λ vs. IsOfKnown (variables_of t) (content es vs)) (sym no_values) (λ r q c d e. d);
+      }
+
+-- ---- the table
+pub values-kept : (t : Table) (us : List GenericArgKind) → (with_unknowns t us).values ≡ t.values
+values-kept t [] = refl
+values-kept t (Ty x ∷ us) = values-kept (record t { ty_vars = t.ty_vars + 1 }) us
+values-kept t (Const x ∷ us) = values-kept (record t { const_vars = t.const_vars + 1 }) us
+values-kept t (Lifetime x ∷ us) = values-kept t us
+
+pub first-added : (t : Table) (u : GenericArgKind) (us : List GenericArgKind) → with_unknowns t (u ∷ us) ≡ with_unknowns (with_unknowns t (u ∷ [])) us
+first-added t (Ty x) us = refl
+first-added t (Const x) us = refl
+first-added t (Lifetime x) us = refl
+
+enough : (n m k : ℕ) → n ≡ m → m ≡ 0 + k → k ≤ n
+enough n m k e f = omega (arith, e, f)
+
+-- ---- a question's reference, which speaks of its variables alone
+module _ (q : Question) (old new : List Entry) (law : Lawful old) (k : Keeps old new) (l : LoweredQuestion) (low : IsLowered old q l) where
+  pub held-there : Has new args_lists l.asked.args.0
+  held-there = has-later old new k args_lists l.asked.args.0 low.asked_held
+
+  pub reference-is : reference_in new l.asked ≡ unbound_reference q.asked
+  reference-is = ap (λ z. (let r : Reference = record { trait = l.asked.def_id.index; args = z } in r)) (trees-later old new k args_lists l.asked.args.0 low.asked_held) ∙ low.asked
+
+  module _ (own : HasVariablesAlone q) where
+    pub clean-there : HasNoCanonical (reference_in new l.asked).args
+    clean-there = subst (λ (r : Reference). HasNoCanonical r.args) (sym reference-is) (no-canonical (variable_kinds q) (unbound_reference q.asked).args own)
+
+    pub known-there : (t : Table) → t ≡ with_unknowns empty_table l.unknowns.items → AreKnown (variables_of t) (reference_in new l.asked).args
+    known-there t made =
+        let c : Counted empty_table (with_unknowns empty_table l.unknowns.items) (variable_kinds q) = counts-are old law l.unknowns.items q.variables 0 0 empty_table low.unknowns_held low.unknowns in
+        subst (λ (r : Reference). AreKnown (variables_of t) r.args) (sym reference-is)
+        (known (variable_kinds q) (variables_of t)
+        (enough t.ty_vars (with_unknowns empty_table l.unknowns.items).ty_vars (number_of of_type (variable_kinds q)) (ap (λ (u : Table). u.ty_vars) made) c.types)
+        (enough t.const_vars (with_unknowns empty_table l.unknowns.items).const_vars (number_of of_const (variable_kinds q)) (ap (λ (u : Table). u.const_vars) made) c.consts)
+        (unbound_reference q.asked).args own)
+
+    pub refused-there : (first second : TypingMode → CanonicalForm → Handled frame_tables) → second ≡ first → HasNoProof second (goal_alone (reference_in new l.asked)) → HasNoProof first (goal_alone (unbound_reference q.asked))
+    refused-there first second e h = subst (λ z. HasNoProof z (goal_alone (unbound_reference q.asked))) e (subst (λ r. HasNoProof second (goal_alone r)) reference-is h)
+
+-- ---- lists
+-- what is at a place, and what is behind it
+next-behind : {A : Type 0} (xs : List A) (i : ℕ) (x : A) → i < length xs → x ≡ get_or xs i x → drop i xs ≡ x ∷ drop (suc i) xs
+next-behind [] i x h e = absurd (omega (arith, h))
+next-behind (y ∷ xs) zero x h e = ap (λ z. z ∷ xs) (sym e)
+next-behind (y ∷ xs) (suc i) x h e = next-behind xs i x (omega (arith, h)) e
+
+one-up : (i : ℕ) → suc i ≡ i + 1
+one-up i = omega arith
+
+pub next-left : {A : Type 0} (xs : List A) (i : ℕ) (x : A) → i < length xs → x ≡ get_or xs i x → drop i xs ≡ x ∷ drop (i + 1) xs
+next-left xs i x h e = next-behind xs i x h e ∙ ap (λ n. x ∷ drop n xs) (one-up i)

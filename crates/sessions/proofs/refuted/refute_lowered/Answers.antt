@@ -1,0 +1,30 @@
+use Rattle.std.proofs.Common.{rules, ◌≡◌, ◌∙◌, ap}
+use Rattle.infer_table.specs.Content.{Table}
+use Rattle.sessions.specs.Asking.{empty_table, with_unknowns}
+use Rattle.sessions.proofs.Alone.{clean-there, known-there, refused-there, values-kept}
+use Rattle.sessions.proofs.refuted.refute_lowered.Goals as goal
+
+pub returns-in_err-add_unknowns_in-clause-rest : goal.returns-in_err-add_unknowns_in-clause-rest
+returns-in_err-add_unknowns_in-clause-rest g c = c.rest_laws.ensures.rest c.args.graph.now.root_depth c.args.cx.now c.add_unknowns_in.new.cx c.args.graph.now c.args.cache.now c.requires.rest c.add_unknowns_in.ensures.advances
+
+pub ask_in_coherence-requires-clause-rest : goal.ask_in_coherence-requires-clause-rest
+ask_in_coherence-requires-clause-rest g c = c.rest_laws.ensures.rest c.args.graph.now.root_depth c.args.cx.now c.add_unknowns_in.new.cx c.args.graph.now c.args.cache.now c.requires.rest c.add_unknowns_in.ensures.advances
+
+pub ask_in_coherence-requires-clause-no_values : goal.ask_in_coherence-requires-clause-no_values
+ask_in_coherence-requires-clause-no_values g c =
+    ap (λ (t : Table). t.values) c.in_ok-add_unknowns_in.ensures.made ∙ values-kept c.args.table.now c.deref.result.now ∙ ap (λ (t : Table). t.values) c.requires.table
+
+pub returns-clause-no : goal.returns-clause-no
+returns-clause-no g c =
+    λ r q low own.
+    let us : c.deref.result.now ≡ c.args.lowered.now.unknowns.items = search rules in
+    let made : c.add_unknowns_in.new.table ≡ with_unknowns empty_table c.args.lowered.now.unknowns.items =
+    c.in_ok-add_unknowns_in.ensures.made ∙ ap (λ (t : Table). with_unknowns t c.deref.result.now) c.requires.table ∙ ap (with_unknowns empty_table) us in
+    let old = c.args.cx.now.interner.entries in
+    let new = c.add_unknowns_in.new.cx.interner.entries in
+    let law = c.requires.rest.ready.lawful in
+    let k = c.add_unknowns_in.ensures.advances.entries in
+    let l = c.args.lowered.now in
+    refused-there q old new law k l low own (g.H.GoalHandler.handled (g.H.GoalHandler.meaning c.args.cx.now.handler old)) (g.H.GoalHandler.handled (g.H.GoalHandler.meaning c.add_unknowns_in.new.cx.handler new))
+    (ap g.H.GoalHandler.handled (c.rest_laws.ensures.meaning c.args.cx.now c.add_unknowns_in.new.cx c.requires.rest.ready c.add_unknowns_in.ensures.advances))
+    (c.ask_in_coherence.ensures.no r (clean-there q old new law k l low own) (known-there q old new law k l low own c.add_unknowns_in.new.table made))

@@ -1,0 +1,59 @@
+-- Questions as they are asked in coherence: their references alone, with unknowns for their variables.
+use Rattle.std.specs.Prelude.{◌⊎◌, ◌+◌, Bool, List, [], ◌∷◌, Some}
+use Rattle.model.specs.Label.{of_trait, predicate}
+use Rattle.model.specs.Trees.{none, tree}
+use Rattle.model.specs.Worlds.{Reference}
+use Rattle.type_terms.specs.Terms.{Entry}
+use Rattle.type_terms.specs.declared.kinds.GenericArgKind.{GenericArgKind}
+use Rattle.type_terms.specs.declared.kinds.GenericArgKind.TheVariants.{Ty, Const, Lifetime}
+use Rattle.infer_table.specs.Canonical.{GoalTrees, CanonicalForm, canonical_form}
+use Rattle.infer_table.specs.Content.{Table}
+use Rattle.infer_table.specs.Responses.{AnswerTrees}
+use Rattle.infer_table.specs.Solutions.{Assignment, IsSorted}
+use Rattle.infer_table.specs.declared.certainty.TypingMode.{TypingMode}
+use Rattle.infer_table.specs.declared.certainty.TypingMode.TheVariants.{Coherence}
+use Rattle.evaluation.specs.Handler.{Handled}
+use Rattle.evaluation.specs.Content.{Fact}
+use Rattle.evaluation.specs.Tables.{frame_tables}
+use Rattle.search_graph.specs.SearchState.{SearchState}
+use Rattle.root_goals.specs.declared.context.SolverCx.{SolverCx}
+use Rattle.root_goals.specs.Contexts.{Asked}
+use Rattle.root_goals.specs.Evaluations.{IsFound}
+use Rattle.root_goals.specs.Results.{IsNotPlainWithin}
+use Rattle.root_goals.specs.Roots.{fact_under}
+use Rattle.root_goals.specs.Searching.{solver_meaning}
+
+-- ---- goals
+-- A reference as a goal without where-clauses.
+abbrev pub goal_alone : Reference → GoalTrees
+goal_alone r = record { environment = none; predicate = tree (predicate (of_trait r.trait)) r.args none }
+
+-- Whatever stands for its unknowns, it has no proof in any of the handler's worlds.
+abbrev pub HasNoProof : (TypingMode → CanonicalForm → Handled frame_tables) → GoalTrees → Type 0
+HasNoProof handled g =
+    let h = handled Coherence (canonical_form g) in
+    (x : h.World) (s : Assignment) → IsSorted s → h.Proves x (fact_under s g) → ⊥
+
+-- What is asked of the search.
+abbrev pub asked_alone : Reference → Asked
+asked_alone r = (Coherence, canonical_form (goal_alone r))
+
+module _ {World Handler : Type 0} (handled : World → TypingMode → CanonicalForm → Handled frame_tables) (Rule : World → Fact → List Fact → Type 0) (coinductive : World → Fact → Bool)
+    (is_ready : Handler → List Entry → Type 0) (meaning_of : Handler → List Entry → World) where
+  -- The search gives the reference an answer that is no refusal, or plain recursion has none within the graph's depth.
+  abbrev pub IsLeftOpen : SolverCx Handler → SearchState → Reference → Type 0
+  IsLeftOpen c s r =
+      let m = solver_meaning handled Rule coinductive is_ready meaning_of in
+      ((a : AnswerTrees) × IsFound m (m.world c) s.root_depth (asked_alone r) (Some a)) ⊎ IsNotPlainWithin m c s (asked_alone r)
+
+-- ---- tables
+-- A table without variables.
+abbrev pub empty_table : Table
+empty_table = record { ty_vars = 0; const_vars = 0; region_vars = 0; values = []; constraints = [] }
+
+-- The table with a variable more for each of them.
+abbrev pub with_unknowns : Table → List GenericArgKind → Table
+with_unknowns t [] = t
+with_unknowns t (Ty x ∷ us) = with_unknowns (record t { ty_vars = t.ty_vars + 1 }) us
+with_unknowns t (Const x ∷ us) = with_unknowns (record t { const_vars = t.const_vars + 1 }) us
+with_unknowns t (Lifetime x ∷ us) = with_unknowns t us

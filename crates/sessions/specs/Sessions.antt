@@ -1,0 +1,34 @@
+-- What is true of a session between two calls.
+use Rattle.std.specs.Prelude.{◌≡◌, ◌<◌, ℕ, length}
+use Rattle.search_graph.specs.SearchState.{SearchState}
+use Rattle.declarations.specs.Items.{written, declared}
+use Rattle.text_definitions.specs.Declarations.{Declarations}
+use Rattle.view_lowering.specs.Plain.{plainly_seen_from}
+use Rattle.view_lowering.specs.Seen.{rules_seen_from}
+use Rattle.root_goals.specs.declared.context.SolverCx.{SolverCx}
+use Rattle.root_goals.specs.Contexts.{entries_of}
+use Rattle.assembly_laws.specs.Facts.{FollowsByView}
+use Rattle.candidate_assembly.specs.declared.solver.Solver.{Solver}
+use Rattle.candidate_assembly.specs.Fitting.{solving_of}
+use Rattle.candidate_assembly.specs.Ready.{IsReady}
+use Rattle.candidate_assembly.specs.Solving.{solver_for, coinductive_for}
+use Rattle.sessions.specs.Resting.{Cached, AreAtRest}
+use Rattle.sessions.specs.Subjects.{IsOfText}
+
+-- The solver's context, graph and cache are at rest.
+abbrev pub SolverRests : ℕ → SolverCx Solver → SearchState → Cached → Type 0
+SolverRests depth cx graph cache =
+    AreAtRest solver_for (λ s. FollowsByView s.view) coinductive_for (λ (h : Solver) es. IsReady es h.declarations) (λ (h : Solver) es. solving_of es h.declarations) depth cx graph cache
+
+-- The solver's declarations are what crate c sees of the text, as they are written and as rules are read from them.
+pub record SolvesView (d : Declarations) (c : ℕ) (cx : SolverCx Solver) : Type 0 where
+  pub written : written (entries_of cx) cx.handler.declarations ≡ plainly_seen_from d c
+  pub rules : declared (entries_of cx) cx.handler.declarations ≡ rules_seen_from d c
+  pub local : cx.handler.declarations.local ≡ c
+
+-- The declarations are a text's, the crate is one of theirs, its view is what the solver solves by, and all is at rest.
+pub record IsSession (d : Declarations) (c depth : ℕ) (cx : SolverCx Solver) (graph : SearchState) (cache : Cached) : Type 0 where
+  pub text : IsOfText d
+  pub declared : c < length d.crates
+  pub view : SolvesView d c cx
+  pub rest : SolverRests depth cx graph cache

@@ -1,0 +1,31 @@
+//! How deep a session asks, and how many terms it keeps.
+
+ghost use Rattle.std.specs.Prelude.{◌≡◌, ◌≤◌, ◌↔◌, IsSome, IfSome};
+
+/// The limits of a session.
+#[derive(Clone, Copy, Debug, PartialEq, Eq)]
+pub struct Limits {
+    /// The depth at which a root question is asked, from 1 to 255: the original's `recursion_limit`.
+    pub depth: u32,
+    /// How many handles of each kind a session's interner holds at most, from 1 to 16,777,216; also how many goals, and how many answers,
+    /// it keeps.
+    pub handles: u32,
+    ghost depth_positive: { 1 ≤ depth },
+    ghost depth_small: { depth ≤ 255 },
+    ghost handles_positive: { 1 ≤ handles },
+    ghost handles_few: { handles ≤ 16777216 },
+}
+
+impl Limits {
+    /// The two limits, or none where one of them is out of its range.
+    pub fn new(depth: u32, handles: u32) -> Option<Limits>
+        ensures in_range { IsSome result ↔ ((1 ≤ depth) × (depth ≤ 255) × (1 ≤ handles) × (handles ≤ 16777216)) }
+        ensures depth { IfSome result (λ limits. limits.depth ≡ depth) }
+        ensures handles { IfSome result (λ limits. limits.handles ≡ handles) }
+    {
+        if depth < 1 || depth > 255 || handles < 1 || handles > 16_777_216 {
+            return None;
+        }
+        Some(Limits { depth, handles })
+    }
+}

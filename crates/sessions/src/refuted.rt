@@ -1,0 +1,113 @@
+//! Questions whether a reference has a proof wherever the asking crate is linked.
+
+ghost use Rattle.std.specs.Prelude.{◌≡◌, [], Ok};
+ghost use Rattle.type_terms.specs.Terms.{Has, args_lists};
+ghost use Rattle.declarations.specs.Items.{reference_in};
+ghost use Rattle.infer_table.specs.Content.{Ready, variables_of};
+ghost use Rattle.infer_table.specs.Covers.{AreKnown};
+ghost use Rattle.infer_table.specs.Canonical.{HasNoCanonical};
+ghost use Rattle.text_definitions.specs.Declarations.{Question};
+ghost use Rattle.view_lowering.specs.Plain.{unbound_reference};
+ghost use Rattle.view_lowering.specs.Questions.{IsQuestion, IsLowered};
+ghost use Rattle.declared_views.specs.Questions.{HasVariablesAlone};
+ghost use Rattle.sessions.specs.Asking.{HasNoProof, IsLeftOpen, empty_table, goal_alone};
+ghost use Rattle.sessions.specs.Resting.{AreAtRest};
+
+use crate::asked::{add_unknowns_in, lower_in, rest_laws};
+use evaluation::TypingMode;
+use goal_frames::GoalHandler;
+use infer_table::goal::Goal;
+use infer_table::infer_ctxt::InferCtxt;
+use root_goals::{RootError, SolverCx, SolverGraph, evaluate_root_goal};
+use search_graph::{GlobalCache, SearchGraph};
+use term_folds::predicate::{TraitPredicate, TraitRef};
+use type_terms::Fault;
+use view_lowering::LoweredQuestion;
+use workspace::Workspace;
+
+/// The answer of a `refute` question.
+#[derive(Clone, Copy, Debug, PartialEq, Eq)]
+pub enum RefuteAnswer {
+    /// Wherever the crate is linked, the reference has no proof, whatever its variables stand for.
+    No,
+    /// It was not refused.
+    Open,
+}
+
+/// Asks in coherence, without where-clauses, for a reference over a table without values.
+///
+/// A conflict refuses nothing. The fault is a refusal of memory, or `Full`.
+fn ask_in_coherence<H: GoalHandler>(
+    graph: &mut SearchGraph<SolverGraph<H>>,
+    cache: &mut GlobalCache<SolverGraph<H>>,
+    cx: &mut SolverCx<H>,
+    table: &mut InferCtxt,
+    asked: TraitRef,
+) -> Result<RefuteAnswer, Fault>
+    requires rest { AreAtRest H.handled H.Rule H.coinductive H.ready H.meaning graph.old.root_depth cx.old graph.old cache.old }
+    requires table { Ready cx.old.interner.entries table.old }
+    requires no_values { table.old.values ≡ [] }
+    requires held { Has cx.old.interner.entries args_lists asked.args.0 }
+    ensures rest { AreAtRest H.handled H.Rule H.coinductive H.ready H.meaning graph.old.root_depth cx.new graph.new cache.new }
+    ensures meaning { H.meaning cx.new.handler cx.new.interner.entries ≡ H.meaning cx.old.handler cx.old.interner.entries }
+
+    // A reference that is refused has no proof, if it speaks of the table's variables alone.
+    ensures no { result ≡ Ok RefuteAnswer.No → let r = reference_in cx.old.interner.entries asked in HasNoCanonical r.args → AreKnown (variables_of table.old) r.args
+        → HasNoProof (H.handled (H.meaning cx.old.handler cx.old.interner.entries)) (goal_alone r) }
+    ensures open { result ≡ Ok RefuteAnswer.Open → IsLeftOpen H.handled H.Rule H.coinductive H.ready H.meaning cx.old graph.old (reference_in cx.old.interner.entries asked) }
+{
+    let goal = Goal {
+        param_env: Vec::new(cx.alloc),
+        predicate: TraitPredicate { trait_ref: asked },
+    };
+    match evaluate_root_goal(graph, cache, cx, table, TypingMode::Coherence, &goal) {
+        Ok(_) => Ok(RefuteAnswer::Open),
+        Err(RootError::NoSolution) => Ok(RefuteAnswer::No),
+        Err(RootError::Conflict) => Ok(RefuteAnswer::Open),
+        Err(RootError::Fault(fault)) => Err(fault),
+    }
+}
+
+/// Asks a question whose terms are the context's in coherence, over a new table.
+fn refute_lowered<H: GoalHandler>(
+    graph: &mut SearchGraph<SolverGraph<H>>,
+    cache: &mut GlobalCache<SolverGraph<H>>,
+    cx: &mut SolverCx<H>,
+    table: &mut InferCtxt,
+    lowered: &LoweredQuestion,
+) -> Result<RefuteAnswer, Fault>
+    requires rest { AreAtRest H.handled H.Rule H.coinductive H.ready H.meaning graph.old.root_depth cx.old graph.old cache.old }
+    requires table { table.old ≡ empty_table }
+    requires lowered { (q : Question) × IsLowered cx.old.interner.entries q lowered.now }
+    ensures rest { AreAtRest H.handled H.Rule H.coinductive H.ready H.meaning graph.old.root_depth cx.new graph.new cache.new }
+    ensures meaning { H.meaning cx.new.handler cx.new.interner.entries ≡ H.meaning cx.old.handler cx.old.interner.entries }
+    ensures no { result ≡ Ok RefuteAnswer.No → (q : Question) → IsLowered cx.old.interner.entries q lowered.now → HasVariablesAlone q
+        → HasNoProof (H.handled (H.meaning cx.old.handler cx.old.interner.entries)) (goal_alone (unbound_reference q.asked)) }
+{
+    rest_laws::<H>();
+    add_unknowns_in(cx, table, &lowered.unknowns)?;
+    ask_in_coherence(graph, cache, cx, table, lowered.asked)
+}
+
+/// Asks the question with a number in coherence: its reference, over a new table with its variables.
+///
+/// All stays at rest, after a fault too. The fault is a refusal of memory, or `Full`.
+pub(crate) fn refute_question<H: GoalHandler>(
+    graph: &mut SearchGraph<SolverGraph<H>>,
+    cache: &mut GlobalCache<SolverGraph<H>>,
+    cx: &mut SolverCx<H>,
+    workspace: &Workspace,
+    number: u32,
+) -> Result<RefuteAnswer, Fault>
+    requires rest { AreAtRest H.handled H.Rule H.coinductive H.ready H.meaning graph.old.root_depth cx.old graph.old cache.old }
+    requires question { (q : Question) × IsQuestion workspace.now number q }
+    ensures rest { AreAtRest H.handled H.Rule H.coinductive H.ready H.meaning graph.old.root_depth cx.new graph.new cache.new }
+    ensures meaning { H.meaning cx.new.handler cx.new.interner.entries ≡ H.meaning cx.old.handler cx.old.interner.entries }
+    ensures no { result ≡ Ok RefuteAnswer.No → (q : Question) → IsQuestion workspace.now number q → HasVariablesAlone q
+        → HasNoProof (H.handled (H.meaning cx.old.handler cx.old.interner.entries)) (goal_alone (unbound_reference q.asked)) }
+{
+    rest_laws::<H>();
+    let lowered = lower_in(cx, workspace, number)?;
+    let mut table = InferCtxt::new(cx.alloc);
+    refute_lowered(graph, cache, cx, &mut table, &lowered)
+}

@@ -1,0 +1,52 @@
+//! What a session's crate sees.
+
+ghost use Rattle.std.specs.Prelude.{◌≡◌, ◌<◌, length, IfOk};
+ghost use Rattle.declarations.specs.Items.{written, declared};
+ghost use Rattle.view_lowering.specs.Plain.{plainly_seen_from};
+ghost use Rattle.view_lowering.specs.Seen.{rules_seen_from};
+ghost use Rattle.declared_views.specs.Ready.{OfTexts};
+ghost use Rattle.candidate_assembly.specs.Ready.{IsReady};
+ghost use Rattle.sessions.specs.Readying.{AreReady};
+ghost use Rattle.sessions.specs.Subjects.{IsOfText};
+
+use declarations::declarations::Declarations;
+use declared_views::{
+    bounds_are_applied, fields_speak_of_parameters, impls_speak_of_parameters,
+    texts_are_declared_well,
+};
+use std::alloc::Global;
+use type_terms::interner::Interner;
+use type_terms::{CrateId, Fault};
+use view_lowering::laws::impls_begin_declared;
+use view_lowering::lower;
+use workspace::Workspace;
+
+/// What a crate sees of a text without a fault is ready for the solver, where its terms are an interner's.
+pub fn declarations_are_ready()
+    ensures { OfTexts AreReady }
+{
+    texts_are_declared_well();
+    fields_speak_of_parameters();
+    impls_speak_of_parameters();
+    bounds_are_applied();
+}
+
+/// The declarations that a crate of a text sees, ready for the solver. Errors are those of `lower`.
+pub(crate) fn lower_view(
+    alloc: Global,
+    cx: &mut Interner,
+    workspace: &Workspace,
+    crate_id: CrateId,
+) -> Result<Declarations, Fault>
+    requires text { IsOfText workspace.now }
+    requires declared { crate_id.index < length workspace.now.crates }
+    ensures written { IfOk result (λ decls. written cx.new.entries decls ≡ plainly_seen_from workspace.now crate_id.index) }
+    ensures rules { IfOk result (λ decls. declared cx.new.entries decls ≡ rules_seen_from workspace.now crate_id.index) }
+    ensures local { IfOk result (λ decls. decls.local ≡ crate_id.index) }
+    ensures ready { IfOk result (λ decls. IsReady cx.new.entries decls) }
+{
+    impls_begin_declared();
+    declarations_are_ready();
+    let decls = lower(alloc, cx, workspace, crate_id)?;
+    Ok(decls)
+}
