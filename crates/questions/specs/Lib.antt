@@ -1,0 +1,4 @@
+pub mod Clauses
+pub mod Laws
+pub mod Tables
+pub mod Values

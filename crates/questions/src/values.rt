@@ -1,0 +1,41 @@
+//! The values of a question's unknowns.
+
+ghost use Rattle.std.specs.Prelude.{◌≡◌, map, IfOk, Err};
+ghost use Rattle.type_terms.specs.Terms.{Keeps};
+ghost use Rattle.type_terms.specs.Kinds.{ArgsHeld, arg_trees};
+ghost use Rattle.term_folds.specs.Failures.{SomeKindIsFull};
+ghost use Rattle.infer_table.specs.Content.{Ready, content};
+ghost use Rattle.infer_table.specs.Solutions.{resolved};
+
+use infer_table::infer_ctxt::InferCtxt;
+use std::alloc::Global;
+use type_terms::Fault;
+use type_terms::interner::Interner;
+use type_terms::kinds::GenericArgKind;
+
+/// What each of these stands for: with each unknown that has a value replaced by it, and so on in the values. An unknown without a
+/// value is its own.
+///
+/// `Full` comes only where some kind of term has reached its limit, `Memory` where memory is refused.
+pub fn values_of(
+    alloc: Global,
+    cx: &mut Interner,
+    table: &InferCtxt,
+    unknowns: &[GenericArgKind],
+) -> Result<Vec<GenericArgKind>, Fault>
+    requires held { ArgsHeld cx.old.entries unknowns.now }
+    requires ready { Ready cx.old.entries table.now }
+    ensures ready { Ready cx.new.entries table.now }
+    ensures keeps { Keeps cx.old.entries cx.new.entries }
+    ensures limit { cx.new.limit ≡ cx.old.limit }
+    ensures held { IfOk result (λ r. ArgsHeld cx.new.entries r.items) }
+    ensures are { IfOk result (λ r. map (arg_trees cx.new.entries) r.items ≡ map (λ u. resolved (content cx.old.entries table.now.values) (arg_trees cx.old.entries u)) unknowns.now) }
+    ensures full { result ≡ Err Fault.Full → SomeKindIsFull cx.new.entries cx.new.limit }
+{
+    let mut values = Vec::new(alloc);
+    for unknown in unknowns {
+        let value = table.eager_resolve_vars(cx, *unknown)?;
+        values.push(value)?;
+    }
+    Ok(values)
+}
