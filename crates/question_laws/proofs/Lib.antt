@@ -4,3 +4,4 @@ mod TextTerms
 mod FormedTexts
 mod FormedViews
 mod AskedGoals
+mod TextAnswers

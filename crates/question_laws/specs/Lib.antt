@@ -1,3 +1,4 @@
 pub mod Fitting
 pub mod Views
 pub mod Goals
+pub mod Answers

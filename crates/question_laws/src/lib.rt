@@ -1,7 +1,14 @@
 //! Mathematics without running code: questions of a text, asked of the solver. What the solver's exactness asks of declarations and of
-//! goals holds of what a crate sees of a text without a fault.
+//! goals holds of what a crate sees of a text without a fault; so it answers questions without unknowns exactly.
 #![tactic(auto)]
 
+ghost use Rattle.std.specs.Prelude.{Option};
+ghost use Rattle.infer_table.specs.Responses.{AnswerTrees};
+ghost use Rattle.evaluation.specs.Tables.{frame_tables};
+ghost use Rattle.goal_frames.specs.Searches.{Handles, Asked};
+ghost use Rattle.candidate_assembly.specs.Solving.{Solving};
+ghost use Rattle.declared_views.specs.Ready.{OfTexts};
+ghost use Rattle.question_laws.specs.Answers.{solver_goals, AreAnsweredRight, AreToldPossible};
 ghost use Rattle.question_laws.specs.Fitting.{SortsTellFits};
 ghost use Rattle.question_laws.specs.Goals.{FormedQuestionsAreGoals};
 ghost use Rattle.question_laws.specs.Views.{TextsAreFormed};
@@ -22,4 +29,26 @@ pub fn texts_are_formed()
 /// decided, its placeholders stand for different places, and up to lifetimes it asks for the question's reference under its clauses.
 pub fn formed_questions_are_goals()
     ensures { FormedQuestionsAreGoals }
+{}
+
+/// A search of the solver's goals, and the handles by which it knows them and their answers.
+pub trait SolverSearch {
+    ghost Context: { Type 0 };
+
+    ghost Input: { Type 0 };
+
+    ghost Result: { Type 0 };
+
+    ghost Frame: { Type 0 };
+
+    ghost handles: { Handles Context Input Result Frame Solving (Asked frame_tables solver_goals) (Option AnswerTrees) };
+}
+
+/// By what a crate sees of a text without a fault, each answer that a search has to a question without unknowns is exact, if plain
+/// recursion within its depth comes to no other, as `evaluate_root_goal` says of its own. Outside coherence, where there is one way at
+/// most at each step of its short chains, it is a definite yes if the reference has a proof, and a refusal if it has none. In coherence
+/// a bounded reference is refused exactly if it is not possible in the crate.
+pub fn questions_are_answered_exactly<S: SolverSearch>()
+    ensures right { OfTexts (AreAnsweredRight S.handles) }
+    ensures possible { OfTexts (AreToldPossible S.handles) }
 {}

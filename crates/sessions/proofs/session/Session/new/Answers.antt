@@ -6,7 +6,7 @@ use Rattle.sessions.proofs.Keeping.{solves-view, solver-rests-first}
 use Rattle.sessions.proofs.session.Session.new.Goals as goal
 
 pub invariant_of-result : goal.invariant_of-result
-invariant_of-result g c =
+invariant_of-result c =
     let es = c.lower_view.new.cx.entries in
     let decls = c.in_ok-declarations.declarations in
     let cx = c.new-cx.result in

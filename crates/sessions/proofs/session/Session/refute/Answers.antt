@@ -6,7 +6,7 @@ use Rattle.sessions.proofs.Keeping.{refused-in-sets}
 use Rattle.sessions.proofs.session.Session.refute.Goals as goal
 
 pub returns-clause-no : goal.returns-clause-no
-returns-clause-no g c =
+returns-clause-no c =
     λ r.
     let i = c.self.inside in
     subst (λ (s : Subject). (q : Question) → AsksRefutation s.declarations s.of_crate c.args.number q → HasNoSolutionInSets s.declarations q) c.self.view_is
