@@ -17,7 +17,6 @@ use Rattle.orphan_check.specs.Walks.{IsStep, IsFirstEnd, IsSecondEnd}
 use Rattle.orphan_check.specs.declared.errors.OrphanCheckErr.{OrphanCheckErr}
 use Rattle.orphan_check.specs.declared.errors.OrphanCheckErr.TheVariants.{NonLocalInputType, UncoveredTyParams}
 use Rattle.std.specs.Result.{is_ok}
-use Rattle.orphan_check.specs.declared.errors.Conflict.{Conflict}
 use Rattle.orphan_check.specs.Answers.{IsOrphanAnswer, IsKnowableAnswer, IsDeep, IsUncovered, RanOut, IsBarred}
 
 pub ended-local : {E : Type 0} (es : List Entry) (all before after : List (Step E)) (m : Option Met) (t : Ty) → m ≡ Some (MetLocal t) → first_end all ≡ first_end before → IsStep es before (Ok m) after

@@ -8,3 +8,4 @@ pub mod Answers
 pub mod Knowing
 pub mod Exact
 pub mod Worked
+pub mod Held

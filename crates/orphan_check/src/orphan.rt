@@ -1,8 +1,10 @@
 //! The orphan check of a reference.
+ghost use Rattle.std.specs.Prelude.{IfErr, IfOk};
 ghost use Rattle.type_terms.specs.Terms.{Has, args_lists};
 ghost use Rattle.infer_table.specs.Content.{Ready};
 ghost use Rattle.orphan_check.specs.Answers.{IsOrphanBy};
 ghost use Rattle.orphan_check.specs.Exact.{AnswersItsInput, IsOrphanCheckOf};
+ghost use Rattle.orphan_check.specs.Held.{ErrorHeld};
 
 use crate::errors::{InCrate, OrphanCheckErr, WalkError};
 use crate::normalize::Normalize;
@@ -36,6 +38,7 @@ pub fn orphan_check_trait_ref<N: Normalize>(
 ) -> Result<Result<(), OrphanCheckErr<Ty>>, WalkError<N::Error>>
     requires held { Has cx.now.entries args_lists trait_ref.args.0 }
     requires ready { Ready cx.now.entries infcx.now }
+    ensures held { IfOk result (λ answer. IfErr answer (ErrorHeld cx.now.entries)) }
     ensures walked { IsOrphanBy cx.now.entries decls.now infcx.now (N.answers normalize.now) in_crate limit trait_ref result }
     ensures exact { AnswersItsInput (N.answers normalize.now) → IsOrphanCheckOf cx.now.entries decls.now infcx.now in_crate limit trait_ref result }
 {

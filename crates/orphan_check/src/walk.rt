@@ -1,9 +1,10 @@
 //! The walk of a reference's types, which keeps the types that are still to be visited on a stack of its own.
-ghost use Rattle.std.specs.Prelude.{false, OnOk};
+ghost use Rattle.std.specs.Prelude.{false, IfErr, IfOk, IfSome, OnOk};
 ghost use Rattle.type_terms.specs.Terms.{Has, types, args_lists, trees_at};
 ghost use Rattle.type_terms.specs.Kinds.{ArgsHeld, args_trees};
 ghost use Rattle.infer_table.specs.Content.{Ready};
 ghost use Rattle.orphan_check.specs.Flags.{is_first};
+ghost use Rattle.orphan_check.specs.Held.{EndHeld, ErrorHeld, MetHeld, TypeHeld};
 ghost use Rattle.orphan_check.specs.Steps.{read, steps};
 
 use crate::errors::{InCrate, IsFirstInputType, OrphanCheckErr, UncoveredTyParams, WalkError};
@@ -135,6 +136,7 @@ impl<N: Normalize> Walk<'_, N> {
         requires ready { Ready self.now.cx.now.entries self.now.infcx.now }
         requires pending_held { ArePending self.now.cx.now.entries pending.old.items }
         ensures held { OnOk result (ArePending self.now.cx.now.entries pending.new.items) }
+        ensures met { IfOk result (λ met. IfSome met (MetHeld self.now.cx.now.entries)) }
         ensures stepped { let es = self.now.cx.now.entries in let r = reads N.answers self.now in IsStep es (pending_steps es r pending.old.items) result (pending_steps es r pending.new.items) }
     {
         self.cx.lawful();
@@ -174,7 +176,8 @@ impl<N: Normalize> Walk<'_, N> {
     ) -> Result<End, WalkError<N::Error>>
         requires held { Has self.now.cx.now.entries args_lists args.0 }
         requires ready { Ready self.now.cx.now.entries self.now.infcx.now }
-        ensures { IsFirstEnd self.now.cx.now.entries (steps (reads N.answers self.now) limit (trees_at self.now.cx.now.entries args.0)) result }
+        ensures held { IfOk result (EndHeld self.now.cx.now.entries) }
+        ensures ends { IsFirstEnd self.now.cx.now.entries (steps (reads N.answers self.now) limit (trees_at self.now.cx.now.entries args.0)) result }
     {
         let mut pending = Vec::new(alloc);
         self.push_types(args, limit, IsFirstInputType::Yes, &mut pending)?;
@@ -199,7 +202,8 @@ impl<N: Normalize> Walk<'_, N> {
     ) -> Result<Option<Ty>, WalkError<N::Error>>
         requires held { Has self.now.cx.now.entries args_lists args.0 }
         requires ready { Ready self.now.cx.now.entries self.now.infcx.now }
-        ensures { IsSecondEnd self.now.cx.now.entries (steps (reads N.answers self.now) limit (trees_at self.now.cx.now.entries args.0)) result }
+        ensures held { IfOk result (λ found. IfSome found (TypeHeld self.now.cx.now.entries)) }
+        ensures ends { IsSecondEnd self.now.cx.now.entries (steps (reads N.answers self.now) limit (trees_at self.now.cx.now.entries args.0)) result }
     {
         let mut pending = Vec::new(alloc);
         self.push_types(args, limit, IsFirstInputType::Yes, &mut pending)?;
@@ -222,7 +226,8 @@ impl<N: Normalize> Walk<'_, N> {
     ) -> Result<Result<(), OrphanCheckErr<Ty>>, WalkError<N::Error>>
         requires held { Has self.now.cx.now.entries args_lists args.0 }
         requires ready { Ready self.now.cx.now.entries self.now.infcx.now }
-        ensures { IsOrphanAnswer self.now.cx.now.entries self.now.in_crate (steps (reads N.answers self.now) limit (trees_at self.now.cx.now.entries args.0)) result }
+        ensures held { IfOk result (λ answer. IfErr answer (ErrorHeld self.now.cx.now.entries)) }
+        ensures answers { IsOrphanAnswer self.now.cx.now.entries self.now.in_crate (steps (reads N.answers self.now) limit (trees_at self.now.cx.now.entries args.0)) result }
     {
         match self.first_end(alloc, args, limit)? {
             End::Local => Ok(Ok(())),

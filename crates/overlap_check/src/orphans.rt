@@ -1,5 +1,5 @@
 //! The orphan check of the impls that a crate writes.
-ghost use Rattle.std.specs.Prelude.{◌≡◌, ◌==◌, ◌≤◌, ◌+◌, ◌⊎◌, false, [], IfOk, IfErr, Err, List};
+ghost use Rattle.std.specs.Prelude.{◌≡◌, ◌==◌, ◌≤◌, ◌+◌, ◌⊎◌, false, [], IfOk, IfErr, IfSome, Err, List};
 ghost use Rattle.model.specs.Terms.{erased_reference};
 ghost use Rattle.model.specs.Walks.{trait_is};
 ghost use Rattle.type_terms.specs.Terms.{Entry, Keeps, trees_at};
@@ -9,6 +9,7 @@ ghost use Rattle.term_folds.specs.Failures.{SomeKindIsFull};
 ghost use Rattle.infer_table.specs.Content.{Ready};
 ghost use Rattle.declarations.specs.Held.{AreHeld, ImplHeld, ReferenceHeld};
 ghost use Rattle.declarations.specs.Items.{IsAbove, declared, reference_in};
+ghost use Rattle.orphan_check.specs.Held.{ErrorHeld};
 ghost use Rattle.overlap_check.specs.Fresh.{SomeHaveNoNumber};
 ghost use Rattle.overlap_check.specs.Headers.{empty_table, sorts_of_impl};
 ghost use Rattle.overlap_check.specs.Orphans.{AreWrittenWell, HeaderHoldsParams, IsErrorOf, IsFirstError, IsHeaderError, IsWalkError, SomeHeaderRunsOut};
@@ -50,6 +51,7 @@ fn walk_error(
     requires ready { Ready cx.now.entries table.now }
     requires unvalued { table.now.values ≡ [] }
     ensures found { IfOk result (IsWalkError (declared cx.now.entries declarations.now) declarations.now.local (trees_at cx.now.entries trait_ref.args.0) cx.now.entries) }
+    ensures held { IfOk result (λ found. IfSome found (ErrorHeld cx.now.entries)) }
     ensures memory { IfErr result (λ fault. fault ≡ Memory) }
 {
     // No walk goes deeper than the arguments are.
@@ -95,6 +97,7 @@ fn fresh_header_error(
     requires params { HeaderHoldsParams cx.old.entries def.now }
     ensures keeps { Keeps cx.old.entries cx.new.entries }
     ensures limit { cx.new.limit ≡ cx.old.limit }
+    ensures held { IfOk result (λ found. IfSome found (ErrorHeld cx.new.entries)) }
     ensures found { trait_is (λ x. x.home == declarations.now.local) (declared cx.old.entries declarations.now) def.now.header.def_id.index ≡ false
         → IfOk result (IsHeaderError (declared cx.old.entries declarations.now) declarations.now.local (erased_reference (reference_in cx.old.entries def.now.header)) cx.new.entries) }
     ensures full { result ≡ Err Fault.Full → SomeKindIsFull cx.new.entries cx.new.limit ⊎ SomeHaveNoNumber empty_table (sorts_of_impl def.now) }
@@ -122,6 +125,7 @@ pub fn header_error(
     requires params { HeaderHoldsParams cx.old.entries def.now }
     ensures keeps { Keeps cx.old.entries cx.new.entries }
     ensures limit { cx.new.limit ≡ cx.old.limit }
+    ensures held { IfOk result (λ found. IfSome found (ErrorHeld cx.new.entries)) }
     ensures found { IfOk result (IsHeaderError (declared cx.old.entries declarations.now) declarations.now.local (erased_reference (reference_in cx.old.entries def.now.header)) cx.new.entries) }
     ensures full { result ≡ Err Fault.Full → SomeKindIsFull cx.new.entries cx.new.limit ⊎ SomeHaveNoNumber empty_table (sorts_of_impl def.now) }
 {
@@ -143,6 +147,7 @@ fn impl_error(
     requires written { AreWrittenWell cx.old.entries declarations.now }
     ensures keeps { Keeps cx.old.entries cx.new.entries }
     ensures limit { cx.new.limit ≡ cx.old.limit }
+    ensures held { IfOk result (λ found. IfSome found (ErrorHeld cx.new.entries)) }
     ensures found { IfOk result (IsErrorOf (declared cx.old.entries declarations.now) declarations.now.local id.index cx.new.entries) }
     ensures full { result ≡ Err Fault.Full → SomeKindIsFull cx.new.entries cx.new.limit ⊎ SomeHeaderRunsOut declarations.now }
 {
@@ -156,8 +161,8 @@ fn impl_error(
     }
 }
 
-/// The first impl of the crate that asks whose header breaks the orphan rule, with the error; `None` where all keep it. The numbers of
-/// impls are below `end` (`check_mod` of the original's orphan check).
+/// The first impl of the crate that asks whose header breaks the orphan rule, by rising number, with the error; `None` where all keep
+/// it. The numbers of impls are below `end`.
 ///
 /// `Full` comes only where some kind of term has reached its limit or there is no number left for an unknown, `Memory` where memory is
 /// refused.
@@ -173,6 +178,7 @@ pub fn first_orphan(
     requires in_range { end ≤ MAX_INDEX + 1 }
     ensures keeps { Keeps cx.old.entries cx.new.entries }
     ensures limit { cx.new.limit ≡ cx.old.limit }
+    ensures held { IfOk result (λ found. IfSome found (λ x. ErrorHeld cx.new.entries x.1)) }
     ensures first { IfOk result (IsFirstError (declared cx.old.entries declarations.now) declarations.now.local cx.new.entries) }
     ensures full { result ≡ Err Fault.Full → SomeKindIsFull cx.new.entries cx.new.limit ⊎ SomeHeaderRunsOut declarations.now }
 {

@@ -5,8 +5,8 @@ use Rattle.orphan_check.specs.Walks.{pending_steps, reads}
 use Rattle.orphan_check.proofs.Ending.{ended-local}
 use Rattle.orphan_check.proofs.walk.Walk.first_end.Goals as goal
 
-pub returns-in-Local : goal.returns-in-Local
-returns-in-Local g c =
+pub returns-in-Local-clause-ends : goal.returns-in-Local-clause-ends
+returns-in-Local-clause-ends g c =
     let es = c.args.self.now.cx.now.entries in
     let r = reads g.N.Normalize.answers c.args.self.now in (
       trees_at es c.in-Local.field-0.0,
