@@ -1,21 +1,21 @@
-mod Sorts
-mod Tests
-mod Trees
-mod Scalars
+pub mod Sorts
+pub mod Tests
+pub mod Trees
+pub mod Scalars
 mod Types
-mod Standing
+pub mod Standing
 mod Lines
 mod Params
-mod ScalarTokens
+pub mod ScalarTokens
 mod Items
-mod Spoken
-mod Applied
-mod Texts
-mod Views
+pub mod Spoken
+pub mod Applied
+pub mod Texts
+pub mod Views
 mod Headers
 mod Heights
-mod WellSeen
-mod Matched
+pub mod WellSeen
+pub mod Matched
 mod Told
 mod ReadySeen
 mod Variables

@@ -1,8 +1,7 @@
 -- The solver answers questions without unknowns exactly, by what a crate sees of a text.
-use Rattle.std.proofs.Common.{◌≡◌, ◌≤◌, ◌⊎◌, inl, inr, ℕ, Bool, true, List, [], map, Option, None, Ok, refl, sym, ◌∙◌, ap, subst}
+use Rattle.std.proofs.Common.{◌≡◌, ℕ, true, List, [], map, Option, Ok, refl, sym, ◌∙◌, ap, subst}
 use Rattle.model.specs.Answers.{SingleWay, is_bounded}
-use Rattle.model.specs.Label.{Sort, of_type, of_const, of_lifetime}
-use Rattle.model.specs.Proofs.{HasProof}
+use Rattle.model.specs.Label.{of_type, of_const, of_lifetime}
 use Rattle.model.specs.Terms.{erased_reference}
 use Rattle.model.specs.Trees.{none}
 use Rattle.model.specs.Worlds.{World, Reference}

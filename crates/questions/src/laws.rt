@@ -2,6 +2,9 @@
 
 ghost use Rattle.questions.specs.Clauses.{SupertraitsAreErased, SupertraitsProveNoMore};
 ghost use Rattle.questions.specs.Laws.{UnboundStandForThemselves, ValuesFill};
+ghost use Rattle.questions.specs.Proved.{ValuesAreProved};
+
+use goal_frames::GoalHandler;
 
 /// Each table that calls made has a solution under which a term is the term with the table's values put in, without lifetimes: each
 /// unknown that has no value stands for itself.
@@ -20,4 +23,10 @@ pub fn values_fill()
 pub fn supertraits_prove_no_more()
     ensures proofs { SupertraitsProveNoMore }
     ensures erased { SupertraitsAreErased }
+{}
+
+/// What has a proof at each solution of a table, as `ask_until_settled` says of a goal that it proves, has one with the values that the
+/// table has, in which each unknown without a value stands for itself.
+pub fn values_are_proved<H: GoalHandler>()
+    ensures { (w : H.Meaning) → ValuesAreProved (H.Rule w) (H.coinductive w) }
 {}

@@ -1,6 +1,8 @@
-//! Questions: a table of their own for their unknowns, the values that these have once they are answered, and what is proved then.
+//! Questions: a goal asked over a table of its own until its answer is settled, the values that its unknowns have then, and what is
+//! proved with them.
 #![tactic(auto)]
 
+pub mod asking;
 pub mod laws;
 pub mod table;
 pub mod values;

@@ -1,0 +1,69 @@
+-- References that are asked alone, in coherence and without where-clauses.
+use Rattle.std.specs.Prelude.{◌⊎◌, Bool, List, Some}
+use Rattle.model.specs.Label.{of_trait, predicate}
+use Rattle.model.specs.Trees.{none, tree}
+use Rattle.model.specs.Worlds.{Reference}
+use Rattle.type_terms.specs.Terms.{Entry}
+use Rattle.term_folds.specs.declared.predicate.TraitRef.{TraitRef}
+use Rattle.infer_table.specs.Canonical.{GoalTrees, CanonicalForm, canonical_form}
+use Rattle.infer_table.specs.Content.{Table, content, variables_of}
+use Rattle.infer_table.specs.Covers.{IsOfKnown}
+use Rattle.infer_table.specs.Goals.{goal_resolved}
+use Rattle.infer_table.specs.Responses.{AnswerTrees}
+use Rattle.infer_table.specs.Solutions.{Assignment, Solves}
+use Rattle.infer_table.specs.Unification.{table_trees}
+use Rattle.infer_table.specs.declared.certainty.TypingMode.{TypingMode}
+use Rattle.infer_table.specs.declared.certainty.TypingMode.TheVariants.{Coherence}
+use Rattle.declarations.specs.Items.{reference_in}
+use Rattle.overlap_check.specs.Headers.{IsOfTable}
+use Rattle.evaluation.specs.Content.{Fact}
+use Rattle.evaluation.specs.Handler.{Handled}
+use Rattle.evaluation.specs.Tables.{frame_tables}
+use Rattle.search_graph.specs.SearchState.{SearchState}
+use Rattle.root_goals.specs.declared.context.SolverCx.{SolverCx}
+use Rattle.root_goals.specs.Contexts.{Asked, entries_of}
+use Rattle.root_goals.specs.Evaluations.{IsFound}
+use Rattle.root_goals.specs.Results.{IsNotPlainWithin}
+use Rattle.root_goals.specs.Roots.{fact_under}
+use Rattle.root_goals.specs.Searching.{solver_meaning, world_of}
+use Rattle.root_goals.specs.Shortages.{RootRunsOut}
+
+-- The reference as a goal without where-clauses.
+abbrev pub alone : Reference → GoalTrees
+alone r = record { environment = none; predicate = tree (predicate (of_trait r.trait)) r.args none }
+
+-- That goal, as the table resolves it.
+abbrev pub resolved_alone : List Entry → Table → TraitRef → GoalTrees
+resolved_alone es t r = goal_resolved (content es t.values) (alone (reference_in es r))
+
+-- What is asked of the search.
+abbrev pub asked_alone : List Entry → Table → TraitRef → Asked
+asked_alone es t r = (Coherence, canonical_form (resolved_alone es t r))
+
+-- In none of the worlds in which a handler looks for its solutions has the goal a proof, at any solution of the table, if both speak of
+-- the table's own unknowns.
+abbrev pub HasNoProof : (TypingMode → CanonicalForm → Handled frame_tables) → List Entry → Table → TraitRef → Type 0
+HasNoProof handled es t r =
+    IsOfKnown (variables_of t) (content es t.values) → IsOfTable es t r → let h = handled Coherence (asked_alone es t r).1 in
+    (x : h.World) (s : Assignment) → Solves s (content es t.values) → h.Proves x (fact_under s (alone (reference_in es r))) → ⊥
+
+module _ {World Handler : Type 0} (handled : World → TypingMode → CanonicalForm → Handled frame_tables) (meaning_of : Handler → List Entry → World) where
+  -- So it is by the rules of a context's handler.
+  abbrev pub IsImpossible : SolverCx Handler → Table → TraitRef → Type 0
+  IsImpossible c t r = HasNoProof (handled (meaning_of c.handler (entries_of c))) (entries_of c) t r
+
+module _ {World Handler : Type 0} (handled : World → TypingMode → CanonicalForm → Handled frame_tables) (Rule : World → Fact → List Fact → Type 0) (coinductive : World → Fact → Bool)
+    (ready : Handler → List Entry → Type 0) (meaning_of : Handler → List Entry → World) where
+  -- The search gives the goal this answer.
+  abbrev pub IsAnswered : SolverCx Handler → SearchState → Table → TraitRef → AnswerTrees → Type 0
+  IsAnswered c s t r a =
+      IsFound (solver_meaning handled Rule coinductive ready meaning_of) (world_of handled Rule coinductive ready meaning_of c) s.root_depth (asked_alone (entries_of c) t r) (Some a)
+
+  -- It gives it an answer that is no refusal, or plain recursion within the graph's depth has none.
+  abbrev pub IsLeftOpen : SolverCx Handler → SearchState → Table → TraitRef → Type 0
+  IsLeftOpen c s t r =
+      ((a : AnswerTrees) × IsAnswered c s t r a) ⊎ IsNotPlainWithin (solver_meaning handled Rule coinductive ready meaning_of) c s (asked_alone (entries_of c) t r)
+
+  -- The table has no numbers for the goal's form, or for the answer that the search gives.
+  abbrev pub GoalRunsOut : SolverCx Handler → SearchState → Table → TraitRef → Type 0
+  GoalRunsOut c s t r = RootRunsOut (IsAnswered c s t r) (table_trees (entries_of c) t) (resolved_alone (entries_of c) t r)

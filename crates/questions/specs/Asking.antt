@@ -1,0 +1,90 @@
+-- A question's goal is asked until its answer is settled: what each asking needs and keeps, and what the outcomes say.
+use Rattle.std.specs.Prelude.{◌≡◌, ◌⊎◌, ℕ, Bool, false, List, Option, Some, None}
+use Rattle.type_terms.specs.Terms.{Entry, Keeps}
+use Rattle.infer_table.specs.Canonical.{CanonicalForm}
+use Rattle.infer_table.specs.Content.{Table, content, Ready, Grows}
+use Rattle.infer_table.specs.Goals.{GoalHeld, goal_trees}
+use Rattle.infer_table.specs.Inputs.{IsWithoutCanonical}
+use Rattle.infer_table.specs.Responses.{AnswerTrees}
+use Rattle.infer_table.specs.Solutions.{Assignment, Solves}
+use Rattle.infer_table.specs.Unification.{table_trees}
+use Rattle.infer_table.specs.WithoutCanonical.{HaveNoCanonical}
+use Rattle.infer_table.specs.declared.certainty.TypingMode.{TypingMode}
+use Rattle.infer_table.specs.declared.certainty.TypingMode.TheVariants.{PostAnalysis}
+use Rattle.infer_table.specs.declared.goal.Goal.{Goal}
+use Rattle.search_graph.specs.Cache.{KnownResult, AreJustified, AreConsistent, KeepsResults}
+use Rattle.search_graph.specs.Meaning as Search
+use Rattle.search_graph.specs.SearchState.{SearchState}
+use Rattle.evaluation.specs.Content.{Fact}
+use Rattle.evaluation.specs.Handler.{Handled}
+use Rattle.evaluation.specs.Proof as Lists
+use Rattle.evaluation.specs.Tables.{frame_tables}
+use Rattle.goal_frames.specs.Searches.{is_yes_answer}
+use Rattle.goal_frames.specs.declared.frame.GoalFrame.{GoalFrame}
+use Rattle.goal_frames.specs.declared.store.InputId.{InputId}
+use Rattle.goal_frames.specs.declared.store.ResponseId.{ResponseId}
+use Rattle.root_goals.specs.Contexts.{entries_of, IsReady}
+use Rattle.root_goals.specs.Evaluations.{asked_in, IsFound}
+use Rattle.root_goals.specs.Results.{IsNotPlainWithin}
+use Rattle.root_goals.specs.Roots.{goal_in, fact_under, left_by}
+use Rattle.root_goals.specs.Searching.{solver_meaning}
+use Rattle.root_goals.specs.Shortages.{RootRunsOut}
+use Rattle.root_goals.specs.declared.context.SolverCx.{SolverCx}
+
+module _ {World : Type 0} (handled : World → TypingMode → CanonicalForm → Handled frame_tables) (Rule : World → Fact → List Fact → Type 0) (coinductive : World → Fact → Bool)
+    {Handler : Type 0} (is_ready : Handler → List Entry → Type 0) (meaning_of : Handler → List Entry → World) where
+  abbrev pub m : Search.Meaning (SolverCx Handler) InputId (Option ResponseId) GoalFrame
+  m = solver_meaning handled Rule coinductive is_ready meaning_of
+
+  -- the goal can be asked in the table: no search runs, the cache is justified, and all handles are the context's
+  pub record IsAskable (graph : SearchState) (ks : List (KnownResult InputId (Option ResponseId))) (c : SolverCx Handler) (t : Table) (g : Goal) : Type 0 where
+    pub empty : graph.current_depth ≡ 0
+    pub cache : AreJustified m c ks
+    pub ready : IsReady is_ready c
+    pub table : Ready (entries_of c) t
+    pub goal : GoalHeld (entries_of c) g
+
+  -- What askings keep: of the graph its depth, of the cache, the context and the table all that they had. Each solution of the table is
+  -- one of the table before, and no canonical variable has come into it.
+  pub record HasAsked (graph : SearchState) (ks : List (KnownResult InputId (Option ResponseId))) (c : SolverCx Handler) (t : Table)
+      (graph_left : SearchState) (ls : List (KnownResult InputId (Option ResponseId))) (d : SolverCx Handler) (u : Table) : Type 0 where
+    pub depth : graph_left.root_depth ≡ graph.root_depth
+    pub results : KeepsResults ks ls
+    pub consistent : AreConsistent ks → AreConsistent ls
+    pub keeps : Search.Keeps m c d
+    pub entries : Keeps (entries_of c) (entries_of d)
+    pub grows : Grows t u
+    pub narrows : (s : Assignment) → Solves s (content (entries_of d) u.values) → Solves s (content (entries_of c) t.values)
+    pub clean : HaveNoCanonical (content (entries_of c) t.values) → HaveNoCanonical (content (entries_of d) u.values)
+
+  -- The goal of a table, both without canonical variables, has a proof at each solution of the table that is left.
+  abbrev pub IsProvedBy : World → SolverCx Handler → Table → SolverCx Handler → Table → Goal → Type 0
+  IsProvedBy w c t d u g =
+      HaveNoCanonical (content (entries_of c) t.values) → IsWithoutCanonical (goal_trees (entries_of c) g)
+      → (s : Assignment) → Solves s (content (entries_of d) u.values) → Lists.HasProof Fact (Rule w) (coinductive w) (fact_under s (goal_trees (entries_of c) g))
+
+  -- The search of a graph with this depth refuses the goal, or gives an answer that the table refuses.
+  abbrev pub IsRefused : SolverCx Handler → SearchState → Table → Goal → Type 0
+  IsRefused c graph t g =
+      (a : Option AnswerTrees) × IsFound m (m.world c) graph.root_depth (asked_in PostAnalysis (entries_of c) t g) a
+      × (left_by (table_trees (entries_of c) t) (goal_in (entries_of c) t g) a ≡ None)
+
+  -- It gives an answer that is no definite yes, or plain recursion has none within the depth.
+  abbrev pub IsUnsettled : SolverCx Handler → SearchState → Table → Goal → Type 0
+  IsUnsettled c graph t g =
+      IsNotPlainWithin m c graph (asked_in PostAnalysis (entries_of c) t g)
+      ⊎ ((a : AnswerTrees) × IsFound m (m.world c) graph.root_depth (asked_in PostAnalysis (entries_of c) t g) (Some a) × (is_yes_answer frame_tables (Some a) ≡ false))
+
+  -- The table has no numbers for the goal's form, or for the answer that the search gives.
+  abbrev pub RunsOut : SolverCx Handler → SearchState → Table → Goal → Type 0
+  RunsOut c graph t g =
+      RootRunsOut (λ a. IsFound m (m.world c) graph.root_depth (asked_in PostAnalysis (entries_of c) t g) (Some a)) (table_trees (entries_of c) t) (goal_in (entries_of c) t g)
+
+  -- So it is at one of the askings that begin here.
+  pub record SomeAskingRunsOut (graph : SearchState) (ks : List (KnownResult InputId (Option ResponseId))) (c : SolverCx Handler) (t : Table) (g : Goal) : Type 0 where
+    pub graph_then : SearchState
+    pub known_then : List (KnownResult InputId (Option ResponseId))
+    pub context_then : SolverCx Handler
+    pub table_then : Table
+    pub asked : HasAsked graph ks c t graph_then known_then context_then table_then
+    pub runs_out : RunsOut context_then graph_then table_then g

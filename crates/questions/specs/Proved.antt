@@ -1,0 +1,23 @@
+-- What is proved of a question's goal with the values that its table has.
+use Rattle.std.specs.Prelude.{true, Bool, List}
+use Rattle.model.specs.Trees.{erase}
+use Rattle.type_terms.specs.Terms.{Entry, Lawful}
+use Rattle.infer_table.specs.Canonical.{GoalTrees}
+use Rattle.infer_table.specs.Content.{Table, content, Ready}
+use Rattle.infer_table.specs.Goals.{GoalHeld, goal_trees}
+use Rattle.infer_table.specs.Solutions.{Assignment, Binding, Solves, resolved}
+use Rattle.infer_table.specs.declared.goal.Goal.{Goal}
+use Rattle.evaluation.specs.Content.{Fact, trait_of}
+use Rattle.evaluation.specs.Proof as Lists
+use Rattle.root_goals.specs.Roots.{fact_under}
+
+-- the goal with the values of these bindings put in, without lifetimes: an unknown without a value stands for itself
+abbrev pub fact_with_values : List Binding → GoalTrees → Fact
+fact_with_values bs g = record { trait = trait_of g.predicate; goal = record { environment = erase (resolved bs g.environment); predicate = erase (resolved bs g.predicate) }; proper = true }
+
+-- what has a proof at each solution of a table has one with the table's values
+abbrev pub ValuesAreProved : (Fact → List Fact → Type 0) → (Fact → Bool) → Type 0
+ValuesAreProved Rule coinductive =
+    (es : List Entry) (t : Table) (g : Goal) → Lawful es → Ready es t → GoalHeld es g
+    → ((s : Assignment) → Solves s (content es t.values) → Lists.HasProof Fact Rule coinductive (fact_under s (goal_trees es g)))
+    → Lists.HasProof Fact Rule coinductive (fact_with_values (content es t.values) (goal_trees es g))
