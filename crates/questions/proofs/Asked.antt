@@ -1,26 +1,25 @@
 -- Askings, one after the other.
-use Rattle.std.proofs.Common.{◌≡◌, ◌∙◌, ℕ, Bool, true, false, ◌&&◌, not, refl, sym, ap, subst, List, Option, Some, None, Result, Ok, ◌⊎◌, inl, inr}
+use Rattle.std.proofs.Common.{◌≡◌, ◌∙◌, Bool, true, false, ◌&&◌, not, refl, sym, ap, subst, List, Option, Some, Result, Ok, ◌⊎◌, inl, inr}
 use Rattle.type_terms.specs.Terms.{Entry, Keeps}
-use Rattle.search_graph.specs.Meaning as Search
-use Rattle.search_graph.specs.Cache.{KnownResult, AreConsistent, KeepsResults}
+use Rattle.search_graph.specs.Cache.{KnownResult}
 use Rattle.search_graph.specs.SearchState.{SearchState}
 use Rattle.search_graph.proofs.Graphs.{Keeps-refl, Keeps-trans}
 use Rattle.infer_table.specs.Canonical.{CanonicalForm, GoalTrees}
 use Rattle.infer_table.specs.Certainties.{is_certain}
-use Rattle.infer_table.specs.Content.{Table, content, Ready, Grows}
+use Rattle.infer_table.specs.Content.{Table, content, Ready}
 use Rattle.infer_table.specs.Goals.{GoalHeld, goal_trees}
 use Rattle.infer_table.specs.Growth.{grows-trans, grows-refl}
 use Rattle.infer_table.specs.Inputs.{IsWithoutCanonical}
 use Rattle.infer_table.specs.Kept.{content-kept}
 use Rattle.infer_table.specs.Responses.{AnswerTrees}
-use Rattle.infer_table.specs.Solutions.{Assignment, Binding, Solves}
-use Rattle.infer_table.specs.Unification.{TableTrees, table_trees}
+use Rattle.infer_table.specs.Solutions.{Assignment, Solves}
+use Rattle.infer_table.specs.Unification.{TableTrees}
 use Rattle.infer_table.specs.WithoutCanonical.{HaveNoCanonical}
 use Rattle.infer_table.specs.declared.certainty.Certainty.{Certainty}
 use Rattle.infer_table.specs.declared.certainty.Certainty.TheVariants.{Yes, Maybe}
 use Rattle.infer_table.specs.declared.certainty.TypingMode.{TypingMode}
 use Rattle.infer_table.specs.declared.goal.Goal.{Goal}
-use Rattle.infer_table.proofs.Numbers.{goal-held-later, goal-trees-later}
+use Rattle.infer_table.proofs.Numbers.{goal-trees-later}
 use Rattle.infer_table.proofs.WithoutCanonical.{resolving-keeps-out}
 use Rattle.evaluation.specs.Content.{Fact}
 use Rattle.evaluation.specs.Handler.{Handled}
@@ -32,11 +31,11 @@ use Rattle.goal_frames.specs.Searches.{is_yes_answer}
 use Rattle.goal_frames.specs.declared.store.InputId.{InputId}
 use Rattle.goal_frames.specs.declared.store.ResponseId.{ResponseId}
 use Rattle.root_goals.specs.Changes.{changed}
-use Rattle.root_goals.specs.Contexts.{entries_of, IsReady}
-use Rattle.root_goals.specs.Roots.{goal_in, fact_under, IsProved}
+use Rattle.root_goals.specs.Contexts.{entries_of}
+use Rattle.root_goals.specs.Roots.{fact_under, IsProved}
 use Rattle.root_goals.specs.Shortages.{RootRunsOut, form, answer}
 use Rattle.root_goals.specs.declared.context.SolverCx.{SolverCx}
-use Rattle.questions.specs.Asking.{m, IsAskable, HasAsked, IsProvedBy, RunsOut, SomeAskingRunsOut}
+use Rattle.questions.specs.Asking.{m, HasAsked, IsProvedBy, RunsOut, SomeAskingRunsOut}
 
 -- ---- answers that are no definite yes
 values-true : (b : Bool) → changed b ≡ Changed.Yes → b ≡ true

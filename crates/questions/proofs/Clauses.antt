@@ -3,9 +3,9 @@ use Rattle.std.proofs.Common.{◌≡◌, ℕ, zero, suc, Bool, true, false, if�
 use Rattle.std.specs.List.{flat_map}
 use Rattle.model.specs.Worlds.{World, Reference}
 use Rattle.model.specs.Rules.{Way, by_clause, by_super, Rule, rules, impl_rules, built_in_rules, clause_rules, super_rules, same_reference, written_supertraits, strict_supertraits, strict_supertraits_within, elaborated, is_coinductive}
-use Rattle.model.specs.Proofs.{Entry, In, Every, Stands, Follows, IsProof, HasProof}
+use Rattle.model.specs.Proofs.{Entry, In, Every, Stands, Follows, HasProof}
 use Rattle.model.proofs.Entries.{every-map}
-use Rattle.model.proofs.Members.{here, there, in-cases, in-nothing, in-append, in-left, in-right, in-flat, flat-in}
+use Rattle.model.proofs.Members.{here, there, in-cases, in-nothing, in-append, in-left, in-right, in-flat}
 use Rattle.declarations.proofs.Levels.{all-closed}
 use Rattle.questions.specs.Clauses.{LeadDown, AddSupertraits, SupertraitsProveNoMore}
 
@@ -165,8 +165,8 @@ module _ (V : World) (rank : ℕ → ℕ) (down : LeadDown V rank) (E F : List R
       let now : Entry = record { of = e.of; rule = v.0 } in (
         v.1,
         subst (Every (λ p. Stands p (if is_coinductive V e.of.trait then all2 else earlier2))) (sym v.2)
-        (every-map (λ p. Stands p (if is_coinductive V e.of.trait then all else earlier)) (λ p. Stands p (if is_coinductive V e.of.trait then all2 else earlier2)) e.rule.premises
-        (stands-if (is_coinductive V e.of.trait) all earlier all2 earlier2 x y) f.1),
+            (every-map (λ p. Stands p (if is_coinductive V e.of.trait then all else earlier)) (λ p. Stands p (if is_coinductive V e.of.trait then all2 else earlier2)) e.rule.premises
+            (stands-if (is_coinductive V e.of.trait) all earlier all2 earlier2 x y) f.1),
         turned-follow all2 all (earlier2 ++ now ∷ []) (earlier ++ e ∷ []) left f.2 x (of-push earlier2 now ∙ ap (λ rs. rs ++ e.of ∷ []) y ∙ sym (of-push earlier e)),
       )
 

@@ -9,7 +9,7 @@ use Rattle.model.proofs.Entries.{map-in}
 use Rattle.model.proofs.Members.{here, there, in-cases, in-nothing, in-filter, filter-in, in-flat, flat-in, in-map}
 use Rattle.model.proofs.TreeLaws.{erase-instantiate}
 use Rattle.declarations.proofs.Levels.{all-closed}
-use Rattle.questions.specs.Clauses.{LeadDown, AddSupertraits, BoundsFit, SupertraitsAreErased}
+use Rattle.questions.specs.Clauses.{LeadDown, BoundsFit, SupertraitsAreErased}
 
 length-map : {A B : Type 0} (f : A → B) (xs : List A) → length (map f xs) ≡ length xs
 length-map f [] = refl

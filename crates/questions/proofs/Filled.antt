@@ -4,7 +4,7 @@ use Rattle.model.specs.Label.{Sort, of_type, of_const, of_lifetime, infer, stati
 use Rattle.model.specs.Trees.{Trees, leaf, erase}
 use Rattle.type_terms.specs.Terms.{Entry}
 use Rattle.infer_table.specs.Content.{Table, content, Ready}
-use Rattle.infer_table.specs.Solutions.{HasValues, Binding, IsSorted, tree_of, instance, resolved}
+use Rattle.infer_table.specs.Solutions.{HasValues, IsSorted, tree_of, resolved}
 use Rattle.infer_table.proofs.ContentFacts.{valued}
 use Rattle.infer_table.proofs.EquationFacts.{solved-sorted}
 use Rattle.infer_table.proofs.OccurFacts.{lifetime-unbound}

@@ -1,6 +1,5 @@
 -- Each unknown without value stands for itself.
-use Rattle.std.proofs.Common.{◌≡◌, ℕ, List, refl, ◌∙◌}
-use Rattle.model.specs.Label.{Sort}
+use Rattle.std.proofs.Common.{◌≡◌, List, refl, ◌∙◌}
 use Rattle.model.specs.Trees.{Trees, erase}
 use Rattle.type_terms.specs.Terms.{Entry}
 use Rattle.infer_table.specs.Content.{Table, content, variables_of, Ready, IsProper}
@@ -12,9 +11,6 @@ itself-sorted : IsSorted itself
 itself-sorted k v = refl
 
 module _ (es : List Entry) (t : Table) (ready : Ready es t) where
-
-
-
   tidied : IsTidy (content es t.values)
   tidied =
       let s = sound es t ready in

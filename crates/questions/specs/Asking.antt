@@ -1,5 +1,5 @@
 -- A question's goal is asked until its answer is settled: what each asking needs and keeps, and what the outcomes say.
-use Rattle.std.specs.Prelude.{◌≡◌, ◌⊎◌, ℕ, Bool, false, List, Option, Some, None}
+use Rattle.std.specs.Prelude.{◌≡◌, ◌⊎◌, Bool, false, List, Option, Some, None}
 use Rattle.type_terms.specs.Terms.{Entry, Keeps}
 use Rattle.infer_table.specs.Canonical.{CanonicalForm}
 use Rattle.infer_table.specs.Content.{Table, content, Ready, Grows}

@@ -16,11 +16,7 @@ use type_terms::interner::Interner;
 use type_terms::kinds::GenericArgKind;
 
 /// One more unknown, of the kind of this one.
-fn add_unknown(
-    cx: &mut Interner,
-    table: &mut InferCtxt,
-    like: GenericArgKind,
-) -> Result<(), Fault>
+fn add_unknown(cx: &mut Interner, table: &mut InferCtxt, like: GenericArgKind) -> Result<(), Fault>
     requires { Ready cx.old.entries table.old }
     ensures ready { Ready cx.new.entries table.new }
     ensures keeps { Keeps cx.old.entries cx.new.entries }

@@ -1,4 +1,4 @@
-use Rattle.std.proofs.Common.{rules, ◌≡◌, ◌∙◌, refl, sym, ap, subst, inl, inr, Ok, Err}
+use Rattle.std.proofs.Common.{rules, ◌≡◌, ap, Ok, Err}
 use Rattle.infer_table.proofs.FullFacts.{handed-on}
 use Rattle.questions.specs.declared.asking.Asking.TheVariants as asking
 use Rattle.questions.proofs.Asked.{or-else, asked-further, proved-further, first-out, later-out}

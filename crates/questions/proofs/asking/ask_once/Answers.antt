@@ -1,4 +1,4 @@
-use Rattle.std.proofs.Common.{rules, ◌≡◌, ◌∙◌, refl, sym, ap, inl, inr, Ok, Err}
+use Rattle.std.proofs.Common.{rules, ◌≡◌, ◌∙◌, sym, inr, Err}
 use Rattle.infer_table.specs.Unification.{table_trees}
 use Rattle.infer_table.proofs.Numbers.{goal-held-later}
 use Rattle.root_goals.proofs.WithoutCanonical.{evaluations-keep-out}

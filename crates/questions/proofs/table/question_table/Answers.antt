@@ -1,13 +1,10 @@
-use Rattle.std.proofs.Common.{◌≡◌, ◌+◌, ◌<◌, ◌≤◌, ◌∷◌, [], ◌++◌, List, length, map, take, refl, sym, ◌∙◌, ap, subst, Err, inr, arith}
-use Rattle.model.specs.Label.{Sort}
+use Rattle.std.proofs.Common.{◌≤◌, map, take, sym, ◌∙◌, ap, subst, Err, arith}
 use Rattle.type_terms.specs.declared.TheConstants.{MAX_INDEX}
-use Rattle.type_terms.specs.declared.kinds.GenericArgKind.{GenericArgKind}
 use Rattle.term_folds.specs.Arguments.{arg_sort}
-use Rattle.term_folds.proofs.Items.{take-push}
 use Rattle.infer_table.specs.Content.{variables_of}
 use Rattle.infer_table.proofs.FullFacts.{handed-on, or-then}
-use Rattle.questions.specs.Tables.{count_of, table_of}
-use Rattle.questions.proofs.Counts.{count-few, variables-are, sorts-push, sorts-few}
+use Rattle.questions.specs.Tables.{table_of}
+use Rattle.questions.proofs.Counts.{variables-are, sorts-push, sorts-few}
 use Rattle.questions.proofs.table.question_table.Goals as goal
 
 pub returns-in_err-add_unknown-clause-full : goal.returns-in_err-add_unknown-clause-full
@@ -16,10 +13,10 @@ returns-in_err-add_unknown-clause-full c = λ q.
     let i = c.loop-unknown.unknown-index in
     let x = c.unknown-item.result in
     or-then (λ h.
-        let few = sorts-few (arg_sort x) xs i in
-        let is = subst (λ t. MAX_INDEX ≤ variables_of t (arg_sort x)) c.loop-unknown.invariant.is h in
-        let counted = subst (λ n. MAX_INDEX ≤ n) (variables-are (map arg_sort (take i xs)) (arg_sort x)) is in
-        omega (arith, few, counted))
+    let few = sorts-few (arg_sort x) xs i in
+    let is = subst (λ t. MAX_INDEX ≤ variables_of t (arg_sort x)) c.loop-unknown.invariant.is h in
+    let counted = subst (λ n. MAX_INDEX ≤ n) (variables-are (map arg_sort (take i xs)) (arg_sort x)) is in
+    omega (arith, few, counted))
     (handed-on c.from_residual.result c.from_residual.ensures.1 (λ p. c.in_err-add_unknown.ensures.full (ap Err p)) q)
 
 pub loop-unknown-preserved : goal.loop-unknown-preserved

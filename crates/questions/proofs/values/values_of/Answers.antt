@@ -1,6 +1,6 @@
-use Rattle.std.proofs.Common.{◌≡◌, ◌∙◌, refl, ap, sym, subst, List, [], ◌∷◌, Err}
+use Rattle.std.proofs.Common.{◌≡◌, ◌∙◌, refl, ap, List, [], ◌∷◌, Err}
 use Rattle.model.specs.Trees.{Trees, none}
-use Rattle.type_terms.specs.Kinds.{ArgHeld, ArgsHeld, arg_trees}
+use Rattle.type_terms.specs.Kinds.{ArgHeld, arg_trees}
 use Rattle.term_folds.specs.Kept.{arg-held-later, arg-trees-later, args-held-later}
 use Rattle.term_folds.specs.Pieces.{Piece}
 use Rattle.infer_table.specs.Content.{content}
