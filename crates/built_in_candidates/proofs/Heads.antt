@@ -1,6 +1,5 @@
 -- Rules that read the first of the arguments alone.
-use Rattle.std.proofs.Common.{◌≡◌, ℕ, List, refl, sym, ap, subst, ◌∙◌, Ok, Err}
-use Rattle.std.specs.Prelude.{Result, IfOk}
+use Rattle.std.proofs.Common.{◌≡◌, ℕ, List, refl, sym, ap, subst, ◌∙◌}
 use Rattle.model.specs.Label.{Label, bool, adt}
 use Rattle.model.specs.Trees.{Trees, none, tree, nth, erase_label}
 use Rattle.model.specs.Worlds.{World}

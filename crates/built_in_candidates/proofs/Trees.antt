@@ -4,10 +4,9 @@ use Rattle.model.specs.Label.{of_type}
 use Rattle.model.specs.Trees.{Trees, none, tree, ◌+++◌, IsA, instantiate}
 use Rattle.model.specs.Worlds.{Reference}
 use Rattle.model.specs.Rules.{asked, each_asked, last_asked, together}
-use Rattle.type_terms.specs.Terms.{Entry, Has, Lawful, types, trees_at}
+use Rattle.type_terms.specs.Terms.{Entry, Lawful, trees_at}
 use Rattle.type_terms.specs.Kinds.{TysHeld, tys_trees}
 use Rattle.type_terms.specs.declared.kinds.Ty.{Ty}
-use Rattle.term_folds.specs.Kept.{trees-is}
 use Rattle.infer_table.proofs.BindFacts.{type-is}
 use Rattle.model.proofs.TreeLaws.{append-none}
 use Rattle.built_in_candidates.specs.Constituents.{types_asked, TypesHeld, last_of}

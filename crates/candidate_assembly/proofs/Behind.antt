@@ -3,15 +3,14 @@ use Rattle.std.proofs.Math.Bridge.{le_prop}
 use Rattle.std.proofs.Common.{◌≡◌, ℕ, zero, suc, ◌+◌, ◌≤◌, subst, arith, Bool, true, false, List, [], ◌∷◌, length, map, refl, sym, ap, ◌∙◌, Option, Some, None}
 use Rattle.std.specs.Prelude.{cond}
 use Rattle.std.specs.Option.{option_or}
-use Rattle.model.specs.Label.{Label, Sort, canonical, param, inside}
+use Rattle.model.specs.Label.{Sort, canonical, param, inside}
 use Rattle.model.specs.Trees.{Trees, none, tree, leaf, ◌+++◌, nth, shift, instantiate, is_sort, outer_binder}
 use Rattle.model.specs.Worlds.{Reference, with_args, all_with_args}
 use Rattle.type_terms.specs.Terms.{Entry, Is, Keeps, args_lists, trees_at}
 use Rattle.type_terms.specs.declared.ImplId.{ImplId}
 use Rattle.type_terms.specs.declared.TheConstants.{MAX_INDEX}
-use Rattle.term_folds.specs.Kept.{trees-is, has-later, trees-later}
+use Rattle.term_folds.specs.Kept.{trees-is, trees-later}
 use Rattle.declarations.specs.Applied.{AllHeld}
-use Rattle.declarations.specs.Held.{ReferenceHeld}
 use Rattle.type_terms.specs.Kinds.{args_trees, arg_trees}
 use Rattle.type_terms.specs.declared.kinds.GenericArgKind.{GenericArgKind}
 use Rattle.term_folds.specs.Arguments.{sort_at, misfit, first_misfit}

@@ -1,12 +1,8 @@
 -- Goals that are decided, while the interner grows, and what comes next for them.
-use Rattle.std.proofs.Common.{◌≡◌, ◌==◌, ℕ, suc, arith, Bool, true, false, if◌then◌else◌, List, [], ◌∷◌, ◌++◌, map, length, reverse, refl, sym, ◌∙◌, ap, subst, Option, Some, None}
-use Rattle.std.proofs.lemmas.Bool.Decides.{nat_tests}
-use Rattle.std.proofs.lemmas.List.{reverse-append}
+use Rattle.std.proofs.Common.{◌≡◌, ◌==◌, ℕ, Bool, true, false, if◌then◌else◌, List, [], ◌∷◌, ◌++◌, map, length, reverse, refl, sym, ◌∙◌, ap, subst, Option, Some, None}
 use Rattle.std.specs.List.{slice_get}
-use Rattle.model.specs.Label.{adt, dynamic}
-use Rattle.model.specs.Trees.{Trees, none, tree}
-use Rattle.model.specs.Worlds.{World, Reference}
-use Rattle.model.specs.Rules.{unsize, principal_with}
+use Rattle.model.specs.Worlds.{World}
+use Rattle.model.specs.Rules.{unsize}
 use Rattle.model.specs.Answers.{written_in}
 use Rattle.type_terms.specs.Terms.{Entry, Keeps, trees_at}
 use Rattle.term_folds.specs.Signatures.{StartsWithType}
@@ -15,7 +11,7 @@ use Rattle.infer_table.specs.Inputs.{form_of}
 use Rattle.infer_table.specs.declared.input.CanonicalInput.{CanonicalInput}
 use Rattle.infer_table.proofs.Numbers.{goal-held-later, goal-trees-later}
 use Rattle.evaluation.specs.declared.candidate.Considered as InCode
-use Rattle.evaluation.specs.Candidate.{Considered, IsHistory}
+use Rattle.evaluation.specs.Candidate.{IsHistory}
 use Rattle.evaluation.specs.Merge.{or_else}
 use Rattle.evaluation.specs.Readings.{ConsideredHeld}
 use Rattle.evaluation.specs.Table.{workings}
@@ -24,7 +20,7 @@ use Rattle.goal_frames.specs.Readings.{Shown, shown, Shows, shown_by}
 use Rattle.goal_frames.proofs.Later.{shown-later}
 use Rattle.declarations.specs.Items.{Items, reference_in, written}
 use Rattle.declarations.specs.Merges.{Rises}
-use Rattle.declarations.proofs.Growth.{each-kept, reference-same, args-same, all-written}
+use Rattle.declarations.proofs.Growth.{reference-same, args-same, all-written}
 use Rattle.assembly_laws.specs.Asking.{Asked, asked, self_of}
 use Rattle.assembly_laws.specs.Candidates.{Candidate, by_impls, by_objects}
 use Rattle.assembly_laws.specs.Solver.{Past, is_impl}

@@ -1,6 +1,5 @@
 -- What visits find that look for what is not a goal's, and for names that are not declared.
-use Rattle.std.proofs.Common.{◌≡◌, ◌≢◌, arith, subst, ℕ, zero, suc, List, [], ◌∷◌, refl, sym, ◌∙◌, ap, Bool, true, false, not, ◌&&◌, ◌||◌, Option, Some, None, is_some}
-use Rattle.std.specs.List.{slice_get}
+use Rattle.std.proofs.Common.{◌≡◌, ◌≢◌, arith, subst, ℕ, List, [], ◌∷◌, refl, sym, ◌∙◌, ap, Bool, true, false, not, ◌&&◌, ◌||◌, Option, Some, None, is_some}
 use Rattle.model.specs.Label.{Label, of_type, of_const, of_lifetime, static, param, placeholder, infer, canonical, bound, dynamic, principal, auto_trait, predicate, adt}
 use Rattle.model.specs.Trees.{Trees, none, tree, leaf, ◌+++◌, IsA, sort_of, is_sort, is_no_tree, some_node}
 use Rattle.model.specs.Worlds.{World}
@@ -19,9 +18,7 @@ use Rattle.type_terms.specs.Made.{Standing, terms, bounds, traits, is_leaf_label
 use Rattle.term_folds.specs.Kept.{trees-is}
 use Rattle.term_folds.specs.Visits.{Visits, ended, passed, broken, entered, broken_below}
 use Rattle.term_folds.specs.declared.visit.Seen.{Seen}
-use Rattle.term_folds.specs.declared.visit.Seen.TheVariants.{Break, Enter, Pass}
 use Rattle.infer_table.specs.declared.canonical.CanonicalVarKind.{CanonicalVarKind}
-use Rattle.evaluation.specs.FrameTables.{kind_at}
 use Rattle.type_terms.proofs.Made.{false-true, left, right, no-tree, made-ordinary, last-bound, last-trait, never-dynamic, never-dynamic-bound, never-principal}
 use Rattle.evaluation.specs.Variables.{is_variable_over}
 use Rattle.candidate_assembly.proofs.Clauses.{says-pass, says-enter, says-break, here-test, below-test, behind-test}

@@ -1,18 +1,14 @@
 -- Terms over the variables of a candidate: those of the goal, and behind them its own.
-use Rattle.std.proofs.Common.{◌≡◌, ℕ, zero, suc, ◌+◌, arith, true, false, ◌||◌, List, [], ◌∷◌, ◌++◌, length, refl, sym, ◌∙◌, ap, None}
+use Rattle.std.proofs.Common.{◌≡◌, ℕ, zero, suc, ◌+◌, true, false, ◌||◌, List, refl, sym, ◌∙◌, ap}
 use Rattle.std.specs.List.{slice_get}
 use Rattle.model.specs.Label.{Label, Sort, of_type, of_const, of_lifetime, infer, param, placeholder, canonical, bound, fn_ptr, principal, inside, shift_label, bool, char}
 use Rattle.model.specs.Trees.{Trees, none, tree, ◌+++◌, erase_label, shift, nth, instantiate, some_node}
 use Rattle.model.specs.Worlds.{Reference}
 use Rattle.type_terms.specs.Made.{terms, is_leaf_label, is_made}
 use Rattle.type_terms.proofs.Made.{false-true, left}
-use Rattle.infer_table.specs.Unification.{TableTrees}
 use Rattle.infer_table.specs.declared.canonical.CanonicalVarKind.{CanonicalVarKind}
-use Rattle.infer_table.specs.declared.canonical.CanonicalVarKind.TheVariants.{Ty, PlaceholderTy, Const, PlaceholderConst, Region}
-use Rattle.infer_table.specs.Applying.{table_after}
 use Rattle.evaluation.specs.Lists.{Every}
-use Rattle.evaluation.specs.TableAnswers.{is_kind_of}
-use Rattle.evaluation.specs.FrameTables.{kind_at, labels_from, first_content, labels_for, Equation}
+use Rattle.evaluation.specs.FrameTables.{Equation}
 use Rattle.evaluation.specs.Instances.{put_in}
 use Rattle.evaluation.proofs.Labels.{IsGoodLabel, made-labels}
 use Rattle.evaluation.proofs.Reading.{EachLabel}

@@ -1,7 +1,7 @@
 -- A walk over the impls that can match a goal, from one to the next.
 use Rattle.std.proofs.Common.{◌≡◌, ℕ, zero, suc, length, Bool, true, false, cond, ◌&&◌, arith, List, [], ◌∷◌, Option, Some, None, refl, sym, ap, subst, ◌∙◌}
 use Rattle.std.proofs.lemmas.Bool.Decides.{nat_tests}
-use Rattle.std.specs.Prelude.{◌==◌, map, filter, if◌then◌else◌}
+use Rattle.std.specs.Prelude.{◌==◌, filter, if◌then◌else◌}
 use Rattle.std.specs.List.{slice_get}
 use Rattle.model.specs.Trees.{Trees}
 use Rattle.model.specs.Worlds.{World, ImplDecl}

@@ -1,19 +1,18 @@
 -- Which goals fit declarations: the arguments of the goal's trait, and of the structs and `dyn` types that it asks of, are as many, and of
 -- the sorts, that are declared.
-use Rattle.std.specs.Prelude.{◌≡◌, ℕ, Bool, true, false, ◌&&◌, ◌||◌, ◌==◌, not, List, [], ◌∷◌, map, IfSome}
+use Rattle.std.specs.Prelude.{◌≡◌, ℕ, Bool, true, false, ◌&&◌, ◌||◌, ◌==◌, not, List, [], ◌∷◌, map}
 use Rattle.std.specs.Option.{option_map_or}
 use Rattle.std.specs.List.{list_any}
 use Rattle.model.specs.Label.{Sort, of_type, of_trait, predicate, dynamic, principal, adt}
 use Rattle.model.specs.Trees.{Trees, none, tree, is_sort, outer_binder}
 use Rattle.model.specs.Worlds.{Reference}
-use Rattle.model.specs.Rules.{unsize, principal_with, autos_with}
+use Rattle.model.specs.Rules.{unsize, autos_with}
 use Rattle.model.specs.Answers.{written_in}
 use Rattle.type_terms.specs.Terms.{Entry, trees_at}
 use Rattle.term_folds.specs.Signatures.{StartsWithType}
 use Rattle.infer_table.specs.Canonical.{CanonicalForm}
 use Rattle.infer_table.specs.declared.input.CanonicalInput.{CanonicalInput}
 use Rattle.declarations.specs.Items.{Items, reference_in, struct_at, trait_at, written}
-use Rattle.declarations.specs.Merges.{Each}
 use Rattle.declarations.specs.Applied.{sort_of_param, sorts_of, sorts_of_params, IsApplied}
 use Rattle.assembly_laws.specs.Asking.{self_of, next_of}
 use Rattle.built_in_candidates.specs.Goals.{asked_of}

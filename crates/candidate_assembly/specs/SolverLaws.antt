@@ -1,6 +1,6 @@
 -- What the solver means for goals keeps the laws of handlers: it is lawful for each goal, terms get no wider and questions no more from
 -- goal to goal, and the solutions of nested goals are looked for where those of the goal are.
-use Rattle.std.proofs.Common.{◌≡◌, ◌≤◌, ℕ, ◌+◌, ◌*◌, max, arith, Bool, true, false, ◌&&◌, refl, sym, ◌∙◌, ap}
+use Rattle.std.proofs.Common.{◌≤◌, ℕ, ◌+◌, ◌*◌, max, arith, false, ◌&&◌, refl, sym, ◌∙◌, ap}
 use Rattle.std.proofs.lemmas.Nat.{mul-le}
 use Rattle.model.specs.Worlds.{World}
 use Rattle.infer_table.specs.Canonical.{CanonicalForm}
