@@ -2,11 +2,11 @@
 use Rattle.std.proofs.Common.{◌≡◌, ◌<◌, ◌≤◌, ℕ, zero, suc, Bool, true, false, ◌&&◌, List, [], ◌∷◌, ◌++◌, map, length, Option, Some, None, Result, Ok, Err, refl, sym, ap, ◌∙◌, subst, arith, inl, inr}
 use Rattle.std.proofs.lemmas.List.Folds.{list_all-append}
 use Rattle.std.proofs.lemmas.Option.{same_Some, slice_get_within}
-use Rattle.std.specs.Prelude.{slice_get, find, if◌then◌else◌}
+use Rattle.std.specs.Prelude.{slice_get, find, if◌then◌else◌, option_and_then}
 use Rattle.std.specs.List.{list_all, list_any, flat_map}
 use Rattle.std.specs.Option.{option_map, option_map_or, option_or}
 use Rattle.std.specs.Str.{bytes_eq}
-use Rattle.model.specs.Label.{Label, Sort, of_type, param, adt, tuple, fn_ptr, raw_pointer, ref, array, slice, dynamic, principal, auto_trait, predicate}
+use Rattle.model.specs.Label.{Label, Sort, of_type, param, adt, tuple, fn_ptr, raw_pointer, ref, array, slice, dynamic, principal, auto_trait, predicate, placeholder}
 use Rattle.model.specs.Trees.{Trees, none, tree, leaf, ◌+++◌, sort_of}
 use Rattle.model.specs.Worlds.{Reference, sees}
 use Rattle.model.specs.Proofs.{In}
@@ -14,21 +14,22 @@ use Rattle.model.proofs.Members.{in-cases, in-nothing, in-left}
 use Rattle.declarations.specs.Applied.{sorts_of}
 use Rattle.declarations.specs.Merges.{Each}
 use Rattle.text_definitions.specs.Syntax.{Types, no_types, and_type, Bound, Clause, Line, crate_line, struct_line, trait_line, impl_line, prove_line, refute_line}
-use Rattle.text_definitions.specs.Declarations.{Declarations, NamedCrate, NamedStruct, NamedTrait, NamedImpl, Known, a_crate, a_struct, a_trait, world_of, known, last_crate, nothing_declared}
-use Rattle.text_definitions.specs.Uses.{Use, crate_use, trait_use, args_count, kinds_of_trait, type_uses, types_uses, args_uses, bound_uses, clause_uses, header_uses, uses}
-use Rattle.text_definitions.specs.Faults.{fault_of, with_own, own_struct, own_trait, is_hidden_use}
-use Rattle.text_definitions.specs.Lowering.{crate_number, trait_number, field_trees, type_tree, args_trees, with_self, clause_reference}
-use Rattle.text_definitions.specs.Adding.{added, item_meanings, crate_of, struct_of, trait_of, impl_of}
+use Rattle.text_definitions.specs.Declarations.{Declarations, NamedCrate, NamedStruct, NamedTrait, NamedImpl, Known, a_crate, a_struct, a_trait, world_of, known, last_crate, nothing_declared, Question}
+use Rattle.text_definitions.specs.Uses.{Use, crate_use, trait_use, args_count, kinds_of_trait, type_uses, types_uses, args_uses, bound_uses, clause_uses, header_uses, uses, params_of}
+use Rattle.text_definitions.specs.Faults.{fault_of, with_own, own_struct, own_trait, is_hidden_use, is_crate, number_of_crate, once, variables_in}
+use Rattle.text_definitions.specs.Lowering.{crate_number, trait_number, field_trees, type_tree, args_trees, with_self, clause_reference, Meanings}
+use Rattle.text_definitions.specs.Adding.{added, item_meanings, crate_of, struct_of, trait_of, impl_of, question_of, question_meanings}
 use Rattle.text_definitions.specs.Written.{IsWritten}
 use Rattle.text_definitions.specs.Text.{LineGives, other_byte, blank, unwritten, faulty, adds, LinesGive, ends, fails, goes_on, TextGives, too_long, fits}
 use Rattle.line_reader.specs.Faultless.{UsesFit, names_crate}
-use Rattle.line_reader.proofs.NoFault.{passes-tests}
+use Rattle.line_reader.proofs.NoFault.{passes-tests, uses-crates}
 use Rattle.line_reader.proofs.FittingUses.{faultless-uses}
 use Rattle.declared_views.proofs.Applied.{each-map, each-more, still-there}
 use Rattle.declared_views.proofs.ScalarTokens.{ScalarBounds, ScalarClause, ScalarClauses, struct-scalars, trait-scalars, impl-scalars}
 use Rattle.declared_views.proofs.Scalars.{ScalarTypes, ScalarArgs}
 use Rattle.declared_views.proofs.Standing.{AutosAreBare}
 use Rattle.declared_views.proofs.Texts.{Well, is_bare, autos-bare, line-added, core-well}
+use Rattle.question_laws.proofs.QuestionScalars.{prove-scalars, refute-scalars}
 use Rattle.question_laws.proofs.Seeing.{seen-more}
 use Rattle.question_laws.proofs.TextTerms.{Scope, IsStructAt, IsTraitAt, TextNode, TextNodes, IsPlaced, scope_of, nodes-append, FitSeen, first-seen, rest-seen, tail-seen, trait-used, type-sorts, args-sorts, type-nodes, args-nodes}
 
@@ -54,6 +55,9 @@ TraitFormed d n = Each (IsFormedReference (scope d n.item.home)) n.item.bounds
 abbrev pub ImplFormed : Declarations → NamedImpl → Type 0
 ImplFormed d n = Each (IsFormedReference (scope d n.item.home)) n.item.clauses
 
+abbrev pub QuestionFormed : Declarations → Question → Type 0
+QuestionFormed d q = IsFormedReference (scope d q.asker) q.asked × Each (IsFormedReference (scope d q.asker)) q.clauses
+
 -- a crate's number is its place, and it uses earlier crates alone
 abbrev pub IsCrate : ℕ → NamedCrate → Type 0
 IsCrate k x = (x.item.name ≡ k) × ((u : ℕ) → In u x.item.uses → u < k)
@@ -63,6 +67,7 @@ pub record Formed (d : Declarations) : Type 0 where
   pub structs : Each (StructFormed d) d.structs
   pub traits : Each (TraitFormed d) d.traits
   pub impls : Each (ImplFormed d) d.impls
+  pub questions : Each (QuestionFormed d) d.questions
   pub core : (k : ℕ) (n : NamedTrait) → slice_get nothing_declared.traits k ≡ Some n → slice_get d.traits k ≡ Some n
 
 -- ---- more is declared
@@ -183,40 +188,52 @@ pushed P [] x h p (suc k) y e = absurd cc
 pushed P (z ∷ zs) x h p zero y e = h zero y e
 pushed P (z ∷ zs) x h p (suc k) y e = pushed (λ j. P (suc j)) zs x (λ j w q. h (suc j) w q) p k y e
 
--- ---- an item's line
-module _ (d : Declarations) (l : Line) (first c : ℕ) (structs : IsPlaced (λ (x : NamedStruct). x.item.name) (with_own d l).structs) (traits : IsPlaced (λ (x : NamedTrait). x.item.name) (with_own d l).traits) (bare : AutosAreBare (with_own d l)) where
-  sorted : (s : Sort) (i : ℕ) → sort_of (param s i) ≡ s
-  sorted s i = refl
+-- parameters of items, and of questions
+param-sorted : (s : Sort) (i : ℕ) → sort_of (param s i) ≡ s
+param-sorted s i = refl
 
-  free : (s : Sort) (i : ℕ) (x : Trees) → TextNode (scope_of d l c) (param s i) x
-  free s i x = tt
+param-free : (e : Scope) (s : Sort) (i : ℕ) (x : Trees) → TextNode e (param s i) x
+param-free e s i x = tt
+
+placeholder-sorted : (s : Sort) (i : ℕ) → sort_of (placeholder s i) ≡ s
+placeholder-sorted s i = refl
+
+placeholder-free : (e : Scope) (s : Sort) (i : ℕ) (x : Trees) → TextNode e (placeholder s i) x
+placeholder-free e s i x = tt
+
+-- ---- a line
+module _ (d : Declarations) (l : Line) (first c : ℕ) (parameter : Sort → ℕ → Label) (variables : List (List ℕ × Sort)) (sorted : (s : Sort) (i : ℕ) → sort_of (parameter s i) ≡ s)
+    (free : (s : Sort) (i : ℕ) (x : Trees) → TextNode (scope_of d l c) (parameter s i) x)
+    (structs : IsPlaced (λ (x : NamedStruct). x.item.name) (with_own d l).structs) (traits : IsPlaced (λ (x : NamedTrait). x.item.name) (with_own d l).traits) (bare : AutosAreBare (with_own d l)) where
+  abbrev M : Meanings
+  M = record { items = with_own d l; params = params_of l; first = first; parameter = parameter; variables = variables }
 
   abbrev S : List Use → Type 0
-  S us = FitSeen d l first c param [] sorted free structs traits bare us
+  S us = FitSeen d l first c parameter variables sorted free structs traits bare us
 
   abbrev head-of : (us vs : List Use) → S (us ++ vs) → S us
-  head-of us vs h = first-seen d l first c param [] sorted free structs traits bare us vs h
+  head-of us vs h = first-seen d l first c parameter variables sorted free structs traits bare us vs h
 
   abbrev rest-of : (us vs : List Use) → S (us ++ vs) → S vs
-  rest-of us vs h = rest-seen d l first c param [] sorted free structs traits bare us vs h
+  rest-of us vs h = rest-seen d l first c parameter variables sorted free structs traits bare us vs h
 
-  fields-formed : (fs : Types) → ScalarTypes fs → S (types_uses (with_own d l) [] fs) → Each (IsFormedField (scope_of d l c)) (field_trees (item_meanings d l first) fs)
+  fields-formed : (fs : Types) → ScalarTypes fs → S (types_uses (with_own d l) [] fs) → Each (IsFormedField (scope_of d l c)) (field_trees M fs)
   fields-formed no_types f h = tt
   fields-formed (and_type t ts) f h = (
-    record { nodes = type-nodes d l first c param [] sorted free structs traits bare [] t f.0 (head-of (type_uses (with_own d l) [] of_type t) (types_uses (with_own d l) [] ts) h); sort = type-sorts d l first c param [] sorted free structs traits bare [] t f.0 },
+    record { nodes = type-nodes d l first c parameter variables sorted free structs traits bare [] t f.0 (head-of (type_uses (with_own d l) [] of_type t) (types_uses (with_own d l) [] ts) h); sort = type-sorts d l first c parameter variables sorted free structs traits bare [] t f.0 },
     fields-formed ts f.1 (rest-of (type_uses (with_own d l) [] of_type t) (types_uses (with_own d l) [] ts) h),
   )
 
   self-formed : (self : Trees) → TextNodes (scope_of d l c) self → sorts_of self ≡ of_type ∷ [] → (b : Bound) → ScalarArgs b.args → S (bound_uses (with_own d l) b)
-      → IsFormedReference (scope_of d l c) (with_self (item_meanings d l first) self b)
+      → IsFormedReference (scope_of d l c) (with_self M self b)
   self-formed self n s b f h =
       let ks = kinds_of_trait (known (with_own d l) b.trait) in
-      let q = trait-used d l first c param [] sorted free structs traits bare b.trait (args_count b.args) (args_uses (with_own d l) [] ks b.args) h in
-      let more = tail-seen d l first c param [] sorted free structs traits bare (trait_use b.trait (args_count b.args)) (args_uses (with_own d l) [] ks b.args) h in
-      let args = args_trees (item_meanings d l first) [] ks b.args in
+      let q = trait-used d l first c parameter variables sorted free structs traits bare b.trait (args_count b.args) (args_uses (with_own d l) [] ks b.args) h in
+      let more = tail-seen d l first c parameter variables sorted free structs traits bare (trait_use b.trait (args_count b.args)) (args_uses (with_own d l) [] ks b.args) h in
+      let args = args_trees M [] ks b.args in
       record {
-        nodes = nodes-append (TextNode (scope_of d l c)) self args n (args-nodes d l first c param [] sorted free structs traits bare [] ks b.args f more);
-        trait = subst (IsTraitAt (scope_of d l c) (trait_number (known (with_own d l) b.trait))) (sym (behind self args s ∙ ap (λ z. of_type ∷ z) (args-sorts d l first c param [] sorted free structs traits bare [] ks b.args f q.1 more))) q.0;
+        nodes = nodes-append (TextNode (scope_of d l c)) self args n (args-nodes d l first c parameter variables sorted free structs traits bare [] ks b.args f more);
+        trait = subst (IsTraitAt (scope_of d l c) (trait_number (known (with_own d l) b.trait))) (sym (behind self args s ∙ ap (λ z. of_type ∷ z) (args-sorts d l first c parameter variables sorted free structs traits bare [] ks b.args f q.1 more))) q.0;
       }
     where
       behind : (x y : Trees) → sorts_of x ≡ of_type ∷ [] → sorts_of (x +++ y) ≡ of_type ∷ sorts_of y
@@ -227,20 +244,20 @@ module _ (d : Declarations) (l : Line) (first c : ℕ) (structs : IsPlaced (λ (
           the-head z g = cc
       behind (tree m k (tree n i o)) y e = absurd cc
 
-  clause-formed : (k : Clause) → ScalarClause k → S (clause_uses (with_own d l) k) → IsFormedReference (scope_of d l c) (clause_reference (item_meanings d l first) k)
+  clause-formed : (k : Clause) → ScalarClause k → S (clause_uses (with_own d l) k) → IsFormedReference (scope_of d l c) (clause_reference M k)
   clause-formed k f h =
-      self-formed (type_tree (item_meanings d l first) [] of_type k.subject)
-      (type-nodes d l first c param [] sorted free structs traits bare [] k.subject f.0 (head-of (type_uses (with_own d l) [] of_type k.subject) (bound_uses (with_own d l) k.bound) h))
-      (type-sorts d l first c param [] sorted free structs traits bare [] k.subject f.0) k.bound f.1 (rest-of (type_uses (with_own d l) [] of_type k.subject) (bound_uses (with_own d l) k.bound) h)
+      self-formed (type_tree M [] of_type k.subject)
+      (type-nodes d l first c parameter variables sorted free structs traits bare [] k.subject f.0 (head-of (type_uses (with_own d l) [] of_type k.subject) (bound_uses (with_own d l) k.bound) h))
+      (type-sorts d l first c parameter variables sorted free structs traits bare [] k.subject f.0) k.bound f.1 (rest-of (type_uses (with_own d l) [] of_type k.subject) (bound_uses (with_own d l) k.bound) h)
 
-  bounds-formed : (bs : List Bound) → ScalarBounds bs → S (flat_map (bound_uses (with_own d l)) bs) → Each (IsFormedReference (scope_of d l c)) (map (with_self (item_meanings d l first) (leaf (param of_type 0))) bs)
+  bounds-formed : (bs : List Bound) → ScalarBounds bs → S (flat_map (bound_uses (with_own d l)) bs) → Each (IsFormedReference (scope_of d l c)) (map (with_self M (leaf (param of_type 0))) bs)
   bounds-formed [] f h = tt
   bounds-formed (b ∷ bs) f h = (
     self-formed (leaf (param of_type 0)) (tt, tt, tt) refl b f.0 (head-of (bound_uses (with_own d l) b) (flat_map (bound_uses (with_own d l)) bs) h),
     bounds-formed bs f.1 (rest-of (bound_uses (with_own d l) b) (flat_map (bound_uses (with_own d l)) bs) h),
   )
 
-  clauses-formed : (ks : List Clause) → ScalarClauses ks → S (flat_map (clause_uses (with_own d l)) ks) → Each (IsFormedReference (scope_of d l c)) (map (clause_reference (item_meanings d l first)) ks)
+  clauses-formed : (ks : List Clause) → ScalarClauses ks → S (flat_map (clause_uses (with_own d l)) ks) → Each (IsFormedReference (scope_of d l c)) (map (clause_reference M) ks)
   clauses-formed [] f h = tt
   clauses-formed (k ∷ ks) f h = (
     clause-formed k f.0 (head-of (clause_uses (with_own d l) k) (flat_map (clause_uses (with_own d l)) ks) h),
@@ -257,6 +274,12 @@ module _ (d e : Declarations) (grows : (h : ℕ) → Grows (scope d h) (scope e 
 
   impls-still : Each (ImplFormed e) d.impls
   impls-still = each-map (ImplFormed d) (ImplFormed e) (λ x p. each-map (IsFormedReference (scope d x.item.home)) (IsFormedReference (scope e x.item.home)) (reference-grows (scope d x.item.home) (scope e x.item.home) (grows x.item.home)) x.item.clauses p) d.impls h.impls
+
+  questions-still : Each (QuestionFormed e) d.questions
+  questions-still =
+      each-map (QuestionFormed d) (QuestionFormed e) (λ x p.
+      (reference-grows (scope d x.asker) (scope e x.asker) (grows x.asker) x.asked p.0, each-map (IsFormedReference (scope d x.asker)) (IsFormedReference (scope e x.asker)) (reference-grows (scope d x.asker) (scope e x.asker) (grows x.asker)) x.clauses p.1))
+      d.questions h.questions
 
 -- ---- lines
 -- a known crate has a number
@@ -288,6 +311,18 @@ SeenUses d l c = UsesFit d l (uses (with_own d l) l) × (list_any (is_hidden_use
 bare-there : (d : Declarations) (own x : NamedTrait) → is_bare own ≡ is_bare x → list_all is_bare (d.traits ++ x ∷ []) ≡ true → list_all is_bare (d.traits ++ own ∷ []) ≡ true
 bare-there d own x e h = list_all-append is_bare d.traits (own ∷ []) ∙ ap (λ b. list_all is_bare d.traits && (b && true)) e ∙ sym (list_all-append is_bare d.traits (x ∷ [])) ∙ h
 
+-- the crate that asks sees what its question uses
+asker-sees : (d : Declarations) (l : Line) (c : List ℕ) → names_crate d c ≡ true → option_map_or (λ k. list_any (is_hidden_use d l k) (uses (with_own d l) l)) (option_and_then number_of_crate (known d c)) false ≡ false
+    → list_any (is_hidden_use d l (crate_number (known d c))) (uses (with_own d l) l) ≡ false
+asker-sees d l c n h = by (known d c) n h
+  where
+    by : (o : Option Known) → option_map_or is_crate o false ≡ true → option_map_or (λ k. list_any (is_hidden_use d l k) (uses (with_own d l) l)) (option_and_then number_of_crate o) false ≡ false
+        → list_any (is_hidden_use d l (crate_number o)) (uses (with_own d l) l) ≡ false
+    by None m g = absurd cc
+    by (Some (a_crate k)) m g = g
+    by (Some (a_struct k x ks)) m g = absurd cc
+    by (Some (a_trait k x b ks)) m g = absurd cc
+
 line-formed : (d : Declarations) (line : List ℕ) (l : Line) → IsWritten line l → fault_of d l ≡ None → Well d → Formed d → Formed (added d l)
 line-formed d line (crate_line n us) w f well h =
     let l = crate_line n us in
@@ -299,6 +334,7 @@ line-formed d line (crate_line n us) w f well h =
       structs = structs-still d e goes h;
       traits = traits-still d e goes h;
       impls = impls-still d e goes h;
+      questions = questions-still d e goes h;
       core = h.core;
     }
   where
@@ -314,13 +350,50 @@ line-formed d line (crate_line n us) w f well h =
     crates-there [] g u i = absurd (in-nothing u i)
     crates-there (v ∷ vs) g u i = elim (in-cases u (crate_number (known d v)) (map (λ z. crate_number (known d z)) vs) i) [ inl q ↦ subst (λ k. k < length d.crates) q (crate-there d v h g.0) | inr j ↦ crates-there vs g.1 u j ]
 line-formed d line (prove_line c ps a ks) w f well h =
-    let e = added d (prove_line c ps a ks) in
+    let l = prove_line c ps a ks in
+    let e = added d l in
+    let k = crate_number (known d c) in
+    let vs = once (variables_in (clause_uses d a)) in
     let goes = λ (x : ℕ). item-grows d e [] [] (nothing-behind d.structs) (nothing-behind d.traits) x (seen-still d e refl x) in
-    record { crates = h.crates; structs = structs-still d e goes h; traits = traits-still d e goes h; impls = impls-still d e goes h; core = h.core }
+    let bare = autos-bare d well.bare in
+    let free = placeholder-free (scope_of d l k) in
+    let scalar = prove-scalars line c ps a ks w in
+    let grown = reference-grows (scope_of d l k) (scope e k) (own-grows d l k refl) in
+    let seen : SeenUses d l k = (faultless-uses d l f, asker-sees d l c (uses-crates d l f) (passes-tests d l f).has_seen_names) in
+    let all = tail-seen d l 0 k placeholder vs placeholder-sorted free well.struct_numbers well.trait_numbers bare (crate_use c) (clause_uses d a ++ flat_map (clause_uses d) ks) seen in
+    let asked = clause-formed d l 0 k placeholder vs placeholder-sorted free well.struct_numbers well.trait_numbers bare a scalar.0 (head-of d l 0 k placeholder vs placeholder-sorted free well.struct_numbers well.trait_numbers bare (clause_uses d a) (flat_map (clause_uses d) ks) all) in
+    let others = clauses-formed d l 0 k placeholder vs placeholder-sorted free well.struct_numbers well.trait_numbers bare ks scalar.1 (rest-of d l 0 k placeholder vs placeholder-sorted free well.struct_numbers well.trait_numbers bare (clause_uses d a) (flat_map (clause_uses d) ks) all) in
+    record {
+      crates = h.crates;
+      structs = structs-still d e goes h;
+      traits = traits-still d e goes h;
+      impls = impls-still d e goes h;
+      questions = each-more (QuestionFormed e) d.questions (question_of d (question_meanings d l) false c ps a ks) (questions-still d e goes h)
+          (grown (clause_reference (question_meanings d l) a) asked, each-map (IsFormedReference (scope_of d l k)) (IsFormedReference (scope e k)) grown (map (clause_reference (question_meanings d l)) ks) others);
+      core = h.core;
+    }
 line-formed d line (refute_line c ps a) w f well h =
-    let e = added d (refute_line c ps a) in
+    let l = refute_line c ps a in
+    let e = added d l in
+    let k = crate_number (known d c) in
+    let vs = once (variables_in (clause_uses d a)) in
     let goes = λ (x : ℕ). item-grows d e [] [] (nothing-behind d.structs) (nothing-behind d.traits) x (seen-still d e refl x) in
-    record { crates = h.crates; structs = structs-still d e goes h; traits = traits-still d e goes h; impls = impls-still d e goes h; core = h.core }
+    let bare = autos-bare d well.bare in
+    let free = placeholder-free (scope_of d l k) in
+    let scalar = refute-scalars line c ps a w in
+    let grown = reference-grows (scope_of d l k) (scope e k) (own-grows d l k refl) in
+    let seen : SeenUses d l k = (faultless-uses d l f, asker-sees d l c (uses-crates d l f) (passes-tests d l f).has_seen_names) in
+    let all = tail-seen d l 0 k placeholder vs placeholder-sorted free well.struct_numbers well.trait_numbers bare (crate_use c) (clause_uses d a) seen in
+    let asked = clause-formed d l 0 k placeholder vs placeholder-sorted free well.struct_numbers well.trait_numbers bare a scalar all in
+    record {
+      crates = h.crates;
+      structs = structs-still d e goes h;
+      traits = traits-still d e goes h;
+      impls = impls-still d e goes h;
+      questions = each-more (QuestionFormed e) d.questions (question_of d (question_meanings d l) true c ps a []) (questions-still d e goes h)
+          (grown (clause_reference (question_meanings d l) a) asked, tt);
+      core = h.core;
+    }
 line-formed d line (struct_line g n ps fs) w f well h =
     let l = struct_line g n ps fs in
     let e = added d l in
@@ -332,9 +405,10 @@ line-formed d line (struct_line g n ps fs) w f well h =
       crates = h.crates;
       structs = each-more (StructFormed e) d.structs x (structs-still d e goes h)
           (each-map (IsFormedField (scope_of d l (last_crate d))) (IsFormedField (scope e (last_crate d))) (field-grows (scope_of d l (last_crate d)) (scope e (last_crate d)) (own-grows d l (last_crate d) refl)) (field_trees (item_meanings d l 0) fs)
-          (fields-formed d l 0 (last_crate d) at well.trait_numbers (autos-bare (with_own d l) well.bare) fs (struct-scalars line g n ps fs w) (faultless-uses d l f, p.has_seen_names)));
+          (fields-formed d l 0 (last_crate d) param [] param-sorted (param-free (scope_of d l (last_crate d))) at well.trait_numbers (autos-bare (with_own d l) well.bare) fs (struct-scalars line g n ps fs w) (faultless-uses d l f, p.has_seen_names)));
       traits = traits-still d e goes h;
       impls = impls-still d e goes h;
+      questions = questions-still d e goes h;
       core = h.core;
     }
 line-formed d line (trait_line g a n ps bs) w f well h =
@@ -351,8 +425,9 @@ line-formed d line (trait_line g a n ps bs) w f well h =
       traits = each-more (TraitFormed e) d.traits x (traits-still d e goes h)
           (each-map (IsFormedReference (scope_of d l (last_crate d))) (IsFormedReference (scope e (last_crate d))) (reference-grows (scope_of d l (last_crate d)) (scope e (last_crate d)) (own-grows d l (last_crate d) refl))
           (map (with_self (item_meanings d l 1) (leaf (param of_type 0))) bs)
-          (bounds-formed d l 1 (last_crate d) well.struct_numbers at bare bs (trait-scalars line g a n ps bs w) (faultless-uses d l f, p.has_seen_names)));
+          (bounds-formed d l 1 (last_crate d) param [] param-sorted (param-free (scope_of d l (last_crate d))) well.struct_numbers at bare bs (trait-scalars line g a n ps bs w) (faultless-uses d l f, p.has_seen_names)));
       impls = impls-still d e goes h;
+      questions = questions-still d e goes h;
       core = λ k m q. still-there d.traits (x ∷ []) k m (h.core k m q);
     }
 line-formed d line (impl_line ps k ks) w f well h =
@@ -362,14 +437,15 @@ line-formed d line (impl_line ps k ks) w f well h =
     let p = passes-tests d l f in
     let goes = λ (c : ℕ). item-grows d e [] [] (nothing-behind d.structs) (nothing-behind d.traits) c (seen-still d e refl c) in
     let bare = autos-bare d well.bare in
-    let all = rest-of d l 0 (last_crate d) well.struct_numbers well.trait_numbers bare (header_uses d k) (flat_map (clause_uses d) ks) (faultless-uses d l f, p.has_seen_names) in
+    let all = rest-of d l 0 (last_crate d) param [] param-sorted (param-free (scope_of d l (last_crate d))) well.struct_numbers well.trait_numbers bare (header_uses d k) (flat_map (clause_uses d) ks) (faultless-uses d l f, p.has_seen_names) in
     record {
       crates = h.crates;
       structs = structs-still d e goes h;
       traits = traits-still d e goes h;
       impls = each-more (ImplFormed e) d.impls x (impls-still d e goes h)
           (each-map (IsFormedReference (scope_of d l (last_crate d))) (IsFormedReference (scope e (last_crate d))) (reference-grows (scope_of d l (last_crate d)) (scope e (last_crate d)) (own-grows d l (last_crate d) refl)) (map (clause_reference (item_meanings d l 0)) ks)
-          (clauses-formed d l 0 (last_crate d) well.struct_numbers well.trait_numbers bare ks (impl-scalars line ps k ks w).1 all));
+          (clauses-formed d l 0 (last_crate d) param [] param-sorted (param-free (scope_of d l (last_crate d))) well.struct_numbers well.trait_numbers bare ks (impl-scalars line ps k ks w).1 all));
+      questions = questions-still d e goes h;
       core = h.core;
     }
 
@@ -387,6 +463,7 @@ core-formed = record {
   structs = ((record { nodes = (refl, (tt, tt, tt), tt); sort = refl }, tt), tt);
   traits = (tt, ((record { nodes = (tt, tt, tt); trait = (core_trait 0, refl, refl, refl) }, tt), ((record { nodes = (tt, tt, tt); trait = (core_trait 1, refl, refl, refl) }, tt), (tt, (tt, (tt, ((record { nodes = (tt, tt, (tt, tt, tt)); trait = (core_trait 5, refl, refl, refl) }, tt), ((record { nodes = (tt, tt, (tt, tt, tt)); trait = (core_trait 6, refl, refl, refl) }, tt), (tt, tt)))))))));
   impls = (tt, (tt, (tt, (tt, (tt, (tt, (tt, (tt, (tt, (tt, (tt, (tt, (tt, (tt, (tt, (tt, (tt, (tt, ((record { nodes = (tt, tt, tt); trait = (core_trait 1, refl, refl, refl) }, tt), ((record { nodes = (tt, tt, tt); trait = (core_trait 1, refl, refl, refl) }, tt), (tt, (tt, (tt, (tt, (tt, (tt, (tt, (tt, (tt, (tt, (tt, (tt, (tt, (tt, (tt, (tt, (tt, (tt, ((record { nodes = (tt, tt, tt); trait = (core_trait 2, refl, refl, refl) }, tt), tt)))))))))))))))))))))))))))))))))))))));
+  questions = tt;
   core = λ k n e. e;
 }
 

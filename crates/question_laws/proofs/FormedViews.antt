@@ -7,7 +7,7 @@ use Rattle.std.specs.List.{list_any}
 use Rattle.std.specs.Option.{option_map_or}
 use Rattle.model.specs.Label.{Label, Sort, of_type, of_const, of_lifetime, adt, tuple, fn_ptr, raw_pointer, ref, array, slice, dynamic, static, principal, auto_trait, param, bound, predicate}
 use Rattle.model.specs.Trees.{Trees, none, tree, sort_of, is_sort, some_node}
-use Rattle.model.specs.Worlds.{World, Reference, CrateDecl, StructDecl, TraitDecl, ImplDecl, core, structs_named, traits_named, sees}
+use Rattle.model.specs.Worlds.{World, Reference, CrateDecl, StructDecl, TraitDecl, ImplDecl, core, crates_named, structs_named, traits_named, sees_within, sees}
 use Rattle.model.specs.Rules.{autos_with, sized, clone, copy, unsize}
 use Rattle.model.specs.Proofs.{In}
 use Rattle.model.specs.Walks.{struct_is}
@@ -24,7 +24,7 @@ use Rattle.declarations.specs.Items.{Items, struct_in, trait_in, struct_at, trai
 use Rattle.declarations.specs.Merges.{Each}
 use Rattle.text_definitions.specs.Declarations as text
 use Rattle.text_definitions.specs.Declarations.{NamedCrate, NamedStruct, NamedTrait, NamedImpl, world_of, nothing_declared}
-use Rattle.view_lowering.specs.Plain.{plain_label, plain, plain_reference, plain_struct, plain_trait, plain_impl, all_kept, none_kept, stands_in}
+use Rattle.view_lowering.specs.Plain.{plain_label, plain, plain_reference, plain_struct, plain_trait, plain_impl, all_kept, none_kept, stands_in, unbound_reference}
 use Rattle.view_lowering.specs.Seen.{struct_sorts, trait_sorts}
 use Rattle.assembly_laws.specs.Asking.{next_of}
 use Rattle.assembly_laws.specs.DeclaredWell.{are_distinct, is_single}
@@ -37,7 +37,7 @@ use Rattle.declared_views.proofs.Texts.{Well, is_bare, is_nil}
 use Rattle.declared_views.proofs.Trees.{and-left, or-left}
 use Rattle.declared_views.proofs.Views.{good-fits, sort-there}
 use Rattle.solver_exactness.specs.GoalSets.{begins_typed}
-use Rattle.solver_exactness.specs.FormedFacts.{Sorts, EachNode, AreTypes, IsParamOf, HasParams, IsTraitOf, FitsNode, NodesFit, IsField, IsBound, IsFormedView}
+use Rattle.solver_exactness.specs.FormedFacts.{Sorts, EachNode, AreTypes, IsParamOf, HasParams, IsTraitOf, FitsNode, NodesFit, IsField, IsBound, IsFormedView, FitsSorts}
 use Rattle.question_laws.specs.Fitting.{sorts_in}
 use Rattle.question_laws.specs.Views.{TextsAreFormed}
 use Rattle.question_laws.proofs.FormedTexts.{scope, IsFormedField, IsFormedReference, StructFormed, TraitFormed, ImplFormed, Formed, core_trait, texts-are-formed}
@@ -45,11 +45,11 @@ use Rattle.question_laws.proofs.Seeing.{AreOrdered, core-seen, seen-through}
 use Rattle.question_laws.proofs.TextTerms.{Scope, IsStructAt, IsTraitAt, TextNode, TextNodes}
 
 -- ---- lists
-each-in : {A : Type 0} (P : A → Type 0) (xs : List A) → Each P xs → (x : A) → In x xs → P x
+pub each-in : {A : Type 0} (P : A → Type 0) (xs : List A) → Each P xs → (x : A) → In x xs → P x
 each-in P [] h x i = absurd (in-nothing x i)
 each-in P (y ∷ ys) h x i = elim (in-cases x y ys i) [ inl e ↦ subst P e h.0 | inr j ↦ each-in P ys h.1 x j ]
 
-map-in : {A B : Type 0} (f : A → B) (xs : List A) (y : B) → In y (map f xs) → (x : A) × In x xs × (y ≡ f x)
+pub map-in : {A B : Type 0} (f : A → B) (xs : List A) (y : B) → In y (map f xs) → (x : A) × In x xs × (y ≡ f x)
 map-in f [] y i = absurd (in-nothing y i)
 map-in {A = A} f (x ∷ xs) y i = by (in-cases y (f x) (map f xs) i) (map-in f xs y)
   where
@@ -375,6 +375,20 @@ module _ (d : text.Declarations) (c : ℕ) (w : Well d) (f : Formed d) (es : Lis
     clones = sym (core-shown clone refl refl).1;
     sizes = core-shown sized refl refl;
     unsizes = sym (core-shown unsize refl refl).1;
+  }
+
+  -- ---- references that it asks for
+  self-seen : sees W c c ≡ true
+  self-seen = by (length W.crates)
+    where
+      by : (n : ℕ) → sees_within n W c c ≡ true
+      by zero = ap (λ b. b || (c == core)) (self-number c)
+      by (suc n) = ap (λ b. b || (c == core) || list_any (λ x. list_any (λ u. sees_within n W u c) x.uses) (crates_named W c)) (self-number c)
+
+  pub reference-seen : (r : Reference) → IsFormedReference (scope d c) r → FitsSorts V sorts (unbound_reference r)
+  reference-seen r one = record {
+    nodes = nodes-seen c self-seen (plain all_kept r.args) (nodes-plain (scope d c) all_kept r.args one.nodes);
+    trait = subst (IsTraitOf V sorts r.trait) (sym (plain-sorts all_kept r.args)) (trait-seen c self-seen r.trait (sorts_of r.args) one.trait);
   }
 
 pub texts-views-are-formed : TextsAreFormed

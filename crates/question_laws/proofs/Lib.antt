@@ -1,7 +1,10 @@
 mod Fitting
 mod Seeing
 mod TextTerms
+mod QuestionScalars
 mod FormedTexts
 mod FormedViews
+mod QuestionTerms
+mod TextQuestions
 mod AskedGoals
 mod TextAnswers

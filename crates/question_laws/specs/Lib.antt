@@ -1,4 +1,5 @@
 pub mod Fitting
 pub mod Views
 pub mod Goals
+pub mod Questions
 pub mod Answers

@@ -25,11 +25,12 @@ use Rattle.candidate_assembly.specs.Ready.{IsReady}
 use Rattle.candidate_assembly.specs.Solving.{Solving, solver_for, coinductive_for, meaning_for}
 use Rattle.declared_views.specs.Questions.{HasVariablesAlone, RefutationsHaveVariablesAlone}
 use Rattle.sessions.specs.Asking.{HasNoProof, goal_alone}
-use Rattle.sessions.specs.Promises.{HasNoSolutionInSets}
+use Rattle.sessions.specs.Promises.{IsRefutedQuestion}
 use Rattle.sessions.specs.Resting.{Cached, AreAtRest}
 use Rattle.sessions.specs.Sessions.{SolverRests, SolvesView, IsSession}
 use Rattle.sessions.specs.Subjects.{IsOfText, AsksRefutation}
-use Rattle.sessions.proofs.Refusals.{no-solution}
+use Rattle.sessions.proofs.Refusals.{refuted}
+use Rattle.sessions.proofs.SelfTypes.{self-types-begin}
 
 -- ---- any handler
 module _ {World Handler : Type 0} (handled : World → TypingMode → CanonicalForm → Handled frame_tables) (Rule : World → Fact → List Fact → Type 0) (coinductive : World → Fact → Bool)
@@ -84,8 +85,9 @@ module _ (d : Declarations) (c depth : ℕ) (cx : SolverCx Solver) (graph : Sear
   pub session-rests : SolverRests graph.root_depth cx graph cache
   session-rests = record { empty = is.rest.empty; depth = refl; cached = is.rest.cached; ready = is.rest.ready }
 
-  -- what is refused in coherence has no solution in a linked set with the crate
-  pub refused-in-sets : RefutationsHaveVariablesAlone → (n : ℕ) (q : Question) → AsksRefutation d c n q → (HasVariablesAlone q → HasNoProof (solver_for (solved cx)) (goal_alone (unbound_reference q.asked))) → HasNoSolutionInSets d q
-  refused-in-sets alone n q a h =
+  -- what is refused in coherence has no solution by the crate's view alone, nor in a linked set with the crate
+  pub refused-is-refuted : RefutationsHaveVariablesAlone → (n : ℕ) (q : Question) → AsksRefutation d c n q → (HasVariablesAlone q → HasNoProof (solver_for (solved cx)) (goal_alone (unbound_reference q.asked))) → IsRefutedQuestion d q
+  refused-is-refuted alone n q a h =
       let own : HasVariablesAlone q = alone is.text.0 d is.text.1 (n - 1) q a.asks.question.there a.refutes in
-      no-solution applies_always same_answer d q own (meaning_for (solved cx) (canonical_form (goal_alone (unbound_reference q.asked)))) (is.view.rules ∙ ap (rules_seen_from d) (sym a.asks.asker)) (is.view.local ∙ sym a.asks.asker) (h own)
+      refuted applies_always same_answer d q own (meaning_for (solved cx) (canonical_form (goal_alone (unbound_reference q.asked)))) (is.view.rules ∙ ap (rules_seen_from d) (sym a.asks.asker)) (is.view.local ∙ sym a.asks.asker) (h own)
+      (self-types-begin (entries_of cx) cx.handler.declarations is.rest.ready.handler.held)

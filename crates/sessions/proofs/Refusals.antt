@@ -1,10 +1,12 @@
--- What is refused in coherence has no solution in a linked set with the asking crate.
-use Rattle.std.proofs.Common.{◌≡◌, ℕ, Bool, true, false, not, List, [], ◌∷◌, map, refl, sym, ap, ◌∙◌, subst}
+-- What is refused in coherence has no solution by the asking crate's view alone, nor in a linked set with the crate.
+use Rattle.std.proofs.Common.{◌≡◌, ℕ, Bool, true, false, IsTrue, not, List, [], ◌∷◌, map, refl, sym, ap, ◌∙◌, subst}
 use Rattle.model.specs.Label.{Label, Sort, of_lifetime, static, fn_ptr, principal, param, bound}
 use Rattle.model.specs.Trees.{Trees, none, tree, erase, erase_label}
 use Rattle.model.specs.Terms.{erased_world, erased_reference}
 use Rattle.model.specs.Worlds.{World, CrateDecl, Reference}
-use Rattle.model.specs.Proofs.{HasProof}
+use Rattle.model.specs.Proofs.{Every, HasProof}
+use Rattle.model.specs.Elaborated.{HasElaboratedProof}
+use Rattle.model.specs.Answers.{is_closed}
 use Rattle.model.specs.Renumbering.{View, Renumbering, HoldsView, renumbered, renumbered_reference}
 use Rattle.model.specs.LinkedSet.{LinkedSet}
 use Rattle.model.proofs.RenumberedTrees.{inverse, back, map-back}
@@ -13,17 +15,17 @@ use Rattle.infer_table.specs.Responses.{AnswerTrees}
 use Rattle.infer_table.specs.Solutions.{Assignment, IsSorted, instance}
 use Rattle.infer_table.specs.declared.certainty.TypingMode.TheVariants.{Coherence}
 use Rattle.root_goals.specs.Roots.{fact_under}
-use Rattle.assembly_laws.specs.Meaning.{Meaning}
+use Rattle.assembly_laws.specs.Meaning.{Meaning, LinkedWith, SelfTypesBegin, Place, by_view, in_set, proved_at}
 use Rattle.assembly_laws.specs.Solver.{solver_handled}
 use Rattle.session_laws.specs.Verdicts.{placed}
-use Rattle.session_laws.specs.Questions.{filled, filled_reference, Solution}
+use Rattle.session_laws.specs.Questions.{FitKinds, filled, filled_reference, SolutionBy, Solution}
 use Rattle.session_laws.proofs.Filling.{over-filled-reference, over-fit, over-each-closed}
 use Rattle.text_definitions.specs.Declarations.{Declarations, Question}
 use Rattle.view_lowering.specs.Plain.{all_kept, plain, plain_label, unbound_reference}
 use Rattle.view_lowering.specs.Seen.{rules_seen_from}
 use Rattle.declared_views.specs.Questions.{variable_kinds, HasVariablesAlone}
 use Rattle.sessions.specs.Asking.{goal_alone}
-use Rattle.sessions.specs.Promises.{view_in, HasNoSolutionInSets}
+use Rattle.sessions.specs.Promises.{view_in, IsRefutedQuestion}
 use Rattle.sessions.proofs.Given.{given, given-sorted, instance-is, instance-shut}
 use Rattle.sessions.proofs.Posed.{no-placeholders}
 
@@ -66,48 +68,22 @@ module _ (applicable : AnswerTrees → Bool) (same : AnswerTrees → AnswerTrees
     abbrev Refused : Type 0
     Refused = let h = solver_handled applicable same m Coherence f in (x : h.World) (s : Assignment) → IsSorted s → h.Proves x (fact_under s g) → ⊥
 
-    module _ (refused : Refused) (W : World) (vs : List View) (rank : ℕ → ℕ) (linked : LinkedSet W vs rank) (ρ : Renumbering) (holds : HoldsView W (placed (view_in d q.asker) q.asker ρ))
-        (sol : Solution W (variable_kinds q) (renumbered_reference ρ (erased_reference q.asked))) where
-      abbrev ks : List Sort
-      ks = variable_kinds q
+    abbrev ks : List Sort
+    ks = variable_kinds q
 
-      -- the values with the text's numbers
-      abbrev ts : List Trees
-      ts = map (renumbered (inverse ρ)) sol.values
-
+    -- closed terms for the question's variables, by the text's numbers, with which it is proved in one of the solver's places
+    module _ (refused : Refused) (p : Place m) (ts : List Trees) (fit : FitKinds ks ts) (shut : Every (λ t. IsTrue (is_closed t)) ts) where
       abbrev S : Assignment
       S = given ks ts
 
-      values-back : map (renumbered ρ) ts ≡ sol.values
-      values-back = map-back (renumbered ρ) (renumbered (inverse ρ)) (λ t. back (inverse ρ) t) sol.values
-
       args-are : instance S (unbound_reference q.asked).args ≡ filled ks ts (erase q.asked.args)
-      args-are =
-          instance-is ks ts (over-fit (inverse ρ) ks sol.values sol.fitting) (over-each-closed (inverse ρ) sol.values sol.closed) (unbound_reference q.asked).args own
-          ∙ ap (filled ks ts) (plain-erased q.asked.args)
+      args-are = instance-is ks ts fit shut (unbound_reference q.asked).args own ∙ ap (filled ks ts) (plain-erased q.asked.args)
 
-      proof : HasProof W [] (renumbered_reference ρ (record { trait = q.asked.trait; args = instance S (unbound_reference q.asked).args }))
-      proof =
-          subst (HasProof W [])
-          (sym
-          (ap (renumbered_reference ρ) (same-args q.asked.trait _ _ args-are)
-          ∙ over-filled-reference ρ ks ts (erased_reference q.asked)
-          ∙ ap (λ us. filled_reference ks us (renumbered_reference ρ (erased_reference q.asked))) values-back))
-          sol.proved
-
-      pub refuted : ⊥
-      refuted =
+      unproved-at : proved_at p (filled_reference ks ts (erased_reference q.asked)) → ⊥
+      unproved-at proof =
           refused
           (record {
-            linked = record {
-              set = W;
-              views = vs;
-              rank = rank;
-              linked = linked;
-              numbers = ρ;
-              crates = (view_in d q.asker).crates;
-              holds = subst (HoldsView W) (sym (same-placed _ _ _ _ ρ (same-view m.view d q.asker view) crate)) holds;
-            };
+            place = p;
             no_clauses = refl;
             no_placeholders = no-placeholders ks (unbound_reference q.asked) own;
           })
@@ -115,9 +91,43 @@ module _ (applicable : AnswerTrees → Bool) (same : AnswerTrees → AnswerTrees
           (record {
             asks = refl;
             proper = refl;
-            closed = ap not (instance-shut ks ts (over-fit (inverse ρ) ks sol.values sol.fitting) (over-each-closed (inverse ρ) sol.values sol.closed) (unbound_reference q.asked).args own);
-            proof = proof;
+            closed = ap not (instance-shut ks ts fit shut (unbound_reference q.asked).args own);
+            proof = subst (λ (r : Reference). proved_at p r) (sym (same-args q.asked.trait _ _ args-are)) proof;
           })
 
-    pub no-solution : Refused → HasNoSolutionInSets d q
-    no-solution refused W vs rank linked ρ holds sol = refuted refused W vs rank linked ρ holds sol
+    -- by the view alone
+    unproved-alone : Refused → SelfTypesBegin m.view → SolutionBy (HasElaboratedProof (view_in d q.asker) []) ks (erased_reference q.asked) → ⊥
+    unproved-alone refused begin sol =
+        unproved-at refused (by_view (view_in d q.asker).crates begin) sol.values sol.fitting sol.closed
+        (subst (λ V. HasElaboratedProof V [] (filled_reference ks sol.values (erased_reference q.asked))) (sym (same-view m.view d q.asker view)) sol.proved)
+
+    -- in a linked set
+    module _ (refused : Refused) (W : World) (vs : List View) (rank : ℕ → ℕ) (linked : LinkedSet W vs rank) (ρ : Renumbering) (holds : HoldsView W (placed (view_in d q.asker) q.asker ρ))
+        (sol : Solution W ks (renumbered_reference ρ (erased_reference q.asked))) where
+      -- the values with the text's numbers
+      abbrev own_values : List Trees
+      own_values = map (renumbered (inverse ρ)) sol.values
+
+      values-back : map (renumbered ρ) own_values ≡ sol.values
+      values-back = map-back (renumbered ρ) (renumbered (inverse ρ)) (λ t. back (inverse ρ) t) sol.values
+
+      abbrev set_place : LinkedWith m
+      set_place = record {
+        set = W;
+        views = vs;
+        rank = rank;
+        linked = linked;
+        numbers = ρ;
+        crates = (view_in d q.asker).crates;
+        holds = subst (HoldsView W) (sym (same-placed _ _ _ _ ρ (same-view m.view d q.asker view) crate)) holds;
+      }
+
+      unproved-linked : ⊥
+      unproved-linked =
+          unproved-at refused (in_set set_place) own_values (over-fit (inverse ρ) ks sol.values sol.fitting) (over-each-closed (inverse ρ) sol.values sol.closed)
+          (subst (HasProof W [])
+          (sym (over-filled-reference ρ ks own_values (erased_reference q.asked) ∙ ap (λ us. filled_reference ks us (renumbered_reference ρ (erased_reference q.asked))) values-back))
+          sol.proved)
+
+    pub refuted : Refused → SelfTypesBegin m.view → IsRefutedQuestion d q
+    refuted refused begin = (unproved-alone refused begin, λ W vs rank linked ρ holds sol. unproved-linked refused W vs rank linked ρ holds sol)

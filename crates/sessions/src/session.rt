@@ -2,7 +2,7 @@
 
 ghost use Rattle.std.specs.Prelude.{◌≡◌, ◌<◌, length, IfOk, Ok};
 ghost use Rattle.text_definitions.specs.Declarations.{Question};
-ghost use Rattle.sessions.specs.Promises.{HasNoSolutionInSets};
+ghost use Rattle.sessions.specs.Promises.{IsRefutedQuestion};
 ghost use Rattle.sessions.specs.Subjects.{IsOfText, AsksRefutation};
 
 use crate::limits::Limits;
@@ -94,8 +94,8 @@ impl<'w> Session<'w> {
     pub fn refute(&mut self, number: u32) -> Result<RefuteAnswer, Fault>
         requires { (q : Question) × AsksRefutation self.old.declarations self.old.of_crate number q }
 
-        // In no linked set with the crate has the reference a solution.
-        ensures no { result ≡ Ok RefuteAnswer.No → (q : Question) → AsksRefutation self.old.declarations self.old.of_crate number q → HasNoSolutionInSets self.old.declarations q }
+        // In no linked set with the crate has the reference a solution, nor by the crate's view alone.
+        ensures no { result ≡ Ok RefuteAnswer.No → (q : Question) → AsksRefutation self.old.declarations self.old.of_crate number q → IsRefutedQuestion self.old.declarations q }
         ensures same { self.new ≡ self.old }
     {
         refutations_have_variables_alone();

@@ -1,13 +1,13 @@
 use Rattle.std.proofs.Common.{subst}
-use Rattle.sessions.specs.Promises.{HasNoSolutionInSets}
+use Rattle.sessions.specs.Promises.{IsRefutedQuestion}
 use Rattle.sessions.specs.Subjects.{Subject, AsksRefutation}
 use Rattle.text_definitions.specs.Declarations.{Question}
-use Rattle.sessions.proofs.Keeping.{refused-in-sets}
+use Rattle.sessions.proofs.Keeping.{refused-is-refuted}
 use Rattle.sessions.proofs.session.Session.refute.Goals as goal
 
 pub returns-clause-no : goal.returns-clause-no
 returns-clause-no c =
     λ r.
     let i = c.self.inside in
-    subst (λ (s : Subject). (q : Question) → AsksRefutation s.declarations s.of_crate c.args.number q → HasNoSolutionInSets s.declarations q) c.self.view_is
-    (λ q asks. refused-in-sets i.workspace.now i.crate_id.index i.limits.depth i.cx i.graph i.cache c.self.invariant c.refutations_have_variables_alone.ensures c.args.number q asks (λ own. c.refute_question.ensures.no r q asks.asks.question own))
+    subst (λ (s : Subject). (q : Question) → AsksRefutation s.declarations s.of_crate c.args.number q → IsRefutedQuestion s.declarations q) c.self.view_is
+    (λ q asks. refused-is-refuted i.workspace.now i.crate_id.index i.limits.depth i.cx i.graph i.cache c.self.invariant c.refutations_have_variables_alone.ensures c.args.number q asks (λ own. c.refute_question.ensures.no r q asks.asks.question own))

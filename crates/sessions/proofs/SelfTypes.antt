@@ -1,0 +1,26 @@
+-- The self types of held impls.
+use Rattle.std.proofs.Common.{◌≡◌, true, List, [], ◌∷◌, ◌⊎◌, inl, inr, subst}
+use Rattle.model.specs.Worlds.{ImplDecl}
+use Rattle.model.specs.Proofs.{In}
+use Rattle.model.proofs.Entries.{map-in}
+use Rattle.model.proofs.Members.{in-cases, in-nothing}
+use Rattle.type_terms.specs.Terms.{Entry}
+use Rattle.declarations.specs.Heads.{begins_declared}
+use Rattle.declarations.specs.Held.{ImplHeld, AreHeld}
+use Rattle.declarations.specs.Items.{Items, HeldImpl, impl_in, written}
+use Rattle.declarations.specs.Merges.{Each}
+use Rattle.assembly_laws.specs.Meaning.{SelfTypesBegin}
+
+each-of : {A : Type 0} (P : A → Type 0) (xs : List A) (x : A) → Each P xs → In x xs → P x
+each-of P [] x e i = absurd (in-nothing x i)
+each-of P (y ∷ xs) x e i = by (in-cases x y xs i) (λ j. each-of P xs x e.1 j)
+  where
+    by : (y ≡ x) ⊎ In x xs → (In x xs → P x) → P x
+    by (inl q) go = subst P q e.0
+    by (inr j) go = go j
+
+-- those of the declarations as they are written
+pub self-types-begin : (es : List Entry) (d : Items) → AreHeld es d → SelfTypesBegin (written es d)
+self-types-begin es d held x i =
+    let m = map-in (λ (y : HeldImpl). impl_in es y.id y.def) d.impls x i in
+    subst (λ (z : ImplDecl). begins_declared z.header.args ≡ true) m.2 (each-of (λ (y : HeldImpl). ImplHeld es y.def) d.impls m.0 held.impls m.1).begins
