@@ -94,6 +94,10 @@ module _ (q : Question) (old new : List Entry) (law : Lawful old) (k : Keeps old
     pub refused-there : (first second : TypingMode → CanonicalForm → Handled frame_tables) → second ≡ first → HasNoProof second (goal_alone (reference_in new l.asked)) → HasNoProof first (goal_alone (unbound_reference q.asked))
     refused-there first second e h = subst (λ z. HasNoProof z (goal_alone (unbound_reference q.asked))) e (subst (λ r. HasNoProof second (goal_alone r)) reference-is h)
 
+-- what holds of things holds of their equals
+pub moved : {A B : Type 0} (P : A → B → Type 0) (a b : A) (x y : B) → a ≡ b → x ≡ y → P a x → P b y
+moved P a b x y e f h = subst (λ z. P z y) e (subst (P a) f h)
+
 -- ---- lists
 -- what is at a place, and what is behind it
 next-behind : {A : Type 0} (xs : List A) (i : ℕ) (x : A) → i < length xs → x ≡ get_or xs i x → drop i xs ≡ x ∷ drop (suc i) xs

@@ -23,11 +23,12 @@ use Rattle.candidate_assembly.specs.declared.solver.Solver.{Solver}
 use Rattle.candidate_assembly.specs.Fitting.{solving_of}
 use Rattle.candidate_assembly.specs.Ready.{IsReady}
 use Rattle.candidate_assembly.specs.Solving.{Solving, solver_for, coinductive_for, meaning_for}
+use Rattle.declared_views.specs.Ready.{AreSeen}
 use Rattle.declared_views.specs.Questions.{HasVariablesAlone, RefutationsHaveVariablesAlone}
-use Rattle.sessions.specs.Asking.{HasNoProof, goal_alone}
-use Rattle.sessions.specs.Promises.{IsRefutedQuestion}
+use Rattle.sessions.specs.Asking.{HasNoProof, IsLeftOpen, goal_alone}
+use Rattle.sessions.specs.Promises.{IsRefutedQuestion, IsOpenQuestion}
 use Rattle.sessions.specs.Resting.{Cached, AreAtRest}
-use Rattle.sessions.specs.Sessions.{SolverRests, SolvesView, IsSession}
+use Rattle.sessions.specs.Sessions.{SolverRests, SolvesView, IsSolvingOf, IsSession}
 use Rattle.sessions.specs.Subjects.{IsOfText, AsksRefutation}
 use Rattle.sessions.proofs.Refusals.{refuted}
 use Rattle.sessions.proofs.SelfTypes.{self-types-begin}
@@ -60,6 +61,10 @@ module _ (d : Declarations) (c : ℕ) (es : List Entry) (decls : Items) (cx : So
     local = ap (λ (x : Items). x.local) by ∙ l;
   }
 
+pub solves-seen : (d : Declarations) (c : ℕ) (es : List Entry) (decls : Items) (cx : SolverCx Solver) → entries_of cx ≡ es → cx.handler.declarations ≡ decls → AreSeen es decls d c → decls.local ≡ c
+    → IsSolvingOf d c (solving_of (entries_of cx) cx.handler.declarations)
+solves-seen d c es decls cx terms by seen l = record { entries = es; declarations = decls; seen = seen; local = l; is = ap (λ x. solving_of x cx.handler.declarations) terms ∙ ap (solving_of es) by }
+
 pub solver-rests-first : (n : ℕ) (cx : SolverCx Solver) (s : SearchState) (ks : Cached) → s ≡ record { root_depth = n; current_depth = 0; frames = 0; limits_met = false } → ks ≡ []
     → IsReadyContext (λ (h : Solver) es. IsReady es h.declarations) cx → SolverRests n cx s ks
 solver-rests-first n cx s ks e f r =
@@ -79,6 +84,7 @@ module _ (d : Declarations) (c depth : ℕ) (cx : SolverCx Solver) (graph : Sear
       rules = ap (λ (x : Solving). erased_world x.view) e ∙ is.view.rules;
       local = ap (λ (x : Solving). x.crate) e ∙ is.view.local;
     };
+    solving = subst (IsSolvingOf d c) (sym e) is.solving;
     rest = record { empty = r.empty; depth = r.depth ∙ is.rest.depth; cached = r.cached; ready = r.ready };
   }
 
@@ -91,3 +97,11 @@ module _ (d : Declarations) (c depth : ℕ) (cx : SolverCx Solver) (graph : Sear
       let own : HasVariablesAlone q = alone is.text.0 d is.text.1 (n - 1) q a.asks.question.there a.refutes in
       refuted applies_always same_answer d q own (meaning_for (solved cx) (canonical_form (goal_alone (unbound_reference q.asked)))) (is.view.rules ∙ ap (rules_seen_from d) (sym a.asks.asker)) (is.view.local ∙ sym a.asks.asker) (h own)
       (self-types-begin (entries_of cx) cx.handler.declarations is.rest.ready.handler.held)
+
+  abbrev LeftOpen : ℕ → Question → Type 0
+  LeftOpen n q =
+      IsLeftOpen solver_for (λ s. FollowsByView s.view) coinductive_for (λ (h : Solver) es. IsReady es h.declarations) (λ (h : Solver) es. solving_of es h.declarations) (solved cx) n (unbound_reference q.asked)
+
+  -- what is left open is so by what the crate sees
+  pub left-open : (n : ℕ) (q : Question) → AsksRefutation d c n q → LeftOpen graph.root_depth q → IsOpenQuestion d depth q
+  left-open n q a h = (solved cx, subst (λ k. IsSolvingOf d k (solved cx)) (sym a.asks.asker) is.solving, subst (λ k. LeftOpen k q) is.rest.depth h)

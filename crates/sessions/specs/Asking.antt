@@ -1,5 +1,5 @@
 -- Questions as they are asked in coherence: their references alone, with unknowns for their variables.
-use Rattle.std.specs.Prelude.{◌⊎◌, ◌+◌, Bool, List, [], ◌∷◌, Some}
+use Rattle.std.specs.Prelude.{◌⊎◌, ◌+◌, ℕ, Bool, List, [], ◌∷◌, Some}
 use Rattle.model.specs.Label.{of_trait, predicate}
 use Rattle.model.specs.Trees.{none, tree}
 use Rattle.model.specs.Worlds.{Reference}
@@ -15,11 +15,9 @@ use Rattle.infer_table.specs.declared.certainty.TypingMode.TheVariants.{Coherenc
 use Rattle.evaluation.specs.Handler.{Handled}
 use Rattle.evaluation.specs.Content.{Fact}
 use Rattle.evaluation.specs.Tables.{frame_tables}
-use Rattle.search_graph.specs.SearchState.{SearchState}
-use Rattle.root_goals.specs.declared.context.SolverCx.{SolverCx}
+use Rattle.search_graph.specs.Plain.{IsNotPlain}
 use Rattle.root_goals.specs.Contexts.{Asked}
 use Rattle.root_goals.specs.Evaluations.{IsFound}
-use Rattle.root_goals.specs.Results.{IsNotPlainWithin}
 use Rattle.root_goals.specs.Roots.{fact_under}
 use Rattle.root_goals.specs.Searching.{solver_meaning}
 
@@ -40,11 +38,11 @@ asked_alone r = (Coherence, canonical_form (goal_alone r))
 
 module _ {World Handler : Type 0} (handled : World → TypingMode → CanonicalForm → Handled frame_tables) (Rule : World → Fact → List Fact → Type 0) (coinductive : World → Fact → Bool)
     (is_ready : Handler → List Entry → Type 0) (meaning_of : Handler → List Entry → World) where
-  -- The search gives the reference an answer that is no refusal, or plain recursion has none within the graph's depth.
-  abbrev pub IsLeftOpen : SolverCx Handler → SearchState → Reference → Type 0
-  IsLeftOpen c s r =
+  -- The search gives the reference an answer that is no refusal, or plain recursion has none within the depth.
+  abbrev pub IsLeftOpen : World → ℕ → Reference → Type 0
+  IsLeftOpen w depth r =
       let m = solver_meaning handled Rule coinductive is_ready meaning_of in
-      ((a : AnswerTrees) × IsFound m (m.world c) s.root_depth (asked_alone r) (Some a)) ⊎ IsNotPlainWithin m c s (asked_alone r)
+      ((a : AnswerTrees) × IsFound m w depth (asked_alone r) (Some a)) ⊎ IsNotPlain m w (depth + 1) (asked_alone r)
 
 -- ---- tables
 -- A table without variables.

@@ -1,17 +1,19 @@
 -- What is true of a session between two calls.
-use Rattle.std.specs.Prelude.{◌≡◌, ◌<◌, ℕ, length}
+use Rattle.std.specs.Prelude.{◌≡◌, ◌<◌, ℕ, List, length}
+use Rattle.type_terms.specs.Terms.{Entry}
 use Rattle.search_graph.specs.SearchState.{SearchState}
-use Rattle.declarations.specs.Items.{written, declared}
+use Rattle.declarations.specs.Items.{Items, written, declared}
 use Rattle.text_definitions.specs.Declarations.{Declarations}
 use Rattle.view_lowering.specs.Plain.{plainly_seen_from}
 use Rattle.view_lowering.specs.Seen.{rules_seen_from}
+use Rattle.declared_views.specs.Ready.{AreSeen}
 use Rattle.root_goals.specs.declared.context.SolverCx.{SolverCx}
 use Rattle.root_goals.specs.Contexts.{entries_of}
 use Rattle.assembly_laws.specs.Facts.{FollowsByView}
 use Rattle.candidate_assembly.specs.declared.solver.Solver.{Solver}
 use Rattle.candidate_assembly.specs.Fitting.{solving_of}
 use Rattle.candidate_assembly.specs.Ready.{IsReady}
-use Rattle.candidate_assembly.specs.Solving.{solver_for, coinductive_for}
+use Rattle.candidate_assembly.specs.Solving.{Solving, solver_for, coinductive_for}
 use Rattle.sessions.specs.Resting.{Cached, AreAtRest}
 use Rattle.sessions.specs.Subjects.{IsOfText}
 
@@ -26,9 +28,18 @@ pub record SolvesView (d : Declarations) (c : ℕ) (cx : SolverCx Solver) : Type
   pub rules : declared (entries_of cx) cx.handler.declarations ≡ rules_seen_from d c
   pub local : cx.handler.declarations.local ≡ c
 
+-- The declarations that are solved by are what crate c sees of the text, with the sorts of its parameters.
+pub record IsSolvingOf (d : Declarations) (c : ℕ) (s : Solving) : Type 0 where
+  pub entries : List Entry
+  pub declarations : Items
+  pub seen : AreSeen entries declarations d c
+  pub local : declarations.local ≡ c
+  pub is : s ≡ solving_of entries declarations
+
 -- The declarations are a text's, the crate is one of theirs, its view is what the solver solves by, and all is at rest.
 pub record IsSession (d : Declarations) (c depth : ℕ) (cx : SolverCx Solver) (graph : SearchState) (cache : Cached) : Type 0 where
   pub text : IsOfText d
   pub declared : c < length d.crates
   pub view : SolvesView d c cx
+  pub solving : IsSolvingOf d c (solving_of (entries_of cx) cx.handler.declarations)
   pub rest : SolverRests depth cx graph cache

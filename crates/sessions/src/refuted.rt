@@ -54,7 +54,8 @@ fn ask_in_coherence<H: GoalHandler>(
     // A reference that is refused has no proof, if it speaks of the table's variables alone.
     ensures no { result ≡ Ok RefuteAnswer.No → let r = reference_in cx.old.interner.entries asked in HasNoCanonical r.args → AreKnown (variables_of table.old) r.args
         → HasNoProof (H.handled (H.meaning cx.old.handler cx.old.interner.entries)) (goal_alone r) }
-    ensures open { result ≡ Ok RefuteAnswer.Open → IsLeftOpen H.handled H.Rule H.coinductive H.ready H.meaning cx.old graph.old (reference_in cx.old.interner.entries asked) }
+    ensures open { result ≡ Ok RefuteAnswer.Open → (let w = H.meaning cx.old.handler cx.old.interner.entries in
+        IsLeftOpen H.handled H.Rule H.coinductive H.ready H.meaning w graph.old.root_depth (reference_in cx.old.interner.entries asked)) }
 {
     let goal = Goal {
         param_env: Vec::new(cx.alloc),
@@ -83,6 +84,8 @@ fn refute_lowered<H: GoalHandler>(
     ensures meaning { H.meaning cx.new.handler cx.new.interner.entries ≡ H.meaning cx.old.handler cx.old.interner.entries }
     ensures no { result ≡ Ok RefuteAnswer.No → (q : Question) → IsLowered cx.old.interner.entries q lowered.now → HasVariablesAlone q
         → HasNoProof (H.handled (H.meaning cx.old.handler cx.old.interner.entries)) (goal_alone (unbound_reference q.asked)) }
+    ensures open { result ≡ Ok RefuteAnswer.Open → (q : Question) → IsLowered cx.old.interner.entries q lowered.now
+        → IsLeftOpen H.handled H.Rule H.coinductive H.ready H.meaning (H.meaning cx.old.handler cx.old.interner.entries) graph.old.root_depth (unbound_reference q.asked) }
 {
     rest_laws::<H>();
     add_unknowns_in(cx, table, &lowered.unknowns)?;
@@ -105,6 +108,8 @@ pub(crate) fn refute_question<H: GoalHandler>(
     ensures meaning { H.meaning cx.new.handler cx.new.interner.entries ≡ H.meaning cx.old.handler cx.old.interner.entries }
     ensures no { result ≡ Ok RefuteAnswer.No → (q : Question) → IsQuestion workspace.now number q → HasVariablesAlone q
         → HasNoProof (H.handled (H.meaning cx.old.handler cx.old.interner.entries)) (goal_alone (unbound_reference q.asked)) }
+    ensures open { result ≡ Ok RefuteAnswer.Open → (q : Question) → IsQuestion workspace.now number q
+        → IsLeftOpen H.handled H.Rule H.coinductive H.ready H.meaning (H.meaning cx.old.handler cx.old.interner.entries) graph.old.root_depth (unbound_reference q.asked) }
 {
     rest_laws::<H>();
     let lowered = lower_in(cx, workspace, number)?;

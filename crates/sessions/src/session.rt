@@ -2,7 +2,7 @@
 
 ghost use Rattle.std.specs.Prelude.{◌≡◌, ◌<◌, length, IfOk, Ok};
 ghost use Rattle.text_definitions.specs.Declarations.{Question};
-ghost use Rattle.sessions.specs.Promises.{IsRefutedQuestion};
+ghost use Rattle.sessions.specs.Promises.{IsRefutedQuestion, IsOpenQuestion};
 ghost use Rattle.sessions.specs.Subjects.{IsOfText, AsksRefutation};
 
 use crate::limits::Limits;
@@ -96,6 +96,10 @@ impl<'w> Session<'w> {
 
         // In no linked set with the crate has the reference a solution, nor by the crate's view alone.
         ensures no { result ≡ Ok RefuteAnswer.No → (q : Question) → AsksRefutation self.old.declarations self.old.of_crate number q → IsRefutedQuestion self.old.declarations q }
+
+        // A reference that is left open has an answer that is no refusal, or is too deep.
+        ensures open { result ≡ Ok RefuteAnswer.Open → (q : Question) → AsksRefutation self.old.declarations self.old.of_crate number q
+            → IsOpenQuestion self.old.declarations self.old.depth q }
         ensures same { self.new ≡ self.old }
     {
         refutations_have_variables_alone();

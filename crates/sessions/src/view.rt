@@ -1,9 +1,9 @@
 //! What a session's crate sees.
 
-ghost use Rattle.std.specs.Prelude.{◌≡◌, ◌<◌, length, IfOk};
+ghost use Rattle.std.specs.Prelude.{◌≡◌, ◌<◌, length, map, IfOk};
 ghost use Rattle.declarations.specs.Items.{written, declared};
 ghost use Rattle.view_lowering.specs.Plain.{plainly_seen_from};
-ghost use Rattle.view_lowering.specs.Seen.{rules_seen_from};
+ghost use Rattle.view_lowering.specs.Seen.{rules_seen_from, struct_sorts, trait_sorts, impl_sorts, struct_sorts_seen, trait_sorts_seen, impl_sorts_seen};
 ghost use Rattle.declared_views.specs.Ready.{OfTexts};
 ghost use Rattle.candidate_assembly.specs.Ready.{IsReady};
 ghost use Rattle.sessions.specs.Readying.{AreReady};
@@ -42,6 +42,9 @@ pub(crate) fn lower_view(
     requires declared { crate_id.index < length workspace.now.crates }
     ensures written { IfOk result (λ decls. written cx.new.entries decls ≡ plainly_seen_from workspace.now crate_id.index) }
     ensures rules { IfOk result (λ decls. declared cx.new.entries decls ≡ rules_seen_from workspace.now crate_id.index) }
+    ensures struct_sorts { IfOk result (λ decls. map struct_sorts decls.structs ≡ struct_sorts_seen workspace.now crate_id.index) }
+    ensures trait_sorts { IfOk result (λ decls. map trait_sorts decls.traits ≡ trait_sorts_seen workspace.now crate_id.index) }
+    ensures impl_sorts { IfOk result (λ decls. map impl_sorts decls.impls ≡ impl_sorts_seen workspace.now crate_id.index) }
     ensures local { IfOk result (λ decls. decls.local ≡ crate_id.index) }
     ensures ready { IfOk result (λ decls. IsReady cx.new.entries decls) }
 {

@@ -1,7 +1,9 @@
 use Rattle.std.proofs.Common.{rules, ◌≡◌, ◌∙◌, ap}
+use Rattle.declarations.specs.Items.{reference_in}
 use Rattle.infer_table.specs.Content.{Table}
-use Rattle.sessions.specs.Asking.{empty_table, with_unknowns}
-use Rattle.sessions.proofs.Alone.{clean-there, known-there, refused-there, values-kept}
+use Rattle.view_lowering.specs.Plain.{unbound_reference}
+use Rattle.sessions.specs.Asking.{IsLeftOpen, empty_table, with_unknowns}
+use Rattle.sessions.proofs.Alone.{clean-there, known-there, refused-there, reference-is, moved, values-kept}
 use Rattle.sessions.proofs.refuted.refute_lowered.Goals as goal
 
 pub returns-in_err-add_unknowns_in-clause-rest : goal.returns-in_err-add_unknowns_in-clause-rest
@@ -28,3 +30,16 @@ returns-clause-no g c =
     refused-there q old new law k l low own (g.H.GoalHandler.handled (g.H.GoalHandler.meaning c.args.cx.now.handler old)) (g.H.GoalHandler.handled (g.H.GoalHandler.meaning c.add_unknowns_in.new.cx.handler new))
     (ap g.H.GoalHandler.handled (c.rest_laws.ensures.meaning c.args.cx.now c.add_unknowns_in.new.cx c.requires.rest.ready c.add_unknowns_in.ensures.advances))
     (c.ask_in_coherence.ensures.no r (clean-there q old new law k l low own) (known-there q old new law k l low own c.add_unknowns_in.new.table made))
+
+pub returns-clause-open : goal.returns-clause-open
+returns-clause-open g c =
+    λ r q low.
+    let old = c.args.cx.now.interner.entries in
+    let new = c.add_unknowns_in.new.cx.interner.entries in
+    let l = c.args.lowered.now in
+    moved
+    (λ w s. IsLeftOpen g.H.GoalHandler.handled g.H.GoalHandler.Rule g.H.GoalHandler.coinductive g.H.GoalHandler.ready g.H.GoalHandler.meaning w c.args.graph.now.root_depth s)
+    (g.H.GoalHandler.meaning c.add_unknowns_in.new.cx.handler new) (g.H.GoalHandler.meaning c.args.cx.now.handler old) (reference_in new l.asked) (unbound_reference q.asked)
+    (c.rest_laws.ensures.meaning c.args.cx.now c.add_unknowns_in.new.cx c.requires.rest.ready c.add_unknowns_in.ensures.advances)
+    (reference-is q old new c.requires.rest.ready.lawful c.add_unknowns_in.ensures.advances.entries l low)
+    (c.ask_in_coherence.ensures.open r)
