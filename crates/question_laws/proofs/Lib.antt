@@ -6,5 +6,6 @@ mod FormedTexts
 mod FormedViews
 mod QuestionTerms
 mod TextQuestions
+mod ReferenceGoals
 mod AskedGoals
 mod TextAnswers

@@ -11,7 +11,7 @@ ghost use Rattle.declared_views.specs.Ready.{OfTexts};
 ghost use Rattle.question_laws.specs.Answers.{solver_goals, AreAnsweredRight, AreToldPossible};
 ghost use Rattle.question_laws.specs.Fitting.{SortsTellFits};
 ghost use Rattle.question_laws.specs.Goals.{FormedQuestionsAreGoals};
-ghost use Rattle.question_laws.specs.Questions.{TextsQuestionsAreFormed};
+ghost use Rattle.question_laws.specs.Questions.{TextsQuestionsAreFormed, ReferencesAreGoals};
 ghost use Rattle.question_laws.specs.Views.{TextsAreFormed};
 
 /// Where declarations are formed, a goal in which nothing is bound, and whose terms have the sorts that are declared, fits them, and
@@ -30,6 +30,11 @@ pub fn texts_are_formed()
 /// text: under where-clauses that are elaborated it is a formed question. Its own where-clauses are formed as they are written.
 pub fn questions_are_formed()
     ensures { TextsQuestionsAreFormed }
+{}
+
+/// A goal that asks for a reference, and whose where-clauses are references, stands for the goal that their trees form.
+pub fn references_are_goals()
+    ensures { ReferencesAreGoals }
 {}
 
 /// A question without unknowns, whose terms are formed by declarations that are, is a goal that the solver answers exactly: it is
