@@ -3,7 +3,7 @@ use Rattle.std.proofs.Common.{ℕ, Bool, List, [], ◌∷◌, ◌++◌, map}
 use Rattle.text_definitions.specs.Words.{Sign, comma, close_angle, close_square, semicolon, Keyword, fn_word, for_word, struct_word, trait_word, fundamental_word, auto_word, colon}
 use Rattle.text_definitions.specs.Words as words
 use Rattle.text_definitions.specs.Tokens.{sign, keyword, arrow, name, tokens_of, pieces}
-use Rattle.text_definitions.specs.Syntax.{TypeTree, of_primitive, never_type, variable_type, named, reference_to, pointer_to, slice_of, array_of, tuple_of, fn_of, fn_to, dyn_of, Types, no_types, and_type, Args, no_args, and_arg, Arg, lifetime_arg, number_arg, type_arg, Item, bound_item, lifetime_item, Items, no_items, and_item, Params, Bound, Clause, struct_line, trait_line, impl_line, refute_line, type_spelling, lifetime_spelling, mut_spelling, binder_spelling, tuple_spelling, second_item, inputs_spelling, more_types, args_spelling, more_args, arg_spelling, item_spelling, more_items, params_spelling, bound_spelling, clause_spelling, bounds_spelling, where_spelling, fields_spelling, behind, spelling, if_so}
+use Rattle.text_definitions.specs.Syntax.{TypeTree, of_primitive, never_type, variable_type, named, reference_to, pointer_to, slice_of, array_of, tuple_of, fn_of, fn_to, dyn_of, Types, no_types, and_type, Args, no_args, and_arg, Arg, lifetime_arg, number_arg, type_arg, Item, bound_item, lifetime_item, Items, no_items, and_item, Params, Bound, Clause, struct_line, trait_line, impl_line, prove_line, refute_line, type_spelling, lifetime_spelling, mut_spelling, binder_spelling, tuple_spelling, second_item, inputs_spelling, more_types, args_spelling, more_args, arg_spelling, item_spelling, more_items, params_spelling, bound_spelling, clause_spelling, bounds_spelling, where_spelling, fields_spelling, behind, spelling, if_so}
 use Rattle.text_definitions.specs.Written.{IsWritten}
 use Rattle.view_lowering.proofs.Begins.{AllFine, tokens-fine, fine-front, fine-behind}
 use Rattle.declared_views.proofs.Scalars.{Scalars, ScalarTypes, ScalarArgs, ScalarArg, ScalarItem, ScalarItems}
@@ -120,6 +120,12 @@ impl-scalars line ps h ks w =
       (scalars h.subject (fine-front (type_spelling h.subject) (where_spelling (map clause_spelling ks)) two.1), scalar-args h.bound.args (fine-front (bound_spelling h.bound) (keyword for_word ∷ (type_spelling h.subject ++ where_spelling (map clause_spelling ks))) one).1),
       first-clauses ks (fine-behind (type_spelling h.subject) (where_spelling (map clause_spelling ks)) two.1),
     )
+
+pub prove-scalars : (line : List ℕ) (c : List ℕ) (ps : Params) (a : Clause) (ks : List Clause) → IsWritten line (prove_line c ps a ks) → ScalarClause a × ScalarClauses ks
+unfolding tokens_of
+prove-scalars line c ps a ks w =
+    let all = fine-behind (params_spelling ps) (clause_spelling a ++ where_spelling (map clause_spelling ks)) (tokens-fine (pieces line) (spelling (prove_line c ps a ks)) w).1.1.1 in
+    (scalar-clause a (fine-front (clause_spelling a) (where_spelling (map clause_spelling ks)) all), first-clauses ks (fine-behind (clause_spelling a) (where_spelling (map clause_spelling ks)) all))
 
 pub refute-scalars : (line : List ℕ) (c : List ℕ) (ps : Params) (a : Clause) → IsWritten line (refute_line c ps a) → ScalarClause a
 unfolding tokens_of

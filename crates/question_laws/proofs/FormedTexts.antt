@@ -25,11 +25,10 @@ use Rattle.line_reader.specs.Faultless.{UsesFit, names_crate}
 use Rattle.line_reader.proofs.NoFault.{passes-tests, uses-crates}
 use Rattle.line_reader.proofs.FittingUses.{faultless-uses}
 use Rattle.declared_views.proofs.Applied.{each-map, each-more, still-there}
-use Rattle.declared_views.proofs.ScalarTokens.{ScalarBounds, ScalarClause, ScalarClauses, struct-scalars, trait-scalars, impl-scalars}
+use Rattle.declared_views.proofs.ScalarTokens.{ScalarBounds, ScalarClause, ScalarClauses, struct-scalars, trait-scalars, impl-scalars, prove-scalars, refute-scalars}
 use Rattle.declared_views.proofs.Scalars.{ScalarTypes, ScalarArgs}
 use Rattle.declared_views.proofs.Standing.{AutosAreBare}
 use Rattle.declared_views.proofs.Texts.{Well, is_bare, autos-bare, line-added, core-well}
-use Rattle.question_laws.proofs.QuestionScalars.{prove-scalars, refute-scalars}
 use Rattle.question_laws.proofs.Seeing.{seen-more}
 use Rattle.question_laws.proofs.TextTerms.{Scope, IsStructAt, IsTraitAt, TextNode, TextNodes, IsPlaced, scope_of, nodes-append, FitSeen, first-seen, rest-seen, tail-seen, trait-used, type-sorts, args-sorts, type-nodes, args-nodes}
 

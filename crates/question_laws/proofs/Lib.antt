@@ -1,7 +1,6 @@
 mod Fitting
 mod Seeing
 mod TextTerms
-mod QuestionScalars
 mod FormedTexts
 mod FormedViews
 mod QuestionTerms

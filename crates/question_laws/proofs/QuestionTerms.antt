@@ -24,11 +24,10 @@ use Rattle.line_reader.proofs.FittingUses.{faultless-uses}
 use Rattle.view_lowering.specs.Plain.{plain, plain_label, all_kept, unbound_reference, unbound_references}
 use Rattle.view_lowering.proofs.Begins.{is_scalar}
 use Rattle.declared_views.proofs.Scalars.{Scalars, ScalarTypes, ScalarArgs, ScalarArg, ScalarItem}
-use Rattle.declared_views.proofs.ScalarTokens.{ScalarClause, ScalarClauses}
+use Rattle.declared_views.proofs.ScalarTokens.{ScalarClause, ScalarClauses, prove-scalars, refute-scalars}
 use Rattle.declared_views.proofs.Applied.{each-more}
 use Rattle.declared_views.proofs.Trees.{and, and-right, or-left, or-right}
 use Rattle.question_laws.specs.Goals.{is_fixed, are_fixed}
-use Rattle.question_laws.proofs.QuestionScalars.{prove-scalars, refute-scalars}
 
 -- ---- trees
 abbrev Good : Trees → Type 0

@@ -1,5 +1,5 @@
 -- What is true of a session when it begins, and stays true.
-use Rattle.std.proofs.Common.{◌≡◌, ◌<◌, ◌-◌, ℕ, Bool, false, List, [], length, refl, sym, ap, ◌∙◌, subst}
+use Rattle.std.proofs.Common.{◌≡◌, ◌-◌, ℕ, Bool, false, List, [], refl, sym, ap, ◌∙◌, subst}
 use Rattle.model.specs.Terms.{erased_world}
 use Rattle.model.specs.Worlds.{World}
 use Rattle.type_terms.specs.Terms.{Entry}
@@ -29,7 +29,7 @@ use Rattle.sessions.specs.Asking.{HasNoProof, IsLeftOpen, goal_alone}
 use Rattle.sessions.specs.Promises.{IsRefutedQuestion, IsOpenQuestion}
 use Rattle.sessions.specs.Resting.{Cached, AreAtRest}
 use Rattle.sessions.specs.Sessions.{SolverRests, SolvesView, IsSolvingOf, IsSession}
-use Rattle.sessions.specs.Subjects.{IsOfText, AsksRefutation}
+use Rattle.sessions.specs.Subjects.{AsksRefutation}
 use Rattle.sessions.proofs.Refusals.{refuted}
 use Rattle.sessions.proofs.SelfTypes.{self-types-begin}
 

@@ -1,6 +1,6 @@
 -- What is refused in coherence has no solution by the asking crate's view alone, nor in a linked set with the crate.
-use Rattle.std.proofs.Common.{◌≡◌, ℕ, Bool, true, false, IsTrue, not, List, [], ◌∷◌, map, refl, sym, ap, ◌∙◌, subst}
-use Rattle.model.specs.Label.{Label, Sort, of_lifetime, static, fn_ptr, principal, param, bound}
+use Rattle.std.proofs.Common.{◌≡◌, ℕ, Bool, IsTrue, not, List, [], map, refl, sym, ap, ◌∙◌, subst}
+use Rattle.model.specs.Label.{Label, Sort, of_lifetime, fn_ptr, principal, param, bound}
 use Rattle.model.specs.Trees.{Trees, none, tree, erase, erase_label}
 use Rattle.model.specs.Terms.{erased_world, erased_reference}
 use Rattle.model.specs.Worlds.{World, CrateDecl, Reference}
