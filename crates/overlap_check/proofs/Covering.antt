@@ -15,7 +15,7 @@ use Rattle.infer_table.specs.Content.{Table, variables_of, IsProper}
 use Rattle.infer_table.proofs.SolutionLaws.{is_variable-self}
 use Rattle.model.proofs.Fitting.{no-left as no-first, no-right as no-second}
 use Rattle.term_folds.specs.Arguments.{sort_at}
-use Rattle.session_laws.specs.Questions.{FitKinds, of_kind, filled}
+use Rattle.overlap_check.specs.Questions.{FitKinds, of_kind, filled}
 use Rattle.overlap_check.specs.Fresh.{with_unknown, HasArguments as Speaks}
 use Rattle.overlap_check.specs.Goals.{repeated, unknown_kinds}
 use Rattle.overlap_check.proofs.Standing.{default_node, root, own, rest_of, assigned}

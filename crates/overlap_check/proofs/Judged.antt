@@ -24,8 +24,8 @@ use Rattle.declarations.proofs.Growth.{all-declared, args-same}
 use Rattle.orphan_check.specs.Items.{orphan_error}
 use Rattle.orphan_check.specs.declared.errors.OrphanCheckErr.{OrphanCheckErr}
 use Rattle.orphan_check.proofs.Visiting.{erased-visits}
-use Rattle.session_laws.specs.Headers.{opened}
-use Rattle.session_laws.specs.Verdicts.{BreaksOrphanRule, KeepsOrphanRule, IsFirstOrphan}
+use Rattle.overlap_check.specs.OpenedHeaders.{opened}
+use Rattle.overlap_check.specs.Verdicts.{BreaksOrphanRule, KeepsOrphanRule, IsFirstOrphan}
 use Rattle.overlap_check.specs.Fresh.{SomeHaveNoNumber, HasArguments}
 use Rattle.overlap_check.specs.Headers.{sorts_of_impl, unknowns_for, empty_table, IsHeaderOver}
 use Rattle.overlap_check.specs.Orphans.{HoldsParams, HeaderHoldsParams, AreWrittenWell, IsWalkError, IsHeaderError, IsErrorOf, SomeHeaderRunsOut, error_in}

@@ -12,7 +12,7 @@ use Rattle.infer_table.specs.Content.{Table, variables_of}
 use Rattle.infer_table.specs.Solutions.{HasValues}
 use Rattle.infer_table.proofs.SolutionLaws.{is_sort-equal}
 use Rattle.term_folds.specs.Arguments.{sort_at}
-use Rattle.session_laws.specs.Headers.{is_param, params_below, with_variables}
+use Rattle.overlap_check.specs.OpenedHeaders.{is_param, params_below, with_variables}
 use Rattle.overlap_check.specs.Fresh.{with_unknown, fresh_unknowns, HasArguments}
 use Rattle.overlap_check.specs.Headers.{empty_table}
 use Rattle.overlap_check.specs.Orphans.{HoldsParams}

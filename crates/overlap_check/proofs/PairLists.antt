@@ -9,7 +9,7 @@ use Rattle.type_terms.specs.declared.ImplId.{ImplId}
 use Rattle.declarations.specs.Items.{Items, IsAbove, declared, impl_at, impl_in}
 use Rattle.declarations.specs.Relevant.{impls_named}
 use Rattle.declarations.specs.declared.items.ImplDef.{ImplDef}
-use Rattle.session_laws.specs.Verdicts.{IsPair}
+use Rattle.overlap_check.specs.Verdicts.{IsPair}
 use Rattle.overlap_check.specs.Partners.{are_partners, IsPairAt, NoPairAt}
 use Rattle.overlap_check.proofs.Judged.{none-named, is-named, one-named, named-below}
 

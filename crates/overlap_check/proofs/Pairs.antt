@@ -11,7 +11,7 @@ use Rattle.model.proofs.Members.{in-map}
 use Rattle.model.proofs.Entries.{map-in}
 use Rattle.infer_table.specs.Solutions.{Assignment, Binding, instance, IsSorted, HasValues, occurs, resolved, Equates, HasNoSolution}
 use Rattle.infer_table.specs.Content.{Table, variables_of, IsProper}
-use Rattle.session_laws.specs.Questions.{filled}
+use Rattle.overlap_check.specs.Questions.{filled}
 use Rattle.overlap_check.specs.Fresh.{with_unknowns, fresh_unknowns, HasArguments}
 use Rattle.overlap_check.specs.Goals.{unknown_kinds, goal_of, IsInstantiable, IsGoalLeft, IsGoalRight, HasGoals}
 use Rattle.overlap_check.proofs.Standing.{default_node, assigned, assigned-sorted, assigned-younger, Gives, fresh-gives, all-no-fewer, default-sorted}

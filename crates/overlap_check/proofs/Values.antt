@@ -6,7 +6,7 @@ use Rattle.model.specs.Trees.{Trees, none, tree, erase}
 use Rattle.infer_table.specs.Solutions.{Assignment, Binding, Solves, instance, tree_of, IsSorted, HasValues, is_variable, occurs, resolved, value_in}
 use Rattle.infer_table.specs.Content.{Table, IsProper}
 use Rattle.infer_table.proofs.SolutionLaws.{is_variable-self}
-use Rattle.session_laws.specs.Questions.{FitKinds, of_kind, filled}
+use Rattle.overlap_check.specs.Questions.{FitKinds, of_kind, filled}
 use Rattle.overlap_check.specs.Goals.{repeated, unknown_kinds}
 use Rattle.overlap_check.proofs.Standing.{own, own-sorted, own-is}
 use Rattle.overlap_check.proofs.Instances.{node}

@@ -3,8 +3,8 @@ use Rattle.std.proofs.Common.{ℕ, List, ◌⊎◌, inl, inr}
 use Rattle.model.specs.Label.{Sort}
 use Rattle.model.specs.Worlds.{World, Reference, ImplDecl}
 use Rattle.model.specs.Proofs.{In}
-use Rattle.session_laws.specs.Laws.{IsPassed, IsRefused}
-use Rattle.session_laws.specs.Questions.{IsRefuted, IsRefuteAnswer, unrefuted}
+use Rattle.overlap_check.specs.SessionLaws.{IsPassed, IsRefused}
+use Rattle.overlap_check.specs.Questions.{IsRefuted, IsRefuteAnswer, unrefuted}
 use Rattle.overlap_check.specs.Goals.{HasGoals}
 
 module _ (i j : ImplDecl) (ks : List Sort) (left right : List Reference) (goals : HasGoals i j ks left right) where

@@ -8,7 +8,7 @@ use Rattle.model.specs.Proofs.{In}
 use Rattle.model.specs.Answers.{CommonInstance, FixedLeft, FixedRight, is_variable}
 use Rattle.infer_table.specs.Solutions.{Binding, resolved}
 use Rattle.infer_table.specs.Content.{Table}
-use Rattle.session_laws.specs.Laws.{CoversLeft, CoversRight}
+use Rattle.overlap_check.specs.SessionLaws.{CoversLeft, CoversRight}
 use Rattle.overlap_check.specs.Fresh.{with_unknowns, fresh_unknowns, HasArguments}
 
 abbrev pub repeated : Sort → ℕ → List Sort

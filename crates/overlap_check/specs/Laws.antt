@@ -13,8 +13,8 @@ use Rattle.infer_table.specs.Solutions.{Assignment, Solves, Equates, HasNoSoluti
 use Rattle.infer_table.specs.Content.{Table, content, variables_of, Ready}
 use Rattle.declarations.specs.Held.{ReferenceHeld}
 use Rattle.declarations.specs.Items.{reference_in}
-use Rattle.session_laws.specs.Laws.{IsPassed, IsRefused}
-use Rattle.session_laws.specs.Questions.{FitKinds, filled_reference, IsRefuted, IsRefuteAnswer, unrefuted}
+use Rattle.overlap_check.specs.SessionLaws.{IsPassed, IsRefused}
+use Rattle.overlap_check.specs.Questions.{FitKinds, filled_reference, IsRefuted, IsRefuteAnswer, unrefuted}
 use Rattle.overlap_check.specs.Fresh.{fresh_unknowns, with_unknowns}
 use Rattle.overlap_check.specs.Goals.{IsPairWith, header_with, unknown_kinds, goal_of, HasGoals}
 use Rattle.overlap_check.specs.Headers.{IsOfTable, resolved_reference, with_instance}

@@ -1,3 +1,8 @@
+pub mod OpenedHeaders
+pub mod Verdicts
+pub mod Questions
+pub mod SessionLaws
+pub mod Worked
 pub mod Fresh
 pub mod Goals
 pub mod Headers

@@ -16,8 +16,8 @@ use Rattle.orphan_check.specs.Flags.{is_first}
 use Rattle.orphan_check.specs.Items.{OrphanError, nonlocal, uncovered, orphan_error}
 use Rattle.orphan_check.specs.declared.errors.OrphanCheckErr.{OrphanCheckErr}
 use Rattle.orphan_check.specs.declared.errors.OrphanCheckErr.TheVariants.{NonLocalInputType, UncoveredTyParams}
-use Rattle.session_laws.specs.Headers.{is_param, opened}
-use Rattle.session_laws.specs.Verdicts.{KeepsOrphanRule, BreaksOrphanRule, IsFirstOrphan}
+use Rattle.overlap_check.specs.OpenedHeaders.{is_param, opened}
+use Rattle.overlap_check.specs.Verdicts.{KeepsOrphanRule, BreaksOrphanRule, IsFirstOrphan}
 use Rattle.overlap_check.specs.Fresh.{SomeHaveNoNumber}
 use Rattle.overlap_check.specs.Headers.{sorts_of_impl, empty_table}
 use Rattle.overlap_check.specs.Written.{IsWrittenWell}

@@ -12,3 +12,10 @@ pub mod intersection;
 pub mod laws;
 pub mod orphans;
 pub mod partners;
+mod session_laws;
+
+pub use session_laws::{
+    a_refused_clause_clears, accepted_sets_have_one_impl, apart_is_cleared, bounded_is_refuted,
+    decided_is_answered, passed_is_accepted, refused_is_real, worked_answers, worked_headers,
+    worked_pairs,
+};

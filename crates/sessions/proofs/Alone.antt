@@ -25,7 +25,7 @@ use Rattle.text_definitions.specs.Declarations.{Question}
 use Rattle.view_lowering.specs.Plain.{unbound_reference}
 use Rattle.view_lowering.specs.Questions.{IsLowered}
 use Rattle.view_lowering.specs.declared.question.LoweredQuestion.{LoweredQuestion}
-use Rattle.declared_views.specs.Questions.{variable_kinds, number_of, HasVariablesAlone}
+use Rattle.view_lowering.specs.QuestionVariables.{variable_kinds, number_of, HasVariablesAlone}
 use Rattle.sessions.specs.Asking.{HasNoProof, goal_alone, empty_table, with_unknowns}
 use Rattle.sessions.proofs.Posed.{no-canonical, known}
 use Rattle.sessions.proofs.Counted.{Counted, counts-are}

@@ -14,7 +14,7 @@ use Rattle.infer_table.specs.Content.{Table}
 use Rattle.infer_table.proofs.BindFacts.{type-is, const-is}
 use Rattle.text_definitions.specs.Declarations.{Variable}
 use Rattle.text_definitions.specs.Names.{own_from}
-use Rattle.declared_views.specs.Questions.{number_of}
+use Rattle.view_lowering.specs.QuestionVariables.{number_of}
 use Rattle.sessions.specs.Asking.{with_unknowns}
 
 -- it has the values of the first one, and as many more variables as there are of each kind

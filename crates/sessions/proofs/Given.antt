@@ -9,8 +9,8 @@ use Rattle.model.specs.Answers.{is_open, is_closed}
 use Rattle.model.proofs.Fitting.{child-shut, next-shut, head-shut, no-left, not-true, or-no}
 use Rattle.infer_table.specs.Solutions.{Assignment, instance, tree_of, IsSorted}
 use Rattle.infer_table.proofs.SolutionLaws.{is_sort-equal, is_sort-self}
-use Rattle.session_laws.specs.Questions.{FitKinds, of_kind, filled}
-use Rattle.declared_views.specs.Questions.{number_of, is_stray}
+use Rattle.overlap_check.specs.Questions.{FitKinds, of_kind, filled}
+use Rattle.view_lowering.specs.QuestionVariables.{number_of, is_stray}
 
 node : {l m : Label} {c d o p : Trees} → l ≡ m → c ≡ d → o ≡ p → tree l c o ≡ tree m d p
 node a b e = cc

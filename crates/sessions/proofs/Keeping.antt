@@ -23,8 +23,8 @@ use Rattle.candidate_assembly.specs.declared.solver.Solver.{Solver}
 use Rattle.candidate_assembly.specs.Fitting.{solving_of}
 use Rattle.candidate_assembly.specs.Ready.{IsReady}
 use Rattle.candidate_assembly.specs.Solving.{Solving, solver_for, coinductive_for, meaning_for}
-use Rattle.declared_views.specs.Ready.{AreSeen}
-use Rattle.declared_views.specs.Questions.{HasVariablesAlone, RefutationsHaveVariablesAlone}
+use Rattle.view_lowering.specs.Ready.{AreSeen}
+use Rattle.view_lowering.specs.QuestionVariables.{HasVariablesAlone, RefutationsHaveVariablesAlone}
 use Rattle.sessions.specs.Asking.{HasNoProof, IsLeftOpen, goal_alone}
 use Rattle.sessions.specs.Promises.{IsRefutedQuestion, IsOpenQuestion}
 use Rattle.sessions.specs.Resting.{Cached, AreAtRest}

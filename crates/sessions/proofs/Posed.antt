@@ -8,7 +8,7 @@ use Rattle.infer_table.specs.Canonical.{CanonicalForm, HasNoCanonical, kind_of_l
 use Rattle.infer_table.specs.Covers.{AreKnown}
 use Rattle.evaluation.specs.FrameTables.{kinds_known}
 use Rattle.assembly_laws.specs.Solver.{has_placeholder}
-use Rattle.declared_views.specs.Questions.{number_of, is_stray}
+use Rattle.view_lowering.specs.QuestionVariables.{number_of, is_stray}
 use Rattle.sessions.specs.Asking.{goal_alone}
 use Rattle.sessions.proofs.Given.{below}
 

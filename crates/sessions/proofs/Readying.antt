@@ -12,8 +12,8 @@ use Rattle.candidate_assembly.specs.Headers.{var_kind, StandInHeader}
 use Rattle.candidate_assembly.proofs.WellDeclared.{well-declared-have-candidates}
 use Rattle.declarations.specs.Applied.{HaveBounds}
 use Rattle.declarations.specs.Merges.{Each}
-use Rattle.declared_views.specs.Laws.{TextsAreDeclaredWell}
-use Rattle.declared_views.specs.Ready.{OfTexts, FieldsSpeak, HeadersTell, kind_of_sort, TellsKinds}
+use Rattle.view_lowering.specs.TextLaws.{TextsAreDeclaredWell}
+use Rattle.view_lowering.specs.Ready.{OfTexts, FieldsSpeak, HeadersTell, kind_of_sort, TellsKinds}
 use Rattle.sessions.specs.Readying.{AreReady}
 
 one-kind : (p : GenericParamKind) → var_kind p ≡ kind_of_sort (sort_of_param p)

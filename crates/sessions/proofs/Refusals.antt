@@ -17,13 +17,13 @@ use Rattle.infer_table.specs.declared.certainty.TypingMode.TheVariants.{Coherenc
 use Rattle.root_goals.specs.Roots.{fact_under}
 use Rattle.assembly_laws.specs.Meaning.{Meaning, LinkedWith, SelfTypesBegin, Place, by_view, in_set, proved_at}
 use Rattle.assembly_laws.specs.Solver.{solver_handled}
-use Rattle.session_laws.specs.Verdicts.{placed}
-use Rattle.session_laws.specs.Questions.{FitKinds, filled, filled_reference, SolutionBy, Solution}
-use Rattle.session_laws.proofs.Filling.{over-filled-reference, over-fit, over-each-closed}
+use Rattle.overlap_check.specs.Verdicts.{placed}
+use Rattle.overlap_check.specs.Questions.{FitKinds, filled, filled_reference, SolutionBy, Solution}
+use Rattle.overlap_check.proofs.Filling.{over-filled-reference, over-fit, over-each-closed}
 use Rattle.text_definitions.specs.Declarations.{Declarations, Question}
 use Rattle.view_lowering.specs.Plain.{all_kept, plain, plain_label, unbound_reference}
 use Rattle.view_lowering.specs.Seen.{rules_seen_from}
-use Rattle.declared_views.specs.Questions.{variable_kinds, HasVariablesAlone}
+use Rattle.view_lowering.specs.QuestionVariables.{variable_kinds, HasVariablesAlone}
 use Rattle.sessions.specs.Asking.{goal_alone}
 use Rattle.sessions.specs.Promises.{view_in, IsRefutedQuestion}
 use Rattle.sessions.proofs.Given.{given, given-sorted, instance-is, instance-shut}

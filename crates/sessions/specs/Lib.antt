@@ -1,3 +1,15 @@
+pub mod Settling
+pub mod Clauses
+pub mod Laws
+pub mod Proved
+pub mod Tables
+pub mod Values
+pub mod Impossible
+pub mod Fitting
+pub mod Views
+pub mod Goals
+pub mod Questions
+pub mod Answers
 pub mod Subjects
 pub mod Resting
 pub mod Sessions

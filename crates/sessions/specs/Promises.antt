@@ -3,8 +3,8 @@ use Rattle.std.specs.Prelude.{ℕ}
 use Rattle.model.specs.Terms.{erased_world, erased_reference}
 use Rattle.model.specs.Worlds.{World, view_of}
 use Rattle.text_definitions.specs.Declarations.{Declarations, Question, world_of}
-use Rattle.session_laws.specs.Questions.{IsRefuted}
-use Rattle.declared_views.specs.Questions.{variable_kinds}
+use Rattle.overlap_check.specs.Questions.{IsRefuted}
+use Rattle.view_lowering.specs.QuestionVariables.{variable_kinds}
 use Rattle.view_lowering.specs.Plain.{unbound_reference}
 use Rattle.assembly_laws.specs.Facts.{FollowsByView}
 use Rattle.candidate_assembly.specs.declared.solver.Solver.{Solver}

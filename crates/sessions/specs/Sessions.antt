@@ -6,7 +6,7 @@ use Rattle.declarations.specs.Items.{Items, written, declared}
 use Rattle.text_definitions.specs.Declarations.{Declarations}
 use Rattle.view_lowering.specs.Plain.{plainly_seen_from}
 use Rattle.view_lowering.specs.Seen.{rules_seen_from}
-use Rattle.declared_views.specs.Ready.{AreSeen}
+use Rattle.view_lowering.specs.Ready.{AreSeen}
 use Rattle.root_goals.specs.declared.context.SolverCx.{SolverCx}
 use Rattle.root_goals.specs.Contexts.{entries_of}
 use Rattle.assembly_laws.specs.Facts.{FollowsByView}

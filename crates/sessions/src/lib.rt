@@ -1,3 +1,8 @@
+//! Questions: a goal asked over a table of its own until its answer is settled, the values that its unknowns have then, and what is
+//! proved with them.
+//!
+//! The goals of a pair of impls, each asked alone in coherence: whether one of them is impossible.
+//!
 //! Sessions on the solver: a crate of a text, asked about.
 //!
 //! A [`Session`] lowers the view of its crate once, and keeps one interner, one store of goals and answers, one search graph and one
@@ -6,12 +11,25 @@
 #![tactic(auto)]
 
 mod asked;
+mod impossible;
+pub mod laws;
 mod limits;
+mod obligations;
+mod question_laws;
 mod refuted;
 mod session;
+pub mod settling;
+pub mod table;
+pub mod values;
 mod view;
 
+pub use impossible::is_impossible;
 pub use limits::Limits;
+pub use obligations::has_impossible_obligation;
+pub use question_laws::{
+    SolverSearch, formed_questions_are_goals, questions_are_answered_exactly, questions_are_formed,
+    references_are_goals, sorts_tell_fits, texts_are_formed,
+};
 pub use refuted::RefuteAnswer;
 pub use session::Session;
 pub use view::declarations_are_ready;

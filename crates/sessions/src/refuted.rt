@@ -9,7 +9,7 @@ ghost use Rattle.infer_table.specs.Canonical.{HasNoCanonical};
 ghost use Rattle.text_definitions.specs.Declarations.{Question};
 ghost use Rattle.view_lowering.specs.Plain.{unbound_reference};
 ghost use Rattle.view_lowering.specs.Questions.{IsQuestion, IsLowered};
-ghost use Rattle.declared_views.specs.Questions.{HasVariablesAlone};
+ghost use Rattle.view_lowering.specs.QuestionVariables.{HasVariablesAlone};
 ghost use Rattle.sessions.specs.Asking.{HasNoProof, IsLeftOpen, empty_table, goal_alone};
 ghost use Rattle.sessions.specs.Resting.{AreAtRest};
 

@@ -9,13 +9,13 @@ use crate::limits::Limits;
 use crate::refuted::{RefuteAnswer, refute_question};
 use crate::view::lower_view;
 use candidate_assembly::solver::Solver;
-use declared_views::refutations_have_variables_alone;
 use root_goals::{SolverCx, SolverGraph};
 use search_graph::{GlobalCache, SearchGraph};
 use std::alloc::Global;
 use std::marker::Model;
 use type_terms::interner::Interner;
 use type_terms::{CrateId, Fault};
+use view_lowering::refutations_have_variables_alone;
 use workspace::Workspace;
 
 /// A crate of a text, to be asked about.

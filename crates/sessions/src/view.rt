@@ -4,21 +4,20 @@ ghost use Rattle.std.specs.Prelude.{◌≡◌, ◌<◌, length, map, IfOk};
 ghost use Rattle.declarations.specs.Items.{written, declared};
 ghost use Rattle.view_lowering.specs.Plain.{plainly_seen_from};
 ghost use Rattle.view_lowering.specs.Seen.{rules_seen_from, struct_sorts, trait_sorts, impl_sorts, struct_sorts_seen, trait_sorts_seen, impl_sorts_seen};
-ghost use Rattle.declared_views.specs.Ready.{OfTexts};
+ghost use Rattle.view_lowering.specs.Ready.{OfTexts};
 ghost use Rattle.candidate_assembly.specs.Ready.{IsReady};
 ghost use Rattle.sessions.specs.Readying.{AreReady};
 ghost use Rattle.sessions.specs.Subjects.{IsOfText};
 
 use declarations::declarations::Declarations;
-use declared_views::{
-    bounds_are_applied, fields_speak_of_parameters, impls_speak_of_parameters,
-    texts_are_declared_well,
-};
 use std::alloc::Global;
 use type_terms::interner::Interner;
 use type_terms::{CrateId, Fault};
 use view_lowering::laws::impls_begin_declared;
-use view_lowering::lower;
+use view_lowering::{
+    bounds_are_applied, fields_speak_of_parameters, impls_speak_of_parameters, lower,
+    texts_are_declared_well,
+};
 use workspace::Workspace;
 
 /// What a crate sees of a text without a fault is ready for the solver, where its terms are an interner's.

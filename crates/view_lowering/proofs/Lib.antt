@@ -7,3 +7,26 @@ pub mod Begins
 mod Plainly
 mod Named
 mod PlainLists
+pub mod Sorts
+pub mod Tests
+pub mod Trees
+pub mod Scalars
+mod Types
+pub mod Standing
+mod Lines
+mod Params
+pub mod ScalarTokens
+mod DeclaredItems
+pub mod Spoken
+pub mod Applied
+pub mod Texts
+pub mod SeenViews
+mod Headers
+mod Heights
+pub mod WellSeen
+pub mod Matched
+mod Told
+mod ReadySeen
+mod Variables
+mod QuestionTypes
+mod QuestionTexts

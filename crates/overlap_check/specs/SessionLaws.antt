@@ -1,0 +1,95 @@
+-- What follows from the promises, and what the promises follow from. Each law stands on the contract of a function of its name.
+use Rattle.std.specs.Prelude.{◌≡◌, ℕ, Bool, true, false, IsTrue, List, [], ◌∷◌, ◌++◌, ◌⊎◌}
+use Rattle.model.specs.Label.{Sort}
+use Rattle.model.specs.Trees.{Trees, none, tree, some_node}
+use Rattle.model.specs.Worlds.{World, Reference, ImplDecl, sees, with_args}
+use Rattle.model.specs.Proofs.{In, Every, HasProof, HasProofByImpl}
+use Rattle.model.specs.Answers.{is_closed, is_bounded, is_possible, CommonInstance, FixedLeft, FixedRight, IsDecided, is_variable}
+use Rattle.model.specs.Renumbering.{View, renumbered_reference, renumbered_impl}
+use Rattle.model.specs.LinkedSet.{LinkedSet, Cleared, IsAnswered}
+use Rattle.overlap_check.specs.Verdicts.{IsVerdict, accepted, IsPair, IsCleared, KeepsOrphanRule, IsAccepted, IsRealOverlap}
+use Rattle.overlap_check.specs.Questions.{FitKinds, filled_reference, Solution, ProveAnswer, yes, unproved, IsProveAnswer, no, unrefuted, IsRefuteAnswer, IsRefuted}
+
+-- The headline
+-- What holds of a linked set whose crates were accepted, each in a text of its own or in one with others, and in which others were
+-- asked.
+pub record Headline (limit : ℕ) (W : World) (accepted_views asked_views : List View) : Type 0 where
+  -- no closed reference has proofs by two impls
+  pub one_impl : (r : Reference) → IsTrue (is_closed r.args) → (n k : ℕ) → HasProofByImpl W [] r n → HasProofByImpl W [] r k → n ≡ k
+  -- two impls of crates that don't see each other have no common instance
+  pub unrelated : (i j : ImplDecl) → In i W.impls → In j W.impls → sees W i.home j.home ≡ false → sees W j.home i.home ≡ false → CommonInstance i j → ⊥
+  -- each pair that an accepted crate brought together is no conflict here
+  pub cleared : (v : View) → In v accepted_views → (i j : ImplDecl) → IsPair v.world v.asker i j → Cleared W (renumbered_impl v.numbers i) (renumbered_impl v.numbers j)
+  -- a question that was answered `no` has no solution here
+  pub no_holds : (v : View) → In v asked_views → (ks : List Sort) (r : Reference) → IsRefuteAnswer limit v.world v.asker ks r no → Solution W ks (renumbered_reference v.numbers r) → ⊥
+  -- one without where-clauses that was answered `yes` has a proof here
+  pub yes_holds : (v : View) → In v asked_views → (ks : List Sort) (ts : List Trees) (r : Reference) → IsProveAnswer limit v.world ks [] r (yes ts)
+      → HasProof W [] (renumbered_reference v.numbers (filled_reference ks ts r))
+
+abbrev pub HeadlineHolds : Type 0
+HeadlineHolds =
+    (limit : ℕ) (W : World) (accepted_views asked_views : List View) (rank : ℕ → ℕ) → LinkedSet W (accepted_views ++ asked_views) rank
+    → ((i : ImplDecl) → In i W.impls → IsAnswered accepted_views i.home)
+    → ((v : View) → In v accepted_views → IsVerdict limit v.world v.asker accepted)
+    → Headline limit W accepted_views asked_views
+
+-- What the check of a pair has to find
+-- Headers without a common instance are cleared: where unification over fresh variables is refused, there is none.
+abbrev pub ApartIsCleared : Type 0
+ApartIsCleared = (V : World) (c : ℕ) (i j : ImplDecl) → (CommonInstance i j → ⊥) → IsCleared V c i j
+
+-- The goal g, with unknowns of these kinds, covers a where-clause of i: each common instance of the pair makes the clause an
+-- instance of g. So does the clause after unification of the headers.
+pub record CoversLeft (i j : ImplDecl) (k : Reference) (ks : List Sort) (g : Reference) : Type 0 where
+  pub clause : In k i.clauses
+  pub values : CommonInstance i j → List Trees
+  pub fitting : (m : CommonInstance i j) → FitKinds ks (values m)
+  pub closed : (m : CommonInstance i j) → Every (λ t. IsTrue (is_closed t)) (values m)
+  pub instance_of : (m : CommonInstance i j) → with_args m.left k ≡ filled_reference ks (values m) g
+
+-- The same of a where-clause of j.
+pub record CoversRight (i j : ImplDecl) (k : Reference) (ks : List Sort) (g : Reference) : Type 0 where
+  pub clause : In k j.clauses
+  pub values : CommonInstance i j → List Trees
+  pub fitting : (m : CommonInstance i j) → FitKinds ks (values m)
+  pub closed : (m : CommonInstance i j) → Every (λ t. IsTrue (is_closed t)) (values m)
+  pub instance_of : (m : CommonInstance i j) → with_args m.right k ≡ filled_reference ks (values m) g
+
+abbrev pub CoversClause : ImplDecl → ImplDecl → List Sort → Reference → Type 0
+CoversClause i j ks g = ((k : Reference) × CoversLeft i j k ks g) ⊎ ((k : Reference) × CoversRight i j k ks g)
+
+-- A pair is cleared by a where-clause whose goal was refused in coherence.
+abbrev pub RefusedClauseClears : Type 0
+RefusedClauseClears = (V : World) (c : ℕ) (i j : ImplDecl) (ks : List Sort) (g : Reference) → CoversClause i j ks g → IsRefuted V c ks g → IsCleared V c i j
+
+-- What `check_crate` does to a pair that it does not refuse.
+abbrev pub IsPassed : World → ℕ → ImplDecl → ImplDecl → Type 0
+IsPassed V c i j = (CommonInstance i j → ⊥) ⊎ ((ks : List Sort) × (g : Reference) × CoversClause i j ks g × IsRefuted V c ks g)
+
+abbrev pub PassedIsAccepted : Type 0
+PassedIsAccepted = (V : World) (c : ℕ) → KeepsOrphanRule V c → ((i j : ImplDecl) → IsPair V c i j → IsPassed V c i j) → IsAccepted V c
+
+-- What `check_crate` finds of a pair that it refuses: a common instance, and for each where-clause a goal that covers it, holds no
+-- unknown where the clause is fixed, and was left open.
+pub record IsRefused (limit : ℕ) (V : World) (c : ℕ) (i j : ImplDecl) : Type 0 where
+  pub common : CommonInstance i j
+  pub left : (k : Reference) → In k i.clauses → (ks : List Sort) × (g : Reference) × CoversLeft i j k ks g × IsRefuteAnswer limit V c ks g unrefuted × ((r : Reference) → FixedLeft i j k r → some_node is_variable g.args ≡ false)
+  pub right : (k : Reference) → In k j.clauses → (ks : List Sort) × (g : Reference) × CoversRight i j k ks g × IsRefuteAnswer limit V c ks g unrefuted × ((r : Reference) → FixedRight i j k r → some_node is_variable g.args ≡ false)
+
+abbrev pub RefusedIsReal : Type 0
+RefusedIsReal = (limit : ℕ) (V : World) (c : ℕ) (i j : ImplDecl) → IsRefused limit V c i j → IsRealOverlap limit V c i j
+
+-- Answers
+-- A decided reference gets `yes` if it has a proof, and `unproved` if it has none.
+abbrev pub DecidedIsAnswered : Type 0
+DecidedIsAnswered =
+    (limit : ℕ) (V : World) (ks : List Sort) (E : List Reference) (r : Reference) (a : ProveAnswer) → IsDecided limit V E r → IsProveAnswer limit V ks E r a
+    → ((ts : List Trees) × (a ≡ yes ts) × HasProof V E r) ⊎ ((a ≡ unproved) × (HasProof V E r → ⊥))
+
+-- A bounded reference may be answered `no` exactly if it is not possible; then it has no proof at all by the view.
+abbrev pub BoundedIsRefuted : Type 0
+BoundedIsRefuted =
+    (limit : ℕ) (V : World) (c : ℕ) (ks : List Sort) (r : Reference) → is_bounded limit V c r ≡ true
+    → (is_possible limit V c r ≡ false → IsRefuteAnswer limit V c ks r no)
+    × (IsRefuteAnswer limit V c ks r no → is_possible limit V c r ≡ false)
+    × (IsRefuteAnswer limit V c ks r no → HasProof V [] r → ⊥)

@@ -1,0 +1,157 @@
+-- Worked crates: their verdicts, and answers to their questions. Crate first uses base; structs count from 10, traits from 20 and
+-- impls from 100.
+use Rattle.std.specs.Prelude.{◌≡◌, ℕ, true, false, IsTrue, [], ◌∷◌, Some}
+use Rattle.model.specs.Label.{of_type, of_const, bool, char, str, tuple, uint, adt, fn_ptr, value, infer, param, placeholder}
+use Rattle.model.specs.Trees.{Trees, none, tree, leaf}
+use Rattle.model.specs.Worlds.{World, Reference, ImplDecl, view_of}
+use Rattle.model.specs.Rules.{asked, fn_once}
+use Rattle.model.specs.Proofs.{HasProofByImpl}
+use Rattle.model.specs.Terms.{erased_world}
+use Rattle.model.specs.Answers.{is_closed, CommonInstance}
+use Rattle.model.specs.Core.{box}
+use Rattle.model.specs.Worked.{base, first, beside_core, struct, fundamental_struct, trait_of, impl_of, to, u8, T, applied, fn_of_any, fn_of_static, show_world, text_of_a_user, set_of_two_users}
+use Rattle.orphan_check.specs.Items.{nonlocal, uncovered, items, foreign_leaves}
+use Rattle.overlap_check.specs.Verdicts.{IsPair, IsCleared, IsVerdict, accepted, orphan, overlap}
+use Rattle.overlap_check.specs.Questions.{Solution, IsProveAnswer, yes, unproved, maybe, IsRefuteAnswer, no}
+
+-- The orphan rule
+-- `crate base; trait Show; crate first uses base; impl Show for u8`: u8, the first type, is foreign.
+abbrev pub ForeignLeaf : Type 0
+ForeignLeaf =
+    let V = view_of (beside_core [] (trait_of 20 base [] ∷ []) (impl_of 100 first 0 (asked 20 u8) [] ∷ [])) first in
+    IsVerdict 8 V first (orphan 100 (nonlocal ((u8, true) ∷ [])))
+
+-- `crate base; trait Show<U>; crate first uses base; struct B; impl<T> Show<B> for Box<T>`: T, a variable in the error, stands before
+-- the local B.
+abbrev pub UncoveredBeforeLocal : Type 0
+UncoveredBeforeLocal =
+    let V = view_of (beside_core (struct 10 first [] ∷ []) (trait_of 20 base [] ∷ []) (impl_of 100 first 1 (to 20 (applied box T) (leaf (adt 10))) [] ∷ [])) first in
+    IsVerdict 8 V first (orphan 100 (uncovered (leaf (infer of_type 0)) (Some (leaf (adt 10)))))
+
+-- `crate base; fundamental struct Pair<T, U>`: of `Pair<u8, bool>, str` u8 alone has the flag.
+abbrev pub FlagsOfLeaves : Type 0
+FlagsOfLeaves =
+    let V = beside_core (fundamental_struct 10 base ∷ []) [] [] in
+    foreign_leaves (items V (Some first) true (tree (adt 10) (tree (uint 0) none (leaf bool)) (leaf str))) ≡ (u8, true) ∷ (leaf bool, false) ∷ (leaf str, false) ∷ []
+
+-- Pairs
+-- `crate base; trait Show; trait Num; impl<T> Show for T where T: Num; crate first uses base; struct A; impl Show for A`: the headers
+-- have a common instance, and first is accepted, since nobody else may write `impl Num for A`.
+abbrev pub show_blanket : ImplDecl
+show_blanket = impl_of 100 base 1 (asked 20 T) (asked 21 T ∷ [])
+
+abbrev pub show_for_a : ImplDecl
+show_for_a = impl_of 101 first 0 (asked 20 (leaf (adt 10))) []
+
+abbrev pub cleared_view : World
+cleared_view = view_of (beside_core (struct 10 first [] ∷ []) (trait_of 20 base [] ∷ trait_of 21 base [] ∷ []) (show_blanket ∷ show_for_a ∷ [])) first
+
+abbrev pub ClearedByAClause : Type 0
+ClearedByAClause = IsPair cleared_view first show_for_a show_blanket × CommonInstance show_for_a show_blanket × IsVerdict 8 cleared_view first accepted
+
+-- `crate base; trait Num; crate first uses base; trait Mine; impl<T> Mine for T where T: Num; impl Mine for u8`: base may write
+-- `impl Num for u8` some day.
+abbrev pub day_view : World
+day_view =
+    view_of (beside_core [] (trait_of 20 base [] ∷ trait_of 21 first [] ∷ []) (impl_of 100 first 1 (asked 21 T) (asked 20 T ∷ []) ∷ impl_of 101 first 0 (asked 21 u8) [] ∷ [])) first
+
+abbrev pub RefusedForSomeDay : Type 0
+RefusedForSomeDay = IsVerdict 8 day_view first (overlap 101 100)
+
+-- `crate base; trait Show; impl Show for for<'a> fn(&'a u8); impl Show for fn(&'static u8)`: they differ in lifetimes alone.
+abbrev pub lifetimes_view : World
+lifetimes_view =
+    view_of
+    (erased_world (beside_core [] (trait_of 20 base [] ∷ []) (impl_of 100 base 0 (asked 20 fn_of_any) [] ∷ impl_of 101 base 0 (asked 20 fn_of_static) [] ∷ [])))
+    base
+
+abbrev pub LifetimesAlone : Type 0
+LifetimesAlone = IsVerdict 8 lifetimes_view base (overlap 101 100)
+
+-- Both together: impls 101 and 100 are the first pair with a common instance, and cleared; 103 and 102 are refused. A promise that
+-- the first pair with a common instance is named would be wrong.
+abbrev pub mine_blanket : ImplDecl
+mine_blanket = impl_of 102 first 1 (asked 22 T) (asked 21 T ∷ [])
+
+abbrev pub mine_for_u8 : ImplDecl
+mine_for_u8 = impl_of 103 first 0 (asked 22 u8) []
+
+abbrev pub later_view : World
+later_view =
+    view_of
+    (beside_core (struct 10 first [] ∷ []) (trait_of 20 base [] ∷ trait_of 21 base [] ∷ trait_of 22 first [] ∷ []) (show_blanket ∷ show_for_a ∷ mine_blanket ∷ mine_for_u8 ∷ []))
+    first
+
+abbrev pub ALaterPairIsRefused : Type 0
+ALaterPairIsRefused =
+    IsPair later_view first show_for_a show_blanket
+    × CommonInstance show_for_a show_blanket
+    × IsCleared later_view first show_for_a show_blanket
+    × IsVerdict 8 later_view first (overlap 103 102)
+    × (IsVerdict 8 later_view first (overlap 101 100) → ⊥)
+
+-- `crate base; trait Sup; trait Sub: Sup; impl Sub for u8; trait Show; impl Show for u8; impl Show for u8`: no linked set holds this
+-- view, since nothing proves `u8: Sup`. It is not accepted all the same.
+abbrev pub unlinked_view : World
+unlinked_view =
+    view_of
+    (beside_core [] (trait_of 20 base [] ∷ trait_of 21 base (asked 20 T ∷ []) ∷ trait_of 22 base [] ∷ [])
+    (impl_of 100 base 0 (asked 21 u8) [] ∷ impl_of 101 base 0 (asked 22 u8) [] ∷ impl_of 102 base 0 (asked 22 u8) [] ∷ []))
+    base
+
+abbrev pub NotAcceptedUnlinked : Type 0
+NotAcceptedUnlinked = IsVerdict 8 unlinked_view base accepted → ⊥
+
+-- Two crates, each accepted in a text of its own where it is crate 2 and its struct is 10, stand in one set, and no reference has
+-- proofs by two impls there.
+abbrev pub TwoTextsAccepted : Type 0
+TwoTextsAccepted =
+    IsVerdict 8 text_of_a_user 2 accepted
+    × ((r : Reference) → IsTrue (is_closed r.args) → (n k : ℕ) → HasProofByImpl set_of_two_users [] r n → HasProofByImpl set_of_two_users [] r k → n ≡ k)
+
+-- Questions
+-- `trait Conv<U, const N>; impl Conv<bool, 4> for u8; prove u8: Conv<?x, ?n>`: ?x = bool, ?n = 4.
+abbrev pub ValuesOfBothKinds : Type 0
+ValuesOfBothKinds =
+    let V = beside_core [] (trait_of 20 base [] ∷ []) (impl_of 100 base 0 (to 20 u8 (tree bool none (leaf (value 4)))) [] ∷ []) in
+    IsProveAnswer 8 V (of_type ∷ of_const ∷ []) [] (to 20 u8 (tree (infer of_type 0) none (leaf (infer of_const 0)))) (yes (leaf bool ∷ leaf (value 4) ∷ []))
+
+-- `prove <T> V<T>: Show where T: Show` is `yes`, and without the where-clause `unproved`; neither may be `maybe`.
+abbrev pub ParametersStandForThemselves : Type 0
+ParametersStandForThemselves =
+    let P = leaf (placeholder of_type 0) in
+    IsProveAnswer 8 show_world [] (asked 20 P ∷ []) (asked 20 (applied 10 P)) (yes [])
+    × IsProveAnswer 8 show_world [] [] (asked 20 (applied 10 P)) unproved
+    × (IsProveAnswer 8 show_world [] [] (asked 20 (applied 10 u8)) maybe → ⊥)
+    × (IsProveAnswer 8 show_world [] [] (asked 20 (applied 10 u8)) unproved → ⊥)
+
+-- `crate base; trait Num; struct V<T>; refute in base V<?x>: Num` is `no`: whatever ?x is, nobody but base may write it. The
+-- reference is not bounded, since it holds an unknown.
+abbrev pub num_view : World
+num_view = view_of (beside_core (struct 10 base [] ∷ []) (trait_of 20 base [] ∷ []) []) base
+
+abbrev pub RefutedForAllValues : Type 0
+RefutedForAllValues = IsRefuteAnswer 8 num_view base (of_type ∷ []) (asked 20 (applied 10 (leaf (infer of_type 0)))) no
+
+-- `crate base; trait Sub<A>: FnOnce<(A,)>; impl Sub<bool> for fn(char); crate first uses base; struct S<A>; trait Mine; impl Mine for bool;
+-- impl<A> Mine for S<A> where fn(char): Sub<A>, A: Mine; refute in first S<?a>: Mine` is `no`: wherever `fn(char): Sub<?a>` has its
+-- supertrait proved, ?a is char, and nobody but first may write `char: Mine`. Yet by the view `S<bool>: Mine` has a proof, without the
+-- supertrait `fn(char): FnOnce<(bool,)>`; so no linked set holds the view.
+abbrev pub fn_of_char : Trees → Trees
+fn_of_char others = tree (fn_ptr 0) (tree char none (leaf tuple)) others
+
+abbrev pub fn_is_sub : Trees → Reference
+fn_is_sub a = record { trait = 20; args = fn_of_char a }
+
+abbrev pub alone_view : World
+alone_view =
+    view_of
+    (beside_core (struct 10 first [] ∷ [])
+    (trait_of 20 base (record { trait = fn_once; args = tree (param of_type 0) none (tree tuple (leaf (param of_type 1)) none) } ∷ []) ∷ trait_of 21 first [] ∷ [])
+    (impl_of 100 base 0 (fn_is_sub (leaf bool)) [] ∷ impl_of 101 first 0 (asked 21 (leaf bool)) [] ∷ impl_of 102 first 1 (asked 21 (applied 10 T)) (fn_is_sub T ∷ asked 21 T ∷ []) ∷ []))
+    first
+
+abbrev pub ProvedAloneAndRefuted : Type 0
+ProvedAloneAndRefuted =
+    let goal = asked 21 (applied 10 (leaf (infer of_type 0))) in
+    Solution alone_view (of_type ∷ []) goal × IsRefuteAnswer 8 alone_view first (of_type ∷ []) goal no

@@ -1,9 +1,0 @@
-pub mod Asked
-pub mod Clauses
-pub mod Counts
-pub mod ErasedClauses
-pub mod Filled
-pub mod Filling
-pub mod Itself
-pub mod Proved
-pub mod Resolved

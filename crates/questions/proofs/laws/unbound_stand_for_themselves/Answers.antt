@@ -1,5 +1,0 @@
-use Rattle.questions.proofs.Itself.{themselves, themselves-solve, themselves-read}
-use Rattle.questions.proofs.laws.unbound_stand_for_themselves.Goals as goal
-
-pub returns : goal.returns
-returns c = λ es t ready. (themselves es t ready, themselves-solve es t ready, themselves-read es t ready)

@@ -1,5 +1,0 @@
-use Rattle.questions.proofs.Proved.{values-are-proved}
-use Rattle.questions.proofs.laws.values_are_proved.Goals as goal
-
-pub returns : goal.returns
-returns g c = λ w. values-are-proved (g.H.GoalHandler.Rule w) (g.H.GoalHandler.coinductive w)

@@ -1,0 +1,140 @@
+-- A reference that is asked alone, as a goal in code, and while a context grows.
+use Rattle.std.proofs.Common.{◌≡◌, ◌⊎◌, ◌+◌, ℕ, Bool, List, [], refl, sym, ◌∙◌, ap, subst, Option, Some}
+use Rattle.model.specs.Label.{Sort, of_trait, predicate}
+use Rattle.model.specs.Trees.{none, tree}
+use Rattle.model.specs.Worlds.{Reference}
+use Rattle.type_terms.specs.Terms.{Entry, Keeps}
+use Rattle.term_folds.specs.declared.predicate.TraitRef.{TraitRef}
+use Rattle.infer_table.specs.Canonical.{GoalTrees, CanonicalForm, canonical_form, HasNoCanonical}
+use Rattle.infer_table.specs.Content.{Table, Ready, content, variables_of}
+use Rattle.infer_table.specs.Covers.{AreKnown, IsOfKnown}
+use Rattle.infer_table.specs.Goals.{goal_resolved, goal_trees}
+use Rattle.infer_table.specs.Inputs.{IsWithoutCanonical}
+use Rattle.infer_table.specs.Kept.{content-kept}
+use Rattle.infer_table.specs.Responses.{AnswerTrees}
+use Rattle.infer_table.specs.Shortages.{IsOutOfNumbers}
+use Rattle.infer_table.specs.Solutions.{Assignment, Binding, Solves, resolved}
+use Rattle.infer_table.specs.Unification.{TableTrees, table_trees}
+use Rattle.infer_table.specs.declared.certainty.TypingMode.{TypingMode}
+use Rattle.infer_table.specs.declared.certainty.TypingMode.TheVariants.{Coherence}
+use Rattle.infer_table.specs.declared.goal.Goal.{Goal}
+use Rattle.infer_table.proofs.PairFacts.{table-kept}
+use Rattle.infer_table.proofs.SolutionLaws.{resolved-none, resolved-rigid}
+use Rattle.declarations.specs.Held.{ReferenceHeld}
+use Rattle.declarations.specs.Items.{reference_in}
+use Rattle.declarations.proofs.Growth.{reference-same}
+use Rattle.evaluation.specs.Content.{Fact}
+use Rattle.evaluation.specs.Handler.{Handled}
+use Rattle.evaluation.specs.Tables.{frame_tables}
+use Rattle.search_graph.specs.Meaning as Search
+use Rattle.search_graph.specs.Plain.{IsNotPlain}
+use Rattle.search_graph.specs.SearchState.{SearchState}
+use Rattle.goal_frames.specs.declared.frame.GoalFrame.{GoalFrame}
+use Rattle.goal_frames.specs.declared.store.InputId.{InputId}
+use Rattle.goal_frames.specs.declared.store.ResponseId.{ResponseId}
+use Rattle.root_goals.specs.declared.context.SolverCx.{SolverCx}
+use Rattle.root_goals.specs.Contexts.{Asked, entries_of}
+use Rattle.root_goals.specs.Evaluations.{IsFound, asked_in}
+use Rattle.root_goals.specs.Roots.{AtProvedSolutions, goal_in, fact_under, values_in}
+use Rattle.root_goals.specs.Searching.{solver_meaning}
+use Rattle.root_goals.specs.Shortages.{RootRunsOut, HasNoForm, form, answer}
+use Rattle.sessions.specs.Impossible.{alone, resolved_alone, asked_alone, HasNoProof, IsImpossible, IsAnswered, IsLeftOpen, GoalRunsOut}
+
+-- ---- what was asked, as a goal in code
+-- a goal without where-clauses is its reference alone
+pub goal-is-alone : (es : List Entry) (g : Goal) (r : TraitRef) → g.param_env.items ≡ [] → g.predicate.trait_ref ≡ r → goal_trees es g ≡ alone (reference_in es r)
+goal-is-alone es g r e f = cc
+
+-- what is known of the goal, part by part
+abbrev NoProofOf : (TypingMode → CanonicalForm → Handled frame_tables) → (Sort → ℕ) → List Binding → GoalTrees → Type 0
+NoProofOf handled counts bs g =
+    IsWithoutCanonical (goal_resolved bs g) → AreKnown counts (goal_resolved bs g).environment → AreKnown counts (goal_resolved bs g).predicate → IsOfKnown counts bs
+    → let h = handled Coherence (canonical_form (goal_resolved bs g)) in
+    (x : h.World) (s : Assignment) → Solves s bs → h.Proves x (fact_under s g) → ⊥
+
+resolved-alone : (bs : List Binding) (r : Reference) → resolved bs (alone r).predicate ≡ tree (predicate (of_trait r.trait)) (resolved bs r.args) none
+resolved-alone bs r = resolved-rigid bs (predicate (of_trait r.trait)) r.args none refl ∙ ap (λ o. tree (predicate (of_trait r.trait)) (resolved bs r.args) o) (resolved-none bs)
+
+-- a goal that has no proof, asked alone
+pub alone-has-none : (handled : TypingMode → CanonicalForm → Handled frame_tables) (es : List Entry) (t : Table) (g : Goal) (r : TraitRef) → goal_trees es g ≡ alone (reference_in es r)
+    → AtProvedSolutions handled Coherence es t g (λ s. ⊥) → HasNoProof handled es t r
+alone-has-none handled es t g r e f = λ k o.
+    let bs = content es t.values in
+    let at = resolved-alone bs (reference_in es r) in
+    let whole : NoProofOf handled (variables_of t) bs (goal_trees es g) = λ c x p q. f (record { clean = c; environment_known = x; predicate_known = p; table_known = q }) in
+    subst (NoProofOf handled (variables_of t) bs) e whole
+    (record { environment = subst HasNoCanonical (sym (resolved-none bs)) tt; predicate = subst HasNoCanonical (sym at) (o.clean, tt) })
+    (subst (AreKnown (variables_of t)) (sym (resolved-none bs)) tt) (subst (AreKnown (variables_of t)) (sym at) (o.known, tt)) k
+
+-- ---- while a context grows
+same-resolved : (bs cs : List Binding) (g h : Reference) → bs ≡ cs → g ≡ h → goal_resolved bs (alone g) ≡ goal_resolved cs (alone h)
+same-resolved bs cs g h p q = cc
+
+module _ (old new : List Entry) (k : Keeps old new) (t : Table) (ready : Ready old t) (r : TraitRef) (held : ReferenceHeld old r) where
+  pub resolved-later : resolved_alone new t r ≡ resolved_alone old t r
+  resolved-later = same-resolved (content new t.values) (content old t.values) (reference_in new r) (reference_in old r) (content-kept old new t.values k ready.held) (reference-same old new k r held)
+
+  pub asked-later : asked_alone new t r ≡ asked_alone old t r
+  asked-later = ap (λ g. (Coherence, canonical_form g)) resolved-later
+
+-- without a proof in the words of bindings and references
+abbrev NoProofAt : (TypingMode → CanonicalForm → Handled frame_tables) → (Sort → ℕ) → List Binding → Reference → Type 0
+NoProofAt handled counts bs g =
+    IsOfKnown counts bs → AreKnown counts (resolved bs g.args) → HasNoCanonical (resolved bs g.args) → let h = handled Coherence (canonical_form (goal_resolved bs (alone g))) in
+    (x : h.World) (s : Assignment) → Solves s bs → h.Proves x (fact_under s (alone g)) → ⊥
+
+pub runs-out-for : (P Q : AnswerTrees → Type 0) (t u : TableTrees) (g h : GoalTrees) → t ≡ u → g ≡ h → ((a : AnswerTrees) → P a → Q a) → RootRunsOut P t g → RootRunsOut Q u h
+runs-out-for P Q t u g h p q f (form x) = form (subst HasNoForm q x)
+runs-out-for P Q t u g h p q f (answer a x o) = answer a (f a x) (subst (λ z. IsOutOfNumbers z (values_in h) a) p (subst (λ z. IsOutOfNumbers t (values_in z) a) q o))
+
+module _ {World Handler : Type 0} (handled : World → TypingMode → CanonicalForm → Handled frame_tables) (Rule : World → Fact → List Fact → Type 0) (coinductive : World → Fact → Bool)
+    (ready : Handler → List Entry → Type 0) (meaning_of : Handler → List Entry → World) where
+  abbrev m : Search.Meaning (SolverCx Handler) InputId (Option ResponseId) GoalFrame
+  m = solver_meaning handled Rule coinductive ready meaning_of
+
+  -- the table has no numbers for what was asked by a goal in code
+  pub root-runs-out : (c : SolverCx Handler) (s : SearchState) (t : Table) (g : Goal) (r : TraitRef) → goal_trees (entries_of c) g ≡ alone (reference_in (entries_of c) r)
+      → (P : AnswerTrees → Type 0) → ((a : AnswerTrees) → P a → IsFound m (m.world c) s.root_depth (asked_in Coherence (entries_of c) t g) (Some a))
+      → RootRunsOut P (table_trees (entries_of c) t) (goal_in (entries_of c) t g) → GoalRunsOut handled Rule coinductive ready meaning_of c s t r
+  root-runs-out c s t g r e P f =
+      let same : goal_in (entries_of c) t g ≡ resolved_alone (entries_of c) t r = ap (goal_resolved (content (entries_of c) t.values)) e in
+      runs-out-for P (IsAnswered handled Rule coinductive ready meaning_of c s t r) (table_trees (entries_of c) t) (table_trees (entries_of c) t) (goal_in (entries_of c) t g) (resolved_alone (entries_of c) t r) refl same
+      (λ a x. subst (λ z. IsFound m (m.world c) s.root_depth (Coherence, canonical_form z) (Some a)) same (f a x))
+
+  abbrev AnsweredAt : AnswerTrees → World → ℕ → Asked → Type 0
+  AnsweredAt a w depth g = IsFound m w depth g (Some a)
+
+  abbrev OpenAt : World → ℕ → Asked → Type 0
+  OpenAt w depth g = ((a : AnswerTrees) × AnsweredAt a w depth g) ⊎ IsNotPlain m w (depth + 1) g
+
+  at-all : (P : World → ℕ → Asked → Type 0) (w v : World) (d e : ℕ) (g h : Asked) → w ≡ v → d ≡ e → g ≡ h → P w d g → P v e h
+  at-all P w v d e g h p q r x = subst (λ z. P z e h) p (subst (λ z. P w z h) q (subst (P w d) r x))
+
+  -- what is said in a context that has grown, by a graph of the same depth and over the same table, is so in the one before
+  module _ (c d : SolverCx Handler) (k : Search.Keeps m c d) (s u : SearchState) (depth : u.root_depth ≡ s.root_depth) (t v : Table) (same : v ≡ t) (tr : Ready (entries_of c) t)
+      (r : TraitRef) (held : ReferenceHeld (entries_of c) r) where
+    entries : Keeps (entries_of c) (entries_of d)
+    entries = λ i e h. k.held (i, e) h
+
+    asked : asked_alone (entries_of d) t r ≡ asked_alone (entries_of c) t r
+    asked = asked-later (entries_of c) (entries_of d) entries t tr r held
+
+    answered-before : (a : AnswerTrees) → IsAnswered handled Rule coinductive ready meaning_of d u t r a → IsAnswered handled Rule coinductive ready meaning_of c s t r a
+    answered-before a = at-all (AnsweredAt a) _ _ _ _ _ _ k.world depth asked
+
+    pub open-before : IsLeftOpen handled Rule coinductive ready meaning_of d u v r → IsLeftOpen handled Rule coinductive ready meaning_of c s t r
+    open-before x = at-all OpenAt _ _ _ _ _ _ k.world depth asked (subst (λ z. IsLeftOpen handled Rule coinductive ready meaning_of d u z r) same x)
+
+    pub runs-out-before : GoalRunsOut handled Rule coinductive ready meaning_of d u v r → GoalRunsOut handled Rule coinductive ready meaning_of c s t r
+    runs-out-before x =
+        runs-out-for (IsAnswered handled Rule coinductive ready meaning_of d u t r) (IsAnswered handled Rule coinductive ready meaning_of c s t r) (table_trees (entries_of d) t) (table_trees (entries_of c) t)
+        (resolved_alone (entries_of d) t r) (resolved_alone (entries_of c) t r) (table-kept (entries_of c) (entries_of d) entries t tr)
+        (resolved-later (entries_of c) (entries_of d) entries t tr r held) answered-before (subst (λ z. GoalRunsOut handled Rule coinductive ready meaning_of d u z r) same x)
+
+    pub impossible-before : IsImpossible handled meaning_of d v r → IsImpossible handled meaning_of c t r
+    impossible-before f = λ o x.
+        let there = subst (λ z. IsImpossible handled meaning_of d z r) same f in
+        let now : NoProofAt (handled (meaning_of d.handler (entries_of d))) (variables_of t) (content (entries_of d) t.values) (reference_in (entries_of d) r) = λ a b e. there a (record { known = b; clean = e }) in
+        let one = subst (λ w. NoProofAt (handled w) (variables_of t) (content (entries_of d) t.values) (reference_in (entries_of d) r)) k.world now in
+        let two = subst (λ bs. NoProofAt (handled (meaning_of c.handler (entries_of c))) (variables_of t) bs (reference_in (entries_of d) r)) (content-kept (entries_of c) (entries_of d) t.values entries tr.held) one in
+        subst (NoProofAt (handled (meaning_of c.handler (entries_of c))) (variables_of t) (content (entries_of c) t.values)) (reference-same (entries_of c) (entries_of d) entries r held) two o x.known x.clean

@@ -1,0 +1,141 @@
+-- Askings, one after the other.
+use Rattle.std.proofs.Common.{◌≡◌, ◌∙◌, Bool, true, false, ◌&&◌, not, refl, sym, ap, subst, List, Option, Some, Result, Ok, ◌⊎◌, inl, inr}
+use Rattle.type_terms.specs.Terms.{Entry, Keeps}
+use Rattle.search_graph.specs.Cache.{KnownResult}
+use Rattle.search_graph.specs.SearchState.{SearchState}
+use Rattle.search_graph.proofs.Graphs.{Keeps-refl, Keeps-trans}
+use Rattle.infer_table.specs.Canonical.{CanonicalForm, GoalTrees}
+use Rattle.infer_table.specs.Certainties.{is_certain}
+use Rattle.infer_table.specs.Content.{Table, content, Ready}
+use Rattle.infer_table.specs.Goals.{GoalHeld, goal_trees}
+use Rattle.infer_table.specs.Growth.{grows-trans, grows-refl}
+use Rattle.infer_table.specs.Inputs.{IsWithoutCanonical}
+use Rattle.infer_table.specs.Kept.{content-kept}
+use Rattle.infer_table.specs.Responses.{AnswerTrees}
+use Rattle.infer_table.specs.Solutions.{Assignment, Solves}
+use Rattle.infer_table.specs.Unification.{TableTrees}
+use Rattle.infer_table.specs.WithoutCanonical.{HaveNoCanonical}
+use Rattle.infer_table.specs.declared.certainty.Certainty.{Certainty}
+use Rattle.infer_table.specs.declared.certainty.Certainty.TheVariants.{Yes, Maybe}
+use Rattle.infer_table.specs.declared.certainty.TypingMode.{TypingMode}
+use Rattle.infer_table.specs.declared.goal.Goal.{Goal}
+use Rattle.infer_table.proofs.Numbers.{goal-trees-later}
+use Rattle.infer_table.proofs.WithoutCanonical.{resolving-keeps-out}
+use Rattle.evaluation.specs.Content.{Fact}
+use Rattle.evaluation.specs.Handler.{Handled}
+use Rattle.evaluation.specs.Proof as Lists
+use Rattle.evaluation.specs.TableAnswers.{has_values}
+use Rattle.evaluation.specs.Tables.{frame_tables}
+use Rattle.evaluation.specs.declared.goal.HasChanged.TheVariants as Changed
+use Rattle.goal_frames.specs.Searches.{is_yes_answer}
+use Rattle.goal_frames.specs.declared.store.InputId.{InputId}
+use Rattle.goal_frames.specs.declared.store.ResponseId.{ResponseId}
+use Rattle.root_goals.specs.Changes.{changed}
+use Rattle.root_goals.specs.Contexts.{entries_of}
+use Rattle.root_goals.specs.Roots.{fact_under, IsProved}
+use Rattle.root_goals.specs.Shortages.{RootRunsOut, form, answer}
+use Rattle.root_goals.specs.declared.context.SolverCx.{SolverCx}
+use Rattle.sessions.specs.Settling.{m, HasAsked, IsProvedBy, RunsOut, SomeAskingRunsOut}
+
+-- ---- answers that are no definite yes
+values-true : (b : Bool) → changed b ≡ Changed.Yes → b ≡ true
+values-true true e = refl
+values-true false e = cc
+
+and-false : (b : Bool) → b && false ≡ false
+and-false true = refl
+and-false false = refl
+
+pub not-definite-changed : (a : AnswerTrees) → changed (has_values a) ≡ Changed.Yes → is_yes_answer frame_tables (Some a) ≡ false
+not-definite-changed a e = ap (λ b. is_certain a.certainty && not b) (values-true (has_values a) e) ∙ and-false (is_certain a.certainty)
+
+unsure : (c : Certainty) (b : Bool) → (c ≡ Yes → ⊥) → is_certain c && b ≡ false
+unsure Yes b n = absurd (n refl)
+unsure (Maybe cause) b n = refl
+
+pub not-definite-unsure : (a : AnswerTrees) → (a.certainty ≡ Yes → ⊥) → is_yes_answer frame_tables (Some a) ≡ false
+not-definite-unsure a n = unsure a.certainty (not (has_values a)) n
+
+-- ---- where numbers run out
+pub runs-out-more : {A : Type 0} {P Q : AnswerTrees → Type 0} {t : TableTrees} {g : GoalTrees} → A ⊎ RootRunsOut P t g → ((a : AnswerTrees) → P a → Q a) → A ⊎ RootRunsOut Q t g
+runs-out-more (inl x) f = inl x
+runs-out-more (inr (form h)) f = inr (form h)
+runs-out-more (inr (answer a p h)) f = inr (answer a (f a p) h)
+
+pub or-else : {A B C : Type 0} → A ⊎ B → (B → C) → A ⊎ C
+or-else (inl x) f = inl x
+or-else (inr y) f = inr (f y)
+
+pub ok-same : {A E : Type 0} {x y : A} → ◌≡◌ {A = Result A E} (Ok x) (Ok y) → x ≡ y
+ok-same e = cc
+
+-- ---- a refusal leaves the table's content
+same-content : (old new : List Entry) (t u : Table) → Keeps old new → Ready old t → u ≡ t → content new u.values ≡ content old t.values
+same-content old new t u k r e = ap (λ (z : Table). content new z.values) e ∙ content-kept old new t.values k r.held
+
+pub narrows-refused : (old new : List Entry) (t u : Table) → Keeps old new → Ready old t → u ≡ t → (s : Assignment) → Solves s (content new u.values) → Solves s (content old t.values)
+narrows-refused old new t u k r e s h = subst (Solves s) (same-content old new t u k r e) h
+
+pub clean-refused : (old new : List Entry) (t u : Table) → Keeps old new → Ready old t → u ≡ t → HaveNoCanonical (content old t.values) → HaveNoCanonical (content new u.values)
+clean-refused old new t u k r e h = subst HaveNoCanonical (sym (same-content old new t u k r e)) h
+
+module _ {World : Type 0} (handled : World → TypingMode → CanonicalForm → Handled frame_tables) (Rule : World → Fact → List Fact → Type 0) (coinductive : World → Fact → Bool)
+    {Handler : Type 0} (ready : Handler → List Entry → Type 0) (meaning_of : Handler → List Entry → World) where
+  abbrev Asked : SearchState → List (KnownResult InputId (Option ResponseId)) → SolverCx Handler → Table → SearchState → List (KnownResult InputId (Option ResponseId)) → SolverCx Handler → Table → Type 0
+  Asked = HasAsked handled Rule coinductive ready meaning_of
+
+  -- ---- nothing asked, and one run after the other
+  pub asked-nothing : (g : SearchState) (ks : List (KnownResult InputId (Option ResponseId))) (c : SolverCx Handler) (t : Table) → Asked g ks c t g ks c t
+  asked-nothing g ks c t = record {
+    depth = refl;
+    results = λ place x e. e;
+    consistent = λ h. h;
+    keeps = Keeps-refl (m handled Rule coinductive ready meaning_of) c;
+    entries = λ i e h. h;
+    grows = grows-refl t;
+    narrows = λ s h. h;
+    clean = λ h. h;
+  }
+
+  pub asked-further : (f g h : SearchState) (ks ls ms : List (KnownResult InputId (Option ResponseId))) (c d e : SolverCx Handler) (t u v : Table)
+      → Asked f ks c t g ls d u → Asked g ls d u h ms e v → Asked f ks c t h ms e v
+  asked-further f g h ks ls ms c d e t u v a b = record {
+    depth = b.depth ∙ a.depth;
+    results = λ place x i. b.results place x (a.results place x i);
+    consistent = λ i. b.consistent (a.consistent i);
+    keeps = Keeps-trans (m handled Rule coinductive ready meaning_of) c d e a.keeps b.keeps;
+    entries = λ i x p. b.entries i x (a.entries i x p);
+    grows = grows-trans t u v a.grows b.grows;
+    narrows = λ s i. a.narrows s (b.narrows s i);
+    clean = λ i. b.clean (a.clean i);
+  }
+
+  -- ---- what is proved later is proved
+  pub proved-further : (w x : World) → x ≡ w → (f g : SearchState) (ks ls : List (KnownResult InputId (Option ResponseId))) (c d e : SolverCx Handler) (t u v : Table) (q : Goal) → GoalHeld (entries_of c) q
+      → Asked f ks c t g ls d u → IsProvedBy handled Rule coinductive ready meaning_of x d u e v q → IsProvedBy handled Rule coinductive ready meaning_of w c t e v q
+  proved-further w x same f g ks ls c d e t u v q held a p = λ no clean s solves.
+      let trees : goal_trees (entries_of d) q ≡ goal_trees (entries_of c) q = goal-trees-later (entries_of c) (entries_of d) a.entries q held in
+      subst (λ z. Lists.HasProof Fact (Rule z) (coinductive z) (fact_under s (goal_trees (entries_of c) q))) same
+      (subst (λ z. Lists.HasProof Fact (Rule x) (coinductive x) (fact_under s z)) trees
+      (p (a.clean no) (subst IsWithoutCanonical (sym trees) clean) s solves))
+
+  -- ---- one asking
+  pub proved-once : (w : World) (c d : SolverCx Handler) (t u : Table) (q : Goal) → ((s : Assignment) → Solves s (content (entries_of d) u.values) → Solves s (content (entries_of c) t.values))
+      → IsProved (Rule w) (coinductive w) (entries_of c) t q → IsProvedBy handled Rule coinductive ready meaning_of w c t d u q
+  proved-once w c d t u q narrows p = λ no clean s solves. p (resolving-keeps-out (content (entries_of c) t.values) (goal_trees (entries_of c) q) no clean) s (narrows s solves)
+
+  -- ---- shortages
+  pub first-out : (g : SearchState) (ks : List (KnownResult InputId (Option ResponseId))) (c : SolverCx Handler) (t : Table) (q : Goal) → RunsOut handled Rule coinductive ready meaning_of c g t q
+      → SomeAskingRunsOut handled Rule coinductive ready meaning_of g ks c t q
+  first-out g ks c t q h = record { graph_then = g; known_then = ks; context_then = c; table_then = t; asked = asked-nothing g ks c t; runs_out = h }
+
+  pub later-out : (f g : SearchState) (ks ls : List (KnownResult InputId (Option ResponseId))) (c d : SolverCx Handler) (t u : Table) (q : Goal) → Asked f ks c t g ls d u
+      → SomeAskingRunsOut handled Rule coinductive ready meaning_of g ls d u q → SomeAskingRunsOut handled Rule coinductive ready meaning_of f ks c t q
+  later-out f g ks ls c d t u q a h = record {
+    graph_then = h.graph_then;
+    known_then = h.known_then;
+    context_then = h.context_then;
+    table_then = h.table_then;
+    asked = asked-further f g h.graph_then ks ls h.known_then c d h.context_then t u h.table_then a h.asked;
+    runs_out = h.runs_out;
+  }

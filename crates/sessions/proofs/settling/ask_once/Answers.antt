@@ -1,0 +1,131 @@
+use Rattle.std.proofs.Common.{rules, ◌≡◌, ◌∙◌, sym, inr, Err}
+use Rattle.infer_table.specs.Unification.{table_trees}
+use Rattle.infer_table.proofs.Numbers.{goal-held-later}
+use Rattle.root_goals.proofs.WithoutCanonical.{evaluations-keep-out}
+use Rattle.root_goals.specs.Roots.{goal_in}
+use Rattle.root_goals.specs.declared.outcome.RootError.TheVariants as Root
+use Rattle.type_terms.specs.declared.Fault.TheVariants.{Full}
+use Rattle.sessions.proofs.Settled.{not-definite-changed, not-definite-unsure, runs-out-more, ok-same, narrows-refused, clean-refused, proved-once}
+use Rattle.sessions.proofs.settling.ask_once.Goals as goal
+
+pub returns-in-Ok-clause-again : goal.returns-in-Ok-clause-again
+returns-in-Ok-clause-again g c =
+    let e = c.evaluate_root_goal.ensures in
+    record {
+      empty = e.empty;
+      cache = e.cache;
+      ready = e.ready;
+      table = e.table;
+      goal = goal-held-later c.args.cx.now.interner.entries c.evaluate_root_goal.new.cx.interner.entries e.entries c.args.goal.now c.requires.goal;
+    }
+
+pub returns-in-Ok-clause-asked : goal.returns-in-Ok-clause-asked
+returns-in-Ok-clause-asked g c =
+    let e = c.evaluate_root_goal.ensures in
+    let a = c.in-Ok.ensures.answer in
+    record {
+      depth = e.depth;
+      results = e.results;
+      consistent = e.consistent;
+      keeps = e.keeps;
+      entries = e.entries;
+      grows = e.grows;
+      narrows = c.in-Ok.ensures.narrows;
+      clean = λ h. evaluations-keep-out (table_trees c.args.cx.now.interner.entries c.args.table.now) (table_trees c.evaluate_root_goal.new.cx.interner.entries c.evaluate_root_goal.new.table) (goal_in c.args.cx.now.interner.entries c.args.table.now c.args.goal.now) a.0 h a.3;
+    }
+
+pub returns-in-Err-NoSolution-clause-again : goal.returns-in-Err-NoSolution-clause-again
+returns-in-Err-NoSolution-clause-again g c =
+    let e = c.evaluate_root_goal.ensures in
+    record {
+      empty = e.empty;
+      cache = e.cache;
+      ready = e.ready;
+      table = e.table;
+      goal = goal-held-later c.args.cx.now.interner.entries c.evaluate_root_goal.new.cx.interner.entries e.entries c.args.goal.now c.requires.goal;
+    }
+
+pub returns-in-Err-NoSolution-clause-asked : goal.returns-in-Err-NoSolution-clause-asked
+returns-in-Err-NoSolution-clause-asked g c =
+    let e = c.evaluate_root_goal.ensures in
+    record {
+      depth = e.depth;
+      results = e.results;
+      consistent = e.consistent;
+      keeps = e.keeps;
+      entries = e.entries;
+      grows = e.grows;
+      narrows = narrows-refused c.args.cx.now.interner.entries c.evaluate_root_goal.new.cx.interner.entries c.args.table.now c.evaluate_root_goal.new.table e.entries c.requires.table c.in-Err-NoSolution.ensures.refused;
+      clean = clean-refused c.args.cx.now.interner.entries c.evaluate_root_goal.new.cx.interner.entries c.args.table.now c.evaluate_root_goal.new.table e.entries c.requires.table c.in-Err-NoSolution.ensures.refused;
+    }
+
+pub returns-in-Err-Conflict-clause-again : goal.returns-in-Err-Conflict-clause-again
+returns-in-Err-Conflict-clause-again g c =
+    let e = c.evaluate_root_goal.ensures in
+    record {
+      empty = e.empty;
+      cache = e.cache;
+      ready = e.ready;
+      table = e.table;
+      goal = goal-held-later c.args.cx.now.interner.entries c.evaluate_root_goal.new.cx.interner.entries e.entries c.args.goal.now c.requires.goal;
+    }
+
+pub returns-in-Err-Conflict-clause-asked : goal.returns-in-Err-Conflict-clause-asked
+returns-in-Err-Conflict-clause-asked g c =
+    let e = c.evaluate_root_goal.ensures in
+    record {
+      depth = e.depth;
+      results = e.results;
+      consistent = e.consistent;
+      keeps = e.keeps;
+      entries = e.entries;
+      grows = e.grows;
+      narrows = narrows-refused c.args.cx.now.interner.entries c.evaluate_root_goal.new.cx.interner.entries c.args.table.now c.evaluate_root_goal.new.table e.entries c.requires.table c.in-Err-Conflict.ensures.refused;
+      clean = clean-refused c.args.cx.now.interner.entries c.evaluate_root_goal.new.cx.interner.entries c.args.table.now c.evaluate_root_goal.new.table e.entries c.requires.table c.in-Err-Conflict.ensures.refused;
+    }
+
+pub returns-in-Err-Fault-clause-again : goal.returns-in-Err-Fault-clause-again
+returns-in-Err-Fault-clause-again g c =
+    let e = c.evaluate_root_goal.ensures in
+    record {
+      empty = e.empty;
+      cache = e.cache;
+      ready = e.ready;
+      table = e.table;
+      goal = goal-held-later c.args.cx.now.interner.entries c.evaluate_root_goal.new.cx.interner.entries e.entries c.args.goal.now c.requires.goal;
+    }
+
+pub returns-in-Err-Fault-clause-asked : goal.returns-in-Err-Fault-clause-asked
+returns-in-Err-Fault-clause-asked g c =
+    let e = c.evaluate_root_goal.ensures in
+    record {
+      depth = e.depth;
+      results = e.results;
+      consistent = e.consistent;
+      keeps = e.keeps;
+      entries = e.entries;
+      grows = e.grows;
+      narrows = narrows-refused c.args.cx.now.interner.entries c.evaluate_root_goal.new.cx.interner.entries c.args.table.now c.evaluate_root_goal.new.table e.entries c.requires.table c.in-Err-Fault.ensures.refused;
+      clean = clean-refused c.args.cx.now.interner.entries c.evaluate_root_goal.new.cx.interner.entries c.args.table.now c.evaluate_root_goal.new.table e.entries c.requires.table c.in-Err-Fault.ensures.refused;
+    }
+
+pub returns-in-Ok-clause-holds : goal.returns-in-Ok-clause-holds
+returns-in-Ok-clause-holds g c = λ e.
+    let h = c.read.ensures.holds (ok-same e) in
+    proved-once g.H.GoalHandler.handled g.H.GoalHandler.Rule g.H.GoalHandler.coinductive g.H.GoalHandler.ready g.H.GoalHandler.meaning (g.H.GoalHandler.meaning c.args.cx.now.handler c.args.cx.now.interner.entries) c.args.cx.now c.evaluate_root_goal.new.cx c.args.table.now c.evaluate_root_goal.new.table c.args.goal.now
+    c.in-Ok.ensures.narrows (c.in-Ok.ensures.yes h.0 h.1)
+
+pub returns-in-Ok-clause-changes : goal.returns-in-Ok-clause-changes
+returns-in-Ok-clause-changes g c = λ e.
+    let a = c.in-Ok.ensures.answer in
+    inr (a.0, a.1.found, not-definite-changed a.0 (sym a.2.has_changed ∙ c.read.ensures.changes (ok-same e)))
+
+pub returns-in-Ok-clause-unsure : goal.returns-in-Ok-clause-unsure
+returns-in-Ok-clause-unsure g c = λ e.
+    let a = c.in-Ok.ensures.answer in
+    inr (a.0, a.1.found, not-definite-unsure a.0 (λ q. c.read.ensures.unsure (ok-same e) (a.2.certainty ∙ q)))
+
+pub returns-in-Err-Fault-clause-full : goal.returns-in-Err-Fault-clause-full
+returns-in-Err-Fault-clause-full g c = λ e.
+    let is : c.evaluate_root_goal.result ≡ Err (Root.Fault Full) = search rules in
+    runs-out-more (c.evaluate_root_goal.ensures.full is) (λ a r. r.found)

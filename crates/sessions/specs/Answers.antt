@@ -1,0 +1,52 @@
+-- What the solver answers to questions without unknowns by what a crate sees of a text.
+use Rattle.std.specs.Prelude.{◌≡◌, ◌≤◌, ◌⊎◌, ℕ, true, List, [], map, Option, None}
+use Rattle.model.specs.Answers.{SingleWay, is_bounded}
+use Rattle.model.specs.Proofs.{HasProof}
+use Rattle.model.specs.Terms.{erased_reference}
+use Rattle.model.specs.Worlds.{World, Reference}
+use Rattle.type_terms.specs.Terms.{Entry}
+use Rattle.infer_table.specs.Canonical.{GoalTrees, canonical_form}
+use Rattle.infer_table.specs.Responses.{AnswerTrees}
+use Rattle.infer_table.specs.declared.certainty.TypingMode.{TypingMode}
+use Rattle.infer_table.specs.declared.certainty.TypingMode.TheVariants.{Coherence, PostAnalysis}
+use Rattle.search_graph.specs.Plain.{IsPlain}
+use Rattle.evaluation.specs.Law.{IsYes}
+use Rattle.evaluation.specs.Tables.{frame_tables}
+use Rattle.goal_frames.specs.HandlerPrograms.{programs_of}
+use Rattle.goal_frames.specs.Programs.{Programs}
+use Rattle.goal_frames.specs.Searches.{Handles, Asked, meaning}
+use Rattle.declarations.specs.Items.{Items, written}
+use Rattle.assembly_laws.specs.Facts.{FollowsByView}
+use Rattle.candidate_assembly.specs.Fitting.{solving_of}
+use Rattle.candidate_assembly.specs.Solving.{Solving, solver_for, coinductive_for}
+use Rattle.solver_exactness.specs.SolverAnswers.{TellsPossible}
+use Rattle.sessions.specs.Fitting.{sorts_in}
+use Rattle.sessions.specs.Goals.{goal_of, IsFormedQuestion}
+
+-- the solver's goals as programs
+abbrev pub solver_goals : Programs frame_tables
+solver_goals = programs_of solver_for (λ s. FollowsByView s.view) coinductive_for
+
+-- the reference has a proof, and the answer is a definite yes; or it has none, and the answer is a refusal
+abbrev pub IsRightOf : World → List Reference → Reference → Option AnswerTrees → Type 0
+IsRightOf V E r a = (HasProof V E r × IsYes frame_tables a) ⊎ ((HasProof V E r → ⊥) × (a ≡ None))
+
+module _ {C I R F : Type 0} (handles : Handles C I R F Solving (Asked frame_tables solver_goals) (Option AnswerTrees)) where
+  -- plain recursion, in chains of fewer than `limit` questions, comes to no other answer
+  abbrev pub IsOnlyAnswer : Solving → TypingMode → ℕ → GoalTrees → Option AnswerTrees → Type 0
+  IsOnlyAnswer w mode limit g a = (b : Option AnswerTrees) → IsPlain (meaning frame_tables solver_goals handles) w limit (mode, canonical_form g) b → b ≡ a
+
+  -- Outside coherence, a question of which there is one way at most at each step, in chains of fewer than n, is answered rightly by the
+  -- declarations as they are written. It is meant up to lifetimes.
+  abbrev pub AreAnsweredRight : List Entry → Items → Type 0
+  AreAnsweredRight es d =
+      let V = written es d in
+      (E : List Reference) (r : Reference) → IsFormedQuestion V (sorts_in d) E r → (n limit : ℕ) → n ≤ limit → SingleWay n V (map erased_reference E) (erased_reference r)
+      → (a : Option AnswerTrees) → IsOnlyAnswer (solving_of es d) PostAnalysis limit (goal_of E r) a → IsRightOf V (map erased_reference E) (erased_reference r) a
+
+  -- in coherence, a bounded reference without where-clauses is refused exactly if it is not possible in the crate
+  abbrev pub AreToldPossible : List Entry → Items → Type 0
+  AreToldPossible es d =
+      let V = written es d in
+      (r : Reference) → IsFormedQuestion V (sorts_in d) [] r → (n limit : ℕ) → n ≤ limit → is_bounded n V d.local (erased_reference r) ≡ true
+      → (a : Option AnswerTrees) → IsOnlyAnswer (solving_of es d) Coherence limit (goal_of [] r) a → TellsPossible V d.local n (erased_reference r) a

@@ -1,0 +1,52 @@
+-- Questions of a text without variables, as they are asked.
+use Rattle.std.specs.Prelude.{◌≡◌, ℕ, true, List, [], map, Ok}
+use Rattle.std.specs.List.{list_all}
+use Rattle.model.specs.Proofs.{In}
+use Rattle.model.specs.Terms.{erased_reference}
+use Rattle.model.specs.Worlds.{World, Reference}
+use Rattle.type_terms.specs.Terms.{Entry}
+use Rattle.term_folds.specs.declared.predicate.TraitRef.{TraitRef}
+use Rattle.term_folds.specs.declared.predicate.Clause.{Clause}
+use Rattle.term_folds.specs.declared.predicate.Clause.TheVariants.{Trait}
+use Rattle.infer_table.specs.Goals.{goal_trees}
+use Rattle.infer_table.specs.declared.goal.Goal.{Goal}
+use Rattle.declarations.specs.Applied.{references_in}
+use Rattle.declarations.specs.Items.{Items, written, reference_in}
+use Rattle.text_definitions.specs.Declarations as text
+use Rattle.text_definitions.specs.Text.{TextGives}
+use Rattle.view_lowering.specs.Questions.{IsQuestion, IsLowered}
+use Rattle.view_lowering.specs.declared.question.LoweredQuestion.{LoweredQuestion}
+use Rattle.view_lowering.specs.Ready.{AreSeen}
+use Rattle.solver_exactness.specs.FormedFacts.{Sorts, FitsSorts}
+use Rattle.solver_exactness.specs.SolverChoices.{IsElaborated}
+use Rattle.sessions.specs.Fitting.{sorts_in}
+use Rattle.sessions.specs.Goals.{goal_of, are_fixed, IsFormedQuestion}
+
+-- Of open places placeholders alone stand in the references.
+abbrev pub AreFixedReferences : List Reference → Type 0
+AreFixedReferences E = list_all (λ (c : Reference). are_fixed c.args) E ≡ true
+
+-- A question as it is written, with where-clauses E: these are formed, and what it asks for is a formed question under all references
+-- that are elaborated, whose terms are made as those of E are.
+pub record IsFormedAsWritten (V : World) (sorts : Sorts) (E : List Reference) (r : Reference) : Type 0 where
+  pub clauses : AreFixedReferences E
+  pub fit : (c : Reference) → In c E → FitsSorts V sorts c
+  pub asked : (F : List Reference) → AreFixedReferences F → IsElaborated V (map erased_reference F) → IsFormedQuestion V sorts F r
+
+-- So are the terms that a question without variables is lowered to, by what the crate that asks sees of a text without a fault.
+abbrev pub TextsQuestionsAreFormed : Type 0
+TextsQuestionsAreFormed =
+    (bytes : List ℕ) (d : text.Declarations) → TextGives bytes (Ok d) → (n : ℕ) (q : text.Question) → IsQuestion d n q → q.variables ≡ []
+    → (es : List Entry) (decls : Items) → AreSeen es decls d q.asker → (held : List Entry) (l : LoweredQuestion) → IsLowered held q l
+    → IsFormedAsWritten (written es decls) (sorts_in decls) (references_in held l.clauses.items) (reference_in held l.asked)
+
+-- ---- the goal that asks it
+-- references as where-clauses
+abbrev pub where_clauses : List TraitRef → List Clause
+where_clauses rs = map (λ (r : TraitRef). Trait (record { trait_ref = r })) rs
+
+-- A goal that asks for a reference under references has the trees that these are together.
+abbrev pub ReferencesAreGoals : Type 0
+ReferencesAreGoals =
+    (es : List Entry) (g : Goal) (rs : List TraitRef) (r : TraitRef) → g.param_env.items ≡ where_clauses rs → g.predicate.trait_ref ≡ r
+    → goal_trees es g ≡ goal_of (references_in es rs) (reference_in es r)

@@ -1,0 +1,14 @@
+-- What a crate sees of a text is formed.
+use Rattle.std.specs.Prelude.{List}
+use Rattle.type_terms.specs.Terms.{Entry}
+use Rattle.declarations.specs.Items.{Items, written}
+use Rattle.view_lowering.specs.Ready.{OfTexts}
+use Rattle.solver_exactness.specs.FormedFacts.{IsFormedView}
+use Rattle.sessions.specs.Fitting.{sorts_in}
+
+-- the declarations are formed, with the sorts of their parameters: each name is declared, and has the arguments that it takes
+abbrev pub AreFormed : List Entry → Items → Type 0
+AreFormed es d = IsFormedView (written es d) (sorts_in d)
+
+abbrev pub TextsAreFormed : Type 0
+TextsAreFormed = OfTexts AreFormed

@@ -1,0 +1,75 @@
+//! One goal, asked alone.
+ghost use Rattle.std.specs.Prelude.{◌≡◌, ◌⊎◌, IsTrue, false, IfOk, Err};
+ghost use Rattle.type_terms.specs.Terms.{Keeps};
+ghost use Rattle.infer_table.specs.Content.{Ready};
+ghost use Rattle.declarations.specs.Held.{ReferenceHeld};
+ghost use Rattle.search_graph.specs.Cache.{AreJustified, AreConsistent, KeepsResults};
+ghost use Rattle.search_graph.specs.Meaning as Search;
+ghost use Rattle.root_goals.specs.Contexts.{IsReady};
+ghost use Rattle.root_goals.specs.Searching.{solver_meaning, IsFull};
+ghost use Rattle.sessions.specs.Impossible.{IsImpossible, IsLeftOpen, GoalRunsOut};
+
+use evaluation::TypingMode;
+use goal_frames::GoalHandler;
+use infer_table::goal::Goal;
+use infer_table::infer_ctxt::InferCtxt;
+use root_goals::{RootError, SolverCx, SolverGraph, evaluate_root_goal};
+use search_graph::{GlobalCache, SearchGraph};
+use term_folds::predicate::{TraitPredicate, TraitRef};
+use type_terms::Fault;
+
+/// Whether a reference is impossible: refused in coherence, asked alone over the table and without where-clauses.
+///
+/// Then it has no proof in any of the handler's worlds at any solution of the table. A conflict refuses nothing. The answer's values
+/// are taken back, so that the table is as before; the interner, the context's goals and answers and the cache may hold more.
+///
+/// `Memory` comes where memory is refused, `Full` only where a table of the context is at its limit, or this one has no numbers for
+/// the goal's form or for its answer.
+///
+/// `SolverDelegateEvalExt::root_goal_may_hold_with_depth` of `rustc_next_trait_solver` asks so, and answers with the opposite.
+pub fn is_impossible<H: GoalHandler>(
+    graph: &mut SearchGraph<SolverGraph<H>>,
+    cache: &mut GlobalCache<SolverGraph<H>>,
+    cx: &mut SolverCx<H>,
+    table: &mut InferCtxt,
+    trait_ref: TraitRef,
+) -> Result<bool, Fault>
+    requires empty { graph.old.current_depth ≡ 0 }
+    requires cache { AreJustified (solver_meaning H.handled H.Rule H.coinductive H.ready H.meaning) cx.old cache.old }
+    requires ready { IsReady H.ready cx.old }
+    requires table { Ready cx.old.interner.entries table.old }
+    requires held { ReferenceHeld cx.old.interner.entries trait_ref }
+
+    // After a fault too.
+    ensures empty { graph.new.current_depth ≡ 0 }
+    ensures depth { graph.new.root_depth ≡ graph.old.root_depth }
+    ensures cache { AreJustified (solver_meaning H.handled H.Rule H.coinductive H.ready H.meaning) cx.new cache.new }
+    ensures consistent { AreConsistent cache.old → AreConsistent cache.new }
+    ensures results { KeepsResults cache.old cache.new }
+    ensures ready { IsReady H.ready cx.new }
+    ensures keeps { Search.Keeps (solver_meaning H.handled H.Rule H.coinductive H.ready H.meaning) cx.old cx.new }
+    ensures entries { Keeps cx.old.interner.entries cx.new.interner.entries }
+    ensures same { table.new ≡ table.old }
+
+    // What is refused has no proof at any solution of the table.
+    ensures impossible { IfOk result (λ refused. IsTrue refused → IsImpossible H.handled H.meaning cx.old table.old trait_ref) }
+
+    // What is not has an answer of the search, or plain recursion has none within the depth.
+    ensures left_open { IfOk result (λ refused. refused ≡ false → IsLeftOpen H.handled H.Rule H.coinductive H.ready H.meaning cx.old graph.old table.old trait_ref) }
+    ensures full { result ≡ Err Fault.Full → IsFull H.handled H.Rule H.coinductive H.ready H.meaning cx.new
+        ⊎ GoalRunsOut H.handled H.Rule H.coinductive H.ready H.meaning cx.old graph.old table.old trait_ref }
+{
+    let goal = Goal {
+        param_env: Vec::new(cx.alloc),
+        predicate: TraitPredicate { trait_ref },
+    };
+    let place = table.snapshot();
+    let evaluated = evaluate_root_goal(graph, cache, cx, table, TypingMode::Coherence, &goal);
+    table.roll_back(place);
+    match evaluated {
+        Ok(_) => Ok(false),
+        Err(RootError::NoSolution) => Ok(true),
+        Err(RootError::Conflict) => Ok(false),
+        Err(RootError::Fault(fault)) => Err(fault),
+    }
+}

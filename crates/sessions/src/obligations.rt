@@ -1,0 +1,108 @@
+//! All goals of a pair, asked one after the other.
+ghost use Rattle.std.specs.Prelude.{◌≡◌, ◌⊎◌, IsTrue, false, IfOk, Err};
+ghost use Rattle.model.specs.Proofs.{In};
+ghost use Rattle.type_terms.specs.Terms.{Keeps};
+ghost use Rattle.term_folds.specs.declared.predicate.TraitRef.{TraitRef};
+ghost use Rattle.infer_table.specs.Content.{Ready};
+ghost use Rattle.declarations.specs.Applied.{AllHeld};
+ghost use Rattle.declarations.specs.Merges.{Each};
+ghost use Rattle.search_graph.specs.Cache.{AreJustified, AreConsistent, KeepsResults};
+ghost use Rattle.search_graph.specs.Meaning as Search;
+ghost use Rattle.root_goals.specs.Contexts.{IsReady};
+ghost use Rattle.root_goals.specs.Searching.{solver_meaning, IsFull};
+ghost use Rattle.sessions.specs.Impossible.{IsImpossible, IsLeftOpen, GoalRunsOut};
+
+use crate::impossible::is_impossible;
+use goal_frames::GoalHandler;
+use infer_table::infer_ctxt::InferCtxt;
+use overlap_check::intersection::ImplIntersection;
+use root_goals::{SolverCx, SolverGraph};
+use search_graph::{GlobalCache, SearchGraph};
+use term_folds::predicate::TraitRef;
+use type_terms::Fault;
+
+/// Whether one of the where-clauses of two impls is impossible where their headers are equal, each asked alone; so they do not overlap.
+///
+/// Those of the first impl are asked before those of the second one, and none after one that is impossible. What was found of the pair
+/// is as before; the interner, the context's goals and answers and the cache may hold more.
+///
+/// `Memory` comes where memory is refused, `Full` only where a table of the context is at its limit, or that of the pair has no numbers
+/// for a goal's form or for its answer.
+///
+/// `impl_intersection_has_impossible_obligation` of the original.
+pub fn has_impossible_obligation<H: GoalHandler>(
+    graph: &mut SearchGraph<SolverGraph<H>>,
+    cache: &mut GlobalCache<SolverGraph<H>>,
+    cx: &mut SolverCx<H>,
+    found: &mut ImplIntersection,
+) -> Result<bool, Fault>
+    requires empty { graph.old.current_depth ≡ 0 }
+    requires cache { AreJustified (solver_meaning H.handled H.Rule H.coinductive H.ready H.meaning) cx.old cache.old }
+    requires ready { IsReady H.ready cx.old }
+    requires table { Ready cx.old.interner.entries found.old.table }
+    requires left { AllHeld cx.old.interner.entries found.old.left.items }
+    requires right { AllHeld cx.old.interner.entries found.old.right.items }
+
+    // After a fault too.
+    ensures empty { graph.new.current_depth ≡ 0 }
+    ensures depth { graph.new.root_depth ≡ graph.old.root_depth }
+    ensures cache { AreJustified (solver_meaning H.handled H.Rule H.coinductive H.ready H.meaning) cx.new cache.new }
+    ensures consistent { AreConsistent cache.old → AreConsistent cache.new }
+    ensures results { KeepsResults cache.old cache.new }
+    ensures ready { IsReady H.ready cx.new }
+    ensures keeps { Search.Keeps (solver_meaning H.handled H.Rule H.coinductive H.ready H.meaning) cx.old cx.new }
+    ensures entries { Keeps cx.old.interner.entries cx.new.interner.entries }
+    ensures same { found.new ≡ found.old }
+
+    // If one is impossible, it has no proof at any solution of the table.
+    ensures impossible { IfOk result (λ refused. IsTrue refused
+        → (r : TraitRef) × (In r found.old.left.items ⊎ In r found.old.right.items) × IsImpossible H.handled H.meaning cx.old found.old.table r) }
+
+    // If none is, each has an answer of the search, or plain recursion has none within the depth.
+    ensures left_open { IfOk result (λ refused. refused ≡ false
+        → Each (IsLeftOpen H.handled H.Rule H.coinductive H.ready H.meaning cx.old graph.old found.old.table) found.old.left.items
+        × Each (IsLeftOpen H.handled H.Rule H.coinductive H.ready H.meaning cx.old graph.old found.old.table) found.old.right.items) }
+    ensures full { result ≡ Err Fault.Full → IsFull H.handled H.Rule H.coinductive H.ready H.meaning cx.new
+        ⊎ ((r : TraitRef) × (In r found.old.left.items ⊎ In r found.old.right.items) × GoalRunsOut H.handled H.Rule H.coinductive H.ready H.meaning cx.old graph.old found.old.table r) }
+{
+    if some_is_impossible(graph, cache, cx, &mut found.table, &found.left)? {
+        return Ok(true);
+    }
+    some_is_impossible(graph, cache, cx, &mut found.table, &found.right)
+}
+
+/// Whether one of the references is impossible, each asked alone over the table.
+fn some_is_impossible<H: GoalHandler>(
+    graph: &mut SearchGraph<SolverGraph<H>>,
+    cache: &mut GlobalCache<SolverGraph<H>>,
+    cx: &mut SolverCx<H>,
+    table: &mut InferCtxt,
+    references: &[TraitRef],
+) -> Result<bool, Fault>
+    requires empty { graph.old.current_depth ≡ 0 }
+    requires cache { AreJustified (solver_meaning H.handled H.Rule H.coinductive H.ready H.meaning) cx.old cache.old }
+    requires ready { IsReady H.ready cx.old }
+    requires table { Ready cx.old.interner.entries table.old }
+    requires held { AllHeld cx.old.interner.entries references.now }
+    ensures empty { graph.new.current_depth ≡ 0 }
+    ensures depth { graph.new.root_depth ≡ graph.old.root_depth }
+    ensures cache { AreJustified (solver_meaning H.handled H.Rule H.coinductive H.ready H.meaning) cx.new cache.new }
+    ensures consistent { AreConsistent cache.old → AreConsistent cache.new }
+    ensures results { KeepsResults cache.old cache.new }
+    ensures ready { IsReady H.ready cx.new }
+    ensures keeps { Search.Keeps (solver_meaning H.handled H.Rule H.coinductive H.ready H.meaning) cx.old cx.new }
+    ensures entries { Keeps cx.old.interner.entries cx.new.interner.entries }
+    ensures same { table.new ≡ table.old }
+    ensures impossible { IfOk result (λ refused. IsTrue refused → (r : TraitRef) × In r references.now × IsImpossible H.handled H.meaning cx.old table.old r) }
+    ensures left_open { IfOk result (λ refused. refused ≡ false
+        → Each (IsLeftOpen H.handled H.Rule H.coinductive H.ready H.meaning cx.old graph.old table.old) references.now) }
+    ensures full { result ≡ Err Fault.Full → IsFull H.handled H.Rule H.coinductive H.ready H.meaning cx.new
+        ⊎ ((r : TraitRef) × In r references.now × GoalRunsOut H.handled H.Rule H.coinductive H.ready H.meaning cx.old graph.old table.old r) }
+{
+    'references: for trait_ref in references {
+        if is_impossible(graph, cache, cx, table, *trait_ref)? {
+            return Ok(true);
+        }
+    }
+    Ok(false)
+}

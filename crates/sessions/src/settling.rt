@@ -1,0 +1,145 @@
+//! A goal, asked until its answer is settled.
+
+ghost use Rattle.std.specs.Prelude.{◌≡◌, ◌⊎◌, Ok, Err};
+ghost use Rattle.root_goals.specs.Searching.{IsFull};
+ghost use Rattle.sessions.specs.Settling.{IsAskable, HasAsked, IsProvedBy, IsRefused, IsUnsettled, RunsOut, SomeAskingRunsOut};
+
+use evaluation::{Certainty, HasChanged, TypingMode};
+use goal_frames::GoalHandler;
+use infer_table::goal::Goal;
+use infer_table::infer_ctxt::InferCtxt;
+use root_goals::{RootError, SolverCx, SolverGraph, evaluate_root_goal};
+use search_graph::{GlobalCache, SearchGraph};
+use type_terms::Fault;
+
+/// How often a goal is asked at most: values of an answer may make the next one definite.
+pub const MAX_ASKINGS: u32 = 8;
+
+/// What is known of a question's goal once its answer is settled.
+#[derive(Clone, Copy, Debug)]
+pub enum Outcome {
+    /// It has a proof, with the values that the table has.
+    Proved,
+    /// It was refused when it was asked first.
+    Unproved,
+    /// Neither is known.
+    Maybe,
+}
+
+/// What one asking comes to.
+#[derive(Clone, Copy, Debug)]
+enum Asking {
+    /// A yes that changes nothing.
+    Holds,
+    /// A yes with values.
+    Changes,
+    /// It is not known whether there is a solution.
+    IsUnsure,
+    /// There is no solution.
+    IsRefused,
+}
+
+/// What an evaluation with this certainty comes to.
+fn read(certainty: Certainty, has_changed: HasChanged) -> Asking
+    ensures holds { result ≡ Asking.Holds → (certainty ≡ Certainty.Yes) × (has_changed ≡ HasChanged.No) }
+    ensures changes { result ≡ Asking.Changes → has_changed ≡ HasChanged.Yes }
+    ensures unsure { result ≡ Asking.IsUnsure → certainty ≡ Certainty.Yes → ⊥ }
+    ensures not_refused { result ≡ Asking.IsRefused → ⊥ }
+{
+    match (certainty, has_changed) {
+        (Certainty::Yes, HasChanged::No) => Asking::Holds,
+        (Certainty::Yes, HasChanged::Yes) => Asking::Changes,
+        (Certainty::Maybe(_), _) => Asking::IsUnsure,
+    }
+}
+
+/// Asks the goal once, outside coherence. The answer's values stay in the table.
+fn ask_once<H: GoalHandler>(
+    graph: &mut SearchGraph<SolverGraph<H>>,
+    cache: &mut GlobalCache<SolverGraph<H>>,
+    cx: &mut SolverCx<H>,
+    table: &mut InferCtxt,
+    goal: &Goal,
+) -> Result<Asking, Fault>
+    requires { IsAskable H.handled H.Rule H.coinductive H.ready H.meaning graph.old cache.old cx.old table.old goal.now }
+    ensures again { IsAskable H.handled H.Rule H.coinductive H.ready H.meaning graph.new cache.new cx.new table.new goal.now }
+    ensures asked { HasAsked H.handled H.Rule H.coinductive H.ready H.meaning graph.old cache.old cx.old table.old graph.new cache.new cx.new table.new }
+    ensures holds { result ≡ Ok Asking.Holds
+        → IsProvedBy H.handled H.Rule H.coinductive H.ready H.meaning (H.meaning cx.old.handler cx.old.interner.entries) cx.old table.old cx.new table.new goal.now }
+    ensures changes { result ≡ Ok Asking.Changes → IsUnsettled H.handled H.Rule H.coinductive H.ready H.meaning cx.old graph.old table.old goal.now }
+    ensures unsure { result ≡ Ok Asking.IsUnsure → IsUnsettled H.handled H.Rule H.coinductive H.ready H.meaning cx.old graph.old table.old goal.now }
+    ensures refused { result ≡ Ok Asking.IsRefused → IsRefused H.handled H.Rule H.coinductive H.ready H.meaning cx.old graph.old table.old goal.now }
+    ensures full { result ≡ Err Fault.Full → IsFull H.handled H.Rule H.coinductive H.ready H.meaning cx.new
+        ⊎ RunsOut H.handled H.Rule H.coinductive H.ready H.meaning cx.old graph.old table.old goal.now }
+{
+    match evaluate_root_goal(graph, cache, cx, table, TypingMode::PostAnalysis, goal) {
+        Ok(evaluation) => Ok(read(evaluation.certainty, evaluation.has_changed)),
+        Err(RootError::NoSolution) => Ok(Asking::IsRefused),
+        Err(RootError::Conflict) => Ok(Asking::IsUnsure),
+        Err(RootError::Fault(fault)) => Err(fault),
+    }
+}
+
+/// Asks a goal again whose last answer had values, as often as is left. What is refused now is not known to have no proof: the values
+/// need not be forced.
+fn ask_again<H: GoalHandler>(
+    graph: &mut SearchGraph<SolverGraph<H>>,
+    cache: &mut GlobalCache<SolverGraph<H>>,
+    cx: &mut SolverCx<H>,
+    table: &mut InferCtxt,
+    goal: &Goal,
+) -> Result<Outcome, Fault>
+    requires { IsAskable H.handled H.Rule H.coinductive H.ready H.meaning graph.old cache.old cx.old table.old goal.now }
+    ensures again { IsAskable H.handled H.Rule H.coinductive H.ready H.meaning graph.new cache.new cx.new table.new goal.now }
+    ensures asked { HasAsked H.handled H.Rule H.coinductive H.ready H.meaning graph.old cache.old cx.old table.old graph.new cache.new cx.new table.new }
+    ensures proved { result ≡ Ok Outcome.Proved
+        → IsProvedBy H.handled H.Rule H.coinductive H.ready H.meaning (H.meaning cx.old.handler cx.old.interner.entries) cx.old table.old cx.new table.new goal.now }
+    ensures not_unproved { result ≡ Ok Outcome.Unproved → ⊥ }
+    ensures full { result ≡ Err Fault.Full → IsFull H.handled H.Rule H.coinductive H.ready H.meaning cx.new
+        ⊎ SomeAskingRunsOut H.handled H.Rule H.coinductive H.ready H.meaning graph.old cache.old cx.old table.old goal.now }
+{
+    for _ in 1..MAX_ASKINGS {
+        match ask_once(graph, cache, cx, table, goal)? {
+            Asking::Holds => return Ok(Outcome::Proved),
+            Asking::Changes => {}
+            Asking::IsUnsure | Asking::IsRefused => return Ok(Outcome::Maybe),
+        }
+    }
+    Ok(Outcome::Maybe)
+}
+
+/// Asks a question's goal over one table until its answer is settled: a yes with values is asked again, at most eight times in all.
+///
+/// The answers' values stay in the table. `Proved` comes with the first yes that changes nothing: then the goal has a proof at each
+/// solution of the table, if neither it nor the table held canonical variables. `Unproved` comes where the first asking is refused, and
+/// `Maybe` with an answer that is not sure, with a refusal after values, with a conflict, and after eight answers with values. Where it
+/// comes, the first answer was no definite yes, or plain recursion has none within the depth.
+///
+/// `Memory` comes where memory is refused, `Full` only where a table of the context is at its limit, or this one has no numbers for the
+/// goal's form or for its answer. Whatever comes, the goal can be asked again, and each solution of the table is one that it had before.
+///
+/// `evaluate_root_goal` in the loop of `rustc_trait_selection`'s `FulfillmentCtxt`, for one goal.
+pub fn ask_until_settled<H: GoalHandler>(
+    graph: &mut SearchGraph<SolverGraph<H>>,
+    cache: &mut GlobalCache<SolverGraph<H>>,
+    cx: &mut SolverCx<H>,
+    table: &mut InferCtxt,
+    goal: &Goal,
+) -> Result<Outcome, Fault>
+    requires { IsAskable H.handled H.Rule H.coinductive H.ready H.meaning graph.old cache.old cx.old table.old goal.now }
+    ensures again { IsAskable H.handled H.Rule H.coinductive H.ready H.meaning graph.new cache.new cx.new table.new goal.now }
+    ensures asked { HasAsked H.handled H.Rule H.coinductive H.ready H.meaning graph.old cache.old cx.old table.old graph.new cache.new cx.new table.new }
+    ensures proved { result ≡ Ok Outcome.Proved
+        → IsProvedBy H.handled H.Rule H.coinductive H.ready H.meaning (H.meaning cx.old.handler cx.old.interner.entries) cx.old table.old cx.new table.new goal.now }
+    ensures unproved { result ≡ Ok Outcome.Unproved → IsRefused H.handled H.Rule H.coinductive H.ready H.meaning cx.old graph.old table.old goal.now }
+    ensures maybe { result ≡ Ok Outcome.Maybe → IsUnsettled H.handled H.Rule H.coinductive H.ready H.meaning cx.old graph.old table.old goal.now }
+    ensures full { result ≡ Err Fault.Full → IsFull H.handled H.Rule H.coinductive H.ready H.meaning cx.new
+        ⊎ SomeAskingRunsOut H.handled H.Rule H.coinductive H.ready H.meaning graph.old cache.old cx.old table.old goal.now }
+{
+    match ask_once(graph, cache, cx, table, goal)? {
+        Asking::Holds => Ok(Outcome::Proved),
+        Asking::IsRefused => Ok(Outcome::Unproved),
+        Asking::IsUnsure => Ok(Outcome::Maybe),
+        Asking::Changes => ask_again(graph, cache, cx, table, goal),
+    }
+}

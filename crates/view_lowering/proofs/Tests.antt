@@ -1,0 +1,41 @@
+-- Items of a text that are declared well once they are plain.
+use Rattle.std.specs.Prelude.{ℕ, suc, Bool, true, ◌&&◌, ◌==◌, not, List, [], ◌∷◌, length, nat_lt}
+use Rattle.std.specs.List.{list_all}
+use Rattle.model.specs.Label.{Sort, of_type, of_const, of_lifetime}
+use Rattle.model.specs.Trees.{Trees, some_node}
+use Rattle.model.specs.Worlds.{Reference}
+use Rattle.type_terms.specs.Made.{terms, is_made}
+use Rattle.text_definitions.specs.Declarations.{Declarations, NamedStruct, NamedTrait, NamedImpl}
+use Rattle.assembly_laws.specs.Candidates.{is_param}
+use Rattle.assembly_laws.specs.Declared.{is_declared}
+use Rattle.assembly_laws.specs.DeclaredWell.{is_single}
+use Rattle.view_lowering.specs.Plain.{plain, all_kept, none_kept, stands_in}
+use Rattle.view_lowering.specs.Seen.{param_sorts}
+use Rattle.view_lowering.proofs.Sorts.{is_bad}
+
+-- the trees are made as declarations are, of parameters of these sorts
+abbrev pub is_good : (ℕ → Bool) → List Sort → Trees → Bool
+is_good kept sorts t = is_made is_declared terms (plain kept t) && not (some_node (is_bad sorts) (plain kept t))
+
+abbrev pub is_good_struct : NamedStruct → Bool
+is_good_struct x = list_all (λ t. is_good all_kept x.kinds t && is_single t) x.item.fields
+
+-- the bounds' traits are declared before
+abbrev pub is_good_trait : NamedTrait → Bool
+is_good_trait x = list_all (λ (b : Reference). is_good none_kept (of_type ∷ x.kinds) b.args && nat_lt b.trait x.item.name) x.item.bounds
+
+-- each type and const parameter from number i on stands there
+abbrev pub all_stand : Trees → ℕ → List Sort → Bool
+all_stand t i [] = true
+all_stand t i (of_lifetime ∷ ss) = all_stand t (suc i) ss
+all_stand t i (of_type ∷ ss) = some_node (is_param of_type i) t && all_stand t (suc i) ss
+all_stand t i (of_const ∷ ss) = some_node (is_param of_const i) t && all_stand t (suc i) ss
+
+abbrev pub is_good_impl : NamedImpl → Bool
+is_good_impl x =
+    is_good all_kept (param_sorts x) x.item.header.args
+    && ((x.item.params == length (param_sorts x))
+    && (all_stand x.item.header.args 0 (param_sorts x) && list_all (λ (c : Reference). is_good (stands_in x.item.header.args) (param_sorts x) c.args) x.item.clauses))
+
+abbrev pub are_good : Declarations → Bool
+are_good d = list_all is_good_struct d.structs && (list_all is_good_trait d.traits && list_all is_good_impl d.impls)
