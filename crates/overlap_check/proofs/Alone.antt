@@ -1,10 +1,10 @@
 -- A `no` beside a proof by the view alone.
-use Rattle.std.proofs.Common.{◌≡◌, ℕ, true, List, [], ◌∷◌, ◌++◌, map, filter, refl, ap, sym, ◌∙◌, subst, ◌⊎◌, inl, inr, ◌==◌}
+use Rattle.std.proofs.Common.{◌≡◌, ℕ, true, List, [], ◌∷◌, ◌++◌, filter, refl, ap, sym, ◌∙◌, subst, ◌⊎◌, inl, inr, ◌==◌}
 use Rattle.model.specs.Label.{of_type, bool, adt, tuple, infer}
 use Rattle.model.specs.Trees.{Trees, none, tree, leaf, ◌+++◌, arguments, instantiate}
 use Rattle.model.specs.Worlds.{World, ImplDecl, Reference, view_of}
 use Rattle.model.specs.Rules.{Rule, rules, impl_rules, built_in_rules, clause_rules, strict_supertraits, by_impl, fn_once, asked}
-use Rattle.model.specs.Proofs.{Entry, In, Every, HasProof}
+use Rattle.model.specs.Proofs.{In, Every, HasProof}
 use Rattle.model.specs.Elaborated.{HasElaboratedProof}
 use Rattle.model.specs.Renumbering.{Renumbering, View, HoldsView, renumbered_reference, renumbered_rule, asker_in_set}
 use Rattle.model.specs.LinkedSet.{LinkedSet, Unknown}

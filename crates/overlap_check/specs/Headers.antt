@@ -3,7 +3,7 @@ use Rattle.std.specs.Prelude.{◌≡◌, zero, false, List, [], map, Some, ◌�
 use Rattle.model.specs.Label.{Sort}
 use Rattle.model.specs.Trees.{Trees, erase, instantiate, some_node}
 use Rattle.model.specs.Terms.{erased_impl}
-use Rattle.model.specs.Worlds.{Reference, with_args}
+use Rattle.model.specs.Worlds.{Reference, with_args, all_with_args}
 use Rattle.model.specs.Answers.{CommonInstance, is_variable}
 use Rattle.type_terms.specs.Terms.{Entry, Has, args_lists, trees_at}
 use Rattle.type_terms.specs.declared.ImplId.{ImplId}
@@ -112,6 +112,13 @@ pub record IsIntersection (old : List Entry) (w x : ImplDef) (new : List Entry) 
   pub right_held : AllHeld new found.right.items
   pub goals : (i j : ImplId) → HasGoals (erased_impl (impl_in old i w)) (erased_impl (impl_in old j x)) (unknown_kinds found.table)
       (goals_over new found.table found.left.items) (goals_over new found.table found.right.items)
+
+-- The table is what making the headers equal leaves, and what is to be asked are the where-clauses, with its unknowns in the place of
+-- parameters.
+pub record IsSolved (old : List Entry) (w x : ImplDef) (new : List Entry) (found : ImplIntersection) : Type 0 where
+  pub table : solved_in_turn (table_trees new (pair_table w x)) (left_args old w) (right_args old w x) ≡ Some (table_trees new found.table)
+  pub left : references_in new found.left.items ≡ all_with_args (unknowns_for empty_table w) (references_in old w.clauses.items)
+  pub right : references_in new found.right.items ≡ all_with_args (unknowns_for (with_unknowns_for empty_table w) x) (references_in old x.clauses.items)
 
 -- ---- what is left to ask speaks of the table's own unknowns
 -- No unknown and no canonical variable stands in the impl's terms, of lifetimes neither.

@@ -10,3 +10,4 @@ pub mod Laws
 pub mod Written
 pub mod Orphans
 pub mod Partners
+pub mod Heads

@@ -1,7 +1,7 @@
 -- What follows from the promises, and what the promises follow from. Each law stands on the contract of a function of its name.
-use Rattle.std.specs.Prelude.{◌≡◌, ℕ, Bool, true, false, IsTrue, List, [], ◌∷◌, ◌++◌, ◌⊎◌}
+use Rattle.std.specs.Prelude.{◌≡◌, ℕ, true, false, IsTrue, List, [], ◌++◌, ◌⊎◌}
 use Rattle.model.specs.Label.{Sort}
-use Rattle.model.specs.Trees.{Trees, none, tree, some_node}
+use Rattle.model.specs.Trees.{Trees, some_node}
 use Rattle.model.specs.Worlds.{World, Reference, ImplDecl, sees, with_args}
 use Rattle.model.specs.Proofs.{In, Every, HasProof, HasProofByImpl}
 use Rattle.model.specs.Answers.{is_closed, is_bounded, is_possible, CommonInstance, FixedLeft, FixedRight, IsDecided, is_variable}

@@ -6,7 +6,7 @@ ghost use Rattle.term_folds.specs.Failures.{SomeKindIsFull};
 ghost use Rattle.infer_table.specs.Content.{Table};
 ghost use Rattle.declarations.specs.Applied.{references_in, AllHeld};
 ghost use Rattle.declarations.specs.Held.{ImplHeld};
-ghost use Rattle.overlap_check.specs.Headers.{AreApart, AreEqualHeaders, IsIntersection, IsPosed, IsUnknownsFor, IsWithoutVariables, PairRunsOut, empty_table};
+ghost use Rattle.overlap_check.specs.Headers.{AreApart, AreEqualHeaders, IsIntersection, IsPosed, IsSolved, IsUnknownsFor, IsWithoutVariables, PairRunsOut, empty_table};
 ghost use Rattle.overlap_check.specs.Written.{IsWrittenWell};
 
 use crate::equate::equate_impl_headers;
@@ -57,6 +57,9 @@ pub fn impl_intersection(
 
     // With one they have, and what is to be asked are the goals of the pair.
     ensures found { IfOk result (λ found. IfSome found (IsIntersection cx.old.entries left.now right.now cx.new.entries)) }
+
+    // These are their where-clauses, over the table that making the headers equal leaves.
+    ensures solved { IfOk result (λ found. IfSome found (IsSolved cx.old.entries left.now right.now cx.new.entries)) }
 
     // Where the impls speak of no unknowns, the goals speak of the table's own.
     ensures posed { IsWithoutVariables cx.old.entries left.now → IsWithoutVariables cx.old.entries right.now → IfOk result (λ found. IfSome found (IsPosed cx.new.entries)) }

@@ -8,6 +8,7 @@
 pub mod equate;
 pub mod fresh;
 pub mod header;
+pub mod heads;
 pub mod intersection;
 pub mod laws;
 pub mod orphans;

@@ -1,17 +1,19 @@
-use Rattle.std.proofs.Common.{ap, sym, ◌∙◌, subst, inl, map, Ok, Err}
+use Rattle.std.proofs.Common.{ap, refl, sym, ◌∙◌, subst, inl, map, Ok, Err, Some}
 use Rattle.std.specs.Prelude.{IfSome}
 use Rattle.model.specs.Terms.{erased_impl}
 use Rattle.model.specs.Worlds.{all_with_args}
 use Rattle.infer_table.specs.Content.{content}
 use Rattle.infer_table.specs.Kept.{ready-later}
+use Rattle.infer_table.specs.Applied.{solved_in_turn}
 use Rattle.infer_table.proofs.FullFacts.{handed-on}
+use Rattle.infer_table.proofs.InTurn.{same-trees}
 use Rattle.declarations.specs.Applied.{references_in}
 use Rattle.declarations.specs.Items.{impl_in}
 use Rattle.declarations.proofs.Bounded.{all-same}
 use Rattle.overlap_check.specs.Goals.{HasGoals, unknown_kinds, goal_of}
-use Rattle.overlap_check.specs.Headers.{AreEqualHeaders, unknowns_for, empty_table, with_unknowns_for, goals_over}
+use Rattle.overlap_check.specs.Headers.{AreEqualHeaders, unknowns_for, empty_table, with_unknowns_for, left_args, right_args, goals_over}
 use Rattle.overlap_check.specs.declared.header.ImplHeader.{ImplHeader}
-use Rattle.overlap_check.proofs.Headers.{impl-later, well-later, pair-goals, asked-are, same-entries}
+use Rattle.overlap_check.proofs.Headers.{impl-later, well-later, pair-goals, pair-trees, asked-are, same-entries}
 use Rattle.overlap_check.proofs.Posed.{table-known, left-of-table, right-of-table}
 use Rattle.overlap_check.proofs.intersection.impl_intersection.Goals as goal
 
@@ -88,4 +90,24 @@ returns-clause-posed c = λ vw vx.
       table = table-known es w x vw vx three new c.lawful-2.ensures u h.0 h.1 equal k2;
       left = left-of-table es w x vw vx three new c.lawful-2.ensures u h.0 h.1 equal k2 c.in_ok-left.left.items left;
       right = right-of-table es w x vw vx three new c.lawful-2.ensures u h.0 h.1 equal k2 c.in_ok-left.right.items right;
+    }
+
+pub returns-clause-solved : goal.returns-clause-solved
+returns-clause-solved c =
+    let es = c.args.cx.now.entries in
+    let three = c.equate_fresh_headers.new.cx.entries in
+    let new = c.instantiate_both.new.cx.entries in
+    let w = c.args.left.now in
+    let x = c.args.right.now in
+    let u = c.equate_fresh_headers.new.table in
+    let h = c.in-Some.headers in
+    let k1 = c.equate_fresh_headers.ensures.keeps in
+    let k2 = c.instantiate_both.ensures.keeps in
+    let equal : AreEqualHeaders es w x three u h.0 h.1 = subst (λ o. IfSome o (λ (p : ImplHeader × ImplHeader). AreEqualHeaders es w x three u p.0 p.1)) c.in-Some.is c.in_ok-headers.ensures.equal in
+    let I = unknowns_for empty_table w in
+    let J = unknowns_for (with_unknowns_for empty_table w) x in
+    record {
+      table = ap (λ t. solved_in_turn t (left_args es w) (right_args es w x)) (pair-trees w x new three) ∙ equal.exact ∙ ap Some (sym (same-trees three new k2 u u equal.ready refl refl));
+      left = c.in_ok-left.ensures.left ∙ ap (λ A. all_with_args A (references_in three w.clauses.items)) equal.left_unknowns.are ∙ ap (all_with_args I) (all-same es three k1 w.clauses.items c.requires.left_held.clauses);
+      right = c.in_ok-left.ensures.right ∙ ap (λ A. all_with_args A (references_in three x.clauses.items)) equal.right_unknowns.are ∙ ap (all_with_args J) (all-same es three k1 x.clauses.items c.requires.right_held.clauses);
     }
