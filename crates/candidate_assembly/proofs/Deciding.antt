@@ -61,7 +61,7 @@ module _ (es : List Entry) (d : Items) (g : CanonicalInput) where
   abbrev clauses : Bool
   clauses = are_clauses g.variables.items (environment_trees es g.goal.param_env.items)
 
-  abbrev tests : Bool
+  abbrev pub tests : Bool
   tests = written_in V own && (is_made (is_variable_over g.variables.items) terms T && (types && clauses))
 
   abbrev over : Bool
@@ -73,7 +73,7 @@ module _ (es : List Entry) (d : Items) (g : CanonicalInput) where
   pub all-over : written_in V own ≡ true → over ≡ true → types ≡ true → (r : Bool) → r ≡ clauses → r ≡ tests
   all-over e h k r q = q ∙ sym (ap (λ z. z && (over && (types && clauses))) e ∙ ap (λ z. z && (types && clauses)) h ∙ ap (λ z. z && clauses) k)
 
-  asked-tests : asked V f ≡ asked_if tests a
+  pub asked-tests : asked V f ≡ asked_if tests a
   asked-tests = ap (asked_with V (environment_trees es g.goal.param_env.items) (predicate_trees es g.goal.predicate)) (all-known g.variables.items)
 
   asked-if : (b : Bool) → asked_if b a ≡ (if b then Some a else None)

@@ -32,10 +32,10 @@ use Rattle.candidate_assembly.proofs.SourcesOf.{clause-impl, built-impl, bound-i
 use Rattle.candidate_assembly.proofs.Histories.{Plans, ends-answer, histories-tell}
 use Rattle.candidate_assembly.proofs.InOrder.{goes-on, begins}
 
-some-is : (x y : Candidate) → Some x ≡ Some y → x ≡ y
+pub some-is : (x y : Candidate) → Some x ≡ Some y → x ≡ y
 some-is x y e = cc
 
-none-is : (x : Candidate) → ◌≡◌ {A = Option Candidate} None (Some x) → ⊥
+pub none-is : (x : Candidate) → ◌≡◌ {A = Option Candidate} None (Some x) → ⊥
 none-is x e = cc
 
 at-every : (P : Candidate → Type 0) (xs : List Candidate) (n : ℕ) (x : Candidate) → Every P xs → slice_get xs n ≡ Some x → P x
@@ -44,7 +44,7 @@ at-every P (y ∷ xs) zero x h e = subst P (some-is y x e) h.0
 at-every P (y ∷ xs) (suc n) x h e = at-every P xs n x h.1 e
 
 -- ---- what is by no impl
-abbrev NoImpl : Option Candidate → Type 0
+abbrev pub NoImpl : Option Candidate → Type 0
 NoImpl o = (s : Candidate) → o ≡ Some s → is_impl s.source ≡ false
 
 neither : (o q : Option Candidate) → NoImpl o → NoImpl q → NoImpl (or_else o q)
@@ -61,7 +61,7 @@ module _ (m : Meaning) (a : Asked) (tell : sources_tell a ≡ true) where
   abbrev V : World
   V = m.view
 
-  no-early : (seen : Past) → NoImpl (early V a seen)
+  pub no-early : (seen : Past) → NoImpl (early V a seen)
   no-early seen =
       neither (slice_get (by_clauses V a (clauses a)) (considered_from is_clause seen)) (slice_get (built_in V a) (considered_from (is_built_in (misc_is_bound a)) seen))
       (λ s e. clause-impl s.source (at-every (λ (c : Candidate). is_clause c.source ≡ true) (by_clauses V a (clauses a)) (considered_from is_clause seen) s (clauses-are V a (clauses a)) e))
@@ -90,7 +90,7 @@ module _ (m : Meaning) (a : Asked) (tell : sources_tell a ≡ true) where
       by false g = by-impl (early V a seen) (next_impl seen) (next_bound seen) (no-early seen) (no-bound seen) s g t
 
 -- ---- along histories
-considered-is : (o : Option Candidate) (end : Plans) → Answers frame_tables end → (s : Candidate) → or_end o end ≡ consider s → o ≡ Some s
+pub considered-is : (o : Option Candidate) (end : Plans) → Answers frame_tables end → (s : Candidate) → or_end o end ≡ consider s → o ≡ Some s
 considered-is None end h s e =
     let bad = sym (ap (wanted frame_tables) h.is) ∙ e in
     absurd cc

@@ -26,3 +26,4 @@ pub mod Settled
 pub mod DecidedGoals
 pub mod TraitGoals
 pub mod Dyns
+pub mod BehindImpls

@@ -134,7 +134,7 @@ environment-over es kinds own (c ∷ cs) h = label-over c es kinds own cs (goal-
         by (TypeOutlives a b) q = (left (is_made (is_variable_over kinds) terms (clause_terms es (TypeOutlives a b))) (are_clauses kinds (environment_trees es cs)) q, right (is_made (is_variable_over kinds) terms (clause_terms es (TypeOutlives a b))) (are_clauses kinds (environment_trees es cs)) q)
 
 -- a goal that is decided is asked
-was-asked : (n : Meaning) (o : Option Asked) (a : Asked) → decided n o ≡ Some a → o ≡ Some a
+pub was-asked : (n : Meaning) (o : Option Asked) (a : Asked) → decided n o ≡ Some a → o ≡ Some a
 was-asked n None a e = e
 was-asked n (Some x) a e = by (not n.is_sound || begins_unknown x.kinds (self_of x)) e
   where

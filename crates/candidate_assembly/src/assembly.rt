@@ -1,6 +1,6 @@
 //! How the candidates of a goal are assembled: one after the other, each told by those that were considered.
 
-ghost use Rattle.std.specs.Prelude.{◌≡◌, ◌==◌, ◌⊎◌, ℕ, None, true, length, map, IfOk, IfSome, Err, option_map};
+ghost use Rattle.std.specs.Prelude.{◌≡◌, ◌==◌, ◌⊎◌, ℕ, None, true, false, length, map, IfOk, IfSome, Err, option_map};
 ghost use Rattle.std.specs.List.{slice_get};
 ghost use Rattle.model.specs.Worlds.{World};
 ghost use Rattle.model.specs.Rules.{unsize};
@@ -17,7 +17,7 @@ ghost use Rattle.assembly_laws.specs.Asking.{clauses, self_of};
 ghost use Rattle.assembly_laws.specs.Candidates.{by_clauses, built_in, by_impls};
 ghost use Rattle.assembly_laws.specs.Solver.{is_clause};
 ghost use Rattle.built_in_candidates.specs.Constituents.{CanBeConsidered};
-ghost use Rattle.candidate_assembly.specs.Counted.{is_of, count_from, last_from, ForEachPast};
+ghost use Rattle.candidate_assembly.specs.Counted.{is_of, count_from, last_from, ends_by_impl, ForEachPast};
 ghost use Rattle.built_in_candidates.specs.Goals.{asked_of, candidate_of};
 ghost use Rattle.candidate_assembly.specs.Headers.{HaveCandidates, HasTooMany, impls_above};
 ghost use Rattle.built_in_candidates.specs.Objects.{ObjectIsApplied};
@@ -87,20 +87,31 @@ pub(crate) fn considered_from(done: &[Considered], section: Section, misc_is_bou
     count
 }
 
-/// The impl that was considered last, if one was.
+/// The impl that was considered last, if one was. It is looked for from the newest candidate on, so it is found at once where it is
+/// the newest.
 fn last_impl(done: &[Considered]) -> Option<ImplId>
     ensures { result ≡ last_from None done.now }
 {
-    let mut last = None;
-    'done: for considered in done {
-        match considered.source {
-            CandidateSource::Impl(id) => last = Some(id),
-            CandidateSource::BuiltinImpl(_) => {}
-            CandidateSource::ParamEnv(_) => {}
-            CandidateSource::CoherenceUnknowable => {}
+    let mut left = done;
+    'done: while let Some((newest, before)) = left.split_last() {
+        match newest.source {
+            CandidateSource::Impl(id) => return Some(id),
+            CandidateSource::BuiltinImpl(_)
+            | CandidateSource::ParamEnv(_)
+            | CandidateSource::CoherenceUnknowable => left = before,
         }
     }
-    last
+    None
+}
+
+/// Whether the candidate that was considered last of all is by an impl. It looks at no other.
+pub(crate) fn ends_by_impl(done: &[Considered]) -> bool
+    ensures { result ≡ ends_by_impl false done.now }
+{
+    match done.split_last() {
+        Some((newest, _)) => Section::Impls.has(newest.source, false),
+        None => false,
+    }
 }
 
 /// The candidate by the where-clause of the goal's trait that is next after these candidates were considered, if one is left

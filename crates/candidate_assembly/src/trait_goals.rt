@@ -23,7 +23,7 @@ ghost use Rattle.candidate_assembly.specs.Sections.{is_unknowable, is_bound, is_
 
 use crate::assembly::{
     Section, assemble_builtin_impl_candidates, assemble_impl_candidates,
-    assemble_param_env_candidates, considered_from, misc_is_bound,
+    assemble_param_env_candidates, considered_from, ends_by_impl, misc_is_bound,
 };
 use crate::decided::is_decided;
 use crate::knowable::is_knowable;
@@ -287,7 +287,8 @@ fn candidate_outside_coherence(
     candidate_until(alloc, cx, declarations, goal, done, settled)
 }
 
-/// The next candidate of a goal that is decided, in the goal's mode.
+/// The next candidate of a goal that is decided, in the goal's mode. Where an impl was considered last, no where-clause and no built-in
+/// rule is left, and nothing has settled the goal: so what was considered before that impl is not looked at again.
 fn decided_candidate(
     alloc: Global,
     cx: &mut Interner,
@@ -305,6 +306,9 @@ fn decided_candidate(
     ensures full { result ≡ Err Fault.Full → SomeKindIsFull cx.new.entries cx.new.limit
         ⊎ RunsOutBy (next_decided cx.old.entries declarations.now goal.now) cx.old.entries declarations.now goal.now done.now }
 {
+    if ends_by_impl(done) {
+        return late_candidate(alloc, cx, declarations, goal, done);
+    }
     match goal.mode {
         TypingMode::Coherence => candidate_in_coherence(alloc, cx, declarations, goal, done),
         TypingMode::PostAnalysis => {
@@ -368,6 +372,25 @@ fn mode_at_end(mode: TypingMode, decided: bool) -> TypingMode
     if decided { mode } else { TypingMode::Coherence }
 }
 
+/// Whether the goal is decided, after these candidates were considered. A goal of which an impl was considered is: its terms are not
+/// walked again for each of its impls.
+fn stays_decided(
+    cx: &Interner,
+    declarations: &Declarations,
+    goal: &CanonicalInput,
+    done: &[Considered],
+) -> bool
+    requires ready { IsReady cx.now.entries declarations.now }
+    requires goal { GoalHeld cx.now.entries goal.now.goal }
+    requires history { HasHistory cx.now.entries (handled_in cx.now.entries declarations.now goal.now) done.now }
+    ensures { Decides cx.now.entries declarations.now goal.now result }
+{
+    if ends_by_impl(done) {
+        return true;
+    }
+    is_decided(cx, declarations, goal)
+}
+
 /// What the frame of a trait goal is to do next, after these candidates were considered, the oldest first: to consider the next one,
 /// or to answer with the merge of their responses (`EvalCtxt::compute_trait_goal`).
 ///
@@ -393,7 +416,7 @@ pub fn compute_trait_goal(
     ensures full { result ≡ Err Fault.Full → SomeKindIsFull cx.new.entries cx.new.limit
         ⊎ NextRunsOut cx.old.entries (handled_in cx.old.entries declarations.now goal.now) goal.now.variables.items done.now }
 {
-    let decided = is_decided(cx, declarations, goal);
+    let decided = stays_decided(cx, declarations, goal, done);
     match assemble_and_evaluate_candidates(alloc, cx, declarations, goal, decided, done)? {
         Some(candidate) => Ok(HandlerStep::Consider(candidate)),
         None => {

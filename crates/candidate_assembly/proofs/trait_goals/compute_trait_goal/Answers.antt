@@ -9,12 +9,8 @@ use Rattle.declarations.specs.Items.{written}
 use Rattle.built_in_candidates.specs.Goals.{candidate_of}
 use Rattle.candidate_assembly.specs.Merging.{end_in}
 use Rattle.candidate_assembly.specs.Nexts.{mode_at_end}
-use Rattle.candidate_assembly.specs.Ready.{Decides}
 use Rattle.candidate_assembly.proofs.TraitGoals.{considers, answers, candidate-many, answer-many, candidate-fits}
 use Rattle.candidate_assembly.proofs.trait_goals.compute_trait_goal.Goals as goal
-
-pub assemble_and_evaluate_candidates-requires-clause-decides : goal.assemble_and_evaluate_candidates-requires-clause-decides
-assemble_and_evaluate_candidates-requires-clause-decides c = record { is = c.is_decided-decided.ensures.is; fits = c.is_decided-decided.ensures.fits }
 
 pub merge_trait_candidates-requires-clause-held : goal.merge_trait_candidates-requires-clause-held
 merge_trait_candidates-requires-clause-held c = considered-later c.args.cx.now.entries c.assemble_and_evaluate_candidates.new.cx.entries c.in_ok-candidate.ensures.keeps c.args.done.now c.requires.done
@@ -29,8 +25,7 @@ returns-in-Some-clause-fits c =
     let g = c.args.goal.now in
     let new = c.assemble_and_evaluate_candidates.new.cx.entries in
     let h = c.requires.history in
-    let decides : Decides es c.args.declarations.now c.args.goal.now c.is_decided-decided.result = record { is = c.is_decided-decided.ensures.is; fits = c.is_decided-decided.ensures.fits } in
-    candidate-fits es d g c.requires.ready c.is_decided-decided.result decides new c.in-Some.candidate h.0
+    candidate-fits es d g c.requires.ready c.stays_decided-decided.result c.stays_decided-decided.ensures new c.in-Some.candidate h.0
     (ap (option_map (candidate_of (written es d) g.goal.predicate.trait_ref.def_id.index new)) (sym c.in-Some.is) ∙ c.in_ok-candidate.ensures.is h.0 h.1 h.2)
 
 pub returns-in-Some-clause-next : goal.returns-in-Some-clause-next
@@ -39,8 +34,7 @@ returns-in-Some-clause-next c = λ seen s t.
     let d = c.args.declarations.now in
     let g = c.args.goal.now in
     let at = candidate_of (written es d) g.goal.predicate.trait_ref.def_id.index c.assemble_and_evaluate_candidates.new.cx.entries in
-    let decides : Decides es c.args.declarations.now c.args.goal.now c.is_decided-decided.result = record { is = c.is_decided-decided.ensures.is; fits = c.is_decided-decided.ensures.fits } in
-    considers es d g c.is_decided-decided.result decides seen t (at c.in-Some.candidate) (ap (option_map at) (sym c.in-Some.is) ∙ c.in_ok-candidate.ensures.is seen s t)
+    considers es d g c.stays_decided-decided.result c.stays_decided-decided.ensures seen t (at c.in-Some.candidate) (ap (option_map at) (sym c.in-Some.is) ∙ c.in_ok-candidate.ensures.is seen s t)
 
 pub returns-in-None-clause-next : goal.returns-in-None-clause-next
 returns-in-None-clause-next c =
@@ -49,21 +43,19 @@ returns-in-None-clause-next c =
     let g = c.args.goal.now in
     let mid = c.assemble_and_evaluate_candidates.new.cx.entries in
     let at = candidate_of (written es d) g.goal.predicate.trait_ref.def_id.index mid in
-    let b = c.is_decided-decided.result in
-    let decides : Decides es c.args.declarations.now c.args.goal.now c.is_decided-decided.result = record { is = c.is_decided-decided.ensures.is; fits = c.is_decided-decided.ensures.fits } in
+    let b = c.stays_decided-decided.result in
     IfOk-weaker c.merge_trait_candidates.result _ _
     (λ step p seen s t.
     p seen (shown-later es mid c.in_ok-candidate.ensures.keeps c.args.done.now c.requires.done ∙ s) _
     ∙ ap (λ mode. wanted frame_tables (end_in mode c.deref.result.now seen)) c.mode_at_end-mode.ensures
     ∙ ap (λ ks. wanted frame_tables (end_in (mode_at_end g.mode b) ks seen)) c.deref.ensures.value
-    ∙ answers es d g b decides seen t (ap (option_map at) (sym c.in-None.is) ∙ c.in_ok-candidate.ensures.is seen s t))
+    ∙ answers es d g b c.stays_decided-decided.ensures seen t (ap (option_map at) (sym c.in-None.is) ∙ c.in_ok-candidate.ensures.is seen s t))
     c.merge_trait_candidates.ensures.is
 
 pub returns-in_err-candidate-clause-full : goal.returns-in_err-candidate-clause-full
 returns-in_err-candidate-clause-full c = λ q.
     let es = c.args.cx.now.entries in
-    let decides : Decides es c.args.declarations.now c.args.goal.now c.is_decided-decided.result = record { is = c.is_decided-decided.ensures.is; fits = c.is_decided-decided.ensures.fits } in
-    or-then (λ f seen s t. candidate-many es c.args.declarations.now c.args.goal.now c.is_decided-decided.result decides seen t (f seen s t))
+    or-then (λ f seen s t. candidate-many es c.args.declarations.now c.args.goal.now c.stays_decided-decided.result c.stays_decided-decided.ensures seen t (f seen s t))
     (handed-on c.from_residual.result c.from_residual.ensures.1 (λ p. c.in_err-candidate.ensures.full (ap Err p)) q)
 
 pub returns-in-None-clause-full : goal.returns-in-None-clause-full
@@ -72,8 +64,7 @@ returns-in-None-clause-full c = λ q.
     let d = c.args.declarations.now in
     let g = c.args.goal.now in
     let at = candidate_of (written es d) g.goal.predicate.trait_ref.def_id.index c.assemble_and_evaluate_candidates.new.cx.entries in
-    let decides : Decides es c.args.declarations.now c.args.goal.now c.is_decided-decided.result = record { is = c.is_decided-decided.ensures.is; fits = c.is_decided-decided.ensures.fits } in
     or-then
     (λ lt seen s t.
-    answer-many es d g c.is_decided-decided.result decides seen t (ap (option_map at) (sym c.in-None.is) ∙ c.in_ok-candidate.ensures.is seen s t) (subst (λ ks. MAX_INDEX < length ks) c.deref.ensures.value lt))
+    answer-many es d g c.stays_decided-decided.result c.stays_decided-decided.ensures seen t (ap (option_map at) (sym c.in-None.is) ∙ c.in_ok-candidate.ensures.is seen s t) (subst (λ ks. MAX_INDEX < length ks) c.deref.ensures.value lt))
     (c.merge_trait_candidates.ensures.full q)

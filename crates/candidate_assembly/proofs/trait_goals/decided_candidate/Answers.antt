@@ -7,7 +7,21 @@ use Rattle.built_in_candidates.specs.Goals.{asked_of}
 use Rattle.candidate_assembly.specs.Headers.{HasTooMany}
 use Rattle.candidate_assembly.specs.Sections.{next_in}
 use Rattle.candidate_assembly.specs.Solving.{meaning_for}
+use Rattle.candidate_assembly.proofs.BehindImpls.{behind-impl}
 use Rattle.candidate_assembly.proofs.trait_goals.decided_candidate.Goals as goal
+
+pub returns-then-ends_by_impl-clause-is : goal.returns-then-ends_by_impl-clause-is
+returns-then-ends_by_impl-clause-is c =
+    IfOk-weaker c.late_candidate.result _ _
+    (λ o p seen s t. p seen s t ∙ behind-impl c.args.cx.now.entries c.args.declarations.now c.args.goal.now c.args.done.now (sym c.ends_by_impl.ensures ∙ c.if-ends_by_impl.true) c.requires.decided seen s t)
+    c.late_candidate.ensures.is
+
+pub returns-then-ends_by_impl-clause-full : goal.returns-then-ends_by_impl-clause-full
+returns-then-ends_by_impl-clause-full c = λ q.
+    or-then
+    (λ f seen s t.
+    subst (HasTooMany (length c.args.goal.now.variables.items)) (behind-impl c.args.cx.now.entries c.args.declarations.now c.args.goal.now c.args.done.now (sym c.ends_by_impl.ensures ∙ c.if-ends_by_impl.true) c.requires.decided seen s t) (f seen s t))
+    (c.late_candidate.ensures.full q)
 
 pub returns-in-Coherence-clause-is : goal.returns-in-Coherence-clause-is
 returns-in-Coherence-clause-is c =

@@ -1,0 +1,164 @@
+-- Where an impl was considered last, the goal is decided, and impls and bounds alone are left.
+use Rattle.std.proofs.Common.{◌≡◌, Bool, true, false, cond, not, ◌&&◌, ◌||◌, if◌then◌else◌, List, [], ◌∷◌, length, map, refl, sym, ◌∙◌, ap, subst, Option, Some, None}
+use Rattle.std.specs.Prelude.{filter, IfSome, is_some}
+use Rattle.std.specs.List.{slice_get}
+use Rattle.model.specs.Worlds.{World}
+use Rattle.type_terms.specs.Terms.{Entry}
+use Rattle.type_terms.proofs.Made.{false-true, left, right}
+use Rattle.infer_table.specs.Canonical.{CanonicalForm}
+use Rattle.infer_table.specs.Inputs.{form_of}
+use Rattle.infer_table.specs.declared.certainty.TypingMode.{TypingMode}
+use Rattle.infer_table.specs.declared.certainty.TypingMode.TheVariants.{Coherence, PostAnalysis}
+use Rattle.infer_table.specs.declared.input.CanonicalInput.{CanonicalInput}
+use Rattle.evaluation.specs.declared.candidate.Considered as InCode
+use Rattle.evaluation.specs.Candidate.{Considered, Next, IsHistory}
+use Rattle.evaluation.specs.Merge.{or_else}
+use Rattle.evaluation.specs.Table.{workings}
+use Rattle.evaluation.specs.FrameTables.{kinds_known}
+use Rattle.evaluation.specs.Tables.{frame_tables}
+use Rattle.goal_frames.specs.Handlers.{same_answer, applies_always}
+use Rattle.goal_frames.specs.Readings.{HasHistory, Shows, shown_by}
+use Rattle.declarations.specs.Items.{Items, written}
+use Rattle.assembly_laws.specs.Meaning.{Meaning}
+use Rattle.assembly_laws.specs.Knowing.{is_knowable}
+use Rattle.assembly_laws.specs.Asking.{Asked, asked, asked_if, clauses, self_of, begins_unknown}
+use Rattle.assembly_laws.specs.Candidates.{Candidate, unsure, unknowable, by_clauses, built_in}
+use Rattle.assembly_laws.specs.DeclaredWell.{is_declared_well}
+use Rattle.assembly_laws.specs.Lifetimes.{form_gives_lifetimes}
+use Rattle.assembly_laws.specs.Solver.{Past, from, is_clause, is_impl, is_settled, says_nothing, holds_from, solver_handled}
+use Rattle.model.proofs.Members.{not-both}
+use Rattle.built_in_candidates.specs.Goals.{asked_of}
+use Rattle.candidate_assembly.specs.Counted.{ends_by_impl}
+use Rattle.candidate_assembly.specs.Fitting.{fits_declared, solving_of}
+use Rattle.candidate_assembly.specs.Nexts.{handled_in, ForEachHistory, late_in, next_decided}
+use Rattle.candidate_assembly.specs.Ready.{IsReady, IsDecided, Decides}
+use Rattle.candidate_assembly.specs.Sections.{misc_is_bound, is_unknowable, is_built_in, sources_tell, considered_from, early, late, is_first, next_in, decided, next_candidate, end_of, or_end}
+use Rattle.candidate_assembly.specs.Solving.{meaning_for}
+use Rattle.candidate_assembly.proofs.Along.{Answers}
+use Rattle.candidate_assembly.proofs.Counted.{ends-is}
+use Rattle.candidate_assembly.proofs.Deciding.{tests, asked-tests, decided-fits}
+use Rattle.candidate_assembly.proofs.GoingOn.{some-is, none-is, NoImpl, no-early, considered-is}
+use Rattle.candidate_assembly.proofs.Histories.{ends-answer, histories-tell}
+use Rattle.candidate_assembly.proofs.SourcesOf.{impl-clause, impl-built, impl-known, impl-quiet}
+use Rattle.candidate_assembly.proofs.TraitGoals.{was-asked}
+
+-- ---- what is next behind an impl
+module _ (m : Meaning) (a : Asked) (tell : sources_tell a ≡ true) (c : Considered (workings frame_tables)) (seen : Past) (t : is_impl c.spec.source ≡ true) where
+  abbrev V : World
+  V = m.view
+
+  abbrev built : Past → List (Considered (workings frame_tables))
+  built z = filter (from (is_built_in (misc_is_bound a))) z
+
+  -- an impl is no where-clause and no built-in rule
+  same-early : early V a (c ∷ seen) ≡ early V a seen
+  same-early =
+      ap (λ b. or_else (slice_get (by_clauses V a (clauses a)) (length (cond b (c ∷ filter (from is_clause) seen) (filter (from is_clause) seen)))) (slice_get (built_in V a) (length (built (c ∷ seen))))) (impl-clause c.spec.source t)
+      ∙ ap (λ b. or_else (slice_get (by_clauses V a (clauses a)) (considered_from is_clause seen)) (slice_get (built_in V a) (length (cond b (c ∷ built seen) (built seen))))) (impl-built (misc_is_bound a) c.spec.source t)
+
+  same-held : holds_from is_unknowable (c ∷ seen) ≡ holds_from is_unknowable seen
+  same-held = ap (λ b. (b && is_some c.response) || holds_from is_unknowable seen) (impl-known c.spec.source t)
+
+  -- and settles nothing
+  same-settled : is_settled (c ∷ seen) ≡ is_settled seen
+  same-settled = ap (λ b. (b && says_nothing c.response) || is_settled seen) (impl-quiet c.spec.source t)
+
+  abbrev rest : Option Candidate
+  rest = late V a (c ∷ seen)
+
+  pub late-next : (mode : TypingMode) → next_in m mode a seen ≡ Some c.spec → next_in m mode a (c ∷ seen) ≡ rest
+  late-next Coherence e =
+      ap (λ b. if b then None else or_else (early V a (c ∷ seen)) rest) same-held
+      ∙ ap (λ o. if holds_from is_unknowable seen then None else or_else o rest) same-early
+      ∙ by (is_first seen && not (is_knowable V m.crate a.reference)) (holds_from is_unknowable seen) (early V a seen) (no-early m a tell seen) e
+    where
+      by : (b u : Bool) (o : Option Candidate) → NoImpl o → (if b then Some (unknowable V a) else if u then None else or_else o (late V a seen)) ≡ Some c.spec → (if u then None else or_else o rest) ≡ rest
+      by true u o n g = absurd (not-both (is_impl c.spec.source) t (sym (ap (λ (x : Candidate). is_impl x.source) (some-is (unknowable V a) c.spec g))))
+      by false true o n g = absurd (none-is c.spec g)
+      by false false None n g = refl
+      by false false (Some x) n g = absurd (not-both (is_impl c.spec.source) t (n c.spec g))
+  late-next PostAnalysis e =
+      ap (λ b. or_else (early V a (c ∷ seen)) (if b then None else rest)) same-settled
+      ∙ ap (λ o. or_else o (if is_settled seen then None else rest)) same-early
+      ∙ by (is_settled seen) (early V a seen) (no-early m a tell seen) e
+    where
+      by : (u : Bool) (o : Option Candidate) → NoImpl o → or_else o (if u then None else late V a seen) ≡ Some c.spec → or_else o (if u then None else rest) ≡ rest
+      by u (Some x) n g = absurd (not-both (is_impl c.spec.source) t (n c.spec g))
+      by true None n g = absurd (none-is c.spec g)
+      by false None n g = refl
+
+-- ---- along histories
+module _ (m : Meaning) (mode : TypingMode) (f : CanonicalForm) (c : Considered (workings frame_tables)) (seen : Past) where
+  abbrev next : Past → Next (workings frame_tables)
+  next = (solver_handled applies_always same_answer m mode f).next
+
+  end-answers : (o : Option Asked) → Answers frame_tables (end_of mode o (kinds_known f.kinds) seen)
+  end-answers None = ends-answer (kinds_known f.kinds) Coherence seen
+  end-answers (Some a) = ends-answer (kinds_known f.kinds) mode seen
+
+  was-next : (o : Option Asked) → decided m (asked m.view f) ≡ o → IfSome o (λ a. sources_tell a ≡ true) → IsHistory (workings frame_tables) next (c ∷ seen) → next_candidate m mode o seen ≡ Some c.spec
+  was-next o is tell h =
+      considered-is (next_candidate m mode o seen) (end_of mode o (kinds_known f.kinds) seen) (end-answers o) c.spec
+      (sym (histories-tell m mode f (subst (λ x. IfSome x (λ a. sources_tell a ≡ true)) (sym is) tell) seen h.2
+      ∙ ap (λ x. or_end (next_candidate m mode x seen) (end_of mode x (kinds_known f.kinds) seen)) is)
+      ∙ h.0)
+
+  -- no impl is considered for a goal that is not decided
+  pub impls-decide : IsHistory (workings frame_tables) next (c ∷ seen) → is_impl c.spec.source ≡ true → (a : Asked) × (decided m (asked m.view f) ≡ Some a)
+  impls-decide h t = by (decided m (asked m.view f)) refl
+    where
+      not-alone : (b : Bool) → (if b then Some unsure else None) ≡ Some c.spec → ⊥
+      not-alone true g = not-both (is_impl c.spec.source) t (sym (ap (λ (x : Candidate). is_impl x.source) (some-is unsure c.spec g)))
+      not-alone false g = none-is c.spec g
+
+      by : (o : Option Asked) → decided m (asked m.view f) ≡ o → (a : Asked) × (decided m (asked m.view f) ≡ Some a)
+      by None is = absurd (not-alone (is_first seen) (was-next None is tt h))
+      by (Some a) is = (a, is)
+
+  pub late-behind : (a : Asked) → decided m (asked m.view f) ≡ Some a → sources_tell a ≡ true → IsHistory (workings frame_tables) next (c ∷ seen) → is_impl c.spec.source ≡ true
+      → next_in m mode a (c ∷ seen) ≡ late m.view a (c ∷ seen)
+  late-behind a is tell h t = late-next m a tell c seen t mode (was-next (Some a) is tell h)
+
+-- ---- goals in code
+is-sound : (n : Meaning) (o : Option Asked) (a : Asked) → decided n o ≡ Some a → n.is_sound ≡ true
+is-sound n None a e = absurd cc
+is-sound n (Some x) a e = by n.is_sound e
+  where
+    by : (b : Bool) → (if not b || begins_unknown x.kinds (self_of x) then None else Some x) ≡ Some a → b ≡ true
+    by true q = refl
+    by false q = absurd cc
+
+module _ (es : List Entry) (d : Items) (g : CanonicalInput) (done : List InCode.Considered) (e : ends_by_impl false done ≡ true) where
+  pub behind-impl : IsDecided es d g → ForEachHistory es d g done (λ seen. late_in es d g seen ≡ next_decided es d g seen)
+  behind-impl h [] s t = absurd (false-true (sym (ends-is es done [] s) ∙ e))
+  behind-impl h (c ∷ seen) s t = sym (late-behind (meaning_for (solving_of es d) (form_of es g)) g.mode (form_of es g) c seen (asked_of es g) h.is h.fits.tells t (sym (ends-is es done (c ∷ seen) s) ∙ e))
+
+  abbrev own : Asked
+  own = asked_of es g
+
+  same-asked : (a : Asked) → asked (written es d) (form_of es g) ≡ Some a → a ≡ own
+  same-asked a is = by (tests es d g) (sym (asked-tests es d g) ∙ is)
+    where
+      by : (b : Bool) → asked_if b own ≡ Some a → a ≡ own
+      by true q = cc
+      by false q = absurd cc
+
+  pub decides : IsReady es d → HasHistory es (handled_in es d g) done → Decides es d g true
+  decides ready h = by h.0 h.1 h.2
+    where
+      m : Meaning
+      m = meaning_for (solving_of es d) (form_of es g)
+
+      by-asked : (a : Asked) → decided m (asked (written es d) (form_of es g)) ≡ Some a → Decides es d g true
+      by-asked a is =
+          let was = was-asked m (asked (written es d) (form_of es g)) a is in
+          let same = same-asked a was in
+          let sound = is-sound m (asked (written es d) (form_of es g)) a is in
+          let fits = left (fits_declared d (form_of es g)) (form_gives_lifetimes (written es d) (form_of es g)) (right (is_declared_well (written es d)) _ sound) in
+          record { is = is ∙ ap (λ x. Some x) same; fits = λ _. decided-fits es d g (was ∙ ap (λ x. Some x) same) fits }
+
+      by : (seen : Past) → Shows (map (shown_by es) done) seen → IsHistory (workings frame_tables) (handled_in es d g).next seen → Decides es d g true
+      by [] s t = absurd (false-true (sym (ends-is es done [] s) ∙ e))
+      by (c ∷ seen) s t =
+          let p = impls-decide m g.mode (form_of es g) c seen t (sym (ends-is es done (c ∷ seen) s) ∙ e) in
+          by-asked p.0 p.1
