@@ -76,7 +76,7 @@ fixed-node l c o h f g = none-of (is_loose l) (some_node is_loose c) (some_node 
 fixed-last : (l : Label) (c o : Trees) → IsLast is_fixed l c o → Fixed (tree l c o)
 fixed-last l c o x = fixed-node l c o x.good_label (subst Fixed (sym x.children) refl) (subst Fixed (sym x.rest) refl)
 
-all-fixed : (m : Standing) (t : Trees) → is_made is_fixed m t ≡ true → Fixed t
+pub all-fixed : (m : Standing) (t : Trees) → is_made is_fixed m t ≡ true → Fixed t
 all-fixed terms none h = refl
 all-fixed terms (tree dynamic c o) h = fixed-node dynamic c o refl (all-fixed bounds c (left (is_made is_fixed bounds c) _ h)) (all-fixed terms o (right (is_made is_fixed bounds c) _ h))
 all-fixed terms (tree (principal n i) c o) h = absurd (false-true h)
@@ -97,7 +97,7 @@ all-fixed traits (tree (principal n i) c o) h = absurd (never-principal is_fixed
 all-fixed traits (tree l c o) h = fixed-last l c o (last-trait is_fixed l c o refl h)
 
 -- a label test that no fixed label passes
-none-pass : (p : Label → Bool) → ((l : Label) → is_fixed l ≡ true → p l ≡ false) → (t : Trees) → Fixed t → some_node p t ≡ false
+pub none-pass : (p : Label → Bool) → ((l : Label) → is_fixed l ≡ true → p l ≡ false) → (t : Trees) → Fixed t → some_node p t ≡ false
 none-pass p f none h = refl
 none-pass p f (tree l c o) h =
     none-of (p l) (some_node p c) (some_node p o) (f l (own-label l c o h)) (none-pass p f c (child-shut is_loose l c o h)) (none-pass p f o (next-shut is_loose l c o h))
@@ -106,7 +106,7 @@ fixed-unnumbered : (l : Label) → is_fixed l ≡ true → is_unnumbered l ≡ t
 fixed-unnumbered (canonical k i) h = absurd (false-true h)
 fixed-unnumbered l h = refl
 
-fixed-unbound : (l : Label) → is_fixed l ≡ true → is_bound l ≡ false
+pub fixed-unbound : (l : Label) → is_fixed l ≡ true → is_bound l ≡ false
 fixed-unbound (bound k j i) h = absurd (false-true h)
 fixed-unbound l h = refl
 
@@ -118,7 +118,8 @@ clean (tree l c o) h = (clean c (child-shut is_loose l c o h), clean o (next-shu
 -- ---- up to lifetimes
 instance-is : (s : Assignment) (t : Trees) → Fixed t → instance s t ≡ erase t
 instance-is s none h = refl
-instance-is s (tree (infer k v) c o) h = absurd (false-true (own-label (infer k v) c o h))
+instance-is s (tree (infer of_type v) c o) h = absurd (false-true (own-label (infer of_type v) c o h))
+instance-is s (tree (infer of_const v) c o) h = absurd (false-true (own-label (infer of_const v) c o h))
 instance-is s (tree l c o) h =
     ap (λ z. tree (erase_label l) z (instance s o)) (instance-is s c (child-shut is_loose l c o h)) ∙ ap (λ z. tree (erase_label l) (erase c) z) (instance-is s o (next-shut is_loose l c o h))
 
@@ -126,15 +127,19 @@ erased-plain-label : (l : Label) → is_fixed l ≡ true → is_unerased (erase_
 erased-plain-label (placeholder of_type i) h = refl
 erased-plain-label (placeholder of_const i) h = refl
 erased-plain-label (placeholder of_lifetime i) h = refl
-erased-plain-label (param k i) h = absurd (false-true h)
-erased-plain-label (infer k i) h = absurd (false-true h)
+erased-plain-label (param of_lifetime i) h = refl
+erased-plain-label (infer of_lifetime i) h = refl
+erased-plain-label (param of_type i) h = absurd (false-true h)
+erased-plain-label (param of_const i) h = absurd (false-true h)
+erased-plain-label (infer of_type i) h = absurd (false-true h)
+erased-plain-label (infer of_const i) h = absurd (false-true h)
 erased-plain-label (canonical k i) h = absurd (false-true h)
 erased-plain-label (bound k j i) h = absurd (false-true h)
 erased-plain-label (fn_ptr n) h = refl
 erased-plain-label (principal n t) h = refl
 erased-plain-label l h = refl
 
-erased-plain : (t : Trees) → Fixed t → some_node is_unerased (erase t) ≡ false
+pub erased-plain : (t : Trees) → Fixed t → some_node is_unerased (erase t) ≡ false
 erased-plain none h = refl
 erased-plain (tree l c o) h =
     none-of (is_unerased (erase_label l)) (some_node is_unerased (erase c)) (some_node is_unerased (erase o)) (erased-plain-label l (own-label l c o h)) (erased-plain c (child-shut is_loose l c o h)) (erased-plain o (next-shut is_loose l c o h))
@@ -159,15 +164,15 @@ erased-sort (fn_ptr n) = refl
 erased-sort (principal n t) = refl
 erased-sort l = refl
 
-erased-sorts : (t : Trees) → sorts_of (erase t) ≡ sorts_of t
+pub erased-sorts : (t : Trees) → sorts_of (erase t) ≡ sorts_of t
 erased-sorts none = refl
 erased-sorts (tree l c o) = ap (λ s. s ∷ sorts_of (erase o)) (erased-sort l) ∙ ap (λ ss. sort_of l ∷ ss) (erased-sorts o)
 
-erased-begins : (t : Trees) → begins_typed (erase t) ≡ begins_typed t
+pub erased-begins : (t : Trees) → begins_typed (erase t) ≡ begins_typed t
 erased-begins none = refl
 erased-begins (tree l c o) = ap (λ s. is_sort s of_type) (erased-sort l)
 
-erased-next : (t : Trees) → next_of (erase t) ≡ erase (next_of t)
+pub erased-next : (t : Trees) → next_of (erase t) ≡ erase (next_of t)
 erased-next none = refl
 erased-next (tree l c o) = refl
 
@@ -180,8 +185,12 @@ ordinary-erased : (l : Label) → is_fixed l ≡ true → is_ordinary l ≡ true
 ordinary-erased (placeholder of_type i) h e = refl
 ordinary-erased (placeholder of_const i) h e = refl
 ordinary-erased (placeholder of_lifetime i) h e = refl
-ordinary-erased (param k i) h e = absurd (false-true h)
-ordinary-erased (infer k i) h e = absurd (false-true h)
+ordinary-erased (param of_lifetime i) h e = refl
+ordinary-erased (infer of_lifetime i) h e = refl
+ordinary-erased (param of_type i) h e = absurd (false-true h)
+ordinary-erased (param of_const i) h e = absurd (false-true h)
+ordinary-erased (infer of_type i) h e = absurd (false-true h)
+ordinary-erased (infer of_const i) h e = absurd (false-true h)
 ordinary-erased (canonical k i) h e = absurd (false-true h)
 ordinary-erased (bound k j i) h e = absurd (false-true h)
 ordinary-erased (fn_ptr n) h e = refl
@@ -192,8 +201,12 @@ leaf-erased : (l : Label) → is_fixed l ≡ true → is_leaf_label (erase_label
 leaf-erased (placeholder of_type i) h = refl
 leaf-erased (placeholder of_const i) h = refl
 leaf-erased (placeholder of_lifetime i) h = refl
-leaf-erased (param k i) h = absurd (false-true h)
-leaf-erased (infer k i) h = absurd (false-true h)
+leaf-erased (param of_lifetime i) h = refl
+leaf-erased (infer of_lifetime i) h = refl
+leaf-erased (param of_type i) h = absurd (false-true h)
+leaf-erased (param of_const i) h = absurd (false-true h)
+leaf-erased (infer of_type i) h = absurd (false-true h)
+leaf-erased (infer of_const i) h = absurd (false-true h)
 leaf-erased (canonical k i) h = absurd (false-true h)
 leaf-erased (bound k j i) h = absurd (false-true h)
 leaf-erased (fn_ptr n) h = refl
@@ -205,8 +218,12 @@ lifetime-static static h e = refl
 lifetime-static (placeholder of_lifetime i) h e = refl
 lifetime-static (placeholder of_type i) h e = absurd (false-true e)
 lifetime-static (placeholder of_const i) h e = absurd (false-true e)
-lifetime-static (param k i) h e = absurd (false-true h)
-lifetime-static (infer k i) h e = absurd (false-true h)
+lifetime-static (param of_lifetime i) h e = refl
+lifetime-static (infer of_lifetime i) h e = refl
+lifetime-static (param of_type i) h e = absurd (false-true h)
+lifetime-static (param of_const i) h e = absurd (false-true h)
+lifetime-static (infer of_type i) h e = absurd (false-true h)
+lifetime-static (infer of_const i) h e = absurd (false-true h)
 lifetime-static (canonical k i) h e = absurd (false-true h)
 lifetime-static (bound k j i) h e = absurd (false-true h)
 lifetime-static l h e = absurd (false-true e)
@@ -219,7 +236,7 @@ last-static m h l c o x =
     subst (λ z. Made m (tree z (erase c) (erase o))) (sym (lifetime-static l x.good_label x.lifetime))
     (subst (λ z. Made m (tree static (erase z) (erase o))) (sym x.children) (subst (λ z. Made m (tree static none (erase z))) (sym x.rest) h))
 
-made-erased : (m : Standing) (t : Trees) → is_made is_fixed m t ≡ true → Made m (erase t)
+pub made-erased : (m : Standing) (t : Trees) → is_made is_fixed m t ≡ true → Made m (erase t)
 made-erased terms none h = refl
 made-erased terms (tree dynamic c o) h =
     both (is_made any_label bounds (erase c)) (is_made any_label terms (erase o)) (made-erased bounds c (left (is_made is_fixed bounds c) _ h)) (made-erased terms o (right (is_made is_fixed bounds c) _ h))
@@ -254,7 +271,7 @@ module _ (V : World) (sorts : Sorts) where
   abbrev autos_named : Trees → List ℕ
   autos_named t = map (λ (r : Reference). r.trait) (autos_with none t)
 
-  autos-erased : (t : Trees) → autos_named (erase t) ≡ autos_named t
+  pub autos-erased : (t : Trees) → autos_named (erase t) ≡ autos_named t
   autos-erased none = refl
   autos-erased (tree (auto_trait n) c o) = ap (λ z. n ∷ z) (autos-erased o)
   autos-erased (tree (param of_type i) c o) = autos-erased o
@@ -291,13 +308,17 @@ module _ (V : World) (sorts : Sorts) where
   node-erased (placeholder of_type i) c f h = tt
   node-erased (placeholder of_const i) c f h = tt
   node-erased (placeholder of_lifetime i) c f h = tt
-  node-erased (param k i) c f h = absurd (false-true f)
-  node-erased (infer k i) c f h = absurd (false-true f)
+  node-erased (param of_lifetime i) c f h = tt
+  node-erased (infer of_lifetime i) c f h = tt
+  node-erased (param of_type i) c f h = absurd (false-true f)
+  node-erased (param of_const i) c f h = absurd (false-true f)
+  node-erased (infer of_type i) c f h = absurd (false-true f)
+  node-erased (infer of_const i) c f h = absurd (false-true f)
   node-erased (canonical k i) c f h = absurd (false-true f)
   node-erased (bound k j i) c f h = absurd (false-true f)
   node-erased l c f h = tt
 
-  nodes-erased : (t : Trees) → Fixed t → NodesFit V sorts t → NodesFit V sorts (erase t)
+  pub nodes-erased : (t : Trees) → Fixed t → NodesFit V sorts t → NodesFit V sorts (erase t)
   nodes-erased none f h = tt
   nodes-erased (tree l c o) f h = (node-erased l c (own-label l c o f) h.0, nodes-erased c (child-shut is_loose l c o f) h.1, nodes-erased o (next-shut is_loose l c o f) h.2)
 
@@ -322,8 +343,12 @@ begins-numbered ls none f h = absurd (false-true h)
 begins-numbered ls (tree (placeholder of_type i) c o) f h = refl
 begins-numbered ls (tree (placeholder of_const i) c o) f h = absurd (false-true h)
 begins-numbered ls (tree (placeholder of_lifetime i) c o) f h = absurd (false-true h)
-begins-numbered ls (tree (param k i) c o) f h = absurd (false-true (own-label (param k i) c o f))
-begins-numbered ls (tree (infer k i) c o) f h = absurd (false-true (own-label (infer k i) c o f))
+begins-numbered ls (tree (param of_type i) c o) f h = absurd (false-true (own-label (param of_type i) c o f))
+begins-numbered ls (tree (param of_const i) c o) f h = absurd (false-true (own-label (param of_const i) c o f))
+begins-numbered ls (tree (param of_lifetime i) c o) f h = absurd (false-true h)
+begins-numbered ls (tree (infer of_type i) c o) f h = absurd (false-true (own-label (infer of_type i) c o f))
+begins-numbered ls (tree (infer of_const i) c o) f h = absurd (false-true (own-label (infer of_const i) c o f))
+begins-numbered ls (tree (infer of_lifetime i) c o) f h = absurd (false-true h)
 begins-numbered ls (tree (canonical k i) c o) f h = absurd (false-true (own-label (canonical k i) c o f))
 begins-numbered ls (tree (bound k j i) c o) f h = absurd (false-true (own-label (bound k j i) c o f))
 begins-numbered ls (tree static c o) f h = absurd (false-true h)
@@ -361,8 +386,12 @@ kind-closed (placeholder of_type i) f h = tt
 kind-closed (placeholder of_const i) f h = tt
 kind-closed (placeholder of_lifetime i) f h = tt
 kind-closed static f h = tt
-kind-closed (param k i) f h = absurd (false-true f)
-kind-closed (infer k i) f h = absurd (false-true f)
+kind-closed (param of_lifetime i) f h = tt
+kind-closed (infer of_lifetime i) f h = tt
+kind-closed (param of_type i) f h = absurd (false-true f)
+kind-closed (param of_const i) f h = absurd (false-true f)
+kind-closed (infer of_type i) f h = absurd (false-true f)
+kind-closed (infer of_const i) f h = absurd (false-true f)
 kind-closed l f h = absurd (false-true h)
 
 clause-open : (l : Label) → IsSome (kind_in_clause l) → IsSome (kind_of_leaf l)
@@ -379,7 +408,9 @@ term-there f l (m ∷ ls) zero h = ap f h
 term-there f l (m ∷ ls) (suc i) h = term-there f l ls i h
 
 no-param : (k : Sort) (i : ℕ) → is_sort k of_lifetime ≡ false → is_fixed (param k i) ≡ true → ⊥
-no-param k i e h = false-true h
+no-param of_type i e h = false-true h
+no-param of_const i e h = false-true h
+no-param of_lifetime i e h = false-true (sym e)
 
 module _ (s : Assignment) where
   abbrev own : Label → Trees
@@ -425,6 +456,12 @@ clauses-leaves (c ∷ E) h = ((λ e. absurd (false-true e)), made-leaves is_fixe
 clauses-erased : (E : List Reference) → clauses_of (erase (trees_of_clauses E)) ≡ map erased_reference E
 clauses-erased [] = refl
 clauses-erased (c ∷ E) = ap (λ z. erased_reference c ∷ z) (clauses-erased E)
+
+-- up to lifetimes the question's reference is formed
+pub formed-reference : (V : World) (sorts : Sorts) (E : List Reference) (r : Reference) → IsFormedQuestion V sorts E r → IsFormed V sorts (erased_reference r)
+formed-reference V sorts E r q =
+    let fixed = all-fixed terms r.args q.terms in
+    record { args = record { made = made-erased terms r.args q.terms; plain = erased-plain r.args fixed; nodes = nodes-erased V sorts r.args fixed q.nodes }; trait = (q.trait.0, erased-sorts r.args ∙ q.trait.1) }
 
 module _ (V : World) (sorts : Sorts) (formed : IsFormedView V sorts) (E : List Reference) (r : Reference) (q : IsFormedQuestion V sorts E r) (s : Assignment) (sorted : IsSorted s) where
   abbrev g : GoalTrees
@@ -515,8 +552,7 @@ module _ (V : World) (sorts : Sorts) (formed : IsFormedView V sorts) (E : List R
   fact-formed : IsFormedFact V sorts (fact_under s g)
   fact-formed = record {
     plain = ap (λ z. not (some_node is_unerased (tree (predicate (of_trait r.trait)) z none))) (instance-is s x x-fixed) ∙ ap not (none-of false (some_node is_unerased (erase x)) false refl (erased-plain x x-fixed) refl);
-    reference = subst (λ z. IsFormed V sorts z) (sym read-back)
-        (record { args = record { made = made-erased terms x q.terms; plain = erased-plain x x-fixed; nodes = nodes-erased V sorts x x-fixed q.nodes }; trait = (q.trait.0, erased-sorts x ∙ q.trait.1) });
+    reference = subst (λ z. IsFormed V sorts z) (sym read-back) (formed-reference V sorts E r q);
     elaborated = subst (IsElaborated V) (sym clauses-back) q.elaborated;
   }
 

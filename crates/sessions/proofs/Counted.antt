@@ -24,10 +24,10 @@ pub record Counted (t u : Table) (ks : List Sort) : Type 0 where
   pub values : u.values ≡ t.values
 
 -- what stands for a variable, by its kind
-not-type : (es : List Entry) → Lawful es → (i : ℕ) → Has es types i → (s : Sort) (n : ℕ) → trees_at es i ≡ leaf (infer s n) → s ≡ of_type
+pub not-type : (es : List Entry) → Lawful es → (i : ℕ) → Has es types i → (s : Sort) (n : ℕ) → trees_at es i ≡ leaf (infer s n) → s ≡ of_type
 not-type es law i h s n e = (subst (IsA of_type) e (type-is es law i h)).0
 
-not-const : (es : List Entry) → Lawful es → (i : ℕ) → Has es consts i → (s : Sort) (n : ℕ) → trees_at es i ≡ leaf (infer s n) → s ≡ of_const
+pub not-const : (es : List Entry) → Lawful es → (i : ℕ) → Has es consts i → (s : Sort) (n : ℕ) → trees_at es i ≡ leaf (infer s n) → s ≡ of_const
 not-const es law i h s n e = (subst (IsA of_const) e (const-is es law i h)).0
 
 region-sort : (r : Region) → sort_of (region_label r.kind) ≡ of_lifetime
@@ -41,7 +41,7 @@ region-sort r = by r.kind
     by (ReBound KCanonical v) = refl
     by (ReVar v) = refl
 
-not-region : (r : Region) (s : Sort) (n : ℕ) → region_trees r ≡ leaf (infer s n) → s ≡ of_lifetime
+pub not-region : (r : Region) (s : Sort) (n : ℕ) → region_trees r ≡ leaf (infer s n) → s ≡ of_lifetime
 not-region r s n e = sym (ap first_sort e) ∙ region-sort r
   where
     first_sort : Trees → Sort
@@ -49,22 +49,22 @@ not-region r s n e = sym (ap first_sort e) ∙ region-sort r
     first_sort (tree l c o) = sort_of l
 
 -- the number of the next variable of a kind, and the counts behind it
-abbrev place : Sort → ℕ → ℕ → ℕ
+abbrev pub place : Sort → ℕ → ℕ → ℕ
 place of_type n m = n
 place of_const n m = m
 place of_lifetime n m = 0
 
-abbrev next_types : Sort → ℕ → ℕ
+abbrev pub next_types : Sort → ℕ → ℕ
 next_types of_type n = suc n
 next_types of_const n = n
 next_types of_lifetime n = n
 
-abbrev next_consts : Sort → ℕ → ℕ
+abbrev pub next_consts : Sort → ℕ → ℕ
 next_consts of_type m = m
 next_consts of_const m = suc m
 next_consts of_lifetime m = m
 
-own-next : (n m : ℕ) (v : Variable) (vs : List Variable) → own_from n m (v ∷ vs) ≡ leaf (infer v.kind (place v.kind n m)) ∷ own_from (next_types v.kind n) (next_consts v.kind m) vs
+pub own-next : (n m : ℕ) (v : Variable) (vs : List Variable) → own_from n m (v ∷ vs) ≡ leaf (infer v.kind (place v.kind n m)) ∷ own_from (next_types v.kind n) (next_consts v.kind m) vs
 own-next n m v vs = by v.text v.kind
   where
     by : (x : List ℕ) (k : Sort) → own_from n m ((let w : Variable = record { text = x; kind = k } in w) ∷ vs) ≡ leaf (infer k (place k n m)) ∷ own_from (next_types k n) (next_consts k m) vs
@@ -72,13 +72,13 @@ own-next n m v vs = by v.text v.kind
     by x of_const = refl
     by x of_lifetime = refl
 
-first-same : {A : Type 0} (x y : A) (xs ys : List A) → x ∷ xs ≡ y ∷ ys → x ≡ y
+pub first-same : {A : Type 0} (x y : A) (xs ys : List A) → x ∷ xs ≡ y ∷ ys → x ≡ y
 first-same x y xs ys e = cc
 
-rest-same : {A : Type 0} (x y : A) (xs ys : List A) → x ∷ xs ≡ y ∷ ys → xs ≡ ys
+pub rest-same : {A : Type 0} (x y : A) (xs ys : List A) → x ∷ xs ≡ y ∷ ys → xs ≡ ys
 rest-same x y xs ys e = cc
 
-not-empty : {A : Type 0} (y : A) (ys : List A) → [] ≡ y ∷ ys → ⊥
+pub not-empty : {A : Type 0} (y : A) (ys : List A) → [] ≡ y ∷ ys → ⊥
 not-empty y ys e = cc
 
 plus-none : (n : ℕ) → n ≡ n + 0

@@ -15,7 +15,7 @@ length-map : {A B : Type 0} (f : A → B) (xs : List A) → length (map f xs) �
 length-map f [] = refl
 length-map f (x ∷ xs) = ap suc (length-map f xs)
 
-erased-with : (A : Trees) (b : Reference) → Fits A b.args → with_args (erase A) (erased_reference b) ≡ erased_reference (with_args A b)
+pub erased-with : (A : Trees) (b : Reference) → Fits A b.args → with_args (erase A) (erased_reference b) ≡ erased_reference (with_args A b)
 erased-with A b f = ap (λ a. (let x : Reference = record { trait = b.trait; args = a } in x)) (sym (erase-instantiate zero A b.args f))
 
 module _ (W : World) (rank : ℕ → ℕ) (down : LeadDown W rank) (E : List Reference) (fit : BoundsFit W E) where

@@ -52,7 +52,7 @@ abbrev pub TraitFormed : Declarations → NamedTrait → Type 0
 TraitFormed d n = Each (IsFormedReference (scope d n.item.home)) n.item.bounds
 
 abbrev pub ImplFormed : Declarations → NamedImpl → Type 0
-ImplFormed d n = Each (IsFormedReference (scope d n.item.home)) n.item.clauses
+ImplFormed d n = TextNodes (scope d n.item.home) n.item.header.args × Each (IsFormedReference (scope d n.item.home)) n.item.clauses
 
 abbrev pub QuestionFormed : Declarations → Question → Type 0
 QuestionFormed d q = IsFormedReference (scope d q.asker) q.asked × Each (IsFormedReference (scope d q.asker)) q.clauses
@@ -249,6 +249,13 @@ module _ (d : Declarations) (l : Line) (first c : ℕ) (parameter : Sort → ℕ
       (type-nodes d l first c parameter variables sorted free structs traits bare [] k.subject f.0 (head-of (type_uses (with_own d l) [] of_type k.subject) (bound_uses (with_own d l) k.bound) h))
       (type-sorts d l first c parameter variables sorted free structs traits bare [] k.subject f.0) k.bound f.1 (rest-of (type_uses (with_own d l) [] of_type k.subject) (bound_uses (with_own d l) k.bound) h)
 
+  -- the header of an impl, whose uses are those of its trait and then those of its self type
+  header-formed : (k : Clause) → ScalarClause k → S (header_uses (with_own d l) k) → IsFormedReference (scope_of d l c) (clause_reference M k)
+  header-formed k f h =
+      self-formed (type_tree M [] of_type k.subject)
+      (type-nodes d l first c parameter variables sorted free structs traits bare [] k.subject f.0 (rest-of (bound_uses (with_own d l) k.bound) (type_uses (with_own d l) [] of_type k.subject) h))
+      (type-sorts d l first c parameter variables sorted free structs traits bare [] k.subject f.0) k.bound f.1 (head-of (bound_uses (with_own d l) k.bound) (type_uses (with_own d l) [] of_type k.subject) h)
+
   bounds-formed : (bs : List Bound) → ScalarBounds bs → S (flat_map (bound_uses (with_own d l)) bs) → Each (IsFormedReference (scope_of d l c)) (map (with_self M (leaf (param of_type 0))) bs)
   bounds-formed [] f h = tt
   bounds-formed (b ∷ bs) f h = (
@@ -272,7 +279,10 @@ module _ (d e : Declarations) (grows : (h : ℕ) → Grows (scope d h) (scope e 
   traits-still = each-map (TraitFormed d) (TraitFormed e) (λ x p. each-map (IsFormedReference (scope d x.item.home)) (IsFormedReference (scope e x.item.home)) (reference-grows (scope d x.item.home) (scope e x.item.home) (grows x.item.home)) x.item.bounds p) d.traits h.traits
 
   impls-still : Each (ImplFormed e) d.impls
-  impls-still = each-map (ImplFormed d) (ImplFormed e) (λ x p. each-map (IsFormedReference (scope d x.item.home)) (IsFormedReference (scope e x.item.home)) (reference-grows (scope d x.item.home) (scope e x.item.home) (grows x.item.home)) x.item.clauses p) d.impls h.impls
+  impls-still =
+      each-map (ImplFormed d) (ImplFormed e) (λ x p.
+      (nodes-grow (scope d x.item.home) (scope e x.item.home) (grows x.item.home) x.item.header.args p.0, each-map (IsFormedReference (scope d x.item.home)) (IsFormedReference (scope e x.item.home)) (reference-grows (scope d x.item.home) (scope e x.item.home) (grows x.item.home)) x.item.clauses p.1))
+      d.impls h.impls
 
   questions-still : Each (QuestionFormed e) d.questions
   questions-still =
@@ -436,14 +446,22 @@ line-formed d line (impl_line ps k ks) w f well h =
     let p = passes-tests d l f in
     let goes = λ (c : ℕ). item-grows d e [] [] (nothing-behind d.structs) (nothing-behind d.traits) c (seen-still d e refl c) in
     let bare = autos-bare d well.bare in
-    let all = rest-of d l 0 (last_crate d) param [] param-sorted (param-free (scope_of d l (last_crate d))) well.struct_numbers well.trait_numbers bare (header_uses d k) (flat_map (clause_uses d) ks) (faultless-uses d l f, p.has_seen_names) in
+    let free = param-free (scope_of d l (last_crate d)) in
+    let seen : SeenUses d l (last_crate d) = (faultless-uses d l f, p.has_seen_names) in
+    let header = head-of d l 0 (last_crate d) param [] param-sorted free well.struct_numbers well.trait_numbers bare (header_uses d k) (flat_map (clause_uses d) ks) seen in
+    let all = rest-of d l 0 (last_crate d) param [] param-sorted free well.struct_numbers well.trait_numbers bare (header_uses d k) (flat_map (clause_uses d) ks) seen in
+    let own = own-grows d l (last_crate d) refl in
+    let scalar = impl-scalars line ps k ks w in
     record {
       crates = h.crates;
       structs = structs-still d e goes h;
       traits = traits-still d e goes h;
-      impls = each-more (ImplFormed e) d.impls x (impls-still d e goes h)
-          (each-map (IsFormedReference (scope_of d l (last_crate d))) (IsFormedReference (scope e (last_crate d))) (reference-grows (scope_of d l (last_crate d)) (scope e (last_crate d)) (own-grows d l (last_crate d) refl)) (map (clause_reference (item_meanings d l 0)) ks)
-          (clauses-formed d l 0 (last_crate d) param [] param-sorted (param-free (scope_of d l (last_crate d))) well.struct_numbers well.trait_numbers bare ks (impl-scalars line ps k ks w).1 all));
+      impls = each-more (ImplFormed e) d.impls x (impls-still d e goes h) (
+        nodes-grow (scope_of d l (last_crate d)) (scope e (last_crate d)) own x.item.header.args
+            (header-formed d l 0 (last_crate d) param [] param-sorted free well.struct_numbers well.trait_numbers bare k scalar.0 header).nodes,
+        each-map (IsFormedReference (scope_of d l (last_crate d))) (IsFormedReference (scope e (last_crate d))) (reference-grows (scope_of d l (last_crate d)) (scope e (last_crate d)) own) (map (clause_reference (item_meanings d l 0)) ks)
+            (clauses-formed d l 0 (last_crate d) param [] param-sorted free well.struct_numbers well.trait_numbers bare ks scalar.1 all),
+      );
       questions = questions-still d e goes h;
       core = h.core;
     }
@@ -451,6 +469,9 @@ line-formed d line (impl_line ps k ks) w f well h =
 -- ---- `core`
 abbrev pub core_trait : ℕ → NamedTrait
 core_trait k = option_map_or (λ t. t) (slice_get nothing_declared.traits k) (record { text = []; kinds = []; item = record { name = 0; home = 0; is_fundamental = false; is_auto = false; bounds = [] } })
+
+abbrev core_box : NamedStruct
+core_box = option_map_or (λ s. s) (slice_get nothing_declared.structs 0) (record { text = []; kinds = []; item = record { name = 0; home = 0; is_fundamental = false; fields = [] } })
 
 core-crates : (k : ℕ) (x : NamedCrate) → slice_get nothing_declared.crates k ≡ Some x → IsCrate k x
 core-crates zero x e = let s = same_Some _ x e in (ap (λ (z : NamedCrate). z.item.name) (sym s), λ u i. absurd (in-nothing u (subst (λ (z : NamedCrate). In u z.item.uses) (sym s) i)))
@@ -461,7 +482,7 @@ core-formed = record {
   crates = core-crates;
   structs = ((record { nodes = (refl, (tt, tt, tt), tt); sort = refl }, tt), tt);
   traits = (tt, ((record { nodes = (tt, tt, tt); trait = (core_trait 0, refl, refl, refl) }, tt), ((record { nodes = (tt, tt, tt); trait = (core_trait 1, refl, refl, refl) }, tt), (tt, (tt, (tt, ((record { nodes = (tt, tt, (tt, tt, tt)); trait = (core_trait 5, refl, refl, refl) }, tt), ((record { nodes = (tt, tt, (tt, tt, tt)); trait = (core_trait 6, refl, refl, refl) }, tt), (tt, tt)))))))));
-  impls = (tt, (tt, (tt, (tt, (tt, (tt, (tt, (tt, (tt, (tt, (tt, (tt, (tt, (tt, (tt, (tt, (tt, (tt, ((record { nodes = (tt, tt, tt); trait = (core_trait 1, refl, refl, refl) }, tt), ((record { nodes = (tt, tt, tt); trait = (core_trait 1, refl, refl, refl) }, tt), (tt, (tt, (tt, (tt, (tt, (tt, (tt, (tt, (tt, (tt, (tt, (tt, (tt, (tt, (tt, (tt, (tt, (tt, ((record { nodes = (tt, tt, tt); trait = (core_trait 2, refl, refl, refl) }, tt), tt)))))))))))))))))))))))))))))))))))))));
+  impls = (((tt, tt, tt), tt), (((tt, tt, tt), tt), (((tt, tt, tt), tt), (((tt, tt, tt), tt), (((tt, tt, tt), tt), (((tt, tt, tt), tt), (((tt, tt, tt), tt), (((tt, tt, tt), tt), (((tt, tt, tt), tt), (((tt, tt, tt), tt), (((tt, tt, tt), tt), (((tt, tt, tt), tt), (((tt, tt, tt), tt), (((tt, tt, tt), tt), (((tt, tt, tt), tt), (((refl, (tt, tt, (tt, tt, tt)), tt), tt), (((refl, (tt, tt, tt), tt), tt), (((refl, (tt, tt, tt), tt), tt), (((refl, (tt, tt, (tt, tt, tt)), tt), (record { nodes = (tt, tt, tt); trait = (core_trait 1, refl, refl, refl) }, tt)), ((((core_box, refl, refl, refl), (tt, tt, tt), tt), (record { nodes = (tt, tt, tt); trait = (core_trait 1, refl, refl, refl) }, tt)), (((tt, tt, tt), tt), (((tt, tt, tt), tt), (((tt, tt, tt), tt), (((tt, tt, tt), tt), (((tt, tt, tt), tt), (((tt, tt, tt), tt), (((tt, tt, tt), tt), (((tt, tt, tt), tt), (((tt, tt, tt), tt), (((tt, tt, tt), tt), (((tt, tt, tt), tt), (((tt, tt, tt), tt), (((tt, tt, tt), tt), (((tt, tt, tt), tt), (((tt, tt, tt), tt), (((refl, (tt, tt, (tt, tt, tt)), tt), tt), (((refl, (tt, tt, tt), tt), tt), (((refl, (tt, tt, tt), tt), tt), (((refl, (tt, tt, (tt, tt, tt)), tt), (record { nodes = (tt, tt, tt); trait = (core_trait 2, refl, refl, refl) }, tt)), tt)))))))))))))))))))))))))))))))))))))));
   questions = tt;
   core = λ k n e. e;
 }

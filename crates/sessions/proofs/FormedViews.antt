@@ -28,7 +28,7 @@ use Rattle.view_lowering.specs.Plain.{plain_label, plain, plain_reference, plain
 use Rattle.view_lowering.specs.Seen.{struct_sorts, trait_sorts}
 use Rattle.assembly_laws.specs.Asking.{next_of}
 use Rattle.assembly_laws.specs.DeclaredWell.{are_distinct, is_single}
-use Rattle.view_lowering.specs.Ready.{AreSeen}
+use Rattle.view_lowering.specs.Ready.{AreSeen, OfTexts}
 use Rattle.view_lowering.proofs.Matched.{IsItem, each-placed, items-matched}
 use Rattle.view_lowering.proofs.Sorts.{is_bad}
 use Rattle.view_lowering.proofs.Spoken.{plain-sorts}
@@ -58,7 +58,7 @@ map-in {A = A} f (x ∷ xs) y i = by (in-cases y (f x) (map f xs) i) (map-in f x
     by (inr j) r = let q = r j in (q.0, there q.0 x xs q.1, q.2)
 
 module _ {N D : Type 0} (item : N → D) (plainly : D → D) (see : D → Bool) where
-  in-seen : (ns : List N) (y : D) → In y (map plainly (filter see (map item ns))) → (n : N) × In n ns × (see (item n) ≡ true) × (y ≡ plainly (item n))
+  pub in-seen : (ns : List N) (y : D) → In y (map plainly (filter see (map item ns))) → (n : N) × In n ns × (see (item n) ≡ true) × (y ≡ plainly (item n))
   in-seen ns y i =
       let a = map-in plainly (filter see (map item ns)) y i in
       let b = in-filter see (map item ns) a.0 a.1 in
@@ -324,7 +324,7 @@ module _ (d : text.Declarations) (c : ℕ) (w : Well d) (f : Formed d) (es : Lis
     written_clause = map-in (plain_reference kept) from.0.item.clauses k (subst (λ (x : ImplDecl). In k x.clauses) from.3 b)
 
     one-clause : IsFormedReference (scope d from.0.item.home) written_clause.0
-    one-clause = each-in (IsFormedReference (scope d from.0.item.home)) from.0.item.clauses (each-in (ImplFormed d) d.impls f.impls from.0 from.1) written_clause.0 written_clause.1
+    one-clause = each-in (IsFormedReference (scope d from.0.item.home)) from.0.item.clauses (each-in (ImplFormed d) d.impls f.impls from.0 from.1).1 written_clause.0 written_clause.1
 
     clause-nodes : NodesFit V sorts k.args
     clause-nodes =
@@ -335,6 +335,14 @@ module _ (d : text.Declarations) (c : ℕ) (w : Well d) (f : Formed d) (es : Lis
     clause-trait =
         subst (λ (x : Reference). IsTraitOf V sorts x.trait (sorts_of x.args)) (sym written_clause.2)
         (subst (IsTraitOf V sorts written_clause.0.trait) (sym (plain-sorts kept written_clause.0.args)) (trait-seen from.0.item.home from.2 written_clause.0.trait (sorts_of written_clause.0.args) one-clause.trait))
+
+  -- the header of an impl
+  pub header-nodes : (i : ImplDecl) → In i V.impls → NodesFit V sorts i.header.args
+  header-nodes i a =
+      let n = in-seen (λ (m : NamedImpl). m.item) plain_impl sees_impl d.impls i (subst (λ xs. In i xs) impls-are a) in
+      let args = n.0.item.header.args in
+      subst (λ (x : ImplDecl). NodesFit V sorts x.header.args) (sym n.3)
+      (nodes-seen n.0.item.home n.2 (plain all_kept args) (nodes-plain (scope d n.0.item.home) all_kept args (each-in (ImplFormed d) d.impls f.impls n.0 n.1).0))
 
   -- a trait of this number that passes the test is one of the text
   some-trait : (p : TraitDecl → Bool) (t : ℕ) → list_any p (traits_named V t) ≡ true → (n : NamedTrait) × In n d.traits × (p (plain_trait n.item) ≡ true) × (sorts.of_trait t ≡ of_type ∷ n.kinds)
@@ -393,3 +401,10 @@ module _ (d : text.Declarations) (c : ℕ) (w : Well d) (f : Formed d) (es : Lis
 
 pub texts-views-are-formed : TextsAreFormed
 texts-views-are-formed bytes d h c es decls seen = let x = texts-are-formed bytes d h in view-formed d c x.0 x.1 es decls seen
+
+-- the names in the headers of its impls are declared, and have the arguments that they take
+abbrev pub HaveFormedHeaders : List Entry → Items → Type 0
+HaveFormedHeaders es d = (i : ImplDecl) → In i (written es d).impls → NodesFit (written es d) (sorts_in d) i.header.args
+
+pub texts-headers-are-formed : OfTexts HaveFormedHeaders
+texts-headers-are-formed bytes d h c es decls seen = let x = texts-are-formed bytes d h in header-nodes d c x.0 x.1 es decls seen

@@ -6,8 +6,8 @@ use Rattle.model.specs.Label.{Label, Sort, of_type, of_const, of_lifetime, param
 use Rattle.model.specs.Trees.{Trees, none, tree, leaf, ◌+++◌, IsA, erase, erase_label, some_node, sort_of, is_sort}
 use Rattle.model.specs.Proofs.{Every}
 use Rattle.model.specs.Answers.{is_open, is_closed}
-use Rattle.model.proofs.Fitting.{child-shut, next-shut, head-shut, no-left, not-true, or-no}
-use Rattle.infer_table.specs.Solutions.{Assignment, instance, tree_of, IsSorted}
+use Rattle.model.proofs.Fitting.{child-shut, next-shut, no-left, not-true, or-no}
+use Rattle.infer_table.specs.Solutions.{Assignment, instance, IsSorted}
 use Rattle.infer_table.proofs.SolutionLaws.{is_sort-equal, is_sort-self}
 use Rattle.overlap_check.specs.Questions.{FitKinds, of_kind, filled}
 use Rattle.view_lowering.specs.QuestionVariables.{number_of, is_stray}

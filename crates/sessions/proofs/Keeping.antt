@@ -1,7 +1,12 @@
 -- What is true of a session when it begins, and stays true.
-use Rattle.std.proofs.Common.{◌≡◌, ◌-◌, ℕ, Bool, false, List, [], refl, sym, ap, ◌∙◌, subst}
-use Rattle.model.specs.Terms.{erased_world}
-use Rattle.model.specs.Worlds.{World}
+use Rattle.std.proofs.Common.{◌≡◌, ◌-◌, ℕ, Bool, true, false, List, [], Option, None, Result, Ok, Err, refl, sym, ap, ◌∙◌, subst}
+use Rattle.std.specs.Prelude.{IfOk, OnOk}
+use Rattle.model.specs.Answers.{is_bounded, is_possible}
+use Rattle.model.specs.Terms.{erased_world, erased_reference}
+use Rattle.model.specs.Worlds.{Reference}
+use Rattle.type_terms.specs.Made.{terms as as_terms, is_made, is_in_range}
+use Rattle.type_terms.specs.declared.Fault.{Fault}
+use Rattle.infer_table.specs.Responses.{AnswerTrees}
 use Rattle.type_terms.specs.Terms.{Entry}
 use Rattle.search_graph.specs.Cache.{AreJustified}
 use Rattle.search_graph.specs.SearchState.{SearchState}
@@ -14,6 +19,7 @@ use Rattle.evaluation.specs.Tables.{frame_tables}
 use Rattle.goal_frames.specs.Handlers.{same_answer, applies_always}
 use Rattle.root_goals.specs.declared.context.SolverCx.{SolverCx}
 use Rattle.root_goals.specs.Contexts.{entries_of, IsReady as IsReadyContext}
+use Rattle.root_goals.specs.Evaluations.{IsFound}
 use Rattle.root_goals.specs.Searching.{solver_meaning}
 use Rattle.text_definitions.specs.Declarations.{Declarations, Question}
 use Rattle.view_lowering.specs.Plain.{plainly_seen_from, unbound_reference}
@@ -25,12 +31,18 @@ use Rattle.candidate_assembly.specs.Ready.{IsReady}
 use Rattle.candidate_assembly.specs.Solving.{Solving, solver_for, coinductive_for, meaning_for}
 use Rattle.view_lowering.specs.Ready.{AreSeen}
 use Rattle.view_lowering.specs.QuestionVariables.{HasVariablesAlone, RefutationsHaveVariablesAlone}
-use Rattle.sessions.specs.Asking.{HasNoProof, IsLeftOpen, goal_alone}
-use Rattle.sessions.specs.Promises.{IsRefutedQuestion, IsOpenQuestion}
+use Rattle.sessions.specs.declared.answers.RefuteAnswer.{RefuteAnswer}
+use Rattle.sessions.specs.declared.answers.RefuteAnswer.TheVariants.{No, Open}
+use Rattle.sessions.specs.Asking.{HasNoProof, IsLeftOpen, IsRefusedAlone, goal_alone, asked_alone}
+use Rattle.sessions.specs.Given.{refutation_of}
+use Rattle.sessions.specs.Promises.{view_in, IsRefutation, IsRefutedQuestion, IsOpenQuestion}
+use Rattle.sessions.specs.Refusals.{session_meaning, IsToldPossible}
 use Rattle.sessions.specs.Resting.{Cached, AreAtRest}
 use Rattle.sessions.specs.Sessions.{SolverRests, SolvesView, IsSolvingOf, IsSession}
 use Rattle.sessions.specs.Subjects.{AsksRefutation}
-use Rattle.sessions.proofs.Refusals.{refuted}
+use Rattle.sessions.proofs.ExactRefusals.{refusals-are-exact, question-formed, closed-by}
+use Rattle.sessions.proofs.LifetimesAlone.{refusal-is}
+use Rattle.sessions.proofs.Refusals.{refuted, plain-erased}
 use Rattle.sessions.proofs.SelfTypes.{self-types-begin}
 
 -- ---- any handler
@@ -105,3 +117,57 @@ module _ (d : Declarations) (c depth : ℕ) (cx : SolverCx Solver) (graph : Sear
   -- what is left open is so by what the crate sees
   pub left-open : (n : ℕ) (q : Question) → AsksRefutation d c n q → LeftOpen graph.root_depth q → IsOpenQuestion d depth q
   left-open n q a h = (solved cx, subst (λ k. IsSolvingOf d k (solved cx)) (sym a.asks.asker) is.solving, subst (λ k. LeftOpen k q) is.rest.depth h)
+
+  -- ---- what is answered
+  abbrev asked_of : Question → Reference
+  asked_of q = unbound_reference q.asked
+
+  abbrev Found : ℕ → Reference → Option AnswerTrees → Type 0
+  Found n r a = IsFound session_meaning (solved cx) n (asked_alone r) a
+
+  -- what a call says of a question that it answers
+  pub record IsAnswered (n : ℕ) (q : Question) (a : Result RefuteAnswer Fault) : Type 0 where
+    pub made : OnOk a (is_made is_in_range as_terms (asked_of q).args ≡ true)
+    pub no : a ≡ Ok No → HasVariablesAlone q → HasNoProof (solver_for (solved cx)) (goal_alone (asked_of q))
+    pub refused : a ≡ Ok No
+        → IsRefusedAlone solver_for (λ s. FollowsByView s.view) coinductive_for (λ (h : Solver) es. IsReady es h.declarations) (λ (h : Solver) es. solving_of es h.declarations) (solved cx) n (asked_of q)
+    pub left : a ≡ Ok Open → LeftOpen n q
+
+  module _ (alone : RefutationsHaveVariablesAlone) (n : ℕ) (q : Question) (a : AsksRefutation d c n q) where
+    own-alone : HasVariablesAlone q
+    own-alone = alone is.text.0 d is.text.1 (n - 1) q a.asks.question.there a.refutes
+
+    solves : IsSolvingOf d q.asker (solved cx)
+    solves = subst (λ k. IsSolvingOf d k (solved cx)) (sym a.asks.asker) is.solving
+
+    -- of a bounded reference it is told whether it is possible
+    told-of : is_made is_in_range as_terms (asked_of q).args ≡ true → is_bounded depth (view_in d q.asker) q.asker (erased_reference (asked_of q)) ≡ true → IsToldPossible (solved cx) depth (view_in d q.asker) q.asker (asked_of q)
+    told-of made bounded =
+        refusals-are-exact d is.text q.asker (solved cx) solves (asked_of q)
+        (question-formed d is.text n q a.asks.question own-alone made solves.entries solves.declarations solves.seen) depth bounded
+
+    same-asked : erased_reference (asked_of q) ≡ erased_reference q.asked
+    same-asked = ap (λ z. (let r : Reference = record { trait = q.asked.trait; args = z } in r)) (plain-erased q.asked.args)
+
+    abbrev Bounded : Reference → Type 0
+    Bounded r = is_bounded depth (view_in d q.asker) q.asker r ≡ true
+
+    abbrev Possible : Reference → Bool → Type 0
+    Possible r b = is_possible depth (view_in d q.asker) q.asker r ≡ b
+
+    said : (r : Result RefuteAnswer Fault) → IsAnswered graph.root_depth q r → IfOk r (λ x. IsRefutation depth d q (refutation_of x))
+    said (Ok No) h = (
+      refused-is-refuted alone n q a (h.no refl),
+      λ b.
+          let bounded = subst Bounded (sym same-asked) b in
+          let x = h.refused refl in
+          let e = refusal-is x.table x.no_values (asked_of q) (closed-by depth (view_in d q.asker) q.asker (asked_of q) bounded) x.answer x.refused in
+          subst (λ z. Possible z false) same-asked ((told-of h.made bounded).refused (subst (λ k. Found k (asked_of q) None) is.rest.depth (subst (Found graph.root_depth (asked_of q)) e x.found))),
+    )
+    said (Ok Open) h = λ b.
+        let bounded = subst Bounded (sym same-asked) b in
+        subst (λ z. Possible z true) same-asked ((told-of h.made bounded).left_open (subst (λ k. LeftOpen k q) is.rest.depth (h.left refl)))
+    said (Err e) h = tt
+
+  pub answered-exactly : RefutationsHaveVariablesAlone → (n : ℕ) (q : Question) → AsksRefutation d c n q → (r : Result RefuteAnswer Fault) → IsAnswered graph.root_depth q r → IfOk r (λ x. IsRefutation depth d q (refutation_of x))
+  answered-exactly alone n q a r h = said alone n q a r h

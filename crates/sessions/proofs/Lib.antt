@@ -15,10 +15,19 @@ mod TextTerms
 mod FormedTexts
 mod FormedViews
 mod QuestionTerms
+mod BetterTerms
+mod MadeInstances
+mod ElaboratedClauses
 mod TextQuestions
 mod ReferenceGoals
 mod AskedGoals
+mod DirectRules
+mod DirectWays
 mod TextAnswers
+mod WithoutLifetimes
+mod SeenPlainly
+mod LifetimesAlone
+pub mod ExactRefusals
 pub mod Given
 pub mod Posed
 pub mod Counted
@@ -27,3 +36,20 @@ pub mod SelfTypes
 pub mod Alone
 pub mod Keeping
 pub mod Readying
+mod PairTerms
+pub mod PairGoals
+pub mod OpenPairs
+mod Numbers
+pub mod Mentioned
+pub mod WrittenWell
+pub mod RefutedGoals
+pub mod PairRefusals
+pub mod PairChecks
+pub mod ImplNumbers
+pub mod CratesAside
+pub mod CheckedSubjects
+mod DecidedAnswers
+pub mod Answering
+pub mod Answered
+pub mod Posing
+pub mod ClausesApply

@@ -8,7 +8,8 @@ use Rattle.std.specs.Str.{bytes_eq}
 use Rattle.model.specs.Label.{Label, Sort, of_lifetime, of_type, of_const, bool, char, str, never, array, slice, tuple, dynamic, static, int, uint, adt, fn_ptr, auto_trait, value, ref, raw_pointer, principal, param, placeholder, infer, canonical, bound, predicate}
 use Rattle.model.specs.Trees.{Trees, none, tree, leaf, ◌+++◌, is_no_tree}
 use Rattle.model.specs.Worlds.{Reference}
-use Rattle.type_terms.specs.Made.{bounds, traits, is_made}
+use Rattle.type_terms.specs.Made.{terms, bounds, traits, is_made}
+use Rattle.type_terms.proofs.Made.{false-true, made-weaker}
 use Rattle.declarations.specs.Merges.{Each}
 use Rattle.text_definitions.specs.Syntax.{TypeTree, of_primitive, never_type, variable_type, named, reference_to, pointer_to, slice_of, array_of, tuple_of, fn_of, fn_to, dyn_of, Types, no_types, and_type, Args, no_args, and_arg, Arg, lifetime_arg, number_arg, type_arg, Item, bound_item, lifetime_item, Items, no_items, and_item, Length, number_length, name_length, variable_length, Clause, Line, crate_line, struct_line, trait_line, impl_line, prove_line, refute_line}
 use Rattle.text_definitions.specs.Declarations.{Declarations, Question, Variable, Known, a_crate, a_struct, a_trait, known, nothing_declared}
@@ -26,302 +27,338 @@ use Rattle.view_lowering.proofs.Begins.{is_scalar}
 use Rattle.view_lowering.proofs.Scalars.{Scalars, ScalarTypes, ScalarArgs, ScalarArg, ScalarItem}
 use Rattle.view_lowering.proofs.ScalarTokens.{ScalarClause, ScalarClauses, prove-scalars, refute-scalars}
 use Rattle.view_lowering.proofs.Applied.{each-more}
-use Rattle.view_lowering.proofs.Trees.{and, and-right, or-left, or-right}
+use Rattle.view_lowering.proofs.Trees.{and, and-left, and-right, or-left, or-right}
 use Rattle.sessions.specs.Goals.{is_fixed, are_fixed}
 
--- ---- trees
-abbrev Good : Trees → Type 0
-Good t = are_fixed (plain all_kept t) ≡ true
+-- ---- variables may stand, or not
+module _ (w : Bool) where
+  abbrev pub is_good : Label → Bool
+  is_good (infer of_type i) = w
+  is_good (infer of_const i) = w
+  is_good l = is_fixed l
 
-good-append : (x y : Trees) → Good x → Good y → Good (x +++ y)
-good-append none y h g = g
-good-append (tree l c o) y h g = by (plain_label all_kept l) h (λ q. good-append o y q g)
-  where
-    last : (a b d : Bool) → (Good o → Good (o +++ y)) → a && (b && (d && are_fixed (plain all_kept o))) ≡ true → a && (b && (d && are_fixed (plain all_kept (o +++ y)))) ≡ true
-    last true true true r q = r q
-    last true true false r q = absurd cc
-    last true false d r q = absurd cc
-    last false b d r q = absurd cc
+  abbrev are_good : Trees → Bool
+  are_good t = is_made is_good terms t
 
-    by : (m : Label) → are_fixed (tree m (plain all_kept c) (plain all_kept o)) ≡ true → (Good o → Good (o +++ y)) → are_fixed (tree m (plain all_kept c) (plain all_kept (o +++ y))) ≡ true
-    by dynamic q r = last true true (is_made is_fixed bounds (plain all_kept c)) r q
-    by (principal n t) q r = absurd cc
-    by (auto_trait i) q r = absurd cc
-    by (predicate k) q r = absurd cc
-    by bool q r = last true true (are_fixed (plain all_kept c)) r q
-    by char q r = last true true (are_fixed (plain all_kept c)) r q
-    by str q r = last true true (are_fixed (plain all_kept c)) r q
-    by never q r = last true true (are_fixed (plain all_kept c)) r q
-    by array q r = last true true (are_fixed (plain all_kept c)) r q
-    by slice q r = last true true (are_fixed (plain all_kept c)) r q
-    by tuple q r = last true true (are_fixed (plain all_kept c)) r q
-    by static q r = last true (is_no_tree (plain all_kept c)) (are_fixed (plain all_kept c)) r q
-    by (int n) q r = last true true (are_fixed (plain all_kept c)) r q
-    by (uint n) q r = last true true (are_fixed (plain all_kept c)) r q
-    by (adt n) q r = last true true (are_fixed (plain all_kept c)) r q
-    by (fn_ptr n) q r = last true true (are_fixed (plain all_kept c)) r q
-    by (value n) q r = last true (is_no_tree (plain all_kept c)) (are_fixed (plain all_kept c)) r q
-    by (ref n) q r = last true true (are_fixed (plain all_kept c)) r q
-    by (raw_pointer n) q r = last true true (are_fixed (plain all_kept c)) r q
-    by (placeholder s i) q r = last true (is_no_tree (plain all_kept c)) (are_fixed (plain all_kept c)) r q
-    by (param s i) q r = absurd cc
-    by (infer s i) q r = absurd cc
-    by (canonical s i) q r = absurd cc
-    by (bound s j i) q r = absurd cc
+  -- ---- trees
+  abbrev Good : Trees → Type 0
+  Good t = are_good (plain all_kept t) ≡ true
 
-and-end : (b : Bool) → b ≡ true → b && true ≡ true
-and-end true h = refl
-and-end false h = absurd cc
-
--- a lifetime is one too where the bounds of a `dyn` end
-record Ends (t : Trees) : Type 0 where
-  after_none : is_made is_fixed bounds (plain all_kept t) ≡ true
-  after_some : is_made is_fixed traits (plain all_kept t) ≡ true
-
-ends-auto : (n : ℕ) (o : Trees) → Ends o → Ends (tree (auto_trait n) none o)
-ends-auto n o e = record { after_none = e.after_some; after_some = e.after_some }
-
-ends-autos : (ns : List ℕ) (o : Trees) → Ends o → Ends (auto_leaves ns +++ o)
-ends-autos [] o e = e
-ends-autos (n ∷ ns) o e = ends-auto n (auto_leaves ns +++ o) (ends-autos ns o e)
-
-good-dyn : (n t : ℕ) (c o : Trees) → Good c → Ends o → Good (tree dynamic (tree (principal n t) c o) none)
-good-dyn n t c o g e = and-end _ (and (are_fixed (plain all_kept c)) (is_made is_fixed traits (plain all_kept o)) g e.after_some)
-
-good-bare-dyn : (o : Trees) → Ends o → Good (tree dynamic o none)
-good-bare-dyn o e = and-end (is_made is_fixed bounds (plain all_kept o)) e.after_none
-
-good-struct : (k : Option Known) (c : Trees) → Good c → Good (tree (struct_label k) c none)
-good-struct (Some (a_struct i h ks)) c g = and-end (are_fixed (plain all_kept c)) g
-good-struct None c g = and-end (are_fixed (plain all_kept c)) g
-good-struct (Some (a_crate i)) c g = and-end (are_fixed (plain all_kept c)) g
-good-struct (Some (a_trait i h a ks)) c g = and-end (are_fixed (plain all_kept c)) g
-
-good-scalar : (p : Label) → is_scalar p ≡ true → Good (leaf p)
-good-scalar bool g = refl
-good-scalar char g = refl
-good-scalar str g = refl
-good-scalar (int n) g = refl
-good-scalar (uint n) g = refl
-good-scalar never g = absurd cc
-good-scalar array g = absurd cc
-good-scalar slice g = absurd cc
-good-scalar tuple g = absurd cc
-good-scalar dynamic g = absurd cc
-good-scalar static g = absurd cc
-good-scalar (adt n) g = absurd cc
-good-scalar (fn_ptr n) g = absurd cc
-good-scalar (auto_trait n) g = absurd cc
-good-scalar (value n) g = absurd cc
-good-scalar (ref b) g = absurd cc
-good-scalar (raw_pointer b) g = absurd cc
-good-scalar (principal n k) g = absurd cc
-good-scalar (param x i) g = absurd cc
-good-scalar (placeholder x i) g = absurd cc
-good-scalar (infer x i) g = absurd cc
-good-scalar (canonical x i) g = absurd cc
-good-scalar (bound x j i) g = absurd cc
-good-scalar (predicate k) g = absurd cc
-
--- ---- lists of names
-among-first : (n : List ℕ) (xs ys : List (List ℕ)) → is_among n xs ≡ true → is_among n (xs ++ ys) ≡ true
-among-first n [] ys h = absurd cc
-among-first n (x ∷ xs) ys h = by (bytes_eq x n) h (among-first n xs ys)
-  where
-    by : (b : Bool) → b || is_among n xs ≡ true → (is_among n xs ≡ true → is_among n (xs ++ ys) ≡ true) → b || is_among n (xs ++ ys) ≡ true
-    by true g r = refl
-    by false g r = r g
-
-no-count : (args : Args) → (args_count args == 0) ≡ true → args ≡ no_args
-no-count no_args h = refl
-no-count (and_arg a args) h = absurd (omega (arith, eqb-true (suc (args_count args)) 0 h))
-
--- ---- uses, each of which fits, and none a variable
-abbrev IsNamed : Use → Type 0
-IsNamed (variable_use p n) = ⊥
-IsNamed u = Unit {0}
-
-module _ (d : Declarations) (l : Line) (variables : List (List ℕ × Sort)) where
-  abbrev D : Declarations
-  D = with_own d l
-
-  abbrev means : Meanings
-  means = record { items = D; params = params_of l; first = 0; parameter = placeholder; variables = variables }
-
-  abbrev AllFit : List Use → Type 0
-  AllFit [] = Unit {0}
-  AllFit (u ∷ us) = (UseFits d l u × IsNamed u) × AllFit us
-
-  first-fit : (us vs : List Use) → AllFit (us ++ vs) → AllFit us
-  first-fit [] vs h = tt
-  first-fit (u ∷ us) vs h = (h.0, first-fit us vs h.1)
-
-  rest-fit : (us vs : List Use) → AllFit (us ++ vs) → AllFit vs
-  rest-fit [] vs h = h
-  rest-fit (u ∷ us) vs h = rest-fit us vs h.1
-
-  all-fit : (us : List Use) → UsesFit d l us → is_any (variables_in us) ≡ false → AllFit us
-  all-fit [] f h = tt
-  all-fit (variable_use p n ∷ us) f h = absurd cc
-  all-fit (u ∷ us) f h = ((f.0, tt), all-fit us f.1 h)
-
-  -- ---- lifetimes
-  under : (P : Trees → Type 0) → ((j i : ℕ) → P (leaf (bound of_lifetime j i))) → ((i : ℕ) → P (leaf (placeholder of_lifetime i))) → (j : ℕ) (s : List (List (List ℕ))) (n : List ℕ) → P (leaf (lifetime_under means j s n))
-  under P b p j [] n = p _
-  under P b p j (ns ∷ s) n = by (is_among n ns) (under P b p (suc j) s n)
+  good-append : (x y : Trees) → Good x → Good y → Good (x +++ y)
+  good-append none y h g = g
+  good-append (tree l c o) y h g = by (plain_label all_kept l) h (λ q. good-append o y q g)
     where
-      by : (c : Bool) → P (leaf (lifetime_under means (suc j) s n)) → P (leaf (if c then bound of_lifetime j (place_among n ns) else lifetime_under means (suc j) s n))
-      by true r = b j (place_among n ns)
-      by false r = r
+      last : (a b d : Bool) → (Good o → Good (o +++ y)) → a && (b && (d && are_good (plain all_kept o))) ≡ true → a && (b && (d && are_good (plain all_kept (o +++ y)))) ≡ true
+      last true true true r q = r q
+      last true true false r q = absurd cc
+      last true false d r q = absurd cc
+      last false b d r q = absurd cc
 
-  each-lifetime : (P : Trees → Type 0) → P (leaf static) → ((j i : ℕ) → P (leaf (bound of_lifetime j i))) → ((i : ℕ) → P (leaf (placeholder of_lifetime i))) → (s : List (List (List ℕ))) (n : List ℕ) → P (leaf (lifetime_label means s n))
-  each-lifetime P c b p s n = by (bytes_eq n static_name)
+      by : (m : Label) → are_good (tree m (plain all_kept c) (plain all_kept o)) ≡ true → (Good o → Good (o +++ y)) → are_good (tree m (plain all_kept c) (plain all_kept (o +++ y))) ≡ true
+      by dynamic q r = last true true (is_made is_good bounds (plain all_kept c)) r q
+      by (principal n t) q r = absurd cc
+      by (auto_trait i) q r = absurd cc
+      by (predicate k) q r = absurd cc
+      by bool q r = last true true (are_good (plain all_kept c)) r q
+      by char q r = last true true (are_good (plain all_kept c)) r q
+      by str q r = last true true (are_good (plain all_kept c)) r q
+      by never q r = last true true (are_good (plain all_kept c)) r q
+      by array q r = last true true (are_good (plain all_kept c)) r q
+      by slice q r = last true true (are_good (plain all_kept c)) r q
+      by tuple q r = last true true (are_good (plain all_kept c)) r q
+      by static q r = last true (is_no_tree (plain all_kept c)) (are_good (plain all_kept c)) r q
+      by (int n) q r = last true true (are_good (plain all_kept c)) r q
+      by (uint n) q r = last true true (are_good (plain all_kept c)) r q
+      by (adt n) q r = last true true (are_good (plain all_kept c)) r q
+      by (fn_ptr n) q r = last true true (are_good (plain all_kept c)) r q
+      by (value n) q r = last true (is_no_tree (plain all_kept c)) (are_good (plain all_kept c)) r q
+      by (ref n) q r = last true true (are_good (plain all_kept c)) r q
+      by (raw_pointer n) q r = last true true (are_good (plain all_kept c)) r q
+      by (placeholder s i) q r = last true (is_no_tree (plain all_kept c)) (are_good (plain all_kept c)) r q
+      by (param of_lifetime i) q r = last true (is_no_tree (plain all_kept c)) (are_good (plain all_kept c)) r q
+      by (param of_type i) q r = absurd cc
+      by (param of_const i) q r = absurd cc
+      by (infer of_lifetime i) q r = last true (is_no_tree (plain all_kept c)) (are_good (plain all_kept c)) r q
+      by (infer of_type i) q r = last w (is_no_tree (plain all_kept c)) (are_good (plain all_kept c)) r q
+      by (infer of_const i) q r = last w (is_no_tree (plain all_kept c)) (are_good (plain all_kept c)) r q
+      by (canonical s i) q r = absurd cc
+      by (bound s j i) q r = absurd cc
+
+  and-end : (b : Bool) → b ≡ true → b && true ≡ true
+  and-end true h = refl
+  and-end false h = absurd cc
+
+  -- a lifetime is one too where the bounds of a `dyn` end
+  record Ends (t : Trees) : Type 0 where
+    after_none : is_made is_good bounds (plain all_kept t) ≡ true
+    after_some : is_made is_good traits (plain all_kept t) ≡ true
+
+  ends-auto : (n : ℕ) (o : Trees) → Ends o → Ends (tree (auto_trait n) none o)
+  ends-auto n o e = record { after_none = e.after_some; after_some = e.after_some }
+
+  ends-autos : (ns : List ℕ) (o : Trees) → Ends o → Ends (auto_leaves ns +++ o)
+  ends-autos [] o e = e
+  ends-autos (n ∷ ns) o e = ends-auto n (auto_leaves ns +++ o) (ends-autos ns o e)
+
+  good-dyn : (n t : ℕ) (c o : Trees) → Good c → Ends o → Good (tree dynamic (tree (principal n t) c o) none)
+  good-dyn n t c o g e = and-end _ (and (are_good (plain all_kept c)) (is_made is_good traits (plain all_kept o)) g e.after_some)
+
+  good-bare-dyn : (o : Trees) → Ends o → Good (tree dynamic o none)
+  good-bare-dyn o e = and-end (is_made is_good bounds (plain all_kept o)) e.after_none
+
+  good-struct : (k : Option Known) (c : Trees) → Good c → Good (tree (struct_label k) c none)
+  good-struct (Some (a_struct i h ks)) c g = and-end (are_good (plain all_kept c)) g
+  good-struct None c g = and-end (are_good (plain all_kept c)) g
+  good-struct (Some (a_crate i)) c g = and-end (are_good (plain all_kept c)) g
+  good-struct (Some (a_trait i h a ks)) c g = and-end (are_good (plain all_kept c)) g
+
+  good-scalar : (p : Label) → is_scalar p ≡ true → Good (leaf p)
+  good-scalar bool g = refl
+  good-scalar char g = refl
+  good-scalar str g = refl
+  good-scalar (int n) g = refl
+  good-scalar (uint n) g = refl
+  good-scalar never g = absurd cc
+  good-scalar array g = absurd cc
+  good-scalar slice g = absurd cc
+  good-scalar tuple g = absurd cc
+  good-scalar dynamic g = absurd cc
+  good-scalar static g = absurd cc
+  good-scalar (adt n) g = absurd cc
+  good-scalar (fn_ptr n) g = absurd cc
+  good-scalar (auto_trait n) g = absurd cc
+  good-scalar (value n) g = absurd cc
+  good-scalar (ref b) g = absurd cc
+  good-scalar (raw_pointer b) g = absurd cc
+  good-scalar (principal n k) g = absurd cc
+  good-scalar (param x i) g = absurd cc
+  good-scalar (placeholder x i) g = absurd cc
+  good-scalar (infer x i) g = absurd cc
+  good-scalar (canonical x i) g = absurd cc
+  good-scalar (bound x j i) g = absurd cc
+  good-scalar (predicate k) g = absurd cc
+
+  -- ---- lists of names
+  among-first : (n : List ℕ) (xs ys : List (List ℕ)) → is_among n xs ≡ true → is_among n (xs ++ ys) ≡ true
+  among-first n [] ys h = absurd cc
+  among-first n (x ∷ xs) ys h = by (bytes_eq x n) h (among-first n xs ys)
     where
-      by : (a : Bool) → P (leaf (if a then static else lifetime_under means 0 s n))
-      by true = c
-      by false = under P b p 0 s n
+      by : (b : Bool) → b || is_among n xs ≡ true → (is_among n xs ≡ true → is_among n (xs ++ ys) ≡ true) → b || is_among n (xs ++ ys) ≡ true
+      by true g r = refl
+      by false g r = r g
 
-  good-lifetime : (s : List (List (List ℕ))) (n : List ℕ) → Good (leaf (lifetime_label means s n))
-  good-lifetime s n = each-lifetime Good refl (λ j i. refl) (λ i. refl) s n
+  no-count : (args : Args) → (args_count args == 0) ≡ true → args ≡ no_args
+  no-count no_args h = refl
+  no-count (and_arg a args) h = absurd (omega (arith, eqb-true (suc (args_count args)) 0 h))
 
-  ends-lifetime : (s : List (List (List ℕ))) (n : List ℕ) → Ends (leaf (lifetime_label means s n))
-  ends-lifetime s n = each-lifetime Ends (record { after_none = refl; after_some = refl }) (λ j i. record { after_none = refl; after_some = refl }) (λ i. record { after_none = refl; after_some = refl }) s n
+  -- ---- uses, each of which fits, and is a variable only where variables may stand
+  abbrev IsNamed : Use → Type 0
+  IsNamed (variable_use p n) = w ≡ true
+  IsNamed u = Unit {0}
 
-  good-optional : (s : List (List (List ℕ))) (o : Option (List ℕ)) → Good (optional_lifetime means s o)
-  good-optional s None = refl
-  good-optional s (Some n) = good-lifetime s n
+  not-false : (b : Bool) → (b ≡ false → ⊥) → b ≡ true
+  not-false true f = refl
+  not-false false f = absurd (f refl)
 
-  -- ---- names
-  param-bare : (n : List ℕ) (args : Args) → is_among n (params_of l).types ≡ true → UseFits d l (name_use of_type n (args_count args)) → args ≡ no_args
-  param-bare n args h f = no-count args (by (is_param l n) (among-first n (params_of l).types (params_of l).consts h) f)
-    where
-      by : (b : Bool) → b ≡ true → (if b then is_param_of l of_type n (args_count args) else option_map_or (is_type_of of_type (args_count args)) (known D n) false) ≡ true → (args_count args == 0) ≡ true
-      by true e g = and-right (is_among n (params_of l).types) _ g
-      by false e g = absurd cc
+  module _ (d : Declarations) (l : Line) (variables : List (List ℕ × Sort)) where
+    abbrev D : Declarations
+    D = with_own d l
 
-  good-named : (s : List (List (List ℕ))) (n : List ℕ) (args : Args) → UseFits d l (name_use of_type n (args_count args)) → Good (args_trees means s (kinds_of_struct (known D n)) args)
-      → Good (tree (type_label means n) (args_trees means s (kinds_of_struct (known D n)) args) none)
-  good-named s n args f g = by (is_among n (params_of l).types) refl
-    where
-      by : (b : Bool) → is_among n (params_of l).types ≡ b
-          → Good (tree (if b then placeholder of_type (0 + length (params_of l).lifetimes + place_among n (params_of l).types) else struct_label (known D n)) (args_trees means s (kinds_of_struct (known D n)) args) none)
-      by true e =
-          subst (λ x. Good (tree (placeholder of_type (0 + length (params_of l).lifetimes + place_among n (params_of l).types)) (args_trees means s (kinds_of_struct (known D n)) x) none)) (sym (param-bare n args e f)) refl
-      by false e = good-struct (known D n) (args_trees means s (kinds_of_struct (known D n)) args) g
+    abbrev means : Meanings
+    means = record { items = D; params = params_of l; first = 0; parameter = placeholder; variables = variables }
 
-  good-length : (n : Length) → AllFit (length_uses n) → Good (leaf (length_label means n))
-  good-length (number_length n) h = refl
-  good-length (name_length n) h = refl
-  good-length (variable_length n) h = absurd h.0.1
+    abbrev AllFit : List Use → Type 0
+    AllFit [] = Unit {0}
+    AllFit (u ∷ us) = (UseFits d l u × IsNamed u) × AllFit us
 
-  -- ---- the end of a `dyn`
-  ends-item : (s : List (List (List ℕ))) (i : Item) → Ends (item_lifetime means s i)
-  ends-item s (bound_item b n args) = record { after_none = refl; after_some = refl }
-  ends-item s (lifetime_item n) = ends-lifetime s n
+    first-fit : (us vs : List Use) → AllFit (us ++ vs) → AllFit us
+    first-fit [] vs h = tt
+    first-fit (u ∷ us) vs h = (h.0, first-fit us vs h.1)
 
-  ends-last : (s : List (List (List ℕ))) (i : Item) (is : Items) → Ends (last_lifetime means s i is)
-  ends-last s i no_items = ends-item s i
-  ends-last s i (and_item j is) = ends-last s j is
+    rest-fit : (us vs : List Use) → AllFit (us ++ vs) → AllFit vs
+    rest-fit [] vs h = h
+    rest-fit (u ∷ us) vs h = rest-fit us vs h.1
 
-  -- no bound but the first is a principal
-  bare-item : (s : List (List (List ℕ))) (i : Item) → is_late D (item_shape i) ≡ false → item_tree means s i ≡ none
-  bare-item s (bound_item b n args) h = by (is_auto_name D n) h
-    where
-      by : (a : Bool) → not a ≡ false → (if a then none else tree (principal (length b) (trait_number (known D n))) (args_trees means (b ∷ s) (kinds_of_trait (known D n)) args) none) ≡ none
-      by true g = refl
-      by false g = absurd cc
-  bare-item s (lifetime_item n) h = refl
-
-  bare-items : (s : List (List (List ℕ))) (is : Items) → list_any (is_late D) (item_shapes is) ≡ false → items_trees means s is ≡ none
-  bare-items s no_items h = refl
-  bare-items s (and_item i is) h = ap (λ t. t +++ items_trees means s is) (bare-item s i (or-left (is_late D (item_shape i)) _ h)) ∙ bare-items s is (or-right (is_late D (item_shape i)) _ h)
-
-  late-none : (i : Item) (is : Items) → UseFits d l (dyn_use (item_shape i ∷ item_shapes is)) → list_any (is_late D) (item_shapes is) ≡ false
-  late-none i is f = or-left _ _ (or-right _ _ f.0)
-
-  -- ---- types
-  mutual
-    good-type : (s : List (List (List ℕ))) (t : TypeTree) → Scalars t → AllFit (type_uses D s of_type t) → Good (type_tree means s of_type t)
-    good-type s (of_primitive p) f h = good-scalar p f
-    good-type s never_type f h = refl
-    good-type s (variable_type n) f h = absurd h.0.1
-    good-type s (named n args) f h = good-named s n args h.0.0 (good-args s (kinds_of_struct (known D n)) args f h.1)
-    good-type s (reference_to o m t) f h =
-        and-end _ (good-append (optional_lifetime means s o) (type_tree means s of_type t) (good-optional s o) (good-type s t f (rest-fit (lifetime_uses s o) (type_uses D s of_type t) h)))
-    good-type s (pointer_to m t) f h = and-end _ (good-type s t f h)
-    good-type s (slice_of t) f h = and-end _ (good-type s t f h)
-    good-type s (array_of t n) f h =
-        and-end _
-        (good-append (type_tree means s of_type t) (leaf (length_label means n)) (good-type s t f (first-fit (type_uses D s of_type t) (length_uses n) h)) (good-length n (rest-fit (type_uses D s of_type t) (length_uses n) h)))
-    good-type s (tuple_of ts) f h = and-end _ (good-types s ts f h.1)
-    good-type s (fn_of b ts) f h =
-        and-end _ (good-append (types_trees means (b ∷ s) ts) (leaf tuple) (good-types (b ∷ s) ts f (rest-fit (binder_uses s b) (items_use (types_count ts) ∷ types_uses D (b ∷ s) ts) h).1) refl)
-    good-type s (fn_to b ts r) f h =
-        let g = (rest-fit (binder_uses s b) (items_use (types_count ts) ∷ (types_uses D (b ∷ s) ts ++ type_uses D (b ∷ s) of_type r)) h).1 in
-        and-end _
-        (good-append (types_trees means (b ∷ s) ts) (type_tree means (b ∷ s) of_type r) (good-types (b ∷ s) ts f.0 (first-fit (types_uses D (b ∷ s) ts) (type_uses D (b ∷ s) of_type r) g))
-        (good-type (b ∷ s) r f.1 (rest-fit (types_uses D (b ∷ s) ts) (type_uses D (b ∷ s) of_type r) g)))
-    good-type s (dyn_of i is) f h =
-        let A = with_auto D i (autos D is) in
-        let end = ends-autos A (last_lifetime means s i is) (ends-last s i is) in
-        subst (λ t. Good (tree dynamic (item_tree means s i +++ t +++ auto_leaves A +++ last_lifetime means s i is) none)) (sym (bare-items s is (late-none i is h.0.0)))
-        (good-item s i f.0 (first-fit (item_uses D s i) (items_uses D s is) h.1) (auto_leaves A +++ last_lifetime means s i is) end)
-
-    good-item : (s : List (List (List ℕ))) (i : Item) → ScalarItem i → AllFit (item_uses D s i) → (o : Trees) → Ends o → Good (tree dynamic (item_tree means s i +++ o) none)
-    good-item s (lifetime_item n) f h o e = good-bare-dyn o e
-    good-item s (bound_item b n args) f h o e =
-        let ks = kinds_of_trait (known D n) in
-        by (is_auto_name D n) (good-args (b ∷ s) ks args f (rest-fit (binder_uses s b) (trait_use n (args_count args) ∷ args_uses D (b ∷ s) ks args) h).1)
+    all-fit : (us : List Use) → UsesFit d l us → (w ≡ false → is_any (variables_in us) ≡ false) → AllFit us
+    all-fit [] f h = tt
+    all-fit (variable_use p n ∷ us) f h = ((f.0, not-false w (λ e. some-any (h e))), all-fit us f.1 (λ e. absurd (some-any (h e))))
       where
-        by : (a : Bool) → Good (args_trees means (b ∷ s) (kinds_of_trait (known D n)) args)
-            → Good (tree dynamic ((if a then none else tree (principal (length b) (trait_number (known D n))) (args_trees means (b ∷ s) (kinds_of_trait (known D n)) args) none) +++ o) none)
-        by true g = good-bare-dyn o e
-        by false g = good-dyn (length b) (trait_number (known D n)) (args_trees means (b ∷ s) (kinds_of_trait (known D n)) args) o g e
+        some-any : true ≡ false → ⊥
+        some-any e = cc
+    all-fit (u ∷ us) f h = ((f.0, tt), all-fit us f.1 h)
 
-    good-types : (s : List (List (List ℕ))) (ts : Types) → ScalarTypes ts → AllFit (types_uses D s ts) → Good (types_trees means s ts)
-    good-types s no_types f h = refl
-    good-types s (and_type t ts) f h =
-        good-append (type_tree means s of_type t) (types_trees means s ts) (good-type s t f.0 (first-fit (type_uses D s of_type t) (types_uses D s ts) h)) (good-types s ts f.1 (rest-fit (type_uses D s of_type t) (types_uses D s ts) h))
+    -- ---- lifetimes
+    under : (P : Trees → Type 0) → ((j i : ℕ) → P (leaf (bound of_lifetime j i))) → ((i : ℕ) → P (leaf (placeholder of_lifetime i))) → (j : ℕ) (s : List (List (List ℕ))) (n : List ℕ) → P (leaf (lifetime_under means j s n))
+    under P b p j [] n = p _
+    under P b p j (ns ∷ s) n = by (is_among n ns) (under P b p (suc j) s n)
+      where
+        by : (c : Bool) → P (leaf (lifetime_under means (suc j) s n)) → P (leaf (if c then bound of_lifetime j (place_among n ns) else lifetime_under means (suc j) s n))
+        by true r = b j (place_among n ns)
+        by false r = r
 
-    good-args : (s : List (List (List ℕ))) (ks : List Sort) (args : Args) → ScalarArgs args → AllFit (args_uses D s ks args) → Good (args_trees means s ks args)
-    good-args s ks no_args f h = refl
-    good-args s ks (and_arg a args) f h =
-        good-append (arg_tree means s (next_kind ks) a) (args_trees means s (other_kinds ks) args) (good-arg s (next_kind ks) a f.0 (first-fit (arg_uses D s (next_kind ks) a) (args_uses D s (other_kinds ks) args) h))
-        (good-args s (other_kinds ks) args f.1 (rest-fit (arg_uses D s (next_kind ks) a) (args_uses D s (other_kinds ks) args) h))
+    each-lifetime : (P : Trees → Type 0) → P (leaf static) → ((j i : ℕ) → P (leaf (bound of_lifetime j i))) → ((i : ℕ) → P (leaf (placeholder of_lifetime i))) → (s : List (List (List ℕ))) (n : List ℕ) → P (leaf (lifetime_label means s n))
+    each-lifetime P c b p s n = by (bytes_eq n static_name)
+      where
+        by : (a : Bool) → P (leaf (if a then static else lifetime_under means 0 s n))
+        by true = c
+        by false = under P b p 0 s n
 
-    good-arg : (s : List (List (List ℕ))) (p : Sort) (a : Arg) → ScalarArg a → AllFit (arg_uses D s p a) → Good (arg_tree means s p a)
-    good-arg s p (lifetime_arg n) f h = good-lifetime s n
-    good-arg s p (number_arg n) f h = refl
-    good-arg s of_type (type_arg t) f h = good-type s t f h
-    good-arg s of_lifetime (type_arg t) f h = absurd h.0.0
-    good-arg s of_const (type_arg (named n args)) f h = refl
-    good-arg s of_const (type_arg (variable_type n)) f h = absurd h.0.1
-    good-arg s of_const (type_arg (of_primitive x)) f h = absurd h.0.0
-    good-arg s of_const (type_arg never_type) f h = absurd h.0.0
-    good-arg s of_const (type_arg (reference_to x y z)) f h = absurd h.0.0
-    good-arg s of_const (type_arg (pointer_to x y)) f h = absurd h.0.0
-    good-arg s of_const (type_arg (slice_of x)) f h = absurd h.0.0
-    good-arg s of_const (type_arg (array_of x y)) f h = absurd h.0.0
-    good-arg s of_const (type_arg (tuple_of x)) f h = absurd h.0.0
-    good-arg s of_const (type_arg (fn_of x y)) f h = absurd h.0.0
-    good-arg s of_const (type_arg (fn_to x y z)) f h = absurd h.0.0
-    good-arg s of_const (type_arg (dyn_of x y)) f h = absurd h.0.0
+    good-lifetime : (s : List (List (List ℕ))) (n : List ℕ) → Good (leaf (lifetime_label means s n))
+    good-lifetime s n = each-lifetime Good refl (λ j i. refl) (λ i. refl) s n
 
-  -- ---- references
-  good-clause : (k : Clause) → ScalarClause k → AllFit (clause_uses D k) → Good (clause_reference means k).args
-  good-clause k f h =
-      let ks = kinds_of_trait (known D k.bound.trait) in
-      good-append (type_tree means [] of_type k.subject) (args_trees means [] ks k.bound.args) (good-type [] k.subject f.0 (first-fit (type_uses D [] of_type k.subject) (bound_uses D k.bound) h))
-      (good-args [] ks k.bound.args f.1 (rest-fit (type_uses D [] of_type k.subject) (bound_uses D k.bound) h).1)
+    ends-lifetime : (s : List (List (List ℕ))) (n : List ℕ) → Ends (leaf (lifetime_label means s n))
+    ends-lifetime s n = each-lifetime Ends (record { after_none = refl; after_some = refl }) (λ j i. record { after_none = refl; after_some = refl }) (λ i. record { after_none = refl; after_some = refl }) s n
 
-  good-clauses : (ks : List Clause) → ScalarClauses ks → AllFit (flat_map (clause_uses D) ks) → list_all (λ (r : Reference). are_fixed r.args) (unbound_references (map (clause_reference means) ks)) ≡ true
-  good-clauses [] f h = refl
-  good-clauses (k ∷ ks) f h =
-      and (are_fixed (plain all_kept (clause_reference means k).args)) _ (good-clause k f.0 (first-fit (clause_uses D k) (flat_map (clause_uses D) ks) h)) (good-clauses ks f.1 (rest-fit (clause_uses D k) (flat_map (clause_uses D) ks) h))
+    good-optional : (s : List (List (List ℕ))) (o : Option (List ℕ)) → Good (optional_lifetime means s o)
+    good-optional s None = refl
+    good-optional s (Some n) = good-lifetime s n
 
--- ---- questions without variables
-abbrev pub AreFixedTerms : Question → Type 0
-AreFixedTerms q = q.variables ≡ [] → (are_fixed (unbound_reference q.asked).args ≡ true) × (list_all (λ (r : Reference). are_fixed r.args) (unbound_references q.clauses) ≡ true)
+    -- ---- names
+    param-bare : (n : List ℕ) (args : Args) → is_among n (params_of l).types ≡ true → UseFits d l (name_use of_type n (args_count args)) → args ≡ no_args
+    param-bare n args h f = no-count args (by (is_param l n) (among-first n (params_of l).types (params_of l).consts h) f)
+      where
+        by : (b : Bool) → b ≡ true → (if b then is_param_of l of_type n (args_count args) else option_map_or (is_type_of of_type (args_count args)) (known D n) false) ≡ true → (args_count args == 0) ≡ true
+        by true e g = and-right (is_among n (params_of l).types) _ g
+        by false e g = absurd cc
+
+    good-named : (s : List (List (List ℕ))) (n : List ℕ) (args : Args) → UseFits d l (name_use of_type n (args_count args)) → Good (args_trees means s (kinds_of_struct (known D n)) args)
+        → Good (tree (type_label means n) (args_trees means s (kinds_of_struct (known D n)) args) none)
+    good-named s n args f g = by (is_among n (params_of l).types) refl
+      where
+        by : (b : Bool) → is_among n (params_of l).types ≡ b
+            → Good (tree (if b then placeholder of_type (0 + length (params_of l).lifetimes + place_among n (params_of l).types) else struct_label (known D n)) (args_trees means s (kinds_of_struct (known D n)) args) none)
+        by true e =
+            subst (λ x. Good (tree (placeholder of_type (0 + length (params_of l).lifetimes + place_among n (params_of l).types)) (args_trees means s (kinds_of_struct (known D n)) x) none)) (sym (param-bare n args e f)) refl
+        by false e = good-struct (known D n) (args_trees means s (kinds_of_struct (known D n)) args) g
+
+    good-length : (n : Length) → AllFit (length_uses n) → Good (leaf (length_label means n))
+    good-length (number_length n) h = refl
+    good-length (name_length n) h = refl
+    good-length (variable_length n) h = and-end w h.0.1
+
+    -- ---- the end of a `dyn`
+    ends-item : (s : List (List (List ℕ))) (i : Item) → Ends (item_lifetime means s i)
+    ends-item s (bound_item b n args) = record { after_none = refl; after_some = refl }
+    ends-item s (lifetime_item n) = ends-lifetime s n
+
+    ends-last : (s : List (List (List ℕ))) (i : Item) (is : Items) → Ends (last_lifetime means s i is)
+    ends-last s i no_items = ends-item s i
+    ends-last s i (and_item j is) = ends-last s j is
+
+    -- no bound but the first is a principal
+    bare-item : (s : List (List (List ℕ))) (i : Item) → is_late D (item_shape i) ≡ false → item_tree means s i ≡ none
+    bare-item s (bound_item b n args) h = by (is_auto_name D n) h
+      where
+        by : (a : Bool) → not a ≡ false → (if a then none else tree (principal (length b) (trait_number (known D n))) (args_trees means (b ∷ s) (kinds_of_trait (known D n)) args) none) ≡ none
+        by true g = refl
+        by false g = absurd cc
+    bare-item s (lifetime_item n) h = refl
+
+    bare-items : (s : List (List (List ℕ))) (is : Items) → list_any (is_late D) (item_shapes is) ≡ false → items_trees means s is ≡ none
+    bare-items s no_items h = refl
+    bare-items s (and_item i is) h = ap (λ t. t +++ items_trees means s is) (bare-item s i (or-left (is_late D (item_shape i)) _ h)) ∙ bare-items s is (or-right (is_late D (item_shape i)) _ h)
+
+    late-none : (i : Item) (is : Items) → UseFits d l (dyn_use (item_shape i ∷ item_shapes is)) → list_any (is_late D) (item_shapes is) ≡ false
+    late-none i is f = or-left _ _ (or-right _ _ f.0)
+
+    -- ---- types
+    mutual
+      good-type : (s : List (List (List ℕ))) (t : TypeTree) → Scalars t → AllFit (type_uses D s of_type t) → Good (type_tree means s of_type t)
+      good-type s (of_primitive p) f h = good-scalar p f
+      good-type s never_type f h = refl
+      good-type s (variable_type n) f h = and-end w h.0.1
+      good-type s (named n args) f h = good-named s n args h.0.0 (good-args s (kinds_of_struct (known D n)) args f h.1)
+      good-type s (reference_to o m t) f h =
+          and-end _ (good-append (optional_lifetime means s o) (type_tree means s of_type t) (good-optional s o) (good-type s t f (rest-fit (lifetime_uses s o) (type_uses D s of_type t) h)))
+      good-type s (pointer_to m t) f h = and-end _ (good-type s t f h)
+      good-type s (slice_of t) f h = and-end _ (good-type s t f h)
+      good-type s (array_of t n) f h =
+          and-end _
+          (good-append (type_tree means s of_type t) (leaf (length_label means n)) (good-type s t f (first-fit (type_uses D s of_type t) (length_uses n) h)) (good-length n (rest-fit (type_uses D s of_type t) (length_uses n) h)))
+      good-type s (tuple_of ts) f h = and-end _ (good-types s ts f h.1)
+      good-type s (fn_of b ts) f h =
+          and-end _ (good-append (types_trees means (b ∷ s) ts) (leaf tuple) (good-types (b ∷ s) ts f (rest-fit (binder_uses s b) (items_use (types_count ts) ∷ types_uses D (b ∷ s) ts) h).1) refl)
+      good-type s (fn_to b ts r) f h =
+          let g = (rest-fit (binder_uses s b) (items_use (types_count ts) ∷ (types_uses D (b ∷ s) ts ++ type_uses D (b ∷ s) of_type r)) h).1 in
+          and-end _
+          (good-append (types_trees means (b ∷ s) ts) (type_tree means (b ∷ s) of_type r) (good-types (b ∷ s) ts f.0 (first-fit (types_uses D (b ∷ s) ts) (type_uses D (b ∷ s) of_type r) g))
+          (good-type (b ∷ s) r f.1 (rest-fit (types_uses D (b ∷ s) ts) (type_uses D (b ∷ s) of_type r) g)))
+      good-type s (dyn_of i is) f h =
+          let A = with_auto D i (autos D is) in
+          let end = ends-autos A (last_lifetime means s i is) (ends-last s i is) in
+          subst (λ t. Good (tree dynamic (item_tree means s i +++ t +++ auto_leaves A +++ last_lifetime means s i is) none)) (sym (bare-items s is (late-none i is h.0.0)))
+          (good-item s i f.0 (first-fit (item_uses D s i) (items_uses D s is) h.1) (auto_leaves A +++ last_lifetime means s i is) end)
+
+      good-item : (s : List (List (List ℕ))) (i : Item) → ScalarItem i → AllFit (item_uses D s i) → (o : Trees) → Ends o → Good (tree dynamic (item_tree means s i +++ o) none)
+      good-item s (lifetime_item n) f h o e = good-bare-dyn o e
+      good-item s (bound_item b n args) f h o e =
+          let ks = kinds_of_trait (known D n) in
+          by (is_auto_name D n) (good-args (b ∷ s) ks args f (rest-fit (binder_uses s b) (trait_use n (args_count args) ∷ args_uses D (b ∷ s) ks args) h).1)
+        where
+          by : (a : Bool) → Good (args_trees means (b ∷ s) (kinds_of_trait (known D n)) args)
+              → Good (tree dynamic ((if a then none else tree (principal (length b) (trait_number (known D n))) (args_trees means (b ∷ s) (kinds_of_trait (known D n)) args) none) +++ o) none)
+          by true g = good-bare-dyn o e
+          by false g = good-dyn (length b) (trait_number (known D n)) (args_trees means (b ∷ s) (kinds_of_trait (known D n)) args) o g e
+
+      good-types : (s : List (List (List ℕ))) (ts : Types) → ScalarTypes ts → AllFit (types_uses D s ts) → Good (types_trees means s ts)
+      good-types s no_types f h = refl
+      good-types s (and_type t ts) f h =
+          good-append (type_tree means s of_type t) (types_trees means s ts) (good-type s t f.0 (first-fit (type_uses D s of_type t) (types_uses D s ts) h)) (good-types s ts f.1 (rest-fit (type_uses D s of_type t) (types_uses D s ts) h))
+
+      good-args : (s : List (List (List ℕ))) (ks : List Sort) (args : Args) → ScalarArgs args → AllFit (args_uses D s ks args) → Good (args_trees means s ks args)
+      good-args s ks no_args f h = refl
+      good-args s ks (and_arg a args) f h =
+          good-append (arg_tree means s (next_kind ks) a) (args_trees means s (other_kinds ks) args) (good-arg s (next_kind ks) a f.0 (first-fit (arg_uses D s (next_kind ks) a) (args_uses D s (other_kinds ks) args) h))
+          (good-args s (other_kinds ks) args f.1 (rest-fit (arg_uses D s (next_kind ks) a) (args_uses D s (other_kinds ks) args) h))
+
+      good-arg : (s : List (List (List ℕ))) (p : Sort) (a : Arg) → ScalarArg a → AllFit (arg_uses D s p a) → Good (arg_tree means s p a)
+      good-arg s p (lifetime_arg n) f h = good-lifetime s n
+      good-arg s p (number_arg n) f h = refl
+      good-arg s of_type (type_arg t) f h = good-type s t f h
+      good-arg s of_lifetime (type_arg t) f h = absurd h.0.0
+      good-arg s of_const (type_arg (named n args)) f h = refl
+      good-arg s of_const (type_arg (variable_type n)) f h = and-end w h.0.1
+      good-arg s of_const (type_arg (of_primitive x)) f h = absurd h.0.0
+      good-arg s of_const (type_arg never_type) f h = absurd h.0.0
+      good-arg s of_const (type_arg (reference_to x y z)) f h = absurd h.0.0
+      good-arg s of_const (type_arg (pointer_to x y)) f h = absurd h.0.0
+      good-arg s of_const (type_arg (slice_of x)) f h = absurd h.0.0
+      good-arg s of_const (type_arg (array_of x y)) f h = absurd h.0.0
+      good-arg s of_const (type_arg (tuple_of x)) f h = absurd h.0.0
+      good-arg s of_const (type_arg (fn_of x y)) f h = absurd h.0.0
+      good-arg s of_const (type_arg (fn_to x y z)) f h = absurd h.0.0
+      good-arg s of_const (type_arg (dyn_of x y)) f h = absurd h.0.0
+
+    -- ---- references
+    good-clause : (k : Clause) → ScalarClause k → AllFit (clause_uses D k) → Good (clause_reference means k).args
+    good-clause k f h =
+        let ks = kinds_of_trait (known D k.bound.trait) in
+        good-append (type_tree means [] of_type k.subject) (args_trees means [] ks k.bound.args) (good-type [] k.subject f.0 (first-fit (type_uses D [] of_type k.subject) (bound_uses D k.bound) h))
+        (good-args [] ks k.bound.args f.1 (rest-fit (type_uses D [] of_type k.subject) (bound_uses D k.bound) h).1)
+
+    good-clauses : (ks : List Clause) → ScalarClauses ks → AllFit (flat_map (clause_uses D) ks) → list_all (λ (r : Reference). are_good r.args) (unbound_references (map (clause_reference means) ks)) ≡ true
+    good-clauses [] f h = refl
+    good-clauses (k ∷ ks) f h =
+        and (are_good (plain all_kept (clause_reference means k).args)) _ (good-clause k f.0 (first-fit (clause_uses D k) (flat_map (clause_uses D) ks) h)) (good-clauses ks f.1 (rest-fit (clause_uses D k) (flat_map (clause_uses D) ks) h))
+
+-- without variables they are fixed
+fixed-label : (l : Label) → is_good false l ≡ true → is_fixed l ≡ true
+fixed-label (infer of_type i) h = absurd (false-true h)
+fixed-label (infer of_const i) h = absurd (false-true h)
+fixed-label l h = h
+
+fixed-terms : (t : Trees) → is_made (is_good false) terms t ≡ true → are_fixed t ≡ true
+fixed-terms t h = made-weaker (is_good false) is_fixed fixed-label terms t h
+
+fixed-references : (rs : List Reference) → list_all (λ (r : Reference). is_made (is_good false) terms r.args) rs ≡ true → list_all (λ (r : Reference). are_fixed r.args) rs ≡ true
+fixed-references [] h = refl
+fixed-references (r ∷ rs) h = and (are_fixed r.args) _ (fixed-terms r.args (and-left (is_made (is_good false) terms r.args) _ h)) (fixed-references rs (and-right (is_made (is_good false) terms r.args) _ h))
+
+-- ---- questions: what they ask for, also if they have no variables, and their where-clauses
+pub record AreFixedTerms (q : Question) : Type 0 where
+  pub good : is_made (is_good true) terms (unbound_reference q.asked).args ≡ true
+  pub fixed : q.variables ≡ [] → are_fixed (unbound_reference q.asked).args ≡ true
+  pub clauses : list_all (λ (r : Reference). are_fixed r.args) (unbound_references q.clauses) ≡ true
 
 no-variables : (vs : List (List ℕ × Sort)) → map (λ v. (let x : Variable = record { text = v.0; kind = v.1 } in x)) (once vs) ≡ [] → is_any vs ≡ false
 no-variables [] h = refl
@@ -345,16 +382,23 @@ line-fixed d text (prove_line c ps a ks) w f h =
     let vs = once (variables_in (clause_uses d a)) in
     let scalar = prove-scalars text c ps a ks w in
     let uses = (faultless-uses d l f).1 in
-    let others = all-fit d l vs (flat_map (clause_uses d) ks) (fits-rest d l (clause_uses d a) (flat_map (clause_uses d) ks) uses) (or-left _ _ (passes-tests d l f).has_asked_variables) in
-    each-more AreFixedTerms d.questions (question_of d (question_meanings d l) false c ps a ks) h (λ e. (
-      good-clause d l vs a scalar.0 (all-fit d l vs (clause_uses d a) (fits-first d l (clause_uses d a) (flat_map (clause_uses d) ks) uses) (no-variables (variables_in (clause_uses d a)) e)),
-      good-clauses d l vs ks scalar.1 others,
-    ))
+    let own = fits-first d l (clause_uses d a) (flat_map (clause_uses d) ks) uses in
+    let others = all-fit false d l vs (flat_map (clause_uses d) ks) (fits-rest d l (clause_uses d a) (flat_map (clause_uses d) ks) uses) (λ e. or-left _ _ (passes-tests d l f).has_asked_variables) in
+    each-more AreFixedTerms d.questions (question_of d (question_meanings d l) false c ps a ks) h (record {
+      good = good-clause true d l vs a scalar.0 (all-fit true d l vs (clause_uses d a) own (λ e. absurd (false-true (sym e))));
+      fixed = λ e. fixed-terms (unbound_reference (clause_reference (question_meanings d l) a)).args (good-clause false d l vs a scalar.0 (all-fit false d l vs (clause_uses d a) own (λ z. no-variables (variables_in (clause_uses d a)) e)));
+      clauses = fixed-references (unbound_references (map (clause_reference (question_meanings d l)) ks)) (good-clauses false d l vs ks scalar.1 others);
+    })
 line-fixed d text (refute_line c ps a) w f h =
     let l = refute_line c ps a in
     let vs = once (variables_in (clause_uses d a)) in
-    each-more AreFixedTerms d.questions (question_of d (question_meanings d l) true c ps a []) h (λ e.
-    (good-clause d l vs a (refute-scalars text c ps a w) (all-fit d l vs (clause_uses d a) (faultless-uses d l f).1 (no-variables (variables_in (clause_uses d a)) e)), refl))
+    let scalar = refute-scalars text c ps a w in
+    let uses = (faultless-uses d l f).1 in
+    each-more AreFixedTerms d.questions (question_of d (question_meanings d l) true c ps a []) h (record {
+      good = good-clause true d l vs a scalar (all-fit true d l vs (clause_uses d a) uses (λ e. absurd (false-true (sym e))));
+      fixed = λ e. fixed-terms (unbound_reference (clause_reference (question_meanings d l) a)).args (good-clause false d l vs a scalar (all-fit false d l vs (clause_uses d a) uses (λ z. no-variables (variables_in (clause_uses d a)) e)));
+      clauses = refl;
+    })
 
 -- ---- texts
 abbrev FixedIfTaken : {E : Type 0} → Result Declarations E → Type 0

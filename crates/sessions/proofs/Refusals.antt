@@ -49,7 +49,7 @@ label-erased (fn_ptr n) = refl
 label-erased (principal n t) = refl
 label-erased l = refl
 
-plain-erased : (t : Trees) → erase (plain all_kept t) ≡ erase t
+pub plain-erased : (t : Trees) → erase (plain all_kept t) ≡ erase t
 plain-erased none = refl
 plain-erased (tree l c o) = node (label-erased l) (plain-erased c) (plain-erased o)
 

@@ -1,10 +1,17 @@
 -- The solver answers questions without unknowns exactly, by what a crate sees of a text.
-use Rattle.std.proofs.Common.{◌≡◌, ℕ, true, List, [], map, Option, Ok, refl, sym, ◌∙◌, ap, subst}
+use Rattle.std.proofs.Common.{◌≡◌, ◌≤◌, ℕ, zero, suc, true, if◌then◌else◌, List, [], ◌∷◌, ◌++◌, map, length, Option, Ok, inl, inr, refl, sym, ◌∙◌, ap, subst}
+use Rattle.std.specs.List.{list_any, flat_map}
 use Rattle.model.specs.Answers.{SingleWay, is_bounded}
 use Rattle.model.specs.Label.{of_type, of_const, of_lifetime}
 use Rattle.model.specs.Terms.{erased_reference}
 use Rattle.model.specs.Trees.{none}
-use Rattle.model.specs.Worlds.{World, Reference}
+use Rattle.model.specs.Worlds.{World, CrateDecl, Reference}
+use Rattle.model.specs.Proofs.{In, HasProof}
+use Rattle.model.specs.Rules.{Rule, by_clause, rules, impl_rules, built_in_rules, clause_rules, super_rules, same_reference, written_supertraits, strict_supertraits, strict_supertraits_within, elaborated}
+use Rattle.model.proofs.Supertraits.{flat-same}
+use Rattle.model.proofs.Entries.{map-in}
+use Rattle.model.proofs.Members.{here, in-map, flat-in}
+use Rattle.model.proofs.NoHolds.{member-each}
 use Rattle.type_terms.specs.Terms.{Entry}
 use Rattle.infer_table.specs.Responses.{AnswerTrees}
 use Rattle.infer_table.specs.Solutions.{Assignment, IsSorted}
@@ -17,13 +24,16 @@ use Rattle.goal_frames.specs.Handlers.{same_answer, applies_always}
 use Rattle.goal_frames.specs.Programs.{ArePrograms}
 use Rattle.goal_frames.specs.Searches.{Handles, Asked}
 use Rattle.goal_frames.proofs.HandlerPrograms.{handlers-are-programs}
+use Rattle.declarations.specs.Elaboration.{elaborate}
 use Rattle.declarations.specs.Items.{Items, written}
 use Rattle.text_definitions.specs.Declarations as text
 use Rattle.text_definitions.specs.Text.{TextGives}
 use Rattle.assembly_laws.specs.DeclaredWell.{IsDeclaredWell, is_declared_well}
 use Rattle.assembly_laws.specs.Facts.{FollowsByView, clauses_of, reference_in}
-use Rattle.assembly_laws.specs.Meaning.{Meaning}
+use Rattle.assembly_laws.specs.Meaning.{Meaning, SelfTypesBegin}
 use Rattle.assembly_laws.proofs.DeclaredWell.{tests-tell}
+use Rattle.assembly_laws.proofs.ErasedCandidates.{without_lifetimes}
+use Rattle.assembly_laws.proofs.Stack.{elaborated-all, elaborated-only}
 use Rattle.candidate_assembly.specs.Fitting.{solving_of}
 use Rattle.candidate_assembly.specs.Solving.{Solving, solver_for, coinductive_for}
 use Rattle.candidate_assembly.specs.SolverLaws.{solver-is-lawful, numbers-are-kept, worlds-are-kept, instances-are-goals, rules-are-of, kinds-are-of, outside-is-nowhere}
@@ -31,17 +41,30 @@ use Rattle.view_lowering.specs.Ready.{AreSeen, OfTexts}
 use Rattle.view_lowering.proofs.WellSeen.{texts-seen-well}
 use Rattle.root_goals.specs.Roots.{question_of, values_under}
 use Rattle.solver_exactness.specs.FormedAnswers.{IsFormedGoal, AreDeclared}
-use Rattle.solver_exactness.specs.FormedFacts.{Sorts, IsFormedView}
+use Rattle.solver_exactness.specs.FormedFacts.{Sorts, IsFormed, IsFormedFact, IsFormedView}
 use Rattle.solver_exactness.specs.SolverAnswers.{solver_programs, TellsPossible}
+use Rattle.solver_exactness.specs.SolverChoices.{IsElaborated}
+use Rattle.solver_exactness.specs.SolverWays.{facts_beside, premises_of}
 use Rattle.solver_exactness.specs.UnboundGoals.{is_unbound}
+use Rattle.solver_exactness.specs.Ways.{IsDecided}
 use Rattle.solver_exactness.proofs.FormedAnswers.{formed-searches-are-right, formed-tells-possible}
+use Rattle.solver_exactness.proofs.ModelWays.{single_way_is_decided}
+use Rattle.solver_exactness.proofs.Once.{elaborated-once}
+use Rattle.solver_exactness.proofs.Selecting.{hits}
 use Rattle.solver_exactness.proofs.UnboundGoals.{unbound-are-admitted}
-use Rattle.sessions.specs.Answers.{solver_goals, IsRightOf, AreAnsweredRight, AreToldPossible}
+use Rattle.sessions.specs.Answers.{solver_goals, IsOnlyAnswer, IsRightOf, AreAnsweredRight, AreAnsweredAsWritten, AreToldPossible}
+use Rattle.sessions.specs.Clauses.{AddSupertraits}
 use Rattle.sessions.specs.Fitting.{sorts_in, fits_in}
-use Rattle.sessions.specs.Goals.{goal_of, IsFormedQuestion, AsksFor}
+use Rattle.sessions.specs.Goals.{goal_of, are_fixed, IsFormedQuestion, AsksFor}
+use Rattle.sessions.specs.Questions.{IsFormedAsWritten}
 use Rattle.sessions.proofs.AskedGoals.{formed-question}
+use Rattle.sessions.proofs.Clauses.{supertraits-prove-no-more}
+use Rattle.sessions.proofs.DirectRules.{own_rules, direct_clauses, direct_under, direct_ways, others, direct-split, direct-decided, decided-directly, hits-fewer, hits-map}
+use Rattle.sessions.proofs.DirectWays.{directly-right}
+use Rattle.sessions.proofs.ElaboratedClauses.{IsFormedClause, elaborated-formed, elaborated-closed, all-are-fixed, levels-erased}
 use Rattle.sessions.proofs.Fitting.{sorts-tell}
 use Rattle.sessions.proofs.FormedViews.{texts-views-are-formed}
+use Rattle.sessions.proofs.WithoutLifetimes.{rules-same}
 
 -- what declarations mean: the solver decides the goals that fit them
 abbrev meaning_in : Solving → Meaning
@@ -78,10 +101,10 @@ module _ {C I R F : Type 0} (handles : Handles C I R F Solving (Asked frame_tabl
     well-test : is_declared_well V ≡ true
     well-test = ap is_declared_well seen.written ∙ texts-seen-well bytes d h c
 
-    well : IsDeclaredWell V
+    pub well : IsDeclaredWell V
     well = tests-tell V well-test
 
-    formed : IsFormedView V sorts
+    pub formed : IsFormedView V sorts
     formed = texts-views-are-formed bytes d h c es decls seen
 
     declared : (mode : TypingMode) → AreDeclared (meaning_in w) mode (fits_in w) is_unbound sorts
@@ -117,8 +140,159 @@ module _ {C I R F : Type 0} (handles : Handles C I R F Solving (Asked frame_tabl
         (formed-tells-possible applies_always same_answer meaning_in fits_in handles programs w sorts is_unbound (declared Coherence) n limit (asked [] r q) (values [] r q) a l (goal [] r q).0 (goal [] r q).1.clauses
         (there [] r q (λ F s. is_bounded n V decls.local s ≡ true) bounded) only)
 
+    -- ---- under where-clauses with all their supertraits, by the clauses as they are written
+    module _ (E : List Reference) (r : Reference) (q : IsFormedAsWritten V sorts E r) where
+      abbrev all : List Reference
+      all = elaborate V E
+
+      abbrev own : List Reference
+      own = map erased_reference E
+
+      abbrev more : List Reference
+      more = map erased_reference all
+
+      each : (x : Reference) → In x E → IsFormedClause V sorts x
+      each x i = record { fixed = member-each (λ (y : Reference). are_fixed y.args) E x q.clauses i; fit = q.fit x i }
+
+      closed : IsElaborated V more
+      closed = elaborated-closed V sorts well formed E each
+
+      with-all : IsFormedQuestion V sorts all r
+      with-all = q.asked all (all-are-fixed V sorts well formed E each all (elaborated-formed V sorts well formed E each)) closed
+
+      levels : elaborated V own ≡ map erased_reference (elaborated V E)
+      levels = levels-erased V sorts well formed E each
+
+      all-levels : (x : Reference) → In x all → In x (elaborated V E)
+      all-levels x i = elaborated-only V well.rank well.acyclic E x i
+
+      adds : AddSupertraits V own more
+      adds x i =
+          let m = map-in erased_reference all x i in
+          subst (λ zs. In x zs) (sym levels) (subst (λ z. In z (map erased_reference (elaborated V E))) m.2 (in-map erased_reference (elaborated V E) m.0 (all-levels m.0 m.1)))
+
+      own-level : (xs : List Reference) (x : Reference) → In x xs → In x (elaborated V xs)
+      own-level xs x i = flat-in (λ s. s ∷ strict_supertraits V s) xs x x i (here x (strict_supertraits V x))
+
+      holds : AddSupertraits V more own
+      holds x i =
+          let m = map-in erased_reference E x i in
+          own-level more x (subst (λ z. In z more) m.2 (in-map erased_reference all m.0 (elaborated-all V well.rank well.acyclic E m.0 (own-level E m.0 m.1))))
+
+      no-more : (x : Reference) → HasProof V more x → HasProof V own x
+      no-more x p = supertraits-prove-no-more V well.rank well.acyclic own more adds x p
+
+      no-less : (x : Reference) → HasProof V own x → HasProof V more x
+      no-less x p = supertraits-prove-no-more V well.rank well.acyclic more own holds x p
+
+      no-more-clauses : (x : Reference) → hits (λ s. same_reference s x) more ≤ hits (λ s. same_reference s x) (elaborated V own)
+      no-more-clauses x =
+          let is = λ (s : Reference). same_reference s x in
+          subst (λ n. n ≤ hits is (elaborated V own)) (sym (hits-map is erased_reference all))
+          (subst (λ zs. hits (λ s. is (erased_reference s)) all ≤ hits is zs) (sym levels)
+          (subst (λ n. hits (λ s. is (erased_reference s)) all ≤ n) (sym (hits-map is erased_reference (elaborated V E)))
+          (hits-fewer all (elaborated V E) (elaborated-once V E) all-levels (λ s. is (erased_reference s)))))
+
+      is-decided : (n : ℕ) → SingleWay n V own (erased_reference r) → IsDecided (direct_under V more) (HasProof V more) n (erased_reference r)
+      is-decided n single = direct-decided V own more closed no-more no-more-clauses n (erased_reference r) (single_way_is_decided V own n (erased_reference r) single)
+
+      as-written : (a : Option AnswerTrees) → IsRightOf V more (erased_reference r) a → IsRightOf V own (erased_reference r) a
+      as-written a (inl (p, y)) = inl (no-more (erased_reference r) p, y)
+      as-written a (inr (never, e)) = inr (λ p. never (no-less (erased_reference r) p), e)
+
+    pub answered-as-written : AreAnsweredAsWritten handles es decls
+    answered-as-written E r q n limit l single a only =
+        let all = elaborate V E in
+        let x = with-all E r q in
+        as-written E r q a
+        (back all r x (λ F s. IsRightOf V F s a)
+        (directly-right applies_always same_answer meaning_in fits_in handles programs w sorts is_unbound (declared PostAnalysis) V (λ f h. refl) n limit (asked all r x) (values all r x) a l (goal all r x).0
+        (decided-directly V n (f all r x) (there all r x (λ F s. IsDecided (direct_under V F) (HasProof V F) n s) (is-decided E r q n single))) only))
+
+    -- ---- and by what rules are read from, without lifetimes
+    module _ (begin : SelfTypesBegin V) (cs : List CrateDecl) where
+      abbrev U : World
+      U = without_lifetimes V cs
+
+      within-same : (n : ℕ) (r : Reference) → strict_supertraits_within n U r ≡ strict_supertraits_within n V r
+      within-same zero r = refl
+      within-same (suc n) r = flat-same (λ s. s ∷ strict_supertraits_within n U s) (λ s. s ∷ strict_supertraits_within n V s) (written_supertraits V r) (λ s i. ap (λ z. s ∷ z) (within-same n s))
+
+      supers-same : (r : Reference) → strict_supertraits U r ≡ strict_supertraits V r
+      supers-same r = within-same (length V.traits) r
+
+      levels-same : (rs : List Reference) → elaborated U rs ≡ elaborated V rs
+      levels-same rs = flat-same (λ r. r ∷ strict_supertraits U r) (λ r. r ∷ strict_supertraits V r) rs (λ r i. ap (λ z. r ∷ z) (supers-same r))
+
+      clauses-same : (r : Reference) (k : ℕ) (ss : List Reference) → clause_rules U r k ss ≡ clause_rules V r k ss
+      clauses-same r k [] = refl
+      clauses-same r k (s ∷ ss) =
+          let own = if same_reference s r then record { way = by_clause k; premises = [] } ∷ [] else [] in
+          ap (λ zs. own ++ (super_rules r k 0 zs ++ clause_rules U r (suc k) ss)) (supers-same s) ∙ ap (λ us. own ++ (super_rules r k 0 (strict_supertraits V s) ++ us)) (clauses-same r (suc k) ss)
+
+      direct-clauses-same : (r : Reference) (E : List Reference) → direct_clauses U r E ≡ direct_clauses V r E
+      direct-clauses-same r E = ap (λ us. if list_any (λ s. same_reference s r) E then own_rules r 0 E else us) (clauses-same r 0 E)
+
+      no-last : (us : List Rule) → us ++ [] ≡ us
+      no-last [] = refl
+      no-last (u ∷ us) = ap (λ z. u ∷ z) (no-last us)
+
+      without-clauses : (X : World) (r : Reference) → rules X [] r ≡ others X r
+      without-clauses X r = ap (λ us. flat_map (impl_rules r) X.impls ++ us) (no-last (built_in_rules X r))
+
+      others-same : (r : Reference) → IsFormed V sorts r → others V r ≡ others U r
+      others-same r good = sym (without-clauses V r) ∙ sym (rules-same V sorts well formed begin cs r good) ∙ without-clauses U r
+
+      direct-same : (E : List Reference) (r : Reference) → IsFormed V sorts r → direct_under V E r ≡ direct_under U E r
+      direct-same E r good =
+          direct-split V E r ∙ ap (λ us. premises_of us ++ premises_of (direct_clauses V r E)) (others-same r good)
+          ∙ ap (λ us. premises_of (others U r) ++ premises_of us) (sym (direct-clauses-same r E)) ∙ sym (direct-split U E r)
+
+      ways-same : (g : Fact) → IsFormedFact V sorts g → direct_ways V g ≡ direct_ways U g
+      ways-same g h = ap (facts_beside g) (direct-same (clauses_of g.goal.environment) (reference_in g) h.reference)
+
+      module _ (E : List Reference) (r : Reference) (q : IsFormedAsWritten V sorts E r) where
+        closed-so : IsElaborated U (more E r q)
+        closed-so s t i j = closed E r q s t i (subst (λ zs. In t zs) (supers-same s) j)
+
+        adds-so : AddSupertraits U (own E r q) (more E r q)
+        adds-so x i = subst (λ zs. In x zs) (sym (levels-same (own E r q))) (adds E r q x i)
+
+        holds-so : AddSupertraits U (more E r q) (own E r q)
+        holds-so x i = subst (λ zs. In x zs) (sym (levels-same (more E r q))) (holds E r q x i)
+
+        no-more-so : (x : Reference) → HasProof U (more E r q) x → HasProof U (own E r q) x
+        no-more-so x p = supertraits-prove-no-more U well.rank well.acyclic (own E r q) (more E r q) adds-so x p
+
+        no-less-so : (x : Reference) → HasProof U (own E r q) x → HasProof U (more E r q) x
+        no-less-so x p = supertraits-prove-no-more U well.rank well.acyclic (more E r q) (own E r q) holds-so x p
+
+        few-so : (x : Reference) → hits (λ s. same_reference s x) (more E r q) ≤ hits (λ s. same_reference s x) (elaborated U (own E r q))
+        few-so x = subst (λ zs. hits (λ s. same_reference s x) (more E r q) ≤ hits (λ s. same_reference s x) zs) (sym (levels-same (own E r q))) (no-more-clauses E r q x)
+
+        decided-so : (n : ℕ) → SingleWay n U (own E r q) (erased_reference r) → IsDecided (direct_under U (more E r q)) (HasProof U (more E r q)) n (erased_reference r)
+        decided-so n single =
+            direct-decided U (own E r q) (more E r q) closed-so no-more-so few-so n (erased_reference r) (single_way_is_decided U (own E r q) n (erased_reference r) single)
+
+        as-written-so : (a : Option AnswerTrees) → IsRightOf U (more E r q) (erased_reference r) a → IsRightOf U (own E r q) (erased_reference r) a
+        as-written-so a (inl (p, y)) = inl (no-more-so (erased_reference r) p, y)
+        as-written-so a (inr (never, e)) = inr (λ p. never (no-less-so (erased_reference r) p), e)
+
+        pub answered-by-view : (n limit : ℕ) → n ≤ limit → SingleWay n U (map erased_reference E) (erased_reference r)
+            → (a : Option AnswerTrees) → IsOnlyAnswer handles (solving_of es decls) PostAnalysis limit (goal_of (elaborate V E) r) a → IsRightOf U (map erased_reference E) (erased_reference r) a
+        answered-by-view n limit l single a only =
+            let all = elaborate V E in
+            let x = with-all E r q in
+            as-written-so a
+            (back all r x (λ F s. IsRightOf U F s a)
+            (directly-right applies_always same_answer meaning_in fits_in handles programs w sorts is_unbound (declared PostAnalysis) U ways-same n limit (asked all r x) (values all r x) a l (goal all r x).0
+            (decided-directly U n (f all r x) (there all r x (λ F s. IsDecided (direct_under U F) (HasProof U F) n s) (decided-so n single))) only))
+
   pub texts-are-answered : OfTexts (AreAnsweredRight handles)
   texts-are-answered bytes d h c es decls seen = answered-right bytes d h c es decls seen
 
   pub texts-tell-possible : OfTexts (AreToldPossible handles)
   texts-tell-possible bytes d h c es decls seen = told-possible bytes d h c es decls seen
+
+  pub texts-are-answered-as-written : OfTexts (AreAnsweredAsWritten handles)
+  texts-are-answered-as-written bytes d h c es decls seen = answered-as-written bytes d h c es decls seen

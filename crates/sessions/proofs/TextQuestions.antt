@@ -1,45 +1,130 @@
--- A question of a text without a fault is formed, if it has no variables.
-use Rattle.std.proofs.Common.{◌≡◌, ◌-◌, ℕ, zero, suc, List, [], ◌∷◌, Some, Ok, sym, subst}
+-- A question of a text without a fault is formed, if it has no variables, also under its where-clauses with all their supertraits.
+use Rattle.std.proofs.Common.{◌≡◌, ◌-◌, ℕ, zero, suc, true, false, ◌||◌, refl, List, [], ◌∷◌, Some, Ok, sym, ◌∙◌, ap, subst}
 use Rattle.std.proofs.lemmas.Option.{same_Some}
 use Rattle.std.specs.Prelude.{slice_get}
+use Rattle.model.specs.Answers.{is_variable}
+use Rattle.model.specs.Label.{Label, of_type, of_const, infer}
+use Rattle.model.specs.Proofs.{In}
+use Rattle.model.specs.Trees.{Trees, none, tree, erase, erase_label, some_node}
+use Rattle.model.specs.Worlds.{World, Reference}
+use Rattle.model.proofs.NoHolds.{member-each}
+use Rattle.type_terms.specs.Made.{terms}
 use Rattle.type_terms.specs.Terms.{Entry}
+use Rattle.type_terms.proofs.Made.{false-true}
+use Rattle.declarations.specs.Elaboration.{elaborate}
 use Rattle.declarations.specs.Items.{Items, written, reference_in}
 use Rattle.declarations.specs.Merges.{Each}
 use Rattle.text_definitions.specs.Declarations as text
 use Rattle.text_definitions.specs.Text.{TextGives}
 use Rattle.view_lowering.specs.Plain.{unbound_reference, unbound_references}
 use Rattle.view_lowering.specs.Ready.{AreSeen}
-use Rattle.solver_exactness.specs.FormedFacts.{FitsSorts}
+use Rattle.view_lowering.proofs.WellSeen.{texts-seen-well}
+use Rattle.assembly_laws.specs.DeclaredWell.{IsDeclaredWell, is_declared_well}
+use Rattle.assembly_laws.proofs.DeclaredWell.{tests-tell}
+use Rattle.solver_exactness.specs.FormedFacts.{Sorts, FitsSorts, IsFormedView}
 use Rattle.sessions.specs.Fitting.{sorts_in}
-use Rattle.sessions.specs.Questions.{IsFormedAsWritten, TextsQuestionsAreFormed}
+use Rattle.sessions.specs.Goals.{is_fixed, are_fixed}
+use Rattle.sessions.specs.Questions.{AreFixedReferences, IsFormedAsWritten, IsFormedElaborated, TextsQuestionsAreFormed, TextsQuestionsAreElaborated}
+use Rattle.sessions.proofs.ElaboratedClauses.{IsFormedClause, elaborated-formed, elaborated-closed, elaborated-adds, all-are-fixed}
 use Rattle.sessions.proofs.FormedTexts.{scope, IsFormedReference, QuestionFormed, texts-are-formed}
-use Rattle.sessions.proofs.FormedViews.{each-in, map-in, reference-seen}
-use Rattle.sessions.proofs.QuestionTerms.{AreFixedTerms, questions-fixed}
+use Rattle.sessions.proofs.FormedViews.{each-in, map-in, reference-seen, texts-views-are-formed}
+use Rattle.sessions.proofs.BetterTerms.{all-better}
+use Rattle.sessions.proofs.QuestionTerms.{is_good, AreFixedTerms, questions-fixed}
 
 at-place : {A : Type 0} (P : A → Type 0) (xs : List A) → Each P xs → (k : ℕ) (x : A) → slice_get xs k ≡ Some x → P x
 at-place P [] h k x e = absurd cc
 at-place P (y ∷ ys) h zero x e = subst P (same_Some y x e) h.0
 at-place P (y ∷ ys) h (suc k) x e = at-place P ys h.1 k x e
 
--- as it is written
-written-formed : (bytes : List ℕ) (d : text.Declarations) → TextGives bytes (Ok d) → (k : ℕ) (q : text.Question) → slice_get d.questions k ≡ Some q → q.variables ≡ []
-    → (es : List Entry) (decls : Items) → AreSeen es decls d q.asker → IsFormedAsWritten (written es decls) (sorts_in decls) (unbound_references q.clauses) (unbound_reference q.asked)
-written-formed bytes d t k q at none es decls seen =
+-- the reference that a question asks for has the sorts that are declared
+pub question-fits : (bytes : List ℕ) (d : text.Declarations) → TextGives bytes (Ok d) → (k : ℕ) (q : text.Question) → slice_get d.questions k ≡ Some q
+    → (es : List Entry) (decls : Items) → AreSeen es decls d q.asker → FitsSorts (written es decls) (sorts_in decls) (unbound_reference q.asked)
+question-fits bytes d t k q at es decls seen =
     let all = texts-are-formed bytes d t in
-    let formed = at-place (QuestionFormed d) d.questions all.1.questions k q at in
-    let fixed = at-place AreFixedTerms d.questions (questions-fixed bytes d t) k q at none in
-    let asked = reference-seen d q.asker all.0 all.1 es decls seen q.asked formed.0 in
-    record {
-      clauses = fixed.1;
-      fit = λ c i.
-          let r = map-in unbound_reference q.clauses c i in
-          subst (λ x. FitsSorts (written es decls) (sorts_in decls) x) (sym r.2) (reference-seen d q.asker all.0 all.1 es decls seen r.0 (each-in (IsFormedReference (scope d q.asker)) q.clauses formed.1 r.0 r.1));
-      asked = λ F g e. record { terms = fixed.0; nodes = asked.nodes; trait = asked.trait; clauses = g; elaborated = e };
-    }
+    reference-seen d q.asker all.0 all.1 es decls seen q.asked (at-place (QuestionFormed d) d.questions all.1.questions k q at).0
+
+-- ---- variables
+closed-label : (l : Label) → is_good true l ≡ true → is_variable (erase_label l) ≡ false → is_fixed l ≡ true
+closed-label (infer of_type i) h e = absurd (false-true (sym e))
+closed-label (infer of_const i) h e = absurd (false-true (sym e))
+closed-label l h e = h
+
+variable-erased : (t : Trees) → some_node is_variable (erase t) ≡ some_node (λ l. is_variable (erase_label l)) t
+variable-erased none = refl
+variable-erased (tree l c o) =
+    ap (λ b. is_variable (erase_label l) || b || some_node is_variable (erase o)) (variable-erased c) ∙ ap (λ b. is_variable (erase_label l) || some_node (λ m. is_variable (erase_label m)) c || b) (variable-erased o)
+
+module _ (bytes : List ℕ) (d : text.Declarations) (t : TextGives bytes (Ok d)) (k : ℕ) (q : text.Question) (at : slice_get d.questions k ≡ Some q) (es : List Entry) (decls : Items) (seen : AreSeen es decls d q.asker) where
+  abbrev V : World
+  V = written es decls
+
+  abbrev sorts : Sorts
+  sorts = sorts_in decls
+
+  abbrev E : List Reference
+  E = unbound_references q.clauses
+
+  formed : QuestionFormed d q
+  formed = at-place (QuestionFormed d) d.questions (texts-are-formed bytes d t).1.questions k q at
+
+  fixed : AreFixedTerms q
+  fixed = at-place AreFixedTerms d.questions (questions-fixed bytes d t) k q at
+
+  seen-formed : (r : Reference) → IsFormedReference (scope d q.asker) r → FitsSorts V sorts (unbound_reference r)
+  seen-formed r h = let all = texts-are-formed bytes d t in reference-seen d q.asker all.0 all.1 es decls seen r h
+
+  clause-fits : (c : Reference) → In c E → FitsSorts V sorts c
+  clause-fits c i =
+      let r = map-in unbound_reference q.clauses c i in
+      subst (λ x. FitsSorts V sorts x) (sym r.2) (seen-formed r.0 (each-in (IsFormedReference (scope d q.asker)) q.clauses formed.1 r.0 r.1))
+
+  -- as it is written
+  written-formed : q.variables ≡ [] → IsFormedAsWritten V sorts E (unbound_reference q.asked)
+  written-formed empty =
+      let asked = seen-formed q.asked formed.0 in
+      record { clauses = fixed.clauses; fit = clause-fits; asked = λ F g e. record { terms = fixed.fixed empty; nodes = asked.nodes; trait = asked.trait; clauses = g; elaborated = e } }
+
+  -- so it is also if no variable stands in what it asks for
+  pub written-if-closed : some_node is_variable (erase (unbound_reference q.asked).args) ≡ false → IsFormedAsWritten V sorts E (unbound_reference q.asked)
+  written-if-closed closed =
+      let asked = seen-formed q.asked formed.0 in
+      let terms-fixed = all-better (is_good true) is_fixed (λ l. is_variable (erase_label l)) closed-label terms (unbound_reference q.asked).args fixed.good (sym (variable-erased (unbound_reference q.asked).args) ∙ closed) in
+      record { clauses = fixed.clauses; fit = clause-fits; asked = λ F g e. record { terms = terms-fixed; nodes = asked.nodes; trait = asked.trait; clauses = g; elaborated = e } }
+
+  -- and with all supertraits
+  well : IsDeclaredWell V
+  well = tests-tell V (ap is_declared_well seen.written ∙ texts-seen-well bytes d t q.asker)
+
+  view : IsFormedView V sorts
+  view = texts-views-are-formed bytes d t q.asker es decls seen
+
+  pub clause-formed : (c : Reference) → In c E → IsFormedClause V sorts c
+  clause-formed c i = record { fixed = member-each (λ (r : Reference). are_fixed r.args) E c fixed.clauses i; fit = clause-fits c i }
+
+  elaborated-fixed : AreFixedReferences (elaborate V E)
+  elaborated-fixed = all-are-fixed V sorts well view E clause-formed (elaborate V E) (elaborated-formed V sorts well view E clause-formed)
+
+  written-elaborated : IsFormedElaborated q.variables V sorts E (unbound_reference q.asked)
+  written-elaborated = record {
+    clauses = record {
+      clauses = elaborated-fixed;
+      fit = λ c i. (elaborated-formed V sorts well view E clause-formed c i).fit;
+      elaborated = elaborated-closed V sorts well view E clause-formed;
+      adds = elaborated-adds V sorts well view E clause-formed;
+    };
+    asked = λ empty. (written-formed empty).asked (elaborate V E) elaborated-fixed (elaborated-closed V sorts well view E clause-formed);
+  }
 
 pub texts-questions-are-formed : TextsQuestionsAreFormed
-texts-questions-are-formed bytes d t n q is none es decls seen held l low =
+texts-questions-are-formed bytes d t n q is empty es decls seen held l low =
     let V = written es decls in
     let sorts = sorts_in decls in
     subst (λ E. IsFormedAsWritten V sorts E (reference_in held l.asked)) (sym low.clauses)
-    (subst (λ r. IsFormedAsWritten V sorts (unbound_references q.clauses) r) (sym low.asked) (written-formed bytes d t (n - 1) q is.there none es decls seen))
+    (subst (λ r. IsFormedAsWritten V sorts (unbound_references q.clauses) r) (sym low.asked) (written-formed bytes d t (n - 1) q is.there es decls seen empty))
+
+pub texts-questions-are-elaborated : TextsQuestionsAreElaborated
+texts-questions-are-elaborated bytes d t n q is es decls seen held l low =
+    let V = written es decls in
+    let sorts = sorts_in decls in
+    subst (λ E. IsFormedElaborated q.variables V sorts E (reference_in held l.asked)) (sym low.clauses)
+    (subst (λ r. IsFormedElaborated q.variables V sorts (unbound_references q.clauses) r) (sym low.asked) (written-elaborated bytes d t (n - 1) q is.there es decls seen))

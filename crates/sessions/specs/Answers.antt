@@ -15,6 +15,7 @@ use Rattle.evaluation.specs.Tables.{frame_tables}
 use Rattle.goal_frames.specs.HandlerPrograms.{programs_of}
 use Rattle.goal_frames.specs.Programs.{Programs}
 use Rattle.goal_frames.specs.Searches.{Handles, Asked, meaning}
+use Rattle.declarations.specs.Elaboration.{elaborate}
 use Rattle.declarations.specs.Items.{Items, written}
 use Rattle.assembly_laws.specs.Facts.{FollowsByView}
 use Rattle.candidate_assembly.specs.Fitting.{solving_of}
@@ -22,6 +23,7 @@ use Rattle.candidate_assembly.specs.Solving.{Solving, solver_for, coinductive_fo
 use Rattle.solver_exactness.specs.SolverAnswers.{TellsPossible}
 use Rattle.sessions.specs.Fitting.{sorts_in}
 use Rattle.sessions.specs.Goals.{goal_of, IsFormedQuestion}
+use Rattle.sessions.specs.Questions.{IsFormedAsWritten}
 
 -- the solver's goals as programs
 abbrev pub solver_goals : Programs frame_tables
@@ -43,6 +45,14 @@ module _ {C I R F : Type 0} (handles : Handles C I R F Solving (Asked frame_tabl
       let V = written es d in
       (E : List Reference) (r : Reference) → IsFormedQuestion V (sorts_in d) E r → (n limit : ℕ) → n ≤ limit → SingleWay n V (map erased_reference E) (erased_reference r)
       → (a : Option AnswerTrees) → IsOnlyAnswer (solving_of es d) PostAnalysis limit (goal_of E r) a → IsRightOf V (map erased_reference E) (erased_reference r) a
+
+  -- A question is asked under its where-clauses E with all their supertraits. So it is answered rightly by E as they are written, if under
+  -- these there is one way at most at each step.
+  abbrev pub AreAnsweredAsWritten : List Entry → Items → Type 0
+  AreAnsweredAsWritten es d =
+      let V = written es d in
+      (E : List Reference) (r : Reference) → IsFormedAsWritten V (sorts_in d) E r → (n limit : ℕ) → n ≤ limit → SingleWay n V (map erased_reference E) (erased_reference r)
+      → (a : Option AnswerTrees) → IsOnlyAnswer (solving_of es d) PostAnalysis limit (goal_of (elaborate V E) r) a → IsRightOf V (map erased_reference E) (erased_reference r) a
 
   -- in coherence, a bounded reference without where-clauses is refused exactly if it is not possible in the crate
   abbrev pub AreToldPossible : List Entry → Items → Type 0

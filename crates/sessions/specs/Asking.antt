@@ -1,5 +1,5 @@
 -- Questions as they are asked in coherence: their references alone, with unknowns for their variables.
-use Rattle.std.specs.Prelude.{◌⊎◌, ◌+◌, ℕ, Bool, List, [], ◌∷◌, Some}
+use Rattle.std.specs.Prelude.{◌≡◌, ◌⊎◌, ◌+◌, ℕ, Bool, List, [], ◌∷◌, Option, Some, None}
 use Rattle.model.specs.Label.{of_trait, predicate}
 use Rattle.model.specs.Trees.{none, tree}
 use Rattle.model.specs.Worlds.{Reference}
@@ -10,6 +10,7 @@ use Rattle.infer_table.specs.Canonical.{GoalTrees, CanonicalForm, canonical_form
 use Rattle.infer_table.specs.Content.{Table}
 use Rattle.infer_table.specs.Responses.{AnswerTrees}
 use Rattle.infer_table.specs.Solutions.{Assignment, IsSorted}
+use Rattle.infer_table.specs.Unification.{TableTrees}
 use Rattle.infer_table.specs.declared.certainty.TypingMode.{TypingMode}
 use Rattle.infer_table.specs.declared.certainty.TypingMode.TheVariants.{Coherence}
 use Rattle.evaluation.specs.Handler.{Handled}
@@ -18,7 +19,7 @@ use Rattle.evaluation.specs.Tables.{frame_tables}
 use Rattle.search_graph.specs.Plain.{IsNotPlain}
 use Rattle.root_goals.specs.Contexts.{Asked}
 use Rattle.root_goals.specs.Evaluations.{IsFound}
-use Rattle.root_goals.specs.Roots.{fact_under}
+use Rattle.root_goals.specs.Roots.{fact_under, left_by}
 use Rattle.root_goals.specs.Searching.{solver_meaning}
 
 -- ---- goals
@@ -43,6 +44,14 @@ module _ {World Handler : Type 0} (handled : World → TypingMode → CanonicalF
   IsLeftOpen w depth r =
       let m = solver_meaning handled Rule coinductive is_ready meaning_of in
       ((a : AnswerTrees) × IsFound m w depth (asked_alone r) (Some a)) ⊎ IsNotPlain m w (depth + 1) (asked_alone r)
+
+  -- The search refuses the reference, or gives it an answer that a table in which no unknown has a value refuses.
+  pub record IsRefusedAlone (w : World) (depth : ℕ) (r : Reference) : Type 0 where
+    pub table : TableTrees
+    pub no_values : table.bindings ≡ []
+    pub answer : Option AnswerTrees
+    pub found : IsFound (solver_meaning handled Rule coinductive is_ready meaning_of) w depth (asked_alone r) answer
+    pub refused : left_by table (goal_alone r) answer ≡ None
 
 -- ---- tables
 -- A table without variables.

@@ -1,7 +1,7 @@
 -- Goals without unknowns, as a search is asked them: a reference under where-clauses, in which placeholders stand for parameters.
 use Rattle.std.specs.Prelude.{◌≡◌, Bool, true, false, List, map}
 use Rattle.std.specs.List.{list_all}
-use Rattle.model.specs.Label.{Label, param, infer, canonical, bound}
+use Rattle.model.specs.Label.{Label, of_type, of_const, param, infer, canonical, bound}
 use Rattle.model.specs.Terms.{erased_reference}
 use Rattle.model.specs.Trees.{Trees, none}
 use Rattle.model.specs.Worlds.{World, Reference}
@@ -21,10 +21,12 @@ use Rattle.solver_exactness.specs.UnboundGoals.{is_unbound}
 abbrev pub goal_of : List Reference → Reference → GoalTrees
 goal_of E r = record { environment = trees_of_clauses E; predicate = tree_of_reference r none }
 
--- of open places it may be a placeholder alone
+-- of open places it may be a placeholder, or a lifetime that no binder binds, which is meant as `'static`
 abbrev pub is_fixed : Label → Bool
-is_fixed (param k i) = false
-is_fixed (infer k i) = false
+is_fixed (param of_type i) = false
+is_fixed (param of_const i) = false
+is_fixed (infer of_type i) = false
+is_fixed (infer of_const i) = false
 is_fixed (canonical k i) = false
 is_fixed (bound k j i) = false
 is_fixed l = true
@@ -32,7 +34,7 @@ is_fixed l = true
 abbrev pub are_fixed : Trees → Bool
 are_fixed t = is_made is_fixed terms t
 
--- The terms are made as terms are, of placeholders and no other open places; names are declared, and have their arguments; and the
+-- The terms are made as terms are, of placeholders and no other open places but lifetimes; names are declared, and have their arguments; and the
 -- supertraits of where-clauses are where-clauses, up to lifetimes.
 pub record IsFormedQuestion (V : World) (sorts : Sorts) (E : List Reference) (r : Reference) : Type 0 where
   pub terms : are_fixed r.args ≡ true
@@ -51,3 +53,16 @@ abbrev pub FormedQuestionsAreGoals : Type 0
 FormedQuestionsAreGoals =
     (V : World) (sorts : Sorts) → IsFormedView V sorts → (E : List Reference) (r : Reference) → IsFormedQuestion V sorts E r → (s : Assignment) → IsSorted s
     → IsFormedGoal V sorts is_unbound (question_of (goal_of E r)) (values_under s (goal_of E r)) × AsksFor E r s
+
+-- ---- references that may hold unknowns
+-- neither bound nor canonical
+abbrev pub stands_free : Label → Bool
+stands_free (canonical k i) = false
+stands_free (bound k j i) = false
+stands_free l = true
+
+-- The terms are made as terms are, and nothing in them is bound or canonical; names are declared, and have their arguments.
+pub record HasFormedTerms (V : World) (sorts : Sorts) (r : Reference) : Type 0 where
+  pub terms : is_made stands_free terms r.args ≡ true
+  pub nodes : NodesFit V sorts r.args
+  pub trait : IsTraitOf V sorts r.trait (sorts_of r.args)

@@ -14,5 +14,14 @@ pub mod Subjects
 pub mod Resting
 pub mod Sessions
 pub mod Readying
+pub mod Numbers
+pub mod Decided
 pub mod Asking
 pub mod Promises
+pub mod Refusals
+pub mod Given
+pub mod PairGoals
+pub mod OpenPairs
+pub mod Checking
+pub mod Proving
+pub mod Applying

@@ -1,9 +1,10 @@
 -- What the answers of a session promise.
-use Rattle.std.specs.Prelude.{ℕ}
+use Rattle.std.specs.Prelude.{ℕ, map}
 use Rattle.model.specs.Terms.{erased_world, erased_reference}
 use Rattle.model.specs.Worlds.{World, view_of}
 use Rattle.text_definitions.specs.Declarations.{Declarations, Question, world_of}
-use Rattle.overlap_check.specs.Questions.{IsRefuted}
+use Rattle.overlap_check.specs.Questions.{IsRefuted, ProveAnswer, IsProveAnswer, RefuteAnswer, IsRefuteAnswer}
+use Rattle.overlap_check.specs.Verdicts.{Verdict, IsVerdict}
 use Rattle.view_lowering.specs.QuestionVariables.{variable_kinds}
 use Rattle.view_lowering.specs.Plain.{unbound_reference}
 use Rattle.assembly_laws.specs.Facts.{FollowsByView}
@@ -17,6 +18,18 @@ use Rattle.sessions.specs.Sessions.{IsSolvingOf}
 -- What answers of crate c are about: all that it sees, up to lifetimes.
 abbrev pub view_in : Declarations → ℕ → World
 view_in d c = view_of (erased_world (world_of d)) c
+
+-- The verdict on crate c, by what it sees of the text.
+abbrev pub IsVerdictOf : ℕ → Declarations → ℕ → Verdict → Type 0
+IsVerdictOf limit d c v = IsVerdict limit (view_in d c) c v
+
+-- The answer to a `prove` question, by what the asking crate sees of the text and the question's where-clauses.
+abbrev pub IsProved : ℕ → Declarations → Question → ProveAnswer → Type 0
+IsProved limit d q a = IsProveAnswer limit (view_in d q.asker) (variable_kinds q) (map erased_reference q.clauses) (erased_reference q.asked) a
+
+-- The answer to a `refute` question, by what the asking crate sees of the text.
+abbrev pub IsRefutation : ℕ → Declarations → Question → RefuteAnswer → Type 0
+IsRefutation limit d q a = IsRefuteAnswer limit (view_in d q.asker) q.asker (variable_kinds q) (erased_reference q.asked) a
 
 -- The question's reference has no solution in a linked set with the asking crate, whatever numbers it has for the text's; nor by what
 -- the crate sees alone, by proofs that hold the supertraits of all that they conclude.

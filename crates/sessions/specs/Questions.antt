@@ -2,7 +2,7 @@
 use Rattle.std.specs.Prelude.{◌≡◌, ℕ, true, List, [], map, Ok}
 use Rattle.std.specs.List.{list_all}
 use Rattle.model.specs.Proofs.{In}
-use Rattle.model.specs.Terms.{erased_reference}
+use Rattle.model.specs.Terms.{erased_reference, erased_world}
 use Rattle.model.specs.Worlds.{World, Reference}
 use Rattle.type_terms.specs.Terms.{Entry}
 use Rattle.term_folds.specs.declared.predicate.TraitRef.{TraitRef}
@@ -11,6 +11,7 @@ use Rattle.term_folds.specs.declared.predicate.Clause.TheVariants.{Trait}
 use Rattle.infer_table.specs.Goals.{goal_trees}
 use Rattle.infer_table.specs.declared.goal.Goal.{Goal}
 use Rattle.declarations.specs.Applied.{references_in}
+use Rattle.declarations.specs.Elaboration.{elaborate}
 use Rattle.declarations.specs.Items.{Items, written, reference_in}
 use Rattle.text_definitions.specs.Declarations as text
 use Rattle.text_definitions.specs.Text.{TextGives}
@@ -19,6 +20,7 @@ use Rattle.view_lowering.specs.declared.question.LoweredQuestion.{LoweredQuestio
 use Rattle.view_lowering.specs.Ready.{AreSeen}
 use Rattle.solver_exactness.specs.FormedFacts.{Sorts, FitsSorts}
 use Rattle.solver_exactness.specs.SolverChoices.{IsElaborated}
+use Rattle.sessions.specs.Clauses.{AddSupertraits}
 use Rattle.sessions.specs.Fitting.{sorts_in}
 use Rattle.sessions.specs.Goals.{goal_of, are_fixed, IsFormedQuestion}
 
@@ -39,6 +41,27 @@ TextsQuestionsAreFormed =
     (bytes : List ℕ) (d : text.Declarations) → TextGives bytes (Ok d) → (n : ℕ) (q : text.Question) → IsQuestion d n q → q.variables ≡ []
     → (es : List Entry) (decls : Items) → AreSeen es decls d q.asker → (held : List Entry) (l : LoweredQuestion) → IsLowered held q l
     → IsFormedAsWritten (written es decls) (sorts_in decls) (references_in held l.clauses.items) (reference_in held l.asked)
+
+-- ---- as it is asked
+-- Where-clauses E with all their supertraits: they are formed, supertraits of them are among them, and up to lifetimes they add to E
+-- supertraits alone.
+pub record AreFormedElaborated (V : World) (sorts : Sorts) (E : List Reference) : Type 0 where
+  pub clauses : AreFixedReferences (elaborate V E)
+  pub fit : (c : Reference) → In c (elaborate V E) → FitsSorts V sorts c
+  pub elaborated : IsElaborated V (map erased_reference (elaborate V E))
+  pub adds : AddSupertraits (erased_world V) (map erased_reference E) (map erased_reference (elaborate V E))
+
+-- under these the reference is a formed question, if it has no variables
+pub record IsFormedElaborated (variables : List text.Variable) (V : World) (sorts : Sorts) (E : List Reference) (r : Reference) : Type 0 where
+  pub clauses : AreFormedElaborated V sorts E
+  pub asked : variables ≡ [] → IsFormedQuestion V sorts (elaborate V E) r
+
+-- So are the terms that a question is lowered to, by what the crate that asks sees of a text without a fault.
+abbrev pub TextsQuestionsAreElaborated : Type 0
+TextsQuestionsAreElaborated =
+    (bytes : List ℕ) (d : text.Declarations) → TextGives bytes (Ok d) → (n : ℕ) (q : text.Question) → IsQuestion d n q
+    → (es : List Entry) (decls : Items) → AreSeen es decls d q.asker → (held : List Entry) (l : LoweredQuestion) → IsLowered held q l
+    → IsFormedElaborated q.variables (written es decls) (sorts_in decls) (references_in held l.clauses.items) (reference_in held l.asked)
 
 -- ---- the goal that asks it
 -- references as where-clauses

@@ -1,22 +1,33 @@
 -- What a session asks about.
-use Rattle.std.specs.Prelude.{◌≡◌, ℕ, true, List, Ok, refl}
-use Rattle.std.specs.Coded.{Coded, code_by, coded_ℕ, coded×}
+use Rattle.std.specs.Prelude.{◌≡◌, ℕ, true, false, List, Ok, refl}
+use Rattle.std.specs.Coded.{Coded, code_by, coded_ℕ, coded×, coded_list}
+use Rattle.type_terms.specs.Terms.{Entry, entry_code, Keeps}
 use Rattle.text_definitions.specs.Declarations.{Declarations, Question}
 use Rattle.text_definitions.specs.Text.{TextGives}
 use Rattle.workspace.specs.Stored.{declarations_code}
 use Rattle.view_lowering.specs.Questions.{IsQuestion}
 
--- declarations, one of their crates by its number, and the limits
+-- declarations, one of their crates by its number, and the limits; and the terms of the session's interner, in which its answers are read
 pub record Subject : Type 0 where
   pub declarations : Declarations
   pub of_crate : ℕ
   pub depth : ℕ
   pub handles : ℕ
+  pub terms : List Entry
 
 abbrev pub subject_code : Coded Subject
 subject_code =
-    code_by (Declarations × (ℕ × (ℕ × ℕ))) (coded× declarations_code (coded× coded_ℕ (coded× coded_ℕ coded_ℕ)))
-    (λ s. (s.declarations, (s.of_crate, (s.depth, s.handles)))) (λ (d, (c, (n, h))). record { declarations = d; of_crate = c; depth = n; handles = h }) (λ _. refl)
+    code_by (Declarations × (ℕ × (ℕ × (ℕ × List Entry)))) (coded× declarations_code (coded× coded_ℕ (coded× coded_ℕ (coded× coded_ℕ (coded_list entry_code)))))
+    (λ s. (s.declarations, (s.of_crate, (s.depth, (s.handles, s.terms)))))
+    (λ (d, (c, (n, (h, es)))). record { declarations = d; of_crate = c; depth = n; handles = h; terms = es }) (λ _. refl)
+
+-- A call leaves what is asked about, and the limits, as they were; each handle keeps its term.
+pub record StaysOn (old new : Subject) : Type 0 where
+  pub declarations : new.declarations ≡ old.declarations
+  pub of_crate : new.of_crate ≡ old.of_crate
+  pub depth : new.depth ≡ old.depth
+  pub handles : new.handles ≡ old.handles
+  pub terms : Keeps old.terms new.terms
 
 -- some text declares them
 abbrev pub IsOfText : Declarations → Type 0
@@ -26,6 +37,11 @@ IsOfText d = (bytes : List ℕ) × TextGives bytes (Ok d)
 pub record Asks (d : Declarations) (c n : ℕ) (q : Question) : Type 0 where
   pub question : IsQuestion d n q
   pub asker : q.asker ≡ c
+
+-- ... and it is a `prove` question
+pub record AsksProof (d : Declarations) (c n : ℕ) (q : Question) : Type 0 where
+  pub asks : Asks d c n q
+  pub proves : q.is_refute ≡ false
 
 -- ... and it is a `refute` question
 pub record AsksRefutation (d : Declarations) (c n : ℕ) (q : Question) : Type 0 where

@@ -10,11 +10,16 @@
 //! contract makes a promise.
 #![tactic(auto)]
 
+mod answers;
+mod applying;
 mod asked;
+mod checked;
 mod impossible;
 pub mod laws;
 mod limits;
 mod obligations;
+mod pair_laws;
+mod proving;
 mod question_laws;
 mod refuted;
 mod session;
@@ -22,14 +27,19 @@ pub mod settling;
 pub mod table;
 pub mod values;
 mod view;
+mod written;
 
+pub use answers::{ProveAnswer, RefuteAnswer, Verdict};
 pub use impossible::is_impossible;
 pub use limits::Limits;
 pub use obligations::has_impossible_obligation;
+pub use pair_laws::{open_pair_goals_are_possible, pair_goals_are_formed};
 pub use question_laws::{
-    SolverSearch, formed_questions_are_goals, questions_are_answered_exactly, questions_are_formed,
-    references_are_goals, sorts_tell_fits, texts_are_formed,
+    SolverSearch, decided_are_answered, formed_questions_are_goals,
+    questions_are_answered_as_written, questions_are_answered_exactly, questions_are_elaborated,
+    questions_are_formed, references_are_goals, refusals_are_exact, sorts_tell_fits,
+    texts_are_formed,
 };
-pub use refuted::RefuteAnswer;
 pub use session::Session;
-pub use view::declarations_are_ready;
+pub use view::{declarations_are_ready, impls_are_numbered};
+pub use written::ready_impls_are_written_well;

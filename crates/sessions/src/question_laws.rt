@@ -7,10 +7,12 @@ ghost use Rattle.evaluation.specs.Tables.{frame_tables};
 ghost use Rattle.goal_frames.specs.Searches.{Handles, Asked};
 ghost use Rattle.candidate_assembly.specs.Solving.{Solving};
 ghost use Rattle.view_lowering.specs.Ready.{OfTexts};
-ghost use Rattle.sessions.specs.Answers.{solver_goals, AreAnsweredRight, AreToldPossible};
+ghost use Rattle.sessions.specs.Answers.{solver_goals, AreAnsweredRight, AreAnsweredAsWritten, AreToldPossible};
+ghost use Rattle.sessions.specs.Decided.{DecidedAreAnswered, DecidedQuestionsAreAnswered};
 ghost use Rattle.sessions.specs.Fitting.{SortsTellFits};
 ghost use Rattle.sessions.specs.Goals.{FormedQuestionsAreGoals};
-ghost use Rattle.sessions.specs.Questions.{TextsQuestionsAreFormed, ReferencesAreGoals};
+ghost use Rattle.sessions.specs.Questions.{TextsQuestionsAreFormed, TextsQuestionsAreElaborated, ReferencesAreGoals};
+ghost use Rattle.sessions.specs.Refusals.{RefusalsAreExact};
 ghost use Rattle.sessions.specs.Views.{TextsAreFormed};
 
 /// Where declarations are formed, a goal in which nothing is bound, and whose terms have the sorts that are declared, fits them, and
@@ -29,6 +31,12 @@ pub fn texts_are_formed()
 /// text: under where-clauses that are elaborated it is a formed question. Its own where-clauses are formed as they are written.
 pub fn questions_are_formed()
     ensures { TextsQuestionsAreFormed }
+{}
+
+/// So it is of each question of such a text under its where-clauses with all their supertraits: these are formed, supertraits of them
+/// are among them, and they add supertraits alone. A question without variables is a formed question under them.
+pub fn questions_are_elaborated()
+    ensures { TextsQuestionsAreElaborated }
 {}
 
 /// A goal that asks for a reference, and whose where-clauses are references, stands for the goal that their trees form.
@@ -62,4 +70,26 @@ pub trait SolverSearch {
 pub fn questions_are_answered_exactly<S: SolverSearch>()
     ensures right { OfTexts (AreAnsweredRight S.handles) }
     ensures possible { OfTexts (AreToldPossible S.handles) }
+{}
+
+/// So it is of a question that is asked under its where-clauses with all their supertraits, by the clauses as they are written: if by
+/// these there is one way at most at each step, the answer is a definite yes where they prove the reference, and a refusal where they
+/// don't.
+pub fn questions_are_answered_as_written<S: SolverSearch>()
+    ensures { OfTexts (AreAnsweredAsWritten S.handles) }
+{}
+
+/// A bounded reference whose terms are formed by what a crate sees of a text without a fault, asked alone in coherence, is refused
+/// exactly if it is not possible in the crate: if it is left open, it has an answer within the depth that is no refusal. Unknown lifetimes
+/// may stand in it.
+pub fn refusals_are_exact()
+    ensures { RefusalsAreExact }
+{}
+
+/// So the search of a session answers a decided reference: under where-clauses with all their supertraits, all of them formed by what a
+/// crate sees of a text without a fault, it has an answer within the depth, a definite yes if it has a proof by what the crate sees and
+/// the clauses as they are written, and a refusal if it has none. So is each decided question of such a text.
+pub fn decided_are_answered()
+    ensures references { DecidedAreAnswered }
+    ensures questions { DecidedQuestionsAreAnswered }
 {}

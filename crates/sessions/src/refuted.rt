@@ -1,7 +1,8 @@
 //! Questions whether a reference has a proof wherever the asking crate is linked.
 
-ghost use Rattle.std.specs.Prelude.{◌≡◌, [], Ok};
-ghost use Rattle.type_terms.specs.Terms.{Has, args_lists};
+ghost use Rattle.std.specs.Prelude.{◌≡◌, [], true, Ok, OnOk};
+ghost use Rattle.type_terms.specs.Made.{terms, is_made, is_in_range};
+ghost use Rattle.type_terms.specs.Terms.{Has, Keeps, args_lists};
 ghost use Rattle.declarations.specs.Items.{reference_in};
 ghost use Rattle.infer_table.specs.Content.{Ready, variables_of};
 ghost use Rattle.infer_table.specs.Covers.{AreKnown};
@@ -10,9 +11,10 @@ ghost use Rattle.text_definitions.specs.Declarations.{Question};
 ghost use Rattle.view_lowering.specs.Plain.{unbound_reference};
 ghost use Rattle.view_lowering.specs.Questions.{IsQuestion, IsLowered};
 ghost use Rattle.view_lowering.specs.QuestionVariables.{HasVariablesAlone};
-ghost use Rattle.sessions.specs.Asking.{HasNoProof, IsLeftOpen, empty_table, goal_alone};
+ghost use Rattle.sessions.specs.Asking.{HasNoProof, IsLeftOpen, IsRefusedAlone, empty_table, goal_alone};
 ghost use Rattle.sessions.specs.Resting.{AreAtRest};
 
+use crate::answers::RefuteAnswer;
 use crate::asked::{add_unknowns_in, lower_in, rest_laws};
 use evaluation::TypingMode;
 use goal_frames::GoalHandler;
@@ -24,15 +26,6 @@ use term_folds::predicate::{TraitPredicate, TraitRef};
 use type_terms::Fault;
 use view_lowering::LoweredQuestion;
 use workspace::Workspace;
-
-/// The answer of a `refute` question.
-#[derive(Clone, Copy, Debug, PartialEq, Eq)]
-pub enum RefuteAnswer {
-    /// Wherever the crate is linked, the reference has no proof, whatever its variables stand for.
-    No,
-    /// It was not refused.
-    Open,
-}
 
 /// Asks in coherence, without where-clauses, for a reference over a table without values.
 ///
@@ -50,10 +43,13 @@ fn ask_in_coherence<H: GoalHandler>(
     requires held { Has cx.old.interner.entries args_lists asked.args.0 }
     ensures rest { AreAtRest H.handled H.Rule H.coinductive H.ready H.meaning graph.old.root_depth cx.new graph.new cache.new }
     ensures meaning { H.meaning cx.new.handler cx.new.interner.entries ≡ H.meaning cx.old.handler cx.old.interner.entries }
+    ensures keeps { Keeps cx.old.interner.entries cx.new.interner.entries }
 
     // A reference that is refused has no proof, if it speaks of the table's variables alone.
     ensures no { result ≡ Ok RefuteAnswer.No → let r = reference_in cx.old.interner.entries asked in HasNoCanonical r.args → AreKnown (variables_of table.old) r.args
         → HasNoProof (H.handled (H.meaning cx.old.handler cx.old.interner.entries)) (goal_alone r) }
+    ensures refused { result ≡ Ok RefuteAnswer.No → (let w = H.meaning cx.old.handler cx.old.interner.entries in
+        IsRefusedAlone H.handled H.Rule H.coinductive H.ready H.meaning w graph.old.root_depth (reference_in cx.old.interner.entries asked)) }
     ensures open { result ≡ Ok RefuteAnswer.Open → (let w = H.meaning cx.old.handler cx.old.interner.entries in
         IsLeftOpen H.handled H.Rule H.coinductive H.ready H.meaning w graph.old.root_depth (reference_in cx.old.interner.entries asked)) }
 {
@@ -82,8 +78,11 @@ fn refute_lowered<H: GoalHandler>(
     requires lowered { (q : Question) × IsLowered cx.old.interner.entries q lowered.now }
     ensures rest { AreAtRest H.handled H.Rule H.coinductive H.ready H.meaning graph.old.root_depth cx.new graph.new cache.new }
     ensures meaning { H.meaning cx.new.handler cx.new.interner.entries ≡ H.meaning cx.old.handler cx.old.interner.entries }
+    ensures keeps { Keeps cx.old.interner.entries cx.new.interner.entries }
     ensures no { result ≡ Ok RefuteAnswer.No → (q : Question) → IsLowered cx.old.interner.entries q lowered.now → HasVariablesAlone q
         → HasNoProof (H.handled (H.meaning cx.old.handler cx.old.interner.entries)) (goal_alone (unbound_reference q.asked)) }
+    ensures refused { result ≡ Ok RefuteAnswer.No → (q : Question) → IsLowered cx.old.interner.entries q lowered.now
+        → IsRefusedAlone H.handled H.Rule H.coinductive H.ready H.meaning (H.meaning cx.old.handler cx.old.interner.entries) graph.old.root_depth (unbound_reference q.asked) }
     ensures open { result ≡ Ok RefuteAnswer.Open → (q : Question) → IsLowered cx.old.interner.entries q lowered.now
         → IsLeftOpen H.handled H.Rule H.coinductive H.ready H.meaning (H.meaning cx.old.handler cx.old.interner.entries) graph.old.root_depth (unbound_reference q.asked) }
 {
@@ -106,8 +105,14 @@ pub(crate) fn refute_question<H: GoalHandler>(
     requires question { (q : Question) × IsQuestion workspace.now number q }
     ensures rest { AreAtRest H.handled H.Rule H.coinductive H.ready H.meaning graph.old.root_depth cx.new graph.new cache.new }
     ensures meaning { H.meaning cx.new.handler cx.new.interner.entries ≡ H.meaning cx.old.handler cx.old.interner.entries }
+    ensures keeps { Keeps cx.old.interner.entries cx.new.interner.entries }
+
+    // The reference is made as an interner's terms are.
+    ensures made { OnOk result ((q : Question) → IsQuestion workspace.now number q → is_made is_in_range terms (unbound_reference q.asked).args ≡ true) }
     ensures no { result ≡ Ok RefuteAnswer.No → (q : Question) → IsQuestion workspace.now number q → HasVariablesAlone q
         → HasNoProof (H.handled (H.meaning cx.old.handler cx.old.interner.entries)) (goal_alone (unbound_reference q.asked)) }
+    ensures refused { result ≡ Ok RefuteAnswer.No → (q : Question) → IsQuestion workspace.now number q
+        → IsRefusedAlone H.handled H.Rule H.coinductive H.ready H.meaning (H.meaning cx.old.handler cx.old.interner.entries) graph.old.root_depth (unbound_reference q.asked) }
     ensures open { result ≡ Ok RefuteAnswer.Open → (q : Question) → IsQuestion workspace.now number q
         → IsLeftOpen H.handled H.Rule H.coinductive H.ready H.meaning (H.meaning cx.old.handler cx.old.interner.entries) graph.old.root_depth (unbound_reference q.asked) }
 {

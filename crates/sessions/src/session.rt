@@ -1,20 +1,29 @@
 //! Sessions.
 
-ghost use Rattle.std.specs.Prelude.{◌≡◌, ◌<◌, length, IfOk, Ok};
+ghost use Rattle.std.specs.Prelude.{◌≡◌, ◌<◌, ◌≤◌, ◌+◌, length, IfOk, Ok};
+ghost use Rattle.type_terms.specs.declared.TheConstants.{MAX_INDEX};
+ghost use Rattle.workspace.specs.Numbered.{IsNumbered};
 ghost use Rattle.text_definitions.specs.Declarations.{Question};
-ghost use Rattle.sessions.specs.Promises.{IsRefutedQuestion, IsOpenQuestion};
-ghost use Rattle.sessions.specs.Subjects.{IsOfText, AsksRefutation};
+ghost use Rattle.sessions.specs.Checking.{HasOrphan, HasJudged, HasPartner, HasOverlap};
+ghost use Rattle.sessions.specs.Given.{refutation_of, verdict_in};
+ghost use Rattle.sessions.specs.Promises.{IsRefutation, IsOpenQuestion, IsVerdictOf};
+ghost use Rattle.sessions.specs.Subjects.{IsOfText, AsksRefutation, StaysOn};
 
+use crate::answers::{RefuteAnswer, Verdict};
+use crate::asked::rest_laws;
+use crate::checked::{first_broken_header, overlap_at};
 use crate::limits::Limits;
-use crate::refuted::{RefuteAnswer, refute_question};
+use crate::refuted::refute_question;
 use crate::view::lower_view;
 use candidate_assembly::solver::Solver;
+use orphan_check::errors::OrphanCheckErr;
 use root_goals::{SolverCx, SolverGraph};
 use search_graph::{GlobalCache, SearchGraph};
 use std::alloc::Global;
 use std::marker::Model;
 use type_terms::interner::Interner;
-use type_terms::{CrateId, Fault};
+use type_terms::kinds::Ty;
+use type_terms::{CrateId, Fault, ImplId};
 use view_lowering::refutations_have_variables_alone;
 use workspace::Workspace;
 
@@ -47,6 +56,7 @@ impl<'w> Model for Session<'w> {
       of_crate = s.crate_id.index;
       depth = s.limits.depth;
       handles = s.limits.handles;
+      terms = s.cx.interner.entries;
     } };
 
     ghost invariant = { λ s. IsSession s.workspace.now s.crate_id.index s.limits.depth s.cx s.graph s.cache };
@@ -86,21 +96,121 @@ impl<'w> Session<'w> {
         })
     }
 
-    /// Whether the reference of a `refute` question of this crate is refused: it has no proof wherever the crate is linked, whatever its variables
-    /// stand for. Questions count from 1.
+    /// The verdict on the crate: whether each impl that it writes keeps the orphan rule, and whether it brings two impls together that
+    /// overlap.
     ///
-    /// It is asked once, in coherence and without where-clauses. The fault is `Memory` where memory is refused, or `Full` where a table
+    /// All headers are judged before any pair, by the numbers of their impls in the text. A pair overlaps if the two headers have a
+    /// common instance and none of the where-clauses is impossible there. The fault is `Memory` where memory is refused, or `Full` where
+    /// a table of the session is full.
+    ///
+    /// `coherent_trait` of `rustc_hir_analysis`, for all traits.
+    pub fn check_crate(&mut self) -> Result<Verdict, Fault>
+        ensures verdict { IfOk result (λ verdict. IsVerdictOf self.old.depth self.old.declarations self.old.of_crate (verdict_in self.new.terms verdict)) }
+        ensures stays { StaysOn self.old self.new }
+    {
+        let end = self.impl_end();
+        if let Some((id, error)) = self.first_orphan(end)? {
+            return Ok(Verdict::Orphan(id, error));
+        }
+        match self.first_overlap(end)? {
+            Some((later, earlier)) => Ok(Verdict::Overlap(later, earlier)),
+            None => Ok(Verdict::Accepted),
+        }
+    }
+
+    /// How many impls the text has: their numbers are below it.
+    fn impl_end(&self) -> u32
+        ensures is { result ≡ length self.now.declarations.impls }
+        ensures in_range { result ≤ MAX_INDEX + 1 }
+        ensures numbered { IsNumbered self.now.declarations }
+    {
+        let _ = self.workspace.crates();
+        self.workspace.impls().len() as u32
+    }
+
+    /// The first impl of the crate whose header breaks the orphan rule, and why it does.
+    fn first_orphan(&mut self, end: u32) -> Result<Option<(ImplId, OrphanCheckErr<Ty>)>, Fault>
+        requires end { end ≡ length self.old.declarations.impls }
+        requires in_range { end ≤ MAX_INDEX + 1 }
+        requires numbered { IsNumbered self.old.declarations }
+        ensures first { IfOk result (HasOrphan self.old self.new.terms) }
+        ensures stays { StaysOn self.old self.new }
+    {
+        rest_laws::<Solver>();
+        first_broken_header(&mut self.cx, end)
+    }
+
+    /// The first pair that the crate brings together and that overlaps, by the numbers of its impls; these are below `end`.
+    fn first_overlap(&mut self, end: u32) -> Result<Option<(ImplId, ImplId)>, Fault>
+        requires in_range { end ≤ MAX_INDEX + 1 }
+        requires numbered { IsNumbered self.old.declarations }
+        ensures found { IfOk result (HasOverlap self.old end) }
+        ensures stays { StaysOn self.old self.new }
+    {
+        for index in 0..end {
+            let later = ImplId { index };
+            if let Some(earlier) = self.first_partner(later, end)? {
+                return Ok(Some((later, earlier)));
+            }
+        }
+        Ok(None)
+    }
+
+    /// The first impl with which an impl of the crate overlaps, by number; numbers of impls are below `end`.
+    fn first_partner(&mut self, later: ImplId, end: u32) -> Result<Option<ImplId>, Fault>
+        requires in_range { end ≤ MAX_INDEX + 1 }
+        requires numbered { IsNumbered self.old.declarations }
+        ensures found { IfOk result (HasPartner self.old end later.index) }
+        ensures stays { StaysOn self.old self.new }
+    {
+        for index in 0..end {
+            let earlier = ImplId { index };
+            if self.overlaps(later, earlier)? {
+                return Ok(Some(earlier));
+            }
+        }
+        Ok(None)
+    }
+
+    /// Whether the impls of two numbers are a pair that the crate brings together and that overlaps.
+    fn overlaps(&mut self, later: ImplId, earlier: ImplId) -> Result<bool, Fault>
+        requires numbered { IsNumbered self.old.declarations }
+        ensures judged { IfOk result (HasJudged self.old later.index earlier.index) }
+        ensures stays { StaysOn self.old self.new }
+    {
+        overlap_at(
+            &mut self.graph,
+            &mut self.cache,
+            &mut self.cx,
+            later,
+            earlier,
+        )
+    }
+
+    /// The terms of the session, in which its answers are read.
+    pub fn interner(&self) -> &Interner
+        ensures terms { result.now.entries ≡ self.now.terms }
+    {
+        &self.cx.interner
+    }
+
+    /// Whether the reference of a `refute` question of this crate is refused: it has no proof wherever the crate is linked, whatever its
+    /// variables stand for. Questions count from 1.
+    ///
+    /// It is asked once, in coherence and without where-clauses. A reference without variables whose chains of premises are shorter than
+    /// the depth is refused exactly if it is not possible in the crate. The fault is `Memory` where memory is refused, or `Full` where a table
     /// of the session is full.
     pub fn refute(&mut self, number: u32) -> Result<RefuteAnswer, Fault>
         requires { (q : Question) × AsksRefutation self.old.declarations self.old.of_crate number q }
 
-        // In no linked set with the crate has the reference a solution, nor by the crate's view alone.
-        ensures no { result ≡ Ok RefuteAnswer.No → (q : Question) → AsksRefutation self.old.declarations self.old.of_crate number q → IsRefutedQuestion self.old.declarations q }
+        // `No` is right of the reference in every linked set with the crate; and of a bounded one it is said exactly if it is not possible.
+        ensures answer { (q : Question) → AsksRefutation self.old.declarations self.old.of_crate number q
+            → IfOk result (λ a. IsRefutation self.old.depth self.old.declarations q (refutation_of a)) }
 
         // A reference that is left open has an answer that is no refusal, or is too deep.
         ensures open { result ≡ Ok RefuteAnswer.Open → (q : Question) → AsksRefutation self.old.declarations self.old.of_crate number q
             → IsOpenQuestion self.old.declarations self.old.depth q }
-        ensures same { self.new ≡ self.old }
+        ensures stays { StaysOn self.old self.new }
     {
         refutations_have_variables_alone();
         refute_question(

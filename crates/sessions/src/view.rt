@@ -6,6 +6,7 @@ ghost use Rattle.view_lowering.specs.Plain.{plainly_seen_from};
 ghost use Rattle.view_lowering.specs.Seen.{rules_seen_from, struct_sorts, trait_sorts, impl_sorts, struct_sorts_seen, trait_sorts_seen, impl_sorts_seen};
 ghost use Rattle.view_lowering.specs.Ready.{OfTexts};
 ghost use Rattle.candidate_assembly.specs.Ready.{IsReady};
+ghost use Rattle.sessions.specs.Numbers.{ImplsAreNumbered};
 ghost use Rattle.sessions.specs.Readying.{AreReady};
 ghost use Rattle.sessions.specs.Subjects.{IsOfText};
 
@@ -29,6 +30,12 @@ pub fn declarations_are_ready()
     impls_speak_of_parameters();
     bounds_are_applied();
 }
+
+/// Where numbers are places, as `Workspace::crates` says of those of a text, the impls that a crate sees have numbers of their own, below
+/// the number of all impls of the text.
+pub fn impls_are_numbered()
+    ensures { ImplsAreNumbered }
+{}
 
 /// The declarations that a crate of a text sees, ready for the solver. Errors are those of `lower`.
 pub(crate) fn lower_view(

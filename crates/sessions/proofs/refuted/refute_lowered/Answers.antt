@@ -2,7 +2,7 @@ use Rattle.std.proofs.Common.{rules, ◌≡◌, ◌∙◌, ap}
 use Rattle.declarations.specs.Items.{reference_in}
 use Rattle.infer_table.specs.Content.{Table}
 use Rattle.view_lowering.specs.Plain.{unbound_reference}
-use Rattle.sessions.specs.Asking.{IsLeftOpen, empty_table, with_unknowns}
+use Rattle.sessions.specs.Asking.{IsLeftOpen, IsRefusedAlone, empty_table, with_unknowns}
 use Rattle.sessions.proofs.Alone.{clean-there, known-there, refused-there, reference-is, moved, values-kept}
 use Rattle.sessions.proofs.refuted.refute_lowered.Goals as goal
 
@@ -43,3 +43,19 @@ returns-clause-open g c =
     (c.rest_laws.ensures.meaning c.args.cx.now c.add_unknowns_in.new.cx c.requires.rest.ready c.add_unknowns_in.ensures.advances)
     (reference-is q old new c.requires.rest.ready.lawful c.add_unknowns_in.ensures.advances.entries l low)
     (c.ask_in_coherence.ensures.open r)
+
+pub returns-clause-refused : goal.returns-clause-refused
+returns-clause-refused g c =
+    λ r q low.
+    let old = c.args.cx.now.interner.entries in
+    let new = c.add_unknowns_in.new.cx.interner.entries in
+    let l = c.args.lowered.now in
+    moved
+    (λ w s. IsRefusedAlone g.H.GoalHandler.handled g.H.GoalHandler.Rule g.H.GoalHandler.coinductive g.H.GoalHandler.ready g.H.GoalHandler.meaning w c.args.graph.now.root_depth s)
+    (g.H.GoalHandler.meaning c.add_unknowns_in.new.cx.handler new) (g.H.GoalHandler.meaning c.args.cx.now.handler old) (reference_in new l.asked) (unbound_reference q.asked)
+    (c.rest_laws.ensures.meaning c.args.cx.now c.add_unknowns_in.new.cx c.requires.rest.ready c.add_unknowns_in.ensures.advances)
+    (reference-is q old new c.requires.rest.ready.lawful c.add_unknowns_in.ensures.advances.entries l low)
+    (c.ask_in_coherence.ensures.refused r)
+
+pub returns-clause-keeps : goal.returns-clause-keeps
+returns-clause-keeps g c = λ i e h. c.ask_in_coherence.ensures.keeps i e (c.add_unknowns_in.ensures.advances.entries i e h)

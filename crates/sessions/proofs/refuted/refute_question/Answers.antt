@@ -1,6 +1,10 @@
-use Rattle.std.proofs.Common.{ap, subst}
+use Rattle.std.proofs.Common.{true, ap, subst, ◌≡◌}
+use Rattle.type_terms.specs.Made.{terms, is_made, is_in_range}
+use Rattle.model.specs.Worlds.{Reference}
+use Rattle.candidate_assembly.proofs.Finding.{args-made}
 use Rattle.view_lowering.specs.Plain.{unbound_reference}
-use Rattle.sessions.specs.Asking.{HasNoProof, IsLeftOpen, goal_alone}
+use Rattle.sessions.specs.Asking.{HasNoProof, IsLeftOpen, IsRefusedAlone, goal_alone}
+use Rattle.sessions.proofs.Alone.{on-ok}
 use Rattle.sessions.proofs.refuted.refute_question.Goals as goal
 
 pub returns-in_err-lowered-clause-rest : goal.returns-in_err-lowered-clause-rest
@@ -25,3 +29,21 @@ returns-clause-open g c =
     subst (λ w. IsLeftOpen g.H.GoalHandler.handled g.H.GoalHandler.Rule g.H.GoalHandler.coinductive g.H.GoalHandler.ready g.H.GoalHandler.meaning w c.args.graph.now.root_depth (unbound_reference q.asked))
     (c.rest_laws.ensures.meaning c.args.cx.now c.lower_in.new.cx c.requires.rest.ready c.lower_in.ensures.advances)
     (c.refute_lowered.ensures.open r q (c.in_ok-lowered.ensures.lowered q is))
+
+pub returns-clause-refused : goal.returns-clause-refused
+returns-clause-refused g c =
+    λ r q is.
+    subst (λ w. IsRefusedAlone g.H.GoalHandler.handled g.H.GoalHandler.Rule g.H.GoalHandler.coinductive g.H.GoalHandler.ready g.H.GoalHandler.meaning w c.args.graph.now.root_depth (unbound_reference q.asked))
+    (c.rest_laws.ensures.meaning c.args.cx.now c.lower_in.new.cx c.requires.rest.ready c.lower_in.ensures.advances)
+    (c.refute_lowered.ensures.refused r q (c.in_ok-lowered.ensures.lowered q is))
+
+pub returns-clause-keeps : goal.returns-clause-keeps
+returns-clause-keeps g c = λ i e h. c.refute_lowered.ensures.keeps i e (c.lower_in.ensures.advances.entries i e h)
+
+pub returns-clause-made : goal.returns-clause-made
+returns-clause-made g c =
+    on-ok c.refute_lowered.result _
+    (λ q is.
+    let low = c.in_ok-lowered.ensures.lowered q is in
+    subst (λ (r : Reference). is_made is_in_range terms r.args ≡ true) low.asked
+    (args-made c.lower_in.new.cx.interner.entries c.lower_in.ensures.advances.ready.lawful c.in_ok-lowered.lowered.asked.args.0 low.asked_held))

@@ -1,16 +1,25 @@
 use Rattle.std.proofs.Common.{subst}
-use Rattle.sessions.specs.Promises.{IsRefutedQuestion, IsOpenQuestion}
+use Rattle.std.specs.Prelude.{IfOk}
+use Rattle.sessions.specs.Given.{refutation_of}
+use Rattle.sessions.specs.Promises.{IsRefutation, IsOpenQuestion}
 use Rattle.sessions.specs.Subjects.{Subject, AsksRefutation}
 use Rattle.text_definitions.specs.Declarations.{Question}
-use Rattle.sessions.proofs.Keeping.{refused-is-refuted, left-open}
+use Rattle.sessions.proofs.Alone.{on-map}
+use Rattle.sessions.proofs.Keeping.{left-open, answered-exactly}
 use Rattle.sessions.proofs.session.Session.refute.Goals as goal
 
-pub returns-clause-no : goal.returns-clause-no
-returns-clause-no c =
-    λ r.
+pub returns-clause-answer : goal.returns-clause-answer
+returns-clause-answer c =
     let i = c.self.inside in
-    subst (λ (s : Subject). (q : Question) → AsksRefutation s.declarations s.of_crate c.args.number q → IsRefutedQuestion s.declarations q) c.self.view_is
-    (λ q asks. refused-is-refuted i.workspace.now i.crate_id.index i.limits.depth i.cx i.graph i.cache c.self.invariant c.refutations_have_variables_alone.ensures c.args.number q asks (λ own. c.refute_question.ensures.no r q asks.asks.question own))
+    subst (λ (s : Subject). (q : Question) → AsksRefutation s.declarations s.of_crate c.args.number q → IfOk c.refute_question.result (λ a. IsRefutation s.depth s.declarations q (refutation_of a))) c.self.view_is
+    (λ q asks.
+    answered-exactly i.workspace.now i.crate_id.index i.limits.depth i.cx i.graph i.cache c.self.invariant c.refutations_have_variables_alone.ensures c.args.number q asks c.refute_question.result
+    (record {
+      made = on-map c.refute_question.result _ _ (λ f. f q asks.asks.question) c.refute_question.ensures.made;
+      no = λ r own. c.refute_question.ensures.no r q asks.asks.question own;
+      refused = λ r. c.refute_question.ensures.refused r q asks.asks.question;
+      left = λ r. c.refute_question.ensures.open r q asks.asks.question;
+    }))
 
 pub returns-clause-open : goal.returns-clause-open
 returns-clause-open c =

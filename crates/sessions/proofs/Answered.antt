@@ -1,0 +1,110 @@
+-- What is known of an answer to a goal that was asked over a table without values.
+use Rattle.std.proofs.Common.{◌≡◌, ℕ, Bool, true, false, ◌||◌, List, [], ◌∷◌, map, Option, Some, None, refl, sym, ap, ◌∙◌, subst, inl, inr}
+use Rattle.model.specs.Label.{Sort, predicate, PredicateKind}
+use Rattle.model.specs.Trees.{Trees, none, tree, some_node}
+use Rattle.type_terms.specs.Kinds.{ArgsHeld, arg_trees}
+use Rattle.type_terms.specs.Terms.{Entry, Keeps, Lawful, args_lists, trees_at}
+use Rattle.type_terms.specs.declared.kinds.GenericArgKind.{GenericArgKind}
+use Rattle.term_folds.specs.Kept.{arg-trees-later, trees-later}
+use Rattle.infer_table.specs.Canonical.{GoalTrees, CanonicalForm}
+use Rattle.infer_table.specs.Content.{Table, Ready, content}
+use Rattle.infer_table.specs.Goals.{GoalHeld, goal_trees}
+use Rattle.infer_table.specs.Inputs.{IsWithoutCanonical}
+use Rattle.infer_table.specs.Solutions.{Assignment, Binding, Solves, replace, resolved}
+use Rattle.infer_table.specs.WithoutCanonical.{HaveNoCanonical}
+use Rattle.infer_table.specs.declared.certainty.TypingMode.{TypingMode}
+use Rattle.infer_table.specs.declared.goal.Goal.{Goal}
+use Rattle.infer_table.proofs.Numbers.{goal-trees-later, goal-held-later}
+use Rattle.search_graph.specs.SearchState.{SearchState}
+use Rattle.evaluation.specs.Content.{Fact}
+use Rattle.evaluation.specs.Handler.{Handled}
+use Rattle.evaluation.specs.Proof as Lists
+use Rattle.evaluation.specs.Tables.{frame_tables}
+use Rattle.root_goals.specs.Contexts.{entries_of}
+use Rattle.root_goals.specs.Roots.{fact_under}
+use Rattle.root_goals.specs.declared.context.SolverCx.{SolverCx}
+use Rattle.sessions.specs.Proved.{fact_with_values, ValuesAreProved}
+use Rattle.sessions.specs.Proving.{AreReadOff, HasValues, IsAnswered, IsRefusedGoal, IsUnsettledGoal, is_bound_term}
+use Rattle.sessions.specs.Settling.{IsProvedBy, IsRefused, IsUnsettled}
+use Rattle.sessions.specs.Tables.{table_of}
+use Rattle.sessions.specs.declared.answers.ProveAnswer.{ProveAnswer}
+use Rattle.sessions.specs.declared.answers.ProveAnswer.TheVariants.{Yes, Maybe, Unproved}
+use Rattle.sessions.proofs.Proved.{values-are-proved}
+
+two : {A : Type 0} {x y : A} {xs ys : List A} → x ≡ y → xs ≡ ys → x ∷ xs ≡ y ∷ ys
+two e f = cc
+
+no-more : (b : Bool) → b || false ≡ b
+no-more true = refl
+no-more false = refl
+
+-- ---- values are put in below a predicate
+resolved-below : (bs : List Binding) (k : PredicateKind) (c : Trees) → resolved bs (tree (predicate k) c none) ≡ tree (predicate k) (resolved bs c) none
+resolved-below [] k c = refl
+resolved-below (b ∷ older) k c = ap (λ t. replace b.sort b.var (resolved older b.value) t) (resolved-below older k c)
+
+bound-below : (bs : List Binding) (k : PredicateKind) (c : Trees) (b : Bool) → some_node is_bound_term (resolved bs c) ≡ b → some_node is_bound_term (resolved bs (tree (predicate k) c none)) ≡ b
+bound-below bs k c b e = ap (λ t. some_node is_bound_term t) (resolved-below bs k c) ∙ no-more (some_node is_bound_term (resolved bs c)) ∙ e
+
+module _ {World Handler : Type 0} (handled : World → TypingMode → CanonicalForm → Handled frame_tables) (Rule : World → Fact → List Fact → Type 0) (coinductive : World → Fact → Bool)
+    (is_ready : Handler → List Entry → Type 0) (meaning_of : Handler → List Entry → World) (ks : List Sort) (c : SolverCx Handler) (t : Table) (table_is : t ≡ table_of ks) (g : Goal) where
+  abbrev es : List Entry
+  es = entries_of c
+
+  abbrev w : World
+  w = meaning_of c.handler (entries_of c)
+
+  abbrev goal : GoalTrees
+  goal = goal_trees (entries_of c) g
+
+  -- ---- what is refused, and what is not settled
+  pub refused-goal : (graph : SearchState) → IsRefused handled Rule coinductive is_ready meaning_of c graph t g → IsRefusedGoal handled Rule coinductive is_ready meaning_of w graph.root_depth ks goal
+  refused-goal graph h = subst (λ (u : Table). IsRefused handled Rule coinductive is_ready meaning_of c graph u g) table_is h
+
+  unsettled-there : (graph : SearchState) → IsUnsettled handled Rule coinductive is_ready meaning_of c graph (table_of ks) g → IsUnsettledGoal handled Rule coinductive is_ready meaning_of w graph.root_depth goal
+  unsettled-there graph (inl h) = inl h
+  unsettled-there graph (inr h) = inr (inl h)
+
+  pub unsettled-goal : (graph : SearchState) → IsUnsettled handled Rule coinductive is_ready meaning_of c graph t g → IsUnsettledGoal handled Rule coinductive is_ready meaning_of w graph.root_depth goal
+  unsettled-goal graph h = unsettled-there graph (subst (λ (u : Table). IsUnsettled handled Rule coinductive is_ready meaning_of c graph u g) table_is h)
+
+  -- ---- what is proved
+  module _ (held : GoalHeld (entries_of c) g) (d : SolverCx Handler) (u : Table) (ready : Ready (entries_of d) u) (law : Lawful (entries_of d)) (k : Keeps (entries_of c) (entries_of d))
+      (proved : IsProvedBy handled Rule coinductive is_ready meaning_of w c t d u g) (us : List GenericArgKind) (us_held : ArgsHeld (entries_of c) us) where
+    abbrev bs : List Binding
+    bs = content (entries_of d) u.values
+
+    clean-table : HaveNoCanonical (content (entries_of c) t.values)
+    clean-table = subst (λ (x : Table). HaveNoCanonical (content (entries_of c) x.values)) (sym table_is) tt
+
+    same-goal : goal_trees (entries_of d) g ≡ goal_trees (entries_of c) g
+    same-goal = goal-trees-later (entries_of c) (entries_of d) k g held
+
+    has-proof : IsWithoutCanonical (goal_trees (entries_of c) g) → Lists.HasProof Fact (Rule w) (coinductive w) (fact_with_values bs (goal_trees (entries_of c) g))
+    has-proof clean =
+        subst (λ z. Lists.HasProof Fact (Rule w) (coinductive w) (fact_with_values bs z)) same-goal
+        (values-are-proved (Rule w) (coinductive w) (entries_of d) u g law ready (goal-held-later (entries_of c) (entries_of d) k g held)
+        (λ s h. subst (λ z. Lists.HasProof Fact (Rule w) (coinductive w) (fact_under s z)) (sym same-goal) (proved clean-table clean s h)))
+
+    given-first : (vs : List GenericArgKind) → ArgsHeld (entries_of c) vs → map (λ v. resolved bs (arg_trees (entries_of d) v)) vs ≡ map (λ x. resolved bs x) (map (arg_trees (entries_of c)) vs)
+    given-first [] h = refl
+    given-first (v ∷ vs) h = two (ap (resolved bs) (arg-trees-later (entries_of c) (entries_of d) k v h.0)) (given-first vs h.1)
+
+    same-args : trees_at (entries_of d) g.predicate.trait_ref.args.0 ≡ trees_at (entries_of c) g.predicate.trait_ref.args.0
+    same-args = trees-later (entries_of c) (entries_of d) k args_lists g.predicate.trait_ref.args.0 held.predicate
+
+    bound-there : (b : Bool) → some_node is_bound_term (resolved bs (trees_at (entries_of d) g.predicate.trait_ref.args.0)) ≡ b → some_node is_bound_term (resolved bs (goal_trees (entries_of c) g).predicate) ≡ b
+    bound-there b e = bound-below bs _ (trees_at (entries_of c) g.predicate.trait_ref.args.0) b (ap (λ x. some_node is_bound_term (resolved bs x)) (sym same-args) ∙ e)
+
+    pub read-goal : (depth : ℕ) (fs : List Entry) (a : ProveAnswer) → AreReadOff (entries_of d) u (trees_at (entries_of d) g.predicate.trait_ref.args.0) us fs a
+        → IsAnswered handled Rule coinductive is_ready meaning_of w depth ks goal (map (arg_trees (entries_of c)) us) fs a
+    read-goal depth fs (Yes values) h = record {
+      entries = entries_of d;
+      table = u;
+      ready = ready;
+      are = h.0 ∙ given-first us us_held;
+      unbound = bound-there false h.1;
+      proved = has-proof;
+    }
+    read-goal depth fs Maybe h = inr (inr (bs, bound-there true h))
+    read-goal depth fs Unproved h = absurd h

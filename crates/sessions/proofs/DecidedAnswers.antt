@@ -1,0 +1,151 @@
+-- Decided references are answered rightly by the search of a session.
+use Rattle.std.proofs.Common.{◌≡◌, ◌+◌, ◌-◌, ◌≤◌, ℕ, Bool, true, false, not, List, [], map, Option, Some, None, inl, inr, refl, sym, ◌∙◌, ap, subst, arith}
+use Rattle.model.specs.Answers.{SingleWay, IsDecided, is_variable}
+use Rattle.model.specs.Terms.{erased_reference}
+use Rattle.model.specs.Trees.{none, erase, some_node}
+use Rattle.model.specs.Worlds.{World, CrateDecl, Reference}
+use Rattle.type_terms.specs.Terms.{Entry}
+use Rattle.infer_table.specs.Responses.{AnswerTrees}
+use Rattle.infer_table.specs.declared.certainty.Certainty.TheVariants.{Yes}
+use Rattle.infer_table.specs.declared.certainty.TypingMode.TheVariants.{PostAnalysis}
+use Rattle.declarations.specs.Elaboration.{elaborate}
+use Rattle.declarations.specs.Items.{Items, written}
+use Rattle.goal_frames.specs.declared.store.InputId.{InputId}
+use Rattle.goal_frames.specs.declared.store.ResponseId.{ResponseId}
+use Rattle.goal_frames.specs.declared.frame.GoalFrame.{GoalFrame}
+use Rattle.goal_frames.specs.Searches.{Handles, Asked}
+use Rattle.evaluation.specs.Tables.{frame_tables}
+use Rattle.root_goals.specs.declared.context.SolverCx.{SolverCx}
+use Rattle.root_goals.specs.Searching.{handles}
+use Rattle.text_definitions.specs.Declarations.{Declarations, Question}
+use Rattle.view_lowering.specs.Plain.{all_kept, plain_reference, unbound_reference, unbound_references}
+use Rattle.view_lowering.specs.Questions.{IsQuestion}
+use Rattle.assembly_laws.specs.Facts.{FollowsByView}
+use Rattle.assembly_laws.specs.Meaning.{SelfTypesBegin}
+use Rattle.assembly_laws.proofs.ErasedCandidates.{without_lifetimes}
+use Rattle.candidate_assembly.specs.declared.solver.Solver.{Solver}
+use Rattle.candidate_assembly.specs.Fitting.{solving_of}
+use Rattle.candidate_assembly.specs.Ready.{IsReady}
+use Rattle.candidate_assembly.specs.Solving.{Solving, solver_for, coinductive_for}
+use Rattle.sessions.specs.Answers.{solver_goals, IsOnlyAnswer, IsRightOf}
+use Rattle.sessions.specs.Decided.{IsAnsweredRightly, DecidedAreAnswered, IsQuestionAnswered, DecidedQuestionsAreAnswered}
+use Rattle.sessions.specs.Fitting.{sorts_in}
+use Rattle.sessions.specs.Goals.{goal_of}
+use Rattle.sessions.specs.Promises.{view_in}
+use Rattle.sessions.specs.Questions.{IsFormedAsWritten}
+use Rattle.sessions.specs.Sessions.{IsSolvingOf}
+use Rattle.sessions.specs.Subjects.{IsOfText}
+use Rattle.sessions.proofs.SeenPlainly.{plain-erased, map-again, reference-erased, rules-are, seen-begin}
+use Rattle.sessions.proofs.TextAnswers.{well, formed, answered-by-view}
+use Rattle.sessions.proofs.TextQuestions.{written-if-closed}
+use Rattle.sessions.proofs.WithoutLifetimes.{erased-is}
+
+-- the search of a session
+abbrev session_handles : Handles (SolverCx Solver) InputId (Option ResponseId) GoalFrame Solving (Asked frame_tables solver_goals) (Option AnswerTrees)
+session_handles = handles solver_for (λ s. FollowsByView s.view) coinductive_for (λ (h : Solver) es. IsReady es h.declarations) (λ (h : Solver) es. solving_of es h.declarations)
+
+some-answer : AnswerTrees
+some-answer = record { kinds = []; certainty = Yes; values = []; constraints = none }
+
+one-more : (n : ℕ) → n ≤ n + 1
+one-more n = omega arith
+
+itself : (n : ℕ) → n ≤ n
+itself n = omega arith
+
+abbrev with_crates : World → List CrateDecl → World
+with_crates W cs = record W { crates = cs }
+
+-- both a yes and a refusal are never right
+not-both-right : (V : World) (E : List Reference) (r : Reference) → IsRightOf V E r (Some some-answer) → IsRightOf V E r None → ⊥
+not-both-right V E r (inl x) (inl y) = y.1
+not-both-right V E r (inl x) (inr y) = y.0 x.0
+not-both-right V E r (inr x) y = absurd (some-none some-answer x.1)
+  where
+    some-none : (z : AnswerTrees) → Some z ≡ None → ⊥
+    some-none z e = cc
+
+module _ (d : Declarations) (text : IsOfText d) (c : ℕ) (s : Solving) (of : IsSolvingOf d c s) (E : List Reference) (r : Reference)
+    (q : IsFormedAsWritten (written of.entries of.declarations) (sorts_in of.declarations) E r) (depth : ℕ) (single : SingleWay depth (view_in d c) (map erased_reference E) (erased_reference r)) where
+  abbrev es : List Entry
+  es = of.entries
+
+  abbrev decls : Items
+  decls = of.declarations
+
+  abbrev V : World
+  V = written es decls
+
+  abbrev cs : List CrateDecl
+  cs = (view_in d c).crates
+
+  begin : SelfTypesBegin V
+  begin = subst SelfTypesBegin (sym of.seen.written) (seen-begin text.0 d text.1 c)
+
+  -- by what the crate sees, without lifetimes and as it is written
+  view-is : view_in d c ≡ without_lifetimes V cs
+  view-is =
+      ap (λ W. with_crates W cs) (sym (rules-are es decls d c of.seen.written))
+      ∙ erased-is V (sorts_in decls) (well session_handles text.0 d text.1 c es decls of.seen) (formed session_handles text.0 d text.1 c es decls of.seen) begin cs
+
+  abbrev own : List Reference
+  own = map erased_reference E
+
+  only-right : (a : Option AnswerTrees) → IsOnlyAnswer session_handles s PostAnalysis (depth + 1) (goal_of (elaborate s.view E) r) a → IsRightOf (view_in d c) own (erased_reference r) a
+  only-right a only =
+      subst (λ W. IsRightOf W own (erased_reference r) a) (sym view-is)
+      (answered-by-view session_handles text.0 d text.1 c es decls of.seen begin cs E r q depth (depth + 1) (one-more depth) (subst (λ W. SingleWay depth W own (erased_reference r)) view-is single) a
+      (subst (λ (x : Solving). IsOnlyAnswer session_handles x PostAnalysis (depth + 1) (goal_of (elaborate x.view E) r) a) of.is only))
+
+  answered : IsAnsweredRightly s depth (view_in d c) E r
+  answered = record {
+    plainly = λ none_plain.
+        not-both-right (view_in d c) own (erased_reference r) (only-right (Some some-answer) (λ b p. absurd (none_plain (depth + 1) b (itself (depth + 1)) p)))
+        (only-right None (λ b p. absurd (none_plain (depth + 1) b (itself (depth + 1)) p)));
+    found = λ a f. only-right a f.plain;
+  }
+
+pub decided-are-answered : DecidedAreAnswered
+decided-are-answered d text c s of E r q depth single = answered d text c s of E r q depth single
+
+-- ---- questions of a text
+not-so : (b : Bool) → not b ≡ true → b ≡ false
+not-so false e = refl
+not-so true e = absurd cc
+
+module _ (d : Declarations) (text : IsOfText d) (n : ℕ) (q : Question) (is : IsQuestion d n q) (s : Solving) (of : IsSolvingOf d q.asker s) (depth : ℕ)
+    (decided : IsDecided depth (view_in d q.asker) (map erased_reference q.clauses) (erased_reference q.asked)) where
+  abbrev asked : Reference
+  asked = unbound_reference q.asked
+
+  abbrev clauses : List Reference
+  clauses = unbound_references q.clauses
+
+  asked-is : erased_reference asked ≡ erased_reference q.asked
+  asked-is = reference-erased all_kept q.asked
+
+  clauses-are : map erased_reference clauses ≡ map erased_reference q.clauses
+  clauses-are = map-again (plain_reference all_kept) erased_reference (reference-erased all_kept) q.clauses
+
+  formed-so : IsFormedAsWritten (written of.entries of.declarations) (sorts_in of.declarations) clauses asked
+  formed-so =
+      written-if-closed text.0 d text.1 (n - 1) q is.there of.entries of.declarations of.seen
+      (ap (some_node is_variable) (plain-erased all_kept q.asked.args) ∙ not-so (some_node is_variable (erase q.asked.args)) decided.0)
+
+  single : SingleWay depth (view_in d q.asker) (map erased_reference clauses) (erased_reference asked)
+  single =
+      subst (λ E. SingleWay depth (view_in d q.asker) E (erased_reference asked)) (sym clauses-are)
+      (subst (λ r. SingleWay depth (view_in d q.asker) (map erased_reference q.clauses) r) (sym asked-is) decided.1)
+
+  right : IsAnsweredRightly s depth (view_in d q.asker) clauses asked
+  right = decided-are-answered d text q.asker s of clauses asked formed-so depth single
+
+  question : IsQuestionAnswered s depth (view_in d q.asker) q
+  question = record {
+    plainly = right.plainly;
+    found = λ a f.
+        subst (λ E. IsRightOf (view_in d q.asker) E (erased_reference q.asked) a) clauses-are (subst (λ r. IsRightOf (view_in d q.asker) (map erased_reference clauses) r a) asked-is (right.found a f));
+  }
+
+pub decided-questions-are-answered : DecidedQuestionsAreAnswered
+decided-questions-are-answered d text n q is s of depth decided = question d text n q is s of depth decided

@@ -1,0 +1,267 @@
+-- The solver's candidates for a goal without unknowns are its direct ways, but for order and repeats; so what the solver answers is right
+-- where by these there is one way at most at each step.
+use Rattle.std.proofs.Common.{◌≡◌, ◌≤◌, ℕ, suc, ◌==◌, Bool, true, false, ◌||◌, if◌then◌else◌, List, [], ◌∷◌, ◌++◌, Option, refl, sym, ap, subst, Some}
+use Rattle.std.specs.List.{flat_map, list_any}
+use Rattle.model.specs.Worlds.{World, Reference}
+use Rattle.model.specs.Rules.{Rule, by_clause, impl_rules, clause_rules, same_reference, sized, copy, clone, tuple_trait, fn_ptr_trait, is_fn_trait, unsize, is_auto, sized_rules, copy_rules, auto_rules, tuple_rules, fn_ptr_rules, call_rules, unsize_rules, unsize_array_rules, unsize_to_dyn_rules, unsize_upcast_rules, unsize_struct_rules, object_rules}
+use Rattle.model.proofs.Walking.{both}
+use Rattle.infer_table.specs.Canonical.{CanonicalForm}
+use Rattle.infer_table.specs.Responses.{AnswerTrees}
+use Rattle.infer_table.specs.declared.certainty.TypingMode.TheVariants.{PostAnalysis}
+use Rattle.evaluation.specs.Content.{Values, Fact, Question, fact_of}
+use Rattle.evaluation.specs.FrameTables.{kinds_known}
+use Rattle.evaluation.specs.TableOperations.{begin}
+use Rattle.evaluation.specs.Tables.{frame_tables}
+use Rattle.evaluation.proofs.FrameTableLaws.{tables_are_lawful}
+use Rattle.evaluation.proofs.TableBeginning.{begin-made}
+use Rattle.goal_frames.specs.Programs.{ArePrograms}
+use Rattle.goal_frames.specs.Searches.{Handles, Asked as AskedGoal}
+use Rattle.assembly_laws.specs.Facts.{is_plain, clauses_of, reference_in}
+use Rattle.assembly_laws.specs.Meaning.{Meaning}
+use Rattle.assembly_laws.specs.DeclaredWell.{IsDeclaredWell}
+use Rattle.assembly_laws.specs.Asking.{Asked, asked, clauses, self_of, next_of, begins_unknown}
+use Rattle.assembly_laws.specs.Candidates.{Candidate, unsure, by_clauses, built_in, by_sized, by_copy, by_auto, by_tuple, by_fn_ptr, by_call, by_unsize, by_impls, by_objects, as_written, misc, if_so, unsize_known, unsize_array_of, upcasts_of, unsize_struct_of}
+use Rattle.assembly_laws.specs.Cover.{goal_fact}
+use Rattle.assembly_laws.specs.Solver.{solver_planned}
+use Rattle.solver_exactness.specs.Closed.{no_more, AreWays}
+use Rattle.solver_exactness.specs.ClosedTables.{AreClosed, ArePlaces, closed_tables}
+use Rattle.solver_exactness.specs.Exact.{AnswersExactly, AreSure}
+use Rattle.solver_exactness.specs.FormedAnswers.{IsFormedGoal, AreDeclared}
+use Rattle.solver_exactness.specs.FormedFacts.{Sorts, IsFormedFact}
+use Rattle.solver_exactness.specs.GoalSets.{IsGoalOf}
+use Rattle.solver_exactness.specs.RowWays.{AreWaysOf, RowsAreWaysAt, EquatedRowsAreWaysAt, if_of, clause_ways, autos_stand_once}
+use Rattle.solver_exactness.specs.SolverAnswers.{meant_for, solver_programs, IsOnlyFor}
+use Rattle.solver_exactness.specs.SolverChoices.{IsElaborated}
+use Rattle.solver_exactness.specs.SolverGoals.{IsGoal, AreGoals, IsProved}
+use Rattle.solver_exactness.specs.SolverPlans.{specs_outside}
+use Rattle.solver_exactness.specs.SolverWays.{facts_beside, premises_of}
+use Rattle.solver_exactness.specs.Ways.{IsSelection, IsDecided, IsRightFor}
+use Rattle.solver_exactness.proofs.Arranging.{rules-arranged, mixed-select, clauses-select}
+use Rattle.solver_exactness.proofs.BoundRows.{Selected, exactly, both-selected, upcasts-under, objects}
+use Rattle.solver_exactness.proofs.ClosedLaws.{closed_tables_are_lawful}
+use Rattle.solver_exactness.proofs.Clauses.{clauses-at}
+use Rattle.solver_exactness.proofs.EquatedRows.{equated-rows-at}
+use Rattle.solver_exactness.proofs.ExactPlans.{IsExactPlan, planned-exact}
+use Rattle.solver_exactness.proofs.FormedWays.{formed-are-kept}
+use Rattle.solver_exactness.proofs.Found.{found_is_right}
+use Rattle.solver_exactness.proofs.GoalSets.{goals-lead-to-goals}
+use Rattle.solver_exactness.proofs.ImplRows.{impls}
+use Rattle.solver_exactness.proofs.Instances.{instance, instance-is, kinds-closed}
+use Rattle.solver_exactness.proofs.Rows.{rows-at}
+use Rattle.solver_exactness.proofs.Selecting.{chained, itself}
+use Rattle.solver_exactness.proofs.SolverHandlers.{kinds-all, few, plan-exact, specs-determined}
+use Rattle.solver_exactness.proofs.SolverPlans.{begins-known, kinds-are}
+use Rattle.solver_exactness.proofs.SolverSpecs.{specs-are-sure}
+use Rattle.sessions.proofs.DirectRules.{own_rules, direct_clauses, direct_rules, direct_under, direct_ways, proved-directly}
+
+-- ---- where-clauses that are the reference
+own-ways : (r : Reference) (k : ℕ) (E : List Reference) → premises_of (own_rules r k E) ≡ clause_ways r E
+own-ways r k [] = refl
+own-ways r k (s ∷ ss) = by (same_reference s r) (own-ways r (suc k) ss)
+  where
+    by : (b : Bool) → premises_of (own_rules r (suc k) ss) ≡ clause_ways r ss
+        → premises_of ((if b then record { way = by_clause k; premises = [] } ∷ [] else []) ++ own_rules r (suc k) ss) ≡ (if b then [] ∷ clause_ways r ss else clause_ways r ss)
+    by true e = ap (λ z. [] ∷ z) e
+    by false e = e
+
+own-select : (V : World) (r : Reference) (g : Fact) (E : List Reference) → IsElaborated V E → IsSelection (facts_beside g (clause_ways r E)) (facts_beside g (premises_of (direct_clauses V r E)))
+own-select V r g E closed = by (list_any (λ s. same_reference s r) E)
+  where
+    by : (b : Bool) → IsSelection (facts_beside g (clause_ways r E)) (facts_beside g (premises_of (if b then own_rules r 0 E else clause_rules V r 0 E)))
+    by true = subst (λ z. IsSelection (facts_beside g (clause_ways r E)) (facts_beside g z)) (sym (own-ways r 0 E)) (itself (facts_beside g (clause_ways r E)))
+    by false = clauses-select V r g E closed
+
+-- ---- the solver's candidates
+module _ (m : Meaning) (well : IsDeclaredWell m.view) (f : CanonicalForm) (a : Asked) (is_asked : asked m.view f ≡ Some a) (closed : AreClosed f.kinds) (v : Values) (places : ArePlaces f.kinds v)
+    (plain : is_plain (goal_fact f v) ≡ true) where
+  abbrev V : World
+  V = m.view
+
+  abbrev g : Fact
+  g = instance m f a is_asked closed v places
+
+  abbrev r : Reference
+  r = reference_in g
+
+  abbrev E : List Reference
+  E = clauses_of g.goal.environment
+
+  abbrev Chosen : List Candidate → List (List Reference) → Type 1
+  Chosen cs ways = Selected m well f a is_asked closed v places plain cs ways
+
+  abbrev ChosenBy : List Candidate → List Rule → Type 1
+  ChosenBy cs us = Chosen cs (premises_of us)
+
+  together : (cs ds : List Candidate) (us ts : List Rule) → ChosenBy cs us → ChosenBy ds ts → ChosenBy (cs ++ ds) (us ++ ts)
+  together cs ds us ts x y = both-selected m well f a is_asked closed v places plain cs ds us ts x y
+
+  just : (cs : List Candidate) (us : List Rule) → AreWaysOf a v g cs (premises_of us) → ChosenBy cs us
+  just cs us u = exactly m well f a is_asked closed v places plain cs (premises_of us) u
+
+  stands : goal_fact f v ≡ g
+  stands = instance-is m f a is_asked closed v places
+
+  rows : RowsAreWaysAt V a v g r
+  rows = subst (λ z. RowsAreWaysAt V a v z (reference_in z)) stands (rows-at m well.terms f a is_asked closed v places plain)
+
+  equated : EquatedRowsAreWaysAt V a v g r
+  equated = subst (λ z. EquatedRowsAreWaysAt V a v z (reference_in z)) stands (equated-rows-at m well.terms f a is_asked closed v places plain)
+
+  unsizes : ChosenBy (by_unsize V a) (if_of (r.trait == unsize) (unsize_rules V r.args))
+  unsizes =
+      four (r.trait == unsize) (just _ _ equated.arrays) (just _ _ equated.to_dyns) (upcasts-under m well f a is_asked closed v places plain) (just _ _ equated.structs)
+      (begins_unknown a.kinds (next_of (self_of a))) (begins-known a.kinds (kinds-closed m f a is_asked closed v places) (next_of (self_of a)))
+    where
+      known : (cs : List Candidate) (us : List Rule) → (d : Bool) → d ≡ false → ChosenBy cs us → ChosenBy (if d then unsure ∷ [] else cs) us
+      known cs us false e x = x
+      known cs us true e x = absurd (cc)
+
+      four : (b : Bool) → ChosenBy (if_so b (unsize_array_of V a (self_of a))) (if_of b (unsize_array_rules r.args))
+          → ChosenBy (if_so b (as_written V a misc (unsize_to_dyn_rules V (self_of a)))) (if_of b (unsize_to_dyn_rules V r.args))
+          → ChosenBy (if_so b (upcasts_of V a (self_of a))) (if_of b (unsize_upcast_rules V r.args)) → ChosenBy (if_so b (unsize_struct_of V a (self_of a))) (if_of b (unsize_struct_rules V r.args))
+          → (d : Bool) → d ≡ false → ChosenBy (if_so b (if d then unsure ∷ [] else unsize_known V a (self_of a))) (if_of b (unsize_rules V r.args))
+      four true x y z w d e =
+          known (unsize_known V a (self_of a)) (unsize_rules V r.args) d e
+          (together (unsize_array_of V a (self_of a)) _ (unsize_array_rules r.args) _ x
+          (together (as_written V a misc (unsize_to_dyn_rules V (self_of a))) _ (unsize_to_dyn_rules V r.args) _ y
+          (together (upcasts_of V a (self_of a)) (unsize_struct_of V a (self_of a)) (unsize_upcast_rules V r.args) (unsize_struct_rules V r.args) z w)))
+      four false x y z w d e = just [] [] no_more
+
+  abbrev s : List Rule
+  s = if_of (r.trait == sized) (sized_rules V r.args)
+
+  abbrev c : List Rule
+  c = if_of ((r.trait == copy) || (r.trait == clone)) (copy_rules r.trait r.args)
+
+  abbrev u : List Rule
+  u = if_of (is_auto V r.trait) (auto_rules V r.trait r.args)
+
+  abbrev t : List Rule
+  t = if_of (r.trait == tuple_trait) (tuple_rules r.args)
+
+  abbrev p : List Rule
+  p = if_of (r.trait == fn_ptr_trait) (fn_ptr_rules r.args)
+
+  abbrev k : List Rule
+  k = if_of (is_fn_trait r.trait) (call_rules r.args)
+
+  abbrev x : List Rule
+  x = if_of (r.trait == unsize) (unsize_rules V r.args)
+
+  built : ChosenBy (built_in V a) (s ++ (c ++ (u ++ (t ++ (p ++ (k ++ x))))))
+  built =
+      together (by_sized V a) _ s (c ++ (u ++ (t ++ (p ++ (k ++ x))))) (just _ s rows.sizeds)
+      (together (by_copy V a) _ c (u ++ (t ++ (p ++ (k ++ x)))) (just _ c rows.copies)
+      (together (by_auto V a) _ u (t ++ (p ++ (k ++ x))) (just _ u rows.autos)
+      (together (by_tuple V a) _ t (p ++ (k ++ x)) (just _ t rows.tuples)
+      (together (by_fn_ptr V a) _ p (k ++ x) (just _ p rows.fn_ptrs)
+      (together (by_call V a) (by_unsize V a) k x (just _ k equated.calls) unsizes)))))
+
+  module _ (once : autos_stand_once r.args ≡ true) (elaborated : IsElaborated V E) where
+    own_clauses : ChosenBy (by_clauses V a (clauses a)) (direct_clauses V r E)
+    own_clauses = record {
+      found = clause_ways r E;
+      are = subst (λ z. AreWaysOf a v z (by_clauses V a (clauses a)) (clause_ways (reference_in z) (clauses_of z.goal.environment))) stands (clauses-at m f a is_asked closed v places);
+      selects = own-select V r g E elaborated;
+    }
+
+    -- where-clauses, built-in rules, impls and object bounds
+    outside : Chosen (specs_outside m a) (direct_under V E r)
+    outside =
+        let w = direct_clauses V r E in
+        let i = flat_map (impl_rules r) V.impls in
+        let o = object_rules V r r.args in
+        let all =
+        together (by_clauses V a (clauses a) ++ built_in V a) (by_impls V a V.impls ++ by_objects V a) (w ++ (s ++ (c ++ (u ++ (t ++ (p ++ (k ++ x))))))) (i ++ o)
+        (together (by_clauses V a (clauses a)) (built_in V a) w (s ++ (c ++ (u ++ (t ++ (p ++ (k ++ x)))))) own_clauses built)
+        (together (by_impls V a V.impls) (by_objects V a) i o (just _ i (impls m well f a is_asked closed v places plain)) (objects m well f a is_asked closed v places plain once)) in
+        record {
+          found = all.found;
+          are = all.are;
+          selects =
+              chained (facts_beside g all.found) (facts_beside g (premises_of ((w ++ (s ++ (c ++ (u ++ (t ++ (p ++ (k ++ x))))))) ++ (i ++ o)))) (facts_beside g (direct_under V E r)) all.selects
+              (mixed-select g ((w ++ (s ++ (c ++ (u ++ (t ++ (p ++ (k ++ x))))))) ++ (i ++ o)) (direct_rules V E r) (rules-arranged w s c u t p k x i o));
+        }
+
+-- what the candidates apply with, as facts
+record AreChosen (m : Meaning) (f : CanonicalForm) (a : Asked) (v : Values) : Type 1 where
+  found : List (List Fact)
+  applies : AreWays frame_tables (begin a.kinds) v (specs_outside m a) found
+  selects : IsSelection found (direct_ways m.view (goal_fact f v))
+
+module _ (m : Meaning) (well : IsDeclaredWell m.view) (f : CanonicalForm) (a : Asked) (is_asked : asked m.view f ≡ Some a) (closed : AreClosed f.kinds) where
+  chosen : (v : Values) → ArePlaces f.kinds v → IsGoal m.view (goal_fact f v) → AreChosen m f a v
+  chosen v places goal = at (subst (IsGoal m.view) stands-so goal)
+    where
+      stands-so : goal_fact f v ≡ instance m f a is_asked closed v places
+      stands-so = instance-is m f a is_asked closed v places
+
+      at : IsGoal m.view (instance m f a is_asked closed v places) → AreChosen m f a v
+      at h =
+          let x = outside m well f a is_asked closed v places goal.plain h.once h.elaborated in
+          record {
+            found = facts_beside (instance m f a is_asked closed v places) x.found;
+            applies = x.are;
+            selects = subst (λ (z : Fact). IsSelection (facts_beside (instance m f a is_asked closed v places) x.found) (direct_ways m.view z)) (sym stands-so) x.selects;
+          }
+
+module _ {W : Type 0} (applicable : AnswerTrees → Bool) (same : AnswerTrees → AnswerTrees → Bool) (meaning_of : W → Meaning) (fits_in : W → CanonicalForm → Bool) where
+  -- by a world in which what is asked has the same direct ways
+  module _ (w : W) (sound : (meaning_of w).is_sound ≡ true) (well : IsDeclaredWell (meaning_of w).view) (IsAsked : Question → Values → Type 0) (are : AreGoals (meaning_of w) PostAnalysis (fits_in w) IsAsked)
+      (U : World) (alike : (q : Question) (v : Values) → IsAsked q v → direct_ways (meaning_of w).view (fact_of q v) ≡ direct_ways U (fact_of q v)) where
+    -- the plan of each question of the set is exact
+    abbrev plans : (q : Question) (v : Values) (i : IsAsked q v) → (closed : AreClosed q.form.kinds) → ArePlaces q.form.kinds v
+        → IsExactPlan frame_tables closed_tables (direct_ways U) IsAsked q v (solver_planned applicable same (meant_for (meaning_of w) (fits_in w) q.form) PostAnalysis q.form)
+    plans q v i closed places =
+        let m = meant_for (meaning_of w) (fits_in w) q.form in
+        let fitting = both (meaning_of w).is_sound (fits_in w q.form) sound (are.fitting q v i) in
+        let a = (are.decided q v i).0 in
+        let e = (are.decided q v i).1 in
+        let x = chosen m well q.form a e closed v places (are.goals q v i) in
+        record {
+          begins = kinds-all applicable same m fitting well q.form a e closed;
+          made = begin-made (kinds_known q.form.kinds);
+          goal = refl;
+          specs = specs_outside m a;
+          few = few applicable same m fitting well q.form a e closed PostAnalysis;
+          exact = plan-exact applicable same m fitting well q.form a e closed PostAnalysis;
+          determined = specs-determined applicable same m fitting well q.form a e closed PostAnalysis;
+          nested = are.onward q v i closed places a e;
+          found = x.found;
+          applies = subst (λ ks. AreWays frame_tables (begin ks) v (specs_outside m a) x.found) (sym (kinds-are applicable same m fitting q.form a e closed)) x.applies;
+          selects = subst (IsSelection x.found) (alike q v i) x.selects;
+        }
+
+    -- so the solver answers these exactly
+    abbrev answers : AnswersExactly frame_tables closed_tables (solver_programs applicable same meaning_of fits_in) w PostAnalysis
+    answers = record {
+      IsAsked = IsAsked;
+      ways = direct_ways U;
+      exact = λ q v i c d.
+          planned-exact frame_tables closed_tables (direct_ways U) IsAsked q v (solver_planned applicable same (meant_for (meaning_of w) (fits_in w) q.form) PostAnalysis q.form)
+          (plans q v i c d);
+    }
+
+    sure : AreSure frame_tables closed_tables (solver_programs applicable same meaning_of fits_in) w PostAnalysis answers
+    sure q v i c d = specs-are-sure (meaning_of w) q.form (are.decided q v i).0 (are.decided q v i).1 c
+
+  module _ {C I R F : Type 0} (handles : Handles C I R F W (AskedGoal frame_tables (solver_programs applicable same meaning_of fits_in)) (Option AnswerTrees))
+      (programs : ArePrograms frame_tables (solver_programs applicable same meaning_of fits_in)) (w : W) (sorts : Sorts) (admits : CanonicalForm → Bool)
+      (declared : AreDeclared (meaning_of w) PostAnalysis (fits_in w) admits sorts) where
+    abbrev its_view : World
+    its_view = (meaning_of w).view
+
+    abbrev Set : Question → Values → Type 0
+    Set q v = IsGoalOf its_view admits (IsFormedFact its_view sorts) q v
+
+    goals : AreGoals (meaning_of w) PostAnalysis (fits_in w) Set
+    goals = goals-lead-to-goals (IsFormedFact its_view sorts) (meaning_of w) PostAnalysis (fits_in w) admits declared.well (formed-are-kept (meaning_of w) PostAnalysis sorts declared.well declared.formed) declared.admitted
+
+    -- a definite yes to what is decided by direct ways and has a proof, and a refusal of what has none, also by another world in which formed
+    -- facts have the same direct ways
+    pub directly-right : (U : World) → ((f : Fact) → IsFormedFact its_view sorts f → direct_ways its_view f ≡ direct_ways U f) → (n limit : ℕ) (q : Question) (v : Values) (a : Option AnswerTrees) → n ≤ limit → IsFormedGoal its_view sorts admits q v
+        → IsDecided (direct_ways U) (IsProved U) n (fact_of q v) → IsOnlyFor applicable same meaning_of fits_in handles w PostAnalysis limit q a → IsRightFor frame_tables (IsProved U) (fact_of q v) a
+    directly-right U alike n limit q v a l goal decided only =
+        found_is_right frame_tables tables_are_lawful closed_tables closed_tables_are_lawful (solver_programs applicable same meaning_of fits_in) programs w PostAnalysis
+        (answers w declared.sound declared.well Set goals U (λ x y i. alike (fact_of x y) i.of_fact)) handles (sure w declared.sound declared.well Set goals U (λ x y i. alike (fact_of x y) i.of_fact))
+        (IsProved U) (proved-directly U) n limit q v a l goal.asked goal.closed goal.places decided only

@@ -1,0 +1,118 @@
+-- What a crate sees of a text, without binders: up to lifetimes it is what rules are read from, and each impl begins with a parameter or a
+-- rigid type.
+use Rattle.std.proofs.Common.{◌≡◌, ◌⊎◌, ℕ, zero, suc, Bool, true, false, List, [], ◌∷◌, map, Some, Ok, inl, inr, refl, sym, ap, ◌∙◌, subst}
+use Rattle.std.specs.Prelude.{if◌then◌else◌, filter, slice_get}
+use Rattle.model.specs.Label.{Label, of_lifetime, of_type, of_const, static, fn_ptr, principal, param, placeholder, infer, canonical, bound}
+use Rattle.model.specs.Trees.{Trees, none, tree, erase, erase_label}
+use Rattle.model.specs.Terms.{erased_reference, erased_struct, erased_trait, erased_impl, erased_world}
+use Rattle.model.specs.Worlds.{World, Reference, StructDecl, TraitDecl, ImplDecl, sees}
+use Rattle.model.specs.Proofs.{In}
+use Rattle.model.proofs.Members.{in-cases, in-nothing, in-filter}
+use Rattle.model.proofs.TermRules.{erased-views}
+use Rattle.type_terms.specs.Terms.{Entry}
+use Rattle.declarations.specs.Heads.{begins_declared}
+use Rattle.declarations.specs.Items.{Items, written}
+use Rattle.text_definitions.specs.Declarations as text
+use Rattle.text_definitions.specs.Declarations.{NamedImpl, world_of}
+use Rattle.text_definitions.specs.Text.{TextGives}
+use Rattle.assembly_laws.specs.Meaning.{SelfTypesBegin}
+use Rattle.view_lowering.specs.Plain.{plain_label, plain, plain_reference, plain_struct, plain_trait, plain_impl, plain_world, plainly_seen_from, all_kept, none_kept, stands_in}
+use Rattle.view_lowering.specs.Seen.{seen_from, rules_seen_from}
+use Rattle.view_lowering.proofs.Begins.{texts-begin}
+use Rattle.sessions.proofs.FormedViews.{map-in}
+
+node : {l m : Label} {c d o p : Trees} → l ≡ m → c ≡ d → o ≡ p → tree l c o ≡ tree m d p
+node e f g = cc
+
+two : {A : Type 0} {a b : A} {c d : List A} → a ≡ b → c ≡ d → a ∷ c ≡ b ∷ d
+two p q = cc
+
+-- ---- up to lifetimes nothing changes
+label-erased : (k : ℕ → Bool) (l : Label) → erase_label (plain_label k l) ≡ erase_label l
+label-erased k (param of_lifetime i) = by (k i)
+  where
+    by : (b : Bool) → erase_label (if b then param of_lifetime i else static) ≡ static
+    by true = refl
+    by false = refl
+label-erased k (bound of_lifetime _ _) = refl
+label-erased k (fn_ptr _) = refl
+label-erased k (principal _ i) = refl
+label-erased k l = refl
+
+pub plain-erased : (k : ℕ → Bool) (t : Trees) → erase (plain k t) ≡ erase t
+plain-erased k none = refl
+plain-erased k (tree l c o) = node (label-erased k l) (plain-erased k c) (plain-erased k o)
+
+pub map-again : {A B : Type 0} (f : A → A) (g : A → B) → ((x : A) → g (f x) ≡ g x) → (xs : List A) → map g (map f xs) ≡ map g xs
+map-again f g h [] = refl
+map-again f g h (x ∷ xs) = two (h x) (map-again f g h xs)
+
+pub reference-erased : (k : ℕ → Bool) (r : Reference) → erased_reference (plain_reference k r) ≡ erased_reference r
+reference-erased k r = ap (λ z. (let x : Reference = record { trait = r.trait; args = z } in x)) (plain-erased k r.args)
+
+struct-erased : (x : StructDecl) → erased_struct (plain_struct x) ≡ erased_struct x
+struct-erased x = ap (λ z. (let y : StructDecl = record { name = x.name; home = x.home; is_fundamental = x.is_fundamental; fields = z } in y)) (map-again (plain all_kept) erase (plain-erased all_kept) x.fields)
+
+trait-erased : (x : TraitDecl) → erased_trait (plain_trait x) ≡ erased_trait x
+trait-erased x =
+    ap (λ z. (let y : TraitDecl = record { name = x.name; home = x.home; is_fundamental = x.is_fundamental; is_auto = x.is_auto; bounds = z } in y))
+    (map-again (plain_reference none_kept) erased_reference (reference-erased none_kept) x.bounds)
+
+impl-erased : (x : ImplDecl) → erased_impl (plain_impl x) ≡ erased_impl x
+impl-erased x = join _ _ _ _ (reference-erased all_kept x.header) (map-again (plain_reference (stands_in x.header.args)) erased_reference (reference-erased (stands_in x.header.args)) x.clauses)
+  where
+    join : (r q : Reference) (ks js : List Reference) → r ≡ q → ks ≡ js
+        → (let y : ImplDecl = record { name = x.name; home = x.home; params = x.params; header = r; clauses = ks } in y) ≡ record { name = x.name; home = x.home; params = x.params; header = q; clauses = js }
+    join r q ks js e f = cc
+
+world-erased : (W : World) → erased_world (plain_world W) ≡ erased_world W
+world-erased W = join _ _ _ _ _ _ (map-again plain_struct erased_struct struct-erased W.structs) (map-again plain_trait erased_trait trait-erased W.traits) (map-again plain_impl erased_impl impl-erased W.impls)
+  where
+    join : (ss rs : List StructDecl) (ts us : List TraitDecl) (is js : List ImplDecl) → ss ≡ rs → ts ≡ us → is ≡ js
+        → (let V : World = record { crates = W.crates; structs = ss; traits = ts; impls = is } in V) ≡ record { crates = W.crates; structs = rs; traits = us; impls = js }
+    join ss rs ts us is js p q r = cc
+
+pub rules-are : (es : List Entry) (items : Items) (d : text.Declarations) (c : ℕ) → written es items ≡ plainly_seen_from d c → erased_world (written es items) ≡ rules_seen_from d c
+rules-are es items d c e = ap erased_world e ∙ world-erased (seen_from d c) ∙ ap (λ (V : World). record V { crates = [] }) (sym (erased-views (world_of d) c))
+
+-- ---- how impls begin
+begins-plain : (k : ℕ → Bool) (t : Trees) → begins_declared (plain k t) ≡ begins_declared t
+begins-plain k none = refl
+begins-plain k (tree (param of_lifetime i) c o) = by (k i)
+  where
+    by : (b : Bool) → begins_declared (tree (if b then param of_lifetime i else static) (plain k c) (plain k o)) ≡ begins_declared (tree (param of_lifetime i) c o)
+    by true = refl
+    by false = refl
+begins-plain k (tree (param of_type i) c o) = refl
+begins-plain k (tree (param of_const i) c o) = refl
+begins-plain k (tree (bound of_lifetime i j) c o) = refl
+begins-plain k (tree (bound of_type i j) c o) = refl
+begins-plain k (tree (bound of_const i j) c o) = refl
+begins-plain k (tree (placeholder of_lifetime i) c o) = refl
+begins-plain k (tree (placeholder of_type i) c o) = refl
+begins-plain k (tree (placeholder of_const i) c o) = refl
+begins-plain k (tree (infer of_lifetime i) c o) = refl
+begins-plain k (tree (infer of_type i) c o) = refl
+begins-plain k (tree (infer of_const i) c o) = refl
+begins-plain k (tree (canonical of_lifetime i) c o) = refl
+begins-plain k (tree (canonical of_type i) c o) = refl
+begins-plain k (tree (canonical of_const i) c o) = refl
+begins-plain k (tree l c o) = refl
+
+-- what holds of each at its place holds of all that are there
+placed : {A : Type 0} (P : A → Type 0) (xs : List A) → ((k : ℕ) (x : A) → slice_get xs k ≡ Some x → P x) → (x : A) → In x xs → P x
+placed P [] f x i = absurd (in-nothing x i)
+placed P (y ∷ xs) f x i = by (in-cases x y xs i) (placed P xs (λ k z e. f (suc k) z e) x)
+  where
+    by : (y ≡ x) ⊎ In x xs → (In x xs → P x) → P x
+    by (inl e) g = subst P e (f zero y refl)
+    by (inr j) g = g j
+
+pub seen-begin : (bytes : List ℕ) (d : text.Declarations) → TextGives bytes (Ok d) → (c : ℕ) → SelfTypesBegin (plainly_seen_from d c)
+seen-begin bytes d h c i stands =
+    let a = map-in plain_impl (filter (λ (x : ImplDecl). sees (world_of d) c x.home) (world_of d).impls) i stands in
+    let b = in-filter (λ (x : ImplDecl). sees (world_of d) c x.home) (world_of d).impls a.0 a.1 in
+    let n = map-in (λ (x : NamedImpl). x.item) d.impls a.0 b.0 in
+    subst (λ (z : ImplDecl). begins_declared z.header.args ≡ true) (sym a.2)
+    (begins-plain all_kept a.0.header.args
+    ∙ subst (λ (z : ImplDecl). begins_declared z.header.args ≡ true) (sym n.2) (placed (λ (x : NamedImpl). begins_declared x.item.header.args ≡ true) d.impls (λ k x e. texts-begin bytes d h k x e) n.0 n.1))

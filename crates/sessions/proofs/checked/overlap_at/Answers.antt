@@ -1,0 +1,32 @@
+use Rattle.std.proofs.Common.{rules, ◌≡◌, Ok, None, subst}
+use Rattle.std.specs.Prelude.{IfSome}
+use Rattle.sessions.specs.Checking.{IsFoundAt, solving_in}
+use Rattle.sessions.proofs.PairChecks.{apart-passes, judged}
+use Rattle.sessions.proofs.checked.overlap_at.Goals as goal
+
+pub returns-in_err-found-clause-rest : goal.returns-in_err-found-clause-rest
+returns-in_err-found-clause-rest c = c.rest_laws.ensures.rest c.args.graph.now.root_depth c.args.cx.now c.intersection_at.new.cx c.args.graph.now c.args.cache.now c.requires.rest c.intersection_at.ensures.advances
+
+pub returns-in_default-clause-rest : goal.returns-in_default-clause-rest
+returns-in_default-clause-rest c = c.rest_laws.ensures.rest c.args.graph.now.root_depth c.args.cx.now c.intersection_at.new.cx c.args.graph.now c.args.cache.now c.requires.rest c.intersection_at.ensures.advances
+
+pub returns-in_default-clause-solving : goal.returns-in_default-clause-solving
+returns-in_default-clause-solving c = c.rest_laws.ensures.meaning c.args.cx.now c.intersection_at.new.cx c.requires.rest.ready c.intersection_at.ensures.advances
+
+pub returns-in_default-clause-judged : goal.returns-in_default-clause-judged
+returns-in_default-clause-judged c = λ d n depth s.
+    let none : c.intersection_at.result ≡ Ok None = search rules in
+    apart-passes d n depth c.args.cx.now c.args.graph.now c.args.cache.now s c.args.later.index c.args.earlier.index (c.intersection_at.ensures.apart none)
+
+pub has_impossible_obligation-requires-clause-cache : goal.has_impossible_obligation-requires-clause-cache
+has_impossible_obligation-requires-clause-cache c =
+    (c.rest_laws.ensures.rest c.args.graph.now.root_depth c.args.cx.now c.intersection_at.new.cx c.args.graph.now c.args.cache.now c.requires.rest c.intersection_at.ensures.advances).cached
+
+pub returns-clause-judged : goal.returns-clause-judged
+returns-clause-judged c = λ d n depth s.
+    let old = c.args.cx.now.interner.entries in
+    let new = c.intersection_at.new.cx.interner.entries in
+    let at = subst (λ o. IfSome o (IsFoundAt old c.args.cx.now.handler.declarations c.args.later c.args.earlier new)) c.in-Some.is c.in_ok-found.ensures.found in
+    judged d n depth c.args.cx.now c.args.graph.now c.args.cache.now s c.args.later c.args.earlier new c.in-Some.found at c.intersection_at.ensures.advances.ready.lawful c.ready_impls_are_written_well.ensures
+    c.open_pair_goals_are_possible.ensures c.requires.rest.ready.lawful (solving_in c.intersection_at.new.cx) (c.rest_laws.ensures.meaning c.args.cx.now c.intersection_at.new.cx c.requires.rest.ready c.intersection_at.ensures.advances)
+    c.requires.numbers c.in_ok-refused.refused c.in_ok-refused.ensures.impossible c.in_ok-refused.ensures.left_open

@@ -1,0 +1,90 @@
+use Rattle.std.proofs.Common.{rules, ◌≡◌, ◌∙◌, map, Ok}
+use Rattle.term_folds.specs.Arguments.{arg_sort}
+use Rattle.term_folds.specs.Kept.{args-held-later}
+use Rattle.sessions.specs.declared.settling.Outcome.TheVariants as outcome
+use Rattle.sessions.proofs.Answered.{read-goal, refused-goal, unsettled-goal}
+use Rattle.sessions.proofs.Posing.{over-ok}
+use Rattle.sessions.proofs.proving.ask_for.Goals as goal
+
+pub ask_until_settled-requires : goal.ask_until_settled-requires
+ask_until_settled-requires g c = record { empty = c.requires.rest.empty; cache = c.requires.rest.cached; ready = c.requires.rest.ready; table = c.requires.ready; goal = c.requires.goal }
+
+pub returns-in_err-ask_until_settled-clause-rest : goal.returns-in_err-ask_until_settled-clause-rest
+returns-in_err-ask_until_settled-clause-rest g c =
+    let e = c.ask_until_settled.ensures in
+    record { empty = e.again.empty; depth = e.asked.depth; cached = e.again.cache; ready = e.again.ready }
+
+pub returns-in_err-ask_until_settled-clause-meaning : goal.returns-in_err-ask_until_settled-clause-meaning
+returns-in_err-ask_until_settled-clause-meaning g c = c.ask_until_settled.ensures.asked.keeps.world
+
+pub returns-in_err-ask_until_settled-clause-keeps : goal.returns-in_err-ask_until_settled-clause-keeps
+returns-in_err-ask_until_settled-clause-keeps g c = c.ask_until_settled.ensures.asked.entries
+
+pub read_values_in-requires-clause-ready : goal.read_values_in-requires-clause-ready
+read_values_in-requires-clause-ready g c = c.ask_until_settled.ensures.again.ready
+
+pub read_values_in-requires-clause-table : goal.read_values_in-requires-clause-table
+read_values_in-requires-clause-table g c = c.ask_until_settled.ensures.again.table
+
+pub read_values_in-requires-clause-asked : goal.read_values_in-requires-clause-asked
+read_values_in-requires-clause-asked g c = c.ask_until_settled.ensures.again.goal.predicate
+
+pub read_values_in-requires-clause-unknowns : goal.read_values_in-requires-clause-unknowns
+read_values_in-requires-clause-unknowns g c =
+    args-held-later c.args.cx.now.interner.entries c.ask_until_settled.new.cx.interner.entries c.ask_until_settled.ensures.asked.entries c.args.unknowns.now c.requires.unknowns
+
+pub returns-in-Proved-clause-rest : goal.returns-in-Proved-clause-rest
+returns-in-Proved-clause-rest g c =
+    let e = c.ask_until_settled.ensures in
+    c.rest_laws.ensures.rest c.args.graph.now.root_depth c.ask_until_settled.new.cx c.read_values_in.new.cx c.ask_until_settled.new.graph c.ask_until_settled.new.cache
+    (record { empty = e.again.empty; depth = e.asked.depth; cached = e.again.cache; ready = e.again.ready }) c.read_values_in.ensures.advances
+
+pub returns-in-Proved-clause-meaning : goal.returns-in-Proved-clause-meaning
+returns-in-Proved-clause-meaning g c =
+    c.rest_laws.ensures.meaning c.ask_until_settled.new.cx c.read_values_in.new.cx c.ask_until_settled.ensures.again.ready c.read_values_in.ensures.advances ∙ c.ask_until_settled.ensures.asked.keeps.world
+
+pub returns-in-Proved-clause-keeps : goal.returns-in-Proved-clause-keeps
+returns-in-Proved-clause-keeps g c = λ i e h. c.read_values_in.ensures.advances.entries i e (c.ask_until_settled.ensures.asked.entries i e h)
+
+pub returns-in-Proved-clause-answer : goal.returns-in-Proved-clause-answer
+returns-in-Proved-clause-answer g c =
+    let done : c.ask_until_settled.result ≡ Ok outcome.Proved = search rules in
+    let e = c.ask_until_settled.ensures in
+    over-ok c.read_values_in.result
+    (read-goal g.H.GoalHandler.handled g.H.GoalHandler.Rule g.H.GoalHandler.coinductive g.H.GoalHandler.ready g.H.GoalHandler.meaning (map arg_sort c.args.unknowns.now) c.args.cx.now c.args.table.now c.requires.table c.args.goal.now
+    c.requires.goal c.ask_until_settled.new.cx c.ask_until_settled.new.table e.again.table e.again.ready.lawful e.asked.entries (e.proved done) c.args.unknowns.now c.requires.unknowns c.args.graph.now.root_depth c.read_values_in.new.cx.interner.entries)
+    c.read_values_in.ensures.read
+
+pub returns-in-Unproved-clause-rest : goal.returns-in-Unproved-clause-rest
+returns-in-Unproved-clause-rest g c =
+    let e = c.ask_until_settled.ensures in
+    record { empty = e.again.empty; depth = e.asked.depth; cached = e.again.cache; ready = e.again.ready }
+
+pub returns-in-Unproved-clause-meaning : goal.returns-in-Unproved-clause-meaning
+returns-in-Unproved-clause-meaning g c = c.ask_until_settled.ensures.asked.keeps.world
+
+pub returns-in-Unproved-clause-keeps : goal.returns-in-Unproved-clause-keeps
+returns-in-Unproved-clause-keeps g c = c.ask_until_settled.ensures.asked.entries
+
+pub returns-in-Unproved-clause-answer : goal.returns-in-Unproved-clause-answer
+returns-in-Unproved-clause-answer g c =
+    let done : c.ask_until_settled.result ≡ Ok outcome.Unproved = search rules in
+    refused-goal g.H.GoalHandler.handled g.H.GoalHandler.Rule g.H.GoalHandler.coinductive g.H.GoalHandler.ready g.H.GoalHandler.meaning (map arg_sort c.args.unknowns.now) c.args.cx.now c.args.table.now c.requires.table c.args.goal.now
+    c.args.graph.now (c.ask_until_settled.ensures.unproved done)
+
+pub returns-in-Maybe-clause-rest : goal.returns-in-Maybe-clause-rest
+returns-in-Maybe-clause-rest g c =
+    let e = c.ask_until_settled.ensures in
+    record { empty = e.again.empty; depth = e.asked.depth; cached = e.again.cache; ready = e.again.ready }
+
+pub returns-in-Maybe-clause-meaning : goal.returns-in-Maybe-clause-meaning
+returns-in-Maybe-clause-meaning g c = c.ask_until_settled.ensures.asked.keeps.world
+
+pub returns-in-Maybe-clause-keeps : goal.returns-in-Maybe-clause-keeps
+returns-in-Maybe-clause-keeps g c = c.ask_until_settled.ensures.asked.entries
+
+pub returns-in-Maybe-clause-answer : goal.returns-in-Maybe-clause-answer
+returns-in-Maybe-clause-answer g c =
+    let done : c.ask_until_settled.result ≡ Ok outcome.Maybe = search rules in
+    unsettled-goal g.H.GoalHandler.handled g.H.GoalHandler.Rule g.H.GoalHandler.coinductive g.H.GoalHandler.ready g.H.GoalHandler.meaning (map arg_sort c.args.unknowns.now) c.args.cx.now c.args.table.now c.requires.table c.args.goal.now
+    c.args.graph.now (c.ask_until_settled.ensures.maybe done)

@@ -1,0 +1,52 @@
+use Rattle.std.proofs.Common.{◌∙◌, sym, ap, subst}
+use Rattle.declarations.specs.Applied.{AreApplied}
+use Rattle.candidate_assembly.specs.Solving.{Solving}
+use Rattle.candidate_assembly.specs.declared.solver.Solver.{Solver}
+use Rattle.sessions.specs.Proving.{IsAnsweredBySolver}
+use Rattle.sessions.proofs.Posing.{over-ok}
+use Rattle.sessions.proofs.proving.prove_question.Goals as goal
+
+pub lower_in-requires-clause-ready : goal.lower_in-requires-clause-ready
+lower_in-requires-clause-ready c = c.requires.rest.ready
+
+pub lower_in-requires-clause-question : goal.lower_in-requires-clause-question
+lower_in-requires-clause-question c = c.requires.question
+
+pub returns-in_err-lowered-clause-rest : goal.returns-in_err-lowered-clause-rest
+returns-in_err-lowered-clause-rest c = c.rest_laws.ensures.rest c.args.graph.now.root_depth c.args.cx.now c.lower_in.new.cx c.args.graph.now c.args.cache.now c.requires.rest c.lower_in.ensures.advances
+
+pub returns-in_err-lowered-clause-solving : goal.returns-in_err-lowered-clause-solving
+returns-in_err-lowered-clause-solving c = c.rest_laws.ensures.meaning c.args.cx.now c.lower_in.new.cx c.requires.rest.ready c.lower_in.ensures.advances
+
+pub returns-in_err-lowered-clause-keeps : goal.returns-in_err-lowered-clause-keeps
+returns-in_err-lowered-clause-keeps c = c.lower_in.ensures.advances.entries
+
+pub prove_lowered-requires-clause-rest : goal.prove_lowered-requires-clause-rest
+prove_lowered-requires-clause-rest c = c.rest_laws.ensures.rest c.args.graph.now.root_depth c.args.cx.now c.lower_in.new.cx c.args.graph.now c.args.cache.now c.requires.rest c.lower_in.ensures.advances
+
+pub prove_lowered-requires-clause-lowered : goal.prove_lowered-requires-clause-lowered
+prove_lowered-requires-clause-lowered c = (c.requires.question.0, c.in_ok-lowered.ensures.lowered c.requires.question.0 c.requires.question.1)
+
+pub prove_lowered-requires-clause-applied : goal.prove_lowered-requires-clause-applied
+prove_lowered-requires-clause-applied c =
+    let q = c.requires.question.0 in
+    let is = c.requires.question.1 in
+    subst (λ (h : Solver). AreApplied c.lower_in.new.cx.interner.entries h.declarations c.in_ok-lowered.lowered.clauses.items) (sym c.lower_in.ensures.advances.handler)
+    (c.requires.applied q is c.lower_in.new.cx.interner.entries c.in_ok-lowered.lowered (c.in_ok-lowered.ensures.lowered q is))
+
+pub returns-clause-rest : goal.returns-clause-rest
+returns-clause-rest c = c.prove_lowered.ensures.rest
+
+pub returns-clause-solving : goal.returns-clause-solving
+returns-clause-solving c = c.prove_lowered.ensures.solving ∙ c.rest_laws.ensures.meaning c.args.cx.now c.lower_in.new.cx c.requires.rest.ready c.lower_in.ensures.advances
+
+pub returns-clause-keeps : goal.returns-clause-keeps
+returns-clause-keeps c = λ i e h. c.prove_lowered.ensures.keeps i e (c.lower_in.ensures.advances.entries i e h)
+
+pub returns-clause-answer : goal.returns-clause-answer
+returns-clause-answer c =
+    over-ok c.prove_lowered.result
+    (λ a h q is.
+    subst (λ (s : Solving). IsAnsweredBySolver s c.args.graph.now.root_depth q c.prove_lowered.new.cx.interner.entries a)
+    (c.rest_laws.ensures.meaning c.args.cx.now c.lower_in.new.cx c.requires.rest.ready c.lower_in.ensures.advances) (h q (c.in_ok-lowered.ensures.lowered q is)))
+    c.prove_lowered.ensures.answer

@@ -1,0 +1,31 @@
+use Rattle.std.proofs.Common.{refl, sym, subst}
+use Rattle.std.specs.Prelude.{IfOk}
+use Rattle.sessions.specs.Checking.{HasJudged, HaveOwnNumbers}
+use Rattle.sessions.specs.Subjects.{Subject, StaysOn}
+use Rattle.workspace.specs.Numbered.{IsNumbered}
+use Rattle.sessions.proofs.ImplNumbers.{own-numbers}
+use Rattle.sessions.proofs.Keeping.{session-rests}
+use Rattle.sessions.proofs.session.Session.overlaps.Goals as goal
+
+pub overlap_at-requires-clause-rest : goal.overlap_at-requires-clause-rest
+overlap_at-requires-clause-rest c =
+    let i = c.self.inside in
+    session-rests i.workspace.now i.crate_id.index i.limits.depth i.cx i.graph i.cache c.self.invariant
+
+pub overlap_at-requires-clause-numbers : goal.overlap_at-requires-clause-numbers
+overlap_at-requires-clause-numbers c =
+    let i = c.self.inside in
+    subst HaveOwnNumbers (sym c.self.invariant.view.rules)
+    (own-numbers i.workspace.now i.crate_id.index (subst (λ (s : Subject). IsNumbered s.declarations) (sym c.self.view_is) c.requires.numbered))
+
+pub returns-clause-judged : goal.returns-clause-judged
+returns-clause-judged c =
+    let i = c.self.inside in
+    subst (λ (s : Subject). IfOk c.overlap_at.result (HasJudged s c.args.later.index c.args.earlier.index)) c.self.view_is
+    (c.overlap_at.ensures.judged i.workspace.now i.crate_id.index i.limits.depth c.self.invariant)
+
+pub returns-clause-stays : goal.returns-clause-stays
+returns-clause-stays c =
+    let i = c.self.inside in
+    subst (λ (s : Subject). StaysOn s (record { declarations = i.workspace.now; of_crate = i.crate_id.index; depth = i.limits.depth; handles = i.limits.handles; terms = c.overlap_at.new.cx.interner.entries })) c.self.view_is
+    (record { declarations = refl; of_crate = refl; depth = refl; handles = refl; terms = c.overlap_at.ensures.entries })

@@ -1,0 +1,17 @@
+-- The where-clauses of questions, as goals are asked under them.
+use Rattle.std.specs.Prelude.{ℕ, List, Ok}
+use Rattle.type_terms.specs.Terms.{Entry}
+use Rattle.declarations.specs.Applied.{AreApplied}
+use Rattle.declarations.specs.Items.{Items}
+use Rattle.text_definitions.specs.Declarations as text
+use Rattle.text_definitions.specs.Text.{TextGives}
+use Rattle.view_lowering.specs.Questions.{IsQuestion, IsLowered}
+use Rattle.view_lowering.specs.Ready.{AreSeen}
+use Rattle.view_lowering.specs.declared.question.LoweredQuestion.{LoweredQuestion}
+
+-- The where-clauses of a question of a text without a fault have an argument for each parameter of their traits, by what the crate that
+-- asks sees, over whatever terms they are lowered to.
+abbrev pub TextsClausesApply : Type 0
+TextsClausesApply =
+    (bytes : List ℕ) (d : text.Declarations) → TextGives bytes (Ok d) → (n : ℕ) (q : text.Question) → IsQuestion d n q
+    → (es : List Entry) (decls : Items) → AreSeen es decls d q.asker → (held : List Entry) (l : LoweredQuestion) → IsLowered held q l → AreApplied held decls l.clauses.items

@@ -1,0 +1,56 @@
+-- Decided references, as the search of a session answers them outside coherence.
+use Rattle.std.specs.Prelude.{ℕ, ◌+◌, List, map, Option}
+use Rattle.model.specs.Answers.{SingleWay, IsDecided}
+use Rattle.model.specs.Terms.{erased_reference}
+use Rattle.model.specs.Worlds.{World, Reference}
+use Rattle.infer_table.specs.Canonical.{canonical_form}
+use Rattle.infer_table.specs.Responses.{AnswerTrees}
+use Rattle.infer_table.specs.declared.certainty.TypingMode.TheVariants.{PostAnalysis}
+use Rattle.search_graph.specs.Plain.{IsNotPlain}
+use Rattle.root_goals.specs.Contexts.{Asked}
+use Rattle.root_goals.specs.Evaluations.{IsFound}
+use Rattle.declarations.specs.Elaboration.{elaborate}
+use Rattle.declarations.specs.Items.{written}
+use Rattle.text_definitions.specs.Declarations.{Declarations, Question}
+use Rattle.view_lowering.specs.Plain.{unbound_reference, unbound_references}
+use Rattle.view_lowering.specs.Questions.{IsQuestion}
+use Rattle.candidate_assembly.specs.Solving.{Solving}
+use Rattle.sessions.specs.Answers.{IsRightOf}
+use Rattle.sessions.specs.Fitting.{sorts_in}
+use Rattle.sessions.specs.Goals.{goal_of}
+use Rattle.sessions.specs.Promises.{view_in}
+use Rattle.sessions.specs.Questions.{IsFormedAsWritten}
+use Rattle.sessions.specs.Refusals.{session_meaning}
+use Rattle.sessions.specs.Sessions.{IsSolvingOf}
+use Rattle.sessions.specs.Subjects.{IsOfText}
+
+-- The reference, asked outside coherence under the where-clauses with all their supertraits.
+abbrev pub asked_under : World → List Reference → Reference → Asked
+asked_under V E r = (PostAnalysis, canonical_form (goal_of (elaborate V E) r))
+
+-- It has an answer within this depth; and what the search finds is a definite yes if by V and the where-clauses as they are written it has
+-- a proof, and a refusal if it has none.
+pub record IsAnsweredRightly (s : Solving) (depth : ℕ) (V : World) (E : List Reference) (r : Reference) : Type 0 where
+  pub plainly : IsNotPlain session_meaning s (depth + 1) (asked_under s.view E r) → ⊥
+  pub found : (a : Option AnswerTrees) → IsFound session_meaning s depth (asked_under s.view E r) a → IsRightOf V (map erased_reference E) (erased_reference r) a
+
+-- So it is where by what the crate sees there is one way at most at each step.
+abbrev pub DecidedAreAnswered : Type 0
+DecidedAreAnswered =
+    (d : Declarations) → IsOfText d → (c : ℕ) (s : Solving) (of : IsSolvingOf d c s) (E : List Reference) (r : Reference)
+    → IsFormedAsWritten (written of.entries of.declarations) (sorts_in of.declarations) E r
+    → (depth : ℕ) → SingleWay depth (view_in d c) (map erased_reference E) (erased_reference r) → IsAnsweredRightly s depth (view_in d c) E r
+
+-- ---- questions of a text
+-- A question, asked outside coherence, is answered within this depth: by a definite yes if by V it has a proof, and by a refusal if it has
+-- none.
+pub record IsQuestionAnswered (s : Solving) (depth : ℕ) (V : World) (q : Question) : Type 0 where
+  pub plainly : IsNotPlain session_meaning s (depth + 1) (asked_under s.view (unbound_references q.clauses) (unbound_reference q.asked)) → ⊥
+  pub found : (a : Option AnswerTrees) → IsFound session_meaning s depth (asked_under s.view (unbound_references q.clauses) (unbound_reference q.asked)) a
+      → IsRightOf V (map erased_reference q.clauses) (erased_reference q.asked) a
+
+-- So is each question that is decided by what the asking crate sees.
+abbrev pub DecidedQuestionsAreAnswered : Type 0
+DecidedQuestionsAreAnswered =
+    (d : Declarations) → IsOfText d → (n : ℕ) (q : Question) → IsQuestion d n q → (s : Solving) → IsSolvingOf d q.asker s → (depth : ℕ)
+    → IsDecided depth (view_in d q.asker) (map erased_reference q.clauses) (erased_reference q.asked) → IsQuestionAnswered s depth (view_in d q.asker) q

@@ -1,0 +1,30 @@
+-- What a session answers, over the terms of its interner.
+use Rattle.std.specs.Prelude.{List, map}
+use Rattle.model.specs.Trees.{erase}
+use Rattle.type_terms.specs.Kinds.{arg_trees}
+use Rattle.type_terms.specs.Terms.{Entry}
+use Rattle.overlap_check.specs.Orphans.{error_in}
+use Rattle.overlap_check.specs.Questions as answers
+use Rattle.overlap_check.specs.Verdicts as verdicts
+use Rattle.sessions.specs.declared.answers.ProveAnswer.{ProveAnswer}
+use Rattle.sessions.specs.declared.answers.ProveAnswer.TheVariants.{Yes, Maybe, Unproved}
+use Rattle.sessions.specs.declared.answers.RefuteAnswer.{RefuteAnswer}
+use Rattle.sessions.specs.declared.answers.RefuteAnswer.TheVariants.{No, Open}
+use Rattle.sessions.specs.declared.answers.Verdict.{Verdict}
+use Rattle.sessions.specs.declared.answers.Verdict.TheVariants.{Accepted, Orphan, Overlap}
+
+-- Impls go by their numbers in the text, types by their trees, without lifetimes.
+abbrev pub verdict_in : List Entry → Verdict → verdicts.Verdict
+verdict_in es Accepted = verdicts.accepted
+verdict_in es (Orphan k e) = verdicts.orphan k.index (error_in es e)
+verdict_in es (Overlap k j) = verdicts.overlap k.index j.index
+
+-- The values of a question's unknowns, in their order, without lifetimes.
+abbrev pub answer_in : List Entry → ProveAnswer → answers.ProveAnswer
+answer_in es (Yes values) = answers.yes (map (λ v. erase (arg_trees es v)) values.items)
+answer_in es Maybe = answers.maybe
+answer_in es Unproved = answers.unproved
+
+abbrev pub refutation_of : RefuteAnswer → answers.RefuteAnswer
+refutation_of No = answers.no
+refutation_of Open = answers.unrefuted

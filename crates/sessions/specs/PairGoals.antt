@@ -1,0 +1,46 @@
+-- The goals of a pair of impls, as the search is asked them: their terms are formed, by what a crate sees of a text.
+use Rattle.std.specs.Prelude.{ℕ, List}
+use Rattle.model.specs.Worlds.{World, Reference}
+use Rattle.model.specs.Proofs.{In}
+use Rattle.type_terms.specs.Terms.{Entry, Lawful, trees_at}
+use Rattle.type_terms.specs.declared.ImplId.{ImplId}
+use Rattle.term_folds.specs.declared.predicate.TraitRef.{TraitRef}
+use Rattle.infer_table.specs.Content.{Table, content}
+use Rattle.infer_table.specs.Solutions.{resolved}
+use Rattle.declarations.specs.Held.{ImplHeld}
+use Rattle.declarations.specs.Items.{Items, written, impl_in}
+use Rattle.declarations.specs.Merges.{Each}
+use Rattle.declarations.specs.declared.items.ImplDef.{ImplDef}
+use Rattle.overlap_check.specs.Headers.{IsIntersection, IsSolved}
+use Rattle.overlap_check.specs.Written.{IsWrittenWell}
+use Rattle.overlap_check.specs.declared.intersection.ImplIntersection.{ImplIntersection}
+use Rattle.text_definitions.specs.Declarations.{Declarations}
+use Rattle.view_lowering.specs.Plain.{plainly_seen_from}
+use Rattle.view_lowering.specs.Ready.{AreSeen}
+use Rattle.solver_exactness.specs.FormedFacts.{Sorts}
+use Rattle.sessions.specs.Fitting.{sorts_in}
+use Rattle.sessions.specs.Goals.{HasFormedTerms}
+use Rattle.sessions.specs.Subjects.{IsOfText}
+
+-- The reference as the table resolves it.
+abbrev pub as_resolved : List Entry → Table → TraitRef → Reference
+as_resolved es t r = record { trait = r.def_id.index; args = resolved (content es t.values) (trees_at es r.args.0) }
+
+-- What is to be asked over the table has formed terms there.
+abbrev pub AreFormedOver : World → Sorts → List Entry → Table → List TraitRef → Type 0
+AreFormedOver V sorts es t rs = Each (λ (r : TraitRef). HasFormedTerms V sorts (as_resolved es t r)) rs
+
+-- An impl of the view, over the terms of an interner.
+pub record IsImplOf (V : World) (es : List Entry) (i : ImplId) (def : ImplDef) : Type 0 where
+  pub seen : In (impl_in es i def) V.impls
+  pub held : ImplHeld es def
+  pub written : IsWrittenWell es def
+
+-- Of two impls of what a crate sees of a text, the goals that are found have formed terms, as the table that is found resolves them.
+abbrev pub PairGoalsAreFormed : Type 0
+PairGoalsAreFormed =
+    (d : Declarations) → IsOfText d → (c : ℕ) (es : List Entry) → Lawful es
+    → (k j : ImplId) (w x : ImplDef) → IsImplOf (plainly_seen_from d c) es k w → IsImplOf (plainly_seen_from d c) es j x
+    → (new : List Entry) (found : ImplIntersection) → IsIntersection es w x new found → IsSolved es w x new found
+    → (at : List Entry) (decls : Items) → AreSeen at decls d c
+    → AreFormedOver (written at decls) (sorts_in decls) new found.table found.left.items × AreFormedOver (written at decls) (sorts_in decls) new found.table found.right.items

@@ -1,0 +1,125 @@
+-- Questions whether a reference has a proof: how they are asked, outside coherence, and what is known of the answers.
+use Rattle.std.specs.Prelude.{◌≡◌, ◌+◌, ◌⊎◌, ℕ, Bool, true, false, List, [], map, Option, Some, None}
+use Rattle.model.specs.Label.{Label, Sort, of_type, of_const, canonical, bound}
+use Rattle.model.specs.Trees.{Trees, some_node}
+use Rattle.model.specs.Worlds.{World}
+use Rattle.type_terms.specs.Kinds.{arg_trees}
+use Rattle.type_terms.specs.Terms.{Entry}
+use Rattle.type_terms.specs.declared.kinds.GenericArgKind.{GenericArgKind}
+use Rattle.declarations.specs.Applied.{AreApplied}
+use Rattle.declarations.specs.Elaboration.{elaborate}
+use Rattle.declarations.specs.Items.{Items}
+use Rattle.infer_table.specs.Canonical.{GoalTrees, CanonicalForm, canonical_form}
+use Rattle.infer_table.specs.Content.{Table, Ready, content}
+use Rattle.infer_table.specs.Inputs.{IsWithoutCanonical}
+use Rattle.infer_table.specs.Responses.{AnswerTrees}
+use Rattle.infer_table.specs.Solutions.{Binding, resolved}
+use Rattle.infer_table.specs.Unification.{table_trees}
+use Rattle.infer_table.specs.declared.certainty.TypingMode.{TypingMode}
+use Rattle.infer_table.specs.declared.certainty.TypingMode.TheVariants.{PostAnalysis}
+use Rattle.search_graph.specs.Plain.{IsNotPlain}
+use Rattle.evaluation.specs.Content.{Fact}
+use Rattle.evaluation.specs.Handler.{Handled}
+use Rattle.evaluation.specs.Proof as Lists
+use Rattle.evaluation.specs.Tables.{frame_tables}
+use Rattle.goal_frames.specs.Searches.{is_yes_answer}
+use Rattle.root_goals.specs.Contexts.{Asked, Advances, IsReady as IsReadyContext, entries_of}
+use Rattle.root_goals.specs.Evaluations.{IsFound}
+use Rattle.root_goals.specs.Roots.{left_by}
+use Rattle.root_goals.specs.Searching.{solver_meaning}
+use Rattle.root_goals.specs.declared.context.SolverCx.{SolverCx}
+use Rattle.assembly_laws.specs.Facts.{FollowsByView}
+use Rattle.candidate_assembly.specs.declared.solver.Solver.{Solver}
+use Rattle.candidate_assembly.specs.Fitting.{solving_of}
+use Rattle.candidate_assembly.specs.Ready.{IsReady}
+use Rattle.candidate_assembly.specs.Solving.{Solving, solver_for, coinductive_for}
+use Rattle.text_definitions.specs.Declarations.{Question}
+use Rattle.text_definitions.specs.Names.{own_unknowns}
+use Rattle.view_lowering.specs.Plain.{unbound_reference, unbound_references}
+use Rattle.view_lowering.specs.QuestionVariables.{variable_kinds}
+use Rattle.view_lowering.specs.Questions.{IsLowered}
+use Rattle.view_lowering.specs.declared.question.LoweredQuestion.{LoweredQuestion}
+use Rattle.sessions.specs.Goals.{goal_of}
+use Rattle.sessions.specs.Proved.{fact_with_values}
+use Rattle.sessions.specs.Tables.{table_of}
+use Rattle.sessions.specs.declared.answers.ProveAnswer.{ProveAnswer}
+use Rattle.sessions.specs.declared.answers.ProveAnswer.TheVariants.{Yes, Maybe, Unproved}
+
+-- ---- values
+-- A type or a constant that a binder binds, or a canonical one: by terms in which such stand nothing is proved.
+abbrev pub is_bound_term : Label → Bool
+is_bound_term (bound of_type k i) = true
+is_bound_term (bound of_const k i) = true
+is_bound_term (canonical of_type i) = true
+is_bound_term (canonical of_const i) = true
+is_bound_term l = false
+
+-- Yes with the values that the table gives the unknowns, or maybe, where something bound stands in the arguments with their values.
+abbrev pub AreReadOff : List Entry → Table → Trees → List GenericArgKind → List Entry → ProveAnswer → Type 0
+AreReadOff es t args us fs (Yes values) =
+    (map (arg_trees fs) values.items ≡ map (λ u. resolved (content es t.values) (arg_trees es u)) us) × (some_node is_bound_term (resolved (content es t.values) args) ≡ false)
+AreReadOff es t args us fs Maybe = some_node is_bound_term (resolved (content es t.values) args) ≡ true
+AreReadOff es t args us fs Unproved = ⊥
+
+-- ---- the goal
+-- It is asked outside coherence.
+abbrev pub asked_outside : GoalTrees → Asked
+asked_outside g = (PostAnalysis, canonical_form g)
+
+-- What the question asks, under its where-clauses and all their supertraits in V.
+abbrev pub goal_asking : World → Question → GoalTrees
+goal_asking V q = goal_of (elaborate V (unbound_references q.clauses)) (unbound_reference q.asked)
+
+-- ---- answers
+module _ {World Handler : Type 0} (handled : World → TypingMode → CanonicalForm → Handled frame_tables) (Rule : World → Fact → List Fact → Type 0) (coinductive : World → Fact → Bool)
+    (is_ready : Handler → List Entry → Type 0) (meaning_of : Handler → List Entry → World) where
+  -- Some table gives the unknowns these values; with them nothing bound stands in the goal's predicate, and the goal has a proof.
+  pub record HasValues (w : World) (g : GoalTrees) (us values : List Trees) : Type 0 where
+    pub entries : List Entry
+    pub table : Table
+    pub ready : Ready entries table
+    pub are : values ≡ map (λ u. resolved (content entries table.values) u) us
+    pub unbound : some_node is_bound_term (resolved (content entries table.values) g.predicate) ≡ false
+    pub proved : IsWithoutCanonical g → Lists.HasProof Fact (Rule w) (coinductive w) (fact_with_values (content entries table.values) g)
+
+  -- The search refuses the goal, or gives an answer that the table of unknowns of these kinds refuses.
+  abbrev pub IsRefusedGoal : World → ℕ → List Sort → GoalTrees → Type 0
+  IsRefusedGoal w depth ks g =
+      let m = solver_meaning handled Rule coinductive is_ready meaning_of in
+      (a : Option AnswerTrees) × IsFound m w depth (asked_outside g) a × (left_by (table_trees [] (table_of ks)) g a ≡ None)
+
+  -- It gives an answer that is no definite yes, or plain recursion has none within the depth; or values were found with which something
+  -- bound stands in the goal's predicate.
+  abbrev pub IsUnsettledGoal : World → ℕ → GoalTrees → Type 0
+  IsUnsettledGoal w depth g =
+      let m = solver_meaning handled Rule coinductive is_ready meaning_of in
+      IsNotPlain m w (depth + 1) (asked_outside g)
+      ⊎ ((a : AnswerTrees) × IsFound m w depth (asked_outside g) (Some a) × (is_yes_answer frame_tables (Some a) ≡ false))
+      ⊎ ((bs : List Binding) × (some_node is_bound_term (resolved bs g.predicate) ≡ true))
+
+  -- What an answer says of a goal that was asked over the table of unknowns of these kinds.
+  abbrev pub IsAnswered : World → ℕ → List Sort → GoalTrees → List Trees → List Entry → ProveAnswer → Type 0
+  IsAnswered w depth ks g us es (Yes values) = HasValues w g us (map (arg_trees es) values.items)
+  IsAnswered w depth ks g us es Unproved = IsRefusedGoal w depth ks g
+  IsAnswered w depth ks g us es Maybe = IsUnsettledGoal w depth g
+
+-- ---- the solver's
+abbrev pub SolverIsReady : SolverCx Solver → Type 0
+SolverIsReady cx = IsReadyContext (λ (h : Solver) es. IsReady es h.declarations) cx
+
+abbrev pub SolverAdvances : SolverCx Solver → SolverCx Solver → Type 0
+SolverAdvances old new = Advances (λ (h : Solver) es. IsReady es h.declarations) old new
+
+-- Both solve by the same declarations.
+abbrev pub SolvesTheSame : SolverCx Solver → SolverCx Solver → Type 0
+SolvesTheSame old new = solving_of (entries_of new) new.handler.declarations ≡ solving_of (entries_of old) old.handler.declarations
+
+-- The question's where-clauses have an argument for each parameter of their traits, over whatever terms it is lowered to.
+abbrev pub ClausesApply : Items → Question → Type 0
+ClausesApply d q = (es : List Entry) (l : LoweredQuestion) → IsLowered es q l → AreApplied es d l.clauses.items
+
+-- What the solver's answer to a question says.
+abbrev pub IsAnsweredBySolver : Solving → ℕ → Question → List Entry → ProveAnswer → Type 0
+IsAnsweredBySolver s depth q es a =
+    IsAnswered solver_for (λ s. FollowsByView s.view) coinductive_for (λ (h : Solver) es. IsReady es h.declarations) (λ (h : Solver) es. solving_of es h.declarations) s depth
+    (variable_kinds q) (goal_asking s.view q) (own_unknowns q) es a

@@ -1,0 +1,42 @@
+-- What a search in coherence leaves open is possible, and what it refuses is not.
+use Rattle.std.specs.Prelude.{◌≡◌, ℕ, true, false, Option, None}
+use Rattle.model.specs.Answers.{is_bounded, is_possible}
+use Rattle.model.specs.Terms.{erased_reference}
+use Rattle.model.specs.Worlds.{World, Reference}
+use Rattle.declarations.specs.Items.{written}
+use Rattle.search_graph.specs.Meaning.{Meaning}
+use Rattle.goal_frames.specs.declared.store.InputId.{InputId}
+use Rattle.goal_frames.specs.declared.store.ResponseId.{ResponseId}
+use Rattle.goal_frames.specs.declared.frame.GoalFrame.{GoalFrame}
+use Rattle.root_goals.specs.declared.context.SolverCx.{SolverCx}
+use Rattle.root_goals.specs.Evaluations.{IsFound}
+use Rattle.root_goals.specs.Searching.{solver_meaning}
+use Rattle.text_definitions.specs.Declarations.{Declarations}
+use Rattle.assembly_laws.specs.Facts.{FollowsByView}
+use Rattle.candidate_assembly.specs.declared.solver.Solver.{Solver}
+use Rattle.candidate_assembly.specs.Fitting.{solving_of}
+use Rattle.candidate_assembly.specs.Ready.{IsReady}
+use Rattle.candidate_assembly.specs.Solving.{Solving, solver_for, coinductive_for}
+use Rattle.sessions.specs.Asking.{IsLeftOpen, asked_alone}
+use Rattle.sessions.specs.Fitting.{sorts_in}
+use Rattle.sessions.specs.Goals.{HasFormedTerms}
+use Rattle.sessions.specs.Promises.{view_in}
+use Rattle.sessions.specs.Sessions.{IsSolvingOf}
+use Rattle.sessions.specs.Subjects.{IsOfText}
+
+-- What the solver's goals mean to the search of a session.
+abbrev pub session_meaning : Meaning (SolverCx Solver) InputId (Option ResponseId) GoalFrame
+session_meaning = solver_meaning solver_for (λ s. FollowsByView s.view) coinductive_for (λ (h : Solver) es. IsReady es h.declarations) (λ (h : Solver) es. solving_of es h.declarations)
+
+-- Of this reference, asked alone in coherence within this depth: if it is left open, it is possible in crate c with view V, and if it is
+-- refused, it is not.
+pub record IsToldPossible (s : Solving) (depth : ℕ) (V : World) (c : ℕ) (r : Reference) : Type 0 where
+  pub left_open : IsLeftOpen solver_for (λ s. FollowsByView s.view) coinductive_for (λ (h : Solver) es. IsReady es h.declarations) (λ (h : Solver) es. solving_of es h.declarations) s depth r
+      → is_possible depth V c (erased_reference r) ≡ true
+  pub refused : IsFound session_meaning s depth (asked_alone r) None → is_possible depth V c (erased_reference r) ≡ false
+
+-- So it is of bounded references with formed terms, by what a crate sees of a text without a fault.
+abbrev pub RefusalsAreExact : Type 0
+RefusalsAreExact =
+    (d : Declarations) → IsOfText d → (c : ℕ) (s : Solving) (of : IsSolvingOf d c s) (r : Reference) → HasFormedTerms (written of.entries of.declarations) (sorts_in of.declarations) r
+    → (depth : ℕ) → is_bounded depth (view_in d c) c (erased_reference r) ≡ true → IsToldPossible s depth (view_in d c) c r

@@ -1,0 +1,9 @@
+//! Mathematics without running code: the where-clauses of questions can be elaborated.
+
+ghost use Rattle.sessions.specs.Applying.{TextsClausesApply};
+
+/// The where-clauses of a question of a text without a fault have an argument for each parameter of their traits, by what the crate that
+/// asks sees of the text.
+pub(crate) fn clauses_apply()
+    ensures { TextsClausesApply }
+{}

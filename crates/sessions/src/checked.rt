@@ -1,0 +1,100 @@
+//! The headers of a crate's impls, and the pairs that it brings together.
+
+ghost use Rattle.std.specs.Prelude.{◌≡◌, ◌≤◌, ◌+◌, ℕ, IfOk, IfSome, Ok, None};
+ghost use Rattle.type_terms.specs.Terms.{Keeps};
+ghost use Rattle.type_terms.specs.declared.TheConstants.{MAX_INDEX};
+ghost use Rattle.declarations.specs.Items.{IsAbove};
+ghost use Rattle.overlap_check.specs.Orphans.{IsFirstError};
+ghost use Rattle.text_definitions.specs.Declarations.{Declarations};
+ghost use Rattle.sessions.specs.Checking.{IsReadySolver, SolverAdvances, HaveOwnNumbers, AreApartAt, IsFoundAt, IsJudgedAt, rules_in, solving_in};
+ghost use Rattle.sessions.specs.Promises.{view_in};
+ghost use Rattle.sessions.specs.Sessions.{SolverRests, IsSession};
+
+use crate::asked::rest_laws;
+use crate::obligations::has_impossible_obligation;
+use crate::pair_laws::open_pair_goals_are_possible;
+use crate::written::ready_impls_are_written_well;
+use candidate_assembly::solver::Solver;
+use orphan_check::errors::OrphanCheckErr;
+use overlap_check::heads::headers_differ;
+use overlap_check::intersection::{ImplIntersection, impl_intersection};
+use overlap_check::orphans::first_orphan;
+use overlap_check::partners::pair_at;
+use root_goals::{SolverCx, SolverGraph};
+use search_graph::{GlobalCache, SearchGraph};
+use type_terms::kinds::Ty;
+use type_terms::{Fault, ImplId};
+
+/// The first impl of the crate that asks whose header breaks the orphan rule, by rising number, with the error; `None` where all keep
+/// it. The numbers of impls are below `end`. Errors are those of `first_orphan`.
+pub(crate) fn first_broken_header(
+    cx: &mut SolverCx<Solver>,
+    end: u32,
+) -> Result<Option<(ImplId, OrphanCheckErr<Ty>)>, Fault>
+    requires ready { IsReadySolver cx.old }
+    requires numbered { IsAbove end cx.old.handler.declarations }
+    requires in_range { end ≤ MAX_INDEX + 1 }
+    ensures advances { SolverAdvances cx.old cx.new }
+    ensures first { IfOk result (IsFirstError (rules_in cx.old) cx.old.handler.declarations.local cx.new.interner.entries) }
+{
+    rest_laws::<Solver>();
+    ready_impls_are_written_well();
+    let found = first_orphan(cx.alloc, &mut cx.interner, &cx.handler.declarations, end);
+    cx.interner.lawful();
+    found
+}
+
+/// What the impls of two numbers have in common, where the crate that asks has to compare them; `None` where it has not, or their
+/// headers have no common instance. Errors are those of `impl_intersection`.
+fn intersection_at(
+    cx: &mut SolverCx<Solver>,
+    later: ImplId,
+    earlier: ImplId,
+) -> Result<Option<ImplIntersection>, Fault>
+    requires ready { IsReadySolver cx.old }
+    requires numbers { HaveOwnNumbers (rules_in cx.old) }
+    ensures advances { SolverAdvances cx.old cx.new }
+    ensures apart { result ≡ Ok None → AreApartAt (rules_in cx.old) cx.old.handler.declarations.local later.index earlier.index }
+    ensures found { IfOk result (λ found. IfSome found (IsFoundAt cx.old.interner.entries cx.old.handler.declarations later earlier cx.new.interner.entries)) }
+{
+    rest_laws::<Solver>();
+    ready_impls_are_written_well();
+    let Some((left, right)) = pair_at(&cx.handler.declarations, later, earlier) else {
+        return Ok(None);
+    };
+    if headers_differ(&cx.interner, left, right) {
+        return Ok(None);
+    }
+    let found = impl_intersection(cx.alloc, &mut cx.interner, left, right);
+    cx.interner.lawful();
+    found
+}
+
+/// Whether the impls of two numbers are a pair of the crate that asks that overlaps: their headers have a common instance, and none of
+/// their where-clauses is impossible there.
+///
+/// All stays at rest, after a fault too. The fault is a refusal of memory, or `Full`.
+pub(crate) fn overlap_at(
+    graph: &mut SearchGraph<SolverGraph<Solver>>,
+    cache: &mut GlobalCache<SolverGraph<Solver>>,
+    cx: &mut SolverCx<Solver>,
+    later: ImplId,
+    earlier: ImplId,
+) -> Result<bool, Fault>
+    requires rest { SolverRests graph.old.root_depth cx.old graph.old cache.old }
+    requires numbers { HaveOwnNumbers (rules_in cx.old) }
+    ensures rest { SolverRests graph.old.root_depth cx.new graph.new cache.new }
+    ensures solving { solving_in cx.new ≡ solving_in cx.old }
+    ensures entries { Keeps cx.old.interner.entries cx.new.interner.entries }
+    ensures judged { (d : Declarations) (c depth : ℕ) → IsSession d c depth cx.old graph.old cache.old
+        → IfOk result (IsJudgedAt depth (view_in d c) c later.index earlier.index) }
+{
+    rest_laws::<Solver>();
+    ready_impls_are_written_well();
+    open_pair_goals_are_possible();
+    let Some(mut found) = intersection_at(cx, later, earlier)? else {
+        return Ok(false);
+    };
+    let refused = has_impossible_obligation(graph, cache, cx, &mut found)?;
+    Ok(!refused)
+}

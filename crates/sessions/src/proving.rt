@@ -1,0 +1,241 @@
+//! Questions whether a reference has a proof by what the asking crate sees.
+
+ghost use Rattle.std.specs.Prelude.{◌≡◌, map, IfOk};
+ghost use Rattle.model.specs.Trees.{some_node};
+ghost use Rattle.type_terms.specs.Kinds.{ArgsHeld, arg_trees};
+ghost use Rattle.type_terms.specs.Terms.{Has, Keeps, args_lists, trees_at};
+ghost use Rattle.term_folds.specs.Arguments.{arg_sort};
+ghost use Rattle.declarations.specs.Applied.{AllHeld, AreApplied, references_in};
+ghost use Rattle.declarations.specs.Elaboration.{elaborate};
+ghost use Rattle.declarations.specs.Items.{written};
+ghost use Rattle.infer_table.specs.Content.{Ready};
+ghost use Rattle.infer_table.specs.Goals.{GoalHeld, goal_trees};
+ghost use Rattle.text_definitions.specs.Declarations.{Question};
+ghost use Rattle.view_lowering.specs.Questions.{IsQuestion, IsLowered};
+ghost use Rattle.root_goals.specs.Contexts.{Advances, IsReady};
+ghost use Rattle.candidate_assembly.specs.Fitting.{solving_of};
+ghost use Rattle.sessions.specs.Proving.{AreReadOff, ClausesApply, IsAnswered, IsAnsweredBySolver, SolverAdvances, SolverIsReady, SolvesTheSame, goal_asking, is_bound_term};
+ghost use Rattle.sessions.specs.Questions.{where_clauses};
+ghost use Rattle.sessions.specs.Resting.{AreAtRest};
+ghost use Rattle.sessions.specs.Sessions.{SolverRests};
+ghost use Rattle.sessions.specs.Tables.{table_of};
+
+use crate::answers::ProveAnswer;
+use crate::asked::{lower_in, rest_laws};
+use crate::question_laws::references_are_goals;
+use crate::settling::{Outcome, ask_until_settled};
+use crate::table::question_table;
+use crate::values::values_of;
+use candidate_assembly::solver::Solver;
+use goal_frames::GoalHandler;
+use infer_table::goal::Goal;
+use infer_table::infer_ctxt::InferCtxt;
+use root_goals::{SolverCx, SolverGraph};
+use search_graph::{GlobalCache, SearchGraph};
+use std::alloc::{AllocError, Global};
+use term_folds::predicate::{Clause, TraitPredicate, TraitRef};
+use term_folds::visitable_ext::TypeVisitableExt;
+use type_terms::Fault;
+use type_terms::flags::TypeFlags;
+use type_terms::interner::Interner;
+use type_terms::kinds::{GenericArgKind, GenericArgs};
+use view_lowering::LoweredQuestion;
+use workspace::Workspace;
+
+/// The references as where-clauses.
+fn where_clauses(alloc: Global, references: &[TraitRef]) -> Result<Vec<Clause>, AllocError>
+    ensures { IfOk result (λ v. v.items ≡ where_clauses references.now) }
+{
+    references
+        .iter()
+        .map(|reference| {
+            Clause::Trait(TraitPredicate {
+                trait_ref: *reference,
+            })
+        })
+        .collect(alloc)
+}
+
+/// Whether a bound type or a bound constant stands in the arguments.
+fn has_bound_terms(cx: &Interner, args: GenericArgs) -> bool
+    requires { Has cx.now.entries args_lists args.0 }
+    ensures { result ≡ some_node is_bound_term (trees_at cx.now.entries args.0) }
+{
+    args.has_type_flags(cx, TypeFlags::HAS_TY_BOUND)
+        || args.has_type_flags(cx, TypeFlags::HAS_CT_BOUND)
+}
+
+/// What is answered where the reference was proved: the values that the table gives the unknowns.
+///
+/// By values in which a type or a constant is bound nothing is proved: then neither is known.
+fn read_values(
+    alloc: Global,
+    cx: &mut Interner,
+    table: &InferCtxt,
+    asked: TraitRef,
+    unknowns: &[GenericArgKind],
+) -> Result<ProveAnswer, Fault>
+    requires ready { Ready cx.old.entries table.now }
+    requires asked { Has cx.old.entries args_lists asked.args.0 }
+    requires unknowns { ArgsHeld cx.old.entries unknowns.now }
+    ensures keeps { Keeps cx.old.entries cx.new.entries }
+    ensures read { IfOk result (AreReadOff cx.old.entries table.now (trees_at cx.old.entries asked.args.0) unknowns.now cx.new.entries) }
+{
+    let proved = table.eager_resolve_vars(cx, asked.args)?;
+    if has_bound_terms(cx, proved) {
+        return Ok(ProveAnswer::Maybe);
+    }
+    let values = values_of(alloc, cx, table, unknowns)?;
+    Ok(ProveAnswer::Yes(values))
+}
+
+/// The same over the interner of a context.
+fn read_values_in<H: GoalHandler>(
+    cx: &mut SolverCx<H>,
+    table: &InferCtxt,
+    asked: TraitRef,
+    unknowns: &[GenericArgKind],
+) -> Result<ProveAnswer, Fault>
+    requires ready { IsReady H.ready cx.old }
+    requires table { Ready cx.old.interner.entries table.now }
+    requires asked { Has cx.old.interner.entries args_lists asked.args.0 }
+    requires unknowns { ArgsHeld cx.old.interner.entries unknowns.now }
+    ensures advances { Advances H.ready cx.old cx.new }
+    ensures read { IfOk result (AreReadOff cx.old.interner.entries table.now (trees_at cx.old.interner.entries asked.args.0) unknowns.now cx.new.interner.entries) }
+{
+    rest_laws::<H>();
+    let read = read_values(cx.alloc, &mut cx.interner, table, asked, unknowns);
+    cx.interner.lawful();
+    read
+}
+
+/// A table for the unknowns of a question, over the interner of a context.
+fn question_table_in<H: GoalHandler>(
+    cx: &mut SolverCx<H>,
+    unknowns: &[GenericArgKind],
+) -> Result<InferCtxt, Fault>
+    requires { IsReady H.ready cx.old }
+    ensures advances { Advances H.ready cx.old cx.new }
+    ensures ready { IfOk result (λ table. Ready cx.new.interner.entries table) }
+    ensures is { IfOk result (λ table. table ≡ table_of (map arg_sort unknowns.now)) }
+{
+    rest_laws::<H>();
+    let table = question_table(cx.alloc, &mut cx.interner, unknowns);
+    cx.interner.lawful();
+    table
+}
+
+/// Asks a question's goal over its table until its answer is settled, and reads the answer.
+///
+/// All stays at rest, after a fault too. The fault is a refusal of memory, or `Full`.
+fn ask_for<H: GoalHandler>(
+    graph: &mut SearchGraph<SolverGraph<H>>,
+    cache: &mut GlobalCache<SolverGraph<H>>,
+    cx: &mut SolverCx<H>,
+    table: &mut InferCtxt,
+    goal: &Goal,
+    unknowns: &[GenericArgKind],
+) -> Result<ProveAnswer, Fault>
+    requires rest { AreAtRest H.handled H.Rule H.coinductive H.ready H.meaning graph.old.root_depth cx.old graph.old cache.old }
+    requires ready { Ready cx.old.interner.entries table.old }
+    requires table { table.old ≡ table_of (map arg_sort unknowns.now) }
+    requires goal { GoalHeld cx.old.interner.entries goal.now }
+    requires unknowns { ArgsHeld cx.old.interner.entries unknowns.now }
+    ensures rest { AreAtRest H.handled H.Rule H.coinductive H.ready H.meaning graph.old.root_depth cx.new graph.new cache.new }
+    ensures meaning { H.meaning cx.new.handler cx.new.interner.entries ≡ H.meaning cx.old.handler cx.old.interner.entries }
+    ensures keeps { Keeps cx.old.interner.entries cx.new.interner.entries }
+    ensures answer { IfOk result (IsAnswered H.handled H.Rule H.coinductive H.ready H.meaning (H.meaning cx.old.handler cx.old.interner.entries) graph.old.root_depth
+        (map arg_sort unknowns.now) (goal_trees cx.old.interner.entries goal.now) (map (arg_trees cx.old.interner.entries) unknowns.now) cx.new.interner.entries) }
+{
+    rest_laws::<H>();
+    match ask_until_settled(graph, cache, cx, table, goal)? {
+        Outcome::Proved => read_values_in(cx, table, goal.predicate.trait_ref, unknowns),
+        Outcome::Unproved => Ok(ProveAnswer::Unproved),
+        Outcome::Maybe => Ok(ProveAnswer::Maybe),
+    }
+}
+
+/// The references with their supertraits through all levels, over the interner of a solver's context.
+fn elaborate_in(cx: &mut SolverCx<Solver>, references: &[TraitRef]) -> Result<Vec<TraitRef>, Fault>
+    requires ready { SolverIsReady cx.old }
+    requires held { AllHeld cx.old.interner.entries references.now }
+    requires applied { AreApplied cx.old.interner.entries cx.old.handler.declarations references.now }
+    ensures advances { SolverAdvances cx.old cx.new }
+    ensures held { IfOk result (λ v. AllHeld cx.new.interner.entries v.items) }
+    ensures are { IfOk result (λ v. references_in cx.new.interner.entries v.items
+        ≡ elaborate (written cx.old.interner.entries cx.old.handler.declarations) (references_in cx.old.interner.entries references.now)) }
+{
+    rest_laws::<Solver>();
+    let declarations = &cx.handler.declarations;
+    let elaborated = declarations.elaborate(cx.alloc, &mut cx.interner, references);
+    cx.interner.lawful();
+    elaborated
+}
+
+/// The goal that asks a question, under its where-clauses and their supertraits.
+fn goal_in(cx: &mut SolverCx<Solver>, lowered: &LoweredQuestion) -> Result<Goal, Fault>
+    requires ready { SolverIsReady cx.old }
+    requires lowered { (q : Question) × IsLowered cx.old.interner.entries q lowered.now }
+    requires applied { AreApplied cx.old.interner.entries cx.old.handler.declarations lowered.now.clauses.items }
+    ensures advances { SolverAdvances cx.old cx.new }
+    ensures held { IfOk result (λ goal. GoalHeld cx.new.interner.entries goal) }
+    ensures asked { IfOk result (λ goal. goal.predicate.trait_ref ≡ lowered.now.asked) }
+    ensures is { (q : Question) → IsLowered cx.old.interner.entries q lowered.now
+        → IfOk result (λ goal. goal_trees cx.new.interner.entries goal ≡ goal_asking (written cx.old.interner.entries cx.old.handler.declarations) q) }
+{
+    references_are_goals();
+    let clauses = elaborate_in(cx, &lowered.clauses)?;
+    Ok(Goal {
+        param_env: where_clauses(cx.alloc, &clauses)?,
+        predicate: TraitPredicate {
+            trait_ref: lowered.asked,
+        },
+    })
+}
+
+/// Asks a question whose terms are the context's outside coherence, under its where-clauses.
+fn prove_lowered(
+    graph: &mut SearchGraph<SolverGraph<Solver>>,
+    cache: &mut GlobalCache<SolverGraph<Solver>>,
+    cx: &mut SolverCx<Solver>,
+    lowered: &LoweredQuestion,
+) -> Result<ProveAnswer, Fault>
+    requires rest { SolverRests graph.old.root_depth cx.old graph.old cache.old }
+    requires lowered { (q : Question) × IsLowered cx.old.interner.entries q lowered.now }
+    requires applied { AreApplied cx.old.interner.entries cx.old.handler.declarations lowered.now.clauses.items }
+    ensures rest { SolverRests graph.old.root_depth cx.new graph.new cache.new }
+    ensures solving { SolvesTheSame cx.old cx.new }
+    ensures keeps { Keeps cx.old.interner.entries cx.new.interner.entries }
+    ensures answer { IfOk result (λ a. (q : Question) → IsLowered cx.old.interner.entries q lowered.now
+        → IsAnsweredBySolver (solving_of cx.old.interner.entries cx.old.handler.declarations) graph.old.root_depth q cx.new.interner.entries a) }
+{
+    rest_laws::<Solver>();
+    let goal = goal_in(cx, lowered)?;
+    let mut table = question_table_in(cx, &lowered.unknowns)?;
+    ask_for(graph, cache, cx, &mut table, &goal, &lowered.unknowns)
+}
+
+/// Asks the question with a number outside coherence: its reference under its where-clauses and their supertraits, over a new table with
+/// its variables.
+///
+/// All stays at rest, after a fault too. The fault is a refusal of memory, or `Full`.
+pub(crate) fn prove_question(
+    graph: &mut SearchGraph<SolverGraph<Solver>>,
+    cache: &mut GlobalCache<SolverGraph<Solver>>,
+    cx: &mut SolverCx<Solver>,
+    workspace: &Workspace,
+    number: u32,
+) -> Result<ProveAnswer, Fault>
+    requires rest { SolverRests graph.old.root_depth cx.old graph.old cache.old }
+    requires question { (q : Question) × IsQuestion workspace.now number q }
+    requires applied { (q : Question) → IsQuestion workspace.now number q → ClausesApply cx.old.handler.declarations q }
+    ensures rest { SolverRests graph.old.root_depth cx.new graph.new cache.new }
+    ensures solving { SolvesTheSame cx.old cx.new }
+    ensures keeps { Keeps cx.old.interner.entries cx.new.interner.entries }
+    ensures answer { IfOk result (λ a. (q : Question) → IsQuestion workspace.now number q
+        → IsAnsweredBySolver (solving_of cx.old.interner.entries cx.old.handler.declarations) graph.old.root_depth q cx.new.interner.entries a) }
+{
+    rest_laws::<Solver>();
+    let lowered = lower_in(cx, workspace, number)?;
+    prove_lowered(graph, cache, cx, &lowered)
+}
