@@ -18,6 +18,9 @@ pub enum Binders<'a> {
     Inside(u32, &'a Binders<'a>),
     /// So many binders, each of no lifetime: for a folder, to which their number alone matters.
     Empty(u32),
+    /// Binders listed by how many lifetimes they bind, the innermost last, and the binders around them: for a visit off a
+    /// list in memory.
+    Listed(&'a [u32], &'a Binders<'a>),
 }
 
 impl Binders<'_> {
@@ -32,6 +35,15 @@ impl Binders<'_> {
             Binders::Empty(count) => DebruijnIndex {
                 index: (*count).min(MAX_INDEX),
             },
+            Binders::Listed(counts, outer) => {
+                let depth = outer.depth();
+                let room = MAX_INDEX - depth.index;
+                if counts.len() < room as usize {
+                    depth.shifted_in(counts.len() as u32)
+                } else {
+                    DebruijnIndex { index: MAX_INDEX }
+                }
+            }
             Binders::Inside(_, outer) => {
                 let depth = outer.depth();
                 if depth.index == MAX_INDEX {
@@ -50,6 +62,14 @@ impl Binders<'_> {
         match self {
             Binders::Outermost => None,
             Binders::Empty(count) => { if binder.index < *count { Some(0) } else { None } }
+            Binders::Listed(counts, outer) => {
+                let index = binder.index as usize;
+                if index < counts.len() {
+                    Some(counts[counts.len() - 1 - index])
+                } else {
+                    outer.count(binder.shifted_out(counts.len() as u32))
+                }
+            }
             Binders::Inside(count, _) if binder.index == 0 => Some(*count),
             Binders::Inside(_, outer) => outer.count(binder.shifted_out(1)),
         }

@@ -27,8 +27,8 @@ pub(crate) struct Step {
     pub is_entered: bool,
 }
 
-/// Types no deeper than this are walked by recursion alone.
-const SHALLOW: u32 = 128;
+/// Types no deeper than this are walked and visited by recursion alone.
+pub(crate) const SHALLOW: u32 = 128;
 
 /// What the walk of these parts begins with: nothing, or where they are deep or the folder leads on, the folds of what
 /// stands in them.

@@ -9,9 +9,10 @@ ghost use Rattle.term_folds.specs.Folds.{IsBound};
 ghost use Rattle.term_folds.specs.Visits.{Visits, VisitsBelow};
 
 use crate::binders::Binders;
+use crate::deep_visit::{Part, visit_below, visit_part};
 use std::ops::ControlFlow;
 use type_terms::interner::Interner;
-use type_terms::kinds::{Bounds, Const, GenericArgKind, GenericArgs, Ty, TyKind, Tys};
+use type_terms::kinds::{Bounds, Const, GenericArgKind, GenericArgs, Ty, Tys};
 use type_terms::region::Region;
 
 /// What a visitor answers at a node.
@@ -25,7 +26,8 @@ pub enum Seen<B> {
     Pass,
 }
 
-/// A visitor of terms. A visit takes no memory of its own.
+/// A visitor of terms. A visit needs no memory: of a deep term it keeps a list of what is still to be visited, and where
+/// memory is refused it recurses.
 ///
 /// The original's `TypeVisitor`; it recurses by itself there, and here it answers what to do with a node.
 pub trait TypeVisitor {
@@ -111,7 +113,6 @@ pub(crate) fn visit_const<V: TypeVisitor>(
 }
 
 /// The visit of a type.
-#[cycle(visits)]
 pub fn visit_ty<V: TypeVisitor>(
     cx: &Interner,
     visitor: &mut V,
@@ -123,16 +124,16 @@ pub fn visit_ty<V: TypeVisitor>(
     ensures ready { V.ready visitor.new cx.now.entries }
     ensures visited { Visits (V.sees cx.now.entries) (counts_of binders.now) (trees_at cx.now.entries ty.0) visitor.old visitor.new (break_value result) }
 {
-    cx.lawful();
-    match visitor.visit_ty(cx, ty, binders) {
-        Seen::Break(value) => ControlFlow::Break(value),
-        Seen::Pass => ControlFlow::Continue(()),
-        Seen::Enter => super_visit_ty(cx, visitor, ty, binders),
-    }
+    visit_part(
+        cx,
+        visitor,
+        Part::Arg(GenericArgKind::Ty(ty)),
+        cx.depth(ty),
+        binders,
+    )
 }
 
 /// The visit of a type's children.
-#[cycle(visits)]
 pub fn super_visit_ty<V: TypeVisitor>(
     cx: &Interner,
     visitor: &mut V,
@@ -144,33 +145,10 @@ pub fn super_visit_ty<V: TypeVisitor>(
     ensures ready { V.ready visitor.new cx.now.entries }
     ensures visited { VisitsBelow (V.sees cx.now.entries) (counts_of binders.now) (trees_at cx.now.entries ty.0) visitor.old visitor.new (break_value result) }
 {
-    match cx.kind(ty) {
-        TyKind::Adt(_, args) => visit_args(cx, visitor, args, binders),
-        TyKind::Ref(region, to, _) => match visit_region(cx, visitor, region, binders) {
-            ControlFlow::Break(value) => ControlFlow::Break(value),
-            ControlFlow::Continue(()) => visit_ty(cx, visitor, to, binders),
-        },
-        TyKind::RawPtr(to, _) => visit_ty(cx, visitor, to, binders),
-        TyKind::Array(item, length) => match visit_ty(cx, visitor, item, binders) {
-            ControlFlow::Break(value) => ControlFlow::Break(value),
-            ControlFlow::Continue(()) => visit_const(cx, visitor, length, binders),
-        },
-        TyKind::Slice(item) => visit_ty(cx, visitor, item, binders),
-        TyKind::Tuple(items) => visit_tys(cx, visitor, items, binders),
-        TyKind::FnPtr(count, tys) => {
-            let inside = Binders::Inside(count, &*binders);
-            visit_tys(cx, visitor, tys, &inside)
-        }
-        TyKind::Dynamic(bounds, region) => match visit_bounds(cx, visitor, bounds, binders) {
-            ControlFlow::Break(value) => ControlFlow::Break(value),
-            ControlFlow::Continue(()) => visit_region(cx, visitor, region, binders),
-        },
-        _ => ControlFlow::Continue(()),
-    }
+    visit_below(cx, visitor, ty, binders)
 }
 
 /// The visit of a list of types.
-#[cycle(visits)]
 pub(crate) fn visit_tys<V: TypeVisitor>(
     cx: &Interner,
     visitor: &mut V,
@@ -182,17 +160,10 @@ pub(crate) fn visit_tys<V: TypeVisitor>(
     ensures ready { V.ready visitor.new cx.now.entries }
     ensures visited { Visits (V.sees cx.now.entries) (counts_of binders.now) (trees_at cx.now.entries tys.0) visitor.old visitor.new (break_value result) }
 {
-    for ty in cx.tys(tys) {
-        match visit_ty(cx, visitor, *ty, binders) {
-            ControlFlow::Break(value) => return ControlFlow::Break(value),
-            ControlFlow::Continue(()) => {}
-        }
-    }
-    ControlFlow::Continue(())
+    visit_part(cx, visitor, Part::Tys(cx.tys(tys)), cx.depth(tys), binders)
 }
 
 /// The visit of a list of arguments.
-#[cycle(visits)]
 pub fn visit_args<V: TypeVisitor>(
     cx: &Interner,
     visitor: &mut V,
@@ -204,17 +175,16 @@ pub fn visit_args<V: TypeVisitor>(
     ensures ready { V.ready visitor.new cx.now.entries }
     ensures visited { Visits (V.sees cx.now.entries) (counts_of binders.now) (trees_at cx.now.entries args.0) visitor.old visitor.new (break_value result) }
 {
-    for arg in cx.args(args) {
-        match visit_arg(cx, visitor, *arg, binders) {
-            ControlFlow::Break(value) => return ControlFlow::Break(value),
-            ControlFlow::Continue(()) => {}
-        }
-    }
-    ControlFlow::Continue(())
+    visit_part(
+        cx,
+        visitor,
+        Part::Args(cx.args(args)),
+        cx.depth(args),
+        binders,
+    )
 }
 
 /// The visit of an argument.
-#[cycle(visits)]
 pub(crate) fn visit_arg<V: TypeVisitor>(
     cx: &Interner,
     visitor: &mut V,
@@ -234,7 +204,6 @@ pub(crate) fn visit_arg<V: TypeVisitor>(
 }
 
 /// The visit of the bounds of a `dyn` type.
-#[cycle(visits)]
 pub(crate) fn visit_bounds<V: TypeVisitor>(
     cx: &Interner,
     visitor: &mut V,
@@ -246,11 +215,5 @@ pub(crate) fn visit_bounds<V: TypeVisitor>(
     ensures ready { V.ready visitor.new cx.now.entries }
     ensures visited { Visits (V.sees cx.now.entries) (counts_of binders.now) (trees_at cx.now.entries bounds.0) visitor.old visitor.new (break_value result) }
 {
-    match cx.bounds(bounds).principal {
-        Some(principal) => {
-            let inside = Binders::Inside(principal.bound_vars, &*binders);
-            visit_args(cx, visitor, principal.args, &inside)
-        }
-        None => ControlFlow::Continue(()),
-    }
+    visit_part(cx, visitor, Part::Bounds(bounds), cx.depth(bounds), binders)
 }

@@ -375,6 +375,11 @@ impl Interner {
         self.info(handle.number()).depth
     }
 
+    /// The allocator that the interner takes its memory from: a walk of deep terms keeps its list there.
+    pub fn allocator(&self) -> Global {
+        *self.nodes.allocator()
+    }
+
     /// What is true of the terms of every interner: handles of one kind are equal exactly if their trees are, a
     /// type stands for one type, a constant for one constant, and terms are made as they are to be. Lifetimes and
     /// variables are leaves, no variable has a number above `MAX_INDEX`, and a `dyn` type has its principal trait
