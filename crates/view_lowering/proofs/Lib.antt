@@ -27,6 +27,6 @@ pub mod WellSeen
 pub mod Matched
 mod Told
 mod ReadySeen
-mod Variables
+pub mod Variables
 mod QuestionTypes
 mod QuestionTexts

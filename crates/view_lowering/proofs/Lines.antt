@@ -13,7 +13,7 @@ use Rattle.text_definitions.specs.Faults.{with_own, is_among}
 use Rattle.text_definitions.specs.Lowering.{place_among, type_tree, field_trees}
 use Rattle.text_definitions.specs.Adding.{item_meanings}
 use Rattle.assembly_laws.specs.DeclaredWell.{is_single}
-use Rattle.view_lowering.specs.Plain.{all_kept}
+use Rattle.view_lowering.specs.Plain.{none_kept}
 use Rattle.view_lowering.proofs.Sorts.{has_sort}
 use Rattle.view_lowering.proofs.Tests.{is_good}
 use Rattle.view_lowering.proofs.Scalars.{ScalarTypes}
@@ -121,10 +121,10 @@ type-single d l first (fn_to b ts r) = refl
 type-single d l first (dyn_of i is) = refl
 
 pub fields-good : (d : Declarations) (l : Line) (fs : Types) → ScalarTypes fs → AllFit d l (types_uses (with_own d l) [] fs)
-    → list_all (λ t. is_good all_kept (kinds_of (params_of l)) t && is_single t) (field_trees (item_meanings d l 0) fs) ≡ true
+    → list_all (λ t. is_good none_kept (kinds_of (params_of l)) t && is_single t) (field_trees (item_meanings d l 0) fs) ≡ true
 fields-good d l no_types f h = refl
 fields-good d l (and_type t ts) f h =
     and _ _
     (and _ _
-    (good-test all_kept (kinds_of (params_of l)) (type_tree (item_meanings d l 0) [] of_type t) (good-type all_kept (kinds_of (params_of l)) d l 0 (kinds-numbered l) [] t f.0 (first-fit d l (type_uses (with_own d l) [] of_type t) (types_uses (with_own d l) [] ts) h)))
+    (good-test none_kept (kinds_of (params_of l)) (type_tree (item_meanings d l 0) [] of_type t) (good-type none_kept (kinds_of (params_of l)) d l 0 (kinds-numbered l) [] t f.0 (first-fit d l (type_uses (with_own d l) [] of_type t) (types_uses (with_own d l) [] ts) h)))
     (type-single d l 0 t)) (fields-good d l ts f.1 (rest-fit d l (type_uses (with_own d l) [] of_type t) (types_uses (with_own d l) [] ts) h))

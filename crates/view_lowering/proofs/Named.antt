@@ -1,15 +1,14 @@
 -- The cells name a lifetime parameter exactly if it stands in the trees that they stand for.
-use Rattle.std.proofs.Common.{◌≡◌, ℕ, zero, suc, ◌+◌, Bool, true, false, ◌||◌, cond, List, [], ◌∷◌, ◌++◌, length, map, Option, Some, None, IsSome, refl, sym, ap, ◌∙◌, subst, arith}
+use Rattle.std.proofs.Common.{◌≡◌, ℕ, zero, suc, Bool, true, false, ◌||◌, List, [], ◌∷◌, length, Option, Some, None, refl, sym, ap, ◌∙◌, arith}
 use Rattle.std.proofs.lemmas.List.{reverse-append}
 use Rattle.std.proofs.lemmas.List.Folds.{list_any-append}
 use Rattle.std.proofs.lemmas.Option.{same_Some}
 use Rattle.std.specs.Prelude.{reverse, if◌then◌else◌}
-use Rattle.std.specs.Borrow.{Bor}
 use Rattle.std.specs.List.{list_any, list_all}
 use Rattle.std.specs.Option.{option_map, option_and_then}
 use Rattle.model.specs.Label.{Label}
-use Rattle.model.specs.Trees.{Trees, none, tree, leaf, some_node, ◌+++◌}
-use Rattle.type_terms.specs.Kinds.{region_label, const_label}
+use Rattle.model.specs.Trees.{Trees, none, tree, some_node, ◌+++◌}
+use Rattle.type_terms.specs.Kinds.{const_label}
 use Rattle.type_terms.specs.declared.kinds.ConstKind.{ConstKind}
 use Rattle.type_terms.specs.declared.kinds.ConstKind.TheVariants as consts
 use Rattle.type_terms.specs.declared.number.BoundVarIndexKind.TheVariants as binder

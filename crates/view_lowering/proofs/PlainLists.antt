@@ -11,7 +11,6 @@ use Rattle.workspace.specs.declared.declared.ReferenceCells.{ReferenceCells}
 use Rattle.view_lowering.specs.Plain.{plain_reference}
 use Rattle.workspace.specs.declared.cell.TermCell.{TermCell}
 use Rattle.view_lowering.specs.PlainCells.{plain_cell}
-use Rattle.view_lowering.proofs.References.{one-more-read}
 
 -- these cells are those, made plain
 pub record ArePlain (k : ℕ → Bool) (cs out : List TermCell) : Type 0 where

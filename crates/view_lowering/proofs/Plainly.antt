@@ -1,11 +1,11 @@
 -- Terms with the lifetimes that are kept: up to lifetimes they are what they were, and the cells that stand for them are made as before.
-use Rattle.std.proofs.Common.{◌≡◌, ℕ, zero, suc, ◌+◌, Bool, true, false, ◌||◌, List, [], ◌∷◌, ◌++◌, map, Option, Some, None, refl, sym, ap, ◌∙◌, subst}
+use Rattle.std.proofs.Common.{◌≡◌, ℕ, zero, suc, Bool, true, false, List, [], ◌∷◌, ◌++◌, map, refl, sym, ap, ◌∙◌}
 use Rattle.std.proofs.lemmas.List.{map_push, reverse-append}
 use Rattle.std.specs.Prelude.{reverse, if◌then◌else◌}
-use Rattle.model.specs.Label.{Label, Sort, of_lifetime, of_type, of_const, bool, char, str, never, array, slice, tuple, dynamic, static, int, uint, adt, fn_ptr, auto_trait, value, ref, raw_pointer, principal, param, placeholder, infer, canonical, bound, predicate}
-use Rattle.model.specs.Trees.{Trees, none, tree, leaf, erase, erase_label, ◌+++◌}
+use Rattle.model.specs.Label.{Label, of_lifetime, of_type, of_const, static, fn_ptr, principal, param, placeholder, infer, canonical, bound}
+use Rattle.model.specs.Trees.{Trees, none, tree, erase, erase_label, ◌+++◌}
 use Rattle.model.specs.Terms.{erased_reference, erased_struct, erased_trait, erased_impl, erased_world}
-use Rattle.model.specs.Worlds.{World, Reference, StructDecl, TraitDecl, ImplDecl, CrateDecl}
+use Rattle.model.specs.Worlds.{World, Reference, StructDecl, TraitDecl, ImplDecl}
 use Rattle.declarations.specs.Heads.{begins_declared}
 use Rattle.workspace.specs.TermCells.{TermCell, node_cell, reference_cell, gathered, below, behind_cell, behind_cells, trees_of, joined}
 use Rattle.view_lowering.specs.Plain.{plain_label, plain, plain_reference, plain_struct, plain_trait, plain_impl, plain_world, all_kept, none_kept, stands_in}
@@ -57,7 +57,7 @@ reference-erased : (k : ℕ → Bool) (r : Reference) → erased_reference (plai
 reference-erased k r = ap (λ z. (let x : Reference = record { trait = r.trait; args = z } in x)) (plain-erased k r.args)
 
 struct-erased : (x : StructDecl) → erased_struct (plain_struct x) ≡ erased_struct x
-struct-erased x = ap (λ z. (let y : StructDecl = record { name = x.name; home = x.home; is_fundamental = x.is_fundamental; fields = z } in y)) (map-again (plain all_kept) erase (plain-erased all_kept) x.fields)
+struct-erased x = ap (λ z. (let y : StructDecl = record { name = x.name; home = x.home; is_fundamental = x.is_fundamental; fields = z } in y)) (map-again (plain none_kept) erase (plain-erased none_kept) x.fields)
 
 trait-erased : (x : TraitDecl) → erased_trait (plain_trait x) ≡ erased_trait x
 trait-erased x =

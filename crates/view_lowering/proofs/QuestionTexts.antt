@@ -1,20 +1,16 @@
 -- A `refute` question of a text without a fault speaks of its variables alone.
-use Rattle.std.proofs.Common.{◌≡◌, ◌<◌, ℕ, zero, suc, arith, ltb, Bool, true, false, not, ◌&&◌, ◌||◌, List, [], ◌∷◌, ◌++◌, map, length, Some, None, Result, Ok, Err, refl, sym, ap, ◌∙◌, subst}
+use Rattle.std.proofs.Common.{◌≡◌, ◌<◌, ℕ, zero, suc, arith, ltb, Bool, true, false, not, ◌||◌, List, [], ◌∷◌, map, length, Some, None, Result, Ok, Err, refl, sym, ap, ◌∙◌, subst}
 use Rattle.std.proofs.lemmas.Bool.{eqb-true}
 use Rattle.std.proofs.lemmas.Bool.Decides.{nat_tests}
 use Rattle.std.proofs.lemmas.Option.{same_Some}
-use Rattle.std.proofs.lemmas.Slice.Eq.{bytes_eq-Decides}
-use Rattle.std.specs.Prelude.{◌==◌, slice_get, filter}
-use Rattle.std.specs.List.{list_any}
-use Rattle.std.specs.Str.{bytes_eq}
-use Rattle.model.specs.Label.{Label, Sort, of_type, of_const, of_lifetime, fn_ptr, principal, param, bound, infer}
-use Rattle.model.specs.Trees.{Trees, none, tree, some_node, is_sort}
-use Rattle.infer_table.proofs.SolutionLaws.{is_sort-self}
-use Rattle.text_definitions.specs.Syntax.{Params, Bound, Clause, Types, Line, crate_line, struct_line, trait_line, impl_line, prove_line, refute_line}
+use Rattle.std.specs.Prelude.{◌==◌, slice_get}
+use Rattle.model.specs.Label.{Label, Sort, of_type, of_const, of_lifetime, fn_ptr, principal, param, bound}
+use Rattle.model.specs.Trees.{Trees, none, tree, some_node}
+use Rattle.text_definitions.specs.Syntax.{Params, Clause, Line, crate_line, struct_line, trait_line, impl_line, prove_line, refute_line}
 use Rattle.text_definitions.specs.Declarations.{Declarations, Question, Variable, nothing_declared, kinds_of}
 use Rattle.text_definitions.specs.Uses.{Use, variable_use, clause_uses}
-use Rattle.text_definitions.specs.Faults.{fault_of, variables_in, once, is_of_other_kind}
-use Rattle.text_definitions.specs.Lowering.{Meanings, place_among, clause_reference}
+use Rattle.text_definitions.specs.Faults.{fault_of, variables_in, once}
+use Rattle.text_definitions.specs.Lowering.{clause_reference}
 use Rattle.text_definitions.specs.Adding.{added, question_of, question_meanings}
 use Rattle.text_definitions.specs.Written.{IsWritten}
 use Rattle.text_definitions.specs.Text.{LineGives, other_byte, blank, unwritten, faulty, adds, LinesGive, ends, fails, goes_on, TextGives, too_long, fits}
@@ -23,17 +19,13 @@ use Rattle.line_reader.specs.Faultless.{UsesFit}
 use Rattle.line_reader.proofs.NoFault.{passes-tests}
 use Rattle.line_reader.proofs.FittingUses.{faultless-uses}
 use Rattle.view_lowering.specs.Plain.{plain, plain_label, all_kept}
-use Rattle.view_lowering.specs.QuestionVariables.{number_of, is_stray, HasVariablesAlone, RefutationsHaveVariablesAlone}
+use Rattle.view_lowering.specs.QuestionVariables.{is_stray, HasVariablesAlone, RefutationsHaveVariablesAlone}
 use Rattle.view_lowering.proofs.Applied.{each-more}
 use Rattle.view_lowering.proofs.ScalarTokens.{refute-scalars}
-use Rattle.view_lowering.proofs.Trees.{or-left, or-right}
-use Rattle.view_lowering.proofs.Variables.{holds, place-below, one-kind}
+use Rattle.view_lowering.proofs.Variables.{ArePlaced, are-placed}
 use Rattle.view_lowering.proofs.QuestionTypes.{bare, line, means, AllIn, good-asked}
 
 -- ---- variables have places
-name-self : (n : List ℕ) → bytes_eq n n ≡ true
-name-self n = (bytes_eq-Decides n n).1 refl
-
 below-fine : (i n : ℕ) → i < n → not (ltb i n) ≡ false
 below-fine i n h = by (ltb i n) refl
   where
@@ -41,40 +33,16 @@ below-fine i n h = by (ltb i n) refl
     by true e = refl
     by false e = absurd (grind (arith, nat_tests))
 
-held-here : (n : List ℕ) (p : Sort) (vs : List (List ℕ × Sort)) → (bytes_eq n n && is_sort p p) || holds n p vs ≡ true
-held-here n p vs = ap (λ b. (b && is_sort p p) || holds n p vs) (name-self n) ∙ ap (λ b. b || holds n p vs) (is_sort-self p)
-
-held-behind : (n : List ℕ) (p : Sort) (v : List ℕ × Sort) (vs : List (List ℕ × Sort)) → holds n p vs ≡ true → (bytes_eq v.0 n && is_sort v.1 p) || holds n p vs ≡ true
-held-behind n p v vs h = by (bytes_eq v.0 n && is_sort v.1 p)
-  where
-    by : (b : Bool) → b || holds n p vs ≡ true
-    by true = refl
-    by false = h
-
 module _ (d : Declarations) (c : List ℕ) (a : Clause) (all : List (List ℕ × Sort)) where
   abbrev vars : List (List ℕ × Sort)
   vars = once all
 
-  placed : (n : List ℕ) (p : Sort) → holds n p all ≡ true → list_any (is_of_other_kind (n, p)) all ≡ false
-      → place_among n (map (λ v. v.0) (filter (λ v. is_sort v.1 p) vars)) < number_of p (map (λ v. v.1) vars)
-  placed n p h o = place-below n p all (one-kind n p all o) h
-
-  uses-in : (us : List Use) → ((n : List ℕ) (p : Sort) → holds n p (variables_in us) ≡ true → holds n p all ≡ true) → list_any (λ v. list_any (is_of_other_kind v) all) (variables_in us) ≡ false
-      → UsesFit d (line d c a vars) us → AllIn d c a vars us
-  uses-in [] h o f = tt
-  uses-in (variable_use of_type n ∷ us) h o f = (
-    (f.0, below-fine _ _ (placed n of_type (h n of_type (held-here n of_type (variables_in us))) (or-left (list_any (is_of_other_kind (n, of_type)) all) _ o))),
-    uses-in us (λ m q g. h m q (held-behind m q (n, of_type) (variables_in us) g)) (or-right (list_any (is_of_other_kind (n, of_type)) all) _ o) f.1,
-  )
-  uses-in (variable_use of_const n ∷ us) h o f = (
-    (f.0, below-fine _ _ (placed n of_const (h n of_const (held-here n of_const (variables_in us))) (or-left (list_any (is_of_other_kind (n, of_const)) all) _ o))),
-    uses-in us (λ m q g. h m q (held-behind m q (n, of_const) (variables_in us) g)) (or-right (list_any (is_of_other_kind (n, of_const)) all) _ o) f.1,
-  )
-  uses-in (variable_use of_lifetime n ∷ us) h o f = (
-    (f.0, tt),
-    uses-in us (λ m q g. h m q (held-behind m q (n, of_lifetime) (variables_in us) g)) (or-right (list_any (is_of_other_kind (n, of_lifetime)) all) _ o) f.1,
-  )
-  uses-in (u ∷ us) h o f = ((f.0, tt), uses-in us h o f.1)
+  uses-in : (us : List Use) → ArePlaced all (variables_in us) → UsesFit d (line d c a vars) us → AllIn d c a vars us
+  uses-in [] h f = tt
+  uses-in (variable_use of_type n ∷ us) h f = ((f.0, below-fine _ _ h.0), uses-in us h.1 f.1)
+  uses-in (variable_use of_const n ∷ us) h f = ((f.0, below-fine _ _ h.0), uses-in us h.1 f.1)
+  uses-in (variable_use of_lifetime n ∷ us) h f = ((f.0, tt), uses-in us h.1 f.1)
+  uses-in (u ∷ us) h f = ((f.0, tt), uses-in us h f.1)
 
 -- ---- lifetimes change nothing
 label-stray : (ks : List Sort) (l : Label) → is_stray ks (plain_label all_kept l) ≡ is_stray ks l
@@ -120,7 +88,7 @@ bare-alone : (d : Declarations) (text : List ℕ) (c : List ℕ) (a : Clause) �
 bare-alone d text c a w f =
     let all = variables_in (clause_uses d a) in
     let p = passes-tests d (refute_line c bare a) f in
-    let good = good-asked d c a (once all) (refute-scalars text c bare a w) (uses-in d c a all (clause_uses d a) (λ n q h. h) p.has_asked_variables (faultless-uses d (refute_line c bare a) f).1) in
+    let good = good-asked d c a (once all) (refute-scalars text c bare a w) (uses-in d c a all (clause_uses d a) (are-placed all all (λ n q h. h) p.has_asked_variables) (faultless-uses d (refute_line c bare a) f).1) in
     ap (λ ks. some_node (is_stray ks) (plain all_kept (clause_reference (means d c a (once all)) a).args)) (sym (map-twice (once all)))
     ∙ plain-stray (map (λ v. v.1) (once all)) (clause_reference (means d c a (once all)) a).args ∙ good
 

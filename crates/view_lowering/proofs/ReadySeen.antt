@@ -49,10 +49,10 @@ module _ (d : text.Declarations) (c : ℕ) (w : Well d) (es : List Entry) (decls
 
   struct-speaks : (x : AdtId × AdtDef) → IsStruct x → Each (λ (f : Ty). SpeaksOf (struct_sorts x) (trees_at es f.0)) x.1.fields.items
   struct-speaks x n =
-      let Q = λ (t : Trees). is_good all_kept n.0.kinds t && is_single t ≡ true in
-      each-map (λ (y : Ty). (t : Trees) × Q t × (trees_at es y.0 ≡ plain all_kept t)) (λ (f : Ty). SpeaksOf (struct_sorts x) (trees_at es f.0))
-      (λ y m. good-speaks all_kept n.0.kinds (struct_sorts x) m.0 (trees_at es y.0) (and-left _ _ m.1) m.2 n.3) x.1.fields.items
-      (parts-matched Q (plain all_kept) (λ (y : Ty). trees_at es y.0) n.0.item.fields x.1.fields.items (each-true (λ t. is_good all_kept n.0.kinds t && is_single t) n.0.item.fields n.1) (ap (λ (s : StructDecl). s.fields) n.2))
+      let Q = λ (t : Trees). is_good none_kept n.0.kinds t && is_single t ≡ true in
+      each-map (λ (y : Ty). (t : Trees) × Q t × (trees_at es y.0 ≡ plain none_kept t)) (λ (f : Ty). SpeaksOf (struct_sorts x) (trees_at es f.0))
+      (λ y m. good-speaks none_kept n.0.kinds (struct_sorts x) m.0 (trees_at es y.0) (and-left _ _ m.1) m.2 n.3) x.1.fields.items
+      (parts-matched Q (plain none_kept) (λ (y : Ty). trees_at es y.0) n.0.item.fields x.1.fields.items (each-true (λ t. is_good none_kept n.0.kinds t && is_single t) n.0.item.fields n.1) (ap (λ (s : StructDecl). s.fields) n.2))
 
   pub fields-speak : FieldsSpeak es decls
   fields-speak = each-map IsStruct (λ (x : AdtId × AdtDef). Each (λ (f : Ty). SpeaksOf (struct_sorts x) (trees_at es f.0)) x.1.fields.items) struct-speaks decls.structs structs-matched

@@ -55,7 +55,7 @@ pub good-fits : (kept : ℕ → Bool) (sorts : List Sort) (t : Trees) → is_goo
 good-fits kept sorts t h = not-false _ (and-right (is_made is_declared terms (plain kept t)) _ h)
 
 pub struct-terms : (x : NamedStruct) → is_good_struct x ≡ true → list_all are_terms (plain_struct x.item).fields ≡ true
-struct-terms x h = all-mapped (plain all_kept) are_terms (λ t. is_good all_kept x.kinds t && is_single t) (λ t g. good-terms all_kept x.kinds t (and-left _ _ g)) x.item.fields h
+struct-terms x h = all-mapped (plain none_kept) are_terms (λ t. is_good none_kept x.kinds t && is_single t) (λ t g. good-terms none_kept x.kinds t (and-left _ _ g)) x.item.fields h
 
 pub trait-terms : (x : NamedTrait) → is_good_trait x ≡ true → are_references (plain_trait x.item).bounds ≡ true
 trait-terms x h =
@@ -76,7 +76,7 @@ single-plain k (tree l c none) h = refl
 single-plain k (tree l c (tree m d o)) h = h
 
 pub struct-single : (x : NamedStruct) → is_good_struct x ≡ true → list_all is_single (plain_struct x.item).fields ≡ true
-struct-single x h = all-mapped (plain all_kept) is_single (λ t. is_good all_kept x.kinds t && is_single t) (λ t g. single-plain all_kept t (and-right (is_good all_kept x.kinds t) _ g)) x.item.fields h
+struct-single x h = all-mapped (plain none_kept) is_single (λ t. is_good none_kept x.kinds t && is_single t) (λ t g. single-plain none_kept t (and-right (is_good none_kept x.kinds t) _ g)) x.item.fields h
 
 -- ---- bounds hold no lifetime parameters
 erased-label : (l : Label) → is_lifetime_parameter (plain_label none_kept l) ≡ false
@@ -90,7 +90,7 @@ erased-label (fn_ptr n) = refl
 erased-label (principal n t) = refl
 erased-label l = refl
 
-none-left : (t : Trees) → some_node is_lifetime_parameter (plain none_kept t) ≡ false
+pub none-left : (t : Trees) → some_node is_lifetime_parameter (plain none_kept t) ≡ false
 none-left none = refl
 none-left (tree l c o) = or _ _ (or _ _ (erased-label l) (none-left c)) (none-left o)
 

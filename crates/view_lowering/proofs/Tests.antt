@@ -18,7 +18,7 @@ abbrev pub is_good : (ℕ → Bool) → List Sort → Trees → Bool
 is_good kept sorts t = is_made is_declared terms (plain kept t) && not (some_node (is_bad sorts) (plain kept t))
 
 abbrev pub is_good_struct : NamedStruct → Bool
-is_good_struct x = list_all (λ t. is_good all_kept x.kinds t && is_single t) x.item.fields
+is_good_struct x = list_all (λ t. is_good none_kept x.kinds t && is_single t) x.item.fields
 
 -- the bounds' traits are declared before
 abbrev pub is_good_trait : NamedTrait → Bool

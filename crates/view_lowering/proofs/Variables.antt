@@ -1,6 +1,5 @@
 -- The variables of a question have places among those of their kinds.
-use Rattle.std.proofs.Common.{◌≡◌, ℕ, zero, suc, ◌<◌, arith, ltb, Bool, true, false, not, ◌&&◌, ◌||◌, if◌then◌else◌, List, [], ◌∷◌, map, length, refl, sym, ap, ◌∙◌, subst, ◌⊎◌, inl, inr}
-use Rattle.std.proofs.lemmas.Bool.Decides.{nat_tests}
+use Rattle.std.proofs.Common.{◌≡◌, ℕ, suc, ◌<◌, arith, Bool, true, false, not, ◌&&◌, ◌||◌, if◌then◌else◌, List, [], ◌∷◌, map, length, refl, sym, ap, ◌∙◌, subst}
 use Rattle.std.proofs.lemmas.Slice.Eq.{bytes_eq-Decides}
 use Rattle.std.specs.Prelude.{filter}
 use Rattle.std.specs.List.{list_any}
@@ -50,7 +49,7 @@ count-is p (v ∷ vs) = by (is_sort v.1 p) (count-is p vs)
 
 -- ---- each variable once
 -- another of the same name is of the same kind
-abbrev pub OneKind : List ℕ → Sort → Variables → Type 0
+abbrev OneKind : List ℕ → Sort → Variables → Type 0
 OneKind n p [] = Unit {0}
 OneKind n p (v ∷ vs) = (bytes_eq v.0 n ≡ true → is_sort v.1 p ≡ true) × OneKind n p vs
 
@@ -81,7 +80,7 @@ once-holds n p (v ∷ vs) o h = by (bytes_eq v.0 n) refl h (once-holds n p vs o.
     by true e g r = ap (λ z. (z && is_sort v.1 p) || holds n p (filter (λ w. not (bytes_eq w.0 v.0)) (once vs))) e ∙ ap (λ z. z || holds n p (filter (λ w. not (bytes_eq w.0 v.0)) (once vs))) (o.0 e)
     by false e g r = ap (λ z. (z && is_sort v.1 p) || holds n p (filter (λ w. not (bytes_eq w.0 v.0)) (once vs))) e ∙ kept-there n v.0 p e (once vs) (r g)
 
-pub place-below : (n : List ℕ) (p : Sort) (vs : Variables) → OneKind n p vs → holds n p vs ≡ true → place_among n (map (λ v. v.0) (filter (λ v. is_sort v.1 p) (once vs))) < number_of p (map (λ v. v.1) (once vs))
+place-below : (n : List ℕ) (p : Sort) (vs : Variables) → OneKind n p vs → holds n p vs ≡ true → place_among n (map (λ v. v.0) (filter (λ v. is_sort v.1 p) (once vs))) < number_of p (map (λ v. v.1) (once vs))
 place-below n p vs o h =
     subst (λ k. place_among n (map (λ v. v.0) (filter (λ v. is_sort v.1 p) (once vs))) < k) (count-is p (once vs))
     (among-below n (map (λ v. v.0) (filter (λ v. is_sort v.1 p) (once vs))) (names-hold n p (once vs) (once-holds n p vs o h)))
@@ -103,8 +102,32 @@ flip-name a b h = (bytes_eq-Decides b a).1 (sym ((bytes_eq-Decides a b).0 h))
 flip-sort : (p q : Sort) → is_sort p q ≡ true → is_sort q p ≡ true
 flip-sort p q h = subst (λ z. is_sort z p ≡ true) (is_sort-equal p q h) (is_sort-self p)
 
-pub one-kind : (n : List ℕ) (p : Sort) (vs : Variables) → list_any (is_of_other_kind (n, p)) vs ≡ false → OneKind n p vs
+one-kind : (n : List ℕ) (p : Sort) (vs : Variables) → list_any (is_of_other_kind (n, p)) vs ≡ false → OneKind n p vs
 one-kind n p [] h = tt
 one-kind n p (v ∷ vs) h =
     let x = either (bytes_eq n v.0 && not (is_sort p v.1)) (list_any (is_of_other_kind (n, p)) vs) h in
     ((λ e. flip-sort p v.1 (agrees (bytes_eq n v.0) (is_sort p v.1) x.0 (flip-name v.0 n e))), one-kind n p vs x.1)
+
+-- ---- all variables of a list
+held-here : (n : List ℕ) (p : Sort) (vs : Variables) → (bytes_eq n n && is_sort p p) || holds n p vs ≡ true
+held-here n p vs = ap (λ b. (b && is_sort p p) || holds n p vs) ((bytes_eq-Decides n n).1 refl) ∙ ap (λ b. b || holds n p vs) (is_sort-self p)
+
+held-behind : (n : List ℕ) (p : Sort) (v : List ℕ × Sort) (vs : Variables) → holds n p vs ≡ true → (bytes_eq v.0 n && is_sort v.1 p) || holds n p vs ≡ true
+held-behind n p v vs h = by (bytes_eq v.0 n && is_sort v.1 p)
+  where
+    by : (b : Bool) → b || holds n p vs ≡ true
+    by true = refl
+    by false = h
+
+-- each of these has its place among all of its kind, each taken once
+abbrev pub ArePlaced : Variables → Variables → Type 0
+ArePlaced all [] = Unit {0}
+ArePlaced all (v ∷ vs) = (place_among v.0 (map (λ w. w.0) (filter (λ w. is_sort w.1 v.1) (once all))) < number_of v.1 (map (λ w. w.1) (once all))) × ArePlaced all vs
+
+pub are-placed : (all vs : Variables) → ((n : List ℕ) (p : Sort) → holds n p vs ≡ true → holds n p all ≡ true) → list_any (λ v. list_any (is_of_other_kind v) all) vs ≡ false → ArePlaced all vs
+are-placed all [] h o = tt
+are-placed all (v ∷ vs) h o =
+    let x = either (list_any (is_of_other_kind v) all) (list_any (λ w. list_any (is_of_other_kind w) all) vs) o in (
+      place-below v.0 v.1 all (one-kind v.0 v.1 all x.0) (h v.0 v.1 (held-here v.0 v.1 vs)),
+      are-placed all vs (λ n p g. h n p (held-behind n p v vs g)) x.1,
+    )

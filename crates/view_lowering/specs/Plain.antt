@@ -1,6 +1,6 @@
 -- Declarations and questions as goals are made of them: they bind no lifetimes. A lifetime that a `for<..>` binds is `'static`, and so are
--- a parameter of an impl that stands in its where-clauses alone and each parameter in the bounds of a trait. Up to lifetimes nothing
--- changes.
+-- a parameter of an impl that stands in its where-clauses alone and each parameter in the fields of a struct and the bounds of a trait.
+-- Up to lifetimes nothing changes.
 use Rattle.std.specs.Prelude.{ℕ, zero, Bool, true, false, ◌==◌, List, map, if◌then◌else◌}
 use Rattle.model.specs.Label.{Label, of_lifetime, static, fn_ptr, principal, param, bound}
 use Rattle.model.specs.Trees.{Trees, none, tree, some_node}
@@ -47,7 +47,7 @@ abbrev pub stands_in : Trees → ℕ → Bool
 stands_in t i = some_node (is_lifetime i) t
 
 abbrev pub plain_struct : StructDecl → StructDecl
-plain_struct x = record x { fields = map (plain all_kept) x.fields }
+plain_struct x = record x { fields = map (plain none_kept) x.fields }
 
 abbrev pub plain_trait : TraitDecl → TraitDecl
 plain_trait x = record x { bounds = map (plain_reference none_kept) x.bounds }

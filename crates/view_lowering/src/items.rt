@@ -19,7 +19,7 @@ use type_terms::Fault;
 use type_terms::interner::Interner;
 use workspace::{ImplEntry, Param, ParamKind, StructEntry, TraitEntry, lower_types};
 
-/// The struct of a row, with the lifetimes that its fields name.
+/// The struct of a row. Its fields hold no lifetime but `'static`.
 pub(crate) fn lower_struct(
     alloc: Global,
     cx: &mut Interner,
@@ -34,7 +34,7 @@ pub(crate) fn lower_struct(
 {
     let mut params = Vec::new(alloc);
     push_params(&mut params, &entry.params)?;
-    let cells = plain_cells(alloc, &entry.fields, Kept::All)?;
+    let cells = plain_cells(alloc, &entry.fields, Kept::None)?;
     let fields = lower_types(alloc, cx, &cells)?;
     AdtDef::new(alloc, cx, entry.owner, entry.is_fundamental, params, fields)
 }

@@ -7,7 +7,7 @@ use Rattle.declarations.proofs.Growth.{reference-kept, reference-same, args-same
 use Rattle.workspace.specs.Made.{ReferencesMade, is_arg}
 use Rattle.workspace.specs.Views.{sort_of_kind, sorted_params, reference_of}
 use Rattle.workspace.specs.declared.declared.Param.{Param}
-use Rattle.view_lowering.specs.Plain.{all_kept, stands_in, plain_reference, unbound_reference}
+use Rattle.view_lowering.specs.Plain.{all_kept, stands_in, plain_reference}
 use Rattle.view_lowering.specs.PlainCells.{named_in}
 use Rattle.view_lowering.proofs.Plainly.{references-same, begins-plain}
 use Rattle.view_lowering.proofs.Named.{named-stands}

@@ -2,7 +2,7 @@ use Rattle.std.proofs.Common.{ap, sym, subst, ◌∙◌, map}
 use Rattle.workspace.specs.Made.{AreMade, is_type}
 use Rattle.workspace.specs.TermCells.{trees_of}
 use Rattle.workspace.specs.Views.{cells_of}
-use Rattle.view_lowering.specs.Plain.{all_kept, plain}
+use Rattle.view_lowering.specs.Plain.{none_kept, plain}
 use Rattle.view_lowering.specs.PlainCells.{plain_cell}
 use Rattle.view_lowering.proofs.Plainly.{trees-plain}
 use Rattle.view_lowering.proofs.Structs.{struct-lowered}
@@ -14,5 +14,5 @@ lower_types-requires c = subst (AreMade is_type) (sym c.deref-3.ensures.value) (
 pub returns-clause-is : goal.returns-clause-is
 returns-clause-is c =
     let cs = cells_of c.args.entry.now.fields.items in
-    struct-lowered c.lower_types.new.cx.entries c.args.entry.now.id c.new.result c.args.entry.now.owner c.args.entry.now.is_fundamental c.in_ok-fields.fields (map (plain all_kept) (trees_of cs)) c.new.ensures.home c.new.ensures.is_fundamental c.new.ensures.fields
-    (c.in_ok-fields.ensures.is ∙ ap (λ x. trees_of (cells_of x)) c.deref-3.ensures.value ∙ ap trees_of (c.in_ok-cells.ensures.are ∙ ap (λ x. map (plain_cell all_kept) (cells_of x)) c.deref-2.ensures.value) ∙ trees-plain all_kept cs)
+    struct-lowered c.lower_types.new.cx.entries c.args.entry.now.id c.new.result c.args.entry.now.owner c.args.entry.now.is_fundamental c.in_ok-fields.fields (map (plain none_kept) (trees_of cs)) c.new.ensures.home c.new.ensures.is_fundamental c.new.ensures.fields
+    (c.in_ok-fields.ensures.is ∙ ap (λ x. trees_of (cells_of x)) c.deref-3.ensures.value ∙ ap trees_of (c.in_ok-cells.ensures.are ∙ ap (λ x. map (plain_cell none_kept) (cells_of x)) c.deref-2.ensures.value) ∙ trees-plain none_kept cs)
