@@ -53,3 +53,4 @@ pub mod Answering
 pub mod Answered
 pub mod Posing
 pub mod ClausesApply
+pub mod SolversClauses

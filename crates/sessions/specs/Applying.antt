@@ -8,6 +8,10 @@ use Rattle.text_definitions.specs.Text.{TextGives}
 use Rattle.view_lowering.specs.Questions.{IsQuestion, IsLowered}
 use Rattle.view_lowering.specs.Ready.{AreSeen}
 use Rattle.view_lowering.specs.declared.question.LoweredQuestion.{LoweredQuestion}
+use Rattle.candidate_assembly.specs.Fitting.{solving_of}
+use Rattle.sessions.specs.Proving.{ClausesApply}
+use Rattle.sessions.specs.Sessions.{IsSolvingOf}
+use Rattle.sessions.specs.Subjects.{IsOfText}
 
 -- The where-clauses of a question of a text without a fault have an argument for each parameter of their traits, by what the crate that
 -- asks sees, over whatever terms they are lowered to.
@@ -15,3 +19,9 @@ abbrev pub TextsClausesApply : Type 0
 TextsClausesApply =
     (bytes : List ℕ) (d : text.Declarations) → TextGives bytes (Ok d) → (n : ℕ) (q : text.Question) → IsQuestion d n q
     → (es : List Entry) (decls : Items) → AreSeen es decls d q.asker → (held : List Entry) (l : LoweredQuestion) → IsLowered held q l → AreApplied held decls l.clauses.items
+
+-- They have it also by any declarations that mean for the solver what the crate that asks sees.
+abbrev pub SolversClausesApply : Type 0
+SolversClausesApply =
+    (d : text.Declarations) → IsOfText d → (n : ℕ) (q : text.Question) → IsQuestion d n q
+    → (es : List Entry) (decls : Items) → IsSolvingOf d q.asker (solving_of es decls) → ClausesApply decls q

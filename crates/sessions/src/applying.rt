@@ -1,9 +1,10 @@
 //! Mathematics without running code: the where-clauses of questions can be elaborated.
 
-ghost use Rattle.sessions.specs.Applying.{TextsClausesApply};
+ghost use Rattle.sessions.specs.Applying.{TextsClausesApply, SolversClausesApply};
 
 /// The where-clauses of a question of a text without a fault have an argument for each parameter of their traits, by what the crate that
-/// asks sees of the text.
+/// asks sees of the text, and by all declarations that mean the same for the solver.
 pub(crate) fn clauses_apply()
-    ensures { TextsClausesApply }
+    ensures seen { TextsClausesApply }
+    ensures solved { SolversClausesApply }
 {}
