@@ -1,8 +1,9 @@
 -- What a session answers, over the terms of its interner.
 use Rattle.std.specs.Prelude.{List, map}
 use Rattle.model.specs.Trees.{erase}
-use Rattle.type_terms.specs.Kinds.{arg_trees}
+use Rattle.type_terms.specs.Kinds.{arg_trees, ArgsHeld}
 use Rattle.type_terms.specs.Terms.{Entry}
+use Rattle.orphan_check.specs.Held.{ErrorHeld}
 use Rattle.overlap_check.specs.Orphans.{error_in}
 use Rattle.overlap_check.specs.Questions as answers
 use Rattle.overlap_check.specs.Verdicts as verdicts
@@ -28,3 +29,15 @@ answer_in es Unproved = answers.unproved
 abbrev pub refutation_of : RefuteAnswer → answers.RefuteAnswer
 refutation_of No = answers.no
 refutation_of Open = answers.unrefuted
+
+-- The types of a verdict's error are the interner's.
+abbrev pub VerdictHeld : List Entry → Verdict → Type 0
+VerdictHeld es Accepted = Unit {0}
+VerdictHeld es (Orphan k e) = ErrorHeld es e
+VerdictHeld es (Overlap k j) = Unit {0}
+
+-- The values of an answer are the interner's.
+abbrev pub AnswerHeld : List Entry → ProveAnswer → Type 0
+AnswerHeld es (Yes values) = ArgsHeld es values.items
+AnswerHeld es Maybe = Unit {0}
+AnswerHeld es Unproved = Unit {0}

@@ -25,3 +25,10 @@ pub mod OpenPairs
 pub mod Checking
 pub mod Proving
 pub mod Applying
+pub use Rattle.orphan_check.specs.Held as HeldErrors
+pub use Rattle.orphan_check.specs.Items as OrphanErrors
+pub use Rattle.overlap_check.specs.Orphans as ErrorTerms
+pub use Rattle.overlap_check.specs.Questions as QuestionAnswers
+pub use Rattle.overlap_check.specs.Verdicts
+pub use Rattle.view_lowering.specs.Questions as TextQuestions
+pub use Rattle.view_lowering.specs.QuestionVariables

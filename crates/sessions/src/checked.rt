@@ -4,6 +4,7 @@ ghost use Rattle.std.specs.Prelude.{◌≡◌, ◌≤◌, ◌+◌, ℕ, IfOk, If
 ghost use Rattle.type_terms.specs.Terms.{Keeps};
 ghost use Rattle.type_terms.specs.declared.TheConstants.{MAX_INDEX};
 ghost use Rattle.declarations.specs.Items.{IsAbove};
+ghost use Rattle.orphan_check.specs.Held.{ErrorHeld};
 ghost use Rattle.overlap_check.specs.Orphans.{IsFirstError};
 ghost use Rattle.text_definitions.specs.Declarations.{Declarations};
 ghost use Rattle.sessions.specs.Checking.{IsReadySolver, SolverAdvances, HaveOwnNumbers, AreApartAt, IsFoundAt, IsJudgedAt, rules_in, solving_in};
@@ -35,6 +36,7 @@ pub(crate) fn first_broken_header(
     requires numbered { IsAbove end cx.old.handler.declarations }
     requires in_range { end ≤ MAX_INDEX + 1 }
     ensures advances { SolverAdvances cx.old cx.new }
+    ensures held { IfOk result (λ found. IfSome found (λ x. ErrorHeld cx.new.interner.entries x.1)) }
     ensures first { IfOk result (IsFirstError (rules_in cx.old) cx.old.handler.declarations.local cx.new.interner.entries) }
 {
     rest_laws::<Solver>();

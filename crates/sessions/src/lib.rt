@@ -33,6 +33,7 @@ pub use answers::{ProveAnswer, RefuteAnswer, Verdict};
 pub use impossible::is_impossible;
 pub use limits::Limits;
 pub use obligations::has_impossible_obligation;
+pub use orphan_check::errors::{OrphanCheckErr, UncoveredTyParams};
 pub use pair_laws::{open_pair_goals_are_possible, pair_goals_are_formed};
 pub use question_laws::{
     SolverSearch, decided_are_answered, formed_questions_are_goals,

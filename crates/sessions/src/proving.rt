@@ -14,6 +14,7 @@ ghost use Rattle.text_definitions.specs.Declarations.{Question};
 ghost use Rattle.view_lowering.specs.Questions.{IsQuestion, IsLowered};
 ghost use Rattle.root_goals.specs.Contexts.{Advances, IsReady};
 ghost use Rattle.candidate_assembly.specs.Fitting.{solving_of};
+ghost use Rattle.sessions.specs.Given.{AnswerHeld};
 ghost use Rattle.sessions.specs.Proving.{AreReadOff, ClausesApply, IsAnswered, IsAnsweredBySolver, SolverAdvances, SolverIsReady, SolvesTheSame, goal_asking, is_bound_term};
 ghost use Rattle.sessions.specs.Questions.{where_clauses};
 ghost use Rattle.sessions.specs.Resting.{AreAtRest};
@@ -79,6 +80,7 @@ fn read_values(
     requires asked { Has cx.old.entries args_lists asked.args.0 }
     requires unknowns { ArgsHeld cx.old.entries unknowns.now }
     ensures keeps { Keeps cx.old.entries cx.new.entries }
+    ensures held { IfOk result (AnswerHeld cx.new.entries) }
     ensures read { IfOk result (AreReadOff cx.old.entries table.now (trees_at cx.old.entries asked.args.0) unknowns.now cx.new.entries) }
 {
     let proved = table.eager_resolve_vars(cx, asked.args)?;
@@ -101,6 +103,7 @@ fn read_values_in<H: GoalHandler>(
     requires asked { Has cx.old.interner.entries args_lists asked.args.0 }
     requires unknowns { ArgsHeld cx.old.interner.entries unknowns.now }
     ensures advances { Advances H.ready cx.old cx.new }
+    ensures held { IfOk result (AnswerHeld cx.new.interner.entries) }
     ensures read { IfOk result (AreReadOff cx.old.interner.entries table.now (trees_at cx.old.interner.entries asked.args.0) unknowns.now cx.new.interner.entries) }
 {
     rest_laws::<H>();
@@ -144,6 +147,7 @@ fn ask_for<H: GoalHandler>(
     ensures rest { AreAtRest H.handled H.Rule H.coinductive H.ready H.meaning graph.old.root_depth cx.new graph.new cache.new }
     ensures meaning { H.meaning cx.new.handler cx.new.interner.entries ≡ H.meaning cx.old.handler cx.old.interner.entries }
     ensures keeps { Keeps cx.old.interner.entries cx.new.interner.entries }
+    ensures held { IfOk result (AnswerHeld cx.new.interner.entries) }
     ensures answer { IfOk result (IsAnswered H.handled H.Rule H.coinductive H.ready H.meaning (H.meaning cx.old.handler cx.old.interner.entries) graph.old.root_depth
         (map arg_sort unknowns.now) (goal_trees cx.old.interner.entries goal.now) (map (arg_trees cx.old.interner.entries) unknowns.now) cx.new.interner.entries) }
 {
@@ -206,6 +210,7 @@ fn prove_lowered(
     ensures rest { SolverRests graph.old.root_depth cx.new graph.new cache.new }
     ensures solving { SolvesTheSame cx.old cx.new }
     ensures keeps { Keeps cx.old.interner.entries cx.new.interner.entries }
+    ensures held { IfOk result (AnswerHeld cx.new.interner.entries) }
     ensures answer { IfOk result (λ a. (q : Question) → IsLowered cx.old.interner.entries q lowered.now
         → IsAnsweredBySolver (solving_of cx.old.interner.entries cx.old.handler.declarations) graph.old.root_depth q cx.new.interner.entries a) }
 {
@@ -232,6 +237,7 @@ pub(crate) fn prove_question(
     ensures rest { SolverRests graph.old.root_depth cx.new graph.new cache.new }
     ensures solving { SolvesTheSame cx.old cx.new }
     ensures keeps { Keeps cx.old.interner.entries cx.new.interner.entries }
+    ensures held { IfOk result (AnswerHeld cx.new.interner.entries) }
     ensures answer { IfOk result (λ a. (q : Question) → IsQuestion workspace.now number q
         → IsAnsweredBySolver (solving_of cx.old.interner.entries cx.old.handler.declarations) graph.old.root_depth q cx.new.interner.entries a) }
 {

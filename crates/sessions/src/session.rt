@@ -1,11 +1,12 @@
 //! Sessions.
 
-ghost use Rattle.std.specs.Prelude.{◌≡◌, ◌<◌, ◌≤◌, ◌+◌, length, IfOk, Ok};
+ghost use Rattle.std.specs.Prelude.{◌≡◌, ◌<◌, ◌≤◌, ◌+◌, length, IfOk, IfSome, Ok};
 ghost use Rattle.type_terms.specs.declared.TheConstants.{MAX_INDEX};
+ghost use Rattle.orphan_check.specs.Held.{ErrorHeld};
 ghost use Rattle.workspace.specs.Numbered.{IsNumbered};
 ghost use Rattle.text_definitions.specs.Declarations.{Question};
 ghost use Rattle.sessions.specs.Checking.{HasOrphan, HasJudged, HasPartner, HasOverlap};
-ghost use Rattle.sessions.specs.Given.{refutation_of, verdict_in};
+ghost use Rattle.sessions.specs.Given.{VerdictHeld, refutation_of, verdict_in};
 ghost use Rattle.sessions.specs.Promises.{IsRefutation, IsOpenQuestion, IsVerdictOf};
 ghost use Rattle.sessions.specs.Subjects.{IsOfText, AsksRefutation, StaysOn};
 
@@ -106,6 +107,7 @@ impl<'w> Session<'w> {
     /// `coherent_trait` of `rustc_hir_analysis`, for all traits.
     pub fn check_crate(&mut self) -> Result<Verdict, Fault>
         ensures verdict { IfOk result (λ verdict. IsVerdictOf self.old.depth self.old.declarations self.old.of_crate (verdict_in self.new.terms verdict)) }
+        ensures held { IfOk result (VerdictHeld self.new.terms) }
         ensures stays { StaysOn self.old self.new }
     {
         let end = self.impl_end();
@@ -134,6 +136,7 @@ impl<'w> Session<'w> {
         requires in_range { end ≤ MAX_INDEX + 1 }
         requires numbered { IsNumbered self.old.declarations }
         ensures first { IfOk result (HasOrphan self.old self.new.terms) }
+        ensures held { IfOk result (λ found. IfSome found (λ x. ErrorHeld self.new.terms x.1)) }
         ensures stays { StaysOn self.old self.new }
     {
         rest_laws::<Solver>();

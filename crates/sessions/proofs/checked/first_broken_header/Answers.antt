@@ -12,5 +12,8 @@ returns-clause-advances c =
     c.rest_laws.ensures.interner c.args.cx.now (record { alloc = c.args.cx.now.alloc; interner = c.first_orphan-found.new.cx; handler = c.args.cx.now.handler; store = c.args.cx.now.store }) c.requires.ready
     (record { handler = refl; store = refl; entries = c.first_orphan-found.ensures.keeps; lawful = c.lawful.ensures })
 
+pub returns-clause-held : goal.returns-clause-held
+returns-clause-held c = c.first_orphan-found.ensures.held
+
 pub returns-clause-first : goal.returns-clause-first
 returns-clause-first c = c.first_orphan-found.ensures.first

@@ -46,6 +46,9 @@ returns-in-Proved-clause-meaning g c =
 pub returns-in-Proved-clause-keeps : goal.returns-in-Proved-clause-keeps
 returns-in-Proved-clause-keeps g c = λ i e h. c.read_values_in.ensures.advances.entries i e (c.ask_until_settled.ensures.asked.entries i e h)
 
+pub returns-in-Proved-clause-held : goal.returns-in-Proved-clause-held
+returns-in-Proved-clause-held g c = c.read_values_in.ensures.held
+
 pub returns-in-Proved-clause-answer : goal.returns-in-Proved-clause-answer
 returns-in-Proved-clause-answer g c =
     let done : c.ask_until_settled.result ≡ Ok outcome.Proved = search rules in

@@ -81,6 +81,9 @@ returns-clause-solving c =
 pub returns-clause-keeps : goal.returns-clause-keeps
 returns-clause-keeps c = λ i e h. c.ask_for.ensures.keeps i e (c.question_table_in.ensures.advances.entries i e (c.goal_in.ensures.advances.entries i e h))
 
+pub returns-clause-held : goal.returns-clause-held
+returns-clause-held c = c.ask_for.ensures.held
+
 pub returns-clause-answer : goal.returns-clause-answer
 returns-clause-answer c =
     let old = c.args.cx.now.interner.entries in

@@ -43,6 +43,9 @@ returns-clause-solving c = c.prove_lowered.ensures.solving ∙ c.rest_laws.ensur
 pub returns-clause-keeps : goal.returns-clause-keeps
 returns-clause-keeps c = λ i e h. c.prove_lowered.ensures.keeps i e (c.lower_in.ensures.advances.entries i e h)
 
+pub returns-clause-held : goal.returns-clause-held
+returns-clause-held c = c.prove_lowered.ensures.held
+
 pub returns-clause-answer : goal.returns-clause-answer
 returns-clause-answer c =
     over-ok c.prove_lowered.result

@@ -13,6 +13,9 @@ first_trees (p ∷ ps) = p.trees
 pub values_of-requires-clause-held : goal.values_of-requires-clause-held
 values_of-requires-clause-held c = args-held-later c.args.cx.now.entries c.eager_resolve_vars.new.cx.entries c.eager_resolve_vars.ensures.keeps c.args.unknowns.now c.requires.unknowns
 
+pub returns-clause-held : goal.returns-clause-held
+returns-clause-held c = c.in_ok-values.ensures.held
+
 pub returns-clause-read : goal.returns-clause-read
 returns-clause-read c = (
   c.in_ok-values.ensures.are

@@ -1,4 +1,6 @@
 use Rattle.std.proofs.Common.{rules, ◌≡◌, Some, None, subst}
+use Rattle.std.specs.Prelude.{IfSome}
+use Rattle.orphan_check.specs.Held.{ErrorHeld}
 use Rattle.overlap_check.specs.Verdicts.{KeepsOrphanRule}
 use Rattle.sessions.specs.Checking.{HasOrphan, HasOverlap}
 use Rattle.sessions.specs.Promises.{view_in}
@@ -12,6 +14,11 @@ pub returns-in-Some-clause-verdict : goal.returns-in-Some-clause-verdict
 returns-in-Some-clause-verdict c =
     let e : c.in_ok-id.field-0 ≡ Some (c.in-Some.id, c.in-Some.error) = search rules in
     subst (HasOrphan c.args.self.now c.first_orphan.new.self.terms) e c.in_ok-id.ensures.first
+
+pub returns-in-Some-clause-held : goal.returns-in-Some-clause-held
+returns-in-Some-clause-held c =
+    let e : c.in_ok-id.field-0 ≡ Some (c.in-Some.id, c.in-Some.error) = search rules in
+    subst (λ o. IfSome o (λ x. ErrorHeld c.first_orphan.new.self.terms x.1)) e c.in_ok-id.ensures.held
 
 pub returns-in_err-later-clause-stays : goal.returns-in_err-later-clause-stays
 returns-in_err-later-clause-stays c = stays-on c.args.self.now c.first_orphan.new.self c.first_overlap.new.self c.first_orphan.ensures.stays c.first_overlap.ensures.stays

@@ -33,6 +33,9 @@ returns-clause-first c =
     subst (λ (s : Subject). IfOk c.first_broken_header.result (HasOrphan s c.first_broken_header.new.cx.interner.entries)) c.self.view_is
     (orphan-ok i.workspace.now i.crate_id.index _ _ c.self.invariant.view.rules c.self.invariant.view.local c.first_broken_header.new.cx.interner.entries c.first_broken_header.result c.first_broken_header.ensures.first)
 
+pub returns-clause-held : goal.returns-clause-held
+returns-clause-held c = c.first_broken_header.ensures.held
+
 pub returns-clause-stays : goal.returns-clause-stays
 returns-clause-stays c =
     let i = c.self.inside in
