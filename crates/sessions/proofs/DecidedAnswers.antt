@@ -86,7 +86,7 @@ module _ (d : Declarations) (text : IsOfText d) (c : ℕ) (s : Solving) (of : Is
   view-is : view_in d c ≡ without_lifetimes V cs
   view-is =
       ap (λ W. with_crates W cs) (sym (rules-are es decls d c of.seen.written))
-      ∙ erased-is V (sorts_in decls) (well session_handles text.0 d text.1 c es decls of.seen) (formed session_handles text.0 d text.1 c es decls of.seen) begin cs
+      ∙ erased-is V (well session_handles text.0 d text.1 c es decls of.seen) cs
 
   abbrev own : List Reference
   own = map erased_reference E

@@ -45,10 +45,10 @@ use Rattle.sessions.specs.Sessions.{IsSolvingOf}
 use Rattle.sessions.specs.Subjects.{IsOfText}
 use Rattle.sessions.proofs.BetterTerms.{all-better}
 use Rattle.sessions.proofs.AskedGoals.{formed-reference}
-use Rattle.sessions.proofs.SeenPlainly.{rules-are, seen-begin}
+use Rattle.sessions.proofs.SeenPlainly.{rules-are, seen-begin, seen-erased}
 use Rattle.sessions.proofs.TextAnswers.{well, formed, told-possible}
 use Rattle.sessions.proofs.TextQuestions.{question-fits}
-use Rattle.sessions.proofs.WithoutLifetimes.{erased-is, bounded-same, possible-same}
+use Rattle.sessions.proofs.WithoutLifetimes.{FieldsAreErased, erased-is, bounded-same, possible-same}
 
 -- ---- of a closed reference no type and no constant is open
 fixed-label : (l : Label) → stands_free l ≡ true → is_open (erase_label l) ≡ false → is_fixed l ≡ true
@@ -128,6 +128,9 @@ module _ (d : Declarations) (text : IsOfText d) (c : ℕ) (s : Solving) (of : Is
   begin : SelfTypesBegin V
   begin = subst SelfTypesBegin (sym of.seen.written) (seen-begin text.0 d text.1 c)
 
+  erased : FieldsAreErased V
+  erased = subst FieldsAreErased (sym of.seen.written) (seen-erased d c)
+
   -- by what the crate sees, without lifetimes and as it is written
   view-is : view_in d c ≡ with_crates (erased_world V) (view_in d c).crates
   view-is = ap (λ W. with_crates W (view_in d c).crates) (sym (rules-are es decls d c of.seen.written))
@@ -140,12 +143,12 @@ module _ (d : Declarations) (text : IsOfText d) (c : ℕ) (s : Solving) (of : Is
 
   bounded-there : is_bounded depth V c q ≡ true
   bounded-there =
-      sym (bounded-same V sorts well-declared well-formed begin (view_in d c).crates depth c q good)
-      ∙ ap (λ W. is_bounded depth W c q) (sym (view-is ∙ erased-is V sorts well-declared well-formed begin (view_in d c).crates)) ∙ bounded
+      sym (bounded-same V well-declared begin erased (view_in d c).crates depth c q good.args.plain)
+      ∙ ap (λ W. is_bounded depth W c q) (sym (view-is ∙ erased-is V well-declared (view_in d c).crates)) ∙ bounded
 
   possible-there : is_possible depth (view_in d c) c q ≡ is_possible depth V c q
   possible-there =
-      ap (λ W. is_possible depth W c q) (view-is ∙ erased-is V sorts well-declared well-formed begin (view_in d c).crates) ∙ possible-same V sorts well-declared well-formed begin (view_in d c).crates depth c q good
+      ap (λ W. is_possible depth W c q) (view-is ∙ erased-is V well-declared (view_in d c).crates) ∙ possible-same V well-declared begin erased (view_in d c).crates depth c q good.args.plain
 
   -- what is the only answer within the depth tells what is possible
   tells : (a : Option AnswerTrees) → IsOnlyAnswer session_handles s Coherence (depth + 1) (goal_of [] r) a → TellsPossible V c depth q a

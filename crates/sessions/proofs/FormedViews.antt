@@ -290,15 +290,15 @@ module _ (d : text.Declarations) (c : ℕ) (w : Well d) (f : Formed d) (es : Lis
     nodes-seen (tree l k o) q = (node-seen l k q.0, nodes-seen k q.1, nodes-seen o q.2)
 
   -- ---- items
-  field-of : (n : NamedStruct) → In n d.structs → sees W c n.item.home ≡ true → (u : Trees) → In u n.item.fields → IsField V sorts (sorts.of_struct n.item.name) (plain all_kept u)
+  field-of : (n : NamedStruct) → In n d.structs → sees W c n.item.home ≡ true → (u : Trees) → In u n.item.fields → IsField V sorts (sorts.of_struct n.item.name) (plain none_kept u)
   field-of n i g u j =
       let field = each-in (IsFormedField (scope d n.item.home)) n.item.fields (each-in (StructFormed d) d.structs f.structs n i) u j in
-      let good = and-left (is_good all_kept n.kinds u) _ (member-each (λ t. is_good all_kept n.kinds t && is_single t) n.item.fields u (member-each is_good_struct d.structs n w.structs i) j) in
+      let good = and-left (is_good none_kept n.kinds u) _ (member-each (λ t. is_good none_kept n.kinds t && is_single t) n.item.fields u (member-each is_good_struct d.structs n w.structs i) j) in
       let at = (struct-shown n.item.name n (struct-placed i.0 n i.1) g).1 in
       record {
-        nodes = nodes-seen n.item.home g (plain all_kept u) (nodes-plain (scope d n.item.home) all_kept u field.nodes);
-        sort = plain-sorts all_kept u ∙ field.sort;
-        params = subst (λ ss. EachNode (HasParams ss) (plain all_kept u)) at (params-of n.kinds (plain all_kept u) (good-fits all_kept n.kinds u good));
+        nodes = nodes-seen n.item.home g (plain none_kept u) (nodes-plain (scope d n.item.home) none_kept u field.nodes);
+        sort = plain-sorts none_kept u ∙ field.sort;
+        params = subst (λ ss. EachNode (HasParams ss) (plain none_kept u)) at (params-of n.kinds (plain none_kept u) (good-fits none_kept n.kinds u good));
       }
 
   bound-of : (n : NamedTrait) → In n d.traits → sees W c n.item.home ≡ true → (r : Reference) → In r n.item.bounds → IsBound V sorts (sorts.of_trait n.item.name) (plain_reference none_kept r)
@@ -369,7 +369,7 @@ module _ (d : text.Declarations) (c : ℕ) (w : Well d) (f : Formed d) (es : Lis
   view-formed = record {
     fields = λ x t i j.
         let n = in-seen (λ (m : NamedStruct). m.item) plain_struct sees_struct d.structs x (subst (λ xs. In x xs) structs-are i) in
-        let u = map-in (plain all_kept) n.0.item.fields t (subst (λ (y : StructDecl). In t y.fields) n.3 j) in
+        let u = map-in (plain none_kept) n.0.item.fields t (subst (λ (y : StructDecl). In t y.fields) n.3 j) in
         subst (λ (y : StructDecl). IsField V sorts (sorts.of_struct y.name) t) (sym n.3) (subst (IsField V sorts (sorts.of_struct n.0.item.name)) (sym u.2) (field-of n.0 n.1 n.2 u.0 u.1));
     bounds = λ x b i j.
         let n = in-seen (λ (m : NamedTrait). m.item) plain_trait sees_trait d.traits x (subst (λ xs. In x xs) traits-are i) in

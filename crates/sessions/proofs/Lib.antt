@@ -24,7 +24,9 @@ mod AskedGoals
 mod DirectRules
 mod DirectWays
 mod TextAnswers
+mod PlainPremises
 mod WithoutLifetimes
+mod PlainProofs
 mod SeenPlainly
 mod LifetimesAlone
 pub mod ExactRefusals
@@ -54,3 +56,4 @@ pub mod Answered
 pub mod Posing
 pub mod ClausesApply
 pub mod SolversClauses
+mod ProvedQuestions

@@ -1,7 +1,8 @@
--- The types of a question without variables are made as terms are, of placeholders and no other open places, once they are plain.
+-- The types of a question are made as terms are, of placeholders and its own unknowns and no other open places, once they are plain.
 use Rattle.std.proofs.Common.{◌≡◌, ℕ, suc, Bool, true, false, ◌&&◌, ◌||◌, List, [], ◌∷◌, ◌++◌, map, length, Option, Some, None, Result, Ok, Err, refl, sym, ap, ◌∙◌, subst, arith}
 use Rattle.std.proofs.lemmas.Bool.{eqb-true}
-use Rattle.std.specs.Prelude.{not, if◌then◌else◌, ◌==◌, ◌+◌}
+use Rattle.std.proofs.lemmas.Bool.Decides.{nat_tests}
+use Rattle.std.specs.Prelude.{not, ltb, ◌<◌, if◌then◌else◌, ◌==◌, ◌+◌}
 use Rattle.std.specs.List.{list_any, list_all, flat_map}
 use Rattle.std.specs.Option.{option_map_or}
 use Rattle.std.specs.Str.{bytes_eq}
@@ -14,8 +15,8 @@ use Rattle.declarations.specs.Merges.{Each}
 use Rattle.text_definitions.specs.Syntax.{TypeTree, of_primitive, never_type, variable_type, named, reference_to, pointer_to, slice_of, array_of, tuple_of, fn_of, fn_to, dyn_of, Types, no_types, and_type, Args, no_args, and_arg, Arg, lifetime_arg, number_arg, type_arg, Item, bound_item, lifetime_item, Items, no_items, and_item, Length, number_length, name_length, variable_length, Clause, Line, crate_line, struct_line, trait_line, impl_line, prove_line, refute_line}
 use Rattle.text_definitions.specs.Declarations.{Declarations, Question, Variable, Known, a_crate, a_struct, a_trait, known, nothing_declared}
 use Rattle.text_definitions.specs.Uses.{Use, name_use, trait_use, variable_use, dyn_use, items_use, item_shape, item_shapes, args_count, types_count, kinds_of_struct, kinds_of_trait, next_kind, other_kinds, length_uses, lifetime_uses, binder_uses, type_uses, types_uses, args_uses, arg_uses, item_uses, items_uses, bound_uses, clause_uses, params_of}
-use Rattle.text_definitions.specs.Faults.{fault_of, with_own, is_among, is_param, is_param_of, is_type_of, static_name, is_late, is_auto_name, is_any, variables_in, once}
-use Rattle.text_definitions.specs.Lowering.{Meanings, place_among, type_label, lifetime_under, lifetime_label, optional_lifetime, length_label, struct_label, trait_number, auto_leaves, autos, with_auto, item_lifetime, last_lifetime, type_tree, types_trees, args_trees, arg_tree, item_tree, items_trees, clause_reference}
+use Rattle.text_definitions.specs.Faults.{fault_of, with_own, is_among, is_param, is_param_of, is_type_of, static_name, is_late, is_auto_name, is_any, variables_in, once, is_of_other_kind}
+use Rattle.text_definitions.specs.Lowering.{Meanings, place_among, variable_label, type_label, lifetime_under, lifetime_label, optional_lifetime, length_label, struct_label, trait_number, auto_leaves, autos, with_auto, item_lifetime, last_lifetime, type_tree, types_trees, args_trees, arg_tree, item_tree, items_trees, clause_reference}
 use Rattle.text_definitions.specs.Adding.{added, question_of, question_meanings}
 use Rattle.text_definitions.specs.Written.{IsWritten}
 use Rattle.text_definitions.specs.Text.{LineGives, other_byte, blank, unwritten, faulty, adds, LinesGive, ends, fails, goes_on, TextGives, too_long, fits}
@@ -23,18 +24,19 @@ use Rattle.line_reader.specs.Faultless.{UseFits, UsesFit}
 use Rattle.line_reader.proofs.NoFault.{passes-tests}
 use Rattle.line_reader.proofs.FittingUses.{faultless-uses}
 use Rattle.view_lowering.specs.Plain.{plain, plain_label, all_kept, unbound_reference, unbound_references}
+use Rattle.view_lowering.specs.QuestionVariables.{number_of, variable_kinds}
 use Rattle.view_lowering.proofs.Begins.{is_scalar}
+use Rattle.view_lowering.proofs.Variables.{ArePlaced, are-placed}
 use Rattle.view_lowering.proofs.Scalars.{Scalars, ScalarTypes, ScalarArgs, ScalarArg, ScalarItem}
 use Rattle.view_lowering.proofs.ScalarTokens.{ScalarClause, ScalarClauses, prove-scalars, refute-scalars}
 use Rattle.view_lowering.proofs.Applied.{each-more}
 use Rattle.view_lowering.proofs.Trees.{and, and-left, and-right, or-left, or-right}
 use Rattle.sessions.specs.Goals.{is_fixed, are_fixed}
 
--- ---- variables may stand, or not
-module _ (w : Bool) where
-  abbrev pub is_good : Label → Bool
-  is_good (infer of_type i) = w
-  is_good (infer of_const i) = w
+-- ---- which unknowns may stand
+module _ (w : Sort → ℕ → Bool) where
+  abbrev is_good : Label → Bool
+  is_good (infer s i) = w s i
   is_good l = is_fixed l
 
   abbrev are_good : Trees → Bool
@@ -78,9 +80,7 @@ module _ (w : Bool) where
       by (param of_lifetime i) q r = last true (is_no_tree (plain all_kept c)) (are_good (plain all_kept c)) r q
       by (param of_type i) q r = absurd cc
       by (param of_const i) q r = absurd cc
-      by (infer of_lifetime i) q r = last true (is_no_tree (plain all_kept c)) (are_good (plain all_kept c)) r q
-      by (infer of_type i) q r = last w (is_no_tree (plain all_kept c)) (are_good (plain all_kept c)) r q
-      by (infer of_const i) q r = last w (is_no_tree (plain all_kept c)) (are_good (plain all_kept c)) r q
+      by (infer s i) q r = last (w s i) (is_no_tree (plain all_kept c)) (are_good (plain all_kept c)) r q
       by (canonical s i) q r = absurd cc
       by (bound s j i) q r = absurd cc
 
@@ -151,15 +151,7 @@ module _ (w : Bool) where
   no-count no_args h = refl
   no-count (and_arg a args) h = absurd (omega (arith, eqb-true (suc (args_count args)) 0 h))
 
-  -- ---- uses, each of which fits, and is a variable only where variables may stand
-  abbrev IsNamed : Use → Type 0
-  IsNamed (variable_use p n) = w ≡ true
-  IsNamed u = Unit {0}
-
-  not-false : (b : Bool) → (b ≡ false → ⊥) → b ≡ true
-  not-false true f = refl
-  not-false false f = absurd (f refl)
-
+  -- ---- uses, each of which fits, and is a variable only where it may stand
   module _ (d : Declarations) (l : Line) (variables : List (List ℕ × Sort)) where
     abbrev D : Declarations
     D = with_own d l
@@ -167,9 +159,21 @@ module _ (w : Bool) where
     abbrev means : Meanings
     means = record { items = D; params = params_of l; first = 0; parameter = placeholder; variables = variables }
 
+    abbrev MayStand : Use → Type 0
+    MayStand (variable_use p n) = is_good (variable_label means p n) ≡ true
+    MayStand u = Unit {0}
+
     abbrev AllFit : List Use → Type 0
     AllFit [] = Unit {0}
-    AllFit (u ∷ us) = (UseFits d l u × IsNamed u) × AllFit us
+    AllFit (u ∷ us) = (UseFits d l u × MayStand u) × AllFit us
+
+    abbrev AllMayStand : List (List ℕ × Sort) → Type 0
+    AllMayStand [] = Unit {0}
+    AllMayStand (v ∷ vs) = (is_good (variable_label means v.1 v.0) ≡ true) × AllMayStand vs
+
+    none-there : (vs : List (List ℕ × Sort)) → is_any vs ≡ false → AllMayStand vs
+    none-there [] h = tt
+    none-there (v ∷ vs) h = absurd cc
 
     first-fit : (us vs : List Use) → AllFit (us ++ vs) → AllFit us
     first-fit [] vs h = tt
@@ -179,12 +183,9 @@ module _ (w : Bool) where
     rest-fit [] vs h = h
     rest-fit (u ∷ us) vs h = rest-fit us vs h.1
 
-    all-fit : (us : List Use) → UsesFit d l us → (w ≡ false → is_any (variables_in us) ≡ false) → AllFit us
+    all-fit : (us : List Use) → UsesFit d l us → AllMayStand (variables_in us) → AllFit us
     all-fit [] f h = tt
-    all-fit (variable_use p n ∷ us) f h = ((f.0, not-false w (λ e. some-any (h e))), all-fit us f.1 (λ e. absurd (some-any (h e))))
-      where
-        some-any : true ≡ false → ⊥
-        some-any e = cc
+    all-fit (variable_use p n ∷ us) f h = ((f.0, h.0), all-fit us f.1 h.1)
     all-fit (u ∷ us) f h = ((f.0, tt), all-fit us f.1 h)
 
     -- ---- lifetimes
@@ -234,7 +235,7 @@ module _ (w : Bool) where
     good-length : (n : Length) → AllFit (length_uses n) → Good (leaf (length_label means n))
     good-length (number_length n) h = refl
     good-length (name_length n) h = refl
-    good-length (variable_length n) h = and-end w h.0.1
+    good-length (variable_length n) h = and-end _ h.0.1
 
     -- ---- the end of a `dyn`
     ends-item : (s : List (List (List ℕ))) (i : Item) → Ends (item_lifetime means s i)
@@ -266,7 +267,7 @@ module _ (w : Bool) where
       good-type : (s : List (List (List ℕ))) (t : TypeTree) → Scalars t → AllFit (type_uses D s of_type t) → Good (type_tree means s of_type t)
       good-type s (of_primitive p) f h = good-scalar p f
       good-type s never_type f h = refl
-      good-type s (variable_type n) f h = and-end w h.0.1
+      good-type s (variable_type n) f h = and-end _ h.0.1
       good-type s (named n args) f h = good-named s n args h.0.0 (good-args s (kinds_of_struct (known D n)) args f h.1)
       good-type s (reference_to o m t) f h =
           and-end _ (good-append (optional_lifetime means s o) (type_tree means s of_type t) (good-optional s o) (good-type s t f (rest-fit (lifetime_uses s o) (type_uses D s of_type t) h)))
@@ -317,7 +318,7 @@ module _ (w : Bool) where
       good-arg s of_type (type_arg t) f h = good-type s t f h
       good-arg s of_lifetime (type_arg t) f h = absurd h.0.0
       good-arg s of_const (type_arg (named n args)) f h = refl
-      good-arg s of_const (type_arg (variable_type n)) f h = and-end w h.0.1
+      good-arg s of_const (type_arg (variable_type n)) f h = and-end _ h.0.1
       good-arg s of_const (type_arg (of_primitive x)) f h = absurd h.0.0
       good-arg s of_const (type_arg never_type) f h = absurd h.0.0
       good-arg s of_const (type_arg (reference_to x y z)) f h = absurd h.0.0
@@ -341,28 +342,61 @@ module _ (w : Bool) where
     good-clauses (k ∷ ks) f h =
         and (are_good (plain all_kept (clause_reference means k).args)) _ (good-clause k f.0 (first-fit (clause_uses D k) (flat_map (clause_uses D) ks) h)) (good-clauses ks f.1 (rest-fit (clause_uses D k) (flat_map (clause_uses D) ks) h))
 
--- without variables they are fixed
-fixed-label : (l : Label) → is_good false l ≡ true → is_fixed l ≡ true
-fixed-label (infer of_type i) h = absurd (false-true h)
-fixed-label (infer of_const i) h = absurd (false-true h)
+-- ---- no unknowns
+none_stand : Sort → ℕ → Bool
+none_stand s i = false
+
+abbrev are_bare : Trees → Bool
+are_bare t = is_made (is_good none_stand) terms t
+
+fixed-label : (l : Label) → is_good none_stand l ≡ true → is_fixed l ≡ true
+unfolding none_stand
+fixed-label (infer s i) h = absurd (false-true h)
 fixed-label l h = h
 
-fixed-terms : (t : Trees) → is_made (is_good false) terms t ≡ true → are_fixed t ≡ true
-fixed-terms t h = made-weaker (is_good false) is_fixed fixed-label terms t h
-
-fixed-references : (rs : List Reference) → list_all (λ (r : Reference). is_made (is_good false) terms r.args) rs ≡ true → list_all (λ (r : Reference). are_fixed r.args) rs ≡ true
+fixed-references : (rs : List Reference) → list_all (λ (r : Reference). are_bare r.args) rs ≡ true → list_all (λ (r : Reference). are_fixed r.args) rs ≡ true
 fixed-references [] h = refl
-fixed-references (r ∷ rs) h = and (are_fixed r.args) _ (fixed-terms r.args (and-left (is_made (is_good false) terms r.args) _ h)) (fixed-references rs (and-right (is_made (is_good false) terms r.args) _ h))
+fixed-references (r ∷ rs) h = and (are_fixed r.args) _ (made-weaker (is_good none_stand) is_fixed fixed-label terms r.args (and-left (are_bare r.args) _ h)) (fixed-references rs (and-right (are_bare r.args) _ h))
 
--- ---- questions: what they ask for, also if they have no variables, and their where-clauses
+-- ---- unknowns of these kinds
+abbrev pub is_own : List Sort → Label → Bool
+is_own ks l = is_good (λ s i. ltb i (number_of s ks)) l
+
+below-so : (i n : ℕ) → i < n → ltb i n ≡ true
+below-so i n h = by (ltb i n) refl
+  where
+    by : (b : Bool) → ltb i n ≡ b → b ≡ true
+    by true e = refl
+    by false e = absurd (grind (arith, nat_tests))
+
+pub so-below : (i n : ℕ) → ltb i n ≡ true → i < n
+so-below i n h = grind (arith, nat_tests)
+
+-- where there are none, what is made of them is fixed
+own-fixed : (l : Label) → is_own [] l ≡ true → is_fixed l ≡ true
+own-fixed (infer s i) h = let g : i < 0 = so-below i 0 h in absurd (omega (arith, g))
+own-fixed l h = h
+
+abbrev kinds_of_all : List (List ℕ × Sort) → List Sort
+kinds_of_all vs = map (λ v. v.1) vs
+
+placed-stand : (d : Declarations) (l : Line) (all vs : List (List ℕ × Sort)) → ArePlaced all vs → AllMayStand (λ s i. ltb i (number_of s (kinds_of_all (once all)))) d l (once all) vs
+placed-stand d l all [] h = tt
+placed-stand d l all (v ∷ vs) h = (below-so _ _ h.0, placed-stand d l all vs h.1)
+
+map-twice : (vs : List (List ℕ × Sort)) → kinds_of_all vs ≡ map (λ v. v.kind) (map (λ v. (let x : Variable = record { text = v.0; kind = v.1 } in x)) vs)
+map-twice [] = refl
+map-twice (v ∷ vs) = ap (λ ks. v.1 ∷ ks) (map-twice vs)
+
+-- ---- questions: what they ask for, and their where-clauses
 pub record AreFixedTerms (q : Question) : Type 0 where
-  pub good : is_made (is_good true) terms (unbound_reference q.asked).args ≡ true
-  pub fixed : q.variables ≡ [] → are_fixed (unbound_reference q.asked).args ≡ true
+  pub own : is_made (is_own (variable_kinds q)) terms (unbound_reference q.asked).args ≡ true
   pub clauses : list_all (λ (r : Reference). are_fixed r.args) (unbound_references q.clauses) ≡ true
 
-no-variables : (vs : List (List ℕ × Sort)) → map (λ v. (let x : Variable = record { text = v.0; kind = v.1 } in x)) (once vs) ≡ [] → is_any vs ≡ false
-no-variables [] h = refl
-no-variables (v ∷ vs) h = absurd cc
+-- without variables what is asked for is fixed too
+pub asked-fixed : (q : Question) → AreFixedTerms q → q.variables ≡ [] → are_fixed (unbound_reference q.asked).args ≡ true
+asked-fixed q h e =
+    made-weaker (is_own []) is_fixed own-fixed terms (unbound_reference q.asked).args (subst (λ (vs : List Variable). is_made (is_own (map (λ v. v.kind) vs)) terms (unbound_reference q.asked).args ≡ true) e h.own)
 
 fits-first : (d : Declarations) (l : Line) (us vs : List Use) → UsesFit d l (us ++ vs) → UsesFit d l us
 fits-first d l [] vs h = tt
@@ -372,6 +406,17 @@ fits-rest : (d : Declarations) (l : Line) (us vs : List Use) → UsesFit d l (us
 fits-rest d l [] vs h = h
 fits-rest d l (u ∷ us) vs h = fits-rest d l us vs h.1
 
+-- the variables of what is asked for are the question's, each of one kind
+asked-own : (d : Declarations) (l : Line) (a : Clause) → ScalarClause a → UsesFit d l (clause_uses (with_own d l) a)
+    → list_any (λ v. list_any (is_of_other_kind v) (variables_in (clause_uses (with_own d l) a))) (variables_in (clause_uses (with_own d l) a)) ≡ false → (let vs = once (variables_in (clause_uses (with_own d l) a)) in
+    let asked = clause_reference (record { items = with_own d l; params = params_of l; first = 0; parameter = placeholder; variables = vs }) a in
+    is_made (is_own (map (λ v. v.kind) (map (λ v. (let x : Variable = record { text = v.0; kind = v.1 } in x)) vs))) terms (unbound_reference asked).args ≡ true)
+asked-own d l a scalar uses one =
+    let all = variables_in (clause_uses (with_own d l) a) in
+    let w = λ (s : Sort) (i : ℕ). ltb i (number_of s (kinds_of_all (once all))) in
+    subst (λ ks. is_made (is_own ks) terms (plain all_kept (clause_reference (means w d l (once all)) a).args) ≡ true) (map-twice (once all))
+    (good-clause w d l (once all) a scalar (all-fit w d l (once all) (clause_uses (with_own d l) a) uses (placed-stand d l all all (are-placed all all (λ n p h. h) one))))
+
 line-fixed : (d : Declarations) (text : List ℕ) (l : Line) → IsWritten text l → fault_of d l ≡ None → Each AreFixedTerms d.questions → Each AreFixedTerms (added d l).questions
 line-fixed d text (crate_line n us) w f h = h
 line-fixed d text (struct_line g n ps fs) w f h = h
@@ -379,26 +424,19 @@ line-fixed d text (trait_line g b n ps bs) w f h = h
 line-fixed d text (impl_line ps k ks) w f h = h
 line-fixed d text (prove_line c ps a ks) w f h =
     let l = prove_line c ps a ks in
-    let vs = once (variables_in (clause_uses d a)) in
+    let vs = variables_in (clause_uses d a) in
     let scalar = prove-scalars text c ps a ks w in
+    let p = passes-tests d l f in
     let uses = (faultless-uses d l f).1 in
-    let own = fits-first d l (clause_uses d a) (flat_map (clause_uses d) ks) uses in
-    let others = all-fit false d l vs (flat_map (clause_uses d) ks) (fits-rest d l (clause_uses d a) (flat_map (clause_uses d) ks) uses) (λ e. or-left _ _ (passes-tests d l f).has_asked_variables) in
+    let others = all-fit none_stand d l (once vs) (flat_map (clause_uses d) ks) (fits-rest d l (clause_uses d a) (flat_map (clause_uses d) ks) uses) (none-there none_stand d l (once vs) _ (or-left _ _ p.has_asked_variables)) in
     each-more AreFixedTerms d.questions (question_of d (question_meanings d l) false c ps a ks) h (record {
-      good = good-clause true d l vs a scalar.0 (all-fit true d l vs (clause_uses d a) own (λ e. absurd (false-true (sym e))));
-      fixed = λ e. fixed-terms (unbound_reference (clause_reference (question_meanings d l) a)).args (good-clause false d l vs a scalar.0 (all-fit false d l vs (clause_uses d a) own (λ z. no-variables (variables_in (clause_uses d a)) e)));
-      clauses = fixed-references (unbound_references (map (clause_reference (question_meanings d l)) ks)) (good-clauses false d l vs ks scalar.1 others);
+      own = asked-own d l a scalar.0 (fits-first d l (clause_uses d a) (flat_map (clause_uses d) ks) uses) (or-right _ _ p.has_asked_variables);
+      clauses = fixed-references (unbound_references (map (clause_reference (question_meanings d l)) ks)) (good-clauses none_stand d l (once vs) ks scalar.1 others);
     })
 line-fixed d text (refute_line c ps a) w f h =
     let l = refute_line c ps a in
-    let vs = once (variables_in (clause_uses d a)) in
-    let scalar = refute-scalars text c ps a w in
-    let uses = (faultless-uses d l f).1 in
-    each-more AreFixedTerms d.questions (question_of d (question_meanings d l) true c ps a []) h (record {
-      good = good-clause true d l vs a scalar (all-fit true d l vs (clause_uses d a) uses (λ e. absurd (false-true (sym e))));
-      fixed = λ e. fixed-terms (unbound_reference (clause_reference (question_meanings d l) a)).args (good-clause false d l vs a scalar (all-fit false d l vs (clause_uses d a) uses (λ z. no-variables (variables_in (clause_uses d a)) e)));
-      clauses = refl;
-    })
+    each-more AreFixedTerms d.questions (question_of d (question_meanings d l) true c ps a []) h
+    (record { own = asked-own d l a (refute-scalars text c ps a w) (faultless-uses d l f).1 (passes-tests d l f).has_asked_variables; clauses = refl })
 
 -- ---- texts
 abbrev FixedIfTaken : {E : Type 0} → Result Declarations E → Type 0

@@ -1,9 +1,9 @@
--- What a crate sees of a text, without binders: up to lifetimes it is what rules are read from, and each impl begins with a parameter or a
--- rigid type.
+-- What a crate sees of a text, without binders: up to lifetimes it is what rules are read from, no lifetime parameter stands in fields, and
+-- each impl begins with a parameter or a rigid type.
 use Rattle.std.proofs.Common.{◌≡◌, ◌⊎◌, ℕ, zero, suc, Bool, true, false, List, [], ◌∷◌, map, Some, Ok, inl, inr, refl, sym, ap, ◌∙◌, subst}
 use Rattle.std.specs.Prelude.{if◌then◌else◌, filter, slice_get}
 use Rattle.model.specs.Label.{Label, of_lifetime, of_type, of_const, static, fn_ptr, principal, param, placeholder, infer, canonical, bound}
-use Rattle.model.specs.Trees.{Trees, none, tree, erase, erase_label}
+use Rattle.model.specs.Trees.{Trees, none, tree, erase, erase_label, some_node}
 use Rattle.model.specs.Terms.{erased_reference, erased_struct, erased_trait, erased_impl, erased_world}
 use Rattle.model.specs.Worlds.{World, Reference, StructDecl, TraitDecl, ImplDecl, sees}
 use Rattle.model.specs.Proofs.{In}
@@ -15,11 +15,14 @@ use Rattle.declarations.specs.Items.{Items, written}
 use Rattle.text_definitions.specs.Declarations as text
 use Rattle.text_definitions.specs.Declarations.{NamedImpl, world_of}
 use Rattle.text_definitions.specs.Text.{TextGives}
+use Rattle.assembly_laws.specs.Declared.{is_lifetime_parameter}
 use Rattle.assembly_laws.specs.Meaning.{SelfTypesBegin}
 use Rattle.view_lowering.specs.Plain.{plain_label, plain, plain_reference, plain_struct, plain_trait, plain_impl, plain_world, plainly_seen_from, all_kept, none_kept, stands_in}
 use Rattle.view_lowering.specs.Seen.{seen_from, rules_seen_from}
 use Rattle.view_lowering.proofs.Begins.{texts-begin}
+use Rattle.view_lowering.proofs.SeenViews.{none-left}
 use Rattle.sessions.proofs.FormedViews.{map-in}
+use Rattle.sessions.proofs.WithoutLifetimes.{FieldsAreErased}
 
 node : {l m : Label} {c d o p : Trees} → l ≡ m → c ≡ d → o ≡ p → tree l c o ≡ tree m d p
 node e f g = cc
@@ -51,7 +54,7 @@ pub reference-erased : (k : ℕ → Bool) (r : Reference) → erased_reference (
 reference-erased k r = ap (λ z. (let x : Reference = record { trait = r.trait; args = z } in x)) (plain-erased k r.args)
 
 struct-erased : (x : StructDecl) → erased_struct (plain_struct x) ≡ erased_struct x
-struct-erased x = ap (λ z. (let y : StructDecl = record { name = x.name; home = x.home; is_fundamental = x.is_fundamental; fields = z } in y)) (map-again (plain all_kept) erase (plain-erased all_kept) x.fields)
+struct-erased x = ap (λ z. (let y : StructDecl = record { name = x.name; home = x.home; is_fundamental = x.is_fundamental; fields = z } in y)) (map-again (plain none_kept) erase (plain-erased none_kept) x.fields)
 
 trait-erased : (x : TraitDecl) → erased_trait (plain_trait x) ≡ erased_trait x
 trait-erased x =
@@ -74,6 +77,13 @@ world-erased W = join _ _ _ _ _ _ (map-again plain_struct erased_struct struct-e
 
 pub rules-are : (es : List Entry) (items : Items) (d : text.Declarations) (c : ℕ) → written es items ≡ plainly_seen_from d c → erased_world (written es items) ≡ rules_seen_from d c
 rules-are es items d c e = ap erased_world e ∙ world-erased (seen_from d c) ∙ ap (λ (V : World). record V { crates = [] }) (sym (erased-views (world_of d) c))
+
+-- ---- fields
+pub seen-erased : (d : text.Declarations) (c : ℕ) → FieldsAreErased (plainly_seen_from d c)
+seen-erased d c x f i j =
+    let a = map-in plain_struct (filter (λ (y : StructDecl). sees (world_of d) c y.home) (world_of d).structs) x i in
+    let b = map-in (plain none_kept) a.0.fields f (subst (λ (y : StructDecl). In f y.fields) a.2 j) in
+    subst (λ t. some_node is_lifetime_parameter t ≡ false) (sym b.2) (none-left b.0)
 
 -- ---- how impls begin
 begins-plain : (k : ℕ → Bool) (t : Trees) → begins_declared (plain k t) ≡ begins_declared t

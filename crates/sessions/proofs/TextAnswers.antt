@@ -64,7 +64,8 @@ use Rattle.sessions.proofs.DirectWays.{directly-right}
 use Rattle.sessions.proofs.ElaboratedClauses.{IsFormedClause, elaborated-formed, elaborated-closed, all-are-fixed, levels-erased}
 use Rattle.sessions.proofs.Fitting.{sorts-tell}
 use Rattle.sessions.proofs.FormedViews.{texts-views-are-formed}
-use Rattle.sessions.proofs.WithoutLifetimes.{rules-same}
+use Rattle.sessions.proofs.SeenPlainly.{seen-erased}
+use Rattle.sessions.proofs.WithoutLifetimes.{FieldsAreErased, rules-same}
 
 -- what declarations mean: the solver decides the goals that fit them
 abbrev meaning_in : Solving → Meaning
@@ -103,6 +104,9 @@ module _ {C I R F : Type 0} (handles : Handles C I R F Solving (Asked frame_tabl
 
     pub well : IsDeclaredWell V
     well = tests-tell V well-test
+
+    erased : FieldsAreErased V
+    erased = subst FieldsAreErased (sym seen.written) (seen-erased d c)
 
     pub formed : IsFormedView V sorts
     formed = texts-views-are-formed bytes d h c es decls seen
@@ -241,7 +245,7 @@ module _ {C I R F : Type 0} (handles : Handles C I R F Solving (Asked frame_tabl
       without-clauses X r = ap (λ us. flat_map (impl_rules r) X.impls ++ us) (no-last (built_in_rules X r))
 
       others-same : (r : Reference) → IsFormed V sorts r → others V r ≡ others U r
-      others-same r good = sym (without-clauses V r) ∙ sym (rules-same V sorts well formed begin cs r good) ∙ without-clauses U r
+      others-same r good = sym (without-clauses V r) ∙ sym (rules-same V well begin erased cs [] r good.args.plain) ∙ without-clauses U r
 
       direct-same : (E : List Reference) (r : Reference) → IsFormed V sorts r → direct_under V E r ≡ direct_under U E r
       direct-same E r good =

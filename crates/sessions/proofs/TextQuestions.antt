@@ -3,7 +3,7 @@ use Rattle.std.proofs.Common.{◌≡◌, ◌-◌, ℕ, zero, suc, true, false, �
 use Rattle.std.proofs.lemmas.Option.{same_Some}
 use Rattle.std.specs.Prelude.{slice_get}
 use Rattle.model.specs.Answers.{is_variable}
-use Rattle.model.specs.Label.{Label, of_type, of_const, infer}
+use Rattle.model.specs.Label.{Label, Sort, of_type, of_const, of_lifetime, infer}
 use Rattle.model.specs.Proofs.{In}
 use Rattle.model.specs.Trees.{Trees, none, tree, erase, erase_label, some_node}
 use Rattle.model.specs.Worlds.{World, Reference}
@@ -17,6 +17,7 @@ use Rattle.declarations.specs.Merges.{Each}
 use Rattle.text_definitions.specs.Declarations as text
 use Rattle.text_definitions.specs.Text.{TextGives}
 use Rattle.view_lowering.specs.Plain.{unbound_reference, unbound_references}
+use Rattle.view_lowering.specs.QuestionVariables.{variable_kinds}
 use Rattle.view_lowering.specs.Ready.{AreSeen}
 use Rattle.view_lowering.proofs.WellSeen.{texts-seen-well}
 use Rattle.assembly_laws.specs.DeclaredWell.{IsDeclaredWell, is_declared_well}
@@ -29,7 +30,7 @@ use Rattle.sessions.proofs.ElaboratedClauses.{IsFormedClause, elaborated-formed,
 use Rattle.sessions.proofs.FormedTexts.{scope, IsFormedReference, QuestionFormed, texts-are-formed}
 use Rattle.sessions.proofs.FormedViews.{each-in, map-in, reference-seen, texts-views-are-formed}
 use Rattle.sessions.proofs.BetterTerms.{all-better}
-use Rattle.sessions.proofs.QuestionTerms.{is_good, AreFixedTerms, questions-fixed}
+use Rattle.sessions.proofs.QuestionTerms.{is_own, AreFixedTerms, asked-fixed, questions-fixed}
 
 at-place : {A : Type 0} (P : A → Type 0) (xs : List A) → Each P xs → (k : ℕ) (x : A) → slice_get xs k ≡ Some x → P x
 at-place P [] h k x e = absurd cc
@@ -44,10 +45,11 @@ question-fits bytes d t k q at es decls seen =
     reference-seen d q.asker all.0 all.1 es decls seen q.asked (at-place (QuestionFormed d) d.questions all.1.questions k q at).0
 
 -- ---- variables
-closed-label : (l : Label) → is_good true l ≡ true → is_variable (erase_label l) ≡ false → is_fixed l ≡ true
-closed-label (infer of_type i) h e = absurd (false-true (sym e))
-closed-label (infer of_const i) h e = absurd (false-true (sym e))
-closed-label l h e = h
+closed-label : (ks : List Sort) (l : Label) → is_own ks l ≡ true → is_variable (erase_label l) ≡ false → is_fixed l ≡ true
+closed-label ks (infer of_type i) h e = absurd (false-true (sym e))
+closed-label ks (infer of_const i) h e = absurd (false-true (sym e))
+closed-label ks (infer of_lifetime i) h e = refl
+closed-label ks l h e = h
 
 variable-erased : (t : Trees) → some_node is_variable (erase t) ≡ some_node (λ l. is_variable (erase_label l)) t
 variable-erased none = refl
@@ -67,7 +69,7 @@ module _ (bytes : List ℕ) (d : text.Declarations) (t : TextGives bytes (Ok d))
   formed : QuestionFormed d q
   formed = at-place (QuestionFormed d) d.questions (texts-are-formed bytes d t).1.questions k q at
 
-  fixed : AreFixedTerms q
+  pub fixed : AreFixedTerms q
   fixed = at-place AreFixedTerms d.questions (questions-fixed bytes d t) k q at
 
   seen-formed : (r : Reference) → IsFormedReference (scope d q.asker) r → FitsSorts V sorts (unbound_reference r)
@@ -82,26 +84,26 @@ module _ (bytes : List ℕ) (d : text.Declarations) (t : TextGives bytes (Ok d))
   written-formed : q.variables ≡ [] → IsFormedAsWritten V sorts E (unbound_reference q.asked)
   written-formed empty =
       let asked = seen-formed q.asked formed.0 in
-      record { clauses = fixed.clauses; fit = clause-fits; asked = λ F g e. record { terms = fixed.fixed empty; nodes = asked.nodes; trait = asked.trait; clauses = g; elaborated = e } }
+      record { clauses = fixed.clauses; fit = clause-fits; asked = λ F g e. record { terms = asked-fixed q fixed empty; nodes = asked.nodes; trait = asked.trait; clauses = g; elaborated = e } }
 
   -- so it is also if no variable stands in what it asks for
   pub written-if-closed : some_node is_variable (erase (unbound_reference q.asked).args) ≡ false → IsFormedAsWritten V sorts E (unbound_reference q.asked)
   written-if-closed closed =
       let asked = seen-formed q.asked formed.0 in
-      let terms-fixed = all-better (is_good true) is_fixed (λ l. is_variable (erase_label l)) closed-label terms (unbound_reference q.asked).args fixed.good (sym (variable-erased (unbound_reference q.asked).args) ∙ closed) in
+      let terms-fixed = all-better (is_own (variable_kinds q)) is_fixed (λ l. is_variable (erase_label l)) (closed-label (variable_kinds q)) terms (unbound_reference q.asked).args fixed.own (sym (variable-erased (unbound_reference q.asked).args) ∙ closed) in
       record { clauses = fixed.clauses; fit = clause-fits; asked = λ F g e. record { terms = terms-fixed; nodes = asked.nodes; trait = asked.trait; clauses = g; elaborated = e } }
 
   -- and with all supertraits
-  well : IsDeclaredWell V
+  pub well : IsDeclaredWell V
   well = tests-tell V (ap is_declared_well seen.written ∙ texts-seen-well bytes d t q.asker)
 
-  view : IsFormedView V sorts
+  pub view : IsFormedView V sorts
   view = texts-views-are-formed bytes d t q.asker es decls seen
 
   pub clause-formed : (c : Reference) → In c E → IsFormedClause V sorts c
   clause-formed c i = record { fixed = member-each (λ (r : Reference). are_fixed r.args) E c fixed.clauses i; fit = clause-fits c i }
 
-  elaborated-fixed : AreFixedReferences (elaborate V E)
+  pub elaborated-fixed : AreFixedReferences (elaborate V E)
   elaborated-fixed = all-are-fixed V sorts well view E clause-formed (elaborate V E) (elaborated-formed V sorts well view E clause-formed)
 
   written-elaborated : IsFormedElaborated q.variables V sorts E (unbound_reference q.asked)

@@ -1,12 +1,13 @@
--- A formed reference has the same rules by declarations as they are written and by the same declarations without their lifetimes: so by both
--- the same is bounded and possible.
+-- A reference without lifetimes has the same rules by declarations as they are written and by the same declarations without their lifetimes,
+-- where no lifetime parameter stands in the fields of structs: so by both the same is bounded and possible.
 use Rattle.std.proofs.Common.{◌≡◌, ◌+◌, ◌<◌, ◌==◌, ℕ, zero, suc, Bool, true, false, not, ◌&&◌, ◌||◌, if◌then◌else◌, List, [], ◌∷◌, ◌++◌, map, length, inl, inr, refl, sym, ◌∙◌, ap, subst, arith, zero-add, Option, Some, None}
+use Rattle.std.specs.Prelude.{filter}
 use Rattle.std.specs.List.{flat_map, list_all, list_any}
 use Rattle.model.specs.Label.{Label, Sort, of_type, of_const, of_lifetime, array, slice, dynamic, static, adt, fn_ptr, ref, raw_pointer, principal, of_trait, predicate, param, placeholder, infer, canonical, bound, value}
 use Rattle.model.specs.Trees.{Trees, none, tree, leaf, ◌+++◌, erase, erase_label, instantiate, nth, arguments, is_a, is_no_tree, is_sort, sort_of, some_node, fits, Fits, Single}
 use Rattle.model.specs.Terms.{erased_reference, erased_struct, erased_trait, erased_impl, erased_world, mentions, IsCovered}
 use Rattle.model.specs.Worlds.{World, CrateDecl, Reference, StructDecl, TraitDecl, ImplDecl, structs_named, with_args, all_with_args}
-use Rattle.model.specs.Rules.{Rule, BuiltIn, same_head, by_impl, row, rules, sized, sized_struct, auto_struct, object_auto, object_principal, unsize, unsize_to_dyn, unsize_dyn, unsize_upcast, unsize_struct, is_auto, is_dyn, is_written, same_reference, impl_rules, plain_rules, sized_rules, auto_rules, auto_rules_plain, unsize_rules, unsize_array_rules, unsize_to_dyn_rules, unsize_upcast_rules, unsize_struct_rules, upcasts_principal, upcasts_autos, object_rules, built_in_rules, equal_rows, elaborated, are_declared, are_dyn_compatible, is_declared, principal_with, autos_with, asked, last_asked, each_asked, together, fields_of, is_parameter, is_unsizing, some_unsizing, with_unsizing, last_unsizes, strict_supertraits, strict_supertraits_within, written_supertraits}
+use Rattle.model.specs.Rules.{Rule, BuiltIn, same_head, by_impl, row, rules, sized, sized_struct, auto_struct, object_auto, object_principal, unsize, unsize_to_dyn, unsize_dyn, unsize_upcast, unsize_struct, is_auto, is_dyn, is_written, same_reference, impl_rules, plain_rules, sized_rules, auto_rules, auto_rules_plain, unsize_rules, unsize_array_rules, unsize_to_dyn_rules, unsize_upcast_rules, unsize_struct_rules, upcasts_principal, upcasts_autos, object_rules, built_in_rules, equal_rows, elaborated, are_declared, are_dyn_compatible, is_declared, principal_with, autos_with, asked, last_asked, each_asked, together, fields_of, is_parameter, is_unsizing, some_unsizing, with_unsizing, last_unsizes, strict_supertraits, strict_supertraits_within, written_supertraits, clause_rules, super_rules, by_clause}
 use Rattle.model.specs.Answers.{is_closed, is_undeclared, written_in, children, short_chains, is_bounded, is_possible}
 use Rattle.model.specs.Walks.{Met, local, entered, struct_leaf, open_place, other_leaf, struct_is, trait_is, is_home, dyn_met, visited, until_decisive, item_in, ends_local, is_known_in}
 use Rattle.model.specs.Codes.{same}
@@ -15,35 +16,31 @@ use Rattle.model.proofs.Applies.{applies-in, fits-erased}
 use Rattle.model.proofs.Fitting.{not-true, append-shut, no-left, child-shut, next-shut, head-shut, fits-sound, same-reference-sound}
 use Rattle.model.proofs.Matching.{same-where-asked}
 use Rattle.model.proofs.Entries.{map-in}
-use Rattle.model.proofs.Members.{here, there, in-cases, in-nothing, in-filter, same-number}
+use Rattle.model.proofs.Members.{here, there, in-cases, in-nothing, same-number}
 use Rattle.model.proofs.NoHolds.{member-each}
 use Rattle.model.proofs.Supertraits.{flat-same}
-use Rattle.model.proofs.TermRules.{filter-map}
 use Rattle.model.proofs.TreeLaws.{erase-instantiate, nth-single-zero, nth-single-suc, single-nth}
 use Rattle.model.proofs.Walking.{left, right, both}
-use Rattle.type_terms.specs.Made.{terms, is_leaf_label, is_made}
-use Rattle.type_terms.proofs.Made.{false-true, is_ordinary, made-ordinary, made-rest, made-alone}
+use Rattle.type_terms.specs.Made.{terms, is_made}
+use Rattle.type_terms.proofs.Made.{false-true}
 use Rattle.evaluation.specs.Lists.{Every}
-use Rattle.declarations.specs.Applied.{sorts_of}
 use Rattle.assembly_laws.specs.Candidates.{is_param}
 use Rattle.assembly_laws.specs.Declared.{is_declared as is_declared_label, are_terms, is_unsorted, is_lifetime_parameter}
 use Rattle.assembly_laws.specs.DeclaredWell.{IsDeclaredWell}
 use Rattle.assembly_laws.specs.Facts.{is_unerased}
 use Rattle.assembly_laws.specs.Meaning.{SelfTypesBegin}
 use Rattle.assembly_laws.proofs.DeclaredParts.{header-declared, clause-declared, bound-declared}
-use Rattle.assembly_laws.proofs.ErasedCandidates.{nodes-same, types-same, consts-same, without_lifetimes}
+use Rattle.assembly_laws.proofs.ErasedCandidates.{types-same, consts-same, without_lifetimes}
 use Rattle.assembly_laws.proofs.CandidateKinds.{every-append}
 use Rattle.assembly_laws.proofs.ErasedRows.{declared-head, label-stays as kept-label}
 use Rattle.assembly_laws.proofs.ErasedTerms.{erased-lifetimes, declared-stays}
-use Rattle.assembly_laws.proofs.PlainRules.{is_wild, tame, Plain, plain-unbound, plain-instance}
+use Rattle.assembly_laws.proofs.PlainRules.{is_wild, tame, Plain, IsPlainReference, HavePlainPremises, plain-unbound, plain-instance}
 use Rattle.assembly_laws.proofs.ReadOff.{by-declared, is_kept, none-passes, below, one-sort, arguments-plain}
 use Rattle.assembly_laws.proofs.Headers.{child-some, next-some, here-some}
 use Rattle.assembly_laws.proofs.Plain.{sort-self}
 use Rattle.assembly_laws.proofs.Rows.{fields-declared}
-use Rattle.solver_exactness.specs.FormedFacts.{Sorts, EachNode, IsParamOf, HasParams, AreFormed, IsFormed, IsFormedView}
-use Rattle.solver_exactness.specs.GoalSets.{any_label}
-use Rattle.solver_exactness.proofs.FormedFacts.{supers-good, rules-good}
-use Rattle.solver_exactness.proofs.FormedInstances.{Stands, stands-cases, param-is, fits-by, sort-where}
+use Rattle.sessions.proofs.PlainPremises.{supers-plain, rules-plain}
+use Rattle.solver_exactness.proofs.FormedInstances.{Stands, stands-cases, fits-by, sort-where}
 use Rattle.sessions.proofs.Fitting.{shut}
 
 -- ---- terms
@@ -76,6 +73,21 @@ plain-stays none h = refl
 plain-stays (tree l c o) h =
     same-node (label-stays l (no-left (is_unerased l) (some_node is_unerased c) (no-left (is_unerased l || some_node is_unerased c) (some_node is_unerased o) h)))
     (plain-stays c (child-shut is_unerased l c o h)) (plain-stays o (next-shut is_unerased l c o h))
+
+-- and so does a declared term in which no lifetime parameter stands
+declared-same : (t : Trees) → some_node is_wild t ≡ false → some_node is_lifetime_parameter t ≡ false → erase t ≡ t
+declared-same none w p = refl
+declared-same (tree l c o) w p =
+    same-node (kept-label l (no-left (is_wild l) (some_node is_wild c) (no-left (is_wild l || some_node is_wild c) (some_node is_wild o) w))
+    (no-left (is_lifetime_parameter l) (some_node is_lifetime_parameter c) (no-left (is_lifetime_parameter l || some_node is_lifetime_parameter c) (some_node is_lifetime_parameter o) p)))
+    (declared-same c (child-shut is_wild l c o w) (child-shut is_lifetime_parameter l c o p)) (declared-same o (next-shut is_wild l c o w) (next-shut is_lifetime_parameter l c o p))
+
+all-stay : {A : Type 0} (f : A → A) (xs : List A) → ((x : A) → In x xs → f x ≡ x) → map f xs ≡ xs
+all-stay f [] h = refl
+all-stay {A = A} f (x ∷ xs) h = two (h x (here x xs)) (all-stay f xs (λ y i. h y (there y x xs i)))
+  where
+    two : {a b : A} {c d : List A} → a ≡ b → c ≡ d → a ∷ c ≡ b ∷ d
+    two p q = cc
 
 -- arguments up to lifetimes make the same of a declared term with its lifetimes and without
 put-same : (A t : Trees) → Plain A → are_terms t ≡ true → fits A t ≡ true → instantiate zero A (erase t) ≡ instantiate zero A t
@@ -186,16 +198,32 @@ one-rule s k u h =
     let A = arguments k.params k.header.args s.args in
     if-rule (fits A k.header.args && same_reference (with_args A k.header) s) (record { way = by_impl k.name; premises = all_with_args A k.clauses }) u h
 
+-- ---- the same world
+module _ (V : World) (well : IsDeclaredWell V) (cs : List CrateDecl) where
+  -- what bounds of traits hold is up to lifetimes already
+  bound-stays : (x : TraitDecl) → In x V.traits → (b : Reference) → In b x.bounds → erased_reference b ≡ b
+  bound-stays x i b j = ap (λ t. record { trait = b.trait; args = t }) (declared-same b.args (tame b.args (bound-declared V well.terms x b i j)) (well.erased x b i j))
+
+  trait-stays : (x : TraitDecl) → In x V.traits → erased_trait x ≡ x
+  trait-stays x i = ap (λ bs. record { name = x.name; home = x.home; is_fundamental = x.is_fundamental; is_auto = x.is_auto; bounds = bs }) (all-stay erased_reference x.bounds (bound-stays x i))
+
+  abbrev world_with : List TraitDecl → World
+  world_with ts = record { crates = cs; structs = map erased_struct V.structs; traits = ts; impls = map erased_impl V.impls }
+
+  pub erased-is : record (erased_world V) { crates = cs } ≡ without_lifetimes V cs
+  erased-is = ap (λ ts. world_with ts) (all-stay erased_trait V.traits trait-stays)
+
+-- no lifetime parameter stands in the fields of structs
+abbrev pub FieldsAreErased : World → Type 0
+FieldsAreErased V = (x : StructDecl) (f : Trees) → In x V.structs → In f x.fields → some_node is_lifetime_parameter f ≡ false
+
 -- ---- a view, and the same without lifetimes
-module _ (V : World) (sorts : Sorts) (well : IsDeclaredWell V) (view : IsFormedView V sorts) (begin : SelfTypesBegin V) (cs : List CrateDecl) where
+module _ (V : World) (well : IsDeclaredWell V) (begin : SelfTypesBegin V) (erased : FieldsAreErased V) (cs : List CrateDecl) where
   abbrev U : World
   U = without_lifetimes V cs
 
-  abbrev Good : Reference → Type 0
-  Good r = IsFormed V sorts r
-
   -- ---- impls
-  module _ (r : Reference) (good : Good r) (i : ImplDecl) (stands : In i V.impls) where
+  module _ (r : Reference) (plain : Plain r.args) (i : ImplDecl) (stands : In i V.impls) where
     abbrev h : Trees
     h = i.header.args
 
@@ -249,7 +277,7 @@ module _ (V : World) (sorts : Sorts) (well : IsDeclaredWell V) (view : IsFormedV
         two p q = cc
 
     A-plain : Plain A
-    A-plain = arguments-plain 0 i.params h r.args good.args.plain
+    A-plain = arguments-plain 0 i.params h r.args plain
 
     applied-so : fits A h ≡ true → with_args A i.header ≡ r → impl_rules r (erased_impl i) ≡ rule ∷ []
     applied-so f is =
@@ -271,7 +299,7 @@ module _ (V : World) (sorts : Sorts) (well : IsDeclaredWell V) (view : IsFormedV
     C = listed value_at 0 i.params
 
     B-plain : Plain B
-    B-plain = arguments-plain 0 i.params (erase h) r.args good.args.plain
+    B-plain = arguments-plain 0 i.params (erase h) r.args plain
 
     one-value : (j : ℕ) → Single (value_at j)
     one-value j = by (some_node (is_param of_lifetime j) h)
@@ -344,8 +372,8 @@ module _ (V : World) (sorts : Sorts) (well : IsDeclaredWell V) (view : IsFormedV
             absurd (in-nothing x.0 (subst (λ (us : List Rule). In x.0 us) (ap (λ z. if z then rule ∷ [] else []) e) x.1))
         by false e false g = ap (λ z. if z then rule_so ∷ [] else []) g ∙ sym (ap (λ z. if z then rule ∷ [] else []) e)
 
-  impls-same : (r : Reference) → Good r → flat_map (impl_rules r) U.impls ≡ flat_map (impl_rules r) V.impls
-  impls-same r good = flat-over erased_impl (impl_rules r) V.impls (λ i stands. impl-same r good i stands)
+  impls-same : (r : Reference) → Plain r.args → flat_map (impl_rules r) U.impls ≡ flat_map (impl_rules r) V.impls
+  impls-same r plain = flat-over erased_impl (impl_rules r) V.impls (λ i stands. impl-same r plain i stands)
 
   -- ---- supertraits
   within-same : (n : ℕ) (r : Reference) → strict_supertraits_within n U r ≡ strict_supertraits_within n V r
@@ -361,121 +389,43 @@ module _ (V : World) (sorts : Sorts) (well : IsDeclaredWell V) (view : IsFormedV
   compatible-same : (ps : List Reference) → are_dyn_compatible U ps ≡ are_dyn_compatible V ps
   compatible-same ps = ap (λ es. are_declared V ps && not (list_any (λ s. s.trait == sized) es)) (elaborated-same ps)
 
-  -- ---- fields of structs
-  param-where : (ss : List Sort) (t : Trees) → EachNode (HasParams ss) t → (s : Sort) (j : ℕ) → Stands s j t → IsParamOf ss j s
-  param-where ss none h s j g = absurd (false-true g)
-  param-where ss (tree (param k i) c o) h s j g =
-      stands-cases s j (param k i) c o g
-      (λ e. let x = param-is s j k i e in subst (λ z. IsParamOf ss z s) (sym x.1) (subst (IsParamOf ss i) (sym x.0) h.0))
-      (λ e. param-where ss c h.1 s j e) (λ e. param-where ss o h.2 s j e)
-  param-where ss (tree l c o) h s j g = stands-cases s j l c o g (λ e. absurd (false-true e)) (λ e. param-where ss c h.1 s j e) (λ e. param-where ss o h.2 s j e)
+  -- ---- structs, which are the same
+  field-stays : (x : StructDecl) → In x V.structs → (f : Trees) → In f x.fields → erase f ≡ f
+  field-stays x i f j = declared-same f (tame f (member-each are_terms x.fields f (fields-declared V well.terms [] x i) j)) (erased x f i j)
 
-  lifetime-leaf : (l : Label) → sort_of l ≡ of_lifetime → (is_ordinary l ≡ true) × (is_leaf_label l ≡ true)
-  lifetime-leaf static e = (refl, refl)
-  lifetime-leaf (param k i) e = (refl, refl)
-  lifetime-leaf (placeholder k i) e = (refl, refl)
-  lifetime-leaf (infer k i) e = (refl, refl)
-  lifetime-leaf (canonical k i) e = (refl, refl)
-  lifetime-leaf (bound k i j) e = (refl, refl)
-  lifetime-leaf (value k) e = absurd (cc)
-  lifetime-leaf l e = absurd (cc)
+  struct-stays : (x : StructDecl) → In x V.structs → erased_struct x ≡ x
+  struct-stays x i = ap (λ fs. record { name = x.name; home = x.home; is_fundamental = x.is_fundamental; fields = fs }) (all-stay erase x.fields (field-stays x i))
 
-  node-is : (s : Sort) (l : Label) (c : Trees) → is_made any_label terms (tree l c none) ≡ true → sort_of l ≡ s → is_a s (tree l c none) ≡ true
-  node-is of_type l c m e = both (is_sort (sort_of l) of_type) true (ap (λ z. is_sort z of_type) e) refl
-  node-is of_const l c m e = both (is_sort (sort_of l) of_const) true (ap (λ z. is_sort z of_const) e) refl
-  node-is of_lifetime l c m e =
-      let x = lifetime-leaf l e in
-      both (is_sort (sort_of l) of_lifetime) _ (ap (λ z. is_sort z of_lifetime) e) (both (is_no_tree c) true (childless (is_leaf_label l) (is_no_tree c) x.1 (made-ordinary any_label l c none x.0 m).1) refl)
-    where
-      childless : (a b : Bool) → a ≡ true → (not a || b) ≡ true → b ≡ true
-      childless true b e h = h
-      childless false b e h = absurd (false-true e)
+  structs-are : (s : ℕ) → structs_named U s ≡ structs_named V s
+  structs-are s = ap (filter (λ (x : StructDecl). x.name == s)) (all-stay erased_struct V.structs struct-stays)
 
-  nth-sort : (t : Trees) → is_made any_label terms t ≡ true → (ss : List Sort) → sorts_of t ≡ ss → (s : Sort) (i : ℕ) → IsParamOf ss i s → is_a s (nth t i) ≡ true
-  nth-sort none m [] e s i h = absurd h
-  nth-sort none m (k ∷ ss) e s i h = absurd (no-sorts e)
-    where
-      no-sorts : [] ≡ k ∷ ss → ⊥
-      no-sorts e = cc
-  nth-sort (tree l c o) m [] e s i h = absurd h
-  nth-sort (tree l c o) m (k ∷ ss) e s zero h = node-is s l c (made-alone any_label l c o m) (first-sort e ∙ h)
-    where
-      first-sort : sort_of l ∷ sorts_of o ≡ k ∷ ss → sort_of l ≡ k
-      first-sort e = cc
-  nth-sort (tree l c o) m (k ∷ ss) e s (suc i) h = nth-sort o (made-rest any_label l c o m) ss (next-sorts e) s i h
-    where
-      next-sorts : sort_of l ∷ sorts_of o ≡ k ∷ ss → sorts_of o ≡ ss
-      next-sorts e = cc
+  sized-same : (t : Trees) → sized_rules U t ≡ sized_rules V t
+  sized-same none = refl
+  sized-same (tree (adt s) c o) = ap (flat_map (λ x. row sized_struct (last_asked sized (fields_of x c)))) (structs-are s)
+  sized-same (tree l c o) = refl
 
-  -- arguments of the struct's sorts
-  record AreGiven (x : StructDecl) (t : Trees) : Type 0 where
-    formed : AreFormed V sorts t
-    sorted : sorts_of t ≡ sorts.of_struct x.name
-
-  field-same : (x : StructDecl) → In x V.structs → (t : Trees) → AreGiven x t → (f : Trees) → In f x.fields → instantiate zero t (erase f) ≡ instantiate zero t f
-  field-same x i t g f j =
-      let d = member-each are_terms x.fields f (fields-declared V well.terms [] x i) j in
-      put-same t f g.formed.plain d (fits-by t terms f (left (is_made is_declared_label terms f) _ d) (λ s k e. nth-sort t g.formed.made (sorts.of_struct x.name) g.sorted s k (param-where (sorts.of_struct x.name) f (view.fields x f i j).params s k e)))
-
-  put-all : (x : StructDecl) → In x V.structs → (t : Trees) → AreGiven x t → (fs : List Trees) → ((f : Trees) → In f fs → In f x.fields) → map (instantiate zero t) (map erase fs) ≡ map (instantiate zero t) fs
-  put-all x i t g [] h = refl
-  put-all x i t g (f ∷ fs) h = two (field-same x i t g f (h f (here f fs))) (put-all x i t g fs (λ y k. h y (there y f fs k)))
-    where
-      two : {a b : Trees} {c d : List Trees} → a ≡ b → c ≡ d → a ∷ c ≡ b ∷ d
-      two p q = cc
-
-  fields-same : (x : StructDecl) → In x V.structs → (t : Trees) → AreGiven x t → fields_of (erased_struct x) t ≡ fields_of x t
-  fields-same x i t g = ap together (put-all x i t g x.fields (λ f j. j))
-
-  structs-are : (s : ℕ) → structs_named U s ≡ map erased_struct (structs_named V s)
-  structs-are s = filter-map erased_struct (λ (x : StructDecl). x.name == s) (λ (x : StructDecl). x.name == s) (λ x. refl) V.structs
-
-  given-to : (s : ℕ) (t : Trees) → AreFormed V sorts t → sorts_of t ≡ sorts.of_struct s → (x : StructDecl) → In x (structs_named V s) → In x V.structs × AreGiven x t
-  given-to s t h e x i =
-      let m = in-filter (λ (y : StructDecl). y.name == s) V.structs x i in
-      (m.0, record { formed = h; sorted = e ∙ ap sorts.of_struct (sym (same-number x.name s m.1)) })
-
-  -- a row for each struct of the name
-  rows-same : (make : Trees → List Reference) (b : BuiltIn) (s : ℕ) (t : Trees) → AreFormed V sorts t → sorts_of t ≡ sorts.of_struct s
-      → flat_map (λ x. row b (make (fields_of x t))) (structs_named U s) ≡ flat_map (λ x. row b (make (fields_of x t))) (structs_named V s)
-  rows-same make b s t h e =
-      ap (flat_map (λ x. row b (make (fields_of x t)))) (structs-are s)
-      ∙ flat-over erased_struct (λ x. row b (make (fields_of x t))) (structs_named V s) (λ x i. let g = given-to s t h e x i in ap (λ z. row b (make z)) (fields-same x g.0 t g.1))
-
-  inside-formed : (l : Label) (c o : Trees) → is_ordinary l ≡ true → AreFormed V sorts (tree l c o) → AreFormed V sorts c
-  inside-formed l c o k h = record { made = (made-ordinary any_label l c o k h.made).2; plain = child-shut is_unerased l c o h.plain; nodes = h.nodes.1 }
-
-  behind-formed : (l : Label) (c o : Trees) → AreFormed V sorts (tree l c o) → AreFormed V sorts o
-  behind-formed l c o h = record { made = made-rest any_label l c o h.made; plain = next-shut is_unerased l c o h.plain; nodes = h.nodes.2 }
-
-  sized-same : (t : Trees) → AreFormed V sorts t → sized_rules U t ≡ sized_rules V t
-  sized-same none h = refl
-  sized-same (tree (adt s) c o) h = rows-same (last_asked sized) sized_struct s c (inside-formed (adt s) c o refl h) h.nodes.0.1
-  sized-same (tree l c o) h = refl
-
-  auto-same : (t : ℕ) (x : Trees) → AreFormed V sorts x → auto_rules_plain U t x ≡ auto_rules_plain V t x
-  auto-same t none h = refl
-  auto-same t (tree (adt s) c o) h = rows-same (each_asked t) auto_struct s c (inside-formed (adt s) c o refl h) h.nodes.0.1
-  auto-same t (tree (raw_pointer b) none o) h = refl
-  auto-same t (tree (raw_pointer b) (tree l c p) o) h = refl
-  auto-same t (tree array none o) h = refl
-  auto-same t (tree array (tree l c p) o) h = refl
-  auto-same t (tree slice none o) h = refl
-  auto-same t (tree slice (tree l c p) o) h = refl
-  auto-same t (tree (ref b) none o) h = refl
-  auto-same t (tree (ref b) (tree k d none) o) h = refl
-  auto-same t (tree (ref b) (tree k d (tree l c p)) o) h = refl
-  auto-same t (tree l c o) h = refl
+  auto-same : (t : ℕ) (x : Trees) → auto_rules_plain U t x ≡ auto_rules_plain V t x
+  auto-same t none = refl
+  auto-same t (tree (adt s) c o) = ap (flat_map (λ x. row auto_struct (each_asked t (fields_of x c)))) (structs-are s)
+  auto-same t (tree (raw_pointer b) none o) = refl
+  auto-same t (tree (raw_pointer b) (tree l c p) o) = refl
+  auto-same t (tree array none o) = refl
+  auto-same t (tree array (tree l c p) o) = refl
+  auto-same t (tree slice none o) = refl
+  auto-same t (tree slice (tree l c p) o) = refl
+  auto-same t (tree (ref b) none o) = refl
+  auto-same t (tree (ref b) (tree k d none) o) = refl
+  auto-same t (tree (ref b) (tree k d (tree l c p)) o) = refl
+  auto-same t (tree l c o) = refl
 
   heads-same : (t : ℕ) (l : Label) → is_written U t l ≡ is_written V t l
   heads-same t l =
       any-over erased_impl (λ (i : ImplDecl). (i.header.trait == t) && same_head l i.header.args) (λ (i : ImplDecl). (i.header.trait == t) && same_head l i.header.args) V.impls
       (λ i j. ap (λ b. (i.header.trait == t) && b) (declared-head l i.header.args (header-declared V well.terms i j) (begin i j)))
 
-  autos-same : (t : ℕ) (x : Trees) → AreFormed V sorts x → auto_rules U t x ≡ auto_rules V t x
-  autos-same t none h = refl
-  autos-same t (tree l c o) h =
-      ap (λ b. if b then [] else auto_rules_plain U t (tree l c o)) (heads-same t l) ∙ ap (λ z. if is_written V t l then [] else z) (auto-same t (tree l c o) h)
+  autos-same : (t : ℕ) (x : Trees) → auto_rules U t x ≡ auto_rules V t x
+  autos-same t none = refl
+  autos-same t (tree l c o) = ap (λ b. if b then [] else auto_rules_plain U t (tree l c o)) (heads-same t l) ∙ ap (λ z. if is_written V t l then [] else z) (auto-same t (tree l c o))
 
   -- ---- `Unsize`
   to-dyn-same : (t : Trees) → unsize_to_dyn_rules U t ≡ unsize_to_dyn_rules V t
@@ -502,75 +452,18 @@ module _ (V : World) (sorts : Sorts) (well : IsDeclaredWell V) (view : IsFormedV
   upcast-same (tree dynamic a (tree m d o)) = refl
   upcast-same (tree l c o) = refl
 
-  parameter-same : (j : ℕ) (l : Label) → is_parameter j (erase_label l) ≡ is_parameter j l
-  parameter-same j (param of_type i) = refl
-  parameter-same j (param of_const i) = refl
-  parameter-same j (param of_lifetime i) = refl
-  parameter-same j (placeholder of_type i) = refl
-  parameter-same j (placeholder of_const i) = refl
-  parameter-same j (placeholder of_lifetime i) = refl
-  parameter-same j (infer of_type i) = refl
-  parameter-same j (infer of_const i) = refl
-  parameter-same j (infer of_lifetime i) = refl
-  parameter-same j (canonical of_type i) = refl
-  parameter-same j (canonical of_const i) = refl
-  parameter-same j (canonical of_lifetime i) = refl
-  parameter-same j (bound of_type k i) = refl
-  parameter-same j (bound of_const k i) = refl
-  parameter-same j (bound of_lifetime k i) = refl
-  parameter-same j l = refl
-
-  unsizing-same : (fs : List Trees) (j : ℕ) → is_unsizing (map erase fs) j ≡ is_unsizing fs j
-  unsizing-same [] j = refl
-  unsizing-same (f ∷ []) j = nodes-same (is_parameter j) (parameter-same j) f
-  unsizing-same (f ∷ g ∷ fs) j = ap (λ b. not b && is_unsizing (map erase (g ∷ fs)) j) (nodes-same (is_parameter j) (parameter-same j) f) ∙ ap (λ b. not (some_node (is_parameter j) f) && b) (unsizing-same (g ∷ fs) j)
-
-  some-same : (fs : List Trees) (k : ℕ) (b : Trees) → some_unsizing (map erase fs) k b ≡ some_unsizing fs k b
-  some-same fs k none = refl
-  some-same fs k (tree l c o) = ap (λ x. x || some_unsizing (map erase fs) (suc k) o) (unsizing-same fs k) ∙ ap (λ x. is_unsizing fs k || x) (some-same fs (suc k) o)
-
-  with-same : (fs : List Trees) (k : ℕ) (b d : Trees) → with_unsizing (map erase fs) k b d ≡ with_unsizing fs k b d
-  with-same fs k none d = refl
-  with-same fs k (tree l c o) none = refl
-  with-same fs k (tree l c o) (tree m e p) =
-      ap (λ x. if x then tree m e (with_unsizing (map erase fs) (suc k) o p) else tree l c (with_unsizing (map erase fs) (suc k) o p)) (unsizing-same fs k)
-      ∙ ap (λ z. if is_unsizing fs k then tree m e z else tree l c z) (with-same fs (suc k) o p)
-
-  last-same : (x : StructDecl) → In x V.structs → (a b : Trees) → AreGiven x a → AreGiven x b → (fs : List Trees) → ((f : Trees) → In f fs → In f x.fields) → last_unsizes (map erase fs) a b ≡ last_unsizes fs a b
-  last-same x i a b g k [] h = refl
-  last-same x i a b g k (f ∷ []) h =
-      let j = h f (here f []) in
-      ap (λ z. record { trait = unsize; args = z +++ instantiate zero b (erase f) } ∷ []) (field-same x i a g f j) ∙ ap (λ z. record { trait = unsize; args = instantiate zero a f +++ z } ∷ []) (field-same x i b k f j)
-  last-same x i a b g k (f ∷ e ∷ fs) h = last-same x i a b g k (e ∷ fs) (λ y m. h y (there y f (e ∷ fs) m))
-
   abbrev by_struct : Trees → Trees → StructDecl → List Rule
   by_struct a b x = if some_unsizing x.fields 0 a && same (with_unsizing x.fields 0 a b) b then row unsize_struct (last_unsizes x.fields a b) else []
 
-  by-struct-same : (x : StructDecl) → In x V.structs → (a b : Trees) → AreGiven x a → AreGiven x b → by_struct a b (erased_struct x) ≡ by_struct a b x
-  by-struct-same x i a b g k =
-      ap (λ c. if c && same (with_unsizing (map erase x.fields) 0 a b) b then row unsize_struct (last_unsizes (map erase x.fields) a b) else []) (some-same x.fields 0 a)
-      ∙ ap (λ z. if some_unsizing x.fields 0 a && same z b then row unsize_struct (last_unsizes (map erase x.fields) a b) else []) (with-same x.fields 0 a b)
-      ∙ ap (λ z. if some_unsizing x.fields 0 a && same (with_unsizing x.fields 0 a b) b then row unsize_struct z else []) (last-same x i a b g k x.fields (λ f j. j))
+  structs-same : (t : Trees) → unsize_struct_rules U t ≡ unsize_struct_rules V t
+  structs-same none = refl
+  structs-same (tree (adt s) a none) = refl
+  structs-same (tree (adt s) a (tree (adt u) b o)) = ap (λ xs. if s == u then flat_map (by_struct a b) xs else []) (structs-are s)
+  structs-same (tree (adt s) a (tree m b o)) = refl
+  structs-same (tree l c o) = refl
 
-  structs-same : (t : Trees) → AreFormed V sorts t → unsize_struct_rules U t ≡ unsize_struct_rules V t
-  structs-same none h = refl
-  structs-same (tree (adt s) a none) h = refl
-  structs-same (tree (adt s) a (tree (adt u) b o)) h = by (s == u) refl
-    where
-      by : (c : Bool) → (s == u) ≡ c → (if c then flat_map (by_struct a b) (structs_named U s) else []) ≡ (if c then flat_map (by_struct a b) (structs_named V s) else [])
-      by false e = refl
-      by true e =
-          let d = behind-formed (adt s) a (tree (adt u) b o) h in
-          ap (flat_map (by_struct a b)) (structs-are s)
-          ∙ flat-over erased_struct (by_struct a b) (structs_named V s)
-          (λ x i.
-          let g = given-to s a (inside-formed (adt s) a (tree (adt u) b o) refl h) h.nodes.0.1 x i in
-          by-struct-same x g.0 a b g.1 (given-to s b (inside-formed (adt u) b o refl d) (d.nodes.0.1 ∙ ap sorts.of_struct (sym (same-number s u e))) x i).1)
-  structs-same (tree (adt s) a (tree m b o)) h = refl
-  structs-same (tree l c o) h = refl
-
-  unsize-same : (t : Trees) → AreFormed V sorts t → unsize_rules U t ≡ unsize_rules V t
-  unsize-same t h = three (to-dyn-same t) (upcast-same t) (structs-same t h)
+  unsize-same : (t : Trees) → unsize_rules U t ≡ unsize_rules V t
+  unsize-same t = three (to-dyn-same t) (upcast-same t) (structs-same t)
     where
       three : {a a' b b' c c' : List Rule} → a ≡ a' → b ≡ b' → c ≡ c' → unsize_array_rules t ++ (a ++ (b ++ c)) ≡ unsize_array_rules t ++ (a' ++ (b' ++ c'))
       three e f g = cc
@@ -591,23 +484,29 @@ module _ (V : World) (sorts : Sorts) (well : IsDeclaredWell V) (view : IsFormedV
   objects-same r (tree l c o) = refl
 
   -- ---- all rules
-  built-in-same : (r : Reference) → Good r → built_in_rules U r ≡ built_in_rules V r
-  built-in-same r good =
-      four (ap (λ z. if r.trait == sized then z else []) (sized-same r.args good.args)) (ap (λ z. if is_auto V r.trait then z else []) (autos-same r.trait r.args good.args))
-      (ap (λ z. if r.trait == unsize then z else []) (unsize-same r.args good.args)) (objects-same r r.args)
+  built-in-same : (r : Reference) → built_in_rules U r ≡ built_in_rules V r
+  built-in-same r =
+      four (ap (λ z. if r.trait == sized then z else []) (sized-same r.args)) (ap (λ z. if is_auto V r.trait then z else []) (autos-same r.trait r.args))
+      (ap (λ z. if r.trait == unsize then z else []) (unsize-same r.args)) (objects-same r r.args)
     where
       four : {a a' b b' c c' d d' : List Rule} → a ≡ a' → b ≡ b' → c ≡ c' → d ≡ d' → plain_rules r ++ (a ++ (b ++ (c ++ d))) ≡ plain_rules r ++ (a' ++ (b' ++ (c' ++ d')))
       four e f g h = cc
 
-  pub rules-same : (r : Reference) → Good r → rules U [] r ≡ rules V [] r
-  rules-same r good = two (impls-same r good) (built-in-same r good)
+  where-clauses-same : (r : Reference) (k : ℕ) (ss : List Reference) → clause_rules U r k ss ≡ clause_rules V r k ss
+  where-clauses-same r k [] = refl
+  where-clauses-same r k (s ∷ ss) =
+      let own = if same_reference s r then record { way = by_clause k; premises = [] } ∷ [] else [] in
+      ap (λ zs. own ++ (super_rules r k 0 zs ++ clause_rules U r (suc k) ss)) (supers-same s) ∙ ap (λ us. own ++ (super_rules r k 0 (strict_supertraits V s) ++ us)) (where-clauses-same r (suc k) ss)
+
+  pub rules-same : (E : List Reference) (r : Reference) → Plain r.args → rules U E r ≡ rules V E r
+  rules-same E r plain = three (impls-same r plain) (built-in-same r) (where-clauses-same r 0 E)
     where
-      two : {a a' b b' : List Rule} → a ≡ a' → b ≡ b' → a ++ (b ++ []) ≡ a' ++ (b' ++ [])
-      two e f = cc
+      three : {a a' b b' c c' : List Rule} → a ≡ a' → b ≡ b' → c ≡ c' → a ++ (b ++ c) ≡ a' ++ (b' ++ c')
+      three e f g = cc
 
   -- ---- what is read of names alone
-  struct-same : (p : StructDecl → Bool) → ((x : StructDecl) → p (erased_struct x) ≡ p x) → (s : ℕ) → struct_is p U s ≡ struct_is p V s
-  struct-same p e s = ap (list_any p) (structs-are s) ∙ any-over erased_struct p p (structs_named V s) (λ x i. e x)
+  struct-same : (p : StructDecl → Bool) (s : ℕ) → struct_is p U s ≡ struct_is p V s
+  struct-same p s = ap (list_any p) (structs-are s)
 
   dyn-same : (d : Option ℕ) (c : Trees) → dyn_met U d c ≡ dyn_met V d c
   dyn-same d (tree (principal n t) c o) = refl
@@ -624,7 +523,7 @@ module _ (V : World) (sorts : Sorts) (well : IsDeclaredWell V) (view : IsFormedV
   visited-same d (tree (adt s) c o) =
       ap (λ z. z ++ visited U d o)
       (if-same (struct_is (λ x. is_home d x.home) U s) (struct_is (λ x. is_home d x.home) V s) (struct_is (λ x. x.is_fundamental) U s) (struct_is (λ x. x.is_fundamental) V s) (visited U d c) (visited V d c) s
-      (struct-same (λ x. is_home d x.home) (λ x. refl) s) (struct-same (λ x. x.is_fundamental) (λ x. refl) s) (visited-same d c))
+      (struct-same (λ x. is_home d x.home) s) (struct-same (λ x. x.is_fundamental) s) (visited-same d c))
       ∙ ap (λ z. (if struct_is (λ x. is_home d x.home) V s then local ∷ [] else if struct_is (λ x. x.is_fundamental) V s then entered s ∷ visited V d c else struct_leaf s ∷ []) ++ z) (visited-same d o)
   visited-same d (tree dynamic c o) = ap (λ z. z ++ visited U d o) (dyn-same d c) ∙ ap (λ z. dyn_met V d c ++ z) (visited-same d o)
   visited-same d (tree (param of_type i) c o) = ap (λ z. open_place ∷ z) (visited-same d o)
@@ -647,8 +546,8 @@ module _ (V : World) (sorts : Sorts) (well : IsDeclaredWell V) (view : IsFormedV
   visited-same d (tree l c o) = ap (λ z. other_leaf ∷ z) (visited-same d o)
 
   item-same : (x : Met) → item_in U x ≡ item_in V x
-  item-same (struct_leaf s) = struct-same (λ x. true) (λ x. refl) s
-  item-same (entered s) = struct-same (λ x. true) (λ x. refl) s
+  item-same (struct_leaf s) = struct-same (λ x. true) s
+  item-same (entered s) = struct-same (λ x. true) s
   item-same x = refl
 
   items-same : (xs : List Met) → list_all (item_in U) xs ≡ list_all (item_in V) xs
@@ -662,7 +561,7 @@ module _ (V : World) (sorts : Sorts) (well : IsDeclaredWell V) (view : IsFormedV
       ∙ ap (λ z. trait_is (λ _. true) V r.trait && (list_all (item_in V) (until_decisive (visited V None r.args)) && (trait_is (λ x. (x.home == c) || x.is_fundamental) V r.trait || ends_local (until_decisive z)))) (visited-same (Some c) r.args)
 
   undeclared-same : (l : Label) → is_undeclared U l ≡ is_undeclared V l
-  undeclared-same (adt s) = ap not (struct-same (λ x. true) (λ x. refl) s)
+  undeclared-same (adt s) = ap not (struct-same (λ x. true) s)
   undeclared-same (predicate (of_trait t)) = refl
   undeclared-same l = refl
 
@@ -684,72 +583,44 @@ module _ (V : World) (sorts : Sorts) (well : IsDeclaredWell V) (view : IsFormedV
   any-alike P p q f [] h = refl
   any-alike P p q f (x ∷ xs) h = ap (λ b. b || list_any p xs) (f x h.0) ∙ ap (λ b. q x || b) (any-alike P p q f xs h.1)
 
-  pub possible-same : (n c : ℕ) (r : Reference) → Good r → is_possible n U c r ≡ is_possible n V c r
-  possible-same zero c r good = refl
-  possible-same (suc n) c r good =
+  pub possible-same : (n c : ℕ) (r : Reference) → Plain r.args → is_possible n U c r ≡ is_possible n V c r
+  possible-same zero c r plain = refl
+  possible-same (suc n) c r plain =
       join
-      (ap (list_any (λ u. list_all (λ p. is_possible n U c p) u.premises)) (rules-same r good)
-      ∙ any-alike (λ (u : Rule). Every Good u.premises) (λ u. list_all (λ p. is_possible n U c p) u.premises) (λ u. list_all (λ p. is_possible n V c p) u.premises)
-      (λ u h. all-alike Good (λ p. is_possible n U c p) (λ p. is_possible n V c p) (λ p g. possible-same n c p g) u.premises h) (rules V [] r) (rules-good V sorts well view [] r good))
+      (ap (list_any (λ u. list_all (λ p. is_possible n U c p) u.premises)) (rules-same [] r plain)
+      ∙ any-alike (λ (u : Rule). Every IsPlainReference u.premises) (λ u. list_all (λ p. is_possible n U c p) u.premises) (λ u. list_all (λ p. is_possible n V c p) u.premises)
+      (λ u h. all-alike IsPlainReference (λ p. is_possible n U c p) (λ p. is_possible n V c p) (λ p g. possible-same n c p g) u.premises h) (rules V [] r) (rules-plain V well.terms [] r plain))
       (known-same c r)
       (ap (list_all (λ p. is_possible n U c p)) (supers-same r)
-      ∙ all-alike Good (λ p. is_possible n U c p) (λ p. is_possible n V c p) (λ p g. possible-same n c p g) (strict_supertraits V r) (supers-good V sorts well view r good))
+      ∙ all-alike IsPlainReference (λ p. is_possible n U c p) (λ p. is_possible n V c p) (λ p g. possible-same n c p g) (strict_supertraits V r) (supers-plain V well.terms r plain))
     where
       join : {a b k m x y : Bool} → a ≡ b → k ≡ m → x ≡ y → (a || (not k && x)) ≡ (b || (not m && y))
       join e f g = cc
 
-  premises-good : (us : List Rule) → Every (λ (u : Rule). Every Good u.premises) us → Every Good (flat_map (λ u. u.premises) us)
-  premises-good [] h = tt
-  premises-good (u ∷ us) h = every-append Good u.premises (flat_map (λ v. v.premises) us) h.0 (premises-good us h.1)
+  premises-plain : (us : List Rule) → HavePlainPremises us → Every IsPlainReference (flat_map (λ u. u.premises) us)
+  premises-plain [] h = tt
+  premises-plain (u ∷ us) h = every-append IsPlainReference u.premises (flat_map (λ v. v.premises) us) h.0 (premises-plain us h.1)
 
-  children-good : (c : ℕ) (r : Reference) → Good r → Every Good (children V c r)
-  children-good c r good =
-      every-append Good (flat_map (λ u. u.premises) (rules V [] r)) (if is_known_in V c r then [] else strict_supertraits V r) (premises-good (rules V [] r) (rules-good V sorts well view [] r good)) (by (is_known_in V c r))
+  children-plain : (c : ℕ) (r : Reference) → Plain r.args → Every IsPlainReference (children V c r)
+  children-plain c r plain =
+      every-append IsPlainReference (flat_map (λ u. u.premises) (rules V [] r)) (if is_known_in V c r then [] else strict_supertraits V r) (premises-plain (rules V [] r) (rules-plain V well.terms [] r plain)) (by (is_known_in V c r))
     where
-      by : (b : Bool) → Every Good (if b then [] else strict_supertraits V r)
+      by : (b : Bool) → Every IsPlainReference (if b then [] else strict_supertraits V r)
       by true = tt
-      by false = supers-good V sorts well view r good
+      by false = supers-plain V well.terms r plain
 
-  children-same : (c : ℕ) (r : Reference) → Good r → children U c r ≡ children V c r
-  children-same c r good =
-      ap (λ us. flat_map (λ u. u.premises) us ++ (if is_known_in U c r then [] else strict_supertraits U r)) (rules-same r good)
+  children-same : (c : ℕ) (r : Reference) → Plain r.args → children U c r ≡ children V c r
+  children-same c r plain =
+      ap (λ us. flat_map (λ u. u.premises) us ++ (if is_known_in U c r then [] else strict_supertraits U r)) (rules-same [] r plain)
       ∙ ap (λ b. flat_map (λ u. u.premises) (rules V [] r) ++ (if b then [] else strict_supertraits U r)) (known-same c r)
       ∙ ap (λ z. flat_map (λ u. u.premises) (rules V [] r) ++ (if is_known_in V c r then [] else z)) (supers-same r)
 
-  short-same : (n c : ℕ) (r : Reference) → Good r → short_chains n U c r ≡ short_chains n V c r
-  short-same zero c r good = refl
-  short-same (suc n) c r good =
-      ap (list_all (λ s. short_chains n U c s)) (children-same c r good)
-      ∙ all-alike Good (λ s. short_chains n U c s) (λ s. short_chains n V c s) (λ s g. short-same n c s g) (children V c r) (children-good c r good)
+  short-same : (n c : ℕ) (r : Reference) → Plain r.args → short_chains n U c r ≡ short_chains n V c r
+  short-same zero c r plain = refl
+  short-same (suc n) c r plain =
+      ap (list_all (λ s. short_chains n U c s)) (children-same c r plain)
+      ∙ all-alike IsPlainReference (λ s. short_chains n U c s) (λ s. short_chains n V c s) (λ s g. short-same n c s g) (children V c r) (children-plain c r plain)
 
-  pub bounded-same : (n c : ℕ) (r : Reference) → Good r → is_bounded n U c r ≡ is_bounded n V c r
-  bounded-same n c r good =
-      ap (λ b. is_closed r.args && (b && short_chains n U c r)) (written-same r) ∙ ap (λ b. is_closed r.args && (written_in V r && b)) (short-same n c r good)
-
-  -- ---- the same world
-  -- what bounds of traits hold is up to lifetimes already
-  bound-stays : (t : Trees) → some_node is_wild t ≡ false → some_node is_lifetime_parameter t ≡ false → erase t ≡ t
-  bound-stays none w p = refl
-  bound-stays (tree l c o) w p =
-      same-node (kept-label l (no-left (is_wild l) (some_node is_wild c) (no-left (is_wild l || some_node is_wild c) (some_node is_wild o) w))
-      (no-left (is_lifetime_parameter l) (some_node is_lifetime_parameter c) (no-left (is_lifetime_parameter l || some_node is_lifetime_parameter c) (some_node is_lifetime_parameter o) p)))
-      (bound-stays c (child-shut is_wild l c o w) (child-shut is_lifetime_parameter l c o p)) (bound-stays o (next-shut is_wild l c o w) (next-shut is_lifetime_parameter l c o p))
-
-  all-stay : {A : Type 0} (f : A → A) (xs : List A) → ((x : A) → In x xs → f x ≡ x) → map f xs ≡ xs
-  all-stay f [] h = refl
-  all-stay {A = A} f (x ∷ xs) h = two (h x (here x xs)) (all-stay f xs (λ y i. h y (there y x xs i)))
-    where
-      two : {a b : A} {c d : List A} → a ≡ b → c ≡ d → a ∷ c ≡ b ∷ d
-      two p q = cc
-
-  reference-stays : (x : TraitDecl) → In x V.traits → (b : Reference) → In b x.bounds → erased_reference b ≡ b
-  reference-stays x i b j = ap (λ t. record { trait = b.trait; args = t }) (bound-stays b.args (tame b.args (bound-declared V well.terms x b i j)) (well.erased x b i j))
-
-  trait-stays : (x : TraitDecl) → In x V.traits → erased_trait x ≡ x
-  trait-stays x i = ap (λ bs. record { name = x.name; home = x.home; is_fundamental = x.is_fundamental; is_auto = x.is_auto; bounds = bs }) (all-stay erased_reference x.bounds (reference-stays x i))
-
-  abbrev world_with : List TraitDecl → World
-  world_with ts = record { crates = cs; structs = map erased_struct V.structs; traits = ts; impls = map erased_impl V.impls }
-
-  pub erased-is : record (erased_world V) { crates = cs } ≡ U
-  erased-is = ap (λ ts. world_with ts) (all-stay erased_trait V.traits trait-stays)
+  pub bounded-same : (n c : ℕ) (r : Reference) → Plain r.args → is_bounded n U c r ≡ is_bounded n V c r
+  bounded-same n c r plain =
+      ap (λ b. is_closed r.args && (b && short_chains n U c r)) (written-same r) ∙ ap (λ b. is_closed r.args && (written_in V r && b)) (short-same n c r plain)

@@ -25,6 +25,7 @@ pub mod OpenPairs
 pub mod Checking
 pub mod Proving
 pub mod Applying
+pub mod ProvedQuestions
 pub use Rattle.orphan_check.specs.Held as HeldErrors
 pub use Rattle.orphan_check.specs.Items as OrphanErrors
 pub use Rattle.overlap_check.specs.Orphans as ErrorTerms

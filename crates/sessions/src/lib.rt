@@ -19,6 +19,7 @@ pub mod laws;
 mod limits;
 mod obligations;
 mod pair_laws;
+mod proved_questions;
 mod proving;
 mod question_laws;
 mod refuted;

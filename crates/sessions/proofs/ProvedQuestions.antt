@@ -1,0 +1,360 @@
+-- What an answer `yes` proves: with its values the reference has a proof by the declarations as they are written, and so by the same
+-- without their lifetimes.
+use Rattle.std.proofs.Common.{◌≡◌, ◌-◌, ◌<◌, ℕ, suc, Bool, true, false, not, ◌||◌, if◌then◌else◌, List, [], ◌∷◌, map, refl, sym, ◌∙◌, ap, subst}
+use Rattle.std.specs.Global.{Vec}
+use Rattle.model.specs.Label.{Label, Sort, of_type, of_const, of_lifetime, dynamic, fn_ptr, principal, auto_trait, of_trait, predicate, param, placeholder, infer, canonical, bound}
+use Rattle.model.specs.Proofs.{In, HasProof}
+use Rattle.model.specs.Rules.{elaborated}
+use Rattle.model.specs.Terms.{erased_reference}
+use Rattle.model.specs.Trees.{Trees, none, tree, leaf, is_sort, is_no_tree, erase, erase_label, some_node}
+use Rattle.model.specs.Worlds.{World, CrateDecl, Reference}
+use Rattle.model.proofs.Entries.{map-in}
+use Rattle.model.proofs.Fitting.{or-no, no-left, child-shut, next-shut}
+use Rattle.model.proofs.Members.{in-map}
+use Rattle.type_terms.specs.Kinds.{arg_trees}
+use Rattle.type_terms.specs.declared.kinds.GenericArgKind.{GenericArgKind}
+use Rattle.type_terms.specs.Made.{Standing, terms, bounds, traits, is_made}
+use Rattle.type_terms.specs.Terms.{Entry}
+use Rattle.type_terms.proofs.Made.{left, right, false-true, no-tree, IsLast, made-ordinary, last-bound, last-trait, never-dynamic, never-dynamic-bound, never-principal}
+use Rattle.infer_table.specs.Canonical.{GoalTrees, HasNoCanonical}
+use Rattle.infer_table.specs.Content.{Table, Ready, content, IsProper}
+use Rattle.infer_table.specs.Covers.{AreKnown}
+use Rattle.infer_table.specs.Inputs.{IsWithoutCanonical}
+use Rattle.infer_table.specs.Solutions.{Assignment, Binding, instance, resolved}
+use Rattle.evaluation.specs.Content.{Fact}
+use Rattle.evaluation.specs.Proof as Lists
+use Rattle.evaluation.proofs.Readings.{HasLeaves, made-leaves}
+use Rattle.declarations.specs.Elaboration.{elaborate}
+use Rattle.declarations.specs.Items.{Items, written}
+use Rattle.assembly_laws.specs.Facts.{is_unerased, trees_of_clauses, clauses_of, children_of, reference_in, FollowsByView, is_coinductive_fact}
+use Rattle.assembly_laws.proofs.Facts.{references-come-back, proofs-of-facts}
+use Rattle.assembly_laws.proofs.Stack.{elaborated-only}
+use Rattle.candidate_assembly.specs.Fitting.{solving_of}
+use Rattle.candidate_assembly.specs.Solving.{Solving}
+use Rattle.solver_exactness.specs.FormedFacts.{Sorts, IsFormedView}
+use Rattle.assembly_laws.specs.DeclaredWell.{IsDeclaredWell}
+use Rattle.assembly_laws.specs.Meaning.{SelfTypesBegin}
+use Rattle.assembly_laws.proofs.ErasedCandidates.{without_lifetimes}
+use Rattle.assembly_laws.proofs.PlainRules.{Plain}
+use Rattle.text_definitions.specs.Declarations.{Declarations, Question, Variable}
+use Rattle.text_definitions.specs.Names.{own_from, own_unknowns}
+use Rattle.view_lowering.specs.Plain.{unbound_reference, unbound_references}
+use Rattle.view_lowering.specs.QuestionVariables.{number_of, variable_kinds}
+use Rattle.view_lowering.specs.Questions.{IsQuestion}
+use Rattle.view_lowering.specs.Ready.{AreSeen}
+use Rattle.overlap_check.specs.Questions.{FitKinds, filled, filled_reference}
+use Rattle.sessions.specs.Clauses.{AddSupertraits}
+use Rattle.sessions.specs.Fitting.{sorts_in}
+use Rattle.sessions.specs.Goals.{is_fixed, are_fixed}
+use Rattle.sessions.specs.Proved.{fact_with_values}
+use Rattle.sessions.specs.ProvedQuestions.{YesIsRight}
+use Rattle.sessions.specs.Given.{answer_in}
+use Rattle.sessions.specs.Promises.{IsProved, view_in}
+use Rattle.sessions.specs.Proving.{is_bound_term, goal_asking, IsAnsweredBySolver}
+use Rattle.sessions.specs.Questions.{AreFixedReferences}
+use Rattle.sessions.specs.Subjects.{IsOfText}
+use Rattle.sessions.specs.Tables.{count_of}
+use Rattle.sessions.specs.Values.{unknowns_from, values_in}
+use Rattle.sessions.specs.declared.answers.ProveAnswer.TheVariants.{Yes}
+use Rattle.sessions.proofs.Clauses.{supertraits-prove-no-more}
+use Rattle.sessions.proofs.ElaboratedClauses.{IsFormedClause, levels-erased}
+use Rattle.sessions.proofs.Filled.{values-fill}
+use Rattle.sessions.proofs.PlainProofs.{plain-proof}
+use Rattle.sessions.proofs.SeenPlainly.{rules-are, seen-begin, seen-erased}
+use Rattle.sessions.proofs.WithoutLifetimes.{FieldsAreErased, erased-is}
+use Rattle.sessions.proofs.Itself.{themselves, themselves-read}
+use Rattle.sessions.proofs.QuestionTerms.{is_own, AreFixedTerms, so-below}
+use Rattle.sessions.proofs.Refusals.{plain-erased}
+use Rattle.sessions.proofs.TextQuestions.{fixed, well, view, clause-formed, elaborated-fixed}
+
+-- ---- trees of good labels
+abbrev AllGood : (Label → Bool) → Trees → Type 0
+AllGood good none = Unit {0}
+AllGood good (tree l c o) = (good l ≡ true) × AllGood good c × AllGood good o
+
+module _ (good : Label → Bool) (dyns : good dynamic ≡ true) (principals : (n t : ℕ) → good (principal n t) ≡ true) (autos : (t : ℕ) → good (auto_trait t) ≡ true) where
+  last-good : (l : Label) (c o : Trees) → IsLast good l c o → AllGood good (tree l c o)
+  last-good l c o x = (x.good_label, subst (AllGood good) (sym x.children) tt, subst (AllGood good) (sym x.rest) tt)
+
+  none-good : (c : Trees) → is_no_tree c ≡ true → AllGood good c
+  none-good c h = subst (AllGood good) (sym (no-tree c h)) tt
+
+  all-good : (m : Standing) (t : Trees) → is_made good m t ≡ true → AllGood good t
+  all-good terms none h = tt
+  all-good terms (tree dynamic c o) h = (dyns, all-good bounds c (left (is_made good bounds c) _ h), all-good terms o (right (is_made good bounds c) _ h))
+  all-good terms (tree (principal n i) c o) h = absurd (false-true h)
+  all-good terms (tree (auto_trait i) c o) h = absurd (false-true h)
+  all-good terms (tree (predicate k) c o) h = absurd (false-true h)
+  all-good terms (tree l c o) h = let x = made-ordinary good l c o refl h in (x.0, all-good terms c x.2, all-good terms o x.3)
+  all-good bounds none h = absurd (false-true h)
+  all-good bounds (tree (principal n i) c o) h = (principals n i, all-good terms c (left (is_made good terms c) _ h), all-good traits o (right (is_made good terms c) _ h))
+  all-good bounds (tree (auto_trait i) c o) h = (autos i, none-good c (left (is_no_tree c) _ h), all-good traits o (right (is_no_tree c) _ h))
+  all-good bounds (tree (predicate k) c o) h = absurd (false-true h)
+  all-good bounds (tree dynamic c o) h = absurd (never-dynamic-bound good c o h)
+  all-good bounds (tree l c o) h = last-good l c o (last-bound good l c o refl h)
+  all-good traits none h = absurd (false-true h)
+  all-good traits (tree (auto_trait i) c o) h = (autos i, none-good c (left (is_no_tree c) _ h), all-good traits o (right (is_no_tree c) _ h))
+  all-good traits (tree (predicate k) c o) h = absurd (false-true h)
+  all-good traits (tree dynamic c o) h = absurd (never-dynamic good c o h)
+  all-good traits (tree (principal n i) c o) h = absurd (never-principal good n i c o h)
+  all-good traits (tree l c o) h = last-good l c o (last-trait good l c o refl h)
+
+proper : (t : Trees) → HasLeaves t → IsProper t
+proper none h = tt
+proper (tree (infer k v) c o) h = (h.0 refl, proper o h.2)
+proper (tree l c o) h = (proper c h.1, proper o h.2)
+
+-- ---- what is asked for
+clean-own : (ks : List Sort) (t : Trees) → AllGood (is_own ks) t → HasNoCanonical t
+clean-own ks none h = tt
+clean-own ks (tree (canonical k i) c o) h = absurd (false-true h.0)
+clean-own ks (tree l c o) h = (clean-own ks c h.1, clean-own ks o h.2)
+
+same-count : (s : Sort) (ks : List Sort) → number_of s ks ≡ count_of s ks
+same-count s [] = refl
+same-count s (k ∷ ks) = by (is_sort k s) (same-count s ks)
+  where
+    by : (b : Bool) → number_of s ks ≡ count_of s ks → (if b then suc (number_of s ks) else number_of s ks) ≡ (if b then suc (count_of s ks) else count_of s ks)
+    by true e = ap suc e
+    by false e = e
+
+known : (ks : List Sort) (t : Trees) → AllGood (is_own ks) t → AreKnown (λ s. count_of s ks) t
+known ks none h = tt
+known ks (tree (infer s i) c o) h = (subst (λ n. i < n) (same-count s ks) (so-below i (number_of s ks) h.0), known ks c h.1, known ks o h.2)
+known ks (tree l c o) h = (known ks c h.1, known ks o h.2)
+
+-- where no type and no constant is bound, terms are written up to lifetimes once these are erased
+label-plain : (l : Label) → is_bound_term l ≡ false → is_unerased (erase_label l) ≡ false
+label-plain (fn_ptr n) h = refl
+label-plain (principal n t) h = refl
+label-plain (param of_lifetime i) h = refl
+label-plain (param of_type i) h = refl
+label-plain (param of_const i) h = refl
+label-plain (placeholder of_lifetime i) h = refl
+label-plain (placeholder of_type i) h = refl
+label-plain (placeholder of_const i) h = refl
+label-plain (infer of_lifetime i) h = refl
+label-plain (infer of_type i) h = refl
+label-plain (infer of_const i) h = refl
+label-plain (canonical of_lifetime i) h = refl
+label-plain (canonical of_type i) h = absurd (false-true (sym h))
+label-plain (canonical of_const i) h = absurd (false-true (sym h))
+label-plain (bound of_lifetime j i) h = refl
+label-plain (bound of_type j i) h = absurd (false-true (sym h))
+label-plain (bound of_const j i) h = absurd (false-true (sym h))
+label-plain l h = refl
+
+all-plain : (t : Trees) → some_node is_bound_term t ≡ false → some_node is_unerased (erase t) ≡ false
+all-plain none h = refl
+all-plain (tree l c o) h =
+    or-no (is_unerased (erase_label l) || some_node is_unerased (erase c)) (some_node is_unerased (erase o))
+    (or-no (is_unerased (erase_label l)) (some_node is_unerased (erase c))
+    (label-plain l (no-left (is_bound_term l) (some_node is_bound_term c) (no-left (is_bound_term l || some_node is_bound_term c) (some_node is_bound_term o) h))) (all-plain c (child-shut is_bound_term l c o h)))
+    (all-plain o (next-shut is_bound_term l c o h))
+
+children-plain : (t : Trees) → Plain t → Plain (children_of t)
+children-plain none h = refl
+children-plain (tree l c o) h = child-shut is_unerased l c o h
+
+-- ---- where-clauses
+clean-fixed : (t : Trees) → AllGood is_fixed t → HasNoCanonical t
+clean-fixed none h = tt
+clean-fixed (tree (canonical k i) c o) h = absurd (false-true h.0)
+clean-fixed (tree l c o) h = (clean-fixed c h.1, clean-fixed o h.2)
+
+fixed-instance : (s : Assignment) (t : Trees) → AllGood is_fixed t → instance s t ≡ erase t
+fixed-instance s none h = refl
+fixed-instance s (tree (infer of_type v) c o) h = absurd (false-true h.0)
+fixed-instance s (tree (infer of_const v) c o) h = absurd (false-true h.0)
+fixed-instance s (tree l c o) h = ap (λ z. tree (erase_label l) z (instance s o)) (fixed-instance s c h.1) ∙ ap (λ z. tree (erase_label l) (erase c) z) (fixed-instance s o h.2)
+
+inner : {l : Label} {c d o p : Trees} → c ≡ d → o ≡ p → tree l c o ≡ tree l d p
+inner e f = cc
+
+-- values change nothing in which no unknown stands
+filled-fixed : (ks : List Sort) (us : List Trees) (t : Trees) → AllGood is_fixed t → filled ks us (erase t) ≡ erase t
+filled-fixed ks us none h = refl
+filled-fixed ks us (tree (infer of_type v) c o) h = absurd (false-true h.0)
+filled-fixed ks us (tree (infer of_const v) c o) h = absurd (false-true h.0)
+filled-fixed ks us (tree (infer of_lifetime v) c o) h = inner (filled-fixed ks us c h.1) (filled-fixed ks us o h.2)
+filled-fixed ks us (tree (param of_type i) c o) h = inner (filled-fixed ks us c h.1) (filled-fixed ks us o h.2)
+filled-fixed ks us (tree (param of_const i) c o) h = inner (filled-fixed ks us c h.1) (filled-fixed ks us o h.2)
+filled-fixed ks us (tree (param of_lifetime i) c o) h = inner (filled-fixed ks us c h.1) (filled-fixed ks us o h.2)
+filled-fixed ks us (tree (placeholder of_type i) c o) h = inner (filled-fixed ks us c h.1) (filled-fixed ks us o h.2)
+filled-fixed ks us (tree (placeholder of_const i) c o) h = inner (filled-fixed ks us c h.1) (filled-fixed ks us o h.2)
+filled-fixed ks us (tree (placeholder of_lifetime i) c o) h = inner (filled-fixed ks us c h.1) (filled-fixed ks us o h.2)
+filled-fixed ks us (tree (canonical of_type i) c o) h = inner (filled-fixed ks us c h.1) (filled-fixed ks us o h.2)
+filled-fixed ks us (tree (canonical of_const i) c o) h = inner (filled-fixed ks us c h.1) (filled-fixed ks us o h.2)
+filled-fixed ks us (tree (canonical of_lifetime i) c o) h = inner (filled-fixed ks us c h.1) (filled-fixed ks us o h.2)
+filled-fixed ks us (tree (bound of_type j i) c o) h = inner (filled-fixed ks us c h.1) (filled-fixed ks us o h.2)
+filled-fixed ks us (tree (bound of_const j i) c o) h = inner (filled-fixed ks us c h.1) (filled-fixed ks us o h.2)
+filled-fixed ks us (tree (bound of_lifetime j i) c o) h = inner (filled-fixed ks us c h.1) (filled-fixed ks us o h.2)
+filled-fixed ks us (tree l c o) h = inner (filled-fixed ks us c h.1) (filled-fixed ks us o h.2)
+
+args-fixed : (t : Trees) → are_fixed t ≡ true → AllGood is_fixed t
+args-fixed t h = all-good is_fixed refl (λ n i. refl) (λ i. refl) terms t h
+
+clauses-instance : (s : Assignment) (F : List Reference) → AreFixedReferences F → instance s (trees_of_clauses F) ≡ trees_of_clauses (map erased_reference F)
+clauses-instance s [] h = refl
+clauses-instance s (r ∷ F) h =
+    ap (λ z. tree (predicate (of_trait r.trait)) z (instance s (trees_of_clauses F))) (fixed-instance s r.args (args-fixed r.args (left (are_fixed r.args) _ h)))
+    ∙ ap (λ z. tree (predicate (of_trait r.trait)) (erase r.args) z) (clauses-instance s F (right (are_fixed r.args) _ h))
+
+clauses-proper : (F : List Reference) → AreFixedReferences F → IsProper (trees_of_clauses F)
+clauses-proper [] h = tt
+clauses-proper (r ∷ F) h = (proper r.args (made-leaves is_fixed terms r.args (left (are_fixed r.args) _ h)), clauses-proper F (right (are_fixed r.args) _ h))
+
+clauses-clean : (F : List Reference) → AreFixedReferences F → HasNoCanonical (trees_of_clauses F)
+clauses-clean [] h = tt
+clauses-clean (r ∷ F) h = (clean-fixed r.args (args-fixed r.args (left (are_fixed r.args) _ h)), clauses-clean F (right (are_fixed r.args) _ h))
+
+abbrev reference : ℕ → Trees → Reference
+reference t x = record { trait = t; args = x }
+
+clauses-erased : (rs : List Reference) → map erased_reference (unbound_references rs) ≡ map erased_reference rs
+clauses-erased [] = refl
+clauses-erased (r ∷ rs) = ap (λ z. reference r.trait z ∷ map erased_reference (unbound_references rs)) (plain-erased r.args) ∙ ap (λ zs. erased_reference r ∷ zs) (clauses-erased rs)
+
+-- ---- values
+over : {A B C : Type 0} (f : A → B) (g : B → C) (xs : List A) → map g (map f xs) ≡ map (λ x. g (f x)) xs
+over f g [] = refl
+over f g (x ∷ xs) = ap (λ zs. g (f x) ∷ zs) (over f g xs)
+
+own-are : (t c : ℕ) (vs : List Variable) → own_from t c vs ≡ unknowns_from t c (map (λ v. v.kind) vs)
+own-are t c [] = refl
+own-are t c (v ∷ vs) = by v.kind (λ m k. own-are m k vs)
+  where
+    by : (k : Sort) → ((m n : ℕ) → own_from m n vs ≡ unknowns_from m n (map (λ w. w.kind) vs))
+        → (elim k [ of_type ↦ leaf (infer of_type t) ∷ own_from (suc t) c vs | of_const ↦ leaf (infer of_const c) ∷ own_from t (suc c) vs | of_lifetime ↦ leaf (infer of_lifetime 0) ∷ own_from t c vs ])
+        ≡ unknowns_from t c (k ∷ map (λ w. w.kind) vs)
+    by of_type e = ap (λ us. leaf (infer of_type t) ∷ us) (e (suc t) c)
+    by of_const e = ap (λ us. leaf (infer of_const c) ∷ us) (e t (suc c))
+    by of_lifetime e = ap (λ us. leaf (infer of_lifetime 0) ∷ us) (e t c)
+
+-- ---- questions
+module _ (d : Declarations) (text : IsOfText d) (n : ℕ) (q : Question) (is : IsQuestion d n q) (items : List Entry) (decls : Items) (seen : AreSeen items decls d q.asker) where
+  abbrev V : World
+  V = written items decls
+
+  abbrev sorts : Sorts
+  sorts = sorts_in decls
+
+  abbrev E : List Reference
+  E = unbound_references q.clauses
+
+  abbrev all : List Reference
+  all = elaborate V E
+
+  abbrev r : Reference
+  r = unbound_reference q.asked
+
+  abbrev ks : List Sort
+  ks = variable_kinds q
+
+  abbrev g : GoalTrees
+  g = goal_asking V q
+
+  own : AreFixedTerms q
+  own = fixed text.0 d text.1 (n - 1) q is.there items decls seen
+
+  good : AllGood (is_own ks) r.args
+  good = all-good (is_own ks) refl (λ m t. refl) (λ t. refl) terms r.args own.own
+
+  proper-args : IsProper r.args
+  proper-args = proper r.args (made-leaves (is_own ks) terms r.args own.own)
+
+  all-fixed : AreFixedReferences all
+  all-fixed = elaborated-fixed text.0 d text.1 (n - 1) q is.there items decls seen
+
+  without : IsWithoutCanonical g
+  without = record { environment = clauses-clean all all-fixed; predicate = (clean-own ks r.args good, tt) }
+
+  -- by the clauses alone
+  declared : IsDeclaredWell V
+  declared = well text.0 d text.1 (n - 1) q is.there items decls seen
+
+  formed : IsFormedView V sorts
+  formed = view text.0 d text.1 (n - 1) q is.there items decls seen
+
+  each : (x : Reference) → In x E → IsFormedClause V sorts x
+  each = clause-formed text.0 d text.1 (n - 1) q is.there items decls seen
+
+  adds : AddSupertraits V (map erased_reference E) (map erased_reference all)
+  adds x i =
+      let m = map-in erased_reference all x i in
+      subst (λ zs. In x zs) (sym (levels-erased V sorts declared formed E each))
+      (subst (λ z. In z (map erased_reference (elaborated V E))) m.2 (in-map erased_reference (elaborated V E) m.0 (elaborated-only V declared.rank declared.acyclic E m.0 m.1)))
+
+  fewer : (x : Reference) → HasProof V (map erased_reference all) x → HasProof V (map erased_reference q.clauses) x
+  fewer x p =
+      subst (λ zs. HasProof V zs x) (clauses-erased q.clauses)
+      (supertraits-prove-no-more V declared.rank declared.acyclic (map erased_reference E) (map erased_reference all) adds x p)
+
+  -- ---- up to lifetimes
+  begin : SelfTypesBegin V
+  begin = subst SelfTypesBegin (sym seen.written) (seen-begin text.0 d text.1 q.asker)
+
+  erased : FieldsAreErased V
+  erased = subst FieldsAreErased (sym seen.written) (seen-erased d q.asker)
+
+  abbrev cs : List CrateDecl
+  cs = (view_in d q.asker).crates
+
+  view-is : view_in d q.asker ≡ without_lifetimes V cs
+  view-is = ap (λ (W : World). record W { crates = cs }) (sym (rules-are items decls d q.asker seen.written)) ∙ erased-is V declared cs
+
+  -- with these values it has a proof
+  abbrev IsProvedWith : List Trees → Type 0
+  IsProvedWith ts = FitKinds ks ts × HasProof (view_in d q.asker) (map erased_reference q.clauses) (filled_reference ks ts (erased_reference q.asked))
+
+  -- ---- values that a table gives
+  module _ (fs : List Entry) (t : Table) (ready : Ready fs t) where
+    abbrev bs : List Binding
+    bs = content fs t.values
+
+    abbrev f : Fact
+    f = fact_with_values bs g
+
+    abbrev ts : List Trees
+    ts = values_in bs ks
+
+    clauses : clauses_of f.goal.environment ≡ map erased_reference all
+    clauses =
+        ap clauses_of (sym (themselves-read fs t ready g.environment (clauses-proper all all-fixed)) ∙ clauses-instance (themselves fs t ready) all all-fixed)
+        ∙ references-come-back (map erased_reference all)
+
+    asked : reference_in f ≡ filled_reference ks ts (erased_reference q.asked)
+    asked =
+        ap (λ z. reference q.asked.trait (children_of z)) (sym (themselves-read fs t ready g.predicate (proper-args, tt)))
+        ∙ ap (reference q.asked.trait) (themselves-read fs t ready r.args proper-args)
+        ∙ ap (reference q.asked.trait) (sym ((values-fill fs t ready ks).1 r.args proper-args (known ks r.args good)))
+        ∙ ap (λ z. reference q.asked.trait (filled ks ts z)) (plain-erased q.asked.args)
+
+    -- it is plain, for nothing bound stands there
+    plain-asked : some_node is_bound_term (resolved bs g.predicate) ≡ false → Plain (filled_reference ks ts (erased_reference q.asked)).args
+    plain-asked unbound = subst (λ (x : Reference). Plain x.args) asked (children-plain (erase (resolved bs g.predicate)) (all-plain (resolved bs g.predicate) unbound))
+
+    abbrev x : Reference
+    x = filled_reference ks ts (erased_reference q.asked)
+
+    proved : some_node is_bound_term (resolved bs g.predicate) ≡ false → Lists.HasProof Fact (FollowsByView V) (is_coinductive_fact V) f → IsProvedWith ts
+    proved unbound p = (
+      (values-fill fs t ready ks).0,
+      subst (λ (W : World). HasProof W (map erased_reference q.clauses) x) (sym view-is)
+          (plain-proof V declared begin erased cs (map erased_reference q.clauses) x (plain-asked unbound)
+          (fewer x
+          (subst (λ zs. HasProof V zs x) clauses
+          (subst (λ y. HasProof V (clauses_of f.goal.environment) y) asked (proofs-of-facts V f refl (ap not (all-plain (resolved bs g.predicate) unbound)) p))))),
+    )
+
+  values-are : (bs : List Binding) (xs : List Trees) → xs ≡ map (λ u. resolved bs u) (own_unknowns q) → map erase xs ≡ values_in bs ks
+  values-are bs xs e = ap (map erase) e ∙ over (λ u. resolved bs u) erase (own_unknowns q) ∙ ap (map (λ u. erase (resolved bs u))) (own-are 0 0 q.variables)
+
+  yes : (limit depth : ℕ) (es : List Entry) (values : Vec GenericArgKind) → IsAnsweredBySolver (solving_of items decls) depth q es (Yes values) → IsProved limit d q (answer_in es (Yes values))
+  yes limit depth es values h =
+      subst IsProvedWith (sym (sym (over (arg_trees es) erase values.items) ∙ values-are (content h.entries h.table.values) (map (arg_trees es) values.items) h.are))
+      (proved h.entries h.table h.ready h.unbound (h.proved without))
+
+pub yes-is-right : YesIsRight
+yes-is-right d text n q is s of limit depth es values h =
+    yes d text n q is of.entries of.declarations of.seen limit depth es values (subst (λ (x : Solving). IsAnsweredBySolver x depth q es (Yes values)) of.is h)

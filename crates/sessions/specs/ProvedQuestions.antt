@@ -1,0 +1,20 @@
+-- What an answer `yes` proves.
+use Rattle.std.specs.Global.{Vec}
+use Rattle.std.specs.Prelude.{ℕ, List}
+use Rattle.type_terms.specs.Terms.{Entry}
+use Rattle.type_terms.specs.declared.kinds.GenericArgKind.{GenericArgKind}
+use Rattle.text_definitions.specs.Declarations.{Declarations, Question}
+use Rattle.candidate_assembly.specs.Solving.{Solving}
+use Rattle.view_lowering.specs.Questions.{IsQuestion}
+use Rattle.sessions.specs.Given.{answer_in}
+use Rattle.sessions.specs.Promises.{IsProved}
+use Rattle.sessions.specs.Proving.{IsAnsweredBySolver}
+use Rattle.sessions.specs.Sessions.{IsSolvingOf}
+use Rattle.sessions.specs.Subjects.{IsOfText}
+use Rattle.sessions.specs.declared.answers.ProveAnswer.TheVariants.{Yes}
+
+-- The answer is right, if it is yes: with the values that come with it the question's reference has a proof.
+abbrev pub YesIsRight : Type 0
+YesIsRight =
+    (d : Declarations) → IsOfText d → (n : ℕ) (q : Question) → IsQuestion d n q → (s : Solving) → IsSolvingOf d q.asker s → (limit depth : ℕ) (es : List Entry) (values : Vec GenericArgKind)
+    → IsAnsweredBySolver s depth q es (Yes values) → IsProved limit d q (answer_in es (Yes values))
