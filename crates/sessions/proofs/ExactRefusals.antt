@@ -1,6 +1,6 @@
 -- What a search in coherence leaves open is possible, and what it refuses is not.
 use Rattle.std.proofs.Common.{◌≡◌, ◌+◌, ◌-◌, ◌≤◌, ℕ, Bool, true, false, not, ◌&&◌, ◌||◌, List, [], Option, Some, None, inl, inr, refl, sym, ◌∙◌, ap, subst, arith}
-use Rattle.model.specs.Label.{Label, Sort, of_type, of_const, of_lifetime, dynamic, principal, auto_trait, predicate, param, infer, canonical, bound}
+use Rattle.model.specs.Label.{Label, Sort, of_type, of_const, of_lifetime, param, infer, canonical, bound}
 use Rattle.model.specs.Terms.{erased_reference, erased_world}
 use Rattle.model.specs.Trees.{Trees, none, tree, erase, erase_label, some_node}
 use Rattle.model.specs.Worlds.{World, CrateDecl, Reference}

@@ -1,5 +1,5 @@
 -- What is proved of a reference without lifetimes by declarations as they are written is proved by the same without their lifetimes.
-use Rattle.std.proofs.Common.{◌≡◌, ◌⊎◌, Bool, true, false, not, if◌then◌else◌, List, [], ◌∷◌, ◌++◌, map, inl, inr, refl, sym, ◌∙◌, ap, subst}
+use Rattle.std.proofs.Common.{◌≡◌, ◌⊎◌, Bool, true, false, if◌then◌else◌, List, [], ◌∷◌, ◌++◌, map, inl, inr, refl, sym, ◌∙◌, ap, subst}
 use Rattle.model.specs.Proofs.{Entry, In, Every, Stands, Follows, HasProof}
 use Rattle.model.specs.Rules.{Rule, rules, is_coinductive}
 use Rattle.model.specs.Trees.{some_node}
