@@ -1,5 +1,5 @@
 -- What is known of an answer to a goal that was asked over a table without values.
-use Rattle.std.proofs.Common.{◌≡◌, ℕ, Bool, true, false, ◌||◌, List, [], ◌∷◌, map, Option, Some, None, refl, sym, ap, ◌∙◌, subst, inl, inr}
+use Rattle.std.proofs.Common.{◌≡◌, ℕ, Bool, true, false, ◌||◌, List, [], ◌∷◌, map, refl, sym, ap, ◌∙◌, subst, inl, inr}
 use Rattle.model.specs.Label.{Sort, predicate, PredicateKind}
 use Rattle.model.specs.Trees.{Trees, none, tree, some_node}
 use Rattle.type_terms.specs.Kinds.{ArgsHeld, arg_trees}
@@ -10,7 +10,7 @@ use Rattle.infer_table.specs.Canonical.{GoalTrees, CanonicalForm}
 use Rattle.infer_table.specs.Content.{Table, Ready, content}
 use Rattle.infer_table.specs.Goals.{GoalHeld, goal_trees}
 use Rattle.infer_table.specs.Inputs.{IsWithoutCanonical}
-use Rattle.infer_table.specs.Solutions.{Assignment, Binding, Solves, replace, resolved}
+use Rattle.infer_table.specs.Solutions.{Binding, replace, resolved}
 use Rattle.infer_table.specs.WithoutCanonical.{HaveNoCanonical}
 use Rattle.infer_table.specs.declared.certainty.TypingMode.{TypingMode}
 use Rattle.infer_table.specs.declared.goal.Goal.{Goal}
@@ -23,8 +23,8 @@ use Rattle.evaluation.specs.Tables.{frame_tables}
 use Rattle.root_goals.specs.Contexts.{entries_of}
 use Rattle.root_goals.specs.Roots.{fact_under}
 use Rattle.root_goals.specs.declared.context.SolverCx.{SolverCx}
-use Rattle.sessions.specs.Proved.{fact_with_values, ValuesAreProved}
-use Rattle.sessions.specs.Proving.{AreReadOff, HasValues, IsAnswered, IsRefusedGoal, IsUnsettledGoal, is_bound_term}
+use Rattle.sessions.specs.Proved.{fact_with_values}
+use Rattle.sessions.specs.Proving.{AreReadOff, IsAnswered, IsRefusedGoal, IsUnsettledGoal, is_bound_term}
 use Rattle.sessions.specs.Settling.{IsProvedBy, IsRefused, IsUnsettled}
 use Rattle.sessions.specs.Tables.{table_of}
 use Rattle.sessions.specs.declared.answers.ProveAnswer.{ProveAnswer}
@@ -106,5 +106,5 @@ module _ {World Handler : Type 0} (handled : World → TypingMode → CanonicalF
       unbound = bound-there false h.1;
       proved = has-proof;
     }
-    read-goal depth fs Maybe h = inr (inr (bs, bound-there true h))
+    read-goal depth fs Maybe h = inr (inr (entries_of d, u, ready, bound-there true h))
     read-goal depth fs Unproved h = absurd h

@@ -1,5 +1,5 @@
 -- A table with a variable for each unknown of a question.
-use Rattle.std.proofs.Common.{◌≡◌, ℕ, zero, suc, ◌+◌, arith, List, [], ◌∷◌, map, refl, sym, ap, ◌∙◌, subst}
+use Rattle.std.proofs.Common.{◌≡◌, ℕ, suc, ◌+◌, arith, List, [], ◌∷◌, map, refl, sym, ap, ◌∙◌, subst}
 use Rattle.model.specs.Label.{Sort, of_type, of_const, of_lifetime, infer}
 use Rattle.model.specs.Trees.{Trees, none, tree, leaf, IsA, sort_of}
 use Rattle.type_terms.specs.Terms.{Entry, Lawful, Has, types, consts, trees_at}

@@ -57,3 +57,5 @@ pub mod Posing
 pub mod ClausesApply
 pub mod SolversClauses
 mod ProvedQuestions
+mod BareAnswers
+mod OtherAnswers

@@ -1,7 +1,7 @@
 -- The goal that asks a question, and what its answer says of the question.
 use Rattle.std.proofs.Common.{◌≡◌, ℕ, List, [], ◌∷◌, map, Result, Ok, Err, refl, sym, ap, ◌∙◌, subst}
 use Rattle.std.specs.Prelude.{IfOk}
-use Rattle.model.specs.Label.{Sort, of_type, of_const, of_lifetime}
+use Rattle.model.specs.Label.{Sort}
 use Rattle.model.specs.Trees.{Trees}
 use Rattle.model.specs.Worlds.{World, Reference}
 use Rattle.type_terms.specs.Kinds.{ArgsHeld, arg_trees}
@@ -32,7 +32,7 @@ use Rattle.sessions.specs.Goals.{goal_of}
 use Rattle.sessions.specs.Proving.{IsAnswered, IsAnsweredBySolver, goal_asking}
 use Rattle.sessions.specs.Questions.{where_clauses, ReferencesAreGoals}
 use Rattle.sessions.specs.declared.answers.ProveAnswer.{ProveAnswer}
-use Rattle.sessions.proofs.Alone.{held-there, reference-is}
+use Rattle.sessions.proofs.Alone.{reference-is}
 use Rattle.sessions.proofs.Counted.{place, next_types, next_consts, not-type, not-const, not-region, own-next, first-same, rest-same, not-empty}
 
 -- what follows of each value follows where there is one

@@ -26,6 +26,7 @@ pub mod Checking
 pub mod Proving
 pub mod Applying
 pub mod ProvedQuestions
+pub mod DecidedAnswers
 pub use Rattle.orphan_check.specs.Held as HeldErrors
 pub use Rattle.orphan_check.specs.Items as OrphanErrors
 pub use Rattle.overlap_check.specs.Orphans as ErrorTerms

@@ -13,7 +13,7 @@ use Rattle.infer_table.specs.Canonical.{GoalTrees, CanonicalForm, canonical_form
 use Rattle.infer_table.specs.Content.{Table, Ready, content}
 use Rattle.infer_table.specs.Inputs.{IsWithoutCanonical}
 use Rattle.infer_table.specs.Responses.{AnswerTrees}
-use Rattle.infer_table.specs.Solutions.{Binding, resolved}
+use Rattle.infer_table.specs.Solutions.{resolved}
 use Rattle.infer_table.specs.Unification.{table_trees}
 use Rattle.infer_table.specs.declared.certainty.TypingMode.{TypingMode}
 use Rattle.infer_table.specs.declared.certainty.TypingMode.TheVariants.{PostAnalysis}
@@ -88,14 +88,14 @@ module _ {World Handler : Type 0} (handled : World → TypingMode → CanonicalF
       let m = solver_meaning handled Rule coinductive is_ready meaning_of in
       (a : Option AnswerTrees) × IsFound m w depth (asked_outside g) a × (left_by (table_trees [] (table_of ks)) g a ≡ None)
 
-  -- It gives an answer that is no definite yes, or plain recursion has none within the depth; or values were found with which something
-  -- bound stands in the goal's predicate.
+  -- It gives an answer that is no definite yes, or plain recursion has none within the depth; or some table gives values with which
+  -- something bound stands in the goal's predicate.
   abbrev pub IsUnsettledGoal : World → ℕ → GoalTrees → Type 0
   IsUnsettledGoal w depth g =
       let m = solver_meaning handled Rule coinductive is_ready meaning_of in
       IsNotPlain m w (depth + 1) (asked_outside g)
       ⊎ ((a : AnswerTrees) × IsFound m w depth (asked_outside g) (Some a) × (is_yes_answer frame_tables (Some a) ≡ false))
-      ⊎ ((bs : List Binding) × (some_node is_bound_term (resolved bs g.predicate) ≡ true))
+      ⊎ ((es : List Entry) × (t : Table) × Ready es t × (some_node is_bound_term (resolved (content es t.values) g.predicate) ≡ true))
 
   -- What an answer says of a goal that was asked over the table of unknowns of these kinds.
   abbrev pub IsAnswered : World → ℕ → List Sort → GoalTrees → List Trees → List Entry → ProveAnswer → Type 0

@@ -14,6 +14,7 @@ mod answers;
 mod applying;
 mod asked;
 mod checked;
+mod decided_answers;
 mod impossible;
 pub mod laws;
 mod limits;

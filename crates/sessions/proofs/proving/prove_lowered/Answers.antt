@@ -1,9 +1,7 @@
-use Rattle.std.proofs.Common.{rules, ◌≡◌, ◌∙◌, List, map, ap, sym, subst}
+use Rattle.std.proofs.Common.{rules, ◌≡◌, ◌∙◌, map, ap, sym, subst}
 use Rattle.type_terms.specs.Kinds.{arg_trees}
-use Rattle.type_terms.specs.declared.kinds.GenericArgKind.{GenericArgKind}
 use Rattle.term_folds.specs.Arguments.{arg_sort}
 use Rattle.term_folds.specs.Kept.{args-held-later}
-use Rattle.declarations.specs.Items.{written}
 use Rattle.infer_table.specs.Goals.{goal_trees}
 use Rattle.infer_table.proofs.Numbers.{goal-held-later, goal-trees-later}
 use Rattle.candidate_assembly.specs.Fitting.{solving_of}

@@ -1,0 +1,18 @@
+-- What the solver answers to decided questions, if it is no yes.
+use Rattle.std.specs.Prelude.{ℕ, List}
+use Rattle.type_terms.specs.Terms.{Entry}
+use Rattle.text_definitions.specs.Declarations.{Declarations, Question}
+use Rattle.view_lowering.specs.Questions.{IsQuestion}
+use Rattle.candidate_assembly.specs.Solving.{Solving}
+use Rattle.overlap_check.specs.Questions as answers
+use Rattle.sessions.specs.Promises.{IsProved}
+use Rattle.sessions.specs.Proving.{IsAnsweredBySolver}
+use Rattle.sessions.specs.Sessions.{IsSolvingOf}
+use Rattle.sessions.specs.Subjects.{IsOfText}
+use Rattle.sessions.specs.declared.answers.ProveAnswer.TheVariants.{Unproved, Maybe}
+
+-- The answer is right, if it is no yes: of a decided question the solver says `Unproved` only if it has no proof, and `Maybe` never.
+abbrev pub OtherAnswersAreRight : Type 0
+OtherAnswersAreRight =
+    (d : Declarations) → IsOfText d → (n : ℕ) (q : Question) → IsQuestion d n q → (s : Solving) → IsSolvingOf d q.asker s → (depth : ℕ) (es : List Entry)
+    → (IsAnsweredBySolver s depth q es Unproved → IsProved depth d q answers.unproved) × (IsAnsweredBySolver s depth q es Maybe → IsProved depth d q answers.maybe)
