@@ -56,6 +56,7 @@ pub mod Answered
 pub mod Posing
 pub mod ClausesApply
 pub mod SolversClauses
+pub mod RightAnswers
 mod ProvedQuestions
 mod BareAnswers
 mod OtherAnswers

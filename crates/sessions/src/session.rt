@@ -6,14 +6,18 @@ ghost use Rattle.orphan_check.specs.Held.{ErrorHeld};
 ghost use Rattle.workspace.specs.Numbered.{IsNumbered};
 ghost use Rattle.text_definitions.specs.Declarations.{Question};
 ghost use Rattle.sessions.specs.Checking.{HasOrphan, HasJudged, HasPartner, HasOverlap};
-ghost use Rattle.sessions.specs.Given.{VerdictHeld, refutation_of, verdict_in};
-ghost use Rattle.sessions.specs.Promises.{IsRefutation, IsOpenQuestion, IsVerdictOf};
-ghost use Rattle.sessions.specs.Subjects.{IsOfText, AsksRefutation, StaysOn};
+ghost use Rattle.sessions.specs.Given.{AnswerHeld, VerdictHeld, answer_in, refutation_of, verdict_in};
+ghost use Rattle.sessions.specs.Promises.{IsProved, IsRefutation, IsOpenQuestion, IsVerdictOf};
+ghost use Rattle.sessions.specs.Subjects.{IsOfText, AsksProof, AsksRefutation, StaysOn};
 
-use crate::answers::{RefuteAnswer, Verdict};
+use crate::answers::{ProveAnswer, RefuteAnswer, Verdict};
+use crate::applying::clauses_apply;
 use crate::asked::rest_laws;
 use crate::checked::{first_broken_header, overlap_at};
+use crate::decided_answers::other_answers_are_right;
 use crate::limits::Limits;
+use crate::proved_questions::yes_is_proved;
+use crate::proving::prove_question;
 use crate::refuted::refute_question;
 use crate::view::lower_view;
 use candidate_assembly::solver::Solver;
@@ -195,6 +199,38 @@ impl<'w> Session<'w> {
         ensures terms { result.now.entries ≡ self.now.terms }
     {
         &self.cx.interner
+    }
+
+    /// Whether the reference of a `prove` question of this crate has a proof, by what the crate sees of the text and by the question's
+    /// where-clauses. Questions count from 1.
+    ///
+    /// It is asked outside coherence, under the where-clauses with all their supertraits, and again until an answer brings no more values.
+    /// `Yes` has a value for each of the question's variables, in their order: with them the reference has a proof, in which parameters, and
+    /// variables that a value leaves, stand for themselves. `Unproved` says that the search found none, and `Maybe` that it does not know.
+    /// A reference is decided if it has no variables, its chains of premises are shorter than the depth, and at each step one rule at most
+    /// has premises with proofs: of such a one `Unproved` says that it has no proof, and `Maybe` is never said. The fault is `Memory` where
+    /// memory is refused, or `Full` where a table of the session is full.
+    ///
+    /// `evaluate_root_goal` in a `ParamEnv` of elaborated clauses, as `predicate_may_hold` and `type_implements_trait` ask it outside coherence.
+    pub fn prove(&mut self, number: u32) -> Result<ProveAnswer, Fault>
+        requires { (q : Question) × AsksProof self.old.declarations self.old.of_crate number q }
+
+        // With the values of a yes there is a proof; a decided reference is answered yes, or unproved if it has no proof.
+        ensures answer { (q : Question) → AsksProof self.old.declarations self.old.of_crate number q
+            → IfOk result (λ a. IsProved self.old.depth self.old.declarations q (answer_in self.new.terms a)) }
+        ensures held { IfOk result (AnswerHeld self.new.terms) }
+        ensures stays { StaysOn self.old self.new }
+    {
+        clauses_apply();
+        yes_is_proved();
+        other_answers_are_right();
+        prove_question(
+            &mut self.graph,
+            &mut self.cache,
+            &mut self.cx,
+            self.workspace,
+            number,
+        )
     }
 
     /// Whether the reference of a `refute` question of this crate is refused: it has no proof wherever the crate is linked, whatever its

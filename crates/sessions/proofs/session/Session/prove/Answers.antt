@@ -1,0 +1,49 @@
+use Rattle.std.proofs.Common.{refl, sym, subst}
+use Rattle.std.specs.Prelude.{IfOk}
+use Rattle.sessions.specs.Given.{answer_in}
+use Rattle.sessions.specs.Promises.{IsProved}
+use Rattle.sessions.specs.Subjects.{Subject, AsksProof, StaysOn}
+use Rattle.text_definitions.specs.Declarations.{Question}
+use Rattle.sessions.proofs.Keeping.{session-kept, session-rests}
+use Rattle.sessions.proofs.RightAnswers.{is-asked, clauses-apply, answered-rightly}
+use Rattle.sessions.proofs.session.Session.prove.Goals as goal
+
+pub prove_question-requires-clause-rest : goal.prove_question-requires-clause-rest
+prove_question-requires-clause-rest c =
+    let i = c.self.inside in
+    session-rests i.workspace.now i.crate_id.index i.limits.depth i.cx i.graph i.cache c.self.invariant
+
+pub prove_question-requires-clause-question : goal.prove_question-requires-clause-question
+prove_question-requires-clause-question c =
+    let i = c.self.inside in
+    is-asked i.workspace.now i.crate_id.index i.limits.depth i.cx i.graph i.cache c.self.invariant c.args.number
+    (subst (λ (s : Subject). (q : Question) × AsksProof s.declarations s.of_crate c.args.number q) (sym c.self.view_is) c.requires)
+
+pub prove_question-requires-clause-applied : goal.prove_question-requires-clause-applied
+prove_question-requires-clause-applied c =
+    let i = c.self.inside in
+    clauses-apply i.workspace.now i.crate_id.index i.limits.depth i.cx i.graph i.cache c.self.invariant c.args.number c.clauses_apply.ensures.solved
+    (subst (λ (s : Subject). (q : Question) × AsksProof s.declarations s.of_crate c.args.number q) (sym c.self.view_is) c.requires)
+
+pub invariant_of-self : goal.invariant_of-self
+invariant_of-self c =
+    let i = c.self.inside in
+    let x = c.prove_question.new in
+    session-kept i.workspace.now i.crate_id.index i.limits.depth i.cx i.graph i.cache c.self.invariant x.cx x.graph x.cache c.prove_question.ensures.solving c.prove_question.ensures.rest
+
+pub returns-clause-answer : goal.returns-clause-answer
+returns-clause-answer c =
+    let i = c.self.inside in
+    subst (λ (s : Subject). (q : Question) → AsksProof s.declarations s.of_crate c.args.number q → IfOk c.prove_question.result (λ a. IsProved s.depth s.declarations q (answer_in c.prove_question.new.cx.interner.entries a))) c.self.view_is
+    (λ q asks.
+    answered-rightly i.workspace.now i.crate_id.index i.limits.depth i.cx i.graph i.cache c.self.invariant c.args.number c.yes_is_proved.ensures c.other_answers_are_right.ensures q asks
+    c.prove_question.new.cx.interner.entries c.prove_question.result c.prove_question.ensures.answer)
+
+pub returns-clause-held : goal.returns-clause-held
+returns-clause-held c = c.prove_question.ensures.held
+
+pub returns-clause-stays : goal.returns-clause-stays
+returns-clause-stays c =
+    let i = c.self.inside in
+    subst (λ (s : Subject). StaysOn s (record { declarations = i.workspace.now; of_crate = i.crate_id.index; depth = i.limits.depth; handles = i.limits.handles; terms = c.prove_question.new.cx.interner.entries })) c.self.view_is
+    (record { declarations = refl; of_crate = refl; depth = refl; handles = refl; terms = c.prove_question.ensures.keeps })
