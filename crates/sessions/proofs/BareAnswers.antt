@@ -27,7 +27,6 @@ use Rattle.evaluation.specs.TableAnswers.{is_variable_itself, are_variables, has
 use Rattle.evaluation.proofs.Applying.{for-bindings, new-value}
 use Rattle.root_goals.specs.Roots.{left_by}
 
-
 -- ---- leaves in pairs
 -- one leaf twice, or two lifetimes
 abbrev AreAlike : Label → Label → Type 0
@@ -49,7 +48,7 @@ module _ (types consts regions : ℕ) (constraints : Trees) where
   twice l = (
     T,
     ap (λ b. after anew (steps anew 1) (if b then compared T (sort_of l) (leaf l) (leaf l) [] else refused)) (is_sort-self (sort_of l))
-    ∙ ap (λ b. after anew (steps anew 1) (if b then onward false T [] else by_sort T (sort_of l) (leaf l) (leaf l) [])) (same-self (leaf l)),
+        ∙ ap (λ b. after anew (steps anew 1) (if b then onward false T [] else by_sort T (sort_of l) (leaf l) (leaf l) [])) (same-self (leaf l)),
     refl,
   )
 
@@ -59,7 +58,7 @@ module _ (types consts regions : ℕ) (constraints : Trees) where
       let x = by (same (leaf l) (leaf m)) in (
         x.0,
         ap (λ k. after anew (steps anew 1) (if is_sort k (sort_of m) then compared T k (leaf l) (leaf m) [] else refused)) e
-        ∙ ap (λ k. after anew (steps anew 1) (if is_sort of_lifetime k then compared T of_lifetime (leaf l) (leaf m) [] else refused)) f ∙ x.1,
+            ∙ ap (λ k. after anew (steps anew 1) (if is_sort of_lifetime k then compared T of_lifetime (leaf l) (leaf m) [] else refused)) f ∙ x.1,
         x.2,
       )
     where
@@ -331,8 +330,8 @@ module _ (t : TableTrees) (none_there : t.bindings ≡ []) (ls : List Label) (a 
       let y = row-left grown (for-bindings (known t ls a) t 0 a.kinds ∙ none_there) ls x.0 x.2 in (
         with_constraints (filled vs a.constraints) y.0,
         ap (λ z. option_map (with_constraints (filled vs a.constraints)) (solved_in_turn grown z (filled vs (trees_of a.values)))) (row-is ls)
-        ∙ ap (λ z. option_map (with_constraints (filled vs a.constraints)) (solved_in_turn grown (row ls) z)) x.1
-        ∙ ap (option_map (with_constraints (filled vs a.constraints))) y.1,
+            ∙ ap (λ z. option_map (with_constraints (filled vs a.constraints)) (solved_in_turn grown (row ls) z)) x.1
+            ∙ ap (option_map (with_constraints (filled vs a.constraints))) y.1,
       )
 
   -- a table without values refuses none

@@ -1,23 +1,20 @@
 -- The where-clauses of a lowered question have an argument for each parameter of their traits, and lead out of no binder.
-use Rattle.std.proofs.Common.{◌≡◌, ℕ, ◌-◌, true, false, ◌||◌, List, [], ◌∷◌, map, Option, Some, None, max, pred, refl, sym, ◌∙◌, ap, subst}
+use Rattle.std.proofs.Common.{◌≡◌, ℕ, ◌-◌, false, ◌||◌, List, [], ◌∷◌, Option, Some, None, max, pred, refl, ap, subst}
 use Rattle.std.specs.Option.{option_map_or}
 use Rattle.std.specs.Prelude.{IfSome}
 use Rattle.model.specs.Label.{Label, Sort, bound, fn_ptr, principal}
 use Rattle.model.specs.Trees.{Trees, none, tree, some_node, outer_binder, own_binder, outside}
-use Rattle.model.specs.Worlds.{Reference}
 use Rattle.model.specs.Proofs.{In}
 use Rattle.model.proofs.Fitting.{child-shut, next-shut, no-left}
 use Rattle.model.proofs.Members.{here, there, in-map}
 use Rattle.type_terms.specs.Made.{terms}
-use Rattle.type_terms.specs.Terms.{Entry, trees_at}
+use Rattle.type_terms.specs.Terms.{trees_at}
 use Rattle.term_folds.specs.declared.predicate.TraitRef.{TraitRef}
-use Rattle.declarations.specs.Applied.{IsApplied, AreApplied, references_in, sorts_of, sorts_of_params}
-use Rattle.declarations.specs.Items.{Items, reference_in, trait_at}
+use Rattle.declarations.specs.Applied.{IsApplied, sorts_of, sorts_of_params}
+use Rattle.declarations.specs.Items.{reference_in, trait_at}
 use Rattle.declarations.specs.Merges.{Each}
 use Rattle.declarations.specs.declared.items.TraitDef.{TraitDef}
 use Rattle.assembly_laws.proofs.Instances.{is_bound}
-use Rattle.view_lowering.specs.Plain.{unbound_references}
-use Rattle.solver_exactness.specs.FormedFacts.{FitsSorts}
 use Rattle.sessions.specs.Applying.{TextsClausesApply}
 use Rattle.sessions.proofs.AskedGoals.{all-fixed, none-pass, fixed-unbound}
 use Rattle.sessions.proofs.TextQuestions.{clause-formed}

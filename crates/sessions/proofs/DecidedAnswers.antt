@@ -36,7 +36,7 @@ use Rattle.sessions.specs.Questions.{IsFormedAsWritten}
 use Rattle.sessions.specs.Sessions.{IsSolvingOf}
 use Rattle.sessions.specs.Subjects.{IsOfText}
 use Rattle.sessions.proofs.SeenPlainly.{plain-erased, map-again, reference-erased, rules-are, seen-begin}
-use Rattle.sessions.proofs.TextAnswers.{well, formed, answered-by-view}
+use Rattle.sessions.proofs.TextAnswers.{well, answered-by-view}
 use Rattle.sessions.proofs.TextQuestions.{written-if-closed}
 use Rattle.sessions.proofs.WithoutLifetimes.{erased-is}
 

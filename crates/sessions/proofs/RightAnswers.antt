@@ -1,5 +1,5 @@
 -- What a session answers to a `prove` question is right, by the laws on yes and on the other answers.
-use Rattle.std.proofs.Common.{◌≡◌, ◌-◌, ℕ, List, Option, Some, Result, sym, ◌∙◌, subst}
+use Rattle.std.proofs.Common.{◌≡◌, ◌-◌, ℕ, List, Option, Some, Result, sym, subst}
 use Rattle.std.specs.Prelude.{IfOk, slice_get}
 use Rattle.type_terms.specs.Terms.{Entry}
 use Rattle.type_terms.specs.declared.Fault.{Fault}

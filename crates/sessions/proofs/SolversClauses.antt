@@ -1,6 +1,6 @@
 -- Declarations that mean the same for the solver have the same sorts of parameters at their traits: the where-clauses of a lowered question
 -- have an argument for each parameter by all of them.
-use Rattle.std.proofs.Common.{◌≡◌, ◌==◌, ℕ, max, Bool, true, ◌||◌, not, List, [], ◌∷◌, Option, Some, None, refl, sym, ap, subst}
+use Rattle.std.proofs.Common.{◌≡◌, ◌==◌, ℕ, max, true, not, List, [], ◌∷◌, Option, Some, None, refl, sym, ap, subst}
 use Rattle.std.specs.Option.{option_map_or}
 use Rattle.std.specs.Prelude.{IfSome}
 use Rattle.model.specs.Label.{Sort, of_type, of_const, of_lifetime, param, of_trait, predicate}
@@ -12,13 +12,11 @@ use Rattle.term_folds.specs.declared.predicate.TraitRef.{TraitRef}
 use Rattle.infer_table.specs.Canonical.{CanonicalForm}
 use Rattle.declarations.specs.Applied.{IsApplied, AreApplied, sorts_of, sorts_of_params}
 use Rattle.declarations.specs.Items.{Items, trait_at}
-use Rattle.declarations.specs.Merges.{Each}
 use Rattle.declarations.specs.declared.items.TraitDef.{TraitDef}
 use Rattle.assembly_laws.specs.Asking.{next_of}
 use Rattle.candidate_assembly.specs.Fitting.{same_sorts, are_of_trait, is_shut, type_fits, fits_declared, solving_of}
 use Rattle.candidate_assembly.specs.Solving.{Solving}
 use Rattle.sessions.specs.Applying.{SolversClausesApply}
-use Rattle.sessions.specs.Sessions.{IsSolvingOf}
 use Rattle.sessions.proofs.ClausesApply.{texts-clauses-apply}
 
 -- ---- sorts
