@@ -1,14 +1,9 @@
 -- Where-clauses of a goal, found by place.
-use Rattle.std.proofs.Common.{◌≡◌, ℕ, zero, suc, Bool, true, false, ◌||◌, List, [], ◌∷◌, Option, Some, None, is_some, refl, ap, subst}
+use Rattle.std.proofs.Common.{◌≡◌, ℕ, zero, suc, Bool, true, false, List, [], ◌∷◌, Some, None, refl, ap, subst}
 use Rattle.std.specs.Prelude.{◌==◌, option_map, if◌then◌else◌}
 use Rattle.std.specs.List.{slice_get}
-use Rattle.model.specs.Trees.{Trees, some_node}
-use Rattle.model.specs.Answers.{is_open}
 use Rattle.model.specs.Worlds.{World}
 use Rattle.type_terms.specs.Terms.{Entry}
-use Rattle.term_folds.specs.Visits.{Visits, ended, passed, broken, entered, broken_below}
-use Rattle.term_folds.specs.declared.visit.Seen.{Seen}
-use Rattle.term_folds.specs.declared.visit.Seen.TheVariants.{Break, Enter, Pass}
 use Rattle.term_folds.specs.declared.predicate.Clause.{Clause}
 use Rattle.term_folds.specs.declared.predicate.Clause.TheVariants.{Trait, RegionOutlives, TypeOutlives}
 use Rattle.term_folds.specs.declared.predicate.TraitRef.{TraitRef}
@@ -20,39 +15,7 @@ use Rattle.declarations.specs.Applied.{AllHeld}
 use Rattle.assembly_laws.specs.Facts.{clauses_of}
 use Rattle.assembly_laws.specs.Asking.{Asked}
 use Rattle.assembly_laws.specs.Candidates.{Candidate, by_rule, by_clauses, clause_source, all_equal}
-use Rattle.candidate_assembly.specs.Clauses.{begins_open, BreaksAt, reference_of, with_reference, references_to}
-
--- ---- a visit that breaks at open places
-pub says-pass : (B : Type 0) (m : Bool) → BreaksAt {B = B} m Pass → ⊥
-says-pass B true h = h
-says-pass B false h = h
-
-pub says-enter : (B : Type 0) (m : Bool) → BreaksAt {B = B} m Enter → m ≡ false
-says-enter B true h = absurd h
-says-enter B false h = refl
-
-pub says-break : {B : Type 0} (m : Bool) (b : B) → BreaksAt m (Break b) → m ≡ true
-says-break true b h = refl
-says-break false b h = absurd h
-
-pub here-test : (p q r : Bool) → p ≡ true → true ≡ (p || q || r)
-here-test p q r h = rw h refl
-
-pub below-test : (p q r : Bool) → p ≡ false → true ≡ q → true ≡ (p || q || r)
-below-test p q r h k = rw (h, ← k) refl
-
-pub behind-test : (a p q r : Bool) → p ≡ false → false ≡ q → a ≡ r → a ≡ (p || q || r)
-behind-test a p q r h k e = rw (h, ← k) e
-
-abbrev Sees : {V : Type 0} → (B : Type 0) → List ℕ → Trees → V → V → Seen B → Type 0
-Sees B bs t v w a = (w ≡ v) × BreaksAt (begins_open t) a
-
-pub visits-find : {V B : Type 0} {bs : List ℕ} {t : Trees} {v w : V} {r : Option B} → Visits (Sees B) bs t v w r → is_some r ≡ some_node is_open t
-visits-find ended = refl
-visits-find (passed s o) = absurd (says-pass _ _ s.1)
-visits-find (broken s) = here-test _ _ _ (says-break _ _ s.1)
-visits-find (entered s a b) = behind-test _ _ _ _ (says-enter _ _ s.1) (visits-find a) (visits-find b)
-visits-find (broken_below s a) = below-test _ _ _ (says-enter _ _ s.1) (visits-find a)
+use Rattle.candidate_assembly.specs.Clauses.{reference_of, with_reference, references_to}
 
 -- ---- one clause after the other
 pub known-next : (t n : ℕ) (c : Clause) (cs : List Clause) (r : TraitRef) → Some r ≡ reference_of t c → slice_get (references_to t cs) n ≡ slice_get (references_to t (c ∷ cs)) (suc n)

@@ -18,20 +18,40 @@ use Rattle.type_terms.specs.Made.{Standing, terms, bounds, traits, is_leaf_label
 use Rattle.term_folds.specs.Kept.{trees-is}
 use Rattle.term_folds.specs.Visits.{Visits, ended, passed, broken, entered, broken_below}
 use Rattle.term_folds.specs.declared.visit.Seen.{Seen}
+use Rattle.term_folds.specs.declared.visit.Seen.TheVariants.{Break, Enter, Pass}
 use Rattle.infer_table.specs.declared.canonical.CanonicalVarKind.{CanonicalVarKind}
 use Rattle.type_terms.proofs.Made.{false-true, left, right, no-tree, made-ordinary, last-bound, last-trait, never-dynamic, never-dynamic-bound, never-principal}
 use Rattle.evaluation.specs.Variables.{is_variable_over}
-use Rattle.candidate_assembly.proofs.Clauses.{says-pass, says-enter, says-break, here-test, below-test, behind-test}
-use Rattle.candidate_assembly.specs.Clauses.{BreaksAt}
-use Rattle.candidate_assembly.specs.Finding.{at_root, some_root, is_foreign, names_undeclared}
+use Rattle.candidate_assembly.specs.Finding.{BreaksAt, at_root, some_root, is_foreign, names_undeclared}
 
 -- ---- a visit that breaks at some trees
+says-pass : (B : Type 0) (m : Bool) → BreaksAt {B = B} m Pass → ⊥
+says-pass B true h = h
+says-pass B false h = h
+
+says-enter : (B : Type 0) (m : Bool) → BreaksAt {B = B} m Enter → m ≡ false
+says-enter B true h = absurd h
+says-enter B false h = refl
+
+says-break : {B : Type 0} (m : Bool) (b : B) → BreaksAt m (Break b) → m ≡ true
+says-break true b h = refl
+says-break false b h = absurd h
+
+here-test : (p q r : Bool) → p ≡ true → true ≡ (p || q || r)
+here-test p q r h = rw h refl
+
+below-test : (p q r : Bool) → p ≡ false → true ≡ q → true ≡ (p || q || r)
+below-test p q r h k = rw (h, ← k) refl
+
+behind-test : (a p q r : Bool) → p ≡ false → false ≡ q → a ≡ r → a ≡ (p || q || r)
+behind-test a p q r h k e = rw (h, ← k) e
+
 -- one of the trees, each without those behind it, passes the test
 abbrev pub some_tree : (Trees → Bool) → Trees → Bool
 some_tree p none = false
 some_tree p (tree l c o) = p (tree l c none) || some_tree p c || some_tree p o
 
-abbrev Sees : {V : Type 0} → (V → Trees → Bool) → (B : Type 0) → List ℕ → Trees → V → V → Seen B → Type 0
+abbrev pub Sees : {V : Type 0} → (V → Trees → Bool) → (B : Type 0) → List ℕ → Trees → V → V → Seen B → Type 0
 Sees p B bs t v w a = (w ≡ v) × BreaksAt (p v t) a
 
 pub visits-find : {V B : Type 0} (p : V → Trees → Bool) {bs : List ℕ} {t : Trees} {v w : V} {r : Option B} → Visits (Sees p B) bs t v w r → (w ≡ v) × (is_some r ≡ some_tree (p v) t)
@@ -77,13 +97,13 @@ none-found : (p : Label → Bool) (t : Trees) → t ≡ none → some_node p t �
 none-found p t e = ap (some_node p) e
 
 module _ (kinds : List CanonicalVarKind) where
-  abbrev foreign_label : Label → Bool
+  abbrev pub foreign_label : Label → Bool
   foreign_label l = not (is_variable_over kinds l)
 
-  abbrev foreign : Trees → Bool
+  abbrev pub foreign : Trees → Bool
   foreign t = some_node foreign_label t
 
-  made-over : (m : Standing) (t : Trees) → is_made is_in_range m t ≡ true → is_made (is_variable_over kinds) m t ≡ not (foreign t)
+  pub made-over : (m : Standing) (t : Trees) → is_made is_in_range m t ≡ true → is_made (is_variable_over kinds) m t ≡ not (foreign t)
   made-over terms none h = refl
   made-over terms (tree dynamic c o) h =
       two (foreign c) (foreign o) _ _ (made-over bounds c (left (is_made is_in_range bounds c) _ h)) (made-over terms o (right (is_made is_in_range bounds c) _ h))

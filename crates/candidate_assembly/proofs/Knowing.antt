@@ -7,7 +7,7 @@ use Rattle.model.specs.Trees.{Trees, none, tree, some_node, depth}
 use Rattle.model.specs.Worlds.{World, Reference, StructDecl, TraitDecl}
 use Rattle.model.specs.Terms.{erased_world, erased_struct, erased_trait, erased_reference}
 use Rattle.model.specs.Walks.{Met, local, struct_leaf, dyn_leaf, entered, other_leaf, open_place, struct_is, trait_is, is_home, dyn_met, visited, until_decisive, ends_local, walk, open_walk, item_in, is_known_in}
-use Rattle.model.specs.Answers.{written_in, is_undeclared}
+use Rattle.model.specs.Answers.{written_in, is_undeclared, is_open, is_closed}
 use Rattle.model.specs.LinkedSet.{is_open_place}
 use Rattle.type_terms.specs.Terms.{Entry, trees_at}
 use Rattle.type_terms.proofs.Made.{left, right}
@@ -241,6 +241,69 @@ module _ (W : World) where
       both : trait_is (λ _. true) W r.trait ≡ true → seen (open_walk W r) ≡ true → (trait_is (λ _. true) W r.trait && seen (open_walk W r)) ≡ true
       both e f = ap (λ b. b && seen (open_walk W r)) e ∙ f
 
+  -- where nothing is open, no open place is visited
+  any-append : (xs ys : List Met) → list_any is_open_place xs ≡ false → list_any is_open_place ys ≡ false → list_any is_open_place (xs ++ ys) ≡ false
+  any-append [] ys h g = g
+  any-append (open_place ∷ xs) ys h g = cc
+  any-append (local ∷ xs) ys h g = any-append xs ys h g
+  any-append (struct_leaf s ∷ xs) ys h g = any-append xs ys h g
+  any-append (dyn_leaf t ∷ xs) ys h g = any-append xs ys h g
+  any-append (entered s ∷ xs) ys h g = any-append xs ys h g
+  any-append (other_leaf ∷ xs) ys h g = any-append xs ys h g
+
+  struct-unopened : (s : ℕ) (ms : List Met) (a b : Bool) → list_any is_open_place ms ≡ false
+      → list_any is_open_place (if a then local ∷ [] else if b then entered s ∷ ms else struct_leaf s ∷ []) ≡ false
+  struct-unopened s ms true b e = refl
+  struct-unopened s ms false true e = e
+  struct-unopened s ms false false e = refl
+
+  dyn-unopened : (d : Option ℕ) (c : Trees) → list_any is_open_place (dyn_met W d c) ≡ false
+  dyn-unopened d none = refl
+  dyn-unopened d (tree (principal n t) c o) = by (trait_is (λ x. is_home d x.home) W t)
+    where
+      by : (b : Bool) → list_any is_open_place ((if b then local else dyn_leaf t) ∷ []) ≡ false
+      by true = refl
+      by false = refl
+  dyn-unopened d (tree l c o) = refl
+
+  visits-unopened : (d : Option ℕ) (t : Trees) → some_node is_open t ≡ false → list_any is_open_place (visited W d t) ≡ false
+  visits-unopened d none h = refl
+  visits-unopened d (tree (ref b) c o) h =
+      let x = none-here false (some_node is_open c) (some_node is_open o) h in any-append (visited W d c) (visited W d o) (visits-unopened d c x.1) (visits-unopened d o x.2)
+  visits-unopened d (tree (adt s) c o) h =
+      let x = none-here false (some_node is_open c) (some_node is_open o) h in
+      let own = struct_is (λ x. is_home d x.home) W s in
+      let fundamental = struct_is (λ x. x.is_fundamental) W s in
+      any-append (if own then local ∷ [] else if fundamental then entered s ∷ visited W d c else struct_leaf s ∷ []) (visited W d o)
+      (struct-unopened s (visited W d c) own fundamental (visits-unopened d c x.1)) (visits-unopened d o x.2)
+  visits-unopened d (tree dynamic c o) h =
+      let x = none-here false (some_node is_open c) (some_node is_open o) h in any-append (dyn_met W d c) (visited W d o) (dyn-unopened d c) (visits-unopened d o x.2)
+  visits-unopened d (tree (param s i) c o) h = cc
+  visits-unopened d (tree (placeholder s i) c o) h = cc
+  visits-unopened d (tree (infer s i) c o) h = cc
+  visits-unopened d (tree (canonical s i) c o) h = cc
+  visits-unopened d (tree (bound s i j) c o) h = cc
+  visits-unopened d (tree l c o) h = visits-unopened d o (none-here false (some_node is_open c) (some_node is_open o) h).2
+
+  all-of : (a b c d e : Bool) → (a && b) ≡ true → c ≡ true → e ≡ false → true ≡ ((a && (b && (c || d))) && not e)
+  all-of true true true d false h f g = refl
+  all-of false b c d e h f g = cc
+  all-of true false c d e h f g = cc
+  all-of true true false d e h f g = cc
+  all-of true true true d true h f g = cc
+
+  -- a reference to a trait of the crate that asks, or a fundamental one, is known where nothing is open
+  pub closed-known : (c : ℕ) (r : Reference) → written_in W r ≡ true → (trait_is (λ x. (x.home == c) || x.is_fundamental) W r.trait && is_closed r.args) ≡ true
+      → true ≡ is_knowable W c r
+  closed-known c r h k =
+      let own = trait_is (λ x. (x.home == c) || x.is_fundamental) W r.trait in
+      all-of (trait_is (λ _. true) W r.trait) (seen (open_walk W r)) own (ends_local (walk W c r)) (meets_open W r) (written-walk r h) (left own _ k)
+      (visits-unopened None r.args (unopened (some_node is_open r.args) (right own _ k)))
+    where
+      unopened : (b : Bool) → not b ≡ true → b ≡ false
+      unopened true e = absurd (cc)
+      unopened false e = refl
+
 -- ---- the answer of a walk with a table in which no variable has a value
 never-both : (a : Bool) → false ≡ (a && not true)
 never-both true = refl
@@ -252,6 +315,10 @@ module _ (es : List Entry) (d : Items) (r : TraitRef) where
 
   abbrev own : Reference
   own = reference_in es r
+
+  -- whether its trait is the crate's own or fundamental does not depend on lifetimes
+  pub own-same : trait_is (λ x. (x.home == d.local) || x.is_fundamental) (declared es d) r.def_id.index ≡ trait_is (λ x. (x.home == d.local) || x.is_fundamental) W r.def_id.index
+  own-same = trait-same W (λ x. (x.home == d.local) || x.is_fundamental) (λ x. refl) r.def_id.index
 
   unread : (t : Table) → t.values ≡ [] → reference_read es t r ≡ own
   unread t e = ap (λ vs. record { trait = r.def_id.index; args = resolved (content es vs) (trees_at es r.args.0) }) e

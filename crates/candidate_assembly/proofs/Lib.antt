@@ -14,6 +14,8 @@ pub mod WellDeclared
 pub mod GoingOn
 pub mod Counted
 pub mod Finding
+pub mod FindingOnce
+pub mod OpenPlaces
 pub mod Fitting
 pub mod Knowing
 pub mod GivenLifetimes

@@ -1,7 +1,8 @@
 -- Terms over the variables of a candidate: those of the goal, and behind them its own.
-use Rattle.std.proofs.Common.{◌≡◌, ℕ, zero, suc, ◌+◌, true, false, ◌||◌, List, refl, sym, ◌∙◌, ap}
+use Rattle.std.proofs.Common.{◌≡◌, ℕ, zero, suc, ◌+◌, true, false, ◌||◌, List, Option, Some, None, refl, sym, ◌∙◌, ap}
+use Rattle.std.specs.Prelude.{IfSome}
 use Rattle.std.specs.List.{slice_get}
-use Rattle.model.specs.Label.{Label, Sort, of_type, of_const, of_lifetime, infer, param, placeholder, canonical, bound, fn_ptr, principal, inside, shift_label, bool, char}
+use Rattle.model.specs.Label.{Label, Sort, of_type, of_const, of_lifetime, infer, param, placeholder, canonical, bound, fn_ptr, principal, dynamic, inside, shift_label, bool, char}
 use Rattle.model.specs.Trees.{Trees, none, tree, ◌+++◌, erase_label, shift, nth, instantiate, some_node}
 use Rattle.model.specs.Worlds.{Reference}
 use Rattle.type_terms.specs.Made.{terms, is_leaf_label, is_made}
@@ -16,8 +17,8 @@ use Rattle.evaluation.specs.Fitting.{is_of_sort, is_slot, AreOver}
 use Rattle.evaluation.specs.Variables.{is_variable_over}
 use Rattle.evaluation.proofs.Readings.{HasLeaves, made-leaves}
 use Rattle.goal_frames.specs.RuleFitting.{slots_of}
-use Rattle.assembly_laws.specs.Asking.{with_plain_head}
-use Rattle.assembly_laws.specs.Candidates.{all_equal, moved, is_param}
+use Rattle.assembly_laws.specs.Asking.{with_plain_head, next_of}
+use Rattle.assembly_laws.specs.Candidates.{all_equal, moved, is_param, last_of, lifetime_of, outlives, unsizing_outlives}
 use Rattle.assembly_laws.specs.Declared.{is_declared, are_terms}
 use Rattle.assembly_laws.specs.Facts.{tree_of_reference}
 use Rattle.assembly_laws.proofs.Headers.{child-some, next-some}
@@ -130,6 +131,30 @@ module _ (ls : List Label) where
   pub over-plain-head : (t : Trees) → AreOver ls t → AreOver ls (with_plain_head t)
   over-plain-head none h = tt
   over-plain-head (tree l c o) h = (erased-slot l h.0, λ e. h.1 (sym (erased-leaf l) ∙ e), h.2, h.3)
+
+  -- ---- what is recorded of lifetimes
+  over-last : (t : Trees) → AreOver ls t → AreOver ls (last_of t)
+  over-last none h = tt
+  over-last (tree l c none) h = h
+  over-last (tree l c (tree m d o)) h = over-last (tree m d o) h.3
+
+  over-lifetime : (t : Trees) → AreOver ls t → IfSome (lifetime_of t) (AreOver ls)
+  over-lifetime none h = tt
+  over-lifetime (tree dynamic b o) h = over-last b h.2
+  over-lifetime (tree l c o) h = tt
+
+  over-next : (t : Trees) → AreOver ls t → AreOver ls (next_of t)
+  over-next none h = tt
+  over-next (tree l c o) h = h.3
+
+  over-outlives : (t : Trees) (a b : Option Trees) → AreOver ls t → IfSome a (AreOver ls) → IfSome b (AreOver ls) → AreOver ls (outlives t a b)
+  over-outlives t None None h f g = tt
+  over-outlives t (Some a) None h f g = tt
+  over-outlives t (Some a) (Some b) h f g = (refl, λ e. absurd (false-true e), over-append a b f g, tt)
+  over-outlives t None (Some b) h f g = (refl, λ e. absurd (false-true e), over-append t b h g, tt)
+
+  pub over-unsizing : (t : Trees) → AreOver ls t → AreOver ls (unsizing_outlives t)
+  over-unsizing t h = over-outlives (nth t 0) (lifetime_of t) (lifetime_of (next_of t)) (over-nth t 0 h) (over-lifetime t h) (over-lifetime (next_of t) (over-next t h))
 
   -- ---- equations and references
   abbrev pub AreOverSides : List Equation → Type 0

@@ -28,7 +28,7 @@ use Rattle.evaluation.specs.Variables.{is_variable_over}
 use Rattle.goal_frames.specs.RuleFitting.{slots_of, IsOverSlots}
 use Rattle.declarations.specs.Elaboration.{elaborate, supertraits}
 use Rattle.assembly_laws.specs.Asking.{Asked, clauses, self_of, next_of, begins_unknown, all_known, are_clauses, asked}
-use Rattle.assembly_laws.specs.Candidates.{Candidate, all_equal, premise, by_rule, unsure, unknowable, clause_source, by_clauses, behind, is_param, kind_of_param, kinds_of_params, by_the_impl, is_relevant_to, by_impls, as_written, misc, if_so, by_sized, by_copy, by_auto, by_tuple, by_fn_ptr, call_of, by_call, unsize_array_of, upcast_source, upcasts_from, upcasts_to, upcasts_of, unsize_by_struct, unsize_struct_of, unsize_known, by_unsize, built_in, bounds_from, object_source, written_source, objects_of, by_objects}
+use Rattle.assembly_laws.specs.Candidates.{Candidate, all_equal, premise, by_rule, unsure, unknowable, clause_source, by_clauses, behind, is_param, kind_of_param, kinds_of_params, by_the_impl, is_relevant_to, by_impls, as_written, misc, if_so, by_sized, by_copy, by_auto, by_tuple, by_fn_ptr, call_of, by_call, unsize_array_of, upcast_source, upcasts_from, upcasts_to, upcasts_of, unsize_by_struct, unsize_struct_of, unsize_known, recording, unsizing_outlives, unsize_recording, by_unsize, built_in, bounds_from, object_source, written_source, objects_of, by_objects}
 use Rattle.assembly_laws.specs.Cover.{AreTermsOf, all_candidates}
 use Rattle.assembly_laws.specs.Declared.{are_terms, is_unsorted, is_otherwise}
 use Rattle.assembly_laws.specs.DeclaredWell.{IsDeclaredWell}
@@ -40,9 +40,10 @@ use Rattle.assembly_laws.proofs.DeclaredParts.{header-declared, clause-declared,
 use Rattle.assembly_laws.proofs.Elaborating.{every-in}
 use Rattle.assembly_laws.proofs.LawfulCandidates.{asked-clauses}
 use Rattle.assembly_laws.proofs.Rows.{fields-declared}
+use Rattle.assembly_laws.proofs.Recording.{every-recorded}
 use Rattle.assembly_laws.proofs.Rowwise.{both-lists}
 use Rattle.goal_frames.proofs.RuleFitting.{rule-slots}
-use Rattle.candidate_assembly.proofs.Over.{ArePlain, declared-plain, goal-over, over-head, over-behind, over-plain-head, AreOverSides, over-equal, over-reference}
+use Rattle.candidate_assembly.proofs.Over.{ArePlain, declared-plain, goal-over, over-head, over-behind, over-plain-head, over-append, over-unsizing, AreOverSides, over-equal, over-reference}
 use Rattle.candidate_assembly.proofs.OverRows.{AreOverAll, AskOver, last-over, last-unsizes-over, sized-over, copy-over, auto-over, tuple-over, fn-ptr-over, principal-over, autos-over, to-dyn-over, elaborated-over, supertraits-over, but-last-over, unsizing-over}
 use Rattle.candidate_assembly.proofs.WellDeclared.{found, kind_for, kind-is, kinds-at, label-of, is-less}
 
@@ -165,12 +166,20 @@ module _ (V : World) (fields : (x : StructDecl) → In x V.structs → Every Are
   unsure-over : Fit unsure
   unsure-over = (tt, tt, tt)
 
-  unsize-over : (b : Bool) → Every Fit (if b then unsure ∷ [] else unsize_known V a (self_of a))
-  unsize-over true = (unsure-over, tt)
-  unsize-over false =
+  known-over : Every Fit (unsize_known V a (self_of a))
+  known-over =
       both-lists Fit (unsize_array_of V a (self_of a)) _ (array-over (self_of a) self_over)
       (both-lists Fit (as_written V a misc (unsize_to_dyn_rules V (self_of a))) _ (written-over misc (unsize_to_dyn_rules V (self_of a)) (to-dyn-over V ls fields bounds (self_of a) self_over))
       (both-lists Fit (upcasts_of V a (self_of a)) (unsize_struct_of V a (self_of a)) (upcasts-over (self_of a) self_over) (struct-over (self_of a) self_over)))
+
+  recorded-over : (c : Candidate) → Fit c → Fit (recording (unsizing_outlives a.reference.args) c)
+  recorded-over c h =
+      let own = slots_of a.kinds c.kinds in
+      (h.0, over-append own c.regions (unsizing_outlives a.reference.args) h.1 (over-unsizing own a.reference.args (goal c.kinds)), h.2)
+
+  unsize-over : (b : Bool) → Every Fit (if b then unsure ∷ [] else unsize_recording V a)
+  unsize-over true = (unsure-over, tt)
+  unsize-over false = every-recorded (unsizing_outlives a.reference.args) Fit recorded-over (unsize_known V a (self_of a)) known-over
 
   built-in-over : Every Fit (built_in V a)
   built-in-over =

@@ -12,9 +12,10 @@ use Rattle.evaluation.specs.declared.candidate.BuiltinImplSource.TheVariants.{Tr
 use Rattle.declarations.specs.Elaboration.{elaborate, supertraits}
 use Rattle.assembly_laws.specs.Asking.{Asked, self_of, next_of, begins_unknown}
 use Rattle.assembly_laws.specs.Solver.{is_clause, is_non_global, is_impl}
-use Rattle.assembly_laws.specs.Candidates.{Candidate, unsure, all_equal, by_rule, clause_source, by_clauses, by_the_impl, is_relevant_to, by_impls, as_written, misc, if_so, by_sized, by_copy, by_auto, by_tuple, by_fn_ptr, call_of, by_call, unsize_array_of, upcast_source, upcasts_from, upcasts_to, upcasts_of, unsize_by_struct, unsize_struct_of, unsize_known, built_in, bounds_from, object_source, written_source, objects_of, by_objects}
+use Rattle.assembly_laws.specs.Candidates.{Candidate, unsure, all_equal, by_rule, clause_source, by_clauses, by_the_impl, is_relevant_to, by_impls, as_written, misc, if_so, by_sized, by_copy, by_auto, by_tuple, by_fn_ptr, call_of, by_call, unsize_array_of, upcast_source, upcasts_from, upcasts_to, upcasts_of, unsize_by_struct, unsize_struct_of, unsize_known, unsizing_outlives, unsize_recording, built_in, bounds_from, object_source, written_source, objects_of, by_objects}
 use Rattle.model.proofs.Members.{same-number}
 use Rattle.assembly_laws.proofs.CandidateKinds.{every-append}
+use Rattle.assembly_laws.proofs.Recording.{every-recorded}
 use Rattle.candidate_assembly.specs.Sections.{begins_dyn, misc_is_bound, is_unknowable, is_built_in, is_bound, autos_of, sources_tell}
 
 -- ---- sources of different sections
@@ -174,9 +175,9 @@ module _ (V : World) (a : Asked) where
         (every-append P (as_written V a misc (unsize_to_dyn_rules V t)) (upcasts_of V a t ++ unsize_struct_of V a t) (written-are p misc other (unsize_to_dyn_rules V t))
         (every-append P (upcasts_of V a t) (unsize_struct_of V a t) (upcasts-of-are t) (struct-of-are t)))
 
-    unsize-are : (b : Bool) → Are p (if b then unsure ∷ [] else unsize_known V a (self_of a))
+    unsize-are : (b : Bool) → Are p (if b then unsure ∷ [] else unsize_recording V a)
     unsize-are true = (other, tt)
-    unsize-are false = known-are (self_of a)
+    unsize-are false = every-recorded (unsizing_outlives a.reference.args) (λ (c : Candidate). p c.source ≡ true) (λ c h. h) (unsize_known V a (self_of a)) (known-are (self_of a))
 
     pub rules-are : Are p (built_in V a)
     rules-are =
@@ -236,7 +237,7 @@ module _ (V : World) (a : Asked) where
         (every-append P (by_tuple V a) _ (tuple-row (a.reference.trait == tuple_trait) (self_of a) h)
         (every-append P (by_fn_ptr V a) _ (pointer-row (a.reference.trait == fn_ptr_trait) (self_of a) h)
         (every-append P (by_call V a) _ (call-row (is_fn_trait a.reference.trait) (self_of a) h)
-        (unsize-row (a.reference.trait == unsize) e (if begins_unknown a.kinds (next_of (self_of a)) then unsure ∷ [] else unsize_known V a (self_of a))))))))
+        (unsize-row (a.reference.trait == unsize) e (if begins_unknown a.kinds (next_of (self_of a)) then unsure ∷ [] else unsize_recording V a)))))))
 
   both-true : (x y : Bool) → (x && not y) ≡ true → (x ≡ true) × (y ≡ false)
   both-true true false h = (refl, refl)

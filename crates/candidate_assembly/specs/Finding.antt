@@ -1,14 +1,20 @@
 -- Visitors that look for names that are not declared, and for what is open and no variable of a goal.
-use Rattle.std.specs.Prelude.{Bool, false, ◌||◌, not, List}
+use Rattle.std.specs.Prelude.{Bool, true, false, ◌||◌, not, List}
 use Rattle.model.specs.Label.{Label, adt, dynamic, principal, auto_trait}
 use Rattle.model.specs.Trees.{Trees, none, tree}
 use Rattle.model.specs.Worlds.{World}
 use Rattle.model.specs.Answers.{is_undeclared}
 use Rattle.term_folds.specs.Folds.{IsBound}
-use Rattle.term_folds.specs.declared.visit.Seen.TheVariants.{Enter}
+use Rattle.term_folds.specs.declared.visit.Seen.{Seen}
+use Rattle.term_folds.specs.declared.visit.Seen.TheVariants.{Break, Enter}
 use Rattle.infer_table.specs.declared.canonical.CanonicalVarKind.{CanonicalVarKind}
 use Rattle.evaluation.specs.Variables.{is_variable_over}
-use Rattle.candidate_assembly.specs.Clauses.{BreaksAt}
+
+-- A visitor breaks where this is so, and enters every other node.
+abbrev pub BreaksAt : {B : Type 0} → Bool → Seen B → Type 0
+BreaksAt true (Break b) = Unit {0}
+BreaksAt false Enter = Unit {0}
+BreaksAt _ _ = ⊥
 
 -- The label of the first tree passes the test.
 abbrev pub at_root : (Label → Bool) → Trees → Bool

@@ -13,88 +13,26 @@ ghost use Rattle.assembly_laws.specs.Candidates.{clause_source, by_clauses};
 ghost use Rattle.built_in_candidates.specs.Goals.{asked_of, candidate_of};
 ghost use Rattle.candidate_assembly.specs.Clauses.{reference_of, references_to};
 
+use crate::visitors::has_open_places;
 use built_in_candidates::parts::by_rule;
 use built_in_candidates::relate::relate_args;
 use evaluation::{CandidateSource, CandidateSpec, ParamEnvSource};
 use infer_table::input::CanonicalInput;
 use std::alloc::Global;
-use std::ops::ControlFlow;
-use term_folds::binders::Binders;
 use term_folds::predicate::{Clause, TraitRef};
-use term_folds::visit::{Seen, TypeVisitor, visit_args};
 use type_terms::interner::Interner;
-use type_terms::kinds::{Const, ConstKind, Ty, TyKind};
-use type_terms::region::{Region, RegionKind};
 use type_terms::{Fault, TraitId};
 
-/// Looks for a parameter, an unknown, a bound variable, or a lifetime but `'static` (`FindParamInClause`).
-#[derive(Clone, Copy)]
-struct FindsOpen;
-
-impl TypeVisitor for FindsOpen {
-    type Break = ();
-
-    ghost use Rattle.std.proofs.Common.{refl};
-    ghost use Rattle.candidate_assembly.specs.Clauses.{begins_open, BreaksAt, bounds-are-closed};
-
-    ghost ready = { λ _ _. Unit {0} };
-
-    ghost sees = { λ es bs t v w a. (w ≡ v) × BreaksAt (begins_open t) a };
-
-    ghost enters_bounds = { λ v es bs t h. (refl, bounds-are-closed _ t h) };
-
-    fn visit_ty(&mut self, cx: &Interner, ty: Ty, _binders: &Binders) -> Seen<()> {
-        match cx.kind(ty) {
-            TyKind::Param(_) | TyKind::Placeholder(_) | TyKind::Infer(_) | TyKind::Bound(_, _) => {
-                Seen::Break(())
-            }
-            TyKind::Bool
-            | TyKind::Char
-            | TyKind::Int(_)
-            | TyKind::Uint(_)
-            | TyKind::Str
-            | TyKind::Never
-            | TyKind::Adt(_, _)
-            | TyKind::Ref(_, _, _)
-            | TyKind::RawPtr(_, _)
-            | TyKind::Array(_, _)
-            | TyKind::Slice(_)
-            | TyKind::Tuple(_)
-            | TyKind::FnPtr(_, _)
-            | TyKind::Dynamic(_, _) => Seen::Enter,
-        }
-    }
-
-    fn visit_const(&mut self, cx: &Interner, ct: Const, _binders: &Binders) -> Seen<()> {
-        match cx.const_kind(ct) {
-            ConstKind::Value(_) => Seen::Enter,
-            ConstKind::Param(_)
-            | ConstKind::Placeholder(_)
-            | ConstKind::Infer(_)
-            | ConstKind::Bound(_, _) => Seen::Break(()),
-        }
-    }
-
-    fn visit_region(&mut self, _cx: &Interner, region: Region, _binders: &Binders) -> Seen<()> {
-        match region.kind {
-            RegionKind::ReStatic => Seen::Enter,
-            RegionKind::ReEarlyParam(_)
-            | RegionKind::RePlaceholder(_)
-            | RegionKind::ReBound(_, _)
-            | RegionKind::ReVar(_) => Seen::Break(()),
-        }
-    }
-}
-
-/// Whether a where-clause is global: it holds no parameter, unknown, bound variable, or lifetime but `'static`
-/// (`characterize_param_env_assumption`).
+/// Whether a where-clause is global: it holds no parameter, unknown, bound variable, or lifetime but `'static`. Its flags tell it.
+/// (`characterize_param_env_assumption` of the original, which looks for them by a visitor, `FindParamInClause`.)
 fn clause_source(cx: &Interner, trait_ref: TraitRef) -> ParamEnvSource
     requires { ReferenceHeld cx.now.entries trait_ref }
     ensures { result ≡ clause_source (reference_in cx.now.entries trait_ref) }
 {
-    match visit_args(cx, &mut FindsOpen, trait_ref.args, &Binders::Outermost) {
-        ControlFlow::Break(()) => ParamEnvSource::NonGlobal,
-        ControlFlow::Continue(()) => ParamEnvSource::Global,
+    if has_open_places(cx, trait_ref.args) {
+        ParamEnvSource::NonGlobal
+    } else {
+        ParamEnvSource::Global
     }
 }
 

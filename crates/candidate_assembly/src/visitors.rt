@@ -3,7 +3,7 @@ ghost use Rattle.std.specs.Prelude.{◌≡◌, true, not, List};
 ghost use Rattle.model.specs.Label.{of_type, of_const, of_lifetime};
 ghost use Rattle.model.specs.Trees.{some_node};
 ghost use Rattle.model.specs.Walks.{struct_is, trait_is};
-ghost use Rattle.model.specs.Answers.{is_undeclared};
+ghost use Rattle.model.specs.Answers.{is_open, is_undeclared};
 ghost use Rattle.type_terms.specs.Terms.{Entry, Has, types, args_lists, bounds_lists, trees_at};
 ghost use Rattle.type_terms.specs.Kinds.{autos_trees, region_label};
 ghost use Rattle.type_terms.specs.Made.{terms, is_made};
@@ -11,20 +11,33 @@ ghost use Rattle.evaluation.specs.TableAnswers.{is_kind_of};
 ghost use Rattle.evaluation.specs.FrameTables.{kind_at};
 ghost use Rattle.evaluation.specs.Variables.{is_variable_over};
 ghost use Rattle.declarations.specs.Items.{written};
-ghost use Rattle.candidate_assembly.specs.Clauses.{BreaksAt};
-ghost use Rattle.candidate_assembly.specs.Finding.{some_root};
+ghost use Rattle.candidate_assembly.specs.Finding.{BreaksAt, some_root};
 
 use built_in_candidates::variables::kind_of;
 use declarations::declarations::Declarations;
 use infer_table::canonical::CanonicalVarKind;
+use infer_table::canonicalizer::CLAUSE_FLAGS;
+use infer_table::instantiate::BOUND_FLAGS;
 use std::ops::ControlFlow;
 use term_folds::binders::Binders;
+use term_folds::once::Once;
 use term_folds::visit::{Seen, TypeVisitor, visit_args, visit_ty};
-use type_terms::interner::Interner;
+use type_terms::interner::{Handle, Interner};
 use type_terms::kinds::{Bounds, Const, ConstKind, GenericArgs, Ty, TyKind};
 use type_terms::number::{BoundVar, BoundVarIndexKind};
 use type_terms::region::{Region, RegionKind};
 use type_terms::{AdtId, TraitId};
+
+/// The flags of open places: of parameters, unknowns, placeholders and bound variables, canonical ones among them.
+const OPEN_PLACES: u32 = CLAUSE_FLAGS | BOUND_FLAGS;
+
+/// Whether a parameter, an unknown, a placeholder or a bound variable stands in the term: one look at its flags, however large it is.
+pub(crate) fn has_open_places<H: Handle>(cx: &Interner, handle: H) -> bool
+    requires { Has cx.now.entries H.handle_kind (H.handle_number handle) }
+    ensures { result ≡ some_node is_open (trees_at cx.now.entries (H.handle_number handle)) }
+{
+    cx.flags(handle).0 & OPEN_PLACES != 0
+}
 
 /// A break, if this is so.
 fn break_if(found: bool) -> Seen<()>
@@ -85,8 +98,7 @@ impl TypeVisitor for FindsForeign<'_> {
     type Break = ();
 
     ghost use Rattle.std.proofs.Common.{refl};
-    ghost use Rattle.candidate_assembly.specs.Clauses.{BreaksAt};
-    ghost use Rattle.candidate_assembly.specs.Finding.{is_foreign, bounds-are-own};
+    ghost use Rattle.candidate_assembly.specs.Finding.{BreaksAt, is_foreign, bounds-are-own};
 
     ghost ready = { λ _ _. Unit {0} };
 
@@ -149,25 +161,34 @@ pub(crate) fn region_is_over(kinds: &[CanonicalVarKind], region: Region) -> bool
     }
 }
 
-/// Whether the arguments speak of variables of these kinds alone.
+/// Whether the arguments speak of variables of these kinds alone. A term without open places is one look, and in any other a type
+/// that stands in many places is entered once.
 pub(crate) fn args_are_over(cx: &Interner, kinds: &[CanonicalVarKind], args: GenericArgs) -> bool
     requires { Has cx.now.entries args_lists args.0 }
     ensures { result ≡ is_made (is_variable_over kinds.now) terms (trees_at cx.now.entries args.0) }
 {
     cx.lawful();
-    match visit_args(cx, &mut FindsForeign { kinds }, args, &Binders::Outermost) {
+    if !has_open_places(cx, args) {
+        return true;
+    }
+    let mut finds = Once::new(cx.allocator(), FindsForeign { kinds });
+    match visit_args(cx, &mut finds, args, &Binders::Outermost) {
         ControlFlow::Break(()) => false,
         ControlFlow::Continue(()) => true,
     }
 }
 
-/// Whether the type speaks of variables of these kinds alone.
+/// Whether the type speaks of variables of these kinds alone, found as for arguments.
 pub(crate) fn ty_is_over(cx: &Interner, kinds: &[CanonicalVarKind], ty: Ty) -> bool
     requires { Has cx.now.entries types ty.0 }
     ensures { result ≡ is_made (is_variable_over kinds.now) terms (trees_at cx.now.entries ty.0) }
 {
     cx.lawful();
-    match visit_ty(cx, &mut FindsForeign { kinds }, ty, &Binders::Outermost) {
+    if !has_open_places(cx, ty) {
+        return true;
+    }
+    let mut finds = Once::new(cx.allocator(), FindsForeign { kinds });
+    match visit_ty(cx, &mut finds, ty, &Binders::Outermost) {
         ControlFlow::Break(()) => false,
         ControlFlow::Continue(()) => true,
     }
@@ -233,8 +254,7 @@ impl TypeVisitor for FindsUndeclared<'_> {
 
     ghost use Rattle.std.proofs.Common.{refl};
     ghost use Rattle.declarations.specs.Items.{written};
-    ghost use Rattle.candidate_assembly.specs.Clauses.{BreaksAt};
-    ghost use Rattle.candidate_assembly.specs.Finding.{names_undeclared, bounds-are-seen};
+    ghost use Rattle.candidate_assembly.specs.Finding.{BreaksAt, names_undeclared, bounds-are-seen};
 
     ghost ready = { λ _ _. Unit {0} };
 
@@ -278,7 +298,7 @@ impl TypeVisitor for FindsUndeclared<'_> {
     }
 }
 
-/// Whether all structs and traits that the arguments name are declared.
+/// Whether all structs and traits that the arguments name are declared. A type that stands in many places is entered once.
 pub(crate) fn args_are_declared(
     cx: &Interner,
     declarations: &Declarations,
@@ -288,12 +308,8 @@ pub(crate) fn args_are_declared(
     ensures { result ≡ not (some_node (is_undeclared (written cx.now.entries declarations.now)) (trees_at cx.now.entries args.0)) }
 {
     cx.lawful();
-    match visit_args(
-        cx,
-        &mut FindsUndeclared { declarations },
-        args,
-        &Binders::Outermost,
-    ) {
+    let mut finds = Once::new(cx.allocator(), FindsUndeclared { declarations });
+    match visit_args(cx, &mut finds, args, &Binders::Outermost) {
         ControlFlow::Break(()) => false,
         ControlFlow::Continue(()) => true,
     }

@@ -1,7 +1,14 @@
-use Rattle.std.proofs.Common.{refl, ap}
+use Rattle.std.proofs.Common.{refl, ap, sym, ◌∙◌}
 use Rattle.infer_table.specs.Content.{Table}
-use Rattle.candidate_assembly.proofs.Knowing.{known-yes, known-no, never-deep}
+use Rattle.declarations.specs.Items.{reference_in, written}
+use Rattle.candidate_assembly.proofs.Knowing.{closed-known, known-yes, known-no, never-deep}
 use Rattle.candidate_assembly.proofs.knowable.is_knowable.Goals as goal
+
+pub returns-then-is_own_and_closed-clause-is : goal.returns-then-is_own_and_closed-clause-is
+returns-then-is_own_and_closed-clause-is c =
+    let es = c.args.cx.now.entries in
+    let d = c.args.declarations.now in
+    closed-known (written es d) d.local (reference_in es c.args.trait_ref) c.requires.declared (sym c.is_own_and_closed.ensures ∙ c.if-is_own_and_closed.true)
 
 pub returns-in-Ok-answer-clause-is : goal.returns-in-Ok-answer-clause-is
 returns-in-Ok-answer-clause-is c =

@@ -3,19 +3,26 @@ use Rattle.std.specs.ControlFlow.{break_value}
 use Rattle.type_terms.specs.Terms.{trees_at}
 use Rattle.candidate_assembly.specs.Finding.{is_foreign}
 use Rattle.candidate_assembly.specs.declared.visitors.FindsForeign.{FindsForeign}
-use Rattle.candidate_assembly.proofs.Finding.{visits-find, own-terms, type-made}
+use Rattle.candidate_assembly.proofs.Finding.{own-terms, type-made}
+use Rattle.candidate_assembly.proofs.FindingOnce.{once-finds}
+use Rattle.candidate_assembly.proofs.OpenPlaces.{closed-over}
 use Rattle.candidate_assembly.proofs.visitors.ty_is_over.Goals as goal
+
+pub returns-then-not-has_open_places : goal.returns-then-not-has_open_places
+returns-then-not-has_open_places c =
+    let es = c.args.cx.now.entries in
+    sym (closed-over c.args.kinds.now (trees_at es c.args.ty.0) (type-made es c.lawful.ensures c.args.ty.0 c.requires) (sym c.has_open_places.ensures ∙ c.if-not-has_open_places.true))
 
 pub returns-in-Break : goal.returns-in-Break
 returns-in-Break c =
     let es = c.args.cx.now.entries in
     ap (λ z. not (is_some (break_value z))) (sym c.in-Break.is)
-    ∙ ap not (visits-find (λ (v : FindsForeign) t. is_foreign v.kinds.now t) c.visit_ty.ensures.visited).1
+    ∙ ap not (once-finds (λ (v : FindsForeign) t. is_foreign v.kinds.now t) es c.visit_ty.ensures.visited c.new-finds.ensures.visitor (c.new-finds.ensures.entered es))
     ∙ sym (own-terms c.args.kinds.now (trees_at es c.args.ty.0) (type-made es c.lawful.ensures c.args.ty.0 c.requires))
 
-pub returns-in-Continue : goal.returns-in-Continue
-returns-in-Continue c =
+pub returns : goal.returns
+returns c =
     let es = c.args.cx.now.entries in
     ap (λ z. not (is_some (break_value z))) (sym c.in-Continue.is)
-    ∙ ap not (visits-find (λ (v : FindsForeign) t. is_foreign v.kinds.now t) c.visit_ty.ensures.visited).1
+    ∙ ap not (once-finds (λ (v : FindsForeign) t. is_foreign v.kinds.now t) es c.visit_ty.ensures.visited c.new-finds.ensures.visitor (c.new-finds.ensures.entered es))
     ∙ sym (own-terms c.args.kinds.now (trees_at es c.args.ty.0) (type-made es c.lawful.ensures c.args.ty.0 c.requires))

@@ -1,7 +1,7 @@
 use Rattle.std.proofs.Common.{refl, sym, subst}
 use Rattle.term_folds.specs.declared.visit.Seen.TheVariants.{Enter}
 use Rattle.declarations.specs.Items.{written}
-use Rattle.candidate_assembly.specs.Clauses.{BreaksAt}
+use Rattle.candidate_assembly.specs.Finding.{BreaksAt}
 use Rattle.candidate_assembly.proofs.Finding.{const-unnamed}
 use Rattle.candidate_assembly.proofs.visitors.FindsUndeclaredTypeVisitor.visit_const.Goals as goal
 

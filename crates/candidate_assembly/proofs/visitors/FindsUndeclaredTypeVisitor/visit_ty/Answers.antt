@@ -4,8 +4,7 @@ use Rattle.type_terms.specs.Kinds.{kind_trees}
 use Rattle.type_terms.specs.declared.kinds.TyKind.TheVariants.{Dynamic}
 use Rattle.term_folds.specs.Kept.{trees-is}
 use Rattle.declarations.specs.Items.{written}
-use Rattle.candidate_assembly.specs.Clauses.{BreaksAt}
-use Rattle.candidate_assembly.specs.Finding.{names_undeclared}
+use Rattle.candidate_assembly.specs.Finding.{BreaksAt, names_undeclared}
 use Rattle.candidate_assembly.proofs.Finding.{bounds-alone, not-not, among}
 use Rattle.candidate_assembly.proofs.visitors.FindsUndeclaredTypeVisitor.visit_ty.Goals as goal
 
