@@ -18,12 +18,13 @@ use Rattle.assembly_laws.specs.Asking.{Asked, asked, all_known, self_of, next_of
 use Rattle.declarations.specs.Elaboration.{elaborate, supertraits}
 use Rattle.assembly_laws.specs.Meaning.{Meaning}
 use Rattle.assembly_laws.specs.Declared.{StructsAreOne}
-use Rattle.assembly_laws.specs.Candidates.{Candidate, premise, by_rule, by_the_impl, behind, misc, all_equal, unsure, unknowable, by_clauses, by_impls, is_relevant_to, by_sized, by_copy, by_auto, by_tuple, by_fn_ptr, call_of, by_call, unsize_array_of, upcasts_of, unsize_struct_of, unsize_known, by_unsize, built_in, object_source, written_source, objects_of, by_objects, as_written, clause_source}
+use Rattle.assembly_laws.specs.Candidates.{Candidate, premise, by_rule, by_the_impl, behind, misc, all_equal, unsure, unknowable, by_clauses, by_impls, is_relevant_to, by_sized, by_copy, by_auto, by_tuple, by_fn_ptr, call_of, by_call, unsize_array_of, upcasts_of, unsize_struct_of, unsize_known, unsizing_outlives, unsize_recording, by_unsize, built_in, object_source, written_source, objects_of, by_objects, as_written, clause_source}
 use Rattle.assembly_laws.specs.Cover.{all_candidates}
 use Rattle.assembly_laws.specs.Solver.{greatest, width_of, supers_of, declared_width, clauses_in, widest_of, most_candidates, number_at}
 use Rattle.assembly_laws.proofs.Premises.{CandidatesAreFew, PremisesAreFew}
 use Rattle.assembly_laws.proofs.Cover.{IsAsked, asked-by}
 use Rattle.assembly_laws.proofs.DeclaredWidths.{greatest-at}
+use Rattle.assembly_laws.proofs.Recording.{length-recorded, nested-recorded}
 use Rattle.assembly_laws.proofs.CandidateNumbers.{length-append, nested-append, map-length, last-few, autos-few, principal-few, sized-few, copy-few, auto-few, tuple-few, fn-ptr-few, to-dyn-few, FewCandidates, none-few, if-few, both-few, written-few, upcasts-few, structs-few, from-bounds-few, asked-supers-few, elaborated-few}
 
 -- ---- where-clauses and impls
@@ -115,9 +116,13 @@ module _ (V : World) (w : ℕ) (one : StructsAreOne V) (fields : (x : StructDecl
       let n = all.asks in
       record { few = omega (arith, f); asks = omega (arith, n) }
 
-  by-unsize-few : (u : Trees) (t : Bool) → IsWithin w u → count u ≤ w → FewCandidates V w supers (if t then unsure ∷ [] else unsize_known V a u) (w + 4) (w + 2)
-  by-unsize-few u true h g = record { few = omega arith; asks = omega arith }
-  by-unsize-few u false h g = unsize-few u h g
+  by-unsize-few : (t : Bool) → IsWithin w (self_of a) → count (self_of a) ≤ w → FewCandidates V w supers (if t then unsure ∷ [] else unsize_recording V a) (w + 4) (w + 2)
+  by-unsize-few true h g = record { few = omega arith; asks = omega arith }
+  by-unsize-few false h g =
+      let r = unsizing_outlives a.reference.args in
+      let cs = unsize_known V a (self_of a) in
+      let x = unsize-few (self_of a) h g in
+      record { few = subst (λ n. n ≤ w + 4) (sym (length-recorded r cs)) x.few; asks = subst (λ n. n ≤ w + 2) (sym (nested-recorded r cs)) x.asks }
 
   built-in-few : IsWithin w (self_of a) → count (self_of a) ≤ w → FewCandidates V w supers (built_in V a) (w + 10) (3 * w + 4)
   built-in-few h g =
@@ -127,7 +132,7 @@ module _ (V : World) (w : ℕ) (one : StructsAreOne V) (fields : (x : StructDecl
       let z3 = if-few V w supers (a.reference.trait == tuple_trait) _ 1 0 (written-few V w supers a misc (tuple_rules (self_of a)) 1 0 (tuple-few (self_of a))) in
       let z4 = if-few V w supers (a.reference.trait == fn_ptr_trait) _ 1 0 (written-few V w supers a misc (fn_ptr_rules (self_of a)) 1 0 (fn-ptr-few (self_of a))) in
       let z5 = if-few V w supers (is_fn_trait a.reference.trait) _ 1 1 (call-few (self_of a)) in
-      let z6 = if-few V w supers (a.reference.trait == unsize) _ (w + 4) (w + 2) (by-unsize-few (self_of a) (begins_unknown a.kinds (next_of (self_of a))) h g) in
+      let z6 = if-few V w supers (a.reference.trait == unsize) _ (w + 4) (w + 2) (by-unsize-few (begins_unknown a.kinds (next_of (self_of a))) h g) in
       let y5 = both-few V w supers (by_call V a) (by_unsize V a) 1 1 (w + 4) (w + 2) z5 z6 in
       let y4 = both-few V w supers (by_fn_ptr V a) _ 1 0 (1 + (w + 4)) (1 + (w + 2)) z4 y5 in
       let y3 = both-few V w supers (by_tuple V a) _ 1 0 (1 + (1 + (w + 4))) (0 + (1 + (w + 2))) z3 y4 in

@@ -1,8 +1,8 @@
 -- Each candidate is made as a rule, as an impl, or is unsure; so the steps are the trait's, and unknowns are determined.
-use Rattle.std.proofs.Common.{◌≡◌, ℕ, suc, ◌==◌, Bool, true, false, not, ◌&&◌, if◌then◌else◌, List, [], ◌∷◌, ◌++◌, ◌⊎◌, inl, inr, refl}
+use Rattle.std.proofs.Common.{◌≡◌, ℕ, suc, ◌==◌, Bool, true, false, not, ◌&&◌, if◌then◌else◌, List, [], ◌∷◌, ◌++◌, ◌⊎◌, inl, inr, refl, ap}
 use Rattle.std.specs.List.{flat_map}
 use Rattle.model.specs.Label.{tuple, dynamic, array, slice, adt, fn_ptr}
-use Rattle.model.specs.Trees.{Trees, none, tree}
+use Rattle.model.specs.Trees.{Trees, none, tree, ◌+++◌}
 use Rattle.model.specs.Worlds.{World, Reference, StructDecl, ImplDecl, structs_named}
 use Rattle.model.specs.Rules.{Rule, sized, is_fn_trait, unsize, sized_rules, copy_rules, auto_rules, tuple_rules, fn_ptr_rules, unsize_to_dyn_rules, are_dyn_compatible, principal_with, autos_with, but_last, last_asked, are_declared, upcasts_autos, some_unsizing, with_unsizing, last_unsizes}
 use Rattle.model.specs.Proofs.{In}
@@ -14,8 +14,9 @@ use Rattle.evaluation.specs.declared.candidate.BuiltinImplSource.TheVariants.{Tr
 use Rattle.evaluation.specs.FrameTables.{Equation}
 use Rattle.declarations.specs.Elaboration.{elaborate, supertraits}
 use Rattle.assembly_laws.specs.Asking.{Asked, clauses, self_of, next_of, begins_unknown}
-use Rattle.assembly_laws.specs.Candidates.{Candidate, all_equal, clause_source, by_rule, by_the_impl, unsure, by_clauses, as_written, if_so, misc, by_sized, by_copy, by_auto, by_tuple, by_fn_ptr, call_of, by_call, unsize_array_of, upcast_source, upcasts_from, upcasts_to, upcasts_of, unsize_by_struct, unsize_struct_of, unsize_known, built_in, by_impls, is_relevant_to, bounds_from, object_source, written_source, objects_of}
+use Rattle.assembly_laws.specs.Candidates.{Candidate, all_equal, clause_source, by_rule, by_the_impl, unsure, by_clauses, as_written, if_so, misc, by_sized, by_copy, by_auto, by_tuple, by_fn_ptr, call_of, by_call, unsize_array_of, upcast_source, upcasts_from, upcasts_to, upcasts_of, unsize_by_struct, unsize_struct_of, unsize_known, recording, unsizing_outlives, unsize_recording, built_in, by_impls, is_relevant_to, bounds_from, object_source, written_source, objects_of}
 use Rattle.assembly_laws.specs.Cover.{all_candidates}
+use Rattle.assembly_laws.proofs.Recording.{every-recorded}
 
 pub every-append : {A : Type 0} (P : A → Type 0) (xs ys : List A) → Every P xs → Every P ys → Every P (xs ++ ys)
 every-append P [] ys a b = b
@@ -25,9 +26,15 @@ pub every-split : {A : Type 0} (P : A → Type 0) (xs ys : List A) → Every P (
 every-split P [] ys e = (tt, e)
 every-split P (x ∷ xs) ys e = let s = every-split P xs ys e.1 in ((e.0, s.0), s.1)
 
+-- the candidate, but for what it records of lifetimes
+abbrev pub with_regions : Trees → Candidate → Candidate
+with_regions r c = record { source = c.source; kinds = c.kinds; equations = c.equations; regions = r; nested = c.nested; certainty = c.certainty }
+
 module _ (V : World) (a : Asked) where
   abbrev pub IsMadeAs : Candidate → Type 0
-  IsMadeAs c = ((source : CandidateSource) × (es : List Equation) × (ps : List Reference) × (c ≡ by_rule V a source es ps)) ⊎ ((c ≡ unsure) ⊎ ((i : ImplDecl) × In i V.impls × (c ≡ by_the_impl V a i)))
+  IsMadeAs c =
+      (r : Trees)
+      × (((source : CandidateSource) × (es : List Equation) × (ps : List Reference) × (c ≡ with_regions r (by_rule V a source es ps))) ⊎ ((c ≡ with_regions r unsure) ⊎ ((i : ImplDecl) × In i V.impls × (c ≡ with_regions r (by_the_impl V a i)))))
 
   -- a candidate that stands in a list only if a test says so
   if-first : (b : Bool) (c : Candidate) (xs : List Candidate) → IsMadeAs c → Every IsMadeAs xs → Every IsMadeAs (if b then c ∷ xs else xs)
@@ -35,7 +42,7 @@ module _ (V : World) (a : Asked) where
   if-first false c xs h e = e
 
   rule-made : (source : CandidateSource) (es : List Equation) (ps : List Reference) → IsMadeAs (by_rule V a source es ps)
-  rule-made source es ps = inl (source, es, ps, refl)
+  rule-made source es ps = (none, inl (source, es, ps, refl))
 
   clauses-made : (rs : List Reference) → Every IsMadeAs (by_clauses V a rs)
   clauses-made [] = tt
@@ -44,7 +51,7 @@ module _ (V : World) (a : Asked) where
 
   written-made : (source : CandidateSource) (us : List Rule) → Every IsMadeAs (as_written V a source us)
   written-made source [] = tt
-  written-made source (u ∷ us) = (inl (source, [], u.premises, refl), written-made source us)
+  written-made source (u ∷ us) = (rule-made source [] u.premises, written-made source us)
 
   if-made : (b : Bool) (xs : List Candidate) → Every IsMadeAs xs → Every IsMadeAs (if_so b xs)
   if-made true xs e = e
@@ -108,9 +115,14 @@ module _ (V : World) (a : Asked) where
       (every-append IsMadeAs (as_written V a misc (unsize_to_dyn_rules V t)) (upcasts_of V a t ++ unsize_struct_of V a t) (written-made misc (unsize_to_dyn_rules V t))
       (every-append IsMadeAs (upcasts_of V a t) (unsize_struct_of V a t) (upcasts-made t) (struct-made t)))
 
-  unsize-made : (b : Bool) → Every IsMadeAs (if b then unsure ∷ [] else unsize_known V a (self_of a))
-  unsize-made true = (inr (inl refl), tt)
-  unsize-made false = known-made (self_of a)
+  recorded-made : (r : Trees) (c : Candidate) → IsMadeAs c → IsMadeAs (recording r c)
+  recorded-made r c (k, inl x) = (k +++ r, inl (x.0, x.1, x.2, ap (recording r) x.3))
+  recorded-made r c (k, inr (inl e)) = (k +++ r, inr (inl (ap (recording r) e)))
+  recorded-made r c (k, inr (inr x)) = (k +++ r, inr (inr (x.0, x.1, ap (recording r) x.2)))
+
+  unsize-made : (b : Bool) → Every IsMadeAs (if b then unsure ∷ [] else unsize_recording V a)
+  unsize-made true = ((none, inr (inl refl)), tt)
+  unsize-made false = every-recorded (unsizing_outlives a.reference.args) IsMadeAs (recorded-made (unsizing_outlives a.reference.args)) (unsize_known V a (self_of a)) (known-made (self_of a))
 
   built-in-made : Every IsMadeAs (built_in V a)
   built-in-made =
@@ -127,7 +139,7 @@ module _ (V : World) (a : Asked) where
   impls-made (i ∷ is) f = by ((i.header.trait == a.reference.trait) && is_relevant_to (self_of a) i.header.args) (impls-made is (λ j k. f j (there j i is k)))
     where
       by : (b : Bool) → Every IsMadeAs (by_impls V a is) → Every IsMadeAs (if b then by_the_impl V a i ∷ by_impls V a is else by_impls V a is)
-      by true e = (inr (inr (i, f i (here i is), refl)), e)
+      by true e = ((none, inr (inr (i, f i (here i is), refl))), e)
       by false e = e
 
   bounds-made : (source : ℕ → CandidateSource) (n : ℕ) (rs : List Reference) → Every IsMadeAs (bounds_from V a source n rs)

@@ -267,6 +267,7 @@ module _ (V : World) (declared : is_declared_view V ≡ true) (a : Asked) (over 
     bounds = bound-terms;
     impls = λ i j. all-terms a.reference.args (put_in (moved (length a.kinds)) i.header.args) args_made (made-behind (length a.kinds) i.header.args (header-declared i j));
     unsures = tt;
+    records = λ r c h. h;
   }
 
   pub all-are-terms : Every AreTermsOf (all_candidates V a)

@@ -22,7 +22,7 @@ use Rattle.evaluation.specs.FrameTables.{Equation}
 use Rattle.assembly_laws.specs.Declared.{are_terms, is_lifetime_parameter}
 use Rattle.assembly_laws.specs.Lifetimes.{are_given, gives_lifetimes, goal_gives_lifetimes}
 use Rattle.assembly_laws.specs.Asking.{Asked, clauses, self_of, next_of, begins_unknown}
-use Rattle.assembly_laws.specs.Candidates.{Candidate, by_clauses, by_the_impl, by_impls, as_written, misc, if_so, unsure, is_relevant_to, all_equal, behind, by_sized, by_copy, by_auto, by_tuple, by_fn_ptr, by_call, by_unsize, unsize_known, unsize_array_of, upcasts_of, unsize_struct_of, unsize_by_struct, built_in, by_objects}
+use Rattle.assembly_laws.specs.Candidates.{Candidate, by_clauses, by_the_impl, by_impls, as_written, misc, if_so, unsure, is_relevant_to, all_equal, behind, by_sized, by_copy, by_auto, by_tuple, by_fn_ptr, by_call, by_unsize, unsize_known, unsizing_outlives, unsize_recording, unsize_array_of, upcasts_of, unsize_struct_of, unsize_by_struct, built_in, by_objects}
 use Rattle.assembly_laws.specs.Slots.{as_slots}
 use Rattle.assembly_laws.specs.Cover.{slots, Gives, all_candidates}
 use Rattle.assembly_laws.proofs.Reading.{true-false, begins, read_reference, read-each-asked, read-last-asked}
@@ -30,6 +30,7 @@ use Rattle.assembly_laws.proofs.Impls.{pairwise}
 use Rattle.assembly_laws.proofs.ErasedHeads.{erased-struct}
 use Rattle.assembly_laws.proofs.PlainRules.{is_wild, tame}
 use Rattle.assembly_laws.proofs.ErasedReading.{moved-erased}
+use Rattle.assembly_laws.proofs.Recording.{some-recorded, some-unrecorded, gives-recorded, gives-unrecorded}
 use Rattle.assembly_laws.proofs.ErasedCandidates.{without_lifetimes, some-map, kinds-same, solved, written-same, clauses-same, call-same, array-same, to-dyn-same, upcasts-same, objects-same, by-same, struct-rows, struct-unsizes}
 
 where-so : (b x : Bool) → b ≡ true → (not b || x) ≡ true → x ≡ true
@@ -209,9 +210,12 @@ module _ (H : Reference → Type 0) (V : World) (cs : List CrateDecl) (a : Asked
       (by-same H V cs a v _ _ (written-same H V cs a v misc (unsize_to_dyn_rules U t) ∙ ap (as_written V a misc) (to-dyn-same H V cs a v t)))
       (some-map P (upcasts_of U a t) (unsize_struct_of U a t) (upcasts_of V a t) (unsize_struct_of V a t) (by-same H V cs a v _ _ (upcasts-same H V cs a v t)) (struct-so t h g))) p
 
-  unsize-so : (t : Trees) → gives_lifetimes V t ≡ true → gives_lifetimes V (next_of t) ≡ true → (b : Bool) → SomeOf P (if b then unsure ∷ [] else unsize_known U a t) → SomeOf P (if b then unsure ∷ [] else unsize_known V a t)
-  unsize-so t h g true p = p
-  unsize-so t h g false p = known-so t h g p
+  unsize-so : gives_lifetimes V (self_of a) ≡ true → gives_lifetimes V (next_of (self_of a)) ≡ true → (b : Bool) → SomeOf P (if b then unsure ∷ [] else unsize_recording U a) → SomeOf P (if b then unsure ∷ [] else unsize_recording V a)
+  unsize-so h g true p = p
+  unsize-so h g false p =
+      let r = unsizing_outlives a.reference.args in
+      some-recorded r P (gives-recorded r H a.kinds v) (unsize_known V a (self_of a))
+      (known-so (self_of a) h g (some-unrecorded r P (gives-unrecorded r H a.kinds v) (unsize_known U a (self_of a)) p))
 
   -- ---- impls
   impl-so : (i : ImplDecl) → P (by_the_impl U a (erased_impl i)) → P (by_the_impl V a i)
@@ -276,7 +280,7 @@ module _ (H : Reference → Type 0) (V : World) (cs : List CrateDecl) (a : Asked
         (under (a.reference.trait == fn_ptr_trait) _ _ (λ e. by-same H V cs a v _ _ (written-same H V cs a v misc (fn_ptr_rules (self_of a)))))
         (some-map P (by_call U a) (by_unsize U a) (by_call V a) (by_unsize V a)
         (under (is_fn_trait a.reference.trait) _ _ (λ e. by-same H V cs a v _ _ (call-same H V cs a v (self_of a))))
-        (under (a.reference.trait == unsize) _ _ (λ e. unsize-so (self_of a) self-given (next-given e) (begins_unknown a.kinds (next_of (self_of a)))))))))) p
+        (under (a.reference.trait == unsize) _ _ (λ e. unsize-so self-given (next-given e) (begins_unknown a.kinds (next_of (self_of a)))))))))) p
 
     pub candidates-so : SomeOf P (all_candidates U a) → SomeOf P (all_candidates V a)
     candidates-so p =

@@ -6,11 +6,12 @@ use Rattle.evaluation.specs.Lists.{Every}
 use Rattle.assembly_laws.specs.Meaning.{Meaning}
 use Rattle.assembly_laws.specs.Declared.{is_declared_view}
 use Rattle.assembly_laws.specs.Asking.{Asked, asked, self_of, next_of, begins_unknown}
-use Rattle.assembly_laws.specs.Candidates.{Candidate, built_in, by_sized, by_copy, by_auto, by_tuple, by_fn_ptr, by_call, by_unsize, by_impls, by_objects, unsure, misc, if_so, as_written, unsize_array_of, upcasts_of, unsize_struct_of, unsize_known}
+use Rattle.assembly_laws.specs.Candidates.{Candidate, built_in, by_sized, by_copy, by_auto, by_tuple, by_fn_ptr, by_call, by_unsize, by_impls, by_objects, unsure, misc, if_so, as_written, unsize_array_of, upcasts_of, unsize_struct_of, unsize_known, unsizing_outlives, unsize_recording}
 use Rattle.assembly_laws.specs.Lawful.{IsSoundFor}
 use Rattle.assembly_laws.proofs.Premises.{other_candidates, premised_candidates, SoundAndNarrowIsLawful}
 use Rattle.assembly_laws.proofs.CandidateKinds.{every-append, every-split}
 use Rattle.assembly_laws.proofs.LawfulCandidates.{each-lawful}
+use Rattle.assembly_laws.proofs.Recording.{every-recorded}
 use Rattle.assembly_laws.proofs.SoundRows.{sized-sound, copy-sound, auto-sound, tuple-sound, fn-ptr-sound}
 use Rattle.assembly_laws.proofs.SoundCalls.{call-sound}
 use Rattle.assembly_laws.proofs.SoundUnsizing.{unsizing-is-sound}
@@ -31,12 +32,13 @@ module _ (m : Meaning) (declared : is_declared_view m.view ≡ true) (f : Canoni
   abbrev structs : List Candidate
   structs = unsize_struct_of m.view a (self_of a)
 
-  unsize-sound : (b c : Bool) → Every Sound (if_so b (to_dyn ++ upcasts)) → Every Sound (if_so b (arrays ++ structs)) → Every Sound (if_so b (if c then unsure ∷ [] else unsize_known m.view a (self_of a)))
+  unsize-sound : (b c : Bool) → Every Sound (if_so b (to_dyn ++ upcasts)) → Every Sound (if_so b (arrays ++ structs)) → Every Sound (if_so b (if c then unsure ∷ [] else unsize_recording m.view a))
   unsize-sound true true e g = (λ y. absurd (cc), tt)
   unsize-sound true false e g =
       let d = every-split Sound to_dyn upcasts e in
       let h = every-split Sound arrays structs g in
-      every-append Sound arrays (to_dyn ++ (upcasts ++ structs)) h.0 (every-append Sound to_dyn (upcasts ++ structs) d.0 (every-append Sound upcasts structs d.1 h.1))
+      every-recorded (unsizing_outlives a.reference.args) Sound (λ c s. s) (unsize_known m.view a (self_of a))
+      (every-append Sound arrays (to_dyn ++ (upcasts ++ structs)) h.0 (every-append Sound to_dyn (upcasts ++ structs) d.0 (every-append Sound upcasts structs d.1 h.1)))
   unsize-sound false c e g = tt
 
   all-sound : Every Sound (premised_candidates m a) → Every Sound (other_candidates m a)

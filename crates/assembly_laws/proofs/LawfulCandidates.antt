@@ -1,5 +1,5 @@
 -- The candidates of a goal are lawful, where they are sound and narrow.
-use Rattle.std.proofs.Common.{◌≡◌, ℕ, ◌≤◌, ◌==◌, max, Bool, true, false, not, ◌&&◌, ◌||◌, if◌then◌else◌, List, [], ◌∷◌, ◌++◌, map, length, ◌⊎◌, inl, inr, refl, sym, ap, subst, arith, Option, Some, None}
+use Rattle.std.proofs.Common.{◌≡◌, ℕ, ◌≤◌, ◌==◌, max, Bool, true, false, not, ◌&&◌, ◌||◌, if◌then◌else◌, List, [], ◌∷◌, map, length, ◌⊎◌, inl, inr, refl, sym, ap, subst, arith, Option, Some, None}
 use Rattle.std.specs.List.{list_all}
 use Rattle.model.specs.Label.{of_trait, predicate}
 use Rattle.model.specs.Trees.{Trees, none, tree, some_node}
@@ -109,9 +109,9 @@ module _ (applicable : AnswerTrees → Bool) (same : AnswerTrees → AnswerTrees
   steps-of rs = subst (λ k. Every (λ (n : Nested). n.coinductive ≡ k) (map (premise a (is_coinductive V a.reference.trait)) rs)) coinductive-is (premises-step a (is_coinductive V a.reference.trait) rs)
 
   steps : (c : Candidate) → IsMadeAs V a c → Steps c
-  steps c (inl x) = subst Steps (sym x.3) (λ y. steps-of x.2)
-  steps c (inr (inl e)) = subst Steps (sym e) (λ y. tt)
-  steps c (inr (inr x)) = subst Steps (sym x.2) (λ y. steps-of (map (behind (length a.kinds)) x.0.clauses))
+  steps c (r, inl x) = subst Steps (sym x.3) (λ y. steps-of x.2)
+  steps c (r, inr (inl e)) = subst Steps (sym e) (λ y. tt)
+  steps c (r, inr (inr x)) = subst Steps (sym x.2) (λ y. steps-of (map (behind (length a.kinds)) x.0.clauses))
 
   impl-determines : (i : ImplDecl) → In i V.impls → Determines (by_the_impl V a i)
   impl-determines i j s r l k p q e = each i.clauses (λ c u. u)
@@ -126,9 +126,9 @@ module _ (applicable : AnswerTrees → Bool) (same : AnswerTrees → AnswerTrees
 
   -- whatever its certainty
   pub determines : (c : Candidate) → IsMadeAs V a c → Determines c
-  determines c (inl x) = subst Determines (sym x.3) (λ s r l k p q e. facts-same a.kinds s r l k e (by_rule V a x.0 x.1 x.2).nested)
-  determines c (inr (inl e)) = subst Determines (sym e) (λ s r l k p q g. tt)
-  determines c (inr (inr x)) = subst Determines (sym x.2) (impl-determines x.0 x.1)
+  determines c (k, inl x) = subst Determines (sym x.3) (λ s r l k p q e. facts-same a.kinds s r l k e (by_rule V a x.0 x.1 x.2).nested)
+  determines c (k, inr (inl e)) = subst Determines (sym e) (λ s r l k p q g. tt)
+  determines c (k, inr (inr x)) = subst Determines (sym x.2) (impl-determines x.0 x.1)
 
   -- ---- laws
   lawful : (c : Candidate) → IsMadeAs V a c → IsSoundFor m f a c → IsNarrow h.widest c → IsLawful frame_tables h c

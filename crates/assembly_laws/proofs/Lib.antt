@@ -20,6 +20,7 @@ pub mod Filled
 pub mod ImplSlots
 pub mod Given
 pub mod Considering
+pub mod Recording
 pub mod Rowwise
 pub mod Worlds
 pub mod EquationTerms

@@ -18,10 +18,11 @@ use Rattle.assembly_laws.specs.Asking.{Asked, all_known, self_of, next_of, begin
 use Rattle.declarations.specs.Elaboration.{elaborate, supertraits}
 use Rattle.assembly_laws.specs.Meaning.{Meaning}
 use Rattle.assembly_laws.specs.Declared.{FieldsAreOne}
-use Rattle.assembly_laws.specs.Candidates.{Candidate, all_equal, by_rule, unsure, unknowable, by_the_impl, is_relevant_to, by_impls, as_written, misc, if_so, by_sized, by_copy, by_auto, by_tuple, by_fn_ptr, call_of, by_call, unsize_array_of, upcast_source, upcasts_from, upcasts_to, upcasts_of, unsize_by_struct, unsize_struct_of, unsize_known, by_unsize, built_in, bounds_from, object_source, written_source, objects_of, by_objects}
+use Rattle.assembly_laws.specs.Candidates.{Candidate, all_equal, by_rule, unsure, unknowable, by_the_impl, is_relevant_to, by_impls, as_written, misc, if_so, by_sized, by_copy, by_auto, by_tuple, by_fn_ptr, call_of, by_call, unsize_array_of, upcast_source, upcasts_from, upcasts_to, upcasts_of, unsize_by_struct, unsize_struct_of, unsize_known, unsizing_outlives, unsize_recording, by_unsize, built_in, bounds_from, object_source, written_source, objects_of, by_objects}
 use Rattle.assembly_laws.specs.Solver.{greatest, width_of, supers_of, declared_width, widest_of}
 use Rattle.assembly_laws.proofs.Premises.{IsNarrow, CandidatesAreNarrow}
 use Rattle.assembly_laws.proofs.Cover.{IsAsked, asked-by}
+use Rattle.assembly_laws.proofs.Recording.{every-recorded}
 use Rattle.assembly_laws.proofs.Rowwise.{both-lists}
 use Rattle.assembly_laws.proofs.CandidateWidths.{equal-within, premises-within}
 use Rattle.assembly_laws.proofs.CandidateBounds.{plain-within, plain-count}
@@ -125,12 +126,15 @@ module _ (V : World) (n : ℕ) (fields : (x : StructDecl) → In x V.structs →
   self_count : count (self_of a) ≤ n
   self_count = subst (λ z. z ≤ n) (sym (plain-count a.reference.args)) count_is
 
-  unsize-narrow : (b : Bool) → Every Narrow (if b then unsure ∷ [] else unsize_known V a (self_of a))
-  unsize-narrow true = ((tt, tt), tt)
-  unsize-narrow false =
+  known-narrow : Every Narrow (unsize_known V a (self_of a))
+  known-narrow =
       both-lists Narrow (unsize_array_of V a (self_of a)) _ (array-narrow (self_of a) self_within)
       (both-lists Narrow (as_written V a misc (unsize_to_dyn_rules V (self_of a))) _ (written-narrow misc (unsize_to_dyn_rules V (self_of a)) (to-dyn-short V n fields bounds (self_of a) self_within self_count))
       (both-lists Narrow (upcasts_of V a (self_of a)) (unsize_struct_of V a (self_of a)) (upcasts-narrow (self_of a) self_within self_count) (struct-narrow (self_of a) self_within self_count)))
+
+  unsize-narrow : (b : Bool) → Every Narrow (if b then unsure ∷ [] else unsize_recording V a)
+  unsize-narrow true = ((tt, tt), tt)
+  unsize-narrow false = every-recorded (unsizing_outlives a.reference.args) Narrow (λ c h. h) (unsize_known V a (self_of a)) known-narrow
 
   built-in-narrow : Every Narrow (built_in V a)
   built-in-narrow =

@@ -64,6 +64,7 @@ none-own V a = all-so V a HasNone (λ es. Unit {0}) rows
       bounds = λ bounds others e. (every-unit _, every-unit _);
       impls = λ i j. params-no-places i.header.args zero i.params;
       unsures = refl;
+      records = λ r c h. h;
     }
 
 -- ---- the values as slots have them

@@ -13,15 +13,17 @@ use Rattle.evaluation.specs.Lists.{Every}
 use Rattle.evaluation.specs.FrameTables.{Equation}
 use Rattle.declarations.specs.Elaboration.{elaborate, supertraits}
 use Rattle.assembly_laws.specs.Asking.{Asked, clauses, self_of, next_of, begins_unknown}
-use Rattle.assembly_laws.specs.Candidates.{Candidate, all_equal, by_rule, unsure, clause_source, by_clauses, by_the_impl, is_relevant_to, by_impls, as_written, misc, if_so, by_sized, by_copy, by_auto, by_tuple, by_fn_ptr, call_of, by_call, unsize_array_of, upcast_source, upcasts_from, upcasts_to, upcasts_of, unsize_by_struct, unsize_struct_of, unsize_known, by_unsize, built_in, bounds_from, object_source, written_source, objects_of, by_objects}
+use Rattle.assembly_laws.specs.Candidates.{Candidate, all_equal, by_rule, unsure, clause_source, by_clauses, by_the_impl, is_relevant_to, by_impls, as_written, misc, if_so, by_sized, by_copy, by_auto, by_tuple, by_fn_ptr, call_of, by_call, unsize_array_of, upcast_source, upcasts_from, upcasts_to, upcasts_of, unsize_by_struct, unsize_struct_of, unsize_known, recording, unsizing_outlives, unsize_recording, by_unsize, built_in, bounds_from, object_source, written_source, objects_of, by_objects}
 use Rattle.assembly_laws.specs.Cover.{all_candidates}
+use Rattle.assembly_laws.proofs.Recording.{every-recorded}
 
 pub both-lists : {A : Type 0} (P : A → Type 0) (xs ys : List A) → Every P xs → Every P ys → Every P (xs ++ ys)
 both-lists P [] ys h g = g
 both-lists P (x ∷ xs) ys h g = (h.0, both-lists P xs ys h.1 g)
 
 module _ (V : World) (a : Asked) (P : Candidate → Type 0) (E : List Equation → Type 0) where
-  -- candidates of rules are so where their equations are; the equations of each row; impls; and what is not decided
+  -- candidates of rules are so where their equations are; the equations of each row; impls; what is not decided; and what is recorded does
+  -- not count
   pub record AreRows : Type 0 where
     pub rule : (source : CandidateSource) (es : List Equation) (ps : List Reference) → E es → P (by_rule V a source es ps)
     pub nothing : E []
@@ -37,6 +39,7 @@ module _ (V : World) (a : Asked) (P : Candidate → Type 0) (E : List Equation �
         × Every (λ (r : Reference). E (all_equal a.reference.args r.args)) (elaborate V (principal_with (tree dynamic bounds none) bounds))
     pub impls : (i : ImplDecl) → In i V.impls → P (by_the_impl V a i)
     pub unsures : P unsure
+    pub records : (r : Trees) (c : Candidate) → P c → P (recording r c)
 
   module _ (rows : AreRows) where
     so : (b : Bool) (xs : List Candidate) → Every P xs → Every P (if_so b xs)
@@ -101,12 +104,15 @@ module _ (V : World) (a : Asked) (P : Candidate → Type 0) (E : List Equation �
     struct-of-so (tree (adt s) b (tree l d o)) e = tt
     struct-of-so (tree l c o) e = tt
 
-    unsize-so : (b : Bool) → Every P (if b then unsure ∷ [] else unsize_known V a (self_of a))
-    unsize-so true = (rows.unsures, tt)
-    unsize-so false =
+    known-so : Every P (unsize_known V a (self_of a))
+    known-so =
         both-lists P (unsize_array_of V a (self_of a)) _ (array-so (self_of a) refl)
         (both-lists P (as_written V a misc (unsize_to_dyn_rules V (self_of a))) _ (written-so misc (unsize_to_dyn_rules V (self_of a)))
         (both-lists P (upcasts_of V a (self_of a)) (unsize_struct_of V a (self_of a)) (upcasts-of-so (self_of a) refl) (struct-of-so (self_of a) refl)))
+
+    unsize-so : (b : Bool) → Every P (if b then unsure ∷ [] else unsize_recording V a)
+    unsize-so true = (rows.unsures, tt)
+    unsize-so false = every-recorded (unsizing_outlives a.reference.args) P (rows.records (unsizing_outlives a.reference.args)) (unsize_known V a (self_of a)) known-so
 
     built-so : Every P (built_in V a)
     built-so =

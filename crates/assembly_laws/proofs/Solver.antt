@@ -24,7 +24,7 @@ use Rattle.assembly_laws.specs.Declared.{is_declared_view}
 use Rattle.assembly_laws.specs.Determined.{ImplsAreDetermined}
 use Rattle.assembly_laws.specs.Asking.{all_known, is_rigid, begins_with_type, with_plain_head, next_of, self_of, is_unknown_kind, begins_unknown}
 use Rattle.evaluation.specs.Variables.{is_variable_over}
-use Rattle.assembly_laws.specs.Candidates.{Candidate, by_unsize, call_of, unsize_array_of, upcasts_of, unsize_struct_of, unsize_known, as_written, misc, unsure, if_so, by_objects, objects_of}
+use Rattle.assembly_laws.specs.Candidates.{Candidate, by_unsize, call_of, unsize_array_of, upcasts_of, unsize_struct_of, unsize_known, recording, unsizing_outlives, unsize_recording, as_written, misc, unsure, if_so, by_objects, objects_of}
 use Rattle.assembly_laws.specs.Solver.{has_placeholder}
 use Rattle.assembly_laws.specs.Cover.{slots, Gives, goal_fact}
 use Rattle.assembly_laws.proofs.HavingViews.{ViewRulesAreCandidates, ThereAreCandidates}
@@ -32,6 +32,7 @@ use Rattle.assembly_laws.proofs.Reading.{read_reference, true-false}
 use Rattle.assembly_laws.proofs.Agreeing.{own-read}
 use Rattle.assembly_laws.proofs.Supers.{Proved, open-none}
 use Rattle.assembly_laws.proofs.Cover.{IsAsked, asked-by, known-kinds, solutions-are-candidates}
+use Rattle.assembly_laws.proofs.Recording.{some-recorded, gives-recorded}
 use Rattle.assembly_laws.proofs.ByView.{OtherRows, rigid-read, rigid-head, premises-proved, by-view, some-left, some-right, written, unsure-gives}
 use Rattle.assembly_laws.proofs.Rows.{read_rule}
 use Rattle.assembly_laws.proofs.Unsizing.{unsize-natural}
@@ -320,15 +321,17 @@ module _ (m : Meaning) (declared : is_declared_view m.view ≡ true) (determined
           first (inr k) = second (in-append x dyns (upcasts ++ structs) k)
 
       known-or-not : (x : Rule) → (a.reference.trait == unsize) ≡ true → (b : Bool) → begins_unknown a.kinds head.others ≡ b → In x (unsize_rules m.view (tree (erase_label head.label) (read head.children) (read head.others))) → Every (Proved H) x.premises
-          → SomeOf (Gives H a.kinds v) (if b then unsure ∷ [] else unsize_known m.view a plain)
+          → SomeOf (Gives H a.kinds v) (if b then unsure ∷ [] else map (recording (unsizing_outlives a.reference.args)) (unsize_known m.view a plain))
       known-or-not x q true e j y = inl (unsure-gives H m.view declared a v)
-      known-or-not x q false e j y = known-row x (target-of a.kinds head.others (target-begins q) over-others e no_place) j y
+      known-or-not x q false e j y =
+          let r = unsizing_outlives a.reference.args in
+          some-recorded r (Gives H a.kinds v) (gives-recorded r H a.kinds v) (unsize_known m.view a plain) (known-row x (target-of a.kinds head.others (target-begins q) over-others e no_place) j y)
 
       unsizes-at : (x : Rule) (b : Bool) → (a.reference.trait == unsize) ≡ b → In x (if b then unsize_rules m.view (read a.reference.args) else []) → Every (Proved H) x.premises → SomeOf (Gives H a.kinds v) (by_unsize m.view a)
       unsizes-at x false q j y = absurd (in-nothing x j)
       unsizes-at x true q j y =
-          subst (λ b. SomeOf (Gives H a.kinds v) (if_so b (if begins_unknown a.kinds (next_of (self_of a)) then unsure ∷ [] else unsize_known m.view a (self_of a)))) (sym q)
-          (subst (λ t. SomeOf (Gives H a.kinds v) (if begins_unknown a.kinds (next_of t) then unsure ∷ [] else unsize_known m.view a t)) (sym self-is)
+          subst (λ b. SomeOf (Gives H a.kinds v) (if_so b (if begins_unknown a.kinds (next_of (self_of a)) then unsure ∷ [] else unsize_recording m.view a))) (sym q)
+          (subst (λ t. SomeOf (Gives H a.kinds v) (if begins_unknown a.kinds (next_of t) then unsure ∷ [] else map (recording (unsizing_outlives a.reference.args)) (unsize_known m.view a t))) (sym self-is)
           (known-or-not x q (begins_unknown a.kinds head.others) refl (subst (λ t. In x (unsize_rules m.view t)) read-is j) y))
 
       goal-proved : Proved H (read_reference xs a.reference)

@@ -112,6 +112,7 @@ module _ (V : World) (a : Asked) (no_clauses : a.environment ≡ none) where
     bounds = λ bounds others e. (every-unit _, every-unit _);
     impls = λ i j. premises-bare (is_coinductive V a.reference.trait) (map (behind (length a.kinds)) i.clauses);
     unsures = tt;
+    records = λ r c h. h;
   }
 
   all-bare : Every AreBare (all_candidates V a)

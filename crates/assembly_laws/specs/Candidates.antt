@@ -1,9 +1,9 @@
 -- The candidates of a goal, as data: where-clauses, built-in rules, impls, object bounds, and what other crates may say.
 use Rattle.std.specs.Prelude.{ℕ, zero, suc, ◌+◌, Bool, true, false, ◌||◌, ◌&&◌, ◌==◌, not, if◌then◌else◌, List, [], ◌∷◌, ◌++◌, map, length, Option, Some, None, min}
 use Rattle.std.specs.List.{flat_map}
-use Rattle.model.specs.Label.{Label, Sort, of_type, of_const, char, tuple, dynamic, array, slice, adt, fn_ptr, param, canonical}
+use Rattle.model.specs.Label.{Label, Sort, of_type, of_const, char, tuple, dynamic, array, slice, adt, fn_ptr, param, canonical, predicate, region_outlives, type_outlives}
 use Rattle.model.specs.Label.{bool}
-use Rattle.model.specs.Trees.{Trees, none, tree, leaf, sort_of, some_node, is_sort}
+use Rattle.model.specs.Trees.{Trees, none, tree, leaf, ◌+++◌, nth, sort_of, some_node, is_sort}
 use Rattle.model.specs.Worlds.{World, Reference, StructDecl, ImplDecl, structs_named}
 use Rattle.model.specs.Rules.{Rule, same_head, sized, clone, copy, tuple_trait, fn_ptr_trait, is_fn_trait, unsize, is_auto, is_coinductive, sized_rules, copy_rules, auto_rules, tuple_rules, fn_ptr_rules, unsize_to_dyn_rules, but_last, last_asked, principal_with, autos_with, are_declared, are_dyn_compatible, upcasts_autos, some_unsizing, with_unsizing, last_unsizes}
 use Rattle.model.specs.Answers.{is_open}
@@ -65,6 +65,10 @@ by_rule V a source equations premises = record {
   nested = map (premise a (is_coinductive V a.reference.trait)) premises;
   certainty = Yes;
 }
+
+-- the candidate records these constraints on lifetimes besides; nothing judges them
+abbrev pub recording : Trees → Candidate → Candidate
+recording constraints c = record { source = c.source; kinds = c.kinds; equations = c.equations; regions = c.regions +++ constraints; nested = c.nested; certainty = c.certainty }
 
 -- nothing is known of the goal
 abbrev pub unsure : Candidate
@@ -209,9 +213,34 @@ unsize_struct_of V a args = []
 abbrev pub unsize_known : World → Asked → Trees → List Candidate
 unsize_known V a args = unsize_array_of V a args ++ (as_written V a misc (unsize_to_dyn_rules V args) ++ (upcasts_of V a args ++ unsize_struct_of V a args))
 
+-- the last of the trees
+abbrev pub last_of : Trees → Trees
+last_of none = none
+last_of (tree l c none) = tree l c none
+last_of (tree l c (tree m d o)) = last_of (tree m d o)
+
+-- the lifetime of a `dyn`, if the first type is one: it stands behind the bounds
+abbrev pub lifetime_of : Trees → Option Trees
+lifetime_of (tree dynamic b o) = Some (last_of b)
+lifetime_of t = None
+
+-- what unsizing T to a type with this lifetime of a `dyn`, if it is one, records: `'a: 'b` if T is a `dyn` too, and else `T: 'b`
+abbrev pub outlives : Trees → Option Trees → Option Trees → Trees
+outlives T a None = none
+outlives T (Some a) (Some b) = tree (predicate region_outlives) (a +++ b) none
+outlives T None (Some b) = tree (predicate type_outlives) (T +++ b) none
+
+-- of the self type and the target
+abbrev pub unsizing_outlives : Trees → Trees
+unsizing_outlives args = outlives (nth args 0) (lifetime_of args) (lifetime_of (next_of args))
+
+-- `dyn A + 'a: Unsize<dyn B + 'b>` records `'a: 'b`, and `T: Unsize<dyn B + 'b>` records `T: 'b`
+abbrev pub unsize_recording : World → Asked → List Candidate
+unsize_recording V a = map (recording (unsizing_outlives a.reference.args)) (unsize_known V a (self_of a))
+
 -- a target that is unknown leaves it open
 abbrev pub by_unsize : World → Asked → List Candidate
-by_unsize V a = if_so (a.reference.trait == unsize) (if begins_unknown a.kinds (next_of (self_of a)) then unsure ∷ [] else unsize_known V a (self_of a))
+by_unsize V a = if_so (a.reference.trait == unsize) (if begins_unknown a.kinds (next_of (self_of a)) then unsure ∷ [] else unsize_recording V a)
 
 abbrev pub built_in : World → Asked → List Candidate
 built_in V a = by_sized V a ++ (by_copy V a ++ (by_auto V a ++ (by_tuple V a ++ (by_fn_ptr V a ++ (by_call V a ++ by_unsize V a)))))

@@ -11,6 +11,7 @@ pub mod Later
 pub mod StructRows
 pub mod ToDyn
 pub mod UnsizeRows
+pub mod Lifetimes
 pub mod Objects
 pub mod RuleAfterRule
 pub mod Relevant

@@ -13,7 +13,7 @@ use Rattle.evaluation.specs.declared.candidate.CandidateSpec.{CandidateSpec}
 use Rattle.declarations.specs.Items.{Items}
 use Rattle.infer_table.specs.declared.canonical.CanonicalVarKind.{CanonicalVarKind}
 use Rattle.assembly_laws.specs.Asking.{Asked, self_of, next_of, with_plain_head, begins_unknown}
-use Rattle.assembly_laws.specs.Candidates.{Candidate, as_written, misc, if_so, unsure, unsize_array_of, upcasts_of, unsize_struct_of, unsize_known, by_unsize}
+use Rattle.assembly_laws.specs.Candidates.{Candidate, as_written, misc, if_so, unsure, unsize_array_of, upcasts_of, unsize_struct_of, unsize_known, unsize_recording, by_unsize}
 use Rattle.built_in_candidates.specs.Goals.{candidate_of}
 use Rattle.built_in_candidates.specs.Constituents.{StructIsApplied, candidates_of}
 use Rattle.built_in_candidates.specs.Objects.{bounds_of}
@@ -213,7 +213,7 @@ target-struct d (tree l c o) (tree m b p) h g t =
 module _ (V : World) (a : Asked) where
   pub of-other-trait : (a.reference.trait ≡ unsize → ⊥) → [] ≡ by_unsize V a
   of-other-trait n =
-      ap (λ b. if_so b (if begins_unknown a.kinds (next_of (self_of a)) then unsure ∷ [] else unsize_known V a (self_of a))) (sym (not-same (a.reference.trait == unsize) refl))
+      ap (λ b. if_so b (if begins_unknown a.kinds (next_of (self_of a)) then unsure ∷ [] else unsize_recording V a)) (sym (not-same (a.reference.trait == unsize) refl))
     where
       not-same : (b : Bool) → (a.reference.trait == unsize) ≡ b → b ≡ false
       not-same true e = absurd (n (same-number a.reference.trait unsize e))
@@ -224,10 +224,10 @@ module _ (V : World) (a : Asked) where
 
   pub of-unknown : a.reference.trait ≡ unsize → begins_unknown a.kinds (next_of (self_of a)) ≡ true → unsure ∷ [] ≡ by_unsize V a
   of-unknown e h =
-      ap (λ (b : Bool). if b then unsure ∷ [] else unsize_known V a (self_of a)) (sym h)
-      ∙ ap (λ b. if_so b (if begins_unknown a.kinds (next_of (self_of a)) then unsure ∷ [] else unsize_known V a (self_of a))) (sym (is-unsize e))
+      ap (λ (b : Bool). if b then unsure ∷ [] else unsize_recording V a) (sym h)
+      ∙ ap (λ b. if_so b (if begins_unknown a.kinds (next_of (self_of a)) then unsure ∷ [] else unsize_recording V a)) (sym (is-unsize e))
 
-  pub of-known : a.reference.trait ≡ unsize → begins_unknown a.kinds (next_of (self_of a)) ≡ false → unsize_known V a (self_of a) ≡ by_unsize V a
+  pub of-known : a.reference.trait ≡ unsize → begins_unknown a.kinds (next_of (self_of a)) ≡ false → unsize_recording V a ≡ by_unsize V a
   of-known e h =
-      ap (λ (b : Bool). if b then unsure ∷ [] else unsize_known V a (self_of a)) (sym h)
-      ∙ ap (λ b. if_so b (if begins_unknown a.kinds (next_of (self_of a)) then unsure ∷ [] else unsize_known V a (self_of a))) (sym (is-unsize e))
+      ap (λ (b : Bool). if b then unsure ∷ [] else unsize_recording V a) (sym h)
+      ∙ ap (λ b. if_so b (if begins_unknown a.kinds (next_of (self_of a)) then unsure ∷ [] else unsize_recording V a)) (sym (is-unsize e))

@@ -7,6 +7,7 @@ pub mod built_in_rules;
 pub mod calls;
 pub mod dyn_type;
 pub mod object;
+pub mod outlives;
 pub mod parts;
 pub mod relate;
 mod structural;

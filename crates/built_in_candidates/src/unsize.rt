@@ -22,6 +22,7 @@ ghost use Rattle.built_in_candidates.specs.Unsizing.{array_element_of, slice_ele
 
 use crate::calls::second_argument;
 use crate::dyn_type::dyn_bounds;
+use crate::outlives::recording_outlives;
 use crate::parts::{by_rule, unsure};
 use crate::unsize_struct::{UNSIZE, consider_builtin_struct_unsize_candidate};
 use crate::unsize_to_dyn::consider_builtin_unsize_to_dyn_candidate;
@@ -276,7 +277,8 @@ fn unsizing_target(cx: &Interner, goal: &CanonicalInput) -> Ty
 }
 
 /// The candidate by a built-in rule of `Unsize` at this place, if there is one: an array unsizes to a slice, a `dyn` to a `dyn`, any other
-/// type to a `dyn`, and a struct to itself. Of a target that is unknown nothing is known (`consider_builtin_unsize_candidates`).
+/// type to a `dyn`, and a struct to itself. To a `dyn B + 'b` it records `'a: 'b` of `dyn A + 'a` and `T: 'b` of any other type T. Of a target
+/// that is unknown nothing is known (`consider_builtin_unsize_candidates`).
 pub fn consider_builtin_unsize_candidate(
     alloc: Global,
     cx: &mut Interner,
@@ -305,5 +307,6 @@ pub fn consider_builtin_unsize_candidate(
     if is_unknown(cx, &goal.variables, target) {
         return Ok(at_place(Some(unsure(alloc)), place));
     }
-    unsize_to(alloc, cx, declarations, goal, self_ty, target, place)
+    let candidate = unsize_to(alloc, cx, declarations, goal, self_ty, target, place)?;
+    recording_outlives(cx, self_ty, target, candidate)
 }

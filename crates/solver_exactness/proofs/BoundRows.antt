@@ -18,15 +18,17 @@ use Rattle.evaluation.specs.Lists.{Every}
 use Rattle.evaluation.specs.Instances.{read_with}
 use Rattle.evaluation.specs.Content.{Values, Fact, given}
 use Rattle.evaluation.specs.FrameTables.{is_open_label}
+use Rattle.evaluation.specs.TableOperations.{begin}
+use Rattle.evaluation.specs.Tables.{frame_tables}
 use Rattle.evaluation.specs.Variables.{is_variable_over}
-use Rattle.solver_exactness.specs.Closed.{no_more, applied}
+use Rattle.solver_exactness.specs.Closed.{AreWays, no_more, refused, applied}
 use Rattle.solver_exactness.specs.ClosedTables.{AreClosed, ArePlaces}
 use Rattle.solver_exactness.specs.Ways.{IsSelection}
 use Rattle.assembly_laws.specs.Facts.{is_plain, is_unerased, beside, reference_in}
 use Rattle.assembly_laws.specs.Meaning.{Meaning}
 use Rattle.assembly_laws.specs.DeclaredWell.{IsDeclaredWell, are_distinct}
 use Rattle.assembly_laws.specs.Asking.{Asked, asked, is_rigid, self_of, with_plain_head}
-use Rattle.assembly_laws.specs.Candidates.{Candidate, by_rule, all_equal, misc, if_so, upcasts_from, upcasts_to, upcasts_of, bounds_from, object_source, written_source, objects_of}
+use Rattle.assembly_laws.specs.Candidates.{Candidate, recording, by_rule, all_equal, misc, if_so, upcasts_from, upcasts_to, upcasts_of, bounds_from, object_source, written_source, objects_of}
 use Rattle.assembly_laws.specs.Cover.{goal_fact, read_reference}
 use Rattle.declarations.specs.Elaboration.{elaborate, supertraits}
 use Rattle.assembly_laws.proofs.BoundTerms.{bounds-are-left}
@@ -87,6 +89,17 @@ module _ (m : Meaning) (well : IsDeclaredWell m.view) (f : CanonicalForm) (a : A
             (subst (IsSelection (facts_beside g x.found ++ facts_beside g y.found)) (sym (facts-append g (premises_of us) (premises_of ts)))
             (joined (facts_beside g x.found) (facts_beside g y.found) (facts_beside g (premises_of us)) (facts_beside g (premises_of ts)) x.selects y.selects));
       })
+
+  -- what candidates record of lifetimes does not count
+  recorded-ways : (r : Trees) (cs : List Candidate) (found : List (List Fact)) → AreWays frame_tables (begin a.kinds) v cs found → AreWays frame_tables (begin a.kinds) v (map (recording r) cs) found
+  recorded-ways r [] [] no_more = no_more
+  recorded-ways r [] (premises ∷ ways) u = elim u [ ]
+  recorded-ways r (c ∷ cs) ways (refused h u) = refused h (recorded-ways r cs ways u)
+  recorded-ways r (c ∷ cs) (premises ∷ ways) (applied h u) =
+      applied (record { assignment = h.assignment; allowed = h.allowed; own = h.own; meets = h.meets; needs = h.needs }) (recorded-ways r cs ways u)
+
+  pub recorded-selected : (r : Trees) (cs : List Candidate) (ways : List (List Reference)) → Selected cs ways → Selected (map (recording r) cs) ways
+  recorded-selected r cs ways x = record { found = x.found; are = recorded-ways r cs (facts_beside g x.found) x.are; selects = x.selects }
 
   -- ---- upcasts
   abbrev found_to : List Reference → List Reference → List (List Reference)

@@ -60,6 +60,7 @@ module _ (V : World) (a : Asked) where
     bounds = λ bounds others e. (each-of (λ r. tt) _, each-of (λ r. tt) _);
     impls = λ i j. premises (is_coinductive V a.reference.trait) (map (behind (length a.kinds)) i.clauses);
     unsures = tt;
+    records = λ r c h. h;
   }
 
   all-premises : Every ArePremises (all_candidates V a)

@@ -22,7 +22,7 @@ use Rattle.assembly_laws.specs.Meaning.{Meaning}
 use Rattle.assembly_laws.specs.Knowing.{is_knowable}
 use Rattle.assembly_laws.specs.DeclaredWell.{IsDeclaredWell}
 use Rattle.assembly_laws.specs.Asking.{Asked, asked, all_known, clauses, self_of, next_of, begins_unknown}
-use Rattle.assembly_laws.specs.Candidates.{Candidate, unsure, unknowable, by_clauses, is_relevant_to, by_impls, as_written, misc, if_so, by_sized, by_copy, by_auto, by_tuple, by_fn_ptr, call_of, by_call, unsize_array_of, upcasts_from, upcasts_to, upcasts_of, unsize_by_struct, unsize_struct_of, unsize_known, by_unsize, built_in, bounds_from, object_source, written_source, objects_of, by_objects, upcast_source, all_equal, by_rule}
+use Rattle.assembly_laws.specs.Candidates.{Candidate, unsure, unknowable, by_clauses, is_relevant_to, by_impls, as_written, misc, if_so, by_sized, by_copy, by_auto, by_tuple, by_fn_ptr, call_of, by_call, unsize_array_of, upcasts_from, upcasts_to, upcasts_of, unsize_by_struct, unsize_struct_of, unsize_known, unsizing_outlives, unsize_recording, by_unsize, built_in, bounds_from, object_source, written_source, objects_of, by_objects, upcast_source, all_equal, by_rule}
 use Rattle.assembly_laws.specs.Cover.{all_candidates}
 use Rattle.assembly_laws.specs.Solver.{most_candidates}
 use Rattle.assembly_laws.proofs.CandidateKinds.{all-made}
@@ -30,6 +30,7 @@ use Rattle.assembly_laws.proofs.CandidateBounds.{candidates-are-few}
 use Rattle.assembly_laws.proofs.Cover.{asked-by, known-kinds}
 use Rattle.assembly_laws.proofs.Determined.{facts-same}
 use Rattle.assembly_laws.proofs.LawfulCandidates.{determines}
+use Rattle.assembly_laws.proofs.Recording.{every-recorded}
 use Rattle.assembly_laws.proofs.Rowwise.{both-lists}
 use Rattle.declarations.specs.Elaboration.{elaborate, supertraits}
 use Rattle.solver_exactness.specs.SolverPlans.{specs_in_coherence, specs_outside}
@@ -156,13 +157,16 @@ module _ (V : World) (a : Asked) where
   struct-of-sure (tree (adt s) b (tree l d o)) = tt
   struct-of-sure (tree l c o) = tt
 
-  -- where the target is known
-  unsize-sure : (b : Bool) → b ≡ false → Every Sure (if b then unsure ∷ [] else unsize_known V a (self_of a))
-  unsize-sure true e = absurd (cc)
-  unsize-sure false e =
+  known-sure : Every Sure (unsize_known V a (self_of a))
+  known-sure =
       both-lists Sure (unsize_array_of V a (self_of a)) _ (array-sure (self_of a))
       (both-lists Sure (as_written V a misc (unsize_to_dyn_rules V (self_of a))) _ (written-sure misc (unsize_to_dyn_rules V (self_of a)))
       (both-lists Sure (upcasts_of V a (self_of a)) (unsize_struct_of V a (self_of a)) (upcasts-of-sure (self_of a)) (struct-of-sure (self_of a))))
+
+  -- where the target is known
+  unsize-sure : (b : Bool) → b ≡ false → Every Sure (if b then unsure ∷ [] else unsize_recording V a)
+  unsize-sure true e = absurd (cc)
+  unsize-sure false e = every-recorded (unsizing_outlives a.reference.args) Sure (λ c h. h) (unsize_known V a (self_of a)) known-sure
 
   built-sure : begins_unknown a.kinds (next_of (self_of a)) ≡ false → Every Sure (built_in V a)
   built-sure e =

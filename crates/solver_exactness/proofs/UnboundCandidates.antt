@@ -23,11 +23,12 @@ use Rattle.declarations.specs.Elaboration.{elaborate, supertraits}
 use Rattle.assembly_laws.specs.Declared.{is_declared, are_terms, are_references}
 use Rattle.assembly_laws.specs.DeclaredWell.{IsDeclaredWell}
 use Rattle.assembly_laws.specs.Asking.{Asked, clauses, self_of, next_of, begins_unknown, with_plain_head}
-use Rattle.assembly_laws.specs.Candidates.{Candidate, premise, first_value, all_equal, clause_source, by_rule, moved, behind, by_the_impl, unsure, unknowable, by_clauses, as_written, if_so, misc, by_sized, by_copy, by_auto, by_tuple, by_fn_ptr, call_of, by_call, unsize_array_of, upcast_source, upcasts_from, upcasts_to, upcasts_of, unsize_by_struct, unsize_struct_of, unsize_known, built_in, by_impls, is_relevant_to, bounds_from, object_source, written_source, objects_of}
+use Rattle.assembly_laws.specs.Candidates.{Candidate, premise, first_value, all_equal, clause_source, by_rule, moved, behind, by_the_impl, unsure, unknowable, by_clauses, as_written, if_so, misc, by_sized, by_copy, by_auto, by_tuple, by_fn_ptr, call_of, by_call, unsize_array_of, upcast_source, upcasts_from, upcasts_to, upcasts_of, unsize_by_struct, unsize_struct_of, unsize_known, unsizing_outlives, unsize_recording, built_in, by_impls, is_relevant_to, bounds_from, object_source, written_source, objects_of}
 use Rattle.assembly_laws.specs.Cover.{all_candidates}
 use Rattle.assembly_laws.proofs.Instances.{is_bound, Unbound}
 use Rattle.assembly_laws.proofs.CandidateKinds.{every-append}
 use Rattle.assembly_laws.proofs.PlainRules.{every-flat}
+use Rattle.assembly_laws.proofs.Recording.{every-recorded}
 use Rattle.assembly_laws.proofs.Rows.{fields-declared}
 use Rattle.assembly_laws.proofs.Stack.{supertraits-only}
 use Rattle.solver_exactness.proofs.UnboundTerms.{unbound-node, made-unbound, instance-unbound, IsUnboundEquation}
@@ -339,9 +340,9 @@ module _ (V : World) (well : IsDeclaredWell V) where
         (every-append IsFine (as_written V a misc (unsize_to_dyn_rules V t)) (upcasts_of V a t ++ unsize_struct_of V a t) (written-fine misc (unsize_to_dyn_rules V t) (to-dyn-shut t h))
         (every-append IsFine (upcasts_of V a t) (unsize_struct_of V a t) (upcasts-fine t) (struct-fine t h)))
 
-    unsize-fine : (b : Bool) → Every IsFine (if b then unsure ∷ [] else unsize_known V a (self_of a))
+    unsize-fine : (b : Bool) → Every IsFine (if b then unsure ∷ [] else unsize_recording V a)
     unsize-fine true = ((tt, inl refl), tt)
-    unsize-fine false = known-fine (self_of a) self-shut
+    unsize-fine false = every-recorded (unsizing_outlives a.reference.args) IsFine (λ c h. h) (unsize_known V a (self_of a)) (known-fine (self_of a) self-shut)
 
     built-in-fine : Every IsFine (built_in V a)
     built-in-fine =

@@ -1,16 +1,19 @@
-use Rattle.std.proofs.Common.{[], ◌∷◌, ap, sym, ◌∙◌, subst}
+use Rattle.std.proofs.Common.{[], ◌∷◌, ap, sym, ◌∙◌, subst, option_map, Err}
 use Rattle.std.specs.Prelude.{◌==◌}
 use Rattle.std.specs.List.{slice_get}
 use Rattle.model.specs.Rules.{is_coinductive, unsize}
 use Rattle.type_terms.specs.Terms.{types, trees_at}
-use Rattle.term_folds.specs.Kept.{trees-is}
+use Rattle.term_folds.specs.Kept.{trees-is, trees-later}
 use Rattle.term_folds.specs.Signatures.{StartsWithType}
 use Rattle.declarations.specs.Items.{written}
-use Rattle.assembly_laws.specs.Asking.{begins_unknown}
+use Rattle.assembly_laws.specs.Asking.{begins_unknown, self_of}
+use Rattle.assembly_laws.specs.Candidates.{recording, lifetime_of, outlives, unsizing_outlives, unsize_known}
 use Rattle.evaluation.proofs.Handed.{if-ok}
 use Rattle.infer_table.proofs.BindFacts.{type-is}
-use Rattle.built_in_candidates.specs.Goals.{asked_of}
+use Rattle.infer_table.proofs.FullFacts.{handed-on}
+use Rattle.built_in_candidates.specs.Goals.{asked_of, candidate_of}
 use Rattle.built_in_candidates.proofs.Heads.{applied-first}
+use Rattle.built_in_candidates.proofs.Lifetimes.{goal-outlives, recorded-at}
 use Rattle.built_in_candidates.proofs.Objects.{object-first}
 use Rattle.built_in_candidates.proofs.UnsizeRows.{known-goal, target-unknown, target-applied, next-plain, of-other-trait, of-unknown, of-known}
 use Rattle.built_in_candidates.proofs.unsize.consider_builtin_unsize_candidate.Goals as goal
@@ -78,9 +81,23 @@ returns-clause-is c =
     let one = type-is es c.lawful.ensures c.unsizing_target-target.result.0 c.unsizing_target-target.ensures.held in
     let starts = c.requires.considered.first in
     let known = sym (target-unknown a.kinds T X starts one c.unsizing_target-target.ensures.is) ∙ ap (λ ks. begins_unknown ks X) (sym c.deref.ensures.value) ∙ sym c.is_unknown.ensures ∙ c.if-is_unknown.false in
-    if-ok _ _ c.unsize_to.result
-    (λ o is. is ∙ ap (λ l. slice_get l c.args.place) (known-goal V a T S X starts first one c.unsizing_target-target.ensures.is ∙ of-known V a c.if-def_id-ne-UNSIZE.false known))
-    c.unsize_to.ensures.is
+    let new = c.unsize_to.new.cx.entries in
+    let kept = c.unsize_to.ensures.keeps in
+    let t = a.reference.trait in
+    let same-self = trees-later es new kept types c.self_ty-self_ty.result.0 (_, c.self_ty-self_ty.ensures.is) in
+    let same-target = trees-later es new kept types c.unsizing_target-target.result.0 c.unsizing_target-target.ensures.held in
+    let says = ap (λ s. outlives s (lifetime_of s) (lifetime_of (trees_at new c.unsizing_target-target.result.0))) same-self ∙ ap (λ x. outlives S (lifetime_of S) (lifetime_of x)) same-target
+    ∙ goal-outlives T S X starts first one c.unsizing_target-target.ensures.is in
+    if-ok _ _ c.recording_outlives.result
+    (λ o is.
+    is V t ∙ ap (λ r. option_map (recording r) (option_map (candidate_of V t new) c.in_ok-candidate.candidate)) says
+    ∙ ap (option_map (recording (unsizing_outlives T)))
+    (c.in_ok-candidate.ensures.is ∙ ap (λ l. slice_get l c.args.place) (known-goal V a T S X starts first one c.unsizing_target-target.ensures.is))
+    ∙ recorded-at (unsizing_outlives T) (unsize_known V a (self_of a)) c.args.place ∙ ap (λ l. slice_get l c.args.place) (of-known V a c.if-def_id-ne-UNSIZE.false known))
+    c.recording_outlives.ensures.is
 
 pub returns-then-is_unknown-clause-held : goal.returns-then-is_unknown-clause-held
 returns-then-is_unknown-clause-held c = c.at_place.ensures.held c.args.cx.now.entries (c.unsure.ensures.held c.args.cx.now.entries)
+
+pub returns-in_err-candidate-clause-full : goal.returns-in_err-candidate-clause-full
+returns-in_err-candidate-clause-full c = λ q. handed-on c.from_residual.result c.from_residual.ensures.1 (λ p. c.in_err-candidate.ensures.full (ap Err p)) q
