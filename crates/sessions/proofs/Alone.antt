@@ -1,12 +1,11 @@
 -- References asked over a table without values.
-use Rattle.std.proofs.Common.{◌≡◌, ℕ, zero, suc, ◌+◌, ◌≤◌, ◌<◌, arith, List, [], ◌∷◌, length, drop, get_or, Result, Ok, Err, refl, sym, ap, ◌∙◌, subst}
+use Rattle.std.proofs.Common.{◌≡◌, ℕ, ◌≤◌, arith, List, [], map, Result, Ok, Err, sym, ap, ◌∙◌, subst}
 use Rattle.std.specs.Prelude.{OnOk}
 use Rattle.model.specs.Label.{of_type, of_const, of_trait, predicate}
 use Rattle.model.specs.Trees.{Trees, none, tree}
 use Rattle.model.specs.Worlds.{Reference}
 use Rattle.type_terms.specs.Terms.{Entry, Keeps, Lawful, Has, args_lists, trees_at}
-use Rattle.type_terms.specs.declared.kinds.GenericArgKind.{GenericArgKind}
-use Rattle.type_terms.specs.declared.kinds.GenericArgKind.TheVariants.{Ty, Const, Lifetime}
+use Rattle.term_folds.specs.Arguments.{arg_sort}
 use Rattle.term_folds.specs.Kept.{has-later, trees-later}
 use Rattle.term_folds.specs.declared.predicate.TraitRef.{TraitRef}
 use Rattle.declarations.specs.Items.{reference_in}
@@ -27,9 +26,10 @@ use Rattle.view_lowering.specs.Plain.{unbound_reference}
 use Rattle.view_lowering.specs.Questions.{IsLowered}
 use Rattle.view_lowering.specs.declared.question.LoweredQuestion.{LoweredQuestion}
 use Rattle.view_lowering.specs.QuestionVariables.{variable_kinds, number_of, HasVariablesAlone}
-use Rattle.sessions.specs.Asking.{HasNoProof, goal_alone, empty_table, with_unknowns}
+use Rattle.sessions.specs.Asking.{HasNoProof, goal_alone}
+use Rattle.sessions.specs.Tables.{table_of}
 use Rattle.sessions.proofs.Posed.{no-canonical, known}
-use Rattle.sessions.proofs.Counted.{Counted, counts-are}
+use Rattle.sessions.proofs.VariableKinds.{kinds-are}
 
 -- ---- the goal
 same-goal : (a b p r : Trees) → a ≡ b → p ≡ r → (let g : GoalTrees = record { environment = a; predicate = p } in g) ≡ record { environment = b; predicate = r }
@@ -57,19 +57,8 @@ module _ (es : List Entry) (t : Table) (goal : Goal) (g : GoalTrees) (no_values 
       }
 
 -- ---- the table
-pub values-kept : (t : Table) (us : List GenericArgKind) → (with_unknowns t us).values ≡ t.values
-values-kept t [] = refl
-values-kept t (Ty x ∷ us) = values-kept (record t { ty_vars = t.ty_vars + 1 }) us
-values-kept t (Const x ∷ us) = values-kept (record t { const_vars = t.const_vars + 1 }) us
-values-kept t (Lifetime x ∷ us) = values-kept t us
-
-pub first-added : (t : Table) (u : GenericArgKind) (us : List GenericArgKind) → with_unknowns t (u ∷ us) ≡ with_unknowns (with_unknowns t (u ∷ [])) us
-first-added t (Ty x) us = refl
-first-added t (Const x) us = refl
-first-added t (Lifetime x) us = refl
-
-enough : (n m k : ℕ) → n ≡ m → m ≡ 0 + k → k ≤ n
-enough n m k e f = omega (arith, e, f)
+enough : (n k : ℕ) → n ≡ k → k ≤ n
+enough n k e = omega (arith, e)
 
 -- ---- a question's reference, which speaks of its variables alone
 module _ (q : Question) (old new : List Entry) (law : Lawful old) (k : Keeps old new) (l : LoweredQuestion) (low : IsLowered old q l) where
@@ -83,14 +72,12 @@ module _ (q : Question) (old new : List Entry) (law : Lawful old) (k : Keeps old
     pub clean-there : HasNoCanonical (reference_in new l.asked).args
     clean-there = subst (λ (r : Reference). HasNoCanonical r.args) (sym reference-is) (no-canonical (variable_kinds q) (unbound_reference q.asked).args own)
 
-    pub known-there : (t : Table) → t ≡ with_unknowns empty_table l.unknowns.items → AreKnown (variables_of t) (reference_in new l.asked).args
+    pub known-there : (t : Table) → t ≡ table_of (map arg_sort l.unknowns.items) → AreKnown (variables_of t) (reference_in new l.asked).args
     known-there t made =
-        let c : Counted empty_table (with_unknowns empty_table l.unknowns.items) (variable_kinds q) = counts-are old law l.unknowns.items q.variables 0 0 empty_table low.unknowns_held low.unknowns in
+        let is : t ≡ table_of (variable_kinds q) = made ∙ ap table_of (kinds-are old law l.unknowns.items q.variables 0 0 low.unknowns_held low.unknowns) in
         subst (λ (r : Reference). AreKnown (variables_of t) r.args) (sym reference-is)
-        (known (variable_kinds q) (variables_of t)
-        (enough t.ty_vars (with_unknowns empty_table l.unknowns.items).ty_vars (number_of of_type (variable_kinds q)) (ap (λ (u : Table). u.ty_vars) made) c.types)
-        (enough t.const_vars (with_unknowns empty_table l.unknowns.items).const_vars (number_of of_const (variable_kinds q)) (ap (λ (u : Table). u.const_vars) made) c.consts)
-        (unbound_reference q.asked).args own)
+        (known (variable_kinds q) (variables_of t) (enough t.ty_vars (number_of of_type (variable_kinds q)) (ap (λ (u : Table). u.ty_vars) is))
+        (enough t.const_vars (number_of of_const (variable_kinds q)) (ap (λ (u : Table). u.const_vars) is)) (unbound_reference q.asked).args own)
 
     pub refused-there : (first second : TypingMode → CanonicalForm → Handled frame_tables) → second ≡ first → HasNoProof second (goal_alone (reference_in new l.asked)) → HasNoProof first (goal_alone (unbound_reference q.asked))
     refused-there first second e h = subst (λ z. HasNoProof z (goal_alone (unbound_reference q.asked))) e (subst (λ r. HasNoProof second (goal_alone r)) reference-is h)
@@ -107,16 +94,3 @@ on-map (Err e) P Q f p = tt
 -- what holds of things holds of their equals
 pub moved : {A B : Type 0} (P : A → B → Type 0) (a b : A) (x y : B) → a ≡ b → x ≡ y → P a x → P b y
 moved P a b x y e f h = subst (λ z. P z y) e (subst (P a) f h)
-
--- ---- lists
--- what is at a place, and what is behind it
-next-behind : {A : Type 0} (xs : List A) (i : ℕ) (x : A) → i < length xs → x ≡ get_or xs i x → drop i xs ≡ x ∷ drop (suc i) xs
-next-behind [] i x h e = absurd (omega (arith, h))
-next-behind (y ∷ xs) zero x h e = ap (λ z. z ∷ xs) (sym e)
-next-behind (y ∷ xs) (suc i) x h e = next-behind xs i x (omega (arith, h)) e
-
-one-up : (i : ℕ) → suc i ≡ i + 1
-one-up i = omega arith
-
-pub next-left : {A : Type 0} (xs : List A) (i : ℕ) (x : A) → i < length xs → x ≡ get_or xs i x → drop i xs ≡ x ∷ drop (i + 1) xs
-next-left xs i x h e = next-behind xs i x h e ∙ ap (λ n. x ∷ drop n xs) (one-up i)

@@ -20,7 +20,7 @@ use Rattle.assembly_laws.specs.Facts.{is_plain, clauses_of, reference_in}
 use Rattle.assembly_laws.specs.Meaning.{Meaning}
 use Rattle.assembly_laws.specs.DeclaredWell.{IsDeclaredWell}
 use Rattle.assembly_laws.specs.Asking.{Asked, asked, clauses, self_of, next_of, begins_unknown}
-use Rattle.assembly_laws.specs.Candidates.{Candidate, unsure, by_clauses, built_in, by_sized, by_copy, by_auto, by_tuple, by_fn_ptr, by_call, by_unsize, by_impls, by_objects, as_written, misc, if_so, unsize_known, unsize_array_of, upcasts_of, unsize_struct_of}
+use Rattle.assembly_laws.specs.Candidates.{Candidate, unsure, by_clauses, built_in, by_sized, by_copy, by_auto, by_tuple, by_fn_ptr, by_call, by_unsize, by_impls, by_objects, as_written, misc, if_so, unsize_known, unsizing_outlives, unsize_recording, unsize_array_of, upcasts_of, unsize_struct_of}
 use Rattle.assembly_laws.specs.Cover.{goal_fact}
 use Rattle.assembly_laws.specs.Solver.{solver_planned}
 use Rattle.solver_exactness.specs.Closed.{no_more, AreWays}
@@ -37,7 +37,7 @@ use Rattle.solver_exactness.specs.SolverPlans.{specs_outside}
 use Rattle.solver_exactness.specs.SolverWays.{facts_beside, premises_of}
 use Rattle.solver_exactness.specs.Ways.{IsSelection, IsDecided, IsRightFor}
 use Rattle.solver_exactness.proofs.Arranging.{rules-arranged, mixed-select, clauses-select}
-use Rattle.solver_exactness.proofs.BoundRows.{Selected, exactly, both-selected, upcasts-under, objects}
+use Rattle.solver_exactness.proofs.BoundRows.{Selected, exactly, both-selected, recorded-selected, upcasts-under, objects}
 use Rattle.solver_exactness.proofs.ClosedLaws.{closed_tables_are_lawful}
 use Rattle.solver_exactness.proofs.Clauses.{clauses-at}
 use Rattle.solver_exactness.proofs.EquatedRows.{equated-rows-at}
@@ -119,12 +119,13 @@ module _ (m : Meaning) (well : IsDeclaredWell m.view) (f : CanonicalForm) (a : A
       four : (b : Bool) → ChosenBy (if_so b (unsize_array_of V a (self_of a))) (if_of b (unsize_array_rules r.args))
           → ChosenBy (if_so b (as_written V a misc (unsize_to_dyn_rules V (self_of a)))) (if_of b (unsize_to_dyn_rules V r.args))
           → ChosenBy (if_so b (upcasts_of V a (self_of a))) (if_of b (unsize_upcast_rules V r.args)) → ChosenBy (if_so b (unsize_struct_of V a (self_of a))) (if_of b (unsize_struct_rules V r.args))
-          → (d : Bool) → d ≡ false → ChosenBy (if_so b (if d then unsure ∷ [] else unsize_known V a (self_of a))) (if_of b (unsize_rules V r.args))
+          → (d : Bool) → d ≡ false → ChosenBy (if_so b (if d then unsure ∷ [] else unsize_recording V a)) (if_of b (unsize_rules V r.args))
       four true x y z w d e =
-          known (unsize_known V a (self_of a)) (unsize_rules V r.args) d e
+          known (unsize_recording V a) (unsize_rules V r.args) d e
+          (recorded-selected m well f a is_asked closed v places plain (unsizing_outlives a.reference.args) (unsize_known V a (self_of a)) (premises_of (unsize_rules V r.args))
           (together (unsize_array_of V a (self_of a)) _ (unsize_array_rules r.args) _ x
           (together (as_written V a misc (unsize_to_dyn_rules V (self_of a))) _ (unsize_to_dyn_rules V r.args) _ y
-          (together (upcasts_of V a (self_of a)) (unsize_struct_of V a (self_of a)) (unsize_upcast_rules V r.args) (unsize_struct_rules V r.args) z w)))
+          (together (upcasts_of V a (self_of a)) (unsize_struct_of V a (self_of a)) (unsize_upcast_rules V r.args) (unsize_struct_rules V r.args) z w))))
       four false x y z w d e = just [] [] no_more
 
   abbrev s : List Rule

@@ -14,6 +14,8 @@ use Rattle.text_definitions.specs.Declarations.{Declarations, NamedImpl, world_o
 use Rattle.view_lowering.specs.Seen.{rules_seen_from}
 use Rattle.workspace.specs.Numbered.{IsNumbered}
 use Rattle.sessions.specs.Checking.{HaveOwnNumbers}
+use Rattle.sessions.specs.Numbers.{ImplsAreNumbered}
+use Rattle.sessions.proofs.SeenPlainly.{rules-are}
 
 -- an impl of the text, with its place
 record Written (d : Declarations) (x : ImplDecl) : Type 0 where
@@ -59,3 +61,8 @@ module _ (d : Declarations) (c : ℕ) (numbered : IsNumbered d) where
       (λ i h. names-below (erased_impl (impl_in es i.id i.def))
       (subst (λ (W : World). In (erased_impl (impl_in es i.id i.def)) W.impls) e
       (in-map erased_impl (map (λ (j : HeldImpl). impl_in es j.id j.def) decls.impls) (impl_in es i.id i.def) (in-map (λ (j : HeldImpl). impl_in es j.id j.def) decls.impls i h))))
+
+pub impls-numbered : ImplsAreNumbered
+impls-numbered d numbered c es decls seen =
+    let rules = rules-are es decls d c seen in
+    record { above = numbers-below d c numbered es decls rules; own = subst HaveOwnNumbers (sym rules) (own-numbers d c numbered) }

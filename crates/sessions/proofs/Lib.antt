@@ -32,7 +32,7 @@ mod LifetimesAlone
 pub mod ExactRefusals
 pub mod Given
 pub mod Posed
-pub mod Counted
+pub mod VariableKinds
 pub mod Refusals
 pub mod SelfTypes
 pub mod Alone
@@ -41,7 +41,6 @@ pub mod Readying
 mod PairTerms
 pub mod PairGoals
 pub mod OpenPairs
-mod Numbers
 pub mod Mentioned
 pub mod WrittenWell
 pub mod RefutedGoals
@@ -60,3 +59,9 @@ pub mod RightAnswers
 mod ProvedQuestions
 mod BareAnswers
 mod OtherAnswers
+mod ErasedHeads
+pub mod ImplGroups
+pub mod ByTrait
+pub mod ClosedPartners
+pub mod Partners
+pub mod Relevant

@@ -7,8 +7,6 @@ use Rattle.model.specs.Worlds.{World, Reference}
 use Rattle.type_terms.specs.Kinds.{ArgsHeld, arg_trees}
 use Rattle.type_terms.specs.Terms.{Entry, Keeps, Lawful, Has, args_lists}
 use Rattle.type_terms.specs.declared.kinds.GenericArgKind.{GenericArgKind}
-use Rattle.type_terms.specs.declared.kinds.GenericArgKind.TheVariants.{Ty, Const, Lifetime}
-use Rattle.term_folds.specs.Arguments.{arg_sort}
 use Rattle.term_folds.specs.Kept.{arg-trees-later}
 use Rattle.term_folds.specs.declared.predicate.TraitRef.{TraitRef}
 use Rattle.declarations.specs.Applied.{AllHeld, references_in}
@@ -22,8 +20,8 @@ use Rattle.candidate_assembly.specs.declared.solver.Solver.{Solver}
 use Rattle.candidate_assembly.specs.Fitting.{solving_of}
 use Rattle.candidate_assembly.specs.Ready.{IsReady}
 use Rattle.candidate_assembly.specs.Solving.{Solving, solver_for, coinductive_for}
-use Rattle.text_definitions.specs.Declarations.{Question, Variable}
-use Rattle.text_definitions.specs.Names.{own_from, own_unknowns}
+use Rattle.text_definitions.specs.Declarations.{Question}
+use Rattle.text_definitions.specs.Names.{own_unknowns}
 use Rattle.view_lowering.specs.Plain.{unbound_reference, unbound_references}
 use Rattle.view_lowering.specs.QuestionVariables.{variable_kinds}
 use Rattle.view_lowering.specs.Questions.{IsLowered}
@@ -33,7 +31,6 @@ use Rattle.sessions.specs.Proving.{IsAnswered, IsAnsweredBySolver, goal_asking}
 use Rattle.sessions.specs.Questions.{where_clauses, ReferencesAreGoals}
 use Rattle.sessions.specs.declared.answers.ProveAnswer.{ProveAnswer}
 use Rattle.sessions.proofs.Alone.{reference-is}
-use Rattle.sessions.proofs.Counted.{place, next_types, next_consts, not-type, not-const, not-region, own-next, first-same, rest-same, not-empty}
 
 -- what follows of each value follows where there is one
 pub over-ok : {A E : Type 0} {P Q : A → Type 0} (r : Result A E) → ((a : A) → P a → Q a) → IfOk r P → IfOk r Q
@@ -65,22 +62,6 @@ two e f = cc
 pub args-later : (old new : List Entry) → Keeps old new → (us : List GenericArgKind) → ArgsHeld old us → map (arg_trees new) us ≡ map (arg_trees old) us
 args-later old new k [] h = refl
 args-later old new k (u ∷ us) h = two (arg-trees-later old new k u h.0) (args-later old new k us h.1)
-
--- they have the kinds of the question's variables
-module _ (es : List Entry) (law : Lawful es) where
-  pub kinds-are : (us : List GenericArgKind) (vs : List Variable) (n m : ℕ) → ArgsHeld es us → map (arg_trees es) us ≡ own_from n m vs → map arg_sort us ≡ map (λ v. v.kind) vs
-  kinds-are [] [] n m h e = refl
-  kinds-are [] (v ∷ vs) n m h e = absurd (not-empty _ _ (e ∙ own-next n m v vs))
-  kinds-are (u ∷ us) [] n m h e = absurd (not-empty _ _ (sym e))
-  kinds-are (Ty x ∷ us) (v ∷ vs) n m h e =
-      let q = e ∙ own-next n m v vs in
-      two (sym (not-type es law x.0 h.0 v.kind (place v.kind n m) (first-same _ _ _ _ q))) (kinds-are us vs (next_types v.kind n) (next_consts v.kind m) h.1 (rest-same _ _ _ _ q))
-  kinds-are (Const x ∷ us) (v ∷ vs) n m h e =
-      let q = e ∙ own-next n m v vs in
-      two (sym (not-const es law x.0 h.0 v.kind (place v.kind n m) (first-same _ _ _ _ q))) (kinds-are us vs (next_types v.kind n) (next_consts v.kind m) h.1 (rest-same _ _ _ _ q))
-  kinds-are (Lifetime r ∷ us) (v ∷ vs) n m h e =
-      let q = e ∙ own-next n m v vs in
-      two (sym (not-region r v.kind (place v.kind n m) (first-same _ _ _ _ q))) (kinds-are us vs (next_types v.kind n) (next_consts v.kind m) h.1 (rest-same _ _ _ _ q))
 
 -- ---- the answer
 abbrev Answers : Solving → ℕ → List Sort → GoalTrees → List Trees → List Entry → ProveAnswer → Type 0

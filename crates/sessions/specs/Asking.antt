@@ -1,13 +1,10 @@
 -- Questions as they are asked in coherence: their references alone, with unknowns for their variables.
-use Rattle.std.specs.Prelude.{◌≡◌, ◌⊎◌, ◌+◌, ℕ, Bool, List, [], ◌∷◌, Option, Some, None}
+use Rattle.std.specs.Prelude.{◌≡◌, ◌⊎◌, ◌+◌, ℕ, Bool, List, [], Option, Some, None}
 use Rattle.model.specs.Label.{of_trait, predicate}
 use Rattle.model.specs.Trees.{none, tree}
 use Rattle.model.specs.Worlds.{Reference}
 use Rattle.type_terms.specs.Terms.{Entry}
-use Rattle.type_terms.specs.declared.kinds.GenericArgKind.{GenericArgKind}
-use Rattle.type_terms.specs.declared.kinds.GenericArgKind.TheVariants.{Ty, Const, Lifetime}
 use Rattle.infer_table.specs.Canonical.{GoalTrees, CanonicalForm, canonical_form}
-use Rattle.infer_table.specs.Content.{Table}
 use Rattle.infer_table.specs.Responses.{AnswerTrees}
 use Rattle.infer_table.specs.Solutions.{Assignment, IsSorted}
 use Rattle.infer_table.specs.Unification.{TableTrees}
@@ -52,15 +49,3 @@ module _ {World Handler : Type 0} (handled : World → TypingMode → CanonicalF
     pub answer : Option AnswerTrees
     pub found : IsFound (solver_meaning handled Rule coinductive is_ready meaning_of) w depth (asked_alone r) answer
     pub refused : left_by table (goal_alone r) answer ≡ None
-
--- ---- tables
--- A table without variables.
-abbrev pub empty_table : Table
-empty_table = record { ty_vars = 0; const_vars = 0; region_vars = 0; values = []; constraints = [] }
-
--- The table with a variable more for each of them.
-abbrev pub with_unknowns : Table → List GenericArgKind → Table
-with_unknowns t [] = t
-with_unknowns t (Ty x ∷ us) = with_unknowns (record t { ty_vars = t.ty_vars + 1 }) us
-with_unknowns t (Const x ∷ us) = with_unknowns (record t { const_vars = t.const_vars + 1 }) us
-with_unknowns t (Lifetime x ∷ us) = with_unknowns t us

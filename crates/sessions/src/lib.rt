@@ -13,6 +13,7 @@
 mod answers;
 mod applying;
 mod asked;
+mod by_trait;
 mod checked;
 mod decided_answers;
 mod impossible;

@@ -113,7 +113,7 @@ fn read_values_in<H: GoalHandler>(
 }
 
 /// A table for the unknowns of a question, over the interner of a context.
-fn question_table_in<H: GoalHandler>(
+pub(crate) fn question_table_in<H: GoalHandler>(
     cx: &mut SolverCx<H>,
     unknowns: &[GenericArgKind],
 ) -> Result<InferCtxt, Fault>

@@ -11,11 +11,12 @@ ghost use Rattle.text_definitions.specs.Declarations.{Question};
 ghost use Rattle.view_lowering.specs.Plain.{unbound_reference};
 ghost use Rattle.view_lowering.specs.Questions.{IsQuestion, IsLowered};
 ghost use Rattle.view_lowering.specs.QuestionVariables.{HasVariablesAlone};
-ghost use Rattle.sessions.specs.Asking.{HasNoProof, IsLeftOpen, IsRefusedAlone, empty_table, goal_alone};
+ghost use Rattle.sessions.specs.Asking.{HasNoProof, IsLeftOpen, IsRefusedAlone, goal_alone};
 ghost use Rattle.sessions.specs.Resting.{AreAtRest};
 
 use crate::answers::RefuteAnswer;
-use crate::asked::{add_unknowns_in, lower_in, rest_laws};
+use crate::asked::{lower_in, rest_laws};
+use crate::proving::question_table_in;
 use evaluation::TypingMode;
 use goal_frames::GoalHandler;
 use infer_table::goal::Goal;
@@ -70,11 +71,9 @@ fn refute_lowered<H: GoalHandler>(
     graph: &mut SearchGraph<SolverGraph<H>>,
     cache: &mut GlobalCache<SolverGraph<H>>,
     cx: &mut SolverCx<H>,
-    table: &mut InferCtxt,
     lowered: &LoweredQuestion,
 ) -> Result<RefuteAnswer, Fault>
     requires rest { AreAtRest H.handled H.Rule H.coinductive H.ready H.meaning graph.old.root_depth cx.old graph.old cache.old }
-    requires table { table.old ≡ empty_table }
     requires lowered { (q : Question) × IsLowered cx.old.interner.entries q lowered.now }
     ensures rest { AreAtRest H.handled H.Rule H.coinductive H.ready H.meaning graph.old.root_depth cx.new graph.new cache.new }
     ensures meaning { H.meaning cx.new.handler cx.new.interner.entries ≡ H.meaning cx.old.handler cx.old.interner.entries }
@@ -87,8 +86,8 @@ fn refute_lowered<H: GoalHandler>(
         → IsLeftOpen H.handled H.Rule H.coinductive H.ready H.meaning (H.meaning cx.old.handler cx.old.interner.entries) graph.old.root_depth (unbound_reference q.asked) }
 {
     rest_laws::<H>();
-    add_unknowns_in(cx, table, &lowered.unknowns)?;
-    ask_in_coherence(graph, cache, cx, table, lowered.asked)
+    let mut table = question_table_in(cx, &lowered.unknowns)?;
+    ask_in_coherence(graph, cache, cx, &mut table, lowered.asked)
 }
 
 /// Asks the question with a number in coherence: its reference, over a new table with its variables.
@@ -118,6 +117,5 @@ pub(crate) fn refute_question<H: GoalHandler>(
 {
     rest_laws::<H>();
     let lowered = lower_in(cx, workspace, number)?;
-    let mut table = InferCtxt::new(cx.alloc);
-    refute_lowered(graph, cache, cx, &mut table, &lowered)
+    refute_lowered(graph, cache, cx, &lowered)
 }

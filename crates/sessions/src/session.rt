@@ -1,10 +1,12 @@
 //! Sessions.
 
-ghost use Rattle.std.specs.Prelude.{◌≡◌, ◌<◌, ◌≤◌, ◌+◌, length, IfOk, IfSome, Ok};
+ghost use Rattle.std.specs.Prelude.{◌≡◌, ◌<◌, ◌≤◌, ◌+◌, ℕ, length, IfOk, IfSome, Ok};
 ghost use Rattle.type_terms.specs.declared.TheConstants.{MAX_INDEX};
 ghost use Rattle.orphan_check.specs.Held.{ErrorHeld};
+ghost use Rattle.overlap_check.specs.SessionLaws.{HeadlineHolds};
 ghost use Rattle.workspace.specs.Numbered.{IsNumbered};
 ghost use Rattle.text_definitions.specs.Declarations.{Question};
+ghost use Rattle.sessions.specs.ByTrait.{ListsSeen, HavePartnersSeen};
 ghost use Rattle.sessions.specs.Checking.{HasOrphan, HasJudged, HasPartner, HasOverlap};
 ghost use Rattle.sessions.specs.Given.{AnswerHeld, VerdictHeld, answer_in, refutation_of, verdict_in};
 ghost use Rattle.sessions.specs.Promises.{IsProved, IsRefutation, IsOpenQuestion, IsVerdictOf};
@@ -13,6 +15,7 @@ ghost use Rattle.sessions.specs.Subjects.{IsOfText, AsksProof, AsksRefutation, S
 use crate::answers::{ProveAnswer, RefuteAnswer, Verdict};
 use crate::applying::clauses_apply;
 use crate::asked::rest_laws;
+use crate::by_trait::ImplsByTrait;
 use crate::checked::{first_broken_header, overlap_at};
 use crate::decided_answers::other_answers_are_right;
 use crate::limits::Limits;
@@ -22,6 +25,7 @@ use crate::refuted::refute_question;
 use crate::view::lower_view;
 use candidate_assembly::solver::Solver;
 use orphan_check::errors::OrphanCheckErr;
+use overlap_check::accepted_sets_have_one_impl;
 use root_goals::{SolverCx, SolverGraph};
 use search_graph::{GlobalCache, SearchGraph};
 use std::alloc::Global;
@@ -108,12 +112,16 @@ impl<'w> Session<'w> {
     /// common instance and none of the where-clauses is impossible there. The fault is `Memory` where memory is refused, or `Full` where
     /// a table of the session is full.
     ///
+    /// In a set of linked crates that were all accepted, of one text or of several, no closed reference has proofs by two impls.
+    ///
     /// `coherent_trait` of `rustc_hir_analysis`, for all traits.
     pub fn check_crate(&mut self) -> Result<Verdict, Fault>
+        ensures one_impl { HeadlineHolds }
         ensures verdict { IfOk result (λ verdict. IsVerdictOf self.old.depth self.old.declarations self.old.of_crate (verdict_in self.new.terms verdict)) }
         ensures held { IfOk result (VerdictHeld self.new.terms) }
         ensures stays { StaysOn self.old self.new }
     {
+        accepted_sets_have_one_impl();
         let end = self.impl_end();
         if let Some((id, error)) = self.first_orphan(end)? {
             return Ok(Verdict::Orphan(id, error));
@@ -149,31 +157,66 @@ impl<'w> Session<'w> {
 
     /// The first pair that the crate brings together and that overlaps, by the numbers of its impls; these are below `end`.
     fn first_overlap(&mut self, end: u32) -> Result<Option<(ImplId, ImplId)>, Fault>
+        requires end { end ≡ length self.old.declarations.impls }
         requires in_range { end ≤ MAX_INDEX + 1 }
         requires numbered { IsNumbered self.old.declarations }
         ensures found { IfOk result (HasOverlap self.old end) }
         ensures stays { StaysOn self.old self.new }
     {
+        let impls = self.impls_by_trait(end)?;
         for index in 0..end {
             let later = ImplId { index };
-            if let Some(earlier) = self.first_partner(later, end)? {
+            if let Some(earlier) = self.first_partner(&impls, later)? {
                 return Ok(Some((later, earlier)));
             }
         }
         Ok(None)
     }
 
-    /// The first impl with which an impl of the crate overlaps, by number; numbers of impls are below `end`.
-    fn first_partner(&mut self, later: ImplId, end: u32) -> Result<Option<ImplId>, Fault>
+    /// The impls that the crate sees, by their traits and headers; their numbers are below `end`.
+    fn impls_by_trait(&self, end: u32) -> Result<ImplsByTrait, Fault>
+        requires end { end ≡ length self.now.declarations.impls }
         requires in_range { end ≤ MAX_INDEX + 1 }
+        requires numbered { IsNumbered self.now.declarations }
+        ensures { IfOk result (ListsSeen self.now) }
+    {
+        ImplsByTrait::of_declarations(
+            self.cx.alloc,
+            &self.cx.interner,
+            &self.cx.handler.declarations,
+            end,
+        )
+    }
+
+    /// The impls that the crate brings together with an impl of its own, and with which that may have a common instance, by rising number;
+    /// none for an impl of another crate.
+    fn partners_of(&self, impls: &ImplsByTrait, later: ImplId) -> Result<Vec<ImplId>, Fault>
+        requires { ListsSeen self.now impls.now }
+        ensures { IfOk result (λ ids. HavePartnersSeen self.now later.index ids.items) }
+    {
+        impls.partners_of(
+            self.cx.alloc,
+            &self.cx.interner,
+            &self.cx.handler.declarations,
+            later,
+        )
+    }
+
+    /// The first impl with which an impl of the crate overlaps, by number.
+    fn first_partner(
+        &mut self,
+        impls: &ImplsByTrait,
+        later: ImplId,
+    ) -> Result<Option<ImplId>, Fault>
+        requires listed { ListsSeen self.old impls.now }
         requires numbered { IsNumbered self.old.declarations }
-        ensures found { IfOk result (HasPartner self.old end later.index) }
+        ensures found { (end : ℕ) → IfOk result (HasPartner self.old end later.index) }
         ensures stays { StaysOn self.old self.new }
     {
-        for index in 0..end {
-            let earlier = ImplId { index };
-            if self.overlaps(later, earlier)? {
-                return Ok(Some(earlier));
+        let partners = self.partners_of(impls, later)?;
+        for earlier in &partners {
+            if self.overlaps(later, *earlier)? {
+                return Ok(Some(*earlier));
             }
         }
         Ok(None)

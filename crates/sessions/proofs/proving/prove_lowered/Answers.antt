@@ -7,7 +7,8 @@ use Rattle.infer_table.proofs.Numbers.{goal-held-later, goal-trees-later}
 use Rattle.candidate_assembly.specs.Fitting.{solving_of}
 use Rattle.sessions.specs.Tables.{table_of}
 use Rattle.type_terms.specs.Kinds.{ArgsHeld}
-use Rattle.sessions.proofs.Posing.{over-ok, args-later, kinds-are, answer-is}
+use Rattle.sessions.proofs.Posing.{over-ok, args-later, answer-is}
+use Rattle.sessions.proofs.VariableKinds.{kinds-are}
 use Rattle.sessions.proofs.proving.prove_lowered.Goals as goal
 
 pub goal_in-requires-clause-ready : goal.goal_in-requires-clause-ready

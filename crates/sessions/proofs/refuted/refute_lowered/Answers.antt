@@ -1,61 +1,61 @@
-use Rattle.std.proofs.Common.{rules, ◌≡◌, ◌∙◌, ap}
+use Rattle.std.proofs.Common.{rules, ◌≡◌, ◌∙◌, map, ap}
+use Rattle.term_folds.specs.Arguments.{arg_sort}
 use Rattle.declarations.specs.Items.{reference_in}
 use Rattle.infer_table.specs.Content.{Table}
 use Rattle.view_lowering.specs.Plain.{unbound_reference}
-use Rattle.sessions.specs.Asking.{IsLeftOpen, IsRefusedAlone, empty_table, with_unknowns}
-use Rattle.sessions.proofs.Alone.{clean-there, known-there, refused-there, reference-is, moved, values-kept}
+use Rattle.sessions.specs.Asking.{IsLeftOpen, IsRefusedAlone}
+use Rattle.sessions.specs.Tables.{table_of}
+use Rattle.sessions.proofs.Alone.{clean-there, known-there, refused-there, reference-is, moved}
 use Rattle.sessions.proofs.refuted.refute_lowered.Goals as goal
 
-pub returns-in_err-add_unknowns_in-clause-rest : goal.returns-in_err-add_unknowns_in-clause-rest
-returns-in_err-add_unknowns_in-clause-rest g c = c.rest_laws.ensures.rest c.args.graph.now.root_depth c.args.cx.now c.add_unknowns_in.new.cx c.args.graph.now c.args.cache.now c.requires.rest c.add_unknowns_in.ensures.advances
+pub returns-in_err-table-clause-rest : goal.returns-in_err-table-clause-rest
+returns-in_err-table-clause-rest g c = c.rest_laws.ensures.rest c.args.graph.now.root_depth c.args.cx.now c.question_table_in.new.cx c.args.graph.now c.args.cache.now c.requires.rest c.question_table_in.ensures.advances
 
 pub ask_in_coherence-requires-clause-rest : goal.ask_in_coherence-requires-clause-rest
-ask_in_coherence-requires-clause-rest g c = c.rest_laws.ensures.rest c.args.graph.now.root_depth c.args.cx.now c.add_unknowns_in.new.cx c.args.graph.now c.args.cache.now c.requires.rest c.add_unknowns_in.ensures.advances
+ask_in_coherence-requires-clause-rest g c = c.rest_laws.ensures.rest c.args.graph.now.root_depth c.args.cx.now c.question_table_in.new.cx c.args.graph.now c.args.cache.now c.requires.rest c.question_table_in.ensures.advances
 
 pub ask_in_coherence-requires-clause-no_values : goal.ask_in_coherence-requires-clause-no_values
-ask_in_coherence-requires-clause-no_values g c =
-    ap (λ (t : Table). t.values) c.in_ok-add_unknowns_in.ensures.made ∙ values-kept c.args.table.now c.deref.result.now ∙ ap (λ (t : Table). t.values) c.requires.table
+ask_in_coherence-requires-clause-no_values g c = ap (λ (t : Table). t.values) c.in_ok-table.ensures.is
 
 pub returns-clause-no : goal.returns-clause-no
 returns-clause-no g c =
     λ r q low own.
     let us : c.deref.result.now ≡ c.args.lowered.now.unknowns.items = search rules in
-    let made : c.add_unknowns_in.new.table ≡ with_unknowns empty_table c.args.lowered.now.unknowns.items =
-    c.in_ok-add_unknowns_in.ensures.made ∙ ap (λ (t : Table). with_unknowns t c.deref.result.now) c.requires.table ∙ ap (with_unknowns empty_table) us in
+    let made : c.in_ok-table.table ≡ table_of (map arg_sort c.args.lowered.now.unknowns.items) = c.in_ok-table.ensures.is ∙ ap (λ xs. table_of (map arg_sort xs)) us in
     let old = c.args.cx.now.interner.entries in
-    let new = c.add_unknowns_in.new.cx.interner.entries in
+    let new = c.question_table_in.new.cx.interner.entries in
     let law = c.requires.rest.ready.lawful in
-    let k = c.add_unknowns_in.ensures.advances.entries in
+    let k = c.question_table_in.ensures.advances.entries in
     let l = c.args.lowered.now in
-    refused-there q old new law k l low own (g.H.GoalHandler.handled (g.H.GoalHandler.meaning c.args.cx.now.handler old)) (g.H.GoalHandler.handled (g.H.GoalHandler.meaning c.add_unknowns_in.new.cx.handler new))
-    (ap g.H.GoalHandler.handled (c.rest_laws.ensures.meaning c.args.cx.now c.add_unknowns_in.new.cx c.requires.rest.ready c.add_unknowns_in.ensures.advances))
-    (c.ask_in_coherence.ensures.no r (clean-there q old new law k l low own) (known-there q old new law k l low own c.add_unknowns_in.new.table made))
+    refused-there q old new law k l low own (g.H.GoalHandler.handled (g.H.GoalHandler.meaning c.args.cx.now.handler old)) (g.H.GoalHandler.handled (g.H.GoalHandler.meaning c.question_table_in.new.cx.handler new))
+    (ap g.H.GoalHandler.handled (c.rest_laws.ensures.meaning c.args.cx.now c.question_table_in.new.cx c.requires.rest.ready c.question_table_in.ensures.advances))
+    (c.ask_in_coherence.ensures.no r (clean-there q old new law k l low own) (known-there q old new law k l low own c.in_ok-table.table made))
 
 pub returns-clause-open : goal.returns-clause-open
 returns-clause-open g c =
     λ r q low.
     let old = c.args.cx.now.interner.entries in
-    let new = c.add_unknowns_in.new.cx.interner.entries in
+    let new = c.question_table_in.new.cx.interner.entries in
     let l = c.args.lowered.now in
     moved
     (λ w s. IsLeftOpen g.H.GoalHandler.handled g.H.GoalHandler.Rule g.H.GoalHandler.coinductive g.H.GoalHandler.ready g.H.GoalHandler.meaning w c.args.graph.now.root_depth s)
-    (g.H.GoalHandler.meaning c.add_unknowns_in.new.cx.handler new) (g.H.GoalHandler.meaning c.args.cx.now.handler old) (reference_in new l.asked) (unbound_reference q.asked)
-    (c.rest_laws.ensures.meaning c.args.cx.now c.add_unknowns_in.new.cx c.requires.rest.ready c.add_unknowns_in.ensures.advances)
-    (reference-is q old new c.requires.rest.ready.lawful c.add_unknowns_in.ensures.advances.entries l low)
+    (g.H.GoalHandler.meaning c.question_table_in.new.cx.handler new) (g.H.GoalHandler.meaning c.args.cx.now.handler old) (reference_in new l.asked) (unbound_reference q.asked)
+    (c.rest_laws.ensures.meaning c.args.cx.now c.question_table_in.new.cx c.requires.rest.ready c.question_table_in.ensures.advances)
+    (reference-is q old new c.requires.rest.ready.lawful c.question_table_in.ensures.advances.entries l low)
     (c.ask_in_coherence.ensures.open r)
 
 pub returns-clause-refused : goal.returns-clause-refused
 returns-clause-refused g c =
     λ r q low.
     let old = c.args.cx.now.interner.entries in
-    let new = c.add_unknowns_in.new.cx.interner.entries in
+    let new = c.question_table_in.new.cx.interner.entries in
     let l = c.args.lowered.now in
     moved
     (λ w s. IsRefusedAlone g.H.GoalHandler.handled g.H.GoalHandler.Rule g.H.GoalHandler.coinductive g.H.GoalHandler.ready g.H.GoalHandler.meaning w c.args.graph.now.root_depth s)
-    (g.H.GoalHandler.meaning c.add_unknowns_in.new.cx.handler new) (g.H.GoalHandler.meaning c.args.cx.now.handler old) (reference_in new l.asked) (unbound_reference q.asked)
-    (c.rest_laws.ensures.meaning c.args.cx.now c.add_unknowns_in.new.cx c.requires.rest.ready c.add_unknowns_in.ensures.advances)
-    (reference-is q old new c.requires.rest.ready.lawful c.add_unknowns_in.ensures.advances.entries l low)
+    (g.H.GoalHandler.meaning c.question_table_in.new.cx.handler new) (g.H.GoalHandler.meaning c.args.cx.now.handler old) (reference_in new l.asked) (unbound_reference q.asked)
+    (c.rest_laws.ensures.meaning c.args.cx.now c.question_table_in.new.cx c.requires.rest.ready c.question_table_in.ensures.advances)
+    (reference-is q old new c.requires.rest.ready.lawful c.question_table_in.ensures.advances.entries l low)
     (c.ask_in_coherence.ensures.refused r)
 
 pub returns-clause-keeps : goal.returns-clause-keeps
-returns-clause-keeps g c = λ i e h. c.ask_in_coherence.ensures.keeps i e (c.add_unknowns_in.ensures.advances.entries i e h)
+returns-clause-keeps g c = λ i e h. c.ask_in_coherence.ensures.keeps i e (c.question_table_in.ensures.advances.entries i e h)

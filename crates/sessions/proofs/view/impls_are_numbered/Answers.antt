@@ -1,5 +1,5 @@
-use Rattle.sessions.proofs.Numbers as Lemmas
+use Rattle.sessions.proofs.ImplNumbers.{impls-numbered}
 use Rattle.sessions.proofs.view.impls_are_numbered.Goals as goal
 
 pub returns : goal.returns
-returns c = Lemmas.impls-numbered
+returns c = impls-numbered

@@ -1,6 +1,7 @@
-use Rattle.std.proofs.Common.{rules, ◌≡◌, Some, None, subst}
+use Rattle.std.proofs.Common.{rules, ◌≡◌, Some, None, subst, length, sym, ap, ◌∙◌}
 use Rattle.std.specs.Prelude.{IfSome}
 use Rattle.orphan_check.specs.Held.{ErrorHeld}
+use Rattle.text_definitions.specs.Declarations.{Declarations}
 use Rattle.overlap_check.specs.Verdicts.{KeepsOrphanRule}
 use Rattle.sessions.specs.Checking.{HasOrphan, HasOverlap}
 use Rattle.sessions.specs.Promises.{view_in}
@@ -8,7 +9,11 @@ use Rattle.sessions.proofs.CheckedSubjects.{stays-on, overlap-before, all-passed
 use Rattle.sessions.proofs.session.Session.check_crate.Goals as goal
 
 pub first_overlap-requires : goal.first_overlap-requires
-first_overlap-requires c = record { in_range = c.impl_end-end.ensures.in_range; numbered = numbered-still c.args.self.now c.first_orphan.new.self c.first_orphan.ensures.stays c.impl_end-end.ensures.numbered }
+first_overlap-requires c = record {
+  end = c.impl_end-end.ensures.is ∙ ap (λ (d : Declarations). length d.impls) (sym c.first_orphan.ensures.stays.declarations);
+  in_range = c.impl_end-end.ensures.in_range;
+  numbered = numbered-still c.args.self.now c.first_orphan.new.self c.first_orphan.ensures.stays c.impl_end-end.ensures.numbered;
+}
 
 pub returns-in-Some-clause-verdict : goal.returns-in-Some-clause-verdict
 returns-in-Some-clause-verdict c =

@@ -1,10 +1,12 @@
-use Rattle.std.proofs.Common.{ℕ, ◌<◌}
+use Rattle.std.proofs.Common.{take}
+use Rattle.type_terms.specs.declared.ImplId.{ImplId}
+use Rattle.declarations.specs.Merges.{Each}
 use Rattle.sessions.specs.Subjects.{StaysOn}
 use Rattle.sessions.proofs.CheckedSubjects.{Passed}
 use Rattle.sessions.proofs.session.Session.first_partner.Given as goal
 
-abbrev pub invariant-loop-index : goal.invariant-loop-index
-invariant-loop-index l = record {
+abbrev pub invariant-loop-earlier : goal.invariant-loop-earlier
+invariant-loop-earlier l = record {
   stays : StaysOn l.fn.self l.self;
-  passed : (j : ℕ) → j < l.index → Passed l.fn.self l.later.index j;
+  passed : Each (λ (i : ImplId). Passed l.fn.self l.later.index i.index) (take l.earlier-index l.earlier-items);
 }
