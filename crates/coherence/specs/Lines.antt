@@ -1,65 +1,92 @@
 -- The lines that a run writes.
-use Rattle.std.specs.Prelude.{◌≡◌, ℕ, suc, ◌+◌, ◌-◌, ◌⊎◌, List, [], ◌∷◌, ◌++◌, length, take, count_by, Option, Some, Ok, Err, slice_get, unwrap_or, ◌==◌}
+use Rattle.std.specs.Prelude.{◌≡◌, ℕ, suc, ◌+◌, ◌-◌, ◌≤◌, ◌⊎◌, true, false, List, [], ◌∷◌, ◌++◌, length, take, count_by, Option, Some, Ok, Err, slice_get, ◌==◌}
 use Rattle.std.specs.List.{flat_map}
-use Rattle.std.specs.Option.{option_map}
+use Rattle.std.specs.Option.{option_map, option_map_or}
 use Rattle.std.specs.Io.KnownBytes.{Appends, Keeps}
+use Rattle.model.specs.Trees.{Trees}
 use Rattle.model.specs.Worlds.{core}
-use Rattle.coherence_text.specs.Declarations.{Declarations, Question, first_impl}
-use Rattle.coherence_text.specs.Text.{TextGives}
-use Rattle.coherence_text.specs.Output.{Answer, fault, accepted, nonlocal, overlap, yes, unproved, output_text}
-use Rattle.coherence.specs.declared.session.Verdict.{Verdict}
-use Rattle.coherence.specs.declared.session.Verdict.TheVariants as verdicts
-use Rattle.coherence.specs.declared.session.ProveAnswer.{ProveAnswer}
-use Rattle.coherence.specs.declared.session.ProveAnswer.TheVariants as answers
+use Rattle.text_definitions.specs.Declarations.{Declarations, Question}
+use Rattle.text_definitions.specs.Names.{header_names, answer_values}
+use Rattle.text_definitions.specs.Output.{Answer, fault, accepted, nonlocal, uncovered, overlap, yes, maybe, unproved, no, unrefuted, type_text, output_text}
+use Rattle.text_definitions.specs.Text.{TextGives}
+use Rattle.sessions.specs.OrphanErrors as errors
+use Rattle.sessions.specs.Promises.{IsVerdictOf, IsProved, IsRefutation}
+use Rattle.sessions.specs.QuestionAnswers as answers
+use Rattle.sessions.specs.Verdicts as verdicts
 use Rattle.coherence.specs.declared.status.Status.{Status}
 use Rattle.coherence.specs.declared.status.Status.TheVariants as statuses
 use Rattle.coherence.specs.Streams.{AppendsPrefix}
-use Rattle.coherence.specs.Verdicts.{IsVerdictOf, IsAnswerTo}
 
--- ---- the line of an answer
+-- ---- the line of a crate
 abbrev pub crate_text : Declarations → ℕ → List ℕ
-crate_text d c = unwrap_or (option_map (λ n. n.text) (slice_get d.crates c)) []
+crate_text d c = option_map_or (λ n. n.text) (slice_get d.crates c) []
 
 -- the crate of impl number k
 abbrev pub impl_home : Declarations → ℕ → ℕ
-impl_home d k = unwrap_or (option_map (λ i. i.home) (slice_get d.impls (k - first_impl))) core
+impl_home d k = option_map_or (λ i. i.item.home) (slice_get d.impls k) core
 
 -- its number among those of its crate, from 1
 abbrev pub number_in_crate : Declarations → ℕ → ℕ
-number_in_crate d k = count_by (λ i. i.home == impl_home d k) (take (suc (k - first_impl)) d.impls)
+number_in_crate d k = count_by (λ i. i.item.home == impl_home d k) (take (suc k) d.impls)
 
-abbrev pub verdict_line : Declarations → ℕ → Verdict → Answer
-verdict_line d c verdicts.Accepted = accepted (crate_text d c)
-verdict_line d c (verdicts.Orphan k) = nonlocal (crate_text d c) (number_in_crate d k.index)
-verdict_line d c (verdicts.Overlap k j) = overlap (crate_text d c) (number_in_crate d k.index) (crate_text d (impl_home d j.index)) (number_in_crate d j.index)
+-- a type of its header, in which an unknown has the name of the parameter that it stands for
+abbrev pub header_text : Declarations → ℕ → Trees → List ℕ
+header_text d k t = type_text (header_names d (option_map_or (λ i. i.params) (slice_get d.impls k) [])) t
 
-abbrev pub prove_line : ℕ → ProveAnswer → Answer
-prove_line n answers.Yes = yes n
-prove_line n answers.Unproved = unproved n
+abbrev pub orphan_line : Declarations → ℕ → ℕ → errors.OrphanError → Answer
+orphan_line d c k (errors.nonlocal ts) = nonlocal (crate_text d c) (number_in_crate d k)
+orphan_line d c k (errors.uncovered t local) = uncovered (crate_text d c) (number_in_crate d k) (header_text d k t) (option_map (header_text d k) local)
+
+abbrev pub verdict_line : Declarations → ℕ → verdicts.Verdict → Answer
+verdict_line d c verdicts.accepted = accepted (crate_text d c)
+verdict_line d c (verdicts.orphan k e) = orphan_line d c k e
+verdict_line d c (verdicts.overlap k j) = overlap (crate_text d c) (number_in_crate d k) (crate_text d (impl_home d j)) (number_in_crate d j)
+
+-- ---- the line of a question, by its number from 1
+abbrev pub prove_line : Declarations → ℕ → Question → answers.ProveAnswer → Answer
+prove_line d n q (answers.yes values) = yes n (answer_values d q values)
+prove_line d n q answers.maybe = maybe n
+prove_line d n q answers.unproved = unproved n
+
+abbrev pub refute_line : ℕ → answers.RefuteAnswer → Answer
+refute_line n answers.no = no n
+refute_line n answers.unrefuted = unrefuted n
+
+-- with an answer that is right
+pub data IsQuestionLine (limit : ℕ) (d : Declarations) (n : ℕ) (q : Question) : Answer → Type 0 where
+  of_prove : (a : answers.ProveAnswer) → q.is_refute ≡ false → IsProved limit d q a → IsQuestionLine limit d n q (prove_line d n q a)
+  of_refute : (a : answers.RefuteAnswer) → q.is_refute ≡ true → IsRefutation limit d q a → IsQuestionLine limit d n q (refute_line n a)
 
 -- ---- the lines of a text
 
 -- one for each of the crates 1 to n, in order, each with a verdict that is right
 pub data CrateLines (limit : ℕ) (d : Declarations) : ℕ → List Answer → Type 0 where
   no_crates : CrateLines limit d 0 []
-  and_crate : (n : ℕ) (ls : List Answer) (v : Verdict) → CrateLines limit d n ls → IsVerdictOf limit d (n + 1) v
+  and_crate : (n : ℕ) (ls : List Answer) (v : verdicts.Verdict) → CrateLines limit d n ls → IsVerdictOf limit d (n + 1) v
       → CrateLines limit d (n + 1) (ls ++ verdict_line d (n + 1) v ∷ [])
 
--- one for each of the first n questions, in order, each with an answer that is right
-pub data QuestionLines (d : Declarations) : ℕ → List Answer → Type 0 where
-  no_questions : QuestionLines d 0 []
-  and_question : (n : ℕ) (ls : List Answer) (q : Question) (a : ProveAnswer) → QuestionLines d n ls → slice_get d.questions n ≡ Some q → IsAnswerTo d q a
-      → QuestionLines d (n + 1) (ls ++ prove_line (n + 1) a ∷ [])
+-- one for each of the first n questions, in order
+pub data QuestionLines (limit : ℕ) (d : Declarations) : ℕ → List Answer → Type 0 where
+  no_questions : QuestionLines limit d 0 []
+  and_question : (n : ℕ) (ls : List Answer) (q : Question) (l : Answer) → QuestionLines limit d n ls → slice_get d.questions n ≡ Some q → IsQuestionLine limit d (n + 1) q l
+      → QuestionLines limit d (n + 1) (ls ++ l ∷ [])
 
 -- That of the text's first fault, alone; or one for each crate but `core`, and then one for each question.
 pub data IsOutput (limit : ℕ) (bytes : List ℕ) : Status → List Answer → Type 0 where
   of_fault : (k n : ℕ) → TextGives bytes (Err (k, n)) → IsOutput limit bytes statuses.TextFault (fault k n ∷ [])
-  of_answers : (d : Declarations) (cs qs : List Answer) → TextGives bytes (Ok d) → CrateLines limit d (length d.crates - 1) cs → QuestionLines d (length d.questions) qs
+  of_answers : (d : Declarations) (cs qs : List Answer) → TextGives bytes (Ok d) → CrateLines limit d (length d.crates - 1) cs → QuestionLines limit d (length d.questions) qs
       → IsOutput limit bytes statuses.Done (cs ++ qs)
 
--- ---- what a writer gains: the output, or a prefix of it
+-- The first lines of it: that of the fault; or those of the first crates; or those of all crates, and of the first questions.
+pub data BeginsOutput (limit : ℕ) (bytes : List ℕ) : List Answer → Type 0 where
+  begins_fault : (k n : ℕ) → TextGives bytes (Err (k, n)) → BeginsOutput limit bytes (fault k n ∷ [])
+  begins_crates : (d : Declarations) (n : ℕ) (cs : List Answer) → TextGives bytes (Ok d) → n ≤ length d.crates - 1 → CrateLines limit d n cs → BeginsOutput limit bytes cs
+  begins_questions : (d : Declarations) (n : ℕ) (cs qs : List Answer) → TextGives bytes (Ok d) → CrateLines limit d (length d.crates - 1) cs → n ≤ length d.questions → QuestionLines limit d n qs
+      → BeginsOutput limit bytes (cs ++ qs)
+
+-- ---- what a writer gains: the output, or a prefix of its first lines
 abbrev pub WritesOutput : ℕ → List ℕ → Status → Option (List ℕ) → Option (List ℕ) → Type 0
 WritesOutput limit bytes status old new = (ls : List Answer) × IsOutput limit bytes status ls × Appends old new (flat_map output_text ls)
 
 abbrev pub WritesPrefix : ℕ → List ℕ → Option (List ℕ) → Option (List ℕ) → Type 0
-WritesPrefix limit bytes old new = Keeps old new ⊎ ((status : Status) × (ls : List Answer) × IsOutput limit bytes status ls × AppendsPrefix old new (flat_map output_text ls))
+WritesPrefix limit bytes old new = Keeps old new ⊎ ((ls : List Answer) × BeginsOutput limit bytes ls × AppendsPrefix old new (flat_map output_text ls))

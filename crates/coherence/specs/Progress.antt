@@ -2,55 +2,65 @@
 use Rattle.std.specs.Prelude.{◌≡◌, ℕ, ◌+◌, ◌-◌, ◌≤◌, ◌<◌, ◌⊎◌, List, ◌++◌, length, Option, Some, slice_get}
 use Rattle.std.specs.List.{flat_map}
 use Rattle.std.specs.Io.KnownBytes.{Appends, Keeps}
-use Rattle.coherence_text.specs.Declarations.{Declarations, Question, first_impl}
-use Rattle.coherence_text.specs.Output.{Answer, output_text}
-use Rattle.coherence.specs.declared.session.Verdict.{Verdict}
-use Rattle.coherence.specs.declared.session.Verdict.TheVariants as verdicts
-use Rattle.coherence.specs.declared.session.ProveAnswer.{ProveAnswer}
+use Rattle.text_definitions.specs.Declarations.{Declarations, Question}
+use Rattle.text_definitions.specs.Output.{Answer, output_text}
+use Rattle.sessions.specs.Promises.{IsVerdictOf}
+use Rattle.sessions.specs.Verdicts.{Verdict, accepted, orphan, overlap}
+use Rattle.coherence.specs.Groups.{IsAskedIn}
+use Rattle.coherence.specs.Lines.{verdict_line, IsQuestionLine, CrateLines, QuestionLines}
 use Rattle.coherence.specs.Streams.{AppendsPrefix}
-use Rattle.coherence.specs.Verdicts.{IsVerdictOf, IsAnswerTo}
-use Rattle.coherence.specs.Lines.{verdict_line, prove_line, CrateLines, QuestionLines}
+use Rattle.coherence.specs.declared.kept.KeptLine.{KeptLine}
 
 -- the impls that a verdict names are there
-abbrev pub IsImplId : Declarations → ℕ → Type 0
-IsImplId d k = (first_impl ≤ k) × (k < length d.impls + first_impl)
-
 abbrev pub NamesImpls : Declarations → Verdict → Type 0
-NamesImpls d verdicts.Accepted = Unit {0}
-NamesImpls d (verdicts.Orphan k) = IsImplId d k.index
-NamesImpls d (verdicts.Overlap k j) = IsImplId d k.index × IsImplId d j.index
+NamesImpls d accepted = Unit {0}
+NamesImpls d (orphan k e) = k < length d.impls
+NamesImpls d (overlap k j) = (k < length d.impls) × (j < length d.impls)
 
--- ---- the line of one crate, and of one question
+-- ---- the line of one crate
 abbrev pub WritesVerdict : ℕ → Declarations → ℕ → Option (List ℕ) → Option (List ℕ) → Type 0
 WritesVerdict limit d c old new = (v : Verdict) × IsVerdictOf limit d c v × Appends old new (output_text (verdict_line d c v))
 
 abbrev pub WritesVerdictPrefix : ℕ → Declarations → ℕ → Option (List ℕ) → Option (List ℕ) → Type 0
 WritesVerdictPrefix limit d c old new = Keeps old new ⊎ ((v : Verdict) × IsVerdictOf limit d c v × AppendsPrefix old new (output_text (verdict_line d c v)))
 
--- question n, counted from 0
-abbrev pub WritesAnswer : Declarations → ℕ → Option (List ℕ) → Option (List ℕ) → Type 0
-WritesAnswer d n old new = (q : Question) × (a : ProveAnswer) × (slice_get d.questions n ≡ Some q) × IsAnswerTo d q a × Appends old new (output_text (prove_line (n + 1) a))
+-- ---- the line of question q, which has number n, is this text
+abbrev pub HasLine : ℕ → Declarations → ℕ → Question → List ℕ → Type 0
+HasLine limit d n q text = (l : Answer) × IsQuestionLine limit d n q l × (text ≡ output_text l)
 
-abbrev pub WritesAnswerPrefix : Declarations → ℕ → Option (List ℕ) → Option (List ℕ) → Type 0
-WritesAnswerPrefix d n old new = Keeps old new ⊎ ((q : Question) × (a : ProveAnswer) × (slice_get d.questions n ≡ Some q) × IsAnswerTo d q a × AppendsPrefix old new (output_text (prove_line (n + 1) a)))
+-- that of the question at place n, counted from 0
+abbrev pub IsLineOf : ℕ → Declarations → ℕ → List ℕ → Type 0
+IsLineOf limit d n text = (q : Question) × (slice_get d.questions n ≡ Some q) × HasLine limit d (n + 1) q text
+
+-- it is kept
+abbrev pub IsKept : ℕ → Declarations → List KeptLine → ℕ → Type 0
+IsKept limit d lines n = (l : KeptLine) × (slice_get lines n ≡ Some l) × IsLineOf limit d n l.text.items
+
+-- There is room for a line of each question, and those that ask in one of the first c crates are kept.
+pub record KeepsLines (limit : ℕ) (d : Declarations) (c : ℕ) (lines : List KeptLine) : Type 0 where
+  pub for_each : length lines ≡ length d.questions
+  pub are : (b n : ℕ) → b < c → IsAskedIn d b n → IsKept limit d lines n
 
 -- ---- the lines of n crates, and of n questions
 abbrev pub WritesCrates : ℕ → Declarations → ℕ → Option (List ℕ) → Option (List ℕ) → Type 0
 WritesCrates limit d n old new = (cs : List Answer) × CrateLines limit d n cs × Appends old new (flat_map output_text cs)
 
-abbrev pub WritesQuestions : Declarations → ℕ → Option (List ℕ) → Option (List ℕ) → Type 0
-WritesQuestions d n old new = (qs : List Answer) × QuestionLines d n qs × Appends old new (flat_map output_text qs)
+abbrev pub WritesQuestions : ℕ → Declarations → ℕ → Option (List ℕ) → Option (List ℕ) → Type 0
+WritesQuestions limit d n old new = (qs : List Answer) × QuestionLines limit d n qs × Appends old new (flat_map output_text qs)
 
 -- a prefix of the lines of some of them
 abbrev pub WritesCratesPrefix : ℕ → Declarations → Option (List ℕ) → Option (List ℕ) → Type 0
 WritesCratesPrefix limit d old new = (n : ℕ) × (cs : List Answer) × (n ≤ length d.crates - 1) × CrateLines limit d n cs × AppendsPrefix old new (flat_map output_text cs)
 
-abbrev pub WritesQuestionsPrefix : Declarations → Option (List ℕ) → Option (List ℕ) → Type 0
-WritesQuestionsPrefix d old new = (n : ℕ) × (qs : List Answer) × (n ≤ length d.questions) × QuestionLines d n qs × AppendsPrefix old new (flat_map output_text qs)
+abbrev pub WritesQuestionsPrefix : ℕ → Declarations → Option (List ℕ) → Option (List ℕ) → Type 0
+WritesQuestionsPrefix limit d old new = (n : ℕ) × (qs : List Answer) × (n ≤ length d.questions) × QuestionLines limit d n qs × AppendsPrefix old new (flat_map output_text qs)
 
 -- ---- all lines
 abbrev pub WritesAnswers : ℕ → Declarations → Option (List ℕ) → Option (List ℕ) → Type 0
-WritesAnswers limit d old new = (cs qs : List Answer) × CrateLines limit d (length d.crates - 1) cs × QuestionLines d (length d.questions) qs × Appends old new (flat_map output_text (cs ++ qs))
+WritesAnswers limit d old new =
+    (cs qs : List Answer) × CrateLines limit d (length d.crates - 1) cs × QuestionLines limit d (length d.questions) qs × Appends old new (flat_map output_text (cs ++ qs))
 
 abbrev pub WritesAnswersPrefix : ℕ → Declarations → Option (List ℕ) → Option (List ℕ) → Type 0
-WritesAnswersPrefix limit d old new = (cs qs : List Answer) × CrateLines limit d (length d.crates - 1) cs × QuestionLines d (length d.questions) qs × AppendsPrefix old new (flat_map output_text (cs ++ qs))
+WritesAnswersPrefix limit d old new =
+    WritesCratesPrefix limit d old new
+    ⊎ ((n : ℕ) × (cs qs : List Answer) × CrateLines limit d (length d.crates - 1) cs × (n ≤ length d.questions) × QuestionLines limit d n qs × AppendsPrefix old new (flat_map output_text (cs ++ qs)))

@@ -1,17 +1,15 @@
 //! Checks of crates, and answers to questions, from bytes to bytes.
 #![tactic(auto)]
 
-mod limits;
+mod depths;
+mod groups;
+mod kept;
 mod lines;
-mod orphans;
-mod pairs;
-mod questions;
-mod session;
 mod status;
 mod streams;
 mod text_run;
 
-pub use limits::{Limits, parse_depth};
-pub use session::{ProveAnswer, Session, Verdict};
+pub use depths::parse_depth;
+pub use sessions::Limits;
 pub use status::{RunFault, Status};
 pub use text_run::run;

@@ -1,40 +1,36 @@
-//! The line of an answer.
+//! The lines of crates and of questions.
 
-ghost use Rattle.std.specs.Prelude.{◌≡◌, ◌≢◌, ◌+◌, ◌<◌, ◌≤◌, length, IfErr, OnOk, OnErr};
-ghost use Rattle.std.specs.Io.KnownBytes.{Appends};
-ghost use Rattle.coherence_text.specs.Declarations.{first_impl};
-ghost use Rattle.coherence_text.specs.Numbered.{IsNumbered};
-ghost use Rattle.coherence_text.specs.Output.{output_text};
-ghost use Rattle.coherence_text.specs.Views.{answer_of};
-ghost use Rattle.coherence.specs.Streams.{AppendsPrefix};
-ghost use Rattle.coherence.specs.Lines.{crate_text, impl_home, number_in_crate, verdict_line, prove_line};
-ghost use Rattle.coherence.specs.Progress.{IsImplId, NamesImpls};
+ghost use Rattle.std.specs.Prelude.{◌≡◌, ◌≢◌, ◌<◌, length, map, IfOk, IfErr, IfSome};
+ghost use Rattle.std.specs.Option.{option_map};
+ghost use Rattle.answer_lines.specs.Answers.{text_of};
+ghost use Rattle.model.specs.Trees.{erase};
+ghost use Rattle.text_definitions.specs.Declarations.{Question};
+ghost use Rattle.text_definitions.specs.Names as names;
+ghost use Rattle.text_definitions.specs.Output.{uncovered, yes, output_text};
+ghost use Rattle.type_terms.specs.Kinds.{arg_trees, ArgsHeld};
+ghost use Rattle.workspace.specs.Numbered.{IsNumbered, IsFew};
+ghost use Rattle.sessions.specs.ErrorTerms.{error_in, type_in};
+ghost use Rattle.sessions.specs.HeldErrors.{ErrorHeld, TypeHeld};
+ghost use Rattle.sessions.specs.OrphanErrors as errors;
+ghost use Rattle.sessions.specs.Given.{verdict_in, VerdictHeld};
+ghost use Rattle.sessions.specs.Subjects.{IsOfText, AsksProof, AsksRefutation, StaysOn};
+ghost use Rattle.sessions.specs.TextQuestions.{IsQuestion};
+ghost use Rattle.coherence.specs.Groups.{IsAskedIn};
+ghost use Rattle.coherence.specs.Lines.{crate_text, impl_home, number_in_crate, header_text, orphan_line, verdict_line};
+ghost use Rattle.coherence.specs.Progress.{NamesImpls, HasLine, IsLineOf};
 
-use crate::session::{ProveAnswer, Verdict};
 use crate::status::RunFault;
-use crate::streams::write_text;
-use coherence_text::{Output, Workspace, print_line};
-use std::alloc::Global;
-use std::io::Write;
+use answer_lines::{Answer, HeaderNames, answer_values, print_line, print_type};
+use sessions::{OrphanCheckErr, ProveAnswer, RefuteAnswer, Session, UncoveredTyParams, Verdict};
+use std::alloc::{AllocError, Global};
+use type_terms::interner::Interner;
+use type_terms::kinds::{GenericArgKind, Ty};
 use type_terms::{CrateId, ImplId};
-
-/// Writes the line of an answer.
-pub fn write_line<W: Write>(
-    alloc: Global,
-    writer: &mut W,
-    output: &Output<'_>,
-) -> Result<(), RunFault>
-    ensures whole { OnOk result (Appends (W.contents writer.old) (W.contents writer.new) (output_text (answer_of output.now))) }
-    ensures prefix { AppendsPrefix (W.contents writer.old) (W.contents writer.new) (output_text (answer_of output.now)) }
-    ensures written { IfErr result (λ fault. fault ≢ RunFault.Read) }
-{
-    let text = print_line(alloc, output)?;
-    write_text(writer, &text)
-}
+use workspace::{Asked, ENTRY_LIMIT, Workspace};
 
 /// An impl's number among those of its crate, from 1.
 fn number_in_crate(workspace: &Workspace, id: ImplId) -> u32
-    requires { IsImplId workspace.now id.index }
+    requires { id.index < length workspace.now.impls }
     ensures { result ≡ number_in_crate workspace.now id.index }
 {
     let (_owner, number) = workspace.impl_place(id);
@@ -43,7 +39,7 @@ fn number_in_crate(workspace: &Workspace, id: ImplId) -> u32
 
 /// The name of an impl's crate.
 fn owner_name(workspace: &Workspace, id: ImplId) -> &[u8]
-    requires number { IsImplId workspace.now id.index }
+    requires number { id.index < length workspace.now.impls }
     requires numbered { IsNumbered workspace.now }
     ensures { result.now ≡ crate_text workspace.now (impl_home workspace.now id.index) }
 {
@@ -51,35 +47,227 @@ fn owner_name(workspace: &Workspace, id: ImplId) -> &[u8]
     workspace.crate_name(owner)
 }
 
-/// The line of a crate.
-pub fn crate_output<'w>(workspace: &'w Workspace, id: CrateId, verdict: Verdict) -> Output<'w>
-    requires numbered { IsNumbered workspace.now }
-    requires declared { id.index < length workspace.now.crates }
-    requires there { NamesImpls workspace.now verdict }
-    ensures { answer_of result ≡ verdict_line workspace.now id.index verdict }
+/// A type of an impl's header as text, in which an unknown has the name of the parameter that it stands for.
+fn header_text(
+    alloc: Global,
+    cx: &Interner,
+    workspace: &Workspace,
+    id: ImplId,
+    ty: Ty,
+) -> Result<Vec<u8>, AllocError>
+    requires number { id.index < length workspace.now.impls }
+    requires held { TypeHeld cx.now.entries ty }
+    ensures { IfOk result (λ text. text.items ≡ header_text workspace.now id.index (type_in cx.now.entries ty)) }
 {
-    let name = workspace.crate_name(id);
-    match verdict {
-        Verdict::Accepted => Output::Accepted { name },
-        Verdict::Orphan(orphan) => Output::Nonlocal {
+    let names = HeaderNames {
+        workspace,
+        params: &workspace.impls()[id.index as usize].params,
+    };
+    let mut text = Vec::new(alloc);
+    print_type(cx, &names, ty, &mut text)?;
+    Ok(text)
+}
+
+fn print_uncovered<'a>(
+    alloc: Global,
+    name: &'a [u8],
+    number: u32,
+    param: &'a [u8],
+    before: Option<&'a [u8]>,
+) -> Result<Vec<u8>, AllocError>
+    ensures { IfOk result (λ text. text.items ≡ output_text (uncovered name.now number param.now (option_map text_of before.entry))) }
+{
+    print_line(
+        alloc,
+        &Answer::Uncovered {
             name,
-            number: number_in_crate(workspace, orphan),
+            number,
+            param,
+            before,
         },
-        Verdict::Overlap(later, earlier) => Output::Overlap {
-            name,
-            number: number_in_crate(workspace, later),
-            other: owner_name(workspace, earlier),
-            other_number: number_in_crate(workspace, earlier),
-        },
+    )
+}
+
+/// The line of a crate with an impl whose header has a parameter before its first local type.
+fn uncovered_line(
+    alloc: Global,
+    cx: &Interner,
+    workspace: &Workspace,
+    crate_id: CrateId,
+    id: ImplId,
+    error: &UncoveredTyParams<Ty>,
+) -> Result<Vec<u8>, AllocError>
+    requires declared { crate_id.index < length workspace.now.crates }
+    requires number { id.index < length workspace.now.impls }
+    requires uncovered { TypeHeld cx.now.entries error.now.uncovered }
+    requires local { IfSome error.now.local_ty (TypeHeld cx.now.entries) }
+    ensures { IfOk result (λ text. text.items ≡ output_text (orphan_line workspace.now crate_id.index id.index
+        (errors.uncovered (type_in cx.now.entries error.now.uncovered) (option_map (type_in cx.now.entries) error.now.local_ty)))) }
+{
+    let name = workspace.crate_name(crate_id);
+    let number = number_in_crate(workspace, id);
+    let param = header_text(alloc, cx, workspace, id, error.uncovered)?;
+    match error.local_ty {
+        None => print_uncovered(alloc, name, number, &param, None),
+        Some(local_ty) => {
+            let local = header_text(alloc, cx, workspace, id, local_ty)?;
+            print_uncovered(alloc, name, number, &param, Some(&local))
+        }
     }
 }
 
-/// The line of a question.
-pub fn prove_output(number: u32, answer: ProveAnswer) -> Output<'static>
-    ensures { answer_of result ≡ prove_line number answer }
+/// The line of a crate with an impl whose header breaks the orphan rule.
+fn orphan_line(
+    alloc: Global,
+    cx: &Interner,
+    workspace: &Workspace,
+    crate_id: CrateId,
+    id: ImplId,
+    error: &OrphanCheckErr<Ty>,
+) -> Result<Vec<u8>, AllocError>
+    requires declared { crate_id.index < length workspace.now.crates }
+    requires number { id.index < length workspace.now.impls }
+    requires held { ErrorHeld cx.now.entries error.now }
+    ensures { IfOk result (λ text. text.items ≡ output_text (orphan_line workspace.now crate_id.index id.index (error_in cx.now.entries error.now))) }
 {
-    match answer {
-        ProveAnswer::Yes => Output::Yes { question: number },
-        ProveAnswer::Unproved => Output::Unproved { question: number },
+    match error {
+        OrphanCheckErr::NonLocalInputType(_) => print_line(
+            alloc,
+            &Answer::Nonlocal {
+                name: workspace.crate_name(crate_id),
+                number: number_in_crate(workspace, id),
+            },
+        ),
+        OrphanCheckErr::UncoveredTyParams(error) => {
+            uncovered_line(alloc, cx, workspace, crate_id, id, error)
+        }
     }
+}
+
+/// The line of a crate.
+pub fn verdict_line(
+    alloc: Global,
+    cx: &Interner,
+    workspace: &Workspace,
+    crate_id: CrateId,
+    verdict: &Verdict,
+) -> Result<Vec<u8>, AllocError>
+    requires numbered { IsNumbered workspace.now }
+    requires declared { crate_id.index < length workspace.now.crates }
+    requires named { NamesImpls workspace.now (verdict_in cx.now.entries verdict.now) }
+    requires held { VerdictHeld cx.now.entries verdict.now }
+    ensures { IfOk result (λ text. text.items ≡ output_text (verdict_line workspace.now crate_id.index (verdict_in cx.now.entries verdict.now))) }
+{
+    let name = workspace.crate_name(crate_id);
+    match verdict {
+        Verdict::Accepted => print_line(alloc, &Answer::Accepted { name }),
+        Verdict::Orphan(id, error) => orphan_line(alloc, cx, workspace, crate_id, *id, error),
+        Verdict::Overlap(later, earlier) => print_line(
+            alloc,
+            &Answer::Overlap {
+                name,
+                number: number_in_crate(workspace, *later),
+                other: owner_name(workspace, *earlier),
+                other_number: number_in_crate(workspace, *earlier),
+            },
+        ),
+    }
+}
+
+/// The line of a question that is proved, with the values of its variables. Questions count from 1.
+fn yes_line(
+    alloc: Global,
+    cx: &Interner,
+    workspace: &Workspace,
+    number: u32,
+    values: &[GenericArgKind],
+) -> Result<Vec<u8>, AllocError>
+    requires parsed { IsOfText workspace.now }
+    requires asked { (q : Question) × IsQuestion workspace.now number q }
+    requires held { ArgsHeld cx.now.entries values.now }
+    ensures { (q : Question) → IsQuestion workspace.now number q
+        → IfOk result (λ text. text.items ≡ output_text (yes number (names.answer_values workspace.now q (map (λ v. erase (arg_trees cx.now.entries v)) values.now)))) }
+{
+    cx.lawful();
+    let question = &workspace.question_entries()[number as usize - 1];
+    let texts = answer_values(alloc, cx, workspace, question, values)?;
+    let line = print_line(
+        alloc,
+        &Answer::Yes {
+            question: number,
+            values: &texts,
+        },
+    )?;
+    Ok(line)
+}
+
+/// The line of a `prove` question of the session's crate. Questions count from 1.
+fn prove_line(
+    alloc: Global,
+    session: &mut Session<'_>,
+    workspace: &Workspace,
+    number: u32,
+) -> Result<Vec<u8>, RunFault>
+    requires on { session.old.declarations ≡ workspace.now }
+    requires parsed { IsOfText workspace.now }
+    requires asked { (q : Question) × AsksProof workspace.now session.old.of_crate number q }
+    ensures line { (q : Question) → AsksProof workspace.now session.old.of_crate number q
+        → IfOk result (λ text. HasLine session.old.depth workspace.now number q text.items) }
+    ensures stays { StaysOn session.old session.new }
+    ensures written { IfErr result (λ fault. fault ≢ RunFault.Read) }
+{
+    let answer = session.prove(number)?;
+    let line = match answer {
+        ProveAnswer::Yes(values) => {
+            yes_line(alloc, session.interner(), workspace, number, &values)?
+        }
+        ProveAnswer::Maybe => print_line(alloc, &Answer::Maybe { question: number })?,
+        ProveAnswer::Unproved => print_line(alloc, &Answer::Unproved { question: number })?,
+    };
+    Ok(line)
+}
+
+/// The line of a `refute` question of the session's crate. Questions count from 1.
+fn refute_line(
+    alloc: Global,
+    session: &mut Session<'_>,
+    workspace: &Workspace,
+    number: u32,
+) -> Result<Vec<u8>, RunFault>
+    requires on { session.old.declarations ≡ workspace.now }
+    requires asked { (q : Question) × AsksRefutation workspace.now session.old.of_crate number q }
+    ensures line { (q : Question) → AsksRefutation workspace.now session.old.of_crate number q
+        → IfOk result (λ text. HasLine session.old.depth workspace.now number q text.items) }
+    ensures stays { StaysOn session.old session.new }
+    ensures written { IfErr result (λ fault. fault ≢ RunFault.Read) }
+{
+    let answer = session.refute(number)?;
+    let line = match answer {
+        RefuteAnswer::No => print_line(alloc, &Answer::No { question: number })?,
+        RefuteAnswer::Open => print_line(alloc, &Answer::Open { question: number })?,
+    };
+    Ok(line)
+}
+
+/// The line of a question of the session's crate, by its place in the text.
+pub fn question_line(
+    alloc: Global,
+    session: &mut Session<'_>,
+    workspace: &Workspace,
+    place: u32,
+) -> Result<Vec<u8>, RunFault>
+    requires on { session.old.declarations ≡ workspace.now }
+    requires parsed { IsOfText workspace.now }
+    requires few { IsFew workspace.now ENTRY_LIMIT }
+    requires asked { IsAskedIn workspace.now session.old.of_crate place }
+    ensures line { IfOk result (λ text. IsLineOf session.old.depth workspace.now place text.items) }
+    ensures stays { StaysOn session.old session.new }
+    ensures written { IfErr result (λ fault. fault ≢ RunFault.Read) }
+{
+    let number = place + 1;
+    let line = match workspace.questions()[place as usize] {
+        Asked::Prove(_) => prove_line(alloc, session, workspace, number)?,
+        Asked::Refute(_) => refute_line(alloc, session, workspace, number)?,
+    };
+    Ok(line)
 }

@@ -1,114 +1,141 @@
 //! From bytes to bytes.
 
-ghost use Rattle.std.specs.Prelude.{◌≡◌, ◌≢◌, ◌+◌, ◌-◌, ◌<◌, ◌≤◌, length, take, Some, slice_get, IfOk, IfErr, IfSome, OnOk, OnErr};
-ghost use Rattle.std.specs.Io.KnownBytes.{Keeps};
-ghost use Rattle.coherence_text.specs.Numbered.{IsNumbered, IsFew};
-ghost use Rattle.coherence_text.specs.Views.{question_of};
-ghost use Rattle.coherence.specs.Streams.{ConsumesAtMost};
-ghost use Rattle.coherence.specs.Sessions.{IsOfText};
+ghost use Rattle.std.specs.Prelude.{◌≡◌, ◌≢◌, ◌+◌, ◌-◌, ◌<◌, length, IfOk, IfErr, IfSome, OnOk, OnErr};
+ghost use Rattle.std.specs.Io.KnownBytes.{Appends, Keeps};
+ghost use Rattle.line_faults.specs.FaultNumbers.{fault_number};
+ghost use Rattle.text_definitions.specs.Output.{fault, output_text};
+ghost use Rattle.workspace.specs.Numbered.{IsNumbered, IsFew};
+ghost use Rattle.sessions.specs.Subjects.{IsOfText, StaysOn};
+ghost use Rattle.coherence.specs.Groups.{IsGroup};
 ghost use Rattle.coherence.specs.Lines.{WritesOutput, WritesPrefix};
-ghost use Rattle.coherence.specs.Progress.{WritesVerdict, WritesVerdictPrefix, WritesAnswer, WritesAnswerPrefix, WritesCrates, WritesCratesPrefix, WritesQuestions, WritesQuestionsPrefix, WritesAnswers, WritesAnswersPrefix};
+ghost use Rattle.coherence.specs.Progress.{KeepsLines, WritesVerdict, WritesVerdictPrefix, WritesCrates, WritesCratesPrefix, WritesAnswers, WritesAnswersPrefix};
+ghost use Rattle.coherence.specs.Streams.{AppendsPrefix, ConsumesAtMost};
 
-use crate::limits::Limits;
-use crate::lines::{crate_output, prove_output, write_line};
-use crate::questions::question_at;
-use crate::session::Session;
+use crate::groups::{Group, questions_by_crate};
+use crate::kept::{KeptLine, keep_answers, no_lines, write_questions};
+use crate::lines::verdict_line;
 use crate::status::{RunFault, Status};
-use crate::streams::{READ_LIMIT, read_text};
-use coherence_text::{Output, TextError, Workspace, parse};
+use crate::streams::{READ_LIMIT, read_text, write_text};
+use answer_lines::{Answer, print_line};
+use sessions::{Limits, Session};
 use std::alloc::Global;
 use std::io::{Read, Write};
+use text_reader::{TextError, TextFault, first_bytes, parse};
 use type_terms::CrateId;
+use workspace::{ENTRY_LIMIT, Workspace};
 
 /// The crate at a place of the text.
-pub fn crate_at(workspace: &Workspace, place: usize) -> CrateId
+fn crate_at(workspace: &Workspace, place: usize) -> CrateId
     requires { place < length workspace.now.crates }
     ensures { result.index ≡ place }
 {
     workspace.crates()[place]
 }
 
-/// Judges a crate, and writes its line.
+/// Judges the session's crate, and writes its line.
 fn write_verdict<W: Write>(
+    alloc: Global,
+    session: &mut Session<'_>,
+    workspace: &Workspace,
+    id: CrateId,
+    writer: &mut W,
+) -> Result<(), RunFault>
+    requires on { session.old.declarations ≡ workspace.now }
+    requires of_crate { session.old.of_crate ≡ id.index }
+    requires numbered { IsNumbered workspace.now }
+    requires declared { id.index < length workspace.now.crates }
+    ensures whole { OnOk result (WritesVerdict session.old.depth workspace.now id.index (W.contents writer.old) (W.contents writer.new)) }
+    ensures prefix { OnErr result (WritesVerdictPrefix session.old.depth workspace.now id.index (W.contents writer.old) (W.contents writer.new)) }
+    ensures stays { StaysOn session.old session.new }
+    ensures written { IfErr result (λ fault. fault ≢ RunFault.Read) }
+{
+    let verdict = session.check_crate()?;
+    let line = verdict_line(alloc, session.interner(), workspace, id, &verdict)?;
+    write_text(writer, &line)?;
+    Ok(())
+}
+
+/// Judges a crate and writes its line, and keeps the lines of its questions: by one session, which sees the crate's view.
+fn judge_crate<W: Write>(
     alloc: Global,
     workspace: &Workspace,
     id: CrateId,
     limits: Limits,
+    group: &Group,
+    lines: &mut Vec<KeptLine>,
     writer: &mut W,
 ) -> Result<(), RunFault>
     requires parsed { IsOfText workspace.now }
     requires numbered { IsNumbered workspace.now }
+    requires few { IsFew workspace.now ENTRY_LIMIT }
     requires declared { id.index < length workspace.now.crates }
+    requires group { IsGroup (length workspace.now.questions) workspace.now id.index group.now.places.items }
+    requires kept { KeepsLines limits.depth workspace.now id.index lines.old.items }
     ensures whole { OnOk result (WritesVerdict limits.depth workspace.now id.index (W.contents writer.old) (W.contents writer.new)) }
+    ensures kept { OnOk result (KeepsLines limits.depth workspace.now (id.index + 1) lines.new.items) }
     ensures prefix { OnErr result (WritesVerdictPrefix limits.depth workspace.now id.index (W.contents writer.old) (W.contents writer.new)) }
     ensures written { IfErr result (λ fault. fault ≢ RunFault.Read) }
 {
     let mut session = Session::new(alloc, workspace, id, limits)?;
-    let verdict = session.check_crate()?;
-    write_line(alloc, writer, &crate_output(workspace, id, verdict))?;
+    write_verdict(alloc, &mut session, workspace, id, writer)?;
+    keep_answers(alloc, &mut session, workspace, group, lines)?;
     Ok(())
 }
 
-/// Writes a line for each crate but `core`, in the order of the text.
-fn write_verdicts<W: Write>(
+/// Keeps the lines of questions that ask in `core`, which has no line of its own.
+fn answer_core(
     alloc: Global,
     workspace: &Workspace,
     limits: Limits,
+    group: &Group,
+    lines: &mut Vec<KeptLine>,
+) -> Result<(), RunFault>
+    requires parsed { IsOfText workspace.now }
+    requires numbered { IsNumbered workspace.now }
+    requires few { IsFew workspace.now ENTRY_LIMIT }
+    requires group { IsGroup (length workspace.now.questions) workspace.now 0 group.now.places.items }
+    requires kept { KeepsLines limits.depth workspace.now 0 lines.old.items }
+    ensures kept { OnOk result (KeepsLines limits.depth workspace.now 1 lines.new.items) }
+    ensures written { IfErr result (λ fault. fault ≢ RunFault.Read) }
+{
+    if group.places.is_empty() {
+        return Ok(());
+    }
+    let mut session = Session::new(alloc, workspace, crate_at(workspace, 0), limits)?;
+    keep_answers(alloc, &mut session, workspace, group, lines)?;
+    Ok(())
+}
+
+/// Writes a line for each crate but `core`, in the order of the text, and keeps the lines of all questions.
+fn write_crates<W: Write>(
+    alloc: Global,
+    workspace: &Workspace,
+    limits: Limits,
+    lines: &mut Vec<KeptLine>,
     writer: &mut W,
 ) -> Result<(), RunFault>
     requires parsed { IsOfText workspace.now }
     requires numbered { IsNumbered workspace.now }
+    requires few { IsFew workspace.now ENTRY_LIMIT }
+    requires kept { KeepsLines limits.depth workspace.now 0 lines.old.items }
     ensures whole { OnOk result (WritesCrates limits.depth workspace.now (length workspace.now.crates - 1) (W.contents writer.old) (W.contents writer.new)) }
+    ensures kept { OnOk result (KeepsLines limits.depth workspace.now (length workspace.now.crates) lines.new.items) }
     ensures prefix { OnErr result (WritesCratesPrefix limits.depth workspace.now (W.contents writer.old) (W.contents writer.new)) }
     ensures written { IfErr result (λ fault. fault ≢ RunFault.Read) }
 {
+    let groups = questions_by_crate(alloc, workspace)?;
+    answer_core(alloc, workspace, limits, &groups[0], lines)?;
     for place in 0..workspace.crates().len() - 1 {
         let id = crate_at(workspace, place + 1);
-        write_verdict(alloc, workspace, id, limits, writer)?;
-    }
-    Ok(())
-}
-
-/// Answers the question at a place of the text, and writes its line.
-fn write_answer<W: Write>(
-    alloc: Global,
-    workspace: &Workspace,
-    place: usize,
-    limits: Limits,
-    writer: &mut W,
-) -> Result<(), RunFault>
-    requires parsed { IsOfText workspace.now }
-    requires numbered { IsNumbered workspace.now }
-    requires few { IsFew workspace.now 1048578 }
-    requires there { place < length workspace.now.questions }
-    ensures whole { OnOk result (WritesAnswer workspace.now place (W.contents writer.old) (W.contents writer.new)) }
-    ensures prefix { OnErr result (WritesAnswerPrefix workspace.now place (W.contents writer.old) (W.contents writer.new)) }
-    ensures written { IfErr result (λ fault. fault ≢ RunFault.Read) }
-{
-    let question = question_at(workspace, place);
-    let mut session = Session::new(alloc, workspace, question.asker, limits)?;
-    let number = place as u32 + 1;
-    let answer = session.prove(number)?;
-    write_line(alloc, writer, &prove_output(number, answer))?;
-    Ok(())
-}
-
-/// Writes a line for each question, in the order of the text.
-fn write_questions<W: Write>(
-    alloc: Global,
-    workspace: &Workspace,
-    limits: Limits,
-    writer: &mut W,
-) -> Result<(), RunFault>
-    requires parsed { IsOfText workspace.now }
-    requires numbered { IsNumbered workspace.now }
-    requires few { IsFew workspace.now 1048578 }
-    ensures whole { OnOk result (WritesQuestions workspace.now (length workspace.now.questions) (W.contents writer.old) (W.contents writer.new)) }
-    ensures prefix { OnErr result (WritesQuestionsPrefix workspace.now (W.contents writer.old) (W.contents writer.new)) }
-    ensures written { IfErr result (λ fault. fault ≢ RunFault.Read) }
-{
-    for place in 0..workspace.question_entries().len() {
-        write_answer(alloc, workspace, place, limits, writer)?;
+        judge_crate(
+            alloc,
+            workspace,
+            id,
+            limits,
+            &groups[place + 1],
+            lines,
+            writer,
+        )?;
     }
     Ok(())
 }
@@ -126,8 +153,22 @@ fn write_answers<W: Write>(
     ensures written { IfErr result (λ fault. fault ≢ RunFault.Read) }
 {
     let _crates = workspace.crates();
-    write_verdicts(alloc, workspace, limits, writer)?;
-    write_questions(alloc, workspace, limits, writer)?;
+    let mut lines = no_lines(alloc, workspace)?;
+    write_crates(alloc, workspace, limits, &mut lines, writer)?;
+    write_questions(workspace, &lines, limits.depth, writer)?;
+    Ok(())
+}
+
+/// Writes the line of a text's fault.
+fn write_fault<W: Write>(alloc: Global, found: TextFault, writer: &mut W) -> Result<(), RunFault>
+    ensures whole { OnOk result (Appends (W.contents writer.old) (W.contents writer.new) (output_text (fault found.line (fault_number found.kind)))) }
+    ensures prefix { AppendsPrefix (W.contents writer.old) (W.contents writer.new) (output_text (fault found.line (fault_number found.kind))) }
+    ensures written { IfErr result (λ fault. fault ≢ RunFault.Read) }
+{
+    let line = found.line;
+    let number = u32::from(found.kind.number());
+    let text = print_line(alloc, &Answer::Fault { line, number })?;
+    write_text(writer, &text)?;
     Ok(())
 }
 
@@ -145,11 +186,7 @@ fn answer_text<W: Write>(
     match parse(alloc, text) {
         Err(TextError::Memory) => Err(RunFault::Memory),
         Err(TextError::Text(fault)) => {
-            let output = Output::Fault {
-                line: fault.line,
-                kind: fault.kind,
-            };
-            write_line(alloc, writer, &output)?;
+            write_fault(alloc, fault, writer)?;
             Ok(Status::TextFault)
         }
         Ok(workspace) => {
@@ -179,6 +216,7 @@ pub fn run<R: Read, W: Write>(
     // So much is read at most, whatever comes.
     ensures bounded { ConsumesAtMost (R.remaining reader.old) (R.remaining reader.new) READ_LIMIT }
 {
+    first_bytes();
     let text = read_text(alloc, reader)?;
     let status = answer_text(alloc, &text, limits, writer)?;
     Ok(status)

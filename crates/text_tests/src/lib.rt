@@ -8,10 +8,4 @@ mod lines;
 #[cfg(test)]
 mod printed;
 #[cfg(test)]
-mod runs;
-#[cfg(test)]
-mod sessions;
-#[cfg(test)]
-mod texts;
-#[cfg(test)]
 mod whole_texts;

@@ -1,9 +1,9 @@
 use Rattle.std.proofs.Common.{sym, ◌∙◌, ap, Some, length, arith, ◌<◌}
 use Rattle.std.proofs.lemmas.List.{length-map}
 use Rattle.std.proofs.lemmas.Option.{slice_get-get_or}
-use Rattle.coherence_text.specs.Declarations.{NamedCrate}
+use Rattle.text_definitions.specs.Declarations.{NamedCrate}
 use Rattle.type_terms.specs.declared.CrateId.{CrateId}
-use Rattle.coherence.proofs.LineLaws.{crate-number}
+use Rattle.coherence.proofs.Places.{crate-number}
 use Rattle.coherence.proofs.text_run.crate_at.Goals as goal
 
 pub returns : goal.returns

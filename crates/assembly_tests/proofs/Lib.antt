@@ -1,0 +1,3 @@
+mod Readying
+mod Questions
+mod Rows

@@ -1,0 +1,21 @@
+-- Goals that are told to be decided.
+use Rattle.std.proofs.Common.{◌≡◌, ◌∙◌, ap, Bool, true, if◌then◌else◌, List, Some, None, IsTrue}
+use Rattle.type_terms.specs.Terms.{Entry}
+use Rattle.infer_table.specs.Goals.{GoalHeld}
+use Rattle.infer_table.specs.Inputs.{form_of}
+use Rattle.infer_table.specs.declared.input.CanonicalInput.{CanonicalInput}
+use Rattle.declarations.specs.Items.{Items, written}
+use Rattle.assembly_laws.specs.Asking.{asked}
+use Rattle.built_in_candidates.specs.Goals.{asked_of}
+use Rattle.candidate_assembly.specs.Fitting.{GoalFits, solving_of}
+use Rattle.candidate_assembly.specs.Ready.{IsReady, IsDecided, Decides}
+use Rattle.candidate_assembly.specs.Sections.{decided}
+use Rattle.candidate_assembly.specs.Solving.{meaning_for}
+
+module _ (es : List Entry) (d : Items) (g : CanonicalInput) where
+  pub told : (b : Bool) → IsReady es d → GoalHeld es g.goal → decided (meaning_for (solving_of es d) (form_of es g)) (asked (written es d) (form_of es g)) ≡ (if b then Some (asked_of es g) else None)
+      → (IsTrue b → GoalFits es d g) → b ≡ true → IsDecided es d g
+  told b ready held is fits e = record { ready = ready; goal = held; is = is ∙ ap (λ c. if c then Some (asked_of es g) else None) e; fits = fits e }
+
+  pub decides : IsDecided es d g → Decides es d g true
+  decides h = record { is = h.is; fits = λ _. h.fits }

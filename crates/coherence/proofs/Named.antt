@@ -1,0 +1,37 @@
+-- The impls that a verdict names are there.
+use Rattle.std.proofs.Common.{◌≡◌, ℕ, zero, suc, ◌<◌, List, [], ◌∷◌, map, length, Some, refl, sym, ap, ◌∙◌, subst}
+use Rattle.std.specs.List.{slice_get}
+use Rattle.std.proofs.lemmas.Option.{slice_get_within, same_Some}
+use Rattle.model.specs.Worlds.{ImplDecl, sees}
+use Rattle.model.specs.Terms.{erased_world, erased_impl}
+use Rattle.model.specs.Proofs.{In}
+use Rattle.model.proofs.Members.{in-filter}
+use Rattle.text_definitions.specs.Declarations.{Declarations, NamedImpl, world_of}
+use Rattle.workspace.specs.Numbered.{IsNumbered}
+use Rattle.sessions.specs.Promises.{IsVerdictOf, view_in}
+use Rattle.sessions.specs.Verdicts.{Verdict, accepted, orphan, overlap}
+use Rattle.coherence.specs.Progress.{NamesImpls}
+
+-- an element of a mapped list stands for one of the list
+mapped : {A B : Type 0} (f : A → B) (xs : List A) (k : ℕ) (y : B) → slice_get (map f xs) k ≡ Some y → (x : A) × (slice_get xs k ≡ Some x) × (f x ≡ y)
+mapped f [] k y h = absurd cc
+mapped f (x ∷ xs) zero y h = (x, refl, same_Some (f x) y h)
+mapped f (x ∷ xs) (suc k) y h = mapped f xs k y h
+
+-- an impl that a crate sees has its place for its number
+place : (d : Declarations) (c : ℕ) (i : ImplDecl) → IsNumbered d → In i (view_in d c).impls → i.name < length d.impls
+place d c i n h =
+    let W = erased_world (world_of d) in
+    let seen = in-filter (λ (x : ImplDecl). sees W c x.home) W.impls i h in
+    let written = mapped erased_impl (world_of d).impls seen.0.0 i seen.0.1 in
+    let named = mapped (λ (x : NamedImpl). x.item) d.impls seen.0.0 written.0 written.1 in
+    let number : i.name ≡ seen.0.0 = ap (λ (x : ImplDecl). x.name) (sym written.2) ∙ ap (λ (x : ImplDecl). x.name) (sym named.2) ∙ (n.impls seen.0.0 named.0 named.1).0 in
+    subst (λ k. k < length d.impls) (sym number) (slice_get_within d.impls seen.0.0 named.0 named.1)
+
+pub names : (limit : ℕ) (d : Declarations) (c : ℕ) (v : Verdict) → IsNumbered d → IsVerdictOf limit d c v → NamesImpls d v
+names limit d c accepted n h = tt
+names limit d c (orphan k e) n h = subst (λ m. m < length d.impls) h.number (place d c h.found n h.broken.stands)
+names limit d c (overlap k j) n h = (
+  subst (λ m. m < length d.impls) h.1.later_number (place d c h.1.later n h.1.pair.stands),
+  subst (λ m. m < length d.impls) h.1.earlier_number (place d c h.1.earlier n h.1.pair.partner),
+)

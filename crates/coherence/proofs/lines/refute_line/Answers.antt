@@ -1,0 +1,16 @@
+use Rattle.sessions.specs.Given.{refutation_of}
+use Rattle.sessions.specs.declared.answers.RefuteAnswer.TheVariants.{No, Open}
+use Rattle.coherence.specs.Lines.{of_refute}
+use Rattle.coherence.proofs.Answered.{refuted-of}
+use Rattle.coherence.proofs.lines.refute_line.Goals as goal
+use Rattle.coherence.proofs.lines.refute_line.Goals.{in-No+in_ok-line-in-No, in-Open+in_ok-line-in-Open}
+
+pub returns-clause-line : goal.returns-clause-line
+returns-clause-line c q asks =
+    let s = c.args.session.now in
+    let d = c.args.workspace.now in
+    let refuted = refuted-of s d c.args.number (refutation_of c.in_ok-answer.answer) c.requires.on c.in_ok-answer.ensures.answer q asks in
+    elim c.match-answer.branch [
+      | in-No+in_ok-line-in-No w ↦ (_, of_refute (refutation_of No) asks.refutes (rw w.in-No.is at refuted), rw w.line-is w.in_ok-line-in-No.ensures)
+      | in-Open+in_ok-line-in-Open w ↦ (_, of_refute (refutation_of Open) asks.refutes (rw w.in-Open.is at refuted), rw w.line-is w.in_ok-line-in-Open.ensures)
+    ]
