@@ -1,5 +1,5 @@
 //! A look at two headers that tells most pairs apart, before anything is made of them.
-ghost use Rattle.std.specs.Prelude.{◌≡◌, true, bit_and};
+ghost use Rattle.std.specs.Prelude.{◌≡◌, ◌≢◌, true, false, bit_and};
 ghost use Rattle.model.specs.Trees.{flags};
 ghost use Rattle.type_terms.specs.Terms.{Has, types, consts, trees_at};
 ghost use Rattle.type_terms.specs.Kinds.{ArgHeld, ArgsHeld, arg_trees, args_trees};
@@ -17,8 +17,9 @@ use type_terms::kinds::{Const, GenericArgKind, Ty};
 const OPEN_FLAGS: u32 = TypeFlags::HAS_RE_STATIC.0 - 1;
 
 /// Whether flags tell that no parameter, no variable and no lifetime but `'static` stands in a term, and that no binder counts its lifetimes.
-fn is_fixed(flags: TypeFlags) -> bool
-    ensures { result ≡ true → bit_and flags.0 open_flags ≡ 0 }
+pub fn is_fixed(flags: TypeFlags) -> bool
+    ensures fixed { result ≡ true → bit_and flags.0 open_flags ≡ 0 }
+    ensures not_fixed { result ≡ false → bit_and flags.0 open_flags ≢ 0 }
 {
     flags.0 & OPEN_FLAGS == 0
 }

@@ -1,6 +1,6 @@
 //! The impls with which an impl may overlap: those of its trait, and of these those that can match its self type.
 
-ghost use Rattle.std.specs.Prelude.{◌≡◌, ◌≤◌, ◌+◌, ◌++◌, ◌∷◌, [], true, IfOk, OnOk, if◌then◌else◌, bit_and};
+ghost use Rattle.std.specs.Prelude.{◌≡◌, ◌≢◌, ◌≤◌, ◌+◌, ◌++◌, ◌∷◌, [], true, false, IfOk, OnOk, if◌then◌else◌, bit_and};
 ghost use Rattle.model.specs.Terms.{erased_impl};
 ghost use Rattle.model.specs.Trees.{flags};
 ghost use Rattle.model.specs.Worlds.{ImplDecl};
@@ -15,24 +15,22 @@ ghost use Rattle.sessions.specs.ByTrait.{is_group, listed, IsOwnGroup, IsListed,
 use declarations::declarations::Declarations;
 use declarations::items::ImplDef;
 use declarations::simplify::{SimplifiedType, simplify_type};
+use overlap_check::heads::is_fixed;
 use std::alloc::Global;
 use std::collections::HashMap;
 use term_folds::predicate::TraitRef;
-use type_terms::flags::TypeFlags;
 use type_terms::interner::Interner;
 use type_terms::kinds::{GenericArgs, Ty};
 use type_terms::{Fault, ImplId, TraitId};
-
-/// All flags but that of `'static`, which is the greatest: of what is open, of other lifetimes, and of binders that count theirs.
-const OPEN_FLAGS: u32 = TypeFlags::HAS_RE_STATIC.0 - 1;
 
 /// Whether the arguments of a header are closed: no parameter, no variable and no lifetime but `'static` stands in them, and no binder
 /// in them counts its lifetimes. Their flags tell, and no type is walked.
 fn is_closed(cx: &Interner, args: GenericArgs) -> bool
     requires { Has cx.now.entries args_lists args.0 }
-    ensures { result ≡ true → bit_and (flags (trees_at cx.now.entries args.0)) open_flags ≡ 0 }
+    ensures closed { result ≡ true → bit_and (flags (trees_at cx.now.entries args.0)) open_flags ≡ 0 }
+    ensures not_closed { result ≡ false → bit_and (flags (trees_at cx.now.entries args.0)) open_flags ≢ 0 }
 {
-    cx.flags(args).0 & OPEN_FLAGS == 0
+    is_fixed(cx.flags(args))
 }
 
 /// Impls that are looked for together.

@@ -155,7 +155,8 @@ impl<'w> Session<'w> {
         first_broken_header(&mut self.cx, end)
     }
 
-    /// The first pair that the crate brings together and that overlaps, by the numbers of its impls; these are below `end`.
+    /// A pair that the crate brings together and that overlaps, if there is one: that of the smallest number of an own impl, though
+    /// what is said of it holds of any. The numbers are below `end`.
     fn first_overlap(&mut self, end: u32) -> Result<Option<(ImplId, ImplId)>, Fault>
         requires end { end ≡ length self.old.declarations.impls }
         requires in_range { end ≤ MAX_INDEX + 1 }
@@ -202,7 +203,7 @@ impl<'w> Session<'w> {
         )
     }
 
-    /// The first impl with which an impl of the crate overlaps, by number.
+    /// An impl with which an impl of the crate overlaps, if there is one: that of the smallest number.
     fn first_partner(
         &mut self,
         impls: &ImplsByTrait,

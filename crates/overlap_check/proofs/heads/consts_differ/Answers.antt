@@ -11,8 +11,8 @@ returns-then-is_fixed c = λ r.
     let es = c.args.cx.now.entries in
     elim c.if-ne.branch [
       | then-ne w ↦ fixed-differ (trees_at es c.args.left.0) (trees_at es c.args.right.0)
-          (subst (λ n. bit_and n open_flags ≡ 0) w.flags.ensures (w.is_fixed.ensures (sym w.value-is ∙ c.if-is_fixed.true)))
-          (subst (λ n. bit_and n open_flags ≡ 0) c.flags-then-is_fixed.ensures (c.is_fixed-then-is_fixed.ensures r))
+          (subst (λ n. bit_and n open_flags ≡ 0) w.flags.ensures (w.is_fixed.ensures.fixed (sym w.value-is ∙ c.if-is_fixed.true)))
+          (subst (λ n. bit_and n open_flags ≡ 0) c.flags-then-is_fixed.ensures (c.is_fixed-then-is_fixed.ensures.fixed r))
           (λ e. consts-differ c.args.left c.args.right c.ne.result c.ne.ensures w.if-ne.true (one-handle es c.lawful.ensures consts c.args.left.0 c.args.right.0 c.requires.left c.requires.right e))
       | else-ne w ↦ absurd (false-true (sym (w.value-is ∙ w.if-ne.false) ∙ c.if-is_fixed.true))
     ]

@@ -10,8 +10,8 @@ pub returns-then-is_fixed-2 : goal.returns-then-is_fixed-2
 returns-then-is_fixed-2 c = λ _.
     let es = c.args.cx.now.entries in
     fixed-differ (trees_at es c.args.left.0) (trees_at es c.args.right.0)
-    (subst (λ n. bit_and n open_flags ≡ 0) c.flags.ensures (c.is_fixed.ensures c.if-is_fixed.true))
-    (subst (λ n. bit_and n open_flags ≡ 0) c.flags-then-is_fixed.ensures (c.is_fixed-then-is_fixed.ensures c.if-is_fixed-2.true))
+    (subst (λ n. bit_and n open_flags ≡ 0) c.flags.ensures (c.is_fixed.ensures.fixed c.if-is_fixed.true))
+    (subst (λ n. bit_and n open_flags ≡ 0) c.flags-then-is_fixed.ensures (c.is_fixed-then-is_fixed.ensures.fixed c.if-is_fixed-2.true))
     (λ e. types-differ c.args.left c.args.right c.eq.result c.eq.ensures c.if-eq.false (one-handle es c.lawful.ensures types c.args.left.0 c.args.right.0 c.requires.left c.requires.right e))
 
 pub returns-in-Some-Some : goal.returns-in-Some-Some

@@ -7,7 +7,7 @@ use Rattle.sessions.proofs.ByTrait.{closed-group, open-group}
 use Rattle.sessions.proofs.by_trait.own_group.Goals as goal
 
 pub returns-then-is_closed : goal.returns-then-is_closed
-returns-then-is_closed c = λ id. closed-group c.args.cx.now.entries id c.args.def.now c.requires.header (c.is_closed.ensures c.if-is_closed.true)
+returns-then-is_closed c = λ id. closed-group c.args.cx.now.entries id c.args.def.now c.requires.header (c.is_closed.ensures.closed c.if-is_closed.true)
 
 pub returns-else-is_closed : goal.returns-else-is_closed
 returns-else-is_closed c = λ id.

@@ -44,7 +44,7 @@ returns-in-Some-simplify_type c =
     let is = c.in-Some-simplify_type.ensures ∙ ap head_of first ∙ head-of-first (trees_at es def.header.args.0) is_held.begins in
     ok-of-three (λ ids. HaveNumbers (names_of (listed m (Closed def.header))) ids.items) (λ ids. HaveNumbers (names_of (listed m (Open def.header.def_id (Some head)))) ids.items)
     (λ ids. HaveNumbers (names_of (listed m (Open def.header.def_id None))) ids.items) (λ ids. HavePartners (declared es d) d.local c.args.later.index ids.items) c.partners_of_closed.result
-    (λ ids. closed-partners es c.lawful.ensures d c.args.later def (c.in-Some.ensures.found es) is_held.header (c.is_closed.ensures c.if-is_closed.true) head is m c.requires.listed ids.items)
+    (λ ids. closed-partners es c.lawful.ensures d c.args.later def (c.in-Some.ensures.found es) is_held.header (c.is_closed.ensures.closed c.if-is_closed.true) head is m c.requires.listed ids.items)
     c.partners_of_closed.ensures.same c.partners_of_closed.ensures.headed c.partners_of_closed.ensures.blanket
 
 pub returns-in-Some-2 : goal.returns-in-Some-2
