@@ -7,3 +7,4 @@ mod CoreLemmas
 mod Stacks
 mod Lowering
 mod CellLists
+mod Refusals

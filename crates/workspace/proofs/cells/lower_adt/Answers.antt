@@ -1,6 +1,8 @@
-use Rattle.std.proofs.Common.{subst}
+use Rattle.std.proofs.Common.{subst, arith, ap, Err}
+use Rattle.type_terms.specs.Terms.{args_lists, types}
 use Rattle.workspace.specs.Stack.{stack_of, StackHeld}
 use Rattle.workspace.proofs.Lowering.{held-pushed, args-held, adt-lowers}
+use Rattle.workspace.proofs.Refusals.{refused-term}
 use Rattle.workspace.proofs.cells.lower_adt.Goals as goal
 
 pub mk_args-requires : goal.mk_args-requires
@@ -10,3 +12,13 @@ pub returns-clause-lowers : goal.returns-clause-lowers
 returns-clause-lowers c =
     adt-lowers c.args.id c.args.args c.in_ok-list.list.items c.args.cx.now.entries _ _ (stack_of c.args.stack.now.items) _ c.in_ok-args.args.0 c.in_ok-ty.ty c.in_ok-list.ensures.pushed c.in_ok-list.ensures.count c.requires.held
     c.in_ok-args.ensures.is c.in_ok-args.ensures.keeps c.in_ok-ty.ensures.is c.in_ok-ty.ensures.keeps
+
+pub returns-in_err-args-clause-full : goal.returns-in_err-args-clause-full
+returns-in_err-args-clause-full c =
+    let refused = c.in_err-args.ensures in
+    refused-term args_lists c.from_residual-in_err-args.result (omega arith) c.from_residual-in_err-args.ensures.1 (λ p. refused.full (ap Err p)) refused.limit refused.refused
+
+pub returns-in_err-ty-clause-full : goal.returns-in_err-ty-clause-full
+returns-in_err-ty-clause-full c =
+    let refused = c.in_err-ty.ensures in
+    refused-term types c.from_residual-in_err-ty.result (omega arith) c.from_residual-in_err-ty.ensures.1 (λ p. refused.full (ap Err p)) refused.limit refused.refused

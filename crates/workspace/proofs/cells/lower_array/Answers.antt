@@ -1,7 +1,15 @@
+use Rattle.std.proofs.Common.{arith, ap, Err}
+use Rattle.type_terms.specs.Terms.{types}
 use Rattle.workspace.specs.Stack.{stack_of}
 use Rattle.workspace.proofs.Lowering.{array-lowers}
+use Rattle.workspace.proofs.Refusals.{refused-term}
 use Rattle.workspace.proofs.cells.lower_array.Goals as goal
 
 pub returns-clause-lowers : goal.returns-clause-lowers
 returns-clause-lowers c =
     array-lowers c.pop_type-item.result c.pop_const-len.result c.args.cx.now.entries _ (stack_of c.args.stack.now.items) _ _ c.in_ok-ty.ty c.pop_const-len.ensures c.pop_type-item.ensures c.requires.held c.in_ok-ty.ensures.is c.in_ok-ty.ensures.keeps
+
+pub returns-in_err-ty-clause-full : goal.returns-in_err-ty-clause-full
+returns-in_err-ty-clause-full c =
+    let refused = c.in_err-ty.ensures in
+    refused-term types c.from_residual.result (omega arith) c.from_residual.ensures.1 (λ p. refused.full (ap Err p)) refused.limit refused.refused

@@ -1,6 +1,14 @@
+use Rattle.std.proofs.Common.{arith, ap, Err}
+use Rattle.type_terms.specs.Terms.{consts}
 use Rattle.workspace.specs.Stack.{stack_of}
 use Rattle.workspace.proofs.Lowering.{const-lowers}
+use Rattle.workspace.proofs.Refusals.{refused-term}
 use Rattle.workspace.proofs.cells.lower_const.Goals as goal
 
 pub returns-clause-lowers : goal.returns-clause-lowers
 returns-clause-lowers c = const-lowers c.args.kind c.args.cx.now.entries _ c.in_ok-value.value c.in_ok-value.ensures.is c.in_ok-value.ensures.keeps (stack_of c.args.stack.now.items) c.requires.held
+
+pub returns-in_err-value-clause-full : goal.returns-in_err-value-clause-full
+returns-in_err-value-clause-full c =
+    let refused = c.in_err-value.ensures in
+    refused-term consts c.from_residual.result (omega arith) c.from_residual.ensures.1 (λ p. refused.full (ap Err p)) refused.limit refused.refused

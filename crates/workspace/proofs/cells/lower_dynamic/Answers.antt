@@ -1,5 +1,8 @@
+use Rattle.std.proofs.Common.{arith, ap, Err}
+use Rattle.type_terms.specs.Terms.{bounds_lists, types}
 use Rattle.workspace.specs.Stack.{stack_of}
 use Rattle.workspace.proofs.Lowering.{dyn-lowers, principal-made, principal-held}
+use Rattle.workspace.proofs.Refusals.{refused-term}
 use Rattle.workspace.proofs.cells.lower_dynamic.Goals as goal
 
 pub pop_principal-principal-requires : goal.pop_principal-principal-requires
@@ -17,3 +20,13 @@ returns-clause-lowers c =
     dyn-lowers c.args.has_principal c.args.autos c.in_ok-autos.autos.items c.pop_lifetime-region.result c.pop_principal-principal.result c.args.cx.now.entries _ _ (stack_of c.args.stack.now.items) _ _ _ c.in_ok-bounds.bounds.0 c.in_ok-ty.ty c.requires.made
     c.pop_lifetime-region.ensures c.in_ok-autos.ensures.count c.in_ok-autos.ensures.pushed c.pop_principal-principal.ensures c.requires.held
     c.in_ok-bounds.ensures.is c.in_ok-bounds.ensures.keeps c.in_ok-ty.ensures.is c.in_ok-ty.ensures.keeps
+
+pub returns-in_err-bounds-clause-full : goal.returns-in_err-bounds-clause-full
+returns-in_err-bounds-clause-full c =
+    let refused = c.in_err-bounds.ensures in
+    refused-term bounds_lists c.from_residual-in_err-bounds.result (omega arith) c.from_residual-in_err-bounds.ensures.1 (λ p. refused.full (ap Err p)) refused.limit refused.refused
+
+pub returns-in_err-ty-clause-full : goal.returns-in_err-ty-clause-full
+returns-in_err-ty-clause-full c =
+    let refused = c.in_err-ty.ensures in
+    refused-term types c.from_residual-in_err-ty.result (omega arith) c.from_residual-in_err-ty.ensures.1 (λ p. refused.full (ap Err p)) refused.limit refused.refused

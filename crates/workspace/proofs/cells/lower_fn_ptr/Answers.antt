@@ -1,8 +1,9 @@
-use Rattle.std.proofs.Common.{subst, ap, ◌∙◌}
+use Rattle.std.proofs.Common.{subst, ap, ◌∙◌, arith, Err}
 use Rattle.model.specs.Trees.{is_no_tree}
+use Rattle.type_terms.specs.Terms.{type_lists, types}
 use Rattle.workspace.specs.Stack.{stack_of, parts_in, StackHeld}
-use Rattle.type_terms.specs.Terms.{type_lists}
 use Rattle.workspace.proofs.Lowering.{held-pushed, tys-held, fn-lowers, fn-output, fn-made, is-tree}
+use Rattle.workspace.proofs.Refusals.{refused-term}
 use Rattle.workspace.proofs.cells.lower_fn_ptr.Goals as goal
 
 pub pop_types-requires : goal.pop_types-requires
@@ -23,3 +24,13 @@ pub returns-clause-lowers : goal.returns-clause-lowers
 returns-clause-lowers c =
     fn-lowers c.args.bound_vars c.args.types c.in_ok-list.list.items c.args.cx.now.entries _ _ (stack_of c.args.stack.now.items) _ c.in_ok-tys.tys.0 c.in_ok-ty.ty c.requires.made c.in_ok-list.ensures.pushed c.in_ok-list.ensures.count c.requires.held
     c.in_ok-tys.ensures.is c.in_ok-tys.ensures.keeps c.in_ok-ty.ensures.is c.in_ok-ty.ensures.keeps
+
+pub returns-in_err-tys-clause-full : goal.returns-in_err-tys-clause-full
+returns-in_err-tys-clause-full c =
+    let refused = c.in_err-tys.ensures in
+    refused-term type_lists c.from_residual-in_err-tys.result (omega arith) c.from_residual-in_err-tys.ensures.1 (λ p. refused.full (ap Err p)) refused.limit refused.refused
+
+pub returns-in_err-ty-clause-full : goal.returns-in_err-ty-clause-full
+returns-in_err-ty-clause-full c =
+    let refused = c.in_err-ty.ensures in
+    refused-term types c.from_residual-in_err-ty.result (omega arith) c.from_residual-in_err-ty.ensures.1 (λ p. refused.full (ap Err p)) refused.limit refused.refused

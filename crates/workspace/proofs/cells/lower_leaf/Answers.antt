@@ -1,5 +1,8 @@
+use Rattle.std.proofs.Common.{arith, ap, Err}
+use Rattle.type_terms.specs.Terms.{types}
 use Rattle.workspace.specs.Stack.{stack_of}
 use Rattle.workspace.proofs.Lowering.{leaf-lowers, leaf-held}
+use Rattle.workspace.proofs.Refusals.{refused-term}
 use Rattle.workspace.proofs.cells.lower_leaf.Goals as goal
 
 pub mk_ty-requires : goal.mk_ty-requires
@@ -7,3 +10,8 @@ mk_ty-requires c = leaf-held c.args.cell c.args.kind c.args.cx.now.entries c.req
 
 pub returns-clause-lowers : goal.returns-clause-lowers
 returns-clause-lowers c = leaf-lowers c.args.cell c.args.kind c.args.cx.now.entries _ c.in_ok-ty.ty c.requires.leaf c.in_ok-ty.ensures.is c.in_ok-ty.ensures.keeps (stack_of c.args.stack.now.items) c.requires.ready.held
+
+pub returns-in_err-ty-clause-full : goal.returns-in_err-ty-clause-full
+returns-in_err-ty-clause-full c =
+    let refused = c.in_err-ty.ensures in
+    refused-term types c.from_residual.result (omega arith) c.from_residual.ensures.1 (λ p. refused.full (ap Err p)) refused.limit refused.refused

@@ -1,6 +1,8 @@
-use Rattle.std.proofs.Common.{subst, refl}
+use Rattle.std.proofs.Common.{subst, refl, arith, ap, Err}
+use Rattle.type_terms.specs.Terms.{args_lists}
 use Rattle.workspace.specs.Stack.{stack_of, StackHeld}
 use Rattle.workspace.proofs.Lowering.{held-pushed, args-held, principal-lowers}
+use Rattle.workspace.proofs.Refusals.{refused-term}
 use Rattle.workspace.proofs.cells.lower_principal.Goals as goal
 
 pub mk_args-requires : goal.mk_args-requires
@@ -10,3 +12,8 @@ pub returns-clause-lowers : goal.returns-clause-lowers
 returns-clause-lowers c =
     principal-lowers c.args.bound_vars c.args.def_id c.args.args c.in_ok-list.list.items _ c.args.cx.now.entries _ (stack_of c.args.stack.now.items) _ refl refl c.in_ok-list.ensures.pushed c.in_ok-list.ensures.count c.requires.held
     c.in_ok-args.ensures.is c.in_ok-args.ensures.keeps
+
+pub returns-in_err-args-clause-full : goal.returns-in_err-args-clause-full
+returns-in_err-args-clause-full c =
+    let refused = c.in_err-args.ensures in
+    refused-term args_lists c.from_residual-in_err-args.result (omega arith) c.from_residual-in_err-args.ensures.1 (λ p. refused.full (ap Err p)) refused.limit refused.refused

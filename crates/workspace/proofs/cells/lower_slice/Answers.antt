@@ -1,9 +1,16 @@
-use Rattle.std.proofs.Common.{refl}
+use Rattle.std.proofs.Common.{refl, arith, ap, Err}
 use Rattle.model.specs.Label.{slice}
+use Rattle.type_terms.specs.Terms.{types}
 use Rattle.workspace.specs.declared.cell.TermCell.TheVariants as cells
 use Rattle.workspace.specs.Stack.{stack_of}
 use Rattle.workspace.proofs.Lowering.{over-lowers}
+use Rattle.workspace.proofs.Refusals.{refused-term}
 use Rattle.workspace.proofs.cells.lower_slice.Goals as goal
 
 pub returns-clause-lowers : goal.returns-clause-lowers
 returns-clause-lowers c = over-lowers cells.Slice slice c.pop_type-item.result c.args.cx.now.entries _ (stack_of c.args.stack.now.items) _ c.in_ok-ty.ty refl (λ T. refl) c.pop_type-item.ensures c.requires.held c.in_ok-ty.ensures.is c.in_ok-ty.ensures.keeps
+
+pub returns-in_err-ty-clause-full : goal.returns-in_err-ty-clause-full
+returns-in_err-ty-clause-full c =
+    let refused = c.in_err-ty.ensures in
+    refused-term types c.from_residual.result (omega arith) c.from_residual.ensures.1 (λ p. refused.full (ap Err p)) refused.limit refused.refused

@@ -1,9 +1,10 @@
-use Rattle.std.proofs.Common.{subst, sym, ◌∙◌}
+use Rattle.std.proofs.Common.{subst, sym, ap, ◌∙◌, Err, arith}
 use Rattle.type_terms.specs.Terms.{Is, args_lists}
 use Rattle.workspace.specs.Made.{is_arg}
 use Rattle.workspace.specs.Stack.{StackHeld, AllParts}
 use Rattle.workspace.proofs.Lowering.{args-held}
 use Rattle.workspace.proofs.CellLists.{all-parts, args-are, stack-held}
+use Rattle.workspace.proofs.Refusals.{handed-on, refused-term}
 use Rattle.workspace.proofs.lists.lower_args.Goals as goal
 
 pub args_in-requires : goal.args_in-requires
@@ -19,3 +20,11 @@ returns-clause-is c =
     let es = c.lower_cells.new.cx.entries in
     subst (λ t. Is c.mk_args.new.self.entries args_lists c.in_ok-args.args.0 t)
     (args-are es c.args.cells.now c.in_ok-stack.stack.items c.in_ok-list.list.items c.in_ok-stack.ensures.trees (c.in_ok-list.ensures ∙ c.deref.ensures.value)) c.in_ok-args.ensures.is
+
+pub returns-in_err-stack-clause-full : goal.returns-in_err-stack-clause-full
+returns-in_err-stack-clause-full c = handed-on c.from_residual.result c.from_residual.ensures.1 (λ p. c.in_err-stack.ensures.full (ap Err p))
+
+pub returns-in_err-args-clause-full : goal.returns-in_err-args-clause-full
+returns-in_err-args-clause-full c =
+    let refused = c.in_err-args.ensures in
+    refused-term args_lists c.from_residual-in_err-args.result (omega arith) c.from_residual-in_err-args.ensures.1 (λ p. refused.full (ap Err p)) refused.limit refused.refused
