@@ -30,3 +30,4 @@ mod ReadySeen
 pub mod Variables
 mod QuestionTypes
 mod QuestionTexts
+mod Refusals

@@ -1,7 +1,8 @@
 //! A struct, a trait, an impl.
-ghost use Rattle.std.specs.Prelude.{◌≡◌, ◌∷◌, true, map, IfOk};
+ghost use Rattle.std.specs.Prelude.{◌≡◌, ◌∷◌, true, map, Err, IfOk};
 ghost use Rattle.model.specs.Label.{of_type};
 ghost use Rattle.type_terms.specs.Terms.{Keeps};
+ghost use Rattle.term_folds.specs.Failures.{SomeKindIsFull};
 ghost use Rattle.declarations.specs.Applied.{sort_of_param};
 ghost use Rattle.declarations.specs.Heads.{begins_declared};
 ghost use Rattle.declarations.specs.Items.{struct_in, trait_in, impl_in};
@@ -31,6 +32,7 @@ pub(crate) fn lower_struct(
     ensures held { IfOk result (λ def. StructHeld cx.new.entries def) }
     ensures keeps { Keeps cx.old.entries cx.new.entries }
     ensures limit { cx.new.limit ≡ cx.old.limit }
+    ensures full { result ≡ Err Fault.Full → SomeKindIsFull cx.new.entries cx.new.limit }
 {
     let mut params = Vec::new(alloc);
     push_params(&mut params, &entry.params)?;
@@ -61,6 +63,7 @@ pub(crate) fn lower_trait(
     ensures held { IfOk result (λ def. TraitHeld cx.new.entries def) }
     ensures keeps { Keeps cx.old.entries cx.new.entries }
     ensures limit { cx.new.limit ≡ cx.old.limit }
+    ensures full { result ≡ Err Fault.Full → SomeKindIsFull cx.new.entries cx.new.limit }
 {
     let params = trait_params(alloc, &entry.params)?;
     let cells = plain_references(alloc, &entry.bounds, Kept::None)?;
@@ -100,6 +103,7 @@ pub(crate) fn lower_impl(
     ensures held { IfOk result (λ def. ImplHeld cx.new.entries def) }
     ensures keeps { Keeps cx.old.entries cx.new.entries }
     ensures limit { cx.new.limit ≡ cx.old.limit }
+    ensures full { result ≡ Err Fault.Full → SomeKindIsFull cx.new.entries cx.new.limit }
 {
     let params = impl_params(alloc, &entry.params)?;
     let plain_header = plain_reference(alloc, &entry.header, Kept::All)?;

@@ -1,6 +1,7 @@
 //! Parameters and references.
-ghost use Rattle.std.specs.Prelude.{◌≡◌, ◌++◌, [], ◌∷◌, map, IfOk, OnOk};
+ghost use Rattle.std.specs.Prelude.{◌≡◌, ◌++◌, [], ◌∷◌, map, Err, IfOk, OnOk};
 ghost use Rattle.type_terms.specs.Terms.{Keeps};
+ghost use Rattle.term_folds.specs.Failures.{SomeKindIsFull};
 ghost use Rattle.declarations.specs.Applied.{sort_of_param, references_in};
 ghost use Rattle.declarations.specs.Held.{ReferenceHeld};
 ghost use Rattle.declarations.specs.Items.{reference_in};
@@ -50,6 +51,7 @@ pub(crate) fn lower_reference(
     ensures held { IfOk result (λ trait_ref. ReferenceHeld cx.new.entries trait_ref) }
     ensures keeps { Keeps cx.old.entries cx.new.entries }
     ensures limit { cx.new.limit ≡ cx.old.limit }
+    ensures full { result ≡ Err Fault.Full → SomeKindIsFull cx.new.entries cx.new.limit }
 {
     let args = lower_args(alloc, cx, &cells.args)?;
     Ok(TraitRef {
@@ -69,6 +71,7 @@ pub(crate) fn lower_references(
     ensures held { IfOk result (λ refs. Each (ReferenceHeld cx.new.entries) refs.items) }
     ensures keeps { Keeps cx.old.entries cx.new.entries }
     ensures limit { cx.new.limit ≡ cx.old.limit }
+    ensures full { result ≡ Err Fault.Full → SomeKindIsFull cx.new.entries cx.new.limit }
 {
     let mut refs = Vec::new(alloc);
     for cells in list {

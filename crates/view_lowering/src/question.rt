@@ -1,9 +1,11 @@
 //! Questions.
-ghost use Rattle.std.specs.Prelude.{◌≡◌, [], map, IfOk};
+ghost use Rattle.std.specs.Prelude.{◌≡◌, ◌⊎◌, ◌+◌, ◌<◌, ◌≤◌, [], length, map, Err, OnOk, IfOk};
 ghost use Rattle.text_definitions.specs.Declarations.{Question};
 ghost use Rattle.text_definitions.specs.Names.{own_from};
 ghost use Rattle.type_terms.specs.Kinds.{arg_trees, ArgsHeld, ArgHeld};
 ghost use Rattle.type_terms.specs.Terms.{Keeps};
+ghost use Rattle.type_terms.specs.declared.TheConstants.{MAX_INDEX};
+ghost use Rattle.term_folds.specs.Failures.{SomeKindIsFull};
 ghost use Rattle.workspace.specs.Made.{ReferenceMade, ReferencesMade};
 ghost use Rattle.workspace.specs.Views.{question_of, variable_of};
 ghost use Rattle.view_lowering.specs.Questions.{IsQuestion, IsLowered, IsNextUnknown};
@@ -48,6 +50,8 @@ fn next_unknown(
     ensures held { IfOk result (λ arg. ArgHeld cx.new.entries arg) }
     ensures keeps { Keeps cx.old.entries cx.new.entries }
     ensures limit { cx.new.limit ≡ cx.old.limit }
+    ensures counted { OnOk result (counts.new.types + counts.new.consts ≤ counts.old.types + counts.old.consts + 1) }
+    ensures full { result ≡ Err Fault.Full → SomeKindIsFull cx.new.entries cx.new.limit ⊎ (MAX_INDEX ≤ counts.old.types + counts.old.consts) }
 {
     match kind {
         ParamKind::Lifetime => Ok(GenericArgKind::Lifetime(Region {
@@ -86,6 +90,7 @@ fn own_unknowns(
     ensures held { IfOk result (λ args. ArgsHeld cx.new.entries args.items) }
     ensures keeps { Keeps cx.old.entries cx.new.entries }
     ensures limit { cx.new.limit ≡ cx.old.limit }
+    ensures full { result ≡ Err Fault.Full → SomeKindIsFull cx.new.entries cx.new.limit ⊎ (MAX_INDEX < length variables.now) }
 {
     let mut unknowns = Vec::new(alloc);
     let mut counts = Counts {
@@ -110,6 +115,7 @@ fn lower_entry(
     ensures lowered { IfOk result (λ lowered. IsLowered cx.new.entries (question_of entry.now) lowered) }
     ensures keeps { Keeps cx.old.entries cx.new.entries }
     ensures limit { cx.new.limit ≡ cx.old.limit }
+    ensures full { result ≡ Err Fault.Full → SomeKindIsFull cx.new.entries cx.new.limit ⊎ (MAX_INDEX < length entry.now.variables.items) }
 {
     let plain_asked = plain_reference(alloc, &entry.asked, Kept::All)?;
     let asked = lower_reference(alloc, cx, &plain_asked)?;
@@ -123,8 +129,8 @@ fn lower_entry(
     })
 }
 
-/// The question with a number, counted from 1. The error is `Memory`, or `Full` where a table of the interner is full; the
-/// interner may then hold more terms than before.
+/// The question with a number, counted from 1. The error is `Memory`, or `Full` where a table of the interner is full or there are
+/// more variables than `MAX_INDEX`; the interner may then hold more terms than before.
 pub fn lower_question(
     alloc: Global,
     cx: &mut Interner,
@@ -135,6 +141,7 @@ pub fn lower_question(
     ensures lowered { (q : Question) → IsQuestion workspace.now number q → IfOk result (λ lowered. IsLowered cx.new.entries q lowered) }
     ensures keeps { Keeps cx.old.entries cx.new.entries }
     ensures limit { cx.new.limit ≡ cx.old.limit }
+    ensures full { (q : Question) → IsQuestion workspace.now number q → result ≡ Err Fault.Full → SomeKindIsFull cx.new.entries cx.new.limit ⊎ (MAX_INDEX < length q.variables) }
 {
     let entries = workspace.question_entries();
     lower_entry(alloc, cx, &entries[number as usize - 1])

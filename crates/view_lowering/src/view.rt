@@ -1,6 +1,7 @@
 //! The whole view of a crate.
-ghost use Rattle.std.specs.Prelude.{◌≡◌, ◌<◌, [], length, map, OnOk, IfOk};
+ghost use Rattle.std.specs.Prelude.{◌≡◌, ◌<◌, [], length, map, Err, OnOk, IfOk};
 ghost use Rattle.type_terms.specs.Terms.{Keeps};
+ghost use Rattle.term_folds.specs.Failures.{SomeKindIsFull};
 ghost use Rattle.declarations.specs.Held.{AreHeld};
 ghost use Rattle.declarations.specs.Items.{written, declared, struct_in, trait_in, impl_in};
 ghost use Rattle.view_lowering.specs.Plain.{plainly_seen_from};
@@ -30,6 +31,7 @@ fn lower_structs(
     ensures held { OnOk result (AreHeld cx.new.entries decls.new) }
     ensures keeps { Keeps cx.old.entries cx.new.entries }
     ensures limit { cx.new.limit ≡ cx.old.limit }
+    ensures full { result ≡ Err Fault.Full → SomeKindIsFull cx.new.entries cx.new.limit }
 {
     let _ = workspace.crates();
     let entries = workspace.structs();
@@ -59,6 +61,7 @@ fn lower_traits(
     ensures held { OnOk result (AreHeld cx.new.entries decls.new) }
     ensures keeps { Keeps cx.old.entries cx.new.entries }
     ensures limit { cx.new.limit ≡ cx.old.limit }
+    ensures full { result ≡ Err Fault.Full → SomeKindIsFull cx.new.entries cx.new.limit }
 {
     let _ = workspace.crates();
     let entries = workspace.traits();
@@ -89,6 +92,7 @@ fn lower_impls(
     ensures held { OnOk result (AreHeld cx.new.entries decls.new) }
     ensures keeps { Keeps cx.old.entries cx.new.entries }
     ensures limit { cx.new.limit ≡ cx.old.limit }
+    ensures full { result ≡ Err Fault.Full → SomeKindIsFull cx.new.entries cx.new.limit }
 {
     let _ = workspace.crates();
     let entries = workspace.impls();
@@ -122,6 +126,7 @@ pub fn lower(
     ensures held { IfOk result (λ decls. AreHeld cx.new.entries decls) }
     ensures keeps { Keeps cx.old.entries cx.new.entries }
     ensures limit { cx.new.limit ≡ cx.old.limit }
+    ensures full { result ≡ Err Fault.Full → SomeKindIsFull cx.new.entries cx.new.limit }
 {
     let mut decls = Declarations::new(alloc, crate_id);
     lower_structs(alloc, cx, workspace, crate_id, &mut decls)?;

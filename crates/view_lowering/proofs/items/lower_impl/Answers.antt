@@ -1,9 +1,10 @@
-use Rattle.std.proofs.Common.{◌≡◌, ℕ, List, [], ◌∷◌, map, length, refl, subst, sym, ap, ◌∙◌}
+use Rattle.std.proofs.Common.{◌≡◌, ℕ, List, [], ◌∷◌, map, length, refl, subst, sym, ap, ◌∙◌, Err}
 use Rattle.std.proofs.lemmas.List.{length-map}
 use Rattle.model.specs.Worlds.{ImplDecl, Reference}
 use Rattle.declarations.specs.Applied.{sort_of_param}
 use Rattle.declarations.specs.Heads.{begins_declared}
 use Rattle.declarations.proofs.Growth.{reference-kept, reference-same, args-same}
+use Rattle.infer_table.proofs.FullFacts.{handed-on}
 use Rattle.workspace.specs.Made.{ReferencesMade, is_arg}
 use Rattle.workspace.specs.Views.{sort_of_kind, sorted_params, reference_of}
 use Rattle.workspace.specs.declared.declared.Param.{Param}
@@ -52,3 +53,9 @@ returns-clause-held c =
 
 pub returns-clause-sorts : goal.returns-clause-sorts
 returns-clause-sorts c = c.in_ok-params.ensures ∙ ap (map (λ p. sort_of_kind p.kind)) c.deref.ensures.value ∙ sym (twice c.args.entry.now.params.items)
+
+pub returns-in_err-header-clause-full : goal.returns-in_err-header-clause-full
+returns-in_err-header-clause-full c = handed-on c.from_residual-in_err-header.result c.from_residual-in_err-header.ensures.1 (λ p. c.in_err-header.ensures.full (ap Err p))
+
+pub returns-in_err-clauses-clause-full : goal.returns-in_err-clauses-clause-full
+returns-in_err-clauses-clause-full c = handed-on c.from_residual-in_err-clauses.result c.from_residual-in_err-clauses.ensures.1 (λ p. c.in_err-clauses.ensures.full (ap Err p))

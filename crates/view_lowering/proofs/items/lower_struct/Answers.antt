@@ -1,4 +1,5 @@
-use Rattle.std.proofs.Common.{ap, sym, subst, ◌∙◌, map}
+use Rattle.std.proofs.Common.{ap, sym, subst, ◌∙◌, map, Err}
+use Rattle.infer_table.proofs.FullFacts.{handed-on}
 use Rattle.workspace.specs.Made.{AreMade, is_type}
 use Rattle.workspace.specs.TermCells.{trees_of}
 use Rattle.workspace.specs.Views.{cells_of}
@@ -6,6 +7,7 @@ use Rattle.view_lowering.specs.Plain.{none_kept, plain}
 use Rattle.view_lowering.specs.PlainCells.{plain_cell}
 use Rattle.view_lowering.proofs.Plainly.{trees-plain}
 use Rattle.view_lowering.proofs.Structs.{struct-lowered}
+use Rattle.view_lowering.proofs.Refusals.{some-kind, never-full}
 use Rattle.view_lowering.proofs.items.lower_struct.Goals as goal
 
 pub lower_types-requires : goal.lower_types-requires
@@ -16,3 +18,9 @@ returns-clause-is c =
     let cs = cells_of c.args.entry.now.fields.items in
     struct-lowered c.lower_types.new.cx.entries c.args.entry.now.id c.new.result c.args.entry.now.owner c.args.entry.now.is_fundamental c.in_ok-fields.fields (map (plain none_kept) (trees_of cs)) c.new.ensures.home c.new.ensures.is_fundamental c.new.ensures.fields
     (c.in_ok-fields.ensures.is ∙ ap (λ x. trees_of (cells_of x)) c.deref-3.ensures.value ∙ ap trees_of (c.in_ok-cells.ensures.are ∙ ap (λ x. map (plain_cell none_kept) (cells_of x)) c.deref-2.ensures.value) ∙ trees-plain none_kept cs)
+
+pub returns-in_err-fields-clause-full : goal.returns-in_err-fields-clause-full
+returns-in_err-fields-clause-full c = handed-on c.from_residual-in_err-fields.result c.from_residual-in_err-fields.ensures.1 (λ p. some-kind (c.in_err-fields.ensures.full (ap Err p)))
+
+pub returns-clause-full : goal.returns-clause-full
+returns-clause-full c = never-full c.new.result c.new.ensures.memory

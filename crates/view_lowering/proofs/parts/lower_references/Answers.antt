@@ -1,7 +1,8 @@
-use Rattle.std.proofs.Common.{◌∙◌, ap, sym, subst, refl}
+use Rattle.std.proofs.Common.{◌∙◌, ap, sym, subst, refl, Err}
 use Rattle.std.proofs.lemmas.Option.{slice_get_read}
 use Rattle.declarations.specs.Applied.{references_in, AllHeld}
 use Rattle.declarations.proofs.Bounded.{held-more}
+use Rattle.infer_table.proofs.FullFacts.{handed-on}
 use Rattle.view_lowering.proofs.References.{one-more-lowered}
 use Rattle.view_lowering.proofs.parts.lower_references.Goals as goal
 
@@ -28,3 +29,6 @@ loop-cells-preserved c =
       are = ap (references_in new) put ∙ one-more-lowered old new k rs r c.args.list.now i x inv.held e inv.are c.in_ok-trait_ref.ensures.is;
       held = subst (AllHeld new) (sym put) (held-more old new k rs r inv.held c.in_ok-trait_ref.ensures.held);
     }
+
+pub returns-in_err-trait_ref-clause-full : goal.returns-in_err-trait_ref-clause-full
+returns-in_err-trait_ref-clause-full c = handed-on c.from_residual.result c.from_residual.ensures.1 (λ p. c.in_err-trait_ref.ensures.full (ap Err p))

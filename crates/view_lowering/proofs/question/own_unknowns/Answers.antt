@@ -1,8 +1,10 @@
-use Rattle.std.proofs.Common.{◌∙◌, ◌+◌, ◌++◌, ◌∷◌, ap, sym, subst, map, drop, ◌≡◌, refl}
+use Rattle.std.proofs.Common.{◌∙◌, ◌+◌, ◌++◌, ◌∷◌, ap, sym, subst, map, drop, ◌≡◌, refl, arith, Err}
 use Rattle.text_definitions.specs.Names.{own_from}
 use Rattle.type_terms.specs.Kinds.{arg_trees, ArgsHeld}
+use Rattle.infer_table.proofs.FullFacts.{handed-on}
 use Rattle.workspace.specs.Views.{variable_of}
 use Rattle.view_lowering.proofs.Unknowns.{unknowns-further, args-more, next-left}
+use Rattle.view_lowering.proofs.Refusals.{past-all}
 use Rattle.view_lowering.proofs.question.own_unknowns.Goals as goal
 
 pub loop-variable-preserved : goal.loop-variable-preserved
@@ -29,4 +31,8 @@ loop-variable-preserved c =
       limit = c.next_unknown.ensures.limit ∙ inv.limit;
       are = ap (λ l. map (arg_trees new) l ++ rest) put ∙ unknowns-further old new k us u left rest (own_from 0 0 (map variable_of vs)) inv.held inv.are cut;
       held = subst (ArgsHeld new) (sym put) (args-more old new k us u inv.held c.in_ok-unknown.ensures.held);
+      counted = let one = c.in_ok-unknown.ensures.counted in let all = inv.counted in omega (arith, one, all);
     }
+
+pub returns-in_err-unknown-clause-full : goal.returns-in_err-unknown-clause-full
+returns-in_err-unknown-clause-full c = handed-on c.from_residual.result c.from_residual.ensures.1 (λ p. past-all c.loop-variable.invariant.counted c.loop-variable-test.true (c.in_err-unknown.ensures.full (ap Err p)))

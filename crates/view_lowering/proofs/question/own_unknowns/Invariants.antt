@@ -1,4 +1,4 @@
-use Rattle.std.proofs.Common.{◌≡◌, ◌++◌, map, drop}
+use Rattle.std.proofs.Common.{◌≡◌, ◌≤◌, ◌+◌, ◌++◌, map, drop}
 use Rattle.text_definitions.specs.Names.{own_from}
 use Rattle.type_terms.specs.Kinds.{arg_trees, ArgsHeld}
 use Rattle.type_terms.specs.Terms.{Keeps}
@@ -11,4 +11,5 @@ invariant-loop-variable l = record {
   limit : l.cx.limit ≡ l.fn.cx.limit;
   are : map (arg_trees l.cx.entries) l.unknowns.items ++ own_from l.counts.types l.counts.consts (map variable_of (drop l.variable-index l.variables)) ≡ own_from 0 0 (map variable_of l.variables);
   held : ArgsHeld l.cx.entries l.unknowns.items;
+  counted : l.counts.types + l.counts.consts ≤ l.variable-index;
 }

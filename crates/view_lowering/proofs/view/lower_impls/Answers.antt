@@ -1,4 +1,4 @@
-use Rattle.std.proofs.Common.{◌≡◌, ◌≤◌, ℕ, length, arith, ◌+◌, ◌∙◌, ap, sym, subst, refl}
+use Rattle.std.proofs.Common.{◌≡◌, ◌≤◌, ℕ, length, arith, ◌+◌, ◌∙◌, ap, sym, subst, refl, Err}
 use Rattle.std.proofs.lemmas.List.{length-map}
 use Rattle.std.proofs.lemmas.Option.{slice_get_read, slice_get-map}
 use Rattle.std.specs.Prelude.{slice_get, ◌<◌}
@@ -6,6 +6,7 @@ use Rattle.std.specs.Option.{option_map}
 use Rattle.declarations.specs.Items.{held_impl}
 use Rattle.declarations.specs.Merges.{Each}
 use Rattle.declarations.proofs.Growth.{all-held}
+use Rattle.infer_table.proofs.FullFacts.{handed-on}
 use Rattle.workspace.specs.Views.{impl_of}
 use Rattle.view_lowering.proofs.Views.{ImplsAdded, impls-passed, impls-all, impls-taken}
 use Rattle.view_lowering.proofs.view.lower_impls.Goals.{then-sees+in_ok-def+in_ok-add_impl, else-sees}
@@ -74,3 +75,6 @@ returns-clause-impls c =
   where
     at-end : (n i : ℕ) → n ≤ i → i ≤ n → n ≡ i
     at-end n i h g = omega (arith, h, g)
+
+pub returns-in_err-def-clause-full : goal.returns-in_err-def-clause-full
+returns-in_err-def-clause-full c = handed-on c.from_residual.result c.from_residual.ensures.1 (λ p. c.in_err-def.ensures.full (ap Err p))

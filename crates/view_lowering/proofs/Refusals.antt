@@ -1,0 +1,33 @@
+-- How lowering ends for want of room or of numbers.
+use Rattle.std.proofs.Common.{◌≡◌, ℕ, ◌≤◌, ◌<◌, List, length, sym, ap, subst, ◌∙◌, arith, inl, inr}
+use Rattle.std.proofs.lemmas.List.{length-map}
+use Rattle.std.specs.Prelude.{◌⊎◌, Result, Ok, Err, IfErr}
+use Rattle.text_definitions.specs.Declarations.{Question}
+use Rattle.type_terms.specs.Terms.{Entry}
+use Rattle.type_terms.specs.declared.Fault.{Fault}
+use Rattle.type_terms.specs.declared.Fault.TheVariants.{Full, Memory}
+use Rattle.term_folds.specs.Failures.{SomeKindIsFull, full}
+use Rattle.workspace.specs.Fullness.{InternerIsFull}
+use Rattle.workspace.specs.Fullness as cells
+use Rattle.workspace.specs.Views.{question_of, variable_of}
+use Rattle.workspace.specs.declared.declared.QuestionEntry.{QuestionEntry}
+
+-- what the lowering of cells says, in the words of folds
+pub some-kind : {es : List Entry} {limit : ℕ} → InternerIsFull es limit → SomeKindIsFull es limit
+some-kind (cells.full kind le h) = full kind le h
+
+-- what fails for want of memory alone
+pub never-full : {T A : Type 0} (r : Result T Fault) → IfErr r (λ x. x ≡ Memory) → r ≡ Err Full → A
+never-full (Ok y) h q = cc
+never-full (Err y) h q = cc
+
+-- ---- variables
+-- no number was left at variable i, of k
+pub past-all : {A : Type 0} {m n i k : ℕ} → n ≤ i → i < k → A ⊎ (m ≤ n) → A ⊎ (m < k)
+past-all l t (inl a) = inl a
+past-all l t (inr h) = inr (omega (arith, l, t, h))
+
+-- the variables of a row are those of its question
+pub of-question : {A : Type 0} {m : ℕ} (r : QuestionEntry) (q : Question) → question_of r ≡ q → A ⊎ (m < length r.variables.items) → A ⊎ (m < length q.variables)
+of-question r q e (inl a) = inl a
+of-question {m = m} r q e (inr h) = inr (subst (λ n. m < n) (sym (length-map r.variables.items variable_of) ∙ ap (λ (y : Question). length y.variables) e) h)
