@@ -20,7 +20,8 @@ use Rattle.orphan_check.specs.Flags.{is_first}
 use Rattle.orphan_check.specs.Steps.{Reading, Step, refused, entered, met_local, met_open, met_foreign, read, steps_in, step_of, steps_at, steps_to}
 use Rattle.orphan_check.specs.declared.errors.WalkError.{WalkError}
 use Rattle.orphan_check.specs.declared.errors.WalkError.TheVariants.{Normalize, Deep, Memory}
-use Rattle.orphan_check.specs.Walks.{IsTaken, IsRead, IsStep, ArePending, steps_before, pending_steps}
+use Rattle.orphan_check.specs.declared.walk.Met.{Met}
+use Rattle.orphan_check.specs.Walks.{IsTaken, IsRead, IsFirstStep, IsVisit, IsStep, ArePending, AreOnTop, steps_before, pending_steps}
 
 if-true : {A : Type 0} (x : Bool) (a b : A) → x ≡ true → (if x then a else b) ≡ a
 if-true true a b e = refl
@@ -108,6 +109,13 @@ pending-push es ps qs p e h k = subst (ArePending es) (sym e) (each-push (λ x. 
 pub each-pop : {A : Type 0} (P : A → Type 0) (xs : List A) (x : A) → Each P (xs ++ x ∷ []) → Each P xs × P x
 each-pop P [] x h = (tt, h.0)
 each-pop P (y ∷ xs) x h = let e = each-pop P xs x h.1 in ((h.0, e.0), e.1)
+
+-- what lies on top of a stack
+pub on-top-none : (n : ℕ) (ps : List Pending) → AreOnTop n ps ps
+on-top-none n ps = ([], sym (append-empty ps), tt)
+
+pub on-top-push : (n : ℕ) (old mid new : List Pending) (p : Pending) → AreOnTop n old mid → new ≡ mid ++ p ∷ [] → p.limit ≡ n → AreOnTop n old new
+on-top-push n old mid new p h e l = (h.0 ++ p ∷ [], e ∙ ap (λ z. z ++ p ∷ []) h.1 ∙ append_assoc old h.0 (p ∷ []), each-push (λ (q : Pending). q.limit ≡ n) h.0 p h.2 l)
 
 -- ---- arguments
 pub args-append : (es : List Entry) (xs : List GenericArgKind) (x : GenericArgKind) → args_trees es (xs ++ x ∷ []) ≡ args_trees es xs +++ (arg_trees es x +++ none)
@@ -217,18 +225,26 @@ module _ {E : Type 0} (es : List Entry) (law : Lawful es) (r : Reading E) (n : �
   held-fundamental none args k = absurd k
   held-fundamental (tree l c o) args k = k.1
 
--- what the type that waited last steps to, before the others
-pub popped : {E : Type 0} (es : List Entry) (r : Reading E) (old rest : List Pending) (p : Pending) (m : ℕ) (ss : List (Step E)) → old ≡ rest ++ p ∷ [] → p.limit ≡ m
-    → steps_to r m (is_first p.first) (trees_at es p.ty.0) ≡ ss → pending_steps es r old ≡ ss ++ pending_steps es r rest
-popped es r old rest p m ss e l h =
-    push-steps es r rest old p e ∙ ap (λ z. steps_to r z (is_first p.first) (trees_at es p.ty.0) ++ pending_steps es r rest) l ∙ ap (λ z. z ++ pending_steps es r rest) h
+-- what a type steps to, before the others
+pub first-steps : {E : Type 0} (es : List Entry) (r : Reading E) (rest : List Pending) (p : Pending) (m : ℕ) (ss : List (Step E)) → p.limit ≡ m → steps_to r m (is_first p.first) (trees_at es p.ty.0) ≡ ss
+    → steps_to r p.limit (is_first p.first) (trees_at es p.ty.0) ++ pending_steps es r rest ≡ ss ++ pending_steps es r rest
+first-steps es r rest p m ss l h = ap (λ z. steps_to r z (is_first p.first) (trees_at es p.ty.0) ++ pending_steps es r rest) l ∙ ap (λ z. z ++ pending_steps es r rest) h
 
 -- a type that was not read ends the steps
-pub read-refused : {E : Type 0} (es : List Entry) (r : Reading E) (old rest after : List Pending) (p : Pending) (m : ℕ) (e : WalkError E) → old ≡ rest ++ p ∷ [] → p.limit ≡ suc m
-    → IsRead es (read r (trees_at es p.ty.0)) (Err e) → IsStep es (pending_steps es r old) (Err e) (pending_steps es r after)
-read-refused es r old rest after p m (Normalize e) is l h = (pending_steps es r rest, popped es r old rest p (suc m) _ is l (ap (steps_at (λ f u. steps_to r m f u) r (is_first p.first)) h))
-read-refused es r old rest after p m Deep is l h = absurd h
-read-refused es r old rest after p m Memory is l h = absurd h
+pub read-refused : {E : Type 0} (es : List Entry) (r : Reading E) (rest after : List Pending) (p : Pending) (m : ℕ) (e : WalkError E) → p.limit ≡ suc m → IsRead es (read r (trees_at es p.ty.0)) (Err e) → IsVisit es r p rest (Err e) after
+read-refused es r rest after p m (Normalize e) l h = (pending_steps es r rest, first-steps es r rest p (suc m) _ l (ap (steps_at (λ f u. steps_to r m f u) r (is_first p.first)) h))
+read-refused es r rest after p m Deep l h = absurd h
+read-refused es r rest after p m Memory l h = absurd h
+
+-- the visit of the type that waited last is a step
+pub visit-steps : {E : Type 0} (es : List Entry) (r : Reading E) (old rest new : List Pending) (p : Pending) (x : Result Met (WalkError E)) → old ≡ rest ++ p ∷ [] → IsVisit es r p rest x new
+    → IsFirstStep es (pending_steps es r old) x (pending_steps es r new)
+visit-steps es r old rest new p x e h = subst (λ z. IsFirstStep es z x (pending_steps es r new)) (sym (push-steps es r rest old p e)) h
+
+pub error-steps : {E : Type 0} (es : List Entry) (before after : List (Step E)) (x : WalkError E) → IsFirstStep es before (Err x) after → IsStep es before (Err x) after
+error-steps es before after (Normalize e) h = h
+error-steps es before after Deep h = h
+error-steps es before after Memory h = tt
 
 pub positive : (n : ℕ) → (n ≡ 0 → ⊥) → n ≡ suc (n - 1)
 positive n h = omega arith

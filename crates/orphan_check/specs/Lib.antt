@@ -4,6 +4,7 @@ pub mod Normal
 pub mod Steps
 pub mod Flags
 pub mod Walks
+pub mod Visited
 pub mod Answers
 pub mod Knowing
 pub mod Exact

@@ -1,5 +1,5 @@
 -- What the parts of a walk answer.
-use Rattle.std.specs.Prelude.{◌≡◌, ◌⊎◌, ℕ, Bool, List, [], ◌∷◌, ◌++◌, Option, Some, None, Result, Ok, Err}
+use Rattle.std.specs.Prelude.{◌≡◌, ◌⊎◌, ℕ, Bool, true, false, List, [], ◌∷◌, ◌++◌, Option, Some, None, Result, Ok, Err}
 use Rattle.model.specs.Trees.{Trees, none, tree, ◌+++◌}
 use Rattle.model.specs.Worlds.{World}
 use Rattle.type_terms.specs.Terms.{Entry, Has, types, args_lists, trees_at}
@@ -17,6 +17,8 @@ use Rattle.orphan_check.specs.declared.walk.Met.{Met}
 use Rattle.orphan_check.specs.declared.walk.Met.TheVariants.{Entered, Local as MetLocal, NonLocal as MetNonLocal, Uncovered as MetUncovered}
 use Rattle.orphan_check.specs.declared.walk.End.{End}
 use Rattle.orphan_check.specs.declared.walk.End.TheVariants.{Local as EndLocal, Uncovered as EndUncovered, NonLocal as EndNonLocal}
+use Rattle.orphan_check.specs.declared.decisive.Decisive.{Decisive}
+use Rattle.orphan_check.specs.declared.decisive.Decisive.TheVariants.{Local as DecidesLocal, Uncovered as DecidesOpen}
 use Rattle.orphan_check.specs.declared.errors.WalkError.{WalkError}
 use Rattle.orphan_check.specs.declared.errors.WalkError.TheVariants.{Normalize, Deep, Memory}
 use Rattle.orphan_check.specs.Looks.{local_type, open_type, leaf_type, passage, look}
@@ -61,6 +63,10 @@ pending_steps es r ps = steps_before es r ps []
 abbrev pub ArePushed : {E : Type 0} → List Entry → Reading E → ℕ → Bool → Trees → List Pending → List Pending → Type 0
 ArePushed es r limit first args old new = pending_steps es r new ≡ steps_in (λ f u. steps_to r limit f u) first args ++ pending_steps es r old
 
+-- What was put on the stack lies above what was there, and from it on so many types may lie in one another.
+abbrev pub AreOnTop : ℕ → List Pending → List Pending → Type 0
+AreOnTop limit old new = (above : List Pending) × (new ≡ old ++ above) × Each (λ p. p.limit ≡ limit) above
+
 abbrev pub step_met : {E : Type 0} → List Entry → Met → Step E
 step_met es Entered = entered
 step_met es (MetLocal t) = met_local (trees_at es t.0)
@@ -68,6 +74,17 @@ step_met es (MetUncovered t) = met_open (trees_at es t.0)
 step_met es (MetNonLocal t first) = met_foreign (trees_at es t.0) (is_first first)
 
 -- The first step of a list, and the others.
+abbrev pub IsFirstStep : {E : Type 0} → List Entry → List (Step E) → Result Met (WalkError E) → List (Step E) → Type 0
+IsFirstStep es before (Ok m) after = before ≡ step_met es m ∷ after
+IsFirstStep {E} es before (Err (Normalize e)) after = (rest : List (Step E)) × (before ≡ refused e ∷ rest)
+IsFirstStep {E} es before (Err Deep) after = (t : Trees) × (first : Bool) × (rest : List (Step E)) × (before ≡ too_deep t first ∷ rest)
+IsFirstStep es before (Err Memory) after = Unit {0}
+
+-- The first step at a type that comes before those that wait.
+abbrev pub IsVisit : {E : Type 0} → List Entry → Reading E → Pending → List Pending → Result Met (WalkError E) → List Pending → Type 0
+IsVisit es r p old x new = IsFirstStep es (steps_to r p.limit (is_first p.first) (trees_at es p.ty.0) ++ pending_steps es r old) x (pending_steps es r new)
+
+-- The first step of a list, if there is one, and the others.
 abbrev pub IsStep : {E : Type 0} → List Entry → List (Step E) → Result (Option Met) (WalkError E) → List (Step E) → Type 0
 IsStep es before (Ok None) after = before ≡ []
 IsStep es before (Ok (Some m)) after = before ≡ step_met es m ∷ after
@@ -91,3 +108,17 @@ IsSecondEnd {E} es ss (Ok None) = (second_end ss ≡ None) ⊎ ((e : E) × (seco
 IsSecondEnd es ss (Err (Normalize e)) = ⊥
 IsSecondEnd es ss (Err Deep) = (t : Trees) × (first : Bool) × (second_end ss ≡ Some (too_deep t first))
 IsSecondEnd es ss (Err Memory) = Unit {0}
+
+-- What decides a walk: a local type or an open place, or nothing where the steps run out.
+abbrev pub IsDecisive : {E : Type 0} → List (Step E) → Result (Option Decisive) (WalkError E) → Type 0
+IsDecisive ss (Ok (Some DecidesLocal)) = (t : Trees) × (first_end ss ≡ Some (met_local t))
+IsDecisive ss (Ok (Some DecidesOpen)) = (t : Trees) × (first_end ss ≡ Some (met_open t))
+IsDecisive ss (Ok None) = first_end ss ≡ None
+IsDecisive ss (Err (Normalize e)) = first_end ss ≡ Some (refused e)
+IsDecisive ss (Err Deep) = (t : Trees) × (first : Bool) × (first_end ss ≡ Some (too_deep t first))
+IsDecisive ss (Err Memory) = Unit {0}
+
+abbrev pub is_local : Option Decisive → Bool
+is_local (Some DecidesLocal) = true
+is_local (Some DecidesOpen) = false
+is_local None = false

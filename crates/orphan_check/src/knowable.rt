@@ -1,17 +1,22 @@
 //! Which references are known to a crate.
-ghost use Rattle.type_terms.specs.Terms.{Has, args_lists};
+ghost use Rattle.std.specs.Prelude.{◌≡◌};
+ghost use Rattle.type_terms.specs.Terms.{Has, args_lists, trees_at};
 ghost use Rattle.infer_table.specs.Content.{Ready};
 ghost use Rattle.orphan_check.specs.Knowing.{IsKnowableBy};
 ghost use Rattle.orphan_check.specs.Exact.{AnswersItsInput, IsKnownOf};
+ghost use Rattle.orphan_check.specs.Steps.{reading, steps};
+ghost use Rattle.orphan_check.specs.Walks.{IsDecisive, is_local};
 
+use crate::decisive::Decisive;
 use crate::errors::{Conflict, InCrate, OrphanCheckMode, WalkError};
 use crate::normalize::Normalize;
-use crate::orphan::orphan_check_trait_ref;
+use crate::walk::Walk;
 use declarations::declarations::Declarations;
 use infer_table::infer_ctxt::InferCtxt;
 use std::alloc::Global;
 use term_folds::predicate::TraitRef;
 use type_terms::interner::Interner;
+use type_terms::kinds::GenericArgs;
 
 /// Whether all impls that could apply to the reference are known to the crate that asks (`trait_ref_is_knowable`).
 ///
@@ -36,6 +41,41 @@ pub fn trait_ref_is_knowable<N: Normalize>(
     knowable_by_walks(alloc, cx, infcx, decls, trait_ref, limit, normalize)
 }
 
+/// What decides the walk of these arguments in a crate.
+fn decisive<N: Normalize>(
+    alloc: Global,
+    cx: &Interner,
+    infcx: &InferCtxt,
+    decls: &Declarations,
+    args: GenericArgs,
+    in_crate: InCrate,
+    limit: u32,
+    normalize: &N,
+) -> Result<Option<Decisive>, WalkError<N::Error>>
+    requires held { Has cx.now.entries args_lists args.0 }
+    requires ready { Ready cx.now.entries infcx.now }
+    ensures { let es = cx.now.entries in IsDecisive (steps (reading es decls.now infcx.now (N.answers normalize.now) in_crate) limit (trees_at es args.0)) result }
+{
+    let walk = Walk {
+        cx,
+        infcx,
+        decls,
+        normalize,
+        in_crate,
+    };
+    walk.decisive(alloc, args, limit)
+}
+
+/// Whether a local type decides.
+fn is_local(decisive: Option<Decisive>) -> bool
+    ensures { result ≡ is_local decisive }
+{
+    match decisive {
+        Some(Decisive::Local) => true,
+        Some(Decisive::Uncovered) | None => false,
+    }
+}
+
 /// The answer by the walk for other crates and, where that meets no open place and the trait does not decide, by that for the
 /// crate that asks.
 fn knowable_by_walks<N: Normalize>(
@@ -51,11 +91,10 @@ fn knowable_by_walks<N: Normalize>(
     requires ready { Ready cx.now.entries infcx.now }
     ensures { IsKnowableBy cx.now.entries decls.now infcx.now (N.answers normalize.now) limit trait_ref result }
 {
+    let args = trait_ref.args;
     let remote = InCrate::Remote;
-    let open = orphan_check_trait_ref(
-        alloc, cx, infcx, decls, trait_ref, remote, limit, normalize,
-    )?;
-    if open.is_ok() {
+    let open = decisive(alloc, cx, infcx, decls, args, remote, limit, normalize)?;
+    if open.is_some() {
         return Ok(Err(Conflict::Downstream));
     }
     if decls.trait_ref_is_local_or_fundamental(trait_ref) {
@@ -64,8 +103,8 @@ fn knowable_by_walks<N: Normalize>(
     let local = InCrate::Local {
         mode: OrphanCheckMode::Proper,
     };
-    let own = orphan_check_trait_ref(alloc, cx, infcx, decls, trait_ref, local, limit, normalize)?;
-    if own.is_ok() {
+    let own = decisive(alloc, cx, infcx, decls, args, local, limit, normalize)?;
+    if is_local(own) {
         Ok(Ok(()))
     } else {
         Ok(Err(Conflict::Upstream))

@@ -1,10 +1,12 @@
 //! The orphan check (RFC 2451), and which references are known to a crate.
 #![tactic(auto)]
 
+mod decisive;
 pub mod errors;
 pub mod knowable;
 pub mod laws;
 mod look;
 pub mod normalize;
 pub mod orphan;
+mod visited;
 mod walk;

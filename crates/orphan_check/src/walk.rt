@@ -1,5 +1,5 @@
 //! The walk of a reference's types, which keeps the types that are still to be visited on a stack of its own.
-ghost use Rattle.std.specs.Prelude.{false, IfErr, IfOk, IfSome, OnOk};
+ghost use Rattle.std.specs.Prelude.{◌-◌, false, IfErr, IfOk, IfSome, OnOk};
 ghost use Rattle.type_terms.specs.Terms.{Has, types, args_lists, trees_at};
 ghost use Rattle.type_terms.specs.Kinds.{ArgsHeld, args_trees};
 ghost use Rattle.infer_table.specs.Content.{Ready};
@@ -56,7 +56,7 @@ pub(crate) struct Walk<'a, N> {
 
 impl<N: Normalize> Walk<'_, N> {
     ghost use Rattle.orphan_check.specs.Answers.{IsOrphanAnswer};
-    ghost use Rattle.orphan_check.specs.Walks.{IsRead, IsStep, IsFirstEnd, IsSecondEnd, ArePending, ArePushed, pending_steps, reads};
+    ghost use Rattle.orphan_check.specs.Walks.{IsRead, IsVisit, IsStep, IsFirstEnd, IsSecondEnd, ArePending, ArePushed, AreOnTop, pending_steps, reads};
 
     /// The type as the normalizer answers it, or as it is where that is a variable. Variables have their values.
     fn read(&self, ty: Ty) -> Result<Ty, WalkError<N::Error>>
@@ -85,6 +85,7 @@ impl<N: Normalize> Walk<'_, N> {
         requires pending_held { ArePending self.now.cx.now.entries pending.old.items }
         ensures held { OnOk result (ArePending self.now.cx.now.entries pending.new.items) }
         ensures pushed { OnOk result (ArePushed self.now.cx.now.entries (reads N.answers self.now) limit false (args_trees self.now.cx.now.entries args.now) pending.old.items pending.new.items) }
+        ensures on_top { OnOk result (AreOnTop limit pending.old.items pending.new.items) }
     {
         self.cx.lawful();
         let mut left = args;
@@ -102,7 +103,7 @@ impl<N: Normalize> Walk<'_, N> {
     }
 
     /// Puts the types of these arguments on the stack, the first one uppermost.
-    fn push_types(
+    pub fn push_types(
         &self,
         args: GenericArgs,
         limit: u32,
@@ -113,6 +114,7 @@ impl<N: Normalize> Walk<'_, N> {
         requires pending_held { ArePending self.now.cx.now.entries pending.old.items }
         ensures held { OnOk result (ArePending self.now.cx.now.entries pending.new.items) }
         ensures pushed { let es = self.now.cx.now.entries in OnOk result (ArePushed es (reads N.answers self.now) limit (is_first first) (trees_at es args.0) pending.old.items pending.new.items) }
+        ensures on_top { OnOk result (AreOnTop limit pending.old.items pending.new.items) }
     {
         self.cx.lawful();
         let mut left = self.cx.args(args);
@@ -131,6 +133,45 @@ impl<N: Normalize> Walk<'_, N> {
         Ok(())
     }
 
+    /// Visits a type. Where it is entered, what stands in it waits above all that waited before, with one less of the limit.
+    pub fn visit(
+        &self,
+        next: Pending,
+        pending: &mut Vec<Pending>,
+    ) -> Result<Met, WalkError<N::Error>>
+        requires held { Has self.now.cx.now.entries types next.ty.0 }
+        requires ready { Ready self.now.cx.now.entries self.now.infcx.now }
+        requires pending_held { ArePending self.now.cx.now.entries pending.old.items }
+        ensures held { OnOk result (ArePending self.now.cx.now.entries pending.new.items) }
+        ensures met { IfOk result (MetHeld self.now.cx.now.entries) }
+        ensures visited { IsVisit self.now.cx.now.entries (reads N.answers self.now) next pending.old.items result pending.new.items }
+        ensures on_top { OnOk result (AreOnTop (next.limit - 1) pending.old.items pending.new.items) }
+    {
+        self.cx.lawful();
+        if next.limit == 0 {
+            return Err(WalkError::Deep);
+        }
+        let inside = next.limit - 1;
+        let ty = self.read(next.ty)?;
+        match take(self.cx, self.decls, self.in_crate, ty) {
+            Taken::Local => Ok(Met::Local(ty)),
+            Taken::Uncovered => Ok(Met::Uncovered(ty)),
+            Taken::NonLocal => Ok(Met::NonLocal(ty, next.first)),
+            Taken::Reference(to) => {
+                pending.push(Pending {
+                    ty: to,
+                    limit: inside,
+                    first: next.first,
+                })?;
+                Ok(Met::Entered)
+            }
+            Taken::Fundamental(args) => {
+                self.push_types(args, inside, next.first, pending)?;
+                Ok(Met::Entered)
+            }
+        }
+    }
+
     /// Visits the next type, if there is one.
     fn step(&self, pending: &mut Vec<Pending>) -> Result<Option<Met>, WalkError<N::Error>>
         requires ready { Ready self.now.cx.now.entries self.now.infcx.now }
@@ -139,31 +180,9 @@ impl<N: Normalize> Walk<'_, N> {
         ensures met { IfOk result (λ met. IfSome met (MetHeld self.now.cx.now.entries)) }
         ensures stepped { let es = self.now.cx.now.entries in let r = reads N.answers self.now in IsStep es (pending_steps es r pending.old.items) result (pending_steps es r pending.new.items) }
     {
-        self.cx.lawful();
-        let Some(next) = pending.pop() else {
-            return Ok(None);
-        };
-        if next.limit == 0 {
-            return Err(WalkError::Deep);
-        }
-        let inside = next.limit - 1;
-        let ty = self.read(next.ty)?;
-        match take(self.cx, self.decls, self.in_crate, ty) {
-            Taken::Local => Ok(Some(Met::Local(ty))),
-            Taken::Uncovered => Ok(Some(Met::Uncovered(ty))),
-            Taken::NonLocal => Ok(Some(Met::NonLocal(ty, next.first))),
-            Taken::Reference(to) => {
-                pending.push(Pending {
-                    ty: to,
-                    limit: inside,
-                    first: next.first,
-                })?;
-                Ok(Some(Met::Entered))
-            }
-            Taken::Fundamental(args) => {
-                self.push_types(args, inside, next.first, pending)?;
-                Ok(Some(Met::Entered))
-            }
+        match pending.pop() {
+            Some(next) => Ok(Some(self.visit(next, pending)?)),
+            None => Ok(None),
         }
     }
 

@@ -2,8 +2,11 @@ use Rattle.std.proofs.Common.{refl, ◌∙◌, ap, subst, ◌≡◌, ◌++◌, �
 use Rattle.type_terms.specs.Kinds.{ArgsHeld}
 use Rattle.type_terms.specs.declared.kinds.GenericArgKind.TheVariants.{Ty}
 use Rattle.orphan_check.specs.Walks.{pending_steps, reads}
-use Rattle.orphan_check.proofs.Stepping.{pending-push, push-last, skip-last, args-held-append}
+use Rattle.orphan_check.proofs.Stepping.{on-top-none, on-top-push, pending-push, push-last, skip-last, args-held-append}
 use Rattle.orphan_check.proofs.walk.Walk.push_others.Goals as goal
+
+pub others-init : goal.others-init
+others-init g c = (c.requires.held, c.requires.pending_held, refl, on-top-none c.args.limit c.args.pending.now.items)
 
 pub others-preserved-in_ok-push : goal.others-preserved-in_ok-push
 others-preserved-in_ok-push g c =
@@ -15,6 +18,7 @@ others-preserved-in_ok-push g c =
       pending-push es c.others.pending.items c.push.new.self.items _ c.in_ok-push.ensures.items c.others.invariant.1 held.1,
       push-last es c.lawful.ensures r c.args.limit c.args.args.now c.others.left.now c.in-Some.others.now c.in-Ty.ty c.args.pending.now.items c.others.pending.items c.push.new.self.items _ is c.others.invariant.0
           c.in_ok-push.ensures.items refl refl refl c.others.invariant.2,
+      on-top-push c.args.limit c.args.pending.now.items c.others.pending.items c.push.new.self.items _ c.others.invariant.3 c.in_ok-push.ensures.items refl,
     )
 
 pub others-preserved : goal.others-preserved
@@ -27,4 +31,5 @@ others-preserved g c =
       c.others.invariant.2
           ∙ ap (λ z. z ++ pending_steps es r c.others.pending.items)
           (skip-last es c.lawful.ensures r c.args.limit c.others.left.now c.in-Some.others.now c.in-Some.last.now is c.others.invariant.0 (λ t e. c.in_default-last.not-Ty _ e)),
+      c.others.invariant.3,
     )

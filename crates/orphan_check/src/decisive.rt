@@ -1,0 +1,50 @@
+//! What decides a walk, which visits a type once at each depth.
+ghost use Rattle.type_terms.specs.Terms.{Has, args_lists, trees_at};
+ghost use Rattle.infer_table.specs.Content.{Ready};
+ghost use Rattle.orphan_check.specs.Steps.{steps};
+
+use crate::errors::{IsFirstInputType, WalkError};
+use crate::normalize::Normalize;
+use crate::visited::Visited;
+use crate::walk::{Met, Walk};
+use std::alloc::Global;
+use type_terms::kinds::GenericArgs;
+
+/// What decides a walk.
+#[derive(Clone, Copy)]
+pub(crate) enum Decisive {
+    Local,
+    Uncovered,
+}
+
+impl<N: Normalize> Walk<'_, N> {
+    ghost use Rattle.orphan_check.specs.Walks.{IsDecisive, reads};
+
+    /// Walks to the first local type or open place. No type is listed, so one that was visited before with the same limit is
+    /// passed over: what stands in it was visited to the end, since there the limit is less, and nothing in it decided.
+    pub fn decisive(
+        &self,
+        alloc: Global,
+        args: GenericArgs,
+        limit: u32,
+    ) -> Result<Option<Decisive>, WalkError<N::Error>>
+        requires held { Has self.now.cx.now.entries args_lists args.0 }
+        requires ready { Ready self.now.cx.now.entries self.now.infcx.now }
+        ensures { IsDecisive (steps (reads N.answers self.now) limit (trees_at self.now.cx.now.entries args.0)) result }
+    {
+        let mut pending = Vec::new(alloc);
+        self.push_types(args, limit, IsFirstInputType::Yes, &mut pending)?;
+        let mut visited = Visited::new(alloc);
+        'walk: while let Some(next) = pending.pop() {
+            if visited.enter(next.ty, next.limit) {
+                continue;
+            }
+            match self.visit(next, &mut pending)? {
+                Met::Local(_) => return Ok(Some(Decisive::Local)),
+                Met::Uncovered(_) => return Ok(Some(Decisive::Uncovered)),
+                Met::Entered | Met::NonLocal(_, _) => {}
+            }
+        }
+        Ok(None)
+    }
+}
