@@ -3,6 +3,7 @@ use Rattle.std.specs.Prelude.{◌&&◌, ℕ, Bool, nat_eq}
 use Rattle.type_terms.specs.declared.kinds.Ty.{Ty}
 use Rattle.orphan_check.specs.declared.visited.Visit.{Visit}
 
+-- Two visits are of one handle, with the same left of the limit.
 abbrev pub visit_eq : Visit → Visit → Bool
 visit_eq v w = nat_eq v.ty w.ty && nat_eq v.limit w.limit
 

@@ -118,6 +118,7 @@ IsDecisive ss (Err (Normalize e)) = first_end ss ≡ Some (refused e)
 IsDecisive ss (Err Deep) = (t : Trees) × (first : Bool) × (first_end ss ≡ Some (too_deep t first))
 IsDecisive ss (Err Memory) = Unit {0}
 
+-- A local type decides, and no open place.
 abbrev pub is_local : Option Decisive → Bool
 is_local (Some DecidesLocal) = true
 is_local (Some DecidesOpen) = false

@@ -20,8 +20,8 @@ pub(crate) enum Decisive {
 impl<N: Normalize> Walk<'_, N> {
     ghost use Rattle.orphan_check.specs.Walks.{IsDecisive, reads};
 
-    /// Walks to the first local type or open place. No type is listed, so one that was visited before with the same limit is
-    /// passed over: what stands in it was visited to the end, since there the limit is less, and nothing in it decided.
+    /// Walks to the first local type or open place. No leaf is listed, so a type that was visited before with the same limit is
+    /// passed over: all that stands in it was visited, since that is pending with less of the limit, and nothing in it decided.
     pub fn decisive(
         &self,
         alloc: Global,

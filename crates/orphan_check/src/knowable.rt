@@ -23,6 +23,8 @@ use type_terms::kinds::GenericArgs;
 /// `Downstream` where a crate that uses this one may write an impl, since it may put a type of its own into an open place.
 /// `Upstream` where the trait's crate may add one without breaking this crate, since the trait is neither this crate's nor
 /// fundamental, and no type of this crate comes first. The errors are those of `orphan_check_trait_ref`.
+///
+/// No leaf is listed, so a type that was visited at the same depth before is passed over.
 pub fn trait_ref_is_knowable<N: Normalize>(
     alloc: Global,
     cx: &Interner,
