@@ -55,6 +55,34 @@ fn write_verdict<W: Write>(
     Ok(())
 }
 
+/// Judges the session's crate and writes its line, and keeps the lines of its questions.
+fn judge_by<W: Write>(
+    alloc: Global,
+    session: &mut Session<'_>,
+    workspace: &Workspace,
+    id: CrateId,
+    group: &Group,
+    lines: &mut Vec<KeptLine>,
+    writer: &mut W,
+) -> Result<(), RunFault>
+    requires parsed { IsOfText workspace.now }
+    requires on { session.old.declarations ≡ workspace.now }
+    requires of_crate { session.old.of_crate ≡ id.index }
+    requires numbered { IsNumbered workspace.now }
+    requires few { IsFew workspace.now ENTRY_LIMIT }
+    requires declared { id.index < length workspace.now.crates }
+    requires group { IsGroup (length workspace.now.questions) workspace.now id.index group.now.places.items }
+    requires kept { KeepsLines session.old.depth workspace.now id.index lines.old.items }
+    ensures whole { OnOk result (WritesVerdict session.old.depth workspace.now id.index (W.contents writer.old) (W.contents writer.new)) }
+    ensures kept { OnOk result (KeepsLines session.old.depth workspace.now (id.index + 1) lines.new.items) }
+    ensures prefix { OnErr result (WritesVerdictPrefix session.old.depth workspace.now id.index (W.contents writer.old) (W.contents writer.new)) }
+    ensures written { IfErr result (λ fault. fault ≢ RunFault.Read) }
+{
+    write_verdict(alloc, session, workspace, id, writer)?;
+    keep_answers(alloc, session, workspace, group, lines)?;
+    Ok(())
+}
+
 /// Judges a crate and writes its line, and keeps the lines of its questions: by one session, which sees the crate's view.
 fn judge_crate<W: Write>(
     alloc: Global,
@@ -77,9 +105,7 @@ fn judge_crate<W: Write>(
     ensures written { IfErr result (λ fault. fault ≢ RunFault.Read) }
 {
     let mut session = Session::new(alloc, workspace, id, limits)?;
-    write_verdict(alloc, &mut session, workspace, id, writer)?;
-    keep_answers(alloc, &mut session, workspace, group, lines)?;
-    Ok(())
+    judge_by(alloc, &mut session, workspace, id, group, lines, writer)
 }
 
 /// Keeps the lines of questions that ask in `core`, which has no line of its own.
@@ -102,8 +128,7 @@ fn answer_core(
         return Ok(());
     }
     let mut session = Session::new(alloc, workspace, crate_at(workspace, 0), limits)?;
-    keep_answers(alloc, &mut session, workspace, group, lines)?;
-    Ok(())
+    keep_answers(alloc, &mut session, workspace, group, lines)
 }
 
 /// Writes a line for each crate but `core`, in the order of the text, and keeps the lines of all questions.

@@ -1,36 +1,22 @@
-use Rattle.std.proofs.Common.{◌∙◌, sym, subst, inr}
-use Rattle.std.proofs.lemmas.Result.{err_from_is_err_and}
-use Rattle.coherence.specs.Progress.{WritesVerdict, WritesVerdictPrefix}
-use Rattle.coherence.proofs.LineLaws.{whole_prefix}
+use Rattle.std.proofs.Common.{◌+◌, subst, OnOk, OnErr}
+use Rattle.coherence.specs.Progress.{KeepsLines, WritesVerdict, WritesVerdictPrefix}
 use Rattle.coherence.proofs.text_run.judge_crate.Goals as goal
-
-pub returns-in_err-write_verdict-clause-prefix : goal.returns-in_err-write_verdict-clause-prefix
-returns-in_err-write_verdict-clause-prefix g c =
-    let p = err_from_is_err_and c.from_residual-in_err-write_verdict.result c.from_residual-in_err-write_verdict.ensures.1 in
-    let front = c.in_err-write_verdict.ensures.prefix in
-    rw p.1 (subst (λ n. WritesVerdictPrefix n c.args.workspace.now c.args.id.index (g.W.Write.contents c.args.writer.now) (g.W.Write.contents c.write_verdict.new.writer)) c.in_ok-session.ensures.depth front)
-
-pub returns-in_err-write_verdict-clause-written : goal.returns-in_err-write_verdict-clause-written
-returns-in_err-write_verdict-clause-written g c =
-    let p = err_from_is_err_and c.from_residual-in_err-write_verdict.result c.from_residual-in_err-write_verdict.ensures.1 in
-    rw p.1 (λ e. c.in_err-write_verdict.ensures.written (sym p.2 ∙ e))
-
-pub returns-in_err-keep_answers-clause-prefix : goal.returns-in_err-keep_answers-clause-prefix
-returns-in_err-keep_answers-clause-prefix g c =
-    let p = err_from_is_err_and c.from_residual-in_err-keep_answers.result c.from_residual-in_err-keep_answers.ensures.1 in
-    let old = g.W.Write.contents c.args.writer.now in
-    let new = g.W.Write.contents c.write_verdict.new.writer in
-    let whole : WritesVerdict c.args.limits.depth c.args.workspace.now c.args.id.index old new =
-    subst (λ n. WritesVerdict n c.args.workspace.now c.args.id.index old new) c.in_ok-session.ensures.depth c.in_ok-write_verdict.ensures.whole in
-    rw p.1 (inr (whole.0, whole.1, whole_prefix old new _ whole.2))
-
-pub returns-in_err-keep_answers-clause-written : goal.returns-in_err-keep_answers-clause-written
-returns-in_err-keep_answers-clause-written g c =
-    let p = err_from_is_err_and c.from_residual-in_err-keep_answers.result c.from_residual-in_err-keep_answers.ensures.1 in
-    rw p.1 (λ e. c.in_err-keep_answers.ensures.written (sym p.2 ∙ e))
 
 pub returns-clause-whole : goal.returns-clause-whole
 returns-clause-whole g c =
     let old = g.W.Write.contents c.args.writer.now in
-    let new = g.W.Write.contents c.write_verdict.new.writer in
-    subst (λ n. WritesVerdict n c.args.workspace.now c.args.id.index old new) c.in_ok-session.ensures.depth c.in_ok-write_verdict.ensures.whole
+    let new = g.W.Write.contents c.judge_by.new.writer in
+    subst (λ n. OnOk c.judge_by.result (WritesVerdict n c.args.workspace.now c.args.id.index old new)) c.in_ok-session.ensures.depth c.judge_by.ensures.whole
+
+pub returns-clause-kept : goal.returns-clause-kept
+returns-clause-kept g c =
+    subst (λ n. OnOk c.judge_by.result (KeepsLines n c.args.workspace.now (c.args.id.index + 1) c.judge_by.new.lines.items)) c.in_ok-session.ensures.depth c.judge_by.ensures.kept
+
+pub returns-clause-prefix : goal.returns-clause-prefix
+returns-clause-prefix g c =
+    let old = g.W.Write.contents c.args.writer.now in
+    let new = g.W.Write.contents c.judge_by.new.writer in
+    subst (λ n. OnErr c.judge_by.result (WritesVerdictPrefix n c.args.workspace.now c.args.id.index old new)) c.in_ok-session.ensures.depth c.judge_by.ensures.prefix
+
+pub returns-clause-written : goal.returns-clause-written
+returns-clause-written g c = c.judge_by.ensures.written
