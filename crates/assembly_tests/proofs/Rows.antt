@@ -1,5 +1,6 @@
 -- Goals that are told to be decided.
-use Rattle.std.proofs.Common.{◌≡◌, ◌∙◌, ap, Bool, true, if◌then◌else◌, List, Some, None, IsTrue}
+use Rattle.std.proofs.Common.{◌≡◌, ◌∙◌, ap, Bool, true, if◌then◌else◌, List, Some, None, Result, Ok, Err, IsTrue}
+use Rattle.std.specs.Prelude.{IfOk}
 use Rattle.type_terms.specs.Terms.{Entry}
 use Rattle.infer_table.specs.Goals.{GoalHeld}
 use Rattle.infer_table.specs.Inputs.{form_of}
@@ -11,6 +12,11 @@ use Rattle.candidate_assembly.specs.Fitting.{GoalFits, solving_of}
 use Rattle.candidate_assembly.specs.Ready.{IsReady, IsDecided, Decides}
 use Rattle.candidate_assembly.specs.Sections.{decided}
 use Rattle.candidate_assembly.specs.Solving.{meaning_for}
+
+-- what holds whatever is answered
+pub ok-anyway : {A E : Type 0} {P : Type 0} (r : Result A E) → P → IfOk r (λ (_ : A). P)
+ok-anyway (Ok a) h = h
+ok-anyway (Err e) h = tt
 
 module _ (es : List Entry) (d : Items) (g : CanonicalInput) where
   pub told : (b : Bool) → IsReady es d → GoalHeld es g.goal → decided (meaning_for (solving_of es d) (form_of es g)) (asked (written es d) (form_of es g)) ≡ (if b then Some (asked_of es g) else None)

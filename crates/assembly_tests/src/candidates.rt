@@ -1,14 +1,14 @@
 //! The candidates of goals that a text asks: the one that is assembled, and the one that the call of its own rule makes.
-ghost use Rattle.std.specs.Prelude.{◌≡◌, ℕ, List, Ok, IfOk};
+ghost use Rattle.std.specs.Prelude.{ℕ, List, Ok, IfOk};
 ghost use Rattle.type_terms.specs.Terms.{Entry, Keeps};
 ghost use Rattle.infer_table.specs.Goals.{GoalHeld};
 ghost use Rattle.evaluation.specs.Readings.{ConsideredHeld};
 ghost use Rattle.goal_frames.specs.Fitting.{ConsideredFits};
 ghost use Rattle.text_definitions.specs.Text.{TextGives};
-ghost use Rattle.assembly_tests.specs.Clauses.{where_clauses};
 ghost use Rattle.candidate_assembly.specs.Ready.{IsReady, IsDecided};
 
 use crate::samples::empty_table;
+use crate::texts::{add_question, goal_at, read, view};
 use built_in_candidates::built_in::{
     consider_auto_trait_candidate, consider_builtin_copy_clone_candidate,
     consider_builtin_fn_ptr_trait_candidate, consider_builtin_sized_candidate,
@@ -25,16 +25,10 @@ use declarations::declarations::Declarations;
 use evaluation::{CandidateSource, CandidateSpec, Certainty, Considered, GoalSource, TypingMode};
 use infer_table::goal::Goal;
 use infer_table::input::{CanonicalInput, canonicalize_goal};
-use std::alloc::{AllocError, Global};
-use term_folds::predicate::{Clause, TraitPredicate, TraitRef};
-use text_reader::parse;
+use std::alloc::Global;
+use term_folds::predicate::Clause;
+use type_terms::Fault;
 use type_terms::interner::Interner;
-use type_terms::{CrateId, Fault};
-use view_lowering::laws::impls_begin_declared;
-use view_lowering::{
-    bounds_are_applied, fields_speak_of_parameters, impls_speak_of_parameters, lower,
-    lower_question, texts_are_declared_well,
-};
 use workspace::Workspace;
 
 /// What a candidate is, but for its premises.
@@ -46,63 +40,15 @@ pub struct Told {
     pub equal: bool,
 }
 
+/// The candidate that is wanted, if one is, and its premises.
+#[derive(Clone, Copy)]
+struct Wanted<'a> {
+    premises: &'a [Clause],
+    told: Option<Told>,
+}
+
 /// A goal, behind it the premises that are wanted as where-clauses, and the candidate that is wanted, if one is.
 pub type Row = (&'static [u8], Option<Told>);
-
-/// What the first crate of a text, behind `core`, sees.
-fn view(alloc: Global, cx: &mut Interner, workspace: &Workspace) -> Result<Declarations, Fault>
-    requires text { (bytes : List ℕ) × TextGives bytes (Ok workspace.now) }
-    ensures ready { IfOk result (λ decls. IsReady cx.new.entries decls) }
-{
-    impls_begin_declared();
-    texts_are_declared_well();
-    fields_speak_of_parameters();
-    impls_speak_of_parameters();
-    bounds_are_applied();
-    if workspace.crates().len() < 2 {
-        return Err(Fault::Full);
-    }
-    let decls = lower(alloc, cx, workspace, CrateId { index: 1 })?;
-    Ok(decls)
-}
-
-/// The references as where-clauses.
-fn where_clauses(alloc: Global, references: &[TraitRef]) -> Result<Vec<Clause>, AllocError>
-    ensures { IfOk result (λ v. v.items ≡ where_clauses references.now) }
-{
-    references
-        .iter()
-        .map(|reference| {
-            Clause::Trait(TraitPredicate {
-                trait_ref: *reference,
-            })
-        })
-        .collect(alloc)
-}
-
-/// The question at a place, with its where-clauses.
-fn goal_at(
-    alloc: Global,
-    cx: &mut Interner,
-    workspace: &Workspace,
-    place: u32,
-) -> Result<Goal, Fault>
-    ensures keeps { IfOk result (λ _. Keeps cx.old.entries cx.new.entries) }
-    ensures held { IfOk result (λ goal. GoalHeld cx.new.entries goal) }
-{
-    let _ = workspace.crates();
-    if workspace.question_entries().len() <= place as usize {
-        return Err(Fault::Full);
-    }
-    let lowered = lower_question(alloc, cx, workspace, place + 1)?;
-    let param_env = where_clauses(alloc, &lowered.clauses)?;
-    Ok(Goal {
-        param_env,
-        predicate: TraitPredicate {
-            trait_ref: lowered.asked,
-        },
-    })
-}
 
 /// The question at a place in canonical form, without its where-clauses, and these.
 fn question(
@@ -167,6 +113,22 @@ fn by_trait(
     }
 }
 
+/// The candidate of a `dyn`'s first bound, if there is one, else of the first impl.
+fn by_bound_or_impl(
+    alloc: Global,
+    cx: &mut Interner,
+    decls: &Declarations,
+    goal: &CanonicalInput,
+) -> Result<Option<CandidateSpec>, Fault>
+    requires { IsDecided cx.old.entries decls.now goal.now }
+    ensures { Keeps cx.old.entries cx.new.entries }
+{
+    match consider_object_bound_candidate(alloc, cx, decls, goal, 0)? {
+        Some(bound) => Ok(Some(bound)),
+        None => next_impl_candidate(alloc, cx, decls, goal, None),
+    }
+}
+
 /// The candidate that the calls of single rules make of the goal: that of its trait, else of a `dyn`'s first bound, else of the first
 /// impl.
 fn considered(
@@ -176,18 +138,12 @@ fn considered(
     goal: &CanonicalInput,
 ) -> Result<Option<CandidateSpec>, Fault>
     requires { IsDecided cx.old.entries decls.now goal.now }
-    ensures { IfOk result (λ _. Keeps cx.old.entries cx.new.entries) }
+    ensures { Keeps cx.old.entries cx.new.entries }
 {
-    let rule = by_trait(alloc, cx, decls, goal)?;
-    if rule.is_some() {
-        return Ok(rule);
+    match by_trait(alloc, cx, decls, goal)? {
+        Some(rule) => Ok(Some(rule)),
+        None => by_bound_or_impl(alloc, cx, decls, goal),
     }
-    let bound = consider_object_bound_candidate(alloc, cx, decls, goal, 0)?;
-    if bound.is_some() {
-        return Ok(bound);
-    }
-    let first = next_impl_candidate(alloc, cx, decls, goal, None)?;
-    Ok(first)
 }
 
 /// The candidate as one that was considered and refused.
@@ -214,8 +170,8 @@ fn asks(spec: &CandidateSpec, wanted: &[Clause]) -> bool {
 }
 
 /// Whether the candidate is the one that is wanted.
-fn is_told(spec: &Option<CandidateSpec>, wanted: &[Clause], told: Option<Told>) -> bool {
-    match (spec, told) {
+fn is_told(spec: &Option<CandidateSpec>, wanted: Wanted) -> bool {
+    match (spec, wanted.told) {
         (Some(spec), Some(told)) => {
             let equal = spec
                 .equations
@@ -224,7 +180,7 @@ fn is_told(spec: &Option<CandidateSpec>, wanted: &[Clause], told: Option<Told>) 
             spec.source == told.source
                 && spec.certainty == told.certainty
                 && equal == told.equal
-                && asks(spec, wanted)
+                && asks(spec, wanted.premises)
         }
         (None, None) => true,
         (Some(_), None) => false,
@@ -232,7 +188,73 @@ fn is_told(spec: &Option<CandidateSpec>, wanted: &[Clause], told: Option<Told>) 
     }
 }
 
-/// Whether the question at a place has the candidate that is wanted, by both ways, and no second one.
+/// Whether no second candidate of the goal is assembled, behind this one.
+fn is_last(
+    alloc: Global,
+    cx: &mut Interner,
+    decls: &Declarations,
+    goal: &CanonicalInput,
+    first: &Option<CandidateSpec>,
+) -> Result<bool, Fault>
+    requires { IsDecided cx.old.entries decls.now goal.now }
+    ensures { Keeps cx.old.entries cx.new.entries }
+{
+    let done = refused(alloc, first)?;
+    let second = assemble_and_evaluate_candidates(alloc, cx, decls, goal, true, &done)?;
+    Ok(second.is_none())
+}
+
+/// Whether the one candidate that is assembled is the one that is wanted.
+fn is_assembled(
+    alloc: Global,
+    cx: &mut Interner,
+    decls: &Declarations,
+    goal: &CanonicalInput,
+    wanted: Wanted,
+) -> Result<bool, Fault>
+    requires { IsDecided cx.old.entries decls.now goal.now }
+    ensures { Keeps cx.old.entries cx.new.entries }
+{
+    let first = assemble_and_evaluate_candidates(alloc, cx, decls, goal, true, &[])?;
+    if !is_told(&first, wanted) {
+        return Ok(false);
+    }
+    is_last(alloc, cx, decls, goal, &first)
+}
+
+/// Whether the rule's own call makes the candidate that is wanted.
+fn is_considered(
+    alloc: Global,
+    cx: &mut Interner,
+    decls: &Declarations,
+    goal: &CanonicalInput,
+    wanted: Wanted,
+) -> Result<bool, Fault>
+    requires { IsDecided cx.old.entries decls.now goal.now }
+    ensures { Keeps cx.old.entries cx.new.entries }
+{
+    let own = considered(alloc, cx, decls, goal)?;
+    Ok(is_told(&own, wanted))
+}
+
+/// Whether the goal has the candidate that is wanted, by both ways, and no second one.
+fn has_candidate(
+    alloc: Global,
+    cx: &mut Interner,
+    decls: &Declarations,
+    goal: &CanonicalInput,
+    wanted: Wanted,
+) -> Result<bool, Fault>
+    requires { IsDecided cx.old.entries decls.now goal.now }
+    ensures { Keeps cx.old.entries cx.new.entries }
+{
+    if !is_assembled(alloc, cx, decls, goal, wanted)? {
+        return Ok(false);
+    }
+    is_considered(alloc, cx, decls, goal, wanted)
+}
+
+/// Whether the question at a place has the candidate that is wanted.
 fn is_row(
     alloc: Global,
     cx: &mut Interner,
@@ -244,15 +266,15 @@ fn is_row(
     requires { IsReady cx.old.entries decls.now }
     ensures { IfOk result (λ _. IsReady cx.new.entries decls.now) }
 {
-    let (goal, wanted) = question(alloc, cx, workspace, place)?;
+    let (goal, premises) = question(alloc, cx, workspace, place)?;
     if !is_decided(cx, decls, &goal) {
         return Ok(false);
     }
-    let first = assemble_and_evaluate_candidates(alloc, cx, decls, &goal, true, &[])?;
-    let done = refused(alloc, &first)?;
-    let second = assemble_and_evaluate_candidates(alloc, cx, decls, &goal, true, &done)?;
-    let own = considered(alloc, cx, decls, &goal)?;
-    Ok(second.is_none() && is_told(&first, &wanted, told) && is_told(&own, &wanted, told))
+    let wanted = Wanted {
+        premises: &premises,
+        told,
+    };
+    has_candidate(alloc, cx, decls, &goal, wanted)
 }
 
 /// The place of the first of these rows of which something else is found than the text's question there wants.
@@ -277,24 +299,47 @@ fn first_row_that_differs(
 fn text_of(alloc: Global, declared: &[u8], rows: &[Row]) -> Result<Vec<u8>, Fault> {
     let mut text = Vec::from_slice(alloc, declared)?;
     for (row, _) in rows {
-        text.extend_from_slice(b"\nprove in base ")?;
-        text.extend_from_slice(*row)?;
+        add_question(&mut text, row)?;
     }
     Ok(text)
 }
 
-/// The place of the first of these rows of which something else is found, over what a text declares.
-pub fn first_that_differs(
+/// The first of the rows, over what the crate sees that asks them.
+fn first_in_workspace(
+    alloc: Global,
+    cx: &mut Interner,
+    workspace: &Workspace,
+    rows: &[Row],
+) -> Result<Option<u32>, Fault>
+    requires { (bytes : List ℕ) × TextGives bytes (Ok workspace.now) }
+{
+    let decls = view(alloc, cx, workspace)?;
+    first_row_that_differs(alloc, cx, &decls, workspace, rows)
+}
+
+/// The first of the rows, over a text that asks them.
+fn first_in_text(alloc: Global, text: &[u8], rows: &[Row]) -> Result<Option<u32>, Fault> {
+    let workspace = read(alloc, text)?;
+    let mut cx = Interner::new(alloc, 10000);
+    first_in_workspace(alloc, &mut cx, &workspace, rows)
+}
+
+/// The place of the first of these rows of which something else is found, over what is declared.
+fn first_that_differs(alloc: Global, declared: &[u8], rows: &[Row]) -> Result<Option<u32>, Fault> {
+    let text = text_of(alloc, declared, rows)?;
+    first_in_text(alloc, &text, rows)
+}
+
+/// The first of these tables with a row of which something else is found, and the place of that row.
+pub(crate) fn first_place_that_differs(
     alloc: Global,
     declared: &[u8],
-    rows: &[Row],
-) -> Result<Option<u32>, Fault> {
-    let text = text_of(alloc, declared, rows)?;
-    let workspace = match parse(alloc, &text) {
-        Ok(workspace) => workspace,
-        Err(_) => return Err(Fault::Full),
-    };
-    let mut cx = Interner::new(alloc, 10000);
-    let decls = view(alloc, &mut cx, &workspace)?;
-    first_row_that_differs(alloc, &mut cx, &decls, &workspace, rows)
+    tables: &[&[Row]],
+) -> Result<Option<(usize, u32)>, Fault> {
+    for (table, rows) in tables.iter().enumerate() {
+        if let Some(place) = first_that_differs(alloc, declared, rows)? {
+            return Ok(Some((table, place)));
+        }
+    }
+    Ok(None)
 }

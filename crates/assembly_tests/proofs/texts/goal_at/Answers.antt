@@ -2,7 +2,7 @@ use Rattle.std.proofs.Common.{rules, ◌≡◌, ◌∙◌, ap, sym, subst}
 use Rattle.infer_table.specs.Goals.{ClausesHeld}
 use Rattle.assembly_tests.specs.Clauses.{where_clauses}
 use Rattle.assembly_tests.proofs.Questions.{is-question, clauses-held}
-use Rattle.assembly_tests.proofs.candidates.goal_at.Goals as goal
+use Rattle.assembly_tests.proofs.texts.goal_at.Goals as goal
 
 pub lower_question-requires : goal.lower_question-requires
 lower_question-requires c = is-question c.args.workspace.now c.question_entries.result.now c.question_entries.ensures.items c.args.place c.if-question_entries-place.false
