@@ -1,5 +1,5 @@
 -- What has a proof by a view, together with its supertraits, follows by a rule of the view.
-use Rattle.std.proofs.Common.{◌≡◌, ℕ, true, if◌then◌else◌, List, []}
+use Rattle.std.proofs.Common.{◌≡◌, ℕ, true, if◌then◌else◌, []}
 use Rattle.std.specs.List.{flat_map}
 use Rattle.model.specs.Worlds.{World, Reference}
 use Rattle.model.specs.Rules.{Rule, rules, strict_supertraits}

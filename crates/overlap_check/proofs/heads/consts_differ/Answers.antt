@@ -1,4 +1,4 @@
-use Rattle.std.proofs.Common.{◌≡◌, true, false, ℕ, bit_and, refl, sym, ap, ◌∙◌, subst}
+use Rattle.std.proofs.Common.{◌≡◌, bit_and, sym, ◌∙◌, subst}
 use Rattle.type_terms.specs.Terms.{consts, trees_at}
 use Rattle.type_terms.proofs.Made.{false-true}
 use Rattle.overlap_check.specs.Heads.{open_flags}

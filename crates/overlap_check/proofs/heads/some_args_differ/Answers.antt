@@ -1,4 +1,4 @@
-use Rattle.std.proofs.Common.{◌≡◌, List, ◌∷◌, sym, ap, subst}
+use Rattle.std.proofs.Common.{◌∷◌, sym, subst}
 use Rattle.type_terms.specs.Kinds.{ArgsHeld, args_trees}
 use Rattle.overlap_check.specs.Heads.{NeverMeet}
 use Rattle.overlap_check.proofs.Tops.{first-differ, rest-differ}

@@ -1,4 +1,4 @@
-use Rattle.std.proofs.Common.{◌≡◌, List, length}
+use Rattle.std.proofs.Common.{length}
 use Rattle.type_terms.specs.Kinds.{ArgsHeld, args_trees}
 use Rattle.overlap_check.specs.Heads.{NeverMeet}
 use Rattle.overlap_check.proofs.heads.some_args_differ.Given as goal

@@ -1,4 +1,4 @@
-use Rattle.std.proofs.Common.{◌≡◌, true, false, ℕ, bit_and, Some, refl, sym, ap, ◌∙◌, subst}
+use Rattle.std.proofs.Common.{◌≡◌, bit_and, subst}
 use Rattle.type_terms.specs.Terms.{types, trees_at}
 use Rattle.declarations.specs.Heads.{label_of}
 use Rattle.overlap_check.specs.Heads.{open_flags}
