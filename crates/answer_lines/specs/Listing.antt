@@ -2,9 +2,9 @@
 use Rattle.std.specs.Prelude.{◌≡◌, Bool, true, false, refl}
 use Rattle.model.specs.Label.{Label, infer, principal, auto_trait}
 use Rattle.model.specs.Trees.{Trees, none, tree}
-use Rattle.term_folds.specs.Folds.{IsBound}
-use Rattle.term_folds.specs.declared.visit.Seen.{Seen}
-use Rattle.term_folds.specs.declared.visit.Seen.TheVariants.{Break, Enter, Pass}
+use Rattle.type_terms.specs.Visits.{IsBound}
+use Rattle.type_terms.specs.declared.visit.Seen.{Seen}
+use Rattle.type_terms.specs.declared.visit.Seen.TheVariants.{Break, Enter, Pass}
 use Rattle.text_definitions.specs.Names.{with_free}
 use Rattle.workspace.specs.Views.{question_of}
 use Rattle.answer_lines.specs.Called.{unknowns_of}

@@ -18,11 +18,11 @@ use crate::params::nth_of_kind;
 use crate::question::Unknown;
 use std::alloc::{AllocError, Global};
 use std::ops::ControlFlow;
-use term_folds::binders::Binders;
-use term_folds::visit::{Seen, TypeVisitor, visit_ty};
+use type_terms::binders::Binders;
 use type_terms::interner::Interner;
 use type_terms::kinds::{Const, ConstKind, GenericArgKind, Ty, TyKind};
 use type_terms::region::Region;
+use type_terms::visit::{Seen, TypeVisitor, visit_ty};
 use workspace::QuestionEntry;
 
 /// Whether an unknown stands for a variable of the question.

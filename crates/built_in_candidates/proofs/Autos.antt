@@ -8,7 +8,7 @@ use Rattle.model.specs.Worlds.{World, ImplDecl}
 use Rattle.model.specs.Rules.{asked, each_asked, together, same_head, auto_rules, auto_rules_plain}
 use Rattle.type_terms.specs.Terms.{Entry, Keeps, Has, Lawful, types, trees_at}
 use Rattle.type_terms.specs.declared.kinds.Ty.{Ty}
-use Rattle.term_folds.specs.Kept.{has-later, trees-later}
+use Rattle.type_terms.specs.Kept.{has-later, trees-later}
 use Rattle.term_folds.specs.Signatures.{StartsWithType}
 use Rattle.declarations.specs.Relevant.{next_above}
 use Rattle.declarations.specs.Unsizing.{field_trees}

@@ -6,7 +6,7 @@ use Rattle.model.specs.Rules.{unsize}
 use Rattle.type_terms.specs.Terms.{Entry, Keeps, Has, types, args_lists, trees_at}
 use Rattle.type_terms.specs.declared.AdtId.{AdtId}
 use Rattle.type_terms.specs.declared.kinds.Ty.{Ty}
-use Rattle.term_folds.specs.Kept.{trees-later}
+use Rattle.type_terms.specs.Kept.{trees-later}
 use Rattle.term_folds.specs.Signatures.{StartsWithType}
 use Rattle.infer_table.specs.declared.input.CanonicalInput.{CanonicalInput}
 use Rattle.infer_table.specs.Goals.{GoalHeld}

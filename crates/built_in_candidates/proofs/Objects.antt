@@ -17,7 +17,7 @@ use Rattle.type_terms.specs.Kinds.{principal_trees, autos_trees, bounds_trees}
 use Rattle.type_terms.specs.declared.TraitId.{TraitId}
 use Rattle.type_terms.specs.declared.kinds.Principal.{Principal}
 use Rattle.type_terms.specs.declared.kinds.BoundsData.{BoundsData}
-use Rattle.term_folds.specs.Kept.{trees-is}
+use Rattle.type_terms.specs.Kept.{trees-is}
 use Rattle.term_folds.specs.Signatures.{StartsWithType}
 use Rattle.term_folds.specs.declared.predicate.TraitRef.{TraitRef}
 use Rattle.infer_table.proofs.Values.{cut-at}

@@ -9,7 +9,7 @@ use Rattle.type_terms.specs.declared.kinds.GenericArgKind.TheVariants.{Lifetime,
 use Rattle.type_terms.specs.declared.region.RegionKind.{RegionKind}
 use Rattle.type_terms.specs.declared.region.RegionKind.TheVariants.{ReStatic, ReEarlyParam, RePlaceholder, ReBound, ReVar}
 use Rattle.type_terms.specs.declared.number.BoundVarIndexKind.TheVariants.{Bound as KBinder, Canonical as KCanonical}
-use Rattle.term_folds.specs.Kept.{trees-is, arg-trees-later, arg-held-later}
+use Rattle.type_terms.specs.Kept.{trees-is, arg-trees-later, arg-held-later}
 use Rattle.infer_table.specs.declared.terms.Equation as Code
 use Rattle.infer_table.specs.Values.{Value, value_of, sort_of_arg}
 use Rattle.evaluation.specs.Lists.{Every}

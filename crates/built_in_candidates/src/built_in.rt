@@ -3,7 +3,7 @@ ghost use Rattle.std.specs.Prelude.{◌≡◌, List, IfOk, IfSome, Err};
 ghost use Rattle.model.specs.Worlds.{World};
 ghost use Rattle.model.specs.Rules.{Rule, sized, asked};
 ghost use Rattle.type_terms.specs.Terms.{Keeps, Has, types, trees_at};
-ghost use Rattle.term_folds.specs.Failures.{SomeKindIsFull};
+ghost use Rattle.type_terms.specs.Failures.{SomeKindIsFull};
 ghost use Rattle.term_folds.specs.Signatures.{StartsWithType};
 ghost use Rattle.infer_table.specs.Goals.{GoalHeld};
 ghost use Rattle.evaluation.specs.Readings.{SpecHeld};

@@ -3,7 +3,7 @@ ghost use Rattle.std.specs.Prelude.{◌≡◌, ◌==◌, true, List, IfOk, IfSom
 ghost use Rattle.std.specs.List.{slice_get};
 ghost use Rattle.model.specs.Rules.{unsize, is_auto};
 ghost use Rattle.type_terms.specs.Terms.{Keeps, Entry, trees_at};
-ghost use Rattle.term_folds.specs.Failures.{SomeKindIsFull};
+ghost use Rattle.type_terms.specs.Failures.{SomeKindIsFull};
 ghost use Rattle.evaluation.specs.Readings.{SpecHeld};
 ghost use Rattle.declarations.specs.Items.{written};
 ghost use Rattle.declarations.specs.Applied.{HaveBounds};

@@ -7,7 +7,7 @@ ghost use Rattle.model.specs.Worlds.{World};
 ghost use Rattle.model.specs.Rules.{but_last, last_asked, sized};
 ghost use Rattle.type_terms.specs.Terms.{Keeps, Has, Entry, Lawful, types, type_lists, args_lists, trees_at};
 ghost use Rattle.type_terms.specs.Kinds.{ArgHeld, TysHeld, arg_trees, tys_trees};
-ghost use Rattle.term_folds.specs.Failures.{SomeKindIsFull};
+ghost use Rattle.type_terms.specs.Failures.{SomeKindIsFull};
 ghost use Rattle.term_folds.specs.Signatures.{StartsWithType};
 ghost use Rattle.infer_table.specs.Goals.{GoalHeld};
 ghost use Rattle.evaluation.specs.Readings.{SpecHeld};

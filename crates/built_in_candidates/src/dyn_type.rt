@@ -4,7 +4,7 @@ ghost use Rattle.std.specs.List.{list_any, slice_get};
 ghost use Rattle.model.specs.Trees.{Trees, ◌+++◌};
 ghost use Rattle.model.specs.Rules.{principal_with, autos_with, are_declared, are_dyn_compatible};
 ghost use Rattle.type_terms.specs.Terms.{Keeps, Has, Entry, types, args_lists, bounds_lists, trees_at};
-ghost use Rattle.term_folds.specs.Failures.{SomeKindIsFull};
+ghost use Rattle.type_terms.specs.Failures.{SomeKindIsFull};
 ghost use Rattle.evaluation.specs.Merge.{if_there};
 ghost use Rattle.declarations.specs.Items.{written};
 ghost use Rattle.declarations.specs.Held.{AreHeld};

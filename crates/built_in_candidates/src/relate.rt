@@ -2,7 +2,7 @@
 ghost use Rattle.std.specs.Prelude.{◌≡◌, IfOk, IfErr, Err, map};
 ghost use Rattle.type_terms.specs.Terms.{Keeps, Has, args_lists, trees_at};
 ghost use Rattle.type_terms.specs.declared.Fault.TheVariants.{Memory};
-ghost use Rattle.term_folds.specs.Failures.{SomeKindIsFull};
+ghost use Rattle.type_terms.specs.Failures.{SomeKindIsFull};
 ghost use Rattle.evaluation.specs.Lists.{Every};
 ghost use Rattle.evaluation.specs.Readings.{EquationHeld};
 ghost use Rattle.goal_frames.specs.Readings.{equation_read};

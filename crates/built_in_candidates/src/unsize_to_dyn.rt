@@ -4,7 +4,7 @@ ghost use Rattle.model.specs.Trees.{◌+++◌};
 ghost use Rattle.model.specs.Rules.{asked, sized, principal_with, autos_with, unsize_to_dyn_rules};
 ghost use Rattle.type_terms.specs.Terms.{Keeps, Has, types, bounds_lists, trees_at};
 ghost use Rattle.type_terms.specs.declared.Fault.TheVariants.{Memory};
-ghost use Rattle.term_folds.specs.Failures.{SomeKindIsFull};
+ghost use Rattle.type_terms.specs.Failures.{SomeKindIsFull};
 ghost use Rattle.infer_table.specs.Goals.{GoalHeld};
 ghost use Rattle.evaluation.specs.Merge.{if_there};
 ghost use Rattle.evaluation.specs.Readings.{SpecHeld};

@@ -9,8 +9,8 @@ use Rattle.model.specs.Worlds.{Reference, with_args, all_with_args}
 use Rattle.type_terms.specs.Terms.{Entry, Is, Keeps, args_lists, trees_at}
 use Rattle.type_terms.specs.declared.ImplId.{ImplId}
 use Rattle.type_terms.specs.declared.TheConstants.{MAX_INDEX}
-use Rattle.term_folds.specs.Kept.{trees-is, trees-later}
-use Rattle.declarations.specs.Applied.{AllHeld}
+use Rattle.type_terms.specs.Kept.{trees-is, trees-later}
+use Rattle.declarations.specs.Applied.{AllHeld, sort_of_param, sorts_of, SpeaksOf, references_in}
 use Rattle.type_terms.specs.Kinds.{args_trees, arg_trees}
 use Rattle.type_terms.specs.declared.kinds.GenericArgKind.{GenericArgKind}
 use Rattle.term_folds.specs.Arguments.{sort_at, misfit, first_misfit}
@@ -22,7 +22,6 @@ use Rattle.infer_table.specs.Values.{Value, values_of}
 use Rattle.infer_table.proofs.SolutionLaws.{is_sort-equal as is-sort}
 use Rattle.declarations.specs.declared.items.GenericParamKind.{GenericParamKind}
 use Rattle.declarations.specs.declared.items.GenericParamKind.TheVariants.{Lifetime, «Type» as TypeParam, Const}
-use Rattle.declarations.specs.Applied.{sort_of_param, sorts_of, SpeaksOf, references_in}
 use Rattle.declarations.specs.Items.{reference_in}
 use Rattle.declarations.specs.Merges.{Each}
 use Rattle.term_folds.specs.declared.predicate.TraitRef.{TraitRef}

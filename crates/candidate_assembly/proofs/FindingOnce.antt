@@ -2,10 +2,10 @@
 use Rattle.std.proofs.Common.{◌≡◌, ℕ, List, refl, sym, ◌∙◌, ap, subst, Bool, Option, is_some}
 use Rattle.model.specs.Trees.{Trees}
 use Rattle.type_terms.specs.Terms.{Entry}
-use Rattle.term_folds.specs.declared.once.Once.{Once}
-use Rattle.term_folds.specs.Visits.{Visits}
-use Rattle.term_folds.specs.Entering.{HasEntered, SeesOnce}
-use Rattle.term_folds.proofs.OnceFacts.{Repeats, once-visits}
+use Rattle.type_terms.specs.declared.once.Once.{Once}
+use Rattle.type_terms.specs.Visits.{Visits}
+use Rattle.type_terms.specs.Entering.{HasEntered, SeesOnce}
+use Rattle.type_terms.proofs.OnceFacts.{Repeats, once-visits}
 use Rattle.candidate_assembly.specs.Finding.{BreaksAt}
 use Rattle.candidate_assembly.proofs.Finding.{Sees, some_tree, visits-find}
 

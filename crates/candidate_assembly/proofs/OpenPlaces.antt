@@ -4,8 +4,8 @@ use Rattle.model.specs.Label.{Label, of_type, of_const, of_lifetime, param, infe
 use Rattle.model.specs.Trees.{Trees, none, tree, flags, some_node}
 use Rattle.model.specs.Answers.{is_open}
 use Rattle.type_terms.specs.Made.{terms, is_made, is_in_range}
-use Rattle.term_folds.specs.Scans.{has_flag}
-use Rattle.term_folds.proofs.ScanFacts.{scan-tree}
+use Rattle.type_terms.specs.Scans.{has_flag}
+use Rattle.type_terms.proofs.ScanFacts.{scan-tree}
 use Rattle.infer_table.specs.declared.canonical.CanonicalVarKind.{CanonicalVarKind}
 use Rattle.evaluation.specs.Variables.{is_variable_over}
 use Rattle.candidate_assembly.proofs.Finding.{foreign, foreign_label, made-over}

@@ -4,9 +4,9 @@ use Rattle.model.specs.Label.{Label, adt, dynamic, principal, auto_trait}
 use Rattle.model.specs.Trees.{Trees, none, tree}
 use Rattle.model.specs.Worlds.{World}
 use Rattle.model.specs.Answers.{is_undeclared}
-use Rattle.term_folds.specs.Folds.{IsBound}
-use Rattle.term_folds.specs.declared.visit.Seen.{Seen}
-use Rattle.term_folds.specs.declared.visit.Seen.TheVariants.{Break, Enter}
+use Rattle.type_terms.specs.Visits.{IsBound}
+use Rattle.type_terms.specs.declared.visit.Seen.{Seen}
+use Rattle.type_terms.specs.declared.visit.Seen.TheVariants.{Break, Enter}
 use Rattle.infer_table.specs.declared.canonical.CanonicalVarKind.{CanonicalVarKind}
 use Rattle.evaluation.specs.Variables.{is_variable_over}
 

@@ -3,7 +3,7 @@ ghost use Rattle.std.specs.Prelude.{◌≡◌, ◌⊎◌, ◌==◌, ◌&&◌, no
 ghost use Rattle.std.specs.List.{list_any, slice_get};
 ghost use Rattle.type_terms.specs.Terms.{Entry, Keeps};
 ghost use Rattle.type_terms.specs.declared.Fault.TheVariants.{Memory};
-ghost use Rattle.term_folds.specs.Failures.{SomeKindIsFull};
+ghost use Rattle.type_terms.specs.Failures.{SomeKindIsFull};
 ghost use Rattle.infer_table.specs.Goals.{GoalHeld};
 ghost use Rattle.infer_table.specs.Responses.{ResponseHeld, answer_trees};
 ghost use Rattle.evaluation.specs.Readings.{ConsideredHeld, ResultHeld, SpecHeld, StepHeld};

@@ -1,7 +1,7 @@
 //! The candidate for what crates that are not seen may say.
 ghost use Rattle.std.specs.Prelude.{◌≡◌, IfOk, Err};
 ghost use Rattle.type_terms.specs.Terms.{Keeps};
-ghost use Rattle.term_folds.specs.Failures.{SomeKindIsFull};
+ghost use Rattle.type_terms.specs.Failures.{SomeKindIsFull};
 ghost use Rattle.infer_table.specs.Goals.{GoalHeld};
 ghost use Rattle.evaluation.specs.Readings.{SpecHeld};
 ghost use Rattle.declarations.specs.Items.{written};

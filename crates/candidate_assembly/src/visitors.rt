@@ -19,13 +19,13 @@ use infer_table::canonical::CanonicalVarKind;
 use infer_table::canonicalizer::CLAUSE_FLAGS;
 use infer_table::instantiate::BOUND_FLAGS;
 use std::ops::ControlFlow;
-use term_folds::binders::Binders;
-use term_folds::once::Once;
-use term_folds::visit::{Seen, TypeVisitor, visit_args, visit_ty};
+use type_terms::binders::Binders;
 use type_terms::interner::{Handle, Interner};
 use type_terms::kinds::{Bounds, Const, ConstKind, GenericArgs, Ty, TyKind};
 use type_terms::number::{BoundVar, BoundVarIndexKind};
+use type_terms::once::Once;
 use type_terms::region::{Region, RegionKind};
+use type_terms::visit::{Seen, TypeVisitor, visit_args, visit_ty};
 use type_terms::{AdtId, TraitId};
 
 /// The flags of open places: of parameters, unknowns, placeholders and bound variables, canonical ones among them.

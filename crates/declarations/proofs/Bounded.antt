@@ -7,7 +7,7 @@ use Rattle.model.specs.Trees.{Trees, none, instantiate}
 use Rattle.model.specs.Worlds.{Reference, with_args}
 use Rattle.type_terms.specs.Terms.{Entry, Keeps, trees_at}
 use Rattle.term_folds.specs.declared.predicate.TraitRef.{TraitRef}
-use Rattle.term_folds.specs.Pieces.{Piece, one_piece, each_piece}
+use Rattle.type_terms.specs.Pieces.{Piece, one_piece, each_piece}
 use Rattle.declarations.specs.Items.{reference_in}
 use Rattle.declarations.specs.Held.{ReferenceHeld}
 use Rattle.declarations.specs.Applied.{references_in, AllHeld}

@@ -7,7 +7,7 @@ use Rattle.model.specs.Proofs.{In}
 use Rattle.model.proofs.Matching.{same-sound}
 use Rattle.model.proofs.Members.{same-number, self-number, here, there, in-nothing, in-append, in-cases}
 use Rattle.type_terms.specs.Terms.{Entry, Has, Is, Lawful, args_lists, trees_at}
-use Rattle.term_folds.specs.Kept.{is-at}
+use Rattle.type_terms.specs.Kept.{is-at}
 use Rattle.term_folds.specs.declared.predicate.TraitRef.{TraitRef}
 use Rattle.declarations.specs.declared.elaborate.Elaborator.{Elaborator}
 use Rattle.declarations.specs.Items.{reference_in}

@@ -4,7 +4,7 @@ use Rattle.std.specs.Prelude.{map}
 use Rattle.model.specs.Worlds.{World, StructDecl, TraitDecl, ImplDecl, Reference}
 use Rattle.model.specs.Terms.{erased_world}
 use Rattle.type_terms.specs.Terms.{Entry, Keeps, Has, types, args_lists, trees_at}
-use Rattle.term_folds.specs.Kept.{has-later, trees-later}
+use Rattle.type_terms.specs.Kept.{has-later, trees-later}
 use Rattle.term_folds.specs.declared.predicate.TraitRef.{TraitRef}
 use Rattle.type_terms.specs.declared.AdtId.{AdtId}
 use Rattle.type_terms.specs.declared.TraitId.{TraitId}

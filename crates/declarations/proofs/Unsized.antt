@@ -4,10 +4,10 @@ use Rattle.std.specs.Prelude.{◌||◌, ◌&&◌, ◌++◌, zero, suc, not, map,
 use Rattle.model.specs.Label.{Label, of_type, of_const, of_lifetime, param, placeholder, infer, canonical, bound}
 use Rattle.model.specs.Trees.{Trees, none, tree, some_node, erase, erase_label}
 use Rattle.model.specs.Rules.{is_parameter, is_unsizing}
-use Rattle.term_folds.specs.declared.visit.Seen.{Seen}
-use Rattle.term_folds.specs.declared.visit.Seen.TheVariants.{Break, Enter, Pass}
-use Rattle.term_folds.specs.Pieces.{one_piece}
-use Rattle.term_folds.specs.Visits.{Visits, ended, passed, broken, entered, broken_below, VisitsEach, ended_each, next_each, broken_each}
+use Rattle.type_terms.specs.declared.visit.Seen.{Seen}
+use Rattle.type_terms.specs.declared.visit.Seen.TheVariants.{Break, Enter, Pass}
+use Rattle.type_terms.specs.Pieces.{one_piece}
+use Rattle.type_terms.specs.Visits.{Visits, ended, passed, broken, entered, broken_below, VisitsEach, ended_each, next_each, broken_each}
 use Rattle.declarations.specs.declared.unsizing.ParamFinder.{ParamFinder}
 use Rattle.declarations.specs.Unsizing.{looked_for, unsizing_flags}
 

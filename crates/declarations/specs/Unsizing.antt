@@ -6,9 +6,9 @@ use Rattle.model.specs.Rules.{is_parameter, is_unsizing}
 use Rattle.model.specs.Worlds.{StructDecl}
 use Rattle.type_terms.specs.Terms.{Entry, trees_at}
 use Rattle.type_terms.specs.declared.kinds.Ty.{Ty}
-use Rattle.term_folds.specs.Folds.{IsBound}
-use Rattle.term_folds.specs.declared.visit.Seen.{Seen}
-use Rattle.term_folds.specs.declared.visit.Seen.TheVariants.{Break, Enter}
+use Rattle.type_terms.specs.Visits.{IsBound}
+use Rattle.type_terms.specs.declared.visit.Seen.{Seen}
+use Rattle.type_terms.specs.declared.visit.Seen.TheVariants.{Break, Enter}
 
 -- The fields, over the terms of an interner.
 abbrev pub field_trees : List Entry → List Ty → List Trees

@@ -7,7 +7,7 @@ ghost use Rattle.model.specs.Rules.{written_supertraits};
 ghost use Rattle.type_terms.specs.Terms.{Keeps, Has, args_lists, trees_at};
 ghost use Rattle.type_terms.specs.declared.Fault.TheVariants.{Memory};
 ghost use Rattle.term_folds.specs.Arguments.{first_misfit};
-ghost use Rattle.term_folds.specs.Failures.{SomeKindIsFull};
+ghost use Rattle.type_terms.specs.Failures.{SomeKindIsFull};
 ghost use Rattle.declarations.specs.Items.{reference_in, written};
 ghost use Rattle.declarations.specs.Held.{ReferenceHeld, AreHeld};
 ghost use Rattle.declarations.specs.Elaboration.{is_put, new_of, elaborate, supertraits, rest_of};

@@ -9,13 +9,13 @@ ghost use Rattle.declarations.specs.Unsizing.{unsizing_flags, field_trees};
 
 use std::alloc::Global;
 use std::ops::ControlFlow;
-use term_folds::binders::Binders;
-use term_folds::visit::{Seen, TypeVisitor};
-use term_folds::visitable::TypeVisitable;
 use type_terms::Fault;
+use type_terms::binders::Binders;
 use type_terms::interner::Interner;
 use type_terms::kinds::{Const, ConstKind, Ty, TyKind};
 use type_terms::region::Region;
+use type_terms::visit::{Seen, TypeVisitor};
+use type_terms::visitable::TypeVisitable;
 
 /// Looks for the type or const parameter with this number.
 #[derive(Clone, Copy)]

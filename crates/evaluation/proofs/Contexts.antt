@@ -2,7 +2,7 @@
 use Rattle.std.specs.Prelude.{◌≡◌, List, [], ◌∷◌, ◌++◌, map, Option, Some, None}
 use Rattle.std.proofs.Common.{subst, sym}
 use Rattle.type_terms.specs.Terms.{Entry, Keeps, args_lists}
-use Rattle.term_folds.specs.Kept.{args-held-later, has-later}
+use Rattle.type_terms.specs.Kept.{args-held-later, has-later}
 use Rattle.infer_table.specs.Content.{Table, Ready}
 use Rattle.infer_table.specs.Kept.{constraints-kept, ready-later}
 use Rattle.infer_table.specs.declared.response.CanonicalResponse.{CanonicalResponse}

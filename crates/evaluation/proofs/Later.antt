@@ -2,7 +2,7 @@
 use Rattle.std.proofs.Common.{◌≡◌, List, [], ◌∷◌, map, refl}
 use Rattle.model.specs.Trees.{Trees}
 use Rattle.type_terms.specs.Terms.{Entry, Keeps}
-use Rattle.term_folds.specs.Kept.{arg-held-later, arg-trees-later}
+use Rattle.type_terms.specs.Kept.{arg-held-later, arg-trees-later}
 use Rattle.infer_table.specs.Worklists.{equation_trees}
 use Rattle.infer_table.specs.declared.terms.Equation.{Equation}
 use Rattle.infer_table.specs.Goals.{GoalHeld}

@@ -5,7 +5,7 @@ use Rattle.model.specs.Label.{Label, of_trait, predicate}
 use Rattle.model.specs.Trees.{Trees, none, tree, ◌+++◌}
 use Rattle.type_terms.specs.Terms.{Entry, Keeps, types, args_lists}
 use Rattle.type_terms.specs.Kinds.{region_trees}
-use Rattle.term_folds.specs.Kept.{trees-later}
+use Rattle.type_terms.specs.Kept.{trees-later}
 use Rattle.term_folds.specs.Clauses.{ClauseHeld}
 use Rattle.term_folds.specs.declared.predicate.Clause.{Clause}
 use Rattle.term_folds.specs.declared.predicate.Clause.TheVariants.{Trait, RegionOutlives as ClauseRegion, TypeOutlives as ClauseType}
@@ -16,9 +16,8 @@ use Rattle.infer_table.specs.Goals.{ClausesHeld, clause_label, clause_terms, env
 use Rattle.infer_table.specs.Values.{Value, values-later}
 use Rattle.evaluation.specs.declared.goal.GoalSource.{GoalSource}
 use Rattle.evaluation.specs.Lists.{Every}
-use Rattle.infer_table.specs.Responses.{ResponseHeld}
+use Rattle.infer_table.specs.Responses.{ResponseHeld, AnswerTrees, answer_trees}
 use Rattle.evaluation.specs.Readings.{ResultHeld}
-use Rattle.infer_table.specs.Responses.{AnswerTrees, answer_trees}
 use Rattle.infer_table.proofs.PairFacts.{constraints-later}
 use Rattle.evaluation.specs.Context.{NestedGoal, GoalIsHeld, NestedHeld}
 use Rattle.evaluation.specs.Evaluating.{NestedTrees, nested_trees, goals_trees, replies_trees}

@@ -7,8 +7,8 @@ use Rattle.type_terms.specs.Terms.{Entry, Lawful, types, consts}
 use Rattle.type_terms.specs.Kinds.{ArgHeld, ArgsHeld, arg_trees, args_trees}
 use Rattle.type_terms.specs.declared.kinds.GenericArgKind.{GenericArgKind}
 use Rattle.type_terms.specs.declared.kinds.GenericArgKind.TheVariants.{Lifetime, Ty, Const}
-use Rattle.term_folds.specs.Kept.{is-at}
-use Rattle.infer_table.specs.Canonical.{CanonicalForm}
+use Rattle.type_terms.specs.Kept.{is-at}
+use Rattle.infer_table.specs.Canonical.{CanonicalForm, canonical_form, HasNoCanonical}
 use Rattle.infer_table.proofs.UnifyFacts.{region-sort}
 use Rattle.infer_table.specs.Unification.{TableTrees, table_trees}
 use Rattle.infer_table.specs.declared.canonical.CanonicalVarKind.{CanonicalVarKind}
@@ -17,7 +17,6 @@ use Rattle.infer_table.specs.Values.{Value, value_of, values_of}
 use Rattle.infer_table.specs.Raw.{variables_from}
 use Rattle.infer_table.proofs.InTurn.{row-of}
 use Rattle.type_terms.specs.declared.Fault.{Fault}
-use Rattle.infer_table.specs.Canonical.{canonical_form, HasNoCanonical}
 use Rattle.infer_table.specs.Solutions.{Assignment, Solves, instance, resolved}
 use Rattle.infer_table.specs.Content.{content, AllConstraintsHeld}
 use Rattle.infer_table.specs.Constraints.{constraints_trees}

@@ -6,7 +6,7 @@ use Rattle.model.specs.Trees.{Trees}
 use Rattle.type_terms.specs.Terms.{Entry, Keeps, types, consts}
 use Rattle.type_terms.specs.declared.Fault.{Fault}
 use Rattle.type_terms.specs.declared.Fault.TheVariants.{Full, Memory}
-use Rattle.term_folds.specs.Failures.{SomeKindIsFull, full}
+use Rattle.type_terms.specs.Failures.{SomeKindIsFull, full}
 use Rattle.infer_table.specs.Certainties.{joined}
 use Rattle.infer_table.specs.Content.{Table}
 use Rattle.infer_table.specs.Numbers.{RunsOut}

@@ -3,7 +3,7 @@ ghost use Rattle.std.specs.Prelude.{◌≡◌, ◌⊎◌, not, List, map, OnOk, 
 ghost use Rattle.model.specs.Trees.{is_sort};
 ghost use Rattle.type_terms.specs.Terms.{Entry, Keeps};
 ghost use Rattle.type_terms.specs.Kinds.{ArgsHeld};
-ghost use Rattle.term_folds.specs.Failures.{SomeKindIsFull};
+ghost use Rattle.type_terms.specs.Failures.{SomeKindIsFull};
 ghost use Rattle.infer_table.specs.Content.{Ready, Grows};
 ghost use Rattle.infer_table.specs.AnswersApplied.{NumbersRunOut};
 ghost use Rattle.evaluation.specs.Lists.{Every};

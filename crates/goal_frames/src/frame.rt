@@ -2,7 +2,7 @@
 
 ghost use Rattle.std.specs.Prelude.{◌≡◌, ◌⊎◌, [], Err, IfOk, drop, List};
 ghost use Rattle.type_terms.specs.Terms.{Entry, Keeps};
-ghost use Rattle.term_folds.specs.Failures.{SomeKindIsFull};
+ghost use Rattle.type_terms.specs.Failures.{SomeKindIsFull};
 ghost use Rattle.infer_table.specs.Goals.{GoalHeld};
 ghost use Rattle.evaluation.specs.Evaluating.{replies_trees};
 ghost use Rattle.evaluation.specs.Shortages.{CandidateRunsOut};

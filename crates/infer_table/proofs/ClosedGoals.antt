@@ -12,8 +12,8 @@ use Rattle.type_terms.specs.declared.Fault.{Fault}
 use Rattle.term_folds.specs.declared.predicate.Clause.{Clause}
 use Rattle.term_folds.specs.declared.predicate.Clause.TheVariants.{Trait, RegionOutlives, TypeOutlives}
 use Rattle.term_folds.specs.Clauses.{clause_pieces}
-use Rattle.term_folds.specs.Pieces.{piece_flags}
-use Rattle.term_folds.proofs.ScanFacts.{or_none, and_or}
+use Rattle.type_terms.specs.Pieces.{piece_flags}
+use Rattle.type_terms.proofs.ScanFacts.{or_none, and_or}
 use Rattle.infer_table.specs.Canonical.{GoalTrees, kind_of_leaf, leaves, renamed, canonical_label, goal_leaves, CanonicalForm, canonical_form}
 use Rattle.infer_table.specs.Solutions.{Binding}
 use Rattle.infer_table.specs.declared.certainty.TypingMode.{TypingMode}

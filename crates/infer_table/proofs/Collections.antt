@@ -5,13 +5,13 @@ use Rattle.model.specs.Label.{Label, static}
 use Rattle.model.specs.Trees.{Trees, none, tree, leaf, ◌+++◌}
 use Rattle.type_terms.specs.Terms.{Entry}
 use Rattle.type_terms.specs.declared.Fault.{Fault}
-use Rattle.term_folds.specs.declared.visit.Seen.{Seen}
-use Rattle.term_folds.specs.declared.visit.Seen.TheVariants.{Break, Enter, Pass}
+use Rattle.type_terms.specs.declared.visit.Seen.{Seen}
+use Rattle.type_terms.specs.declared.visit.Seen.TheVariants.{Break, Enter, Pass}
 use Rattle.term_folds.specs.declared.predicate.Clause.{Clause}
 use Rattle.term_folds.specs.declared.predicate.Clause.TheVariants.{Trait, RegionOutlives, TypeOutlives}
 use Rattle.term_folds.specs.Clauses.{clause_pieces}
-use Rattle.term_folds.specs.Pieces.{one_piece}
-use Rattle.term_folds.specs.Visits.{Visits, ended, passed, broken, entered, broken_below, VisitsEach, ended_each, next_each, broken_each}
+use Rattle.type_terms.specs.Pieces.{one_piece}
+use Rattle.type_terms.specs.Visits.{Visits, ended, passed, broken, entered, broken_below, VisitsEach, ended_each, next_each, broken_each}
 use Rattle.infer_table.specs.Canonical.{OpenKinds, kind_of_leaf, kind_in_clause, leaves, with_label}
 use Rattle.infer_table.specs.declared.canonicalizer.LeafCollector.{LeafCollector}
 use Rattle.infer_table.specs.Goals.{clause_terms, environment_trees}

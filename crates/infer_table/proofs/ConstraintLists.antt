@@ -5,11 +5,11 @@ use Rattle.model.specs.Label.{Label}
 use Rattle.model.specs.Trees.{Trees, none, tree, ◌+++◌}
 use Rattle.type_terms.specs.Terms.{Entry, Keeps, types}
 use Rattle.type_terms.specs.Kinds.{region_trees}
-use Rattle.term_folds.specs.Folds.{Does, Folds}
-use Rattle.term_folds.specs.Pieces.{Piece, FoldsEach, one_piece, each_piece}
-use Rattle.term_folds.specs.Visits.{VisitsEach}
-use Rattle.term_folds.specs.Kept.{append-both}
-use Rattle.term_folds.proofs.Items.{take-push}
+use Rattle.term_folds.specs.Folds.{Does, Folds, FoldsEach}
+use Rattle.type_terms.specs.Pieces.{Piece, one_piece, each_piece}
+use Rattle.type_terms.specs.Visits.{VisitsEach}
+use Rattle.type_terms.specs.Kept.{append-both}
+use Rattle.type_terms.proofs.Items.{take-push}
 use Rattle.infer_table.specs.Solutions.{Binding, resolved}
 use Rattle.infer_table.specs.declared.canonical.CanonicalVarKind.{CanonicalVarKind}
 use Rattle.infer_table.specs.Canonical.{CanonicalForm, kind_of_leaf, leaves, canonical_label}

@@ -12,7 +12,7 @@ use Rattle.type_terms.specs.declared.region.RegionKind.TheVariants.{ReBound}
 use Rattle.type_terms.specs.declared.kinds.GenericArgKind.{GenericArgKind}
 use Rattle.type_terms.specs.declared.kinds.GenericArgKind.TheVariants.{Lifetime, Ty as AType, Const as AConst}
 use Rattle.type_terms.proofs.Sorts.{bound-sort, arg-single}
-use Rattle.term_folds.specs.Kept.{is-at}
+use Rattle.type_terms.specs.Kept.{is-at}
 use Rattle.infer_table.specs.Solutions.{Assignment, tree_of, instance, is_variable, IsSorted, Binding, Solves, Equates, HasNoSolution}
 use Rattle.infer_table.specs.Content.{Table, variables_of}
 use Rattle.infer_table.specs.Unification.{TableTrees, table_trees}

@@ -14,8 +14,8 @@ use Rattle.type_terms.specs.declared.number.BoundVarIndexKind.TheVariants.{Bound
 use Rattle.term_folds.specs.declared.predicate.Clause.{Clause}
 use Rattle.term_folds.specs.declared.predicate.Clause.TheVariants.{Trait, RegionOutlives, TypeOutlives}
 use Rattle.term_folds.specs.Clauses.{clause_outline, clause_pieces}
-use Rattle.term_folds.specs.Folds.{Does, enters, puts, Folds}
-use Rattle.term_folds.specs.Pieces.{FoldsEach, one_piece}
+use Rattle.term_folds.specs.Folds.{Does, enters, puts, Folds, FoldsEach}
+use Rattle.type_terms.specs.Pieces.{one_piece}
 use Rattle.term_folds.proofs.Replacing.{Describes, folds-are}
 use Rattle.infer_table.specs.Goals.{clause_label, clause_terms, environment_trees, goal_trees, ClausesFold, GoalFolds}
 use Rattle.infer_table.specs.declared.goal.Goal.{Goal}

@@ -4,8 +4,8 @@ use Rattle.std.proofs.lemmas.Grind.{common_steps}
 use Rattle.type_terms.specs.Terms.{Entry}
 use Rattle.term_folds.specs.declared.predicate.Clause.{Clause}
 use Rattle.term_folds.specs.Clauses.{clause_pieces}
-use Rattle.term_folds.specs.Pieces.{Piece}
-use Rattle.term_folds.proofs.Items.{take-push}
+use Rattle.type_terms.specs.Pieces.{Piece}
+use Rattle.type_terms.proofs.Items.{take-push}
 use Rattle.infer_table.specs.Goals.{environment_pieces}
 
 pieces-none : (ps : List Piece) → ps ++ [] ≡ ps

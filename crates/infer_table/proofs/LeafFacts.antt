@@ -35,8 +35,8 @@ use Rattle.type_terms.specs.contracts.kinds.GenericArgKindPartialEq.TheImpl.{gho
 use Rattle.type_terms.proofs.Labels.{binder-back, variable-back, region-vid-back, region-back}
 use Rattle.type_terms.proofs.Equal.{both, through}
 use Rattle.type_terms.proofs.Sorts.{bound-sort}
-use Rattle.term_folds.specs.Kept.{is-at}
-use Rattle.term_folds.proofs.Items.{take-push}
+use Rattle.type_terms.specs.Kept.{is-at}
+use Rattle.type_terms.proofs.Items.{take-push}
 use Rattle.infer_table.specs.declared.canonical.CanonicalVarKind.{CanonicalVarKind}
 use Rattle.infer_table.specs.Canonical.{is_among, with_label, place_of, kind_of_leaf}
 use Rattle.infer_table.proofs.CanonicalLaws.{same_label-self}

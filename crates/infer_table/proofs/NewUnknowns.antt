@@ -4,7 +4,7 @@ use Rattle.std.proofs.lemmas.List.{length-take-le}
 use Rattle.model.specs.Label.{Label}
 use Rattle.type_terms.specs.Terms.{Entry}
 use Rattle.type_terms.specs.declared.kinds.GenericArgKind.{GenericArgKind}
-use Rattle.term_folds.proofs.Items.{take-push}
+use Rattle.type_terms.proofs.Items.{take-push}
 use Rattle.infer_table.specs.Content.{Table, Grows}
 use Rattle.infer_table.specs.Growth.{grows-refl, grows-ty, grows-const, grows-regions}
 use Rattle.infer_table.specs.declared.canonical.CanonicalVarKind.{CanonicalVarKind}

@@ -7,11 +7,11 @@ use Rattle.type_terms.specs.Kinds.{region_trees}
 use Rattle.term_folds.specs.declared.predicate.Clause.{Clause}
 use Rattle.term_folds.specs.declared.predicate.Clause.TheVariants.{Trait, RegionOutlives, TypeOutlives}
 use Rattle.term_folds.specs.Clauses.{ClauseHeld, clause_outline, clause_pieces, clause-held-later, clause-pieces-later}
-use Rattle.term_folds.specs.Folds.{Does, enters, puts, Folds, Answers}
+use Rattle.term_folds.specs.Folds.{Does, enters, puts, Folds, Answers, FoldsEach}
 use Rattle.term_folds.specs.declared.fold.Answer.TheVariants.{Enter, Replace}
-use Rattle.term_folds.specs.Pieces.{FoldsEach, one_piece}
-use Rattle.term_folds.specs.Kept.{has-later, trees-later}
-use Rattle.term_folds.proofs.Items.{take-push}
+use Rattle.type_terms.specs.Pieces.{one_piece}
+use Rattle.type_terms.specs.Kept.{has-later, trees-later}
+use Rattle.type_terms.proofs.Items.{take-push}
 use Rattle.term_folds.proofs.Replacing.{Describes, folds-are}
 use Rattle.infer_table.specs.Canonical.{GoalTrees, kind_of_leaf, canonical_label, relabeled}
 use Rattle.infer_table.specs.Goals.{clause_label, clause_terms, environment_trees, goal_trees, ClausesHeld, GoalHeld, ClausesFold}

@@ -2,13 +2,13 @@
 use Rattle.std.proofs.Common.{◌≡◌, ℕ, ◌+◌, ◌<◌, ◌≤◌, Bool, true, false, refl, ap, sym, ◌∙◌, arith, List, [], ◌∷◌, ◌++◌, subst, nat_eq, inl, inr, ◌||◌, length, get_or, take}
 use Rattle.std.specs.Prelude.{◌⊎◌}
 use Rattle.std.specs.HashSet.{contains}
-use Rattle.model.specs.Label.{of_type}
+use Rattle.model.specs.Label.{of_type, Sort}
 use Rattle.model.specs.Trees.{Trees, none, ◌+++◌}
-use Rattle.type_terms.specs.Terms.{Entry, Has, types, trees_at}
+use Rattle.type_terms.specs.Terms.{Entry, Has, types, trees_at, Is, Lawful}
 use Rattle.type_terms.specs.declared.kinds.Ty.{Ty}
-use Rattle.term_folds.specs.declared.entered.Entered.{Entered}
-use Rattle.infer_table.specs.Solutions.{Binding, resolved, occurs, size}
-use Rattle.infer_table.specs.Content.{IsProper}
+use Rattle.type_terms.specs.declared.entered.Entered.{Entered}
+use Rattle.infer_table.specs.Solutions.{Binding, resolved, occurs, size, AllValued}
+use Rattle.infer_table.specs.Content.{IsProper, AreOlder}
 use Rattle.infer_table.specs.Occurring.{IsWithout, AreTypes, AreWithout, StandIn, weight, Pushes, LooksAt}
 use Rattle.infer_table.proofs.SolutionLaws.{occurs-append, resolved-append, resolved-none, size-append}
 use Rattle.infer_table.proofs.ResolveFacts.{proper-append, region-proper, kind-proper}
@@ -16,8 +16,7 @@ use Rattle.infer_table.proofs.ContentFacts.{is-trees}
 use Rattle.infer_table.proofs.EquationFacts.{arg-single}
 use Rattle.infer_table.proofs.OccurFacts.{filled, rigid-kind, region-occurs}
 use Rattle.infer_table.proofs.PartFacts.{parts-size, parts-occurs}
-use Rattle.term_folds.proofs.Items.{take-push, args-push}
-use Rattle.type_terms.specs.Terms.{Is, Lawful}
+use Rattle.type_terms.proofs.Items.{take-push, args-push}
 use Rattle.type_terms.specs.Kinds.{arg_trees, args_trees, kind_trees}
 use Rattle.type_terms.specs.declared.region.Region.{Region}
 use Rattle.type_terms.specs.declared.number.TyVid.{TyVid}
@@ -25,10 +24,7 @@ use Rattle.type_terms.specs.declared.kinds.TyKind.{TyKind}
 use Rattle.type_terms.specs.declared.kinds.TyKind.TheVariants.{Infer as KInfer}
 use Rattle.type_terms.specs.declared.kinds.GenericArgKind.{GenericArgKind}
 use Rattle.type_terms.specs.declared.kinds.GenericArgKind.TheVariants.{Lifetime, Ty as AType}
-use Rattle.infer_table.specs.Solutions.{AllValued}
-use Rattle.infer_table.specs.Content.{AreOlder}
 use Rattle.infer_table.specs.Parts.{HasBounds, parts_trees}
-use Rattle.model.specs.Label.{Sort}
 
 module _ (es : List Entry) (bs : List Binding) (v : ℕ) where
   abbrev Stands : Trees → Type 0

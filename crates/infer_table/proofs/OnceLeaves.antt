@@ -5,13 +5,13 @@ use Rattle.model.specs.Label.{Label}
 use Rattle.model.specs.Trees.{Trees, none, tree}
 use Rattle.type_terms.specs.Terms.{Entry}
 use Rattle.type_terms.specs.declared.Fault.{Fault}
-use Rattle.term_folds.specs.declared.once.Once.{Once}
-use Rattle.term_folds.specs.declared.visit.Seen.{Seen}
-use Rattle.term_folds.specs.declared.visit.Seen.TheVariants.{Break, Enter, Pass}
-use Rattle.term_folds.specs.Pieces.{Piece}
-use Rattle.term_folds.specs.Visits.{VisitsEach}
-use Rattle.term_folds.specs.Entering.{HasEntered, SeesOnce}
-use Rattle.term_folds.proofs.OnceFacts.{Repeats, once-visits-each}
+use Rattle.type_terms.specs.declared.once.Once.{Once}
+use Rattle.type_terms.specs.declared.visit.Seen.{Seen}
+use Rattle.type_terms.specs.declared.visit.Seen.TheVariants.{Break, Enter, Pass}
+use Rattle.type_terms.specs.Pieces.{Piece}
+use Rattle.type_terms.specs.Visits.{VisitsEach}
+use Rattle.type_terms.specs.Entering.{HasEntered, SeesOnce}
+use Rattle.type_terms.proofs.OnceFacts.{Repeats, once-visits-each}
 use Rattle.infer_table.specs.Canonical.{OpenKinds, is_among, with_label, leaves}
 use Rattle.infer_table.specs.Leaves.{open_kinds, labels, Collects}
 use Rattle.infer_table.specs.LeafLaws.{Collecting}

@@ -5,12 +5,12 @@ use Rattle.model.specs.Trees.{Trees}
 use Rattle.type_terms.specs.Terms.{Entry, held, bounds_lists}
 use Rattle.type_terms.specs.declared.Fault.{Fault}
 use Rattle.type_terms.specs.declared.Fault.TheVariants.{Full, Memory}
-use Rattle.term_folds.specs.declared.visit.Seen.{Seen}
-use Rattle.term_folds.specs.declared.visit.Seen.TheVariants.{Break}
-use Rattle.term_folds.specs.Failures.{SomeKindIsFull}
-use Rattle.term_folds.specs.Pieces.{Piece}
-use Rattle.term_folds.specs.Visits.{Visits, ended, passed, broken, entered, broken_below, VisitsEach, ended_each, next_each, broken_each}
-use Rattle.term_folds.proofs.FailFacts.{refused-term}
+use Rattle.type_terms.specs.declared.visit.Seen.{Seen}
+use Rattle.type_terms.specs.declared.visit.Seen.TheVariants.{Break}
+use Rattle.type_terms.specs.Failures.{SomeKindIsFull}
+use Rattle.type_terms.specs.Pieces.{Piece}
+use Rattle.type_terms.specs.Visits.{Visits, ended, passed, broken, entered, broken_below, VisitsEach, ended_each, next_each, broken_each}
+use Rattle.type_terms.proofs.FailFacts.{refused-term}
 use Rattle.infer_table.specs.Content.{Table}
 use Rattle.infer_table.specs.declared.canonical.CanonicalVarKind.{CanonicalVarKind}
 use Rattle.infer_table.specs.Unknowns.{with_next, with_each, HasNoNumber, SomeHasNoNumber}

@@ -4,7 +4,7 @@ use Rattle.std.proofs.lemmas.List.{append_assoc}
 use Rattle.model.specs.Trees.{Trees}
 use Rattle.type_terms.specs.Terms.{Entry, Lawful, Keeps, types, trees_at}
 use Rattle.type_terms.specs.Kinds.{ArgHeld, arg_trees}
-use Rattle.term_folds.specs.Kept.{has-later, trees-later}
+use Rattle.type_terms.specs.Kept.{has-later, trees-later}
 use Rattle.infer_table.specs.Constraints.{constraints_trees}
 use Rattle.infer_table.specs.Content.{Table, content, Ready, Grows}
 use Rattle.infer_table.specs.Equations.{AreHeld, SameSolutions, Advances}

@@ -7,8 +7,8 @@ use Rattle.type_terms.specs.Kinds.{region_trees}
 use Rattle.term_folds.specs.declared.predicate.Clause.{Clause}
 use Rattle.term_folds.specs.declared.predicate.Clause.TheVariants.{Trait, RegionOutlives, TypeOutlives}
 use Rattle.term_folds.specs.Clauses.{ClauseHeld, clause_outline, clause_pieces, clause-pieces-later}
-use Rattle.term_folds.specs.Pieces.{Piece, each_piece, one_piece}
-use Rattle.term_folds.proofs.Items.{take-push}
+use Rattle.type_terms.specs.Pieces.{Piece, each_piece, one_piece}
+use Rattle.type_terms.proofs.Items.{take-push}
 use Rattle.infer_table.specs.Solutions.{Binding, resolved, is_rigid}
 use Rattle.infer_table.proofs.SolutionLaws.{resolved-append, resolved-none, resolved-rigid}
 use Rattle.infer_table.specs.Goals.{clause_label, clause_terms, environment_trees, ClausesHeld}

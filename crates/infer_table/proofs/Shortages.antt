@@ -6,7 +6,7 @@ use Rattle.type_terms.specs.Terms.{Entry, Keeps, Lawful}
 use Rattle.type_terms.specs.Kinds.{ArgHeld, arg_trees, args_trees}
 use Rattle.type_terms.specs.declared.kinds.GenericArgKind.{GenericArgKind}
 use Rattle.type_terms.proofs.Sorts.{arg-single}
-use Rattle.term_folds.specs.Kept.{arg-trees-later}
+use Rattle.type_terms.specs.Kept.{arg-trees-later}
 use Rattle.infer_table.specs.Unification.{TableTrees, unified}
 use Rattle.infer_table.specs.Numbers.{RunsOut}
 use Rattle.type_terms.specs.declared.TheConstants.{MAX_INDEX}

@@ -9,7 +9,7 @@ use Rattle.model.specs.Trees.{Trees, none, tree, ◌+++◌, Single}
 use Rattle.type_terms.specs.Terms.{Entry, Keeps, Lawful}
 use Rattle.type_terms.specs.Kinds.{ArgHeld, ArgsHeld, arg_trees, args_trees}
 use Rattle.type_terms.specs.declared.kinds.GenericArgKind.{GenericArgKind}
-use Rattle.term_folds.specs.Kept.{arg-held-later, arg-trees-later}
+use Rattle.type_terms.specs.Kept.{arg-held-later, arg-trees-later}
 use Rattle.type_terms.proofs.Sorts.{arg-single}
 use Rattle.infer_table.specs.Solutions.{Assignment, Binding, instance, Equates, HasNoSolution}
 use Rattle.infer_table.specs.Unification.{TableTrees}

@@ -8,8 +8,8 @@ use Rattle.term_folds.specs.declared.predicate.TraitPredicate.{TraitPredicate}
 use Rattle.term_folds.specs.declared.predicate.Clause.{Clause}
 use Rattle.term_folds.specs.declared.predicate.Clause.TheVariants.{Trait, RegionOutlives, TypeOutlives}
 use Rattle.term_folds.specs.Clauses.{ClauseHeld, clause_outline, clause_pieces}
-use Rattle.term_folds.specs.Folds.{Does}
-use Rattle.term_folds.specs.Pieces.{Piece, FoldsEach, one_piece}
+use Rattle.term_folds.specs.Folds.{Does, FoldsEach}
+use Rattle.type_terms.specs.Pieces.{Piece, one_piece}
 use Rattle.infer_table.specs.Canonical.{GoalTrees}
 use Rattle.infer_table.specs.Solutions.{Binding, resolved}
 use Rattle.infer_table.specs.declared.goal.Goal.{Goal}

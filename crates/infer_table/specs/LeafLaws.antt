@@ -6,12 +6,12 @@ use Rattle.model.specs.Trees.{Trees, none, tree, leaf}
 use Rattle.type_terms.specs.Terms.{Entry, Keeps}
 use Rattle.type_terms.specs.declared.Fault.{Fault}
 use Rattle.type_terms.specs.declared.kinds.GenericArgKind.{GenericArgKind}
-use Rattle.term_folds.specs.declared.visit.Seen.{Seen}
-use Rattle.term_folds.specs.declared.visit.Seen.TheVariants.{Enter}
-use Rattle.term_folds.specs.Folds.{Does, enters, puts, again, IsBound}
-use Rattle.term_folds.specs.Kept.{arg-held-later, arg-trees-later}
-use Rattle.term_folds.specs.Pieces.{Piece}
-use Rattle.term_folds.specs.Visits.{VisitsEach}
+use Rattle.type_terms.specs.declared.visit.Seen.{Seen}
+use Rattle.type_terms.specs.declared.visit.Seen.TheVariants.{Enter}
+use Rattle.term_folds.specs.Folds.{Does, enters, puts, again}
+use Rattle.type_terms.specs.Visits.{IsBound, VisitsEach}
+use Rattle.type_terms.specs.Kept.{arg-held-later, arg-trees-later}
+use Rattle.type_terms.specs.Pieces.{Piece}
 use Rattle.infer_table.specs.declared.canonicalizer.LeafCollector.{LeafCollector}
 use Rattle.infer_table.specs.Leaves.{open_kinds, root_label, leaf_label, labels, IsLeaf, AreLeaves, Collects, is_closed, is_type_label, numbering}
 

@@ -7,8 +7,8 @@ use Rattle.type_terms.specs.Kinds.{ArgHeld, arg_trees}
 use Rattle.type_terms.specs.declared.Fault.{Fault}
 use Rattle.type_terms.specs.declared.Fault.TheVariants.{Memory}
 use Rattle.type_terms.specs.declared.kinds.GenericArgKind.{GenericArgKind}
-use Rattle.term_folds.specs.declared.visit.Seen.{Seen}
-use Rattle.term_folds.specs.declared.visit.Seen.TheVariants.{Break, Enter, Pass}
+use Rattle.type_terms.specs.declared.visit.Seen.{Seen}
+use Rattle.type_terms.specs.declared.visit.Seen.TheVariants.{Break, Enter, Pass}
 use Rattle.term_folds.specs.Folds.{Does, enters, puts}
 use Rattle.infer_table.specs.Canonical.{GoalTrees, OpenKinds, kind_of_leaf, kind_in_clause, with_label, leaves, canonical_label, relabeled}
 use Rattle.infer_table.specs.declared.canonicalizer.TheConstants.{CLAUSE_FLAGS, OPEN_FLAGS}

@@ -5,7 +5,7 @@ use Rattle.model.specs.Label.{of_type}
 use Rattle.model.specs.Trees.{Trees}
 use Rattle.type_terms.specs.Terms.{Entry, Has, types, trees_at}
 use Rattle.type_terms.specs.declared.kinds.Ty.{Ty}
-use Rattle.term_folds.specs.declared.entered.Entered.{Entered}
+use Rattle.type_terms.specs.declared.entered.Entered.{Entered}
 use Rattle.infer_table.specs.Solutions.{Binding, resolved, occurs, size}
 use Rattle.infer_table.specs.Content.{IsProper}
 

@@ -4,7 +4,8 @@ use Rattle.std.specs.Prelude.{◌≡◌, ℕ, ◌+◌, List, length, cond, ltb, 
 use Rattle.std.proofs.Common.{ap}
 use Rattle.model.specs.Label.{Label, of_type, of_lifetime, infer, bound, principal, auto_trait, inside}
 use Rattle.model.specs.Trees.{Trees, none, tree, outer_binder, sort_of, is_sort}
-use Rattle.term_folds.specs.Folds.{Does, enters, puts, again, IsBound}
+use Rattle.term_folds.specs.Folds.{Does, enters, puts, again}
+use Rattle.type_terms.specs.Visits.{IsBound}
 
 -- lifetime v of the k-th binder around it is one of the n that the opened binder binds, where d binders are inside that one
 abbrev pub is_opened : ℕ → ℕ → ℕ → ℕ → Bool

@@ -3,7 +3,8 @@ use Rattle.std.specs.Prelude.{◌≡◌, ℕ, ◌+◌, suc, List, [], ◌∷◌,
 use Rattle.std.proofs.Common.{arith, sym, subst, ◌<◌, ◌≤◌}
 use Rattle.model.specs.Label.{Label, Sort, of_type, of_const, of_lifetime, infer, principal, auto_trait}
 use Rattle.model.specs.Trees.{Trees, none, tree, leaf, ◌+++◌, flags, sort_of, is_sort}
-use Rattle.term_folds.specs.Folds.{Does, enters, puts, again, IsBound}
+use Rattle.term_folds.specs.Folds.{Does, enters, puts, again}
+use Rattle.type_terms.specs.Visits.{IsBound}
 use Rattle.type_terms.specs.Terms.{Entry, Keeps}
 use Rattle.infer_table.specs.Solutions.{Binding, is_variable, resolved, size}
 use Rattle.infer_table.specs.Content.{Table, content, Ready}

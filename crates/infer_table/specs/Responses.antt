@@ -4,8 +4,7 @@ use Rattle.model.specs.Label.{Label}
 use Rattle.model.specs.Trees.{Trees, none, ◌+++◌}
 use Rattle.type_terms.specs.Terms.{Entry}
 use Rattle.type_terms.specs.Kinds.{ArgsHeld, args_trees}
-use Rattle.term_folds.specs.Folds.{Does}
-use Rattle.term_folds.specs.Pieces.{FoldsEach}
+use Rattle.term_folds.specs.Folds.{Does, FoldsEach}
 use Rattle.infer_table.specs.Canonical.{GoalTrees, CanonicalForm, kind_of_leaf, leaves, canonical_label, relabeled}
 use Rattle.infer_table.specs.Content.{AllConstraintsHeld}
 use Rattle.infer_table.specs.Constraints.{constraint_outline, constraint_pieces, constraints_trees}

@@ -8,8 +8,9 @@ use Rattle.type_terms.specs.Terms.{Entry, Keeps}
 use Rattle.type_terms.specs.Kinds.{ArgsHeld, arg_trees}
 use Rattle.type_terms.specs.declared.kinds.GenericArgKind.{GenericArgKind}
 use Rattle.type_terms.specs.declared.kinds.GenericArgKind.TheVariants.{Lifetime, Ty, Const}
-use Rattle.term_folds.specs.Folds.{Does, enters, puts, again, IsBound}
-use Rattle.term_folds.specs.Kept.{arg-trees-later}
+use Rattle.term_folds.specs.Folds.{Does, enters, puts, again}
+use Rattle.type_terms.specs.Visits.{IsBound}
+use Rattle.type_terms.specs.Kept.{arg-trees-later}
 use Rattle.infer_table.specs.Canonical.{GoalTrees}
 use Rattle.infer_table.specs.Leaves.{is_type_label}
 use Rattle.infer_table.specs.declared.instantiate.TheConstants.{BOUND_FLAGS}

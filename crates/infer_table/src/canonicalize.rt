@@ -4,7 +4,7 @@ ghost use Rattle.model.specs.Trees.{◌+++◌};
 ghost use Rattle.type_terms.specs.Terms.{Keeps, Has, args_lists, trees_at};
 ghost use Rattle.type_terms.specs.Kinds.{ArgsHeld, args_trees};
 ghost use Rattle.type_terms.specs.declared.TheConstants.{MAX_INDEX};
-ghost use Rattle.term_folds.specs.Failures.{SomeKindIsFull};
+ghost use Rattle.type_terms.specs.Failures.{SomeKindIsFull};
 ghost use Rattle.infer_table.specs.Canonical.{canonical_form, kind_of_leaf, HasNoCanonical};
 ghost use Rattle.infer_table.specs.Content.{Ready, AllConstraintsHeld};
 ghost use Rattle.infer_table.specs.Constraints.{constraints_trees};

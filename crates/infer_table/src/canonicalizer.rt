@@ -11,17 +11,17 @@ ghost use Rattle.infer_table.specs.Leaves.{open_kinds, AreLeaves, labels, leaf_l
 use indexmap::IndexSet;
 use std::alloc::Global;
 use std::ops::ControlFlow;
-use term_folds::binders::Binders;
 use term_folds::fold::Answer;
 use term_folds::folder::TypeFolder;
-use term_folds::once::Once;
-use term_folds::visit::{Seen, TypeVisitor};
-use term_folds::visitable::TypeVisitable;
+use type_terms::binders::Binders;
 use type_terms::flags::TypeFlags;
 use type_terms::interner::Interner;
 use type_terms::kinds::{Const, ConstKind, GenericArgKind, Ty, TyKind};
 use type_terms::number::{BoundVar, BoundVarIndexKind};
+use type_terms::once::Once;
 use type_terms::region::{Region, RegionKind};
+use type_terms::visit::{Seen, TypeVisitor};
+use type_terms::visitable::TypeVisitable;
 use type_terms::{Fault, MAX_INDEX};
 
 /// The flags of what is open in a where-clause.

@@ -3,7 +3,7 @@ ghost use Rattle.std.specs.Prelude.{◌≡◌, ◌≤◌, ◌↔◌, ◌⊎◌, 
 ghost use Rattle.type_terms.specs.Terms.{Keeps};
 ghost use Rattle.type_terms.specs.Kinds.{ArgsHeld};
 ghost use Rattle.type_terms.specs.declared.TheConstants.{MAX_INDEX};
-ghost use Rattle.term_folds.specs.Failures.{SomeKindIsFull};
+ghost use Rattle.type_terms.specs.Failures.{SomeKindIsFull};
 ghost use Rattle.infer_table.specs.Content.{Ready};
 ghost use Rattle.infer_table.specs.Canonical.{canonical_label, goal_leaves, renamed, kind_of_leaf};
 ghost use Rattle.infer_table.specs.Goals.{GoalHeld, PredicateHeld, goal_trees, predicate_trees};
@@ -22,11 +22,11 @@ use indexmap::IndexSet;
 use std::alloc::{AllocError, Global};
 use term_folds::foldable::TypeFoldable;
 use term_folds::predicate::TraitPredicate;
-use term_folds::visitable::TypeVisitable;
-use term_folds::visitable_ext::TypeVisitableExt;
 use type_terms::Fault;
 use type_terms::interner::Interner;
 use type_terms::kinds::{ConstKind, GenericArgKind, TyKind};
+use type_terms::visitable::TypeVisitable;
+use type_terms::visitable_ext::TypeVisitableExt;
 
 /// A goal in canonical form: what is asked of the search, and the key under which the answer is kept.
 ///

@@ -4,17 +4,17 @@ ghost use Rattle.std.specs.List.{slice_get};
 ghost use Rattle.model.specs.Label.{of_type, of_const, of_lifetime, canonical};
 ghost use Rattle.type_terms.specs.Terms.{Entry, Keeps, Has, types, consts, trees_at};
 ghost use Rattle.type_terms.specs.Kinds.{ArgsHeld, RegionHeld, region_trees};
-ghost use Rattle.term_folds.specs.Failures.{SomeKindIsFull};
+ghost use Rattle.type_terms.specs.Failures.{SomeKindIsFull};
 ghost use Rattle.infer_table.specs.Goals.{GoalHeld, goal_trees};
 ghost use Rattle.infer_table.specs.Values.{values_of, value_for, goal_filled, are_unbound_flags};
 
 use crate::goal::Goal;
 use crate::known::type_has_kind;
 use std::alloc::Global;
-use term_folds::binders::Binders;
 use term_folds::fold::Answer;
 use term_folds::folder::TypeFolder;
 use type_terms::Fault;
+use type_terms::binders::Binders;
 use type_terms::flags::TypeFlags;
 use type_terms::interner::Interner;
 use type_terms::kinds::{Const, ConstKind, GenericArgKind, Ty, TyKind};
@@ -98,7 +98,7 @@ impl CanonicalInstantiator<'_> {
 
 impl TypeFolder for CanonicalInstantiator<'_> {
     ghost use Rattle.std.proofs.Common.{refl};
-    ghost use Rattle.term_folds.specs.Kept.{args-held-later};
+    ghost use Rattle.type_terms.specs.Kept.{args-held-later};
     ghost use Rattle.term_folds.specs.Folds.{none_above};
     ghost use Rattle.infer_table.specs.Values.{filling, filling-bounds, filling-once, filling-later};
 

@@ -11,7 +11,7 @@ use crate::infer_ctxt::InferCtxt;
 use crate::known::{const_has_kind, type_has_kind};
 use crate::parts::parts;
 use std::alloc::AllocError;
-use term_folds::entered::Entered;
+use type_terms::entered::Entered;
 use type_terms::flags::TypeFlags;
 use type_terms::interner::Interner;
 use type_terms::kinds::{Const, GenericArgKind, Ty, TyKind};

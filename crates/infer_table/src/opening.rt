@@ -3,9 +3,9 @@ ghost use Rattle.std.specs.Prelude.{◌≡◌, ◌+◌, ◌≤◌};
 ghost use Rattle.type_terms.specs.declared.TheConstants.{MAX_INDEX};
 
 use crate::known::{const_has_kind, type_has_kind};
-use term_folds::binders::Binders;
 use term_folds::fold::Answer;
 use term_folds::folder::TypeFolder;
+use type_terms::binders::Binders;
 use type_terms::interner::Interner;
 use type_terms::kinds::{Const, Ty};
 use type_terms::number::{BoundVarIndexKind, RegionVid};

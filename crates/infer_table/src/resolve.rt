@@ -1,17 +1,17 @@
 //! Variables replaced by their values, all the way.
 ghost use Rattle.std.specs.Prelude.{◌≡◌, List, IfOk, Err};
 ghost use Rattle.type_terms.specs.Terms.{Keeps};
-ghost use Rattle.term_folds.specs.Failures.{SomeKindIsFull};
-ghost use Rattle.term_folds.specs.Pieces.{each_piece};
+ghost use Rattle.type_terms.specs.Failures.{SomeKindIsFull};
+ghost use Rattle.type_terms.specs.Pieces.{each_piece};
 ghost use Rattle.infer_table.specs.Solutions.{resolved};
 ghost use Rattle.infer_table.specs.Content.{content, Ready};
 
 use crate::infer_ctxt::InferCtxt;
-use term_folds::binders::Binders;
 use term_folds::fold::Answer;
 use term_folds::foldable::TypeFoldable;
 use term_folds::folder::TypeFolder;
 use type_terms::Fault;
+use type_terms::binders::Binders;
 use type_terms::flags::TypeFlags;
 use type_terms::interner::Interner;
 use type_terms::kinds::{Const, ConstKind, Ty, TyKind};

@@ -1,7 +1,7 @@
 //! Goals resolved by a table.
 ghost use Rattle.std.specs.Prelude.{◌≡◌, IfOk, Err};
 ghost use Rattle.type_terms.specs.Terms.{Keeps};
-ghost use Rattle.term_folds.specs.Failures.{SomeKindIsFull};
+ghost use Rattle.type_terms.specs.Failures.{SomeKindIsFull};
 ghost use Rattle.infer_table.specs.Content.{content, Ready};
 ghost use Rattle.infer_table.specs.Goals.{GoalHeld, ClausesHeld, goal_trees, environment_trees, goal_resolved};
 ghost use Rattle.infer_table.specs.Solutions.{resolved};

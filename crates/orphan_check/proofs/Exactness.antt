@@ -5,10 +5,10 @@ use Rattle.std.specs.List.{list_all}
 use Rattle.model.specs.Trees.{Trees, depth}
 use Rattle.model.specs.Worlds.{World, Reference}
 use Rattle.model.specs.Walks.{trait_is, item_in, walk, open_walk, ends_local}
-use Rattle.type_terms.specs.Terms.{Entry, trees_at}
+use Rattle.type_terms.specs.Terms.{Entry, trees_at, Lawful, Has, args_lists}
 use Rattle.type_terms.specs.declared.kinds.Ty.{Ty}
 use Rattle.infer_table.specs.Solutions.{resolved}
-use Rattle.infer_table.specs.Content.{Table, content}
+use Rattle.infer_table.specs.Content.{Table, content, Ready}
 use Rattle.declarations.specs.Merges.{Each}
 use Rattle.orphan_check.specs.declared.errors.Conflict.{Conflict}
 use Rattle.orphan_check.specs.declared.errors.Conflict.TheVariants.{Upstream, Downstream}
@@ -21,29 +21,23 @@ use Rattle.orphan_check.specs.declared.errors.WalkError.{WalkError}
 use Rattle.orphan_check.specs.declared.errors.WalkError.TheVariants.{Normalize, Deep, Memory}
 use Rattle.orphan_check.specs.Flags.{is_first, leaves_in}
 use Rattle.orphan_check.specs.Items.{Item, local_item, open_item, items, decisive, first_local, foreign_leaves, OrphanError, nonlocal, uncovered, error_at, orphan_error}
-use Rattle.orphan_check.specs.Steps.{Reading, Step, refused, too_deep, entered, met_local, met_open, met_foreign, first_end, second_end, leaves}
+use Rattle.orphan_check.specs.Steps.{Reading, Step, refused, too_deep, entered, met_local, met_open, met_foreign, first_end, second_end, leaves, reading, steps}
 use Rattle.orphan_check.specs.Answers.{Passes, IsLocalType, IsDeep, IsTooDeep, IsOrphanAnswer, IsBarred, IsKnowableAnswer}
-use Rattle.orphan_check.specs.Knowing.{meets_open}
-use Rattle.type_terms.specs.Terms.{Lawful, Has, args_lists}
+use Rattle.orphan_check.specs.Knowing.{meets_open, IsKnowableBy}
 use Rattle.type_terms.specs.Made.{is_in_range, terms}
 use Rattle.type_terms.proofs.Made.{made-weaker}
-use Rattle.term_folds.specs.Kept.{is-at}
+use Rattle.type_terms.specs.Kept.{is-at}
 use Rattle.term_folds.specs.declared.predicate.TraitRef.{TraitRef}
 use Rattle.declarations.specs.Items.{Items, declared}
-use Rattle.infer_table.specs.Content.{Ready}
 use Rattle.infer_table.specs.Unification.{table_trees}
 use Rattle.infer_table.specs.WellFormed.{is_numbered}
 use Rattle.infer_table.proofs.Places.{in_terms, AreTrees, IsOfTrees, numbered, trees-of, table-trees, ready-terms}
 use Rattle.orphan_check.specs.declared.errors.InCrate.{InCrate}
 use Rattle.orphan_check.specs.declared.errors.OrphanCheckMode.TheVariants.{Proper}
-use Rattle.orphan_check.specs.Steps.{reading, steps}
-use Rattle.orphan_check.specs.Knowing.{IsKnowableBy}
 use Rattle.orphan_check.specs.Exact.{type_read, leaves_read, reference_read, AnswersItsInput, IsOrphanCheck, IsOrphanCheckOf, IsKnown, IsKnownOf}
-use Rattle.orphan_check.proofs.Reading.{steps-shown}
-use Rattle.orphan_check.proofs.Calm.{steps-calm}
+use Rattle.orphan_check.proofs.Reading.{steps-shown, shown}
+use Rattle.orphan_check.proofs.Calm.{steps-calm, IsCalm, calm-first, calm-second}
 use Rattle.orphan_check.proofs.Visiting.{is_none, decides, no-error-is, open-decides}
-use Rattle.orphan_check.proofs.Reading.{shown}
-use Rattle.orphan_check.proofs.Calm.{IsCalm, calm-first, calm-second}
 
 abbrev pub resolved_leaves : {E : Type 0} → Reading E → List (Trees × Bool) → List (Trees × Bool)
 resolved_leaves r ls = map (λ p. (resolved r.values p.0, p.1)) ls

@@ -12,7 +12,7 @@ use Rattle.type_terms.specs.declared.region.RegionKind.TheVariants.{ReStatic, Re
 use Rattle.type_terms.specs.declared.number.BoundVarIndexKind.TheVariants.{Bound as KBinder, Canonical as KCanonical}
 use Rattle.type_terms.specs.declared.kinds.Ty as of-ty
 use Rattle.type_terms.specs.declared.kinds.GenericArgs as of-args
-use Rattle.term_folds.specs.Kept.{is-at}
+use Rattle.type_terms.specs.Kept.{is-at}
 use Rattle.declarations.specs.Merges.{Each}
 use Rattle.orphan_check.specs.declared.walk.Pending.{Pending}
 use Rattle.orphan_check.specs.declared.look.Taken.TheVariants as taken

@@ -8,7 +8,7 @@ use Rattle.model.specs.Worlds.{Reference, ImplDecl, all_with_args}
 use Rattle.type_terms.specs.Terms.{Entry, Keeps, Lawful, args_lists, trees_at}
 use Rattle.type_terms.specs.declared.ImplId.{ImplId}
 use Rattle.term_folds.specs.Arguments.{first_misfit}
-use Rattle.term_folds.specs.Kept.{has-later, trees-later}
+use Rattle.type_terms.specs.Kept.{has-later, trees-later}
 use Rattle.term_folds.specs.declared.predicate.TraitRef.{TraitRef}
 use Rattle.infer_table.specs.Solutions.{Binding, Equates, HasNoSolution}
 use Rattle.infer_table.specs.Constraints.{constraints_trees}

@@ -8,7 +8,7 @@ use Rattle.model.proofs.TreeLaws.{instantiate-append, single-nth, single-shift}
 use Rattle.type_terms.specs.Terms.{Entry, Lawful, Has, term, trees_at}
 use Rattle.type_terms.specs.Kinds.{ArgHeld, arg_trees, args_trees}
 use Rattle.type_terms.proofs.Made.{false-true}
-use Rattle.term_folds.specs.Kept.{trees-is}
+use Rattle.type_terms.specs.Kept.{trees-is}
 use Rattle.infer_table.proofs.ClosedFacts.{or-left, or-right}
 use Rattle.infer_table.proofs.EquationFacts.{arg-single}
 use Rattle.type_terms.specs.declared.kinds.Ty.{Ty}

@@ -6,7 +6,7 @@ use Rattle.model.proofs.TreeLaws.{append-assoc, append-none}
 use Rattle.type_terms.specs.Terms.{Entry, Keeps}
 use Rattle.type_terms.specs.Kinds.{ArgsHeld, arg_trees, args_trees}
 use Rattle.type_terms.specs.declared.kinds.GenericArgKind.{GenericArgKind}
-use Rattle.term_folds.specs.Kept.{args-trees-later}
+use Rattle.type_terms.specs.Kept.{args-trees-later}
 use Rattle.infer_table.specs.Content.{Table, variables_of}
 use Rattle.overlap_check.specs.Fresh.{with_unknown, with_unknowns, fresh_unknowns}
 

@@ -4,7 +4,7 @@ ghost use Rattle.model.specs.Label.{infer};
 ghost use Rattle.model.specs.Trees.{leaf};
 ghost use Rattle.type_terms.specs.Terms.{Keeps, Has, args_lists, trees_at};
 ghost use Rattle.type_terms.specs.Kinds.{ArgHeld, arg_trees};
-ghost use Rattle.term_folds.specs.Failures.{SomeKindIsFull};
+ghost use Rattle.type_terms.specs.Failures.{SomeKindIsFull};
 ghost use Rattle.infer_table.specs.Content.{Ready, variables_of};
 ghost use Rattle.declarations.specs.Applied.{sort_of_param};
 ghost use Rattle.overlap_check.specs.Fresh.{with_unknown, with_unknowns, fresh_unknowns, HasNoNumber, SomeHaveNoNumber};

@@ -4,7 +4,7 @@ ghost use Rattle.model.specs.Trees.{outer_binder};
 ghost use Rattle.model.specs.Worlds.{with_args, all_with_args};
 ghost use Rattle.type_terms.specs.Terms.{Keeps, Has, args_lists, trees_at};
 ghost use Rattle.term_folds.specs.Arguments.{first_misfit};
-ghost use Rattle.term_folds.specs.Failures.{SomeKindIsFull};
+ghost use Rattle.type_terms.specs.Failures.{SomeKindIsFull};
 ghost use Rattle.infer_table.specs.Content.{Ready};
 ghost use Rattle.declarations.specs.Applied.{references_in, AllHeld};
 ghost use Rattle.declarations.specs.Held.{ReferenceHeld, ImplHeld};

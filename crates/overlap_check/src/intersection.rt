@@ -2,7 +2,7 @@
 ghost use Rattle.std.specs.Prelude.{◌≡◌, ◌⊎◌, IfOk, IfSome, Err, Ok, None};
 ghost use Rattle.model.specs.Worlds.{all_with_args};
 ghost use Rattle.type_terms.specs.Terms.{Keeps, trees_at};
-ghost use Rattle.term_folds.specs.Failures.{SomeKindIsFull};
+ghost use Rattle.type_terms.specs.Failures.{SomeKindIsFull};
 ghost use Rattle.infer_table.specs.Content.{Table};
 ghost use Rattle.declarations.specs.Applied.{references_in, AllHeld};
 ghost use Rattle.declarations.specs.Held.{ImplHeld};

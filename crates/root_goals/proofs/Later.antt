@@ -15,7 +15,7 @@ use Rattle.infer_table.specs.Goals.{GoalHeld, goal_resolved}
 use Rattle.infer_table.specs.LeafLaws.{leaves-later, labels-later}
 use Rattle.infer_table.specs.Leaves.{AreLeaves, labels}
 use Rattle.infer_table.specs.Values.{Value}
-use Rattle.term_folds.specs.Kept.{args-held-later}
+use Rattle.type_terms.specs.Kept.{args-held-later}
 use Rattle.infer_table.proofs.Numbers.{goal-trees-later}
 use Rattle.infer_table.specs.Responses.{AnswerTrees}
 use Rattle.evaluation.specs.TableAnswers.{put_into}

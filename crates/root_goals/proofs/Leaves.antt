@@ -10,7 +10,7 @@ use Rattle.type_terms.proofs.MadeFacts.{type-made}
 use Rattle.term_folds.specs.declared.predicate.Clause.{Clause}
 use Rattle.term_folds.specs.declared.predicate.Clause.TheVariants.{Trait, RegionOutlives, TypeOutlives}
 use Rattle.term_folds.specs.Clauses.{ClauseHeld}
-use Rattle.term_folds.specs.Kept.{is-at}
+use Rattle.type_terms.specs.Kept.{is-at}
 use Rattle.infer_table.specs.Content.{Table, content, Ready}
 use Rattle.infer_table.specs.Solutions.{Binding, replace, resolved, is_variable}
 use Rattle.infer_table.specs.WellFormed.{AllTerms, is_numbered}

@@ -9,7 +9,7 @@ ghost use Rattle.infer_table.specs.Unification.{table_trees};
 ghost use Rattle.infer_table.specs.Leaves.{AreLeaves};
 ghost use Rattle.infer_table.specs.Shortages.{IsOutOfNumbers};
 ghost use Rattle.infer_table.specs.Values.{values_of};
-ghost use Rattle.term_folds.specs.Failures.{SomeKindIsFull};
+ghost use Rattle.type_terms.specs.Failures.{SomeKindIsFull};
 ghost use Rattle.infer_table.specs.Responses.{ResponseHeld, answer_trees};
 ghost use Rattle.evaluation.specs.TableAnswers.{has_values, IsWellFormed};
 ghost use Rattle.root_goals.specs.Roots.{left_by_answer, AtAgreeingSolutions, GoesOn};

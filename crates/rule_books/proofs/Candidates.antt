@@ -3,7 +3,7 @@ use Rattle.std.proofs.Common.{◌≡◌, ℕ, zero, suc, ◌+◌, ◌<◌, ◌�
 use Rattle.std.specs.List.{list_all}
 use Rattle.model.specs.Trees.{Trees}
 use Rattle.type_terms.specs.Terms.{Entry, Keeps, args_lists}
-use Rattle.term_folds.specs.Kept.{has-later}
+use Rattle.type_terms.specs.Kept.{has-later}
 use Rattle.term_folds.specs.declared.predicate.TraitPredicate.{TraitPredicate}
 use Rattle.infer_table.specs.Canonical.{GoalTrees}
 use Rattle.infer_table.specs.Constraints.{constraints_trees}

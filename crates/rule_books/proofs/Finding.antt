@@ -5,9 +5,9 @@ use Rattle.model.specs.Label.{Label, of_lifetime, dynamic, principal, auto_trait
 use Rattle.model.specs.Trees.{Trees, none, tree, sort_of, is_sort, is_no_tree, some_node}
 use Rattle.type_terms.specs.Terms.{Entry, Lawful, Has, trees_at, term, args_lists, bounds_lists}
 use Rattle.type_terms.specs.Made.{Standing, terms, bounds, traits, is_leaf_label, is_made, is_in_range}
-use Rattle.term_folds.specs.Visits.{Visits, ended, passed, broken, entered, broken_below}
-use Rattle.term_folds.specs.declared.visit.Seen.{Seen}
-use Rattle.term_folds.specs.declared.visit.Seen.TheVariants.{Break, Enter, Pass}
+use Rattle.type_terms.specs.Visits.{Visits, ended, passed, broken, entered, broken_below}
+use Rattle.type_terms.specs.declared.visit.Seen.{Seen}
+use Rattle.type_terms.specs.declared.visit.Seen.TheVariants.{Break, Enter, Pass}
 use Rattle.infer_table.specs.declared.canonical.CanonicalVarKind.{CanonicalVarKind}
 use Rattle.evaluation.specs.FrameTables.{kind_at}
 use Rattle.type_terms.proofs.Made.{false-true, left, right, no-tree, made-ordinary, last-bound, last-trait, never-dynamic, never-dynamic-bound, never-principal}

@@ -2,9 +2,9 @@
 use Rattle.std.specs.Prelude.{ℕ, Bool, true, false, not, List}
 use Rattle.model.specs.Label.{Label, principal, auto_trait}
 use Rattle.model.specs.Trees.{Trees, none, tree}
-use Rattle.term_folds.specs.Folds.{IsBound}
-use Rattle.term_folds.specs.declared.visit.Seen.{Seen}
-use Rattle.term_folds.specs.declared.visit.Seen.TheVariants.{Break, Enter}
+use Rattle.type_terms.specs.Visits.{IsBound}
+use Rattle.type_terms.specs.declared.visit.Seen.{Seen}
+use Rattle.type_terms.specs.declared.visit.Seen.TheVariants.{Break, Enter}
 use Rattle.infer_table.specs.declared.canonical.CanonicalVarKind.{CanonicalVarKind}
 use Rattle.infer_table.specs.Raw.{sort_of_kind}
 use Rattle.evaluation.specs.Variables.{is_variable_over}

@@ -2,7 +2,7 @@
 use Rattle.std.proofs.Common.{◌≡◌, true, List, [], ◌∷◌, map, refl, ◌∙◌, ap}
 use Rattle.model.specs.Trees.{Trees}
 use Rattle.type_terms.specs.Terms.{Entry, Keeps, args_lists}
-use Rattle.term_folds.specs.Kept.{has-later, trees-later}
+use Rattle.type_terms.specs.Kept.{has-later, trees-later}
 use Rattle.term_folds.specs.declared.predicate.TraitPredicate.{TraitPredicate}
 use Rattle.infer_table.specs.declared.canonical.CanonicalVarKind.{CanonicalVarKind}
 use Rattle.infer_table.specs.Goals.{PredicateHeld}

@@ -15,12 +15,12 @@ ghost use Rattle.type_terms.specs.Made.{terms, is_made};
 
 use infer_table::canonical::CanonicalVarKind;
 use std::ops::ControlFlow;
-use term_folds::binders::Binders;
-use term_folds::visit::{Seen, TypeVisitor, visit_args};
+use type_terms::binders::Binders;
 use type_terms::interner::Interner;
 use type_terms::kinds::{Const, ConstKind, GenericArgs, Ty, TyKind};
 use type_terms::number::{BoundVar, BoundVarIndexKind};
 use type_terms::region::{Region, RegionKind};
+use type_terms::visit::{Seen, TypeVisitor, visit_args};
 
 /// Breaks at what is open and is no canonical variable of these kinds.
 #[derive(Clone, Copy)]

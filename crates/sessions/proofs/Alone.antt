@@ -6,7 +6,7 @@ use Rattle.model.specs.Trees.{Trees, none, tree}
 use Rattle.model.specs.Worlds.{Reference}
 use Rattle.type_terms.specs.Terms.{Entry, Keeps, Lawful, Has, args_lists, trees_at}
 use Rattle.term_folds.specs.Arguments.{arg_sort}
-use Rattle.term_folds.specs.Kept.{has-later, trees-later}
+use Rattle.type_terms.specs.Kept.{has-later, trees-later}
 use Rattle.term_folds.specs.declared.predicate.TraitRef.{TraitRef}
 use Rattle.declarations.specs.Items.{reference_in}
 use Rattle.infer_table.specs.Canonical.{GoalTrees, CanonicalForm, HasNoCanonical, canonical_form}

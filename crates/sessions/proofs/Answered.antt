@@ -5,7 +5,7 @@ use Rattle.model.specs.Trees.{Trees, none, tree, some_node}
 use Rattle.type_terms.specs.Kinds.{ArgsHeld, arg_trees}
 use Rattle.type_terms.specs.Terms.{Entry, Keeps, Lawful, args_lists, trees_at}
 use Rattle.type_terms.specs.declared.kinds.GenericArgKind.{GenericArgKind}
-use Rattle.term_folds.specs.Kept.{arg-trees-later, trees-later}
+use Rattle.type_terms.specs.Kept.{arg-trees-later, trees-later}
 use Rattle.infer_table.specs.Canonical.{GoalTrees, CanonicalForm}
 use Rattle.infer_table.specs.Content.{Table, Ready, content}
 use Rattle.infer_table.specs.Goals.{GoalHeld, goal_trees}

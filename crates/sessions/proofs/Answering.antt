@@ -6,9 +6,9 @@ use Rattle.model.specs.Trees.{Trees, none, tree, some_node}
 use Rattle.type_terms.specs.Kinds.{ArgsHeld, arg_trees}
 use Rattle.type_terms.specs.Terms.{Entry, Keeps}
 use Rattle.type_terms.specs.declared.kinds.GenericArgKind.{GenericArgKind}
-use Rattle.term_folds.specs.Kept.{arg-trees-later}
-use Rattle.term_folds.specs.Scans.{has_flag, some_node_of}
-use Rattle.term_folds.specs.Pieces.{one_piece}
+use Rattle.type_terms.specs.Kept.{arg-trees-later}
+use Rattle.type_terms.specs.Scans.{has_flag, some_node_of}
+use Rattle.type_terms.specs.Pieces.{one_piece}
 use Rattle.infer_table.specs.Content.{Table, Ready, content}
 use Rattle.infer_table.specs.Kept.{content-kept}
 use Rattle.infer_table.specs.Solutions.{Binding, resolved}

@@ -12,7 +12,7 @@ use Rattle.model.proofs.Entries.{map-in}
 use Rattle.model.proofs.Members.{here, in-left, in-right, in-map, self-number}
 use Rattle.type_terms.specs.Terms.{Entry, Keeps, Has, args_lists, trees_at}
 use Rattle.type_terms.specs.declared.ImplId.{ImplId}
-use Rattle.term_folds.specs.Kept.{has-later, trees-later}
+use Rattle.type_terms.specs.Kept.{has-later, trees-later}
 use Rattle.declarations.specs.Heads.{head_of, label_of}
 use Rattle.declarations.specs.Items.{Items, IsAbove, declared, impl_in}
 use Rattle.declarations.specs.Relevant.{impls_named, names_of}

@@ -5,7 +5,7 @@ use Rattle.model.specs.Label.{Sort, of_type, of_const, of_lifetime}
 use Rattle.model.specs.Trees.{is_sort}
 use Rattle.type_terms.specs.declared.kinds.GenericArgKind.{GenericArgKind}
 use Rattle.term_folds.specs.Arguments.{arg_sort}
-use Rattle.term_folds.proofs.Items.{take-push}
+use Rattle.type_terms.proofs.Items.{take-push}
 use Rattle.infer_table.specs.Content.{Table, variables_of}
 use Rattle.sessions.specs.Tables.{count_of, table_of}
 

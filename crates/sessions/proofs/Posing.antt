@@ -7,7 +7,7 @@ use Rattle.model.specs.Worlds.{World, Reference}
 use Rattle.type_terms.specs.Kinds.{ArgsHeld, arg_trees}
 use Rattle.type_terms.specs.Terms.{Entry, Keeps, Lawful, Has, args_lists}
 use Rattle.type_terms.specs.declared.kinds.GenericArgKind.{GenericArgKind}
-use Rattle.term_folds.specs.Kept.{arg-trees-later}
+use Rattle.type_terms.specs.Kept.{arg-trees-later}
 use Rattle.term_folds.specs.declared.predicate.TraitRef.{TraitRef}
 use Rattle.declarations.specs.Applied.{AllHeld, references_in}
 use Rattle.declarations.specs.Elaboration.{elaborate}

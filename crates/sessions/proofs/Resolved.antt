@@ -4,8 +4,8 @@ use Rattle.model.specs.Trees.{Trees}
 use Rattle.type_terms.specs.Terms.{Entry, Keeps}
 use Rattle.type_terms.specs.Kinds.{ArgHeld, ArgsHeld, arg_trees}
 use Rattle.type_terms.specs.declared.kinds.GenericArgKind.{GenericArgKind}
-use Rattle.term_folds.specs.Kept.{arg-trees-later}
-use Rattle.term_folds.proofs.Items.{take-push}
+use Rattle.type_terms.specs.Kept.{arg-trees-later}
+use Rattle.type_terms.proofs.Items.{take-push}
 use Rattle.infer_table.specs.Solutions.{Binding, resolved}
 
 pub all-later : (old new : List Entry) → Keeps old new → (xs : List GenericArgKind) → ArgsHeld old xs → map (arg_trees new) xs ≡ map (arg_trees old) xs

@@ -35,11 +35,11 @@ use root_goals::{SolverCx, SolverGraph};
 use search_graph::{GlobalCache, SearchGraph};
 use std::alloc::{AllocError, Global};
 use term_folds::predicate::{Clause, TraitPredicate, TraitRef};
-use term_folds::visitable_ext::TypeVisitableExt;
 use type_terms::Fault;
 use type_terms::flags::TypeFlags;
 use type_terms::interner::Interner;
 use type_terms::kinds::{GenericArgKind, GenericArgs};
+use type_terms::visitable_ext::TypeVisitableExt;
 use view_lowering::LoweredQuestion;
 use workspace::Workspace;
 

@@ -5,7 +5,7 @@ ghost use Rattle.model.specs.Label.{Sort};
 ghost use Rattle.type_terms.specs.Terms.{Keeps};
 ghost use Rattle.type_terms.specs.declared.TheConstants.{MAX_INDEX};
 ghost use Rattle.term_folds.specs.Arguments.{arg_sort};
-ghost use Rattle.term_folds.specs.Failures.{SomeKindIsFull};
+ghost use Rattle.type_terms.specs.Failures.{SomeKindIsFull};
 ghost use Rattle.infer_table.specs.Content.{Ready, variables_of};
 ghost use Rattle.sessions.specs.Tables.{table_of};
 

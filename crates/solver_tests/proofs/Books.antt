@@ -2,7 +2,7 @@
 use Rattle.std.proofs.Common.{◌≡◌, true, List, [], ◌∷◌, ◌++◌, map, sym, subst}
 use Rattle.std.specs.List.{list_all}
 use Rattle.type_terms.specs.Terms.{Entry, Keeps, args_lists}
-use Rattle.term_folds.specs.Kept.{has-later}
+use Rattle.type_terms.specs.Kept.{has-later}
 use Rattle.term_folds.specs.declared.predicate.TraitPredicate.{TraitPredicate}
 use Rattle.infer_table.specs.Goals.{PredicateHeld}
 use Rattle.evaluation.specs.Lists.{Every}

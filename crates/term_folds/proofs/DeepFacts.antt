@@ -3,7 +3,7 @@ use Rattle.std.proofs.Common.{List, [], ◌∷◌, ◌++◌}
 use Rattle.type_terms.specs.Terms.{Entry, Has, Keeps, types}
 use Rattle.term_folds.specs.declared.deep.Step.{Step}
 use Rattle.term_folds.specs.Deep.{StepsHeld}
-use Rattle.term_folds.specs.Kept.{has-later}
+use Rattle.type_terms.specs.Kept.{has-later}
 
 pub steps_push : (es : List Entry) (xs : List Step) (x : Step) → StepsHeld es xs → Has es types x.ty.0 → StepsHeld es (xs ++ x ∷ [])
 steps_push es [] x h g = (g, tt)

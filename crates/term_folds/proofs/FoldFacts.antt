@@ -11,7 +11,7 @@ use Rattle.type_terms.specs.declared.kinds.Ty as of_ty
 use Rattle.type_terms.specs.declared.kinds.Const as of_const
 use Rattle.term_folds.specs.declared.fold.Answer.TheVariants.{Enter, Replace, Again}
 use Rattle.term_folds.specs.Folds.{Does, enters, puts, again, Folds, nothing, entered, put, in_turn, FoldsBelow, below, Answers, IsFold, IsFoldBelow}
-use Rattle.term_folds.specs.Kept.{trees-is, is-at, trees-later}
+use Rattle.type_terms.specs.Kept.{trees-is, is-at, trees-later}
 
 -- folds of lists, one after the other
 pub folds-append : {f : List ℕ → Trees → Does} {bs : List ℕ} {x u : Trees} → Folds f bs x u → {y v : Trees} → Folds f bs y v → Folds f bs (x +++ y) (u +++ v)
@@ -93,14 +93,6 @@ turn-handle f g bs t es1 es2 kind i j w law h r = record {
 pub ok-map : {T E : Type 0} {P Q : T → Type 0} (r : Result T E) → IfOk r P → ((x : T) → P x → Q x) → IfOk r Q
 ok-map (Ok x) h f = f x h
 ok-map (Err e) h f = h
-
--- ---- a type is one tree, and so is a constant
-pub type-is-one : (es : List Entry) → Lawful es → (i : ℕ) → Has es types i → Single (trees_at es i)
-type-is-one es law i h = go (trees_at es i) (law.sorted i _ (is-at es types i h)).as_type
-  where
-    go : (t : Trees) → (types ≡ types → IsA of_type t) → Single t
-    go none s = absurd (s refl)
-    go (tree l c o) s = (s refl).1
 
 -- a fold has one value
 pub folds-once : {f : List ℕ → Trees → Does} {bs : List ℕ} {t u v : Trees} → Folds f bs t u → Folds f bs t v → u ≡ v

@@ -9,9 +9,10 @@ use Rattle.term_folds.specs.declared.memo.Memo.{Memo}
 use Rattle.type_terms.specs.declared.kinds.Ty.{Ty}
 use Rattle.std.proofs.lemmas.Bool.{eqb-true}
 use Rattle.std.specs.HashMap.{get}
-use Rattle.term_folds.specs.Folds.{Does, around, Folds, nothing, entered, put, in_turn, IsFold}
+use Rattle.term_folds.specs.Folds.{Does, Folds, nothing, entered, put, in_turn, IsFold}
+use Rattle.type_terms.specs.Visits.{around}
 use Rattle.term_folds.specs.Memos.{IsKnown, Remembers, place_eq}
-use Rattle.term_folds.specs.Kept.{has-later, trees-later}
+use Rattle.type_terms.specs.Kept.{has-later, trees-later}
 use Rattle.term_folds.proofs.FoldFacts.{by-action}
 
 around-length : (l : Label) (bs cs : List ℕ) → length bs ≡ length cs → length (around l bs) ≡ length (around l cs)

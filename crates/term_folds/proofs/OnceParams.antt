@@ -5,14 +5,14 @@ use Rattle.model.specs.Trees.{Trees}
 use Rattle.type_terms.specs.Terms.{Entry, trees_at}
 use Rattle.term_folds.specs.declared.instantiate.InstantiateError.{InstantiateError}
 use Rattle.term_folds.specs.declared.instantiate.ParamVisitor.{ParamVisitor}
-use Rattle.term_folds.specs.declared.once.Once.{Once}
-use Rattle.term_folds.specs.declared.visit.Seen.{Seen}
-use Rattle.term_folds.specs.Pieces.{Piece}
-use Rattle.term_folds.specs.Visits.{VisitsEach}
+use Rattle.type_terms.specs.declared.once.Once.{Once}
+use Rattle.type_terms.specs.declared.visit.Seen.{Seen}
+use Rattle.type_terms.specs.Pieces.{Piece}
+use Rattle.type_terms.specs.Visits.{VisitsEach}
 use Rattle.term_folds.specs.Arguments.{looked_at, is_param_node, Looks}
-use Rattle.term_folds.specs.Entering.{HasEntered, SeesOnce}
+use Rattle.type_terms.specs.Entering.{HasEntered, SeesOnce}
 use Rattle.term_folds.proofs.MisfitFacts.{FoundIn, visit-finds-in}
-use Rattle.term_folds.proofs.OnceFacts.{Repeats, once-visits-each}
+use Rattle.type_terms.proofs.OnceFacts.{Repeats, once-visits-each}
 
 or-true : (b c : Bool) → c ≡ true → b || c ≡ true
 or-true true c e = refl

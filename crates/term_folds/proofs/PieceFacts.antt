@@ -1,8 +1,8 @@
 -- Folds of values, part by part.
 use Rattle.std.proofs.Common.{ℕ, List, [], ◌∷◌, ◌++◌, ap, sym, subst, append_assoc}
 use Rattle.model.specs.Trees.{Trees}
-use Rattle.term_folds.specs.Folds.{Does, Folds}
-use Rattle.term_folds.specs.Pieces.{Piece, under, FoldsEach}
+use Rattle.term_folds.specs.Folds.{Does, Folds, FoldsEach}
+use Rattle.type_terms.specs.Pieces.{Piece, under}
 
 pub folds-both : (f : List ℕ → Trees → Does) (bs : List ℕ) (ps qs ps' qs' : List Piece) → FoldsEach f bs ps qs → FoldsEach f bs ps' qs' → FoldsEach f bs (ps ++ ps') (qs ++ qs')
 folds-both f bs [] [] ps' qs' a b = b

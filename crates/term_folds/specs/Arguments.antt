@@ -11,10 +11,11 @@ use Rattle.type_terms.specs.declared.kinds.GenericArgKind.TheVariants.{Lifetime,
 use Rattle.term_folds.specs.declared.instantiate.InstantiateError.{InstantiateError}
 use Rattle.term_folds.specs.declared.instantiate.InstantiateError.TheVariants.{ParamOutOfRange, ParamKind}
 use Rattle.term_folds.specs.declared.instantiate.ParamVisitor.{ParamVisitor}
-use Rattle.term_folds.specs.declared.visit.Seen.{Seen}
-use Rattle.term_folds.specs.declared.visit.Seen.TheVariants.{Break, Enter, Pass}
-use Rattle.term_folds.specs.Folds.{Does, enters, puts, again, IsBound}
-use Rattle.term_folds.specs.Pieces.{Piece}
+use Rattle.type_terms.specs.declared.visit.Seen.{Seen}
+use Rattle.type_terms.specs.declared.visit.Seen.TheVariants.{Break, Enter, Pass}
+use Rattle.term_folds.specs.Folds.{Does, enters, puts, again}
+use Rattle.type_terms.specs.Visits.{IsBound}
+use Rattle.type_terms.specs.Pieces.{Piece}
 use Rattle.term_folds.specs.Shifts.{ShiftInRange, moved}
 
 -- a parameter

@@ -1,8 +1,10 @@
 -- What a folder does at a node, and what a fold is.
-use Rattle.std.specs.Prelude.{[], ◌≡◌, ℕ, ◌≤◌, List, ◌∷◌}
+use Rattle.std.specs.Prelude.{[], ◌≡◌, ℕ, ◌≤◌, List, ◌∷◌, ◌++◌}
 use Rattle.std.proofs.Common.{arith}
-use Rattle.model.specs.Label.{Label, fn_ptr, principal, auto_trait}
+use Rattle.model.specs.Label.{Label}
 use Rattle.model.specs.Trees.{Trees, none, tree, ◌+++◌}
+use Rattle.type_terms.specs.Visits.{around}
+use Rattle.type_terms.specs.Pieces.{Piece}
 use Rattle.type_terms.specs.Terms.{Entry, Is, Has, trees_at, types, consts}
 use Rattle.type_terms.specs.Kinds.{region_trees, RegionHeld}
 use Rattle.type_terms.specs.declared.kinds.Ty.{Ty}
@@ -10,12 +12,6 @@ use Rattle.type_terms.specs.declared.kinds.Const.{Const}
 use Rattle.type_terms.specs.declared.region.Region.{Region}
 use Rattle.term_folds.specs.declared.fold.Answer.{Answer}
 use Rattle.term_folds.specs.declared.fold.Answer.TheVariants.{Enter, Replace, Again}
-
--- the binders around the children of a node, the innermost first, where `bs` are around it
-abbrev pub around : Label → List ℕ → List ℕ
-around (fn_ptr n) bs = n ∷ bs
-around (principal n _) bs = n ∷ bs
-around _ bs = bs
 
 -- at a node: its children are folded, or trees stand in its place, or trees that are folded in turn
 pub data Does : Type 0 where
@@ -63,11 +59,11 @@ pub record IsFoldBelow (f : List ℕ → Trees → Does) (bs : List ℕ) (t : Tr
 abbrev pub IsSuperFold : (List ℕ → Trees → Does) → List Entry → List Entry → (table from to : ℕ) → Type 0
 IsSuperFold f old new table i j = IsFoldBelow f [] (trees_at old i) new table j
 
--- a bound of a `dyn`: a folder is not asked there
-abbrev pub IsBound : Trees → Type 0
-IsBound (tree (principal n i) c o) = Unit {0}
-IsBound (tree (auto_trait i) c o) = Unit {0}
-IsBound _ = ⊥
+-- the fold of each part of a value
+abbrev pub FoldsEach : (List ℕ → Trees → Does) → List ℕ → List Piece → List Piece → Type 0
+FoldsEach f bs [] [] = Unit {0}
+FoldsEach f bs (p ∷ ps) (q ∷ qs) = (p.counts ≡ q.counts) × Folds f (p.counts ++ bs) p.trees q.trees × FoldsEach f bs ps qs
+FoldsEach f bs _ _ = ⊥
 
 pub enters-once : (s : Trees) → enters ≡ again s → ⊥
 enters-once s e = cc

@@ -3,7 +3,8 @@ use Rattle.std.specs.Prelude.{◌≡◌, ℕ, List, length, cond, ltb, not, Bool
 use Rattle.std.proofs.Common.{ap}
 use Rattle.model.specs.Label.{Label, of_lifetime, static, param, placeholder, infer, canonical, bound, principal, auto_trait, inside}
 use Rattle.model.specs.Trees.{Trees, none, tree}
-use Rattle.term_folds.specs.Folds.{Does, enters, puts, again, IsBound}
+use Rattle.term_folds.specs.Folds.{Does, enters, puts, again}
+use Rattle.type_terms.specs.Visits.{IsBound}
 
 -- a lifetime that no binder of the value binds, where d of them are around it
 abbrev pub is_free_lifetime : ℕ → Label → Bool

@@ -4,8 +4,9 @@ use Rattle.std.proofs.Common.{ap}
 use Rattle.model.specs.Label.{Label, bound, principal, auto_trait, inside}
 use Rattle.model.specs.Trees.{Trees, none, tree, outer_binder}
 use Rattle.type_terms.specs.declared.TheConstants.{MAX_INDEX}
-use Rattle.term_folds.specs.Folds.{Does, enters, puts, again, IsBound}
-use Rattle.term_folds.specs.Pieces.{Piece}
+use Rattle.term_folds.specs.Folds.{Does, enters, puts, again}
+use Rattle.type_terms.specs.Visits.{IsBound}
+use Rattle.type_terms.specs.Pieces.{Piece}
 
 -- each number that leads out of d binders, raised by a, stays below the greatest number
 abbrev pub LabelInRange : ℕ → ℕ → Label → Type 0

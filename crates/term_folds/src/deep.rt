@@ -6,18 +6,19 @@
 ghost use Rattle.std.specs.Prelude.{◌≡◌, OnOk, IfOk, IfErr};
 ghost use Rattle.type_terms.specs.Terms.{Has, Keeps, args_lists, type_lists, types};
 ghost use Rattle.type_terms.specs.Kinds.{ArgHeld, KindHeld};
-ghost use Rattle.term_folds.specs.Failures.{FailsBy};
+ghost use Rattle.type_terms.specs.Failures.{FailsBy};
 ghost use Rattle.term_folds.specs.Memos.{Remembers};
 ghost use Rattle.term_folds.specs.Deep.{StepsHeld};
 
-use crate::binders::Binders;
 use crate::fold::{Answer, FallibleTypeFolder};
 use crate::memo::Memo;
 use crate::walk::walk_ty;
 use std::alloc::Global;
 use type_terms::Fault;
+use type_terms::binders::Binders;
 use type_terms::interner::Interner;
 use type_terms::kinds::{GenericArgKind, GenericArgs, Ty, TyKind, Tys};
+use type_terms::visit::SHALLOW;
 
 /// A type under so many binders: to be entered, or to be walked since its parts were.
 #[derive(Clone, Copy)]
@@ -26,9 +27,6 @@ pub(crate) struct Step {
     pub depth: u32,
     pub is_entered: bool,
 }
-
-/// Types no deeper than this are walked and visited by recursion alone.
-pub(crate) const SHALLOW: u32 = 128;
 
 /// What the walk of these parts begins with: nothing, or where they are deep or the folder leads on, the folds of what
 /// stands in them.

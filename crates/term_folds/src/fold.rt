@@ -4,14 +4,15 @@ ghost use Rattle.model.specs.Label.{Label};
 ghost use Rattle.model.specs.Trees.{Trees, none, tree, ◌+++◌, is_no_tree};
 ghost use Rattle.type_terms.specs.Terms.{Entry, Is, Has, Keeps, types, consts, args_lists, type_lists, bounds_lists, trees_at};
 ghost use Rattle.type_terms.specs.Kinds.{region_trees, kind_trees, KindHeld, KindOlder, RegionHeld, ArgHeld, arg_trees, PrincipalHeld, PrincipalOlder, principal_trees};
-ghost use Rattle.term_folds.specs.Binders.{counts_of};
-ghost use Rattle.term_folds.specs.Failures.{FailsBy};
-ghost use Rattle.term_folds.specs.Folds.{Does, enters, again, Folds, FoldsBelow, IsFold, IsFoldBelow, IsBound, TyAnswer, ConstAnswer, RegionAnswer};
+ghost use Rattle.type_terms.specs.Binders.{counts_of};
+ghost use Rattle.type_terms.specs.Failures.{FailsBy};
+ghost use Rattle.term_folds.specs.Folds.{Does, enters, again, Folds, FoldsBelow, IsFold, IsFoldBelow, TyAnswer, ConstAnswer, RegionAnswer};
+ghost use Rattle.type_terms.specs.Visits.{IsBound};
 
-use crate::binders::Binders;
 use crate::deep::begin;
 use crate::walk::{super_walk_ty, walk_args, walk_bounds, walk_ty, walk_tys};
 use std::alloc::Global;
+use type_terms::binders::Binders;
 use type_terms::interner::Interner;
 use type_terms::kinds::{
     Bounds, BoundsData, Const, GenericArgKind, GenericArgs, Principal, Ty, TyKind, Tys,

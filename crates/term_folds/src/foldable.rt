@@ -1,23 +1,22 @@
 //! Values that can be folded.
 ghost use Rattle.std.specs.Prelude.{◌≡◌, ℕ, ◌⊎◌, List, [], IfOk, IfErr, Err};
 ghost use Rattle.type_terms.specs.Terms.{Keeps, Has, types, consts, trees_at};
-ghost use Rattle.term_folds.specs.Binders.{counts_of};
-ghost use Rattle.term_folds.specs.Failures.{FailsBy, SomeKindIsFull};
-ghost use Rattle.term_folds.specs.Folds.{IsFoldBelow};
-ghost use Rattle.term_folds.specs.Pieces.{FoldsEach};
+ghost use Rattle.type_terms.specs.Binders.{counts_of};
+ghost use Rattle.type_terms.specs.Failures.{FailsBy, SomeKindIsFull};
+ghost use Rattle.term_folds.specs.Folds.{IsFoldBelow, FoldsEach};
 
-use crate::binders::Binders;
 use crate::fold::{
     FallibleTypeFolder, fold_arg, fold_args, fold_bounds, fold_const, fold_region, fold_ty,
     fold_tys,
 };
 use crate::folder::{Infallible, TypeFolder};
-use crate::visitable::TypeVisitable;
 use std::alloc::Global;
 use type_terms::Fault;
+use type_terms::binders::Binders;
 use type_terms::interner::Interner;
 use type_terms::kinds::{Bounds, Const, GenericArgKind, GenericArgs, Ty, Tys};
 use type_terms::region::Region;
+use type_terms::visitable::TypeVisitable;
 
 /// A value that can be folded: its terms are, each under the binders around it, and all else stays.
 pub trait TypeFoldable: TypeVisitable {

@@ -4,13 +4,14 @@ ghost use Rattle.model.specs.Label.{Label};
 ghost use Rattle.model.specs.Trees.{Trees, none, tree, ◌+++◌};
 ghost use Rattle.type_terms.specs.Terms.{Entry, Is, Has, Keeps, types, consts, trees_at};
 ghost use Rattle.type_terms.specs.Kinds.{region_trees, RegionHeld};
-ghost use Rattle.term_folds.specs.Binders.{counts_of};
-ghost use Rattle.term_folds.specs.Failures.{SomeKindIsFull};
-ghost use Rattle.term_folds.specs.Folds.{Does, enters, again, IsBound, TyAnswer, ConstAnswer, RegionAnswer};
+ghost use Rattle.type_terms.specs.Binders.{counts_of};
+ghost use Rattle.type_terms.specs.Failures.{SomeKindIsFull};
+ghost use Rattle.term_folds.specs.Folds.{Does, enters, again, TyAnswer, ConstAnswer, RegionAnswer};
+ghost use Rattle.type_terms.specs.Visits.{IsBound};
 
-use crate::binders::Binders;
 use crate::fold::{Answer, FallibleTypeFolder};
 use type_terms::Fault;
+use type_terms::binders::Binders;
 use type_terms::interner::Interner;
 use type_terms::kinds::{Const, Ty};
 use type_terms::region::Region;

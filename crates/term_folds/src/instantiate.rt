@@ -5,18 +5,18 @@ ghost use Rattle.type_terms.specs.Terms.{Keeps, Has, args_lists, trees_at};
 ghost use Rattle.type_terms.specs.Kinds.{ArgHeld, arg_trees};
 ghost use Rattle.term_folds.specs.Arguments.{is_param, sort_at, arg_sort};
 
-use crate::binders::Binders;
 use crate::fold::Answer;
 use crate::folder::TypeFolder;
 use crate::shift::{moved_region, moved_vars};
-use crate::visit::{Seen, TypeVisitor};
 use bitflags::Flags;
 use std::alloc::Global;
 use type_terms::Fault;
+use type_terms::binders::Binders;
 use type_terms::flags::TypeFlags;
 use type_terms::interner::{Handle, Interner};
 use type_terms::kinds::{Const, ConstKind, GenericArgKind, GenericArgs, Ty, TyKind};
 use type_terms::region::{Region, RegionKind};
+use type_terms::visit::{Seen, TypeVisitor};
 
 /// Why a value with parameters could not be instantiated.
 ///
@@ -158,7 +158,7 @@ pub(crate) struct ArgFolder {
 impl TypeFolder for ArgFolder {
     ghost use Rattle.std.proofs.Common.{refl, ap};
     ghost use Rattle.type_terms.specs.Terms.{Has, args_lists, trees_at};
-    ghost use Rattle.term_folds.specs.Kept.{has-later, trees-later};
+    ghost use Rattle.type_terms.specs.Kept.{has-later, trees-later};
     ghost use Rattle.term_folds.specs.Folds.{none_above};
     ghost use Rattle.term_folds.specs.Arguments.{putting, putting-bounds, putting-once, putting-by-depth};
 

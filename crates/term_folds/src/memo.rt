@@ -5,17 +5,15 @@
 //! interner grows.
 ghost use Rattle.std.specs.Prelude.{◌≡◌, ℕ, List, length, IfSome, IfErr, OnOk};
 ghost use Rattle.type_terms.specs.Terms.{Entry};
-ghost use Rattle.term_folds.specs.Binders.{counts_of};
+ghost use Rattle.type_terms.specs.Binders.{counts_of};
 ghost use Rattle.term_folds.specs.Memos.{Action, IsKnown, Remembers};
 
-use crate::binders::Binders;
 use std::alloc::Global;
 use std::collections::HashMap;
+use type_terms::binders::Binders;
+use type_terms::entered::BEFORE;
 use type_terms::kinds::Ty;
 use type_terms::{Fault, MAX_INDEX};
-
-/// So many types are entered before a walk begins to keep what it finds, so that a small term costs no table.
-pub(crate) const BEFORE: u32 = 32;
 
 /// A type under so many binders.
 #[derive(Clone, Copy, PartialEq, Eq, Hash)]

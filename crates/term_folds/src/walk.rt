@@ -3,16 +3,16 @@ ghost use Rattle.std.specs.Prelude.{◌≡◌, ℕ, ◌++◌, ◌∷◌, [], IfO
 ghost use Rattle.model.specs.Trees.{Trees, ◌+++◌, is_no_tree};
 ghost use Rattle.type_terms.specs.Terms.{Entry, Is, Has, Keeps, types, consts, args_lists, type_lists, bounds_lists, trees_at};
 ghost use Rattle.type_terms.specs.Kinds.{region_trees, kind_trees, KindHeld, KindOlder, RegionHeld, ArgHeld, arg_trees, PrincipalHeld, PrincipalOlder, principal_trees};
-ghost use Rattle.term_folds.specs.Binders.{counts_of};
-ghost use Rattle.term_folds.specs.Failures.{FailsBy};
+ghost use Rattle.type_terms.specs.Binders.{counts_of};
+ghost use Rattle.type_terms.specs.Failures.{FailsBy};
 ghost use Rattle.term_folds.specs.Folds.{Folds, FoldsBelow, IsFold, IsFoldBelow};
 ghost use Rattle.term_folds.specs.Memos.{Remembers};
 
-use crate::binders::Binders;
 use crate::fold::{Answer, FallibleTypeFolder, fold_const, fold_region};
 use crate::memo::Memo;
 use std::alloc::Global;
 use type_terms::Fault;
+use type_terms::binders::Binders;
 use type_terms::interner::Interner;
 use type_terms::kinds::{
     Bounds, BoundsData, Const, GenericArgKind, GenericArgs, Principal, Ty, TyKind, Tys,

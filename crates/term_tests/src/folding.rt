@@ -7,13 +7,13 @@ ghost use Rattle.model.specs.Trees.{tree, none, leaf};
 
 use std::alloc::Global;
 use term_folds::binder::{Binder, EarlyBinder};
-use term_folds::binders::Binders;
 use term_folds::predicate::Clause;
 use term_folds::regions::{RegionMap, fold_regions};
 use term_folds::shift::shift_vars;
 use term_folds::super_fold::TypeSuperVisitable;
 use term_folds::validate::ValidateBoundVars;
 use type_terms::Fault;
+use type_terms::binders::Binders;
 use type_terms::interner::Interner;
 use type_terms::kinds::{Mutability, Ty, TyKind, UintTy};
 use type_terms::number::{BoundVar, BoundVarIndexKind, DebruijnIndex};

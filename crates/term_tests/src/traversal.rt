@@ -5,16 +5,13 @@ ghost use Rattle.type_terms.specs.Kinds.{RegionHeld};
 
 use std::alloc::Global;
 use term_folds::binder::Binder;
-use term_folds::binders::Binders;
 use term_folds::fn_sig::FnSig;
 use term_folds::fold::{Answer, FallibleTypeFolder};
 use term_folds::foldable::TypeFoldable;
 use term_folds::folder::{Infallible, TypeFolder};
 use term_folds::predicate::{Clause, TraitPredicate, TraitRef};
 use term_folds::super_fold::{TypeSuperFoldable, TypeSuperVisitable};
-use term_folds::visit::{Seen, TypeVisitor};
-use term_folds::visitable::TypeVisitable;
-use term_folds::visitable_ext::TypeVisitableExt;
+use type_terms::binders::Binders;
 use type_terms::flags::TypeFlags;
 use type_terms::interner::Interner;
 use type_terms::kinds::{
@@ -22,6 +19,9 @@ use type_terms::kinds::{
 };
 use type_terms::number::{BoundVar, BoundVarIndexKind, DebruijnIndex};
 use type_terms::region::{Region, RegionKind};
+use type_terms::visit::{Seen, TypeVisitor};
+use type_terms::visitable::TypeVisitable;
+use type_terms::visitable_ext::TypeVisitableExt;
 use type_terms::{AdtId, Fault, TraitId};
 
 /// Leaves everything as it is.

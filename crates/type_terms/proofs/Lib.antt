@@ -8,3 +8,11 @@ pub mod Made
 pub mod MadeFacts
 pub mod Bounded
 pub mod Unique
+pub mod FailFacts
+pub mod Items
+pub mod LeafFacts
+pub mod VisitFacts
+pub mod PendingFacts
+pub mod ScanFacts
+pub mod OnceFacts
+pub mod BinderFacts

@@ -7,3 +7,11 @@ pub mod Same
 pub mod Infos
 pub mod Counts
 pub mod Inner
+pub mod Failures
+pub mod Binders
+pub mod Kept
+pub mod Pieces
+pub mod Visits
+pub mod Pending
+pub mod Entering
+pub mod Scans

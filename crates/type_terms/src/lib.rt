@@ -1,13 +1,24 @@
-//! Types, constants and their parts, each stored once.
+//! Types, constants and their parts, each stored once, and visits of them and of what is made of them.
+//!
+//! A visit asks a visitor at each node in order, and changes nothing (`Visits`). It goes through the tree, unless its visitor
+//! is one that enters a type once (`Once`).
 #![tactic(auto)]
 
+pub mod binders;
+mod deep_visit;
+pub mod entered;
 pub mod flags;
 pub mod interner;
 pub mod kinds;
 mod node;
 pub mod number;
+pub mod once;
 pub mod region;
 pub mod variance;
+pub mod visit;
+mod visit_walk;
+pub mod visitable;
+pub mod visitable_ext;
 
 ghost use Rattle.std.specs.Prelude.{◌≡◌, ◌≤◌};
 ghost use Rattle.type_terms.specs.declared.TheConstants.{MAX_INDEX};

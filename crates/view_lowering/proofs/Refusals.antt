@@ -3,18 +3,10 @@ use Rattle.std.proofs.Common.{◌≡◌, ℕ, ◌≤◌, ◌<◌, List, length, 
 use Rattle.std.proofs.lemmas.List.{length-map}
 use Rattle.std.specs.Prelude.{◌⊎◌, Result, Ok, Err, IfErr}
 use Rattle.text_definitions.specs.Declarations.{Question}
-use Rattle.type_terms.specs.Terms.{Entry}
 use Rattle.type_terms.specs.declared.Fault.{Fault}
 use Rattle.type_terms.specs.declared.Fault.TheVariants.{Full, Memory}
-use Rattle.term_folds.specs.Failures.{SomeKindIsFull, full}
-use Rattle.workspace.specs.Fullness.{InternerIsFull}
-use Rattle.workspace.specs.Fullness as cells
 use Rattle.workspace.specs.Views.{question_of, variable_of}
 use Rattle.workspace.specs.declared.declared.QuestionEntry.{QuestionEntry}
-
--- what the lowering of cells says, in the words of folds
-pub some-kind : {es : List Entry} {limit : ℕ} → InternerIsFull es limit → SomeKindIsFull es limit
-some-kind (cells.full kind le h) = full kind le h
 
 -- what fails for want of memory alone
 pub never-full : {T A : Type 0} (r : Result T Fault) → IfErr r (λ x. x ≡ Memory) → r ≡ Err Full → A

@@ -9,7 +9,7 @@ use Rattle.type_terms.specs.Terms.{Entry, Keeps, types, consts}
 use Rattle.type_terms.specs.Kinds.{arg_trees, ArgHeld, ArgsHeld}
 use Rattle.type_terms.specs.declared.kinds.GenericArgKind.{GenericArgKind}
 use Rattle.type_terms.specs.declared.kinds.GenericArgKind.TheVariants as args
-use Rattle.term_folds.specs.Kept.{has-later, trees-later}
+use Rattle.type_terms.specs.Kept.{has-later, trees-later}
 
 -- ---- arguments, xs the interner grows
 module _ (old new : List Entry) (k : Keeps old new) where

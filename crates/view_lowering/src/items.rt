@@ -2,7 +2,7 @@
 ghost use Rattle.std.specs.Prelude.{◌≡◌, ◌∷◌, true, map, Err, IfOk};
 ghost use Rattle.model.specs.Label.{of_type};
 ghost use Rattle.type_terms.specs.Terms.{Keeps};
-ghost use Rattle.term_folds.specs.Failures.{SomeKindIsFull};
+ghost use Rattle.type_terms.specs.Failures.{SomeKindIsFull};
 ghost use Rattle.declarations.specs.Applied.{sort_of_param};
 ghost use Rattle.declarations.specs.Heads.{begins_declared};
 ghost use Rattle.declarations.specs.Items.{struct_in, trait_in, impl_in};

@@ -1,7 +1,7 @@
 //! Parameters and references.
 ghost use Rattle.std.specs.Prelude.{◌≡◌, ◌++◌, [], ◌∷◌, map, Err, IfOk, OnOk};
 ghost use Rattle.type_terms.specs.Terms.{Keeps};
-ghost use Rattle.term_folds.specs.Failures.{SomeKindIsFull};
+ghost use Rattle.type_terms.specs.Failures.{SomeKindIsFull};
 ghost use Rattle.declarations.specs.Applied.{sort_of_param, references_in};
 ghost use Rattle.declarations.specs.Held.{ReferenceHeld};
 ghost use Rattle.declarations.specs.Items.{reference_in};

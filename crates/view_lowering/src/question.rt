@@ -5,7 +5,7 @@ ghost use Rattle.text_definitions.specs.Names.{own_from};
 ghost use Rattle.type_terms.specs.Kinds.{arg_trees, ArgsHeld, ArgHeld};
 ghost use Rattle.type_terms.specs.Terms.{Keeps};
 ghost use Rattle.type_terms.specs.declared.TheConstants.{MAX_INDEX};
-ghost use Rattle.term_folds.specs.Failures.{SomeKindIsFull};
+ghost use Rattle.type_terms.specs.Failures.{SomeKindIsFull};
 ghost use Rattle.workspace.specs.Made.{ReferenceMade, ReferencesMade};
 ghost use Rattle.workspace.specs.Views.{question_of, variable_of};
 ghost use Rattle.view_lowering.specs.Questions.{IsQuestion, IsLowered, IsNextUnknown};

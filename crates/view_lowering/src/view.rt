@@ -1,7 +1,7 @@
 //! The whole view of a crate.
 ghost use Rattle.std.specs.Prelude.{◌≡◌, ◌<◌, [], length, map, Err, OnOk, IfOk};
 ghost use Rattle.type_terms.specs.Terms.{Keeps};
-ghost use Rattle.term_folds.specs.Failures.{SomeKindIsFull};
+ghost use Rattle.type_terms.specs.Failures.{SomeKindIsFull};
 ghost use Rattle.declarations.specs.Held.{AreHeld};
 ghost use Rattle.declarations.specs.Items.{written, declared, struct_in, trait_in, impl_in};
 ghost use Rattle.view_lowering.specs.Plain.{plainly_seen_from};

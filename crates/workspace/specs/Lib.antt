@@ -8,4 +8,3 @@ pub mod Stored
 pub mod CoreItems
 pub mod Stack
 pub mod Lowers
-pub mod Fullness

@@ -1,7 +1,7 @@
 //! Cells, made terms one after the other.
 ghost use Rattle.std.specs.Prelude.{◌≡◌, Err, IfOk};
 ghost use Rattle.type_terms.specs.Terms.{Keeps};
-ghost use Rattle.workspace.specs.Fullness.{InternerIsFull};
+ghost use Rattle.type_terms.specs.Failures.{SomeKindIsFull};
 ghost use Rattle.workspace.specs.Stack.{stack_of};
 ghost use Rattle.workspace.specs.Lowers.{IsReady, Lowers, IsLeafOf};
 
@@ -27,7 +27,7 @@ fn lower_leaf(
     ensures lowers { IfOk result (λ x. Lowers cell cx.old.entries cx.new.entries (stack_of stack.now.items) x (stack_of stack.now.items)) }
     ensures keeps { Keeps cx.old.entries cx.new.entries }
     ensures limit { cx.new.limit ≡ cx.old.limit }
-    ensures full { result ≡ Err Fault.Full → InternerIsFull cx.new.entries cx.new.limit }
+    ensures full { result ≡ Err Fault.Full → SomeKindIsFull cx.new.entries cx.new.limit }
 {
     let _at = stack;
     let _of = cell;
@@ -40,7 +40,7 @@ fn lower_const(cx: &mut Interner, stack: &Vec<Lowered>, kind: ConstKind) -> Resu
     ensures lowers { IfOk result (λ x. Lowers (TermCell.Const kind) cx.old.entries cx.new.entries (stack_of stack.now.items) x (stack_of stack.now.items)) }
     ensures keeps { Keeps cx.old.entries cx.new.entries }
     ensures limit { cx.new.limit ≡ cx.old.limit }
-    ensures full { result ≡ Err Fault.Full → InternerIsFull cx.new.entries cx.new.limit }
+    ensures full { result ≡ Err Fault.Full → SomeKindIsFull cx.new.entries cx.new.limit }
 {
     let _at = stack;
     let value = cx.mk_const(kind)?;
@@ -58,7 +58,7 @@ fn lower_adt(
     ensures lowers { IfOk result (λ x. Lowers (TermCell.Adt id args) cx.old.entries cx.new.entries (stack_of stack.old.items) x (stack_of stack.new.items)) }
     ensures keeps { Keeps cx.old.entries cx.new.entries }
     ensures limit { cx.new.limit ≡ cx.old.limit }
-    ensures full { result ≡ Err Fault.Full → InternerIsFull cx.new.entries cx.new.limit }
+    ensures full { result ≡ Err Fault.Full → SomeKindIsFull cx.new.entries cx.new.limit }
 {
     let list = pop_args(alloc, stack, args)?;
     let args = cx.mk_args(list)?;
@@ -76,7 +76,7 @@ fn lower_ref(
     ensures lowers { IfOk result (λ x. Lowers (TermCell.Ref region mutability) cx.old.entries cx.new.entries (stack_of stack.old.items) x (stack_of stack.new.items)) }
     ensures keeps { Keeps cx.old.entries cx.new.entries }
     ensures limit { cx.new.limit ≡ cx.old.limit }
-    ensures full { result ≡ Err Fault.Full → InternerIsFull cx.new.entries cx.new.limit }
+    ensures full { result ≡ Err Fault.Full → SomeKindIsFull cx.new.entries cx.new.limit }
 {
     let referred = pop_type(stack);
     let ty = cx.mk_ty(TyKind::Ref(region, referred, mutability))?;
@@ -92,7 +92,7 @@ fn lower_raw_ptr(
     ensures lowers { IfOk result (λ x. Lowers (TermCell.RawPtr mutability) cx.old.entries cx.new.entries (stack_of stack.old.items) x (stack_of stack.new.items)) }
     ensures keeps { Keeps cx.old.entries cx.new.entries }
     ensures limit { cx.new.limit ≡ cx.old.limit }
-    ensures full { result ≡ Err Fault.Full → InternerIsFull cx.new.entries cx.new.limit }
+    ensures full { result ≡ Err Fault.Full → SomeKindIsFull cx.new.entries cx.new.limit }
 {
     let pointed = pop_type(stack);
     let ty = cx.mk_ty(TyKind::RawPtr(pointed, mutability))?;
@@ -104,7 +104,7 @@ fn lower_slice(cx: &mut Interner, stack: &mut Vec<Lowered>) -> Result<Lowered, F
     ensures lowers { IfOk result (λ x. Lowers TermCell.Slice cx.old.entries cx.new.entries (stack_of stack.old.items) x (stack_of stack.new.items)) }
     ensures keeps { Keeps cx.old.entries cx.new.entries }
     ensures limit { cx.new.limit ≡ cx.old.limit }
-    ensures full { result ≡ Err Fault.Full → InternerIsFull cx.new.entries cx.new.limit }
+    ensures full { result ≡ Err Fault.Full → SomeKindIsFull cx.new.entries cx.new.limit }
 {
     let item = pop_type(stack);
     let ty = cx.mk_ty(TyKind::Slice(item))?;
@@ -116,7 +116,7 @@ fn lower_array(cx: &mut Interner, stack: &mut Vec<Lowered>) -> Result<Lowered, F
     ensures lowers { IfOk result (λ x. Lowers TermCell.Array cx.old.entries cx.new.entries (stack_of stack.old.items) x (stack_of stack.new.items)) }
     ensures keeps { Keeps cx.old.entries cx.new.entries }
     ensures limit { cx.new.limit ≡ cx.old.limit }
-    ensures full { result ≡ Err Fault.Full → InternerIsFull cx.new.entries cx.new.limit }
+    ensures full { result ≡ Err Fault.Full → SomeKindIsFull cx.new.entries cx.new.limit }
 {
     let len = pop_const(stack);
     let item = pop_type(stack);
@@ -134,7 +134,7 @@ fn lower_tuple(
     ensures lowers { IfOk result (λ x. Lowers (TermCell.Tuple items) cx.old.entries cx.new.entries (stack_of stack.old.items) x (stack_of stack.new.items)) }
     ensures keeps { Keeps cx.old.entries cx.new.entries }
     ensures limit { cx.new.limit ≡ cx.old.limit }
-    ensures full { result ≡ Err Fault.Full → InternerIsFull cx.new.entries cx.new.limit }
+    ensures full { result ≡ Err Fault.Full → SomeKindIsFull cx.new.entries cx.new.limit }
 {
     let list = pop_types(alloc, stack, items)?;
     let tys = cx.mk_tys(list)?;
@@ -153,7 +153,7 @@ fn lower_fn_ptr(
     ensures lowers { IfOk result (λ x. Lowers (TermCell.FnPtr bound_vars types) cx.old.entries cx.new.entries (stack_of stack.old.items) x (stack_of stack.new.items)) }
     ensures keeps { Keeps cx.old.entries cx.new.entries }
     ensures limit { cx.new.limit ≡ cx.old.limit }
-    ensures full { result ≡ Err Fault.Full → InternerIsFull cx.new.entries cx.new.limit }
+    ensures full { result ≡ Err Fault.Full → SomeKindIsFull cx.new.entries cx.new.limit }
 {
     cx.lawful();
     let list = pop_types(alloc, stack, types)?;
@@ -174,7 +174,7 @@ fn lower_principal(
     ensures lowers { IfOk result (λ x. Lowers (TermCell.Principal bound_vars def_id args) cx.old.entries cx.new.entries (stack_of stack.old.items) x (stack_of stack.new.items)) }
     ensures keeps { Keeps cx.old.entries cx.new.entries }
     ensures limit { cx.new.limit ≡ cx.old.limit }
-    ensures full { result ≡ Err Fault.Full → InternerIsFull cx.new.entries cx.new.limit }
+    ensures full { result ≡ Err Fault.Full → SomeKindIsFull cx.new.entries cx.new.limit }
 {
     let list = pop_args(alloc, stack, args)?;
     let args = cx.mk_args(list)?;
@@ -196,7 +196,7 @@ fn lower_dynamic(
     ensures lowers { IfOk result (λ x. Lowers (TermCell.Dynamic has_principal autos) cx.old.entries cx.new.entries (stack_of stack.old.items) x (stack_of stack.new.items)) }
     ensures keeps { Keeps cx.old.entries cx.new.entries }
     ensures limit { cx.new.limit ≡ cx.old.limit }
-    ensures full { result ≡ Err Fault.Full → InternerIsFull cx.new.entries cx.new.limit }
+    ensures full { result ≡ Err Fault.Full → SomeKindIsFull cx.new.entries cx.new.limit }
 {
     let region = pop_lifetime(stack);
     let autos = pop_autos(alloc, stack, autos)?;
@@ -217,7 +217,7 @@ pub(crate) fn lower_cell(
     ensures lowers { IfOk result (λ x. Lowers cell cx.old.entries cx.new.entries (stack_of stack.old.items) x (stack_of stack.new.items)) }
     ensures keeps { Keeps cx.old.entries cx.new.entries }
     ensures limit { cx.new.limit ≡ cx.old.limit }
-    ensures full { result ≡ Err Fault.Full → InternerIsFull cx.new.entries cx.new.limit }
+    ensures full { result ≡ Err Fault.Full → SomeKindIsFull cx.new.entries cx.new.limit }
 {
     match cell {
         TermCell::Bool => lower_leaf(cx, stack, cell, TyKind::Bool),

@@ -2,7 +2,7 @@
 ghost use Rattle.std.specs.Prelude.{◌≡◌, [], map, Some, IsSome, Err, IfOk};
 ghost use Rattle.type_terms.specs.Terms.{Keeps, Is, args_lists, trees_at};
 ghost use Rattle.type_terms.specs.Kinds.{TysHeld};
-ghost use Rattle.workspace.specs.Fullness.{InternerIsFull};
+ghost use Rattle.type_terms.specs.Failures.{SomeKindIsFull};
 ghost use Rattle.workspace.specs.Made.{AreMade, CellsHeld, parts_of, is_type, is_arg};
 ghost use Rattle.workspace.specs.TermCells.{trees_of, joined, behind_cells};
 ghost use Rattle.workspace.specs.Views.{cells_of};
@@ -25,7 +25,7 @@ fn lower_cells(alloc: Global, cx: &mut Interner, cells: &[TermCell]) -> Result<V
     ensures held { IfOk result (λ stack. StackHeld cx.new.entries (stack_of stack.items)) }
     ensures keeps { Keeps cx.old.entries cx.new.entries }
     ensures limit { cx.new.limit ≡ cx.old.limit }
-    ensures full { result ≡ Err Fault.Full → InternerIsFull cx.new.entries cx.new.limit }
+    ensures full { result ≡ Err Fault.Full → SomeKindIsFull cx.new.entries cx.new.limit }
 {
     let mut stack = Vec::new(alloc);
     for cell in cells {
@@ -73,7 +73,7 @@ pub fn lower_types(alloc: Global, cx: &mut Interner, cells: &[TermCell]) -> Resu
     ensures held { IfOk result (λ tys. TysHeld cx.new.entries tys.items) }
     ensures keeps { Keeps cx.old.entries cx.new.entries }
     ensures limit { cx.new.limit ≡ cx.old.limit }
-    ensures full { result ≡ Err Fault.Full → InternerIsFull cx.new.entries cx.new.limit }
+    ensures full { result ≡ Err Fault.Full → SomeKindIsFull cx.new.entries cx.new.limit }
 {
     let stack = lower_cells(alloc, cx, cells)?;
     let tys = types_in(alloc, &stack)?;
@@ -90,7 +90,7 @@ pub fn lower_args(
     ensures is { IfOk result (λ args. Is cx.new.entries args_lists args.0 (joined (trees_of (cells_of cells.now)))) }
     ensures keeps { Keeps cx.old.entries cx.new.entries }
     ensures limit { cx.new.limit ≡ cx.old.limit }
-    ensures full { result ≡ Err Fault.Full → InternerIsFull cx.new.entries cx.new.limit }
+    ensures full { result ≡ Err Fault.Full → SomeKindIsFull cx.new.entries cx.new.limit }
 {
     let stack = lower_cells(alloc, cx, cells)?;
     let list = args_in(alloc, &stack)?;

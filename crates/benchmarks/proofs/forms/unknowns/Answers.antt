@@ -2,7 +2,7 @@ use Rattle.std.proofs.Common.{List, [], ◌∷◌, ◌++◌}
 use Rattle.type_terms.specs.Terms.{Entry, Has, types}
 use Rattle.type_terms.specs.Kinds.{TysHeld}
 use Rattle.type_terms.specs.declared.kinds.Ty.{Ty}
-use Rattle.term_folds.specs.Kept.{tys-held-later}
+use Rattle.type_terms.specs.Kept.{tys-held-later}
 use Rattle.benchmarks.proofs.forms.unknowns.Goals as goal
 
 held-push : (es : List Entry) (xs : List Ty) (x : Ty) → TysHeld es xs → Has es types x.0 → TysHeld es (xs ++ x ∷ [])

@@ -1,5 +1,5 @@
 use Rattle.type_terms.specs.Terms.{types}
-use Rattle.term_folds.specs.Kept.{has-later}
+use Rattle.type_terms.specs.Kept.{has-later}
 use Rattle.benchmarks.proofs.walks.equated.Goals as goal
 
 pub eq-requires-clause-left : goal.eq-requires-clause-left

@@ -3,8 +3,8 @@ use Rattle.model.specs.Trees.{Trees}
 use Rattle.model.specs.Worlds.{Reference}
 use Rattle.type_terms.specs.Terms.{args_lists, trees_at}
 use Rattle.type_terms.specs.Kinds.{args_trees}
-use Rattle.term_folds.specs.Kept.{trees-is}
-use Rattle.term_folds.proofs.FailFacts.{refused-term}
+use Rattle.type_terms.specs.Kept.{trees-is}
+use Rattle.type_terms.proofs.FailFacts.{refused-term}
 use Rattle.infer_table.proofs.FullFacts.{handed-on}
 use Rattle.model.proofs.TreeLaws.{append-none}
 use Rattle.built_in_candidates.proofs.built_in.type_asked.Goals as goal

@@ -4,7 +4,7 @@ use Rattle.model.specs.Trees.{tree, none}
 use Rattle.model.specs.Rules.{but_last, last_asked, sized}
 use Rattle.type_terms.specs.Terms.{types, type_lists, trees_at, Keeps}
 use Rattle.type_terms.specs.Kinds.{arg_trees}
-use Rattle.term_folds.specs.Kept.{has-later, trees-later, arg-held-later, arg-trees-later}
+use Rattle.type_terms.specs.Kept.{has-later, trees-later, arg-held-later, arg-trees-later}
 use Rattle.infer_table.specs.Values.{sort_of_arg}
 use Rattle.infer_table.proofs.Numbers.{goal-held-later}
 use Rattle.infer_table.proofs.FullFacts.{handed-on}

@@ -1,6 +1,6 @@
 use Rattle.std.proofs.Common.{[], ◌∷◌, ap, ◌∙◌, Err}
 use Rattle.type_terms.specs.Terms.{types, trees_at}
-use Rattle.term_folds.specs.Kept.{trees-is}
+use Rattle.type_terms.specs.Kept.{trees-is}
 use Rattle.infer_table.specs.Values.{sort_of_arg}
 use Rattle.infer_table.proofs.FullFacts.{handed-on}
 use Rattle.type_terms.specs.Kinds.{arg_trees}

@@ -1,7 +1,7 @@
 use Rattle.std.proofs.Common.{sym, ◌∙◌, subst}
 use Rattle.type_terms.specs.Terms.{args_lists}
 use Rattle.type_terms.specs.Kinds.{args_trees}
-use Rattle.term_folds.specs.Kept.{trees-is}
+use Rattle.type_terms.specs.Kept.{trees-is}
 use Rattle.term_folds.proofs.ParamFacts.{copied-get}
 use Rattle.assembly_laws.specs.Asking.{next_of}
 use Rattle.built_in_candidates.specs.FnPointers.{IsFirst}

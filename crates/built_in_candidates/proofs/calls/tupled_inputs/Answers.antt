@@ -4,8 +4,8 @@ use Rattle.model.specs.Trees.{tree, none}
 use Rattle.model.specs.Rules.{but_last}
 use Rattle.type_terms.specs.Terms.{types, type_lists}
 use Rattle.type_terms.specs.Kinds.{TysHeld, tys_trees}
-use Rattle.term_folds.specs.Kept.{trees-is}
-use Rattle.term_folds.proofs.FailFacts.{refused-term}
+use Rattle.type_terms.specs.Kept.{trees-is}
+use Rattle.type_terms.proofs.FailFacts.{refused-term}
 use Rattle.infer_table.proofs.FullFacts.{handed-on}
 use Rattle.built_in_candidates.proofs.calls.tupled_inputs.Goals as goal
 

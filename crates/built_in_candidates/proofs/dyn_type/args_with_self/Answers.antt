@@ -1,6 +1,6 @@
 use Rattle.std.proofs.Common.{ap, arith, Err}
 use Rattle.type_terms.specs.Terms.{args_lists}
-use Rattle.term_folds.proofs.FailFacts.{refused-term}
+use Rattle.type_terms.proofs.FailFacts.{refused-term}
 use Rattle.infer_table.proofs.FullFacts.{handed-on}
 use Rattle.built_in_candidates.proofs.dyn_type.args_with_self.Goals as goal
 

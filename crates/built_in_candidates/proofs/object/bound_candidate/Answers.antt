@@ -1,6 +1,6 @@
 use Rattle.std.proofs.Common.{map, sym, ap, ◌∙◌, subst, Err}
 use Rattle.type_terms.specs.Terms.{Keeps, args_lists, trees_at}
-use Rattle.term_folds.specs.Kept.{trees-later}
+use Rattle.type_terms.specs.Kept.{trees-later}
 use Rattle.infer_table.proofs.FullFacts.{handed-on}
 use Rattle.infer_table.proofs.Numbers.{goal-held-later}
 use Rattle.infer_table.proofs.StepFacts.{keeps-trans}

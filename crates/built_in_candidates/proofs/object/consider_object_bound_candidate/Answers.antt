@@ -3,7 +3,7 @@ use Rattle.std.specs.Prelude.{option_map}
 use Rattle.model.specs.Trees.{leaf, ◌+++◌}
 use Rattle.model.specs.Worlds.{World}
 use Rattle.type_terms.specs.Terms.{types, trees_at}
-use Rattle.term_folds.specs.Kept.{trees-is}
+use Rattle.type_terms.specs.Kept.{trees-is}
 use Rattle.infer_table.proofs.FullFacts.{handed-on}
 use Rattle.infer_table.proofs.Numbers.{goal-held-later}
 use Rattle.evaluation.specs.declared.candidate.CandidateSource.TheVariants.{BuiltinImpl}

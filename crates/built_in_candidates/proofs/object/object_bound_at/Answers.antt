@@ -3,7 +3,7 @@ use Rattle.std.specs.List.{slice_get}
 use Rattle.model.specs.Trees.{leaf, ◌+++◌}
 use Rattle.model.specs.Rules.{principal_with, are_dyn_compatible}
 use Rattle.type_terms.specs.Terms.{types, bounds_lists, trees_at}
-use Rattle.term_folds.specs.Kept.{trees-later}
+use Rattle.type_terms.specs.Kept.{trees-later}
 use Rattle.infer_table.proofs.FullFacts.{handed-on}
 use Rattle.declarations.specs.Items.{written}
 use Rattle.declarations.specs.Applied.{references_in}

@@ -2,8 +2,8 @@ use Rattle.std.proofs.Common.{◌≡◌, ap, arith, Err}
 use Rattle.model.specs.Label.{bool, char, of_type}
 use Rattle.model.specs.Trees.{Trees, leaf}
 use Rattle.type_terms.specs.Terms.{types, trees_at}
-use Rattle.term_folds.specs.Kept.{trees-is, has-later}
-use Rattle.term_folds.proofs.FailFacts.{refused-term}
+use Rattle.type_terms.specs.Kept.{trees-is, has-later}
+use Rattle.type_terms.proofs.FailFacts.{refused-term}
 use Rattle.infer_table.specs.Values.{Value}
 use Rattle.infer_table.proofs.FullFacts.{handed-on}
 use Rattle.evaluation.specs.FrameTables.{Equation}

@@ -1,7 +1,7 @@
 use Rattle.std.proofs.Common.{◌≡◌, [], ◌∷◌, ◌++◌, map, sym, ap, ◌∙◌, subst, Err}
 use Rattle.type_terms.specs.Terms.{args_lists, trees_at}
 use Rattle.type_terms.specs.Kinds.{args_trees}
-use Rattle.term_folds.specs.Kept.{trees-is}
+use Rattle.type_terms.specs.Kept.{trees-is}
 use Rattle.infer_table.proofs.FullFacts.{handed-on}
 use Rattle.evaluation.specs.Lists.{Every}
 use Rattle.evaluation.specs.Readings.{EquationHeld}

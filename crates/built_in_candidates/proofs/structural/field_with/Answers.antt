@@ -7,7 +7,7 @@ use Rattle.type_terms.specs.declared.Fault.{Fault}
 use Rattle.type_terms.specs.declared.Fault.TheVariants.{Full}
 use Rattle.term_folds.specs.declared.instantiate.InstantiateError.{InstantiateError}
 use Rattle.term_folds.specs.declared.instantiate.InstantiateError.TheVariants as error
-use Rattle.term_folds.specs.Pieces.{Piece, each_piece, one_piece}
+use Rattle.type_terms.specs.Pieces.{Piece, each_piece, one_piece}
 use Rattle.built_in_candidates.proofs.structural.field_with.Goals as goal
 
 first-trees : List Piece → Trees

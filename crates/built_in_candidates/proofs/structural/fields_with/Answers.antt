@@ -3,7 +3,7 @@ use Rattle.model.specs.Trees.{instantiate}
 use Rattle.type_terms.specs.Terms.{args_lists, types, trees_at}
 use Rattle.type_terms.specs.declared.kinds.Ty.{Ty}
 use Rattle.term_folds.specs.Arguments.{first_misfit}
-use Rattle.term_folds.specs.Kept.{trees-later}
+use Rattle.type_terms.specs.Kept.{trees-later}
 use Rattle.infer_table.proofs.FullFacts.{handed-on}
 use Rattle.declarations.specs.Merges.{Each}
 use Rattle.declarations.specs.Unsizing.{field_trees}

@@ -1,7 +1,7 @@
 use Rattle.std.proofs.Common.{[], ◌∷◌, sym, ap, ◌∙◌, subst, Err}
 use Rattle.model.specs.Rules.{asked, each_asked, auto_rules_plain}
 use Rattle.type_terms.specs.Terms.{types, type_lists, trees_at}
-use Rattle.term_folds.specs.Kept.{trees-is}
+use Rattle.type_terms.specs.Kept.{trees-is}
 use Rattle.infer_table.proofs.FullFacts.{handed-on}
 use Rattle.declarations.specs.Items.{written}
 use Rattle.assembly_laws.specs.Asking.{with_plain_head}

@@ -1,7 +1,7 @@
 use Rattle.std.proofs.Common.{[], ◌∷◌, sym, ap, ◌∙◌, subst}
 use Rattle.model.specs.Rules.{sized, sized_rules, last_asked}
 use Rattle.type_terms.specs.Terms.{types, type_lists}
-use Rattle.term_folds.specs.Kept.{trees-is}
+use Rattle.type_terms.specs.Kept.{trees-is}
 use Rattle.declarations.specs.Items.{written}
 use Rattle.assembly_laws.specs.Asking.{with_plain_head}
 use Rattle.built_in_candidates.specs.Constituents.{premises_of, types_asked, TypesHeld}

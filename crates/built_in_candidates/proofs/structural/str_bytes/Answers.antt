@@ -2,8 +2,8 @@ use Rattle.std.proofs.Common.{ap, ◌∙◌, arith, Err}
 use Rattle.model.specs.Label.{slice}
 use Rattle.model.specs.Trees.{tree, none}
 use Rattle.type_terms.specs.Terms.{types}
-use Rattle.term_folds.specs.Kept.{trees-is}
-use Rattle.term_folds.proofs.FailFacts.{refused-term}
+use Rattle.type_terms.specs.Kept.{trees-is}
+use Rattle.type_terms.proofs.FailFacts.{refused-term}
 use Rattle.infer_table.proofs.FullFacts.{handed-on}
 use Rattle.built_in_candidates.proofs.structural.str_bytes.Goals as goal
 

@@ -3,7 +3,7 @@ use Rattle.std.specs.Prelude.{◌==◌}
 use Rattle.std.specs.List.{slice_get}
 use Rattle.model.specs.Rules.{is_coinductive, unsize}
 use Rattle.type_terms.specs.Terms.{types, trees_at}
-use Rattle.term_folds.specs.Kept.{trees-is, trees-later}
+use Rattle.type_terms.specs.Kept.{trees-is, trees-later}
 use Rattle.term_folds.specs.Signatures.{StartsWithType}
 use Rattle.declarations.specs.Items.{written}
 use Rattle.assembly_laws.specs.Asking.{begins_unknown, self_of}

@@ -3,7 +3,7 @@ use Rattle.model.specs.Trees.{outer_binder}
 use Rattle.model.specs.Rules.{with_unsizing}
 use Rattle.type_terms.specs.Terms.{types, args_lists, trees_at, Keeps}
 use Rattle.term_folds.specs.Arguments.{first_misfit}
-use Rattle.term_folds.specs.Kept.{has-later, trees-later}
+use Rattle.type_terms.specs.Kept.{has-later, trees-later}
 use Rattle.infer_table.proofs.Numbers.{goal-held-later}
 use Rattle.infer_table.proofs.FullFacts.{handed-on}
 use Rattle.goal_frames.specs.Readings.{equation_read}

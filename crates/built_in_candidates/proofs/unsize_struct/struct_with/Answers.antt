@@ -1,5 +1,5 @@
 use Rattle.type_terms.specs.Terms.{types}
-use Rattle.term_folds.specs.Kept.{trees-is}
+use Rattle.type_terms.specs.Kept.{trees-is}
 use Rattle.built_in_candidates.proofs.unsize_struct.struct_with.Goals as goal
 
 pub returns-in-Adt : goal.returns-in-Adt

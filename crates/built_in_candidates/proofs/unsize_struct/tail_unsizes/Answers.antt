@@ -4,7 +4,7 @@ use Rattle.model.specs.Worlds.{Reference}
 use Rattle.model.specs.Rules.{unsize}
 use Rattle.type_terms.specs.Terms.{types, args_lists, trees_at}
 use Rattle.term_folds.specs.Arguments.{first_misfit}
-use Rattle.term_folds.specs.Kept.{has-later, trees-later}
+use Rattle.type_terms.specs.Kept.{has-later, trees-later}
 use Rattle.infer_table.proofs.FullFacts.{handed-on}
 use Rattle.evaluation.proofs.Handed.{if-ok}
 use Rattle.built_in_candidates.proofs.unsize_struct.tail_unsizes.Goals as goal

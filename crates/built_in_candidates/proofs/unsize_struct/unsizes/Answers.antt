@@ -4,8 +4,8 @@ use Rattle.model.specs.Worlds.{Reference}
 use Rattle.model.specs.Rules.{unsize}
 use Rattle.type_terms.specs.Terms.{args_lists, trees_at}
 use Rattle.type_terms.specs.Kinds.{args_trees}
-use Rattle.term_folds.specs.Kept.{trees-is}
-use Rattle.term_folds.proofs.FailFacts.{refused-term}
+use Rattle.type_terms.specs.Kept.{trees-is}
+use Rattle.type_terms.proofs.FailFacts.{refused-term}
 use Rattle.infer_table.proofs.FullFacts.{handed-on}
 use Rattle.model.proofs.TreeLaws.{append-none}
 use Rattle.built_in_candidates.proofs.unsize_struct.unsizes.Goals as goal

@@ -3,8 +3,8 @@ use Rattle.std.proofs.lemmas.List.{length-map}
 use Rattle.model.specs.Rules.{with_unsizing}
 use Rattle.type_terms.specs.Terms.{args_lists, trees_at}
 use Rattle.type_terms.specs.Kinds.{ArgsHeld, args_trees}
-use Rattle.term_folds.specs.Kept.{trees-is, has-later, trees-later}
-use Rattle.term_folds.proofs.FailFacts.{refused-term}
+use Rattle.type_terms.specs.Kept.{trees-is, has-later, trees-later}
+use Rattle.type_terms.proofs.FailFacts.{refused-term}
 use Rattle.infer_table.proofs.FullFacts.{handed-on}
 use Rattle.declarations.specs.Applied.{sort_of_param}
 use Rattle.declarations.specs.Unsizing.{field_trees}

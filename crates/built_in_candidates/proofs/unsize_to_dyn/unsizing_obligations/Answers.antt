@@ -2,7 +2,7 @@ use Rattle.std.proofs.Common.{[], ◌∷◌, ◌++◌, ap, sym, ◌∙◌, subst
 use Rattle.model.specs.Trees.{◌+++◌, leaf}
 use Rattle.model.specs.Rules.{asked, sized, autos_with}
 use Rattle.type_terms.specs.Terms.{types, bounds_lists, trees_at}
-use Rattle.term_folds.specs.Kept.{trees-is, has-later, trees-later}
+use Rattle.type_terms.specs.Kept.{trees-is, has-later, trees-later}
 use Rattle.infer_table.proofs.FullFacts.{handed-on}
 use Rattle.evaluation.specs.Merge.{if_there}
 use Rattle.declarations.specs.Items.{reference_in}

@@ -1,7 +1,7 @@
 use Rattle.std.proofs.Common.{ap, arith, sym, ◌∙◌, Err}
 use Rattle.type_terms.specs.Terms.{types}
-use Rattle.term_folds.specs.Kept.{trees-is}
-use Rattle.term_folds.proofs.FailFacts.{refused-term}
+use Rattle.type_terms.specs.Kept.{trees-is}
+use Rattle.type_terms.proofs.FailFacts.{refused-term}
 use Rattle.infer_table.proofs.FullFacts.{handed-on}
 use Rattle.assembly_laws.specs.Asking.{with_plain_head}
 use Rattle.built_in_candidates.proofs.unsize_to_dyn.with_plain_head.Goals as goal

@@ -1,7 +1,7 @@
 use Rattle.std.proofs.Common.{◌≡◌, ◌++◌, ap, sym, ◌∙◌, subst, Err}
 use Rattle.model.specs.Rules.{asked}
 use Rattle.type_terms.specs.Terms.{types, trees_at}
-use Rattle.term_folds.specs.Kept.{trees-later}
+use Rattle.type_terms.specs.Kept.{trees-later}
 use Rattle.infer_table.proofs.FullFacts.{handed-on}
 use Rattle.evaluation.specs.Merge.{if_there}
 use Rattle.declarations.specs.Applied.{references_in, AllHeld}

@@ -4,7 +4,7 @@ use Rattle.model.specs.Trees.{Trees, leaf, ◌+++◌}
 use Rattle.model.specs.Worlds.{Reference}
 use Rattle.model.specs.Rules.{principal_with, autos_with, are_declared, upcasts_autos}
 use Rattle.type_terms.specs.Terms.{bounds_lists, trees_at}
-use Rattle.term_folds.specs.Kept.{trees-later}
+use Rattle.type_terms.specs.Kept.{trees-later}
 use Rattle.infer_table.proofs.FullFacts.{handed-on}
 use Rattle.infer_table.proofs.Numbers.{goal-held-later}
 use Rattle.evaluation.specs.Merge.{if_there}

@@ -2,7 +2,7 @@ use Rattle.std.proofs.Common.{sym, ap, ◌∙◌, map, ◌∷◌}
 use Rattle.model.specs.Label.{of_type}
 use Rattle.type_terms.specs.Terms.{args_lists, trees_at}
 use Rattle.type_terms.specs.Kinds.{args_trees}
-use Rattle.term_folds.specs.Kept.{trees-is}
+use Rattle.type_terms.specs.Kept.{trees-is}
 use Rattle.declarations.specs.Applied.{sort_of_param, sorts_of}
 use Rattle.candidate_assembly.specs.Fitting.{same_sorts}
 use Rattle.candidate_assembly.proofs.Fitting.{args-sorts, trait-found}

@@ -1,7 +1,7 @@
 use Rattle.std.proofs.Common.{sym, ap, ◌∙◌, map}
 use Rattle.type_terms.specs.Terms.{args_lists, trees_at}
 use Rattle.type_terms.specs.Kinds.{args_trees}
-use Rattle.term_folds.specs.Kept.{trees-is}
+use Rattle.type_terms.specs.Kept.{trees-is}
 use Rattle.infer_table.specs.Values.{sort_of_arg}
 use Rattle.declarations.specs.Applied.{sort_of_param, sorts_of}
 use Rattle.candidate_assembly.specs.Fitting.{same_sorts}

@@ -6,7 +6,7 @@ use Rattle.model.specs.Rules.{unsize}
 use Rattle.type_terms.specs.Terms.{bounds_lists}
 use Rattle.type_terms.specs.Kinds.{bounds_trees, region_trees}
 use Rattle.type_terms.specs.declared.TraitId.{TraitId}
-use Rattle.term_folds.specs.Kept.{trees-is}
+use Rattle.type_terms.specs.Kept.{trees-is}
 use Rattle.candidate_assembly.proofs.Fitting.{bounds_both, bounds-with, bounds-without}
 use Rattle.candidate_assembly.proofs.decided.bounds_fit.Goals as goal
 

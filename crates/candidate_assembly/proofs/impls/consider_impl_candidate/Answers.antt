@@ -4,7 +4,7 @@ use Rattle.model.specs.Worlds.{Reference}
 use Rattle.model.specs.Rules.{is_coinductive}
 use Rattle.type_terms.specs.Terms.{Keeps, args_lists, trees_at}
 use Rattle.type_terms.specs.declared.TheConstants.{MAX_INDEX}
-use Rattle.term_folds.specs.Kept.{trees-later}
+use Rattle.type_terms.specs.Kept.{trees-later}
 use Rattle.term_folds.specs.declared.predicate.TraitRef.{TraitRef}
 use Rattle.infer_table.specs.Constraints.{constraints_trees}
 use Rattle.infer_table.specs.Content.{AllConstraintsHeld}

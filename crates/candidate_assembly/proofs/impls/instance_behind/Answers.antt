@@ -3,9 +3,9 @@ use Rattle.model.specs.Trees.{Trees, outer_binder}
 use Rattle.model.specs.Worlds.{with_args, all_with_args}
 use Rattle.type_terms.specs.Terms.{Keeps, args_lists, trees_at}
 use Rattle.term_folds.specs.Arguments.{first_misfit}
-use Rattle.term_folds.specs.Kept.{has-later, trees-later}
+use Rattle.type_terms.specs.Kept.{has-later, trees-later}
 use Rattle.term_folds.specs.declared.predicate.TraitRef.{TraitRef}
-use Rattle.term_folds.proofs.FailFacts.{refused-term}
+use Rattle.type_terms.proofs.FailFacts.{refused-term}
 use Rattle.infer_table.specs.Raw.{variables_from}
 use Rattle.infer_table.specs.Values.{values_of}
 use Rattle.infer_table.specs.declared.canonical.CanonicalVarKind.{CanonicalVarKind}

@@ -1,7 +1,7 @@
 use Rattle.std.proofs.Common.{◌≡◌, ◌+◌, ◌<◌, length, sym, ap, subst, ◌∙◌, Some, Err}
 use Rattle.type_terms.specs.Terms.{types, trees_at}
 use Rattle.type_terms.specs.declared.TheConstants.{MAX_INDEX}
-use Rattle.term_folds.specs.Kept.{trees-is}
+use Rattle.type_terms.specs.Kept.{trees-is}
 use Rattle.infer_table.proofs.FullFacts.{handed-on, or-then}
 use Rattle.declarations.specs.Items.{written, impl_in}
 use Rattle.declarations.specs.Relevant.{next_above}

@@ -1,7 +1,7 @@
 use Rattle.std.proofs.Common.{sym, ap, ◌∙◌, not, ◌||◌}
 use Rattle.type_terms.specs.Terms.{bounds_lists}
 use Rattle.type_terms.specs.Kinds.{autos_trees, bounds_trees}
-use Rattle.term_folds.specs.Kept.{trees-is}
+use Rattle.type_terms.specs.Kept.{trees-is}
 use Rattle.declarations.specs.Items.{written}
 use Rattle.candidate_assembly.proofs.Finding.{among, bounds-with, bounds-without}
 use Rattle.candidate_assembly.proofs.visitors.bounds_are_declared.Goals as goal

@@ -2,8 +2,8 @@ use Rattle.std.proofs.Common.{◌≡◌, ℕ, ◌≤◌, ◌++◌, length, drop,
 use Rattle.model.specs.Label.{Sort}
 use Rattle.type_terms.specs.Terms.{Keeps, args_lists, trees_at}
 use Rattle.type_terms.specs.Kinds.{args_trees}
-use Rattle.term_folds.specs.Kept.{args-held-later, args-trees-later, trees-is, trees-later}
-use Rattle.term_folds.proofs.FailFacts.{refused-term, only-tables}
+use Rattle.type_terms.specs.Kept.{args-held-later, args-trees-later, trees-is, trees-later}
+use Rattle.type_terms.proofs.FailFacts.{refused-term, only-tables}
 use Rattle.infer_table.specs.Content.{content, variables_of, AllConstraintsHeld}
 use Rattle.infer_table.specs.Growth.{grows-trans, counts-kept}
 use Rattle.infer_table.specs.Unification.{TableTrees, table_trees}

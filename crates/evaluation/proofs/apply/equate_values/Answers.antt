@@ -5,7 +5,7 @@ use Rattle.std.proofs.lemmas.Result.{err_from_is_err_and}
 use Rattle.std.proofs.lemmas.Slice.Zip.{zip_turn}
 use Rattle.type_terms.specs.Kinds.{ArgHeld, args_trees}
 use Rattle.type_terms.proofs.InfoFacts.{arg-held-at}
-use Rattle.term_folds.specs.Kept.{arg-held-later}
+use Rattle.type_terms.specs.Kept.{arg-held-later}
 use Rattle.infer_table.specs.Solutions.{Binding, Equates, HasNoSolution}
 use Rattle.infer_table.specs.Content.{content}
 use Rattle.infer_table.specs.Growth.{grows-trans}

@@ -1,5 +1,5 @@
 use Rattle.std.proofs.Common.{◌≡◌, ◌+◌, ◌++◌, ◌∷◌, [], take, ap, sym, ◌∙◌, append_assoc}
-use Rattle.term_folds.proofs.Items.{take-push}
+use Rattle.type_terms.proofs.Items.{take-push}
 use Rattle.infer_table.specs.Content.{Table}
 use Rattle.infer_table.specs.Growth.{grows-trans}
 use Rattle.infer_table.proofs.ConstraintLists.{constraint-held-at}

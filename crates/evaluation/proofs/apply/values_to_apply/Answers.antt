@@ -2,7 +2,7 @@ use Rattle.std.proofs.Common.{◌≡◌, ◌<◌, length, get_or, ap, sym, ◌�
 use Rattle.std.specs.Prelude.{IfSome, option_map, unwrap_or}
 use Rattle.type_terms.specs.Kinds.{ArgHeld}
 use Rattle.type_terms.specs.declared.kinds.GenericArgKind.{GenericArgKind}
-use Rattle.term_folds.specs.Kept.{args-held-later}
+use Rattle.type_terms.specs.Kept.{args-held-later}
 use Rattle.infer_table.specs.declared.canonical.CanonicalVarKind.TheVariants.{Ty}
 use Rattle.infer_table.specs.Values.{Value, values_of, value_of, values-later}
 use Rattle.infer_table.specs.Unification.{table_trees}

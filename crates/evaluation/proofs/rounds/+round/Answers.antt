@@ -1,8 +1,8 @@
 use Rattle.std.proofs.Common.{rules, arith, ◌≡◌, ◌-◌, ◌⊎◌, inl, inr, true, false, not, Ok, [], ◌∷◌, ◌++◌, map, length, take, drop, Some, None, Err, sym, subst, ap, ◌∙◌}
 use Rattle.std.proofs.lemmas.List.{map-append}
 use Rattle.type_terms.specs.Terms.{Keeps}
-use Rattle.term_folds.specs.Failures.{SomeKindIsFull}
-use Rattle.term_folds.specs.Kept.{args-held-later}
+use Rattle.type_terms.specs.Failures.{SomeKindIsFull}
+use Rattle.type_terms.specs.Kept.{args-held-later}
 use Rattle.infer_table.specs.Values.{values_of, values-later}
 use Rattle.evaluation.specs.Lists.{Every}
 use Rattle.evaluation.specs.Operations.{is_yes}

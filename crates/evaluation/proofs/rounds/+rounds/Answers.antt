@@ -10,7 +10,7 @@ use Rattle.evaluation.specs.declared.rounds.RoundStep.TheVariants as Of
 use Rattle.evaluation.proofs.FirstOf.{handed}
 use Rattle.evaluation.proofs.RoundsEnds.{rounds-fault, rounds-waits, rounds-again, rounds-last}
 use Rattle.infer_table.proofs.FullFacts.{or-then}
-use Rattle.term_folds.specs.Failures.{SomeKindIsFull}
+use Rattle.type_terms.specs.Failures.{SomeKindIsFull}
 use Rattle.evaluation.specs.Shortages.{RoundRunsOut}
 use Rattle.evaluation.proofs.Shortages.{handed-error, round-runs-out, later-round-runs-out}
 use Rattle.evaluation.proofs.rounds.+rounds.Goals as goal

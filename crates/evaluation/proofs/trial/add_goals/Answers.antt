@@ -1,7 +1,7 @@
 use Rattle.std.proofs.Common.{◌≡◌, [], ◌∷◌, ◌++◌, drop, ap, sym, ◌∙◌, subst, refl, List, Err}
 use Rattle.std.proofs.lemmas.List.{map-append}
 use Rattle.type_terms.specs.Terms.{Entry}
-use Rattle.term_folds.specs.Kept.{args-held-later}
+use Rattle.type_terms.specs.Kept.{args-held-later}
 use Rattle.infer_table.specs.Goals.{GoalHeld}
 use Rattle.infer_table.specs.declared.goal.Goal.{Goal}
 use Rattle.infer_table.proofs.Numbers.{goal-held-later}

@@ -1,5 +1,5 @@
 use Rattle.std.proofs.Common.{◌∙◌, ap, subst, inl, inr, Err}
-use Rattle.term_folds.specs.Kept.{args-held-later}
+use Rattle.type_terms.specs.Kept.{args-held-later}
 use Rattle.infer_table.specs.Content.{Table}
 use Rattle.infer_table.specs.Unification.{TableTrees}
 use Rattle.infer_table.specs.Unknowns.{with_each, SomeHasNoNumber}

@@ -1,7 +1,7 @@
 use Rattle.std.proofs.Common.{ap, ◌∙◌, inl, Err}
 use Rattle.type_terms.specs.Terms.{Keeps}
 use Rattle.type_terms.specs.Kinds.{arg_trees}
-use Rattle.term_folds.specs.Kept.{arg-held-later, args-held-later, arg-trees-later}
+use Rattle.type_terms.specs.Kept.{arg-held-later, args-held-later, arg-trees-later}
 use Rattle.infer_table.specs.Kept.{ready-later}
 use Rattle.infer_table.specs.Unification.{table_trees}
 use Rattle.infer_table.proofs.PairFacts.{table-kept}

@@ -1,5 +1,5 @@
 use Rattle.std.proofs.Common.{drop, sym, ◌∙◌, subst}
-use Rattle.term_folds.specs.Kept.{args-held-later}
+use Rattle.type_terms.specs.Kept.{args-held-later}
 use Rattle.infer_table.specs.Unification.{table_trees}
 use Rattle.infer_table.specs.Values.{values_of, values-later}
 use Rattle.infer_table.proofs.Values.{past-end}

@@ -1,6 +1,6 @@
 use Rattle.std.proofs.Common.{◌≡◌, map, ap, sym, ◌∙◌, subst, inl, Err}
 use Rattle.type_terms.specs.Terms.{Keeps}
-use Rattle.term_folds.specs.Kept.{args-held-later}
+use Rattle.type_terms.specs.Kept.{args-held-later}
 use Rattle.infer_table.specs.Kept.{constraints-kept}
 use Rattle.infer_table.specs.Constraints.{constraints_trees}
 use Rattle.infer_table.specs.Unification.{table_trees}

@@ -1,7 +1,8 @@
 use Rattle.std.proofs.Common.{◌≡◌, []}
 use Rattle.type_terms.specs.Kinds.{arg_trees}
-use Rattle.term_folds.proofs.FailFacts.{only-tables}
-use Rattle.term_folds.specs.Pieces.{FoldsEach, one_piece}
+use Rattle.type_terms.proofs.FailFacts.{only-tables}
+use Rattle.term_folds.specs.Folds.{FoldsEach}
+use Rattle.type_terms.specs.Pieces.{one_piece}
 use Rattle.infer_table.specs.Values.{values_of, filled, filling}
 use Rattle.infer_table.proofs.Fillings.{filled-fold}
 use Rattle.evaluation.proofs.Handed.{if-ok}

@@ -8,7 +8,7 @@ use Rattle.infer_table.specs.Applied.{with_constraints}
 use Rattle.infer_table.proofs.ConstraintLists.{constraints-filled}
 use Rattle.infer_table.proofs.InTurn.{constraints-recorded}
 use Rattle.evaluation.proofs.Handed.{on-ok}
-use Rattle.term_folds.proofs.FailFacts.{only-tables}
+use Rattle.type_terms.proofs.FailFacts.{only-tables}
 use Rattle.infer_table.proofs.FullFacts.{handed-on}
 use Rattle.evaluation.proofs.Shortages.{only-memory}
 use Rattle.evaluation.proofs.trial.record_constraint.Goals as goal

@@ -1,5 +1,5 @@
 use Rattle.std.proofs.Common.{drop, ap, sym, ◌∙◌, subst, Err}
-use Rattle.term_folds.specs.Kept.{args-held-later}
+use Rattle.type_terms.specs.Kept.{args-held-later}
 use Rattle.infer_table.specs.Content.{IsHeldConstraint}
 use Rattle.infer_table.specs.Kept.{constraint-kept}
 use Rattle.infer_table.specs.Unification.{table_trees}

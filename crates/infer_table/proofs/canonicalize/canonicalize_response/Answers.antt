@@ -3,7 +3,7 @@ use Rattle.std.specs.Prelude.{map}
 use Rattle.model.specs.Trees.{none, ◌+++◌}
 use Rattle.type_terms.specs.Terms.{Keeps, args_lists, trees_at}
 use Rattle.type_terms.specs.Kinds.{args_trees}
-use Rattle.term_folds.specs.Kept.{append-both, trees-is, trees-later}
+use Rattle.type_terms.specs.Kept.{append-both, trees-is, trees-later}
 use Rattle.infer_table.specs.Canonical.{kind_of_leaf, canonical_label}
 use Rattle.infer_table.specs.Solutions.{resolved}
 use Rattle.infer_table.specs.Content.{content}
@@ -12,7 +12,7 @@ use Rattle.infer_table.specs.Constraints.{constraints_trees}
 use Rattle.infer_table.proofs.SolutionLaws.{resolved-append, instance-resolved}
 use Rattle.infer_table.proofs.ContentFacts.{valued}
 use Rattle.infer_table.proofs.EquationFacts.{solved-sorted}
-use Rattle.infer_table.specs.Leaves.{labels, AreOpen, OpenAreLeaves}
+use Rattle.infer_table.specs.Leaves.{labels, AreOpen, OpenAreLeaves, leaf_label}
 use Rattle.infer_table.specs.LeafLaws.{leaves-later, labels-later}
 use Rattle.infer_table.proofs.Collections.{goal-open}
 use Rattle.infer_table.proofs.Numbers.{numbered-fold, relabeled-append}
@@ -21,8 +21,7 @@ use Rattle.infer_table.proofs.ConstraintLists.{constraints-later, constraints-nu
 use Rattle.infer_table.specs.Covers.{AreNumbered}
 use Rattle.infer_table.proofs.Answered.{agrees, are-numbered, value-leaves}
 use Rattle.std.proofs.lemmas.List.{length-map}
-use Rattle.term_folds.proofs.FailFacts.{refused-term}
-use Rattle.infer_table.specs.Leaves.{leaf_label}
+use Rattle.type_terms.proofs.FailFacts.{refused-term}
 use Rattle.infer_table.proofs.Refusals.{handed-on, not-full, as-many}
 use Rattle.infer_table.proofs.canonicalize.canonicalize_response.Goals as goal
 

@@ -1,6 +1,6 @@
 use Rattle.std.proofs.Common.{refl, arith, drop, ◌+◌}
-use Rattle.term_folds.specs.Visits.{ended_each}
-use Rattle.term_folds.proofs.VisitFacts.{visits-both, visits-stop}
+use Rattle.type_terms.specs.Visits.{ended_each}
+use Rattle.type_terms.proofs.VisitFacts.{visits-both, visits-stop}
 use Rattle.term_folds.specs.Clauses.{ClauseHeld}
 use Rattle.infer_table.specs.Goals.{environment_pieces}
 use Rattle.infer_table.proofs.Numbers.{clause-held-at}

@@ -1,5 +1,5 @@
 use Rattle.std.proofs.Common.{[], take, None}
-use Rattle.term_folds.specs.Visits.{VisitsEach}
+use Rattle.type_terms.specs.Visits.{VisitsEach}
 use Rattle.infer_table.specs.Goals.{environment_pieces}
 use Rattle.infer_table.proofs.goal.visit_clauses.Given as goal
 

@@ -2,7 +2,7 @@ use Rattle.std.proofs.Common.{true, ap, ◌∙◌, Err}
 use Rattle.model.specs.Label.{of_trait, predicate}
 use Rattle.model.specs.Trees.{tree, none}
 use Rattle.type_terms.specs.Terms.{args_lists}
-use Rattle.term_folds.specs.Kept.{trees-later}
+use Rattle.type_terms.specs.Kept.{trees-later}
 use Rattle.infer_table.specs.Canonical.{kind_in_clause, relabeled, canonical_label}
 use Rattle.infer_table.proofs.Refusals.{handed-on}
 use Rattle.infer_table.specs.Goals.{environment_trees}

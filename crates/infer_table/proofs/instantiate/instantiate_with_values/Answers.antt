@@ -1,5 +1,5 @@
 use Rattle.std.proofs.Common.{◌≡◌, Result, Ok, Err, IfOk}
-use Rattle.term_folds.proofs.FailFacts.{only-tables}
+use Rattle.type_terms.proofs.FailFacts.{only-tables}
 use Rattle.infer_table.specs.Goals.{goal_trees, GoalFolds}
 use Rattle.infer_table.specs.Values.{values_of, filling, goal_filled}
 use Rattle.infer_table.proofs.Fillings.{goal-filled}

@@ -1,6 +1,6 @@
 use Rattle.std.proofs.Common.{◌≡◌, refl, ap, ◌∙◌, Err}
 use Rattle.term_folds.specs.Clauses.{ClauseHeld, clause_pieces, clause-held-later}
-use Rattle.term_folds.specs.Pieces.{each_piece}
+use Rattle.type_terms.specs.Pieces.{each_piece}
 use Rattle.infer_table.specs.Solutions.{resolved}
 use Rattle.infer_table.specs.Content.{content}
 use Rattle.infer_table.specs.Kept.{content-kept}

@@ -1,7 +1,7 @@
 use Rattle.std.proofs.Common.{◌≡◌, ℕ, [], ◌∷◌, ap, ◌∙◌, Err}
 use Rattle.type_terms.specs.Terms.{trees_at, args_lists}
-use Rattle.term_folds.specs.Kept.{has-later, trees-later}
-use Rattle.term_folds.specs.Pieces.{each_piece, one_piece}
+use Rattle.type_terms.specs.Kept.{has-later, trees-later}
+use Rattle.type_terms.specs.Pieces.{each_piece, one_piece}
 use Rattle.infer_table.specs.Solutions.{resolved}
 use Rattle.infer_table.specs.Content.{content}
 use Rattle.infer_table.specs.Kept.{content-kept}

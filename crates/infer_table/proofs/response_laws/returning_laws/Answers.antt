@@ -5,7 +5,7 @@ use Rattle.infer_table.specs.Solutions.{Binding, Solves, instance}
 use Rattle.infer_table.specs.Content.{content, variables_of}
 use Rattle.infer_table.specs.Kept.{content-kept}
 use Rattle.infer_table.proofs.EquationFacts.{solved-sorted}
-use Rattle.term_folds.specs.Kept.{args-held-later, args-trees-later}
+use Rattle.type_terms.specs.Kept.{args-held-later, args-trees-later}
 use Rattle.infer_table.specs.Covers.{Agrees, AreKnown, IsOfKnown}
 use Rattle.infer_table.proofs.SolvableLaws.{completed, completion, closed-terms, closed-sorted, sound}
 use Rattle.infer_table.proofs.Covers.{applies, refuses}

@@ -1,6 +1,6 @@
 use Rattle.std.proofs.Common.{ap, Err, inl, arith}
 use Rattle.type_terms.specs.Terms.{types, consts}
-use Rattle.term_folds.proofs.FailFacts.{refused-term}
+use Rattle.type_terms.proofs.FailFacts.{refused-term}
 use Rattle.infer_table.specs.Kept.{ready-later}
 use Rattle.infer_table.proofs.Refusals.{handed-on, refused-unknown, as-kind}
 use Rattle.infer_table.proofs.unknowns.next_value.Goals as goal

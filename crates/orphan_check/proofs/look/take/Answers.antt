@@ -2,7 +2,7 @@ use Rattle.std.proofs.Common.{sym, subst}
 use Rattle.type_terms.specs.Terms.{types}
 use Rattle.type_terms.specs.Kinds.{kind_trees}
 use Rattle.type_terms.specs.declared.kinds.TyKind.TheVariants.{Adt, Dynamic}
-use Rattle.term_folds.specs.Kept.{trees-is}
+use Rattle.type_terms.specs.Kept.{trees-is}
 use Rattle.declarations.specs.Items.{declared}
 use Rattle.orphan_check.specs.Steps.{home_in}
 use Rattle.orphan_check.specs.Walks.{IsTaken}

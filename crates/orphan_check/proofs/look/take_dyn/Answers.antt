@@ -2,7 +2,7 @@ use Rattle.std.proofs.Common.{◌∙◌, ap}
 use Rattle.model.specs.Trees.{◌+++◌}
 use Rattle.type_terms.specs.Terms.{bounds_lists}
 use Rattle.type_terms.specs.Kinds.{region_trees, bounds_trees}
-use Rattle.term_folds.specs.Kept.{trees-is}
+use Rattle.type_terms.specs.Kept.{trees-is}
 use Rattle.declarations.specs.Items.{declared}
 use Rattle.orphan_check.specs.Steps.{home_in}
 use Rattle.orphan_check.specs.Looks.{dyn_look}

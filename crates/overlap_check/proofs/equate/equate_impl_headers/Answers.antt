@@ -1,7 +1,7 @@
 use Rattle.std.proofs.Common.{ap, sym, ◌∙◌, subst}
 use Rattle.type_terms.specs.Terms.{args_lists}
 use Rattle.type_terms.specs.Kinds.{args_trees}
-use Rattle.term_folds.specs.Kept.{trees-is}
+use Rattle.type_terms.specs.Kept.{trees-is}
 use Rattle.infer_table.specs.Content.{Ready}
 use Rattle.infer_table.specs.Kept.{ready-later}
 use Rattle.infer_table.specs.Unification.{table_trees}

@@ -5,8 +5,8 @@ use Rattle.model.proofs.TreeLaws.{append-none}
 use Rattle.type_terms.specs.Terms.{Is, args_lists, trees_at}
 use Rattle.type_terms.specs.Kinds.{ArgsHeld, args_trees}
 use Rattle.type_terms.specs.declared.kinds.GenericArgs.{GenericArgs}
-use Rattle.term_folds.proofs.FailFacts.{refused-term}
-use Rattle.term_folds.specs.Kept.{args-held-later, trees-is}
+use Rattle.type_terms.proofs.FailFacts.{refused-term}
+use Rattle.type_terms.specs.Kept.{args-held-later, trees-is}
 use Rattle.infer_table.specs.Kept.{ready-later}
 use Rattle.infer_table.proofs.FullFacts.{handed-on, or-then}
 use Rattle.infer_table.proofs.Values.{args-held-push}

@@ -3,8 +3,8 @@ use Rattle.std.specs.Prelude.{◌⊎◌}
 use Rattle.model.specs.Trees.{outer_binder}
 use Rattle.model.specs.Worlds.{with_args}
 use Rattle.type_terms.specs.Terms.{args_lists, trees_at}
-use Rattle.term_folds.specs.Failures.{SomeKindIsFull}
-use Rattle.term_folds.specs.Kept.{has-later, trees-later}
+use Rattle.type_terms.specs.Failures.{SomeKindIsFull}
+use Rattle.type_terms.specs.Kept.{has-later, trees-later}
 use Rattle.infer_table.specs.Kept.{ready-later}
 use Rattle.infer_table.proofs.FullFacts.{handed-on}
 use Rattle.declarations.specs.Applied.{sort_of_param}

@@ -6,7 +6,7 @@ use Rattle.term_folds.specs.declared.instantiate.InstantiateError.{InstantiateEr
 use Rattle.term_folds.specs.declared.instantiate.InstantiateError.TheVariants as error
 use Rattle.type_terms.specs.Terms.{trees_at}
 use Rattle.term_folds.specs.declared.predicate.TraitRef.{TraitRef}
-use Rattle.term_folds.specs.Pieces.{each_piece, one_piece}
+use Rattle.type_terms.specs.Pieces.{each_piece, one_piece}
 use Rattle.model.specs.Trees.{instantiate}
 use Rattle.declarations.proofs.Bounded.{one-instantiated}
 use Rattle.overlap_check.proofs.header.instantiate_trait_ref.Goals as goal

@@ -3,7 +3,7 @@ use Rattle.std.specs.Prelude.{◌⊎◌, ◌≢◌, Option, Result}
 use Rattle.type_terms.specs.Terms.{args_lists}
 use Rattle.type_terms.specs.declared.Fault.{Fault}
 use Rattle.type_terms.specs.declared.Fault.TheVariants.{Full}
-use Rattle.term_folds.specs.Kept.{has-later}
+use Rattle.type_terms.specs.Kept.{has-later}
 use Rattle.infer_table.specs.Applied.{solved_in_turn}
 use Rattle.infer_table.specs.Content.{Table, Grows, content}
 use Rattle.infer_table.specs.Solutions.{Equates, HasNoSolution}

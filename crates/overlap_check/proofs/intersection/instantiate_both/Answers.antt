@@ -3,7 +3,7 @@ use Rattle.model.specs.Trees.{outer_binder}
 use Rattle.model.specs.Worlds.{all_with_args}
 use Rattle.type_terms.specs.Terms.{args_lists, trees_at}
 use Rattle.term_folds.specs.Arguments.{first_misfit}
-use Rattle.term_folds.specs.Kept.{trees-later}
+use Rattle.type_terms.specs.Kept.{trees-later}
 use Rattle.term_folds.specs.declared.predicate.TraitRef.{TraitRef}
 use Rattle.infer_table.proofs.FullFacts.{handed-on}
 use Rattle.declarations.specs.Applied.{references_in, AllHeld}

@@ -2,7 +2,7 @@ use Rattle.std.proofs.Common.{ap, ◌∙◌, subst, Err}
 use Rattle.std.specs.Prelude.{◌⊎◌}
 use Rattle.model.specs.Terms.{erased_reference}
 use Rattle.type_terms.specs.Terms.{trees_at}
-use Rattle.term_folds.specs.Failures.{SomeKindIsFull}
+use Rattle.type_terms.specs.Failures.{SomeKindIsFull}
 use Rattle.infer_table.specs.Content.{Table}
 use Rattle.infer_table.proofs.FullFacts.{handed-on}
 use Rattle.declarations.specs.Items.{declared, reference_in}

@@ -1,6 +1,6 @@
 use Rattle.std.proofs.Common.{ap, arith, Err}
 use Rattle.type_terms.specs.Terms.{types}
-use Rattle.term_folds.proofs.FailFacts.{refused-term}
+use Rattle.type_terms.proofs.FailFacts.{refused-term}
 use Rattle.infer_table.proofs.FullFacts.{handed-on}
 use Rattle.rule_books.proofs.rule.as_one.Goals as goal
 

@@ -1,6 +1,6 @@
 use Rattle.std.proofs.Common.{◌∙◌, ap}
 use Rattle.type_terms.specs.Terms.{trees_at, types}
-use Rattle.term_folds.specs.Kept.{trees-is}
+use Rattle.type_terms.specs.Kept.{trees-is}
 use Rattle.declarations.specs.Heads.{head_of}
 use Rattle.declarations.proofs.Pushed.{head-of-first}
 use Rattle.sessions.proofs.ByTrait.{closed-group, open-group}

@@ -1,6 +1,6 @@
 use Rattle.std.proofs.Common.{rules, ◌∙◌, sym, ap, subst, Err}
 use Rattle.type_terms.specs.Terms.{args_lists}
-use Rattle.term_folds.specs.Kept.{has-later}
+use Rattle.type_terms.specs.Kept.{has-later}
 use Rattle.infer_table.specs.Content.{Ready}
 use Rattle.infer_table.specs.Kept.{ready-later}
 use Rattle.infer_table.proofs.FullFacts.{handed-on, or-then}

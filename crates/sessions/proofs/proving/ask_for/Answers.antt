@@ -1,6 +1,6 @@
 use Rattle.std.proofs.Common.{rules, ◌≡◌, ◌∙◌, map, Ok}
 use Rattle.term_folds.specs.Arguments.{arg_sort}
-use Rattle.term_folds.specs.Kept.{args-held-later}
+use Rattle.type_terms.specs.Kept.{args-held-later}
 use Rattle.sessions.specs.declared.settling.Outcome.TheVariants as outcome
 use Rattle.sessions.proofs.Answered.{read-goal, refused-goal, unsettled-goal}
 use Rattle.sessions.proofs.Posing.{over-ok}

@@ -1,12 +1,11 @@
 use Rattle.std.proofs.Common.{rules, ◌≡◌, ◌∙◌, map, ap, sym, subst}
-use Rattle.type_terms.specs.Kinds.{arg_trees}
+use Rattle.type_terms.specs.Kinds.{arg_trees, ArgsHeld}
 use Rattle.term_folds.specs.Arguments.{arg_sort}
-use Rattle.term_folds.specs.Kept.{args-held-later}
+use Rattle.type_terms.specs.Kept.{args-held-later}
 use Rattle.infer_table.specs.Goals.{goal_trees}
 use Rattle.infer_table.proofs.Numbers.{goal-held-later, goal-trees-later}
 use Rattle.candidate_assembly.specs.Fitting.{solving_of}
 use Rattle.sessions.specs.Tables.{table_of}
-use Rattle.type_terms.specs.Kinds.{ArgsHeld}
 use Rattle.sessions.proofs.Posing.{over-ok, args-later, answer-is}
 use Rattle.sessions.proofs.VariableKinds.{kinds-are}
 use Rattle.sessions.proofs.proving.prove_lowered.Goals as goal

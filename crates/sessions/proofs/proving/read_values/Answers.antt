@@ -1,7 +1,7 @@
 use Rattle.std.proofs.Common.{sym, ap, ◌∙◌, List, [], ◌∷◌}
 use Rattle.model.specs.Trees.{Trees, none, some_node}
-use Rattle.term_folds.specs.Kept.{args-held-later}
-use Rattle.term_folds.specs.Pieces.{Piece}
+use Rattle.type_terms.specs.Kept.{args-held-later}
+use Rattle.type_terms.specs.Pieces.{Piece}
 use Rattle.sessions.specs.Proving.{is_bound_term}
 use Rattle.sessions.proofs.Answering.{values-earlier}
 use Rattle.sessions.proofs.proving.read_values.Goals as goal

@@ -1,8 +1,8 @@
 use Rattle.std.proofs.Common.{◌≡◌, ◌∙◌, refl, ap, List, [], ◌∷◌, Err}
 use Rattle.model.specs.Trees.{Trees, none}
 use Rattle.type_terms.specs.Kinds.{ArgHeld, arg_trees}
-use Rattle.term_folds.specs.Kept.{arg-held-later, arg-trees-later, args-held-later}
-use Rattle.term_folds.specs.Pieces.{Piece}
+use Rattle.type_terms.specs.Kept.{arg-held-later, arg-trees-later, args-held-later}
+use Rattle.type_terms.specs.Pieces.{Piece}
 use Rattle.infer_table.specs.Content.{content}
 use Rattle.infer_table.specs.Kept.{content-kept}
 use Rattle.infer_table.specs.Solutions.{Binding, resolved}

@@ -1,4 +1,4 @@
-use Rattle.term_folds.specs.Kept.{args-held-later}
+use Rattle.type_terms.specs.Kept.{args-held-later}
 use Rattle.solver_tests.proofs.Responses.{two-held}
 use Rattle.solver_tests.proofs.merges.responses.Goals as goal
 

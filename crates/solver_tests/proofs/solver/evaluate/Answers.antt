@@ -1,5 +1,5 @@
 use Rattle.type_terms.specs.Terms.{types}
-use Rattle.term_folds.specs.Kept.{has-later}
+use Rattle.type_terms.specs.Kept.{has-later}
 use Rattle.infer_table.proofs.Numbers.{goal-held-later}
 use Rattle.solver_tests.proofs.solver.evaluate.Goals as goal
 

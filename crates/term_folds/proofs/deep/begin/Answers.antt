@@ -1,4 +1,4 @@
-use Rattle.term_folds.proofs.FailFacts.{memory-error}
+use Rattle.type_terms.proofs.FailFacts.{memory-error}
 use Rattle.term_folds.proofs.deep.begin.Goals as goal
 
 pub returns-in_err-push_parts-clause-failed : goal.returns-in_err-push_parts-clause-failed

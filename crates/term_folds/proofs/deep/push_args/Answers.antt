@@ -1,4 +1,4 @@
-use Rattle.term_folds.proofs.Items.{arg-held-at}
+use Rattle.type_terms.proofs.Items.{arg-held-at}
 use Rattle.term_folds.proofs.deep.push_args.Goals as goal
 
 pub loop-arg-init : goal.loop-arg-init

@@ -1,4 +1,4 @@
-use Rattle.term_folds.proofs.Items.{ty-held-at}
+use Rattle.type_terms.proofs.Items.{ty-held-at}
 use Rattle.term_folds.proofs.deep.push_tys.Goals as goal
 
 pub loop-ty-init : goal.loop-ty-init

@@ -1,5 +1,5 @@
 use Rattle.term_folds.proofs.DeepFacts.{steps-later}
-use Rattle.term_folds.proofs.FailFacts.{memory-error}
+use Rattle.type_terms.proofs.FailFacts.{memory-error}
 use Rattle.term_folds.proofs.deep.take_step.Goals as goal
 
 pub returns-then-step-clause-todo : goal.returns-then-step-clause-todo

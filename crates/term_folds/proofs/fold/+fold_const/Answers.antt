@@ -2,8 +2,8 @@ use Rattle.std.proofs.Common.{◌≡◌, ap, sym, ◌∙◌, refl}
 use Rattle.model.specs.Trees.{Single}
 use Rattle.type_terms.specs.Terms.{consts, trees_at}
 use Rattle.type_terms.specs.Kinds.{const_trees, const_label}
-use Rattle.term_folds.specs.Binders.{counts_of}
-use Rattle.term_folds.specs.Kept.{trees-is}
+use Rattle.type_terms.specs.Binders.{counts_of}
+use Rattle.type_terms.specs.Kept.{trees-is}
 use Rattle.term_folds.proofs.FoldFacts.{ConstIs, says-enters, says-puts, says-again, put-handle, turn-handle, leaf-stays, ok-map}
 use Rattle.term_folds.proofs.fold.+fold_const.Goals as goal
 

@@ -1,6 +1,6 @@
 use Rattle.std.proofs.Common.{ap, sym, ◌∙◌, refl}
 use Rattle.type_terms.specs.Kinds.{region_trees, region_label}
-use Rattle.term_folds.specs.Binders.{counts_of}
+use Rattle.type_terms.specs.Binders.{counts_of}
 use Rattle.term_folds.specs.Folds.{puts, again}
 use Rattle.term_folds.proofs.FoldFacts.{RegionIs, says-enters, says-puts, says-again, put-at, turn-at, leaf-stays, ok-map}
 use Rattle.term_folds.proofs.fold.+fold_region.Goals as goal

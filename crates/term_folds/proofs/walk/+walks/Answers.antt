@@ -8,14 +8,16 @@ use Rattle.type_terms.specs.declared.kinds.GenericArgKind.TheVariants.{Lifetime,
 use Rattle.type_terms.specs.declared.kinds.TyKind.TheVariants.{Ref}
 use Rattle.type_terms.specs.declared.TraitId.{TraitId}
 use Rattle.model.specs.Label.{ref, principal}
-use Rattle.term_folds.specs.Binders.{counts_of}
-use Rattle.term_folds.specs.Folds.{Does, IsBound, enters, Folds, nothing, entered, below}
-use Rattle.term_folds.specs.Kept.{trees-is, has-later, trees-later, arg-held-later, arg-trees-later, args-held-later, tys-held-later}
-use Rattle.term_folds.proofs.FoldFacts.{TyIs, says-enters, says-puts, says-again, put-handle, turn-handle, enter-later, folds-append, by-action, two-folds, type-is-one, ok-map}
-use Rattle.term_folds.proofs.Items.{ty-held-at, ty-older-at, tys-held-push, one-more-ty, fuel-of-ty, no-tys, arg-held-at, arg-older-at, args-held-push, one-more-arg, fuel-of-arg}
+use Rattle.type_terms.specs.Binders.{counts_of}
+use Rattle.term_folds.specs.Folds.{Does, enters, Folds, nothing, entered, below}
+use Rattle.type_terms.specs.Visits.{IsBound}
+use Rattle.type_terms.specs.Kept.{trees-is, has-later, trees-later, arg-held-later, arg-trees-later, args-held-later, tys-held-later}
+use Rattle.term_folds.proofs.FoldFacts.{TyIs, says-enters, says-puts, says-again, put-handle, turn-handle, enter-later, folds-append, by-action, two-folds, ok-map}
+use Rattle.type_terms.proofs.Items.{type-is-one, ty-held-at, ty-older-at, tys-held-push, fuel-of-ty, no-tys, arg-held-at, arg-older-at, args-held-push, fuel-of-arg}
+use Rattle.term_folds.proofs.Items.{one-more-ty, one-more-arg}
 use Rattle.term_folds.proofs.KindFacts.{leaf-below}
 use Rattle.term_folds.proofs.MemoFacts.{remembers-later, fold-known}
-use Rattle.term_folds.proofs.FailFacts.{fault-error, memory-error, refused-term}
+use Rattle.type_terms.proofs.FailFacts.{fault-error, memory-error, refused-term}
 use Rattle.term_folds.proofs.walk.+walks.Invariants.{number_of}
 use Rattle.term_folds.proofs.walk.+walks.Goals as goal
 

@@ -3,7 +3,7 @@ use Rattle.type_terms.specs.Terms.{Is, Keeps, type_lists, args_lists, trees_at}
 use Rattle.type_terms.specs.Kinds.{TysHeld, TysOlder, tys_trees, ArgsHeld, ArgsOlder, args_trees, arg_trees}
 use Rattle.type_terms.specs.declared.kinds.GenericArgKind.{GenericArgKind}
 use Rattle.type_terms.specs.declared.kinds.GenericArgKind.TheVariants.{Lifetime, Ty, Const}
-use Rattle.term_folds.specs.Binders.{counts_of}
+use Rattle.type_terms.specs.Binders.{counts_of}
 use Rattle.term_folds.specs.Folds.{Folds}
 use Rattle.term_folds.specs.Memos.{Remembers}
 use Rattle.term_folds.proofs.walk.+walks.Given as goal

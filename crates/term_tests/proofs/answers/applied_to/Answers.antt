@@ -1,5 +1,5 @@
 use Rattle.type_terms.specs.Terms.{types}
-use Rattle.term_folds.specs.Kept.{has-later}
+use Rattle.type_terms.specs.Kept.{has-later}
 use Rattle.term_tests.proofs.answers.applied_to.Goals as goal
 
 pub instantiate_and_apply_query_response-applied-requires-clause-values : goal.instantiate_and_apply_query_response-applied-requires-clause-values

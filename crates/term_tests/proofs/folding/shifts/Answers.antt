@@ -4,7 +4,7 @@ use Rattle.model.specs.Trees.{tree, none, leaf}
 use Rattle.type_terms.specs.Terms.{Entry, Is, types, trees_at}
 use Rattle.type_terms.specs.Kinds.{region_label}
 use Rattle.type_terms.specs.declared.region.RegionKind.{RegionKind}
-use Rattle.term_folds.specs.Kept.{trees-is}
+use Rattle.type_terms.specs.Kept.{trees-is}
 use Rattle.term_folds.specs.Shifts.{ShiftInRange}
 use Rattle.term_tests.proofs.folding.shifts.Goals as goal
 

@@ -7,7 +7,7 @@ use Rattle.view_lowering.specs.Plain.{none_kept, plain}
 use Rattle.view_lowering.specs.PlainCells.{plain_cell}
 use Rattle.view_lowering.proofs.Plainly.{trees-plain}
 use Rattle.view_lowering.proofs.Structs.{struct-lowered}
-use Rattle.view_lowering.proofs.Refusals.{some-kind, never-full}
+use Rattle.view_lowering.proofs.Refusals.{never-full}
 use Rattle.view_lowering.proofs.items.lower_struct.Goals as goal
 
 pub lower_types-requires : goal.lower_types-requires
@@ -20,7 +20,7 @@ returns-clause-is c =
     (c.in_ok-fields.ensures.is ∙ ap (λ x. trees_of (cells_of x)) c.deref-3.ensures.value ∙ ap trees_of (c.in_ok-cells.ensures.are ∙ ap (λ x. map (plain_cell none_kept) (cells_of x)) c.deref-2.ensures.value) ∙ trees-plain none_kept cs)
 
 pub returns-in_err-fields-clause-full : goal.returns-in_err-fields-clause-full
-returns-in_err-fields-clause-full c = handed-on c.from_residual-in_err-fields.result c.from_residual-in_err-fields.ensures.1 (λ p. some-kind (c.in_err-fields.ensures.full (ap Err p)))
+returns-in_err-fields-clause-full c = handed-on c.from_residual-in_err-fields.result c.from_residual-in_err-fields.ensures.1 (λ p. c.in_err-fields.ensures.full (ap Err p))
 
 pub returns-clause-full : goal.returns-clause-full
 returns-clause-full c = never-full c.new.result c.new.ensures.memory

@@ -3,7 +3,7 @@ use Rattle.std.specs.Prelude.{◌⊎◌}
 use Rattle.text_definitions.specs.Names.{own_from}
 use Rattle.type_terms.specs.Terms.{Keeps}
 use Rattle.type_terms.specs.declared.TheConstants.{MAX_INDEX}
-use Rattle.term_folds.specs.Failures.{SomeKindIsFull}
+use Rattle.type_terms.specs.Failures.{SomeKindIsFull}
 use Rattle.declarations.proofs.Growth.{reference-same, reference-kept, references-kept}
 use Rattle.declarations.proofs.Bounded.{all-same}
 use Rattle.infer_table.proofs.FullFacts.{handed-on}

@@ -1,6 +1,6 @@
 use Rattle.std.proofs.Common.{ap, arith, Err, inl}
 use Rattle.type_terms.specs.Terms.{types, consts}
-use Rattle.term_folds.proofs.FailFacts.{refused-term}
+use Rattle.type_terms.proofs.FailFacts.{refused-term}
 use Rattle.infer_table.proofs.FullFacts.{handed-on}
 use Rattle.view_lowering.proofs.question.next_unknown.Goals as goal
 

@@ -1,5 +1,5 @@
 use Rattle.std.proofs.Common.{refl, sym, subst}
-use Rattle.term_folds.specs.declared.visit.Seen.TheVariants.{Enter}
+use Rattle.type_terms.specs.declared.visit.Seen.TheVariants.{Enter}
 use Rattle.declarations.specs.Items.{written}
 use Rattle.candidate_assembly.specs.Finding.{BreaksAt}
 use Rattle.candidate_assembly.proofs.Finding.{const-unnamed}

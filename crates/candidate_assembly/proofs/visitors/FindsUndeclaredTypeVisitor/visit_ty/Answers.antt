@@ -2,7 +2,7 @@ use Rattle.std.proofs.Common.{refl, sym, ap, ◌∙◌, not, subst}
 use Rattle.type_terms.specs.Terms.{types, trees_at}
 use Rattle.type_terms.specs.Kinds.{kind_trees}
 use Rattle.type_terms.specs.declared.kinds.TyKind.TheVariants.{Dynamic}
-use Rattle.term_folds.specs.Kept.{trees-is}
+use Rattle.type_terms.specs.Kept.{trees-is}
 use Rattle.declarations.specs.Items.{written}
 use Rattle.candidate_assembly.specs.Finding.{BreaksAt, names_undeclared}
 use Rattle.candidate_assembly.proofs.Finding.{bounds-alone, not-not, among}

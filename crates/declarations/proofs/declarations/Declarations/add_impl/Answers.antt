@@ -4,7 +4,7 @@ use Rattle.std.specs.Map.{lookup}
 use Rattle.std.proofs.lemmas.List.{map_push}
 use Rattle.indexmap.proofs.CallerLemmas.{insert_entry-new}
 use Rattle.type_terms.specs.Terms.{trees_at, types}
-use Rattle.term_folds.specs.Kept.{trees-is}
+use Rattle.type_terms.specs.Kept.{trees-is}
 use Rattle.type_terms.specs.contracts.ImplIdPartialEq.TheImpl.{ghosts as impl-id}
 use Rattle.declarations.specs.declared.declarations.ImplEntry.{ImplEntry}
 use Rattle.declarations.specs.declared.heads.ImplHead.{ImplHead}

@@ -4,7 +4,7 @@ use Rattle.model.specs.Label.{of_type}
 use Rattle.model.specs.Trees.{IsA}
 use Rattle.type_terms.specs.Terms.{trees_at, types}
 use Rattle.type_terms.specs.declared.ImplId.{ImplId}
-use Rattle.term_folds.specs.Kept.{trees-is}
+use Rattle.type_terms.specs.Kept.{trees-is}
 use Rattle.declarations.specs.Heads.{head_of}
 use Rattle.declarations.specs.Items.{ids_headed}
 use Rattle.declarations.specs.Merges.{Rises}

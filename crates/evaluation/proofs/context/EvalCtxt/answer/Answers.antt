@@ -4,7 +4,7 @@ use Rattle.infer_table.specs.Values.{values_of}
 use Rattle.infer_table.specs.declared.certainty.Certainty.{Certainty}
 use Rattle.infer_table.specs.declared.certainty.Certainty.TheVariants.{Maybe}
 use Rattle.infer_table.specs.declared.certainty.MaybeCause.TheVariants.{Ambiguity, Overflow}
-use Rattle.term_folds.specs.Failures.{SomeKindIsFull}
+use Rattle.type_terms.specs.Failures.{SomeKindIsFull}
 use Rattle.evaluation.specs.Shortages.{HasNoAnswer}
 use Rattle.evaluation.proofs.Shortages.{some-kind}
 use Rattle.evaluation.proofs.context.EvalCtxt.answer.Goals as goal

@@ -2,7 +2,7 @@ use Rattle.std.proofs.Common.{◌≡◌, ◌⊎◌, [], ◌∷◌, ◌∙◌, ap
 use Rattle.type_terms.specs.Kinds.{arg_trees}
 use Rattle.infer_table.specs.Content.{Table, content, Ready}
 use Rattle.type_terms.specs.declared.Fault.TheVariants.{Full}
-use Rattle.term_folds.specs.Failures.{SomeKindIsFull}
+use Rattle.type_terms.specs.Failures.{SomeKindIsFull}
 use Rattle.infer_table.specs.Numbers.{RunsOut}
 use Rattle.infer_table.specs.Solutions.{OlderStays}
 use Rattle.infer_table.specs.Unification.{table_trees}

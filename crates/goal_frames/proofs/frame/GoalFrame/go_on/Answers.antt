@@ -1,5 +1,5 @@
 use Rattle.std.proofs.Common.{◌⊎◌, map, ap, subst, sym, None, Err}
-use Rattle.term_folds.specs.Failures.{SomeKindIsFull}
+use Rattle.type_terms.specs.Failures.{SomeKindIsFull}
 use Rattle.infer_table.specs.Inputs.{form_of}
 use Rattle.infer_table.proofs.FullFacts.{handed-on}
 use Rattle.evaluation.specs.Readings.{StepHeld}

@@ -3,7 +3,7 @@ use Rattle.model.specs.Label.{of_trait, predicate}
 use Rattle.model.specs.Trees.{tree, none}
 use Rattle.type_terms.specs.Terms.{trees_at}
 use Rattle.type_terms.specs.declared.TraitId.{TraitId}
-use Rattle.term_folds.specs.Failures.{SomeKindIsFull}
+use Rattle.type_terms.specs.Failures.{SomeKindIsFull}
 use Rattle.type_terms.specs.declared.Fault.TheVariants.{Full}
 use Rattle.infer_table.specs.Inputs.{form_of}
 use Rattle.infer_table.specs.Responses.{answer_trees}

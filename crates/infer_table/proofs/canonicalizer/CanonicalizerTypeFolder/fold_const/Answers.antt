@@ -1,6 +1,6 @@
 use Rattle.std.proofs.Common.{ap, Err, arith}
 use Rattle.type_terms.specs.Terms.{consts}
-use Rattle.term_folds.proofs.FailFacts.{faulted, refused-term}
+use Rattle.type_terms.proofs.FailFacts.{faulted, refused-term}
 use Rattle.infer_table.proofs.canonicalizer.CanonicalizerTypeFolder.fold_const.Goals as goal
 
 pub returns-in_err-variable-clause-full : goal.returns-in_err-variable-clause-full

@@ -2,10 +2,10 @@ use Rattle.std.proofs.Common.{ap, Err, arith, ◌≡◌, Bool, true, false, refl
 use Rattle.model.specs.Trees.{Single}
 use Rattle.type_terms.specs.Terms.{trees_at, types}
 use Rattle.type_terms.proofs.Sorts.{type-single}
-use Rattle.term_folds.specs.Binders.{counts_of}
-use Rattle.term_folds.specs.Kept.{is-at}
+use Rattle.type_terms.specs.Binders.{counts_of}
+use Rattle.type_terms.specs.Kept.{is-at}
 use Rattle.term_folds.proofs.FoldFacts.{TyIs}
-use Rattle.term_folds.proofs.FailFacts.{faulted, refused-term}
+use Rattle.type_terms.proofs.FailFacts.{faulted, refused-term}
 use Rattle.infer_table.specs.Leaves.{labels, root_label, are_closed_flags, is_closed, is_type_label, numbering}
 use Rattle.infer_table.proofs.Numbers.{enters-at, stays-at, says-stays, says-enters}
 use Rattle.infer_table.proofs.canonicalizer.CanonicalizerTypeFolder.fold_ty.Goals as goal

@@ -1,9 +1,9 @@
 use Rattle.std.proofs.Common.{◌≡◌, ℕ, [], ◌∷◌, List, ap, subst, Err}
 use Rattle.model.specs.Trees.{Trees}
 use Rattle.type_terms.specs.Terms.{trees_at, args_lists}
-use Rattle.term_folds.specs.Folds.{Does}
-use Rattle.term_folds.specs.Kept.{has-later, trees-later}
-use Rattle.term_folds.specs.Pieces.{FoldsEach, one_piece}
+use Rattle.term_folds.specs.Folds.{Does, FoldsEach}
+use Rattle.type_terms.specs.Kept.{has-later, trees-later}
+use Rattle.type_terms.specs.Pieces.{one_piece}
 use Rattle.infer_table.proofs.Refusals.{handed-on}
 use Rattle.infer_table.specs.Goals.{ClausesFold}
 use Rattle.infer_table.proofs.Numbers.{clauses-held-later, clauses-fold-later}

@@ -1,7 +1,7 @@
 use Rattle.std.proofs.Common.{refl}
 use Rattle.type_terms.specs.Terms.{trees_at}
-use Rattle.term_folds.specs.Pieces.{one_piece}
-use Rattle.term_folds.proofs.VisitFacts.{visits-both, visits-stop}
+use Rattle.type_terms.specs.Pieces.{one_piece}
+use Rattle.type_terms.proofs.VisitFacts.{visits-both, visits-stop}
 use Rattle.infer_table.proofs.goal.Goal.visit_with.Goals as goal
 
 pub returns-in-Break-clause-visited : goal.returns-in-Break-clause-visited

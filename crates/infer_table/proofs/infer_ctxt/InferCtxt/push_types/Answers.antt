@@ -2,7 +2,7 @@ use Rattle.std.proofs.Common.{sym, subst, take, ◌++◌, ◌∷◌, []}
 use Rattle.model.specs.Trees.{◌+++◌}
 use Rattle.type_terms.specs.declared.kinds.GenericArgKind.TheVariants.{Lifetime as ALifetime, Const as AConst}
 use Rattle.type_terms.specs.Kinds.{arg_trees, args_trees, ArgHeld}
-use Rattle.term_folds.proofs.Items.{arg-held-at}
+use Rattle.type_terms.proofs.Items.{arg-held-at}
 use Rattle.infer_table.specs.Content.{content}
 use Rattle.infer_table.specs.Occurring.{Pushes}
 use Rattle.infer_table.proofs.ContentFacts.{valued}

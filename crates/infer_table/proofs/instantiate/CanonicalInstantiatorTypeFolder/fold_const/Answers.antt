@@ -3,7 +3,7 @@ use Rattle.model.specs.Label.{of_const, canonical}
 use Rattle.model.specs.Trees.{leaf}
 use Rattle.type_terms.specs.Terms.{trees_at, consts}
 use Rattle.type_terms.specs.Kinds.{bound_label}
-use Rattle.term_folds.specs.Kept.{is-at, trees-is}
+use Rattle.type_terms.specs.Kept.{is-at, trees-is}
 use Rattle.term_folds.proofs.FoldFacts.{ConstIs}
 use Rattle.infer_table.specs.Values.{values_of, filling}
 use Rattle.infer_table.proofs.Numbers.{says-stays}

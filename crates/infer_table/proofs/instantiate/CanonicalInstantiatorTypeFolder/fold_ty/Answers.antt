@@ -4,7 +4,7 @@ use Rattle.model.specs.Trees.{leaf}
 use Rattle.type_terms.specs.Terms.{trees_at, types}
 use Rattle.type_terms.specs.Kinds.{bound_label}
 use Rattle.type_terms.proofs.Sorts.{type-single}
-use Rattle.term_folds.specs.Kept.{is-at, trees-is}
+use Rattle.type_terms.specs.Kept.{is-at, trees-is}
 use Rattle.term_folds.proofs.FoldFacts.{TyIs}
 use Rattle.infer_table.specs.Leaves.{root_label, is_type_label}
 use Rattle.infer_table.specs.Values.{values_of, filling, are_unbound_flags, is_unbound}

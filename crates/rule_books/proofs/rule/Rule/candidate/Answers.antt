@@ -1,7 +1,7 @@
 use Rattle.std.proofs.Common.{◌≡◌, ℕ, ◌⊎◌, ◌+◌, ◌<◌, List, ◌&&◌, length, refl, ap, subst, ◌∙◌, inl, Err}
 use Rattle.std.specs.List.{list_all}
 use Rattle.type_terms.specs.Terms.{Keeps}
-use Rattle.term_folds.specs.Kept.{arg-held-later, args-held-later}
+use Rattle.type_terms.specs.Kept.{arg-held-later, args-held-later}
 use Rattle.infer_table.specs.Values.{values_of, values-later}
 use Rattle.infer_table.proofs.FullFacts.{handed-on}
 use Rattle.infer_table.specs.Raw.{variables_from}

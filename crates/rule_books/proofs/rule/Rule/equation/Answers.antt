@@ -1,5 +1,5 @@
 use Rattle.std.proofs.Common.{◌≡◌, true, ap, ◌∙◌, Err}
-use Rattle.term_folds.specs.Kept.{args-held-later}
+use Rattle.type_terms.specs.Kept.{args-held-later}
 use Rattle.infer_table.specs.Values.{values-later}
 use Rattle.infer_table.proofs.FullFacts.{handed-on}
 use Rattle.goal_frames.specs.Handlers.{as_one, behind}

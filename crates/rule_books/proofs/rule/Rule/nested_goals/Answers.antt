@@ -1,5 +1,5 @@
 use Rattle.std.proofs.Common.{◌≡◌, ◌<◌, ◌≤◌, length, get_or, true, ap, ◌∙◌, subst, Err}
-use Rattle.term_folds.specs.Kept.{args-held-later}
+use Rattle.type_terms.specs.Kept.{args-held-later}
 use Rattle.infer_table.specs.declared.goal.Goal.{Goal}
 use Rattle.infer_table.specs.Goals.{PredicateHeld, GoalHeld}
 use Rattle.infer_table.specs.Values.{values-later}

@@ -1,7 +1,7 @@
 use Rattle.std.proofs.Common.{Some, None, sym, ◌∙◌, ap, subst}
 use Rattle.model.specs.Trees.{nth}
 use Rattle.type_terms.specs.Terms.{trees_at, types}
-use Rattle.term_folds.specs.Kept.{trees-is}
+use Rattle.type_terms.specs.Kept.{trees-is}
 use Rattle.declarations.specs.Heads.{head_of, label_of}
 use Rattle.declarations.specs.Items.{declared}
 use Rattle.declarations.specs.Relevant.{names_of, relevant_in}

@@ -1,4 +1,4 @@
-use Rattle.term_folds.proofs.FailFacts.{full-of}
+use Rattle.type_terms.proofs.FailFacts.{full-of}
 use Rattle.term_folds.proofs.foldable.TypeFoldable.fold_with.Goals as goal
 
 pub returns-clause-full : goal.returns-clause-full

@@ -1,4 +1,4 @@
-use Rattle.term_folds.proofs.FailFacts.{failed-by}
+use Rattle.type_terms.proofs.FailFacts.{failed-by}
 use Rattle.term_folds.proofs.folder.InfallibleFallibleTypeFolder.try_fold_region.Goals as goal
 
 pub returns-clause-failed : goal.returns-clause-failed

@@ -1,7 +1,7 @@
 use Rattle.std.proofs.Common.{◌≡◌, length, ◌∙◌}
 use Rattle.std.specs.HashMap.{get}
 use Rattle.type_terms.specs.declared.TheConstants.{MAX_INDEX}
-use Rattle.term_folds.specs.Binders.{counts_of}
+use Rattle.type_terms.specs.Binders.{counts_of}
 use Rattle.term_folds.specs.Memos.{place_eq}
 use Rattle.term_folds.proofs.MemoFacts.{under-limit}
 use Rattle.term_folds.specs.declared.memo.Place.{Place}

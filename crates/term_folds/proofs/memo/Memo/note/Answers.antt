@@ -1,6 +1,6 @@
 use Rattle.std.proofs.Common.{length, subst}
 use Rattle.type_terms.specs.declared.TheConstants.{MAX_INDEX}
-use Rattle.term_folds.specs.Binders.{counts_of}
+use Rattle.type_terms.specs.Binders.{counts_of}
 use Rattle.term_folds.specs.Memos.{IsKnown}
 use Rattle.term_folds.proofs.MemoFacts.{under-limit, remembers-more}
 use Rattle.term_folds.proofs.memo.Memo.note.Goals as goal

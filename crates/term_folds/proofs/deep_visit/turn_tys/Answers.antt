@@ -1,6 +1,0 @@
-use Rattle.term_folds.specs.Visits.{ended, next_each}
-use Rattle.term_folds.proofs.PendingFacts.{tys-empty}
-use Rattle.term_folds.proofs.deep_visit.turn_tys.Goals as goal
-
-pub returns-in-empty-clause-follows : goal.returns-in-empty-clause-follows
-returns-in-empty-clause-follows g c = λ x r h. rw (tys-empty c.args.cx.now.entries c.args.tys.now c.in-empty.len_below) (next_each ended h)

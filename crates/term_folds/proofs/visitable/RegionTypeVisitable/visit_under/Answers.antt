@@ -1,5 +1,0 @@
-use Rattle.term_folds.proofs.VisitFacts.{visits-one}
-use Rattle.term_folds.proofs.visitable.RegionTypeVisitable.visit_under.Goals as goal
-
-pub returns-clause-visited : goal.returns-clause-visited
-returns-clause-visited g c = visits-one c.visit_region.ensures.visited

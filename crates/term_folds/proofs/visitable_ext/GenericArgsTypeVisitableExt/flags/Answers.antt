@@ -1,6 +1,0 @@
-use Rattle.std.proofs.Common.{sym, ◌∙◌}
-use Rattle.term_folds.proofs.ScanFacts.{or_none}
-use Rattle.term_folds.proofs.visitable_ext.GenericArgsTypeVisitableExt.flags.Goals as goal
-
-pub returns : goal.returns
-returns c = c.flags.ensures ∙ sym (or_none _)

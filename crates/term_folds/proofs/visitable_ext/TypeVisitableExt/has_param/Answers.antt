@@ -1,6 +1,0 @@
-use Rattle.std.proofs.Common.{◌∙◌}
-use Rattle.term_folds.proofs.ScanFacts.{scan-params}
-use Rattle.term_folds.proofs.visitable_ext.TypeVisitableExt.has_param.Goals as goal
-
-pub returns : goal.returns
-returns g c = c.has_type_flags.ensures ∙ scan-params (g.Self.TypeVisitable.pieces c.args.self c.args.cx.now.entries)

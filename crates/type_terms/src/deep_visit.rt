@@ -1,0 +1,513 @@
+//! Deep terms visited off a list in memory.
+//!
+//! What is still to be visited is a list, and so are the binders around what comes next: so no visit of a deep term recurses
+//! on its depth. A visit cannot fail for want of memory: where the list cannot grow, the part is visited by recursion.
+ghost use Rattle.std.specs.Prelude.{◌≡◌, [], ◌∷◌, MatchResult};
+ghost use Rattle.std.specs.ControlFlow.{break_value};
+ghost use Rattle.type_terms.specs.Terms.{Has, types, trees_at};
+ghost use Rattle.type_terms.specs.Kinds.{TysHeld, tys_trees, ArgsHeld, args_trees};
+ghost use Rattle.type_terms.specs.Binders.{counts_of};
+ghost use Rattle.type_terms.specs.Visits.{Visits, VisitsBelow, VisitsEach};
+ghost use Rattle.type_terms.specs.Pending.{part_trees, PartHeld, AllHeld, ahead, inside, piece, piece_below, path_pieces, piece_of_both, GoesOn};
+
+use crate::binders::Binders;
+use crate::interner::Interner;
+use crate::kinds::{Bounds, GenericArgKind, Ty, TyKind};
+use crate::visit::{SHALLOW, Seen, TypeVisitor, visit_const, visit_region};
+use crate::visit_walk::{see_arg, see_below, see_bounds, see_ty};
+use std::alloc::{AllocError, Global};
+use std::ops::ControlFlow;
+
+/// Terms that are visited one after the other.
+#[derive(Clone, Copy)]
+pub(crate) enum Part<'a> {
+    Arg(GenericArgKind),
+    Tys(&'a [Ty]),
+    Args(&'a [GenericArgKind]),
+    Bounds(Bounds),
+}
+
+/// What comes next in a visit.
+#[derive(Clone, Copy)]
+pub(crate) enum Pending<'a> {
+    Visit(Part<'a>),
+    /// The innermost binder ends.
+    Leave,
+}
+
+/// Where a visit stands.
+#[derive(Drop)]
+pub(crate) struct Path<'a> {
+    /// How many lifetimes the binders bind that were entered, the innermost last.
+    pub counts: Vec<u32>,
+    /// What is to be visited, the next last.
+    pub todo: Vec<Pending<'a>>,
+}
+
+impl<'a> Path<'a> {
+    /// Nothing is to be visited.
+    fn new(alloc: Global) -> Path<'a>
+        ensures inside { inside result ≡ [] }
+        ensures ahead { ahead result ≡ [] }
+    {
+        Path {
+            counts: Vec::new(alloc),
+            todo: Vec::new(alloc),
+        }
+    }
+
+    /// The part is to be visited next.
+    fn push(&mut self, part: Part<'a>) -> Result<(), AllocError>
+        ensures inside { inside self.new ≡ inside self.old }
+        ensures ahead { MatchResult result (λ _. ahead self.new ≡ Pending.Visit part.entry ∷ ahead self.old) (λ _. ahead self.new ≡ ahead self.old) }
+    {
+        self.todo.extend_from_slice(&[Pending::Visit(part)])
+    }
+
+    /// The one part is to be visited next, and then the other.
+    fn push_both(&mut self, first: Part<'a>, second: Part<'a>) -> Result<(), AllocError>
+        ensures inside { inside self.new ≡ inside self.old }
+        ensures ahead { MatchResult result (λ _. ahead self.new ≡ Pending.Visit first.entry ∷ Pending.Visit second.entry ∷ ahead self.old) (λ _. ahead self.new ≡ ahead self.old) }
+    {
+        self.todo
+            .extend_from_slice(&[Pending::Visit(second), Pending::Visit(first)])
+    }
+
+    /// The part is to be visited next, under one more binder.
+    fn push_bound(&mut self, count: u32, part: Part<'a>) -> Result<(), AllocError>
+        ensures inside { MatchResult result (λ _. inside self.new ≡ count ∷ inside self.old) (λ _. inside self.new ≡ inside self.old) }
+        ensures ahead { MatchResult result (λ _. ahead self.new ≡ Pending.Visit part.entry ∷ Pending.Leave ∷ ahead self.old) (λ _. ahead self.new ≡ ahead self.old) }
+    {
+        self.counts.extend_from_slice(&[count])?;
+        match self
+            .todo
+            .extend_from_slice(&[Pending::Leave, Pending::Visit(part)])
+        {
+            Ok(()) => Ok(()),
+            Err(refused) => {
+                self.counts.pop();
+                Err(refused)
+            }
+        }
+    }
+}
+
+/// The visit of these types by recursion.
+fn see_each_ty<V: TypeVisitor>(
+    cx: &Interner,
+    visitor: &mut V,
+    tys: &[Ty],
+    binders: &Binders,
+) -> ControlFlow<V::Break, ()>
+    requires ready { V.ready visitor.old cx.now.entries }
+    requires held { TysHeld cx.now.entries tys.now }
+    ensures ready { V.ready visitor.new cx.now.entries }
+    ensures visited { Visits (V.sees cx.now.entries) (counts_of binders.now) (tys_trees cx.now.entries tys.now) visitor.old visitor.new (break_value result) }
+{
+    for ty in tys {
+        match see_ty(cx, visitor, *ty, binders) {
+            ControlFlow::Break(value) => return ControlFlow::Break(value),
+            ControlFlow::Continue(()) => {}
+        }
+    }
+    ControlFlow::Continue(())
+}
+
+/// The visit of these arguments by recursion.
+fn see_each_arg<V: TypeVisitor>(
+    cx: &Interner,
+    visitor: &mut V,
+    args: &[GenericArgKind],
+    binders: &Binders,
+) -> ControlFlow<V::Break, ()>
+    requires ready { V.ready visitor.old cx.now.entries }
+    requires held { ArgsHeld cx.now.entries args.now }
+    ensures ready { V.ready visitor.new cx.now.entries }
+    ensures visited { Visits (V.sees cx.now.entries) (counts_of binders.now) (args_trees cx.now.entries args.now) visitor.old visitor.new (break_value result) }
+{
+    for arg in args {
+        match see_arg(cx, visitor, *arg, binders) {
+            ControlFlow::Break(value) => return ControlFlow::Break(value),
+            ControlFlow::Continue(()) => {}
+        }
+    }
+    ControlFlow::Continue(())
+}
+
+/// The visit of a part by recursion.
+fn see_part<V: TypeVisitor>(
+    cx: &Interner,
+    visitor: &mut V,
+    part: Part,
+    binders: &Binders,
+) -> ControlFlow<V::Break, ()>
+    requires ready { V.ready visitor.old cx.now.entries }
+    requires held { PartHeld cx.now.entries part }
+    ensures ready { V.ready visitor.new cx.now.entries }
+    ensures visited { Visits (V.sees cx.now.entries) (counts_of binders.now) (part_trees cx.now.entries part.entry) visitor.old visitor.new (break_value result) }
+{
+    match part {
+        Part::Arg(arg) => see_arg(cx, visitor, arg, binders),
+        Part::Tys(tys) => see_each_ty(cx, visitor, tys, binders),
+        Part::Args(args) => see_each_arg(cx, visitor, args, binders),
+        Part::Bounds(bounds) => see_bounds(cx, visitor, bounds, binders),
+    }
+}
+
+/// The part comes next in the visit, or is visited at once where memory is refused.
+fn add<'a, V: TypeVisitor>(
+    cx: &Interner,
+    visitor: &mut V,
+    part: Part<'a>,
+    path: &mut Path<'a>,
+    binders: &Binders,
+) -> ControlFlow<V::Break, ()>
+    requires ready { V.ready visitor.old cx.now.entries }
+    requires held { PartHeld cx.now.entries part }
+    requires path { AllHeld cx.now.entries (ahead path.old) }
+    ensures ready { V.ready visitor.new cx.now.entries }
+    ensures path { AllHeld cx.now.entries (ahead path.new) }
+    ensures follows { GoesOn V.sees cx.now.entries (counts_of binders.now) (piece (inside path.old) (part_trees cx.now.entries part.entry)) path.old visitor.old path.new visitor.new result }
+{
+    match path.push(part) {
+        Ok(()) => ControlFlow::Continue(()),
+        Err(_) => see_part(cx, visitor, part, &Binders::Listed(&path.counts, &*binders)),
+    }
+}
+
+/// The two parts come next in the visit, or are visited at once where memory is refused.
+fn add_both<'a, V: TypeVisitor>(
+    cx: &Interner,
+    visitor: &mut V,
+    first: Part<'a>,
+    second: Part<'a>,
+    path: &mut Path<'a>,
+    binders: &Binders,
+) -> ControlFlow<V::Break, ()>
+    requires ready { V.ready visitor.old cx.now.entries }
+    requires first { PartHeld cx.now.entries first }
+    requires second { PartHeld cx.now.entries second }
+    requires path { AllHeld cx.now.entries (ahead path.old) }
+    ensures ready { V.ready visitor.new cx.now.entries }
+    ensures path { AllHeld cx.now.entries (ahead path.new) }
+    ensures follows { GoesOn V.sees cx.now.entries (counts_of binders.now) (piece_of_both cx.now.entries path.old first.entry second.entry) path.old visitor.old path.new visitor.new result }
+{
+    match path.push_both(first, second) {
+        Ok(()) => ControlFlow::Continue(()),
+        Err(_) => {
+            let around = Binders::Listed(&path.counts, &*binders);
+            match see_part(cx, visitor, first, &around) {
+                ControlFlow::Break(value) => ControlFlow::Break(value),
+                ControlFlow::Continue(()) => see_part(cx, visitor, second, &around),
+            }
+        }
+    }
+}
+
+/// The part comes next in the visit, under one more binder, or is visited at once where memory is refused.
+fn add_bound<'a, V: TypeVisitor>(
+    cx: &Interner,
+    visitor: &mut V,
+    count: u32,
+    part: Part<'a>,
+    path: &mut Path<'a>,
+    binders: &Binders,
+) -> ControlFlow<V::Break, ()>
+    requires ready { V.ready visitor.old cx.now.entries }
+    requires held { PartHeld cx.now.entries part }
+    requires path { AllHeld cx.now.entries (ahead path.old) }
+    ensures ready { V.ready visitor.new cx.now.entries }
+    ensures path { AllHeld cx.now.entries (ahead path.new) }
+    ensures follows { GoesOn V.sees cx.now.entries (counts_of binders.now) (piece (count ∷ inside path.old) (part_trees cx.now.entries part.entry)) path.old visitor.old path.new visitor.new result }
+{
+    match path.push_bound(count, part) {
+        Ok(()) => ControlFlow::Continue(()),
+        Err(_) => {
+            let around = Binders::Listed(&path.counts, &*binders);
+            see_part(cx, visitor, part, &Binders::Inside(count, &around))
+        }
+    }
+}
+
+/// The children of a type come next in the visit.
+fn enter<'a, V: TypeVisitor>(
+    cx: &'a Interner,
+    visitor: &mut V,
+    ty: Ty,
+    path: &mut Path<'a>,
+    binders: &Binders,
+) -> ControlFlow<V::Break, ()>
+    requires ready { V.ready visitor.old cx.now.entries }
+    requires held { Has cx.now.entries types ty.0 }
+    requires path { AllHeld cx.now.entries (ahead path.old) }
+    ensures ready { V.ready visitor.new cx.now.entries }
+    ensures path { AllHeld cx.now.entries (ahead path.new) }
+    ensures follows { GoesOn V.sees cx.now.entries (counts_of binders.now) (piece_below (inside path.old) (trees_at cx.now.entries ty.0)) path.old visitor.old path.new visitor.new result }
+{
+    match cx.kind(ty) {
+        TyKind::Adt(_, args) => add(cx, visitor, Part::Args(cx.args(args)), path, binders),
+        TyKind::Ref(region, to, _) => {
+            let region = Part::Arg(GenericArgKind::Lifetime(region));
+            let to = Part::Arg(GenericArgKind::Ty(to));
+            add_both(cx, visitor, region, to, path, binders)
+        }
+        TyKind::RawPtr(to, _) => {
+            add(
+                cx,
+                visitor,
+                Part::Arg(GenericArgKind::Ty(to)),
+                path,
+                binders,
+            )
+        }
+        TyKind::Array(item, length) => {
+            let item = Part::Arg(GenericArgKind::Ty(item));
+            let length = Part::Arg(GenericArgKind::Const(length));
+            add_both(cx, visitor, item, length, path, binders)
+        }
+        TyKind::Slice(item) => {
+            add(
+                cx,
+                visitor,
+                Part::Arg(GenericArgKind::Ty(item)),
+                path,
+                binders,
+            )
+        }
+        TyKind::Tuple(items) => add(cx, visitor, Part::Tys(cx.tys(items)), path, binders),
+        TyKind::FnPtr(count, tys) => {
+            add_bound(cx, visitor, count, Part::Tys(cx.tys(tys)), path, binders)
+        }
+        TyKind::Dynamic(bounds, region) => {
+            let region = Part::Arg(GenericArgKind::Lifetime(region));
+            add_both(cx, visitor, Part::Bounds(bounds), region, path, binders)
+        }
+        _ => ControlFlow::Continue(()),
+    }
+}
+
+/// The visit of a type, whose children come next if it is entered.
+fn turn_ty<'a, V: TypeVisitor>(
+    cx: &'a Interner,
+    visitor: &mut V,
+    ty: Ty,
+    path: &mut Path<'a>,
+    binders: &Binders,
+) -> ControlFlow<V::Break, ()>
+    requires ready { V.ready visitor.old cx.now.entries }
+    requires held { Has cx.now.entries types ty.0 }
+    requires path { AllHeld cx.now.entries (ahead path.old) }
+    ensures ready { V.ready visitor.new cx.now.entries }
+    ensures path { AllHeld cx.now.entries (ahead path.new) }
+    ensures follows { GoesOn V.sees cx.now.entries (counts_of binders.now) (piece (inside path.old) (trees_at cx.now.entries ty.0)) path.old visitor.old path.new visitor.new result }
+{
+    cx.lawful();
+    match visitor.visit_ty(cx, ty, &Binders::Listed(&path.counts, &*binders)) {
+        Seen::Break(value) => ControlFlow::Break(value),
+        Seen::Pass => ControlFlow::Continue(()),
+        Seen::Enter => enter(cx, visitor, ty, path, binders),
+    }
+}
+
+/// The bounds of a `dyn` type: the arguments of the principal trait come next in the visit.
+fn turn_bounds<'a, V: TypeVisitor>(
+    cx: &'a Interner,
+    visitor: &mut V,
+    bounds: Bounds,
+    path: &mut Path<'a>,
+    binders: &Binders,
+) -> ControlFlow<V::Break, ()>
+    requires ready { V.ready visitor.old cx.now.entries }
+    requires held { PartHeld cx.now.entries (Part.Bounds bounds) }
+    requires path { AllHeld cx.now.entries (ahead path.old) }
+    ensures ready { V.ready visitor.new cx.now.entries }
+    ensures path { AllHeld cx.now.entries (ahead path.new) }
+    ensures follows { GoesOn V.sees cx.now.entries (counts_of binders.now) (piece (inside path.old) (trees_at cx.now.entries bounds.0)) path.old visitor.old path.new visitor.new result }
+{
+    match cx.bounds(bounds).principal {
+        Some(principal) => {
+            let args = Part::Args(cx.args(principal.args));
+            add_bound(cx, visitor, principal.bound_vars, args, path, binders)
+        }
+        None => ControlFlow::Continue(()),
+    }
+}
+
+/// The visit of these types: the first comes next, and then the rest.
+fn turn_tys<'a, V: TypeVisitor>(
+    cx: &Interner,
+    visitor: &mut V,
+    tys: &'a [Ty],
+    path: &mut Path<'a>,
+    binders: &Binders,
+) -> ControlFlow<V::Break, ()>
+    requires ready { V.ready visitor.old cx.now.entries }
+    requires held { TysHeld cx.now.entries tys.now }
+    requires path { AllHeld cx.now.entries (ahead path.old) }
+    ensures ready { V.ready visitor.new cx.now.entries }
+    ensures path { AllHeld cx.now.entries (ahead path.new) }
+    ensures follows { GoesOn V.sees cx.now.entries (counts_of binders.now) (piece (inside path.old) (tys_trees cx.now.entries tys.now)) path.old visitor.old path.new visitor.new result }
+{
+    match tys {
+        [] => ControlFlow::Continue(()),
+        [first, rest @ ..] => {
+            let first = Part::Arg(GenericArgKind::Ty(*first));
+            add_both(cx, visitor, first, Part::Tys(rest), path, binders)
+        }
+    }
+}
+
+/// The visit of these arguments: the first comes next, and then the rest.
+fn turn_args<'a, V: TypeVisitor>(
+    cx: &Interner,
+    visitor: &mut V,
+    args: &'a [GenericArgKind],
+    path: &mut Path<'a>,
+    binders: &Binders,
+) -> ControlFlow<V::Break, ()>
+    requires ready { V.ready visitor.old cx.now.entries }
+    requires held { ArgsHeld cx.now.entries args.now }
+    requires path { AllHeld cx.now.entries (ahead path.old) }
+    ensures ready { V.ready visitor.new cx.now.entries }
+    ensures path { AllHeld cx.now.entries (ahead path.new) }
+    ensures follows { GoesOn V.sees cx.now.entries (counts_of binders.now) (piece (inside path.old) (args_trees cx.now.entries args.now)) path.old visitor.old path.new visitor.new result }
+{
+    match args {
+        [] => ControlFlow::Continue(()),
+        [first, rest @ ..] => {
+            add_both(
+                cx,
+                visitor,
+                Part::Arg(*first),
+                Part::Args(rest),
+                path,
+                binders,
+            )
+        }
+    }
+}
+
+/// The visit of a part, but for what stands deeper, which comes next.
+fn turn<'a, V: TypeVisitor>(
+    cx: &'a Interner,
+    visitor: &mut V,
+    part: Part<'a>,
+    path: &mut Path<'a>,
+    binders: &Binders,
+) -> ControlFlow<V::Break, ()>
+    requires ready { V.ready visitor.old cx.now.entries }
+    requires held { PartHeld cx.now.entries part }
+    requires path { AllHeld cx.now.entries (ahead path.old) }
+    ensures ready { V.ready visitor.new cx.now.entries }
+    ensures path { AllHeld cx.now.entries (ahead path.new) }
+    ensures follows { GoesOn V.sees cx.now.entries (counts_of binders.now) (piece (inside path.old) (part_trees cx.now.entries part.entry)) path.old visitor.old path.new visitor.new result }
+{
+    match part {
+        Part::Arg(GenericArgKind::Ty(ty)) => turn_ty(cx, visitor, ty, path, binders),
+        Part::Arg(arg) => see_arg(cx, visitor, arg, &Binders::Listed(&path.counts, &*binders)),
+        Part::Tys(tys) => turn_tys(cx, visitor, tys, path, binders),
+        Part::Args(args) => turn_args(cx, visitor, args, path, binders),
+        Part::Bounds(bounds) => turn_bounds(cx, visitor, bounds, path, binders),
+    }
+}
+
+/// The visit of what is to be visited.
+fn run<'a, V: TypeVisitor>(
+    cx: &'a Interner,
+    visitor: &mut V,
+    mut path: Path<'a>,
+    binders: &Binders,
+) -> ControlFlow<V::Break, ()>
+    requires ready { V.ready visitor.old cx.now.entries }
+    requires path { AllHeld cx.now.entries (ahead path) }
+    ensures ready { V.ready visitor.new cx.now.entries }
+    ensures visited { VisitsEach (V.sees cx.now.entries) (counts_of binders.now) (path_pieces cx.now.entries path.entry) visitor.old visitor.new (break_value result) }
+{
+    for _ in 0..u64::MAX {
+        match path.todo.pop() {
+            None => return ControlFlow::Continue(()),
+            Some(Pending::Leave) => {
+                path.counts.pop();
+            }
+            Some(Pending::Visit(part)) => match turn(cx, visitor, part, &mut path, binders) {
+                ControlFlow::Break(value) => return ControlFlow::Break(value),
+                ControlFlow::Continue(()) => {}
+            },
+        }
+    }
+    see_rest(cx, visitor, path, binders)
+}
+
+/// The visit of what is to be visited, each part by recursion.
+fn see_rest<V: TypeVisitor>(
+    cx: &Interner,
+    visitor: &mut V,
+    mut path: Path,
+    binders: &Binders,
+) -> ControlFlow<V::Break, ()>
+    requires ready { V.ready visitor.old cx.now.entries }
+    requires path { AllHeld cx.now.entries (ahead path) }
+    ensures ready { V.ready visitor.new cx.now.entries }
+    ensures visited { VisitsEach (V.sees cx.now.entries) (counts_of binders.now) (path_pieces cx.now.entries path.entry) visitor.old visitor.new (break_value result) }
+{
+    while let Some(next) = path.todo.pop() {
+        match next {
+            Pending::Leave => {
+                path.counts.pop();
+            }
+            Pending::Visit(part) => {
+                match see_part(cx, visitor, part, &Binders::Listed(&path.counts, &*binders)) {
+                    ControlFlow::Break(value) => return ControlFlow::Break(value),
+                    ControlFlow::Continue(()) => {}
+                }
+            }
+        }
+    }
+    ControlFlow::Continue(())
+}
+
+/// The visit of a part of this depth.
+pub(crate) fn visit_part<V: TypeVisitor>(
+    cx: &Interner,
+    visitor: &mut V,
+    part: Part,
+    depth: u32,
+    binders: &Binders,
+) -> ControlFlow<V::Break, ()>
+    requires ready { V.ready visitor.old cx.now.entries }
+    requires held { PartHeld cx.now.entries part }
+    ensures ready { V.ready visitor.new cx.now.entries }
+    ensures visited { Visits (V.sees cx.now.entries) (counts_of binders.now) (part_trees cx.now.entries part.entry) visitor.old visitor.new (break_value result) }
+{
+    if depth <= SHALLOW {
+        return see_part(cx, visitor, part, binders);
+    }
+    let mut path = Path::new(cx.allocator());
+    match path.push(part) {
+        Ok(()) => run(cx, visitor, path, binders),
+        Err(_) => see_part(cx, visitor, part, binders),
+    }
+}
+
+/// The visit of a type's children.
+pub(crate) fn visit_below<V: TypeVisitor>(
+    cx: &Interner,
+    visitor: &mut V,
+    ty: Ty,
+    binders: &Binders,
+) -> ControlFlow<V::Break, ()>
+    requires ready { V.ready visitor.old cx.now.entries }
+    requires held { Has cx.now.entries types ty.0 }
+    ensures ready { V.ready visitor.new cx.now.entries }
+    ensures visited { VisitsBelow (V.sees cx.now.entries) (counts_of binders.now) (trees_at cx.now.entries ty.0) visitor.old visitor.new (break_value result) }
+{
+    if cx.depth(ty) <= SHALLOW {
+        return see_below(cx, visitor, ty, binders);
+    }
+    cx.lawful();
+    let mut path = Path::new(cx.allocator());
+    match enter(cx, visitor, ty, &mut path, binders) {
+        ControlFlow::Break(value) => ControlFlow::Break(value),
+        ControlFlow::Continue(()) => run(cx, visitor, path, binders),
+    }
+}

@@ -1,0 +1,71 @@
+//! Visits that enter a type once.
+ghost use Rattle.std.specs.Prelude.{◌≡◌, List};
+ghost use Rattle.model.specs.Trees.{Trees};
+ghost use Rattle.type_terms.specs.Terms.{Entry};
+ghost use Rattle.type_terms.specs.Entering.{HasEntered};
+
+use crate::binders::Binders;
+use crate::entered::Entered;
+use crate::interner::Interner;
+use crate::kinds::{Const, Ty};
+use crate::region::Region;
+use crate::visit::{Seen, TypeVisitor};
+use std::alloc::Global;
+
+/// A visitor that passes over a type that it has entered before, where the visitor in it would enter it again.
+///
+/// So a visit costs the handles of a term and not the nodes of its tree. It is a visit by the visitor in it where that one
+/// answers the same, and changes nothing, at a node that it has seen, whatever binders are around it.
+#[derive(Drop)]
+pub struct Once<V> {
+    pub visitor: V,
+    pub entered: Entered,
+}
+
+impl<V> Once<V> {
+    /// The visitor, which has entered nothing yet.
+    pub fn new(alloc: Global, visitor: V) -> Once<V>
+        ensures visitor { result.visitor ≡ visitor }
+        ensures entered { (es : List Entry) (t : Trees) → HasEntered es result.entered t → ⊥ }
+    {
+        Once {
+            visitor,
+            entered: Entered::new(alloc),
+        }
+    }
+}
+
+impl<V: TypeVisitor> TypeVisitor for Once<V> {
+    type Break = V::Break;
+
+    ghost use Rattle.std.proofs.Common.{inl};
+    ghost use Rattle.type_terms.specs.Entering.{SeesOnce};
+
+    ghost ready = { λ v es. V.ready v.visitor es };
+
+    ghost sees = { λ es bs t v w a. SeesOnce (V.sees es) es bs t v w a };
+
+    ghost enters_bounds = { λ v es bs t h. (V.enters_bounds v.visitor es bs t h, λ s e. inl e) };
+
+    fn visit_ty(&mut self, cx: &Interner, ty: Ty, binders: &Binders) -> Seen<V::Break> {
+        match self.visitor.visit_ty(cx, ty, binders) {
+            Seen::Break(value) => Seen::Break(value),
+            Seen::Pass => Seen::Pass,
+            Seen::Enter => {
+                if self.entered.enter(ty) {
+                    Seen::Pass
+                } else {
+                    Seen::Enter
+                }
+            }
+        }
+    }
+
+    fn visit_const(&mut self, cx: &Interner, ct: Const, binders: &Binders) -> Seen<V::Break> {
+        self.visitor.visit_const(cx, ct, binders)
+    }
+
+    fn visit_region(&mut self, cx: &Interner, region: Region, binders: &Binders) -> Seen<V::Break> {
+        self.visitor.visit_region(cx, region, binders)
+    }
+}

@@ -1,0 +1,221 @@
+//! Visitors, and the visit of a term by one.
+ghost use Rattle.std.specs.Prelude.{ℕ, List};
+ghost use Rattle.std.specs.ControlFlow.{break_value};
+ghost use Rattle.model.specs.Trees.{Trees};
+ghost use Rattle.type_terms.specs.Terms.{Entry, Has, types, consts, args_lists, type_lists, bounds_lists, trees_at};
+ghost use Rattle.type_terms.specs.Kinds.{region_trees, RegionHeld, ArgHeld, arg_trees};
+ghost use Rattle.type_terms.specs.Binders.{counts_of};
+ghost use Rattle.type_terms.specs.Visits.{IsBound, Visits, VisitsBelow};
+
+use crate::binders::Binders;
+use crate::deep_visit::{Part, visit_below, visit_part};
+use crate::interner::Interner;
+use crate::kinds::{Bounds, Const, GenericArgKind, GenericArgs, Ty, Tys};
+use crate::region::Region;
+use std::ops::ControlFlow;
+
+/// Types no deeper than this are walked and visited by recursion alone.
+pub const SHALLOW: u32 = 128;
+
+/// What a visitor answers at a node.
+#[derive(Clone, Copy)]
+pub enum Seen<B> {
+    /// The visit ends with this value.
+    Break(B),
+    /// The visit goes on to the node's children.
+    Enter,
+    /// The visit goes on behind the node.
+    Pass,
+}
+
+/// A visitor of terms. A visit needs no memory: of a deep term it keeps a list of what is still to be visited, and where
+/// memory is refused it recurses.
+///
+/// The original's `TypeVisitor`; it recurses by itself there, and here it answers what to do with a node.
+pub trait TypeVisitor {
+    type Break: Drop;
+
+    // The handles that the visitor holds are an interner's.
+    ghost ready: { Self → List Entry → Type 0 };
+
+    // From the first visitor it goes to the second, with this answer, at a node under these binders.
+    ghost use Rattle.type_terms.specs.declared.visit.Seen.{Seen};
+    ghost use Rattle.type_terms.specs.declared.visit.Seen.TheVariants.{Enter};
+
+    ghost sees: { List Entry → List ℕ → Trees → Self → Self → Seen Self.Break → Type 0 };
+
+    /// What the visitor answers at a type.
+    fn visit_ty(&mut self, cx: &Interner, ty: Ty, binders: &Binders) -> Seen<Self::Break>
+        requires ready { ready self.old cx.now.entries }
+        requires held { Has cx.now.entries types ty.0 }
+        ensures ready { ready self.new cx.now.entries }
+        ensures sees { sees cx.now.entries (counts_of binders.now) (trees_at cx.now.entries ty.0) self.old self.new result };
+
+    /// What the visitor answers at a constant.
+    fn visit_const(&mut self, cx: &Interner, ct: Const, binders: &Binders) -> Seen<Self::Break>
+        requires ready { ready self.old cx.now.entries }
+        requires held { Has cx.now.entries consts ct.0 }
+        ensures ready { ready self.new cx.now.entries }
+        ensures sees { sees cx.now.entries (counts_of binders.now) (trees_at cx.now.entries ct.0) self.old self.new result };
+
+    /// What the visitor answers at a lifetime.
+    fn visit_region(
+        &mut self,
+        cx: &Interner,
+        region: Region,
+        binders: &Binders,
+    ) -> Seen<Self::Break>
+        requires ready { ready self.old cx.now.entries }
+        requires held { RegionHeld region.kind }
+        ensures ready { ready self.new cx.now.entries }
+        ensures sees { sees cx.now.entries (counts_of binders.now) (region_trees region) self.old self.new result };
+
+    // The bounds of a `dyn` are entered.
+    ghost enters_bounds: { (v : Self) (es : List Entry) (bs : List ℕ) (t : Trees) → IsBound t → sees es bs t v v Enter };
+}
+
+/// The visit of a lifetime.
+pub fn visit_region<V: TypeVisitor>(
+    cx: &Interner,
+    visitor: &mut V,
+    region: Region,
+    binders: &Binders,
+) -> ControlFlow<V::Break, ()>
+    requires ready { V.ready visitor.old cx.now.entries }
+    requires held { RegionHeld region.kind }
+    ensures ready { V.ready visitor.new cx.now.entries }
+    ensures visited { Visits (V.sees cx.now.entries) (counts_of binders.now) (region_trees region) visitor.old visitor.new (break_value result) }
+{
+    match visitor.visit_region(cx, region, binders) {
+        Seen::Break(value) => ControlFlow::Break(value),
+        Seen::Enter => ControlFlow::Continue(()),
+        Seen::Pass => ControlFlow::Continue(()),
+    }
+}
+
+/// The visit of a constant.
+pub(crate) fn visit_const<V: TypeVisitor>(
+    cx: &Interner,
+    visitor: &mut V,
+    ct: Const,
+    binders: &Binders,
+) -> ControlFlow<V::Break, ()>
+    requires ready { V.ready visitor.old cx.now.entries }
+    requires held { Has cx.now.entries consts ct.0 }
+    ensures ready { V.ready visitor.new cx.now.entries }
+    ensures visited { Visits (V.sees cx.now.entries) (counts_of binders.now) (trees_at cx.now.entries ct.0) visitor.old visitor.new (break_value result) }
+{
+    let kind = cx.const_kind(ct);
+    let _ = kind;
+    match visitor.visit_const(cx, ct, binders) {
+        Seen::Break(value) => ControlFlow::Break(value),
+        Seen::Enter => ControlFlow::Continue(()),
+        Seen::Pass => ControlFlow::Continue(()),
+    }
+}
+
+/// The visit of a type.
+pub fn visit_ty<V: TypeVisitor>(
+    cx: &Interner,
+    visitor: &mut V,
+    ty: Ty,
+    binders: &Binders,
+) -> ControlFlow<V::Break, ()>
+    requires ready { V.ready visitor.old cx.now.entries }
+    requires held { Has cx.now.entries types ty.0 }
+    ensures ready { V.ready visitor.new cx.now.entries }
+    ensures visited { Visits (V.sees cx.now.entries) (counts_of binders.now) (trees_at cx.now.entries ty.0) visitor.old visitor.new (break_value result) }
+{
+    visit_part(
+        cx,
+        visitor,
+        Part::Arg(GenericArgKind::Ty(ty)),
+        cx.depth(ty),
+        binders,
+    )
+}
+
+/// The visit of a type's children.
+pub fn super_visit_ty<V: TypeVisitor>(
+    cx: &Interner,
+    visitor: &mut V,
+    ty: Ty,
+    binders: &Binders,
+) -> ControlFlow<V::Break, ()>
+    requires ready { V.ready visitor.old cx.now.entries }
+    requires held { Has cx.now.entries types ty.0 }
+    ensures ready { V.ready visitor.new cx.now.entries }
+    ensures visited { VisitsBelow (V.sees cx.now.entries) (counts_of binders.now) (trees_at cx.now.entries ty.0) visitor.old visitor.new (break_value result) }
+{
+    visit_below(cx, visitor, ty, binders)
+}
+
+/// The visit of a list of types.
+pub(crate) fn visit_tys<V: TypeVisitor>(
+    cx: &Interner,
+    visitor: &mut V,
+    tys: Tys,
+    binders: &Binders,
+) -> ControlFlow<V::Break, ()>
+    requires ready { V.ready visitor.old cx.now.entries }
+    requires held { Has cx.now.entries type_lists tys.0 }
+    ensures ready { V.ready visitor.new cx.now.entries }
+    ensures visited { Visits (V.sees cx.now.entries) (counts_of binders.now) (trees_at cx.now.entries tys.0) visitor.old visitor.new (break_value result) }
+{
+    visit_part(cx, visitor, Part::Tys(cx.tys(tys)), cx.depth(tys), binders)
+}
+
+/// The visit of a list of arguments.
+pub fn visit_args<V: TypeVisitor>(
+    cx: &Interner,
+    visitor: &mut V,
+    args: GenericArgs,
+    binders: &Binders,
+) -> ControlFlow<V::Break, ()>
+    requires ready { V.ready visitor.old cx.now.entries }
+    requires held { Has cx.now.entries args_lists args.0 }
+    ensures ready { V.ready visitor.new cx.now.entries }
+    ensures visited { Visits (V.sees cx.now.entries) (counts_of binders.now) (trees_at cx.now.entries args.0) visitor.old visitor.new (break_value result) }
+{
+    visit_part(
+        cx,
+        visitor,
+        Part::Args(cx.args(args)),
+        cx.depth(args),
+        binders,
+    )
+}
+
+/// The visit of an argument.
+pub(crate) fn visit_arg<V: TypeVisitor>(
+    cx: &Interner,
+    visitor: &mut V,
+    arg: GenericArgKind,
+    binders: &Binders,
+) -> ControlFlow<V::Break, ()>
+    requires ready { V.ready visitor.old cx.now.entries }
+    requires held { ArgHeld cx.now.entries arg }
+    ensures ready { V.ready visitor.new cx.now.entries }
+    ensures visited { Visits (V.sees cx.now.entries) (counts_of binders.now) (arg_trees cx.now.entries arg) visitor.old visitor.new (break_value result) }
+{
+    match arg {
+        GenericArgKind::Lifetime(region) => visit_region(cx, visitor, region, binders),
+        GenericArgKind::Ty(ty) => visit_ty(cx, visitor, ty, binders),
+        GenericArgKind::Const(ct) => visit_const(cx, visitor, ct, binders),
+    }
+}
+
+/// The visit of the bounds of a `dyn` type.
+pub(crate) fn visit_bounds<V: TypeVisitor>(
+    cx: &Interner,
+    visitor: &mut V,
+    bounds: Bounds,
+    binders: &Binders,
+) -> ControlFlow<V::Break, ()>
+    requires ready { V.ready visitor.old cx.now.entries }
+    requires held { Has cx.now.entries bounds_lists bounds.0 }
+    ensures ready { V.ready visitor.new cx.now.entries }
+    ensures visited { Visits (V.sees cx.now.entries) (counts_of binders.now) (trees_at cx.now.entries bounds.0) visitor.old visitor.new (break_value result) }
+{
+    visit_part(cx, visitor, Part::Bounds(bounds), cx.depth(bounds), binders)
+}
