@@ -1,17 +1,17 @@
 -- What folds are made of.
 use Rattle.std.proofs.Common.{◌≡◌, ℕ, List, refl, ap, sym, ◌∙◌, subst}
 use Rattle.std.specs.Prelude.{Result, Ok, Err, IfOk}
-use Rattle.model.specs.Label.{Label, of_type}
-use Rattle.model.specs.Trees.{Trees, none, tree, ◌+++◌, Single, IsA, leaf}
+use Rattle.model.specs.Label.{Label}
+use Rattle.model.specs.Trees.{Trees, none, tree, ◌+++◌, Single, leaf}
 use Rattle.model.proofs.TreeLaws.{append-none, append-assoc}
-use Rattle.type_terms.specs.Terms.{Entry, Is, Has, Keeps, Lawful, types, consts, trees_at}
+use Rattle.type_terms.specs.Terms.{Entry, Is, Has, Keeps, types, consts, trees_at}
 use Rattle.type_terms.specs.Kinds.{region_trees, RegionHeld}
 use Rattle.type_terms.specs.declared.region.Region.{Region}
 use Rattle.type_terms.specs.declared.kinds.Ty as of_ty
 use Rattle.type_terms.specs.declared.kinds.Const as of_const
 use Rattle.term_folds.specs.declared.fold.Answer.TheVariants.{Enter, Replace, Again}
 use Rattle.term_folds.specs.Folds.{Does, enters, puts, again, Folds, nothing, entered, put, in_turn, FoldsBelow, below, Answers, IsFold, IsFoldBelow}
-use Rattle.type_terms.specs.Kept.{trees-is, is-at, trees-later}
+use Rattle.type_terms.specs.Kept.{trees-is, trees-later}
 
 -- folds of lists, one after the other
 pub folds-append : {f : List ℕ → Trees → Does} {bs : List ℕ} {x u : Trees} → Folds f bs x u → {y v : Trees} → Folds f bs y v → Folds f bs (x +++ y) (u +++ v)
