@@ -54,6 +54,8 @@ enum Walk {
     Bound,
     /// It is equated with another.
     Equated,
+    /// It is equated with one that has another lifetime.
+    Related,
     /// A goal about it gets its canonical form.
     Canonicalized,
     /// And the form gets new unknowns.
@@ -88,6 +90,7 @@ fn walk_named(name: &str) -> Option<Walk> {
         "resolved" => Some(Walk::Resolved),
         "bound" => Some(Walk::Bound),
         "equated" => Some(Walk::Equated),
+        "related" => Some(Walk::Related),
         "canonicalized" => Some(Walk::Canonicalized),
         "reopened" => Some(Walk::Reopened),
         _ => None,
@@ -118,35 +121,32 @@ fn read_words<R: Env + Alloc>(rt: &R) -> Option<(Program, u32)>
     Some((program, count))
 }
 
-/// Why a run gave nothing: a table is full, memory or printing failed.
-struct Failed;
-
-/// Runs so much of a program, and prints what came of it.
-fn run(rt: &impl Print, alloc: Global, program: Program, count: u32) -> Result<(), Failed>
+/// Runs so much of a program, and prints what came of it; nothing where a table is full, or memory or printing failed.
+fn run(rt: &impl Print, alloc: Global, program: Program, count: u32) -> Option<()>
     requires { count ≤ MOST }
 {
     let printed = match program {
         Program::Nested => {
-            let depth = terms::nested(alloc, count).map_err(|_| Failed)?;
+            let depth = terms::nested(alloc, count).ok()?;
             println!(rt; "a type {depth} deep")
         }
         Program::Instantiated => {
-            let instances = terms::instantiated(alloc, count).map_err(|_| Failed)?;
+            let instances = terms::instantiated(alloc, count).ok()?;
             println!(rt; "{instances} instances")
         }
         Program::Canonical => {
-            let variables = forms::canonical(alloc, count).map_err(|_| Failed)?;
+            let variables = forms::canonical(alloc, count).ok()?;
             println!(rt; "a form with {variables} variables")
         }
         Program::Cached => {
-            let counts = searches::cached(alloc, count as usize).map_err(|_| Failed)?;
+            let counts = searches::cached(alloc, count as usize).ok()?;
             println!(rt;
                 "{} goals, {} yes, {} frames",
                 counts.goals, counts.yes, counts.frames
             )
         }
         Program::Cyclic => {
-            let counts = searches::cyclic(alloc, count as usize).map_err(|_| Failed)?;
+            let counts = searches::cyclic(alloc, count as usize).ok()?;
             println!(rt;
                 "{} goals, {} yes, {} frames",
                 counts.goals, counts.yes, counts.frames
@@ -154,56 +154,54 @@ fn run(rt: &impl Print, alloc: Global, program: Program, count: u32) -> Result<(
         }
         Program::Walked(walk, shape) => return run_walk(rt, alloc, walk, shape, count),
         Program::Chained => {
-            let found = equations::chained(alloc, count, Order::Forward).map_err(|_| Failed)?;
+            let found = equations::chained(alloc, count, Order::Forward).ok()?;
             println!(rt; "{found} variables")
         }
         Program::ChainedBackward => {
-            let found = equations::chained(alloc, count, Order::Backward).map_err(|_| Failed)?;
+            let found = equations::chained(alloc, count, Order::Backward).ok()?;
             println!(rt; "{found} variables")
         }
         Program::NestedValues => {
-            let depth = equations::nested_values(alloc, count).map_err(|_| Failed)?;
+            let depth = equations::nested_values(alloc, count).ok()?;
             println!(rt; "a type {depth} deep")
         }
     };
-    printed.map_err(|_| Failed)
+    printed.ok()
 }
 
-/// Walks a term of that shape, so many levels deep, and prints what came of it.
-fn run_walk(
-    rt: &impl Print,
-    alloc: Global,
-    walk: Walk,
-    shape: Shape,
-    levels: u32,
-) -> Result<(), Failed> {
+/// Walks a term of that shape, so many levels deep, and prints what came of it, as `run` does.
+fn run_walk(rt: &impl Print, alloc: Global, walk: Walk, shape: Shape, levels: u32) -> Option<()> {
     let printed = match walk {
         Walk::Instantiated => {
-            let depth = walks::instantiated(alloc, shape, levels).map_err(|_| Failed)?;
+            let depth = walks::instantiated(alloc, shape, levels).ok()?;
             println!(rt; "an instance {depth} deep")
         }
         Walk::Resolved => {
-            let depth = walks::resolved(alloc, shape, levels).map_err(|_| Failed)?;
+            let depth = walks::resolved(alloc, shape, levels).ok()?;
             println!(rt; "a type {depth} deep")
         }
         Walk::Bound => {
-            let depth = walks::bound(alloc, shape, levels).map_err(|_| Failed)?;
+            let depth = walks::bound(alloc, shape, levels).ok()?;
             println!(rt; "a value {depth} deep")
         }
         Walk::Equated => {
-            let depth = walks::equated(alloc, shape, levels).map_err(|_| Failed)?;
+            let depth = walks::equated(alloc, shape, levels).ok()?;
             println!(rt; "two types {depth} deep")
         }
+        Walk::Related => {
+            let recorded = walks::related(alloc, shape, levels).ok()?;
+            println!(rt; "{recorded} constraint")
+        }
         Walk::Canonicalized => {
-            let variables = walks::canonicalized(alloc, shape, levels).map_err(|_| Failed)?;
+            let variables = walks::canonicalized(alloc, shape, levels).ok()?;
             println!(rt; "a form with {variables} variable")
         }
         Walk::Reopened => {
-            let unknowns = walks::reopened(alloc, shape, levels).map_err(|_| Failed)?;
+            let unknowns = walks::reopened(alloc, shape, levels).ok()?;
             println!(rt; "a goal with {unknowns} unknown")
         }
     };
-    printed.map_err(|_| Failed)
+    printed.ok()
 }
 
 fn exit_status(rt: &HostRuntime) -> u8 {
@@ -211,8 +209,8 @@ fn exit_status(rt: &HostRuntime) -> u8 {
         return 2;
     };
     match run(rt, rt.alloc(), program, count) {
-        Ok(()) => 0,
-        Err(Failed) => 3,
+        Some(()) => 0,
+        None => 3,
     }
 }
 

@@ -1,6 +1,7 @@
 //! What walks of one large term cost, by what they do and by how the term is built.
 ghost use Rattle.std.specs.Prelude.{IfOk};
 ghost use Rattle.type_terms.specs.Terms.{Has, Keeps, types};
+ghost use Rattle.type_terms.specs.Kinds.{RegionHeld};
 ghost use Rattle.infer_table.specs.Content.{Ready};
 ghost use Rattle.infer_table.specs.Goals.{GoalHeld};
 
@@ -17,8 +18,9 @@ use term_folds::instantiate::InstantiateError;
 use term_folds::laws::closed_arguments_are_in_range;
 use type_terms::Fault;
 use type_terms::interner::Interner;
-use type_terms::kinds::{GenericArgKind, Ty, TyKind, UintTy};
-use type_terms::number::TyVid;
+use type_terms::kinds::{GenericArgKind, Mutability, Ty, TyKind, UintTy};
+use type_terms::number::{RegionVid, TyVid};
+use type_terms::region::{Region, RegionKind};
 
 /// How a large term is built over its leaf.
 #[derive(Clone, Copy)]
@@ -96,6 +98,38 @@ pub fn equated(alloc: Global, shape: Shape, levels: u32) -> Result<u32, EqError>
     let right = tower(&mut cx, alloc, shape, right, levels)?;
     table.eq(&mut cx, GenericArgKind::Ty(left), GenericArgKind::Ty(right))?;
     Ok(cx.depth(right))
+}
+
+/// A lifetime variable.
+const FIRST: Region = Region {
+    kind: RegionKind::ReVar(RegionVid { index: 0 }),
+};
+
+/// Another.
+const SECOND: Region = Region {
+    kind: RegionKind::ReVar(RegionVid { index: 1 }),
+};
+
+/// A reference to `u8` with that lifetime.
+fn reference(cx: &mut Interner, region: Region) -> Result<Ty, Fault>
+    requires { RegionHeld region.kind }
+    ensures made { IfOk result (λ ty. Has cx.new.entries types ty.0) }
+    ensures keeps { Keeps cx.old.entries cx.new.entries }
+{
+    let byte = cx.mk_ty(TyKind::Uint(UintTy::U8))?;
+    cx.mk_ty(TyKind::Ref(region, byte, Mutability::Not))
+}
+
+/// Equates two types that differ in the lifetime at their ends; answers how many constraints that records.
+pub fn related(alloc: Global, shape: Shape, levels: u32) -> Result<usize, EqError> {
+    let mut cx = Interner::new(alloc, HANDLES);
+    let mut table = InferCtxt::new(alloc);
+    let left = reference(&mut cx, FIRST)?;
+    let left = tower(&mut cx, alloc, shape, left, levels)?;
+    let right = reference(&mut cx, SECOND)?;
+    let right = tower(&mut cx, alloc, shape, right, levels)?;
+    table.eq(&mut cx, GenericArgKind::Ty(left), GenericArgKind::Ty(right))?;
+    Ok(table.region_constraints().len())
 }
 
 /// A goal about a type over a new unknown.

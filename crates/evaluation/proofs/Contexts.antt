@@ -1,5 +1,5 @@
 -- Contexts stay ready while the interner grows.
-use Rattle.std.specs.Prelude.{◌≡◌, List, [], ◌∷◌, ◌++◌, map, Option, Some, None}
+use Rattle.std.specs.Prelude.{◌≡◌, List, [], ◌∷◌, ◌++◌, Option, Some, None}
 use Rattle.std.proofs.Common.{subst, sym}
 use Rattle.type_terms.specs.Terms.{Entry, Keeps, args_lists}
 use Rattle.type_terms.specs.Kept.{args-held-later, has-later}

@@ -1,20 +1,16 @@
 -- The handles of candidates and of what handlers say, and the kinds of steps.
-use Rattle.std.specs.Prelude.{◌≡◌, ℕ, Bool, false, List, [], map, reverse, Option, Some, None, option_map}
+use Rattle.std.specs.Prelude.{◌≡◌, ℕ, Bool, false, List, Option, Some, None}
 use Rattle.model.specs.Label.{of_trait, predicate}
 use Rattle.model.specs.Trees.{Trees, none, tree}
 use Rattle.type_terms.specs.Terms.{Entry}
 use Rattle.type_terms.specs.Kinds.{ArgHeld}
-use Rattle.infer_table.specs.declared.canonical.CanonicalVarKind.{CanonicalVarKind}
 use Rattle.infer_table.specs.declared.terms.Equation.{Equation}
-use Rattle.infer_table.specs.Canonical.{GoalTrees, CanonicalForm}
-use Rattle.infer_table.specs.Constraints.{constraints_trees}
+use Rattle.infer_table.specs.Canonical.{CanonicalForm}
 use Rattle.infer_table.specs.Content.{AllConstraintsHeld}
 use Rattle.infer_table.specs.declared.goal.Goal.{Goal}
 use Rattle.infer_table.specs.declared.response.CanonicalResponse.{CanonicalResponse}
-use Rattle.infer_table.specs.Goals.{GoalHeld, goal_trees}
-use Rattle.infer_table.specs.Values.{Value, value_of}
-use Rattle.infer_table.specs.Responses.{AnswerTrees, answer_trees, ResponseHeld}
-use Rattle.evaluation.specs.declared.candidate.CandidateSource.{CandidateSource}
+use Rattle.infer_table.specs.Goals.{GoalHeld}
+use Rattle.infer_table.specs.Responses.{ResponseHeld}
 use Rattle.evaluation.specs.declared.candidate.CandidateSpec.{CandidateSpec}
 use Rattle.evaluation.specs.declared.candidate.Considered as Code
 use Rattle.evaluation.specs.declared.candidate.HandlerStep.{HandlerStep}
@@ -22,8 +18,7 @@ use Rattle.evaluation.specs.declared.candidate.HandlerStep.TheVariants.{Consider
 use Rattle.evaluation.specs.declared.goal.GoalSource.{GoalSource}
 use Rattle.evaluation.specs.declared.goal.GoalSource.TheVariants.{Misc, ImplWhereBound}
 use Rattle.evaluation.specs.Lists.{Every}
-use Rattle.evaluation.specs.Table.{Tables, workings}
-use Rattle.evaluation.specs.Candidate.{Spec, Considered, Next, consider, answer}
+use Rattle.evaluation.specs.Candidate.{Considered}
 
 -- the goal is one of this trait
 abbrev pub IsOfTrait : ℕ → CanonicalForm → Type 0

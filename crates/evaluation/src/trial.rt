@@ -34,7 +34,7 @@ use infer_table::input::CanonicalInput;
 use infer_table::instantiate::{CanonicalInstantiator, instantiate_with_values};
 use infer_table::response::CanonicalResponse;
 use infer_table::terms::{Equation, RegionConstraint};
-use infer_table::unknowns::instantiate_canonical;
+use infer_table::unknowns::next_values;
 use std::alloc::Global;
 use term_folds::foldable::TypeFoldable;
 use type_terms::Fault;
@@ -69,7 +69,6 @@ pub fn evaluate_candidate(
     spec: &CandidateSpec,
     replies: &[Option<CanonicalResponse>],
 ) -> Result<EvalStep<CanonicalResponse>, EvalError>
-    requires goal { GoalHeld cx.old.entries input.now.goal }
     requires spec { SpecHeld cx.old.entries spec.now }
     requires replies { Every (ResultHeld cx.old.entries) replies.now }
     ensures keeps { Keeps cx.old.entries cx.new.entries }
@@ -98,7 +97,6 @@ fn begin(
     input: &CanonicalInput,
     variables: &[CanonicalVarKind],
 ) -> Result<Trial, Fault>
-    requires goal { GoalHeld cx.old.entries input.now.goal }
     ensures keeps { Keeps cx.old.entries cx.new.entries }
     ensures limit { cx.new.limit ≡ cx.old.limit }
     ensures ready { IfOk result (λ t. Ready cx.new.entries t.table) }
@@ -108,9 +106,8 @@ fn begin(
     ensures full { result ≡ Err Fault.Full → SomeKindIsFull cx.new.entries cx.new.limit ⊎ BeginningRunsOut input.now.variables.items variables.now }
 {
     let mut table = InferCtxt::new(alloc);
-    let instantiated = instantiate_canonical(alloc, cx, &mut table, input)?;
+    let own = next_values(alloc, cx, &mut table, &input.variables)?;
     cx.lawful();
-    let own = instantiated.values;
     let mut values = Vec::from_slice(alloc, &own)?;
     add_unknowns(cx, &mut table, variables, &mut values)?;
     Ok(Trial { table, own, values })

@@ -1,27 +1,29 @@
 -- Equations that need nothing done: they stay so, and steps pass over them.
 use Rattle.std.proofs.Common.{◌≡◌, ℕ, zero, suc, ◌+◌, Bool, true, false, refl, ap, sym, ◌∙◌, arith, List, [], ◌∷◌, ◌++◌, subst, Option, Some, None, if◌then◌else◌, ◌⊎◌, inl, inr}
-use Rattle.std.specs.Prelude.{cond, ltb}
+use Rattle.std.specs.Prelude.{cond, ltb, ◌||◌}
 use Rattle.std.proofs.lemmas.Bool.Decides.{nat_tests}
 use Rattle.std.proofs.lemmas.List.{append_assoc}
-use Rattle.model.specs.Label.{Label, Sort, of_type, of_const, of_lifetime, infer, fn_ptr, dynamic, principal, auto_trait, bound, inside, predicate, regions_equal}
+use Rattle.model.specs.Label.{Label, Sort, of_type, of_const, of_lifetime, infer, fn_ptr, dynamic, principal, auto_trait, bound, inside}
 use Rattle.model.specs.Trees.{Trees, none, tree, leaf, ◌+++◌, sort_of, is_sort, Single}
 use Rattle.model.specs.Codes.{same}
 use Rattle.model.proofs.Matching.{same-sound}
-use Rattle.infer_table.specs.Solutions.{Assignment, Binding, Solves, resolved, occurs, HasValues}
+use Rattle.model.proofs.TreeLaws.{append-none}
+use Rattle.infer_table.specs.Solutions.{Assignment, Binding, Solves, resolved, occurs, is_variable, HasValues}
 use Rattle.infer_table.specs.Content.{IsUnbound}
 use Rattle.infer_table.specs.Opened.{opened, is_opened}
 use Rattle.infer_table.specs.Resolving.{is_root, followed}
-use Rattle.infer_table.specs.Unification.{TableTrees, with_binding, with_regions, term_sort, variable_at, binds, head_of, object_parts, parts_of, Worklist, pairs, Outcome, refused, onward, bound_to, in_pairs, by_parts, by_variables, by_sort, compared, step}
+use Rattle.infer_table.specs.Unification.{TableTrees, Extends, equal_constraint, is_recorded, recorded_once, with_binding, with_equal, with_regions, term_sort, variable_at, binds, head_of, object_parts, parts_of, Worklist, pairs, Outcome, refused, onward, bound_to, in_pairs, by_parts, by_variables, by_sort, compared, step}
 use Rattle.infer_table.specs.Numbers.{RunsOut, later}
 use Rattle.infer_table.specs.WellFormed.{is_numbered, IsOfTerms, AllSame}
 use Rattle.infer_table.specs.Worklists.{Reaches}
-use Rattle.infer_table.specs.Related.{HasParts, Rests, rest_none, rest_same, rest_waiting, rest_parts}
+use Rattle.infer_table.specs.Related.{HasParts, AreRecorded, Rests, rest_none, rest_same, rest_recorded, rest_waiting, rest_parts}
+use Rattle.infer_table.proofs.ExtendFacts.{extends-self, with-binding-adds, with-regions-adds, with-equal-adds}
 use Rattle.infer_table.proofs.Places.{in_terms, in_object, in_autos, AreTrees, IsOneTree, IsOfTrees, ArePairsOfTrees, table-trees}
 use Rattle.infer_table.proofs.ResolveFacts.{followed-unbound}
 use Rattle.infer_table.proofs.RunFacts.{reaches-next}
 use Rattle.infer_table.proofs.SolutionLaws.{is_sort-equal, is_variable-self}
 use Rattle.infer_table.proofs.SolveFacts.{step-terms, bindings-with}
-use Rattle.infer_table.proofs.UnifyFacts.{step-sorted, compared-same}
+use Rattle.infer_table.proofs.UnifyFacts.{step-sorted, compared-same, same-self, equal-recorded}
 use Rattle.infer_table.proofs.WellFacts.{followed-one, followed-open, followed-terms}
 
 -- ---- more values
@@ -36,7 +38,46 @@ followed-on n bs a e = ap (λ (z : Bool). if z then followed bs n.value else fol
 
 -- no binding more, or one
 abbrev pub IsNext : List Binding → List Binding → Type 0
-IsNext bs cs = (cs ≡ bs) ⊎ ((n : Binding) × (cs ≡ n ∷ bs))
+IsNext bs cs = (cs ≡ bs) ⊎ ((n : Binding) × HasValues n.sort × (cs ≡ n ∷ bs))
+
+-- a variable that has a value is no lifetime
+lifetime-no-root : (b : Binding) (x : Trees) → HasValues b.sort → term_sort x ≡ of_lifetime → is_root b x ≡ false
+lifetime-no-root b (tree (infer k v) none none) h e = by b.sort k h e
+  where
+    by : (j k : Sort) → HasValues j → k ≡ of_lifetime → is_variable j b.var k v ≡ false
+    by of_lifetime k g e = absurd g
+    by of_type of_lifetime g e = refl
+    by of_const of_lifetime g e = refl
+    by of_type of_type g e = cc
+    by of_type of_const g e = cc
+    by of_const of_type g e = cc
+    by of_const of_const g e = cc
+lifetime-no-root b none h e = refl
+lifetime-no-root b (tree l c o) h e = refl
+
+-- ---- what is recorded
+or-on : (s r q : Bool) → (r ≡ true → q ≡ true) → (s || r) ≡ true → (s || q) ≡ true
+or-on true r q f h = refl
+or-on false r q f h = f h
+
+recorded-more : (a b cs ds : Trees) → is_recorded a b cs ≡ true → is_recorded a b (cs +++ ds) ≡ true
+recorded-more a b none ds h = cc
+recorded-more a b (tree l c o) ds h = or-on (same (equal_constraint a b) (tree l c none)) (is_recorded a b o) (is_recorded a b (o +++ ds)) (recorded-more a b o ds) h
+
+recorded-last : (a b cs : Trees) → is_recorded a b (cs +++ equal_constraint a b) ≡ true
+recorded-last a b none = ap (λ z. z || false) (same-self (equal_constraint a b))
+recorded-last a b (tree l c o) = or-on (same (equal_constraint a b) (tree l c none)) true (is_recorded a b (o +++ equal_constraint a b)) (λ e. recorded-last a b o) (either-true (same (equal_constraint a b) (tree l c none)))
+  where
+    either-true : (s : Bool) → (s || true) ≡ true
+    either-true true = refl
+    either-true false = refl
+
+recorded-there : (a b cs : Trees) → is_recorded a b (recorded_once a b cs) ≡ true
+recorded-there a b cs = by (is_recorded a b cs) refl
+  where
+    by : (z : Bool) → is_recorded a b cs ≡ z → is_recorded a b (if z then cs else cs +++ equal_constraint a b) ≡ true
+    by true e = e
+    by false e = recorded-last a b cs
 
 same-more : (bs : List Binding) (n : Binding) (a b : Trees) → followed bs a ≡ followed bs b → followed (n ∷ bs) a ≡ followed (n ∷ bs) b
 same-more bs n a b e = ap (λ z. if is_root n z then followed bs n.value else z) e
@@ -46,33 +87,56 @@ parts-more bs n a b ps h =
     subst (λ (z : Trees). HasParts z (followed (n ∷ bs) b) ps) (sym (followed-on n bs a h.left)) (subst (λ (z : Trees). HasParts (followed bs a) z ps) (sym (followed-on n bs b h.right)) h)
 
 -- ---- other equations to wait for
-pub rests-with : (bs : List Binding) (waiting rest : Worklist) (e : Trees × Trees) → Rests bs waiting (e ∷ []) → Rests bs waiting rest → Rests bs waiting (e ∷ rest)
-rests-with bs waiting rest e (rest_same a b s q n) r = rest_same a b s q r
-rests-with bs waiting rest e (rest_waiting xs ys a b q n) r = rest_waiting xs ys a b q r
-rests-with bs waiting rest e (rest_parts a b ps s k h w n) r = rest_parts a b ps s k h w r
+pub rests-with : (bs : List Binding) (cs : Trees) (waiting rest : Worklist) (e : Trees × Trees) → Rests bs cs waiting (e ∷ []) → Rests bs cs waiting rest → Rests bs cs waiting (e ∷ rest)
+rests-with bs cs waiting rest e (rest_same a b s q n) r = rest_same a b s q r
+rests-with bs cs waiting rest e (rest_recorded a b s q n) r = rest_recorded a b s q r
+rests-with bs cs waiting rest e (rest_waiting xs ys a b q n) r = rest_waiting xs ys a b q r
+rests-with bs cs waiting rest e (rest_parts a b ps s k h w n) r = rest_parts a b ps s k h w r
 
-module _ (bs cs : List Binding) (next : IsNext bs cs) (before after : Worklist) (each : (e : Trees × Trees) (xs ys : Worklist) → before ≡ xs ++ e ∷ ys → Rests cs after (e ∷ [])) where
-  pub rests-on : (w : Worklist) → Rests bs before w → Rests cs after w
+module _ (bs cs : List Binding) (next : IsNext bs cs) (old new : Trees) (adds : (added : Trees) × (new ≡ old +++ added)) (before after : Worklist)
+    (each : (e : Trees × Trees) (xs ys : Worklist) → before ≡ xs ++ e ∷ ys → Rests cs new after (e ∷ [])) where
+  lifetime-on : (x : Trees) → term_sort (followed bs x) ≡ of_lifetime → followed cs x ≡ followed bs x
+  lifetime-on x k = by next
+    where
+      by : IsNext bs cs → followed cs x ≡ followed bs x
+      by (inl e) = ap (λ z. followed z x) e
+      by (inr (n, h, e)) = ap (λ z. followed z x) e ∙ ap (λ (z : Bool). if z then followed bs n.value else followed bs x) (lifetime-no-root n (followed bs x) h k)
+
+  recorded-on : (a b : Trees) → AreRecorded bs old a b → AreRecorded cs new a b
+  recorded-on a b q =
+      let fa = lifetime-on a q.left in
+      let fb = lifetime-on b q.right in
+      record {
+        lifetime = q.lifetime;
+        left = ap term_sort fa ∙ q.left;
+        right = ap term_sort fb ∙ q.right;
+        recorded = ap (λ z. is_recorded z (followed cs b) new) fa ∙ ap (λ z. is_recorded (followed bs a) z new) fb ∙ ap (λ z. is_recorded (followed bs a) (followed bs b) z) adds.1
+            ∙ recorded-more (followed bs a) (followed bs b) old adds.0 q.recorded;
+      }
+
+  pub rests-on : (w : Worklist) → Rests bs old before w → Rests cs new after w
   rests-on w rest_none = rest_none
   rests-on w (rest_same {rest = rest} a b s q r) = rest_same a b s (by next) (rests-on rest r)
     where
       by : IsNext bs cs → followed cs a ≡ followed cs b
       by (inl e) = subst (λ (z : List Binding). followed z a ≡ followed z b) (sym e) q
-      by (inr (n, e)) = subst (λ (z : List Binding). followed z a ≡ followed z b) (sym e) (same-more bs n a b q)
-  rests-on w (rest_waiting {rest = rest} xs ys a b q r) = rests-with cs after rest (a, b) (each (a, b) xs ys q) (rests-on rest r)
+      by (inr (n, h, e)) = subst (λ (z : List Binding). followed z a ≡ followed z b) (sym e) (same-more bs n a b q)
+  rests-on w (rest_recorded {rest = rest} a b s q r) = rest_recorded a b s (recorded-on a b q) (rests-on rest r)
+  rests-on w (rest_waiting {rest = rest} xs ys a b q r) = rests-with cs new after rest (a, b) (each (a, b) xs ys q) (rests-on rest r)
   rests-on w (rest_parts {rest = rest} a b ps s k h p r) = rest_parts a b ps s k (by next) (rests-on ps p) (rests-on rest r)
     where
       by : IsNext bs cs → HasParts (followed cs a) (followed cs b) ps
       by (inl e) = subst (λ (z : List Binding). HasParts (followed z a) (followed z b) ps) (sym e) h
-      by (inr (n, e)) = subst (λ (z : List Binding). HasParts (followed z a) (followed z b) ps) (sym e) (parts-more bs n a b ps h)
+      by (inr (n, g, e)) = subst (λ (z : List Binding). HasParts (followed z a) (followed z b) ps) (sym e) (parts-more bs n a b ps h)
 
-pub rests-more : (bs : List Binding) (waiting more w : Worklist) → Rests bs waiting w → Rests bs (waiting ++ more) w
-rests-more bs waiting more w r =
-    rests-on bs bs (inl refl) waiting (waiting ++ more) (λ e xs ys q. rest_waiting xs (ys ++ more) e.0 e.1 (ap (λ z. z ++ more) q ∙ append_assoc xs (e ∷ ys) more) rest_none) w r
+pub rests-more : (bs : List Binding) (cs : Trees) (waiting more w : Worklist) → Rests bs cs waiting w → Rests bs cs (waiting ++ more) w
+rests-more bs cs waiting more w r =
+    rests-on bs bs (inl refl) cs cs (none, sym (append-none cs)) waiting (waiting ++ more)
+    (λ e xs ys q. rest_waiting xs (ys ++ more) e.0 e.1 (ap (λ z. z ++ more) q ∙ append_assoc xs (e ∷ ys) more) rest_none) w r
 
-pub all-wait : (bs : List Binding) (waiting before w : Worklist) → waiting ≡ before ++ w → Rests bs waiting w
-all-wait bs waiting before [] e = rest_none
-all-wait bs waiting before (x ∷ w) e = rest_waiting before w x.0 x.1 e (all-wait bs waiting (before ++ x ∷ []) w (e ∙ sym (append_assoc before (x ∷ []) w)))
+pub all-wait : (bs : List Binding) (cs : Trees) (waiting before w : Worklist) → waiting ≡ before ++ w → Rests bs cs waiting w
+all-wait bs cs waiting before [] e = rest_none
+all-wait bs cs waiting before (x ∷ w) e = rest_waiting before w x.0 x.1 e (all-wait bs cs waiting (before ++ x ∷ []) w (e ∙ sym (append_assoc before (x ∷ []) w)))
 
 -- ---- steps pass over them
 pub data Passes : TableTrees → Worklist → Worklist → Type 0 where
@@ -106,10 +170,20 @@ module _ (t : TableTrees) (ok : IsOfTerms t) where
       ∙ ap (λ z. in_pairs (with_regions t (binds x + binds y)) z rest) (h.parts t.region_vars (t.region_vars + binds x))
       ∙ ap (λ z. onward false z (ps ++ rest)) (no-lifetimes t (binds x + binds y) h.alone)
 
-  pub passes : (w rest : Worklist) → Rests t.bindings [] w → ArePairsOfTrees is_numbered (w ++ rest) → Passes t (w ++ rest) rest
+  recorded-step : (x y : Trees) (rest : Worklist) → is_recorded x y t.constraints ≡ true → compared t of_lifetime x y rest ≡ onward false t rest
+  recorded-step x y rest e = by (same x y)
+    where
+      by : (z : Bool) → (if z then onward false t rest else onward false (with_equal t x y) rest) ≡ onward false t rest
+      by true = refl
+      by false = ap (λ u. onward false u rest) (equal-recorded t x y e)
+
+  pub passes : (w rest : Worklist) → Rests t.bindings t.constraints [] w → ArePairsOfTrees is_numbered (w ++ rest) → Passes t (w ++ rest) rest
   passes w rest rest_none h = pass_none rest
   passes w rest (rest_same {rest = v} a b s q r) h =
       pass (a, b) (v ++ rest) (sorted-step a b (v ++ rest) s ∙ compared-same t (term_sort a) (followed t.bindings a) (followed t.bindings b) (v ++ rest) q) (passes v rest r h.2)
+  passes w rest (rest_recorded {rest = v} a b s q r) h =
+      pass (a, b) (v ++ rest)
+      (sorted-step a b (v ++ rest) s ∙ ap (λ k. compared t k (followed t.bindings a) (followed t.bindings b) (v ++ rest)) q.lifetime ∙ recorded-step (followed t.bindings a) (followed t.bindings b) (v ++ rest) q.recorded) (passes v rest r h.2)
   passes w rest (rest_waiting xs ys a b q r) h = absurd (not-in-none xs ys (a, b) q)
   passes w rest (rest_parts {rest = v} a b ps s k p r q) h = by (same (followed t.bindings a) (followed t.bindings b)) refl (passes v rest q h.2) (λ g. passes ps (v ++ rest) r g)
     where
@@ -186,15 +260,6 @@ parts-fixed i j (tree dynamic c o) h e = object-fixed i j c h.0 (by c e)
         go l e = refl
 parts-fixed i j (tree l c o) h e = refl
 
--- how many trees stand side by side
-abbrev pub siblings : Trees → ℕ
-siblings none = zero
-siblings (tree l c o) = suc (siblings o)
-
-siblings-append : (x y : Trees) → siblings (x +++ y) ≡ siblings x + siblings y
-siblings-append none y = omega arith
-siblings-append (tree l c o) y = let q = siblings-append o y in omega (arith, q)
-
 either : (P : Outcome → Type 0) (b : Bool) (x y : Outcome) → (b ≡ true → P x) → (b ≡ false → P y) → P (if b then x else y)
 either P true x y p q = p refl
 either P false x y p q = q refl
@@ -205,11 +270,11 @@ variable-leaf k v (tree (infer j w) c o) h p e = let q : w ≡ v = cc in
     ap (λ z. tree (infer j w) z o) h.1.0 ∙ ap (λ z. tree (infer j w) none z) h.0 ∙ ap (λ z. leaf (infer z w)) p ∙ ap (λ z. leaf (infer k z)) q
 variable-leaf k v (tree l c o) h p e = cc
 
--- it is replaced by others, for which it waits unless a lifetime was opened or recorded
+-- it is replaced by others, for which it waits unless a lifetime was opened
 abbrev pub Leaves : TableTrees → Trees → Trees → Worklist → Outcome → Type 0
 Leaves t a b rest refused = Unit {0}
 Leaves t a b rest (onward f u left) =
-    (ps : Worklist) × (left ≡ ps ++ rest) × IsNext t.bindings u.bindings × (u.region_vars ≡ t.region_vars → siblings u.constraints ≡ siblings t.constraints → Rests u.bindings ps ((a, b) ∷ []))
+    (ps : Worklist) × (left ≡ ps ++ rest) × IsNext t.bindings u.bindings × Extends t u × (u.region_vars ≡ t.region_vars → Rests u.bindings u.constraints ps ((a, b) ∷ []))
 
 module _ (t : TableTrees) (ok : IsOfTerms t) (a b : Trees) (ha : IsOneTree is_numbered a) (hb : IsOneTree is_numbered b) (rest : Worklist) (s : is_sort (term_sort a) (term_sort b) ≡ true) where
   abbrev bs : List Binding
@@ -263,7 +328,7 @@ module _ (t : TableTrees) (ok : IsOfTerms t) (a b : Trees) (ha : IsOneTree is_nu
     bound-leaves : followed (n ∷ bs) a ≡ followed (n ∷ bs) b → Leaves t a b rest (bound_to t k v z rest)
     bound-leaves e = either (Leaves t a b rest) (occurs k v (resolved bs z)) refused (onward true (with_binding t k v z) rest) (λ o. tt) (λ o.
         let is = bindings-with t k v z hk in
-        ([], refl, inr (n, is), λ p q. subst (λ (cs : List Binding). Rests cs [] ((a, b) ∷ [])) (sym is) (rest_same a b s e rest_none)))
+        ([], refl, inr (n, hk, is), with-binding-adds t k v z, λ p. subst (λ (cs : List Binding). Rests cs (with_binding t k v z).constraints [] ((a, b) ∷ [])) (sym is) (rest_same a b s e rest_none)))
 
   module _ (hk : HasValues k) where
     left-leaves : (v : ℕ) → variable_at x ≡ Some v → Leaves t a b rest (bound_to t k v y rest)
@@ -294,13 +359,14 @@ module _ (t : TableTrees) (ok : IsOfTerms t) (a b : Trees) (ha : IsOneTree is_nu
           ps,
           refl,
           inl refl,
-          λ p q.
+          with-regions-adds t (binds x + binds y),
+          λ p.
               let z = none-new p in
               let zx : binds x ≡ zero = omega (arith, z) in
               let zy : binds y ≡ zero = omega (arith, z) in
               rest_parts a b ps s hk
               (record { left = ex; right = ey; heads = h; alone = z; parts = λ f g. ap (λ w. pairs w (parts_of g y)) (parts-fixed f i x hx.1 zx) ∙ ap (pairs (parts_of i x)) (parts-fixed g j y hy.1 zy) ∙ e })
-              (all-wait bs ps [] ps refl) rest_none,
+              (all-wait bs t.constraints ps [] ps refl) rest_none,
         )
 
     variables-leave : (o p : Option ℕ) → variable_at x ≡ o → variable_at y ≡ p → Leaves t a b rest (by_variables t k x y o p rest)
@@ -315,14 +381,17 @@ module _ (t : TableTrees) (ok : IsOfTerms t) (a b : Trees) (ha : IsOneTree is_nu
       by : (j : Sort) → j ≡ k → Leaves t a b rest (by_sort t j x y rest)
       by of_type e = subst (λ (j : Sort). Leaves t a b rest (by_variables t j x y (variable_at x) (variable_at y) rest)) (sym e) (variables-leave (subst HasValues e tt) (variable_at x) (variable_at y) refl refl)
       by of_const e = subst (λ (j : Sort). Leaves t a b rest (by_variables t j x y (variable_at x) (variable_at y) rest)) (sym e) (variables-leave (subst HasValues e tt) (variable_at x) (variable_at y) refl refl)
-      by of_lifetime e = ([], refl, inl refl, λ p q. absurd (more (siblings t.constraints) (sym q ∙ siblings-append t.constraints (tree (predicate regions_equal) (x +++ y) none))))
-        where
-          more : (m : ℕ) → m ≡ m + 1 → ⊥
-          more m e = omega (arith, e)
+      by of_lifetime e = (
+        [],
+        refl,
+        inl refl,
+        with-equal-adds t x y,
+        λ p. rest_recorded a b s (record { lifetime = sym e; left = fx.1 ∙ sym e; right = fy.1 ∙ sym e; recorded = recorded-there x y t.constraints }) rest_none,
+      )
 
   compared-leaves : Leaves t a b rest (compared t k x y rest)
   compared-leaves =
-      either (Leaves t a b rest) (same x y) (onward false t rest) (by_sort t k x y rest) (λ e. ([], refl, inl refl, λ p q. rest_same a b s (same-sound x y e) rest_none)) (λ e. sort-leaves)
+      either (Leaves t a b rest) (same x y) (onward false t rest) (by_sort t k x y rest) (λ e. ([], refl, inl refl, extends-self t, λ p. rest_same a b s (same-sound x y e) rest_none)) (λ e. sort-leaves)
 
 pub step-leaves : (t : TableTrees) (a b : Trees) (rest : Worklist) → IsOfTerms t → IsOneTree is_numbered a → IsOneTree is_numbered b → Leaves t a b rest (step t (a, b) rest)
 unfolding step

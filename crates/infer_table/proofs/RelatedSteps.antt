@@ -1,7 +1,8 @@
 -- Pairs that an equation has related, from step to step.
 use Rattle.std.proofs.Common.{◌≡◌, ℕ, zero, suc, ◌+◌, ◌<◌, ◌≤◌, Bool, true, false, refl, ap, sym, ◌∙◌, arith, List, [], ◌∷◌, ◌++◌, length, length-append, take, subst, ◌⊎◌, inl, inr, if◌then◌else◌, eqb-true}
 use Rattle.std.proofs.lemmas.List.{append_assoc}
-use Rattle.model.specs.Trees.{Trees}
+use Rattle.model.specs.Trees.{Trees, none, ◌+++◌}
+use Rattle.model.proofs.TreeLaws.{append-none}
 use Rattle.type_terms.specs.Terms.{Entry, Lawful, Keeps, types, trees_at}
 use Rattle.type_terms.specs.Kinds.{ArgHeld, arg_trees}
 use Rattle.type_terms.specs.Kept.{has-later, trees-later}
@@ -17,17 +18,15 @@ use Rattle.std.specs.Prelude.{Option, Result, Ok, Err, IsErrAnd, OnOk, OnErr, na
 use Rattle.std.specs.List.{list_any}
 use Rattle.std.specs.HashSet.{HashSet, contains, Updates, IsUnchanged}
 use Rattle.infer_table.specs.Growth.{grows-refl}
-use Rattle.infer_table.specs.Related.{pair_eq, Rests, rest_none, rest_waiting, pair_trees, IsPairOfTypes, recorded_in, IsSettled, IsBegun, AreAbove, AreBelow, AreBegun, Tracks, TracksOpen, Begins}
+use Rattle.infer_table.specs.Related.{pair_eq, RestsIn, rest_none, rest_waiting, pair_trees, IsPairOfTypes, IsSettled, IsBegun, AreAbove, AreBelow, AreBegun, Tracks, TracksOpen, Begins}
 use Rattle.infer_table.specs.declared.terms.Equation.{Equation}
-use Rattle.infer_table.specs.declared.terms.RegionConstraint.{RegionConstraint}
 use Rattle.infer_table.specs.declared.related.Pair.{Pair}
 use Rattle.infer_table.specs.declared.related.Begun.{Begun}
-use Rattle.infer_table.specs.declared.related.Recorded.{Recorded}
 use Rattle.infer_table.specs.declared.related.Related.{Related}
 use Rattle.infer_table.proofs.Places.{ArePairsOfTrees, arg-term, one-tree, ready-terms}
 use Rattle.infer_table.proofs.RunFacts.{worklist-last}
 use Rattle.infer_table.proofs.StepFacts.{drop-same, drop-advances}
-use Rattle.infer_table.proofs.RelatedFacts.{IsNext, rests-on, rests-more, siblings, Leaves, step-leaves, Passes, passes, reaches-passed, same-passed, out-passed}
+use Rattle.infer_table.proofs.RelatedFacts.{IsNext, rests-on, rests-more, Leaves, step-leaves, Passes, passes, reaches-passed, same-passed, out-passed}
 
 -- ---- lists
 pub worklist-length : (es : List Entry) (todo : List Equation) → length (worklist es todo) ≡ length todo
@@ -36,21 +35,6 @@ worklist-length es todo = let q = on todo [] in omega (arith, q)
     on : (todo : List Equation) (w : Worklist) → length (worklist_on es todo w) ≡ length todo + length w
     on [] w = omega arith
     on (e ∷ todo) w = let q = on todo (equation_trees es e ∷ w) in omega (arith, q)
-
-taken-most : {A : Type 0} (n : ℕ) (xs : List A) → length (take n xs) ≤ length xs
-taken-most zero xs = omega arith
-taken-most (suc n) [] = omega arith
-taken-most (suc n) (x ∷ xs) = let q = taken-most n xs in omega (arith, q)
-
-pub constraints-more : (t u : Table) → Grows t u → length t.constraints ≤ length u.constraints
-constraints-more t u g =
-    let a = taken-most (length t.constraints) u.constraints in
-    let b = ap (λ (xs : List RegionConstraint). length xs) g.constraints_kept in
-    omega (arith, a, b)
-
-siblings-are : (es : List Entry) (cs : List RegionConstraint) → siblings (constraints_trees es cs) ≡ length cs
-siblings-are es [] = refl
-siblings-are es (c ∷ cs) = ap suc (siblings-are es cs)
 
 above-last : (n : ℕ) (xs : List Begun) (b : Begun) → AreAbove n (xs ++ b ∷ []) → AreAbove n xs × (n ≤ b.left)
 above-last n [] b h = (tt, h.0)
@@ -61,9 +45,9 @@ last-above n [] b h le = (le, tt)
 last-above n (x ∷ xs) b h le = (h.0, last-above n xs b h.1 le)
 
 -- ---- a step
--- the equation is replaced by others, for which it waits unless a lifetime was opened or recorded
+-- the equation is replaced by others, for which it waits unless a lifetime was opened
 module _ (es fs : List Entry) (kept : Keeps es fs) (t u : Table) (grows : Grows t u) (e : Trees × Trees) (w v ps : Worklist) (split : v ≡ ps ++ w) (next : IsNext (content es t.values) (content fs u.values))
-    (rests : recorded_in t ≡ recorded_in u → Rests (content fs u.values) ps (e ∷ [])) where
+    (adds : (added : Trees) × (constraints_trees fs u.constraints ≡ constraints_trees es t.constraints +++ added)) (rests : u.region_vars ≡ t.region_vars → RestsIn fs u ps (e ∷ [])) where
   pair-later : (p : Pair) → IsPairOfTypes es p → pair_trees fs p ≡ pair_trees es p
   pair-later p h = ap (λ x. (x, trees_at fs p.right)) (trees-later es fs kept types p.left h.0) ∙ ap (λ x. (trees_at es p.left, x)) (trees-later es fs kept types p.right h.1)
 
@@ -73,27 +57,19 @@ module _ (es fs : List Entry) (kept : Keeps es fs) (t u : Table) (grows : Grows 
   settled-on : (p : Pair) → IsSettled es t p → IsSettled fs u p
   settled-on p h = record {
     held = held-later p h.held;
-    rests = subst (λ (q : Trees × Trees). Rests (content fs u.values) [] (q ∷ [])) (sym (pair-later p h.held))
-        (rests-on (content es t.values) (content fs u.values) next [] [] (λ f xs ys q. absurd (not-in-none xs ys f q)) (pair_trees es p ∷ []) h.rests);
+    rests = subst (λ (q : Trees × Trees). RestsIn fs u [] (q ∷ [])) (sym (pair-later p h.held))
+        (rests-on (content es t.values) (content fs u.values) next (constraints_trees es t.constraints) (constraints_trees fs u.constraints) adds [] [] (λ f xs ys q. absurd (not-in-none xs ys f q)) (pair_trees es p ∷ []) h.rests);
   }
     where
       not-in-none : (xs ys : Worklist) (f : Trees × Trees) → [] ≡ xs ++ f ∷ ys → ⊥
       not-in-none [] ys f q = cc
       not-in-none (x ∷ xs) ys f q = cc
 
-  same-recorded : (b : Recorded) → b.lifetimes ≤ t.region_vars → b.constraints ≤ length t.constraints → b ≡ recorded_in u → (b ≡ recorded_in t) × (recorded_in t ≡ recorded_in u)
-  same-recorded b p q r =
-      let g = grows.region_vars_kept in
-      let c = constraints-more t u grows in
-      let x = ap (λ (z : Recorded). z.lifetimes) r in
-      let y = ap (λ (z : Recorded). z.constraints) r in
-      let m : t.region_vars ≡ u.region_vars = omega (arith, p, g, x) in
-      let n : length t.constraints ≡ length u.constraints = omega (arith, q, c, y) in
-      let same : recorded_in t ≡ recorded_in u = ap (λ (z : ℕ). record { lifetimes = z; constraints = length t.constraints }) m ∙ ap (λ (z : ℕ). record { lifetimes = u.region_vars; constraints = z }) n in
-      (r ∙ sym same, same)
+  same-lifetimes : (n : ℕ) → n ≤ t.region_vars → n ≡ u.region_vars → (n ≡ t.region_vars) × (u.region_vars ≡ t.region_vars)
+  same-lifetimes n p r = let g = grows.region_vars_kept in (omega (arith, p, g, r), omega (arith, p, g, r))
 
-  each-rests : (before : Worklist) → Rests (content fs u.values) ps (e ∷ []) → (f : Trees × Trees) (xs ys : Worklist) → e ∷ before ≡ xs ++ f ∷ ys → Rests (content fs u.values) (ps ++ before) (f ∷ [])
-  each-rests before r f [] ys q = subst (λ (z : Trees × Trees). Rests (content fs u.values) (ps ++ before) (z ∷ [])) (first q) (rests-more (content fs u.values) ps before (e ∷ []) r)
+  each-rests : (before : Worklist) → RestsIn fs u ps (e ∷ []) → (f : Trees × Trees) (xs ys : Worklist) → e ∷ before ≡ xs ++ f ∷ ys → RestsIn fs u (ps ++ before) (f ∷ [])
+  each-rests before r f [] ys q = subst (λ (z : Trees × Trees). RestsIn fs u (ps ++ before) (z ∷ [])) (first q) (rests-more (content fs u.values) (constraints_trees fs u.constraints) ps before (e ∷ []) r)
     where
       first : {a b : Trees × Trees} {m n : Worklist} → ◌≡◌ {A = Worklist} (a ∷ m) (b ∷ n) → a ≡ b
       first q = cc
@@ -105,7 +81,7 @@ module _ (es fs : List Entry) (kept : Keeps es fs) (t u : Table) (grows : Grows 
   begun-on : (b : Begun) → IsBegun es t (e ∷ w) b → b.left < suc (length w) → IsBegun fs u v b
   begun-on b h lt = by h.before h.list h.rests
     where
-      by : (before : Worklist) → e ∷ w ≡ before ++ h.after → (b.recorded ≡ recorded_in t → Rests (content es t.values) before (pair_trees es b.pair ∷ [])) → IsBegun fs u v b
+      by : (before : Worklist) → e ∷ w ≡ before ++ h.after → (b.lifetimes ≡ t.region_vars → RestsIn es t before (pair_trees es b.pair ∷ [])) → IsBegun fs u v b
       by [] q f = let n = ap length q in let m = h.left in absurd (omega (arith, n, m, lt))
       by (x ∷ before) q f =
           let first : e ≡ x = cc in
@@ -116,13 +92,12 @@ module _ (es fs : List Entry) (kept : Keeps es fs) (t u : Table) (grows : Grows 
             list = split ∙ ap (λ z. ps ++ z) behind ∙ sym (append_assoc ps before h.after);
             left = h.left;
             lifetimes = let p = h.lifetimes in let g = grows.region_vars_kept in omega (arith, p, g);
-            constraints = let p = h.constraints in let g = constraints-more t u grows in omega (arith, p, g);
             held = held-later b.pair h.held;
             rests = λ r.
-                let same = same-recorded b.recorded h.lifetimes h.constraints r in
-                subst (λ (z : Trees × Trees). Rests (content fs u.values) (ps ++ before) (z ∷ [])) (sym (pair-later b.pair h.held))
-                (rests-on (content es t.values) (content fs u.values) next (e ∷ before) (ps ++ before) (each-rests before (rests same.1)) (pair_trees es b.pair ∷ [])
-                (subst (λ (z : Trees × Trees). Rests (content es t.values) (z ∷ before) (pair_trees es b.pair ∷ [])) (sym first) (f same.0)));
+                let same = same-lifetimes b.lifetimes h.lifetimes r in
+                subst (λ (z : Trees × Trees). RestsIn fs u (ps ++ before) (z ∷ [])) (sym (pair-later b.pair h.held))
+                (rests-on (content es t.values) (content fs u.values) next (constraints_trees es t.constraints) (constraints_trees fs u.constraints) adds (e ∷ before) (ps ++ before) (each-rests before (rests same.1)) (pair_trees es b.pair ∷ [])
+                (subst (λ (z : Trees × Trees). RestsIn es t (z ∷ before) (pair_trees es b.pair ∷ [])) (sym first) (f same.0)));
           }
 
   all-on : (xs : List Begun) → AreBegun es t (e ∷ w) xs → AreBelow (suc (length w)) xs → AreBegun fs u v xs
@@ -133,26 +108,25 @@ module _ (es fs : List Entry) (kept : Keeps es fs) (t u : Table) (grows : Grows 
   tracks-on r h = record { settled = λ p is. settled-on p (h.tracked.settled p is); begun = all-on r.begun.items h.tracked.begun h.undone }
 
   -- the equation itself is begun
-  begun-new : (p : Pair) → IsPairOfTypes es p → pair_trees es p ≡ e → IsBegun fs u v (record { pair = p; left = length w; recorded = recorded_in t })
+  begun-new : (p : Pair) → IsPairOfTypes es p → pair_trees es p ≡ e → IsBegun fs u v (record { pair = p; left = length w; lifetimes = t.region_vars })
   begun-new p h is = record {
     before = ps;
     after = w;
     list = split;
     left = refl;
     lifetimes = grows.region_vars_kept;
-    constraints = constraints-more t u grows;
     held = held-later p h;
-    rests = λ q. subst (λ (z : Trees × Trees). Rests (content fs u.values) ps (z ∷ [])) (sym (pair-later p h ∙ is)) (rests q);
+    rests = λ q. subst (λ (z : Trees × Trees). RestsIn fs u ps (z ∷ [])) (sym (pair-later p h ∙ is)) (rests (sym q));
   }
 
   below-above : (xs : List Begun) (b : Begun) → AreBegun fs u v xs → AreBelow (suc b.left) xs → IsBegun fs u v b → AreBegun fs u v (xs ++ b ∷ [])
   below-above [] b h lt g = (g, tt, tt)
   below-above (x ∷ xs) b h lt g = let p = lt.0 in (h.0, last-above x.left xs b h.1 (omega (arith, p)), below-above xs b h.2 lt.1 g)
 
-  pub tracks-begun : (q : Equation) → equation_trees es q ≡ e → ArgHeld es q.left → ArgHeld es q.right → (old new : Related) → TracksOpen es t (e ∷ w) old → new.settled ≡ old.settled → Begins q (length w) (recorded_in t) old.begun.items new.begun.items → Tracks fs u v new
-  tracks-begun q is hl hr old new h same (inl none) =
+  pub tracks-begun : (q : Equation) → equation_trees es q ≡ e → ArgHeld es q.left → ArgHeld es q.right → (old new : Related) → TracksOpen es t (e ∷ w) old → new.settled ≡ old.settled → Begins q (length w) t.region_vars old.begun.items new.begun.items → Tracks fs u v new
+  tracks-begun q is hl hr old new h same (inl nothing) =
       let k = tracks-on old h in
-      record { settled = subst (λ s. (p : Pair) → contains pair_eq s p ≡ true → IsSettled fs u p) (sym same) k.settled; begun = subst (AreBegun fs u v) (sym none) k.begun }
+      record { settled = subst (λ s. (p : Pair) → contains pair_eq s p ≡ true → IsSettled fs u p) (sym same) k.settled; begun = subst (AreBegun fs u v) (sym nothing) k.begun }
   tracks-begun q is hl hr old new h same (inr (a, b, ea, eb, more)) =
       let k = tracks-on old h in
       let p : Pair = record { left = a.0; right = b.0 } in
@@ -160,7 +134,7 @@ module _ (es fs : List Entry) (kept : Keeps es fs) (t u : Table) (grows : Grows 
       let trees : pair_trees es p ≡ e = sym (ap (λ z. (arg_trees es z, arg_trees es q.right)) ea ∙ ap (λ z. (trees_at es a.0, arg_trees es z)) eb) ∙ is in
       record {
         settled = subst (λ s. (p : Pair) → contains pair_eq s p ≡ true → IsSettled fs u p) (sym same) k.settled;
-        begun = subst (AreBegun fs u v) (sym more) (below-above old.begun.items (record { pair = p; left = length w; recorded = recorded_in t }) k.begun h.undone (begun-new p held trees));
+        begun = subst (AreBegun fs u v) (sym more) (below-above old.begun.items (record { pair = p; left = length w; lifetimes = t.region_vars }) k.begun h.undone (begun-new p held trees));
       }
 
 -- ---- the steps of the code
@@ -171,18 +145,14 @@ module _ (es fs : List Entry) (law : Lawful es) (kept : Keeps es fs) (t u : Tabl
       subst (Leaves (table_trees es t) (arg_trees es q.left) (arg_trees es q.right) (worklist es todo)) is
       (step-leaves (table_trees es t) (arg_trees es q.left) (arg_trees es q.right) (worklist es todo) (ready-terms es law t ready) (one-tree (arg_trees es q.left) (arg-term es law q.left hl)) (one-tree (arg_trees es q.right) (arg-term es law q.right hr)))
 
-  rests-so : recorded_in t ≡ recorded_in u → Rests (content fs u.values) leaves.0 (equation_trees es q ∷ [])
-  rests-so r =
-      leaves.3 (sym (ap (λ (z : Recorded). z.lifetimes) r)) (siblings-are fs u.constraints ∙ sym (ap (λ (z : Recorded). z.constraints) r) ∙ sym (siblings-are es t.constraints))
-
-  pub step-tracks : (old new : Related) → TracksOpen es t (equation_trees es q ∷ worklist es todo) old → new.settled ≡ old.settled → Begins q (length todo) (recorded_in t) old.begun.items new.begun.items → Tracks fs u (worklist fs left) new
+  pub step-tracks : (old new : Related) → TracksOpen es t (equation_trees es q ∷ worklist es todo) old → new.settled ≡ old.settled → Begins q (length todo) t.region_vars old.begun.items new.begun.items → Tracks fs u (worklist fs left) new
   step-tracks old new h same b =
-      tracks-begun es fs kept t u grows (equation_trees es q) (worklist es todo) (worklist fs left) leaves.0 leaves.1 leaves.2 rests-so q refl hl hr old new h same
-      (subst (λ (n : ℕ). Begins q n (recorded_in t) old.begun.items new.begun.items) (sym (worklist-length es todo)) b)
+      tracks-begun es fs kept t u grows (equation_trees es q) (worklist es todo) (worklist fs left) leaves.0 leaves.1 leaves.2 leaves.3.constraints leaves.4 q refl hl hr old new h same
+      (subst (λ (n : ℕ). Begins q n t.region_vars old.begun.items new.begun.items) (sym (worklist-length es todo)) b)
 
 -- an equation that needs nothing done is left out
-pub skip-tracks : (es : List Entry) (t : Table) (e : Trees × Trees) (w : Worklist) (r : Related) → Rests (content es t.values) [] (e ∷ []) → TracksOpen es t (e ∷ w) r → Tracks es t w r
-skip-tracks es t e w r h k = tracks-on es es (λ i x g. g) t t (grows-refl t) e w w [] refl (inl refl) (λ q. h) r k
+pub skip-tracks : (es : List Entry) (t : Table) (e : Trees × Trees) (w : Worklist) (r : Related) → RestsIn es t [] (e ∷ []) → TracksOpen es t (e ∷ w) r → Tracks es t w r
+skip-tracks es t e w r h k = tracks-on es es (λ i x g. g) t t (grows-refl t) e w w [] refl (inl refl) (none, sym (append-none (constraints_trees es t.constraints))) (λ q. h) r k
 
 -- ---- what is done
 -- the last pair that was begun
@@ -196,9 +166,9 @@ module _ (es : List Entry) (t : Table) (w : Worklist) where
   all-below [] b h lt = (lt, tt)
   all-below (x ∷ xs) b h lt = let p = (above-last x.left xs b h.1).1 in (omega (arith, p, lt), all-below xs b h.2 lt)
 
-  -- where it is done, and nothing was recorded since, it needs nothing done any more
-  pub done-settled : (b : Begun) → IsBegun es t w b → length w ≤ b.left → b.recorded ≡ recorded_in t → IsSettled es t b.pair
-  done-settled b h le r = record { held = h.held; rests = subst (λ (z : Worklist). Rests (content es t.values) z (pair_trees es b.pair ∷ [])) (by h.before h.list) (h.rests r) }
+  -- where it is done, and no lifetime was opened since, it needs nothing done any more
+  pub done-settled : (b : Begun) → IsBegun es t w b → length w ≤ b.left → b.lifetimes ≡ t.region_vars → IsSettled es t b.pair
+  done-settled b h le r = record { held = h.held; rests = subst (λ (z : Worklist). RestsIn es t z (pair_trees es b.pair ∷ [])) (by h.before h.list) (h.rests r) }
     where
       by : (before : Worklist) → w ≡ before ++ h.after → before ≡ []
       by [] q = refl
@@ -229,7 +199,7 @@ module _ (es : List Entry) (t : Table) (w : Worklist) (old : Related) (b : Begun
       first (y ∷ ys) g = (g.0, first ys g.1)
 
   -- it is done
-  pub is-done : (new : Related) → new.begun.items ≡ xs → length w ≤ b.left → b.recorded ≡ recorded_in t → ((p : Pair) → contains pair_eq new.settled p ≡ true → (contains pair_eq old.settled p ≡ true) ⊎ (p ≡ b.pair)) → Tracks es t w new
+  pub is-done : (new : Related) → new.begun.items ≡ xs → length w ≤ b.left → b.lifetimes ≡ t.region_vars → ((p : Pair) → contains pair_eq new.settled p ≡ true → (contains pair_eq old.settled p ≡ true) ⊎ (p ≡ b.pair)) → Tracks es t w new
   is-done new e le r one = record { settled = λ p c. by p (one p c); begun = subst (AreBegun es t w) (sym e) parts.0 }
     where
       by : (p : Pair) → (contains pair_eq old.settled p ≡ true) ⊎ (p ≡ b.pair) → IsSettled es t p
@@ -265,7 +235,7 @@ pairs-on es law [] w h g = g
 pairs-on es law (e ∷ todo) w h g = pairs-on es law todo (equation_trees es e ∷ w) h.2 (one-tree (arg_trees es e.left) (arg-term es law e.left h.0), one-tree (arg_trees es e.right) (arg-term es law e.right h.1), g)
 
 module _ (es : List Entry) (law : Lawful es) (t : Table) (ready : Ready es t) (todo : List Equation) (held : AreHeld es todo) (q : Equation) (hl : ArgHeld es q.left) (hr : ArgHeld es q.right)
-    (rests : Rests (content es t.values) [] (equation_trees es q ∷ [])) where
+    (rests : RestsIn es t [] (equation_trees es q ∷ [])) where
   one-pair : (w : Worklist) → ArePairsOfTrees is_numbered w → ArePairsOfTrees is_numbered (equation_trees es q ∷ w)
   one-pair w g = (one-tree (arg_trees es q.left) (arg-term es law q.left hl), one-tree (arg_trees es q.right) (arg-term es law q.right hr), g)
 

@@ -1,19 +1,20 @@
 -- Pairs of types that an equation has related, and what each of them rests on.
 use Rattle.std.specs.Prelude.{◌≡◌, ◌⊎◌, ◌+◌, ◌≤◌, ◌<◌, ◌&&◌, ℕ, zero, Bool, true, nat_eq, List, [], ◌∷◌, ◌++◌, length, Some, None}
 use Rattle.std.specs.HashSet.{contains}
+use Rattle.model.specs.Label.{of_lifetime}
 use Rattle.model.specs.Trees.{Trees, is_sort}
 use Rattle.model.specs.Codes.{same}
 use Rattle.type_terms.specs.Terms.{Entry, Has, types, trees_at}
 use Rattle.infer_table.specs.Solutions.{Binding, HasValues}
+use Rattle.infer_table.specs.Constraints.{constraints_trees}
 use Rattle.infer_table.specs.Content.{Table, content}
 use Rattle.infer_table.specs.Resolving.{followed}
-use Rattle.infer_table.specs.Unification.{Worklist, term_sort, variable_at, binds, head_of, parts_of, pairs}
+use Rattle.infer_table.specs.Unification.{Worklist, is_recorded, term_sort, variable_at, binds, head_of, parts_of, pairs}
 use Rattle.type_terms.specs.declared.kinds.Ty.{Ty}
 use Rattle.type_terms.specs.declared.kinds.GenericArgKind.TheVariants.{Ty as AType}
 use Rattle.infer_table.specs.declared.terms.Equation.{Equation}
 use Rattle.infer_table.specs.declared.related.Pair.{Pair}
 use Rattle.infer_table.specs.declared.related.Begun.{Begun}
-use Rattle.infer_table.specs.declared.related.Recorded.{Recorded}
 use Rattle.infer_table.specs.declared.related.Related.{Related}
 
 -- ---- what an equation rests on
@@ -25,14 +26,26 @@ pub record HasParts (x y : Trees) (ps : Worklist) : Type 0 where
   pub alone : binds x + binds y ≡ zero
   pub parts : (i j : ℕ) → pairs (parts_of i x) (parts_of j y) ≡ Some ps
 
--- Equations that need nothing done, once the open ones are done: two sides that are followed to one term, an open
--- equation, or one whose parts are such equations.
-pub data Rests : List Binding → Worklist → Worklist → Type 0 where
-  rest_none : {bs : List Binding} {waiting : Worklist} → Rests bs waiting []
-  rest_same : {bs : List Binding} {waiting rest : Worklist} (a b : Trees) → is_sort (term_sort a) (term_sort b) ≡ true → followed bs a ≡ followed bs b → Rests bs waiting rest → Rests bs waiting ((a, b) ∷ rest)
-  rest_waiting : {bs : List Binding} {waiting rest : Worklist} (before after : Worklist) (a b : Trees) → waiting ≡ before ++ (a, b) ∷ after → Rests bs waiting rest → Rests bs waiting ((a, b) ∷ rest)
-  rest_parts : {bs : List Binding} {waiting rest : Worklist} (a b : Trees) (ps : Worklist) → is_sort (term_sort a) (term_sort b) ≡ true → HasValues (term_sort a) → HasParts (followed bs a) (followed bs b) ps
-      → Rests bs waiting ps → Rests bs waiting rest → Rests bs waiting ((a, b) ∷ rest)
+-- two lifetimes of which it is recorded that they are to be equal
+pub record AreRecorded (bs : List Binding) (cs : Trees) (a b : Trees) : Type 0 where
+  pub lifetime : term_sort a ≡ of_lifetime
+  pub left : term_sort (followed bs a) ≡ of_lifetime
+  pub right : term_sort (followed bs b) ≡ of_lifetime
+  pub recorded : is_recorded (followed bs a) (followed bs b) cs ≡ true
+
+-- Equations that need nothing done, once the open ones are done: two sides that are followed to one term, two lifetimes that are
+-- recorded, an open equation, or one whose parts are such equations.
+pub data Rests : List Binding → Trees → Worklist → Worklist → Type 0 where
+  rest_none : {bs : List Binding} {cs : Trees} {waiting : Worklist} → Rests bs cs waiting []
+  rest_same : {bs : List Binding} {cs : Trees} {waiting rest : Worklist} (a b : Trees) → is_sort (term_sort a) (term_sort b) ≡ true → followed bs a ≡ followed bs b → Rests bs cs waiting rest → Rests bs cs waiting ((a, b) ∷ rest)
+  rest_recorded : {bs : List Binding} {cs : Trees} {waiting rest : Worklist} (a b : Trees) → is_sort (term_sort a) (term_sort b) ≡ true → AreRecorded bs cs a b → Rests bs cs waiting rest → Rests bs cs waiting ((a, b) ∷ rest)
+  rest_waiting : {bs : List Binding} {cs : Trees} {waiting rest : Worklist} (before after : Worklist) (a b : Trees) → waiting ≡ before ++ (a, b) ∷ after → Rests bs cs waiting rest → Rests bs cs waiting ((a, b) ∷ rest)
+  rest_parts : {bs : List Binding} {cs : Trees} {waiting rest : Worklist} (a b : Trees) (ps : Worklist) → is_sort (term_sort a) (term_sort b) ≡ true → HasValues (term_sort a) → HasParts (followed bs a) (followed bs b) ps
+      → Rests bs cs waiting ps → Rests bs cs waiting rest → Rests bs cs waiting ((a, b) ∷ rest)
+
+-- those of a table
+abbrev pub RestsIn : List Entry → Table → Worklist → Worklist → Type 0
+RestsIn es t = Rests (content es t.values) (constraints_trees es t.constraints)
 
 -- ---- pairs of handles
 abbrev pub pair_eq : Pair → Pair → Bool
@@ -44,26 +57,20 @@ pair_trees es p = (trees_at es p.left, trees_at es p.right)
 abbrev pub IsPairOfTypes : List Entry → Pair → Type 0
 IsPairOfTypes es p = Has es types p.left × Has es types p.right
 
--- how much of lifetimes the table holds
-abbrev pub recorded_in : Table → Recorded
-recorded_in t = record { lifetimes = t.region_vars; constraints = length t.constraints }
-
 -- a pair needs nothing done any more
 pub record IsSettled (es : List Entry) (t : Table) (p : Pair) : Type 0 where
   pub held : IsPairOfTypes es p
-  pub rests : Rests (content es t.values) [] (pair_trees es p ∷ [])
+  pub rests : RestsIn es t [] (pair_trees es p ∷ [])
 
--- A pair was begun before the equations that came after it: it rests on those before, unless a lifetime was opened or
--- recorded since.
+-- A pair was begun before the equations that came after it: it rests on those before, unless a lifetime was opened since.
 pub record IsBegun (es : List Entry) (t : Table) (todo : Worklist) (b : Begun) : Type 0 where
   pub before : Worklist
   pub after : Worklist
   pub list : todo ≡ before ++ after
   pub left : length after ≡ b.left
-  pub lifetimes : b.recorded.lifetimes ≤ t.region_vars
-  pub constraints : b.recorded.constraints ≤ length t.constraints
+  pub lifetimes : b.lifetimes ≤ t.region_vars
   pub held : IsPairOfTypes es b.pair
-  pub rests : b.recorded ≡ recorded_in t → Rests (content es t.values) before (pair_trees es b.pair ∷ [])
+  pub rests : b.lifetimes ≡ t.region_vars → RestsIn es t before (pair_trees es b.pair ∷ [])
 
 -- pairs that were begun later have no fewer equations after them
 abbrev pub AreAbove : ℕ → List Begun → Type 0
@@ -79,8 +86,8 @@ AreBegun es t todo [] = Unit {0}
 AreBegun es t todo (b ∷ rest) = IsBegun es t todo b × AreAbove b.left rest × AreBegun es t todo rest
 
 -- an equation of two types is begun, before so many others, or nothing is
-abbrev pub Begins : Equation → ℕ → Recorded → List Begun → List Begun → Type 0
-Begins e n r old new = (new ≡ old) ⊎ ((a b : Ty) × (e.left ≡ AType a) × (e.right ≡ AType b) × (new ≡ old ++ (record { pair = record { left = a.0; right = b.0 }; left = n; recorded = r }) ∷ []))
+abbrev pub Begins : Equation → ℕ → ℕ → List Begun → List Begun → Type 0
+Begins e n r old new = (new ≡ old) ⊎ ((a b : Ty) × (e.left ≡ AType a) × (e.right ≡ AType b) × (new ≡ old ++ (record { pair = record { left = a.0; right = b.0 }; left = n; lifetimes = r }) ∷ []))
 
 -- what is kept of the pairs is so
 pub record Tracks (es : List Entry) (t : Table) (todo : Worklist) (r : Related) : Type 0 where

@@ -2,10 +2,10 @@
 ghost use Rattle.std.specs.Prelude.{◌≡◌, ◌⊎◌, ◌∷◌, List, [], IsTrue, true, length};
 ghost use Rattle.std.specs.HashSet.{contains};
 ghost use Rattle.type_terms.specs.Terms.{Entry};
-ghost use Rattle.infer_table.specs.Content.{Table, content};
+ghost use Rattle.infer_table.specs.Content.{Table};
 ghost use Rattle.infer_table.specs.Unification.{Worklist};
 ghost use Rattle.infer_table.specs.Worklists.{equation_trees};
-ghost use Rattle.infer_table.specs.Related.{Rests, Tracks, TracksOpen, Begins, recorded_in, pair_eq};
+ghost use Rattle.infer_table.specs.Related.{RestsIn, Tracks, TracksOpen, Begins, pair_eq};
 
 use crate::terms::Equation;
 use std::alloc::Global;
@@ -22,34 +22,27 @@ pub struct Pair {
     pub right: u32,
 }
 
-/// How many variables of lifetimes a table has, and how many constraints on lifetimes.
-#[derive(Clone, Copy)]
-pub struct Recorded {
-    pub lifetimes: u32,
-    pub constraints: usize,
-}
-
-impl Recorded {
-    /// Nothing was recorded between the two.
-    fn is_same(self, other: Recorded) -> bool
-        ensures same { IsTrue result → self ≡ other }
-    {
-        self.lifetimes == other.lifetimes && self.constraints == other.constraints
-    }
-}
-
-/// A pair whose parts are being related: how many equations come after them, and what was recorded of lifetimes before.
+/// A pair whose parts are being related: how many equations come after them, and how many variables of lifetimes the table had before.
 #[derive(Clone, Copy)]
 pub struct Begun {
     pub pair: Pair,
     pub left: usize,
-    pub recorded: Recorded,
+    pub lifetimes: u32,
+}
+
+impl Begun {
+    /// No lifetime was opened since then, where the table has so many variables of lifetimes now.
+    fn opened_none(self, lifetimes: u32) -> bool
+        ensures { IsTrue result → self.lifetimes ≡ lifetimes }
+    {
+        self.lifetimes == lifetimes
+    }
 }
 
 /// The pairs of types that were related to their end, and those that were begun, the last one last.
 ///
-/// A pair that comes again needs nothing done: all that it asks for is done. It is not kept if lifetimes were opened or
-/// recorded while it was related, since each time that it comes they are opened or recorded anew.
+/// A pair that comes again needs nothing done: all that it asks for is done, and a constraint on lifetimes is recorded once. It is not
+/// kept if lifetimes were opened while it was related, since each time that it comes others are opened.
 #[derive(Drop)]
 pub struct Related {
     pub steps: u32,
@@ -71,7 +64,7 @@ impl Related {
 
     /// The equation is of a pair that was related to its end.
     pub fn is_settled(&self, equation: Equation) -> bool
-        ensures settled { IsTrue result → (es : List Entry) (t : Table) (todo : Worklist) → Tracks es t todo self.now → Rests (content es t.values) [] (equation_trees es equation ∷ []) }
+        ensures settled { IsTrue result → (es : List Entry) (t : Table) (todo : Worklist) → Tracks es t todo self.now → RestsIn es t [] (equation_trees es equation ∷ []) }
     {
         match equation.left {
             GenericArgKind::Ty(left) => match equation.right {
@@ -85,11 +78,11 @@ impl Related {
         }
     }
 
-    /// The pair of an equation of types is begun, whose parts come before so many other equations. What was recorded of
-    /// lifetimes is so much before it. The first pairs are not kept, nor is one for which memory is refused.
-    pub fn begin(&mut self, equation: Equation, left: usize, recorded: Recorded)
+    /// The pair of an equation of types is begun, whose parts come before so many other equations. The table had so many variables of
+    /// lifetimes before it. The first pairs are not kept, nor is one for which memory is refused.
+    pub fn begin(&mut self, equation: Equation, left: usize, lifetimes: u32)
         ensures settled { self.new.settled ≡ self.old.settled }
-        ensures begun { Begins equation left recorded self.old.begun.items self.new.begun.items }
+        ensures begun { Begins equation left lifetimes self.old.begun.items self.new.begun.items }
     {
         if self.steps < BEFORE {
             self.steps += 1;
@@ -105,7 +98,7 @@ impl Related {
                     let _ = self.begun.push(Begun {
                         pair,
                         left,
-                        recorded,
+                        lifetimes,
                     });
                 }
                 _ => {}
@@ -114,17 +107,17 @@ impl Related {
         }
     }
 
-    /// The pairs that were begun and have no parts left are related to their end, where so many equations are left. Those that
-    /// opened or recorded lifetimes are not kept.
-    pub fn finish(&mut self, left: usize, recorded: Recorded)
-        ensures tracks { (es : List Entry) (t : Table) (todo : Worklist) → Tracks es t todo self.old → length todo ≡ left → recorded ≡ recorded_in t → TracksOpen es t todo self.new }
+    /// The pairs that were begun and have no parts left are related to their end, where so many equations are left, and the table has so
+    /// many variables of lifetimes. Those that opened lifetimes are not kept.
+    pub fn finish(&mut self, left: usize, lifetimes: u32)
+        ensures tracks { (es : List Entry) (t : Table) (todo : Worklist) → Tracks es t todo self.old → length todo ≡ left → lifetimes ≡ t.region_vars → TracksOpen es t todo self.new }
     {
         'done: while let Some(last) = self.begun.pop() {
             if last.left < left {
                 let _ = self.begun.push(last);
                 return;
             }
-            if last.recorded.is_same(recorded) {
+            if last.opened_none(lifetimes) {
                 self.settle(last.pair);
             }
         }

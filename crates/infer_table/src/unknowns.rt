@@ -97,8 +97,12 @@ fn instantiate_in(
     Ok(Instantiated { goal, values })
 }
 
-/// A new unknown for each variable.
-fn next_values(
+/// A new unknown of the table for each variable of a canonical form, in their order: what `instantiate_canonical` puts into its goal.
+///
+/// The errors are the same. After one, some of the unknowns may be in the table.
+///
+/// `CanonicalVarValues::instantiate` of `rustc_type_ir`.
+pub fn next_values(
     alloc: Global,
     cx: &mut Interner,
     table: &mut InferCtxt,
@@ -109,6 +113,7 @@ fn next_values(
     ensures keeps { Keeps cx.old.entries cx.new.entries }
     ensures limit { cx.new.limit ≡ cx.old.limit }
     ensures held { IfOk result (λ xs. AreLeaves cx.new.entries xs.items) }
+    ensures args { IfOk result (λ xs. ArgsHeld cx.new.entries xs.items) }
     ensures unknowns { IfOk result (λ xs. labels cx.new.entries xs.items ≡ next_labels table.old 0 variables.now) }
     ensures made { OnOk result (table.new ≡ with_each table.old variables.now) }
     ensures grows { Grows table.old table.new }

@@ -4,6 +4,7 @@ use Rattle.infer_table.specs.Content.{Grows}
 use Rattle.infer_table.specs.Growth.{grows-trans}
 use Rattle.infer_table.specs.LeafLaws.{leaves-later, labels-later}
 use Rattle.infer_table.specs.Unknowns.{with_next}
+use Rattle.infer_table.proofs.LeafFacts.{leaves-held}
 use Rattle.infer_table.proofs.NewUnknowns.{leaves-push, one-more-label, one-more-made, next-grows}
 use Rattle.infer_table.proofs.Refusals.{handed-on, one-is-missing}
 use Rattle.infer_table.proofs.unknowns.next_values.Goals as goal
@@ -38,3 +39,6 @@ pub returns-in_err-value-clause-full : goal.returns-in_err-value-clause-full
 returns-in_err-value-clause-full c = λ q.
     one-is-missing c.args.table.now c.variables.table c.args.variables.now c.variables.place Ty c.variables-test.true c.variables.invariant.made
     (handed-on c.from_residual.result c.from_residual.ensures.1 (λ p. c.in_err-value.ensures.full (ap Err p)) q)
+
+pub returns-clause-args : goal.returns-clause-args
+returns-clause-args c = leaves-held c.variables.cx.entries c.variables.values.items c.variables.invariant.held

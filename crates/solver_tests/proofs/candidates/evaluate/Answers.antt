@@ -1,9 +1,5 @@
-use Rattle.infer_table.proofs.Numbers.{goal-held-later}
 use Rattle.evaluation.proofs.Contexts.{replies-later}
 use Rattle.solver_tests.proofs.candidates.evaluate.Goals as goal
-
-pub evaluate_candidate-requires-clause-goal : goal.evaluate_candidate-requires-clause-goal
-evaluate_candidate-requires-clause-goal c = goal-held-later c.question.new.cx.entries c.candidate.new.cx.entries c.candidate.ensures.keeps c.in_ok-input.input.goal c.in_ok-input.ensures.held
 
 pub evaluate_candidate-requires-clause-replies : goal.evaluate_candidate-requires-clause-replies
 evaluate_candidate-requires-clause-replies c =

@@ -1,8 +1,7 @@
 use Rattle.std.proofs.Common.{◌≡◌, ◌∙◌, refl, sym, ap, subst, ◌∷◌, [], ◌++◌, ℕ, inl, length, arith}
 use Rattle.infer_table.specs.Worklists.{equation_trees, worklist}
-use Rattle.infer_table.specs.Related.{Tracks, recorded_in, Begins}
+use Rattle.infer_table.specs.Related.{Tracks, Begins}
 use Rattle.infer_table.specs.declared.related.Related.{Related}
-use Rattle.infer_table.specs.declared.related.Recorded.{Recorded}
 use Rattle.infer_table.proofs.RunFacts.{stands-on}
 use Rattle.infer_table.proofs.FullFacts.{runs-out-later}
 use Rattle.infer_table.proofs.RelatedSteps.{worklist-length, skip-tracks, skip-stands, skip-out, skip-same, skip-advances, step-tracks, handed-same}
@@ -16,7 +15,7 @@ returns-then-is_settled-clause-tracked c =
     let w = worklist es c.args.todo.now.items in
     let r = c.requires.tracked in
     let rests = c.is_settled.ensures.settled c.if-is_settled.true es t (equation_trees es c.args.equation ∷ w) r.tracked in
-    c.finish.ensures.tracks es t w (skip-tracks es t (equation_trees es c.args.equation) w c.args.related.now rests r) (let a = worklist-length es c.args.todo.now.items in let b = c.len-left.ensures in omega (arith, a, b)) c.recorded.ensures
+    c.finish.ensures.tracks es t w (skip-tracks es t (equation_trees es c.args.equation) w c.args.related.now rests r) (let a = worklist-length es c.args.todo.now.items in let b = c.len-left.ensures in omega (arith, a, b)) c.num_region_vars.ensures
 
 pub returns-then-is_settled-clause-same : goal.returns-then-is_settled-clause-same
 returns-then-is_settled-clause-same c =
@@ -57,18 +56,18 @@ returns-clause-tracked c =
     let u = c.equate.new.self in
     let before = c.args.todo.now.items in
     let left = c.equate.new.todo.items in
-    let on : (new : Related) → new.settled ≡ c.args.related.now.settled → Begins c.args.equation (length before) (recorded_in t) c.args.related.now.begun.items new.begun.items → Tracks fs u (worklist fs left) new =
+    let on : (new : Related) → new.settled ≡ c.args.related.now.settled → Begins c.args.equation (length before) t.region_vars c.args.related.now.begun.items new.begun.items → Tracks fs u (worklist fs left) new =
     λ new.
     step-tracks es fs c.lawful.ensures c.equate.ensures.keeps t u c.requires.ready c.equate.ensures.grows c.args.equation c.requires.left c.requires.right before left c.in_ok-found.found c.in_ok-found.ensures.exact
     c.args.related.now new c.requires.tracked in
     c.finish-2.ensures.tracks fs u (worklist fs left)
     (elim c.if-len-left.branch [
       | then-len-left w ↦ on c.if-len-left.related (ap (λ (r : Related). r.settled) w.related-is ∙ w.begin.ensures.settled)
-          (subst (λ (r : Related). Begins c.args.equation (length before) (recorded_in t) c.args.related.now.begun.items r.begun.items) (sym w.related-is)
-          (subst (λ (n : ℕ). Begins c.args.equation n (recorded_in t) c.args.related.now.begun.items w.begin.new.self.begun.items) (let b = c.len-left.ensures in omega (arith, b))
-          (subst (λ (r : Recorded). Begins c.args.equation c.len-left.result r c.args.related.now.begun.items w.begin.new.self.begun.items) c.recorded-recorded.ensures w.begin.ensures.begun)))
+          (subst (λ (r : Related). Begins c.args.equation (length before) t.region_vars c.args.related.now.begun.items r.begun.items) (sym w.related-is)
+          (subst (λ (n : ℕ). Begins c.args.equation n t.region_vars c.args.related.now.begun.items w.begin.new.self.begun.items) (let b = c.len-left.ensures in omega (arith, b))
+          (subst (λ (r : ℕ). Begins c.args.equation c.len-left.result r c.args.related.now.begun.items w.begin.new.self.begun.items) c.num_region_vars-lifetimes.ensures w.begin.ensures.begun)))
       | else-len-left w ↦ on c.if-len-left.related (ap (λ (r : Related). r.settled) w.related-is) (inl (ap (λ (r : Related). r.begun.items) w.related-is))
-    ]) (let a = worklist-length fs left in let b = c.len-2.ensures in omega (arith, a, b)) c.recorded-2.ensures
+    ]) (let a = worklist-length fs left in let b = c.len-2.ensures in omega (arith, a, b)) c.num_region_vars-2.ensures
 
 pub returns-clause-exact : goal.returns-clause-exact
 returns-clause-exact c = λ end s.

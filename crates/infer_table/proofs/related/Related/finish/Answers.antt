@@ -13,17 +13,17 @@ returns-then-last-left c = record {
       stays-open es t todo c.done.self c.in-Some.last c.pop.new.self.items (c.done.invariant es t todo h n r) (c.in-Some.ensures.items) (record c.done.self { begun = c.push.new.self }) refl (is_ok c.push.result) c.push.ensures.items (omega (arith, n, lt));
 }
 
-pub done-smaller-then-is_same : goal.done-smaller-then-is_same
-done-smaller-then-is_same c =
+pub done-smaller-then-opened_none : goal.done-smaller-then-opened_none
+done-smaller-then-opened_none c =
     let e = ap length c.in-Some.ensures.items in
     let l = length-append c.pop.new.self.items (c.in-Some.last ∷ []) in
     let s = ap (λ (v : Vec Begun Global). length v.items) c.settle.ensures.begun in
     omega (arith, e, l, s)
 
-pub done-preserved-then-is_same : goal.done-preserved-then-is_same
-done-preserved-then-is_same c = λ es t todo h n r.
+pub done-preserved-then-opened_none : goal.done-preserved-then-opened_none
+done-preserved-then-opened_none c = λ es t todo h n r.
     let le = c.if-last-left.false in
-    is-done es t todo c.done.self c.in-Some.last c.pop.new.self.items (c.done.invariant es t todo h n r) c.in-Some.ensures.items c.settle.new.self (ap (λ v. v.items) c.settle.ensures.begun) (omega (arith, n, le)) (c.is_same.ensures.same c.if-is_same.true ∙ r) c.settle.ensures.one
+    is-done es t todo c.done.self c.in-Some.last c.pop.new.self.items (c.done.invariant es t todo h n r) c.in-Some.ensures.items c.settle.new.self (ap (λ v. v.items) c.settle.ensures.begun) (omega (arith, n, le)) (c.opened_none.ensures c.if-opened_none.true ∙ r) c.settle.ensures.one
 
 pub done-smaller : goal.done-smaller
 done-smaller c =
