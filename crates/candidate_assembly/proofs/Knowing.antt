@@ -1,6 +1,6 @@
 -- Walks do not see lifetimes, and where all names of a reference are declared so is what its walk meets.
 use Rattle.std.proofs.Common.{◌≡◌, ◌<◌, arith, ℕ, refl, sym, ap, subst, ◌∙◌, Bool, true, false, ◌&&◌, ◌||◌, not, if◌then◌else◌, List, [], ◌∷◌, ◌++◌, map, Option, Some, None, cond}
-use Rattle.std.specs.Prelude.{◌==◌, filter, Result, Ok, Err}
+use Rattle.std.specs.Prelude.{◌==◌, filter, Result, Ok, Err, is_ok}
 use Rattle.std.specs.List.{list_any, list_all}
 use Rattle.model.specs.Label.{of_type, of_const, of_lifetime, adt, ref, dynamic, principal, param, placeholder, infer, canonical, bound, value, static}
 use Rattle.model.specs.Trees.{Trees, none, tree, some_node, depth}
@@ -327,13 +327,17 @@ module _ (es : List Entry) (d : Items) (r : TraitRef) where
     known : (b : Result (Result (Unit {0}) Conflict) (WalkError E)) → a ≡ b → IsKnown (declared es d) d.local limit own b
     known b e = subst (λ x. IsKnown (declared es d) d.local limit x b) (unread t none_has) (subst (IsKnownOf es d t limit r) e h)
 
-    pub known-yes : (x : Result (Unit {0}) Conflict) (u : Unit {0}) → a ≡ Ok x → x ≡ Ok u → written_in W own ≡ true → true ≡ is_knowable W d.local own
+    known-yes : (x : Result (Unit {0}) Conflict) (u : Unit {0}) → a ≡ Ok x → x ≡ Ok u → written_in W own ≡ true → true ≡ is_knowable W d.local own
     known-yes x u e f w = sym (sym (knowable-same W d.local own) ∙ known (Ok (Ok u)) (e ∙ ap Ok f) (written-same W own ∙ written-walk W own w))
 
-    pub known-no : (x : Result (Unit {0}) Conflict) (y : Conflict) → a ≡ Ok x → x ≡ Err y → false ≡ is_knowable W d.local own
+    known-no : (x : Result (Unit {0}) Conflict) (y : Conflict) → a ≡ Ok x → x ≡ Err y → false ≡ is_knowable W d.local own
     known-no x Downstream e f =
         never-both (is_known_in W d.local own) ∙ sym (ap (λ b. is_known_in W d.local own && not b) (sym (open-same W own) ∙ known (Ok (Err Downstream)) (e ∙ ap Ok f)))
     known-no x Upstream e f = sym (ap (λ b. b && not (meets_open W own)) (sym (known-same W d.local own) ∙ (known (Ok (Err Upstream)) (e ∙ ap Ok f)).1))
+
+    pub known-by : (x : Result (Unit {0}) Conflict) → a ≡ Ok x → (b : Bool) → b ≡ is_ok x → written_in W own ≡ true → b ≡ is_knowable W d.local own
+    known-by (Ok u) e b f w = f ∙ known-yes (Ok u) u e refl w
+    known-by (Err y) e b f w = f ∙ known-no (Err y) y e refl
 
     pub never-deep : (x : WalkError E) → a ≡ Err x → x ≡ Deep → limit ≡ depth (trees_at es r.args.0) → ⊥
     never-deep x e f k = let deep : limit < depth (trees_at es r.args.0) = known (Err Deep) (e ∙ ap Err f) in omega (arith, deep, k)

@@ -1,5 +1,5 @@
 //! Which goals are known to the crate that asks.
-ghost use Rattle.std.specs.Prelude.{◌≡◌, ◌==◌, ◌&&◌, ◌||◌, true, IfOk, IfErr};
+ghost use Rattle.std.specs.Prelude.{◌≡◌, ◌==◌, ◌&&◌, ◌||◌, true, is_ok, IfOk, IfErr};
 ghost use Rattle.model.specs.Walks.{trait_is};
 ghost use Rattle.model.specs.Answers.{is_closed, written_in};
 ghost use Rattle.type_terms.specs.Terms.{trees_at};
@@ -11,7 +11,7 @@ ghost use Rattle.assembly_laws.specs.Knowing.{is_knowable};
 use crate::visitors::has_open_places;
 use declarations::declarations::Declarations;
 use infer_table::infer_ctxt::InferCtxt;
-use orphan_check::errors::WalkError;
+use orphan_check::errors::{Conflict, WalkError};
 use orphan_check::knowable::trait_ref_is_knowable;
 use orphan_check::normalize::AlreadyNormal;
 use std::alloc::Global;
@@ -28,6 +28,13 @@ fn is_own_and_closed(cx: &Interner, declarations: &Declarations, trait_ref: Trai
 {
     declarations.trait_ref_is_local_or_fundamental(trait_ref)
         && !has_open_places(cx, trait_ref.args)
+}
+
+/// Whether the walks' answer says that no other crate may write an impl: neither the trait's in a later version, nor one that uses this.
+fn is_known(answer: Result<(), Conflict>) -> bool
+    ensures { result ≡ is_ok answer }
+{
+    answer.is_ok()
 }
 
 /// Whether all impls that could apply to the reference are known to the crate that asks, whatever its variables stand for: no other crate
@@ -59,10 +66,7 @@ pub fn is_knowable(
         limit,
         &AlreadyNormal,
     ) {
-        Ok(answer) => match answer {
-            Ok(()) => Ok(true),
-            Err(_) => Ok(false),
-        },
+        Ok(answer) => Ok(is_known(answer)),
         Err(error) => match error {
             WalkError::Memory => Err(Fault::Memory),
             WalkError::Deep => unreachable!(),

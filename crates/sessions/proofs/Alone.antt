@@ -20,6 +20,7 @@ use Rattle.infer_table.specs.declared.certainty.TypingMode.TheVariants.{Coherenc
 use Rattle.infer_table.specs.declared.goal.Goal.{Goal}
 use Rattle.evaluation.specs.Handler.{Handled}
 use Rattle.evaluation.specs.Tables.{frame_tables}
+use Rattle.root_goals.specs.Contexts.{Asked}
 use Rattle.root_goals.specs.Roots.{goal_in, fact_under, IsPosed, AtProvedSolutions}
 use Rattle.text_definitions.specs.Declarations.{Question}
 use Rattle.view_lowering.specs.Plain.{unbound_reference}
@@ -41,6 +42,10 @@ alone-is es goal r e f = same-goal _ _ _ _ (ap (environment_trees es) e) (ap (λ
 module _ (es : List Entry) (t : Table) (goal : Goal) (g : GoalTrees) (no_values : t.values ≡ []) (is : goal_trees es goal ≡ g) where
   pub resolved-is : goal_in es t goal ≡ g
   resolved-is = ap (λ vs. goal_resolved (content es vs) (goal_trees es goal)) no_values ∙ is
+
+  -- what is said of what was asked is said of the reference alone
+  pub asked-is : (P : Asked → Type 0) → P (Coherence, canonical_form (goal_in es t goal)) → P (Coherence, canonical_form g)
+  asked-is P x = subst (λ z. P (Coherence, canonical_form z)) resolved-is x
 
   pub no-proof : (handled : TypingMode → CanonicalForm → Handled frame_tables) → AtProvedSolutions handled Coherence es t goal (λ s. ⊥) → HasNoCanonical g.environment → HasNoCanonical g.predicate
       → AreKnown (variables_of t) g.environment → AreKnown (variables_of t) g.predicate → HasNoProof handled g

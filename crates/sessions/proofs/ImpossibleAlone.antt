@@ -1,5 +1,6 @@
 -- A reference that is asked alone, as a goal in code, and while a context grows.
-use Rattle.std.proofs.Common.{◌≡◌, ◌⊎◌, ◌+◌, ℕ, Bool, List, [], refl, sym, ◌∙◌, ap, subst, Option, Some}
+use Rattle.std.proofs.Common.{◌≡◌, ◌⊎◌, inl, inr, ◌+◌, ℕ, Bool, true, false, List, [], refl, sym, ◌∙◌, ap, subst, Option, Some, Result, Ok, Err}
+use Rattle.std.specs.Prelude.{IfOk, IsTrue}
 use Rattle.model.specs.Label.{Sort, of_trait, predicate}
 use Rattle.model.specs.Trees.{none, tree}
 use Rattle.model.specs.Worlds.{Reference}
@@ -33,12 +34,40 @@ use Rattle.goal_frames.specs.declared.frame.GoalFrame.{GoalFrame}
 use Rattle.goal_frames.specs.declared.store.InputId.{InputId}
 use Rattle.goal_frames.specs.declared.store.ResponseId.{ResponseId}
 use Rattle.root_goals.specs.declared.context.SolverCx.{SolverCx}
+use Rattle.root_goals.specs.declared.outcome.GoalEvaluation.{GoalEvaluation}
+use Rattle.root_goals.specs.declared.outcome.RootError.{RootError}
+use Rattle.root_goals.specs.declared.outcome.RootError.TheVariants.{Conflict}
 use Rattle.root_goals.specs.Contexts.{Asked, entries_of}
 use Rattle.root_goals.specs.Evaluations.{IsFound, asked_in}
 use Rattle.root_goals.specs.Roots.{AtProvedSolutions, goal_in, fact_under, values_in}
 use Rattle.root_goals.specs.Searching.{solver_meaning}
 use Rattle.root_goals.specs.Shortages.{RootRunsOut, HasNoForm, form, answer}
-use Rattle.sessions.specs.Impossible.{alone, resolved_alone, asked_alone, HasNoProof, IsImpossible, IsAnswered, IsLeftOpen, GoalRunsOut}
+use Rattle.sessions.specs.Impossible.{alone, resolved_alone, asked_alone, HasNoProof, IsImpossible, IsAnswered, IsLeftOpen, IsNoRefusal, GoalRunsOut}
+
+-- ---- what became of a goal
+-- what holds where a call says true, or false
+pub if-true : (E : Type 0) (P : Type 0) (r : Result Bool E) → (r ≡ Ok true → P) → IfOk r (λ b. IsTrue b → P)
+if-true E P (Ok true) f = λ _. f refl
+if-true E P (Ok false) f = λ e. absurd (never e)
+  where
+    never : IsTrue false → ⊥
+    never e = cc
+if-true E P (Err e) f = tt
+
+pub if-false : (E : Type 0) (P : Type 0) (r : Result Bool E) → (r ≡ Ok false → P) → IfOk r (λ b. b ≡ false → P)
+if-false E P (Ok false) f = λ _. f refl
+if-false E P (Ok true) f = λ e. absurd (never e)
+  where
+    never : true ≡ false → ⊥
+    never e = cc
+if-false E P (Err e) f = tt
+
+-- what is no refusal has an answer, or is a conflict
+pub left-open : (P : GoalEvaluation → Type 0) (A Q : Type 0) (e : Result GoalEvaluation RootError) → IfOk e P → ((x : GoalEvaluation) → P x → A) → (e ≡ Err Conflict → Q) → IsNoRefusal e → A ⊎ Q
+left-open P A Q (Ok x) h f g (inl k) = inl (f x h)
+left-open P A Q (Ok x) h f g (inr k) = cc
+left-open P A Q (Err c) h f g (inl k) = cc
+left-open P A Q (Err c) h f g (inr k) = inr (g k)
 
 -- ---- what was asked, as a goal in code
 -- a goal without where-clauses is its reference alone
@@ -106,6 +135,11 @@ module _ {World Handler : Type 0} (handled : World → TypingMode → CanonicalF
 
   abbrev OpenAt : World → ℕ → Asked → Type 0
   OpenAt w depth g = ((a : AnswerTrees) × AnsweredAt a w depth g) ⊎ IsNotPlain m w (depth + 1) g
+
+  -- a goal in code is left open as its reference alone is
+  pub still-open : (c : SolverCx Handler) (s : SearchState) (t : Table) (g : Goal) (r : TraitRef) → goal_trees (entries_of c) g ≡ alone (reference_in (entries_of c) r)
+      → OpenAt (m.world c) s.root_depth (asked_in Coherence (entries_of c) t g) → IsLeftOpen handled Rule coinductive ready meaning_of c s t r
+  still-open c s t g r e x = subst (λ z. OpenAt (m.world c) s.root_depth (Coherence, canonical_form z)) (ap (goal_resolved (content (entries_of c) t.values)) e) x
 
   at-all : (P : World → ℕ → Asked → Type 0) (w v : World) (d e : ℕ) (g h : Asked) → w ≡ v → d ≡ e → g ≡ h → P w d g → P v e h
   at-all P w v d e g h p q r x = subst (λ z. P z e h) p (subst (λ z. P w z h) q (subst (P w d) r x))

@@ -1,5 +1,5 @@
 -- References that are asked alone, in coherence and without where-clauses.
-use Rattle.std.specs.Prelude.{◌⊎◌, Bool, List, Some}
+use Rattle.std.specs.Prelude.{◌≡◌, ◌⊎◌, Bool, List, Some, Result, Err, IsOk}
 use Rattle.model.specs.Label.{of_trait, predicate}
 use Rattle.model.specs.Trees.{none, tree}
 use Rattle.model.specs.Worlds.{Reference}
@@ -21,6 +21,9 @@ use Rattle.evaluation.specs.Handler.{Handled}
 use Rattle.evaluation.specs.Tables.{frame_tables}
 use Rattle.search_graph.specs.SearchState.{SearchState}
 use Rattle.root_goals.specs.declared.context.SolverCx.{SolverCx}
+use Rattle.root_goals.specs.declared.outcome.GoalEvaluation.{GoalEvaluation}
+use Rattle.root_goals.specs.declared.outcome.RootError.{RootError}
+use Rattle.root_goals.specs.declared.outcome.RootError.TheVariants.{Conflict}
 use Rattle.root_goals.specs.Contexts.{Asked, entries_of}
 use Rattle.root_goals.specs.Evaluations.{IsFound}
 use Rattle.root_goals.specs.Results.{IsNotPlainWithin}
@@ -39,6 +42,10 @@ resolved_alone es t r = goal_resolved (content es t.values) (alone (reference_in
 -- What is asked of the search.
 abbrev pub asked_alone : List Entry → Table → TraitRef → Asked
 asked_alone es t r = (Coherence, canonical_form (resolved_alone es t r))
+
+-- What became of a goal is an answer, or that two answers to some goal differ: neither refuses it.
+abbrev pub IsNoRefusal : Result GoalEvaluation RootError → Type 0
+IsNoRefusal e = IsOk e ⊎ (e ≡ Err Conflict)
 
 -- In none of the worlds in which a handler looks for its solutions has the goal a proof, at any solution of the table, if both speak of
 -- the table's own unknowns.

@@ -1,6 +1,6 @@
 //! The headers of a crate's impls, and the pairs that it brings together.
 
-ghost use Rattle.std.specs.Prelude.{◌≡◌, ◌≤◌, ◌+◌, ℕ, IfOk, IfSome, Ok, None};
+ghost use Rattle.std.specs.Prelude.{◌≡◌, ◌≤◌, ◌+◌, ℕ, not, IfOk, IfSome, Ok, None};
 ghost use Rattle.type_terms.specs.Terms.{Keeps};
 ghost use Rattle.type_terms.specs.declared.TheConstants.{MAX_INDEX};
 ghost use Rattle.declarations.specs.Items.{IsAbove};
@@ -98,5 +98,12 @@ pub(crate) fn overlap_at(
         return Ok(false);
     };
     let refused = has_impossible_obligation(graph, cache, cx, &mut found)?;
-    Ok(!refused)
+    Ok(is_overlap(refused))
+}
+
+/// Whether a pair whose headers have a common instance overlaps, where a where-clause of it was found impossible there, or none.
+fn is_overlap(has_impossible_obligation: bool) -> bool
+    ensures { result ≡ not has_impossible_obligation }
+{
+    !has_impossible_obligation
 }

@@ -1,5 +1,5 @@
 //! One goal, asked alone.
-ghost use Rattle.std.specs.Prelude.{◌≡◌, ◌⊎◌, IsTrue, false, IfOk, Err};
+ghost use Rattle.std.specs.Prelude.{◌≡◌, ◌⊎◌, IsTrue, true, false, IfOk, IfErr, Ok, Err};
 ghost use Rattle.type_terms.specs.Terms.{Keeps};
 ghost use Rattle.infer_table.specs.Content.{Ready};
 ghost use Rattle.declarations.specs.Held.{ReferenceHeld};
@@ -7,13 +7,13 @@ ghost use Rattle.search_graph.specs.Cache.{AreJustified, AreConsistent, KeepsRes
 ghost use Rattle.search_graph.specs.Meaning as Search;
 ghost use Rattle.root_goals.specs.Contexts.{IsReady};
 ghost use Rattle.root_goals.specs.Searching.{solver_meaning, IsFull};
-ghost use Rattle.sessions.specs.Impossible.{IsImpossible, IsLeftOpen, GoalRunsOut};
+ghost use Rattle.sessions.specs.Impossible.{IsImpossible, IsLeftOpen, IsNoRefusal, GoalRunsOut};
 
 use evaluation::TypingMode;
 use goal_frames::GoalHandler;
 use infer_table::goal::Goal;
 use infer_table::infer_ctxt::InferCtxt;
-use root_goals::{RootError, SolverCx, SolverGraph, evaluate_root_goal};
+use root_goals::{GoalEvaluation, RootError, SolverCx, SolverGraph, evaluate_root_goal};
 use search_graph::{GlobalCache, SearchGraph};
 use term_folds::predicate::{TraitPredicate, TraitRef};
 use type_terms::Fault;
@@ -59,6 +59,38 @@ pub fn is_impossible<H: GoalHandler>(
     ensures full { result ≡ Err Fault.Full → IsFull H.handled H.Rule H.coinductive H.ready H.meaning cx.new
         ⊎ GoalRunsOut H.handled H.Rule H.coinductive H.ready H.meaning cx.old graph.old table.old trait_ref }
 {
+    let evaluated = evaluate_alone(graph, cache, cx, table, trait_ref);
+    is_refused(evaluated)
+}
+
+/// What becomes of a reference that is asked in coherence, alone over the table and without where-clauses. The values of its answer are
+/// taken back.
+fn evaluate_alone<H: GoalHandler>(
+    graph: &mut SearchGraph<SolverGraph<H>>,
+    cache: &mut GlobalCache<SolverGraph<H>>,
+    cx: &mut SolverCx<H>,
+    table: &mut InferCtxt,
+    trait_ref: TraitRef,
+) -> Result<GoalEvaluation, RootError>
+    requires empty { graph.old.current_depth ≡ 0 }
+    requires cache { AreJustified (solver_meaning H.handled H.Rule H.coinductive H.ready H.meaning) cx.old cache.old }
+    requires ready { IsReady H.ready cx.old }
+    requires table { Ready cx.old.interner.entries table.old }
+    requires held { ReferenceHeld cx.old.interner.entries trait_ref }
+    ensures empty { graph.new.current_depth ≡ 0 }
+    ensures depth { graph.new.root_depth ≡ graph.old.root_depth }
+    ensures cache { AreJustified (solver_meaning H.handled H.Rule H.coinductive H.ready H.meaning) cx.new cache.new }
+    ensures consistent { AreConsistent cache.old → AreConsistent cache.new }
+    ensures results { KeepsResults cache.old cache.new }
+    ensures ready { IsReady H.ready cx.new }
+    ensures keeps { Search.Keeps (solver_meaning H.handled H.Rule H.coinductive H.ready H.meaning) cx.old cx.new }
+    ensures entries { Keeps cx.old.interner.entries cx.new.interner.entries }
+    ensures same { table.new ≡ table.old }
+    ensures impossible { result ≡ Err RootError.NoSolution → IsImpossible H.handled H.meaning cx.old table.old trait_ref }
+    ensures left_open { IsNoRefusal result → IsLeftOpen H.handled H.Rule H.coinductive H.ready H.meaning cx.old graph.old table.old trait_ref }
+    ensures full { result ≡ Err (RootError.Fault Fault.Full) → IsFull H.handled H.Rule H.coinductive H.ready H.meaning cx.new
+        ⊎ GoalRunsOut H.handled H.Rule H.coinductive H.ready H.meaning cx.old graph.old table.old trait_ref }
+{
     let goal = Goal {
         param_env: Vec::new(cx.alloc),
         predicate: TraitPredicate { trait_ref },
@@ -66,6 +98,16 @@ pub fn is_impossible<H: GoalHandler>(
     let place = table.snapshot();
     let evaluated = evaluate_root_goal(graph, cache, cx, table, TypingMode::Coherence, &goal);
     table.roll_back(place);
+    evaluated
+}
+
+/// Whether what became of a goal is that it has no solution: any answer leaves it open, and a conflict refuses nothing. A fault says
+/// nothing of the goal.
+fn is_refused(evaluated: Result<GoalEvaluation, RootError>) -> Result<bool, Fault>
+    ensures refused { result ≡ Ok true → evaluated ≡ Err RootError.NoSolution }
+    ensures left_open { result ≡ Ok false → IsNoRefusal evaluated }
+    ensures fault { IfErr result (λ fault. evaluated ≡ Err (RootError.Fault fault)) }
+{
     match evaluated {
         Ok(_) => Ok(false),
         Err(RootError::NoSolution) => Ok(true),

@@ -1,6 +1,6 @@
 //! Questions whether a reference has a proof wherever the asking crate is linked.
 
-ghost use Rattle.std.specs.Prelude.{◌≡◌, [], true, Ok, OnOk};
+ghost use Rattle.std.specs.Prelude.{◌≡◌, [], true, Ok, Err, OnOk, IfErr};
 ghost use Rattle.type_terms.specs.Made.{terms, is_made, is_in_range};
 ghost use Rattle.type_terms.specs.Terms.{Has, Keeps, args_lists};
 ghost use Rattle.declarations.specs.Items.{reference_in};
@@ -12,6 +12,7 @@ ghost use Rattle.view_lowering.specs.Plain.{unbound_reference};
 ghost use Rattle.view_lowering.specs.Questions.{IsQuestion, IsLowered};
 ghost use Rattle.view_lowering.specs.QuestionVariables.{HasVariablesAlone};
 ghost use Rattle.sessions.specs.Asking.{HasNoProof, IsLeftOpen, IsRefusedAlone, goal_alone};
+ghost use Rattle.sessions.specs.Impossible.{IsNoRefusal};
 ghost use Rattle.sessions.specs.Resting.{AreAtRest};
 
 use crate::answers::RefuteAnswer;
@@ -21,7 +22,7 @@ use evaluation::TypingMode;
 use goal_frames::GoalHandler;
 use infer_table::goal::Goal;
 use infer_table::infer_ctxt::InferCtxt;
-use root_goals::{RootError, SolverCx, SolverGraph, evaluate_root_goal};
+use root_goals::{GoalEvaluation, RootError, SolverCx, SolverGraph, evaluate_root_goal};
 use search_graph::{GlobalCache, SearchGraph};
 use term_folds::predicate::{TraitPredicate, TraitRef};
 use type_terms::Fault;
@@ -58,7 +59,17 @@ fn ask_in_coherence<H: GoalHandler>(
         param_env: Vec::new(cx.alloc),
         predicate: TraitPredicate { trait_ref: asked },
     };
-    match evaluate_root_goal(graph, cache, cx, table, TypingMode::Coherence, &goal) {
+    let evaluated = evaluate_root_goal(graph, cache, cx, table, TypingMode::Coherence, &goal);
+    answer_of(evaluated)
+}
+
+/// What is answered to a question that was asked in coherence: `No` where there is no solution, and else `Open`, after a conflict too.
+fn answer_of(evaluated: Result<GoalEvaluation, RootError>) -> Result<RefuteAnswer, Fault>
+    ensures no { result ≡ Ok RefuteAnswer.No → evaluated ≡ Err RootError.NoSolution }
+    ensures open { result ≡ Ok RefuteAnswer.Open → IsNoRefusal evaluated }
+    ensures fault { IfErr result (λ fault. evaluated ≡ Err (RootError.Fault fault)) }
+{
+    match evaluated {
         Ok(_) => Ok(RefuteAnswer::Open),
         Err(RootError::NoSolution) => Ok(RefuteAnswer::No),
         Err(RootError::Conflict) => Ok(RefuteAnswer::Open),

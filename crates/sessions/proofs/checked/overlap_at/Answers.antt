@@ -1,6 +1,7 @@
-use Rattle.std.proofs.Common.{rules, ◌≡◌, Ok, None, subst}
+use Rattle.std.proofs.Common.{rules, ◌≡◌, Ok, None, sym, subst}
 use Rattle.std.specs.Prelude.{IfSome}
-use Rattle.sessions.specs.Checking.{IsFoundAt, solving_in}
+use Rattle.sessions.specs.Checking.{IsFoundAt, IsJudgedAt, solving_in}
+use Rattle.sessions.specs.Promises.{view_in}
 use Rattle.sessions.proofs.PairChecks.{apart-passes, judged}
 use Rattle.sessions.proofs.checked.overlap_at.Goals as goal
 
@@ -27,6 +28,7 @@ returns-clause-judged c = λ d n depth s.
     let old = c.args.cx.now.interner.entries in
     let new = c.intersection_at.new.cx.interner.entries in
     let at = subst (λ o. IfSome o (IsFoundAt old c.args.cx.now.handler.declarations c.args.later c.args.earlier new)) c.in-Some.is c.in_ok-found.ensures.found in
-    judged d n depth c.args.cx.now c.args.graph.now c.args.cache.now s c.args.later c.args.earlier new c.in-Some.found at c.intersection_at.ensures.advances.ready.lawful c.ready_impls_are_written_well.ensures
+    subst (IsJudgedAt depth (view_in d n) n c.args.later.index c.args.earlier.index) (sym c.is_overlap.ensures)
+    (judged d n depth c.args.cx.now c.args.graph.now c.args.cache.now s c.args.later c.args.earlier new c.in-Some.found at c.intersection_at.ensures.advances.ready.lawful c.ready_impls_are_written_well.ensures
     c.open_pair_goals_are_possible.ensures c.requires.rest.ready.lawful (solving_in c.intersection_at.new.cx) (c.rest_laws.ensures.meaning c.args.cx.now c.intersection_at.new.cx c.requires.rest.ready c.intersection_at.ensures.advances)
-    c.requires.numbers c.in_ok-refused.refused c.in_ok-refused.ensures.impossible c.in_ok-refused.ensures.left_open
+    c.requires.numbers c.in_ok-refused.refused c.in_ok-refused.ensures.impossible c.in_ok-refused.ensures.left_open)

@@ -1,14 +1,31 @@
-use Rattle.std.proofs.Common.{refl, ap, Err}
+use Rattle.std.proofs.Common.{◌⊎◌, ◌+◌, refl, Some}
 use Rattle.declarations.specs.Items.{reference_in}
+use Rattle.infer_table.specs.Responses.{AnswerTrees}
 use Rattle.infer_table.specs.declared.goal.Goal.{Goal}
+use Rattle.search_graph.specs.Plain.{IsNotPlain}
+use Rattle.root_goals.specs.Contexts.{Asked}
+use Rattle.root_goals.specs.Evaluations.{IsFound}
+use Rattle.root_goals.specs.Searching.{solver_meaning}
 use Rattle.sessions.specs.Asking.{goal_alone}
-use Rattle.sessions.proofs.Alone.{alone-is, no-proof}
+use Rattle.sessions.proofs.Alone.{alone-is, asked-is, no-proof}
+use Rattle.sessions.proofs.ImpossibleAlone.{left-open}
 use Rattle.sessions.proofs.refuted.ask_in_coherence.Goals as goal
 
-pub returns-in-Err-NoSolution-clause-no : goal.returns-in-Err-NoSolution-clause-no
-returns-in-Err-NoSolution-clause-no g c =
-    λ _ a k.
+pub returns-clause-no : goal.returns-clause-no
+returns-clause-no g c =
+    λ q a k.
     let es = c.args.cx.now.interner.entries in
     let asked : Goal = record { param_env = c.new.result; predicate = record { trait_ref = c.args.asked } } in
     no-proof es c.args.table.now asked (goal_alone (reference_in es c.args.asked)) c.requires.no_values (alone-is es asked c.args.asked c.new.ensures.items refl)
-    (g.H.GoalHandler.handled (g.H.GoalHandler.meaning c.args.cx.now.handler es)) (c.in-Err-NoSolution.ensures.no_solution (ap Err c.in-Err-NoSolution.field-0-is)) tt (a, tt) tt (k, tt)
+    (g.H.GoalHandler.handled (g.H.GoalHandler.meaning c.args.cx.now.handler es)) (c.evaluate_root_goal-evaluated.ensures.no_solution (c.answer_of.ensures.no q)) tt (a, tt) tt (k, tt)
+
+pub returns-clause-open : goal.returns-clause-open
+returns-clause-open g c = λ q.
+    let es = c.args.cx.now.interner.entries in
+    let asked : Goal = record { param_env = c.new.result; predicate = record { trait_ref = c.args.asked } } in
+    let m = solver_meaning g.H.GoalHandler.handled g.H.GoalHandler.Rule g.H.GoalHandler.coinductive g.H.GoalHandler.ready g.H.GoalHandler.meaning in
+    let w = g.H.GoalHandler.meaning c.args.cx.now.handler es in
+    let depth = c.args.graph.now.root_depth in
+    asked-is es c.args.table.now asked (goal_alone (reference_in es c.args.asked)) c.requires.no_values (alone-is es asked c.args.asked c.new.ensures.items refl)
+    (λ (z : Asked). ((a : AnswerTrees) × IsFound m w depth z (Some a)) ⊎ IsNotPlain m w (depth + 1) z)
+    (left-open _ _ _ c.evaluate_root_goal-evaluated.result c.evaluate_root_goal-evaluated.ensures.answer (λ e x. (x.0, x.1.found)) c.evaluate_root_goal-evaluated.ensures.no_conflict (c.answer_of.ensures.open q))
