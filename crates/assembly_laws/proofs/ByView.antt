@@ -5,8 +5,8 @@ use Rattle.model.specs.Label.{Label, of_type, param, placeholder, infer, canonic
 use Rattle.model.specs.Label.{value}
 use Rattle.model.specs.Trees.{Trees, tree, erase_label, is_sort, some_node}
 use Rattle.model.specs.Worlds.{World, Reference}
-use Rattle.model.specs.Rules.{Rule, rules, impl_rules, built_in_rules, plain_rules, sized, copy, clone, tuple_trait, fn_ptr_trait, is_fn_trait, unsize, is_auto, sized_rules, copy_rules, auto_rules, tuple_rules, fn_ptr_rules, call_rules, unsize_rules, object_rules, strict_supertraits}
-use Rattle.model.specs.Proofs.{In, HasProof}
+use Rattle.model.specs.Rules.{Rule, rules, impl_rules, built_in_rules, plain_rules, sized, copy, clone, tuple_trait, fn_ptr_trait, is_fn_trait, unsize, is_auto, sized_rules, copy_rules, auto_rules, tuple_rules, fn_ptr_rules, call_rules, unsize_rules, object_rules}
+use Rattle.model.specs.Proofs.{In}
 use Rattle.model.specs.Proofs as Model
 use Rattle.model.specs.Answers.{is_closed, is_open}
 use Rattle.model.proofs.Members.{here, there, in-nothing, in-cases, in-append}

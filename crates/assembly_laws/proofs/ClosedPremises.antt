@@ -6,7 +6,7 @@ use Rattle.model.specs.Trees.{Trees, none, tree, leaf, ◌+++◌, instantiate, i
 use Rattle.model.specs.Label.{of_lifetime}
 use Rattle.model.specs.Codes.{same}
 use Rattle.model.specs.Worlds.{World, Reference, StructDecl, TraitDecl, structs_named, traits_named, with_args, all_with_args}
-use Rattle.model.specs.Rules.{BuiltIn, Rule, row, rules, impl_rules, built_in_rules, plain_rules, sized, copy, clone, tuple_trait, fn_ptr_trait, is_fn_trait, unsize, is_auto, sized_rules, copy_rules, auto_rules, auto_rules_plain, tuple_rules, fn_ptr_rules, call_rules, but_last, unsize_rules, unsize_array_rules, unsize_to_dyn_rules, unsize_upcast_rules, unsize_struct_rules, upcasts_principal, upcasts_autos, equal_rows, same_reference, some_unsizing, with_unsizing, last_unsizes, object_rules, object_bound_rules, principal_with, autos_with, are_declared, are_dyn_compatible, is_dyn, is_written, strict_supertraits, strict_supertraits_within, written_supertraits, fields_of, together, each_asked, last_asked, asked}
+use Rattle.model.specs.Rules.{BuiltIn, Rule, row, rules, impl_rules, built_in_rules, plain_rules, sized, copy, clone, tuple_trait, fn_ptr_trait, is_fn_trait, unsize, is_auto, sized_rules, copy_rules, auto_rules, auto_rules_plain, tuple_rules, fn_ptr_rules, call_rules, but_last, unsize_rules, unsize_array_rules, unsize_to_dyn_rules, unsize_upcast_rules, unsize_struct_rules, upcasts_principal, upcasts_autos, equal_rows, same_reference, some_unsizing, with_unsizing, last_unsizes, object_rules, principal_with, autos_with, are_declared, are_dyn_compatible, is_dyn, is_written, strict_supertraits, strict_supertraits_within, written_supertraits, fields_of, together, each_asked, last_asked, asked}
 use Rattle.model.specs.Rules as Model
 use Rattle.model.specs.Proofs.{In}
 use Rattle.model.specs.Answers.{is_closed, is_open, children}

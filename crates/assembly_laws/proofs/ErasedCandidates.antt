@@ -5,7 +5,7 @@ use Rattle.model.specs.Label.{Label, of_type, of_const, of_lifetime, array, slic
 use Rattle.model.specs.Trees.{Trees, none, tree, ◌+++◌, instantiate, some_node, erase, erase_label}
 use Rattle.model.specs.Worlds.{World, CrateDecl, Reference, StructDecl}
 use Rattle.model.specs.Terms.{erased_struct, erased_impl}
-use Rattle.model.specs.Rules.{BuiltIn, Rule, row, same_head, sized, sized_struct, auto_struct, copy, clone, tuple_trait, fn_ptr_trait, is_fn_trait, unsize, is_auto, is_coinductive, is_written, sized_rules, copy_rules, auto_rules, auto_rules_plain, tuple_rules, fn_ptr_rules, unsize_to_dyn_rules, principal_with, autos_with, are_declared, are_dyn_compatible, elaborated, is_dyn, upcasts_autos, strict_supertraits, strict_supertraits_within, written_supertraits, fields_of, together, last_asked, each_asked, is_parameter, is_unsizing, some_unsizing, with_unsizing, last_unsizes}
+use Rattle.model.specs.Rules.{BuiltIn, Rule, row, sized, unsize, is_coinductive, unsize_to_dyn_rules, principal_with, autos_with, are_declared, are_dyn_compatible, elaborated, is_dyn, upcasts_autos, strict_supertraits, strict_supertraits_within, written_supertraits, fields_of, together, is_parameter, is_unsizing, some_unsizing, with_unsizing, last_unsizes}
 use Rattle.model.specs.Rules as Model
 use Rattle.model.proofs.Supertraits.{flat-same}
 use Rattle.model.proofs.Walking.{left, right}

@@ -5,7 +5,7 @@ use Rattle.model.specs.Label.{Label, param, placeholder, infer, canonical, bound
 use Rattle.model.specs.Trees.{Trees, none, tree, nth, instantiate, shift, some_node}
 use Rattle.model.specs.Worlds.{World, Reference, TraitDecl, traits_named, with_args, all_with_args}
 use Rattle.model.specs.Rules.{written_supertraits, strict_supertraits, strict_supertraits_within}
-use Rattle.model.specs.Proofs.{In, HasProof}
+use Rattle.model.specs.Proofs.{In}
 use Rattle.model.specs.Proofs as Model
 use Rattle.model.specs.Answers.{is_closed, is_open}
 use Rattle.model.specs.LinkedSet.{is_stray}

@@ -1,5 +1,5 @@
 -- What is recorded of lifetimes: the lifetime of a `dyn` stands behind its bounds, and is read off the first of the types.
-use Rattle.std.proofs.Common.{◌≡◌, ℕ, zero, suc, List, [], ◌∷◌, map, refl, sym, ap, ◌∙◌, Option, Some, None, option_map}
+use Rattle.std.proofs.Common.{◌≡◌, ℕ, zero, suc, List, [], ◌∷◌, map, refl, sym, ap, ◌∙◌, option_map}
 use Rattle.std.specs.List.{slice_get}
 use Rattle.model.specs.Label.{Label, of_type, dynamic}
 use Rattle.model.specs.Trees.{Trees, none, tree, leaf, nth, ◌+++◌, IsA}

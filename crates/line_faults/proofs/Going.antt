@@ -10,7 +10,7 @@ use Rattle.text_definitions.specs.Faults.{is_auto_name, variables_in}
 use Rattle.text_definitions.specs.Lowering.{trait_number, with_auto, autos, inserted}
 use Rattle.line_reader.specs.Cells.{Cell}
 use Rattle.line_faults.specs.Resolved as resolved
-use Rattle.line_faults.specs.Resolved.{ResolvedCell, optional_region, region_of, length_cell, dyn_before, last_region, item_region, principals, principals_count, type_before, types_before, args_before, arg_before, item_before, items_before}
+use Rattle.line_faults.specs.Resolved.{ResolvedCell, optional_region, region_of, length_cell, dyn_before, last_region, principals, principals_count, type_before, types_before, args_before, arg_before, item_before, items_before}
 use Rattle.line_faults.specs.Back.{binder_back, type_back, types_back, args_back, arg_back, item_back, items_back, count_above, down_to}
 use Rattle.line_faults.specs.Machine.{Sight, items, params, Found, using, keeping, deepening, deeper, Place, type_place, arg_place, types_inside, items_inside, args_inside, Frame, State, visiting, going, sort_misfits, name_misfits, is_const_place, name_cells, fn_frame, shape_autos, shape_principals, last_item_region, inside_step, outer_scope, step, run, Reaches}
 use Rattle.line_faults.specs.Machine.{sinking, finished}

@@ -8,7 +8,7 @@ use Rattle.text_definitions.specs.Syntax.{Line}
 use Rattle.text_definitions.specs.Declarations.{Declarations, known}
 use Rattle.text_definitions.specs.Uses.{uses, params_of, declared_name, other_uses}
 use Rattle.text_definitions.specs.Faults as faults
-use Rattle.text_definitions.specs.Faults.{with_own, is_any, is_among, is_of_other_kind, is_taken_param, repeats, static_name, variables_in, tests}
+use Rattle.text_definitions.specs.Faults.{with_own, is_any, is_of_other_kind, is_taken_param, variables_in, tests}
 use Rattle.line_reader.specs.Says.{name_said, params_said, is_item}
 use Rattle.line_reader.specs.Statement.{Statement, param_list, line_statement}
 use Rattle.line_reader.proofs.WhatIsSaid.{name-is-said, params-are-said, tests-agree}

@@ -8,7 +8,7 @@ use Rattle.model.specs.Label.{Sort, of_type, of_const, of_lifetime}
 use Rattle.line_reader.specs.Cells.{Cell}
 use Rattle.line_faults.specs.declared.findings.Findings.{Findings}
 use Rattle.line_faults.specs.Machine as machine
-use Rattle.line_faults.specs.Machine.{Sight, Found, findings, either, using, keeping, deepening, noting, sort_misfits, name_misfits, lifetime_misfits}
+use Rattle.line_faults.specs.Machine.{Sight, Found, findings, either, using, keeping, noting, sort_misfits, name_misfits, lifetime_misfits}
 use Rattle.line_faults.specs.Resolved as resolved
 use Rattle.line_faults.specs.Back.{begins, parts, count_above}
 use Rattle.line_faults.specs.declared.walk.Frame.{Frame}

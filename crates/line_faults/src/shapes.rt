@@ -46,7 +46,16 @@ impl Model for Shapes {
 
     ghost Value = { Summary };
 
-    ghost view = { λ x. record { is_empty = x.is_empty; bounds = x.bounds; principals = x.principals; has_principal = x.has_principal; has_late = x.has_late; binds_auto = x.binds_auto; has_early_lifetime = x.has_early_lifetime; autos = x.autos.items } };
+    ghost view = { λ x. record {
+      is_empty = x.is_empty;
+      bounds = x.bounds;
+      principals = x.principals;
+      has_principal = x.has_principal;
+      has_late = x.has_late;
+      binds_auto = x.binds_auto;
+      has_early_lifetime = x.has_early_lifetime;
+      autos = x.autos.items;
+    } };
 }
 
 /// Puts a number where it belongs among rising numbers, unless it is there.

@@ -17,7 +17,6 @@ use Rattle.text_definitions.specs.Faults.{with_own, variables_in, variable_limit
 use Rattle.text_definitions.specs.Lowering.{Meanings, trait_number, type_tree, field_trees, args_trees}
 use Rattle.line_reader.specs.Faultless.{UsesFit}
 use Rattle.line_reader.specs.Cells as cell
-use Rattle.line_reader.specs.Cells.{type_onto, args_onto}
 use Rattle.line_reader.specs.TypeViews.{cells_in, cell_of}
 use Rattle.line_reader.specs.declared.cell.Cell.{Cell}
 use Rattle.line_reader.specs.declared.cell.Cell.TheVariants as cells

@@ -4,7 +4,6 @@ use Rattle.std.specs.Option.{option_and_then}
 use Rattle.text_definitions.specs.Declarations.{Known, a_crate, a_struct, a_trait}
 use Rattle.text_definitions.specs.Faults as faults
 use Rattle.workspace.specs.Tables as tables
-use Rattle.workspace.specs.Tables.{declared, IsConsistent}
 
 pub same-number : (o : Option Known) → option_and_then tables.number_of_crate o ≡ option_and_then faults.number_of_crate o
 same-number None = refl

@@ -17,7 +17,7 @@ use Rattle.line_reader.specs.Lines.{ReadsLine}
 use Rattle.line_reader.specs.Places.{TypeStands, BoundStands, ClauseStands, EachOf, LineStands}
 use Rattle.std.specs.Borrow.{Bor}
 use Rattle.line_reader.specs.Statement as said
-use Rattle.line_reader.specs.Statement.{Statement, crate_statement, struct_statement, trait_statement, impl_statement, prove_statement, refute_statement, type_list, line_statement}
+use Rattle.line_reader.specs.Statement.{Statement, struct_statement, trait_statement, impl_statement, prove_statement, refute_statement, type_list}
 use Rattle.line_reader.specs.Views.{statement_of}
 use Rattle.line_reader.specs.declared.statement.Span.{Span}
 use Rattle.line_reader.specs.declared.statement.ClauseSpans.{ClauseSpans}

@@ -9,7 +9,7 @@ use Rattle.text_definitions.specs.Uses.{next_kind, other_kinds}
 use Rattle.text_definitions.specs.Lowering.{Meanings, arg_tree, args_trees}
 use Rattle.line_faults.specs.Resolved.{ResolvedCell, node_cell, param_cell, variable_cell, lifetime_cell, reference_cell, args_before, arg_before}
 use Rattle.line_faults.specs.Standing as standing
-use Rattle.line_faults.specs.Standing.{behind, standing, region_label}
+use Rattle.line_faults.specs.Standing.{behind, standing}
 use Rattle.line_faults.proofs.StandingLaws.{at-type, at-region}
 use Rattle.workspace.specs.TermCells as term
 use Rattle.workspace.specs.TermCells.{behind_cell, behind_cells, joined}
