@@ -70,3 +70,4 @@ pub mod Candidates
 pub mod Readings
 pub mod Slots
 pub mod Unplaced
+pub mod Refused

@@ -1,16 +1,15 @@
 -- Equations, constraints, goals and replies, one by one.
-use Rattle.std.proofs.Common.{◌≡◌, ℕ, zero, suc, ◌+◌, ◌<◌, List, [], ◌∷◌, ◌++◌, map, length, get_or, drop, ap, sym, ◌∙◌, append_assoc, arith, subst, Option, Some, None}
+use Rattle.std.proofs.Common.{◌≡◌, ℕ, zero, suc, ◌+◌, ◌<◌, List, [], ◌∷◌, ◌++◌, map, length, get_or, drop, refl, ap, sym, ◌∙◌, append_assoc, arith, subst, Option, Some, None}
 use Rattle.std.specs.Prelude.{option_and_then}
 use Rattle.std.proofs.lemmas.List.{append-nil}
-use Rattle.model.specs.Trees.{Trees, ◌+++◌}
-use Rattle.model.proofs.TreeLaws.{append-none, append-assoc}
+use Rattle.model.specs.Trees.{Trees, none, tree, ◌+++◌}
 use Rattle.type_terms.specs.Terms.{Entry, Keeps}
 use Rattle.type_terms.specs.Kinds.{ArgsHeld}
 use Rattle.type_terms.specs.declared.kinds.GenericArgKind.{GenericArgKind}
 use Rattle.infer_table.specs.Canonical.{GoalTrees}
 use Rattle.infer_table.specs.Constraints.{constraints_trees}
 use Rattle.infer_table.specs.Content.{IsHeldConstraint, AllConstraintsHeld}
-use Rattle.infer_table.specs.Unification.{TableTrees, unified}
+use Rattle.infer_table.specs.Unification.{TableTrees, recorded_once, all_recorded, unified}
 use Rattle.infer_table.specs.Worklists.{equation_trees}
 use Rattle.infer_table.specs.declared.canonical.CanonicalVarKind.{CanonicalVarKind}
 use Rattle.infer_table.specs.declared.certainty.Certainty.{Certainty}
@@ -88,8 +87,12 @@ pub all-solved : (es : List Entry) (vs : List Value) (rest : List Equation) (t :
 all-solved es vs rest t all e h = sym h ∙ ap (λ z. solved t (map (pair_filled vs) (equations_trees es z))) e
 
 -- ---- constraints
+recorded-both : (a b cs : Trees) → all_recorded b (all_recorded a cs) ≡ all_recorded (a +++ b) cs
+recorded-both none b cs = refl
+recorded-both (tree l c o) b cs = recorded-both o b (recorded_once (tree l c none) cs)
+
 with-both : (t : TableTrees) (a b : Trees) → with_constraints b (with_constraints a t) ≡ with_constraints (a +++ b) t
-with-both t a b = ap (λ z. record t { constraints = z }) (append-assoc t.constraints a b)
+with-both t a b = ap (λ z. record t { constraints = z }) (recorded-both a b t.constraints)
 
 module _ (es now : List Entry) (k : Keeps es now) (vs ws : List Value) (same : ws ≡ vs) (xs : List RegionConstraint) (i : ℕ) (x : RegionConstraint) (lt : i < length xs) (is : x ≡ get_or xs i x) (held : IsHeldConstraint es x) where
   -- one more constraint is recorded, and those after it are left
@@ -107,7 +110,7 @@ module _ (es now : List Entry) (k : Keeps es now) (vs ws : List Value) (same : w
 pub all-recorded : (es : List Entry) (vs : List Value) (rest : List RegionConstraint) (t all : TableTrees) → rest ≡ []
     → with_constraints (filled vs (constraints_trees es rest)) t ≡ all → t ≡ all
 all-recorded es vs rest t all e h =
-    ap (λ z. record t { constraints = z }) (sym (append-none t.constraints)) ∙ ap (λ z. with_constraints (filled vs (constraints_trees es z)) t) (sym e) ∙ h
+    ap (λ z. with_constraints (filled vs (constraints_trees es z)) t) (sym e) ∙ h
 
 -- ---- goals
 one-goal : (s : GoalSource) (g h : GoalTrees) → g ≡ h → ◌≡◌ {A = NestedTrees} (record { source = s; goal = g }) (record { source = s; goal = h })

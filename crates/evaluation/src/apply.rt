@@ -1,6 +1,7 @@
 //! Answers applied to the goal that was asked.
 ghost use Rattle.std.specs.Prelude.{◌≡◌, ◌⊎◌, ℕ, ◌<◌, ◌≤◌, List, ◌++◌, length, get_or, IfOk, IfErr, IfSome, OnOk, OnErr, Err, Some, None, unwrap_or, ◌==◌, if◌then◌else◌};
 ghost use Rattle.std.specs.Option.{option_or};
+ghost use Rattle.indexmap.specs.IndexSet.{insert_all};
 ghost use Rattle.model.specs.Label.{Sort};
 ghost use Rattle.type_terms.specs.Terms.{Entry, Keeps, Has, args_lists};
 ghost use Rattle.type_terms.specs.Kinds.{ArgHeld, ArgsHeld, args_trees, bound_label};
@@ -9,7 +10,8 @@ ghost use Rattle.infer_table.specs.Solutions.{HasNoSolution};
 ghost use Rattle.infer_table.specs.Content.{content, variables_of, Ready, Grows, AllConstraintsHeld};
 ghost use Rattle.infer_table.specs.Unification.{table_trees};
 ghost use Rattle.infer_table.specs.Leaves.{leaf_label};
-ghost use Rattle.infer_table.specs.Values.{value_of, values_of};
+ghost use Rattle.infer_table.specs.Values.{value_of, values_of, filled};
+ghost use Rattle.infer_table.specs.Constraints.{constraints_trees};
 ghost use Rattle.infer_table.specs.Responses.{ResponseHeld, Records};
 ghost use Rattle.infer_table.specs.Applying.{root_labels, canonical_number, original_of, next_unknown, with_unknown, unknowns_of, table_after};
 ghost use Rattle.infer_table.specs.Shortages.{HasNoUnknown};
@@ -188,6 +190,60 @@ fn values_to_apply(
     Ok(values)
 }
 
+/// The terms, with the values in the place of variables.
+fn fill_values(
+    alloc: Global,
+    cx: &mut Interner,
+    values: &[GenericArgKind],
+    terms: &[GenericArgKind],
+) -> Result<Vec<GenericArgKind>, Fault>
+    requires values { ArgsHeld cx.old.entries values.now }
+    requires terms { ArgsHeld cx.old.entries terms.now }
+    ensures keeps { Keeps cx.old.entries cx.new.entries }
+    ensures limit { cx.new.limit ≡ cx.old.limit }
+    ensures held { IfOk result (λ r. ArgsHeld cx.new.entries r.items) }
+    ensures filled { IfOk result (λ r. args_trees cx.new.entries r.items ≡ filled (values_of cx.old.entries values.now) (args_trees cx.old.entries terms.now)) }
+    ensures full { result ≡ Err Fault.Full → SomeKindIsFull cx.new.entries cx.new.limit }
+{
+    let terms = cx.mk_args(Vec::from_slice(alloc, terms)?)?;
+    let filled = terms.fold_with(alloc, cx, &CanonicalInstantiator { values })?;
+    Ok(Vec::from_slice(alloc, cx.args(filled))?)
+}
+
+/// An answer's values and constraints, with other values in the place of its variables.
+#[derive(Drop)]
+struct FilledResponse {
+    var_values: Vec<GenericArgKind>,
+    region_constraints: Vec<RegionConstraint>,
+}
+
+/// The answer, with the values in the place of its variables.
+fn fill_response(
+    alloc: Global,
+    cx: &mut Interner,
+    values: &[GenericArgKind],
+    response: &CanonicalResponse,
+) -> Result<FilledResponse, Fault>
+    requires values { ArgsHeld cx.old.entries values.now }
+    requires response { ResponseHeld cx.old.entries response.now }
+    ensures keeps { Keeps cx.old.entries cx.new.entries }
+    ensures limit { cx.new.limit ≡ cx.old.limit }
+    ensures values_held { IfOk result (λ r. ArgsHeld cx.new.entries r.var_values.items) }
+    ensures constraints_held { IfOk result (λ r. AllConstraintsHeld cx.new.entries r.region_constraints.items) }
+    ensures values { IfOk result (λ r. args_trees cx.new.entries r.var_values.items ≡ filled (values_of cx.old.entries values.now) (args_trees cx.old.entries response.now.var_values.items)) }
+    ensures constraints { IfOk result (λ r. constraints_trees cx.new.entries r.region_constraints.items
+        ≡ filled (values_of cx.old.entries values.now) (constraints_trees cx.old.entries response.now.region_constraints.items)) }
+    ensures full { result ≡ Err Fault.Full → SomeKindIsFull cx.new.entries cx.new.limit }
+{
+    let var_values = fill_values(alloc, cx, values, &response.var_values)?;
+    let folder = CanonicalInstantiator { values };
+    let region_constraints = fold_constraints(alloc, cx, &folder, &response.region_constraints)?;
+    Ok(FilledResponse {
+        var_values,
+        region_constraints,
+    })
+}
+
 /// Makes each value equal to the one in its place; lists of two lengths have no solution.
 fn equate_values(
     cx: &mut Interner,
@@ -218,13 +274,13 @@ fn equate_values(
     Ok(())
 }
 
-/// Records the constraints, in order.
+/// Records the constraints, in order, each once.
 fn record_constraints(table: &mut InferCtxt, constraints: &[RegionConstraint]) -> Result<(), Fault>
     ensures ready { (es : List Entry) → Ready es table.old → AllConstraintsHeld es constraints.now → Ready es table.new }
     ensures grows { Grows table.old table.new }
     ensures kept { table.new ≡ record table.old { constraints = table.new.constraints } }
     ensures fault { IfErr result (λ e. e ≡ Fault.Memory) }
-    ensures recorded { OnOk result (table.new ≡ record table.old { constraints = table.old.constraints ++ constraints.now }) }
+    ensures recorded { OnOk result (table.new ≡ record table.old { constraints = insert_all ⟦<RegionConstraint as PartialEq>⟧.eq table.old.constraints constraints.now }) }
 {
     for constraint in constraints {
         table.register_region_constraint(*constraint)?;
@@ -256,13 +312,12 @@ fn apply(
     ensures full { result ≡ Err (EqError.Fault Fault.Full) → SomeKindIsFull cx.new.entries cx.new.limit ⊎ NumbersRunOut cx.old.entries table.old original_values.now response.now }
 {
     let values = values_to_apply(alloc, cx, table, original_values, response)?;
-    let folder = CanonicalInstantiator { values: &values };
-    let filled = cx.mk_args(Vec::from_slice(alloc, &response.var_values)?)?;
-    let filled = filled.fold_with(alloc, cx, &folder)?;
-    let constraints = fold_constraints(alloc, cx, &folder, &response.region_constraints)?;
-    let filled = Vec::from_slice(alloc, cx.args(filled))?;
-    match equate_values(cx, table, original_values, &filled) {
-        Ok(()) => Ok(record_constraints(table, &constraints)?),
+    let filled = fill_response(alloc, cx, &values, response)?;
+    match equate_values(cx, table, original_values, &filled.var_values) {
+        Ok(()) => {
+            cx.lawful();
+            Ok(record_constraints(table, &filled.region_constraints)?)
+        }
         Err(error) => Err(error),
     }
 }
@@ -271,7 +326,7 @@ fn apply(
 ///
 /// For each of the answer's variables stands the goal's own value where the answer's value is the variable itself, the
 /// first such; for any other a new unknown of its kind. Then each of the goal's values is made equal to the answer's,
-/// and the answer's constraints on lifetimes are recorded after those that this records. Two lifetimes that differ
+/// and the answer's constraints on lifetimes are recorded after those that this records, each once. Two lifetimes that differ
 /// are recorded as equal and refuse nothing.
 ///
 /// Afterwards the solutions of the table are those from before that make the values equal; `NoSolution` comes exactly
@@ -314,7 +369,7 @@ pub fn instantiate_and_apply_query_response(
     ensures exact { OnOk result (left_by_answer cx.old.entries table.old original_values.now response.now ≡ Some (table_trees cx.new.entries table.new)) }
     ensures refusal { result ≡ Err EqError.NoSolution → left_by_answer cx.old.entries table.old original_values.now response.now ≡ None }
 
-    // The answer's constraints come last.
+    // The answer's constraints come last, and none is recorded that is there.
     ensures constraints { OnOk result (Records cx.new.entries table.old.constraints table.new.constraints (answered_constraints cx.old.entries table.old original_values.now response.now)) }
     ensures refused { OnErr result (table.new ≡ table.old) }
 

@@ -9,7 +9,7 @@ use infer_table::terms::{Equation, RegionConstraint};
 use type_terms::ImplId;
 
 /// The kind of a built-in rule (`rustc_type_ir::solve::BuiltinImplSource`).
-#[derive(Clone, Copy, Debug, PartialEq, Eq, Hash)]
+#[derive(Clone, Copy, PartialEq, Eq)]
 pub enum BuiltinImplSource {
     /// A rule that wins over every other candidate, as that `u8` is `Sized`.
     Trivial,
@@ -23,7 +23,7 @@ pub enum BuiltinImplSource {
 
 /// Whether a where-clause speaks of the whole program or of what the goal's item is used with
 /// (`rustc_type_ir::solve::ParamEnvSource`).
-#[derive(Clone, Copy, Debug, PartialEq, Eq, Hash)]
+#[derive(Clone, Copy, PartialEq, Eq)]
 pub enum ParamEnvSource {
     /// It holds no parameter, unknown, bound variable, or lifetime but `'static`.
     Global,
@@ -31,7 +31,7 @@ pub enum ParamEnvSource {
 }
 
 /// Where a candidate comes from (`rustc_type_ir::solve::CandidateSource`).
-#[derive(Clone, Copy, Debug, PartialEq, Eq, Hash)]
+#[derive(Clone, Copy, PartialEq, Eq)]
 pub enum CandidateSource {
     Impl(ImplId),
     BuiltinImpl(BuiltinImplSource),
@@ -45,7 +45,7 @@ pub enum CandidateSource {
 /// Its terms speak of the variables of its canonical goal and of unknowns of its own, numbered in one row: of a goal with n
 /// variables `^0` to `^(n-1)` are the goal's, and `^(n+i)` is the unknown of the kind `variables[i]`, which is made before all else.
 /// Then its equations are to hold, its constraints are recorded, and its nested goals are asked in order.
-#[derive(Debug, Drop)]
+#[derive(Drop)]
 pub struct CandidateSpec {
     pub source: CandidateSource,
     pub variables: Vec<CanonicalVarKind>,
@@ -57,7 +57,7 @@ pub struct CandidateSpec {
 }
 
 /// A candidate that was considered (`rustc_next_trait_solver::solve::assembly::Candidate`).
-#[derive(Debug, Drop)]
+#[derive(Drop)]
 pub struct Considered {
     pub source: CandidateSource,
     /// None if it was refused.
@@ -67,7 +67,7 @@ pub struct Considered {
 }
 
 /// What a handler wants next.
-#[derive(Debug, Drop)]
+#[derive(Drop)]
 pub enum HandlerStep {
     /// To consider this candidate.
     Consider(CandidateSpec),

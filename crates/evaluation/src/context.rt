@@ -43,7 +43,7 @@ use type_terms::kinds::GenericArgKind;
 use type_terms::variance::Variance;
 
 /// What a call that evaluates answers.
-#[derive(Debug, Drop)]
+#[derive(Drop)]
 pub enum EvalStep<T> {
     /// It is done.
     Ready(T),

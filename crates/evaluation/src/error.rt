@@ -9,7 +9,7 @@ use std::alloc::{AllocError, AllocFailed};
 use type_terms::Fault;
 
 /// Why an evaluation was refused.
-#[derive(Clone, Copy, PartialEq, Eq, Debug)]
+#[derive(Clone, Copy, Debug, PartialEq, Eq)]
 pub enum EvalError {
     /// What is evaluated does not hold.
     NoSolution,

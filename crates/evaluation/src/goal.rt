@@ -1,7 +1,7 @@
 //! The small parts of goals and of their evaluation.
 
 /// Where a nested goal comes from (`rustc_type_ir::solve::GoalSource`). It decides whether the step to it can be coinductive.
-#[derive(Clone, Copy, Debug, PartialEq, Eq, Hash)]
+#[derive(Clone, Copy, PartialEq, Eq)]
 pub enum GoalSource {
     /// A condition of the evaluation itself, as that a supertrait holds.
     Misc,
@@ -10,7 +10,7 @@ pub enum GoalSource {
 }
 
 /// Whether an answer gave values to unknowns of the goal (`rustc_next_trait_solver::solve::HasChanged`).
-#[derive(Clone, Copy, Debug, PartialEq, Eq)]
+#[derive(Clone, Copy, PartialEq, Eq)]
 pub enum HasChanged {
     Yes,
     No,

@@ -23,7 +23,7 @@ use type_terms::Fault;
 use type_terms::interner::Interner;
 
 /// How responses were merged (`rustc_next_trait_solver::solve::MergeCandidateInfo`).
-#[derive(Clone, Copy, Debug, PartialEq, Eq)]
+#[derive(Clone, Copy, PartialEq, Eq)]
 pub enum MergeCandidateInfo {
     /// The response at this place was taken: the first yes without values and constraints.
     AlwaysApplicable(usize),

@@ -238,7 +238,7 @@ fn fill(
     term.fold_with(alloc, cx, &CanonicalInstantiator { values })
 }
 
-/// Records each constraint, in order, with the values in the place of variables.
+/// Records each constraint, in order and once, with the values in the place of variables.
 fn record_constraints(
     alloc: Global,
     cx: &mut Interner,
@@ -279,6 +279,7 @@ fn record_constraint(
     ensures full { result ≡ Err Fault.Full → SomeKindIsFull cx.new.entries cx.new.limit }
 {
     let constraint = constraint.fold_with(alloc, cx, &CanonicalInstantiator { values })?;
+    cx.lawful();
     table.register_region_constraint(constraint)
 }
 

@@ -11,12 +11,11 @@ use Rattle.infer_table.specs.Content.{Table, Ready, content}
 use Rattle.infer_table.specs.Constraints.{constraints_trees}
 use Rattle.infer_table.specs.Kept.{content-kept}
 use Rattle.infer_table.specs.Unification.{TableTrees, table_trees, unified}
-use Rattle.infer_table.specs.declared.terms.RegionConstraint.{RegionConstraint}
 use Rattle.infer_table.specs.Values.{Value, values_of, filled}
 use Rattle.infer_table.specs.Responses.{AnswerTrees}
 use Rattle.infer_table.specs.Applying.{applied_values, applied_table}
 use Rattle.infer_table.specs.Applied.{trees_of, solved_in_turn, with_constraints, applied}
-use Rattle.infer_table.proofs.ConstraintLists.{constraints-append, constraints-later}
+use Rattle.infer_table.proofs.ConstraintLists.{constraints-later}
 use Rattle.infer_table.proofs.Values.{cut-at}
 
 -- ---- rows
@@ -84,12 +83,6 @@ pub same-trees : (old new : List Entry) → Keeps old new → (t u : Table) → 
 same-trees old new k t u r e f =
     ap (λ bs. record (table_trees new u) { bindings = bs }) (ap (content new) e ∙ content-kept old new t.values k r.held ∙ ap (content old) (sym e))
     ∙ ap (λ cs. record (table_trees old u) { constraints = cs }) (ap (constraints_trees new) f ∙ constraints-later old new k t.constraints r.constraints_held ∙ ap (constraints_trees old) (sym f))
-
--- further constraints of a table are further constraints of its trees
-pub constraints-recorded : (es : List Entry) (t u : Table) (cs : List RegionConstraint) (c : Trees) → u ≡ record t { constraints = t.constraints ++ cs } → constraints_trees es cs ≡ c → with_constraints c (table_trees es t) ≡ table_trees es u
-constraints-recorded es t u cs c e f =
-    ap (λ z. record (table_trees es t) { constraints = z }) (ap (λ z. constraints_trees es t.constraints +++ z) (sym f) ∙ sym (constraints-append es t.constraints cs))
-    ∙ ap (table_trees es) (sym e)
 
 -- ---- an answer
 module _ (t : TableTrees) (originals : List Value) (a : AnswerTrees) (start : TableTrees) (left right : Trees)

@@ -1,5 +1,5 @@
 -- Equations that need nothing done: they stay so, and steps pass over them.
-use Rattle.std.proofs.Common.{◌≡◌, ℕ, zero, suc, ◌+◌, Bool, true, false, refl, ap, sym, ◌∙◌, arith, List, [], ◌∷◌, ◌++◌, subst, Option, Some, None, if◌then◌else◌, ◌⊎◌, inl, inr}
+use Rattle.std.proofs.Common.{◌≡◌, ℕ, zero, ◌+◌, Bool, true, false, refl, ap, sym, ◌∙◌, arith, List, [], ◌∷◌, ◌++◌, subst, Option, Some, None, if◌then◌else◌, ◌⊎◌, inl, inr}
 use Rattle.std.specs.Prelude.{cond, ltb, ◌||◌}
 use Rattle.std.proofs.lemmas.Bool.Decides.{nat_tests}
 use Rattle.std.proofs.lemmas.List.{append_assoc}
@@ -60,22 +60,22 @@ or-on : (s r q : Bool) → (r ≡ true → q ≡ true) → (s || r) ≡ true →
 or-on true r q f h = refl
 or-on false r q f h = f h
 
-recorded-more : (a b cs ds : Trees) → is_recorded a b cs ≡ true → is_recorded a b (cs +++ ds) ≡ true
-recorded-more a b none ds h = cc
-recorded-more a b (tree l c o) ds h = or-on (same (equal_constraint a b) (tree l c none)) (is_recorded a b o) (is_recorded a b (o +++ ds)) (recorded-more a b o ds) h
+recorded-more : (c cs ds : Trees) → is_recorded c cs ≡ true → is_recorded c (cs +++ ds) ≡ true
+recorded-more c none ds h = cc
+recorded-more c (tree l d o) ds h = or-on (same c (tree l d none)) (is_recorded c o) (is_recorded c (o +++ ds)) (recorded-more c o ds) h
 
-recorded-last : (a b cs : Trees) → is_recorded a b (cs +++ equal_constraint a b) ≡ true
+recorded-last : (a b cs : Trees) → is_recorded (equal_constraint a b) (cs +++ equal_constraint a b) ≡ true
 recorded-last a b none = ap (λ z. z || false) (same-self (equal_constraint a b))
-recorded-last a b (tree l c o) = or-on (same (equal_constraint a b) (tree l c none)) true (is_recorded a b (o +++ equal_constraint a b)) (λ e. recorded-last a b o) (either-true (same (equal_constraint a b) (tree l c none)))
+recorded-last a b (tree l c o) = or-on (same (equal_constraint a b) (tree l c none)) true (is_recorded (equal_constraint a b) (o +++ equal_constraint a b)) (λ e. recorded-last a b o) (either-true (same (equal_constraint a b) (tree l c none)))
   where
     either-true : (s : Bool) → (s || true) ≡ true
     either-true true = refl
     either-true false = refl
 
-recorded-there : (a b cs : Trees) → is_recorded a b (recorded_once a b cs) ≡ true
-recorded-there a b cs = by (is_recorded a b cs) refl
+recorded-there : (a b cs : Trees) → is_recorded (equal_constraint a b) (recorded_once (equal_constraint a b) cs) ≡ true
+recorded-there a b cs = by (is_recorded (equal_constraint a b) cs) refl
   where
-    by : (z : Bool) → is_recorded a b cs ≡ z → is_recorded a b (if z then cs else cs +++ equal_constraint a b) ≡ true
+    by : (z : Bool) → is_recorded (equal_constraint a b) cs ≡ z → is_recorded (equal_constraint a b) (if z then cs else cs +++ equal_constraint a b) ≡ true
     by true e = e
     by false e = recorded-last a b cs
 
@@ -110,8 +110,8 @@ module _ (bs cs : List Binding) (next : IsNext bs cs) (old new : Trees) (adds : 
         lifetime = q.lifetime;
         left = ap term_sort fa ∙ q.left;
         right = ap term_sort fb ∙ q.right;
-        recorded = ap (λ z. is_recorded z (followed cs b) new) fa ∙ ap (λ z. is_recorded (followed bs a) z new) fb ∙ ap (λ z. is_recorded (followed bs a) (followed bs b) z) adds.1
-            ∙ recorded-more (followed bs a) (followed bs b) old adds.0 q.recorded;
+        recorded = ap (λ z. is_recorded (equal_constraint z (followed cs b)) new) fa ∙ ap (λ z. is_recorded (equal_constraint (followed bs a) z) new) fb
+            ∙ ap (is_recorded (equal_constraint (followed bs a) (followed bs b))) adds.1 ∙ recorded-more (equal_constraint (followed bs a) (followed bs b)) old adds.0 q.recorded;
       }
 
   pub rests-on : (w : Worklist) → Rests bs old before w → Rests cs new after w
@@ -170,7 +170,7 @@ module _ (t : TableTrees) (ok : IsOfTerms t) where
       ∙ ap (λ z. in_pairs (with_regions t (binds x + binds y)) z rest) (h.parts t.region_vars (t.region_vars + binds x))
       ∙ ap (λ z. onward false z (ps ++ rest)) (no-lifetimes t (binds x + binds y) h.alone)
 
-  recorded-step : (x y : Trees) (rest : Worklist) → is_recorded x y t.constraints ≡ true → compared t of_lifetime x y rest ≡ onward false t rest
+  recorded-step : (x y : Trees) (rest : Worklist) → is_recorded (equal_constraint x y) t.constraints ≡ true → compared t of_lifetime x y rest ≡ onward false t rest
   recorded-step x y rest e = by (same x y)
     where
       by : (z : Bool) → (if z then onward false t rest else onward false (with_equal t x y) rest) ≡ onward false t rest

@@ -9,7 +9,7 @@ use Rattle.infer_table.specs.Solutions.{Binding, HasValues}
 use Rattle.infer_table.specs.Constraints.{constraints_trees}
 use Rattle.infer_table.specs.Content.{Table, content}
 use Rattle.infer_table.specs.Resolving.{followed}
-use Rattle.infer_table.specs.Unification.{Worklist, is_recorded, term_sort, variable_at, binds, head_of, parts_of, pairs}
+use Rattle.infer_table.specs.Unification.{Worklist, equal_constraint, is_recorded, term_sort, variable_at, binds, head_of, parts_of, pairs}
 use Rattle.type_terms.specs.declared.kinds.Ty.{Ty}
 use Rattle.type_terms.specs.declared.kinds.GenericArgKind.TheVariants.{Ty as AType}
 use Rattle.infer_table.specs.declared.terms.Equation.{Equation}
@@ -31,7 +31,7 @@ pub record AreRecorded (bs : List Binding) (cs : Trees) (a b : Trees) : Type 0 w
   pub lifetime : term_sort a ≡ of_lifetime
   pub left : term_sort (followed bs a) ≡ of_lifetime
   pub right : term_sort (followed bs b) ≡ of_lifetime
-  pub recorded : is_recorded (followed bs a) (followed bs b) cs ≡ true
+  pub recorded : is_recorded (equal_constraint (followed bs a) (followed bs b)) cs ≡ true
 
 -- Equations that need nothing done, once the open ones are done: two sides that are followed to one term, two lifetimes that are
 -- recorded, an open equation, or one whose parts are such equations.

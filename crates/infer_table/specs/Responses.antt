@@ -12,6 +12,7 @@ use Rattle.infer_table.specs.declared.canonical.CanonicalVarKind.{CanonicalVarKi
 use Rattle.infer_table.specs.declared.certainty.Certainty.{Certainty}
 use Rattle.infer_table.specs.declared.terms.RegionConstraint.{RegionConstraint}
 use Rattle.infer_table.specs.declared.response.CanonicalResponse.{CanonicalResponse}
+use Rattle.infer_table.specs.Unification.{all_recorded}
 use Rattle.infer_table.specs.Values.{Value, values_of}
 
 -- an answer, over trees alone
@@ -58,9 +59,7 @@ ConstraintsFold f old [] new [] = Unit {0}
 ConstraintsFold f old (x ∷ xs) new (y ∷ ys) = (constraint_outline y ≡ constraint_outline x) × FoldsEach f [] (constraint_pieces old x) (constraint_pieces new y) × ConstraintsFold f old xs new ys
 ConstraintsFold f old _ new _ = ⊥
 
--- the list grew by some constraints and then by those with these trees
+-- some constraints came behind the old ones, and then those with these trees, each recorded once
 pub record Records (es : List Entry) (old new : List RegionConstraint) (t : Trees) : Type 0 where
   pub between : List RegionConstraint
-  pub last : List RegionConstraint
-  pub appended : new ≡ old ++ between ++ last
-  pub trees : constraints_trees es last ≡ t
+  pub recorded : constraints_trees es new ≡ all_recorded t (constraints_trees es (old ++ between))

@@ -7,12 +7,12 @@ use std::alloc::{AllocError, AllocFailed};
 use type_terms::Fault;
 
 /// A goal or an equation has no solution (`rustc_type_ir::solve::NoSolution`).
-#[derive(Clone, Copy, PartialEq, Eq, Hash, Debug, thiserror::Error)]
+#[derive(Clone, Copy, PartialEq, Eq, Debug, thiserror::Error)]
 #[error("there is no solution")]
 pub struct NoSolution;
 
 /// Why an equation was refused.
-#[derive(Clone, Copy, PartialEq, Eq, Debug)]
+#[derive(Clone, Copy, Debug, PartialEq, Eq)]
 pub enum EqError {
     /// Nothing that is put in for the variables makes the two sides equal.
     NoSolution,
@@ -45,7 +45,7 @@ impl<T: Drop> From<AllocFailed<T>> for EqError {
 }
 
 /// How sure it is that a goal holds (`rustc_type_ir::solve::Certainty`).
-#[derive(Clone, Copy, PartialEq, Eq, Hash, Debug)]
+#[derive(Clone, Copy, PartialEq, Eq, Hash)]
 pub enum Certainty {
     /// It holds.
     Yes,
@@ -54,7 +54,7 @@ pub enum Certainty {
 }
 
 /// Why it is not known whether a goal holds (`rustc_type_ir::solve::MaybeCause`).
-#[derive(Clone, Copy, PartialEq, Eq, Hash, Debug)]
+#[derive(Clone, Copy, PartialEq, Eq, Hash)]
 pub enum MaybeCause {
     /// There is not one way to prove it, or its unknowns leave it open.
     Ambiguity,
@@ -94,7 +94,7 @@ impl Certainty {
 }
 
 /// How goals are read (`rustc_type_ir::TypingMode`).
-#[derive(Clone, Copy, PartialEq, Eq, Hash, Debug)]
+#[derive(Clone, Copy, PartialEq, Eq, Hash)]
 pub enum TypingMode {
     /// Whether two impls can apply to one type, also in crates that are not seen: an answer has to hold in every set of crates
     /// that can be linked with this one.

@@ -31,7 +31,7 @@ use type_terms::visitable_ext::TypeVisitableExt;
 /// A goal in canonical form: what is asked of the search, and the key under which the answer is kept.
 ///
 /// `CanonicalInput` of `rustc_type_ir`. Variable i of the form stands for a leaf of the kind `variables[i]`.
-#[derive(PartialEq, Eq, Hash, Debug, Drop)]
+#[derive(PartialEq, Eq, Hash, Drop)]
 pub struct CanonicalInput {
     pub mode: TypingMode,
     pub goal: Goal,
@@ -68,7 +68,7 @@ pub fn is_same_question(cx: &Interner, left: &CanonicalInput, right: &CanonicalI
 }
 
 /// A goal in canonical form, with the leaves that its variables stand for.
-#[derive(Debug, Drop)]
+#[derive(Drop)]
 pub struct Canonicalized {
     pub input: CanonicalInput,
     pub values: Vec<GenericArgKind>,

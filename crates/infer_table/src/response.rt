@@ -10,7 +10,7 @@ use type_terms::kinds::GenericArgKind;
 /// `Canonical<Response>` of `rustc_type_ir`, whose `max_universe` and opaque types have no place here. Value i of
 /// `var_values` is what the answer says of variable i of the goal, and constraints are kept in the order in which
 /// they were recorded. Both speak of the answer's own `variables`.
-#[derive(PartialEq, Eq, Hash, Debug, Drop)]
+#[derive(PartialEq, Eq, Hash, Drop)]
 pub struct CanonicalResponse {
     pub variables: Vec<CanonicalVarKind>,
     pub certainty: Certainty,

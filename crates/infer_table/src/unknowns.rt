@@ -21,7 +21,7 @@ use type_terms::kinds::{ConstKind, GenericArgKind, TyKind};
 use type_terms::{Fault, MAX_INDEX};
 
 /// A goal made of its canonical form, with the values that stand for the form's variables.
-#[derive(Debug, Drop)]
+#[derive(Drop)]
 pub struct Instantiated {
     pub goal: Goal,
     pub values: Vec<GenericArgKind>,

@@ -1,4 +1,6 @@
-use Rattle.std.proofs.Common.{◌≡◌, ◌++◌, take, List}
+use Rattle.std.proofs.Common.{◌≡◌, take, List}
+use Rattle.indexmap.specs.IndexSet.{insert_all}
+use Rattle.infer_table.specs.contracts.terms.RegionConstraintPartialEq.TheImpl.{ghosts as constraint}
 use Rattle.type_terms.specs.Terms.{Entry}
 use Rattle.infer_table.specs.Content.{Ready, Grows, AllConstraintsHeld}
 use Rattle.evaluation.proofs.apply.record_constraints.Given as goal
@@ -7,5 +9,5 @@ abbrev pub invariant-loop-constraint : goal.invariant-loop-constraint
 invariant-loop-constraint l = record {
   ready : (es : List Entry) → Ready es l.fn.table → AllConstraintsHeld es l.constraints → Ready es l.table;
   grows : Grows l.fn.table l.table;
-  recorded : l.table ≡ record l.fn.table { constraints = l.fn.table.constraints ++ take l.constraint-index l.constraints };
+  recorded : l.table ≡ record l.fn.table { constraints = insert_all constraint.eq l.fn.table.constraints (take l.constraint-index l.constraints) };
 }

@@ -1,12 +1,14 @@
-use Rattle.std.proofs.Common.{◌≡◌, [], ◌∷◌, ◌++◌, ap, sym, ◌∙◌, Err}
+use Rattle.std.proofs.Common.{◌≡◌, [], ◌∷◌, ap, sym, ◌∙◌, Err}
+use Rattle.indexmap.specs.IndexSet.{insert_key}
 use Rattle.infer_table.specs.Constraints.{constraints_trees}
 use Rattle.infer_table.specs.Kept.{ready-later}
 use Rattle.infer_table.specs.Unification.{table_trees}
 use Rattle.infer_table.proofs.PairFacts.{table-kept}
 use Rattle.infer_table.specs.Values.{values_of, filled}
 use Rattle.infer_table.specs.Applied.{with_constraints}
+use Rattle.infer_table.specs.contracts.terms.RegionConstraintPartialEq.TheImpl.{ghosts as constraint}
 use Rattle.infer_table.proofs.ConstraintLists.{constraints-filled}
-use Rattle.infer_table.proofs.InTurn.{constraints-recorded}
+use Rattle.infer_table.proofs.Recording.{constraints-recorded}
 use Rattle.evaluation.proofs.Handed.{on-ok}
 use Rattle.type_terms.proofs.FailFacts.{only-tables}
 use Rattle.infer_table.proofs.FullFacts.{handed-on}
@@ -31,8 +33,9 @@ returns-clause-recorded c =
     let y = c.in_ok-constraint.constraint in
     let vs = values_of es c.args.values.now in
     let put = constraints-filled vs es end (x ∷ []) (y ∷ []) (c.in_ok-constraint.ensures.outline, c.in_ok-constraint.ensures.folded, tt) in
-    on-ok (u ≡ record t { constraints = t.constraints ++ y ∷ [] }) (table_trees end u ≡ with_constraints (filled vs (constraints_trees es (x ∷ []))) (table_trees es t)) c.register_region_constraint.result
-    (λ e. sym (constraints-recorded end t u (y ∷ []) _ e put) ∙ ap (with_constraints (filled vs (constraints_trees es (x ∷ [])))) (table-kept es end c.fold_with.ensures.keeps t c.requires.ready))
+    let ready = ready-later es end t c.fold_with.ensures.keeps c.requires.ready in
+    on-ok (u ≡ record t { constraints = insert_key constraint.eq t.constraints y }) (table_trees end u ≡ with_constraints (filled vs (constraints_trees es (x ∷ []))) (table_trees es t)) c.register_region_constraint.result
+    (λ e. sym (constraints-recorded end c.lawful.ensures t u (y ∷ []) _ ready (c.in_ok-constraint.ensures.held, tt) e put) ∙ ap (with_constraints (filled vs (constraints_trees es (x ∷ [])))) (table-kept es end c.fold_with.ensures.keeps t c.requires.ready))
     c.register_region_constraint.ensures.recorded
 
 pub returns-in_err-constraint-clause-full : goal.returns-in_err-constraint-clause-full
