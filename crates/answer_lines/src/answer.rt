@@ -10,7 +10,7 @@ use crate::printer::push_number;
 use std::alloc::{AllocError, Global};
 
 /// The value of a variable of a question, as text.
-#[derive(Debug, Drop)]
+#[derive(Drop)]
 pub struct ValueText {
     /// The variable's name, without `?`.
     pub variable: Vec<u8>,
@@ -19,7 +19,7 @@ pub struct ValueText {
 }
 
 /// A line of the answer. Crates go by their names, impls and questions by their numbers, from 1; types by their texts.
-#[derive(Clone, Copy, Debug)]
+#[derive(Clone, Copy)]
 pub enum Answer<'a> {
     /// The first faulty line of the text, with the number of its fault. It stands alone.
     Fault {

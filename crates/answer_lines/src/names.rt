@@ -7,7 +7,7 @@ use std::alloc::AllocError;
 use type_terms::{AdtId, TraitId};
 
 /// Whether a parameter or an unknown stands for a type or a const (`TermKind`).
-#[derive(Clone, Copy, PartialEq, Eq, Debug)]
+#[derive(Clone, Copy, PartialEq, Eq)]
 pub enum TermKind {
     Ty,
     Const,

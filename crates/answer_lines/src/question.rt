@@ -15,7 +15,7 @@ use type_terms::{AdtId, TraitId};
 use workspace::{Param, QuestionEntry, Workspace};
 
 /// An unknown, by its number among those of its kind.
-#[derive(Clone, Copy, PartialEq, Eq, Debug)]
+#[derive(Clone, Copy, PartialEq, Eq)]
 pub struct Unknown {
     pub kind: TermKind,
     pub index: u32,

@@ -7,7 +7,7 @@ use std::alloc::AllocError;
 use type_terms::Fault;
 
 /// What a run wrote.
-#[derive(Clone, Copy, Debug, PartialEq, Eq)]
+#[derive(Clone, Copy, PartialEq, Eq)]
 pub enum Status {
     /// A line for each crate but `core`, and then one for each question.
     Done,

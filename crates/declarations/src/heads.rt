@@ -10,7 +10,7 @@ use std::alloc::Global;
 use type_terms::{Fault, ImplId, TraitId};
 
 /// The trait of an impl and the head of its self type; no head for a blanket impl, whose self type is a parameter.
-#[derive(Clone, Copy, PartialEq, Eq, Hash, Debug)]
+#[derive(Clone, Copy, PartialEq, Eq, Hash)]
 pub(crate) struct ImplHead {
     pub trait_id: TraitId,
     pub self_ty: Option<SimplifiedType>,

@@ -13,7 +13,7 @@ use type_terms::kinds::Ty;
 use type_terms::{CrateId, Fault};
 
 /// What a parameter of an item stands for (`GenericParamDefKind`).
-#[derive(Clone, Copy, PartialEq, Eq, Hash, Debug)]
+#[derive(Clone, Copy, PartialEq, Eq, Hash)]
 pub enum GenericParamKind {
     Lifetime,
     Type,
@@ -21,7 +21,7 @@ pub enum GenericParamKind {
 }
 
 /// A struct (`AdtDef`). `fundamental struct Box<T>(*const T)` has one parameter and one field.
-#[derive(Debug, Drop)]
+#[derive(Drop)]
 pub struct AdtDef {
     /// The crate that declares it.
     pub home: CrateId,
@@ -64,7 +64,7 @@ impl AdtDef {
 }
 
 /// A trait (`TraitDef`). `trait Sub<U>: Sup<U>` has two parameters, of which Self is the first, and one bound.
-#[derive(Debug, Drop)]
+#[derive(Drop)]
 pub struct TraitDef {
     /// The crate that declares it.
     pub home: CrateId,
@@ -80,7 +80,7 @@ pub struct TraitDef {
 
 /// An impl (`ImplTraitHeader`). `impl<T> Show for V<T> where T: Show` has one parameter, the header `V<T>: Show` and one
 /// where-clause.
-#[derive(Debug, Drop)]
+#[derive(Drop)]
 pub struct ImplDef {
     /// The crate that declares it.
     pub home: CrateId,

@@ -9,7 +9,7 @@ use type_terms::interner::Interner;
 use type_terms::kinds::{IntTy, Mutability, Ty, TyKind, UintTy};
 
 /// What stands outermost in a type that is no parameter, variable or placeholder (`SimplifiedType`).
-#[derive(Clone, Copy, PartialEq, Eq, Hash, Debug)]
+#[derive(Clone, Copy, PartialEq, Eq, Hash)]
 pub enum SimplifiedType {
     Bool,
     Char,

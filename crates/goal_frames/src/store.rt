@@ -7,11 +7,11 @@ use infer_table::input::CanonicalInput;
 use infer_table::response::CanonicalResponse;
 
 /// A canonical goal of a store, by its number there.
-#[derive(Clone, Copy, PartialEq, Eq, Hash, Debug)]
+#[derive(Clone, Copy, PartialEq, Eq, Hash)]
 pub struct InputId(pub u32);
 
 /// An answer of a store, by its number there.
-#[derive(Clone, Copy, PartialEq, Eq, Hash, Debug)]
+#[derive(Clone, Copy, PartialEq, Eq, Hash)]
 pub struct ResponseId(pub u32);
 
 /// Canonical goals and answers, each kept once.

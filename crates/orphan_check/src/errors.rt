@@ -7,14 +7,14 @@ use std::alloc::{AllocError, AllocFailed};
 use type_terms::kinds::Ty;
 
 /// How strict an orphan check is. The two differ in projections alone, of which there are none here.
-#[derive(Clone, Copy, PartialEq, Eq, Debug)]
+#[derive(Clone, Copy, PartialEq, Eq)]
 pub enum OrphanCheckMode {
     Proper,
     Compat,
 }
 
 /// Whether an orphan check is of the crate that asks or of some crate that it does not see.
-#[derive(Clone, Copy, PartialEq, Eq, Debug)]
+#[derive(Clone, Copy, PartialEq, Eq)]
 pub enum InCrate {
     /// Items of the crate that asks are local, and an open place is uncovered.
     Local { mode: OrphanCheckMode },
@@ -23,7 +23,7 @@ pub enum InCrate {
 }
 
 /// Which crates could add an impl for a reference that is not known.
-#[derive(Clone, Copy, PartialEq, Eq, Debug)]
+#[derive(Clone, Copy, PartialEq, Eq)]
 pub enum Conflict {
     /// The crate of its trait, or of a type, in a later version.
     Upstream,
@@ -32,7 +32,7 @@ pub enum Conflict {
 }
 
 /// Whether a type is met before any type of the walk has been left.
-#[derive(Clone, Copy, PartialEq, Eq, Debug)]
+#[derive(Clone, Copy, PartialEq, Eq)]
 pub enum IsFirstInputType {
     No,
     Yes,
@@ -51,7 +51,7 @@ impl From<bool> for IsFirstInputType {
 }
 
 /// An open place that comes before any local type.
-#[derive(PartialEq, Eq, Debug, Drop)]
+#[derive(PartialEq, Eq, Drop)]
 pub struct UncoveredTyParams<T> {
     /// The open place.
     pub uncovered: T,
@@ -60,7 +60,7 @@ pub struct UncoveredTyParams<T> {
 }
 
 /// Why a crate may not write an impl.
-#[derive(PartialEq, Eq, Debug, Drop)]
+#[derive(PartialEq, Eq, Drop)]
 pub enum OrphanCheckErr<T> {
     /// No type that the walk meets is local. These are all of them, in order.
     NonLocalInputType(Vec<(Ty, IsFirstInputType)>),
@@ -68,7 +68,7 @@ pub enum OrphanCheckErr<T> {
 }
 
 /// Why a walk gave no answer.
-#[derive(PartialEq, Eq, Debug, Drop)]
+#[derive(PartialEq, Eq, Drop)]
 pub enum WalkError<E> {
     /// The normalizer refused a type.
     Normalize(E),

@@ -25,7 +25,7 @@ pub trait Normalize {
 }
 
 /// The normalizer that answers its input: there are no aliases here, so each type is in normal form as it is written.
-#[derive(Clone, Copy, Debug)]
+#[derive(Clone, Copy)]
 pub struct AlreadyNormal;
 
 impl Normalize for AlreadyNormal {

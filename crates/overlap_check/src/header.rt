@@ -27,7 +27,7 @@ use type_terms::interner::Interner;
 use type_terms::kinds::GenericArgs;
 
 /// The header of an impl with unknowns for its parameters (`ImplHeader`): `?0` and `V<?0>: Show` of `impl<T> Show for V<T>`.
-#[derive(Clone, Copy, PartialEq, Eq, Debug)]
+#[derive(Clone, Copy, PartialEq, Eq)]
 pub struct ImplHeader {
     /// The unknowns.
     pub impl_args: GenericArgs,

@@ -12,7 +12,7 @@ use std::alloc::AllocError;
 use type_terms::Fault;
 
 /// How a goal was answered (`rustc_next_trait_solver::solve::GoalEvaluation`).
-#[derive(Debug, Drop)]
+#[derive(Drop)]
 pub struct GoalEvaluation {
     /// The goal that was asked, its variables resolved as they were when the call began.
     pub goal: Goal,

@@ -33,7 +33,7 @@ use type_terms::{AdtId, Fault, MAX_INDEX, TraitId};
 ///
 /// In its terms the canonical variable `^i` is its own variable of the kind `variables[i]`, a type or a constant.
 /// `impl<T: Show> Show for Vec<T>` has one variable, the head `Vec<^0>: Show`, and the premise `^0: Show`.
-#[derive(Debug, Drop)]
+#[derive(Drop)]
 pub struct Rule {
     pub variables: Vec<CanonicalVarKind>,
     pub head: TraitPredicate,
@@ -41,7 +41,7 @@ pub struct Rule {
 }
 
 /// A list of rules, and which traits are coinductive. No rule of the original has this form: it asks its crates for impls.
-#[derive(Debug, Drop)]
+#[derive(Drop)]
 pub struct RuleBook {
     pub rules: Vec<Rule>,
     pub coinductive: Vec<TraitId>,

@@ -13,7 +13,7 @@ use std::alloc::{AllocError, Global};
 /// A goal of the stack whose result was read, and the kinds of the paths by which it was.
 ///
 /// An entry of `CycleHeads` of `rustc_type_ir::search_graph`.
-#[derive(Clone, Copy, Debug, PartialEq, Eq)]
+#[derive(Clone, Copy, PartialEq, Eq)]
 pub struct CycleHead {
     pub index: usize,
     pub paths: PathsToNested,

@@ -16,7 +16,7 @@ use type_terms::Fault;
 /// How often the result of a goal of the stack was read, by the kinds of the paths that led to it.
 ///
 /// Each number sticks at the greatest u32. `HeadUsages` of `rustc_type_ir::search_graph`.
-#[derive(Clone, Copy, Debug, PartialEq, Eq)]
+#[derive(Clone, Copy, PartialEq, Eq)]
 pub struct HeadUsages {
     pub inductive: u32,
     pub unknown: u32,

@@ -12,7 +12,7 @@ use bitflags::{Flag, Flags, bitflag_items};
 /// The kind of a step from a goal to a goal that it asks, or of a path of steps, which is the greatest of theirs.
 ///
 /// Whether a cycle proves its goals depends on its kind. `PathKind` of `rustc_type_ir::search_graph`.
-#[derive(Clone, Copy, Debug, PartialEq, Eq)]
+#[derive(Clone, Copy, PartialEq, Eq)]
 pub enum PathKind {
     /// Makes no progress: a cycle of such steps proves nothing.
     Inductive,
@@ -52,7 +52,7 @@ impl PathKind {
 /// A set of paths by their kinds, the path without a step among them: a bit for each.
 ///
 /// `PathsToNested` of `rustc_type_ir::search_graph`.
-#[derive(Clone, Copy, Debug, PartialEq, Eq)]
+#[derive(Clone, Copy, PartialEq, Eq)]
 pub struct PathsToNested(pub u8);
 
 bitflag_items! {

@@ -5,7 +5,7 @@ use type_terms::ImplId;
 use type_terms::kinds::{GenericArgKind, Ty};
 
 /// The verdict on a crate.
-#[derive(Debug, Drop)]
+#[derive(Drop)]
 pub enum Verdict {
     /// Each impl of the crate keeps the orphan rule, and no two impls that it brings together may overlap.
     Accepted,
@@ -16,7 +16,7 @@ pub enum Verdict {
 }
 
 /// The answer of a `prove` question.
-#[derive(Debug, Drop)]
+#[derive(Drop)]
 pub enum ProveAnswer {
     /// The reference has a proof, with these values for the question's variables, in their order. A variable without a value is its own.
     Yes(Vec<GenericArgKind>),
@@ -27,7 +27,7 @@ pub enum ProveAnswer {
 }
 
 /// The answer of a `refute` question.
-#[derive(Clone, Copy, Debug, PartialEq, Eq)]
+#[derive(Clone, Copy, PartialEq, Eq)]
 pub enum RefuteAnswer {
     /// Wherever the crate is linked, the reference has no proof, whatever its variables stand for.
     No,

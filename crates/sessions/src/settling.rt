@@ -16,7 +16,7 @@ use type_terms::Fault;
 pub const MAX_ASKINGS: u32 = 8;
 
 /// What is known of a question's goal once its answer is settled.
-#[derive(Clone, Copy, Debug)]
+#[derive(Clone, Copy)]
 pub enum Outcome {
     /// It has a proof, with the values that the table has.
     Proved,
@@ -27,7 +27,7 @@ pub enum Outcome {
 }
 
 /// What one asking comes to.
-#[derive(Clone, Copy, Debug)]
+#[derive(Clone, Copy)]
 enum Asking {
     /// A yes that changes nothing.
     Holds,

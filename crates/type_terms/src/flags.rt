@@ -8,7 +8,7 @@ use bitflags::{Flag, Flags, bitflag_items};
 /// A flag for each sort (types `TY`, lifetimes `RE`, constants `CT`) of parameters, variables of inference,
 /// placeholders and bound variables, one for a binder that has a lifetime, and one for `'static`, which the original
 /// has among its `HAS_FREE_REGIONS`.
-#[derive(Clone, Copy, PartialEq, Eq, Debug, Hash)]
+#[derive(Clone, Copy, PartialEq, Eq, Hash)]
 pub struct TypeFlags(pub u32);
 
 bitflag_items! {

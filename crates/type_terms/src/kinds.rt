@@ -8,27 +8,27 @@ use std::alloc::AllocError;
 ///
 /// A handle means something only beside the interner that made it: each call on it wants that the interner has
 /// a type with its number.
-#[derive(Clone, Copy, PartialEq, Eq, Hash, Debug)]
+#[derive(Clone, Copy, PartialEq, Eq, Hash)]
 pub struct Ty(pub u32);
 
 /// A constant of an interner, by its number there.
-#[derive(Clone, Copy, PartialEq, Eq, Hash, Debug)]
+#[derive(Clone, Copy, PartialEq, Eq, Hash)]
 pub struct Const(pub u32);
 
 /// A list of generic arguments of an interner, by its number there.
-#[derive(Clone, Copy, PartialEq, Eq, Hash, Debug)]
+#[derive(Clone, Copy, PartialEq, Eq, Hash)]
 pub struct GenericArgs(pub u32);
 
 /// A list of types of an interner, by its number there.
-#[derive(Clone, Copy, PartialEq, Eq, Hash, Debug)]
+#[derive(Clone, Copy, PartialEq, Eq, Hash)]
 pub struct Tys(pub u32);
 
 /// The bounds of a `dyn` type of an interner, by their number there.
-#[derive(Clone, Copy, PartialEq, Eq, Hash, Debug)]
+#[derive(Clone, Copy, PartialEq, Eq, Hash)]
 pub struct Bounds(pub u32);
 
 /// The signed integer types.
-#[derive(Clone, Copy, PartialEq, Eq, Hash, Debug)]
+#[derive(Clone, Copy, PartialEq, Eq, Hash)]
 pub enum IntTy {
     I8,
     I16,
@@ -39,7 +39,7 @@ pub enum IntTy {
 }
 
 /// The unsigned integer types.
-#[derive(Clone, Copy, PartialEq, Eq, Hash, Debug)]
+#[derive(Clone, Copy, PartialEq, Eq, Hash)]
 pub enum UintTy {
     U8,
     U16,
@@ -50,14 +50,14 @@ pub enum UintTy {
 }
 
 /// Whether a reference or a raw pointer is `mut`.
-#[derive(Clone, Copy, PartialEq, Eq, Hash, Debug)]
+#[derive(Clone, Copy, PartialEq, Eq, Hash)]
 pub enum Mutability {
     Not,
     Mut,
 }
 
 /// What a type is.
-#[derive(Clone, Copy, PartialEq, Eq, Hash, Debug)]
+#[derive(Clone, Copy, PartialEq, Eq, Hash)]
 pub enum TyKind {
     Bool,
     Char,
@@ -91,7 +91,7 @@ pub enum TyKind {
 }
 
 /// What a constant is.
-#[derive(Clone, Copy, PartialEq, Eq, Hash, Debug)]
+#[derive(Clone, Copy, PartialEq, Eq, Hash)]
 pub enum ConstKind {
     Value(u64),
     /// The parameter with this place in the list of an item's parameters.
@@ -105,7 +105,7 @@ pub enum ConstKind {
 }
 
 /// One generic argument.
-#[derive(Clone, Copy, PartialEq, Eq, Hash, Debug)]
+#[derive(Clone, Copy, PartialEq, Eq, Hash)]
 pub enum GenericArgKind {
     Lifetime(Region),
     Ty(Ty),
@@ -113,7 +113,7 @@ pub enum GenericArgKind {
 }
 
 /// The principal trait of a `dyn` type, as `for<'a> Fn<&'a u8>`.
-#[derive(Clone, Copy, PartialEq, Eq, Hash, Debug)]
+#[derive(Clone, Copy, PartialEq, Eq, Hash)]
 pub struct Principal {
     /// How many lifetimes its `for<..>` binds.
     pub bound_vars: u32,
@@ -123,7 +123,7 @@ pub struct Principal {
 }
 
 /// The bounds of a `dyn` type, but for its lifetime.
-#[derive(PartialEq, Eq, Hash, Debug, Drop)]
+#[derive(PartialEq, Eq, Hash, Drop)]
 pub struct BoundsData {
     pub principal: Option<Principal>,
     /// The auto traits by rising number, each once.

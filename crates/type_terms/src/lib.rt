@@ -64,28 +64,28 @@ impl<T: Drop> From<AllocFailed<T>> for Fault {
 pub const MAX_INDEX: u32 = 0xFFFF_FF00;
 
 /// A crate, by its place in the text. The crate `core` is 0.
-#[derive(Clone, Copy, Debug, PartialEq, Eq, PartialOrd, Ord, Hash)]
+#[derive(Clone, Copy, PartialEq, Eq, PartialOrd, Ord, Hash)]
 pub struct CrateId {
     pub index: u32,
     ghost in_range: { index ≤ MAX_INDEX },
 }
 
 /// A struct, by its place among all structs; `Box` of `core` is 0.
-#[derive(Clone, Copy, Debug, PartialEq, Eq, PartialOrd, Ord, Hash)]
+#[derive(Clone, Copy, PartialEq, Eq, PartialOrd, Ord, Hash)]
 pub struct AdtId {
     pub index: u32,
     ghost in_range: { index ≤ MAX_INDEX },
 }
 
 /// A trait, by its place among all traits; those of `core` come first.
-#[derive(Clone, Copy, Debug, PartialEq, Eq, PartialOrd, Ord, Hash)]
+#[derive(Clone, Copy, PartialEq, Eq, PartialOrd, Ord, Hash)]
 pub struct TraitId {
     pub index: u32,
     ghost in_range: { index ≤ MAX_INDEX },
 }
 
 /// An impl, by its place among all impls; those of `core` come first.
-#[derive(Clone, Copy, Debug, PartialEq, Eq, PartialOrd, Ord, Hash)]
+#[derive(Clone, Copy, PartialEq, Eq, PartialOrd, Ord, Hash)]
 pub struct ImplId {
     pub index: u32,
     ghost in_range: { index ≤ MAX_INDEX },

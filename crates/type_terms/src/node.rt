@@ -11,7 +11,7 @@ use crate::kinds::{BoundsData, ConstKind, GenericArgKind, Ty, TyKind};
 use crate::number::BoundVarIndexKind;
 
 /// A term with the handles of the terms in it.
-#[derive(PartialEq, Eq, Hash, Debug, Drop)]
+#[derive(PartialEq, Eq, Hash, Drop)]
 pub(crate) enum Node {
     Ty(TyKind),
     Const(ConstKind),
@@ -21,7 +21,7 @@ pub(crate) enum Node {
 }
 
 /// The kinds of handle.
-#[derive(Clone, Copy, PartialEq, Eq, Debug)]
+#[derive(Clone, Copy, PartialEq, Eq)]
 pub(crate) enum HandleKind {
     Types,
     Consts,
@@ -31,7 +31,7 @@ pub(crate) enum HandleKind {
 }
 
 /// How many handles of each kind there are.
-#[derive(Clone, Copy, Debug)]
+#[derive(Clone, Copy)]
 pub(crate) struct Counts {
     pub types: u32,
     pub consts: u32,
@@ -41,7 +41,7 @@ pub(crate) struct Counts {
 }
 
 /// What is computed once, as a term is made.
-#[derive(Clone, Copy, Debug)]
+#[derive(Clone, Copy)]
 pub(crate) struct Info {
     pub flags: u32,
     pub outer_binder: u32,

@@ -5,7 +5,7 @@ ghost use Rattle.type_terms.specs.declared.TheConstants.{MAX_INDEX};
 /// A binder, counted from the variable outwards: 0 is the innermost binder around it.
 ///
 /// In `for<'a> fn(for<'b> fn(&'a u8, &'b u8))` the lifetime `'b` has the binder number 0 and `'a` has 1.
-#[derive(Clone, Copy, Debug, PartialEq, Eq, PartialOrd, Ord, Hash)]
+#[derive(Clone, Copy, PartialEq, Eq, PartialOrd, Ord, Hash)]
 pub struct DebruijnIndex {
     pub index: u32,
     ghost in_range: { index ≤ MAX_INDEX },
@@ -34,42 +34,42 @@ impl DebruijnIndex {
 }
 
 /// Which binder a bound variable belongs to: one around it, or the list of variables of a canonical form.
-#[derive(Clone, Copy, Debug, PartialEq, Eq, Hash)]
+#[derive(Clone, Copy, PartialEq, Eq, Hash)]
 pub enum BoundVarIndexKind {
     Bound(DebruijnIndex),
     Canonical,
 }
 
 /// A variable of a binder, by its place in the binder's list.
-#[derive(Clone, Copy, Debug, PartialEq, Eq, PartialOrd, Ord, Hash)]
+#[derive(Clone, Copy, PartialEq, Eq, PartialOrd, Ord, Hash)]
 pub struct BoundVar {
     pub index: u32,
     ghost in_range: { index ≤ MAX_INDEX },
 }
 
 /// A type variable of inference.
-#[derive(Clone, Copy, Debug, PartialEq, Eq, PartialOrd, Ord, Hash)]
+#[derive(Clone, Copy, PartialEq, Eq, PartialOrd, Ord, Hash)]
 pub struct TyVid {
     pub index: u32,
     ghost in_range: { index ≤ MAX_INDEX },
 }
 
 /// A constant variable of inference.
-#[derive(Clone, Copy, Debug, PartialEq, Eq, PartialOrd, Ord, Hash)]
+#[derive(Clone, Copy, PartialEq, Eq, PartialOrd, Ord, Hash)]
 pub struct ConstVid {
     pub index: u32,
     ghost in_range: { index ≤ MAX_INDEX },
 }
 
 /// A lifetime variable of inference.
-#[derive(Clone, Copy, Debug, PartialEq, Eq, PartialOrd, Ord, Hash)]
+#[derive(Clone, Copy, PartialEq, Eq, PartialOrd, Ord, Hash)]
 pub struct RegionVid {
     pub index: u32,
     ghost in_range: { index ≤ MAX_INDEX },
 }
 
 /// A universe of placeholders; a greater one lies inside a smaller one.
-#[derive(Clone, Copy, Debug, PartialEq, Eq, PartialOrd, Ord, Hash)]
+#[derive(Clone, Copy, PartialEq, Eq, PartialOrd, Ord, Hash)]
 pub struct UniverseIndex {
     pub index: u32,
     ghost in_range: { index ≤ MAX_INDEX },

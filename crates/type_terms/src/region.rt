@@ -2,7 +2,7 @@
 use crate::number::{BoundVar, BoundVarIndexKind, RegionVid};
 
 /// What a lifetime is.
-#[derive(Clone, Copy, Debug, PartialEq, Eq, Hash)]
+#[derive(Clone, Copy, PartialEq, Eq, Hash)]
 pub enum RegionKind {
     /// `'static`.
     ReStatic,
@@ -17,7 +17,7 @@ pub enum RegionKind {
 }
 
 /// A lifetime. It is a plain value, which is made and read without an interner.
-#[derive(Clone, Copy, Debug, PartialEq, Eq, Hash)]
+#[derive(Clone, Copy, PartialEq, Eq, Hash)]
 pub struct Region {
     pub kind: RegionKind,
 }

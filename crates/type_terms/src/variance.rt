@@ -3,7 +3,7 @@ ghost use Rattle.std.specs.Prelude.{◌≡◌};
 ghost use Rattle.type_terms.specs.Variance.{xform_of, IsAssociative, IsNeutral};
 
 /// How a type with a parameter changes as the argument grows.
-#[derive(Clone, Copy, Debug, PartialEq, Eq, Hash)]
+#[derive(Clone, Copy, PartialEq, Eq, Hash)]
 pub enum Variance {
     /// It grows with it, as `&'a T` in `T`.
     Covariant,
