@@ -1,3 +1,0 @@
-mod Readying
-mod Questions
-mod Rows

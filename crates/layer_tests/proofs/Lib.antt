@@ -1,0 +1,6 @@
+mod Books
+mod Evaluations
+mod Responses
+mod Readying
+mod Questions
+mod Rows

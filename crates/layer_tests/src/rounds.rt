@@ -1,0 +1,103 @@
+//! The rounds in which nested goals are asked, over the replies that are brought.
+ghost use Rattle.std.specs.Prelude.{IfOk, Some};
+ghost use Rattle.evaluation.specs.Readings.{ResultHeld};
+ghost use Rattle.evaluation.specs.Context.{IsReady};
+
+use crate::goals::{Sample, begun, holds, if_byte, is_type, make, shown};
+use evaluation::{EvalCtxt, EvalError, EvalStep, GoalSource};
+use infer_table::certainty::Certainty;
+use infer_table::response::CanonicalResponse;
+use std::alloc::Global;
+use type_terms::Fault;
+use type_terms::interner::Interner;
+
+/// An evaluation with the goal that the type is `Show`.
+fn begun_with(alloc: Global, cx: &mut Interner, sample: Sample) -> Result<EvalCtxt, Fault>
+    ensures { IfOk result (λ context. IsReady cx.new.entries context) }
+{
+    let mut context = begun(alloc, cx)?;
+    let goal = shown(alloc, cx, sample)?;
+    context.add_goal(GoalSource::Misc, goal)?;
+    Ok(context)
+}
+
+/// Brings a reply over this interner.
+fn hear(_cx: &Interner, context: &mut EvalCtxt, answer: CanonicalResponse) -> Result<(), Fault>
+    requires ready { IsReady _cx.now.entries context.old }
+    requires held { ResultHeld _cx.now.entries (Some answer) }
+    ensures { IsReady _cx.now.entries context.new }
+{
+    context.reply(Some(answer))?;
+    Ok(())
+}
+
+/// Brings the reply that the type is `u8`.
+fn hear_byte(alloc: Global, cx: &mut Interner, context: &mut EvalCtxt) -> Result<(), Fault>
+    requires { IsReady cx.old.entries context.old }
+    ensures { IsReady cx.new.entries context.new }
+{
+    let byte = if_byte(alloc, cx)?;
+    hear(cx, context, byte)
+}
+
+/// How sure it is that the goals hold, or none where a reply is waited for.
+fn evaluate(cx: &mut Interner, context: &mut EvalCtxt) -> Result<Option<Certainty>, EvalError>
+    requires { IsReady cx.old.entries context.old }
+    ensures { IsReady cx.new.entries context.new }
+{
+    match context.try_evaluate_added_goals(cx)? {
+        EvalStep::Ready(certainty) => Ok(Some(certainty)),
+        EvalStep::Ask(_, _) => Ok(None),
+    }
+}
+
+/// How sure it is that `u8: Show`, before and after the reply that it holds, and how many goals are left then.
+fn asked_and_dropped(
+    alloc: Global,
+    cx: &mut Interner,
+) -> Result<([Option<Certainty>; 2], usize), EvalError> {
+    let mut context = begun_with(alloc, cx, Sample::Byte)?;
+    let before = evaluate(cx, &mut context)?;
+    hear(cx, &mut context, holds(alloc))?;
+    let after = evaluate(cx, &mut context)?;
+    Ok(([before, after], context.nested_goals().len()))
+}
+
+#[test]
+fn a_goal_is_asked_and_dropped_where_it_holds(rt: HostRuntime) -> Result<(), EvalError> {
+    let mut cx = Interner::new(rt.alloc(), 100);
+    let wanted = ([None, Some(Certainty::Yes)], 0);
+    assert!(rt; asked_and_dropped(rt.alloc(), &mut cx)? == wanted);
+    Ok(())
+}
+
+/// Whether the answer is a yes by which the type is `u8`.
+fn is_byte(cx: &mut Interner, context: &mut EvalCtxt) -> Result<bool, EvalError>
+    requires { IsReady cx.old.entries context.old }
+{
+    let yes = Certainty::Yes;
+    match context.evaluate_added_goals_and_make_canonical_response(cx, yes)? {
+        EvalStep::Ready(answer) => {
+            let byte = make(cx, Sample::Byte)?;
+            Ok(answer.certainty == yes && is_type(answer.var_values.first(), byte))
+        }
+        EvalStep::Ask(_, _) => Ok(false),
+    }
+}
+
+/// Whether the goal of an unknown type, for which it holds if that is `u8`, is asked once more, and then is a yes with `u8`.
+fn asked_again(alloc: Global, cx: &mut Interner) -> Result<[bool; 2], EvalError> {
+    let mut context = begun_with(alloc, cx, Sample::Unknown)?;
+    hear_byte(alloc, cx, &mut context)?;
+    let is_asked = evaluate(cx, &mut context)?.is_none();
+    hear(cx, &mut context, holds(alloc))?;
+    Ok([is_asked, is_byte(cx, &mut context)?])
+}
+
+// A yes with values is no definite yes: its goal is asked once more, with the values put in.
+#[test]
+fn a_value_is_applied_and_its_goal_asked_again(rt: HostRuntime) -> Result<(), EvalError> {
+    let mut cx = Interner::new(rt.alloc(), 100);
+    assert!(rt; asked_again(rt.alloc(), &mut cx)? == [true, true]);
+    Ok(())
+}

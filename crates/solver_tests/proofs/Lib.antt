@@ -1,3 +1,0 @@
-mod Books
-mod Evaluations
-mod Responses
