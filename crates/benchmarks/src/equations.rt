@@ -74,13 +74,26 @@ fn resolve_all(cx: &mut Interner, table: &InferCtxt, count: u32) -> Result<u32, 
 }
 
 /// Equates each of so many type variables with the next, and resolves them all; answers how many stand for the first.
+fn link_and_resolve(
+    cx: &mut Interner,
+    table: &mut InferCtxt,
+    count: u32,
+    order: Order,
+) -> Result<u32, EqError>
+    requires count { count ≤ MOST }
+    requires ready { Ready cx.old.entries table.old }
+{
+    link_all(cx, table, count, order)?;
+    Ok(resolve_all(cx, table, count)?)
+}
+
+/// Does so in a new interner and table.
 pub fn chained(alloc: Global, count: u32, order: Order) -> Result<u32, EqError>
     requires { count ≤ MOST }
 {
     let mut cx = Interner::new(alloc, HANDLES);
     let mut table = InferCtxt::new(alloc);
-    link_all(&mut cx, &mut table, count, order)?;
-    Ok(resolve_all(&mut cx, &table, count)?)
+    link_and_resolve(&mut cx, &mut table, count, order)
 }
 
 /// Gives a type variable the slice of the next one as its value.
@@ -110,13 +123,21 @@ fn nest_all(cx: &mut Interner, table: &mut InferCtxt, count: u32) -> Result<(), 
 /// Gives each of so many type variables the slice of the next one as its value, and resolves the first; answers how deep it is.
 ///
 /// No type that was equated is deep, but what comes out is.
+fn nest_and_resolve(cx: &mut Interner, table: &mut InferCtxt, count: u32) -> Result<u32, EqError>
+    requires count { count ≤ MOST }
+    requires ready { Ready cx.old.entries table.old }
+{
+    nest_all(cx, table, count)?;
+    let first = cx.mk_ty(TyKind::Infer(TyVid { index: 0 }))?;
+    let resolved = table.eager_resolve_vars(cx, first)?;
+    Ok(cx.depth(resolved))
+}
+
+/// Does so in a new interner and table.
 pub fn nested_values(alloc: Global, count: u32) -> Result<u32, EqError>
     requires { count ≤ MOST }
 {
     let mut cx = Interner::new(alloc, HANDLES);
     let mut table = InferCtxt::new(alloc);
-    nest_all(&mut cx, &mut table, count)?;
-    let first = cx.mk_ty(TyKind::Infer(TyVid { index: 0 }))?;
-    let resolved = table.eager_resolve_vars(&mut cx, first)?;
-    Ok(cx.depth(resolved))
+    nest_and_resolve(&mut cx, &mut table, count)
 }

@@ -56,12 +56,38 @@ pub fn tuple_goal(alloc: Global, cx: &mut Interner, items: Vec<Ty>) -> Result<Go
     })
 }
 
-/// Gives the canonical form of a goal about a tuple of so many unknowns; answers how many variables it has.
+/// A goal about a tuple of so many new unknowns.
+fn goal_of_unknowns(
+    alloc: Global,
+    cx: &mut Interner,
+    table: &mut InferCtxt,
+    count: u32,
+) -> Result<Goal, Fault>
+    requires { Ready cx.old.entries table.old }
+    ensures ready { Ready cx.new.entries table.new }
+    ensures held { IfOk result (λ g. GoalHeld cx.new.entries g) }
+{
+    let items = unknowns(alloc, cx, table, count)?;
+    tuple_goal(alloc, cx, items)
+}
+
+/// Gives the canonical form of such a goal; answers how many variables it has.
+fn form_of_unknowns(
+    alloc: Global,
+    cx: &mut Interner,
+    table: &mut InferCtxt,
+    count: u32,
+) -> Result<usize, Fault>
+    requires { Ready cx.old.entries table.old }
+{
+    let goal = goal_of_unknowns(alloc, cx, table, count)?;
+    let form = canonicalize_goal(alloc, cx, table, TypingMode::Coherence, &goal)?;
+    Ok(form.input.variables.len())
+}
+
+/// Does so in a new interner and table.
 pub fn canonical(alloc: Global, count: u32) -> Result<usize, Fault> {
     let mut cx = Interner::new(alloc, HANDLES);
     let mut table = InferCtxt::new(alloc);
-    let items = unknowns(alloc, &mut cx, &mut table, count)?;
-    let goal = tuple_goal(alloc, &mut cx, items)?;
-    let form = canonicalize_goal(alloc, &mut cx, &table, TypingMode::Coherence, &goal)?;
-    Ok(form.input.variables.len())
+    form_of_unknowns(alloc, &mut cx, &mut table, count)
 }

@@ -18,7 +18,7 @@ use std::alloc::Global;
 use std::process::ExitCode;
 use std::rt::Env;
 use std::{env, io};
-use walks::Shape;
+use walks::{Shape, Walk};
 
 /// The programs.
 #[derive(Clone, Copy)]
@@ -41,25 +41,6 @@ enum Program {
     ChainedBackward,
     /// Variables whose values are slices of the next.
     NestedValues,
-}
-
-/// What is done with a large term.
-#[derive(Clone, Copy)]
-enum Walk {
-    /// An argument is put for its parameter.
-    Instantiated,
-    /// Its variable is resolved.
-    Resolved,
-    /// It becomes a variable's value.
-    Bound,
-    /// It is equated with another.
-    Equated,
-    /// It is equated with one that has another lifetime.
-    Related,
-    /// A goal about it gets its canonical form.
-    Canonicalized,
-    /// And the form gets new unknowns.
-    Reopened,
 }
 
 /// The greatest count that a run takes.
@@ -171,35 +152,15 @@ fn run(rt: &impl Print, alloc: Global, program: Program, count: u32) -> Option<(
 
 /// Walks a term of that shape, so many levels deep, and prints what came of it, as `run` does.
 fn run_walk(rt: &impl Print, alloc: Global, walk: Walk, shape: Shape, levels: u32) -> Option<()> {
+    let found = walks::run(alloc, walk, shape, levels)?;
     let printed = match walk {
-        Walk::Instantiated => {
-            let depth = walks::instantiated(alloc, shape, levels).ok()?;
-            println!(rt; "an instance {depth} deep")
-        }
-        Walk::Resolved => {
-            let depth = walks::resolved(alloc, shape, levels).ok()?;
-            println!(rt; "a type {depth} deep")
-        }
-        Walk::Bound => {
-            let depth = walks::bound(alloc, shape, levels).ok()?;
-            println!(rt; "a value {depth} deep")
-        }
-        Walk::Equated => {
-            let depth = walks::equated(alloc, shape, levels).ok()?;
-            println!(rt; "two types {depth} deep")
-        }
-        Walk::Related => {
-            let recorded = walks::related(alloc, shape, levels).ok()?;
-            println!(rt; "{recorded} constraint")
-        }
-        Walk::Canonicalized => {
-            let variables = walks::canonicalized(alloc, shape, levels).ok()?;
-            println!(rt; "a form with {variables} variable")
-        }
-        Walk::Reopened => {
-            let unknowns = walks::reopened(alloc, shape, levels).ok()?;
-            println!(rt; "a goal with {unknowns} unknown")
-        }
+        Walk::Instantiated => println!(rt; "an instance {found} deep"),
+        Walk::Resolved => println!(rt; "a type {found} deep"),
+        Walk::Bound => println!(rt; "a value {found} deep"),
+        Walk::Equated => println!(rt; "two types {found} deep"),
+        Walk::Related => println!(rt; "{found} constraint"),
+        Walk::Canonicalized => println!(rt; "a form with {found} variable"),
+        Walk::Reopened => println!(rt; "a goal with {found} unknown"),
     };
     printed.ok()
 }

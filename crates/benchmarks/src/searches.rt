@@ -8,7 +8,7 @@ use std::alloc::{AllocError, Global};
 use std::ops::Range;
 
 /// What a search came to.
-#[derive(Clone, Copy, Debug, PartialEq, Eq)]
+#[derive(Clone, Copy, PartialEq, Eq)]
 pub struct Counts {
     /// How many goals were evaluated by themselves.
     pub goals: usize,

@@ -41,11 +41,16 @@ pub fn structs(cx: &mut Interner, alloc: Global, leaf: Ty, count: u32) -> Result
 }
 
 /// Makes so many types, each nested in the next; answers how deep the last one is.
+fn nest(cx: &mut Interner, count: u32) -> Result<u32, Fault> {
+    let leaf = cx.mk_ty(TyKind::Param(0))?;
+    let ty = slices(cx, leaf, count)?;
+    Ok(cx.depth(ty))
+}
+
+/// Does so in a new interner.
 pub fn nested(alloc: Global, count: u32) -> Result<u32, Fault> {
     let mut cx = Interner::new(alloc, HANDLES);
-    let leaf = cx.mk_ty(TyKind::Param(0))?;
-    let ty = slices(&mut cx, leaf, count)?;
-    Ok(cx.depth(ty))
+    nest(&mut cx, count)
 }
 
 /// The list of the argument `u8` alone.
@@ -86,12 +91,17 @@ fn instantiate_often(
 }
 
 /// Puts `u8` for the parameter of a type that is 64 deep, so many times; answers how often another type came out.
+fn instantiate_deep(alloc: Global, cx: &mut Interner, count: u32) -> Result<u32, InstantiateError> {
+    let args = byte_args(cx, alloc)?;
+    let leaf = cx.mk_ty(TyKind::Param(0))?;
+    let ty = slices(cx, leaf, DEEP - 1)?;
+    instantiate_often(alloc, cx, ty, args, count)
+}
+
+/// Does so in a new interner.
 pub fn instantiated(alloc: Global, count: u32) -> Result<u32, InstantiateError> {
     let mut cx = Interner::new(alloc, HANDLES);
-    let args = byte_args(&mut cx, alloc)?;
-    let leaf = cx.mk_ty(TyKind::Param(0))?;
-    let ty = slices(&mut cx, leaf, DEEP - 1)?;
-    instantiate_often(alloc, &mut cx, ty, args, count)
+    instantiate_deep(alloc, &mut cx, count)
 }
 
 /// A type at the ends of pairs of pairs, so many levels deep: a tree that doubles at each level.

@@ -1,7 +1,6 @@
 //! What walks of one large term cost, by what they do and by how the term is built.
 ghost use Rattle.std.specs.Prelude.{IfOk};
 ghost use Rattle.type_terms.specs.Terms.{Has, Keeps, types};
-ghost use Rattle.type_terms.specs.Kinds.{RegionHeld};
 ghost use Rattle.infer_table.specs.Content.{Ready};
 ghost use Rattle.infer_table.specs.Goals.{GoalHeld};
 
@@ -10,7 +9,7 @@ use crate::terms::{HANDLES, byte_args, pairs, slices, structs};
 use infer_table::certainty::{EqError, TypingMode};
 use infer_table::goal::Goal;
 use infer_table::infer_ctxt::InferCtxt;
-use infer_table::input::canonicalize_goal;
+use infer_table::input::{CanonicalInput, canonicalize_goal};
 use infer_table::unknowns::instantiate_canonical;
 use std::alloc::Global;
 use term_folds::binder::EarlyBinder;
@@ -33,6 +32,25 @@ pub enum Shape {
     Structs,
 }
 
+/// What is done with a large term, and what number comes of it.
+#[derive(Clone, Copy)]
+pub enum Walk {
+    /// An argument is put for its parameter; how deep the instance is.
+    Instantiated,
+    /// Its variable gets a value, and it is resolved; how deep what comes out is.
+    Resolved,
+    /// It becomes a variable's value; how deep that is.
+    Bound,
+    /// It is equated with such a term over another variable; how deep they are.
+    Equated,
+    /// It is equated with such a term over another lifetime; how many constraints that records.
+    Related,
+    /// A goal about it gets its canonical form; how many variables that has.
+    Canonicalized,
+    /// And the form gets new unknowns; how many.
+    Reopened,
+}
+
 /// A type over a leaf, so many levels deep.
 fn tower(cx: &mut Interner, alloc: Global, shape: Shape, leaf: Ty, levels: u32) -> Result<Ty, Fault>
     requires { Has cx.old.entries types leaf.0 }
@@ -47,57 +65,123 @@ fn tower(cx: &mut Interner, alloc: Global, shape: Shape, leaf: Ty, levels: u32) 
 }
 
 /// Puts `u8` for the parameter at the ends of a type; answers how deep the instance is.
-pub fn instantiated(alloc: Global, shape: Shape, levels: u32) -> Result<u32, InstantiateError> {
+fn instantiated(
+    alloc: Global,
+    cx: &mut Interner,
+    shape: Shape,
+    levels: u32,
+) -> Result<usize, InstantiateError> {
     closed_arguments_are_in_range();
-    let mut cx = Interner::new(alloc, HANDLES);
     let leaf = cx.mk_ty(TyKind::Param(0))?;
-    let ty = tower(&mut cx, alloc, shape, leaf, levels)?;
-    let args = byte_args(&mut cx, alloc)?;
+    let ty = tower(cx, alloc, shape, leaf, levels)?;
+    let args = byte_args(cx, alloc)?;
     if cx.outer_exclusive_binder(args).index != 0 {
         return Ok(0);
     }
-    let instance = EarlyBinder::bind(ty).instantiate(alloc, &mut cx, args)?;
-    Ok(cx.depth(instance))
+    let instance = EarlyBinder::bind(ty).instantiate(alloc, cx, args)?;
+    Ok(cx.depth(instance) as usize)
+}
+
+/// The first two type variables.
+fn unknowns(cx: &mut Interner) -> Result<(Ty, Ty), Fault>
+    ensures first { IfOk result (λ tys. Has cx.new.entries types tys.0.0) }
+    ensures second { IfOk result (λ tys. Has cx.new.entries types tys.1.0) }
+    ensures keeps { Keeps cx.old.entries cx.new.entries }
+{
+    let first = cx.mk_ty(TyKind::Infer(TyVid { index: 0 }))?;
+    let second = cx.mk_ty(TyKind::Infer(TyVid { index: 1 }))?;
+    Ok((first, second))
+}
+
+/// Makes two types equal.
+fn equate(cx: &mut Interner, table: &mut InferCtxt, left: Ty, right: Ty) -> Result<(), EqError>
+    requires ready { Ready cx.old.entries table.old }
+    requires left { Has cx.old.entries types left.0 }
+    requires right { Has cx.old.entries types right.0 }
+    ensures ready { Ready cx.new.entries table.new }
+    ensures keeps { Keeps cx.old.entries cx.new.entries }
+{
+    table.eq(cx, GenericArgKind::Ty(left), GenericArgKind::Ty(right))
 }
 
 /// Gives a variable that stands at the ends of a type the value `u8`, and resolves the type; answers how deep what comes out is.
-pub fn resolved(alloc: Global, shape: Shape, levels: u32) -> Result<u32, EqError> {
-    let mut cx = Interner::new(alloc, HANDLES);
-    let mut table = InferCtxt::new(alloc);
-    let leaf = cx.mk_ty(TyKind::Infer(TyVid { index: 0 }))?;
+fn resolved(
+    alloc: Global,
+    cx: &mut Interner,
+    table: &mut InferCtxt,
+    shape: Shape,
+    levels: u32,
+) -> Result<usize, EqError>
+    requires { Ready cx.old.entries table.old }
+{
+    let (leaf, _) = unknowns(cx)?;
     let byte = cx.mk_ty(TyKind::Uint(UintTy::U8))?;
-    table.eq(&mut cx, GenericArgKind::Ty(leaf), GenericArgKind::Ty(byte))?;
-    let ty = tower(&mut cx, alloc, shape, leaf, levels)?;
-    let resolved = table.eager_resolve_vars(&mut cx, ty)?;
-    Ok(cx.depth(resolved))
+    equate(cx, table, leaf, byte)?;
+    let ty = tower(cx, alloc, shape, leaf, levels)?;
+    let resolved = table.eager_resolve_vars(cx, ty)?;
+    Ok(cx.depth(resolved) as usize)
 }
 
 /// Equates a new variable with a type over another; answers how deep its value is.
-pub fn bound(alloc: Global, shape: Shape, levels: u32) -> Result<u32, EqError> {
-    let mut cx = Interner::new(alloc, HANDLES);
-    let mut table = InferCtxt::new(alloc);
-    let leaf = cx.mk_ty(TyKind::Infer(TyVid { index: 0 }))?;
-    let ty = tower(&mut cx, alloc, shape, leaf, levels)?;
-    let variable = cx.mk_ty(TyKind::Infer(TyVid { index: 1 }))?;
-    table.eq(
-        &mut cx,
-        GenericArgKind::Ty(variable),
-        GenericArgKind::Ty(ty),
-    )?;
-    let value = table.shallow_resolve(&cx, variable);
-    Ok(cx.depth(value))
+fn bound(
+    alloc: Global,
+    cx: &mut Interner,
+    table: &mut InferCtxt,
+    shape: Shape,
+    levels: u32,
+) -> Result<usize, EqError>
+    requires { Ready cx.old.entries table.old }
+{
+    let (leaf, variable) = unknowns(cx)?;
+    let ty = tower(cx, alloc, shape, leaf, levels)?;
+    equate(cx, table, variable, ty)?;
+    let value = table.shallow_resolve(cx, variable);
+    Ok(cx.depth(value) as usize)
+}
+
+/// Equates two types over these leaves; answers how deep they are.
+fn towers_equated(
+    alloc: Global,
+    cx: &mut Interner,
+    table: &mut InferCtxt,
+    shape: Shape,
+    leaves: (Ty, Ty),
+    levels: u32,
+) -> Result<usize, EqError>
+    requires ready { Ready cx.old.entries table.old }
+    requires first { Has cx.old.entries types leaves.0.0 }
+    requires second { Has cx.old.entries types leaves.1.0 }
+{
+    let left = tower(cx, alloc, shape, leaves.0, levels)?;
+    let right = tower(cx, alloc, shape, leaves.1, levels)?;
+    equate(cx, table, left, right)?;
+    Ok(cx.depth(right) as usize)
 }
 
 /// Equates two types, each over a variable of its own; answers how deep they are.
-pub fn equated(alloc: Global, shape: Shape, levels: u32) -> Result<u32, EqError> {
-    let mut cx = Interner::new(alloc, HANDLES);
-    let mut table = InferCtxt::new(alloc);
-    let left = cx.mk_ty(TyKind::Infer(TyVid { index: 0 }))?;
-    let left = tower(&mut cx, alloc, shape, left, levels)?;
-    let right = cx.mk_ty(TyKind::Infer(TyVid { index: 1 }))?;
-    let right = tower(&mut cx, alloc, shape, right, levels)?;
-    table.eq(&mut cx, GenericArgKind::Ty(left), GenericArgKind::Ty(right))?;
-    Ok(cx.depth(right))
+fn equated(
+    alloc: Global,
+    cx: &mut Interner,
+    table: &mut InferCtxt,
+    shape: Shape,
+    levels: u32,
+) -> Result<usize, EqError>
+    requires { Ready cx.old.entries table.old }
+{
+    let leaves = unknowns(cx)?;
+    towers_equated(alloc, cx, table, shape, leaves, levels)
+}
+
+/// References to `u8` with two lifetime variables.
+fn references(cx: &mut Interner) -> Result<(Ty, Ty), Fault>
+    ensures first { IfOk result (λ tys. Has cx.new.entries types tys.0.0) }
+    ensures second { IfOk result (λ tys. Has cx.new.entries types tys.1.0) }
+    ensures keeps { Keeps cx.old.entries cx.new.entries }
+{
+    let byte = cx.mk_ty(TyKind::Uint(UintTy::U8))?;
+    let first = cx.mk_ty(TyKind::Ref(FIRST, byte, Mutability::Not))?;
+    let second = cx.mk_ty(TyKind::Ref(SECOND, byte, Mutability::Not))?;
+    Ok((first, second))
 }
 
 /// A lifetime variable.
@@ -110,25 +194,18 @@ const SECOND: Region = Region {
     kind: RegionKind::ReVar(RegionVid { index: 1 }),
 };
 
-/// A reference to `u8` with that lifetime.
-fn reference(cx: &mut Interner, region: Region) -> Result<Ty, Fault>
-    requires { RegionHeld region.kind }
-    ensures made { IfOk result (λ ty. Has cx.new.entries types ty.0) }
-    ensures keeps { Keeps cx.old.entries cx.new.entries }
-{
-    let byte = cx.mk_ty(TyKind::Uint(UintTy::U8))?;
-    cx.mk_ty(TyKind::Ref(region, byte, Mutability::Not))
-}
-
 /// Equates two types that differ in the lifetime at their ends; answers how many constraints that records.
-pub fn related(alloc: Global, shape: Shape, levels: u32) -> Result<usize, EqError> {
-    let mut cx = Interner::new(alloc, HANDLES);
-    let mut table = InferCtxt::new(alloc);
-    let left = reference(&mut cx, FIRST)?;
-    let left = tower(&mut cx, alloc, shape, left, levels)?;
-    let right = reference(&mut cx, SECOND)?;
-    let right = tower(&mut cx, alloc, shape, right, levels)?;
-    table.eq(&mut cx, GenericArgKind::Ty(left), GenericArgKind::Ty(right))?;
+fn related(
+    alloc: Global,
+    cx: &mut Interner,
+    table: &mut InferCtxt,
+    shape: Shape,
+    levels: u32,
+) -> Result<usize, EqError>
+    requires { Ready cx.old.entries table.old }
+{
+    let leaves = references(cx)?;
+    towers_equated(alloc, cx, table, shape, leaves, levels)?;
     Ok(table.region_constraints().len())
 }
 
@@ -149,21 +226,80 @@ fn tower_goal(
     tuple_goal(alloc, cx, vec![in alloc; ty]?)
 }
 
+/// The canonical form of a goal about a type over an unknown.
+fn form(
+    alloc: Global,
+    cx: &mut Interner,
+    table: &mut InferCtxt,
+    shape: Shape,
+    levels: u32,
+) -> Result<CanonicalInput, Fault>
+    requires { Ready cx.old.entries table.old }
+    ensures ready { Ready cx.new.entries table.new }
+    ensures held { IfOk result (λ input. GoalHeld cx.new.entries input.goal) }
+{
+    let goal = tower_goal(alloc, cx, table, shape, levels)?;
+    let form = canonicalize_goal(alloc, cx, table, TypingMode::Coherence, &goal)?;
+    Ok(form.input)
+}
+
 /// Gives the canonical form of a goal about a type over an unknown; answers how many variables it has.
-pub fn canonicalized(alloc: Global, shape: Shape, levels: u32) -> Result<usize, Fault> {
-    let mut cx = Interner::new(alloc, HANDLES);
-    let mut table = InferCtxt::new(alloc);
-    let goal = tower_goal(alloc, &mut cx, &mut table, shape, levels)?;
-    let form = canonicalize_goal(alloc, &mut cx, &table, TypingMode::Coherence, &goal)?;
-    Ok(form.input.variables.len())
+fn canonicalized(
+    alloc: Global,
+    cx: &mut Interner,
+    table: &mut InferCtxt,
+    shape: Shape,
+    levels: u32,
+) -> Result<usize, Fault>
+    requires { Ready cx.old.entries table.old }
+{
+    let input = form(alloc, cx, table, shape, levels)?;
+    Ok(input.variables.len())
 }
 
 /// Gives such a form, and makes the goal of it that has new unknowns; answers how many it has.
-pub fn reopened(alloc: Global, shape: Shape, levels: u32) -> Result<usize, Fault> {
+fn reopened(
+    alloc: Global,
+    cx: &mut Interner,
+    table: &mut InferCtxt,
+    shape: Shape,
+    levels: u32,
+) -> Result<usize, Fault>
+    requires { Ready cx.old.entries table.old }
+{
+    let input = form(alloc, cx, table, shape, levels)?;
+    let opened = instantiate_canonical(alloc, cx, table, &input)?;
+    Ok(opened.values.len())
+}
+
+/// What the walk of such a term comes to, over this interner and table.
+fn walked(
+    alloc: Global,
+    cx: &mut Interner,
+    table: &mut InferCtxt,
+    walk: Walk,
+    shape: Shape,
+    levels: u32,
+) -> Option<usize>
+    requires { Ready cx.old.entries table.old }
+{
+    match walk {
+        Walk::Instantiated => instantiated(alloc, cx, shape, levels).ok(),
+        Walk::Resolved => resolved(alloc, cx, table, shape, levels).ok(),
+        Walk::Bound => bound(alloc, cx, table, shape, levels).ok(),
+        Walk::Equated => equated(alloc, cx, table, shape, levels).ok(),
+        Walk::Related => related(alloc, cx, table, shape, levels).ok(),
+        Walk::Canonicalized => canonicalized(alloc, cx, table, shape, levels).ok(),
+        Walk::Reopened => reopened(alloc, cx, table, shape, levels).ok(),
+    }
+}
+
+/// Walks a term of that shape, so many levels deep, in a new interner; answers the walk's number, or nothing where a table is full or
+/// memory was refused.
+///
+/// It alone owns the tables, and has one way out: what owns much is dear to prove at each `?`.
+pub fn run(alloc: Global, walk: Walk, shape: Shape, levels: u32) -> Option<usize> {
     let mut cx = Interner::new(alloc, HANDLES);
     let mut table = InferCtxt::new(alloc);
-    let goal = tower_goal(alloc, &mut cx, &mut table, shape, levels)?;
-    let form = canonicalize_goal(alloc, &mut cx, &table, TypingMode::Coherence, &goal)?;
-    let opened = instantiate_canonical(alloc, &mut cx, &mut table, &form.input)?;
-    Ok(opened.values.len())
+    walked(alloc, &mut cx, &mut table, walk, shape, levels)
 }
