@@ -1,7 +1,7 @@
 //! One goal, asked alone.
 ghost use Rattle.std.specs.Prelude.{◌≡◌, ◌⊎◌, IsTrue, true, false, IfOk, IfErr, Ok, Err};
 ghost use Rattle.type_terms.specs.Terms.{Keeps};
-ghost use Rattle.infer_table.specs.Content.{Ready};
+ghost use Rattle.infer_table.specs.Content.{Table, Ready, Grows, place_in};
 ghost use Rattle.declarations.specs.Held.{ReferenceHeld};
 ghost use Rattle.search_graph.specs.Cache.{AreJustified, AreConsistent, KeepsResults};
 ghost use Rattle.search_graph.specs.Meaning as Search;
@@ -13,6 +13,7 @@ use evaluation::TypingMode;
 use goal_frames::GoalHandler;
 use infer_table::goal::Goal;
 use infer_table::infer_ctxt::InferCtxt;
+use infer_table::terms::Snapshot;
 use root_goals::{GoalEvaluation, RootError, SolverCx, SolverGraph, evaluate_root_goal};
 use search_graph::{GlobalCache, SearchGraph};
 use term_folds::predicate::{TraitPredicate, TraitRef};
@@ -97,8 +98,15 @@ fn evaluate_alone<H: GoalHandler>(
     };
     let place = table.snapshot();
     let evaluated = evaluate_root_goal(graph, cache, cx, table, TypingMode::Coherence, &goal);
-    table.roll_back(place);
+    take_back(table, place);
     evaluated
+}
+
+/// Puts the table back to where it stood before the goal was asked: no value of its answer stays.
+fn take_back(table: &mut InferCtxt, place: Snapshot)
+    ensures { (before : Table) → place ≡ place_in before → Grows before table.old → table.new ≡ before }
+{
+    table.roll_back(place);
 }
 
 /// Whether what became of a goal is that it has no solution: any answer leaves it open, and a conflict refuses nothing. A fault says
