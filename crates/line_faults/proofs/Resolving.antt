@@ -51,15 +51,15 @@ bound-begins b o cells tail n start h e =
     let f : named_cell n start ∷ tail ≡ named_cell b.trait (length (reverse o)) ∷ args_back b.args (reverse o) = sym e ∙ ap reverse h ∙ type-turned (named b.trait b.args) o in
     (cc, cc, cc)
 
-pub bound-resolved : (v : Sight) (b : Bound) (o : List Cell) (fs : List Frame) (s : List (List (List ℕ))) (r q : List Cell) (a x : Found)
-    → fs ≡ bound_args (reverse o) (kinds_of_trait (known (items v) b.trait)) (Some 64) true (args_count b.args) ∷ [] → s ≡ [] → r ≡ args_back b.args (reverse o) → a ≡ nothing_found
+pub bound-resolved : (v : Sight) (b : Bound) (back : List Cell) (fs : List Frame) (s : List (List (List ℕ))) (r q : List Cell) (a x : Found)
+    → fs ≡ bound_args back (kinds_of_trait (known (items v) b.trait)) (Some 64) true (args_count b.args) ∷ [] → s ≡ [] → r ≡ args_back b.args back → a ≡ nothing_found
     → Reaches v (going fs s r a) (finished q x) → noting (findings v (trait_use b.trait (args_count b.args) ∷ [])) x ≡ bound_found v b
-bound-resolved v b o fs s r q a x ef es er ea k =
+bound-resolved v b back fs s r q a x ef es er ea k =
     let ks = kinds_of_trait (known (items v) b.trait) in
     let u = trait_use b.trait (args_count b.args) ∷ [] in
-    let gs = bound_args (reverse o) ks (Some 64) true (args_count b.args) ∷ [] in
-    let same : going fs s r a ≡ going gs [] (args_back b.args (reverse o)) nothing_found =
-    ap (λ z. going z s r a) ef ∙ ap (λ z. going gs z r a) es ∙ ap (λ z. going gs [] z a) er ∙ ap (going gs [] (args_back b.args (reverse o))) ea in
-    let m = args_resolved v ks (Some 64) true b.args (reverse o) nothing_found in
+    let gs = bound_args back ks (Some 64) true (args_count b.args) ∷ [] in
+    let same : going fs s r a ≡ going gs [] (args_back b.args back) nothing_found =
+    ap (λ z. going z s r a) ef ∙ ap (λ z. going gs z r a) es ∙ ap (λ z. going gs [] z a) er ∙ ap (going gs [] (args_back b.args back)) ea in
+    let m = args_resolved v ks (Some 64) true b.args back nothing_found in
     let n = subst (λ z. Reaches v z (finished q x)) same k in
-    ap (noting (findings v u)) (one-end v n.0 m.0 (going gs [] (args_back b.args (reverse o)) nothing_found) q (reverse o) x (with_args v [] ks (Some 64) true b.args nothing_found) n.1 m.1) ∙ with-bound v b
+    ap (noting (findings v u)) (one-end v n.0 m.0 (going gs [] (args_back b.args back) nothing_found) q back x (with_args v [] ks (Some 64) true b.args nothing_found) n.1 m.1) ∙ with-bound v b

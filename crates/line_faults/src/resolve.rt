@@ -1,7 +1,14 @@
 //! Types and bounds of a line, looked up.
-ghost use Rattle.std.specs.Prelude.{IfOk};
+ghost use Rattle.std.specs.Prelude.{◌≡◌, List, [], length, IfOk, OnOk};
+ghost use Rattle.text_definitions.specs.Syntax.{Bound};
+ghost use Rattle.text_definitions.specs.Declarations.{known};
+ghost use Rattle.text_definitions.specs.Lowering.{trait_number};
+ghost use Rattle.line_reader.specs.Cells as cell;
 ghost use Rattle.line_reader.specs.TypeViews.{cells_in};
-ghost use Rattle.line_faults.specs.Resolving.{ResolvesType, ResolvesBound};
+ghost use Rattle.line_faults.specs.Back.{args_back};
+ghost use Rattle.line_faults.specs.Machine.{items};
+ghost use Rattle.line_faults.specs.WalkViews.{frames_in};
+ghost use Rattle.line_faults.specs.Resolving.{ResolvesType, ResolvesBound, nothing_found, bound_found};
 
 use crate::findings::Findings;
 use crate::looked_up::Names;
@@ -57,6 +64,38 @@ pub fn resolve_type<'a, N: Names>(
     Ok(walk.into_found().finish())
 }
 
+/// Goes over the arguments of the bound of this name, which begin at this place, and returns the number of its trait.
+fn run_bound<'n, 'c, 'a, N: Names>(
+    walk: &mut Walk<'n, 'c, 'a>,
+    names: &'n N,
+    alloc: Global,
+    name: &'a [u8],
+    start: usize,
+) -> Result<usize, AllocError>
+    requires frames { frames_in walk.old.frames.items ≡ [] }
+    requires binders { walk.old.binders ≡ [] }
+    requires found { walk.old.found ≡ nothing_found }
+    ensures number { IfOk result (λ n. n ≡ trait_number (known (items (N.sight names.now)) name.now)) }
+    // Whichever bound it is, before whichever cells.
+    ensures found { OnOk result ((b : Bound) (r : List cell.Cell) → name.now ≡ b.trait → start ≡ length r → walk.old.rest ≡ args_back b.args r → walk.new.found ≡ bound_found (N.sight names.now) b) }
+{
+    let count = walk.rest.count_above(start);
+    let meaning = names.known(name);
+    let kinds = heads::trait_kinds(meaning);
+    let frame = Frame {
+        start,
+        inner: start,
+        binds: false,
+        holds: Inside::Args { kinds, left: count },
+        room: Some(DEPTH_LIMIT),
+        is_kept: true,
+    };
+    walk.run_frame(names, alloc, frame)?;
+    walk.found
+        .note(judge_use::bound(names, name, count, meaning));
+    Ok(heads::trait_number(meaning))
+}
+
 /// Looks up the names of the bound that stands last among the cells of a line, as the type of its name and arguments. Self isn't among
 /// the arguments.
 ///
@@ -75,22 +114,9 @@ pub fn resolve_bound<'a, N: Names>(
             resolved: walk.into_found().finish(),
         }),
         Some((name, start)) => {
-            let count = walk.rest.count_above(start);
-            let meaning = names.known(name);
-            let kinds = heads::trait_kinds(meaning);
-            walk.push(Frame {
-                start,
-                inner: start,
-                binds: false,
-                holds: Inside::Args { kinds, left: count },
-                room: Some(DEPTH_LIMIT),
-                is_kept: true,
-            })?;
-            walk.run(names, alloc, Next::Going)?;
-            walk.found
-                .note(judge_use::bound(names, name, count, meaning));
+            let trait_number = run_bound(&mut walk, names, alloc, name, start)?;
             Ok(ResolvedBound {
-                trait_number: heads::trait_number(meaning),
+                trait_number,
                 resolved: walk.into_found().finish(),
             })
         }

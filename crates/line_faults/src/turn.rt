@@ -1,9 +1,9 @@
 //! The turns of going over the cells of a type.
-ghost use Rattle.std.specs.Prelude.{◌≡◌, drop};
+ghost use Rattle.std.specs.Prelude.{◌≡◌, ◌∷◌, drop};
 ghost use Rattle.text_definitions.specs.Uses.{next_kind};
-ghost use Rattle.line_faults.specs.Machine.{Sight, arg_place, args_inside, frame_step, inside_step, item_step, step, type_place, types_inside, visit_step};
+ghost use Rattle.line_faults.specs.Machine.{Sight, arg_place, args_inside, frame_step, going, inside_step, item_step, step, type_place, types_inside, visit_step};
 ghost use Rattle.workspace.specs.Views.{sort_of_kind, sorts_of};
-ghost use Rattle.line_faults.specs.WalkViews.{frame_of, inside_of, place_of, state_in, is_finished, Steps, Comes, Ends};
+ghost use Rattle.line_faults.specs.WalkViews.{frame_of, frames_in, inside_of, place_of, state_in, is_finished, Steps, Comes, Ends};
 
 use crate::looked_up::Names;
 use crate::resolved::NodeLabel;
@@ -197,6 +197,19 @@ impl<'n, 'c, 'a> Walk<'n, 'c, 'a> {
             next = self.turn(names, alloc, next)?;
         }
         Ok(())
+    }
+
+    /// Opens this frame, and goes over all that comes then.
+    pub fn run_frame<N: Names>(
+        &mut self,
+        names: &'n N,
+        alloc: Global,
+        frame: Frame<'n>,
+    ) -> Result<(), AllocError>
+        ensures { Ends result (N.sight names.now) (going (frame_of frame.entry ∷ frames_in self.old.frames.items) self.old.binders self.old.rest self.old.found) self.new }
+    {
+        self.push(frame)?;
+        self.run(names, alloc, Next::Going)
     }
 }
 

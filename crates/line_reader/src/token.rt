@@ -1,8 +1,9 @@
 //! A line as words and signs.
-ghost use Rattle.std.specs.Prelude.{◌≡◌, ◌<◌, length, take_while, IfOk};
+ghost use Rattle.std.specs.Prelude.{◌≡◌, ◌<◌, length, take, drop, find, take_while, IfOk};
 ghost use Rattle.std.specs.Option.{option_map};
 ghost use Rattle.std.specs.List.{list_all};
-ghost use Rattle.text_definitions.specs.Words.{keyword_named, primitive_named, is_digit, is_word_byte, sign_at};
+ghost use Rattle.std.specs.Str.{bytes_eq};
+ghost use Rattle.text_definitions.specs.Words.{keyword_text, keywords, keyword_named, primitive_named, is_digit, is_word_byte, sign_at};
 ghost use Rattle.text_definitions.specs.Tokens.{word_token, as_lifetime, as_variable, tokens_of};
 ghost use Rattle.line_reader.specs.TokenViews.{keyword_of, primitive_label, sign_of, token_of, tokens_in};
 ghost use Rattle.line_reader.specs.TokenReading.{of_word, itself, arrow_at, lone_sign, token_at};
@@ -10,7 +11,7 @@ ghost use Rattle.line_reader.specs.TokenReading.{of_word, itself, arrow_at, lone
 use std::alloc::{AllocError, Global};
 
 /// A word with a meaning of its own, primitive types aside.
-#[derive(Clone, Copy, Debug)]
+#[derive(Clone, Copy)]
 pub enum Keyword {
     Crate,
     Uses,
@@ -33,7 +34,7 @@ pub enum Keyword {
 }
 
 /// A primitive type.
-#[derive(Clone, Copy, Debug)]
+#[derive(Clone, Copy)]
 pub enum Primitive {
     Bool,
     Char,
@@ -52,9 +53,9 @@ pub enum Primitive {
     Usize,
 }
 
-/// The keyword that is spelled so.
-fn keyword_named(word: &[u8]) -> Option<Keyword>
-    ensures { option_map keyword_of result ≡ keyword_named word.now }
+/// The keyword that is spelled so, among those that begin or describe a declaration.
+fn declaring_keyword(word: &[u8]) -> Option<Keyword>
+    ensures { option_map keyword_of result ≡ find (λ k. bytes_eq word.now (keyword_text k)) (take 6 keywords) }
 {
     if word == b"crate".as_slice() {
         return Some(Keyword::Crate);
@@ -74,6 +75,13 @@ fn keyword_named(word: &[u8]) -> Option<Keyword>
     if word == b"trait".as_slice() {
         return Some(Keyword::Trait);
     }
+    None
+}
+
+/// The keyword that is spelled so, among those of impls, clauses and questions.
+fn clause_keyword(word: &[u8]) -> Option<Keyword>
+    ensures { option_map keyword_of result ≡ find (λ k. bytes_eq word.now (keyword_text k)) (take 6 (drop 6 keywords)) }
+{
     if word == b"impl".as_slice() {
         return Some(Keyword::Impl);
     }
@@ -92,6 +100,13 @@ fn keyword_named(word: &[u8]) -> Option<Keyword>
     if word == b"in".as_slice() {
         return Some(Keyword::In);
     }
+    None
+}
+
+/// The keyword that is spelled so, among the others.
+fn other_keyword(word: &[u8]) -> Option<Keyword>
+    ensures { option_map keyword_of result ≡ find (λ k. bytes_eq word.now (keyword_text k)) (drop 12 keywords) }
+{
     if word == b"later".as_slice() {
         return Some(Keyword::Later);
     }
@@ -111,6 +126,19 @@ fn keyword_named(word: &[u8]) -> Option<Keyword>
         return Some(Keyword::Dyn);
     }
     None
+}
+
+/// The keyword that is spelled so.
+fn keyword_named(word: &[u8]) -> Option<Keyword>
+    ensures { option_map keyword_of result ≡ keyword_named word.now }
+{
+    if let Some(keyword) = declaring_keyword(word) {
+        return Some(keyword);
+    }
+    if let Some(keyword) = clause_keyword(word) {
+        return Some(keyword);
+    }
+    other_keyword(word)
 }
 
 /// The primitive type that is spelled so.
@@ -179,7 +207,7 @@ fn word_len(bytes: &[u8]) -> usize
 }
 
 /// One of `< > ( ) [ ] , : ; & * + !`.
-#[derive(Clone, Copy, Debug)]
+#[derive(Clone, Copy)]
 pub enum Sign {
     OpenAngle,
     CloseAngle,
@@ -197,7 +225,7 @@ pub enum Sign {
 }
 
 /// A word, `'word`, `?word`, `->` or a sign, words as they stand in the line.
-#[derive(Clone, Copy, Debug)]
+#[derive(Clone, Copy)]
 pub enum Token<'a> {
     /// A reserved word that is no primitive type.
     Keyword(Keyword),

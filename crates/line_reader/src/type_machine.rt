@@ -1,8 +1,9 @@
 //! The reader of types: a stack of what is open, and the cells of what has been read.
 ghost use Rattle.std.specs.Prelude.{◌≡◌, ◌<◌, ◌∷◌, ◌++◌, [], length, OnOk, IfOk, IsErrOf, MatchOption};
 ghost use Rattle.std.specs.Option.{option_map};
-ghost use Rattle.line_reader.specs.TokenViews.{text_of};
-ghost use Rattle.line_reader.specs.TypeViews.{cells_in, open_of, opens_in, length_of};
+ghost use Rattle.text_definitions.specs.Tokens.{keyword, sign};
+ghost use Rattle.line_reader.specs.TokenViews.{keyword_of, sign_of, text_of};
+ghost use Rattle.line_reader.specs.TypeViews.{cell_of, cells_in, open_of, opens_in, length_of};
 ghost use Rattle.line_reader.specs.Laws.{SpellsType, ReadsType, IfSpelled};
 ghost use Rattle.line_reader.specs.TypeReading.{type_read, GivesType};
 
@@ -22,15 +23,22 @@ pub(crate) struct Reader<'t, 'a> {
 impl<'t, 'a> Reader<'t, 'a> {
     ghost use Rattle.line_reader.specs.Cells.{binder_onto};
     ghost use Rattle.line_reader.specs.TypeSteps.{Steps, Binds, BindsNext, Turns, Ends, state_in, begun};
-    ghost use Rattle.line_reader.specs.Machine.{item_end, bound_end, args_end, bound_args_end, arg_end, name_step, bound_step, reference_step, ampersand_step, star_step, tuple_step, inputs_end, inputs_step, fn_step, length_end, length_step, brackets_end, second_step, tuple_end, items_end, input_end, binder_at, first_binder, more_binder, bound_fn, bound_item, open_step, item_step, close_step, step, opening};
+    ghost use Rattle.line_reader.specs.Machine.{item_end, bound_end, args_end, bound_args_end, arg_end, name_step, bound_step, reference_step, ampersand_step, star_step, tuple_step, inputs_end, inputs_step, fn_step, length_end, length_step, brackets_end, second_step, tuple_end, items_end, input_end, binder_at, first_binder, more_binder, bound_fn, bound_item, open_step, item_step, close_step, step, opening, closing};
 
-    fn push_open(&mut self, part: Open<'a>) -> Result<(), AllocError>
-        ensures stack { OnOk result (opens_in self.new.stack.items ≡ open_of part.entry ∷ opens_in self.old.stack.items) }
-        ensures cells { self.new.cells ≡ self.old.cells }
-        ensures left { self.new.cursor ≡ self.old.cursor }
+    /// Puts a cell behind the others: a type has been read.
+    fn push_cell(&mut self, cell: Cell<'a>) -> Result<Next, LineError>
+        ensures { Steps result (λ s out ts. closing s (out ++ cell_of cell.entry ∷ []) ts) self.old self.new }
+    {
+        self.cells.push(cell)?;
+        Ok(Next::Closing)
+    }
+
+    /// Puts a part on the stack: a type is to come inside it.
+    fn push_open(&mut self, part: Open<'a>) -> Result<Next, LineError>
+        ensures { Steps result (λ s out ts. opening (open_of part.entry ∷ s) out ts) self.old self.new }
     {
         self.stack.push(part)?;
-        Ok(())
+        Ok(Next::Opening)
     }
 
     fn pop_open(&mut self) -> Option<Open<'a>>
@@ -48,8 +56,7 @@ impl<'t, 'a> Reader<'t, 'a> {
         if self.cursor.take_plus() {
             return Ok(Next::Item(start));
         }
-        self.cells.push(Cell::Dyn { start })?;
-        Ok(Next::Closing)
+        self.push_cell(Cell::Dyn { start })
     }
 
     /// Behind a bound of a `dyn`.
@@ -71,14 +78,8 @@ impl<'t, 'a> Reader<'t, 'a> {
         ensures { Steps result (λ s out ts. args_end s out name.now start ts) self.old self.new }
     {
         match self.cursor.next() {
-            Some(Token::Sign(Sign::Comma)) => {
-                self.push_open(Open::Args { name, start })?;
-                Ok(Next::Opening)
-            }
-            Some(Token::Sign(Sign::CloseAngle)) => {
-                self.cells.push(Cell::Named { name, start })?;
-                Ok(Next::Closing)
-            }
+            Some(Token::Sign(Sign::Comma)) => self.push_open(Open::Args { name, start }),
+            Some(Token::Sign(Sign::CloseAngle)) => self.push_cell(Cell::Named { name, start }),
             _ => Err(LineError::Syntax),
         }
     }
@@ -100,8 +101,7 @@ impl<'t, 'a> Reader<'t, 'a> {
                     start,
                     inner,
                     name,
-                })?;
-                Ok(Next::Opening)
+                })
             }
             Some(Token::Sign(Sign::CloseAngle)) => self.bound_end(dyn_start, start, inner, name),
             _ => Err(LineError::Syntax),
@@ -132,11 +132,9 @@ impl<'t, 'a> Reader<'t, 'a> {
     {
         let start = self.cells.len();
         if self.cursor.take_open_angle() {
-            self.push_open(Open::Args { name, start })?;
-            return Ok(Next::Opening);
+            return self.push_open(Open::Args { name, start });
         }
-        self.cells.push(Cell::Named { name, start })?;
-        Ok(Next::Closing)
+        self.push_cell(Cell::Named { name, start })
     }
 
     /// Behind the name of a bound of a `dyn`.
@@ -150,13 +148,12 @@ impl<'t, 'a> Reader<'t, 'a> {
     {
         let inner = self.cells.len();
         if self.cursor.take_open_angle() {
-            self.push_open(Open::Bound {
+            return self.push_open(Open::Bound {
                 dyn_start,
                 start,
                 inner,
                 name,
-            })?;
-            return Ok(Next::Opening);
+            });
         }
         self.bound_end(dyn_start, start, inner, name)
     }
@@ -166,8 +163,7 @@ impl<'t, 'a> Reader<'t, 'a> {
         ensures { Steps result (λ s out ts. reference_step s out (option_map text_of lifetime.entry) ts) self.old self.new }
     {
         let is_mut = self.cursor.take_mut();
-        self.push_open(Open::Reference { lifetime, is_mut })?;
-        Ok(Next::Opening)
+        self.push_open(Open::Reference { lifetime, is_mut })
     }
 
     /// Behind `&`.
@@ -183,14 +179,8 @@ impl<'t, 'a> Reader<'t, 'a> {
         ensures { Steps result star_step self.old self.new }
     {
         match self.cursor.next() {
-            Some(Token::Keyword(Keyword::Const)) => {
-                self.push_open(Open::Pointer { is_mut: false })?;
-                Ok(Next::Opening)
-            }
-            Some(Token::Keyword(Keyword::Mut)) => {
-                self.push_open(Open::Pointer { is_mut: true })?;
-                Ok(Next::Opening)
-            }
+            Some(Token::Keyword(Keyword::Const)) => self.push_open(Open::Pointer { is_mut: false }),
+            Some(Token::Keyword(Keyword::Mut)) => self.push_open(Open::Pointer { is_mut: true }),
             _ => Err(LineError::Syntax),
         }
     }
@@ -201,11 +191,9 @@ impl<'t, 'a> Reader<'t, 'a> {
     {
         let start = self.cells.len();
         if self.cursor.take_close_round() {
-            self.cells.push(Cell::Tuple { start })?;
-            return Ok(Next::Closing);
+            return self.push_cell(Cell::Tuple { start });
         }
-        self.push_open(Open::Tuple { start })?;
-        Ok(Next::Opening)
+        self.push_open(Open::Tuple { start })
     }
 
     /// Behind the `)` of a fn.
@@ -213,11 +201,9 @@ impl<'t, 'a> Reader<'t, 'a> {
         ensures { Steps result (λ s out ts. inputs_end s out start inner ts) self.old self.new }
     {
         if self.cursor.take_arrow() {
-            self.push_open(Open::Output { start, inner })?;
-            return Ok(Next::Opening);
+            return self.push_open(Open::Output { start, inner });
         }
-        self.cells.push(Cell::Fn { start, inner })?;
-        Ok(Next::Closing)
+        self.push_cell(Cell::Fn { start, inner })
     }
 
     /// Behind the `(` of a fn.
@@ -228,8 +214,7 @@ impl<'t, 'a> Reader<'t, 'a> {
         if self.cursor.take_close_round() {
             return self.inputs_end(start, inner);
         }
-        self.push_open(Open::Inputs { start, inner })?;
-        Ok(Next::Opening)
+        self.push_open(Open::Inputs { start, inner })
     }
 
     /// Behind `fn`; the binder before it began at `start`.
@@ -247,10 +232,7 @@ impl<'t, 'a> Reader<'t, 'a> {
         ensures { Steps result (λ s out ts. length_end s out (length_of length.entry) ts) self.old self.new }
     {
         match self.cursor.next() {
-            Some(Token::Sign(Sign::CloseSquare)) => {
-                self.cells.push(Cell::Array(length))?;
-                Ok(Next::Closing)
-            }
+            Some(Token::Sign(Sign::CloseSquare)) => self.push_cell(Cell::Array(length)),
             _ => Err(LineError::Syntax),
         }
     }
@@ -272,10 +254,7 @@ impl<'t, 'a> Reader<'t, 'a> {
         ensures { Steps result brackets_end self.old self.new }
     {
         match self.cursor.next() {
-            Some(Token::Sign(Sign::CloseSquare)) => {
-                self.cells.push(Cell::Slice)?;
-                Ok(Next::Closing)
-            }
+            Some(Token::Sign(Sign::CloseSquare)) => self.push_cell(Cell::Slice),
             Some(Token::Sign(Sign::Semicolon)) => self.length_step(),
             _ => Err(LineError::Syntax),
         }
@@ -286,11 +265,9 @@ impl<'t, 'a> Reader<'t, 'a> {
         ensures { Steps result (λ s out ts. second_step s out start ts) self.old self.new }
     {
         if self.cursor.take_close_round() {
-            self.cells.push(Cell::Tuple { start })?;
-            return Ok(Next::Closing);
+            return self.push_cell(Cell::Tuple { start });
         }
-        self.push_open(Open::Items { start })?;
-        Ok(Next::Opening)
+        self.push_open(Open::Items { start })
     }
 
     /// Behind the first item of a tuple.
@@ -308,14 +285,8 @@ impl<'t, 'a> Reader<'t, 'a> {
         ensures { Steps result (λ s out ts. items_end s out start ts) self.old self.new }
     {
         match self.cursor.next() {
-            Some(Token::Sign(Sign::Comma)) => {
-                self.push_open(Open::Items { start })?;
-                Ok(Next::Opening)
-            }
-            Some(Token::Sign(Sign::CloseRound)) => {
-                self.cells.push(Cell::Tuple { start })?;
-                Ok(Next::Closing)
-            }
+            Some(Token::Sign(Sign::Comma)) => self.push_open(Open::Items { start }),
+            Some(Token::Sign(Sign::CloseRound)) => self.push_cell(Cell::Tuple { start }),
             _ => Err(LineError::Syntax),
         }
     }
@@ -325,10 +296,7 @@ impl<'t, 'a> Reader<'t, 'a> {
         ensures { Steps result (λ s out ts. input_end s out start inner ts) self.old self.new }
     {
         match self.cursor.next() {
-            Some(Token::Sign(Sign::Comma)) => {
-                self.push_open(Open::Inputs { start, inner })?;
-                Ok(Next::Opening)
-            }
+            Some(Token::Sign(Sign::Comma)) => self.push_open(Open::Inputs { start, inner }),
             Some(Token::Sign(Sign::CloseRound)) => self.inputs_end(start, inner),
             _ => Err(LineError::Syntax),
         }
@@ -409,43 +377,53 @@ impl<'t, 'a> Reader<'t, 'a> {
         }
     }
 
+    /// A lifetime or a number, which has to be an argument.
+    fn argument(&mut self, cell: Cell<'a>) -> Result<Next, LineError>
+        ensures { Steps result (λ s out ts. arg_end s (out ++ cell_of cell.entry ∷ []) ts) self.old self.new }
+    {
+        self.cells.push(cell)?;
+        self.arg_end()
+    }
+
+    /// Behind the sign that begins a type.
+    fn sign_step(&mut self, first: Sign) -> Result<Next, LineError>
+        ensures { Steps result (λ s out ts. open_step s out (sign (sign_of first) ∷ ts)) self.old self.new }
+    {
+        match first {
+            Sign::Exclamation => self.push_cell(Cell::Never),
+            Sign::Ampersand => self.ampersand_step(),
+            Sign::Star => self.star_step(),
+            Sign::OpenSquare => self.push_open(Open::Brackets),
+            Sign::OpenRound => self.tuple_step(),
+            _ => Err(LineError::Syntax),
+        }
+    }
+
+    /// Behind the keyword that begins a type.
+    fn keyword_step(&mut self, first: Keyword) -> Result<Next, LineError>
+        ensures { Steps result (λ s out ts. open_step s out (keyword (keyword_of first) ∷ ts)) self.old self.new }
+    {
+        let start = self.cells.len();
+        match first {
+            Keyword::For => self.bound_fn(),
+            Keyword::Fn => self.fn_step(start),
+            Keyword::Dyn => Ok(Next::Item(start)),
+            _ => Err(LineError::Syntax),
+        }
+    }
+
     /// What begins a type.
     fn open_step(&mut self) -> Result<Next, LineError>
         ensures { Steps result open_step self.old self.new }
     {
-        let start = self.cells.len();
         match self.cursor.next() {
-            Some(Token::Primitive(primitive)) => {
-                self.cells.push(Cell::Primitive(primitive))?;
-                Ok(Next::Closing)
-            }
-            Some(Token::Sign(Sign::Exclamation)) => {
-                self.cells.push(Cell::Never)?;
-                Ok(Next::Closing)
-            }
-            Some(Token::Variable(name)) => {
-                self.cells.push(Cell::Variable(name))?;
-                Ok(Next::Closing)
-            }
+            Some(Token::Primitive(primitive)) => self.push_cell(Cell::Primitive(primitive)),
+            Some(Token::Variable(name)) => self.push_cell(Cell::Variable(name)),
             Some(Token::Name(name)) => self.name_step(name),
-            Some(Token::Lifetime(name)) => {
-                self.cells.push(Cell::Lifetime(name))?;
-                self.arg_end()
-            }
-            Some(Token::Number(number)) => {
-                self.cells.push(Cell::Number(number))?;
-                self.arg_end()
-            }
-            Some(Token::Sign(Sign::Ampersand)) => self.ampersand_step(),
-            Some(Token::Sign(Sign::Star)) => self.star_step(),
-            Some(Token::Sign(Sign::OpenSquare)) => {
-                self.push_open(Open::Brackets)?;
-                Ok(Next::Opening)
-            }
-            Some(Token::Sign(Sign::OpenRound)) => self.tuple_step(),
-            Some(Token::Keyword(Keyword::For)) => self.bound_fn(),
-            Some(Token::Keyword(Keyword::Fn)) => self.fn_step(start),
-            Some(Token::Keyword(Keyword::Dyn)) => Ok(Next::Item(start)),
+            Some(Token::Lifetime(name)) => self.argument(Cell::Lifetime(name)),
+            Some(Token::Number(number)) => self.argument(Cell::Number(number)),
+            Some(Token::Sign(first)) => self.sign_step(first),
+            Some(Token::Keyword(first)) => self.keyword_step(first),
             _ => Err(LineError::Syntax),
         }
     }
@@ -478,22 +456,16 @@ impl<'t, 'a> Reader<'t, 'a> {
                 inner,
                 name,
             } => self.bound_args_end(dyn_start, start, inner, name),
-            Open::Reference { lifetime, is_mut } => {
-                self.cells.push(Cell::Reference { lifetime, is_mut })?;
-                Ok(Next::Closing)
-            }
-            Open::Pointer { is_mut } => {
-                self.cells.push(Cell::Pointer { is_mut })?;
-                Ok(Next::Closing)
-            }
+            Open::Reference { lifetime, is_mut } => self.push_cell(Cell::Reference {
+                lifetime,
+                is_mut,
+            }),
+            Open::Pointer { is_mut } => self.push_cell(Cell::Pointer { is_mut }),
             Open::Brackets => self.brackets_end(),
             Open::Tuple { start } => self.tuple_end(start),
             Open::Items { start } => self.items_end(start),
             Open::Inputs { start, inner } => self.input_end(start, inner),
-            Open::Output { start, inner } => {
-                self.cells.push(Cell::FnTo { start, inner })?;
-                Ok(Next::Closing)
-            }
+            Open::Output { start, inner } => self.push_cell(Cell::FnTo { start, inner }),
         }
     }
 

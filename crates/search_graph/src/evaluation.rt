@@ -12,13 +12,13 @@ ghost use Rattle.search_graph.specs.Question.{IsReplyOver, IsRunOver, IsFaithful
 
 use crate::cache::CachedResults;
 use crate::candidates::{Candidates, Turn};
-use crate::delegate::{Delegate, InputOf, Reply, ResultOf};
+use crate::delegate::{Delegate, InputOf, ResultOf};
 use crate::dependencies::{Dependencies, EvaluationResult, take_head};
 use crate::fault::GraphFault;
 use crate::path_kind::PathKind;
 use crate::search::{Evaluation, Search, finish, is_last_run, nested_depth, run_limit};
 use crate::stack::StackEntry;
-use crate::steps::{look_up, reply_in_cycle, reply_with_overflow, start_run};
+use crate::steps::{hear, look_up, reply_in_cycle, reply_with_overflow, start_run};
 
 /// The reply to a question on a goal that is given this depth.
 #[cycle(search)]
@@ -202,12 +202,7 @@ fn run_once<D: Delegate>(
             Turn::Ask(input, step_kind) => {
                 let overflowed = dependencies.encountered_overflow;
                 let nested = ask(search, cache, cx, input, step_kind, depth, overflowed)?;
-                let EvaluationResult {
-                    result: answer,
-                    dependencies: more,
-                } = nested;
-                dependencies.gather(more)?;
-                request = D::step(&mut frame, cx, Reply::Result(answer))?;
+                request = hear::<D>(&mut frame, cx, &mut dependencies, nested)?;
             }
             Turn::Tell(reply) => request = D::step(&mut frame, cx, reply)?,
             Turn::End(answer) => {

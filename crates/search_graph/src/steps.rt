@@ -1,7 +1,9 @@
 //! The parts of an evaluation that ask no goal, each with what the evaluation says of it.
 
-ghost use Rattle.std.specs.Prelude.{◌≡◌, [], ◌∷◌, ◌++◌, ◌+◌, ◌≤◌, ℕ, IfOk, OnOk, IfSome, IsSome, true, false};
-ghost use Rattle.search_graph.specs.Meaning.{Keeps};
+ghost use Rattle.std.specs.Prelude.{◌≡◌, [], ◌∷◌, ◌++◌, ◌+◌, ◌-◌, ◌^◌, ◌<◌, ◌≤◌, ◌||◌, ℕ, min, max, IfOk, OnOk, IfSome, IsSome, IsPermutation, true, false};
+ghost use Rattle.std.specs.Int.RustNames.{bit_or};
+ghost use Rattle.search_graph.specs.Heads.{paths_to};
+ghost use Rattle.search_graph.specs.Meaning.{Keeps, IsDue, IsReply, Steps};
 ghost use Rattle.search_graph.specs.Chain.{AreInRange};
 ghost use Rattle.search_graph.specs.Nested.{covered, one_goal, AsksAlone};
 ghost use Rattle.search_graph.specs.Cache.{HoldsResult, IsNumberOf, KeepsNumbers};
@@ -137,4 +139,37 @@ pub(crate) fn start_run<D: Delegate>(
     search.begin(entry)?;
     let request = D::step(&mut frame, cx, Reply::Begin)?;
     Ok((frame, request))
+}
+
+/// Adds what a nested goal rests on to the dependencies of the goal that asked it, and gives its result to that goal's frame.
+pub(crate) fn hear<D: Delegate>(
+    frame: &mut D::Frame,
+    cx: &mut D::Cx,
+    dependencies: &mut Dependencies,
+    nested: EvaluationResult<ResultOf<D>>,
+) -> Result<Request<InputOf<D>, ResultOf<D>>, GraphFault>
+    requires due { IsDue D.meaning cx.old frame.old (Reply.Result nested.result) }
+    requires reply { IsReply D.meaning cx.old (Reply.Result nested.result) }
+    ensures keeps { Keeps D.meaning cx.old cx.new }
+    ensures steps { IfOk result (λ q. Steps D.meaning cx.old frame.old (Reply.Result nested.result) cx.new frame.new q) }
+    ensures falls { IfOk result (λ q. D.steps_left cx.new frame.new < D.steps_left cx.old frame.old) }
+    ensures lowest { OnOk result (dependencies.new.lowest ≡ min dependencies.old.lowest nested.dependencies.lowest) }
+    ensures overflow { OnOk result (dependencies.new.encountered_overflow ≡ (dependencies.old.encountered_overflow || nested.dependencies.encountered_overflow)) }
+    ensures depth { OnOk result (dependencies.new.required_depth ≡ max dependencies.old.required_depth (min (nested.dependencies.required_depth + 1) (2 ^ 64 - 1))) }
+    ensures unread { OnOk result (dependencies.old.heads.items ≡ [] → nested.dependencies.heads.items ≡ [] → dependencies.new.heads.items ≡ []) }
+    ensures heads { OnOk result ((place : ℕ) → paths_to dependencies.new.heads.items place ≡ bit_or (paths_to dependencies.old.heads.items place) (paths_to nested.dependencies.heads.items place)) }
+    ensures goals { OnOk result (IsPermutation (dependencies.old.nested_goals.goals.items ++ nested.dependencies.nested_goals.goals.items) dependencies.new.nested_goals.goals.items) }
+    ensures cached { OnOk result (IsPermutation (dependencies.old.nested_goals.cached.items ++ nested.dependencies.nested_goals.cached.items) dependencies.new.nested_goals.cached.items) }
+    ensures span { OnOk result (dependencies.new.nested_goals.span ≡ covered dependencies.old.nested_goals.span nested.dependencies.nested_goals.span) }
+    ensures no_conflict { result ≡ Err GraphFault.Conflict → ⊥ }
+    ensures in_order { result ≡ Err GraphFault.Protocol → ⊥ }
+    ensures full { result ≡ Err GraphFault.Full → D.meaning.IsFull cx.new }
+{
+    let EvaluationResult {
+        result: answer,
+        dependencies: more,
+    } = nested;
+    dependencies.gather(more)?;
+    let request = D::step(frame, cx, Reply::Result(answer))?;
+    Ok(request)
 }

@@ -1,5 +1,5 @@
 -- What lines give, one after the other, and how many declarations they come to.
-use Rattle.std.proofs.Common.{◌≡◌, ℕ, ◌+◌, ◌≤◌, cond, List, length, Option, Some, None, Ok, Err, sym, ap, ◌∙◌, subst, inl, inr, length-append, arith}
+use Rattle.std.proofs.Common.{◌≡◌, ℕ, ◌+◌, ◌≤◌, cond, List, length, Option, Some, None, Result, Ok, Err, IfOk, refl, sym, ap, ◌∙◌, subst, inl, inr, length-append, arith}
 use Rattle.std.specs.Prelude.{nat_lt}
 use Rattle.std.specs.Option.{option_map}
 use Rattle.std.proofs.lemmas.Bool.{cases_Bool, ltb-true, ltb-false}
@@ -16,7 +16,7 @@ use Rattle.line_faults.specs.declared.fault.FaultKind.{FaultKind}
 use Rattle.text_reader.specs.Lines.{line_too_far}
 use Rattle.text_reader.specs.Forms.{IsForm}
 use Rattle.text_reader.specs.Declaring.{FindsFault, AddsLine}
-use Rattle.text_reader.specs.Outcomes.{AreRefused, IsTextError}
+use Rattle.text_reader.specs.Outcomes.{TakesLine, AreRefused, IsTextError}
 use Rattle.text_reader.proofs.Shortness.{cells-are-few}
 use Rattle.text_reader.specs.declared.fault.TextError.{TextError}
 use Rattle.text_reader.specs.declared.fault.TextError.TheVariants as errors
@@ -48,6 +48,20 @@ added_gives d e line form read found h is finds none new =
     let said : IsForm line (forms.Read read) = subst (λ f. IsForm line f) is h in
     let (l, w, r) = said.2 in
     subst (λ x. LineGives d line (Ok x)) (sym (new l r)) (adds l said.0 said.1 w (sym (finds l r) ∙ ap (option_map fault_number) none))
+
+-- what a line that was read gives: its fault, or what it adds
+pub taken_gives :
+    (d e : Declarations) (line : List ℕ) (form : LineForm) (read : LineRead) (found : Option FaultKind)
+    → IsForm line form → form ≡ forms.Read read → FindsFault d read found → (found ≡ None → AddsLine d read e) → TakesLine d line found e
+taken_gives d e line form read (Some k) h is finds new = faulty_gives d line form read (Some k) k h is finds refl
+taken_gives d e line form read None h is finds new = added_gives d e line form read None h is finds refl (new refl)
+
+pub read_gives :
+    {X : Type 0} (d e : Declarations) (line : List ℕ) (form : LineForm) (read : LineRead) (result : Result (Option FaultKind) X)
+    → IsForm line form → form ≡ forms.Read read → IfOk result (λ found. FindsFault d read found) → IfOk result (λ found. found ≡ None → AddsLine d read e)
+    → IfOk result (λ found. TakesLine d line found e)
+read_gives d e line form read (Ok found) h is finds new = taken_gives d e line form read found h is finds new
+read_gives d e line form read (Err x) h is finds new = tt
 
 -- a line that was read has no more cells than bytes
 pub read_short : (line : List ℕ) (form : LineForm) (read : LineRead) (k : ℕ) → IsForm line form → form ≡ forms.Read read → length line ≤ k → length read.cells.items ≤ k

@@ -1,6 +1,7 @@
 //! Whole texts.
-ghost use Rattle.std.specs.Prelude.{◌≡◌, ◌≤◌, length, IfOk, IfErr, OnOk, Ok};
+ghost use Rattle.std.specs.Prelude.{◌≡◌, ◌≤◌, length, IfOk, IfErr, OnOk, Ok, None};
 ghost use Rattle.text_definitions.specs.Text.{LinesGive, lines_of, TextGives};
+ghost use Rattle.text_reader.specs.Declaring.{IsRead, FindsFault, AddsLine};
 ghost use Rattle.text_reader.specs.Outcomes.{TakesLine, AreRefused, IsTextError};
 ghost use Rattle.workspace.specs.Numbered.{IsFew};
 
@@ -9,11 +10,33 @@ use crate::fault::{TextError, TextFault};
 use crate::form::{LineForm, line_form};
 use crate::lines::{TEXT_LIMIT, long_line, split_line};
 use line_faults::FaultKind;
+use line_reader::LineRead;
 use std::alloc::{AllocError, Global};
 use workspace::ENTRY_LIMIT;
 
 /// More than `core` has of anything.
 const CORE_LIMIT: usize = 50;
+
+/// Takes a line that was read. The answer is its fault, or nothing where the line was taken.
+fn take_read<D: Declares>(
+    alloc: Global,
+    tables: &mut D,
+    read: &LineRead<'_>,
+) -> Result<Option<FaultKind>, AllocError>
+    requires agrees { D.agrees tables.old }
+    requires few { IsFew (D.so_far tables.old) ENTRY_LIMIT }
+    requires read { IsRead read.now }
+    requires short { length read.now.cells.items ≤ TEXT_LIMIT }
+    ensures finds { IfOk result (λ found. FindsFault (D.so_far tables.old) read.now found) }
+    ensures added { IfOk result (λ found. found ≡ None → AddsLine (D.so_far tables.old) read.now (D.so_far tables.new)) }
+    ensures agrees { OnOk result (D.agrees tables.new) }
+{
+    if let Some(kind) = tables.fault_of(alloc, read)? {
+        return Ok(Some(kind));
+    }
+    tables.declare(alloc, read)?;
+    Ok(None)
+}
 
 /// Takes a line. The answer is its fault, or nothing where the line was taken.
 fn take_line<D: Declares>(
@@ -31,13 +54,7 @@ fn take_line<D: Declares>(
         LineForm::OtherByte => Ok(Some(FaultKind::OtherByte)),
         LineForm::Unwritten => Ok(Some(FaultKind::Syntax)),
         LineForm::Blank => Ok(None),
-        LineForm::Read(read) => {
-            if let Some(kind) = tables.fault_of(alloc, &read)? {
-                return Ok(Some(kind));
-            }
-            tables.declare(alloc, &read)?;
-            Ok(None)
-        }
+        LineForm::Read(read) => take_read(alloc, tables, &read),
     }
 }
 

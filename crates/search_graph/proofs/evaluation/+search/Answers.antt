@@ -14,7 +14,9 @@ use Rattle.search_graph.specs.Plain.{IsNotPlain}
 use Rattle.search_graph.specs.Cache.{HasConflict, known_results}
 use Rattle.search_graph.specs.Question.{IsFaithfulOver, IsNotPlainOver, IsWithinAsStack, StaysWithin}
 use Rattle.search_graph.specs.Faithful.{AllDescend}
-use Rattle.search_graph.proofs.Errors.{err_passed, OnOk-always}
+use Rattle.search_graph.proofs.Errors.{err_passed, ok_not_err, OnOk-always}
+use Rattle.search_graph.proofs.Refusals.{IfOk-err, OnOk-err}
+use Rattle.search_graph.proofs.Orders.{in_path, past_path, from_zero, within_equal, within_more, less_within, least_within, none_started, one_started, not_less}
 use Rattle.search_graph.proofs.Graphs.{IsStack-now, path-now, IsEntry-now, IsProvisional-then, IsAnswer-then, answer_of_run, running_next_counted, running_begun, running_other, running_done, asked_now, hears_other, hears_next, misstep_now, due_next, due_other, Keeps-refl, Keeps-trans, IsStack-push, path_onto-append, length-path_onto, path_length, AreCached-later, provisional_alone, overflow_answers, overflow_stands}
 use Rattle.search_graph.proofs.Faithfuls.{true_not_false, not_plain_at_zero, AllDescend-higher, conflict_up, plain_first, plain_next_at, plain_done, untouched_first, untouched_not_plain, faithful_not_plain, faithful_taken, faithful_at_zero, kept_of_faithful, IsFaithful-less, reach_within}
 use Rattle.search_graph.proofs.Limits.{unnoted, either_noted, not_both, told_within, AreLastWithin-now, AreLastWithin-push, AreCachedWithin-keeps}
@@ -23,170 +25,173 @@ use Rattle.search_graph.proofs.Ends.{depth_after, held_after, answer_after, fait
 use Rattle.search_graph.proofs.Turns.{asked_in_turn, ended_in_turn, in_order_in_turn, told_in_turn, plain_in_turn}
 use Rattle.search_graph.proofs.evaluation.+search.Goals as goal
 
-pub ask-returns-then-depth-eq0-clause-faithful : goal.ask-returns-then-depth-eq0-clause-faithful
-ask-returns-then-depth-eq0-clause-faithful g t c =
+pub ask-returns-then-depth-eq0 : goal.ask-returns-then-depth-eq0
+ask-returns-then-depth-eq0 g t c =
     let m = g.D.Delegate.meaning in
     let first = c.args.cx.now in
     let es = c.args.search.now.stack.items in
     let w = m.world first in
     let x = m.goal_of first c.args.input in
-    rw c.if-depth-eq0.true (IfOk-weaker c.reply_with_overflow.result (λ o. o.dependencies.encountered_overflow ≡ true) (IsFaithfulOver m first es c.args.input (cond c.args.overflowed 0 0) c.reply_with_overflow.new.cx) (λ o told. rw told (faithful_at_zero m w c.args.overflowed (path_onto m first es []) x (m.answer_of c.reply_with_overflow.new.cx o.result) o.dependencies.lowest o.dependencies.heads.items)) c.reply_with_overflow.ensures.told)
+    record {
+      keeps = c.reply_with_overflow.ensures.keeps;
+      stack = OnOk-always c.reply_with_overflow.result c.reply_with_overflow.ensures.stack;
+      cache = c.reply_with_overflow.ensures.cache;
+      goals = c.reply_with_overflow.ensures.goals;
+      results = λ p x h. rw c.reply_with_overflow.ensures.entries h;
+      range = c.reply_with_overflow.ensures.range;
+      depth = IfOk-weaker c.reply_with_overflow.result _ _ (λ o told off. absurd (true_not_false (sym told ∙ off))) c.reply_with_overflow.ensures.told;
+      answer = c.reply_with_overflow.ensures.answer;
+      faithful = rw c.if-depth-eq0.true (IfOk-weaker c.reply_with_overflow.result (λ o. o.dependencies.encountered_overflow ≡ true) (IsFaithfulOver m first es c.args.input (cond c.args.overflowed 0 0) c.reply_with_overflow.new.cx) (λ o told. rw told (faithful_at_zero m w c.args.overflowed (path_onto m first es []) x (m.answer_of c.reply_with_overflow.new.cx o.result) o.dependencies.lowest o.dependencies.heads.items)) c.reply_with_overflow.ensures.told);
+      no_conflict = λ h. absurd (c.reply_with_overflow.ensures.no_conflict h);
+      protocol = λ h. absurd (c.reply_with_overflow.ensures.in_order h);
+      conflict = λ h. absurd (c.reply_with_overflow.ensures.no_conflict h);
+      frames = λ width h. none_started _ _ _ c.reply_with_overflow.ensures.frames;
+      full = c.reply_with_overflow.ensures.full;
+      limits = c.reply_with_overflow.ensures.limits;
+      no_limit = λ off on limit l d. not_plain_at_zero m (m.world first) c.args.overflowed limit (m.goal_of first c.args.input) (rw c.if-depth-eq0.true at l);
+      within = IfOk-weaker c.reply_with_overflow.result _ _ (λ o noted before no last cached. absurd (true_not_false (sym noted ∙ no))) c.reply_with_overflow.ensures.noted;
+    }
 
-pub ask-returns-then-depth-eq0-clause-protocol : goal.ask-returns-then-depth-eq0-clause-protocol
-ask-returns-then-depth-eq0-clause-protocol g t c =
-    λ h. absurd (c.reply_with_overflow.ensures.in_order h)
-
-pub ask-returns-then-depth-eq0-clause-no_conflict : goal.ask-returns-then-depth-eq0-clause-no_conflict
-ask-returns-then-depth-eq0-clause-no_conflict g t c =
-    λ h. absurd (c.reply_with_overflow.ensures.no_conflict h)
-
-pub ask-returns-then-depth-eq0-clause-conflict : goal.ask-returns-then-depth-eq0-clause-conflict
-ask-returns-then-depth-eq0-clause-conflict g t c =
-    λ h. absurd (c.reply_with_overflow.ensures.no_conflict h)
-
-pub ask-returns-then-depth-eq0-clause-depth : goal.ask-returns-then-depth-eq0-clause-depth
-ask-returns-then-depth-eq0-clause-depth g t c = IfOk-weaker c.reply_with_overflow.result _ _ (λ o told off. absurd (true_not_false (sym told ∙ off))) c.reply_with_overflow.ensures.told
-
-pub ask-returns-then-depth-eq0-clause-within : goal.ask-returns-then-depth-eq0-clause-within
-ask-returns-then-depth-eq0-clause-within g t c = IfOk-weaker c.reply_with_overflow.result _ _ (λ o noted before no last cached. absurd (true_not_false (sym noted ∙ no))) c.reply_with_overflow.ensures.noted
-
-pub ask-returns-then-depth-eq0-clause-no_limit : goal.ask-returns-then-depth-eq0-clause-no_limit
-ask-returns-then-depth-eq0-clause-no_limit g t c =
-    let m = g.D.Delegate.meaning in
-    let first = c.args.cx.now in
-    λ off on limit l d. not_plain_at_zero m (m.world first) c.args.overflowed limit (m.goal_of first c.args.input) (rw c.if-depth-eq0.true at l)
-
-pub ask-returns-then-depth-eq0-clause-results : goal.ask-returns-then-depth-eq0-clause-results
-ask-returns-then-depth-eq0-clause-results g t c = λ p x h. rw c.reply_with_overflow.ensures.entries h
-
-pub ask-returns-clause-frames : goal.ask-returns-clause-frames
-ask-returns-clause-frames g t c =
-    let limit : ℕ = max g.D.Delegate.FIXPOINT_STEP_LIMIT 1 in
-    λ width h. let within = nested_within limit width c.nested_depth-nested.result c.args.depth c.nested_depth-nested.ensures.falls in let run = c.evaluate.ensures.frames width h in omega arith
-
-pub ask-returns-clause-faithful : goal.ask-returns-clause-faithful
-ask-returns-clause-faithful g t c =
+pub ask-returns : goal.ask-returns
+ask-returns g t c =
     let m = g.D.Delegate.meaning in
     let first = c.args.cx.now in
     let es = c.args.search.now.stack.items in
     let reach = reach_within c.args.overflowed c.args.depth c.nested_depth-nested.result c.nested_depth-nested.ensures.less in
-    IfOk-weaker c.evaluate.result (IsFaithfulOver m first es c.args.input (c.nested_depth-nested.result + 1) c.evaluate.new.cx) (IsFaithfulOver m first es c.args.input (cond c.args.overflowed 0 c.args.depth) c.evaluate.new.cx) (λ o f. IsFaithful-less m (m.world first) (c.nested_depth-nested.result + 1) (cond c.args.overflowed 0 c.args.depth) (path_onto m first es []) (m.goal_of first c.args.input) (m.answer_of c.evaluate.new.cx o.result) o.dependencies.encountered_overflow o.dependencies.lowest o.dependencies.heads.items reach f)
-    c.evaluate.ensures.faithful
+    let limit : ℕ = max g.D.Delegate.FIXPOINT_STEP_LIMIT 1 in
+    record {
+      keeps = c.evaluate.ensures.keeps;
+      stack = c.evaluate.ensures.stack;
+      cache = c.evaluate.ensures.cache;
+      goals = c.evaluate.ensures.goals;
+      results = c.evaluate.ensures.results;
+      range = c.evaluate.ensures.range;
+      depth = IfOk-weaker c.evaluate.result _ _ (λ o within off. depth_below o.dependencies.required_depth c.nested_depth-nested.result c.args.depth (within off) c.nested_depth-nested.ensures.falls) c.evaluate.ensures.depth;
+      answer = c.evaluate.ensures.answer;
+      faithful = IfOk-weaker c.evaluate.result (IsFaithfulOver m first es c.args.input (c.nested_depth-nested.result + 1) c.evaluate.new.cx) (IsFaithfulOver m first es c.args.input (cond c.args.overflowed 0 c.args.depth) c.evaluate.new.cx) (λ o f. IsFaithful-less m (m.world first) (c.nested_depth-nested.result + 1) (cond c.args.overflowed 0 c.args.depth) (path_onto m first es []) (m.goal_of first c.args.input) (m.answer_of c.evaluate.new.cx o.result) o.dependencies.encountered_overflow o.dependencies.lowest o.dependencies.heads.items reach f)
+          c.evaluate.ensures.faithful;
+      no_conflict = λ h limit l d. c.evaluate.ensures.no_conflict h limit (omega (arith, reach, l)) d;
+      protocol = c.evaluate.ensures.protocol;
+      conflict = c.evaluate.ensures.conflict;
+      frames = λ width h. let within = nested_within limit width c.nested_depth-nested.result c.args.depth c.nested_depth-nested.ensures.falls in let run = c.evaluate.ensures.frames width h in omega arith;
+      full = c.evaluate.ensures.full;
+      limits = c.evaluate.ensures.limits;
+      no_limit = λ off on limit l d. c.evaluate.ensures.no_limit off on limit (omega (arith, reach, l)) d;
+      within = c.evaluate.ensures.within;
+    }
 
-pub ask-returns-clause-depth : goal.ask-returns-clause-depth
-ask-returns-clause-depth g t c = IfOk-weaker c.evaluate.result _ _ (λ o within off. depth_below o.dependencies.required_depth c.nested_depth-nested.result c.args.depth (within off) c.nested_depth-nested.ensures.falls) c.evaluate.ensures.depth
+pub evaluate-returns-in_err-number : goal.evaluate-returns-in_err-number
+evaluate-returns-in_err-number g t c =
+    let p = err_from_is_err_and c.from_residual.result c.from_residual.ensures.1 in
+    record {
+      keeps = Keeps-refl g.D.Delegate.meaning c.args.cx.now;
+      stack = OnOk-always c.from_residual.result refl;
+      cache = rw c.look_up.ensures.entries c.requires.cache;
+      goals = c.look_up.ensures.goals;
+      results = λ p x h. rw c.look_up.ensures.entries h;
+      range = IfOk-err _ _ _ p.1;
+      depth = IfOk-err _ _ _ p.1;
+      kept = λ empty. IfOk-err _ _ _ p.1;
+      answer = IfOk-err _ _ _ p.1;
+      faithful = IfOk-err _ _ _ p.1;
+      no_conflict = λ h. absurd {A = IsNotPlainOver g.D.Delegate.meaning c.args.cx.now c.args.search.now.stack.items c.args.input (c.args.depth + 1)} (c.in_err-number.ensures.no_conflict (err_passed _ _ _ _ p.1 p.2 h));
+      protocol = λ h. absurd (c.in_err-number.ensures.in_order (err_passed _ _ _ _ p.1 p.2 h));
+      conflict = λ h. absurd (c.in_err-number.ensures.no_conflict (err_passed _ _ _ _ p.1 p.2 h));
+      frames = λ width h. none_started _ _ _ refl;
+      full = λ h. absurd (c.in_err-number.ensures.room (err_passed _ _ _ _ p.1 p.2 h));
+      limits = λ h. h;
+      no_limit = λ off on. not_both c.args.search.now.limits_met off on;
+      within = IfOk-err _ _ _ p.1;
+      cached = λ place e at same within clear. (refl, c.look_up.ensures.entries);
+      known = λ place e at same within clear. IfOk-err _ _ _ p.1;
+    }
 
-pub ask-returns-clause-no_limit : goal.ask-returns-clause-no_limit
-ask-returns-clause-no_limit g t c =
-    let reach = reach_within c.args.overflowed c.args.depth c.nested_depth-nested.result c.nested_depth-nested.ensures.less in
-    λ off on limit l d. c.evaluate.ensures.no_limit off on limit (omega (arith, reach, l)) d
-
-pub evaluate-returns-in_err-number-clause-no_limit : goal.evaluate-returns-in_err-number-clause-no_limit
-evaluate-returns-in_err-number-clause-no_limit g t c = λ off on. not_both c.args.search.now.limits_met off on
-
-pub evaluate-returns-in_err-number-clause-cached : goal.evaluate-returns-in_err-number-clause-cached
-evaluate-returns-in_err-number-clause-cached g t c = λ place e at same within clear. (refl, c.look_up.ensures.entries)
-
-pub evaluate-returns-in_err-number-clause-results : goal.evaluate-returns-in_err-number-clause-results
-evaluate-returns-in_err-number-clause-results g t c = λ p x h. rw c.look_up.ensures.entries h
-
-pub evaluate-returns-in-Some-clause-no_limit : goal.evaluate-returns-in-Some-clause-no_limit
-evaluate-returns-in-Some-clause-no_limit g t c = λ off on. not_both c.args.search.now.limits_met off on
-
-pub evaluate-returns-in-Some-clause-cached : goal.evaluate-returns-in-Some-clause-cached
-evaluate-returns-in-Some-clause-cached g t c = λ place e at same within clear. (refl, c.look_up.ensures.entries)
-
-pub evaluate-returns-in-Some-clause-results : goal.evaluate-returns-in-Some-clause-results
-evaluate-returns-in-Some-clause-results g t c = λ p x h. rw c.look_up.ensures.entries h
-
-pub evaluate-returns-in-Some-clause-range : goal.evaluate-returns-in-Some-clause-range
-evaluate-returns-in-Some-clause-range g t c = rw c.look_up.ensures.entries (rw c.in-Some.is at c.in_ok-number.ensures.range)
-
-pub evaluate-returns-in-Some-clause-depth : goal.evaluate-returns-in-Some-clause-depth
-evaluate-returns-in-Some-clause-depth g t c = rw c.in-Some.is at c.in_ok-number.ensures.depth
-
-pub evaluate-returns-in-Some-clause-answer : goal.evaluate-returns-in-Some-clause-answer
-evaluate-returns-in-Some-clause-answer g t c = rw c.in-Some.is at c.in_ok-number.ensures.answer
-
-pub evaluate-returns-in-Some-clause-faithful : goal.evaluate-returns-in-Some-clause-faithful
-evaluate-returns-in-Some-clause-faithful g t c = rw c.in-Some.is at c.in_ok-number.ensures.faithful
-
-pub evaluate-returns-in-Some-clause-kept : goal.evaluate-returns-in-Some-clause-kept
-evaluate-returns-in-Some-clause-kept g t c = λ empty. rw c.look_up.ensures.entries (rw c.in-Some.is at c.in_ok-number.ensures.kept)
-
-pub evaluate-returns-in-Some-clause-within : goal.evaluate-returns-in-Some-clause-within
-evaluate-returns-in-Some-clause-within g t c = λ before no last cached. (rw c.look_up.ensures.entries cached, (rw c.in-Some.is at c.in_ok-number.ensures.within) before cached)
-
-pub evaluate-returns-in-Some-clause-known : goal.evaluate-returns-in-Some-clause-known
-evaluate-returns-in-Some-clause-known g t c = λ place e at same within clear. rw c.in-Some.is at c.in_ok-number.ensures.kept
+pub evaluate-returns-in-Some : goal.evaluate-returns-in-Some
+evaluate-returns-in-Some g t c =
+    record {
+      keeps = Keeps-refl g.D.Delegate.meaning c.args.cx.now;
+      stack = refl;
+      cache = rw c.look_up.ensures.entries c.requires.cache;
+      goals = c.look_up.ensures.goals;
+      results = λ p x h. rw c.look_up.ensures.entries h;
+      range = rw c.look_up.ensures.entries (rw c.in-Some.is at c.in_ok-number.ensures.range);
+      depth = rw c.in-Some.is at c.in_ok-number.ensures.depth;
+      kept = λ empty. rw c.look_up.ensures.entries (rw c.in-Some.is at c.in_ok-number.ensures.kept);
+      answer = rw c.in-Some.is at c.in_ok-number.ensures.answer;
+      faithful = rw c.in-Some.is at c.in_ok-number.ensures.faithful;
+      no_conflict = λ h. absurd {A = IsNotPlainOver g.D.Delegate.meaning c.args.cx.now c.args.search.now.stack.items c.args.input (c.args.depth + 1)} (ok_not_err _ _ h);
+      protocol = λ h. absurd (ok_not_err _ _ h);
+      conflict = λ h. absurd (ok_not_err _ _ h);
+      frames = λ width h. none_started _ _ _ refl;
+      full = λ h. absurd (ok_not_err _ _ h);
+      limits = λ h. h;
+      no_limit = λ off on. not_both c.args.search.now.limits_met off on;
+      within = λ before no last cached. (rw c.look_up.ensures.entries cached, (rw c.in-Some.is at c.in_ok-number.ensures.within) before cached);
+      cached = λ place e at same within clear. (refl, c.look_up.ensures.entries);
+      known = λ place e at same within clear. rw c.in-Some.is at c.in_ok-number.ensures.kept;
+    }
 
 pub evaluate-reply_in_cycle-requires-clause-cycle : goal.evaluate-reply_in_cycle-requires-clause-cycle
-evaluate-reply_in_cycle-requires-clause-cycle g t c = c.in-Some-find_cycle.ensures.found
+evaluate-reply_in_cycle-requires-clause-cycle g t c =
+    c.in-Some-find_cycle.ensures.found
 
-pub evaluate-returns-in-Some-find_cycle-clause-cache : goal.evaluate-returns-in-Some-find_cycle-clause-cache
-evaluate-returns-in-Some-find_cycle-clause-cache g t c =
-    rw c.look_up.ensures.entries (AreCached-later g.D.Delegate.meaning c.args.cx.now c.reply_in_cycle.new.cx c.args.cache.now.entries.items c.reply_in_cycle.ensures.keeps c.requires.cache)
-
-pub evaluate-returns-in-Some-find_cycle-clause-results : goal.evaluate-returns-in-Some-find_cycle-clause-results
-evaluate-returns-in-Some-find_cycle-clause-results g t c = λ p x h. rw c.look_up.ensures.entries h
-
-pub evaluate-returns-in-Some-find_cycle-clause-range : goal.evaluate-returns-in-Some-find_cycle-clause-range
-evaluate-returns-in-Some-find_cycle-clause-range g t c = IfOk-weaker c.reply_in_cycle.result _ _ (λ o asked. in_range_one c.look_up.new.cache.entries.items o.dependencies.nested_goals c.in_ok-number.number asked.0 asked.1 asked.2) c.reply_in_cycle.ensures.asked
-
-pub evaluate-returns-in-Some-find_cycle-clause-depth : goal.evaluate-returns-in-Some-find_cycle-clause-depth
-evaluate-returns-in-Some-find_cycle-clause-depth g t c = IfOk-weaker c.reply_in_cycle.result _ _ (λ o none off. omega (arith, none)) c.reply_in_cycle.ensures.depth
-
-pub evaluate-returns-in-Some-find_cycle-clause-kept : goal.evaluate-returns-in-Some-find_cycle-clause-kept
-evaluate-returns-in-Some-find_cycle-clause-kept g t c = λ empty. absurd (none-some c.in-Some-find_cycle.cycle.index (rw empty at c.in-Some-find_cycle.ensures.place))
-
-pub evaluate-returns-in-Some-find_cycle-clause-faithful : goal.evaluate-returns-in-Some-find_cycle-clause-faithful
-evaluate-returns-in-Some-find_cycle-clause-faithful g t c = IfOk-weaker c.reply_in_cycle.result _ _ (λ o f. f (c.args.depth + 1)) c.reply_in_cycle.ensures.faithful
-
-pub evaluate-returns-in-Some-find_cycle-clause-protocol : goal.evaluate-returns-in-Some-find_cycle-clause-protocol
-evaluate-returns-in-Some-find_cycle-clause-protocol g t c = λ h. absurd (c.reply_in_cycle.ensures.in_order h)
-
-pub evaluate-returns-in-Some-find_cycle-clause-no_conflict : goal.evaluate-returns-in-Some-find_cycle-clause-no_conflict
-evaluate-returns-in-Some-find_cycle-clause-no_conflict g t c = λ h. absurd (c.reply_in_cycle.ensures.no_conflict h)
-
-pub evaluate-returns-in-Some-find_cycle-clause-conflict : goal.evaluate-returns-in-Some-find_cycle-clause-conflict
-evaluate-returns-in-Some-find_cycle-clause-conflict g t c = λ h. absurd (c.reply_in_cycle.ensures.no_conflict h)
-
-pub evaluate-returns-in-Some-find_cycle-clause-within : goal.evaluate-returns-in-Some-find_cycle-clause-within
-evaluate-returns-in-Some-find_cycle-clause-within g t c =
+pub evaluate-returns-in-Some-find_cycle : goal.evaluate-returns-in-Some-find_cycle
+evaluate-returns-in-Some-find_cycle g t c =
     let m = g.D.Delegate.meaning in
     let first = c.args.cx.now in
     let es = c.args.search.now.stack.items in
-    IfOk-weaker c.reply_in_cycle.result (λ o. IsWithinAsStack m first es c.args.input c.reply_in_cycle.new.cx o.result)
-    (λ o. StaysWithin m first es c.args.cache.now.entries.items c.args.input c.args.search.now.limits_met c.reply_in_cycle.new.cx c.look_up.new.cache.entries.items o.result)
-    (λ o f before no last cached. (
-      rw c.look_up.ensures.entries (AreCachedWithin-keeps m (m.world first) before (m.world first) first c.reply_in_cycle.new.cx c.args.cache.now.entries.items c.reply_in_cycle.ensures.keeps c.requires.cache cached),
-      f before last,
-    )) c.reply_in_cycle.ensures.within
+    record {
+      keeps = c.reply_in_cycle.ensures.keeps;
+      stack = OnOk-always c.reply_in_cycle.result refl;
+      cache = rw c.look_up.ensures.entries (AreCached-later g.D.Delegate.meaning c.args.cx.now c.reply_in_cycle.new.cx c.args.cache.now.entries.items c.reply_in_cycle.ensures.keeps c.requires.cache);
+      goals = c.look_up.ensures.goals;
+      results = λ p x h. rw c.look_up.ensures.entries h;
+      range = IfOk-weaker c.reply_in_cycle.result _ _ (λ o asked. in_range_one c.look_up.new.cache.entries.items o.dependencies.nested_goals c.in_ok-number.number asked.0 asked.1 asked.2) c.reply_in_cycle.ensures.asked;
+      depth = IfOk-weaker c.reply_in_cycle.result _ _ (λ o none off. from_zero _ _ none) c.reply_in_cycle.ensures.depth;
+      kept = λ empty. absurd (none-some c.in-Some-find_cycle.cycle.index (rw empty at c.in-Some-find_cycle.ensures.place));
+      answer = c.reply_in_cycle.ensures.answer;
+      faithful = IfOk-weaker c.reply_in_cycle.result _ _ (λ o f. f (c.args.depth + 1)) c.reply_in_cycle.ensures.faithful;
+      no_conflict = λ h. absurd (c.reply_in_cycle.ensures.no_conflict h);
+      protocol = λ h. absurd (c.reply_in_cycle.ensures.in_order h);
+      conflict = λ h. absurd (c.reply_in_cycle.ensures.no_conflict h);
+      frames = λ width h. none_started _ _ _ refl;
+      full = c.reply_in_cycle.ensures.full;
+      limits = λ h. h;
+      no_limit = λ off on. not_both c.args.search.now.limits_met off on;
+      within = IfOk-weaker c.reply_in_cycle.result (λ o. IsWithinAsStack m first es c.args.input c.reply_in_cycle.new.cx o.result)
+          (λ o. StaysWithin m first es c.args.cache.now.entries.items c.args.input c.args.search.now.limits_met c.reply_in_cycle.new.cx c.look_up.new.cache.entries.items o.result)
+          (λ o f before no last cached. (
+            rw c.look_up.ensures.entries (AreCachedWithin-keeps m (m.world first) before (m.world first) first c.reply_in_cycle.new.cx c.args.cache.now.entries.items c.reply_in_cycle.ensures.keeps c.requires.cache cached),
+            f before last,
+          )) c.reply_in_cycle.ensures.within;
+      cached = λ place e at same within clear. (refl, c.look_up.ensures.entries);
+      known = λ place e at same within clear. absurd (true_not_false (sym (rw c.in_default.is at (c.in_ok-number.ensures.found place e at same within clear))));
+    }
 
-pub evaluate-returns-in-Some-find_cycle-clause-no_limit : goal.evaluate-returns-in-Some-find_cycle-clause-no_limit
-evaluate-returns-in-Some-find_cycle-clause-no_limit g t c = λ off on. not_both c.args.search.now.limits_met off on
-
-pub evaluate-returns-in-Some-find_cycle-clause-cached : goal.evaluate-returns-in-Some-find_cycle-clause-cached
-evaluate-returns-in-Some-find_cycle-clause-cached g t c = λ place e at same within clear. (refl, c.look_up.ensures.entries)
-
-pub evaluate-returns-in-Some-find_cycle-clause-known : goal.evaluate-returns-in-Some-find_cycle-clause-known
-evaluate-returns-in-Some-find_cycle-clause-known g t c = λ place e at same within clear. absurd (true_not_false (sym (rw c.in_default.is at (c.in_ok-number.ensures.found place e at same within clear))))
-
-pub evaluate-returns-in-None-clause-known : goal.evaluate-returns-in-None-clause-known
-evaluate-returns-in-None-clause-known g t c = λ place e at same within clear. absurd (true_not_false (sym (rw c.in_default.is at (c.in_ok-number.ensures.found place e at same within clear))))
-
-pub evaluate-returns-in-None-clause-cached : goal.evaluate-returns-in-None-clause-cached
-evaluate-returns-in-None-clause-cached g t c = λ place e at same within clear. absurd (true_not_false (sym (rw c.in_default.is at (c.in_ok-number.ensures.found place e at same within clear))))
-
-pub evaluate-returns-in-None-clause-within : goal.evaluate-returns-in-None-clause-within
-evaluate-returns-in-None-clause-within g t c =
-    IfOk-weaker c.evaluate_new.result _ _ (λ o f before no last cached. f before no last (rw c.look_up.ensures.entries cached)) c.evaluate_new.ensures.within
-
-pub evaluate-returns-in-None-clause-goals : goal.evaluate-returns-in-None-clause-goals
-evaluate-returns-in-None-clause-goals g t c = λ x n h. c.evaluate_new.ensures.goals x n (c.look_up.ensures.goals x n h)
-
-pub evaluate-returns-in-None-clause-results : goal.evaluate-returns-in-None-clause-results
-evaluate-returns-in-None-clause-results g t c = λ p x h. c.evaluate_new.ensures.results p x (rw c.look_up.ensures.entries h)
+pub evaluate-returns-in-None : goal.evaluate-returns-in-None
+evaluate-returns-in-None g t c =
+    record {
+      keeps = c.evaluate_new.ensures.keeps;
+      stack = c.evaluate_new.ensures.stack;
+      cache = c.evaluate_new.ensures.cache;
+      goals = λ x n h. c.evaluate_new.ensures.goals x n (c.look_up.ensures.goals x n h);
+      results = λ p x h. c.evaluate_new.ensures.results p x (rw c.look_up.ensures.entries h);
+      range = c.evaluate_new.ensures.range;
+      depth = c.evaluate_new.ensures.depth;
+      kept = c.evaluate_new.ensures.kept;
+      answer = c.evaluate_new.ensures.answer;
+      faithful = c.evaluate_new.ensures.faithful;
+      no_conflict = c.evaluate_new.ensures.no_conflict;
+      protocol = c.evaluate_new.ensures.protocol;
+      conflict = c.evaluate_new.ensures.conflict;
+      frames = c.evaluate_new.ensures.frames;
+      full = c.evaluate_new.ensures.full;
+      limits = c.evaluate_new.ensures.limits;
+      no_limit = c.evaluate_new.ensures.no_limit;
+      within = IfOk-weaker c.evaluate_new.result _ _ (λ o f before no last cached. f before no last (rw c.look_up.ensures.entries cached)) c.evaluate_new.ensures.within;
+      cached = λ place e at same within clear. absurd (true_not_false (sym (rw c.in_default.is at (c.in_ok-number.ensures.found place e at same within clear))));
+      known = λ place e at same within clear. absurd (true_not_false (sym (rw c.in_default.is at (c.in_ok-number.ensures.found place e at same within clear))));
+    }
 
 pub evaluate_new-loop-run-init : goal.evaluate_new-loop-run-init
 evaluate_new-loop-run-init g t c =
@@ -203,21 +208,21 @@ evaluate_new-loop-run-init g t c =
       goals = λ x n h. h;
       results = λ p x h. h;
       range = in_range_none c.args.cache.now.entries.items c.new-dependencies.result.nested_goals c.new-dependencies.ensures.unasked.0 c.new-dependencies.ensures.unasked.1;
-      depth = λ off. omega (arith, c.new-dependencies.ensures.depth);
+      depth = λ off. from_zero _ _ c.new-dependencies.ensures.depth;
       stack = refl;
       span = c.new_entry-entry.ensures.span ∙ ap (λ n. covered (span_of_newest es) (one_goal n)) (sym c.new_entry-entry.ensures.number);
       place = c.len-index.ensures ∙ c.args.search.now.stack.ok.0;
       input = c.new_entry-entry.ensures.input;
       kind = c.new_entry-entry.ensures.kind;
       entry = record { known = rw c.new_entry-entry.ensures.input c.requires.input; room = omega (arith, c.new_entry-entry.ensures.lowest, c.args.search.now.stack.ok.0); last = rw c.new_entry-entry.ensures.first tt };
-      room = omega (arith, c.new-dependencies.ensures.lowest, c.len-index.ensures ∙ c.args.search.now.stack.ok.0);
+      room = within_equal _ _ (c.new-dependencies.ensures.lowest ∙ c.len-index.ensures ∙ c.args.search.now.stack.ok.0);
       untouched = untouched_first m w (c.args.depth + 1) path x c.new-dependencies.result.encountered_overflow c.new-dependencies.result.lowest c.new-dependencies.result.heads.items
           c.new-dependencies.ensures.within (c.new-dependencies.ensures.lowest ∙ sym long) c.new-dependencies.ensures.unread;
       frames = λ width h. omega arith;
       limits = λ h. h;
       noted = λ off on. not_both {P = IsNotPlainOver m first es c.args.input (c.args.depth + 1)} c.args.search.now.limits_met off on;
       within = λ before no last cached. (cached, rw c.new_entry-entry.ensures.first tt);
-      again = λ r. absurd (omega arith);
+      again = λ r. absurd (not_less 0 r);
     }
 
 pub evaluate_new-loop-run-preserved : goal.evaluate_new-loop-run-preserved
@@ -238,7 +243,7 @@ evaluate_new-loop-run-preserved g t c =
     let kind : c.in_ok-back.back.step_kind ≡ c.args.step_kind = ap (λ e. e.step_kind) c.in_ok-back.ensures.entry ∙ inv.kind in
     let long = path_length m first es c.len-index.result inv.place in
     let low : c.in_ok-back.outcome.dependencies.lowest ≤ c.len-index.result = let h = c.in_ok-back.ensures.low in rw (inv.place, ← inv.stack) h in
-    let room : c.in_ok-back.outcome.dependencies.lowest ≤ length (path_onto m first es []) = omega arith in
+    let room : c.in_ok-back.outcome.dependencies.lowest ≤ length (path_onto m first es []) = in_path _ _ _ low long in
     let faithful = rw (inv.keeps.world, path-now m first c.loop-run.cx es c.loop-run.search.stack.items inv.keeps inv.stack c.requires.stack, inv.input, goal_is) at c.in_ok-back.ensures.faithful in
     let never : (limit : ℕ) → (limit ≤ c.args.depth + 1) ⊎ (c.in_ok-back.outcome.dependencies.encountered_overflow ≡ false) → AllDescend m w limit c.in_ok-back.outcome.dependencies.lowest path x → IsNotPlain m w limit x
     = (λ limit h d n b within p.
@@ -258,7 +263,7 @@ evaluate_new-loop-run-preserved g t c =
       input = ap (λ e. e.input) c.next_run-entry.ensures ∙ input;
       kind = ap (λ e. e.step_kind) c.next_run-entry.ensures ∙ kind;
       entry = rw (c.next_run-entry.ensures, input, kind) (record { known = (keeps.inputs c.args.input c.requires.input).0; room = room; last = rw (keeps.inputs c.args.input c.requires.input).1 now });
-      room = omega (arith, inv.place);
+      room = in_path _ _ _ low (sym inv.place);
       untouched = untouched_not_plain m w (c.args.depth + 1) path x c.in_ok-back.outcome.dependencies.encountered_overflow c.in_ok-back.outcome.dependencies.lowest c.take_head-read.new.heads.items never;
       frames = λ width h. one_more_run c.args.search.now.frames c.loop-run.search.frames c.run_once.new.search.frames c.loop-run._run (1 + width * question_bound limit width c.args.depth)
           (inv.frames width h) (c.run_once.ensures.frames width (rw (inv.keeps.world, inv.input, goal_is) h));
@@ -319,9 +324,9 @@ evaluate_new-finish-requires-clause-alone g t c =
     let input : c.into_input.result ≡ c.args.input = c.into_input.ensures ∙ ap (λ e. e.input) c.in_ok-back.ensures.entry ∙ inv.input in
     let long = path_length m first es c.len-index.result inv.place in
     let low : c.in_ok-back.outcome.dependencies.lowest ≤ c.len-index.result = let h = c.in_ok-back.ensures.low in rw (inv.place, ← inv.stack) h in
-    let room : c.in_ok-back.outcome.dependencies.lowest ≤ length (path_onto m first es []) = omega arith in
+    let room : c.in_ok-back.outcome.dependencies.lowest ≤ length (path_onto m first es []) = in_path _ _ _ low long in
     λ h. rw (keeps.world, input, (keeps.inputs c.args.input c.requires.input).1)
-    (provisional_alone m w c.in_ok-back.outcome.dependencies.lowest path x c.args.step_kind Inductive c.run_once.new.cx c.in_ok-back.outcome.result (omega arith) now)
+    (provisional_alone m w c.in_ok-back.outcome.dependencies.lowest path x c.args.step_kind Inductive c.run_once.new.cx c.in_ok-back.outcome.result (past_path _ _ _ h long) now)
 
 pub evaluate_new-finish-requires-clause-kept : goal.evaluate_new-finish-requires-clause-kept
 evaluate_new-finish-requires-clause-kept g t c =
@@ -337,10 +342,10 @@ evaluate_new-finish-requires-clause-kept g t c =
     let input : c.into_input.result ≡ c.args.input = c.into_input.ensures ∙ ap (λ e. e.input) c.in_ok-back.ensures.entry ∙ inv.input in
     let long = path_length m first es c.len-index.result inv.place in
     let low : c.in_ok-back.outcome.dependencies.lowest ≤ c.len-index.result = let h = c.in_ok-back.ensures.low in rw (inv.place, ← inv.stack) h in
-    let room : c.in_ok-back.outcome.dependencies.lowest ≤ length (path_onto m first es []) = omega arith in
+    let room : c.in_ok-back.outcome.dependencies.lowest ≤ length (path_onto m first es []) = in_path _ _ _ low long in
     let faithful = rw (inv.keeps.world, path-now m first c.loop-run.cx es c.loop-run.search.stack.items inv.keeps inv.stack c.requires.stack, inv.input, goal_is) at c.in_ok-back.ensures.faithful in
     λ h. rw (keeps.world, input, (keeps.inputs c.args.input c.requires.input).1)
-    (kept_of_faithful m w c.args.depth path x (m.answer_of c.run_once.new.cx c.in_ok-back.outcome.result) c.in_ok-back.outcome.dependencies.encountered_overflow c.in_ok-back.outcome.dependencies.lowest c.in_ok-back.outcome.dependencies.heads.items (omega arith) faithful)
+    (kept_of_faithful m w c.args.depth path x (m.answer_of c.run_once.new.cx c.in_ok-back.outcome.result) c.in_ok-back.outcome.dependencies.encountered_overflow c.in_ok-back.outcome.dependencies.lowest c.in_ok-back.outcome.dependencies.heads.items (past_path _ _ _ h long) faithful)
 
 pub evaluate_new-finish-requires-clause-number : goal.evaluate_new-finish-requires-clause-number
 evaluate_new-finish-requires-clause-number g t c =
@@ -358,130 +363,157 @@ evaluate_new-finish-requires-clause-input g t c =
     rw input (keeps.inputs c.args.input c.requires.input).0
 
 pub evaluate_new-finish-requires-clause-nested : goal.evaluate_new-finish-requires-clause-nested
-evaluate_new-finish-requires-clause-nested g t c = c.in_ok-back.ensures.range
+evaluate_new-finish-requires-clause-nested g t c =
+    c.in_ok-back.ensures.range
 
-pub evaluate_new-returns-then-is_last_run-clause-answer : goal.evaluate_new-returns-then-is_last_run-clause-answer
-evaluate_new-returns-then-is_last_run-clause-answer g t c =
-    let m = g.D.Delegate.meaning in
+pub evaluate_new-returns-then-is_last_run : goal.evaluate_new-returns-then-is_last_run
+evaluate_new-returns-then-is_last_run g t c =
+    let counted : c.loop-run._run + 1 ≤ max g.D.Delegate.FIXPOINT_STEP_LIMIT 1 = omega arith in
     let inv = c.loop-run.invariant in
+    let m = g.D.Delegate.meaning in
     let first = c.args.cx.now in
     let es = c.args.search.now.stack.items in
     let w = m.world first in
     let x = m.goal_of first c.args.input in
     let path = path_onto m first es [] in
-    let now = IsProvisional-then m first c.loop-run.cx es c.loop-run.search.stack.items inv.keeps inv.stack c.requires.stack
-    c.loop-run.entry c.args.input c.args.step_kind c.in_ok-back.outcome.dependencies.lowest c.run_once.new.cx c.in_ok-back.outcome.result inv.input inv.kind c.requires.input c.in_ok-back.ensures.provisional in
+    let now = IsProvisional-then m first c.loop-run.cx es c.loop-run.search.stack.items inv.keeps inv.stack c.requires.stack c.loop-run.entry c.args.input c.args.step_kind c.in_ok-back.outcome.dependencies.lowest c.run_once.new.cx c.in_ok-back.outcome.result inv.input inv.kind c.requires.input c.in_ok-back.ensures.provisional in
     let long = path_length m first es c.len-index.result inv.place in
     let low : c.in_ok-back.outcome.dependencies.lowest ≤ c.len-index.result = let h = c.in_ok-back.ensures.low in rw (inv.place, ← inv.stack) h in
-    let room : c.in_ok-back.outcome.dependencies.lowest ≤ length (path_onto m first es []) = omega arith in
-    answer_after m first c.run_once.new.cx es c.args.input c.finish.result _ c.args.step_kind
-    (answer_of_run m w path (x, c.args.step_kind) c.in_ok-back.outcome.dependencies.lowest c.run_once.new.cx c.in_ok-back.outcome.result room now) c.finish.ensures.reply
-
-pub evaluate_new-returns-then-is_last_run-clause-faithful : goal.evaluate_new-returns-then-is_last_run-clause-faithful
-evaluate_new-returns-then-is_last_run-clause-faithful g t c =
-    let m = g.D.Delegate.meaning in
-    let inv = c.loop-run.invariant in
-    let first = c.args.cx.now in
-    let es = c.args.search.now.stack.items in
-    let w = m.world first in
-    let x = m.goal_of first c.args.input in
-    let path = path_onto m first es [] in
+    let room : c.in_ok-back.outcome.dependencies.lowest ≤ length (path_onto m first es []) = in_path _ _ _ low long in
     let goal_is = (inv.keeps.inputs c.args.input c.requires.input).1 in
     let faithful = rw (inv.keeps.world, path-now m first c.loop-run.cx es c.loop-run.search.stack.items inv.keeps inv.stack c.requires.stack, inv.input, goal_is) at c.in_ok-back.ensures.faithful in
-    faithful_after m first c.run_once.new.cx es c.args.input c.finish.result _ (c.args.depth + 1)
-    (faithful_taken m w (c.args.depth + 1) path x (m.answer_of c.run_once.new.cx c.in_ok-back.outcome.result) c.in_ok-back.outcome.dependencies.encountered_overflow c.in_ok-back.outcome.dependencies.lowest c.in_ok-back.outcome.dependencies.heads.items c.take_head-read.new.heads.items
-    (λ e. (c.take_head-read.ensures.unread e).1) faithful) c.finish.ensures.reply
-
-pub evaluate_new-returns-then-is_last_run-clause-frames : goal.evaluate_new-returns-then-is_last_run-clause-frames
-evaluate_new-returns-then-is_last_run-clause-frames g t c =
-    let inv = c.loop-run.invariant in
-    let limit : ℕ = max g.D.Delegate.FIXPOINT_STEP_LIMIT 1 in
-    let goal_is = (inv.keeps.inputs c.args.input c.requires.input).1 in
-    λ width h.
-    let more = one_more_run c.args.search.now.frames c.loop-run.search.frames c.run_once.new.search.frames c.loop-run._run (1 + width * question_bound limit width c.args.depth)
-    (inv.frames width h) (c.run_once.ensures.frames width (rw (inv.keeps.world, inv.input, goal_is) h)) in
-    rw (frame_bound_runs limit width c.args.depth) (runs_within c.args.search.now.frames c.run_once.new.search.frames (c.loop-run._run + 1) limit (1 + width * question_bound limit width c.args.depth) (omega arith) more)
-
-pub evaluate_new-returns-in_err-back-clause-frames : goal.evaluate_new-returns-in_err-back-clause-frames
-evaluate_new-returns-in_err-back-clause-frames g t c =
-    let inv = c.loop-run.invariant in
-    let limit : ℕ = max g.D.Delegate.FIXPOINT_STEP_LIMIT 1 in
-    let goal_is = (inv.keeps.inputs c.args.input c.requires.input).1 in
-    λ width h.
-    let more = one_more_run c.args.search.now.frames c.loop-run.search.frames c.run_once.new.search.frames c.loop-run._run (1 + width * question_bound limit width c.args.depth)
-    (inv.frames width h) (c.run_once.ensures.frames width (rw (inv.keeps.world, inv.input, goal_is) h)) in
-    rw (frame_bound_runs limit width c.args.depth) (runs_within c.args.search.now.frames c.run_once.new.search.frames (c.loop-run._run + 1) limit (1 + width * question_bound limit width c.args.depth) (omega arith) more)
-
-pub evaluate_new-returns-in_err-answer-clause-frames : goal.evaluate_new-returns-in_err-answer-clause-frames
-evaluate_new-returns-in_err-answer-clause-frames g t c =
-    let inv = c.loop-run.invariant in
-    let limit : ℕ = max g.D.Delegate.FIXPOINT_STEP_LIMIT 1 in
-    λ width h. rw (frame_bound_runs limit width c.args.depth) (runs_within c.args.search.now.frames c.loop-run.search.frames c.loop-run._run limit (1 + width * question_bound limit width c.args.depth) (omega arith) (inv.frames width h))
-
-pub evaluate_new-returns-clause-frames : goal.evaluate_new-returns-clause-frames
-evaluate_new-returns-clause-frames g t c =
-    let inv = c.loop-run.invariant in
-    let limit : ℕ = max g.D.Delegate.FIXPOINT_STEP_LIMIT 1 in
-    λ width h. rw (frame_bound_runs limit width c.args.depth) (runs_within c.args.search.now.frames c.loop-run.search.frames c.loop-run._run limit (1 + width * question_bound limit width c.args.depth) (omega arith) (inv.frames width h))
-
-pub evaluate_new-returns-in_err-back-clause-no_conflict : goal.evaluate_new-returns-in_err-back-clause-no_conflict
-evaluate_new-returns-in_err-back-clause-no_conflict g t c =
-    let m = g.D.Delegate.meaning in
-    let inv = c.loop-run.invariant in
-    let first = c.args.cx.now in
-    let es = c.args.search.now.stack.items in
-    let goal_is = (inv.keeps.inputs c.args.input c.requires.input).1 in
-    let p = err_from_is_err_and c.from_residual.result c.from_residual.ensures.1 in
-    let claim = rw (inv.keeps.world, path-now m first c.loop-run.cx es c.loop-run.search.stack.items inv.keeps inv.stack c.requires.stack, inv.input, goal_is) at c.in_err-back.ensures.no_conflict in
-    λ h. claim (err_passed _ _ _ _ p.1 p.2 h)
-
-pub evaluate_new-returns-in_err-back-clause-conflict : goal.evaluate_new-returns-in_err-back-clause-conflict
-evaluate_new-returns-in_err-back-clause-conflict g t c =
-    let p = err_from_is_err_and c.from_residual.result c.from_residual.ensures.1 in
-    λ h. c.in_err-back.ensures.conflict (err_passed _ _ _ _ p.1 p.2 h)
-
-pub evaluate_new-returns-in_err-back-clause-protocol : goal.evaluate_new-returns-in_err-back-clause-protocol
-evaluate_new-returns-in_err-back-clause-protocol g t c =
-    let inv = c.loop-run.invariant in
-    let goal_is = (inv.keeps.inputs c.args.input c.requires.input).1 in
-    let p = err_from_is_err_and c.from_residual.result c.from_residual.ensures.1 in
-    let claim = rw (inv.keeps.world, inv.input, goal_is) at c.in_err-back.ensures.protocol in
-    λ h. claim (err_passed _ _ _ _ p.1 p.2 h)
-
-pub evaluate_new-returns-in_err-back-clause-goals : goal.evaluate_new-returns-in_err-back-clause-goals
-evaluate_new-returns-in_err-back-clause-goals g t c = λ x n h. c.run_once.ensures.goals x n (c.loop-run.invariant.goals x n h)
-
-pub evaluate_new-returns-in_err-back-clause-results : goal.evaluate_new-returns-in_err-back-clause-results
-evaluate_new-returns-in_err-back-clause-results g t c = λ p x h. c.run_once.ensures.results p x (c.loop-run.invariant.results p x h)
-
-pub evaluate_new-returns-in_err-back-clause-no_limit : goal.evaluate_new-returns-in_err-back-clause-no_limit
-evaluate_new-returns-in_err-back-clause-no_limit g t c =
-    let m = g.D.Delegate.meaning in
-    let inv = c.loop-run.invariant in
-    let first = c.args.cx.now in
-    let es = c.args.search.now.stack.items in
-    let goal_is = (inv.keeps.inputs c.args.input c.requires.input).1 in
-    λ off. either_noted c.loop-run.search.limits_met c.run_once.new.search.limits_met (inv.noted off)
-    (rw (inv.keeps.world, path-now m first c.loop-run.cx es c.loop-run.search.stack.items inv.keeps inv.stack c.requires.stack, inv.input, goal_is) at c.run_once.ensures.no_limit)
-
-pub evaluate_new-returns-then-is_last_run-clause-no_conflict : goal.evaluate_new-returns-then-is_last_run-clause-no_conflict
-evaluate_new-returns-then-is_last_run-clause-no_conflict g t c =
-    let m = g.D.Delegate.meaning in
-    let inv = c.loop-run.invariant in
-    let first = c.args.cx.now in
     let keeps = Keeps-trans m first c.loop-run.cx c.run_once.new.cx inv.keeps c.run_once.ensures.keeps in
     let input : c.into_input.result ≡ c.args.input = c.into_input.ensures ∙ ap (λ e. e.input) c.in_ok-back.ensures.entry ∙ inv.input in
     let claim = rw (keeps.world, input, (keeps.inputs c.args.input c.requires.input).1) at c.finish.ensures.no_conflict in
-    λ h limit l d. claim h limit l
+    let limit : ℕ = max g.D.Delegate.FIXPOINT_STEP_LIMIT 1 in
+    record {
+      keeps = Keeps-trans g.D.Delegate.meaning c.args.cx.now c.loop-run.cx c.run_once.new.cx c.loop-run.invariant.keeps c.run_once.ensures.keeps;
+      stack = OnOk-always c.finish.result (c.in_ok-back.ensures.stack ∙ c.loop-run.invariant.stack);
+      cache = c.finish.ensures.cache;
+      goals = λ x n h. rw c.finish.ensures.goals (c.run_once.ensures.goals x n (c.loop-run.invariant.goals x n h));
+      results = λ p x h. c.finish.ensures.results p x (c.run_once.ensures.results p x (c.loop-run.invariant.results p x h));
+      range = c.finish.ensures.range;
+      depth = depth_after c.finish.result _ c.args.depth c.in_ok-back.ensures.depth c.finish.ensures.reply;
+      kept = λ empty.
+          let inv = c.loop-run.invariant in
+          let input : c.into_input.result ≡ c.args.input = c.into_input.ensures ∙ ap (λ e. e.input) c.in_ok-back.ensures.entry ∙ inv.input in
+          let root : c.len-index.result ≡ 0 = inv.place ∙ ap length empty in
+          held_after c.finish.result _ c.run_once.new.cache.entries.items c.finish.new.cache.entries.items c.args.input c.into_input.result c.len-index.result c.args.number c.args.depth input (from_zero _ _ root)
+          c.in_ok-back.ensures.depth c.finish.ensures.kept c.finish.ensures.reply;
+      answer = answer_after m first c.run_once.new.cx es c.args.input c.finish.result _ c.args.step_kind
+          (answer_of_run m w path (x, c.args.step_kind) c.in_ok-back.outcome.dependencies.lowest c.run_once.new.cx c.in_ok-back.outcome.result room now) c.finish.ensures.reply;
+      faithful = faithful_after m first c.run_once.new.cx es c.args.input c.finish.result _ (c.args.depth + 1)
+          (faithful_taken m w (c.args.depth + 1) path x (m.answer_of c.run_once.new.cx c.in_ok-back.outcome.result) c.in_ok-back.outcome.dependencies.encountered_overflow c.in_ok-back.outcome.dependencies.lowest c.in_ok-back.outcome.dependencies.heads.items c.take_head-read.new.heads.items
+          (λ e. (c.take_head-read.ensures.unread e).1) faithful) c.finish.ensures.reply;
+      no_conflict = λ h limit l d. claim h limit l;
+      protocol = λ h. absurd (c.finish.ensures.in_order h);
+      conflict = c.finish.ensures.conflict;
+      frames = λ width h.
+          let more = one_more_run c.args.search.now.frames c.loop-run.search.frames c.run_once.new.search.frames c.loop-run._run (1 + width * question_bound limit width c.args.depth)
+          (inv.frames width h) (c.run_once.ensures.frames width (rw (inv.keeps.world, inv.input, goal_is) h)) in
+          rw (frame_bound_runs limit width c.args.depth) (runs_within c.args.search.now.frames c.run_once.new.search.frames (c.loop-run._run + 1) limit (1 + width * question_bound limit width c.args.depth) counted more);
+      full = λ h. absurd (c.finish.ensures.room h);
+      limits = λ h. c.run_once.ensures.limits (inv.limits h);
+      no_limit = λ off. either_noted c.loop-run.search.limits_met c.run_once.new.search.limits_met (inv.noted off)
+          (rw (inv.keeps.world, path-now m first c.loop-run.cx es c.loop-run.search.stack.items inv.keeps inv.stack c.requires.stack, inv.input, goal_is) at c.run_once.ensures.no_limit);
+      within = within_after m first c.run_once.new.cx es c.args.input c.finish.result _ c.args.cache.now.entries.items c.run_once.new.cache.entries.items c.finish.new.cache.entries.items c.into_input.result c.run_once.new.search.limits_met keeps input c.requires.input
+          (λ before no last cached.
+          told_within m first c.loop-run.cx c.run_once.new.cx es c.loop-run.search.stack.items inv.keeps inv.stack c.requires.stack before c.args.input c.loop-run.entry c.in_ok-back.outcome.result inv.input c.requires.input
+          c.loop-run.cache.entries.items c.run_once.new.cache.entries.items (c.in_ok-back.ensures.within before no) last
+          (inv.within before (unnoted c.loop-run.search.limits_met c.run_once.new.search.limits_met c.run_once.ensures.limits no) last cached))
+          c.finish.ensures.within c.finish.ensures.reply;
+    }
 
-pub evaluate_new-returns-then-is_last_run-clause-conflict : goal.evaluate_new-returns-then-is_last_run-clause-conflict
-evaluate_new-returns-then-is_last_run-clause-conflict g t c = c.finish.ensures.conflict
+pub evaluate_new-returns-in_err-back : goal.evaluate_new-returns-in_err-back
+evaluate_new-returns-in_err-back g t c =
+    let counted : c.loop-run._run + 1 ≤ max g.D.Delegate.FIXPOINT_STEP_LIMIT 1 = omega arith in
+    let inv = c.loop-run.invariant in
+    let p = err_from_is_err_and c.from_residual.result c.from_residual.ensures.1 in
+    let m = g.D.Delegate.meaning in
+    let first = c.args.cx.now in
+    let es = c.args.search.now.stack.items in
+    let goal_is = (inv.keeps.inputs c.args.input c.requires.input).1 in
+    let claim = rw (inv.keeps.world, path-now m first c.loop-run.cx es c.loop-run.search.stack.items inv.keeps inv.stack c.requires.stack, inv.input, goal_is) at c.in_err-back.ensures.no_conflict in
+    let limit : ℕ = max g.D.Delegate.FIXPOINT_STEP_LIMIT 1 in
+    record {
+      keeps = Keeps-trans g.D.Delegate.meaning c.args.cx.now c.loop-run.cx c.run_once.new.cx inv.keeps c.run_once.ensures.keeps;
+      stack = OnOk-err _ _ _ p.1;
+      cache = c.run_once.ensures.cache;
+      goals = λ x n h. c.run_once.ensures.goals x n (c.loop-run.invariant.goals x n h);
+      results = λ p x h. c.run_once.ensures.results p x (c.loop-run.invariant.results p x h);
+      range = IfOk-err _ _ _ p.1;
+      depth = IfOk-err _ _ _ p.1;
+      kept = λ empty. IfOk-err _ _ _ p.1;
+      answer = IfOk-err _ _ _ p.1;
+      faithful = IfOk-err _ _ _ p.1;
+      no_conflict = λ h. claim (err_passed _ _ _ _ p.1 p.2 h);
+      protocol = let claim = rw (inv.keeps.world, inv.input, goal_is) at c.in_err-back.ensures.protocol in λ h. claim (err_passed _ _ _ _ p.1 p.2 h);
+      conflict = λ h. c.in_err-back.ensures.conflict (err_passed _ _ _ _ p.1 p.2 h);
+      frames = λ width h.
+          let more = one_more_run c.args.search.now.frames c.loop-run.search.frames c.run_once.new.search.frames c.loop-run._run (1 + width * question_bound limit width c.args.depth)
+          (inv.frames width h) (c.run_once.ensures.frames width (rw (inv.keeps.world, inv.input, goal_is) h)) in
+          rw (frame_bound_runs limit width c.args.depth) (runs_within c.args.search.now.frames c.run_once.new.search.frames (c.loop-run._run + 1) limit (1 + width * question_bound limit width c.args.depth) counted more);
+      full = λ h. c.in_err-back.ensures.full (err_passed _ _ _ _ p.1 p.2 h);
+      limits = λ h. c.run_once.ensures.limits (inv.limits h);
+      no_limit = λ off. either_noted c.loop-run.search.limits_met c.run_once.new.search.limits_met (inv.noted off)
+          (rw (inv.keeps.world, path-now m first c.loop-run.cx es c.loop-run.search.stack.items inv.keeps inv.stack c.requires.stack, inv.input, goal_is) at c.run_once.ensures.no_limit);
+      within = IfOk-err _ _ _ p.1;
+    }
 
-pub evaluate_new-returns-then-is_last_run-clause-protocol : goal.evaluate_new-returns-then-is_last_run-clause-protocol
-evaluate_new-returns-then-is_last_run-clause-protocol g t c = λ h. absurd (c.finish.ensures.in_order h)
+pub evaluate_new-returns-in_err-answer-clause-frames : goal.evaluate_new-returns-in_err-answer-clause-frames
+evaluate_new-returns-in_err-answer-clause-frames g t c =
+    let counted : c.loop-run._run ≤ max g.D.Delegate.FIXPOINT_STEP_LIMIT 1 = omega arith in
+    let inv = c.loop-run.invariant in
+    let limit : ℕ = max g.D.Delegate.FIXPOINT_STEP_LIMIT 1 in
+    λ width h. rw (frame_bound_runs limit width c.args.depth) (runs_within c.args.search.now.frames c.loop-run.search.frames c.loop-run._run limit (1 + width * question_bound limit width c.args.depth) counted (inv.frames width h))
 
-pub evaluate_new-returns-then-is_last_run-clause-stack : goal.evaluate_new-returns-then-is_last_run-clause-stack
-evaluate_new-returns-then-is_last_run-clause-stack g t c = OnOk-always c.finish.result (c.in_ok-back.ensures.stack ∙ c.loop-run.invariant.stack)
+pub evaluate_new-returns : goal.evaluate_new-returns
+evaluate_new-returns g t c =
+    let ran : 0 < c.loop-run._run = omega arith in
+    let counted : c.loop-run._run ≤ max g.D.Delegate.FIXPOINT_STEP_LIMIT 1 = omega arith in
+    let inv = c.loop-run.invariant in
+    let m = g.D.Delegate.meaning in
+    let law = g.met.D.Delegate.lawful in
+    let first = c.args.cx.now in
+    let es = c.args.search.now.stack.items in
+    let w = m.world first in
+    let x = m.goal_of first c.args.input in
+    let path = path_onto m first es [] in
+    let goal_is = (inv.keeps.inputs c.args.input c.requires.input).1 in
+    let is : m.answer_of c.fixpoint_overflow_result.new.cx c.in_ok-answer.answer ≡ m.fixpoint_overflow w x = rw (inv.keeps.world, inv.input, goal_is) at c.in_ok-answer.ensures.is.1 in
+    let long = path_length m first es c.len-index.result inv.place in
+    let faithful = faithful_not_plain m w (c.args.depth + 1) path x (m.answer_of c.fixpoint_overflow_result.new.cx c.in_ok-answer.answer) c.loop-run.dependencies.encountered_overflow c.loop-run.dependencies.lowest c.loop-run.dependencies.heads.items (inv.again ran) in
+    let keeps = Keeps-trans m first c.loop-run.cx c.fixpoint_overflow_result.new.cx inv.keeps c.fixpoint_overflow_result.ensures.keeps in
+    let claim = rw (keeps.world, c.into_input-2.ensures ∙ inv.input, (keeps.inputs c.args.input c.requires.input).1) at c.finish-2.ensures.no_conflict in
+    let limit : ℕ = max g.D.Delegate.FIXPOINT_STEP_LIMIT 1 in
+    record {
+      keeps = Keeps-trans g.D.Delegate.meaning c.args.cx.now c.loop-run.cx c.fixpoint_overflow_result.new.cx c.loop-run.invariant.keeps c.fixpoint_overflow_result.ensures.keeps;
+      stack = OnOk-always c.finish-2.result c.loop-run.invariant.stack;
+      cache = c.finish-2.ensures.cache;
+      goals = λ x n h. rw c.finish-2.ensures.goals (c.loop-run.invariant.goals x n h);
+      results = λ p x h. c.finish-2.ensures.results p x (c.loop-run.invariant.results p x h);
+      range = c.finish-2.ensures.range;
+      depth = depth_after c.finish-2.result _ c.args.depth c.loop-run.invariant.depth c.finish-2.ensures.reply;
+      kept = λ empty.
+          let inv = c.loop-run.invariant in
+          let input : c.into_input-2.result ≡ c.args.input = c.into_input-2.ensures ∙ inv.input in
+          let root : c.len-index.result ≡ 0 = inv.place ∙ ap length empty in
+          held_after c.finish-2.result _ c.loop-run.cache.entries.items c.finish-2.new.cache.entries.items c.args.input c.into_input-2.result c.len-index.result c.args.number c.args.depth input (from_zero _ _ root)
+          inv.depth c.finish-2.ensures.kept c.finish-2.ensures.reply;
+      answer = answer_after m first c.fixpoint_overflow_result.new.cx es c.args.input c.finish-2.result _ c.args.step_kind
+          (overflow_answers m w path (x, c.args.step_kind) c.loop-run.dependencies.lowest c.fixpoint_overflow_result.new.cx c.in_ok-answer.answer (m.fixpoint_overflow w x)
+          (in_path _ _ _ inv.room (long ∙ inv.place)) c.in_ok-answer.ensures.is.0 is (law.fixpoint_overflow w x) (law.fixpoint_overflow_fair w x) (inr (inl refl))) c.finish-2.ensures.reply;
+      faithful = faithful_after m first c.fixpoint_overflow_result.new.cx es c.args.input c.finish-2.result _ (c.args.depth + 1)
+          faithful c.finish-2.ensures.reply;
+      no_conflict = λ h limit l d. claim h limit l;
+      protocol = λ h. absurd (c.finish-2.ensures.in_order h);
+      conflict = c.finish-2.ensures.conflict;
+      frames = λ width h. rw (frame_bound_runs limit width c.args.depth) (runs_within c.args.search.now.frames c.loop-run.search.frames c.loop-run._run limit (1 + width * question_bound limit width c.args.depth) counted (inv.frames width h));
+      full = λ h. absurd (c.finish-2.ensures.room h);
+      limits = λ h. refl;
+      no_limit = let path = path_onto m first c.args.search.now.stack.items [] in λ off on limit l d. inv.again ran limit (inl l) (AllDescend-higher m w limit 0 c.loop-run.dependencies.lowest path x (from_zero 0 _ refl) d);
+      within = IfOk-weaker c.finish-2.result _ _ (λ o s before no. absurd (true_not_false no)) c.finish-2.ensures.reply;
+    }
 
 pub evaluate_new-returns-in_err-answer-clause-cache : goal.evaluate_new-returns-in_err-answer-clause-cache
 evaluate_new-returns-in_err-answer-clause-cache g t c =
@@ -510,6 +542,7 @@ evaluate_new-finish-requires-2-clause-alone g t c =
 
 pub evaluate_new-finish-requires-2-clause-kept : goal.evaluate_new-finish-requires-2-clause-kept
 evaluate_new-finish-requires-2-clause-kept g t c =
+    let ran : 0 < c.loop-run._run = omega arith in
     let m = g.D.Delegate.meaning in
     let inv = c.loop-run.invariant in
     let first = c.args.cx.now in
@@ -518,11 +551,10 @@ evaluate_new-finish-requires-2-clause-kept g t c =
     let x = m.goal_of first c.args.input in
     let path = path_onto m first es [] in
     let keeps = Keeps-trans m first c.loop-run.cx c.fixpoint_overflow_result.new.cx inv.keeps c.fixpoint_overflow_result.ensures.keeps in
-    let ran : 0 < c.loop-run._run = omega arith in
     let faithful = faithful_not_plain m w (c.args.depth + 1) path x (m.answer_of c.fixpoint_overflow_result.new.cx c.in_ok-answer.answer) c.loop-run.dependencies.encountered_overflow c.loop-run.dependencies.lowest c.loop-run.dependencies.heads.items (inv.again ran) in
     let long = path_length m first es c.len-index.result inv.place in
     λ h. rw (keeps.world, c.into_input-2.ensures ∙ inv.input, (keeps.inputs c.args.input c.requires.input).1)
-    (kept_of_faithful m w c.args.depth path x (m.answer_of c.fixpoint_overflow_result.new.cx c.in_ok-answer.answer) c.loop-run.dependencies.encountered_overflow c.loop-run.dependencies.lowest c.loop-run.dependencies.heads.items (omega arith) faithful)
+    (kept_of_faithful m w c.args.depth path x (m.answer_of c.fixpoint_overflow_result.new.cx c.in_ok-answer.answer) c.loop-run.dependencies.encountered_overflow c.loop-run.dependencies.lowest c.loop-run.dependencies.heads.items (past_path _ _ _ h long) faithful)
 
 pub evaluate_new-finish-requires-2-clause-number : goal.evaluate_new-finish-requires-2-clause-number
 evaluate_new-finish-requires-2-clause-number g t c =
@@ -530,7 +562,8 @@ evaluate_new-finish-requires-2-clause-number g t c =
     rw (c.into_input-2.ensures ∙ inv.input) (inv.goals c.args.input c.args.number c.requires.number)
 
 pub evaluate_new-finish-requires-2-clause-nested : goal.evaluate_new-finish-requires-2-clause-nested
-evaluate_new-finish-requires-2-clause-nested g t c = c.loop-run.invariant.range
+evaluate_new-finish-requires-2-clause-nested g t c =
+    c.loop-run.invariant.range
 
 pub evaluate_new-finish-requires-2-clause-input : goal.evaluate_new-finish-requires-2-clause-input
 evaluate_new-finish-requires-2-clause-input g t c =
@@ -538,62 +571,6 @@ evaluate_new-finish-requires-2-clause-input g t c =
     let inv = c.loop-run.invariant in
     let keeps = Keeps-trans m c.args.cx.now c.loop-run.cx c.fixpoint_overflow_result.new.cx inv.keeps c.fixpoint_overflow_result.ensures.keeps in
     rw (c.into_input-2.ensures ∙ inv.input) (keeps.inputs c.args.input c.requires.input).0
-
-pub evaluate_new-returns-clause-answer : goal.evaluate_new-returns-clause-answer
-evaluate_new-returns-clause-answer g t c =
-    let m = g.D.Delegate.meaning in
-    let law = g.met.D.Delegate.lawful in
-    let inv = c.loop-run.invariant in
-    let first = c.args.cx.now in
-    let es = c.args.search.now.stack.items in
-    let w = m.world first in
-    let x = m.goal_of first c.args.input in
-    let path = path_onto m first es [] in
-    let goal_is = (inv.keeps.inputs c.args.input c.requires.input).1 in
-    let is : m.answer_of c.fixpoint_overflow_result.new.cx c.in_ok-answer.answer ≡ m.fixpoint_overflow w x =
-    rw (inv.keeps.world, inv.input, goal_is) at c.in_ok-answer.ensures.is.1 in
-    let long = path_length m first es c.len-index.result inv.place in
-    answer_after m first c.fixpoint_overflow_result.new.cx es c.args.input c.finish-2.result _ c.args.step_kind
-    (overflow_answers m w path (x, c.args.step_kind) c.loop-run.dependencies.lowest c.fixpoint_overflow_result.new.cx c.in_ok-answer.answer (m.fixpoint_overflow w x)
-    (omega (arith, inv.room, inv.place)) c.in_ok-answer.ensures.is.0 is (law.fixpoint_overflow w x) (law.fixpoint_overflow_fair w x) (inr (inl refl))) c.finish-2.ensures.reply
-
-pub evaluate_new-returns-clause-faithful : goal.evaluate_new-returns-clause-faithful
-evaluate_new-returns-clause-faithful g t c =
-    let m = g.D.Delegate.meaning in
-    let inv = c.loop-run.invariant in
-    let first = c.args.cx.now in
-    let es = c.args.search.now.stack.items in
-    let w = m.world first in
-    let x = m.goal_of first c.args.input in
-    let path = path_onto m first es [] in
-    let ran : 0 < c.loop-run._run = omega arith in
-    let faithful = faithful_not_plain m w (c.args.depth + 1) path x (m.answer_of c.fixpoint_overflow_result.new.cx c.in_ok-answer.answer) c.loop-run.dependencies.encountered_overflow c.loop-run.dependencies.lowest c.loop-run.dependencies.heads.items (inv.again ran) in
-    faithful_after m first c.fixpoint_overflow_result.new.cx es c.args.input c.finish-2.result _ (c.args.depth + 1)
-    faithful c.finish-2.ensures.reply
-
-pub evaluate_new-returns-clause-protocol : goal.evaluate_new-returns-clause-protocol
-evaluate_new-returns-clause-protocol g t c = λ h. absurd (c.finish-2.ensures.in_order h)
-
-pub evaluate_new-returns-clause-no_conflict : goal.evaluate_new-returns-clause-no_conflict
-evaluate_new-returns-clause-no_conflict g t c =
-    let m = g.D.Delegate.meaning in
-    let inv = c.loop-run.invariant in
-    let first = c.args.cx.now in
-    let keeps = Keeps-trans m first c.loop-run.cx c.fixpoint_overflow_result.new.cx inv.keeps c.fixpoint_overflow_result.ensures.keeps in
-    let claim = rw (keeps.world, c.into_input-2.ensures ∙ inv.input, (keeps.inputs c.args.input c.requires.input).1) at c.finish-2.ensures.no_conflict in
-    λ h limit l d. claim h limit l
-
-pub evaluate_new-returns-clause-conflict : goal.evaluate_new-returns-clause-conflict
-evaluate_new-returns-clause-conflict g t c = c.finish-2.ensures.conflict
-
-pub evaluate_new-returns-clause-stack : goal.evaluate_new-returns-clause-stack
-evaluate_new-returns-clause-stack g t c = OnOk-always c.finish-2.result c.loop-run.invariant.stack
-
-pub evaluate_new-returns-then-is_last_run-clause-keeps : goal.evaluate_new-returns-then-is_last_run-clause-keeps
-evaluate_new-returns-then-is_last_run-clause-keeps g t c = Keeps-trans g.D.Delegate.meaning c.args.cx.now c.loop-run.cx c.run_once.new.cx c.loop-run.invariant.keeps c.run_once.ensures.keeps
-
-pub evaluate_new-returns-clause-keeps : goal.evaluate_new-returns-clause-keeps
-evaluate_new-returns-clause-keeps g t c = Keeps-trans g.D.Delegate.meaning c.args.cx.now c.loop-run.cx c.fixpoint_overflow_result.new.cx c.loop-run.invariant.keeps c.fixpoint_overflow_result.ensures.keeps
 
 pub evaluate_new-is_last_run-requires-clause-input : goal.evaluate_new-is_last_run-requires-clause-input
 evaluate_new-is_last_run-requires-clause-input g t c =
@@ -605,103 +582,87 @@ evaluate_new-is_last_run-requires-clause-input g t c =
     rw input (keeps.inputs c.args.input c.requires.input).0
 
 pub evaluate_new-is_last_run-requires-clause-found : goal.evaluate_new-is_last_run-requires-clause-found
-evaluate_new-is_last_run-requires-clause-found g t c = c.in_ok-back.ensures.provisional.known
-
-pub evaluate_new-returns-then-is_last_run-clause-within : goal.evaluate_new-returns-then-is_last_run-clause-within
-evaluate_new-returns-then-is_last_run-clause-within g t c =
-    let m = g.D.Delegate.meaning in
-    let inv = c.loop-run.invariant in
-    let first = c.args.cx.now in
-    let es = c.args.search.now.stack.items in
-    let keeps = Keeps-trans m first c.loop-run.cx c.run_once.new.cx inv.keeps c.run_once.ensures.keeps in
-    let input : c.in_ok-back.back.input ≡ c.args.input = ap (λ e. e.input) c.in_ok-back.ensures.entry ∙ inv.input in
-    let into : c.into_input.result ≡ c.args.input = c.into_input.ensures ∙ input in
-    within_after m first c.run_once.new.cx es c.args.input c.finish.result _ c.args.cache.now.entries.items c.run_once.new.cache.entries.items c.finish.new.cache.entries.items c.into_input.result c.run_once.new.search.limits_met keeps into c.requires.input
-    (λ before no last cached.
-    told_within m first c.loop-run.cx c.run_once.new.cx es c.loop-run.search.stack.items inv.keeps inv.stack c.requires.stack before c.args.input c.loop-run.entry c.in_ok-back.outcome.result inv.input c.requires.input
-    c.loop-run.cache.entries.items c.run_once.new.cache.entries.items (c.in_ok-back.ensures.within before no) last
-    (inv.within before (unnoted c.loop-run.search.limits_met c.run_once.new.search.limits_met c.run_once.ensures.limits no) last cached))
-    c.finish.ensures.within c.finish.ensures.reply
-
-pub evaluate_new-returns-clause-within : goal.evaluate_new-returns-clause-within
-evaluate_new-returns-clause-within g t c = IfOk-weaker c.finish-2.result _ _ (λ o s before no. absurd (true_not_false no)) c.finish-2.ensures.reply
-
-pub evaluate_new-returns-then-is_last_run-clause-goals : goal.evaluate_new-returns-then-is_last_run-clause-goals
-evaluate_new-returns-then-is_last_run-clause-goals g t c = λ x n h. rw c.finish.ensures.goals (c.run_once.ensures.goals x n (c.loop-run.invariant.goals x n h))
-
-pub evaluate_new-returns-clause-goals : goal.evaluate_new-returns-clause-goals
-evaluate_new-returns-clause-goals g t c = λ x n h. rw c.finish-2.ensures.goals (c.loop-run.invariant.goals x n h)
-
-pub evaluate_new-returns-then-is_last_run-clause-results : goal.evaluate_new-returns-then-is_last_run-clause-results
-evaluate_new-returns-then-is_last_run-clause-results g t c = λ p x h. c.finish.ensures.results p x (c.run_once.ensures.results p x (c.loop-run.invariant.results p x h))
-
-pub evaluate_new-returns-clause-results : goal.evaluate_new-returns-clause-results
-evaluate_new-returns-clause-results g t c = λ p x h. c.finish-2.ensures.results p x (c.loop-run.invariant.results p x h)
-
-pub evaluate_new-returns-then-is_last_run-clause-no_limit : goal.evaluate_new-returns-then-is_last_run-clause-no_limit
-evaluate_new-returns-then-is_last_run-clause-no_limit g t c =
-    let m = g.D.Delegate.meaning in
-    let inv = c.loop-run.invariant in
-    let first = c.args.cx.now in
-    let es = c.args.search.now.stack.items in
-    let goal_is = (inv.keeps.inputs c.args.input c.requires.input).1 in
-    λ off. either_noted c.loop-run.search.limits_met c.run_once.new.search.limits_met (inv.noted off)
-    (rw (inv.keeps.world, path-now m first c.loop-run.cx es c.loop-run.search.stack.items inv.keeps inv.stack c.requires.stack, inv.input, goal_is) at c.run_once.ensures.no_limit)
+evaluate_new-is_last_run-requires-clause-found g t c =
+    c.in_ok-back.ensures.provisional.known
 
 pub evaluate_new-returns-in_err-answer-clause-no_limit : goal.evaluate_new-returns-in_err-answer-clause-no_limit
 evaluate_new-returns-in_err-answer-clause-no_limit g t c =
+    let ran : 0 < c.loop-run._run = omega arith in
     let m = g.D.Delegate.meaning in
     let inv = c.loop-run.invariant in
     let first = c.args.cx.now in
     let w = m.world first in
     let x = m.goal_of first c.args.input in
     let path = path_onto m first c.args.search.now.stack.items [] in
-    let ran : 0 < c.loop-run._run = omega arith in
-    λ off on limit l d. inv.again ran limit (inl l) (AllDescend-higher m w limit 0 c.loop-run.dependencies.lowest path x (omega arith) d)
+    λ off on limit l d. inv.again ran limit (inl l) (AllDescend-higher m w limit 0 c.loop-run.dependencies.lowest path x (from_zero 0 _ refl) d)
 
-pub evaluate_new-returns-clause-no_limit : goal.evaluate_new-returns-clause-no_limit
-evaluate_new-returns-clause-no_limit g t c =
+pub run_once-returns-in_err-frame : goal.run_once-returns-in_err-frame
+run_once-returns-in_err-frame g t c =
+    let p = err_from_is_err_and c.from_residual.result c.from_residual.ensures.1 in
+    record {
+      keeps = c.start_run.ensures.keeps;
+      stack = OnOk-err _ _ _ p.1;
+      cache = AreCached-later g.D.Delegate.meaning c.args.cx.now c.start_run.new.cx c.args.cache.now.entries.items c.start_run.ensures.keeps c.requires.cache;
+      goals = λ x n h. h;
+      results = λ p x h. h;
+      range = IfOk-err _ _ _ p.1;
+      depth = IfOk-err _ _ _ p.1;
+      entry = IfOk-err _ _ _ p.1;
+      low = IfOk-err _ _ _ p.1;
+      provisional = IfOk-err _ _ _ p.1;
+      faithful = IfOk-err _ _ _ p.1;
+      no_conflict = λ h. absurd {A = IsNotPlainOver g.D.Delegate.meaning c.args.cx.now c.args.search.now.stack.items c.args.entry.input (c.args.depth + 1)} (c.in_err-frame.ensures.no_conflict (err_passed _ _ _ _ p.1 p.2 h));
+      protocol = λ h. absurd (c.in_err-frame.ensures.in_order (err_passed _ _ _ _ p.1 p.2 h));
+      conflict = λ h. absurd (c.in_err-frame.ensures.no_conflict (err_passed _ _ _ _ p.1 p.2 h));
+      frames = λ width h. one_started _ _ _ c.start_run.ensures.frames;
+      full = λ h. c.in_err-frame.ensures.full (err_passed _ _ _ _ p.1 p.2 h);
+      limits = λ h. c.start_run.ensures.limits ∙ h;
+      no_limit = λ off on. not_both c.args.search.now.limits_met off (sym c.start_run.ensures.limits ∙ on);
+      within = IfOk-err _ _ _ p.1;
+    }
+
+pub run_once-returns-in_err-request-in-Ask : goal.run_once-returns-in_err-request-in-Ask
+run_once-returns-in_err-request-in-Ask g t c =
+    let inv = c.loop-candidates.invariant in
+    let p = err_from_is_err_and c.from_residual-in_err-request-in-Ask.result c.from_residual-in_err-request-in-Ask.ensures.1 in
     let m = g.D.Delegate.meaning in
-    let inv = c.loop-run.invariant in
     let first = c.args.cx.now in
+    let asks = asked_in_turn c.loop-candidates.candidates.open c.take.new.self.open c.loop-candidates.candidates.finished.items c.take.new.self.finished.items c.loop-candidates.request c.in_ok-turn.turn c.in-Ask.input c.in-Ask.step_kind c.in-Ask.is c.in_ok-turn.ensures.turn in
+    let law = g.met.D.Delegate.lawful in
+    let es = c.args.search.now.stack.items in
     let w = m.world first in
-    let x = m.goal_of first c.args.input in
-    let path = path_onto m first c.args.search.now.stack.items [] in
-    let ran : 0 < c.loop-run._run = omega arith in
-    λ off on limit l d. inv.again ran limit (inl l) (AllDescend-higher m w limit 0 c.loop-run.dependencies.lowest path x (omega arith) d)
-
-pub evaluate_new-returns-then-is_last_run-clause-depth : goal.evaluate_new-returns-then-is_last_run-clause-depth
-evaluate_new-returns-then-is_last_run-clause-depth g t c = depth_after c.finish.result _ c.args.depth c.in_ok-back.ensures.depth c.finish.ensures.reply
-
-pub evaluate_new-returns-clause-depth : goal.evaluate_new-returns-clause-depth
-evaluate_new-returns-clause-depth g t c = depth_after c.finish-2.result _ c.args.depth c.loop-run.invariant.depth c.finish-2.ensures.reply
-
-pub evaluate_new-returns-then-is_last_run-clause-kept : goal.evaluate_new-returns-then-is_last_run-clause-kept
-evaluate_new-returns-then-is_last_run-clause-kept g t c = λ empty.
-    let inv = c.loop-run.invariant in
-    let input : c.into_input.result ≡ c.args.input = c.into_input.ensures ∙ ap (λ e. e.input) c.in_ok-back.ensures.entry ∙ inv.input in
-    let root : c.len-index.result ≡ 0 = inv.place ∙ ap length empty in
-    held_after c.finish.result _ c.run_once.new.cache.entries.items c.finish.new.cache.entries.items c.args.input c.into_input.result c.len-index.result c.args.number c.args.depth input (omega (arith, root))
-    c.in_ok-back.ensures.depth c.finish.ensures.kept c.finish.ensures.reply
-
-pub evaluate_new-returns-clause-kept : goal.evaluate_new-returns-clause-kept
-evaluate_new-returns-clause-kept g t c = λ empty.
-    let inv = c.loop-run.invariant in
-    let input : c.into_input-2.result ≡ c.args.input = c.into_input-2.ensures ∙ inv.input in
-    let root : c.len-index.result ≡ 0 = inv.place ∙ ap length empty in
-    held_after c.finish-2.result _ c.loop-run.cache.entries.items c.finish-2.new.cache.entries.items c.args.input c.into_input-2.result c.len-index.result c.args.number c.args.depth input (omega (arith, root))
-    inv.depth c.finish-2.ensures.kept c.finish-2.ensures.reply
-
-pub run_once-returns-in_err-frame-clause-cache : goal.run_once-returns-in_err-frame-clause-cache
-run_once-returns-in_err-frame-clause-cache g t c =
-    AreCached-later g.D.Delegate.meaning c.args.cx.now c.start_run.new.cx c.args.cache.now.entries.items c.start_run.ensures.keeps c.requires.cache
-
-pub run_once-returns-in_err-frame-clause-no_limit : goal.run_once-returns-in_err-frame-clause-no_limit
-run_once-returns-in_err-frame-clause-no_limit g t c = λ off on. not_both c.args.search.now.limits_met off (sym c.start_run.ensures.limits ∙ on)
-
-pub run_once-returns-in_err-request-in-Ask-clause-cache : goal.run_once-returns-in_err-request-in-Ask-clause-cache
-run_once-returns-in_err-request-in-Ask-clause-cache g t c =
-    AreCached-later g.D.Delegate.meaning c.ask.new.cx c.step.new.cx c.ask.new.cache.entries.items c.step.ensures.keeps c.ask.ensures.cache
+    let x = m.goal_of first c.args.entry.input in
+    let path = path_onto m first es [] in
+    let limit : ℕ = max g.D.Delegate.FIXPOINT_STEP_LIMIT 1 in
+    let request = asked_now m w (question_of m first c.args.entry ∷ path) x c.loop-candidates.dependencies.lowest c.loop-candidates.cx c.loop-candidates.frame c.loop-candidates.request (Evaluate c.in-Ask.input c.in-Ask.step_kind) asks.0 inv.keeps.world inv.running in
+    let fair = law.asks_fair w x (m.goal_of c.loop-candidates.cx c.in-Ask.input) c.in-Ask.step_kind inv.running.heard inv.running.fair (sym request) in
+    let asked = fair.0 in
+    let pushed = IsStack-push m w [] first es c.args.entry c.requires.stack c.requires.entry in
+    let no_limit = rw (inv.keeps.world, path-now m first c.loop-candidates.cx (es ++ c.args.entry ∷ []) c.loop-candidates.search.stack.items inv.keeps inv.stack pushed, path_onto-append m first es (c.args.entry ∷ []) []) at c.ask.ensures.no_limit in
+    record {
+      keeps = Keeps-trans m first c.ask.new.cx c.hear.new.cx (Keeps-trans m first c.loop-candidates.cx c.ask.new.cx c.loop-candidates.invariant.keeps c.ask.ensures.keeps) c.hear.ensures.keeps;
+      stack = OnOk-err _ _ _ p.1;
+      cache = AreCached-later g.D.Delegate.meaning c.ask.new.cx c.hear.new.cx c.ask.new.cache.entries.items c.hear.ensures.keeps c.ask.ensures.cache;
+      goals = λ x n h. c.ask.ensures.goals x n (c.loop-candidates.invariant.goals x n h);
+      results = λ p x h. c.ask.ensures.results p x (c.loop-candidates.invariant.results p x h);
+      range = IfOk-err _ _ _ p.1;
+      depth = IfOk-err _ _ _ p.1;
+      entry = IfOk-err _ _ _ p.1;
+      low = IfOk-err _ _ _ p.1;
+      provisional = IfOk-err _ _ _ p.1;
+      faithful = IfOk-err _ _ _ p.1;
+      no_conflict = λ h. absurd {A = IsNotPlainOver g.D.Delegate.meaning c.args.cx.now c.args.search.now.stack.items c.args.entry.input (c.args.depth + 1)} (c.in_err-request-in-Ask.ensures.no_conflict (err_passed _ _ _ _ p.1 p.2 h));
+      protocol = λ h. absurd (c.in_err-request-in-Ask.ensures.in_order (err_passed _ _ _ _ p.1 p.2 h));
+      conflict = λ h. absurd (c.in_err-request-in-Ask.ensures.no_conflict (err_passed _ _ _ _ p.1 p.2 h));
+      frames = λ width h. asked_within c.args.search.now.frames c.loop-candidates.search.frames c.ask.new.search.frames (question_bound limit width c.args.depth) (answer_count m inv.running.heard) (m.number_of w x) width
+          (inv.frames width h) (c.ask.ensures.frames width (rw inv.keeps.world (within_more _ _ _ fair.1 h))) asked h;
+      full = λ h. c.in_err-request-in-Ask.ensures.full (err_passed _ _ _ _ p.1 p.2 h);
+      limits = λ h. c.ask.ensures.limits (inv.limits h);
+      no_limit = λ off. either_noted c.loop-candidates.search.limits_met c.ask.new.search.limits_met (inv.noted off)
+          (λ before now. conflict_up m w c.args.depth path x (m.goal_of c.loop-candidates.cx c.in-Ask.input) c.args.entry.step_kind c.in-Ask.step_kind c.loop-candidates.dependencies.encountered_overflow c.loop-candidates.dependencies.lowest c.loop-candidates.dependencies.heads.items inv.running.heard
+          (sym request) inv.plain (no_limit before now));
+      within = IfOk-err _ _ _ p.1;
+    }
 
 pub run_once-ask-requires : goal.run_once-ask-requires
 run_once-ask-requires g t c κs within =
@@ -749,7 +710,6 @@ run_once-loop-candidates-preserved-in-Ask g t c =
     let limit : ℕ = max g.D.Delegate.FIXPOINT_STEP_LIMIT 1 in
     let request = asked_now m w (question_of m first c.args.entry ∷ path) x c.loop-candidates.dependencies.lowest c.loop-candidates.cx c.loop-candidates.frame c.loop-candidates.request (Evaluate c.in-Ask.input c.in-Ask.step_kind) asks.0 inv.keeps.world inv.running in
     let fair = law.asks_fair w x (m.goal_of c.loop-candidates.cx c.in-Ask.input) c.in-Ask.step_kind inv.running.heard inv.running.fair (sym request) in
-    let size = fair.1 in
     let asked = fair.0 in
     let pushed = IsStack-push m w [] first es c.args.entry c.requires.stack c.requires.entry in
     let keeps = Keeps-trans m first c.loop-candidates.cx c.ask.new.cx inv.keeps c.ask.ensures.keeps in
@@ -757,26 +717,26 @@ run_once-loop-candidates-preserved-in-Ask g t c =
     let answer = IsAnswer-then m first c.loop-candidates.cx (es ++ c.args.entry ∷ []) c.loop-candidates.search.stack.items inv.keeps inv.stack pushed
     (m.goal_of c.loop-candidates.cx c.in-Ask.input, c.in-Ask.step_kind) nested.dependencies.lowest c.ask.new.cx nested.result c.in_ok-nested-in-Ask.ensures.answer in
     let next = running_next_counted m law w (question_of m first c.args.entry ∷ path) x c.loop-candidates.dependencies.lowest nested.dependencies.lowest
-    c.loop-candidates.cx c.ask.new.cx c.step.new.cx c.loop-candidates.frame c.step.new.frame c.loop-candidates.request c.in-Ask.input c.in-Ask.step_kind nested.result c.in_ok-request-in-Ask.request
-    c.gather.new.self.lowest asks.0 c.in_ok-gather-in-Ask.ensures.lowest keeps.world c.ask.ensures.keeps inv.running (rw path_onto-append at answer) c.in_ok-request-in-Ask.ensures.steps in
+    c.loop-candidates.cx c.ask.new.cx c.hear.new.cx c.loop-candidates.frame c.hear.new.frame c.loop-candidates.request c.in-Ask.input c.in-Ask.step_kind nested.result c.in_ok-request-in-Ask.request
+    c.hear.new.dependencies.lowest asks.0 c.in_ok-request-in-Ask.ensures.lowest keeps.world c.ask.ensures.keeps inv.running (rw path_onto-append at answer) c.in_ok-request-in-Ask.ensures.steps in
     let faithful = rw (inv.keeps.world, path-now m first c.loop-candidates.cx (es ++ c.args.entry ∷ []) c.loop-candidates.search.stack.items inv.keeps inv.stack pushed, path_onto-append m first es (c.args.entry ∷ []) []) at c.in_ok-nested-in-Ask.ensures.faithful in
     let no_limit = rw (inv.keeps.world, path-now m first c.loop-candidates.cx (es ++ c.args.entry ∷ []) c.loop-candidates.search.stack.items inv.keeps inv.stack pushed, path_onto-append m first es (c.args.entry ∷ []) []) at c.ask.ensures.no_limit in
     record {
-      keeps = Keeps-trans m first c.ask.new.cx c.step.new.cx keeps c.step.ensures.keeps;
-      cache = AreCached-later m c.ask.new.cx c.step.new.cx c.ask.new.cache.entries.items c.step.ensures.keeps c.ask.ensures.cache;
+      keeps = Keeps-trans m first c.ask.new.cx c.hear.new.cx keeps c.hear.ensures.keeps;
+      cache = AreCached-later m c.ask.new.cx c.hear.new.cx c.ask.new.cache.entries.items c.hear.ensures.keeps c.ask.ensures.cache;
       goals = λ x n h. c.ask.ensures.goals x n (inv.goals x n h);
       results = λ p x h. c.ask.ensures.results p x (inv.results p x h);
-      range = in_range_gather c.ask.new.cache.entries.items c.loop-candidates.dependencies.nested_goals nested.dependencies.nested_goals c.gather.new.self.nested_goals c.in_ok-gather-in-Ask.ensures.goals c.in_ok-gather-in-Ask.ensures.cached c.in_ok-gather-in-Ask.ensures.span
+      range = in_range_gather c.ask.new.cache.entries.items c.loop-candidates.dependencies.nested_goals nested.dependencies.nested_goals c.hear.new.dependencies.nested_goals c.in_ok-request-in-Ask.ensures.goals c.in_ok-request-in-Ask.ensures.cached c.in_ok-request-in-Ask.ensures.span
           (in_range_later c.loop-candidates.cache.entries.items c.ask.new.cache.entries.items c.loop-candidates.dependencies.nested_goals c.ask.ensures.results inv.range) c.in_ok-nested-in-Ask.ensures.range;
-      depth = depth_gathered c.loop-candidates.dependencies.encountered_overflow nested.dependencies.encountered_overflow c.gather.new.self.encountered_overflow c.loop-candidates.dependencies.required_depth nested.dependencies.required_depth c.gather.new.self.required_depth c.args.depth
-          c.in_ok-gather-in-Ask.ensures.overflow c.in_ok-gather-in-Ask.ensures.depth inv.depth c.in_ok-nested-in-Ask.ensures.depth;
+      depth = depth_gathered c.loop-candidates.dependencies.encountered_overflow nested.dependencies.encountered_overflow c.hear.new.dependencies.encountered_overflow c.loop-candidates.dependencies.required_depth nested.dependencies.required_depth c.hear.new.dependencies.required_depth c.args.depth
+          c.in_ok-request-in-Ask.ensures.overflow c.in_ok-request-in-Ask.ensures.depth inv.depth c.in_ok-nested-in-Ask.ensures.depth;
       stack = c.in_ok-nested-in-Ask.ensures.stack ∙ inv.stack;
-      room = let least = c.in_ok-gather-in-Ask.ensures.lowest in let before = inv.room in omega arith;
+      room = least_within _ _ _ _ c.in_ok-request-in-Ask.ensures.lowest inv.room;
       running = next.0;
       opened = rw next.1 (asks.1 ∙ inv.opened);
       listed = rw next.1 (asks.2 ∙ inv.listed);
       frames = λ width h. rw next.1 (asked_more c.args.search.now.frames c.loop-candidates.search.frames c.ask.new.search.frames (question_bound limit width c.args.depth) (answer_count m inv.running.heard)
-          (inv.frames width h) (c.ask.ensures.frames width (rw inv.keeps.world (omega arith))));
+          (inv.frames width h) (c.ask.ensures.frames width (rw inv.keeps.world (within_more _ _ _ fair.1 h))));
       limits = λ h. c.ask.ensures.limits (inv.limits h);
       noted = λ off. either_noted c.loop-candidates.search.limits_met c.ask.new.search.limits_met (inv.noted off)
           (λ before now. conflict_up m w c.args.depth path x (m.goal_of c.loop-candidates.cx c.in-Ask.input) c.args.entry.step_kind c.in-Ask.step_kind c.loop-candidates.dependencies.encountered_overflow c.loop-candidates.dependencies.lowest c.loop-candidates.dependencies.heads.items inv.running.heard
@@ -786,14 +746,14 @@ run_once-loop-candidates-preserved-in-Ask g t c =
           let stack = AreLastWithin-now m w before w first c.loop-candidates.cx (es ++ c.args.entry ∷ []) c.loop-candidates.search.stack.items inv.keeps inv.stack pushed (AreLastWithin-push m w before first es c.args.entry last own) in
           let told = c.in_ok-nested-in-Ask.ensures.within before no (rw inv.keeps.world stack) (rw inv.keeps.world had.0) in
           let here = rw inv.keeps.world at told in (
-            AreCachedWithin-keeps m w before (m.world c.ask.new.cx) c.ask.new.cx c.step.new.cx c.ask.new.cache.entries.items c.step.ensures.keeps c.ask.ensures.cache here.0,
+            AreCachedWithin-keeps m w before (m.world c.ask.new.cx) c.ask.new.cx c.hear.new.cx c.ask.new.cache.entries.items c.hear.ensures.keeps c.ask.ensures.cache here.0,
             hears_next m w (question_of m first c.args.entry ∷ path) x c.loop-candidates.dependencies.lowest c.loop-candidates.cx c.loop-candidates.frame c.loop-candidates.request (Evaluate c.in-Ask.input c.in-Ask.step_kind) asks.0 inv.keeps.world inv.running (IsGivenWithin m w before)
                 c.in-Ask.input c.in-Ask.step_kind (m.answer_of c.ask.new.cx nested.result) refl had.1 here.1,
           ));
       plain = rw next.1 (plain_next_at m w c.args.depth path x (m.goal_of c.loop-candidates.cx c.in-Ask.input) c.args.entry.step_kind c.in-Ask.step_kind
-          c.loop-candidates.dependencies.encountered_overflow nested.dependencies.encountered_overflow c.gather.new.self.encountered_overflow c.loop-candidates.dependencies.lowest nested.dependencies.lowest c.gather.new.self.lowest
-          c.loop-candidates.dependencies.heads.items nested.dependencies.heads.items c.gather.new.self.heads.items inv.running.heard (m.answer_of c.ask.new.cx nested.result)
-          c.in_ok-gather-in-Ask.ensures.overflow c.in_ok-gather-in-Ask.ensures.lowest c.in_ok-gather-in-Ask.ensures.unread (sym request) inv.plain faithful);
+          c.loop-candidates.dependencies.encountered_overflow nested.dependencies.encountered_overflow c.hear.new.dependencies.encountered_overflow c.loop-candidates.dependencies.lowest nested.dependencies.lowest c.hear.new.dependencies.lowest
+          c.loop-candidates.dependencies.heads.items nested.dependencies.heads.items c.hear.new.dependencies.heads.items inv.running.heard (m.answer_of c.ask.new.cx nested.result)
+          c.in_ok-request-in-Ask.ensures.overflow c.in_ok-request-in-Ask.ensures.lowest c.in_ok-request-in-Ask.ensures.unread (sym request) inv.plain faithful);
     }
 
 pub run_once-loop-candidates-smaller-in-Ask : goal.run_once-loop-candidates-smaller-in-Ask
@@ -801,10 +761,10 @@ run_once-loop-candidates-smaller-in-Ask g t c =
     let running = c.loop-candidates.invariant.running in
     let x = g.D.Delegate.meaning.goal_of c.args.cx.now c.args.entry.input in
     let kept = g.met.D.Delegate.steps_kept c.loop-candidates.cx c.ask.new.cx x running.heard c.loop-candidates.frame c.ask.ensures.keeps running.frame in
-    omega (arith, kept, c.in_ok-request-in-Ask.ensures.falls)
+    less_within _ _ _ c.in_ok-request-in-Ask.ensures.falls kept
 
-pub run_once-step-requires-clause-due : goal.run_once-step-requires-clause-due
-run_once-step-requires-clause-due g t c =
+pub run_once-hear-requires-clause-due : goal.run_once-hear-requires-clause-due
+run_once-hear-requires-clause-due g t c =
     let asks = asked_in_turn c.loop-candidates.candidates.open c.take.new.self.open c.loop-candidates.candidates.finished.items c.take.new.self.finished.items c.loop-candidates.request c.in_ok-turn.turn c.in-Ask.input c.in-Ask.step_kind c.in-Ask.is c.in_ok-turn.ensures.turn in
     let m = g.D.Delegate.meaning in
     let inv = c.loop-candidates.invariant in
@@ -817,68 +777,12 @@ run_once-step-requires-clause-due g t c =
     due_next m w (question_of m first c.args.entry ∷ path) x c.loop-candidates.dependencies.lowest c.loop-candidates.cx c.ask.new.cx c.loop-candidates.frame c.loop-candidates.request
     c.in-Ask.input c.in-Ask.step_kind c.in_ok-nested-in-Ask.nested.result asks.0 keeps.world c.ask.ensures.keeps inv.running
 
-pub run_once-returns-in_err-nested-in-Ask-clause-frames : goal.run_once-returns-in_err-nested-in-Ask-clause-frames
-run_once-returns-in_err-nested-in-Ask-clause-frames g t c =
+pub run_once-returns-in_err-nested-in-Ask : goal.run_once-returns-in_err-nested-in-Ask
+run_once-returns-in_err-nested-in-Ask g t c =
+    let inv = c.loop-candidates.invariant in
+    let p = err_from_is_err_and c.from_residual-in_err-nested-in-Ask.result c.from_residual-in_err-nested-in-Ask.ensures.1 in
     let asks = asked_in_turn c.loop-candidates.candidates.open c.take.new.self.open c.loop-candidates.candidates.finished.items c.take.new.self.finished.items c.loop-candidates.request c.in_ok-turn.turn c.in-Ask.input c.in-Ask.step_kind c.in-Ask.is c.in_ok-turn.ensures.turn in
     let m = g.D.Delegate.meaning in
-    let law = g.met.D.Delegate.lawful in
-    let inv = c.loop-candidates.invariant in
-    let first = c.args.cx.now in
-    let es = c.args.search.now.stack.items in
-    let w = m.world first in
-    let x = m.goal_of first c.args.entry.input in
-    let path = path_onto m first es [] in
-    let limit : ℕ = max g.D.Delegate.FIXPOINT_STEP_LIMIT 1 in
-    let request = asked_now m w (question_of m first c.args.entry ∷ path) x c.loop-candidates.dependencies.lowest c.loop-candidates.cx c.loop-candidates.frame c.loop-candidates.request (Evaluate c.in-Ask.input c.in-Ask.step_kind) asks.0 inv.keeps.world inv.running in
-    let fair = law.asks_fair w x (m.goal_of c.loop-candidates.cx c.in-Ask.input) c.in-Ask.step_kind inv.running.heard inv.running.fair (sym request) in
-    let size = fair.1 in
-    let asked = fair.0 in
-    λ width h. asked_within c.args.search.now.frames c.loop-candidates.search.frames c.ask.new.search.frames (question_bound limit width c.args.depth) (answer_count m inv.running.heard) (m.number_of w x) width
-    (inv.frames width h) (c.ask.ensures.frames width (rw inv.keeps.world (omega arith))) asked h
-
-pub run_once-returns-in_err-gather-in-Ask-clause-frames : goal.run_once-returns-in_err-gather-in-Ask-clause-frames
-run_once-returns-in_err-gather-in-Ask-clause-frames g t c =
-    let asks = asked_in_turn c.loop-candidates.candidates.open c.take.new.self.open c.loop-candidates.candidates.finished.items c.take.new.self.finished.items c.loop-candidates.request c.in_ok-turn.turn c.in-Ask.input c.in-Ask.step_kind c.in-Ask.is c.in_ok-turn.ensures.turn in
-    let m = g.D.Delegate.meaning in
-    let law = g.met.D.Delegate.lawful in
-    let inv = c.loop-candidates.invariant in
-    let first = c.args.cx.now in
-    let es = c.args.search.now.stack.items in
-    let w = m.world first in
-    let x = m.goal_of first c.args.entry.input in
-    let path = path_onto m first es [] in
-    let limit : ℕ = max g.D.Delegate.FIXPOINT_STEP_LIMIT 1 in
-    let request = asked_now m w (question_of m first c.args.entry ∷ path) x c.loop-candidates.dependencies.lowest c.loop-candidates.cx c.loop-candidates.frame c.loop-candidates.request (Evaluate c.in-Ask.input c.in-Ask.step_kind) asks.0 inv.keeps.world inv.running in
-    let fair = law.asks_fair w x (m.goal_of c.loop-candidates.cx c.in-Ask.input) c.in-Ask.step_kind inv.running.heard inv.running.fair (sym request) in
-    let size = fair.1 in
-    let asked = fair.0 in
-    λ width h. asked_within c.args.search.now.frames c.loop-candidates.search.frames c.ask.new.search.frames (question_bound limit width c.args.depth) (answer_count m inv.running.heard) (m.number_of w x) width
-    (inv.frames width h) (c.ask.ensures.frames width (rw inv.keeps.world (omega arith))) asked h
-
-pub run_once-returns-in_err-request-in-Ask-clause-frames : goal.run_once-returns-in_err-request-in-Ask-clause-frames
-run_once-returns-in_err-request-in-Ask-clause-frames g t c =
-    let asks = asked_in_turn c.loop-candidates.candidates.open c.take.new.self.open c.loop-candidates.candidates.finished.items c.take.new.self.finished.items c.loop-candidates.request c.in_ok-turn.turn c.in-Ask.input c.in-Ask.step_kind c.in-Ask.is c.in_ok-turn.ensures.turn in
-    let m = g.D.Delegate.meaning in
-    let law = g.met.D.Delegate.lawful in
-    let inv = c.loop-candidates.invariant in
-    let first = c.args.cx.now in
-    let es = c.args.search.now.stack.items in
-    let w = m.world first in
-    let x = m.goal_of first c.args.entry.input in
-    let path = path_onto m first es [] in
-    let limit : ℕ = max g.D.Delegate.FIXPOINT_STEP_LIMIT 1 in
-    let request = asked_now m w (question_of m first c.args.entry ∷ path) x c.loop-candidates.dependencies.lowest c.loop-candidates.cx c.loop-candidates.frame c.loop-candidates.request (Evaluate c.in-Ask.input c.in-Ask.step_kind) asks.0 inv.keeps.world inv.running in
-    let fair = law.asks_fair w x (m.goal_of c.loop-candidates.cx c.in-Ask.input) c.in-Ask.step_kind inv.running.heard inv.running.fair (sym request) in
-    let size = fair.1 in
-    let asked = fair.0 in
-    λ width h. asked_within c.args.search.now.frames c.loop-candidates.search.frames c.ask.new.search.frames (question_bound limit width c.args.depth) (answer_count m inv.running.heard) (m.number_of w x) width
-    (inv.frames width h) (c.ask.ensures.frames width (rw inv.keeps.world (omega arith))) asked h
-
-pub run_once-returns-in_err-nested-in-Ask-clause-no_conflict : goal.run_once-returns-in_err-nested-in-Ask-clause-no_conflict
-run_once-returns-in_err-nested-in-Ask-clause-no_conflict g t c =
-    let asks = asked_in_turn c.loop-candidates.candidates.open c.take.new.self.open c.loop-candidates.candidates.finished.items c.take.new.self.finished.items c.loop-candidates.request c.in_ok-turn.turn c.in-Ask.input c.in-Ask.step_kind c.in-Ask.is c.in_ok-turn.ensures.turn in
-    let m = g.D.Delegate.meaning in
-    let inv = c.loop-candidates.invariant in
     let first = c.args.cx.now in
     let es = c.args.search.now.stack.items in
     let w = m.world first in
@@ -886,105 +790,37 @@ run_once-returns-in_err-nested-in-Ask-clause-no_conflict g t c =
     let path = path_onto m first es [] in
     let request = asked_now m w (question_of m first c.args.entry ∷ path) x c.loop-candidates.dependencies.lowest c.loop-candidates.cx c.loop-candidates.frame c.loop-candidates.request (Evaluate c.in-Ask.input c.in-Ask.step_kind) asks.0 inv.keeps.world inv.running in
     let pushed = IsStack-push m w [] first es c.args.entry c.requires.stack c.requires.entry in
-    let p = err_from_is_err_and c.from_residual-in_err-nested-in-Ask.result c.from_residual-in_err-nested-in-Ask.ensures.1 in
     let claim = rw (inv.keeps.world, path-now m first c.loop-candidates.cx (es ++ c.args.entry ∷ []) c.loop-candidates.search.stack.items inv.keeps inv.stack pushed, path_onto-append m first es (c.args.entry ∷ []) []) at c.in_err-nested-in-Ask.ensures.no_conflict in
-    λ h. conflict_up m w c.args.depth path x (m.goal_of c.loop-candidates.cx c.in-Ask.input) c.args.entry.step_kind c.in-Ask.step_kind c.loop-candidates.dependencies.encountered_overflow c.loop-candidates.dependencies.lowest c.loop-candidates.dependencies.heads.items inv.running.heard
-    (sym request) inv.plain (claim (err_passed _ _ _ _ p.1 p.2 h))
-
-pub run_once-returns-in_err-nested-in-Ask-clause-conflict : goal.run_once-returns-in_err-nested-in-Ask-clause-conflict
-run_once-returns-in_err-nested-in-Ask-clause-conflict g t c =
-    let p = err_from_is_err_and c.from_residual-in_err-nested-in-Ask.result c.from_residual-in_err-nested-in-Ask.ensures.1 in
-    λ h. c.in_err-nested-in-Ask.ensures.conflict (err_passed _ _ _ _ p.1 p.2 h)
-
-pub run_once-returns-in_err-nested-in-Ask-clause-protocol : goal.run_once-returns-in_err-nested-in-Ask-clause-protocol
-run_once-returns-in_err-nested-in-Ask-clause-protocol g t c =
-    let asks = asked_in_turn c.loop-candidates.candidates.open c.take.new.self.open c.loop-candidates.candidates.finished.items c.take.new.self.finished.items c.loop-candidates.request c.in_ok-turn.turn c.in-Ask.input c.in-Ask.step_kind c.in-Ask.is c.in_ok-turn.ensures.turn in
-    let m = g.D.Delegate.meaning in
-    let inv = c.loop-candidates.invariant in
-    let first = c.args.cx.now in
-    let es = c.args.search.now.stack.items in
-    let w = m.world first in
-    let x = m.goal_of first c.args.entry.input in
-    let path = path_onto m first es [] in
-    let p = err_from_is_err_and c.from_residual-in_err-nested-in-Ask.result c.from_residual-in_err-nested-in-Ask.ensures.1 in
-    let request = asked_now m w (question_of m first c.args.entry ∷ path) x c.loop-candidates.dependencies.lowest c.loop-candidates.cx c.loop-candidates.frame c.loop-candidates.request (Evaluate c.in-Ask.input c.in-Ask.step_kind) asks.0 inv.keeps.world inv.running in
-    let claim = rw inv.keeps.world at c.in_err-nested-in-Ask.ensures.protocol in
-    λ h. below inv.running.hears (sym request) (claim (err_passed _ _ _ _ p.1 p.2 h))
-
-pub run_once-returns-in_err-request-in-Ask-clause-keeps : goal.run_once-returns-in_err-request-in-Ask-clause-keeps
-run_once-returns-in_err-request-in-Ask-clause-keeps g t c =
-    let m = g.D.Delegate.meaning in
-    let first = c.args.cx.now in
-    Keeps-trans m first c.ask.new.cx c.step.new.cx (Keeps-trans m first c.loop-candidates.cx c.ask.new.cx c.loop-candidates.invariant.keeps c.ask.ensures.keeps) c.step.ensures.keeps
-
-pub run_once-returns-in_err-nested-in-Ask-clause-goals : goal.run_once-returns-in_err-nested-in-Ask-clause-goals
-run_once-returns-in_err-nested-in-Ask-clause-goals g t c = λ x n h. c.ask.ensures.goals x n (c.loop-candidates.invariant.goals x n h)
-
-pub run_once-returns-in_err-gather-in-Ask-clause-goals : goal.run_once-returns-in_err-gather-in-Ask-clause-goals
-run_once-returns-in_err-gather-in-Ask-clause-goals g t c = λ x n h. c.ask.ensures.goals x n (c.loop-candidates.invariant.goals x n h)
-
-pub run_once-returns-in_err-request-in-Ask-clause-goals : goal.run_once-returns-in_err-request-in-Ask-clause-goals
-run_once-returns-in_err-request-in-Ask-clause-goals g t c = λ x n h. c.ask.ensures.goals x n (c.loop-candidates.invariant.goals x n h)
-
-pub run_once-returns-in_err-nested-in-Ask-clause-results : goal.run_once-returns-in_err-nested-in-Ask-clause-results
-run_once-returns-in_err-nested-in-Ask-clause-results g t c = λ p x h. c.ask.ensures.results p x (c.loop-candidates.invariant.results p x h)
-
-pub run_once-returns-in_err-gather-in-Ask-clause-results : goal.run_once-returns-in_err-gather-in-Ask-clause-results
-run_once-returns-in_err-gather-in-Ask-clause-results g t c = λ p x h. c.ask.ensures.results p x (c.loop-candidates.invariant.results p x h)
-
-pub run_once-returns-in_err-request-in-Ask-clause-results : goal.run_once-returns-in_err-request-in-Ask-clause-results
-run_once-returns-in_err-request-in-Ask-clause-results g t c = λ p x h. c.ask.ensures.results p x (c.loop-candidates.invariant.results p x h)
-
-pub run_once-returns-in_err-nested-in-Ask-clause-no_limit : goal.run_once-returns-in_err-nested-in-Ask-clause-no_limit
-run_once-returns-in_err-nested-in-Ask-clause-no_limit g t c =
-    let asks = asked_in_turn c.loop-candidates.candidates.open c.take.new.self.open c.loop-candidates.candidates.finished.items c.take.new.self.finished.items c.loop-candidates.request c.in_ok-turn.turn c.in-Ask.input c.in-Ask.step_kind c.in-Ask.is c.in_ok-turn.ensures.turn in
-    let m = g.D.Delegate.meaning in
-    let inv = c.loop-candidates.invariant in
-    let first = c.args.cx.now in
-    let es = c.args.search.now.stack.items in
-    let w = m.world first in
-    let x = m.goal_of first c.args.entry.input in
-    let path = path_onto m first es [] in
-    let request = asked_now m w (question_of m first c.args.entry ∷ path) x c.loop-candidates.dependencies.lowest c.loop-candidates.cx c.loop-candidates.frame c.loop-candidates.request (Evaluate c.in-Ask.input c.in-Ask.step_kind) asks.0 inv.keeps.world inv.running in
-    let pushed = IsStack-push m w [] first es c.args.entry c.requires.stack c.requires.entry in
+    let law = g.met.D.Delegate.lawful in
+    let limit : ℕ = max g.D.Delegate.FIXPOINT_STEP_LIMIT 1 in
+    let fair = law.asks_fair w x (m.goal_of c.loop-candidates.cx c.in-Ask.input) c.in-Ask.step_kind inv.running.heard inv.running.fair (sym request) in
+    let asked = fair.0 in
     let no_limit = rw (inv.keeps.world, path-now m first c.loop-candidates.cx (es ++ c.args.entry ∷ []) c.loop-candidates.search.stack.items inv.keeps inv.stack pushed, path_onto-append m first es (c.args.entry ∷ []) []) at c.ask.ensures.no_limit in
-    λ off. either_noted c.loop-candidates.search.limits_met c.ask.new.search.limits_met (inv.noted off)
-    (λ before now. conflict_up m w c.args.depth path x (m.goal_of c.loop-candidates.cx c.in-Ask.input) c.args.entry.step_kind c.in-Ask.step_kind c.loop-candidates.dependencies.encountered_overflow c.loop-candidates.dependencies.lowest c.loop-candidates.dependencies.heads.items inv.running.heard
-    (sym request) inv.plain (no_limit before now))
-
-pub run_once-returns-in_err-gather-in-Ask-clause-no_limit : goal.run_once-returns-in_err-gather-in-Ask-clause-no_limit
-run_once-returns-in_err-gather-in-Ask-clause-no_limit g t c =
-    let asks = asked_in_turn c.loop-candidates.candidates.open c.take.new.self.open c.loop-candidates.candidates.finished.items c.take.new.self.finished.items c.loop-candidates.request c.in_ok-turn.turn c.in-Ask.input c.in-Ask.step_kind c.in-Ask.is c.in_ok-turn.ensures.turn in
-    let m = g.D.Delegate.meaning in
-    let inv = c.loop-candidates.invariant in
-    let first = c.args.cx.now in
-    let es = c.args.search.now.stack.items in
-    let w = m.world first in
-    let x = m.goal_of first c.args.entry.input in
-    let path = path_onto m first es [] in
-    let request = asked_now m w (question_of m first c.args.entry ∷ path) x c.loop-candidates.dependencies.lowest c.loop-candidates.cx c.loop-candidates.frame c.loop-candidates.request (Evaluate c.in-Ask.input c.in-Ask.step_kind) asks.0 inv.keeps.world inv.running in
-    let pushed = IsStack-push m w [] first es c.args.entry c.requires.stack c.requires.entry in
-    let no_limit = rw (inv.keeps.world, path-now m first c.loop-candidates.cx (es ++ c.args.entry ∷ []) c.loop-candidates.search.stack.items inv.keeps inv.stack pushed, path_onto-append m first es (c.args.entry ∷ []) []) at c.ask.ensures.no_limit in
-    λ off. either_noted c.loop-candidates.search.limits_met c.ask.new.search.limits_met (inv.noted off)
-    (λ before now. conflict_up m w c.args.depth path x (m.goal_of c.loop-candidates.cx c.in-Ask.input) c.args.entry.step_kind c.in-Ask.step_kind c.loop-candidates.dependencies.encountered_overflow c.loop-candidates.dependencies.lowest c.loop-candidates.dependencies.heads.items inv.running.heard
-    (sym request) inv.plain (no_limit before now))
-
-pub run_once-returns-in_err-request-in-Ask-clause-no_limit : goal.run_once-returns-in_err-request-in-Ask-clause-no_limit
-run_once-returns-in_err-request-in-Ask-clause-no_limit g t c =
-    let asks = asked_in_turn c.loop-candidates.candidates.open c.take.new.self.open c.loop-candidates.candidates.finished.items c.take.new.self.finished.items c.loop-candidates.request c.in_ok-turn.turn c.in-Ask.input c.in-Ask.step_kind c.in-Ask.is c.in_ok-turn.ensures.turn in
-    let m = g.D.Delegate.meaning in
-    let inv = c.loop-candidates.invariant in
-    let first = c.args.cx.now in
-    let es = c.args.search.now.stack.items in
-    let w = m.world first in
-    let x = m.goal_of first c.args.entry.input in
-    let path = path_onto m first es [] in
-    let request = asked_now m w (question_of m first c.args.entry ∷ path) x c.loop-candidates.dependencies.lowest c.loop-candidates.cx c.loop-candidates.frame c.loop-candidates.request (Evaluate c.in-Ask.input c.in-Ask.step_kind) asks.0 inv.keeps.world inv.running in
-    let pushed = IsStack-push m w [] first es c.args.entry c.requires.stack c.requires.entry in
-    let no_limit = rw (inv.keeps.world, path-now m first c.loop-candidates.cx (es ++ c.args.entry ∷ []) c.loop-candidates.search.stack.items inv.keeps inv.stack pushed, path_onto-append m first es (c.args.entry ∷ []) []) at c.ask.ensures.no_limit in
-    λ off. either_noted c.loop-candidates.search.limits_met c.ask.new.search.limits_met (inv.noted off)
-    (λ before now. conflict_up m w c.args.depth path x (m.goal_of c.loop-candidates.cx c.in-Ask.input) c.args.entry.step_kind c.in-Ask.step_kind c.loop-candidates.dependencies.encountered_overflow c.loop-candidates.dependencies.lowest c.loop-candidates.dependencies.heads.items inv.running.heard
-    (sym request) inv.plain (no_limit before now))
+    record {
+      keeps = Keeps-trans g.D.Delegate.meaning c.args.cx.now c.loop-candidates.cx c.ask.new.cx inv.keeps c.ask.ensures.keeps;
+      stack = OnOk-err _ _ _ p.1;
+      cache = c.ask.ensures.cache;
+      goals = λ x n h. c.ask.ensures.goals x n (c.loop-candidates.invariant.goals x n h);
+      results = λ p x h. c.ask.ensures.results p x (c.loop-candidates.invariant.results p x h);
+      range = IfOk-err _ _ _ p.1;
+      depth = IfOk-err _ _ _ p.1;
+      entry = IfOk-err _ _ _ p.1;
+      low = IfOk-err _ _ _ p.1;
+      provisional = IfOk-err _ _ _ p.1;
+      faithful = IfOk-err _ _ _ p.1;
+      no_conflict = λ h. conflict_up m w c.args.depth path x (m.goal_of c.loop-candidates.cx c.in-Ask.input) c.args.entry.step_kind c.in-Ask.step_kind c.loop-candidates.dependencies.encountered_overflow c.loop-candidates.dependencies.lowest c.loop-candidates.dependencies.heads.items inv.running.heard
+          (sym request) inv.plain (claim (err_passed _ _ _ _ p.1 p.2 h));
+      protocol = let claim = rw inv.keeps.world at c.in_err-nested-in-Ask.ensures.protocol in λ h. below inv.running.hears (sym request) (claim (err_passed _ _ _ _ p.1 p.2 h));
+      conflict = λ h. c.in_err-nested-in-Ask.ensures.conflict (err_passed _ _ _ _ p.1 p.2 h);
+      frames = λ width h. asked_within c.args.search.now.frames c.loop-candidates.search.frames c.ask.new.search.frames (question_bound limit width c.args.depth) (answer_count m inv.running.heard) (m.number_of w x) width
+          (inv.frames width h) (c.ask.ensures.frames width (rw inv.keeps.world (within_more _ _ _ fair.1 h))) asked h;
+      full = λ h. c.in_err-nested-in-Ask.ensures.full (err_passed _ _ _ _ p.1 p.2 h);
+      limits = λ h. c.ask.ensures.limits (inv.limits h);
+      no_limit = λ off. either_noted c.loop-candidates.search.limits_met c.ask.new.search.limits_met (inv.noted off)
+          (λ before now. conflict_up m w c.args.depth path x (m.goal_of c.loop-candidates.cx c.in-Ask.input) c.args.entry.step_kind c.in-Ask.step_kind c.loop-candidates.dependencies.encountered_overflow c.loop-candidates.dependencies.lowest c.loop-candidates.dependencies.heads.items inv.running.heard
+          (sym request) inv.plain (no_limit before now));
+      within = IfOk-err _ _ _ p.1;
+    }
 
 pub run_once-loop-candidates-init : goal.run_once-loop-candidates-init
 run_once-loop-candidates-init g t c =
@@ -1018,43 +854,41 @@ run_once-loop-candidates-init g t c =
       plain = rw start.1 (plain_first m w (c.args.depth + 1) path x c.args.earlier.encountered_overflow c.args.earlier.lowest c.args.earlier.heads.items c.requires.earlier);
     }
 
-pub run_once-returns-in_err-turn-clause-protocol : goal.run_once-returns-in_err-turn-clause-protocol
-run_once-returns-in_err-turn-clause-protocol g t c =
-    let m = g.D.Delegate.meaning in
+pub run_once-returns-in_err-turn : goal.run_once-returns-in_err-turn
+run_once-returns-in_err-turn g t c =
     let inv = c.loop-candidates.invariant in
+    let p = err_from_is_err_and c.from_residual-in_err-turn.result c.from_residual-in_err-turn.ensures.1 in
+    let m = g.D.Delegate.meaning in
     let first = c.args.cx.now in
     let es = c.args.search.now.stack.items in
     let w = m.world first in
     let x = m.goal_of first c.args.entry.input in
     let path = path_onto m first es [] in
-    let p = err_from_is_err_and c.from_residual-in_err-turn.result c.from_residual-in_err-turn.ensures.1 in
-    λ h.
-    let told = c.in_err-turn.ensures.protocol (err_passed _ _ _ _ p.1 p.2 h) in
-    misstep_now m w (question_of m first c.args.entry ∷ path) x c.loop-candidates.dependencies.lowest c.loop-candidates.cx c.loop-candidates.frame c.loop-candidates.request c.loop-candidates.request refl inv.keeps.world inv.running
-    (λ o. told (in_order_in_turn m w x inv.running.heard c.loop-candidates.cx c.loop-candidates.candidates.open c.loop-candidates.candidates.open c.loop-candidates.candidates.finished.items c.loop-candidates.candidates.finished.items inv.opened inv.listed c.loop-candidates.request o))
-
-pub run_once-returns-in_err-turn-clause-no_conflict : goal.run_once-returns-in_err-turn-clause-no_conflict
-run_once-returns-in_err-turn-clause-no_conflict g t c =
-    let p = err_from_is_err_and c.from_residual-in_err-turn.result c.from_residual-in_err-turn.ensures.1 in
-    λ h. absurd {A = IsNotPlainOver g.D.Delegate.meaning c.args.cx.now c.args.search.now.stack.items c.args.entry.input (c.args.depth + 1)} (c.in_err-turn.ensures.no_conflict (err_passed _ _ _ _ p.1 p.2 h))
-
-pub run_once-returns-in_err-turn-clause-conflict : goal.run_once-returns-in_err-turn-clause-conflict
-run_once-returns-in_err-turn-clause-conflict g t c =
-    let p = err_from_is_err_and c.from_residual-in_err-turn.result c.from_residual-in_err-turn.ensures.1 in
-    λ h. absurd {A = HasConflict g.D.Delegate.meaning c.loop-candidates.cx (known_results c.loop-candidates.cache.entries.items)} (c.in_err-turn.ensures.no_conflict (err_passed _ _ _ _ p.1 p.2 h))
-
-pub run_once-returns-in_err-turn-clause-frames : goal.run_once-returns-in_err-turn-clause-frames
-run_once-returns-in_err-turn-clause-frames g t c =
-    let m = g.D.Delegate.meaning in
-    let inv = c.loop-candidates.invariant in
-    let first = c.args.cx.now in
-    let w = m.world first in
-    let x = m.goal_of first c.args.entry.input in
     let limit : ℕ = max g.D.Delegate.FIXPOINT_STEP_LIMIT 1 in
-    λ width h. done_within c.args.search.now.frames c.loop-candidates.search.frames (question_bound limit width c.args.depth) (answer_count m inv.running.heard) (m.number_of w x) width (inv.frames width h) inv.running.count h
-
-pub run_once-returns-in_err-turn-clause-no_limit : goal.run_once-returns-in_err-turn-clause-no_limit
-run_once-returns-in_err-turn-clause-no_limit g t c = c.loop-candidates.invariant.noted
+    record {
+      keeps = inv.keeps;
+      stack = OnOk-err _ _ _ p.1;
+      cache = inv.cache;
+      goals = inv.goals;
+      results = inv.results;
+      range = IfOk-err _ _ _ p.1;
+      depth = IfOk-err _ _ _ p.1;
+      entry = IfOk-err _ _ _ p.1;
+      low = IfOk-err _ _ _ p.1;
+      provisional = IfOk-err _ _ _ p.1;
+      faithful = IfOk-err _ _ _ p.1;
+      no_conflict = λ h. absurd {A = IsNotPlainOver g.D.Delegate.meaning c.args.cx.now c.args.search.now.stack.items c.args.entry.input (c.args.depth + 1)} (c.in_err-turn.ensures.no_conflict (err_passed _ _ _ _ p.1 p.2 h));
+      protocol = λ h.
+          let told = c.in_err-turn.ensures.protocol (err_passed _ _ _ _ p.1 p.2 h) in
+          misstep_now m w (question_of m first c.args.entry ∷ path) x c.loop-candidates.dependencies.lowest c.loop-candidates.cx c.loop-candidates.frame c.loop-candidates.request c.loop-candidates.request refl inv.keeps.world inv.running
+          (λ o. told (in_order_in_turn m w x inv.running.heard c.loop-candidates.cx c.loop-candidates.candidates.open c.loop-candidates.candidates.open c.loop-candidates.candidates.finished.items c.loop-candidates.candidates.finished.items inv.opened inv.listed c.loop-candidates.request o));
+      conflict = λ h. absurd {A = HasConflict g.D.Delegate.meaning c.loop-candidates.cx (known_results c.loop-candidates.cache.entries.items)} (c.in_err-turn.ensures.no_conflict (err_passed _ _ _ _ p.1 p.2 h));
+      frames = λ width h. done_within c.args.search.now.frames c.loop-candidates.search.frames (question_bound limit width c.args.depth) (answer_count m inv.running.heard) (m.number_of w x) width (inv.frames width h) inv.running.count h;
+      full = λ h. absurd (c.in_err-turn.ensures.room (err_passed _ _ _ _ p.1 p.2 h));
+      limits = inv.limits;
+      no_limit = c.loop-candidates.invariant.noted;
+      within = IfOk-err _ _ _ p.1;
+    }
 
 pub run_once-returns-in_err-request-in-Tell-clause-frames : goal.run_once-returns-in_err-request-in-Tell-clause-frames
 run_once-returns-in_err-request-in-Tell-clause-frames g t c =
@@ -1067,14 +901,15 @@ run_once-returns-in_err-request-in-Tell-clause-frames g t c =
     λ width h. done_within c.args.search.now.frames c.loop-candidates.search.frames (question_bound limit width c.args.depth) (answer_count m inv.running.heard) (m.number_of w x) width (inv.frames width h) inv.running.count h
 
 pub run_once-returns-in_err-request-in-Tell-clause-no_limit : goal.run_once-returns-in_err-request-in-Tell-clause-no_limit
-run_once-returns-in_err-request-in-Tell-clause-no_limit g t c = c.loop-candidates.invariant.noted
+run_once-returns-in_err-request-in-Tell-clause-no_limit g t c =
+    c.loop-candidates.invariant.noted
 
 pub run_once-returns-in_err-request-in-Tell-clause-cache : goal.run_once-returns-in_err-request-in-Tell-clause-cache
 run_once-returns-in_err-request-in-Tell-clause-cache g t c =
-    AreCached-later g.D.Delegate.meaning c.loop-candidates.cx c.step-in-Tell.new.cx c.loop-candidates.cache.entries.items c.step-in-Tell.ensures.keeps c.loop-candidates.invariant.cache
+    AreCached-later g.D.Delegate.meaning c.loop-candidates.cx c.step.new.cx c.loop-candidates.cache.entries.items c.step.ensures.keeps c.loop-candidates.invariant.cache
 
-pub run_once-step-requires-in-Tell-clause-due : goal.run_once-step-requires-in-Tell-clause-due
-run_once-step-requires-in-Tell-clause-due g t c =
+pub run_once-step-requires-clause-due : goal.run_once-step-requires-clause-due
+run_once-step-requires-clause-due g t c =
     let m = g.D.Delegate.meaning in
     let inv = c.loop-candidates.invariant in
     let first = c.args.cx.now in
@@ -1087,8 +922,8 @@ run_once-step-requires-in-Tell-clause-due g t c =
     let told = told_in_turn m w x inv.running.heard c.loop-candidates.cx c.loop-candidates.candidates.open c.take.new.self.open c.loop-candidates.candidates.finished.items c.take.new.self.finished.items inv.opened inv.listed c.loop-candidates.request c.in_ok-turn.turn c.in-Tell.reply c.in-Tell.is turn request in
     due_other m w (question_of m first c.args.entry ∷ path) x c.loop-candidates.dependencies.lowest c.loop-candidates.cx c.loop-candidates.frame c.loop-candidates.request c.loop-candidates.request refl inv.keeps.world inv.running c.in-Tell.reply told.due
 
-pub run_once-step-requires-in-Tell-clause-reply : goal.run_once-step-requires-in-Tell-clause-reply
-run_once-step-requires-in-Tell-clause-reply g t c =
+pub run_once-step-requires-clause-reply : goal.run_once-step-requires-clause-reply
+run_once-step-requires-clause-reply g t c =
     let m = g.D.Delegate.meaning in
     let inv = c.loop-candidates.invariant in
     let first = c.args.cx.now in
@@ -1113,10 +948,10 @@ run_once-loop-candidates-preserved g t c =
     let turn = c.in_ok-turn.ensures.turn in
     let request : request_of m c.loop-candidates.cx c.loop-candidates.request ≡ m.asks w x inv.running.heard = inv.running.request in
     let told = told_in_turn m w x inv.running.heard c.loop-candidates.cx c.loop-candidates.candidates.open c.take.new.self.open c.loop-candidates.candidates.finished.items c.take.new.self.finished.items inv.opened inv.listed c.loop-candidates.request c.in_ok-turn.turn c.in-Tell.reply c.in-Tell.is turn request in
-    let next = running_other m w (question_of m first c.args.entry ∷ path) x c.loop-candidates.dependencies.lowest c.loop-candidates.cx c.loop-candidates.frame c.loop-candidates.request c.loop-candidates.request refl inv.keeps.world inv.running c.step-in-Tell.new.cx c.step-in-Tell.new.frame c.in-Tell.reply c.in_ok-request-in-Tell.request told.due told.by told.quiet told.counts told.shows c.in_ok-request-in-Tell.ensures.steps in
+    let next = running_other m w (question_of m first c.args.entry ∷ path) x c.loop-candidates.dependencies.lowest c.loop-candidates.cx c.loop-candidates.frame c.loop-candidates.request c.loop-candidates.request refl inv.keeps.world inv.running c.step.new.cx c.step.new.frame c.in-Tell.reply c.in_ok-request-in-Tell.request told.due told.by told.quiet told.counts told.shows c.in_ok-request-in-Tell.ensures.steps in
     record {
-      keeps = Keeps-trans m first c.loop-candidates.cx c.step-in-Tell.new.cx inv.keeps c.step-in-Tell.ensures.keeps;
-      cache = AreCached-later m c.loop-candidates.cx c.step-in-Tell.new.cx c.loop-candidates.cache.entries.items c.step-in-Tell.ensures.keeps inv.cache;
+      keeps = Keeps-trans m first c.loop-candidates.cx c.step.new.cx inv.keeps c.step.ensures.keeps;
+      cache = AreCached-later m c.loop-candidates.cx c.step.new.cx c.loop-candidates.cache.entries.items c.step.ensures.keeps inv.cache;
       goals = inv.goals;
       results = inv.results;
       range = inv.range;
@@ -1131,7 +966,7 @@ run_once-loop-candidates-preserved g t c =
       noted = inv.noted;
       within = rw next.1 (λ before no last own cached.
           let had = inv.within before no last own cached in (
-            AreCachedWithin-keeps m w before (m.world c.loop-candidates.cx) c.loop-candidates.cx c.step-in-Tell.new.cx c.loop-candidates.cache.entries.items c.step-in-Tell.ensures.keeps inv.cache had.0,
+            AreCachedWithin-keeps m w before (m.world c.loop-candidates.cx) c.loop-candidates.cx c.step.new.cx c.loop-candidates.cache.entries.items c.step.ensures.keeps inv.cache had.0,
             hears_other m w (question_of m first c.args.entry ∷ path) x c.loop-candidates.dependencies.lowest c.loop-candidates.cx c.loop-candidates.frame c.loop-candidates.request c.loop-candidates.request refl inv.keeps.world inv.running (IsGivenWithin m w before) c.in-Tell.reply had.1 told.due told.quiet,
           ));
       plain = rw next.1 (plain_in_turn m w x inv.running.heard c.loop-candidates.cx c.loop-candidates.candidates.open c.take.new.self.open c.loop-candidates.candidates.finished.items c.take.new.self.finished.items inv.opened inv.listed
@@ -1160,7 +995,7 @@ run_once-returns-in-End-clause-provisional g t c =
     let path = path_onto m first es [] in
     let long = length-path_onto m first es [] in
     let low = inv.room in
-    running_done m law w path (question_of m first c.args.entry) c.loop-candidates.dependencies.lowest c.loop-candidates.cx c.loop-candidates.frame c.loop-candidates.request c.in-End.answer ends.0 (omega arith) inv.running (sym inv.opened ∙ ends.1)
+    running_done m law w path (question_of m first c.args.entry) c.loop-candidates.dependencies.lowest c.loop-candidates.cx c.loop-candidates.frame c.loop-candidates.request c.in-End.answer ends.0 (in_path _ _ _ inv.room (path_length m first es (length es) refl)) inv.running (sym inv.opened ∙ ends.1)
 
 pub run_once-returns-in-End-clause-faithful : goal.run_once-returns-in-End-clause-faithful
 run_once-returns-in-End-clause-faithful g t c =
@@ -1191,10 +1026,156 @@ run_once-returns-in-End-clause-within g t c =
     (had.0, record { how = inr (inv.running.heard, had.1, sym request, sym inv.opened ∙ ends.1) })
 
 pub run_once-returns-in-End-clause-no_limit : goal.run_once-returns-in-End-clause-no_limit
-run_once-returns-in-End-clause-no_limit g t c = λ off on. c.loop-candidates.invariant.noted off (sym c.pop.ensures.limits ∙ on)
+run_once-returns-in-End-clause-no_limit g t c =
+    λ off on. c.loop-candidates.invariant.noted off (sym c.pop.ensures.limits ∙ on)
 
 pub run_once-returns-in-End-clause-range : goal.run_once-returns-in-End-clause-range
-run_once-returns-in-End-clause-range g t c = c.loop-candidates.invariant.range
+run_once-returns-in-End-clause-range g t c =
+    c.loop-candidates.invariant.range
 
 pub run_once-returns-in-End-clause-depth : goal.run_once-returns-in-End-clause-depth
-run_once-returns-in-End-clause-depth g t c = c.loop-candidates.invariant.depth
+run_once-returns-in-End-clause-depth g t c =
+    c.loop-candidates.invariant.depth
+
+pub run_once-returns-in-End-clause-keeps : goal.run_once-returns-in-End-clause-keeps
+run_once-returns-in-End-clause-keeps g t c =
+    c.loop-candidates.invariant.keeps
+
+pub run_once-returns-in-End-clause-cache : goal.run_once-returns-in-End-clause-cache
+run_once-returns-in-End-clause-cache g t c =
+    c.loop-candidates.invariant.cache
+
+pub run_once-returns-in-End-clause-goals : goal.run_once-returns-in-End-clause-goals
+run_once-returns-in-End-clause-goals g t c =
+    c.loop-candidates.invariant.goals
+
+pub run_once-returns-in-End-clause-results : goal.run_once-returns-in-End-clause-results
+run_once-returns-in-End-clause-results g t c =
+    c.loop-candidates.invariant.results
+
+pub run_once-returns-in-End-clause-no_conflict : goal.run_once-returns-in-End-clause-no_conflict
+run_once-returns-in-End-clause-no_conflict g t c =
+    λ h. absurd {A = IsNotPlainOver g.D.Delegate.meaning c.args.cx.now c.args.search.now.stack.items c.args.entry.input (c.args.depth + 1)} (ok_not_err _ _ h)
+
+pub run_once-returns-in-End-clause-protocol : goal.run_once-returns-in-End-clause-protocol
+run_once-returns-in-End-clause-protocol g t c =
+    λ h. absurd (ok_not_err _ _ h)
+
+pub run_once-returns-in-End-clause-conflict : goal.run_once-returns-in-End-clause-conflict
+run_once-returns-in-End-clause-conflict g t c =
+    λ h. absurd (ok_not_err _ _ h)
+
+pub run_once-returns-in-End-clause-full : goal.run_once-returns-in-End-clause-full
+run_once-returns-in-End-clause-full g t c =
+    λ h. absurd (ok_not_err _ _ h)
+
+pub run_once-returns-in-End-clause-limits : goal.run_once-returns-in-End-clause-limits
+run_once-returns-in-End-clause-limits g t c =
+    λ h. c.pop.ensures.limits ∙ c.loop-candidates.invariant.limits h
+
+pub evaluate_new-returns-in_err-answer-clause-range : goal.evaluate_new-returns-in_err-answer-clause-range
+evaluate_new-returns-in_err-answer-clause-range g t c =
+    let p = err_from_is_err_and c.from_residual-in_err-answer.result c.from_residual-in_err-answer.ensures.1 in
+    IfOk-err _ _ _ p.1
+
+pub evaluate_new-returns-in_err-answer-clause-depth : goal.evaluate_new-returns-in_err-answer-clause-depth
+evaluate_new-returns-in_err-answer-clause-depth g t c =
+    let p = err_from_is_err_and c.from_residual-in_err-answer.result c.from_residual-in_err-answer.ensures.1 in
+    IfOk-err _ _ _ p.1
+
+pub evaluate_new-returns-in_err-answer-clause-kept : goal.evaluate_new-returns-in_err-answer-clause-kept
+evaluate_new-returns-in_err-answer-clause-kept g t c =
+    let p = err_from_is_err_and c.from_residual-in_err-answer.result c.from_residual-in_err-answer.ensures.1 in
+    λ empty. IfOk-err _ _ _ p.1
+
+pub evaluate_new-returns-in_err-answer-clause-answer : goal.evaluate_new-returns-in_err-answer-clause-answer
+evaluate_new-returns-in_err-answer-clause-answer g t c =
+    let p = err_from_is_err_and c.from_residual-in_err-answer.result c.from_residual-in_err-answer.ensures.1 in
+    IfOk-err _ _ _ p.1
+
+pub evaluate_new-returns-in_err-answer-clause-faithful : goal.evaluate_new-returns-in_err-answer-clause-faithful
+evaluate_new-returns-in_err-answer-clause-faithful g t c =
+    let p = err_from_is_err_and c.from_residual-in_err-answer.result c.from_residual-in_err-answer.ensures.1 in
+    IfOk-err _ _ _ p.1
+
+pub evaluate_new-returns-in_err-answer-clause-within : goal.evaluate_new-returns-in_err-answer-clause-within
+evaluate_new-returns-in_err-answer-clause-within g t c =
+    let p = err_from_is_err_and c.from_residual-in_err-answer.result c.from_residual-in_err-answer.ensures.1 in
+    IfOk-err _ _ _ p.1
+
+pub evaluate_new-returns-in_err-answer-clause-keeps : goal.evaluate_new-returns-in_err-answer-clause-keeps
+evaluate_new-returns-in_err-answer-clause-keeps g t c =
+    Keeps-trans g.D.Delegate.meaning c.args.cx.now c.loop-run.cx c.fixpoint_overflow_result.new.cx c.loop-run.invariant.keeps c.fixpoint_overflow_result.ensures.keeps
+
+pub evaluate_new-returns-in_err-answer-clause-stack : goal.evaluate_new-returns-in_err-answer-clause-stack
+evaluate_new-returns-in_err-answer-clause-stack g t c =
+    let p = err_from_is_err_and c.from_residual-in_err-answer.result c.from_residual-in_err-answer.ensures.1 in
+    OnOk-err _ _ _ p.1
+
+pub evaluate_new-returns-in_err-answer-clause-goals : goal.evaluate_new-returns-in_err-answer-clause-goals
+evaluate_new-returns-in_err-answer-clause-goals g t c =
+    c.loop-run.invariant.goals
+
+pub evaluate_new-returns-in_err-answer-clause-results : goal.evaluate_new-returns-in_err-answer-clause-results
+evaluate_new-returns-in_err-answer-clause-results g t c =
+    c.loop-run.invariant.results
+
+pub evaluate_new-returns-in_err-answer-clause-limits : goal.evaluate_new-returns-in_err-answer-clause-limits
+evaluate_new-returns-in_err-answer-clause-limits g t c =
+    λ h. refl
+
+pub run_once-returns-in_err-request-in-Tell-clause-range : goal.run_once-returns-in_err-request-in-Tell-clause-range
+run_once-returns-in_err-request-in-Tell-clause-range g t c =
+    let p = err_from_is_err_and c.from_residual-in_err-request-in-Tell.result c.from_residual-in_err-request-in-Tell.ensures.1 in
+    IfOk-err _ _ _ p.1
+
+pub run_once-returns-in_err-request-in-Tell-clause-depth : goal.run_once-returns-in_err-request-in-Tell-clause-depth
+run_once-returns-in_err-request-in-Tell-clause-depth g t c =
+    let p = err_from_is_err_and c.from_residual-in_err-request-in-Tell.result c.from_residual-in_err-request-in-Tell.ensures.1 in
+    IfOk-err _ _ _ p.1
+
+pub run_once-returns-in_err-request-in-Tell-clause-entry : goal.run_once-returns-in_err-request-in-Tell-clause-entry
+run_once-returns-in_err-request-in-Tell-clause-entry g t c =
+    let p = err_from_is_err_and c.from_residual-in_err-request-in-Tell.result c.from_residual-in_err-request-in-Tell.ensures.1 in
+    IfOk-err _ _ _ p.1
+
+pub run_once-returns-in_err-request-in-Tell-clause-low : goal.run_once-returns-in_err-request-in-Tell-clause-low
+run_once-returns-in_err-request-in-Tell-clause-low g t c =
+    let p = err_from_is_err_and c.from_residual-in_err-request-in-Tell.result c.from_residual-in_err-request-in-Tell.ensures.1 in
+    IfOk-err _ _ _ p.1
+
+pub run_once-returns-in_err-request-in-Tell-clause-provisional : goal.run_once-returns-in_err-request-in-Tell-clause-provisional
+run_once-returns-in_err-request-in-Tell-clause-provisional g t c =
+    let p = err_from_is_err_and c.from_residual-in_err-request-in-Tell.result c.from_residual-in_err-request-in-Tell.ensures.1 in
+    IfOk-err _ _ _ p.1
+
+pub run_once-returns-in_err-request-in-Tell-clause-faithful : goal.run_once-returns-in_err-request-in-Tell-clause-faithful
+run_once-returns-in_err-request-in-Tell-clause-faithful g t c =
+    let p = err_from_is_err_and c.from_residual-in_err-request-in-Tell.result c.from_residual-in_err-request-in-Tell.ensures.1 in
+    IfOk-err _ _ _ p.1
+
+pub run_once-returns-in_err-request-in-Tell-clause-within : goal.run_once-returns-in_err-request-in-Tell-clause-within
+run_once-returns-in_err-request-in-Tell-clause-within g t c =
+    let p = err_from_is_err_and c.from_residual-in_err-request-in-Tell.result c.from_residual-in_err-request-in-Tell.ensures.1 in
+    IfOk-err _ _ _ p.1
+
+pub run_once-returns-in_err-request-in-Tell-clause-keeps : goal.run_once-returns-in_err-request-in-Tell-clause-keeps
+run_once-returns-in_err-request-in-Tell-clause-keeps g t c =
+    Keeps-trans g.D.Delegate.meaning c.args.cx.now c.loop-candidates.cx c.step.new.cx c.loop-candidates.invariant.keeps c.step.ensures.keeps
+
+pub run_once-returns-in_err-request-in-Tell-clause-stack : goal.run_once-returns-in_err-request-in-Tell-clause-stack
+run_once-returns-in_err-request-in-Tell-clause-stack g t c =
+    let p = err_from_is_err_and c.from_residual-in_err-request-in-Tell.result c.from_residual-in_err-request-in-Tell.ensures.1 in
+    OnOk-err _ _ _ p.1
+
+pub run_once-returns-in_err-request-in-Tell-clause-goals : goal.run_once-returns-in_err-request-in-Tell-clause-goals
+run_once-returns-in_err-request-in-Tell-clause-goals g t c =
+    c.loop-candidates.invariant.goals
+
+pub run_once-returns-in_err-request-in-Tell-clause-results : goal.run_once-returns-in_err-request-in-Tell-clause-results
+run_once-returns-in_err-request-in-Tell-clause-results g t c =
+    c.loop-candidates.invariant.results
+
+pub run_once-returns-in_err-request-in-Tell-clause-limits : goal.run_once-returns-in_err-request-in-Tell-clause-limits
+run_once-returns-in_err-request-in-Tell-clause-limits g t c =
+    c.loop-candidates.invariant.limits

@@ -18,6 +18,7 @@ use Rattle.term_folds.proofs.Items.{one-more-ty, one-more-arg}
 use Rattle.term_folds.proofs.KindFacts.{leaf-below}
 use Rattle.term_folds.proofs.MemoFacts.{remembers-later, fold-known}
 use Rattle.type_terms.proofs.FailFacts.{fault-error, memory-error, refused-term}
+use Rattle.term_folds.proofs.ErrorFacts.{no-value, same-error}
 use Rattle.term_folds.proofs.walk.+walks.Invariants.{number_of}
 use Rattle.term_folds.proofs.walk.+walks.Goals as goal
 
@@ -42,31 +43,6 @@ walk_ty-returns-in_ok-note-in-Enter-clause-known g t c =
     c.in_ok-note-in-Enter.ensures.noted f es2 c.in_ok-folded-in-Enter.ensures.known
     (fold-known (g.F.FallibleTypeFolder.action c.args.folder.now es) f (counts_of c.args.binders.now) es es2 keeps law (g.met.F.FallibleTypeFolder.by_depth c.args.folder.now es2) c.args.ty.0 c.in_ok-folded-in-Enter.folded.0
     c.requires.held (walk_ty-returns-in_ok-note-in-Enter-clause-folded g t c))
-
-pub walk_ty-returns-in_err-note-in-Enter-clause-failed : goal.walk_ty-returns-in_err-note-in-Enter-clause-failed
-walk_ty-returns-in_err-note-in-Enter-clause-failed g t c =
-    memory-error _ _ _ _ c.from_residual-in_err-note-in-Enter.result c.from_residual-in_err-note-in-Enter.ensures.1 c.in_err-note-in-Enter.ensures.memory
-
-pub walk_ty-returns-in-Replace-clause-folded : goal.walk_ty-returns-in-Replace-clause-folded
-walk_ty-returns-in-Replace-clause-folded g t c =
-    let es = c.args.cx.now.entries in
-    let bs = counts_of c.args.binders.now in
-    let f = g.F.FallibleTypeFolder.action c.args.folder.now es in
-    let one : Single (trees_at es c.args.ty.0) = type-is-one es c.lawful.ensures c.args.ty.0 c.requires.held in
-    put-handle f bs (trees_at es c.args.ty.0) c.try_fold_ty.new.cx.entries types c.in-Replace.new.0 one
-    (says-puts (TyIs c.try_fold_ty.new.cx.entries) (f bs (trees_at es c.args.ty.0)) c.in-Replace.new (rw (← c.in-Replace.is) c.in_ok-try_fold_ty.ensures.answer))
-
-pub walk_ty-returns-in-Again-clause-folded : goal.walk_ty-returns-in-Again-clause-folded
-walk_ty-returns-in-Again-clause-folded g t c =
-    let es = c.args.cx.now.entries in
-    let es1 = c.try_fold_ty.new.cx.entries in
-    let bs = counts_of c.args.binders.now in
-    let f = g.F.FallibleTypeFolder.action c.args.folder.now es in
-    let one : Single (trees_at es c.args.ty.0) = type-is-one es c.lawful.ensures c.args.ty.0 c.requires.held in
-    let law = g.met.F.FallibleTypeFolder.action_kept c.args.folder.now es es1 c.try_fold_ty.ensures.keeps c.requires.ready in
-    ok-map c.walk_ty.result c.walk_ty.ensures.folded
-    (λ r h. turn-handle (g.F.FallibleTypeFolder.action c.args.folder.now es1) f bs (trees_at es c.args.ty.0) es1 c.walk_ty.new.cx.entries types c.in-Again.next.0 r.0 one law
-    (says-again (TyIs c.try_fold_ty.new.cx.entries) (f bs (trees_at es c.args.ty.0)) c.in-Again.next (rw (← c.in-Again.is) c.in_ok-try_fold_ty.ensures.answer)) h)
 
 -- ---- lists of types
 pub walk_tys-loop-ty-init : goal.walk_tys-loop-ty-init
@@ -218,49 +194,6 @@ walk_kind-walk_ty-requires g t c κs within =
     let less : fuel (trees_at es c.in-Ref.to.0) ≤ fuel (trees_at es c.args.ty.0) = rw here (omega (arith, part, node)) in
     (omega (arith, older, c.decreases, less), (within.0, (within.1, (c.requires.ready, (c.requires.known, held.1)))))
 
-pub walk_kind-returns-in_ok-walk_args-in-Adt-clause-folded : goal.walk_kind-returns-in_ok-walk_args-in-Adt-clause-folded
-walk_kind-returns-in_ok-walk_args-in-Adt-clause-folded g t c = rw c.in-Adt.is (below c.in_ok-walk_args-in-Adt.ensures.folded.folded)
-
-pub walk_kind-returns-in_ok-walk_ty-in-Ref-clause-folded : goal.walk_kind-returns-in_ok-walk_ty-in-Ref-clause-folded
-walk_kind-returns-in_ok-walk_ty-in-Ref-clause-folded g t c =
-    rw c.in-Ref.is (below (folds-append c.in_ok-region-in-Ref.ensures.folded c.in_ok-walk_ty-in-Ref.ensures.folded.folded))
-
-pub walk_kind-returns-in_ok-walk_ty-in-RawPtr-clause-folded : goal.walk_kind-returns-in_ok-walk_ty-in-RawPtr-clause-folded
-walk_kind-returns-in_ok-walk_ty-in-RawPtr-clause-folded g t c = rw c.in-RawPtr.is (below c.in_ok-walk_ty-in-RawPtr.ensures.folded.folded)
-
-pub walk_kind-returns-in_ok-fold_const-in-Array-clause-held : goal.walk_kind-returns-in_ok-fold_const-in-Array-clause-held
-walk_kind-returns-in_ok-fold_const-in-Array-clause-held g t c =
-    (has-later c.walk_ty-in-Array.new.cx.entries c.fold_const.new.cx.entries c.fold_const.ensures.keeps types _ c.in_ok-item-in-Array.ensures.folded.has, c.in_ok-fold_const-in-Array.ensures.folded.has)
-
-pub walk_kind-returns-in_ok-fold_const-in-Array-clause-folded : goal.walk_kind-returns-in_ok-fold_const-in-Array-clause-folded
-walk_kind-returns-in_ok-fold_const-in-Array-clause-folded g t c =
-    let es = c.args.cx.now.entries in
-    let es1 = c.walk_ty-in-Array.new.cx.entries in
-    let bs = counts_of c.args.binders.now in
-    let held = rw c.in-Array.is at c.requires.held in
-    let law = g.met.F.FallibleTypeFolder.action_kept c.args.folder.now es es1 c.walk_ty-in-Array.ensures.keeps c.requires.ready in
-    rw c.in-Array.is
-    (below (two-folds (g.F.FallibleTypeFolder.action c.args.folder.now es1) (g.F.FallibleTypeFolder.action c.args.folder.now es) bs es es1 c.fold_const.new.cx.entries types _ _ consts _ _
-    law c.walk_ty-in-Array.ensures.keeps c.fold_const.ensures.keeps c.in_ok-item-in-Array.ensures.folded held.1 c.in_ok-fold_const-in-Array.ensures.folded))
-
-pub walk_kind-returns-in_ok-walk_ty-in-Slice-clause-folded : goal.walk_kind-returns-in_ok-walk_ty-in-Slice-clause-folded
-walk_kind-returns-in_ok-walk_ty-in-Slice-clause-folded g t c = rw c.in-Slice.is (below c.in_ok-walk_ty-in-Slice.ensures.folded.folded)
-
-pub walk_kind-returns-in_ok-walk_tys-in-Tuple-clause-folded : goal.walk_kind-returns-in_ok-walk_tys-in-Tuple-clause-folded
-walk_kind-returns-in_ok-walk_tys-in-Tuple-clause-folded g t c = rw c.in-Tuple.is (below c.in_ok-walk_tys-in-Tuple.ensures.folded.folded)
-
-pub walk_kind-returns-in_ok-walk_tys-in-FnPtr-clause-folded : goal.walk_kind-returns-in_ok-walk_tys-in-FnPtr-clause-folded
-walk_kind-returns-in_ok-walk_tys-in-FnPtr-clause-folded g t c = rw c.in-FnPtr.is (below c.in_ok-walk_tys-in-FnPtr.ensures.folded.folded)
-
-pub walk_kind-returns-in_ok-walk_bounds-in-Dynamic-clause-folded : goal.walk_kind-returns-in_ok-walk_bounds-in-Dynamic-clause-folded
-walk_kind-returns-in_ok-walk_bounds-in-Dynamic-clause-folded g t c =
-    rw c.in-Dynamic.is (below (folds-append c.in_ok-walk_bounds-in-Dynamic.ensures.folded.folded c.in_ok-region-in-Dynamic.ensures.folded))
-
-pub walk_kind-returns-in_default-clause-folded : goal.walk_kind-returns-in_default-clause-folded
-walk_kind-returns-in_default-clause-folded g t c =
-    leaf-below (g.F.FallibleTypeFolder.action c.args.folder.now c.args.cx.now.entries) (counts_of c.args.binders.now) c.args.cx.now.entries c.args.kind
-    c.in_default.not-Adt c.in_default.not-Ref c.in_default.not-RawPtr c.in_default.not-Array c.in_default.not-Slice c.in_default.not-Tuple c.in_default.not-FnPtr c.in_default.not-Dynamic
-
 -- ---- bounds
 autos-stay : (f : List ℕ → Trees → Does) (bs : List ℕ) → ((t : Trees) → IsBound t → f bs t ≡ enters) → (xs : List TraitId) → Folds f bs (autos_trees xs) (autos_trees xs)
 autos-stay f bs law [] = nothing
@@ -278,15 +211,6 @@ walk_principal-walk_args-requires g t c κs within =
     let part = g.met.F.FallibleTypeFolder.below_left c.args.folder.now es (principal_trees es (Some p)) c.requires.part.0 in
     let less : fuel (trees_at es p.args.0) ≤ fuel (trees_at es c.args.bounds.0) = rw here (omega (arith, part, node)) in
     (omega (arith, older, c.decreases, less), (within.0, (within.1, (c.requires.ready, (c.requires.known, held)))))
-
-pub walk_principal-returns-in_ok-args-in-Some-clause-folded : goal.walk_principal-returns-in_ok-args-in-Some-clause-folded
-walk_principal-returns-in_ok-args-in-Some-clause-folded g t c =
-    let es = c.args.cx.now.entries in
-    let bs = counts_of c.args.binders.now in
-    rw c.in-Some.is (entered (g.met.F.FallibleTypeFolder.enters_bounds c.args.folder.now es bs _ tt) c.in_ok-args-in-Some.ensures.folded.folded nothing)
-
-pub walk_principal-returns-in-None-clause-folded : goal.walk_principal-returns-in-None-clause-folded
-walk_principal-returns-in-None-clause-folded g t c = rw c.in-None.is nothing
 
 pub walk_bounds-walk_principal-requires : goal.walk_bounds-walk_principal-requires
 walk_bounds-walk_principal-requires g t c κs within =
@@ -313,63 +237,6 @@ walk_bounds-walk_principal-requires g t c κs within =
       ),
     )
 
-pub walk_bounds-returns-clause-folded : goal.walk_bounds-returns-clause-folded
-walk_bounds-returns-clause-folded g t c =
-    let es = c.args.cx.now.entries in
-    let es1 = c.walk_principal.new.cx.entries in
-    let bs = counts_of c.args.binders.now in
-    let f = g.F.FallibleTypeFolder.action c.args.folder.now es in
-    let old = c.bounds-data.result.now in
-    let same : c.in_ok-autos.autos.items ≡ old.autos.items = c.in_ok-autos.ensures.copied ∙ c.deref.ensures.value in
-    let before : trees_at es c.args.bounds.0 ≡ principal_trees es old.principal +++ autos_trees old.autos.items = trees-is es bounds_lists c.args.bounds.0 _ c.bounds-data.ensures.is in
-    let after : trees_at c.mk_bounds.new.self.entries c.in_ok-mk_bounds.field-0.0 ≡ principal_trees es1 c.in_ok-principal.principal +++ autos_trees c.in_ok-autos.autos.items =
-    trees-is c.mk_bounds.new.self.entries bounds_lists _ _ c.in_ok-mk_bounds.ensures.is in
-    record {
-      has = (_, c.in_ok-mk_bounds.ensures.is);
-      folded = rw (before, after, same) (folds-append c.in_ok-principal.ensures.folded (autos-stay f bs (g.met.F.FallibleTypeFolder.enters_bounds c.args.folder.now es bs) old.autos.items));
-    }
-
--- ---- errors
-pub super_walk_ty-returns-in_err-mk_ty-clause-failed : goal.super_walk_ty-returns-in_err-mk_ty-clause-failed
-super_walk_ty-returns-in_err-mk_ty-clause-failed g t c =
-    fault-error _ _ c.from_residual-in_err-mk_ty.result c.from_residual-in_err-mk_ty.ensures.1
-    (λ q. refused-term types (omega arith) (c.in_err-mk_ty.ensures.full (ap Err q)) c.mk_ty.ensures.limit c.in_err-mk_ty.ensures.refused)
-
-pub walk_tys-returns-in_err-old-clause-failed : goal.walk_tys-returns-in_err-old-clause-failed
-walk_tys-returns-in_err-old-clause-failed g t c =
-    memory-error _ _ _ _ c.from_residual.result c.from_residual.ensures.1 c.in_err-old.ensures.memory
-
-pub walk_tys-returns-in_err-append-clause-failed : goal.walk_tys-returns-in_err-append-clause-failed
-walk_tys-returns-in_err-append-clause-failed g t c =
-    memory-error _ _ _ _ c.from_residual-in_err-append.result c.from_residual-in_err-append.ensures.1 c.in_err-append.ensures.memory
-
-pub walk_tys-returns-in_err-mk_tys-clause-failed : goal.walk_tys-returns-in_err-mk_tys-clause-failed
-walk_tys-returns-in_err-mk_tys-clause-failed g t c =
-    fault-error _ _ c.from_residual-in_err-mk_tys.result c.from_residual-in_err-mk_tys.ensures.1
-    (λ q. refused-term type_lists (omega arith) (c.in_err-mk_tys.ensures.full (ap Err q)) c.mk_tys.ensures.limit c.in_err-mk_tys.ensures.refused)
-
-pub walk_args-returns-in_err-old-clause-failed : goal.walk_args-returns-in_err-old-clause-failed
-walk_args-returns-in_err-old-clause-failed g t c =
-    memory-error _ _ _ _ c.from_residual.result c.from_residual.ensures.1 c.in_err-old.ensures.memory
-
-pub walk_args-returns-in_err-append-clause-failed : goal.walk_args-returns-in_err-append-clause-failed
-walk_args-returns-in_err-append-clause-failed g t c =
-    memory-error _ _ _ _ c.from_residual-in_err-append.result c.from_residual-in_err-append.ensures.1 c.in_err-append.ensures.memory
-
-pub walk_args-returns-in_err-mk_args-clause-failed : goal.walk_args-returns-in_err-mk_args-clause-failed
-walk_args-returns-in_err-mk_args-clause-failed g t c =
-    fault-error _ _ c.from_residual-in_err-mk_args.result c.from_residual-in_err-mk_args.ensures.1
-    (λ q. refused-term args_lists (omega arith) (c.in_err-mk_args.ensures.full (ap Err q)) c.mk_args.ensures.limit c.in_err-mk_args.ensures.refused)
-
-pub walk_bounds-returns-in_err-autos-clause-failed : goal.walk_bounds-returns-in_err-autos-clause-failed
-walk_bounds-returns-in_err-autos-clause-failed g t c =
-    memory-error _ _ _ _ c.from_residual.result c.from_residual.ensures.1 c.in_err-autos.ensures.memory
-
-pub walk_bounds-returns-in_err-mk_bounds-clause-failed : goal.walk_bounds-returns-in_err-mk_bounds-clause-failed
-walk_bounds-returns-in_err-mk_bounds-clause-failed g t c =
-    fault-error _ _ c.from_residual-in_err-mk_bounds.result c.from_residual-in_err-mk_bounds.ensures.1
-    (λ q. refused-term bounds_lists (omega arith) (c.in_err-mk_bounds.ensures.full (ap Err q)) c.mk_bounds.ensures.limit c.in_err-mk_bounds.ensures.refused)
-
 -- ---- what is known
 pub walk_tys-returns-clause-known : goal.walk_tys-returns-clause-known
 walk_tys-returns-clause-known g t c =
@@ -386,3 +253,573 @@ walk_args-returns-clause-known g t c =
     let next = c.mk_args.new.self.entries in
     let law = g.met.F.FallibleTypeFolder.action_kept c.args.folder.now now next c.mk_args.ensures.keeps inv.1 in
     remembers-later _ (g.F.FallibleTypeFolder.action c.args.folder.now next) now next c.loop-arg.memo c.mk_args.ensures.keeps law inv.8
+
+-- ---- what every return says of the interner and of what is known
+pub walk_ty-returns-in_err-note-in-Enter : goal.walk_ty-returns-in_err-note-in-Enter
+walk_ty-returns-in_err-note-in-Enter g t c =
+    record {
+      keeps = (λ j e h. c.super_walk_ty.ensures.keeps j e (c.try_fold_ty.ensures.keeps j e h));
+      limit = c.super_walk_ty.ensures.limit ∙ c.try_fold_ty.ensures.limit;
+      folded = no-value _ _ c.from_residual-in_err-note-in-Enter.result c.from_residual-in_err-note-in-Enter.ensures.1;
+      known = no-value _ _ c.from_residual-in_err-note-in-Enter.result c.from_residual-in_err-note-in-Enter.ensures.1;
+      failed = memory-error _ _ _ _ c.from_residual-in_err-note-in-Enter.result c.from_residual-in_err-note-in-Enter.ensures.1 c.in_err-note-in-Enter.ensures.memory;
+    }
+
+pub walk_ty-returns-in-Replace : goal.walk_ty-returns-in-Replace
+walk_ty-returns-in-Replace g t c =
+    record {
+      keeps = c.try_fold_ty.ensures.keeps;
+      limit = c.try_fold_ty.ensures.limit;
+      folded = (let es = c.args.cx.now.entries in
+          let bs = counts_of c.args.binders.now in
+          let f = g.F.FallibleTypeFolder.action c.args.folder.now es in
+          let one : Single (trees_at es c.args.ty.0) = type-is-one es c.lawful.ensures c.args.ty.0 c.requires.held in
+          put-handle f bs (trees_at es c.args.ty.0) c.try_fold_ty.new.cx.entries types c.in-Replace.new.0 one
+          (says-puts (TyIs c.try_fold_ty.new.cx.entries) (f bs (trees_at es c.args.ty.0)) c.in-Replace.new (rw (← c.in-Replace.is) c.in_ok-try_fold_ty.ensures.answer)));
+      known = (let es = c.args.cx.now.entries in
+          let es1 = c.try_fold_ty.new.cx.entries in
+          let law = g.met.F.FallibleTypeFolder.action_kept c.args.folder.now es es1 c.try_fold_ty.ensures.keeps c.requires.ready in
+          remembers-later _ (g.F.FallibleTypeFolder.action c.args.folder.now es1) es es1 c.args.memo.now c.try_fold_ty.ensures.keeps law c.requires.known);
+      failed = tt;
+    }
+
+pub walk_ty-returns-in-Again : goal.walk_ty-returns-in-Again
+walk_ty-returns-in-Again g t c =
+    record {
+      keeps = (λ j e h. c.walk_ty.ensures.keeps j e (c.try_fold_ty.ensures.keeps j e h));
+      limit = c.walk_ty.ensures.limit ∙ c.try_fold_ty.ensures.limit;
+      folded = (let es = c.args.cx.now.entries in
+          let es1 = c.try_fold_ty.new.cx.entries in
+          let bs = counts_of c.args.binders.now in
+          let f = g.F.FallibleTypeFolder.action c.args.folder.now es in
+          let one : Single (trees_at es c.args.ty.0) = type-is-one es c.lawful.ensures c.args.ty.0 c.requires.held in
+          let law = g.met.F.FallibleTypeFolder.action_kept c.args.folder.now es es1 c.try_fold_ty.ensures.keeps c.requires.ready in
+          ok-map c.walk_ty.result c.walk_ty.ensures.folded
+          (λ r h. turn-handle (g.F.FallibleTypeFolder.action c.args.folder.now es1) f bs (trees_at es c.args.ty.0) es1 c.walk_ty.new.cx.entries types c.in-Again.next.0 r.0 one law
+          (says-again (TyIs c.try_fold_ty.new.cx.entries) (f bs (trees_at es c.args.ty.0)) c.in-Again.next (rw (← c.in-Again.is) c.in_ok-try_fold_ty.ensures.answer)) h));
+      known = c.walk_ty.ensures.known;
+      failed = c.walk_ty.ensures.failed;
+    }
+
+pub walk_kind-returns-in_ok-walk_args-in-Adt : goal.walk_kind-returns-in_ok-walk_args-in-Adt
+walk_kind-returns-in_ok-walk_args-in-Adt g t c =
+    record {
+      keeps = c.walk_args.ensures.keeps;
+      limit = c.walk_args.ensures.limit;
+      held = c.in_ok-walk_args-in-Adt.ensures.folded.has;
+      folded = rw c.in-Adt.is (below c.in_ok-walk_args-in-Adt.ensures.folded.folded);
+      known = c.in_ok-walk_args-in-Adt.ensures.known;
+      failed = tt;
+    }
+
+pub walk_kind-returns-in_ok-walk_ty-in-Ref : goal.walk_kind-returns-in_ok-walk_ty-in-Ref
+walk_kind-returns-in_ok-walk_ty-in-Ref g t c =
+    record {
+      keeps = c.walk_ty.ensures.keeps;
+      limit = c.walk_ty.ensures.limit;
+      held = (c.in_ok-region-in-Ref.ensures.held, c.in_ok-walk_ty-in-Ref.ensures.folded.has);
+      folded = rw c.in-Ref.is (below (folds-append c.in_ok-region-in-Ref.ensures.folded c.in_ok-walk_ty-in-Ref.ensures.folded.folded));
+      known = c.in_ok-walk_ty-in-Ref.ensures.known;
+      failed = tt;
+    }
+
+pub walk_kind-returns-in_ok-walk_ty-in-RawPtr : goal.walk_kind-returns-in_ok-walk_ty-in-RawPtr
+walk_kind-returns-in_ok-walk_ty-in-RawPtr g t c =
+    record {
+      keeps = c.walk_ty-in-RawPtr.ensures.keeps;
+      limit = c.walk_ty-in-RawPtr.ensures.limit;
+      held = c.in_ok-walk_ty-in-RawPtr.ensures.folded.has;
+      folded = rw c.in-RawPtr.is (below c.in_ok-walk_ty-in-RawPtr.ensures.folded.folded);
+      known = c.in_ok-walk_ty-in-RawPtr.ensures.known;
+      failed = tt;
+    }
+
+pub walk_kind-returns-in_ok-fold_const-in-Array : goal.walk_kind-returns-in_ok-fold_const-in-Array
+walk_kind-returns-in_ok-fold_const-in-Array g t c =
+    record {
+      keeps = (λ j e h. c.fold_const.ensures.keeps j e (c.walk_ty-in-Array.ensures.keeps j e h));
+      limit = c.fold_const.ensures.limit ∙ c.walk_ty-in-Array.ensures.limit;
+      held = (has-later c.walk_ty-in-Array.new.cx.entries c.fold_const.new.cx.entries c.fold_const.ensures.keeps types _ c.in_ok-item-in-Array.ensures.folded.has, c.in_ok-fold_const-in-Array.ensures.folded.has);
+      folded = (let es = c.args.cx.now.entries in
+          let es1 = c.walk_ty-in-Array.new.cx.entries in
+          let bs = counts_of c.args.binders.now in
+          let held = rw c.in-Array.is at c.requires.held in
+          let law = g.met.F.FallibleTypeFolder.action_kept c.args.folder.now es es1 c.walk_ty-in-Array.ensures.keeps c.requires.ready in
+          rw c.in-Array.is
+          (below (two-folds (g.F.FallibleTypeFolder.action c.args.folder.now es1) (g.F.FallibleTypeFolder.action c.args.folder.now es) bs es es1 c.fold_const.new.cx.entries types _ _ consts _ _
+          law c.walk_ty-in-Array.ensures.keeps c.fold_const.ensures.keeps c.in_ok-item-in-Array.ensures.folded held.1 c.in_ok-fold_const-in-Array.ensures.folded)));
+      known = (let es = c.args.cx.now.entries in
+          let es1 = c.walk_ty-in-Array.new.cx.entries in
+          let es2 = c.fold_const.new.cx.entries in
+          let ready = g.met.F.FallibleTypeFolder.ready_kept c.args.folder.now es es1 c.walk_ty-in-Array.ensures.keeps c.requires.ready in
+          let law = g.met.F.FallibleTypeFolder.action_kept c.args.folder.now es1 es2 c.fold_const.ensures.keeps ready in
+          remembers-later _ (g.F.FallibleTypeFolder.action c.args.folder.now es2) es1 es2 c.walk_ty-in-Array.new.memo c.fold_const.ensures.keeps law c.in_ok-item-in-Array.ensures.known);
+      failed = tt;
+    }
+
+pub walk_kind-returns-in_ok-walk_ty-in-Slice : goal.walk_kind-returns-in_ok-walk_ty-in-Slice
+walk_kind-returns-in_ok-walk_ty-in-Slice g t c =
+    record {
+      keeps = c.walk_ty-in-Slice.ensures.keeps;
+      limit = c.walk_ty-in-Slice.ensures.limit;
+      held = c.in_ok-walk_ty-in-Slice.ensures.folded.has;
+      folded = rw c.in-Slice.is (below c.in_ok-walk_ty-in-Slice.ensures.folded.folded);
+      known = c.in_ok-walk_ty-in-Slice.ensures.known;
+      failed = tt;
+    }
+
+pub walk_kind-returns-in_ok-walk_tys-in-Tuple : goal.walk_kind-returns-in_ok-walk_tys-in-Tuple
+walk_kind-returns-in_ok-walk_tys-in-Tuple g t c =
+    record {
+      keeps = c.walk_tys.ensures.keeps;
+      limit = c.walk_tys.ensures.limit;
+      held = c.in_ok-walk_tys-in-Tuple.ensures.folded.has;
+      folded = rw c.in-Tuple.is (below c.in_ok-walk_tys-in-Tuple.ensures.folded.folded);
+      known = c.in_ok-walk_tys-in-Tuple.ensures.known;
+      failed = tt;
+    }
+
+pub walk_kind-returns-in_ok-walk_tys-in-FnPtr : goal.walk_kind-returns-in_ok-walk_tys-in-FnPtr
+walk_kind-returns-in_ok-walk_tys-in-FnPtr g t c =
+    record {
+      keeps = c.walk_tys-in-FnPtr.ensures.keeps;
+      limit = c.walk_tys-in-FnPtr.ensures.limit;
+      held = (let held = rw c.in-FnPtr.is at c.requires.held in
+          (c.in_ok-walk_tys-in-FnPtr.ensures.folded.has, c.in_ok-walk_tys-in-FnPtr.ensures.whole ∙ held.1));
+      folded = rw c.in-FnPtr.is (below c.in_ok-walk_tys-in-FnPtr.ensures.folded.folded);
+      known = c.in_ok-walk_tys-in-FnPtr.ensures.known;
+      failed = tt;
+    }
+
+pub walk_kind-returns-in_ok-walk_bounds-in-Dynamic : goal.walk_kind-returns-in_ok-walk_bounds-in-Dynamic
+walk_kind-returns-in_ok-walk_bounds-in-Dynamic g t c =
+    record {
+      keeps = c.walk_bounds.ensures.keeps;
+      limit = c.walk_bounds.ensures.limit;
+      held = (c.in_ok-walk_bounds-in-Dynamic.ensures.folded.has, c.in_ok-region-in-Dynamic.ensures.held);
+      folded = rw c.in-Dynamic.is (below (folds-append c.in_ok-walk_bounds-in-Dynamic.ensures.folded.folded c.in_ok-region-in-Dynamic.ensures.folded));
+      known = c.in_ok-walk_bounds-in-Dynamic.ensures.known;
+      failed = tt;
+    }
+
+pub walk_kind-returns-in_default : goal.walk_kind-returns-in_default
+walk_kind-returns-in_default g t c =
+    record {
+      keeps = (λ i e h. h);
+      limit = refl;
+      held = c.requires.held;
+      folded = leaf-below (g.F.FallibleTypeFolder.action c.args.folder.now c.args.cx.now.entries) (counts_of c.args.binders.now) c.args.cx.now.entries c.args.kind
+          c.in_default.not-Adt c.in_default.not-Ref c.in_default.not-RawPtr c.in_default.not-Array c.in_default.not-Slice c.in_default.not-Tuple c.in_default.not-FnPtr c.in_default.not-Dynamic;
+      known = c.requires.known;
+      failed = tt;
+    }
+
+pub walk_principal-returns-in_ok-args-in-Some : goal.walk_principal-returns-in_ok-args-in-Some
+walk_principal-returns-in_ok-args-in-Some g t c =
+    record {
+      keeps = c.walk_args.ensures.keeps;
+      limit = c.walk_args.ensures.limit;
+      held = c.in_ok-args-in-Some.ensures.folded.has;
+      folded = (let es = c.args.cx.now.entries in
+          let bs = counts_of c.args.binders.now in
+          rw c.in-Some.is (entered (g.met.F.FallibleTypeFolder.enters_bounds c.args.folder.now es bs _ tt) c.in_ok-args-in-Some.ensures.folded.folded nothing));
+      known = c.in_ok-args-in-Some.ensures.known;
+      failed = tt;
+    }
+
+pub walk_principal-returns-in-None : goal.walk_principal-returns-in-None
+walk_principal-returns-in-None g t c =
+    record {
+      keeps = (λ i e h. h);
+      limit = refl;
+      held = tt;
+      folded = rw c.in-None.is nothing;
+      known = c.requires.known;
+      failed = tt;
+    }
+
+pub walk_bounds-returns : goal.walk_bounds-returns
+walk_bounds-returns g t c =
+    record {
+      keeps = (λ j e h. c.mk_bounds.ensures.keeps j e (c.walk_principal.ensures.keeps j e h));
+      limit = c.mk_bounds.ensures.limit ∙ c.walk_principal.ensures.limit;
+      folded = (let es = c.args.cx.now.entries in
+          let es1 = c.walk_principal.new.cx.entries in
+          let bs = counts_of c.args.binders.now in
+          let f = g.F.FallibleTypeFolder.action c.args.folder.now es in
+          let old = c.bounds-data.result.now in
+          let same : c.in_ok-autos.autos.items ≡ old.autos.items = c.in_ok-autos.ensures.copied ∙ c.deref.ensures.value in
+          let before : trees_at es c.args.bounds.0 ≡ principal_trees es old.principal +++ autos_trees old.autos.items = trees-is es bounds_lists c.args.bounds.0 _ c.bounds-data.ensures.is in
+          let after : trees_at c.mk_bounds.new.self.entries c.in_ok-mk_bounds.field-0.0 ≡ principal_trees es1 c.in_ok-principal.principal +++ autos_trees c.in_ok-autos.autos.items =
+          trees-is c.mk_bounds.new.self.entries bounds_lists _ _ c.in_ok-mk_bounds.ensures.is in
+          record {
+            has = (_, c.in_ok-mk_bounds.ensures.is);
+            folded = rw (before, after, same) (folds-append c.in_ok-principal.ensures.folded (autos-stay f bs (g.met.F.FallibleTypeFolder.enters_bounds c.args.folder.now es bs) old.autos.items));
+          });
+      known = (let es = c.args.cx.now.entries in
+          let es1 = c.walk_principal.new.cx.entries in
+          let es2 = c.mk_bounds.new.self.entries in
+          let ready = g.met.F.FallibleTypeFolder.ready_kept c.args.folder.now es es1 c.walk_principal.ensures.keeps c.requires.ready in
+          let law = g.met.F.FallibleTypeFolder.action_kept c.args.folder.now es1 es2 c.mk_bounds.ensures.keeps ready in
+          remembers-later _ (g.F.FallibleTypeFolder.action c.args.folder.now es2) es1 es2 c.walk_principal.new.memo c.mk_bounds.ensures.keeps law c.in_ok-principal.ensures.known);
+      failed = tt;
+    }
+
+pub super_walk_ty-returns-in_err-mk_ty : goal.super_walk_ty-returns-in_err-mk_ty
+super_walk_ty-returns-in_err-mk_ty g t c =
+    record {
+      keeps = (λ j e h. c.mk_ty.ensures.keeps j e (c.walk_kind.ensures.keeps j e h));
+      limit = c.mk_ty.ensures.limit ∙ c.walk_kind.ensures.limit;
+      folded = no-value _ _ c.from_residual-in_err-mk_ty.result c.from_residual-in_err-mk_ty.ensures.1;
+      known = no-value _ _ c.from_residual-in_err-mk_ty.result c.from_residual-in_err-mk_ty.ensures.1;
+      failed = fault-error _ _ c.from_residual-in_err-mk_ty.result c.from_residual-in_err-mk_ty.ensures.1
+          (λ q. refused-term types (omega arith) (c.in_err-mk_ty.ensures.full (ap Err q)) c.mk_ty.ensures.limit c.in_err-mk_ty.ensures.refused);
+    }
+
+pub walk_tys-returns-in_err-old : goal.walk_tys-returns-in_err-old
+walk_tys-returns-in_err-old g t c =
+    record {
+      keeps = (λ i e h. h);
+      limit = refl;
+      folded = no-value _ _ c.from_residual.result c.from_residual.ensures.1;
+      whole = no-value _ _ c.from_residual.result c.from_residual.ensures.1;
+      known = no-value _ _ c.from_residual.result c.from_residual.ensures.1;
+      failed = memory-error _ _ _ _ c.from_residual.result c.from_residual.ensures.1 c.in_err-old.ensures.memory;
+    }
+
+pub walk_tys-returns-in_err-append : goal.walk_tys-returns-in_err-append
+walk_tys-returns-in_err-append g t c =
+    record {
+      keeps = (λ j e h. c.walk_ty.ensures.keeps j e (c.loop-ty.invariant.0 j e h));
+      limit = c.walk_ty.ensures.limit ∙ c.loop-ty.invariant.8;
+      folded = no-value _ _ c.from_residual-in_err-append.result c.from_residual-in_err-append.ensures.1;
+      whole = no-value _ _ c.from_residual-in_err-append.result c.from_residual-in_err-append.ensures.1;
+      known = no-value _ _ c.from_residual-in_err-append.result c.from_residual-in_err-append.ensures.1;
+      failed = memory-error _ _ _ _ c.from_residual-in_err-append.result c.from_residual-in_err-append.ensures.1 c.in_err-append.ensures.memory;
+    }
+
+pub walk_tys-returns-in_err-mk_tys : goal.walk_tys-returns-in_err-mk_tys
+walk_tys-returns-in_err-mk_tys g t c =
+    record {
+      keeps = (λ j e h. c.mk_tys.ensures.keeps j e (c.loop-ty.invariant.0 j e h));
+      limit = c.mk_tys.ensures.limit ∙ c.loop-ty.invariant.8;
+      folded = no-value _ _ c.from_residual-in_err-mk_tys.result c.from_residual-in_err-mk_tys.ensures.1;
+      whole = no-value _ _ c.from_residual-in_err-mk_tys.result c.from_residual-in_err-mk_tys.ensures.1;
+      known = no-value _ _ c.from_residual-in_err-mk_tys.result c.from_residual-in_err-mk_tys.ensures.1;
+      failed = fault-error _ _ c.from_residual-in_err-mk_tys.result c.from_residual-in_err-mk_tys.ensures.1
+          (λ q. refused-term type_lists (omega arith) (c.in_err-mk_tys.ensures.full (ap Err q)) c.mk_tys.ensures.limit c.in_err-mk_tys.ensures.refused);
+    }
+
+pub walk_args-returns-in_err-old : goal.walk_args-returns-in_err-old
+walk_args-returns-in_err-old g t c =
+    record {
+      keeps = (λ i e h. h);
+      limit = refl;
+      folded = no-value _ _ c.from_residual.result c.from_residual.ensures.1;
+      known = no-value _ _ c.from_residual.result c.from_residual.ensures.1;
+      failed = memory-error _ _ _ _ c.from_residual.result c.from_residual.ensures.1 c.in_err-old.ensures.memory;
+    }
+
+pub walk_args-returns-in_err-append : goal.walk_args-returns-in_err-append
+walk_args-returns-in_err-append g t c =
+    record {
+      keeps = (λ j e h. c.walk_arg.ensures.keeps j e (c.loop-arg.invariant.0 j e h));
+      limit = c.walk_arg.ensures.limit ∙ c.loop-arg.invariant.7;
+      folded = no-value _ _ c.from_residual-in_err-append.result c.from_residual-in_err-append.ensures.1;
+      known = no-value _ _ c.from_residual-in_err-append.result c.from_residual-in_err-append.ensures.1;
+      failed = memory-error _ _ _ _ c.from_residual-in_err-append.result c.from_residual-in_err-append.ensures.1 c.in_err-append.ensures.memory;
+    }
+
+pub walk_args-returns-in_err-mk_args : goal.walk_args-returns-in_err-mk_args
+walk_args-returns-in_err-mk_args g t c =
+    record {
+      keeps = (λ j e h. c.mk_args.ensures.keeps j e (c.loop-arg.invariant.0 j e h));
+      limit = c.mk_args.ensures.limit ∙ c.loop-arg.invariant.7;
+      folded = no-value _ _ c.from_residual-in_err-mk_args.result c.from_residual-in_err-mk_args.ensures.1;
+      known = no-value _ _ c.from_residual-in_err-mk_args.result c.from_residual-in_err-mk_args.ensures.1;
+      failed = fault-error _ _ c.from_residual-in_err-mk_args.result c.from_residual-in_err-mk_args.ensures.1
+          (λ q. refused-term args_lists (omega arith) (c.in_err-mk_args.ensures.full (ap Err q)) c.mk_args.ensures.limit c.in_err-mk_args.ensures.refused);
+    }
+
+pub walk_bounds-returns-in_err-autos : goal.walk_bounds-returns-in_err-autos
+walk_bounds-returns-in_err-autos g t c =
+    record {
+      keeps = (λ i e h. h);
+      limit = refl;
+      folded = no-value _ _ c.from_residual.result c.from_residual.ensures.1;
+      known = no-value _ _ c.from_residual.result c.from_residual.ensures.1;
+      failed = memory-error _ _ _ _ c.from_residual.result c.from_residual.ensures.1 c.in_err-autos.ensures.memory;
+    }
+
+pub walk_bounds-returns-in_err-mk_bounds : goal.walk_bounds-returns-in_err-mk_bounds
+walk_bounds-returns-in_err-mk_bounds g t c =
+    record {
+      keeps = (λ j e h. c.mk_bounds.ensures.keeps j e (c.walk_principal.ensures.keeps j e h));
+      limit = c.mk_bounds.ensures.limit ∙ c.walk_principal.ensures.limit;
+      folded = no-value _ _ c.from_residual-in_err-mk_bounds.result c.from_residual-in_err-mk_bounds.ensures.1;
+      known = no-value _ _ c.from_residual-in_err-mk_bounds.result c.from_residual-in_err-mk_bounds.ensures.1;
+      failed = fault-error _ _ c.from_residual-in_err-mk_bounds.result c.from_residual-in_err-mk_bounds.ensures.1
+          (λ q. refused-term bounds_lists (omega arith) (c.in_err-mk_bounds.ensures.full (ap Err q)) c.mk_bounds.ensures.limit c.in_err-mk_bounds.ensures.refused);
+    }
+
+pub walk_kind-returns-in_err-walk_args-in-Adt : goal.walk_kind-returns-in_err-walk_args-in-Adt
+walk_kind-returns-in_err-walk_args-in-Adt g t c =
+    record {
+      keeps = c.walk_args.ensures.keeps;
+      limit = c.walk_args.ensures.limit;
+      held = no-value _ _ c.from_residual.result c.from_residual.ensures.1;
+      folded = no-value _ _ c.from_residual.result c.from_residual.ensures.1;
+      known = no-value _ _ c.from_residual.result c.from_residual.ensures.1;
+      failed = same-error _ _ c.from_residual.result c.from_residual.ensures.1 c.in_err-walk_args-in-Adt.ensures.failed;
+    }
+
+pub walk_kind-returns-in_err-region-in-Ref : goal.walk_kind-returns-in_err-region-in-Ref
+walk_kind-returns-in_err-region-in-Ref g t c =
+    record {
+      keeps = (λ i e h. h);
+      limit = refl;
+      held = no-value _ _ c.from_residual-in_err-region-in-Ref.result c.from_residual-in_err-region-in-Ref.ensures.1;
+      folded = no-value _ _ c.from_residual-in_err-region-in-Ref.result c.from_residual-in_err-region-in-Ref.ensures.1;
+      known = no-value _ _ c.from_residual-in_err-region-in-Ref.result c.from_residual-in_err-region-in-Ref.ensures.1;
+      failed = same-error _ _ c.from_residual-in_err-region-in-Ref.result c.from_residual-in_err-region-in-Ref.ensures.1 c.in_err-region-in-Ref.ensures.failed;
+    }
+
+pub walk_kind-returns-in_err-walk_ty-in-Ref : goal.walk_kind-returns-in_err-walk_ty-in-Ref
+walk_kind-returns-in_err-walk_ty-in-Ref g t c =
+    record {
+      keeps = c.walk_ty.ensures.keeps;
+      limit = c.walk_ty.ensures.limit;
+      held = no-value _ _ c.from_residual-in_err-walk_ty-in-Ref.result c.from_residual-in_err-walk_ty-in-Ref.ensures.1;
+      folded = no-value _ _ c.from_residual-in_err-walk_ty-in-Ref.result c.from_residual-in_err-walk_ty-in-Ref.ensures.1;
+      known = no-value _ _ c.from_residual-in_err-walk_ty-in-Ref.result c.from_residual-in_err-walk_ty-in-Ref.ensures.1;
+      failed = same-error _ _ c.from_residual-in_err-walk_ty-in-Ref.result c.from_residual-in_err-walk_ty-in-Ref.ensures.1 c.in_err-walk_ty-in-Ref.ensures.failed;
+    }
+
+pub walk_kind-returns-in_err-walk_ty-in-RawPtr : goal.walk_kind-returns-in_err-walk_ty-in-RawPtr
+walk_kind-returns-in_err-walk_ty-in-RawPtr g t c =
+    record {
+      keeps = c.walk_ty-in-RawPtr.ensures.keeps;
+      limit = c.walk_ty-in-RawPtr.ensures.limit;
+      held = no-value _ _ c.from_residual-in_err-walk_ty-in-RawPtr.result c.from_residual-in_err-walk_ty-in-RawPtr.ensures.1;
+      folded = no-value _ _ c.from_residual-in_err-walk_ty-in-RawPtr.result c.from_residual-in_err-walk_ty-in-RawPtr.ensures.1;
+      known = no-value _ _ c.from_residual-in_err-walk_ty-in-RawPtr.result c.from_residual-in_err-walk_ty-in-RawPtr.ensures.1;
+      failed = same-error _ _ c.from_residual-in_err-walk_ty-in-RawPtr.result c.from_residual-in_err-walk_ty-in-RawPtr.ensures.1 c.in_err-walk_ty-in-RawPtr.ensures.failed;
+    }
+
+pub walk_kind-returns-in_err-item-in-Array : goal.walk_kind-returns-in_err-item-in-Array
+walk_kind-returns-in_err-item-in-Array g t c =
+    record {
+      keeps = c.walk_ty-in-Array.ensures.keeps;
+      limit = c.walk_ty-in-Array.ensures.limit;
+      held = no-value _ _ c.from_residual-in_err-item-in-Array.result c.from_residual-in_err-item-in-Array.ensures.1;
+      folded = no-value _ _ c.from_residual-in_err-item-in-Array.result c.from_residual-in_err-item-in-Array.ensures.1;
+      known = no-value _ _ c.from_residual-in_err-item-in-Array.result c.from_residual-in_err-item-in-Array.ensures.1;
+      failed = same-error _ _ c.from_residual-in_err-item-in-Array.result c.from_residual-in_err-item-in-Array.ensures.1 c.in_err-item-in-Array.ensures.failed;
+    }
+
+pub walk_kind-returns-in_err-fold_const-in-Array : goal.walk_kind-returns-in_err-fold_const-in-Array
+walk_kind-returns-in_err-fold_const-in-Array g t c =
+    record {
+      keeps = (λ j e h. c.fold_const.ensures.keeps j e (c.walk_ty-in-Array.ensures.keeps j e h));
+      limit = c.fold_const.ensures.limit ∙ c.walk_ty-in-Array.ensures.limit;
+      held = no-value _ _ c.from_residual-in_err-fold_const-in-Array.result c.from_residual-in_err-fold_const-in-Array.ensures.1;
+      folded = no-value _ _ c.from_residual-in_err-fold_const-in-Array.result c.from_residual-in_err-fold_const-in-Array.ensures.1;
+      known = no-value _ _ c.from_residual-in_err-fold_const-in-Array.result c.from_residual-in_err-fold_const-in-Array.ensures.1;
+      failed = same-error _ _ c.from_residual-in_err-fold_const-in-Array.result c.from_residual-in_err-fold_const-in-Array.ensures.1 c.in_err-fold_const-in-Array.ensures.failed;
+    }
+
+pub walk_kind-returns-in_err-walk_ty-in-Slice : goal.walk_kind-returns-in_err-walk_ty-in-Slice
+walk_kind-returns-in_err-walk_ty-in-Slice g t c =
+    record {
+      keeps = c.walk_ty-in-Slice.ensures.keeps;
+      limit = c.walk_ty-in-Slice.ensures.limit;
+      held = no-value _ _ c.from_residual-in_err-walk_ty-in-Slice.result c.from_residual-in_err-walk_ty-in-Slice.ensures.1;
+      folded = no-value _ _ c.from_residual-in_err-walk_ty-in-Slice.result c.from_residual-in_err-walk_ty-in-Slice.ensures.1;
+      known = no-value _ _ c.from_residual-in_err-walk_ty-in-Slice.result c.from_residual-in_err-walk_ty-in-Slice.ensures.1;
+      failed = same-error _ _ c.from_residual-in_err-walk_ty-in-Slice.result c.from_residual-in_err-walk_ty-in-Slice.ensures.1 c.in_err-walk_ty-in-Slice.ensures.failed;
+    }
+
+pub walk_kind-returns-in_err-walk_tys-in-Tuple : goal.walk_kind-returns-in_err-walk_tys-in-Tuple
+walk_kind-returns-in_err-walk_tys-in-Tuple g t c =
+    record {
+      keeps = c.walk_tys.ensures.keeps;
+      limit = c.walk_tys.ensures.limit;
+      held = no-value _ _ c.from_residual-in_err-walk_tys-in-Tuple.result c.from_residual-in_err-walk_tys-in-Tuple.ensures.1;
+      folded = no-value _ _ c.from_residual-in_err-walk_tys-in-Tuple.result c.from_residual-in_err-walk_tys-in-Tuple.ensures.1;
+      known = no-value _ _ c.from_residual-in_err-walk_tys-in-Tuple.result c.from_residual-in_err-walk_tys-in-Tuple.ensures.1;
+      failed = same-error _ _ c.from_residual-in_err-walk_tys-in-Tuple.result c.from_residual-in_err-walk_tys-in-Tuple.ensures.1 c.in_err-walk_tys-in-Tuple.ensures.failed;
+    }
+
+pub walk_kind-returns-in_err-walk_tys-in-FnPtr : goal.walk_kind-returns-in_err-walk_tys-in-FnPtr
+walk_kind-returns-in_err-walk_tys-in-FnPtr g t c =
+    record {
+      keeps = c.walk_tys-in-FnPtr.ensures.keeps;
+      limit = c.walk_tys-in-FnPtr.ensures.limit;
+      held = no-value _ _ c.from_residual-in_err-walk_tys-in-FnPtr.result c.from_residual-in_err-walk_tys-in-FnPtr.ensures.1;
+      folded = no-value _ _ c.from_residual-in_err-walk_tys-in-FnPtr.result c.from_residual-in_err-walk_tys-in-FnPtr.ensures.1;
+      known = no-value _ _ c.from_residual-in_err-walk_tys-in-FnPtr.result c.from_residual-in_err-walk_tys-in-FnPtr.ensures.1;
+      failed = same-error _ _ c.from_residual-in_err-walk_tys-in-FnPtr.result c.from_residual-in_err-walk_tys-in-FnPtr.ensures.1 c.in_err-walk_tys-in-FnPtr.ensures.failed;
+    }
+
+pub walk_kind-returns-in_err-region-in-Dynamic : goal.walk_kind-returns-in_err-region-in-Dynamic
+walk_kind-returns-in_err-region-in-Dynamic g t c =
+    record {
+      keeps = (λ i e h. h);
+      limit = refl;
+      held = no-value _ _ c.from_residual-in_err-region-in-Dynamic.result c.from_residual-in_err-region-in-Dynamic.ensures.1;
+      folded = no-value _ _ c.from_residual-in_err-region-in-Dynamic.result c.from_residual-in_err-region-in-Dynamic.ensures.1;
+      known = no-value _ _ c.from_residual-in_err-region-in-Dynamic.result c.from_residual-in_err-region-in-Dynamic.ensures.1;
+      failed = same-error _ _ c.from_residual-in_err-region-in-Dynamic.result c.from_residual-in_err-region-in-Dynamic.ensures.1 c.in_err-region-in-Dynamic.ensures.failed;
+    }
+
+pub walk_kind-returns-in_err-walk_bounds-in-Dynamic : goal.walk_kind-returns-in_err-walk_bounds-in-Dynamic
+walk_kind-returns-in_err-walk_bounds-in-Dynamic g t c =
+    record {
+      keeps = c.walk_bounds.ensures.keeps;
+      limit = c.walk_bounds.ensures.limit;
+      held = no-value _ _ c.from_residual-in_err-walk_bounds-in-Dynamic.result c.from_residual-in_err-walk_bounds-in-Dynamic.ensures.1;
+      folded = no-value _ _ c.from_residual-in_err-walk_bounds-in-Dynamic.result c.from_residual-in_err-walk_bounds-in-Dynamic.ensures.1;
+      known = no-value _ _ c.from_residual-in_err-walk_bounds-in-Dynamic.result c.from_residual-in_err-walk_bounds-in-Dynamic.ensures.1;
+      failed = same-error _ _ c.from_residual-in_err-walk_bounds-in-Dynamic.result c.from_residual-in_err-walk_bounds-in-Dynamic.ensures.1 c.in_err-walk_bounds-in-Dynamic.ensures.failed;
+    }
+
+pub walk_arg-returns-in_err-fold_region-in-Lifetime : goal.walk_arg-returns-in_err-fold_region-in-Lifetime
+walk_arg-returns-in_err-fold_region-in-Lifetime g t c =
+    record {
+      keeps = (λ i e h. h);
+      limit = refl;
+      held = no-value _ _ c.from_residual.result c.from_residual.ensures.1;
+      folded = no-value _ _ c.from_residual.result c.from_residual.ensures.1;
+      known = no-value _ _ c.from_residual.result c.from_residual.ensures.1;
+      failed = same-error _ _ c.from_residual.result c.from_residual.ensures.1 c.in_err-fold_region-in-Lifetime.ensures.failed;
+    }
+
+pub walk_arg-returns-in_err-walk_ty-in-Ty : goal.walk_arg-returns-in_err-walk_ty-in-Ty
+walk_arg-returns-in_err-walk_ty-in-Ty g t c =
+    record {
+      keeps = c.walk_ty.ensures.keeps;
+      limit = c.walk_ty.ensures.limit;
+      held = no-value _ _ c.from_residual-in_err-walk_ty-in-Ty.result c.from_residual-in_err-walk_ty-in-Ty.ensures.1;
+      folded = no-value _ _ c.from_residual-in_err-walk_ty-in-Ty.result c.from_residual-in_err-walk_ty-in-Ty.ensures.1;
+      known = no-value _ _ c.from_residual-in_err-walk_ty-in-Ty.result c.from_residual-in_err-walk_ty-in-Ty.ensures.1;
+      failed = same-error _ _ c.from_residual-in_err-walk_ty-in-Ty.result c.from_residual-in_err-walk_ty-in-Ty.ensures.1 c.in_err-walk_ty-in-Ty.ensures.failed;
+    }
+
+pub walk_arg-returns-in_err-fold_const-in-Const : goal.walk_arg-returns-in_err-fold_const-in-Const
+walk_arg-returns-in_err-fold_const-in-Const g t c =
+    record {
+      keeps = c.fold_const.ensures.keeps;
+      limit = c.fold_const.ensures.limit;
+      held = no-value _ _ c.from_residual-in_err-fold_const-in-Const.result c.from_residual-in_err-fold_const-in-Const.ensures.1;
+      folded = no-value _ _ c.from_residual-in_err-fold_const-in-Const.result c.from_residual-in_err-fold_const-in-Const.ensures.1;
+      known = no-value _ _ c.from_residual-in_err-fold_const-in-Const.result c.from_residual-in_err-fold_const-in-Const.ensures.1;
+      failed = same-error _ _ c.from_residual-in_err-fold_const-in-Const.result c.from_residual-in_err-fold_const-in-Const.ensures.1 c.in_err-fold_const-in-Const.ensures.failed;
+    }
+
+pub walk_arg-returns-in_ok-fold_region-in-Lifetime : goal.walk_arg-returns-in_ok-fold_region-in-Lifetime
+walk_arg-returns-in_ok-fold_region-in-Lifetime g t c =
+    record {
+      keeps = (λ i e h. h);
+      limit = refl;
+      held = c.in_ok-fold_region-in-Lifetime.ensures.held;
+      folded = rw c.in-Lifetime.is c.in_ok-fold_region-in-Lifetime.ensures.folded;
+      known = c.requires.known;
+      failed = tt;
+    }
+
+pub walk_arg-returns-in_ok-walk_ty-in-Ty : goal.walk_arg-returns-in_ok-walk_ty-in-Ty
+walk_arg-returns-in_ok-walk_ty-in-Ty g t c =
+    record {
+      keeps = c.walk_ty.ensures.keeps;
+      limit = c.walk_ty.ensures.limit;
+      held = c.in_ok-walk_ty-in-Ty.ensures.folded.has;
+      folded = rw c.in-Ty.is c.in_ok-walk_ty-in-Ty.ensures.folded.folded;
+      known = c.in_ok-walk_ty-in-Ty.ensures.known;
+      failed = tt;
+    }
+
+pub walk_arg-returns-in_ok-fold_const-in-Const : goal.walk_arg-returns-in_ok-fold_const-in-Const
+walk_arg-returns-in_ok-fold_const-in-Const g t c =
+    record {
+      keeps = c.fold_const.ensures.keeps;
+      limit = c.fold_const.ensures.limit;
+      held = c.in_ok-fold_const-in-Const.ensures.folded.has;
+      folded = rw c.in-Const.is c.in_ok-fold_const-in-Const.ensures.folded.folded;
+      known = (let es = c.args.cx.now.entries in
+          let es1 = c.fold_const.new.cx.entries in
+          let law = g.met.F.FallibleTypeFolder.action_kept c.args.folder.now es es1 c.fold_const.ensures.keeps c.requires.ready in
+          remembers-later _ (g.F.FallibleTypeFolder.action c.args.folder.now es1) es es1 c.args.memo.now c.fold_const.ensures.keeps law c.requires.known);
+      failed = tt;
+    }
+
+pub walk_ty-returns-in_err-try_fold_ty : goal.walk_ty-returns-in_err-try_fold_ty
+walk_ty-returns-in_err-try_fold_ty g t c =
+    record {
+      keeps = c.try_fold_ty.ensures.keeps;
+      limit = c.try_fold_ty.ensures.limit;
+      folded = no-value _ _ c.from_residual.result c.from_residual.ensures.1;
+      known = no-value _ _ c.from_residual.result c.from_residual.ensures.1;
+      failed = same-error _ _ c.from_residual.result c.from_residual.ensures.1 c.in_err-try_fold_ty.ensures.failed;
+    }
+
+pub walk_ty-returns-in_err-folded-in-Enter : goal.walk_ty-returns-in_err-folded-in-Enter
+walk_ty-returns-in_err-folded-in-Enter g t c =
+    record {
+      keeps = (λ j e h. c.super_walk_ty.ensures.keeps j e (c.try_fold_ty.ensures.keeps j e h));
+      limit = c.super_walk_ty.ensures.limit ∙ c.try_fold_ty.ensures.limit;
+      folded = no-value _ _ c.from_residual-in_err-folded-in-Enter.result c.from_residual-in_err-folded-in-Enter.ensures.1;
+      known = no-value _ _ c.from_residual-in_err-folded-in-Enter.result c.from_residual-in_err-folded-in-Enter.ensures.1;
+      failed = same-error _ _ c.from_residual-in_err-folded-in-Enter.result c.from_residual-in_err-folded-in-Enter.ensures.1 c.in_err-folded-in-Enter.ensures.failed;
+    }
+
+pub super_walk_ty-returns-in_err-folded : goal.super_walk_ty-returns-in_err-folded
+super_walk_ty-returns-in_err-folded g t c =
+    record {
+      keeps = c.walk_kind.ensures.keeps;
+      limit = c.walk_kind.ensures.limit;
+      folded = no-value _ _ c.from_residual.result c.from_residual.ensures.1;
+      known = no-value _ _ c.from_residual.result c.from_residual.ensures.1;
+      failed = same-error _ _ c.from_residual.result c.from_residual.ensures.1 c.in_err-folded.ensures.failed;
+    }
+
+pub walk_tys-returns-in_err-folded : goal.walk_tys-returns-in_err-folded
+walk_tys-returns-in_err-folded g t c =
+    record {
+      keeps = (λ j e h. c.walk_ty.ensures.keeps j e (c.loop-ty.invariant.0 j e h));
+      limit = c.walk_ty.ensures.limit ∙ c.loop-ty.invariant.8;
+      folded = no-value _ _ c.from_residual-in_err-folded.result c.from_residual-in_err-folded.ensures.1;
+      whole = no-value _ _ c.from_residual-in_err-folded.result c.from_residual-in_err-folded.ensures.1;
+      known = no-value _ _ c.from_residual-in_err-folded.result c.from_residual-in_err-folded.ensures.1;
+      failed = same-error _ _ c.from_residual-in_err-folded.result c.from_residual-in_err-folded.ensures.1 c.in_err-folded.ensures.failed;
+    }
+
+pub walk_args-returns-in_err-folded : goal.walk_args-returns-in_err-folded
+walk_args-returns-in_err-folded g t c =
+    record {
+      keeps = (λ j e h. c.walk_arg.ensures.keeps j e (c.loop-arg.invariant.0 j e h));
+      limit = c.walk_arg.ensures.limit ∙ c.loop-arg.invariant.7;
+      folded = no-value _ _ c.from_residual-in_err-folded.result c.from_residual-in_err-folded.ensures.1;
+      known = no-value _ _ c.from_residual-in_err-folded.result c.from_residual-in_err-folded.ensures.1;
+      failed = same-error _ _ c.from_residual-in_err-folded.result c.from_residual-in_err-folded.ensures.1 c.in_err-folded.ensures.failed;
+    }
+
+pub walk_bounds-returns-in_err-principal : goal.walk_bounds-returns-in_err-principal
+walk_bounds-returns-in_err-principal g t c =
+    record {
+      keeps = c.walk_principal.ensures.keeps;
+      limit = c.walk_principal.ensures.limit;
+      folded = no-value _ _ c.from_residual-in_err-principal.result c.from_residual-in_err-principal.ensures.1;
+      known = no-value _ _ c.from_residual-in_err-principal.result c.from_residual-in_err-principal.ensures.1;
+      failed = same-error _ _ c.from_residual-in_err-principal.result c.from_residual-in_err-principal.ensures.1 c.in_err-principal.ensures.failed;
+    }
+
+pub walk_principal-returns-in_err-args-in-Some : goal.walk_principal-returns-in_err-args-in-Some
+walk_principal-returns-in_err-args-in-Some g t c =
+    record {
+      keeps = c.walk_args.ensures.keeps;
+      limit = c.walk_args.ensures.limit;
+      held = no-value _ _ c.from_residual.result c.from_residual.ensures.1;
+      folded = no-value _ _ c.from_residual.result c.from_residual.ensures.1;
+      known = no-value _ _ c.from_residual.result c.from_residual.ensures.1;
+      failed = same-error _ _ c.from_residual.result c.from_residual.ensures.1 c.in_err-args-in-Some.ensures.failed;
+    }

@@ -1,4 +1,4 @@
-use Rattle.text_reader.proofs.Taking.{other_byte_gives, blank_gives, unwritten_gives, faulty_gives, added_gives, read_short}
+use Rattle.text_reader.proofs.Taking.{other_byte_gives, blank_gives, unwritten_gives, read_gives, read_short}
 use Rattle.text_reader.proofs.text.take_line.Goals as goal
 
 pub returns-in-OtherByte-clause-gives : goal.returns-in-OtherByte-clause-gives
@@ -10,11 +10,8 @@ returns-in-Unwritten-clause-gives g c = unwritten_gives _ _ _ c.in_ok-line_form.
 pub returns-in-Blank-clause-gives : goal.returns-in-Blank-clause-gives
 returns-in-Blank-clause-gives g c = blank_gives _ _ _ c.in_ok-line_form.ensures c.in-Blank.is
 
-pub returns-in-Some-clause-gives : goal.returns-in-Some-clause-gives
-returns-in-Some-clause-gives g c = faulty_gives _ _ _ c.in-Read.read _ c.in-Some.kind c.in_ok-line_form.ensures c.in-Read.is c.in_ok-kind-in-Read.ensures c.in-Some.is
+pub take_read-requires-clause-short : goal.take_read-requires-clause-short
+take_read-requires-clause-short g c = read_short c.args.line.now _ c.in-Read.read 1048576 c.in_ok-line_form.ensures c.in-Read.is c.requires.short
 
-pub returns-in_ok-declare-in-Read-clause-gives : goal.returns-in_ok-declare-in-Read-clause-gives
-returns-in_ok-declare-in-Read-clause-gives g c = added_gives _ _ _ _ c.in-Read.read _ c.in_ok-line_form.ensures c.in-Read.is c.in_ok-kind-in-Read.ensures c.in_default.is c.in_ok-declare-in-Read.ensures.added
-
-pub declare-requires-clause-short : goal.declare-requires-clause-short
-declare-requires-clause-short g c = read_short c.args.line.now _ c.in-Read.read 1048576 c.in_ok-line_form.ensures c.in-Read.is c.requires.short
+pub returns-in-Read-clause-gives : goal.returns-in-Read-clause-gives
+returns-in-Read-clause-gives g c = read_gives _ _ _ _ c.in-Read.read _ c.in_ok-line_form.ensures c.in-Read.is c.take_read.ensures.finds c.take_read.ensures.added

@@ -1,7 +1,9 @@
-use Rattle.std.proofs.Common.{◌≡◌, [], suc, drop, subst, ap, Err}
+use Rattle.std.proofs.Common.{◌≡◌, [], ◌∷◌, suc, ◌+◌, length, map, drop, sym, ◌∙◌, subst, ap, arith, Some, Err}
 use Rattle.workspace.specs.Made.{parts_of}
-use Rattle.workspace.specs.Stack.{parts_in}
-use Rattle.workspace.proofs.CellLists.{drop-more, next-made, cell-held}
+use Rattle.workspace.specs.TermCells.{behind_cells}
+use Rattle.workspace.specs.Views.{cells_of}
+use Rattle.workspace.specs.Stack.{part_of, stack_of, parts_in, trees_of_stack, StackHeld}
+use Rattle.workspace.proofs.CellLists.{drop-more, drop-all, next-made, cell-held, parts-further, trees-further}
 use Rattle.workspace.proofs.Refusals.{handed-on}
 use Rattle.workspace.proofs.lists.lower_cells.Goals as goal
 
@@ -21,3 +23,43 @@ lower_cell-requires c =
 
 pub returns-in_err-term-clause-full : goal.returns-in_err-term-clause-full
 returns-in_err-term-clause-full c = handed-on c.from_residual.result c.from_residual.ensures.1 (λ p. c.in_err-term.ensures.full (ap Err p))
+
+pub loop-cell-preserved : goal.loop-cell-preserved
+loop-cell-preserved c =
+    let cells = c.args.cells.now in
+    let i = c.loop-cell.cell-index in
+    let x = c.cell-item.result in
+    let S = stack_of c.loop-cell.stack.items in
+    let R = stack_of c.lower_cell.new.stack.items in
+    let t = c.in_ok-term.term in
+    let es = c.loop-cell.cx.entries in
+    let es1 = c.lower_cell.new.cx.entries in
+    let inv = c.loop-cell.invariant in
+    let low = c.in_ok-term.ensures.lowers in
+    let rest = drop (suc i) cells in
+    let more = drop-more cells i x c.loop-cell-test.true c.cell-item.is in
+    let behind : i + 1 ≡ suc i = omega arith in
+    record {
+      parts =
+          subst (λ n. parts_of (drop n cells) (parts_in c.push.new.stack.items) ≡ parts_of cells []) (sym behind)
+          (ap (λ s. parts_of rest (map part_of s)) c.in_ok-push.ensures ∙ parts-further x rest es es1 S R t low ∙ ap (λ cs. parts_of cs (map part_of S)) (sym more) ∙ inv.parts);
+      trees =
+          subst (λ n. behind_cells (cells_of (drop n cells)) (trees_of_stack es1 (stack_of c.push.new.stack.items)) ≡ behind_cells (cells_of cells) []) (sym behind)
+          (ap (λ s. behind_cells (cells_of rest) (trees_of_stack es1 s)) c.in_ok-push.ensures ∙ trees-further x rest es es1 S R t low
+          ∙ ap (λ cs. behind_cells (cells_of cs) (trees_of_stack es S)) (sym more) ∙ inv.trees);
+      held = subst (StackHeld es1) (sym c.in_ok-push.ensures) (low.term_held, low.stack_held);
+      keeps = λ j e h. c.lower_cell.ensures.keeps j e (inv.keeps j e h);
+      limit = c.lower_cell.ensures.limit ∙ inv.limit;
+    }
+
+pub returns-clause-parts : goal.returns-clause-parts
+returns-clause-parts c =
+    let i = c.loop-cell.cell-index in
+    let done : length c.args.cells.now ≡ i = omega (arith, c.loop-cell-test.false, c.loop-cell.auto.cell-index-end) in
+    sym c.loop-cell.invariant.parts ∙ ap (λ cs. parts_of cs (parts_in c.loop-cell.stack.items)) (drop-all c.args.cells.now i done)
+
+pub returns-clause-trees : goal.returns-clause-trees
+returns-clause-trees c =
+    let i = c.loop-cell.cell-index in
+    let done : length c.args.cells.now ≡ i = omega (arith, c.loop-cell-test.false, c.loop-cell.auto.cell-index-end) in
+    sym c.loop-cell.invariant.trees ∙ ap (λ cs. behind_cells (cells_of cs) (trees_of_stack c.loop-cell.cx.entries (stack_of c.loop-cell.stack.items))) (drop-all c.args.cells.now i done)

@@ -1,5 +1,5 @@
-use Rattle.std.proofs.Common.{◌≡◌, ◌∙◌, inl, Some, slice_get}
-use Rattle.std.proofs.lemmas.Option.{get_or_from_slice_get, MatchOption-at_some}
+use Rattle.std.proofs.Common.{◌≡◌, ◌∙◌, sym, ap, inl, Some, slice_get}
+use Rattle.std.proofs.lemmas.Option.{get_or_from_slice_get, MatchOption-at_some, none-some, same_Some}
 use Rattle.search_graph.specs.Stack.{IsWithin}
 use Rattle.search_graph.proofs.Graphs.{Keeps-refl, last_answers, initial_answers}
 use Rattle.search_graph.proofs.Graphs.{IsEntry-at}
@@ -72,3 +72,45 @@ returns-in_ok-answer-in-Some-clause-within g c =
 
 pub returns-in_ok-answer-in-None-clause-within : goal.returns-in_ok-answer-in-None-clause-within
 returns-in_ok-answer-in-None-clause-within g c = λ before last. record { how = inl (inl (c.args.cycle.path_kind, c.in_ok-answer-in-None.ensures.is.1)) }
+
+pub returns-in_ok-answer-in-Some-clause-lowest : goal.returns-in_ok-answer-in-Some-clause-lowest
+returns-in_ok-answer-in-Some-clause-lowest g c =
+    let es = c.args.self.now.stack.items in
+    let same : (e : _) → slice_get es c.args.cycle.index ≡ Some e → c.index-entry.result.now ≡ e = λ e h. c.index-entry.ensures ∙ get_or_from_slice_get es c.args.cycle.index e c.index-entry.result.now h in
+    λ e h. ap (λ entry. entry.lowest) (same e h)
+
+pub returns-in_ok-answer-in-Some-clause-last : goal.returns-in_ok-answer-in-Some-clause-last
+returns-in_ok-answer-in-Some-clause-last g c =
+    let es = c.args.self.now.stack.items in
+    let same : (e : _) → slice_get es c.args.cycle.index ≡ Some e → c.index-entry.result.now ≡ e = λ e h. c.index-entry.ensures ∙ get_or_from_slice_get es c.args.cycle.index e c.index-entry.result.now h in
+    λ e last h is. c.in_ok-answer-in-Some.ensures.copy ∙ same_Some _ _ (sym c.in-Some.is ∙ ap (λ entry. entry.provisional_result) (same e h) ∙ is)
+
+pub returns-in_ok-answer-in-Some-clause-first : goal.returns-in_ok-answer-in-Some-clause-first
+returns-in_ok-answer-in-Some-clause-first g c =
+    let es = c.args.self.now.stack.items in
+    let same : (e : _) → slice_get es c.args.cycle.index ≡ Some e → c.index-entry.result.now ≡ e = λ e h. c.index-entry.ensures ∙ get_or_from_slice_get es c.args.cycle.index e c.index-entry.result.now h in
+    λ e h is. absurd (none-some _ (sym is ∙ sym (ap (λ entry. entry.provisional_result) (same e h)) ∙ c.in-Some.is))
+
+pub returns-in_ok-answer-in-Some-clause-keeps : goal.returns-in_ok-answer-in-Some-clause-keeps
+returns-in_ok-answer-in-Some-clause-keeps g c =
+    Keeps-refl g.D.Delegate.meaning c.args.cx.now
+
+pub returns-in_ok-answer-in-None-clause-lowest : goal.returns-in_ok-answer-in-None-clause-lowest
+returns-in_ok-answer-in-None-clause-lowest g c =
+    let es = c.args.self.now.stack.items in
+    let same : (e : _) → slice_get es c.args.cycle.index ≡ Some e → c.index-entry.result.now ≡ e = λ e h. c.index-entry.ensures ∙ get_or_from_slice_get es c.args.cycle.index e c.index-entry.result.now h in
+    λ e h. ap (λ entry. entry.lowest) (same e h)
+
+pub returns-in_ok-answer-in-None-clause-last : goal.returns-in_ok-answer-in-None-clause-last
+returns-in_ok-answer-in-None-clause-last g c =
+    let es = c.args.self.now.stack.items in
+    let same : (e : _) → slice_get es c.args.cycle.index ≡ Some e → c.index-entry.result.now ≡ e = λ e h. c.index-entry.ensures ∙ get_or_from_slice_get es c.args.cycle.index e c.index-entry.result.now h in
+    λ e last h is. absurd (none-some _ (sym c.in-None.is ∙ ap (λ entry. entry.provisional_result) (same e h) ∙ is))
+
+pub returns-in_ok-answer-in-None-clause-first : goal.returns-in_ok-answer-in-None-clause-first
+returns-in_ok-answer-in-None-clause-first g c =
+    λ e h is. c.in_ok-answer-in-None.ensures.is.1
+
+pub returns-in_ok-answer-in-None-clause-keeps : goal.returns-in_ok-answer-in-None-clause-keeps
+returns-in_ok-answer-in-None-clause-keeps g c =
+    c.initial_provisional_result.ensures.keeps

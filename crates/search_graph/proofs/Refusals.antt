@@ -1,0 +1,12 @@
+-- What a refusal says of a result: a claim on what was found says nothing.
+use Rattle.std.proofs.Common.{◌≡◌, Result, Ok, Err}
+use Rattle.std.specs.Result.{IfOk, OnOk}
+use Rattle.search_graph.proofs.Errors.{ok_not_err}
+
+pub IfOk-err : {T E : Type 0} (P : T → Type 0) (r : Result T E) (y : E) → r ≡ Err y → IfOk r P
+IfOk-err P (Ok x) y h = absurd (ok_not_err x y h)
+IfOk-err P (Err e) y h = tt
+
+pub OnOk-err : {T E : Type 0} (P : Type 0) (r : Result T E) (y : E) → r ≡ Err y → OnOk r P
+OnOk-err P (Ok x) y h = absurd (ok_not_err x y h)
+OnOk-err P (Err e) y h = tt
