@@ -9,27 +9,18 @@ ghost use Rattle.root_goals.specs.Searching.{solver_meaning};
 ghost use Rattle.text_definitions.specs.Text.{TextGives};
 ghost use Rattle.candidate_assembly.specs.Ready as solver;
 
+use crate::solver::{Said, Solving, begin, evaluate};
 use crate::texts::{add_question, goal_at, read, view};
 use candidate_assembly::solver::Solver;
-use evaluation::{Certainty, HasChanged, TypingMode};
+use evaluation::TypingMode;
 use goal_frames::GoalHandler;
 use infer_table::goal::Goal;
 use infer_table::infer_ctxt::InferCtxt;
-use root_goals::{GoalEvaluation, RootError, SolverCx, SolverGraph, evaluate_root_goal};
-use search_graph::{GlobalCache, SearchGraph};
 use std::alloc::Global;
 use type_terms::Fault;
 use type_terms::interner::Interner;
 use type_terms::kinds::GenericArgs;
 use workspace::Workspace;
-
-/// What is said of a goal.
-#[derive(Clone, Copy, PartialEq, Eq)]
-pub(crate) enum Said {
-    Evaluated(Certainty, HasChanged),
-    Refused,
-    Conflict,
-}
 
 /// What is found of a goal: what is said of it, how many frames were started, and whether the goal is as it is wanted, with
 /// the values that its unknowns have got.
@@ -43,15 +34,25 @@ struct Posed {
     wanted: GenericArgs,
 }
 
-/// A table with two types and a constant that are unknown. No question here has more unknowns.
+/// Two unknown types and a constant. No question here has more unknowns.
+fn add_unknowns(cx: &mut Interner, table: &mut InferCtxt) -> Result<(), Fault>
+    requires { Ready cx.old.entries table.old }
+    ensures ready { Ready cx.new.entries table.new }
+    ensures keeps { Keeps cx.old.entries cx.new.entries }
+{
+    let _ = table.next_ty_var(cx)?;
+    let _ = table.next_ty_var(cx)?;
+    let _ = table.next_const_var(cx)?;
+    Ok(())
+}
+
+/// A table with these.
 fn table_of_unknowns(alloc: Global, cx: &mut Interner) -> Result<InferCtxt, Fault>
     ensures ready { IfOk result (λ table. Ready cx.new.entries table) }
     ensures keeps { Keeps cx.old.entries cx.new.entries }
 {
     let mut table = InferCtxt::new(alloc);
-    let _ = table.next_ty_var(cx)?;
-    let _ = table.next_ty_var(cx)?;
-    let _ = table.next_const_var(cx)?;
+    add_unknowns(cx, &mut table)?;
     Ok(table)
 }
 
@@ -116,16 +117,6 @@ fn read_case(alloc: Global, cx: &mut Interner, text: &[u8]) -> Result<Case, Faul
     case_of(alloc, cx, &workspace)
 }
 
-/// What the evaluation says.
-fn reading(evaluation: Result<GoalEvaluation, RootError>) -> Result<Said, Fault> {
-    match evaluation {
-        Ok(evaluation) => Ok(Said::Evaluated(evaluation.certainty, evaluation.has_changed)),
-        Err(RootError::NoSolution) => Ok(Said::Refused),
-        Err(RootError::Conflict) => Ok(Said::Conflict),
-        Err(RootError::Fault(fault)) => Err(fault),
-    }
-}
-
 /// Whether the goal, with the values of its table, has the arguments that are wanted.
 fn is_as_wanted(cx: &mut Interner, posed: &Posed) -> Result<bool, Fault>
     requires table { Ready cx.old.entries posed.now.table }
@@ -136,44 +127,8 @@ fn is_as_wanted(cx: &mut Interner, posed: &Posed) -> Result<bool, Fault>
     Ok(resolved == posed.wanted)
 }
 
-/// All that evaluations need.
-struct Solving<H: GoalHandler> {
-    cx: SolverCx<H>,
-    graph: SearchGraph<SolverGraph<H>>,
-    cache: GlobalCache<SolverGraph<H>>,
-}
-
-impl<H: GoalHandler + Drop> Drop for Solving<H> {
-    fn drop(self) {
-        let Solving {
-            cx: _,
-            graph: _,
-            cache: _,
-        } = self;
-    }
-}
-
-/// A solver that has met no goal yet, with the depth 8.
-fn begin<H: GoalHandler + Drop>(
-    alloc: Global,
-    interner: Interner,
-    handler: H,
-) -> Result<Solving<H>, Fault>
-    requires ready { H.ready handler interner.entries }
-    ensures ready { IfOk result (λ solving. IsReady H.ready solving.cx) }
-    ensures empty { IfOk result (λ solving. solving.graph.current_depth ≡ 0) }
-    ensures cache { IfOk result (λ solving. AreJustified (solver_meaning H.handled H.Rule H.coinductive H.ready H.meaning) solving.cx solving.cache) }
-    ensures interner { IfOk result (λ solving. solving.cx.interner ≡ interner) }
-{
-    Ok(Solving {
-        cx: SolverCx::new(alloc, interner, handler, 100),
-        graph: SearchGraph::new(alloc, 8)?,
-        cache: GlobalCache::new(alloc)?,
-    })
-}
-
 /// Evaluates the goal.
-fn evaluate<H: GoalHandler>(
+fn evaluate_posed<H: GoalHandler>(
     solving: &mut Solving<H>,
     mode: TypingMode,
     posed: &mut Posed,
@@ -184,17 +139,9 @@ fn evaluate<H: GoalHandler>(
     requires table { Ready solving.old.cx.interner.entries posed.old.table }
     requires goal { GoalHeld solving.old.cx.interner.entries posed.old.goal }
 {
-    let evaluation = evaluate_root_goal(
-        &mut solving.graph,
-        &mut solving.cache,
-        &mut solving.cx,
-        &mut posed.table,
-        mode,
-        &posed.goal,
-    );
-    let said = reading(evaluation)?;
+    let said = evaluate(solving, mode, &mut posed.table, &posed.goal)?;
     let is_wanted = is_as_wanted(&mut solving.cx.interner, posed)?;
-    Ok((said, solving.graph.frames(), is_wanted))
+    Ok((said.0, said.1, is_wanted))
 }
 
 /// Evaluates the goal by a handler that has met none yet.
@@ -209,9 +156,9 @@ fn evaluate_first<H: GoalHandler + Drop>(
     requires table { Ready interner.entries posed.table }
     requires goal { GoalHeld interner.entries posed.goal }
 {
-    let mut solving = begin(alloc, interner, handler)?;
+    let mut solving = begin(alloc, interner, handler, 8)?;
     let mut posed = posed;
-    evaluate(&mut solving, mode, &mut posed)
+    evaluate_posed(&mut solving, mode, &mut posed)
 }
 
 /// What is found of the first question of a text, which is to become the second one, in this mode.

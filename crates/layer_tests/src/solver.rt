@@ -102,15 +102,15 @@ fn value(cx: &Interner, posed: &Posed) -> TyKind
 }
 
 /// All that evaluations need.
-struct Solver<H: GoalHandler> {
-    cx: SolverCx<H>,
-    graph: SearchGraph<SolverGraph<H>>,
-    cache: GlobalCache<SolverGraph<H>>,
+pub(crate) struct Solving<H: GoalHandler> {
+    pub(crate) cx: SolverCx<H>,
+    pub(crate) graph: SearchGraph<SolverGraph<H>>,
+    pub(crate) cache: GlobalCache<SolverGraph<H>>,
 }
 
-impl<H: GoalHandler + Drop> Drop for Solver<H> {
+impl<H: GoalHandler + Drop> Drop for Solving<H> {
     fn drop(self) {
-        let Solver {
+        let Solving {
             cx: _,
             graph: _,
             cache: _,
@@ -119,60 +119,115 @@ impl<H: GoalHandler + Drop> Drop for Solver<H> {
 }
 
 /// A solver that has met no goal yet, with this depth.
-fn begin<H: GoalHandler + Drop>(
+pub(crate) fn begin<H: GoalHandler + Drop>(
     alloc: Global,
     interner: Interner,
     handler: H,
     depth: usize,
-) -> Result<Solver<H>, Fault>
+) -> Result<Solving<H>, Fault>
     requires ready { H.ready handler interner.entries }
     requires depth { 1 ≤ depth }
-    ensures ready { IfOk result (λ solver. IsReady H.ready solver.cx) }
-    ensures empty { IfOk result (λ solver. solver.graph.current_depth ≡ 0) }
-    ensures cache { IfOk result (λ solver. AreJustified (solver_meaning H.handled H.Rule H.coinductive H.ready H.meaning) solver.cx solver.cache) }
-    ensures interner { IfOk result (λ solver. solver.cx.interner ≡ interner) }
+    ensures ready { IfOk result (λ solving. IsReady H.ready solving.cx) }
+    ensures empty { IfOk result (λ solving. solving.graph.current_depth ≡ 0) }
+    ensures cache { IfOk result (λ solving. AreJustified (solver_meaning H.handled H.Rule H.coinductive H.ready H.meaning) solving.cx solving.cache) }
+    ensures interner { IfOk result (λ solving. solving.cx.interner ≡ interner) }
 {
-    Ok(Solver {
+    Ok(Solving {
         cx: SolverCx::new(alloc, interner, handler, 100),
         graph: SearchGraph::new(alloc, depth)?,
         cache: GlobalCache::new(alloc)?,
     })
 }
 
+/// Evaluates a goal of a table: what is said of it, how many frames were started so far, and whether a limit gave a result so far.
+pub(crate) fn evaluate<H: GoalHandler>(
+    solving: &mut Solving<H>,
+    mode: TypingMode,
+    table: &mut InferCtxt,
+    goal: &Goal,
+) -> Result<(Said, u64, bool), Fault>
+    requires ready { IsReady H.ready solving.old.cx }
+    requires empty { solving.old.graph.current_depth ≡ 0 }
+    requires cache { AreJustified (solver_meaning H.handled H.Rule H.coinductive H.ready H.meaning) solving.old.cx solving.old.cache }
+    requires table { Ready solving.old.cx.interner.entries table.old }
+    requires goal { GoalHeld solving.old.cx.interner.entries goal.now }
+    ensures ready { IsReady H.ready solving.new.cx }
+    ensures empty { solving.new.graph.current_depth ≡ 0 }
+    ensures cache { AreJustified (solver_meaning H.handled H.Rule H.coinductive H.ready H.meaning) solving.new.cx solving.new.cache }
+    ensures table { Ready solving.new.cx.interner.entries table.new }
+    ensures keeps { Keeps solving.old.cx.interner.entries solving.new.cx.interner.entries }
+{
+    let evaluation = evaluate_root_goal(
+        &mut solving.graph,
+        &mut solving.cache,
+        &mut solving.cx,
+        table,
+        mode,
+        goal,
+    );
+    let said = reading(evaluation)?;
+    Ok((said, solving.graph.frames(), solving.graph.limits_met()))
+}
+
 /// Evaluates the goal.
-fn evaluate<H: GoalHandler>(
-    solver: &mut Solver<H>,
+fn evaluate_posed<H: GoalHandler>(
+    solving: &mut Solving<H>,
     mode: TypingMode,
     posed: &mut Posed,
 ) -> Result<Found, Fault>
-    requires ready { IsReady H.ready solver.old.cx }
-    requires empty { solver.old.graph.current_depth ≡ 0 }
-    requires cache { AreJustified (solver_meaning H.handled H.Rule H.coinductive H.ready H.meaning) solver.old.cx solver.old.cache }
-    requires table { Ready solver.old.cx.interner.entries posed.old.table }
-    requires unknown { Has solver.old.cx.interner.entries types posed.old.unknown.0 }
-    requires goal { GoalHeld solver.old.cx.interner.entries posed.old.goal }
-    ensures ready { IsReady H.ready solver.new.cx }
-    ensures empty { solver.new.graph.current_depth ≡ 0 }
-    ensures cache { AreJustified (solver_meaning H.handled H.Rule H.coinductive H.ready H.meaning) solver.new.cx solver.new.cache }
-    ensures table { Ready solver.new.cx.interner.entries posed.new.table }
-    ensures unknown { Has solver.new.cx.interner.entries types posed.new.unknown.0 }
-    ensures goal { GoalHeld solver.new.cx.interner.entries posed.new.goal }
+    requires ready { IsReady H.ready solving.old.cx }
+    requires empty { solving.old.graph.current_depth ≡ 0 }
+    requires cache { AreJustified (solver_meaning H.handled H.Rule H.coinductive H.ready H.meaning) solving.old.cx solving.old.cache }
+    requires table { Ready solving.old.cx.interner.entries posed.old.table }
+    requires unknown { Has solving.old.cx.interner.entries types posed.old.unknown.0 }
+    requires goal { GoalHeld solving.old.cx.interner.entries posed.old.goal }
+    ensures ready { IsReady H.ready solving.new.cx }
+    ensures empty { solving.new.graph.current_depth ≡ 0 }
+    ensures cache { AreJustified (solver_meaning H.handled H.Rule H.coinductive H.ready H.meaning) solving.new.cx solving.new.cache }
+    ensures table { Ready solving.new.cx.interner.entries posed.new.table }
+    ensures unknown { Has solving.new.cx.interner.entries types posed.new.unknown.0 }
+    ensures goal { GoalHeld solving.new.cx.interner.entries posed.new.goal }
 {
-    let evaluation = evaluate_root_goal(
-        &mut solver.graph,
-        &mut solver.cache,
-        &mut solver.cx,
-        &mut posed.table,
-        mode,
-        &posed.goal,
-    );
-    let said = reading(evaluation)?;
-    Ok((
-        said,
-        solver.graph.frames(),
-        solver.graph.limits_met(),
-        value(&solver.cx.interner, posed),
-    ))
+    let said = evaluate(solving, mode, &mut posed.table, &posed.goal)?;
+    Ok((said.0, said.1, said.2, value(&solving.cx.interner, posed)))
+}
+
+/// Evaluates the goal twice.
+fn evaluate_twice<H: GoalHandler>(
+    solving: &mut Solving<H>,
+    mode: TypingMode,
+    posed: &mut Posed,
+) -> Result<[Found; 2], Fault>
+    requires ready { IsReady H.ready solving.old.cx }
+    requires empty { solving.old.graph.current_depth ≡ 0 }
+    requires cache { AreJustified (solver_meaning H.handled H.Rule H.coinductive H.ready H.meaning) solving.old.cx solving.old.cache }
+    requires table { Ready solving.old.cx.interner.entries posed.old.table }
+    requires unknown { Has solving.old.cx.interner.entries types posed.old.unknown.0 }
+    requires goal { GoalHeld solving.old.cx.interner.entries posed.old.goal }
+{
+    let first = evaluate_posed(solving, mode, posed)?;
+    let second = evaluate_posed(solving, mode, posed)?;
+    Ok([first, second])
+}
+
+/// Evaluates the goal twice by a handler that has met none yet.
+fn evaluate_first<H: GoalHandler + Drop>(
+    alloc: Global,
+    interner: Interner,
+    handler: H,
+    depth: usize,
+    posed: Posed,
+    mode: TypingMode,
+) -> Result<[Found; 2], Fault>
+    requires ready { H.ready handler interner.entries }
+    requires depth { 1 ≤ depth }
+    requires table { Ready interner.entries posed.table }
+    requires unknown { Has interner.entries types posed.unknown.0 }
+    requires goal { GoalHeld interner.entries posed.goal }
+{
+    let mut solving = begin(alloc, interner, handler, depth)?;
+    let mut posed = posed;
+    evaluate_twice(&mut solving, mode, &mut posed)
 }
 
 /// Evaluates the reference twice with this depth, by these rules, of which these traits are coinductive.
@@ -188,9 +243,6 @@ pub(crate) fn by_rules(
 {
     let mut interner = Interner::new(alloc, 1000);
     let book = book(alloc, &mut interner, rules, coinductive)?;
-    let mut posed = pose(alloc, &mut interner, reference)?;
-    let mut solver = begin(alloc, interner, book, depth)?;
-    let first = evaluate(&mut solver, mode, &mut posed)?;
-    let second = evaluate(&mut solver, mode, &mut posed)?;
-    Ok([first, second])
+    let posed = pose(alloc, &mut interner, reference)?;
+    evaluate_first(alloc, interner, book, depth, posed, mode)
 }

@@ -3,8 +3,9 @@
 //! The depth is 8. The answers and the frames follow from the rules of candidates and of searches: a goal takes a frame each time that it is
 //! run, and none where it is answered by the cache, by a goal above it or for want of depth.
 
-use crate::answers::{Found, Said, found};
-use evaluation::{Certainty, HasChanged, MaybeCause, TypingMode};
+use crate::answers::{Found, found};
+use crate::solver::{AMBIGUOUS, OVERFLOW, Said, YES, YES_WITH_VALUES};
+use evaluation::TypingMode;
 use std::alloc::Global;
 use type_terms::Fault;
 
@@ -18,18 +19,6 @@ struct Table {
     mode: TypingMode,
     rows: &'static [Row],
 }
-
-/// That a goal holds.
-const YES: Said = Said::Evaluated(Certainty::Yes, HasChanged::No);
-
-/// That it holds with the values that its unknowns get.
-const YES_WITH_VALUES: Said = Said::Evaluated(Certainty::Yes, HasChanged::Yes);
-
-/// That it is not known whether it holds.
-const AMBIGUOUS: Said = Said::Evaluated(Certainty::Maybe(MaybeCause::Ambiguity), HasChanged::No);
-
-/// That too much would have to be asked.
-const OVERFLOW: Said = Said::Evaluated(Certainty::Maybe(MaybeCause::Overflow), HasChanged::No);
 
 /// That it has no solution.
 const REFUSED: Said = Said::Refused;

@@ -1,0 +1,10 @@
+use Rattle.layer_tests.proofs.solver.evaluate_first.Goals as goal
+
+pub evaluate_twice-requires-clause-table : goal.evaluate_twice-requires-clause-table
+evaluate_twice-requires-clause-table _ c = rw c.in_ok-solving.ensures.interner c.requires.table
+
+pub evaluate_twice-requires-clause-unknown : goal.evaluate_twice-requires-clause-unknown
+evaluate_twice-requires-clause-unknown _ c = rw c.in_ok-solving.ensures.interner c.requires.unknown
+
+pub evaluate_twice-requires-clause-goal : goal.evaluate_twice-requires-clause-goal
+evaluate_twice-requires-clause-goal _ c = rw c.in_ok-solving.ensures.interner c.requires.goal
