@@ -1,11 +1,9 @@
-//! Tests of terms, folds, tables, canonical forms, searches, evaluations and the assembly of candidates, by public calls.
+//! Tests of searches, evaluations, the assembly of candidates and the whole solver, by public calls.
 //!
 //! They stand above the crates that they test, so that each of those is proved once and not a second time with its tests, and in
 //! one crate, since each crate of tests loads, links and compiles all that it reaches.
 #![tactic(auto)]
 
-#[cfg(test)]
-mod answered;
 #[cfg(test)]
 mod answers;
 #[cfg(test)]
@@ -13,19 +11,9 @@ mod candidates;
 #[cfg(test)]
 mod contexts;
 #[cfg(test)]
-mod folding;
-#[cfg(test)]
-mod forms;
-#[cfg(test)]
 mod frames;
 #[cfg(test)]
 mod goals;
-#[cfg(test)]
-mod instantiation;
-#[cfg(test)]
-mod interned;
-#[cfg(test)]
-mod kinds;
 #[cfg(test)]
 mod merges;
 #[cfg(test)]
@@ -47,11 +35,7 @@ mod slice_candidates;
 #[cfg(test)]
 mod solver;
 #[cfg(test)]
-mod tables;
-#[cfg(test)]
 mod texts;
-#[cfg(test)]
-mod traversal;
 #[cfg(test)]
 mod usages;
 #[cfg(test)]
