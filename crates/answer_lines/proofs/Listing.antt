@@ -59,7 +59,7 @@ next-behind (y ∷ xs) (suc i) x h e = next-behind xs i x (omega (arith, h)) e
 one-up : (i : ℕ) → suc i ≡ i + 1
 one-up i = omega arith
 
-next-left : {A : Type 0} (xs : List A) (i : ℕ) (x : A) → i < length xs → x ≡ get_or xs i x → drop i xs ≡ x ∷ drop (i + 1) xs
+pub next-left : {A : Type 0} (xs : List A) (i : ℕ) (x : A) → i < length xs → x ≡ get_or xs i x → drop i xs ≡ x ∷ drop (i + 1) xs
 next-left xs i x h e = next-behind xs i x h e ∙ ap (λ n. x ∷ drop n xs) (one-up i)
 
 pub types-counted : (k : ParamKind) (n m : Counts) (i : ℕ) → m ≡ counted k n → n.types ≤ i → m.types ≤ i + 1

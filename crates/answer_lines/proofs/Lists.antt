@@ -1,7 +1,7 @@
 -- The steps at lists of types and of auto traits.
 use Rattle.std.proofs.Common.{◌≡◌, ℕ, ◌+◌, true, false, List, [], ◌∷◌, ◌++◌, length, ◌≢◌, if◌then◌else◌, refl, sym, ap, ◌∙◌, subst, append_assoc, append-nil, arith, codes}
 use Rattle.std.specs.Borrow.{Bor}
-use Rattle.model.specs.Label.{of_type, of_const, tuple, array, fn_ptr}
+use Rattle.model.specs.Label.{of_type, of_const, tuple, slice, array, fn_ptr}
 use Rattle.model.specs.Trees.{Trees, none, tree, ◌+++◌, IsA, is_no_tree}
 use Rattle.text_definitions.specs.Output.{Names, texts, type_text, between, tuple_text, angled, output_part, ends_in_unit, is_unit, inputs, last_text}
 use Rattle.type_terms.specs.Terms.{Entry, term, Is, Has, trees_at, types, consts, type_lists, Lawful}
@@ -56,12 +56,25 @@ some-types es L so s1 s2 ts first rest h e a b =
     (list-text (codes ", ") (type_text N (trees_at es first.0)) (texts N (tys_trees es rest.now)) (texts N (tys_trees es (first ∷ rest.now))) (first-texts N es L first rest.now k.0))
     k.1 (omega (arith, q)))
 
+-- ---- slices
+pub slice-step : (N : Names) (es : List Entry) (so s1 s2 : List Piece) (oo on : List ℕ) (ty : Ty) (last : Bor (List ℕ)) → Has es types ty.0
+    → on ≡ oo ++ codes "[" → s1 ≡ so ++ Text last ∷ [] → s2 ≡ s1 ++ PTy ty ∷ [] → last.now ≡ codes "]" → PrintsTrees N es (tree slice (trees_at es ty.0) none) so s2 oo on
+slice-step N es so s1 s2 oo on ty last h e a b x =
+    let u : List ℕ = type_text N (trees_at es ty.0) in
+    before (Text last) (codes "[") e a
+    (one {t = u} {l = 1 + load (trees_at es ty.0)} (PTy ty) [] (sym (append-nil on)) b refl h (omega arith))
+    (ap (λ z. codes "[" ++ (u ++ z)) x) tt (omega arith)
+
 -- ---- arrays
-pub array-step : (N : Names) (es : List Entry) → Lawful es → (so s1 s2 s3 s4 : List Piece) (oo on : List ℕ) (ty : Ty) (len : Const) (last mid : Bor (List ℕ))
+one-by-one : (xs : List Piece) (a b c d : Piece) → xs ++ a ∷ b ∷ c ∷ d ∷ [] ≡ (((xs ++ a ∷ []) ++ b ∷ []) ++ c ∷ []) ++ d ∷ []
+one-by-one xs a b c d =
+    sym (append_assoc ((xs ++ a ∷ []) ++ b ∷ []) (c ∷ []) (d ∷ []) ∙ append_assoc (xs ++ a ∷ []) (b ∷ []) (c ∷ d ∷ []) ∙ append_assoc xs (a ∷ []) (b ∷ c ∷ d ∷ []))
+
+array-pieces : (N : Names) (es : List Entry) → Lawful es → (so s1 s2 s3 s4 : List Piece) (oo on : List ℕ) (ty : Ty) (len : Const) (last mid : Bor (List ℕ))
     → Has es types ty.0 → Has es consts len.0
     → on ≡ oo ++ codes "[" → s1 ≡ so ++ Text last ∷ [] → s2 ≡ s1 ++ PConst len ∷ [] → s3 ≡ s2 ++ Text mid ∷ [] → s4 ≡ s3 ++ PTy ty ∷ [] → last.now ≡ codes "]" → mid.now ≡ codes "; "
     → PrintsTrees N es (tree array (trees_at es ty.0 +++ trees_at es len.0) none) so s4 oo on
-array-step N es L so s1 s2 s3 s4 oo on ty len last mid h k e a b d f x y =
+array-pieces N es L so s1 s2 s3 s4 oo on ty len last mid h k e a b d f x y =
     let u : List ℕ = type_text N (trees_at es ty.0) in
     let v : List ℕ = type_text N (trees_at es len.0) in
     let q : load (trees_at es ty.0 +++ trees_at es len.0) ≡ load (trees_at es ty.0) + load (trees_at es len.0) = load-append (trees_at es ty.0) (trees_at es len.0) in
@@ -73,6 +86,13 @@ array-step N es L so s1 s2 s3 s4 oo on ty len last mid h k e a b d f x y =
     refl k (omega arith))
     (ap (λ z. codes "[" ++ (u ++ codes "; " ++ v ++ z)) x ∙ array-texts u v (texts N (trees_at es ty.0 +++ trees_at es len.0)) (texts-append N (trees_at es ty.0) (trees_at es len.0) ∙ ap (λ z. z ++ texts N (trees_at es len.0)) (type-one N (trees_at es ty.0) (is-type es ty.0 L h)) ∙ ap (λ z. u ∷ z) (const-one N (trees_at es len.0) (is-const es len.0 L k))))
     tt (omega (arith, q))
+
+pub array-step : (N : Names) (es : List Entry) → Lawful es → (so sn : List Piece) (oo on : List ℕ) (ty : Ty) (len : Const) (last mid : Bor (List ℕ)) → Has es types ty.0 → Has es consts len.0
+    → on ≡ oo ++ codes "[" → sn ≡ so ++ Text last ∷ PConst len ∷ Text mid ∷ PTy ty ∷ [] → last.now ≡ codes "]" → mid.now ≡ codes "; "
+    → PrintsTrees N es (tree array (trees_at es ty.0 +++ trees_at es len.0) none) so sn oo on
+array-step N es L so sn oo on ty len last mid h k e s x y =
+    subst (λ z. PrintsTrees N es (tree array (trees_at es ty.0 +++ trees_at es len.0) none) so z oo on) (sym (s ∙ one-by-one so (Text last) (PConst len) (Text mid) (PTy ty)))
+    (array-pieces N es L so _ _ _ _ oo on ty len last mid h k e refl refl refl refl x y)
 
 -- ---- the bounds of a `dyn`
 pub autos-step : (N : Names) (es : List Entry) (so sn : List Piece) (oo om on : List ℕ) (ts : List TraitId) (first : TraitId) (rest : Bor (List TraitId))

@@ -5,13 +5,13 @@ use Rattle.model.specs.Label.{of_const}
 use Rattle.model.specs.Trees.{Trees, none, tree, ◌+++◌, IsA}
 use Rattle.text_definitions.specs.Output.{Names, texts, type_text}
 use Rattle.type_terms.specs.Terms.{Entry, Has, trees_at, types, consts, Lawful}
-use Rattle.type_terms.specs.Kinds.{TysHeld, tys_trees, args_trees, arg_trees, autos_trees, ArgsHeld, region_trees}
+use Rattle.type_terms.specs.Kinds.{TysHeld, tys_trees, args_trees, arg_trees, autos_trees, ArgHeld, ArgsHeld, region_trees}
 use Rattle.type_terms.specs.declared.TraitId.{TraitId}
 use Rattle.type_terms.specs.declared.region.Region.{Region}
 use Rattle.type_terms.specs.declared.kinds.Ty.{Ty}
 use Rattle.type_terms.specs.declared.kinds.GenericArgKind.{GenericArgKind}
 use Rattle.answer_lines.specs.declared.piece.Piece.{Piece}
-use Rattle.answer_lines.specs.declared.piece.Piece.TheVariants.{Types, Args}
+use Rattle.answer_lines.specs.declared.piece.Piece.TheVariants.{Types, Args, Autos}
 use Rattle.answer_lines.specs.Pieces.{behind, more_args, arg_sign, pending, PiecesHeld, PieceHeld, load, pieces_load, PrintsTrees, PrintsPiece, PrintsTypes, PrintsArgs, PrintsMoreAutos}
 use Rattle.answer_lines.proofs.Texts.{texts-append, load-append, type-one, const-one, between-behind, pending-append, load-pieces, held-append, held-front, held-back}
 use Rattle.answer_lines.proofs.Steps.{nothing, one, before}
@@ -62,6 +62,13 @@ const-arg N es L so s1 s2 oo om on b i rest k h a s P = arg-step N es so s1 s2 o
 pub rest-held : (es : List Entry) (xs : List GenericArgKind) (a : GenericArgKind) (rest : List GenericArgKind) → ArgsHeld es xs → xs ≡ a ∷ rest → ArgsHeld es rest
 rest-held es xs a rest h e = (subst (ArgsHeld es) e h).1
 
+pub first-held : (es : List Entry) (xs : List GenericArgKind) (a x : GenericArgKind) (rest : List GenericArgKind) → ArgsHeld es xs → xs ≡ a ∷ rest → a ≡ x → ArgHeld es x
+first-held es xs a x rest h e f = subst (ArgHeld es) f (subst (ArgsHeld es) e h).0
+
+pub no-more-args : (N : Names) (es : List Entry) (so : List Piece) (oo on : List ℕ) (b : Bool) (xs : List GenericArgKind) → length xs ≡ 0 → on ≡ oo ++ more_args b [] → PrintsArgs N es b (args_trees es xs) so so oo on
+no-more-args N es so oo on b [] h e = nothing e (omega arith)
+no-more-args N es so oo on b (x ∷ xs) h e = absurd (omega arith)
+
 -- by the first argument
 pub first-arg : (N : Names) (es : List Entry) (so sn : List Piece) (oo on : List ℕ) (b : Bool) (xs : List GenericArgKind) (a x : GenericArgKind) (rest : List GenericArgKind) → xs ≡ a ∷ rest → a ≡ x
     → PrintsArgs N es b (arg_trees es x +++ args_trees es rest) so sn oo on → PrintsArgs N es b (args_trees es xs) so sn oo on
@@ -79,6 +86,14 @@ lifetime-arg N es so sn oo b r rest h s =
 pub no-more-autos : (N : Names) (es : List Entry) (so : List Piece) (oo : List ℕ) (ts : List TraitId) → length ts ≡ 0 → PrintsMoreAutos N es (autos_trees ts) so so oo oo
 no-more-autos N es so oo [] h = nothing (sym (append-nil oo)) (omega arith)
 no-more-autos N es so oo (t ∷ ts) h = absurd (omega arith)
+
+pub some-more-autos : (N : Names) (es : List Entry) (so sn : List Piece) (oo om on : List ℕ) (ts : List TraitId) (first : TraitId) (rest : Bor (List TraitId))
+    → om ≡ oo ++ codes " + " → on ≡ om ++ N.of_trait first.index → ts ≡ first ∷ rest.now → sn ≡ so ++ Autos rest ∷ [] → PrintsMoreAutos N es (autos_trees ts) so sn oo on
+some-more-autos N es so sn oo om on ts first rest a b e s =
+    subst (λ x. PrintsMoreAutos N es (autos_trees x) so sn oo on) (sym e)
+    (one (Autos rest) (codes " + " ++ N.of_trait first.index) (b ∙ ap (λ y. y ++ N.of_trait first.index) a ∙ append_assoc oo (codes " + ") (N.of_trait first.index)) s
+    (append_assoc (codes " + ") (N.of_trait first.index) (behind (codes " + ") (texts N (autos_trees rest.now))))
+    tt (omega arith))
 
 -- ---- a turn of the loop: the last piece is taken from the stack
 pub taken-held : (es : List Entry) (s r : List Piece) (p : Piece) → PiecesHeld es s → s ≡ r ++ p ∷ [] → PieceHeld es p

@@ -173,10 +173,12 @@ fn start_array<'i, N: PrintNames>(
     ensures { OnOk result (PrintsKind (N.names names.now) interner.now.entries (TyKind.Array ty len) stack.old.items stack.new.items out.old.items out.new.items) }
 {
     out.extend_from_slice(b"[")?;
-    stack.push(Piece::Text(b"]"))?;
-    stack.push(Piece::Const(len))?;
-    stack.push(Piece::Text(b"; "))?;
-    stack.push(Piece::Ty(ty))?;
+    stack.extend_from_slice(&[
+        Piece::Text(b"]"),
+        Piece::Const(len),
+        Piece::Text(b"; "),
+        Piece::Ty(ty),
+    ])?;
     Ok(())
 }
 

@@ -42,6 +42,13 @@ other-before p vs at d h k e =
     let ns = other_kind_names p (map variable_in (drop at vs)) in
     ap (λ b. if b then ns else v.0 ∷ ns) (sym e) ∙ ap (other_kind_names p) (sym (before vs at d h k))
 
+pub same-before : (p : Sort) (vs : List Variable) (at : ℕ) (d : Variable) → 0 < at → at ≤ length vs → is_sort p (variable_in (get_or vs (at - 1) d)).1 ≡ true
+    → other_kind_names p (map variable_in (drop at vs)) ≡ other_kind_names p (map variable_in (drop (at - 1) vs))
+same-before p vs at d h k e =
+    let v = variable_in (get_or vs (at - 1) d) in
+    let ns = other_kind_names p (map variable_in (drop at vs)) in
+    ap (λ b. if b then ns else v.0 ∷ ns) (sym e) ∙ ap (other_kind_names p) (sym (before vs at d h k))
+
 pub has-other : (x : Variable) (q : Sort) (b : Bool) (vs : List (List ℕ × Sort)) → q ≡ (variable_in x).1 → b ≡ is_among (variable_in x).0 (other_kind_names q vs) → b ≡ list_any (is_of_other_kind (variable_in x)) vs
 has-other x q b vs eq eb = eb ∙ sym (others-among q (variable_in x).0 vs) ∙ ap (λ p. list_any (is_of_other_kind ((variable_in x).0, p)) vs) eq
 

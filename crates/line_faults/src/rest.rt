@@ -1,6 +1,9 @@
 //! The cells that are not gone over yet.
-ghost use Rattle.std.specs.Prelude.{◌≡◌, ◌+◌, ◌^◌, ◌<◌, ◌≤◌, [], ◌∷◌, length, map, reverse, MatchOption, IfOk};
+ghost use Rattle.std.specs.Prelude.{◌≡◌, ◌+◌, ◌^◌, ◌<◌, ◌≤◌, List, [], ◌∷◌, length, map, min, reverse, MatchOption, IfOk};
+ghost use Rattle.line_reader.specs.Cells as cell;
 ghost use Rattle.line_reader.specs.TokenViews.{text_of};
+ghost use Rattle.line_reader.specs.TypeViews.{cell_of};
+ghost use Rattle.line_faults.specs.Back.{begins};
 
 use line_reader::Cell;
 use std::alloc::{AllocError, Global};
@@ -25,9 +28,28 @@ impl<'c, 'a> Model for Rest<'c, 'a> {
     ghost invariant = { λ r. r.at ≤ length r.cells.now };
 }
 
+/// From where on what stands before a cell is inside it, if so many stand before it; `None` if that is the one part before it.
+fn inside_from(last: Cell<'_>, before: usize) -> Option<usize>
+    ensures { (r : List cell.Cell) → before ≡ length r → MatchOption result (begins (cell_of last.entry ∷ r) ≡ begins r) (λ start. begins (cell_of last.entry ∷ r) ≡ min start (length r)) }
+{
+    match last {
+        Cell::Reference { .. } => None,
+        Cell::Pointer { .. } => None,
+        Cell::Slice => None,
+        Cell::Array(_) => None,
+        Cell::Named { start, .. } => Some(start),
+        Cell::Tuple { start } => Some(start),
+        Cell::Fn { start, .. } => Some(start),
+        Cell::FnTo { start, .. } => Some(start),
+        Cell::Bound { start, .. } => Some(start),
+        Cell::Dyn { start } => Some(start),
+        _ => Some(before),
+    }
+}
+
 impl<'c, 'a> Rest<'c, 'a> {
-    ghost use Rattle.line_reader.specs.TypeViews.{cell_of, cells_in};
-    ghost use Rattle.line_faults.specs.Back.{begins, down_to, count_above, names_between};
+    ghost use Rattle.line_reader.specs.TypeViews.{cells_in};
+    ghost use Rattle.line_faults.specs.Back.{down_to, count_above, names_between};
     ghost use Rattle.line_faults.specs.Steps.{TakesPart, TakesNamed};
 
     /// All cells of the line.
@@ -96,18 +118,8 @@ impl<'c, 'a> Rest<'c, 'a> {
     {
         let mut rest = self.fork();
         while let Some(cell) = rest.next() {
-            match cell {
-                Cell::Reference { .. } => {}
-                Cell::Pointer { .. } => {}
-                Cell::Slice => {}
-                Cell::Array(_) => {}
-                Cell::Named { start, .. } => return start.min(rest.len()),
-                Cell::Tuple { start } => return start.min(rest.len()),
-                Cell::Fn { start, .. } => return start.min(rest.len()),
-                Cell::FnTo { start, .. } => return start.min(rest.len()),
-                Cell::Bound { start, .. } => return start.min(rest.len()),
-                Cell::Dyn { start } => return start.min(rest.len()),
-                _ => return rest.len(),
+            if let Some(start) = inside_from(cell, rest.len()) {
+                return start.min(rest.len());
             }
         }
         0

@@ -1,4 +1,5 @@
-use Rattle.std.proofs.Common.{map, drop}
+use Rattle.std.proofs.Common.{◌++◌, map, drop, sym, ap, ◌∙◌, append-nil}
+use Rattle.std.proofs.lemmas.List.{drop_all}
 use Rattle.answer_lines.specs.Listed.{listed_of}
 use Rattle.answer_lines.proofs.Listing.{valued_from, types-counted, consts-counted, rest-held, listed-on, listed-out}
 use Rattle.answer_lines.proofs.listed.listed_values.Goals as goal
@@ -32,3 +33,18 @@ loop-variable-preserved c =
           (valued_from es (record { types = 0; consts = 0 }) vs c.args.values.now) (map (listed_of es) c.loop-variable.listed.items) (map (listed_of es) c.list_one.new.listed.items)
           c.loop-variable-test.true c.variable-item.is c.in-Some.ensures.cases.0 c.own_number-number.ensures c.counted-counts.ensures inv.valued c.in_ok-list_one-in-Some.ensures.listed;
     }
+
+pub returns-in-None-clause-held : goal.returns-in-None-clause-held
+returns-in-None-clause-held c = c.loop-variable.invariant.held
+
+pub list_one-requires-clause-held : goal.list_one-requires-clause-held
+list_one-requires-clause-held c = c.loop-variable.invariant.held
+
+pub returns-clause-held : goal.returns-clause-held
+returns-clause-held c = c.loop-variable.invariant.held
+
+pub returns-clause-listed : goal.returns-clause-listed
+returns-clause-listed c =
+    let es = c.args.cx.now.entries in
+    let ls = map (listed_of es) c.loop-variable.listed.items in
+    sym (c.loop-variable.invariant.valued ∙ ap (λ ps. ls ++ valued_from es c.loop-variable.counts ps c.loop-variable.rest.now) (drop_all c.loop-variable.variable-index c.args.variables.now c.loop-variable-test.false) ∙ append-nil ls)

@@ -4,5 +4,5 @@ use Rattle.answer_lines.proofs.printer.start_array.Goals as goal
 
 pub returns : goal.returns
 returns g c =
-    array-step (g.N.PrintNames.names c.args.names.now) c.args.interner.now.entries c.requires.lawful _ _ _ _ _ _ _ c.args.ty c.args.len _ _ c.requires.ty c.requires.len
-    c.in_ok-extend_from_slice.ensures.items c.in_ok-push.ensures.items c.in_ok-push-2.ensures.items c.in_ok-push-3.ensures.items c.in_ok-push-4.ensures.items refl refl
+    array-step (g.N.PrintNames.names c.args.names.now) c.args.interner.now.entries c.requires.lawful _ _ _ _ c.args.ty c.args.len _ _ c.requires.ty c.requires.len
+    c.in_ok-extend_from_slice.ensures.items c.in_ok-extend_from_slice-2.ensures.items refl refl

@@ -1,4 +1,4 @@
-use Rattle.std.proofs.Common.{rules, arith, ◌≡◌, ◌-◌, ◌⊎◌, inl, inr, true, false, not, Ok, [], ◌∷◌, ◌++◌, map, length, take, drop, Some, None, Err, sym, subst, ap, ◌∙◌}
+use Rattle.std.proofs.Common.{rules, arith, ◌≡◌, ◌-◌, ◌⊎◌, inl, inr, true, false, not, Ok, [], ◌∷◌, ◌++◌, map, length, take, drop, Some, None, Err, refl, sym, subst, ap, ◌∙◌}
 use Rattle.std.proofs.lemmas.List.{map-append}
 use Rattle.type_terms.specs.Terms.{Keeps}
 use Rattle.type_terms.specs.Failures.{SomeKindIsFull}
@@ -22,11 +22,144 @@ use Rattle.evaluation.proofs.LaterTrees.{goal-trees-later, goals-trees-later, an
 use Rattle.evaluation.proofs.RoundEnds.{put-earlier, round-unapplied, round-dropped, round-kept-fault, round-kept-waits, round-kept-ended}
 use Rattle.evaluation.proofs.Undone.{clone-same}
 use Rattle.infer_table.proofs.FullFacts.{or-then}
+use Rattle.infer_table.specs.Growth.{grows-refl, grows-trans}
 use Rattle.infer_table.proofs.PairFacts.{table-kept}
 use Rattle.evaluation.specs.Shortages.{HasNoForm, RoundRunsOut, form, reply, after}
 use Rattle.evaluation.proofs.Shortages.{handed-fault, handed-error, same-shortage}
 use Rattle.evaluation.proofs.rounds.+round.Goals as goal
 use Rattle.evaluation.proofs.rounds.+round.Goals.{else-is_certain-via-then-is_certain+else-not-changed, else-is_certain-via-else-is_certain, then-changed, else-changed}
+
+pub returns-in_default-clause-ready : goal.returns-in_default-clause-ready
+returns-in_default-clause-ready t c = c.requires.ready
+
+pub returns-in_default-clause-grows : goal.returns-in_default-clause-grows
+returns-in_default-clause-grows t c = grows-refl c.args.table.now
+
+pub returns-in_default-clause-keeps : goal.returns-in_default-clause-keeps
+returns-in_default-clause-keeps t c = λ i x h. h
+
+pub returns-in_default-clause-limit : goal.returns-in_default-clause-limit
+returns-in_default-clause-limit t c = refl
+
+pub returns-in_err-asked-clause-ready : goal.returns-in_err-asked-clause-ready
+returns-in_err-asked-clause-ready t c = c.question_for.ensures.ready
+
+pub returns-in_err-asked-clause-grows : goal.returns-in_err-asked-clause-grows
+returns-in_err-asked-clause-grows t c = grows-refl c.args.table.now
+
+pub returns-in_err-asked-clause-keeps : goal.returns-in_err-asked-clause-keeps
+returns-in_err-asked-clause-keeps t c = c.question_for.ensures.keeps
+
+pub returns-in_err-asked-clause-limit : goal.returns-in_err-asked-clause-limit
+returns-in_err-asked-clause-limit t c = c.question_for.ensures.limit
+
+pub returns-in_default-replies-clause-ready : goal.returns-in_default-replies-clause-ready
+returns-in_default-replies-clause-ready t c = c.question_for.ensures.ready
+
+pub returns-in_default-replies-clause-grows : goal.returns-in_default-replies-clause-grows
+returns-in_default-replies-clause-grows t c = grows-refl c.args.table.now
+
+pub returns-in_default-replies-clause-keeps : goal.returns-in_default-replies-clause-keeps
+returns-in_default-replies-clause-keeps t c = c.question_for.ensures.keeps
+
+pub returns-in_default-replies-clause-limit : goal.returns-in_default-replies-clause-limit
+returns-in_default-replies-clause-limit t c = c.question_for.ensures.limit
+
+pub returns-in_default-reply-clause-ready : goal.returns-in_default-reply-clause-ready
+returns-in_default-reply-clause-ready t c = c.question_for.ensures.ready
+
+pub returns-in_default-reply-clause-grows : goal.returns-in_default-reply-clause-grows
+returns-in_default-reply-clause-grows t c = grows-refl c.args.table.now
+
+pub returns-in_default-reply-clause-keeps : goal.returns-in_default-reply-clause-keeps
+returns-in_default-reply-clause-keeps t c = c.question_for.ensures.keeps
+
+pub returns-in_default-reply-clause-limit : goal.returns-in_default-reply-clause-limit
+returns-in_default-reply-clause-limit t c = c.question_for.ensures.limit
+
+pub returns-in_err-apply_response-clause-ready : goal.returns-in_err-apply_response-clause-ready
+returns-in_err-apply_response-clause-ready t c = c.apply_response.ensures.ready
+
+pub returns-in_err-apply_response-clause-grows : goal.returns-in_err-apply_response-clause-grows
+returns-in_err-apply_response-clause-grows t c = c.apply_response.ensures.grows
+
+pub returns-in_err-apply_response-clause-keeps : goal.returns-in_err-apply_response-clause-keeps
+returns-in_err-apply_response-clause-keeps t c = λ i x h. c.apply_response.ensures.keeps i x (c.question_for.ensures.keeps i x h)
+
+pub returns-in_err-apply_response-clause-limit : goal.returns-in_err-apply_response-clause-limit
+returns-in_err-apply_response-clause-limit t c = c.apply_response.ensures.limit ∙ c.question_for.ensures.limit
+
+pub returns-then-not-changed-clause-ready : goal.returns-then-not-changed-clause-ready
+returns-then-not-changed-clause-ready t c = c.round.ensures.ready
+
+pub returns-then-not-changed-clause-grows : goal.returns-then-not-changed-clause-grows
+returns-then-not-changed-clause-grows t c = grows-trans _ _ _ c.apply_response.ensures.grows c.round.ensures.grows
+
+pub returns-then-not-changed-clause-keeps : goal.returns-then-not-changed-clause-keeps
+returns-then-not-changed-clause-keeps t c = λ i x h. c.round.ensures.keeps i x (c.apply_response.ensures.keeps i x (c.question_for.ensures.keeps i x h))
+
+pub returns-then-not-changed-clause-limit : goal.returns-then-not-changed-clause-limit
+returns-then-not-changed-clause-limit t c = c.round.ensures.limit ∙ c.apply_response.ensures.limit ∙ c.question_for.ensures.limit
+
+pub returns-in_err-kept-clause-ready : goal.returns-in_err-kept-clause-ready
+returns-in_err-kept-clause-ready t c = c.apply_response.ensures.ready
+
+pub returns-in_err-kept-clause-grows : goal.returns-in_err-kept-clause-grows
+returns-in_err-kept-clause-grows t c = c.apply_response.ensures.grows
+
+pub returns-in_err-kept-clause-keeps : goal.returns-in_err-kept-clause-keeps
+returns-in_err-kept-clause-keeps t c = λ i x h. c.apply_response.ensures.keeps i x (c.question_for.ensures.keeps i x h)
+
+pub returns-in_err-kept-clause-limit : goal.returns-in_err-kept-clause-limit
+returns-in_err-kept-clause-limit t c = c.apply_response.ensures.limit ∙ c.question_for.ensures.limit
+
+pub returns-in_err-push-clause-ready : goal.returns-in_err-push-clause-ready
+returns-in_err-push-clause-ready t c = c.apply_response.ensures.ready
+
+pub returns-in_err-push-clause-grows : goal.returns-in_err-push-clause-grows
+returns-in_err-push-clause-grows t c = c.apply_response.ensures.grows
+
+pub returns-in_err-push-clause-keeps : goal.returns-in_err-push-clause-keeps
+returns-in_err-push-clause-keeps t c = λ i x h. c.apply_response.ensures.keeps i x (c.question_for.ensures.keeps i x h)
+
+pub returns-in_err-push-clause-limit : goal.returns-in_err-push-clause-limit
+returns-in_err-push-clause-limit t c = c.apply_response.ensures.limit ∙ c.question_for.ensures.limit
+
+pub returns-in_err-rest-clause-ready : goal.returns-in_err-rest-clause-ready
+returns-in_err-rest-clause-ready t c = c.round-2.ensures.ready
+
+pub returns-in_err-rest-clause-grows : goal.returns-in_err-rest-clause-grows
+returns-in_err-rest-clause-grows t c = grows-trans _ _ _ c.apply_response.ensures.grows c.round-2.ensures.grows
+
+pub returns-in_err-rest-clause-keeps : goal.returns-in_err-rest-clause-keeps
+returns-in_err-rest-clause-keeps t c = λ i x h. c.round-2.ensures.keeps i x (c.apply_response.ensures.keeps i x (c.question_for.ensures.keeps i x h))
+
+pub returns-in_err-rest-clause-limit : goal.returns-in_err-rest-clause-limit
+returns-in_err-rest-clause-limit t c = c.round-2.ensures.limit ∙ c.apply_response.ensures.limit ∙ c.question_for.ensures.limit
+
+pub returns-in-Ended-clause-ready : goal.returns-in-Ended-clause-ready
+returns-in-Ended-clause-ready t c = c.round-2.ensures.ready
+
+pub returns-in-Ended-clause-grows : goal.returns-in-Ended-clause-grows
+returns-in-Ended-clause-grows t c = grows-trans _ _ _ c.apply_response.ensures.grows c.round-2.ensures.grows
+
+pub returns-in-Ended-clause-keeps : goal.returns-in-Ended-clause-keeps
+returns-in-Ended-clause-keeps t c = λ i x h. c.round-2.ensures.keeps i x (c.apply_response.ensures.keeps i x (c.question_for.ensures.keeps i x h))
+
+pub returns-in-Ended-clause-limit : goal.returns-in-Ended-clause-limit
+returns-in-Ended-clause-limit t c = c.round-2.ensures.limit ∙ c.apply_response.ensures.limit ∙ c.question_for.ensures.limit
+
+pub returns-clause-ready : goal.returns-clause-ready
+returns-clause-ready t c = c.round-2.ensures.ready
+
+pub returns-clause-grows : goal.returns-clause-grows
+returns-clause-grows t c = grows-trans _ _ _ c.apply_response.ensures.grows c.round-2.ensures.grows
+
+pub returns-clause-keeps : goal.returns-clause-keeps
+returns-clause-keeps t c = λ i x h. c.round-2.ensures.keeps i x (c.apply_response.ensures.keeps i x (c.question_for.ensures.keeps i x h))
+
+pub returns-clause-limit : goal.returns-clause-limit
+returns-clause-limit t c = c.round-2.ensures.limit ∙ c.apply_response.ensures.limit ∙ c.question_for.ensures.limit
 
 pub returns-in_default-replies-clause-left : goal.returns-in_default-replies-clause-left
 returns-in_default-replies-clause-left t c = nested-later c.args.cx.now.entries c.question_for.new.cx.entries c.question_for.ensures.keeps (map nested_goal c.args.left.now.items) c.requires.left

@@ -1,4 +1,4 @@
-use Rattle.std.proofs.Common.{◌≡◌, ◌∙◌, ◌∷◌, ◌++◌, [], ap, inl, inr, slice_get, Some}
+use Rattle.std.proofs.Common.{◌≡◌, ◌∙◌, ◌∷◌, ◌++◌, [], ap, inl, inr, slice_get, Some, arith}
 use Rattle.std.proofs.lemmas.Result.{err_from_is_err_and}
 use Rattle.search_graph.proofs.Errors.{err_passed}
 use Rattle.search_graph.specs.Nested.{covered, no_goal}
@@ -69,3 +69,54 @@ returns-then-lowest-index-clause-range g c =
 pub returns-clause-range : goal.returns-clause-range
 returns-clause-range g c = in_range_goal c.args.cache.now.entries.items c.args.evaluation.dependencies.nested_goals c.add_goal.new.self c.args.number
     c.in_ok-add_goal.ensures.added (ap (λ v. v.items) c.add_goal.ensures.cached) c.in_ok-add_goal.ensures.span c.requires.nested
+
+pub returns-then-lowest-index-clause-found : goal.returns-then-lowest-index-clause-found
+returns-then-lowest-index-clause-found g c = λ h. (
+  ap (λ v. v.items) c.add_cached.ensures.goals ∙ c.new-nested_goals.ensures.goals,
+  c.in_ok-add_cached.ensures.added ∙ ap (λ xs. xs ++ c.in_ok-place.place ∷ []) c.new-nested_goals.ensures.cached ∙ ap (λ p. p ∷ []) c.in_ok-place.ensures.place,
+)
+
+pub returns-then-lowest-index-clause-unkept : goal.returns-then-lowest-index-clause-unkept
+returns-then-lowest-index-clause-unkept g c = λ less. absurd (omega (arith, less, c.if-lowest-index.true))
+
+pub returns-then-lowest-index-clause-asked : goal.returns-then-lowest-index-clause-asked
+returns-then-lowest-index-clause-asked g c = λ less. absurd (omega (arith, less, c.if-lowest-index.true))
+
+pub returns-then-lowest-index-clause-results : goal.returns-then-lowest-index-clause-results
+returns-then-lowest-index-clause-results g c = c.insert.ensures.results
+
+pub returns-then-lowest-index-clause-goals : goal.returns-then-lowest-index-clause-goals
+returns-then-lowest-index-clause-goals g c = c.insert.ensures.goals
+
+pub returns-then-lowest-index-clause-cache : goal.returns-then-lowest-index-clause-cache
+returns-then-lowest-index-clause-cache g c = c.insert.ensures.cache
+
+pub returns-in_err-add_cached-clause-results : goal.returns-in_err-add_cached-clause-results
+returns-in_err-add_cached-clause-results g c = c.insert.ensures.results
+
+pub returns-in_err-add_cached-clause-goals : goal.returns-in_err-add_cached-clause-goals
+returns-in_err-add_cached-clause-goals g c = c.insert.ensures.goals
+
+pub returns-in_err-add_cached-clause-cache : goal.returns-in_err-add_cached-clause-cache
+returns-in_err-add_cached-clause-cache g c = c.insert.ensures.cache
+
+pub returns-in_err-place-clause-results : goal.returns-in_err-place-clause-results
+returns-in_err-place-clause-results g c = c.insert.ensures.results
+
+pub returns-in_err-place-clause-goals : goal.returns-in_err-place-clause-goals
+returns-in_err-place-clause-goals g c = c.insert.ensures.goals
+
+pub returns-in_err-place-clause-cache : goal.returns-in_err-place-clause-cache
+returns-in_err-place-clause-cache g c = c.insert.ensures.cache
+
+pub returns-then-lowest-index-clause-within : goal.returns-then-lowest-index-clause-within
+returns-then-lowest-index-clause-within g c = c.in_ok-place.ensures.within
+
+pub returns-clause-asked : goal.returns-clause-asked
+returns-clause-asked g c = λ less. (c.in_ok-add_goal.ensures.added, c.add_goal.ensures.cached)
+
+pub returns-clause-kept : goal.returns-clause-kept
+returns-clause-kept g c = λ le. absurd (omega (arith, le, c.if-lowest-index.false))
+
+pub returns-clause-found : goal.returns-clause-found
+returns-clause-found g c = λ le. absurd (omega (arith, le, c.if-lowest-index.false))

@@ -40,3 +40,18 @@ returns-in-None-clause-found g c = λ place e at same within clear.
       within = within;
       clear = λ asked under on. clear asked (subst (λ es. IsAskedUnder es place asked) items under) on;
     }))
+
+pub use_cached-requires-clause-cache : goal.use_cached-requires-clause-cache
+use_cached-requires-clause-cache g c = rw c.number_of.ensures.entries c.requires.cache
+
+pub returns-in_ok-cached-in-Some-clause-number : goal.returns-in_ok-cached-in-Some-clause-number
+returns-in_ok-cached-in-Some-clause-number g c = c.in_ok-number.ensures.place
+
+pub returns-in_ok-cached-in-Some-clause-answer : goal.returns-in_ok-cached-in-Some-clause-answer
+returns-in_ok-cached-in-Some-clause-answer g c = c.in_ok-cached-in-Some.ensures.answer
+
+pub returns-in_ok-cached-in-Some-clause-faithful : goal.returns-in_ok-cached-in-Some-clause-faithful
+returns-in_ok-cached-in-Some-clause-faithful g c = c.in_ok-cached-in-Some.ensures.faithful
+
+pub returns-in-None-clause-number : goal.returns-in-None-clause-number
+returns-in-None-clause-number g c = c.in_ok-number.ensures.place

@@ -1,4 +1,4 @@
-use Rattle.std.proofs.Common.{◌≡◌, length, ◌∙◌, sym, inr}
+use Rattle.std.proofs.Common.{◌≡◌, length, ◌∙◌, sym, inr, ◌<◌, subst}
 use Rattle.search_graph.proofs.Caches.{HasConflict-at, KeepsResults-push, AreConsistent-push, numbered_push}
 use Rattle.search_graph.proofs.Chains.{AreLinked-push, listed_push}
 use Rattle.search_graph.proofs.Graphs.{Keeps-refl, cached_insert, IsCached-at}
@@ -73,3 +73,12 @@ invariant_of-self-in-Break-branch-3 g c =
 pub invariant_of-self-2-clause-covered : goal.invariant_of-self-2-clause-covered
 invariant_of-self-2-clause-covered g c = rw c.in_ok-push.ensures.items
     (covered_push c.args.self.now.entries.items (record { input = c.args.input; result = c.in_ok-result.result; depth = c.args.depth; encountered_overflow = c.args.encountered_overflow; number = c.args.number; previous = c.newest_of-previous.result; nested_goals = c.args.nested_goals }) c.args.self.now.covered c.requires.nested)
+
+pub differs-requires : goal.differs-requires
+differs-requires g c = record { number = c.requires.number }
+
+pub index_mut-requires : goal.index_mut-requires
+index_mut-requires g c = subst (λ n. c.args.number < n) (sym c.make_room.new.newest.ok.0) c.in_ok-make_room.ensures.room
+
+pub returns-clause-place : goal.returns-clause-place
+returns-clause-place g c = c.len-place.ensures ∙ c.args.self.now.entries.ok.0

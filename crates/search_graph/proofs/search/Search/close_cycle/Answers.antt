@@ -1,5 +1,5 @@
-use Rattle.std.proofs.Common.{◌≡◌, ◌∙◌, sym, ap, inl, Some, slice_get}
-use Rattle.std.proofs.lemmas.Option.{get_or_from_slice_get, MatchOption-at_some, none-some, same_Some}
+use Rattle.std.proofs.Common.{◌≡◌, ◌∙◌, sym, ap, inl, Some, slice_get, ◌<◌, subst}
+use Rattle.std.proofs.lemmas.Option.{get_or_from_slice_get, MatchOption-at_some, none-some, same_Some, slice_get_within}
 use Rattle.search_graph.specs.Stack.{IsWithin}
 use Rattle.search_graph.proofs.Graphs.{Keeps-refl, last_answers, initial_answers}
 use Rattle.search_graph.proofs.Graphs.{IsEntry-at}
@@ -114,3 +114,6 @@ returns-in_ok-answer-in-None-clause-first g c =
 pub returns-in_ok-answer-in-None-clause-keeps : goal.returns-in_ok-answer-in-None-clause-keeps
 returns-in_ok-answer-in-None-clause-keeps g c =
     c.initial_provisional_result.ensures.keeps
+
+pub index-entry-requires : goal.index-entry-requires
+index-entry-requires g c = subst (λ n. c.args.cycle.index < n) (sym c.args.self.now.stack.ok.0) (slice_get_within c.args.self.now.stack.items c.args.cycle.index c.requires.cycle.0 c.requires.cycle.1)

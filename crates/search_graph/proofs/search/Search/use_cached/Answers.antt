@@ -1,7 +1,10 @@
-use Rattle.std.proofs.Common.{◌≡◌, ◌∙◌, sym, ap, [], true, arith, Some}
+use Rattle.std.proofs.Common.{◌≡◌, ◌∙◌, ◌++◌, ◌∷◌, sym, ap, refl, [], true, arith, Some}
+use Rattle.std.proofs.lemmas.Option.{same_Some}
+use Rattle.search_graph.specs.Nested.{covered, no_goal}
 use Rattle.search_graph.specs.declared.path_kind.PathKind.TheVariants.{Inductive}
 use Rattle.search_graph.specs.Stack.{path_onto}
 use Rattle.search_graph.proofs.Graphs.{path_length, cached_answers}
+use Rattle.search_graph.proofs.Ranges.{in_range_cached}
 use Rattle.search_graph.proofs.Faithfuls.{faithful_kept}
 use Rattle.search_graph.proofs.search.Search.use_cached.Goals as goal
 
@@ -27,3 +30,29 @@ returns-clause-faithful g c =
     let long = path_length m first es c.len.result (c.len.ensures ∙ c.args.self.now.stack.ok.0) in
     rw c.new-dependencies.ensures.lowest (faithful_kept m (m.world first) c.args.depth c.in_ok-cached.cached.depth (path_onto m first es []) (m.goal_of first c.args.input.now) (m.answer_of first c.in_ok-cached.cached.result) c.in_ok-cached.cached.encountered_overflow c.len.result c.new-dependencies.result.heads.items
     depth (omega arith) c.new-dependencies.ensures.unread c.in_ok-cached.ensures.kept)
+
+pub returns-clause-same : goal.returns-clause-same
+returns-clause-same g c = λ e at.
+    let entry = c.in_ok-cached.ensures.entry in
+    let is : c.in_ok-cached.ensures.entry.0 ≡ e = same_Some _ _ (sym entry.1 ∙ at) in
+    (entry.2 ∙ ap (λ z. z.result) is, entry.3 ∙ ap (λ z. z.depth) is, entry.4 ∙ ap (λ z. z.encountered_overflow) is)
+
+pub returns-clause-unread : goal.returns-clause-unread
+returns-clause-unread g c = (c.new-dependencies.ensures.lowest ∙ c.len.ensures ∙ c.args.self.now.stack.ok.0, c.new-dependencies.ensures.unread)
+
+pub returns-clause-asked : goal.returns-clause-asked
+returns-clause-asked g c = (ap (λ v. v.items) c.add_cached.ensures.goals ∙ c.new-dependencies.ensures.unasked.0, c.in_ok-add_cached.ensures.added ∙ ap (λ xs. xs ++ c.args.place ∷ []) c.new-dependencies.ensures.unasked.1)
+
+pub returns-clause-range : goal.returns-clause-range
+returns-clause-range g c =
+    let found = c.requires.place in
+    in_range_cached c.args.cache.now.entries.items c.add_cached.new.self c.args.place found.0 found.1
+    (ap (λ v. v.items) c.add_cached.ensures.goals ∙ c.new-dependencies.ensures.unasked.0)
+    (c.in_ok-add_cached.ensures.added ∙ ap (λ xs. xs ++ c.args.place ∷ []) c.new-dependencies.ensures.unasked.1)
+    (c.in_ok-add_cached.ensures.span ∙ ap (λ s. covered s c.span_of.result) c.new-dependencies.ensures.unasked.2 ∙ ap (covered no_goal) (c.span_of.ensures found.0 found.1))
+
+pub get-requires-clause-cache : goal.get-requires-clause-cache
+get-requires-clause-cache g c = c.requires.cache
+
+pub get-requires-clause-place : goal.get-requires-clause-place
+get-requires-clause-place g c = let found = c.requires.place in (found.0, found.1, found.2)
