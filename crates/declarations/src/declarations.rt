@@ -38,7 +38,6 @@ struct ImplEntry {
 /// A contract sees them as lists in the order in which they were added; `declared` is the world that these are, without
 /// lifetimes, over the terms of an interner. It has no list of crates: which of them are seen was decided when the declarations
 /// were taken. The terms are handles of one interner. It may grow, and no handle is made or lost here.
-#[derive(Drop)]
 pub struct Declarations {
     local: CrateId,
     adts: IndexMap<AdtId, AdtDef>,
@@ -46,6 +45,20 @@ pub struct Declarations {
     impls: IndexMap<ImplId, ImplEntry>,
     heads: IndexMap<ImplHead, Vec<ImplId>>,
     alloc: Global,
+}
+
+// Written, so that what owns one drops it by one call at each way out, and not field by field.
+impl Drop for Declarations {
+    fn drop(self) {
+        let Declarations {
+            local: _,
+            adts: _,
+            traits: _,
+            impls: _,
+            heads: _,
+            alloc: _,
+        } = self;
+    }
 }
 
 impl Model for Declarations {

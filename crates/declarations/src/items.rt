@@ -21,7 +21,6 @@ pub enum GenericParamKind {
 }
 
 /// A struct (`AdtDef`). `fundamental struct Box<T>(*const T)` has one parameter and one field.
-#[derive(Drop)]
 pub struct AdtDef {
     /// The crate that declares it.
     pub home: CrateId,
@@ -32,6 +31,19 @@ pub struct AdtDef {
     pub fields: Vec<Ty>,
     /// For each parameter whether it is unsizing: the last field mentions it, and no earlier one does (RFC 982).
     pub unsizing_params: Vec<bool>,
+}
+
+// Written, so that what owns one drops it by one call at each way out, and not field by field.
+impl Drop for AdtDef {
+    fn drop(self) {
+        let AdtDef {
+            home: _,
+            is_fundamental: _,
+            params: _,
+            fields: _,
+            unsizing_params: _,
+        } = self;
+    }
 }
 
 impl AdtDef {
@@ -64,7 +76,6 @@ impl AdtDef {
 }
 
 /// A trait (`TraitDef`). `trait Sub<U>: Sup<U>` has two parameters, of which Self is the first, and one bound.
-#[derive(Drop)]
 pub struct TraitDef {
     /// The crate that declares it.
     pub home: CrateId,
@@ -78,9 +89,21 @@ pub struct TraitDef {
     pub bounds: Vec<TraitRef>,
 }
 
+// Written, so that what owns one drops it by one call at each way out, and not field by field.
+impl Drop for TraitDef {
+    fn drop(self) {
+        let TraitDef {
+            home: _,
+            is_fundamental: _,
+            is_auto: _,
+            params: _,
+            bounds: _,
+        } = self;
+    }
+}
+
 /// An impl (`ImplTraitHeader`). `impl<T> Show for V<T> where T: Show` has one parameter, the header `V<T>: Show` and one
 /// where-clause.
-#[derive(Drop)]
 pub struct ImplDef {
     /// The crate that declares it.
     pub home: CrateId,
@@ -90,4 +113,16 @@ pub struct ImplDef {
     pub header: TraitRef,
     /// Its where-clauses.
     pub clauses: Vec<TraitRef>,
+}
+
+// Written, so that what owns one drops it by one call at each way out, and not field by field.
+impl Drop for ImplDef {
+    fn drop(self) {
+        let ImplDef {
+            home: _,
+            params: _,
+            header: _,
+            clauses: _,
+        } = self;
+    }
 }

@@ -45,7 +45,6 @@ pub enum CandidateSource {
 /// Its terms speak of the variables of its canonical goal and of unknowns of its own, numbered in one row: of a goal with n
 /// variables `^0` to `^(n-1)` are the goal's, and `^(n+i)` is the unknown of the kind `variables[i]`, which is made before all else.
 /// Then its equations are to hold, its constraints are recorded, and its nested goals are asked in order.
-#[derive(Drop)]
 pub struct CandidateSpec {
     pub source: CandidateSource,
     pub variables: Vec<CanonicalVarKind>,
@@ -56,14 +55,38 @@ pub struct CandidateSpec {
     pub certainty: Certainty,
 }
 
+// Written, so that what owns one drops it by one call at each way out, and not field by field.
+impl Drop for CandidateSpec {
+    fn drop(self) {
+        let CandidateSpec {
+            source: _,
+            variables: _,
+            equations: _,
+            region_constraints: _,
+            nested_goals: _,
+            certainty: _,
+        } = self;
+    }
+}
+
 /// A candidate that was considered (`rustc_next_trait_solver::solve::assembly::Candidate`).
-#[derive(Drop)]
 pub struct Considered {
     pub source: CandidateSource,
     /// None if it was refused.
     pub result: Option<CanonicalResponse>,
     /// The number under which the search graph keeps how often its questions read the results of goals on the stack.
     pub head_usages: usize,
+}
+
+// Written, so that what owns one drops it by one call at each way out, and not field by field.
+impl Drop for Considered {
+    fn drop(self) {
+        let Considered {
+            source: _,
+            result: _,
+            head_usages: _,
+        } = self;
+    }
 }
 
 /// What a handler wants next.

@@ -55,7 +55,6 @@ pub enum EvalStep<T> {
 ///
 /// `EvalCtxt` of `rustc_next_trait_solver`. It owns its table, and asks by answering with a question: whoever drives it brings
 /// the reply and calls again.
-#[derive(Drop)]
 pub struct EvalCtxt {
     mode: TypingMode,
     table: InferCtxt,
@@ -63,6 +62,20 @@ pub struct EvalCtxt {
     values: Vec<GenericArgKind>,
     nested_goals: Vec<(GoalSource, Goal)>,
     replies: Vec<Option<CanonicalResponse>>,
+}
+
+// Written, so that what owns one drops it by one call at each way out, and not field by field.
+impl Drop for EvalCtxt {
+    fn drop(self) {
+        let EvalCtxt {
+            mode: _,
+            table: _,
+            variables: _,
+            values: _,
+            nested_goals: _,
+            replies: _,
+        } = self;
+    }
 }
 
 impl Model for EvalCtxt {

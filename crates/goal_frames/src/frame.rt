@@ -52,12 +52,22 @@ enum Place {
 ///
 /// A candidate that is open is evaluated anew, over the replies to its questions, whenever one has come. What a frame asks is a
 /// function of its goal and of the replies that it has had, as trees: no handle decides anything.
-#[derive(Drop)]
 pub struct GoalFrame {
     goal: CanonicalInput,
     /// The candidates that are finished, the oldest first.
     considered: Vec<Considered>,
     place: Place,
+}
+
+// Written, so that what owns one drops it by one call at each way out, and not field by field.
+impl Drop for GoalFrame {
+    fn drop(self) {
+        let GoalFrame {
+            goal: _,
+            considered: _,
+            place: _,
+        } = self;
+    }
 }
 
 /// The kind of the step to a nested goal: coinductive exactly if the asking goal's trait is and the goal is a premise.

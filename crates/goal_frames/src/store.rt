@@ -15,7 +15,6 @@ pub struct InputId(pub u32);
 pub struct ResponseId(pub u32);
 
 /// Canonical goals and answers, each kept once.
-#[derive(Drop)]
 pub struct GoalStore {
     pub(crate) inputs: IndexSet<CanonicalInput>,
     pub(crate) responses: IndexSet<CanonicalResponse>,
@@ -24,4 +23,15 @@ pub struct GoalStore {
     ghost responses_distinct: { IsDistinct ⟦<CanonicalResponse as PartialEq>⟧.eq responses.keys } by { IsDistinct-prop _ _ },
     ghost inputs_within: { length inputs.keys ≤ limit },
     ghost responses_within: { length responses.keys ≤ limit },
+}
+
+// Written, so that what owns one drops it by one call at each way out, and not field by field.
+impl Drop for GoalStore {
+    fn drop(self) {
+        let GoalStore {
+            inputs: _,
+            responses: _,
+            limit: _,
+        } = self;
+    }
 }

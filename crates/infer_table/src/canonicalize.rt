@@ -34,11 +34,11 @@ fn collect_leaves(
     cx: &Interner,
     values: GenericArgs,
     constraints: &[RegionConstraint],
-) -> Result<IndexSet<GenericArgKind>, Fault>
+) -> Result<LeafCollector, Fault>
     requires values { Has cx.now.entries args_lists values.0 }
     requires constraints { AllConstraintsHeld cx.now.entries constraints.now }
-    ensures listed { IfOk result (λ s. AreLeaves cx.now.entries s.keys) }
-    ensures leaves { IfOk result (λ s. labels cx.now.entries s.keys ≡ answer_leaves (trees_at cx.now.entries values.0 +++ constraints_trees cx.now.entries constraints.now)) }
+    ensures listed { IfOk result (λ s. AreLeaves cx.now.entries s.leaves.keys) }
+    ensures leaves { IfOk result (λ s. labels cx.now.entries s.leaves.keys ≡ answer_leaves (trees_at cx.now.entries values.0 +++ constraints_trees cx.now.entries constraints.now)) }
     ensures only { IfOk result (λ s. OpenAreLeaves kind_of_leaf (trees_at cx.now.entries values.0)) }
     ensures memory { IfErr result (λ e. e ≡ Fault.Memory) }
 {
@@ -50,11 +50,7 @@ fn collect_leaves(
     for constraint in constraints {
         collector = collector.collect(alloc, cx, *constraint)?;
     }
-    let LeafCollector {
-        leaves,
-        in_clause: _,
-    } = collector;
-    Ok(leaves)
+    Ok(collector)
 }
 
 /// The answer that a table gives to a goal, in canonical form: what it says of the goal's values, and what it recorded
@@ -98,10 +94,10 @@ pub fn canonicalize_response(
     let given = cx.mk_args(Vec::from_slice(alloc, values)?)?;
     let resolved = table.eager_resolve_vars(cx, given)?;
     let constraints = resolve_constraints(alloc, cx, table, table.region_constraints())?;
-    let leaves = collect_leaves(alloc, cx, resolved, &constraints)?;
-    let variables = variable_kinds(alloc, cx, leaves.as_slice())?;
+    let collected = collect_leaves(alloc, cx, resolved, &constraints)?;
+    let variables = variable_kinds(alloc, cx, collected.leaves.as_slice())?;
     let folder = Canonicalizer {
-        leaves: &leaves,
+        leaves: &collected.leaves,
         in_clause: false,
     };
     let numbered = resolved.fold_with(alloc, cx, &folder)?;

@@ -82,11 +82,20 @@ fn is_open_region(region: Region, in_clause: bool) -> bool
 }
 
 /// Lists the open leaves that a visit meets, each once.
-#[derive(Drop)]
 pub struct LeafCollector {
     pub leaves: IndexSet<GenericArgKind>,
     /// Whether a where-clause is visited, in which `'static` is not open.
     pub in_clause: bool,
+}
+
+// Written, so that what owns one drops it by one call at each way out, and not field by field.
+impl Drop for LeafCollector {
+    fn drop(self) {
+        let LeafCollector {
+            leaves: _,
+            in_clause: _,
+        } = self;
+    }
 }
 
 impl LeafCollector {

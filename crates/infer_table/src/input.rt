@@ -186,10 +186,10 @@ fn canonicalize_resolved(
     ensures full { result ≡ Err Fault.Full → SomeKindIsFull cx.new.entries cx.new.limit ⊎ (MAX_INDEX ≤ length (goal_leaves (goal_trees cx.old.entries goal.now))) }
 {
     cx.lawful();
-    let leaves = collect_leaves(alloc, cx, goal)?;
-    let values = Vec::from_slice(alloc, leaves.as_slice())?;
+    let collected = collect_leaves(alloc, cx, goal)?;
+    let values = Vec::from_slice(alloc, collected.leaves.as_slice())?;
     let variables = variable_kinds(alloc, cx, &values)?;
-    let goal = number_leaves(alloc, cx, &leaves, goal)?;
+    let goal = number_leaves(alloc, cx, &collected.leaves, goal)?;
     let input = CanonicalInput {
         mode,
         goal,
@@ -199,14 +199,10 @@ fn canonicalize_resolved(
 }
 
 /// The goal's open leaves, each once, by first occurrence.
-fn collect_leaves(
-    alloc: Global,
-    cx: &Interner,
-    goal: &Goal,
-) -> Result<IndexSet<GenericArgKind>, Fault>
+fn collect_leaves(alloc: Global, cx: &Interner, goal: &Goal) -> Result<LeafCollector, Fault>
     requires { GoalHeld cx.now.entries goal.now }
-    ensures listed { IfOk result (λ s. AreLeaves cx.now.entries s.keys) }
-    ensures leaves { IfOk result (λ s. labels cx.now.entries s.keys ≡ goal_leaves (goal_trees cx.now.entries goal.now)) }
+    ensures listed { IfOk result (λ s. AreLeaves cx.now.entries s.leaves.keys) }
+    ensures leaves { IfOk result (λ s. labels cx.now.entries s.leaves.keys ≡ goal_leaves (goal_trees cx.now.entries goal.now)) }
     ensures only { IfOk result (λ s. OpenAreLeavesOf (goal_trees cx.now.entries goal.now)) }
     ensures memory { IfErr result (λ e. e ≡ Fault.Memory) }
 {
@@ -221,11 +217,7 @@ fn collect_leaves(
         collector.in_clause = false;
         collector = collector.collect(alloc, cx, goal.predicate)?;
     }
-    let LeafCollector {
-        leaves,
-        in_clause: _,
-    } = collector;
-    Ok(leaves)
+    Ok(collector)
 }
 
 /// What each leaf is.

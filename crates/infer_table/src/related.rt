@@ -43,11 +43,21 @@ impl Begun {
 ///
 /// A pair that comes again needs nothing done: all that it asks for is done, and a constraint on lifetimes is recorded once. It is not
 /// kept if lifetimes were opened while it was related, since each time that it comes others are opened.
-#[derive(Drop)]
 pub struct Related {
     pub steps: u32,
     pub settled: HashSet<Pair>,
     pub begun: Vec<Begun>,
+}
+
+// Written, so that what owns one drops it by one call at each way out, and not field by field.
+impl Drop for Related {
+    fn drop(self) {
+        let Related {
+            steps: _,
+            settled: _,
+            begun: _,
+        } = self;
+    }
 }
 
 impl Related {

@@ -10,12 +10,24 @@ use type_terms::kinds::GenericArgKind;
 /// `Canonical<Response>` of `rustc_type_ir`, whose `max_universe` and opaque types have no place here. Value i of
 /// `var_values` is what the answer says of variable i of the goal, and constraints are kept in the order in which
 /// they were recorded. Both speak of the answer's own `variables`.
-#[derive(PartialEq, Eq, Hash, Drop)]
+#[derive(PartialEq, Eq, Hash)]
 pub struct CanonicalResponse {
     pub variables: Vec<CanonicalVarKind>,
     pub certainty: Certainty,
     pub var_values: Vec<GenericArgKind>,
     pub region_constraints: Vec<RegionConstraint>,
+}
+
+// Written, so that what owns one drops it by one call at each way out, and not field by field.
+impl Drop for CanonicalResponse {
+    fn drop(self) {
+        let CanonicalResponse {
+            variables: _,
+            certainty: _,
+            var_values: _,
+            region_constraints: _,
+        } = self;
+    }
 }
 
 impl Clone for CanonicalResponse {

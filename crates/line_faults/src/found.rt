@@ -16,12 +16,23 @@ use std::marker::Model;
 use workspace::ParamKind;
 
 /// What is found so far. What was met last comes first: the variables and the resolved cells are turned round at the end.
-#[derive(Drop)]
 pub(crate) struct Found<'a> {
     faults: Findings,
     variables: Vec<Variable<'a>>,
     is_deep: bool,
     cells: Vec<ResolvedCell<'a>>,
+}
+
+// Written, so that what owns one drops it by one call at each way out, and not field by field.
+impl Drop for Found<'_> {
+    fn drop(self) {
+        let Found {
+            faults: _,
+            variables: _,
+            is_deep: _,
+            cells: _,
+        } = self;
+    }
 }
 
 impl<'a> Model for Found<'a> {

@@ -65,12 +65,23 @@ pub(crate) enum Next {
 }
 
 /// Going over the cells of a type.
-#[derive(Drop)]
 pub(crate) struct Walk<'n, 'c, 'a> {
     pub rest: Rest<'c, 'a>,
     pub frames: Vec<Frame<'n>>,
     pub binders: Binders<'a>,
     pub found: Found<'a>,
+}
+
+// Written, so that what owns one drops it by one call at each way out, and not field by field.
+impl Drop for Walk<'_, '_, '_> {
+    fn drop(self) {
+        let Walk {
+            rest: _,
+            frames: _,
+            binders: _,
+            found: _,
+        } = self;
+    }
 }
 
 /// The room inside a type.

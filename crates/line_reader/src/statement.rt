@@ -89,9 +89,18 @@ pub enum Statement<'a> {
 }
 
 /// A line that was read.
-#[derive(Drop)]
 pub struct LineRead<'a> {
     /// The cells of all its types and bounds.
     pub cells: Vec<Cell<'a>>,
     pub statement: Statement<'a>,
+}
+
+// Written, so that what owns one drops it by one call at each way out, and not field by field.
+impl Drop for LineRead<'_> {
+    fn drop(self) {
+        let LineRead {
+            cells: _,
+            statement: _,
+        } = self;
+    }
 }

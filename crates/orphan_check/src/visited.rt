@@ -18,10 +18,19 @@ pub(crate) struct Visit {
 }
 
 /// The types that a walk has visited, each with what was left of the limit there, without the first ones.
-#[derive(Drop)]
 pub(crate) struct Visited {
     pub steps: u32,
     pub visits: HashSet<Visit>,
+}
+
+// Written, so that what owns one drops it by one call at each way out, and not field by field.
+impl Drop for Visited {
+    fn drop(self) {
+        let Visited {
+            steps: _,
+            visits: _,
+        } = self;
+    }
 }
 
 impl Visited {

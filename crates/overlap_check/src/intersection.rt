@@ -23,7 +23,6 @@ use type_terms::interner::Interner;
 ///
 /// `impl<T> Show for V<T> where T: Num` and `impl<U> Show for V<U> where U: Copy` leave a table where `?1` is `?0`, and to be asked over
 /// it are `?0: Num` of the first one and `?1: Copy` of the second one.
-#[derive(Drop)]
 pub struct ImplIntersection {
     /// The table in which the headers are equal.
     pub table: InferCtxt,
@@ -31,6 +30,17 @@ pub struct ImplIntersection {
     pub left: Vec<TraitRef>,
     /// The where-clauses of the second impl, over the table's unknowns.
     pub right: Vec<TraitRef>,
+}
+
+// Written, so that what owns one drops it by one call at each way out, and not field by field.
+impl Drop for ImplIntersection {
+    fn drop(self) {
+        let ImplIntersection {
+            table: _,
+            left: _,
+            right: _,
+        } = self;
+    }
 }
 
 /// What two impls have in common, with new unknowns for the parameters of both in a table of its own; `None` where their headers

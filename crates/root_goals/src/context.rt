@@ -29,7 +29,6 @@ use type_terms::interner::Interner;
 /// is made over the handler's interner, and each call keeps it so.
 ///
 /// `SolverDelegate` of `rustc_next_trait_solver`, whose interner keeps goals and answers too.
-#[derive(Drop)]
 pub struct SolverCx<H> {
     /// Where memory comes from.
     pub alloc: Global,
@@ -39,6 +38,18 @@ pub struct SolverCx<H> {
     pub handler: H,
     /// The goals and answers that were met.
     pub store: GoalStore,
+}
+
+// Written, so that what owns one drops it by one call at each way out, and not field by field.
+impl<H: Drop> Drop for SolverCx<H> {
+    fn drop(self) {
+        let SolverCx {
+            alloc: _,
+            interner: _,
+            handler: _,
+            store: _,
+        } = self;
+    }
 }
 
 impl<H: GoalHandler> SolverCx<H> {

@@ -41,10 +41,19 @@ pub struct Rule {
 }
 
 /// A list of rules, and which traits are coinductive. No rule of the original has this form: it asks its crates for impls.
-#[derive(Drop)]
 pub struct RuleBook {
     pub rules: Vec<Rule>,
     pub coinductive: Vec<TraitId>,
+}
+
+// Written, so that what owns one drops it by one call at each way out, and not field by field.
+impl Drop for RuleBook {
+    fn drop(self) {
+        let RuleBook {
+            rules: _,
+            coinductive: _,
+        } = self;
+    }
 }
 
 /// The canonical variables of these kinds, behind this many others. `Full` comes also where there are no numbers for them.

@@ -64,13 +64,23 @@ impl Rule {
 }
 
 /// What the frame of a goal does.
-#[derive(Drop)]
 pub struct Script {
     /// Its requests, in order. No more than the first 64 are made.
     pub steps: Vec<Step>,
     pub rule: Rule,
     /// The result after the last step.
     pub otherwise: u8,
+}
+
+// Written, so that what owns one drops it by one call at each way out, and not field by field.
+impl Drop for Script {
+    fn drop(self) {
+        let Script {
+            steps: _,
+            rule: _,
+            otherwise: _,
+        } = self;
+    }
 }
 
 /// The scripts of the goals, by number.

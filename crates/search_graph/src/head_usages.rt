@@ -80,10 +80,16 @@ impl HeadUsages {
 /// How often the results of goals of the stack were read while a candidate was looked at.
 ///
 /// `CandidateHeadUsages` of `rustc_type_ir::search_graph`, where numbers that grow too large end the process.
-#[derive(Drop)]
 pub struct CandidateHeadUsages {
     /// By the places of the goals on the stack.
     usages: IndexMap<usize, HeadUsages>,
+}
+
+// Written, so that what owns one drops it by one call at each way out, and not field by field.
+impl Drop for CandidateHeadUsages {
+    fn drop(self) {
+        let CandidateHeadUsages { usages: _ } = self;
+    }
 }
 
 impl Model for CandidateHeadUsages {

@@ -59,9 +59,15 @@ fn own_group(cx: &Interner, def: &ImplDef) -> ImplGroup
 }
 
 /// The impls of each group, by rising number.
-#[derive(Drop)]
 pub(crate) struct ImplsByTrait {
     groups: HashMap<ImplGroup, Vec<ImplId>>,
+}
+
+// Written, so that what owns one drops it by one call at each way out, and not field by field.
+impl Drop for ImplsByTrait {
+    fn drop(self) {
+        let ImplsByTrait { groups: _ } = self;
+    }
 }
 
 impl ImplsByTrait {

@@ -41,7 +41,6 @@ use workspace::Workspace;
 /// A session sees the view of its crate alone: the crate and all that it uses, directly or through others, `core` included. It lowers
 /// the view when it is made. It can be asked again after any call, one that ended with a fault too: the terms, goals and answers that
 /// a call has made stay, and what the cache holds is justified.
-#[derive(Drop)]
 pub struct Session<'w> {
     workspace: &'w Workspace,
     crate_id: CrateId,
@@ -49,6 +48,20 @@ pub struct Session<'w> {
     cx: SolverCx<Solver>,
     graph: SearchGraph<SolverGraph<Solver>>,
     cache: GlobalCache<SolverGraph<Solver>>,
+}
+
+// Written, so that what owns one drops it by one call at each way out, and not field by field.
+impl Drop for Session<'_> {
+    fn drop(self) {
+        let Session {
+            workspace: _,
+            crate_id: _,
+            limits: _,
+            cx: _,
+            graph: _,
+            cache: _,
+        } = self;
+    }
 }
 
 impl<'w> Model for Session<'w> {

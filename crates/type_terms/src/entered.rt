@@ -10,10 +10,16 @@ use std::collections::HashSet;
 pub const BEFORE: u32 = 32;
 
 /// The types that a visit has entered, by their handles, without the first 32: a small term costs no set.
-#[derive(Drop)]
 pub struct Entered {
     pub steps: u32,
     pub types: HashSet<u32>,
+}
+
+// Written, so that what owns one drops it by one call at each way out, and not field by field.
+impl Drop for Entered {
+    fn drop(self) {
+        let Entered { steps: _, types: _ } = self;
+    }
 }
 
 impl Entered {

@@ -115,11 +115,21 @@ impl Handle for Bounds {
 ///
 /// There is one table of nodes in the order in which they were made, so a term's parts are older than the term,
 /// and a count for each kind of handle.
-#[derive(Drop)]
 pub struct Interner {
     nodes: IndexMap<Node, Info>,
     counts: Counts,
     limit: u32,
+}
+
+// Written, so that what owns one drops it by one call at each way out, and not field by field.
+impl Drop for Interner {
+    fn drop(self) {
+        let Interner {
+            nodes: _,
+            counts: _,
+            limit: _,
+        } = self;
+    }
 }
 
 impl Model for Interner {

@@ -10,7 +10,6 @@ pub struct ReferenceCells {
     pub args: Vec<TermCell>,
 }
 
-#[derive(Drop)]
 pub(crate) struct CrateEntry {
     pub id: CrateId,
     pub name: Vec<u8>,
@@ -20,8 +19,19 @@ pub(crate) struct CrateEntry {
     pub sees: Vec<bool>,
 }
 
+// Written, so that what owns one drops it by one call at each way out, and not field by field.
+impl Drop for CrateEntry {
+    fn drop(self) {
+        let CrateEntry {
+            id: _,
+            name: _,
+            uses: _,
+            sees: _,
+        } = self;
+    }
+}
+
 /// A struct with the kinds of its parameters and its fields.
-#[derive(Drop)]
 pub struct StructEntry {
     pub id: AdtId,
     pub name: Vec<u8>,
@@ -31,8 +41,21 @@ pub struct StructEntry {
     pub fields: Vec<TermCell>,
 }
 
+// Written, so that what owns one drops it by one call at each way out, and not field by field.
+impl Drop for StructEntry {
+    fn drop(self) {
+        let StructEntry {
+            id: _,
+            name: _,
+            owner: _,
+            is_fundamental: _,
+            params: _,
+            fields: _,
+        } = self;
+    }
+}
+
 /// A trait as it is declared.
-#[derive(Drop)]
 pub struct TraitEntry {
     pub id: TraitId,
     pub name: Vec<u8>,
@@ -45,8 +68,22 @@ pub struct TraitEntry {
     pub bounds: Vec<ReferenceCells>,
 }
 
+// Written, so that what owns one drops it by one call at each way out, and not field by field.
+impl Drop for TraitEntry {
+    fn drop(self) {
+        let TraitEntry {
+            id: _,
+            name: _,
+            owner: _,
+            is_fundamental: _,
+            is_auto: _,
+            params: _,
+            bounds: _,
+        } = self;
+    }
+}
+
 /// An impl: what its header says holds where its clauses hold.
-#[derive(Drop)]
 pub struct ImplEntry {
     pub id: ImplId,
     pub owner: CrateId,
@@ -57,6 +94,20 @@ pub struct ImplEntry {
     pub clauses: Vec<ReferenceCells>,
 }
 
+// Written, so that what owns one drops it by one call at each way out, and not field by field.
+impl Drop for ImplEntry {
+    fn drop(self) {
+        let ImplEntry {
+            id: _,
+            owner: _,
+            number_in_crate: _,
+            params: _,
+            header: _,
+            clauses: _,
+        } = self;
+    }
+}
+
 /// A named parameter, or a variable of a question.
 #[derive(Drop)]
 pub struct Param {
@@ -65,13 +116,25 @@ pub struct Param {
 }
 
 /// A question: `prove in C R where ..`, `refute in C R`.
-#[derive(Drop)]
 pub struct QuestionEntry {
     pub asked_how: Asked,
     pub params: Vec<Param>,
     pub asked: ReferenceCells,
     pub clauses: Vec<ReferenceCells>,
     pub variables: Vec<Param>,
+}
+
+// Written, so that what owns one drops it by one call at each way out, and not field by field.
+impl Drop for QuestionEntry {
+    fn drop(self) {
+        let QuestionEntry {
+            asked_how: _,
+            params: _,
+            asked: _,
+            clauses: _,
+            variables: _,
+        } = self;
+    }
 }
 
 /// What a line asks, and in which crate.

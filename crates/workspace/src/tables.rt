@@ -31,7 +31,6 @@ pub const ENTRY_LIMIT: usize = 1_048_640;
 ///
 /// An item's number is its place among all of its kind. A call that adds something can run out of memory; the tables are not used
 /// any more then.
-#[derive(Drop)]
 pub struct Tables {
     pub(crate) alloc: Global,
     pub(crate) crates: Vec<CrateEntry>,
@@ -47,6 +46,25 @@ pub struct Tables {
     last_impls: u32,
     /// How many structs, traits and impls the last crate has.
     last_items: u32,
+}
+
+// Written, so that what owns one drops it by one call at each way out, and not field by field.
+impl Drop for Tables {
+    fn drop(self) {
+        let Tables {
+            alloc: _,
+            crates: _,
+            ids: _,
+            structs: _,
+            traits: _,
+            impls: _,
+            questions: _,
+            asked: _,
+            names: _,
+            last_impls: _,
+            last_items: _,
+        } = self;
+    }
 }
 
 /// Whether a row is marked at a place; behind its end it isn't.

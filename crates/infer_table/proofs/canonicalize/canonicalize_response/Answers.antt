@@ -31,7 +31,7 @@ eager_resolve_vars-requires-clause-ready c = ready-later c.args.cx.now.entries c
 pub variable_kinds-requires-clause-open : goal.variable_kinds-requires-clause-open
 variable_kinds-requires-clause-open c =
     let now = c.resolve_constraints.new.cx.entries in
-    subst AreOpen (sym (ap (labels now) c.as_slice.ensures.keys ∙ c.in_ok-leaves.ensures.leaves)) (goal-open none (trees_at now c.in_ok-resolved.resolved.0 +++ constraints_trees now c.deref.result.now))
+    subst AreOpen (sym (ap (labels now) c.as_slice.ensures.keys ∙ c.in_ok-collected.ensures.leaves)) (goal-open none (trees_at now c.in_ok-resolved.resolved.0 +++ constraints_trees now c.deref.result.now))
 
 pub returns-in_err-variables-clause-keeps : goal.returns-in_err-variables-clause-keeps
 returns-in_err-variables-clause-keeps c =
@@ -43,7 +43,7 @@ returns-in_err-numbered-clause-keeps c =
 
 pub fold_constraints-requires-clause-ready : goal.fold_constraints-requires-clause-ready
 fold_constraints-requires-clause-ready c =
-    leaves-later c.resolve_constraints.new.cx.entries c.fold_with.new.cx.entries c.fold_with.ensures.keeps c.in_ok-leaves.leaves.keys c.in_ok-leaves.ensures.listed
+    leaves-later c.resolve_constraints.new.cx.entries c.fold_with.new.cx.entries c.fold_with.ensures.keeps c.in_ok-collected.collected.leaves.keys c.in_ok-collected.ensures.listed
 
 pub fold_constraints-requires-clause-held : goal.fold_constraints-requires-clause-held
 fold_constraints-requires-clause-held c =
@@ -74,7 +74,7 @@ returns-clause-values c =
     let bs = content es ps in
     let V = args_trees es c.args.values.now in
     let C = constraints_trees es cs in
-    let keys = c.in_ok-leaves.leaves.keys in
+    let keys = c.in_ok-collected.collected.leaves.keys in
     let to-solved : Keeps es solved = λ i x h. c.eager_resolve_vars.ensures.keeps i x (c.mk_args.ensures.keeps i x h) in
     let values : trees_at now c.in_ok-resolved.resolved.0 ≡ resolved bs V =
     trees-later solved now c.resolve_constraints.ensures.keeps args_lists c.in_ok-resolved.resolved.0 c.in_ok-resolved.ensures.held
@@ -87,7 +87,7 @@ returns-clause-values c =
     ∙ ap (resolved (content solved ps)) (constraints-later es solved to-solved cs c.requires.ready.constraints_held)
     ∙ ap (λ z. resolved z C) (content-kept es solved ps to-solved c.requires.ready.held) in
     let listed : labels now keys ≡ answer_leaves (resolved bs (V +++ C)) =
-    c.in_ok-leaves.ensures.leaves
+    c.in_ok-collected.ensures.leaves
     ∙ ap answer_leaves (append-both _ _ _ _ values (ap (constraints_trees now) c.deref.ensures.value ∙ constraints) ∙ sym (resolved-append bs V C)) in
     let numbered-values : args_trees end c.in_ok-var_values.var_values.items ≡ numbered_by (answer_leaves (resolved bs (V +++ C))) (resolved bs V) =
     ap (args_trees end) c.in_ok-var_values.ensures.items
@@ -111,7 +111,7 @@ returns-clause-constraints c =
     let bs = content es ps in
     let V = args_trees es c.args.values.now in
     let C = constraints_trees es cs in
-    let keys = c.in_ok-leaves.leaves.keys in
+    let keys = c.in_ok-collected.collected.leaves.keys in
     let to-solved : Keeps es solved = λ i x h. c.eager_resolve_vars.ensures.keeps i x (c.mk_args.ensures.keeps i x h) in
     let values : trees_at now c.in_ok-resolved.resolved.0 ≡ resolved bs V =
     trees-later solved now c.resolve_constraints.ensures.keeps args_lists c.in_ok-resolved.resolved.0 c.in_ok-resolved.ensures.held
@@ -124,11 +124,11 @@ returns-clause-constraints c =
     ∙ ap (resolved (content solved ps)) (constraints-later es solved to-solved cs c.requires.ready.constraints_held)
     ∙ ap (λ z. resolved z C) (content-kept es solved ps to-solved c.requires.ready.held) in
     let listed : labels now keys ≡ answer_leaves (resolved bs (V +++ C)) =
-    c.in_ok-leaves.ensures.leaves
+    c.in_ok-collected.ensures.leaves
     ∙ ap answer_leaves (append-both _ _ _ _ values (ap (constraints_trees now) c.deref.ensures.value ∙ constraints) ∙ sym (resolved-append bs V C)) in
     let numbered-constraints : constraints_trees end c.in_ok-region_constraints.region_constraints.items ≡ numbered_by (answer_leaves (resolved bs (V +++ C))) (resolved bs C) =
     constraints-numbered (labels next keys) next end c.deref-2.result.now c.in_ok-region_constraints.region_constraints.items c.in_ok-region_constraints.ensures.folded
-    ∙ ap (λ z. numbered_by z (constraints_trees next c.deref-2.result.now)) (labels-later now next c.fold_with.ensures.keeps keys c.in_ok-leaves.ensures.listed ∙ listed)
+    ∙ ap (λ z. numbered_by z (constraints_trees next c.deref-2.result.now)) (labels-later now next c.fold_with.ensures.keeps keys c.in_ok-collected.ensures.listed ∙ listed)
     ∙ ap (λ z. numbered_by (answer_leaves (resolved bs (V +++ C))) (constraints_trees next z)) c.deref-2.ensures.value
     ∙ ap (numbered_by (answer_leaves (resolved bs (V +++ C)))) (constraints-later now next c.fold_with.ensures.keeps c.in_ok-constraints.constraints.items c.in_ok-constraints.ensures.held ∙ constraints) in
     numbered-constraints
@@ -146,7 +146,7 @@ returns-clause-form c =
     let bs = content es ps in
     let V = args_trees es c.args.values.now in
     let C = constraints_trees es cs in
-    let keys = c.in_ok-leaves.leaves.keys in
+    let keys = c.in_ok-collected.collected.leaves.keys in
     let to-solved : Keeps es solved = λ i x h. c.eager_resolve_vars.ensures.keeps i x (c.mk_args.ensures.keeps i x h) in
     let values : trees_at now c.in_ok-resolved.resolved.0 ≡ resolved bs V =
     trees-later solved now c.resolve_constraints.ensures.keeps args_lists c.in_ok-resolved.resolved.0 c.in_ok-resolved.ensures.held
@@ -159,7 +159,7 @@ returns-clause-form c =
     ∙ ap (resolved (content solved ps)) (constraints-later es solved to-solved cs c.requires.ready.constraints_held)
     ∙ ap (λ z. resolved z C) (content-kept es solved ps to-solved c.requires.ready.held) in
     let listed : labels now keys ≡ answer_leaves (resolved bs (V +++ C)) =
-    c.in_ok-leaves.ensures.leaves
+    c.in_ok-collected.ensures.leaves
     ∙ ap answer_leaves (append-both _ _ _ _ values (ap (constraints_trees now) c.deref.ensures.value ∙ constraints) ∙ sym (resolved-append bs V C)) in
     let numbered-values : args_trees end c.in_ok-var_values.var_values.items ≡ numbered_by (answer_leaves (resolved bs (V +++ C))) (resolved bs V) =
     ap (args_trees end) c.in_ok-var_values.ensures.items
@@ -170,7 +170,7 @@ returns-clause-form c =
     ∙ ap (numbered_by (answer_leaves (resolved bs (V +++ C)))) values in
     let numbered-constraints : constraints_trees end c.in_ok-region_constraints.region_constraints.items ≡ numbered_by (answer_leaves (resolved bs (V +++ C))) (resolved bs C) =
     constraints-numbered (labels next keys) next end c.deref-2.result.now c.in_ok-region_constraints.region_constraints.items c.in_ok-region_constraints.ensures.folded
-    ∙ ap (λ z. numbered_by z (constraints_trees next c.deref-2.result.now)) (labels-later now next c.fold_with.ensures.keeps keys c.in_ok-leaves.ensures.listed ∙ listed)
+    ∙ ap (λ z. numbered_by z (constraints_trees next c.deref-2.result.now)) (labels-later now next c.fold_with.ensures.keeps keys c.in_ok-collected.ensures.listed ∙ listed)
     ∙ ap (λ z. numbered_by (answer_leaves (resolved bs (V +++ C))) (constraints_trees next z)) c.deref-2.ensures.value
     ∙ ap (numbered_by (answer_leaves (resolved bs (V +++ C)))) (constraints-later now next c.fold_with.ensures.keeps c.in_ok-constraints.constraints.items c.in_ok-constraints.ensures.held ∙ constraints) in
     let P = resolved bs (V +++ C) in
@@ -194,7 +194,7 @@ returns-clause-agrees c = λ n s h.
     let bs = content es ps in
     let V = args_trees es c.args.values.now in
     let C = constraints_trees es cs in
-    let keys = c.in_ok-leaves.leaves.keys in
+    let keys = c.in_ok-collected.collected.leaves.keys in
     let to-solved : Keeps es solved = λ i x h. c.eager_resolve_vars.ensures.keeps i x (c.mk_args.ensures.keeps i x h) in
     let values : trees_at now c.in_ok-resolved.resolved.0 ≡ resolved bs V =
     trees-later solved now c.resolve_constraints.ensures.keeps args_lists c.in_ok-resolved.resolved.0 c.in_ok-resolved.ensures.held
@@ -207,7 +207,7 @@ returns-clause-agrees c = λ n s h.
     ∙ ap (resolved (content solved ps)) (constraints-later es solved to-solved cs c.requires.ready.constraints_held)
     ∙ ap (λ z. resolved z C) (content-kept es solved ps to-solved c.requires.ready.held) in
     let listed : labels now keys ≡ answer_leaves (resolved bs (V +++ C)) =
-    c.in_ok-leaves.ensures.leaves
+    c.in_ok-collected.ensures.leaves
     ∙ ap answer_leaves (append-both _ _ _ _ values (ap (constraints_trees now) c.deref.ensures.value ∙ constraints) ∙ sym (resolved-append bs V C)) in
     let numbered-values : args_trees end c.in_ok-var_values.var_values.items ≡ numbered_by (answer_leaves (resolved bs (V +++ C))) (resolved bs V) =
     ap (args_trees end) c.in_ok-var_values.ensures.items
@@ -218,7 +218,7 @@ returns-clause-agrees c = λ n s h.
     ∙ ap (numbered_by (answer_leaves (resolved bs (V +++ C)))) values in
     let P = resolved bs (V +++ C) in
     let ls = answer_leaves P in
-    let only : OpenAreLeaves kind_of_leaf (resolved bs V) = subst (OpenAreLeaves kind_of_leaf) values c.in_ok-leaves.ensures.only in
+    let only : OpenAreLeaves kind_of_leaf (resolved bs V) = subst (OpenAreLeaves kind_of_leaf) values c.in_ok-collected.ensures.only in
     agrees ls s (args_trees end c.in_ok-var_values.var_values.items) (resolved bs V) V (solved-sorted s bs h) n only (value-leaves (resolved bs V) (resolved bs C) P (resolved-append bs V C)) numbered-values
     (instance-resolved s bs V (valued es ps) h)
 
@@ -235,7 +235,7 @@ returns-clause-numbered c = λ n.
     let bs = content es ps in
     let V = args_trees es c.args.values.now in
     let C = constraints_trees es cs in
-    let keys = c.in_ok-leaves.leaves.keys in
+    let keys = c.in_ok-collected.collected.leaves.keys in
     let to-solved : Keeps es solved = λ i x h. c.eager_resolve_vars.ensures.keeps i x (c.mk_args.ensures.keeps i x h) in
     let values : trees_at now c.in_ok-resolved.resolved.0 ≡ resolved bs V =
     trees-later solved now c.resolve_constraints.ensures.keeps args_lists c.in_ok-resolved.resolved.0 c.in_ok-resolved.ensures.held
@@ -248,7 +248,7 @@ returns-clause-numbered c = λ n.
     ∙ ap (resolved (content solved ps)) (constraints-later es solved to-solved cs c.requires.ready.constraints_held)
     ∙ ap (λ z. resolved z C) (content-kept es solved ps to-solved c.requires.ready.held) in
     let listed : labels now keys ≡ answer_leaves (resolved bs (V +++ C)) =
-    c.in_ok-leaves.ensures.leaves
+    c.in_ok-collected.ensures.leaves
     ∙ ap answer_leaves (append-both _ _ _ _ values (ap (constraints_trees now) c.deref.ensures.value ∙ constraints) ∙ sym (resolved-append bs V C)) in
     let numbered-values : args_trees end c.in_ok-var_values.var_values.items ≡ numbered_by (answer_leaves (resolved bs (V +++ C))) (resolved bs V) =
     ap (args_trees end) c.in_ok-var_values.ensures.items
@@ -259,7 +259,7 @@ returns-clause-numbered c = λ n.
     ∙ ap (numbered_by (answer_leaves (resolved bs (V +++ C)))) values in
     let P = resolved bs (V +++ C) in
     let ls = answer_leaves P in
-    let only : OpenAreLeaves kind_of_leaf (resolved bs V) = subst (OpenAreLeaves kind_of_leaf) values c.in_ok-leaves.ensures.only in
+    let only : OpenAreLeaves kind_of_leaf (resolved bs V) = subst (OpenAreLeaves kind_of_leaf) values c.in_ok-collected.ensures.only in
     let kinds = c.in_ok-variables.ensures.kinds ∙ ap (λ z. map kind_of_leaf (labels now z)) c.as_slice.ensures.keys ∙ ap (map kind_of_leaf) listed in
     subst (AreNumbered c.in_ok-variables.variables.items) (sym numbered-values)
     (are-numbered ls c.in_ok-variables.variables.items kinds (resolved bs V) n only (value-leaves (resolved bs V) (resolved bs C) P (resolved-append bs V C)))
@@ -275,8 +275,8 @@ returns-in_err-resolved-clause-full c = λ q. inl (handed-on c.from_residual-in_
 pub returns-in_err-constraints-clause-full : goal.returns-in_err-constraints-clause-full
 returns-in_err-constraints-clause-full c = λ q. inl (handed-on c.from_residual-in_err-constraints.result c.from_residual-in_err-constraints.ensures.1 (λ p. c.in_err-constraints.ensures.full (ap Err p)) q)
 
-pub returns-in_err-leaves-clause-full : goal.returns-in_err-leaves-clause-full
-returns-in_err-leaves-clause-full c = λ q. handed-on c.from_residual-in_err-leaves.result c.from_residual-in_err-leaves.ensures.1 (λ p. not-full c.in_err-leaves.ensures.memory p) q
+pub returns-in_err-collected-clause-full : goal.returns-in_err-collected-clause-full
+returns-in_err-collected-clause-full c = λ q. handed-on c.from_residual-in_err-collected.result c.from_residual-in_err-collected.ensures.1 (λ p. not-full c.in_err-collected.ensures.memory p) q
 
 pub returns-in_err-variables-clause-full : goal.returns-in_err-variables-clause-full
 returns-in_err-variables-clause-full c = λ q. handed-on c.from_residual-in_err-variables.result c.from_residual-in_err-variables.ensures.1 (λ p. not-full c.in_err-variables.ensures.memory p) q
@@ -292,7 +292,7 @@ returns-in_err-numbered-clause-full c = λ q.
     let bs = content es ps in
     let V = args_trees es c.args.values.now in
     let C = constraints_trees es cs in
-    let keys = c.in_ok-leaves.leaves.keys in
+    let keys = c.in_ok-collected.collected.leaves.keys in
     let to-solved : Keeps es solved = λ i x h. c.eager_resolve_vars.ensures.keeps i x (c.mk_args.ensures.keeps i x h) in
     let values : trees_at now c.in_ok-resolved.resolved.0 ≡ resolved bs V =
     trees-later solved now c.resolve_constraints.ensures.keeps args_lists c.in_ok-resolved.resolved.0 c.in_ok-resolved.ensures.held
@@ -305,7 +305,7 @@ returns-in_err-numbered-clause-full c = λ q.
     ∙ ap (resolved (content solved ps)) (constraints-later es solved to-solved cs c.requires.ready.constraints_held)
     ∙ ap (λ z. resolved z C) (content-kept es solved ps to-solved c.requires.ready.held) in
     let listed : labels now keys ≡ answer_leaves (resolved bs (V +++ C)) =
-    c.in_ok-leaves.ensures.leaves
+    c.in_ok-collected.ensures.leaves
     ∙ ap answer_leaves (append-both _ _ _ _ values (ap (constraints_trees now) c.deref.ensures.value ∙ constraints) ∙ sym (resolved-append bs V C)) in
     as-many (sym (length-map keys (leaf_label now)) ∙ ap length listed)
     (handed-on c.from_residual-in_err-numbered.result c.from_residual-in_err-numbered.ensures.1 (λ p. c.in_err-numbered.ensures.full (ap Err p)) q)
@@ -321,7 +321,7 @@ returns-in_err-region_constraints-clause-full c = λ q.
     let bs = content es ps in
     let V = args_trees es c.args.values.now in
     let C = constraints_trees es cs in
-    let keys = c.in_ok-leaves.leaves.keys in
+    let keys = c.in_ok-collected.collected.leaves.keys in
     let to-solved : Keeps es solved = λ i x h. c.eager_resolve_vars.ensures.keeps i x (c.mk_args.ensures.keeps i x h) in
     let values : trees_at now c.in_ok-resolved.resolved.0 ≡ resolved bs V =
     trees-later solved now c.resolve_constraints.ensures.keeps args_lists c.in_ok-resolved.resolved.0 c.in_ok-resolved.ensures.held
@@ -334,7 +334,7 @@ returns-in_err-region_constraints-clause-full c = λ q.
     ∙ ap (resolved (content solved ps)) (constraints-later es solved to-solved cs c.requires.ready.constraints_held)
     ∙ ap (λ z. resolved z C) (content-kept es solved ps to-solved c.requires.ready.held) in
     let listed : labels now keys ≡ answer_leaves (resolved bs (V +++ C)) =
-    c.in_ok-leaves.ensures.leaves
+    c.in_ok-collected.ensures.leaves
     ∙ ap answer_leaves (append-both _ _ _ _ values (ap (constraints_trees now) c.deref.ensures.value ∙ constraints) ∙ sym (resolved-append bs V C)) in
     as-many (sym (length-map keys (leaf_label now)) ∙ ap length listed)
     (handed-on c.from_residual-in_err-region_constraints.result c.from_residual-in_err-region_constraints.ensures.1 (λ p. c.in_err-region_constraints.ensures.full (ap Err p)) q)

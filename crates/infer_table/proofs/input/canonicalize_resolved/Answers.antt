@@ -15,42 +15,42 @@ use Rattle.infer_table.proofs.input.canonicalize_resolved.Goals as goal
 pub variable_kinds-requires-clause-open : goal.variable_kinds-requires-clause-open
 variable_kinds-requires-clause-open c =
     let es = c.args.cx.now.entries in
-    let same : c.deref.result.now ≡ c.in_ok-leaves.leaves.keys = c.deref.ensures.value ∙ c.in_ok-values.ensures.items ∙ c.as_slice.ensures.keys in
-    subst AreOpen (sym (ap (labels es) same ∙ c.in_ok-leaves.ensures.leaves)) (goal-open (environment_trees es c.args.goal.now.param_env.items) (predicate_trees es c.args.goal.now.predicate))
+    let same : c.deref.result.now ≡ c.in_ok-collected.collected.leaves.keys = c.deref.ensures.value ∙ c.in_ok-values.ensures.items ∙ c.as_slice.ensures.keys in
+    subst AreOpen (sym (ap (labels es) same ∙ c.in_ok-collected.ensures.leaves)) (goal-open (environment_trees es c.args.goal.now.param_env.items) (predicate_trees es c.args.goal.now.predicate))
 
 pub returns-clause-held : goal.returns-clause-held
 returns-clause-held c =
     let es = c.args.cx.now.entries in
-    let same : c.in_ok-values.values.items ≡ c.in_ok-leaves.leaves.keys = c.in_ok-values.ensures.items ∙ c.as_slice.ensures.keys in
-    leaves-later es c.number_leaves.new.cx.entries c.number_leaves.ensures.keeps c.in_ok-values.values.items (subst (AreLeaves es) (sym same) c.in_ok-leaves.ensures.listed)
+    let same : c.in_ok-values.values.items ≡ c.in_ok-collected.collected.leaves.keys = c.in_ok-values.ensures.items ∙ c.as_slice.ensures.keys in
+    leaves-later es c.number_leaves.new.cx.entries c.number_leaves.ensures.keeps c.in_ok-values.values.items (subst (AreLeaves es) (sym same) c.in_ok-collected.ensures.listed)
 
 pub returns-clause-values : goal.returns-clause-values
 returns-clause-values c =
     let es = c.args.cx.now.entries in
-    let same : c.in_ok-values.values.items ≡ c.in_ok-leaves.leaves.keys = c.in_ok-values.ensures.items ∙ c.as_slice.ensures.keys in
-    labels-later es c.number_leaves.new.cx.entries c.number_leaves.ensures.keeps c.in_ok-values.values.items (subst (AreLeaves es) (sym same) c.in_ok-leaves.ensures.listed)
-    ∙ ap (labels es) same ∙ c.in_ok-leaves.ensures.leaves
+    let same : c.in_ok-values.values.items ≡ c.in_ok-collected.collected.leaves.keys = c.in_ok-values.ensures.items ∙ c.as_slice.ensures.keys in
+    labels-later es c.number_leaves.new.cx.entries c.number_leaves.ensures.keeps c.in_ok-values.values.items (subst (AreLeaves es) (sym same) c.in_ok-collected.ensures.listed)
+    ∙ ap (labels es) same ∙ c.in_ok-collected.ensures.leaves
 
 pub returns-clause-args : goal.returns-clause-args
 returns-clause-args c =
     let es = c.args.cx.now.entries in
-    let same : c.in_ok-values.values.items ≡ c.in_ok-leaves.leaves.keys = c.in_ok-values.ensures.items ∙ c.as_slice.ensures.keys in
+    let same : c.in_ok-values.values.items ≡ c.in_ok-collected.collected.leaves.keys = c.in_ok-values.ensures.items ∙ c.as_slice.ensures.keys in
     leaves-held c.number_leaves.new.cx.entries c.in_ok-values.values.items
-    (leaves-later es c.number_leaves.new.cx.entries c.number_leaves.ensures.keeps c.in_ok-values.values.items (subst (AreLeaves es) (sym same) c.in_ok-leaves.ensures.listed))
+    (leaves-later es c.number_leaves.new.cx.entries c.number_leaves.ensures.keeps c.in_ok-values.values.items (subst (AreLeaves es) (sym same) c.in_ok-collected.ensures.listed))
 
 pub returns-clause-back : goal.returns-clause-back
 returns-clause-back c = λ n.
     let es = c.args.cx.now.entries in
     let end = c.number_leaves.new.cx.entries in
     let xs = c.in_ok-values.values.items in
-    let same : xs ≡ c.in_ok-leaves.leaves.keys = c.in_ok-values.ensures.items ∙ c.as_slice.ensures.keys in
-    let listed : AreLeaves es xs = subst (AreLeaves es) (sym same) c.in_ok-leaves.ensures.listed in
+    let same : xs ≡ c.in_ok-collected.collected.leaves.keys = c.in_ok-values.ensures.items ∙ c.as_slice.ensures.keys in
+    let listed : AreLeaves es xs = subst (AreLeaves es) (sym same) c.in_ok-collected.ensures.listed in
     let g = goal_trees es c.args.goal.now in
     goal-filled-cong _ _ _ _ (values-later es end c.number_leaves.ensures.keeps xs (leaves-held es xs listed)) (c.in_ok-goal.ensures.numbered ∙ ap (λ ks. renamed (canonical_label (labels es ks)) g) (sym same))
-    ∙ goal-returned es c.lawful.ensures xs g listed (ap (labels es) same ∙ c.in_ok-leaves.ensures.leaves) n c.in_ok-leaves.ensures.only
+    ∙ goal-returned es c.lawful.ensures xs g listed (ap (labels es) same ∙ c.in_ok-collected.ensures.leaves) n c.in_ok-collected.ensures.only
 
-pub returns-in_err-leaves-clause-full : goal.returns-in_err-leaves-clause-full
-returns-in_err-leaves-clause-full c = λ q. handed-on c.from_residual.result c.from_residual.ensures.1 (λ p. not-full c.in_err-leaves.ensures.memory p) q
+pub returns-in_err-collected-clause-full : goal.returns-in_err-collected-clause-full
+returns-in_err-collected-clause-full c = λ q. handed-on c.from_residual.result c.from_residual.ensures.1 (λ p. not-full c.in_err-collected.ensures.memory p) q
 
 pub returns-in_err-variables-clause-full : goal.returns-in_err-variables-clause-full
 returns-in_err-variables-clause-full c = λ q. handed-on c.from_residual-in_err-variables.result c.from_residual-in_err-variables.ensures.1 (λ p. not-full c.in_err-variables.ensures.memory p) q
@@ -58,6 +58,6 @@ returns-in_err-variables-clause-full c = λ q. handed-on c.from_residual-in_err-
 pub returns-in_err-goal-clause-full : goal.returns-in_err-goal-clause-full
 returns-in_err-goal-clause-full c = λ q.
     let es = c.args.cx.now.entries in
-    let keys = c.in_ok-leaves.leaves.keys in
-    as-many (sym (length-map keys (leaf_label es)) ∙ ap length c.in_ok-leaves.ensures.leaves)
+    let keys = c.in_ok-collected.collected.leaves.keys in
+    as-many (sym (length-map keys (leaf_label es)) ∙ ap length c.in_ok-collected.ensures.leaves)
     (handed-on c.from_residual-in_err-goal.result c.from_residual-in_err-goal.ensures.1 (λ p. c.in_err-goal.ensures.full (ap Err p)) q)
