@@ -32,6 +32,14 @@ fn crate_at(workspace: &Workspace, place: usize) -> CrateId
     workspace.crates()[place]
 }
 
+/// How many crates have a line of their own: all but `core`.
+fn crates_with_lines(workspace: &Workspace) -> usize
+    requires { IsNumbered workspace.now }
+    ensures { result ≡ length workspace.now.crates - 1 }
+{
+    workspace.crates().len() - 1
+}
+
 /// Judges the session's crate, and writes its line.
 fn write_verdict<W: Write>(
     alloc: Global,
@@ -150,7 +158,7 @@ fn write_crates<W: Write>(
 {
     let groups = questions_by_crate(alloc, workspace)?;
     answer_core(alloc, workspace, limits, &groups[0], lines)?;
-    for place in 0..workspace.crates().len() - 1 {
+    for place in 0..crates_with_lines(workspace) {
         let id = crate_at(workspace, place + 1);
         judge_crate(
             alloc,

@@ -1,10 +1,7 @@
-use Rattle.std.proofs.Common.{◌≡◌, ◌+◌, ◌-◌, ◌<◌, [], length, inl, inr, refl, ap, subst, arith}
+use Rattle.std.proofs.Common.{◌≡◌, ◌+◌, ◌-◌, ◌<◌, [], length, inl, inr, refl, subst, arith}
 use Rattle.std.proofs.KnownBytes.{Appends-nil}
-use Rattle.std.proofs.lemmas.List.{length-map}
 use Rattle.std.proofs.lemmas.Option.{slice_get_read}
 use Rattle.std.proofs.lemmas.Result.{err_from_is_err_and}
-use Rattle.type_terms.specs.declared.CrateId.{CrateId}
-use Rattle.text_definitions.specs.Declarations.{NamedCrate}
 use Rattle.coherence.specs.Lines.{no_crates, and_crate}
 use Rattle.coherence.specs.Progress.{KeepsLines}
 use Rattle.coherence.proofs.LineLaws.{one_more, kept_prefix, line_prefix}
@@ -27,7 +24,7 @@ pub judge_crate-requires-clause-group : goal.judge_crate-requires-clause-group
 judge_crate-requires-clause-group g c =
     let d = c.args.workspace.now in
     let within : c.loop-place.place + 1 < length c.in_ok-groups.groups.items =
-    omega (arith, c.loop-place-test.true, c.in_ok-groups.ensures.for_each, ap length c.crates.ensures.crates, length-map c.crates.result.now (λ (i : CrateId). i.index), length-map d.crates (λ (n : NamedCrate). n.item.name)) in
+    omega (arith, c.loop-place-test.true, c.in_ok-groups.ensures.for_each, c.crates_with_lines-place-end.ensures) in
     let at = slice_get_read c.in_ok-groups.groups.items _ (c.loop-place.place + 1) c.index-in-loop-place.result.now refl within c.index-in-loop-place.ensures in
     rw c.crate_at-id.ensures (c.in_ok-groups.ensures.are (c.loop-place.place + 1) _ at)
 
@@ -45,7 +42,7 @@ returns-in_err-judge_crate-clause-prefix g c =
     let p = err_from_is_err_and c.from_residual-in_err-judge_crate.result c.from_residual-in_err-judge_crate.ensures.1 in
     let so_far = c.loop-place.invariant.written in
     let within : c.loop-place.place < length c.args.workspace.now.crates - 1 =
-    omega (arith, c.loop-place-test.true, ap length c.crates.ensures.crates, length-map c.crates.result.now (λ (i : CrateId). i.index), length-map c.args.workspace.now.crates (λ (n : NamedCrate). n.item.name)) in
+    omega (arith, c.loop-place-test.true, c.crates_with_lines-place-end.ensures) in
     let front = rw c.crate_at-id.ensures at c.in_err-judge_crate.ensures.prefix in
     rw p.1 (elim front [
       | inl kept ↦ (c.loop-place.place, so_far.0, omega arith, so_far.1, kept_prefix _ _ _ _ so_far.2 kept)
@@ -56,5 +53,5 @@ pub returns-clause-kept : goal.returns-clause-kept
 returns-clause-kept g c =
     let d = c.args.workspace.now in
     let last : c.loop-place.place + 1 ≡ length d.crates =
-    omega (arith, c.loop-place-test.false, c.loop-place.auto.place-end, c.requires.numbered.has_core, ap length c.crates.ensures.crates, length-map c.crates.result.now (λ (i : CrateId). i.index), length-map d.crates (λ (n : NamedCrate). n.item.name)) in
+    omega (arith, c.loop-place-test.false, c.loop-place.auto.place-end, c.requires.numbered.has_core, c.crates_with_lines-place-end.ensures) in
     subst (λ n. KeepsLines c.args.limits.depth d n c.loop-place.lines.items) last c.loop-place.invariant.kept
