@@ -34,8 +34,10 @@ const LISTS: &[Written<'static>] = &[
     (has!(0 Byte: Show), &[]),
 ];
 
-/// Rules without premises.
-const FACTS: [Row; 4] = [
+/// Rules without premises; rules with premises, and as many questions as the depth allows, or more; and goals that are asked under
+/// themselves.
+const ROWS: [Row; 13] = [
+    // Rules without premises.
     Row {
         rules: &[(has!(0 Byte: Show), &[])],
         coinductive: &[],
@@ -69,11 +71,7 @@ const FACTS: [Row; 4] = [
         first: (AMBIGUOUS, 1, false, OPEN),
         second: (AMBIGUOUS, 1, false, OPEN),
     },
-];
-
-/// Rules with premises, and as many questions as the depth allows, or more.
-const PREMISES: [Row; 6] = [
-    // Each premise takes a frame once.
+    // Rules with premises. Each premise takes a frame once.
     Row {
         rules: &[
             (
@@ -140,10 +138,7 @@ const PREMISES: [Row; 6] = [
         first: (OVERFLOW, 9, true, OPEN),
         second: (OVERFLOW, 9, true, OPEN),
     },
-];
-
-/// Goals that are asked under themselves.
-const CYCLES: [Row; 3] = [
+    // Goals that are asked under themselves.
     Row {
         rules: &[(has!(0 Byte: Send), &[has!(0 Byte: Send)])],
         coinductive: &[Name::Send],
@@ -197,8 +192,6 @@ fn first_that_differs(alloc: Global, rows: &[Row]) -> Result<Option<usize>, Faul
 
 #[test]
 fn rules_answer_by_facts_premises_and_cycles(rt: HostRuntime) -> Result<(), Fault> {
-    assert!(rt; first_that_differs(rt.alloc(), &FACTS)?.is_none());
-    assert!(rt; first_that_differs(rt.alloc(), &PREMISES)?.is_none());
-    assert!(rt; first_that_differs(rt.alloc(), &CYCLES)?.is_none());
+    assert!(rt; first_that_differs(rt.alloc(), &ROWS)?.is_none());
     Ok(())
 }

@@ -59,21 +59,11 @@ pub(crate) enum Said {
 pub(crate) type Found = (Said, u64, bool, TyKind);
 
 /// A goal of a table, in which one type is unknown.
+#[derive(Drop)]
 struct Posed {
     table: InferCtxt,
     unknown: Ty,
     goal: Goal,
-}
-
-// Written, so that what owns one drops it by one call at each way out, and not field by field.
-impl Drop for Posed {
-    fn drop(self) {
-        let Posed {
-            table: _,
-            unknown: _,
-            goal: _,
-        } = self;
-    }
 }
 
 /// The goal that the reference is.
