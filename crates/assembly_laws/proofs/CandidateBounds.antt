@@ -18,7 +18,7 @@ use Rattle.assembly_laws.specs.Asking.{Asked, asked, all_known, self_of, next_of
 use Rattle.declarations.specs.Elaboration.{elaborate, supertraits}
 use Rattle.assembly_laws.specs.Meaning.{Meaning}
 use Rattle.assembly_laws.specs.Declared.{StructsAreOne}
-use Rattle.assembly_laws.specs.Candidates.{Candidate, premise, by_rule, by_the_impl, behind, misc, all_equal, unsure, unknowable, by_clauses, by_impls, is_relevant_to, by_sized, by_copy, by_auto, by_tuple, by_fn_ptr, call_of, by_call, unsize_array_of, upcasts_of, unsize_struct_of, unsize_known, unsizing_outlives, unsize_recording, by_unsize, built_in, object_source, written_source, objects_of, by_objects, as_written, clause_source}
+use Rattle.assembly_laws.specs.Candidates.{Candidate, premise, by_rule, by_the_impl, behind, misc, all_equal, unsure, unknowable, by_clauses, by_impls, can_match, by_sized, by_copy, by_auto, by_tuple, by_fn_ptr, call_of, by_call, unsize_array_of, upcasts_of, unsize_struct_of, unsize_known, unsizing_outlives, unsize_recording, by_unsize, built_in, object_source, written_source, objects_of, by_objects, as_written, clause_source}
 use Rattle.assembly_laws.specs.Cover.{all_candidates}
 use Rattle.assembly_laws.specs.Solver.{greatest, width_of, supers_of, declared_width, clauses_in, widest_of, most_candidates, number_at}
 use Rattle.assembly_laws.proofs.Premises.{CandidatesAreFew, PremisesAreFew}
@@ -79,7 +79,7 @@ module _ (V : World) (w : ℕ) (one : StructsAreOne V) (fields : (x : StructDecl
   -- ---- impls
   impls-few : (is : List ImplDecl) → FewCandidates V w supers (by_impls V a is) (length is) (sum_of is)
   impls-few [] = record { few = omega arith; asks = omega arith }
-  impls-few (i ∷ is) = by ((i.header.trait == a.reference.trait) && is_relevant_to (self_of a) i.header.args) (impls-few is)
+  impls-few (i ∷ is) = by ((i.header.trait == a.reference.trait) && can_match a.reference.args i.header.args) (impls-few is)
     where
       by : (b : Bool) → FewCandidates V w supers (by_impls V a is) (length is) (sum_of is)
           → FewCandidates V w supers (if b then by_the_impl V a i ∷ by_impls V a is else by_impls V a is) (suc (length is)) (length i.clauses + sum_of is)
@@ -153,7 +153,7 @@ module _ (V : World) (w : ℕ) (one : StructsAreOne V) (fields : (x : StructDecl
       let c = h.0 in
       let autos = autos-few self b in
       let p = elaborated-few V w supers (principal_with self b) (principal-few self b) in
-      let x = from-bounds-few V w supers a written_source 0 (autos_with self b) in
+      let x = if-few V w supers (not (a.reference.trait == sized)) _ _ _ (from-bounds-few V w supers a written_source 0 (autos_with self b)) in
       let y = if-few V w supers (not (a.reference.trait == sized)) _ _ _ (from-bounds-few V w supers a object_source 0 (elaborate V (principal_with self b))) in
       let z = both-few V w supers _ _ _ _ _ _ x y in
       let f = z.few in

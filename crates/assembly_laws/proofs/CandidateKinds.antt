@@ -14,7 +14,7 @@ use Rattle.evaluation.specs.declared.candidate.BuiltinImplSource.TheVariants.{Tr
 use Rattle.evaluation.specs.FrameTables.{Equation}
 use Rattle.declarations.specs.Elaboration.{elaborate, supertraits}
 use Rattle.assembly_laws.specs.Asking.{Asked, clauses, self_of, next_of, begins_unknown}
-use Rattle.assembly_laws.specs.Candidates.{Candidate, all_equal, clause_source, by_rule, by_the_impl, unsure, by_clauses, as_written, if_so, misc, by_sized, by_copy, by_auto, by_tuple, by_fn_ptr, call_of, by_call, unsize_array_of, upcast_source, upcasts_from, upcasts_to, upcasts_of, unsize_by_struct, unsize_struct_of, unsize_known, recording, unsizing_outlives, unsize_recording, built_in, by_impls, is_relevant_to, bounds_from, object_source, written_source, objects_of}
+use Rattle.assembly_laws.specs.Candidates.{Candidate, all_equal, clause_source, by_rule, by_the_impl, unsure, by_clauses, as_written, if_so, misc, by_sized, by_copy, by_auto, by_tuple, by_fn_ptr, call_of, by_call, unsize_array_of, upcast_source, upcasts_from, upcasts_to, upcasts_of, unsize_by_struct, unsize_struct_of, unsize_known, recording, unsizing_outlives, unsize_recording, built_in, by_impls, can_match, bounds_from, object_source, written_source, objects_of}
 use Rattle.assembly_laws.specs.Cover.{all_candidates}
 use Rattle.assembly_laws.proofs.Recording.{every-recorded}
 
@@ -136,7 +136,7 @@ module _ (V : World) (a : Asked) where
 
   impls-made : (is : List ImplDecl) → ((i : ImplDecl) → In i is → In i V.impls) → Every IsMadeAs (by_impls V a is)
   impls-made [] f = tt
-  impls-made (i ∷ is) f = by ((i.header.trait == a.reference.trait) && is_relevant_to (self_of a) i.header.args) (impls-made is (λ j k. f j (there j i is k)))
+  impls-made (i ∷ is) f = by ((i.header.trait == a.reference.trait) && can_match a.reference.args i.header.args) (impls-made is (λ j k. f j (there j i is k)))
     where
       by : (b : Bool) → Every IsMadeAs (by_impls V a is) → Every IsMadeAs (if b then by_the_impl V a i ∷ by_impls V a is else by_impls V a is)
       by true e = ((none, inr (inr (i, f i (here i is), refl))), e)
@@ -153,7 +153,7 @@ module _ (V : World) (a : Asked) where
   objects-made (tree dynamic bounds others) =
       let self = tree dynamic bounds none in
       if-made (are_dyn_compatible V (principal_with self bounds)) _
-      (every-append IsMadeAs (bounds_from V a written_source 0 (autos_with self bounds)) _ (bounds-made written_source 0 (autos_with self bounds))
+      (every-append IsMadeAs (if_so (not (a.reference.trait == sized)) (bounds_from V a written_source 0 (autos_with self bounds))) _ (if-made (not (a.reference.trait == sized)) _ (bounds-made written_source 0 (autos_with self bounds)))
       (if-made (not (a.reference.trait == sized)) _ (bounds-made object_source 0 (elaborate V (principal_with self bounds)))))
   objects-made (tree l c o) = tt
 

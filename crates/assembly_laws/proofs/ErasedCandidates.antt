@@ -266,9 +266,9 @@ module _ (H : Reference → Type 0) (V : World) (cs : List CrateDecl) (a : Asked
   objects-same (tree dynamic bounds o) =
       let self = tree dynamic bounds none in
       let ps = principal_with self bounds in
-      ap (λ b. if_so b (bounds_from U a written_source 0 (autos_with self bounds) ++ if_so (not (a.reference.trait == sized)) (bounds_from U a object_source 0 (elaborate U ps)))) (compatible-same ps)
-      ∙ ap (λ z. if_so (are_dyn_compatible V ps) (z ++ if_so (not (a.reference.trait == sized)) (bounds_from U a object_source 0 (elaborate U ps)))) (bounds-same written_source 0 (autos_with self bounds))
-      ∙ ap (λ z. if_so (are_dyn_compatible V ps) (bounds_from V a written_source 0 (autos_with self bounds) ++ if_so (not (a.reference.trait == sized)) z)) (bounds-same object_source 0 (elaborate U ps) ∙ ap (bounds_from V a object_source 0) (elaborate-same ps))
+      ap (λ b. if_so b (if_so (not (a.reference.trait == sized)) (bounds_from U a written_source 0 (autos_with self bounds)) ++ if_so (not (a.reference.trait == sized)) (bounds_from U a object_source 0 (elaborate U ps)))) (compatible-same ps)
+      ∙ ap (λ z. if_so (are_dyn_compatible V ps) (if_so (not (a.reference.trait == sized)) z ++ if_so (not (a.reference.trait == sized)) (bounds_from U a object_source 0 (elaborate U ps)))) (bounds-same written_source 0 (autos_with self bounds))
+      ∙ ap (λ z. if_so (are_dyn_compatible V ps) (if_so (not (a.reference.trait == sized)) (bounds_from V a written_source 0 (autos_with self bounds)) ++ if_so (not (a.reference.trait == sized)) z)) (bounds-same object_source 0 (elaborate U ps) ∙ ap (bounds_from V a object_source 0) (elaborate-same ps))
   objects-same none = refl
   objects-same (tree l c o) = refl
 

@@ -12,6 +12,7 @@ use Rattle.model.proofs.Members.{here, there, same-number}
 use Rattle.model.proofs.Fitting.{no-left}
 use Rattle.model.proofs.Walking.{left, right}
 use Rattle.declarations.specs.Heads.{begins_declared}
+use Rattle.assembly_laws.specs.Apart.{are_apart}
 use Rattle.evaluation.specs.Lists.{Every, SomeOf}
 use Rattle.evaluation.specs.declared.candidate.CandidateSource.{CandidateSource}
 use Rattle.evaluation.specs.declared.candidate.CandidateSource.TheVariants.{BuiltinImpl}
@@ -21,12 +22,13 @@ use Rattle.evaluation.specs.Content.{Values, given}
 use Rattle.evaluation.specs.FrameTables.{Equation}
 use Rattle.assembly_laws.specs.Declared.{are_terms, is_lifetime_parameter}
 use Rattle.assembly_laws.specs.Lifetimes.{are_given, gives_lifetimes, goal_gives_lifetimes}
-use Rattle.assembly_laws.specs.Asking.{Asked, clauses, self_of, next_of, begins_unknown}
-use Rattle.assembly_laws.specs.Candidates.{Candidate, by_clauses, by_the_impl, by_impls, as_written, misc, if_so, unsure, is_relevant_to, all_equal, behind, by_sized, by_copy, by_auto, by_tuple, by_fn_ptr, by_call, by_unsize, unsize_known, unsizing_outlives, unsize_recording, unsize_array_of, upcasts_of, unsize_struct_of, unsize_by_struct, built_in, by_objects}
+use Rattle.assembly_laws.specs.Asking.{Asked, clauses, self_of, next_of, begins_unknown, with_plain_head}
+use Rattle.assembly_laws.specs.Candidates.{Candidate, by_clauses, by_the_impl, by_impls, as_written, misc, if_so, unsure, is_relevant_to, can_match, all_equal, behind, by_sized, by_copy, by_auto, by_tuple, by_fn_ptr, by_call, by_unsize, unsize_known, unsizing_outlives, unsize_recording, unsize_array_of, upcasts_of, unsize_struct_of, unsize_by_struct, built_in, by_objects}
 use Rattle.assembly_laws.specs.Slots.{as_slots}
 use Rattle.assembly_laws.specs.Cover.{slots, Gives, all_candidates}
 use Rattle.assembly_laws.proofs.Reading.{true-false, begins, read_reference, read-each-asked, read-last-asked}
 use Rattle.assembly_laws.proofs.Impls.{pairwise}
+use Rattle.assembly_laws.proofs.Apart.{erased-apart}
 use Rattle.assembly_laws.proofs.ErasedHeads.{erased-struct}
 use Rattle.assembly_laws.proofs.PlainRules.{is_wild, tame}
 use Rattle.assembly_laws.proofs.ErasedReading.{moved-erased}
@@ -242,11 +244,20 @@ module _ (H : Reference → Type 0) (V : World) (cs : List CrateDecl) (a : Asked
   relevant-so none h d e = e
   relevant-so (tree l c o) h d e = head-stays l h d e
 
+  match-so : (t h : Trees) → are_terms h ≡ true → can_match t (erase h) ≡ true → can_match t h ≡ true
+  match-so t h d e =
+      both-true (is_relevant_to (with_plain_head t) h) (not (are_apart t h))
+      (relevant-so (with_plain_head t) h d (left (is_relevant_to (with_plain_head t) (erase h)) (not (are_apart t (erase h))) e))
+      (erased-apart t h (right (is_relevant_to (with_plain_head t) (erase h)) (not (are_apart t (erase h))) e))
+    where
+      both-true : (x y : Bool) → x ≡ true → y ≡ true → (x && y) ≡ true
+      both-true x y p q = rw (p, q) refl
+
   impls-so : (is : List ImplDecl) → list_all (λ (i : ImplDecl). are_terms i.header.args) is ≡ true → SomeOf P (by_impls U a (map erased_impl is)) → SomeOf P (by_impls V a is)
   impls-so [] h p = p
   impls-so (i ∷ is) h p =
-      by (i.header.trait == a.reference.trait) (is_relevant_to (self_of a) (erase i.header.args)) (is_relevant_to (self_of a) i.header.args)
-      (relevant-so (self_of a) i.header.args (left (are_terms i.header.args) (list_all (λ (j : ImplDecl). are_terms j.header.args) is) h)) p
+      by (i.header.trait == a.reference.trait) (can_match a.reference.args (erase i.header.args)) (can_match a.reference.args i.header.args)
+      (match-so a.reference.args i.header.args (left (are_terms i.header.args) (list_all (λ (j : ImplDecl). are_terms j.header.args) is) h)) p
       (impls-so is (right (are_terms i.header.args) (list_all (λ (j : ImplDecl). are_terms j.header.args) is) h))
     where
       by : (b x y : Bool) → (x ≡ true → y ≡ true) → SomeOf P (if b && x then by_the_impl U a (erased_impl i) ∷ by_impls U a (map erased_impl is) else by_impls U a (map erased_impl is))

@@ -24,8 +24,10 @@ use Rattle.assembly_laws.specs.Declared.{is_declared, is_counted, IsDeclared, ar
 use Rattle.assembly_laws.specs.Slots.{as_slots}
 use Rattle.assembly_laws.specs.Determined.{ImplsAreDetermined}
 use Rattle.assembly_laws.specs.Asking.{Asked, self_of}
+use Rattle.assembly_laws.specs.Apart.{are_apart}
+use Rattle.assembly_laws.proofs.Apart.{instances-meet}
 use Rattle.evaluation.specs.Variables.{is_variable_over}
-use Rattle.assembly_laws.specs.Candidates.{Candidate, premise, all_equal, is_param, kind_of_param, kinds_of_params, moved, behind, by_the_impl, is_relevant_to, by_impls}
+use Rattle.assembly_laws.specs.Candidates.{Candidate, premise, all_equal, is_param, kind_of_param, kinds_of_params, moved, behind, by_the_impl, is_relevant_to, can_match, by_impls}
 use Rattle.assembly_laws.specs.Solver.{IsSolution}
 use Rattle.assembly_laws.specs.Cover.{slots, nested_at, Gives}
 use Rattle.assembly_laws.proofs.Reading.{true-false, IsOne, begins, read_reference}
@@ -237,10 +239,11 @@ module _ (H : Reference → Type 0) (V : World) (declared : is_declared_view V �
           (record { asks = refl; proper = refl; closed = p.0; proof = p.1 }, each rs (λ q k. among q (there q r rs k)) e.1)
 
   relevant : (l : Label) (c o : Trees) (i : ImplDecl) → self_of a ≡ tree (erase_label l) c o → rx.args ≡ tree (erase_label l) (read_with (given xs) c) (read_with (given xs) o) → (A : Trees) → with_args A i.header ≡ rx
-      → ((i.header.trait == a.reference.trait) && is_relevant_to (self_of a) i.header.args) ≡ true
+      → ((i.header.trait == a.reference.trait) && can_match a.reference.args i.header.args) ≡ true
   relevant l c o i self read A is =
-      both (i.header.trait == a.reference.trait) (is_relevant_to (self_of a) i.header.args) (ap (λ z. z == a.reference.trait) (ap (λ (r : Reference). r.trait) is) ∙ self-number a.reference.trait)
-      (ap (λ t. is_relevant_to t i.header.args) self ∙ head i.header.args (ap (λ (r : Reference). r.args) is ∙ read))
+      both (i.header.trait == a.reference.trait) (can_match a.reference.args i.header.args) (ap (λ z. z == a.reference.trait) (ap (λ (r : Reference). r.trait) is) ∙ self-number a.reference.trait)
+      (both (is_relevant_to (self_of a) i.header.args) (not (are_apart a.reference.args i.header.args)) (ap (λ t. is_relevant_to t i.header.args) self ∙ head i.header.args (ap (λ (r : Reference). r.args) is ∙ read))
+      (instances-meet xs A a.reference.args i.header.args (ap (λ (r : Reference). r.args) is)))
     where
       both : (x y : Bool) → x ≡ true → y ≡ true → x && y ≡ true
       both x y p q = rw (p, q) refl
@@ -256,14 +259,14 @@ module _ (H : Reference → Type 0) (V : World) (declared : is_declared_view V �
       head (tree (param s k) d p) e = refl
       head (tree m d p) e = label-is m (erase_label l) _ _ _ _ e
 
-  among-impls : (i : ImplDecl) (is : List ImplDecl) → In i is → ((i.header.trait == a.reference.trait) && is_relevant_to (self_of a) i.header.args) ≡ true → (P : Candidate → Type 0) → P (by_the_impl V a i) → SomeOf P (by_impls V a is)
+  among-impls : (i : ImplDecl) (is : List ImplDecl) → In i is → ((i.header.trait == a.reference.trait) && can_match a.reference.args i.header.args) ≡ true → (P : Candidate → Type 0) → P (by_the_impl V a i) → SomeOf P (by_impls V a is)
   among-impls i [] j e P p = absurd (in-nothing i j)
-  among-impls i (x ∷ is) j e P p = by ((x.header.trait == a.reference.trait) && is_relevant_to (self_of a) x.header.args) refl (in-cases i x is j) (λ k. among-impls i is k e P p)
+  among-impls i (x ∷ is) j e P p = by ((x.header.trait == a.reference.trait) && can_match a.reference.args x.header.args) refl (in-cases i x is j) (λ k. among-impls i is k e P p)
     where
-      by : (b : Bool) → ((x.header.trait == a.reference.trait) && is_relevant_to (self_of a) x.header.args) ≡ b → (x ≡ i) ⊎ In i is → (In i is → SomeOf P (by_impls V a is)) → SomeOf P (if b then by_the_impl V a x ∷ by_impls V a is else by_impls V a is)
+      by : (b : Bool) → ((x.header.trait == a.reference.trait) && can_match a.reference.args x.header.args) ≡ b → (x ≡ i) ⊎ In i is → (In i is → SomeOf P (by_impls V a is)) → SomeOf P (if b then by_the_impl V a x ∷ by_impls V a is else by_impls V a is)
       by true q (inl f) go = inl (subst (λ z. P (by_the_impl V a z)) (sym f) p)
       by true q (inr k) go = inr (go k)
-      by false q (inl f) go = absurd (true-false (sym e ∙ ap (λ (z : ImplDecl). (z.header.trait == a.reference.trait) && is_relevant_to (self_of a) z.header.args) (sym f) ∙ q))
+      by false q (inl f) go = absurd (true-false (sym e ∙ ap (λ (z : ImplDecl). (z.header.trait == a.reference.trait) && can_match a.reference.args z.header.args) (sym f) ∙ q))
       by false q (inr k) go = go k
 
   -- the row of impls

@@ -12,6 +12,7 @@ pub mod Rows
 pub mod ByView
 pub mod Headers
 pub mod Impls
+pub mod Apart
 pub mod Solver
 pub mod Unsizing
 pub mod Worked

@@ -18,7 +18,7 @@ use Rattle.assembly_laws.specs.Asking.{Asked, all_known, self_of, next_of, begin
 use Rattle.declarations.specs.Elaboration.{elaborate, supertraits}
 use Rattle.assembly_laws.specs.Meaning.{Meaning}
 use Rattle.assembly_laws.specs.Declared.{FieldsAreOne}
-use Rattle.assembly_laws.specs.Candidates.{Candidate, all_equal, by_rule, unsure, unknowable, by_the_impl, is_relevant_to, by_impls, as_written, misc, if_so, by_sized, by_copy, by_auto, by_tuple, by_fn_ptr, call_of, by_call, unsize_array_of, upcast_source, upcasts_from, upcasts_to, upcasts_of, unsize_by_struct, unsize_struct_of, unsize_known, unsizing_outlives, unsize_recording, by_unsize, built_in, bounds_from, object_source, written_source, objects_of, by_objects}
+use Rattle.assembly_laws.specs.Candidates.{Candidate, all_equal, by_rule, unsure, unknowable, by_the_impl, can_match, by_impls, as_written, misc, if_so, by_sized, by_copy, by_auto, by_tuple, by_fn_ptr, call_of, by_call, unsize_array_of, upcast_source, upcasts_from, upcasts_to, upcasts_of, unsize_by_struct, unsize_struct_of, unsize_known, unsizing_outlives, unsize_recording, by_unsize, built_in, bounds_from, object_source, written_source, objects_of, by_objects}
 use Rattle.assembly_laws.specs.Solver.{greatest, width_of, supers_of, declared_width, widest_of}
 use Rattle.assembly_laws.proofs.Premises.{IsNarrow, CandidatesAreNarrow}
 use Rattle.assembly_laws.proofs.Cover.{IsAsked, asked-by}
@@ -165,7 +165,8 @@ module _ (V : World) (n : ℕ) (fields : (x : StructDecl) → In x V.structs →
   objects-narrow (tree dynamic b o) h g =
       let self = tree dynamic b none in
       so (are_dyn_compatible V (principal_with self b)) _
-      (both-lists Narrow (bounds_from V a written_source 0 (autos_with self b)) _ (bounds-narrow written_source 0 (autos_with self b) (autos-short V n fields bounds dynamic b b (omega (arith, g)) (h.0, h.1, tt)))
+      (both-lists Narrow (if_so (not (a.reference.trait == sized)) (bounds_from V a written_source 0 (autos_with self b))) _
+      (so (not (a.reference.trait == sized)) _ (bounds-narrow written_source 0 (autos_with self b) (autos-short V n fields bounds dynamic b b (omega (arith, g)) (h.0, h.1, tt))))
       (so (not (a.reference.trait == sized)) _
       (bounds-narrow object_source 0 (elaborate V (principal_with self b)) (elaborated-short V n fields bounds (principal_with self b) (principal-short V n fields bounds dynamic b b (omega (arith, g)) (h.0, h.1, tt) h.1)))))
   objects-narrow (tree l c o) h g = tt
@@ -173,7 +174,7 @@ module _ (V : World) (n : ℕ) (fields : (x : StructDecl) → In x V.structs →
   module _ (declared : declared_width V ≤ n) where
     impls-narrow : (is : List ImplDecl) → ((i : ImplDecl) → In i is → In i V.impls) → Every Narrow (by_impls V a is)
     impls-narrow [] f = tt
-    impls-narrow (i ∷ is) f = by ((i.header.trait == a.reference.trait) && is_relevant_to (self_of a) i.header.args) (impls-narrow is (λ j k. f j (there j i is k)))
+    impls-narrow (i ∷ is) f = by ((i.header.trait == a.reference.trait) && can_match a.reference.args i.header.args) (impls-narrow is (λ j k. f j (there j i is k)))
       where
         by : (b : Bool) → Every Narrow (by_impls V a is) → Every Narrow (if b then by_the_impl V a i ∷ by_impls V a is else by_impls V a is)
         by true k = (impl-narrow V a n declared (width-within n a.reference.args goal) environment i (f i (here i is)), k)

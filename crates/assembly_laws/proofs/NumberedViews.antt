@@ -10,14 +10,14 @@ use Rattle.model.specs.Proofs as Model
 use Rattle.model.specs.Answers.{is_closed}
 use Rattle.model.specs.Walks.{is_known, is_known_in}
 use Rattle.model.specs.LinkedSet.{is_stray, Unknown}
-use Rattle.model.specs.Renumbering.{View, Renumbering, HoldsView, renumbered, renumbered_label, renumbered_reference, renumbered_trait, renumbered_impl, renumbered_rule, asker_in_set}
+use Rattle.model.specs.Renumbering.{View, Renumbering, HoldsView, view_before, renumbered, renumbered_label, renumbered_reference, renumbered_trait, renumbered_impl, renumbered_rule, asker_in_set}
 use Rattle.model.proofs.Members.{in-filter, filter-in, in-map, in-left, flat-in, some-member, member-some, self-number, not-both}
-use Rattle.model.proofs.NoHolds.{shut, supers-of-view, every-member}
+use Rattle.model.proofs.NoHolds.{shut, every-member}
 use Rattle.model.proofs.WorkedProofs.{needs-rule}
 use Rattle.model.proofs.SupersProved.{supers-proved-for-all}
-use Rattle.model.proofs.ViewLaws.{view-gives-or-unknown, known-in-set}
+use Rattle.model.proofs.ViewLaws.{view-gives-or-unknown, known-in-set, rule-in-view, super-in-set}
 use Rattle.model.proofs.RenumberedTrees.{over-some, over-closed}
-use Rattle.model.proofs.RenumberedRules.{rules-there, over-supers, auto-same}
+use Rattle.model.proofs.RenumberedRules.{auto-same}
 use Rattle.assembly_laws.specs.Meaning.{Meaning, LinkedWith, proved_in}
 use Rattle.assembly_laws.proofs.HavingViews.{ProvesBy}
 
@@ -79,20 +79,20 @@ module _ (m : Meaning) (w : LinkedWith m) (V : World) (holds : HoldsView w.set (
   by-shut : (r : Reference) (u : Rule) → is_closed r.args ≡ true → In u (rules V [] r) → (p : Reference) → In p u.premises → is_closed p.args ≡ true
   by-shut r u closed i p j =
       sym (over-closed ρ p.args)
-      ∙ shut W w.views w.rank w.linked (ρ.crates.to m.crate) (Q r) (Q p) (over-closed ρ r.args ∙ closed)
+      ∙ shut W w.views w.rank w.linked.joined (ρ.crates.to m.crate) (Q r) (Q p) (over-closed ρ r.args ∙ closed)
       (in-left (Q p) (flat_map (λ (x : Rule). x.premises) (rules seen [] (Q r))) (if is_known_in seen (ρ.crates.to m.crate) (Q r) then [] else strict_supertraits seen (Q r))
-      (flat-in (λ (x : Rule). x.premises) (rules seen [] (Q r)) (renumbered_rule ρ u) (Q p) (rules-there ρ V seen holds [] r u i) (in-map (renumbered_reference ρ) u.premises p j)))
+      (flat-in (λ (x : Rule). x.premises) (rules seen [] (Q r)) (renumbered_rule ρ u) (Q p) (rule-in-view W w.views w.rank w.linked v holds r u i) (in-map (renumbered_reference ρ) u.premises p j)))
 
   by-supers : (r : Reference) → is_closed r.args ≡ true → proved_in w r → (s : Reference) → In s (strict_supertraits V r) → proved_in w s
   by-supers r closed h s i =
       every-member (HasProof W []) (strict_supertraits W (Q r)) (Q s) (supers-proved-for-all W w.views w.rank w.linked (Q r) (over-closed ρ r.args ∙ closed) h)
-      (supers-of-view W (ρ.crates.to m.crate) (Q r) (Q s) (subst (In (Q s)) (over-supers ρ V seen holds r) (in-map (renumbered_reference ρ) (strict_supertraits V r) s i)))
+      (super-in-set W w.views w.rank w.linked v holds r s i)
 
   -- a trait of the view is one of the set, by other numbers
   trait-there : (x : TraitDecl) → In x V.traits → In (renumbered_trait ρ x) W.traits
   trait-there x i =
       let named = in-map (renumbered_trait ρ) (traits_named V x.name) x (filter-in (λ (y : TraitDecl). y.name == x.name) V.traits x i (self-number x.name)) in
-      let there = subst (In (renumbered_trait ρ x)) (sym (holds.same_traits x.name)) named in
+      let there = subst (In (renumbered_trait ρ x)) (sym (holds.renumbers.same_traits x.name)) named in
       (in-filter (λ (y : TraitDecl). sees W (ρ.crates.to m.crate) y.home) W.traits (renumbered_trait ρ x) (in-filter (λ (y : TraitDecl). y.name == ρ.traits.to x.name) seen.traits (renumbered_trait ρ x) there).0).0
 
   pub proves-by : ProvesBy V m.crate (proved_in w)
@@ -100,15 +100,15 @@ module _ (m : Meaning) (w : LinkedWith m) (V : World) (holds : HoldsView w.set (
     rule = by-rule;
     shut = by-shut;
     supers = by-supers;
-    trait_rank = λ t. w.linked.trait_rank (ρ.traits.to t);
-    down = λ x b i j. w.linked.bounds_before (renumbered_trait ρ x) (Q b) (trait-there x i) (in-map (renumbered_reference ρ) x.bounds b j);
-    plain = λ x b i j. sym (over-some ρ is_stray is_stray (stray-same ρ) b.args) ∙ w.linked.plain_bounds (renumbered_trait ρ x) (Q b) (trait-there x i) (in-map (renumbered_reference ρ) x.bounds b j);
+    trait_rank = λ t. w.linked.joined.trait_rank (ρ.traits.to t);
+    down = λ x b i j. w.linked.joined.bounds_before (renumbered_trait ρ x) (Q b) (trait-there x i) (in-map (renumbered_reference ρ) x.bounds b j);
+    plain = λ x b i j. sym (over-some ρ is_stray is_stray (stray-same ρ) b.args) ∙ w.linked.joined.plain_bounds (renumbered_trait ρ x) (Q b) (trait-there x i) (in-map (renumbered_reference ρ) x.bounds b j);
   }
 
   -- an auto trait of the view is one in the set
   auto-there : (t : ℕ) → is_auto V t ≡ true → is_auto W (ρ.traits.to t) ≡ true
   auto-there t auto =
-      let found = some-member (λ (x : TraitDecl). x.is_auto) (traits_named seen (ρ.traits.to t)) (auto-same ρ V seen holds t ∙ auto) in
+      let found = some-member (λ (x : TraitDecl). x.is_auto) (traits_named seen (ρ.traits.to t)) (auto-same ρ V (view_before W v) holds.renumbers t ∙ auto) in
       let named = in-filter (λ (x : TraitDecl). x.name == ρ.traits.to t) seen.traits found.0 found.1 in
       let there = in-filter (λ (x : TraitDecl). sees W (ρ.crates.to m.crate) x.home) W.traits found.0 named.0 in
       member-some (λ (x : TraitDecl). x.is_auto) (traits_named W (ρ.traits.to t)) found.0 (filter-in (λ (x : TraitDecl). x.name == ρ.traits.to t) W.traits found.0 there.0 named.1) found.2
@@ -116,6 +116,6 @@ module _ (m : Meaning) (w : LinkedWith m) (V : World) (holds : HoldsView w.set (
   -- an impl of an auto trait is for a struct
   pub auto-of-struct : (i : ImplDecl) → In i V.impls → is_auto V i.header.trait ≡ true → (s : ℕ) × (ks : Trees) × (os : Trees) × (i.header.args ≡ tree (adt s) ks os)
   auto-of-struct i j auto =
-      let there = (in-filter (λ (x : ImplDecl). sees W (ρ.crates.to m.crate) x.home) W.impls (renumbered_impl ρ i) (holds.same_impls.0 (renumbered_impl ρ i) (in-map (renumbered_impl ρ) V.impls i j))).0 in
-      let home = w.linked.autos_at_home (renumbered_impl ρ i) there (auto-there i.header.trait auto) in
+      let there = (in-filter (λ (x : ImplDecl). sees W (ρ.crates.to m.crate) x.home) W.impls (renumbered_impl ρ i) (holds.later.later.stand (renumbered_impl ρ i) (in-map (renumbered_impl ρ) V.impls i j))).0 in
+      let home = w.linked.joined.autos_at_home (renumbered_impl ρ i) there (auto-there i.header.trait auto) in
       begins-struct ρ i.header.args home.0 home.1 home.2 home.3

@@ -144,7 +144,7 @@ module _ (H : Reference → Type 0) (V : World) (declared : is_declared_view V �
 
     at-dyn : (good : Label → Bool) (c o : Trees) → is_made good bounds c ≡ true → Shut (tree dynamic (read_with (given ys) c) (read_with (given ys) o)) → (u : Rule)
         → In u (object_rules V asks (tree dynamic (read_with (given ys) c) (read_with (given ys) o))) → SomeOf (Gives H a.kinds v) (objects_of V a (tree dynamic c o))
-    at-dyn good c o made shut u i = by (are_dyn_compatible V ps) compatible (in-append u (if list_any (same_reference asks) (map (read_reference ys) qs) then row object_auto (strict_supertraits V asks) else []) _ (rule.1))
+    at-dyn good c o made shut u i = by (are_dyn_compatible V ps) compatible (in-append u (if not (asks.trait == sized) && list_any (same_reference asks) (map (read_reference ys) qs) then row object_auto (strict_supertraits V asks) else []) _ (rule.1))
       where
         self : Trees
         self = tree dynamic c none
@@ -156,7 +156,7 @@ module _ (H : Reference → Type 0) (V : World) (declared : is_declared_view V �
         qs = autos_with self c
 
         rule : (is_declared V asks.trait && are_dyn_compatible V (map (read_reference ys) ps) ≡ true)
-            × In u ((if list_any (same_reference asks) (map (read_reference ys) qs) then row object_auto (strict_supertraits V asks) else [])
+            × In u ((if not (asks.trait == sized) && list_any (same_reference asks) (map (read_reference ys) qs) then row object_auto (strict_supertraits V asks) else [])
             ++ (if not (asks.trait == sized) then equal_rows object_principal (strict_supertraits V asks) asks 0 (elaborated V (map (read_reference ys) ps)) else []))
         rule =
             was-true (is_declared V asks.trait && are_dyn_compatible V (map (read_reference ys) ps)) _ u
@@ -179,22 +179,23 @@ module _ (H : Reference → Type 0) (V : World) (declared : is_declared_view V �
             (m.0, elaborated-all V rank down ps m.0 m.1, m.2)
 
         autos : List Rule
-        autos = if list_any (same_reference asks) (map (read_reference ys) qs) then row object_auto (strict_supertraits V asks) else []
+        autos = if not (asks.trait == sized) && list_any (same_reference asks) (map (read_reference ys) qs) then row object_auto (strict_supertraits V asks) else []
 
         principals : List Rule
         principals = if not (asks.trait == sized) then equal_rows object_principal (strict_supertraits V asks) asks 0 (elaborated V (map (read_reference ys) ps)) else []
 
         by : (b : Bool) → b ≡ true → In u autos ⊎ In u principals
-            → SomeOf (Gives H a.kinds v) (if_so b (bounds_from V a written_source 0 qs ++ if_so (not (a.reference.trait == sized)) (bounds_from V a object_source 0 (elaborate V ps))))
+            → SomeOf (Gives H a.kinds v) (if_so b (if_so (not (a.reference.trait == sized)) (bounds_from V a written_source 0 qs) ++ if_so (not (a.reference.trait == sized)) (bounds_from V a object_source 0 (elaborate V ps))))
         by false e g = absurd (true-false (sym e))
         by true e (inl g) =
-            let m = one-row asks (map (read_reference ys) qs) true (row object_auto (strict_supertraits V asks)) u g in
+            let m = one-row asks (map (read_reference ys) qs) (not (asks.trait == sized)) (row object_auto (strict_supertraits V asks)) u g in
             let t = read-as-asked qs m.1.0 m.1.1 m.1.2 in
-            some-left (Gives H a.kinds v) (bounds_from V a written_source 0 qs) _ (from-bound written_source 0 qs t.0 t.1 t.2)
+            some-left (Gives H a.kinds v) (if_so (not (a.reference.trait == sized)) (bounds_from V a written_source 0 qs)) _
+            (subst (λ b. SomeOf (Gives H a.kinds v) (if_so b (bounds_from V a written_source 0 qs))) (sym m.0) (from-bound written_source 0 qs t.0 t.1 t.2))
         by true e (inr g) =
             let m = each-row object_principal (strict_supertraits V asks) asks 0 (elaborated V (map (read_reference ys) ps)) (not (asks.trait == sized)) u g in
             let t = in-elaborate m.1.0 m.1.1 m.1.2 in
-            some-right (Gives H a.kinds v) (bounds_from V a written_source 0 qs) _
+            some-right (Gives H a.kinds v) (if_so (not (a.reference.trait == sized)) (bounds_from V a written_source 0 qs)) _
             (subst (λ b. SomeOf (Gives H a.kinds v) (if_so b (bounds_from V a object_source 0 (elaborate V ps)))) (sym m.0) (from-bound object_source 0 (elaborate V ps) t.0 t.1 t.2))
 
     -- the row of object bounds, where the head of Self is known

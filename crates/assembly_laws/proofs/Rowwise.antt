@@ -13,7 +13,7 @@ use Rattle.evaluation.specs.Lists.{Every}
 use Rattle.evaluation.specs.FrameTables.{Equation}
 use Rattle.declarations.specs.Elaboration.{elaborate, supertraits}
 use Rattle.assembly_laws.specs.Asking.{Asked, clauses, self_of, next_of, begins_unknown}
-use Rattle.assembly_laws.specs.Candidates.{Candidate, all_equal, by_rule, unsure, clause_source, by_clauses, by_the_impl, is_relevant_to, by_impls, as_written, misc, if_so, by_sized, by_copy, by_auto, by_tuple, by_fn_ptr, call_of, by_call, unsize_array_of, upcast_source, upcasts_from, upcasts_to, upcasts_of, unsize_by_struct, unsize_struct_of, unsize_known, recording, unsizing_outlives, unsize_recording, by_unsize, built_in, bounds_from, object_source, written_source, objects_of, by_objects}
+use Rattle.assembly_laws.specs.Candidates.{Candidate, all_equal, by_rule, unsure, clause_source, by_clauses, by_the_impl, can_match, by_impls, as_written, misc, if_so, by_sized, by_copy, by_auto, by_tuple, by_fn_ptr, call_of, by_call, unsize_array_of, upcast_source, upcasts_from, upcasts_to, upcasts_of, unsize_by_struct, unsize_struct_of, unsize_known, recording, unsizing_outlives, unsize_recording, by_unsize, built_in, bounds_from, object_source, written_source, objects_of, by_objects}
 use Rattle.assembly_laws.specs.Cover.{all_candidates}
 use Rattle.assembly_laws.proofs.Recording.{every-recorded}
 
@@ -134,7 +134,7 @@ module _ (V : World) (a : Asked) (P : Candidate → Type 0) (E : List Equation �
 
     impls-so : (is : List ImplDecl) → ((i : ImplDecl) → In i is → In i V.impls) → Every P (by_impls V a is)
     impls-so [] f = tt
-    impls-so (i ∷ is) f = by ((i.header.trait == a.reference.trait) && is_relevant_to (self_of a) i.header.args) (impls-so is (λ j k. f j (there j i is k)))
+    impls-so (i ∷ is) f = by ((i.header.trait == a.reference.trait) && can_match a.reference.args i.header.args) (impls-so is (λ j k. f j (there j i is k)))
       where
         by : (b : Bool) → Every P (by_impls V a is) → Every P (if b then by_the_impl V a i ∷ by_impls V a is else by_impls V a is)
         by true k = (rows.impls i (f i (here i is)), k)
@@ -154,7 +154,7 @@ module _ (V : World) (a : Asked) (P : Candidate → Type 0) (E : List Equation �
     objects-so (tree dynamic bounds others) e =
         let self = tree dynamic bounds none in
         so (are_dyn_compatible V (principal_with self bounds)) _
-        (both-lists P (bounds_from V a written_source 0 (autos_with self bounds)) _ (bounds-so written_source 0 (autos_with self bounds) (rows.bounds bounds others e).0)
+        (both-lists P (if_so (not (a.reference.trait == sized)) (bounds_from V a written_source 0 (autos_with self bounds))) _ (so (not (a.reference.trait == sized)) _ (bounds-so written_source 0 (autos_with self bounds) (rows.bounds bounds others e).0))
         (so (not (a.reference.trait == sized)) _ (bounds-so object_source 0 (elaborate V (principal_with self bounds)) (rows.bounds bounds others e).1)))
     objects-so (tree l c o) e = tt
 

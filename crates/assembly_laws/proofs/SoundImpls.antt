@@ -22,8 +22,8 @@ use Rattle.assembly_laws.specs.Facts.{Follows, is_plain, is_unerased, clauses_of
 use Rattle.assembly_laws.specs.Meaning.{Meaning}
 use Rattle.assembly_laws.specs.Declared.{is_declared, is_counted, are_terms, is_declared_view, is_unsorted, parameters_are_sorted}
 use Rattle.assembly_laws.specs.Determined.{ImplsAreDetermined}
-use Rattle.assembly_laws.specs.Asking.{Asked, asked, all_known, are_clauses, self_of}
-use Rattle.assembly_laws.specs.Candidates.{premise, is_param, kinds_of_params, behind, all_equal, by_the_impl, is_relevant_to, by_impls}
+use Rattle.assembly_laws.specs.Asking.{Asked, asked, all_known, are_clauses}
+use Rattle.assembly_laws.specs.Candidates.{premise, is_param, kinds_of_params, behind, all_equal, by_the_impl, can_match, by_impls}
 use Rattle.assembly_laws.specs.Cover.{goal_fact, read_reference}
 use Rattle.assembly_laws.specs.Lawful.{IsSoundFor, ImplsAreSound}
 use Rattle.assembly_laws.proofs.Cover.{IsAsked, asked-by}
@@ -142,7 +142,7 @@ module _ (m : Meaning) (declared : is_declared_view m.view ≡ true) (determined
 
   each-impl : (is : List ImplDecl) → ((i : ImplDecl) → In i is → In i V.impls) → Every (IsSoundFor m f a) (by_impls V a is)
   each-impl [] g = tt
-  each-impl (i ∷ is) g = by (i.header.trait == a.reference.trait) refl (is_relevant_to (self_of a) i.header.args) (each-impl is (λ j k. g j (there j i is k)))
+  each-impl (i ∷ is) g = by (i.header.trait == a.reference.trait) refl (can_match a.reference.args i.header.args) (each-impl is (λ j k. g j (there j i is k)))
     where
       by : (b : Bool) → (i.header.trait == a.reference.trait) ≡ b → (r : Bool) → Every (IsSoundFor m f a) (by_impls V a is) → Every (IsSoundFor m f a) (if b && r then by_the_impl V a i ∷ by_impls V a is else by_impls V a is)
       by true q true e = (impl-sound i (g i (here i is)) q, e)

@@ -169,7 +169,7 @@ module _ (m : Meaning) (declared : is_declared_view m.view ≡ true) (f : Canoni
           (subst (Every IsPlainReference) (ps-are s) (principal-plain (Read s self) (Read s c) (dyn-plain s h) (inner-plain s h))) (in-map (read_reference s.slots) ps p i)
 
       abbrev own_autos : Terms → List Rule
-      own_autos s = if list_any (same_reference (instance s)) (map (read_reference s.slots) qs) then row object_auto (strict_supertraits V (instance s)) else []
+      own_autos s = if not (a.reference.trait == sized) && list_any (same_reference (instance s)) (map (read_reference s.slots) qs) then row object_auto (strict_supertraits V (instance s)) else []
 
       abbrev own_principals : Terms → List Rule
       own_principals s = if not (a.reference.trait == sized) then equal_rows object_principal (strict_supertraits V (instance s)) (instance s) 0 (elaborated V (map (read_reference s.slots) ps)) else []
@@ -198,13 +198,14 @@ module _ (m : Meaning) (declared : is_declared_view m.view ≡ true) (f : Canoni
           supertraits-plain V declared s.slots a.reference h.plain,
         )
 
-        auto-at : (r : Reference) → In r qs → is_made is_open_label terms r.args ≡ true → (r.trait == a.reference.trait) ≡ true → (s : Terms) → Held m declared f a is_asked s → Every (λ e. Meets e s) (all_equal a.reference.args r.args)
+        auto-at : not (a.reference.trait == sized) ≡ true → (r : Reference) → In r qs → is_made is_open_label terms r.args ≡ true → (r.trait == a.reference.trait) ≡ true → (s : Terms) → Held m declared f a is_asked s → Every (λ e. Meets e s) (all_equal a.reference.args r.args)
             → BuiltFrom s (supertraits V a.reference) × Every (IsPlainAt m declared f a is_asked s) (supertraits V a.reference)
-        auto-at r i made q s h e =
+        auto-at unsized r i made q s h e =
             from-rule s h (built_in object_auto) (here-rule s (record { way = built_in object_auto; premises = strict_supertraits V (instance s) })
             (in-left (record { way = built_in object_auto; premises = strict_supertraits V (instance s) }) (own_autos s) (own_principals s)
             (subst (λ (b : Bool). In (record { way = built_in object_auto; premises = strict_supertraits V (instance s) }) (if b then row object_auto (strict_supertraits V (instance s)) else []))
-            (sym (member-some (same_reference (instance s)) (map (read_reference s.slots) qs) (read_reference s.slots r) (in-map (read_reference s.slots) qs r i) (ap (same_reference (instance s)) (met-bound r q made s e) ∙ same-one (instance s))))
+            (sym (both (not (a.reference.trait == sized)) (list_any (same_reference (instance s)) (map (read_reference s.slots) qs)) unsized
+            (member-some (same_reference (instance s)) (map (read_reference s.slots) qs) (read_reference s.slots r) (in-map (read_reference s.slots) qs r i) (ap (same_reference (instance s)) (met-bound r q made s e) ∙ same-one (instance s)))))
             (here (record { way = built_in object_auto; premises = strict_supertraits V (instance s) }) []))))
 
         principal-at : not (a.reference.trait == sized) ≡ true → (r : Reference) → In r (elaborate V ps) → is_made is_open_label terms r.args ≡ true → (r.trait == a.reference.trait) ≡ true
@@ -238,8 +239,9 @@ module _ (m : Meaning) (declared : is_declared_view m.view ≡ true) (f : Canoni
         autos-made (tree (auto_trait t) d p) = (self-made, autos-made p)
         autos-made (tree l d p) = autos-made p
 
-        autos-sound : Every (IsSoundFor m f a) (bounds_from V a written_source 0 qs)
-        autos-sound = each-bound written_source 0 qs (λ r i q s h e. auto-at r i (member-of (λ (r : Reference). is_made is_open_label terms r.args ≡ true) qs r (autos-made c) i) q s h e)
+        autos-sound : (b : Bool) → not (a.reference.trait == sized) ≡ b → Every (IsSoundFor m f a) (if_so b (bounds_from V a written_source 0 qs))
+        autos-sound false q = tt
+        autos-sound true u = each-bound written_source 0 qs (λ r i q s h e. auto-at u r i (member-of (λ (r : Reference). is_made is_open_label terms r.args ≡ true) qs r (autos-made c) i) q s h e)
 
         principals-sound : (b : Bool) → not (a.reference.trait == sized) ≡ b → Every (IsSoundFor m f a) (if_so b (bounds_from V a object_source 0 (elaborate V ps)))
         principals-sound true q =
@@ -251,9 +253,9 @@ module _ (m : Meaning) (declared : is_declared_view m.view ≡ true) (f : Canoni
       dyn-sound = by (are_dyn_compatible V ps) refl
         where
           by : (b : Bool) → are_dyn_compatible V ps ≡ b
-              → Every (IsSoundFor m f a) (if_so b (bounds_from V a written_source 0 qs ++ if_so (not (a.reference.trait == sized)) (bounds_from V a object_source 0 (elaborate V ps))))
+              → Every (IsSoundFor m f a) (if_so b (if_so (not (a.reference.trait == sized)) (bounds_from V a written_source 0 qs) ++ if_so (not (a.reference.trait == sized)) (bounds_from V a object_source 0 (elaborate V ps))))
           by true q =
-              every-append (IsSoundFor m f a) (bounds_from V a written_source 0 qs) (if_so (not (a.reference.trait == sized)) (bounds_from V a object_source 0 (elaborate V ps))) (autos-sound q)
+              every-append (IsSoundFor m f a) (if_so (not (a.reference.trait == sized)) (bounds_from V a written_source 0 qs)) (if_so (not (a.reference.trait == sized)) (bounds_from V a object_source 0 (elaborate V ps))) (autos-sound q (not (a.reference.trait == sized)) refl)
               (principals-sound q (not (a.reference.trait == sized)) refl)
           by false q = tt
 

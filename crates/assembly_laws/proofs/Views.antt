@@ -32,7 +32,7 @@ known-by-view-rule W vs rank l c V e r z known p = by (open-world W vs rank l c 
 
     by : In u.0 (rules (view_of W c) [] r) ⊎ Unknown W c r → (u : Rule) × In u (rules V [] r) × Every (HasProof W []) u.premises
     by (inl i) = (u.0, subst (λ (X : World). In u.0 (rules X [] r)) e i, u.2)
-    by (inr g) = absurd (not-both (is_known_in V c r) known (subst (λ (X : World). is_known_in X c r ≡ false) e (unknown-by-view W (l.one_struct, l.one_trait) c r g.unknown)))
+    by (inr g) = absurd (not-both (is_known_in V c r) known (subst (λ (X : World). is_known_in X c r ≡ false) e (unknown-by-view W (l.joined.one_struct, l.joined.one_trait) c r g.unknown)))
 
 pub supers-by-view : SupertraitsByTheViewStand
 supers-by-view W stand c V e r z p =

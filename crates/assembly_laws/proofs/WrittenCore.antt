@@ -6,6 +6,7 @@ use Rattle.model.specs.Renumbering.{Permutation, Renumbering, IsRenumbering, ren
 use Rattle.model.specs.Core.{core_world}
 use Rattle.model.proofs.TermRules.{filter-map}
 use Rattle.model.proofs.CoreLinked.{core-linked}
+use Rattle.model.proofs.ViewLaws.{as-it-was}
 use Rattle.assembly_laws.specs.WrittenCore.{written_core, WrittenCoreIsLinked}
 
 abbrev same : Permutation
@@ -30,4 +31,4 @@ stands = record {
 }
 
 pub written-core-is-linked : WrittenCoreIsLinked
-written-core-is-linked = (refl, record { set = core_world; views = []; rank = λ n. n; linked = core-linked; numbers = ρ; crates = core_world.crates; holds = stands })
+written-core-is-linked = (refl, record { set = core_world; views = []; rank = λ n. n; linked = core-linked; numbers = ρ; crates = core_world.crates; holds = as-it-was core_world (record { numbers = ρ; asker = core; world = V }) stands })

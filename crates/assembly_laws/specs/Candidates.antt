@@ -27,7 +27,8 @@ use Rattle.type_terms.specs.declared.ImplId.{ImplId}
 use Rattle.type_terms.specs.declared.TheConstants.{MAX_INDEX}
 use Rattle.assembly_laws.specs.Facts.{tree_of_reference}
 use Rattle.declarations.specs.Elaboration.{elaborate, supertraits}
-use Rattle.assembly_laws.specs.Asking.{Asked, self_of, next_of, begins_unknown}
+use Rattle.assembly_laws.specs.Apart.{are_apart}
+use Rattle.assembly_laws.specs.Asking.{Asked, self_of, next_of, begins_unknown, with_plain_head}
 
 -- The handle of the impl of a number; numbers of impls are in range.
 abbrev pub impl_id : ℕ → ImplId
@@ -132,9 +133,13 @@ abbrev pub is_relevant_to : Trees → Trees → Bool
 is_relevant_to none header = false
 is_relevant_to (tree l c o) header = same_head l header
 
+-- by their heads the impl's arguments can be the goal's, and they are not told apart at once (`DeepRejectCtxt`)
+abbrev pub can_match : Trees → Trees → Bool
+can_match args header = is_relevant_to (with_plain_head args) header && not (are_apart args header)
+
 abbrev pub by_impls : World → Asked → List ImplDecl → List Candidate
 by_impls V a [] = []
-by_impls V a (i ∷ is) = if (i.header.trait == a.reference.trait) && is_relevant_to (self_of a) i.header.args then by_the_impl V a i ∷ by_impls V a is else by_impls V a is
+by_impls V a (i ∷ is) = if (i.header.trait == a.reference.trait) && can_match a.reference.args i.header.args then by_the_impl V a i ∷ by_impls V a is else by_impls V a is
 
 -- ---- built-in rules
 -- rules that read the goal's outermost types alone: the rule of the goal as it is written is the candidate
@@ -264,7 +269,7 @@ abbrev pub objects_of : World → Asked → Trees → List Candidate
 objects_of V a (tree dynamic bounds others) =
     let self = tree dynamic bounds none in
     if_so (are_dyn_compatible V (principal_with self bounds))
-    (bounds_from V a written_source 0 (autos_with self bounds)
+    (if_so (not (a.reference.trait == sized)) (bounds_from V a written_source 0 (autos_with self bounds))
     ++ if_so (not (a.reference.trait == sized)) (bounds_from V a object_source 0 (elaborate V (principal_with self bounds))))
 objects_of V a self = []
 

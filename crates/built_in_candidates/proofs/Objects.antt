@@ -276,19 +276,22 @@ module _ (t : ℕ) (self : Trees) where
       by true (suc m) k go = go m (omega (arith, k)) ∙ ap (slice_get ys) (minus-both m (many rs))
       by false m k go = go m k
 
-  pub auto-found : (b : Trees) (rs : List Reference) (n : ℕ) → n < many (autos_with self b) → Some (auto_bound t self) ≡ slice_get (written_and_elaborated t self b rs) n
-  auto-found b rs n lt = autos-there (if_so (not (t == sized)) (bounds_to t Object 0 rs)) 0 n (autos_with self b) (asked-of-self self b) lt
+  abbrev all_bounds : Trees → List Reference → List Bound
+  all_bounds b rs = bounds_to t (λ i. Misc) 0 (autos_with self b) ++ bounds_to t Object 0 rs
 
-  pub sized-left-out : (b : Trees) (rs : List Reference) (n : ℕ) → many (autos_with self b) ≤ n → (t == sized) ≡ true → None ≡ slice_get (written_and_elaborated t self b rs) n
-  sized-left-out b rs n le e =
-      sym (autos-past (if_so (not (t == sized)) (bounds_to t Object 0 rs)) 0 n (autos_with self b) le
-      ∙ ap (λ c. slice_get (if_so (not c) (bounds_to t Object 0 rs)) (n - many (autos_with self b))) e)
+  pub auto-found : (b : Trees) (rs : List Reference) (n : ℕ) → n < many (autos_with self b) → (t == sized) ≡ false → Some (auto_bound t self) ≡ slice_get (written_and_elaborated t self b rs) n
+  auto-found b rs n lt e =
+      autos-there (bounds_to t Object 0 rs) 0 n (autos_with self b) (asked-of-self self b) lt
+      ∙ sym (ap (λ c. slice_get (if_so (not c) (all_bounds b rs)) n) e)
+
+  pub sized-left-out : (b : Trees) (rs : List Reference) (n : ℕ) → (t == sized) ≡ true → None ≡ slice_get (written_and_elaborated t self b rs) n
+  sized-left-out b rs n e = sym (ap (λ c. slice_get (if_so (not c) (all_bounds b rs)) n) e)
 
   pub level-found : (b : Trees) (rs : List Reference) (n : ℕ) → many (autos_with self b) ≤ n → (t == sized) ≡ false
       → slice_get (bounds_to t Object 0 rs) (n - many (autos_with self b)) ≡ slice_get (written_and_elaborated t self b rs) n
   level-found b rs n le e =
-      sym (autos-past (if_so (not (t == sized)) (bounds_to t Object 0 rs)) 0 n (autos_with self b) le
-      ∙ ap (λ c. slice_get (if_so (not c) (bounds_to t Object 0 rs)) (n - many (autos_with self b))) e)
+      sym (ap (λ c. slice_get (if_so (not c) (all_bounds b rs)) n) e
+      ∙ autos-past (bounds_to t Object 0 rs) 0 n (autos_with self b) le)
 
 -- ---- as candidates
 map-if : {A B : Type 0} (f : A → B) (b : Bool) (xs : List A) → if_so b (map f xs) ≡ map f (if_so b xs)
@@ -310,12 +313,17 @@ module _ (V : World) (a : Asked) where
       by false e = e
 
   both-read : (self b : Trees) (rs : List Reference)
-      → bounds_from V a written_source 0 (autos_with self b) ++ if_so (not (a.reference.trait == sized)) (bounds_from V a object_source 0 rs) ≡ map by_bound (written_and_elaborated a.reference.trait self b rs)
-  both-read self b rs =
-      ap (λ l. l ++ if_so (not (a.reference.trait == sized)) (bounds_from V a object_source 0 rs)) (bounds-read (λ n. Misc) 0 (autos_with self b))
-      ∙ ap (λ l. map by_bound (bounds_to a.reference.trait (λ n. Misc) 0 (autos_with self b)) ++ if_so (not (a.reference.trait == sized)) l) (bounds-read Object 0 rs)
-      ∙ ap (λ l. map by_bound (bounds_to a.reference.trait (λ n. Misc) 0 (autos_with self b)) ++ l) (map-if by_bound (not (a.reference.trait == sized)) (bounds_to a.reference.trait Object 0 rs))
-      ∙ sym (map-append by_bound (bounds_to a.reference.trait (λ n. Misc) 0 (autos_with self b)) (if_so (not (a.reference.trait == sized)) (bounds_to a.reference.trait Object 0 rs)))
+      → if_so (not (a.reference.trait == sized)) (bounds_from V a written_source 0 (autos_with self b)) ++ if_so (not (a.reference.trait == sized)) (bounds_from V a object_source 0 rs)
+      ≡ map by_bound (written_and_elaborated a.reference.trait self b rs)
+  both-read self b rs = by (not (a.reference.trait == sized))
+    where
+      by : (c : Bool) → if_so c (bounds_from V a written_source 0 (autos_with self b)) ++ if_so c (bounds_from V a object_source 0 rs)
+          ≡ map by_bound (if_so c (bounds_to a.reference.trait (λ n. Misc) 0 (autos_with self b) ++ bounds_to a.reference.trait Object 0 rs))
+      by true =
+          ap (λ l. l ++ bounds_from V a object_source 0 rs) (bounds-read (λ n. Misc) 0 (autos_with self b))
+          ∙ ap (λ l. map by_bound (bounds_to a.reference.trait (λ n. Misc) 0 (autos_with self b)) ++ l) (bounds-read Object 0 rs)
+          ∙ sym (map-append by_bound (bounds_to a.reference.trait (λ n. Misc) 0 (autos_with self b)) (bounds_to a.reference.trait Object 0 rs))
+      by false = refl
 
   objects-read : (b o : Trees) → objects_of V a (tree dynamic b o) ≡ map by_bound (object_bounds V a.reference.trait (tree dynamic b none) b)
   objects-read b o =

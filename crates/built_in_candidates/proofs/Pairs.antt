@@ -15,7 +15,7 @@ use Rattle.infer_table.specs.Values.{Value, value_of, sort_of_arg}
 use Rattle.evaluation.specs.Lists.{Every}
 use Rattle.evaluation.specs.Readings.{EquationHeld}
 use Rattle.evaluation.specs.FrameTables.{Equation}
-use Rattle.goal_frames.specs.Readings.{equation_read}
+use Rattle.evaluation.specs.StepReadings.{equation_read}
 use Rattle.assembly_laws.specs.Candidates.{all_equal, never_met, first_value}
 use Rattle.evaluation.proofs.Contexts.{every-more}
 use Rattle.infer_table.proofs.BindFacts.{type-is}

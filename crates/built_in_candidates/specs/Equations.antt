@@ -7,7 +7,7 @@ use Rattle.infer_table.specs.declared.terms.Equation as Code
 use Rattle.evaluation.specs.Lists.{Every}
 use Rattle.evaluation.specs.Readings.{EquationHeld}
 use Rattle.evaluation.specs.FrameTables.{Equation}
-use Rattle.goal_frames.specs.Readings.{equation_read}
+use Rattle.evaluation.specs.StepReadings.{equation_read}
 use Rattle.assembly_laws.specs.Candidates.{all_equal, never_met}
 
 -- An equation that no terms meet, where one list is longer.

@@ -10,7 +10,7 @@ use Rattle.evaluation.specs.declared.candidate.CandidateSpec.{CandidateSpec}
 use Rattle.evaluation.specs.declared.goal.GoalSource.{GoalSource}
 use Rattle.evaluation.specs.Lists.{Every}
 use Rattle.evaluation.specs.FrameTables.{Nested}
-use Rattle.goal_frames.specs.Readings.{nested_read, spec_read}
+use Rattle.evaluation.specs.StepReadings.{nested_read, spec_read}
 use Rattle.declarations.specs.Items.{reference_in}
 use Rattle.assembly_laws.specs.Asking.{Asked}
 use Rattle.assembly_laws.specs.Candidates.{Candidate}

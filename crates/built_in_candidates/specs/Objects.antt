@@ -63,7 +63,7 @@ bounds_to t source i (r ∷ rs) = if r.trait == t then record { source = source 
 
 -- The auto traits that a `dyn` is written with, and behind them its principal and the supertraits; `Sized` is none of these.
 abbrev pub written_and_elaborated : ℕ → Trees → Trees → List Reference → List Bound
-written_and_elaborated t self b rs = bounds_to t (λ i. Misc) 0 (autos_with self b) ++ if_so (not (t == sized)) (bounds_to t Object 0 rs)
+written_and_elaborated t self b rs = if_so (not (t == sized)) (bounds_to t (λ i. Misc) 0 (autos_with self b) ++ bounds_to t Object 0 rs)
 
 -- The bounds of the trait t of a `dyn` whose principal is dyn compatible: of `dyn Sub + Send` those of `Send`, of `Sub`, or of its supertraits.
 abbrev pub object_bounds : World → ℕ → Trees → Trees → List Bound

@@ -33,7 +33,7 @@ use type_terms::kinds::{Bounds, Ty};
 use type_terms::{Fault, TraitId};
 
 /// The bound at this place among those of the trait: the auto traits that the `dyn` is written with, and then its principal with the
-/// supertraits. `Sized` is none of the latter.
+/// supertraits. `Sized` is none of them.
 fn bound_of_trait(
     alloc: Global,
     cx: &mut Interner,
@@ -53,13 +53,13 @@ fn bound_of_trait(
         ≡ slice_get (written_and_elaborated def_id.index (trees_at cx.old.entries self_ty.0) b (references_in cx.old.entries elaborated.now)) place)) }
     ensures full { result ≡ Err Fault.Full → SomeKindIsFull cx.new.entries cx.new.limit }
 {
+    if def_id.index == SIZED {
+        return Ok(None);
+    }
     let autos = count_autos(cx, bounds, def_id);
     if place < autos {
         let bound = type_asked(alloc, cx, def_id, self_ty)?;
         return Ok(Some((BuiltinImplSource::Misc, bound)));
-    }
-    if def_id.index == SIZED {
-        return Ok(None);
     }
     match reference_at(elaborated, def_id, place - autos) {
         Some((number, bound)) => Ok(Some((BuiltinImplSource::Object(number), bound))),

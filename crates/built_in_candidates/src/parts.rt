@@ -6,7 +6,7 @@ ghost use Rattle.infer_table.specs.Goals.{GoalHeld};
 ghost use Rattle.model.specs.Worlds.{World};
 ghost use Rattle.evaluation.specs.Lists.{Every};
 ghost use Rattle.evaluation.specs.Readings.{SpecHeld, EquationHeld, is_coinductive_step};
-ghost use Rattle.goal_frames.specs.Readings.{nested_read, spec_read, equation_read};
+ghost use Rattle.evaluation.specs.StepReadings.{nested_read, spec_read, equation_read};
 ghost use Rattle.declarations.specs.Items.{reference_in};
 ghost use Rattle.declarations.specs.Held.{ReferenceHeld};
 ghost use Rattle.declarations.specs.Applied.{references_in, AllHeld};

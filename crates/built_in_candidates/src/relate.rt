@@ -5,7 +5,7 @@ ghost use Rattle.type_terms.specs.declared.Fault.TheVariants.{Memory};
 ghost use Rattle.type_terms.specs.Failures.{SomeKindIsFull};
 ghost use Rattle.evaluation.specs.Lists.{Every};
 ghost use Rattle.evaluation.specs.Readings.{EquationHeld};
-ghost use Rattle.goal_frames.specs.Readings.{equation_read};
+ghost use Rattle.evaluation.specs.StepReadings.{equation_read};
 ghost use Rattle.assembly_laws.specs.Candidates.{all_equal, never_met};
 ghost use Rattle.built_in_candidates.specs.Equations.{ArePaired};
 

@@ -11,7 +11,7 @@ ghost use Rattle.type_terms.specs.Failures.{SomeKindIsFull};
 ghost use Rattle.infer_table.specs.Goals.{GoalHeld};
 ghost use Rattle.evaluation.specs.Lists.{Every};
 ghost use Rattle.evaluation.specs.Readings.{SpecHeld, EquationHeld};
-ghost use Rattle.goal_frames.specs.Readings.{equation_read};
+ghost use Rattle.evaluation.specs.StepReadings.{equation_read};
 ghost use Rattle.declarations.specs.Items.{reference_in, written};
 ghost use Rattle.declarations.specs.Held.{AreHeld, StructHeld, ReferenceHeld};
 ghost use Rattle.declarations.specs.Merges.{Each};

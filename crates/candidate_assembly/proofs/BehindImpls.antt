@@ -17,7 +17,7 @@ use Rattle.evaluation.specs.Table.{workings}
 use Rattle.evaluation.specs.FrameTables.{kinds_known}
 use Rattle.evaluation.specs.Tables.{frame_tables}
 use Rattle.goal_frames.specs.Handlers.{same_answer, applies_always}
-use Rattle.goal_frames.specs.Readings.{HasHistory, Shows, shown_by}
+use Rattle.evaluation.specs.StepReadings.{HasHistory, Shows, shown_by}
 use Rattle.declarations.specs.Items.{Items, written}
 use Rattle.assembly_laws.specs.Meaning.{Meaning}
 use Rattle.assembly_laws.specs.Knowing.{is_knowable}

@@ -9,7 +9,7 @@ use Rattle.evaluation.specs.declared.candidate.Considered as InCode
 use Rattle.evaluation.specs.Candidate.{Considered}
 use Rattle.evaluation.specs.Table.{workings}
 use Rattle.evaluation.specs.Tables.{frame_tables}
-use Rattle.goal_frames.specs.Readings.{Shown, shown, shown_by}
+use Rattle.evaluation.specs.StepReadings.{Shown, shown, shown_by}
 use Rattle.assembly_laws.specs.Solver.{Past, from, is_impl}
 use Rattle.candidate_assembly.specs.Counted.{count_from, last_from, ends_by_impl, ForEachPast}
 use Rattle.candidate_assembly.specs.Sections.{considered_from, impl_or, last_impl}

@@ -16,7 +16,7 @@ use Rattle.evaluation.specs.Merge.{or_else}
 use Rattle.evaluation.specs.Readings.{ConsideredHeld}
 use Rattle.evaluation.specs.Table.{workings}
 use Rattle.evaluation.specs.Tables.{frame_tables}
-use Rattle.goal_frames.specs.Readings.{Shown, shown, Shows, shown_by}
+use Rattle.evaluation.specs.StepReadings.{Shown, shown, Shows, shown_by}
 use Rattle.goal_frames.proofs.Later.{shown-later}
 use Rattle.declarations.specs.Items.{Items, reference_in, written}
 use Rattle.declarations.specs.Merges.{Rises}

@@ -25,7 +25,7 @@ use Rattle.evaluation.proofs.Filling.{same-values}
 use Rattle.goal_frames.specs.Fitting.{ResultFits, ConsideredFits}
 use Rattle.goal_frames.specs.Handlers.{same_answer, applies_always}
 use Rattle.goal_frames.specs.Merges.{responses_of, merge_of}
-use Rattle.goal_frames.specs.Readings.{Shows, shown_by, result_read}
+use Rattle.evaluation.specs.StepReadings.{Shows, shown_by, result_read}
 use Rattle.assembly_laws.specs.Solver.{Past, from, is_clause, is_global, is_impl, is_non_global, is_object, is_trivial, gives_none, holds_from, oldest_gives_none, remain, remains}
 use Rattle.candidate_assembly.specs.declared.merge.Sources.{Sources}
 use Rattle.candidate_assembly.specs.declared.merge.Sources.TheVariants.{All, Trivial, NonGlobalClauses, Clauses, Remaining}

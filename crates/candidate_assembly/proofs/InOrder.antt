@@ -11,8 +11,8 @@ use Rattle.evaluation.specs.declared.candidate.CandidateSource.TheVariants.{Impl
 use Rattle.declarations.specs.Items.{HeldImpl, impl_in}
 use Rattle.declarations.specs.Merges.{Each, Rises}
 use Rattle.declarations.specs.Relevant.{is_above}
-use Rattle.assembly_laws.specs.Asking.{Asked, self_of}
-use Rattle.assembly_laws.specs.Candidates.{Candidate, by_impls, by_the_impl, is_relevant_to, impl_id}
+use Rattle.assembly_laws.specs.Asking.{Asked}
+use Rattle.assembly_laws.specs.Candidates.{Candidate, by_impls, by_the_impl, can_match, impl_id}
 use Rattle.candidate_assembly.proofs.Behind.{same-impl}
 
 not-below : (m n : ℕ) → m ≡ n → nat_lt n m ≡ false
@@ -35,7 +35,7 @@ module _ (es : List Entry) (V : World) (a : Asked) where
   candidates ds = by_impls V a ds
 
   abbrev rel : ImplDecl → Bool
-  rel d = (d.header.trait == a.reference.trait) && is_relevant_to (self_of a) d.header.args
+  rel d = (d.header.trait == a.reference.trait) && can_match a.reference.args d.header.args
 
   abbrev after : ImplId → List ImplDecl → List ImplDecl
   after last ds = filter (λ (d : ImplDecl). is_above (Some last) d.name) ds

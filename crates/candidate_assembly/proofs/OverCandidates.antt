@@ -28,7 +28,7 @@ use Rattle.evaluation.specs.Variables.{is_variable_over}
 use Rattle.goal_frames.specs.RuleFitting.{slots_of, IsOverSlots}
 use Rattle.declarations.specs.Elaboration.{elaborate, supertraits}
 use Rattle.assembly_laws.specs.Asking.{Asked, clauses, self_of, next_of, begins_unknown, all_known, are_clauses, asked}
-use Rattle.assembly_laws.specs.Candidates.{Candidate, all_equal, premise, by_rule, unsure, unknowable, clause_source, by_clauses, behind, is_param, kind_of_param, kinds_of_params, by_the_impl, is_relevant_to, by_impls, as_written, misc, if_so, by_sized, by_copy, by_auto, by_tuple, by_fn_ptr, call_of, by_call, unsize_array_of, upcast_source, upcasts_from, upcasts_to, upcasts_of, unsize_by_struct, unsize_struct_of, unsize_known, recording, unsizing_outlives, unsize_recording, by_unsize, built_in, bounds_from, object_source, written_source, objects_of, by_objects}
+use Rattle.assembly_laws.specs.Candidates.{Candidate, all_equal, premise, by_rule, unsure, unknowable, clause_source, by_clauses, behind, is_param, kind_of_param, kinds_of_params, by_the_impl, can_match, by_impls, as_written, misc, if_so, by_sized, by_copy, by_auto, by_tuple, by_fn_ptr, call_of, by_call, unsize_array_of, upcast_source, upcasts_from, upcasts_to, upcasts_of, unsize_by_struct, unsize_struct_of, unsize_known, recording, unsizing_outlives, unsize_recording, by_unsize, built_in, bounds_from, object_source, written_source, objects_of, by_objects}
 use Rattle.assembly_laws.specs.Cover.{AreTermsOf, all_candidates}
 use Rattle.assembly_laws.specs.Declared.{are_terms, is_unsorted, is_otherwise}
 use Rattle.assembly_laws.specs.DeclaredWell.{IsDeclaredWell}
@@ -195,7 +195,7 @@ module _ (V : World) (fields : (x : StructDecl) → In x V.structs → Every Are
   -- ---- impls and object bounds
   impls-over : (is : List ImplDecl) → ((i : ImplDecl) → In i is → In i V.impls) → Every Fit (by_impls V a is)
   impls-over [] f = tt
-  impls-over (i ∷ is) f = by ((i.header.trait == a.reference.trait) && is_relevant_to (self_of a) i.header.args) (impls-over is (λ j k. f j (there j i is k)))
+  impls-over (i ∷ is) f = by ((i.header.trait == a.reference.trait) && can_match a.reference.args i.header.args) (impls-over is (λ j k. f j (there j i is k)))
     where
       by : (b : Bool) → Every Fit (by_impls V a is) → Every Fit (if b then by_the_impl V a i ∷ by_impls V a is else by_impls V a is)
       by true k = (impls_are i (f i (here i is)), k)
@@ -219,7 +219,8 @@ module _ (V : World) (fields : (x : StructDecl) → In x V.structs → Every Are
       let self = tree dynamic b none in
       let own = over-head ls dynamic b o h in
       so (are_dyn_compatible V (principal_with self b)) _
-      (both-lists Fit (bounds_from V a written_source 0 (autos_with self b)) _ (bounds-over written_source 0 (autos_with self b) (autos-over V ls fields bounds self b own))
+      (both-lists Fit (if_so (not (a.reference.trait == sized)) (bounds_from V a written_source 0 (autos_with self b))) _
+      (so (not (a.reference.trait == sized)) _ (bounds-over written_source 0 (autos_with self b) (autos-over V ls fields bounds self b own)))
       (so (not (a.reference.trait == sized)) _
       (bounds-over object_source 0 (elaborate V (principal_with self b)) (elaborated-over V ls fields bounds (principal_with self b) (principal-over V ls fields bounds self b own h.2)))))
   objects-over (tree l c o) h = tt

@@ -16,7 +16,7 @@ use Rattle.evaluation.specs.declared.candidate.Considered as InCode
 use Rattle.evaluation.specs.Responses.{is_identity_modulo_regions}
 use Rattle.evaluation.specs.TableAnswers.{has_values, IsWellFormed}
 use Rattle.evaluation.proofs.Filling.{same-values}
-use Rattle.goal_frames.specs.Readings.{Shown, shown, shown_by, Shows}
+use Rattle.evaluation.specs.StepReadings.{Shown, shown, shown_by, Shows}
 use Rattle.assembly_laws.specs.Solver.{Past, is_non_global, says_nothing, is_settled}
 
 twice : (b : Bool) → not (not b) ≡ b

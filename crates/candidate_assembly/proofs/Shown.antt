@@ -17,7 +17,7 @@ use Rattle.evaluation.specs.FrameTables.{FrameTable}
 use Rattle.evaluation.specs.Tables.{frame_tables}
 use Rattle.goal_frames.specs.Handlers.{same_answer, applies_always}
 use Rattle.goal_frames.specs.Merges.{responses_of}
-use Rattle.goal_frames.specs.Readings.{Shown, Shows, shown, shown_by, result_read}
+use Rattle.evaluation.specs.StepReadings.{Shown, Shows, shown, shown_by, result_read}
 use Rattle.assembly_laws.specs.Solver.{Past, from, is_clause, is_object, gives_none, holds_from, oldest_gives_none}
 use Rattle.candidate_assembly.proofs.Taken.{or-none}
 use Rattle.candidate_assembly.proofs.Counted.{shown-next}

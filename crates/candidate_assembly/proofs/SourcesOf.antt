@@ -12,7 +12,7 @@ use Rattle.evaluation.specs.declared.candidate.BuiltinImplSource.TheVariants.{Tr
 use Rattle.declarations.specs.Elaboration.{elaborate, supertraits}
 use Rattle.assembly_laws.specs.Asking.{Asked, self_of, next_of, begins_unknown}
 use Rattle.assembly_laws.specs.Solver.{is_clause, is_non_global, is_impl}
-use Rattle.assembly_laws.specs.Candidates.{Candidate, unsure, all_equal, by_rule, clause_source, by_clauses, by_the_impl, is_relevant_to, by_impls, as_written, misc, if_so, by_sized, by_copy, by_auto, by_tuple, by_fn_ptr, call_of, by_call, unsize_array_of, upcast_source, upcasts_from, upcasts_to, upcasts_of, unsize_by_struct, unsize_struct_of, unsize_known, unsizing_outlives, unsize_recording, built_in, bounds_from, object_source, written_source, objects_of, by_objects}
+use Rattle.assembly_laws.specs.Candidates.{Candidate, unsure, all_equal, by_rule, clause_source, by_clauses, by_the_impl, can_match, by_impls, as_written, misc, if_so, by_sized, by_copy, by_auto, by_tuple, by_fn_ptr, call_of, by_call, unsize_array_of, upcast_source, upcasts_from, upcasts_to, upcasts_of, unsize_by_struct, unsize_struct_of, unsize_known, unsizing_outlives, unsize_recording, built_in, bounds_from, object_source, written_source, objects_of, by_objects}
 use Rattle.model.proofs.Members.{same-number}
 use Rattle.assembly_laws.proofs.CandidateKinds.{every-append}
 use Rattle.assembly_laws.proofs.Recording.{every-recorded}
@@ -113,7 +113,7 @@ module _ (V : World) (a : Asked) where
 
   pub impls-are : (is : List ImplDecl) → Are is_impl (by_impls V a is)
   impls-are [] = tt
-  impls-are (i ∷ is) = if-first is_impl ((i.header.trait == a.reference.trait) && is_relevant_to (self_of a) i.header.args) (by_the_impl V a i) (by_impls V a is) refl (impls-are is)
+  impls-are (i ∷ is) = if-first is_impl ((i.header.trait == a.reference.trait) && can_match a.reference.args i.header.args) (by_the_impl V a i) (by_impls V a is) refl (impls-are is)
 
   -- ---- built-in rules
   module _ (p : CandidateSource → Bool) (trivial : p (BuiltinImpl Trivial) ≡ true) (other : p misc ≡ true) (upcast : (i : ℕ) → p (upcast_source i) ≡ true) where
@@ -288,7 +288,8 @@ module _ (V : World) (a : Asked) where
   at-self (tree dynamic bounds others) b e t =
       let self = tree dynamic bounds none in
       so (is_bound b) (are_dyn_compatible V (principal_with self bounds)) _
-      (every-append (λ (c : Candidate). is_bound b c.source ≡ true) (bounds_from V a written_source 0 (autos_with self bounds)) _ (written-bounds b bounds others e t)
+      (every-append (λ (c : Candidate). is_bound b c.source ≡ true) (if_so (not (a.reference.trait == sized)) (bounds_from V a written_source 0 (autos_with self bounds))) _
+      (so (is_bound b) (not (a.reference.trait == sized)) (bounds_from V a written_source 0 (autos_with self bounds)) (written-bounds b bounds others e t))
       (so (is_bound b) (not (a.reference.trait == sized)) (bounds_from V a object_source 0 (elaborate V (principal_with self bounds))) (bounds-are (is_bound b) object_source (λ i. refl) 0 (elaborate V (principal_with self bounds)))))
   at-self (tree l c o) b e t = tt
 

@@ -26,7 +26,7 @@ use Rattle.evaluation.specs.Fitting.{AreOver, IsGoalOver, IsValueOver}
 use Rattle.evaluation.specs.Tables.{frame_tables}
 use Rattle.evaluation.specs.Variables.{is_variable_over}
 use Rattle.goal_frames.specs.Fitting.{IsOver}
-use Rattle.goal_frames.specs.Readings.{equation_read, nested_read, spec_read}
+use Rattle.evaluation.specs.StepReadings.{equation_read, nested_read, spec_read}
 use Rattle.goal_frames.specs.RuleFitting.{slots_of, IsOverSlots}
 use Rattle.goal_frames.specs.Shortages.{HasTooManyVariables}
 use Rattle.goal_frames.proofs.KnownKinds.{all-known as known-some}

@@ -4,7 +4,7 @@ use Rattle.type_terms.specs.Terms.{Entry}
 use Rattle.type_terms.specs.declared.ImplId.{ImplId}
 use Rattle.evaluation.specs.declared.candidate.CandidateSource.{CandidateSource}
 use Rattle.evaluation.specs.declared.candidate.Considered.{Considered}
-use Rattle.goal_frames.specs.Readings.{Shows, shown_by}
+use Rattle.evaluation.specs.StepReadings.{Shows, shown_by}
 use Rattle.assembly_laws.specs.Solver.{Past, is_clause, is_impl}
 use Rattle.candidate_assembly.specs.declared.assembly.Section.{Section}
 use Rattle.candidate_assembly.specs.declared.assembly.Section.TheVariants.{WhereClauses, BuiltInRules, Impls, ObjectBounds}

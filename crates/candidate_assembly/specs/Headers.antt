@@ -1,5 +1,5 @@
 -- Impls whose parameters can be made unknowns of a candidate.
-use Rattle.std.specs.Prelude.{◌≡◌, ◌+◌, ◌<◌, ℕ, List, length, map, filter, Option, Some, None}
+use Rattle.std.specs.Prelude.{◌≡◌, ◌+◌, ◌<◌, ◌==◌, ◌&&◌, ℕ, List, length, map, filter, Option, Some, None}
 use Rattle.model.specs.Worlds.{ImplDecl}
 use Rattle.type_terms.specs.Terms.{Entry, trees_at}
 use Rattle.type_terms.specs.declared.ImplId.{ImplId}
@@ -15,8 +15,8 @@ use Rattle.declarations.specs.Held.{AreHeld}
 use Rattle.declarations.specs.Items.{Items, written}
 use Rattle.declarations.specs.Merges.{Each}
 use Rattle.declarations.specs.Relevant.{is_above}
-use Rattle.assembly_laws.specs.Asking.{with_plain_head}
-use Rattle.assembly_laws.specs.Candidates.{Candidate, kinds_of_params}
+use Rattle.assembly_laws.specs.Asking.{Asked, with_plain_head}
+use Rattle.assembly_laws.specs.Candidates.{Candidate, can_match, kinds_of_params}
 use Rattle.assembly_laws.specs.DeclaredWell.{IsDeclaredWell}
 
 -- The kind of the unknown that stands for a parameter.
@@ -52,6 +52,10 @@ WellDeclaredHaveCandidates =
 -- The impls above the last one considered, or all if none was.
 abbrev pub impls_above : Option ImplId → List ImplDecl → List ImplDecl
 impls_above last is = filter (λ i. is_above last i.name) is
+
+-- The numbers of the impls that can match.
+abbrev pub matching_in : List Entry → Items → Asked → List ℕ
+matching_in es d a = map (λ (i : ImplDecl). i.name) (filter (λ (i : ImplDecl). (i.header.trait == a.reference.trait) && can_match a.reference.args i.header.args) (written es d).impls)
 
 -- The candidate has so many variables of its own that there are no numbers for them behind n others.
 abbrev pub HasTooMany : ℕ → Option Candidate → Type 0

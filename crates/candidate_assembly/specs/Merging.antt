@@ -14,7 +14,7 @@ use Rattle.evaluation.specs.TableOperations.{begin}
 use Rattle.evaluation.specs.Tables.{frame_tables}
 use Rattle.goal_frames.specs.Handlers.{same_answer, applies_always}
 use Rattle.goal_frames.specs.Merges.{responses_of, merge_of}
-use Rattle.goal_frames.specs.Readings.{next_read, Shows, shown_by}
+use Rattle.evaluation.specs.StepReadings.{next_read, Shows, shown_by}
 use Rattle.assembly_laws.specs.Solver.{Past, from, remains, is_clause, is_non_global, is_global, is_impl, is_object, is_trivial, preferred, everything}
 use Rattle.candidate_assembly.specs.declared.merge.Sources.{Sources}
 use Rattle.candidate_assembly.specs.declared.merge.Sources.TheVariants.{All, Trivial, NonGlobalClauses, Clauses, Bounds, Remaining}

@@ -12,7 +12,7 @@ use Rattle.evaluation.specs.Handler.{Handled}
 use Rattle.evaluation.specs.Merge.{or_else}
 use Rattle.evaluation.specs.Table.{workings}
 use Rattle.evaluation.specs.Tables.{frame_tables}
-use Rattle.goal_frames.specs.Readings.{Shows, shown_by, handled_for}
+use Rattle.evaluation.specs.StepReadings.{Shows, shown_by, handled_for}
 use Rattle.declarations.specs.Items.{Items, written}
 use Rattle.assembly_laws.specs.Asking.{asked}
 use Rattle.assembly_laws.specs.Candidates.{Candidate, unsure}

@@ -3,7 +3,7 @@ use Rattle.std.specs.Prelude.{ℕ, ◌==◌, Bool, ◌&&◌, not, if◌then◌el
 use Rattle.infer_table.specs.Responses.{AnswerTrees}
 use Rattle.evaluation.specs.Merge.{or_else}
 use Rattle.goal_frames.specs.Handlers.{applies_always}
-use Rattle.goal_frames.specs.Readings.{Shown}
+use Rattle.evaluation.specs.StepReadings.{Shown}
 use Rattle.assembly_laws.specs.Solver.{is_clause, is_object, gives_none}
 
 -- a yes without values and constraints, and the candidate's number

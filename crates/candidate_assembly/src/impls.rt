@@ -12,10 +12,12 @@ ghost use Rattle.declarations.specs.Applied.{references_in, AllHeld};
 ghost use Rattle.declarations.specs.Items.{reference_in, impl_in, written};
 ghost use Rattle.declarations.specs.Held.{AreHeld, ImplHeld, ReferenceHeld};
 ghost use Rattle.declarations.specs.Merges.{Rises};
+ghost use Rattle.declarations.specs.Relevant.{next_above};
 ghost use Rattle.assembly_laws.specs.Candidates.{behind, by_the_impl, by_impls};
 ghost use Rattle.built_in_candidates.specs.Goals.{asked_of, candidate_of};
-ghost use Rattle.candidate_assembly.specs.Headers.{var_kind, StandInHeader, SpeaksOfParameters, HaveCandidates, HasTooMany, impls_above};
+ghost use Rattle.candidate_assembly.specs.Headers.{var_kind, StandInHeader, SpeaksOfParameters, HaveCandidates, HasTooMany, impls_above, matching_in};
 
+use crate::apart::are_apart;
 use crate::instances::{all_with_arguments, variable_kinds, variables_behind, with_arguments};
 use built_in_candidates::parts::nested_goals;
 use built_in_candidates::relate::relate_args;
@@ -101,7 +103,44 @@ pub fn consider_impl_candidate(
     })
 }
 
-/// The candidate by the impl of the lowest number above `last` among those that can match the goal's self type, if there is one. So
+/// The impl of the lowest number above `last` that can match the goal: its self type is a parameter or has the head of the goal's, and
+/// its arguments and the goal's are not apart. No table is begun for the others.
+fn next_matching_impl(
+    cx: &Interner,
+    declarations: &Declarations,
+    goal: &CanonicalInput,
+    last: Option<ImplId>,
+) -> Option<ImplId>
+    requires goal { GoalHeld cx.now.entries goal.now.goal }
+    requires first { StartsWithType (trees_at cx.now.entries goal.now.goal.predicate.trait_ref.args.0) }
+    requires declared { AreHeld cx.now.entries declarations.now }
+    requires impls { HaveCandidates cx.now.entries declarations.now }
+    ensures is { option_map (λ i. i.index) result ≡ next_above last (matching_in cx.now.entries declarations.now (asked_of cx.now.entries goal.now)) }
+    ensures rises { Rises (map (λ i. i.id) declarations.now.impls) }
+{
+    let trait_ref = goal.goal.predicate.trait_ref;
+    let self_ty = trait_ref.self_ty(cx);
+    let mut passed = last;
+    'impls: while let Some(id) = declarations.next_relevant_impl(
+        cx,
+        trait_ref.def_id,
+        self_ty,
+        passed,
+    ) {
+        match declarations.impl_def(id) {
+            Some(def) => {
+                if !are_apart(cx, trait_ref.args, def.header.args) {
+                    return Some(id);
+                }
+            }
+            None => unreachable!(),
+        }
+        passed = Some(id);
+    }
+    None
+}
+
+/// The candidate by the impl of the lowest number above `last` among those that can match the goal, if there is one. So
 /// after each candidate it is told where to go on, and no impl before that is looked at again (`assemble_impl_candidates`).
 pub fn next_impl_candidate(
     alloc: Global,
@@ -125,9 +164,7 @@ pub fn next_impl_candidate(
         result ≡ Err Fault.Full → SomeKindIsFull cx.new.entries cx.new.limit
         ⊎ HasTooMany (length goal.now.variables.items) (slice_get (by_impls V (asked_of cx.old.entries goal.now) (impls_above last V.impls)) 0) }
 {
-    let trait_ref = goal.goal.predicate.trait_ref;
-    let self_ty = trait_ref.self_ty(cx);
-    match declarations.next_relevant_impl(cx, trait_ref.def_id, self_ty, last) {
+    match next_matching_impl(cx, declarations, goal, last) {
         Some(id) => match declarations.impl_def(id) {
             Some(def) => {
                 let candidate = consider_impl_candidate(alloc, cx, goal, id, def)?;

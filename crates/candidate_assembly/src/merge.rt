@@ -13,7 +13,7 @@ ghost use Rattle.evaluation.specs.TableAnswers.{IsWellFormed};
 ghost use Rattle.goal_frames.specs.Fitting.{ConsideredFits, StepFits};
 ghost use Rattle.goal_frames.specs.Handlers.{applies_always};
 ghost use Rattle.goal_frames.specs.Merges.{responses_of};
-ghost use Rattle.goal_frames.specs.Readings.{shown_by};
+ghost use Rattle.evaluation.specs.StepReadings.{shown_by};
 ghost use Rattle.candidate_assembly.specs.Merging.{is_among, from_sources, end_in, clause_taken, IsEnd, MergesFrom, AreRemaining};
 ghost use Rattle.candidate_assembly.specs.Shown.{first_yes, other_clauses, first_bound_gives_none};
 

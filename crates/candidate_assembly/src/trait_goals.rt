@@ -8,7 +8,7 @@ ghost use Rattle.infer_table.specs.Goals.{GoalHeld};
 ghost use Rattle.infer_table.specs.Responses.{ResponseHeld, answer_trees};
 ghost use Rattle.evaluation.specs.Readings.{ConsideredHeld, ResultHeld, SpecHeld, StepHeld};
 ghost use Rattle.goal_frames.specs.Fitting.{ConsideredFits, ResultFits, StepFits};
-ghost use Rattle.goal_frames.specs.Readings.{result_read, shown_by, spec_read, HasHistory, IsNextAfter};
+ghost use Rattle.evaluation.specs.StepReadings.{result_read, shown_by, spec_read, HasHistory, IsNextAfter};
 ghost use Rattle.goal_frames.specs.Shortages.{NextRunsOut};
 ghost use Rattle.evaluation.specs.TableAnswers.{IsWellFormed};
 ghost use Rattle.declarations.specs.Items.{written};

@@ -11,3 +11,4 @@ pub mod Named
 pub mod Answered
 pub mod TermVariables
 pub mod ErasedValues
+pub mod AcceptedLines

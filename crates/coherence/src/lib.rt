@@ -1,6 +1,7 @@
 //! Checks of crates, and answers to questions, from bytes to bytes.
 #![tactic(auto)]
 
+mod coherent;
 mod depths;
 mod groups;
 mod kept;
@@ -9,6 +10,7 @@ mod status;
 mod streams;
 mod text_run;
 
+pub use coherent::accepted_lines_tell;
 pub use depths::parse_depth;
 pub use sessions::Limits;
 pub use status::{RunFault, Status};

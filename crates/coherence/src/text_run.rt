@@ -6,11 +6,13 @@ ghost use Rattle.line_faults.specs.FaultNumbers.{fault_number};
 ghost use Rattle.text_definitions.specs.Output.{fault, output_text};
 ghost use Rattle.workspace.specs.Numbered.{IsNumbered, IsFew};
 ghost use Rattle.sessions.specs.Subjects.{IsOfText, StaysOn};
+ghost use Rattle.coherence.specs.Coherent.{AcceptedLinesTell};
 ghost use Rattle.coherence.specs.Groups.{IsGroup};
 ghost use Rattle.coherence.specs.Lines.{WritesOutput, WritesPrefix};
 ghost use Rattle.coherence.specs.Progress.{KeepsLines, WritesVerdict, WritesVerdictPrefix, WritesCrates, WritesCratesPrefix, WritesAnswers, WritesAnswersPrefix};
 ghost use Rattle.coherence.specs.Streams.{AppendsPrefix, ConsumesAtMost};
 
+use crate::coherent::accepted_lines_tell;
 use crate::groups::{Group, questions_by_crate};
 use crate::kept::{KeptLine, keep_answers, no_lines, write_questions};
 use crate::lines::verdict_line;
@@ -246,9 +248,12 @@ pub fn run<R: Read, W: Write>(
     ensures prefix { OnErr result (IfSome (R.remaining reader.old) (λ bytes. WritesPrefix limits.depth bytes (W.contents writer.old) (W.contents writer.new))) }
     // Where reading fails, nothing has been written.
     ensures unread { IfErr result (λ fault. fault ≡ RunFault.Read → Keeps (W.contents writer.old) (W.contents writer.new)) }
+    // Where the line of each crate says `accepted`, and the supertraits of headers are proved, the text is coherent as a whole.
+    ensures coherent { AcceptedLinesTell }
     // So much is read at most, whatever comes.
     ensures bounded { ConsumesAtMost (R.remaining reader.old) (R.remaining reader.new) READ_LIMIT }
 {
+    accepted_lines_tell();
     first_bytes();
     let text = read_text(alloc, reader)?;
     let status = answer_text(alloc, &text, limits, writer)?;

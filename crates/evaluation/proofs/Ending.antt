@@ -1,6 +1,5 @@
 -- How a candidate ends.
 use Rattle.std.proofs.Common.{◌≡◌, List, map, refl, ap, sym, ◌∙◌, subst, Option, Some, None, Result, Ok, Err}
-use Rattle.std.specs.Prelude.{option_map}
 use Rattle.type_terms.specs.Terms.{Entry}
 use Rattle.infer_table.specs.Unification.{TableTrees, table_trees}
 use Rattle.infer_table.specs.declared.certainty.Certainty.{Certainty}
@@ -21,9 +20,11 @@ use Rattle.evaluation.specs.Context.{Context}
 use Rattle.evaluation.specs.Ends.{IsRefused, Awaits, EndsIn, IsAnswered, AnswerEnds}
 use Rattle.evaluation.specs.Evaluating.{Question, NestedTrees, evaluation, question_of, goals_trees, replies_trees}
 use Rattle.evaluation.proofs.OwnAnswers.{same-answer}
-use Rattle.evaluation.specs.Frames.{FrameTrees, fresh, equate, recorded, nested_filled, pair_filled, solved}
+use Rattle.evaluation.specs.Frames.{FrameTrees, begun, fresh, equate, nested_filled}
 use Rattle.evaluation.specs.Trial.{SpecTrees, answered, asked, equated, candidate}
-use Rattle.evaluation.specs.TrialEnds.{CandidateEnds}
+use Rattle.evaluation.specs.TrialEnds.{IsTried, CandidateEnds}
+use Rattle.evaluation.specs.Script.{done}
+use Rattle.infer_table.specs.declared.canonical.CanonicalVarKind.{CanonicalVarKind}
 
 module _ (mode : TypingMode) (es : List Entry) (old new : Context) (t : FrameTrees) (c : Certainty) (kinds : old.variables ≡ t.kinds) (own : values_of es old.values ≡ t.own) where
   abbrev RoundsRun : Type 0
@@ -74,20 +75,16 @@ module _ (es1 es2 : List Entry) (mid after : Context) (t : FrameTrees) (c : Cert
       (asked-ends mid.mode es2 mid after t c kinds own ns (goals_trees es1 mid.nested) rs (replies_trees es1 mid.replies) (table_trees es1 mid.table) x f g h r)
 
 -- ---- before the nested goals
-module _ (mode : TypingMode) (es : List Entry) (start t : FrameTrees) (s : SpecTrees) (begun-so : t ≡ fresh start s.kinds) (rs : List (Option AnswerTrees)) where
+module _ (mode : TypingMode) (kinds : List CanonicalVarKind) (s : SpecTrees) where
   -- an equation is refused
-  pub equation-refused : (e : EvalError) → (e ≡ NoSolution → solved t.table (map (pair_filled t.values) s.equations) ≡ None) → CandidateEnds es (run (candidate mode start s) rs) (Err e)
-  equation-refused (Fault fault) h = tt
-  equation-refused NoSolution h =
-      subst (λ r. CandidateEnds es r (Err NoSolution))
-      (sym (ap (λ (z : FrameTrees). run (equated mode s (equate z s.equations)) rs) (sym begun-so)
-      ∙ ap (λ z. run (equated mode s (option_map (λ u. record t { table = u }) z)) rs) (h refl))) tt
+  pub script-refused : equate (fresh (begun kinds) s.kinds) s.equations ≡ None → candidate mode (begun kinds) s ≡ done None
+  script-refused e = ap (equated mode s) e
 
   -- all hold
-  pub equations-hold : (u : TableTrees) (end : FrameTrees) (x : Result (EvalStep CanonicalResponse) EvalError) → solved t.table (map (pair_filled t.values) s.equations) ≡ Some u
-      → end ≡ recorded (record t { table = u }) s.constraints → CandidateEnds es (run (asked mode s.nested s.certainty end) rs) x → CandidateEnds es (run (candidate mode start s) rs) x
-  equations-hold u end x e f h =
-      subst (λ r. CandidateEnds es r x)
-      (sym (ap (λ (z : FrameTrees). run (equated mode s (equate z s.equations)) rs) (sym begun-so)
-      ∙ ap (λ z. run (equated mode s (option_map (λ w. record t { table = w }) z)) rs) e
-      ∙ ap (λ (z : FrameTrees). run (asked mode s.nested s.certainty z) rs) (sym f))) h
+  pub script-tried : (t : FrameTrees) → IsTried kinds s t → candidate mode (begun kinds) s ≡ asked mode s.nested s.certainty t
+  script-tried t h = ap (equated mode s) h.holds ∙ ap (λ (z : FrameTrees). asked mode s.nested s.certainty z) (sym h.is)
+
+  pub trial-refused : (es : List Entry) (rs : List (Option AnswerTrees)) (e : EvalError) → (e ≡ NoSolution → equate (fresh (begun kinds) s.kinds) s.equations ≡ None)
+      → CandidateEnds es (run (candidate mode (begun kinds) s) rs) (Err e)
+  trial-refused es rs (Fault fault) h = tt
+  trial-refused es rs NoSolution h = subst (λ c. CandidateEnds es (run c rs) (Err NoSolution)) (sym (script-refused (h refl))) tt

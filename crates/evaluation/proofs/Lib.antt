@@ -71,3 +71,8 @@ pub mod Readings
 pub mod Slots
 pub mod Unplaced
 pub mod Refused
+pub mod OpenRounds
+pub mod OpenCandidates
+pub mod OpenBeginnings
+pub mod OpenQuestions
+pub mod OpenShortages

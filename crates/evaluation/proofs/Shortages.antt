@@ -1,6 +1,6 @@
 -- Where an evaluation ends for want of room or of numbers.
 use Rattle.std.proofs.Common.{◌≡◌, ℕ, ◌+◌, ◌<◌, arith, suc, Bool, true, List, [], ◌∷◌, map, length, get_or, drop, refl, sym, ◌∙◌, ap, subst, inl, inr, Option, Some, None, Result, Ok, Err}
-use Rattle.std.specs.Prelude.{◌⊎◌, IsErrAnd, IfErr, option_map}
+use Rattle.std.specs.Prelude.{◌⊎◌, IsErrAnd, IfErr}
 use Rattle.std.specs.Borrow.{Bor}
 use Rattle.model.specs.Trees.{Trees}
 use Rattle.type_terms.specs.Terms.{Entry, Keeps, types, consts}
@@ -30,13 +30,14 @@ use Rattle.evaluation.specs.Ends.{EndsIn}
 use Rattle.evaluation.specs.Errors.{eval_error}
 use Rattle.evaluation.specs.Evaluating.{Question, NestedTrees, goals_trees, replies_trees, evaluation}
 use Rattle.evaluation.specs.declared.TheConstants.{FIXPOINT_STEP_LIMIT}
-use Rattle.evaluation.specs.Frames.{FrameTrees, begun, fresh, equate, recorded, pair_filled, solved}
+use Rattle.evaluation.specs.Frames.{FrameTrees, begun, fresh, pair_filled}
 use Rattle.evaluation.specs.Readings.{EquationHeld}
 use Rattle.evaluation.specs.Replays.{Run, ready, waits, run}
 use Rattle.evaluation.specs.Rounds.{round, rounds}
 use Rattle.evaluation.specs.Shortages.{RoundRunsOut, RoundsRunOut, first, further, HasNoAnswer, EvaluationRunsOut, answer, LackNumbers, SolvingRunsOut, here, next, EquationsRunOut, NestedRunsOut, CandidateRunsOut, equations, nested}
 use Rattle.evaluation.specs.Steps.{RoundEnds, SameRound, SameRounds}
 use Rattle.evaluation.specs.Trial.{SpecTrees, equations_trees}
+use Rattle.evaluation.specs.TrialEnds.{IsTried}
 use Rattle.evaluation.specs.declared.error.EvalError.{EvalError}
 use Rattle.evaluation.specs.declared.error.EvalError.TheVariants as Eval
 use Rattle.evaluation.specs.declared.rounds.RoundStep.TheVariants as Of
@@ -53,6 +54,10 @@ handed-fault (Err y) h f q = f cc
 pub handed-error : {T A : Type 0} (r : Result T EvalError) {e : EvalError} → IsErrAnd r (λ y. y ≡ e) → (e ≡ Eval.Fault Full → A) → r ≡ Err (Eval.Fault Full) → A
 handed-error (Ok y) h f q = absurd h
 handed-error (Err y) h f q = f cc
+
+pub handed-as : {T A : Type 0} (r : Result T EvalError) {e x : EvalError} → IsErrAnd r (λ y. y ≡ e) → (e ≡ x → A) → r ≡ Err x → A
+handed-as (Ok y) h f q = absurd h
+handed-as (Err y) h f q = f cc
 
 -- the error that an equation was given up with
 pub given-up : {T : Type 0} (error : EqError) (e : EvalError) → e ≡ eval_error error → ◌≡◌ {A = Result T EvalError} (Err e) (Err (Eval.Fault Full)) → error ≡ Eq.Fault Full
@@ -163,8 +168,6 @@ module _ (mode : TypingMode) (kinds : List CanonicalVarKind) (s : SpecTrees) (rs
   pub equations-run-out : EquationsRunOut t s.equations → CandidateRunsOut mode kinds s rs
   equations-run-out h = equations (subst (λ (z : FrameTrees). EquationsRunOut z s.equations) begun-so h)
 
-  pub nested-run-out : (u : TableTrees) (end : FrameTrees) → solved t.table (map (pair_filled t.values) s.equations) ≡ Some u → end ≡ recorded (record t { table = u }) s.constraints
-      → NestedRunsOut mode s.nested s.certainty end rs → CandidateRunsOut mode kinds s rs
-  nested-run-out u end e f h =
-      nested (ap (λ (z : FrameTrees). equate z s.equations) (sym begun-so) ∙ ap (option_map (λ w. record t { table = w })) e)
-      (subst (λ (z : FrameTrees). NestedRunsOut mode s.nested s.certainty z rs) f h)
+-- a trial in which the equations hold
+pub tried-run-out : (mode : TypingMode) (kinds : List CanonicalVarKind) (s : SpecTrees) (rs : List (Option AnswerTrees)) (t : FrameTrees) → IsTried kinds s t → NestedRunsOut mode s.nested s.certainty t rs → CandidateRunsOut mode kinds s rs
+tried-run-out mode kinds s rs t h n = nested h.holds (subst (λ (z : FrameTrees). NestedRunsOut mode s.nested s.certainty z rs) h.is n)

@@ -49,3 +49,8 @@ pub mod Fitting
 pub mod Variables
 pub mod RoundLaws
 pub mod Candidates
+pub mod StepReadings
+pub mod OpenRounds
+pub mod OpenCandidates
+pub mod OpenShortages
+pub mod Replayed

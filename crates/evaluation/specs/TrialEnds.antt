@@ -1,5 +1,5 @@
 -- How the evaluation of a candidate ends.
-use Rattle.std.specs.Prelude.{◌≡◌, List, Option, Result, Ok, Err}
+use Rattle.std.specs.Prelude.{◌≡◌, List, Option, Some, Result, Ok, Err}
 use Rattle.type_terms.specs.Terms.{Entry}
 use Rattle.infer_table.specs.declared.canonical.CanonicalVarKind.{CanonicalVarKind}
 use Rattle.infer_table.specs.Unification.{table_trees}
@@ -14,11 +14,18 @@ use Rattle.evaluation.specs.declared.error.EvalError.TheVariants.{NoSolution, Fa
 use Rattle.evaluation.specs.Ends.{IsRefused, Awaits, EndsIn}
 use Rattle.evaluation.specs.Evaluating.{Question, question_of}
 use Rattle.evaluation.specs.declared.trial.Trial.{Trial}
-use Rattle.evaluation.specs.Frames.{FrameTrees}
+use Rattle.evaluation.specs.Frames.{FrameTrees, begun, fresh, equate, recorded}
+use Rattle.evaluation.specs.Trial.{SpecTrees}
 
 -- a candidate that is tried, over trees
 abbrev pub trial_trees : List Entry → List CanonicalVarKind → Trial → FrameTrees
 trial_trees es kinds t = record { kinds = kinds; own = values_of es t.own.items; values = values_of es t.values.items; table = table_trees es t.table }
+
+-- the trial of a candidate, of a goal with variables of these kinds: its equations hold, and its constraints are recorded
+pub record IsTried (kinds : List CanonicalVarKind) (s : SpecTrees) (t : FrameTrees) : Type 0 where
+  pub solved : FrameTrees
+  pub holds : equate (fresh (begun kinds) s.kinds) s.equations ≡ Some solved
+  pub is : t ≡ recorded solved s.constraints
 
 -- a fault is no end
 abbrev pub CandidateEnds : List Entry → Run Question (Option AnswerTrees) (Option AnswerTrees) → Result (EvalStep CanonicalResponse) EvalError → Type 0

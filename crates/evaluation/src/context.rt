@@ -269,7 +269,11 @@ impl EvalCtxt {
     }
 
     /// The context's own answer of this certainty.
-    fn answer(&self, cx: &mut Interner, certainty: Certainty) -> Result<CanonicalResponse, Fault>
+    pub(crate) fn answer(
+        &self,
+        cx: &mut Interner,
+        certainty: Certainty,
+    ) -> Result<CanonicalResponse, Fault>
         requires ready { IsReady cx.old.entries self.now }
         ensures keeps { Keeps cx.old.entries cx.new.entries }
         ensures limit { cx.new.limit ≡ cx.old.limit }

@@ -14,6 +14,7 @@ mod laws;
 mod merge;
 pub mod promises;
 mod response;
+mod resuming;
 mod rounds;
 mod table_laws;
 pub mod toy;
@@ -37,9 +38,10 @@ pub use response::{
     copy_response, has_no_inference_or_external_constraints, is_identity_modulo_regions,
     is_same_response,
 };
+pub use resuming::{CandidateStep, OpenCandidate, resuming_replays};
 pub use rounds::have_same_sorts;
 pub use table_laws::{equation_laws, question_laws};
-pub use trial::evaluate_candidate;
+pub use trial::{begin_candidate, evaluate_candidate};
 
 /// How many rounds a candidate's nested goals are asked in at most.
 pub const FIXPOINT_STEP_LIMIT: usize = 8;

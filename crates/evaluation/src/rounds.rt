@@ -55,7 +55,7 @@ pub(crate) enum RoundsStep {
 }
 
 /// The question that asks a goal, and the values of its variables.
-fn question_for(
+pub(crate) fn question_for(
     alloc: Global,
     cx: &mut Interner,
     mode: TypingMode,
@@ -114,7 +114,7 @@ fn is_answer_to(values: &[GenericArgKind], response: &CanonicalResponse) -> bool
 ///
 /// A response to another goal says nothing of this one, and leaves the table as it is. A search brings none; but it hands on
 /// responses of which nothing is known but that they are well-formed in themselves, and so nothing more is asked of them.
-fn apply_response(
+pub(crate) fn apply_response(
     alloc: Global,
     cx: &mut Interner,
     table: &mut InferCtxt,
@@ -143,7 +143,7 @@ fn apply_response(
 }
 
 /// Whether the response holds type or const values.
-fn has_values(cx: &Interner, response: &CanonicalResponse) -> bool
+pub(crate) fn has_values(cx: &Interner, response: &CanonicalResponse) -> bool
     requires { ArgsHeld cx.now.entries response.now.var_values.items }
     ensures { result ≡ not (is_identity_modulo_regions 0 (values_of cx.now.entries response.now.var_values.items)) }
 {
@@ -151,7 +151,7 @@ fn has_values(cx: &Interner, response: &CanonicalResponse) -> bool
 }
 
 /// Whether it is a yes.
-fn is_certain(certainty: Certainty) -> bool
+pub(crate) fn is_certain(certainty: Certainty) -> bool
     ensures { result ≡ is_certain certainty }
 {
     match certainty {

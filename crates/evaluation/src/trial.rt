@@ -1,5 +1,5 @@
-//! Candidates, evaluated over the replies that are there.
-ghost use Rattle.std.specs.Prelude.{◌≡◌, ◌⊎◌, List, [], ◌∷◌, ◌++◌, OnOk, IfOk, IfErr, Some, None, option_map, Err};
+//! Candidates: how their evaluation begins, and evaluated anew over the replies that are there.
+ghost use Rattle.std.specs.Prelude.{◌≡◌, ◌⊎◌, ◌*◌, length, map, List, [], ◌∷◌, ◌++◌, OnOk, IfOk, IfErr, Option, Some, None, option_map, Err};
 ghost use Rattle.type_terms.specs.Terms.{Entry, Keeps};
 ghost use Rattle.type_terms.specs.Kinds.{ArgHeld, ArgsHeld, arg_trees};
 ghost use Rattle.type_terms.specs.Failures.{SomeKindIsFull};
@@ -10,23 +10,28 @@ ghost use Rattle.infer_table.specs.Values.{value_of, values_of, filled};
 ghost use Rattle.infer_table.specs.Applied.{with_constraints};
 ghost use Rattle.infer_table.specs.Applying.{next_unknown, with_unknown};
 ghost use Rattle.infer_table.specs.Numbers.{RunsOut};
-ghost use Rattle.infer_table.specs.Responses.{answer_trees};
+ghost use Rattle.infer_table.specs.Responses.{AnswerTrees, answer_trees};
 ghost use Rattle.infer_table.specs.Shortages.{HasNoUnknown};
 ghost use Rattle.evaluation.specs.Lists.{Every};
 ghost use Rattle.evaluation.specs.Readings.{EquationHeld, SpecHeld, ResultHeld};
 ghost use Rattle.evaluation.specs.Context.{IsReady};
 ghost use Rattle.evaluation.specs.Ends.{AnswerHeld};
 ghost use Rattle.evaluation.specs.Evaluating.{goals_trees, replies_trees};
-ghost use Rattle.evaluation.specs.Frames.{begun, fresh, unknowns, with_unknowns, solved};
+ghost use Rattle.evaluation.specs.Frames.{begun, fresh, equate, unknowns, with_unknowns, solved};
 ghost use Rattle.evaluation.specs.Shortages.{LackNumbers, BeginningRunsOut, SolvingRunsOut, NestedRunsOut, CandidateRunsOut};
 ghost use Rattle.evaluation.specs.Runs.{candidate_of, nested_of, equations_filled, equation_filled, constraints_filled, premises_filled};
-ghost use Rattle.evaluation.specs.Trial.{premises_trees, spec_trees};
-ghost use Rattle.evaluation.specs.TrialEnds.{trial_trees, CandidateEnds};
+ghost use Rattle.evaluation.specs.Trial.{asked, candidate, equations_trees, premises_trees, spec_trees};
+ghost use Rattle.evaluation.specs.TrialEnds.{trial_trees, IsTried, CandidateEnds};
+ghost use Rattle.evaluation.specs.Context.{NestedHeld, nested_goal};
+ghost use Rattle.evaluation.specs.OpenCandidates.{StandsAt, CandidateHeld, AsksAtMost};
+ghost use Rattle.evaluation.specs.OpenShortages.{RunsOutOnly};
+ghost use Rattle.evaluation.specs.declared.TheConstants.{FIXPOINT_STEP_LIMIT};
 
 use crate::candidate::CandidateSpec;
 use crate::context::{EvalCtxt, EvalStep};
 use crate::error::EvalError;
 use crate::goal::GoalSource;
+use crate::resuming::{CandidateStep, Evaluation};
 use infer_table::canonical::CanonicalVarKind;
 use infer_table::goal::Goal;
 use infer_table::infer_ctxt::InferCtxt;
@@ -36,6 +41,7 @@ use infer_table::response::CanonicalResponse;
 use infer_table::terms::{Equation, RegionConstraint};
 use infer_table::unknowns::next_values;
 use std::alloc::Global;
+use std::collections::VecDeque;
 use term_folds::foldable::TypeFoldable;
 use type_terms::Fault;
 use type_terms::interner::Interner;
@@ -78,6 +84,29 @@ pub fn evaluate_candidate(
     ensures full { result ≡ Err (EvalError.Fault Fault.Full) → SomeKindIsFull cx.new.entries cx.new.limit
         ⊎ CandidateRunsOut input.now.mode input.now.variables.items (spec_trees cx.old.entries spec.now) (replies_trees cx.old.entries replies.now) }
 {
+    let trial = try_candidate(alloc, cx, input, spec)?;
+    evaluate_nested(alloc, cx, trial, input, spec, replies)
+}
+
+/// A trial of the candidate, in which its equations hold and its constraints are recorded.
+fn try_candidate(
+    alloc: Global,
+    cx: &mut Interner,
+    input: &CanonicalInput,
+    spec: &CandidateSpec,
+) -> Result<Trial, EvalError>
+    requires spec { SpecHeld cx.old.entries spec.now }
+    ensures keeps { Keeps cx.old.entries cx.new.entries }
+    ensures limit { cx.new.limit ≡ cx.old.limit }
+    ensures ready { IfOk result (λ t. Ready cx.new.entries t.table) }
+    ensures own { IfOk result (λ t. ArgsHeld cx.new.entries t.own.items) }
+    ensures values { IfOk result (λ t. ArgsHeld cx.new.entries t.values.items) }
+    ensures tried { IfOk result (λ t. IsTried input.now.variables.items (spec_trees cx.old.entries spec.now) (trial_trees cx.new.entries input.now.variables.items t)) }
+    ensures refused { result ≡ Err EvalError.NoSolution →
+        equate (fresh (begun input.now.variables.items) spec.now.variables.items) (equations_trees cx.old.entries spec.now.equations.items) ≡ None }
+    ensures full { result ≡ Err (EvalError.Fault Fault.Full) → SomeKindIsFull cx.new.entries cx.new.limit
+        ⊎ ((rs : List (Option AnswerTrees)) → CandidateRunsOut input.now.mode input.now.variables.items (spec_trees cx.old.entries spec.now) rs) }
+{
     let mut trial = begin(alloc, cx, input, &spec.variables)?;
     equate_all(alloc, cx, &mut trial.table, &trial.values, &spec.equations)?;
     record_constraints(
@@ -87,7 +116,7 @@ pub fn evaluate_candidate(
         &trial.values,
         &spec.region_constraints,
     )?;
-    evaluate_nested(alloc, cx, trial, input, spec, replies)
+    Ok(trial)
 }
 
 /// An empty table, with what stands in it for the variables of the goal and for these of the candidate.
@@ -379,4 +408,90 @@ fn copy_of(
         }
         None => Ok(None),
     }
+}
+
+/// Begins to evaluate a candidate of a goal: up to its first question, or to its end. Then `OpenCandidate::resume` goes on with each
+/// answer.
+///
+/// What is done, and what `NoSolution` and `Full` say, is as with `evaluate_candidate` over no replies. It asks at most
+/// `FIXPOINT_STEP_LIMIT` questions for each of its nested goals.
+pub fn begin_candidate(
+    alloc: Global,
+    cx: &mut Interner,
+    input: &CanonicalInput,
+    spec: &CandidateSpec,
+) -> Result<CandidateStep, EvalError>
+    requires spec { SpecHeld cx.old.entries spec.now }
+    ensures keeps { Keeps cx.old.entries cx.new.entries }
+    ensures limit { cx.new.limit ≡ cx.old.limit }
+    ensures held { IfOk result (λ s. CandidateHeld cx.new.entries s) }
+    ensures stands { StandsAt cx.new.entries (candidate input.now.mode (begun input.now.variables.items) (spec_trees cx.old.entries spec.now)) result }
+    ensures most { IfOk result (AsksAtMost (FIXPOINT_STEP_LIMIT * length spec.now.nested_goals.items)) }
+    ensures full { result ≡ Err (EvalError.Fault Fault.Full) → SomeKindIsFull cx.new.entries cx.new.limit
+        ⊎ CandidateRunsOut input.now.mode input.now.variables.items (spec_trees cx.old.entries spec.now) [] }
+
+    // Over more replies it comes to no other place where numbers are used up.
+    ensures later { IfOk result (RunsOutOnly (CandidateRunsOut input.now.mode input.now.variables.items (spec_trees cx.old.entries spec.now)) cx.new.entries) }
+{
+    let trial = try_candidate(alloc, cx, input, spec)?;
+    open_nested(alloc, cx, trial, input, spec)
+}
+
+/// Begins to ask the nested goals in the trial's table.
+fn open_nested(
+    alloc: Global,
+    cx: &mut Interner,
+    trial: Trial,
+    input: &CanonicalInput,
+    spec: &CandidateSpec,
+) -> Result<CandidateStep, EvalError>
+    requires ready { Ready cx.old.entries trial.table }
+    requires own { ArgsHeld cx.old.entries trial.own.items }
+    requires values { ArgsHeld cx.old.entries trial.values.items }
+    requires goals { Every (λ n. GoalHeld cx.old.entries n.1) spec.now.nested_goals.items }
+    ensures keeps { Keeps cx.old.entries cx.new.entries }
+    ensures limit { cx.new.limit ≡ cx.old.limit }
+    ensures held { IfOk result (λ s. CandidateHeld cx.new.entries s) }
+    ensures stands { StandsAt cx.new.entries (asked input.now.mode (premises_trees cx.old.entries spec.now.nested_goals.items) spec.now.certainty
+        (trial_trees cx.old.entries input.now.variables.items trial)) result }
+    ensures most { IfOk result (AsksAtMost (FIXPOINT_STEP_LIMIT * length spec.now.nested_goals.items)) }
+    ensures full { result ≡ Err (EvalError.Fault Fault.Full) → SomeKindIsFull cx.new.entries cx.new.limit
+        ⊎ NestedRunsOut input.now.mode (premises_trees cx.old.entries spec.now.nested_goals.items) spec.now.certainty (trial_trees cx.old.entries input.now.variables.items trial) [] }
+    ensures later { IfOk result (RunsOutOnly (NestedRunsOut input.now.mode (premises_trees cx.old.entries spec.now.nested_goals.items) spec.now.certainty
+        (trial_trees cx.old.entries input.now.variables.items trial)) cx.new.entries) }
+{
+    let Trial { table, own, values } = trial;
+    let variables = Vec::from_slice(alloc, &input.variables)?;
+    let goals = fill_goals(alloc, cx, &values, &spec.nested_goals)?;
+    let evaluation = Evaluation {
+        mode: input.mode,
+        table,
+        variables,
+        own,
+        certainty: spec.certainty,
+    };
+    evaluation.begin_rounds(alloc, cx, goals)
+}
+
+/// The goals, with the values in the place of variables.
+fn fill_goals(
+    alloc: Global,
+    cx: &mut Interner,
+    values: &[GenericArgKind],
+    goals: &[(GoalSource, Goal)],
+) -> Result<VecDeque<(GoalSource, Goal)>, Fault>
+    requires values { ArgsHeld cx.old.entries values.now }
+    requires goals { Every (λ n. GoalHeld cx.old.entries n.1) goals.now }
+    ensures keeps { Keeps cx.old.entries cx.new.entries }
+    ensures limit { cx.new.limit ≡ cx.old.limit }
+    ensures held { IfOk result (λ gs. NestedHeld cx.new.entries (map nested_goal gs.items)) }
+    ensures filled { IfOk result (λ gs. premises_trees cx.new.entries gs.items ≡ premises_filled cx.old.entries values.now goals.now) }
+    ensures full { result ≡ Err Fault.Full → SomeKindIsFull cx.new.entries cx.new.limit }
+{
+    let mut filled = VecDeque::new(alloc);
+    for premise in goals {
+        let goal = instantiate_with_values(alloc, cx, &premise.1, values)?;
+        filled.push_back((premise.0, goal))?;
+    }
+    Ok(filled)
 }

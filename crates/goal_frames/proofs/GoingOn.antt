@@ -18,8 +18,8 @@ use Rattle.evaluation.specs.Readings.{ConsideredHeld}
 use Rattle.evaluation.specs.Table.{workings}
 use Rattle.evaluation.specs.Content.{Question}
 use Rattle.evaluation.specs.Tables.{frame_tables}
-use Rattle.goal_frames.specs.Readings.{Shown, Shows, shown_by, spec_read, next_read}
-use Rattle.goal_frames.specs.Places.{Standing, Stands, IsBetween, IsEntering, IsIgnoring, frame_with, entering}
+use Rattle.evaluation.specs.StepReadings.{Shown, Shows, shown_by, spec_read, next_read}
+use Rattle.goal_frames.specs.Places.{Standing, IsBetween, IsEntering, IsIgnoring, frame_with}
 use Rattle.goal_frames.specs.Frames.{IsRequest}
 use Rattle.goal_frames.proofs.Later.{shown-later}
 
@@ -45,7 +45,7 @@ module _ (h : Handled frame_tables) where
 
   pub considers-next : (mode : TypingMode) (old new : List Entry) → Keeps old new → (done : List InCode.Considered) → ConsideredHeld old done → (s : CandidateSpec) (p : Standing)
       → ComesNext new (map (shown_by old) done) (Step.Consider s) → IsBetween h (map (shown_by old) done) p
-      → IsRequest mode new Requested.EnterCandidate (request p) × Stands h (map (shown_by new) done) (entering (spec_read new h.coinductive s)) p
+      → IsRequest mode new Requested.EnterCandidate (request p) × IsEntering h (map (shown_by new) done) (spec_read new h.coinductive s) p
   considers-next mode old new k done held s p c b =
       let e = enters-next new (map (shown_by old) done) s p c b in (
         subst (λ x. IsRequest mode new Requested.EnterCandidate (request x)) (sym e.at) tt,

@@ -19,7 +19,7 @@ use Rattle.evaluation.proofs.Finite.{made-of-closed}
 use Rattle.evaluation.proofs.WidthLaws.{respond_within}
 use Rattle.evaluation.specs.Tables.{frame_tables}
 use Rattle.goal_frames.specs.Programs.{SaysNothing}
-use Rattle.goal_frames.specs.Readings.{kinds_known}
+use Rattle.evaluation.specs.StepReadings.{kinds_known}
 use Rattle.goal_frames.specs.HandlerPrograms.{silent, overflow_answer, cycle_answer, programs_of, HandlersArePrograms, InstancesAreGoals, RulesAreOf, KindsAreOf, KeepNumbers, KeepWorlds, LookInCoherenceOnly}
 
 no-yes : (f : CanonicalForm) → IsYes frame_tables (overflow_answer f) → ⊥

@@ -3,27 +3,23 @@ use Rattle.std.proofs.Common.{List}
 use Rattle.type_terms.specs.Terms.{Entry, Keeps}
 use Rattle.infer_table.specs.declared.input.CanonicalInput.{CanonicalInput}
 use Rattle.infer_table.proofs.Numbers.{goal-held-later}
-use Rattle.evaluation.proofs.Contexts.{reply-later, replies-later}
+use Rattle.evaluation.proofs.Contexts.{reply-later}
+use Rattle.evaluation.proofs.OpenCandidates.{open-held-later}
 use Rattle.evaluation.specs.Handler.{Handled}
 use Rattle.evaluation.specs.Tables.{frame_tables}
-use Rattle.goal_frames.specs.Readings.{Shown}
-use Rattle.goal_frames.specs.Places.{PlaceTrees, begun, entering, inside_of, finishing, ignoring, over, Standing, Answers, Stands}
+use Rattle.evaluation.specs.StepReadings.{Shown}
+use Rattle.goal_frames.specs.Places.{Standing, Answers, Stands}
 use Rattle.goal_frames.specs.Frames.{PlaceHeld, FrameHeld}
 use Rattle.goal_frames.specs.declared.frame.GoalFrame.{GoalFrame}
 use Rattle.goal_frames.specs.declared.frame.Place.{Place}
 use Rattle.goal_frames.specs.declared.frame.Place.TheVariants as InCode
-use Rattle.goal_frames.proofs.Later.{fits-later, replies-fit-later, considered-later, considered-fits-later, spec-held-later, over-later}
+use Rattle.goal_frames.proofs.Later.{fits-later, considered-later, considered-fits-later, spec-held-later, over-later}
 
 module _ (old new : List Entry) (k : Keeps old new) where
   pub place-later : (goal : CanonicalInput) (place : Place) → PlaceHeld goal old place → PlaceHeld goal new place
   place-later goal InCode.Begun h = tt
   place-later goal (InCode.Entering s) h = (spec-held-later old new k s h.0, over-later old new k goal.variables.items s h.0 h.1)
-  place-later goal (InCode.Inside s rs) h = (
-    spec-held-later old new k s h.0,
-    over-later old new k goal.variables.items s h.0 h.1,
-    replies-later old new k rs.items h.2,
-    replies-fit-later old new k rs.items h.2 h.3,
-  )
+  place-later goal (InCode.Inside source waiting) h = open-held-later old new k waiting h
   place-later goal (InCode.Finishing source r) h = (reply-later old new k r h.0, fits-later old new k r h.0 h.1)
   place-later goal (InCode.Ignoring r ns at) h = (reply-later old new k r h.0, fits-later old new k r h.0 h.1)
   place-later goal InCode.Over h = tt
@@ -46,10 +42,10 @@ module _ (old new : List Entry) (k : Keeps old new) where
   }
 
 -- a frame that has its answer stands there
-pub answers-stand : (h : Handled frame_tables) (xs : List Shown) (place : PlaceTrees) (p : Standing) → Answers place p → Stands h xs place p
-answers-stand h xs begun p a = a
-answers-stand h xs (entering s) p a = absurd a
-answers-stand h xs (inside_of s rs) p a = absurd a
-answers-stand h xs (finishing source r) p a = absurd a
-answers-stand h xs (ignoring r ns) p a = a
-answers-stand h xs over p a = a
+pub answers-stand : (h : Handled frame_tables) (es : List Entry) (goal : CanonicalInput) (xs : List Shown) (place : Place) (p : Standing) → Answers es place p → Stands h es goal xs place p
+answers-stand h es goal xs InCode.Begun p a = a
+answers-stand h es goal xs (InCode.Entering s) p a = absurd a
+answers-stand h es goal xs (InCode.Inside source waiting) p a = absurd a
+answers-stand h es goal xs (InCode.Finishing source r) p a = absurd a
+answers-stand h es goal xs (InCode.Ignoring r ns at) p a = a
+answers-stand h es goal xs InCode.Over p a = a

@@ -32,7 +32,7 @@ use Rattle.evaluation.proofs.Later.{equations-held-later, goals-held-later}
 use Rattle.evaluation.specs.Tables.{frame_tables}
 use Rattle.evaluation.specs.Fitting.{AreOver, IsGoalOver, IsValueOver}
 use Rattle.evaluation.specs.Candidates.{labels_of}
-use Rattle.goal_frames.specs.Readings.{equation_read, nested_read, spec_read, result_read, Shown, shown_by}
+use Rattle.evaluation.specs.StepReadings.{equation_read, nested_read, spec_read, result_read, Shown, shown_by}
 use Rattle.goal_frames.specs.Fitting.{ResultFits, ConsideredFits, IsEquationOver, IsOver}
 
 one-more : {A : Type 0} (x y : A) (xs ys : List A) → x ≡ y → xs ≡ ys → ◌≡◌ {A = List A} (x ∷ xs) (y ∷ ys)
@@ -55,10 +55,6 @@ module _ (old new : List Entry) (k : Keeps old new) where
   pub fits-later : (r : Option CanonicalResponse) → ResultHeld old r → ResultFits old r → ResultFits new r
   fits-later None h f = tt
   fits-later (Some r) h f = subst IsWellFormed (sym (answer-trees-later old new k r h)) f
-
-  pub replies-fit-later : (rs : List (Option CanonicalResponse)) → Every (ResultHeld old) rs → Every (ResultFits old) rs → Every (ResultFits new) rs
-  replies-fit-later [] h f = tt
-  replies-fit-later (r ∷ rs) h f = (fits-later r h.0 f.0, replies-fit-later rs h.1 f.1)
 
   -- ---- candidates that were considered
   pub shown-later : (done : List InCode.Considered) → ConsideredHeld old done → map (shown_by new) done ≡ map (shown_by old) done

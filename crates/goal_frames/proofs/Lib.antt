@@ -27,7 +27,7 @@ pub mod Stepping
 pub mod KnownKinds
 pub mod Fits
 pub mod Running
-pub mod Ending
+pub mod Opened
 pub mod HandlerPrograms
 pub mod Falling
 pub mod Places

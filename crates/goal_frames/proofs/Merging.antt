@@ -29,7 +29,7 @@ use Rattle.evaluation.proofs.WellFormed.{answers_well_formed}
 use Rattle.evaluation.specs.Tables.{frame_tables}
 use Rattle.evaluation.proofs.Filling.{itself-root}
 use Rattle.goal_frames.specs.Handlers.{same_answer, are_own_variables, applies_always}
-use Rattle.goal_frames.specs.Readings.{result_read}
+use Rattle.evaluation.specs.StepReadings.{result_read}
 use Rattle.goal_frames.specs.Merges.{merge_of}
 use Rattle.goal_frames.proofs.Responses.{content_trees, equal-is}
 use Rattle.goal_frames.proofs.Silences.{silent-is}

@@ -13,8 +13,9 @@ use Rattle.evaluation.specs.Script.{Script, done, ask}
 use Rattle.evaluation.specs.Table.{workings}
 use Rattle.evaluation.specs.Content.{Question}
 use Rattle.evaluation.specs.Tables.{frame_tables}
-use Rattle.goal_frames.specs.Readings.{Shown, shown}
-use Rattle.goal_frames.specs.Places.{after, Heard, Standing, candidate_of, frame_with, IsBetween, with_result, IsEntering, IsInside, IsFinishing, IsIgnoring}
+use Rattle.evaluation.specs.StepReadings.{Shown, shown}
+use Rattle.evaluation.specs.Replayed.{after}
+use Rattle.goal_frames.specs.Places.{Heard, Standing, answers_in, candidate_of, frame_with, IsBetween, with_result, IsEntering, IsInside, IsFinishing, IsIgnoring}
 
 -- ---- scripts after answers
 -- the script after one more answer
@@ -56,17 +57,13 @@ module _ (h : Handled frame_tables) where
   enters xs s p e = record {
     next = e.next;
     told = [];
-    each = refl;
+    replies_are = refl;
     at = ap (told entered) e.at ∙ ap (λ c. inside e.next.past.heard [] c (with_result h e.next)) (sym (after-none (candidate_of h s)));
   }
 
-  length-last : (replies : List Answer) (a : Answer) → length (replies ++ a ∷ []) ≡ suc (length replies)
-  length-last [] a = refl
-  length-last (b ∷ replies) a = ap suc (length-last replies a)
-
   -- an answer leads on in the candidate's script
   answer-leads : (heard : Heard) (said : List (Question × Answer)) (s : Asking) (go : Answer → ℕ → Frame Question Answer) (a : Answer) → IsDueAt (inside heard said s go) (evaluated a)
-      → (more : List (Question × Answer)) × (length more ≡ suc (length said)) × (told (evaluated a) (inside heard said s go) ≡ inside heard more (answered_by a s) go)
+      → (more : List (Question × Answer)) × (answers_in more ≡ answers_in said ++ a ∷ []) × (told (evaluated a) (inside heard said s go) ≡ inside heard more (answered_by a s) go)
   answer-leads heard said (ask q k) go a r = ((q, a) ∷ said, refl, refl)
   answer-leads heard said (done b) go a r = absurd r
 
@@ -77,7 +74,7 @@ module _ (h : Handled frame_tables) where
       record {
         next = i.next;
         told = on.0;
-        each = on.1 ∙ ap suc i.each ∙ sym (length-last replies a);
+        replies_are = on.1 ∙ ap (λ rs. rs ++ a ∷ []) i.replies_are;
         at = ap (told (evaluated a)) i.at ∙ on.2 ∙ ap (λ c. inside i.next.past.heard on.0 c (with_result h i.next)) (sym (after-more (candidate_of h s) replies a));
       }
 

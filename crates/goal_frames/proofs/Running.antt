@@ -1,4 +1,4 @@
--- What comes of an open candidate, evaluated in code over the replies to its questions.
+-- What comes of an open candidate, as its evaluation over the replies to its questions does.
 use Rattle.std.proofs.Common.{◌≡◌, List, [], ◌∷◌, map, refl, sym, ◌∙◌, ap, subst, Bool, Option, Some, None}
 use Rattle.model.specs.Label.{Label}
 use Rattle.type_terms.specs.Terms.{Entry}
@@ -8,16 +8,16 @@ use Rattle.infer_table.specs.declared.terms.Equation as Code
 use Rattle.infer_table.specs.declared.goal.Goal.{Goal}
 use Rattle.infer_table.specs.declared.response.CanonicalResponse.{CanonicalResponse}
 use Rattle.infer_table.specs.Goals.{goal_trees}
-use Rattle.infer_table.specs.Responses.{AnswerTrees, answer_trees}
+use Rattle.infer_table.specs.Responses.{AnswerTrees}
 use Rattle.evaluation.specs.Ends.{IsRefused, Awaits, EndsIn}
 use Rattle.evaluation.specs.Evaluating as InCode
-use Rattle.evaluation.specs.Evaluating.{replies_trees, evaluation}
+use Rattle.evaluation.specs.Evaluating.{evaluation}
 use Rattle.evaluation.specs.Frames.{begun}
 use Rattle.evaluation.specs.Trial.{spec_trees, equations_trees, premises_trees, candidate}
 use Rattle.evaluation.specs.declared.TheConstants.{FIXPOINT_STEP_LIMIT}
+use Rattle.evaluation.specs.declared.candidate.CandidateSource.{CandidateSource}
 use Rattle.evaluation.specs.declared.candidate.CandidateSpec.{CandidateSpec}
 use Rattle.evaluation.specs.declared.goal.GoalSource.{GoalSource}
-use Rattle.evaluation.specs.Candidate.{Spec}
 use Rattle.evaluation.specs.Candidate as Frames
 use Rattle.evaluation.specs.Correspondences.{AreAnswers, Answers, Runs}
 use Rattle.evaluation.specs.Handler.{Handled}
@@ -36,9 +36,10 @@ use Rattle.evaluation.specs.Fitting.{IsGoalOver}
 use Rattle.evaluation.specs.RoundLaws.{AreOneQuestion, in_rounds}
 use Rattle.evaluation.specs.Candidates.{labels_of, AreOneEquation, AreOnePremise, AreOneCandidate}
 use Rattle.evaluation.proofs.Candidates.{candidates-are-one}
-use Rattle.goal_frames.specs.Readings.{Shown, equation_read, nested_read, spec_read, result_read}
-use Rattle.goal_frames.specs.Fitting.{ResultFits, IsEquationOver, IsOver}
-use Rattle.goal_frames.specs.Places.{after, Standing, candidate_of, IsInside, IsAsking, IsFinishing, with_result}
+use Rattle.evaluation.specs.StepReadings.{Shown, equation_read, nested_read, spec_read, result_read}
+use Rattle.goal_frames.specs.Fitting.{AnswerFits, ResultFits, IsEquationOver, IsOver}
+use Rattle.evaluation.specs.Replayed.{after}
+use Rattle.goal_frames.specs.Places.{Standing, candidate_of, Opened, IsInside, IsAsking, IsFinishing, with_result}
 use Rattle.goal_frames.proofs.Fits.{one-answer, candidate-fits}
 
 abbrev Answer : Type 0
@@ -59,15 +60,15 @@ ready-after (ask p k) (a ∷ replies) x more e = ready-after (k a) replies x mor
 
 -- ---- one candidate in both forms
 module _ (es : List Entry) (coinductive : Bool) (kinds : List CanonicalVarKind) (s : CandidateSpec) where
-  abbrev labels : List Label
-  labels = labels_of kinds s.variables.items
+  abbrev spec-labels : List Label
+  spec-labels = labels_of kinds s.variables.items
 
-  equations-are-one : (xs : List Code.Equation) → Every (IsEquationOver labels es) xs → Pairwise (AreOneEquation labels) (map (equation_read es) xs) (equations_trees es xs)
+  equations-are-one : (xs : List Code.Equation) → Every (IsEquationOver spec-labels es) xs → Pairwise (AreOneEquation spec-labels) (map (equation_read es) xs) (equations_trees es xs)
   equations-are-one [] o = tt
   equations-are-one (x ∷ xs) o = (record { left_over = o.0.0; right_over = o.0.1; left_is = refl; right_is = refl }, equations-are-one xs o.1)
 
-  premises-are-one : (ns : List (GoalSource × Goal)) → Every (λ (n : GoalSource × Goal). IsGoalOver labels (goal_trees es n.1)) ns
-      → Pairwise (AreOnePremise coinductive labels) (map (nested_read es coinductive) ns) (premises_trees es ns)
+  premises-are-one : (ns : List (GoalSource × Goal)) → Every (λ (n : GoalSource × Goal). IsGoalOver spec-labels (goal_trees es n.1)) ns
+      → Pairwise (AreOnePremise coinductive spec-labels) (map (nested_read es coinductive) ns) (premises_trees es ns)
   premises-are-one [] o = tt
   premises-are-one (n ∷ ns) o = (record { over = o.0; goal_is = refl; step_is = refl }, premises-are-one ns o.1)
 
@@ -82,73 +83,76 @@ module _ (es : List Entry) (coinductive : Bool) (kinds : List CanonicalVarKind) 
   }
 
 -- ---- answers that are well-formed are one answer in both forms
-module _ (mode : TypingMode) (coinductive : Bool) (kinds : List CanonicalVarKind) (ls : List Label) where
-  answers-are-one : (p : Question) (es : List Entry) (r : Option CanonicalResponse) → ResultFits es r
-      → Answers (operations frame_tables) (evaluation mode) (in_rounds mode coinductive kinds ls) p (result_read es r) (result_read es r)
-  answers-are-one p es None f = tt
-  answers-are-one p es (Some r) f = one-answer mode coinductive kinds ls p (answer_trees es r) f
+pub result-fits : (es : List Entry) (r : Option CanonicalResponse) → ResultFits es r → AnswerFits (result_read es r)
+result-fits es None f = tt
+result-fits es (Some r) f = f
 
-  pub replies-are-one : (es : List Entry) (s : Script Question Answer Answer) (rs : List (Option CanonicalResponse)) → Every (ResultFits es) rs
-      → AreAnswers (operations frame_tables) (evaluation mode) (in_rounds mode coinductive kinds ls) s (replies_trees es rs) (replies_trees es rs)
-  replies-are-one es (done x) rs f = tt
-  replies-are-one es (ask q k) [] f = tt
-  replies-are-one es (ask q k) (r ∷ rs) f = (answers-are-one q es r f.0, replies-are-one es (k (result_read es r)) rs f.1)
+module _ (mode : TypingMode) (coinductive : Bool) (kinds : List CanonicalVarKind) (ls : List Label) where
+  answers-are-one : (p : Question) (a : Answer) → AnswerFits a → Answers (operations frame_tables) (evaluation mode) (in_rounds mode coinductive kinds ls) p a a
+  answers-are-one p None f = tt
+  answers-are-one p (Some a) f = one-answer mode coinductive kinds ls p a f
+
+  replies-are-one : (s : Script Question Answer Answer) (rs : List Answer) → Every AnswerFits rs → AreAnswers (operations frame_tables) (evaluation mode) (in_rounds mode coinductive kinds ls) s rs rs
+  replies-are-one (done x) rs f = tt
+  replies-are-one (ask q k) [] f = tt
+  replies-are-one (ask q k) (a ∷ rs) f = (answers-are-one q a f.0, replies-are-one (k a) rs f.1)
 
 -- ---- what the frame asks
-module _ (h : Handled frame_tables) (mode : TypingMode) (kinds : List CanonicalVarKind) (begins : h.begin ≡ begin kinds) (es : List Entry) (s : CandidateSpec) (over : IsOver kinds es s)
-    (rs : List (Option CanonicalResponse)) (fits : Every (ResultFits es) rs) where
-  abbrev spec : Spec (workings frame_tables)
-  spec = spec_read es h.coinductive s
+module _ (h : Handled frame_tables) (mode : TypingMode) (kinds : List CanonicalVarKind) (begins : h.begin ≡ begin kinds) (source : CandidateSource) (o : Opened h kinds source) where
+  abbrev labels : List Label
+  labels = labels_of kinds o.evaluated.kinds
 
   abbrev code-run : Run InCode.Question Answer Answer
-  code-run = run (candidate mode (begun kinds) (spec_trees es s)) (replies_trees es rs)
+  code-run = run (candidate mode (begun kinds) o.evaluated) o.replies
 
-  runs-are-one : Runs (operations frame_tables) (evaluation mode) (in_rounds mode h.coinductive kinds (labels_of kinds s.variables.items)) (λ (a b : Answer). a ≡ b)
-      (run (candidate_of h spec) (replies_trees es rs)) code-run
+  abbrev frame-run : Run Question Answer Answer
+  frame-run = run (candidate_of h o.spec) o.replies
+
+  runs-are-one : Runs (operations frame_tables) (evaluation mode) (in_rounds mode h.coinductive kinds labels) (λ (a b : Answer). a ≡ b) frame-run code-run
   runs-are-one =
-      subst (λ t. Runs (operations frame_tables) (evaluation mode) (in_rounds mode h.coinductive kinds (labels_of kinds s.variables.items)) (λ (a b : Answer). a ≡ b)
-      (run (Frames.candidate (workings frame_tables) FIXPOINT_STEP_LIMIT t spec) (replies_trees es rs)) code-run) (sym begins)
-      (candidates-are-one mode h.coinductive kinds spec (spec_trees es s) (replies_trees es rs) (replies_trees es rs) (candidate-is-one es h.coinductive kinds s over)
-      (replies-are-one mode h.coinductive kinds (labels_of kinds s.variables.items) es (Frames.candidate (workings frame_tables) FIXPOINT_STEP_LIMIT (begin kinds) spec) rs fits))
+      subst (λ t. Runs (operations frame_tables) (evaluation mode) (in_rounds mode h.coinductive kinds labels) (λ (a b : Answer). a ≡ b)
+      (run (Frames.candidate (workings frame_tables) FIXPOINT_STEP_LIMIT t o.spec) o.replies) code-run) (sym begins)
+      (candidates-are-one mode h.coinductive kinds o.spec o.evaluated o.replies o.replies o.one
+      (replies-are-one mode h.coinductive kinds labels (Frames.candidate (workings frame_tables) FIXPOINT_STEP_LIMIT (begin kinds) o.spec) o.replies o.fit))
 
   -- where the code waits at a question, the frame does
   waits-too : (a : Run Question Answer Answer) (b : Run InCode.Question Answer Answer) (q : InCode.Question)
-      → Runs (operations frame_tables) (evaluation mode) (in_rounds mode h.coinductive kinds (labels_of kinds s.variables.items)) (λ (x y : Answer). x ≡ y) a b → Awaits b q
-      → (p : Question) × (a ≡ waits p) × AreOneQuestion mode h.coinductive kinds (labels_of kinds s.variables.items) p q
-  waits-too (waits p) (waits r) q o w = (p, refl, subst (AreOneQuestion mode h.coinductive kinds (labels_of kinds s.variables.items) p) w o)
-  waits-too (ready x more) (waits r) q o w = absurd o
-  waits-too a (ready y more) q o w = absurd w
+      → Runs (operations frame_tables) (evaluation mode) (in_rounds mode h.coinductive kinds labels) (λ (x y : Answer). x ≡ y) a b → Awaits b q
+      → (p : Question) × (a ≡ waits p) × AreOneQuestion mode h.coinductive kinds labels p q
+  waits-too (waits p) (waits r) q r1 w = (p, refl, subst (AreOneQuestion mode h.coinductive kinds labels p) w r1)
+  waits-too (ready x more) (waits r) q r1 w = absurd r1
+  waits-too a (ready y more) q r1 w = absurd w
 
   -- where the code is ready with an answer, the frame is
   ends-too : (a : Run Question Answer Answer) (b : Run InCode.Question Answer Answer) (x : AnswerTrees)
-      → Runs (operations frame_tables) (evaluation mode) (in_rounds mode h.coinductive kinds (labels_of kinds s.variables.items)) (λ (y z : Answer). y ≡ z) a b → EndsIn (λ y more. x ≡ y) b
+      → Runs (operations frame_tables) (evaluation mode) (in_rounds mode h.coinductive kinds labels) (λ (y z : Answer). y ≡ z) a b → EndsIn (λ y more. x ≡ y) b
       → (more : List Answer) × (a ≡ ready (Some x) more)
-  ends-too (ready y more) (ready (Some z) left) x o e = (more, ap (λ w. ready w more) (o ∙ ap Some (sym e)))
-  ends-too (waits p) (ready (Some z) left) x o e = absurd o
-  ends-too a (ready None left) x o e = absurd e
-  ends-too a (waits q) x o e = absurd e
+  ends-too (ready y more) (ready (Some z) left) x r e = (more, ap (λ w. ready w more) (r ∙ ap Some (sym e)))
+  ends-too (waits p) (ready (Some z) left) x r e = absurd r
+  ends-too a (ready None left) x r e = absurd e
+  ends-too a (waits q) x r e = absurd e
 
   -- where the code is refused, the frame is
   refused-too : (a : Run Question Answer Answer) (b : Run InCode.Question Answer Answer)
-      → Runs (operations frame_tables) (evaluation mode) (in_rounds mode h.coinductive kinds (labels_of kinds s.variables.items)) (λ (y z : Answer). y ≡ z) a b → IsRefused b
+      → Runs (operations frame_tables) (evaluation mode) (in_rounds mode h.coinductive kinds labels) (λ (y z : Answer). y ≡ z) a b → IsRefused b
       → (more : List Answer) × (a ≡ ready None more)
-  refused-too (ready y more) (ready None left) o e = (more, ap (λ w. ready w more) o)
-  refused-too (waits p) (ready None left) o e = absurd o
-  refused-too a (ready (Some z) left) o e = absurd e
-  refused-too a (waits q) o e = absurd e
+  refused-too (ready y more) (ready None left) r e = (more, ap (λ w. ready w more) r)
+  refused-too (waits p) (ready None left) r e = absurd r
+  refused-too a (ready (Some z) left) r e = absurd e
+  refused-too a (waits q) r e = absurd e
 
   -- the answer that the code is ready with is well-formed
   pub answer-fits : (x : AnswerTrees) → EndsIn (λ y more. x ≡ y) code-run → IsWellFormed x
   answer-fits x e =
-      let there = ends-too (run (candidate_of h spec) (replies_trees es rs)) code-run x runs-are-one e in
-      candidate-fits h.begin (subst IsMadeFrame (sym begins) (begin-made kinds)) spec (replies_trees es rs) x there.0 there.1
+      let there = ends-too frame-run code-run x runs-are-one e in
+      candidate-fits h.begin (subst IsMadeFrame (sym begins) (begin-made kinds)) o.spec o.replies x there.0 there.1
 
-  module _ (xs : List Shown) (p : Standing) (inside_it : IsInside h xs spec (replies_trees es rs) p) where
+  module _ (xs : List Shown) (p : Standing) (inside_it : IsInside h xs o.spec o.replies p) where
     pub asks-question : (q : InCode.Question) → Awaits code-run q
-        → (r : Question) × (request p ≡ evaluate r) × AreOneQuestion mode h.coinductive kinds (labels_of kinds s.variables.items) r q × IsAsking h xs spec (replies_trees es rs) p
+        → (r : Question) × (request p ≡ evaluate r) × AreOneQuestion mode h.coinductive kinds labels r q × IsAsking h xs o.spec o.replies p
     asks-question q w =
-        let there = waits-too (run (candidate_of h spec) (replies_trees es rs)) code-run q runs-are-one w in
-        let on = waits-after (candidate_of h spec) (replies_trees es rs) there.0 there.1 in (
+        let there = waits-too frame-run code-run q runs-are-one w in
+        let on = waits-after (candidate_of h o.spec) o.replies there.0 there.1 in (
           there.0,
           ap request inside_it.at ∙ ap (λ c. request (inside inside_it.next.past.heard inside_it.told c (with_result h inside_it.next))) on.1,
           there.2,
@@ -156,24 +160,24 @@ module _ (h : Handled frame_tables) (mode : TypingMode) (kinds : List CanonicalV
         )
 
     -- with this result
-    ends-with : (a : Answer) → after (candidate_of h spec) (replies_trees es rs) ≡ done a → (request p ≡ finish_candidate) × IsFinishing h xs s.source a p
+    ends-with : (a : Answer) → after (candidate_of h o.spec) o.replies ≡ done a → (request p ≡ finish_candidate) × IsFinishing h xs source a p
     ends-with a e = (
       ap request inside_it.at ∙ ap (λ c. request (inside inside_it.next.past.heard inside_it.told c (with_result h inside_it.next))) e,
       record {
-        spec = spec;
+        spec = o.spec;
         next = inside_it.next;
-        source_is = refl;
+        source_is = o.source_is;
         told = inside_it.told;
         at = inside_it.at ∙ ap (λ c. inside inside_it.next.past.heard inside_it.told c (with_result h inside_it.next)) e;
       },
     )
 
-    pub ends-answered : (x : AnswerTrees) → EndsIn (λ y more. x ≡ y) code-run → (request p ≡ finish_candidate) × IsFinishing h xs s.source (Some x) p
+    pub ends-answered : (x : AnswerTrees) → EndsIn (λ y more. x ≡ y) code-run → (request p ≡ finish_candidate) × IsFinishing h xs source (Some x) p
     ends-answered x e =
-        let there = ends-too (run (candidate_of h spec) (replies_trees es rs)) code-run x runs-are-one e in
-        ends-with (Some x) (ready-after (candidate_of h spec) (replies_trees es rs) (Some x) there.0 there.1)
+        let there = ends-too frame-run code-run x runs-are-one e in
+        ends-with (Some x) (ready-after (candidate_of h o.spec) o.replies (Some x) there.0 there.1)
 
-    pub ends-refused : IsRefused code-run → (request p ≡ finish_candidate) × IsFinishing h xs s.source None p
+    pub ends-refused : IsRefused code-run → (request p ≡ finish_candidate) × IsFinishing h xs source None p
     ends-refused e =
-        let there = refused-too (run (candidate_of h spec) (replies_trees es rs)) code-run runs-are-one e in
-        ends-with None (ready-after (candidate_of h spec) (replies_trees es rs) None there.0 there.1)
+        let there = refused-too frame-run code-run runs-are-one e in
+        ends-with None (ready-after (candidate_of h o.spec) o.replies None there.0 there.1)

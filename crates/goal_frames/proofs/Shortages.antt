@@ -9,11 +9,13 @@ use Rattle.infer_table.specs.declared.input.CanonicalInput.{CanonicalInput}
 use Rattle.infer_table.specs.declared.response.CanonicalResponse.{CanonicalResponse}
 use Rattle.search_graph.specs.declared.delegate.Reply.{Reply}
 use Rattle.search_graph.specs.declared.delegate.Reply.TheVariants as Replied
-use Rattle.evaluation.proofs.LaterTrees.{replies-trees-later}
+use Rattle.evaluation.proofs.OpenShortages.{open-later}
 use Rattle.evaluation.proofs.Later.{equations-later, premises-later}
 use Rattle.evaluation.specs.declared.candidate.CandidateSpec.{CandidateSpec}
 use Rattle.evaluation.specs.declared.candidate.Considered.{Considered}
-use Rattle.evaluation.specs.Evaluating.{NestedTrees, replies_trees}
+use Rattle.evaluation.specs.Evaluating.{NestedTrees}
+use Rattle.evaluation.specs.OpenShortages.{OpenRunsOut}
+use Rattle.evaluation.specs.StepReadings.{result_read}
 use Rattle.evaluation.specs.Handler.{Handled}
 use Rattle.evaluation.specs.Lists.{Every}
 use Rattle.evaluation.specs.Readings.{ResultHeld, ConsideredHeld, SpecHeld}
@@ -25,7 +27,7 @@ use Rattle.goal_frames.specs.Shortages.{NextRunsOut, RunsOutAt, FrameRunsOut}
 use Rattle.goal_frames.specs.declared.frame.GoalFrame.{GoalFrame}
 use Rattle.goal_frames.specs.declared.frame.Place.{Place}
 use Rattle.goal_frames.specs.declared.frame.Place.TheVariants as InCode
-use Rattle.goal_frames.proofs.Later.{shown-later}
+use Rattle.goal_frames.proofs.Later.{result-later, shown-later}
 
 -- at this place, with this reply
 pub runs-out-there : (es : List Entry) (h : Handled frame_tables) (f : GoalFrame) (place : Place) (reply r : Reply (Option CanonicalResponse)) → f.place ≡ place → reply ≡ r
@@ -55,14 +57,12 @@ module _ (old new : List Entry) (k : Keeps old new) (h : Handled frame_tables) (
   at-later done held InCode.Begun p reply r n = next-later done held n
   at-later done held (InCode.Entering s) p reply r n =
       subst (λ (z : SpecTrees). CandidateRunsOut goal.mode goal.variables.items z []) (sym (spec-later old new k s p.0)) n
-  at-later done held (InCode.Inside s rs) p (Replied.Result x) r n =
-      let replies = rs.items ++ x ∷ [] in
-      subst (λ z. CandidateRunsOut goal.mode goal.variables.items (spec_trees new s) z) (sym (replies-trees-later old new k replies (every-last (ResultHeld old) rs.items x p.2 r.0)))
-      (subst (λ (z : SpecTrees). CandidateRunsOut goal.mode goal.variables.items z (replies_trees old replies)) (sym (spec-later old new k s p.0)) n)
-  at-later done held (InCode.Inside s rs) p Replied.Begin r n = absurd n
-  at-later done held (InCode.Inside s rs) p Replied.Entered r n = absurd n
-  at-later done held (InCode.Inside s rs) p (Replied.Finished m) r n = absurd n
-  at-later done held (InCode.Inside s rs) p Replied.Ignored r n = absurd n
+  at-later done held (InCode.Inside source waiting) p (Replied.Result x) r n =
+      subst (λ a. OpenRunsOut new waiting (a ∷ [])) (sym (result-later old new k x r.0)) (open-later old new k waiting p (result_read old x ∷ []) n)
+  at-later done held (InCode.Inside source waiting) p Replied.Begin r n = absurd n
+  at-later done held (InCode.Inside source waiting) p Replied.Entered r n = absurd n
+  at-later done held (InCode.Inside source waiting) p (Replied.Finished m) r n = absurd n
+  at-later done held (InCode.Inside source waiting) p Replied.Ignored r n = absurd n
   at-later done held (InCode.Finishing source o) p (Replied.Finished m) r n =
       let d : Considered = record { source = source; result = o; head_usages = m } in
       next-later (done ++ d ∷ []) (every-last (λ (c : Considered). ResultHeld old c.result) done d held p.0) n

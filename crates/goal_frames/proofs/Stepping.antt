@@ -4,13 +4,13 @@ use Rattle.type_terms.specs.Terms.{Entry}
 use Rattle.infer_table.specs.declared.input.CanonicalInput.{CanonicalInput}
 use Rattle.infer_table.specs.declared.response.CanonicalResponse.{CanonicalResponse}
 use Rattle.infer_table.specs.Responses.{AnswerTrees}
-use Rattle.evaluation.specs.Evaluating.{replies_trees}
 use Rattle.search_graph.specs.declared.delegate.Reply as InReply
 use Rattle.search_graph.specs.declared.delegate.Reply.TheVariants as Replied
 use Rattle.search_graph.specs.declared.delegate.Request as Requests
 use Rattle.evaluation.specs.declared.candidate.CandidateSource.{CandidateSource}
 use Rattle.evaluation.specs.declared.candidate.CandidateSpec.{CandidateSpec}
 use Rattle.evaluation.specs.declared.candidate.Considered as Code
+use Rattle.evaluation.specs.declared.resuming.OpenCandidate.{OpenCandidate}
 use Rattle.evaluation.specs.Handler.{Handled, IsHandler}
 use Rattle.evaluation.specs.Frame.{Frame, considers, answers}
 use Rattle.evaluation.specs.Script.{Script, done, ask}
@@ -18,8 +18,8 @@ use Rattle.evaluation.specs.Content.{Question}
 use Rattle.evaluation.specs.History.{Reply, begin, entered, ignored, evaluated, finished, between, inside, request, position, IsReply, CameInOrder}
 use Rattle.evaluation.specs.Promises.{frame_of_goal, Anything}
 use Rattle.evaluation.specs.Tables.{frame_tables}
-use Rattle.goal_frames.specs.Readings.{Shown, spec_read, result_read, shown_by}
-use Rattle.goal_frames.specs.Places.{Heard, Standing, Stands, with_result, candidate_of, IsBetween, IsInside, IsIgnoring, place_read}
+use Rattle.evaluation.specs.StepReadings.{Shown, spec_read, result_read, shown_by}
+use Rattle.goal_frames.specs.Places.{Heard, Standing, Stands, with_result, candidate_of, IsBetween, IsInside, IsWaiting, IsIgnoring}
 use Rattle.goal_frames.specs.Frames.{History, HasCome, HasHeard, FrameHeld, IsRequest, Steps, reply_read}
 use Rattle.goal_frames.specs.declared.frame.GoalFrame.{GoalFrame}
 use Rattle.goal_frames.specs.declared.frame.Place.{Place}
@@ -33,14 +33,10 @@ both-ok P Q R (Err e) f p q = tt
 abbrev Answer : Type 0
 Answer = Option AnswerTrees
 
--- one more candidate is shown, and one more reply is read
+-- one more candidate is shown
 pub shown-more : (es : List Entry) (cs : List Code.Considered) (c : Code.Considered) → map (shown_by es) (cs ++ c ∷ []) ≡ map (shown_by es) cs ++ shown_by es c ∷ []
 shown-more es [] c = refl
 shown-more es (d ∷ cs) c = ap (λ xs. shown_by es d ∷ xs) (shown-more es cs c)
-
-pub replies-more : (es : List Entry) (rs : List (Option CanonicalResponse)) (r : Option CanonicalResponse) → replies_trees es (rs ++ r ∷ []) ≡ replies_trees es rs ++ result_read es r ∷ []
-replies-more es [] r = refl
-replies-more es (x ∷ rs) r = ap (λ xs. result_read es x ∷ xs) (replies-more es rs r)
 
 module _ (h : Handled frame_tables) where
   abbrev InOrder : History → Type 0
@@ -53,19 +49,19 @@ module _ (h : Handled frame_tables) where
   place-of heard = position (frame_of_goal frame_tables h) heard
 
   -- where a frame stands, its replies have come
-  pub has-come : (es : List Entry) (cs : List Code.Considered) (place : Place) (heard : History) → InOrder heard
-      → Stands h (map (shown_by es) cs) (place_read es h.coinductive place) (place-of heard) → HasCome es h cs place heard
-  has-come es cs InCode.Begun heard o s = absurd s
-  has-come es cs stage heard o s = (o, s)
+  pub has-come : (es : List Entry) (goal : CanonicalInput) (cs : List Code.Considered) (place : Place) (heard : History) → InOrder heard
+      → Stands h es goal (map (shown_by es) cs) place (place-of heard) → HasCome es h goal cs place heard
+  has-come es goal cs InCode.Begun heard o s = absurd s
+  has-come es goal cs stage heard o s = (o, s)
 
   -- a frame that goes to where its position is after the reply, and makes the request that is made there, steps
   pub steps-to : (old new : List Entry) (before after : GoalFrame) (reply : Reply Answer) (q : Requests.Request CanonicalInput (Option CanonicalResponse))
       → ((heard : History) → HasHeard old h before heard → InOrder (reply ∷ heard)
-      → IsRequest before.goal.mode new q (request (place-of (reply ∷ heard))) × Stands h (map (shown_by new) after.considered.items) (place_read new h.coinductive after.place) (place-of (reply ∷ heard)))
+      → IsRequest before.goal.mode new q (request (place-of (reply ∷ heard))) × Stands h new after.goal (map (shown_by new) after.considered.items) after.place (place-of (reply ∷ heard)))
       → FrameHeld new after → Steps old h before reply new after q
   steps-to old new before after reply q goes held heard b o =
       let there = goes heard b o in
-      (record { held = held; came = has-come new after.considered.items after.place (reply ∷ heard) o there.1 }, there.0)
+      (record { held = held; came = has-come new after.goal after.considered.items after.place (reply ∷ heard) o there.1 }, there.0)
 
   -- a reply that came in order was due
   pub due-here : (said : History) → InOrder said → (reply : Reply Answer) → InOrder (reply ∷ said) → IsDueAt (place-of said) reply
@@ -75,7 +71,7 @@ module _ (h : Handled frame_tables) where
 
   module _ (es : List Entry) (f : GoalFrame) (heard : History) (b : HasHeard es h f heard) where
     abbrev Come : Place → Type 0
-    Come place = HasCome es h f.considered.items place heard
+    Come place = HasCome es h f.goal f.considered.items place heard
 
     abbrev shown-here : List Shown
     shown-here = map (shown_by es) f.considered.items
@@ -89,10 +85,11 @@ module _ (h : Handled frame_tables) where
     pub inside-there : (s : CandidateSpec) → f.place ≡ InCode.Entering s → IsInside h shown-here (spec_read es h.coinductive s) [] (place-of (entered ∷ heard))
     inside-there s e = let come : Come (InCode.Entering s) = subst Come e b.came in enters h shown-here (spec_read es h.coinductive s) (place-of heard) come.1
 
-    pub hears-there : (s : CandidateSpec) (rs : _) (a : Answer) → f.place ≡ InCode.Inside s rs → InOrder (evaluated a ∷ heard)
-        → IsInside h shown-here (spec_read es h.coinductive s) (replies_trees es rs.items ++ a ∷ []) (place-of (evaluated a ∷ heard))
-    hears-there s rs a e o =
-        let come : Come (InCode.Inside s rs) = subst Come e b.came in hears h shown-here (spec_read es h.coinductive s) (replies_trees es rs.items) a (place-of heard) come.1.inside o.0
+    pub hears-there : (source : CandidateSource) (waiting : OpenCandidate) (a : Answer) → f.place ≡ InCode.Inside source waiting → InOrder (evaluated a ∷ heard)
+        → (w : IsWaiting h es f.goal shown-here source waiting (place-of heard)) × IsInside h shown-here w.opened.spec (w.opened.replies ++ a ∷ []) (place-of (evaluated a ∷ heard))
+    hears-there source waiting a e o =
+        let come : Come (InCode.Inside source waiting) = subst Come e b.came in
+        let w = come.1 in (w, hears h shown-here w.opened.spec w.opened.replies a (place-of heard) w.asking.inside o.0)
 
     pub finishes-there : IsHandler frame_tables h → (source : CandidateSource) (r : Option CanonicalResponse) (n : ℕ) → f.place ≡ InCode.Finishing source r → InOrder (finished n ∷ heard)
         → IsBetween h (shown-here ++ record { source = source; result = result_read es r; number = n } ∷ []) (place-of (finished n ∷ heard))
@@ -120,13 +117,14 @@ module _ (h : Handled frame_tables) where
           only hd gone c go Replied.Entered r = refl
           only hd gone c go reply r = absurd r
 
-    pub inside-waits : (s : CandidateSpec) (rs : _) → f.place ≡ InCode.Inside s rs → (reply : InReply.Reply (Option CanonicalResponse)) → InOrder (reply_read es reply ∷ heard)
+    pub inside-waits : (source : CandidateSource) (waiting : OpenCandidate) → f.place ≡ InCode.Inside source waiting → (reply : InReply.Reply (Option CanonicalResponse)) → InOrder (reply_read es reply ∷ heard)
         → (r : Option CanonicalResponse) × (reply ≡ Replied.Result r)
-    inside-waits s rs e reply o =
-        let come : Come (InCode.Inside s rs) = subst Come e b.came in
-        let i = come.1.inside in
-        only i.next.past.heard i.told come.1.question come.1.answered (with_result h i.next) reply
-        (subst (λ c. IsDueAt (inside i.next.past.heard i.told c (with_result h i.next)) (reply_read es reply)) come.1.waits
+    inside-waits source waiting e reply o =
+        let come : Come (InCode.Inside source waiting) = subst Come e b.came in
+        let asking = come.1.asking in
+        let i = asking.inside in
+        only i.next.past.heard i.told asking.question asking.answered (with_result h i.next) reply
+        (subst (λ c. IsDueAt (inside i.next.past.heard i.told c (with_result h i.next)) (reply_read es reply)) asking.waits
         (subst (λ x. IsDueAt x (reply_read es reply)) i.at (due-here heard come.0 (reply_read es reply) o))) where
           only : (hd : Heard) → (td : List (Question × Answer)) → (q : Question) → (k : Answer → Script Question Answer Answer) → (go : Answer → ℕ → Frame Question Answer)
               → (reply : InReply.Reply (Option CanonicalResponse)) → IsDueAt (inside hd td (ask q k) go) (reply_read es reply) → (r : Option CanonicalResponse) × (reply ≡ Replied.Result r)

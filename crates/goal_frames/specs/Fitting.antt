@@ -9,7 +9,7 @@ use Rattle.infer_table.specs.declared.goal.Goal.{Goal}
 use Rattle.infer_table.specs.declared.response.CanonicalResponse.{CanonicalResponse}
 use Rattle.infer_table.specs.Goals.{goal_trees}
 use Rattle.infer_table.specs.Values.{value_of}
-use Rattle.infer_table.specs.Responses.{answer_trees}
+use Rattle.infer_table.specs.Responses.{AnswerTrees, answer_trees}
 use Rattle.evaluation.specs.Lists.{Every}
 use Rattle.evaluation.specs.declared.candidate.CandidateSpec.{CandidateSpec}
 use Rattle.evaluation.specs.declared.candidate.Considered.{Considered}
@@ -22,6 +22,10 @@ use Rattle.evaluation.specs.Candidates.{labels_of}
 
 -- ---- answers
 -- the values of each are terms over its own variables
+abbrev pub AnswerFits : Option AnswerTrees → Type 0
+AnswerFits None = Unit {0}
+AnswerFits (Some a) = IsWellFormed a
+
 abbrev pub ResultFits : List Entry → Option CanonicalResponse → Type 0
 ResultFits es None = Unit {0}
 ResultFits es (Some r) = IsWellFormed (answer_trees es r)

@@ -1,6 +1,6 @@
 -- What frames in code have heard, and what they ask.
-use Rattle.std.specs.Prelude.{◌≡◌, ℕ, Bool, List, [], ◌∷◌, map, Option}
-use Rattle.type_terms.specs.Terms.{Entry}
+use Rattle.std.specs.Prelude.{◌≡◌, ℕ, List, [], ◌∷◌, map, Option, Result, Ok, IfOk}
+use Rattle.type_terms.specs.Terms.{Entry, Keeps}
 use Rattle.infer_table.specs.declared.certainty.TypingMode.{TypingMode}
 use Rattle.infer_table.specs.declared.input.CanonicalInput.{CanonicalInput}
 use Rattle.infer_table.specs.declared.response.CanonicalResponse.{CanonicalResponse}
@@ -11,20 +11,22 @@ use Rattle.search_graph.specs.declared.delegate.Reply as Replies
 use Rattle.search_graph.specs.declared.delegate.Reply.TheVariants as Replied
 use Rattle.search_graph.specs.declared.delegate.Request as Requests
 use Rattle.search_graph.specs.declared.delegate.Request.TheVariants as Requested
-use Rattle.evaluation.specs.declared.candidate.CandidateSpec.{CandidateSpec}
+use Rattle.evaluation.specs.declared.candidate.CandidateSource.{CandidateSource}
 use Rattle.evaluation.specs.declared.candidate.Considered.{Considered}
+use Rattle.evaluation.specs.declared.error.EvalError.{EvalError}
+use Rattle.evaluation.specs.declared.resuming.CandidateStep.{CandidateStep}
+use Rattle.evaluation.specs.declared.resuming.CandidateStep.TheVariants.{Ask}
 use Rattle.evaluation.specs.Handler.{Handled}
-use Rattle.evaluation.specs.Evaluating.{replies_trees}
 use Rattle.evaluation.specs.History.{Request, evaluate, enter_candidate, finish_candidate, ignore_candidate, returns, Reply, begin, entered, ignored, evaluated, finished, position, request, asks, CameInOrder}
-use Rattle.evaluation.specs.Lists.{Every}
+use Rattle.evaluation.specs.OpenCandidates.{OpenHeld, CandidateHeld}
 use Rattle.evaluation.specs.Promises.{frame_of_goal, Anything}
 use Rattle.evaluation.specs.Readings.{ResultHeld, ConsideredHeld, SpecHeld}
 use Rattle.evaluation.specs.Content.{Question}
 use Rattle.evaluation.specs.Tables.{frame_tables}
 use Rattle.goal_frames.specs.Searches.{step_kind}
-use Rattle.goal_frames.specs.Readings.{result_read, shown_by, spec_read}
+use Rattle.evaluation.specs.StepReadings.{result_read, shown_by}
 use Rattle.goal_frames.specs.Fitting.{ResultFits, ConsideredFits, IsOver}
-use Rattle.goal_frames.specs.Places.{Standing, place_read, Stands, Answers, IsBetween, IsInside, IsIgnoring}
+use Rattle.goal_frames.specs.Places.{Standing, ComesTo, Stands, Answers, IsBetween, IsIgnoring}
 use Rattle.goal_frames.specs.declared.frame.GoalFrame.{GoalFrame}
 use Rattle.goal_frames.specs.declared.frame.Place.{Place}
 use Rattle.goal_frames.specs.declared.frame.Place.TheVariants as InCode
@@ -61,7 +63,7 @@ RequestHeld es request = Unit {0}
 abbrev pub PlaceHeld : CanonicalInput → List Entry → Place → Type 0
 PlaceHeld goal es InCode.Begun = Unit {0}
 PlaceHeld goal es (InCode.Entering s) = SpecHeld es s × IsOver goal.variables.items es s
-PlaceHeld goal es (InCode.Inside s replies) = SpecHeld es s × IsOver goal.variables.items es s × Every (ResultHeld es) replies.items × Every (ResultFits es) replies.items
+PlaceHeld goal es (InCode.Inside source waiting) = OpenHeld es waiting
 PlaceHeld goal es (InCode.Finishing source r) = ResultHeld es r × ResultFits es r
 PlaceHeld goal es (InCode.Ignoring r ns at) = ResultHeld es r × ResultFits es r
 PlaceHeld goal es InCode.Over = Unit {0}
@@ -77,16 +79,16 @@ abbrev pub History : Type 0
 History = List (Reply (Option AnswerTrees))
 
 -- no reply has come yet, or replies came in order and led to where the frame stands
-abbrev pub HasCome : List Entry → Handled frame_tables → List Considered → Place → History → Type 0
-HasCome es h considered InCode.Begun heard = (heard ≡ []) × (considered ≡ [])
-HasCome es h considered place heard =
+abbrev pub HasCome : List Entry → Handled frame_tables → CanonicalInput → List Considered → Place → History → Type 0
+HasCome es h goal considered InCode.Begun heard = (heard ≡ []) × (considered ≡ [])
+HasCome es h goal considered place heard =
     CameInOrder (Anything frame_tables h) (frame_of_goal frame_tables h) heard
-    × Stands h (map (shown_by es) considered) (place_read es h.coinductive place) (position (frame_of_goal frame_tables h) heard)
+    × Stands h es goal (map (shown_by es) considered) place (position (frame_of_goal frame_tables h) heard)
 
 -- the frame of a goal that its handler means this for has had these replies, the newest first
 pub record HasHeard (es : List Entry) (h : Handled frame_tables) (f : GoalFrame) (heard : History) : Type 0 where
   pub held : FrameHeld es f
-  pub came : HasCome es h f.considered.items f.place heard
+  pub came : HasCome es h f.goal f.considered.items f.place heard
 
 -- the reply is one that the frame waits for
 abbrev pub IsDue : List Entry → Handled frame_tables → GoalFrame → Reply (Option AnswerTrees) → Type 0
@@ -103,15 +105,22 @@ Steps old h before reply new after request =
 abbrev pub AsksHandler : List Entry → Handled frame_tables → GoalFrame → Standing → Type 0
 AsksHandler es h f p = IsBetween h (map (shown_by es) f.considered.items) p
 
--- the candidate is open, with these replies
-abbrev pub IsOpen : List Entry → Handled frame_tables → GoalFrame → CandidateSpec → List (Option CanonicalResponse) → Standing → Type 0
-IsOpen es h f s replies p = IsInside h (map (shown_by es) f.considered.items) (spec_read es h.coinductive s) (replies_trees es replies) p
-
 -- the frame makes this request, in this mode, and is where it then stands
 abbrev pub AsksAt : TypingMode → List Entry → Handled frame_tables → GoalFrame → Requests.Request CanonicalInput (Option CanonicalResponse) → Standing → Type 0
-AsksAt mode es h f q p = IsRequest mode es q (request p) × Stands h (map (shown_by es) f.considered.items) (place_read es h.coinductive f.place) p
+AsksAt mode es h f q p = IsRequest mode es q (request p) × Stands h es f.goal (map (shown_by es) f.considered.items) f.place p
+
+-- the open candidate of a frame, from this source, came to this: the frame of after makes this request, and is where it then stands
+abbrev pub GoesOnWith : List Entry → List Entry → Handled frame_tables → GoalFrame → CandidateSource → Result CandidateStep EvalError → GoalFrame → Requests.Request CanonicalInput (Option CanonicalResponse) → Type 0
+GoesOnWith old new h before source step after q =
+    (p : Standing) → Keeps old new → FrameHeld old before → IfOk step (CandidateHeld new) → ComesTo h new before.goal (map (shown_by old) before.considered.items) source step p
+    → FrameHeld new after × RequestHeld new q × AsksAt before.goal.mode new h after q p
+
+-- a candidate that waits is the open one, and else none is open
+abbrev pub IsAtStep : Result CandidateStep EvalError → Place → Type 0
+IsAtStep (Ok (Ask waiting input asked_for)) place = (source : CandidateSource) × (place ≡ InCode.Inside source waiting)
+IsAtStep step place = (source : CandidateSource) × (r : Option CanonicalResponse) × (place ≡ InCode.Finishing source r)
 
 -- one that has this answer, and is to ignore candidates of these numbers, makes this request and is at this place
 abbrev pub IgnoresAt : Option CanonicalResponse → List ℕ → Requests.Request CanonicalInput (Option CanonicalResponse) → Place → Type 0
 IgnoresAt answer numbers q place =
-    (es : List Entry) (mode : TypingMode) (coinductive : Bool) (p : Standing) → IsIgnoring (result_read es answer) numbers p → IsRequest mode es q (request p) × Answers (place_read es coinductive place) p
+    (es : List Entry) (mode : TypingMode) (p : Standing) → IsIgnoring (result_read es answer) numbers p → IsRequest mode es q (request p) × Answers es place p

@@ -19,7 +19,7 @@ use Rattle.evaluation.specs.Widths.{number_of}
 use Rattle.evaluation.specs.TableOperations.{begin}
 use Rattle.evaluation.specs.Tables.{frame_tables}
 use Rattle.goal_frames.specs.Programs.{Programs, ArePrograms}
-use Rattle.goal_frames.specs.Readings.{kinds_known}
+use Rattle.evaluation.specs.StepReadings.{kinds_known}
 
 -- ---- answers that are fixed for each goal
 -- it says nothing of the goal's variables

@@ -9,7 +9,6 @@ pub mod Handlers
 pub mod RulePrograms
 pub mod RuleFitting
 pub mod Forms
-pub mod Readings
 pub mod Fitting
 pub mod Places
 pub mod Frames

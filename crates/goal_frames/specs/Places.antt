@@ -1,46 +1,30 @@
 -- Where a frame stands.
-use Rattle.std.specs.Prelude.{◌≡◌, ℕ, suc, ◌+◌, Bool, List, [], ◌∷◌, length, drop, Option}
+use Rattle.std.specs.Prelude.{◌≡◌, ℕ, suc, ◌+◌, List, [], ◌∷◌, ◌++◌, length, drop, Option, Result}
 use Rattle.type_terms.specs.Terms.{Entry}
+use Rattle.infer_table.specs.declared.canonical.CanonicalVarKind.{CanonicalVarKind}
+use Rattle.infer_table.specs.declared.input.CanonicalInput.{CanonicalInput}
 use Rattle.infer_table.specs.Responses.{AnswerTrees}
-use Rattle.evaluation.specs.Evaluating.{replies_trees}
 use Rattle.evaluation.specs.declared.candidate.CandidateSource.{CandidateSource}
+use Rattle.evaluation.specs.declared.error.EvalError.{EvalError}
+use Rattle.evaluation.specs.declared.resuming.CandidateStep.{CandidateStep}
+use Rattle.evaluation.specs.declared.resuming.OpenCandidate.{OpenCandidate}
 use Rattle.evaluation.specs.declared.TheConstants.{FIXPOINT_STEP_LIMIT}
 use Rattle.evaluation.specs.Candidate.{Spec, Considered, consider, used_numbers, IsHistory, candidate, frame}
+use Rattle.evaluation.specs.Candidates.{AreOneCandidate}
 use Rattle.evaluation.specs.Frame.{Frame, considers, answers, Finished, numbers}
 use Rattle.evaluation.specs.Handler.{Handled}
 use Rattle.evaluation.specs.History.{Position, between, inside}
+use Rattle.evaluation.specs.Lists.{Every}
+use Rattle.evaluation.specs.Replayed.{after, IsReplayed, EndsAsReplayed}
 use Rattle.evaluation.specs.Script.{Script, done, ask}
 use Rattle.evaluation.specs.Table.{workings}
 use Rattle.evaluation.specs.Content.{Question}
 use Rattle.evaluation.specs.Tables.{frame_tables}
-use Rattle.goal_frames.specs.Readings.{Shown, Shows, spec_read, result_read}
+use Rattle.evaluation.specs.StepReadings.{Shown, Shows, spec_read, result_read}
+use Rattle.evaluation.specs.Trial.{SpecTrees}
+use Rattle.goal_frames.specs.Fitting.{AnswerFits}
 use Rattle.goal_frames.specs.declared.frame.Place.{Place}
 use Rattle.goal_frames.specs.declared.frame.Place.TheVariants as InCode
-
--- a frame's place, as trees
-pub data PlaceTrees : Type 0 where
-  begun : PlaceTrees
-  -- a candidate is to be entered; a candidate is open, with the replies to its questions; an open one asks no more
-  entering : Spec (workings frame_tables) → PlaceTrees
-  inside_of : Spec (workings frame_tables) → List (Option AnswerTrees) → PlaceTrees
-  finishing : CandidateSource → Option AnswerTrees → PlaceTrees
-  -- the frame has its answer, and candidates of these numbers are to be ignored
-  ignoring : Option AnswerTrees → List ℕ → PlaceTrees
-  over : PlaceTrees
-
-abbrev pub place_read : List Entry → Bool → Place → PlaceTrees
-place_read es coinductive InCode.Begun = begun
-place_read es coinductive (InCode.Entering s) = entering (spec_read es coinductive s)
-place_read es coinductive (InCode.Inside s replies) = inside_of (spec_read es coinductive s) (replies_trees es replies.items)
-place_read es coinductive (InCode.Finishing source r) = finishing source (result_read es r)
-place_read es coinductive (InCode.Ignoring r ns at) = ignoring (result_read es r) (drop at ns.items)
-place_read es coinductive InCode.Over = over
-
--- what is left of a script after these answers, the oldest first
-abbrev pub after : {Q A X : Type 0} → Script Q A X → List A → Script Q A X
-after (done x) replies = done x
-after (ask q k) [] = ask q k
-after (ask q k) (a ∷ replies) = after (k a) replies
 
 abbrev pub Heard : Type 0
 Heard = List (Finished Question (Option AnswerTrees))
@@ -54,10 +38,15 @@ pub record IsIgnoring (a : Option AnswerTrees) (ns : List ℕ) (p : Standing) : 
   pub gone : List ℕ
   pub at : p ≡ between heard gone (answers a ns)
 
-abbrev pub Answers : PlaceTrees → Standing → Type 0
-Answers (ignoring a ns) p = IsIgnoring a ns p
-Answers over p = (a : Option AnswerTrees) × IsIgnoring a [] p
-Answers place p = ⊥
+abbrev pub Answers : List Entry → Place → Standing → Type 0
+Answers es (InCode.Ignoring r ns at) p = IsIgnoring (result_read es r) (drop at ns.items) p
+Answers es InCode.Over p = (a : Option AnswerTrees) × IsIgnoring a [] p
+Answers es place p = ⊥
+
+-- the answers of these questions, the newest first, in the order in which they came
+abbrev pub answers_in : List (Question × Option AnswerTrees) → List (Option AnswerTrees)
+answers_in [] = []
+answers_in (t ∷ told) = answers_in told ++ t.1 ∷ []
 
 module _ (h : Handled frame_tables) where
   abbrev pub candidate_of : Spec (workings frame_tables) → Script Question (Option AnswerTrees) (Option AnswerTrees)
@@ -99,8 +88,7 @@ module _ (h : Handled frame_tables) where
   pub record IsInside (xs : List Shown) (s : Spec (workings frame_tables)) (replies : List (Option AnswerTrees)) (p : Standing) : Type 0 where
     pub next : IsNext xs s
     pub told : List (Question × Option AnswerTrees)
-    -- one for each reply
-    pub each : length told ≡ length replies
+    pub replies_are : answers_in told ≡ replies
     pub at : p ≡ inside next.past.heard told (after (candidate_of s) replies) (with_result next)
 
   -- and it waits at a question
@@ -117,9 +105,32 @@ module _ (h : Handled frame_tables) where
     pub told : List (Question × Option AnswerTrees)
     pub at : p ≡ inside next.past.heard told (done a) (with_result next)
 
-  -- the position of a frame that has begun is at this place, after these candidates
-  abbrev pub Stands : List Shown → PlaceTrees → Standing → Type 0
-  Stands xs (entering s) p = IsEntering xs s p
-  Stands xs (inside_of s replies) p = IsAsking xs s replies p
-  Stands xs (finishing source a) p = IsFinishing xs source a p
-  Stands xs place p = Answers place p
+  -- a candidate of a goal with variables of these kinds, from this source, and replies to its questions: as frames have it, and as
+  -- evaluations do
+  pub record Opened (kinds : List CanonicalVarKind) (source : CandidateSource) : Type 0 where
+    pub spec : Spec (workings frame_tables)
+    pub source_is : spec.source ≡ source
+    pub evaluated : SpecTrees
+    pub one : AreOneCandidate h.coinductive kinds spec evaluated
+    pub replies : List (Option AnswerTrees)
+    pub fit : Every AnswerFits replies
+
+  module _ (es : List Entry) (goal : CanonicalInput) (xs : List Shown) where
+    -- the open candidate waits, where it does after the replies to its questions
+    pub record IsWaiting (source : CandidateSource) (waiting : OpenCandidate) (p : Standing) : Type 0 where
+      pub opened : Opened goal.variables.items source
+      pub replayed : IsReplayed goal.mode goal.variables.items opened.evaluated es opened.replies waiting
+      pub asking : IsAsking xs opened.spec opened.replies p
+
+    -- it came to this, as its evaluation does after these replies
+    pub record ComesTo (source : CandidateSource) (step : Result CandidateStep EvalError) (p : Standing) : Type 0 where
+      pub opened : Opened goal.variables.items source
+      pub ends : EndsAsReplayed goal.mode goal.variables.items opened.evaluated es opened.replies step
+      pub inside : IsInside xs opened.spec opened.replies p
+
+    -- the position of a frame that has begun is at this place, after these candidates
+    abbrev pub Stands : Place → Standing → Type 0
+    Stands (InCode.Entering s) p = IsEntering xs (spec_read es h.coinductive s) p
+    Stands (InCode.Inside source waiting) p = IsWaiting source waiting p
+    Stands (InCode.Finishing source r) p = IsFinishing xs source (result_read es r) p
+    Stands place p = Answers es place p

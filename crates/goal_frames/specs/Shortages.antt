@@ -1,5 +1,5 @@
 -- Where the frame of a goal ends for want of numbers: those of a table's unknowns, or of a canonical form's variables.
-use Rattle.std.specs.Prelude.{◌≡◌, ◌⊎◌, ◌+◌, ◌<◌, ◌++◌, length, List, [], ◌∷◌, map, Option}
+use Rattle.std.specs.Prelude.{◌+◌, ◌<◌, ◌++◌, length, List, [], ◌∷◌, map, Option}
 use Rattle.type_terms.specs.Terms.{Entry}
 use Rattle.type_terms.specs.declared.TheConstants.{MAX_INDEX}
 use Rattle.infer_table.specs.declared.canonical.CanonicalVarKind.{CanonicalVarKind}
@@ -9,13 +9,13 @@ use Rattle.search_graph.specs.declared.delegate.Reply.{Reply}
 use Rattle.search_graph.specs.declared.delegate.Reply.TheVariants as Replied
 use Rattle.evaluation.specs.Candidate as Candidates
 use Rattle.evaluation.specs.declared.candidate.Considered.{Considered}
-use Rattle.evaluation.specs.Evaluating.{replies_trees}
 use Rattle.evaluation.specs.Handler.{Handled}
+use Rattle.evaluation.specs.OpenShortages.{OpenRunsOut}
 use Rattle.evaluation.specs.Shortages.{CandidateRunsOut}
 use Rattle.evaluation.specs.Table.{workings}
 use Rattle.evaluation.specs.Trial.{spec_trees}
 use Rattle.evaluation.specs.Tables.{frame_tables}
-use Rattle.goal_frames.specs.Readings.{shown_by, Shows}
+use Rattle.evaluation.specs.StepReadings.{result_read, shown_by, Shows}
 use Rattle.goal_frames.specs.declared.frame.GoalFrame.{GoalFrame}
 use Rattle.goal_frames.specs.declared.frame.Place.{Place}
 use Rattle.goal_frames.specs.declared.frame.Place.TheVariants as InCode
@@ -33,12 +33,11 @@ NextRunsOut es h kinds done =
     → HasTooManyVariables kinds (h.next seen)
 
 -- at this place, after these candidates, the reply leads to where numbers are used up: to what comes next, or in the evaluation of the
--- open candidate over its replies
+-- open candidate. One that waits comes to no other such place than its evaluation over all its replies (`Replayed.IsReplayed`)
 abbrev pub RunsOutAt : List Entry → Handled frame_tables → CanonicalInput → List Considered → Place → Reply (Option CanonicalResponse) → Type 0
 RunsOutAt es h goal done InCode.Begun reply = NextRunsOut es h goal.variables.items done
 RunsOutAt es h goal done (InCode.Entering s) reply = CandidateRunsOut goal.mode goal.variables.items (spec_trees es s) []
-RunsOutAt es h goal done (InCode.Inside s replies) (Replied.Result r) =
-    CandidateRunsOut goal.mode goal.variables.items (spec_trees es s) (replies_trees es (replies.items ++ r ∷ []))
+RunsOutAt es h goal done (InCode.Inside source waiting) (Replied.Result r) = OpenRunsOut es waiting (result_read es r ∷ [])
 RunsOutAt es h goal done (InCode.Finishing source outcome) (Replied.Finished n) =
     NextRunsOut es h goal.variables.items (done ++ record { source = source; result = outcome; head_usages = n } ∷ [])
 RunsOutAt es h goal done place reply = ⊥
@@ -46,17 +45,3 @@ RunsOutAt es h goal done place reply = ⊥
 -- so it is with the frame, where it stands
 abbrev pub FrameRunsOut : List Entry → Handled frame_tables → GoalFrame → Reply (Option CanonicalResponse) → Type 0
 FrameRunsOut es h f reply = RunsOutAt es h f.goal f.considered.items f.place reply
-
--- the replies to the questions of the open candidate
-abbrev pub replies_at : Place → List (Option CanonicalResponse)
-replies_at (InCode.Inside s replies) = replies.items
-replies_at place = []
-
--- these are they, or no candidate is open any more
-abbrev pub HoldsReplies : List (Option CanonicalResponse) → Place → Type 0
-HoldsReplies replies place = (replies_at place ≡ replies) ⊎ (replies_at place ≡ [])
-
--- of the place after the reply: those of the place before, with this one last
-abbrev pub AddsReply : Place → Reply (Option CanonicalResponse) → Place → Type 0
-AddsReply before (Replied.Result r) after = HoldsReplies (replies_at before ++ r ∷ []) after
-AddsReply before reply after = replies_at after ≡ []

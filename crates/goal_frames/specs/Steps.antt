@@ -1,5 +1,5 @@
 -- How many steps a frame has left, by what its handler means for its goal.
-use Rattle.std.specs.Prelude.{ℕ, suc, ◌+◌, ◌-◌, ◌*◌, ◌<◌, length, List, Option}
+use Rattle.std.specs.Prelude.{ℕ, suc, ◌+◌, ◌-◌, ◌*◌, ◌<◌, ◌≤◌, length, List, Option}
 use Rattle.type_terms.specs.Terms.{Entry}
 use Rattle.infer_table.specs.declared.input.CanonicalInput.{CanonicalInput}
 use Rattle.infer_table.specs.declared.response.CanonicalResponse.{CanonicalResponse}
@@ -8,11 +8,18 @@ use Rattle.search_graph.specs.declared.delegate.Request.{Request}
 use Rattle.evaluation.specs.declared.TheConstants.{FIXPOINT_STEP_LIMIT}
 use Rattle.evaluation.specs.Handler.{Handled}
 use Rattle.evaluation.specs.History.{Reply}
+use Rattle.evaluation.specs.OpenCandidates.{questions_left}
 use Rattle.evaluation.specs.Tables.{frame_tables}
 use Rattle.goal_frames.specs.Frames.{IsDue, Steps}
 use Rattle.goal_frames.specs.declared.frame.GoalFrame.{GoalFrame}
 use Rattle.goal_frames.specs.declared.frame.Place.{Place}
 use Rattle.goal_frames.specs.declared.frame.Place.TheVariants as InCode
+
+-- a candidate that is entered asks no more questions than its nested goals are asked in all rounds, and one that goes on fewer than before
+abbrev pub AsksFewer : Place → Place → Type 0
+AsksFewer (InCode.Entering s) (InCode.Inside source waiting) = questions_left waiting ≤ FIXPOINT_STEP_LIMIT * length s.nested_goals.items
+AsksFewer (InCode.Inside source before) (InCode.Inside other waiting) = questions_left waiting < questions_left before
+AsksFewer before place = Unit {0}
 
 module _ (h : Handled frame_tables) where
   -- a frame asks no more questions
@@ -26,7 +33,7 @@ module _ (h : Handled frame_tables) where
   abbrev pub steps_at : ℕ → Place → ℕ
   steps_at considered InCode.Begun = suc (steps_after considered)
   steps_at considered (InCode.Entering s) = steps_after considered
-  steps_at considered (InCode.Inside s replies) = steps_after considered - suc (length replies.items)
+  steps_at considered (InCode.Inside source waiting) = questions_left waiting + suc (steps_after (suc considered))
   steps_at considered (InCode.Finishing source r) = suc (steps_after (suc considered))
   steps_at considered (InCode.Ignoring r numbers at) = length numbers.items - at
   steps_at considered InCode.Over = 0
@@ -35,8 +42,8 @@ module _ (h : Handled frame_tables) where
   abbrev pub steps_left : GoalFrame → ℕ
   steps_left f = steps_at (length f.considered.items) f.place
 
-  -- with each step it has fewer left
+  -- with each step it has fewer left, as its open candidate asks fewer questions
   abbrev pub StepsFall : Type 0
   StepsFall =
       (old new : List Entry) (before after : GoalFrame) (reply : Reply (Option AnswerTrees)) (q : Request CanonicalInput (Option CanonicalResponse))
-      → IsDue old h before reply → Steps old h before reply new after q → steps_left after < steps_left before
+      → IsDue old h before reply → Steps old h before reply new after q → AsksFewer before.place after.place → steps_left after < steps_left before

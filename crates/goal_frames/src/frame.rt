@@ -4,24 +4,21 @@ ghost use Rattle.std.specs.Prelude.{◌≡◌, ◌⊎◌, [], Err, IfOk, drop, L
 ghost use Rattle.type_terms.specs.Terms.{Entry, Keeps};
 ghost use Rattle.type_terms.specs.Failures.{SomeKindIsFull};
 ghost use Rattle.infer_table.specs.Goals.{GoalHeld};
-ghost use Rattle.evaluation.specs.Evaluating.{replies_trees};
-ghost use Rattle.evaluation.specs.Shortages.{CandidateRunsOut};
-ghost use Rattle.evaluation.specs.Trial.{spec_trees};
 ghost use Rattle.infer_table.specs.Canonical.{CanonicalForm};
 ghost use Rattle.infer_table.specs.declared.certainty.TypingMode.{TypingMode};
-ghost use Rattle.evaluation.specs.Lists.{Every};
-ghost use Rattle.evaluation.specs.Readings.{ResultHeld, SpecHeld, is_coinductive_step};
+ghost use Rattle.evaluation.specs.Readings.{ResultHeld, is_coinductive_step};
 ghost use Rattle.goal_frames.specs.Searches.{step_kind};
-ghost use Rattle.goal_frames.specs.Readings.{handled_for};
-ghost use Rattle.goal_frames.specs.Fitting.{ResultFits, IsOver};
+ghost use Rattle.evaluation.specs.StepReadings.{handled_for};
+ghost use Rattle.goal_frames.specs.Fitting.{ResultFits};
 ghost use Rattle.goal_frames.specs.Places.{Standing};
-ghost use Rattle.goal_frames.specs.Frames.{FrameHeld, HasHeard, IsDue, IsReply, RequestHeld, Steps, AsksHandler, IsOpen, AsksAt, IgnoresAt, reply_read};
-ghost use Rattle.goal_frames.specs.Shortages.{NextRunsOut, FrameRunsOut, replies_at, HoldsReplies, AddsReply};
+ghost use Rattle.goal_frames.specs.Frames.{FrameHeld, HasHeard, IsDue, IsReply, RequestHeld, Steps, AsksHandler, AsksAt, GoesOnWith, IgnoresAt, IsAtStep, reply_read};
+ghost use Rattle.goal_frames.specs.Shortages.{NextRunsOut, FrameRunsOut};
+ghost use Rattle.goal_frames.specs.Steps.{AsksFewer};
 
 use crate::handler::GoalHandler;
 use evaluation::{
-    CandidateSource, CandidateSpec, Considered, EvalError, EvalStep, GoalSource, HandlerStep,
-    evaluate_candidate,
+    CandidateSource, CandidateSpec, CandidateStep, Considered, EvalError, GoalSource, HandlerStep,
+    OpenCandidate, begin_candidate,
 };
 use infer_table::input::CanonicalInput;
 use infer_table::response::CanonicalResponse;
@@ -38,8 +35,8 @@ enum Place {
     Begun,
     /// It has asked to enter this candidate.
     Entering(CandidateSpec),
-    /// This candidate is open, with the replies to its questions so far.
-    Inside(CandidateSpec, Vec<Option<CanonicalResponse>>),
+    /// The open candidate, from this source, waits for the reply to its question.
+    Inside(CandidateSource, OpenCandidate),
     /// The open candidate, from this source, ended so.
     Finishing(CandidateSource, Option<CanonicalResponse>),
     /// The answer, the candidates that are ignored, and the place of the one that the frame has asked to ignore.
@@ -50,8 +47,8 @@ enum Place {
 
 /// A goal that is being evaluated: it considers its handler's candidates one after the other, and then answers as the handler says.
 ///
-/// A candidate that is open is evaluated anew, over the replies to its questions, whenever one has come. What a frame asks is a
-/// function of its goal and of the replies that it has had, as trees: no handle decides anything.
+/// A candidate that is open goes on in its own table with each reply, and no reply is read twice. What a frame asks is a function of its
+/// goal and of the replies that it has had, as trees: no handle decides anything.
 pub struct GoalFrame {
     goal: CanonicalInput,
     /// The candidates that are finished, the oldest first.
@@ -85,7 +82,6 @@ impl GoalFrame {
     pub fn new<H: GoalHandler>(alloc: Global, goal: CanonicalInput) -> GoalFrame
         ensures goal { result.goal ≡ goal }
         ensures heard { (es : List Entry) (m : H.Meaning) (mode : TypingMode) (form : CanonicalForm) → GoalHeld es goal.goal → HasHeard es (H.handled m mode form) result [] }
-        ensures replies { replies_at result.place ≡ [] }
     {
         GoalFrame {
             goal,
@@ -117,17 +113,18 @@ impl GoalFrame {
         ensures full { result ≡ Err Fault.Full → SomeKindIsFull cx.new.entries cx.new.limit
             ⊎ FrameRunsOut cx.old.entries (handled_for H.handled H.meaning handler.now cx.old.entries self.old.goal) self.old reply }
 
-        // It holds the replies to the questions of the open candidate.
-        ensures replies { IfOk result (λ _. AddsReply self.old.place reply self.new.place) }
+        // The open candidate has fewer questions left.
+        ensures fewer { IfOk result (λ _. AsksFewer self.old.place self.new.place) }
     {
         match (mem::replace(&mut self.place, Place::Over), reply) {
             (Place::Begun, Reply::Begin) => self.go_on(alloc, cx, handler),
             (Place::Entering(spec), Reply::Entered) => {
-                self.run(alloc, cx, handler, spec, Vec::new(alloc))
+                let step = begin_candidate(alloc, cx, &self.goal, &spec);
+                self.go_on_with(handler, spec.source, step)
             }
-            (Place::Inside(spec, mut replies), Reply::Result(answer)) => {
-                replies.push(answer)?;
-                self.run(alloc, cx, handler, spec, replies)
+            (Place::Inside(source, waiting), Reply::Result(answer)) => {
+                let step = waiting.resume(alloc, cx, answer);
+                self.go_on_with(handler, source, step)
             }
             (Place::Finishing(source, outcome), Reply::Finished(head_usages)) => {
                 self.considered.push(Considered {
@@ -162,7 +159,6 @@ impl GoalFrame {
             (p : Standing) → AsksHandler cx.old.entries h self.old p → AsksAt self.old.goal.mode cx.new.entries h self.new q p) }
         ensures full { result ≡ Err Fault.Full → SomeKindIsFull cx.new.entries cx.new.limit
             ⊎ NextRunsOut cx.old.entries (handled_for H.handled H.meaning handler.now cx.old.entries self.old.goal) self.old.goal.variables.items self.old.considered.items }
-        ensures replies { IfOk result (λ _. replies_at self.new.place ≡ []) }
     {
         match handler.step(alloc, cx, &self.goal, &self.considered)? {
             HandlerStep::Consider(spec) => {
@@ -176,37 +172,28 @@ impl GoalFrame {
         }
     }
 
-    /// Evaluates the open candidate over the replies to its questions.
-    fn run<H: GoalHandler>(
+    /// What the open candidate, from this source, came to.
+    fn go_on_with<H: GoalHandler>(
         &mut self,
-        alloc: Global,
-        cx: &mut Interner,
         handler: &H,
-        spec: CandidateSpec,
-        replies: Vec<Option<CanonicalResponse>>,
+        source: CandidateSource,
+        step: Result<CandidateStep, EvalError>,
     ) -> Result<Request<CanonicalInput, Option<CanonicalResponse>>, Fault>
-        requires held { FrameHeld cx.old.entries self.old }
-        requires spec { SpecHeld cx.old.entries spec × IsOver self.old.goal.variables.items cx.old.entries spec }
-        requires replies { Every (ResultHeld cx.old.entries) replies.items × Every (ResultFits cx.old.entries) replies.items }
         ensures goal { self.new.goal ≡ self.old.goal }
-        ensures keeps { Keeps cx.old.entries cx.new.entries }
-        ensures limit { cx.new.limit ≡ cx.old.limit }
-        ensures held { IfOk result (λ q. FrameHeld cx.new.entries self.new × RequestHeld cx.new.entries q) }
-        ensures asks { IfOk result (λ q. let h = handled_for H.handled H.meaning handler.now cx.old.entries self.old.goal in
-            (p : Standing) → IsOpen cx.old.entries h self.old spec replies.items p → AsksAt self.old.goal.mode cx.new.entries h self.new q p) }
-        ensures full { result ≡ Err Fault.Full → SomeKindIsFull cx.new.entries cx.new.limit
-            ⊎ CandidateRunsOut self.old.goal.mode self.old.goal.variables.items (spec_trees cx.old.entries spec) (replies_trees cx.old.entries replies.items) }
-        ensures replies { IfOk result (λ _. HoldsReplies replies.items self.new.place) }
+        ensures place { IfOk result (λ _. IsAtStep step self.new.place) }
+        ensures goes_on { IfOk result (λ q. (old new : List Entry) →
+            GoesOnWith old new (handled_for H.handled H.meaning handler.now old self.old.goal) self.old source step self.new q) }
+        ensures fault { (f : Fault) → result ≡ Err f → step ≡ Err (EvalError.Fault f) }
     {
-        match evaluate_candidate(alloc, cx, &self.goal, &spec, &replies) {
-            Ok(EvalStep::Ask(input, source)) => {
+        match step {
+            Ok(CandidateStep::Ask(waiting, input, asked_for)) => {
                 let def_id = self.goal.goal.predicate.def_id();
-                let kind = kind_of_step(handler.trait_is_coinductive(def_id), source);
-                self.place = Place::Inside(spec, replies);
+                let kind = kind_of_step(handler.trait_is_coinductive(def_id), asked_for);
+                self.place = Place::Inside(source, waiting);
                 Ok(Request::Evaluate(input, kind))
             }
-            Ok(EvalStep::Ready(answer)) => Ok(self.finish(spec.source, Some(answer))),
-            Err(EvalError::NoSolution) => Ok(self.finish(spec.source, None)),
+            Ok(CandidateStep::Ready(answer)) => Ok(self.finish(source, Some(answer))),
+            Err(EvalError::NoSolution) => Ok(self.finish(source, None)),
             Err(EvalError::Fault(fault)) => Err(fault),
         }
     }
@@ -235,7 +222,6 @@ impl GoalFrame {
         ensures considered { self.new.considered ≡ self.old.considered }
         ensures held { (es : List Entry) → FrameHeld es self.old → ResultHeld es answer → ResultFits es answer → FrameHeld es self.new × RequestHeld es result }
         ensures asks { IgnoresAt answer (drop at ignored.items) result self.new.place }
-        ensures replies { replies_at self.new.place ≡ [] }
     {
         match ignored.get(at) {
             Some(number) => {

@@ -12,7 +12,7 @@ ghost use Rattle.evaluation.specs.Readings.{IsOfTrait, ConsideredHeld, StepHeld}
 ghost use Rattle.evaluation.specs.Content.{Fact};
 ghost use Rattle.evaluation.specs.TableOperations.{begin};
 ghost use Rattle.evaluation.specs.Tables.{frame_tables};
-ghost use Rattle.goal_frames.specs.Readings.{handled_for, kinds_known, HasHistory, IsNextAfter};
+ghost use Rattle.evaluation.specs.StepReadings.{handled_for, kinds_known, HasHistory, IsNextAfter};
 ghost use Rattle.goal_frames.specs.Fitting.{ConsideredFits, StepFits};
 ghost use Rattle.goal_frames.specs.Shortages.{NextRunsOut};
 ghost use Rattle.goal_frames.specs.HandlerPrograms.{HandlersArePrograms, InstancesAreGoals, RulesAreOf, KindsAreOf, KeepNumbers, KeepWorlds, LookInCoherenceOnly};

@@ -9,7 +9,7 @@ ghost use Rattle.evaluation.specs.Lists.{Every};
 ghost use Rattle.evaluation.specs.Readings.{ResultHeld};
 ghost use Rattle.evaluation.specs.TableAnswers.{IsWellFormed};
 ghost use Rattle.goal_frames.specs.Merges.{merge_of};
-ghost use Rattle.goal_frames.specs.Readings.{result_read};
+ghost use Rattle.evaluation.specs.StepReadings.{result_read};
 
 use evaluation::{flounder, try_merge_candidates};
 use infer_table::canonical::CanonicalVarKind;

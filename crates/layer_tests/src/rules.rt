@@ -110,7 +110,7 @@ const IMPL_FOR_FOUL: Option<Told> = Some(Told {
     equal: true,
 });
 
-/// `impl Safe for Part<bool>`, at another type.
+/// `impl Safe for Part<bool>`, at a parameter: at another type, as `Part<u8>`, the impl is passed over.
 const IMPL_FOR_OTHER_PART: Option<Told> = Some(Told {
     source: CandidateSource::Impl(ImplId { index: 40 }),
     certainty: Certainty::Yes,
@@ -153,7 +153,7 @@ const SELF_TYPES: [Row; 31] = [
 ];
 
 /// Auto traits, which ask what a type is made of.
-const AUTO_TRAITS: [Row; 20] = [
+const AUTO_TRAITS: [Row; 21] = [
     (b"u8: Safe", MISC),
     (b"i64: Safe", MISC),
     (b"bool: Safe", MISC),
@@ -171,7 +171,8 @@ const AUTO_TRAITS: [Row; 20] = [
     (b"Tail<char>: Safe where u8: Safe, char: Safe", MISC),
     (b"Part<u8>: Calm where u8: Calm", MISC),
     (b"Foul: Safe where Foul: Sup", IMPL_FOR_FOUL),
-    (b"Part<u8>: Safe", IMPL_FOR_OTHER_PART),
+    (b"Part<u8>: Safe", None),
+    (b"<T> Part<T>: Safe", IMPL_FOR_OTHER_PART),
     (b"dyn Sup: Safe", None),
     (b"<T> T: Safe", None),
 ];

@@ -104,11 +104,14 @@ const GOALS: [(&[Step], Rule, u8); 24] = [
     ),
 ];
 
+/// Goals 45 to 52: each asks all others of them by coinductive steps, so that they would be computed again some 13,000 times.
+const CLIQUE: usize = 8;
+
 /// What a search finds: the answer, how many frames it started, and whether it met a limit.
 type Found = (Result<u8, GraphFault>, u64, bool);
 
 /// A depth and a goal that are asked with a new cache, and what is found.
-const ALONE: [(usize, usize, Found); 16] = [
+const ALONE: [(usize, usize, Found); 17] = [
     (8, 7, (Ok(YES), 8, false)),
     (8, 9, (Ok(OVERFLOW), 9, true)),
     (8, 21, (Ok(YES), 1, false)),
@@ -125,10 +128,12 @@ const ALONE: [(usize, usize, Found); 16] = [
     (8, 33, (Err(GraphFault::Protocol), 1, false)),
     (8, 34, (Err(GraphFault::Protocol), 1, false)),
     (8, 35, (Ok(YES), 2, false)),
+    // It is given up at the 1,024th result that is not kept, while six goals are evaluated.
+    (16, 45, (Ok(OVERFLOW), 1030, true)),
 ];
 
 /// The same with one cache, in this order.
-const TOGETHER: [(usize, usize, Found); 8] = [
+const TOGETHER: [(usize, usize, Found); 11] = [
     (8, 36, (Ok(NO), 12, true)),
     // The overflow comes from the cache, and divides the depth too.
     (8, 36, (Ok(NO), 0, false)),
@@ -140,6 +145,10 @@ const TOGETHER: [(usize, usize, Found); 8] = [
     // A result is not used where a goal is evaluated that it rests on.
     (1, 44, (Ok(OVERFLOW), 2, true)),
     (1, 21, (Ok(YES), 1, false)),
+    // A goal that was given up is kept for goals of its depth, and each call counts anew.
+    (16, 45, (Ok(OVERFLOW), 1030, true)),
+    (16, 45, (Ok(OVERFLOW), 0, false)),
+    (17, 45, (Ok(OVERFLOW), 1030, true)),
 ];
 
 /// Adds a goal.
@@ -159,6 +168,21 @@ fn add(
     Ok(())
 }
 
+/// Adds goals that each ask all others of them.
+fn add_clique(alloc: Global, scripts: &mut Scripts) -> Result<(), AllocError> {
+    let first = CHAIN + GOALS.len();
+    for goal in first..first + CLIQUE {
+        let mut steps: Vec<Step> = Vec::new(alloc);
+        for other in first..first + CLIQUE {
+            if other != goal {
+                steps.push(Step::Ask(other, PathKind::Coinductive))?;
+            }
+        }
+        add(alloc, scripts, &steps, Rule::All, YES)?;
+    }
+    Ok(())
+}
+
 /// All goals.
 fn all_goals(alloc: Global) -> Result<Scripts, AllocError> {
     let mut scripts = Scripts {
@@ -172,6 +196,7 @@ fn all_goals(alloc: Global) -> Result<Scripts, AllocError> {
     for (steps, rule, otherwise) in GOALS {
         add(alloc, &mut scripts, steps, rule, otherwise)?;
     }
+    add_clique(alloc, &mut scripts)?;
     Ok(scripts)
 }
 

@@ -3,9 +3,9 @@
 use Rattle.std.proofs.Common.{◌≡◌, ℕ, zero, ◌<◌, Bool, true, false, not, List, [], ◌∷◌, refl, ap, sym, ◌∙◌, ◌&&◌, ◌||◌, ◌==◌, if◌then◌else◌, subst, ◌⊎◌, inl, inr, arith, map, length, ltb, IsTrue}
 use Rattle.std.proofs.lemmas.Bool.Decides.{nat_tests}
 use Rattle.std.specs.List.{flat_map, list_all, list_any}
-use Rattle.model.specs.Label.{Label, bool, char, never, array, int, uint, adt, ref, raw_pointer, param, inside}
+use Rattle.model.specs.Label.{Label, Sort, bool, char, never, array, int, uint, adt, ref, raw_pointer, param, inside}
 use Rattle.model.specs.Codes.{same}
-use Rattle.model.specs.Trees.{Trees, none, tree, ◌+++◌, instantiate, arguments, some_node, Fits}
+use Rattle.model.specs.Trees.{Trees, none, tree, ◌+++◌, instantiate, arguments, some_node, Fits, is_sort}
 use Rattle.model.specs.Worlds.{World, Reference, CrateDecl, StructDecl, TraitDecl, ImplDecl, core, structs_named, traits_named, view_of, with_args, all_with_args}
 use Rattle.model.specs.Terms.{IsTerms, IsCovered}
 use Rattle.model.specs.Rules.{sized_leaf, sized_struct, built_in, by_impl, Rule, row, impl_rules, sized_rules, is_auto, is_coinductive, same_reference, sized, clone, copy, asked, last_asked, each_asked, fields_of, strict_supertraits}
@@ -13,17 +13,19 @@ use Rattle.model.specs.Proofs.{In, Every, HasProof}
 use Rattle.model.specs.Walks.{keeps_orphan_rule}
 use Rattle.model.specs.Answers.{is_closed}
 use Rattle.model.specs.Core.{core_world, box, box_impl, copy_impls, type_param}
+use Rattle.model.specs.Supers.{mentions_as, dyns_of_bounds}
 use Rattle.model.specs.LinkedSet.{LinkedSet, in_scope, is_stray, dyns_rise, all_written}
 use Rattle.model.proofs.Members.{here, there, in-cases, in-nothing, in-append, in-left, in-filter, flat-in, some-member, member-some, same-number, self-number, not-both}
 use Rattle.model.proofs.Walking.{left, right, both, or-cases}
 use Rattle.model.proofs.TreeLaws.{shift-zero}
 use Rattle.model.proofs.Matching.{Occurs, same-sound}
-use Rattle.model.proofs.Fitting.{ByImpl, impl-rule, same-reference-sound, not-true, no-left, no-right}
+use Rattle.model.proofs.Fitting.{is-sort-sound, ByImpl, impl-rule, same-reference-sound, not-true, no-left, no-right}
 use Rattle.model.proofs.NoHolds.{member-each}
 use Rattle.model.proofs.OpenWorld.{Bare, bare-within}
 use Rattle.model.proofs.ProofLists.{by-rule}
 use Rattle.model.proofs.Applies.{applies, fits-complete, same-reference-complete}
 use Rattle.model.proofs.SupersProved.{CoreLike, Supers, in-sized, clone-supers, copy-supers, copy-has, copy-inductive, supers-of-all}
+use Rattle.model.proofs.CoreThere.{whole-there, whole-later}
 
 -- Tests
 -- no two have one key
@@ -56,6 +58,27 @@ abbrev pub nothing-written : List Reference → Bool
 nothing-written [] = true
 nothing-written (b ∷ bs) = false
 
+-- each parameter of k stands in h, as the same sort
+abbrev covers_as : Trees → Trees → Bool
+covers_as none h = true
+covers_as (tree (param s i) c o) h = mentions_as s i h && covers_as o h
+covers_as (tree l c o) h = covers_as c h && covers_as o h
+
+covers-all : (s : Sort) (n : ℕ) (k h : Trees) → covers_as k h ≡ true → mentions_as s n k ≡ true → mentions_as s n h ≡ true
+covers-all s n none h e m = cc
+covers-all s n (tree (param r j) c o) h e m = by (or-cases (is_sort s r && (n == j)) (mentions_as s n o) m) (covers-all s n o h (right (mentions_as r j h) _ e))
+  where
+    by : (is_sort s r && (n == j) ≡ true) ⊎ (mentions_as s n o ≡ true) → (mentions_as s n o ≡ true → mentions_as s n h ≡ true) → mentions_as s n h ≡ true
+    by (inl q) f =
+        subst (λ x. mentions_as s x h ≡ true) (sym (same-number n j (right (is_sort s r) _ q)))
+        (subst (λ x. mentions_as x j h ≡ true) (sym (is-sort-sound s r (left (is_sort s r) _ q))) (left (mentions_as r j h) _ e))
+    by (inr q) f = f q
+covers-all s n (tree l c o) h e m = by (or-cases (mentions_as s n c) (mentions_as s n o) m) (covers-all s n c h (left (covers_as c h) _ e)) (covers-all s n o h (right (covers_as c h) _ e))
+  where
+    by : (mentions_as s n c ≡ true) ⊎ (mentions_as s n o ≡ true) → (mentions_as s n c ≡ true → mentions_as s n h ≡ true) → (mentions_as s n o ≡ true → mentions_as s n h ≡ true) → mentions_as s n h ≡ true
+    by (inl q) f g = f q
+    by (inr q) f g = g q
+
 -- what can be tested of a world without impls of auto traits, whose crates and traits are numbered as they come
 pub record Tested (W : World) : Type 0 where
   pub terms : IsTerms W
@@ -70,6 +93,10 @@ pub record Tested (W : World) : Type 0 where
   pub clauses : list_all (λ (i : ImplDecl). list_all (λ k. not (some_node is_stray k.args)) i.clauses) W.impls ≡ true
   pub fields : list_all (λ (x : StructDecl). list_all (λ t. not (some_node is_stray t)) x.fields) W.structs ≡ true
   pub dyns : all_written dyns_rise W ≡ true
+  pub plain_headers : list_all (λ (i : ImplDecl). not (some_node is_stray i.header.args)) W.impls ≡ true
+  pub covered : list_all (λ (i : ImplDecl). list_all (λ k. covers_as k.args i.header.args) i.clauses) W.impls ≡ true
+  pub sized_alone : list_all (λ (i : ImplDecl). not (i.header.trait == sized)) W.impls ≡ true
+  pub dyns_hold_bounds : all_written dyns_of_bounds W ≡ true
   pub uses : list_all (λ (x : CrateDecl). list_all (λ u. ltb u x.name && list_any (λ (y : CrateDecl). y.name == u) W.crates) x.uses) W.crates ≡ true
   pub orphans : list_all (λ (i : ImplDecl). keeps_orphan_rule W i.home i.header) W.impls ≡ true
 
@@ -99,26 +126,33 @@ pub tested-linked : (W : World) → Tested W
     → ((i : ImplDecl) → In i W.impls → (A : Trees) → IsTrue (is_closed A) → Fits A i.header.args → Every (HasProof W []) (map (with_args A) i.clauses) → Supers W (with_args A i.header))
     → LinkedSet W [] (λ n. n)
 tested-linked W t supers = record {
-  terms = t.terms;
-  core_there = t.core_there;
-  one_struct = distinct-one (λ (x : StructDecl). x.name) W.structs t.structs;
-  one_trait = distinct-one (λ (x : TraitDecl). x.name) W.traits t.traits;
-  one_impl = distinct-one (λ (x : ImplDecl). x.name) W.impls t.impls;
-  headers_in_scope = λ i h. member-each (λ (j : ImplDecl). in_scope W j.home j.header) W.impls i t.headers h;
-  autos_bare = λ x h e. bare-auto x (member-each (λ (y : TraitDecl). not y.is_auto || nothing-written y.bounds) W.traits x t.autos h) e;
-  bounds_in_scope = λ x b h g. left (in_scope W x.home b) _ (bound x b h g);
-  trait_rank = λ n. n;
-  bounds_before = λ x b h g. less b.trait x.name (left (ltb b.trait x.name) _ (right (in_scope W x.home b) _ (bound x b h g)));
-  autos_at_home = λ i h e. absurd (not-both (is_auto W i.header.trait) e (not-true (is_auto W i.header.trait) (member-each (λ (j : ImplDecl). not (is_auto W j.header.trait)) W.impls i t.not_of_autos h)));
-  plain_clauses = λ i k h g. not-true (some_node is_stray k.args) (each-each (λ (j : ImplDecl). j.clauses) (λ j q. not (some_node is_stray q.args)) W.impls t.clauses i k h g);
-  plain_fields = λ x y h g. not-true (some_node is_stray y) (each-each (λ (z : StructDecl). z.fields) (λ z q. not (some_node is_stray q)) W.structs t.fields x y h g);
-  plain_bounds = λ x b h g. not-true (some_node is_stray b.args) (right (ltb b.trait x.name) _ (right (in_scope W x.home b) _ (bound x b h g)));
-  dyns_in_order = t.dyns;
-  core_first = refl;
-  uses_before = λ x u h g. less u x.name (left (ltb u x.name) _ (used x u h g));
-  uses_stand = λ x u h g. right (ltb u x.name) _ (used x u h g);
-  as_answered = tt;
-  orphan_rule = λ i h. member-each (λ (j : ImplDecl). keeps_orphan_rule W j.home j.header) W.impls i t.orphans h;
+  joined = record {
+    terms = t.terms;
+    core_there = whole-there W t.core_there;
+    core_later = whole-later W t.core_there;
+    one_struct = distinct-one (λ (x : StructDecl). x.name) W.structs t.structs;
+    one_trait = distinct-one (λ (x : TraitDecl). x.name) W.traits t.traits;
+    one_impl = distinct-one (λ (x : ImplDecl). x.name) W.impls t.impls;
+    headers_in_scope = λ i h. member-each (λ (j : ImplDecl). in_scope W j.home j.header) W.impls i t.headers h;
+    autos_bare = λ x h e. bare-auto x (member-each (λ (y : TraitDecl). not y.is_auto || nothing-written y.bounds) W.traits x t.autos h) e;
+    bounds_in_scope = λ x b h g. left (in_scope W x.home b) _ (bound x b h g);
+    trait_rank = λ n. n;
+    bounds_before = λ x b h g. less b.trait x.name (left (ltb b.trait x.name) _ (right (in_scope W x.home b) _ (bound x b h g)));
+    autos_at_home = λ i h e. absurd (not-both (is_auto W i.header.trait) e (not-true (is_auto W i.header.trait) (member-each (λ (j : ImplDecl). not (is_auto W j.header.trait)) W.impls i t.not_of_autos h)));
+    plain_headers = λ i h. not-true (some_node is_stray i.header.args) (member-each (λ (j : ImplDecl). not (some_node is_stray j.header.args)) W.impls i t.plain_headers h);
+    clauses_covered = λ i k h g s n. covers-all s n k.args i.header.args (each-each (λ (j : ImplDecl). j.clauses) (λ j q. covers_as q.args j.header.args) W.impls t.covered i k h g);
+    sized_alone = λ i h. not-true (i.header.trait == sized) (member-each (λ (j : ImplDecl). not (j.header.trait == sized)) W.impls i t.sized_alone h);
+    dyns_hold_bounds = t.dyns_hold_bounds;
+    plain_clauses = λ i k h g. not-true (some_node is_stray k.args) (each-each (λ (j : ImplDecl). j.clauses) (λ j q. not (some_node is_stray q.args)) W.impls t.clauses i k h g);
+    plain_fields = λ x y h g. not-true (some_node is_stray y) (each-each (λ (z : StructDecl). z.fields) (λ z q. not (some_node is_stray q)) W.structs t.fields x y h g);
+    plain_bounds = λ x b h g. not-true (some_node is_stray b.args) (right (ltb b.trait x.name) _ (right (in_scope W x.home b) _ (bound x b h g)));
+    dyns_in_order = t.dyns;
+    core_first = refl;
+    uses_before = λ x u h g. less u x.name (left (ltb u x.name) _ (used x u h g));
+    uses_stand = λ x u h g. right (ltb u x.name) _ (used x u h g);
+    as_answered = tt;
+    orphan_rule = λ i h. member-each (λ (j : ImplDecl). keeps_orphan_rule W j.home j.header) W.impls i t.orphans h;
+  };
   supers_proved = supers;
 }
   where
@@ -394,6 +428,9 @@ covered i h = record {
         zero-only (inl e) = subst (λ n. Occurs n i.header.args ≡ true) (sym (same-number j 0 e)) (right (same k.args (type_param 0)) _ q)
         zero-only (inr e) = cc
 
+pub core-covered : (i : ImplDecl) → In i core_world.impls → IsCovered i
+core-covered i h = covered i (member-each covers core_world.impls i all-covered h)
+
 -- supertraits of what an impl of core concludes, in a world with further impls
 module _ (W : World) (k : CoreLike W) (boxes : structs_named W box ≡ structs_named core_world box) (more : (i : ImplDecl) → In i core_world.impls → In i W.impls)
     (others : (i : ImplDecl) → In i W.impls → In i core_world.impls ⊎ ((r : Reference) (u : Rule) → In u (impl_rules r i) → Supers W r)) where
@@ -428,6 +465,10 @@ core-tested = record {
   clauses = refl;
   fields = refl;
   dyns = refl;
+  plain_headers = refl;
+  covered = refl;
+  sized_alone = refl;
+  dyns_hold_bounds = refl;
   uses = refl;
   orphans = refl;
 }

@@ -5,19 +5,17 @@ use Rattle.model.specs.Codes.{same}
 use Rattle.model.specs.Label.{Label, param, placeholder, infer, canonical, bound, inside, shift_label, array, slice, tuple, adt, raw_pointer, ref, fn_ptr, dynamic, principal, auto_trait}
 use Rattle.model.specs.Trees.{Trees, none, tree, ◌+++◌, instantiate, shift, nth, some_node, arguments}
 use Rattle.model.specs.Worlds.{World, Reference, StructDecl, TraitDecl, ImplDecl, structs_named, traits_named, sees, view_of, with_args, all_with_args}
-use Rattle.model.specs.Walks.{is_known_in}
+use Rattle.model.specs.Walks.{is_known, is_known_in}
 use Rattle.model.specs.Rules.{BuiltIn, sized_tuple, sized_struct, copy_tuple, auto_element, auto_tuple, auto_struct, fn_ptr_call, object_auto, object_principal, equal_rows, upcasts_principal, upcasts_autos, are_declared, unsize_array, unsize_to_dyn, unsize_dyn, unsize_upcast, unsize_struct, Rule, rules, impl_rules, built_in_rules, plain_rules, sized_rules, copy_rules, tuple_rules, fn_ptr_rules, call_rules, but_last, auto_rules, auto_rules_plain, unsize_rules, unsize_array_rules, unsize_to_dyn_rules, unsize_upcast_rules, unsize_struct_rules, some_unsizing, with_unsizing, last_unsizes, object_rules, principal_with, autos_with, elaborated, is_declared, are_dyn_compatible, is_dyn, same_reference, is_auto, is_written, is_fn_trait, sized, copy, clone, tuple_trait, fn_ptr_trait, unsize, row, asked, last_asked, each_asked, together, fields_of, strict_supertraits, strict_supertraits_within, written_supertraits}
 use Rattle.model.specs.Proofs.{Entry, In, Every, HasProof}
 use Rattle.model.specs.Answers.{is_closed, is_open, children, short_chains, is_possible, is_bounded, written_in, FixedLeft, FixedRight, IsFixedClause}
 use Rattle.model.specs.Renumbering.{View}
-use Rattle.model.specs.LinkedSet.{LinkedSet, Unknown, is_stray, Cleared}
+use Rattle.model.specs.LinkedSet.{JoinedSet, Unknown, is_stray, Cleared}
 use Rattle.model.proofs.Members.{here, there, in-cases, in-nothing, in-filter, filter-in, in-append, in-left, in-right, in-flat, flat-in, in-map, not-both}
 use Rattle.model.proofs.Walking.{left, right, both, or-left, or-right}
 use Rattle.model.proofs.Fitting.{impl-rule, closed-arguments, not-true, or-no, append-shut, head-shut, child-shut, next-shut}
 use Rattle.model.proofs.Entries.{map-in, entry-proved}
 use Rattle.model.proofs.RuleLists.{equal-all}
-use Rattle.model.proofs.OpenWorld.{open-world}
-use Rattle.model.proofs.ViewKnown.{unknown-by-view}
 
 pub member-each : {A : Type 0} (p : A → Bool) (xs : List A) (x : A) → list_all p xs ≡ true → In x xs → p x ≡ true
 member-each p [] x h g = absurd (in-nothing x g)
@@ -82,7 +80,7 @@ pub supers-of-view : (W : World) (c : ℕ) (r s : Reference) → In s (strict_su
 supers-of-view W c r s h = supers-more (length (view_of W c).traits) (length W.traits) (fewer-length (λ (y : TraitDecl). sees W c y.home) W.traits) W c r s h
 
 -- `no` holds, where children of closed references are closed
-abbrev Shut : World → ℕ → Type 0
+abbrev pub Shut : World → ℕ → Type 0
 Shut V c = (r s : Reference) → is_closed r.args ≡ true → In s (children V c r) → is_closed s.args ≡ true
 
 in-child : (V : World) (c : ℕ) (r p : Reference) (u : Rule) → In u (rules V [] r) → In p u.premises → In p (children V c r)
@@ -96,40 +94,56 @@ in-unknown V c r p e g = in-right p (flat_map (λ (v : Rule). v.premises) (rules
     by true q = cc
     by false q = g
 
-pub proved-is-possible : (W : World) (vs : List View) (rank : ℕ → ℕ) → LinkedSet W vs rank → (c : ℕ) → Shut (view_of W c) c
-    → (n : ℕ) (r : Reference) → is_closed r.args ≡ true → short_chains n (view_of W c) c r ≡ true → HasProof W [] r → is_possible n (view_of W c) c r ≡ true
-proved-is-possible W vs rank l c sh zero r z h p = cc
-proved-is-possible W vs rank l c sh (suc n) r z h p =
-    by (open-world W vs rank l c r z e.rule rule.0 rule.1) (λ s g q. proved-is-possible W vs rank l c sh n s (sh r s z g) (member-each (λ x. short_chains n (view_of W c) c x) (children (view_of W c) c r) s h g) q)
-  where
-    m : (e : Entry) × In e p.0 × (e.of ≡ r)
-    m = map-in (λ (e : Entry). e.of) p.0 r p.2
+-- V is what c could tell: what W concludes V gives, or it is unknown to c
+module _ (W : World) (c : ℕ) (V : World)
+    (gives : (r : Reference) → is_closed r.args ≡ true → (u : Rule) → In u (rules W [] r) → Every (HasProof W []) u.premises → In u (rules V [] r) ⊎ Unknown W c r)
+    (unknown : (r : Reference) → is_known W c r ≡ false → is_known_in V c r ≡ false)
+    (supers : (r s : Reference) → In s (strict_supertraits V r) → In s (strict_supertraits W r))
+    (sh : Shut V c) where
+  proved-is-possible : (n : ℕ) (r : Reference) → is_closed r.args ≡ true → short_chains n V c r ≡ true → HasProof W [] r → is_possible n V c r ≡ true
+  proved-is-possible zero r z h p = cc
+  proved-is-possible (suc n) r z h p =
+      by (gives r z e.rule rule.0 rule.1) (λ s g q. proved-is-possible n s (sh r s z g) (member-each (λ x. short_chains n V c x) (children V c r) s h g) q)
+    where
+      m : (e : Entry) × In e p.0 × (e.of ≡ r)
+      m = map-in (λ (e : Entry). e.of) p.0 r p.2
 
-    e : Entry
-    e = m.0
+      e : Entry
+      e = m.0
 
-    rule : In e.rule (rules W [] r) × Every (HasProof W []) e.rule.premises
-    rule = let a = entry-proved W [] p.0 p.1 e m.1 in (subst (λ q. In e.rule (rules W [] q)) m.2 a.0, a.1)
+      rule : In e.rule (rules W [] r) × Every (HasProof W []) e.rule.premises
+      rule = let a = entry-proved W [] p.0 p.1 e m.1 in (subst (λ q. In e.rule (rules W [] q)) m.2 a.0, a.1)
 
-    by : In e.rule (rules (view_of W c) [] r) ⊎ Unknown W c r → ((s : Reference) → In s (children (view_of W c) c r) → HasProof W [] s → is_possible n (view_of W c) c s ≡ true)
-        → is_possible (suc n) (view_of W c) c r ≡ true
-    by (inl g) f =
-        or-left _ _ (member-some-of (λ u. list_all (λ x. is_possible n (view_of W c) c x) u.premises) (rules (view_of W c) [] r) e.rule g
-        (each-member (λ x. is_possible n (view_of W c) c x) e.rule.premises
-        (λ x k. f x (in-child (view_of W c) c r x e.rule g k) (every-member (HasProof W []) e.rule.premises x rule.1 k))))
-    by (inr g) f =
-        or-right _ _ (both (not (is_known_in (view_of W c) c r)) _ (ap not unknown)
-        (each-member (λ x. is_possible n (view_of W c) c x) (strict_supertraits (view_of W c) r)
-        (λ x k. f x (in-unknown (view_of W c) c r x unknown k) (every-member (HasProof W []) (strict_supertraits W r) x g.supers_stand (supers-of-view W c r x k)))))
-      where
-        unknown : is_known_in (view_of W c) c r ≡ false
-        unknown = unknown-by-view W (l.one_struct, l.one_trait) c r g.unknown
+      by : In e.rule (rules V [] r) ⊎ Unknown W c r → ((s : Reference) → In s (children V c r) → HasProof W [] s → is_possible n V c s ≡ true) → is_possible (suc n) V c r ≡ true
+      by (inl g) f =
+          or-left _ _ (member-some-of (λ u. list_all (λ x. is_possible n V c x) u.premises) (rules V [] r) e.rule g
+          (each-member (λ x. is_possible n V c x) e.rule.premises
+          (λ x k. f x (in-child V c r x e.rule g k) (every-member (HasProof W []) e.rule.premises x rule.1 k))))
+      by (inr g) f =
+          or-right _ _ (both (not (is_known_in V c r)) _ (ap not not-known)
+          (each-member (λ x. is_possible n V c x) (strict_supertraits V r)
+          (λ x k. f x (in-unknown V c r x not-known k) (every-member (HasProof W []) (strict_supertraits W r) x g.supers_stand (supers r x k)))))
+        where
+          not-known : is_known_in V c r ≡ false
+          not-known = unknown r g.unknown
 
-pub no-holds-if : (W : World) (vs : List View) (rank : ℕ → ℕ) → LinkedSet W vs rank → (c : ℕ) → Shut (view_of W c) c
-    → (limit : ℕ) (r : Reference) → is_bounded limit (view_of W c) c r ≡ true → is_possible limit (view_of W c) c r ≡ false → HasProof W [] r → ⊥
-no-holds-if W vs rank l c sh limit r b h p =
-    not-both (is_possible limit (view_of W c) c r)
-    (proved-is-possible W vs rank l c sh limit r (left (is_closed r.args) _ b) (right (written_in (view_of W c) r) _ (right (is_closed r.args) _ b)) p) h
+  -- NO HOLDS: what is bounded and not possible by V has no proof in W
+  pub no-holds : (limit : ℕ) (r : Reference) → is_bounded limit V c r ≡ true → is_possible limit V c r ≡ false → HasProof W [] r → ⊥
+  no-holds limit r b h p =
+      not-both (is_possible limit V c r) (proved-is-possible limit r (left (is_closed r.args) _ b) (right (written_in V r) _ (right (is_closed r.args) _ b)) p) h
+
+  -- so a pair with a fixed clause that is bounded and not possible by V is cleared
+  cleared-by-no : (limit : ℕ) (i j : ImplDecl) (k r : Reference) → FixedLeft i j k r ⊎ FixedRight i j k r → is_bounded limit V c r ≡ true → is_possible limit V c r ≡ false → Cleared W i j
+  cleared-by-no limit i j k r (inl f) b h m ci cj =
+      no-holds limit r b h
+      (subst (HasProof W []) (f.1 m) (every-member (HasProof W []) (map (with_args m.left) i.clauses) (with_args m.left k) ci (in-map (with_args m.left) i.clauses k f.0)))
+  cleared-by-no limit i j k r (inr f) b h m ci cj =
+      no-holds limit r b h
+      (subst (HasProof W []) (f.1 m) (every-member (HasProof W []) (map (with_args m.right) j.clauses) (with_args m.right k) cj (in-map (with_args m.right) j.clauses k f.0)))
+
+  pub impossible-clears : (limit : ℕ) (i j : ImplDecl) (r : Reference) → IsFixedClause i j r → is_bounded limit V c r ≡ true → is_possible limit V c r ≡ false → Cleared W i j
+  impossible-clears limit i j r (inl f) b h = cleared-by-no limit i j f.0 r (inl f.1) b h
+  impossible-clears limit i j r (inr f) b h = cleared-by-no limit i j f.0 r (inr f.1) b h
 
 -- Children of closed references are closed
 abbrev Shuts : Trees → Type 0
@@ -154,7 +168,7 @@ nth-shut (tree l c o) (suc i) h = nth-shut o i (next-shut is_open l c o h)
 closed-node : (l : Label) (c o : Trees) → is_open l ≡ false → Shuts c → Shuts o → Shuts (tree l c o)
 closed-node l c o e f g = or-no (is_open l || some_node is_open c) (some_node is_open o) (or-no (is_open l) (some_node is_open c) e f) g
 
-plain-shut : (d : ℕ) (A t : Trees) → Shuts A → some_node is_stray t ≡ false → Shuts (instantiate d A t)
+pub plain-shut : (d : ℕ) (A t : Trees) → Shuts A → some_node is_stray t ≡ false → Shuts (instantiate d A t)
 plain-shut d A none h g = refl
 plain-shut d A (tree (param s i) c o) h g =
     append-shut is_open (shift zero d (nth A i)) (instantiate d A o) (shift-keeps zero d (nth A i) ∙ nth-shut A i h)
@@ -166,7 +180,7 @@ plain-shut d A (tree (bound s k i) c o) h g = cc
 plain-shut d A (tree l c o) h g =
     closed-node l (instantiate (inside l d) A c) (instantiate d A o) refl (plain-shut (inside l d) A c h (child-shut is_stray l c o g)) (plain-shut d A o h (next-shut is_stray l c o g))
 
-all-plain-shut : (A : Trees) (ks : List Reference) → Shuts A → ((k : Reference) → In k ks → some_node is_stray k.args ≡ false)
+pub all-plain-shut : (A : Trees) (ks : List Reference) → Shuts A → ((k : Reference) → In k ks → some_node is_stray k.args ≡ false)
     → (p : Reference) → In p (all_with_args A ks) → Shuts p.args
 all-plain-shut A ks h f p g =
     let m = map-in (with_args A) ks p g in
@@ -181,7 +195,7 @@ module _ (W : World) (c : ℕ) (bounds : (x : TraitDecl) (b : Reference) → In 
       let b = in-filter (λ (y : TraitDecl). sees W c y.home) W.traits m.0 a.0 in
       all-plain-shut r.args m.0.bounds h (λ k i. bounds m.0 k b.0 i) s m.2
 
-  supers-shut : (n : ℕ) (r s : Reference) → Shuts r.args → In s (strict_supertraits_within n (view_of W c) r) → Shuts s.args
+  pub supers-shut : (n : ℕ) (r s : Reference) → Shuts r.args → In s (strict_supertraits_within n (view_of W c) r) → Shuts s.args
   supers-shut zero r s h g = absurd (in-nothing s g)
   supers-shut (suc n) r s h g = by (in-cases s m.0 (strict_supertraits_within n (view_of W c) m.0) m.2) (supers-shut n m.0 s here-shut)
     where
@@ -407,7 +421,7 @@ object-closed V r none h = refl
 object-closed V r (tree dynamic k o) h =
     if-closed (is_declared V r.trait && are_dyn_compatible V p) (autos ++ principal)
     (join-closed autos principal
-    (if-closed (list_any (same_reference r) q) (row object_auto (strict_supertraits V r)) (a-row object_auto (strict_supertraits V r) h))
+    (if-closed (not (r.trait == sized) && list_any (same_reference r) q) (row object_auto (strict_supertraits V r)) (a-row object_auto (strict_supertraits V r) h))
     (if-closed (not (r.trait == sized)) (equal_rows object_principal (strict_supertraits V r) r 0 (elaborated V p)) (equal-closed object_principal (strict_supertraits V r) r 0 (elaborated V p) h)))
   where
     p : List Reference
@@ -417,7 +431,7 @@ object-closed V r (tree dynamic k o) h =
     q = autos_with (tree dynamic k none) k
 
     autos : List Rule
-    autos = if list_any (same_reference r) q then row object_auto (strict_supertraits V r) else []
+    autos = if not (r.trait == sized) && list_any (same_reference r) q then row object_auto (strict_supertraits V r) else []
 
     principal : List Rule
     principal = if not (r.trait == sized) then equal_rows object_principal (strict_supertraits V r) r 0 (elaborated V p) else []
@@ -427,7 +441,7 @@ member-closed : (us : List Rule) → premises-closed us ≡ true → (u : Rule) 
 member-closed us h u g p k =
     member-each (λ (q : Reference). is_closed q.args) u.premises p (member-each (λ (v : Rule). list_all (λ q. is_closed q.args) v.premises) us u h g) k
 
-pub shut : (W : World) (vs : List View) (rank : ℕ → ℕ) → LinkedSet W vs rank → (c : ℕ) → Shut (view_of W c) c
+pub shut : (W : World) (vs : List View) (rank : ℕ → ℕ) → JoinedSet W vs rank → (c : ℕ) → Shut (view_of W c) c
 shut W vs rank l c r s z h = by (in-append s (flat_map (λ (u : Rule). u.premises) (rules V [] r)) (if is_known_in V c r then [] else strict_supertraits V r) h)
   where
     V : World
@@ -484,25 +498,3 @@ shut W vs rank l c r s z h = by (in-append s (flat_map (λ (u : Rule). u.premise
     by : In s (flat_map (λ (u : Rule). u.premises) (rules V [] r)) ⊎ In s (if is_known_in V c r then [] else strict_supertraits V r) → is_closed s.args ≡ true
     by (inl g) = of-rules (in-flat (λ (u : Rule). u.premises) (rules V [] r) s g)
     by (inr g) = of-supers g
-
--- NO HOLDS: what is bounded and not possible by c's view has no proof in any linked set in which c has that view
-pub no-holds : (W : World) (vs : List View) (rank : ℕ → ℕ) → LinkedSet W vs rank → (c : ℕ) (V : World) → view_of W c ≡ V
-    → (limit : ℕ) (r : Reference) → is_bounded limit V c r ≡ true → is_possible limit V c r ≡ false → HasProof W [] r → ⊥
-no-holds W vs rank l c V e limit r b h =
-    no-holds-if W vs rank l c (shut W vs rank l c) limit r
-    (subst (λ (v : World). is_bounded limit v c r ≡ true) (sym e) b) (subst (λ (v : World). is_possible limit v c r ≡ false) (sym e) h)
-
--- a pair with a fixed clause that is bounded and not possible by the view of some crate is cleared, in every linked set
-pub cleared-by-no : (W : World) (vs : List View) (rank : ℕ → ℕ) → LinkedSet W vs rank → (c : ℕ) (V : World) → view_of W c ≡ V
-    → (limit : ℕ) (i j : ImplDecl) (k r : Reference) → FixedLeft i j k r ⊎ FixedRight i j k r → is_bounded limit V c r ≡ true → is_possible limit V c r ≡ false → Cleared W i j
-cleared-by-no W vs rank l c V e limit i j k r (inl f) b h m ci cj =
-    no-holds W vs rank l c V e limit r b h
-    (subst (HasProof W []) (f.1 m) (every-member (HasProof W []) (map (with_args m.left) i.clauses) (with_args m.left k) ci (in-map (with_args m.left) i.clauses k f.0)))
-cleared-by-no W vs rank l c V e limit i j k r (inr f) b h m ci cj =
-    no-holds W vs rank l c V e limit r b h
-    (subst (HasProof W []) (f.1 m) (every-member (HasProof W []) (map (with_args m.right) j.clauses) (with_args m.right k) cj (in-map (with_args m.right) j.clauses k f.0)))
-
-pub impossible-clears : (W : World) (vs : List View) (rank : ℕ → ℕ) → LinkedSet W vs rank → (c : ℕ) (V : World) → view_of W c ≡ V
-    → (limit : ℕ) (i j : ImplDecl) (r : Reference) → IsFixedClause i j r → is_bounded limit V c r ≡ true → is_possible limit V c r ≡ false → Cleared W i j
-impossible-clears W vs rank l c V e limit i j r (inl f) b h = cleared-by-no W vs rank l c V e limit i j f.0 r (inl f.1) b h
-impossible-clears W vs rank l c V e limit i j r (inr f) b h = cleared-by-no W vs rank l c V e limit i j f.0 r (inr f.1) b h

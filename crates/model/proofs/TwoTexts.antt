@@ -8,7 +8,7 @@ use Rattle.model.specs.Worlds.{World, CrateDecl, StructDecl, TraitDecl, ImplDecl
 use Rattle.model.specs.Rules.{asked, is_declared}
 use Rattle.model.specs.Proofs.{In, Every}
 use Rattle.model.specs.Core.{core_world, box}
-use Rattle.model.specs.Renumbering.{Permutation, Renumbering, renumbered_crate, renumbered_struct, renumbered_trait, renumbered_impl, IsRenumbering, View, HoldsView}
+use Rattle.model.specs.Renumbering.{Permutation, Renumbering, same_numbers, as_they_are, renumbered_crate, renumbered_struct, renumbered_trait, renumbered_impl, IsRenumbering, View, HoldsView}
 use Rattle.model.specs.LinkedSet.{LinkedSet}
 use Rattle.model.specs.Worked.{first, second, impl_of, text_of_a_user, set_of_two_users, TwoTextsInOneSet, auto_trait_of, text_with_left_first, text_with_right_first, set_of_both_orders, OppositeOrdersInOneSet}
 use Rattle.model.proofs.Members.{in-cases, in-nothing, in-filter, some-member, not-both, same-number, self-number}
@@ -18,11 +18,9 @@ use Rattle.model.proofs.RenumberedTrees.{same-numbers-to}
 use Rattle.model.proofs.SupersProved.{CoreLike, Supers}
 use Rattle.model.proofs.CoreLinked.{Tested, less, autos-bare, tested-linked}
 use Rattle.model.proofs.Inhabited.{beside-core-supers}
+use Rattle.model.proofs.ViewLaws.{as-it-was}
 
--- Numbers as they are, and two numbers exchanged
-abbrev same-numbers : Permutation
-same-numbers = record { to = λ n. n; back = λ n. n; back_to = λ n. refl; to_back = λ n. refl }
-
+-- Two numbers exchanged
 abbrev pick : Bool → Bool → ℕ → ℕ → ℕ → ℕ
 pick true y a b n = b
 pick false true a b n = a
@@ -65,7 +63,7 @@ swapped-named {A = A} key x y rest d n [] = by (key x == n) refl (key y == n) re
 swapped-named {A = A} key x y rest d n (z ∷ front) = ap (λ zs. cond (key z == n) (z ∷ zs) zs) (swapped-named key x y rest d n front)
 
 -- A world that names what another names, with other numbers
-by-lists : (ρ : Renumbering) (V U : World) → ρ.crates.to core ≡ core → ρ.structs.to box ≡ box → ((t : ℕ) → is_declared core_world t ≡ true → ρ.traits.to t ≡ t)
+pub by-lists : (ρ : Renumbering) (V U : World) → ρ.crates.to core ≡ core → ρ.structs.to box ≡ box → ((t : ℕ) → is_declared core_world t ≡ true → ρ.traits.to t ≡ t)
     → ((n : ℕ) → crates_named U n ≡ filter (λ (x : CrateDecl). x.name == n) (map (renumbered_crate ρ) V.crates))
     → ((n : ℕ) → structs_named U n ≡ filter (λ (x : StructDecl). x.name == n) (map (renumbered_struct ρ) V.structs))
     → ((n : ℕ) → traits_named U n ≡ filter (λ (x : TraitDecl). x.name == n) (map (renumbered_trait ρ) V.traits)) → length U.traits ≡ length V.traits
@@ -85,25 +83,26 @@ by-lists ρ V U cs bs ts ec es et many ei = record {
 }
 
 -- The two views
-abbrev as-they-are : Renumbering
-as-they-are = record { crates = same-numbers; structs = same-numbers; traits = same-numbers; impls = same-numbers }
-
 abbrev others : Renumbering
-others = record { crates = exchanged 2 3; structs = exchanged 10 11; traits = same-numbers; impls = exchanged 100 101 }
+others = record { crates = exchanged 2 3; structs = exchanged 10 11; traits = same_numbers; impls = exchanged 100 101 }
 
 first-view : View
-first-view = record { numbers = as-they-are; asker = 2; world = text_of_a_user }
+first-view = record { numbers = as_they_are; asker = 2; world = text_of_a_user }
 
 second-view : View
 second-view = record { numbers = others; asker = 2; world = text_of_a_user }
 
 first-stands : HoldsView set_of_two_users first-view
 unfolding first-view
-first-stands = by-lists as-they-are text_of_a_user (view_of set_of_two_users 2) refl refl (λ t h. refl) (λ n. refl) (λ n. refl) (λ n. refl) refl refl
+first-stands =
+    as-it-was set_of_two_users first-view
+    (by-lists as_they_are text_of_a_user (view_of set_of_two_users 2) refl refl (λ t h. refl) (λ n. refl) (λ n. refl) (λ n. refl) refl refl)
 
 second-stands : HoldsView set_of_two_users second-view
 unfolding second-view
-second-stands = by-lists others text_of_a_user (view_of set_of_two_users 3) refl refl (λ t h. refl) (λ n. refl) (λ n. refl) (λ n. refl) refl refl
+second-stands =
+    as-it-was set_of_two_users second-view
+    (by-lists others text_of_a_user (view_of set_of_two_users 3) refl refl (λ t h. refl) (λ n. refl) (λ n. refl) (λ n. refl) refl refl)
 
 -- The set
 tested : Tested set_of_two_users
@@ -120,6 +119,10 @@ tested = record {
   clauses = refl;
   fields = refl;
   dyns = refl;
+  plain_headers = refl;
+  covered = refl;
+  sized_alone = refl;
+  dyns_hold_bounds = refl;
   uses = refl;
   orphans = refl;
 }
@@ -158,35 +161,42 @@ proved i h A = by (in-cases i a-impl (b-impl ∷ []) h)
     by (inr e) = last (in-cases i b-impl [] e)
 
 -- the same set with answers
-with-answers : (W : World) (vs : List View) (rank : ℕ → ℕ) → LinkedSet W [] rank → Every (HoldsView W) vs → LinkedSet W vs rank
+pub with-answers : (W : World) (vs : List View) (rank : ℕ → ℕ) → LinkedSet W [] rank → Every (HoldsView W) vs → LinkedSet W vs rank
 with-answers W vs rank l e = record {
-  terms = l.terms;
-  core_there = l.core_there;
-  one_struct = l.one_struct;
-  one_trait = l.one_trait;
-  one_impl = l.one_impl;
-  headers_in_scope = l.headers_in_scope;
-  autos_bare = l.autos_bare;
-  bounds_in_scope = l.bounds_in_scope;
-  trait_rank = l.trait_rank;
-  bounds_before = l.bounds_before;
-  autos_at_home = l.autos_at_home;
-  plain_clauses = l.plain_clauses;
-  plain_fields = l.plain_fields;
-  plain_bounds = l.plain_bounds;
-  dyns_in_order = l.dyns_in_order;
-  core_first = l.core_first;
-  uses_before = l.uses_before;
-  uses_stand = l.uses_stand;
-  as_answered = e;
-  orphan_rule = l.orphan_rule;
+  joined = record {
+    terms = l.joined.terms;
+    core_there = l.joined.core_there;
+    core_later = l.joined.core_later;
+    one_struct = l.joined.one_struct;
+    one_trait = l.joined.one_trait;
+    one_impl = l.joined.one_impl;
+    headers_in_scope = l.joined.headers_in_scope;
+    autos_bare = l.joined.autos_bare;
+    bounds_in_scope = l.joined.bounds_in_scope;
+    trait_rank = l.joined.trait_rank;
+    bounds_before = l.joined.bounds_before;
+    autos_at_home = l.joined.autos_at_home;
+    plain_headers = l.joined.plain_headers;
+    clauses_covered = l.joined.clauses_covered;
+    sized_alone = l.joined.sized_alone;
+    dyns_hold_bounds = l.joined.dyns_hold_bounds;
+    plain_clauses = l.joined.plain_clauses;
+    plain_fields = l.joined.plain_fields;
+    plain_bounds = l.joined.plain_bounds;
+    dyns_in_order = l.joined.dyns_in_order;
+    core_first = l.joined.core_first;
+    uses_before = l.joined.uses_before;
+    uses_stand = l.joined.uses_stand;
+    as_answered = e;
+    orphan_rule = l.joined.orphan_rule;
+  };
   supers_proved = l.supers_proved;
 }
 
 pub two-texts : TwoTextsInOneSet
 unfolding first-view second-view
 two-texts = (
-  as-they-are,
+  as_they_are,
   others,
   refl,
   refl,
@@ -204,17 +214,19 @@ both p q = record {
 }
 
 abbrev turned : Renumbering
-turned = record { crates = both (exchanged 1 2) (exchanged 3 4); structs = exchanged 10 11; traits = exchanged 20 21; impls = same-numbers }
+turned = record { crates = both (exchanged 1 2) (exchanged 3 4); structs = exchanged 10 11; traits = exchanged 20 21; impls = same_numbers }
 
 left-view : View
-left-view = record { numbers = as-they-are; asker = 3; world = text_with_left_first }
+left-view = record { numbers = as_they_are; asker = 3; world = text_with_left_first }
 
 right-view : View
 right-view = record { numbers = turned; asker = 3; world = text_with_right_first }
 
 left-stands : HoldsView set_of_both_orders left-view
 unfolding left-view
-left-stands = by-lists as-they-are text_with_left_first (view_of set_of_both_orders 3) refl refl (λ t h. refl) (λ n. refl) (λ n. refl) (λ n. refl) refl refl
+left-stands =
+    as-it-was set_of_both_orders left-view
+    (by-lists as_they_are text_with_left_first (view_of set_of_both_orders 3) refl refl (λ t h. refl) (λ n. refl) (λ n. refl) (λ n. refl) refl refl)
 
 different : (m n : ℕ) → (m == n) ≡ false → m ≡ n → ⊥
 different m n h e = not-both (m == n) (subst (λ k. (m == k) ≡ true) e (self-number m)) h
@@ -235,9 +247,10 @@ core-stays t h = ap (λ z. pick z (t == 21) 20 21 t) (no-test t 20 h) ∙ ap (λ
 right-stands : HoldsView set_of_both_orders right-view
 unfolding right-view
 right-stands =
-    by-lists turned text_with_right_first (view_of set_of_both_orders 4) refl refl (λ t h. core-stays t (below-twenty t h))
+    as-it-was set_of_both_orders right-view
+    (by-lists turned text_with_right_first (view_of set_of_both_orders 4) refl refl (λ t h. core-stays t (below-twenty t h))
     (λ n. swapped-named (λ (x : CrateDecl). x.name) (record { name = 1; uses = [] }) (record { name = 2; uses = [] }) (record { name = 4; uses = 2 ∷ 1 ∷ [] } ∷ []) (different 1 2 refl) n core_world.crates) (λ n. refl)
-    (λ n. swapped-named (λ (x : TraitDecl). x.name) (auto_trait_of 20 1) (auto_trait_of 21 2) [] (different 20 21 refl) n core_world.traits) refl refl
+    (λ n. swapped-named (λ (x : TraitDecl). x.name) (auto_trait_of 20 1) (auto_trait_of 21 2) [] (different 20 21 refl) n core_world.traits) refl refl)
 
 orders-tested : Tested set_of_both_orders
 orders-tested = record {
@@ -253,6 +266,10 @@ orders-tested = record {
   clauses = refl;
   fields = refl;
   dyns = refl;
+  plain_headers = refl;
+  covered = refl;
+  sized_alone = refl;
+  dyns_hold_bounds = refl;
   uses = refl;
   orphans = refl;
 }
@@ -276,7 +293,7 @@ core-like-orders = record {
 pub opposite-orders : OppositeOrdersInOneSet
 unfolding left-view right-view
 opposite-orders = (
-  as-they-are,
+  as_they_are,
   turned,
   refl,
   refl,

@@ -14,7 +14,7 @@ use Rattle.model.proofs.Fitting.{impl-rule}
 use Rattle.model.proofs.ElaboratedProofs.{elaborated-rule, elaborated-supers}
 use Rattle.model.proofs.NoHolds.{every-member, supers-of-view}
 use Rattle.model.proofs.SupersProved.{supers-proved-for-all}
-use Rattle.model.proofs.ViewLaws.{view-gives-or-unknown, known-in-set, proved-in-set}
+use Rattle.model.proofs.ViewLaws.{view-gives-or-unknown, known-in-set, proved-in-set, super-in-set}
 use Rattle.model.proofs.RenumberedTrees.{over-closed}
 use Rattle.model.proofs.RenumberedRules.{over-supers}
 use Rattle.overlap_check.specs.Verdicts.{placed}
@@ -113,8 +113,7 @@ unlinked W vs rank l ρ s = by (view-gives-or-unknown W vs rank l (placed V firs
     super =
         every-member (HasProof W []) (strict_supertraits W (renumbered_reference ρ sub)) (renumbered_reference ρ missing)
         (supers-proved-for-all W vs rank l (renumbered_reference ρ sub) (over-closed ρ sub.args ∙ refl) (proved-in-set W vs rank l (placed V first ρ) s sub sub-proved))
-        (supers-of-view W (ρ.crates.to first) (renumbered_reference ρ sub) (renumbered_reference ρ missing)
-        (subst (In (renumbered_reference ρ missing)) (over-supers ρ V (view_of W (ρ.crates.to first)) s sub) (in-map (renumbered_reference ρ) (strict_supertraits V sub) missing (0, refl))))
+        (super-in-set W vs rank l (placed V first ρ) s sub missing (0, refl))
 
     u : (u : Rule) × In u (rules W [] (renumbered_reference ρ missing)) × Every (HasProof W []) u.premises
     u = needs-rule W [] (renumbered_reference ρ missing) super

@@ -149,46 +149,53 @@ every-left P (x ∷ xs) ys h = (h.0, every-left P xs ys h.1)
 -- fewer answers
 fewer : (W : World) (vs ws : List View) (rank : ℕ → ℕ) → LinkedSet W vs rank → Every (HoldsView W) ws → LinkedSet W ws rank
 fewer W vs ws rank l e = record {
-  terms = l.terms;
-  core_there = l.core_there;
-  one_struct = l.one_struct;
-  one_trait = l.one_trait;
-  one_impl = l.one_impl;
-  headers_in_scope = l.headers_in_scope;
-  autos_bare = l.autos_bare;
-  bounds_in_scope = l.bounds_in_scope;
-  trait_rank = l.trait_rank;
-  bounds_before = l.bounds_before;
-  autos_at_home = l.autos_at_home;
-  plain_clauses = l.plain_clauses;
-  plain_fields = l.plain_fields;
-  plain_bounds = l.plain_bounds;
-  dyns_in_order = l.dyns_in_order;
-  core_first = l.core_first;
-  uses_before = l.uses_before;
-  uses_stand = l.uses_stand;
-  as_answered = e;
-  orphan_rule = l.orphan_rule;
+  joined = record {
+    terms = l.joined.terms;
+    core_there = l.joined.core_there;
+    core_later = l.joined.core_later;
+    one_struct = l.joined.one_struct;
+    one_trait = l.joined.one_trait;
+    one_impl = l.joined.one_impl;
+    headers_in_scope = l.joined.headers_in_scope;
+    autos_bare = l.joined.autos_bare;
+    bounds_in_scope = l.joined.bounds_in_scope;
+    trait_rank = l.joined.trait_rank;
+    bounds_before = l.joined.bounds_before;
+    autos_at_home = l.joined.autos_at_home;
+    plain_headers = l.joined.plain_headers;
+    plain_clauses = l.joined.plain_clauses;
+    plain_fields = l.joined.plain_fields;
+    plain_bounds = l.joined.plain_bounds;
+    clauses_covered = l.joined.clauses_covered;
+    sized_alone = l.joined.sized_alone;
+    dyns_hold_bounds = l.joined.dyns_hold_bounds;
+    dyns_in_order = l.joined.dyns_in_order;
+    core_first = l.joined.core_first;
+    uses_before = l.joined.uses_before;
+    uses_stand = l.joined.uses_stand;
+    as_answered = e;
+    orphan_rule = l.joined.orphan_rule;
+  };
   supers_proved = l.supers_proved;
 }
 
 pub headline : HeadlineHolds
 headline limit W vs qs rank l answered ok = record {
   one_impl = no-two-of-accepted W vs rank of-accepted answered (λ v h i j p. clear v h i j (record { stands = p.stands; partner = p.partner; own = p.own; before = p.before }));
-  unrelated = no-common-instance W (vs ++ qs) rank l;
+  unrelated = no-common-instance W (vs ++ qs) rank l.joined;
   cleared = clear;
   no_holds = λ v h ks r a. a.0.1 W (vs ++ qs) rank l v.numbers (asked v h);
   yes_holds = λ v h ks ts r a. proved-in-set W (vs ++ qs) rank l v (asked v h) (filled_reference ks ts r) a.1;
 }
   where
     stand : (v : View) → In v (vs ++ qs) → HoldsView W v
-    stand v h = every-member (HoldsView W) (vs ++ qs) v l.as_answered h
+    stand v h = every-member (HoldsView W) (vs ++ qs) v l.joined.as_answered h
 
     asked : (v : View) → In v qs → HoldsView W v
     asked v h = stand v (in-right v vs qs h)
 
     of-accepted : LinkedSet W vs rank
-    of-accepted = fewer W (vs ++ qs) vs rank l (every-left (HoldsView W) vs qs l.as_answered)
+    of-accepted = fewer W (vs ++ qs) vs rank l (every-left (HoldsView W) vs qs l.joined.as_answered)
 
     clear : (v : View) → In v vs → (i j : ImplDecl) → IsPair v.world v.asker i j → Cleared W (renumbered_impl v.numbers i) (renumbered_impl v.numbers j)
     clear v h i j p = ((ok v h).cleared i j p).1 W (vs ++ qs) rank l v.numbers (stand v (in-left v vs qs h))

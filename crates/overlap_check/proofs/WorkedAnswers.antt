@@ -38,7 +38,7 @@ asker-of ρ n S e s only =
     by (in-cases (the-struct ρ) S [] (subst (In (the-struct ρ)) only (filter-in (λ (y : StructDecl). y.name == n) set_of_two_users.structs (the-struct ρ) in-set (subst (λ m. (m == n) ≡ true) (sym e) (self-number n)))))
   where
     named : In (the-struct ρ) (filter (λ (y : StructDecl). y.name == ρ.structs.to 10) (the-view ρ).structs)
-    named = subst (In (the-struct ρ)) (sym (s.same_structs 10)) (0, refl)
+    named = subst (In (the-struct ρ)) (sym (s.renumbers.same_structs 10)) (0, refl)
 
     in-set : In (the-struct ρ) set_of_two_users.structs
     in-set = (in-filter (λ (y : StructDecl). sees set_of_two_users (ρ.crates.to 2) y.home) set_of_two_users.structs (the-struct ρ) (in-filter (λ (y : StructDecl). y.name == ρ.structs.to 10) (the-view ρ).structs (the-struct ρ) named).0).0
@@ -63,19 +63,19 @@ module _ (ρ σ : Renumbering) (e : ρ.structs.to 10 ≡ 10) (f : σ.structs.to 
   two-of : LinkedSet set_of_two_users views (λ n. n) → (r : Reference) → IsTrue (is_closed r.args) → (n k : ℕ) → HasProofByImpl set_of_two_users [] r n → HasProofByImpl set_of_two_users [] r k → n ≡ k
   two-of l = (headline 8 set_of_two_users views [] (λ n. n) l answered ok).one_impl
     where
-      own : (i : ImplDecl) → (a-impl ≡ i) ⊎ In i (b-impl ∷ []) → IsAnswered views i.home
-      own i (inl q) = inr (at ρ, (0, refl), (asker-of ρ 10 (struct 10 first []) e l.as_answered.0 refl ∙ ap (λ (x : ImplDecl). x.home) q))
+      own : (i : ImplDecl) → (a-impl ≡ i) ⊎ In i (b-impl ∷ []) → IsAnswered views i
+      own i (inl q) = inr (at ρ, (0, refl), (asker-of ρ 10 (struct 10 first []) e l.joined.as_answered.0 refl ∙ ap (λ (x : ImplDecl). x.home) q))
       own i (inr q) = last (in-cases i b-impl [] q)
         where
-          last : (b-impl ≡ i) ⊎ In i [] → IsAnswered views i.home
-          last (inl p) = inr (at σ, (1, refl), (asker-of σ 11 (struct 11 second []) f l.as_answered.1.0 refl ∙ ap (λ (x : ImplDecl). x.home) p))
+          last : (b-impl ≡ i) ⊎ In i [] → IsAnswered views i
+          last (inl p) = inr (at σ, (1, refl), (asker-of σ 11 (struct 11 second []) f l.joined.as_answered.1.0 refl ∙ ap (λ (x : ImplDecl). x.home) p))
           last (inr p) = absurd (in-nothing i p)
 
-      either : (i : ImplDecl) → In i core_world.impls ⊎ In i (a-impl ∷ b-impl ∷ []) → IsAnswered views i.home
-      either i (inl h) = inl (same-number i.home core (member-each (λ (x : ImplDecl). x.home == core) core_world.impls i refl h))
+      either : (i : ImplDecl) → In i core_world.impls ⊎ In i (a-impl ∷ b-impl ∷ []) → IsAnswered views i
+      either i (inl h) = inl h
       either i (inr h) = own i (in-cases i a-impl (b-impl ∷ []) h)
 
-      answered : (i : ImplDecl) → In i set_of_two_users.impls → IsAnswered views i.home
+      answered : (i : ImplDecl) → In i set_of_two_users.impls → IsAnswered views i
       answered i h = either i (in-append i core_world.impls (a-impl ∷ b-impl ∷ []) h)
 
       accepted-at : (v : View) → v.world ≡ text_of_a_user → v.asker ≡ 2 → IsVerdict 8 v.world v.asker accepted

@@ -29,7 +29,7 @@ pub record Headline (limit : ℕ) (W : World) (accepted_views asked_views : List
 abbrev pub HeadlineHolds : Type 0
 HeadlineHolds =
     (limit : ℕ) (W : World) (accepted_views asked_views : List View) (rank : ℕ → ℕ) → LinkedSet W (accepted_views ++ asked_views) rank
-    → ((i : ImplDecl) → In i W.impls → IsAnswered accepted_views i.home)
+    → ((i : ImplDecl) → In i W.impls → IsAnswered accepted_views i)
     → ((v : View) → In v accepted_views → IsVerdict limit v.world v.asker accepted)
     → Headline limit W accepted_views asked_views
 

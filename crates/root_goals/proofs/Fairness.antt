@@ -13,7 +13,7 @@ use Rattle.evaluation.proofs.FrameTableLaws.{tables_are_lawful}
 use Rattle.goal_frames.proofs.Lawful as Searches
 use Rattle.goal_frames.specs.HandlerPrograms.{silent, HandlersArePrograms}
 use Rattle.goal_frames.proofs.HandlerPrograms.{is-silent}
-use Rattle.goal_frames.specs.Readings.{kinds_known}
+use Rattle.evaluation.specs.StepReadings.{kinds_known}
 use Rattle.root_goals.specs.Contexts.{Asked}
 use Rattle.root_goals.specs.Searching.{programs, handles, solver_meaning}
 

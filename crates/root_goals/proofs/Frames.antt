@@ -1,49 +1,52 @@
 -- A frame stands where it stood, whatever else its interner holds.
-use Rattle.std.proofs.Common.{◌≡◌, ◌∙◌, List, map, refl, ap, subst, sym, Bool}
-use Rattle.std.specs.Prelude.{drop}
+use Rattle.std.proofs.Common.{List, map, subst, sym, Option}
 use Rattle.type_terms.specs.Terms.{Entry, Keeps}
 use Rattle.infer_table.specs.declared.input.CanonicalInput.{CanonicalInput}
-use Rattle.evaluation.specs.Evaluating.{replies_trees}
-use Rattle.evaluation.proofs.LaterTrees.{replies-trees-later}
+use Rattle.infer_table.specs.Responses.{AnswerTrees}
 use Rattle.evaluation.specs.declared.candidate.Considered.{Considered}
 use Rattle.evaluation.specs.Handler.{Handled}
 use Rattle.evaluation.specs.History.{position}
 use Rattle.evaluation.specs.Promises.{frame_of_goal}
 use Rattle.evaluation.specs.Readings.{ConsideredHeld}
 use Rattle.evaluation.specs.Tables.{frame_tables}
-use Rattle.goal_frames.specs.Readings.{Shown, shown_by, spec_read}
-use Rattle.goal_frames.specs.Places.{PlaceTrees, inside_of, place_read, ignoring, finishing, entering, Stands, Standing}
+use Rattle.evaluation.specs.StepReadings.{Shown, shown_by}
+use Rattle.evaluation.proofs.OpenBeginnings.{replayed-later}
+use Rattle.goal_frames.specs.Places.{IsIgnoring, IsEntering, IsFinishing, Stands, Standing}
 use Rattle.goal_frames.specs.Frames.{PlaceHeld, History, HasCome, HasHeard}
 use Rattle.goal_frames.specs.declared.frame.GoalFrame.{GoalFrame}
 use Rattle.goal_frames.specs.declared.frame.Place.{Place}
 use Rattle.goal_frames.specs.declared.frame.Place.TheVariants as InCode
 use Rattle.goal_frames.proofs.Held.{frame-later}
 use Rattle.goal_frames.proofs.Later.{result-later, shown-later, spec-read-later}
+use Rattle.std.specs.Prelude.{drop}
 
-module _ (old new : List Entry) (k : Keeps old new) where
-  place-read-later : (goal : CanonicalInput) (coinductive : Bool) (place : Place) → PlaceHeld goal old place → place_read new coinductive place ≡ place_read old coinductive place
-  place-read-later goal b InCode.Begun h = refl
-  place-read-later goal b (InCode.Entering s) h = ap entering (spec-read-later old new k b s h.0)
-  place-read-later goal b (InCode.Inside s rs) h = ap (λ z. inside_of z (replies_trees new rs.items)) (spec-read-later old new k b s h.0) ∙ ap (inside_of (spec_read old b s)) (replies-trees-later old new k rs.items h.2)
-  place-read-later goal b (InCode.Finishing source r) h = ap (finishing source) (result-later old new k r h.0)
-  place-read-later goal b (InCode.Ignoring r ns at) h = ap (λ z. ignoring z (drop at ns.items)) (result-later old new k r h.0)
-  place-read-later goal b InCode.Over h = refl
+module _ (old new : List Entry) (k : Keeps old new) (h : Handled frame_tables) (goal : CanonicalInput) where
+  -- at the same candidates
+  there-later : (xs : List Shown) (place : Place) (p : Standing) → PlaceHeld goal old place → Stands h old goal xs place p → Stands h new goal xs place p
+  there-later xs InCode.Begun p held s = s
+  there-later xs (InCode.Entering c) p held s = subst (λ x. IsEntering h xs x p) (sym (spec-read-later old new k h.coinductive c held.0)) s
+  there-later xs (InCode.Inside source waiting) p held s = record {
+    opened = s.opened;
+    replayed = replayed-later goal.mode goal.variables.items s.opened.evaluated old new k s.opened.replies waiting held s.replayed;
+    asking = s.asking;
+  }
+  there-later xs (InCode.Finishing source r) p held s = subst (λ (a : Option AnswerTrees). IsFinishing h xs source a p) (sym (result-later old new k r held.0)) s
+  there-later xs (InCode.Ignoring r ns at) p held s = subst (λ (a : Option AnswerTrees). IsIgnoring a (drop at ns.items) p) (sym (result-later old new k r held.0)) s
+  there-later xs InCode.Over p held s = s
 
-  module _ (h : Handled frame_tables) where
-    stands-later : (goal : CanonicalInput) (cs : List Considered) (place : Place) (p : Standing) → ConsideredHeld old cs → PlaceHeld goal old place
-        → Stands h (map (shown_by old) cs) (place_read old h.coinductive place) p → Stands h (map (shown_by new) cs) (place_read new h.coinductive place) p
-    stands-later goal cs place p considered held s =
-        subst (λ (xs : List Shown). Stands h xs (place_read new h.coinductive place) p) (sym (shown-later old new k cs considered))
-        (subst (λ (x : PlaceTrees). Stands h (map (shown_by old) cs) x p) (sym (place-read-later goal h.coinductive place held)) s)
+  stands-later : (cs : List Considered) (place : Place) (p : Standing) → ConsideredHeld old cs → PlaceHeld goal old place
+      → Stands h old goal (map (shown_by old) cs) place p → Stands h new goal (map (shown_by new) cs) place p
+  stands-later cs place p considered held s =
+      subst (λ (xs : List Shown). Stands h new goal xs place p) (sym (shown-later old new k cs considered)) (there-later (map (shown_by old) cs) place p held s)
 
-    come-later : (goal : CanonicalInput) (cs : List Considered) (place : Place) (heard : History) → ConsideredHeld old cs → PlaceHeld goal old place → HasCome old h cs place heard → HasCome new h cs place heard
-    come-later goal cs InCode.Begun heard considered held c = c
-    come-later goal cs (InCode.Entering s) heard considered held c = (c.0, stands-later goal cs (InCode.Entering s) (position (frame_of_goal frame_tables h) heard) considered held c.1)
-    come-later goal cs (InCode.Inside s rs) heard considered held c = (c.0, stands-later goal cs (InCode.Inside s rs) (position (frame_of_goal frame_tables h) heard) considered held c.1)
-    come-later goal cs (InCode.Finishing source r) heard considered held c = (c.0, stands-later goal cs (InCode.Finishing source r) (position (frame_of_goal frame_tables h) heard) considered held c.1)
-    come-later goal cs (InCode.Ignoring r ns at) heard considered held c = (c.0, stands-later goal cs (InCode.Ignoring r ns at) (position (frame_of_goal frame_tables h) heard) considered held c.1)
-    come-later goal cs InCode.Over heard considered held c = (c.0, stands-later goal cs InCode.Over (position (frame_of_goal frame_tables h) heard) considered held c.1)
+  come-later : (cs : List Considered) (place : Place) (heard : History) → ConsideredHeld old cs → PlaceHeld goal old place → HasCome old h goal cs place heard → HasCome new h goal cs place heard
+  come-later cs InCode.Begun heard considered held c = c
+  come-later cs (InCode.Entering s) heard considered held c = (c.0, stands-later cs (InCode.Entering s) (position (frame_of_goal frame_tables h) heard) considered held c.1)
+  come-later cs (InCode.Inside source waiting) heard considered held c = (c.0, stands-later cs (InCode.Inside source waiting) (position (frame_of_goal frame_tables h) heard) considered held c.1)
+  come-later cs (InCode.Finishing source r) heard considered held c = (c.0, stands-later cs (InCode.Finishing source r) (position (frame_of_goal frame_tables h) heard) considered held c.1)
+  come-later cs (InCode.Ignoring r ns at) heard considered held c = (c.0, stands-later cs (InCode.Ignoring r ns at) (position (frame_of_goal frame_tables h) heard) considered held c.1)
+  come-later cs InCode.Over heard considered held c = (c.0, stands-later cs InCode.Over (position (frame_of_goal frame_tables h) heard) considered held c.1)
 
-    -- the frame of a goal has heard the same
-    pub heard-later : (f : GoalFrame) (heard : History) → HasHeard old h f heard → HasHeard new h f heard
-    heard-later f heard x = record { held = frame-later old new k f x.held; came = come-later f.goal f.considered.items f.place heard x.held.considered x.held.place x.came }
+-- the frame of a goal has heard the same
+pub heard-later : (old new : List Entry) (k : Keeps old new) (h : Handled frame_tables) (f : GoalFrame) (heard : History) → HasHeard old h f heard → HasHeard new h f heard
+heard-later old new k h f heard x = record { held = frame-later old new k f x.held; came = come-later old new k h f.goal f.considered.items f.place heard x.held.considered x.held.place x.came }

@@ -4,6 +4,7 @@ use Rattle.std.proofs.lemmas.Option.{same_Some}
 use Rattle.type_terms.specs.Terms.{Entry, Keeps, Lawful}
 use Rattle.search_graph.specs.Meaning as Search
 use Rattle.search_graph.specs.declared.delegate.Reply.{Reply}
+use Rattle.search_graph.specs.declared.delegate.Reply.TheVariants.{Begin, Result, Entered, Finished, Ignored}
 use Rattle.infer_table.specs.Canonical.{CanonicalForm}
 use Rattle.infer_table.specs.declared.certainty.TypingMode.{TypingMode}
 use Rattle.infer_table.specs.declared.input.CanonicalInput.{CanonicalInput}
@@ -11,11 +12,8 @@ use Rattle.infer_table.specs.Goals.{GoalHeld}
 use Rattle.infer_table.specs.declared.response.CanonicalResponse.{CanonicalResponse}
 use Rattle.infer_table.specs.Inputs.{form_of}
 use Rattle.infer_table.specs.Responses.{AnswerTrees, answer_trees}
-use Rattle.evaluation.specs.Evaluating.{replies_trees}
 use Rattle.evaluation.specs.Handler.{Handled}
 use Rattle.evaluation.specs.Lists.{Every}
-use Rattle.evaluation.specs.Readings.{ResultHeld}
-use Rattle.evaluation.proofs.LaterTrees.{replies-trees-later}
 use Rattle.evaluation.proofs.ListLaws.{Every-mono}
 use Rattle.evaluation.specs.Content.{Fact}
 use Rattle.evaluation.specs.TableAnswers.{IsWellFormed}
@@ -28,13 +26,10 @@ use Rattle.goal_frames.proofs.Answers.{response-held-later, answer-later, same-a
 use Rattle.goal_frames.proofs.Numbers.{goal-later, same-goals}
 use Rattle.infer_table.proofs.Numbers.{goal-held-later}
 use Rattle.goal_frames.specs.declared.frame.GoalFrame.{GoalFrame}
-use Rattle.goal_frames.specs.declared.frame.Place.{Place}
-use Rattle.goal_frames.specs.declared.frame.Place.TheVariants as InCode
-use Rattle.goal_frames.specs.Shortages.{replies_at}
 use Rattle.goal_frames.specs.Frames as Frames
 use Rattle.root_goals.specs.declared.context.SolverCx.{SolverCx}
 use Rattle.root_goals.specs.Contexts.{Asked, asked_of, asked_or_none, entries_of, goal_of, answer_of, IsReady, IsInput, IsResult, IsKept, Advances}
-use Rattle.root_goals.specs.Searching.{bare, Anything, world_of, HasHeard, solver_meaning}
+use Rattle.root_goals.specs.Searching.{bare, Anything, IsReplyOf, world_of, HasHeard, solver_meaning}
 use Rattle.root_goals.proofs.Frames.{heard-later}
 
 pub grows-same : {Handler : Type 0} (c : SolverCx Handler) → Grows c.store c.store
@@ -71,21 +66,6 @@ module _ {Handler : Type 0} (ready : Handler → List Entry → Type 0) (c d : S
 
   pub kept-there : (o : Option AnswerTrees) → IsKept ready c o → IsKept ready d o
   kept-there o x = let y = result-later x.0 x.1 in (x.0, y.0, y.1 ∙ x.2)
-
-  -- replies that are kept stay so
-  pub kept-later : (rs : List (Option CanonicalResponse)) → Every (ResultHeld (entries_of c)) rs → Every (IsKept ready c) (replies_trees (entries_of c) rs) → Every (IsKept ready d) (replies_trees (entries_of d) rs)
-  kept-later rs h x =
-      subst (Every (IsKept ready d)) (sym (replies-trees-later (entries_of c) (entries_of d) a.entries rs h))
-      (Every-mono (IsKept ready c) (IsKept ready d) kept-there (replies_trees (entries_of c) rs) x)
-
--- the handles of the replies at a place are an interner's
-pub replies-held : (goal : CanonicalInput) (es : List Entry) (place : Place) → Frames.PlaceHeld goal es place → Every (ResultHeld es) (replies_at place)
-replies-held goal es InCode.Begun h = tt
-replies-held goal es (InCode.Entering s) h = tt
-replies-held goal es (InCode.Inside s replies) h = h.2
-replies-held goal es (InCode.Finishing source r) h = tt
-replies-held goal es (InCode.Ignoring r ns at) h = tt
-replies-held goal es InCode.Over h = tt
 
 module _ {Handler : Type 0} (ready : Handler → List Entry → Type 0) where
   -- a context of which the interner has grown, and nothing else
@@ -147,7 +127,22 @@ module _ {World Handler : Type 0} (handled : World → TypingMode → CanonicalF
   abbrev Heard : SolverCx Handler → Asked → List (Reply (Option AnswerTrees)) → GoalFrame → Type 0
   Heard = HasHeard handled Rule coinductive ready meaning_of
 
+  -- a result that is replied is kept
+  abbrev Told : SolverCx Handler → Reply (Option AnswerTrees) → Type 0
+  Told c = IsReplyOf handled Rule coinductive (IsKept ready c)
+
   module _ (c d : SolverCx Handler) (now : IsReady ready c) (a : Advances ready c d) where
+    pub told-there : (r : Reply (Option AnswerTrees)) → Told c r → Told d r
+    told-there Begin h = tt
+    told-there (Result o) h = kept-there ready c d a o h
+    told-there Entered h = tt
+    told-there (Finished n) h = tt
+    told-there Ignored h = tt
+
+    -- what was replied stays kept
+    pub all-told : (heard : List (Reply (Option AnswerTrees))) → Every (Told c) heard → Every (Told d) heard
+    all-told heard h = Every-mono (Told c) (Told d) told-there heard h
+
     pub same-world : world d ≡ world c
     same-world = ap (λ h. meaning_of h (entries_of d)) a.handler ∙ kept c.handler (entries_of c) (entries_of d) a.entries now.handler
 
@@ -157,7 +152,7 @@ module _ {World Handler : Type 0} (handled : World → TypingMode → CanonicalF
       mode = x.mode;
       form = ap (λ q. q.1) (asked-later (entries_of c) (entries_of d) a.entries f.goal x.frame.held.goal) ∙ x.form;
       kept = let i = x.kept.0 in let j = input-later ready c d a i x.kept.1 in (i, j.0, j.1 ∙ x.kept.2);
-      replies = kept-later ready c d a (replies_at f.place) (replies-held f.goal (entries_of c) f.place x.frame.held.place) x.replies;
+      replies = all-told heard x.replies;
       due = subst (λ w. Search.AreReplies (bare handled Rule coinductive) (Anything handled Rule coinductive) w g heard) (sym same-world) x.due;
       frame = subst (λ w. Frames.HasHeard (entries_of d) (handled w g.0 g.1) f (replies_of heard)) (sym same-world)
           (heard-later (entries_of c) (entries_of d) a.entries (handled (world c) g.0 g.1) f (replies_of heard) x.frame);
@@ -174,15 +169,15 @@ module _ {World Handler : Type 0} (handled : World → TypingMode → CanonicalF
 
   -- the frame of a goal that is kept
   pub started : (c : SolverCx Handler) (i : InputId) (a : CanonicalInput) (f : GoalFrame) → IsInput ready c i → StandsForInput c.store i a → f.goal ≡ a
-      → Frames.HasHeard (entries_of c) (handled (world c) (goal_of c i).0 (goal_of c i).1) f [] → replies_at f.place ≡ [] → Heard c (goal_of c i) [] f
-  started c i a f x s e heard none =
+      → Frames.HasHeard (entries_of c) (handled (world c) (goal_of c i).0 (goal_of c i).1) f [] → Heard c (goal_of c i) [] f
+  started c i a f x s e heard =
       let same = goal-is ready c i a s in
       record {
         ready = x.0;
         mode = ap (λ z. z.mode) e ∙ sym (ap (λ z. z.0) same);
         form = ap (form_of (entries_of c)) e ∙ sym (ap (λ z. z.1) same);
         kept = (i, x, refl);
-        replies = subst (λ rs. Every (IsKept ready c) (replies_trees (entries_of c) rs)) (sym none) tt;
+        replies = tt;
         due = tt;
         frame = heard;
       }

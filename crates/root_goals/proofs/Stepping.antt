@@ -1,5 +1,5 @@
 -- A step of a goal's frame is a step of the search's frame.
-use Rattle.std.proofs.Common.{◌≡◌, ◌<◌, ◌∙◌, List, [], ◌∷◌, ◌++◌, refl, sym, ap, subst, inl, inr, Bool, Option, option_map}
+use Rattle.std.proofs.Common.{◌≡◌, ◌<◌, ◌∙◌, List, ◌∷◌, refl, sym, ap, subst, inl, inr, Bool, Option}
 use Rattle.std.specs.Prelude.{◌⊎◌}
 use Rattle.type_terms.specs.Terms.{Entry, Keeps}
 use Rattle.type_terms.specs.Failures.{SomeKindIsFull}
@@ -13,10 +13,7 @@ use Rattle.infer_table.specs.declared.certainty.TypingMode.{TypingMode}
 use Rattle.infer_table.specs.declared.input.CanonicalInput.{CanonicalInput}
 use Rattle.infer_table.specs.declared.response.CanonicalResponse.{CanonicalResponse}
 use Rattle.infer_table.specs.Inputs.{form_of}
-use Rattle.infer_table.specs.Responses.{AnswerTrees, answer_trees}
-use Rattle.evaluation.specs.Evaluating.{replies_trees}
-use Rattle.evaluation.specs.Lists.{Every}
-use Rattle.evaluation.specs.Readings.{ResultHeld}
+use Rattle.infer_table.specs.Responses.{AnswerTrees}
 use Rattle.evaluation.specs.Handler.{Handled, IsHandler}
 use Rattle.evaluation.specs.History as Histories
 use Rattle.evaluation.specs.Promises.{frame_of_goal}
@@ -25,11 +22,11 @@ use Rattle.evaluation.specs.Content.{Fact, Question}
 use Rattle.evaluation.specs.Tables.{frame_tables}
 use Rattle.goal_frames.specs.Searches.{asks, kind_of, reply_of, replies_of, request_of}
 use Rattle.goal_frames.specs.declared.frame.GoalFrame.{GoalFrame}
-use Rattle.goal_frames.specs.declared.frame.Place.{Place}
 use Rattle.goal_frames.specs.declared.store.ResponseId.{ResponseId}
-use Rattle.goal_frames.specs.Shortages.{FrameRunsOut, replies_at, HoldsReplies, AddsReply}
+use Rattle.goal_frames.specs.Shortages.{FrameRunsOut}
 use Rattle.goal_frames.specs.Frames as Frames
 use Rattle.goal_frames.specs.Steps as Steps
+use Rattle.goal_frames.specs.Steps.{AsksFewer}
 use Rattle.goal_frames.proofs.Falling.{falls}
 use Rattle.goal_frames.proofs.Later.{result-later}
 use Rattle.goal_frames.proofs.Shortages.{frame-runs-out-later}
@@ -39,7 +36,7 @@ use Rattle.root_goals.specs.Answers.{reply_read, request_read}
 use Rattle.root_goals.specs.Searching.{programs, bare, bare_handles, Anything, IsFull, IsReplyOf, world_of, handles, HasHeard, solver_meaning, steps_left}
 use Rattle.root_goals.specs.Shortages.{interner}
 use Rattle.root_goals.proofs.Due.{due-same, heard-more, came-anyhow}
-use Rattle.root_goals.proofs.Growing.{asked-later, input-later, keeps, kept-there, kept-later, replies-held, same-world}
+use Rattle.root_goals.proofs.Growing.{asked-later, input-later, keeps, told-there, all-told, same-world}
 
 abbrev CodeReply : Type 0
 CodeReply = Reply (Option CanonicalResponse)
@@ -64,31 +61,6 @@ same-request mode es FinishCandidate Histories.finish_candidate i = refl
 same-request mode es (IgnoreCandidate n) (Histories.ignore_candidate k) i = ap IgnoreCandidate i
 same-request mode es (Done a) (Histories.returns b) i = ap Done i
 same-request mode es q r i = absurd i
-
--- ---- replies
-module _ {World Handler : Type 0} (handled : World → TypingMode → CanonicalForm → Handled frame_tables) (Rule : World → Fact → List Fact → Type 0) (coinductive : World → Fact → Bool)
-    (ready : Handler → List Entry → Type 0) (c d : SolverCx Handler) (a : Advances ready c d) (before after : Place)
-    (held : Every (ResultHeld (entries_of c)) (replies_at before)) (kept : Every (IsKept ready c) (replies_trees (entries_of c) (replies_at before))) where
-  -- at that place all replies are kept
-  abbrev Kept : List (Option CanonicalResponse) → Type 0
-  Kept rs = Every (IsKept ready d) (replies_trees (entries_of d) rs)
-
-  one-more : (rs : List (Option CanonicalResponse)) (r : Option CanonicalResponse) → ResultHeld (entries_of c) r → IsKept ready c (option_map (answer_trees (entries_of c)) r)
-      → Every (ResultHeld (entries_of c)) rs → Every (IsKept ready c) (replies_trees (entries_of c) rs)
-      → Every (ResultHeld (entries_of c)) (rs ++ r ∷ []) × Every (IsKept ready c) (replies_trees (entries_of c) (rs ++ r ∷ []))
-  one-more [] r h k hs ks = ((h, tt), (k, tt))
-  one-more (x ∷ rs) r h k hs ks = let on = one-more rs r h k hs.1 ks.1 in ((hs.0, on.0), (ks.0, on.1))
-
-  holds : (rs : List (Option CanonicalResponse)) → Every (ResultHeld (entries_of c)) rs → Every (IsKept ready c) (replies_trees (entries_of c) rs) → HoldsReplies rs after → Kept (replies_at after)
-  holds rs hs ks (inl e) = subst Kept (sym e) (kept-later ready c d a rs hs ks)
-  holds rs hs ks (inr e) = subst Kept (sym e) tt
-
-  pub added : (reply : CodeReply) → Frames.IsReply (entries_of c) reply → IsReplyOf handled Rule coinductive (IsKept ready c) (reply_read (entries_of c) reply) → AddsReply before reply after → Kept (replies_at after)
-  added (Result r) h k n = let on = one-more (replies_at before) r h.0 k held kept in holds (replies_at before ++ r ∷ []) on.0 on.1 n
-  added Begin h k n = subst Kept (sym n) tt
-  added Entered h k n = subst Kept (sym n) tt
-  added (Finished m) h k n = subst Kept (sym n) tt
-  added Ignored h k n = subst Kept (sym n) tt
 
 -- a reply that a search gives is kept
 pub told-kept : {World Handler : Type 0} (handled : World → TypingMode → CanonicalForm → Handled frame_tables) (Rule : World → Fact → List Fact → Type 0) (coinductive : World → Fact → Bool)
@@ -150,13 +122,6 @@ module _ {World Handler : Type 0} (handled : World → TypingMode → CanonicalF
         read-later (Finished n) h = refl
         read-later Ignored h = refl
 
-        told-later : (r : Reply (Option AnswerTrees)) → IsReplyOf handled Rule coinductive (IsKept ready c) r → IsReplyOf handled Rule coinductive (IsKept ready d) r
-        told-later Begin h = tt
-        told-later (Result o) h = kept-there ready c d a o h
-        told-later Entered h = tt
-        told-later (Finished n) h = tt
-        told-later Ignored h = tt
-
         -- the frame, as the grown context knows it, comes to where numbers are used up, if no table of the interner is at its limit
         pub some-frame : IsReplyOf handled Rule coinductive (IsKept ready c) (reply_read (entries_of c) reply) → Due
             → SomeKindIsFull (entries_of d) d.interner.limit ⊎ FrameRunsOut (entries_of c) (by_frame c f) f reply → IsFull handled Rule coinductive ready meaning_of d
@@ -173,14 +138,14 @@ module _ {World Handler : Type 0} (handled : World → TypingMode → CanonicalF
               due = subst (λ w. Search.IsDueAfter (bare handled Rule coinductive) w g heard (reply_read (entries_of d) reply)) (sym same)
                   (subst (λ y. Search.IsDueAfter (bare handled Rule coinductive) (world c) g heard y) (sym read)
                   (due-same frame_tables (programs handled Rule coinductive) (handles handled Rule coinductive ready meaning_of) (bare_handles handled Rule coinductive) (world c) g heard (reply_read (entries_of c) reply) due));
-              kept = subst (IsReplyOf handled Rule coinductive (IsKept ready d)) (sym read) (told-later (reply_read (entries_of c) reply) told);
+              kept = subst (IsReplyOf handled Rule coinductive (IsKept ready d)) (sym read) (told-there handled Rule coinductive ready meaning_of kept c d x.ready a (reply_read (entries_of c) reply) told);
               runs_out = subst (λ w. FrameRunsOut (entries_of d) (handled w g.0 g.1) f reply) (sym same)
                   (frame-runs-out-later (entries_of c) (entries_of d) a.entries (handled (world c) g.0 g.1) f x.frame.held reply held
                   (subst (λ h. FrameRunsOut (entries_of c) h f reply) (sym (of-goal g heard x)) n));
             })
 
       module _ (d : SolverCx Handler) (a : Advances ready c d) (after : GoalFrame) (q : Request CanonicalInput (Option CanonicalResponse))
-          (held : Frames.IsReply (entries_of c) reply) (told : IsReplyOf handled Rule coinductive (IsKept ready c) (reply_read (entries_of c) reply)) (adds : AddsReply f.place reply after.place)
+          (held : Frames.IsReply (entries_of c) reply) (told : IsReplyOf handled Rule coinductive (IsKept ready c) (reply_read (entries_of c) reply)) (fewer : AsksFewer f.place after.place)
           (goal : after.goal ≡ f.goal) (steps : Frames.Steps (entries_of c) (by_frame c f) f (Frames.reply_read (entries_of c) reply) (entries_of d) after q) where
         stepped : Due
             → Frames.HasHeard (entries_of d) (handled (world c) g.0 g.1) after (Frames.reply_read (entries_of c) reply ∷ replies_of heard)
@@ -197,7 +162,7 @@ module _ {World Handler : Type 0} (handled : World → TypingMode → CanonicalF
               mode = ap (λ z. z.mode) goal ∙ x.mode;
               form = ap (form_of (entries_of d)) goal ∙ ap (λ z. z.1) (asked-later (entries_of c) (entries_of d) a.entries f.goal x.frame.held.goal) ∙ x.form;
               kept = let i = x.kept.0 in let j = input-later ready c d a i x.kept.1 in (i, j.0, j.1 ∙ x.kept.2);
-              replies = added handled Rule coinductive ready c d a f.place after.place (replies-held f.goal (entries_of c) f.place x.frame.held.place) x.replies reply held told adds;
+              replies = (told-there handled Rule coinductive ready meaning_of kept c d x.ready a (reply_read (entries_of c) reply) told, all-told handled Rule coinductive ready meaning_of kept c d x.ready a heard x.replies);
               due = subst (λ w. Search.AreReplies (bare handled Rule coinductive) (Anything handled Rule coinductive) w g (reply_read (entries_of c) reply ∷ heard)) (sym same) (all-due due);
               frame = subst (λ w. Frames.HasHeard (entries_of d) (handled w g.0 g.1) after (replies_of (reply_read (entries_of c) reply ∷ heard))) (sym same)
                   (subst (λ y. Frames.HasHeard (entries_of d) (handled (world c) g.0 g.1) after (y ∷ replies_of heard)) (same-reply (entries_of c) reply) (stepped due).0);
@@ -215,8 +180,8 @@ module _ {World Handler : Type 0} (handled : World → TypingMode → CanonicalF
             → steps_left handled Rule coinductive ready meaning_of e after < steps_left handled Rule coinductive ready meaning_of c f
         has-fewer lawful due e same there =
             let h = handled (world c) g.0 g.1 in
-            let fewer = falls h (lawful (world c) g.0 g.1) (entries_of c) (entries_of d) f after (replies_of heard) (Frames.reply_read (entries_of c) reply) x.frame (in-order due) (stepped due).0 in
+            let less = falls h (lawful (world c) g.0 g.1) (entries_of c) (entries_of d) f after (replies_of heard) (Frames.reply_read (entries_of c) reply) x.frame (in-order due) (stepped due).0 fewer in
             let later : h ≡ by_frame e after =
             ap (λ w. handled w g.0 g.1) (sym same) ∙ ap (λ m. handled (world e) m g.1) (sym there.mode) ∙ ap (λ z. handled (world e) after.goal.mode z) (sym there.form)
             in
-            subst (λ k. Steps.steps_left k after < Steps.steps_left (by_frame c f) f) later (subst (λ k. Steps.steps_left h after < Steps.steps_left k f) (of-goal g heard x) fewer)
+            subst (λ k. Steps.steps_left k after < Steps.steps_left (by_frame c f) f) later (subst (λ k. Steps.steps_left h after < Steps.steps_left k f) (of-goal g heard x) less)

@@ -11,7 +11,7 @@ use Rattle.infer_table.specs.declared.input.CanonicalInput.{CanonicalInput}
 use Rattle.infer_table.specs.declared.response.CanonicalResponse.{CanonicalResponse}
 use Rattle.infer_table.specs.Responses.{AnswerTrees}
 use Rattle.evaluation.specs.TableAnswers.{has_values}
-use Rattle.goal_frames.specs.Readings.{result_read}
+use Rattle.evaluation.specs.StepReadings.{result_read}
 use Rattle.root_goals.specs.Contexts.{Asked, asked_of}
 
 -- no type or const has a value, and no lifetime is constrained

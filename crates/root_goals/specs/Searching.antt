@@ -9,7 +9,6 @@ use Rattle.infer_table.specs.declared.certainty.TypingMode.{TypingMode}
 use Rattle.infer_table.specs.Inputs.{form_of}
 use Rattle.infer_table.specs.declared.response.CanonicalResponse.{CanonicalResponse}
 use Rattle.infer_table.specs.Responses.{AnswerTrees}
-use Rattle.evaluation.specs.Evaluating.{replies_trees}
 use Rattle.evaluation.specs.Lists.{Every}
 use Rattle.evaluation.specs.Handler.{Handled}
 use Rattle.evaluation.specs.Content.{Fact}
@@ -21,7 +20,7 @@ use Rattle.goal_frames.specs.declared.store.ResponseId.{ResponseId}
 use Rattle.goal_frames.specs.declared.frame.GoalFrame.{GoalFrame}
 use Rattle.goal_frames.specs.Frames as Frames
 use Rattle.goal_frames.specs.HandlerPrograms.{programs_of}
-use Rattle.goal_frames.specs.Shortages.{FrameRunsOut, replies_at}
+use Rattle.goal_frames.specs.Shortages.{FrameRunsOut}
 use Rattle.goal_frames.specs.Steps as Steps
 use Rattle.root_goals.specs.declared.context.SolverCx.{SolverCx}
 use Rattle.root_goals.specs.Answers.{reply_read}
@@ -68,9 +67,9 @@ module _ {World : Type 0} (handled : World → TypingMode → CanonicalForm → 
       pub ready : IsReady is_ready c
       pub mode : f.goal.mode ≡ g.0
       pub form : form_of (entries_of c) f.goal ≡ g.1
-      -- the goal is kept, and so are the replies to the open candidate's questions
+      -- the goal is kept, and so is each result that was replied
       pub kept : (i : InputId) × IsInput is_ready c i × (goal_of c i ≡ g)
-      pub replies : Every (IsKept is_ready c) (replies_trees (entries_of c) (replies_at f.place))
+      pub replies : Every (IsReplyOf (IsKept is_ready c)) heard
       pub due : AreReplies bare Anything (world_of c) g heard
       pub frame : Frames.HasHeard (entries_of c) (handled (world_of c) g.0 g.1) f (replies_of heard)
 

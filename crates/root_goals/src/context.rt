@@ -5,7 +5,7 @@ ghost use Rattle.type_terms.specs.declared.Fault.TheVariants.{Memory};
 ghost use Rattle.infer_table.specs.Goals.{GoalHeld};
 ghost use Rattle.evaluation.specs.Readings.{ResultHeld};
 ghost use Rattle.goal_frames.specs.Fitting.{ResultFits};
-ghost use Rattle.goal_frames.specs.Readings.{result_read};
+ghost use Rattle.evaluation.specs.StepReadings.{result_read};
 ghost use Rattle.goal_frames.specs.Stores.{kept_inputs, kept_responses, limit_of};
 ghost use Rattle.root_goals.specs.Contexts.{asked_of, goal_of, answer_of, IsReady, IsInput, IsResult, Advances};
 ghost use Rattle.root_goals.specs.Shortages.{StoreIsFull};

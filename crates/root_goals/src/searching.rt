@@ -3,7 +3,7 @@
 ghost use Rattle.std.specs.Prelude.{◌≡◌, IfOk, Err};
 ghost use Rattle.evaluation.specs.Readings.{ResultHeld};
 ghost use Rattle.goal_frames.specs.Fitting.{ResultFits};
-ghost use Rattle.goal_frames.specs.Readings.{result_read};
+ghost use Rattle.evaluation.specs.StepReadings.{result_read};
 ghost use Rattle.search_graph.specs.Cache.{AreJustified, AreConsistent, HasConflict, KeepsResults};
 ghost use Rattle.search_graph.specs.Meaning.{Keeps, IsFair};
 ghost use Rattle.search_graph.specs.Proof.{HasProof};

@@ -34,7 +34,7 @@ use Rattle.type_terms.proofs.Made.{left, right}
 use Rattle.evaluation.specs.Tables.{frame_tables}
 use Rattle.goal_frames.specs.Rules.{Bound}
 use Rattle.goal_frames.specs.Handlers.{as_one, behind, nested_of_bound, spec_of}
-use Rattle.goal_frames.specs.Readings.{equation_read, nested_read, spec_read}
+use Rattle.evaluation.specs.StepReadings.{equation_read, nested_read, spec_read}
 use Rattle.rule_books.specs.declared.rule.Rule.{Rule}
 use Rattle.rule_books.specs.Books.{bound_read, rule_read, is_over, RuleHeld, asked_of, NestedHeld}
 use Rattle.rule_books.specs.Kept.{bound-later}

@@ -16,7 +16,7 @@ use Rattle.goal_frames.specs.Handlers.{asked, candidates_of}
 use Rattle.goal_frames.specs.RuleFitting.{slots_of, IsOverSlots}
 use Rattle.goal_frames.proofs.RuleFitting.{candidates-fit}
 use Rattle.goal_frames.specs.Fitting.{IsOver}
-use Rattle.goal_frames.specs.Readings.{equation_read, nested_read, spec_read, kinds_known}
+use Rattle.evaluation.specs.StepReadings.{equation_read, nested_read, spec_read, kinds_known}
 use Rattle.goal_frames.proofs.KnownKinds.{all-known as known-some}
 
 unmap : {A B : Type 0} (P : B → Type 0) (f : A → B) (xs : List A) → Every P (map f xs) → Every (λ x. P (f x)) xs

@@ -19,7 +19,7 @@ use Rattle.evaluation.specs.Tables.{frame_tables}
 use Rattle.goal_frames.proofs.Listings.{next_at, listed-next}
 use Rattle.goal_frames.specs.Rules.{RuleBook}
 use Rattle.goal_frames.specs.Handlers.{Asked, spec_of, specs_for, same_answer, applies_always, candidates_of, asked, listing_of, handled_by}
-use Rattle.goal_frames.specs.Readings.{Shown, shown, shown_by, Shows, kinds_known}
+use Rattle.evaluation.specs.StepReadings.{Shown, shown, shown_by, Shows, kinds_known}
 use Rattle.goal_frames.proofs.KnownKinds.{all-known as known-some}
 use Rattle.rule_books.specs.declared.rule.Rule as Rules
 use Rattle.goal_frames.specs.Merges.{with_response, responses_of, merge_of}

@@ -19,7 +19,7 @@ use Rattle.evaluation.specs.declared.candidate.CandidateSpec.{CandidateSpec}
 use Rattle.evaluation.specs.declared.goal.GoalSource.{GoalSource}
 use Rattle.evaluation.specs.Tables.{frame_tables}
 use Rattle.goal_frames.specs.Handlers.{as_one, asked, behind, candidates_of, nested_of_bound}
-use Rattle.goal_frames.specs.Readings.{nested_read, spec_read}
+use Rattle.evaluation.specs.StepReadings.{nested_read, spec_read}
 use Rattle.goal_frames.specs.Rules.{goal_of}
 use Rattle.rule_books.specs.declared.rule.Rule as InCode
 use Rattle.rule_books.specs.declared.rule.RuleBook as Code

@@ -7,7 +7,7 @@ ghost use Rattle.evaluation.specs.Candidate.{answer};
 ghost use Rattle.evaluation.specs.Readings.{ConsideredHeld, StepHeld};
 ghost use Rattle.evaluation.specs.Responses.{content};
 ghost use Rattle.goal_frames.specs.Fitting.{ConsideredFits, StepFits};
-ghost use Rattle.goal_frames.specs.Readings.{next_read};
+ghost use Rattle.evaluation.specs.StepReadings.{next_read};
 ghost use Rattle.goal_frames.specs.Merges.{responses_of, merge_of};
 
 use evaluation::{Considered, HandlerStep, copy_response};

@@ -9,7 +9,7 @@ ghost use Rattle.infer_table.specs.Values.{value_of, values_of};
 ghost use Rattle.infer_table.specs.Raw.{variables_from};
 ghost use Rattle.evaluation.specs.Lists.{Every};
 ghost use Rattle.evaluation.specs.Readings.{SpecHeld, EquationHeld};
-ghost use Rattle.goal_frames.specs.Readings.{spec_read};
+ghost use Rattle.evaluation.specs.StepReadings.{spec_read};
 ghost use Rattle.goal_frames.specs.Handlers.{as_one, spec_of, unsure};
 ghost use Rattle.rule_books.specs.Behind.{IsGoalBehind, IsHeadBehind, ArePremisesBehind};
 ghost use Rattle.rule_books.specs.Books.{bound_read, rule_read, is_over, is_rule, BoundsHeld, RuleHeld, asked_of, NestedHeld, rules_of};

@@ -3,6 +3,7 @@ use Rattle.std.proofs.Common.{◌≡◌, ℕ, zero, suc, ◌+◌, ◌<◌, ◌�
 use Rattle.std.proofs.lemmas.Bool.{eqb-true, eq-eqb}
 use Rattle.std.proofs.lemmas.Option.{none-some, same_Some, slice_get_within}
 use Rattle.search_graph.specs.declared.cache.CacheEntry.{CacheEntry}
+use Rattle.search_graph.specs.declared.cache.Asked.{Asked}
 use Rattle.search_graph.specs.Chain.{newest_from, newest_of, AreLinked, IsUsedUnder, used, further, IsAskedUnder, IsUsable}
 use Rattle.indexmap.specs.IndexSet.{insert_key}
 use Rattle.std.specs.List.{list_any}
@@ -156,67 +157,67 @@ module _ {I R : Type 0} where
     pub ahead_end : (steps : ℕ) (next : Option ℕ) → length es ≤ steps → IsAhead es number Fits steps next → (place : ℕ) (e : CacheEntry I R) → slice_get es place ≡ Some e → Fits place e → ⊥
     ahead_end steps next all a place e at fits = let r = a.rest place e at fits in absurd (omega (arith, r.1, a.room, all))
 
-  -- each of these places is the first one, or that of a result that was used under it
-  abbrev pub IsReached : List (CacheEntry I R) → ℕ → List ℕ → Type 0
-  IsReached es place keys = (j q : ℕ) → slice_get keys j ≡ Some q → ((j ≡ 0) × (q ≡ place)) ⊎ IsUsedUnder es place q
-
-  pub reached_first : (es : List (CacheEntry I R)) (place : ℕ) → IsReached es place (place ∷ [])
-  reached_first es place zero q at = inl (refl, sym (same_Some place q at))
-  reached_first es place (suc j) q at = absurd (none-some q at)
-
-  pub reached_insert : (es : List (CacheEntry I R)) (place below : ℕ) (keys : List ℕ) → IsReached es place keys → IsUsedUnder es place below → IsReached es place (insert_key nat_eq keys below)
-  reached_insert es place below keys reached under = by (list_any (nat_eq below) keys)
-    where
-      last : (j q : ℕ) → ((j < length keys) × (slice_get keys j ≡ Some q)) ⊎ ((j ≡ length keys) × (below ≡ q)) → ((j ≡ 0) × (q ≡ place)) ⊎ IsUsedUnder es place q
-      last j q (inl (within, at)) = reached j q at
-      last j q (inr (end, is)) = inr (subst (IsUsedUnder es place) is under)
-
-      by : (b : Bool) → IsReached es place (if b then keys else keys ++ below ∷ [])
-      by true = reached
-      by false = λ j q at. last j q (push_cases keys below q j at)
-
-  -- what was used by a reached result is used under the first one
-  pub reached_used : (es : List (CacheEntry I R)) (place j q : ℕ) (e : CacheEntry I R) (keys : List ℕ) → IsReached es place keys → slice_get keys j ≡ Some q → slice_get es q ≡ Some e
-      → (i below : ℕ) → slice_get e.nested_goals.cached.items i ≡ Some below → IsUsedUnder es place below
-  reached_used es place j q e keys reached at entry i below is = by (reached j q at)
-    where
-      by : ((j ≡ 0) × (q ≡ place)) ⊎ IsUsedUnder es place q → IsUsedUnder es place below
-      by (inl (first, same)) = used i (subst (λ p. slice_get es p ≡ Some e) same entry) is
-      by (inr under) = further i under entry is
-
-  -- and so is what it asked
-  pub reached_asked : (es : List (CacheEntry I R)) (place j q : ℕ) (e : CacheEntry I R) (keys : List ℕ) → IsReached es place keys → slice_get keys j ≡ Some q → slice_get es q ≡ Some e
-      → (i asked : ℕ) → slice_get e.nested_goals.goals.items i ≡ Some asked → IsAskedUnder es place asked
-  reached_asked es place j q e keys reached at entry i asked is = by (reached j q at)
-    where
-      by : ((j ≡ 0) × (q ≡ place)) ⊎ IsUsedUnder es place q → IsAskedUnder es place asked
-      by (inl (first, same)) = inl (e, subst (λ p. slice_get es p ≡ Some e) same entry, (i, is))
-      by (inr under) = inr (q, e, under, entry, inr (i, is))
-
-  -- the goal of a further result was asked under the first one
-  pub reached_goal : (es : List (CacheEntry I R)) (place j q : ℕ) (e : CacheEntry I R) (keys : List ℕ) → IsReached es place keys → slice_get keys j ≡ Some q → slice_get es q ≡ Some e → 0 < j → IsAskedUnder es place e.number
-  reached_goal es place j q e keys reached at entry later = by (reached j q at)
-    where
-      by : ((j ≡ 0) × (q ≡ place)) ⊎ IsUsedUnder es place q → IsAskedUnder es place e.number
-      by (inl (first, same)) = absurd (omega arith)
-      by (inr under) = inr (q, e, under, entry, inl refl)
-
   -- where the goals of one stack are among those of another, what is not usable over the first isn't over the second
-  pub unusable_over : {E : Type 0} (r : Result (Option ℕ) E) (es : List (CacheEntry I R)) (P Q : ℕ → Type 0) (number : ℕ) (input : I) (depth : ℕ) → ((n : ℕ) → P n → Q n)
-      → IfOk r (λ found. IfNone found ((place : ℕ) (e : CacheEntry I R) → slice_get es place ≡ Some e → IsUsable es P number input depth place e → ⊥))
-      → IfOk r (λ found. IfNone found ((place : ℕ) (e : CacheEntry I R) → slice_get es place ≡ Some e → IsUsable es Q number input depth place e → ⊥))
-  unusable_over (Err x) es P Q number input depth among h = tt
-  unusable_over (Ok (Some place)) es P Q number input depth among h = tt
-  unusable_over (Ok None) es P Q number input depth among h = λ place e at usable. h place e at (record { numbered = usable.numbered; same = usable.same; within = usable.within; clear = λ asked under on. usable.clear asked under (among asked on) })
+  pub unusable_over : {E : Type 0} (r : Result (Option ℕ) E) (es : List (CacheEntry I R)) (listed : List Asked) (P Q : ℕ → Type 0) (number : ℕ) (input : I) (depth : ℕ) → ((n : ℕ) → P n → Q n)
+      → IfOk r (λ found. IfNone found ((place : ℕ) (e : CacheEntry I R) → slice_get es place ≡ Some e → IsUsable listed P number input depth e → ⊥))
+      → IfOk r (λ found. IfNone found ((place : ℕ) (e : CacheEntry I R) → slice_get es place ≡ Some e → IsUsable listed Q number input depth e → ⊥))
+  unusable_over (Err x) es listed P Q number input depth among h = tt
+  unusable_over (Ok (Some place)) es listed P Q number input depth among h = tt
+  unusable_over (Ok None) es listed P Q number input depth among h = λ place e at usable. h place e at (record { numbered = usable.numbered; same = usable.same; within = usable.within; clear = λ asked under on. usable.clear asked under (among asked on) })
 
   -- and where they are among them, what is usable over the second is usable over the first
-  pub usable_over : {E : Type 0} (r : Result (Option ℕ) E) (es : List (CacheEntry I R)) (P Q : ℕ → Type 0) (number : ℕ) (input : I) (depth : ℕ) → ((n : ℕ) → Q n → P n)
-      → IfOk r (λ found. IfSome found (λ place. (e : CacheEntry I R) × (slice_get es place ≡ Some e) × IsUsable es P number input depth place e))
-      → IfOk r (λ found. IfSome found (λ place. (e : CacheEntry I R) × (slice_get es place ≡ Some e) × IsUsable es Q number input depth place e))
-  usable_over (Err x) es P Q number input depth among h = tt
-  usable_over (Ok None) es P Q number input depth among h = tt
-  usable_over (Ok (Some place)) es P Q number input depth among h =
+  pub usable_over : {E : Type 0} (r : Result (Option ℕ) E) (es : List (CacheEntry I R)) (listed : List Asked) (P Q : ℕ → Type 0) (number : ℕ) (input : I) (depth : ℕ) → ((n : ℕ) → Q n → P n)
+      → IfOk r (λ found. IfSome found (λ place. (e : CacheEntry I R) × (slice_get es place ≡ Some e) × IsUsable listed P number input depth e))
+      → IfOk r (λ found. IfSome found (λ place. (e : CacheEntry I R) × (slice_get es place ≡ Some e) × IsUsable listed Q number input depth e))
+  usable_over (Err x) es listed P Q number input depth among h = tt
+  usable_over (Ok None) es listed P Q number input depth among h = tt
+  usable_over (Ok (Some place)) es listed P Q number input depth among h =
       (h.0, h.1, record { numbered = h.2.numbered; same = h.2.same; within = h.2.within; clear = λ asked under on. h.2.clear asked under (among asked on) })
+
+-- each of these places is the first one, or that of a result that was used under it
+abbrev pub IsReached : List Asked → ℕ → List ℕ → Type 0
+IsReached es place keys = (j q : ℕ) → slice_get keys j ≡ Some q → ((j ≡ 0) × (q ≡ place)) ⊎ IsUsedUnder es place q
+
+pub reached_first : (es : List Asked) (place : ℕ) → IsReached es place (place ∷ [])
+reached_first es place zero q at = inl (refl, sym (same_Some place q at))
+reached_first es place (suc j) q at = absurd (none-some q at)
+
+pub reached_insert : (es : List Asked) (place below : ℕ) (keys : List ℕ) → IsReached es place keys → IsUsedUnder es place below → IsReached es place (insert_key nat_eq keys below)
+reached_insert es place below keys reached under = by (list_any (nat_eq below) keys)
+  where
+    last : (j q : ℕ) → ((j < length keys) × (slice_get keys j ≡ Some q)) ⊎ ((j ≡ length keys) × (below ≡ q)) → ((j ≡ 0) × (q ≡ place)) ⊎ IsUsedUnder es place q
+    last j q (inl (within, at)) = reached j q at
+    last j q (inr (end, is)) = inr (subst (IsUsedUnder es place) is under)
+
+    by : (b : Bool) → IsReached es place (if b then keys else keys ++ below ∷ [])
+    by true = reached
+    by false = λ j q at. last j q (push_cases keys below q j at)
+
+-- what was used by a reached result is used under the first one
+pub reached_used : (es : List Asked) (place j q : ℕ) (e : Asked) (keys : List ℕ) → IsReached es place keys → slice_get keys j ≡ Some q → slice_get es q ≡ Some e
+    → (i below : ℕ) → slice_get e.nested_goals.cached.items i ≡ Some below → IsUsedUnder es place below
+reached_used es place j q e keys reached at entry i below is = by (reached j q at)
+  where
+    by : ((j ≡ 0) × (q ≡ place)) ⊎ IsUsedUnder es place q → IsUsedUnder es place below
+    by (inl (first, same)) = used i (subst (λ p. slice_get es p ≡ Some e) same entry) is
+    by (inr under) = further i under entry is
+
+-- and so is what it asked
+pub reached_asked : (es : List Asked) (place j q : ℕ) (e : Asked) (keys : List ℕ) → IsReached es place keys → slice_get keys j ≡ Some q → slice_get es q ≡ Some e
+    → (i asked : ℕ) → slice_get e.nested_goals.goals.items i ≡ Some asked → IsAskedUnder es place asked
+reached_asked es place j q e keys reached at entry i asked is = by (reached j q at)
+  where
+    by : ((j ≡ 0) × (q ≡ place)) ⊎ IsUsedUnder es place q → IsAskedUnder es place asked
+    by (inl (first, same)) = inl (e, subst (λ p. slice_get es p ≡ Some e) same entry, (i, is))
+    by (inr under) = inr (q, e, under, entry, inr (i, is))
+
+-- the goal of a further result was asked under the first one
+pub reached_goal : (es : List Asked) (place j q : ℕ) (e : Asked) (keys : List ℕ) → IsReached es place keys → slice_get keys j ≡ Some q → slice_get es q ≡ Some e → 0 < j → IsAskedUnder es place e.number
+reached_goal es place j q e keys reached at entry later = by (reached j q at)
+  where
+    by : ((j ≡ 0) × (q ≡ place)) ⊎ IsUsedUnder es place q → IsAskedUnder es place e.number
+    by (inl (first, same)) = absurd (omega arith)
+    by (inr under) = inr (q, e, under, entry, inl refl)
 
 -- a goal without a result is put at the end, and nothing is found there
 pub get_or_none_push : {X : Type 0} (xs : List (Option X)) (n : ℕ) → get_or (xs ++ None ∷ []) n None ≡ get_or xs n None

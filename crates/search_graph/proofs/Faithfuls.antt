@@ -1,5 +1,5 @@
 -- Runs that follow plain recursion.
-use Rattle.std.proofs.Common.{◌≡◌, ◌≤◌, ◌+◌, ℕ, suc, zero, pred, Bool, true, false, cond, ◌||◌, List, [], ◌∷◌, ◌⊎◌, inl, inr, refl, subst, Some, slice_get, take, drop, length, min, arith}
+use Rattle.std.proofs.Common.{◌≡◌, ◌≤◌, ◌<◌, ◌+◌, ℕ, suc, zero, pred, Bool, true, false, cond, ◌||◌, List, [], ◌∷◌, ◌⊎◌, inl, inr, refl, sym, ◌∙◌, subst, Some, slice_get, take, drop, length, min, arith}
 use Rattle.search_graph.specs.declared.path_kind.PathKind.{PathKind}
 use Rattle.search_graph.specs.declared.delegate.Request.TheVariants.{Evaluate, EnterCandidate, FinishCandidate, IgnoreCandidate, Done}
 use Rattle.search_graph.specs.declared.delegate.Reply.{Reply}
@@ -190,3 +190,12 @@ module _ {C I R F : Type 0} (m : Meaning C I R F) where
       let all : AllDescend m w (pred limit) 0 ((g, j) ∷ path) q =
       ((λ r. Descends-less w limit (pred limit) g q (omega arith) down), AllDescend-on w limit (pred limit) 0 path g q (omega arith) down d) in
       nested (pred limit) (rw told.within (omega arith)) all n x.0 (omega arith) x.2
+
+  -- a goal that ends with a result that rests on others, or after an overflow, isn't plain
+  pub ends_not_plain : (w : m.World) (reach index : ℕ) (path : List (m.Goal × PathKind)) (g : m.Goal) (a : m.Answer) (overflowed : Bool) (low : ℕ) (reads : List CycleHead)
+      → length path ≡ index → (overflowed ≡ true) ⊎ (low < index) → IsFaithful m w reach path g a overflowed low reads
+      → (limit : ℕ) → limit ≤ reach → AllDescend m w limit 0 path g → IsNotPlain m w limit g
+  ends_not_plain w reach index path g a overflowed low reads long ends faithful limit l d n b within p =
+      let told = faithful limit (inl l) (AllDescend-higher w limit 0 low path g (omega arith) d) n b within p in
+      let alone = told.alone in
+      elim ends [ inl x ↦ true_not_false (sym x ∙ told.within) | inr y ↦ absurd (omega (arith, y, alone, long)) ]

@@ -12,9 +12,10 @@ use Rattle.search_graph.specs.declared.nested_goals.Span.{Span}
 use Rattle.search_graph.specs.declared.nested_goals.NestedGoals.{NestedGoals}
 use Rattle.search_graph.specs.Nested.{IsWithin, covered, no_goal, one_goal}
 use Rattle.search_graph.specs.declared.cache.CacheEntry.{CacheEntry}
+use Rattle.search_graph.specs.declared.cache.Asked.{Asked}
 use Rattle.search_graph.specs.declared.stack.StackEntry.{StackEntry}
 use Rattle.search_graph.specs.Cache.{KeepsResults}
-use Rattle.search_graph.specs.Chain.{IsUsedUnder, used, further, IsAsked, IsAskedUnder, AllInRange, AreApart, range_of, AreInRange, AreCovered, AreInRanges}
+use Rattle.search_graph.specs.Chain.{IsUsedUnder, used, further, IsAsked, IsAskedUnder, AllInRange, AreApart, range_of, AreInRange, AreCovered, AreInRanges, numbers_of, AreRecorded}
 use Rattle.search_graph.specs.Stack.{place_from, place_of, span_of_newest}
 use Rattle.search_graph.proofs.Chains.{IsReached, slice_get_take, take_left, take_whole, push_cases}
 use Rattle.search_graph.proofs.Caches.{KeepsResults-push}
@@ -73,259 +74,259 @@ covers_one a n = (omega arith, omega arith)
 pub apart_of : (b : Bool) (found on_stack range : Span) → found ≡ range → b ≡ false → ((number : ℕ) → IsWithin found number → IsWithin on_stack number → IsTrue b) → AreApart range on_stack
 apart_of b found on_stack range same apart shares = λ n one other. true_not_false (sym (shares n (subst (λ z. IsWithin z n) (sym same) one) other) ∙ apart)
 
+-- what a result used
+cached_below : (es : List Asked) → AreCovered es → (place : ℕ) (e : Asked) → slice_get es place ≡ Some e → (i below : ℕ) → slice_get e.nested_goals.cached.items i ≡ Some below
+    → (below < place) × (below < length es) × ((d : Asked) → slice_get es below ≡ Some d → AllInRange (IsWithin (range_of d)) e.nested_goals.span)
+cached_below es covered place e at i below is =
+    let one = all_at (λ p. (p < length (take place es)) × ((d : Asked) → slice_get (take place es) p ≡ Some d → AllInRange (IsWithin (range_of d)) e.nested_goals.span)) e.nested_goals.cached.items i below (covered place e at).1 is in
+    let short = taken es place in
+    let older : below < place = omega (arith, one.0, short.0) in
+    (older, omega (arith, one.0, short.1), λ d there. one.1 d (slice_get_take es place below older ∙ there))
+
+asked_in : (es : List Asked) → AreCovered es → (place : ℕ) (e : Asked) → slice_get es place ≡ Some e → (number : ℕ) → IsAsked e number → IsWithin e.nested_goals.span number
+asked_in es covered place e at number asked = all_at (IsWithin e.nested_goals.span) e.nested_goals.goals.items asked.0 number (covered place e at).0 asked.1
+
+-- what is used under a result is older
+pub used_older : (es : List Asked) → AreCovered es → (place below : ℕ) → IsUsedUnder es place below → (below < place) × (below < length es)
+used_older es covered place below (used {e = e} i at is) = let one = cached_below es covered place e at i below is in (one.0, one.1)
+used_older es covered place below (further {e = e} {above = above} i under at is) =
+    let one = cached_below es covered above e at i below is in
+    let more = used_older es covered place above under in
+    (omega (arith, one.0, more.0), one.1)
+
+-- and its range lies in that of the result
+pub used_within : (es : List Asked) → AreCovered es → (place below : ℕ) (e d : Asked) → slice_get es place ≡ Some e → IsUsedUnder es place below → slice_get es below ≡ Some d → AllInRange (IsWithin (range_of d)) e.nested_goals.span
+used_within es covered place below e d at (used {e = f} i at-f is) there =
+    let same : f ≡ e = same_Some f e (sym at-f ∙ at) in
+    rw same at ((cached_below es covered place f at-f i below is).2 d there)
+used_within es covered place below e d at (further {e = f} {above = above} i under at-f is) there = λ n within.
+    used_within es covered place above e f at under at-f n (covers_left f.nested_goals.span (one_goal f.number) n ((cached_below es covered above f at-f i below is).2 d there n within))
+
+-- all that was asked under a result lies in its range
+pub asked_within : (es : List Asked) → AreCovered es → (place : ℕ) (e : Asked) → slice_get es place ≡ Some e → AllInRange (IsAskedUnder es place) e.nested_goals.span
+asked_within es covered place e at n (inl (d, there, asked)) =
+    let same : d ≡ e = same_Some d e (sym there ∙ at) in
+    rw same at (asked_in es covered place d there n asked)
+asked_within es covered place e at n (inr (below, d, under, there, inl is)) =
+    used_within es covered place below e d at under there n (subst (IsWithin (range_of d)) is (covers_one d.nested_goals.span d.number))
+asked_within es covered place e at n (inr (below, d, under, there, inr asked)) =
+    used_within es covered place below e d at under there n (covers_left d.nested_goals.span (one_goal d.number) n (asked_in es covered below d there n asked))
+
+-- where no goal of the stack lies in the range, none was asked under the result
+pub apart_clear : (es : List Asked) → AreCovered es → (IsOnStack : ℕ → Type 0) (on_stack : Span) → AllInRange IsOnStack on_stack → (place : ℕ) (e : Asked) → slice_get es place ≡ Some e → AreApart e.nested_goals.span on_stack
+    → (asked : ℕ) → IsAskedUnder es place asked → IsOnStack asked → ⊥
+apart_clear es covered IsOnStack on_stack all place e at apart asked under on = apart asked (asked_within es covered place e at asked under) (all asked on)
+
+-- nothing was asked under a result that isn't there
+pub absent_clear : (es : List Asked) → AreCovered es → (place : ℕ) → slice_get es place ≡ None → (asked : ℕ) → IsAskedUnder es place asked → ⊥
+absent_clear es covered place none asked (inl (e, at, is)) = none-some e (sym none ∙ at)
+absent_clear es covered place none asked (inr (below, d, under, there, is)) = first place below under none
+  where
+    first : (p q : ℕ) → IsUsedUnder es p q → slice_get es p ≡ None → ⊥
+    first p q (used {e = e} i at is) gone = none-some e (sym gone ∙ at)
+    first p q (further {above = above} i above_under at is) gone = first p above above_under gone
+
+-- a result is reached, or lies apart from the stack
+abbrev pub IsSettled : List Asked → Span → List ℕ → ℕ → Type 0
+IsSettled es on_stack keys place = ((j : ℕ) × (slice_get keys j ≡ Some place)) ⊎ ((e : Asked) → slice_get es place ≡ Some e → AreApart (range_of e) on_stack)
+
+-- a reached result was looked through
+pub record IsSeen (es : List Asked) (IsOnStack : ℕ → Type 0) (on_stack : Span) (keys : List ℕ) (j : ℕ) (e : Asked) : Type 0 where
+  pub own : 0 < j → IsOnStack e.number → ⊥
+  pub goals : All (λ asked. IsOnStack asked → ⊥) e.nested_goals.goals.items
+  pub cached : All (IsSettled es on_stack keys) e.nested_goals.cached.items
+
+abbrev pub AreSeen : List Asked → (ℕ → Type 0) → Span → List ℕ → ℕ → Type 0
+AreSeen es IsOnStack on_stack keys rounds = (j place : ℕ) (e : Asked) → j < rounds → slice_get keys j ≡ Some place → slice_get es place ≡ Some e → IsSeen es IsOnStack on_stack keys j e
+
+-- what was looked through stays so where more is reached
+pub settled_more : (es : List Asked) (on_stack : Span) (keys more : List ℕ) → KeepsResults keys more → (place : ℕ) → IsSettled es on_stack keys place → IsSettled es on_stack more place
+settled_more es on_stack keys more stay place (inl (j, at)) = inl (j, stay j place at)
+settled_more es on_stack keys more stay place (inr apart) = inr apart
+
+pub settled_next : (es : List Asked) (on_stack : Span) (keys more places : List ℕ) (i p : ℕ) → KeepsResults keys more → ((k place : ℕ) → k < i → slice_get places k ≡ Some place → IsSettled es on_stack keys place)
+    → slice_get places i ≡ Some p → IsSettled es on_stack more p → (k place : ℕ) → k < i + 1 → slice_get places k ≡ Some place → IsSettled es on_stack more place
+settled_next es on_stack keys more places i p stay before at now k place within at-k = by (nat_eq k i) refl
+  where
+    by : (b : Bool) → nat_eq k i ≡ b → IsSettled es on_stack more place
+    by true is = subst (IsSettled es on_stack more) (same_Some p place (sym at ∙ ap (slice_get places) (sym (eqb-true k i is)) ∙ at-k)) now
+    by false is =
+        let other : k ≡ i → ⊥ = λ s. true_not_false (sym (eq-eqb k i s) ∙ is) in
+        settled_more es on_stack keys more stay place (before k place (omega (arith, other, within)) at-k)
+
+pub seen_next : (es : List Asked) (IsOnStack : ℕ → Type 0) (on_stack : Span) (keys more : List ℕ) (round below : ℕ) (e : Asked) → AreSeen es IsOnStack on_stack keys round → KeepsResults keys more
+    → slice_get keys round ≡ Some below → slice_get es below ≡ Some e
+    → (0 < round → IsOnStack e.number → ⊥) → All (λ asked. IsOnStack asked → ⊥) e.nested_goals.goals.items → All (IsSettled es on_stack more) e.nested_goals.cached.items
+    → AreSeen es IsOnStack on_stack more (round + 1)
+seen_next es IsOnStack on_stack keys more round below e seen stay at there own goals cached j place d within at-j there-d = by (nat_eq j round) refl
+  where
+    earlier : (k p : ℕ) (f : Asked) → k < round → slice_get more k ≡ Some p → slice_get es p ≡ Some f → (q : ℕ) → slice_get keys k ≡ Some q → IsSeen es IsOnStack on_stack more k f
+    earlier k p f lt at-k there-f q was =
+        let same : q ≡ p = same_Some q p (sym (stay k q was) ∙ at-k) in
+        let old = seen k q f lt was (ap (slice_get es) same ∙ there-f) in
+        record {
+          own = old.own;
+          goals = old.goals;
+          cached = all_from (IsSettled es on_stack more) f.nested_goals.cached.items (λ i x is. settled_more es on_stack keys more stay x (all_at (IsSettled es on_stack keys) f.nested_goals.cached.items i x old.cached is));
+        }
+
+    inside : (k n : ℕ) (ks : List ℕ) → k < n → n < length ks → (q : ℕ) × (slice_get ks k ≡ Some q)
+    inside k n [] lt long = absurd (omega arith)
+    inside zero n (x ∷ ks) lt long = (x, refl)
+    inside (suc k) zero (x ∷ ks) lt long = absurd (omega arith)
+    inside (suc k) (suc n) (x ∷ ks) lt long = inside k n ks (omega arith) (omega arith)
+
+    by : (b : Bool) → nat_eq j round ≡ b → IsSeen es IsOnStack on_stack more j d
+    by true is =
+        let here : j ≡ round = eqb-true j round is in
+        let same : below ≡ place = same_Some below place (sym (stay round below at) ∙ ap (slice_get more) (sym here) ∙ at-j) in
+        let entry : e ≡ d = same_Some e d (sym there ∙ ap (slice_get es) same ∙ there-d) in
+        subst (IsSeen es IsOnStack on_stack more j) entry (record { own = λ later. own (subst (λ k. 0 < k) here later); goals = goals; cached = cached })
+    by false is =
+        let other : j ≡ round → ⊥ = λ s. true_not_false (sym (eq-eqb j round s) ∙ is) in
+        let lt : j < round = omega (arith, other, within) in
+        let was = inside j round keys lt (slice_get_within keys round below at) in
+        earlier j place d lt at-j there-d was.0 was.1
+
+-- where all that was reached was looked through, nothing that was asked under the first is on the stack
+module _ (es : List Asked) (covered : AreCovered es) (IsOnStack : ℕ → Type 0) (on_stack : Span) (all : AllInRange IsOnStack on_stack) (place : ℕ) (keys : List ℕ) (first : slice_get keys 0 ≡ Some place) where
+  settled_cached : (rounds : ℕ) → length keys ≤ rounds → AreSeen es IsOnStack on_stack keys rounds → (above : ℕ) (e : Asked) → slice_get es above ≡ Some e → IsSettled es on_stack keys above → (i below : ℕ) → slice_get e.nested_goals.cached.items i ≡ Some below → IsSettled es on_stack keys below
+  settled_cached rounds whole seen above e at (inl (j, reached)) i below is =
+      let inside = slice_get_within keys j above reached in
+      all_at (IsSettled es on_stack keys) e.nested_goals.cached.items i below (seen j above e (omega (arith, inside, whole)) reached at).cached is
+  settled_cached rounds whole seen above e at (inr apart) i below is = inr (λ d there n within. apart e at n (covers_left e.nested_goals.span (one_goal e.number) n ((cached_below es covered above e at i below is).2 d there n within)))
+
+  settled_used : (rounds : ℕ) → length keys ≤ rounds → AreSeen es IsOnStack on_stack keys rounds → (below : ℕ) → IsUsedUnder es place below → IsSettled es on_stack keys below
+  settled_used rounds whole seen below (used {e = e} i at is) = settled_cached rounds whole seen place e at (inl (0, first)) i below is
+  settled_used rounds whole seen below (further {e = e} {above = above} i under at is) = settled_cached rounds whole seen above e at (settled_used rounds whole seen above under) i below is
+
+  pub seen_clear : (rounds : ℕ) → length keys ≤ rounds → AreSeen es IsOnStack on_stack keys rounds → (asked : ℕ) → IsAskedUnder es place asked → IsOnStack asked → ⊥
+  seen_clear rounds whole seen asked (inl (e, at, (i, is))) on =
+      let inside = slice_get_within keys 0 place first in
+      all_at (λ n. IsOnStack n → ⊥) e.nested_goals.goals.items i asked (seen 0 place e (omega (arith, inside, whole)) first at).goals is on
+  seen_clear rounds whole seen asked (inr (below, d, under, there, how)) on = by (settled_used rounds whole seen below under) how
+    where
+      later : (j : ℕ) → slice_get keys j ≡ Some below → 0 < j
+      later zero at =
+          let same : place ≡ below = same_Some place below (sym first ∙ at) in
+          let older = (used_older es covered place below under).0 in
+          absurd (omega (arith, same, older))
+      later (suc j) at = omega arith
+
+      by : IsSettled es on_stack keys below → (d.number ≡ asked) ⊎ IsAsked d asked → ⊥
+      by (inl (j, reached)) (inl is) =
+          let inside = slice_get_within keys j below reached in
+          (seen j below d (omega (arith, inside, whole)) reached there).own (later j reached) (subst IsOnStack (sym is) on)
+      by (inl (j, reached)) (inr (i, is)) =
+          let inside = slice_get_within keys j below reached in
+          all_at (λ n. IsOnStack n → ⊥) d.nested_goals.goals.items i asked (seen j below d (omega (arith, inside, whole)) reached there).goals is on
+      by (inr apart) (inl is) = apart d there asked (subst (IsWithin (range_of d)) is (covers_one d.nested_goals.span d.number)) (all asked on)
+      by (inr apart) (inr is) = apart d there asked (covers_left d.nested_goals.span (one_goal d.number) asked (asked_in es covered below d there asked is)) (all asked on)
+
+-- each reached place is one of the cache
+pub reached_inside : (es : List Asked) → AreCovered es → (place : ℕ) → place < length es → (keys : List ℕ) → IsReached es place keys → (j q : ℕ) → slice_get keys j ≡ Some q → q < length es
+reached_inside es covered place within keys reached j q at = by (reached j q at)
+  where
+    by : ((j ≡ 0) × (q ≡ place)) ⊎ IsUsedUnder es place q → q < length es
+    by (inl (first, same)) = omega (arith, same, within)
+    by (inr under) = (used_older es covered place q under).1
+
+-- so no more of them are reached than there are
+pub reached_count : (es : List Asked) → AreCovered es → (place : ℕ) → place < length es → (keys : List ℕ) → IsReached es place keys → IsDistinct nat_eq keys → length keys ≤ length es
+reached_count es covered place within keys reached distinct = length-le_from_distinct_below keys (length es) distinct (λ q is. let at = found_key keys q is in reached_inside es covered place within keys reached at.0 q at.1)
+
+-- what a stretch of the list of reached places adds was used under the first one
+pub reached_more : (es : List Asked) (place j below : ℕ) (e : Asked) (keys more : List ℕ) → IsReached es place keys → slice_get keys j ≡ Some below → slice_get es below ≡ Some e
+    → ((k q : ℕ) → slice_get more k ≡ Some q → (slice_get keys k ≡ Some q) ⊎ ((i : ℕ) × (slice_get e.nested_goals.cached.items i ≡ Some q))) → IsReached es place more
+reached_more es place j below e keys more reached at there among k q at-k = by (among k q at-k)
+  where
+    under : (i : ℕ) → slice_get e.nested_goals.cached.items i ≡ Some q → ((j ≡ 0) × (below ≡ place)) ⊎ IsUsedUnder es place below → IsUsedUnder es place q
+    under i is (inl (first, same)) = used i (subst (λ p. slice_get es p ≡ Some e) same there) is
+    under i is (inr deeper) = further i deeper there is
+
+    by : (slice_get keys k ≡ Some q) ⊎ ((i : ℕ) × (slice_get e.nested_goals.cached.items i ≡ Some q)) → ((k ≡ 0) × (q ≡ place)) ⊎ IsUsedUnder es place q
+    by (inl was) = reached k q was
+    by (inr (i, is)) = inr (under i is (reached j below at))
+
+-- the goals lie in their range after more results are kept
+pub in_range_later : (es later : List Asked) (nested : NestedGoals) → KeepsResults es later → AreInRange es nested → AreInRange later nested
+in_range_later es later nested stay h = (
+  h.0,
+  all_from (λ place. (place < length later) × ((e : Asked) → slice_get later place ≡ Some e → AllInRange (IsWithin (range_of e)) nested.span)) nested.cached.items (λ i place is.
+      let one = all_at (λ p. (p < length es) × ((e : Asked) → slice_get es p ≡ Some e → AllInRange (IsWithin (range_of e)) nested.span)) nested.cached.items i place h.1 is in
+      by place one.0 one.1),
+)
+  where
+    there : (xs : List Asked) (k : ℕ) → k < length xs → (d : Asked) × (slice_get xs k ≡ Some d)
+    there [] k lt = absurd (omega arith)
+    there (x ∷ xs) zero lt = (x, refl)
+    there (x ∷ xs) (suc k) lt = there xs k (omega arith)
+
+    by : (place : ℕ) → place < length es → ((e : Asked) → slice_get es place ≡ Some e → AllInRange (IsWithin (range_of e)) nested.span) → (place < length later) × ((e : Asked) → slice_get later place ≡ Some e → AllInRange (IsWithin (range_of e)) nested.span)
+    by place lt ranges =
+        let d = there es place lt in
+        let kept = stay place d.0 d.1 in
+        (slice_get_within later place d.0 kept, λ e at. rw (same_Some d.0 e (sym kept ∙ at)) at (ranges d.0 d.1))
+
+-- each result used older ones after one more is kept
+pub covered_push : (es : List Asked) (x : Asked) → AreCovered es → AreInRange es x.nested_goals → AreCovered (es ++ x ∷ [])
+covered_push es x covered nested place e at = by (push_cases es x e place at)
+  where
+    by : ((place < length es) × (slice_get es place ≡ Some e)) ⊎ ((place ≡ length es) × (x ≡ e)) → AreInRange (take place (es ++ x ∷ [])) e.nested_goals
+    by (inl (within, is)) = rw (take_left es x place (omega arith)) (covered place e is)
+    by (inr (end, is)) = rw (← is, end, take_left es x (length es) (omega arith), take_whole es) nested
+
+wider : (es : List Asked) (old new : Span) (cached : List ℕ) → AllInRange (IsWithin old) new
+    → All (λ place. (place < length es) × ((e : Asked) → slice_get es place ≡ Some e → AllInRange (IsWithin (range_of e)) old)) cached
+    → All (λ place. (place < length es) × ((e : Asked) → slice_get es place ≡ Some e → AllInRange (IsWithin (range_of e)) new)) cached
+wider es old new cached grows h = all_from (λ place. (place < length es) × ((e : Asked) → slice_get es place ≡ Some e → AllInRange (IsWithin (range_of e)) new)) cached (λ i place is.
+    let one = all_at (λ p. (p < length es) × ((e : Asked) → slice_get es p ≡ Some e → AllInRange (IsWithin (range_of e)) old)) cached i place h is in
+    (one.0, λ e at n within. grows n (one.1 e at n within)))
+
+-- of no goal
+pub in_range_none : (es : List Asked) (nested : NestedGoals) → nested.goals.items ≡ [] → nested.cached.items ≡ [] → AreInRange es nested
+in_range_none es nested goals cached = (
+  all_from (IsWithin nested.span) nested.goals.items (λ i x is. absurd (none-some x (rw goals at is))),
+  all_from (λ place. (place < length es) × ((e : Asked) → slice_get es place ≡ Some e → AllInRange (IsWithin (range_of e)) nested.span)) nested.cached.items (λ i x is. absurd (none-some x (rw cached at is))),
+)
+
+-- after one more goal
+pub in_range_goal : (es : List Asked) (old new : NestedGoals) (number : ℕ) → new.goals.items ≡ old.goals.items ++ number ∷ [] → new.cached.items ≡ old.cached.items → new.span ≡ covered old.span (one_goal number) → AreInRange es old → AreInRange es new
+in_range_goal es old new number goals cached span h = (
+  rw (goals, span) (All-push (IsWithin (covered old.span (one_goal number))) old.goals.items number (all_from (IsWithin (covered old.span (one_goal number))) old.goals.items (λ i x is. covers_left old.span (one_goal number) x (all_at (IsWithin old.span) old.goals.items i x h.0 is))) (covers_one old.span number)),
+  rw (cached, span) (wider es old.span (covered old.span (one_goal number)) old.cached.items (covers_left old.span (one_goal number)) h.1),
+)
+
+-- of one goal
+pub in_range_one : (es : List Asked) (nested : NestedGoals) (number : ℕ) → nested.goals.items ≡ number ∷ [] → nested.cached.items ≡ [] → nested.span ≡ covered no_goal (one_goal number) → AreInRange es nested
+in_range_one es nested number goals cached span = (
+  rw (goals, span) (All-push (IsWithin (covered no_goal (one_goal number))) [] number (All-nil (IsWithin (covered no_goal (one_goal number)))) (covers_one no_goal number)),
+  all_from (λ place. (place < length es) × ((e : Asked) → slice_get es place ≡ Some e → AllInRange (IsWithin (range_of e)) nested.span)) nested.cached.items (λ i x is. absurd (none-some x (rw cached at is))),
+)
+
+-- of one cached result
+pub in_range_cached : (es : List Asked) (nested : NestedGoals) (place : ℕ) (e : Asked) → slice_get es place ≡ Some e → nested.goals.items ≡ [] → nested.cached.items ≡ place ∷ [] → nested.span ≡ covered no_goal (range_of e) → AreInRange es nested
+in_range_cached es nested place e at goals cached span = (
+  all_from (IsWithin nested.span) nested.goals.items (λ i x is. absurd (none-some x (rw goals at is))),
+  rw (cached, span) (All-push (λ p. (p < length es) × ((d : Asked) → slice_get es p ≡ Some d → AllInRange (IsWithin (range_of d)) (covered no_goal (range_of e)))) [] place
+      (All-nil (λ p. (p < length es) × ((d : Asked) → slice_get es p ≡ Some d → AllInRange (IsWithin (range_of d)) (covered no_goal (range_of e)))))
+      (slice_get_within es place e at, λ d there n within. covers_right no_goal (range_of e) n (subst (λ z. IsWithin (range_of z) n) (same_Some d e (sym there ∙ at)) within))),
+)
+
+-- after those of another list
+pub in_range_gather : (es : List Asked) (old more new : NestedGoals) → IsPermutation (old.goals.items ++ more.goals.items) new.goals.items → IsPermutation (old.cached.items ++ more.cached.items) new.cached.items → new.span ≡ covered old.span more.span
+    → AreInRange es old → AreInRange es more → AreInRange es new
+in_range_gather es old more new goals cached span h k = (
+  rw span (All-permutation (IsWithin (covered old.span more.span)) (old.goals.items ++ more.goals.items) new.goals.items goals (All-append (IsWithin (covered old.span more.span)) old.goals.items more.goals.items
+      (all_from (IsWithin (covered old.span more.span)) old.goals.items (λ i x is. covers_left old.span more.span x (all_at (IsWithin old.span) old.goals.items i x h.0 is)))
+      (all_from (IsWithin (covered old.span more.span)) more.goals.items (λ i x is. covers_right old.span more.span x (all_at (IsWithin more.span) more.goals.items i x k.0 is))))),
+  rw span (All-permutation (λ place. (place < length es) × ((e : Asked) → slice_get es place ≡ Some e → AllInRange (IsWithin (range_of e)) (covered old.span more.span))) (old.cached.items ++ more.cached.items) new.cached.items cached
+      (All-append (λ place. (place < length es) × ((e : Asked) → slice_get es place ≡ Some e → AllInRange (IsWithin (range_of e)) (covered old.span more.span))) old.cached.items more.cached.items
+      (wider es old.span (covered old.span more.span) old.cached.items (covers_left old.span more.span) h.1)
+      (wider es more.span (covered old.span more.span) more.cached.items (covers_right old.span more.span) k.1))),
+)
+
 module _ {I R : Type 0} where
-  -- what a result used
-  cached_below : (es : List (CacheEntry I R)) → AreCovered es → (place : ℕ) (e : CacheEntry I R) → slice_get es place ≡ Some e → (i below : ℕ) → slice_get e.nested_goals.cached.items i ≡ Some below
-      → (below < place) × (below < length es) × ((d : CacheEntry I R) → slice_get es below ≡ Some d → AllInRange (IsWithin (range_of d)) e.nested_goals.span)
-  cached_below es covered place e at i below is =
-      let one = all_at (λ p. (p < length (take place es)) × ((d : CacheEntry I R) → slice_get (take place es) p ≡ Some d → AllInRange (IsWithin (range_of d)) e.nested_goals.span)) e.nested_goals.cached.items i below (covered place e at).1 is in
-      let short = taken es place in
-      let older : below < place = omega (arith, one.0, short.0) in
-      (older, omega (arith, one.0, short.1), λ d there. one.1 d (slice_get_take es place below older ∙ there))
-
-  asked_in : (es : List (CacheEntry I R)) → AreCovered es → (place : ℕ) (e : CacheEntry I R) → slice_get es place ≡ Some e → (number : ℕ) → IsAsked e number → IsWithin e.nested_goals.span number
-  asked_in es covered place e at number asked = all_at (IsWithin e.nested_goals.span) e.nested_goals.goals.items asked.0 number (covered place e at).0 asked.1
-
-  -- what is used under a result is older
-  pub used_older : (es : List (CacheEntry I R)) → AreCovered es → (place below : ℕ) → IsUsedUnder es place below → (below < place) × (below < length es)
-  used_older es covered place below (used {e = e} i at is) = let one = cached_below es covered place e at i below is in (one.0, one.1)
-  used_older es covered place below (further {e = e} {above = above} i under at is) =
-      let one = cached_below es covered above e at i below is in
-      let more = used_older es covered place above under in
-      (omega (arith, one.0, more.0), one.1)
-
-  -- and its range lies in that of the result
-  pub used_within : (es : List (CacheEntry I R)) → AreCovered es → (place below : ℕ) (e d : CacheEntry I R) → slice_get es place ≡ Some e → IsUsedUnder es place below → slice_get es below ≡ Some d → AllInRange (IsWithin (range_of d)) e.nested_goals.span
-  used_within es covered place below e d at (used {e = f} i at-f is) there =
-      let same : f ≡ e = same_Some f e (sym at-f ∙ at) in
-      rw same at ((cached_below es covered place f at-f i below is).2 d there)
-  used_within es covered place below e d at (further {e = f} {above = above} i under at-f is) there = λ n within.
-      used_within es covered place above e f at under at-f n (covers_left f.nested_goals.span (one_goal f.number) n ((cached_below es covered above f at-f i below is).2 d there n within))
-
-  -- all that was asked under a result lies in its range
-  pub asked_within : (es : List (CacheEntry I R)) → AreCovered es → (place : ℕ) (e : CacheEntry I R) → slice_get es place ≡ Some e → AllInRange (IsAskedUnder es place) e.nested_goals.span
-  asked_within es covered place e at n (inl (d, there, asked)) =
-      let same : d ≡ e = same_Some d e (sym there ∙ at) in
-      rw same at (asked_in es covered place d there n asked)
-  asked_within es covered place e at n (inr (below, d, under, there, inl is)) =
-      used_within es covered place below e d at under there n (subst (IsWithin (range_of d)) is (covers_one d.nested_goals.span d.number))
-  asked_within es covered place e at n (inr (below, d, under, there, inr asked)) =
-      used_within es covered place below e d at under there n (covers_left d.nested_goals.span (one_goal d.number) n (asked_in es covered below d there n asked))
-
-  -- where no goal of the stack lies in the range, none was asked under the result
-  pub apart_clear : (es : List (CacheEntry I R)) → AreCovered es → (IsOnStack : ℕ → Type 0) (on_stack : Span) → AllInRange IsOnStack on_stack → (place : ℕ) (e : CacheEntry I R) → slice_get es place ≡ Some e → AreApart e.nested_goals.span on_stack
-      → (asked : ℕ) → IsAskedUnder es place asked → IsOnStack asked → ⊥
-  apart_clear es covered IsOnStack on_stack all place e at apart asked under on = apart asked (asked_within es covered place e at asked under) (all asked on)
-
-  -- nothing was asked under a result that isn't there
-  pub absent_clear : (es : List (CacheEntry I R)) → AreCovered es → (place : ℕ) → slice_get es place ≡ None → (asked : ℕ) → IsAskedUnder es place asked → ⊥
-  absent_clear es covered place none asked (inl (e, at, is)) = none-some e (sym none ∙ at)
-  absent_clear es covered place none asked (inr (below, d, under, there, is)) = first place below under none
-    where
-      first : (p q : ℕ) → IsUsedUnder es p q → slice_get es p ≡ None → ⊥
-      first p q (used {e = e} i at is) gone = none-some e (sym gone ∙ at)
-      first p q (further {above = above} i above_under at is) gone = first p above above_under gone
-
-  -- a result is reached, or lies apart from the stack
-  abbrev pub IsSettled : List (CacheEntry I R) → Span → List ℕ → ℕ → Type 0
-  IsSettled es on_stack keys place = ((j : ℕ) × (slice_get keys j ≡ Some place)) ⊎ ((e : CacheEntry I R) → slice_get es place ≡ Some e → AreApart (range_of e) on_stack)
-
-  -- a reached result was looked through
-  pub record IsSeen (es : List (CacheEntry I R)) (IsOnStack : ℕ → Type 0) (on_stack : Span) (keys : List ℕ) (j : ℕ) (e : CacheEntry I R) : Type 0 where
-    pub own : 0 < j → IsOnStack e.number → ⊥
-    pub goals : All (λ asked. IsOnStack asked → ⊥) e.nested_goals.goals.items
-    pub cached : All (IsSettled es on_stack keys) e.nested_goals.cached.items
-
-  abbrev pub AreSeen : List (CacheEntry I R) → (ℕ → Type 0) → Span → List ℕ → ℕ → Type 0
-  AreSeen es IsOnStack on_stack keys rounds = (j place : ℕ) (e : CacheEntry I R) → j < rounds → slice_get keys j ≡ Some place → slice_get es place ≡ Some e → IsSeen es IsOnStack on_stack keys j e
-
-  -- what was looked through stays so where more is reached
-  pub settled_more : (es : List (CacheEntry I R)) (on_stack : Span) (keys more : List ℕ) → KeepsResults keys more → (place : ℕ) → IsSettled es on_stack keys place → IsSettled es on_stack more place
-  settled_more es on_stack keys more stay place (inl (j, at)) = inl (j, stay j place at)
-  settled_more es on_stack keys more stay place (inr apart) = inr apart
-
-  pub settled_next : (es : List (CacheEntry I R)) (on_stack : Span) (keys more places : List ℕ) (i p : ℕ) → KeepsResults keys more → ((k place : ℕ) → k < i → slice_get places k ≡ Some place → IsSettled es on_stack keys place)
-      → slice_get places i ≡ Some p → IsSettled es on_stack more p → (k place : ℕ) → k < i + 1 → slice_get places k ≡ Some place → IsSettled es on_stack more place
-  settled_next es on_stack keys more places i p stay before at now k place within at-k = by (nat_eq k i) refl
-    where
-      by : (b : Bool) → nat_eq k i ≡ b → IsSettled es on_stack more place
-      by true is = subst (IsSettled es on_stack more) (same_Some p place (sym at ∙ ap (slice_get places) (sym (eqb-true k i is)) ∙ at-k)) now
-      by false is =
-          let other : k ≡ i → ⊥ = λ s. true_not_false (sym (eq-eqb k i s) ∙ is) in
-          settled_more es on_stack keys more stay place (before k place (omega (arith, other, within)) at-k)
-
-  pub seen_next : (es : List (CacheEntry I R)) (IsOnStack : ℕ → Type 0) (on_stack : Span) (keys more : List ℕ) (round below : ℕ) (e : CacheEntry I R) → AreSeen es IsOnStack on_stack keys round → KeepsResults keys more
-      → slice_get keys round ≡ Some below → slice_get es below ≡ Some e
-      → (0 < round → IsOnStack e.number → ⊥) → All (λ asked. IsOnStack asked → ⊥) e.nested_goals.goals.items → All (IsSettled es on_stack more) e.nested_goals.cached.items
-      → AreSeen es IsOnStack on_stack more (round + 1)
-  seen_next es IsOnStack on_stack keys more round below e seen stay at there own goals cached j place d within at-j there-d = by (nat_eq j round) refl
-    where
-      earlier : (k p : ℕ) (f : CacheEntry I R) → k < round → slice_get more k ≡ Some p → slice_get es p ≡ Some f → (q : ℕ) → slice_get keys k ≡ Some q → IsSeen es IsOnStack on_stack more k f
-      earlier k p f lt at-k there-f q was =
-          let same : q ≡ p = same_Some q p (sym (stay k q was) ∙ at-k) in
-          let old = seen k q f lt was (ap (slice_get es) same ∙ there-f) in
-          record {
-            own = old.own;
-            goals = old.goals;
-            cached = all_from (IsSettled es on_stack more) f.nested_goals.cached.items (λ i x is. settled_more es on_stack keys more stay x (all_at (IsSettled es on_stack keys) f.nested_goals.cached.items i x old.cached is));
-          }
-
-      inside : (k n : ℕ) (ks : List ℕ) → k < n → n < length ks → (q : ℕ) × (slice_get ks k ≡ Some q)
-      inside k n [] lt long = absurd (omega arith)
-      inside zero n (x ∷ ks) lt long = (x, refl)
-      inside (suc k) zero (x ∷ ks) lt long = absurd (omega arith)
-      inside (suc k) (suc n) (x ∷ ks) lt long = inside k n ks (omega arith) (omega arith)
-
-      by : (b : Bool) → nat_eq j round ≡ b → IsSeen es IsOnStack on_stack more j d
-      by true is =
-          let here : j ≡ round = eqb-true j round is in
-          let same : below ≡ place = same_Some below place (sym (stay round below at) ∙ ap (slice_get more) (sym here) ∙ at-j) in
-          let entry : e ≡ d = same_Some e d (sym there ∙ ap (slice_get es) same ∙ there-d) in
-          subst (IsSeen es IsOnStack on_stack more j) entry (record { own = λ later. own (subst (λ k. 0 < k) here later); goals = goals; cached = cached })
-      by false is =
-          let other : j ≡ round → ⊥ = λ s. true_not_false (sym (eq-eqb j round s) ∙ is) in
-          let lt : j < round = omega (arith, other, within) in
-          let was = inside j round keys lt (slice_get_within keys round below at) in
-          earlier j place d lt at-j there-d was.0 was.1
-
-  -- where all that was reached was looked through, nothing that was asked under the first is on the stack
-  module _ (es : List (CacheEntry I R)) (covered : AreCovered es) (IsOnStack : ℕ → Type 0) (on_stack : Span) (all : AllInRange IsOnStack on_stack) (place : ℕ) (keys : List ℕ) (first : slice_get keys 0 ≡ Some place) where
-    settled_cached : (rounds : ℕ) → length keys ≤ rounds → AreSeen es IsOnStack on_stack keys rounds → (above : ℕ) (e : CacheEntry I R) → slice_get es above ≡ Some e → IsSettled es on_stack keys above → (i below : ℕ) → slice_get e.nested_goals.cached.items i ≡ Some below → IsSettled es on_stack keys below
-    settled_cached rounds whole seen above e at (inl (j, reached)) i below is =
-        let inside = slice_get_within keys j above reached in
-        all_at (IsSettled es on_stack keys) e.nested_goals.cached.items i below (seen j above e (omega (arith, inside, whole)) reached at).cached is
-    settled_cached rounds whole seen above e at (inr apart) i below is = inr (λ d there n within. apart e at n (covers_left e.nested_goals.span (one_goal e.number) n ((cached_below es covered above e at i below is).2 d there n within)))
-
-    settled_used : (rounds : ℕ) → length keys ≤ rounds → AreSeen es IsOnStack on_stack keys rounds → (below : ℕ) → IsUsedUnder es place below → IsSettled es on_stack keys below
-    settled_used rounds whole seen below (used {e = e} i at is) = settled_cached rounds whole seen place e at (inl (0, first)) i below is
-    settled_used rounds whole seen below (further {e = e} {above = above} i under at is) = settled_cached rounds whole seen above e at (settled_used rounds whole seen above under) i below is
-
-    pub seen_clear : (rounds : ℕ) → length keys ≤ rounds → AreSeen es IsOnStack on_stack keys rounds → (asked : ℕ) → IsAskedUnder es place asked → IsOnStack asked → ⊥
-    seen_clear rounds whole seen asked (inl (e, at, (i, is))) on =
-        let inside = slice_get_within keys 0 place first in
-        all_at (λ n. IsOnStack n → ⊥) e.nested_goals.goals.items i asked (seen 0 place e (omega (arith, inside, whole)) first at).goals is on
-    seen_clear rounds whole seen asked (inr (below, d, under, there, how)) on = by (settled_used rounds whole seen below under) how
-      where
-        later : (j : ℕ) → slice_get keys j ≡ Some below → 0 < j
-        later zero at =
-            let same : place ≡ below = same_Some place below (sym first ∙ at) in
-            let older = (used_older es covered place below under).0 in
-            absurd (omega (arith, same, older))
-        later (suc j) at = omega arith
-
-        by : IsSettled es on_stack keys below → (d.number ≡ asked) ⊎ IsAsked d asked → ⊥
-        by (inl (j, reached)) (inl is) =
-            let inside = slice_get_within keys j below reached in
-            (seen j below d (omega (arith, inside, whole)) reached there).own (later j reached) (subst IsOnStack (sym is) on)
-        by (inl (j, reached)) (inr (i, is)) =
-            let inside = slice_get_within keys j below reached in
-            all_at (λ n. IsOnStack n → ⊥) d.nested_goals.goals.items i asked (seen j below d (omega (arith, inside, whole)) reached there).goals is on
-        by (inr apart) (inl is) = apart d there asked (subst (IsWithin (range_of d)) is (covers_one d.nested_goals.span d.number)) (all asked on)
-        by (inr apart) (inr is) = apart d there asked (covers_left d.nested_goals.span (one_goal d.number) asked (asked_in es covered below d there asked is)) (all asked on)
-
-  -- each reached place is one of the cache
-  pub reached_inside : (es : List (CacheEntry I R)) → AreCovered es → (place : ℕ) → place < length es → (keys : List ℕ) → IsReached es place keys → (j q : ℕ) → slice_get keys j ≡ Some q → q < length es
-  reached_inside es covered place within keys reached j q at = by (reached j q at)
-    where
-      by : ((j ≡ 0) × (q ≡ place)) ⊎ IsUsedUnder es place q → q < length es
-      by (inl (first, same)) = omega (arith, same, within)
-      by (inr under) = (used_older es covered place q under).1
-
-  -- so no more of them are reached than there are
-  pub reached_count : (es : List (CacheEntry I R)) → AreCovered es → (place : ℕ) → place < length es → (keys : List ℕ) → IsReached es place keys → IsDistinct nat_eq keys → length keys ≤ length es
-  reached_count es covered place within keys reached distinct = length-le_from_distinct_below keys (length es) distinct (λ q is. let at = found_key keys q is in reached_inside es covered place within keys reached at.0 q at.1)
-
-  -- what a stretch of the list of reached places adds was used under the first one
-  pub reached_more : (es : List (CacheEntry I R)) (place j below : ℕ) (e : CacheEntry I R) (keys more : List ℕ) → IsReached es place keys → slice_get keys j ≡ Some below → slice_get es below ≡ Some e
-      → ((k q : ℕ) → slice_get more k ≡ Some q → (slice_get keys k ≡ Some q) ⊎ ((i : ℕ) × (slice_get e.nested_goals.cached.items i ≡ Some q))) → IsReached es place more
-  reached_more es place j below e keys more reached at there among k q at-k = by (among k q at-k)
-    where
-      under : (i : ℕ) → slice_get e.nested_goals.cached.items i ≡ Some q → ((j ≡ 0) × (below ≡ place)) ⊎ IsUsedUnder es place below → IsUsedUnder es place q
-      under i is (inl (first, same)) = used i (subst (λ p. slice_get es p ≡ Some e) same there) is
-      under i is (inr deeper) = further i deeper there is
-
-      by : (slice_get keys k ≡ Some q) ⊎ ((i : ℕ) × (slice_get e.nested_goals.cached.items i ≡ Some q)) → ((k ≡ 0) × (q ≡ place)) ⊎ IsUsedUnder es place q
-      by (inl was) = reached k q was
-      by (inr (i, is)) = inr (under i is (reached j below at))
-
-  -- the goals lie in their range after more results are kept
-  pub in_range_later : (es later : List (CacheEntry I R)) (nested : NestedGoals) → KeepsResults es later → AreInRange es nested → AreInRange later nested
-  in_range_later es later nested stay h = (
-    h.0,
-    all_from (λ place. (place < length later) × ((e : CacheEntry I R) → slice_get later place ≡ Some e → AllInRange (IsWithin (range_of e)) nested.span)) nested.cached.items (λ i place is.
-        let one = all_at (λ p. (p < length es) × ((e : CacheEntry I R) → slice_get es p ≡ Some e → AllInRange (IsWithin (range_of e)) nested.span)) nested.cached.items i place h.1 is in
-        by place one.0 one.1),
-  )
-    where
-      there : (xs : List (CacheEntry I R)) (k : ℕ) → k < length xs → (d : CacheEntry I R) × (slice_get xs k ≡ Some d)
-      there [] k lt = absurd (omega arith)
-      there (x ∷ xs) zero lt = (x, refl)
-      there (x ∷ xs) (suc k) lt = there xs k (omega arith)
-
-      by : (place : ℕ) → place < length es → ((e : CacheEntry I R) → slice_get es place ≡ Some e → AllInRange (IsWithin (range_of e)) nested.span) → (place < length later) × ((e : CacheEntry I R) → slice_get later place ≡ Some e → AllInRange (IsWithin (range_of e)) nested.span)
-      by place lt ranges =
-          let d = there es place lt in
-          let kept = stay place d.0 d.1 in
-          (slice_get_within later place d.0 kept, λ e at. rw (same_Some d.0 e (sym kept ∙ at)) at (ranges d.0 d.1))
-
-  -- each result used older ones after one more is kept
-  pub covered_push : (es : List (CacheEntry I R)) (x : CacheEntry I R) → AreCovered es → AreInRange es x.nested_goals → AreCovered (es ++ x ∷ [])
-  covered_push es x covered nested place e at = by (push_cases es x e place at)
-    where
-      by : ((place < length es) × (slice_get es place ≡ Some e)) ⊎ ((place ≡ length es) × (x ≡ e)) → AreInRange (take place (es ++ x ∷ [])) e.nested_goals
-      by (inl (within, is)) = rw (take_left es x place (omega arith)) (covered place e is)
-      by (inr (end, is)) = rw (← is, end, take_left es x (length es) (omega arith), take_whole es) nested
-
-  wider : (es : List (CacheEntry I R)) (old new : Span) (cached : List ℕ) → AllInRange (IsWithin old) new
-      → All (λ place. (place < length es) × ((e : CacheEntry I R) → slice_get es place ≡ Some e → AllInRange (IsWithin (range_of e)) old)) cached
-      → All (λ place. (place < length es) × ((e : CacheEntry I R) → slice_get es place ≡ Some e → AllInRange (IsWithin (range_of e)) new)) cached
-  wider es old new cached grows h = all_from (λ place. (place < length es) × ((e : CacheEntry I R) → slice_get es place ≡ Some e → AllInRange (IsWithin (range_of e)) new)) cached (λ i place is.
-      let one = all_at (λ p. (p < length es) × ((e : CacheEntry I R) → slice_get es p ≡ Some e → AllInRange (IsWithin (range_of e)) old)) cached i place h is in
-      (one.0, λ e at n within. grows n (one.1 e at n within)))
-
-  -- of no goal
-  pub in_range_none : (es : List (CacheEntry I R)) (nested : NestedGoals) → nested.goals.items ≡ [] → nested.cached.items ≡ [] → AreInRange es nested
-  in_range_none es nested goals cached = (
-    all_from (IsWithin nested.span) nested.goals.items (λ i x is. absurd (none-some x (rw goals at is))),
-    all_from (λ place. (place < length es) × ((e : CacheEntry I R) → slice_get es place ≡ Some e → AllInRange (IsWithin (range_of e)) nested.span)) nested.cached.items (λ i x is. absurd (none-some x (rw cached at is))),
-  )
-
-  -- after one more goal
-  pub in_range_goal : (es : List (CacheEntry I R)) (old new : NestedGoals) (number : ℕ) → new.goals.items ≡ old.goals.items ++ number ∷ [] → new.cached.items ≡ old.cached.items → new.span ≡ covered old.span (one_goal number) → AreInRange es old → AreInRange es new
-  in_range_goal es old new number goals cached span h = (
-    rw (goals, span) (All-push (IsWithin (covered old.span (one_goal number))) old.goals.items number (all_from (IsWithin (covered old.span (one_goal number))) old.goals.items (λ i x is. covers_left old.span (one_goal number) x (all_at (IsWithin old.span) old.goals.items i x h.0 is))) (covers_one old.span number)),
-    rw (cached, span) (wider es old.span (covered old.span (one_goal number)) old.cached.items (covers_left old.span (one_goal number)) h.1),
-  )
-
-  -- of one goal
-  pub in_range_one : (es : List (CacheEntry I R)) (nested : NestedGoals) (number : ℕ) → nested.goals.items ≡ number ∷ [] → nested.cached.items ≡ [] → nested.span ≡ covered no_goal (one_goal number) → AreInRange es nested
-  in_range_one es nested number goals cached span = (
-    rw (goals, span) (All-push (IsWithin (covered no_goal (one_goal number))) [] number (All-nil (IsWithin (covered no_goal (one_goal number)))) (covers_one no_goal number)),
-    all_from (λ place. (place < length es) × ((e : CacheEntry I R) → slice_get es place ≡ Some e → AllInRange (IsWithin (range_of e)) nested.span)) nested.cached.items (λ i x is. absurd (none-some x (rw cached at is))),
-  )
-
-  -- of one cached result
-  pub in_range_cached : (es : List (CacheEntry I R)) (nested : NestedGoals) (place : ℕ) (e : CacheEntry I R) → slice_get es place ≡ Some e → nested.goals.items ≡ [] → nested.cached.items ≡ place ∷ [] → nested.span ≡ covered no_goal (range_of e) → AreInRange es nested
-  in_range_cached es nested place e at goals cached span = (
-    all_from (IsWithin nested.span) nested.goals.items (λ i x is. absurd (none-some x (rw goals at is))),
-    rw (cached, span) (All-push (λ p. (p < length es) × ((d : CacheEntry I R) → slice_get es p ≡ Some d → AllInRange (IsWithin (range_of d)) (covered no_goal (range_of e)))) [] place
-        (All-nil (λ p. (p < length es) × ((d : CacheEntry I R) → slice_get es p ≡ Some d → AllInRange (IsWithin (range_of d)) (covered no_goal (range_of e)))))
-        (slice_get_within es place e at, λ d there n within. covers_right no_goal (range_of e) n (subst (λ z. IsWithin (range_of z) n) (same_Some d e (sym there ∙ at)) within))),
-  )
-
-  -- after those of another list
-  pub in_range_gather : (es : List (CacheEntry I R)) (old more new : NestedGoals) → IsPermutation (old.goals.items ++ more.goals.items) new.goals.items → IsPermutation (old.cached.items ++ more.cached.items) new.cached.items → new.span ≡ covered old.span more.span
-      → AreInRange es old → AreInRange es more → AreInRange es new
-  in_range_gather es old more new goals cached span h k = (
-    rw span (All-permutation (IsWithin (covered old.span more.span)) (old.goals.items ++ more.goals.items) new.goals.items goals (All-append (IsWithin (covered old.span more.span)) old.goals.items more.goals.items
-        (all_from (IsWithin (covered old.span more.span)) old.goals.items (λ i x is. covers_left old.span more.span x (all_at (IsWithin old.span) old.goals.items i x h.0 is)))
-        (all_from (IsWithin (covered old.span more.span)) more.goals.items (λ i x is. covers_right old.span more.span x (all_at (IsWithin more.span) more.goals.items i x k.0 is))))),
-    rw span (All-permutation (λ place. (place < length es) × ((e : CacheEntry I R) → slice_get es place ≡ Some e → AllInRange (IsWithin (range_of e)) (covered old.span more.span))) (old.cached.items ++ more.cached.items) new.cached.items cached
-        (All-append (λ place. (place < length es) × ((e : CacheEntry I R) → slice_get es place ≡ Some e → AllInRange (IsWithin (range_of e)) (covered old.span more.span))) old.cached.items more.cached.items
-        (wider es old.span (covered old.span more.span) old.cached.items (covers_left old.span more.span) h.1)
-        (wider es more.span (covered old.span more.span) more.cached.items (covers_right old.span more.span) k.1))),
-  )
-
   newest_in : (es : List (StackEntry I R)) → AreInRanges es → (low : ℕ) (d : StackEntry I R) → slice_get es low ≡ Some d → IsWithin (span_of_newest es) d.number
   newest_in es h low d at =
       let within = slice_get_within es low d at in
@@ -368,5 +369,35 @@ module _ {I R : Type 0} where
   pub ranges_none : AreInRanges {I = I} {R = R} []
   ranges_none low high d e at-d at-e le = absurd (none-some d at-d)
 
-  pub covered_none : AreCovered {I = I} {R = R} []
-  covered_none place e at = absurd (none-some e at)
+pub covered_none : AreCovered []
+covered_none place e at = absurd (none-some e at)
+
+-- a goal of this number is listed there
+pub listed_at : (asked : List Asked) (place number : ℕ) → slice_get (numbers_of asked) place ≡ Some number → (a : Asked) × (slice_get asked place ≡ Some a) × (a.number ≡ number)
+listed_at [] place number at = absurd (none-some number at)
+listed_at (a ∷ asked) zero number at = (a, refl, same_Some a.number number at)
+listed_at (a ∷ asked) (suc place) number at = listed_at asked place number at
+
+number_at : (asked : List Asked) (place : ℕ) (a : Asked) → slice_get asked place ≡ Some a → slice_get (numbers_of asked) place ≡ Some a.number
+number_at [] place a at = absurd (none-some a at)
+number_at (b ∷ asked) zero a at = ap (λ z. Some z.number) (same_Some b a at)
+number_at (b ∷ asked) (suc place) a at = number_at asked place a at
+
+-- each result names what was asked under its goal
+module _ {I R : Type 0} where
+  pub recorded_none : (asked : List Asked) → AreRecorded {I = I} {R = R} [] asked
+  recorded_none asked place e at = absurd (none-some e at)
+
+  -- after more was asked
+  pub recorded_later : (es : List (CacheEntry I R)) (asked later : List Asked) → KeepsResults asked later → AreRecorded es asked → AreRecorded es later
+  recorded_later es asked later stay h place e at =
+      let a = listed_at asked e.asked e.number (h place e at) in
+      number_at later e.asked a.0 (stay e.asked a.0 a.1) ∙ ap Some a.2
+
+  -- and after the result is kept whose goal was listed last
+  pub recorded_push : (es : List (CacheEntry I R)) (x : CacheEntry I R) (asked : List Asked) (a : Asked) → AreRecorded es asked → x.asked ≡ length asked → a.number ≡ x.number → AreRecorded (es ++ x ∷ []) (asked ++ a ∷ [])
+  recorded_push es x asked a h place_is number place e at = by (push_cases es x e place at)
+    where
+      by : ((place < length es) × (slice_get es place ≡ Some e)) ⊎ ((place ≡ length es) × (x ≡ e)) → slice_get (numbers_of (asked ++ a ∷ [])) e.asked ≡ Some e.number
+      by (inl (within, is)) = recorded_later es asked (asked ++ a ∷ []) (KeepsResults-push asked a) h place e is
+      by (inr (end, is)) = rw (← is) (rw place_is (number_at (asked ++ a ∷ []) (length asked) a (at_end asked a) ∙ ap Some number))

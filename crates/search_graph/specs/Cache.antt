@@ -1,9 +1,10 @@
 -- What a caller sees of a cache.
-use Rattle.std.specs.Prelude.{◌≡◌, ◌⊎◌, ◌++◌, ℕ, Bool, true, false, cond, List, [], ◌∷◌, Some, slice_get}
+use Rattle.std.specs.Prelude.{◌≡◌, ◌⊎◌, ◌++◌, ℕ, Bool, true, false, cond, List, [], ◌∷◌, Some, length, slice_get}
 use Rattle.std.specs.List.{position}
 use Rattle.search_graph.specs.declared.path_kind.PathKind.TheVariants.{Inductive}
 use Rattle.search_graph.specs.declared.cache.CacheEntry.{CacheEntry}
 use Rattle.search_graph.specs.declared.cache.Cached.{Cached}
+use Rattle.search_graph.specs.declared.cache.Asked.{Asked}
 use Rattle.search_graph.specs.declared.dependencies.EvaluationResult.{EvaluationResult}
 use Rattle.search_graph.specs.declared.nested_goals.NestedGoals.{NestedGoals}
 use Rattle.search_graph.specs.Chain.{IsWithinDepth}
@@ -58,21 +59,25 @@ module _ {I R : Type 0} where
 
   -- what is used of the result at the place
   abbrev pub IsUseOf : List (CacheEntry I R) → ℕ → Cached R → Type 0
-  IsUseOf es place r = (e : CacheEntry I R) × (slice_get es place ≡ Some e) × (r.result ≡ e.result) × (r.depth ≡ e.depth) × (r.encountered_overflow ≡ e.encountered_overflow)
+  IsUseOf es place r = (e : CacheEntry I R) × (slice_get es place ≡ Some e) × (r.result ≡ e.result) × (r.depth ≡ e.depth) × (r.encountered_overflow ≡ e.encountered_overflow) × (r.asked ≡ e.asked)
 
   -- the reply to a question is this result
   abbrev pub IsReplyOf : CacheEntry I R → EvaluationResult R → Type 0
   IsReplyOf e o = (o.result ≡ e.result) × (o.dependencies.required_depth ≡ e.depth) × (o.dependencies.encountered_overflow ≡ e.encountered_overflow)
 
-  -- the new results are the old ones and then this one of the goal
-  abbrev pub AddsResult : List (CacheEntry I R) → List (CacheEntry I R) → I → R → ℕ → Bool → ℕ → NestedGoals → Type 0
-  AddsResult old new input r depth overflowed number nested =
-      (e : CacheEntry I R) × (new ≡ old ++ e ∷ []) × (e.input ≡ input) × (e.result ≡ r) × (e.depth ≡ depth) × (e.encountered_overflow ≡ overflowed) × (e.number ≡ number) × (e.nested_goals ≡ nested)
+  -- the new results are the old ones and then this one of the goal. What was asked under it stands at the place
+  abbrev pub AddsResult : List (CacheEntry I R) → List (CacheEntry I R) → I → R → ℕ → Bool → ℕ → ℕ → Type 0
+  AddsResult old new input r depth overflowed number place =
+      (e : CacheEntry I R) × (new ≡ old ++ e ∷ []) × (e.input ≡ input) × (e.result ≡ r) × (e.depth ≡ depth) × (e.encountered_overflow ≡ overflowed) × (e.number ≡ number) × (e.asked ≡ place)
 
-  -- and then that of this evaluation of the goal at this depth
-  abbrev pub AddsEvaluation : List (CacheEntry I R) → List (CacheEntry I R) → I → ℕ → ℕ → EvaluationResult R → Type 0
-  AddsEvaluation old new input number depth o =
-      AddsResult old new input o.result (cond o.dependencies.encountered_overflow depth o.dependencies.required_depth) o.dependencies.encountered_overflow number o.dependencies.nested_goals
+  -- and then that of this evaluation of the goal at this depth. What was asked under it stands after what was asked before
+  abbrev pub AddsEvaluation : List (CacheEntry I R) → List (CacheEntry I R) → List Asked → I → ℕ → ℕ → EvaluationResult R → Type 0
+  AddsEvaluation old new asked input number depth o =
+      AddsResult old new input o.result (cond o.dependencies.encountered_overflow depth o.dependencies.required_depth) o.dependencies.encountered_overflow number (length asked)
+
+-- after the old ones the goal of this number is listed, with what was asked under it
+abbrev pub AddsAsked : List Asked → List Asked → ℕ → NestedGoals → Type 0
+AddsAsked old new number nested = new ≡ old ++ record { number = number; nested_goals = nested } ∷ []
 
 -- no two results of one goal and one kind differ
 abbrev pub AreConsistent : {I R : Type 0} → List (KnownResult I R) → Type 0

@@ -43,6 +43,10 @@ module _ {C I R F : Type 0} (m : Meaning C I R F) where
   IsNotPlainOver c es input reach =
       (limit : ℕ) → limit ≤ reach → AllDescend m (m.world c) limit 0 (path_onto m c es []) (m.goal_of c input) → IsNotPlain m (m.world c) limit (m.goal_of c input)
 
+  -- it has none up to reach, whatever the stack
+  abbrev pub IsNotPlainUpTo : C → I → ℕ → Type 0
+  IsNotPlainUpTo c input reach = (limit : ℕ) → limit ≤ reach → IsNotPlain m (m.world c) limit (m.goal_of c input)
+
   -- it has none where that on each goal of the stack from the place low on descends to it
   abbrev pub IsNotPlainAbove : C → List (StackEntry I R) → I → ℕ → Type 0
   IsNotPlainAbove c es input low =

@@ -8,5 +8,5 @@ pub record SearchState : Type 0 where
   pub current_depth : ℕ
   -- how many frames were started
   pub frames : ℕ
-  -- whether a limit of the depth or of the runs gave a result
+  -- whether a limit of the depth or of the runs gave a result, or a call was given up
   pub limits_met : Bool

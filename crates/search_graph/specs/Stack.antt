@@ -8,6 +8,7 @@ use Rattle.search_graph.specs.declared.delegate.Reply.TheVariants.{Begin, Result
 use Rattle.search_graph.specs.declared.stack.StackEntry.{StackEntry}
 use Rattle.search_graph.specs.declared.stack.Cycle.{Cycle}
 use Rattle.search_graph.specs.declared.cache.CacheEntry.{CacheEntry}
+use Rattle.search_graph.specs.declared.cache.Asked.{Asked}
 use Rattle.search_graph.specs.declared.nested_goals.Span.{Span}
 use Rattle.search_graph.specs.Nested.{no_goal}
 use Rattle.search_graph.specs.Path.{greater}
@@ -40,10 +41,10 @@ abbrev pub IsClosedBy : {I R : Type 0} → List (StackEntry I R) → I → PathK
 IsClosedBy {I} {R} es input k cycle = (e : StackEntry I R) × (slice_get es cycle.index ≡ Some e) × (e.input ≡ input) × (cycle.path_kind ≡ kind_after (drop (cycle.index + 1) es) k)
 
 -- P holds if a cache has a result of the goal that one of this depth may use over the stack
-abbrev pub IfUsable : {I R : Type 0} → List (CacheEntry I R) → List (StackEntry I R) → I → ℕ → Type 0 → Type 0
-IfUsable {I} {R} es stack input depth P =
+abbrev pub IfUsable : {I R : Type 0} → List (CacheEntry I R) → List Asked → List (StackEntry I R) → I → ℕ → Type 0 → Type 0
+IfUsable {I} {R} es asked stack input depth P =
     (place : ℕ) (e : CacheEntry I R) → slice_get es place ≡ Some e → e.input ≡ input → IsWithinDepth e.encountered_overflow e.depth depth
-    → ((asked : ℕ) → IsAskedUnder es place asked → IsOnStack stack asked → ⊥) → P
+    → ((n : ℕ) → IsAskedUnder asked e.asked n → IsOnStack stack n → ⊥) → P
 
 -- the oldest goal of a stack with the number
 abbrev pub oldest_of : {I R : Type 0} → List (StackEntry I R) → ℕ → Option (StackEntry I R)

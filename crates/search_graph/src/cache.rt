@@ -3,13 +3,13 @@
 ghost use Rattle.std.specs.Prelude.{◌≡◌, ◌+◌, ◌<◌, ◌≤◌, ◌⊎◌, [], ℕ, All, length, get_or, IfOk, IfErr, OnOk, OnErr, IfSome, IfNone, Some, None, nat_eq, slice_get, true, false};
 ghost use Rattle.std.proofs.Props.{props};
 ghost use Rattle.indexmap.specs.IndexMap.{ContainsKey};
-ghost use Rattle.search_graph.specs.Chain.{newest_of, AreLinked, IsAskedUnder, IsWithinDepth, AllInRange, AreCovered};
+ghost use Rattle.search_graph.specs.Chain.{newest_of, AreLinked, IsAskedUnder, IsWithinDepth, AllInRange, AreCovered, AreRecorded};
 ghost use Rattle.search_graph.specs.Chain.{AreInRange, range_of, IsUsableAt, NoneIsUsable, IsReachedOrApart};
 ghost use Rattle.indexmap.specs.IndexSet.{insert_key};
 ghost use Rattle.search_graph.specs.Meaning.{Keeps};
 ghost use Rattle.search_graph.specs.Stack.{IsProvisional, AreCached};
 ghost use Rattle.search_graph.specs.Cache.{known_result, known_results, HasConflict, IsAlike, AreConsistent, IsNumberOf};
-ghost use Rattle.search_graph.specs.Cache.{KeepsNumbers, KeepsResults, HoldsOther, IsUseOf, AddsResult};
+ghost use Rattle.search_graph.specs.Cache.{KeepsNumbers, KeepsResults, HoldsOther, IsUseOf, AddsResult, AddsAsked};
 ghost use Rattle.search_graph.specs.Question.{IsKeptResult, IsNotPlainAt, IsWithinAsCached, KeepsWithin};
 
 use crate::delegate::{Cx, Delegate, InputOf, ResultOf};
@@ -35,11 +35,20 @@ pub struct CacheEntry<I, R> {
     pub number: usize,
     /// The place of the goal's result that was cached before this one.
     pub previous: Option<usize>,
+    /// The place of what was asked under it.
+    pub asked: usize,
+}
+
+/// A goal that was evaluated, with the goals that were asked under it.
+#[derive(Drop)]
+pub struct Asked {
+    /// The number of the goal.
+    pub number: usize,
     /// The goals that were asked under it.
     pub nested_goals: NestedGoals,
 }
 
-impl<I, R> CacheEntry<I, R> {
+impl Asked {
     /// The goal and all that were asked under it lie in it.
     fn span(&self) -> Span
         ensures { result ≡ range_of self.now }
@@ -54,6 +63,7 @@ pub(crate) struct Cached<R> {
     pub(crate) result: R,
     pub(crate) depth: usize,
     pub(crate) encountered_overflow: bool,
+    pub(crate) asked: usize,
 }
 
 /// Whether a goal of this depth may use a result that needed that depth.
@@ -78,10 +88,13 @@ pub struct CachedResults<D: Delegate> {
     newest: Vec<Option<usize>>,
     /// The results, the oldest first.
     pub entries: Vec<CacheEntry<InputOf<D>, ResultOf<D>>>,
+    /// What was asked under goals whose results were kept, the oldest first.
+    pub asked: Vec<Asked>,
     ghost listed: { (number : ℕ) → get_or newest.items number None ≡ newest_of entries.items number } by { Prim.hlevel props },
     ghost linked: { AreLinked entries.items } by { Prim.hlevel props },
     pub ghost numbered: { (place : ℕ) (e : _) → slice_get entries.items place ≡ Some e → IsNumberOf D.Cx.Input.eq goals.keys e.input e.number } by { Prim.hlevel props },
-    pub ghost covered: { AreCovered entries.items } by { Prim.hlevel props },
+    pub ghost recorded: { AreRecorded entries.items asked.items } by { Prim.hlevel props },
+    pub ghost covered: { AreCovered asked.items } by { Prim.hlevel props },
     pub ghost consistent: { AreConsistent (known_results entries.items) } by { Prim.hlevel props },
 }
 
@@ -92,6 +105,7 @@ impl<D: Delegate> Drop for CachedResults<D> {
             goals: _,
             newest: _,
             entries: _,
+            asked: _,
         } = self;
     }
 }
@@ -101,12 +115,14 @@ impl<D: Delegate> CachedResults<D> {
     pub fn new(alloc: Global) -> Self
         ensures entries { result.entries.items ≡ [] }
         ensures goals { result.goals.keys ≡ [] }
+        ensures asked { result.asked.items ≡ [] }
     {
         CachedResults {
             alloc,
             goals: IndexSet::new(alloc),
             newest: Vec::new(alloc),
             entries: Vec::new(alloc),
+            asked: Vec::new(alloc),
         }
     }
 
@@ -118,6 +134,7 @@ impl<D: Delegate> CachedResults<D> {
         ensures goals { OnOk result (self.new.goals.keys ≡ insert_key D.Cx.Input.eq self.old.goals.keys input.now) }
         ensures err { OnErr result (self.new.goals.keys ≡ self.old.goals.keys) }
         ensures entries { self.new.entries ≡ self.old.entries }
+        ensures asked { self.new.asked ≡ self.old.asked }
         ensures results { KeepsResults self.old.entries.items self.new.entries.items }
         ensures no_conflict { result ≡ Err GraphFault.Conflict → ⊥ }
         ensures in_order { result ≡ Err GraphFault.Protocol → ⊥ }
@@ -151,8 +168,8 @@ impl<D: Delegate> CachedResults<D> {
         depth: usize,
     ) -> Result<Option<usize>, AllocError>
         requires range { AllInRange (ContainsKey nat_eq positions.now) on_stack }
-        ensures found { IfOk result (λ found. IfSome found (IsUsableAt self.now.entries.items (ContainsKey nat_eq positions.now) number input.now depth)) }
-        ensures none { IfOk result (λ found. IfNone found (NoneIsUsable self.now.entries.items (ContainsKey nat_eq positions.now) number input.now depth)) }
+        ensures found { IfOk result (λ found. IfSome found (IsUsableAt self.now.entries.items self.now.asked.items (ContainsKey nat_eq positions.now) number input.now depth)) }
+        ensures none { IfOk result (λ found. IfNone found (NoneIsUsable self.now.entries.items self.now.asked.items (ContainsKey nat_eq positions.now) number input.now depth)) }
     {
         let mut next = self.newest_of(number);
         for _ in 0..self.entries.len() {
@@ -165,7 +182,7 @@ impl<D: Delegate> CachedResults<D> {
             let entry = &self.entries[place];
             if entry.input == *input
                 && is_usable(entry.encountered_overflow, entry.depth, depth)
-                && self.is_clear_of(positions, on_stack, place)?
+                && self.is_clear_of(positions, on_stack, entry.asked)?
             {
                 return Ok(Some(place));
             }
@@ -174,7 +191,7 @@ impl<D: Delegate> CachedResults<D> {
         Ok(None)
     }
 
-    /// Whether no goal that was asked under a result is on the stack.
+    /// Whether no goal that was asked under the one at a place is on the stack.
     fn is_clear_of(
         &self,
         positions: &IndexMap<usize, usize>,
@@ -182,10 +199,10 @@ impl<D: Delegate> CachedResults<D> {
         place: usize,
     ) -> Result<bool, AllocError>
         requires range { AllInRange (ContainsKey nat_eq positions.now) on_stack }
-        ensures asked { IfOk result (λ clear. clear ≡ false → (asked : ℕ) × IsAskedUnder self.now.entries.items place asked × ContainsKey nat_eq positions.now asked) }
-        ensures clear { IfOk result (λ clear. clear ≡ true → (asked : ℕ) → IsAskedUnder self.now.entries.items place asked → ContainsKey nat_eq positions.now asked → ⊥) }
+        ensures asked { IfOk result (λ clear. clear ≡ false → (asked : ℕ) × IsAskedUnder self.now.asked.items place asked × ContainsKey nat_eq positions.now asked) }
+        ensures clear { IfOk result (λ clear. clear ≡ true → (asked : ℕ) → IsAskedUnder self.now.asked.items place asked → ContainsKey nat_eq positions.now asked → ⊥) }
     {
-        let Some(entry) = self.entries.get(place) else {
+        let Some(entry) = self.asked.get(place) else {
             return Ok(true);
         };
         if !entry.nested_goals.span.overlaps(on_stack) {
@@ -196,7 +213,7 @@ impl<D: Delegate> CachedResults<D> {
         let mut round = 0;
         while round < reached.len() {
             let below = reached[round];
-            let entry = &self.entries[below];
+            let entry = &self.asked[below];
             if round > 0 && positions.contains_key(&entry.number) {
                 return Ok(false);
             }
@@ -209,7 +226,7 @@ impl<D: Delegate> CachedResults<D> {
         Ok(true)
     }
 
-    /// Adds those of the places under whose results a goal of this range may have been asked.
+    /// Adds those of the places under which a goal of this range may have been asked.
     fn reach(
         &self,
         reached: &mut IndexSet<usize>,
@@ -218,7 +235,7 @@ impl<D: Delegate> CachedResults<D> {
     ) -> Result<(), AllocError>
         ensures stay { KeepsResults reached.old.keys reached.new.keys }
         ensures among { (j place : ℕ) → slice_get reached.new.keys j ≡ Some place → (slice_get reached.old.keys j ≡ Some place) ⊎ ((i : ℕ) × (slice_get places.now i ≡ Some place)) }
-        ensures reached { OnOk result (All (IsReachedOrApart self.now.entries.items reached.new.keys on_stack) places.now) }
+        ensures reached { OnOk result (All (IsReachedOrApart self.now.asked.items reached.new.keys on_stack) places.now) }
     {
         for place in places {
             if self.span_of(*place).overlaps(on_stack) {
@@ -228,11 +245,11 @@ impl<D: Delegate> CachedResults<D> {
         Ok(())
     }
 
-    /// The goal of a result and all that were asked under it lie in it.
+    /// The goal at a place and all that were asked under it lie in it.
     pub(crate) fn span_of(&self, place: usize) -> Span
-        ensures { (e : _) → slice_get self.now.entries.items place ≡ Some e → result ≡ range_of e }
+        ensures { (e : _) → slice_get self.now.asked.items place ≡ Some e → result ≡ range_of e }
     {
-        match self.entries.get(place) {
+        match self.asked.get(place) {
             Some(entry) => entry.span(),
             None => Span::empty(),
         }
@@ -259,6 +276,7 @@ impl<D: Delegate> CachedResults<D> {
             result: copy,
             depth: entry.depth,
             encountered_overflow: entry.encountered_overflow,
+            asked: entry.asked,
         })
     }
 
@@ -313,7 +331,7 @@ impl<D: Delegate> CachedResults<D> {
         }
     }
 
-    /// Keeps a result that rests on no goal of the stack, and answers its place.
+    /// Keeps a result that rests on no goal of the stack, and answers the place of what was asked under it.
     pub(crate) fn insert(
         &mut self,
         cx: &D::Cx,
@@ -326,12 +344,14 @@ impl<D: Delegate> CachedResults<D> {
     ) -> Result<usize, GraphFault>
         requires cache { AreCached D.meaning (D.meaning.world cx.now) cx.now self.old.entries.items }
         requires input { D.meaning.IsInput cx.now input }
-        requires nested { AreInRange self.old.entries.items nested_goals }
+        requires nested { AreInRange self.old.asked.items nested_goals }
         requires number { IsNumberOf D.Cx.Input.eq self.old.goals.keys input number }
         requires result { IsProvisional D.meaning (D.meaning.world cx.now) [] (D.meaning.goal_of cx.now input, PathKind.Inductive) 0 cx.now found.now }
         requires kept { IsKeptResult D.meaning cx.now input found.now depth encountered_overflow }
-        ensures place { IfOk result (λ place. place ≡ length self.old.entries.items) }
-        ensures kept { OnOk result (AddsResult self.old.entries.items self.new.entries.items input found.now depth encountered_overflow number nested_goals) }
+        ensures place { IfOk result (λ place. place ≡ length self.old.asked.items) }
+        ensures kept { OnOk result (AddsResult self.old.entries.items self.new.entries.items input found.now depth encountered_overflow number (length self.old.asked.items)) }
+        ensures recorded { OnOk result (AddsAsked self.old.asked.items self.new.asked.items number nested_goals) }
+        ensures asked { KeepsResults self.old.asked.items self.new.asked.items }
         ensures err { OnErr result (self.new.entries.items ≡ self.old.entries.items) }
         ensures results { KeepsResults self.old.entries.items self.new.entries.items }
         ensures goals { self.new.goals ≡ self.old.goals }
@@ -347,8 +367,13 @@ impl<D: Delegate> CachedResults<D> {
         }
         let result = cx.copy_result(found)?;
         let place = self.entries.len();
+        let asked = self.asked.len();
         let previous = self.newest_of(number);
         make_room(&mut self.newest, number)?;
+        self.asked.push(Asked {
+            number,
+            nested_goals,
+        })?;
         self.entries.push(CacheEntry {
             input,
             result,
@@ -356,10 +381,10 @@ impl<D: Delegate> CachedResults<D> {
             encountered_overflow,
             number,
             previous,
-            nested_goals,
+            asked,
         })?;
         self.newest[number] = Some(place);
-        Ok(place)
+        Ok(asked)
     }
 }
 

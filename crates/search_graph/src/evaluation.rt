@@ -12,13 +12,54 @@ ghost use Rattle.search_graph.specs.Question.{IsReplyOver, IsRunOver, IsFaithful
 
 use crate::cache::CachedResults;
 use crate::candidates::{Candidates, Turn};
-use crate::delegate::{Delegate, InputOf, ResultOf};
+use crate::delegate::{Cx, Delegate, InputOf, ResultOf};
 use crate::dependencies::{Dependencies, EvaluationResult, take_head};
-use crate::fault::GraphFault;
+use crate::fault::{GraphFault, Stop};
 use crate::path_kind::PathKind;
-use crate::search::{Evaluation, Search, finish, is_last_run, nested_depth, run_limit};
+use crate::search::{Evaluation, Outcome, Search, is_last_run, nested_depth, run_limit};
 use crate::stack::StackEntry;
-use crate::steps::{hear, look_up, reply_in_cycle, reply_with_overflow, start_run};
+use crate::steps::{
+    conclude, give_up, hear, look_up, reply_in_cycle, reply_with_overflow, start_run,
+};
+
+/// The reply to a question from outside. Where the call is given up, it is an overflow by depth, which is kept.
+pub(crate) fn evaluate_root<D: Delegate>(
+    search: &mut Search<D>,
+    cache: &mut CachedResults<D>,
+    cx: &mut D::Cx,
+    input: InputOf<D>,
+    step_kind: PathKind,
+    depth: usize,
+) -> Evaluation<D>
+    requires empty { search.old.stack.items ≡ [] }
+    requires uncounted { search.old.open_ends ≡ 0 }
+    requires cache { AreCached D.meaning (D.meaning.world cx.old) cx.old cache.old.entries.items }
+    requires input { D.meaning.IsInput cx.old input }
+    ensures keeps { Keeps D.meaning cx.old cx.new }
+    ensures stack { OnOk result (search.new.stack.items ≡ []) }
+    ensures cache { AreCached D.meaning (D.meaning.world cx.new) cx.new cache.new.entries.items }
+    ensures results { KeepsResults cache.old.entries.items cache.new.entries.items }
+    ensures kept { IfOk result (λ o. HoldsResult cache.new.entries.items input depth o.result) }
+    ensures answer { IfOk result (λ o. IsReplyOver D.meaning cx.old [] input step_kind o.dependencies.lowest cx.new o.result) }
+    ensures faithful { IfOk result (IsFaithfulOver D.meaning cx.old [] input (depth + 1) cx.new) }
+    ensures no_conflict { result ≡ Err GraphFault.Conflict → IsNotPlainOver D.meaning cx.old [] input (depth + 1) }
+    ensures protocol { result ≡ Err GraphFault.Protocol → MakesMisstep D.meaning (D.meaning.world cx.old) (D.meaning.goal_of cx.old input) }
+    ensures conflict { result ≡ Err GraphFault.Conflict → HasConflict D.meaning cx.new (known_results cache.new.entries.items) }
+    ensures frames { AreFramesWithin D.meaning cx.old input search.old.frames search.new.frames (λ width. frame_bound (max D.FIXPOINT_STEP_LIMIT 1) width depth) }
+    ensures full { result ≡ Err GraphFault.Full → D.meaning.IsFull cx.new }
+    ensures limits { search.old.limits_met ≡ true → search.new.limits_met ≡ true }
+    ensures no_limit { search.old.limits_met ≡ false → search.new.limits_met ≡ true → IsNotPlainOver D.meaning cx.old [] input (depth + 1) }
+    ensures within { IfOk result (λ o. StaysWithin D.meaning cx.old [] cache.old.entries.items input search.new.limits_met cx.new cache.new.entries.items o.result) }
+    ensures cached { IfUsable cache.old.entries.items cache.old.asked.items [] input depth ((search.new.frames ≡ search.old.frames) × (cache.new.entries ≡ cache.old.entries)) }
+    ensures known { IfUsable cache.old.entries.items cache.old.asked.items [] input depth (IfOk result (λ o. HoldsResult cache.old.entries.items input depth o.result)) }
+{
+    let again = cx.copy_input(&input)?;
+    match evaluate(search, cache, cx, input, step_kind, depth) {
+        Ok(evaluation) => Ok(evaluation),
+        Err(Stop::Fault(fault)) => Err(fault),
+        Err(Stop::Exhausted) => give_up(search, cache, cx, again, step_kind, depth),
+    }
+}
 
 /// The reply to a question on a goal that is given this depth.
 #[cycle(search)]
@@ -29,7 +70,7 @@ pub(crate) fn evaluate<D: Delegate>(
     input: InputOf<D>,
     step_kind: PathKind,
     depth: usize,
-) -> Evaluation<D>
+) -> Outcome<D>
     requires stack { IsStack D.meaning (D.meaning.world cx.old) [] cx.old search.old.stack.items }
     requires cache { AreCached D.meaning (D.meaning.world cx.old) cx.old cache.old.entries.items }
     requires input { D.meaning.IsInput cx.old input }
@@ -38,21 +79,24 @@ pub(crate) fn evaluate<D: Delegate>(
     ensures cache { AreCached D.meaning (D.meaning.world cx.new) cx.new cache.new.entries.items }
     ensures goals { KeepsNumbers D.Cx.Input.eq cache.old.goals.keys cache.new.goals.keys }
     ensures results { KeepsResults cache.old.entries.items cache.new.entries.items }
-    ensures range { IfOk result (λ o. AreInRange cache.new.entries.items o.dependencies.nested_goals) }
+    ensures asked_before { KeepsResults cache.old.asked.items cache.new.asked.items }
+    ensures range { IfOk result (λ o. AreInRange cache.new.asked.items o.dependencies.nested_goals) }
     ensures depth { IfOk result (λ o. o.dependencies.encountered_overflow ≡ false → o.dependencies.required_depth ≤ depth) }
     ensures kept { search.old.stack.items ≡ [] → IfOk result (λ o. HoldsResult cache.new.entries.items input depth o.result) }
     ensures answer { IfOk result (λ o. IsReplyOver D.meaning cx.old search.old.stack.items input step_kind o.dependencies.lowest cx.new o.result) }
     ensures faithful { IfOk result (IsFaithfulOver D.meaning cx.old search.old.stack.items input (depth + 1) cx.new) }
-    ensures no_conflict { result ≡ Err GraphFault.Conflict → IsNotPlainOver D.meaning cx.old search.old.stack.items input (depth + 1) }
-    ensures protocol { result ≡ Err GraphFault.Protocol → MakesMisstep D.meaning (D.meaning.world cx.old) (D.meaning.goal_of cx.old input) }
-    ensures conflict { result ≡ Err GraphFault.Conflict → HasConflict D.meaning cx.new (known_results cache.new.entries.items) }
+    ensures no_conflict { result ≡ Err (Stop.Fault GraphFault.Conflict) → IsNotPlainOver D.meaning cx.old search.old.stack.items input (depth + 1) }
+    ensures exhausted { result ≡ Err Stop.Exhausted → IsNotPlainOver D.meaning cx.old search.old.stack.items input (depth + 1) }
+    ensures protocol { result ≡ Err (Stop.Fault GraphFault.Protocol) → MakesMisstep D.meaning (D.meaning.world cx.old) (D.meaning.goal_of cx.old input) }
+    ensures conflict { result ≡ Err (Stop.Fault GraphFault.Conflict) → HasConflict D.meaning cx.new (known_results cache.new.entries.items) }
     ensures frames { AreFramesWithin D.meaning cx.old input search.old.frames search.new.frames (λ width. frame_bound (max D.FIXPOINT_STEP_LIMIT 1) width depth) }
-    ensures full { result ≡ Err GraphFault.Full → D.meaning.IsFull cx.new }
+    ensures full { result ≡ Err (Stop.Fault GraphFault.Full) → D.meaning.IsFull cx.new }
     ensures limits { search.old.limits_met ≡ true → search.new.limits_met ≡ true }
     ensures no_limit { search.old.limits_met ≡ false → search.new.limits_met ≡ true → IsNotPlainOver D.meaning cx.old search.old.stack.items input (depth + 1) }
     ensures within { IfOk result (λ o. StaysWithin D.meaning cx.old search.old.stack.items cache.old.entries.items input search.new.limits_met cx.new cache.new.entries.items o.result) }
-    ensures cached { IfUsable cache.old.entries.items search.old.stack.items input depth ((search.new.frames ≡ search.old.frames) × (cache.new.entries ≡ cache.old.entries)) }
-    ensures known { IfUsable cache.old.entries.items search.old.stack.items input depth (IfOk result (λ o. HoldsResult cache.old.entries.items input depth o.result)) }
+    ensures cached { IfUsable cache.old.entries.items cache.old.asked.items search.old.stack.items input depth (search.new.frames ≡ search.old.frames × cache.new.entries ≡ cache.old.entries) }
+    ensures served { IfUsable cache.old.entries.items cache.old.asked.items search.old.stack.items input depth (result ≡ Err Stop.Exhausted → ⊥) }
+    ensures known { IfUsable cache.old.entries.items cache.old.asked.items search.old.stack.items input depth (IfOk result (λ o. HoldsResult cache.old.entries.items input depth o.result)) }
 {
     let (number, found) = look_up(search, cache, cx, &input, step_kind, depth)?;
     if let Some(reply) = found {
@@ -74,7 +118,7 @@ fn evaluate_new<D: Delegate>(
     input: InputOf<D>,
     step_kind: PathKind,
     depth: usize,
-) -> Evaluation<D>
+) -> Outcome<D>
     requires stack { IsStack D.meaning (D.meaning.world cx.old) [] cx.old search.old.stack.items }
     requires cache { AreCached D.meaning (D.meaning.world cx.old) cx.old cache.old.entries.items }
     requires input { D.meaning.IsInput cx.old input }
@@ -84,16 +128,18 @@ fn evaluate_new<D: Delegate>(
     ensures cache { AreCached D.meaning (D.meaning.world cx.new) cx.new cache.new.entries.items }
     ensures goals { KeepsNumbers D.Cx.Input.eq cache.old.goals.keys cache.new.goals.keys }
     ensures results { KeepsResults cache.old.entries.items cache.new.entries.items }
-    ensures range { IfOk result (λ o. AreInRange cache.new.entries.items o.dependencies.nested_goals) }
+    ensures asked_before { KeepsResults cache.old.asked.items cache.new.asked.items }
+    ensures range { IfOk result (λ o. AreInRange cache.new.asked.items o.dependencies.nested_goals) }
     ensures depth { IfOk result (λ o. o.dependencies.encountered_overflow ≡ false → o.dependencies.required_depth ≤ depth) }
     ensures kept { search.old.stack.items ≡ [] → IfOk result (λ o. HoldsResult cache.new.entries.items input depth o.result) }
     ensures answer { IfOk result (λ o. IsReplyOver D.meaning cx.old search.old.stack.items input step_kind o.dependencies.lowest cx.new o.result) }
     ensures faithful { IfOk result (IsFaithfulOver D.meaning cx.old search.old.stack.items input (depth + 1) cx.new) }
-    ensures no_conflict { result ≡ Err GraphFault.Conflict → IsNotPlainOver D.meaning cx.old search.old.stack.items input (depth + 1) }
-    ensures protocol { result ≡ Err GraphFault.Protocol → MakesMisstep D.meaning (D.meaning.world cx.old) (D.meaning.goal_of cx.old input) }
-    ensures conflict { result ≡ Err GraphFault.Conflict → HasConflict D.meaning cx.new (known_results cache.new.entries.items) }
+    ensures no_conflict { result ≡ Err (Stop.Fault GraphFault.Conflict) → IsNotPlainOver D.meaning cx.old search.old.stack.items input (depth + 1) }
+    ensures exhausted { result ≡ Err Stop.Exhausted → IsNotPlainOver D.meaning cx.old search.old.stack.items input (depth + 1) }
+    ensures protocol { result ≡ Err (Stop.Fault GraphFault.Protocol) → MakesMisstep D.meaning (D.meaning.world cx.old) (D.meaning.goal_of cx.old input) }
+    ensures conflict { result ≡ Err (Stop.Fault GraphFault.Conflict) → HasConflict D.meaning cx.new (known_results cache.new.entries.items) }
     ensures frames { AreFramesWithin D.meaning cx.old input search.old.frames search.new.frames (λ width. frame_bound (max D.FIXPOINT_STEP_LIMIT 1) width depth) }
-    ensures full { result ≡ Err GraphFault.Full → D.meaning.IsFull cx.new }
+    ensures full { result ≡ Err (Stop.Fault GraphFault.Full) → D.meaning.IsFull cx.new }
     ensures limits { search.old.limits_met ≡ true → search.new.limits_met ≡ true }
     ensures no_limit { search.old.limits_met ≡ false → search.new.limits_met ≡ true → IsNotPlainOver D.meaning cx.old search.old.stack.items input (depth + 1) }
     ensures within { IfOk result (λ o. StaysWithin D.meaning cx.old search.old.stack.items cache.old.entries.items input search.new.limits_met cx.new cache.new.entries.items o.result) }
@@ -115,8 +161,8 @@ fn evaluate_new<D: Delegate>(
                 result: answer,
                 dependencies: found,
             };
-            return finish(
-                search.alloc,
+            return conclude(
+                search,
                 cache,
                 cx,
                 index,
@@ -135,8 +181,8 @@ fn evaluate_new<D: Delegate>(
         result: answer,
         dependencies,
     };
-    finish(
-        search.alloc,
+    conclude(
+        search,
         cache,
         cx,
         index,
@@ -163,14 +209,14 @@ fn run_once<D: Delegate>(
         StackEntry<InputOf<D>, ResultOf<D>>,
         EvaluationResult<ResultOf<D>>,
     ),
-    GraphFault,
+    Stop,
 >
     requires stack { IsStack D.meaning (D.meaning.world cx.old) [] cx.old search.old.stack.items }
     requires cache { AreCached D.meaning (D.meaning.world cx.old) cx.old cache.old.entries.items }
     requires entry { IsEntry D.meaning (D.meaning.world cx.old) (path_onto D.meaning cx.old search.old.stack.items []) cx.old entry }
     requires room { earlier.lowest ≤ length search.old.stack.items }
     requires span { entry.span ≡ covered (span_of_newest search.old.stack.items) (one_goal entry.number) }
-    requires nested { AreInRange cache.old.entries.items earlier.nested_goals }
+    requires nested { AreInRange cache.old.asked.items earlier.nested_goals }
     requires depth { earlier.encountered_overflow ≡ false → earlier.required_depth ≤ depth }
     requires earlier { IsUntouchedOver D.meaning cx.old search.old.stack.items entry.input (depth + 1) earlier }
     ensures keeps { Keeps D.meaning cx.old cx.new }
@@ -178,17 +224,19 @@ fn run_once<D: Delegate>(
     ensures cache { AreCached D.meaning (D.meaning.world cx.new) cx.new cache.new.entries.items }
     ensures goals { KeepsNumbers D.Cx.Input.eq cache.old.goals.keys cache.new.goals.keys }
     ensures results { KeepsResults cache.old.entries.items cache.new.entries.items }
-    ensures range { IfOk result (λ p. AreInRange cache.new.entries.items p.1.dependencies.nested_goals) }
+    ensures asked_before { KeepsResults cache.old.asked.items cache.new.asked.items }
+    ensures range { IfOk result (λ p. AreInRange cache.new.asked.items p.1.dependencies.nested_goals) }
     ensures depth { IfOk result (λ p. p.1.dependencies.encountered_overflow ≡ false → p.1.dependencies.required_depth ≤ depth) }
     ensures entry { IfOk result (λ p. p.0 ≡ entry) }
     ensures low { IfOk result (λ p. p.1.dependencies.lowest ≤ length search.old.stack.items) }
     ensures provisional { IfOk result (λ p. IsRunOver D.meaning cx.old search.old.stack.items entry p.1.dependencies.lowest cx.new p.1.result) }
     ensures faithful { IfOk result (λ p. IsFaithfulOver D.meaning cx.old search.old.stack.items entry.input (depth + 1) cx.new p.1) }
-    ensures no_conflict { result ≡ Err GraphFault.Conflict → IsNotPlainOver D.meaning cx.old search.old.stack.items entry.input (depth + 1) }
-    ensures protocol { result ≡ Err GraphFault.Protocol → MakesMisstep D.meaning (D.meaning.world cx.old) (D.meaning.goal_of cx.old entry.input) }
-    ensures conflict { result ≡ Err GraphFault.Conflict → HasConflict D.meaning cx.new (known_results cache.new.entries.items) }
+    ensures no_conflict { result ≡ Err (Stop.Fault GraphFault.Conflict) → IsNotPlainOver D.meaning cx.old search.old.stack.items entry.input (depth + 1) }
+    ensures exhausted { result ≡ Err Stop.Exhausted → IsNotPlainOver D.meaning cx.old search.old.stack.items entry.input (depth + 1) }
+    ensures protocol { result ≡ Err (Stop.Fault GraphFault.Protocol) → MakesMisstep D.meaning (D.meaning.world cx.old) (D.meaning.goal_of cx.old entry.input) }
+    ensures conflict { result ≡ Err (Stop.Fault GraphFault.Conflict) → HasConflict D.meaning cx.new (known_results cache.new.entries.items) }
     ensures frames { AreFramesWithin D.meaning cx.old entry.input search.old.frames search.new.frames (λ width. 1 + width * question_bound (max D.FIXPOINT_STEP_LIMIT 1) width depth) }
-    ensures full { result ≡ Err GraphFault.Full → D.meaning.IsFull cx.new }
+    ensures full { result ≡ Err (Stop.Fault GraphFault.Full) → D.meaning.IsFull cx.new }
     ensures limits { search.old.limits_met ≡ true → search.new.limits_met ≡ true }
     ensures no_limit { search.old.limits_met ≡ false → search.new.limits_met ≡ true → IsNotPlainOver D.meaning cx.old search.old.stack.items entry.input (depth + 1) }
     ensures within { IfOk result (λ p. RunStaysWithin D.meaning cx.old search.old.stack.items cache.old.entries.items entry search.new.limits_met cx.new cache.new.entries.items p.1.result) }
@@ -231,7 +279,7 @@ fn ask<D: Delegate>(
     step_kind: PathKind,
     depth: usize,
     overflowed: bool,
-) -> Evaluation<D>
+) -> Outcome<D>
     requires stack { IsStack D.meaning (D.meaning.world cx.old) [] cx.old search.old.stack.items }
     requires cache { AreCached D.meaning (D.meaning.world cx.old) cx.old cache.old.entries.items }
     requires input { D.meaning.IsInput cx.old input }
@@ -240,15 +288,17 @@ fn ask<D: Delegate>(
     ensures cache { AreCached D.meaning (D.meaning.world cx.new) cx.new cache.new.entries.items }
     ensures goals { KeepsNumbers D.Cx.Input.eq cache.old.goals.keys cache.new.goals.keys }
     ensures results { KeepsResults cache.old.entries.items cache.new.entries.items }
-    ensures range { IfOk result (λ o. AreInRange cache.new.entries.items o.dependencies.nested_goals) }
+    ensures asked_before { KeepsResults cache.old.asked.items cache.new.asked.items }
+    ensures range { IfOk result (λ o. AreInRange cache.new.asked.items o.dependencies.nested_goals) }
     ensures depth { IfOk result (λ o. o.dependencies.encountered_overflow ≡ false → o.dependencies.required_depth < depth) }
     ensures answer { IfOk result (λ o. IsReplyOver D.meaning cx.old search.old.stack.items input step_kind o.dependencies.lowest cx.new o.result) }
     ensures faithful { IfOk result (IsFaithfulOver D.meaning cx.old search.old.stack.items input (cond overflowed 0 depth) cx.new) }
-    ensures no_conflict { result ≡ Err GraphFault.Conflict → IsNotPlainOver D.meaning cx.old search.old.stack.items input (cond overflowed 0 depth) }
-    ensures protocol { result ≡ Err GraphFault.Protocol → MakesMisstep D.meaning (D.meaning.world cx.old) (D.meaning.goal_of cx.old input) }
-    ensures conflict { result ≡ Err GraphFault.Conflict → HasConflict D.meaning cx.new (known_results cache.new.entries.items) }
+    ensures no_conflict { result ≡ Err (Stop.Fault GraphFault.Conflict) → IsNotPlainOver D.meaning cx.old search.old.stack.items input (cond overflowed 0 depth) }
+    ensures exhausted { result ≡ Err Stop.Exhausted → IsNotPlainOver D.meaning cx.old search.old.stack.items input (cond overflowed 0 depth) }
+    ensures protocol { result ≡ Err (Stop.Fault GraphFault.Protocol) → MakesMisstep D.meaning (D.meaning.world cx.old) (D.meaning.goal_of cx.old input) }
+    ensures conflict { result ≡ Err (Stop.Fault GraphFault.Conflict) → HasConflict D.meaning cx.new (known_results cache.new.entries.items) }
     ensures frames { AreFramesWithin D.meaning cx.old input search.old.frames search.new.frames (λ width. question_bound (max D.FIXPOINT_STEP_LIMIT 1) width depth) }
-    ensures full { result ≡ Err GraphFault.Full → D.meaning.IsFull cx.new }
+    ensures full { result ≡ Err (Stop.Fault GraphFault.Full) → D.meaning.IsFull cx.new }
     ensures limits { search.old.limits_met ≡ true → search.new.limits_met ≡ true }
     ensures no_limit { search.old.limits_met ≡ false → search.new.limits_met ≡ true → IsNotPlainOver D.meaning cx.old search.old.stack.items input (cond overflowed 0 depth) }
     ensures within { IfOk result (λ o. StaysWithin D.meaning cx.old search.old.stack.items cache.old.entries.items input search.new.limits_met cx.new cache.new.entries.items o.result) }

@@ -22,6 +22,62 @@ pub enum GraphFault {
     Protocol,
 }
 
+/// Why a question gets no reply.
+#[derive(Clone, Copy, PartialEq, Eq)]
+pub(crate) enum Stop {
+    /// It is refused.
+    Fault(GraphFault),
+    /// The call from outside is given up: too many goals ended in it whose results rest on others, or that met an overflow.
+    Exhausted,
+}
+
+impl From<GraphFault> for Stop {
+    ghost use Rattle.search_graph.specs.declared.fault.Stop.TheVariants.{Fault as Refused};
+
+    ghost from_gives = { λ fault stop. stop ≡ Refused fault };
+
+    fn from(fault: GraphFault) -> Self {
+        Stop::Fault(fault)
+    }
+}
+
+impl From<Fault> for Stop {
+    ghost use Rattle.search_graph.specs.declared.fault.Stop.TheVariants.{Fault as Refused, Exhausted as GivenUp};
+    ghost use Rattle.search_graph.specs.declared.fault.GraphFault.TheVariants.{Full as FullFault, Conflict as ConflictFault, Protocol as ProtocolFault};
+    ghost use Rattle.type_terms.specs.declared.Fault.TheVariants.{Full as FullTable};
+
+    ghost from_gives = { λ fault stop. (stop ≡ GivenUp → ⊥) × (stop ≡ Refused ConflictFault → ⊥) × (stop ≡ Refused ProtocolFault → ⊥) × (stop ≡ Refused FullFault → fault ≡ FullTable) };
+
+    fn from(fault: Fault) -> Self {
+        match fault {
+            Fault::Memory => Stop::Fault(GraphFault::Memory),
+            Fault::Full => Stop::Fault(GraphFault::Full),
+        }
+    }
+}
+
+impl From<AllocError> for Stop {
+    ghost use Rattle.search_graph.specs.declared.fault.Stop.TheVariants.{Fault as Refused, Exhausted as GivenUp};
+    ghost use Rattle.search_graph.specs.declared.fault.GraphFault.TheVariants.{Full as FullFault, Conflict as ConflictFault, Protocol as ProtocolFault};
+
+    ghost from_gives = { λ _ stop. (stop ≡ GivenUp → ⊥) × (stop ≡ Refused ConflictFault → ⊥) × (stop ≡ Refused ProtocolFault → ⊥) × (stop ≡ Refused FullFault → ⊥) };
+
+    fn from(_: AllocError) -> Self {
+        Stop::Fault(GraphFault::Memory)
+    }
+}
+
+impl<T: Drop> From<AllocFailed<T>> for Stop {
+    ghost use Rattle.search_graph.specs.declared.fault.Stop.TheVariants.{Fault as Refused, Exhausted as GivenUp};
+    ghost use Rattle.search_graph.specs.declared.fault.GraphFault.TheVariants.{Full as FullFault, Conflict as ConflictFault, Protocol as ProtocolFault};
+
+    ghost from_gives = { λ _ stop. (stop ≡ GivenUp → ⊥) × (stop ≡ Refused ConflictFault → ⊥) × (stop ≡ Refused ProtocolFault → ⊥) × (stop ≡ Refused FullFault → ⊥) };
+
+    fn from(_: AllocFailed<T>) -> Self {
+        Stop::Fault(GraphFault::Memory)
+    }
+}
+
 impl From<Fault> for GraphFault {
     ghost use Rattle.search_graph.specs.declared.fault.GraphFault.TheVariants.{Full as FullFault, Conflict as ConflictFault, Protocol as ProtocolFault};
     ghost use Rattle.type_terms.specs.declared.Fault.TheVariants.{Full as FullTable};

@@ -11,7 +11,7 @@ ghost use Rattle.search_graph.specs.Question.{AreFramesWithin, IsWithinKnown};
 
 use crate::delegate::{Delegate, InputOf, ResultOf};
 use crate::dependencies::EvaluationResult;
-use crate::evaluation::evaluate;
+use crate::evaluation::evaluate_root;
 use crate::fault::GraphFault;
 use crate::global_cache::GlobalCache;
 use crate::path_kind::PathKind;
@@ -80,7 +80,7 @@ impl<D: Delegate> SearchGraph<D> {
         self.search.frames
     }
 
-    /// Whether, since `new`, a goal at depth 0 asked a question or the limit of runs gave a result.
+    /// Whether, since `new`, a goal at depth 0 asked a question, the limit of runs gave a result or a call was given up.
     pub fn limits_met(&self) -> bool
         ensures { result ≡ self.now.limits_met }
     {
@@ -88,6 +88,9 @@ impl<D: Delegate> SearchGraph<D> {
     }
 
     /// The result of a goal. The kind of the step has no effect, since no goal is above the root.
+    ///
+    /// Where too many goals end under it whose results rest on goals that are still evaluated, or that met an overflow by depth,
+    /// the call is given up and its result is `stack_overflow_result`, which rustc does not give.
     ///
     /// It is refused where memory is (`Memory`), where a table of the context is full (`Full`), where the frame of the goal or
     /// of one that is asked under it makes a request out of order (`Protocol`), and where a new result differs from a cached one
@@ -140,7 +143,8 @@ impl<D: Delegate> SearchGraph<D> {
     {
         let depth = self.root_depth;
         let results = &mut cache.results;
-        match evaluate(&mut self.search, results, cx, input, step_kind, depth) {
+        self.search.count_anew();
+        match evaluate_root(&mut self.search, results, cx, input, step_kind, depth) {
             Ok(evaluation) => {
                 let EvaluationResult {
                     result: answer,

@@ -19,7 +19,7 @@ mod search;
 mod stack;
 mod steps;
 
-pub use cache::{CacheEntry, CachedResults};
+pub use cache::{Asked, CacheEntry, CachedResults};
 pub use candidates::Candidates;
 pub use delegate::{Cx, Delegate, InputOf, Reply, Request, ResultOf};
 pub use dependencies::{CycleHead, Dependencies, EvaluationResult, take_head};

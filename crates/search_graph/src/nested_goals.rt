@@ -58,13 +58,13 @@ impl Span {
 
 /// All goals that were asked under a goal, whatever answered them.
 ///
-/// What was asked under a cached result is known by that result's place. So the lists are no longer than the questions that
-/// were asked.
+/// What was asked under a result that was used is known by its place among what was asked. So the lists are no longer than the
+/// questions that were asked.
 #[derive(Drop)]
 pub struct NestedGoals {
-    /// Goals whose results weren't cached, as they were asked.
+    /// Goals whose results weren't there, as they were asked.
     pub goals: Vec<usize>,
-    /// Places in the cache: their goals, and all that was asked under them.
+    /// Places of what was asked under results that were there: their goals, and all that was asked under them.
     pub cached: Vec<usize>,
     /// All of them lie in it.
     pub span: Span,
@@ -96,7 +96,7 @@ impl NestedGoals {
         Ok(())
     }
 
-    /// Adds the goal of a cached result with all that was asked under it, which lie in the span.
+    /// Adds a goal with all that was asked under it, which lie in the span, by its place.
     pub fn add_cached(&mut self, place: usize, span: Span) -> Result<(), AllocError>
         ensures added { OnOk result (self.new.cached.items ≡ self.old.cached.items ++ place ∷ []) }
         ensures span { OnOk result (self.new.span ≡ covered self.old.span span) }

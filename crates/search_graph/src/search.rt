@@ -7,6 +7,7 @@ ghost use Rattle.indexmap.specs.IndexMap.{get};
 ghost use Rattle.search_graph.specs.Nested.{covered, one_goal, AsksAlone, UsesAlone, AlsoAsks};
 ghost use Rattle.search_graph.specs.Chain.{AreInRange, AreInRanges, IsUsableAt, NoneIsUsable};
 ghost use Rattle.search_graph.specs.Meaning.{Keeps};
+ghost use Rattle.search_graph.specs.Bound.{open_ends_limit};
 ghost use Rattle.search_graph.specs.Cache.{known_results, HasConflict, IsNumberOf, KeepsResults, IsReplyOf, AddsEvaluation, SaysSame};
 ghost use Rattle.search_graph.specs.Plain.{IsNotPlain};
 ghost use Rattle.search_graph.specs.Stack.{place_of, oldest_of, span_of_newest, IsStack, IsProvisional, IsSettled, AreCached, IsOnStack, IsClosedBy};
@@ -15,7 +16,7 @@ ghost use Rattle.search_graph.specs.Question.{IsReplyOver, IsInitial, IsFaithful
 use crate::cache::{Cached, CachedResults};
 use crate::delegate::{Cx, Delegate, InputOf, ResultOf};
 use crate::dependencies::{Dependencies, EvaluationResult};
-use crate::fault::GraphFault;
+use crate::fault::{GraphFault, Stop};
 use crate::nested_goals::{NestedGoals, Span};
 use crate::path_kind::{PathKind, PathsToNested};
 use crate::stack::{Cycle, StackEntry, add_place, find_cycle, remove_place};
@@ -25,6 +26,18 @@ use type_terms::Fault;
 
 /// The reply to a question, with what it rests on.
 pub type Evaluation<D> = Result<EvaluationResult<ResultOf<D>>, GraphFault>;
+
+/// The reply to a question, where the call from outside may be given up under it.
+pub(crate) type Outcome<D> = Result<EvaluationResult<ResultOf<D>>, Stop>;
+
+/// So many goals may end in one call from outside whose results rest on goals of the stack, or that met an overflow by depth.
+/// At the last of them the call is given up.
+///
+/// Such results aren't kept, so they are computed again wherever their goals are asked again, and in goals that ask each other
+/// by many paths that happens exponentially often in the number of goals. A goal of them has at most `FIXPOINT_STEP_LIMIT`
+/// runs, and all other goals are kept. So this bounds the time of a call, to a second or two. Goals that form no
+/// cycle and whose chains fit the depth are never counted.
+pub(crate) const OPEN_ENDS_LIMIT: usize = 1024;
 
 /// The goals that are being evaluated, and what was counted.
 pub struct Search<D: Delegate> {
@@ -36,10 +49,12 @@ pub struct Search<D: Delegate> {
     positions: IndexMap<usize, usize>,
     ghost placed: { (number : ℕ) → get nat_eq positions number ≡ place_of stack.items number } by { Prim.hlevel props },
     ghost ranges: { AreInRanges stack.items } by { Prim.hlevel props },
-    /// Whether a limit of the depth or of the runs gave a result.
+    /// Whether a limit of the depth or of the runs gave a result, or a call was given up.
     pub limits_met: bool,
     /// How many frames were started, or the greatest `u64` if there were more.
     pub frames: u64,
+    /// How many goals ended in this call from outside whose results rest on goals of the stack, or that met an overflow by depth.
+    pub(crate) open_ends: usize,
 }
 
 impl<D: Delegate> Drop for Search<D> {
@@ -50,6 +65,7 @@ impl<D: Delegate> Drop for Search<D> {
             positions: _,
             limits_met: _,
             frames: _,
+            open_ends: _,
         } = self;
     }
 }
@@ -67,6 +83,7 @@ impl<D: Delegate> Search<D> {
             positions: IndexMap::new(alloc),
             limits_met: false,
             frames: 0,
+            open_ends: 0,
         }
     }
 
@@ -78,6 +95,28 @@ impl<D: Delegate> Search<D> {
     {
         self.stack.clear();
         self.positions.clear();
+    }
+
+    /// Begins a call from outside, in which no goal has ended.
+    pub(crate) fn count_anew(&mut self)
+        ensures count { self.new.open_ends ≡ 0 }
+        ensures stack { self.new.stack.items ≡ self.old.stack.items }
+        ensures frames { self.new.frames ≡ self.old.frames }
+        ensures limits { self.new.limits_met ≡ self.old.limits_met }
+    {
+        self.open_ends = 0;
+    }
+
+    /// Counts a goal that ended with a result that isn't kept, or after an overflow. Whether the call may go on after it.
+    pub(crate) fn count_open_end(&mut self) -> bool
+        ensures limit { result ≡ true → self.new.open_ends < open_ends_limit }
+        ensures count { result ≡ true → self.new.open_ends ≡ self.old.open_ends + 1 }
+        ensures stack { self.new.stack.items ≡ self.old.stack.items }
+        ensures frames { self.new.frames ≡ self.old.frames }
+        ensures limits { self.new.limits_met ≡ self.old.limits_met }
+    {
+        self.open_ends = self.open_ends.saturating_add(1);
+        self.open_ends < OPEN_ENDS_LIMIT
     }
 
     /// The goals of the stack lie in it.
@@ -150,8 +189,8 @@ impl<D: Delegate> Search<D> {
         input: &InputOf<D>,
         depth: usize,
     ) -> Result<Option<usize>, AllocError>
-        ensures found { IfOk result (λ found. IfSome found (IsUsableAt cache.now.entries.items (IsOnStack self.now.stack.items) number input.now depth)) }
-        ensures none { IfOk result (λ found. IfNone found (NoneIsUsable cache.now.entries.items (IsOnStack self.now.stack.items) number input.now depth)) }
+        ensures found { IfOk result (λ found. IfSome found (IsUsableAt cache.now.entries.items cache.now.asked.items (IsOnStack self.now.stack.items) number input.now depth)) }
+        ensures none { IfOk result (λ found. IfNone found (NoneIsUsable cache.now.entries.items cache.now.asked.items (IsOnStack self.now.stack.items) number input.now depth)) }
     {
         cache.find(&self.positions, self.span(), number, input, depth)
     }
@@ -219,8 +258,8 @@ impl<D: Delegate> Search<D> {
         requires place { (e : _) × (slice_get cache.now.entries.items place ≡ Some e) × (e.input ≡ input.now) × (e.encountered_overflow ≡ true → e.depth ≡ depth) }
         ensures same { IfOk result (λ o. (e : _) → slice_get cache.now.entries.items place ≡ Some e → IsReplyOf e o) }
         ensures unread { IfOk result (λ o. (o.dependencies.lowest ≡ length self.now.stack.items) × (o.dependencies.heads.items ≡ [])) }
-        ensures asked { IfOk result (λ o. UsesAlone place o.dependencies.nested_goals) }
-        ensures range { IfOk result (λ o. AreInRange cache.now.entries.items o.dependencies.nested_goals) }
+        ensures asked { IfOk result (λ o. (e : _) → slice_get cache.now.entries.items place ≡ Some e → UsesAlone e.asked o.dependencies.nested_goals) }
+        ensures range { IfOk result (λ o. AreInRange cache.now.asked.items o.dependencies.nested_goals) }
         ensures answer { IfOk result (λ o. IsReplyOver D.meaning cx.now self.now.stack.items input.now step_kind o.dependencies.lowest cx.now o.result) }
         ensures faithful { IfOk result (IsFaithfulOver D.meaning cx.now self.now.stack.items input.now (depth + 1) cx.now) }
         ensures within { IfOk result (λ o. IsWithinAsCached D.meaning cx.now cache.now.entries.items input.now o.result) }
@@ -233,13 +272,14 @@ impl<D: Delegate> Search<D> {
             result: answer,
             depth: required_depth,
             encountered_overflow,
+            asked,
         } = cached;
         let mut dependencies = Dependencies::new(self.alloc, self.stack.len());
         dependencies.encountered_overflow = encountered_overflow;
         dependencies.required_depth = required_depth;
         dependencies
             .nested_goals
-            .add_cached(place, cache.span_of(place))?;
+            .add_cached(asked, cache.span_of(asked))?;
         Ok(EvaluationResult {
             result: answer,
             dependencies,
@@ -251,16 +291,16 @@ impl<D: Delegate> Search<D> {
         &mut self,
         cx: &mut D::Cx,
         number: usize,
-        input: InputOf<D>,
+        input: &InputOf<D>,
         step_kind: PathKind,
     ) -> Evaluation<D>
-        requires { D.meaning.IsInput cx.old input }
+        requires { D.meaning.IsInput cx.old input.now }
         ensures keeps { Keeps D.meaning cx.old cx.new }
         ensures stack { self.new.stack.items ≡ self.old.stack.items }
         ensures frames { self.new.frames ≡ self.old.frames }
         ensures noted { self.new.limits_met ≡ true }
-        ensures answer { IfOk result (λ o. IsReplyOver D.meaning cx.old self.old.stack.items input step_kind o.dependencies.lowest cx.new o.result) }
-        ensures overflow { IfOk result (λ o. D.meaning.answer_of cx.new o.result ≡ D.meaning.stack_overflow (D.meaning.world cx.old) (D.meaning.goal_of cx.old input)) }
+        ensures answer { IfOk result (λ o. IsReplyOver D.meaning cx.old self.old.stack.items input.now step_kind o.dependencies.lowest cx.new o.result) }
+        ensures overflow { IfOk result (λ o. D.meaning.answer_of cx.new o.result ≡ D.meaning.stack_overflow (D.meaning.world cx.old) (D.meaning.goal_of cx.old input.now)) }
         ensures told { IfOk result (λ o. o.dependencies.encountered_overflow ≡ true) }
         ensures unread { IfOk result (λ o. (o.dependencies.lowest ≡ length self.old.stack.items) × (o.dependencies.heads.items ≡ [])) }
         ensures asked { IfOk result (λ o. AsksAlone number o.dependencies.nested_goals) }
@@ -270,7 +310,7 @@ impl<D: Delegate> Search<D> {
         ensures full { result ≡ Err GraphFault.Full → D.meaning.IsFull cx.new }
     {
         self.limits_met = true;
-        let answer = D::stack_overflow_result(cx, &input)?;
+        let answer = D::stack_overflow_result(cx, input)?;
         let mut dependencies = Dependencies::new(self.alloc, self.stack.len());
         dependencies.encountered_overflow = true;
         dependencies.nested_goals.add_goal(number)?;
@@ -355,20 +395,21 @@ pub fn finish<D: Delegate>(
 ) -> Evaluation<D>
     requires cache { AreCached D.meaning (D.meaning.world cx.now) cx.now cache.old.entries.items }
     requires input { D.meaning.IsInput cx.now input }
-    requires nested { AreInRange cache.old.entries.items evaluation.dependencies.nested_goals }
+    requires nested { AreInRange cache.old.asked.items evaluation.dependencies.nested_goals }
     requires number { IsNumberOf D.Cx.Input.eq cache.old.goals.keys input number }
     requires alone { index ≤ evaluation.dependencies.lowest → IsProvisional D.meaning (D.meaning.world cx.now) [] (D.meaning.goal_of cx.now input, PathKind.Inductive) 0 cx.now evaluation.result }
     requires kept { index ≤ evaluation.dependencies.lowest → IsKeptResult D.meaning cx.now input evaluation.result depth evaluation.dependencies.encountered_overflow }
-    ensures kept { OnOk result (index ≤ evaluation.dependencies.lowest → AddsEvaluation cache.old.entries.items cache.new.entries.items input number depth evaluation) }
+    ensures kept { OnOk result (index ≤ evaluation.dependencies.lowest → AddsEvaluation cache.old.entries.items cache.new.entries.items cache.old.asked.items input number depth evaluation) }
     ensures unkept { OnOk result (evaluation.dependencies.lowest < index → cache.new.entries.items ≡ cache.old.entries.items) }
     ensures err { OnErr result ((cache.new.entries.items ≡ cache.old.entries.items) ⊎ ((e : _) × (cache.new.entries.items ≡ cache.old.entries.items ++ e ∷ []))) }
     ensures results { KeepsResults cache.old.entries.items cache.new.entries.items }
+    ensures asked_before { KeepsResults cache.old.asked.items cache.new.asked.items }
     ensures goals { cache.new.goals ≡ cache.old.goals }
     ensures cache { AreCached D.meaning (D.meaning.world cx.now) cx.now cache.new.entries.items }
     ensures reply { IfOk result (SaysSame evaluation) }
-    ensures found { IfOk result (λ o. index ≤ evaluation.dependencies.lowest → UsesAlone (length cache.old.entries.items) o.dependencies.nested_goals) }
+    ensures found { IfOk result (λ o. index ≤ evaluation.dependencies.lowest → UsesAlone (length cache.old.asked.items) o.dependencies.nested_goals) }
     ensures asked { IfOk result (λ o. evaluation.dependencies.lowest < index → AlsoAsks evaluation.dependencies.nested_goals number o.dependencies.nested_goals) }
-    ensures range { IfOk result (λ o. AreInRange cache.new.entries.items o.dependencies.nested_goals) }
+    ensures range { IfOk result (λ o. AreInRange cache.new.asked.items o.dependencies.nested_goals) }
     ensures within { OnOk result (KeepsWithin D.meaning cx.now cache.old.entries.items input evaluation.result cache.new.entries.items) }
     ensures no_conflict { result ≡ Err GraphFault.Conflict → (limit : ℕ) → limit ≤ depth + 1 → IsNotPlain D.meaning (D.meaning.world cx.now) limit (D.meaning.goal_of cx.now input) }
     ensures conflict { result ≡ Err GraphFault.Conflict → HasConflict D.meaning cx.now (known_results cache.new.entries.items) }
@@ -393,7 +434,7 @@ pub fn finish<D: Delegate>(
             required_depth
         };
         let span = nested_goals.span.cover(Span::of(number));
-        let place = cache.insert(
+        let asked = cache.insert(
             cx,
             number,
             input,
@@ -403,7 +444,7 @@ pub fn finish<D: Delegate>(
             nested_goals,
         )?;
         let mut nested_goals = NestedGoals::new(alloc);
-        nested_goals.add_cached(place, span)?;
+        nested_goals.add_cached(asked, span)?;
         let dependencies = Dependencies {
             lowest,
             heads,

@@ -1,21 +1,21 @@
 //! The parts of an evaluation that ask no goal, each with what the evaluation says of it.
 
-ghost use Rattle.std.specs.Prelude.{◌≡◌, [], ◌∷◌, ◌++◌, ◌+◌, ◌-◌, ◌^◌, ◌<◌, ◌≤◌, ◌||◌, ℕ, min, max, IfOk, OnOk, IfSome, IsSome, IsPermutation, true, false};
+ghost use Rattle.std.specs.Prelude.{◌≡◌, [], ◌∷◌, ◌++◌, ◌+◌, ◌-◌, ◌^◌, ◌<◌, ◌≤◌, ◌||◌, ◌⊎◌, ℕ, min, max, IfOk, OnOk, IfSome, IsSome, IsPermutation, true, false};
 ghost use Rattle.std.specs.Int.RustNames.{bit_or};
 ghost use Rattle.search_graph.specs.Heads.{paths_to};
 ghost use Rattle.search_graph.specs.Meaning.{Keeps, IsDue, IsReply, Steps};
 ghost use Rattle.search_graph.specs.Chain.{AreInRange};
 ghost use Rattle.search_graph.specs.Nested.{covered, one_goal, AsksAlone};
-ghost use Rattle.search_graph.specs.Cache.{HoldsResult, IsNumberOf, KeepsNumbers};
-ghost use Rattle.search_graph.specs.Stack.{span_of_newest, IsStack, AreCached, IsClosedBy, IfUsable, HasBegun};
-ghost use Rattle.search_graph.specs.Question.{IsReplyOver, IsFaithfulOver, IsWithinAsCached, IsWithinAsStack};
+ghost use Rattle.search_graph.specs.Cache.{known_results, HasConflict, HoldsResult, IsNumberOf, KeepsNumbers, KeepsResults, AddsEvaluation, SaysSame};
+ghost use Rattle.search_graph.specs.Stack.{span_of_newest, IsStack, IsProvisional, AreCached, IsClosedBy, IfUsable, HasBegun};
+ghost use Rattle.search_graph.specs.Question.{IsReplyOver, IsFaithfulOver, IsKeptResult, IsNotPlainUpTo, IsWithinAsCached, IsWithinAsStack, KeepsWithin};
 
 use crate::cache::CachedResults;
 use crate::delegate::{Delegate, InputOf, Reply, Request, ResultOf};
 use crate::dependencies::{CycleHead, Dependencies, EvaluationResult};
-use crate::fault::GraphFault;
+use crate::fault::{GraphFault, Stop};
 use crate::path_kind::{PathKind, PathsToNested};
-use crate::search::{Evaluation, Search};
+use crate::search::{Evaluation, Outcome, Search, finish};
 use crate::stack::{Cycle, StackEntry};
 
 /// The number of a goal, and a cached result as the reply to a question on it, if one of this depth may use it.
@@ -30,14 +30,15 @@ pub(crate) fn look_up<D: Delegate>(
     requires cache { AreCached D.meaning (D.meaning.world cx.now) cx.now cache.old.entries.items }
     ensures goals { KeepsNumbers D.Cx.Input.eq cache.old.goals.keys cache.new.goals.keys }
     ensures entries { cache.new.entries ≡ cache.old.entries }
+    ensures asked_before { cache.new.asked ≡ cache.old.asked }
     ensures number { IfOk result (λ r. IsNumberOf D.Cx.Input.eq cache.new.goals.keys input.now r.0) }
-    ensures range { IfOk result (λ r. IfSome r.1 (λ o. AreInRange cache.old.entries.items o.dependencies.nested_goals)) }
+    ensures range { IfOk result (λ r. IfSome r.1 (λ o. AreInRange cache.old.asked.items o.dependencies.nested_goals)) }
     ensures depth { IfOk result (λ r. IfSome r.1 (λ o. o.dependencies.encountered_overflow ≡ false → o.dependencies.required_depth ≤ depth)) }
     ensures kept { IfOk result (λ r. IfSome r.1 (λ o. HoldsResult cache.old.entries.items input.now depth o.result)) }
     ensures answer { IfOk result (λ r. IfSome r.1 (λ o. IsReplyOver D.meaning cx.now search.now.stack.items input.now step_kind o.dependencies.lowest cx.now o.result)) }
     ensures faithful { IfOk result (λ r. IfSome r.1 (IsFaithfulOver D.meaning cx.now search.now.stack.items input.now (depth + 1) cx.now)) }
     ensures within { IfOk result (λ r. IfSome r.1 (λ o. IsWithinAsCached D.meaning cx.now cache.old.entries.items input.now o.result)) }
-    ensures found { IfUsable cache.old.entries.items search.now.stack.items input.now depth (IfOk result (λ r. IsSome r.1)) }
+    ensures found { IfUsable cache.old.entries.items cache.old.asked.items search.now.stack.items input.now depth (IfOk result (λ r. IsSome r.1)) }
     ensures no_conflict { result ≡ Err GraphFault.Conflict → ⊥ }
     ensures in_order { result ≡ Err GraphFault.Protocol → ⊥ }
     ensures room { result ≡ Err GraphFault.Full → ⊥ }
@@ -61,7 +62,7 @@ pub(crate) fn reply_in_cycle<D: Delegate>(
     input: &InputOf<D>,
     step_kind: PathKind,
     cycle: Cycle,
-) -> Evaluation<D>
+) -> Outcome<D>
     requires stack { IsStack D.meaning (D.meaning.world cx.old) [] cx.old search.now.stack.items }
     requires input { D.meaning.IsInput cx.old input.now }
     requires cycle { IsClosedBy search.now.stack.items input.now step_kind cycle }
@@ -71,9 +72,10 @@ pub(crate) fn reply_in_cycle<D: Delegate>(
     ensures answer { IfOk result (λ o. IsReplyOver D.meaning cx.old search.now.stack.items input.now step_kind o.dependencies.lowest cx.new o.result) }
     ensures faithful { IfOk result (λ o. (reach : ℕ) → IsFaithfulOver D.meaning cx.old search.now.stack.items input.now reach cx.new o) }
     ensures within { IfOk result (λ o. IsWithinAsStack D.meaning cx.old search.now.stack.items input.now cx.new o.result) }
-    ensures no_conflict { result ≡ Err GraphFault.Conflict → ⊥ }
-    ensures in_order { result ≡ Err GraphFault.Protocol → ⊥ }
-    ensures full { result ≡ Err GraphFault.Full → D.meaning.IsFull cx.new }
+    ensures goes_on { result ≡ Err Stop.Exhausted → ⊥ }
+    ensures no_conflict { result ≡ Err (Stop.Fault GraphFault.Conflict) → ⊥ }
+    ensures in_order { result ≡ Err (Stop.Fault GraphFault.Protocol) → ⊥ }
+    ensures full { result ≡ Err (Stop.Fault GraphFault.Full) → D.meaning.IsFull cx.new }
 {
     let (answer, lowest) = search.close_cycle(cx, input, step_kind, cycle)?;
     let mut dependencies = Dependencies::new(search.alloc, lowest);
@@ -96,7 +98,7 @@ pub(crate) fn reply_with_overflow<D: Delegate>(
     cx: &mut D::Cx,
     input: InputOf<D>,
     step_kind: PathKind,
-) -> Evaluation<D>
+) -> Outcome<D>
     requires cache { AreCached D.meaning (D.meaning.world cx.old) cx.old cache.old.entries.items }
     requires input { D.meaning.IsInput cx.old input }
     ensures keeps { Keeps D.meaning cx.old cx.new }
@@ -104,18 +106,20 @@ pub(crate) fn reply_with_overflow<D: Delegate>(
     ensures cache { AreCached D.meaning (D.meaning.world cx.new) cx.new cache.new.entries.items }
     ensures goals { KeepsNumbers D.Cx.Input.eq cache.old.goals.keys cache.new.goals.keys }
     ensures entries { cache.new.entries ≡ cache.old.entries }
-    ensures range { IfOk result (λ o. AreInRange cache.new.entries.items o.dependencies.nested_goals) }
+    ensures asked_before { cache.new.asked ≡ cache.old.asked }
+    ensures range { IfOk result (λ o. AreInRange cache.new.asked.items o.dependencies.nested_goals) }
     ensures answer { IfOk result (λ o. IsReplyOver D.meaning cx.old search.old.stack.items input step_kind o.dependencies.lowest cx.new o.result) }
     ensures told { IfOk result (λ o. o.dependencies.encountered_overflow ≡ true) }
     ensures frames { search.new.frames ≡ search.old.frames }
     ensures limits { search.old.limits_met ≡ true → search.new.limits_met ≡ true }
     ensures noted { OnOk result (search.new.limits_met ≡ true) }
-    ensures no_conflict { result ≡ Err GraphFault.Conflict → ⊥ }
-    ensures in_order { result ≡ Err GraphFault.Protocol → ⊥ }
-    ensures full { result ≡ Err GraphFault.Full → D.meaning.IsFull cx.new }
+    ensures goes_on { result ≡ Err Stop.Exhausted → ⊥ }
+    ensures no_conflict { result ≡ Err (Stop.Fault GraphFault.Conflict) → ⊥ }
+    ensures in_order { result ≡ Err (Stop.Fault GraphFault.Protocol) → ⊥ }
+    ensures full { result ≡ Err (Stop.Fault GraphFault.Full) → D.meaning.IsFull cx.new }
 {
     let number = cache.number_of(cx, &input)?;
-    search.overflow(cx, number, input, step_kind)
+    Ok(search.overflow(cx, number, &input, step_kind)?)
 }
 
 /// Puts a goal on the stack and starts a frame of it, up to its first request.
@@ -172,4 +176,82 @@ pub(crate) fn hear<D: Delegate>(
     dependencies.gather(more)?;
     let request = D::step(frame, cx, Reply::Result(answer))?;
     Ok(request)
+}
+
+/// Counts the end of a goal at this place of the stack, and keeps its result as `finish` does.
+pub(crate) fn conclude<D: Delegate>(
+    search: &mut Search<D>,
+    cache: &mut CachedResults<D>,
+    cx: &D::Cx,
+    index: usize,
+    number: usize,
+    input: InputOf<D>,
+    evaluation: EvaluationResult<ResultOf<D>>,
+    depth: usize,
+) -> Outcome<D>
+    requires cache { AreCached D.meaning (D.meaning.world cx.now) cx.now cache.old.entries.items }
+    requires input { D.meaning.IsInput cx.now input }
+    requires nested { AreInRange cache.old.asked.items evaluation.dependencies.nested_goals }
+    requires number { IsNumberOf D.Cx.Input.eq cache.old.goals.keys input number }
+    requires alone { index ≤ evaluation.dependencies.lowest → IsProvisional D.meaning (D.meaning.world cx.now) [] (D.meaning.goal_of cx.now input, PathKind.Inductive) 0 cx.now evaluation.result }
+    requires kept { index ≤ evaluation.dependencies.lowest → IsKeptResult D.meaning cx.now input evaluation.result depth evaluation.dependencies.encountered_overflow }
+    ensures kept { OnOk result (index ≤ evaluation.dependencies.lowest → AddsEvaluation cache.old.entries.items cache.new.entries.items cache.old.asked.items input number depth evaluation) }
+    ensures results { KeepsResults cache.old.entries.items cache.new.entries.items }
+    ensures asked_before { KeepsResults cache.old.asked.items cache.new.asked.items }
+    ensures goals { cache.new.goals ≡ cache.old.goals }
+    ensures cache { AreCached D.meaning (D.meaning.world cx.now) cx.now cache.new.entries.items }
+    ensures reply { IfOk result (SaysSame evaluation) }
+    ensures range { IfOk result (λ o. AreInRange cache.new.asked.items o.dependencies.nested_goals) }
+    ensures within { OnOk result (KeepsWithin D.meaning cx.now cache.old.entries.items input evaluation.result cache.new.entries.items) }
+
+    // A goal whose result rests on no other and that met no overflow is never counted.
+    ensures exhausted { result ≡ Err Stop.Exhausted → (evaluation.dependencies.encountered_overflow ≡ true) ⊎ (evaluation.dependencies.lowest < index) }
+    ensures no_conflict { result ≡ Err (Stop.Fault GraphFault.Conflict) → IsNotPlainUpTo D.meaning cx.now input (depth + 1) }
+    ensures conflict { result ≡ Err (Stop.Fault GraphFault.Conflict) → HasConflict D.meaning cx.now (known_results cache.new.entries.items) }
+    ensures in_order { result ≡ Err (Stop.Fault GraphFault.Protocol) → ⊥ }
+    ensures room { result ≡ Err (Stop.Fault GraphFault.Full) → ⊥ }
+    ensures stack { search.new.stack.items ≡ search.old.stack.items }
+    ensures frames { search.new.frames ≡ search.old.frames }
+    ensures limits { search.new.limits_met ≡ search.old.limits_met }
+{
+    let found = &evaluation.dependencies;
+    let is_open = found.encountered_overflow || found.lowest < index;
+    if is_open && !search.count_open_end() {
+        return Err(Stop::Exhausted);
+    }
+    let alloc = search.alloc;
+    Ok(finish(alloc, cache, cx, index, number, input, evaluation, depth)?)
+}
+
+/// The reply to a question from outside that is given up: an overflow by depth, which is kept for goals of this depth.
+pub(crate) fn give_up<D: Delegate>(
+    search: &mut Search<D>,
+    cache: &mut CachedResults<D>,
+    cx: &mut D::Cx,
+    input: InputOf<D>,
+    step_kind: PathKind,
+    depth: usize,
+) -> Evaluation<D>
+    requires cache { AreCached D.meaning (D.meaning.world cx.old) cx.old cache.old.entries.items }
+    requires input { D.meaning.IsInput cx.old input }
+    requires not_plain { IsNotPlainUpTo D.meaning cx.old input (depth + 1) }
+    ensures keeps { Keeps D.meaning cx.old cx.new }
+    ensures stack { search.new.stack.items ≡ [] }
+    ensures cache { AreCached D.meaning (D.meaning.world cx.new) cx.new cache.new.entries.items }
+    ensures results { KeepsResults cache.old.entries.items cache.new.entries.items }
+    ensures kept { IfOk result (λ o. HoldsResult cache.new.entries.items input depth o.result) }
+    ensures answer { IfOk result (λ o. IsReplyOver D.meaning cx.old [] input step_kind o.dependencies.lowest cx.new o.result) }
+    ensures faithful { IfOk result (IsFaithfulOver D.meaning cx.old [] input (depth + 1) cx.new) }
+    ensures frames { search.new.frames ≡ search.old.frames }
+    ensures noted { search.new.limits_met ≡ true }
+    ensures conflict { result ≡ Err GraphFault.Conflict → HasConflict D.meaning cx.new (known_results cache.new.entries.items) }
+    ensures in_order { result ≡ Err GraphFault.Protocol → ⊥ }
+    ensures full { result ≡ Err GraphFault.Full → D.meaning.IsFull cx.new }
+{
+    search.clear();
+    search.limits_met = true;
+    let number = cache.number_of(cx, &input)?;
+    let overflow = search.overflow(cx, number, &input, step_kind)?;
+    let alloc = search.alloc;
+    finish(alloc, cache, cx, 0, number, input, overflow, depth)
 }

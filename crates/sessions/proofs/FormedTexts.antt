@@ -129,7 +129,7 @@ abbrev trait_home : NamedTrait → ℕ
 trait_home n = n.item.home
 
 -- the same crates see the same
-seen-still : (d e : Declarations) → (world_of d).crates ≡ (world_of e).crates → (c x : ℕ) → sees (world_of d) c x ≡ true → sees (world_of e) c x ≡ true
+pub seen-still : (d e : Declarations) → (world_of d).crates ≡ (world_of e).crates → (c x : ℕ) → sees (world_of d) c x ≡ true → sees (world_of e) c x ≡ true
 seen-still d e s c x h = seen-more (world_of d) (world_of e) (λ y i. subst (In y) s i) (subst (λ cs. length (world_of d).crates ≤ length cs) s (same (length (world_of d).crates))) c x h
   where
     same : (n : ℕ) → n ≤ n
@@ -181,17 +181,17 @@ nothing-behind [] = refl
 nothing-behind (x ∷ xs) = ap (λ r. x ∷ r) (nothing-behind xs)
 
 -- ---- places
-pushed : {A : Type 0} (P : ℕ → A → Type 0) (xs : List A) (x : A) → ((k : ℕ) (y : A) → slice_get xs k ≡ Some y → P k y) → P (length xs) x → (k : ℕ) (y : A) → slice_get (xs ++ x ∷ []) k ≡ Some y → P k y
+pub pushed : {A : Type 0} (P : ℕ → A → Type 0) (xs : List A) (x : A) → ((k : ℕ) (y : A) → slice_get xs k ≡ Some y → P k y) → P (length xs) x → (k : ℕ) (y : A) → slice_get (xs ++ x ∷ []) k ≡ Some y → P k y
 pushed P [] x h p zero y e = subst (P zero) (same_Some x y e) p
 pushed P [] x h p (suc k) y e = absurd cc
 pushed P (z ∷ zs) x h p zero y e = h zero y e
 pushed P (z ∷ zs) x h p (suc k) y e = pushed (λ j. P (suc j)) zs x (λ j w q. h (suc j) w q) p k y e
 
 -- parameters of items, and of questions
-param-sorted : (s : Sort) (i : ℕ) → sort_of (param s i) ≡ s
+pub param-sorted : (s : Sort) (i : ℕ) → sort_of (param s i) ≡ s
 param-sorted s i = refl
 
-param-free : (e : Scope) (s : Sort) (i : ℕ) (x : Trees) → TextNode e (param s i) x
+pub param-free : (e : Scope) (s : Sort) (i : ℕ) (x : Trees) → TextNode e (param s i) x
 param-free e s i x = tt
 
 placeholder-sorted : (s : Sort) (i : ℕ) → sort_of (placeholder s i) ≡ s
@@ -332,7 +332,7 @@ asker-sees d l c n h = by (known d c) n h
     by (Some (a_struct k x ks)) m g = absurd cc
     by (Some (a_trait k x b ks)) m g = absurd cc
 
-line-formed : (d : Declarations) (line : List ℕ) (l : Line) → IsWritten line l → fault_of d l ≡ None → Well d → Formed d → Formed (added d l)
+pub line-formed : (d : Declarations) (line : List ℕ) (l : Line) → IsWritten line l → fault_of d l ≡ None → Well d → Formed d → Formed (added d l)
 line-formed d line (crate_line n us) w f well h =
     let l = crate_line n us in
     let e = added d l in
@@ -477,7 +477,7 @@ core-crates : (k : ℕ) (x : NamedCrate) → slice_get nothing_declared.crates k
 core-crates zero x e = let s = same_Some _ x e in (ap (λ (z : NamedCrate). z.item.name) (sym s), λ u i. absurd (in-nothing u (subst (λ (z : NamedCrate). In u z.item.uses) (sym s) i)))
 core-crates (suc k) x e = absurd cc
 
-core-formed : Formed nothing_declared
+pub core-formed : Formed nothing_declared
 core-formed = record {
   crates = core-crates;
   structs = ((record { nodes = (refl, (tt, tt, tt), tt); sort = refl }, tt), tt);

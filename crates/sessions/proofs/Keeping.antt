@@ -35,7 +35,7 @@ use Rattle.sessions.specs.declared.answers.RefuteAnswer.{RefuteAnswer}
 use Rattle.sessions.specs.declared.answers.RefuteAnswer.TheVariants.{No, Open}
 use Rattle.sessions.specs.Asking.{HasNoProof, IsLeftOpen, IsRefusedAlone, goal_alone, asked_alone}
 use Rattle.sessions.specs.Given.{refutation_of}
-use Rattle.sessions.specs.Promises.{view_in, IsRefutation, IsRefutedQuestion, IsOpenQuestion}
+use Rattle.sessions.specs.Promises.{view_in, IsRefutation, IsRefutedQuestion}
 use Rattle.sessions.specs.Refusals.{session_meaning, IsToldPossible}
 use Rattle.sessions.specs.Resting.{Cached, AreAtRest}
 use Rattle.sessions.specs.Sessions.{SolverRests, SolvesView, IsSolvingOf, IsSession}
@@ -113,10 +113,6 @@ module _ (d : Declarations) (c depth : ℕ) (cx : SolverCx Solver) (graph : Sear
   abbrev LeftOpen : ℕ → Question → Type 0
   LeftOpen n q =
       IsLeftOpen solver_for (λ s. FollowsByView s.view) coinductive_for (λ (h : Solver) es. IsReady es h.declarations) (λ (h : Solver) es. solving_of es h.declarations) (solved cx) n (unbound_reference q.asked)
-
-  -- what is left open is so by what the crate sees
-  pub left-open : (n : ℕ) (q : Question) → AsksRefutation d c n q → LeftOpen graph.root_depth q → IsOpenQuestion d depth q
-  left-open n q a h = (solved cx, subst (λ k. IsSolvingOf d k (solved cx)) (sym a.asks.asker) is.solving, subst (λ k. LeftOpen k q) is.rest.depth h)
 
   -- ---- what is answered
   abbrev asked_of : Question → Reference

@@ -65,3 +65,9 @@ pub mod ByTrait
 pub mod ClosedPartners
 pub mod Partners
 pub mod Relevant
+mod DeclaredTrees
+mod CoveredClauses
+mod RisingBounds
+mod KeptTexts
+pub mod JoinedTexts
+pub mod CoherentTexts

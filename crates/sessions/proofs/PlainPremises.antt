@@ -148,8 +148,8 @@ module _ (V : World) (declared : is_declared_view V ≡ true) where
   object-bound-plain : (r : Reference) → Plain r.args → (ps qs : List Reference) → HavePlainPremises (object_bound_rules V r ps qs)
   object-bound-plain r h ps qs =
       if-plain (is_declared V r.trait && are_dyn_compatible V ps) _
-      (both-plain (if list_any (same_reference r) qs then row object_auto (strict_supertraits V r) else []) _
-      (if-plain (list_any (same_reference r) qs) (row object_auto (strict_supertraits V r)) (supers-plain r h, tt))
+      (both-plain (if not (r.trait == sized) && list_any (same_reference r) qs then row object_auto (strict_supertraits V r) else []) _
+      (if-plain (not (r.trait == sized) && list_any (same_reference r) qs) (row object_auto (strict_supertraits V r)) (supers-plain r h, tt))
       (if-plain (not (r.trait == sized)) _ (equal-plain object_principal (strict_supertraits V r) (supers-plain r h) r 0 (elaborated V ps))))
 
   object-plain : (r : Reference) → Plain r.args → (a : Trees) → HavePlainPremises (object_rules V r a)

@@ -89,7 +89,7 @@ found-at f (y ∷ ys) x h = by (f y) h (found-at f ys x)
 abbrev pub IsPlaced : {A : Type 0} → (A → ℕ) → List A → Type 0
 IsPlaced {A = A} number xs = (k : ℕ) (x : A) → slice_get xs k ≡ Some x → number x ≡ k
 
-found-placed : {A : Type 0} (number : A → ℕ) (f : A → Bool) (xs : List A) (x : A) → IsPlaced number xs → find f xs ≡ Some x → slice_get xs (number x) ≡ Some x
+pub found-placed : {A : Type 0} (number : A → ℕ) (f : A → Bool) (xs : List A) (x : A) → IsPlaced number xs → find f xs ≡ Some x → slice_get xs (number x) ≡ Some x
 found-placed number f xs x p e = let q = found-at f xs x e in subst (λ k. slice_get xs k ≡ Some x) (sym (p q.0 x q.1)) q.1
 
 not-false : (b : Bool) → not b ≡ false → b ≡ true

@@ -470,7 +470,7 @@ module _ (V : World) (well : IsDeclaredWell V) (begin : SelfTypesBegin V) (erase
 
   -- ---- object bounds
   abbrev by_supers : Reference → List Reference → List Reference → List Reference → List Rule
-  by_supers r qs ss es = (if list_any (same_reference r) qs then row object_auto ss else []) ++ (if not (r.trait == sized) then equal_rows object_principal ss r 0 es else [])
+  by_supers r qs ss es = (if not (r.trait == sized) && list_any (same_reference r) qs then row object_auto ss else []) ++ (if not (r.trait == sized) then equal_rows object_principal ss r 0 es else [])
 
   objects-same : (r : Reference) (t : Trees) → object_rules U r t ≡ object_rules V r t
   objects-same r none = refl

@@ -18,6 +18,8 @@ pub mod Numbers
 pub mod Decided
 pub mod Asking
 pub mod Promises
+pub mod JoinedTexts
+pub mod CoherentTexts
 pub mod Refusals
 pub mod Given
 pub mod PairGoals

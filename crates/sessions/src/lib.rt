@@ -28,6 +28,7 @@ mod refuted;
 mod session;
 pub mod settling;
 pub mod table;
+mod text_laws;
 pub mod values;
 mod view;
 mod written;
@@ -45,5 +46,6 @@ pub use question_laws::{
     texts_are_formed,
 };
 pub use session::Session;
+pub use text_laws::{accepted_texts_are_coherent, held_texts_are_coherent, texts_are_joined};
 pub use view::{declarations_are_ready, impls_are_numbered};
 pub use written::ready_impls_are_written_well;

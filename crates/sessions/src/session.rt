@@ -9,7 +9,7 @@ ghost use Rattle.text_definitions.specs.Declarations.{Question};
 ghost use Rattle.sessions.specs.ByTrait.{ListsSeen, HavePartnersSeen};
 ghost use Rattle.sessions.specs.Checking.{HasOrphan, HasJudged, HasPartner, HasOverlap};
 ghost use Rattle.sessions.specs.Given.{AnswerHeld, VerdictHeld, answer_in, refutation_of, verdict_in};
-ghost use Rattle.sessions.specs.Promises.{IsProved, IsRefutation, IsOpenQuestion, IsVerdictOf};
+ghost use Rattle.sessions.specs.Promises.{IsProved, IsRefutation, IsVerdictOf};
 ghost use Rattle.sessions.specs.Subjects.{IsOfText, AsksProof, AsksRefutation, StaysOn};
 
 use crate::answers::{ProveAnswer, RefuteAnswer, Verdict};
@@ -302,10 +302,6 @@ impl<'w> Session<'w> {
         // `No` is right of the reference in every linked set with the crate; and of a bounded one it is said exactly if it is not possible.
         ensures answer { (q : Question) → AsksRefutation self.old.declarations self.old.of_crate number q
             → IfOk result (λ a. IsRefutation self.old.depth self.old.declarations q (refutation_of a)) }
-
-        // A reference that is left open has an answer that is no refusal, or is too deep.
-        ensures open { result ≡ Ok RefuteAnswer.Open → (q : Question) → AsksRefutation self.old.declarations self.old.of_crate number q
-            → IsOpenQuestion self.old.declarations self.old.depth q }
         ensures stays { StaysOn self.old self.new }
     {
         refutations_have_variables_alone();

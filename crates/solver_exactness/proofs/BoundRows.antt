@@ -258,8 +258,8 @@ module _ (m : Meaning) (well : IsDeclaredWell m.view) (f : CanonicalForm) (a : A
           subst (λ rs. are_distinct (map (λ (r : Reference). r.trait) rs) ≡ true) w-is
           (subst (λ ts. are_distinct ts ≡ true) (sym (autos-traits (Read self) (Read c))) (subst (λ t. autos_stand_once t ≡ true) read_is distinct))
 
-      abbrev autos_of : List Rule
-      autos_of = if list_any (same_reference r) (map rd written) then row object_auto all_asked else []
+      abbrev autos_of : Bool → List Rule
+      autos_of b = if b && list_any (same_reference r) (map rd written) then row object_auto all_asked else []
 
       abbrev principals_of : Bool → List Rule
       principals_of b = if b then equal_rows object_principal all_asked r 0 (map rd (elaborated V ps)) else []
@@ -270,14 +270,14 @@ module _ (m : Meaning) (well : IsDeclaredWell m.view) (f : CanonicalForm) (a : A
       abbrev unsized : Bool
       unsized = not (a.reference.trait == sized)
 
-      object-rules-are : (y : Trees) → object_rules V r (tree dynamic (Read c) y) ≡ (if compatible then autos_of ++ principals_of unsized else [])
+      object-rules-are : (y : Trees) → object_rules V r (tree dynamic (Read c) y) ≡ (if compatible then autos_of unsized ++ principals_of unsized else [])
       object-rules-are y =
           ap (λ x. object_bound_rules V r x (autos_with (Read self) (Read c))) p-is
           ∙ ap (λ x. object_bound_rules V r (map rd ps) x) w-is
-          ∙ ap (λ b. if b && are_dyn_compatible V (map rd ps) then autos_of ++ (if unsized then equal_rows object_principal all_asked r 0 (elaborated V (map rd ps)) else []) else [])
+          ∙ ap (λ b. if b && are_dyn_compatible V (map rd ps) then autos_of unsized ++ (if unsized then equal_rows object_principal all_asked r 0 (elaborated V (map rd ps)) else []) else [])
           (left (is_declared V a.reference.trait) (not (some_node (is_undeclared V) a.reference.args)) (is m f a is_asked closed v places).written)
-          ∙ ap (λ b. if b then autos_of ++ (if unsized then equal_rows object_principal all_asked r 0 (elaborated V (map rd ps)) else []) else []) (compatible-same V (map rd ps) ps (traits-stay V well.terms xs ps))
-          ∙ ap (λ rs. if compatible then autos_of ++ (if unsized then equal_rows object_principal all_asked r 0 rs else []) else []) (elaborated-open V well.terms xs ps ps-plain)
+          ∙ ap (λ b. if b then autos_of unsized ++ (if unsized then equal_rows object_principal all_asked r 0 (elaborated V (map rd ps)) else []) else []) (compatible-same V (map rd ps) ps (traits-stay V well.terms xs ps))
+          ∙ ap (λ rs. if compatible then autos_of unsized ++ (if unsized then equal_rows object_principal all_asked r 0 rs else []) else []) (elaborated-open V well.terms xs ps ps-plain)
 
       abbrev found_principals : Bool → List (List Reference)
       found_principals b = if b then equal_ways asks r (map rd (elaborate V ps)) else []
@@ -292,18 +292,22 @@ module _ (m : Meaning) (well : IsDeclaredWell m.view) (f : CanonicalForm) (a : A
       }
       principals false = exactly [] [] no_more
 
-      autos : Selected (bounds_from V a written_source 0 written) (premises_of autos_of)
-      autos = record {
+      autos : (b : Bool) → Selected (if_so b (bounds_from V a written_source 0 written)) (premises_of (autos_of b))
+      autos true = record {
         found = equal_ways asks r (map rd written);
         are = bound-ways m f a is_asked closed v places written_source 0 written (autos-open c);
         selects = any-select g asks all_asked asked-to asked-from r (map rd written) written-distinct object_auto;
       }
+      autos false = exactly [] [] no_more
 
       of-dyn : (y : Trees) → Selected (objects_of V a (tree dynamic c o)) (premises_of (object_rules V r (tree dynamic (Read c) y)))
       of-dyn y = subst (λ us. Selected (objects_of V a (tree dynamic c o)) (premises_of us)) (sym (object-rules-are y)) (by compatible)
         where
-          by : (b : Bool) → Selected (if_so b (bounds_from V a written_source 0 written ++ if_so unsized (bounds_from V a object_source 0 (elaborate V ps)))) (premises_of (if b then autos_of ++ principals_of unsized else []))
-          by true = both-selected (bounds_from V a written_source 0 written) (if_so unsized (bounds_from V a object_source 0 (elaborate V ps))) autos_of (principals_of unsized) autos (principals unsized)
+          by : (b : Bool) → Selected (if_so b (if_so unsized (bounds_from V a written_source 0 written) ++ if_so unsized (bounds_from V a object_source 0 (elaborate V ps))))
+              (premises_of (if b then autos_of unsized ++ principals_of unsized else []))
+          by true =
+              both-selected (if_so unsized (bounds_from V a written_source 0 written)) (if_so unsized (bounds_from V a object_source 0 (elaborate V ps))) (autos_of unsized) (principals_of unsized)
+              (autos unsized) (principals unsized)
           by false = exactly [] [] no_more
 
   -- ---- the self type

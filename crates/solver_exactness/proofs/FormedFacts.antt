@@ -473,8 +473,8 @@ module _ (V : World) (sorts : Sorts) where
     object-bound-good : (r : Reference) → Good r → (ps qs : List Reference) → HaveGood (object_bound_rules V r ps qs)
     object-bound-good r h ps qs =
         if-good (is_declared_trait V r.trait && are_dyn_compatible V ps) _
-        (λ e. both-good (if list_any (same_reference r) qs then row object_auto (strict_supertraits V r) else []) _
-        (if-good (list_any (same_reference r) qs) (row object_auto (strict_supertraits V r)) (λ g. (supers-good r h, tt)))
+        (λ e. both-good (if not (r.trait == sized) && list_any (same_reference r) qs then row object_auto (strict_supertraits V r) else []) _
+        (if-good (not (r.trait == sized) && list_any (same_reference r) qs) (row object_auto (strict_supertraits V r)) (λ g. (supers-good r h, tt)))
         (if-good (not (r.trait == sized)) _ (λ g. equal-good object_principal (strict_supertraits V r) (supers-good r h) r 0 (elaborated V ps))))
 
     object-good : (r : Reference) → Good r → (a : Trees) → HaveGood (object_rules V r a)

@@ -29,13 +29,15 @@ use Rattle.assembly_laws.specs.Facts.{is_plain, is_unerased, beside, children_of
 use Rattle.assembly_laws.specs.Declared.{is_declared, is_counted, are_terms, is_unsorted}
 use Rattle.assembly_laws.specs.DeclaredWell.{IsDeclaredWell}
 use Rattle.assembly_laws.specs.Meaning.{Meaning}
+use Rattle.assembly_laws.specs.Apart.{are_apart}
 use Rattle.assembly_laws.specs.Asking.{Asked, asked, self_of, with_plain_head}
-use Rattle.assembly_laws.specs.Candidates.{Candidate, premise, is_param, kind_of_param, kinds_of_params, behind, all_equal, by_the_impl, is_relevant_to, by_impls}
+use Rattle.assembly_laws.specs.Candidates.{Candidate, premise, is_param, kind_of_param, kinds_of_params, behind, all_equal, by_the_impl, is_relevant_to, can_match, by_impls}
 use Rattle.assembly_laws.specs.Cover.{goal_fact, read_reference}
 use Rattle.assembly_laws.proofs.DeclaredParts.{header-declared, clause-declared}
 use Rattle.assembly_laws.proofs.EquationTerms.{IsOpenTerms, made-behind}
 use Rattle.assembly_laws.proofs.Facts.{same-numbers-self}
 use Rattle.assembly_laws.proofs.Headers.{as_list, type-at, const-at}
+use Rattle.assembly_laws.proofs.Apart.{instances-meet}
 use Rattle.assembly_laws.proofs.Impls.{fits-sorted}
 use Rattle.assembly_laws.proofs.PlainRules.{Plain, plain-unbound}
 use Rattle.assembly_laws.proofs.ReadOff.{AreValues, read_behind, instance-is, below, one-sort, arguments-plain}
@@ -308,12 +310,18 @@ module _ (m : Meaning) (well : IsDeclaredWell m.view) (f : CanonicalForm) (a : A
                 either (inr e) =
                     relevant-place (canonical of_type x.number) p.number (Read x.others) x.children x.others A h (left (is_made is_declared terms h) (not (some_node is_counted h)) header) (at ∙ ap Read x.is ∙ e)
 
+    matches : (u : Rule) → ByImpl r i u → can_match a.reference.args h ≡ true
+    matches u by = both-true (is_relevant_to (self_of a) h) (not (are_apart a.reference.args h)) (relevant u by) (instances-meet its.slots A a.reference.args h (ap (λ (x : Reference). x.args) by.is-instance))
+      where
+        both-true : (x y : Bool) → x ≡ true → y ≡ true → (x && y) ≡ true
+        both-true x y p q = rw (p, q) refl
+
     trait-is : (u : Rule) → ByImpl r i u → (i.header.trait == a.reference.trait) ≡ true
     trait-is u by = subst (λ z. (z == a.reference.trait) ≡ true) (sym (ap (λ (x : Reference). x.trait) by.is-instance)) (self-number a.reference.trait)
 
     -- ---- one impl
     abbrev candidates : List Candidate
-    candidates = if (i.header.trait == a.reference.trait) && is_relevant_to (self_of a) h then by_the_impl V a i ∷ [] else []
+    candidates = if (i.header.trait == a.reference.trait) && can_match a.reference.args h then by_the_impl V a i ∷ [] else []
 
     one-impl : AreWaysOf a v g candidates (premises_of (impl_rules r i))
     one-impl = rules (impl_rules r i) refl
@@ -335,11 +343,11 @@ module _ (m : Meaning) (well : IsDeclaredWell m.view) (f : CanonicalForm) (a : A
         alone false w u us e = absurd (cc)
 
         rules : (us : List Rule) → impl_rules r i ≡ us → AreWaysOf a v g candidates (premises_of (impl_rules r i))
-        rules [] e = subst (λ z. AreWaysOf a v g candidates (premises_of z)) (sym e) (nothing (i.header.trait == a.reference.trait) (is_relevant_to (self_of a) h) refl e)
+        rules [] e = subst (λ z. AreWaysOf a v g candidates (premises_of z)) (sym e) (nothing (i.header.trait == a.reference.trait) (can_match a.reference.args h) refl e)
         rules (u ∷ us) e =
             let by = impl-rule r i u (subst (In u) (sym e) (here u us)) in
             subst (λ z. AreWaysOf a v g candidates (premises_of z)) (sym (e ∙ ap (λ z. u ∷ z) (alone _ _ u us e)))
-            (something ((i.header.trait == a.reference.trait) && is_relevant_to (self_of a) h) (both (i.header.trait == a.reference.trait) (is_relevant_to (self_of a) h) (trait-is u by) (relevant u by)) u by)
+            (something ((i.header.trait == a.reference.trait) && can_match a.reference.args h) (both (i.header.trait == a.reference.trait) (can_match a.reference.args h) (trait-is u by) (matches u by)) u by)
 
   -- ---- all impls
   if-first : (b : Bool) (c : Candidate) (cs : List Candidate) → (if b then c ∷ [] else []) ++ cs ≡ (if b then c ∷ cs else cs)
@@ -349,7 +357,7 @@ module _ (m : Meaning) (well : IsDeclaredWell m.view) (f : CanonicalForm) (a : A
   all-impls : (is : List ImplDecl) → ((i : ImplDecl) → In i is → In i V.impls) → AreWaysOf a v g (by_impls V a is) (premises_of (flat_map (impl_rules r) is))
   all-impls [] among = no_more
   all-impls (i ∷ is) among =
-      subst (λ cs. AreWaysOf a v g cs (premises_of (impl_rules r i ++ flat_map (impl_rules r) is))) (if-first ((i.header.trait == a.reference.trait) && is_relevant_to (self_of a) i.header.args) (by_the_impl V a i) (by_impls V a is))
+      subst (λ cs. AreWaysOf a v g cs (premises_of (impl_rules r i ++ flat_map (impl_rules r) is))) (if-first ((i.header.trait == a.reference.trait) && can_match a.reference.args i.header.args) (by_the_impl V a i) (by_impls V a is))
       (both-rules a v g (candidates i (among i (here i is))) (by_impls V a is) (impl_rules r i) (flat_map (impl_rules r) is) (one-impl i (among i (here i is))) (all-impls is (λ j k. among j (there j i is k))))
 
   pub impls : AreWaysOf a v g (by_impls V a V.impls) (premises_of (flat_map (impl_rules r) V.impls))

@@ -22,7 +22,7 @@ use Rattle.assembly_laws.specs.Meaning.{Meaning}
 use Rattle.assembly_laws.specs.Knowing.{is_knowable}
 use Rattle.assembly_laws.specs.DeclaredWell.{IsDeclaredWell}
 use Rattle.assembly_laws.specs.Asking.{Asked, asked, all_known, clauses, self_of, next_of, begins_unknown}
-use Rattle.assembly_laws.specs.Candidates.{Candidate, unsure, unknowable, by_clauses, is_relevant_to, by_impls, as_written, misc, if_so, by_sized, by_copy, by_auto, by_tuple, by_fn_ptr, call_of, by_call, unsize_array_of, upcasts_from, upcasts_to, upcasts_of, unsize_by_struct, unsize_struct_of, unsize_known, unsizing_outlives, unsize_recording, by_unsize, built_in, bounds_from, object_source, written_source, objects_of, by_objects, upcast_source, all_equal, by_rule}
+use Rattle.assembly_laws.specs.Candidates.{Candidate, unsure, unknowable, by_clauses, can_match, by_impls, as_written, misc, if_so, by_sized, by_copy, by_auto, by_tuple, by_fn_ptr, call_of, by_call, unsize_array_of, upcasts_from, upcasts_to, upcasts_of, unsize_by_struct, unsize_struct_of, unsize_known, unsizing_outlives, unsize_recording, by_unsize, built_in, bounds_from, object_source, written_source, objects_of, by_objects, upcast_source, all_equal, by_rule}
 use Rattle.assembly_laws.specs.Cover.{all_candidates}
 use Rattle.assembly_laws.specs.Solver.{most_candidates}
 use Rattle.assembly_laws.proofs.CandidateKinds.{all-made}
@@ -188,7 +188,7 @@ module _ (V : World) (a : Asked) where
 
   impls-sure : (is : List ImplDecl) → Every Sure (by_impls V a is)
   impls-sure [] = tt
-  impls-sure (i ∷ is) = by ((i.header.trait == a.reference.trait) && is_relevant_to (self_of a) i.header.args) _ refl (impls-sure is)
+  impls-sure (i ∷ is) = by ((i.header.trait == a.reference.trait) && can_match a.reference.args i.header.args) _ refl (impls-sure is)
     where
       by : (b : Bool) (c : Candidate) → Sure c → Every Sure (by_impls V a is) → Every Sure (if b then c ∷ by_impls V a is else by_impls V a is)
       by true c e h = (e, h)
@@ -207,7 +207,8 @@ module _ (V : World) (a : Asked) where
   objects-sure (tree dynamic bounds others) =
       let self = tree dynamic bounds none in
       so (are_dyn_compatible V (principal_with self bounds)) _
-      (both-lists Sure (bounds_from V a written_source 0 (autos_with self bounds)) _ (bounds-sure written_source 0 (autos_with self bounds))
+      (both-lists Sure (if_so (not (a.reference.trait == sized)) (bounds_from V a written_source 0 (autos_with self bounds))) _
+      (so (not (a.reference.trait == sized)) _ (bounds-sure written_source 0 (autos_with self bounds)))
       (so (not (a.reference.trait == sized)) _ (bounds-sure object_source 0 (elaborate V (principal_with self bounds)))))
   objects-sure (tree l c o) = tt
 

@@ -23,7 +23,7 @@ use Rattle.declarations.specs.Elaboration.{elaborate, supertraits}
 use Rattle.assembly_laws.specs.Declared.{is_declared, are_terms, are_references}
 use Rattle.assembly_laws.specs.DeclaredWell.{IsDeclaredWell}
 use Rattle.assembly_laws.specs.Asking.{Asked, clauses, self_of, next_of, begins_unknown, with_plain_head}
-use Rattle.assembly_laws.specs.Candidates.{Candidate, premise, first_value, all_equal, clause_source, by_rule, moved, behind, by_the_impl, unsure, unknowable, by_clauses, as_written, if_so, misc, by_sized, by_copy, by_auto, by_tuple, by_fn_ptr, call_of, by_call, unsize_array_of, upcast_source, upcasts_from, upcasts_to, upcasts_of, unsize_by_struct, unsize_struct_of, unsize_known, unsizing_outlives, unsize_recording, built_in, by_impls, is_relevant_to, bounds_from, object_source, written_source, objects_of}
+use Rattle.assembly_laws.specs.Candidates.{Candidate, premise, first_value, all_equal, clause_source, by_rule, moved, behind, by_the_impl, unsure, unknowable, by_clauses, as_written, if_so, misc, by_sized, by_copy, by_auto, by_tuple, by_fn_ptr, call_of, by_call, unsize_array_of, upcast_source, upcasts_from, upcasts_to, upcasts_of, unsize_by_struct, unsize_struct_of, unsize_known, unsizing_outlives, unsize_recording, built_in, by_impls, can_match, bounds_from, object_source, written_source, objects_of}
 use Rattle.assembly_laws.specs.Cover.{all_candidates}
 use Rattle.assembly_laws.proofs.Instances.{is_bound, Unbound}
 use Rattle.assembly_laws.proofs.CandidateKinds.{every-append}
@@ -367,7 +367,7 @@ module _ (V : World) (well : IsDeclaredWell V) where
 
     impls-fine : (is : List ImplDecl) → ((i : ImplDecl) → In i is → In i V.impls) → Every IsFine (by_impls V a is)
     impls-fine [] f = tt
-    impls-fine (i ∷ is) f = if-first ((i.header.trait == a.reference.trait) && is_relevant_to (self_of a) i.header.args) (by_the_impl V a i) (by_impls V a is) (impl-fine i (f i (here i is))) (impls-fine is (λ j k. f j (there j i is k)))
+    impls-fine (i ∷ is) f = if-first ((i.header.trait == a.reference.trait) && can_match a.reference.args i.header.args) (by_the_impl V a i) (by_impls V a is) (impl-fine i (f i (here i is))) (impls-fine is (λ j k. f j (there j i is k)))
 
     bounds-fine : (source : ℕ → CandidateSource) (n : ℕ) (rs : List Reference) → Every IsFine (bounds_from V a source n rs)
     bounds-fine source n [] = tt
@@ -379,7 +379,8 @@ module _ (V : World) (well : IsDeclaredWell V) where
     objects-fine (tree dynamic bounds others) =
         let self = tree dynamic bounds none in
         if-fine (are_dyn_compatible V (principal_with self bounds)) _
-        (every-append IsFine (bounds_from V a written_source 0 (autos_with self bounds)) _ (bounds-fine written_source 0 (autos_with self bounds))
+        (every-append IsFine (if_so (not (a.reference.trait == sized)) (bounds_from V a written_source 0 (autos_with self bounds))) _
+        (if-fine (not (a.reference.trait == sized)) _ (bounds-fine written_source 0 (autos_with self bounds)))
         (if-fine (not (a.reference.trait == sized)) _ (bounds-fine object_source 0 (elaborate V (principal_with self bounds)))))
     objects-fine (tree l c o) = tt
 

@@ -10,7 +10,7 @@ use Rattle.infer_table.proofs.Numbers.{goal-held-later}
 use Rattle.infer_table.proofs.FullFacts.{handed-on}
 use Rattle.evaluation.specs.Lists.{Every}
 use Rattle.evaluation.specs.Readings.{EquationHeld}
-use Rattle.goal_frames.specs.Readings.{equation_read}
+use Rattle.evaluation.specs.StepReadings.{equation_read}
 use Rattle.declarations.specs.Applied.{references_in, AllHeld}
 use Rattle.assembly_laws.specs.Candidates.{by_rule, misc, all_equal}
 use Rattle.evaluation.proofs.Handed.{if-ok}

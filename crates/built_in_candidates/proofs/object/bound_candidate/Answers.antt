@@ -5,7 +5,7 @@ use Rattle.infer_table.proofs.FullFacts.{handed-on}
 use Rattle.infer_table.proofs.Numbers.{goal-held-later}
 use Rattle.infer_table.proofs.StepFacts.{keeps-trans}
 use Rattle.evaluation.specs.declared.candidate.CandidateSource.TheVariants.{BuiltinImpl}
-use Rattle.goal_frames.specs.Readings.{equation_read}
+use Rattle.evaluation.specs.StepReadings.{equation_read}
 use Rattle.declarations.specs.Items.{written}
 use Rattle.declarations.specs.Applied.{references_in, AllHeld}
 use Rattle.assembly_laws.specs.Candidates.{by_rule, all_equal}

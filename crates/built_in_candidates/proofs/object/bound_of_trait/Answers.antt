@@ -21,14 +21,14 @@ returns-then-place-autos-clause-is c = λ l h.
     let S = trees_at es c.args.self_ty.0 in
     ap (λ (r : Reference). let b : Bound = record { source = Misc; reference = r } in Some b) c.in_ok-bound.ensures.is
     ∙ auto-found c.args.def_id.index S (trees_at es c.args.bounds.0 +++ leaf l) (references_in es c.args.elaborated.now) c.args.place
-    (subst (λ m. c.args.place < m) (c.count_autos-autos.ensures S l h) c.if-place-autos.true)
+    (subst (λ m. c.args.place < m) (c.count_autos-autos.ensures S l h) c.if-place-autos.true) (differ c.args.def_id.index sized c.if-def_id-eq-SIZED.false)
 
 pub returns-then-def_id-eq-SIZED-clause-is : goal.returns-then-def_id-eq-SIZED-clause-is
 returns-then-def_id-eq-SIZED-clause-is c = λ l h.
     let es = c.args.cx.now.entries in
     let S = trees_at es c.args.self_ty.0 in
     sized-left-out c.args.def_id.index S (trees_at es c.args.bounds.0 +++ leaf l) (references_in es c.args.elaborated.now) c.args.place
-    (subst (λ m. m ≤ c.args.place) (c.count_autos-autos.ensures S l h) c.if-place-autos.false) (ap (λ n. n == sized) c.if-def_id-eq-SIZED.true)
+    (ap (λ n. n == sized) c.if-def_id-eq-SIZED.true)
 
 pub returns-in-Some-clause-held : goal.returns-in-Some-clause-held
 returns-in-Some-clause-held c =

@@ -3,7 +3,7 @@ use Rattle.infer_table.specs.Goals.{GoalHeld}
 use Rattle.infer_table.specs.declared.goal.Goal.{Goal}
 use Rattle.evaluation.specs.declared.goal.GoalSource.{GoalSource}
 use Rattle.evaluation.specs.Readings.{is_coinductive_step}
-use Rattle.goal_frames.specs.Readings.{nested_read}
+use Rattle.evaluation.specs.StepReadings.{nested_read}
 use Rattle.declarations.specs.Applied.{references_in, AllHeld}
 use Rattle.assembly_laws.specs.Candidates.{premise}
 use Rattle.evaluation.proofs.Contexts.{every-more}

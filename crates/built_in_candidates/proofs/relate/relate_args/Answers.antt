@@ -5,7 +5,7 @@ use Rattle.type_terms.specs.Kept.{trees-is}
 use Rattle.infer_table.proofs.FullFacts.{handed-on}
 use Rattle.evaluation.specs.Lists.{Every}
 use Rattle.evaluation.specs.Readings.{EquationHeld}
-use Rattle.goal_frames.specs.Readings.{equation_read}
+use Rattle.evaluation.specs.StepReadings.{equation_read}
 use Rattle.assembly_laws.specs.Candidates.{all_equal}
 use Rattle.evaluation.proofs.Contexts.{every-more}
 use Rattle.built_in_candidates.specs.Equations.{never_if}

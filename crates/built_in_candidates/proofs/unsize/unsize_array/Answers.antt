@@ -2,7 +2,7 @@ use Rattle.std.proofs.Common.{[], map, ap, sym, ◌∙◌, subst}
 use Rattle.type_terms.specs.Terms.{trees_at}
 use Rattle.evaluation.specs.Lists.{Every}
 use Rattle.evaluation.specs.Readings.{EquationHeld}
-use Rattle.goal_frames.specs.Readings.{equation_read}
+use Rattle.evaluation.specs.StepReadings.{equation_read}
 use Rattle.assembly_laws.specs.Candidates.{by_rule, misc}
 use Rattle.evaluation.proofs.Handed.{if-ok}
 use Rattle.infer_table.proofs.BindFacts.{type-is}

@@ -6,7 +6,7 @@ use Rattle.term_folds.specs.Arguments.{first_misfit}
 use Rattle.type_terms.specs.Kept.{has-later, trees-later}
 use Rattle.infer_table.proofs.Numbers.{goal-held-later}
 use Rattle.infer_table.proofs.FullFacts.{handed-on}
-use Rattle.goal_frames.specs.Readings.{equation_read}
+use Rattle.evaluation.specs.StepReadings.{equation_read}
 use Rattle.declarations.specs.Applied.{references_in}
 use Rattle.declarations.specs.Unsizing.{field_trees}
 use Rattle.assembly_laws.specs.Candidates.{by_rule, misc, all_equal}

@@ -7,7 +7,7 @@ use Rattle.infer_table.proofs.FullFacts.{handed-on}
 use Rattle.evaluation.specs.Lists.{Every}
 use Rattle.evaluation.specs.Merge.{if_there}
 use Rattle.evaluation.specs.Readings.{EquationHeld}
-use Rattle.goal_frames.specs.Readings.{equation_read}
+use Rattle.evaluation.specs.StepReadings.{equation_read}
 use Rattle.declarations.specs.Items.{written}
 use Rattle.declarations.specs.Applied.{references_in, AllHeld}
 use Rattle.declarations.specs.Elaboration.{elaborate}

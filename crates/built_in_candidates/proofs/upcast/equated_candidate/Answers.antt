@@ -2,7 +2,7 @@ use Rattle.std.proofs.Common.{[], map, ap, ◌∙◌, Err}
 use Rattle.infer_table.proofs.FullFacts.{handed-on}
 use Rattle.infer_table.proofs.Numbers.{goal-held-later}
 use Rattle.evaluation.specs.declared.candidate.CandidateSource.TheVariants.{BuiltinImpl}
-use Rattle.goal_frames.specs.Readings.{equation_read}
+use Rattle.evaluation.specs.StepReadings.{equation_read}
 use Rattle.assembly_laws.specs.Candidates.{by_rule}
 use Rattle.evaluation.proofs.Handed.{if-ok}
 use Rattle.built_in_candidates.specs.Goals.{asked_of}

@@ -1,15 +1,11 @@
 use Rattle.std.proofs.Common.{◌≡◌, ◌+◌, ◌<◌, length, sym, ap, subst, ◌∙◌, Some, Err}
-use Rattle.type_terms.specs.Terms.{types, trees_at}
 use Rattle.type_terms.specs.declared.TheConstants.{MAX_INDEX}
-use Rattle.type_terms.specs.Kept.{trees-is}
 use Rattle.infer_table.proofs.FullFacts.{handed-on, or-then}
 use Rattle.declarations.specs.Items.{written, impl_in}
-use Rattle.declarations.specs.Relevant.{next_above}
 use Rattle.assembly_laws.specs.Candidates.{by_the_impl}
 use Rattle.built_in_candidates.specs.Goals.{asked_of}
 use Rattle.candidate_assembly.specs.Headers.{CanBeCandidate, HasTooMany}
-use Rattle.built_in_candidates.proofs.Relevant.{relevant-names}
-use Rattle.candidate_assembly.proofs.Walking.{plain-heads, no-next, one-next, none-of-number, one-of-number, at-number, kinds-counted}
+use Rattle.candidate_assembly.proofs.Walking.{no-next, one-next, none-of-number, one-of-number, at-number, kinds-counted}
 use Rattle.candidate_assembly.proofs.impls.next_impl_candidate.Goals as goal
 
 pub consider_impl_candidate-requires-clause-params : goal.consider_impl_candidate-requires-clause-params
@@ -29,10 +25,7 @@ returns-in_err-candidate-in-Some-impl_def-clause-full c = λ q.
     let V = written old d in
     let g = c.args.goal.now in
     let a = asked_of old g in
-    let S = trees_at old c.self_ty-self_ty.result.0 in
-    let first = trees-is old types c.self_ty-self_ty.result.0 _ c.self_ty-self_ty.ensures.is in
-    let named = relevant-names old d a S c.requires.first first (plain-heads old d.impls c.requires.impls) in
-    let found = c.in-Some.ensures.is ∙ ap (next_above c.args.last) named in
+    let found = c.in-Some.ensures.is in
     let i = impl_in old c.in-Some.id c.in-Some-impl_def.def.now in
     let next = one-next V a c.args.last (λ j. j ≡ i) c.in-Some.id.index V.impls (one-of-number i c.in-Some.id.index V.impls (c.in-Some-impl_def.ensures.written old)) found in
     or-then
@@ -46,10 +39,7 @@ unreachable-requires c =
     let V = written old d in
     let g = c.args.goal.now in
     let a = asked_of old g in
-    let S = trees_at old c.self_ty-self_ty.result.0 in
-    let first = trees-is old types c.self_ty-self_ty.result.0 _ c.self_ty-self_ty.ensures.is in
-    let named = relevant-names old d a S c.requires.first first (plain-heads old d.impls c.requires.impls) in
-    let found = c.in-Some.ensures.is ∙ ap (next_above c.args.last) named in
+    let found = c.in-Some.ensures.is in
     (one-next V a c.args.last (λ j. ⊥) c.in-Some.id.index V.impls (none-of-number (λ j. ⊥) c.in-Some.id.index V.impls (c.in-None-impl_def.ensures.written old)) found).1
 
 pub returns-in_ok-candidate-in-Some-impl_def-clause-is : goal.returns-in_ok-candidate-in-Some-impl_def-clause-is
@@ -59,10 +49,7 @@ returns-in_ok-candidate-in-Some-impl_def-clause-is c =
     let V = written old d in
     let g = c.args.goal.now in
     let a = asked_of old g in
-    let S = trees_at old c.self_ty-self_ty.result.0 in
-    let first = trees-is old types c.self_ty-self_ty.result.0 _ c.self_ty-self_ty.ensures.is in
-    let named = relevant-names old d a S c.requires.first first (plain-heads old d.impls c.requires.impls) in
-    let found = c.in-Some.ensures.is ∙ ap (next_above c.args.last) named in
+    let found = c.in-Some.ensures.is in
     let i = impl_in old c.in-Some.id c.in-Some-impl_def.def.now in
     let next = one-next V a c.args.last (λ j. j ≡ i) c.in-Some.id.index V.impls (one-of-number i c.in-Some.id.index V.impls (c.in-Some-impl_def.ensures.written old)) found in
     ap Some (c.in_ok-candidate-in-Some-impl_def.ensures.is V) ∙ ap (λ j. Some (by_the_impl V a j)) (sym next.1) ∙ sym next.2
@@ -74,7 +61,4 @@ returns-in-None-clause-is c =
     let V = written old d in
     let g = c.args.goal.now in
     let a = asked_of old g in
-    let S = trees_at old c.self_ty-self_ty.result.0 in
-    let first = trees-is old types c.self_ty-self_ty.result.0 _ c.self_ty-self_ty.ensures.is in
-    let named = relevant-names old d a S c.requires.first first (plain-heads old d.impls c.requires.impls) in
-    sym (no-next V a c.args.last V.impls (c.in-None.ensures.is ∙ ap (next_above c.args.last) named))
+    sym (no-next V a c.args.last V.impls c.in-None.ensures.is)

@@ -4,7 +4,7 @@ use Rattle.std.specs.List.{slice_get}
 use Rattle.infer_table.proofs.Numbers.{goal-held-later}
 use Rattle.infer_table.proofs.FullFacts.{handed-on}
 use Rattle.evaluation.specs.declared.candidate.CandidateSource.TheVariants.{ParamEnv}
-use Rattle.goal_frames.specs.Readings.{equation_read}
+use Rattle.evaluation.specs.StepReadings.{equation_read}
 use Rattle.declarations.specs.Applied.{AllHeld}
 use Rattle.assembly_laws.specs.Candidates.{by_rule, all_equal}
 use Rattle.type_terms.specs.Terms.{trees_at}

@@ -11,7 +11,7 @@ use Rattle.evaluation.specs.Lists.{Every}
 use Rattle.evaluation.specs.Readings.{EquationHeld}
 use Rattle.evaluation.specs.declared.candidate.CandidateSource.TheVariants.{CoherenceUnknowable}
 use Rattle.evaluation.specs.FrameTables.{Nested, Equation}
-use Rattle.goal_frames.specs.Readings.{equation_read}
+use Rattle.evaluation.specs.StepReadings.{equation_read}
 use Rattle.model.specs.Rules.{is_coinductive}
 use Rattle.declarations.specs.Items.{written}
 use Rattle.declarations.specs.Applied.{references_in, AllHeld}

@@ -6,7 +6,7 @@ use Rattle.evaluation.proofs.Shortages.{some-kind}
 use Rattle.evaluation.specs.TableOperations.{begin}
 use Rattle.evaluation.specs.Tables.{frame_tables}
 use Rattle.goal_frames.specs.Handlers.{same_answer, applies_always}
-use Rattle.goal_frames.specs.Readings.{result_read}
+use Rattle.evaluation.specs.StepReadings.{result_read}
 use Rattle.goal_frames.proofs.Merging.{response_of, response-content, merged-held, merged-trees, taken, floundered-result}
 use Rattle.goal_frames.proofs.merge.merged.Goals as goal
 

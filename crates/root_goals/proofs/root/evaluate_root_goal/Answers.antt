@@ -11,7 +11,7 @@ use Rattle.infer_table.specs.Values.{values_of}
 use Rattle.infer_table.proofs.Numbers.{goal-held-later, goal-trees-later}
 use Rattle.infer_table.specs.Covers.{IsOfKnown}
 use Rattle.infer_table.specs.Responses.{answer_trees}
-use Rattle.goal_frames.specs.Readings.{result_read}
+use Rattle.evaluation.specs.StepReadings.{result_read}
 use Rattle.root_goals.specs.Searching.{solver_meaning}
 use Rattle.root_goals.proofs.Growing.{later, keeps}
 use Rattle.root_goals.specs.Errors.{error_of_equation}

@@ -5,7 +5,7 @@ use Rattle.infer_table.proofs.FullFacts.{handed-on, or-then}
 use Rattle.evaluation.proofs.Shortages.{some-kind}
 use Rattle.evaluation.specs.TableAnswers.{IsWellFormed}
 use Rattle.goal_frames.specs.HandlerPrograms.{silent}
-use Rattle.goal_frames.specs.Readings.{result_read}
+use Rattle.evaluation.specs.StepReadings.{result_read}
 use Rattle.evaluation.specs.TableAnswers.{without_values}
 use Rattle.root_goals.specs.Contexts.{goal_of, answer_of, IsResult}
 use Rattle.root_goals.specs.declared.context.SolverCx.{SolverCx}

@@ -7,7 +7,7 @@ use Rattle.evaluation.specs.TableAnswers.{IsWellFormed}
 use Rattle.evaluation.specs.TableOperations.{begin}
 use Rattle.evaluation.specs.Tables.{frame_tables}
 use Rattle.goal_frames.specs.Handlers.{same_answer, applies_always}
-use Rattle.goal_frames.specs.Readings.{result_read}
+use Rattle.evaluation.specs.StepReadings.{result_read}
 use Rattle.goal_frames.specs.Merges.{responses_of, merge_of}
 use Rattle.goal_frames.proofs.Collecting.{collected-held, collected-fit, collected-trees, one-end}
 use Rattle.goal_frames.proofs.Merging.{answer-fits}

@@ -14,11 +14,11 @@ use Rattle.search_graph.specs.Plain.{IsNotPlain}
 use Rattle.search_graph.specs.Cache.{HasConflict, known_results}
 use Rattle.search_graph.specs.Question.{IsFaithfulOver, IsNotPlainOver, IsWithinAsStack, StaysWithin}
 use Rattle.search_graph.specs.Faithful.{AllDescend}
-use Rattle.search_graph.proofs.Errors.{err_passed, ok_not_err, OnOk-always}
+use Rattle.search_graph.proofs.Errors.{err_passed, fault_passed, fault_goes_on, ok_not_err, OnOk-always}
 use Rattle.search_graph.proofs.Refusals.{IfOk-err, OnOk-err}
 use Rattle.search_graph.proofs.Orders.{in_path, past_path, from_zero, within_equal, within_more, less_within, least_within, none_started, one_started, not_less}
 use Rattle.search_graph.proofs.Graphs.{IsStack-now, path-now, IsEntry-now, IsProvisional-then, IsAnswer-then, answer_of_run, running_next_counted, running_begun, running_other, running_done, asked_now, hears_other, hears_next, misstep_now, due_next, due_other, Keeps-refl, Keeps-trans, IsStack-push, path_onto-append, length-path_onto, path_length, AreCached-later, provisional_alone, overflow_answers, overflow_stands}
-use Rattle.search_graph.proofs.Faithfuls.{true_not_false, not_plain_at_zero, AllDescend-higher, conflict_up, plain_first, plain_next_at, plain_done, untouched_first, untouched_not_plain, faithful_not_plain, faithful_taken, faithful_at_zero, kept_of_faithful, IsFaithful-less, reach_within}
+use Rattle.search_graph.proofs.Faithfuls.{true_not_false, not_plain_at_zero, AllDescend-higher, ends_not_plain, conflict_up, plain_first, plain_next_at, plain_done, untouched_first, untouched_not_plain, faithful_not_plain, faithful_taken, faithful_at_zero, kept_of_faithful, IsFaithful-less, reach_within}
 use Rattle.search_graph.proofs.Limits.{unnoted, either_noted, not_both, told_within, AreLastWithin-now, AreLastWithin-push, AreCachedWithin-keeps}
 use Rattle.search_graph.proofs.Bounds.{frame_bound_runs, nested_within, one_more_run, runs_within, done_within, asked_within, asked_more}
 use Rattle.search_graph.proofs.Ends.{depth_after, held_after, answer_after, faithful_after, within_after}
@@ -38,11 +38,13 @@ ask-returns-then-depth-eq0 g t c =
       cache = c.reply_with_overflow.ensures.cache;
       goals = c.reply_with_overflow.ensures.goals;
       results = λ p x h. rw c.reply_with_overflow.ensures.entries h;
+      asked_before = λ p x h. rw c.reply_with_overflow.ensures.asked_before h;
       range = c.reply_with_overflow.ensures.range;
       depth = IfOk-weaker c.reply_with_overflow.result _ _ (λ o told off. absurd (true_not_false (sym told ∙ off))) c.reply_with_overflow.ensures.told;
       answer = c.reply_with_overflow.ensures.answer;
       faithful = rw c.if-depth-eq0.true (IfOk-weaker c.reply_with_overflow.result (λ o. o.dependencies.encountered_overflow ≡ true) (IsFaithfulOver m first es c.args.input (cond c.args.overflowed 0 0) c.reply_with_overflow.new.cx) (λ o told. rw told (faithful_at_zero m w c.args.overflowed (path_onto m first es []) x (m.answer_of c.reply_with_overflow.new.cx o.result) o.dependencies.lowest o.dependencies.heads.items)) c.reply_with_overflow.ensures.told);
       no_conflict = λ h. absurd (c.reply_with_overflow.ensures.no_conflict h);
+      exhausted = λ h. absurd (c.reply_with_overflow.ensures.goes_on h);
       protocol = λ h. absurd (c.reply_with_overflow.ensures.in_order h);
       conflict = λ h. absurd (c.reply_with_overflow.ensures.no_conflict h);
       frames = λ width h. none_started _ _ _ c.reply_with_overflow.ensures.frames;
@@ -65,12 +67,14 @@ ask-returns g t c =
       cache = c.evaluate.ensures.cache;
       goals = c.evaluate.ensures.goals;
       results = c.evaluate.ensures.results;
+      asked_before = c.evaluate.ensures.asked_before;
       range = c.evaluate.ensures.range;
       depth = IfOk-weaker c.evaluate.result _ _ (λ o within off. depth_below o.dependencies.required_depth c.nested_depth-nested.result c.args.depth (within off) c.nested_depth-nested.ensures.falls) c.evaluate.ensures.depth;
       answer = c.evaluate.ensures.answer;
       faithful = IfOk-weaker c.evaluate.result (IsFaithfulOver m first es c.args.input (c.nested_depth-nested.result + 1) c.evaluate.new.cx) (IsFaithfulOver m first es c.args.input (cond c.args.overflowed 0 c.args.depth) c.evaluate.new.cx) (λ o f. IsFaithful-less m (m.world first) (c.nested_depth-nested.result + 1) (cond c.args.overflowed 0 c.args.depth) (path_onto m first es []) (m.goal_of first c.args.input) (m.answer_of c.evaluate.new.cx o.result) o.dependencies.encountered_overflow o.dependencies.lowest o.dependencies.heads.items reach f)
           c.evaluate.ensures.faithful;
       no_conflict = λ h limit l d. c.evaluate.ensures.no_conflict h limit (omega (arith, reach, l)) d;
+      exhausted = λ h limit l d. c.evaluate.ensures.exhausted h limit (omega (arith, reach, l)) d;
       protocol = c.evaluate.ensures.protocol;
       conflict = c.evaluate.ensures.conflict;
       frames = λ width h. let within = nested_within limit width c.nested_depth-nested.result c.args.depth c.nested_depth-nested.ensures.falls in let run = c.evaluate.ensures.frames width h in omega arith;
@@ -89,20 +93,23 @@ evaluate-returns-in_err-number g t c =
       cache = rw c.look_up.ensures.entries c.requires.cache;
       goals = c.look_up.ensures.goals;
       results = λ p x h. rw c.look_up.ensures.entries h;
+      asked_before = λ p x h. rw c.look_up.ensures.asked_before h;
       range = IfOk-err _ _ _ p.1;
       depth = IfOk-err _ _ _ p.1;
       kept = λ empty. IfOk-err _ _ _ p.1;
       answer = IfOk-err _ _ _ p.1;
       faithful = IfOk-err _ _ _ p.1;
-      no_conflict = λ h. absurd {A = IsNotPlainOver g.D.Delegate.meaning c.args.cx.now c.args.search.now.stack.items c.args.input (c.args.depth + 1)} (c.in_err-number.ensures.no_conflict (err_passed _ _ _ _ p.1 p.2 h));
-      protocol = λ h. absurd (c.in_err-number.ensures.in_order (err_passed _ _ _ _ p.1 p.2 h));
-      conflict = λ h. absurd (c.in_err-number.ensures.no_conflict (err_passed _ _ _ _ p.1 p.2 h));
+      no_conflict = λ h. absurd {A = IsNotPlainOver g.D.Delegate.meaning c.args.cx.now c.args.search.now.stack.items c.args.input (c.args.depth + 1)} (c.in_err-number.ensures.no_conflict (fault_passed _ _ _ _ p.1 p.2 h));
+      exhausted = λ h. absurd {A = IsNotPlainOver g.D.Delegate.meaning c.args.cx.now c.args.search.now.stack.items c.args.input (c.args.depth + 1)} (fault_goes_on _ _ _ p.1 p.2 h);
+      protocol = λ h. absurd (c.in_err-number.ensures.in_order (fault_passed _ _ _ _ p.1 p.2 h));
+      conflict = λ h. absurd (c.in_err-number.ensures.no_conflict (fault_passed _ _ _ _ p.1 p.2 h));
       frames = λ width h. none_started _ _ _ refl;
-      full = λ h. absurd (c.in_err-number.ensures.room (err_passed _ _ _ _ p.1 p.2 h));
+      full = λ h. absurd (c.in_err-number.ensures.room (fault_passed _ _ _ _ p.1 p.2 h));
       limits = λ h. h;
       no_limit = λ off on. not_both c.args.search.now.limits_met off on;
       within = IfOk-err _ _ _ p.1;
       cached = λ place e at same within clear. (refl, c.look_up.ensures.entries);
+      served = λ place e at same within clear h. fault_goes_on _ _ _ p.1 p.2 h;
       known = λ place e at same within clear. IfOk-err _ _ _ p.1;
     }
 
@@ -114,12 +121,14 @@ evaluate-returns-in-Some g t c =
       cache = rw c.look_up.ensures.entries c.requires.cache;
       goals = c.look_up.ensures.goals;
       results = λ p x h. rw c.look_up.ensures.entries h;
-      range = rw c.look_up.ensures.entries (rw c.in-Some.is at c.in_ok-number.ensures.range);
+      asked_before = λ p x h. rw c.look_up.ensures.asked_before h;
+      range = rw c.look_up.ensures.asked_before (rw c.in-Some.is at c.in_ok-number.ensures.range);
       depth = rw c.in-Some.is at c.in_ok-number.ensures.depth;
       kept = λ empty. rw c.look_up.ensures.entries (rw c.in-Some.is at c.in_ok-number.ensures.kept);
       answer = rw c.in-Some.is at c.in_ok-number.ensures.answer;
       faithful = rw c.in-Some.is at c.in_ok-number.ensures.faithful;
       no_conflict = λ h. absurd {A = IsNotPlainOver g.D.Delegate.meaning c.args.cx.now c.args.search.now.stack.items c.args.input (c.args.depth + 1)} (ok_not_err _ _ h);
+      exhausted = λ h. absurd {A = IsNotPlainOver g.D.Delegate.meaning c.args.cx.now c.args.search.now.stack.items c.args.input (c.args.depth + 1)} (ok_not_err _ _ h);
       protocol = λ h. absurd (ok_not_err _ _ h);
       conflict = λ h. absurd (ok_not_err _ _ h);
       frames = λ width h. none_started _ _ _ refl;
@@ -128,6 +137,7 @@ evaluate-returns-in-Some g t c =
       no_limit = λ off on. not_both c.args.search.now.limits_met off on;
       within = λ before no last cached. (rw c.look_up.ensures.entries cached, (rw c.in-Some.is at c.in_ok-number.ensures.within) before cached);
       cached = λ place e at same within clear. (refl, c.look_up.ensures.entries);
+      served = λ place e at same within clear h. ok_not_err _ _ h;
       known = λ place e at same within clear. rw c.in-Some.is at c.in_ok-number.ensures.kept;
     }
 
@@ -146,12 +156,14 @@ evaluate-returns-in-Some-find_cycle g t c =
       cache = rw c.look_up.ensures.entries (AreCached-later g.D.Delegate.meaning c.args.cx.now c.reply_in_cycle.new.cx c.args.cache.now.entries.items c.reply_in_cycle.ensures.keeps c.requires.cache);
       goals = c.look_up.ensures.goals;
       results = λ p x h. rw c.look_up.ensures.entries h;
-      range = IfOk-weaker c.reply_in_cycle.result _ _ (λ o asked. in_range_one c.look_up.new.cache.entries.items o.dependencies.nested_goals c.in_ok-number.number asked.0 asked.1 asked.2) c.reply_in_cycle.ensures.asked;
+      asked_before = λ p x h. rw c.look_up.ensures.asked_before h;
+      range = IfOk-weaker c.reply_in_cycle.result _ _ (λ o asked. in_range_one c.look_up.new.cache.asked.items o.dependencies.nested_goals c.in_ok-number.number asked.0 asked.1 asked.2) c.reply_in_cycle.ensures.asked;
       depth = IfOk-weaker c.reply_in_cycle.result _ _ (λ o none off. from_zero _ _ none) c.reply_in_cycle.ensures.depth;
       kept = λ empty. absurd (none-some c.in-Some-find_cycle.cycle.index (rw empty at c.in-Some-find_cycle.ensures.place));
       answer = c.reply_in_cycle.ensures.answer;
       faithful = IfOk-weaker c.reply_in_cycle.result _ _ (λ o f. f (c.args.depth + 1)) c.reply_in_cycle.ensures.faithful;
       no_conflict = λ h. absurd (c.reply_in_cycle.ensures.no_conflict h);
+      exhausted = λ h. absurd (c.reply_in_cycle.ensures.goes_on h);
       protocol = λ h. absurd (c.reply_in_cycle.ensures.in_order h);
       conflict = λ h. absurd (c.reply_in_cycle.ensures.no_conflict h);
       frames = λ width h. none_started _ _ _ refl;
@@ -165,6 +177,7 @@ evaluate-returns-in-Some-find_cycle g t c =
             f before last,
           )) c.reply_in_cycle.ensures.within;
       cached = λ place e at same within clear. (refl, c.look_up.ensures.entries);
+      served = λ place e at same within clear. c.reply_in_cycle.ensures.goes_on;
       known = λ place e at same within clear. absurd (true_not_false (sym (rw c.in_default.is at (c.in_ok-number.ensures.found place e at same within clear))));
     }
 
@@ -176,12 +189,14 @@ evaluate-returns-in-None g t c =
       cache = c.evaluate_new.ensures.cache;
       goals = λ x n h. c.evaluate_new.ensures.goals x n (c.look_up.ensures.goals x n h);
       results = λ p x h. c.evaluate_new.ensures.results p x (rw c.look_up.ensures.entries h);
+      asked_before = λ p x h. c.evaluate_new.ensures.asked_before p x (rw c.look_up.ensures.asked_before h);
       range = c.evaluate_new.ensures.range;
       depth = c.evaluate_new.ensures.depth;
       kept = c.evaluate_new.ensures.kept;
       answer = c.evaluate_new.ensures.answer;
       faithful = c.evaluate_new.ensures.faithful;
       no_conflict = c.evaluate_new.ensures.no_conflict;
+      exhausted = c.evaluate_new.ensures.exhausted;
       protocol = c.evaluate_new.ensures.protocol;
       conflict = c.evaluate_new.ensures.conflict;
       frames = c.evaluate_new.ensures.frames;
@@ -190,6 +205,7 @@ evaluate-returns-in-None g t c =
       no_limit = c.evaluate_new.ensures.no_limit;
       within = IfOk-weaker c.evaluate_new.result _ _ (λ o f before no last cached. f before no last (rw c.look_up.ensures.entries cached)) c.evaluate_new.ensures.within;
       cached = λ place e at same within clear. absurd (true_not_false (sym (rw c.in_default.is at (c.in_ok-number.ensures.found place e at same within clear))));
+      served = λ place e at same within clear. absurd (true_not_false (sym (rw c.in_default.is at (c.in_ok-number.ensures.found place e at same within clear))));
       known = λ place e at same within clear. absurd (true_not_false (sym (rw c.in_default.is at (c.in_ok-number.ensures.found place e at same within clear))));
     }
 
@@ -207,7 +223,8 @@ evaluate_new-loop-run-init g t c =
       cache = c.requires.cache;
       goals = λ x n h. h;
       results = λ p x h. h;
-      range = in_range_none c.args.cache.now.entries.items c.new-dependencies.result.nested_goals c.new-dependencies.ensures.unasked.0 c.new-dependencies.ensures.unasked.1;
+      asked_before = λ p x h. h;
+      range = in_range_none c.args.cache.now.asked.items c.new-dependencies.result.nested_goals c.new-dependencies.ensures.unasked.0 c.new-dependencies.ensures.unasked.1;
       depth = λ off. from_zero _ _ c.new-dependencies.ensures.depth;
       stack = refl;
       span = c.new_entry-entry.ensures.span ∙ ap (λ n. covered (span_of_newest es) (one_goal n)) (sym c.new_entry-entry.ensures.number);
@@ -255,6 +272,7 @@ evaluate_new-loop-run-preserved g t c =
       cache = c.run_once.ensures.cache;
       goals = λ x n h. c.run_once.ensures.goals x n (inv.goals x n h);
       results = λ p x h. c.run_once.ensures.results p x (inv.results p x h);
+      asked_before = λ p x h. c.run_once.ensures.asked_before p x (inv.asked_before p x h);
       range = c.in_ok-back.ensures.range;
       depth = c.in_ok-back.ensures.depth;
       stack = c.in_ok-back.ensures.stack ∙ inv.stack;
@@ -309,8 +327,8 @@ evaluate_new-run_once-requires g t c κs within =
       ),
     )
 
-pub evaluate_new-finish-requires-clause-alone : goal.evaluate_new-finish-requires-clause-alone
-evaluate_new-finish-requires-clause-alone g t c =
+pub evaluate_new-conclude-requires-clause-alone : goal.evaluate_new-conclude-requires-clause-alone
+evaluate_new-conclude-requires-clause-alone g t c =
     let m = g.D.Delegate.meaning in
     let inv = c.loop-run.invariant in
     let first = c.args.cx.now in
@@ -328,8 +346,8 @@ evaluate_new-finish-requires-clause-alone g t c =
     λ h. rw (keeps.world, input, (keeps.inputs c.args.input c.requires.input).1)
     (provisional_alone m w c.in_ok-back.outcome.dependencies.lowest path x c.args.step_kind Inductive c.run_once.new.cx c.in_ok-back.outcome.result (past_path _ _ _ h long) now)
 
-pub evaluate_new-finish-requires-clause-kept : goal.evaluate_new-finish-requires-clause-kept
-evaluate_new-finish-requires-clause-kept g t c =
+pub evaluate_new-conclude-requires-clause-kept : goal.evaluate_new-conclude-requires-clause-kept
+evaluate_new-conclude-requires-clause-kept g t c =
     let m = g.D.Delegate.meaning in
     let inv = c.loop-run.invariant in
     let first = c.args.cx.now in
@@ -347,14 +365,14 @@ evaluate_new-finish-requires-clause-kept g t c =
     λ h. rw (keeps.world, input, (keeps.inputs c.args.input c.requires.input).1)
     (kept_of_faithful m w c.args.depth path x (m.answer_of c.run_once.new.cx c.in_ok-back.outcome.result) c.in_ok-back.outcome.dependencies.encountered_overflow c.in_ok-back.outcome.dependencies.lowest c.in_ok-back.outcome.dependencies.heads.items (past_path _ _ _ h long) faithful)
 
-pub evaluate_new-finish-requires-clause-number : goal.evaluate_new-finish-requires-clause-number
-evaluate_new-finish-requires-clause-number g t c =
+pub evaluate_new-conclude-requires-clause-number : goal.evaluate_new-conclude-requires-clause-number
+evaluate_new-conclude-requires-clause-number g t c =
     let inv = c.loop-run.invariant in
     let input : c.into_input.result ≡ c.args.input = c.into_input.ensures ∙ ap (λ e. e.input) c.in_ok-back.ensures.entry ∙ inv.input in
     rw input (c.run_once.ensures.goals c.args.input c.args.number (inv.goals c.args.input c.args.number c.requires.number))
 
-pub evaluate_new-finish-requires-clause-input : goal.evaluate_new-finish-requires-clause-input
-evaluate_new-finish-requires-clause-input g t c =
+pub evaluate_new-conclude-requires-clause-input : goal.evaluate_new-conclude-requires-clause-input
+evaluate_new-conclude-requires-clause-input g t c =
     let m = g.D.Delegate.meaning in
     let inv = c.loop-run.invariant in
     let first = c.args.cx.now in
@@ -362,8 +380,8 @@ evaluate_new-finish-requires-clause-input g t c =
     let input : c.into_input.result ≡ c.args.input = c.into_input.ensures ∙ ap (λ e. e.input) c.in_ok-back.ensures.entry ∙ inv.input in
     rw input (keeps.inputs c.args.input c.requires.input).0
 
-pub evaluate_new-finish-requires-clause-nested : goal.evaluate_new-finish-requires-clause-nested
-evaluate_new-finish-requires-clause-nested g t c =
+pub evaluate_new-conclude-requires-clause-nested : goal.evaluate_new-conclude-requires-clause-nested
+evaluate_new-conclude-requires-clause-nested g t c =
     c.in_ok-back.ensures.range
 
 pub evaluate_new-returns-then-is_last_run : goal.evaluate_new-returns-then-is_last_run
@@ -384,44 +402,47 @@ evaluate_new-returns-then-is_last_run g t c =
     let faithful = rw (inv.keeps.world, path-now m first c.loop-run.cx es c.loop-run.search.stack.items inv.keeps inv.stack c.requires.stack, inv.input, goal_is) at c.in_ok-back.ensures.faithful in
     let keeps = Keeps-trans m first c.loop-run.cx c.run_once.new.cx inv.keeps c.run_once.ensures.keeps in
     let input : c.into_input.result ≡ c.args.input = c.into_input.ensures ∙ ap (λ e. e.input) c.in_ok-back.ensures.entry ∙ inv.input in
-    let claim = rw (keeps.world, input, (keeps.inputs c.args.input c.requires.input).1) at c.finish.ensures.no_conflict in
+    let claim = rw (keeps.world, input, (keeps.inputs c.args.input c.requires.input).1) at c.conclude.ensures.no_conflict in
     let limit : ℕ = max g.D.Delegate.FIXPOINT_STEP_LIMIT 1 in
     record {
       keeps = Keeps-trans g.D.Delegate.meaning c.args.cx.now c.loop-run.cx c.run_once.new.cx c.loop-run.invariant.keeps c.run_once.ensures.keeps;
-      stack = OnOk-always c.finish.result (c.in_ok-back.ensures.stack ∙ c.loop-run.invariant.stack);
-      cache = c.finish.ensures.cache;
-      goals = λ x n h. rw c.finish.ensures.goals (c.run_once.ensures.goals x n (c.loop-run.invariant.goals x n h));
-      results = λ p x h. c.finish.ensures.results p x (c.run_once.ensures.results p x (c.loop-run.invariant.results p x h));
-      range = c.finish.ensures.range;
-      depth = depth_after c.finish.result _ c.args.depth c.in_ok-back.ensures.depth c.finish.ensures.reply;
+      stack = OnOk-always c.conclude.result (c.conclude.ensures.stack ∙ c.in_ok-back.ensures.stack ∙ c.loop-run.invariant.stack);
+      cache = c.conclude.ensures.cache;
+      goals = λ x n h. rw c.conclude.ensures.goals (c.run_once.ensures.goals x n (c.loop-run.invariant.goals x n h));
+      results = λ p x h. c.conclude.ensures.results p x (c.run_once.ensures.results p x (c.loop-run.invariant.results p x h));
+      asked_before = λ p x h. c.conclude.ensures.asked_before p x (c.run_once.ensures.asked_before p x (c.loop-run.invariant.asked_before p x h));
+      range = c.conclude.ensures.range;
+      depth = depth_after c.conclude.result _ c.args.depth c.in_ok-back.ensures.depth c.conclude.ensures.reply;
       kept = λ empty.
           let inv = c.loop-run.invariant in
           let input : c.into_input.result ≡ c.args.input = c.into_input.ensures ∙ ap (λ e. e.input) c.in_ok-back.ensures.entry ∙ inv.input in
           let root : c.len-index.result ≡ 0 = inv.place ∙ ap length empty in
-          held_after c.finish.result _ c.run_once.new.cache.entries.items c.finish.new.cache.entries.items c.args.input c.into_input.result c.len-index.result c.args.number c.args.depth input (from_zero _ _ root)
-          c.in_ok-back.ensures.depth c.finish.ensures.kept c.finish.ensures.reply;
-      answer = answer_after m first c.run_once.new.cx es c.args.input c.finish.result _ c.args.step_kind
-          (answer_of_run m w path (x, c.args.step_kind) c.in_ok-back.outcome.dependencies.lowest c.run_once.new.cx c.in_ok-back.outcome.result room now) c.finish.ensures.reply;
-      faithful = faithful_after m first c.run_once.new.cx es c.args.input c.finish.result _ (c.args.depth + 1)
+          held_after c.conclude.result _ c.run_once.new.cache.entries.items c.conclude.new.cache.entries.items c.run_once.new.cache.asked.items c.args.input c.into_input.result c.len-index.result c.args.number c.args.depth input (from_zero _ _ root)
+          c.in_ok-back.ensures.depth c.conclude.ensures.kept c.conclude.ensures.reply;
+      answer = answer_after m first c.run_once.new.cx es c.args.input c.conclude.result _ c.args.step_kind
+          (answer_of_run m w path (x, c.args.step_kind) c.in_ok-back.outcome.dependencies.lowest c.run_once.new.cx c.in_ok-back.outcome.result room now) c.conclude.ensures.reply;
+      faithful = faithful_after m first c.run_once.new.cx es c.args.input c.conclude.result _ (c.args.depth + 1)
           (faithful_taken m w (c.args.depth + 1) path x (m.answer_of c.run_once.new.cx c.in_ok-back.outcome.result) c.in_ok-back.outcome.dependencies.encountered_overflow c.in_ok-back.outcome.dependencies.lowest c.in_ok-back.outcome.dependencies.heads.items c.take_head-read.new.heads.items
-          (λ e. (c.take_head-read.ensures.unread e).1) faithful) c.finish.ensures.reply;
+          (λ e. (c.take_head-read.ensures.unread e).1) faithful) c.conclude.ensures.reply;
       no_conflict = λ h limit l d. claim h limit l;
-      protocol = λ h. absurd (c.finish.ensures.in_order h);
-      conflict = c.finish.ensures.conflict;
+      exhausted = λ h. ends_not_plain m w (c.args.depth + 1) c.len-index.result path x (m.answer_of c.run_once.new.cx c.in_ok-back.outcome.result) c.in_ok-back.outcome.dependencies.encountered_overflow c.in_ok-back.outcome.dependencies.lowest c.in_ok-back.outcome.dependencies.heads.items
+          long (c.conclude.ensures.exhausted h) faithful;
+      protocol = λ h. absurd (c.conclude.ensures.in_order h);
+      conflict = c.conclude.ensures.conflict;
       frames = λ width h.
           let more = one_more_run c.args.search.now.frames c.loop-run.search.frames c.run_once.new.search.frames c.loop-run._run (1 + width * question_bound limit width c.args.depth)
           (inv.frames width h) (c.run_once.ensures.frames width (rw (inv.keeps.world, inv.input, goal_is) h)) in
-          rw (frame_bound_runs limit width c.args.depth) (runs_within c.args.search.now.frames c.run_once.new.search.frames (c.loop-run._run + 1) limit (1 + width * question_bound limit width c.args.depth) counted more);
-      full = λ h. absurd (c.finish.ensures.room h);
-      limits = λ h. c.run_once.ensures.limits (inv.limits h);
-      no_limit = λ off. either_noted c.loop-run.search.limits_met c.run_once.new.search.limits_met (inv.noted off)
-          (rw (inv.keeps.world, path-now m first c.loop-run.cx es c.loop-run.search.stack.items inv.keeps inv.stack c.requires.stack, inv.input, goal_is) at c.run_once.ensures.no_limit);
-      within = within_after m first c.run_once.new.cx es c.args.input c.finish.result _ c.args.cache.now.entries.items c.run_once.new.cache.entries.items c.finish.new.cache.entries.items c.into_input.result c.run_once.new.search.limits_met keeps input c.requires.input
+          rw (c.conclude.ensures.frames, frame_bound_runs limit width c.args.depth) (runs_within c.args.search.now.frames c.run_once.new.search.frames (c.loop-run._run + 1) limit (1 + width * question_bound limit width c.args.depth) counted more);
+      full = λ h. absurd (c.conclude.ensures.room h);
+      limits = λ h. c.conclude.ensures.limits ∙ c.run_once.ensures.limits (inv.limits h);
+      no_limit = λ off on. either_noted c.loop-run.search.limits_met c.run_once.new.search.limits_met (inv.noted off)
+          (rw (inv.keeps.world, path-now m first c.loop-run.cx es c.loop-run.search.stack.items inv.keeps inv.stack c.requires.stack, inv.input, goal_is) at c.run_once.ensures.no_limit) (sym c.conclude.ensures.limits ∙ on);
+      within = rw c.conclude.ensures.limits (within_after m first c.run_once.new.cx es c.args.input c.conclude.result _ c.args.cache.now.entries.items c.run_once.new.cache.entries.items c.conclude.new.cache.entries.items c.into_input.result c.run_once.new.search.limits_met keeps input c.requires.input
           (λ before no last cached.
           told_within m first c.loop-run.cx c.run_once.new.cx es c.loop-run.search.stack.items inv.keeps inv.stack c.requires.stack before c.args.input c.loop-run.entry c.in_ok-back.outcome.result inv.input c.requires.input
           c.loop-run.cache.entries.items c.run_once.new.cache.entries.items (c.in_ok-back.ensures.within before no) last
           (inv.within before (unnoted c.loop-run.search.limits_met c.run_once.new.search.limits_met c.run_once.ensures.limits no) last cached))
-          c.finish.ensures.within c.finish.ensures.reply;
+          c.conclude.ensures.within c.conclude.ensures.reply);
     }
 
 pub evaluate_new-returns-in_err-back : goal.evaluate_new-returns-in_err-back
@@ -441,12 +462,14 @@ evaluate_new-returns-in_err-back g t c =
       cache = c.run_once.ensures.cache;
       goals = λ x n h. c.run_once.ensures.goals x n (c.loop-run.invariant.goals x n h);
       results = λ p x h. c.run_once.ensures.results p x (c.loop-run.invariant.results p x h);
+      asked_before = λ p x h. c.run_once.ensures.asked_before p x (c.loop-run.invariant.asked_before p x h);
       range = IfOk-err _ _ _ p.1;
       depth = IfOk-err _ _ _ p.1;
       kept = λ empty. IfOk-err _ _ _ p.1;
       answer = IfOk-err _ _ _ p.1;
       faithful = IfOk-err _ _ _ p.1;
       no_conflict = λ h. claim (err_passed _ _ _ _ p.1 p.2 h);
+      exhausted = let claim = rw (inv.keeps.world, path-now m first c.loop-run.cx es c.loop-run.search.stack.items inv.keeps inv.stack c.requires.stack, inv.input, goal_is) at c.in_err-back.ensures.exhausted in λ h. claim (err_passed _ _ _ _ p.1 p.2 h);
       protocol = let claim = rw (inv.keeps.world, inv.input, goal_is) at c.in_err-back.ensures.protocol in λ h. claim (err_passed _ _ _ _ p.1 p.2 h);
       conflict = λ h. c.in_err-back.ensures.conflict (err_passed _ _ _ _ p.1 p.2 h);
       frames = λ width h.
@@ -484,35 +507,37 @@ evaluate_new-returns g t c =
     let long = path_length m first es c.len-index.result inv.place in
     let faithful = faithful_not_plain m w (c.args.depth + 1) path x (m.answer_of c.fixpoint_overflow_result.new.cx c.in_ok-answer.answer) c.loop-run.dependencies.encountered_overflow c.loop-run.dependencies.lowest c.loop-run.dependencies.heads.items (inv.again ran) in
     let keeps = Keeps-trans m first c.loop-run.cx c.fixpoint_overflow_result.new.cx inv.keeps c.fixpoint_overflow_result.ensures.keeps in
-    let claim = rw (keeps.world, c.into_input-2.ensures ∙ inv.input, (keeps.inputs c.args.input c.requires.input).1) at c.finish-2.ensures.no_conflict in
+    let claim = rw (keeps.world, c.into_input-2.ensures ∙ inv.input, (keeps.inputs c.args.input c.requires.input).1) at c.conclude-2.ensures.no_conflict in
     let limit : ℕ = max g.D.Delegate.FIXPOINT_STEP_LIMIT 1 in
     record {
       keeps = Keeps-trans g.D.Delegate.meaning c.args.cx.now c.loop-run.cx c.fixpoint_overflow_result.new.cx c.loop-run.invariant.keeps c.fixpoint_overflow_result.ensures.keeps;
-      stack = OnOk-always c.finish-2.result c.loop-run.invariant.stack;
-      cache = c.finish-2.ensures.cache;
-      goals = λ x n h. rw c.finish-2.ensures.goals (c.loop-run.invariant.goals x n h);
-      results = λ p x h. c.finish-2.ensures.results p x (c.loop-run.invariant.results p x h);
-      range = c.finish-2.ensures.range;
-      depth = depth_after c.finish-2.result _ c.args.depth c.loop-run.invariant.depth c.finish-2.ensures.reply;
+      stack = OnOk-always c.conclude-2.result (c.conclude-2.ensures.stack ∙ c.loop-run.invariant.stack);
+      cache = c.conclude-2.ensures.cache;
+      goals = λ x n h. rw c.conclude-2.ensures.goals (c.loop-run.invariant.goals x n h);
+      results = λ p x h. c.conclude-2.ensures.results p x (c.loop-run.invariant.results p x h);
+      asked_before = λ p x h. c.conclude-2.ensures.asked_before p x (c.loop-run.invariant.asked_before p x h);
+      range = c.conclude-2.ensures.range;
+      depth = depth_after c.conclude-2.result _ c.args.depth c.loop-run.invariant.depth c.conclude-2.ensures.reply;
       kept = λ empty.
           let inv = c.loop-run.invariant in
           let input : c.into_input-2.result ≡ c.args.input = c.into_input-2.ensures ∙ inv.input in
           let root : c.len-index.result ≡ 0 = inv.place ∙ ap length empty in
-          held_after c.finish-2.result _ c.loop-run.cache.entries.items c.finish-2.new.cache.entries.items c.args.input c.into_input-2.result c.len-index.result c.args.number c.args.depth input (from_zero _ _ root)
-          inv.depth c.finish-2.ensures.kept c.finish-2.ensures.reply;
-      answer = answer_after m first c.fixpoint_overflow_result.new.cx es c.args.input c.finish-2.result _ c.args.step_kind
+          held_after c.conclude-2.result _ c.loop-run.cache.entries.items c.conclude-2.new.cache.entries.items c.loop-run.cache.asked.items c.args.input c.into_input-2.result c.len-index.result c.args.number c.args.depth input (from_zero _ _ root)
+          inv.depth c.conclude-2.ensures.kept c.conclude-2.ensures.reply;
+      answer = answer_after m first c.fixpoint_overflow_result.new.cx es c.args.input c.conclude-2.result _ c.args.step_kind
           (overflow_answers m w path (x, c.args.step_kind) c.loop-run.dependencies.lowest c.fixpoint_overflow_result.new.cx c.in_ok-answer.answer (m.fixpoint_overflow w x)
-          (in_path _ _ _ inv.room (long ∙ inv.place)) c.in_ok-answer.ensures.is.0 is (law.fixpoint_overflow w x) (law.fixpoint_overflow_fair w x) (inr (inl refl))) c.finish-2.ensures.reply;
-      faithful = faithful_after m first c.fixpoint_overflow_result.new.cx es c.args.input c.finish-2.result _ (c.args.depth + 1)
-          faithful c.finish-2.ensures.reply;
+          (in_path _ _ _ inv.room (long ∙ inv.place)) c.in_ok-answer.ensures.is.0 is (law.fixpoint_overflow w x) (law.fixpoint_overflow_fair w x) (inr (inl refl))) c.conclude-2.ensures.reply;
+      faithful = faithful_after m first c.fixpoint_overflow_result.new.cx es c.args.input c.conclude-2.result _ (c.args.depth + 1)
+          faithful c.conclude-2.ensures.reply;
       no_conflict = λ h limit l d. claim h limit l;
-      protocol = λ h. absurd (c.finish-2.ensures.in_order h);
-      conflict = c.finish-2.ensures.conflict;
-      frames = λ width h. rw (frame_bound_runs limit width c.args.depth) (runs_within c.args.search.now.frames c.loop-run.search.frames c.loop-run._run limit (1 + width * question_bound limit width c.args.depth) counted (inv.frames width h));
-      full = λ h. absurd (c.finish-2.ensures.room h);
-      limits = λ h. refl;
+      exhausted = λ h limit l d. inv.again ran limit (inl l) (AllDescend-higher m w limit 0 c.loop-run.dependencies.lowest path x (from_zero 0 _ refl) d);
+      protocol = λ h. absurd (c.conclude-2.ensures.in_order h);
+      conflict = c.conclude-2.ensures.conflict;
+      frames = λ width h. rw (c.conclude-2.ensures.frames, frame_bound_runs limit width c.args.depth) (runs_within c.args.search.now.frames c.loop-run.search.frames c.loop-run._run limit (1 + width * question_bound limit width c.args.depth) counted (inv.frames width h));
+      full = λ h. absurd (c.conclude-2.ensures.room h);
+      limits = λ h. c.conclude-2.ensures.limits;
       no_limit = let path = path_onto m first c.args.search.now.stack.items [] in λ off on limit l d. inv.again ran limit (inl l) (AllDescend-higher m w limit 0 c.loop-run.dependencies.lowest path x (from_zero 0 _ refl) d);
-      within = IfOk-weaker c.finish-2.result _ _ (λ o s before no. absurd (true_not_false no)) c.finish-2.ensures.reply;
+      within = IfOk-weaker c.conclude-2.result _ _ (λ o s before no. absurd (true_not_false (sym c.conclude-2.ensures.limits ∙ no))) c.conclude-2.ensures.reply;
     }
 
 pub evaluate_new-returns-in_err-answer-clause-cache : goal.evaluate_new-returns-in_err-answer-clause-cache
@@ -520,13 +545,13 @@ evaluate_new-returns-in_err-answer-clause-cache g t c =
     let inv = c.loop-run.invariant in
     AreCached-later g.D.Delegate.meaning c.loop-run.cx c.fixpoint_overflow_result.new.cx c.loop-run.cache.entries.items c.fixpoint_overflow_result.ensures.keeps inv.cache
 
-pub evaluate_new-finish-requires-2-clause-cache : goal.evaluate_new-finish-requires-2-clause-cache
-evaluate_new-finish-requires-2-clause-cache g t c =
+pub evaluate_new-conclude-requires-2-clause-cache : goal.evaluate_new-conclude-requires-2-clause-cache
+evaluate_new-conclude-requires-2-clause-cache g t c =
     let inv = c.loop-run.invariant in
     AreCached-later g.D.Delegate.meaning c.loop-run.cx c.fixpoint_overflow_result.new.cx c.loop-run.cache.entries.items c.fixpoint_overflow_result.ensures.keeps inv.cache
 
-pub evaluate_new-finish-requires-2-clause-alone : goal.evaluate_new-finish-requires-2-clause-alone
-evaluate_new-finish-requires-2-clause-alone g t c =
+pub evaluate_new-conclude-requires-2-clause-alone : goal.evaluate_new-conclude-requires-2-clause-alone
+evaluate_new-conclude-requires-2-clause-alone g t c =
     let m = g.D.Delegate.meaning in
     let law = g.met.D.Delegate.lawful in
     let inv = c.loop-run.invariant in
@@ -540,8 +565,8 @@ evaluate_new-finish-requires-2-clause-alone g t c =
     λ h. rw (keeps.world, c.into_input-2.ensures ∙ inv.input, (keeps.inputs c.args.input c.requires.input).1)
     (overflow_stands m w [] (x, Inductive) 0 c.fixpoint_overflow_result.new.cx c.in_ok-answer.answer (m.fixpoint_overflow w x) c.in_ok-answer.ensures.is.0 is (law.fixpoint_overflow w x) (law.fixpoint_overflow_fair w x) (inr (inl refl)))
 
-pub evaluate_new-finish-requires-2-clause-kept : goal.evaluate_new-finish-requires-2-clause-kept
-evaluate_new-finish-requires-2-clause-kept g t c =
+pub evaluate_new-conclude-requires-2-clause-kept : goal.evaluate_new-conclude-requires-2-clause-kept
+evaluate_new-conclude-requires-2-clause-kept g t c =
     let ran : 0 < c.loop-run._run = omega arith in
     let m = g.D.Delegate.meaning in
     let inv = c.loop-run.invariant in
@@ -556,17 +581,17 @@ evaluate_new-finish-requires-2-clause-kept g t c =
     λ h. rw (keeps.world, c.into_input-2.ensures ∙ inv.input, (keeps.inputs c.args.input c.requires.input).1)
     (kept_of_faithful m w c.args.depth path x (m.answer_of c.fixpoint_overflow_result.new.cx c.in_ok-answer.answer) c.loop-run.dependencies.encountered_overflow c.loop-run.dependencies.lowest c.loop-run.dependencies.heads.items (past_path _ _ _ h long) faithful)
 
-pub evaluate_new-finish-requires-2-clause-number : goal.evaluate_new-finish-requires-2-clause-number
-evaluate_new-finish-requires-2-clause-number g t c =
+pub evaluate_new-conclude-requires-2-clause-number : goal.evaluate_new-conclude-requires-2-clause-number
+evaluate_new-conclude-requires-2-clause-number g t c =
     let inv = c.loop-run.invariant in
     rw (c.into_input-2.ensures ∙ inv.input) (inv.goals c.args.input c.args.number c.requires.number)
 
-pub evaluate_new-finish-requires-2-clause-nested : goal.evaluate_new-finish-requires-2-clause-nested
-evaluate_new-finish-requires-2-clause-nested g t c =
+pub evaluate_new-conclude-requires-2-clause-nested : goal.evaluate_new-conclude-requires-2-clause-nested
+evaluate_new-conclude-requires-2-clause-nested g t c =
     c.loop-run.invariant.range
 
-pub evaluate_new-finish-requires-2-clause-input : goal.evaluate_new-finish-requires-2-clause-input
-evaluate_new-finish-requires-2-clause-input g t c =
+pub evaluate_new-conclude-requires-2-clause-input : goal.evaluate_new-conclude-requires-2-clause-input
+evaluate_new-conclude-requires-2-clause-input g t c =
     let m = g.D.Delegate.meaning in
     let inv = c.loop-run.invariant in
     let keeps = Keeps-trans m c.args.cx.now c.loop-run.cx c.fixpoint_overflow_result.new.cx inv.keeps c.fixpoint_overflow_result.ensures.keeps in
@@ -596,6 +621,10 @@ evaluate_new-returns-in_err-answer-clause-no_limit g t c =
     let path = path_onto m first c.args.search.now.stack.items [] in
     λ off on limit l d. inv.again ran limit (inl l) (AllDescend-higher m w limit 0 c.loop-run.dependencies.lowest path x (from_zero 0 _ refl) d)
 
+pub run_once-returns-in-End-clause-exhausted : goal.run_once-returns-in-End-clause-exhausted
+run_once-returns-in-End-clause-exhausted g t c =
+    λ h. absurd {A = IsNotPlainOver g.D.Delegate.meaning c.args.cx.now c.args.search.now.stack.items c.args.entry.input (c.args.depth + 1)} (ok_not_err _ _ h)
+
 pub run_once-returns-in_err-frame : goal.run_once-returns-in_err-frame
 run_once-returns-in_err-frame g t c =
     let p = err_from_is_err_and c.from_residual.result c.from_residual.ensures.1 in
@@ -605,17 +634,19 @@ run_once-returns-in_err-frame g t c =
       cache = AreCached-later g.D.Delegate.meaning c.args.cx.now c.start_run.new.cx c.args.cache.now.entries.items c.start_run.ensures.keeps c.requires.cache;
       goals = λ x n h. h;
       results = λ p x h. h;
+      asked_before = λ p x h. h;
       range = IfOk-err _ _ _ p.1;
       depth = IfOk-err _ _ _ p.1;
       entry = IfOk-err _ _ _ p.1;
       low = IfOk-err _ _ _ p.1;
       provisional = IfOk-err _ _ _ p.1;
       faithful = IfOk-err _ _ _ p.1;
-      no_conflict = λ h. absurd {A = IsNotPlainOver g.D.Delegate.meaning c.args.cx.now c.args.search.now.stack.items c.args.entry.input (c.args.depth + 1)} (c.in_err-frame.ensures.no_conflict (err_passed _ _ _ _ p.1 p.2 h));
-      protocol = λ h. absurd (c.in_err-frame.ensures.in_order (err_passed _ _ _ _ p.1 p.2 h));
-      conflict = λ h. absurd (c.in_err-frame.ensures.no_conflict (err_passed _ _ _ _ p.1 p.2 h));
+      no_conflict = λ h. absurd {A = IsNotPlainOver g.D.Delegate.meaning c.args.cx.now c.args.search.now.stack.items c.args.entry.input (c.args.depth + 1)} (c.in_err-frame.ensures.no_conflict (fault_passed _ _ _ _ p.1 p.2 h));
+      exhausted = λ h. absurd {A = IsNotPlainOver g.D.Delegate.meaning c.args.cx.now c.args.search.now.stack.items c.args.entry.input (c.args.depth + 1)} (fault_goes_on _ _ _ p.1 p.2 h);
+      protocol = λ h. absurd (c.in_err-frame.ensures.in_order (fault_passed _ _ _ _ p.1 p.2 h));
+      conflict = λ h. absurd (c.in_err-frame.ensures.no_conflict (fault_passed _ _ _ _ p.1 p.2 h));
       frames = λ width h. one_started _ _ _ c.start_run.ensures.frames;
-      full = λ h. c.in_err-frame.ensures.full (err_passed _ _ _ _ p.1 p.2 h);
+      full = λ h. c.in_err-frame.ensures.full (fault_passed _ _ _ _ p.1 p.2 h);
       limits = λ h. c.start_run.ensures.limits ∙ h;
       no_limit = λ off on. not_both c.args.search.now.limits_met off (sym c.start_run.ensures.limits ∙ on);
       within = IfOk-err _ _ _ p.1;
@@ -645,18 +676,20 @@ run_once-returns-in_err-request-in-Ask g t c =
       cache = AreCached-later g.D.Delegate.meaning c.ask.new.cx c.hear.new.cx c.ask.new.cache.entries.items c.hear.ensures.keeps c.ask.ensures.cache;
       goals = λ x n h. c.ask.ensures.goals x n (c.loop-candidates.invariant.goals x n h);
       results = λ p x h. c.ask.ensures.results p x (c.loop-candidates.invariant.results p x h);
+      asked_before = λ p x h. c.ask.ensures.asked_before p x (c.loop-candidates.invariant.asked_before p x h);
       range = IfOk-err _ _ _ p.1;
       depth = IfOk-err _ _ _ p.1;
       entry = IfOk-err _ _ _ p.1;
       low = IfOk-err _ _ _ p.1;
       provisional = IfOk-err _ _ _ p.1;
       faithful = IfOk-err _ _ _ p.1;
-      no_conflict = λ h. absurd {A = IsNotPlainOver g.D.Delegate.meaning c.args.cx.now c.args.search.now.stack.items c.args.entry.input (c.args.depth + 1)} (c.in_err-request-in-Ask.ensures.no_conflict (err_passed _ _ _ _ p.1 p.2 h));
-      protocol = λ h. absurd (c.in_err-request-in-Ask.ensures.in_order (err_passed _ _ _ _ p.1 p.2 h));
-      conflict = λ h. absurd (c.in_err-request-in-Ask.ensures.no_conflict (err_passed _ _ _ _ p.1 p.2 h));
+      no_conflict = λ h. absurd {A = IsNotPlainOver g.D.Delegate.meaning c.args.cx.now c.args.search.now.stack.items c.args.entry.input (c.args.depth + 1)} (c.in_err-request-in-Ask.ensures.no_conflict (fault_passed _ _ _ _ p.1 p.2 h));
+      exhausted = λ h. absurd {A = IsNotPlainOver g.D.Delegate.meaning c.args.cx.now c.args.search.now.stack.items c.args.entry.input (c.args.depth + 1)} (fault_goes_on _ _ _ p.1 p.2 h);
+      protocol = λ h. absurd (c.in_err-request-in-Ask.ensures.in_order (fault_passed _ _ _ _ p.1 p.2 h));
+      conflict = λ h. absurd (c.in_err-request-in-Ask.ensures.no_conflict (fault_passed _ _ _ _ p.1 p.2 h));
       frames = λ width h. asked_within c.args.search.now.frames c.loop-candidates.search.frames c.ask.new.search.frames (question_bound limit width c.args.depth) (answer_count m inv.running.heard) (m.number_of w x) width
           (inv.frames width h) (c.ask.ensures.frames width (rw inv.keeps.world (within_more _ _ _ fair.1 h))) asked h;
-      full = λ h. c.in_err-request-in-Ask.ensures.full (err_passed _ _ _ _ p.1 p.2 h);
+      full = λ h. c.in_err-request-in-Ask.ensures.full (fault_passed _ _ _ _ p.1 p.2 h);
       limits = λ h. c.ask.ensures.limits (inv.limits h);
       no_limit = λ off. either_noted c.loop-candidates.search.limits_met c.ask.new.search.limits_met (inv.noted off)
           (λ before now. conflict_up m w c.args.depth path x (m.goal_of c.loop-candidates.cx c.in-Ask.input) c.args.entry.step_kind c.in-Ask.step_kind c.loop-candidates.dependencies.encountered_overflow c.loop-candidates.dependencies.lowest c.loop-candidates.dependencies.heads.items inv.running.heard
@@ -726,8 +759,9 @@ run_once-loop-candidates-preserved-in-Ask g t c =
       cache = AreCached-later m c.ask.new.cx c.hear.new.cx c.ask.new.cache.entries.items c.hear.ensures.keeps c.ask.ensures.cache;
       goals = λ x n h. c.ask.ensures.goals x n (inv.goals x n h);
       results = λ p x h. c.ask.ensures.results p x (inv.results p x h);
-      range = in_range_gather c.ask.new.cache.entries.items c.loop-candidates.dependencies.nested_goals nested.dependencies.nested_goals c.hear.new.dependencies.nested_goals c.in_ok-request-in-Ask.ensures.goals c.in_ok-request-in-Ask.ensures.cached c.in_ok-request-in-Ask.ensures.span
-          (in_range_later c.loop-candidates.cache.entries.items c.ask.new.cache.entries.items c.loop-candidates.dependencies.nested_goals c.ask.ensures.results inv.range) c.in_ok-nested-in-Ask.ensures.range;
+      asked_before = λ p x h. c.ask.ensures.asked_before p x (inv.asked_before p x h);
+      range = in_range_gather c.ask.new.cache.asked.items c.loop-candidates.dependencies.nested_goals nested.dependencies.nested_goals c.hear.new.dependencies.nested_goals c.in_ok-request-in-Ask.ensures.goals c.in_ok-request-in-Ask.ensures.cached c.in_ok-request-in-Ask.ensures.span
+          (in_range_later c.loop-candidates.cache.asked.items c.ask.new.cache.asked.items c.loop-candidates.dependencies.nested_goals c.ask.ensures.asked_before inv.range) c.in_ok-nested-in-Ask.ensures.range;
       depth = depth_gathered c.loop-candidates.dependencies.encountered_overflow nested.dependencies.encountered_overflow c.hear.new.dependencies.encountered_overflow c.loop-candidates.dependencies.required_depth nested.dependencies.required_depth c.hear.new.dependencies.required_depth c.args.depth
           c.in_ok-request-in-Ask.ensures.overflow c.in_ok-request-in-Ask.ensures.depth inv.depth c.in_ok-nested-in-Ask.ensures.depth;
       stack = c.in_ok-nested-in-Ask.ensures.stack ∙ inv.stack;
@@ -791,6 +825,7 @@ run_once-returns-in_err-nested-in-Ask g t c =
     let request = asked_now m w (question_of m first c.args.entry ∷ path) x c.loop-candidates.dependencies.lowest c.loop-candidates.cx c.loop-candidates.frame c.loop-candidates.request (Evaluate c.in-Ask.input c.in-Ask.step_kind) asks.0 inv.keeps.world inv.running in
     let pushed = IsStack-push m w [] first es c.args.entry c.requires.stack c.requires.entry in
     let claim = rw (inv.keeps.world, path-now m first c.loop-candidates.cx (es ++ c.args.entry ∷ []) c.loop-candidates.search.stack.items inv.keeps inv.stack pushed, path_onto-append m first es (c.args.entry ∷ []) []) at c.in_err-nested-in-Ask.ensures.no_conflict in
+    let given_up = rw (inv.keeps.world, path-now m first c.loop-candidates.cx (es ++ c.args.entry ∷ []) c.loop-candidates.search.stack.items inv.keeps inv.stack pushed, path_onto-append m first es (c.args.entry ∷ []) []) at c.in_err-nested-in-Ask.ensures.exhausted in
     let law = g.met.D.Delegate.lawful in
     let limit : ℕ = max g.D.Delegate.FIXPOINT_STEP_LIMIT 1 in
     let fair = law.asks_fair w x (m.goal_of c.loop-candidates.cx c.in-Ask.input) c.in-Ask.step_kind inv.running.heard inv.running.fair (sym request) in
@@ -802,6 +837,7 @@ run_once-returns-in_err-nested-in-Ask g t c =
       cache = c.ask.ensures.cache;
       goals = λ x n h. c.ask.ensures.goals x n (c.loop-candidates.invariant.goals x n h);
       results = λ p x h. c.ask.ensures.results p x (c.loop-candidates.invariant.results p x h);
+      asked_before = λ p x h. c.ask.ensures.asked_before p x (c.loop-candidates.invariant.asked_before p x h);
       range = IfOk-err _ _ _ p.1;
       depth = IfOk-err _ _ _ p.1;
       entry = IfOk-err _ _ _ p.1;
@@ -810,6 +846,8 @@ run_once-returns-in_err-nested-in-Ask g t c =
       faithful = IfOk-err _ _ _ p.1;
       no_conflict = λ h. conflict_up m w c.args.depth path x (m.goal_of c.loop-candidates.cx c.in-Ask.input) c.args.entry.step_kind c.in-Ask.step_kind c.loop-candidates.dependencies.encountered_overflow c.loop-candidates.dependencies.lowest c.loop-candidates.dependencies.heads.items inv.running.heard
           (sym request) inv.plain (claim (err_passed _ _ _ _ p.1 p.2 h));
+      exhausted = λ h. conflict_up m w c.args.depth path x (m.goal_of c.loop-candidates.cx c.in-Ask.input) c.args.entry.step_kind c.in-Ask.step_kind c.loop-candidates.dependencies.encountered_overflow c.loop-candidates.dependencies.lowest c.loop-candidates.dependencies.heads.items inv.running.heard
+          (sym request) inv.plain (given_up (err_passed _ _ _ _ p.1 p.2 h));
       protocol = let claim = rw inv.keeps.world at c.in_err-nested-in-Ask.ensures.protocol in λ h. below inv.running.hears (sym request) (claim (err_passed _ _ _ _ p.1 p.2 h));
       conflict = λ h. c.in_err-nested-in-Ask.ensures.conflict (err_passed _ _ _ _ p.1 p.2 h);
       frames = λ width h. asked_within c.args.search.now.frames c.loop-candidates.search.frames c.ask.new.search.frames (question_bound limit width c.args.depth) (answer_count m inv.running.heard) (m.number_of w x) width
@@ -839,6 +877,7 @@ run_once-loop-candidates-init g t c =
       cache = AreCached-later m first c.start_run.new.cx c.args.cache.now.entries.items keeps c.requires.cache;
       goals = λ x n h. h;
       results = λ p x h. h;
+      asked_before = λ p x h. h;
       range = c.requires.nested;
       depth = c.requires.depth;
       stack = c.in_ok-frame.ensures.stack;
@@ -871,20 +910,22 @@ run_once-returns-in_err-turn g t c =
       cache = inv.cache;
       goals = inv.goals;
       results = inv.results;
+      asked_before = inv.asked_before;
       range = IfOk-err _ _ _ p.1;
       depth = IfOk-err _ _ _ p.1;
       entry = IfOk-err _ _ _ p.1;
       low = IfOk-err _ _ _ p.1;
       provisional = IfOk-err _ _ _ p.1;
       faithful = IfOk-err _ _ _ p.1;
-      no_conflict = λ h. absurd {A = IsNotPlainOver g.D.Delegate.meaning c.args.cx.now c.args.search.now.stack.items c.args.entry.input (c.args.depth + 1)} (c.in_err-turn.ensures.no_conflict (err_passed _ _ _ _ p.1 p.2 h));
+      no_conflict = λ h. absurd {A = IsNotPlainOver g.D.Delegate.meaning c.args.cx.now c.args.search.now.stack.items c.args.entry.input (c.args.depth + 1)} (c.in_err-turn.ensures.no_conflict (fault_passed _ _ _ _ p.1 p.2 h));
+      exhausted = λ h. absurd {A = IsNotPlainOver g.D.Delegate.meaning c.args.cx.now c.args.search.now.stack.items c.args.entry.input (c.args.depth + 1)} (fault_goes_on _ _ _ p.1 p.2 h);
       protocol = λ h.
-          let told = c.in_err-turn.ensures.protocol (err_passed _ _ _ _ p.1 p.2 h) in
+          let told = c.in_err-turn.ensures.protocol (fault_passed _ _ _ _ p.1 p.2 h) in
           misstep_now m w (question_of m first c.args.entry ∷ path) x c.loop-candidates.dependencies.lowest c.loop-candidates.cx c.loop-candidates.frame c.loop-candidates.request c.loop-candidates.request refl inv.keeps.world inv.running
           (λ o. told (in_order_in_turn m w x inv.running.heard c.loop-candidates.cx c.loop-candidates.candidates.open c.loop-candidates.candidates.open c.loop-candidates.candidates.finished.items c.loop-candidates.candidates.finished.items inv.opened inv.listed c.loop-candidates.request o));
-      conflict = λ h. absurd {A = HasConflict g.D.Delegate.meaning c.loop-candidates.cx (known_results c.loop-candidates.cache.entries.items)} (c.in_err-turn.ensures.no_conflict (err_passed _ _ _ _ p.1 p.2 h));
+      conflict = λ h. absurd {A = HasConflict g.D.Delegate.meaning c.loop-candidates.cx (known_results c.loop-candidates.cache.entries.items)} (c.in_err-turn.ensures.no_conflict (fault_passed _ _ _ _ p.1 p.2 h));
       frames = λ width h. done_within c.args.search.now.frames c.loop-candidates.search.frames (question_bound limit width c.args.depth) (answer_count m inv.running.heard) (m.number_of w x) width (inv.frames width h) inv.running.count h;
-      full = λ h. absurd (c.in_err-turn.ensures.room (err_passed _ _ _ _ p.1 p.2 h));
+      full = λ h. absurd (c.in_err-turn.ensures.room (fault_passed _ _ _ _ p.1 p.2 h));
       limits = inv.limits;
       no_limit = c.loop-candidates.invariant.noted;
       within = IfOk-err _ _ _ p.1;
@@ -954,6 +995,7 @@ run_once-loop-candidates-preserved g t c =
       cache = AreCached-later m c.loop-candidates.cx c.step.new.cx c.loop-candidates.cache.entries.items c.step.ensures.keeps inv.cache;
       goals = inv.goals;
       results = inv.results;
+      asked_before = inv.asked_before;
       range = inv.range;
       depth = inv.depth;
       stack = inv.stack;
@@ -1053,6 +1095,10 @@ pub run_once-returns-in-End-clause-results : goal.run_once-returns-in-End-clause
 run_once-returns-in-End-clause-results g t c =
     c.loop-candidates.invariant.results
 
+pub run_once-returns-in-End-clause-asked_before : goal.run_once-returns-in-End-clause-asked_before
+run_once-returns-in-End-clause-asked_before g t c =
+    c.loop-candidates.invariant.asked_before
+
 pub run_once-returns-in-End-clause-no_conflict : goal.run_once-returns-in-End-clause-no_conflict
 run_once-returns-in-End-clause-no_conflict g t c =
     λ h. absurd {A = IsNotPlainOver g.D.Delegate.meaning c.args.cx.now c.args.search.now.stack.items c.args.entry.input (c.args.depth + 1)} (ok_not_err _ _ h)
@@ -1120,6 +1166,10 @@ pub evaluate_new-returns-in_err-answer-clause-results : goal.evaluate_new-return
 evaluate_new-returns-in_err-answer-clause-results g t c =
     c.loop-run.invariant.results
 
+pub evaluate_new-returns-in_err-answer-clause-asked_before : goal.evaluate_new-returns-in_err-answer-clause-asked_before
+evaluate_new-returns-in_err-answer-clause-asked_before g t c =
+    c.loop-run.invariant.asked_before
+
 pub evaluate_new-returns-in_err-answer-clause-limits : goal.evaluate_new-returns-in_err-answer-clause-limits
 evaluate_new-returns-in_err-answer-clause-limits g t c =
     λ h. refl
@@ -1175,6 +1225,10 @@ run_once-returns-in_err-request-in-Tell-clause-goals g t c =
 pub run_once-returns-in_err-request-in-Tell-clause-results : goal.run_once-returns-in_err-request-in-Tell-clause-results
 run_once-returns-in_err-request-in-Tell-clause-results g t c =
     c.loop-candidates.invariant.results
+
+pub run_once-returns-in_err-request-in-Tell-clause-asked_before : goal.run_once-returns-in_err-request-in-Tell-clause-asked_before
+run_once-returns-in_err-request-in-Tell-clause-asked_before g t c =
+    c.loop-candidates.invariant.asked_before
 
 pub run_once-returns-in_err-request-in-Tell-clause-limits : goal.run_once-returns-in_err-request-in-Tell-clause-limits
 run_once-returns-in_err-request-in-Tell-clause-limits g t c =

@@ -30,7 +30,8 @@ invariant-evaluate_new-loop-run g l =
       cache : AreCached m (m.world l.cx) l.cx l.cache.entries.items;
       goals : KeepsNumbers g.D.Cx.Input.PartialEq.eq l.fn.cache.goals.keys l.cache.goals.keys;
       results : KeepsResults l.fn.cache.entries.items l.cache.entries.items;
-      range : AreInRange l.cache.entries.items l.dependencies.nested_goals;
+      asked_before : KeepsResults l.fn.cache.asked.items l.cache.asked.items;
+      range : AreInRange l.cache.asked.items l.dependencies.nested_goals;
       depth : l.dependencies.encountered_overflow ≡ false → l.dependencies.required_depth ≤ l.depth;
       stack : l.search.stack.items ≡ l.fn.search.stack.items;
       span : l.entry.span ≡ covered (span_of_newest l.fn.search.stack.items) (one_goal l.entry.number);
@@ -59,7 +60,8 @@ invariant-run_once-loop-candidates g l =
       cache : AreCached m (m.world l.cx) l.cx l.cache.entries.items;
       goals : KeepsNumbers g.D.Cx.Input.PartialEq.eq l.fn.cache.goals.keys l.cache.goals.keys;
       results : KeepsResults l.fn.cache.entries.items l.cache.entries.items;
-      range : AreInRange l.cache.entries.items l.dependencies.nested_goals;
+      asked_before : KeepsResults l.fn.cache.asked.items l.cache.asked.items;
+      range : AreInRange l.cache.asked.items l.dependencies.nested_goals;
       depth : l.dependencies.encountered_overflow ≡ false → l.dependencies.required_depth ≤ l.depth;
       stack : l.search.stack.items ≡ l.fn.search.stack.items ++ l.fn.entry ∷ [];
       room : l.dependencies.lowest ≤ length l.fn.search.stack.items;

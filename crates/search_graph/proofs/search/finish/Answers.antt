@@ -1,8 +1,8 @@
 use Rattle.std.proofs.Common.{◌≡◌, ◌∙◌, ◌∷◌, ◌++◌, [], ap, inl, inr, slice_get, Some, arith}
 use Rattle.std.proofs.lemmas.Result.{err_from_is_err_and}
 use Rattle.search_graph.proofs.Errors.{err_passed}
-use Rattle.search_graph.specs.Nested.{covered, no_goal}
-use Rattle.search_graph.specs.Chain.{range_of}
+use Rattle.search_graph.specs.declared.cache.Asked.{Asked}
+use Rattle.search_graph.specs.Nested.{covered, no_goal, one_goal}
 use Rattle.search_graph.proofs.Ranges.{at_end, in_range_cached, in_range_goal}
 use Rattle.search_graph.proofs.search.finish.Goals as goal
 use Rattle.search_graph.proofs.search.finish.Goals.{then-encountered_overflow, else-encountered_overflow}
@@ -14,23 +14,23 @@ insert-requires-clause-kept g c = λ limit h n b within p.
       | else-encountered_overflow w ↦ c.requires.kept c.if-lowest-index.true limit (inr w.if-encountered_overflow.false) n b within p
     ]
 
-pub returns-in_err-place-clause-no_conflict : goal.returns-in_err-place-clause-no_conflict
-returns-in_err-place-clause-no_conflict g c =
+pub returns-in_err-asked-clause-no_conflict : goal.returns-in_err-asked-clause-no_conflict
+returns-in_err-asked-clause-no_conflict g c =
     let p = err_from_is_err_and c.from_residual.result c.from_residual.ensures.1 in
-    λ h limit l. c.in_err-place.ensures.no_conflict (err_passed _ _ _ _ p.1 p.2 h) limit
+    λ h limit l. c.in_err-asked.ensures.no_conflict (err_passed _ _ _ _ p.1 p.2 h) limit
     (elim c.if-encountered_overflow.branch [
       | then-encountered_overflow w ↦ inl (rw w.kept_depth-is l)
       | else-encountered_overflow w ↦ inr w.if-encountered_overflow.false
     ])
 
-pub returns-in_err-place-clause-conflict : goal.returns-in_err-place-clause-conflict
-returns-in_err-place-clause-conflict g c =
+pub returns-in_err-asked-clause-conflict : goal.returns-in_err-asked-clause-conflict
+returns-in_err-asked-clause-conflict g c =
     let p = err_from_is_err_and c.from_residual.result c.from_residual.ensures.1 in
-    λ h. c.in_err-place.ensures.conflict (err_passed _ _ _ _ p.1 p.2 h)
+    λ h. c.in_err-asked.ensures.conflict (err_passed _ _ _ _ p.1 p.2 h)
 
 pub returns-then-lowest-index-clause-kept : goal.returns-then-lowest-index-clause-kept
 returns-then-lowest-index-clause-kept g c = λ h.
-    let kept = c.in_ok-place.ensures.kept in (
+    let kept = c.in_ok-asked.ensures.kept in (
       kept.0,
       kept.1,
       kept.2,
@@ -44,36 +44,36 @@ returns-then-lowest-index-clause-kept g c = λ h.
       kept.7,
     )
 
-pub returns-in_err-place-clause-err : goal.returns-in_err-place-clause-err
-returns-in_err-place-clause-err g c =
+pub returns-in_err-asked-clause-err : goal.returns-in_err-asked-clause-err
+returns-in_err-asked-clause-err g c =
     let p = err_from_is_err_and c.from_residual.result c.from_residual.ensures.1 in
-    rw p.1 (inl c.in_err-place.ensures.err)
+    rw p.1 (inl c.in_err-asked.ensures.err)
 
 pub returns-in_err-add_cached-clause-err : goal.returns-in_err-add_cached-clause-err
 returns-in_err-add_cached-clause-err g c =
     let p = err_from_is_err_and c.from_residual-in_err-add_cached.result c.from_residual-in_err-add_cached.ensures.1 in
-    let kept = c.in_ok-place.ensures.kept in
+    let kept = c.in_ok-asked.ensures.kept in
     rw p.1 (inr (kept.0, kept.1))
 
 pub returns-then-lowest-index-clause-range : goal.returns-then-lowest-index-clause-range
 returns-then-lowest-index-clause-range g c =
-    let kept = c.in_ok-place.ensures.kept in
-    let old = c.args.cache.now.entries.items in
-    let at : slice_get (c.args.cache.now.entries.items ++ c.in_ok-place.ensures.kept.0 ∷ []) c.in_ok-place.place ≡ Some c.in_ok-place.ensures.kept.0 = rw c.in_ok-place.ensures.place (at_end old kept.0) in
-    let span : c.cover-span.result ≡ range_of c.in_ok-place.ensures.kept.0 = rw (kept.6, kept.7) (c.cover-span.ensures.is ∙ ap (covered c.args.evaluation.dependencies.nested_goals.span) c.of.ensures.is) in
-    in_range_cached c.insert.new.self.entries.items c.add_cached.new.self c.in_ok-place.place kept.0 (rw kept.1 at)
+    let nested = c.args.evaluation.dependencies.nested_goals in
+    let here : Asked = record { number = c.args.number; nested_goals = nested } in
+    let at : slice_get c.insert.new.self.asked.items c.in_ok-asked.asked ≡ Some here = rw (c.in_ok-asked.ensures.recorded, c.in_ok-asked.ensures.place) (at_end c.args.cache.now.asked.items here) in
+    let span : c.cover-span.result ≡ covered c.args.evaluation.dependencies.nested_goals.span (one_goal c.args.number) = c.cover-span.ensures.is ∙ ap (covered nested.span) c.of.ensures.is in
+    in_range_cached c.insert.new.self.asked.items c.add_cached.new.self c.in_ok-asked.asked here at
     (ap (λ v. v.items) c.add_cached.ensures.goals ∙ c.new-nested_goals.ensures.goals)
-    (c.in_ok-add_cached.ensures.added ∙ ap (λ xs. xs ++ c.in_ok-place.place ∷ []) c.new-nested_goals.ensures.cached)
+    (c.in_ok-add_cached.ensures.added ∙ ap (λ xs. xs ++ c.in_ok-asked.asked ∷ []) c.new-nested_goals.ensures.cached)
     (c.in_ok-add_cached.ensures.span ∙ ap (λ s. covered s c.cover-span.result) c.new-nested_goals.ensures.span ∙ ap (covered no_goal) span)
 
 pub returns-clause-range : goal.returns-clause-range
-returns-clause-range g c = in_range_goal c.args.cache.now.entries.items c.args.evaluation.dependencies.nested_goals c.add_goal.new.self c.args.number
+returns-clause-range g c = in_range_goal c.args.cache.now.asked.items c.args.evaluation.dependencies.nested_goals c.add_goal.new.self c.args.number
     c.in_ok-add_goal.ensures.added (ap (λ v. v.items) c.add_goal.ensures.cached) c.in_ok-add_goal.ensures.span c.requires.nested
 
 pub returns-then-lowest-index-clause-found : goal.returns-then-lowest-index-clause-found
 returns-then-lowest-index-clause-found g c = λ h. (
   ap (λ v. v.items) c.add_cached.ensures.goals ∙ c.new-nested_goals.ensures.goals,
-  c.in_ok-add_cached.ensures.added ∙ ap (λ xs. xs ++ c.in_ok-place.place ∷ []) c.new-nested_goals.ensures.cached ∙ ap (λ p. p ∷ []) c.in_ok-place.ensures.place,
+  c.in_ok-add_cached.ensures.added ∙ ap (λ xs. xs ++ c.in_ok-asked.asked ∷ []) c.new-nested_goals.ensures.cached ∙ ap (λ p. p ∷ []) c.in_ok-asked.ensures.place,
 )
 
 pub returns-then-lowest-index-clause-unkept : goal.returns-then-lowest-index-clause-unkept
@@ -94,23 +94,32 @@ returns-then-lowest-index-clause-cache g c = c.insert.ensures.cache
 pub returns-in_err-add_cached-clause-results : goal.returns-in_err-add_cached-clause-results
 returns-in_err-add_cached-clause-results g c = c.insert.ensures.results
 
+pub returns-then-lowest-index-clause-asked_before : goal.returns-then-lowest-index-clause-asked_before
+returns-then-lowest-index-clause-asked_before g c = c.insert.ensures.asked
+
+pub returns-in_err-add_cached-clause-asked_before : goal.returns-in_err-add_cached-clause-asked_before
+returns-in_err-add_cached-clause-asked_before g c = c.insert.ensures.asked
+
+pub returns-in_err-asked-clause-asked_before : goal.returns-in_err-asked-clause-asked_before
+returns-in_err-asked-clause-asked_before g c = c.insert.ensures.asked
+
 pub returns-in_err-add_cached-clause-goals : goal.returns-in_err-add_cached-clause-goals
 returns-in_err-add_cached-clause-goals g c = c.insert.ensures.goals
 
 pub returns-in_err-add_cached-clause-cache : goal.returns-in_err-add_cached-clause-cache
 returns-in_err-add_cached-clause-cache g c = c.insert.ensures.cache
 
-pub returns-in_err-place-clause-results : goal.returns-in_err-place-clause-results
-returns-in_err-place-clause-results g c = c.insert.ensures.results
+pub returns-in_err-asked-clause-results : goal.returns-in_err-asked-clause-results
+returns-in_err-asked-clause-results g c = c.insert.ensures.results
 
-pub returns-in_err-place-clause-goals : goal.returns-in_err-place-clause-goals
-returns-in_err-place-clause-goals g c = c.insert.ensures.goals
+pub returns-in_err-asked-clause-goals : goal.returns-in_err-asked-clause-goals
+returns-in_err-asked-clause-goals g c = c.insert.ensures.goals
 
-pub returns-in_err-place-clause-cache : goal.returns-in_err-place-clause-cache
-returns-in_err-place-clause-cache g c = c.insert.ensures.cache
+pub returns-in_err-asked-clause-cache : goal.returns-in_err-asked-clause-cache
+returns-in_err-asked-clause-cache g c = c.insert.ensures.cache
 
 pub returns-then-lowest-index-clause-within : goal.returns-then-lowest-index-clause-within
-returns-then-lowest-index-clause-within g c = c.in_ok-place.ensures.within
+returns-then-lowest-index-clause-within g c = c.in_ok-asked.ensures.within
 
 pub returns-clause-asked : goal.returns-clause-asked
 returns-clause-asked g c = λ less. (c.in_ok-add_goal.ensures.added, c.add_goal.ensures.cached)

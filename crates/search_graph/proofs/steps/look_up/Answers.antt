@@ -10,7 +10,7 @@ use_cached-requires-clause-place g c =
     (found.0, found.1, found.2.same, found.2.within.0)
 
 pub returns-in_ok-cached-in-Some-clause-range : goal.returns-in_ok-cached-in-Some-clause-range
-returns-in_ok-cached-in-Some-clause-range g c = rw c.number_of.ensures.entries at c.in_ok-cached-in-Some.ensures.range
+returns-in_ok-cached-in-Some-clause-range g c = rw c.number_of.ensures.asked at c.in_ok-cached-in-Some.ensures.range
 
 pub returns-in_ok-cached-in-Some-clause-depth : goal.returns-in_ok-cached-in-Some-clause-depth
 returns-in_ok-cached-in-Some-clause-depth g c = λ off.
@@ -32,13 +32,14 @@ returns-in-None-clause-found g c = λ place e at same within clear.
     let eq = g.D.Cx.Input.PartialEq.eq in
     let none = rw c.in-None.is at c.in_ok-place.ensures.none in
     let items : c.number_of.new.self.entries.items ≡ c.args.cache.now.entries.items = ap (λ v. v.items) c.number_of.ensures.entries in
+    let listed : c.number_of.new.self.asked.items ≡ c.args.cache.now.asked.items = ap (λ v. v.items) c.number_of.ensures.asked in
     let there : slice_get c.number_of.new.self.entries.items place ≡ Some e = rw items at in
     let number = subst (λ i. IsNumberOf eq c.number_of.new.self.goals.keys i e.number) same (c.number_of.new.self.numbered place e there) in
     absurd (none place e there (record {
       numbered = one_number eq c.number_of.new.self.goals.keys c.args.input.now e.number c.in_ok-number.number number c.in_ok-number.ensures.place;
       same = same;
       within = within;
-      clear = λ asked under on. clear asked (subst (λ es. IsAskedUnder es place asked) items under) on;
+      clear = λ asked under on. clear asked (subst (λ es. IsAskedUnder es e.asked asked) listed under) on;
     }))
 
 pub use_cached-requires-clause-cache : goal.use_cached-requires-clause-cache

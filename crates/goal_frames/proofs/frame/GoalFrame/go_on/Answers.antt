@@ -3,9 +3,9 @@ use Rattle.type_terms.specs.Failures.{SomeKindIsFull}
 use Rattle.infer_table.specs.Inputs.{form_of}
 use Rattle.infer_table.proofs.FullFacts.{handed-on}
 use Rattle.evaluation.specs.Readings.{StepHeld}
-use Rattle.goal_frames.specs.Readings.{shown_by}
+use Rattle.evaluation.specs.StepReadings.{shown_by}
 use Rattle.goal_frames.specs.Fitting.{StepFits}
-use Rattle.goal_frames.specs.Places.{IsIgnoring, place_read}
+use Rattle.goal_frames.specs.Places.{IsIgnoring}
 use Rattle.goal_frames.specs.Shortages.{NextRunsOut}
 use Rattle.goal_frames.specs.declared.frame.Place.TheVariants.{Entering}
 use Rattle.goal_frames.proofs.GoingOn.{ComesNext, considers-next, answers-next, refuses-next}
@@ -47,8 +47,8 @@ returns-in-Answer-clause-asks g c =
     let i =
     answers-next h new (map (shown_by old) f.considered.items) c.in-Answer.response c.in-Answer.ignored p
     (subst (ComesNext h new (map (shown_by old) f.considered.items)) c.in-Answer.is (rw (← c.deref.ensures.value) c.in_ok-spec.ensures.next)) b in
-    let o = c.ignore_from.ensures.asks new f.goal.mode h.coinductive p i in
-    (o.0, answers-stand h _ (place_read new h.coinductive c.ignore_from.new.self.place) p o.1)
+    let o = c.ignore_from.ensures.asks new f.goal.mode p i in
+    (o.0, answers-stand h new c.ignore_from.new.self.goal (map (shown_by new) c.ignore_from.new.self.considered.items) c.ignore_from.new.self.place p o.1)
 
 pub returns-in-NoSolution-clause-held : goal.returns-in-NoSolution-clause-held
 returns-in-NoSolution-clause-held g c =
@@ -67,8 +67,8 @@ returns-in-NoSolution-clause-asks g c =
     let i =
     refuses-next h new (map (shown_by old) f.considered.items) p
     (subst (ComesNext h new (map (shown_by old) f.considered.items)) c.in-NoSolution.is (rw (← c.deref.ensures.value) c.in_ok-spec.ensures.next)) b in
-    let o = c.ignore_from-in-NoSolution.ensures.asks new f.goal.mode h.coinductive p (subst (λ ns. IsIgnoring None ns p) (sym c.new.ensures.items) i) in
-    (o.0, answers-stand h _ (place_read new h.coinductive c.ignore_from-in-NoSolution.new.self.place) p o.1)
+    let o = c.ignore_from-in-NoSolution.ensures.asks new f.goal.mode p (subst (λ ns. IsIgnoring None ns p) (sym c.new.ensures.items) i) in
+    (o.0, answers-stand h new c.ignore_from-in-NoSolution.new.self.goal (map (shown_by new) c.ignore_from-in-NoSolution.new.self.considered.items) c.ignore_from-in-NoSolution.new.self.place p o.1)
 
 pub returns-in_err-spec-clause-full : goal.returns-in_err-spec-clause-full
 returns-in_err-spec-clause-full g c = λ q.

@@ -1,23 +1,25 @@
-use Rattle.std.proofs.Common.{◌≡◌, ◌∙◌, ◌∷◌, ◌+◌, suc, List, ℕ, Option, map, drop, ap, sym, subst, arith}
+use Rattle.std.proofs.Common.{◌≡◌, ◌∙◌, ◌∷◌, ◌+◌, suc, List, ℕ, map, drop, ap, sym, subst, arith}
 use Rattle.infer_table.specs.Inputs.{form_of}
 use Rattle.infer_table.proofs.FullFacts.{or-then}
-use Rattle.infer_table.specs.declared.response.CanonicalResponse.{CanonicalResponse}
-use Rattle.evaluation.specs.Evaluating.{replies_trees}
 use Rattle.evaluation.specs.History.{begin, entered, ignored, evaluated, finished, position, request, CameInOrder}
 use Rattle.evaluation.specs.Promises.{frame_of_goal, Anything}
 use Rattle.evaluation.specs.declared.candidate.Considered.{Considered}
 use Rattle.evaluation.specs.Tables.{frame_tables}
-use Rattle.goal_frames.specs.Readings.{shown_by, spec_read, result_read}
-use Rattle.goal_frames.specs.Places.{Standing, Stands, IsBetween, IsInside, IsIgnoring, place_read}
-use Rattle.goal_frames.specs.Frames.{FrameHeld, PlaceHeld, RequestHeld, IsRequest, Steps, reply_read}
+use Rattle.evaluation.specs.StepReadings.{shown_by, result_read}
+use Rattle.goal_frames.specs.Places.{Standing, Stands, IsBetween, IsIgnoring}
+use Rattle.goal_frames.specs.Frames.{History, FrameHeld, HasHeard, PlaceHeld, RequestHeld, IsReply, IsRequest, IsDue, Steps, reply_read}
+use Rattle.goal_frames.specs.Steps.{AsksFewer}
+use Rattle.goal_frames.specs.declared.frame.Place.{Place}
 use Rattle.search_graph.specs.declared.delegate.Reply.TheVariants as Replied
-use Rattle.evaluation.specs.Shortages.{CandidateRunsOut}
-use Rattle.evaluation.specs.Trial.{spec_trees}
 use Rattle.goal_frames.specs.Shortages.{NextRunsOut}
 use Rattle.goal_frames.specs.declared.frame.Place.TheVariants as InCode
 use Rattle.goal_frames.proofs.Held.{answers-stand}
 use Rattle.goal_frames.proofs.Shortages.{runs-out-there}
-use Rattle.goal_frames.proofs.Stepping.{both-ok, shown-more, replies-more, steps-to, begun-there, inside-there, hears-there, finishes-there, ignores-there, begun-waits, entering-waits, inside-waits, finishing-waits, ignoring-waits, over-waits}
+use Rattle.goal_frames.proofs.Stepping.{both-ok, shown-more, steps-to, begun-there, inside-there, hears-there, finishes-there, ignores-there, begun-waits, entering-waits, inside-waits, finishing-waits, ignoring-waits, over-waits}
+use Rattle.goal_frames.proofs.Opened.{goes-at, begun-comes, resumed-comes, open-held, open-steps, entered-fewer, resumed-fewer, closed-fewer}
+use Rattle.goal_frames.proofs.Running.{result-fits}
+use Rattle.std.specs.Prelude.{IfOk}
+use Rattle.type_terms.specs.declared.Fault.TheVariants.{Full}
 use Rattle.goal_frames.proofs.frame.GoalFrame.step.Goals as goal
 use Rattle.goal_frames.proofs.frame.GoalFrame.step.Goals.{in_default-via-in-Begun+in_default, in_default-via-in-Entering+in_default, in_default-via-in-Inside+in_default, in_default-via-in-Finishing+in_default, in_default-via-in-Ignoring+in_default, in_default-via-in_default}
 
@@ -73,57 +75,125 @@ returns-in-Begun-Begin-clause-steps g c =
     let f = c.args.self.now in
     let after = c.go_on.new.self in
     let h = g.H.GoalHandler.handled (g.H.GoalHandler.meaning c.args.handler.now es) f.goal.mode (form_of es f.goal) in
-    both-ok (λ q. FrameHeld new after × RequestHeld new q) (λ q. (p : Standing) → IsBetween h (map (shown_by es) f.considered.items) p → IsRequest f.goal.mode new q (request p) × Stands h (map (shown_by new) after.considered.items) (place_read new h.coinductive after.place) p)
+    both-ok (λ q. FrameHeld new after × RequestHeld new q) (λ q. (p : Standing) → IsBetween h (map (shown_by es) f.considered.items) p → IsRequest f.goal.mode new q (request p) × Stands h new after.goal (map (shown_by new) after.considered.items) after.place p)
     (Steps es h f (reply_read es c.args.reply) new after) c.go_on.result
     (λ q held asks.
     subst (λ r. Steps es h f (reply_read es r) new after q) (sym c.in-Begun-Begin.is-1)
     (steps-to h es new f after begin q (λ heard b o. asks (position (frame_of_goal frame_tables h) (begin ∷ heard)) (begun-there h es f heard b (sym c.replace.ensures.value ∙ c.in-Begun-Begin.is-0))) held.0))
     c.go_on.ensures.held c.go_on.ensures.asks
 
+-- ---- the open candidate
+pub begin_candidate-step-requires : goal.begin_candidate-step-requires
+begin_candidate-step-requires g c =
+    let es = c.args.cx.now.entries in
+    let f = c.args.self.now in
+    record { spec = (subst (PlaceHeld f.goal es) (sym c.replace.ensures.value ∙ c.in-Entering-Entered.is-0) c.requires.due.1.held.place).0 }
+
+pub resume-step-requires : goal.resume-step-requires
+resume-step-requires g c =
+    let es = c.args.cx.now.entries in
+    let f = c.args.self.now in
+    let x = c.in-Inside-Result in
+    record {
+      held = subst (PlaceHeld f.goal es) (sym c.replace.ensures.value ∙ x.is-0) c.requires.due.1.held.place;
+      reply = (subst (IsReply es) x.is-1 c.requires.reply).0;
+    }
+
+pub returns-in-Entering-Entered-clause-held : goal.returns-in-Entering-Entered-clause-held
+returns-in-Entering-Entered-clause-held g c =
+    let es = c.args.cx.now.entries in
+    let new = c.begin_candidate-step.new.cx.entries in
+    let f = c.args.self.now in
+    let after = c.go_on_with.new.self in
+    let m = g.H.GoalHandler.meaning c.args.handler.now es in
+    let h = g.H.GoalHandler.handled m f.goal.mode (form_of es f.goal) in
+    let x = c.in-Entering-Entered in
+    let step = c.begin_candidate-step in
+    let is = sym c.replace.ensures.value ∙ x.is-0 in
+    let held = c.requires.due.1.held in
+    let moving : FrameHeld es (record f { place = c.replace.new.dest }) = record { goal = held.goal; considered = held.considered; fits = held.fits; place = subst (PlaceHeld f.goal es) (sym c.replace.ensures.after) tt } in
+    let due = subst (λ r. IsDue es h f (reply_read es r)) x.is-1 c.requires.due in
+    let came = λ (heard : History) (b : HasHeard es h f heard) (o : CameInOrder (Anything frame_tables h) (frame_of_goal frame_tables h) (entered ∷ heard)).
+    begun-comes h f.goal (map (shown_by es) f.considered.items) new step.result es x.spec (subst (PlaceHeld f.goal es) is held.place).1 step.ensures.stands step.ensures.later
+    (position (frame_of_goal frame_tables h) (entered ∷ heard)) (inside-there h es f heard b x.spec is) in
+    open-held h es new step.ensures.keeps f c.replace.new.dest after x.spec.source step.result entered due came moving step.ensures.held c.go_on_with.result (goes-at _ es new c.go_on_with.result c.go_on_with.ensures.goes_on)
+
 pub returns-in-Entering-Entered-clause-steps : goal.returns-in-Entering-Entered-clause-steps
 returns-in-Entering-Entered-clause-steps g c =
     let es = c.args.cx.now.entries in
-    let new = c.run.new.cx.entries in
+    let new = c.begin_candidate-step.new.cx.entries in
     let f = c.args.self.now in
-    let after = c.run.new.self in
-    let h = g.H.GoalHandler.handled (g.H.GoalHandler.meaning c.args.handler.now es) f.goal.mode (form_of es f.goal) in
-    let s = c.in-Entering-Entered.spec in
-    let rs = c.new.result in
-    both-ok (λ q. FrameHeld new after × RequestHeld new q)
-    (λ q. (p : Standing) → IsInside h (map (shown_by es) f.considered.items) (spec_read es h.coinductive s) (replies_trees es rs.items) p → IsRequest f.goal.mode new q (request p) × Stands h (map (shown_by new) after.considered.items) (place_read new h.coinductive after.place) p)
-    (Steps es h f (reply_read es c.args.reply) new after) c.run.result
-    (λ q held asks.
-    subst (λ r. Steps es h f (reply_read es r) new after q) (sym c.in-Entering-Entered.is-1)
-    (steps-to h es new f after entered q
-    (λ heard b o.
-    let p = position (frame_of_goal frame_tables h) (entered ∷ heard) in
-    asks p
-    (subst (λ (xs : List (Option CanonicalResponse)). IsInside h (map (shown_by es) f.considered.items) (spec_read es h.coinductive s) (replies_trees es xs) p) (sym c.new.ensures.items)
-    (inside-there h es f heard b s (sym c.replace.ensures.value ∙ c.in-Entering-Entered.is-0)))) held.0))
-    c.run.ensures.held c.run.ensures.asks
+    let after = c.go_on_with.new.self in
+    let m = g.H.GoalHandler.meaning c.args.handler.now es in
+    let h = g.H.GoalHandler.handled m f.goal.mode (form_of es f.goal) in
+    let x = c.in-Entering-Entered in
+    let step = c.begin_candidate-step in
+    let is = sym c.replace.ensures.value ∙ x.is-0 in
+    let held = c.requires.due.1.held in
+    let moving : FrameHeld es (record f { place = c.replace.new.dest }) = record { goal = held.goal; considered = held.considered; fits = held.fits; place = subst (PlaceHeld f.goal es) (sym c.replace.ensures.after) tt } in
+    let due = subst (λ r. IsDue es h f (reply_read es r)) x.is-1 c.requires.due in
+    let came = λ (heard : History) (b : HasHeard es h f heard) (o : CameInOrder (Anything frame_tables h) (frame_of_goal frame_tables h) (entered ∷ heard)).
+    begun-comes h f.goal (map (shown_by es) f.considered.items) new step.result es x.spec (subst (PlaceHeld f.goal es) is held.place).1 step.ensures.stands step.ensures.later
+    (position (frame_of_goal frame_tables h) (entered ∷ heard)) (inside-there h es f heard b x.spec is) in
+    subst (λ r. IfOk c.go_on_with.result (Steps es h f (reply_read es r) new after)) (sym x.is-1)
+    (open-steps h es new step.ensures.keeps f c.replace.new.dest after x.spec.source step.result entered due came moving step.ensures.held c.go_on_with.result (goes-at _ es new c.go_on_with.result c.go_on_with.ensures.goes_on))
 
-pub returns-in_ok-push-in-Inside-Result-clause-steps : goal.returns-in_ok-push-in-Inside-Result-clause-steps
-returns-in_ok-push-in-Inside-Result-clause-steps g c =
+pub returns-in-Entering-Entered-clause-fewer : goal.returns-in-Entering-Entered-clause-fewer
+returns-in-Entering-Entered-clause-fewer g c =
+    let x = c.in-Entering-Entered in
+    let step = c.begin_candidate-step in
+    let is = sym c.replace.ensures.value ∙ x.is-0 in
+    entered-fewer c.go_on_with.result x.spec step.result c.args.self.now.place c.go_on_with.new.self.place is step.ensures.most c.go_on_with.ensures.place
+
+pub returns-in-Inside-Result-clause-held : goal.returns-in-Inside-Result-clause-held
+returns-in-Inside-Result-clause-held g c =
     let es = c.args.cx.now.entries in
-    let new = c.run-in-Inside-Result.new.cx.entries in
+    let new = c.resume-step.new.cx.entries in
     let f = c.args.self.now in
-    let after = c.run-in-Inside-Result.new.self in
-    let h = g.H.GoalHandler.handled (g.H.GoalHandler.meaning c.args.handler.now es) f.goal.mode (form_of es f.goal) in
+    let after = c.go_on_with-in-Inside-Result.new.self in
+    let m = g.H.GoalHandler.meaning c.args.handler.now es in
+    let h = g.H.GoalHandler.handled m f.goal.mode (form_of es f.goal) in
     let x = c.in-Inside-Result in
-    let rs = c.push.new.self in
-    both-ok (λ q. FrameHeld new after × RequestHeld new q)
-    (λ q. (p : Standing) → IsInside h (map (shown_by es) f.considered.items) (spec_read es h.coinductive x.spec) (replies_trees es rs.items) p → IsRequest f.goal.mode new q (request p) × Stands h (map (shown_by new) after.considered.items) (place_read new h.coinductive after.place) p)
-    (Steps es h f (reply_read es c.args.reply) new after) c.run-in-Inside-Result.result
-    (λ q held asks.
-    subst (λ r. Steps es h f (reply_read es r) new after q) (sym x.is-1)
-    (steps-to h es new f after (evaluated (result_read es x.answer)) q
-    (λ heard b o.
-    let p = position (frame_of_goal frame_tables h) (evaluated (result_read es x.answer) ∷ heard) in
-    asks p
-    (subst (λ (xs : List (Option CanonicalResponse)). IsInside h (map (shown_by es) f.considered.items) (spec_read es h.coinductive x.spec) (replies_trees es xs) p) (sym c.in_ok-push-in-Inside-Result.ensures.items)
-    (subst (λ xs. IsInside h (map (shown_by es) f.considered.items) (spec_read es h.coinductive x.spec) xs p) (sym (replies-more es x.replies.items x.answer))
-    (hears-there h es f heard b x.spec x.replies (result_read es x.answer) (sym c.replace.ensures.value ∙ x.is-0) o)))) held.0))
-    c.run-in-Inside-Result.ensures.held c.run-in-Inside-Result.ensures.asks
+    let step = c.resume-step in
+    let is = sym c.replace.ensures.value ∙ x.is-0 in
+    let held = c.requires.due.1.held in
+    let moving : FrameHeld es (record f { place = c.replace.new.dest }) = record { goal = held.goal; considered = held.considered; fits = held.fits; place = subst (PlaceHeld f.goal es) (sym c.replace.ensures.after) tt } in
+    let due = subst (λ r. IsDue es h f (reply_read es r)) x.is-1 c.requires.due in
+    let came = λ (heard : History) (b : HasHeard es h f heard) (o : CameInOrder (Anything frame_tables h) (frame_of_goal frame_tables h) (evaluated (result_read es x.answer) ∷ heard)).
+    let there = hears-there h es f heard b x.source x.waiting (result_read es x.answer) is o in
+    resumed-comes h f.goal (map (shown_by es) f.considered.items) new step.result es x.source x.waiting (result_read es x.answer) (position (frame_of_goal frame_tables h) heard) there.0
+    (result-fits es x.answer (subst (IsReply es) x.is-1 c.requires.reply).1) step.ensures.stands step.ensures.later
+    (position (frame_of_goal frame_tables h) (evaluated (result_read es x.answer) ∷ heard)) there.1 in
+    open-held h es new step.ensures.keeps f c.replace.new.dest after x.source step.result (evaluated (result_read es x.answer)) due came moving step.ensures.held c.go_on_with-in-Inside-Result.result (goes-at _ es new c.go_on_with-in-Inside-Result.result c.go_on_with-in-Inside-Result.ensures.goes_on)
+
+pub returns-in-Inside-Result-clause-steps : goal.returns-in-Inside-Result-clause-steps
+returns-in-Inside-Result-clause-steps g c =
+    let es = c.args.cx.now.entries in
+    let new = c.resume-step.new.cx.entries in
+    let f = c.args.self.now in
+    let after = c.go_on_with-in-Inside-Result.new.self in
+    let m = g.H.GoalHandler.meaning c.args.handler.now es in
+    let h = g.H.GoalHandler.handled m f.goal.mode (form_of es f.goal) in
+    let x = c.in-Inside-Result in
+    let step = c.resume-step in
+    let is = sym c.replace.ensures.value ∙ x.is-0 in
+    let held = c.requires.due.1.held in
+    let moving : FrameHeld es (record f { place = c.replace.new.dest }) = record { goal = held.goal; considered = held.considered; fits = held.fits; place = subst (PlaceHeld f.goal es) (sym c.replace.ensures.after) tt } in
+    let due = subst (λ r. IsDue es h f (reply_read es r)) x.is-1 c.requires.due in
+    let came = λ (heard : History) (b : HasHeard es h f heard) (o : CameInOrder (Anything frame_tables h) (frame_of_goal frame_tables h) (evaluated (result_read es x.answer) ∷ heard)).
+    let there = hears-there h es f heard b x.source x.waiting (result_read es x.answer) is o in
+    resumed-comes h f.goal (map (shown_by es) f.considered.items) new step.result es x.source x.waiting (result_read es x.answer) (position (frame_of_goal frame_tables h) heard) there.0
+    (result-fits es x.answer (subst (IsReply es) x.is-1 c.requires.reply).1) step.ensures.stands step.ensures.later
+    (position (frame_of_goal frame_tables h) (evaluated (result_read es x.answer) ∷ heard)) there.1 in
+    subst (λ r. IfOk c.go_on_with-in-Inside-Result.result (Steps es h f (reply_read es r) new after)) (sym x.is-1)
+    (open-steps h es new step.ensures.keeps f c.replace.new.dest after x.source step.result (evaluated (result_read es x.answer)) due came moving step.ensures.held c.go_on_with-in-Inside-Result.result (goes-at _ es new c.go_on_with-in-Inside-Result.result c.go_on_with-in-Inside-Result.ensures.goes_on))
+
+pub returns-in-Inside-Result-clause-fewer : goal.returns-in-Inside-Result-clause-fewer
+returns-in-Inside-Result-clause-fewer g c =
+    let x = c.in-Inside-Result in
+    let step = c.resume-step in
+    let is = sym c.replace.ensures.value ∙ x.is-0 in
+    resumed-fewer c.go_on_with-in-Inside-Result.result x.source x.waiting step.result c.args.self.now.place c.go_on_with-in-Inside-Result.new.self.place is step.ensures.fewer c.go_on_with-in-Inside-Result.ensures.place
 
 pub returns-in_ok-push-in-Finishing-Finished-clause-steps : goal.returns-in_ok-push-in-Finishing-Finished-clause-steps
 returns-in_ok-push-in-Finishing-Finished-clause-steps g c =
@@ -136,7 +206,7 @@ returns-in_ok-push-in-Finishing-Finished-clause-steps g c =
     let x = c.in-Finishing-Finished in
     let d : Considered = record { source = x.source; result = x.outcome; head_usages = x.head_usages } in
     both-ok (λ q. FrameHeld new after × RequestHeld new q)
-    (λ q. (p : Standing) → IsBetween h (map (shown_by es) c.push-in-Finishing-Finished.new.self.items) p → IsRequest f.goal.mode new q (request p) × Stands h (map (shown_by new) after.considered.items) (place_read new h.coinductive after.place) p)
+    (λ q. (p : Standing) → IsBetween h (map (shown_by es) c.push.new.self.items) p → IsRequest f.goal.mode new q (request p) × Stands h new after.goal (map (shown_by new) after.considered.items) after.place p)
     (Steps es h f (reply_read es c.args.reply) new after) c.go_on-in-Finishing-Finished.result
     (λ q held asks.
     subst (λ r. Steps es h f (reply_read es r) new after q) (sym x.is-1)
@@ -170,8 +240,8 @@ returns-in-Ignoring-Ignored-clause-steps g c =
     (λ heard b o.
     let p = position (frame_of_goal frame_tables h) (ignored ∷ heard) in
     let i = ignores-there h es f heard b x.answer x.ignored x.at (sym c.replace.ensures.value ∙ x.is-0) o in
-    let there = c.ignore_from.ensures.asks es f.goal.mode h.coinductive p (subst (λ n. IsIgnoring (result_read es x.answer) (drop n x.ignored.items) p) (next-place x.at) i.1) in
-    (there.0, answers-stand h (map (shown_by es) after.considered.items) (place_read es h.coinductive after.place) p there.1))
+    let there = c.ignore_from.ensures.asks es f.goal.mode p (subst (λ n. IsIgnoring (result_read es x.answer) (drop n x.ignored.items) p) (next-place x.at) i.1) in
+    (there.0, answers-stand h es after.goal (map (shown_by es) after.considered.items) after.place p there.1))
     (c.ignore_from.ensures.held es (record { goal = held.goal; considered = held.considered; fits = held.fits; place = subst (PlaceHeld f.goal es) (sym c.replace.ensures.after) tt }) place.0 place.1).0)
 
 -- ---- where it ends for want of numbers
@@ -187,24 +257,18 @@ returns-in-Entering-Entered-clause-full g c = λ q.
     let es = c.args.cx.now.entries in
     let f = c.args.self.now in
     let h = g.H.GoalHandler.handled (g.H.GoalHandler.meaning c.args.handler.now es) f.goal.mode (form_of es f.goal) in
-    let s = c.in-Entering-Entered.spec in
-    or-then
-    (λ n.
-    runs-out-there es h f (InCode.Entering s) c.args.reply Replied.Entered (sym c.replace.ensures.value ∙ c.in-Entering-Entered.is-0) c.in-Entering-Entered.is-1
-    (subst (λ (xs : List (Option CanonicalResponse)). CandidateRunsOut f.goal.mode f.goal.variables.items (spec_trees es s) (replies_trees es xs)) c.new.ensures.items n))
-    (c.run.ensures.full q)
+    let x = c.in-Entering-Entered in
+    or-then (λ n. runs-out-there es h f (InCode.Entering x.spec) c.args.reply Replied.Entered (sym c.replace.ensures.value ∙ x.is-0) x.is-1 n)
+    (c.begin_candidate-step.ensures.full (c.go_on_with.ensures.fault Full q))
 
-pub returns-in_ok-push-in-Inside-Result-clause-full : goal.returns-in_ok-push-in-Inside-Result-clause-full
-returns-in_ok-push-in-Inside-Result-clause-full g c = λ q.
+pub returns-in-Inside-Result-clause-full : goal.returns-in-Inside-Result-clause-full
+returns-in-Inside-Result-clause-full g c = λ q.
     let es = c.args.cx.now.entries in
     let f = c.args.self.now in
     let h = g.H.GoalHandler.handled (g.H.GoalHandler.meaning c.args.handler.now es) f.goal.mode (form_of es f.goal) in
     let x = c.in-Inside-Result in
-    or-then
-    (λ n.
-    runs-out-there es h f (InCode.Inside x.spec x.replies) c.args.reply (Replied.Result x.answer) (sym c.replace.ensures.value ∙ x.is-0) x.is-1
-    (subst (λ (xs : List (Option CanonicalResponse)). CandidateRunsOut f.goal.mode f.goal.variables.items (spec_trees es x.spec) (replies_trees es xs)) c.in_ok-push-in-Inside-Result.ensures.items n))
-    (c.run-in-Inside-Result.ensures.full q)
+    or-then (λ n. runs-out-there es h f (InCode.Inside x.source x.waiting) c.args.reply (Replied.Result x.answer) (sym c.replace.ensures.value ∙ x.is-0) x.is-1 n)
+    (c.resume-step.ensures.full (c.go_on_with-in-Inside-Result.ensures.fault Full q))
 
 pub returns-in_ok-push-in-Finishing-Finished-clause-full : goal.returns-in_ok-push-in-Finishing-Finished-clause-full
 returns-in_ok-push-in-Finishing-Finished-clause-full g c = λ q.
@@ -217,3 +281,17 @@ returns-in_ok-push-in-Finishing-Finished-clause-full g c = λ q.
     runs-out-there es h f (InCode.Finishing x.source x.outcome) c.args.reply (Replied.Finished x.head_usages) (sym c.replace.ensures.value ∙ x.is-0) x.is-1
     (subst (λ (done : List Considered). NextRunsOut es h f.goal.variables.items done) c.in_ok-push-in-Finishing-Finished.ensures.items n))
     (c.go_on-in-Finishing-Finished.ensures.full q)
+
+-- ---- at the other places no candidate is open
+pub returns-in-Begun-Begin-clause-fewer : goal.returns-in-Begun-Begin-clause-fewer
+returns-in-Begun-Begin-clause-fewer g c = closed-fewer c.go_on.result c.args.self.now.place InCode.Begun c.go_on.new.self.place (sym c.replace.ensures.value ∙ c.in-Begun-Begin.is-0) tt
+
+pub returns-in_ok-push-in-Finishing-Finished-clause-fewer : goal.returns-in_ok-push-in-Finishing-Finished-clause-fewer
+returns-in_ok-push-in-Finishing-Finished-clause-fewer g c =
+    let x = c.in-Finishing-Finished in
+    closed-fewer c.go_on-in-Finishing-Finished.result c.args.self.now.place (InCode.Finishing x.source x.outcome) c.go_on-in-Finishing-Finished.new.self.place (sym c.replace.ensures.value ∙ x.is-0) tt
+
+pub returns-in-Ignoring-Ignored-clause-fewer : goal.returns-in-Ignoring-Ignored-clause-fewer
+returns-in-Ignoring-Ignored-clause-fewer g c =
+    let x = c.in-Ignoring-Ignored in
+    subst (λ (y : Place). AsksFewer y c.ignore_from.new.self.place) (sym (sym c.replace.ensures.value ∙ x.is-0)) tt

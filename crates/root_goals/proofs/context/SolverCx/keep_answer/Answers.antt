@@ -2,7 +2,7 @@ use Rattle.std.proofs.Common.{◌∙◌, ap, sym, subst, inr, length, Err}
 use Rattle.evaluation.specs.Readings.{ResultHeld}
 use Rattle.infer_table.proofs.FullFacts.{handed-on}
 use Rattle.goal_frames.specs.Fitting.{ResultFits}
-use Rattle.goal_frames.specs.Readings.{result_read}
+use Rattle.evaluation.specs.StepReadings.{result_read}
 use Rattle.root_goals.specs.declared.context.SolverCx.{SolverCx}
 use Rattle.root_goals.specs.Contexts.{IsReady}
 use Rattle.root_goals.proofs.Growing.{answer-kept}

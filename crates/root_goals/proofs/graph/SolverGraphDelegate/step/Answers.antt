@@ -69,13 +69,13 @@ returns-clause-steps g c =
       λ goal heard has due.
           let here = subst (λ y. Search.IsDueAfter meaning world goal heard y) (sym same) due in
           let there =
-          hears-more h.handled h.Rule h.coinductive h.ready h.meaning m.meaning_kept cx before reply goal heard has mid first after asked c.in_ok-reply.ensures.held told c.in_ok-asked.ensures.replies c.step-asked.ensures.goal c.in_ok-asked.ensures.steps here
+          hears-more h.handled h.Rule h.coinductive h.ready h.meaning m.meaning_kept cx before reply goal heard has mid first after asked c.in_ok-reply.ensures.held told c.in_ok-asked.ensures.fewer c.step-asked.ensures.goal c.in_ok-asked.ensures.steps here
           in
           let on = (keeps h.handled h.Rule h.coinductive h.ready h.meaning m.meaning_kept mid new first.ready c.keep_request.ensures.advances).frames goal _ after there in (
             subst (λ y. HasHeard h.handled h.Rule h.coinductive h.ready h.meaning new goal (y ∷ heard) after) same on,
             is
                 ∙ subst (λ y. request_read c.step-asked.new.cx.entries asked ≡ meaning.asks world goal (y ∷ heard)) same
-                (requests h.handled h.Rule h.coinductive h.ready h.meaning m.meaning_kept cx before reply goal heard has mid first after asked c.in_ok-reply.ensures.held told c.in_ok-asked.ensures.replies c.step-asked.ensures.goal c.in_ok-asked.ensures.steps here),
+                (requests h.handled h.Rule h.coinductive h.ready h.meaning m.meaning_kept cx before reply goal heard has mid first after asked c.in_ok-reply.ensures.held told c.in_ok-asked.ensures.fewer c.step-asked.ensures.goal c.in_ok-asked.ensures.steps here),
           ),
     )) c.keep_request.ensures.known c.keep_request.ensures.is
 
@@ -97,14 +97,14 @@ returns-clause-falls g c =
     let first = later h.ready m.ready_kept cx mid now refl refl c.step-asked.ensures.keeps c.lawful.ensures in
     let here = subst (λ y. Search.IsDueAfter meaning (h.meaning cx.handler cx.interner.entries) due.0 due.1 y) (sym c.in_ok-reply.ensures.is) due.3 in
     let there =
-    hears-more h.handled h.Rule h.coinductive h.ready h.meaning m.meaning_kept cx before reply due.0 due.1 due.2 mid first after asked c.in_ok-reply.ensures.held told c.in_ok-asked.ensures.replies c.step-asked.ensures.goal c.in_ok-asked.ensures.steps here
+    hears-more h.handled h.Rule h.coinductive h.ready h.meaning m.meaning_kept cx before reply due.0 due.1 due.2 mid first after asked c.in_ok-reply.ensures.held told c.in_ok-asked.ensures.fewer c.step-asked.ensures.goal c.in_ok-asked.ensures.steps here
     in
     let on = (keeps h.handled h.Rule h.coinductive h.ready h.meaning m.meaning_kept mid new first.ready c.keep_request.ensures.advances).frames due.0 _ after there in
     let whole = further h.ready cx mid new first c.keep_request.ensures.advances in
     always-ok
     (λ q. steps_left h.handled h.Rule h.coinductive h.ready h.meaning new after < steps_left h.handled h.Rule h.coinductive h.ready h.meaning cx before) c.keep_request.result
     (λ q.
-    has-fewer h.handled h.Rule h.coinductive h.ready h.meaning m.meaning_kept cx before reply due.0 due.1 due.2 mid first after asked c.in_ok-reply.ensures.held told c.in_ok-asked.ensures.replies c.step-asked.ensures.goal c.in_ok-asked.ensures.steps m.lawful here new
+    has-fewer h.handled h.Rule h.coinductive h.ready h.meaning m.meaning_kept cx before reply due.0 due.1 due.2 mid first after asked c.in_ok-reply.ensures.held told c.in_ok-asked.ensures.fewer c.step-asked.ensures.goal c.in_ok-asked.ensures.steps m.lawful here new
     (same-world h.handled h.Rule h.coinductive h.ready h.meaning m.meaning_kept cx new now whole) on)
 
 -- memory alone is refused

@@ -3,7 +3,7 @@ use Rattle.std.proofs.lemmas.Result.{IfOk-weaker}
 use Rattle.type_terms.specs.declared.TheConstants.{MAX_INDEX}
 use Rattle.infer_table.specs.Inputs.{form_of}
 use Rattle.infer_table.proofs.FullFacts.{handed-on, or-then}
-use Rattle.goal_frames.specs.Readings.{spec_read}
+use Rattle.evaluation.specs.StepReadings.{spec_read}
 use Rattle.goal_frames.specs.Shortages.{HasTooManyVariables}
 use Rattle.goal_frames.proofs.Later.{shown-later, considered-later, considered-fits-later}
 use Rattle.rule_books.specs.Books.{rule_read, book_read, sound_book}

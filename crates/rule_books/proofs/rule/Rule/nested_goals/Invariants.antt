@@ -2,7 +2,7 @@ use Rattle.std.proofs.Common.{◌≡◌, ℕ, Bool, ◌++◌, map, drop}
 use Rattle.type_terms.specs.Terms.{Keeps}
 use Rattle.infer_table.specs.Values.{values_of}
 use Rattle.infer_table.specs.Raw.{variables_from}
-use Rattle.goal_frames.specs.Readings.{nested_read}
+use Rattle.evaluation.specs.StepReadings.{nested_read}
 use Rattle.goal_frames.specs.Handlers.{behind, nested_of_bound}
 use Rattle.rule_books.specs.Books.{bound_read, NestedHeld}
 use Rattle.rule_books.proofs.rule.Rule.nested_goals.Given as goal

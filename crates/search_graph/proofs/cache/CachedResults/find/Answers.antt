@@ -11,11 +11,11 @@ equal : {X : Type 0} (eq : X → X → Bool) (a b : X) → ((x : X) → eq x x �
 equal eq a b own same = ap (eq a) (sym same) ∙ own a
 
 pub loop-init : goal.loop-init
-loop-init g c = ahead_start c.args.self.now.entries.items c.args.number (IsUsable c.args.self.now.entries.items (ContainsKey nat_eq c.args.positions.now) c.args.number c.args.input.now c.args.depth) c.newest_of-next.result c.newest_of-next.ensures (λ place e fits. fits.numbered)
+loop-init g c = ahead_start c.args.self.now.entries.items c.args.number (λ place. IsUsable c.args.self.now.asked.items (ContainsKey nat_eq c.args.positions.now) c.args.number c.args.input.now c.args.depth) c.newest_of-next.result c.newest_of-next.ensures (λ place e fits. fits.numbered)
 
 pub returns-then-branch-clause-found : goal.returns-then-branch-clause-found
 returns-then-branch-clause-found g c =
-    let there = ahead_at c.args.self.now.entries.items c.args.number (IsUsable c.args.self.now.entries.items (ContainsKey nat_eq c.args.positions.now) c.args.number c.args.input.now c.args.depth) c.loop.counter c.in-Some.place c.loop.next c.in-Some.is c.loop.invariant in
+    let there = ahead_at c.args.self.now.entries.items c.args.number (λ place. IsUsable c.args.self.now.asked.items (ContainsKey nat_eq c.args.positions.now) c.args.number c.args.input.now c.args.depth) c.loop.counter c.in-Some.place c.loop.next c.in-Some.is c.loop.invariant in
     let inside : c.in-Some.place < length c.args.self.now.entries.items = omega arith in
     let at : slice_get c.args.self.now.entries.items c.in-Some.place ≡ Some c.index-entry.result.now = slice_get_read _ _ _ _ refl inside c.index-entry.ensures in
     let same : there.0 ≡ c.index-entry.result.now = same_Some there.0 c.index-entry.result.now (sym there.1 ∙ at) in (
@@ -30,22 +30,22 @@ returns-then-branch-clause-found g c =
     )
 
 pub returns-in_default-clause-none : goal.returns-in_default-clause-none
-returns-in_default-clause-none g c = ahead_none c.args.self.now.entries.items c.args.number (IsUsable c.args.self.now.entries.items (ContainsKey nat_eq c.args.positions.now) c.args.number c.args.input.now c.args.depth) c.loop.counter c.loop.next c.in_default.is c.loop.invariant
+returns-in_default-clause-none g c = ahead_none c.args.self.now.entries.items c.args.number (λ place. IsUsable c.args.self.now.asked.items (ContainsKey nat_eq c.args.positions.now) c.args.number c.args.input.now c.args.depth) c.loop.counter c.loop.next c.in_default.is c.loop.invariant
 
 pub returns-then-place-len-clause-none : goal.returns-then-place-len-clause-none
 returns-then-place-len-clause-none g c =
-    let there = ahead_at c.args.self.now.entries.items c.args.number (IsUsable c.args.self.now.entries.items (ContainsKey nat_eq c.args.positions.now) c.args.number c.args.input.now c.args.depth) c.loop.counter c.in-Some.place c.loop.next c.in-Some.is c.loop.invariant in
+    let there = ahead_at c.args.self.now.entries.items c.args.number (λ place. IsUsable c.args.self.now.asked.items (ContainsKey nat_eq c.args.positions.now) c.args.number c.args.input.now c.args.depth) c.loop.counter c.in-Some.place c.loop.next c.in-Some.is c.loop.invariant in
     let inside : c.in-Some.place < length c.args.self.now.entries.items = slice_get_within c.args.self.now.entries.items c.in-Some.place there.0 there.1 in
     absurd (omega (arith, inside))
 
 pub returns-clause-none : goal.returns-clause-none
-returns-clause-none g c = ahead_end c.args.self.now.entries.items c.args.number (IsUsable c.args.self.now.entries.items (ContainsKey nat_eq c.args.positions.now) c.args.number c.args.input.now c.args.depth) c.loop.counter c.loop.next (omega arith) c.loop.invariant
+returns-clause-none g c = ahead_end c.args.self.now.entries.items c.args.number (λ place. IsUsable c.args.self.now.asked.items (ContainsKey nat_eq c.args.positions.now) c.args.number c.args.input.now c.args.depth) c.loop.counter c.loop.next (omega arith) c.loop.invariant
 
 pub loop-preserved : goal.loop-preserved
 loop-preserved g c =
     let inside : c.in-Some.place < length c.args.self.now.entries.items = omega arith in
     let at : slice_get c.args.self.now.entries.items c.in-Some.place ≡ Some c.index-entry.result.now = slice_get_read _ _ _ _ refl inside c.index-entry.ensures in
-    ahead_step c.args.self.now.entries.items c.args.number (IsUsable c.args.self.now.entries.items (ContainsKey nat_eq c.args.positions.now) c.args.number c.args.input.now c.args.depth) c.loop.counter c.in-Some.place c.loop.next c.index-entry.result.now
+    ahead_step c.args.self.now.entries.items c.args.number (λ place. IsUsable c.args.self.now.asked.items (ContainsKey nat_eq c.args.positions.now) c.args.number c.args.input.now c.args.depth) c.loop.counter c.in-Some.place c.loop.next c.index-entry.result.now
     c.args.self.now.linked c.in-Some.is c.loop.invariant at
     (λ fits. elim c.else-eq.branch [
       | else-eq-via-then-eq+then-is_usable+in_ok-is_clear_of+else-branch w ↦ let asked = w.in_ok-is_clear_of.ensures.asked w.if-branch.false in fits.clear asked.0 asked.1 asked.2

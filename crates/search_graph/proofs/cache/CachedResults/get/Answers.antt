@@ -20,7 +20,7 @@ pub returns-clause-entry : goal.returns-clause-entry
 returns-clause-entry g c =
     let found = c.requires.place in
     let is : c.index-entry.result.now ≡ c.requires.place.0 = c.index-entry.ensures ∙ get_or_from_slice_get c.args.self.now.entries.items c.args.place found.0 c.index-entry.result.now found.1 in
-    (found.0, found.1, c.in_ok-copy.ensures.copy ∙ ap (λ z. z.result) is, ap (λ z. z.depth) is, ap (λ z. z.encountered_overflow) is)
+    (found.0, found.1, c.in_ok-copy.ensures.copy ∙ ap (λ z. z.result) is, ap (λ z. z.depth) is, ap (λ z. z.encountered_overflow) is, ap (λ z. z.asked) is)
 
 pub returns-clause-within : goal.returns-clause-within
 returns-clause-within g c =

@@ -11,66 +11,66 @@ use Rattle.search_graph.proofs.cache.CachedResults.is_clear_of.Goals.{else-round
 
 pub returns-in_default-clause-clear : goal.returns-in_default-clause-clear
 returns-in_default-clause-clear g c = λ yes asked under on.
-    let es = c.args.self.now.entries.items in
+    let es = c.args.self.now.asked.items in
     let past : length c.deref.result.now ≤ c.args.place = ltb-false _ _ (sym c.in_default.ensures.lookup.0) in
     absent_clear es c.args.self.now.covered c.args.place (slice_get_past es c.args.place (rw c.deref.ensures.value at past)) asked under
 
 pub returns-then-not-overlaps-clause-clear : goal.returns-then-not-overlaps-clause-clear
 returns-then-not-overlaps-clause-clear g c = λ yes.
-    let es = c.args.self.now.entries.items in
+    let es = c.args.self.now.asked.items in
     let e = c.in-Some.entry.now in
-    let at : slice_get c.args.self.now.entries.items c.args.place ≡ Some c.in-Some.entry.now = ap (λ xs. slice_get xs c.args.place) (sym c.deref.ensures.value) ∙ slice_get_read c.deref.result.now _ c.args.place e refl c.in-Some.ensures.lookup.3.0 c.in-Some.ensures.lookup.1 in
+    let at : slice_get c.args.self.now.asked.items c.args.place ≡ Some c.in-Some.entry.now = ap (λ xs. slice_get xs c.args.place) (sym c.deref.ensures.value) ∙ slice_get_read c.deref.result.now _ c.args.place e refl c.in-Some.ensures.lookup.3.0 c.in-Some.ensures.lookup.1 in
     apart_clear es c.args.self.now.covered (ContainsKey nat_eq c.args.positions.now) c.args.on_stack c.requires.range c.args.place e at
     (apart_of c.overlaps.result e.nested_goals.span c.args.on_stack e.nested_goals.span refl c.if-not-overlaps.true c.overlaps.ensures.shares)
 
 pub index-entry-requires : goal.index-entry-requires
 index-entry-requires g c =
-    let es = c.args.self.now.entries.items in
+    let es = c.args.self.now.asked.items in
     let e = c.in-Some.entry.now in
-    let at : slice_get c.args.self.now.entries.items c.args.place ≡ Some c.in-Some.entry.now = ap (λ xs. slice_get xs c.args.place) (sym c.deref.ensures.value) ∙ slice_get_read c.deref.result.now _ c.args.place e refl c.in-Some.ensures.lookup.3.0 c.in-Some.ensures.lookup.1 in
+    let at : slice_get c.args.self.now.asked.items c.args.place ≡ Some c.in-Some.entry.now = ap (λ xs. slice_get xs c.args.place) (sym c.deref.ensures.value) ∙ slice_get_read c.deref.result.now _ c.args.place e refl c.in-Some.ensures.lookup.3.0 c.in-Some.ensures.lookup.1 in
     let inside = reached_inside es c.args.self.now.covered c.args.place (slice_get_within es c.args.place e at) c.loop-round.reached.keys c.loop-round.invariant.reached c.loop-round.round c.index-below.result.now c.index-below.ensures in
     omega (arith, inside)
 
 pub returns-then-contains_key-clause-asked : goal.returns-then-contains_key-clause-asked
 returns-then-contains_key-clause-asked g c = λ no.
-    let es = c.args.self.now.entries.items in
+    let es = c.args.self.now.asked.items in
     let below = c.index-below.result.now in
     let e = c.index-entry.result.now in
-    let at : slice_get c.args.self.now.entries.items c.args.place ≡ Some c.in-Some.entry.now = ap (λ xs. slice_get xs c.args.place) (sym c.deref.ensures.value) ∙ slice_get_read c.deref.result.now _ c.args.place c.in-Some.entry.now refl c.in-Some.ensures.lookup.3.0 c.in-Some.ensures.lookup.1 in
-    let inside : c.index-below.result.now < length c.args.self.now.entries.items = reached_inside es c.args.self.now.covered c.args.place (slice_get_within es c.args.place c.in-Some.entry.now at) c.loop-round.reached.keys c.loop-round.invariant.reached c.loop-round.round c.index-below.result.now c.index-below.ensures in
-    let entry : slice_get c.args.self.now.entries.items c.index-below.result.now ≡ Some c.index-entry.result.now = slice_get_read _ _ _ _ refl inside c.index-entry.ensures in
+    let at : slice_get c.args.self.now.asked.items c.args.place ≡ Some c.in-Some.entry.now = ap (λ xs. slice_get xs c.args.place) (sym c.deref.ensures.value) ∙ slice_get_read c.deref.result.now _ c.args.place c.in-Some.entry.now refl c.in-Some.ensures.lookup.3.0 c.in-Some.ensures.lookup.1 in
+    let inside : c.index-below.result.now < length c.args.self.now.asked.items = reached_inside es c.args.self.now.covered c.args.place (slice_get_within es c.args.place c.in-Some.entry.now at) c.loop-round.reached.keys c.loop-round.invariant.reached c.loop-round.round c.index-below.result.now c.index-below.ensures in
+    let entry : slice_get c.args.self.now.asked.items c.index-below.result.now ≡ Some c.index-entry.result.now = slice_get_read _ _ _ _ refl inside c.index-entry.ensures in
     (e.number, reached_goal es c.args.place c.loop-round.round below e c.loop-round.reached.keys c.loop-round.invariant.reached c.index-below.ensures entry (omega arith), sym c.if-contains_key.ensures)
 
 pub returns-then-is_any_on_stack-clause-asked : goal.returns-then-is_any_on_stack-clause-asked
 returns-then-is_any_on_stack-clause-asked g c = λ no.
-    let es = c.args.self.now.entries.items in
+    let es = c.args.self.now.asked.items in
     let below = c.index-below.result.now in
     let e = c.index-entry.result.now in
-    let at : slice_get c.args.self.now.entries.items c.args.place ≡ Some c.in-Some.entry.now = ap (λ xs. slice_get xs c.args.place) (sym c.deref.ensures.value) ∙ slice_get_read c.deref.result.now _ c.args.place c.in-Some.entry.now refl c.in-Some.ensures.lookup.3.0 c.in-Some.ensures.lookup.1 in
-    let inside : c.index-below.result.now < length c.args.self.now.entries.items = reached_inside es c.args.self.now.covered c.args.place (slice_get_within es c.args.place c.in-Some.entry.now at) c.loop-round.reached.keys c.loop-round.invariant.reached c.loop-round.round c.index-below.result.now c.index-below.ensures in
-    let entry : slice_get c.args.self.now.entries.items c.index-below.result.now ≡ Some c.index-entry.result.now = slice_get_read _ _ _ _ refl inside c.index-entry.ensures in
+    let at : slice_get c.args.self.now.asked.items c.args.place ≡ Some c.in-Some.entry.now = ap (λ xs. slice_get xs c.args.place) (sym c.deref.ensures.value) ∙ slice_get_read c.deref.result.now _ c.args.place c.in-Some.entry.now refl c.in-Some.ensures.lookup.3.0 c.in-Some.ensures.lookup.1 in
+    let inside : c.index-below.result.now < length c.args.self.now.asked.items = reached_inside es c.args.self.now.covered c.args.place (slice_get_within es c.args.place c.in-Some.entry.now at) c.loop-round.reached.keys c.loop-round.invariant.reached c.loop-round.round c.index-below.result.now c.index-below.ensures in
+    let entry : slice_get c.args.self.now.asked.items c.index-below.result.now ≡ Some c.index-entry.result.now = slice_get_read _ _ _ _ refl inside c.index-entry.ensures in
     let one = rw c.deref-in-loop-round.ensures.value at (c.is_any_on_stack.ensures.one c.if-is_any_on_stack.true) in
     (one.1, reached_asked es c.args.place c.loop-round.round below e c.loop-round.reached.keys c.loop-round.invariant.reached c.index-below.ensures entry one.0 one.1 one.2, one.3)
 
 pub loop-round-smaller : goal.loop-round-smaller
 loop-round-smaller g c =
-    let es = c.args.self.now.entries.items in
+    let es = c.args.self.now.asked.items in
     let e = c.in-Some.entry.now in
-    let at : slice_get c.args.self.now.entries.items c.args.place ≡ Some c.in-Some.entry.now = ap (λ xs. slice_get xs c.args.place) (sym c.deref.ensures.value) ∙ slice_get_read c.deref.result.now _ c.args.place e refl c.in-Some.ensures.lookup.3.0 c.in-Some.ensures.lookup.1 in
+    let at : slice_get c.args.self.now.asked.items c.args.place ≡ Some c.in-Some.entry.now = ap (λ xs. slice_get xs c.args.place) (sym c.deref.ensures.value) ∙ slice_get_read c.deref.result.now _ c.args.place e refl c.in-Some.ensures.lookup.3.0 c.in-Some.ensures.lookup.1 in
     let count = reached_count es c.args.self.now.covered c.args.place (slice_get_within es c.args.place e at) c.loop-round.reached.keys c.loop-round.invariant.reached c.len.ensures.unique in
-    let shorter : length c.args.self.now.entries.items - (c.loop-round.round + 1) < length c.args.self.now.entries.items - c.loop-round.round = omega (arith, count, c.len.ensures.len) in
+    let shorter : length c.args.self.now.asked.items - (c.loop-round.round + 1) < length c.args.self.now.asked.items - c.loop-round.round = omega (arith, count, c.len.ensures.len) in
     shorter
 
 pub loop-round-preserved : goal.loop-round-preserved
 loop-round-preserved g c =
-    let es = c.args.self.now.entries.items in
+    let es = c.args.self.now.asked.items in
     let inv = c.loop-round.invariant in
     let below = c.index-below.result.now in
     let e = c.index-entry.result.now in
     let keys = c.loop-round.reached.keys in
-    let at : slice_get c.args.self.now.entries.items c.args.place ≡ Some c.in-Some.entry.now = ap (λ xs. slice_get xs c.args.place) (sym c.deref.ensures.value) ∙ slice_get_read c.deref.result.now _ c.args.place c.in-Some.entry.now refl c.in-Some.ensures.lookup.3.0 c.in-Some.ensures.lookup.1 in
-    let inside : c.index-below.result.now < length c.args.self.now.entries.items = reached_inside es c.args.self.now.covered c.args.place (slice_get_within es c.args.place c.in-Some.entry.now at) c.loop-round.reached.keys c.loop-round.invariant.reached c.loop-round.round c.index-below.result.now c.index-below.ensures in
-    let entry : slice_get c.args.self.now.entries.items c.index-below.result.now ≡ Some c.index-entry.result.now = slice_get_read _ _ _ _ refl inside c.index-entry.ensures in
+    let at : slice_get c.args.self.now.asked.items c.args.place ≡ Some c.in-Some.entry.now = ap (λ xs. slice_get xs c.args.place) (sym c.deref.ensures.value) ∙ slice_get_read c.deref.result.now _ c.args.place c.in-Some.entry.now refl c.in-Some.ensures.lookup.3.0 c.in-Some.ensures.lookup.1 in
+    let inside : c.index-below.result.now < length c.args.self.now.asked.items = reached_inside es c.args.self.now.covered c.args.place (slice_get_within es c.args.place c.in-Some.entry.now at) c.loop-round.reached.keys c.loop-round.invariant.reached c.loop-round.round c.index-below.result.now c.index-below.ensures in
+    let entry : slice_get c.args.self.now.asked.items c.index-below.result.now ≡ Some c.index-entry.result.now = slice_get_read _ _ _ _ refl inside c.index-entry.ensures in
     record {
       reached = reached_more es c.args.place c.loop-round.round below e keys c.reach.new.reached.keys inv.reached c.index-below.ensures entry (rw c.deref-in-loop-round-2.ensures.value at c.reach.ensures.among);
       first = c.reach.ensures.stay 0 c.args.place inv.first;
@@ -85,4 +85,4 @@ loop-round-preserved g c =
 
 pub returns-clause-clear : goal.returns-clause-clear
 returns-clause-clear g c = λ yes.
-    seen_clear c.args.self.now.entries.items c.args.self.now.covered (ContainsKey nat_eq c.args.positions.now) c.args.on_stack c.requires.range c.args.place c.loop-round.reached.keys c.loop-round.invariant.first c.loop-round.round (omega (arith, c.len.ensures.len)) c.loop-round.invariant.seen
+    seen_clear c.args.self.now.asked.items c.args.self.now.covered (ContainsKey nat_eq c.args.positions.now) c.args.on_stack c.requires.range c.args.place c.loop-round.reached.keys c.loop-round.invariant.first c.loop-round.round (omega (arith, c.len.ensures.len)) c.loop-round.invariant.seen

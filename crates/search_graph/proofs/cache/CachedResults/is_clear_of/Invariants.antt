@@ -6,10 +6,10 @@ use Rattle.search_graph.proofs.cache.CachedResults.is_clear_of.Given as goal
 
 abbrev pub invariant-loop-round : goal.invariant-loop-round
 invariant-loop-round g l = record {
-  reached : IsReached l.self.entries.items l.place l.reached.keys;
+  reached : IsReached l.self.asked.items l.place l.reached.keys;
   first : slice_get l.reached.keys 0 ≡ Some l.place;
-  seen : AreSeen l.self.entries.items (ContainsKey nat_eq l.positions) l.on_stack l.reached.keys l.round;
+  seen : AreSeen l.self.asked.items (ContainsKey nat_eq l.positions) l.on_stack l.reached.keys l.round;
 }
 
 abbrev pub decreases-loop-round : goal.decreases-loop-round
-decreases-loop-round g l = length l.self.entries.items - l.round
+decreases-loop-round g l = length l.self.asked.items - l.round

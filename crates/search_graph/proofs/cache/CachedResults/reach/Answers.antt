@@ -6,7 +6,7 @@ use Rattle.search_graph.proofs.cache.CachedResults.reach.Goals.{then-overlaps+in
 
 pub loop-place-preserved : goal.loop-place-preserved
 loop-place-preserved g c =
-    let es = c.args.self.now.entries.items in
+    let es = c.args.self.now.asked.items in
     let inv = c.loop-place.invariant in
     let old = c.args.reached.now.keys in
     let keys = c.loop-place.reached.keys in
@@ -20,4 +20,4 @@ loop-place-preserved g c =
     ]
 
 pub returns-clause-reached : goal.returns-clause-reached
-returns-clause-reached g c = all_from (IsSettled c.args.self.now.entries.items c.args.on_stack c.loop-place.reached.keys) c.args.places.now (λ i place at. c.loop-place.invariant.settled i place (let within = slice_get_within c.args.places.now i place at in omega (arith, within)) at)
+returns-clause-reached g c = all_from (IsSettled c.args.self.now.asked.items c.args.on_stack c.loop-place.reached.keys) c.args.places.now (λ i place at. c.loop-place.invariant.settled i place (let within = slice_get_within c.args.places.now i place at in omega (arith, within)) at)

@@ -1,10 +1,10 @@
-use Rattle.std.proofs.Common.{◌≡◌, ◌∙◌, ◌++◌, ◌∷◌, sym, ap, refl, [], true, arith, Some}
+use Rattle.std.proofs.Common.{◌≡◌, ◌∙◌, ◌++◌, ◌∷◌, sym, ap, [], true, arith, slice_get, Some}
 use Rattle.std.proofs.lemmas.Option.{same_Some}
 use Rattle.search_graph.specs.Nested.{covered, no_goal}
 use Rattle.search_graph.specs.declared.path_kind.PathKind.TheVariants.{Inductive}
 use Rattle.search_graph.specs.Stack.{path_onto}
 use Rattle.search_graph.proofs.Graphs.{path_length, cached_answers}
-use Rattle.search_graph.proofs.Ranges.{in_range_cached}
+use Rattle.search_graph.proofs.Ranges.{in_range_cached, listed_at}
 use Rattle.search_graph.proofs.Faithfuls.{faithful_kept}
 use Rattle.search_graph.proofs.search.Search.use_cached.Goals as goal
 
@@ -41,15 +41,22 @@ pub returns-clause-unread : goal.returns-clause-unread
 returns-clause-unread g c = (c.new-dependencies.ensures.lowest ∙ c.len.ensures ∙ c.args.self.now.stack.ok.0, c.new-dependencies.ensures.unread)
 
 pub returns-clause-asked : goal.returns-clause-asked
-returns-clause-asked g c = (ap (λ v. v.items) c.add_cached.ensures.goals ∙ c.new-dependencies.ensures.unasked.0, c.in_ok-add_cached.ensures.added ∙ ap (λ xs. xs ++ c.args.place ∷ []) c.new-dependencies.ensures.unasked.1)
+returns-clause-asked g c = λ e at.
+    let entry = c.in_ok-cached.ensures.entry in
+    let is : c.in_ok-cached.ensures.entry.0 ≡ e = same_Some _ _ (sym entry.1 ∙ at) in (
+      ap (λ v. v.items) c.add_cached.ensures.goals ∙ c.new-dependencies.ensures.unasked.0,
+      c.in_ok-add_cached.ensures.added ∙ ap (λ xs. xs ++ c.in_ok-cached.cached.asked ∷ []) c.new-dependencies.ensures.unasked.1 ∙ ap (λ p. p ∷ []) (entry.5 ∙ ap (λ z. z.asked) is),
+    )
 
 pub returns-clause-range : goal.returns-clause-range
 returns-clause-range g c =
-    let found = c.requires.place in
-    in_range_cached c.args.cache.now.entries.items c.add_cached.new.self c.args.place found.0 found.1
+    let entry = c.in_ok-cached.ensures.entry in
+    let there = listed_at c.args.cache.now.asked.items entry.0.asked entry.0.number (c.args.cache.now.recorded c.args.place entry.0 entry.1) in
+    let at : slice_get c.args.cache.now.asked.items c.in_ok-cached.cached.asked ≡ Some there.0 = rw entry.5 there.1 in
+    in_range_cached c.args.cache.now.asked.items c.add_cached.new.self c.in_ok-cached.cached.asked there.0 at
     (ap (λ v. v.items) c.add_cached.ensures.goals ∙ c.new-dependencies.ensures.unasked.0)
-    (c.in_ok-add_cached.ensures.added ∙ ap (λ xs. xs ++ c.args.place ∷ []) c.new-dependencies.ensures.unasked.1)
-    (c.in_ok-add_cached.ensures.span ∙ ap (λ s. covered s c.span_of.result) c.new-dependencies.ensures.unasked.2 ∙ ap (covered no_goal) (c.span_of.ensures found.0 found.1))
+    (c.in_ok-add_cached.ensures.added ∙ ap (λ xs. xs ++ c.in_ok-cached.cached.asked ∷ []) c.new-dependencies.ensures.unasked.1)
+    (c.in_ok-add_cached.ensures.span ∙ ap (λ s. covered s c.span_of.result) c.new-dependencies.ensures.unasked.2 ∙ ap (covered no_goal) (c.span_of.ensures there.0 at))
 
 pub get-requires-clause-cache : goal.get-requires-clause-cache
 get-requires-clause-cache g c = c.requires.cache

@@ -1,11 +1,11 @@
 use Rattle.std.proofs.Common.{subst}
 use Rattle.std.specs.Prelude.{IfOk}
 use Rattle.sessions.specs.Given.{refutation_of}
-use Rattle.sessions.specs.Promises.{IsRefutation, IsOpenQuestion}
+use Rattle.sessions.specs.Promises.{IsRefutation}
 use Rattle.sessions.specs.Subjects.{Subject, AsksRefutation}
 use Rattle.text_definitions.specs.Declarations.{Question}
 use Rattle.sessions.proofs.Alone.{on-map}
-use Rattle.sessions.proofs.Keeping.{left-open, answered-exactly}
+use Rattle.sessions.proofs.Keeping.{answered-exactly}
 use Rattle.sessions.proofs.session.Session.refute.Goals as goal
 
 pub returns-clause-answer : goal.returns-clause-answer
@@ -20,10 +20,3 @@ returns-clause-answer c =
       refused = λ r. c.refute_question.ensures.refused r q asks.asks.question;
       left = λ r. c.refute_question.ensures.open r q asks.asks.question;
     }))
-
-pub returns-clause-open : goal.returns-clause-open
-returns-clause-open c =
-    λ r.
-    let i = c.self.inside in
-    subst (λ (s : Subject). (q : Question) → AsksRefutation s.declarations s.of_crate c.args.number q → IsOpenQuestion s.declarations s.depth q) c.self.view_is
-    (λ q asks. left-open i.workspace.now i.crate_id.index i.limits.depth i.cx i.graph i.cache c.self.invariant c.args.number q asks (c.refute_question.ensures.open r q asks.asks.question))

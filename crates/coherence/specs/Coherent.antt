@@ -1,0 +1,22 @@
+-- What the lines of a text's crates say of the text as a whole.
+use Rattle.std.specs.Prelude.{◌≡◌, ℕ, ◌-◌, Bool, true, false, List, length}
+use Rattle.std.specs.List.{list_all}
+use Rattle.model.specs.LinkedSet.{HeadersHaveSupertraits}
+use Rattle.text_definitions.specs.Declarations.{Declarations}
+use Rattle.text_definitions.specs.Output.{Answer, accepted}
+use Rattle.sessions.specs.CoherentTexts.{TextIsCoherent}
+use Rattle.sessions.specs.JoinedTexts.{text_world}
+use Rattle.sessions.specs.Subjects.{IsOfText}
+use Rattle.coherence.specs.Lines.{CrateLines}
+
+-- The line says `accepted`.
+abbrev pub is_accepted_line : Answer → Bool
+is_accepted_line (accepted n) = true
+is_accepted_line _ = false
+
+-- Where the line of each crate says `accepted`, and the supertraits of headers are proved, the text is coherent as a whole: no closed
+-- reference has proofs by two impls, and the lines of its questions hold of all its crates together.
+abbrev pub AcceptedLinesTell : Type 0
+AcceptedLinesTell =
+    (limit : ℕ) (d : Declarations) (cs : List Answer) → IsOfText d → CrateLines limit d (length d.crates - 1) cs → list_all is_accepted_line cs ≡ true
+    → HeadersHaveSupertraits (text_world d) → TextIsCoherent limit d

@@ -1,0 +1,54 @@
+-- Candidates that go on where they stopped, against candidates that are evaluated anew over all their replies.
+use Rattle.std.specs.Prelude.{◌≡◌, List, [], ◌∷◌, ◌++◌, Option, Result, Ok, Err, IfOk}
+use Rattle.type_terms.specs.Terms.{Entry}
+use Rattle.infer_table.specs.Responses.{AnswerTrees, answer_trees}
+use Rattle.infer_table.specs.declared.canonical.CanonicalVarKind.{CanonicalVarKind}
+use Rattle.infer_table.specs.declared.certainty.TypingMode.{TypingMode}
+use Rattle.evaluation.specs.declared.error.EvalError.{EvalError}
+use Rattle.evaluation.specs.declared.error.EvalError.TheVariants.{NoSolution, Fault}
+use Rattle.evaluation.specs.declared.resuming.OpenCandidate.{OpenCandidate}
+use Rattle.evaluation.specs.declared.resuming.CandidateStep.{CandidateStep}
+use Rattle.evaluation.specs.declared.resuming.CandidateStep.TheVariants.{Ready, Ask}
+use Rattle.evaluation.specs.Ends.{IsRefused, Awaits, EndsIn}
+use Rattle.evaluation.specs.Evaluating.{Question, question_of}
+use Rattle.evaluation.specs.Frames.{begun}
+use Rattle.evaluation.specs.OpenCandidates.{after_reply, StandsAt}
+use Rattle.evaluation.specs.OpenShortages.{OpenRunsOut, RunsOutOnly}
+use Rattle.evaluation.specs.Replays.{run}
+use Rattle.evaluation.specs.Script.{Script, done, ask}
+use Rattle.evaluation.specs.Shortages.{CandidateRunsOut}
+use Rattle.evaluation.specs.Trial.{SpecTrees, candidate}
+
+-- what is left of a script after these answers, the oldest first
+abbrev pub after : {Q A X : Type 0} → Script Q A X → List A → Script Q A X
+after (done x) answers = done x
+after (ask q k) [] = ask q k
+after (ask q k) (a ∷ answers) = after (k a) answers
+
+module _ (mode : TypingMode) (kinds : List CanonicalVarKind) (s : SpecTrees) where
+  -- a candidate that waits has had these replies: it waits where evaluating the candidate of a goal, with variables of these kinds, over
+  -- them does, and comes to places where numbers are used up only where that does over more replies
+  pub record IsReplayed (es : List Entry) (replies : List (Option AnswerTrees)) (o : OpenCandidate) : Type 0 where
+    pub question : Question
+    pub waits : after (candidate mode (begun kinds) s) replies ≡ ask question (after_reply es o)
+    pub runs_out : (more : List (Option AnswerTrees)) → OpenRunsOut es o more → CandidateRunsOut mode kinds s (replies ++ more)
+
+  -- how a call that goes on ends: as evaluating the candidate anew over these replies does
+  abbrev pub EndsAsReplayed : List Entry → List (Option AnswerTrees) → Result CandidateStep EvalError → Type 0
+  EndsAsReplayed es replies (Err (Fault fault)) = Unit {0}
+  EndsAsReplayed es replies (Err NoSolution) = IsRefused (run (candidate mode (begun kinds) s) replies)
+  EndsAsReplayed es replies (Ok (Ready answer)) = EndsIn (λ a more. answer_trees es answer ≡ a) (run (candidate mode (begun kinds) s) replies)
+  EndsAsReplayed es replies (Ok (Ask waiting input source)) = Awaits (run (candidate mode (begun kinds) s) replies) (question_of es input source) × IsReplayed es replies waiting
+
+-- a candidate that has begun has had no replies
+abbrev pub BeginningReplays : Type 0
+BeginningReplays =
+    (mode : TypingMode) (kinds : List CanonicalVarKind) (s : SpecTrees) (es : List Entry) (result : Result CandidateStep EvalError)
+    → StandsAt es (candidate mode (begun kinds) s) result → IfOk result (RunsOutOnly (CandidateRunsOut mode kinds s) es) → EndsAsReplayed mode kinds s es [] result
+
+-- one that goes on has had one more
+abbrev pub ResumingReplays : Type 0
+ResumingReplays =
+    (mode : TypingMode) (kinds : List CanonicalVarKind) (s : SpecTrees) (old new : List Entry) (replies : List (Option AnswerTrees)) (o : OpenCandidate) (a : Option AnswerTrees) (result : Result CandidateStep EvalError)
+    → IsReplayed mode kinds s old replies o → StandsAt new (after_reply old o a) result → IfOk result (RunsOutOnly (λ more. OpenRunsOut old o (a ∷ more)) new)
+    → EndsAsReplayed mode kinds s new (replies ++ a ∷ []) result

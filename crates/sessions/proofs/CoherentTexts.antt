@@ -1,0 +1,113 @@
+-- A text whose crates are all accepted is coherent, where the supertraits of headers are proved.
+use Rattle.std.proofs.Common.{◌≡◌, ◌<◌, ◌⊎◌, inl, inr, ℕ, zero, suc, List, [], ◌∷◌, ◌++◌, map, length, pred, None, Some, refl, sym, ap, subst, arith}
+use Rattle.std.proofs.lemmas.List.{map-append}
+use Rattle.std.proofs.lemmas.Option.{same_Some}
+use Rattle.model.specs.Worlds.{World, ImplDecl, core}
+use Rattle.model.specs.Proofs.{In, HasProof}
+use Rattle.model.specs.Supers.{IsHeld}
+use Rattle.model.specs.Renumbering.{View, view_at}
+use Rattle.model.specs.LinkedSet.{JoinedSet, LinkedSet, HeadersHaveSupertraits, IsAnswered}
+use Rattle.model.proofs.Members.{in-map, here}
+use Rattle.model.proofs.SameNumbers.{reference-same}
+use Rattle.model.proofs.HeldSets.{held-linked}
+use Rattle.overlap_check.specs.Verdicts.{IsAccepted}
+use Rattle.overlap_check.specs.SessionLaws.{Headline, HeadlineHolds}
+use Rattle.overlap_check.specs.Questions.{filled_reference, Solution}
+use Rattle.text_definitions.specs.Declarations.{Declarations}
+use Rattle.sessions.specs.JoinedTexts.{text_world}
+use Rattle.sessions.specs.CoherentTexts.{CratesAreAccepted, CratesAreHeld, TextIsCoherent, AcceptedTextsAreCoherent, HeldTextsAreCoherent}
+use Rattle.sessions.proofs.KeptTexts.{AllKept, texts-are-kept}
+use Rattle.sessions.proofs.JoinedTexts.{joined, home-below, of-core, core-or-later, map-at}
+
+-- the numbers from 1 up to n
+abbrev up_to : ℕ → List ℕ
+up_to zero = []
+up_to (suc n) = suc n ∷ up_to n
+
+within-up : (n c : ℕ) → In c (up_to n) → (core < c) × (c < suc n)
+within-up zero c (k, e) = absurd (no e)
+  where
+    no : None ≡ Some c → ⊥
+    no q = cc
+within-up (suc n) c (zero, e) = (subst (λ k. core < k) (same_Some (suc n) c e) (omega arith), subst (λ k. k < suc (suc n)) (same_Some (suc n) c e) (omega arith))
+within-up (suc n) c (suc k, e) = let q = within-up n c (k, e) in (q.0, omega (arith, q.1))
+
+up-within : (n c : ℕ) → core < c → c < suc n → In c (up_to n)
+up-within zero c l h = absurd (omega (arith, l, h))
+up-within (suc n) c l h = by (split n c h) (up-within n c l)
+  where
+    split : (m b : ℕ) → b < suc (suc m) → (suc m ≡ b) ⊎ (b < suc m)
+    split zero zero g = inr (omega arith)
+    split zero (suc zero) g = inl refl
+    split zero (suc (suc b)) g = absurd (omega (arith, g))
+    split (suc m) zero g = inr (omega arith)
+    split (suc m) (suc b) g = elim (split m b (omega (arith, g))) [ inl e ↦ inl (ap suc e) | inr k ↦ inr (omega (arith, k)) ]
+
+    by : (suc n ≡ c) ⊎ (c < suc n) → (c < suc n → In c (up_to n)) → In c (up_to (suc n))
+    by (inl e) f = (zero, ap Some e)
+    by (inr g) f = let q = f g in (suc q.0, q.1)
+
+-- the crates of a text of n crates but the first
+abbrev others : ℕ → List ℕ
+others n = up_to (pred n)
+
+other-crate : (n c : ℕ) → In c (others n) → (core < c) × (c < n)
+other-crate zero c i = let q = within-up zero c i in absurd (omega (arith, q.0, q.1))
+other-crate (suc n) c i = within-up n c i
+
+crate-other : (n c : ℕ) → core < c → c < n → In c (others n)
+crate-other zero c l h = absurd (omega (arith, h))
+crate-other (suc n) c l h = up-within n c l h
+
+module _ (d : Declarations) (a : AllKept d) (accepted : CratesAreAccepted d) where
+  abbrev W : World
+  W = text_world d
+
+  abbrev cs : List ℕ
+  cs = others (length d.crates)
+
+  abbrev own : List View
+  own = map (view_at W) cs
+
+  set : (xs : List ℕ) → JoinedSet W (map (view_at W) xs) (λ n. n)
+  set xs = joined d a (λ c l h. (accepted c l h).keeps) xs
+
+  answered : (i : ImplDecl) → In i W.impls → IsAnswered own i
+  answered i m = by (core-or-later i.home)
+    where
+      by : (i.home ≡ core) ⊎ (core < i.home) → IsAnswered own i
+      by (inl e) = inl (of-core d a i m e)
+      by (inr l) = inr (view_at W i.home, in-map (view_at W) cs i.home (crate-other (length d.crates) i.home l (home-below d a i m)), refl)
+
+  of-own : (P : View → Type 0) → ((c : ℕ) → core < c → c < length d.crates → P (view_at W c)) → (v : View) → In v own → P v
+  of-own P h v i =
+      let q = map-at (view_at W) cs v i in
+      let o = other-crate (length d.crates) q.1 (q.0, q.2) in
+      subst P (sym q.3) (h q.1 o.0 o.1)
+
+  pub held-supertraits : CratesAreHeld d → HeadersHaveSupertraits W
+  held-supertraits held = (held-linked W own (λ n. n) (set cs) answered (of-own (λ v. IsHeld v.world v.asker) held)).supers_proved
+
+  module _ (headline : HeadlineHolds) (supers : HeadersHaveSupertraits W) where
+    with-asked : (xs : List ℕ) → LinkedSet W (map (view_at W) xs) (λ n. n)
+    with-asked xs = record { joined = set xs; supers_proved = supers }
+
+    head : (limit : ℕ) (asked : List ℕ) → Headline limit W own (map (view_at W) asked)
+    head limit asked =
+        headline limit W own (map (view_at W) asked) (λ n. n) (subst (λ vs. LinkedSet W vs (λ n. n)) (map-append (view_at W) cs asked) (with-asked (cs ++ asked))) answered
+        (of-own (λ v. IsAccepted v.world v.asker) accepted)
+
+    pub coherent : (limit : ℕ) → TextIsCoherent limit d
+    coherent limit = record {
+      one_impl = (head limit []).one_impl;
+      no_holds = λ c ks r h s. (head limit (c ∷ [])).no_holds (view_at W c) (here (view_at W c) []) ks r h (subst (Solution W ks) (sym (reference-same r)) s);
+      yes_holds = λ c ks ts r h. subst (HasProof W []) (reference-same (filled_reference ks ts r)) ((head limit (c ∷ [])).yes_holds (view_at W c) (here (view_at W c) []) ks ts r h);
+    }
+
+pub accepted-texts-are-coherent : HeadlineHolds → AcceptedTextsAreCoherent
+accepted-texts-are-coherent headline d (bytes, t) accepted supers limit = coherent d (texts-are-kept bytes d t) accepted headline supers limit
+
+pub held-texts-are-coherent : HeadlineHolds → HeldTextsAreCoherent
+held-texts-are-coherent headline d (bytes, t) accepted held limit =
+    let a = texts-are-kept bytes d t in
+    coherent d a accepted headline (held-supertraits d a accepted held) limit

@@ -1,0 +1,388 @@
+-- What a text without a fault keeps from line to line, beside what goals need: numbers, homes, auto traits, headers, and rising `dyn`s.
+use Rattle.std.proofs.Common.{◌≡◌, ◌<◌, ◌≤◌, ◌-◌, ◌+◌, ℕ, zero, suc, Bool, true, false, ◌&&◌, ◌||◌, ◌==◌, List, [], ◌∷◌, ◌++◌, map, length, append_assoc, Option, Some, None, Result, Ok, Err, refl, sym, ap, ◌∙◌, subst, arith}
+use Rattle.std.proofs.lemmas.Option.{same_Some}
+use Rattle.std.proofs.lemmas.Bool.{eqb-true, ne_eqb}
+use Rattle.std.specs.Prelude.{slice_get, find, if◌then◌else◌, not}
+use Rattle.std.specs.List.{flat_map}
+use Rattle.std.specs.Option.{option_map, option_map_or, option_or}
+use Rattle.std.specs.Str.{bytes_eq}
+use Rattle.model.specs.Label.{of_type, param, adt}
+use Rattle.model.specs.Trees.{Trees, tree, leaf, ◌+++◌}
+use Rattle.model.specs.Worlds.{Reference, core, sees}
+use Rattle.model.specs.Rules.{sized}
+use Rattle.model.specs.Proofs.{In}
+use Rattle.model.proofs.Members.{in-left, self-number, not-both}
+use Rattle.declarations.specs.Merges.{Each}
+use Rattle.text_definitions.specs.Syntax.{TypeTree, of_primitive, never_type, variable_type, named, reference_to, pointer_to, slice_of, array_of, tuple_of, fn_of, fn_to, dyn_of, Params, Bound, Clause, Line, crate_line, struct_line, trait_line, impl_line, prove_line, refute_line}
+use Rattle.text_definitions.specs.Declarations.{Declarations, NamedCrate, NamedStruct, NamedTrait, NamedImpl, Known, a_crate, a_struct, a_trait, world_of, known, last_crate, nothing_declared, kinds_of}
+use Rattle.text_definitions.specs.Uses.{args_count, kinds_of_struct, kinds_of_trait, type_uses, args_uses, clause_uses}
+use Rattle.text_definitions.specs.Faults.{fault_of, with_own, is_among, is_param, is_loaded_auto, is_own_struct, is_struct_in, is_auto_name, is_built_in, is_trait_of}
+use Rattle.text_definitions.specs.Lowering.{place_among, trait_number, struct_label, type_label, type_tree, args_trees, with_self}
+use Rattle.text_definitions.specs.Adding.{added, item_meanings, crate_of, struct_of, trait_of, impl_of}
+use Rattle.text_definitions.specs.Written.{IsWritten}
+use Rattle.text_definitions.specs.Text.{LineGives, other_byte, blank, unwritten, faulty, adds, LinesGive, ends, fails, goes_on, TextGives, too_long, fits}
+use Rattle.line_reader.proofs.NoFault.{passes-tests, belongs-to-crate}
+use Rattle.line_reader.proofs.FittingUses.{faultless-uses}
+use Rattle.view_lowering.proofs.Applied.{each-map, each-more, still-there}
+use Rattle.view_lowering.proofs.Texts.{Well, AtPlaces, autos-bare, line-added, core-well}
+use Rattle.view_lowering.proofs.Trees.{and-left, and-right, or-left}
+use Rattle.type_terms.proofs.Made.{false-true}
+use Rattle.sessions.proofs.Seeing.{seen-more}
+use Rattle.sessions.proofs.TextTerms.{scope_of, trait-used, found-placed}
+use Rattle.sessions.proofs.FormedTexts.{Formed, line-formed, core-formed, pushed, param-sorted, param-free, seen-still}
+use Rattle.sessions.proofs.RisingBounds.{Rises, fields-rise, clause-rises, clauses-rise, bounds-rise}
+
+-- ---- what is kept
+-- xs are the items of `core` and then items of other crates
+abbrev pub Behind : {A : Type 0} → (A → ℕ) → List A → List A → Type 0
+Behind {A = A} home first xs = (ys : List A) × (xs ≡ first ++ ys) × Each (λ y. core < home y) ys
+
+abbrev pub AtHome : Declarations → NamedImpl → Type 0
+AtHome d n = (s : ℕ) × (ks : Trees) × (os : Trees) × (n.item.header.args ≡ tree (adt s) ks os) × ((x : NamedStruct) × (slice_get d.structs s ≡ Some x) × (x.item.home ≡ n.item.home))
+
+pub record HeaderKept (d : Declarations) (n : NamedImpl) : Type 0 where
+  pub of : NamedTrait
+  pub there : slice_get d.traits n.item.header.trait ≡ Some of
+  pub seen : sees (world_of d) n.item.home of.item.home ≡ true
+  pub not_sized : (n.item.header.trait == sized) ≡ false
+  pub at_home : of.item.is_auto ≡ true → AtHome d n
+  pub home : n.item.home < length d.crates
+
+abbrev pub ImplRises : NamedImpl → Type 0
+ImplRises n = Rises n.item.header.args × Each (λ (r : Reference). Rises r.args) n.item.clauses
+
+pub record Kept (d : Declarations) : Type 0 where
+  pub impl_numbers : (k : ℕ) (x : NamedImpl) → slice_get d.impls k ≡ Some x → x.item.name ≡ k
+  pub crates : (cs : List NamedCrate) × (d.crates ≡ nothing_declared.crates ++ cs)
+  pub structs : Behind (λ (x : NamedStruct). x.item.home) nothing_declared.structs d.structs
+  pub traits : Behind (λ (x : NamedTrait). x.item.home) nothing_declared.traits d.traits
+  pub impls : Behind (λ (x : NamedImpl). x.item.home) nothing_declared.impls d.impls
+  pub autos : Each (λ (x : NamedTrait). x.item.is_auto ≡ true → x.item.bounds ≡ []) d.traits
+  pub headers : Each (HeaderKept d) d.impls
+  pub fields_rise : Each (λ (x : NamedStruct). Each Rises x.item.fields) d.structs
+  pub bounds_rise : Each (λ (x : NamedTrait). Each (λ (r : Reference). Rises r.args) x.item.bounds) d.traits
+  pub impls_rise : Each ImplRises d.impls
+
+-- ---- one more
+behind-more : {A : Type 0} (home : A → ℕ) (first xs : List A) (x : A) → Behind home first xs → core < home x → Behind home first (xs ++ x ∷ [])
+behind-more home first xs x h l = (h.0 ++ x ∷ [], ap (λ z. z ++ x ∷ []) h.1 ∙ append_assoc first h.0 (x ∷ []), each-more (λ y. core < home y) h.0 x h.2 l)
+
+header-grows : (d e : Declarations) → ((k : ℕ) (x : NamedStruct) → slice_get d.structs k ≡ Some x → slice_get e.structs k ≡ Some x) → ((k : ℕ) (x : NamedTrait) → slice_get d.traits k ≡ Some x → slice_get e.traits k ≡ Some x)
+    → ((c x : ℕ) → sees (world_of d) c x ≡ true → sees (world_of e) c x ≡ true) → length d.crates ≤ length e.crates → (n : NamedImpl) → HeaderKept d n → HeaderKept e n
+header-grows d e f g s l n h = record {
+  of = h.of;
+  there = g n.item.header.trait h.of h.there;
+  seen = s n.item.home h.of.item.home h.seen;
+  not_sized = h.not_sized;
+  at_home = λ a. let q = h.at_home a in (q.0, q.1, q.2, q.3, (q.4.0, f q.0 q.4.0 q.4.1, q.4.2));
+  home = omega (arith, h.home, l);
+}
+
+last-later : (d : Declarations) → 1 < length d.crates → core < last_crate d
+last-later d h = omega (arith, h)
+
+-- ---- what a name stands for
+abbrev AutoAt : Declarations → Option Known → Type 0
+AutoAt d o = (t : NamedTrait) → slice_get d.traits (trait_number o) ≡ Some t → t.item.is_auto ≡ true → option_map_or (λ k. elim k [ a_crate i ↦ false | a_struct i h kinds ↦ false | a_trait i h a kinds ↦ a ]) o false ≡ true
+
+abbrev all-of : Option NamedCrate → Option NamedStruct → Option NamedTrait → Option Known
+all-of co so to = option_or (option_map (λ (x : NamedCrate). a_crate x.item.name) co) (option_or (option_map (λ (x : NamedStruct). a_struct x.item.name x.item.home x.kinds) so) (option_map (λ (x : NamedTrait). a_trait x.item.name x.item.home x.item.is_auto x.kinds) to))
+
+auto-known : (d : Declarations) (n : List ℕ) (k : ℕ) → Well d → option_map_or (is_trait_of k) (known d n) false ≡ true → AutoAt d (known d n)
+auto-known d n k w h = by (find (λ (x : NamedCrate). bytes_eq x.text n) d.crates) (find (λ (x : NamedStruct). bytes_eq x.text n) d.structs) (find (λ (x : NamedTrait). bytes_eq x.text n) d.traits) refl h
+  where
+    by : (co : Option NamedCrate) (so : Option NamedStruct) (to : Option NamedTrait) → find (λ (x : NamedTrait). bytes_eq x.text n) d.traits ≡ to → option_map_or (is_trait_of k) (all-of co so to) false ≡ true → AutoAt d (all-of co so to)
+    by (Some x) so to e g = absurd (false-true g)
+    by None (Some x) to e g = absurd (false-true g)
+    by None None None e g = absurd (false-true g)
+    by None None (Some x) e g = λ t q a.
+        let p = found-placed (λ (y : NamedTrait). y.item.name) (λ (y : NamedTrait). bytes_eq y.text n) d.traits x w.trait_numbers e in
+        ap (λ (y : NamedTrait). y.item.is_auto) (same_Some x t (sym p ∙ q)) ∙ a
+
+abbrev OwnAt : Declarations → Option Known → Type 0
+OwnAt d o = (i : ℕ) × (struct_label o ≡ adt i) × ((x : NamedStruct) × (slice_get d.structs i ≡ Some x) × (x.item.home ≡ last_crate d))
+
+own-known : (d : Declarations) (n : List ℕ) → Well d → option_map_or (is_struct_in (last_crate d)) (known d n) false ≡ true → OwnAt d (known d n)
+own-known d n w h = by (find (λ (x : NamedCrate). bytes_eq x.text n) d.crates) (find (λ (x : NamedStruct). bytes_eq x.text n) d.structs) (find (λ (x : NamedTrait). bytes_eq x.text n) d.traits) refl h
+  where
+    by : (co : Option NamedCrate) (so : Option NamedStruct) (to : Option NamedTrait) → find (λ (x : NamedStruct). bytes_eq x.text n) d.structs ≡ so → option_map_or (is_struct_in (last_crate d)) (all-of co so to) false ≡ true → OwnAt d (all-of co so to)
+    by (Some x) so to e g = absurd (false-true g)
+    by None (Some x) to e g = (x.item.name, refl, (x, found-placed (λ (y : NamedStruct). y.item.name) (λ (y : NamedStruct). bytes_eq y.text n) d.structs x w.struct_numbers e, eqb-true x.item.home (last_crate d) g))
+    by None None None e g = absurd (false-true g)
+    by None None (Some x) e g = absurd (false-true g)
+
+-- ---- the header of an impl
+implied : (a b : Bool) → a && not b ≡ false → a ≡ true → b ≡ true
+implied true true h e = refl
+implied true false h e = absurd cc
+implied false b h e = absurd cc
+
+not-built-in : (o : Option Known) (k : ℕ) → option_map_or (is_trait_of k) o false ≡ true → option_map_or is_built_in o false ≡ false → (trait_number o == sized) ≡ false
+not-built-in None k t h = absurd cc
+not-built-in (Some (a_crate i)) k t h = absurd cc
+not-built-in (Some (a_struct i x ks)) k t h = absurd cc
+not-built-in (Some (a_trait i x a ks)) k t h = ne_eqb i sized (λ e. not-both (sized == i) (subst (λ z. (sized == z) ≡ true) (sym e) (self-number sized)) (or-left (sized == i) _ h))
+
+module _ (d : Declarations) (line : List ℕ) (ps : Params) (k : Clause) (ks : List Clause) (w : IsWritten line (impl_line ps k ks)) (f : fault_of d (impl_line ps k ks) ≡ None) (well : Well d) where
+  abbrev l : Line
+  l = impl_line ps k ks
+
+  abbrev x : NamedImpl
+  x = impl_of d (item_meanings d l 0) ps k ks
+
+  among-first : (n : List ℕ) (xs bs : List (List ℕ)) → is_among n (xs ++ bs) ≡ false → is_among n xs ≡ false
+  among-first n [] bs h = refl
+  among-first n (a ∷ xs) bs h = by (bytes_eq a n) h (among-first n xs bs)
+    where
+      by : (b : Bool) → b || is_among n (xs ++ bs) ≡ false → (is_among n (xs ++ bs) ≡ false → is_among n xs ≡ false) → b || is_among n xs ≡ false
+      by true g r = absurd cc
+      by false g r = r g
+
+  not-true : (b : Bool) → not b ≡ true → b ≡ false
+  not-true false h = refl
+  not-true true h = absurd cc
+
+  own-self : (t : TypeTree) (more : Trees) → is_own_struct d l t ≡ true
+      → (s : ℕ) × (cs : Trees) × (os : Trees) × (type_tree (item_meanings d l 0) [] of_type t +++ more ≡ tree (adt s) cs os) × ((y : NamedStruct) × (slice_get d.structs s ≡ Some y) × (y.item.home ≡ last_crate d))
+  own-self (named n args) more h =
+      let q = own-known d n well (and-right (not (is_param l n)) _ h) in
+      let a = among-first n ps.types ps.consts (not-true (is_param l n) (and-left (not (is_param l n)) _ h)) in
+      (q.0, args_trees (item_meanings d l 0) [] (kinds_of_struct (known d n)) args, more, ap (λ m. tree m (args_trees (item_meanings d l 0) [] (kinds_of_struct (known d n)) args) more) (label n a ∙ q.1), q.2)
+    where
+      label : (n : List ℕ) → is_among n ps.types ≡ false → type_label (item_meanings d l 0) n ≡ struct_label (known d n)
+      label n e = ap (λ b. if b then param of_type (0 + length ps.lifetimes + place_among n ps.types) else struct_label (known d n)) e
+  own-self (of_primitive p) more h = absurd cc
+  own-self never_type more h = absurd cc
+  own-self (variable_type n) more h = absurd cc
+  own-self (reference_to o m t) more h = absurd cc
+  own-self (pointer_to m t) more h = absurd cc
+  own-self (slice_of t) more h = absurd cc
+  own-self (array_of t n) more h = absurd cc
+  own-self (tuple_of ts) more h = absurd cc
+  own-self (fn_of b ts) more h = absurd cc
+  own-self (fn_to b ts r) more h = absurd cc
+  own-self (dyn_of i is) more h = absurd cc
+
+  pub header-kept : HeaderKept d x
+  header-kept =
+      let p = passes-tests d l f in
+      let rest = args_uses d [] (kinds_of_trait (known d k.bound.trait)) k.bound.args ++ type_uses d [] of_type k.subject ++ flat_map (clause_uses d) ks in
+      let u = faultless-uses d l f in
+      let q = trait-used d l 0 (last_crate d) param [] param-sorted (param-free (scope_of d l (last_crate d))) well.struct_numbers well.trait_numbers (autos-bare d well.bare) k.bound.trait (args_count k.bound.args) _ (u, p.has_seen_names) in
+      record {
+        of = q.0.0;
+        there = q.0.1;
+        seen = q.0.3;
+        not_sized = not-built-in (known d k.bound.trait) (args_count k.bound.args) u.0.1 p.implements_open;
+        at_home = λ a. own-self k.subject (args_trees (item_meanings d l 0) [] (kinds_of_trait (known d k.bound.trait)) k.bound.args)
+            (implied (is_auto_name d k.bound.trait) (is_own_struct d l k.subject) p.is_local_auto (auto-known d k.bound.trait (args_count k.bound.args) well u.0.1 q.0.0 q.0.1 a));
+        home = last-there (length d.crates) (belongs-to-crate d l f refl);
+      }
+    where
+      last-there : (n : ℕ) → 1 < n → n - 1 < n
+      last-there n h = omega (arith, h)
+
+-- ---- lines
+map-more : (xs : List NamedCrate) (y : NamedCrate) → map (λ (z : NamedCrate). z.item) (xs ++ y ∷ []) ≡ map (λ (z : NamedCrate). z.item) xs ++ y.item ∷ []
+map-more [] y = refl
+map-more (z ∷ zs) y = ap (λ r. z.item ∷ r) (map-more zs y)
+
+longer : (xs : List NamedCrate) (y : NamedCrate) → length (map (λ (z : NamedCrate). z.item) xs) ≤ length (map (λ (z : NamedCrate). z.item) (xs ++ y ∷ []))
+longer [] y = omega arith
+longer (z ∷ zs) y = omega (arith, longer zs y)
+
+grown : (xs : List NamedCrate) (y : NamedCrate) → length xs ≤ length (xs ++ y ∷ [])
+grown [] y = omega arith
+grown (z ∷ zs) y = omega (arith, grown zs y)
+
+same-length : (n : ℕ) → n ≤ n
+same-length n = omega arith
+
+headers-still : (d e : Declarations) → ((k : ℕ) (x : NamedStruct) → slice_get d.structs k ≡ Some x → slice_get e.structs k ≡ Some x) → ((k : ℕ) (x : NamedTrait) → slice_get d.traits k ≡ Some x → slice_get e.traits k ≡ Some x)
+    → ((c x : ℕ) → sees (world_of d) c x ≡ true → sees (world_of e) c x ≡ true) → length d.crates ≤ length e.crates → (ns : List NamedImpl) → Each (HeaderKept d) ns → Each (HeaderKept e) ns
+headers-still d e f g s l ns h = each-map (HeaderKept d) (HeaderKept e) (header-grows d e f g s l) ns h
+
+bare-bounds : (f a : Bool) (n : List ℕ) (ps : Params) (bs : List Bound) → is_loaded_auto (trait_line f a n ps bs) ≡ false → a ≡ true → bs ≡ []
+bare-bounds f false n ps bs h e = absurd cc
+bare-bounds f true n ps [] h e = refl
+bare-bounds f true n ps (b ∷ bs) h e = absurd (clash (length (kinds_of ps) == 0) (length (b ∷ bs) == 0) (ne_eqb (suc (length bs)) 0 (λ q. omega (arith, q))) h)
+  where
+    clash : (x y : Bool) → y ≡ false → not (x && y) ≡ false → ⊥
+    clash true true p q = cc
+    clash true false p q = cc
+    clash false y p q = cc
+
+pub line-kept : (d : Declarations) (line : List ℕ) (l : Line) → IsWritten line l → fault_of d l ≡ None → Well d → Kept d → Kept (added d l)
+line-kept d line (crate_line n us) w f well h =
+    let e = added d (crate_line n us) in
+    let x = crate_of d n us in
+    record {
+      impl_numbers = h.impl_numbers;
+      crates = (h.crates.0 ++ x ∷ [], ap (λ z. z ++ x ∷ []) h.crates.1 ∙ append_assoc nothing_declared.crates h.crates.0 (x ∷ []));
+      structs = h.structs;
+      traits = h.traits;
+      impls = h.impls;
+      autos = h.autos;
+      headers = headers-still d e (λ k y q. q) (λ k y q. q) (seen-more (world_of d) (world_of e) (λ y i. subst (In y) (sym (map-more d.crates x)) (in-left y (world_of d).crates (x.item ∷ []) i)) (longer d.crates x)) (grown d.crates x) d.impls h.headers;
+      fields_rise = h.fields_rise;
+      bounds_rise = h.bounds_rise;
+      impls_rise = h.impls_rise;
+    }
+line-kept d line (prove_line c ps a ks) w f well h =
+    record {
+      impl_numbers = h.impl_numbers;
+      crates = h.crates;
+      structs = h.structs;
+      traits = h.traits;
+      impls = h.impls;
+      autos = h.autos;
+      headers = headers-still d (added d (prove_line c ps a ks)) (λ k y q. q) (λ k y q. q) (seen-still d (added d (prove_line c ps a ks)) refl) (same-length (length d.crates)) d.impls h.headers;
+      fields_rise = h.fields_rise;
+      bounds_rise = h.bounds_rise;
+      impls_rise = h.impls_rise;
+    }
+line-kept d line (refute_line c ps a) w f well h =
+    record {
+      impl_numbers = h.impl_numbers;
+      crates = h.crates;
+      structs = h.structs;
+      traits = h.traits;
+      impls = h.impls;
+      autos = h.autos;
+      headers = headers-still d (added d (refute_line c ps a)) (λ k y q. q) (λ k y q. q) (seen-still d (added d (refute_line c ps a)) refl) (same-length (length d.crates)) d.impls h.headers;
+      fields_rise = h.fields_rise;
+      bounds_rise = h.bounds_rise;
+      impls_rise = h.impls_rise;
+    }
+line-kept d line (struct_line g n ps fs) w f well h =
+    let l = struct_line g n ps fs in
+    let e = added d l in
+    let x = struct_of d (item_meanings d l 0) g n ps fs in
+    record {
+      impl_numbers = h.impl_numbers;
+      crates = h.crates;
+      structs = behind-more (λ (y : NamedStruct). y.item.home) nothing_declared.structs d.structs x h.structs (last-later d (belongs-to-crate d l f refl));
+      traits = h.traits;
+      impls = h.impls;
+      autos = h.autos;
+      headers = headers-still d e (λ k y q. still-there d.structs (x ∷ []) k y q) (λ k y q. q) (seen-still d e refl) (same-length (length d.crates)) d.impls h.headers;
+      fields_rise = each-more (λ (y : NamedStruct). Each Rises y.item.fields) d.structs x h.fields_rise (fields-rise (with_own d l) ps 0 [] fs);
+      bounds_rise = h.bounds_rise;
+      impls_rise = h.impls_rise;
+    }
+line-kept d line (trait_line g a n ps bs) w f well h =
+    let l = trait_line g a n ps bs in
+    let e = added d l in
+    let x = trait_of d (item_meanings d l 1) g a n ps bs in
+    record {
+      impl_numbers = h.impl_numbers;
+      crates = h.crates;
+      structs = h.structs;
+      traits = behind-more (λ (y : NamedTrait). y.item.home) nothing_declared.traits d.traits x h.traits (last-later d (belongs-to-crate d l f refl));
+      impls = h.impls;
+      autos = each-more (λ (y : NamedTrait). y.item.is_auto ≡ true → y.item.bounds ≡ []) d.traits x h.autos (λ q. ap (map (with_self (item_meanings d l 1) (leaf (param of_type 0)))) (bare-bounds g a n ps bs (passes-tests d l f).is_bare_auto q));
+      headers = headers-still d e (λ k y q. q) (λ k y q. still-there d.traits (x ∷ []) k y q) (seen-still d e refl) (same-length (length d.crates)) d.impls h.headers;
+      fields_rise = h.fields_rise;
+      bounds_rise = each-more (λ (y : NamedTrait). Each (λ (r : Reference). Rises r.args) y.item.bounds) d.traits x h.bounds_rise (bounds-rise (with_own d l) ps 1 [] (leaf (param of_type 0)) refl bs);
+      impls_rise = h.impls_rise;
+    }
+line-kept d line (impl_line ps k ks) w f well h =
+    let l = impl_line ps k ks in
+    let e = added d l in
+    let y = impl_of d (item_meanings d l 0) ps k ks in
+    record {
+      impl_numbers = pushed (λ i (z : NamedImpl). z.item.name ≡ i) d.impls y h.impl_numbers refl;
+      crates = h.crates;
+      structs = h.structs;
+      traits = h.traits;
+      impls = behind-more (λ (z : NamedImpl). z.item.home) nothing_declared.impls d.impls y h.impls (last-later d (belongs-to-crate d l f refl));
+      autos = h.autos;
+      headers = headers-still d e (λ i z q. q) (λ i z q. q) (seen-still d e refl) (same-length (length d.crates)) (d.impls ++ y ∷ []) (each-more (HeaderKept d) d.impls y h.headers (header-kept d line ps k ks w f well));
+      fields_rise = h.fields_rise;
+      bounds_rise = h.bounds_rise;
+      impls_rise = each-more ImplRises d.impls y h.impls_rise (clause-rises d ps 0 [] k, clauses-rise d ps 0 [] ks);
+    }
+
+-- ---- `core`
+abbrev core_trait_at : ℕ → NamedTrait
+core_trait_at k = option_map_or (λ t. t) (slice_get nothing_declared.traits k) (record { text = []; kinds = []; item = record { name = 0; home = 0; is_fundamental = false; is_auto = false; bounds = [] } })
+
+clone-header : (n : NamedImpl) → n.item.header.trait ≡ 1 → n.item.home ≡ 0 → HeaderKept nothing_declared n
+clone-header n e h = record {
+  of = core_trait_at 1;
+  there = ap (slice_get nothing_declared.traits) e;
+  seen = ap (λ c. sees (world_of nothing_declared) c 0) h;
+  not_sized = ap (λ t. t == sized) e;
+  at_home = λ q. absurd (false-true q);
+  home = omega (arith, h);
+}
+
+copy-header : (n : NamedImpl) → n.item.header.trait ≡ 2 → n.item.home ≡ 0 → HeaderKept nothing_declared n
+copy-header n e h = record {
+  of = core_trait_at 2;
+  there = ap (slice_get nothing_declared.traits) e;
+  seen = ap (λ c. sees (world_of nothing_declared) c 0) h;
+  not_sized = ap (λ t. t == sized) e;
+  at_home = λ q. absurd (false-true q);
+  home = omega (arith, h);
+}
+
+numbered : (b : ℕ) (xs : List NamedImpl) → AtPlaces (λ (y : NamedImpl). y.item.name) b xs → (k : ℕ) (x : NamedImpl) → slice_get xs k ≡ Some x → x.item.name ≡ b + k
+numbered b [] h k x e = absurd (no x e)
+  where
+    no : (y : NamedImpl) → None ≡ Some y → ⊥
+    no y q = cc
+numbered b (z ∷ zs) h zero x e = ap (λ (y : NamedImpl). y.item.name) (sym (same_Some z x e)) ∙ h.0 ∙ no-more b
+  where
+    no-more : (n : ℕ) → n ≡ n + zero
+    no-more n = omega arith
+numbered b (z ∷ zs) h (suc k) x e = numbered (suc b) zs h.1 k x e ∙ more b k
+  where
+    more : (n i : ℕ) → suc n + i ≡ n + suc i
+    more n i = omega arith
+
+pub core-kept : Kept nothing_declared
+core-kept = record {
+  impl_numbers = λ k x e. numbered 0 nothing_declared.impls (refl, (refl, (refl, (refl, (refl, (refl, (refl, (refl, (refl, (refl, (refl, (refl, (refl, (refl, (refl, (refl, (refl, (refl, (refl, (refl, (refl, (refl, (refl, (refl, (refl, (refl, (refl, (refl, (refl, (refl, (refl, (refl, (refl, (refl, (refl, (refl, (refl, (refl, (refl, tt))))))))))))))))))))))))))))))))))))))) k x e ∙ none-first k;
+  crates = ([], refl);
+  structs = ([], refl, tt);
+  traits = ([], refl, tt);
+  impls = ([], refl, tt);
+  autos = ((λ e. absurd (false-true e)), ((λ e. absurd (false-true e)), ((λ e. absurd (false-true e)), ((λ e. absurd (false-true e)), ((λ e. absurd (false-true e)), ((λ e. absurd (false-true e)), ((λ e. absurd (false-true e)), ((λ e. absurd (false-true e)), ((λ e. absurd (false-true e)), tt)))))))));
+  headers = (clone-header _ refl refl, (clone-header _ refl refl, (clone-header _ refl refl, (clone-header _ refl refl, (clone-header _ refl refl, (clone-header _ refl refl, (clone-header _ refl refl, (clone-header _ refl refl, (clone-header _ refl refl, (clone-header _ refl refl, (clone-header _ refl refl, (clone-header _ refl refl, (clone-header _ refl refl, (clone-header _ refl refl, (clone-header _ refl refl, (clone-header _ refl refl, (clone-header _ refl refl, (clone-header _ refl refl, (clone-header _ refl refl, (clone-header _ refl refl, (copy-header _ refl refl, (copy-header _ refl refl, (copy-header _ refl refl, (copy-header _ refl refl, (copy-header _ refl refl, (copy-header _ refl refl, (copy-header _ refl refl, (copy-header _ refl refl, (copy-header _ refl refl, (copy-header _ refl refl, (copy-header _ refl refl, (copy-header _ refl refl, (copy-header _ refl refl, (copy-header _ refl refl, (copy-header _ refl refl, (copy-header _ refl refl, (copy-header _ refl refl, (copy-header _ refl refl, (copy-header _ refl refl, tt)))))))))))))))))))))))))))))))))))))));
+  fields_rise = ((refl, tt), tt);
+  bounds_rise = (tt, ((refl, tt), ((refl, tt), (tt, (tt, (tt, ((refl, tt), ((refl, tt), (tt, tt)))))))));
+  impls_rise = ((refl, tt), ((refl, tt), ((refl, tt), ((refl, tt), ((refl, tt), ((refl, tt), ((refl, tt), ((refl, tt), ((refl, tt), ((refl, tt), ((refl, tt), ((refl, tt), ((refl, tt), ((refl, tt), ((refl, tt), ((refl, tt), ((refl, tt), ((refl, tt), ((refl, (refl, tt)), ((refl, (refl, tt)), ((refl, tt), ((refl, tt), ((refl, tt), ((refl, tt), ((refl, tt), ((refl, tt), ((refl, tt), ((refl, tt), ((refl, tt), ((refl, tt), ((refl, tt), ((refl, tt), ((refl, tt), ((refl, tt), ((refl, tt), ((refl, tt), ((refl, tt), ((refl, tt), ((refl, (refl, tt)), tt)))))))))))))))))))))))))))))))))))))));
+}
+  where
+    none-first : (n : ℕ) → 0 + n ≡ n
+    none-first n = omega arith
+
+-- ---- texts
+pub record AllKept (d : Declarations) : Type 0 where
+  pub well : Well d
+  pub formed : Formed d
+  pub kept : Kept d
+
+abbrev KeptIfTaken : {E : Type 0} → Result Declarations E → Type 0
+KeptIfTaken (Ok d) = AllKept d
+KeptIfTaken (Err e) = Unit {0}
+
+line-taken : (d : Declarations) (line : List ℕ) (r : Result Declarations ℕ) → LineGives d line r → AllKept d → KeptIfTaken r
+line-taken d line _ (other_byte a) h = tt
+line-taken d line _ (blank a b) h = h
+line-taken d line _ (unwritten a b u) h = tt
+line-taken d line _ (faulty l n a b w f) h = tt
+line-taken d line _ (adds l a b w f) h = record { well = line-added d line l w f h.well; formed = line-formed d line l w f h.well h.formed; kept = line-kept d line l w f h.well h.kept }
+
+lines-taken : (d : Declarations) (k : ℕ) (ls : List (List ℕ)) (r : Result Declarations (ℕ × ℕ)) → LinesGive d k ls r → AllKept d → KeptIfTaken r
+lines-taken d k ls r (ends _ _) h = h
+lines-taken d k ls r (fails _ _ l rest n g) h = tt
+lines-taken d k ls r (goes_on _ e _ l rest _ g more) h = lines-taken e (suc k) rest r more (line-taken d l (Ok e) g h)
+
+text-taken : (bytes : List ℕ) (r : Result Declarations (ℕ × ℕ)) → TextGives bytes r → KeptIfTaken r
+text-taken bytes _ (too_long h) = tt
+text-taken bytes r (fits _ h p) = lines-taken nothing_declared 1 _ r p (record { well = core-well; formed = core-formed; kept = core-kept })
+
+pub texts-are-kept : (bytes : List ℕ) (d : Declarations) → TextGives bytes (Ok d) → AllKept d
+texts-are-kept bytes d h = text-taken bytes (Ok d) h

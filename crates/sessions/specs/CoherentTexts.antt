@@ -1,0 +1,42 @@
+-- What it says of a text as a whole that all its crates are accepted.
+use Rattle.std.specs.Prelude.{◌≡◌, ℕ, ◌<◌, IsTrue, List, [], length}
+use Rattle.model.specs.Label.{Sort}
+use Rattle.model.specs.Trees.{Trees}
+use Rattle.model.specs.Worlds.{Reference, core}
+use Rattle.model.specs.Proofs.{HasProof, HasProofByImpl}
+use Rattle.model.specs.Answers.{is_closed}
+use Rattle.model.specs.Supers.{IsHeld}
+use Rattle.model.specs.LinkedSet.{HeadersHaveSupertraits}
+use Rattle.text_definitions.specs.Declarations.{Declarations}
+use Rattle.overlap_check.specs.Verdicts.{IsAccepted}
+use Rattle.overlap_check.specs.Questions.{filled_reference, Solution, yes, IsProveAnswer, no, IsRefuteAnswer}
+use Rattle.sessions.specs.JoinedTexts.{text_world}
+use Rattle.sessions.specs.Promises.{view_in}
+use Rattle.sessions.specs.Subjects.{IsOfText}
+
+-- Each crate of the text but `core` is accepted, by what it sees.
+abbrev pub CratesAreAccepted : Declarations → Type 0
+CratesAreAccepted d = (c : ℕ) → core < c → c < length d.crates → IsAccepted (view_in d c) c
+
+-- In each, the supertraits of the headers of its impls have proofs by what it sees and the impls' where-clauses.
+abbrev pub CratesAreHeld : Declarations → Type 0
+CratesAreHeld d = (c : ℕ) → core < c → c < length d.crates → IsHeld (view_in d c) c
+
+-- What holds of the text as a whole, and not by what one of its crates sees.
+pub record TextIsCoherent (limit : ℕ) (d : Declarations) : Type 0 where
+  -- no closed reference has proofs by two impls
+  pub one_impl : (r : Reference) → IsTrue (is_closed r.args) → (n k : ℕ) → HasProofByImpl (text_world d) [] r n → HasProofByImpl (text_world d) [] r k → n ≡ k
+  -- what is answered `no` in some crate has no solution
+  pub no_holds : (c : ℕ) (ks : List Sort) (r : Reference) → IsRefuteAnswer limit (view_in d c) c ks r no → Solution (text_world d) ks r → ⊥
+  -- what is answered `yes` without where-clauses has a proof
+  pub yes_holds : (c : ℕ) (ks : List Sort) (ts : List Trees) (r : Reference) → IsProveAnswer limit (view_in d c) ks [] r (yes ts) → HasProof (text_world d) [] (filled_reference ks ts r)
+
+-- A text whose crates are all accepted is coherent, where the supertraits of headers are proved. Out: `trait Sub: Sup;
+-- impl Sub for u8` without `impl Sup for u8`, all accepted, of which another crate may have been told that nothing is Sub.
+abbrev pub AcceptedTextsAreCoherent : Type 0
+AcceptedTextsAreCoherent =
+    (d : Declarations) → IsOfText d → CratesAreAccepted d → HeadersHaveSupertraits (text_world d) → (limit : ℕ) → TextIsCoherent limit d
+
+-- So it is where each crate's supertraits are held, by what it sees.
+abbrev pub HeldTextsAreCoherent : Type 0
+HeldTextsAreCoherent = (d : Declarations) → IsOfText d → CratesAreAccepted d → CratesAreHeld d → (limit : ℕ) → TextIsCoherent limit d

@@ -1,0 +1,23 @@
+-- The crates of a text without a fault, as a set.
+use Rattle.std.specs.Prelude.{ℕ, ◌<◌, List, map, length}
+use Rattle.model.specs.Worlds.{World, core}
+use Rattle.model.specs.Terms.{erased_world}
+use Rattle.model.specs.Renumbering.{view_at}
+use Rattle.model.specs.LinkedSet.{JoinedSet}
+use Rattle.text_definitions.specs.Declarations.{Declarations, world_of}
+use Rattle.overlap_check.specs.Verdicts.{KeepsOrphanRule}
+use Rattle.sessions.specs.Promises.{view_in}
+use Rattle.sessions.specs.Subjects.{IsOfText}
+
+-- The text as a whole: all its crates, up to lifetimes.
+abbrev pub text_world : Declarations → World
+text_world d = erased_world (world_of d)
+
+-- The text's crates but `core` keep the orphan rule, as accepted ones do.
+abbrev pub CratesKeepOrphanRule : Declarations → Type 0
+CratesKeepOrphanRule d = (c : ℕ) → core < c → c < length d.crates → KeepsOrphanRule (view_in d c) c
+
+-- The crates of a text without a fault are a joined set, with the views of whichever of them, where all keep the orphan rule.
+abbrev pub TextsAreJoined : Type 0
+TextsAreJoined =
+    (d : Declarations) → IsOfText d → CratesKeepOrphanRule d → (cs : List ℕ) → JoinedSet (text_world d) (map (view_at (text_world d)) cs) (λ n. n)

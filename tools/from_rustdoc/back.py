@@ -1,0 +1,55 @@
+"""From the text back to Rust: values of unknowns, as the program prints them, with the items' own names."""
+from __future__ import annotations
+
+from .headers import FLOATS, Named_, NotUnderstood, Reader
+from .show import Show
+from .terms import Named, Pointer, Primitive, Reference, Tuple, Type, rebuilt
+from .world import World
+
+
+class Back:
+    def __init__(self, world: World) -> None:
+        self.world = world
+        self.show = Show(world)
+        self.keys = {name: key for key, name in world.names.items()}
+
+    def lookup(self, words: list[str]) -> Named_:
+        name = words[-1]
+        if name in self.keys:
+            kind = "trait" if self.world.get(self.keys[name]).is_trait else "struct"
+            return kind, self.keys[name], name
+        if name.startswith(("Ref_", "RefMut_", "PtrConst_", "PtrMut_", "Tuple")) or name in FLOATS:
+            return "struct", name, name
+        return "word", None, name
+
+    def type(self, term: Type) -> Type:
+        term = rebuilt(term, self.type)
+        if isinstance(term, Named) and term.key not in self.world.declarations:
+            if term.key in FLOATS:
+                return Primitive(term.key)
+            if term.key.startswith("Tuple"):
+                return Tuple(tuple(item for part in term.arguments if isinstance(part, Tuple) for item in part.items))
+            target = term.arguments[0]
+            return Reference("Mut" in term.key, target) if term.key.startswith("Ref") else Pointer("Mut" in term.key, target)
+        return term
+
+    def values(self, printed: str) -> str:
+        """`?x = Ref_<str>, ?y = u8` as `?x = &str, ?y = u8`; what cannot be read back stays as it was printed."""
+        if not printed:
+            return ""
+        reader = Reader(printed, self.lookup, unknowns=True)
+        written = []
+        try:
+            while True:
+                name = reader.peek()[1]
+                reader.at += 1
+                reader.need("=")
+                if reader.peek()[0] == "number":
+                    written.append(f"{name} = {reader.constant()}")
+                else:
+                    written.append(f"{name} = {self.show.type(self.type(reader.type()))}")
+                if not reader.eat(","):
+                    break
+        except (NotUnderstood, IndexError):
+            return printed
+        return ", ".join(written) if reader.at_end() else printed

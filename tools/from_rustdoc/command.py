@@ -1,0 +1,243 @@
+"""The command: read, check, ask, later, and a project's folder."""
+from __future__ import annotations
+
+import argparse
+import hashlib
+import json
+import os
+import sys
+from typing import Any, Optional
+
+from . import cargo
+from .build import Translation
+from .checker import check_texts
+from .html_docs import Pages
+from .later import added_impls, changed_auto_traits
+from .program import Answer, run
+from .questions import Asker, QuestionReader
+from .report import Report, explain_refusal
+from .show import Show
+from .standard_json import JsonStandard, json_folder
+from .terms import BadInput, Lossy
+from .world import World
+
+USAGE = """from-rustdoc: a translator of crates to texts for this program, and of its answers back. It is not proved: docs/RUSTDOC.md.
+
+  from-rustdoc PROJECT [-- CARGO'S FLAGS]                runs cargo doc in the folder, and checks the project and what it uses
+  from-rustdoc read -o BASE CRATE.json ..                writes BASE.upper.txt, BASE.lower.txt, BASE.report and BASE.map
+  from-rustdoc check BASE                                is each crate coherent?
+  from-rustdoc ask BASE 'smallvec::IntoIter<[u8; 4]>: Send' ..
+  from-rustdoc later [--private] OLD.json NEW.json       which impls of a release break crates that use it?
+
+Further flags: --docs DIR (std's documents), --program FILE (default: the built program, else the script celtisdarts),
+--metadata FILE (what `cargo metadata --format-version 1` printed; read and later), --with CRATE.json (later: crates that both use),
+--all-std (read: all of std that is about the traits that are named), --quiet."""
+
+
+def new_world(docs: Optional[str]) -> World:
+    """A world with std by its JSON where that is installed, else by its HTML documents."""
+    folder = cargo.docs_folder(docs)
+    std = json_folder(folder)
+    return World(Pages(folder), JsonStandard(std) if std else None)
+
+
+def world_of(files: list[str], docs: Optional[str], uses: Optional[dict[str, list[str]]]) -> World:
+    world = new_world(docs)
+    world.load(files, uses)
+    return world
+
+
+def uses_of(metadata: Optional[str]) -> Optional[dict[str, list[str]]]:
+    """Which crate uses which, by a file of cargo's metadata."""
+    if not metadata:
+        return None
+    with open(metadata, encoding="utf-8") as handle:
+        return cargo.read_metadata(handle.read(), "").uses
+
+
+def translated(world: World, arguments: argparse.Namespace) -> Translation:
+    translation = Translation(world, whole_std=getattr(arguments, "all_std", False), quiet=arguments.quiet)
+    translation.build()
+    return translation
+
+
+def texts_of(translation: Translation) -> dict[str, str]:
+    """Both texts, checked: a text that breaks a rule is not written."""
+    texts = {}
+    for mode in ("upper", "lower"):
+        text = "\n".join(translation.text(mode, comments=True)[0]) + "\n"
+        texts[mode] = text if len(text) < 1 << 20 else "\n".join(translation.text(mode)[0]) + "\n"
+    problems = check_texts(translation, texts["upper"], texts["lower"])
+    if problems:
+        raise BadInput("the texts break the rules of docs/RUSTDOC.md, so they are not written: " + "; ".join(problems[:3]))
+    return texts
+
+
+def verdict_lines(summary: list[str], crates: list[str], answers: dict[str, Answer], places: dict[str, dict[str, list[list[str]]]]) -> tuple[list[str], bool]:
+    """A line for each crate: coherent, not coherent, or not settled. And whether all are coherent."""
+    lines, good = [], True
+    for crate in crates:
+        told = next((s for s in summary if s.startswith(crate + " ")), crate)
+        name, _, rest = told.partition(": ")
+        upper, lower = (answers[mode].crates.get(crate, "accepted") for mode in ("upper", "lower"))
+        if upper == "accepted":
+            # Of std, and of crates that were not given, only a refusal is told.
+            lines += [f"{name}: coherent. {rest}"] if rest else []
+            continue
+        good = False
+        word = "not settled (the upper text alone has it)" if lower == "accepted" else "not coherent"
+        mode = "upper" if lower == "accepted" else "lower"
+        lines.append(f"{name}: {word}. {rest}\n    {explain_refusal(answers[mode].crates[crate], crate, places[mode])}")
+    return lines, good
+
+
+# ---- the commands
+def read(arguments: argparse.Namespace) -> int:
+    uses = uses_of(arguments.metadata)
+    translation = translated(world_of(arguments.json, arguments.docs, uses), arguments)
+    report = Report(translation)
+    write_all(arguments.output, report, texts_of(translation), arguments.json, arguments.docs, uses)
+    print("\n".join(report.summary()))
+    return 0
+
+
+def write_all(base: str, report: Report, texts: dict[str, str], json_files: list[str], docs: Optional[str], uses: Optional[dict[str, list[str]]]) -> None:
+    """Both texts, the report, and the map, which also says what was read, so that `ask` can read it again."""
+    inputs = {"json": [os.path.abspath(f) for f in json_files], "docs": docs, "uses": uses}
+    files = {".upper.txt": texts["upper"], ".lower.txt": texts["lower"], ".report": report.text(), ".map": report.map(inputs, texts)}
+    for ending, text in files.items():
+        with open(base + ending, "w", encoding="utf-8") as handle:
+            handle.write(text)
+
+
+def kept(base: str) -> dict[str, Any]:
+    try:
+        with open(base + ".map", encoding="utf-8") as handle:
+            return json.load(handle)
+    except (OSError, ValueError) as error:
+        raise BadInput(f"{base}.map cannot be read; make it by `from-rustdoc read -o {base} CRATE.json ..`: {error}")
+
+
+def check(arguments: argparse.Namespace) -> int:
+    known = kept(arguments.base)
+    answers = {}
+    for mode in ("upper", "lower"):
+        with open(f"{arguments.base}.{mode}.txt", encoding="utf-8") as handle:
+            text = handle.read()
+        if hashlib.sha256(text.encode()).hexdigest() != known["sums"][mode]:
+            raise BadInput(f"{arguments.base}.{mode}.txt is not what was written: read the crates again")
+        answers[mode] = run(text, arguments.program)
+    lines, good = verdict_lines(known["summary"], list(answers["upper"].crates), answers, known["places"])
+    print("\n".join(lines))
+    print("`accepted` in sets of linked crates is argued of the real crates, not proved: docs/RUSTDOC.md")
+    return 0 if good else 1
+
+
+def ask(arguments: argparse.Namespace) -> int:
+    inputs = kept(arguments.base)["inputs"]
+    world = world_of(inputs["json"], arguments.docs or inputs["docs"], inputs["uses"])
+    reader = QuestionReader(world)
+    questions = [reader.read(text) for text in arguments.questions]
+    translation = Translation(world, quiet=arguments.quiet)
+    translation.roots = [root for question in questions for root in question.roots()]
+    translation.build()
+    for verdict in Asker(translation, arguments.program).ask(questions):
+        print(verdict.show())
+    return 0
+
+
+def later(arguments: argparse.Namespace) -> int:
+    uses = uses_of(arguments.metadata)
+    worlds = [world_of([file, *arguments.with_crates], arguments.docs, uses) for file in (arguments.old, arguments.new)]
+    crates = [next(c.name for c in w.crates.values() if c.file == f) for w, f in zip(worlds, (arguments.old, arguments.new))]
+    if crates[0] != crates[1]:
+        raise BadInput(f"{crates[0]} and {crates[1]} are two crates, not two versions of one")
+    release = added_impls(worlds[0], worlds[1], crates[0], arguments.private)
+    release.apart += changed_auto_traits([translated(w, arguments) for w in worlds], crates[0], arguments.program)
+    show = Show(worlds[1])
+    print(f"{crates[0]} {worlds[0].crates[crates[0]].version} to {worlds[1].crates[crates[0]].version}: {len(release.added)} impls are added")
+    for line in release.new_items + [j.show(show) for j in release.added]:
+        print(line)
+    for line in release.apart:
+        print(f"apart: {line}")
+    return 1 if release.is_breaking else 0
+
+
+def project(folder: str, extra: list[str], arguments: argparse.Namespace) -> int:
+    found = cargo.document(folder, extra, arguments.quiet)
+    for name in sorted(set(found.doubled)):
+        print(f"two versions of {name} are in use, and rustdoc keeps the documents of one: its items are taken as not given")
+    good = True
+    for crates in [found.closure(found.members)]:
+        good &= check_set(found, crates, arguments)
+    return 0 if good else 1
+
+
+def check_set(found: cargo.Project, crates: list[str], arguments: argparse.Namespace) -> bool:
+    """Checks the crates in one text; where that is too long, each of them with what it uses."""
+    world = new_world(arguments.docs)
+    world.load([found.files[c] for c in crates], found.uses)
+    translation = translated(world, arguments)
+    try:
+        texts = texts_of(translation)
+    except BadInput as error:
+        smaller = [found.closure([c]) for c in crates]
+        if "give fewer crates" not in str(error) or max(map(len, smaller)) == len(crates):
+            raise
+        return all([check_set(found, part, arguments) for part in smaller])
+    report = Report(translation)
+    places = {mode: report.places(mode) for mode in texts}
+    translation.say("the program checks the two texts")
+    answers = {mode: run(text, arguments.program) for mode, text in texts.items()}
+    lines, good = verdict_lines(report.summary(), list(answers["upper"].crates), answers, places)
+    print("\n".join(lines + [s for s in report.summary() if s.startswith("not given")]))
+    base = os.path.join(os.path.dirname(os.path.dirname(found.files[crates[0]])), crates[0])
+    write_all(base, report, texts, [found.files[c] for c in crates], arguments.docs, found.uses)
+    print(f"the report, and what `from-rustdoc ask {base} ..` needs: {base}.*")
+    return good
+
+
+def parser() -> argparse.ArgumentParser:
+    common = argparse.ArgumentParser(add_help=False)
+    common.add_argument("--docs")
+    common.add_argument("--program")
+    common.add_argument("--quiet", action="store_true")
+    top = argparse.ArgumentParser(prog="from-rustdoc", usage=USAGE, add_help=True)
+    commands = top.add_subparsers(dest="command", required=True)
+    one = commands.add_parser("read", parents=[common], usage=USAGE)
+    one.add_argument("json", nargs="+")
+    one.add_argument("-o", dest="output", required=True)
+    one.add_argument("--metadata")
+    one.add_argument("--all-std", action="store_true")
+    two = commands.add_parser("check", parents=[common], usage=USAGE)
+    two.add_argument("base")
+    three = commands.add_parser("ask", parents=[common], usage=USAGE)
+    three.add_argument("base")
+    three.add_argument("questions", nargs="+")
+    four = commands.add_parser("later", parents=[common], usage=USAGE)
+    four.add_argument("--private", action="store_true")
+    four.add_argument("--with", dest="with_crates", action="append", default=[])
+    four.add_argument("--metadata")
+    four.add_argument("old")
+    four.add_argument("new")
+    five = commands.add_parser("project", parents=[common], usage=USAGE)
+    five.add_argument("folder")
+    return top
+
+
+def main(words: list[str]) -> int:
+    sys.setrecursionlimit(20000)
+    extra: list[str] = []
+    if "--" in words:
+        extra = words[words.index("--") + 1:]
+        words = words[:words.index("--")]
+    if words and words[0] not in ("read", "check", "ask", "later", "project") and os.path.isdir(words[0]):
+        words = ["project", *words]
+    arguments = parser().parse_args(words)
+    try:
+        if arguments.command == "project":
+            return project(arguments.folder, extra, arguments)
+        return {"read": read, "check": check, "ask": ask, "later": later}[arguments.command](arguments)
+    except (BadInput, Lossy) as error:
+        print(f"from-rustdoc: {error}", file=sys.stderr)
+        return 3

@@ -1,0 +1,56 @@
+"""Runs the program on a text and reads its answer."""
+from __future__ import annotations
+
+import os
+import re
+import subprocess
+from dataclasses import dataclass, field
+from typing import Optional
+
+from .terms import BadInput
+
+TOP = os.path.dirname(os.path.dirname(os.path.dirname(os.path.abspath(__file__))))
+DEPTH = 64
+
+
+@dataclass
+class Answer:
+    crates: dict[str, str] = field(default_factory=dict)
+    questions: list[str] = field(default_factory=list)
+    values: list[str] = field(default_factory=list)
+
+    def refusals(self) -> dict[str, str]:
+        return {crate: verdict for crate, verdict in self.crates.items() if verdict != "accepted"}
+
+
+def program_path(given: Optional[str]) -> list[str]:
+    """The command that answers texts: the built program, or the script that compiles it for each call."""
+    if given:
+        return [given]
+    built = os.path.join(TOP, "crates", "celtisdarts", "out", "celtisdarts")
+    return [built if os.path.exists(built) else os.path.join(TOP, "celtisdarts")]
+
+
+def run(text: str, program: Optional[str] = None, depth: int = DEPTH) -> Answer:
+    """The program's answer; an error where it has none, since a text of this translator has no fault."""
+    done = subprocess.run(program_path(program) + [str(depth)], input=text.encode("ascii"), stdout=subprocess.PIPE, stderr=subprocess.PIPE)
+    output = done.stdout.decode("ascii", "replace")
+    if done.returncode == 1:
+        number = int(re.findall(r"line (\d+)", output)[0])
+        raise BadInput(f"the program found a fault in the text, which is a mistake of the translator: {output.strip()}: `{text.splitlines()[number - 1]}`")
+    if done.returncode != 0:
+        raise BadInput(f"the program ended with status {done.returncode}: {done.stderr.decode('utf-8', 'replace').strip()}")
+    return read_answer(output)
+
+
+def read_answer(output: str) -> Answer:
+    answer = Answer()
+    for line in output.splitlines():
+        head, _, rest = line.partition(": ")
+        if head.startswith("crate "):
+            answer.crates[head[len("crate "):]] = rest
+        else:
+            word, _, values = rest.partition(" ")
+            answer.questions.append(word)
+            answer.values.append(values)
+    return answer

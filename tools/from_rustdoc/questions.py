@@ -1,0 +1,317 @@
+"""Questions as Rust writes them, as lines of both texts, and one answer made of what the program says to each."""
+from __future__ import annotations
+
+from dataclasses import dataclass, field
+from typing import Callable, Optional
+
+from .back import Back
+from .build import Translation
+from .checker import check_texts
+from .headers import FLOATS, PRIMITIVES, Named_, NotUnderstood, Reader
+from .html_docs import is_std_key
+from .impls import ImplWriter
+from .program import Answer, run
+from .reach import Reach, Reacher
+from .render import MAXIMAL_PARAMS, QUESTION, Scope, bracketed, is_sizedness, names_of
+from .show import Show
+from .terms import (BadInput, Bound, BoundsOf, Lossy, Named, Param, Parameter, Predicate, Projection, Type, Unknown,
+                    argument_values, put_bound, walk)
+from .text_form import read_text
+from .world import World, crate_name
+
+PRELUDE = {"core::marker": "Send Sync Unpin Copy Sized PhantomData", "core::clone": "Clone", "core::default": "Default", "core::fmt": "Debug Display",
+           "core::hash": "Hash Hasher BuildHasher", "core::cmp": "PartialEq Eq PartialOrd Ord Ordering", "core::option": "Option", "core::result": "Result",
+           "core::ops": "Drop Fn FnMut FnOnce Deref DerefMut Index IndexMut Add Sub Mul Div Rem Neg Not", "core::error": "Error",
+           "core::iter": "Iterator IntoIterator Extend DoubleEndedIterator ExactSizeIterator FromIterator", "core::convert": "AsRef AsMut From Into TryFrom TryInto",
+           "core::cell": "Cell RefCell", "core::panic": "UnwindSafe RefUnwindSafe", "core::pin": "Pin", "core::borrow": "Borrow BorrowMut",
+           "core::str": "FromStr", "alloc::vec": "Vec", "alloc::string": "String ToString", "alloc::boxed": "Box", "alloc::rc": "Rc", "alloc::sync": "Arc",
+           "alloc::borrow": "Cow ToOwned", "std::collections": "HashMap HashSet BTreeMap BTreeSet VecDeque", "std::sync": "Mutex RwLock", "std::path": "Path PathBuf"}
+
+
+@dataclass
+class Question:
+    """A question with its lines; `whole` is false where a where-clause, or the value of a projection, could not be said."""
+    written: str
+    subject: Type
+    bound: Bound
+    params: list[Param] = field(default_factory=list)
+    predicates: list[Predicate] = field(default_factory=list)
+    crate: str = ""
+    prove: str = ""
+    refute: str = ""
+    whole: bool = True
+
+    def roots(self) -> list[Type | Bound]:
+        return [self.subject, self.bound, *(x for p in self.predicates for x in p)]
+
+
+@dataclass
+class Verdict:
+    """`word` is yes, no, unproved or not settled; `basis` says on what it rests."""
+    question: Question
+    word: str
+    basis: str = ""
+    rests_on: list[str] = field(default_factory=list)
+    values: str = ""
+
+    def show(self) -> str:
+        tail = (f" {self.values}" if self.values else "") + (f"   ({self.basis})" if self.basis else "")
+        return f"{self.question.written}    {self.word}{tail}" + "".join(f"\n    rests on {line}" for line in self.rests_on)
+
+
+class QuestionReader:
+    def __init__(self, world: World) -> None:
+        self.world = world
+        self.prelude = {name: module.split("::") + [name] for module, names in PRELUDE.items() for name in names.split()}
+
+    def lookup(self, words: list[str], params: set[str]) -> Named_:
+        if len(words) == 1 and (words[0] in params or words[0] in PRIMITIVES or words[0] in FLOATS or words[0] == "_"):
+            return "word", None, words[0]
+        key = self.key(words)
+        if key is None:
+            raise BadInput(f"`{'::'.join(words)}` is not known: write its path, as `bytes::Bytes` or `std::vec::Vec`")
+        declaration = self.world.get(key)
+        return ("trait" if declaration.is_trait else "type" if declaration.kind == "type" else "struct"), key, declaration.name
+
+    def key(self, words: list[str]) -> Optional[str]:
+        if words[0] in self.world.crates:
+            found = [d for d in self.world.declarations.values() if d.crate == words[0] and not is_std_key(d.key)]
+            for test in (lambda d: d.public_path == words, lambda d: d.key == "::".join(words),
+                         lambda d: d.name == words[-1] and d.public_path, lambda d: d.name == words[-1]):
+                keys = {d.key for d in found if test(d)}
+                if len(keys) == 1:
+                    return keys.pop()
+            return None
+        if words[0] in ("std", "core", "alloc", "proc_macro") and len(words) > 1:
+            return self.world.pages.key_of_any_kind(words)
+        if len(words) == 1:
+            own = {d.key for d in self.world.declarations.values() if d.name == words[0] and d.crate in self.world.crates and d.public_path}
+            if len(own) == 1:
+                return own.pop()
+            if words[0] in self.prelude:
+                return self.world.pages.key_of_any_kind(self.prelude[words[0]])
+        return None
+
+    def read(self, written: str) -> Question:
+        """`[<params>] type: bound [where clauses]`, with `?x` for unknowns."""
+        params: set[str] = set()
+        reader = Reader(written, lambda words: self.lookup(words, params), unknowns=True)
+        if reader.peek()[1] == "<":
+            reader_of_params = Reader(written[:written.index(">") + 1], lambda words: ("word", None, words[-1]))
+            params |= {p.name for p in reader_of_params.generics()[0]}
+        try:
+            generics, predicates = reader.generics()
+            subject = reader.type()
+            reader.need(":")
+            bound = reader.bound()
+            if reader.eat("where"):
+                predicates += reader.where()
+            if not reader.at_end() or bound is None:
+                raise NotUnderstood(f"`{reader.peek()[1]}` is too much")
+        except NotUnderstood as error:
+            raise BadInput(f"the question `{written}` is not understood: {error}")
+        return Question(written, subject, bound, generics, predicates)
+
+
+class QuestionWriter:
+    def __init__(self, translation: Translation) -> None:
+        self.translation = translation
+        self.renderer = translation.renderer
+        self.world = translation.world
+
+    def asker(self, question: Question) -> str:
+        """The crate that asks: that of the subject, else of the trait, if it sees all names; else the last one that does."""
+        named: list[str] = []
+        for term in [question.subject, *question.bound.arguments, *(t for t, _ in question.predicates)]:
+            named += [self.world.get(p.key).crate for p in walk(term) if isinstance(p, Named)]
+        named += [self.world.get(b.key).crate for b in [question.bound, *(b for _, b in question.predicates)] if not b.key.startswith("?")]
+        ours = [c for c in named if c in self.world.crates]
+        for crate in ours + list(reversed(self.world.crates)):
+            seen, todo = {crate}, [crate]
+            while todo:
+                for used in self.world.uses.get(todo.pop(), []):
+                    if used not in seen:
+                        seen.add(used)
+                        todo.append(used)
+            if all(c in seen for c in ours):
+                return crate
+        raise Lossy("no crate of the text sees all that the question names")
+
+    def write(self, question: Question) -> None:
+        names = names_of(question.params)
+        scope = Scope(QUESTION, names, predicates=question.predicates)
+        clauses: list[str] = []
+        unsized = {t.name for t, b in question.predicates if is_sizedness(b) and isinstance(t, Parameter)}
+        clauses += [f"{names[p.name]}: Sized" for p in question.params if p.kind == "type" and p.name not in unsized]
+        predicates = ImplWriter.with_inner_bounds(question.predicates)
+        for subject, bound in predicates:
+            for name, value in bound.constraints:
+                if not isinstance(value, BoundsOf):
+                    clauses += self.tried(question, lambda: self.translation.impl_writer.equation(subject, bound, name, value, scope)[0])
+        for subject, bound in predicates:
+            if not is_sizedness(bound):
+                clauses += self.tried(question, lambda: self.clause(subject, bound, scope))
+                self.values(question, subject, bound, scope)
+        declaration = self.renderer.need(question.bound.key, "trait", question.bound.arguments)
+        if question.bound.constraints:
+            raise Lossy("a question about an associated type")
+        asked = f"{self.renderer.type(question.subject, scope)}: {self.renderer.bound(declaration, question.bound, scope, question.subject)}"
+        types = [names[p.name] for p in question.params if p.kind == "type"] + scope.fresh
+        params = types + ["const " + names[p.name] for p in question.params if p.kind == "const"]
+        if len(params) > MAXIMAL_PARAMS:
+            raise Lossy("more than 16 parameters")
+        clauses = list(dict.fromkeys(clauses + scope.extra))
+        where = f" where {', '.join(clauses)}" if clauses else ""
+        question.crate = crate_name(question.crate or self.asker(question))
+        question.prove = f"prove in {question.crate} {bracketed(params)} {asked}{where}".replace("  ", " ")
+        question.refute = "" if params else f"refute in {question.crate} {asked}"
+
+    @staticmethod
+    def tried(question: Question, write: Callable[[], str]) -> list[str]:
+        try:
+            return [write()]
+        except Lossy:
+            question.whole = False
+            return []
+
+    def clause(self, subject: Type, bound: Bound, scope: Scope) -> str:
+        declaration = self.renderer.need(bound.key, "trait", bound.arguments)
+        return f"{self.renderer.type(subject, scope)}: {self.renderer.bound(declaration, bound, scope, subject)}"
+
+    def values(self, question: Question, subject: Type, bound: Bound, scope: Scope, depth: int = 0) -> None:
+        """A clause by a trait with associated types brings their values: a fresh parameter for each that the text speaks of."""
+        try:
+            declaration = self.renderer.need(bound.key, "trait", bound.arguments)
+            for name in sorted(declaration.associated):
+                if (declaration.key, name) in self.renderer.companions and not isinstance(subject, Projection):
+                    self.renderer.projection(Projection(subject, Bound(bound.key, bound.arguments), name), scope)
+            values = argument_values(declaration.params, bound.arguments)
+            values["Self"] = subject
+            for above in declaration.supers:
+                if depth < 6 and not is_sizedness(above):
+                    self.values(question, subject, put_bound(above, values), scope, depth + 1)
+        except Lossy:
+            question.whole = False
+
+
+class Asker:
+    """Has the program answer both texts with the questions behind them, and makes one answer of each pair."""
+
+    def __init__(self, translation: Translation, program: Optional[str] = None, check: bool = True) -> None:
+        self.translation = translation
+        self.program = program
+        self.check = check
+        self.show = Show(translation.world)
+        self.answers: dict[str, Answer] = {}
+
+    def ask(self, questions: list[Question]) -> list[Verdict]:
+        writer = QuestionWriter(self.translation)
+        good: list[Question] = []
+        verdicts: dict[int, Verdict] = {}
+        for question in questions:
+            try:
+                writer.write(question)
+                good.append(question)
+            except Lossy as error:
+                verdicts[id(question)] = Verdict(question, "not settled", f"the text cannot say the question: {error}")
+        asked = [q.prove for q in good] + [q.refute for q in good if q.refute]
+        texts = {mode: "\n".join(self.translation.text(mode)[0] + asked) + "\n" for mode in ("upper", "lower")}
+        if self.check:
+            problems = check_texts(self.translation, texts["upper"], texts["lower"])
+            if problems:
+                raise BadInput("the texts break the rules of docs/RUSTDOC.md, which is a mistake of the translator: " + problems[0])
+        self.answers = {mode: run(text, self.program) for mode, text in texts.items()}
+        pieces = [p for p in self.translation.text("upper")[1] if p is not None]
+        reacher = Reacher(read_text(texts["upper"]), pieces)
+        lines = {line.text: line for line in reacher.text.lines if line.kind == "question"}
+        refuted = len(good)
+        for number, question in enumerate(good):
+            lower, upper = self.answers["lower"].questions[number], self.answers["upper"].questions[number]
+            no = False
+            if question.refute:
+                no = self.answers["upper"].questions[refuted] == "no"
+                refuted += 1
+            line = lines[question.prove]
+            assert line.trait is not None
+            reach = reacher.reach(line.self_type, line.trait, bool(line.clauses))
+            verdict = self.verdict(question, lower, upper, no, reach)
+            if verdict.word == "yes":
+                verdict.values = Back(self.translation.world).values(self.answers["lower"].values[number])
+            verdicts[id(question)] = verdict
+        return [verdicts[id(q)] for q in questions]
+
+    def verdict(self, question: Question, lower: str, upper: str, no: bool, reach: Reach) -> Verdict:
+        lost = self.losses(reach)
+        if lower == "yes" and no:
+            raise BadInput(f"the two texts contradict each other at `{question.written}`, which is a mistake of the translator")
+        if lower == "yes":
+            return Verdict(question, "yes", self.basis_of_yes(question, reach))
+        unsure = self.unsure(reach)
+        if no and not unsure:
+            return Verdict(question, "no", self.basis_of_no(question, reach))
+        if upper == "unproved" and question.whole and not unsure:
+            more = "" if not question.refute else "; another crate, or a later version, may add an impl"
+            return Verdict(question, "unproved", "neither text has a proof" + more)
+        reasons = lost + unsure
+        if not question.whole:
+            reasons.append("a where-clause of the question that the text cannot say")
+        if not reasons and upper == "yes":
+            reasons.append("a loss that was not found; please report it")
+        why = "the upper text has a proof, the lower one none" if upper == "yes" else f"the upper text says {upper}, the lower one {lower}"
+        return Verdict(question, "not settled", why, reasons if upper == "yes" or unsure or not question.whole else [])
+
+    def basis_of_yes(self, question: Question, reach: Reach) -> str:
+        # The lower text's proof is one by the crates' own rules; that those of a cut struct are its rules is argued.
+        cut = self.cut_structs(reach)
+        return f"argued: the auto traits of {cut[0]} are written by its fields" if cut else "by law"
+
+    def basis_of_no(self, question: Question, reach: Reach) -> str:
+        if any(isinstance(p, Unknown) for t in (question.subject, *question.bound.arguments) for p in walk(t)):
+            return "argued: the question has unknowns"
+        if reach.longest is None or reach.longest >= 64 or not reach.is_complete:
+            return "argued: the question leads to chains without end"
+        cut = self.cut_structs(reach)
+        if cut:
+            return f"argued: the auto traits of {cut[0]} are written by its fields"
+        narrowed = [w for w in self.translation.of_std if w.impl.narrowed and w.impl.trait and w.impl.trait.key in self.reached_keys(reach)]
+        return f"argued: {narrowed[0].impl.source} is written {narrowed[0].impl.narrowed}" if narrowed else "by law"
+
+    def reached_keys(self, reach: Reach) -> set[str]:
+        return {d.key for d in self.translation.renderer.traits.values() if self.translation.world.name(d) in reach.traits}
+
+    def cut_structs(self, reach: Reach) -> list[str]:
+        names = {piece.cut.declaration.key: piece.cut.declaration for piece in reach.pieces
+                 if piece.cut is not None and not is_std_key(piece.cut.declaration.key)}
+        return [self.show.item(d) for d in names.values()]
+
+    def losses(self, reach: Reach) -> list[str]:
+        """The losses of the impls that the question leads to."""
+        found: dict[str, None] = {}
+        for piece in reach.pieces:
+            if piece.written is not None and piece.written.losses:
+                written = piece.written
+                found[f"{written.impl.source}: {self.show.header(written.impl)}: {'; '.join(written.losses[:2])}"] = None
+            elif piece.written is not None and piece.lower is None:
+                found[f"{piece.written.impl.source}: {self.show.header(piece.written.impl)}: {'; '.join(piece.written.unknown[:2])}"] = None
+        return list(found)
+
+    def unsure(self, reach: Reach) -> list[str]:
+        """What is missing in both texts, or not known, of what the question leads to: no `no` rests on that."""
+        found: dict[str, None] = {}
+        for written in self.translation.of_crates + self.translation.of_std:
+            if not written.upper and not written.is_safe and written.impl.trait is not None:
+                try:
+                    trait = self.translation.world.get(written.impl.trait.key)
+                except Lossy:
+                    continue
+                if self.translation.world.name(trait) in reach.traits and not trait.is_auto and not self.translation.world.is_cores(trait):
+                    found[f"{written.impl.source}: {self.show.header(written.impl)}: out of both texts: {written.losses[0]}"] = None
+        for declaration in self.translation.renderer.traits.values():
+            if declaration.is_opaque and self.translation.world.name(declaration) in reach.traits:
+                found[f"{declaration.source}: its impls are not known"] = None
+        for declaration in self.translation.renderer.structs.values():
+            if declaration.key.startswith("other:") and self.translation.world.name(declaration) in reach.types:
+                found[f"{declaration.source}: its impls are not known"] = None
+        if "Unsize" in reach.traits:
+            found["`Unsize`, which std's types have by fields that are private"] = None
+        return list(found)

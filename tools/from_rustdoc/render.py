@@ -1,0 +1,375 @@
+"""Types and bounds as the text writes them, with what is lost on the way.
+
+Every type of Rust has one form in the text (docs/RUSTDOC.md has the table). What has none is lossy: in a header a fresh
+parameter stands for it, elsewhere the caller drops the whole clause or leaves the impl out. No other way is taken.
+"""
+from __future__ import annotations
+
+import re
+from dataclasses import dataclass, field
+from typing import Optional
+
+from .headers import FLOATS, PRIMITIVES
+from .html_docs import is_std_key
+from .standard import FN_TRAITS
+from .terms import (Alias, Array, Bound, BoundsOf, Constant, Declaration, Dyn, Function, Lossy, Named, Never, Param, Parameter, Pointer,
+                    Predicate, Primitive, Projection, Reference, Slice, Tuple, Type, Unknown, Unsayable, argument_values, put,
+                    put_bound)
+from .world import World
+
+HEADER, CLAUSE, FIELD, QUESTION = "header", "clause", "field", "question"
+ALWAYS = {"Ref_": "fundamental struct Ref_<T>(T, ())", "RefMut_": "fundamental struct RefMut_<T>(T, ())",
+          "PtrConst_": "struct PtrConst_<T>(T, ())", "PtrMut_": "struct PtrMut_<T>(T, ())", "f32": "struct f32", "f64": "struct f64"}
+MAXIMAL_PARAMS, MAXIMAL_ITEMS, MAXIMAL_CLAUSES = 16, 12, 64
+NEVER = "u8: Never_"
+
+
+@dataclass
+class Scope:
+    """What one line has in scope, and what was lost in it."""
+    mode: str
+    params: dict[str, str]
+    predicates: list[Predicate] = field(default_factory=list)
+    losses: list[str] = field(default_factory=list)
+    fresh: list[str] = field(default_factory=list)
+    fresh_consts: list[str] = field(default_factory=list)
+    extra: list[str] = field(default_factory=list)
+    projections: dict[tuple[str, str, str], tuple[str, frozenset[str]]] = field(default_factory=dict)
+    used: set[str] = field(default_factory=set)
+    coarse: bool = False
+
+    def fresh_type(self) -> str:
+        self.fresh.append(f"X{len(self.fresh) + 1}_")
+        return self.fresh[-1]
+
+
+def mentions(text: str, names: list[str]) -> bool:
+    return any(re.search(rf"\b{name}\b", text) for name in names)
+
+
+def bracketed(items: list[str]) -> str:
+    items = [i for i in items if i]
+    return f"<{', '.join(items)}>" if items else ""
+
+
+def param_name(name: str) -> str:
+    """A parameter's name in the text: short ones as they are, others so that they are no item's."""
+    name = re.sub(r"[^A-Za-z0-9_]", "_", name)[:50]
+    return name if re.fullmatch(r"[A-Z][0-9]*", name) else "p_" + name
+
+
+def params_text(params: list[Param]) -> str:
+    types = [param_name(p.name) for p in params if p.kind == "type"]
+    return bracketed(types + ["const " + param_name(p.name) for p in params if p.kind == "const"])
+
+
+def as_arguments(params: str) -> str:
+    return params.replace("const ", "")
+
+
+def names_of(params: list[Param]) -> dict[str, str]:
+    return {p.name: param_name(p.name) for p in params}
+
+
+def is_sizedness(bound: Bound) -> bool:
+    """Whether the bound takes the implicit `Sized` away."""
+    return bound.maybe or bound.key.endswith(("trait.PointeeSized", "trait.MetaSized"))
+
+
+class Renderer:
+    """`structs`, `traits`, `special` and `companions` are what the text needs; `grew` says that one of them has become larger."""
+
+    def __init__(self, world: World) -> None:
+        self.world = world
+        self.structs: dict[str, Declaration] = {}
+        self.traits: dict[str, Declaration] = {}
+        self.special: dict[str, None] = {}
+        self.companions: dict[tuple[str, str], None] = {}
+        self.lost_supers: dict[str, list[str]] = {}
+        self.cyclic: set[str] = set()
+        self.grew = True
+
+    # ---- what the text needs
+    def need(self, key: Optional[str], kind: str = "", arguments: tuple[Type, ...] = ()) -> Declaration:
+        declaration = self.world.get(key, kind, arguments)
+        kept = self.traits if declaration.is_trait else self.structs
+        if declaration.key not in kept:
+            kept[declaration.key] = declaration
+            self.grew = True
+        return declaration
+
+    def need_special(self, name: str) -> str:
+        if name not in self.special:
+            self.special[name] = None
+            self.grew = True
+        return name
+
+    def companion(self, declaration: Declaration, name: str) -> str:
+        """The companion trait for an associated type: `Iterator__Item<A>` says that `Item` is `A`."""
+        if (declaration.key, name) not in self.companions:
+            self.companions[(declaration.key, name)] = None
+            self.grew = True
+        return f"{self.world.name(declaration)}__{name}"[:60]
+
+    # ---- types
+    def type(self, term: Type, scope: Scope) -> str:
+        if scope.mode != HEADER:
+            return self.exact_type(term, scope)
+        try:
+            return self.exact_type(term, scope)
+        except Lossy as error:
+            scope.losses.append(f"header: {error}: a fresh parameter stands for it")
+            return scope.fresh_type()
+
+    def types(self, terms: tuple[Type, ...], scope: Scope) -> list[str]:
+        return [self.type(t, scope) for t in terms]
+
+    def exact_type(self, term: Type, scope: Scope) -> str:
+        match term:
+            case Primitive(name):
+                if name in PRIMITIVES:
+                    return name
+                if name in FLOATS:
+                    return self.need_special(name)
+                raise Lossy(f"the primitive {name}")
+            case Never():
+                return "!"
+            case Parameter(name):
+                if name not in scope.params:
+                    raise Lossy(f"the name `{name}`")
+                scope.used.add(name)
+                return scope.params[name]
+            case Unknown(name):
+                return "?" + name
+            case Reference(mutable, target):
+                return f"{self.need_special('RefMut_' if mutable else 'Ref_')}<{self.type(target, scope)}>"
+            case Pointer(mutable, target):
+                return f"{self.need_special('PtrMut_' if mutable else 'PtrConst_')}<{self.type(target, scope)}>"
+            case Slice(element):
+                return f"[{self.type(element, scope)}]"
+            case Array(element, length):
+                return f"[{self.type(element, scope)}; {self.constant(length, scope, of_array=True)}]"
+            case Tuple(items):
+                return self.tuple(items, scope)
+            case Function(inputs, output, plain):
+                return self.function(inputs, output, plain, scope)
+            case Dyn(bounds):
+                return self.dyn(bounds, scope)
+            case Alias(key, arguments):
+                declaration = self.world.get(key)
+                if not declaration.fields:
+                    raise Lossy(f"the type alias `{declaration.name}` of another crate")
+                return self.type(put(declaration.fields[0], argument_values(declaration.params, arguments)), scope)
+            case Named(key, arguments):
+                declaration = self.need(key, "struct", arguments)
+                if declaration.is_trait or declaration.kind == "type":
+                    raise Lossy(f"`{declaration.name}` as a type")
+                return self.world.name(declaration) + self.arguments(declaration, arguments, scope, term)
+            case Projection():
+                return self.projection(term, scope)
+            case Unsayable(why):
+                raise Lossy(why)
+        raise Lossy("a type that the text has not")
+
+    def tuple(self, items: tuple[Type, ...], scope: Scope) -> str:
+        if scope.coarse and len(items) > 1 and len(items) <= MAXIMAL_ITEMS:
+            raise Lossy("more than 16 parameters")
+        if len(items) > MAXIMAL_ITEMS:
+            parts = [items[n:n + MAXIMAL_ITEMS] for n in range(0, len(items), MAXIMAL_ITEMS)]
+            name = self.need_special(f"Tuple{len(items)}_")
+            return f"{name}<{', '.join(self.type(Tuple(part), scope) for part in parts)}>"
+        written = self.types(items, scope)
+        return f"({written[0]},)" if len(written) == 1 else f"({', '.join(written)})"
+
+    def function(self, inputs: tuple[Type, ...], output: Type, plain: bool, scope: Scope) -> str:
+        if scope.mode == FIELD:
+            # Each auto trait holds of every fn pointer, and so does `Sized`: a field asks for no more.
+            return "fn()"
+        if not plain:
+            raise Lossy("an unsafe or foreign fn")
+        if scope.coarse:
+            raise Lossy("more than 16 parameters")
+        if len(inputs) > MAXIMAL_ITEMS:
+            raise Lossy("a fn of more than 12 inputs")
+        written = self.types(inputs, scope)
+        result = self.type(output, scope)
+        return f"fn({', '.join(written)})" + ("" if result == "()" else f" -> {result}")
+
+    def dyn(self, bounds: tuple[Bound, ...], scope: Scope) -> str:
+        written: list[tuple[bool, str]] = []
+        for bound in bounds:
+            declaration = self.need(bound.key, "trait", bound.arguments)
+            if bound.constraints and scope.mode != FIELD:
+                raise Lossy(f"`dyn {declaration.name}` with associated types")
+            if declaration.is_auto and not is_std_key(declaration.key):
+                raise Lossy(f"a dyn with the auto trait `{declaration.name}`")
+            if self.lost(declaration):
+                raise Lossy(f"`dyn {declaration.name}`, of whose supertraits the text cannot say all")
+            written.append((declaration.is_auto, self.bound(declaration, bound, scope, Unsayable("`Self` of a dyn"))))
+        written.sort(key=lambda entry: entry[0])
+        if sum(not auto for auto, _ in written) > 1:
+            raise Lossy("a dyn of two traits")
+        if not written:
+            raise Lossy("a dyn without a trait")
+        return "dyn " + " + ".join(text for _, text in written)
+
+    def constant(self, text: str, scope: Scope, of_array: bool = False) -> str:
+        text = str(text).strip().strip("{}").strip()
+        if text in scope.params:
+            scope.used.add(text)
+            return scope.params[text]
+        if re.fullmatch(r"\?[A-Za-z_]\w*", text) and scope.mode == QUESTION:
+            return text
+        number = re.fullmatch(r"([0-9][0-9_]*|0x[0-9a-fA-F_]+)(_?[iu](8|16|32|64|128|size))?", text)
+        if number and int(number.group(1).replace("_", ""), 0) < 2 ** 64:
+            return str(int(number.group(1).replace("_", ""), 0))
+        if text in ("true", "false"):
+            return "1" if text == "true" else "0"
+        if scope.mode == FIELD and of_array:
+            # No rule that a field asks for reads the length of an array.
+            return "0"
+        if scope.mode == HEADER:
+            scope.losses.append(f"header: the constant `{text}`: a fresh parameter stands for it")
+            scope.fresh_consts.append(f"N{len(scope.fresh_consts) + 1}_")
+            return scope.fresh_consts[-1]
+        raise Lossy(f"the constant `{text}`")
+
+    # ---- arguments and bounds
+    def arguments(self, declaration: Declaration, arguments: tuple[Type, ...], scope: Scope, itself: Type) -> str:
+        params, given = declaration.params, list(arguments)
+        if len(given) > len(params):
+            raise Lossy(f"the arguments of `{declaration.name}`")
+        values: dict[str, Type] = {p.name: a for p, a in zip(params, given)}
+        values["Self"] = itself
+        for param in params[len(given):]:
+            if param.default is None:
+                raise Lossy(f"an omitted argument of `{declaration.name}`")
+            values[param.name] = put(param.default, values)
+            given.append(values[param.name])
+        written: list[str] = []
+        for kind in ("type", "const"):
+            for param, argument in zip(params, given):
+                if param.kind != kind:
+                    continue
+                if kind == "type":
+                    if isinstance(argument, Constant):
+                        raise Lossy(f"the arguments of `{declaration.name}`")
+                    written.append(self.type(argument, scope))
+                elif isinstance(argument, Constant):
+                    written.append(self.constant(argument.text, scope))
+                elif isinstance(argument, Parameter):
+                    written.append(self.constant(argument.name, scope))
+                elif isinstance(argument, Unknown):
+                    written.append("?" + argument.name)
+                else:
+                    raise Lossy(f"the arguments of `{declaration.name}`")
+        return bracketed(written)
+
+    def bound(self, declaration: Declaration, bound: Bound, scope: Scope, itself: Type) -> str:
+        is_fn = declaration.name in FN_TRAITS and is_std_key(declaration.key)
+        if is_fn and len(bound.arguments) == 1 and not isinstance(bound.arguments[0], (Tuple, Parameter, Unknown)):
+            raise Lossy(f"`{declaration.name}` of no tuple")
+        return self.world.name(declaration) + self.arguments(declaration, bound.arguments, scope, itself)
+
+    def lost(self, declaration: Declaration) -> list[str]:
+        """The supertraits of a trait, and of those above it, that the text cannot say. A `dyn` of such a trait is not written."""
+        if declaration.key not in self.lost_supers:
+            self.lost_supers[declaration.key] = []
+            found = list(self.supertraits(declaration)[1])
+            for bound in declaration.supers:
+                if not is_sizedness(bound):
+                    try:
+                        found += self.lost(self.need(bound.key, "trait", bound.arguments))
+                    except Lossy:
+                        pass
+            self.lost_supers[declaration.key] = found
+        return self.lost_supers[declaration.key]
+
+    def supertraits(self, declaration: Declaration) -> tuple[list[tuple[str, str]], list[str]]:
+        """The supertraits as the text writes them, each with the key of its trait, and those that it cannot say."""
+        written: list[tuple[str, str]] = []
+        lost: list[str] = []
+        if self.world.is_cores(declaration):
+            return written, lost
+        if declaration.key in self.cyclic:
+            return written, [f"a supertrait of {declaration.name}: it and a trait that names it by a `dyn` are in a cycle"]
+        for bound in declaration.supers:
+            if is_sizedness(bound):
+                continue
+            scope = Scope(CLAUSE, names_of(declaration.params))
+            try:
+                above = self.need(bound.key, "trait", bound.arguments)
+                if declaration.is_auto:
+                    raise Lossy(f"`{above.name}`, of an auto trait")
+                if above.key == declaration.key:
+                    raise Lossy("the trait itself")
+                text = self.bound(above, bound, scope, Unsayable("`Self` as an argument of a supertrait"))
+                if mentions(text, [self.world.name(declaration)]):
+                    raise Lossy("a bound that names the trait itself")
+                found = [(text, above.key)]
+                for name, value in bound.constraints:
+                    if not isinstance(value, BoundsOf):
+                        found.append((self.companion_bound(above, bound, name, value, scope), above.key))
+                written += [entry for entry in found if entry not in written]
+            except Lossy as error:
+                lost.append(f"a supertrait of {declaration.name}: {error}")
+        if len(written) > MAXIMAL_CLAUSES:
+            lost.append(f"a supertrait of {declaration.name}: more than 64")
+        return written[:MAXIMAL_CLAUSES], lost
+
+    def companion_bound(self, declaration: Declaration, bound: Bound, name: str, value: Type, scope: Scope) -> str:
+        if name not in declaration.associated:
+            raise Lossy(f"the associated type `{name}` of a supertrait")
+        arguments = self.arguments(declaration, bound.arguments, scope, Unsayable("`Self` as an argument"))
+        return self.companion(declaration, name) + bracketed([arguments[1:-1], self.type(value, scope)])
+
+    # ---- associated types
+    def bound_with(self, bound: Bound, name: str, depth: int = 0) -> Optional[Bound]:
+        """The bound, or one of its supertraits, that has the associated type."""
+        if depth > 6:
+            return None
+        try:
+            declaration = self.need(bound.key, "trait", bound.arguments)
+        except Lossy:
+            return None
+        if name in declaration.associated:
+            return bound
+        values = argument_values(declaration.params, bound.arguments)
+        for above in declaration.supers:
+            found = self.bound_with(put_bound(above, values), name, depth + 1)
+            if found:
+                return found
+        return None
+
+    def owner(self, term: Projection, scope: Scope) -> Bound:
+        """The trait of a projection."""
+        found = None
+        if term.bound is not None:
+            found = self.bound_with(term.bound, term.name)
+        else:
+            for subject, bound in scope.predicates:
+                if subject == term.subject:
+                    found = found or self.bound_with(bound, term.name)
+        if found is None:
+            raise Lossy(f"the associated type `{term.name}` of an unknown trait")
+        return found
+
+    def projection(self, term: Projection, scope: Scope) -> str:
+        """A projection goes by the name that an equation or the header gives it; in a header it gets a fresh parameter."""
+        bound = self.owner(term, scope)
+        declaration = self.need(bound.key, "trait", bound.arguments)
+        companion = self.companion(declaration, term.name)
+        subject = self.type(term.subject, scope)
+        arguments = self.arguments(declaration, bound.arguments, scope, term.subject)
+        place = (subject, companion, arguments)
+        if place in scope.projections:
+            name, used = scope.projections[place]
+            scope.used |= used
+            return name
+        if scope.mode in (HEADER, QUESTION):
+            name = scope.fresh_type()
+            scope.projections[place] = (name, frozenset())
+            scope.extra.append(f"{subject}: {self.world.name(declaration)}{arguments}")
+            scope.extra.append(f"{subject}: {companion}{bracketed([arguments[1:-1], name])}")
+            return name
+        raise Lossy(f"the associated type `{term.name}`")

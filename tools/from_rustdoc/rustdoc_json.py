@@ -1,0 +1,322 @@
+"""Crates as rustdoc's JSON tells them, read into the intermediate form. One number of the format is known, and no other is guessed at."""
+from __future__ import annotations
+
+import json
+import re
+from typing import Any, Optional
+
+from .html_docs import Pages
+from .terms import (UNIT, Alias, Array, BadInput, Bound, BoundsOf, Constant, Declaration, Dyn, Function, Impl, Named, Never,
+                    Param, Parameter, Pointer, Predicate, Primitive, Projection, Reference, Slice, Tuple, Type, Unsayable,
+                    argument_values, put)
+
+FORMAT = 57
+STD_CRATES = ("core", "alloc", "std", "proc_macro", "test")
+ITEMS = ("struct", "enum", "union", "trait")
+
+
+def kind_and_body(item: dict[str, Any]) -> tuple[str, Any]:
+    return next(iter(item["inner"].items()))
+
+
+class JsonCrate:
+    """One crate's JSON. `load` fills `declarations` and `impls`."""
+    needs_private = True
+
+    def __init__(self, file: str, pages: Pages) -> None:
+        self.file = file
+        self.pages = pages
+        try:
+            with open(file, encoding="utf-8") as handle:
+                self.json = json.load(handle)
+        except (OSError, ValueError) as error:
+            raise BadInput(f"{file}: cannot be read as JSON: {error}")
+        number = self.json.get("format_version")
+        if number != FORMAT:
+            raise BadInput(f"{file}: rustdoc's JSON has the format number {number}, and {FORMAT} alone is known here (rustdoc 1.95). "
+                           f"Make it with that toolchain, as by `cargo +1.95 doc`, or mend FORMAT and what changed in tools/from_rustdoc/rustdoc_json.py")
+        if self.needs_private and not self.json.get("includes_private"):
+            raise BadInput(f"{file}: has no private items; make it with `--document-private-items --document-hidden-items`")
+        self.index: dict[str, Any] = self.json["index"]
+        self.name: str = self.index[str(self.json["root"])]["name"]
+        self.version: str = self.json.get("crate_version") or ""
+        self.external = {int(number): crate["name"] for number, crate in self.json["external_crates"].items()}
+        self.keys: dict[int, Optional[str]] = {}
+        self.declarations: dict[str, Declaration] = {}
+        self.aliases: dict[str, Declaration] = {}
+        self.impls: list[Impl] = []
+        self.names_crates: dict[str, None] = {}
+
+    # ---- keys
+    def item(self, number: Optional[int]) -> Optional[dict[str, Any]]:
+        return None if number is None else self.index.get(str(number))
+
+    def kind_of(self, number: int) -> Optional[str]:
+        item = self.item(number)
+        if item:
+            return kind_and_body(item)[0]
+        path = self.json["paths"].get(str(number))
+        return path["kind"] if path else None
+
+    def key(self, number: int, written: str = "") -> Optional[str]:
+        """The key of an item: `crate::path` of a crate that is read, `std:..`, `other:crate::path`, `hidden:crate:number:name`."""
+        if number in self.keys:
+            return self.keys[number]
+        path, item, key = self.json["paths"].get(str(number)), self.item(number), None
+        if path is not None and path["crate_id"] != 0:
+            crate = self.external.get(path["crate_id"], "?")
+            self.names_crates[crate] = None
+            key = f"other:{crate}::" + "::".join(path["path"][1:])
+            if crate in STD_CRATES:
+                key = self.pages.key_of_path(path["path"], path["kind"]) or key
+        elif path is not None:
+            key = f"{self.name}::" + "::".join(path["path"][1:])
+        elif item is not None:
+            key = f"{self.name}::#{number}::{item['name']}"
+        elif written:
+            key = f"hidden:{self.name}:{number}:" + written.split("::")[-1]
+        self.keys[number] = key
+        return key
+
+    def source(self, item: dict[str, Any]) -> str:
+        """`file:line`, the file from its crate's folder on."""
+        span = item.get("span")
+        if not span:
+            return f"{self.name} (made by a macro)"
+        file = re.sub(r"^.*/registry/(src/[^/]*/)?", "", span["filename"])
+        return f"{file}:{span['begin'][0]}"
+
+    # ---- the whole crate
+    def load(self) -> None:
+        for item in self.index.values():
+            kind, _ = kind_and_body(item)
+            if item["crate_id"] != 0 or kind not in ITEMS:
+                continue
+            key = self.key(item["id"])
+            assert key is not None
+            if key in self.declarations:
+                key = self.keys[item["id"]] = f"{key}#{item['id']}"
+            self.declarations[key] = Declaration(kind, key, self.name, item["name"], source=self.source(item), path=key, item=item)
+        for item in self.index.values():
+            kind, body = kind_and_body(item)
+            if kind == "type_alias" and item["crate_id"] == 0:
+                key = self.key(item["id"])
+                assert key is not None
+                alias = Declaration("type", key, self.name, item["name"], source=self.source(item), path=key)
+                alias.params, _ = self.generics(body["generics"], None)
+                alias.fields = [self.type(body["type"], None)]
+                self.aliases[key] = alias
+        self.find_public_paths()
+        for declaration in self.declarations.values():
+            self.read_declaration(declaration)
+        for item in self.index.values():
+            kind, body = kind_and_body(item)
+            if kind == "impl" and item["crate_id"] == 0 and self.is_read(body):
+                self.read_impl(item, body)
+
+    def is_read(self, body: dict[str, Any]) -> bool:
+        """Impls of traits as they are written: neither the computed ones of auto traits, nor instances of blanket impls."""
+        return body["trait"] is not None and not body["is_synthetic"] and body["blanket_impl"] is None
+
+    def read_declaration(self, declaration: Declaration) -> None:
+        kind, body = kind_and_body(declaration.item)
+        declaration.params, declaration.predicates = self.generics(body["generics"], None)
+        declaration.is_fundamental = any("fundamental" in str(a) for a in declaration.item.get("attrs", []))
+        if kind == "trait":
+            declaration.is_auto = body["is_auto"]
+            declaration.supers = self.bounds(body["bounds"], None)
+            declaration.supers += [bound for subject, bound in declaration.predicates if subject == Parameter("Self")]
+            inside = [self.item(number) for number in body["items"]]
+            declaration.associated = {i["name"] for i in inside if i and kind_and_body(i)[0] == "assoc_type"}
+            return
+        declaration.is_enum = kind != "struct"
+        itself = declaration.itself()
+        for number in self.field_numbers(kind, body):
+            found = self.item(number)
+            declaration.fields.append(self.type(found["inner"]["struct_field"], itself) if found else Unsayable("a field that is not documented"))
+
+    def field_numbers(self, kind: str, body: dict[str, Any]) -> list[Optional[int]]:
+        if kind == "union":
+            return body["fields"]
+        if kind == "struct":
+            form = body["kind"]
+            if not isinstance(form, dict):
+                return []
+            return form["tuple"] if "tuple" in form else form["plain"]["fields"]
+        numbers: list[Optional[int]] = []
+        for number in body["variants"]:
+            variant = self.item(number)
+            if variant is None:
+                numbers.append(None)
+                continue
+            form = variant["inner"]["variant"]["kind"]
+            if isinstance(form, dict):
+                numbers += form["tuple"] if "tuple" in form else form["struct"]["fields"]
+        return numbers
+
+    def read_impl(self, item: dict[str, Any], body: dict[str, Any]) -> None:
+        itself = self.type(body["for"], None)
+        params, predicates = self.generics(body["generics"], itself)
+        impl = Impl(self.name, self.source(item), self.trait_bound(body["trait"], itself), itself, params, predicates,
+                    is_negative=body["is_negative"])
+        for number in body["items"]:
+            inside = self.item(number)
+            if inside and kind_and_body(inside)[0] == "assoc_type" and inside["inner"]["assoc_type"].get("type") is not None:
+                value = inside["inner"]["assoc_type"]
+                generic = bool(value["generics"]["params"])
+                impl.associated[inside["name"]] = Unsayable("a generic associated type") if generic else self.type(value["type"], itself)
+        self.impls.append(impl)
+
+    # ---- public paths
+    def find_public_paths(self) -> None:
+        seen: set[tuple[int, tuple[str, ...]]] = set()
+
+        def visit(number: int, path: list[str]) -> None:
+            module = self.item(number)
+            if not module or (number, tuple(path)) in seen or len(path) > 8:
+                return
+            seen.add((number, tuple(path)))
+            for child in module["inner"]["module"]["items"]:
+                item = self.item(child)
+                if not item or item["visibility"] != "public":
+                    continue
+                kind, body = kind_and_body(item)
+                if kind == "module":
+                    visit(child, path + [item["name"]])
+                elif kind in ITEMS:
+                    self.make_public(child, path + [item["name"]])
+                elif kind == "use":
+                    self.visit_use(body, path, visit)
+
+        visit(self.json["root"], [self.name])
+
+    def visit_use(self, body: dict[str, Any], path: list[str], visit: Any) -> None:
+        target = self.item(body["id"])
+        if not target:
+            return
+        kind = kind_and_body(target)[0]
+        if kind == "module":
+            visit(body["id"], path if body["is_glob"] else path + [body["name"]])
+        elif kind in ITEMS and not body["is_glob"]:
+            self.make_public(body["id"], path + [body["name"]])
+
+    def make_public(self, number: int, path: list[str]) -> None:
+        declaration = self.declarations.get(self.key(number) or "")
+        if declaration and (declaration.public_path is None or len(path) < len(declaration.public_path)):
+            declaration.public_path = path
+
+    # ---- generics and bounds; `itself` is what `Self` stands for, None in a trait
+    def generics(self, generics: dict[str, Any], itself: Optional[Type]) -> tuple[list[Param], list[Predicate]]:
+        params: list[Param] = []
+        predicates: list[Predicate] = []
+        for param in generics["params"]:
+            kind, body = next(iter(param["kind"].items()))
+            if kind == "type":
+                params.append(Param("type", param["name"], self.type(body["default"], itself) if body["default"] else None))
+                predicates += [(Parameter(param["name"]), b) for b in self.bounds(body["bounds"], itself)]
+            elif kind == "const":
+                params.append(Param("const", param["name"], Constant(body["default"]) if body.get("default") else None))
+        for predicate in generics["where_predicates"]:
+            kind, body = next(iter(predicate.items()))
+            if kind == "bound_predicate":
+                subject = self.type(body["type"], itself)
+                predicates += [(subject, b) for b in self.bounds(body["bounds"], itself)]
+            elif kind == "eq_predicate":
+                predicates.append((self.type(body["lhs"], itself), Bound("?an equation of types")))
+        return params, predicates
+
+    def bounds(self, bounds: list[dict[str, Any]], itself: Optional[Type]) -> list[Bound]:
+        found = []
+        for bound in bounds:
+            if "trait_bound" in bound:
+                body = bound["trait_bound"]
+                found.append(self.trait_bound(body["trait"], itself, body["modifier"] == "maybe"))
+        return found
+
+    def trait_bound(self, path: dict[str, Any], itself: Optional[Type], maybe: bool = False) -> Bound:
+        arguments, constraints = self.arguments(path.get("args"), itself)
+        return Bound(self.key(path["id"], path["path"]) or "?" + path["path"], arguments, constraints, maybe)
+
+    def arguments(self, written: Optional[dict[str, Any]], itself: Optional[Type]) -> tuple[tuple[Type, ...], tuple[tuple[str, Type], ...]]:
+        arguments: list[Type] = []
+        constraints: list[tuple[str, Type]] = []
+        if written and "angle_bracketed" in written:
+            for argument in written["angle_bracketed"]["args"]:
+                if not isinstance(argument, dict):
+                    arguments.append(Unsayable("`_`"))
+                elif "type" in argument:
+                    arguments.append(self.type(argument["type"], itself))
+                elif "const" in argument:
+                    arguments.append(Constant(argument["const"].get("value") or argument["const"]["expr"]))
+            for constraint in written["angle_bracketed"]["constraints"]:
+                kind, body = next(iter(constraint["binding"].items()))
+                value: Type = Unsayable("an equation of constants")
+                if kind != "equality":
+                    value = BoundsOf(tuple(self.bounds(body, itself)))
+                elif "type" in body:
+                    value = self.type(body["type"], itself)
+                if (constraint.get("args") or {}).get("angle_bracketed", {}).get("args"):
+                    value = Unsayable("a generic associated type")
+                constraints.append((constraint["name"], value))
+        elif written and "parenthesized" in written:
+            inside = written["parenthesized"]
+            arguments.append(Tuple(tuple(self.type(t, itself) for t in inside["inputs"])))
+            constraints.append(("Output", self.type(inside["output"], itself) if inside["output"] else UNIT))
+        return tuple(arguments), tuple(constraints)
+
+    # ---- types
+    def type(self, written: Any, itself: Optional[Type]) -> Type:
+        kind, body = next(iter(written.items())) if isinstance(written, dict) else (written, None)
+        match kind:
+            case "resolved_path":
+                return self.path_type(body, itself)
+            case "dyn_trait":
+                return Dyn(tuple(self.trait_bound(t["trait"], itself) for t in body["traits"]))
+            case "generic":
+                return itself if body == "Self" and itself is not None else Parameter(body)
+            case "primitive":
+                return Never() if body == "never" else UNIT if body == "unit" else Primitive(body)
+            case "function_pointer":
+                signature, header = body["sig"], body["header"]
+                if signature["is_c_variadic"]:
+                    return Unsayable("a variadic fn")
+                inputs = tuple(self.type(t, itself) for _, t in signature["inputs"])
+                output = self.type(signature["output"], itself) if signature["output"] else UNIT
+                return Function(inputs, output, not header["is_unsafe"] and header["abi"] == "Rust")
+            case "tuple":
+                return Tuple(tuple(self.type(t, itself) for t in body))
+            case "slice":
+                return Slice(self.type(body, itself))
+            case "array":
+                return Array(self.type(body["type"], itself), body["len"])
+            case "raw_pointer":
+                return Pointer(body["is_mutable"], self.type(body["type"], itself))
+            case "borrowed_ref":
+                return Reference(body["is_mutable"], self.type(body["type"], itself))
+            case "qualified_path":
+                return self.projection(body, itself)
+        return Unsayable(str(kind))
+
+    def projection(self, body: dict[str, Any], itself: Optional[Type]) -> Type:
+        if (body["args"] or {}).get("angle_bracketed", {}).get("args"):
+            return Unsayable("a generic associated type")
+        bound = self.trait_bound(body["trait"], itself) if body["trait"] else None
+        if bound and bound.key.startswith("?"):
+            bound = None
+        return Projection(self.type(body["self_type"], itself), bound, body["name"])
+
+    def path_type(self, body: dict[str, Any], itself: Optional[Type]) -> Type:
+        key = self.key(body["id"], body["path"])
+        arguments, _ = self.arguments(body.get("args"), itself)
+        item = self.item(body["id"])
+        if self.kind_of(body["id"]) == "type_alias":
+            if item:
+                alias = item["inner"]["type_alias"]
+                params, _ = self.generics(alias["generics"], itself)
+                return put(self.type(alias["type"], itself), argument_values(params, arguments))
+            return Alias(key, arguments) if key else Unsayable(body["path"])
+        if key is None:
+            return Unsayable(body["path"])
+        if key.startswith("std:") and key.split("@")[1].startswith("type."):
+            return Alias(key, arguments)
+        return Named(key, arguments)

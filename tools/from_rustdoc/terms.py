@@ -1,0 +1,317 @@
+"""The intermediate form: types, bounds, declarations and impls as rustdoc says them, before any text is written.
+
+A type is one of the frozen classes below. Lifetimes are left away by the readers, since all answers are up to lifetimes.
+"""
+from __future__ import annotations
+
+from dataclasses import dataclass, field, replace
+from typing import Callable, Iterator, Optional, Union
+
+
+class Lossy(Exception):
+    """What was to be written cannot be said in the text; the message says why."""
+
+
+class BadInput(Exception):
+    """The input cannot be read at all; the message says what to do."""
+
+
+@dataclass(frozen=True)
+class Primitive:
+    name: str
+
+
+@dataclass(frozen=True)
+class Never:
+    pass
+
+
+@dataclass(frozen=True)
+class Parameter:
+    name: str
+
+
+@dataclass(frozen=True)
+class Unknown:
+    """`?name` of a question."""
+    name: str
+
+
+@dataclass(frozen=True)
+class Reference:
+    mutable: bool
+    target: Type
+
+
+@dataclass(frozen=True)
+class Pointer:
+    mutable: bool
+    target: Type
+
+
+@dataclass(frozen=True)
+class Slice:
+    element: Type
+
+
+@dataclass(frozen=True)
+class Array:
+    element: Type
+    length: str
+
+
+@dataclass(frozen=True)
+class Tuple:
+    items: tuple[Type, ...]
+
+
+@dataclass(frozen=True)
+class Function:
+    """`plain` is false for `unsafe fn`, `extern fn` and what else the text has not."""
+    inputs: tuple[Type, ...]
+    output: Type
+    plain: bool = True
+
+
+@dataclass(frozen=True)
+class Dyn:
+    bounds: tuple[Bound, ...]
+
+
+@dataclass(frozen=True)
+class Named:
+    """A struct, enum or union, by its key."""
+    key: str
+    arguments: tuple[Type, ...]
+
+
+@dataclass(frozen=True)
+class Alias:
+    """A type alias of another crate, by its key."""
+    key: str
+    arguments: tuple[Type, ...]
+
+
+@dataclass(frozen=True)
+class Projection:
+    """`<subject as bound>::name`; without a bound the trait has to be looked for."""
+    subject: Type
+    bound: Optional[Bound]
+    name: str
+
+
+@dataclass(frozen=True)
+class Constant:
+    """A const argument, as source."""
+    text: str
+
+
+@dataclass(frozen=True)
+class BoundsOf:
+    """The right side of `Name: bounds` among the arguments of a bound."""
+    bounds: tuple[Bound, ...]
+
+
+@dataclass(frozen=True)
+class Unsayable:
+    why: str
+
+
+Type = Union[Primitive, Never, Parameter, Unknown, Reference, Pointer, Slice, Array, Tuple, Function, Dyn, Named, Alias,
+             Projection, Constant, BoundsOf, Unsayable]
+UNIT = Tuple(())
+
+
+@dataclass(frozen=True)
+class Bound:
+    """A bound by the trait `key`; `constraints` are its `Name = type` and `Name: bounds`; `maybe` is the `?` of `?Sized`."""
+    key: str
+    arguments: tuple[Type, ...] = ()
+    constraints: tuple[tuple[str, Type], ...] = ()
+    maybe: bool = False
+
+
+@dataclass(frozen=True)
+class Param:
+    """A type or const parameter (`kind` is "type" or "const") with its default."""
+    kind: str
+    name: str
+    default: Optional[Type] = None
+
+
+Predicate = tuple[Type, Bound]
+
+
+@dataclass
+class Declaration:
+    """A struct (enums and unions too), a trait, or an alias of std (its one field is what it stands for)."""
+    kind: str
+    key: str
+    crate: str
+    name: str
+    source: str = ""
+    path: str = ""
+    params: list[Param] = field(default_factory=list)
+    predicates: list[Predicate] = field(default_factory=list)
+    fields: list[Type] = field(default_factory=list)
+    supers: list[Bound] = field(default_factory=list)
+    associated: set[str] = field(default_factory=set)
+    is_auto: bool = False
+    is_fundamental: bool = False
+    is_opaque: bool = False
+    is_enum: bool = False
+    tail: Optional[Type] = None
+    not_understood: str = ""
+    public_path: Optional[list[str]] = None
+    item: dict = field(default_factory=dict)
+
+    @property
+    def is_trait(self) -> bool:
+        return self.kind == "trait"
+
+    def itself(self) -> Named:
+        """The type with its own parameters as arguments."""
+        return Named(self.key, tuple(Constant(p.name) if p.kind == "const" else Parameter(p.name) for p in self.params))
+
+
+@dataclass
+class Impl:
+    """An impl as read. `trait` is None where the header was not understood (`error` says why). `narrowed` says that it is written for
+    less than it holds of, in both texts, and why."""
+    crate: str
+    source: str
+    trait: Optional[Bound] = None
+    self_type: Type = UNIT
+    params: list[Param] = field(default_factory=list)
+    predicates: list[Predicate] = field(default_factory=list)
+    is_negative: bool = False
+    associated: dict[str, Type] = field(default_factory=dict)
+    error: str = ""
+    narrowed: str = ""
+
+    def copy(self) -> Impl:
+        return replace(self, params=list(self.params), predicates=list(self.predicates), associated=dict(self.associated))
+
+
+def parts(term: Type) -> tuple[Type, ...]:
+    """The types that stand directly in a type, those of its bounds too."""
+    match term:
+        case Reference(_, t) | Pointer(_, t) | Slice(t) | Array(t, _):
+            return (t,)
+        case Tuple(items):
+            return items
+        case Function(inputs, output, _):
+            return inputs + (output,)
+        case Named(_, arguments) | Alias(_, arguments):
+            return arguments
+        case Dyn(bounds) | BoundsOf(bounds):
+            return tuple(a for b in bounds for a in b.arguments) + tuple(v for b in bounds for _, v in b.constraints)
+        case Projection(subject, bound, _):
+            return (subject,) + (bound.arguments if bound else ())
+    return ()
+
+
+def walk(term: Type) -> Iterator[Type]:
+    """The type and all that stands in it."""
+    yield term
+    for part in parts(term):
+        yield from walk(part)
+
+
+def rebuilt(term: Type, change: Callable[[Type], Type]) -> Type:
+    """The type with each of its direct parts changed."""
+    match term:
+        case Reference(m, t):
+            return Reference(m, change(t))
+        case Pointer(m, t):
+            return Pointer(m, change(t))
+        case Slice(t):
+            return Slice(change(t))
+        case Array(t, n):
+            return Array(change(t), n)
+        case Tuple(items):
+            return Tuple(tuple(map(change, items)))
+        case Function(inputs, output, plain):
+            return Function(tuple(map(change, inputs)), change(output), plain)
+        case Named(key, arguments):
+            return Named(key, tuple(map(change, arguments)))
+        case Alias(key, arguments):
+            return Alias(key, tuple(map(change, arguments)))
+        case Dyn(bounds):
+            return Dyn(tuple(rebuilt_bound(b, change) for b in bounds))
+        case BoundsOf(bounds):
+            return BoundsOf(tuple(rebuilt_bound(b, change) for b in bounds))
+        case Projection(subject, bound, name):
+            return Projection(change(subject), rebuilt_bound(bound, change) if bound else None, name)
+    return term
+
+
+def rebuilt_bound(bound: Bound, change: Callable[[Type], Type]) -> Bound:
+    return replace(bound, arguments=tuple(map(change, bound.arguments)),
+                   constraints=tuple((n, change(t)) for n, t in bound.constraints))
+
+
+def put(term: Type, values: dict[str, Type]) -> Type:
+    """The type with values for its parameters."""
+    if not values:
+        return term
+    match term:
+        case Parameter(name):
+            return values.get(name, term)
+        case Constant(text):
+            return values.get(text.strip("{} "), term)
+        case Array(element, length):
+            value = values.get(length.strip("{} "))
+            if isinstance(value, Constant):
+                length = value.text
+            elif isinstance(value, Parameter):
+                length = value.name
+            return Array(put(element, values), length)
+    return rebuilt(term, lambda part: put(part, values))
+
+
+def put_bound(bound: Bound, values: dict[str, Type]) -> Bound:
+    return rebuilt_bound(bound, lambda part: put(part, values))
+
+
+def argument_values(params: list[Param], arguments: tuple[Type, ...]) -> dict[str, Type]:
+    """What each parameter stands for, defaults used where arguments are missing."""
+    values: dict[str, Type] = {}
+    for number, param in enumerate(params):
+        if number < len(arguments):
+            values[param.name] = arguments[number]
+        elif param.default is not None:
+            values[param.name] = put(param.default, values)
+        else:
+            values[param.name] = Unsayable("an omitted argument")
+    return values
+
+
+def keys_of(term: Type) -> Iterator[str]:
+    """The keys of all items that a type names, and `prim:`, `tuple:`, `fn:` words for what else impls are pruned by."""
+    for part in walk(term):
+        match part:
+            case Primitive(name):
+                yield "prim:" + name
+            case Tuple(items) if items:
+                yield f"tuple:{len(items)}"
+            case Function(inputs, _, _):
+                yield f"fn:{len(inputs)}"
+            case Named(key, _) | Alias(key, _):
+                yield key
+            case Dyn(bounds) | BoundsOf(bounds):
+                yield from (b.key for b in bounds)
+
+
+def parameters_of(term: Type) -> set[str]:
+    """The names of the parameters in a type, const ones too."""
+    names: set[str] = set()
+    for part in walk(term):
+        match part:
+            case Parameter(name):
+                names.add(name)
+            case Constant(text):
+                names.add(text.strip("{} "))
+            case Array(_, length):
+                names.add(length.strip("{} "))
+    return names

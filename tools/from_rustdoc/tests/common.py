@@ -1,0 +1,43 @@
+"""What the tests share: the kept crates, read and translated once."""
+from __future__ import annotations
+
+import functools
+import os
+import sys
+
+from ..build import Translation
+from ..html_docs import Pages
+from ..world import World
+
+HERE = os.path.dirname(os.path.abspath(__file__))
+sys.setrecursionlimit(20000)
+
+
+def kept(name: str) -> str:
+    return os.path.join(HERE, "json", name + ".json")
+
+
+@functools.lru_cache(maxsize=None)
+def pages() -> Pages:
+    return Pages(kept("std"))
+
+
+def world(*names: str) -> World:
+    found = World(pages())
+    found.load([kept(name) for name in names])
+    return found
+
+
+@functools.lru_cache(maxsize=None)
+def translation(name: str) -> Translation:
+    found = Translation(world(name))
+    found.build()
+    return found
+
+
+def texts(found: Translation) -> dict[str, str]:
+    return {mode: "\n".join(found.text(mode)[0]) + "\n" for mode in ("upper", "lower")}
+
+
+def crate_part(text: str, name: str) -> str:
+    return text[text.index(f"crate {name}"):]

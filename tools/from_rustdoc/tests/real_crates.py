@@ -1,0 +1,201 @@
+"""Crates of Debian's package registry: each is coherent, since it compiles, and thousands of generated questions get rustc's answers.
+
+It needs cargo with the rustdoc of the known format, std's documents, the built program, and crates of the registry:
+`apt-get install librust-semver-dev librust-either-dev librust-smallvec-dev librust-bytes-dev librust-itoa-dev ..`. What is missing is
+skipped with a word. `FROM_RUSTDOC_PROGRAM` names another program that answers texts.
+"""
+from __future__ import annotations
+
+import os
+import shutil
+import subprocess
+import sys
+import tempfile
+import unittest
+from collections import Counter
+from typing import Optional
+
+from ..build import Translation
+from ..cargo import Project, docs_folder, document
+from ..checker import check_texts
+from ..html_docs import Pages
+from ..later import added_impls
+from ..program import TOP, run
+from ..questions import Asker
+from ..report import Report, explain_refusal
+from ..show import Show
+from ..terms import BadInput
+from ..world import World
+from .generated import compiled, questions
+
+REGISTRY = "/usr/share/cargo/registry"
+CRATES = """semver either smallvec bytes itoa anyhow arrayvec hashbrown http indexmap itertools log memchr nom num-traits num-integer num-bigint
+            num-rational num-complex once_cell petgraph serde serde_json url""".split()
+ASKED_OF_EACH = int(os.environ.get("FROM_RUSTDOC_QUESTIONS", "150"))
+PROGRAM = os.environ.get("FROM_RUSTDOC_PROGRAM") or os.path.join(TOP, "crates", "celtisdarts", "out", "celtisdarts")
+
+
+def missing() -> str:
+    """What this machine has not; empty where all is there."""
+    if not shutil.which("cargo") or not shutil.which("rustc"):
+        return "there is no cargo"
+    if not os.path.isdir(REGISTRY):
+        return "Debian's registry of crates is not installed"
+    if not os.path.exists(PROGRAM):
+        return "the program is not built"
+    try:
+        docs_folder(None)
+    except BadInput as error:
+        return str(error)
+    return ""
+
+
+def version(name: str) -> Optional[str]:
+    found = [f for f in os.listdir(REGISTRY) if f.rsplit("-", 1)[0] == name]
+    return found[0].rsplit("-", 1)[1] if found else None
+
+
+def new_project(folder: str, crates: list[str]) -> None:
+    os.makedirs(os.path.join(folder, "src"))
+    os.makedirs(os.path.join(folder, ".cargo"))
+    lines = ["[package]", 'name = "probe"', 'version = "0.1.0"', 'edition = "2021"', "[dependencies]"]
+    with open(os.path.join(folder, "Cargo.toml"), "w", encoding="utf-8") as handle:
+        handle.write("\n".join(lines + [f'{name} = "={version(name)}"' for name in crates]) + "\n")
+    with open(os.path.join(folder, ".cargo", "config.toml"), "w", encoding="utf-8") as handle:
+        handle.write(f'[source.crates-io]\nreplace-with = "debian"\n[source.debian]\ndirectory = "{REGISTRY}"\n')
+    open(os.path.join(folder, "src", "lib.rs"), "w", encoding="utf-8").close()
+
+
+@unittest.skipIf(missing(), missing())
+class RealCrates(unittest.TestCase):
+    folder: str
+    project: Project
+    pages: Pages
+
+    @classmethod
+    def setUpClass(cls) -> None:
+        cls.folder = os.path.join(tempfile.mkdtemp(), "probe")
+        cls.crates = [c for c in CRATES if version(c)]
+        new_project(cls.folder, cls.crates)
+        cls.project = document(cls.folder, ["--offline"], quiet=True)
+        cls.pages = Pages(docs_folder(None))
+
+    @classmethod
+    def tearDownClass(cls) -> None:
+        shutil.rmtree(os.path.dirname(cls.folder))
+
+    def world(self, crate: str) -> World:
+        world = World(self.pages)
+        world.load([self.project.files[c] for c in self.project.closure([crate])], self.project.uses)
+        return world
+
+    def test_all_are_coherent(self) -> None:
+        refused: list[str] = []
+        unsettled: list[str] = []
+        for crate in self.crates:
+            translation = Translation(self.world(crate.replace("-", "_")))
+            translation.build()
+            texts = {mode: "\n".join(translation.text(mode)[0]) + "\n" for mode in ("upper", "lower")}
+            self.assertEqual(check_texts(translation, texts["upper"], texts["lower"]), [], crate)
+            for mode, text in texts.items():
+                places = Report(translation).places(mode)
+                for name, verdict in run(text, PROGRAM).refusals().items():
+                    told = f"{crate}, {mode}: {name}: {explain_refusal(verdict, name, places)}"
+                    # An overlap of the upper text alone that rests on a loss is not settled, which is no refusal.
+                    (unsettled if mode == "upper" and "rests on a loss" in told else refused).append(told)
+            print(f"{crate}: {'; '.join(Report(translation).summary()[-1:])}", file=sys.stderr, flush=True)
+        print("\n".join(["not settled:", *unsettled]), file=sys.stderr, flush=True)
+        self.assertEqual(refused, [])
+        self.assertLess(len(unsettled), 2)
+
+    def test_questions_get_rustcs_answers(self) -> None:
+        count: Counter[str] = Counter()
+        wrong = []
+        for seed, crate in enumerate(self.crates):
+            name = crate.replace("-", "_")
+            world = self.world(name)
+            asked = questions(world, name, ASKED_OF_EACH, seed)
+            held = compiled(asked, self.folder, self.pages, world)
+            asked = [a for a, h in zip(asked, held) if h is not None]
+            held = [h for h in held if h is not None]
+            translation = Translation(world)
+            translation.roots = [root for a in asked for root in a.question.roots()]
+            translation.build()
+            verdicts = Asker(translation, PROGRAM, check=False).ask([a.question for a in asked])
+            for a, h, verdict in zip(asked, held, verdicts):
+                count[f"{verdict.word}, rustc {'yes' if h else 'no'}"] += 1
+                if (verdict.word == "yes") != h and verdict.word != "not settled":
+                    wrong.append(f"{crate}: {a.rust}: {verdict.word} ({verdict.basis}), {a.question.prove}")
+            print(f"{crate}: {sum(count.values())} questions so far: {dict(count)}", file=sys.stderr, flush=True)
+        self.assertEqual(wrong, [])
+
+
+@unittest.skipIf(missing(), missing())
+class RealReleases(unittest.TestCase):
+    """`bytes` without one of its impls, as an older release, and as it is: a crate that uses it compiles with both exactly if the added
+    impl is compatible."""
+
+    ADDED = [({"impl<T> PartialEq<&T> for bytes::Bytes": "breaking", "impl<T> PartialOrd<&T> for bytes::Bytes": "breaking"},
+              ["impl<'a, T: ?Sized> PartialEq<&'a T> for Bytes", "impl<'a, T: ?Sized> PartialOrd<&'a T> for Bytes"],
+              "pub struct Mine; impl PartialEq<Mine> for bytes::Bytes { fn eq(&self, _: &Mine) -> bool { true } } "
+              "impl PartialEq<&Mine> for bytes::Bytes { fn eq(&self, _: &&Mine) -> bool { true } }"),
+             ({"impl From<String> for bytes::Bytes": "compatible"}, ["impl From<String> for Bytes"],
+              "pub struct Mine; impl From<Mine> for bytes::Bytes { fn from(_: Mine) -> Self { bytes::Bytes::new() } }")]
+
+    def test_a_release_is_judged_as_rustc_judges_the_crates_that_use_it(self) -> None:
+        if not version("bytes"):
+            self.skipTest("bytes is not in the registry")
+        for words, headers, user in self.ADDED:
+            with tempfile.TemporaryDirectory() as folder:
+                worlds = []
+                compiles = []
+                for release in ("old", "new"):
+                    place = os.path.join(folder, release)
+                    copy_of_bytes(os.path.join(place, "bytes"))
+                    if release == "old":
+                        without(os.path.join(place, "bytes", "src", "bytes.rs"), headers)
+                    project = document(os.path.join(place, "bytes"), ["--offline"], quiet=True)
+                    world = World(Pages(docs_folder(None)))
+                    world.load([project.files["bytes"]], project.uses)
+                    worlds.append(world)
+                    compiles.append(user_compiles(place, user))
+                release_of_bytes = added_impls(worlds[0], worlds[1], "bytes", False)
+                self.assertEqual({Show(worlds[1]).header(j.impl): j.word for j in release_of_bytes.added}, words)
+                self.assertEqual(release_of_bytes.apart, [])
+                self.assertEqual(compiles, [True, "breaking" not in words.values()])
+
+
+def copy_of_bytes(place: str) -> None:
+    """The sources of `bytes` with a manifest that asks for no other crate."""
+    shutil.copytree(os.path.join(REGISTRY, f"bytes-{version('bytes')}", "src"), os.path.join(place, "src"))
+    with open(os.path.join(place, "Cargo.toml"), "w", encoding="utf-8") as handle:
+        handle.write(f'[package]\nname = "bytes"\nversion = "{version("bytes")}"\nedition = "2018"\n[features]\ndefault = ["std"]\nstd = []\n[workspace]\n')
+
+
+def without(file: str, headers: list[str]) -> None:
+    """Takes the impls with these headers, up to the brace in the first column, out of a source, and their uses in two others."""
+    with open(file, encoding="utf-8") as handle:
+        lines = handle.read().split("\n")
+    for header in headers:
+        start = next(n for n, line in enumerate(lines) if line.startswith(header))
+        end = next(n for n in range(start, len(lines)) if lines[n] == "}")
+        del lines[start:end + 1]
+    text = "\n".join(lines)
+    for subject, by_slices in (("&[u8]", "other.as_slice() == *self"), ("&str", "other.as_slice() == self.as_bytes()")):
+        old = f"impl PartialEq<Bytes> for {subject} {{\n    fn eq(&self, other: &Bytes) -> bool {{\n        "
+        text = text.replace(old + "*other == *self", old + by_slices)
+    with open(file, "w", encoding="utf-8") as handle:
+        handle.write(text)
+
+
+def user_compiles(place: str, source: str) -> bool:
+    folder = os.path.join(place, "user")
+    os.makedirs(os.path.join(folder, "src"))
+    with open(os.path.join(folder, "Cargo.toml"), "w", encoding="utf-8") as handle:
+        handle.write('[package]\nname = "user"\nversion = "0.1.0"\nedition = "2021"\n[dependencies]\nbytes = { path = "../bytes" }\n')
+    with open(os.path.join(folder, "src", "lib.rs"), "w", encoding="utf-8") as handle:
+        handle.write(source + "\n")
+    done = subprocess.run(["cargo", "check", "--offline"], cwd=folder, stdout=subprocess.DEVNULL, stderr=subprocess.PIPE, text=True)
+    if done.returncode != 0 and "E0119" not in done.stderr:
+        raise AssertionError(done.stderr)
+    return done.returncode == 0

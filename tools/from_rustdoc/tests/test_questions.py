@@ -1,0 +1,146 @@
+"""Questions: their lines in the texts, and the one answer that is made of two. The last test needs the built program."""
+from __future__ import annotations
+
+import os
+import unittest
+from unittest import mock
+
+from ..back import Back
+from ..build import Translation
+from ..program import Answer, program_path, read_answer
+from ..questions import Asker, Question, QuestionReader, QuestionWriter, Verdict
+from ..terms import BadInput, Lossy
+from ..text_form import read_text
+from .common import texts, world
+
+
+def asked(*written: str) -> tuple[Translation, list[Question]]:
+    found = world("shapes")
+    reader = QuestionReader(found)
+    questions = [reader.read(text) for text in written]
+    translation = Translation(found)
+    translation.roots = [root for question in questions for root in question.roots()]
+    translation.build()
+    return translation, questions
+
+
+def answered(lower: list[str], upper: list[str], *written: str) -> list[Verdict]:
+    """The verdicts, if the program answered the lower and the upper text so: each `prove`, then each `refute`."""
+    translation, questions = asked(*written)
+    answers = [Answer({}, upper, [""] * len(upper)), Answer({}, lower, [""] * len(lower))]
+    with mock.patch(Asker.__module__ + ".run", side_effect=answers):
+        return Asker(translation).ask(questions)
+
+
+class Lines(unittest.TestCase):
+    def line(self, written: str) -> tuple[str, str]:
+        translation, (question,) = asked(written)
+        QuestionWriter(translation).write(question)
+        return question.prove, question.refute
+
+    def test_plain(self) -> None:
+        self.assertEqual(self.line("shapes::Raw<u8>: Send"), ("prove in shapes shapes__Raw<u8>: Send", "refute in shapes shapes__Raw<u8>: Send"))
+        self.assertEqual(self.line("&shapes::A: Copy")[0], "prove in shapes Ref_<shapes__A>: Copy")
+        self.assertEqual(self.line("Tree<?x>: core::clone::Clone")[0], "prove in shapes shapes__Tree<?x>: Clone")
+        self.assertEqual(self.line("Grid<?n, 2>: Default")[0], "prove in shapes shapes__Grid<?n, 2>: Default")
+
+    def test_what_is_left_to_a_default_is_in_the_text(self) -> None:
+        translation, (question,) = asked("alloc::vec::Vec<shapes::A>: Clone")
+        QuestionWriter(translation).write(question)
+        self.assertEqual(question.prove, "prove in shapes Vec<shapes__A, Global>: Clone")
+        for text in texts(translation).values():
+            self.assertEqual(read_text(text + question.prove + "\n").problems, [])
+
+    def test_where_clauses(self) -> None:
+        prove, refute = self.line("<T> shapes::Tree<T>: Clone where T: Clone")
+        self.assertEqual((prove, refute), ("prove in shapes <T> shapes__Tree<T>: Clone where T: Sized, T: Clone", ""))
+
+    def test_a_clause_brings_its_associated_types(self) -> None:
+        prove, _ = self.line("<I: Iterator> shapes::Peeked<I>: Iterator")
+        self.assertEqual(prove, "prove in shapes <I, X1_> shapes__Peeked<I>: Iterator where I: Sized, I: Iterator, I: Iterator__Item<X1_>")
+
+    def test_a_dyn_whose_supertraits_are_not_all_said_is_not_asked(self) -> None:
+        for written, why in [("dyn shapes::Same: Send", "of whose supertraits the text cannot say all"),
+                             ("Box<dyn Iterator<Item = u8>>: shapes::Draw", "with associated types"),
+                             ("shapes::Peeked<u8>: Iterator<Item = u8>", "a question about an associated type")]:
+            with self.assertRaisesRegex(Lossy, why):
+                self.line(written)
+
+    def test_what_is_not_known_is_an_error(self) -> None:
+        for written in ("shapes::Nothing: Send", "shapes::A Send", "nothing::A: Send"):
+            with self.assertRaises(BadInput, msg=written):
+                asked(written)
+
+
+class Merged(unittest.TestCase):
+    def test_both_texts_make_one_answer(self) -> None:
+        for lower, upper, written, word in [
+            (["yes", "open"], ["yes", "open"], "shapes::Raw<u8>: Send", "yes"),
+            (["unproved", "no"], ["unproved", "no"], "shapes::A: Clone", "no"),
+            (["unproved", "open"], ["unproved", "open"], "shapes::A: Clone", "unproved"),
+            (["unproved", "open"], ["maybe", "open"], "shapes::A: Clone", "not settled"),
+            (["unproved"], ["yes"], "<S: shapes::Shape> shapes::Raw<S>: Debug", "not settled"),
+            (["unproved"], ["unproved"], "<T> shapes::Raw<T>: Clone", "unproved"),
+        ]:
+            self.assertEqual([v.word for v in answered(lower, upper, written)], [word], written)
+
+    def test_an_answer_names_the_loss_that_it_rests_on(self) -> None:
+        (verdict,) = answered(["unproved"], ["yes"], "<S: shapes::Shape> shapes::Raw<S>: Debug")
+        self.assertEqual(len(verdict.rests_on), 1)
+        self.assertIn("shapes.rs:36", verdict.rests_on[0])
+        self.assertIn("the associated type `Unit`", verdict.rests_on[0])
+
+    def test_what_rests_on_a_law_and_what_is_argued(self) -> None:
+        for lower, upper, written, basis in [
+            (["yes", "open"], ["yes", "open"], "shapes::Raw<u8>: Send", "by law"),
+            (["yes", "open"], ["yes", "open"], "shapes::B: Send", "argued: the auto traits of shapes::A"),
+            (["unproved", "no"], ["unproved", "no"], "shapes::NeverSent: Send", "by law"),
+            (["unproved", "no"], ["unproved", "no"], "shapes::Raw<?x>: Send", "argued: the question has unknowns"),
+            (["unproved", "no"], ["unproved", "no"], "shapes::B: Sync", "argued: the question leads to chains without end"),
+        ]:
+            (verdict,) = answered(lower, upper, written)
+            self.assertTrue(verdict.basis.startswith(basis), (written, verdict.basis))
+
+    def test_texts_that_contradict_each_other_are_an_error(self) -> None:
+        with self.assertRaisesRegex(BadInput, "contradict"):
+            answered(["yes", "no"], ["yes", "no"], "shapes::Raw<u8>: Send")
+
+    def test_unsize_is_not_refuted(self) -> None:
+        (verdict,) = answered(["unproved", "no"], ["unproved", "no"], "shapes::Tail<[u8; 3]>: core::marker::Unsize<shapes::Tail<[u8]>>")
+        self.assertEqual(verdict.word, "not settled")
+
+    def test_an_item_that_was_not_given_is_no_ground_for_a_no(self) -> None:
+        translation, questions = asked("shapes::One<shapes::Free>: shapes::Sup")
+        free = next(d for d in translation.renderer.structs.values() if d.name == "Free")
+        free.key, free.source = "other:elsewhere::Free", "not given: elsewhere::Free"
+        translation.world.names[free.key] = "shapes__Free"
+        answers = [Answer({}, ["unproved", "no"], ["", ""]) for _ in range(2)]
+        with mock.patch(Asker.__module__ + ".run", side_effect=answers):
+            (verdict,) = Asker(translation, check=False).ask(questions)
+        self.assertEqual((verdict.word, verdict.rests_on), ("not settled", ["not given: elsewhere::Free: its impls are not known"]))
+
+    def test_values_are_told_as_rust_writes_them(self) -> None:
+        translation, _ = asked("shapes::A: PartialEq<?x>")
+        back = Back(translation.world)
+        self.assertEqual(back.values("?x = Ref_<[shapes__Raw<f32>; 4]>, ?n = 3"), "?x = &[shapes::Raw<f32>; 4], ?n = 3")
+        self.assertEqual(back.values("?x = std__Box<dyn Debug + Send, Global>"), "?x = Box<(dyn Debug + Send), Global>")
+        self.assertEqual(back.values("?y = ?x"), "?y = ?x")
+
+    def test_answers_are_read(self) -> None:
+        answer = read_answer("crate a: accepted\ncrate b: overlap impl 1 with a 2\nprove 1: yes ?x = u8\nrefute 2: no\n")
+        self.assertEqual(answer.refusals(), {"b": "overlap impl 1 with a 2"})
+        self.assertEqual((answer.questions, answer.values), (["yes", "no"], ["?x = u8", ""]))
+
+
+@unittest.skipUnless(os.path.basename(os.path.dirname(program_path(None)[0])) == "out", "the program is not built")
+class Program(unittest.TestCase):
+    def test_the_program_answers(self) -> None:
+        wanted = {"shapes::Raw<u8>: Send": "yes", "shapes::Raw<&u8>: Sync": "unproved", "shapes::NeverSent: Send": "no", "shapes::B: Send": "unproved",
+                  "shapes::B: Unpin": "yes", "<T> shapes::Tree<T>: Clone where T: Clone": "yes", "<T> shapes::Tree<T>: Clone": "unproved",
+                  "<S: shapes::Shape> shapes::Raw<S>: Debug": "not settled", "<I: Iterator> shapes::Peeked<I>: Iterator": "yes",
+                  "shapes::Tree<u8>: Unpin": "yes", "shapes::A: PartialEq<[u8; 4]>": "yes", "shapes::Free: Clone": "no"}
+        translation, questions = asked(*wanted)
+        asker = Asker(translation)
+        verdicts = asker.ask(questions)
+        self.assertEqual({v.question.written: v.word for v in verdicts}, wanted)
+        self.assertEqual(asker.answers["lower"].refusals(), {})

@@ -1,0 +1,177 @@
+"""The readers: headers as text, pages of std, rustdoc's JSON, cargo's metadata."""
+from __future__ import annotations
+
+import json
+import os
+import tempfile
+import unittest
+
+from ..cargo import read_metadata, shared_flags
+from ..headers import Named_, NotUnderstood, Reader
+from ..html_docs import Pages
+from ..rustdoc_json import JsonCrate
+from ..standard import Standard
+from ..standard_json import JsonStandard, json_folder
+from ..terms import (Array, BadInput, Bound, Dyn, Function, Named, Parameter, Pointer, Primitive, Projection, Reference, Tuple, Unknown)
+from .common import kept
+
+ITEMS = {"Vec": "struct", "Clone": "trait", "Iterator": "trait", "Send": "trait"}
+
+
+def lookup(words: list[str]) -> Named_:
+    name = words[-1]
+    return (ITEMS[name], name, name) if name in ITEMS else ("word", None, name)
+
+
+def read(text: str) -> Reader:
+    return Reader(text, lookup, unknowns=True)
+
+
+class Headers(unittest.TestCase):
+    def test_types(self) -> None:
+        for text, term in [
+            ("&'a mut [u8; 4]", Reference(True, Array(Primitive("u8"), "4"))),
+            ("*const T", Pointer(False, Parameter("T"))),
+            ("Vec<?x>", Named("Vec", (Unknown("x"),))),
+            ("(u8,)", Tuple((Primitive("u8"),))),
+            ("(u8)", Primitive("u8")),
+            ("unsafe extern fn(x: u8) -> T", Function((Primitive("u8"),), Parameter("T"), False)),
+            ("<T as Iterator>::Item", Projection(Parameter("T"), Bound("Iterator"), "Item")),
+            ("T::Item", Projection(Parameter("T"), None, "Item")),
+            ("dyn for<'a> Iterator<Item = u8> + Send + 'static", Dyn((Bound("Iterator", (), (("Item", Primitive("u8")),)), Bound("Send")))),
+        ]:
+            self.assertEqual(read(text).type(), term, text)
+
+    def test_generics_and_clauses(self) -> None:
+        reader = read("<'a, T: ?Sized + Clone, const N: usize> where T: Iterator<Item = u8>, for<'b> Vec<T>: Clone,")
+        params, predicates = reader.generics()
+        self.assertEqual([(p.kind, p.name) for p in params], [("type", "T"), ("const", "N")])
+        self.assertEqual(predicates, [(Parameter("T"), Bound("?Sized", maybe=True)), (Parameter("T"), Bound("Clone"))])
+        self.assertTrue(reader.eat("where"))
+        self.assertEqual([b.key for _, b in reader.where()], ["Iterator", "Clone"])
+
+    def test_what_is_not_understood_is_said(self) -> None:
+        for text in ("Vec<u8", "fn(u8", "(u8 u8)", "[u8; 4", "+"):
+            with self.assertRaises(NotUnderstood, msg=text):
+                reader = read(text)
+                reader.type()
+                reader.need(";")
+
+
+class StdPages(unittest.TestCase):
+    def setUp(self) -> None:
+        self.standard = Standard(Pages(kept("std")))
+
+    def test_one_item_has_one_key(self) -> None:
+        pages = self.standard.pages
+        self.assertEqual(pages.key("core/panic/unwind_safe/trait.UnwindSafe.html"), pages.key("core/panic/trait.UnwindSafe.html")
+                         or pages.key("core/panic/unwind_safe/trait.UnwindSafe.html"))
+        self.assertIsNone(pages.key("core/no/such/struct.Page.html"))
+
+    def test_declarations(self) -> None:
+        vec = self.standard.declaration(self.standard.pages.key("alloc/vec/struct.Vec.html") or "")
+        self.assertEqual([p.name for p in vec.params], ["T", "A"])
+        self.assertEqual(vec.crate, "alloc")
+        send = self.standard.declaration(self.standard.pages.key("core/marker/trait.Send.html") or "")
+        self.assertTrue(send.is_auto)
+        boxed = self.standard.declaration(self.standard.pages.key("alloc/boxed/struct.Box.html") or "")
+        self.assertTrue(boxed.is_fundamental)
+
+    def test_a_header_for_tuples_stands_for_twelve(self) -> None:
+        page = "core/clone/trait.Clone.html"
+        header = 'impl&lt;T, E&gt; <a class="trait" href="trait.Clone.html">Clone</a> for (E₁, E₂, …, Eₙ) where E: <a class="trait" href="trait.Clone.html">Clone</a>'
+        impls = list(self.standard.expanded(header, page, "", "core"))
+        self.assertEqual(len(impls), 12)
+        self.assertEqual(impls[2].self_type, Tuple((Parameter("E1"), Parameter("E2"), Parameter("E3"))))
+        self.assertEqual([s for s, _ in impls[2].predicates], [Parameter("E1"), Parameter("E2"), Parameter("E3")])
+
+    def test_impls_of_other_crates_are_found(self) -> None:
+        key = self.standard.pages.key("core/clone/trait.Clone.html") or ""
+        homes = {impl.crate for _, impl in self.standard.impls_of_trait(key)}
+        self.assertIn("alloc", homes)
+        self.assertTrue(any("Vec" in header.text for header in self.standard.found))
+
+    def test_boxed_slices_are_narrowed(self) -> None:
+        page = "alloc/boxed/struct.Box.html"
+        key = self.standard.pages.key(page) or ""
+        impl = self.standard.impl("impl&lt;T&gt; X for T", page, "", "alloc")
+        impl.trait = Bound("std:src/core/iter/traits/collect.rs.html#1@trait.IntoIterator")
+        from ..terms import Slice
+        impl.self_type = Reference(False, Named(key, (Slice(Parameter("T")), Parameter("A"))))
+        self.standard.narrow(impl)
+        self.assertTrue(impl.narrowed)
+
+
+class Json(unittest.TestCase):
+    def test_another_number_of_the_format_is_refused(self) -> None:
+        with open(kept("before"), encoding="utf-8") as handle:
+            data = json.load(handle)
+        with tempfile.TemporaryDirectory() as folder:
+            for change, why in [({"format_version": 58}, "the format number 58, and 57 alone is known"), ({"includes_private": False}, "private items")]:
+                file = os.path.join(folder, "x.json")
+                with open(file, "w", encoding="utf-8") as handle:
+                    json.dump({**data, **change}, handle)
+                with self.assertRaisesRegex(BadInput, why):
+                    JsonCrate(file, Pages(kept("std")))
+            with open(file, "w", encoding="utf-8") as handle:
+                handle.write("{")
+            with self.assertRaisesRegex(BadInput, "cannot be read"):
+                JsonCrate(file, Pages(kept("std")))
+
+    def test_private_fields_and_public_paths(self) -> None:
+        crate = JsonCrate(kept("before"), Pages(kept("std")))
+        crate.load()
+        packet = next(d for d in crate.declarations.values() if d.name == "Packet")
+        self.assertEqual(len(packet.fields), 1)
+        self.assertEqual(packet.public_path, ["before", "Packet"])
+        self.assertIsNone(next(d for d in crate.declarations.values() if d.name == "Seal").public_path)
+
+
+class Metadata(unittest.TestCase):
+    def test_what_uses_what_is_cargos_word(self) -> None:
+        def package(name: str, kind: str = "lib") -> dict:
+            return {"id": name + " 1", "targets": [{"name": name, "kind": [kind]}]}
+
+        def used(name: str, kind: object) -> dict:
+            return {"pkg": name + " 1", "dep_kinds": [{"kind": kind}]}
+
+        data = {"packages": [package("a"), package("b-c"), package("m", "proc-macro"), package("t")], "workspace_members": ["a 1"],
+                "resolve": {"nodes": [{"id": "a 1", "deps": [used("b-c", None), used("m", None), used("t", "dev")]}, {"id": "b-c 1", "deps": []},
+                                      {"id": "m 1", "deps": []}, {"id": "t 1", "deps": []}]}}
+        project = read_metadata(json.dumps(data), os.path.dirname(kept("std")))
+        self.assertEqual(project.uses["a"], ["b_c"])
+        self.assertEqual(project.members, ["a"])
+        self.assertEqual(project.doubled, [])
+        data["packages"].append({"id": "a 2", "targets": [{"name": "a", "kind": ["lib"]}]})
+        data["resolve"]["nodes"].append({"id": "a 2", "deps": []})
+        self.assertEqual(read_metadata(json.dumps(data), "").doubled, ["a"])
+
+
+class Flags(unittest.TestCase):
+    def test_features_go_to_metadata_too(self) -> None:
+        self.assertEqual(shared_flags(["--offline", "--no-deps", "--features", "a,b", "-j", "2"]), ["--offline", "--features", "a,b"])
+
+
+class StdJson(unittest.TestCase):
+    def test_std_by_the_reader_of_crates(self) -> None:
+        # A crate of ours in the place of std's three: keys, homes, unread fields, impls by their traits.
+        with tempfile.TemporaryDirectory() as folder:
+            for name in ("core", "alloc", "std"):
+                with open(kept("before"), encoding="utf-8") as handle:
+                    data = json.load(handle)
+                data["includes_private"] = False
+                data["index"][str(data["root"])]["name"] = name
+                for path in data["paths"].values():
+                    path["path"] = [name, *path["path"][1:]] if path["crate_id"] == 0 else path["path"]
+                data["index"] = {n: i for n, i in data["index"].items() if i["name"] != "Encode" or name == "core"}
+                with open(os.path.join(folder, name + ".json"), "w", encoding="utf-8") as handle:
+                    json.dump(data, handle)
+            self.assertEqual(json_folder(os.path.join(os.path.dirname(folder), "html")), folder if os.path.basename(folder) == "json" else None)
+            standard = JsonStandard(folder)
+            key = standard.pages.key("core/struct.Packet.html") or ""
+            self.assertEqual(key, "std:json/core/Packet@struct.Packet")
+            self.assertEqual(standard.pages.rust_path(key), ["core", "Packet"])
+            self.assertEqual((standard.declaration(key).crate, standard.declaration(key).fields), ("alloc", []))
+            encode = standard.pages.key_of_path(["core", "Encode"], "trait") or ""
+            self.assertTrue(any(isinstance(i.self_type, Primitive) for _, i in standard.impls_of_trait(encode)))
+            self.assertEqual(len(standard.found), 3)

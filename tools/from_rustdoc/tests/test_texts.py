@@ -1,0 +1,49 @@
+"""What is written of the crate `shapes`, one item for each encoding and each loss."""
+from __future__ import annotations
+
+import os
+import unittest
+
+from ..checker import check_texts
+from ..report import Report, explain_refusal
+from .common import HERE, crate_part, texts, translation
+
+
+class Texts(unittest.TestCase):
+    def test_shapes_are_written_as_expected(self) -> None:
+        for mode, text in texts(translation("shapes")).items():
+            with open(os.path.join(HERE, "expected", f"shapes.{mode}.txt"), encoding="utf-8") as handle:
+                self.assertEqual(crate_part(text, "shapes"), handle.read())
+
+    def test_the_texts_keep_the_rules(self) -> None:
+        for name in ("shapes", "before", "after"):
+            written = texts(translation(name))
+            self.assertEqual(check_texts(translation(name), written["upper"], written["lower"]), [])
+
+    def test_each_impl_is_whole_or_told_with_its_loss(self) -> None:
+        found = translation("shapes")
+        lines = Report(found).item_lines()
+        self.assertEqual(sum(": impl" in line for line in lines), len(found.of_crates))
+        losses = [line for line in lines if line.startswith("loss") and ": impl" in line]
+        self.assertEqual(len(losses), 7)
+        self.assertTrue(all("the upper text has it more often" in line for line in losses))
+
+    def test_each_header_of_std_has_a_fate(self) -> None:
+        for name in ("shapes", "before", "after"):
+            headers = translation(name).standard.found
+            self.assertTrue(headers)
+            self.assertEqual([h.text for h in headers if not h.fate], [])
+            self.assertEqual([h.text for h in headers if h.fate.startswith("pruned: ") and len(h.fate) < 12], [])
+
+    def test_a_refusal_names_two_sources(self) -> None:
+        found = translation("shapes")
+        places = Report(found).places("upper")
+        number = next(n for n, place in enumerate(places["shapes"], 1) if "unsafe fn" in place[1])
+        told = explain_refusal(f"overlap impl {number} with shapes 1", "shapes", places)
+        self.assertIn("shapes.rs:", told)
+        self.assertIn("rests on a loss", told)
+
+    def test_a_dyn_of_a_trait_with_a_lost_supertrait_is_not_written(self) -> None:
+        found = translation("shapes")
+        same = next(d for d in found.renderer.traits.values() if d.name == "Same")
+        self.assertTrue(found.renderer.lost(same))

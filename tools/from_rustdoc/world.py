@@ -1,0 +1,134 @@
+"""All crates of one text: those that are read, std, and what is named of crates that were not given. Items by key, and their names in the text."""
+from __future__ import annotations
+
+import re
+from collections import defaultdict
+from typing import Optional
+
+from .headers import INTEGERS
+from .html_docs import Pages, is_std_key, rust_crate_of
+from .rustdoc_json import STD_CRATES, JsonCrate
+from .standard import FN_TRAITS, Standard
+from .terms import BadInput, Constant, Declaration, Lossy, Param, Type
+
+RESERVED = frozenset(("crate uses fundamental struct auto trait impl for where prove refute in later supers bool char str mut "
+                      "const fn dyn").split() + INTEGERS)
+CORE_NAMES = frozenset("Sized Clone Copy Tuple FnPtr FnOnce FnMut Fn Unsize Box core".split())
+# Traits of Rust's core that the text's `core` has just so. (Its `Box` and `Fn` have other parameters, and nobody can add to them.)
+CORE_TRAITS = frozenset("Sized Clone Copy Tuple Unsize".split())
+STD_TEXTS = ("alloc", "std")
+
+
+def crate_name(name: str) -> str:
+    """A crate's name in the text."""
+    return name + "_" if name in RESERVED or name == "core" else name
+
+
+class World:
+    def __init__(self, pages: Pages, standard: Optional[Standard] = None) -> None:
+        self.standard = standard or Standard(pages)
+        self.pages = self.standard.pages
+        self.crates: dict[str, JsonCrate] = {}
+        self.declarations: dict[str, Declaration] = {}
+        self.by_name: dict[tuple[str, str], list[Declaration]] = defaultdict(list)
+        self.uses: dict[str, list[str]] = {}
+        self.missing: dict[str, int] = defaultdict(int)
+        self.names: dict[str, str] = {}
+        self.taken: set[str] = set()
+
+    # ---- reading
+    def load(self, files: list[str], metadata: Optional[dict[str, list[str]]] = None) -> None:
+        """Reads the crates; `metadata` says which crates each one uses. Without it they use those that their items name."""
+        read = [JsonCrate(file, self.pages) for file in files]
+        given = {crate.name for crate in read}
+        if len(given) < len(read):
+            raise BadInput("two of the files are of crates with one name; give one version of a crate at a time")
+        for crate in read:
+            if crate.name in STD_TEXTS or crate.name.startswith("core_ops"):
+                raise BadInput(f"{crate.file}: the text has a crate of its own with that name, for std")
+            crate.load()
+            for declaration in [*crate.declarations.values(), *crate.aliases.values()]:
+                self.declarations[declaration.key] = declaration
+                self.by_name[(declaration.crate, declaration.name)].append(declaration)
+        for crate in read:
+            used = (metadata or {}).get(crate.name)
+            self.uses[crate.name] = [n for n in (crate.names_crates if used is None else used) if n in given and n != crate.name]
+        by_name = {crate.name: crate for crate in read}
+        done: set[str] = set()
+
+        def visit(name: str) -> None:
+            if name not in done:
+                done.add(name)
+                for used in self.uses[name]:
+                    visit(used)
+                self.crates[name] = by_name[name]
+
+        for crate in read:
+            visit(crate.name)
+
+    # ---- items
+    def get(self, key: Optional[str], kind: str = "", arguments: tuple[Type, ...] = ()) -> Declaration:
+        """The item of a key. One of a crate that was not given becomes opaque, if `kind` says what it would be."""
+        if key is None or key.startswith("?"):
+            raise Lossy(f"the item `{(key or '')[1:]}` is not known")
+        if key in self.declarations:
+            found = self.declarations[key]
+            if found.not_understood:
+                raise Lossy(f"the declaration of `{found.name}` in std is not understood ({found.not_understood})")
+            return found
+        if is_std_key(key):
+            self.declarations[key] = self.standard.declaration(key)
+            return self.get(key)
+        if key.startswith("other:"):
+            crate, rest = key[len("other:"):].split("::", 1)
+            same_name = self.by_name.get((crate, rest.split("::")[-1]), [])
+            exact = [d for d in same_name if d.key == f"{crate}::{rest}"]
+            if exact or len(same_name) == 1:
+                self.declarations[key] = (exact or same_name)[0]
+                return self.declarations[key]
+            self.missing[key[len("other:"):]] += 1
+            source = "not given: " + key[len("other:"):]
+            return self.opaque(key, "std" if crate in STD_CRATES else crate, rest.split("::")[-1], kind, arguments, source)
+        if key.startswith("hidden:"):
+            _, crate, _, name = key.split(":", 3)
+            return self.opaque(key, crate, name, kind, arguments, f"declared in a body: {crate}::{name}")
+        raise Lossy(f"the item {key} is not known")
+
+    def opaque(self, key: str, crate: str, name: str, kind: str, arguments: tuple[Type, ...], source: str) -> Declaration:
+        if not kind:
+            raise Lossy(source)
+        params = [Param("const" if isinstance(a, Constant) else "type", f"P{n}") for n, a in enumerate(arguments)]
+        declaration = Declaration(kind, key, crate, name, source=source, path=f"{crate}::{name}", params=params, is_opaque=True)
+        self.declarations[key] = declaration
+        return declaration
+
+    # ---- names
+    def is_cores(self, declaration: Declaration) -> bool:
+        """Whether the text's `core` has the trait."""
+        return declaration.is_trait and is_std_key(declaration.key) and declaration.name in CORE_TRAITS and rust_crate_of(declaration.key) == "core"
+
+    def name(self, declaration: Declaration) -> str:
+        if declaration.key in self.names:
+            return self.names[declaration.key]
+        if self.is_cores(declaration):
+            self.names[declaration.key] = declaration.name
+            return declaration.name
+        for candidate in self.candidates(declaration):
+            name = re.sub(r"[^A-Za-z0-9_]", "_", candidate)[:50]
+            if name not in self.taken and name not in RESERVED and name not in CORE_NAMES and not name[0].isdigit():
+                self.taken.add(name)
+                self.names[declaration.key] = name
+                return name
+        raise AssertionError("no name is left")
+
+    def candidates(self, declaration: Declaration) -> list[str]:
+        if is_std_key(declaration.key):
+            special = declaration.name == "Box" or declaration.name in FN_TRAITS or declaration.name == "FnPtr"
+            found = ["std__" + declaration.name] if special else [declaration.name]
+            found.append(rust_crate_of(declaration.key) + "__" + declaration.name)
+            found.append("__".join(declaration.path.split("/")[:-1] + [declaration.name]))
+        else:
+            path = [w for w in (declaration.path if declaration.is_opaque else declaration.key).split("::") if not w.startswith("#")]
+            last = path[-1].split("#")[0]
+            found = [f"{declaration.crate}__{last}"] + ["__".join([declaration.crate] + path[-n - 1:-1] + [last]) for n in range(1, len(path) - 1)]
+        return found + [f"{found[-1][:44]}_{n}" for n in range(2, 1000)]
