@@ -12,7 +12,7 @@ from . import cargo
 from .build import Translation
 from .checker import check_texts
 from .html_docs import Pages
-from .later import added_impls, changed_auto_traits
+from .later import added_impls, ask_program, changed_auto_traits
 from .program import Answer, run
 from .questions import Asker, QuestionReader
 from .report import Report, explain_refusal
@@ -153,7 +153,9 @@ def later(arguments: argparse.Namespace) -> int:
     if crates[0] != crates[1]:
         raise BadInput(f"{crates[0]} and {crates[1]} are two crates, not two versions of one")
     release = added_impls(worlds[0], worlds[1], crates[0], arguments.private)
-    release.apart += changed_auto_traits([translated(w, arguments) for w in worlds], crates[0], arguments.program)
+    translations = [translated(w, arguments) for w in worlds]
+    ask_program(translations[1], crates[0], release.added, arguments.program)
+    release.apart += changed_auto_traits(translations, crates[0], arguments.program)
     show = Show(worlds[1])
     print(f"{crates[0]} {worlds[0].crates[crates[0]].version} to {worlds[1].crates[crates[0]].version}: {len(release.added)} impls are added")
     for line in release.new_items + [j.show(show) for j in release.added]:

@@ -1,8 +1,7 @@
 """A release judged: what a later version of a crate adds, and whether that breaks crates that use it.
 
-The judgement of added impls is this script's own, read from the rule of the definitions (`is_addable` in
-crates/model/specs/Versions.antt); the program is not asked. `judged` is the one place to change once the program answers
-sections of later versions. Auto traits of public types are asked of the program, in both versions.
+Each added impl stands in a section of its own, a line `later` behind the text of the new version, and the program says whether it is
+compatible. Why it is not is this script's word. Auto traits of public types are asked of the program too, in both versions.
 """
 from __future__ import annotations
 
@@ -10,16 +9,18 @@ from dataclasses import dataclass, field
 from typing import Optional
 
 from .build import AUTO_TRAITS, Translation
+from .program import run
 from .questions import Asker, Question
 from .show import Show
 from .terms import (Bound, Constant, Declaration, Impl, Lossy, Named, Param, Parameter, Projection, Reference, Type, Unsayable, argument_values,
                     parameters_of, put, put_bound, rebuilt)
-from .world import World
+from .world import World, crate_name
 
 
 @dataclass
 class Judged:
-    """`word` is compatible, breaking, or why the impl is in no section (private, sealed)."""
+    """`word` is compatible, breaking, not settled where the text cannot say the impl, or why it is in no section (private, sealed);
+    it is empty until the program was asked."""
     impl: Impl
     word: str
     reason: str = ""
@@ -36,7 +37,7 @@ class Release:
 
     @property
     def is_breaking(self) -> bool:
-        return bool(self.apart) or any(j.word == "breaking" for j in self.added)
+        return bool(self.apart) or any(j.word in ("breaking", "not settled") for j in self.added)
 
 
 # ---- headers up to the names of parameters
@@ -61,7 +62,7 @@ def parameter_order(impl: Impl) -> list[str]:
     return list(dict.fromkeys([n for n in names if n in own] + own))
 
 
-# ---- the rule
+# ---- why an impl is breaking
 def met_parameter(world: World, term: Type) -> Optional[Type]:
     """The parameter (or unknown type) that the open walk of a type meets: through references and fundamental structs, and no others."""
     match term:
@@ -131,9 +132,9 @@ def is_sealed(world: World, trait: Declaration) -> bool:
     return False
 
 
-def judged(world: World, show: Show, impl: Impl, old_traits: set[str], with_private: bool) -> Judged:
-    """One added impl, by the rule: its header keeps the orphan rule (the crate compiles), its open walk meets no parameter, and its
-    trait is neither fundamental nor an auto trait. Clauses are not looked at."""
+def judged(world: World, impl: Impl, show: Show, old_traits: set[str], with_private: bool) -> Judged:
+    """One added impl, as far as the program is not asked for it: what nobody else can name is in no section, and what a section cannot
+    say is told here."""
     assert impl.trait is not None
     trait = world.get(impl.trait.key, "trait", impl.trait.arguments)
     if not with_private:
@@ -146,15 +147,39 @@ def judged(world: World, show: Show, impl: Impl, old_traits: set[str], with_priv
         return Judged(impl, "compatible", "its trait is new")
     if impl.is_negative:
         return Judged(impl, "breaking", "a negative impl; what types lose by it is asked below")
+    return Judged(impl, "")
+
+
+def reason(world: World, show: Show, impl: Impl) -> str:
+    """Why the program says that an impl is breaking."""
+    assert impl.trait is not None
+    trait = world.get(impl.trait.key, "trait", impl.trait.arguments)
     if trait.is_auto:
-        return Judged(impl, "breaking", "an impl of an auto trait takes the built-in rule away; what types lose by it is asked below")
+        return "an impl of an auto trait takes the built-in rule away; what types lose by it is asked below"
     if trait.is_fundamental:
-        return Judged(impl, "breaking", "the trait is fundamental: others may rely on there being no such impl")
+        return "the trait is fundamental: others may rely on there being no such impl"
     for term in written_arguments(trait, impl):
         met = met_parameter(world, term)
         if met is not None:
-            return Judged(impl, "breaking", f"another crate may have `{downstream(world, show, trait, impl, met)}`")
-    return Judged(impl, "compatible")
+            return f"another crate may have `{downstream(world, show, trait, impl, met)}`"
+    return "its header is none that the crate may have"
+
+
+def ask_program(translation: Translation, crate: str, added: list[Judged], program: Optional[str]) -> None:
+    """Has the program judge the impls that wait for it, by a section for each behind the upper text of the new version."""
+    show = Show(translation.world)
+    written = {id(p.written.impl): p.upper.text for text in translation.crates for p in text.pieces
+               if p.written is not None and p.upper is not None and p.upper.role == "impl"}
+    waiting = [j for j in added if not j.word]
+    asked = [j for j in waiting if id(j.impl) in written]
+    sections = [line for j in asked for line in (f"later {crate_name(crate)}", written[id(j.impl)])]
+    answer = run("\n".join(translation.text("upper")[0] + sections) + "\n", program) if asked else None
+    for j, verdict in zip(asked, answer.releases if answer else []):
+        j.word = verdict.split()[0]
+        j.reason = reason(translation.world, show, j.impl) if j.word == "breaking" else ""
+    for j in waiting:
+        if not j.word:
+            j.word, j.reason = "not settled", "the text cannot say its header"
 
 
 # ---- two versions
@@ -166,7 +191,7 @@ def added_impls(old: World, new: World, crate: str, with_private: bool) -> Relea
     old_traits = {show_old.item(d) for d in old.crates[crate].declarations.values() if d.is_trait}
     for header, (impl, clauses) in after.items():
         if header not in before:
-            release.added.append(judged(new, show_new, impl, old_traits, with_private))
+            release.added.append(judged(new, impl, show_new, old_traits, with_private))
         elif before[header][1] != clauses:
             release.apart.append(f"changed clauses: {show_new.header(impl)} ({impl.source}): `{before[header][1]}` became `{clauses}`")
     for header, (impl, _) in before.items():

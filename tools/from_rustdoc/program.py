@@ -18,6 +18,7 @@ class Answer:
     crates: dict[str, str] = field(default_factory=dict)
     questions: list[str] = field(default_factory=list)
     values: list[str] = field(default_factory=list)
+    releases: list[str] = field(default_factory=list)
 
     def refusals(self) -> dict[str, str]:
         return {crate: verdict for crate, verdict in self.crates.items() if verdict != "accepted"}
@@ -49,6 +50,8 @@ def read_answer(output: str) -> Answer:
         head, _, rest = line.partition(": ")
         if head.startswith("crate "):
             answer.crates[head[len("crate "):]] = rest
+        elif head.startswith("later "):
+            answer.releases.append(rest)
         else:
             word, _, values = rest.partition(" ")
             answer.questions.append(word)

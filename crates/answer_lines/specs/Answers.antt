@@ -6,7 +6,7 @@ use Rattle.std.specs.Option.{option_map}
 use Rattle.text_definitions.specs.Output as output
 use Rattle.answer_lines.specs.declared.answer.ValueText.{ValueText}
 use Rattle.answer_lines.specs.declared.answer.Answer.{Answer}
-use Rattle.answer_lines.specs.declared.answer.Answer.TheVariants.{Fault, Accepted, Nonlocal, Uncovered, Overlap, Yes, Maybe, Unproved, No, Open}
+use Rattle.answer_lines.specs.declared.answer.Answer.TheVariants.{Fault, Accepted, Nonlocal, Uncovered, Overlap, Compatible, Breaking, Held, Missing, Undecided, Yes, Maybe, Unproved, No, Open}
 
 abbrev pub value_of : ValueText → output.ValueText
 value_of v = record { variable = v.variable.items; term = v.term.items }
@@ -21,6 +21,11 @@ answer_of (Accepted n) = output.accepted n.now
 answer_of (Nonlocal n k) = output.nonlocal n.now k
 answer_of (Uncovered n k p b) = output.uncovered n.now k p.now (option_map text_of b)
 answer_of (Overlap n k o j) = output.overlap n.now k o.now j
+answer_of (Compatible n) = output.compatible n.now
+answer_of (Breaking n k) = output.breaking n.now k
+answer_of (Held n) = output.held n.now
+answer_of (Missing n k j) = output.missing n.now k j
+answer_of (Undecided n k j) = output.undecided n.now k j
 answer_of (Yes q vs) = output.yes q (map value_of vs.now)
 answer_of (Maybe q) = output.maybe q
 answer_of (Unproved q) = output.unproved q

@@ -1,6 +1,6 @@
 //! The lines of the answer.
-ghost use Rattle.std.specs.Prelude.{◌≡◌, ◌++◌, IfOk, OnOk, map, codes};
-ghost use Rattle.text_definitions.specs.Output.{output_text, accepted, fault, nonlocal, uncovered, overlap, yes, maybe, unproved, no, unrefuted, value_text, values_text, before_text};
+ghost use Rattle.std.specs.Prelude.{◌≡◌, ◌++◌, ◌∷◌, [], IfOk, OnOk, map, codes};
+ghost use Rattle.text_definitions.specs.Output.{output_text, accepted, fault, nonlocal, uncovered, overlap, compatible, breaking, held, missing, undecided, clause_text, yes, maybe, unproved, no, unrefuted, value_text, values_text, before_text};
 ghost use Rattle.answer_lines.specs.Answers.{answer_of, value_of, text_of, more_values};
 ghost use Rattle.answer_lines.specs.Answers as answers;
 ghost use Rattle.std.specs.Option.{option_map};
@@ -49,6 +49,31 @@ pub enum Answer<'a> {
         other: &'a [u8],
         other_number: u32,
     },
+    /// The impls of the section make a later version of the crate.
+    Compatible {
+        name: &'a [u8],
+    },
+    /// They do not: the impl of this number of the section is the first that a later version may not add.
+    Breaking {
+        name: &'a [u8],
+        number: u32,
+    },
+    /// The supertraits of the crate's headers have proofs.
+    Held {
+        name: &'a [u8],
+    },
+    /// A supertrait of an impl's header, counted from 1, has no proof that was found.
+    Missing {
+        name: &'a [u8],
+        number: u32,
+        clause: u32,
+    },
+    /// It is not settled whether a supertrait of an impl's header has one.
+    Undecided {
+        name: &'a [u8],
+        number: u32,
+        clause: u32,
+    },
     /// Proved, with the values of the question's variables.
     Yes {
         question: u32,
@@ -77,6 +102,28 @@ fn crate_start(alloc: Global, name: &[u8]) -> Result<Vec<u8>, AllocError>
 {
     let mut text = Vec::new(alloc);
     text.extend_from_slice(b"crate ")?;
+    text.extend_from_slice(name)?;
+    text.extend_from_slice(b": ")?;
+    Ok(text)
+}
+
+/// How the line of a section begins.
+fn later_start(alloc: Global, name: &[u8]) -> Result<Vec<u8>, AllocError>
+    ensures { IfOk result (λ text. text.items ≡ output.later_start name.now) }
+{
+    let mut text = Vec::new(alloc);
+    text.extend_from_slice(b"later ")?;
+    text.extend_from_slice(name)?;
+    text.extend_from_slice(b": ")?;
+    Ok(text)
+}
+
+/// How the line about a crate's supertraits begins.
+fn supers_start(alloc: Global, name: &[u8]) -> Result<Vec<u8>, AllocError>
+    ensures { IfOk result (λ text. text.items ≡ output.supers_start name.now) }
+{
+    let mut text = Vec::new(alloc);
+    text.extend_from_slice(b"supers ")?;
     text.extend_from_slice(name)?;
     text.extend_from_slice(b": ")?;
     Ok(text)
@@ -191,6 +238,67 @@ fn overlap_line(
     Ok(text)
 }
 
+fn compatible_line(alloc: Global, name: &[u8]) -> Result<Vec<u8>, AllocError>
+    ensures { IfOk result (λ text. text.items ≡ output_text (compatible name.now)) }
+{
+    let mut text = later_start(alloc, name)?;
+    text.extend_from_slice(b"compatible\n")?;
+    Ok(text)
+}
+
+fn breaking_line(alloc: Global, name: &[u8], number: u32) -> Result<Vec<u8>, AllocError>
+    ensures { IfOk result (λ text. text.items ≡ output_text (breaking name.now number)) }
+{
+    let mut text = later_start(alloc, name)?;
+    text.extend_from_slice(b"breaking impl ")?;
+    push_number(&mut text, u64::from(number))?;
+    text.push(b'\n')?;
+    Ok(text)
+}
+
+fn held_line(alloc: Global, name: &[u8]) -> Result<Vec<u8>, AllocError>
+    ensures { IfOk result (λ text. text.items ≡ output_text (held name.now)) }
+{
+    let mut text = supers_start(alloc, name)?;
+    text.extend_from_slice(b"held\n")?;
+    Ok(text)
+}
+
+/// Which supertrait of which impl, and the end of the line.
+fn push_clause(text: &mut Vec<u8>, number: u32, clause: u32) -> Result<(), AllocError>
+    ensures { OnOk result (text.new.items ≡ text.old.items ++ (clause_text number clause ++ 10 ∷ [])) }
+{
+    text.extend_from_slice(b" impl ")?;
+    push_number(text, u64::from(number))?;
+    text.extend_from_slice(b" clause ")?;
+    push_number(text, u64::from(clause))?;
+    text.push(b'\n')?;
+    Ok(())
+}
+
+fn missing_line(alloc: Global, name: &[u8], number: u32, clause: u32) -> Result<Vec<u8>, AllocError>
+    ensures { IfOk result (λ text. text.items ≡ output_text (missing name.now number clause)) }
+{
+    let mut text = supers_start(alloc, name)?;
+    text.extend_from_slice(b"missing")?;
+    push_clause(&mut text, number, clause)?;
+    Ok(text)
+}
+
+fn undecided_line(
+    alloc: Global,
+    name: &[u8],
+    number: u32,
+    clause: u32,
+) -> Result<Vec<u8>, AllocError>
+    ensures { IfOk result (λ text. text.items ≡ output_text (undecided name.now number clause)) }
+{
+    let mut text = supers_start(alloc, name)?;
+    text.extend_from_slice(b"undecided")?;
+    push_clause(&mut text, number, clause)?;
+    Ok(text)
+}
+
 fn push_value(text: &mut Vec<u8>, value: &ValueText) -> Result<(), AllocError>
     ensures { OnOk result (text.new.items ≡ text.old.items ++ value_text (value_of value.now)) }
 {
@@ -288,6 +396,19 @@ pub fn print_line(alloc: Global, answer: &Answer<'_>) -> Result<Vec<u8>, AllocEr
             other,
             other_number,
         } => overlap_line(alloc, name, *number, other, *other_number),
+        Answer::Compatible { name } => compatible_line(alloc, name),
+        Answer::Breaking { name, number } => breaking_line(alloc, name, *number),
+        Answer::Held { name } => held_line(alloc, name),
+        Answer::Missing {
+            name,
+            number,
+            clause,
+        } => missing_line(alloc, name, *number, *clause),
+        Answer::Undecided {
+            name,
+            number,
+            clause,
+        } => undecided_line(alloc, name, *number, *clause),
         Answer::Yes { question, values } => yes_line(alloc, *question, values),
         Answer::Maybe { question } => maybe_line(alloc, *question),
         Answer::Unproved { question } => unproved_line(alloc, *question),

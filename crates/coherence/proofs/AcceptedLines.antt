@@ -41,7 +41,7 @@ module _ (limit : ℕ) (d : Declarations) where
       by (inl e) a r = subst (λ k. IsAccepted (view_in d k) k) e a
       by (inr k) a r = r k
 
-  all-told : (cs : List Answer) → CrateLines limit d (length d.crates - 1) cs → list_all is_accepted_line cs ≡ true → CratesAreAccepted d
+  pub all-told : (cs : List Answer) → CrateLines limit d (length d.crates - 1) cs → list_all is_accepted_line cs ≡ true → CratesAreAccepted d
   all-told cs p h c l g = each-told (length d.crates - 1) cs p h c l (below c (length d.crates) g)
     where
       below : (b n : ℕ) → b < n → b < suc (n - 1)

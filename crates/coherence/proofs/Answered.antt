@@ -1,16 +1,22 @@
 -- What a session answers, of the text that it is on.
-use Rattle.std.proofs.Common.{◌≡◌, ℕ, List, map, subst}
+use Rattle.std.proofs.Common.{◌≡◌, ℕ, List, [], Option, Some, None, map, sym, ap, ◌∙◌, subst}
+use Rattle.std.specs.List.{slice_get}
+use Rattle.std.specs.Option.{option_map, option_map_or}
+use Rattle.std.proofs.lemmas.Option.{same_Some}
 use Rattle.model.specs.Trees.{erase}
-use Rattle.text_definitions.specs.Declarations.{Declarations, Question}
+use Rattle.text_definitions.specs.Declarations.{Declarations, NamedCrate, Question}
 use Rattle.text_definitions.specs.Names.{answer_values}
-use Rattle.text_definitions.specs.Output.{yes, output_text}
+use Rattle.text_definitions.specs.Output.{Answer, yes, output_text}
 use Rattle.type_terms.specs.Kinds.{arg_trees}
 use Rattle.type_terms.specs.Terms.{Entry}
 use Rattle.type_terms.specs.declared.kinds.GenericArgKind.{GenericArgKind}
 use Rattle.sessions.specs.Promises.{IsVerdictOf, IsProved, IsRefutation}
 use Rattle.sessions.specs.QuestionAnswers as answers
+use Rattle.sessions.specs.Releases as releases
+use Rattle.sessions.specs.Releases.{IsSectionOf, IsLaterAnswer, IsSupersAnswer}
 use Rattle.sessions.specs.Subjects.{Subject, AsksProof, AsksRefutation}
 use Rattle.sessions.specs.Verdicts.{Verdict}
+use Rattle.coherence.specs.Lines.{crate_text, number_in_crate}
 
 pub verdict-of : (s : Subject) (d : Declarations) (c : ℕ) (v : Verdict) → s.declarations ≡ d → s.of_crate ≡ c → IsVerdictOf s.depth s.declarations s.of_crate v → IsVerdictOf s.depth d c v
 verdict-of s d c v e f h = subst (λ k. IsVerdictOf s.depth d k v) f (subst (λ (x : Declarations). IsVerdictOf s.depth x s.of_crate v) e h)
@@ -29,3 +35,30 @@ pub yes-line : (d : Declarations) (n : ℕ) (q : Question) (es fs : List Entry) 
 yes-line d n q es fs vs ws text e f h =
     subst (λ (zs : List GenericArgKind). text ≡ output_text (yes n (answer_values d q (map (λ v. erase (arg_trees fs v)) zs)))) f
     (subst (λ (gs : List Entry). text ≡ output_text (yes n (answer_values d q (map (λ v. erase (arg_trees gs v)) vs)))) e h)
+
+-- ---- what is checked
+pub section-of : (s : Subject) (d : Declarations) (c k : ℕ) → s.declarations ≡ d → s.of_crate ≡ c → IsSectionOf d c k → IsSectionOf s.declarations s.of_crate k
+section-of s d c k e f h = subst (λ n. IsSectionOf s.declarations n k) (sym f) (subst (λ (x : Declarations). IsSectionOf x c k) (sym e) h)
+
+pub later-of : (s : Subject) (d : Declarations) (c k : ℕ) (a : releases.LaterAnswer) → s.declarations ≡ d → s.of_crate ≡ c → IsLaterAnswer s.declarations s.of_crate k a → IsLaterAnswer d c k a
+later-of s d c k a e f h = subst (λ n. IsLaterAnswer d n k a) f (subst (λ (x : Declarations). IsLaterAnswer x s.of_crate k a) e h)
+
+pub supers-of : (s : Subject) (d : Declarations) (c : ℕ) (a : releases.SupersAnswer) → s.declarations ≡ d → s.of_crate ≡ c → IsSupersAnswer s.depth s.declarations s.of_crate a → IsSupersAnswer s.depth d c a
+supers-of s d c a e f h = subst (λ n. IsSupersAnswer s.depth d n a) f (subst (λ (x : Declarations). IsSupersAnswer s.depth x s.of_crate a) e h)
+
+-- a crate's name is its text
+name-of : (d : Declarations) (c : ℕ) (n : List ℕ) → option_map (λ x. x.text) (slice_get d.crates c) ≡ Some n → crate_text d c ≡ n
+name-of d c n h = by (slice_get d.crates c) h
+  where
+    by : (o : Option NamedCrate) → option_map (λ x. x.text) o ≡ Some n → option_map_or (λ x. x.text) o [] ≡ n
+    by None e = absurd cc
+    by (Some x) e = same_Some x.text n e
+
+-- a line of a crate, by its name
+pub named-line : (line : List ℕ → Answer) (d : Declarations) (c : ℕ) (n text : List ℕ) → option_map (λ x. x.text) (slice_get d.crates c) ≡ Some n → text ≡ output_text (line n) → text ≡ output_text (line (crate_text d c))
+named-line line d c n text h e = e ∙ ap (λ m. output_text (line m)) (sym (name-of d c n h))
+
+-- ... and of one of its impls, by its number there
+pub numbered-line : (line : List ℕ → ℕ → Answer) (d : Declarations) (c k m : ℕ) (n text : List ℕ) → option_map (λ x. x.text) (slice_get d.crates c) ≡ Some n → m ≡ number_in_crate d k → text ≡ output_text (line n m)
+    → text ≡ output_text (line (crate_text d c) (number_in_crate d k))
+numbered-line line d c k m n text h is e = named-line (λ x. line x m) d c n text h e ∙ ap (λ i. output_text (line (crate_text d c) i)) is

@@ -12,3 +12,5 @@ pub mod Answered
 pub mod TermVariables
 pub mod ErasedValues
 pub mod AcceptedLines
+pub mod CrateNames
+pub mod HeldLines

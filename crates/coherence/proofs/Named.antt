@@ -1,14 +1,15 @@
--- The impls that a verdict names are there.
+-- The impls that a verdict or a check names are there.
 use Rattle.std.proofs.Common.{◌≡◌, ℕ, zero, suc, ◌<◌, List, [], ◌∷◌, map, length, Some, refl, sym, ap, ◌∙◌, subst}
 use Rattle.std.specs.List.{slice_get}
 use Rattle.std.proofs.lemmas.Option.{slice_get_within, same_Some}
-use Rattle.model.specs.Worlds.{ImplDecl, sees}
+use Rattle.model.specs.Worlds.{ImplDecl, sees, view_of}
 use Rattle.model.specs.Terms.{erased_world, erased_impl}
 use Rattle.model.specs.Proofs.{In}
 use Rattle.model.proofs.Members.{in-filter}
 use Rattle.text_definitions.specs.Declarations.{Declarations, NamedImpl, world_of}
 use Rattle.workspace.specs.Numbered.{IsNumbered}
 use Rattle.sessions.specs.Promises.{IsVerdictOf, view_in}
+use Rattle.sessions.specs.Releases.{StopsAt}
 use Rattle.sessions.specs.Verdicts.{Verdict, accepted, orphan, overlap}
 use Rattle.coherence.specs.Progress.{NamesImpls}
 
@@ -35,3 +36,15 @@ names limit d c (overlap k j) n h = (
   subst (λ m. m < length d.impls) h.1.later_number (place d c h.1.later n h.1.pair.stands),
   subst (λ m. m < length d.impls) h.1.earlier_number (place d c h.1.earlier n h.1.pair.partner),
 )
+
+-- so is the impl at which a check of supertraits stops
+declared-place : (d : Declarations) (c : ℕ) (i : ImplDecl) → IsNumbered d → In i (view_of (world_of d) c).impls → i.name < length d.impls
+declared-place d c i n h =
+    let W = world_of d in
+    let seen = in-filter (λ (x : ImplDecl). sees W c x.home) W.impls i h in
+    let named = mapped (λ (x : NamedImpl). x.item) d.impls seen.0.0 i seen.0.1 in
+    let number : i.name ≡ seen.0.0 = ap (λ (x : ImplDecl). x.name) (sym named.2) ∙ (n.impls seen.0.0 named.0 named.1).0 in
+    subst (λ k. k < length d.impls) (sym number) (slice_get_within d.impls seen.0.0 named.0 named.1)
+
+pub names-stopped : (limit : ℕ) (d : Declarations) (c k j : ℕ) → IsNumbered d → StopsAt limit d c k j → k < length d.impls
+names-stopped limit d c k j n h = subst (λ m. m < length d.impls) h.stops.named (declared-place d c h.stops.found n h.stops.stands)

@@ -1,4 +1,4 @@
--- Crates, impls and questions by their places.
+-- Crates, checks and questions by their places.
 use Rattle.std.proofs.Common.{◌≡◌, ℕ, zero, suc, ◌+◌, ◌-◌, ◌<◌, Bool, true, false, List, [], ◌∷◌, map, length, Some, refl, sym, ap, ◌∙◌, subst, arith, get_or}
 use Rattle.std.specs.List.{slice_get}
 use Rattle.std.specs.Option.{option_map}
@@ -8,8 +8,9 @@ use Rattle.type_terms.specs.declared.CrateId.{CrateId}
 use Rattle.sessions.specs.Subjects.{Asks, AsksProof, AsksRefutation}
 use Rattle.text_definitions.specs.Declarations.{Declarations, NamedCrate, Question}
 use Rattle.workspace.specs.Numbered.{IsNumbered}
-use Rattle.workspace.specs.Views.{numbers_of, asked_of, asker_of, is_refute}
+use Rattle.workspace.specs.Views.{numbers_of, asked_of, asker_of, is_refute, check_of}
 use Rattle.workspace.specs.declared.declared.Asked.{Asked}
+use Rattle.workspace.specs.declared.declared.Check.{Check}
 
 -- an element of a list has one that stands for it
 pub map-get : {A B C : Type 0} (f : A → C) (g : B → C) (xs : List A) (ys : List B) → map f xs ≡ map g ys → (k : ℕ) (x : A) → slice_get xs k ≡ Some x → (y : B) × (slice_get ys k ≡ Some y) × (f x ≡ g y)
@@ -63,3 +64,9 @@ proof-asked d c k q at e r = record { asks = asks-at d c k q at e; proves = r }
 
 pub refutation-asked : (d : Declarations) (c k : ℕ) (q : Question) → slice_get d.questions k ≡ Some q → q.asker ≡ c → q.is_refute ≡ true → AsksRefutation d c (k + 1) q
 refutation-asked d c k q at e r = record { asks = asks-at d c k q at e; refutes = r }
+
+-- what is checked at a place
+pub check-at : (d : Declarations) (xs : List Check) → map check_of xs ≡ d.checks → (k : ℕ) → k < length d.checks → (o a : Check) → get_or xs k o ≡ a → slice_get d.checks k ≡ Some (check_of a)
+check-at d xs e k within o a h =
+    let same : length xs ≡ length d.checks = sym (length-map xs check_of) ∙ ap length e in
+    entry-of check_of xs d.checks e k a (slice_get-get_or xs k o (omega arith) ∙ ap Some h)

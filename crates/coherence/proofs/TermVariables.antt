@@ -1,14 +1,14 @@
 -- The variables of a question stand for types and constants.
-use Rattle.std.proofs.Common.{◌≡◌, refl, subst, ℕ, zero, suc, Bool, true, false, List, [], ◌∷◌, ◌++◌, map, Option, Some, None, Result, Ok, Err}
+use Rattle.std.proofs.Common.{◌≡◌, refl, subst, ℕ, zero, suc, Bool, true, false, List, [], ◌∷◌, ◌++◌, ◌-◌, length, if◌then◌else◌, map, Option, Some, None, Result, Ok, Err}
 use Rattle.std.specs.Prelude.{slice_get, filter}
 use Rattle.std.specs.List.{flat_map}
 use Rattle.std.proofs.lemmas.Option.{same_Some}
 use Rattle.model.specs.Label.{Sort, of_type, of_const, of_lifetime}
-use Rattle.text_definitions.specs.Syntax.{TypeTree, of_primitive, never_type, variable_type, named, reference_to, pointer_to, slice_of, array_of, tuple_of, fn_of, fn_to, dyn_of, Types, no_types, and_type, Args, no_args, and_arg, Arg, lifetime_arg, number_arg, type_arg, Item, bound_item, lifetime_item, Items, no_items, and_item, Length, number_length, name_length, variable_length, Bound, Clause, Line, crate_line, struct_line, trait_line, impl_line, prove_line, refute_line}
-use Rattle.text_definitions.specs.Declarations.{Declarations, Question, Variable, known, nothing_declared}
+use Rattle.text_definitions.specs.Syntax.{TypeTree, of_primitive, never_type, variable_type, named, reference_to, pointer_to, slice_of, array_of, tuple_of, fn_of, fn_to, dyn_of, Types, no_types, and_type, Args, no_args, and_arg, Arg, lifetime_arg, number_arg, type_arg, Item, bound_item, lifetime_item, Items, no_items, and_item, Length, number_length, name_length, variable_length, Bound, Clause, Line, crate_line, struct_line, trait_line, impl_line, prove_line, refute_line, later_line, supers_line}
+use Rattle.text_definitions.specs.Declarations.{Declarations, NamedImpl, Question, Variable, known, nothing_declared}
 use Rattle.text_definitions.specs.Uses.{Use, variable_use, misfit_use, kinds_of_struct, kinds_of_trait, next_kind, other_kinds, length_uses, lifetime_uses, binder_uses, type_uses, types_uses, args_uses, arg_uses, item_uses, items_uses, bound_uses, clause_uses}
 use Rattle.text_definitions.specs.Faults.{fault_of, variables_in, once}
-use Rattle.text_definitions.specs.Adding.{added}
+use Rattle.text_definitions.specs.Adding.{added, impl_of, item_meanings}
 use Rattle.text_definitions.specs.Text.{LineGives, other_byte, blank, unwritten, faulty, adds, LinesGive, ends, fails, goes_on, TextGives, too_long, fits}
 use Rattle.line_reader.specs.Faultless.{UsesFit}
 use Rattle.line_reader.proofs.FittingUses.{faultless-uses}
@@ -172,7 +172,16 @@ line-asks : (d : Declarations) (l : Line) → fault_of d l ≡ None → AllAsk d
 line-asks d (crate_line n us) f h = h
 line-asks d (struct_line g n ps fs) f h = h
 line-asks d (trait_line g b n ps bs) f h = h
-line-asks d (impl_line ps k ks) f h = h
+line-asks d (impl_line ps k ks) f h = by d.in_section
+  where
+    x : NamedImpl
+    x = impl_of d (item_meanings d (impl_line ps k ks) 0) ps k ks
+
+    by : (b : Bool) → AllAsk (if b then record d { later_impls = d.later_impls ++ record { section = length d.sections - 1; added = x } ∷ [] } else record d { impls = d.impls ++ x ∷ [] }).questions
+    by true = h
+    by false = h
+line-asks d (later_line n) f h = h
+line-asks d (supers_line n) f h = h
 line-asks d (prove_line c ps a ks) f h =
     more d.questions _ h (of-clause d a (all-left (clause_uses d a) (flat_map (clause_uses d) ks) (fit-all d (prove_line c ps a ks) _ (faultless-uses d (prove_line c ps a ks) f).1)))
 line-asks d (refute_line c ps a) f h = more d.questions _ h (of-clause d a (fit-all d (refute_line c ps a) _ (faultless-uses d (refute_line c ps a) f).1))

@@ -1,18 +1,32 @@
--- The questions of a text by the crates that they ask in, by their places.
+-- What a text asks and has checked, by the crates that it is of and by its places.
 use Rattle.std.specs.Prelude.{◌≡◌, ℕ, ◌<◌, List, length, Some, slice_get}
-use Rattle.text_definitions.specs.Declarations.{Declarations, Question}
+use Rattle.text_definitions.specs.Declarations.{Declarations, Check, of_later, of_supers, Question}
 use Rattle.coherence.specs.declared.groups.Group.{Group}
+
+-- the crate that is checked
+abbrev pub checked_crate : Check → ℕ
+checked_crate (of_later k c) = c
+checked_crate (of_supers c) = c
+
+-- the check at place k is of crate c
+abbrev pub IsCheckedIn : Declarations → ℕ → ℕ → Type 0
+IsCheckedIn d c k = (x : Check) × (slice_get d.checks k ≡ Some x) × (checked_crate x ≡ c)
 
 -- the question at place k asks in crate c
 abbrev pub IsAskedIn : Declarations → ℕ → ℕ → Type 0
 IsAskedIn d c k = (q : Question) × (slice_get d.questions k ≡ Some q) × (q.asker ≡ c)
 
--- these are the places of the questions that ask in crate c, of the first n questions
-pub record IsGroup (n : ℕ) (d : Declarations) (c : ℕ) (places : List ℕ) : Type 0 where
-  pub asked : (i k : ℕ) → slice_get places i ≡ Some k → IsAskedIn d c k
-  pub all : (k : ℕ) → k < n → IsAskedIn d c k → (i : ℕ) × (slice_get places i ≡ Some k)
+-- these are the places at which Of holds, of the first n
+pub record ArePlaces (n : ℕ) (Of : ℕ → Type 0) (places : List ℕ) : Type 0 where
+  pub only : (i k : ℕ) → slice_get places i ≡ Some k → Of k
+  pub all : (k : ℕ) → k < n → Of k → (i : ℕ) × (slice_get places i ≡ Some k)
 
--- a group for each crate, of the first n questions
-pub record AreGroups (n : ℕ) (d : Declarations) (groups : List Group) : Type 0 where
+-- of the first m checks and the first n questions, these are crate c's
+pub record IsGroup (m n : ℕ) (d : Declarations) (c : ℕ) (g : Group) : Type 0 where
+  pub checks : ArePlaces m (IsCheckedIn d c) g.checks.items
+  pub questions : ArePlaces n (IsAskedIn d c) g.questions.items
+
+-- a group for each crate, of the first m checks and the first n questions
+pub record AreGroups (m n : ℕ) (d : Declarations) (groups : List Group) : Type 0 where
   pub for_each : length groups ≡ length d.crates
-  pub are : (c : ℕ) (g : Group) → slice_get groups c ≡ Some g → IsGroup n d c g.places.items
+  pub are : (c : ℕ) (g : Group) → slice_get groups c ≡ Some g → IsGroup m n d c g

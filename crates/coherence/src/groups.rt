@@ -1,17 +1,42 @@
-//! The questions of a text, by the crates that they ask in.
+//! What a text asks and has checked, by the crates that it is of.
 
 ghost use Rattle.std.specs.Prelude.{◌+◌, ◌<◌, length, IfOk, OnOk};
 ghost use Rattle.workspace.specs.Numbered.{IsNumbered, IsFew};
-ghost use Rattle.coherence.specs.Groups.{IsAskedIn, AreGroups};
+ghost use Rattle.coherence.specs.Groups.{IsAskedIn, IsCheckedIn, AreGroups};
 
 use std::alloc::{AllocError, Global};
 use type_terms::CrateId;
-use workspace::{Asked, ENTRY_LIMIT, Workspace};
+use workspace::{Asked, Check, ENTRY_LIMIT, Workspace};
 
-/// The questions that ask in a crate, by their places in the text.
+/// What is of one crate, by places in the text.
 #[derive(Drop)]
 pub struct Group {
-    pub places: Vec<u32>,
+    /// The checks of its later versions and of its supertraits.
+    pub checks: Vec<usize>,
+    /// The questions that ask in it.
+    pub questions: Vec<u32>,
+}
+
+impl Group {
+    ghost use Rattle.std.specs.Prelude.{◌≡◌, ◌==◌, ◌&&◌, length};
+
+    /// Whether nothing is checked of the crate, and no question asks in it.
+    pub fn is_empty(&self) -> bool
+        ensures { result ≡ ((length self.now.checks.items == 0) && (length self.now.questions.items == 0)) }
+    {
+        self.checks.is_empty() && self.questions.is_empty()
+    }
+}
+
+/// The crate of which a place of the text has something checked.
+fn checked_at(workspace: &Workspace, place: usize) -> CrateId
+    requires { place < length workspace.now.checks }
+    ensures { IsCheckedIn workspace.now result.index place }
+{
+    match workspace.checks()[place] {
+        Check::Later(_, changed) => changed,
+        Check::Supers(asked) => asked,
+    }
 }
 
 /// The crate in which the question at a place of the text asks.
@@ -25,20 +50,33 @@ fn asker_at(workspace: &Workspace, place: usize) -> CrateId
     }
 }
 
-/// A group for each crate, with no question in it yet.
+/// A group for each crate, with nothing in it yet.
 fn no_groups(alloc: Global, workspace: &Workspace) -> Result<Vec<Group>, AllocError>
-    ensures { IfOk result (λ groups. AreGroups 0 workspace.now groups.items) }
+    ensures { IfOk result (λ groups. AreGroups 0 0 workspace.now groups.items) }
 {
     let mut groups = Vec::new(alloc);
     for _crate in workspace.crates() {
         groups.push(Group {
-            places: Vec::new(alloc),
+            checks: Vec::new(alloc),
+            questions: Vec::new(alloc),
         })?;
     }
     Ok(groups)
 }
 
-/// Adds the question at a place to the group of its crate.
+/// Adds the check at a place to the group of its crate.
+fn add_check(workspace: &Workspace, groups: &mut Vec<Group>, place: usize) -> Result<(), AllocError>
+    requires numbered { IsNumbered workspace.now }
+    requires there { place < length workspace.now.checks }
+    requires groups { AreGroups place 0 workspace.now groups.old.items }
+    ensures { OnOk result (AreGroups (place + 1) 0 workspace.now groups.new.items) }
+{
+    let checked = checked_at(workspace, place);
+    groups[checked.index as usize].checks.push(place)?;
+    Ok(())
+}
+
+/// Adds the question at a place to the group of its crate, behind all checks.
 fn add_question(
     workspace: &Workspace,
     groups: &mut Vec<Group>,
@@ -47,21 +85,33 @@ fn add_question(
     requires numbered { IsNumbered workspace.now }
     requires few { place < 4294967296 }
     requires there { place < length workspace.now.questions }
-    requires groups { AreGroups place workspace.now groups.old.items }
-    ensures { OnOk result (AreGroups (place + 1) workspace.now groups.new.items) }
+    requires groups { AreGroups (length workspace.now.checks) place workspace.now groups.old.items }
+    ensures { OnOk result (AreGroups (length workspace.now.checks) (place + 1) workspace.now groups.new.items) }
 {
     let asker = asker_at(workspace, place);
-    groups[asker.index as usize].places.push(place as u32)?;
+    groups[asker.index as usize].questions.push(place as u32)?;
     Ok(())
 }
 
-/// The questions of each crate, in their order.
-pub fn questions_by_crate(alloc: Global, workspace: &Workspace) -> Result<Vec<Group>, AllocError>
-    requires numbered { IsNumbered workspace.now }
-    requires few { IsFew workspace.now ENTRY_LIMIT }
-    ensures { IfOk result (λ groups. AreGroups (length workspace.now.questions) workspace.now groups.items) }
+/// The checks of each crate, in their order.
+fn checks_by_crate(alloc: Global, workspace: &Workspace) -> Result<Vec<Group>, AllocError>
+    requires { IsNumbered workspace.now }
+    ensures { IfOk result (λ groups. AreGroups (length workspace.now.checks) 0 workspace.now groups.items) }
 {
     let mut groups = no_groups(alloc, workspace)?;
+    for place in 0..workspace.checks().len() {
+        add_check(workspace, &mut groups, place)?;
+    }
+    Ok(groups)
+}
+
+/// The checks and the questions of each crate, in their order.
+pub fn groups_by_crate(alloc: Global, workspace: &Workspace) -> Result<Vec<Group>, AllocError>
+    requires numbered { IsNumbered workspace.now }
+    requires few { IsFew workspace.now ENTRY_LIMIT }
+    ensures { IfOk result (λ groups. AreGroups (length workspace.now.checks) (length workspace.now.questions) workspace.now groups.items) }
+{
+    let mut groups = checks_by_crate(alloc, workspace)?;
     for place in 0..workspace.questions().len() {
         add_question(workspace, &mut groups, place)?;
     }

@@ -10,7 +10,7 @@ mod status;
 mod streams;
 mod text_run;
 
-pub use coherent::accepted_lines_tell;
+pub use coherent::{accepted_lines_tell, held_lines_tell};
 pub use depths::parse_depth;
 pub use sessions::Limits;
 pub use status::{RunFault, Status};

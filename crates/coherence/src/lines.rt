@@ -1,10 +1,10 @@
-//! The lines of crates and of questions.
+//! The lines of crates, of checks and of questions.
 
 ghost use Rattle.std.specs.Prelude.{◌≡◌, ◌≢◌, ◌<◌, length, map, IfOk, IfErr, IfSome};
 ghost use Rattle.std.specs.Option.{option_map};
 ghost use Rattle.answer_lines.specs.Answers.{text_of};
 ghost use Rattle.model.specs.Trees.{erase};
-ghost use Rattle.text_definitions.specs.Declarations.{Question};
+ghost use Rattle.text_definitions.specs.Declarations.{Question, of_later, of_supers};
 ghost use Rattle.text_definitions.specs.Names as names;
 ghost use Rattle.text_definitions.specs.Output.{uncovered, yes, output_text};
 ghost use Rattle.type_terms.specs.Kinds.{arg_trees, ArgsHeld};
@@ -13,20 +13,24 @@ ghost use Rattle.sessions.specs.ErrorTerms.{error_in, type_in};
 ghost use Rattle.sessions.specs.HeldErrors.{ErrorHeld, TypeHeld};
 ghost use Rattle.sessions.specs.OrphanErrors as errors;
 ghost use Rattle.sessions.specs.Given.{verdict_in, VerdictHeld};
+ghost use Rattle.sessions.specs.Releases.{IsSectionOf};
 ghost use Rattle.sessions.specs.Subjects.{IsOfText, AsksProof, AsksRefutation, StaysOn};
 ghost use Rattle.sessions.specs.TextQuestions.{IsQuestion};
-ghost use Rattle.coherence.specs.Groups.{IsAskedIn};
+ghost use Rattle.coherence.specs.Groups.{IsAskedIn, IsCheckedIn};
 ghost use Rattle.coherence.specs.Lines.{crate_text, impl_home, number_in_crate, header_text, orphan_line, verdict_line};
-ghost use Rattle.coherence.specs.Progress.{NamesImpls, HasLine, IsLineOf};
+ghost use Rattle.coherence.specs.Progress.{NamesImpls, HasCheckLine, IsCheckLineOf, HasLine, IsLineOf};
 
 use crate::status::RunFault;
 use answer_lines::{Answer, HeaderNames, answer_values, print_line, print_type};
-use sessions::{OrphanCheckErr, ProveAnswer, RefuteAnswer, Session, UncoveredTyParams, Verdict};
+use sessions::{
+    LaterAnswer, OrphanCheckErr, ProveAnswer, RefuteAnswer, Session, SupersAnswer,
+    UncoveredTyParams, Verdict,
+};
 use std::alloc::{AllocError, Global};
 use type_terms::interner::Interner;
 use type_terms::kinds::{GenericArgKind, Ty};
 use type_terms::{CrateId, ImplId};
-use workspace::{Asked, ENTRY_LIMIT, Workspace};
+use workspace::{Asked, Check, ENTRY_LIMIT, Workspace};
 
 /// An impl's number among those of its crate, from 1.
 fn number_in_crate(workspace: &Workspace, id: ImplId) -> u32
@@ -198,6 +202,99 @@ fn yes_line(
             values: &texts,
         },
     )?;
+    Ok(line)
+}
+
+/// The line of a section of the session's crate.
+fn later_line(
+    alloc: Global,
+    session: &mut Session<'_>,
+    workspace: &Workspace,
+    section: u32,
+    changed: CrateId,
+) -> Result<Vec<u8>, RunFault>
+    requires on { session.old.declarations ≡ workspace.now }
+    requires of_crate { session.old.of_crate ≡ changed.index }
+    requires declared { changed.index < length workspace.now.crates }
+    requires section { IsSectionOf workspace.now changed.index section }
+    ensures line { IfOk result (λ text. HasCheckLine session.old.depth workspace.now (of_later section changed.index) text.items) }
+    ensures stays { StaysOn session.old session.new }
+    ensures written { IfErr result (λ fault. fault ≢ RunFault.Read) }
+{
+    let answer = session.check_later(section)?;
+    let name = workspace.crate_name(changed);
+    let line = match answer {
+        LaterAnswer::Compatible => print_line(alloc, &Answer::Compatible { name })?,
+        LaterAnswer::Breaking(number) => print_line(alloc, &Answer::Breaking { name, number })?,
+    };
+    Ok(line)
+}
+
+/// The line about the supertraits of the session's crate.
+fn supers_line(
+    alloc: Global,
+    session: &mut Session<'_>,
+    workspace: &Workspace,
+    asked: CrateId,
+) -> Result<Vec<u8>, RunFault>
+    requires on { session.old.declarations ≡ workspace.now }
+    requires of_crate { session.old.of_crate ≡ asked.index }
+    requires numbered { IsNumbered workspace.now }
+    requires declared { asked.index < length workspace.now.crates }
+    ensures line { IfOk result (λ text. HasCheckLine session.old.depth workspace.now (of_supers asked.index) text.items) }
+    ensures stays { StaysOn session.old session.new }
+    ensures written { IfErr result (λ fault. fault ≢ RunFault.Read) }
+{
+    let answer = session.check_supertraits()?;
+    let name = workspace.crate_name(asked);
+    let line = match answer {
+        SupersAnswer::Held => print_line(alloc, &Answer::Held { name })?,
+        SupersAnswer::Missing(id, clause) => {
+            let number = number_in_crate(workspace, id);
+            print_line(
+                alloc,
+                &Answer::Missing {
+                    name,
+                    number,
+                    clause,
+                },
+            )?
+        }
+        SupersAnswer::Undecided(id, clause) => {
+            let number = number_in_crate(workspace, id);
+            print_line(
+                alloc,
+                &Answer::Undecided {
+                    name,
+                    number,
+                    clause,
+                },
+            )?
+        }
+    };
+    Ok(line)
+}
+
+/// The line of what is checked of the session's crate, by its place in the text.
+pub fn check_line(
+    alloc: Global,
+    session: &mut Session<'_>,
+    workspace: &Workspace,
+    place: usize,
+) -> Result<Vec<u8>, RunFault>
+    requires on { session.old.declarations ≡ workspace.now }
+    requires numbered { IsNumbered workspace.now }
+    requires checked { IsCheckedIn workspace.now session.old.of_crate place }
+    ensures line { IfOk result (λ text. IsCheckLineOf session.old.depth workspace.now place text.items) }
+    ensures stays { StaysOn session.old session.new }
+    ensures written { IfErr result (λ fault. fault ≢ RunFault.Read) }
+{
+    let line = match workspace.checks()[place] {
+        Check::Later(section, changed) => {
+            later_line(alloc, session, workspace, section, changed)?
+        }
+        Check::Supers(asked) => supers_line(alloc, session, workspace, asked)?,
+    };
     Ok(line)
 }
 

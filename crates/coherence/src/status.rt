@@ -9,7 +9,7 @@ use type_terms::Fault;
 /// What a run wrote.
 #[derive(Clone, Copy, PartialEq, Eq)]
 pub enum Status {
-    /// A line for each crate but `core`, and then one for each question.
+    /// A line for each crate but `core`, then one for each later version and each check of supertraits, and then one for each question.
     Done,
     /// The line of the text's first fault, alone.
     TextFault,

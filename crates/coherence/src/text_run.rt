@@ -6,15 +6,15 @@ ghost use Rattle.line_faults.specs.FaultNumbers.{fault_number};
 ghost use Rattle.text_definitions.specs.Output.{fault, output_text};
 ghost use Rattle.workspace.specs.Numbered.{IsNumbered, IsFew};
 ghost use Rattle.sessions.specs.Subjects.{IsOfText, StaysOn};
-ghost use Rattle.coherence.specs.Coherent.{AcceptedLinesTell};
+ghost use Rattle.coherence.specs.Coherent.{AcceptedLinesTell, HeldLinesTell};
 ghost use Rattle.coherence.specs.Groups.{IsGroup};
 ghost use Rattle.coherence.specs.Lines.{WritesOutput, WritesPrefix};
 ghost use Rattle.coherence.specs.Progress.{KeepsLines, WritesVerdict, WritesVerdictPrefix, WritesCrates, WritesCratesPrefix, WritesAnswers, WritesAnswersPrefix};
 ghost use Rattle.coherence.specs.Streams.{AppendsPrefix, ConsumesAtMost};
 
-use crate::coherent::accepted_lines_tell;
-use crate::groups::{Group, questions_by_crate};
-use crate::kept::{KeptLine, keep_answers, no_lines, write_questions};
+use crate::coherent::{accepted_lines_tell, held_lines_tell};
+use crate::groups::{Group, groups_by_crate};
+use crate::kept::{KeptLines, keep_answers, no_lines, write_checks, write_questions};
 use crate::lines::verdict_line;
 use crate::status::{RunFault, Status};
 use crate::streams::{READ_LIMIT, read_text, write_text};
@@ -65,14 +65,14 @@ fn write_verdict<W: Write>(
     Ok(())
 }
 
-/// Judges the session's crate and writes its line, and keeps the lines of its questions.
+/// Judges the session's crate and writes its line, and keeps the lines of its checks and questions.
 fn judge_by<W: Write>(
     alloc: Global,
     session: &mut Session<'_>,
     workspace: &Workspace,
     id: CrateId,
     group: &Group,
-    lines: &mut Vec<KeptLine>,
+    lines: &mut KeptLines,
     writer: &mut W,
 ) -> Result<(), RunFault>
     requires parsed { IsOfText workspace.now }
@@ -81,10 +81,10 @@ fn judge_by<W: Write>(
     requires numbered { IsNumbered workspace.now }
     requires few { IsFew workspace.now ENTRY_LIMIT }
     requires declared { id.index < length workspace.now.crates }
-    requires group { IsGroup (length workspace.now.questions) workspace.now id.index group.now.places.items }
-    requires kept { KeepsLines session.old.depth workspace.now id.index lines.old.items }
+    requires group { IsGroup (length workspace.now.checks) (length workspace.now.questions) workspace.now id.index group.now }
+    requires kept { KeepsLines session.old.depth workspace.now id.index lines.old }
     ensures whole { OnOk result (WritesVerdict session.old.depth workspace.now id.index (W.contents writer.old) (W.contents writer.new)) }
-    ensures kept { OnOk result (KeepsLines session.old.depth workspace.now (id.index + 1) lines.new.items) }
+    ensures kept { OnOk result (KeepsLines session.old.depth workspace.now (id.index + 1) lines.new) }
     ensures prefix { OnErr result (WritesVerdictPrefix session.old.depth workspace.now id.index (W.contents writer.old) (W.contents writer.new)) }
     ensures written { IfErr result (λ fault. fault ≢ RunFault.Read) }
 {
@@ -93,24 +93,24 @@ fn judge_by<W: Write>(
     Ok(())
 }
 
-/// Judges a crate and writes its line, and keeps the lines of its questions: by one session, which sees the crate's view.
+/// Judges a crate and writes its line, and keeps the lines of its checks and questions: by one session, which sees the crate's view.
 fn judge_crate<W: Write>(
     alloc: Global,
     workspace: &Workspace,
     id: CrateId,
     limits: Limits,
     group: &Group,
-    lines: &mut Vec<KeptLine>,
+    lines: &mut KeptLines,
     writer: &mut W,
 ) -> Result<(), RunFault>
     requires parsed { IsOfText workspace.now }
     requires numbered { IsNumbered workspace.now }
     requires few { IsFew workspace.now ENTRY_LIMIT }
     requires declared { id.index < length workspace.now.crates }
-    requires group { IsGroup (length workspace.now.questions) workspace.now id.index group.now.places.items }
-    requires kept { KeepsLines limits.depth workspace.now id.index lines.old.items }
+    requires group { IsGroup (length workspace.now.checks) (length workspace.now.questions) workspace.now id.index group.now }
+    requires kept { KeepsLines limits.depth workspace.now id.index lines.old }
     ensures whole { OnOk result (WritesVerdict limits.depth workspace.now id.index (W.contents writer.old) (W.contents writer.new)) }
-    ensures kept { OnOk result (KeepsLines limits.depth workspace.now (id.index + 1) lines.new.items) }
+    ensures kept { OnOk result (KeepsLines limits.depth workspace.now (id.index + 1) lines.new) }
     ensures prefix { OnErr result (WritesVerdictPrefix limits.depth workspace.now id.index (W.contents writer.old) (W.contents writer.new)) }
     ensures written { IfErr result (λ fault. fault ≢ RunFault.Read) }
 {
@@ -118,47 +118,47 @@ fn judge_crate<W: Write>(
     judge_by(alloc, &mut session, workspace, id, group, lines, writer)
 }
 
-/// Keeps the lines of questions that ask in `core`, which has no line of its own.
+/// Keeps the lines of what is checked of `core`, and of questions that ask in it. It has no line of its own.
 fn answer_core(
     alloc: Global,
     workspace: &Workspace,
     limits: Limits,
     group: &Group,
-    lines: &mut Vec<KeptLine>,
+    lines: &mut KeptLines,
 ) -> Result<(), RunFault>
     requires parsed { IsOfText workspace.now }
     requires numbered { IsNumbered workspace.now }
     requires few { IsFew workspace.now ENTRY_LIMIT }
-    requires group { IsGroup (length workspace.now.questions) workspace.now 0 group.now.places.items }
-    requires kept { KeepsLines limits.depth workspace.now 0 lines.old.items }
-    ensures kept { OnOk result (KeepsLines limits.depth workspace.now 1 lines.new.items) }
+    requires group { IsGroup (length workspace.now.checks) (length workspace.now.questions) workspace.now 0 group.now }
+    requires kept { KeepsLines limits.depth workspace.now 0 lines.old }
+    ensures kept { OnOk result (KeepsLines limits.depth workspace.now 1 lines.new) }
     ensures written { IfErr result (λ fault. fault ≢ RunFault.Read) }
 {
-    if group.places.is_empty() {
+    if group.is_empty() {
         return Ok(());
     }
     let mut session = Session::new(alloc, workspace, crate_at(workspace, 0), limits)?;
     keep_answers(alloc, &mut session, workspace, group, lines)
 }
 
-/// Writes a line for each crate but `core`, in the order of the text, and keeps the lines of all questions.
+/// Writes a line for each crate but `core`, in the order of the text, and keeps the lines of all checks and questions.
 fn write_crates<W: Write>(
     alloc: Global,
     workspace: &Workspace,
     limits: Limits,
-    lines: &mut Vec<KeptLine>,
+    lines: &mut KeptLines,
     writer: &mut W,
 ) -> Result<(), RunFault>
     requires parsed { IsOfText workspace.now }
     requires numbered { IsNumbered workspace.now }
     requires few { IsFew workspace.now ENTRY_LIMIT }
-    requires kept { KeepsLines limits.depth workspace.now 0 lines.old.items }
+    requires kept { KeepsLines limits.depth workspace.now 0 lines.old }
     ensures whole { OnOk result (WritesCrates limits.depth workspace.now (length workspace.now.crates - 1) (W.contents writer.old) (W.contents writer.new)) }
-    ensures kept { OnOk result (KeepsLines limits.depth workspace.now (length workspace.now.crates) lines.new.items) }
+    ensures kept { OnOk result (KeepsLines limits.depth workspace.now (length workspace.now.crates) lines.new) }
     ensures prefix { OnErr result (WritesCratesPrefix limits.depth workspace.now (W.contents writer.old) (W.contents writer.new)) }
     ensures written { IfErr result (λ fault. fault ≢ RunFault.Read) }
 {
-    let groups = questions_by_crate(alloc, workspace)?;
+    let groups = groups_by_crate(alloc, workspace)?;
     answer_core(alloc, workspace, limits, &groups[0], lines)?;
     for place in 0..crates_with_lines(workspace) {
         let id = crate_at(workspace, place + 1);
@@ -175,7 +175,7 @@ fn write_crates<W: Write>(
     Ok(())
 }
 
-/// Writes the lines of all crates, and then those of all questions.
+/// Writes the lines of all crates, then those of all checks, and then those of all questions.
 fn write_answers<W: Write>(
     alloc: Global,
     workspace: &Workspace,
@@ -190,7 +190,8 @@ fn write_answers<W: Write>(
     let _crates = workspace.crates();
     let mut lines = no_lines(alloc, workspace)?;
     write_crates(alloc, workspace, limits, &mut lines, writer)?;
-    write_questions(workspace, &lines, limits.depth, writer)?;
+    write_checks(workspace, &lines.checks, limits.depth, writer)?;
+    write_questions(workspace, &lines.questions, limits.depth, writer)?;
     Ok(())
 }
 
@@ -231,8 +232,8 @@ fn answer_text<W: Write>(
     }
 }
 
-/// Reads a text, and writes its output: the line of its first fault, or a line for each crate but `core` and then one for each
-/// question, each as it is ready.
+/// Reads a text, and writes its output: the line of its first fault, or a line for each crate but `core`, then one for each later
+/// version and each check of supertraits, and then one for each question, each as it is ready.
 ///
 /// No more than 1,048,577 bytes are read, which is one more than a text may have. A line is written by as many calls of the
 /// writer as it takes; what was written before a `RunFault` is a prefix of the output.
@@ -250,10 +251,13 @@ pub fn run<R: Read, W: Write>(
     ensures unread { IfErr result (λ fault. fault ≡ RunFault.Read → Keeps (W.contents writer.old) (W.contents writer.new)) }
     // Where the line of each crate says `accepted`, and the supertraits of headers are proved, the text is coherent as a whole.
     ensures coherent { AcceptedLinesTell }
+    // So it is where each crate has a line `supers N: held` too, and then nothing is assumed of supertraits.
+    ensures held { HeldLinesTell }
     // So much is read at most, whatever comes.
     ensures bounded { ConsumesAtMost (R.remaining reader.old) (R.remaining reader.new) READ_LIMIT }
 {
     accepted_lines_tell();
+    held_lines_tell();
     first_bytes();
     let text = read_text(alloc, reader)?;
     let status = answer_text(alloc, &text, limits, writer)?;

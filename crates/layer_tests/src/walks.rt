@@ -8,7 +8,8 @@ use orphan_check::errors::{
 };
 use orphan_check::knowable::trait_ref_is_knowable;
 use orphan_check::normalize::{AlreadyNormal, Normalize};
-use orphan_check::orphan::orphan_check_trait_ref;
+use orphan_check::open_walk::open_walk_meets_param;
+use orphan_check::orphan::{keeps_orphan_rule, orphan_check_trait_ref};
 use std::alloc::Global;
 use term_folds::predicate::TraitRef;
 use type_terms::Fault;
@@ -167,6 +168,21 @@ const REFERENCES: [(Sample, Result<(), Conflict>); 4] = [
     (Sample(&[Around::Loc], Inmost::Byte), Ok(())),
 ];
 
+/// Headers as they are declared, whether they keep the rule of crate 2, and whether their open walk meets an open place: it goes on
+/// behind local types and into the crate's own fundamental structs.
+const DECLARED: [(Asked, bool, bool); 6] = [
+    (Asked::Num(BYTE), false, false),
+    (Asked::Num(LOC), true, false),
+    (
+        Asked::Num(Sample(&[Around::Own], Inmost::Unknown)),
+        true,
+        true,
+    ),
+    (Asked::Tr(VEC, LOC), true, false),
+    (Asked::Tr(LOC, UNKNOWN), true, true),
+    (Asked::Tr(BOXED, LOC), false, true),
+];
+
 /// What the check answers, if it is not that memory was refused.
 fn found(answer: Result<Result<(), OrphanCheckErr<Ty>>, WalkError<u32>>) -> Option<Found> {
     match answer {
@@ -244,6 +260,33 @@ fn holds(alloc: Global, header: Header) -> Result<bool, Fault> {
     holds_in(alloc, &mut cx, header)
 }
 
+/// Whether a header that is made first keeps the rule of crate 2, and whether its open walk meets an open place.
+fn walked(alloc: Global, cx: &mut Interner, asked: Asked) -> Result<(bool, bool), Fault> {
+    let header = make_reference(alloc, cx, asked)?;
+    let decls = shop(alloc, cx)?;
+    let keeps = keeps_orphan_rule(cx, &decls, header);
+    Ok((keeps, open_walk_meets_param(cx, &decls, header)))
+}
+
+/// The same with terms of an interner of its own.
+fn walked_alone(alloc: Global, asked: Asked) -> Result<(bool, bool), Fault> {
+    let mut cx = Interner::new(alloc, 100);
+    walked(alloc, &mut cx, asked)
+}
+
+/// The place of the first header as it is declared of which something else is answered.
+fn first_that_walks_otherwise(
+    alloc: Global,
+    headers: &[(Asked, bool, bool)],
+) -> Result<Option<usize>, Fault> {
+    for (place, (asked, keeps, meets)) in headers.iter().enumerate() {
+        if walked_alone(alloc, *asked)? != (*keeps, *meets) {
+            return Ok(Some(place));
+        }
+    }
+    Ok(None)
+}
+
 /// The place of the first header of which something else is answered.
 fn first_that_differs(alloc: Global, headers: &[Header]) -> Result<Option<usize>, Fault> {
     for (place, header) in headers.iter().enumerate() {
@@ -305,5 +348,11 @@ fn headers_keep_the_rule_or_break_it(rt: HostRuntime) -> Result<(), Fault> {
 #[test]
 fn references_are_known_or_other_crates_may_add_impls(rt: HostRuntime) -> Result<(), Fault> {
     assert!(rt; are_known_so(rt.alloc(), &REFERENCES)?);
+    Ok(())
+}
+
+#[test]
+fn declared_headers_are_walked_without_unknowns(rt: HostRuntime) -> Result<(), Fault> {
+    assert_eq!(rt; first_that_walks_otherwise(rt.alloc(), &DECLARED)?, None);
     Ok(())
 }

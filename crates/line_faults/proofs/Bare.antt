@@ -1,7 +1,7 @@
 -- What names stand for on a line depends on nothing of it but its kind, its name and its parameters.
 use Rattle.std.proofs.Common.{◌≡◌, ℕ, List, [], ◌∷◌, ◌++◌, map, refl, sym, ap, ◌∙◌}
 use Rattle.std.specs.List.{flat_map}
-use Rattle.text_definitions.specs.Syntax.{Line, crate_line, struct_line, trait_line, impl_line, prove_line, refute_line, Params, Clause, no_types, no_args, never_type}
+use Rattle.text_definitions.specs.Syntax.{Line, crate_line, struct_line, trait_line, impl_line, prove_line, refute_line, later_line, supers_line, Params, Clause, no_types, no_args, never_type}
 use Rattle.text_definitions.specs.Declarations.{Declarations}
 use Rattle.text_definitions.specs.Faults.{with_own}
 use Rattle.text_definitions.specs.Uses.{Use, params_of}
@@ -70,6 +70,8 @@ bare (trait_line f a n ps bs) = trait_line f a n ps []
 bare (impl_line ps h ks) = impl_line ps no_clause []
 bare (prove_line c ps k ks) = prove_line c ps no_clause []
 bare (refute_line c ps k) = refute_line c ps no_clause
+bare (later_line n) = later_line n
+bare (supers_line n) = supers_line n
 
 speaks-bare : (x y : Line) → Speaks x (line_statement y) → bare x ≡ bare y
 speaks-bare (crate_line n us) (crate_line m vs) e = ap (λ z. crate_line z []) e
@@ -80,6 +82,8 @@ speaks-bare (trait_line f a n ps bs) (trait_line g b m qs cs) e =
 speaks-bare (impl_line ps h ks) (impl_line qs i js) e = ap (λ z. impl_line z no_clause []) (params-by ps qs e)
 speaks-bare (prove_line c ps k ks) (prove_line b qs j js) e = ap (λ z. prove_line z ps no_clause []) e.0 ∙ ap (λ z. prove_line b z no_clause []) (params-by ps qs e.1)
 speaks-bare (refute_line c ps k) (refute_line b qs j) e = ap (λ z. refute_line z ps no_clause) e.0 ∙ ap (λ z. refute_line b z no_clause) (params-by ps qs e.1)
+speaks-bare (later_line n) (later_line m) e = ap later_line e
+speaks-bare (supers_line n) (supers_line m) e = ap supers_line e
 speaks-bare _ _ e = absurd e
 
 abbrev pub sight : Declarations → Line → Sight
@@ -92,6 +96,8 @@ own-bare d (trait_line f a n ps bs) = refl
 own-bare d (impl_line ps h ks) = refl
 own-bare d (prove_line c ps k ks) = refl
 own-bare d (refute_line c ps k) = refl
+own-bare d (later_line n) = refl
+own-bare d (supers_line n) = refl
 
 findings-bare : (d : Declarations) (l : Line) (us : List Use) → findings (sight d l) us ≡ findings (sight d (bare l)) us
 findings-bare d (crate_line n us) ws = refl
@@ -100,6 +106,8 @@ findings-bare d (trait_line f a n ps bs) ws = refl
 findings-bare d (impl_line ps h ks) ws = refl
 findings-bare d (prove_line c ps k ks) ws = refl
 findings-bare d (refute_line c ps k) ws = refl
+findings-bare d (later_line n) ws = refl
+findings-bare d (supers_line n) ws = refl
 
 params-bare : (l : Line) → params_of l ≡ params_of (bare l)
 params-bare (crate_line n us) = refl
@@ -108,6 +116,8 @@ params-bare (trait_line f a n ps bs) = refl
 params-bare (impl_line ps h ks) = refl
 params-bare (prove_line c ps k ks) = refl
 params-bare (refute_line c ps k) = refl
+params-bare (later_line n) = refl
+params-bare (supers_line n) = refl
 
 -- the sight's line and the line that was read see the same
 pub same-items : (v : Sight) (l : Line) → Speaks v.line (line_statement l) → items v ≡ with_own v.before l

@@ -8,8 +8,8 @@ use Rattle.std.proofs.lemmas.List.{length-take-le, take-append-drop, take-map, d
 use Rattle.std.proofs.lemmas.List.Folds.{list_any-append}
 use Rattle.std.proofs.Math.Seq.{take-append_seam}
 use Rattle.model.specs.Label.{of_type}
-use Rattle.text_definitions.specs.Syntax.{TypeTree, of_primitive, never_type, variable_type, named, reference_to, pointer_to, slice_of, array_of, tuple_of, fn_of, fn_to, dyn_of, Params, Clause, Line, crate_line, struct_line, trait_line, impl_line, prove_line, refute_line}
-use Rattle.text_definitions.specs.Declarations.{Declarations, known, last_crate}
+use Rattle.text_definitions.specs.Syntax.{TypeTree, of_primitive, never_type, variable_type, named, reference_to, pointer_to, slice_of, array_of, tuple_of, fn_of, fn_to, dyn_of, Params, Clause, Line, crate_line, struct_line, trait_line, impl_line, prove_line, refute_line, later_line, supers_line}
+use Rattle.text_definitions.specs.Declarations.{Declarations, known, impl_owner}
 use Rattle.text_definitions.specs.Uses.{args_uses, type_uses, kinds_of_trait, params_of, header_uses}
 use Rattle.text_definitions.specs.Faults.{has_free_param, implements_built_in, is_among, is_auto_name, is_built_in, is_foreign_auto, is_name_use, is_own_struct, is_param, is_struct_in}
 use Rattle.line_reader.specs.Cells.{Cell, primitive_cell, never_cell, slice_cell, variable_cell, named_cell, reference_cell, pointer_cell, array_cell, tuple_cell, dyn_cell, fn_cell, fn_to_cell, binder_onto, type_onto, types_onto, args_onto, item_onto, items_onto}
@@ -94,6 +94,8 @@ line-impl (struct_line f n ps fs) h e = absurd (cc)
 line-impl (trait_line f a n ps bs) h e = absurd (cc)
 line-impl (prove_line c ps k ks) h e = absurd (cc)
 line-impl (refute_line c ps k) h e = absurd (cc)
+line-impl (later_line n) h e = absurd (cc)
+line-impl (supers_line n) h e = absurd (cc)
 
 pub read-impl : (l : Line) (r : LineRead) (h : ClauseSpans) → ReadsLine l r → Some h ≡ header_said (statement_of r.statement) → IsImpl l (cells_in r.cells.items) h
 read-impl l r h e k = subst (λ z. IsImpl l z h) (sym e.1) (line-impl l h (k ∙ ap header_said e.0))
@@ -106,6 +108,8 @@ none-foreign d (struct_line f n ps fs) e = refl
 none-foreign d (trait_line f a n ps bs) e = refl
 none-foreign d (prove_line c ps k ks) e = refl
 none-foreign d (refute_line c ps k) e = refl
+none-foreign d (later_line n) e = refl
+none-foreign d (supers_line n) e = refl
 
 none-built : (d : Declarations) (l : Line) → None ≡ header_said (line_statement l) → false ≡ implements_built_in d l
 none-built d (impl_line ps k ks) e = absurd (cc)
@@ -114,6 +118,8 @@ none-built d (struct_line f n ps fs) e = refl
 none-built d (trait_line f a n ps bs) e = refl
 none-built d (prove_line c ps k ks) e = refl
 none-built d (refute_line c ps k) e = refl
+none-built d (later_line n) e = refl
+none-built d (supers_line n) e = refl
 
 none-free : (d : Declarations) (l : Line) → None ≡ header_said (line_statement l) → false ≡ has_free_param d l
 none-free d (impl_line ps k ks) e = absurd (cc)
@@ -122,6 +128,8 @@ none-free d (struct_line f n ps fs) e = refl
 none-free d (trait_line f a n ps bs) e = refl
 none-free d (prove_line c ps k ks) e = refl
 none-free d (refute_line c ps k) e = refl
+none-free d (later_line n) e = refl
+none-free d (supers_line n) e = refl
 
 pub no-foreign : (d : Declarations) (l : Line) (r : LineRead) → ReadsLine l r → None ≡ header_said (statement_of r.statement) → false ≡ is_foreign_auto d l
 no-foreign d l r e k = none-foreign d l (k ∙ ap header_said e.0)
@@ -133,7 +141,7 @@ pub no-free : (d : Declarations) (l : Line) (r : LineRead) → ReadsLine l r →
 no-free d l r e k = none-free d l (k ∙ ap header_said e.0)
 
 -- ---- an impl of an auto trait, or of one with built-in rules alone
-own-struct : (d : Declarations) (l : Line) (t : TypeTree) → option_map_or (λ n. not (is_param l n) && option_map_or (is_struct_in (last_crate d)) (known d n) false) (type_name t) false ≡ is_own_struct d l t
+own-struct : (d : Declarations) (l : Line) (t : TypeTree) → option_map_or (λ n. not (is_param l n) && option_map_or (is_struct_in (impl_owner d)) (known d n) false) (type_name t) false ≡ is_own_struct d l t
 own-struct d l (named n args) = refl
 own-struct d l (of_primitive p) = refl
 own-struct d l never_type = refl
@@ -156,7 +164,7 @@ pub foreign-is : (v : Sight) (ps : Params) (k : Clause) (ks : List Clause) (a b 
 foreign-is v ps k ks a b sp ea eb =
     let l = impl_line ps k ks in
     let d = v.before in
-    let own : (z : Declarations) (p : Params) → Bool = λ z p. option_map_or (λ n. not (is_among n (p.types ++ p.consts)) && option_map_or (is_struct_in (last_crate d)) (known z n) false) (type_name k.subject) false in
+    let own : (z : Declarations) (p : Params) → Bool = λ z p. option_map_or (λ n. not (is_among n (p.types ++ p.consts)) && option_map_or (is_struct_in (impl_owner d)) (known z n) false) (type_name k.subject) false in
     ap (λ z. option_map_or (is_auto_name (items v)) z false && not (option_map_or (names_own_struct v) b false)) ea
     ∙ ap (λ z. is_auto_name (items v) k.bound.trait && not (option_map_or (names_own_struct v) z false)) eb
     ∙ ap (λ z. is_auto_name z k.bound.trait && not (own z (params_of v.line))) (impl-items v ps k ks sp)

@@ -1,6 +1,6 @@
 -- Each test of a line, by what was found and what the line says.
 use Rattle.std.proofs.Common.{◌≡◌, ℕ, Bool, true, false, List, length, map, refl, ap, ◌∙◌}
-use Rattle.std.specs.Prelude.{◌||◌, ◌&&◌, is_some, nat_le}
+use Rattle.std.specs.Prelude.{◌||◌, ◌&&◌, not, if◌then◌else◌, is_some, nat_le}
 use Rattle.std.specs.List.{list_any}
 use Rattle.std.specs.Option.{option_map_or}
 use Rattle.model.specs.Label.{Sort}
@@ -8,8 +8,8 @@ use Rattle.text_definitions.specs.Syntax.{Line}
 use Rattle.text_definitions.specs.Declarations.{Declarations, known}
 use Rattle.text_definitions.specs.Uses.{uses, params_of, declared_name, other_uses}
 use Rattle.text_definitions.specs.Faults as faults
-use Rattle.text_definitions.specs.Faults.{with_own, is_any, is_of_other_kind, is_taken_param, variables_in, tests}
-use Rattle.line_reader.specs.Says.{name_said, params_said, is_item}
+use Rattle.text_definitions.specs.Faults.{belongs_to_crate, with_own, is_any, is_of_other_kind, is_taken_param, variables_in, tests}
+use Rattle.line_reader.specs.Says.{name_said, params_said, is_said_impl}
 use Rattle.line_reader.specs.Statement.{Statement, param_list, line_statement}
 use Rattle.line_reader.proofs.WhatIsSaid.{name-is-said, params-are-said, tests-agree}
 use Rattle.line_faults.specs.Machine.{Sight, items, findings}
@@ -17,6 +17,7 @@ use Rattle.line_faults.specs.Views.{variable_in}
 use Rattle.line_faults.specs.declared.findings.Findings.{Findings}
 use Rattle.line_faults.specs.FaultNumbers.{numbered}
 use Rattle.line_faults.specs.Params.{others_said, names_taken, are_taken}
+use Rattle.line_faults.specs.Limits.{is_misplaced_for}
 use Rattle.line_faults.specs.Speaks.{Speaks, is_trait_said}
 use Rattle.line_faults.specs.LineFound.{IsLineFound}
 use Rattle.line_faults.specs.declared.fault.Tests.{Tests}
@@ -28,8 +29,11 @@ use Rattle.line_faults.proofs.OwnNames.{own-bound}
 abbrev pub line_faults : Declarations → Line → Findings
 line_faults d l = findings (sight d l) (uses (with_own d l) l)
 
-pub misplaced-is : (d : Declarations) (l : Line) (s : Statement) (a : Bool) → s ≡ line_statement l → a ≡ is_item s && nat_le (length d.crates) 1 → a ≡ faults.is_misplaced d l
-misplaced-is d l s a es ea = ea ∙ ap (λ z. is_item z && nat_le (length d.crates) 1) es ∙ ap (λ b. b && nat_le (length d.crates) 1) (tests-agree l).0
+pub misplaced-is : (d : Declarations) (l : Line) (s : Statement) (a : Bool) → s ≡ line_statement l → a ≡ is_misplaced_for d s → a ≡ faults.is_misplaced d l
+misplaced-is d l s a es ea =
+    let agree = tests-agree l in
+    let place : Bool → Bool = λ m. if d.in_section then not m else nat_le (length d.crates) 1 in
+    ea ∙ ap (is_misplaced_for d) es ∙ ap (λ b. b && place (is_said_impl (line_statement l))) agree.0 ∙ ap (λ m. belongs_to_crate l && place m) agree.1
 
 taken-params : (d : Declarations) (l : Line) → are_taken (with_own d l) (params_said (line_statement l)) ≡ is_taken_param d l
 taken-params d l =

@@ -4,7 +4,7 @@ use Rattle.std.specs.Prelude.{max, nat_lt, ◌||◌}
 use Rattle.std.specs.List.{flat_map}
 use Rattle.std.proofs.lemmas.Bool.Decides.{nat_tests}
 use Rattle.model.specs.Label.{of_type}
-use Rattle.text_definitions.specs.Syntax.{Line, crate_line, struct_line, trait_line, impl_line, prove_line, refute_line, Clause}
+use Rattle.text_definitions.specs.Syntax.{Line, crate_line, struct_line, trait_line, impl_line, prove_line, refute_line, later_line, supers_line, Clause}
 use Rattle.text_definitions.specs.Declarations.{Declarations}
 use Rattle.text_definitions.specs.Faults.{with_own, variables_in, depth_limit}
 use Rattle.text_definitions.specs.Uses.{crate_use, uses, asked_uses, other_uses, clause_uses, bound_uses, type_uses, line_depth}
@@ -31,6 +31,8 @@ parts-together (trait_line f a n ps bs) = refl
 parts-together (impl_line ps h ks) = refl
 parts-together (prove_line c ps k ks) = refl
 parts-together (refute_line c ps k) = refl
+parts-together (later_line n) = refl
+parts-together (supers_line n) = refl
 
 -- ---- findings
 pub line-findings : (v : Sight) (l : Line) (found : LineFound) → Speaks v.line (line_statement l) → IsLineFound v l found
@@ -53,6 +55,8 @@ asked-before d (trait_line f a n ps bs) = refl
 asked-before d (impl_line ps h ks) = refl
 asked-before d (prove_line c ps k ks) = refl
 asked-before d (refute_line c ps k) = refl
+asked-before d (later_line n) = refl
+asked-before d (supers_line n) = refl
 
 pub asked-variables : (v : Sight) (l : Line) (found : LineFound) → Speaks v.line (line_statement l) → IsLineFound v l found → map variable_in found.asked.variables.items ≡ variables_in (asked_uses v.before l)
 asked-variables v l found sp is =
@@ -75,6 +79,8 @@ others-use e (trait_line f a n ps bs) = ap variables_in (sym (uses-of-parts e (t
 others-use e (impl_line ps h ks) = ap variables_in (sym (uses-of-parts e (impl_line ps h ks)))
 others-use e (prove_line c ps k ks) = ap variables_in (sym (clauses-use e ks))
 others-use e (refute_line c ps k) = refl
+others-use e (later_line n) = refl
+others-use e (supers_line n) = refl
 
 pub other-variables : (v : Sight) (l : Line) (found : LineFound) → Speaks v.line (line_statement l) → IsLineFound v l found → map variable_in found.others.variables.items ≡ variables_in (other_uses (with_own v.before l) l)
 other-variables v l found sp is = is.others.variables ∙ others-use (items v) l ∙ ap (λ z. variables_in (other_uses z l)) (same-items v l sp)

@@ -3,7 +3,7 @@ use Rattle.std.proofs.Common.{◌≡◌, Bool, true, false, List, length, refl, 
 use Rattle.std.specs.Prelude.{nat_lt, ◌||◌}
 use Rattle.std.specs.List.{list_any}
 use Rattle.std.proofs.lemmas.List.{length-map}
-use Rattle.text_definitions.specs.Syntax.{Line, crate_line, struct_line, trait_line, impl_line, prove_line, refute_line}
+use Rattle.text_definitions.specs.Syntax.{Line, crate_line, struct_line, trait_line, impl_line, prove_line, refute_line, later_line, supers_line}
 use Rattle.text_definitions.specs.Declarations.{Declarations, kinds_of}
 use Rattle.text_definitions.specs.Uses.{params_of, uses, line_depth, asked_uses}
 use Rattle.text_definitions.specs.Faults.{is_full, has_long_name, param_limit, part_limit, depth_limit, variable_limit, with_own, once, variables_in, passes_in, passes_limit}
@@ -25,6 +25,8 @@ full-for d (trait_line f a n ps bs) = refl
 full-for d (impl_line ps h ks) = refl
 full-for d (prove_line c ps k ks) = refl
 full-for d (refute_line c ps k) = refl
+full-for d (later_line n) = refl
+full-for d (supers_line n) = refl
 
 -- the test, in groups
 or-grouped : (a b c e x : Bool) → (a || (b || (c || e))) || x ≡ a || (b || (c || (e || x)))
@@ -42,6 +44,6 @@ limits-are d l s a b c e es ea eb ec ee =
     ∙ ap (λ z. is_large_for d t || (nat_lt depth_limit (line_depth (with_own d l) l) || (nat_lt variable_limit (length (once (variables_in (asked_uses d l)))) || z))) ee
     ∙ or-grouped (is_full_for d t) (has_long t) (nat_lt param_limit (length (params_said t))) (nat_lt part_limit (count_said t)) x
     ∙ ap (λ z. z || (has_long t || (nat_lt param_limit (length (params_said t)) || (nat_lt part_limit (count_said t) || x)))) (full-for d l)
-    ∙ ap (λ z. is_full d l || (z || (nat_lt param_limit (length (params_said t)) || (nat_lt part_limit (count_said t) || x)))) (tests-agree l).3
+    ∙ ap (λ z. is_full d l || (z || (nat_lt param_limit (length (params_said t)) || (nat_lt part_limit (count_said t) || x)))) (tests-agree l).4
     ∙ ap (λ z. is_full d l || (has_long_name l || (nat_lt param_limit z || (nat_lt part_limit (count_said t) || x)))) (params-are-counted l)
     ∙ ap (λ z. is_full d l || (has_long_name l || (nat_lt param_limit (length (kinds_of (params_of l))) || (nat_lt part_limit z || x)))) (parts-are-counted l)

@@ -3,7 +3,7 @@ use Rattle.std.proofs.Common.{◌≡◌, ◌≤◌, ℕ, suc, ◌-◌, List, [],
 use Rattle.std.specs.Prelude.{min}
 use Rattle.std.specs.List.{flat_map}
 use Rattle.std.proofs.lemmas.List.{length-drop, take_all}
-use Rattle.text_definitions.specs.Syntax.{Line, crate_line, struct_line, trait_line, impl_line, prove_line, refute_line}
+use Rattle.text_definitions.specs.Syntax.{Line, crate_line, struct_line, trait_line, impl_line, prove_line, refute_line, later_line, supers_line}
 use Rattle.line_reader.specs.Cells.{Cell}
 use Rattle.line_reader.specs.TypeViews.{cells_in}
 use Rattle.line_reader.specs.LineParts.{LinePart, type_part, bound_part, clause_parts, line_parts, type_place, bound_place, clause_places, PartStands, places_in, asked_parts}
@@ -35,6 +35,8 @@ SplitOf l s = Split (line_cells l) (asked_parts l) (other_parts l) (min (asked_c
 
 line-split : (l : Line) → SplitOf l (line_statement l)
 line-split (crate_line n us) = none-asked (line_cells (crate_line n us)) (line_parts (crate_line n us)) (places_in (line_statement (crate_line n us))) (parts-stand (crate_line n us))
+line-split (later_line n) = none-asked (line_cells (later_line n)) (line_parts (later_line n)) (places_in (line_statement (later_line n))) (parts-stand (later_line n))
+line-split (supers_line n) = none-asked (line_cells (supers_line n)) (line_parts (supers_line n)) (places_in (line_statement (supers_line n))) (parts-stand (supers_line n))
 line-split (struct_line f n ps fs) = none-asked (line_cells (struct_line f n ps fs)) (line_parts (struct_line f n ps fs)) (places_in (line_statement (struct_line f n ps fs))) (parts-stand (struct_line f n ps fs))
 line-split (trait_line f a n ps bs) = none-asked (line_cells (trait_line f a n ps bs)) (line_parts (trait_line f a n ps bs)) (places_in (line_statement (trait_line f a n ps bs))) (parts-stand (trait_line f a n ps bs))
 line-split (impl_line ps h ks) = none-asked (line_cells (impl_line ps h ks)) (line_parts (impl_line ps h ks)) (places_in (line_statement (impl_line ps h ks))) (parts-stand (impl_line ps h ks))

@@ -1,7 +1,7 @@
 -- The header of an impl, as it stands among the cells of its line.
 use Rattle.std.specs.Prelude.{ℕ, ◌-◌, Bool, false, not, ◌&&◌, List, [], length, take, drop, Option, Some, None, slice_get}
 use Rattle.std.specs.Option.{option_map_or}
-use Rattle.text_definitions.specs.Declarations.{known, last_crate}
+use Rattle.text_definitions.specs.Declarations.{known, impl_owner}
 use Rattle.text_definitions.specs.Faults.{is_auto_name, is_param, is_struct_in}
 use Rattle.line_reader.specs.Cells.{Cell, named_cell}
 use Rattle.line_reader.specs.Statement.{Statement, impl_statement}
@@ -21,11 +21,11 @@ name_of _ = None
 abbrev pub last_name : List Cell → Option (List ℕ)
 last_name cells = name_of (slice_get cells (length cells - 1))
 
--- the name stands for a struct of the last crate
+-- the name stands for a struct of the crate to which the impl belongs
 abbrev pub names_own_struct : Sight → List ℕ → Bool
-names_own_struct v n = not (is_param v.line n) && option_map_or (is_struct_in (last_crate v.before)) (known (items v) n) false
+names_own_struct v n = not (is_param v.line n) && option_map_or (is_struct_in (impl_owner v.before)) (known (items v) n) false
 
--- an auto trait's name, and that of no struct of the last crate
+-- an auto trait's name, and that of no struct of the impl's crate
 abbrev pub names_foreign_auto : Sight → Option (List ℕ) → Option (List ℕ) → Bool
 names_foreign_auto v n m = option_map_or (is_auto_name (items v)) n false && not (option_map_or (names_own_struct v) m false)
 

@@ -3,7 +3,7 @@ ghost use Rattle.std.specs.Prelude.{◌≡◌, ◌-◌, ◌&&◌, ℕ, List, [],
 ghost use Rattle.std.specs.List.{list_any};
 ghost use Rattle.std.specs.Option.{option_copied, option_map, option_map_or};
 ghost use Rattle.text_definitions.specs.Syntax.{Line};
-ghost use Rattle.text_definitions.specs.Declarations.{Declarations, known, last_crate};
+ghost use Rattle.text_definitions.specs.Declarations.{Declarations, known, impl_owner};
 ghost use Rattle.text_definitions.specs.Faults.{has_free_param, implements_built_in, is_among, is_auto_name, is_built_in, is_foreign_auto, is_struct_in};
 ghost use Rattle.line_reader.specs.TokenViews.{text_of};
 ghost use Rattle.line_reader.specs.TypeViews.{cell_of, cells_in};
@@ -74,17 +74,17 @@ fn is_built_in<N: Names>(names: &N, name: &[u8]) -> bool
     }
 }
 
-/// Whether a name that is known is that of a struct of the last crate.
+/// Whether a name that is known is that of a struct of the crate to which the impl belongs.
 fn is_struct_of_crate<N: LineNames>(names: &N, name: &[u8]) -> bool
-    ensures { result ≡ option_map_or (is_struct_in (last_crate (N.sight names.now).before)) (known (items (N.sight names.now)) name.now) false }
+    ensures { result ≡ option_map_or (is_struct_in (impl_owner (N.sight names.now).before)) (known (items (N.sight names.now)) name.now) false }
 {
     match names.known(name) {
-        Some(Known::Struct { owner, .. }) => owner.index == names.last_crate().index,
+        Some(Known::Struct { owner, .. }) => owner.index == names.impl_owner().index,
         _ => false,
     }
 }
 
-/// Whether a name is that of a struct of the last crate, and no parameter.
+/// Whether a name is that of a struct of the impl's crate, and no parameter.
 fn names_own_struct<N: LineNames>(names: &N, name: &[u8]) -> bool
     ensures { result ≡ names_own_struct (N.sight names.now) name.now }
 {
@@ -118,7 +118,7 @@ fn is_own_struct<N: LineNames>(names: &N, name: Option<&[u8]>) -> bool
     }
 }
 
-/// Whether this is an auto trait, and that no struct of the last crate.
+/// Whether this is an auto trait, and that no struct of the impl's crate.
 fn is_foreign<N: LineNames>(names: &N, name: Option<&[u8]>, subject: Option<&[u8]>) -> bool
     ensures { result ≡ names_foreign_auto (N.sight names.now) (option_map text_of name.entry) (option_map text_of subject.entry) }
 {

@@ -5,11 +5,12 @@ ghost use Rattle.text_definitions.specs.Syntax.{Line};
 ghost use Rattle.text_definitions.specs.Declarations.{known};
 ghost use Rattle.text_definitions.specs.Faults.{is_any, tests, fault_of};
 ghost use Rattle.line_reader.specs.Lines.{ReadsLine};
-ghost use Rattle.line_reader.specs.Says.{name_said, is_item};
+ghost use Rattle.line_reader.specs.Says.{name_said};
 ghost use Rattle.line_reader.specs.Views.{statement_of};
 ghost use Rattle.line_faults.specs.Machine.{items};
 ghost use Rattle.line_faults.specs.Views.{variable_in};
 ghost use Rattle.line_faults.specs.FaultNumbers.{fault_number, numbered};
+ghost use Rattle.line_faults.specs.Limits.{is_misplaced_for};
 ghost use Rattle.line_faults.specs.Params.{takes_said};
 ghost use Rattle.line_faults.specs.Speaks.{Speaks, is_trait_said};
 ghost use Rattle.line_faults.specs.Variables.{have_two_kinds};
@@ -24,10 +25,13 @@ use crate::variables::are_of_two_kinds;
 use line_reader::{LineRead, Statement};
 use std::alloc::{AllocError, Global};
 
-/// Whether a struct, trait or impl stands before any crate but `core`.
+/// Whether a struct or trait stands in a section of a later version, or a struct, trait or impl outside one before any crate but `core`.
 fn is_misplaced<N: LineNames>(names: &N, statement: &Statement<'_>) -> bool
-    ensures { result ≡ (is_item (statement_of statement.now) && nat_le (length (N.sight names.now).before.crates) 1) }
+    ensures { result ≡ is_misplaced_for (N.sight names.now).before (statement_of statement.now) }
 {
+    if names.is_in_section() {
+        return statement.belongs_to_crate() && !statement.is_impl();
+    }
     statement.belongs_to_crate() && names.crate_count() <= 1
 }
 

@@ -20,7 +20,7 @@ const CRATE_LIMIT: usize = 256;
 
 const QUESTION_LIMIT: usize = 65_536;
 
-/// Structs, traits and impls of a crate.
+/// Structs, traits and impls of a crate, or impls of a section.
 const ITEM_LIMIT: usize = 4_096;
 
 const PARAM_LIMIT: usize = 16;
@@ -39,6 +39,8 @@ fn is_full<N: LineNames>(names: &N, statement: &Statement<'_>) -> bool
         Statement::Crate { .. } => names.crate_count() >= CRATE_LIMIT,
         Statement::Prove { .. } => names.question_count() >= QUESTION_LIMIT,
         Statement::Refute { .. } => names.question_count() >= QUESTION_LIMIT,
+        Statement::Later { .. } | Statement::Supers { .. } => false,
+        Statement::Impl { .. } if names.is_in_section() => names.last_later() >= ITEM_LIMIT,
         _ => names.last_items() >= ITEM_LIMIT,
     }
 }

@@ -59,6 +59,8 @@ fn named_crates<N: Names>(names: &N, statement: &Statement<'_>) -> Findings
             crate_name: name,
             ..
         } => crate_name(names, name),
+        Statement::Later { crate_name: name } => crate_name(names, name),
+        Statement::Supers { crate_name: name } => crate_name(names, name),
         _ => no_names(),
     }
 }

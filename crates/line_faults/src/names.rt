@@ -1,6 +1,6 @@
 //! What the names of a line are looked up in.
 ghost use Rattle.std.specs.Prelude.{◌≡◌, length, is_some};
-ghost use Rattle.text_definitions.specs.Declarations.{known, last_crate};
+ghost use Rattle.text_definitions.specs.Declarations.{known, impl_owner, last_later};
 ghost use Rattle.text_definitions.specs.Faults.{last_items};
 
 use crate::looked_up::Names;
@@ -16,9 +16,17 @@ pub trait LineNames: Names {
     fn question_count(&self) -> usize
         ensures { result ≡ length (Self.sight self.now).before.questions };
 
-    /// The last crate.
-    fn last_crate(&self) -> CrateId
-        ensures { result.index ≡ last_crate (Self.sight self.now).before };
+    /// Whether an impl of the line belongs to a section of a later version.
+    fn is_in_section(&self) -> bool
+        ensures { result ≡ (Self.sight self.now).before.in_section };
+
+    /// The crate to which an impl of the line belongs: the one that the section changes, or else the last one.
+    fn impl_owner(&self) -> CrateId
+        ensures { result.index ≡ impl_owner (Self.sight self.now).before };
+
+    /// How many impls the last section has.
+    fn last_later(&self) -> usize
+        ensures { result ≡ last_later (Self.sight self.now).before };
 
     /// How many structs, traits and impls the last crate has.
     fn last_items(&self) -> usize

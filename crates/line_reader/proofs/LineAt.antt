@@ -2,9 +2,9 @@
 use Rattle.std.proofs.Common.{ℕ, zero, suc, Bool, true, false, List, [], ◌∷◌, ◌++◌, length, Option, Some, None}
 use Rattle.std.specs.Prelude.{map}
 use Rattle.std.specs.Option.{option_map}
-use Rattle.text_definitions.specs.Words.{comma, open_angle, close_angle, open_round, colon, crate_word, uses_word, fundamental_word, struct_word, auto_word, trait_word, impl_word, for_word, where_word, prove_word, refute_word, in_word, const_word, fn_word, dyn_word}
+use Rattle.text_definitions.specs.Words.{comma, open_angle, close_angle, open_round, colon, crate_word, uses_word, fundamental_word, struct_word, auto_word, trait_word, impl_word, for_word, where_word, prove_word, refute_word, later_word, supers_word, in_word, const_word, fn_word, dyn_word}
 use Rattle.text_definitions.specs.Tokens.{Token, keyword, name, lifetime, sign}
-use Rattle.text_definitions.specs.Syntax.{TypeTree, fn_of, dyn_of, Types, no_types, and_type, Item, bound_item, Items, no_items, and_item, Params, no_params, Bound, Clause, Line, crate_line, struct_line, trait_line, impl_line, prove_line, refute_line}
+use Rattle.text_definitions.specs.Syntax.{TypeTree, fn_of, dyn_of, Types, no_types, and_type, Item, bound_item, Items, no_items, and_item, Params, no_params, Bound, Clause, Line, crate_line, struct_line, trait_line, impl_line, prove_line, refute_line, later_line, supers_line}
 use Rattle.line_reader.proofs.TypeAt.{◌>>=◌, type_at, bound_at, clause_at}
 
 -- ---- names
@@ -159,4 +159,6 @@ line_at (keyword auto_word ∷ ts) = item_at false (keyword auto_word ∷ ts)
 line_at (keyword impl_word ∷ ts) = impl_at ts
 line_at (keyword prove_word ∷ keyword in_word ∷ name c ∷ ts) = prove_at c ts
 line_at (keyword refute_word ∷ keyword in_word ∷ name c ∷ ts) = refute_at c ts
+line_at (keyword later_word ∷ name n ∷ ts) = if_end (later_line n) ts
+line_at (keyword supers_word ∷ keyword in_word ∷ name n ∷ ts) = if_end (supers_line n) ts
 line_at _ = None

@@ -2,9 +2,9 @@
 use Rattle.std.proofs.Common.{◌≡◌, ℕ, Bool, true, false, List, [], ◌∷◌, ◌++◌, Some, None, Result, Ok, Err, refl, sym, ap, ◌∙◌, subst, append_assoc, append-nil}
 use Rattle.std.specs.Prelude.{IfOk, IsErrOf, if◌then◌else◌}
 use Rattle.std.proofs.lemmas.Option.{same_Some}
-use Rattle.text_definitions.specs.Words.{crate_word, fundamental_word, struct_word, auto_word, trait_word, impl_word, for_word, prove_word, refute_word, in_word}
+use Rattle.text_definitions.specs.Words.{crate_word, fundamental_word, struct_word, auto_word, trait_word, impl_word, for_word, prove_word, refute_word, later_word, supers_word, in_word}
 use Rattle.text_definitions.specs.Tokens.{Token, keyword, tokens_of}
-use Rattle.text_definitions.specs.Syntax.{Types, no_types, and_type, Params, Bound, Clause, Line, crate_line, struct_line, trait_line, impl_line, prove_line, refute_line, type_spelling, bound_spelling, clause_spelling, uses_spelling, params_spelling, fields_spelling, spelling}
+use Rattle.text_definitions.specs.Syntax.{Types, no_types, and_type, Params, Bound, Clause, Line, crate_line, struct_line, trait_line, impl_line, prove_line, refute_line, later_line, supers_line, type_spelling, bound_spelling, clause_spelling, uses_spelling, params_spelling, fields_spelling, spelling}
 use Rattle.text_definitions.specs.Written.{IsWritten}
 use Rattle.line_reader.specs.Marks.{after_open_angle, is_nil}
 use Rattle.line_reader.specs.TokenSteps.{NoAngle}
@@ -12,13 +12,13 @@ use Rattle.line_reader.specs.declared.line_error.LineError.{LineError}
 use Rattle.line_reader.specs.declared.line_error.LineError.TheVariants as errors
 use Rattle.line_reader.specs.Cells.{Cell}
 use Rattle.line_reader.specs.Follows.{Follows}
-use Rattle.line_reader.specs.Statement.{Statement, crate_statement, struct_statement, trait_statement, impl_statement, prove_statement, refute_statement, param_list, bound_onto, bound_span, clause_onto, clause_spans, header_onto, header_spans, all_onto, all_spans, line_cells, line_statement}
-use Rattle.line_reader.specs.Parts.{Progress, ◌>>=◌, crate_at, struct_at, trait_at, impl_at, prove_at, refute_at, auto_front, fundamental_front, statement_front, statement_at, line_at, written_in}
+use Rattle.line_reader.specs.Statement.{Statement, crate_statement, struct_statement, trait_statement, impl_statement, prove_statement, refute_statement, later_statement, supers_statement, param_list, bound_onto, bound_span, clause_onto, clause_spans, header_onto, header_spans, all_onto, all_spans, line_cells, line_statement}
+use Rattle.line_reader.specs.Parts.{Progress, ◌>>=◌, crate_at, struct_at, trait_at, impl_at, prove_at, refute_at, later_at, supers_at, auto_front, fundamental_front, statement_front, statement_at, line_at, written_in}
 use Rattle.line_reader.specs.Lines.{ReadsLine, SaysLine}
 use Rattle.line_reader.specs.Steps.{Gives}
 use Rattle.line_reader.specs.Views.{read_of}
 use Rattle.line_reader.specs.declared.statement.LineRead.{LineRead}
-use Rattle.line_reader.proofs.IsPart.{Found, IsPart, bind-some, if-some, spell_both, onto_both, both-part, given-part, behind-part}
+use Rattle.line_reader.proofs.IsPart.{Found, IsPart, Any, bind-some, if-some, spell_both, onto_both, both-part, given-part, behind-part}
 use Rattle.line_reader.proofs.EachMark.{in-mark}
 use Rattle.line_reader.proofs.Types.{no_cells, name_spelling, name-part, header_spelling, header-part, clause-part, clause-no-angle}
 use Rattle.line_reader.proofs.ParamOrder.{NotAngle, params-part}
@@ -94,6 +94,14 @@ refute-part =
     given-part (λ x. refute_statement x.0 x.1.0 x.1.1)
     (behind-part in-mark (both-part name-part (both-part params-part clause-part clause-fits) (λ u ts h. tt)))
 
+later-part : IsPart later_at name_spelling no_cells (λ t c. later_statement t) Any
+unfolding later_at
+later-part = given-part later_statement name-part
+
+supers-part : IsPart supers_at (λ n. keyword in_word ∷ name_spelling n) no_cells (λ t c. supers_statement t) Any
+unfolding supers_at
+supers-part = given-part supers_statement (behind-part in-mark name-part)
+
 -- ---- what is read is spelled so
 abbrev LineFound : List Token → Progress → Statement → Type 0
 LineFound ts q y = Found spelling (λ l c. line_cells l) (λ l c. line_statement l) ([], ts) q y
@@ -162,6 +170,16 @@ refute-takes ts q y e =
     let n = refute-part.takes ([], ts) q y e in
     record { tree = refute_line n.tree.0 n.tree.1.0 n.tree.1.1; tokens = ap (λ x. keyword refute_word ∷ x) n.tokens; placed = n.placed; cells = n.cells }
 
+later-takes : (ts : List Token) (q : Progress) (y : Statement) → later_at ([], ts) ≡ Some (y, q) → LineFound (keyword later_word ∷ ts) q y
+later-takes ts q y e =
+    let n = later-part.takes ([], ts) q y e in
+    record { tree = later_line n.tree; tokens = ap (λ x. keyword later_word ∷ x) n.tokens; placed = n.placed; cells = n.cells }
+
+supers-takes : (ts : List Token) (q : Progress) (y : Statement) → supers_at ([], ts) ≡ Some (y, q) → LineFound (keyword supers_word ∷ ts) q y
+supers-takes ts q y e =
+    let n = supers-part.takes ([], ts) q y e in
+    record { tree = supers_line n.tree; tokens = ap (λ x. keyword supers_word ∷ x) n.tokens; placed = n.placed; cells = n.cells }
+
 front-takes : (ts : List Token) (q : Progress) (y : Statement) → statement_front [] ts ≡ Some (y, q) → LineFound ts q y
 front-takes (keyword crate_word ∷ ts) q y e = crate-takes ts q y e
 front-takes (keyword fundamental_word ∷ ts) q y e = fundamental-takes ts q y e
@@ -171,6 +189,8 @@ front-takes (keyword auto_word ∷ ts) q y e = auto-takes ts q y e
 front-takes (keyword impl_word ∷ ts) q y e = impl-takes ts q y e
 front-takes (keyword prove_word ∷ ts) q y e = prove-takes ts q y e
 front-takes (keyword refute_word ∷ ts) q y e = refute-takes ts q y e
+front-takes (keyword later_word ∷ ts) q y e = later-takes ts q y e
+front-takes (keyword supers_word ∷ ts) q y e = supers-takes ts q y e
 front-takes _ q y e = absurd cc
 
 nil-only : (ts : List Token) → is_nil ts ≡ true → ts ≡ []
@@ -200,6 +220,8 @@ front-again (impl_line ps h ks) =
     ∙ impl-part.again [] (ps, (h, ks)) [] tt
 front-again (prove_line c ps k ks) = prove-part.again [] (c, (ps, (k, ks))) [] tt
 front-again (refute_line c ps k) = refute-part.again [] (c, (ps, k)) [] tt
+front-again (later_line n) = later-part.again [] n [] tt
+front-again (supers_line n) = supers-part.again [] n [] tt
 
 pub line-again : (l : Line) → line_at (spelling l) ≡ Some (line_statement l, line_cells l)
 unfolding line_at statement_at

@@ -1,13 +1,13 @@
 -- A line without a fault fails no test.
-use Rattle.std.proofs.Common.{◌≡◌, ℕ, ◌<◌, Bool, true, false, not, List, [], ◌∷◌, length, map, Option, Some, None, refl, sym, ap, ◌∙◌}
+use Rattle.std.proofs.Common.{◌≡◌, ℕ, ◌<◌, Bool, true, false, not, List, [], ◌∷◌, length, map, Option, Some, None, refl, sym, ap, ◌∙◌, if◌then◌else◌}
 use Rattle.std.specs.Prelude.{◌||◌, ◌&&◌, nat_le, is_some}
 use Rattle.std.specs.List.{list_any, list_all}
 use Rattle.std.specs.Option.{option_map_or}
 use Rattle.std.proofs.lemmas.Bool.{leb-false}
-use Rattle.text_definitions.specs.Syntax.{Line, crate_line, struct_line, trait_line, impl_line, prove_line, refute_line}
+use Rattle.text_definitions.specs.Syntax.{Line, crate_line, struct_line, trait_line, impl_line, prove_line, refute_line, later_line, supers_line}
 use Rattle.text_definitions.specs.Declarations.{Declarations, Known, known}
 use Rattle.text_definitions.specs.Uses.{crate_use, declared_name}
-use Rattle.text_definitions.specs.Faults.{first_of, tests, fault_of, declares_taken, is_other_sort, belongs_to_crate}
+use Rattle.text_definitions.specs.Faults.{first_of, tests, fault_of, declares_taken, is_other_sort, belongs_to_crate, is_impl}
 use Rattle.line_reader.specs.Faultless.{PassesTests, names_crate, NamesCrates}
 
 -- none of these tests holds
@@ -79,7 +79,15 @@ uses-crates d (struct_line f n ps fs) e = tt
 uses-crates d (trait_line f a n ps bs) e = tt
 uses-crates d (impl_line ps h ks) e = tt
 uses-crates d (prove_line c ps a ks) e = not-false (names_crate d c) (or-first (not (names_crate d c)) _ (passes-tests d (prove_line c ps a ks) e).has_fitting_sorts)
+uses-crates d (later_line n) e = not-false (names_crate d n) (or-first (not (names_crate d n)) _ (passes-tests d (later_line n) e).has_fitting_sorts)
+uses-crates d (supers_line n) e = not-false (names_crate d n) (or-first (not (names_crate d n)) _ (passes-tests d (supers_line n) e).has_fitting_sorts)
 uses-crates d (refute_line c ps a) e = not-false (names_crate d c) (or-first (not (names_crate d c)) _ (passes-tests d (refute_line c ps a) e).has_fitting_sorts)
 
-pub belongs-to-crate : (d : Declarations) (l : Line) → fault_of d l ≡ None → belongs_to_crate l ≡ true → 1 < length d.crates
-belongs-to-crate d l e h = leb-false (length d.crates) 1 (sym (ap (λ b. b && nat_le (length d.crates) 1) h) ∙ (passes-tests d l e).is_placed)
+pub belongs-to-crate : (d : Declarations) (l : Line) → fault_of d l ≡ None → belongs_to_crate l ≡ true → (d.in_section ≡ false → 1 < length d.crates) × (d.in_section ≡ true → is_impl l ≡ true)
+belongs-to-crate d l e h = (
+  (λ q. leb-false (length d.crates) 1 (sym (ap (λ b. if b then not (is_impl l) else nat_le (length d.crates) 1) q) ∙ placed)),
+  (λ q. not-false (is_impl l) (sym (ap (λ b. if b then not (is_impl l) else nat_le (length d.crates) 1) q) ∙ placed)),
+)
+  where
+    placed : (if d.in_section then not (is_impl l) else nat_le (length d.crates) 1) ≡ false
+    placed = sym (ap (λ b. b && (if d.in_section then not (is_impl l) else nat_le (length d.crates) 1)) h) ∙ (passes-tests d l e).is_placed

@@ -3,11 +3,11 @@ use Rattle.std.proofs.Common.{◌≡◌, ℕ, List, [], ◌∷◌, ◌++◌, ref
 use Rattle.std.specs.Prelude.{map, max}
 use Rattle.std.specs.List.{flat_map}
 use Rattle.model.specs.Label.{of_type}
-use Rattle.text_definitions.specs.Syntax.{TypeTree, Types, no_types, and_type, Bound, Clause, Line, crate_line, struct_line, trait_line, impl_line, prove_line, refute_line}
+use Rattle.text_definitions.specs.Syntax.{TypeTree, Types, no_types, and_type, Bound, Clause, Line, crate_line, struct_line, trait_line, impl_line, prove_line, refute_line, later_line, supers_line}
 use Rattle.text_definitions.specs.Declarations.{Declarations}
 use Rattle.text_definitions.specs.Uses.{crate_use, type_uses, types_uses, bound_uses, clause_uses, type_depth, types_depth, bound_depth, clause_depth, greatest}
 use Rattle.line_reader.specs.Cells.{Cell}
-use Rattle.line_reader.specs.Statement.{Statement, crate_statement, struct_statement, trait_statement, impl_statement, prove_statement, refute_statement, type_list, line_cells, line_statement}
+use Rattle.line_reader.specs.Statement.{Statement, crate_statement, struct_statement, trait_statement, impl_statement, prove_statement, refute_statement, later_statement, supers_statement, type_list, line_cells, line_statement}
 use Rattle.line_reader.specs.Places.{TypeStands, BoundStands, ClauseStands, EachOf, LineStands}
 use Rattle.line_reader.specs.LineParts.{type_part, bound_part, clause_parts, line_parts, type_place, bound_place, clause_places, places_in, PartStands, PartsStand, part_uses, part_depth, UsesOfParts, AskedOfParts, DepthOfParts}
 use Rattle.line_reader.specs.declared.statement.Span.{Span}
@@ -40,6 +40,8 @@ line-parts-stand cells (trait_line f a n ps bs) (trait_statement g b m qs ss) e 
 line-parts-stand cells (impl_line ps h ks) (impl_statement qs i ss) e = (e.0.1, (e.0.0, clauses-stand cells ks ss e.1))
 line-parts-stand cells (prove_line c ps k ks) (prove_statement d qs i ss) e = (e.0.0, (e.0.1, clauses-stand cells ks ss e.1))
 line-parts-stand cells (refute_line c ps k) (refute_statement d qs i) e = (e.0, (e.1, tt))
+line-parts-stand cells (later_line n) (later_statement m) e = tt
+line-parts-stand cells (supers_line n) (supers_statement m) e = tt
 line-parts-stand cells _ _ e = absurd e
 
 pub parts-stand : PartsStand
@@ -62,6 +64,8 @@ clauses-use d (k ∷ ks) =
 
 pub uses-of-parts : UsesOfParts
 uses-of-parts d (crate_line n us) = sym (append-nil (map crate_use us))
+uses-of-parts d (later_line n) = refl
+uses-of-parts d (supers_line n) = refl
 uses-of-parts d (struct_line f n ps ts) = types-use d ts
 uses-of-parts d (trait_line f a n ps bs) = bounds-use d bs
 uses-of-parts d (impl_line ps h ks) =
@@ -74,6 +78,8 @@ pub asked-of-parts : AskedOfParts
 asked-of-parts d (prove_line c ps k ks) = ap (λ x. type_uses d [] of_type k.subject ++ x) (sym (append-nil (bound_uses d k.bound)))
 asked-of-parts d (refute_line c ps k) = ap (λ x. type_uses d [] of_type k.subject ++ x) (sym (append-nil (bound_uses d k.bound)))
 asked-of-parts d (crate_line n us) = refl
+asked-of-parts d (later_line n) = refl
+asked-of-parts d (supers_line n) = refl
 asked-of-parts d (struct_line f n ps ts) = refl
 asked-of-parts d (trait_line f a n ps bs) = refl
 asked-of-parts d (impl_line ps h ks) = refl
@@ -102,6 +108,8 @@ clauses-deep d (k ∷ ks) = ap (max (clause_depth d k)) (clauses-deep d ks) ∙ 
 
 pub depth-of-parts : DepthOfParts
 depth-of-parts d (crate_line n us) = refl
+depth-of-parts d (later_line n) = refl
+depth-of-parts d (supers_line n) = refl
 depth-of-parts d (struct_line f n ps ts) = types-deep d ts
 depth-of-parts d (trait_line f a n ps bs) = bounds-deep d bs
 depth-of-parts d (impl_line ps h ks) =

@@ -4,7 +4,7 @@ use Rattle.std.specs.Prelude.{map, ◌||◌, ◌&&◌, not, ◌==◌}
 use Rattle.std.specs.List.{list_any}
 use Rattle.std.proofs.lemmas.List.{length-append, length-map}
 use Rattle.model.specs.Label.{of_type, of_const, of_lifetime}
-use Rattle.text_definitions.specs.Syntax.{Types, no_types, and_type, Params, crate_line, struct_line, trait_line, impl_line, prove_line, refute_line}
+use Rattle.text_definitions.specs.Syntax.{Types, no_types, and_type, Params, crate_line, struct_line, trait_line, impl_line, prove_line, refute_line, later_line, supers_line}
 use Rattle.text_definitions.specs.Declarations.{kinds_of, names_of}
 use Rattle.text_definitions.specs.Uses.{types_count}
 use Rattle.text_definitions.specs.Faults.{is_long}
@@ -19,6 +19,8 @@ name-is-said (trait_line f a n ps bs) = refl
 name-is-said (impl_line ps h ks) = refl
 name-is-said (prove_line c ps k ks) = refl
 name-is-said (refute_line c ps k) = refl
+name-is-said (later_line n) = refl
+name-is-said (supers_line n) = refl
 
 pub params-are-said : ParamsAreSaid
 params-are-said (crate_line n us) = refl
@@ -27,6 +29,8 @@ params-are-said (trait_line f a n ps bs) = refl
 params-are-said (impl_line ps h ks) = refl
 params-are-said (prove_line c ps k ks) = refl
 params-are-said (refute_line c ps k) = refl
+params-are-said (later_line n) = refl
+params-are-said (supers_line n) = refl
 
 -- ---- how many
 count-is : (p : Params) → length (param_list p) ≡ length (kinds_of p)
@@ -56,6 +60,8 @@ params-are-counted (trait_line f a n ps bs) = count-is ps
 params-are-counted (impl_line ps h ks) = count-is ps
 params-are-counted (prove_line c ps k ks) = count-is ps
 params-are-counted (refute_line c ps k) = count-is ps
+params-are-counted (later_line n) = refl
+params-are-counted (supers_line n) = refl
 
 spans-length : {T Y : Type 0} (onto : T → List Cell → List Cell) (span : T → List Cell → Y) (ts : List T) (o : List Cell) → length (all_spans onto span ts o) ≡ length ts
 spans-length onto span [] o = refl
@@ -72,6 +78,8 @@ parts-are-counted (trait_line f a n ps bs) = spans-length bound_onto bound_span 
 parts-are-counted (impl_line ps h ks) = spans-length clause_onto clause_spans ks (header_onto h [])
 parts-are-counted (prove_line c ps k ks) = spans-length clause_onto clause_spans ks (clause_onto k [])
 parts-are-counted (refute_line c ps k) = refl
+parts-are-counted (later_line n) = refl
+parts-are-counted (supers_line n) = refl
 
 -- ---- names
 
@@ -89,10 +97,12 @@ long-is : (p : Params) → list_any (λ x. is_long (param_name x)) (param_list p
 long-is p = sym (any-map is_long param_name (param_list p)) ∙ ap (list_any is_long) (names-are p.lifetimes p.types p.consts)
 
 pub tests-agree : TestsAgree
-tests-agree (crate_line n us) = (refl, refl, refl, refl)
-tests-agree (struct_line f n ps ts) = (refl, refl, refl, ap (λ x. is_long n || x) (long-is ps))
+tests-agree (crate_line n us) = (refl, refl, refl, refl, refl)
+tests-agree (later_line n) = (refl, refl, refl, refl, refl)
+tests-agree (supers_line n) = (refl, refl, refl, refl, refl)
+tests-agree (struct_line f n ps ts) = (refl, refl, refl, refl, ap (λ x. is_long n || x) (long-is ps))
 tests-agree (trait_line f a n ps bs) =
-    (refl, ap (λ x. a && not ((x == 0) && (length (all_spans bound_onto bound_span bs []) == 0))) (count-is ps) ∙ ap (λ x. a && not ((length (kinds_of ps) == 0) && (x == 0))) (spans-length bound_onto bound_span bs []), refl, ap (λ x. is_long n || x) (long-is ps))
-tests-agree (impl_line ps h ks) = (refl, refl, refl, long-is ps)
-tests-agree (prove_line c ps k ks) = (refl, refl, refl, long-is ps)
-tests-agree (refute_line c ps k) = (refl, refl, ap (λ x. not (x == 0)) (count-is ps), long-is ps)
+    (refl, refl, ap (λ x. a && not ((x == 0) && (length (all_spans bound_onto bound_span bs []) == 0))) (count-is ps) ∙ ap (λ x. a && not ((length (kinds_of ps) == 0) && (x == 0))) (spans-length bound_onto bound_span bs []), refl, ap (λ x. is_long n || x) (long-is ps))
+tests-agree (impl_line ps h ks) = (refl, refl, refl, refl, long-is ps)
+tests-agree (prove_line c ps k ks) = (refl, refl, refl, refl, long-is ps)
+tests-agree (refute_line c ps k) = (refl, refl, refl, ap (λ x. not (x == 0)) (count-is ps), long-is ps)

@@ -3,10 +3,10 @@ use Rattle.std.specs.Prelude.{◌≡◌, ℕ, ◌<◌, ◌≤◌, ◌^◌, Bool,
 use Rattle.std.specs.List.{list_all}
 use Rattle.std.specs.Option.{option_map_or}
 use Rattle.std.specs.Str.{bytes_eq}
-use Rattle.text_definitions.specs.Syntax.{Line, crate_line, prove_line, refute_line}
+use Rattle.text_definitions.specs.Syntax.{Line, crate_line, prove_line, refute_line, later_line, supers_line}
 use Rattle.text_definitions.specs.Declarations.{Declarations, known, kinds_of}
 use Rattle.text_definitions.specs.Uses.{Use, crate_use, name_use, trait_use, lifetime_use, binder_use, variable_use, misfit_use, dyn_use, items_use, number_use, uses, asked_uses, params_of, declared_name, line_depth}
-use Rattle.text_definitions.specs.Faults.{fault_of, is_misplaced, takes_names, uses_unknown, uses_hidden, uses_other_sort, has_free_param, bounds_use_own, is_loaded_auto, is_foreign_auto, implements_built_in, has_stray_variable, refutes_params, has_bad_dyn, passes_limit, belongs_to_crate, is_crate}
+use Rattle.text_definitions.specs.Faults.{fault_of, is_misplaced, takes_names, uses_unknown, uses_hidden, uses_other_sort, has_free_param, bounds_use_own, is_loaded_auto, is_foreign_auto, implements_built_in, has_stray_variable, refutes_params, has_bad_dyn, passes_limit, belongs_to_crate, is_impl, is_crate}
 use Rattle.text_definitions.specs.Faults.{with_own, is_param, is_param_of, is_type_of, is_trait_of, static_name, is_in_scope, is_bad_dyn, is_bound, parts, once, variables_in, param_limit, part_limit, list_limit, variable_limit, depth_limit}
 
 -- no test of a fault holds
@@ -41,14 +41,18 @@ abbrev pub NamesCrates : Declarations → Line → Type 0
 NamesCrates d (crate_line n us) = list_all (names_crate d) us ≡ true
 NamesCrates d (prove_line c ps a ks) = names_crate d c ≡ true
 NamesCrates d (refute_line c ps a) = names_crate d c ≡ true
+NamesCrates d (later_line n) = names_crate d n ≡ true
+NamesCrates d (supers_line n) = names_crate d n ≡ true
 NamesCrates d _ = Unit {0}
 
 abbrev pub UsesCrates : Type 0
 UsesCrates = (d : Declarations) (l : Line) → fault_of d l ≡ None → NamesCrates d l
 
--- A struct, trait or impl belongs to a crate other than `core`.
+-- A struct, trait or impl belongs to a crate other than `core`; one in a section of a later version is an impl.
 abbrev pub BelongsToCrate : Type 0
-BelongsToCrate = (d : Declarations) (l : Line) → fault_of d l ≡ None → belongs_to_crate l ≡ true → 1 < length d.crates
+BelongsToCrate =
+    (d : Declarations) (l : Line) → fault_of d l ≡ None → belongs_to_crate l ≡ true
+    → (d.in_section ≡ false → 1 < length d.crates) × (d.in_section ≡ true → is_impl l ≡ true)
 
 -- ---- what such a line uses
 -- A name is a parameter of the sort of its place, or a struct with as many arguments as it takes; a trait has as many as it takes; a

@@ -2,11 +2,11 @@
 use Rattle.std.specs.Prelude.{◌≡◌, ℕ, List, [], ◌∷◌, ◌++◌, map}
 use Rattle.std.specs.List.{flat_map}
 use Rattle.model.specs.Label.{of_type}
-use Rattle.text_definitions.specs.Syntax.{TypeTree, Bound, Clause, Line, crate_line, struct_line, trait_line, impl_line, prove_line, refute_line}
+use Rattle.text_definitions.specs.Syntax.{TypeTree, Bound, Clause, Line, crate_line, struct_line, trait_line, impl_line, prove_line, refute_line, later_line, supers_line}
 use Rattle.text_definitions.specs.Declarations.{Declarations}
 use Rattle.text_definitions.specs.Uses.{Use, crate_use, type_uses, bound_uses, uses, asked_uses, type_depth, bound_depth, greatest, line_depth}
 use Rattle.line_reader.specs.Cells.{Cell}
-use Rattle.line_reader.specs.Statement.{Statement, crate_statement, struct_statement, trait_statement, impl_statement, prove_statement, refute_statement, type_list, line_cells, line_statement}
+use Rattle.line_reader.specs.Statement.{Statement, crate_statement, struct_statement, trait_statement, impl_statement, prove_statement, refute_statement, later_statement, supers_statement, type_list, line_cells, line_statement}
 use Rattle.line_reader.specs.Places.{TypeStands, BoundStands, EachOf}
 use Rattle.line_reader.specs.declared.statement.Span.{Span}
 use Rattle.line_reader.specs.declared.statement.ClauseSpans.{ClauseSpans}
@@ -30,6 +30,8 @@ line_parts (trait_line f a n ps bs) = map bound_part bs
 line_parts (impl_line ps h ks) = header_parts h ++ flat_map clause_parts ks
 line_parts (prove_line c ps k ks) = clause_parts k ++ flat_map clause_parts ks
 line_parts (refute_line c ps k) = clause_parts k
+line_parts (later_line n) = []
+line_parts (supers_line n) = []
 
 -- ---- where they stand
 abbrev pub type_place : Span → places.LinePart
@@ -48,6 +50,8 @@ places_in (trait_statement f a n ps ss) = map bound_place ss
 places_in (impl_statement ps h ks) = bound_place h.bound ∷ type_place h.subject ∷ flat_map clause_places ks
 places_in (prove_statement c ps k ks) = type_place k.subject ∷ bound_place k.bound ∷ flat_map clause_places ks
 places_in (refute_statement c ps k) = type_place k.subject ∷ bound_place k.bound ∷ []
+places_in (later_statement n) = []
+places_in (supers_statement n) = []
 
 abbrev pub PartStands : List Cell → LinePart → places.LinePart → Type 0
 PartStands cells (type_part t) (place.Type s) = TypeStands cells t s
@@ -72,6 +76,8 @@ abbrev pub named_crates : Line → List (List ℕ)
 named_crates (crate_line n us) = us
 named_crates (prove_line c ps k ks) = c ∷ []
 named_crates (refute_line c ps k) = c ∷ []
+named_crates (later_line n) = n ∷ []
+named_crates (supers_line n) = n ∷ []
 named_crates l = []
 
 -- the asked reference of a question

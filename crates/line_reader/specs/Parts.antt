@@ -1,13 +1,13 @@
 -- Reading the parts of a line from left to right. None of this is promised: it is what the methods of the reader do, one by one.
 use Rattle.std.specs.Prelude.{ℕ, zero, suc, Bool, true, false, ◌&&◌, List, [], ◌∷◌, length, Option, Some, None, nat_le, if◌then◌else◌}
-use Rattle.text_definitions.specs.Words.{crate_word, fundamental_word, struct_word, auto_word, trait_word, impl_word, prove_word, refute_word, const_word}
+use Rattle.text_definitions.specs.Words.{crate_word, fundamental_word, struct_word, auto_word, trait_word, impl_word, prove_word, refute_word, later_word, supers_word, const_word}
 use Rattle.text_definitions.specs.Tokens.{Token, keyword, name, lifetime, tokens_of}
 use Rattle.line_reader.specs.Marks.{after_comma, after_plus, after_colon, after_open_angle, after_close_angle, after_open_round, after_close_round, after_uses, after_where, after_for, after_in, name_front, is_name, is_nil}
 use Rattle.line_reader.specs.Cells.{Cell}
 use Rattle.line_reader.specs.TypeReading.{type_read}
 use Rattle.line_reader.specs.declared.statement.Span.{Span}
 use Rattle.line_reader.specs.declared.statement.ClauseSpans.{ClauseSpans}
-use Rattle.line_reader.specs.Statement.{Param, lifetime_param, type_param, const_param, Statement, crate_statement, struct_statement, trait_statement, impl_statement, prove_statement, refute_statement}
+use Rattle.line_reader.specs.Statement.{Param, lifetime_param, type_param, const_param, Statement, crate_statement, struct_statement, trait_statement, impl_statement, prove_statement, refute_statement, later_statement, supers_statement}
 
 -- the cells of what has been read, and the tokens that are left
 abbrev pub Progress : Type 0
@@ -137,6 +137,12 @@ prove_at p = given (λ x. prove_statement x.0 x.1.0 x.1.1.0 x.1.1.1) (behind_mar
 unfoldable pub refute_at : Part Statement
 refute_at p = given (λ x. refute_statement x.0 x.1.0 x.1.1) (behind_mark after_in (both name_at (both params_at clause_at))) p
 
+unfoldable pub later_at : Part Statement
+later_at p = given later_statement name_at p
+
+unfoldable pub supers_at : Part Statement
+supers_at p = given supers_statement (behind_mark after_in name_at) p
+
 -- ---- whole lines
 abbrev pub auto_front : Bool → List Cell → List Token → Option (Statement × Progress)
 auto_front f o (keyword trait_word ∷ ts) = trait_at f true (o, ts)
@@ -157,6 +163,8 @@ statement_front o (keyword auto_word ∷ ts) = auto_front false o ts
 statement_front o (keyword impl_word ∷ ts) = impl_at (o, ts)
 statement_front o (keyword prove_word ∷ ts) = prove_at (o, ts)
 statement_front o (keyword refute_word ∷ ts) = refute_at (o, ts)
+statement_front o (keyword later_word ∷ ts) = later_at (o, ts)
+statement_front o (keyword supers_word ∷ ts) = supers_at (o, ts)
 statement_front o _ = None
 
 unfoldable pub statement_at : Part Statement

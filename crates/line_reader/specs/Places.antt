@@ -1,8 +1,8 @@
 -- Where the types of a line stand among its cells.
 use Rattle.std.specs.Prelude.{◌≡◌, ◌<◌, ◌≤◌, List, [], ◌∷◌, length, take}
-use Rattle.text_definitions.specs.Syntax.{TypeTree, named, Bound, Clause, Line, crate_line, struct_line, trait_line, impl_line, prove_line, refute_line}
+use Rattle.text_definitions.specs.Syntax.{TypeTree, named, Bound, Clause, Line, crate_line, struct_line, trait_line, impl_line, prove_line, refute_line, later_line, supers_line}
 use Rattle.line_reader.specs.Cells.{Cell, type_onto}
-use Rattle.line_reader.specs.Statement.{Statement, crate_statement, struct_statement, trait_statement, impl_statement, prove_statement, refute_statement, type_list, line_cells, line_statement}
+use Rattle.line_reader.specs.Statement.{Statement, crate_statement, struct_statement, trait_statement, impl_statement, prove_statement, refute_statement, later_statement, supers_statement, type_list, line_cells, line_statement}
 use Rattle.line_reader.specs.declared.statement.Span.{Span}
 use Rattle.line_reader.specs.declared.statement.ClauseSpans.{ClauseSpans}
 
@@ -30,6 +30,8 @@ LineStands cells (trait_line f a n ps bs) (trait_statement g b m qs ss) = EachOf
 LineStands cells (impl_line ps h ks) (impl_statement qs i ss) = ClauseStands cells h i × EachOf (ClauseStands cells) ks ss
 LineStands cells (prove_line c ps k ks) (prove_statement d qs i ss) = ClauseStands cells k i × EachOf (ClauseStands cells) ks ss
 LineStands cells (refute_line c ps k) (refute_statement d qs i) = ClauseStands cells k i
+LineStands cells (later_line n) (later_statement m) = Unit {0}
+LineStands cells (supers_line n) (supers_statement m) = Unit {0}
 LineStands cells _ _ = ⊥
 
 abbrev pub SpansStand : Type 0

@@ -5,8 +5,8 @@ use Rattle.std.specs.Option.{option_map_or}
 use Rattle.text_definitions.specs.Syntax.{Line}
 use Rattle.text_definitions.specs.Declarations.{kinds_of}
 use Rattle.text_definitions.specs.Uses.{declared_name, params_of}
-use Rattle.text_definitions.specs.Faults.{belongs_to_crate, is_loaded_auto, refutes_params, is_long, has_long_name, parts}
-use Rattle.line_reader.specs.Statement.{Param, param_name, Statement, crate_statement, struct_statement, trait_statement, impl_statement, prove_statement, refute_statement, param_list, line_statement}
+use Rattle.text_definitions.specs.Faults.{belongs_to_crate, is_impl, is_loaded_auto, refutes_params, is_long, has_long_name, parts}
+use Rattle.line_reader.specs.Statement.{Param, param_name, Statement, crate_statement, struct_statement, trait_statement, impl_statement, prove_statement, refute_statement, later_statement, supers_statement, param_list, line_statement}
 
 abbrev pub name_said : Statement → Option (List ℕ)
 name_said (crate_statement n us) = Some n
@@ -21,6 +21,8 @@ params_said (trait_statement f a n ps ss) = ps
 params_said (impl_statement ps h ks) = ps
 params_said (prove_statement c ps k ks) = ps
 params_said (refute_statement c ps k) = ps
+params_said (later_statement n) = []
+params_said (supers_statement n) = []
 
 -- fields, supertraits or clauses
 abbrev pub count_said : Statement → ℕ
@@ -30,12 +32,18 @@ count_said (trait_statement f a n ps ss) = length ss
 count_said (impl_statement ps h ks) = length ks
 count_said (prove_statement c ps k ks) = length ks
 count_said (refute_statement c ps k) = 0
+count_said (later_statement n) = 0
+count_said (supers_statement n) = 0
 
 abbrev pub is_item : Statement → Bool
 is_item (struct_statement f n ps ss) = true
 is_item (trait_statement f a n ps ss) = true
 is_item (impl_statement ps h ks) = true
 is_item _ = false
+
+abbrev pub is_said_impl : Statement → Bool
+is_said_impl (impl_statement ps h ks) = true
+is_said_impl _ = false
 
 abbrev pub is_loaded : Statement → Bool
 is_loaded (trait_statement f a n ps ss) = a && not ((length ps == 0) && (length ss == 0))
@@ -63,5 +71,5 @@ PartsAreCounted = (l : Line) → count_said (line_statement l) ≡ parts l
 
 abbrev pub TestsAgree : Type 0
 TestsAgree =
-    (l : Line) → (is_item (line_statement l) ≡ belongs_to_crate l) × (is_loaded (line_statement l) ≡ is_loaded_auto l) × (refutes_some (line_statement l) ≡ refutes_params l)
+    (l : Line) → (is_item (line_statement l) ≡ belongs_to_crate l) × (is_said_impl (line_statement l) ≡ is_impl l) × (is_loaded (line_statement l) ≡ is_loaded_auto l) × (refutes_some (line_statement l) ≡ refutes_params l)
     × (has_long (line_statement l) ≡ has_long_name l)

@@ -1,6 +1,6 @@
 -- What a line says, with its types as places in one list of cells.
 use Rattle.std.specs.Prelude.{ℕ, Bool, List, [], ◌∷◌, ◌++◌, map, length}
-use Rattle.text_definitions.specs.Syntax.{TypeTree, named, Types, no_types, and_type, Params, Bound, Clause, Line, crate_line, struct_line, trait_line, impl_line, prove_line, refute_line}
+use Rattle.text_definitions.specs.Syntax.{TypeTree, named, Types, no_types, and_type, Params, Bound, Clause, Line, crate_line, struct_line, trait_line, impl_line, prove_line, refute_line, later_line, supers_line}
 use Rattle.line_reader.specs.Cells.{Cell, type_onto}
 use Rattle.line_reader.specs.declared.statement.Span.{Span}
 use Rattle.line_reader.specs.declared.statement.ClauseSpans.{ClauseSpans}
@@ -20,6 +20,8 @@ pub data Statement : Type 0 where
   impl_statement : (params : List Param) (header : ClauseSpans) (clauses : List ClauseSpans) → Statement
   prove_statement : (asker : List ℕ) (params : List Param) (asked : ClauseSpans) (clauses : List ClauseSpans) → Statement
   refute_statement : (asker : List ℕ) (params : List Param) (asked : ClauseSpans) → Statement
+  later_statement : (changed : List ℕ) → Statement
+  supers_statement : (asked : List ℕ) → Statement
 
 -- lifetimes, types and consts, in this order
 abbrev pub param_list : Params → List Param
@@ -71,6 +73,8 @@ line_cells (trait_line f a n ps bs) = all_onto bound_onto bs []
 line_cells (impl_line ps h ks) = all_onto clause_onto ks (header_onto h [])
 line_cells (prove_line c ps k ks) = all_onto clause_onto ks (clause_onto k [])
 line_cells (refute_line c ps k) = clause_onto k []
+line_cells (later_line n) = []
+line_cells (supers_line n) = []
 
 abbrev pub line_statement : Line → Statement
 line_statement (crate_line n us) = crate_statement n us
@@ -79,3 +83,5 @@ line_statement (trait_line f a n ps bs) = trait_statement f a n (param_list ps) 
 line_statement (impl_line ps h ks) = impl_statement (param_list ps) (header_spans h []) (all_spans clause_onto clause_spans ks (header_onto h []))
 line_statement (prove_line c ps k ks) = prove_statement c (param_list ps) (clause_spans k []) (all_spans clause_onto clause_spans ks (clause_onto k []))
 line_statement (refute_line c ps k) = refute_statement c (param_list ps) (clause_spans k [])
+line_statement (later_line n) = later_statement n
+line_statement (supers_line n) = supers_statement n

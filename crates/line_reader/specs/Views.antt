@@ -31,6 +31,8 @@ statement_of (statements.Trait f a n ps bs) = said.trait_statement f a n.now (pa
 statement_of (statements.Impl ps h ks) = said.impl_statement (params_in ps.items) h ks.items
 statement_of (statements.Prove c ps k ks) = said.prove_statement c.now (params_in ps.items) k ks.items
 statement_of (statements.Refute c ps k) = said.refute_statement c.now (params_in ps.items) k
+statement_of (statements.Later n) = said.later_statement n.now
+statement_of (statements.Supers n) = said.supers_statement n.now
 
 abbrev pub read_of : LineRead → said.Statement × List Cell
 read_of r = (statement_of r.statement, cells_in r.cells.items)

@@ -1,6 +1,6 @@
-//! `crate NAME uses NAME, NAME, ..`
+//! `crate NAME uses NAME, NAME, ..`, `later NAME` and `supers in NAME`
 ghost use Rattle.line_reader.specs.Marks.{after_comma};
-ghost use Rattle.line_reader.specs.Parts.{name_at, uses_at, crate_at, parts_between};
+ghost use Rattle.line_reader.specs.Parts.{name_at, uses_at, crate_at, later_at, supers_at, parts_between};
 ghost use Rattle.line_reader.specs.Steps.{Reads};
 ghost use Rattle.line_reader.specs.Views.{texts_in, statement_of};
 
@@ -43,5 +43,24 @@ impl<'t, 'a> Reader<'t, 'a> {
         let name = self.name()?;
         let uses = self.uses()?;
         Ok(Statement::Crate { name, uses })
+    }
+
+    /// Behind `later`.
+    #[tactic(auto, unfolding(crate::specs::Parts::later_at))]
+    pub(crate) fn later_line(&mut self) -> Result<Statement<'a>, LineError>
+        ensures { Reads statement_of result later_at self.old self.new }
+    {
+        let crate_name = self.name()?;
+        Ok(Statement::Later { crate_name })
+    }
+
+    /// Behind `supers`.
+    #[tactic(auto, unfolding(crate::specs::Parts::supers_at))]
+    pub(crate) fn supers_line(&mut self) -> Result<Statement<'a>, LineError>
+        ensures { Reads statement_of result supers_at self.old self.new }
+    {
+        self.cursor.expect_in()?;
+        let crate_name = self.name()?;
+        Ok(Statement::Supers { crate_name })
     }
 }

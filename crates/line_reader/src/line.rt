@@ -51,6 +51,8 @@ impl<'t, 'a> Reader<'t, 'a> {
             Some(Token::Keyword(Keyword::Impl)) => self.impl_line(),
             Some(Token::Keyword(Keyword::Prove)) => self.prove_line(),
             Some(Token::Keyword(Keyword::Refute)) => self.refute_line(),
+            Some(Token::Keyword(Keyword::Later)) => self.later_line(),
+            Some(Token::Keyword(Keyword::Supers)) => self.supers_line(),
             _ => Err(LineError::Syntax),
         }
     }

@@ -59,7 +59,9 @@ impl<'a> Statement<'a> {
         ensures { IfOk result (λ v. v.items ≡ places_in (statement_of self.now)) }
     {
         match self {
-            Statement::Crate { .. } => Ok(Vec::new(alloc)),
+            Statement::Crate { .. } | Statement::Later { .. } | Statement::Supers { .. } => {
+                Ok(Vec::new(alloc))
+            }
             Statement::Struct { fields, .. } => type_parts(alloc, fields),
             Statement::Trait { bounds, .. } => bound_parts(alloc, bounds),
             Statement::Impl {

@@ -4,7 +4,7 @@ ghost use Rattle.std.specs.List.{list_any};
 ghost use Rattle.std.specs.Option.{option_map, option_map_or};
 ghost use Rattle.text_definitions.specs.Faults.{is_long};
 ghost use Rattle.line_reader.specs.TokenViews.{text_of};
-ghost use Rattle.line_reader.specs.Says.{name_said, params_said, count_said, is_item, is_loaded, refutes_some, has_long};
+ghost use Rattle.line_reader.specs.Says.{name_said, params_said, count_said, is_item, is_said_impl, is_loaded, refutes_some, has_long};
 ghost use Rattle.line_reader.specs.Statement as said;
 ghost use Rattle.line_reader.specs.Views.{param_of, params_in, statement_of};
 
@@ -50,6 +50,7 @@ impl<'a> Statement<'a> {
             Statement::Impl { params, .. } => params,
             Statement::Prove { params, .. } => params,
             Statement::Refute { params, .. } => params,
+            Statement::Later { .. } | Statement::Supers { .. } => &[],
         }
     }
 
@@ -63,7 +64,7 @@ impl<'a> Statement<'a> {
             Statement::Trait { bounds, .. } => bounds.len(),
             Statement::Impl { clauses, .. } => clauses.len(),
             Statement::Prove { clauses, .. } => clauses.len(),
-            Statement::Refute { .. } => 0,
+            Statement::Refute { .. } | Statement::Later { .. } | Statement::Supers { .. } => 0,
         }
     }
 
@@ -75,6 +76,13 @@ impl<'a> Statement<'a> {
             self,
             Statement::Struct { .. } | Statement::Trait { .. } | Statement::Impl { .. }
         )
+    }
+
+    /// Whether it is an impl, which may stand in a section of a later version.
+    pub fn is_impl(&self) -> bool
+        ensures { result ≡ is_said_impl (statement_of self.now) }
+    {
+        matches!(self, Statement::Impl { .. })
     }
 
     /// Whether it is an auto trait with parameters or supertraits.

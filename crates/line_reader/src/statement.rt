@@ -80,6 +80,14 @@ pub enum Statement<'a> {
         asked: ClauseSpans,
         clauses: Vec<ClauseSpans>,
     },
+    /// `later CRATE`
+    Later {
+        crate_name: &'a [u8],
+    },
+    /// `supers in CRATE`
+    Supers {
+        crate_name: &'a [u8],
+    },
     /// `refute in CRATE<..> TYPE: BOUND`
     Refute {
         crate_name: &'a [u8],

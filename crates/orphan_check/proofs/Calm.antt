@@ -24,7 +24,7 @@ each-append : {A : Type 0} (P : A → Type 0) (xs ys : List A) → Each P xs →
 each-append P [] ys h g = g
 each-append P (x ∷ xs) ys h g = (h.0, each-append P xs ys h.1 g)
 
-depth-append : (x y : Trees) → depth (x +++ y) ≡ max (depth x) (depth y)
+pub depth-append : (x y : Trees) → depth (x +++ y) ≡ max (depth x) (depth y)
 depth-append none y = omega arith
 depth-append (tree l c o) y = let e = depth-append o y in omega (arith, e)
 

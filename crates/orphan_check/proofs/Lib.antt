@@ -6,3 +6,4 @@ pub mod Ending
 pub mod Reading
 pub mod Calm
 pub mod Exactness
+pub mod OpenWalk

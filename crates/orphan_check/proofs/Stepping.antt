@@ -31,7 +31,7 @@ if-false : {A : Type 0} (x : Bool) (a b : A) → x ≡ false → (if x then a el
 if-false true a b e = cc
 if-false false a b e = refl
 
-region-sort : (k : RegionKind) → sort_of (region_label k) ≡ of_lifetime
+pub region-sort : (k : RegionKind) → sort_of (region_label k) ≡ of_lifetime
 region-sort ReStatic = refl
 region-sort (ReEarlyParam i) = refl
 region-sort (RePlaceholder i) = refl
@@ -42,7 +42,7 @@ region-sort (ReVar v) = refl
 pub type-is : (es : List Entry) → Lawful es → (i : ℕ) → Has es types i → IsA of_type (trees_at es i)
 type-is es law i h = (law.sorted i _ (is-at es types i h)).as_type refl
 
-const-is : (es : List Entry) → Lawful es → (i : ℕ) → Has es consts i → IsA of_const (trees_at es i)
+pub const-is : (es : List Entry) → Lawful es → (i : ℕ) → Has es consts i → IsA of_const (trees_at es i)
 const-is es law i h = (law.sorted i _ (is-at es consts i h)).as_const refl
 
 -- ---- lists of types

@@ -29,7 +29,7 @@ starts (b ∷ bs) = b
 next : (b : Bool) (xs ys : List Bool) → xs ≡ ys → ◌≡◌ {A = List Bool} (b ∷ xs) (b ∷ ys)
 next b xs ys e = ap (λ z. b ∷ z) e
 
-marks-append : (xs ys : List Item) → marks (xs ++ ys) ≡ marks xs ++ marks ys
+pub marks-append : (xs ys : List Item) → marks (xs ++ ys) ≡ marks xs ++ marks ys
 marks-append [] ys = refl
 marks-append (local_item t ∷ is) ys = next true _ _ (marks-append is ys)
 marks-append (open_item t ∷ is) ys = next false _ _ (marks-append is ys)
@@ -126,7 +126,7 @@ no-error-is V c t =
     error-starts is is ∙ ap starts (items-decide V (Some c) true t) ∙ sym (walk-starts (visited V (Some c) t))
 
 -- ---- the open walk
-no-home : {A : Type 0} (f : A → ℕ) (xs : List A) → list_any (λ x. is_home None (f x)) xs ≡ false
+pub no-home : {A : Type 0} (f : A → ℕ) (xs : List A) → list_any (λ x. is_home None (f x)) xs ≡ false
 no-home f [] = refl
 no-home f (x ∷ xs) = no-home f xs
 

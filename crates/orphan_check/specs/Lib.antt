@@ -5,6 +5,7 @@ pub mod Steps
 pub mod Flags
 pub mod Walks
 pub mod Visited
+pub mod Decisive
 pub mod Answers
 pub mod Knowing
 pub mod Exact

@@ -69,7 +69,7 @@ fn decisive<N: Normalize>(
 }
 
 /// Whether a local type decides.
-fn is_local(decisive: Option<Decisive>) -> bool
+pub(crate) fn is_local(decisive: Option<Decisive>) -> bool
     ensures { result ≡ is_local decisive }
 {
     match decisive {

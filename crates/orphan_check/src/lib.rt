@@ -7,6 +7,7 @@ pub mod knowable;
 pub mod laws;
 mod look;
 pub mod normalize;
+pub mod open_walk;
 pub mod orphan;
 mod visited;
 mod walk;

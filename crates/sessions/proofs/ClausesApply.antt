@@ -29,7 +29,7 @@ outside-zero (fn_ptr k) n e = ap pred e
 outside-zero (principal k t) n e = ap pred e
 outside-zero l n e = e
 
-unbound-outer : (t : Trees) → some_node is_bound t ≡ false → outer_binder t ≡ 0
+pub unbound-outer : (t : Trees) → some_node is_bound t ≡ false → outer_binder t ≡ 0
 unbound-outer none h = refl
 unbound-outer (tree l c o) h =
     maxes (own_binder l) (outside l (outer_binder c)) (outer_binder o) (own-zero l (no-left (is_bound l) (some_node is_bound c) (no-left (is_bound l || some_node is_bound c) (some_node is_bound o) h)))
@@ -43,7 +43,7 @@ each-of P [] f = tt
 each-of P (x ∷ xs) f = (f x (here x xs), each-of P xs (λ y i. f y (there y x xs i)))
 
 -- the sorts that are declared are those of the parameters
-declared-sorts : (ss : List Sort) (o : Option TraitDef) → ss ≡ option_map_or sorts_of_params o [] → IfSome o (λ def. ss ≡ sorts_of_params def)
+pub declared-sorts : (ss : List Sort) (o : Option TraitDef) → ss ≡ option_map_or sorts_of_params o [] → IfSome o (λ def. ss ≡ sorts_of_params def)
 declared-sorts ss None e = tt
 declared-sorts ss (Some def) e = e
 

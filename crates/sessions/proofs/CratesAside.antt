@@ -1,8 +1,10 @@
--- Which crates a world lists makes no difference to the orphan rule.
-use Rattle.std.proofs.Common.{◌≡◌, ℕ, Bool, true, false, ◌||◌, ◌==◌, List, [], ◌∷◌, ◌++◌, Option, Some, None, Result, Ok, Err, refl, sym, ap, ◌∙◌, subst}
-use Rattle.std.specs.Prelude.{if◌then◌else◌, IfOk}
+-- Which crates a world lists makes no difference to the orphan rule, nor to what a later version may add.
+use Rattle.std.proofs.Common.{◌≡◌, ℕ, Bool, true, false, ◌||◌, ◌&&◌, ◌==◌, List, [], ◌∷◌, ◌++◌, Option, Some, None, Result, Ok, Err, refl, sym, ap, ◌∙◌, subst}
+use Rattle.std.specs.Prelude.{if◌then◌else◌, not, IfOk}
+use Rattle.std.specs.List.{list_any}
 use Rattle.model.specs.Label.{Label, of_type, of_const, of_lifetime, ref, adt, dynamic, principal, param, placeholder, infer, canonical, bound, value, static}
 use Rattle.model.specs.Trees.{Trees, none, tree, is_sort, sort_of}
+use Rattle.model.specs.Versions.{is_open_place, is_addable}
 use Rattle.model.specs.Worlds.{World, CrateDecl, Reference}
 use Rattle.model.specs.Walks.{Met, local, entered, struct_leaf, open_place, other_leaf, visited, dyn_met, is_home, struct_is, until_decisive, ends_local, trait_is, keeps_orphan_rule}
 use Rattle.type_terms.specs.Terms.{Entry}
@@ -68,6 +70,11 @@ module _ (V : World) (cs : List CrateDecl) where
 
   keeps-same : (c : ℕ) (r : Reference) → keeps_orphan_rule W c r ≡ keeps_orphan_rule V c r
   keeps-same c r = ap (λ ms. trait_is (λ x. x.home == c) V r.trait || ends_local (until_decisive ms)) (same-visits (Some c) r.args)
+
+  pub addable-aside : (c : ℕ) (r : Reference) → is_addable W c r ≡ is_addable V c r
+  addable-aside c r =
+      ap (λ b. b && (not (list_any is_open_place (until_decisive (visited W None r.args))) && (not (trait_is (λ x. x.is_fundamental) V r.trait) && not (trait_is (λ x. x.is_auto) V r.trait)))) (keeps-same c r)
+      ∙ ap (λ ms. keeps_orphan_rule V c r && (not (list_any is_open_place (until_decisive ms)) && (not (trait_is (λ x. x.is_fundamental) V r.trait) && not (trait_is (λ x. x.is_auto) V r.trait)))) (same-visits None r.args)
 
   -- ---- the error
   dyn-look-same : (d : Option ℕ) (t : Trees) → dyn_look W d t ≡ dyn_look V d t

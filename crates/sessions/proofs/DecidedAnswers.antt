@@ -121,18 +121,18 @@ module _ (d : Declarations) (text : IsOfText d) (n : ℕ) (q : Question) (is : I
   abbrev clauses : List Reference
   clauses = unbound_references q.clauses
 
-  asked-is : erased_reference asked ≡ erased_reference q.asked
+  pub asked-is : erased_reference asked ≡ erased_reference q.asked
   asked-is = reference-erased all_kept q.asked
 
-  clauses-are : map erased_reference clauses ≡ map erased_reference q.clauses
+  pub clauses-are : map erased_reference clauses ≡ map erased_reference q.clauses
   clauses-are = map-again (plain_reference all_kept) erased_reference (reference-erased all_kept) q.clauses
 
-  formed-so : IsFormedAsWritten (written of.entries of.declarations) (sorts_in of.declarations) clauses asked
+  pub formed-so : IsFormedAsWritten (written of.entries of.declarations) (sorts_in of.declarations) clauses asked
   formed-so =
       written-if-closed text.0 d text.1 (n - 1) q is.there of.entries of.declarations of.seen
       (ap (some_node is_variable) (plain-erased all_kept q.asked.args) ∙ not-so (some_node is_variable (erase q.asked.args)) decided.0)
 
-  single : SingleWay depth (view_in d q.asker) (map erased_reference clauses) (erased_reference asked)
+  pub single : SingleWay depth (view_in d q.asker) (map erased_reference clauses) (erased_reference asked)
   single =
       subst (λ E. SingleWay depth (view_in d q.asker) E (erased_reference asked)) (sym clauses-are)
       (subst (λ r. SingleWay depth (view_in d q.asker) (map erased_reference q.clauses) r) (sym asked-is) decided.1)

@@ -287,7 +287,7 @@ module _ (V : World) (sorts : Sorts) where
         (λ t i. let n = in-filter (λ (y : TraitDecl). y.name == r.trait) V.traits t i in bounds-erased r h t n.0 (same-number t.name r.trait n.1) t.bounds (λ b j. j))
         ∙ sym (map-flat erased_reference (λ (t : TraitDecl). all_with_args r.args t.bounds) (traits_named V r.trait))
 
-    within-erased : (n : ℕ) (r : Reference) → IsFormedClause r → strict_supertraits_within n V (erased_reference r) ≡ map erased_reference (strict_supertraits_within n V r)
+    pub within-erased : (n : ℕ) (r : Reference) → IsFormedClause r → strict_supertraits_within n V (erased_reference r) ≡ map erased_reference (strict_supertraits_within n V r)
     within-erased zero r h = refl
     within-erased (suc n) r h =
         ap (flat_map (λ s. s ∷ strict_supertraits_within n V s)) (written-erased r h)

@@ -1,5 +1,5 @@
 -- What a text without a fault declares is formed: its terms name what is declared and seen, with the arguments that it takes.
-use Rattle.std.proofs.Common.{◌≡◌, ◌<◌, ◌≤◌, ℕ, zero, suc, Bool, true, false, ◌&&◌, List, [], ◌∷◌, ◌++◌, map, length, Option, Some, None, Result, Ok, Err, refl, sym, ap, ◌∙◌, subst, arith, inl, inr}
+use Rattle.std.proofs.Common.{◌≡◌, ◌<◌, ◌≤◌, ◌-◌, ℕ, zero, suc, Bool, true, false, ◌&&◌, List, [], ◌∷◌, ◌++◌, map, length, Option, Some, None, Result, Ok, Err, refl, sym, ap, ◌∙◌, subst, arith, inl, inr}
 use Rattle.std.proofs.lemmas.List.Folds.{list_all-append}
 use Rattle.std.proofs.lemmas.Option.{same_Some, slice_get_within}
 use Rattle.std.specs.Prelude.{slice_get, find, if◌then◌else◌, option_and_then}
@@ -13,16 +13,16 @@ use Rattle.model.specs.Proofs.{In}
 use Rattle.model.proofs.Members.{in-cases, in-nothing, in-left}
 use Rattle.declarations.specs.Applied.{sorts_of}
 use Rattle.declarations.specs.Merges.{Each}
-use Rattle.text_definitions.specs.Syntax.{Types, no_types, and_type, Bound, Clause, Line, crate_line, struct_line, trait_line, impl_line, prove_line, refute_line}
-use Rattle.text_definitions.specs.Declarations.{Declarations, NamedCrate, NamedStruct, NamedTrait, NamedImpl, Known, a_crate, a_struct, a_trait, world_of, known, last_crate, nothing_declared, Question}
+use Rattle.text_definitions.specs.Syntax.{Types, no_types, and_type, Bound, Clause, Line, crate_line, struct_line, trait_line, impl_line, prove_line, refute_line, later_line, supers_line}
+use Rattle.text_definitions.specs.Declarations.{Declarations, NamedCrate, NamedStruct, NamedTrait, NamedImpl, LaterImpl, Known, a_crate, a_struct, a_trait, world_of, known, last_crate, last_changed, impl_owner, nothing_declared, Question}
 use Rattle.text_definitions.specs.Uses.{Use, crate_use, trait_use, args_count, kinds_of_trait, type_uses, types_uses, args_uses, bound_uses, clause_uses, header_uses, uses, params_of}
-use Rattle.text_definitions.specs.Faults.{fault_of, with_own, own_struct, own_trait, is_hidden_use, is_crate, number_of_crate, once, variables_in}
+use Rattle.text_definitions.specs.Faults.{fault_of, belongs_to_crate, is_impl, with_own, own_struct, own_trait, is_hidden_use, is_crate, number_of_crate, once, variables_in}
 use Rattle.text_definitions.specs.Lowering.{crate_number, trait_number, field_trees, type_tree, args_trees, with_self, clause_reference, Meanings}
 use Rattle.text_definitions.specs.Adding.{added, item_meanings, crate_of, struct_of, trait_of, impl_of, question_of, question_meanings}
 use Rattle.text_definitions.specs.Written.{IsWritten}
 use Rattle.text_definitions.specs.Text.{LineGives, other_byte, blank, unwritten, faulty, adds, LinesGive, ends, fails, goes_on, TextGives, too_long, fits}
 use Rattle.line_reader.specs.Faultless.{UsesFit, names_crate}
-use Rattle.line_reader.proofs.NoFault.{passes-tests, uses-crates}
+use Rattle.line_reader.proofs.NoFault.{passes-tests, belongs-to-crate, uses-crates}
 use Rattle.line_reader.proofs.FittingUses.{faultless-uses}
 use Rattle.view_lowering.proofs.Applied.{each-map, each-more, still-there}
 use Rattle.view_lowering.proofs.ScalarTokens.{ScalarBounds, ScalarClause, ScalarClauses, struct-scalars, trait-scalars, impl-scalars, prove-scalars, refute-scalars}
@@ -52,7 +52,7 @@ abbrev pub TraitFormed : Declarations → NamedTrait → Type 0
 TraitFormed d n = Each (IsFormedReference (scope d n.item.home)) n.item.bounds
 
 abbrev pub ImplFormed : Declarations → NamedImpl → Type 0
-ImplFormed d n = TextNodes (scope d n.item.home) n.item.header.args × Each (IsFormedReference (scope d n.item.home)) n.item.clauses
+ImplFormed d n = IsFormedReference (scope d n.item.home) n.item.header × Each (IsFormedReference (scope d n.item.home)) n.item.clauses
 
 abbrev pub QuestionFormed : Declarations → Question → Type 0
 QuestionFormed d q = IsFormedReference (scope d q.asker) q.asked × Each (IsFormedReference (scope d q.asker)) q.clauses
@@ -67,6 +67,7 @@ pub record Formed (d : Declarations) : Type 0 where
   pub traits : Each (TraitFormed d) d.traits
   pub impls : Each (ImplFormed d) d.impls
   pub questions : Each (QuestionFormed d) d.questions
+  pub later_impls : Each (λ i. ImplFormed d i.added) d.later_impls
   pub core : (k : ℕ) (n : NamedTrait) → slice_get nothing_declared.traits k ≡ Some n → slice_get d.traits k ≡ Some n
 
 -- ---- more is declared
@@ -135,6 +136,10 @@ seen-still d e s c x h = seen-more (world_of d) (world_of e) (λ y i. subst (In 
     same : (n : ℕ) → n ≤ n
     same n = omega arith
 
+-- with an impl of a section, or of the last crate
+abbrev pub with_impl_at : Declarations → NamedImpl → Bool → Declarations
+with_impl_at d x b = if b then record d { later_impls = d.later_impls ++ record { section = length d.sections - 1; added = x } ∷ [] } else record d { impls = d.impls ++ x ∷ [] }
+
 -- what the line's own scope shows, the declarations with it show
 own-grows : (d : Declarations) (l : Line) (c : ℕ) → (world_of d).crates ≡ (world_of (added d l)).crates → Grows (scope_of d l c) (scope (added d l) c)
 own-grows d (crate_line n us) c s = record {
@@ -152,11 +157,14 @@ own-grows d (trait_line f a n ps bs) c s = let l = trait_line f a n ps bs in rec
   traits = last-there-too trait_kinds trait_home (own_trait d f a n ps) (trait_of d (item_meanings d l 1) f a n ps bs) refl refl d.traits;
   sees = seen-still d (added d l) s c;
 }
-own-grows d (impl_line ps k ks) c s = record {
-  structs = λ k n. same-there d.structs k n struct_kinds struct_home;
-  traits = λ k n. same-there d.traits k n trait_kinds trait_home;
-  sees = seen-still d (added d (impl_line ps k ks)) s c;
-}
+own-grows d (impl_line ps k ks) c s = by d.in_section s
+  where
+    x : NamedImpl
+    x = impl_of d (item_meanings d (impl_line ps k ks) 0) ps k ks
+
+    by : (b : Bool) → (world_of d).crates ≡ (world_of (with_impl_at d x b)).crates → Grows (scope_of d (impl_line ps k ks) c) (scope (with_impl_at d x b) c)
+    by true q = record { structs = λ k n. same-there d.structs k n struct_kinds struct_home; traits = λ k n. same-there d.traits k n trait_kinds trait_home; sees = seen-still d (with_impl_at d x true) q c }
+    by false q = record { structs = λ k n. same-there d.structs k n struct_kinds struct_home; traits = λ k n. same-there d.traits k n trait_kinds trait_home; sees = seen-still d (with_impl_at d x false) q c }
 own-grows d (prove_line n ps a ks) c s = record {
   structs = λ k n. same-there d.structs k n struct_kinds struct_home;
   traits = λ k n. same-there d.traits k n trait_kinds trait_home;
@@ -166,6 +174,16 @@ own-grows d (refute_line n ps a) c s = record {
   structs = λ k n. same-there d.structs k n struct_kinds struct_home;
   traits = λ k n. same-there d.traits k n trait_kinds trait_home;
   sees = seen-still d (added d (refute_line n ps a)) s c;
+}
+own-grows d (later_line n) c s = record {
+  structs = λ k n. same-there d.structs k n struct_kinds struct_home;
+  traits = λ k n. same-there d.traits k n trait_kinds trait_home;
+  sees = seen-still d (added d (later_line n)) s c;
+}
+own-grows d (supers_line n) c s = record {
+  structs = λ k n. same-there d.structs k n struct_kinds struct_home;
+  traits = λ k n. same-there d.traits k n trait_kinds trait_home;
+  sees = seen-still d (added d (supers_line n)) s c;
 }
 
 -- so do declarations with one more item, where it is no crate
@@ -278,11 +296,15 @@ module _ (d e : Declarations) (grows : (h : ℕ) → Grows (scope d h) (scope e 
   traits-still : Each (TraitFormed e) d.traits
   traits-still = each-map (TraitFormed d) (TraitFormed e) (λ x p. each-map (IsFormedReference (scope d x.item.home)) (IsFormedReference (scope e x.item.home)) (reference-grows (scope d x.item.home) (scope e x.item.home) (grows x.item.home)) x.item.bounds p) d.traits h.traits
 
+  impl-grown : (x : NamedImpl) → ImplFormed d x → ImplFormed e x
+  impl-grown x p =
+      (reference-grows (scope d x.item.home) (scope e x.item.home) (grows x.item.home) x.item.header p.0, each-map (IsFormedReference (scope d x.item.home)) (IsFormedReference (scope e x.item.home)) (reference-grows (scope d x.item.home) (scope e x.item.home) (grows x.item.home)) x.item.clauses p.1)
+
   impls-still : Each (ImplFormed e) d.impls
-  impls-still =
-      each-map (ImplFormed d) (ImplFormed e) (λ x p.
-      (nodes-grow (scope d x.item.home) (scope e x.item.home) (grows x.item.home) x.item.header.args p.0, each-map (IsFormedReference (scope d x.item.home)) (IsFormedReference (scope e x.item.home)) (reference-grows (scope d x.item.home) (scope e x.item.home) (grows x.item.home)) x.item.clauses p.1))
-      d.impls h.impls
+  impls-still = each-map (ImplFormed d) (ImplFormed e) impl-grown d.impls h.impls
+
+  later-still : Each (λ i. ImplFormed e i.added) d.later_impls
+  later-still = each-map (λ (i : LaterImpl). ImplFormed d i.added) (λ (i : LaterImpl). ImplFormed e i.added) (λ i p. impl-grown i.added p) d.later_impls h.later_impls
 
   questions-still : Each (QuestionFormed e) d.questions
   questions-still =
@@ -292,7 +314,7 @@ module _ (d e : Declarations) (grows : (h : ℕ) → Grows (scope d h) (scope e 
 
 -- ---- lines
 -- a known crate has a number
-crate-there : (d : Declarations) (n : List ℕ) → Formed d → names_crate d n ≡ true → crate_number (known d n) < length d.crates
+pub crate-there : (d : Declarations) (n : List ℕ) → Formed d → names_crate d n ≡ true → crate_number (known d n) < length d.crates
 crate-there d n i h = by (find (λ (x : NamedCrate). bytes_eq x.text n) d.crates) (find (λ (x : NamedStruct). bytes_eq x.text n) d.structs) (find (λ (x : NamedTrait). bytes_eq x.text n) d.traits) refl h
   where
     all : Option NamedCrate → Option NamedStruct → Option NamedTrait → Option Known
@@ -332,6 +354,48 @@ asker-sees d l c n h = by (known d c) n h
     by (Some (a_struct k x ks)) m g = absurd cc
     by (Some (a_trait k x b ks)) m g = absurd cc
 
+-- a struct or a trait stands in no section, and behind a crate of its own
+pub no-section : (d : Declarations) (l : Line) → fault_of d l ≡ None → belongs_to_crate l ≡ true → is_impl l ≡ false → d.in_section ≡ false
+no-section d l f b n = by d.in_section refl
+  where
+    by : (s : Bool) → d.in_section ≡ s → s ≡ false
+    by false q = refl
+    by true q = absurd (clash (sym n ∙ (belongs-to-crate d l f b).1 q))
+      where
+        clash : false ≡ true → ⊥
+        clash e = cc
+
+own-seen : (d : Declarations) (l : Line) → fault_of d l ≡ None → belongs_to_crate l ≡ true → is_impl l ≡ false → list_any (is_hidden_use d l (impl_owner d)) (uses (with_own d l) l) ≡ false → list_any (is_hidden_use d l (last_crate d)) (uses (with_own d l) l) ≡ false
+own-seen d l f b n h = subst (λ s. list_any (is_hidden_use d l (if s then last_changed d else last_crate d)) (uses (with_own d l) l) ≡ false) (no-section d l f b n) h
+
+-- an impl of a section, or of the last crate, that is formed in its line's scope
+impl-added : (d : Declarations) (x : NamedImpl) → Formed d → (b : Bool)
+    → IsFormedReference (scope d x.item.home) x.item.header × Each (IsFormedReference (scope d x.item.home)) x.item.clauses → Formed (with_impl_at d x b)
+impl-added d x h true formed =
+    let f = with_impl_at d x true in
+    let goes = λ (c : ℕ). item-grows d f [] [] (nothing-behind d.structs) (nothing-behind d.traits) c (seen-still d f refl c) in
+    record {
+      crates = h.crates;
+      structs = structs-still d f goes h;
+      traits = traits-still d f goes h;
+      impls = impls-still d f goes h;
+      questions = questions-still d f goes h;
+      later_impls = each-more (λ (i : LaterImpl). ImplFormed f i.added) d.later_impls (record { section = length d.sections - 1; added = x }) (later-still d f goes h) (impl-grown d f goes h x formed);
+      core = h.core;
+    }
+impl-added d x h false formed =
+    let f = with_impl_at d x false in
+    let goes = λ (c : ℕ). item-grows d f [] [] (nothing-behind d.structs) (nothing-behind d.traits) c (seen-still d f refl c) in
+    record {
+      crates = h.crates;
+      structs = structs-still d f goes h;
+      traits = traits-still d f goes h;
+      impls = each-more (ImplFormed f) d.impls x (impls-still d f goes h) (impl-grown d f goes h x formed);
+      questions = questions-still d f goes h;
+      later_impls = later-still d f goes h;
+      core = h.core;
+    }
+
 pub line-formed : (d : Declarations) (line : List ℕ) (l : Line) → IsWritten line l → fault_of d l ≡ None → Well d → Formed d → Formed (added d l)
 line-formed d line (crate_line n us) w f well h =
     let l = crate_line n us in
@@ -344,6 +408,7 @@ line-formed d line (crate_line n us) w f well h =
       traits = traits-still d e goes h;
       impls = impls-still d e goes h;
       questions = questions-still d e goes h;
+      later_impls = later-still d e goes h;
       core = h.core;
     }
   where
@@ -379,6 +444,7 @@ line-formed d line (prove_line c ps a ks) w f well h =
       impls = impls-still d e goes h;
       questions = each-more (QuestionFormed e) d.questions (question_of d (question_meanings d l) false c ps a ks) (questions-still d e goes h)
           (grown (clause_reference (question_meanings d l) a) asked, each-map (IsFormedReference (scope_of d l k)) (IsFormedReference (scope e k)) grown (map (clause_reference (question_meanings d l)) ks) others);
+      later_impls = later-still d e goes h;
       core = h.core;
     }
 line-formed d line (refute_line c ps a) w f well h =
@@ -401,6 +467,7 @@ line-formed d line (refute_line c ps a) w f well h =
       impls = impls-still d e goes h;
       questions = each-more (QuestionFormed e) d.questions (question_of d (question_meanings d l) true c ps a []) (questions-still d e goes h)
           (grown (clause_reference (question_meanings d l) a) asked, tt);
+      later_impls = later-still d e goes h;
       core = h.core;
     }
 line-formed d line (struct_line g n ps fs) w f well h =
@@ -414,10 +481,11 @@ line-formed d line (struct_line g n ps fs) w f well h =
       crates = h.crates;
       structs = each-more (StructFormed e) d.structs x (structs-still d e goes h)
           (each-map (IsFormedField (scope_of d l (last_crate d))) (IsFormedField (scope e (last_crate d))) (field-grows (scope_of d l (last_crate d)) (scope e (last_crate d)) (own-grows d l (last_crate d) refl)) (field_trees (item_meanings d l 0) fs)
-          (fields-formed d l 0 (last_crate d) param [] param-sorted (param-free (scope_of d l (last_crate d))) at well.trait_numbers (autos-bare (with_own d l) well.bare) fs (struct-scalars line g n ps fs w) (faultless-uses d l f, p.has_seen_names)));
+          (fields-formed d l 0 (last_crate d) param [] param-sorted (param-free (scope_of d l (last_crate d))) at well.trait_numbers (autos-bare (with_own d l) well.bare) fs (struct-scalars line g n ps fs w) (faultless-uses d l f, own-seen d l f refl refl p.has_seen_names)));
       traits = traits-still d e goes h;
       impls = impls-still d e goes h;
       questions = questions-still d e goes h;
+      later_impls = later-still d e goes h;
       core = h.core;
     }
 line-formed d line (trait_line g a n ps bs) w f well h =
@@ -434,37 +502,50 @@ line-formed d line (trait_line g a n ps bs) w f well h =
       traits = each-more (TraitFormed e) d.traits x (traits-still d e goes h)
           (each-map (IsFormedReference (scope_of d l (last_crate d))) (IsFormedReference (scope e (last_crate d))) (reference-grows (scope_of d l (last_crate d)) (scope e (last_crate d)) (own-grows d l (last_crate d) refl))
           (map (with_self (item_meanings d l 1) (leaf (param of_type 0))) bs)
-          (bounds-formed d l 1 (last_crate d) param [] param-sorted (param-free (scope_of d l (last_crate d))) well.struct_numbers at bare bs (trait-scalars line g a n ps bs w) (faultless-uses d l f, p.has_seen_names)));
+          (bounds-formed d l 1 (last_crate d) param [] param-sorted (param-free (scope_of d l (last_crate d))) well.struct_numbers at bare bs (trait-scalars line g a n ps bs w) (faultless-uses d l f, own-seen d l f refl refl p.has_seen_names)));
       impls = impls-still d e goes h;
       questions = questions-still d e goes h;
+      later_impls = later-still d e goes h;
       core = λ k m q. still-there d.traits (x ∷ []) k m (h.core k m q);
     }
-line-formed d line (impl_line ps k ks) w f well h =
-    let l = impl_line ps k ks in
-    let e = added d l in
-    let x = impl_of d (item_meanings d l 0) ps k ks in
-    let p = passes-tests d l f in
-    let goes = λ (c : ℕ). item-grows d e [] [] (nothing-behind d.structs) (nothing-behind d.traits) c (seen-still d e refl c) in
-    let bare = autos-bare d well.bare in
-    let free = param-free (scope_of d l (last_crate d)) in
-    let seen : SeenUses d l (last_crate d) = (faultless-uses d l f, p.has_seen_names) in
-    let header = head-of d l 0 (last_crate d) param [] param-sorted free well.struct_numbers well.trait_numbers bare (header_uses d k) (flat_map (clause_uses d) ks) seen in
-    let all = rest-of d l 0 (last_crate d) param [] param-sorted free well.struct_numbers well.trait_numbers bare (header_uses d k) (flat_map (clause_uses d) ks) seen in
-    let own = own-grows d l (last_crate d) refl in
-    let scalar = impl-scalars line ps k ks w in
-    record {
-      crates = h.crates;
-      structs = structs-still d e goes h;
-      traits = traits-still d e goes h;
-      impls = each-more (ImplFormed e) d.impls x (impls-still d e goes h) (
-        nodes-grow (scope_of d l (last_crate d)) (scope e (last_crate d)) own x.item.header.args
-            (header-formed d l 0 (last_crate d) param [] param-sorted free well.struct_numbers well.trait_numbers bare k scalar.0 header).nodes,
-        each-map (IsFormedReference (scope_of d l (last_crate d))) (IsFormedReference (scope e (last_crate d))) (reference-grows (scope_of d l (last_crate d)) (scope e (last_crate d)) own) (map (clause_reference (item_meanings d l 0)) ks)
-            (clauses-formed d l 0 (last_crate d) param [] param-sorted free well.struct_numbers well.trait_numbers bare ks scalar.1 all),
-      );
-      questions = questions-still d e goes h;
-      core = h.core;
-    }
+line-formed d line (impl_line ps k ks) w f well h = impl-added d x h d.in_section formed
+  where
+    l : Line
+    l = impl_line ps k ks
+
+    x : NamedImpl
+    x = impl_of d (item_meanings d l 0) ps k ks
+
+    home : ℕ
+    home = impl_owner d
+
+    bare : AutosAreBare d
+    bare = autos-bare d well.bare
+
+    free : (s : Sort) (i : ℕ) (z : Trees) → TextNode (scope_of d l home) (param s i) z
+    free = param-free (scope_of d l home)
+
+    seen : SeenUses d l home
+    seen = (faultless-uses d l f, (passes-tests d l f).has_seen_names)
+
+    scalar : ScalarClause k × ScalarClauses ks
+    scalar = impl-scalars line ps k ks w
+
+    formed : IsFormedReference (scope_of d l home) x.item.header × Each (IsFormedReference (scope_of d l home)) x.item.clauses
+    formed =
+        let header = head-of d l 0 home param [] param-sorted free well.struct_numbers well.trait_numbers bare (header_uses d k) (flat_map (clause_uses d) ks) seen in
+        let all = rest-of d l 0 home param [] param-sorted free well.struct_numbers well.trait_numbers bare (header_uses d k) (flat_map (clause_uses d) ks) seen in (
+          header-formed d l 0 home param [] param-sorted free well.struct_numbers well.trait_numbers bare k scalar.0 header,
+          clauses-formed d l 0 home param [] param-sorted free well.struct_numbers well.trait_numbers bare ks scalar.1 all,
+        )
+line-formed d line (later_line n) w f well h =
+    let e = added d (later_line n) in
+    let goes = λ (x : ℕ). item-grows d e [] [] (nothing-behind d.structs) (nothing-behind d.traits) x (seen-still d e refl x) in
+    record { crates = h.crates; structs = structs-still d e goes h; traits = traits-still d e goes h; impls = impls-still d e goes h; questions = questions-still d e goes h; later_impls = later-still d e goes h; core = h.core }
+line-formed d line (supers_line n) w f well h =
+    let e = added d (supers_line n) in
+    let goes = λ (x : ℕ). item-grows d e [] [] (nothing-behind d.structs) (nothing-behind d.traits) x (seen-still d e refl x) in
+    record { crates = h.crates; structs = structs-still d e goes h; traits = traits-still d e goes h; impls = impls-still d e goes h; questions = questions-still d e goes h; later_impls = later-still d e goes h; core = h.core }
 
 -- ---- `core`
 abbrev pub core_trait : ℕ → NamedTrait
@@ -482,8 +563,9 @@ core-formed = record {
   crates = core-crates;
   structs = ((record { nodes = (refl, (tt, tt, tt), tt); sort = refl }, tt), tt);
   traits = (tt, ((record { nodes = (tt, tt, tt); trait = (core_trait 0, refl, refl, refl) }, tt), ((record { nodes = (tt, tt, tt); trait = (core_trait 1, refl, refl, refl) }, tt), (tt, (tt, (tt, ((record { nodes = (tt, tt, (tt, tt, tt)); trait = (core_trait 5, refl, refl, refl) }, tt), ((record { nodes = (tt, tt, (tt, tt, tt)); trait = (core_trait 6, refl, refl, refl) }, tt), (tt, tt)))))))));
-  impls = (((tt, tt, tt), tt), (((tt, tt, tt), tt), (((tt, tt, tt), tt), (((tt, tt, tt), tt), (((tt, tt, tt), tt), (((tt, tt, tt), tt), (((tt, tt, tt), tt), (((tt, tt, tt), tt), (((tt, tt, tt), tt), (((tt, tt, tt), tt), (((tt, tt, tt), tt), (((tt, tt, tt), tt), (((tt, tt, tt), tt), (((tt, tt, tt), tt), (((tt, tt, tt), tt), (((refl, (tt, tt, (tt, tt, tt)), tt), tt), (((refl, (tt, tt, tt), tt), tt), (((refl, (tt, tt, tt), tt), tt), (((refl, (tt, tt, (tt, tt, tt)), tt), (record { nodes = (tt, tt, tt); trait = (core_trait 1, refl, refl, refl) }, tt)), ((((core_box, refl, refl, refl), (tt, tt, tt), tt), (record { nodes = (tt, tt, tt); trait = (core_trait 1, refl, refl, refl) }, tt)), (((tt, tt, tt), tt), (((tt, tt, tt), tt), (((tt, tt, tt), tt), (((tt, tt, tt), tt), (((tt, tt, tt), tt), (((tt, tt, tt), tt), (((tt, tt, tt), tt), (((tt, tt, tt), tt), (((tt, tt, tt), tt), (((tt, tt, tt), tt), (((tt, tt, tt), tt), (((tt, tt, tt), tt), (((tt, tt, tt), tt), (((tt, tt, tt), tt), (((tt, tt, tt), tt), (((refl, (tt, tt, (tt, tt, tt)), tt), tt), (((refl, (tt, tt, tt), tt), tt), (((refl, (tt, tt, tt), tt), tt), (((refl, (tt, tt, (tt, tt, tt)), tt), (record { nodes = (tt, tt, tt); trait = (core_trait 2, refl, refl, refl) }, tt)), tt)))))))))))))))))))))))))))))))))))))));
+  impls = ((record { nodes = (tt, tt, tt); trait = (core_trait 1, refl, refl, refl) }, tt), ((record { nodes = (tt, tt, tt); trait = (core_trait 1, refl, refl, refl) }, tt), ((record { nodes = (tt, tt, tt); trait = (core_trait 1, refl, refl, refl) }, tt), ((record { nodes = (tt, tt, tt); trait = (core_trait 1, refl, refl, refl) }, tt), ((record { nodes = (tt, tt, tt); trait = (core_trait 1, refl, refl, refl) }, tt), ((record { nodes = (tt, tt, tt); trait = (core_trait 1, refl, refl, refl) }, tt), ((record { nodes = (tt, tt, tt); trait = (core_trait 1, refl, refl, refl) }, tt), ((record { nodes = (tt, tt, tt); trait = (core_trait 1, refl, refl, refl) }, tt), ((record { nodes = (tt, tt, tt); trait = (core_trait 1, refl, refl, refl) }, tt), ((record { nodes = (tt, tt, tt); trait = (core_trait 1, refl, refl, refl) }, tt), ((record { nodes = (tt, tt, tt); trait = (core_trait 1, refl, refl, refl) }, tt), ((record { nodes = (tt, tt, tt); trait = (core_trait 1, refl, refl, refl) }, tt), ((record { nodes = (tt, tt, tt); trait = (core_trait 1, refl, refl, refl) }, tt), ((record { nodes = (tt, tt, tt); trait = (core_trait 1, refl, refl, refl) }, tt), ((record { nodes = (tt, tt, tt); trait = (core_trait 1, refl, refl, refl) }, tt), ((record { nodes = (refl, (tt, tt, (tt, tt, tt)), tt); trait = (core_trait 1, refl, refl, refl) }, tt), ((record { nodes = (refl, (tt, tt, tt), tt); trait = (core_trait 1, refl, refl, refl) }, tt), ((record { nodes = (refl, (tt, tt, tt), tt); trait = (core_trait 1, refl, refl, refl) }, tt), ((record { nodes = (refl, (tt, tt, (tt, tt, tt)), tt); trait = (core_trait 1, refl, refl, refl) }, (record { nodes = (tt, tt, tt); trait = (core_trait 1, refl, refl, refl) }, tt)), ((record { nodes = ((core_box, refl, refl, refl), (tt, tt, tt), tt); trait = (core_trait 1, refl, refl, refl) }, (record { nodes = (tt, tt, tt); trait = (core_trait 1, refl, refl, refl) }, tt)), ((record { nodes = (tt, tt, tt); trait = (core_trait 2, refl, refl, refl) }, tt), ((record { nodes = (tt, tt, tt); trait = (core_trait 2, refl, refl, refl) }, tt), ((record { nodes = (tt, tt, tt); trait = (core_trait 2, refl, refl, refl) }, tt), ((record { nodes = (tt, tt, tt); trait = (core_trait 2, refl, refl, refl) }, tt), ((record { nodes = (tt, tt, tt); trait = (core_trait 2, refl, refl, refl) }, tt), ((record { nodes = (tt, tt, tt); trait = (core_trait 2, refl, refl, refl) }, tt), ((record { nodes = (tt, tt, tt); trait = (core_trait 2, refl, refl, refl) }, tt), ((record { nodes = (tt, tt, tt); trait = (core_trait 2, refl, refl, refl) }, tt), ((record { nodes = (tt, tt, tt); trait = (core_trait 2, refl, refl, refl) }, tt), ((record { nodes = (tt, tt, tt); trait = (core_trait 2, refl, refl, refl) }, tt), ((record { nodes = (tt, tt, tt); trait = (core_trait 2, refl, refl, refl) }, tt), ((record { nodes = (tt, tt, tt); trait = (core_trait 2, refl, refl, refl) }, tt), ((record { nodes = (tt, tt, tt); trait = (core_trait 2, refl, refl, refl) }, tt), ((record { nodes = (tt, tt, tt); trait = (core_trait 2, refl, refl, refl) }, tt), ((record { nodes = (tt, tt, tt); trait = (core_trait 2, refl, refl, refl) }, tt), ((record { nodes = (refl, (tt, tt, (tt, tt, tt)), tt); trait = (core_trait 2, refl, refl, refl) }, tt), ((record { nodes = (refl, (tt, tt, tt), tt); trait = (core_trait 2, refl, refl, refl) }, tt), ((record { nodes = (refl, (tt, tt, tt), tt); trait = (core_trait 2, refl, refl, refl) }, tt), ((record { nodes = (refl, (tt, tt, (tt, tt, tt)), tt); trait = (core_trait 2, refl, refl, refl) }, (record { nodes = (tt, tt, tt); trait = (core_trait 2, refl, refl, refl) }, tt)), tt)))))))))))))))))))))))))))))))))))))));
   questions = tt;
+  later_impls = tt;
   core = λ k n e. e;
 }
 

@@ -342,7 +342,14 @@ module _ (d : text.Declarations) (c : ℕ) (w : Well d) (f : Formed d) (es : Lis
       let n = in-seen (λ (m : NamedImpl). m.item) plain_impl sees_impl d.impls i (subst (λ xs. In i xs) impls-are a) in
       let args = n.0.item.header.args in
       subst (λ (x : ImplDecl). NodesFit V sorts x.header.args) (sym n.3)
-      (nodes-seen n.0.item.home n.2 (plain all_kept args) (nodes-plain (scope d n.0.item.home) all_kept args (each-in (ImplFormed d) d.impls f.impls n.0 n.1).0))
+      (nodes-seen n.0.item.home n.2 (plain all_kept args) (nodes-plain (scope d n.0.item.home) all_kept args (each-in (ImplFormed d) d.impls f.impls n.0 n.1).0.nodes))
+
+  pub header-trait : (i : ImplDecl) → In i V.impls → IsTraitOf V sorts i.header.trait (sorts_of i.header.args)
+  header-trait i a =
+      let n = in-seen (λ (m : NamedImpl). m.item) plain_impl sees_impl d.impls i (subst (λ xs. In i xs) impls-are a) in
+      let r = n.0.item.header in
+      subst (λ (x : ImplDecl). IsTraitOf V sorts x.header.trait (sorts_of x.header.args)) (sym n.3)
+      (subst (IsTraitOf V sorts r.trait) (sym (plain-sorts all_kept r.args)) (trait-seen n.0.item.home n.2 r.trait (sorts_of r.args) (each-in (ImplFormed d) d.impls f.impls n.0 n.1).0.trait))
 
   -- a trait of this number that passes the test is one of the text
   some-trait : (p : TraitDecl → Bool) (t : ℕ) → list_any p (traits_named V t) ≡ true → (n : NamedTrait) × In n d.traits × (p (plain_trait n.item) ≡ true) × (sorts.of_trait t ≡ of_type ∷ n.kinds)
@@ -408,3 +415,10 @@ HaveFormedHeaders es d = (i : ImplDecl) → In i (written es d).impls → NodesF
 
 pub texts-headers-are-formed : OfTexts HaveFormedHeaders
 texts-headers-are-formed bytes d h c es decls seen = let x = texts-are-formed bytes d h in header-nodes d c x.0 x.1 es decls seen
+
+-- so have their headers
+abbrev pub HaveFormedImpls : List Entry → Items → Type 0
+HaveFormedImpls es d = (i : ImplDecl) → In i (written es d).impls → FitsSorts (written es d) (sorts_in d) i.header
+
+pub texts-impls-are-formed : OfTexts HaveFormedImpls
+texts-impls-are-formed bytes d h c es decls seen i a = let x = texts-are-formed bytes d h in record { nodes = header-nodes d c x.0 x.1 es decls seen i a; trait = header-trait d c x.0 x.1 es decls seen i a }

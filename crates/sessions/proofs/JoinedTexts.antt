@@ -109,14 +109,14 @@ module _ (d : Declarations) (a : AllKept d) where
   impl-at y i = item-at erased_impl (λ (n : NamedImpl). n.item) d.impls y i
 
   -- ---- names
-  one-struct : (x y : StructDecl) → In x W.structs → In y W.structs → x.name ≡ y.name → x ≡ y
+  pub one-struct : (x y : StructDecl) → In x W.structs → In y W.structs → x.name ≡ y.name → x ≡ y
   one-struct x y i j e =
       let p = struct-at x i in
       let q = struct-at y j in
       same-place (λ (n : NamedStruct). n.item.name) (λ (n : NamedStruct). erased_struct n.item) d.structs a.well.struct_numbers p.0 q.0 p.1 q.1 x y p.2 q.2 p.3 q.3
       (ap (λ (z : StructDecl). z.name) (sym p.3) ∙ e ∙ ap (λ (z : StructDecl). z.name) q.3)
 
-  one-trait : (x y : TraitDecl) → In x W.traits → In y W.traits → x.name ≡ y.name → x ≡ y
+  pub one-trait : (x y : TraitDecl) → In x W.traits → In y W.traits → x.name ≡ y.name → x ≡ y
   one-trait x y i j e =
       let p = trait-at x i in
       let q = trait-at y j in
@@ -149,6 +149,22 @@ module _ (d : Declarations) (a : AllKept d) where
     written-so : (t : Trees) → TextNodes (scope d c) t → dyns_of_bounds (erase t) ≡ true → well_written (sees_struct W c) (sees_trait W c) (erase t) ≡ true
     written-so t h g = nodes-written (scope d c) (sees_struct W c) (sees_trait W c) struct-seen trait-seen t h g
 
+  -- the header of an impl is in scope of its crate, that of an impl that a later version adds too
+  pub scope-of : (n : NamedImpl) → is_good_impl n ≡ true → HeaderKept d n → ImplFormed d n → in_scope W n.item.home (erased_reference n.item.header) ≡ true
+  scope-of n g h f =
+      and (sees_trait W n.item.home n.item.header.trait) _ (trait-shown n.item.home n.item.header.trait h.of h.there h.seen)
+      (written-so n.item.home n.item.header.args f.0.nodes (good-dyns all_kept (param_sorts n) n.item.header.args (and-left (is_good all_kept (param_sorts n) n.item.header.args) _ g)))
+
+  -- and so are its where-clauses
+  pub clause-scope-of : (n : NamedImpl) → is_good_impl n ≡ true → ImplFormed d n → (r : Reference) → In r n.item.clauses → in_scope W n.item.home (erased_reference r) ≡ true
+  clause-scope-of n g f r i =
+      let formed : IsFormedReference (scope d n.item.home) r = each-in (IsFormedReference (scope d n.item.home)) n.item.clauses f.1 r i in
+      let more = and-right (is_good all_kept (param_sorts n) n.item.header.args) _ g in
+      let rest = and-right (n.item.params == length (param_sorts n)) _ more in
+      let clauses = and-right (all_stand n.item.header.args 0 (param_sorts n)) _ rest in
+      let good : is_good (stands_in n.item.header.args) (param_sorts n) r.args ≡ true = member-each (λ (c : Reference). is_good (stands_in n.item.header.args) (param_sorts n) c.args) n.item.clauses r clauses i in
+      and (sees_trait W n.item.home r.trait) _ (trait-seen n.item.home r.trait _ formed.trait) (written-so n.item.home r.args formed.nodes (good-dyns (stands_in n.item.header.args) (param_sorts n) r.args good))
+
   -- ---- what is good
   module _ (k : ℕ) (n : NamedImpl) (e : slice_get d.impls k ≡ Some n) where
     good : is_good_impl n ≡ true
@@ -167,9 +183,7 @@ module _ (d : Declarations) (a : AllKept d) where
     header = each-at (HeaderKept d) d.impls a.kept.headers k n e
 
     header-scope : in_scope W n.item.home (erased_reference n.item.header) ≡ true
-    header-scope =
-        and (sees_trait W n.item.home n.item.header.trait) _ (trait-shown n.item.home n.item.header.trait header.of header.there header.seen)
-        (written-so n.item.home n.item.header.args (each-at (ImplFormed d) d.impls a.formed.impls k n e).0 (good-dyns all_kept (param_sorts n) n.item.header.args good-header))
+    header-scope = scope-of n good header (each-at (ImplFormed d) d.impls a.formed.impls k n e)
 
   module _ (k : ℕ) (n : NamedTrait) (e : slice_get d.traits k ≡ Some n) (j : ℕ) (b : Reference) (f : slice_get n.item.bounds j ≡ Some b) where
     good-bound-test : (is_good none_kept (of_type ∷ n.kinds) b.args && nat_lt b.trait n.item.name) ≡ true
@@ -229,10 +243,10 @@ module _ (d : Declarations) (a : AllKept d) where
       let q = crate-at x i in
       subst (λ (z : CrateDecl). z.name < length d.crates) (sym q.3) (subst (λ n. n < length d.crates) (sym (a.formed.crates q.0 q.1 q.2).0) (slice_get_within d.crates q.0 q.1 q.2))
 
-  ordered : AreOrdered W
+  pub ordered : AreOrdered W
   ordered x i = (subst (λ n. x.name < n) (sym (map-long d.crates)) (name-below x i), λ u j. uses-below x u i j)
 
-  uses-there : (x : CrateDecl) (u : ℕ) → In x W.crates → In u x.uses → list_any (λ (y : CrateDecl). y.name == u) W.crates ≡ true
+  pub uses-there : (x : CrateDecl) (u : ℕ) → In x W.crates → In u x.uses → list_any (λ (y : CrateDecl). y.name == u) W.crates ≡ true
   uses-there x u i j =
       let b = name-below x i in
       let l = uses-below x u i j in

@@ -2,7 +2,7 @@
 use Rattle.std.proofs.Common.{◌≡◌, ◌<◌, ◌≤◌, ◌-◌, ◌+◌, ℕ, zero, suc, Bool, true, false, ◌&&◌, ◌||◌, ◌==◌, List, [], ◌∷◌, ◌++◌, map, length, append_assoc, Option, Some, None, Result, Ok, Err, refl, sym, ap, ◌∙◌, subst, arith}
 use Rattle.std.proofs.lemmas.Option.{same_Some}
 use Rattle.std.proofs.lemmas.Bool.{eqb-true, ne_eqb}
-use Rattle.std.specs.Prelude.{slice_get, find, if◌then◌else◌, not}
+use Rattle.std.specs.Prelude.{slice_get, find, if◌then◌else◌, not, unwrap_or}
 use Rattle.std.specs.List.{flat_map}
 use Rattle.std.specs.Option.{option_map, option_map_or, option_or}
 use Rattle.std.specs.Str.{bytes_eq}
@@ -13,15 +13,15 @@ use Rattle.model.specs.Rules.{sized}
 use Rattle.model.specs.Proofs.{In}
 use Rattle.model.proofs.Members.{in-left, self-number, not-both}
 use Rattle.declarations.specs.Merges.{Each}
-use Rattle.text_definitions.specs.Syntax.{TypeTree, of_primitive, never_type, variable_type, named, reference_to, pointer_to, slice_of, array_of, tuple_of, fn_of, fn_to, dyn_of, Params, Bound, Clause, Line, crate_line, struct_line, trait_line, impl_line, prove_line, refute_line}
-use Rattle.text_definitions.specs.Declarations.{Declarations, NamedCrate, NamedStruct, NamedTrait, NamedImpl, Known, a_crate, a_struct, a_trait, world_of, known, last_crate, nothing_declared, kinds_of}
+use Rattle.text_definitions.specs.Syntax.{TypeTree, of_primitive, never_type, variable_type, named, reference_to, pointer_to, slice_of, array_of, tuple_of, fn_of, fn_to, dyn_of, Params, Bound, Clause, Line, crate_line, struct_line, trait_line, impl_line, prove_line, refute_line, later_line, supers_line}
+use Rattle.text_definitions.specs.Declarations.{Declarations, NamedCrate, NamedStruct, NamedTrait, NamedImpl, LaterImpl, Known, a_crate, a_struct, a_trait, world_of, known, last_crate, last_changed, last_later, impl_owner, nothing_declared, kinds_of}
 use Rattle.text_definitions.specs.Uses.{args_count, kinds_of_struct, kinds_of_trait, type_uses, args_uses, clause_uses}
-use Rattle.text_definitions.specs.Faults.{fault_of, with_own, is_among, is_param, is_loaded_auto, is_own_struct, is_struct_in, is_auto_name, is_built_in, is_trait_of}
-use Rattle.text_definitions.specs.Lowering.{place_among, trait_number, struct_label, type_label, type_tree, args_trees, with_self}
+use Rattle.text_definitions.specs.Faults.{fault_of, with_own, belongs_to_crate, is_impl, is_among, is_param, is_loaded_auto, is_own_struct, is_struct_in, is_auto_name, is_built_in, is_trait_of}
+use Rattle.text_definitions.specs.Lowering.{crate_number, place_among, trait_number, struct_label, type_label, type_tree, args_trees, with_self}
 use Rattle.text_definitions.specs.Adding.{added, item_meanings, crate_of, struct_of, trait_of, impl_of}
 use Rattle.text_definitions.specs.Written.{IsWritten}
 use Rattle.text_definitions.specs.Text.{LineGives, other_byte, blank, unwritten, faulty, adds, LinesGive, ends, fails, goes_on, TextGives, too_long, fits}
-use Rattle.line_reader.proofs.NoFault.{passes-tests, belongs-to-crate}
+use Rattle.line_reader.proofs.NoFault.{passes-tests, belongs-to-crate, uses-crates}
 use Rattle.line_reader.proofs.FittingUses.{faultless-uses}
 use Rattle.view_lowering.proofs.Applied.{each-map, each-more, still-there}
 use Rattle.view_lowering.proofs.Texts.{Well, AtPlaces, autos-bare, line-added, core-well}
@@ -29,7 +29,7 @@ use Rattle.view_lowering.proofs.Trees.{and-left, and-right, or-left}
 use Rattle.type_terms.proofs.Made.{false-true}
 use Rattle.sessions.proofs.Seeing.{seen-more}
 use Rattle.sessions.proofs.TextTerms.{scope_of, trait-used, found-placed}
-use Rattle.sessions.proofs.FormedTexts.{Formed, line-formed, core-formed, pushed, param-sorted, param-free, seen-still}
+use Rattle.sessions.proofs.FormedTexts.{Formed, line-formed, core-formed, pushed, param-sorted, param-free, seen-still, crate-there, no-section, with_impl_at}
 use Rattle.sessions.proofs.RisingBounds.{Rises, fields-rise, clause-rises, clauses-rise, bounds-rise}
 
 -- ---- what is kept
@@ -51,6 +51,10 @@ pub record HeaderKept (d : Declarations) (n : NamedImpl) : Type 0 where
 abbrev pub ImplRises : NamedImpl → Type 0
 ImplRises n = Rises n.item.header.args × Each (λ (r : Reference). Rises r.args) n.item.clauses
 
+-- the impl is of the crate that its section changes
+abbrev pub IsOfSection : Declarations → LaterImpl → Type 0
+IsOfSection d i = slice_get d.sections i.section ≡ Some i.added.item.home
+
 pub record Kept (d : Declarations) : Type 0 where
   pub impl_numbers : (k : ℕ) (x : NamedImpl) → slice_get d.impls k ≡ Some x → x.item.name ≡ k
   pub crates : (cs : List NamedCrate) × (d.crates ≡ nothing_declared.crates ++ cs)
@@ -62,6 +66,10 @@ pub record Kept (d : Declarations) : Type 0 where
   pub fields_rise : Each (λ (x : NamedStruct). Each Rises x.item.fields) d.structs
   pub bounds_rise : Each (λ (x : NamedTrait). Each (λ (r : Reference). Rises r.args) x.item.bounds) d.traits
   pub impls_rise : Each ImplRises d.impls
+  pub sections : Each (λ (c : ℕ). c < length d.crates) d.sections
+  pub has_section : d.in_section ≡ true → 0 < length d.sections
+  pub later_headers : Each (λ (i : LaterImpl). HeaderKept d i.added) d.later_impls
+  pub later_homes : Each (IsOfSection d) d.later_impls
 
 -- ---- one more
 behind-more : {A : Type 0} (home : A → ℕ) (first xs : List A) (x : A) → Behind home first xs → core < home x → Behind home first (xs ++ x ∷ [])
@@ -78,8 +86,42 @@ header-grows d e f g s l n h = record {
   home = omega (arith, h.home, l);
 }
 
-last-later : (d : Declarations) → 1 < length d.crates → core < last_crate d
-last-later d h = omega (arith, h)
+behind-core : (d : Declarations) → 1 < length d.crates → core < last_crate d
+behind-core d h = omega (arith, h)
+
+-- a struct or a trait stands behind a crate of its own
+placed-item : (d : Declarations) (l : Line) → fault_of d l ≡ None → belongs_to_crate l ≡ true → is_impl l ≡ false → 1 < length d.crates
+placed-item d l f b n = (belongs-to-crate d l f b).0 (no-section d l f b n)
+
+-- the crate of the last section is there
+last-there : (n : ℕ) → 1 < n → n - 1 < n
+last-there n h = omega (arith, h)
+
+least : (n : ℕ) → 0 < n → n - 1 < n
+least n h = omega (arith, h)
+
+got-below : (cs : List ℕ) (k n : ℕ) → core < n → Each (λ (c : ℕ). c < n) cs → unwrap_or (slice_get cs k) core < n
+got-below [] k n h e = h
+got-below (c ∷ cs) zero n h e = e.0
+got-below (c ∷ cs) (suc k) n h e = got-below cs k n h e.1
+
+got-there : (cs : List ℕ) (k : ℕ) → k < length cs → slice_get cs k ≡ Some (unwrap_or (slice_get cs k) core)
+got-there [] k h = absurd (omega (arith, h))
+got-there (c ∷ cs) zero h = refl
+got-there (c ∷ cs) (suc k) h = got-there cs k (omega (arith, h))
+
+has-core : (d : Declarations) → Kept d → core < length d.crates
+has-core d h = subst (λ cs. core < length cs) (sym h.crates.1) (more h.crates.0)
+  where
+    more : (cs : List NamedCrate) → core < length (nothing_declared.crates ++ cs)
+    more cs = omega arith
+
+owner-there : (d : Declarations) (l : Line) → fault_of d l ≡ None → is_impl l ≡ true → belongs_to_crate l ≡ true → Kept d → impl_owner d < length d.crates
+owner-there d l f i b h = by d.in_section refl
+  where
+    by : (s : Bool) → d.in_section ≡ s → (if s then last_changed d else last_crate d) < length d.crates
+    by true q = got-below d.sections (length d.sections - 1) (length d.crates) (has-core d h) h.sections
+    by false q = last-there (length d.crates) ((belongs-to-crate d l f b).0 q)
 
 -- ---- what a name stands for
 abbrev AutoAt : Declarations → Option Known → Type 0
@@ -100,14 +142,14 @@ auto-known d n k w h = by (find (λ (x : NamedCrate). bytes_eq x.text n) d.crate
         ap (λ (y : NamedTrait). y.item.is_auto) (same_Some x t (sym p ∙ q)) ∙ a
 
 abbrev OwnAt : Declarations → Option Known → Type 0
-OwnAt d o = (i : ℕ) × (struct_label o ≡ adt i) × ((x : NamedStruct) × (slice_get d.structs i ≡ Some x) × (x.item.home ≡ last_crate d))
+OwnAt d o = (i : ℕ) × (struct_label o ≡ adt i) × ((x : NamedStruct) × (slice_get d.structs i ≡ Some x) × (x.item.home ≡ impl_owner d))
 
-own-known : (d : Declarations) (n : List ℕ) → Well d → option_map_or (is_struct_in (last_crate d)) (known d n) false ≡ true → OwnAt d (known d n)
+own-known : (d : Declarations) (n : List ℕ) → Well d → option_map_or (is_struct_in (impl_owner d)) (known d n) false ≡ true → OwnAt d (known d n)
 own-known d n w h = by (find (λ (x : NamedCrate). bytes_eq x.text n) d.crates) (find (λ (x : NamedStruct). bytes_eq x.text n) d.structs) (find (λ (x : NamedTrait). bytes_eq x.text n) d.traits) refl h
   where
-    by : (co : Option NamedCrate) (so : Option NamedStruct) (to : Option NamedTrait) → find (λ (x : NamedStruct). bytes_eq x.text n) d.structs ≡ so → option_map_or (is_struct_in (last_crate d)) (all-of co so to) false ≡ true → OwnAt d (all-of co so to)
+    by : (co : Option NamedCrate) (so : Option NamedStruct) (to : Option NamedTrait) → find (λ (x : NamedStruct). bytes_eq x.text n) d.structs ≡ so → option_map_or (is_struct_in (impl_owner d)) (all-of co so to) false ≡ true → OwnAt d (all-of co so to)
     by (Some x) so to e g = absurd (false-true g)
-    by None (Some x) to e g = (x.item.name, refl, (x, found-placed (λ (y : NamedStruct). y.item.name) (λ (y : NamedStruct). bytes_eq y.text n) d.structs x w.struct_numbers e, eqb-true x.item.home (last_crate d) g))
+    by None (Some x) to e g = (x.item.name, refl, (x, found-placed (λ (y : NamedStruct). y.item.name) (λ (y : NamedStruct). bytes_eq y.text n) d.structs x w.struct_numbers e, eqb-true x.item.home (impl_owner d) g))
     by None None None e g = absurd (false-true g)
     by None None (Some x) e g = absurd (false-true g)
 
@@ -123,7 +165,7 @@ not-built-in (Some (a_crate i)) k t h = absurd cc
 not-built-in (Some (a_struct i x ks)) k t h = absurd cc
 not-built-in (Some (a_trait i x a ks)) k t h = ne_eqb i sized (λ e. not-both (sized == i) (subst (λ z. (sized == z) ≡ true) (sym e) (self-number sized)) (or-left (sized == i) _ h))
 
-module _ (d : Declarations) (line : List ℕ) (ps : Params) (k : Clause) (ks : List Clause) (w : IsWritten line (impl_line ps k ks)) (f : fault_of d (impl_line ps k ks) ≡ None) (well : Well d) where
+module _ (d : Declarations) (line : List ℕ) (ps : Params) (k : Clause) (ks : List Clause) (w : IsWritten line (impl_line ps k ks)) (f : fault_of d (impl_line ps k ks) ≡ None) (well : Well d) (kept : Kept d) where
   abbrev l : Line
   l = impl_line ps k ks
 
@@ -143,7 +185,7 @@ module _ (d : Declarations) (line : List ℕ) (ps : Params) (k : Clause) (ks : L
   not-true true h = absurd cc
 
   own-self : (t : TypeTree) (more : Trees) → is_own_struct d l t ≡ true
-      → (s : ℕ) × (cs : Trees) × (os : Trees) × (type_tree (item_meanings d l 0) [] of_type t +++ more ≡ tree (adt s) cs os) × ((y : NamedStruct) × (slice_get d.structs s ≡ Some y) × (y.item.home ≡ last_crate d))
+      → (s : ℕ) × (cs : Trees) × (os : Trees) × (type_tree (item_meanings d l 0) [] of_type t +++ more ≡ tree (adt s) cs os) × ((y : NamedStruct) × (slice_get d.structs s ≡ Some y) × (y.item.home ≡ impl_owner d))
   own-self (named n args) more h =
       let q = own-known d n well (and-right (not (is_param l n)) _ h) in
       let a = among-first n ps.types ps.consts (not-true (is_param l n) (and-left (not (is_param l n)) _ h)) in
@@ -168,7 +210,7 @@ module _ (d : Declarations) (line : List ℕ) (ps : Params) (k : Clause) (ks : L
       let p = passes-tests d l f in
       let rest = args_uses d [] (kinds_of_trait (known d k.bound.trait)) k.bound.args ++ type_uses d [] of_type k.subject ++ flat_map (clause_uses d) ks in
       let u = faultless-uses d l f in
-      let q = trait-used d l 0 (last_crate d) param [] param-sorted (param-free (scope_of d l (last_crate d))) well.struct_numbers well.trait_numbers (autos-bare d well.bare) k.bound.trait (args_count k.bound.args) _ (u, p.has_seen_names) in
+      let q = trait-used d l 0 (impl_owner d) param [] param-sorted (param-free (scope_of d l (impl_owner d))) well.struct_numbers well.trait_numbers (autos-bare d well.bare) k.bound.trait (args_count k.bound.args) _ (u, p.has_seen_names) in
       record {
         of = q.0.0;
         there = q.0.1;
@@ -176,11 +218,8 @@ module _ (d : Declarations) (line : List ℕ) (ps : Params) (k : Clause) (ks : L
         not_sized = not-built-in (known d k.bound.trait) (args_count k.bound.args) u.0.1 p.implements_open;
         at_home = λ a. own-self k.subject (args_trees (item_meanings d l 0) [] (kinds_of_trait (known d k.bound.trait)) k.bound.args)
             (implied (is_auto_name d k.bound.trait) (is_own_struct d l k.subject) p.is_local_auto (auto-known d k.bound.trait (args_count k.bound.args) well u.0.1 q.0.0 q.0.1 a));
-        home = last-there (length d.crates) (belongs-to-crate d l f refl);
+        home = owner-there d l f refl refl kept;
       }
-    where
-      last-there : (n : ℕ) → 1 < n → n - 1 < n
-      last-there n h = omega (arith, h)
 
 -- ---- lines
 map-more : (xs : List NamedCrate) (y : NamedCrate) → map (λ (z : NamedCrate). z.item) (xs ++ y ∷ []) ≡ map (λ (z : NamedCrate). z.item) xs ++ y.item ∷ []
@@ -191,6 +230,10 @@ longer : (xs : List NamedCrate) (y : NamedCrate) → length (map (λ (z : NamedC
 longer [] y = omega arith
 longer (z ∷ zs) y = omega (arith, longer zs y)
 
+some-more : (cs : List ℕ) (c : ℕ) → 0 < length (cs ++ c ∷ [])
+some-more [] c = omega arith
+some-more (x ∷ cs) c = omega arith
+
 grown : (xs : List NamedCrate) (y : NamedCrate) → length xs ≤ length (xs ++ y ∷ [])
 grown [] y = omega arith
 grown (z ∷ zs) y = omega (arith, grown zs y)
@@ -198,9 +241,19 @@ grown (z ∷ zs) y = omega (arith, grown zs y)
 same-length : (n : ℕ) → n ≤ n
 same-length n = omega arith
 
+sections-more : (d : Declarations) (y : NamedCrate) → Each (λ (c : ℕ). c < length d.crates) d.sections → Each (λ (c : ℕ). c < length (d.crates ++ y ∷ [])) d.sections
+sections-more d y h = each-map (λ (c : ℕ). c < length d.crates) (λ (c : ℕ). c < length (d.crates ++ y ∷ [])) (λ c q. omega (arith, q, grown d.crates y)) d.sections h
+
+homes-more : (d e : Declarations) (c : ℕ) → e.sections ≡ d.sections ++ c ∷ [] → (is : List LaterImpl) → Each (IsOfSection d) is → Each (IsOfSection e) is
+homes-more d e c q is h = each-map (IsOfSection d) (IsOfSection e) (λ i p. ap (λ (cs : List ℕ). slice_get cs i.section) q ∙ still-there d.sections (c ∷ []) i.section i.added.item.home p) is h
+
 headers-still : (d e : Declarations) → ((k : ℕ) (x : NamedStruct) → slice_get d.structs k ≡ Some x → slice_get e.structs k ≡ Some x) → ((k : ℕ) (x : NamedTrait) → slice_get d.traits k ≡ Some x → slice_get e.traits k ≡ Some x)
     → ((c x : ℕ) → sees (world_of d) c x ≡ true → sees (world_of e) c x ≡ true) → length d.crates ≤ length e.crates → (ns : List NamedImpl) → Each (HeaderKept d) ns → Each (HeaderKept e) ns
 headers-still d e f g s l ns h = each-map (HeaderKept d) (HeaderKept e) (header-grows d e f g s l) ns h
+
+later-still : (d e : Declarations) → ((k : ℕ) (x : NamedStruct) → slice_get d.structs k ≡ Some x → slice_get e.structs k ≡ Some x) → ((k : ℕ) (x : NamedTrait) → slice_get d.traits k ≡ Some x → slice_get e.traits k ≡ Some x)
+    → ((c x : ℕ) → sees (world_of d) c x ≡ true → sees (world_of e) c x ≡ true) → length d.crates ≤ length e.crates → (is : List LaterImpl) → Each (λ (i : LaterImpl). HeaderKept d i.added) is → Each (λ (i : LaterImpl). HeaderKept e i.added) is
+later-still d e f g s l is h = each-map (λ (i : LaterImpl). HeaderKept d i.added) (λ (i : LaterImpl). HeaderKept e i.added) (λ i q. header-grows d e f g s l i.added q) is h
 
 bare-bounds : (f a : Bool) (n : List ℕ) (ps : Params) (bs : List Bound) → is_loaded_auto (trait_line f a n ps bs) ≡ false → a ≡ true → bs ≡ []
 bare-bounds f false n ps bs h e = absurd cc
@@ -212,10 +265,60 @@ bare-bounds f true n ps (b ∷ bs) h e = absurd (clash (length (kinds_of ps) == 
     clash true false p q = cc
     clash false y p q = cc
 
-pub line-kept : (d : Declarations) (line : List ℕ) (l : Line) → IsWritten line l → fault_of d l ≡ None → Well d → Kept d → Kept (added d l)
-line-kept d line (crate_line n us) w f well h =
+-- nothing is added but questions, sections and checks
+same-items : (d e : Declarations) → e.crates ≡ d.crates → e.structs ≡ d.structs → e.traits ≡ d.traits → (ns : List NamedImpl) → Each (HeaderKept d) ns → Each (HeaderKept e) ns
+same-items d e p q r ns h = headers-still d e (λ k y g. ap (λ xs. slice_get xs k) q ∙ g) (λ k y g. ap (λ xs. slice_get xs k) r ∙ g) (seen-still d e (ap (map (λ (c : NamedCrate). c.item)) (sym p))) (subst (λ cs. length d.crates ≤ length cs) (sym p) (same-length (length d.crates))) ns h
+
+same-later : (d e : Declarations) → e.crates ≡ d.crates → e.structs ≡ d.structs → e.traits ≡ d.traits → (is : List LaterImpl) → Each (λ (i : LaterImpl). HeaderKept d i.added) is → Each (λ (i : LaterImpl). HeaderKept e i.added) is
+same-later d e p q r is h = later-still d e (λ k y g. ap (λ xs. slice_get xs k) q ∙ g) (λ k y g. ap (λ xs. slice_get xs k) r ∙ g) (seen-still d e (ap (map (λ (c : NamedCrate). c.item)) (sym p))) (subst (λ cs. length d.crates ≤ length cs) (sym p) (same-length (length d.crates))) is h
+
+-- an impl of a section, or of the last crate
+impl-kept : (d : Declarations) (x : NamedImpl) → HeaderKept d x → Kept d → (b : Bool)
+    → (b ≡ true → slice_get d.sections (length d.sections - 1) ≡ Some x.item.home) → (b ≡ false → (x.item.name ≡ length d.impls) × (core < x.item.home) × ImplRises x) → Kept (with_impl_at d x b)
+impl-kept d x k h true f g =
+    let e = with_impl_at d x true in
+    let i : LaterImpl = record { section = length d.sections - 1; added = x } in
+    record {
+      impl_numbers = h.impl_numbers;
+      crates = h.crates;
+      structs = h.structs;
+      traits = h.traits;
+      impls = h.impls;
+      autos = h.autos;
+      headers = same-items d e refl refl refl d.impls h.headers;
+      fields_rise = h.fields_rise;
+      bounds_rise = h.bounds_rise;
+      impls_rise = h.impls_rise;
+      sections = h.sections;
+      has_section = h.has_section;
+      later_headers = same-later d e refl refl refl (d.later_impls ++ i ∷ []) (each-more (λ (y : LaterImpl). HeaderKept d y.added) d.later_impls i h.later_headers k);
+      later_homes = each-more (IsOfSection e) d.later_impls i h.later_homes (f refl);
+    }
+impl-kept d x k h false f g =
+    let e = with_impl_at d x false in
+    let q = g refl in
+    record {
+      impl_numbers = pushed (λ i (z : NamedImpl). z.item.name ≡ i) d.impls x h.impl_numbers q.0;
+      crates = h.crates;
+      structs = h.structs;
+      traits = h.traits;
+      impls = behind-more (λ (z : NamedImpl). z.item.home) nothing_declared.impls d.impls x h.impls q.1;
+      autos = h.autos;
+      headers = same-items d e refl refl refl (d.impls ++ x ∷ []) (each-more (HeaderKept d) d.impls x h.headers k);
+      fields_rise = h.fields_rise;
+      bounds_rise = h.bounds_rise;
+      impls_rise = each-more ImplRises d.impls x h.impls_rise q.2;
+      sections = h.sections;
+      has_section = h.has_section;
+      later_headers = same-later d e refl refl refl d.later_impls h.later_headers;
+      later_homes = h.later_homes;
+    }
+
+pub line-kept : (d : Declarations) (line : List ℕ) (l : Line) → IsWritten line l → fault_of d l ≡ None → Well d → Formed d → Kept d → Kept (added d l)
+line-kept d line (crate_line n us) w f well formed h =
     let e = added d (crate_line n us) in
     let x = crate_of d n us in
+    let see = seen-more (world_of d) (world_of e) (λ y i. subst (In y) (sym (map-more d.crates x)) (in-left y (world_of d).crates (x.item ∷ []) i)) (longer d.crates x) in
     record {
       impl_numbers = h.impl_numbers;
       crates = (h.crates.0 ++ x ∷ [], ap (λ z. z ++ x ∷ []) h.crates.1 ∙ append_assoc nothing_declared.crates h.crates.0 (x ∷ []));
@@ -223,12 +326,17 @@ line-kept d line (crate_line n us) w f well h =
       traits = h.traits;
       impls = h.impls;
       autos = h.autos;
-      headers = headers-still d e (λ k y q. q) (λ k y q. q) (seen-more (world_of d) (world_of e) (λ y i. subst (In y) (sym (map-more d.crates x)) (in-left y (world_of d).crates (x.item ∷ []) i)) (longer d.crates x)) (grown d.crates x) d.impls h.headers;
+      headers = headers-still d e (λ k y q. q) (λ k y q. q) see (grown d.crates x) d.impls h.headers;
       fields_rise = h.fields_rise;
       bounds_rise = h.bounds_rise;
       impls_rise = h.impls_rise;
+      sections = sections-more d x h.sections;
+      has_section = λ q. absurd (false-true q);
+      later_headers = later-still d e (λ k y q. q) (λ k y q. q) see (grown d.crates x) d.later_impls h.later_headers;
+      later_homes = h.later_homes;
     }
-line-kept d line (prove_line c ps a ks) w f well h =
+line-kept d line (prove_line c ps a ks) w f well formed h =
+    let e = added d (prove_line c ps a ks) in
     record {
       impl_numbers = h.impl_numbers;
       crates = h.crates;
@@ -236,12 +344,17 @@ line-kept d line (prove_line c ps a ks) w f well h =
       traits = h.traits;
       impls = h.impls;
       autos = h.autos;
-      headers = headers-still d (added d (prove_line c ps a ks)) (λ k y q. q) (λ k y q. q) (seen-still d (added d (prove_line c ps a ks)) refl) (same-length (length d.crates)) d.impls h.headers;
+      headers = same-items d e refl refl refl d.impls h.headers;
       fields_rise = h.fields_rise;
       bounds_rise = h.bounds_rise;
       impls_rise = h.impls_rise;
+      sections = h.sections;
+      has_section = h.has_section;
+      later_headers = same-later d e refl refl refl d.later_impls h.later_headers;
+      later_homes = h.later_homes;
     }
-line-kept d line (refute_line c ps a) w f well h =
+line-kept d line (refute_line c ps a) w f well formed h =
+    let e = added d (refute_line c ps a) in
     record {
       impl_numbers = h.impl_numbers;
       crates = h.crates;
@@ -249,19 +362,59 @@ line-kept d line (refute_line c ps a) w f well h =
       traits = h.traits;
       impls = h.impls;
       autos = h.autos;
-      headers = headers-still d (added d (refute_line c ps a)) (λ k y q. q) (λ k y q. q) (seen-still d (added d (refute_line c ps a)) refl) (same-length (length d.crates)) d.impls h.headers;
+      headers = same-items d e refl refl refl d.impls h.headers;
       fields_rise = h.fields_rise;
       bounds_rise = h.bounds_rise;
       impls_rise = h.impls_rise;
+      sections = h.sections;
+      has_section = h.has_section;
+      later_headers = same-later d e refl refl refl d.later_impls h.later_headers;
+      later_homes = h.later_homes;
     }
-line-kept d line (struct_line g n ps fs) w f well h =
+line-kept d line (supers_line n) w f well formed h =
+    let e = added d (supers_line n) in
+    record {
+      impl_numbers = h.impl_numbers;
+      crates = h.crates;
+      structs = h.structs;
+      traits = h.traits;
+      impls = h.impls;
+      autos = h.autos;
+      headers = same-items d e refl refl refl d.impls h.headers;
+      fields_rise = h.fields_rise;
+      bounds_rise = h.bounds_rise;
+      impls_rise = h.impls_rise;
+      sections = h.sections;
+      has_section = h.has_section;
+      later_headers = same-later d e refl refl refl d.later_impls h.later_headers;
+      later_homes = h.later_homes;
+    }
+line-kept d line (later_line n) w f well formed h =
+    let e = added d (later_line n) in
+    record {
+      impl_numbers = h.impl_numbers;
+      crates = h.crates;
+      structs = h.structs;
+      traits = h.traits;
+      impls = h.impls;
+      autos = h.autos;
+      headers = same-items d e refl refl refl d.impls h.headers;
+      fields_rise = h.fields_rise;
+      bounds_rise = h.bounds_rise;
+      impls_rise = h.impls_rise;
+      sections = each-more (λ (c : ℕ). c < length d.crates) d.sections (crate_number (known d n)) h.sections (crate-there d n formed (uses-crates d (later_line n) f));
+      has_section = λ q. some-more d.sections (crate_number (known d n));
+      later_headers = same-later d e refl refl refl d.later_impls h.later_headers;
+      later_homes = homes-more d e (crate_number (known d n)) refl d.later_impls h.later_homes;
+    }
+line-kept d line (struct_line g n ps fs) w f well formed h =
     let l = struct_line g n ps fs in
     let e = added d l in
     let x = struct_of d (item_meanings d l 0) g n ps fs in
     record {
       impl_numbers = h.impl_numbers;
       crates = h.crates;
-      structs = behind-more (λ (y : NamedStruct). y.item.home) nothing_declared.structs d.structs x h.structs (last-later d (belongs-to-crate d l f refl));
+      structs = behind-more (λ (y : NamedStruct). y.item.home) nothing_declared.structs d.structs x h.structs (behind-core d (placed-item d l f refl refl));
       traits = h.traits;
       impls = h.impls;
       autos = h.autos;
@@ -269,8 +422,12 @@ line-kept d line (struct_line g n ps fs) w f well h =
       fields_rise = each-more (λ (y : NamedStruct). Each Rises y.item.fields) d.structs x h.fields_rise (fields-rise (with_own d l) ps 0 [] fs);
       bounds_rise = h.bounds_rise;
       impls_rise = h.impls_rise;
+      sections = h.sections;
+      has_section = h.has_section;
+      later_headers = later-still d e (λ k y q. still-there d.structs (x ∷ []) k y q) (λ k y q. q) (seen-still d e refl) (same-length (length d.crates)) d.later_impls h.later_headers;
+      later_homes = h.later_homes;
     }
-line-kept d line (trait_line g a n ps bs) w f well h =
+line-kept d line (trait_line g a n ps bs) w f well formed h =
     let l = trait_line g a n ps bs in
     let e = added d l in
     let x = trait_of d (item_meanings d l 1) g a n ps bs in
@@ -278,30 +435,28 @@ line-kept d line (trait_line g a n ps bs) w f well h =
       impl_numbers = h.impl_numbers;
       crates = h.crates;
       structs = h.structs;
-      traits = behind-more (λ (y : NamedTrait). y.item.home) nothing_declared.traits d.traits x h.traits (last-later d (belongs-to-crate d l f refl));
+      traits = behind-more (λ (y : NamedTrait). y.item.home) nothing_declared.traits d.traits x h.traits (behind-core d (placed-item d l f refl refl));
       impls = h.impls;
       autos = each-more (λ (y : NamedTrait). y.item.is_auto ≡ true → y.item.bounds ≡ []) d.traits x h.autos (λ q. ap (map (with_self (item_meanings d l 1) (leaf (param of_type 0)))) (bare-bounds g a n ps bs (passes-tests d l f).is_bare_auto q));
       headers = headers-still d e (λ k y q. q) (λ k y q. still-there d.traits (x ∷ []) k y q) (seen-still d e refl) (same-length (length d.crates)) d.impls h.headers;
       fields_rise = h.fields_rise;
       bounds_rise = each-more (λ (y : NamedTrait). Each (λ (r : Reference). Rises r.args) y.item.bounds) d.traits x h.bounds_rise (bounds-rise (with_own d l) ps 1 [] (leaf (param of_type 0)) refl bs);
       impls_rise = h.impls_rise;
+      sections = h.sections;
+      has_section = h.has_section;
+      later_headers = later-still d e (λ k y q. q) (λ k y q. still-there d.traits (x ∷ []) k y q) (seen-still d e refl) (same-length (length d.crates)) d.later_impls h.later_headers;
+      later_homes = h.later_homes;
     }
-line-kept d line (impl_line ps k ks) w f well h =
+line-kept d line (impl_line ps k ks) w f well formed h =
     let l = impl_line ps k ks in
-    let e = added d l in
-    let y = impl_of d (item_meanings d l 0) ps k ks in
-    record {
-      impl_numbers = pushed (λ i (z : NamedImpl). z.item.name ≡ i) d.impls y h.impl_numbers refl;
-      crates = h.crates;
-      structs = h.structs;
-      traits = h.traits;
-      impls = behind-more (λ (z : NamedImpl). z.item.home) nothing_declared.impls d.impls y h.impls (last-later d (belongs-to-crate d l f refl));
-      autos = h.autos;
-      headers = headers-still d e (λ i z q. q) (λ i z q. q) (seen-still d e refl) (same-length (length d.crates)) (d.impls ++ y ∷ []) (each-more (HeaderKept d) d.impls y h.headers (header-kept d line ps k ks w f well));
-      fields_rise = h.fields_rise;
-      bounds_rise = h.bounds_rise;
-      impls_rise = each-more ImplRises d.impls y h.impls_rise (clause-rises d ps 0 [] k, clauses-rise d ps 0 [] ks);
-    }
+    let x = impl_of d (item_meanings d l 0) ps k ks in
+    impl-kept d x (header-kept d line ps k ks w f well h) h d.in_section
+    (λ q. got-there d.sections (length d.sections - 1) (least (length d.sections) (h.has_section q)) ∙ ap Some (ap (λ b. if b then last_changed d else last_crate d) (sym q)))
+    (λ q. (
+      ap (λ b. if b then last_later d else length d.impls) q,
+      subst (λ n. core < n) (ap (λ b. if b then last_changed d else last_crate d) (sym q)) (behind-core d ((belongs-to-crate d l f refl).0 q)),
+      (clause-rises d ps 0 [] k, clauses-rise d ps 0 [] ks),
+    ))
 
 -- ---- `core`
 abbrev core_trait_at : ℕ → NamedTrait
@@ -353,6 +508,10 @@ core-kept = record {
   fields_rise = ((refl, tt), tt);
   bounds_rise = (tt, ((refl, tt), ((refl, tt), (tt, (tt, (tt, ((refl, tt), ((refl, tt), (tt, tt)))))))));
   impls_rise = ((refl, tt), ((refl, tt), ((refl, tt), ((refl, tt), ((refl, tt), ((refl, tt), ((refl, tt), ((refl, tt), ((refl, tt), ((refl, tt), ((refl, tt), ((refl, tt), ((refl, tt), ((refl, tt), ((refl, tt), ((refl, tt), ((refl, tt), ((refl, tt), ((refl, (refl, tt)), ((refl, (refl, tt)), ((refl, tt), ((refl, tt), ((refl, tt), ((refl, tt), ((refl, tt), ((refl, tt), ((refl, tt), ((refl, tt), ((refl, tt), ((refl, tt), ((refl, tt), ((refl, tt), ((refl, tt), ((refl, tt), ((refl, tt), ((refl, tt), ((refl, tt), ((refl, tt), ((refl, (refl, tt)), tt)))))))))))))))))))))))))))))))))))))));
+  sections = tt;
+  has_section = λ e. absurd (false-true e);
+  later_headers = tt;
+  later_homes = tt;
 }
   where
     none-first : (n : ℕ) → 0 + n ≡ n
@@ -373,7 +532,7 @@ line-taken d line _ (other_byte a) h = tt
 line-taken d line _ (blank a b) h = h
 line-taken d line _ (unwritten a b u) h = tt
 line-taken d line _ (faulty l n a b w f) h = tt
-line-taken d line _ (adds l a b w f) h = record { well = line-added d line l w f h.well; formed = line-formed d line l w f h.well h.formed; kept = line-kept d line l w f h.well h.kept }
+line-taken d line _ (adds l a b w f) h = record { well = line-added d line l w f h.well; formed = line-formed d line l w f h.well h.formed; kept = line-kept d line l w f h.well h.formed h.kept }
 
 lines-taken : (d : Declarations) (k : ℕ) (ls : List (List ℕ)) (r : Result Declarations (ℕ × ℕ)) → LinesGive d k ls r → AllKept d → KeptIfTaken r
 lines-taken d k ls r (ends _ _) h = h

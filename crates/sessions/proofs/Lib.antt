@@ -59,6 +59,12 @@ pub mod RightAnswers
 mod ProvedQuestions
 mod BareAnswers
 mod OtherAnswers
+pub mod OpaqueTerms
+mod StrictSupertraits
+pub mod OpaqueImpls
+pub mod OpaqueFound
+pub mod HeaderChecks
+pub mod SupertraitAnswers
 mod ErasedHeads
 pub mod ImplGroups
 pub mod ByTrait
@@ -71,3 +77,5 @@ mod RisingBounds
 mod KeptTexts
 pub mod JoinedTexts
 pub mod CoherentTexts
+pub mod ScopedTexts
+pub mod LaterChecks

@@ -1,10 +1,10 @@
 -- Of a decided question the solver says neither `Unproved` nor `Maybe` wrongly.
-use Rattle.std.proofs.Common.{◌≡◌, ◌-◌, ℕ, Bool, true, false, not, ◌||◌, List, [], ◌∷◌, map, Option, Some, None, inl, inr, refl, sym, ◌∙◌, ap}
-use Rattle.model.specs.Answers.{IsDecided, is_variable}
+use Rattle.std.proofs.Common.{◌≡◌, ℕ, Bool, true, false, not, ◌||◌, List, [], ◌∷◌, map, Option, Some, None, inl, inr, refl, sym, ◌∙◌, ap, subst}
+use Rattle.model.specs.Answers.{SingleWay, IsDecided}
 use Rattle.model.specs.Label.{Label, Sort, of_type, of_const, of_lifetime, infer, canonical, bound}
 use Rattle.model.specs.Proofs.{HasProof}
 use Rattle.model.specs.Terms.{erased_reference}
-use Rattle.model.specs.Trees.{Trees, none, tree, erase, some_node}
+use Rattle.model.specs.Trees.{Trees, none, tree, some_node}
 use Rattle.model.specs.Worlds.{World, Reference}
 use Rattle.model.proofs.Members.{in-nothing}
 use Rattle.type_terms.specs.Made.{terms}
@@ -22,8 +22,10 @@ use Rattle.evaluation.specs.Tables.{frame_tables}
 use Rattle.evaluation.proofs.Labels.{IsGoodLabel, made-labels}
 use Rattle.evaluation.proofs.Reading.{EachLabel}
 use Rattle.root_goals.specs.Roots.{left_by}
+use Rattle.declarations.specs.Elaboration.{elaborate}
+use Rattle.declarations.specs.Items.{written}
 use Rattle.text_definitions.specs.Declarations.{Declarations, Question}
-use Rattle.view_lowering.specs.Plain.{all_kept, unbound_reference}
+use Rattle.view_lowering.specs.Plain.{unbound_reference, unbound_references}
 use Rattle.view_lowering.specs.QuestionVariables.{variable_kinds}
 use Rattle.view_lowering.specs.Questions.{IsQuestion}
 use Rattle.assembly_laws.specs.Facts.{FollowsByView}
@@ -32,21 +34,21 @@ use Rattle.candidate_assembly.specs.Ready.{IsReady}
 use Rattle.candidate_assembly.specs.Solving.{Solving, solver_for, coinductive_for}
 use Rattle.candidate_assembly.specs.declared.solver.Solver.{Solver}
 use Rattle.sessions.specs.Answers.{IsRightOf}
-use Rattle.sessions.specs.Decided.{IsQuestionAnswered}
+use Rattle.sessions.specs.Decided.{IsAnsweredRightly}
 use Rattle.sessions.specs.DecidedAnswers.{OtherAnswersAreRight}
-use Rattle.sessions.specs.Goals.{is_fixed, are_fixed}
+use Rattle.sessions.specs.Fitting.{sorts_in}
+use Rattle.sessions.specs.Goals.{goal_of, is_fixed, are_fixed}
 use Rattle.sessions.specs.Promises.{view_in}
 use Rattle.sessions.specs.Proving.{is_bound_term, goal_asking, IsRefusedGoal, IsUnsettledGoal}
+use Rattle.sessions.specs.Questions.{IsFormedAsWritten}
 use Rattle.sessions.specs.Sessions.{IsSolvingOf}
 use Rattle.sessions.specs.Subjects.{IsOfText}
 use Rattle.sessions.specs.Tables.{table_of}
 use Rattle.sessions.proofs.BareAnswers.{bare-is-left}
-use Rattle.sessions.proofs.DecidedAnswers.{decided-questions-are-answered}
-use Rattle.sessions.proofs.SeenPlainly.{plain-erased}
-use Rattle.sessions.proofs.TextQuestions.{written-if-closed}
+use Rattle.sessions.proofs.DecidedAnswers.{decided-are-answered, asked-is, clauses-are, formed-so, single}
 
 -- ---- terms in which nothing may get a value but lifetimes, which get none
-abbrev IsFixed : Label → Type 0
+abbrev pub IsFixed : Label → Type 0
 IsFixed l = IsGoodLabel is_fixed l
 
 node : (l : Label) {c d o p : Trees} → c ≡ d → o ≡ p → tree l c o ≡ tree l d p
@@ -65,7 +67,7 @@ replaced-stays k v r (tree (infer of_const w) c o) b h = absurd (false-true (h.0
 replaced-stays k v r (tree (infer of_lifetime w) c o) b h = lifetime-stays k v w r c o b ∙ ap (tree (infer of_lifetime w) c) (replaced-stays k v r o b h.2)
 replaced-stays k v r (tree l c o) b h = node l (replaced-stays k v r c b h.1) (replaced-stays k v r o b h.2)
 
-resolved-stays : (bs : List Binding) → AllValued bs → (t : Trees) → EachLabel IsFixed t → resolved bs t ≡ t
+pub resolved-stays : (bs : List Binding) → AllValued bs → (t : Trees) → EachLabel IsFixed t → resolved bs t ≡ t
 resolved-stays [] v t h = refl
 resolved-stays (b ∷ bs) v t h = ap (replace b.sort b.var (resolved bs b.value)) (resolved-stays bs v.1 t h) ∙ replaced-stays b.sort b.var (resolved bs b.value) t v.0 h
 
@@ -92,50 +94,74 @@ yes-is-bare a y = not-so (has_values a) (right (is_certain a.certainty) (not (ha
 some-none : (a : AnswerTrees) → Some a ≡ None → ⊥
 some-none a e = cc
 
-module _ (d : Declarations) (text : IsOfText d) (n : ℕ) (q : Question) (is : IsQuestion d n q) (s : Solving) (of : IsSolvingOf d q.asker s) (depth : ℕ)
-    (decided : IsDecided depth (view_in d q.asker) (map erased_reference q.clauses) (erased_reference q.asked)) where
+-- ---- a reference under where-clauses, asked over the table of unknowns of these kinds
+module _ (d : Declarations) (text : IsOfText d) (c : ℕ) (s : Solving) (of : IsSolvingOf d c s) (E : List Reference) (r : Reference)
+    (formed : IsFormedAsWritten (written of.entries of.declarations) (sorts_in of.declarations) E r) (ks : List Sort) (depth : ℕ)
+    (single : SingleWay depth (view_in d c) (map erased_reference E) (erased_reference r)) where
   abbrev V : World
-  V = view_in d q.asker
+  V = view_in d c
 
-  abbrev E : List Reference
-  E = map erased_reference q.clauses
+  abbrev own : List Reference
+  own = map erased_reference E
 
   abbrev goal : GoalTrees
-  goal = goal_asking s.view q
+  goal = goal_of (elaborate s.view E) r
 
-  answered : IsQuestionAnswered s depth V q
-  answered = decided-questions-are-answered d text n q is s of depth decided
+  answered : IsAnsweredRightly s depth V E r
+  answered = decided-are-answered d text c s of E r formed depth single
 
-  -- the table of a question refuses no definite yes
-  refused-unproved : IsRefusedGoal solver_for (λ s. FollowsByView s.view) coinductive_for (λ (h : Solver) es. IsReady es h.declarations) (λ (h : Solver) es. solving_of es h.declarations) s depth (variable_kinds q) goal
-      → HasProof V E (erased_reference q.asked) → ⊥
+  -- the table refuses no definite yes
+  pub refused-unproved : IsRefusedGoal solver_for (λ s. FollowsByView s.view) coinductive_for (λ (h : Solver) es. IsReady es h.declarations) (λ (h : Solver) es. solving_of es h.declarations) s depth ks goal
+      → HasProof V own (erased_reference r) → ⊥
   refused-unproved h proof = by h.0 h.2 (answered.found h.0 h.1)
     where
-      by : (a : Option AnswerTrees) → left_by (table_trees [] (table_of (variable_kinds q))) goal a ≡ None → IsRightOf V E (erased_reference q.asked) a → ⊥
+      by : (a : Option AnswerTrees) → left_by (table_trees [] (table_of ks)) goal a ≡ None → IsRightOf V own (erased_reference r) a → ⊥
       by a left (inr x) = x.0 proof
-      by (Some a) left (inl x) = bare-is-left (table_trees [] (table_of (variable_kinds q))) refl goal a (yes-is-bare a x.1) left
+      by (Some a) left (inl x) = bare-is-left (table_trees [] (table_of ks)) refl goal a (yes-is-bare a x.1) left
       by None left (inl x) = x.1
 
   -- no type and no constant that it asks about is unknown or bound
-  asked-fixed : are_fixed (unbound_reference q.asked).args ≡ true
-  asked-fixed =
-      let closed = ap (some_node is_variable) (plain-erased all_kept q.asked.args) ∙ not-so (some_node is_variable (erase q.asked.args)) decided.0 in
-      ((written-if-closed text.0 d text.1 (n - 1) q is.there of.entries of.declarations of.seen closed).asked [] refl (λ x t i j. absurd (in-nothing x i))).terms
+  asked-fixed : are_fixed r.args ≡ true
+  asked-fixed = (formed.asked [] refl (λ x t i j. absurd (in-nothing x i))).terms
 
   goal-fixed : EachLabel IsFixed goal.predicate
-  goal-fixed = (λ o. absurd (false-true o), made-labels is_fixed terms (unbound_reference q.asked).args asked-fixed, tt)
+  goal-fixed = (λ o. absurd (false-true o), made-labels is_fixed terms r.args asked-fixed, tt)
 
-  never-unsettled : IsUnsettledGoal solver_for (λ s. FollowsByView s.view) coinductive_for (λ (h : Solver) es. IsReady es h.declarations) (λ (h : Solver) es. solving_of es h.declarations) s depth goal → ⊥
+  pub never-unsettled : IsUnsettledGoal solver_for (λ s. FollowsByView s.view) coinductive_for (λ (h : Solver) es. IsReady es h.declarations) (λ (h : Solver) es. solving_of es h.declarations) s depth goal → ⊥
   never-unsettled (inl h) = answered.plainly h
   never-unsettled (inr (inl h)) = by (answered.found (Some h.0) h.1)
     where
-      by : IsRightOf V E (erased_reference q.asked) (Some h.0) → ⊥
+      by : IsRightOf V own (erased_reference r) (Some h.0) → ⊥
       by (inl x) = false-true (sym h.2 ∙ x.1)
       by (inr x) = some-none h.0 x.1
   never-unsettled (inr (inr h)) =
       let stays = resolved-stays (content h.0 h.1.values) (valued h.0 h.1.values) goal.predicate goal-fixed in
       false-true (sym (ap (some_node is_bound_term) stays ∙ none-bound goal.predicate goal-fixed) ∙ h.3)
 
+-- ---- questions
+module _ (d : Declarations) (text : IsOfText d) (n : ℕ) (q : Question) (is : IsQuestion d n q) (s : Solving) (of : IsSolvingOf d q.asker s) (depth : ℕ)
+    (decided : IsDecided depth (view_in d q.asker) (map erased_reference q.clauses) (erased_reference q.asked)) where
+  abbrev ks : List Sort
+  ks = variable_kinds q
+
+  abbrev E : List Reference
+  E = unbound_references q.clauses
+
+  abbrev r : Reference
+  r = unbound_reference q.asked
+
+  -- a proof of what is asked is one of its terms without binders
+  proof-there : HasProof (view_in d q.asker) (map erased_reference q.clauses) (erased_reference q.asked) → HasProof (view_in d q.asker) (map erased_reference E) (erased_reference r)
+  proof-there p =
+      subst (λ F. HasProof (view_in d q.asker) F (erased_reference r)) (sym (clauses-are d text n q is s of depth decided))
+      (subst (λ x. HasProof (view_in d q.asker) (map erased_reference q.clauses) x) (sym (asked-is d text n q is s of depth decided)) p)
+
+  unproved : IsRefusedGoal solver_for (λ s. FollowsByView s.view) coinductive_for (λ (h : Solver) es. IsReady es h.declarations) (λ (h : Solver) es. solving_of es h.declarations) s depth ks (goal_asking s.view q)
+      → HasProof (view_in d q.asker) (map erased_reference q.clauses) (erased_reference q.asked) → ⊥
+  unproved h p = refused-unproved d text q.asker s of E r (formed-so d text n q is s of depth decided) ks depth (single d text n q is s of depth decided) h (proof-there p)
+
+  never : IsUnsettledGoal solver_for (λ s. FollowsByView s.view) coinductive_for (λ (h : Solver) es. IsReady es h.declarations) (λ (h : Solver) es. solving_of es h.declarations) s depth (goal_asking s.view q) → ⊥
+  never h = never-unsettled d text q.asker s of E r (formed-so d text n q is s of depth decided) ks depth (single d text n q is s of depth decided) h
+
 pub other-answers-are-right : OtherAnswersAreRight
-other-answers-are-right d text n q is s of depth es =
-    (λ h decided proof. refused-unproved d text n q is s of depth decided h proof, λ h decided. never-unsettled d text n q is s of depth decided h)
+other-answers-are-right d text n q is s of depth es = (λ h decided proof. unproved d text n q is s of depth decided h proof, λ h decided. never d text n q is s of depth decided h)

@@ -32,43 +32,47 @@ use Rattle.assembly_laws.proofs.Stack.{elaborated-only}
 use Rattle.candidate_assembly.specs.Fitting.{solving_of}
 use Rattle.candidate_assembly.specs.Solving.{Solving}
 use Rattle.solver_exactness.specs.FormedFacts.{Sorts, IsFormedView}
-use Rattle.assembly_laws.specs.DeclaredWell.{IsDeclaredWell}
+use Rattle.assembly_laws.specs.DeclaredWell.{IsDeclaredWell, is_declared_well}
+use Rattle.assembly_laws.proofs.DeclaredWell.{tests-tell}
+use Rattle.view_lowering.proofs.WellSeen.{texts-seen-well}
 use Rattle.assembly_laws.specs.Meaning.{SelfTypesBegin}
 use Rattle.assembly_laws.proofs.ErasedCandidates.{without_lifetimes}
 use Rattle.assembly_laws.proofs.PlainRules.{Plain}
 use Rattle.text_definitions.specs.Declarations.{Declarations, Question, Variable}
-use Rattle.text_definitions.specs.Names.{own_from, own_unknowns}
+use Rattle.view_lowering.specs.Questions.{IsQuestion}
+use Rattle.text_definitions.specs.Names.{own_from}
 use Rattle.view_lowering.specs.Plain.{unbound_reference, unbound_references}
 use Rattle.view_lowering.specs.QuestionVariables.{number_of, variable_kinds}
-use Rattle.view_lowering.specs.Questions.{IsQuestion}
 use Rattle.view_lowering.specs.Ready.{AreSeen}
-use Rattle.overlap_check.specs.Questions.{FitKinds, filled, filled_reference}
+use Rattle.overlap_check.specs.Questions.{FitKinds, IsProveAnswer, filled, filled_reference}
 use Rattle.sessions.specs.Clauses.{AddSupertraits}
 use Rattle.sessions.specs.Fitting.{sorts_in}
-use Rattle.sessions.specs.Goals.{is_fixed, are_fixed}
+use Rattle.sessions.specs.Goals.{goal_of, is_fixed, are_fixed}
 use Rattle.sessions.specs.Proved.{fact_with_values}
 use Rattle.sessions.specs.ProvedQuestions.{YesIsRight}
 use Rattle.sessions.specs.Given.{answer_in}
 use Rattle.sessions.specs.Promises.{IsProved, view_in}
-use Rattle.sessions.specs.Proving.{is_bound_term, goal_asking, IsAnsweredBySolver}
+use Rattle.sessions.specs.Sessions.{IsSolvingOf}
+use Rattle.sessions.specs.Proving.{is_bound_term, IsAnsweredBySolver, IsGoalAnswered}
 use Rattle.sessions.specs.Questions.{AreFixedReferences}
 use Rattle.sessions.specs.Subjects.{IsOfText}
 use Rattle.sessions.specs.Tables.{count_of}
 use Rattle.sessions.specs.Values.{unknowns_from, values_in}
 use Rattle.sessions.specs.declared.answers.ProveAnswer.TheVariants.{Yes}
 use Rattle.sessions.proofs.Clauses.{supertraits-prove-no-more}
-use Rattle.sessions.proofs.ElaboratedClauses.{IsFormedClause, levels-erased}
+use Rattle.sessions.proofs.ElaboratedClauses.{IsFormedClause, all-are-fixed, elaborated-formed, levels-erased}
 use Rattle.sessions.proofs.Filled.{values-fill}
 use Rattle.sessions.proofs.PlainProofs.{plain-proof}
 use Rattle.sessions.proofs.SeenPlainly.{rules-are, seen-begin, seen-erased}
 use Rattle.sessions.proofs.WithoutLifetimes.{FieldsAreErased, erased-is}
 use Rattle.sessions.proofs.Itself.{themselves, themselves-read}
-use Rattle.sessions.proofs.QuestionTerms.{is_own, AreFixedTerms, so-below}
+use Rattle.sessions.proofs.QuestionTerms.{is_own, so-below}
 use Rattle.sessions.proofs.Refusals.{plain-erased}
-use Rattle.sessions.proofs.TextQuestions.{fixed, well, view, clause-formed, elaborated-fixed}
+use Rattle.sessions.proofs.FormedViews.{texts-views-are-formed}
+use Rattle.sessions.proofs.TextQuestions.{fixed, clause-formed}
 
 -- ---- trees of good labels
-abbrev AllGood : (Label → Bool) → Trees → Type 0
+abbrev pub AllGood : (Label → Bool) → Trees → Type 0
 AllGood good none = Unit {0}
 AllGood good (tree l c o) = (good l ≡ true) × AllGood good c × AllGood good o
 
@@ -157,7 +161,7 @@ children-plain none h = refl
 children-plain (tree l c o) h = child-shut is_unerased l c o h
 
 -- ---- where-clauses
-clean-fixed : (t : Trees) → AllGood is_fixed t → HasNoCanonical t
+pub clean-fixed : (t : Trees) → AllGood is_fixed t → HasNoCanonical t
 clean-fixed none h = tt
 clean-fixed (tree (canonical k i) c o) h = absurd (false-true h.0)
 clean-fixed (tree l c o) h = (clean-fixed c h.1, clean-fixed o h.2)
@@ -172,7 +176,7 @@ inner : {l : Label} {c d o p : Trees} → c ≡ d → o ≡ p → tree l c o ≡
 inner e f = cc
 
 -- values change nothing in which no unknown stands
-filled-fixed : (ks : List Sort) (us : List Trees) (t : Trees) → AllGood is_fixed t → filled ks us (erase t) ≡ erase t
+pub filled-fixed : (ks : List Sort) (us : List Trees) (t : Trees) → AllGood is_fixed t → filled ks us (erase t) ≡ erase t
 filled-fixed ks us none h = refl
 filled-fixed ks us (tree (infer of_type v) c o) h = absurd (false-true h.0)
 filled-fixed ks us (tree (infer of_const v) c o) h = absurd (false-true h.0)
@@ -191,7 +195,7 @@ filled-fixed ks us (tree (bound of_const j i) c o) h = inner (filled-fixed ks us
 filled-fixed ks us (tree (bound of_lifetime j i) c o) h = inner (filled-fixed ks us c h.1) (filled-fixed ks us o h.2)
 filled-fixed ks us (tree l c o) h = inner (filled-fixed ks us c h.1) (filled-fixed ks us o h.2)
 
-args-fixed : (t : Trees) → are_fixed t ≡ true → AllGood is_fixed t
+pub args-fixed : (t : Trees) → are_fixed t ≡ true → AllGood is_fixed t
 args-fixed t h = all-good is_fixed refl (λ n i. refl) (λ i. refl) terms t h
 
 clauses-instance : (s : Assignment) (F : List Reference) → AreFixedReferences F → instance s (trees_of_clauses F) ≡ trees_of_clauses (map erased_reference F)
@@ -208,7 +212,7 @@ clauses-clean : (F : List Reference) → AreFixedReferences F → HasNoCanonical
 clauses-clean [] h = tt
 clauses-clean (r ∷ F) h = (clean-fixed r.args (args-fixed r.args (left (are_fixed r.args) _ h)), clauses-clean F (right (are_fixed r.args) _ h))
 
-abbrev reference : ℕ → Trees → Reference
+abbrev pub reference : ℕ → Trees → Reference
 reference t x = record { trait = t; args = x }
 
 clauses-erased : (rs : List Reference) → map erased_reference (unbound_references rs) ≡ map erased_reference rs
@@ -231,53 +235,30 @@ own-are t c (v ∷ vs) = by v.kind (λ m k. own-are m k vs)
     by of_const e = ap (λ us. leaf (infer of_const c) ∷ us) (e t (suc c))
     by of_lifetime e = ap (λ us. leaf (infer of_lifetime 0) ∷ us) (e t c)
 
--- ---- questions
-module _ (d : Declarations) (text : IsOfText d) (n : ℕ) (q : Question) (is : IsQuestion d n q) (items : List Entry) (decls : Items) (seen : AreSeen items decls d q.asker) where
+-- ---- a reference under where-clauses
+module _ (d : Declarations) (text : IsOfText d) (c : ℕ) (items : List Entry) (decls : Items) (seen : AreSeen items decls d c) (ks : List Sort) (E : List Reference) (r : Reference)
+    (each : (x : Reference) → In x E → IsFormedClause (written items decls) (sorts_in decls) x) where
   abbrev V : World
   V = written items decls
 
   abbrev sorts : Sorts
   sorts = sorts_in decls
 
-  abbrev E : List Reference
-  E = unbound_references q.clauses
-
   abbrev all : List Reference
   all = elaborate V E
 
-  abbrev r : Reference
-  r = unbound_reference q.asked
-
-  abbrev ks : List Sort
-  ks = variable_kinds q
-
   abbrev g : GoalTrees
-  g = goal_asking V q
-
-  own : AreFixedTerms q
-  own = fixed text.0 d text.1 (n - 1) q is.there items decls seen
-
-  good : AllGood (is_own ks) r.args
-  good = all-good (is_own ks) refl (λ m t. refl) (λ t. refl) terms r.args own.own
-
-  proper-args : IsProper r.args
-  proper-args = proper r.args (made-leaves (is_own ks) terms r.args own.own)
-
-  all-fixed : AreFixedReferences all
-  all-fixed = elaborated-fixed text.0 d text.1 (n - 1) q is.there items decls seen
-
-  without : IsWithoutCanonical g
-  without = record { environment = clauses-clean all all-fixed; predicate = (clean-own ks r.args good, tt) }
+  g = goal_of all r
 
   -- by the clauses alone
   declared : IsDeclaredWell V
-  declared = well text.0 d text.1 (n - 1) q is.there items decls seen
+  declared = tests-tell V (ap is_declared_well seen.written ∙ texts-seen-well text.0 d text.1 c)
 
   formed : IsFormedView V sorts
-  formed = view text.0 d text.1 (n - 1) q is.there items decls seen
+  formed = texts-views-are-formed text.0 d text.1 c items decls seen
 
-  each : (x : Reference) → In x E → IsFormedClause V sorts x
-  each = clause-formed text.0 d text.1 (n - 1) q is.there items decls seen
+  all-fixed : AreFixedReferences all
+  all-fixed = all-are-fixed V sorts declared formed E each all (elaborated-formed V sorts declared formed E each)
 
   adds : AddSupertraits V (map erased_reference E) (map erased_reference all)
   adds x i =
@@ -285,76 +266,119 @@ module _ (d : Declarations) (text : IsOfText d) (n : ℕ) (q : Question) (is : I
       subst (λ zs. In x zs) (sym (levels-erased V sorts declared formed E each))
       (subst (λ z. In z (map erased_reference (elaborated V E))) m.2 (in-map erased_reference (elaborated V E) m.0 (elaborated-only V declared.rank declared.acyclic E m.0 m.1)))
 
-  fewer : (x : Reference) → HasProof V (map erased_reference all) x → HasProof V (map erased_reference q.clauses) x
-  fewer x p =
-      subst (λ zs. HasProof V zs x) (clauses-erased q.clauses)
-      (supertraits-prove-no-more V declared.rank declared.acyclic (map erased_reference E) (map erased_reference all) adds x p)
+  fewer : (x : Reference) → HasProof V (map erased_reference all) x → HasProof V (map erased_reference E) x
+  fewer x p = supertraits-prove-no-more V declared.rank declared.acyclic (map erased_reference E) (map erased_reference all) adds x p
 
   -- ---- up to lifetimes
   begin : SelfTypesBegin V
-  begin = subst SelfTypesBegin (sym seen.written) (seen-begin text.0 d text.1 q.asker)
+  begin = subst SelfTypesBegin (sym seen.written) (seen-begin text.0 d text.1 c)
 
   erased : FieldsAreErased V
-  erased = subst FieldsAreErased (sym seen.written) (seen-erased d q.asker)
+  erased = subst FieldsAreErased (sym seen.written) (seen-erased d c)
 
   abbrev cs : List CrateDecl
-  cs = (view_in d q.asker).crates
+  cs = (view_in d c).crates
 
-  view-is : view_in d q.asker ≡ without_lifetimes V cs
-  view-is = ap (λ (W : World). record W { crates = cs }) (sym (rules-are items decls d q.asker seen.written)) ∙ erased-is V declared cs
+  view-is : view_in d c ≡ without_lifetimes V cs
+  view-is = ap (λ (W : World). record W { crates = cs }) (sym (rules-are items decls d c seen.written)) ∙ erased-is V declared cs
 
   -- with these values it has a proof
   abbrev IsProvedWith : List Trees → Type 0
-  IsProvedWith ts = FitKinds ks ts × HasProof (view_in d q.asker) (map erased_reference q.clauses) (filled_reference ks ts (erased_reference q.asked))
+  IsProvedWith ts = FitKinds ks ts × HasProof (view_in d c) (map erased_reference E) (filled_reference ks ts (erased_reference r))
 
-  -- ---- values that a table gives
-  module _ (fs : List Entry) (t : Table) (ready : Ready fs t) where
-    abbrev bs : List Binding
-    bs = content fs t.values
+  -- the reference with a table's values
+  abbrev Asked : List Binding → Type 0
+  Asked bs = reference_in (fact_with_values bs g) ≡ filled_reference ks (values_in bs ks) (erased_reference r)
 
-    abbrev f : Fact
-    f = fact_with_values bs g
+  module _ (clean : HasNoCanonical r.args) (asked : (fs : List Entry) (t : Table) → Ready fs t → Asked (content fs t.values)) where
+    without : IsWithoutCanonical g
+    without = record { environment = clauses-clean all all-fixed; predicate = (clean, tt) }
 
-    abbrev ts : List Trees
-    ts = values_in bs ks
+    -- ---- values that a table gives
+    module _ (fs : List Entry) (t : Table) (ready : Ready fs t) where
+      abbrev bs : List Binding
+      bs = content fs t.values
 
-    clauses : clauses_of f.goal.environment ≡ map erased_reference all
-    clauses =
-        ap clauses_of (sym (themselves-read fs t ready g.environment (clauses-proper all all-fixed)) ∙ clauses-instance (themselves fs t ready) all all-fixed)
-        ∙ references-come-back (map erased_reference all)
+      abbrev f : Fact
+      f = fact_with_values bs g
 
-    asked : reference_in f ≡ filled_reference ks ts (erased_reference q.asked)
-    asked =
-        ap (λ z. reference q.asked.trait (children_of z)) (sym (themselves-read fs t ready g.predicate (proper-args, tt)))
-        ∙ ap (reference q.asked.trait) (themselves-read fs t ready r.args proper-args)
-        ∙ ap (reference q.asked.trait) (sym ((values-fill fs t ready ks).1 r.args proper-args (known ks r.args good)))
-        ∙ ap (λ z. reference q.asked.trait (filled ks ts z)) (plain-erased q.asked.args)
+      abbrev ts : List Trees
+      ts = values_in bs ks
 
-    -- it is plain, for nothing bound stands there
-    plain-asked : some_node is_bound_term (resolved bs g.predicate) ≡ false → Plain (filled_reference ks ts (erased_reference q.asked)).args
-    plain-asked unbound = subst (λ (x : Reference). Plain x.args) asked (children-plain (erase (resolved bs g.predicate)) (all-plain (resolved bs g.predicate) unbound))
+      clauses : clauses_of f.goal.environment ≡ map erased_reference all
+      clauses =
+          ap clauses_of (sym (themselves-read fs t ready g.environment (clauses-proper all all-fixed)) ∙ clauses-instance (themselves fs t ready) all all-fixed)
+          ∙ references-come-back (map erased_reference all)
 
-    abbrev x : Reference
-    x = filled_reference ks ts (erased_reference q.asked)
+      abbrev x : Reference
+      x = filled_reference ks ts (erased_reference r)
 
-    proved : some_node is_bound_term (resolved bs g.predicate) ≡ false → Lists.HasProof Fact (FollowsByView V) (is_coinductive_fact V) f → IsProvedWith ts
-    proved unbound p = (
-      (values-fill fs t ready ks).0,
-      subst (λ (W : World). HasProof W (map erased_reference q.clauses) x) (sym view-is)
-          (plain-proof V declared begin erased cs (map erased_reference q.clauses) x (plain-asked unbound)
-          (fewer x
-          (subst (λ zs. HasProof V zs x) clauses
-          (subst (λ y. HasProof V (clauses_of f.goal.environment) y) asked (proofs-of-facts V f refl (ap not (all-plain (resolved bs g.predicate) unbound)) p))))),
-    )
+      -- it is plain, for nothing bound stands there
+      plain-asked : some_node is_bound_term (resolved bs g.predicate) ≡ false → Plain x.args
+      plain-asked unbound = subst (λ (y : Reference). Plain y.args) (asked fs t ready) (children-plain (erase (resolved bs g.predicate)) (all-plain (resolved bs g.predicate) unbound))
 
-  values-are : (bs : List Binding) (xs : List Trees) → xs ≡ map (λ u. resolved bs u) (own_unknowns q) → map erase xs ≡ values_in bs ks
-  values-are bs xs e = ap (map erase) e ∙ over (λ u. resolved bs u) erase (own_unknowns q) ∙ ap (map (λ u. erase (resolved bs u))) (own-are 0 0 q.variables)
+      proved : some_node is_bound_term (resolved bs g.predicate) ≡ false → Lists.HasProof Fact (FollowsByView V) (is_coinductive_fact V) f → IsProvedWith ts
+      proved unbound p = (
+        (values-fill fs t ready ks).0,
+        subst (λ (W : World). HasProof W (map erased_reference E) x) (sym view-is)
+            (plain-proof V declared begin erased cs (map erased_reference E) x (plain-asked unbound)
+            (fewer x
+            (subst (λ zs. HasProof V zs x) clauses
+            (subst (λ y. HasProof V (clauses_of f.goal.environment) y) (asked fs t ready) (proofs-of-facts V f refl (ap not (all-plain (resolved bs g.predicate) unbound)) p))))),
+      )
 
-  yes : (limit depth : ℕ) (es : List Entry) (values : Vec GenericArgKind) → IsAnsweredBySolver (solving_of items decls) depth q es (Yes values) → IsProved limit d q (answer_in es (Yes values))
+    values-are : (bs : List Binding) (xs : List Trees) → xs ≡ map (λ u. resolved bs u) (unknowns_from 0 0 ks) → map erase xs ≡ values_in bs ks
+    values-are bs xs e = ap (map erase) e ∙ over (λ u. resolved bs u) erase (unknowns_from 0 0 ks)
+
+    -- a yes is right
+    pub yes-proves : (limit depth : ℕ) (es : List Entry) (values : Vec GenericArgKind) → IsGoalAnswered (solving_of items decls) depth ks g (unknowns_from 0 0 ks) es (Yes values)
+        → IsProveAnswer limit (view_in d c) ks (map erased_reference E) (erased_reference r) (answer_in es (Yes values))
+    yes-proves limit depth es values h =
+        subst IsProvedWith (sym (sym (over (arg_trees es) erase values.items) ∙ values-are (content h.entries h.table.values) (map (arg_trees es) values.items) h.are))
+        (proved h.entries h.table h.ready h.unbound (h.proved without))
+
+-- ---- of unknowns of these kinds
+module _ (ks : List Sort) (E : List Reference) (r : Reference) (own : is_made (is_own ks) terms r.args ≡ true) where
+  good : AllGood (is_own ks) r.args
+  good = all-good (is_own ks) refl (λ m t. refl) (λ t. refl) terms r.args own
+
+  proper-args : IsProper r.args
+  proper-args = proper r.args (made-leaves (is_own ks) terms r.args own)
+
+  asked-with : (F : List Reference) (fs : List Entry) (t : Table) (ready : Ready fs t)
+      → reference_in (fact_with_values (content fs t.values) (goal_of F r)) ≡ filled_reference ks (values_in (content fs t.values) ks) (erased_reference r)
+  asked-with F fs t ready =
+      ap (λ z. reference r.trait (children_of z)) (sym (themselves-read fs t ready (goal_of F r).predicate (proper-args, tt)))
+      ∙ ap (reference r.trait) (themselves-read fs t ready r.args proper-args)
+      ∙ ap (reference r.trait) (sym ((values-fill fs t ready ks).1 r.args proper-args (known ks r.args good)))
+
+-- ---- questions
+module _ (d : Declarations) (text : IsOfText d) (n : ℕ) (q : Question) (is : IsQuestion d n q) (s : Solving) (of : IsSolvingOf d q.asker s) where
+  abbrev kinds : List Sort
+  kinds = variable_kinds q
+
+  abbrev E : List Reference
+  E = unbound_references q.clauses
+
+  abbrev asked : Reference
+  asked = unbound_reference q.asked
+
+  abbrev W : World
+  W = written of.entries of.declarations
+
+  own : is_made (is_own kinds) terms asked.args ≡ true
+  own = (fixed text.0 d text.1 (n - 1) q is.there of.entries of.declarations of.seen).own
+
+  each : (x : Reference) → In x E → IsFormedClause W (sorts_in of.declarations) x
+  each = clause-formed text.0 d text.1 (n - 1) q is.there of.entries of.declarations of.seen
+
+  yes : (limit depth : ℕ) (es : List Entry) (values : Vec GenericArgKind) → IsAnsweredBySolver s depth q es (Yes values) → IsProved limit d q (answer_in es (Yes values))
   yes limit depth es values h =
-      subst IsProvedWith (sym (sym (over (arg_trees es) erase values.items) ∙ values-are (content h.entries h.table.values) (map (arg_trees es) values.items) h.are))
-      (proved h.entries h.table h.ready h.unbound (h.proved without))
+      subst (λ F. IsProveAnswer limit (view_in d q.asker) kinds F (erased_reference q.asked) (answer_in es (Yes values))) (clauses-erased q.clauses)
+      (subst (λ x. IsProveAnswer limit (view_in d q.asker) kinds (map erased_reference E) x (answer_in es (Yes values))) (ap (reference q.asked.trait) (plain-erased q.asked.args))
+      (yes-proves d text q.asker of.entries of.declarations of.seen kinds E asked each (clean-own kinds asked.args (good kinds E asked own)) (asked-with kinds E asked own (elaborate W E)) limit depth es values
+      (subst (λ us. IsGoalAnswered (solving_of of.entries of.declarations) depth kinds (goal_of (elaborate W E) asked) us es (Yes values)) (own-are 0 0 q.variables)
+      (subst (λ (x : Solving). IsAnsweredBySolver x depth q es (Yes values)) of.is h))))
 
 pub yes-is-right : YesIsRight
-yes-is-right d text n q is s of limit depth es values h =
-    yes d text n q is of.entries of.declarations of.seen limit depth es values (subst (λ (x : Solving). IsAnsweredBySolver x depth q es (Yes values)) of.is h)
+yes-is-right d text n q is s of limit depth es values h = yes d text n q is s of limit depth es values h

@@ -1,5 +1,5 @@
 -- The types of a question are made as terms are, of placeholders and its own unknowns and no other open places, once they are plain.
-use Rattle.std.proofs.Common.{◌≡◌, ℕ, suc, Bool, true, false, ◌&&◌, ◌||◌, List, [], ◌∷◌, ◌++◌, map, length, Option, Some, None, Result, Ok, Err, refl, sym, ap, ◌∙◌, subst, arith}
+use Rattle.std.proofs.Common.{◌≡◌, ℕ, suc, ◌-◌, Bool, true, false, ◌&&◌, ◌||◌, List, [], ◌∷◌, ◌++◌, map, length, Option, Some, None, Result, Ok, Err, refl, sym, ap, ◌∙◌, subst, arith}
 use Rattle.std.proofs.lemmas.Bool.{eqb-true}
 use Rattle.std.proofs.lemmas.Bool.Decides.{nat_tests}
 use Rattle.std.specs.Prelude.{not, ltb, ◌<◌, if◌then◌else◌, ◌==◌, ◌+◌}
@@ -12,12 +12,12 @@ use Rattle.model.specs.Worlds.{Reference}
 use Rattle.type_terms.specs.Made.{terms, bounds, traits, is_made}
 use Rattle.type_terms.proofs.Made.{false-true, made-weaker}
 use Rattle.declarations.specs.Merges.{Each}
-use Rattle.text_definitions.specs.Syntax.{TypeTree, of_primitive, never_type, variable_type, named, reference_to, pointer_to, slice_of, array_of, tuple_of, fn_of, fn_to, dyn_of, Types, no_types, and_type, Args, no_args, and_arg, Arg, lifetime_arg, number_arg, type_arg, Item, bound_item, lifetime_item, Items, no_items, and_item, Length, number_length, name_length, variable_length, Clause, Line, crate_line, struct_line, trait_line, impl_line, prove_line, refute_line}
-use Rattle.text_definitions.specs.Declarations.{Declarations, Question, Variable, Known, a_crate, a_struct, a_trait, known, nothing_declared}
+use Rattle.text_definitions.specs.Syntax.{TypeTree, of_primitive, never_type, variable_type, named, reference_to, pointer_to, slice_of, array_of, tuple_of, fn_of, fn_to, dyn_of, Types, no_types, and_type, Args, no_args, and_arg, Arg, lifetime_arg, number_arg, type_arg, Item, bound_item, lifetime_item, Items, no_items, and_item, Length, number_length, name_length, variable_length, Clause, Line, crate_line, struct_line, trait_line, impl_line, prove_line, refute_line, later_line, supers_line}
+use Rattle.text_definitions.specs.Declarations.{Declarations, NamedImpl, Question, Variable, Known, a_crate, a_struct, a_trait, known, nothing_declared}
 use Rattle.text_definitions.specs.Uses.{Use, name_use, trait_use, variable_use, dyn_use, items_use, item_shape, item_shapes, args_count, types_count, kinds_of_struct, kinds_of_trait, next_kind, other_kinds, length_uses, lifetime_uses, binder_uses, type_uses, types_uses, args_uses, arg_uses, item_uses, items_uses, bound_uses, clause_uses, params_of}
 use Rattle.text_definitions.specs.Faults.{fault_of, with_own, is_among, is_param, is_param_of, is_type_of, static_name, is_late, is_auto_name, is_any, variables_in, once, is_of_other_kind}
 use Rattle.text_definitions.specs.Lowering.{Meanings, place_among, variable_label, type_label, lifetime_under, lifetime_label, optional_lifetime, length_label, struct_label, trait_number, auto_leaves, autos, with_auto, item_lifetime, last_lifetime, type_tree, types_trees, args_trees, arg_tree, item_tree, items_trees, clause_reference}
-use Rattle.text_definitions.specs.Adding.{added, question_of, question_meanings}
+use Rattle.text_definitions.specs.Adding.{added, impl_of, item_meanings, question_of, question_meanings}
 use Rattle.text_definitions.specs.Written.{IsWritten}
 use Rattle.text_definitions.specs.Text.{LineGives, other_byte, blank, unwritten, faulty, adds, LinesGive, ends, fails, goes_on, TextGives, too_long, fits}
 use Rattle.line_reader.specs.Faultless.{UseFits, UsesFit}
@@ -421,7 +421,16 @@ line-fixed : (d : Declarations) (text : List ℕ) (l : Line) → IsWritten text 
 line-fixed d text (crate_line n us) w f h = h
 line-fixed d text (struct_line g n ps fs) w f h = h
 line-fixed d text (trait_line g b n ps bs) w f h = h
-line-fixed d text (impl_line ps k ks) w f h = h
+line-fixed d text (impl_line ps k ks) w f h = by d.in_section
+  where
+    x : NamedImpl
+    x = impl_of d (item_meanings d (impl_line ps k ks) 0) ps k ks
+
+    by : (b : Bool) → Each AreFixedTerms (if b then record d { later_impls = d.later_impls ++ record { section = length d.sections - 1; added = x } ∷ [] } else record d { impls = d.impls ++ x ∷ [] }).questions
+    by true = h
+    by false = h
+line-fixed d text (later_line n) w f h = h
+line-fixed d text (supers_line n) w f h = h
 line-fixed d text (prove_line c ps a ks) w f h =
     let l = prove_line c ps a ks in
     let vs = variables_in (clause_uses d a) in

@@ -92,7 +92,7 @@ module _ (es fs : List Entry) (d e : Items) (same : solving_of es d ≡ solving_
   sorts-alike : (t : ℕ) (ss : List Sort) → are_of_trait e t ss ≡ true → are_of_trait d t ss ≡ true
   sorts-alike t ss h = fitting-form d t ss (subst (λ (s : Solving). s.fits (form_of t ss) ≡ true) (sym same) (form-fits e t ss h))
 
-  applied-alike : (held : List Entry) (r : TraitRef) → IsApplied held e r → IsApplied held d r
+  pub applied-alike : (held : List Entry) (r : TraitRef) → IsApplied held e r → IsApplied held d r
   applied-alike held r h =
       let ss = sorts_of (trees_at held r.args.0) in
       record {

@@ -380,7 +380,7 @@ module _ (V : World) (well : IsDeclaredWell V) (begin : SelfTypesBegin V) (erase
   within-same zero r = refl
   within-same (suc n) r = flat-same (λ s. s ∷ strict_supertraits_within n U s) (λ s. s ∷ strict_supertraits_within n V s) (written_supertraits V r) (λ s i. ap (λ z. s ∷ z) (within-same n s))
 
-  supers-same : (r : Reference) → strict_supertraits U r ≡ strict_supertraits V r
+  pub supers-same : (r : Reference) → strict_supertraits U r ≡ strict_supertraits V r
   supers-same r = within-same (length V.traits) r
 
   elaborated-same : (rs : List Reference) → elaborated U rs ≡ elaborated V rs

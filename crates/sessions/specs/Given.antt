@@ -11,6 +11,11 @@ use Rattle.sessions.specs.declared.answers.ProveAnswer.{ProveAnswer}
 use Rattle.sessions.specs.declared.answers.ProveAnswer.TheVariants.{Yes, Maybe, Unproved}
 use Rattle.sessions.specs.declared.answers.RefuteAnswer.{RefuteAnswer}
 use Rattle.sessions.specs.declared.answers.RefuteAnswer.TheVariants.{No, Open}
+use Rattle.sessions.specs.declared.answers.LaterAnswer.{LaterAnswer}
+use Rattle.sessions.specs.declared.answers.LaterAnswer.TheVariants.{Compatible, Breaking}
+use Rattle.sessions.specs.declared.answers.SupersAnswer.{SupersAnswer}
+use Rattle.sessions.specs.declared.answers.SupersAnswer.TheVariants.{Held, Missing, Undecided}
+use Rattle.sessions.specs.Releases as releases
 use Rattle.sessions.specs.declared.answers.Verdict.{Verdict}
 use Rattle.sessions.specs.declared.answers.Verdict.TheVariants.{Accepted, Orphan, Overlap}
 
@@ -29,6 +34,15 @@ answer_in es Unproved = answers.unproved
 abbrev pub refutation_of : RefuteAnswer → answers.RefuteAnswer
 refutation_of No = answers.no
 refutation_of Open = answers.unrefuted
+
+abbrev pub later_of : LaterAnswer → releases.LaterAnswer
+later_of Compatible = releases.compatible
+later_of (Breaking n) = releases.breaking n
+
+abbrev pub supers_of : SupersAnswer → releases.SupersAnswer
+supers_of Held = releases.held
+supers_of (Missing k j) = releases.missing k.index j
+supers_of (Undecided k j) = releases.undecided k.index j
 
 -- The types of a verdict's error are the interner's.
 abbrev pub VerdictHeld : List Entry → Verdict → Type 0

@@ -18,10 +18,15 @@ pub mod Numbers
 pub mod Decided
 pub mod Asking
 pub mod Promises
+pub mod ScopedTexts
 pub mod JoinedTexts
 pub mod CoherentTexts
+pub mod Releases
+pub mod Placeholders
+pub mod Supertraits
 pub mod Refusals
 pub mod Given
+pub mod Later
 pub mod PairGoals
 pub mod OpenPairs
 pub mod Checking

@@ -118,8 +118,11 @@ SolvesTheSame old new = solving_of (entries_of new) new.handler.declarations ≡
 abbrev pub ClausesApply : Items → Question → Type 0
 ClausesApply d q = (es : List Entry) (l : LoweredQuestion) → IsLowered es q l → AreApplied es d l.clauses.items
 
--- What the solver's answer to a question says.
+-- What the solver's answer says of a goal that was asked over the table of unknowns of these kinds.
+abbrev pub IsGoalAnswered : Solving → ℕ → List Sort → GoalTrees → List Trees → List Entry → ProveAnswer → Type 0
+IsGoalAnswered s depth ks g us es a =
+    IsAnswered solver_for (λ s. FollowsByView s.view) coinductive_for (λ (h : Solver) es. IsReady es h.declarations) (λ (h : Solver) es. solving_of es h.declarations) s depth ks g us es a
+
+-- What it says of a question.
 abbrev pub IsAnsweredBySolver : Solving → ℕ → Question → List Entry → ProveAnswer → Type 0
-IsAnsweredBySolver s depth q es a =
-    IsAnswered solver_for (λ s. FollowsByView s.view) coinductive_for (λ (h : Solver) es. IsReady es h.declarations) (λ (h : Solver) es. solving_of es h.declarations) s depth
-    (variable_kinds q) (goal_asking s.view q) (own_unknowns q) es a
+IsAnsweredBySolver s depth q es a = IsGoalAnswered s depth (variable_kinds q) (goal_asking s.view q) (own_unknowns q) es a

@@ -34,3 +34,23 @@ pub enum RefuteAnswer {
     /// It was not refused.
     Open,
 }
+
+/// Whether the impls of a section make a later version of their crate.
+#[derive(Clone, Copy, PartialEq, Eq)]
+pub enum LaterAnswer {
+    /// A later version of the crate may add each of them.
+    Compatible,
+    /// It may not: the impl of this number of the section, from 1, is the first that it may not add.
+    Breaking(u32),
+}
+
+/// Whether the headers of a crate's impls have their supertraits proved.
+#[derive(Clone, Copy, PartialEq, Eq)]
+pub enum SupersAnswer {
+    /// Each supertrait of each header has a proof from the impl's where-clauses.
+    Held,
+    /// No proof of this supertrait of this impl's header was found. Supertraits count from 1, as `supertraits` gives them.
+    Missing(ImplId, u32),
+    /// It is not settled whether this supertrait has one.
+    Undecided(ImplId, u32),
+}

@@ -17,24 +17,29 @@ mod by_trait;
 mod checked;
 mod decided_answers;
 mod impossible;
+mod later;
 pub mod laws;
 mod limits;
 mod obligations;
 mod pair_laws;
+mod placeholders;
 mod proved_questions;
 mod proving;
 mod question_laws;
 mod refuted;
 mod session;
 pub mod settling;
+mod supertrait_laws;
+mod supertraits;
 pub mod table;
 mod text_laws;
 pub mod values;
 mod view;
 mod written;
 
-pub use answers::{ProveAnswer, RefuteAnswer, Verdict};
+pub use answers::{LaterAnswer, ProveAnswer, RefuteAnswer, SupersAnswer, Verdict};
 pub use impossible::is_impossible;
+pub use later::added_impls_break_no_user;
 pub use limits::Limits;
 pub use obligations::has_impossible_obligation;
 pub use orphan_check::errors::{OrphanCheckErr, UncoveredTyParams};
@@ -46,6 +51,8 @@ pub use question_laws::{
     texts_are_formed,
 };
 pub use session::Session;
-pub use text_laws::{accepted_texts_are_coherent, held_texts_are_coherent, texts_are_joined};
+pub use text_laws::{
+    accepted_texts_are_coherent, held_texts_are_coherent, impls_are_in_scope, texts_are_joined,
+};
 pub use view::{declarations_are_ready, impls_are_numbered};
 pub use written::ready_impls_are_written_well;

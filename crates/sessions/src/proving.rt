@@ -7,15 +7,17 @@ ghost use Rattle.type_terms.specs.Terms.{Has, Keeps, args_lists, trees_at};
 ghost use Rattle.term_folds.specs.Arguments.{arg_sort};
 ghost use Rattle.declarations.specs.Applied.{AllHeld, AreApplied, references_in};
 ghost use Rattle.declarations.specs.Elaboration.{elaborate};
-ghost use Rattle.declarations.specs.Items.{written};
+ghost use Rattle.declarations.specs.Held.{ReferenceHeld};
+ghost use Rattle.declarations.specs.Items.{reference_in, written};
 ghost use Rattle.infer_table.specs.Content.{Ready};
 ghost use Rattle.infer_table.specs.Goals.{GoalHeld, goal_trees};
+ghost use Rattle.sessions.specs.Goals.{goal_of};
 ghost use Rattle.text_definitions.specs.Declarations.{Question};
 ghost use Rattle.view_lowering.specs.Questions.{IsQuestion, IsLowered};
 ghost use Rattle.root_goals.specs.Contexts.{Advances, IsReady};
 ghost use Rattle.candidate_assembly.specs.Fitting.{solving_of};
 ghost use Rattle.sessions.specs.Given.{AnswerHeld};
-ghost use Rattle.sessions.specs.Proving.{AreReadOff, ClausesApply, IsAnswered, IsAnsweredBySolver, SolverAdvances, SolverIsReady, SolvesTheSame, goal_asking, is_bound_term};
+ghost use Rattle.sessions.specs.Proving.{AreReadOff, ClausesApply, IsAnswered, IsAnsweredBySolver, IsGoalAnswered, SolverAdvances, SolverIsReady, SolvesTheSame, is_bound_term};
 ghost use Rattle.sessions.specs.Questions.{where_clauses};
 ghost use Rattle.sessions.specs.Resting.{AreAtRest};
 ghost use Rattle.sessions.specs.Sessions.{SolverRests};
@@ -176,28 +178,47 @@ fn elaborate_in(cx: &mut SolverCx<Solver>, references: &[TraitRef]) -> Result<Ve
     elaborated
 }
 
-/// The goal that asks a question, under its where-clauses and their supertraits.
-fn goal_in(cx: &mut SolverCx<Solver>, lowered: &LoweredQuestion) -> Result<Goal, Fault>
-    requires ready { SolverIsReady cx.old }
-    requires lowered { (q : Question) × IsLowered cx.old.interner.entries q lowered.now }
-    requires applied { AreApplied cx.old.interner.entries cx.old.handler.declarations lowered.now.clauses.items }
-    ensures advances { SolverAdvances cx.old cx.new }
-    ensures held { IfOk result (λ goal. GoalHeld cx.new.interner.entries goal) }
-    ensures asked { IfOk result (λ goal. goal.predicate.trait_ref ≡ lowered.now.asked) }
-    ensures is { (q : Question) → IsLowered cx.old.interner.entries q lowered.now
-        → IfOk result (λ goal. goal_trees cx.new.interner.entries goal ≡ goal_asking (written cx.old.interner.entries cx.old.handler.declarations) q) }
+/// The goal that asks for a reference under where-clauses.
+fn goal_under(alloc: Global, clauses: &[TraitRef], asked: TraitRef) -> Result<Goal, AllocError>
+    ensures clauses { IfOk result (λ goal. goal.param_env.items ≡ where_clauses clauses.now) }
+    ensures asked { IfOk result (λ goal. goal.predicate.trait_ref ≡ asked) }
 {
-    references_are_goals();
-    let clauses = elaborate_in(cx, &lowered.clauses)?;
     Ok(Goal {
-        param_env: where_clauses(cx.alloc, &clauses)?,
-        predicate: TraitPredicate {
-            trait_ref: lowered.asked,
-        },
+        param_env: where_clauses(alloc, clauses)?,
+        predicate: TraitPredicate { trait_ref: asked },
     })
 }
 
-/// Asks a question whose terms are the context's outside coherence, under its where-clauses.
+/// Asks for a reference outside coherence, under just these where-clauses, over a new table with these unknowns.
+///
+/// All stays at rest, after a fault too. The fault is a refusal of memory, or `Full`.
+pub(crate) fn prove_under(
+    graph: &mut SearchGraph<SolverGraph<Solver>>,
+    cache: &mut GlobalCache<SolverGraph<Solver>>,
+    cx: &mut SolverCx<Solver>,
+    clauses: &[TraitRef],
+    asked: TraitRef,
+    unknowns: &[GenericArgKind],
+) -> Result<ProveAnswer, Fault>
+    requires rest { SolverRests graph.old.root_depth cx.old graph.old cache.old }
+    requires clauses { AllHeld cx.old.interner.entries clauses.now }
+    requires asked { ReferenceHeld cx.old.interner.entries asked }
+    requires unknowns { ArgsHeld cx.old.interner.entries unknowns.now }
+    ensures rest { SolverRests graph.old.root_depth cx.new graph.new cache.new }
+    ensures solving { SolvesTheSame cx.old cx.new }
+    ensures keeps { Keeps cx.old.interner.entries cx.new.interner.entries }
+    ensures held { IfOk result (AnswerHeld cx.new.interner.entries) }
+    ensures answer { IfOk result (IsGoalAnswered (solving_of cx.old.interner.entries cx.old.handler.declarations) graph.old.root_depth (map arg_sort unknowns.now)
+        (goal_of (references_in cx.old.interner.entries clauses.now) (reference_in cx.old.interner.entries asked)) (map (arg_trees cx.old.interner.entries) unknowns.now) cx.new.interner.entries) }
+{
+    rest_laws::<Solver>();
+    references_are_goals();
+    let goal = goal_under(cx.alloc, clauses, asked)?;
+    let mut table = question_table_in(cx, unknowns)?;
+    ask_for(graph, cache, cx, &mut table, &goal, unknowns)
+}
+
+/// Asks a question whose terms are the context's outside coherence, under its where-clauses with all their supertraits.
 fn prove_lowered(
     graph: &mut SearchGraph<SolverGraph<Solver>>,
     cache: &mut GlobalCache<SolverGraph<Solver>>,
@@ -215,9 +236,8 @@ fn prove_lowered(
         → IsAnsweredBySolver (solving_of cx.old.interner.entries cx.old.handler.declarations) graph.old.root_depth q cx.new.interner.entries a) }
 {
     rest_laws::<Solver>();
-    let goal = goal_in(cx, lowered)?;
-    let mut table = question_table_in(cx, &lowered.unknowns)?;
-    ask_for(graph, cache, cx, &mut table, &goal, &lowered.unknowns)
+    let clauses = elaborate_in(cx, &lowered.clauses)?;
+    prove_under(graph, cache, cx, &clauses, lowered.asked, &lowered.unknowns)
 }
 
 /// Asks the question with a number outside coherence: its reference under its where-clauses and their supertraits, over a new table with

@@ -2,28 +2,37 @@
 
 ghost use Rattle.std.specs.Prelude.{◌≡◌, ◌<◌, ◌≤◌, ◌+◌, ℕ, length, IfOk, IfSome, Ok};
 ghost use Rattle.type_terms.specs.declared.TheConstants.{MAX_INDEX};
+ghost use Rattle.model.specs.Laws.{HeldSetsAreLinked, InEveryLinkedSet};
 ghost use Rattle.orphan_check.specs.Held.{ErrorHeld};
 ghost use Rattle.overlap_check.specs.SessionLaws.{HeadlineHolds};
 ghost use Rattle.workspace.specs.Numbered.{IsNumbered};
 ghost use Rattle.text_definitions.specs.Declarations.{Question};
 ghost use Rattle.sessions.specs.ByTrait.{ListsSeen, HavePartnersSeen};
+ghost use Rattle.sessions.specs.CoherentTexts.{HeldTextsAreCoherent};
 ghost use Rattle.sessions.specs.Checking.{HasOrphan, HasJudged, HasPartner, HasOverlap};
-ghost use Rattle.sessions.specs.Given.{AnswerHeld, VerdictHeld, answer_in, refutation_of, verdict_in};
+ghost use Rattle.sessions.specs.Given.{AnswerHeld, VerdictHeld, answer_in, later_of, refutation_of, supers_of, verdict_in};
 ghost use Rattle.sessions.specs.Promises.{IsProved, IsRefutation, IsVerdictOf};
+ghost use Rattle.sessions.specs.Releases.{AddedImplsBreakNoUser, IsSectionOf, IsLaterAnswer, IsSupersAnswer};
+ghost use Rattle.sessions.specs.Supertraits.{IsCheckedAt};
 ghost use Rattle.sessions.specs.Subjects.{IsOfText, AsksProof, AsksRefutation, StaysOn};
 
-use crate::answers::{ProveAnswer, RefuteAnswer, Verdict};
+use crate::answers::{LaterAnswer, ProveAnswer, RefuteAnswer, SupersAnswer, Verdict};
 use crate::applying::clauses_apply;
 use crate::asked::rest_laws;
 use crate::by_trait::ImplsByTrait;
 use crate::checked::{first_broken_header, overlap_at};
 use crate::decided_answers::other_answers_are_right;
+use crate::later::{added_impls_break_no_user, later_answer};
 use crate::limits::Limits;
 use crate::proved_questions::yes_is_proved;
 use crate::proving::prove_question;
 use crate::refuted::refute_question;
+use crate::supertrait_laws::impls_apply;
+use crate::supertraits::{HeaderAnswer, header_answer_at};
+use crate::text_laws::held_texts_are_coherent;
 use crate::view::lower_view;
 use candidate_assembly::solver::Solver;
+use model::held_sets_are_linked;
 use orphan_check::errors::OrphanCheckErr;
 use overlap_check::accepted_sets_have_one_impl;
 use root_goals::{SolverCx, SolverGraph};
@@ -256,6 +265,69 @@ impl<'w> Session<'w> {
         ensures terms { result.now.entries ≡ self.now.terms }
     {
         &self.cx.interner
+    }
+
+    /// Whether the impls of a section, by its number from 0, make a later version of this crate: each keeps the crate's orphan rule, its
+    /// trait is neither fundamental nor auto, and its open walk meets no parameter.
+    ///
+    /// `Compatible` says that no crate that uses this one, seen or unseen, can have an impl that one of them overlaps, and that none of their
+    /// references that is known to such a crate gets a proof by one of them; `Breaking` names the first impl of which that is not so,
+    /// counted from 1. It says nothing of supertraits. The fault is `Memory` where memory is refused, or `Full` where a table of the session
+    /// is full.
+    ///
+    /// RFC 1105 (which changes are breaking) and RFC 2451.
+    pub fn check_later(&mut self, section: u32) -> Result<LaterAnswer, Fault>
+        requires { IsSectionOf self.old.declarations self.old.of_crate section }
+
+        // What a later version may add breaks no user, in whichever set of crates it comes.
+        ensures users { InEveryLinkedSet AddedImplsBreakNoUser }
+        ensures answer { IfOk result (λ a. IsLaterAnswer self.old.declarations self.old.of_crate section (later_of a)) }
+        ensures stays { StaysOn self.old self.new }
+    {
+        rest_laws::<Solver>();
+        added_impls_break_no_user();
+        later_answer(&mut self.cx, self.workspace, section)
+    }
+
+    /// Whether each impl of this crate has the supertraits of its header proved from its where-clauses, whatever its parameters stand for.
+    ///
+    /// The strict supertraits of a header are asked for one by one, as `supertraits` gives them, with placeholders for the impl's
+    /// parameters, outside coherence and under its where-clauses with all their supertraits. The header itself is no where-clause. `Held`
+    /// says that each has a proof; `Missing` and `Undecided` name the first impl, and the first supertrait of its header, counted from 1,
+    /// of which none was found, or of which it is not known: all before have proofs, and that one is not determinate. The fault is `Memory`
+    /// where memory is refused, or `Full` where a table of the session is full.
+    ///
+    /// Crates that keep the rules of their texts and were held are a set of linked crates; and a text whose crates were all accepted and
+    /// held is coherent as a whole.
+    ///
+    /// `check_impl` of `rustc_hir_analysis`, as far as it asks for the supertraits of the header.
+    pub fn check_supertraits(&mut self) -> Result<SupersAnswer, Fault>
+        ensures linked { HeldSetsAreLinked }
+        ensures coherent { HeldTextsAreCoherent }
+        ensures answer { IfOk result (λ a. IsSupersAnswer self.old.depth self.old.declarations self.old.of_crate (supers_of a)) }
+        ensures stays { StaysOn self.old self.new }
+    {
+        held_sets_are_linked();
+        held_texts_are_coherent();
+        let end = self.impl_end();
+        for number in 0..end {
+            let id = ImplId { index: number };
+            match self.header_answer(id)? {
+                HeaderAnswer::Held => {}
+                HeaderAnswer::Missing(place) => return Ok(SupersAnswer::Missing(id, place)),
+                HeaderAnswer::Undecided(place) => return Ok(SupersAnswer::Undecided(id, place)),
+            }
+        }
+        Ok(SupersAnswer::Held)
+    }
+
+    /// How the supertraits of the header of the impl with a number are answered, if it is the crate's own.
+    fn header_answer(&mut self, id: ImplId) -> Result<HeaderAnswer, Fault>
+        ensures checked { IfOk result (IsCheckedAt self.old.depth self.old.declarations self.old.of_crate id.index) }
+        ensures stays { StaysOn self.old self.new }
+    {
+        impls_apply();
+        header_answer_at(&mut self.graph, &mut self.cache, &mut self.cx, id)
     }
 
     /// Whether the reference of a `prove` question of this crate has a proof, by what the crate sees of the text and by the question's

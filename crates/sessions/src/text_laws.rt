@@ -2,6 +2,7 @@
 
 ghost use Rattle.sessions.specs.CoherentTexts.{AcceptedTextsAreCoherent, HeldTextsAreCoherent};
 ghost use Rattle.sessions.specs.JoinedTexts.{TextsAreJoined};
+ghost use Rattle.sessions.specs.ScopedTexts.{ImplsAreInScope};
 
 /// The crates of a text without a fault are a joined set, with the views that their answers are about, where all keep the orphan rule:
 /// of what makes them linked crates, the supertraits of headers alone are left.
@@ -15,8 +16,14 @@ pub fn accepted_texts_are_coherent()
     ensures { AcceptedTextsAreCoherent }
 {}
 
-/// So it is where each crate proves the supertraits of its headers by what it sees and their where-clauses. No call of a session asks
-/// that of a crate.
+/// So it is where each crate proves the supertraits of its headers by what it sees and their where-clauses, as
+/// `Session::check_supertraits` finds it.
 pub fn held_texts_are_coherent()
     ensures { HeldTextsAreCoherent }
+{}
+
+/// The header and the where-clauses of each impl of a text without a fault, of those that later versions add too, name only what the
+/// impl's crate sees.
+pub fn impls_are_in_scope()
+    ensures { ImplsAreInScope }
 {}

@@ -1,5 +1,5 @@
 -- What a text declares and asks.
-use Rattle.std.specs.Prelude.{ℕ, ◌+◌, ◌-◌, false, true, Bool, List, [], ◌∷◌, ◌++◌, map, length, Option, find, codes}
+use Rattle.std.specs.Prelude.{ℕ, ◌+◌, ◌-◌, ◌==◌, if◌then◌else◌, false, true, Bool, List, [], ◌∷◌, ◌++◌, map, filter, length, count_by, slice_get, unwrap_or, Option, find, codes}
 use Rattle.std.specs.Option.{option_map, option_or}
 use Rattle.std.specs.Str.{bytes_eq}
 use Rattle.model.specs.Label.{Sort, of_type, of_const, of_lifetime, array, ref, raw_pointer, param}
@@ -44,6 +44,16 @@ pub record Question : Type 0 where
   pub clauses : List Reference
   pub variables : List Variable
 
+-- An impl that a later version of a crate adds, with the number of its section, from 0.
+pub record LaterImpl : Type 0 where
+  pub section : ℕ
+  pub added : NamedImpl
+
+-- What a text has checked beside its crates, in its order: `later C`, section number k, for crate c; and `supers in C`.
+pub data Check : Type 0 where
+  of_later : (section changed : ℕ) → Check
+  of_supers : (asked : ℕ) → Check
+
 -- all in the order of the text, `core` first
 pub record Declarations : Type 0 where
   pub crates : List NamedCrate
@@ -51,6 +61,12 @@ pub record Declarations : Type 0 where
   pub traits : List NamedTrait
   pub impls : List NamedImpl
   pub questions : List Question
+  -- the crates whose later versions have a section, and the impls of all sections; no view holds these
+  pub sections : List ℕ
+  pub later_impls : List LaterImpl
+  pub checks : List Check
+  -- the last `crate` or `later` line was a `later` line, so that an impl belongs to its section
+  pub in_section : Bool
 
 -- the same without the names of the text
 abbrev pub world_of : Declarations → World
@@ -92,6 +108,23 @@ known d n = option_or (crate_known d.crates n) (option_or (struct_known d.struct
 -- the crate to which the items of the next line belong
 abbrev pub last_crate : Declarations → ℕ
 last_crate d = length d.crates - 1
+
+-- ---- sections
+-- the crate of the last section
+abbrev pub last_changed : Declarations → ℕ
+last_changed d = unwrap_or (slice_get d.sections (length d.sections - 1)) core
+
+-- how many impls the last section has
+abbrev pub last_later : Declarations → ℕ
+last_later d = count_by (λ i. i.section == (length d.sections - 1)) d.later_impls
+
+-- the crate to which an impl of the next line belongs
+abbrev pub impl_owner : Declarations → ℕ
+impl_owner d = if d.in_section then last_changed d else last_crate d
+
+-- the impls of a section, in order
+abbrev pub section_impls : Declarations → ℕ → List NamedImpl
+section_impls d k = map (λ i. i.added) (filter (λ i. i.section == k) d.later_impls)
 
 -- ---- `core`
 -- the names of its traits, with the kinds of their parameters
@@ -143,4 +176,8 @@ nothing_declared = record {
   traits = named_traits core_trait_names core_traits;
   impls = copied 0 clone ++ record { params = type_T ∷ []; item = box_impl } ∷ copied 20 copy;
   questions = [];
+  sections = [];
+  later_impls = [];
+  checks = [];
+  in_section = false;
 }

@@ -7,8 +7,8 @@ use Rattle.model.specs.Label.{Sort, of_type, of_const, of_lifetime}
 use Rattle.model.specs.Trees.{is_sort}
 use Rattle.model.specs.Worlds.{sees}
 use Rattle.model.specs.Rules.{sized, tuple_trait, fn_ptr_trait, fn_once, fn_mut, fn_shared, unsize}
-use Rattle.text_definitions.specs.Syntax.{TypeTree, named, Params, Line, crate_line, struct_line, trait_line, impl_line, prove_line, refute_line}
-use Rattle.text_definitions.specs.Declarations.{Declarations, NamedStruct, NamedTrait, world_of, Known, a_crate, a_struct, a_trait, known, kinds_of, names_of, last_crate}
+use Rattle.text_definitions.specs.Syntax.{TypeTree, named, Params, Line, crate_line, struct_line, trait_line, impl_line, prove_line, refute_line, later_line, supers_line}
+use Rattle.text_definitions.specs.Declarations.{Declarations, NamedStruct, NamedTrait, world_of, Known, a_crate, a_struct, a_trait, known, kinds_of, names_of, last_crate, last_later, impl_owner}
 use Rattle.text_definitions.specs.Uses.{ItemShape, bound_shape, lifetime_shape, Use, crate_use, name_use, trait_use, lifetime_use, binder_use, variable_use, misfit_use, dyn_use, items_use, number_use, uses, asked_uses, other_uses, header_uses, bound_uses, params_of, declared_name, types_count, line_depth}
 
 -- ---- words
@@ -31,15 +31,20 @@ with_own d (struct_line f n ps fs) = record d { structs = d.structs ++ own_struc
 with_own d (trait_line f a n ps bs) = record d { traits = d.traits ++ own_trait d f a n ps ∷ [] }
 with_own d l = d
 
--- ---- 3: a struct, trait or impl before any crate. (A section of a later version will have its own case here: impls alone.)
+-- ---- 3: a struct, trait or impl before any crate; in a section of a later version, a struct or trait
+-- `later core`, then `impl Clone for str`, needs no crate before it
 abbrev pub belongs_to_crate : Line → Bool
 belongs_to_crate (struct_line f n ps fs) = true
 belongs_to_crate (trait_line f a n ps bs) = true
 belongs_to_crate (impl_line ps h ks) = true
 belongs_to_crate _ = false
 
+abbrev pub is_impl : Line → Bool
+is_impl (impl_line ps h ks) = true
+is_impl _ = false
+
 abbrev pub is_misplaced : Declarations → Line → Bool
-is_misplaced d l = belongs_to_crate l && nat_le (length d.crates) 1
+is_misplaced d l = belongs_to_crate l && (if d.in_section then not (is_impl l) else nat_le (length d.crates) 1)
 
 -- ---- 4: the declared name is taken; or the name of a parameter or of a binder repeats one in scope, is `'static`, or is a known
 -- crate, struct or trait. Names of lifetimes are apart from all others
@@ -89,12 +94,15 @@ abbrev pub number_of_crate : Known → Option ℕ
 number_of_crate (a_crate k) = Some k
 number_of_crate _ = None
 
--- the crate that has to see what the line uses: of a question the one that asks, of an item the one that it belongs to
+-- the crate that has to see what the line uses: of a question the one that asks, of an item the one that it belongs to, of an impl of a
+-- section the one that is changed
 abbrev pub looking_crate : Declarations → Line → Option ℕ
 looking_crate d (prove_line c ps a ks) = option_and_then number_of_crate (known d c)
 looking_crate d (refute_line c ps a) = option_and_then number_of_crate (known d c)
 looking_crate d (crate_line n us) = None
-looking_crate d _ = Some (last_crate d)
+looking_crate d (later_line n) = None
+looking_crate d (supers_line n) = None
+looking_crate d _ = Some (impl_owner d)
 
 abbrev pub home_of : Known → Option ℕ
 home_of (a_crate k) = None
@@ -175,7 +183,7 @@ is_struct_in c (a_struct i h kinds) = h == c
 is_struct_in c _ = false
 
 abbrev pub is_own_struct : Declarations → Line → TypeTree → Bool
-is_own_struct d l (named n args) = not (is_param l n) && option_map_or (is_struct_in (last_crate d)) (known d n) false
+is_own_struct d l (named n args) = not (is_param l n) && option_map_or (is_struct_in (impl_owner d)) (known d n) false
 is_own_struct d l _ = false
 
 abbrev pub is_foreign_auto : Declarations → Line → Bool
@@ -304,11 +312,14 @@ once (v ∷ vs) = v ∷ filter (λ w. not (bytes_eq w.0 v.0)) (once vs)
 abbrev pub last_items : Declarations → ℕ
 last_items d = count_by (λ s. s.item.home == last_crate d) d.structs + count_by (λ t. t.item.home == last_crate d) d.traits + count_by (λ i. i.item.home == last_crate d) d.impls
 
--- there are as many already as there may be; `core` isn't counted
+-- there are as many already as there may be; `core` isn't counted, and a text may have any number of sections, and ask for supertraits any number of times
 abbrev pub is_full : Declarations → Line → Bool
 is_full d (crate_line n us) = nat_lt crate_limit (length d.crates)
 is_full d (prove_line c ps a ks) = nat_le question_limit (length d.questions)
 is_full d (refute_line c ps a) = nat_le question_limit (length d.questions)
+is_full d (later_line n) = false
+is_full d (supers_line n) = false
+is_full d (impl_line ps h ks) = nat_le item_limit (if d.in_section then last_later d else last_items d)
 is_full d _ = nat_le item_limit (last_items d)
 
 -- fields, bounds or clauses of the line itself
@@ -319,6 +330,8 @@ parts (trait_line f a n ps bs) = length bs
 parts (impl_line ps h ks) = length ks
 parts (prove_line c ps a ks) = length ks
 parts (refute_line c ps a) = 0
+parts (later_line n) = 0
+parts (supers_line n) = 0
 
 abbrev pub passes_limit : Declarations → Line → Bool
 passes_limit d l =

@@ -129,11 +129,25 @@ pub data Answer : Type 0 where
   nonlocal : (name : List ℕ) (impl : ℕ) → Answer
   uncovered : (name : List ℕ) (impl : ℕ) (param : List ℕ) (before : Option (List ℕ)) → Answer
   overlap : (name : List ℕ) (impl : ℕ) (other : List ℕ) (other_impl : ℕ) → Answer
+  compatible : (name : List ℕ) → Answer
+  breaking : (name : List ℕ) (impl : ℕ) → Answer
+  held : (name : List ℕ) → Answer
+  missing undecided : (name : List ℕ) (impl clause : ℕ) → Answer
   yes : (question : ℕ) (values : List ValueText) → Answer
   maybe unproved no unrefuted : (question : ℕ) → Answer
 
 abbrev pub crate_start : List ℕ → List ℕ
 crate_start n = codes "crate " ++ n ++ codes ": "
+
+abbrev pub later_start : List ℕ → List ℕ
+later_start n = codes "later " ++ n ++ codes ": "
+
+abbrev pub supers_start : List ℕ → List ℕ
+supers_start n = codes "supers " ++ n ++ codes ": "
+
+-- an impl of the crate, and a supertrait of its header, counted from 1
+abbrev pub clause_text : ℕ → ℕ → List ℕ
+clause_text k j = codes " impl " ++ decimal k ++ codes " clause " ++ decimal j
 
 abbrev pub prove_start : ℕ → List ℕ
 prove_start q = codes "prove " ++ decimal q ++ codes ": "
@@ -158,6 +172,11 @@ answer_text (accepted n) = crate_start n ++ codes "accepted"
 answer_text (nonlocal n k) = crate_start n ++ codes "orphan impl " ++ decimal k ++ codes " nonlocal"
 answer_text (uncovered n k t u) = crate_start n ++ codes "orphan impl " ++ decimal k ++ codes " uncovered " ++ t ++ before_text u
 answer_text (overlap n k o j) = crate_start n ++ codes "overlap impl " ++ decimal k ++ codes " with " ++ o ++ codes " " ++ decimal j
+answer_text (compatible n) = later_start n ++ codes "compatible"
+answer_text (breaking n k) = later_start n ++ codes "breaking impl " ++ decimal k
+answer_text (held n) = supers_start n ++ codes "held"
+answer_text (missing n k j) = supers_start n ++ codes "missing" ++ clause_text k j
+answer_text (undecided n k j) = supers_start n ++ codes "undecided" ++ clause_text k j
 answer_text (yes q vs) = prove_start q ++ codes "yes" ++ values_text vs
 answer_text (maybe q) = prove_start q ++ codes "maybe"
 answer_text (unproved q) = prove_start q ++ codes "unproved"

@@ -1,7 +1,7 @@
 -- What a line says, and the one way to write it: the grammar.
 use Rattle.std.specs.Prelude.{ℕ, Bool, true, false, List, [], ◌∷◌, ◌++◌, map, Option, Some, None, if◌then◌else◌}
 use Rattle.model.specs.Label.{Label}
-use Rattle.text_definitions.specs.Words.{Sign, comma, open_angle, close_angle, exclamation, ampersand, star, open_square, close_square, semicolon, open_round, close_round, plus, colon, Keyword, crate_word, uses_word, fundamental_word, struct_word, auto_word, trait_word, impl_word, for_word, where_word, prove_word, refute_word, in_word, mut_word, const_word, fn_word, dyn_word}
+use Rattle.text_definitions.specs.Words.{Sign, comma, open_angle, close_angle, exclamation, ampersand, star, open_square, close_square, semicolon, open_round, close_round, plus, colon, Keyword, crate_word, uses_word, fundamental_word, struct_word, auto_word, trait_word, impl_word, for_word, where_word, prove_word, refute_word, in_word, mut_word, const_word, fn_word, dyn_word, later_word, supers_word}
 use Rattle.text_definitions.specs.Tokens.{Token, keyword, primitive, name, lifetime, variable, number, sign, arrow}
 
 -- ---- types
@@ -170,6 +170,8 @@ pub data Line : Type 0 where
   impl_line : (params : Params) (header : Clause) (clauses : List Clause) → Line
   prove_line : (asker : List ℕ) (params : Params) (asked : Clause) (clauses : List Clause) → Line
   refute_line : (asker : List ℕ) (params : Params) (asked : Clause) → Line
+  later_line : (changed : List ℕ) → Line
+  supers_line : (asked : List ℕ) → Line
 
 -- each name behind a comma
 abbrev pub more_names : List (List ℕ) → List Token
@@ -227,6 +229,8 @@ if_so b k = if b then keyword k ∷ [] else []
 -- impl   = "impl" [params] bound "for" type [where]
 -- prove  = "prove" "in" name [params] type ":" bound [where]
 -- refute = "refute" "in" name [params] type ":" bound
+-- later  = "later" name
+-- supers = "supers" "in" name
 abbrev pub spelling : Line → List Token
 spelling (crate_line n us) = keyword crate_word ∷ name n ∷ uses_spelling us
 spelling (struct_line f n ps fs) = if_so f fundamental_word ++ keyword struct_word ∷ name n ∷ (params_spelling ps ++ fields_spelling fs)
@@ -236,3 +240,5 @@ spelling (impl_line ps h ks) =
     keyword impl_word ∷ (params_spelling ps ++ (bound_spelling h.bound ++ keyword for_word ∷ (type_spelling h.subject ++ where_spelling (map clause_spelling ks))))
 spelling (prove_line c ps a ks) = keyword prove_word ∷ keyword in_word ∷ name c ∷ (params_spelling ps ++ (clause_spelling a ++ where_spelling (map clause_spelling ks)))
 spelling (refute_line c ps a) = keyword refute_word ∷ keyword in_word ∷ name c ∷ (params_spelling ps ++ clause_spelling a)
+spelling (later_line n) = keyword later_word ∷ name n ∷ []
+spelling (supers_line n) = keyword supers_word ∷ keyword in_word ∷ name n ∷ []

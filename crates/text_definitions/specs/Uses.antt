@@ -2,7 +2,7 @@
 use Rattle.std.specs.Prelude.{ℕ, suc, max, Bool, true, false, List, [], ◌∷◌, ◌++◌, map, Option, Some, None}
 use Rattle.std.specs.List.{flat_map}
 use Rattle.model.specs.Label.{Sort, of_type, of_const, of_lifetime}
-use Rattle.text_definitions.specs.Syntax.{TypeTree, of_primitive, never_type, variable_type, named, reference_to, pointer_to, slice_of, array_of, tuple_of, fn_of, fn_to, dyn_of, Types, no_types, and_type, Args, no_args, and_arg, Arg, lifetime_arg, number_arg, type_arg, Item, bound_item, lifetime_item, Items, no_items, and_item, Length, number_length, name_length, variable_length, Params, Bound, Clause, Line, crate_line, struct_line, trait_line, impl_line, prove_line, refute_line}
+use Rattle.text_definitions.specs.Syntax.{TypeTree, of_primitive, never_type, variable_type, named, reference_to, pointer_to, slice_of, array_of, tuple_of, fn_of, fn_to, dyn_of, Types, no_types, and_type, Args, no_args, and_arg, Arg, lifetime_arg, number_arg, type_arg, Item, bound_item, lifetime_item, Items, no_items, and_item, Length, number_length, name_length, variable_length, Params, Bound, Clause, Line, crate_line, struct_line, trait_line, impl_line, prove_line, refute_line, later_line, supers_line}
 use Rattle.text_definitions.specs.Declarations.{Declarations, Known, a_struct, a_trait, known}
 
 -- an item of a `dyn`
@@ -154,6 +154,8 @@ uses d (trait_line f a n ps bs) = flat_map (bound_uses d) bs
 uses d (impl_line ps h ks) = header_uses d h ++ flat_map (clause_uses d) ks
 uses d (prove_line c ps a ks) = crate_use c ∷ (clause_uses d a ++ flat_map (clause_uses d) ks)
 uses d (refute_line c ps a) = crate_use c ∷ clause_uses d a
+uses d (later_line n) = crate_use n ∷ []
+uses d (supers_line n) = crate_use n ∷ []
 
 -- those of the asked reference of a question
 abbrev pub asked_uses : Declarations → Line → List Use
@@ -174,6 +176,8 @@ params_of (trait_line f a n ps bs) = ps
 params_of (impl_line ps h ks) = ps
 params_of (prove_line c ps a ks) = ps
 params_of (refute_line c ps a) = ps
+params_of (later_line n) = record { lifetimes = []; types = []; consts = [] }
+params_of (supers_line n) = record { lifetimes = []; types = []; consts = [] }
 
 abbrev pub declared_name : Line → Option (List ℕ)
 declared_name (crate_line n us) = Some n
@@ -240,3 +244,5 @@ line_depth d (trait_line f a n ps bs) = greatest (map (bound_depth d) bs)
 line_depth d (impl_line ps h ks) = max (clause_depth d h) (greatest (map (clause_depth d) ks))
 line_depth d (prove_line c ps a ks) = max (clause_depth d a) (greatest (map (clause_depth d) ks))
 line_depth d (refute_line c ps a) = clause_depth d a
+line_depth d (later_line n) = 0
+line_depth d (supers_line n) = 0

@@ -1,11 +1,11 @@
 -- Worked texts: what the definitions compute of them. Each stands on the contract of a function of src/.
-use Rattle.std.specs.Prelude.{map, filter, not, take, ◌++◌, ◌≡◌, ℕ, zero, suc, Bool, true, false, List, [], ◌∷◌, drop, Option, Some, None, Result, Ok, Err, codes}
-use Rattle.model.specs.Label.{Label, of_type, of_const, of_lifetime, bool, uint, adt, array, slice, dynamic, principal, auto_trait, static, value, fn_ptr, tuple, ref, param, infer, bound}
+use Rattle.std.specs.Prelude.{map, filter, not, take, ◌++◌, ◌≡◌, ℕ, zero, suc, Bool, true, false, List, [], ◌∷◌, drop, length, Option, Some, None, Result, Ok, Err, codes}
+use Rattle.model.specs.Label.{Label, of_type, of_const, of_lifetime, bool, uint, adt, array, slice, dynamic, principal, auto_trait, static, value, fn_ptr, tuple, ref, param, infer, bound, str}
 use Rattle.model.specs.Trees.{Trees, none, tree, leaf}
-use Rattle.model.specs.Worlds.{StructDecl, TraitDecl, ImplDecl}
-use Rattle.text_definitions.specs.Syntax.{TypeTree, of_primitive, variable_type, named, reference_to, pointer_to, slice_of, array_of, fn_of, fn_to, dyn_of, no_types, and_type, Args, no_args, and_arg, lifetime_arg, number_arg, type_arg, bound_item, lifetime_item, no_items, and_item, number_length, name_length, never_type, Params, no_params, Bound, Clause, Line, crate_line, struct_line, trait_line, impl_line, prove_line, refute_line}
+use Rattle.model.specs.Worlds.{Reference, StructDecl, TraitDecl, ImplDecl}
+use Rattle.text_definitions.specs.Syntax.{TypeTree, of_primitive, variable_type, named, reference_to, pointer_to, slice_of, array_of, fn_of, fn_to, dyn_of, no_types, and_type, Args, no_args, and_arg, lifetime_arg, number_arg, type_arg, bound_item, lifetime_item, no_items, and_item, number_length, name_length, never_type, Params, no_params, Bound, Clause, Line, crate_line, struct_line, trait_line, impl_line, prove_line, refute_line, later_line, supers_line}
 use Rattle.text_definitions.specs.Written.{IsWritten}
-use Rattle.text_definitions.specs.Declarations.{Declarations, Question, world_of, nothing_declared}
+use Rattle.text_definitions.specs.Declarations.{Declarations, Check, of_later, of_supers, Question, world_of, nothing_declared}
 use Rattle.text_definitions.specs.Faults.{fault_of}
 use Rattle.text_definitions.specs.Adding.{added}
 use Rattle.text_definitions.specs.Text.{TextGives}
@@ -154,6 +154,104 @@ EachFault =
     IsFaulty before_any_crate 1 3 × IsFaulty taken 2 4 × IsFaulty not_known 2 5 × IsFaulty not_seen 4 6 × IsFaulty without_arguments 4 7
     × IsFaulty free_parameter 3 8 × IsFaulty own_bound 2 9 × IsFaulty loaded_auto 2 10 × IsFaulty foreign_auto 3 11 × IsFaulty built_in 2 12
     × IsFaulty stray_variable 3 13 × IsFaulty refuted_parameter 3 14 × IsFaulty two_principals 4 15 × IsFaulty long_number 4 16
+
+-- ---- sections of later versions
+abbrev later_base : Said
+later_base = (codes "later base", later_line (codes "base"))
+
+abbrev later_core : Said
+later_core = (codes "later core", later_line (codes "core"))
+
+abbrev struct_a : Said
+struct_a = (codes "struct A", struct_line false (codes "A") no_params no_types)
+
+-- a struct in a section is 3; and so it is behind a question, which doesn't end the section
+abbrev pub struct_in_section : List Said
+struct_in_section = base ∷ num ∷ later_base ∷ struct_a ∷ []
+
+abbrev pub struct_behind_question : List Said
+struct_behind_question =
+    base ∷ num ∷ later_base ∷ (codes "refute in base u8: Num", refute_line (codes "base") no_params (is u8 (bare (codes "Num")))) ∷ struct_a ∷ []
+
+abbrev supers_base : Said
+supers_base = (codes "supers in base", supers_line (codes "base"))
+
+-- so it is behind `supers in`, which ends no section either
+abbrev pub struct_behind_supers : List Said
+struct_behind_supers = base ∷ num ∷ later_base ∷ supers_base ∷ struct_a ∷ []
+
+-- of an unknown crate 5, of a trait 7
+abbrev pub later_unknown : List Said
+later_unknown = base ∷ (codes "later other", later_line (codes "other")) ∷ []
+
+abbrev pub later_trait : List Said
+later_trait = base ∷ num ∷ (codes "later Num", later_line (codes "Num")) ∷ []
+
+abbrev pub supers_unknown : List Said
+supers_unknown = base ∷ (codes "supers in other", supers_line (codes "other")) ∷ []
+
+abbrev pub supers_trait : List Said
+supers_trait = base ∷ num ∷ (codes "supers in Num", supers_line (codes "Num")) ∷ []
+
+-- an added impl sees what its crate sees, and not what the last crate sees
+abbrev pub later_unseen : List Said
+later_unseen = base ∷ (codes "crate first", crate_line (codes "first") []) ∷ show ∷ later_base ∷ show_for (codes "impl Show for u8") u8 ∷ []
+
+-- of an auto trait for a struct of another crate 11, of a built-in trait 12
+abbrev pub later_foreign_auto : List Said
+later_foreign_auto =
+    base ∷ safe ∷ (codes "crate first uses base", crate_line (codes "first") (codes "base" ∷ [])) ∷ struct_a ∷ (codes "later first", later_line (codes "first"))
+    ∷ (codes "impl Safe for Box<A>", impl_line no_params (is (named (codes "Box") (one (plain (codes "A")))) (bare (codes "Safe"))) []) ∷ []
+
+abbrev pub later_built_in : List Said
+later_built_in = later_core ∷ (codes "impl Tuple for u8", impl_line no_params (is u8 (bare (codes "Tuple"))) []) ∷ []
+
+abbrev pub SectionFaults : Type 0
+SectionFaults =
+    IsFaulty struct_in_section 4 3 × IsFaulty struct_behind_question 5 3 × IsFaulty struct_behind_supers 5 3 × IsFaulty later_unknown 2 5 × IsFaulty later_trait 3 7
+    × IsFaulty supers_unknown 2 5 × IsFaulty supers_trait 3 7 × IsFaulty later_unseen 5 6
+    × IsFaulty later_foreign_auto 6 11 × IsFaulty later_built_in 2 12
+
+-- what is checked, and the headers that the sections add; and how many impls the crates have beside core's
+pub record Added : Type 0 where
+  pub checks : List Check
+  pub headers : List (ℕ × (ℕ × Reference))
+  pub impls : ℕ
+
+abbrev pub added_in : Result Declarations (ℕ × ℕ) → Option Added
+added_in (Ok d) = Some (record {
+  checks = d.checks;
+  headers = map (λ i. (i.section, (i.added.item.home, i.added.item.header))) d.later_impls;
+  impls = length (drop 39 d.impls);
+})
+added_in (Err e) = None
+
+-- `crate base; trait Num; struct V<T>; crate first uses base; later base; impl<T> Num for V<T>; refute in base u8: Num; supers in base;
+-- impl<T> Num for &T; later core; impl Clone for str; crate second uses base; struct A; impl Num for A`: two impls are added to base, behind its user, and one
+-- to core; the last one is second's own.
+abbrev pub TwoSections : Type 0
+TwoSections =
+    let ss =
+    base ∷ num ∷ v ∷ (codes "crate first uses base", crate_line (codes "first") (codes "base" ∷ [])) ∷ later_base
+    ∷ (codes "impl<T> Num for V<T>", impl_line (of_types (codes "T" ∷ [])) (is (named (codes "V") (one (plain (codes "T")))) (bare (codes "Num"))) [])
+    ∷ (codes "refute in base u8: Num", refute_line (codes "base") no_params (is u8 (bare (codes "Num"))))
+    ∷ supers_base
+    ∷ (codes "impl<T> Num for &T", impl_line (of_types (codes "T" ∷ [])) (is (reference_to None false (plain (codes "T"))) (bare (codes "Num"))) [])
+    ∷ later_core
+    ∷ (codes "impl Clone for str", impl_line no_params (is (of_primitive str) (bare (codes "Clone"))) [])
+    ∷ (codes "crate second uses base", crate_line (codes "second") (codes "base" ∷ []))
+    ∷ struct_a
+    ∷ (codes "impl Num for A", impl_line no_params (is (plain (codes "A")) (bare (codes "Num"))) [])
+    ∷ []
+    in
+    let T = leaf (param of_type 0) in
+    AllSaid ss
+    × (added_in (outcome ss nothing_declared 1)
+    ≡ Some (record {
+      checks = of_later 0 1 ∷ of_supers 1 ∷ of_later 1 0 ∷ [];
+      headers = (0, (1, record { trait = 9; args = tree (adt 1) T none })) ∷ (0, (1, record { trait = 9; args = tree (ref false) (tree static none T) none })) ∷ (1, (0, record { trait = 1; args = leaf str })) ∷ [];
+      impls = 1;
+    }))
 
 -- ---- fine points of the faults
 abbrev pub is_good : Result Declarations (ℕ × ℕ) → Bool
@@ -407,7 +505,7 @@ core_impls =
 
 -- the crate alone
 abbrev empty_core : Declarations
-empty_core = record { crates = nothing_declared.crates; structs = []; traits = []; impls = []; questions = [] }
+empty_core = record { crates = nothing_declared.crates; structs = []; traits = []; impls = []; questions = []; sections = []; later_impls = []; checks = []; in_section = false }
 
 -- put in without their faults, for `core` stands before every crate line
 abbrev with_lines : List Said → Declarations → Declarations

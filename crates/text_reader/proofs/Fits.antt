@@ -8,7 +8,7 @@ use Rattle.std.proofs.lemmas.Bool.Decides.{nat_tests}
 use Rattle.std.proofs.lemmas.Option.{slice_get_within}
 use Rattle.model.specs.Label.{of_type, of_const, of_lifetime}
 use Rattle.type_terms.specs.declared.TheConstants.{MAX_INDEX}
-use Rattle.text_definitions.specs.Syntax.{Clause, Line, crate_line, struct_line, trait_line, impl_line, prove_line, refute_line}
+use Rattle.text_definitions.specs.Syntax.{Clause, Line, crate_line, struct_line, trait_line, impl_line, prove_line, refute_line, later_line, supers_line}
 use Rattle.text_definitions.specs.Declarations.{Declarations, NamedCrate, NamedStruct, NamedTrait, Known, a_crate, a_struct, a_trait, known, crate_known, struct_known, trait_known}
 use Rattle.text_definitions.specs.Uses.{Use, crate_use, name_use, trait_use, lifetime_use, binder_use, variable_use, misfit_use, dyn_use, items_use, number_use, type_uses, bound_uses, clause_uses, uses, params_of}
 use Rattle.text_definitions.specs.Faults.{fault_of, with_own, own_struct, own_trait, is_among, is_type_of, is_bad_dyn}
@@ -108,6 +108,8 @@ parts-fit d (prove_line c ps k ks) h =
     let ws = flat_map (clause_uses (with_own d l)) ks in
     (clause-fits d l k (first-fit d l us ws h.1), each-fit d l (clause_uses (with_own d l)) (ClauseFits d l) (clause-fits d l) ks (last-fit d l us ws h.1))
 parts-fit d (refute_line c ps k) h = clause-fits d (refute_line c ps k) k h.1
+parts-fit d (later_line n) h = tt
+parts-fit d (supers_line n) h = tt
 
 pub faultless-parts : (d : Declarations) (l : Line) → fault_of d l ≡ None → LineFits d l
 faultless-parts d l e = parts-fit d l (faultless-uses d l e)
@@ -172,3 +174,5 @@ numbers-fit d l i f = by l
     by (impl_line ps k ks) = known-fit d structs traits
     by (prove_line c ps k ks) = known-fit d structs traits
     by (refute_line c ps k) = known-fit d structs traits
+    by (later_line n) = known-fit d structs traits
+    by (supers_line n) = known-fit d structs traits

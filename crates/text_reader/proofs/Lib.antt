@@ -16,6 +16,7 @@ pub mod Ordering
 pub mod WhatIsAdded
 pub mod OwnKnown
 pub mod Looking
+pub mod Sections
 pub mod Sighted
 pub mod Meaning
 pub mod Adding

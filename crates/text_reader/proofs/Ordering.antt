@@ -1,10 +1,10 @@
 -- The parameters of a line from its list of parameters.
 use Rattle.std.proofs.Common.{◌≡◌, ℕ, List, [], ◌∷◌, ◌++◌, map, refl, ap, ◌∙◌, sym}
 use Rattle.model.specs.Label.{of_type, of_const, of_lifetime}
-use Rattle.text_definitions.specs.Syntax.{Params, Line, crate_line, struct_line, trait_line, impl_line, prove_line, refute_line}
+use Rattle.text_definitions.specs.Syntax.{Params, Line, crate_line, struct_line, trait_line, impl_line, prove_line, refute_line, later_line, supers_line}
 use Rattle.text_definitions.specs.Declarations.{kinds_of}
 use Rattle.text_definitions.specs.Uses.{params_of}
-use Rattle.line_reader.specs.Statement.{Param, lifetime_param, type_param, const_param, param_list, Statement, crate_statement, struct_statement, trait_statement, impl_statement, prove_statement, refute_statement, line_statement}
+use Rattle.line_reader.specs.Statement.{Param, lifetime_param, type_param, const_param, param_list, Statement, crate_statement, struct_statement, trait_statement, impl_statement, prove_statement, refute_statement, later_statement, supers_statement, line_statement}
 use Rattle.line_reader.specs.Says.{params_said}
 use Rattle.line_faults.specs.Speaks.{Speaks}
 use Rattle.text_reader.specs.BareLines.{sort_of_param, names_of_sort, params_from, bare_line}
@@ -69,6 +69,8 @@ line-ordered (trait_line f a n ps bs) = list-ordered ps
 line-ordered (impl_line ps h ks) = list-ordered ps
 line-ordered (prove_line c ps k ks) = list-ordered ps
 line-ordered (refute_line c ps k) = list-ordered ps
+line-ordered (later_line n) = refl
+line-ordered (supers_line n) = refl
 
 pub speaks-bare : (s : Statement) → Ordered s → Speaks (bare_line s) s
 speaks-bare (crate_statement n us) e = refl
@@ -77,6 +79,8 @@ speaks-bare (trait_statement f a n ps ss) e = (refl, refl, refl, e)
 speaks-bare (impl_statement ps h ks) e = e
 speaks-bare (prove_statement c ps k ks) e = (refl, e)
 speaks-bare (refute_statement c ps k) e = (refl, e)
+speaks-bare (later_statement n) e = refl
+speaks-bare (supers_statement n) e = refl
 
 -- ---- the kinds of parameters
 const-kinds : (cs : List (List ℕ)) → map sort_of_param (map const_param cs) ≡ map (λ _. of_const) cs
@@ -104,6 +108,8 @@ kinds-of-bare (trait_statement f a n ps ss) e = from-said ps e
 kinds-of-bare (impl_statement ps h ks) e = from-said ps e
 kinds-of-bare (prove_statement c ps k ks) e = from-said ps e
 kinds-of-bare (refute_statement c ps k) e = from-said ps e
+kinds-of-bare (later_statement n) e = refl
+kinds-of-bare (supers_statement n) e = refl
 
 pub params-of-bare : (s : Statement) → params_of (bare_line s) ≡ params_from (params_said s)
 params-of-bare (crate_statement n us) = refl
@@ -112,3 +118,5 @@ params-of-bare (trait_statement f a n ps ss) = refl
 params-of-bare (impl_statement ps h ks) = refl
 params-of-bare (prove_statement c ps k ks) = refl
 params-of-bare (refute_statement c ps k) = refl
+params-of-bare (later_statement n) = refl
+params-of-bare (supers_statement n) = refl

@@ -1,12 +1,12 @@
 -- What lines give, one after the other, and how many declarations they come to.
-use Rattle.std.proofs.Common.{◌≡◌, ℕ, ◌+◌, ◌≤◌, cond, List, length, Option, Some, None, Result, Ok, Err, IfOk, refl, sym, ap, ◌∙◌, subst, inl, inr, length-append, arith}
+use Rattle.std.proofs.Common.{◌≡◌, ℕ, ◌+◌, ◌-◌, ◌≤◌, Bool, true, false, if◌then◌else◌, cond, List, [], ◌∷◌, ◌++◌, length, Option, Some, None, Result, Ok, Err, IfOk, refl, sym, ap, ◌∙◌, subst, inl, inr, length-append, arith}
 use Rattle.std.specs.Prelude.{nat_lt}
 use Rattle.std.specs.Option.{option_map}
 use Rattle.std.proofs.lemmas.Bool.{cases_Bool, ltb-true, ltb-false}
 use Rattle.std.proofs.lemmas.List.{length-map}
-use Rattle.text_definitions.specs.Syntax.{Line, crate_line, struct_line, trait_line, impl_line, prove_line, refute_line}
-use Rattle.text_definitions.specs.Declarations.{Declarations, nothing_declared}
-use Rattle.text_definitions.specs.Adding.{added}
+use Rattle.text_definitions.specs.Syntax.{Line, crate_line, struct_line, trait_line, impl_line, prove_line, refute_line, later_line, supers_line}
+use Rattle.text_definitions.specs.Declarations.{Declarations, NamedImpl, nothing_declared}
+use Rattle.text_definitions.specs.Adding.{added, with_impl, impl_of, item_meanings}
 use Rattle.text_definitions.specs.Text.{LineGives, other_byte, blank, unwritten, faulty, adds, lines_of, text_limit, long_line, TextGives, too_long, fits}
 use Rattle.line_reader.specs.TypeViews.{cell_of}
 use Rattle.workspace.specs.Numbered.{IsFew}
@@ -71,16 +71,26 @@ read_short line form read k h is short =
     omega (arith, cells-are-few line l w, ap length r.1, length-map read.cells.items cell_of, short)
 
 -- ---- how many there are
+impl-few : (d : Declarations) (i : NamedImpl) (k : ℕ) → IsFew d k → IsFew (with_impl d i) (k + 1)
+impl-few d i k w = by d.in_section
+  where
+    by : (b : Bool)
+        → IsFew (if b then record d { later_impls = d.later_impls ++ record { section = length d.sections - 1; added = i } ∷ [] } else record d { impls = d.impls ++ i ∷ [] }) (k + 1)
+    by true = record { few_crates = omega (arith, w.few_crates); few_structs = omega (arith, w.few_structs); few_traits = omega (arith, w.few_traits); few_impls = omega (arith, w.few_impls); few_questions = omega (arith, w.few_questions); few_sections = omega (arith, w.few_sections); few_later = simp length-append (omega (arith, w.few_later)) }
+    by false = record { few_crates = omega (arith, w.few_crates); few_structs = omega (arith, w.few_structs); few_traits = omega (arith, w.few_traits); few_impls = simp length-append (omega (arith, w.few_impls)); few_questions = omega (arith, w.few_questions); few_sections = omega (arith, w.few_sections); few_later = omega (arith, w.few_later) }
+
 added-few : (d : Declarations) (l : Line) (k : ℕ) → IsFew d k → IsFew (added d l) (k + 1)
-added-few d (crate_line n us) k f = record { few_crates = simp length-append (omega (arith, f.few_crates)); few_structs = omega (arith, f.few_structs); few_traits = omega (arith, f.few_traits); few_impls = omega (arith, f.few_impls); few_questions = omega (arith, f.few_questions) }
-added-few d (struct_line f n ps fs) k w = record { few_crates = omega (arith, w.few_crates); few_structs = simp length-append (omega (arith, w.few_structs)); few_traits = omega (arith, w.few_traits); few_impls = omega (arith, w.few_impls); few_questions = omega (arith, w.few_questions) }
-added-few d (trait_line f a n ps bs) k w = record { few_crates = omega (arith, w.few_crates); few_structs = omega (arith, w.few_structs); few_traits = simp length-append (omega (arith, w.few_traits)); few_impls = omega (arith, w.few_impls); few_questions = omega (arith, w.few_questions) }
-added-few d (impl_line ps h ks) k w = record { few_crates = omega (arith, w.few_crates); few_structs = omega (arith, w.few_structs); few_traits = omega (arith, w.few_traits); few_impls = simp length-append (omega (arith, w.few_impls)); few_questions = omega (arith, w.few_questions) }
-added-few d (prove_line c ps a ks) k w = record { few_crates = omega (arith, w.few_crates); few_structs = omega (arith, w.few_structs); few_traits = omega (arith, w.few_traits); few_impls = omega (arith, w.few_impls); few_questions = simp length-append (omega (arith, w.few_questions)) }
-added-few d (refute_line c ps a) k w = record { few_crates = omega (arith, w.few_crates); few_structs = omega (arith, w.few_structs); few_traits = omega (arith, w.few_traits); few_impls = omega (arith, w.few_impls); few_questions = simp length-append (omega (arith, w.few_questions)) }
+added-few d (crate_line n us) k f = record { few_crates = simp length-append (omega (arith, f.few_crates)); few_structs = omega (arith, f.few_structs); few_traits = omega (arith, f.few_traits); few_impls = omega (arith, f.few_impls); few_questions = omega (arith, f.few_questions); few_sections = omega (arith, f.few_sections); few_later = omega (arith, f.few_later) }
+added-few d (struct_line f n ps fs) k w = record { few_crates = omega (arith, w.few_crates); few_structs = simp length-append (omega (arith, w.few_structs)); few_traits = omega (arith, w.few_traits); few_impls = omega (arith, w.few_impls); few_questions = omega (arith, w.few_questions); few_sections = omega (arith, w.few_sections); few_later = omega (arith, w.few_later) }
+added-few d (trait_line f a n ps bs) k w = record { few_crates = omega (arith, w.few_crates); few_structs = omega (arith, w.few_structs); few_traits = simp length-append (omega (arith, w.few_traits)); few_impls = omega (arith, w.few_impls); few_questions = omega (arith, w.few_questions); few_sections = omega (arith, w.few_sections); few_later = omega (arith, w.few_later) }
+added-few d (impl_line ps h ks) k w = impl-few d (impl_of d (item_meanings d (impl_line ps h ks) 0) ps h ks) k w
+added-few d (prove_line c ps a ks) k w = record { few_crates = omega (arith, w.few_crates); few_structs = omega (arith, w.few_structs); few_traits = omega (arith, w.few_traits); few_impls = omega (arith, w.few_impls); few_questions = simp length-append (omega (arith, w.few_questions)); few_sections = omega (arith, w.few_sections); few_later = omega (arith, w.few_later) }
+added-few d (refute_line c ps a) k w = record { few_crates = omega (arith, w.few_crates); few_structs = omega (arith, w.few_structs); few_traits = omega (arith, w.few_traits); few_impls = omega (arith, w.few_impls); few_questions = simp length-append (omega (arith, w.few_questions)); few_sections = omega (arith, w.few_sections); few_later = omega (arith, w.few_later) }
+added-few d (later_line n) k w = record { few_crates = omega (arith, w.few_crates); few_structs = omega (arith, w.few_structs); few_traits = omega (arith, w.few_traits); few_impls = omega (arith, w.few_impls); few_questions = omega (arith, w.few_questions); few_sections = simp length-append (omega (arith, w.few_sections)); few_later = omega (arith, w.few_later) }
+added-few d (supers_line n) k w = record { few_crates = omega (arith, w.few_crates); few_structs = omega (arith, w.few_structs); few_traits = omega (arith, w.few_traits); few_impls = omega (arith, w.few_impls); few_questions = omega (arith, w.few_questions); few_sections = omega (arith, w.few_sections); few_later = omega (arith, w.few_later) }
 
 pub few-weaken : (d : Declarations) (j k : ℕ) → j ≤ k → IsFew d j → IsFew d k
-few-weaken d j k h f = record { few_crates = omega (arith, h, f.few_crates); few_structs = omega (arith, h, f.few_structs); few_traits = omega (arith, h, f.few_traits); few_impls = omega (arith, h, f.few_impls); few_questions = omega (arith, h, f.few_questions) }
+few-weaken d j k h f = record { few_crates = omega (arith, h, f.few_crates); few_structs = omega (arith, h, f.few_structs); few_traits = omega (arith, h, f.few_traits); few_impls = omega (arith, h, f.few_impls); few_questions = omega (arith, h, f.few_questions); few_sections = omega (arith, h, f.few_sections); few_later = omega (arith, h, f.few_later) }
 
 pub given-few : (d e : Declarations) (line : List ℕ) (k : ℕ) → LineGives d line (Ok e) → IsFew d k → IsFew e (k + 1)
 given-few d e line k (blank a b) f = few-weaken d k (k + 1) (omega arith) f

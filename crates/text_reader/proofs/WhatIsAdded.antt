@@ -3,11 +3,11 @@ use Rattle.std.proofs.Common.{◌≡◌, ℕ, Bool, true, false, List, [], ◌�
 use Rattle.model.specs.Label.{Sort, of_type, of_const, of_lifetime}
 use Rattle.model.specs.Trees.{Trees}
 use Rattle.model.specs.Worlds.{Reference}
-use Rattle.text_definitions.specs.Syntax.{Params, Line, crate_line, struct_line, trait_line, impl_line, prove_line, refute_line}
+use Rattle.text_definitions.specs.Syntax.{Params, Line, crate_line, struct_line, trait_line, impl_line, prove_line, refute_line, later_line, supers_line}
 use Rattle.text_definitions.specs.Declarations.{Declarations, Question, Variable, known, names_of, with_sort, sorted_names}
 use Rattle.text_definitions.specs.Lowering.{crate_number}
 use Rattle.text_definitions.specs.Adding.{question_meanings, question_of}
-use Rattle.line_reader.specs.Statement.{Param, lifetime_param, type_param, const_param, param_list, Statement, crate_statement, struct_statement, trait_statement, impl_statement, line_statement}
+use Rattle.line_reader.specs.Statement.{Param, lifetime_param, type_param, const_param, param_list, Statement, crate_statement, struct_statement, trait_statement, impl_statement, later_statement, supers_statement, line_statement}
 use Rattle.line_reader.specs.declared.statement.Span.{Span}
 use Rattle.line_reader.specs.declared.statement.ClauseSpans.{ClauseSpans}
 use Rattle.workspace.specs.declared.declared.Param as kept
@@ -25,6 +25,28 @@ crate-line n us (trait_line f a m ps bs) e = absurd cc
 crate-line n us (impl_line ps h ks) e = absurd cc
 crate-line n us (prove_line c ps a ks) e = absurd cc
 crate-line n us (refute_line c ps a) e = absurd cc
+crate-line n us (later_line c) e = absurd cc
+crate-line n us (supers_line c) e = absurd cc
+
+pub later-line : (n : List ℕ) (l : Line) → later_statement n ≡ line_statement l → later_line n ≡ l
+later-line n (later_line m) e = let a : n ≡ m = cc in ap later_line a
+later-line n (crate_line m us) e = absurd cc
+later-line n (struct_line f m ps fs) e = absurd cc
+later-line n (trait_line f a m ps bs) e = absurd cc
+later-line n (impl_line ps h ks) e = absurd cc
+later-line n (prove_line c ps a ks) e = absurd cc
+later-line n (refute_line c ps a) e = absurd cc
+later-line n (supers_line m) e = absurd cc
+
+pub supers-line : (n : List ℕ) (l : Line) → supers_statement n ≡ line_statement l → supers_line n ≡ l
+supers-line n (supers_line m) e = let a : n ≡ m = cc in ap supers_line a
+supers-line n (crate_line m us) e = absurd cc
+supers-line n (struct_line f m ps fs) e = absurd cc
+supers-line n (trait_line f a m ps bs) e = absurd cc
+supers-line n (impl_line ps h ks) e = absurd cc
+supers-line n (prove_line c ps a ks) e = absurd cc
+supers-line n (refute_line c ps a) e = absurd cc
+supers-line n (later_line m) e = absurd cc
 
 pub struct-line : (d : Declarations) (f : Bool) (n : List ℕ) (ps : List Param) (ss : List Span) (kinds : List Sort) (fields : List Trees) (l : Line)
     → struct_statement f n ps ss ≡ line_statement l → kinds ≡ map sort_of_param ps → AreFields d l fields → IsStructLine d n f kinds fields l
@@ -35,6 +57,8 @@ struct-line d f n ps ss kinds fields (trait_line g a m qs bs) e k h = absurd cc
 struct-line d f n ps ss kinds fields (impl_line qs i ks) e k h = absurd cc
 struct-line d f n ps ss kinds fields (prove_line c qs a ks) e k h = absurd cc
 struct-line d f n ps ss kinds fields (refute_line c qs a) e k h = absurd cc
+struct-line d f n ps ss kinds fields (later_line c) e k h = absurd cc
+struct-line d f n ps ss kinds fields (supers_line c) e k h = absurd cc
 
 pub trait-line : (d : Declarations) (f a : Bool) (n : List ℕ) (ps : List Param) (ss : List Span) (kinds : List Sort) (bounds : List Reference) (l : Line)
     → trait_statement f a n ps ss ≡ line_statement l → kinds ≡ map sort_of_param ps → AreBounds d l bounds → IsTraitLine d n f a kinds bounds l
@@ -45,6 +69,8 @@ trait-line d f a n ps ss kinds bounds (struct_line g m qs fs) e k h = absurd cc
 trait-line d f a n ps ss kinds bounds (impl_line qs i ks) e k h = absurd cc
 trait-line d f a n ps ss kinds bounds (prove_line c qs b ks) e k h = absurd cc
 trait-line d f a n ps ss kinds bounds (refute_line c qs b) e k h = absurd cc
+trait-line d f a n ps ss kinds bounds (later_line c) e k h = absurd cc
+trait-line d f a n ps ss kinds bounds (supers_line c) e k h = absurd cc
 
 -- ---- the names of parameters
 const-names : (cs : List (List ℕ)) → map sorted_param (map const_param cs) ≡ with_sort of_const cs
@@ -143,3 +169,5 @@ impl-line d ps k ks params header clauses (struct_line f n qs fs) e p m g = absu
 impl-line d ps k ks params header clauses (trait_line f a n qs bs) e p m g = absurd cc
 impl-line d ps k ks params header clauses (prove_line b qs a js) e p m g = absurd cc
 impl-line d ps k ks params header clauses (refute_line b qs a) e p m g = absurd cc
+impl-line d ps k ks params header clauses (later_line b) e p m g = absurd cc
+impl-line d ps k ks params header clauses (supers_line b) e p m g = absurd cc

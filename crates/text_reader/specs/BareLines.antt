@@ -2,8 +2,8 @@
 use Rattle.std.specs.Prelude.{ℕ, List, [], ◌∷◌}
 use Rattle.std.specs.List.{flat_map}
 use Rattle.model.specs.Label.{Sort, of_type, of_const, of_lifetime}
-use Rattle.text_definitions.specs.Syntax.{never_type, no_types, no_args, Params, Clause, Line, crate_line, struct_line, trait_line, impl_line, prove_line, refute_line}
-use Rattle.line_reader.specs.Statement.{Param, lifetime_param, type_param, const_param, param_name, Statement, crate_statement, struct_statement, trait_statement, impl_statement, prove_statement, refute_statement}
+use Rattle.text_definitions.specs.Syntax.{never_type, no_types, no_args, Params, Clause, Line, crate_line, struct_line, trait_line, impl_line, prove_line, refute_line, later_line, supers_line}
+use Rattle.line_reader.specs.Statement.{Param, lifetime_param, type_param, const_param, param_name, Statement, crate_statement, struct_statement, trait_statement, impl_statement, prove_statement, refute_statement, later_statement, supers_statement}
 
 -- ---- parameters
 abbrev pub sort_of_param : Param → Sort
@@ -39,3 +39,5 @@ bare_line (trait_statement f a n ps ss) = trait_line f a n (params_from ps) []
 bare_line (impl_statement ps h ks) = impl_line (params_from ps) no_clause []
 bare_line (prove_statement c ps k ks) = prove_line c (params_from ps) no_clause []
 bare_line (refute_statement c ps k) = refute_line c (params_from ps) no_clause
+bare_line (later_statement n) = later_line n
+bare_line (supers_statement n) = supers_line n

@@ -1,7 +1,7 @@
 -- What is known of the types and bounds of a line without a fault.
 use Rattle.std.specs.Prelude.{◌≡◌, ℕ, List, [], ◌∷◌, None}
 use Rattle.model.specs.Label.{of_type}
-use Rattle.text_definitions.specs.Syntax.{Bound, Clause, Line, crate_line, struct_line, trait_line, impl_line, prove_line, refute_line}
+use Rattle.text_definitions.specs.Syntax.{Bound, Clause, Line, crate_line, struct_line, trait_line, impl_line, prove_line, refute_line, later_line, supers_line}
 use Rattle.text_definitions.specs.Declarations.{Declarations}
 use Rattle.text_definitions.specs.Uses.{type_uses, types_uses, bound_uses}
 use Rattle.text_definitions.specs.Faults.{with_own, fault_of}
@@ -28,6 +28,8 @@ LineFits d (trait_line f a n ps bs) = AllOf (BoundFits d (trait_line f a n ps bs
 LineFits d (impl_line ps h ks) = ClauseFits d (impl_line ps h ks) h × AllOf (ClauseFits d (impl_line ps h ks)) ks
 LineFits d (prove_line c ps k ks) = ClauseFits d (prove_line c ps k ks) k × AllOf (ClauseFits d (prove_line c ps k ks)) ks
 LineFits d (refute_line c ps k) = ClauseFits d (refute_line c ps k) k
+LineFits d (later_line n) = Unit {0}
+LineFits d (supers_line n) = Unit {0}
 
 abbrev pub FaultlessParts : Type 0
 FaultlessParts = (d : Declarations) (l : Line) → fault_of d l ≡ None → LineFits d l

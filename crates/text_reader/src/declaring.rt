@@ -183,5 +183,7 @@ pub fn declare(tables: &mut Tables, alloc: Global, read: &LineRead<'_>) -> Resul
                 &[],
             )
         }
+        Statement::Later { crate_name } => tables.add_section(crate_name),
+        Statement::Supers { crate_name } => tables.add_supers(crate_name),
     }
 }

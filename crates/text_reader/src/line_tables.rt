@@ -79,16 +79,16 @@ impl<'w, 's, 'a> LineTables<'w, 's, 'a> {
         None
     }
 
-    /// The crate of the line's items; of a question the one that asks.
+    /// The crate of the line's items, of an impl of a section the one that is changed; of a question the one that asks.
     fn looking_crate(&self) -> Option<CrateId>
         ensures number { option_map (λ c. c.index) result ≡ looking_crate (sight_of self.now).before (sight_of self.now).line }
         ensures there { IfSome result (λ c. c.index < length self.now.before.crates) }
     {
         match self.statement {
-            Statement::Crate { .. } => None,
+            Statement::Crate { .. } | Statement::Later { .. } | Statement::Supers { .. } => None,
             Statement::Prove { crate_name, .. } => self.before.crate_named(crate_name),
             Statement::Refute { crate_name, .. } => self.before.crate_named(crate_name),
-            _ => Some(self.before.last_crate()),
+            _ => Some(self.before.impl_owner()),
         }
     }
 }
@@ -146,8 +146,16 @@ impl<'w, 's, 'a> LineNames for LineTables<'w, 's, 'a> {
         self.before.question_count()
     }
 
-    fn last_crate(&self) -> CrateId {
-        self.before.last_crate()
+    fn is_in_section(&self) -> bool {
+        self.before.is_in_section()
+    }
+
+    fn impl_owner(&self) -> CrateId {
+        self.before.impl_owner()
+    }
+
+    fn last_later(&self) -> usize {
+        self.before.last_later() as usize
     }
 
     fn last_items(&self) -> usize {

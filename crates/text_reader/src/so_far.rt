@@ -2,7 +2,7 @@
 ghost use Rattle.std.specs.Prelude.{◌≡◌, ◌<◌, length, IfSome};
 ghost use Rattle.std.specs.Option.{option_map, option_and_then};
 ghost use Rattle.model.specs.Worlds.{sees};
-ghost use Rattle.text_definitions.specs.Declarations.{known, last_crate, world_of};
+ghost use Rattle.text_definitions.specs.Declarations.{known, last_crate, last_later, impl_owner, world_of};
 ghost use Rattle.text_definitions.specs.Faults.{last_items, number_of_crate};
 ghost use Rattle.text_definitions.specs.Lowering.{crate_number};
 ghost use Rattle.workspace.specs.Numbered.{IsFew};
@@ -111,6 +111,26 @@ impl<'w> SoFar<'w> {
         ensures { result ≡ length self.now.questions }
     {
         self.tables.question_count()
+    }
+
+    pub fn is_in_section(&self) -> bool
+        ensures { result ≡ self.now.in_section }
+    {
+        self.tables.is_in_section()
+    }
+
+    /// The crate to which an impl of the line belongs.
+    pub fn impl_owner(&self) -> CrateId
+        ensures number { result.index ≡ impl_owner self.now }
+        ensures there { result.index < length self.now.crates }
+    {
+        self.tables.impl_owner()
+    }
+
+    pub fn last_later(&self) -> u32
+        ensures { result ≡ last_later self.now }
+    {
+        self.tables.last_later()
     }
 
     pub fn last_items(&self) -> u32

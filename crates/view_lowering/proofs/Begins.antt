@@ -1,5 +1,5 @@
 -- Of a text without a fault, the self type of each impl is a parameter, or no variable or placeholder.
-use Rattle.std.proofs.Common.{◌≡◌, ℕ, zero, suc, ◌+◌, Bool, true, false, cond, ◌||◌, List, [], ◌∷◌, ◌++◌, map, Option, Some, None, Result, Ok, Err, refl, sym, ap, ◌∙◌, subst, if◌then◌else◌}
+use Rattle.std.proofs.Common.{◌≡◌, ℕ, zero, suc, ◌+◌, ◌-◌, Bool, true, false, cond, ◌||◌, List, [], ◌∷◌, ◌++◌, map, Option, Some, None, Result, Ok, Err, refl, sym, ap, ◌∙◌, subst, if◌then◌else◌}
 use Rattle.std.proofs.lemmas.Option.{same_Some}
 use Rattle.std.specs.Prelude.{slice_get, find, ◌==◌, length}
 use Rattle.std.specs.Option.{option_map, option_map_or}
@@ -9,17 +9,17 @@ use Rattle.model.specs.Label.{Label, Sort, of_type, param, bool, char, str, neve
 use Rattle.model.specs.Trees.{Trees, none, tree, ◌+++◌}
 use Rattle.text_definitions.specs.Words.{Keyword, for_word, primitives, primitive_named, keyword_named, Sign, sign_at, is_digit}
 use Rattle.text_definitions.specs.Tokens.{Token, keyword, primitive, name, lifetime, variable, number, sign, arrow, Piece, word, quoted, queried, pointing, byte, in_front, word_token, as_lifetime, as_variable, sign_token, name_token, number_from, tokens_from, tokens_of, pieces}
-use Rattle.text_definitions.specs.Syntax.{TypeTree, of_primitive, never_type, variable_type, named, reference_to, pointer_to, slice_of, array_of, tuple_of, fn_of, fn_to, dyn_of, Line, crate_line, struct_line, trait_line, impl_line, prove_line, refute_line, Params, Clause, spelling, type_spelling, params_spelling, bound_spelling, where_spelling, clause_spelling}
+use Rattle.text_definitions.specs.Syntax.{TypeTree, of_primitive, never_type, variable_type, named, reference_to, pointer_to, slice_of, array_of, tuple_of, fn_of, fn_to, dyn_of, Line, crate_line, struct_line, trait_line, impl_line, prove_line, refute_line, later_line, supers_line, Params, Clause, spelling, type_spelling, params_spelling, bound_spelling, where_spelling, clause_spelling}
 use Rattle.text_definitions.specs.Written.{IsWritten}
-use Rattle.text_definitions.specs.Declarations.{Declarations, NamedImpl, Known, a_crate, a_struct, a_trait, known, nothing_declared}
+use Rattle.text_definitions.specs.Declarations.{Declarations, NamedImpl, LaterImpl, Known, a_crate, a_struct, a_trait, known, nothing_declared}
 use Rattle.text_definitions.specs.Uses.{Use, crate_use, name_use, trait_use, lifetime_use, binder_use, variable_use, misfit_use, dyn_use, items_use, number_use, type_uses, bound_uses, clause_uses, kinds_of_struct}
 use Rattle.text_definitions.specs.Faults.{is_among, variables_in, is_any, has_stray_variable, tests, first_of, fault_of}
 use Rattle.text_definitions.specs.Lowering.{Meanings, type_tree, args_trees, struct_label, place_among}
-use Rattle.text_definitions.specs.Adding.{item_meanings, impl_of, added}
+use Rattle.text_definitions.specs.Adding.{item_meanings, impl_of, with_impl, added}
 use Rattle.text_definitions.specs.Text.{LineGives, other_byte, blank, unwritten, faulty, adds, LinesGive, ends, fails, goes_on, TextGives, too_long, fits}
 use Rattle.declarations.specs.Heads.{begins_declared}
 use Rattle.workspace.specs.Numbered.{Each}
-use Rattle.view_lowering.specs.Seen.{BeginDeclared}
+use Rattle.view_lowering.specs.Seen.{BeginDeclared, LaterBeginDeclared}
 
 -- ---- primitive tokens are primitive types
 abbrev pub is_scalar : Label → Bool
@@ -239,26 +239,46 @@ one-more [] x h g (suc k) y e = absurd cc
 one-more (z ∷ xs) x h g zero y e = h zero y e
 one-more (z ∷ xs) x h g (suc k) y e = one-more xs x (λ j w q. h (suc j) w q) g k y e
 
-line-added : (d : Declarations) (line : List ℕ) (l : Line) → IsWritten line l → fault_of d l ≡ None → BeginDeclared d → BeginDeclared (added d l)
+one-more-later : (xs : List LaterImpl) (x : LaterImpl) → Each (λ k i. begins_declared i.added.item.header.args ≡ true) xs → begins_declared x.added.item.header.args ≡ true
+    → Each (λ k i. begins_declared i.added.item.header.args ≡ true) (xs ++ x ∷ [])
+one-more-later [] x h g zero y e = ap (λ z. begins_declared z.added.item.header.args) (sym (same_Some x y e)) ∙ g
+one-more-later [] x h g (suc k) y e = absurd cc
+one-more-later (z ∷ xs) x h g zero y e = h zero y e
+one-more-later (z ∷ xs) x h g (suc k) y e = one-more-later xs x (λ j w q. h (suc j) w q) g k y e
+
+-- of all impls, those of sections too
+abbrev AllBegun : Declarations → Type 0
+AllBegun d = BeginDeclared d × LaterBeginDeclared d
+
+impl-begun : (d : Declarations) (x : NamedImpl) → begins_declared x.item.header.args ≡ true → AllBegun d → AllBegun (with_impl d x)
+impl-begun d x g h = by d.in_section
+  where
+    by : (b : Bool) → AllBegun (if b then record d { later_impls = d.later_impls ++ record { section = length d.sections - 1; added = x } ∷ [] } else record d { impls = d.impls ++ x ∷ [] })
+    by true = (h.0, one-more-later d.later_impls (record { section = length d.sections - 1; added = x }) h.1 g)
+    by false = (one-more d.impls x h.0 g, h.1)
+
+line-added : (d : Declarations) (line : List ℕ) (l : Line) → IsWritten line l → fault_of d l ≡ None → AllBegun d → AllBegun (added d l)
 line-added d line (crate_line n us) w f h = h
 line-added d line (struct_line g n ps fs) w f h = h
 line-added d line (trait_line g a n ps bs) w f h = h
-line-added d line (impl_line ps k ks) w f h = one-more d.impls (impl_of d (item_meanings d (impl_line ps k ks) 0) ps k ks) h (header-begins d line ps k ks w f)
+line-added d line (impl_line ps k ks) w f h = impl-begun d (impl_of d (item_meanings d (impl_line ps k ks) 0) ps k ks) (header-begins d line ps k ks w f) h
 line-added d line (prove_line c ps a ks) w f h = h
 line-added d line (refute_line c ps a) w f h = h
+line-added d line (later_line n) w f h = h
+line-added d line (supers_line n) w f h = h
 
 abbrev Good : {E : Type 0} → Result Declarations E → Type 0
-Good (Ok d) = BeginDeclared d
+Good (Ok d) = AllBegun d
 Good (Err e) = Unit {0}
 
-line-good : (d : Declarations) (line : List ℕ) (r : Result Declarations ℕ) → LineGives d line r → BeginDeclared d → Good r
+line-good : (d : Declarations) (line : List ℕ) (r : Result Declarations ℕ) → LineGives d line r → AllBegun d → Good r
 line-good d line _ (other_byte a) h = tt
 line-good d line _ (blank a b) h = h
 line-good d line _ (unwritten a b u) h = tt
 line-good d line _ (faulty l n a b w f) h = tt
 line-good d line _ (adds l a b w f) h = line-added d line l w f h
 
-lines-good : (d : Declarations) (k : ℕ) (ls : List (List ℕ)) (r : Result Declarations (ℕ × ℕ)) → LinesGive d k ls r → BeginDeclared d → Good r
+lines-good : (d : Declarations) (k : ℕ) (ls : List (List ℕ)) (r : Result Declarations (ℕ × ℕ)) → LinesGive d k ls r → AllBegun d → Good r
 lines-good d k ls r (ends _ _) h = h
 lines-good d k ls r (fails _ _ l rest n g) h = tt
 lines-good d k ls r (goes_on _ e _ l rest _ g more) h = lines-good e (suc k) rest r more (line-good d l (Ok e) g h)
@@ -273,12 +293,15 @@ each-begins [] h k x e = absurd cc
 each-begins (i ∷ is) h zero x e = ap (λ z. begins_declared z.item.header.args) (sym (same_Some i x e)) ∙ h.0
 each-begins (i ∷ is) h (suc k) x e = each-begins is h.1 k x e
 
-core-begins : BeginDeclared nothing_declared
-core-begins = each-begins nothing_declared.impls (refl, (refl, (refl, (refl, (refl, (refl, (refl, (refl, (refl, (refl, (refl, (refl, (refl, (refl, (refl, (refl, (refl, (refl, (refl, (refl, (refl, (refl, (refl, (refl, (refl, (refl, (refl, (refl, (refl, (refl, (refl, (refl, (refl, (refl, (refl, (refl, (refl, (refl, (refl, tt)))))))))))))))))))))))))))))))))))))))
+core-begins : AllBegun nothing_declared
+core-begins = (each-begins nothing_declared.impls (refl, (refl, (refl, (refl, (refl, (refl, (refl, (refl, (refl, (refl, (refl, (refl, (refl, (refl, (refl, (refl, (refl, (refl, (refl, (refl, (refl, (refl, (refl, (refl, (refl, (refl, (refl, (refl, (refl, (refl, (refl, (refl, (refl, (refl, (refl, (refl, (refl, (refl, (refl, tt))))))))))))))))))))))))))))))))))))))), λ k x e. absurd cc)
 
 text-good : (bytes : List ℕ) (r : Result Declarations (ℕ × ℕ)) → TextGives bytes r → Good r
 text-good bytes _ (too_long h) = tt
 text-good bytes r (fits _ h p) = lines-good nothing_declared 1 _ r p core-begins
 
 pub texts-begin : (bytes : List ℕ) (d : Declarations) → TextGives bytes (Ok d) → BeginDeclared d
-texts-begin bytes d h = text-good bytes (Ok d) h
+texts-begin bytes d h = (text-good bytes (Ok d) h).0
+
+pub later-begin : (bytes : List ℕ) (d : Declarations) → TextGives bytes (Ok d) → LaterBeginDeclared d
+later-begin bytes d h = (text-good bytes (Ok d) h).1

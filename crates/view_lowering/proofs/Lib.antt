@@ -31,3 +31,5 @@ pub mod Variables
 mod QuestionTypes
 mod QuestionTexts
 mod Refusals
+pub mod LaterImpls
+mod LaterWell

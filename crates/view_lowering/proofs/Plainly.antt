@@ -53,7 +53,7 @@ map-again : {A B : Type 0} (f : A → A) (g : A → B) → ((x : A) → g (f x) 
 map-again f g h [] = refl
 map-again f g h (x ∷ xs) = two (h x) (map-again f g h xs)
 
-reference-erased : (k : ℕ → Bool) (r : Reference) → erased_reference (plain_reference k r) ≡ erased_reference r
+pub reference-erased : (k : ℕ → Bool) (r : Reference) → erased_reference (plain_reference k r) ≡ erased_reference r
 reference-erased k r = ap (λ z. (let x : Reference = record { trait = r.trait; args = z } in x)) (plain-erased k r.args)
 
 struct-erased : (x : StructDecl) → erased_struct (plain_struct x) ≡ erased_struct x

@@ -1,17 +1,17 @@
 -- A `refute` question of a text without a fault speaks of its variables alone.
-use Rattle.std.proofs.Common.{◌≡◌, ◌<◌, ℕ, zero, suc, arith, ltb, Bool, true, false, not, ◌||◌, List, [], ◌∷◌, map, length, Some, None, Result, Ok, Err, refl, sym, ap, ◌∙◌, subst}
+use Rattle.std.proofs.Common.{◌≡◌, ◌<◌, ℕ, zero, suc, arith, ltb, Bool, true, false, not, ◌||◌, List, [], ◌∷◌, ◌++◌, ◌-◌, if◌then◌else◌, map, length, Some, None, Result, Ok, Err, refl, sym, ap, ◌∙◌, subst}
 use Rattle.std.proofs.lemmas.Bool.{eqb-true}
 use Rattle.std.proofs.lemmas.Bool.Decides.{nat_tests}
 use Rattle.std.proofs.lemmas.Option.{same_Some}
 use Rattle.std.specs.Prelude.{◌==◌, slice_get}
 use Rattle.model.specs.Label.{Label, Sort, of_type, of_const, of_lifetime, fn_ptr, principal, param, bound}
 use Rattle.model.specs.Trees.{Trees, none, tree, some_node}
-use Rattle.text_definitions.specs.Syntax.{Params, Clause, Line, crate_line, struct_line, trait_line, impl_line, prove_line, refute_line}
-use Rattle.text_definitions.specs.Declarations.{Declarations, Question, Variable, nothing_declared, kinds_of}
+use Rattle.text_definitions.specs.Syntax.{Params, Clause, Line, crate_line, struct_line, trait_line, impl_line, prove_line, refute_line, later_line, supers_line}
+use Rattle.text_definitions.specs.Declarations.{Declarations, NamedImpl, Question, Variable, nothing_declared, kinds_of}
 use Rattle.text_definitions.specs.Uses.{Use, variable_use, clause_uses}
 use Rattle.text_definitions.specs.Faults.{fault_of, variables_in, once}
 use Rattle.text_definitions.specs.Lowering.{clause_reference}
-use Rattle.text_definitions.specs.Adding.{added, question_of, question_meanings}
+use Rattle.text_definitions.specs.Adding.{added, impl_of, item_meanings, question_of, question_meanings}
 use Rattle.text_definitions.specs.Written.{IsWritten}
 use Rattle.text_definitions.specs.Text.{LineGives, other_byte, blank, unwritten, faulty, adds, LinesGive, ends, fails, goes_on, TextGives, too_long, fits}
 use Rattle.declarations.specs.Merges.{Each}
@@ -103,7 +103,16 @@ line-asked : (d : Declarations) (text : List ℕ) (l : Line) → IsWritten text 
 line-asked d text (crate_line n us) w f h = h
 line-asked d text (struct_line g n ps fs) w f h = h
 line-asked d text (trait_line g b n ps bs) w f h = h
-line-asked d text (impl_line ps k ks) w f h = h
+line-asked d text (impl_line ps k ks) w f h = by d.in_section
+  where
+    x : NamedImpl
+    x = impl_of d (item_meanings d (impl_line ps k ks) 0) ps k ks
+
+    by : (b : Bool) → Each Alone (if b then record d { later_impls = d.later_impls ++ record { section = length d.sections - 1; added = x } ∷ [] } else record d { impls = d.impls ++ x ∷ [] }).questions
+    by true = h
+    by false = h
+line-asked d text (later_line n) w f h = h
+line-asked d text (supers_line n) w f h = h
 line-asked d text (prove_line c ps a ks) w f h = each-more Alone d.questions _ h (λ e. absurd cc)
 line-asked d text (refute_line c ps a) w f h = each-more Alone d.questions _ h (λ e. refute-alone d text c ps a w f)
 

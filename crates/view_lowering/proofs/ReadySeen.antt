@@ -4,6 +4,7 @@ use Rattle.std.proofs.lemmas.Bool.{eqb-true}
 use Rattle.std.proofs.lemmas.Bool.Decides.{Decides-ltb}
 use Rattle.std.proofs.lemmas.Option.{same_Some}
 use Rattle.std.specs.Prelude.{if◌then◌else◌, ◌==◌, nat_lt, slice_get, IfSome}
+use Rattle.std.specs.List.{list_all}
 use Rattle.model.specs.Label.{Sort, of_type}
 use Rattle.model.specs.Trees.{Trees, outer_binder}
 use Rattle.model.specs.Worlds.{World, Reference, StructDecl, TraitDecl, ImplDecl, sees}
@@ -37,6 +38,37 @@ use Rattle.view_lowering.proofs.Texts.{Well, texts-are-well}
 good-speaks : (kept : ℕ → Bool) (sorts ss : List Sort) (t u : Trees) → is_good kept sorts t ≡ true → u ≡ plain kept t → ss ≡ sorts → SpeaksOf ss u
 good-speaks kept sorts ss t u g e f = subst (λ s. SpeaksOf s u) (sym f) (subst (SpeaksOf sorts) (sym e) (speaks sorts (plain kept t) (good-fits kept sorts t g)))
 
+-- ---- a good impl
+module _ (es : List Entry) (i : HeldImpl) (n : NamedImpl) (good : is_good_impl n ≡ true) (same_header : trees_at es i.def.header.args.0 ≡ plain all_kept n.item.header.args) where
+  abbrev H : Trees
+  H = n.item.header.args
+
+  abbrev own : List Sort
+  own = param_sorts n
+
+  good-header : is_good all_kept own H ≡ true
+  good-header = and-left (is_good all_kept own H) _ good
+
+  good-rest : all_stand H 0 own && list_all (λ (r : Reference). is_good (stands_in H) own r.args) n.item.clauses ≡ true
+  good-rest = and-right (n.item.params == length own) _ (and-right (is_good all_kept own H) _ good)
+
+  pub header-tells : impl_sorts i ≡ own → TellsKinds es i
+  header-tells sorts =
+      subst (λ t. map kind_of_sort (impl_sorts i) ≡ kinds_of_params t 0 (length (impl_sorts i))) (sym same_header)
+      (subst (λ z. map kind_of_sort z ≡ kinds_of_params (plain all_kept H) 0 (length z)) (sym sorts) (kinds-told H own (and-left (all_stand H 0 own) _ good-rest) (good-fits all_kept own H good-header)))
+
+  pub impl-speaks-of-own : map (reference_in es) i.def.clauses.items ≡ map (plain_reference (stands_in H)) n.item.clauses → impl_sorts i ≡ own → SpeaksOfOwn es i
+  impl-speaks-of-own same_clauses sorts =
+      let Q = λ (r : Reference). is_good (stands_in H) own r.args ≡ true in
+      record {
+        header = good-speaks all_kept own (impl_sorts i) H (trees_at es i.def.header.args.0) good-header same_header sorts;
+        clauses =
+            each-map (λ (y : TraitRef). (r : Reference) × Q r × (reference_in es y ≡ plain_reference (stands_in H) r)) (λ (r : TraitRef). SpeaksOf (impl_sorts i) (trees_at es r.args.0))
+            (λ y m. good-speaks (stands_in H) own (impl_sorts i) m.0.args (trees_at es y.args.0) m.1 (ap (λ (r : Reference). r.args) m.2) sorts) i.def.clauses.items
+            (parts-matched Q (plain_reference (stands_in H)) (reference_in es) n.item.clauses i.def.clauses.items
+            (each-true (λ (r : Reference). is_good (stands_in H) own r.args) n.item.clauses (and-right (all_stand H 0 own) _ good-rest)) same_clauses);
+      }
+
 module _ (d : text.Declarations) (c : ℕ) (w : Well d) (es : List Entry) (decls : Items) (seen : AreSeen es decls d c) where
   -- ---- structs
   abbrev IsStruct : AdtId × AdtDef → Type 0
@@ -67,29 +99,10 @@ module _ (d : text.Declarations) (c : ℕ) (w : Well d) (es : List Entry) (decls
       (each-true is_good_impl d.impls w.impls) (ap (λ (V : World). V.impls) seen.written) seen.impls
 
   impl-tells : (i : HeldImpl) → IsImpl i → TellsKinds es i
-  impl-tells i n =
-      let H = n.0.item.header.args in
-      let ss = param_sorts n.0 in
-      let rest = and-right (is_good all_kept ss H) _ n.1 in
-      let stand = and-left (all_stand H 0 ss) _ (and-right (n.0.item.params == length ss) _ rest) in
-      subst (λ t. map kind_of_sort (impl_sorts i) ≡ kinds_of_params t 0 (length (impl_sorts i))) (sym (ap (λ (x : ImplDecl). x.header.args) n.2))
-      (subst (λ z. map kind_of_sort z ≡ kinds_of_params (plain all_kept H) 0 (length z)) (sym n.3) (kinds-told H ss stand (good-fits all_kept ss H (and-left (is_good all_kept ss H) _ n.1))))
+  impl-tells i n = header-tells es i n.0 n.1 (ap (λ (x : ImplDecl). x.header.args) n.2) n.3
 
   impl-speaks : (i : HeldImpl) → IsImpl i → SpeaksOfOwn es i
-  impl-speaks i n =
-      let H = n.0.item.header.args in
-      let ss = param_sorts n.0 in
-      let rest = and-right (is_good all_kept ss H) _ n.1 in
-      let clauses = and-right (all_stand H 0 ss) _ (and-right (n.0.item.params == length ss) _ rest) in
-      let Q = λ (r : Reference). is_good (stands_in H) ss r.args ≡ true in
-      record {
-        header = good-speaks all_kept ss (impl_sorts i) H (trees_at es i.def.header.args.0) (and-left (is_good all_kept ss H) _ n.1) (ap (λ (x : ImplDecl). x.header.args) n.2) n.3;
-        clauses =
-            each-map (λ (y : TraitRef). (r : Reference) × Q r × (reference_in es y ≡ plain_reference (stands_in H) r)) (λ (r : TraitRef). SpeaksOf (impl_sorts i) (trees_at es r.args.0))
-            (λ y m. good-speaks (stands_in H) ss (impl_sorts i) m.0.args (trees_at es y.args.0) m.1 (ap (λ (r : Reference). r.args) m.2) n.3) i.def.clauses.items
-            (parts-matched Q (plain_reference (stands_in H)) (reference_in es) n.0.item.clauses i.def.clauses.items (each-true (λ (r : Reference). is_good (stands_in H) ss r.args) n.0.item.clauses clauses)
-            (ap (λ (x : ImplDecl). x.clauses) n.2));
-      }
+  impl-speaks i n = impl-speaks-of-own es i n.0 n.1 (ap (λ (x : ImplDecl). x.header.args) n.2) (ap (λ (x : ImplDecl). x.clauses) n.2) n.3
 
   pub headers-tell : HeadersTell es decls
   headers-tell = each-map IsImpl (TellsKinds es) impl-tells decls.impls impls-matched

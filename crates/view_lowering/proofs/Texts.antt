@@ -1,18 +1,19 @@
 -- What a text without a fault declares is declared well.
-use Rattle.std.proofs.Common.{◌≡◌, ℕ, zero, suc, ◌+◌, Bool, true, false, ◌&&◌, ◌||◌, List, [], ◌∷◌, ◌++◌, length, Option, Some, None, Result, Ok, Err, refl, sym, ap, ◌∙◌, subst, arith}
+use Rattle.std.proofs.Common.{◌≡◌, ℕ, zero, suc, ◌+◌, ◌-◌, Bool, true, false, ◌&&◌, ◌||◌, List, [], ◌∷◌, ◌++◌, length, map, Option, Some, None, Result, Ok, Err, refl, sym, ap, ◌∙◌, subst, arith}
 use Rattle.std.proofs.lemmas.Bool.{ne_eqb}
 use Rattle.std.proofs.lemmas.List.Folds.{list_all-append}
+use Rattle.std.proofs.lemmas.List.{map_push}
 use Rattle.std.proofs.lemmas.Option.{same_Some}
 use Rattle.std.specs.Prelude.{not, if◌then◌else◌, ◌==◌, slice_get, find}
 use Rattle.std.specs.List.{list_all}
 use Rattle.std.specs.Option.{option_map, option_map_or, option_or}
 use Rattle.std.specs.Str.{bytes_eq}
 use Rattle.model.specs.Label.{Sort}
-use Rattle.text_definitions.specs.Syntax.{Params, Bound, Line, crate_line, struct_line, trait_line, impl_line, prove_line, refute_line}
-use Rattle.text_definitions.specs.Declarations.{Declarations, NamedCrate, NamedStruct, NamedTrait, Known, a_crate, a_struct, a_trait, nothing_declared, kinds_of}
+use Rattle.text_definitions.specs.Syntax.{Params, Bound, Line, crate_line, struct_line, trait_line, impl_line, prove_line, refute_line, later_line, supers_line}
+use Rattle.text_definitions.specs.Declarations.{Declarations, NamedCrate, NamedStruct, NamedTrait, NamedImpl, LaterImpl, Known, a_crate, a_struct, a_trait, nothing_declared, kinds_of}
 use Rattle.text_definitions.specs.Uses.{uses, params_of}
 use Rattle.text_definitions.specs.Faults.{fault_of, with_own, repeats, takes_names, is_loaded_auto}
-use Rattle.text_definitions.specs.Adding.{added, struct_of, trait_of, impl_of, item_meanings}
+use Rattle.text_definitions.specs.Adding.{added, with_impl, struct_of, trait_of, impl_of, item_meanings}
 use Rattle.text_definitions.specs.Written.{IsWritten}
 use Rattle.text_definitions.specs.Text.{LineGives, other_byte, blank, unwritten, faulty, adds, LinesGive, ends, fails, goes_on, TextGives, too_long, fits}
 use Rattle.declarations.specs.Merges.{Each}
@@ -38,6 +39,7 @@ pub record Well (d : Declarations) : Type 0 where
   pub structs : list_all is_good_struct d.structs ≡ true
   pub traits : list_all is_good_trait d.traits ≡ true
   pub impls : list_all is_good_impl d.impls ≡ true
+  pub later_impls : list_all is_good_impl (map (λ i. i.added) d.later_impls) ≡ true
   pub struct_numbers : (k : ℕ) (x : NamedStruct) → slice_get d.structs k ≡ Some x → x.item.name ≡ k
   pub trait_numbers : TraitsNumbered d
   pub bare : list_all is_bare d.traits ≡ true
@@ -121,13 +123,41 @@ bare-auto true f n ps bs h = by (kinds_of ps) h
     by [] g = refl
     by (k ∷ ks) g = clash (length (k ∷ ks) == 0) (length bs == 0) (ne_eqb (suc (length ks)) 0 (λ e. omega (arith, e))) g
 
+-- an impl of a section, or of the last crate
+impl-well : (d : Declarations) (x : NamedImpl) → is_good_impl x ≡ true → Well d → Well (with_impl d x)
+impl-well d x g h = by d.in_section
+  where
+    by : (b : Bool) → Well (if b then record d { later_impls = d.later_impls ++ record { section = length d.sections - 1; added = x } ∷ [] } else record d { impls = d.impls ++ x ∷ [] })
+    by true = record {
+      structs = h.structs;
+      traits = h.traits;
+      impls = h.impls;
+      later_impls =
+          ap (list_all is_good_impl) (map_push (λ (i : LaterImpl). i.added) d.later_impls (record { section = length d.sections - 1; added = x }))
+          ∙ one-more is_good_impl (map (λ i. i.added) d.later_impls) x h.later_impls g;
+      struct_numbers = h.struct_numbers;
+      trait_numbers = h.trait_numbers;
+      bare = h.bare;
+      bounds = h.bounds;
+    }
+    by false = record {
+      structs = h.structs;
+      traits = h.traits;
+      impls = one-more is_good_impl d.impls x h.impls g;
+      later_impls = h.later_impls;
+      struct_numbers = h.struct_numbers;
+      trait_numbers = h.trait_numbers;
+      bare = h.bare;
+      bounds = h.bounds;
+    }
+
 pub line-added : (d : Declarations) (line : List ℕ) (l : Line) → IsWritten line l → fault_of d l ≡ None → Well d → Well (added d l)
 line-added d line (crate_line n us) w f h =
-    record { structs = h.structs; traits = h.traits; impls = h.impls; struct_numbers = h.struct_numbers; trait_numbers = h.trait_numbers; bare = h.bare; bounds = h.bounds }
+    record { structs = h.structs; traits = h.traits; impls = h.impls; later_impls = h.later_impls; struct_numbers = h.struct_numbers; trait_numbers = h.trait_numbers; bare = h.bare; bounds = h.bounds }
 line-added d line (prove_line c ps a ks) w f h =
-    record { structs = h.structs; traits = h.traits; impls = h.impls; struct_numbers = h.struct_numbers; trait_numbers = h.trait_numbers; bare = h.bare; bounds = h.bounds }
+    record { structs = h.structs; traits = h.traits; impls = h.impls; later_impls = h.later_impls; struct_numbers = h.struct_numbers; trait_numbers = h.trait_numbers; bare = h.bare; bounds = h.bounds }
 line-added d line (refute_line c ps a) w f h =
-    record { structs = h.structs; traits = h.traits; impls = h.impls; struct_numbers = h.struct_numbers; trait_numbers = h.trait_numbers; bare = h.bare; bounds = h.bounds }
+    record { structs = h.structs; traits = h.traits; impls = h.impls; later_impls = h.later_impls; struct_numbers = h.struct_numbers; trait_numbers = h.trait_numbers; bare = h.bare; bounds = h.bounds }
 line-added d line (struct_line g n ps fs) w f h =
     let l = struct_line g n ps fs in
     let p = passes-tests d l f in
@@ -137,6 +167,7 @@ line-added d line (struct_line g n ps fs) w f h =
       structs = one-more is_good_struct d.structs x h.structs (good-struct d g n ps fs (struct-scalars line g n ps fs w) fit);
       traits = h.traits;
       impls = h.impls;
+      later_impls = h.later_impls;
       struct_numbers = at-place (λ (y : NamedStruct). y.item.name) d.structs x h.struct_numbers refl;
       trait_numbers = h.trait_numbers;
       bare = h.bare;
@@ -151,6 +182,7 @@ line-added d line (trait_line g a n ps bs) w f h =
       structs = h.structs;
       traits = one-more is_good_trait d.traits x h.traits (good-trait d g a n ps bs h.trait_numbers (trait-scalars line g a n ps bs w) fit p.has_other_bounds);
       impls = h.impls;
+      later_impls = h.later_impls;
       struct_numbers = h.struct_numbers;
       trait_numbers = at-place (λ (y : NamedTrait). y.item.name) d.traits x h.trait_numbers refl;
       bare = one-more is_bare d.traits x h.bare (bare-auto a g n ps bs p.is_bare_auto);
@@ -162,15 +194,11 @@ line-added d line (impl_line ps k ks) w f h =
     let p = passes-tests d l f in
     let x = impl_of d (item_meanings d l 0) ps k ks in
     let fit = all-fit d l (uses (with_own d l) l) (faultless-uses d l f) (or-left _ _ p.has_asked_variables) in
-    record {
-      structs = h.structs;
-      traits = h.traits;
-      impls = one-more is_good_impl d.impls x h.impls (good-impl d ps k ks (autos-bare d h.bare) (impl-scalars line ps k ks w) fit (no-repeats d l p.has_free_names) p.has_bound_params);
-      struct_numbers = h.struct_numbers;
-      trait_numbers = h.trait_numbers;
-      bare = h.bare;
-      bounds = h.bounds;
-    }
+    impl-well d x (good-impl d ps k ks (autos-bare d h.bare) (impl-scalars line ps k ks w) fit (no-repeats d l p.has_free_names) p.has_bound_params) h
+line-added d line (later_line n) w f h =
+    record { structs = h.structs; traits = h.traits; impls = h.impls; later_impls = h.later_impls; struct_numbers = h.struct_numbers; trait_numbers = h.trait_numbers; bare = h.bare; bounds = h.bounds }
+line-added d line (supers_line n) w f h =
+    record { structs = h.structs; traits = h.traits; impls = h.impls; later_impls = h.later_impls; struct_numbers = h.struct_numbers; trait_numbers = h.trait_numbers; bare = h.bare; bounds = h.bounds }
 
 -- ---- texts
 abbrev WellIfTaken : {E : Type 0} → Result Declarations E → Type 0
@@ -219,6 +247,7 @@ core-well =
       structs = refl;
       traits = refl;
       impls = refl;
+      later_impls = refl;
       struct_numbers = places (λ (y : NamedStruct). y.item.name) nothing_declared.structs (refl, tt);
       trait_numbers = places (λ (y : NamedTrait). y.item.name) nothing_declared.traits (refl, (refl, (refl, (refl, (refl, (refl, (refl, (refl, (refl, tt)))))))));
       bare = refl;

@@ -5,3 +5,4 @@ pub mod PlainCells
 pub mod TextLaws
 pub mod Ready
 pub mod QuestionVariables
+pub mod Later

@@ -48,3 +48,7 @@ impl_sorts_seen d c = map param_sorts (filter (λ i. sees (world_of d) c i.item.
 -- the self type of each impl is a parameter, or no variable or placeholder
 abbrev pub BeginDeclared : text.Declarations → Type 0
 BeginDeclared d = Each (λ k i. begins_declared i.item.header.args ≡ true) d.impls
+
+-- so it is of the impls that later versions add
+abbrev pub LaterBeginDeclared : text.Declarations → Type 0
+LaterBeginDeclared d = Each (λ k i. begins_declared i.added.item.header.args ≡ true) d.later_impls

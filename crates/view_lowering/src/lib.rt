@@ -3,6 +3,7 @@
 #![tactic(auto)]
 
 mod items;
+mod later;
 pub mod laws;
 mod parts;
 mod plain;
@@ -10,6 +11,7 @@ mod question;
 mod text_laws;
 mod view;
 
+pub use later::lower_later;
 pub use question::{LoweredQuestion, lower_question};
 pub use text_laws::{
     bounds_are_applied, fields_speak_of_parameters, impls_speak_of_parameters,

@@ -13,10 +13,10 @@ use Rattle.std.specs.declared.hash.FoldHasher.{FoldHasher}
 use Rattle.std.specs.declared.hash.BuildHasherDefault.{BuildHasherDefault}
 use Rattle.std.specs.Map.{lookup}
 use Rattle.model.specs.Worlds.{World, core, sees}
-use Rattle.text_definitions.specs.Declarations.{Declarations, NamedCrate, NamedStruct, NamedTrait, NamedImpl, Question, known, world_of, last_crate}
+use Rattle.text_definitions.specs.Declarations.{Declarations, NamedCrate, NamedStruct, NamedTrait, NamedImpl, Check, of_later, of_supers, Question, known, world_of, last_crate, last_later}
 use Rattle.text_definitions.specs.Faults.{last_items}
 use Rattle.type_terms.specs.declared.CrateId.{CrateId}
-use Rattle.workspace.specs.Numbered.{Each, IsNumbered}
+use Rattle.workspace.specs.Numbered.{Each, IsNumbered, IsCheckIn}
 use Rattle.workspace.specs.Made.{AreMade, ReferenceMade, ReferencesMade, is_type}
 use Rattle.workspace.specs.declared.tables.Tables.{Tables}
 use Rattle.workspace.specs.declared.declared.CrateEntry.{CrateEntry}
@@ -26,7 +26,7 @@ use Rattle.workspace.specs.declared.declared.ImplEntry.{ImplEntry}
 use Rattle.workspace.specs.declared.declared.QuestionEntry.{QuestionEntry}
 use Rattle.workspace.specs.declared.declared.Asked.{Asked}
 use Rattle.workspace.specs.declared.declared.Named.{Named}
-use Rattle.workspace.specs.Views.{crate_of, struct_of, trait_of, impl_of, question_of, asker_of, numbers_of, sorts_of, cells_of, reference_of, sort_of_kind, sorted_params}
+use Rattle.workspace.specs.Views.{crate_of, struct_of, trait_of, impl_of, question_of, asker_of, later_of, check_of, numbers_of, sorts_of, cells_of, reference_of, sort_of_kind, sorted_params}
 use Rattle.workspace.specs.TermCells.{trees_of}
 use Rattle.workspace.specs.Parts.{new_struct, new_trait, new_impl}
 use Rattle.workspace.specs.Tables.{IsConsistent, declared, impls_of, will_see, with_crate, with_struct, with_trait, with_impl, with_question, Item, crate_item, struct_item, trait_item, item_of, item_named, core_alone}
@@ -38,8 +38,13 @@ use Rattle.workspace.proofs.Crates.{IsOrdered, sees-same, old-sees, new-sees, la
 pub ordered : (d : Declarations) → IsNumbered d → IsOrdered (world_of d).crates
 ordered d i = Each-of_map (λ k c. (c.name ≡ k) × All (λ u. u < k) c.uses) (λ c. c.item) d.crates i.crates
 
-one-more : {A : Type 0} (xs : List A) (x : A) (k : ℕ) → k < length xs → k < length (xs ++ x ∷ [])
+pub one-more : {A : Type 0} (xs : List A) (x : A) (k : ℕ) → k < length xs → k < length (xs ++ x ∷ [])
 one-more xs x k h = omega (arith, h, length-append xs (x ∷ []))
+
+-- a check stays one of the crates and sections that are there
+check-more : (d : Declarations) (c : NamedCrate) (x : Check) → IsCheckIn d x → IsCheckIn (with_crate d c) x
+check-more d c (of_later k n) h = h
+check-more d c (of_supers n) h = one-more d.crates c n h
 
 pub numbered-crate : (d : Declarations) (c : NamedCrate) → IsNumbered d → c.item.name ≡ length d.crates → All (λ u. u < length d.crates) c.item.uses → IsNumbered (with_crate d c)
 numbered-crate d c i n u = record {
@@ -49,25 +54,29 @@ numbered-crate d c i n u = record {
   traits = Each-weaken d.traits (λ k x p. (p.0, one-more d.crates c x.item.home p.1)) i.traits;
   impls = Each-weaken d.impls (λ k x p. (p.0, one-more d.crates c x.item.home p.1)) i.impls;
   questions = Each-weaken d.questions (λ k x p. one-more d.crates c x.asker p) i.questions;
+  sections = Each-weaken d.sections (λ k x p. one-more d.crates c x p) i.sections;
+  later_impls = i.later_impls;
+  checks = Each-weaken d.checks (λ k x p. check-more d c x p) i.checks;
+  has_section = λ h. absurd cc;
 }
 
 pub numbered-struct : (d : Declarations) (s : NamedStruct) → IsNumbered d → s.item.name ≡ length d.structs → s.item.home < length d.crates → IsNumbered (with_struct d s)
-numbered-struct d s i n h = record { has_core = i.has_core; crates = i.crates; structs = Each-push d.structs s i.structs (n, h); traits = i.traits; impls = i.impls; questions = i.questions }
+numbered-struct d s i n h = record { has_core = i.has_core; crates = i.crates; structs = Each-push d.structs s i.structs (n, h); traits = i.traits; impls = i.impls; questions = i.questions; sections = i.sections; later_impls = i.later_impls; checks = i.checks; has_section = i.has_section }
 
 pub numbered-trait : (d : Declarations) (t : NamedTrait) → IsNumbered d → t.item.name ≡ length d.traits → t.item.home < length d.crates → IsNumbered (with_trait d t)
-numbered-trait d t i n h = record { has_core = i.has_core; crates = i.crates; structs = i.structs; traits = Each-push d.traits t i.traits (n, h); impls = i.impls; questions = i.questions }
+numbered-trait d t i n h = record { has_core = i.has_core; crates = i.crates; structs = i.structs; traits = Each-push d.traits t i.traits (n, h); impls = i.impls; questions = i.questions; sections = i.sections; later_impls = i.later_impls; checks = i.checks; has_section = i.has_section }
 
 pub numbered-impl : (d : Declarations) (m : NamedImpl) → IsNumbered d → m.item.name ≡ length d.impls → m.item.home < length d.crates → IsNumbered (with_impl d m)
-numbered-impl d m i n h = record { has_core = i.has_core; crates = i.crates; structs = i.structs; traits = i.traits; impls = Each-push d.impls m i.impls (n, h); questions = i.questions }
+numbered-impl d m i n h = record { has_core = i.has_core; crates = i.crates; structs = i.structs; traits = i.traits; impls = Each-push d.impls m i.impls (n, h); questions = i.questions; sections = i.sections; later_impls = i.later_impls; checks = i.checks; has_section = i.has_section }
 
 pub numbered-question : (d : Declarations) (q : Question) → IsNumbered d → q.asker < length d.crates → IsNumbered (with_question d q)
-numbered-question d q i h = record { has_core = i.has_core; crates = i.crates; structs = i.structs; traits = i.traits; impls = i.impls; questions = Each-push d.questions q i.questions h }
+numbered-question d q i h = record { has_core = i.has_core; crates = i.crates; structs = i.structs; traits = i.traits; impls = i.impls; questions = Each-push d.questions q i.questions h; sections = i.sections; later_impls = i.later_impls; checks = i.checks; has_section = i.has_section }
 
 pub last-there : (d : Declarations) → IsNumbered d → last_crate d < length d.crates
 last-there d i = omega (arith, i.has_core)
 
 -- ---- how many items the last crate has
-counted : (n h : ℕ) → n ≡ h → cond {A = ℕ} (n == h) 1 0 ≡ 1
+pub counted : (n h : ℕ) → n ≡ h → cond {A = ℕ} (n == h) 1 0 ≡ 1
 counted n h e = let p : (n == h) ≡ true = ap (λ m. m == h) e ∙ self-number h in rw p refl
 
 pub items-struct : (d : Declarations) (s : NamedStruct) → s.item.home ≡ last_crate d → last_items (with_struct d s) ≡ last_items d + 1
@@ -111,7 +120,7 @@ names-kept old new d e key n v k same value updated before names m =
     ∙ ap (cond (bytes_eq key m) (Some (item_of v))) (before m) ∙ ap (λ l. cond (bytes_eq l m) (Some (item_of v)) (item_named d m)) same ∙ ap (λ w. cond (bytes_eq n m) (Some w) (item_named d m)) value ∙ sym (names m)
 
 -- ---- rows, where no crate comes
-rows-kept : (t : Tables) (d : Declarations) → IsConsistent t → (world_of d).crates ≡ (world_of (declared t)).crates
+pub rows-kept : (t : Tables) (d : Declarations) → IsConsistent t → (world_of d).crates ≡ (world_of (declared t)).crates
     → Each (λ c entry. (e : ℕ) → unwrap_or (slice_get entry.sees.items e) false ≡ sees (world_of d) c e) t.crates.items
 rows-kept t d i s = Each-weaken t.crates.items (λ c x p e. p e ∙ sym (sees-same (world_of d) (world_of (declared t)) c e s)) i.rows
 
@@ -133,7 +142,8 @@ struct-consistent t structs names items s key n v i good behind text number home
       numbers = i.numbers;
       last_impls = i.last_impls;
       last_items = more ∙ ap (λ k. k + 1) i.last_items ∙ sym (items-struct d (struct_of s) home) ∙ ap last_items (sym e);
-      made = record { fields = subst (Each (λ k x. AreMade is_type x.fields.items)) (sym behind) (Each-push t.structs.items s i.made.fields good); bounds = i.made.bounds; headers = i.made.headers; clauses = i.made.clauses; asked = i.made.asked; given = i.made.given };
+      last_later = i.last_later;
+      made = record { fields = subst (Each (λ k x. AreMade is_type x.fields.items)) (sym behind) (Each-push t.structs.items s i.made.fields good); bounds = i.made.bounds; headers = i.made.headers; clauses = i.made.clauses; asked = i.made.asked; given = i.made.given; later_headers = i.made.later_headers; later_clauses = i.made.later_clauses };
     }
 
 pub struct-declared : (t : Tables) (structs : List StructEntry) (s : StructEntry) (n : List ℕ)
@@ -165,7 +175,8 @@ trait-consistent t traits names items s key n v i good behind text number home m
       numbers = i.numbers;
       last_impls = i.last_impls;
       last_items = more ∙ ap (λ k. k + 1) i.last_items ∙ sym (items-trait d (trait_of s) home) ∙ ap last_items (sym e);
-      made = record { fields = i.made.fields; bounds = subst (Each (λ k x. ReferencesMade x.bounds.items)) (sym behind) (Each-push t.traits.items s i.made.bounds good); headers = i.made.headers; clauses = i.made.clauses; asked = i.made.asked; given = i.made.given };
+      last_later = i.last_later;
+      made = record { fields = i.made.fields; bounds = subst (Each (λ k x. ReferencesMade x.bounds.items)) (sym behind) (Each-push t.traits.items s i.made.bounds good); headers = i.made.headers; clauses = i.made.clauses; asked = i.made.asked; given = i.made.given; later_headers = i.made.later_headers; later_clauses = i.made.later_clauses };
     }
 
 pub trait-declared : (t : Tables) (traits : List TraitEntry) (s : TraitEntry) (n : List ℕ)
@@ -202,7 +213,8 @@ question-consistent t questions asked q i good goods behind also there =
       numbers = i.numbers;
       last_impls = i.last_impls;
       last_items = i.last_items;
-      made = record { fields = i.made.fields; bounds = i.made.bounds; headers = i.made.headers; clauses = i.made.clauses; asked = subst (Each (λ k x. ReferenceMade x.asked)) (sym behind) (Each-push t.questions.items q i.made.asked good); given = subst (Each (λ k x. ReferencesMade x.clauses.items)) (sym behind) (Each-push t.questions.items q i.made.given goods) };
+      last_later = i.last_later;
+      made = record { fields = i.made.fields; bounds = i.made.bounds; headers = i.made.headers; clauses = i.made.clauses; asked = subst (Each (λ k x. ReferenceMade x.asked)) (sym behind) (Each-push t.questions.items q i.made.asked good); given = subst (Each (λ k x. ReferencesMade x.clauses.items)) (sym behind) (Each-push t.questions.items q i.made.given goods); later_headers = i.made.later_headers; later_clauses = i.made.later_clauses };
     }
 
 -- ---- an impl
@@ -228,7 +240,8 @@ impl-consistent t impls last items m i good goods behind number home place now m
       numbers = rw behind numbers;
       last_impls = now ∙ last-number ∙ ap (impls_of (last_crate d)) (sym behind);
       last_items = more ∙ ap (λ k. k + 1) i.last_items ∙ sym (items-impl d (impl_of m) home) ∙ ap last_items (sym e);
-      made = record { fields = i.made.fields; bounds = i.made.bounds; headers = subst (Each (λ k x. ReferenceMade x.header)) (sym behind) (Each-push t.impls.items m i.made.headers good); clauses = subst (Each (λ k x. ReferencesMade x.clauses.items)) (sym behind) (Each-push t.impls.items m i.made.clauses goods); asked = i.made.asked; given = i.made.given };
+      last_later = i.last_later;
+      made = record { fields = i.made.fields; bounds = i.made.bounds; headers = subst (Each (λ k x. ReferenceMade x.header)) (sym behind) (Each-push t.impls.items m i.made.headers good); clauses = subst (Each (λ k x. ReferencesMade x.clauses.items)) (sym behind) (Each-push t.impls.items m i.made.clauses goods); asked = i.made.asked; given = i.made.given; later_headers = i.made.later_headers; later_clauses = i.made.later_clauses };
     }
 
 pub impl-declared : (t : Tables) (impls : List ImplEntry) (m : ImplEntry)
@@ -259,11 +272,11 @@ pub crate-consistent : (t : Tables) (crates : Vec CrateEntry Global) (ids : Vec 
     → crates.items ≡ t.crates.items ++ x ∷ [] → ids.items ≡ t.ids.items ++ y ∷ [] → y.index ≡ x.id.index → x.name.items ≡ n → x.id.index ≡ length t.crates.items → All (λ u. u.index < length t.crates.items) x.uses.items
     → ((e : ℕ) → unwrap_or (slice_get x.sees.items e) false ≡ sees (world_of (with_crate (declared t) (record { text = n; item = record { name = length t.crates.items; uses = numbers_of x.uses.items } }))) (length t.crates.items) e)
     → known (declared t) n ≡ None → key ≡ n → item_of v ≡ crate_item x.id.index → UpdatesBy (λ y z. bytes_eq y.items z.items) (λ y. bytes_eq key y.items) t.names names (Some v)
-    → IsConsistent (record t { crates = crates; ids = ids; names = names; last_impls = 0; last_items = 0 })
+    → IsConsistent (record t { crates = crates; ids = ids; names = names; last_impls = 0; last_items = 0; in_section = false })
 crate-consistent t crates ids names x y key n v i behind also same-number text number earlier row new same value updated =
     let d = declared t in
-    let u : Tables = record t { crates = crates; ids = ids; names = names; last_impls = 0; last_items = 0 } in
-    let e : declared u ≡ with_crate d (crate_of x) = ap (λ cs. record d { crates = cs }) (ap (map crate_of) behind ∙ map_push crate_of t.crates.items x) in
+    let u : Tables = record t { crates = crates; ids = ids; names = names; last_impls = 0; last_items = 0; in_section = false } in
+    let e : declared u ≡ with_crate d (crate_of x) = ap (λ cs. record d { crates = cs; in_section = false }) (ap (map crate_of) behind ∙ map_push crate_of t.crates.items x) in
     let long : length d.crates ≡ length t.crates.items = length-map t.crates.items crate_of in
     let uses : All (λ m. m < length d.crates) (numbers_of x.uses.items) = All-map (λ m. m < length d.crates) (λ m. m.index) x.uses.items (rw long earlier) in
     let written : crate_of x ≡ record { text = n; item = record { name = length t.crates.items; uses = numbers_of x.uses.items } } =
@@ -283,7 +296,8 @@ crate-consistent t crates ids names x y key n v i behind also same-number text n
       numbers = i.numbers;
       last_impls = sym (count_by-none (λ m. m.owner.index == last_crate (declared u)) t.impls.items (Every-from_Each t.impls.items (λ k m p. ne_eqb m.owner.index (last_crate (declared u)) (λ q. absurd (omega (arith, p.1, q, last)))) homes));
       last_items = sym (ap last_items e ∙ items-crate d (crate_of x) i.numbered);
-      made = record { fields = i.made.fields; bounds = i.made.bounds; headers = i.made.headers; clauses = i.made.clauses; asked = i.made.asked; given = i.made.given };
+      last_later = i.last_later;
+      made = record { fields = i.made.fields; bounds = i.made.bounds; headers = i.made.headers; clauses = i.made.clauses; asked = i.made.asked; given = i.made.given; later_headers = i.made.later_headers; later_clauses = i.made.later_clauses };
     }
 
 -- ---- the row of a new crate
@@ -347,6 +361,10 @@ numbered-core = record {
   traits = Each-nothing (λ k t. (t.item.name ≡ k) × (t.item.home < 1));
   impls = Each-nothing (λ k i. (i.item.name ≡ k) × (i.item.home < 1));
   questions = Each-nothing (λ k q. q.asker < 1);
+  sections = Each-nothing (λ k c. c < 1);
+  later_impls = Each-nothing (λ k i. slice_get [] i.section ≡ Some i.added.item.home);
+  checks = Each-nothing (λ k c. IsCheckIn core_alone c);
+  has_section = λ h. absurd cc;
 }
 
 core-row : (e : ℕ) → unwrap_or (slice_get (true ∷ []) e) false ≡ sees (world_of core_alone) 0 e
@@ -361,13 +379,30 @@ core-row e =
     ]
 
 nobody : Declarations
-nobody = record { crates = []; structs = []; traits = []; impls = []; questions = [] }
+nobody = record { crates = []; structs = []; traits = []; impls = []; questions = []; sections = []; later_impls = []; checks = []; in_section = false }
+
+-- no section and no check
+pub record HasNoSection (t : Tables) : Type 0 where
+  pub sections : t.sections.items ≡ []
+  pub later : t.later_impls.items ≡ []
+  pub checks : t.checks.items ≡ []
+  pub outside : t.in_section ≡ false
+  pub none : t.last_later ≡ 0
+
+no-section : (t : Tables) → HasNoSection t → declared t ≡ record (declared t) { sections = []; later_impls = []; checks = []; in_section = false }
+no-section t h =
+    let d = declared t in
+    ap (λ ss. record d { sections = numbers_of ss }) h.sections
+    ∙ ap (λ is. record d { sections = []; later_impls = map later_of is }) h.later
+    ∙ ap (λ cs. record d { sections = []; later_impls = []; checks = map check_of cs }) h.checks
+    ∙ ap (λ b. record d { sections = []; later_impls = []; checks = []; in_section = b }) h.outside
 
 alone : (t : Tables) (x : CrateEntry) → t.crates.items ≡ x ∷ [] → x.id.index ≡ 0 → x.name.items ≡ codes "core" → x.uses.items ≡ []
-    → t.structs.items ≡ [] → t.traits.items ≡ [] → t.impls.items ≡ [] → t.questions.items ≡ [] → declared t ≡ core_alone
-alone t x crates number name uses structs traits impls questions =
-    let d = declared t in
-    ap (λ cs. record d { crates = map crate_of cs }) crates
+    → t.structs.items ≡ [] → t.traits.items ≡ [] → t.impls.items ≡ [] → t.questions.items ≡ [] → HasNoSection t → declared t ≡ core_alone
+alone t x crates number name uses structs traits impls questions bare =
+    let d : Declarations = record (declared t) { sections = []; later_impls = []; checks = []; in_section = false } in
+    no-section t bare
+    ∙ ap (λ cs. record d { crates = map crate_of cs }) crates
     ∙ ap (λ k. record d { crates = record { text = x.name.items; item = record { name = k; uses = numbers_of x.uses.items } } ∷ [] }) number
     ∙ ap (λ n. record d { crates = record { text = n; item = record { name = 0; uses = numbers_of x.uses.items } } ∷ [] }) name
     ∙ ap (λ us. record d { crates = record { text = codes "core"; item = record { name = 0; uses = numbers_of us } } ∷ [] }) uses
@@ -379,12 +414,12 @@ alone t x crates number name uses structs traits impls questions =
 pub core-consistent : (t : Tables) (old : NameTable) (zs : List CrateEntry) (x : CrateEntry) (y : CrateId) (key : List ℕ) (v : Named)
     → t.crates.items ≡ zs ++ x ∷ [] → t.ids.items ≡ y ∷ [] → UpdatesBy (λ a b. bytes_eq a.items b.items) (λ a. bytes_eq key a.items) old t.names (Some v) → zs ≡ []
     → x.id.index ≡ 0 → x.name.items ≡ codes "core" → x.uses.items ≡ [] → t.structs.items ≡ [] → t.traits.items ≡ [] → x.sees.items ≡ true ∷ [] → y.index ≡ 0 → t.impls.items ≡ [] → t.questions.items ≡ [] → t.asked.items ≡ []
-    → t.last_impls ≡ 0 → t.last_items ≡ 0
+    → t.last_impls ≡ 0 → t.last_items ≡ 0 → HasNoSection t
     → old.entries ≡ [] → key ≡ codes "core" → item_of v ≡ crate_item 0 → IsConsistent t
 unfolding nobody
-core-consistent t old zs x y key v behind ids updated none number name uses structs traits marked number-too impls questions asked no-impls no-items empty same value =
+core-consistent t old zs x y key v behind ids updated none number name uses structs traits marked number-too impls questions asked no-impls no-items bare empty same value =
     let crates : t.crates.items ≡ x ∷ [] = behind ∙ ap (λ ws. ws ++ x ∷ []) none in
-    let e : declared t ≡ core_alone = alone t x crates number name uses structs traits impls questions in
+    let e : declared t ≡ core_alone = alone t x crates number name uses structs traits impls questions bare in
     let Row : ℕ → CrateEntry → Type 0 = λ c w. (m : ℕ) → unwrap_or (slice_get w.sees.items m) false ≡ sees (world_of (declared t)) c m in
     record {
       numbered = subst IsNumbered (sym e) numbered-core;
@@ -396,6 +431,7 @@ core-consistent t old zs x y key v behind ids updated none number name uses stru
       numbers = subst (λ is. Each (λ k i. i.number_in_crate ≡ impls_of i.owner.index (take (suc k) is)) is) (sym impls) (Each-nothing (λ k i. i.number_in_crate ≡ impls_of i.owner.index (take (suc k) [])));
       last_impls = no-impls ∙ sym (ap (impls_of (last_crate (declared t))) impls);
       last_items = no-items ∙ sym (ap last_items e);
+      last_later = bare.none ∙ sym (ap last_later e);
       made = record {
         fields = subst (Each (λ k x. AreMade is_type x.fields.items)) (sym structs) (Each-nothing (λ k x. AreMade is_type x.fields.items));
         bounds = subst (Each (λ k x. ReferencesMade x.bounds.items)) (sym traits) (Each-nothing (λ k x. ReferencesMade x.bounds.items));
@@ -403,5 +439,7 @@ core-consistent t old zs x y key v behind ids updated none number name uses stru
         clauses = subst (Each (λ k x. ReferencesMade x.clauses.items)) (sym impls) (Each-nothing (λ k x. ReferencesMade x.clauses.items));
         asked = subst (Each (λ k x. ReferenceMade x.asked)) (sym questions) (Each-nothing (λ k x. ReferenceMade x.asked));
         given = subst (Each (λ k x. ReferencesMade x.clauses.items)) (sym questions) (Each-nothing (λ k x. ReferencesMade x.clauses.items));
+        later_headers = subst (Each (λ k x. ReferenceMade x.entry.header)) (sym bare.later) (Each-nothing (λ k x. ReferenceMade x.entry.header));
+        later_clauses = subst (Each (λ k x. ReferencesMade x.entry.clauses.items)) (sym bare.later) (Each-nothing (λ k x. ReferencesMade x.entry.clauses.items));
       };
     }

@@ -26,6 +26,8 @@ few-of_room d h = record {
   few_traits = omega (arith, h.few_traits);
   few_impls = omega (arith, h.few_impls);
   few_questions = omega (arith, h.few_questions);
+  few_sections = omega (arith, h.few_sections);
+  few_later = omega (arith, h.few_later);
 }
 
 -- ---- impls
@@ -106,6 +108,8 @@ room-behind d e M m i long short is =
       few_traits = omega (arith, i.few_traits);
       few_impls = omega (arith, length-append d.impls M, long, short, i.few_impls);
       few_questions = omega (arith, i.few_questions);
+      few_sections = omega (arith, i.few_sections);
+      few_later = omega (arith, i.few_later);
     })
 
 pub take-more : {A : Type 0} (xs : List A) (i : ℕ) (x : A) → i < length xs → x ≡ get_or xs i x → take (i + 1) xs ≡ take i xs ++ x ∷ []
@@ -145,13 +149,13 @@ room-4 d d1 d2 d3 d4 t i e1 e2 e3 e4 =
 
 -- ---- the whole
 pub in_core : IsInCore (core_traits_to 9)
-in_core = record { home = refl; few_crates = omega arith; few_structs = omega arith; few_traits = omega arith; few_impls = omega arith; few_questions = omega arith }
+in_core = record { home = refl; few_crates = omega arith; few_structs = omega arith; few_traits = omega arith; few_impls = omega arith; few_questions = omega arith; few_sections = omega arith; few_later = omega arith }
 
 pub in_core_boxed : IsInCore core_boxed
-in_core_boxed = record { home = refl; few_crates = omega arith; few_structs = omega arith; few_traits = omega arith; few_impls = omega arith; few_questions = omega arith }
+in_core_boxed = record { home = refl; few_crates = omega arith; few_structs = omega arith; few_traits = omega arith; few_impls = omega arith; few_questions = omega arith; few_sections = omega arith; few_later = omega arith }
 
 pub room_cloned : HasRoom core_cloned
-room_cloned = record { few_crates = omega arith; few_structs = omega arith; few_traits = omega arith; few_impls = omega arith; few_questions = omega arith }
+room_cloned = record { few_crates = omega arith; few_structs = omega arith; few_traits = omega arith; few_impls = omega arith; few_questions = omega arith; few_sections = omega arith; few_later = omega arith }
 
 pub cloned : (d e : Declarations) → d ≡ core_traits_to 9 → e ≡ record d { impls = d.impls ++ copied (length d.impls) 1 } → e ≡ core_cloned
 cloned d e before is = is ∙ ap {A = Declarations} (λ x. record x { impls = x.impls ++ copied (length x.impls) 1 }) before

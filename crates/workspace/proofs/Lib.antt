@@ -2,6 +2,7 @@ mod Each
 mod Crates
 mod Names
 mod Consistent
+mod Sections
 mod Lines
 mod CoreLemmas
 mod Stacks

@@ -20,6 +20,8 @@ pub record HasRoom (d : Declarations) : Type 0 where
   pub few_traits : length d.traits < 1000
   pub few_impls : length d.impls < 1000
   pub few_questions : length d.questions < 1000
+  pub few_sections : length d.sections < 1000
+  pub few_later : length d.later_impls < 1000
 
 -- the last crate is `core`, and there is room for one half of its impls
 pub record IsInCore (d : Declarations) : Type 0 where
@@ -29,6 +31,8 @@ pub record IsInCore (d : Declarations) : Type 0 where
   pub few_traits : length d.traits < 500
   pub few_impls : length d.impls < 500
   pub few_questions : length d.questions < 500
+  pub few_sections : length d.sections < 500
+  pub few_later : length d.later_impls < 500
 
 abbrev pub core_kinds : Bool → List Sort
 core_kinds takes_type = if takes_type then of_type ∷ [] else []

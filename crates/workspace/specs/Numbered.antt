@@ -1,13 +1,18 @@
 -- How the declarations of a text are numbered, and how many there are: laws of every text's declarations.
-use Rattle.std.specs.Prelude.{◌≡◌, ℕ, ◌<◌, List, length, Some, slice_get, All}
-use Rattle.text_definitions.specs.Declarations.{Declarations}
+use Rattle.std.specs.Prelude.{◌≡◌, ℕ, ◌<◌, true, List, length, Some, slice_get, All}
+use Rattle.text_definitions.specs.Declarations.{Declarations, Check, of_later, of_supers}
 
 -- P holds of each element with its place
 abbrev pub Each : {A : Type 0} → (ℕ → A → Type 0) → List A → Type 0
 Each {A} P xs = (k : ℕ) (x : A) → slice_get xs k ≡ Some x → P k x
 
+-- A check is of a crate that is there, or of a section and its crate.
+abbrev pub IsCheckIn : Declarations → Check → Type 0
+IsCheckIn d (of_later k c) = slice_get d.sections k ≡ Some c
+IsCheckIn d (of_supers c) = c < length d.crates
+
 -- A number is a place among all of the kind, those of `core` included, and a crate uses earlier crates alone. Each item belongs to
--- a crate that is there, and each question asks in one.
+-- a crate that is there, and each question asks in one. Each section is of a crate that is there, and its impls are of that crate.
 pub record IsNumbered (d : Declarations) : Type 0 where
   pub has_core : 0 < length d.crates
   pub crates : Each (λ k c. (c.item.name ≡ k) × All (λ u. u < k) c.item.uses) d.crates
@@ -15,6 +20,10 @@ pub record IsNumbered (d : Declarations) : Type 0 where
   pub traits : Each (λ k t. (t.item.name ≡ k) × (t.item.home < length d.crates)) d.traits
   pub impls : Each (λ k i. (i.item.name ≡ k) × (i.item.home < length d.crates)) d.impls
   pub questions : Each (λ k q. q.asker < length d.crates) d.questions
+  pub sections : Each (λ k c. c < length d.crates) d.sections
+  pub later_impls : Each (λ k i. slice_get d.sections i.section ≡ Some i.added.item.home) d.later_impls
+  pub checks : Each (λ k c. IsCheckIn d c) d.checks
+  pub has_section : d.in_section ≡ true → 0 < length d.sections
 
 -- fewer than k of each
 pub record IsFew (d : Declarations) (k : ℕ) : Type 0 where
@@ -23,3 +32,5 @@ pub record IsFew (d : Declarations) (k : ℕ) : Type 0 where
   pub few_traits : length d.traits < k
   pub few_impls : length d.impls < k
   pub few_questions : length d.questions < k
+  pub few_sections : length d.sections < k
+  pub few_later : length d.later_impls < k

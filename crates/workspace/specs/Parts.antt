@@ -1,10 +1,10 @@
 -- The parts of a line that declares, as they are handed to the tables, and the line that they are of.
-use Rattle.std.specs.Prelude.{◌≡◌, ℕ, Bool, true, false, List, [], map, length}
+use Rattle.std.specs.Prelude.{◌≡◌, ℕ, ◌-◌, Bool, true, false, List, [], map, length}
 use Rattle.model.specs.Label.{Sort, of_type, param}
 use Rattle.model.specs.Trees.{Trees, leaf}
 use Rattle.model.specs.Worlds.{Reference}
 use Rattle.text_definitions.specs.Syntax.{Line, struct_line, trait_line, impl_line, prove_line, refute_line}
-use Rattle.text_definitions.specs.Declarations.{Declarations, NamedStruct, NamedTrait, NamedImpl, Question, kinds_of, sorted_names, last_crate}
+use Rattle.text_definitions.specs.Declarations.{Declarations, NamedStruct, NamedTrait, NamedImpl, LaterImpl, Question, kinds_of, sorted_names, last_crate, last_changed, last_later}
 use Rattle.text_definitions.specs.Lowering.{field_trees, with_self, clause_reference}
 use Rattle.text_definitions.specs.Adding.{item_meanings, question_meanings, question_of, added}
 use Rattle.workspace.specs.declared.cell.ParamKind.{ParamKind}
@@ -13,7 +13,7 @@ use Rattle.workspace.specs.declared.declared.Param.{Param}
 use Rattle.workspace.specs.declared.declared.ReferenceCells.{ReferenceCells}
 use Rattle.workspace.specs.TermCells.{trees_of}
 use Rattle.workspace.specs.Views.{sorts_of, cells_of, reference_of, sorted_params}
-use Rattle.workspace.specs.Tables.{with_struct, with_trait, with_impl}
+use Rattle.workspace.specs.Tables.{with_struct, with_trait, with_impl, with_later}
 
 -- `fundamental struct n<..>(..)`: parameters of these kinds, and fields that are these types
 abbrev pub IsStructLine : Declarations → List ℕ → Bool → List Sort → List Trees → Line → Type 0
@@ -49,6 +49,12 @@ new_trait d n f a kinds bounds = record { text = n; kinds = kinds; item = record
 abbrev pub new_impl : Declarations → List (List ℕ × Sort) → Reference → List Reference → NamedImpl
 new_impl d params header clauses = record { params = params; item = record { name = length d.impls; home = last_crate d; params = length params; header = header; clauses = clauses } }
 
+abbrev pub new_later : Declarations → List (List ℕ × Sort) → Reference → List Reference → LaterImpl
+new_later d params header clauses = record {
+  section = length d.sections - 1;
+  added = record { params = params; item = record { name = last_later d; home = last_changed d; params = length params; header = header; clauses = clauses } };
+}
+
 -- ---- what a call that is handed the parts adds, from the declarations d to e
 abbrev pub AddsStruct : (d e : Declarations) → List ℕ → Bool → List ParamKind → List TermCell → Type 0
 AddsStruct d e n f params fields = e ≡ with_struct d (new_struct d n f (sorts_of params) (trees_of (cells_of fields)))
@@ -65,6 +71,9 @@ AddsTraitLine d e n f a params bounds = (l : Line) → IsTraitLine d n f a (sort
 
 abbrev pub AddsImpl : (d e : Declarations) → List Param → ReferenceCells → List ReferenceCells → Type 0
 AddsImpl d e params header clauses = e ≡ with_impl d (new_impl d (sorted_params params) (reference_of header) (map reference_of clauses))
+
+abbrev pub AddsLaterImpl : (d e : Declarations) → List Param → ReferenceCells → List ReferenceCells → Type 0
+AddsLaterImpl d e params header clauses = e ≡ with_later d (new_later d (sorted_params params) (reference_of header) (map reference_of clauses))
 
 abbrev pub AddsImplLine : (d e : Declarations) → List Param → ReferenceCells → List ReferenceCells → Type 0
 AddsImplLine d e params header clauses = (l : Line) → IsImplLine d (sorted_params params) (reference_of header) (map reference_of clauses) l → e ≡ added d l

@@ -1,11 +1,11 @@
 -- Declarations as stored values, so that a struct may be seen as them (`impl Model`).
-use Rattle.std.specs.Prelude.{◌≡◌, ℕ, Bool, List, refl}
+use Rattle.std.specs.Prelude.{◌≡◌, ℕ, Bool, true, false, List, refl}
 use Rattle.std.specs.Coded.{Coded, code_by, coded_ℕ, coded_bool, coded_list, coded×}
 use Rattle.model.specs.Label.{Sort, of_type, of_const, of_lifetime}
 use Rattle.model.specs.Trees.{Trees}
 use Rattle.model.specs.Codes.{trees_code, sort_number, sort_at}
 use Rattle.model.specs.Worlds.{Reference}
-use Rattle.text_definitions.specs.Declarations.{Declarations, NamedCrate, NamedStruct, NamedTrait, NamedImpl, Variable, Question}
+use Rattle.text_definitions.specs.Declarations.{Declarations, NamedCrate, NamedStruct, NamedTrait, NamedImpl, LaterImpl, Check, of_later, of_supers, Variable, Question}
 
 pub sort_again : (s : Sort) → sort_at (sort_number s) ≡ s
 sort_again of_type = refl
@@ -55,8 +55,31 @@ question_code =
     (λ q. (q.is_refute, (q.asker, (q.params, (q.asked, (q.clauses, q.variables))))))
     (λ (b, (a, (ps, (r, (cs, vs))))). record { is_refute = b; asker = a; params = ps; asked = r; clauses = cs; variables = vs }) (λ _. refl)
 
+abbrev pub later_code : Coded LaterImpl
+later_code = code_by (ℕ × NamedImpl) (coded× coded_ℕ impl_code) (λ i. (i.section, i.added)) (λ (k, i). record { section = k; added = i }) (λ _. refl)
+
+-- a section's number and its crate, or none and the crate
+abbrev pub check_parts : Check → Bool × (ℕ × ℕ)
+check_parts (of_later k c) = (true, (k, c))
+check_parts (of_supers c) = (false, (0, c))
+
+abbrev pub check_with : Bool → ℕ → ℕ → Check
+check_with true k c = of_later k c
+check_with false k c = of_supers c
+
+pub check_again : (x : Check) → check_with (check_parts x).0 (check_parts x).1.0 (check_parts x).1.1 ≡ x
+check_again (of_later k c) = refl
+check_again (of_supers c) = refl
+
+abbrev pub check_code : Coded Check
+check_code = code_by (Bool × (ℕ × ℕ)) (coded× coded_bool (coded× coded_ℕ coded_ℕ)) check_parts (λ p. check_with p.0 p.1.0 p.1.1) check_again
+
 abbrev pub declarations_code : Coded Declarations
 declarations_code =
-    code_by (List NamedCrate × (List NamedStruct × (List NamedTrait × (List NamedImpl × List Question))))
-    (coded× (coded_list crate_code) (coded× (coded_list struct_code) (coded× (coded_list trait_code) (coded× (coded_list impl_code) (coded_list question_code)))))
-    (λ d. (d.crates, (d.structs, (d.traits, (d.impls, d.questions))))) (λ (c, (s, (t, (i, q)))). record { crates = c; structs = s; traits = t; impls = i; questions = q }) (λ _. refl)
+    code_by (List NamedCrate × (List NamedStruct × (List NamedTrait × (List NamedImpl × (List Question × (List ℕ × (List LaterImpl × (List Check × Bool))))))))
+    (coded× (coded_list crate_code)
+    (coded× (coded_list struct_code)
+    (coded× (coded_list trait_code) (coded× (coded_list impl_code) (coded× (coded_list question_code) (coded× text_code (coded× (coded_list later_code) (coded× (coded_list check_code) coded_bool))))))))
+    (λ d. (d.crates, (d.structs, (d.traits, (d.impls, (d.questions, (d.sections, (d.later_impls, (d.checks, d.in_section)))))))))
+    (λ (c, (s, (t, (i, (q, (n, (l, (k, b)))))))). record { crates = c; structs = s; traits = t; impls = i; questions = q; sections = n; later_impls = l; checks = k; in_section = b })
+    (λ _. refl)

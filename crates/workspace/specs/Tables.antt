@@ -5,7 +5,7 @@ use Rattle.std.specs.Option.{option_map, option_or}
 use Rattle.std.specs.Str.{bytes_eq}
 use Rattle.std.specs.HashMap.{get_by}
 use Rattle.model.specs.Worlds.{World, core, sees}
-use Rattle.text_definitions.specs.Declarations.{Declarations, NamedCrate, NamedStruct, NamedTrait, NamedImpl, Question, Known, a_crate, world_of, last_crate}
+use Rattle.text_definitions.specs.Declarations.{Declarations, NamedCrate, NamedStruct, NamedTrait, NamedImpl, LaterImpl, Question, Known, a_crate, world_of, last_crate, last_later}
 use Rattle.text_definitions.specs.Faults.{last_items}
 use Rattle.type_terms.specs.declared.CrateId.{CrateId}
 use Rattle.workspace.specs.declared.tables.Tables.{Tables}
@@ -14,7 +14,7 @@ use Rattle.workspace.specs.declared.declared.Named.{Named}
 use Rattle.workspace.specs.declared.declared.Named.TheVariants as named
 use Rattle.workspace.specs.Numbered.{Each, IsNumbered}
 use Rattle.workspace.specs.Made.{AreMade, ReferenceMade, ReferencesMade, is_type}
-use Rattle.workspace.specs.Views.{crate_of, struct_of, trait_of, impl_of, question_of, numbers_of}
+use Rattle.workspace.specs.Views.{crate_of, struct_of, trait_of, impl_of, question_of, numbers_of, later_of, check_of}
 
 -- what the tables declare
 abbrev pub declared : Tables → Declarations
@@ -24,11 +24,15 @@ declared t = record {
   traits = map trait_of t.traits.items;
   impls = map impl_of t.impls.items;
   questions = map question_of t.questions.items;
+  sections = numbers_of t.sections.items;
+  later_impls = map later_of t.later_impls.items;
+  checks = map check_of t.checks.items;
+  in_section = t.in_section;
 }
 
 -- ---- put behind what is there
 abbrev pub with_crate : Declarations → NamedCrate → Declarations
-with_crate d c = record d { crates = d.crates ++ c ∷ [] }
+with_crate d c = record d { crates = d.crates ++ c ∷ []; in_section = false }
 
 abbrev pub with_struct : Declarations → NamedStruct → Declarations
 with_struct d s = record d { structs = d.structs ++ s ∷ [] }
@@ -42,9 +46,12 @@ with_impl d i = record d { impls = d.impls ++ i ∷ [] }
 abbrev pub with_question : Declarations → Question → Declarations
 with_question d q = record d { questions = d.questions ++ q ∷ [] }
 
+abbrev pub with_later : Declarations → LaterImpl → Declarations
+with_later d i = record d { later_impls = d.later_impls ++ i ∷ [] }
+
 -- the crate `core` without its items
 abbrev pub core_alone : Declarations
-core_alone = record { crates = record { text = codes "core"; item = record { name = core; uses = [] } } ∷ []; structs = []; traits = []; impls = []; questions = [] }
+core_alone = record { crates = record { text = codes "core"; item = record { name = core; uses = [] } } ∷ []; structs = []; traits = []; impls = []; questions = []; sections = []; later_impls = []; checks = []; in_section = false }
 
 -- a crate's number, its name, and the crates that it uses
 abbrev pub new_crate : ℕ → List ℕ → List CrateId → NamedCrate
@@ -96,6 +103,8 @@ pub record AllMade (t : Tables) : Type 0 where
   pub clauses : Each (λ k i. ReferencesMade i.clauses.items) t.impls.items
   pub asked : Each (λ k q. ReferenceMade q.asked) t.questions.items
   pub given : Each (λ k q. ReferencesMade q.clauses.items) t.questions.items
+  pub later_headers : Each (λ k i. ReferenceMade i.entry.header) t.later_impls.items
+  pub later_clauses : Each (λ k i. ReferencesMade i.entry.clauses.items) t.later_impls.items
 
 -- the tables agree with what they declare
 pub record IsConsistent (t : Tables) : Type 0 where
@@ -107,4 +116,5 @@ pub record IsConsistent (t : Tables) : Type 0 where
   pub numbers : Each (λ k i. i.number_in_crate ≡ impls_of i.owner.index (take (suc k) t.impls.items)) t.impls.items
   pub last_impls : t.last_impls ≡ impls_of (last_crate (declared t)) t.impls.items
   pub last_items : t.last_items ≡ last_items (declared t)
+  pub last_later : t.last_later ≡ last_later (declared t)
   pub made : AllMade t

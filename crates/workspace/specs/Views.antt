@@ -17,6 +17,9 @@ use Rattle.workspace.specs.declared.declared.CrateEntry.{CrateEntry}
 use Rattle.workspace.specs.declared.declared.StructEntry.{StructEntry}
 use Rattle.workspace.specs.declared.declared.TraitEntry.{TraitEntry}
 use Rattle.workspace.specs.declared.declared.ImplEntry.{ImplEntry}
+use Rattle.workspace.specs.declared.declared.LaterEntry.{LaterEntry}
+use Rattle.workspace.specs.declared.declared.Check.{Check}
+use Rattle.workspace.specs.declared.declared.Check.TheVariants as checked
 use Rattle.workspace.specs.declared.declared.Param.{Param}
 use Rattle.workspace.specs.declared.declared.QuestionEntry.{QuestionEntry}
 use Rattle.workspace.specs.declared.declared.Asked.{Asked}
@@ -99,6 +102,13 @@ impl_of i = record {
   params = sorted_params i.params.items;
   item = record { name = i.id.index; home = i.owner.index; params = length i.params.items; header = reference_of i.header; clauses = map reference_of i.clauses.items };
 }
+
+abbrev pub later_of : LaterEntry → text.LaterImpl
+later_of i = record { section = i.section; added = impl_of i.entry }
+
+abbrev pub check_of : Check → text.Check
+check_of (checked.Later k c) = text.of_later k c.index
+check_of (checked.Supers c) = text.of_supers c.index
 
 abbrev pub asker_of : Asked → ℕ
 asker_of (asks.Prove c) = c.index

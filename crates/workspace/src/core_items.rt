@@ -198,7 +198,7 @@ impl Tables {
         let header = reference(self.alloc, trait_id, &[self_type])?;
         let params = Vec::new(self.alloc);
         let clauses = Vec::new(self.alloc);
-        self.add_impl(params, header, clauses)?;
+        self.add_own_impl(params, header, clauses)?;
         Ok(())
     }
 
@@ -232,7 +232,7 @@ impl Tables {
         };
         let header = reference(self.alloc, trait_id, &[TermCell::Param(1), reference_cell])?;
         let clauses = Vec::new(self.alloc);
-        self.add_impl(params, header, clauses)?;
+        self.add_own_impl(params, header, clauses)?;
         Ok(())
     }
 
@@ -254,7 +254,7 @@ impl Tables {
             &[TermCell::Param(0), TermCell::RawPtr { mutability }],
         )?;
         let clauses = Vec::new(self.alloc);
-        self.add_impl(params, header, clauses)?;
+        self.add_own_impl(params, header, clauses)?;
         Ok(())
     }
 
@@ -279,7 +279,7 @@ impl Tables {
         )?;
         let clause = reference(self.alloc, trait_id, &[TermCell::Param(0)])?;
         let clauses = one_reference(self.alloc, clause)?;
-        self.add_impl(params, header, clauses)?;
+        self.add_own_impl(params, header, clauses)?;
         Ok(())
     }
 
@@ -298,7 +298,7 @@ impl Tables {
         let header = reference(self.alloc, CLONE, &[TermCell::Param(0), boxed])?;
         let clause = reference(self.alloc, CLONE, &[TermCell::Param(0)])?;
         let clauses = one_reference(self.alloc, clause)?;
-        self.add_impl(params, header, clauses)?;
+        self.add_own_impl(params, header, clauses)?;
         Ok(())
     }
 

@@ -87,7 +87,7 @@ impl Drop for TraitEntry {
 pub struct ImplEntry {
     pub id: ImplId,
     pub owner: CrateId,
-    /// Its number among the impls of its crate, from 1.
+    /// Its number among the impls of its crate, or of its section, from 1.
     pub number_in_crate: u32,
     pub params: Vec<Param>,
     pub header: ReferenceCells,
@@ -106,6 +106,33 @@ impl Drop for ImplEntry {
             clauses: _,
         } = self;
     }
+}
+
+/// An impl that a later version of a crate adds.
+pub struct LaterEntry {
+    /// The number of its section, from 0.
+    pub section: u32,
+    /// Its crate is the one that is changed, and it is numbered in its section.
+    pub entry: ImplEntry,
+}
+
+// Written, so that what owns one drops it by one call at each way out, and not field by field.
+impl Drop for LaterEntry {
+    fn drop(self) {
+        let LaterEntry {
+            section: _,
+            entry: _,
+        } = self;
+    }
+}
+
+/// What a text has checked beside its crates.
+#[derive(Clone, Copy)]
+pub enum Check {
+    /// `later C`: whether the section of this number, from 0, makes a later version of the crate.
+    Later(u32, CrateId),
+    /// `supers in C`: whether the crate's headers have their supertraits proved.
+    Supers(CrateId),
 }
 
 /// A named parameter, or a variable of a question.

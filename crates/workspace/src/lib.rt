@@ -15,7 +15,8 @@ mod workspace;
 
 pub use cell::{ParamKind, TermCell};
 pub use declared::{
-    Asked, ImplEntry, Known, Param, QuestionEntry, ReferenceCells, StructEntry, TraitEntry,
+    Asked, Check, ImplEntry, Known, LaterEntry, Param, QuestionEntry, ReferenceCells, StructEntry,
+    TraitEntry,
 };
 pub use lists::{lower_args, lower_types};
 pub use tables::{ENTRY_LIMIT, Tables};

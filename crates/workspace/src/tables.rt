@@ -3,22 +3,22 @@ ghost use Rattle.std.specs.Prelude.{◌≡◌, ◌<◌, ◌++◌, ◌∷◌, [],
 ghost use Rattle.std.specs.List.{list_any};
 ghost use Rattle.std.specs.Option.{option_map, option_and_then};
 ghost use Rattle.model.specs.Worlds.{sees};
-ghost use Rattle.text_definitions.specs.Syntax.{Line, crate_line};
-ghost use Rattle.text_definitions.specs.Declarations.{known, world_of, last_crate};
+ghost use Rattle.text_definitions.specs.Syntax.{Line, crate_line, later_line, supers_line};
+ghost use Rattle.text_definitions.specs.Declarations.{known, world_of, last_crate, last_changed, last_later, impl_owner};
 ghost use Rattle.text_definitions.specs.Faults.{last_items};
 ghost use Rattle.text_definitions.specs.Lowering.{crate_number};
 ghost use Rattle.text_definitions.specs.Adding.{added};
 ghost use Rattle.workspace.specs.Numbered.{IsFew};
 ghost use Rattle.workspace.specs.Tables.{declared, with_crate, with_question, new_crate, will_see, item_of, item_named, core_alone, number_of_crate, IsConsistent, MarksSeen};
 ghost use Rattle.workspace.specs.Made.{AreMade, ReferenceMade, ReferencesMade, is_type};
-ghost use Rattle.workspace.specs.Parts.{AddsStruct, AddsStructLine, AddsTrait, AddsTraitLine, AddsImpl, AddsImplLine, AddsQuestionLine};
+ghost use Rattle.workspace.specs.Parts.{AddsStruct, AddsStructLine, AddsTrait, AddsTraitLine, AddsImpl, AddsLaterImpl, AddsImplLine, AddsQuestionLine};
 ghost use Rattle.workspace.specs.Views.{known_of, sorts_of, cells_of, reference_of, question_of, asker_of, param_names, numbers_of, name_texts};
 ghost use Rattle.workspace.specs.TermCells.{trees_of};
 
 use crate::cell::{ParamKind, TermCell};
 use crate::declared::{
-    Asked, CrateEntry, ImplEntry, Known, Named, Param, QuestionEntry, ReferenceCells, StructEntry,
-    TraitEntry,
+    Asked, Check, CrateEntry, ImplEntry, Known, LaterEntry, Named, Param, QuestionEntry,
+    ReferenceCells, StructEntry, TraitEntry,
 };
 use std::alloc::{AllocError, Global};
 use std::collections::HashMap;
@@ -40,12 +40,20 @@ pub struct Tables {
     pub(crate) impls: Vec<ImplEntry>,
     pub(crate) questions: Vec<QuestionEntry>,
     pub(crate) asked: Vec<Asked>,
+    /// The crates of which a later version has a section.
+    sections: Vec<CrateId>,
+    pub(crate) later_impls: Vec<LaterEntry>,
+    pub(crate) checks: Vec<Check>,
+    /// Whether the last line of a crate or a section is one of a section.
+    in_section: bool,
     /// What each name stands for.
     names: HashMap<Vec<u8>, Named>,
     /// How many impls the last crate has.
     last_impls: u32,
     /// How many structs, traits and impls the last crate has.
     last_items: u32,
+    /// How many impls the last section has.
+    last_later: u32,
 }
 
 // Written, so that what owns one drops it by one call at each way out, and not field by field.
@@ -60,9 +68,14 @@ impl Drop for Tables {
             impls: _,
             questions: _,
             asked: _,
+            sections: _,
+            later_impls: _,
+            checks: _,
+            in_section: _,
             names: _,
             last_impls: _,
             last_items: _,
+            last_later: _,
         } = self;
     }
 }
@@ -99,9 +112,14 @@ impl Tables {
             impls: Vec::new(alloc),
             questions: Vec::new(alloc),
             asked: Vec::new(alloc),
+            sections: Vec::new(alloc),
+            later_impls: Vec::new(alloc),
+            checks: Vec::new(alloc),
+            in_section: false,
             names,
             last_impls: 0,
             last_items: 0,
+            last_later: 0,
         })
     }
 
@@ -216,6 +234,42 @@ impl Tables {
         self.last_items
     }
 
+    /// Whether the last line of a crate or a section is one of a section, so that an impl belongs to that.
+    pub fn is_in_section(&self) -> bool
+        ensures { result ≡ (declared self.now).in_section }
+    {
+        self.in_section
+    }
+
+    /// How many impls the last section has.
+    pub fn last_later(&self) -> u32
+        requires { IsConsistent self.now }
+        ensures { result ≡ last_later (declared self.now) }
+    {
+        self.last_later
+    }
+
+    /// The crate of the last section.
+    fn last_changed(&self) -> CrateId
+        ensures { result.index ≡ last_changed (declared self.now) }
+    {
+        match self.sections.len() {
+            0 => CrateId { index: 0 },
+            count => self.sections[count - 1],
+        }
+    }
+
+    /// The crate to which an impl of the next line belongs.
+    pub fn impl_owner(&self) -> CrateId
+        requires { IsConsistent self.now }
+        ensures { result.index ≡ impl_owner (declared self.now) }
+    {
+        if self.in_section {
+            return self.last_changed();
+        }
+        self.last_crate()
+    }
+
     /// The crate that a name stands for, if it stands for one.
     pub fn crate_named(&self, name: &[u8]) -> Option<CrateId>
         requires { IsConsistent self.now }
@@ -311,6 +365,7 @@ impl Tables {
         self.ids.push(id)?;
         self.last_impls = 0;
         self.last_items = 0;
+        self.in_section = false;
         Ok(())
     }
 
@@ -398,7 +453,7 @@ impl Tables {
     }
 
     /// Adds an impl of the last crate.
-    pub fn add_impl(
+    pub(crate) fn add_own_impl(
         &mut self,
         params: Vec<Param>,
         header: ReferenceCells,
@@ -409,7 +464,6 @@ impl Tables {
         requires clauses { ReferencesMade clauses.items }
         requires few { IsFew (declared self.old) ENTRY_LIMIT }
         ensures declared { OnOk result (AddsImpl (declared self.old) (declared self.new) params.items header clauses.items) }
-        ensures added { OnOk result (AddsImplLine (declared self.old) (declared self.new) params.items header clauses.items) }
         ensures consistent { OnOk result (IsConsistent self.new) }
     {
         let id = ImplId {
@@ -427,6 +481,86 @@ impl Tables {
         })?;
         self.last_impls = number_in_crate;
         self.last_items += 1;
+        Ok(())
+    }
+
+    /// Adds an impl of the last section.
+    fn add_later_impl(
+        &mut self,
+        params: Vec<Param>,
+        header: ReferenceCells,
+        clauses: Vec<ReferenceCells>,
+    ) -> Result<(), AllocError>
+        requires consistent { IsConsistent self.old }
+        requires section { (declared self.old).in_section ≡ true }
+        requires header { ReferenceMade header }
+        requires clauses { ReferencesMade clauses.items }
+        requires few { IsFew (declared self.old) ENTRY_LIMIT }
+        ensures declared { OnOk result (AddsLaterImpl (declared self.old) (declared self.new) params.items header clauses.items) }
+        ensures consistent { OnOk result (IsConsistent self.new) }
+    {
+        let section = (self.sections.len() - 1) as u32;
+        let owner = self.last_changed();
+        let place = self.last_later;
+        self.later_impls.push(LaterEntry {
+            section,
+            entry: ImplEntry {
+                id: ImplId { index: place },
+                owner,
+                number_in_crate: place + 1,
+                params,
+                header,
+                clauses,
+            },
+        })?;
+        self.last_later += 1;
+        Ok(())
+    }
+
+    /// Adds an impl: of the last section, or where none is open of the last crate.
+    pub fn add_impl(
+        &mut self,
+        params: Vec<Param>,
+        header: ReferenceCells,
+        clauses: Vec<ReferenceCells>,
+    ) -> Result<(), AllocError>
+        requires consistent { IsConsistent self.old }
+        requires header { ReferenceMade header }
+        requires clauses { ReferencesMade clauses.items }
+        requires few { IsFew (declared self.old) ENTRY_LIMIT }
+        ensures added { OnOk result (AddsImplLine (declared self.old) (declared self.new) params.items header clauses.items) }
+        ensures consistent { OnOk result (IsConsistent self.new) }
+    {
+        if self.in_section {
+            return self.add_later_impl(params, header, clauses);
+        }
+        self.add_own_impl(params, header, clauses)
+    }
+
+    /// Begins the section of a later version of a crate, by its name. The impls that follow are added to it.
+    pub fn add_section(&mut self, name: &[u8]) -> Result<(), AllocError>
+        requires consistent { IsConsistent self.old }
+        requires few { IsFew (declared self.old) ENTRY_LIMIT }
+        ensures added { OnOk result (declared self.new ≡ added (declared self.old) (later_line name.now)) }
+        ensures consistent { OnOk result (IsConsistent self.new) }
+    {
+        let changed = self.crate_id(name);
+        let section = self.sections.len() as u32;
+        self.checks.push(Check::Later(section, changed))?;
+        self.sections.push(changed)?;
+        self.last_later = 0;
+        self.in_section = true;
+        Ok(())
+    }
+
+    /// Adds that a crate, by its name, has the supertraits of its headers checked.
+    pub fn add_supers(&mut self, name: &[u8]) -> Result<(), AllocError>
+        requires consistent { IsConsistent self.old }
+        ensures added { OnOk result (declared self.new ≡ added (declared self.old) (supers_line name.now)) }
+        ensures consistent { OnOk result (IsConsistent self.new) }
+    {
+        let asked = self.crate_id(name);
+        self.checks.push(Check::Supers(asked))?;
         Ok(())
     }
 

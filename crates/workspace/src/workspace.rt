@@ -5,9 +5,11 @@ ghost use Rattle.model.specs.Worlds.{sees, view_of};
 ghost use Rattle.text_definitions.specs.Declarations.{known, world_of};
 ghost use Rattle.workspace.specs.Numbered.{Each, IsNumbered, IsFew};
 ghost use Rattle.workspace.specs.Made.{AreMade, ReferenceMade, ReferencesMade, is_type};
-ghost use Rattle.workspace.specs.Views.{known_of, struct_of, trait_of, impl_of, question_of, numbers_of, asked_of};
+ghost use Rattle.workspace.specs.Views.{known_of, struct_of, trait_of, impl_of, question_of, numbers_of, asked_of, later_of, check_of};
 
-use crate::declared::{Asked, ImplEntry, Known, QuestionEntry, StructEntry, TraitEntry};
+use crate::declared::{
+    Asked, Check, ImplEntry, Known, LaterEntry, QuestionEntry, StructEntry, TraitEntry,
+};
 use crate::tables::{ENTRY_LIMIT, Tables};
 use std::alloc::AllocError;
 use std::marker::Model;
@@ -130,6 +132,22 @@ impl Workspace {
         ensures clauses { Each (λ k i. ReferencesMade i.clauses.items) result.now }
     {
         &self.tables.impls
+    }
+
+    /// What the text has checked beside its crates, in its order.
+    pub fn checks(&self) -> &[Check]
+        ensures { map check_of result.now ≡ self.now.checks }
+    {
+        &self.tables.checks
+    }
+
+    /// The impls that later versions add, in the order of the text, each with the number of its section.
+    pub fn later_impls(&self) -> &[LaterEntry]
+        ensures items { map later_of result.now ≡ self.now.later_impls }
+        ensures headers { Each (λ k i. ReferenceMade i.entry.header) result.now }
+        ensures clauses { Each (λ k i. ReferencesMade i.entry.clauses.items) result.now }
+    {
+        &self.tables.later_impls
     }
 
     /// The questions in the order of the text.

@@ -19,7 +19,7 @@ from ..build import Translation
 from ..cargo import Project, docs_folder, document
 from ..checker import check_texts
 from ..html_docs import Pages
-from ..later import added_impls
+from ..later import added_impls, ask_program
 from ..program import TOP, run
 from ..questions import Asker
 from ..report import Report, explain_refusal
@@ -160,6 +160,9 @@ class RealReleases(unittest.TestCase):
                     worlds.append(world)
                     compiles.append(user_compiles(place, user))
                 release_of_bytes = added_impls(worlds[0], worlds[1], "bytes", False)
+                translation = Translation(worlds[1])
+                translation.build()
+                ask_program(translation, "bytes", release_of_bytes.added, PROGRAM)
                 self.assertEqual({Show(worlds[1]).header(j.impl): j.word for j in release_of_bytes.added}, words)
                 self.assertEqual(release_of_bytes.apart, [])
                 self.assertEqual(compiles, [True, "breaking" not in words.values()])

@@ -1,25 +1,43 @@
-"""Two releases of a small crate: what each added impl is judged to be stands in the newer one's source (crates/after.rs)."""
+"""Two releases of a small crate: what each added impl is judged to be stands in the newer one's source (crates/after.rs). They need the
+built program, or the one that `FROM_RUSTDOC_PROGRAM` names."""
 from __future__ import annotations
 
+import os
 import unittest
 
-from ..later import added_impls
+from ..build import Translation
+from ..later import Release, added_impls, ask_program
+from ..program import program_path
 from ..show import Show
 from .common import world
 
+PROGRAM = os.environ.get("FROM_RUSTDOC_PROGRAM")
 
+
+@unittest.skipUnless(PROGRAM or os.path.basename(os.path.dirname(program_path(None)[0])) == "out", "the program is not built")
 class Later(unittest.TestCase):
-    def setUp(self) -> None:
-        self.old, self.new = world("before"), world("after")
-        crate = self.new.crates["after"]
+    @classmethod
+    def setUpClass(cls) -> None:
+        cls.old, cls.new = world("before"), world("after")
+        crate = cls.new.crates["after"]
         crate.name = "before"
-        self.new.crates = {"before": crate}
+        cls.new.crates = {"before": crate}
         for declaration in crate.declarations.values():
             declaration.crate = "before"
             if declaration.public_path:
                 declaration.public_path[0] = "before"
-        self.release = added_impls(self.old, self.new, "before", False)
-        self.words = {Show(self.new).header(j.impl): (j.word, j.reason) for j in self.release.added}
+        for impl in crate.impls:
+            impl.crate = "before"
+        cls.translation = Translation(cls.new)
+        cls.translation.build()
+        cls.release = cls.judged(False)
+        cls.words = {Show(cls.new).header(j.impl): (j.word, j.reason) for j in cls.release.added}
+
+    @classmethod
+    def judged(cls, with_private: bool) -> Release:
+        release = added_impls(cls.old, cls.new, "before", with_private)
+        ask_program(cls.translation, "before", release.added, PROGRAM)
+        return release
 
     def test_each_added_impl_has_one_line(self) -> None:
         self.assertEqual({header: word for header, (word, _) in self.words.items()}, {
@@ -41,7 +59,7 @@ class Later(unittest.TestCase):
         self.assertIn("`impl before::Encode for Box<Mine>`", self.words["impl<T> before::Encode for Box<T>"][1])
 
     def test_with_private_items_they_are_judged_too(self) -> None:
-        words = {Show(self.new).header(j.impl): j.word for j in added_impls(self.old, self.new, "before", True).added}
+        words = {Show(self.new).header(j.impl): j.word for j in self.judged(True).added}
         self.assertEqual(words["impl<T> before::Closed for T"], "breaking")
         self.assertEqual(words["impl before::Seal for u8"], "compatible")
 

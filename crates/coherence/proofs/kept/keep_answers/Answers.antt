@@ -1,40 +1,34 @@
-use Rattle.std.proofs.Common.{◌≡◌, ◌<◌, ℕ, List, length, Some, inl, inr, ap, sym, ◌∙◌, subst, arith, get_or}
-use Rattle.std.specs.List.{slice_get}
-use Rattle.std.proofs.lemmas.Bool.{cases_lt}
-use Rattle.std.proofs.lemmas.List.{length-set}
-use Rattle.std.proofs.lemmas.Option.{same_Some, slice_get-get_or, slice_get_within}
-use Rattle.coherence.specs.Progress.{IsLineOf}
-use Rattle.coherence.specs.declared.kept.KeptLine.{KeptLine}
-use Rattle.coherence.proofs.KeptLines.{stays-on, still-kept, one-crate-more}
+use Rattle.std.proofs.Common.{◌+◌, length, subst, sym}
+use Rattle.std.proofs.lemmas.Result.{on_ok_weaker}
+use Rattle.coherence.specs.Groups.{IsCheckedIn, IsAskedIn, ArePlaces}
+use Rattle.coherence.specs.Progress.{KeepsQuestions}
 use Rattle.coherence.proofs.kept.keep_answers.Goals as goal
 
-pub loop-place-preserved : goal.loop-place-preserved
-loop-place-preserved c =
-    let inv = c.loop-place.invariant in
+pub keep_checks-requires-clause-places : goal.keep_checks-requires-clause-places
+keep_checks-requires-clause-places c = subst (ArePlaces (length c.args.workspace.now.checks) (IsCheckedIn c.args.workspace.now c.args.session.now.of_crate)) (sym c.deref.ensures.value) c.requires.group.checks
+
+pub keep_questions-requires-clause-places : goal.keep_questions-requires-clause-places
+keep_questions-requires-clause-places c =
     let d = c.args.workspace.now in
-    let ls = c.loop-place.lines.items in
-    let places = c.args.group.now.places.items in
-    let i = c.loop-place.place-index in
-    let p = get_or c.deref-place-items.result.now i 0 in
-    let at : slice_get places i ≡ Some p = subst (λ (ps : List ℕ). slice_get ps i ≡ Some p) c.deref-place-items.ensures.value (slice_get-get_or c.deref-place-items.result.now i 0 (omega (arith, c.loop-place-test.true))) in
-    let asked = c.requires.group.asked i p at in
-    let within : p < length ls = omega (arith, slice_get_within d.questions p asked.0 asked.1, inv.for_each) in
-    let line : KeptLine = record { text = c.in_ok-text.text } in
-    let is = subst (λ n. IsLineOf n d p c.in_ok-text.text.items) inv.stays.depth c.in_ok-text.ensures.line in
-    let step = still-kept c.args.session.now.depth d ls p line within is in
-    record {
-      stays = stays-on _ _ _ inv.stays c.in_ok-text.ensures.stays;
-      for_each = length-set ls p line ∙ inv.for_each;
-      before = λ b n h a. step n (inl (inv.before b n h a));
-      done = λ j k h e. elim (cases_lt j i) [
-        | inl lt ↦ step k (inl (inv.done j k lt e))
-        | inr le ↦ let same : j ≡ i = omega arith in step k (inr (sym (same_Some p k (sym at ∙ subst (λ m. slice_get places m ≡ Some k) same e))))
-      ];
-    }
+    subst (λ k. ArePlaces (length d.questions) (IsAskedIn d k) c.deref-2.result.now) (sym c.in_ok-keep_checks.ensures.stays.of_crate)
+    (subst (ArePlaces (length d.questions) (IsAskedIn d c.args.session.now.of_crate)) (sym c.deref-2.ensures.value) c.requires.group.questions)
+
+pub keep_questions-requires-clause-kept : goal.keep_questions-requires-clause-kept
+keep_questions-requires-clause-kept c =
+    let d = c.args.workspace.now in
+    let s = c.in_ok-keep_checks.ensures.stays in
+    subst (λ k. KeepsQuestions c.keep_checks.new.session.depth d k c.args.lines.now.questions.items) (sym s.of_crate)
+    (subst (λ n. KeepsQuestions n d c.args.session.now.of_crate c.args.lines.now.questions.items) (sym s.depth) c.requires.kept.questions)
 
 pub returns-clause-kept : goal.returns-clause-kept
 returns-clause-kept c =
-    let inv = c.loop-place.invariant in
     let d = c.args.workspace.now in
-    one-crate-more c.args.session.now.depth d c.args.session.now.of_crate c.args.group.now.places.items c.loop-place.lines.items c.requires.group inv.for_each inv.before
-    (λ i k h e. inv.done i k (omega (arith, c.loop-place-test.false, ap length c.deref-place-items.ensures.value, h)) e)
+    let s = c.in_ok-keep_checks.ensures.stays in
+    let after = c.keep_questions.new.lines.items in
+    on_ok_weaker c.keep_questions.result
+    (λ k. record {
+      checks = c.in_ok-keep_checks.ensures.kept;
+      questions = subst (λ b. KeepsQuestions c.args.session.now.depth d (b + 1) after) s.of_crate
+          (subst (λ n. KeepsQuestions n d (c.keep_checks.new.session.of_crate + 1) after) s.depth k);
+    })
+    c.keep_questions.ensures.kept

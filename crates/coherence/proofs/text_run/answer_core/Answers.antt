@@ -1,18 +1,32 @@
-use Rattle.std.proofs.Common.{◌∙◌, ◌+◌, ℕ, sym, subst, arith, OnOk}
+use Rattle.std.proofs.Common.{◌∙◌, ◌+◌, ◌==◌, ℕ, length, sym, subst, arith, OnOk}
 use Rattle.std.proofs.lemmas.Bool.{eqb-true}
-use Rattle.coherence.specs.Progress.{KeepsLines}
-use Rattle.coherence.proofs.KeptLines.{one-crate-more}
+use Rattle.model.proofs.Walking.{left, right}
+use Rattle.coherence.specs.Groups.{IsCheckedIn, IsAskedIn}
+use Rattle.coherence.specs.Progress.{IsCheckLineOf, IsLineOf, KeepsLines}
+use Rattle.coherence.proofs.KeptLines.{one-crate-more, check-there, question-there}
 use Rattle.coherence.proofs.text_run.answer_core.Goals as goal
 
 pub returns-then-is_empty-clause-kept : goal.returns-then-is_empty-clause-kept
 returns-then-is_empty-clause-kept c =
-    one-crate-more c.args.limits.depth c.args.workspace.now 0 c.args.group.now.places.items c.args.lines.now.items c.requires.group c.requires.kept.for_each c.requires.kept.are
-    (λ i k h e. absurd (omega (arith, eqb-true _ _ (sym c.is_empty.ensures ∙ c.if-is_empty.true), c.args.group.now.places.ok.0, h)))
+    let d = c.args.workspace.now in
+    let g = c.args.group.now in
+    let limit = c.args.limits.depth in
+    let lines = c.args.lines.now in
+    let kept = c.requires.kept in
+    let both = sym c.is_empty.ensures ∙ c.if-is_empty.true in
+    let no_checks = eqb-true (length g.checks.items) 0 (left (length g.checks.items == 0) (length g.questions.items == 0) both) in
+    let no_questions = eqb-true (length g.questions.items) 0 (right (length g.checks.items == 0) (length g.questions.items == 0) both) in
+    record {
+      checks = one-crate-more (length d.checks) (IsCheckedIn d) (IsCheckLineOf limit d) 0 g.checks.items lines.checks.items c.requires.group.checks (check-there d) kept.checks.for_each kept.checks.are
+          (λ i k h e. absurd (omega (arith, no_checks, h)));
+      questions = one-crate-more (length d.questions) (IsAskedIn d) (IsLineOf limit d) 0 g.questions.items lines.questions.items c.requires.group.questions (question-there d) kept.questions.for_each kept.questions.are
+          (λ i k h e. absurd (omega (arith, no_questions, h)));
+    }
 
 pub returns-clause-kept : goal.returns-clause-kept
 returns-clause-kept c =
     let s = c.in_ok-session.session in
-    let kept : (n k : ℕ) → Type 0 = λ n k. OnOk c.keep_answers.result (KeepsLines n c.args.workspace.now (k + 1) c.keep_answers.new.lines.items) in
+    let kept : (n k : ℕ) → Type 0 = λ n k. OnOk c.keep_answers.result (KeepsLines n c.args.workspace.now (k + 1) c.keep_answers.new.lines) in
     subst (λ k. kept c.args.limits.depth k) (c.in_ok-session.ensures.of_crate ∙ c.crate_at.ensures)
     (subst (λ n. kept n s.of_crate) c.in_ok-session.ensures.depth c.keep_answers.ensures.kept)
 

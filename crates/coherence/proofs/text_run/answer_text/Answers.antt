@@ -2,7 +2,7 @@ use Rattle.std.proofs.Common.{[], ◌∷◌, ◌++◌, inl, inr}
 use Rattle.std.proofs.lemmas.Result.{err_from_is_err_and}
 use Rattle.line_faults.specs.FaultNumbers.{fault_number}
 use Rattle.text_definitions.specs.Output.{fault}
-use Rattle.coherence.specs.Lines.{of_fault, of_answers, begins_fault, begins_crates, begins_questions}
+use Rattle.coherence.specs.Lines.{of_fault, of_answers, begins_fault, begins_crates, begins_checks, begins_questions}
 use Rattle.coherence.proofs.LineLaws.{alone-line, alone-prefix}
 use Rattle.coherence.proofs.text_run.answer_text.Goals as goal
 
@@ -24,10 +24,11 @@ returns-in_err-write_answers-in-Ok-clause-prefix g c =
     let p = err_from_is_err_and c.from_residual-in_err-write_answers-in-Ok.result c.from_residual-in_err-write_answers-in-Ok.ensures.1 in
     rw p.1 (elim c.in_err-write_answers-in-Ok.ensures.prefix [
       | inl w ↦ inr (w.1, begins_crates c.in-Ok.workspace w.0 w.1 c.in-Ok.ensures.taken w.2 w.3, w.4)
-      | inr w ↦ inr (w.1 ++ w.2, begins_questions c.in-Ok.workspace w.0 w.1 w.2 c.in-Ok.ensures.taken w.3 w.4 w.5, w.6)
+      | inr (inl w) ↦ inr (w.1 ++ w.2, begins_checks c.in-Ok.workspace w.0 w.1 w.2 c.in-Ok.ensures.taken w.3 w.4 w.5, w.6)
+      | inr (inr w) ↦ inr ((w.1 ++ w.2) ++ w.3, begins_questions c.in-Ok.workspace w.0 w.1 w.2 w.3 c.in-Ok.ensures.taken w.4 w.5 w.6, w.7)
     ])
 
 pub returns-in_ok-write_answers-in-Ok-clause-whole : goal.returns-in_ok-write_answers-in-Ok-clause-whole
 returns-in_ok-write_answers-in-Ok-clause-whole g c =
     let w = c.in_ok-write_answers-in-Ok.ensures.whole in
-    (w.0 ++ w.1, of_answers c.in-Ok.workspace w.0 w.1 c.in-Ok.ensures.taken w.2 w.3, w.4)
+    ((w.0 ++ w.1) ++ w.2, of_answers c.in-Ok.workspace w.0 w.1 w.2 c.in-Ok.ensures.taken w.3 w.4, w.5)

@@ -10,7 +10,7 @@ returns-clause-whole g c =
 
 pub returns-clause-kept : goal.returns-clause-kept
 returns-clause-kept g c =
-    subst (λ n. OnOk c.judge_by.result (KeepsLines n c.args.workspace.now (c.args.id.index + 1) c.judge_by.new.lines.items)) c.in_ok-session.ensures.depth c.judge_by.ensures.kept
+    subst (λ n. OnOk c.judge_by.result (KeepsLines n c.args.workspace.now (c.args.id.index + 1) c.judge_by.new.lines)) c.in_ok-session.ensures.depth c.judge_by.ensures.kept
 
 pub returns-clause-prefix : goal.returns-clause-prefix
 returns-clause-prefix g c =

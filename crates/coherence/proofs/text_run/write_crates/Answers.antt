@@ -54,4 +54,4 @@ returns-clause-kept g c =
     let d = c.args.workspace.now in
     let last : c.loop-place.place + 1 ≡ length d.crates =
     omega (arith, c.loop-place-test.false, c.loop-place.auto.place-end, c.requires.numbered.has_core, c.crates_with_lines-place-end.ensures) in
-    subst (λ n. KeepsLines c.args.limits.depth d n c.loop-place.lines.items) last c.loop-place.invariant.kept
+    subst (λ n. KeepsLines c.args.limits.depth d n c.loop-place.lines) last c.loop-place.invariant.kept

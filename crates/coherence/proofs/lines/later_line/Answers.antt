@@ -1,0 +1,24 @@
+use Rattle.sessions.specs.Given.{later_of}
+use Rattle.sessions.specs.declared.answers.LaterAnswer.TheVariants.{Compatible, Breaking}
+use Rattle.text_definitions.specs.Output.{compatible, breaking}
+use Rattle.coherence.specs.Lines.{of_version}
+use Rattle.coherence.proofs.Answered.{section-of, later-of, named-line}
+use Rattle.coherence.proofs.lines.later_line.Goals as goal
+use Rattle.coherence.proofs.lines.later_line.Goals.{in-Compatible+in_ok-line-in-Compatible, in-Breaking+in_ok-line-in-Breaking}
+
+pub check_later-requires : goal.check_later-requires
+check_later-requires c = section-of c.args.session.now c.args.workspace.now c.args.changed.index c.args.section c.requires.on c.requires.of_crate c.requires.section
+
+pub returns-clause-line : goal.returns-clause-line
+returns-clause-line c =
+    let s = c.args.session.now in
+    let d = c.args.workspace.now in
+    let crate = c.args.changed.index in
+    let right = later-of s d crate c.args.section (later_of c.in_ok-answer.answer) c.requires.on c.requires.of_crate c.in_ok-answer.ensures.answer in
+    let name = c.crate_name-name.ensures in
+    elim c.match-answer.branch [
+      | in-Compatible+in_ok-line-in-Compatible w ↦
+          (_, of_version c.args.section crate (later_of Compatible) (rw w.in-Compatible.is at right), rw w.line-is (named-line (λ n. compatible n) d crate _ _ name w.in_ok-line-in-Compatible.ensures))
+      | in-Breaking+in_ok-line-in-Breaking w ↦
+          (_, of_version c.args.section crate (later_of (Breaking w.in-Breaking.number)) (rw w.in-Breaking.is at right), rw w.line-is (named-line (λ n. breaking n w.in-Breaking.number) d crate _ _ name w.in_ok-line-in-Breaking.ensures))
+    ]

@@ -1,0 +1,52 @@
+use Rattle.std.proofs.Common.{◌≡◌, List, ◌∷◌, [], map, length, refl, sym, ◌∙◌, subst, arith, Ok, Err}
+use Rattle.std.specs.Prelude.{Result, IfOk}
+use Rattle.model.specs.Trees.{◌+++◌}
+use Rattle.model.proofs.TreeLaws.{append-none}
+use Rattle.type_terms.specs.Terms.{Is, args_lists, trees_at}
+use Rattle.type_terms.specs.Kinds.{ArgsHeld, args_trees}
+use Rattle.type_terms.specs.declared.kinds.GenericArgs.{GenericArgs}
+use Rattle.type_terms.specs.Kept.{args-held-later, trees-is}
+use Rattle.infer_table.proofs.Values.{args-held-push}
+use Rattle.declarations.specs.Applied.{sort_of_param}
+use Rattle.sessions.specs.Placeholders.{placeholders_from}
+use Rattle.sessions.proofs.OpaqueTerms.{one-more-placeholder}
+use Rattle.sessions.proofs.placeholders.placeholders_for_item.Goals as goal
+
+pub params-preserved : goal.params-preserved
+params-preserved c =
+    let now = c.params.cx.entries in
+    let next = c.placeholder_for_param.new.cx.entries in
+    let inv = c.params.invariant in
+    let k = c.placeholder_for_param.ensures.keeps in
+    let kind = c.in-Some.kind.now in
+    let rest = c.in-Some.others.now in
+    let a = c.in_ok-arg.arg in
+    let xs = c.params.placeholders.items in
+    let all = placeholders_from 0 (map sort_of_param c.args.params.now) in
+    let back = c.in-Some.ensures.cases.0 in
+    let put = c.in_ok-push.ensures.items in
+    record {
+      keeps = λ j e h. k j e (inv.keeps j e h);
+      held = subst (ArgsHeld next) (sym put) (args-held-push next xs a (args-held-later now next k xs inv.held) c.in_ok-arg.ensures.held);
+      are = subst (λ l. args_trees next l +++ placeholders_from c.in_ok-place.place (map sort_of_param rest) ≡ all) (sym put)
+          (one-more-placeholder now next k xs a c.params.place c.in_ok-place.place (sort_of_param kind) (map sort_of_param rest) all inv.held c.in_ok-arg.ensures.is c.in_ok-place.ensures
+          (subst (λ l. args_trees now xs +++ placeholders_from c.params.place (map sort_of_param l) ≡ all) back inv.are));
+    }
+
+nothing : {A : Type 0} (xs : List A) → length xs ≡ 0 → xs ≡ []
+nothing [] e = refl
+nothing (x ∷ xs) e = absurd (omega arith)
+
+if-ok : {A E : Type 0} (P Q : A → Type 0) (r : Result A E) → ((x : A) → P x → Q x) → IfOk r P → IfOk r Q
+if-ok P Q (Ok x) f h = f x h
+if-ok P Q (Err e) f h = tt
+
+pub returns-clause-are : goal.returns-clause-are
+returns-clause-are c =
+    let now = c.params.cx.entries in
+    let new = c.mk_args.new.self.entries in
+    let xs = c.params.placeholders.items in
+    let all = placeholders_from 0 (map sort_of_param c.args.params.now) in
+    let done = subst (λ l. args_trees now xs +++ placeholders_from c.params.place (map sort_of_param l) ≡ all) (nothing c.params.left.now c.in_default.ensures.cases) c.params.invariant.are in
+    if-ok (λ (a : GenericArgs). Is new args_lists a.0 (args_trees now xs)) (λ a. trees_at new a.0 ≡ all) c.mk_args.result
+    (λ a h. trees-is new args_lists a.0 (args_trees now xs) h ∙ sym (append-none (args_trees now xs)) ∙ done) c.mk_args.ensures.is

@@ -1,0 +1,34 @@
+use Rattle.std.proofs.Common.{refl, subst}
+use Rattle.std.specs.Prelude.{IfOk}
+use Rattle.sessions.specs.Subjects.{Subject, StaysOn}
+use Rattle.sessions.specs.Supertraits.{IsCheckedAt}
+use Rattle.sessions.proofs.Keeping.{session-kept, session-rests}
+use Rattle.sessions.proofs.session.Session.header_answer.Goals as goal
+
+pub header_answer_at-requires-clause-rest : goal.header_answer_at-requires-clause-rest
+header_answer_at-requires-clause-rest c =
+    let i = c.self.inside in
+    session-rests i.workspace.now i.crate_id.index i.limits.depth i.cx i.graph i.cache c.self.invariant
+
+pub header_answer_at-requires-clause-applied : goal.header_answer_at-requires-clause-applied
+header_answer_at-requires-clause-applied c =
+    let i = c.self.inside in
+    c.impls_apply.ensures i.workspace.now c.self.invariant.text i.crate_id.index i.cx.interner.entries i.cx.handler.declarations c.self.invariant.solving
+
+pub invariant_of-self : goal.invariant_of-self
+invariant_of-self c =
+    let i = c.self.inside in
+    let x = c.header_answer_at.new in
+    session-kept i.workspace.now i.crate_id.index i.limits.depth i.cx i.graph i.cache c.self.invariant x.cx x.graph x.cache c.header_answer_at.ensures.solving c.header_answer_at.ensures.rest
+
+pub returns-clause-checked : goal.returns-clause-checked
+returns-clause-checked c =
+    let i = c.self.inside in
+    subst (λ (s : Subject). IfOk c.header_answer_at.result (IsCheckedAt s.depth s.declarations s.of_crate c.args.id.index)) c.self.view_is
+    (c.header_answer_at.ensures.checked i.workspace.now i.crate_id.index i.limits.depth c.self.invariant)
+
+pub returns-clause-stays : goal.returns-clause-stays
+returns-clause-stays c =
+    let i = c.self.inside in
+    subst (λ (s : Subject). StaysOn s (record { declarations = i.workspace.now; of_crate = i.crate_id.index; depth = i.limits.depth; handles = i.limits.handles; terms = c.header_answer_at.new.cx.interner.entries })) c.self.view_is
+    (record { declarations = refl; of_crate = refl; depth = refl; handles = refl; terms = c.header_answer_at.ensures.keeps })

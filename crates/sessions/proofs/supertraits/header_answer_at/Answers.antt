@@ -1,0 +1,37 @@
+use Rattle.std.proofs.Common.{subst}
+use Rattle.declarations.specs.Items.{written}
+use Rattle.candidate_assembly.specs.Fitting.{solving_of}
+use Rattle.sessions.specs.Supertraits.{AreOfOwn}
+use Rattle.sessions.proofs.HeaderChecks.{goals-checked, none-checked}
+use Rattle.sessions.proofs.Posing.{over-ok}
+use Rattle.sessions.proofs.supertraits.header_answer_at.Goals as goal
+
+pub returns-in_err-goals-clause-rest : goal.returns-in_err-goals-clause-rest
+returns-in_err-goals-clause-rest c = c.rest_laws.ensures.rest c.args.graph.now.root_depth c.args.cx.now c.own_goals_in.new.cx c.args.graph.now c.args.cache.now c.requires.rest c.own_goals_in.ensures.advances
+
+pub returns-in_default-clause-rest : goal.returns-in_default-clause-rest
+returns-in_default-clause-rest c = c.rest_laws.ensures.rest c.args.graph.now.root_depth c.args.cx.now c.own_goals_in.new.cx c.args.graph.now c.args.cache.now c.requires.rest c.own_goals_in.ensures.advances
+
+pub returns-in_default-clause-solving : goal.returns-in_default-clause-solving
+returns-in_default-clause-solving c = c.rest_laws.ensures.meaning c.args.cx.now c.own_goals_in.new.cx c.requires.rest.ready c.own_goals_in.ensures.advances
+
+pub returns-in_default-clause-checked : goal.returns-in_default-clause-checked
+returns-in_default-clause-checked c = λ d n depth s.
+    let V = written c.args.cx.now.interner.entries c.args.cx.now.handler.declarations in
+    let new = c.own_goals_in.new.cx.interner.entries in
+    none-checked c.supertraits_are_told.ensures d n depth c.args.cx.now c.args.graph.now c.args.cache.now s c.args.id.index new
+    (subst (AreOfOwn V c.args.cx.now.handler.declarations.local c.args.id.index new) c.in_default.is c.in_ok-goals.ensures.goals)
+
+pub first_unproved-requires-clause-rest : goal.first_unproved-requires-clause-rest
+first_unproved-requires-clause-rest c = c.rest_laws.ensures.rest c.args.graph.now.root_depth c.args.cx.now c.own_goals_in.new.cx c.args.graph.now c.args.cache.now c.requires.rest c.own_goals_in.ensures.advances
+
+pub returns-clause-checked : goal.returns-clause-checked
+returns-clause-checked c = λ d n depth s.
+    let V = written c.args.cx.now.interner.entries c.args.cx.now.handler.declarations in
+    let new = c.own_goals_in.new.cx.interner.entries in
+    let goals = subst (AreOfOwn V c.args.cx.now.handler.declarations.local c.args.id.index new) c.in-Some.is c.in_ok-goals.ensures.goals in
+    over-ok c.first_unproved.result
+    (λ a h.
+    goals-checked c.supertraits_are_told.ensures d n depth c.args.cx.now c.args.graph.now c.args.cache.now s c.args.id.index new (solving_of new c.own_goals_in.new.cx.handler.declarations)
+    (c.rest_laws.ensures.meaning c.args.cx.now c.own_goals_in.new.cx c.requires.rest.ready c.own_goals_in.ensures.advances) c.in-Some.goals goals a h)
+    c.first_unproved.ensures.told

@@ -1,0 +1,23 @@
+-- Impls with placeholders in the place of their parameters, over the terms of an interner.
+use Rattle.std.specs.Prelude.{◌≡◌, ℕ, suc, List, [], ◌∷◌, map}
+use Rattle.model.specs.Label.{Sort, placeholder}
+use Rattle.model.specs.Supers.{opaque_reference}
+use Rattle.model.specs.Trees.{Trees, none, tree}
+use Rattle.type_terms.specs.Terms.{Entry}
+use Rattle.declarations.specs.Applied.{AllHeld, references_in}
+use Rattle.declarations.specs.Held.{ReferenceHeld}
+use Rattle.declarations.specs.Items.{reference_in}
+use Rattle.declarations.specs.declared.items.ImplDef.{ImplDef}
+use Rattle.sessions.specs.declared.placeholders.OpaqueImpl.{OpaqueImpl}
+
+-- Placeholders of these sorts, numbered by their places from n on: for `impl<'a, T, const N>` they are `'!0, !1, !2`.
+abbrev pub placeholders_from : ℕ → List Sort → Trees
+placeholders_from n [] = none
+placeholders_from n (s ∷ ss) = tree (placeholder s n) none (placeholders_from (suc n) ss)
+
+-- The impl's header and where-clauses, with its parameters as placeholders.
+pub record IsOpaqueOf (old : List Entry) (def : ImplDef) (new : List Entry) (i : OpaqueImpl) : Type 0 where
+  pub header : reference_in new i.header ≡ opaque_reference (reference_in old def.header)
+  pub clauses : references_in new i.clauses.items ≡ map opaque_reference (references_in old def.clauses.items)
+  pub header_held : ReferenceHeld new i.header
+  pub clauses_held : AllHeld new i.clauses.items

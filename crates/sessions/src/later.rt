@@ -1,0 +1,120 @@
+//! The impls that a later version of the crate that asks adds.
+
+ghost use Rattle.std.specs.Prelude.{◌≡◌, ◌≤◌, ◌||◌, List, length, map, IfOk};
+ghost use Rattle.model.specs.Laws.{InEveryLinkedSet};
+ghost use Rattle.model.specs.Terms.{erased_reference};
+ghost use Rattle.model.specs.Versions.{is_addable};
+ghost use Rattle.model.specs.Walks.{trait_is};
+ghost use Rattle.type_terms.specs.Terms.{Entry};
+ghost use Rattle.declarations.specs.Held.{ImplHeld, ReferenceHeld};
+ghost use Rattle.declarations.specs.Items.{declared, reference_in};
+ghost use Rattle.declarations.specs.Merges.{Each};
+ghost use Rattle.workspace.specs.declared.tables.TheConstants.{ENTRY_LIMIT};
+ghost use Rattle.sessions.specs.Checking.{IsReadySolver, SolverAdvances, rules_in};
+ghost use Rattle.sessions.specs.Given.{later_of};
+ghost use Rattle.sessions.specs.Later.{IsAnswerOn, header_in, section_headers};
+ghost use Rattle.sessions.specs.Releases.{AddedImplsBreakNoUser};
+ghost use Rattle.sessions.specs.Subjects.{IsOfText};
+
+use crate::answers::LaterAnswer;
+use crate::asked::rest_laws;
+use candidate_assembly::solver::Solver;
+use declarations::declarations::Declarations;
+use declarations::items::ImplDef;
+use model::{
+    added_by_the_view_is_added, later_impls_conclude_nothing_known, later_versions_break_no_user,
+};
+use orphan_check::laws::walks_and_errors;
+use orphan_check::open_walk::open_walk_meets_param;
+use orphan_check::orphan::keeps_orphan_rule;
+use root_goals::SolverCx;
+use term_folds::predicate::TraitRef;
+use type_terms::interner::Interner;
+use type_terms::{Fault, TraitId};
+use view_lowering::laws::later_impls_begin_declared;
+use view_lowering::lower_later;
+use workspace::Workspace;
+
+/// An impl that a later version of a crate may add, as the crate's view tells it, overlaps no impl that a user of the crate may write,
+/// and concludes nothing that is known to a crate which that one does not see.
+pub fn added_impls_break_no_user()
+    ensures { InEveryLinkedSet AddedImplsBreakNoUser }
+{
+    added_by_the_view_is_added();
+    later_versions_break_no_user();
+    later_impls_conclude_nothing_known();
+}
+
+/// Whether users may rely on what the trait is not implemented for: it is fundamental, or auto.
+fn trait_is_relied_on(declarations: &Declarations, id: TraitId) -> bool
+    ensures { (es : List Entry) → let V = declared es declarations.now in result ≡ (trait_is (λ x. x.is_fundamental) V id.index || trait_is (λ x. x.is_auto) V id.index) }
+{
+    match declarations.trait_def(id) {
+        Some(def) => def.is_fundamental || def.is_auto,
+        None => false,
+    }
+}
+
+/// Whether a later version of the crate that asks may add an impl with this header, which is read as it is declared: it keeps the
+/// orphan rule, its trait is neither fundamental nor auto, and its open walk meets no parameter.
+fn is_addable(cx: &Interner, declarations: &Declarations, header: TraitRef) -> bool
+    requires { ReferenceHeld cx.now.entries header }
+    ensures { let es = cx.now.entries in result ≡ is_addable (declared es declarations.now) declarations.now.local (erased_reference (reference_in es header)) }
+{
+    walks_and_errors();
+    keeps_orphan_rule(cx, declarations, header)
+        && !open_walk_meets_param(cx, declarations, header)
+        && !trait_is_relied_on(declarations, header.def_id)
+}
+
+/// The first of the impls that a later version of the crate that asks may not add, counted from 1, if there is one.
+fn first_breaking(cx: &Interner, declarations: &Declarations, impls: &[ImplDef]) -> LaterAnswer
+    requires held { Each (ImplHeld cx.now.entries) impls.now }
+    requires few { length impls.now ≤ ENTRY_LIMIT }
+    ensures { let es = cx.now.entries in IsAnswerOn (declared es declarations.now) declarations.now.local (map (header_in es) impls.now) (later_of result) }
+{
+    for (index, def) in impls.iter().enumerate() {
+        if !is_addable(cx, declarations, def.header) {
+            return LaterAnswer::Breaking(index as u32 + 1);
+        }
+    }
+    LaterAnswer::Compatible
+}
+
+/// The impls of the section with a number, as terms of the context. Errors are those of `lower_later`.
+fn added_impls(
+    cx: &mut SolverCx<Solver>,
+    workspace: &Workspace,
+    section: u32,
+) -> Result<Vec<ImplDef>, Fault>
+    requires ready { IsReadySolver cx.old }
+    requires text { IsOfText workspace.now }
+    ensures advances { SolverAdvances cx.old cx.new }
+    ensures headers { IfOk result (λ defs. map (header_in cx.new.interner.entries) defs.items ≡ section_headers workspace.now section) }
+    ensures held { IfOk result (λ defs. Each (ImplHeld cx.new.interner.entries) defs.items) }
+    ensures few { IfOk result (λ defs. length defs.items ≤ ENTRY_LIMIT) }
+{
+    rest_laws::<Solver>();
+    later_impls_begin_declared();
+    let _ = workspace.crates();
+    let impls = lower_later(cx.alloc, &mut cx.interner, workspace, section);
+    cx.interner.lawful();
+    impls
+}
+
+/// Whether the impls of the section with a number make a later version of the crate that asks.
+///
+/// All stays ready, after a fault too. The fault is a refusal of memory, or `Full`.
+pub(crate) fn later_answer(
+    cx: &mut SolverCx<Solver>,
+    workspace: &Workspace,
+    section: u32,
+) -> Result<LaterAnswer, Fault>
+    requires ready { IsReadySolver cx.old }
+    requires text { IsOfText workspace.now }
+    ensures advances { SolverAdvances cx.old cx.new }
+    ensures answer { IfOk result (λ a. IsAnswerOn (rules_in cx.old) cx.old.handler.declarations.local (section_headers workspace.now section) (later_of a)) }
+{
+    let impls = added_impls(cx, workspace, section)?;
+    Ok(first_breaking(&cx.interner, &cx.handler.declarations, &impls))
+}

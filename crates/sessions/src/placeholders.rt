@@ -1,0 +1,160 @@
+//! Impls with placeholders in the place of their parameters.
+
+ghost use Rattle.std.specs.Prelude.{◌≡◌, ◌+◌, map, IfOk, None};
+ghost use Rattle.model.specs.Label.{placeholder};
+ghost use Rattle.model.specs.Trees.{leaf, outer_binder};
+ghost use Rattle.model.specs.Worlds.{with_args, all_with_args};
+ghost use Rattle.type_terms.specs.Kinds.{ArgHeld, arg_trees};
+ghost use Rattle.type_terms.specs.Terms.{Has, Keeps, args_lists, trees_at};
+ghost use Rattle.term_folds.specs.Arguments.{first_misfit};
+ghost use Rattle.declarations.specs.Applied.{AllHeld, references_in, sort_of_param};
+ghost use Rattle.declarations.specs.Held.{ImplHeld, ReferenceHeld};
+ghost use Rattle.declarations.specs.Items.{reference_in};
+ghost use Rattle.declarations.specs.Merges.{Each};
+ghost use Rattle.overlap_check.specs.Written.{IsWrittenWell};
+ghost use Rattle.sessions.specs.Placeholders.{IsOpaqueOf, placeholders_from};
+
+use declarations::items::{GenericParamKind, ImplDef};
+use std::alloc::Global;
+use term_folds::binder::EarlyBinder;
+use term_folds::instantiate::InstantiateError;
+use term_folds::laws::closed_arguments_are_in_range;
+use term_folds::predicate::TraitRef;
+use type_terms::Fault;
+use type_terms::interner::Interner;
+use type_terms::kinds::{ConstKind, GenericArgKind, GenericArgs, TyKind};
+use type_terms::region::{Region, RegionKind};
+
+/// The next number. The fault is `Full`, where there is none.
+pub(crate) fn next_number(number: u32) -> Result<u32, Fault>
+    ensures { IfOk result (λ next. next ≡ number + 1) }
+{
+    match number.checked_add(1) {
+        Some(next) => Ok(next),
+        None => Err(Fault::Full),
+    }
+}
+
+/// The placeholder for a parameter, by its place from 0 among all parameters of its item, as a question has it for one of its own.
+fn placeholder_for_param(
+    cx: &mut Interner,
+    kind: GenericParamKind,
+    place: u32,
+) -> Result<GenericArgKind, Fault>
+    ensures keeps { Keeps cx.old.entries cx.new.entries }
+    ensures held { IfOk result (λ arg. ArgHeld cx.new.entries arg) }
+    ensures is { IfOk result (λ arg. arg_trees cx.new.entries arg ≡ leaf (placeholder (sort_of_param kind) place)) }
+{
+    match kind {
+        GenericParamKind::Lifetime => Ok(GenericArgKind::Lifetime(Region {
+            kind: RegionKind::RePlaceholder(place),
+        })),
+        GenericParamKind::Type => {
+            let ty = cx.mk_ty(TyKind::Placeholder(place))?;
+            Ok(GenericArgKind::Ty(ty))
+        }
+        GenericParamKind::Const => {
+            let value = cx.mk_const(ConstKind::Placeholder(place))?;
+            Ok(GenericArgKind::Const(value))
+        }
+    }
+}
+
+/// The placeholders for an item's parameters, in order. The fault is a refusal of memory, or `Full`.
+fn placeholders_for_item(
+    alloc: Global,
+    cx: &mut Interner,
+    params: &[GenericParamKind],
+) -> Result<GenericArgs, Fault>
+    ensures keeps { Keeps cx.old.entries cx.new.entries }
+    ensures held { IfOk result (λ args. Has cx.new.entries args_lists args.0) }
+    ensures are { IfOk result (λ args. trees_at cx.new.entries args.0 ≡ placeholders_from 0 (map sort_of_param params.now)) }
+{
+    let mut placeholders = Vec::new(alloc);
+    let mut place = 0;
+    let mut left = params;
+    'params: while let Some((kind, others)) = left.split_first() {
+        let arg = placeholder_for_param(cx, *kind, place)?;
+        placeholders.push(arg)?;
+        place = next_number(place)?;
+        left = others;
+    }
+    cx.mk_args(placeholders)
+}
+
+/// A reference with arguments in the place of its parameters.
+fn instantiate_trait_ref(
+    alloc: Global,
+    cx: &mut Interner,
+    trait_ref: TraitRef,
+    args: GenericArgs,
+) -> Result<TraitRef, Fault>
+    requires held { ReferenceHeld cx.old.entries trait_ref }
+    requires args { Has cx.old.entries args_lists args.0 }
+    requires closed { outer_binder (trees_at cx.old.entries args.0) ≡ 0 }
+    requires fits { first_misfit (trees_at cx.old.entries args.0) (trees_at cx.old.entries trait_ref.args.0) ≡ None }
+    ensures keeps { Keeps cx.old.entries cx.new.entries }
+    ensures held { IfOk result (ReferenceHeld cx.new.entries) }
+    ensures is { IfOk result (λ r. reference_in cx.new.entries r ≡ with_args (trees_at cx.old.entries args.0) (reference_in cx.old.entries trait_ref)) }
+{
+    closed_arguments_are_in_range();
+    match EarlyBinder::bind(trait_ref).instantiate(alloc, cx, args) {
+        Ok(instance) => Ok(instance),
+        Err(InstantiateError::Fault(fault)) => Err(fault),
+        Err(InstantiateError::ParamOutOfRange) => unreachable!(),
+        Err(InstantiateError::ParamKind) => unreachable!(),
+    }
+}
+
+/// Each reference with arguments in the place of its parameters, in order.
+fn instantiate_trait_refs(
+    alloc: Global,
+    cx: &mut Interner,
+    references: &[TraitRef],
+    args: GenericArgs,
+) -> Result<Vec<TraitRef>, Fault>
+    requires held { AllHeld cx.old.entries references.now }
+    requires args { Has cx.old.entries args_lists args.0 }
+    requires closed { outer_binder (trees_at cx.old.entries args.0) ≡ 0 }
+    requires fits { Each (λ k. first_misfit (trees_at cx.old.entries args.0) (trees_at cx.old.entries k.args.0) ≡ None) references.now }
+    ensures keeps { Keeps cx.old.entries cx.new.entries }
+    ensures held { IfOk result (λ v. AllHeld cx.new.entries v.items) }
+    ensures are { IfOk result (λ v. references_in cx.new.entries v.items ≡ all_with_args (trees_at cx.old.entries args.0) (references_in cx.old.entries references.now)) }
+{
+    let mut found = Vec::new(alloc);
+    let mut left = references;
+    'references: while let Some((next, others)) = left.split_first() {
+        let instance = instantiate_trait_ref(alloc, cx, *next, args)?;
+        found.push(instance)?;
+        left = others;
+    }
+    Ok(found)
+}
+
+/// The header and the where-clauses of an impl with placeholders for its parameters: each stands for itself.
+#[derive(Drop)]
+pub(crate) struct OpaqueImpl {
+    /// The reference that the impl proves.
+    pub header: TraitRef,
+    /// The where-clauses as they are written.
+    pub clauses: Vec<TraitRef>,
+}
+
+/// The impl with placeholders for its parameters: `V<!0>: Show` where `!0: Show` for `impl<T> Show for V<T> where T: Show`. The fault is
+/// a refusal of memory, or `Full`.
+pub(crate) fn opaque_impl(
+    alloc: Global,
+    cx: &mut Interner,
+    def: &ImplDef,
+) -> Result<OpaqueImpl, Fault>
+    requires held { ImplHeld cx.old.entries def.now }
+    requires written { IsWrittenWell cx.old.entries def.now }
+    ensures keeps { Keeps cx.old.entries cx.new.entries }
+    ensures is { IfOk result (IsOpaqueOf cx.old.entries def.now cx.new.entries) }
+{
+    cx.lawful();
+    let args = placeholders_for_item(alloc, cx, &def.params)?;
+    let header = instantiate_trait_ref(alloc, cx, def.header, args)?;
+    let clauses = instantiate_trait_refs(alloc, cx, &def.clauses, args)?;
+    Ok(OpaqueImpl { header, clauses })
+}

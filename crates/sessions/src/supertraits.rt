@@ -1,0 +1,193 @@
+//! Whether the supertraits of an impl's header are proved from its where-clauses.
+
+ghost use Rattle.std.specs.Prelude.{ℕ, IfOk};
+ghost use Rattle.type_terms.specs.Terms.{Keeps};
+ghost use Rattle.declarations.specs.Applied.{AllHeld, references_in};
+ghost use Rattle.declarations.specs.Held.{ImplHeld, ReferenceHeld};
+ghost use Rattle.declarations.specs.Items.{reference_in, written};
+ghost use Rattle.overlap_check.specs.Written.{IsWrittenWell};
+ghost use Rattle.candidate_assembly.specs.Fitting.{solving_of};
+ghost use Rattle.candidate_assembly.specs.Ready.{IsReady};
+ghost use Rattle.text_definitions.specs.Declarations as text;
+ghost use Rattle.sessions.specs.Proving.{SolverAdvances, SolverIsReady, SolvesTheSame};
+ghost use Rattle.sessions.specs.Sessions.{SolverRests, IsSession};
+ghost use Rattle.sessions.specs.Supertraits.{AreGoalsFor, AreOfOwn, HasApplied, ImplsApply, IsCheckedAt, IsHeaderTold, IsTold};
+
+use crate::answers::ProveAnswer;
+use crate::asked::rest_laws;
+use crate::placeholders::{next_number, opaque_impl};
+use crate::proving::prove_under;
+use crate::settling::Outcome;
+use crate::supertrait_laws::supertraits_are_told;
+use crate::written::ready_impls_are_written_well;
+use candidate_assembly::solver::Solver;
+use declarations::declarations::Declarations;
+use declarations::items::ImplDef;
+use root_goals::{SolverCx, SolverGraph};
+use search_graph::{GlobalCache, SearchGraph};
+use std::alloc::Global;
+use term_folds::predicate::TraitRef;
+use type_terms::interner::Interner;
+use type_terms::{Fault, ImplId};
+
+/// What is asked of an impl: the strict supertraits of its header, each once, under its where-clauses with all their supertraits. Its
+/// parameters stand in all of them as placeholders.
+#[derive(Drop)]
+struct SupertraitGoals {
+    supertraits: Vec<TraitRef>,
+    clauses: Vec<TraitRef>,
+}
+
+/// How the supertraits of one header are answered. They count from 1.
+#[derive(Clone, Copy)]
+pub(crate) enum HeaderAnswer {
+    /// Each has a proof.
+    Held,
+    /// Those before this one have proofs, and the search found none of this one.
+    Missing(u32),
+    /// Those before this one have proofs, and of this one the search does not know.
+    Undecided(u32),
+}
+
+/// What is asked of an impl: the header is none of its where-clauses. The fault is a refusal of memory, or `Full`.
+fn goals_of(
+    alloc: Global,
+    cx: &mut Interner,
+    declarations: &Declarations,
+    def: &ImplDef,
+) -> Result<SupertraitGoals, Fault>
+    requires ready { IsReady cx.old.entries declarations.now }
+    requires held { ImplHeld cx.old.entries def.now }
+    requires written { IsWrittenWell cx.old.entries def.now }
+    requires applied { HasApplied declarations.now (reference_in cx.old.entries def.now.header) (references_in cx.old.entries def.now.clauses.items) }
+    ensures keeps { Keeps cx.old.entries cx.new.entries }
+    ensures are { IfOk result (AreGoalsFor (written cx.old.entries declarations.now)
+        (reference_in cx.old.entries def.now.header) (references_in cx.old.entries def.now.clauses.items) cx.new.entries) }
+{
+    let opaque = opaque_impl(alloc, cx, def)?;
+    let supertraits = declarations.supertraits(alloc, cx, opaque.header)?;
+    let clauses = declarations.elaborate(alloc, cx, &opaque.clauses)?;
+    Ok(SupertraitGoals {
+        supertraits,
+        clauses,
+    })
+}
+
+/// What is asked of the impl with a number, if it is of the crate that asks. The fault is a refusal of memory, or `Full`.
+fn own_goals(
+    alloc: Global,
+    cx: &mut Interner,
+    declarations: &Declarations,
+    id: ImplId,
+) -> Result<Option<SupertraitGoals>, Fault>
+    requires ready { IsReady cx.old.entries declarations.now }
+    requires applied { ImplsApply declarations.now (written cx.old.entries declarations.now) }
+    ensures keeps { Keeps cx.old.entries cx.new.entries }
+    ensures goals { IfOk result (AreOfOwn (written cx.old.entries declarations.now) declarations.now.local id.index cx.new.entries) }
+{
+    ready_impls_are_written_well();
+    let Some(def) = declarations.impl_def(id) else {
+        return Ok(None);
+    };
+    if declarations.is_local(def.home) {
+        let goals = goals_of(alloc, cx, declarations, def)?;
+        Ok(Some(goals))
+    } else {
+        Ok(None)
+    }
+}
+
+/// The same over the interner of a solver's context.
+fn own_goals_in(cx: &mut SolverCx<Solver>, id: ImplId) -> Result<Option<SupertraitGoals>, Fault>
+    requires ready { SolverIsReady cx.old }
+    requires applied { ImplsApply cx.old.handler.declarations (written cx.old.interner.entries cx.old.handler.declarations) }
+    ensures advances { SolverAdvances cx.old cx.new }
+    ensures goals { IfOk result (AreOfOwn (written cx.old.interner.entries cx.old.handler.declarations) cx.old.handler.declarations.local id.index cx.new.interner.entries) }
+{
+    rest_laws::<Solver>();
+    let declarations = &cx.handler.declarations;
+    let goals = own_goals(cx.alloc, &mut cx.interner, declarations, id);
+    cx.interner.lawful();
+    goals
+}
+
+/// How a reference without unknowns is answered outside coherence, under just these where-clauses.
+///
+/// All stays at rest, after a fault too. The fault is a refusal of memory, or `Full`.
+fn ask_under(
+    graph: &mut SearchGraph<SolverGraph<Solver>>,
+    cache: &mut GlobalCache<SolverGraph<Solver>>,
+    cx: &mut SolverCx<Solver>,
+    clauses: &[TraitRef],
+    asked: TraitRef,
+) -> Result<Outcome, Fault>
+    requires rest { SolverRests graph.old.root_depth cx.old graph.old cache.old }
+    requires clauses { AllHeld cx.old.interner.entries clauses.now }
+    requires asked { ReferenceHeld cx.old.interner.entries asked }
+    ensures rest { SolverRests graph.old.root_depth cx.new graph.new cache.new }
+    ensures solving { SolvesTheSame cx.old cx.new }
+    ensures keeps { Keeps cx.old.interner.entries cx.new.interner.entries }
+    ensures told { IfOk result (IsTold (solving_of cx.old.interner.entries cx.old.handler.declarations) graph.old.root_depth
+        (references_in cx.old.interner.entries clauses.now) (reference_in cx.old.interner.entries asked)) }
+{
+    match prove_under(graph, cache, cx, clauses, asked, &[])? {
+        ProveAnswer::Yes(_) => Ok(Outcome::Proved),
+        ProveAnswer::Unproved => Ok(Outcome::Unproved),
+        ProveAnswer::Maybe => Ok(Outcome::Maybe),
+    }
+}
+
+/// Asks for each supertrait in turn, up to the first that is not proved.
+///
+/// All stays at rest, after a fault too. The fault is a refusal of memory, or `Full`.
+fn first_unproved(
+    graph: &mut SearchGraph<SolverGraph<Solver>>,
+    cache: &mut GlobalCache<SolverGraph<Solver>>,
+    cx: &mut SolverCx<Solver>,
+    goals: &SupertraitGoals,
+) -> Result<HeaderAnswer, Fault>
+    requires rest { SolverRests graph.old.root_depth cx.old graph.old cache.old }
+    requires supertraits { AllHeld cx.old.interner.entries goals.now.supertraits.items }
+    requires clauses { AllHeld cx.old.interner.entries goals.now.clauses.items }
+    ensures rest { SolverRests graph.old.root_depth cx.new graph.new cache.new }
+    ensures solving { SolvesTheSame cx.old cx.new }
+    ensures keeps { Keeps cx.old.interner.entries cx.new.interner.entries }
+    ensures told { IfOk result (IsHeaderTold (solving_of cx.old.interner.entries cx.old.handler.declarations) graph.old.root_depth
+        (references_in cx.old.interner.entries goals.now.clauses.items) (references_in cx.old.interner.entries goals.now.supertraits.items)) }
+{
+    let mut place = 0;
+    for supertrait in &goals.supertraits {
+        place = next_number(place)?;
+        match ask_under(graph, cache, cx, &goals.clauses, *supertrait)? {
+            Outcome::Proved => {}
+            Outcome::Unproved => return Ok(HeaderAnswer::Missing(place)),
+            Outcome::Maybe => return Ok(HeaderAnswer::Undecided(place)),
+        }
+    }
+    Ok(HeaderAnswer::Held)
+}
+
+/// How the supertraits of the header of the impl with a number are answered, if it is of the crate that asks; those of another impl are
+/// not asked for.
+///
+/// All stays at rest, after a fault too. The fault is a refusal of memory, or `Full`.
+pub(crate) fn header_answer_at(
+    graph: &mut SearchGraph<SolverGraph<Solver>>,
+    cache: &mut GlobalCache<SolverGraph<Solver>>,
+    cx: &mut SolverCx<Solver>,
+    id: ImplId,
+) -> Result<HeaderAnswer, Fault>
+    requires rest { SolverRests graph.old.root_depth cx.old graph.old cache.old }
+    requires applied { ImplsApply cx.old.handler.declarations (written cx.old.interner.entries cx.old.handler.declarations) }
+    ensures rest { SolverRests graph.old.root_depth cx.new graph.new cache.new }
+    ensures solving { SolvesTheSame cx.old cx.new }
+    ensures keeps { Keeps cx.old.interner.entries cx.new.interner.entries }
+    ensures checked { (d : text.Declarations) (c depth : ℕ) → IsSession d c depth cx.old graph.old cache.old → IfOk result (IsCheckedAt depth d c id.index) }
+{
+    rest_laws::<Solver>();
+    supertraits_are_told();
+    let Some(goals) = own_goals_in(cx, id)? else {
+        return Ok(HeaderAnswer::Held);
+    };
+    first_unproved(graph, cache, cx, &goals)
+}

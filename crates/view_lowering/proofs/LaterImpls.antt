@@ -1,0 +1,133 @@
+-- The impls of a section, lowered one after the other.
+use Rattle.std.proofs.Common.{◌≡◌, ℕ, zero, suc, ◌+◌, true, false, List, [], ◌∷◌, ◌++◌, length, map, take, Some, refl, sym, ap, ◌∙◌}
+use Rattle.std.specs.Prelude.{◌==◌, filter, slice_get}
+use Rattle.std.proofs.lemmas.List.{length-map, map_push}
+use Rattle.std.proofs.lemmas.Option.{same_Some}
+use Rattle.model.specs.Terms.{erased_impl, erased_reference}
+use Rattle.model.specs.Worlds.{ImplDecl, Reference}
+use Rattle.text_definitions.specs.Declarations.{Declarations, NamedImpl, LaterImpl, section_impls}
+use Rattle.type_terms.specs.Terms.{Entry, Keeps}
+use Rattle.type_terms.specs.declared.ImplId.{ImplId}
+use Rattle.declarations.specs.declared.items.ImplDef.{ImplDef}
+use Rattle.declarations.specs.Heads.{begins_declared}
+use Rattle.declarations.specs.Held.{ImplHeld}
+use Rattle.declarations.specs.Items.{reference_in, impl_in}
+use Rattle.declarations.specs.Merges.{Each}
+use Rattle.declarations.proofs.Bounded.{all-same}
+use Rattle.declarations.proofs.Growth.{args-same, reference-kept, reference-same, references-kept}
+use Rattle.view_lowering.specs.Later.{unnumbered, added_impls, added_in, added_sorts, sorts_of_added}
+use Rattle.view_lowering.specs.Plain.{all_kept, plain_impl}
+use Rattle.view_lowering.specs.Seen.{param_sorts}
+use Rattle.view_lowering.proofs.Applied.{each-map, each-more}
+use Rattle.view_lowering.proofs.Going.{all-taken, passed, taken}
+use Rattle.view_lowering.proofs.Plainly.{reference-erased}
+
+-- ---- as the interner grows
+module _ (old new : List Entry) (k : Keeps old new) where
+  pub impl-later : (def : ImplDef) → ImplHeld old def → ImplHeld new def
+  impl-later def h = record {
+    header = reference-kept old new k def.header h.header;
+    clauses = references-kept old new k def.clauses.items h.clauses;
+    begins = ap begins_declared (args-same old new k def.header h.header) ∙ h.begins;
+  }
+
+  pub impls-later : (defs : List ImplDef) → Each (ImplHeld old) defs → Each (ImplHeld new) defs
+  impls-later defs h = each-map (ImplHeld old) (ImplHeld new) impl-later defs h
+
+  pub added-same : (def : ImplDef) → ImplHeld old def → added_in new def ≡ added_in old def
+  added-same def h = join (reference_in new def.header) (reference_in old def.header) _ _ (reference-same old new k def.header h.header) (all-same old new k def.clauses.items h.clauses)
+    where
+      join : (r s : Reference) (ks ls : List Reference) → r ≡ s → ks ≡ ls
+          → (let i : ImplDecl = record { name = 0; home = def.home.index; params = length def.params.items; header = r; clauses = ks } in i) ≡ record { name = 0; home = def.home.index; params = length def.params.items; header = s; clauses = ls }
+      join r s ks ls p q = cc
+
+  all-added-same : (defs : List ImplDef) → Each (ImplHeld old) defs → map (added_in new) defs ≡ map (added_in old) defs
+  all-added-same [] h = refl
+  all-added-same (def ∷ defs) h = ap (λ x. x ∷ map (added_in new) defs) (added-same def h.0) ∙ ap (λ l. added_in old def ∷ l) (all-added-same defs h.1)
+
+-- ---- the state of the loop
+-- those of the first i impls of all sections that are of section k
+abbrev pub gone : Declarations → ℕ → ℕ → List NamedImpl
+gone d k i = map (λ (j : LaterImpl). j.added) (filter (λ (j : LaterImpl). j.section == k) (take i d.later_impls))
+
+pub record LaterAdded (d : Declarations) (k : ℕ) (old : List Entry) (limit : ℕ) (i : ℕ) (es : List Entry) (now_limit : ℕ) (defs : List ImplDef) : Type 0 where
+  pub keeps : Keeps old es
+  pub limited : now_limit ≡ limit
+  pub impls : map (added_in es) defs ≡ map (λ (n : NamedImpl). unnumbered (plain_impl n.item)) (gone d k i)
+  pub sorts : map sorts_of_added defs ≡ map param_sorts (gone d k i)
+  pub held : Each (ImplHeld es) defs
+
+module _ (d : Declarations) (k : ℕ) (old : List Entry) (limit : ℕ) where
+  pub later-first : LaterAdded d k old limit 0 old limit []
+  later-first = record { keeps = λ j e h. h; limited = refl; impls = refl; sorts = refl; held = tt }
+
+  pub later-passed : (i : ℕ) (es : List Entry) (now_limit : ℕ) (defs : List ImplDef) (s : LaterImpl) → slice_get d.later_impls i ≡ Some s → (s.section == k) ≡ false → LaterAdded d k old limit i es now_limit defs
+      → LaterAdded d k old limit (i + 1) es now_limit defs
+  later-passed i es now_limit defs s there other a =
+      let same : gone d k (i + 1) ≡ gone d k i = ap (map (λ (j : LaterImpl). j.added)) (passed (λ (j : LaterImpl). j.section == k) d.later_impls i s there other) in
+      record {
+        keeps = a.keeps;
+        limited = a.limited;
+        impls = a.impls ∙ ap (map (λ (n : NamedImpl). unnumbered (plain_impl n.item))) (sym same);
+        sorts = a.sorts ∙ ap (map param_sorts) (sym same);
+        held = a.held;
+      }
+
+  pub later-taken : (i : ℕ) (es : List Entry) (now_limit : ℕ) (defs : List ImplDef) (s : LaterImpl) (new : List Entry) (new_limit : ℕ) (id : ImplId) (def : ImplDef) → slice_get d.later_impls i ≡ Some s
+      → (s.section == k) ≡ true → Keeps es new → new_limit ≡ now_limit → impl_in new id def ≡ plain_impl s.added.item → sorts_of_added def ≡ param_sorts s.added → ImplHeld new def
+      → LaterAdded d k old limit i es now_limit defs → LaterAdded d k old limit (i + 1) new new_limit (defs ++ def ∷ [])
+  later-taken i es now_limit defs s new new_limit id def there own kept same_limit is sorted held a =
+      let more : gone d k (i + 1) ≡ gone d k i ++ s.added ∷ [] =
+      ap (map (λ (j : LaterImpl). j.added)) (taken (λ (j : LaterImpl). j.section == k) d.later_impls i s there own)
+      ∙ map_push (λ (j : LaterImpl). j.added) (filter (λ (j : LaterImpl). j.section == k) (take i d.later_impls)) s in
+      record {
+        keeps = λ j e h. kept j e (a.keeps j e h);
+        limited = same_limit ∙ a.limited;
+        impls =
+            map_push (added_in new) defs def ∙ ap (λ l. l ++ added_in new def ∷ []) (all-added-same es new kept defs a.held ∙ a.impls)
+            ∙ ap (λ x. map (λ (n : NamedImpl). unnumbered (plain_impl n.item)) (gone d k i) ++ x ∷ []) (ap unnumbered is)
+            ∙ sym (ap (map (λ (n : NamedImpl). unnumbered (plain_impl n.item))) more ∙ map_push (λ (n : NamedImpl). unnumbered (plain_impl n.item)) (gone d k i) s.added);
+        sorts =
+            map_push sorts_of_added defs def ∙ ap (λ l. l ++ sorts_of_added def ∷ []) a.sorts ∙ ap (λ x. map param_sorts (gone d k i) ++ x ∷ []) sorted
+            ∙ sym (ap (map param_sorts) more ∙ map_push param_sorts (gone d k i) s.added);
+        held = each-more (ImplHeld new) defs def (impls-later es new kept defs a.held) held;
+      }
+
+  -- all are gone over
+  all-gone : (i : ℕ) → length d.later_impls ≡ i → gone d k i ≡ section_impls d k
+  all-gone i e = ap (λ l. map (λ (j : LaterImpl). j.added) (filter (λ (j : LaterImpl). j.section == k) l)) (all-taken d.later_impls i (sym e))
+
+  pub later-all : (i : ℕ) (es : List Entry) (now_limit : ℕ) (defs : List ImplDef) → length d.later_impls ≡ i → LaterAdded d k old limit i es now_limit defs → map (added_in es) defs ≡ added_impls d k
+  later-all i es now_limit defs e a = a.impls ∙ ap (map (λ (n : NamedImpl). unnumbered (plain_impl n.item))) (all-gone i e)
+
+  pub later-sorted : (i : ℕ) (es : List Entry) (now_limit : ℕ) (defs : List ImplDef) → length d.later_impls ≡ i → LaterAdded d k old limit i es now_limit defs → map sorts_of_added defs ≡ added_sorts d k
+  later-sorted i es now_limit defs e a = a.sorts ∙ ap (map param_sorts) (all-gone i e)
+
+-- ---- one of them
+-- where lists that are read are one, so are those of each place
+at-place : {A B D : Type 0} (f : A → D) (g : B → D) (xs : List A) (ys : List B) → map f xs ≡ map g ys → (n : ℕ) (x : A) → slice_get xs n ≡ Some x → (y : B) × (slice_get ys n ≡ Some y) × (f x ≡ g y)
+at-place f g [] ys e n x h = absurd cc
+at-place f g (z ∷ zs) [] e n x h = absurd cc
+at-place f g (z ∷ zs) (y ∷ ys) e zero x h = (y, refl, ap f (sym (same_Some z x h)) ∙ head)
+  where
+    head : f z ≡ g y
+    head = cc
+at-place f g (z ∷ zs) (y ∷ ys) e (suc n) x h = at-place f g zs ys tail n x h
+  where
+    tail : map f zs ≡ map g ys
+    tail = cc
+
+as-long : {A B D : Type 0} (f : A → D) (g : B → D) (xs : List A) (ys : List B) → map f xs ≡ map g ys → length xs ≡ length ys
+as-long f g xs ys e = sym (length-map xs f) ∙ ap length e ∙ length-map ys g
+
+-- what stands at a place of them stands at that place of the section
+pub added-at : (es : List Entry) (defs : List ImplDef) (d : Declarations) (k : ℕ) → map (added_in es) defs ≡ added_impls d k → (n : ℕ) (def : ImplDef) → slice_get defs n ≡ Some def
+    → (x : NamedImpl) × (slice_get (section_impls d k) n ≡ Some x) × (added_in es def ≡ unnumbered (plain_impl x.item))
+added-at es defs d k e n def h = at-place (added_in es) (λ (x : NamedImpl). unnumbered (plain_impl x.item)) defs (section_impls d k) e n def h
+
+pub as-many : (es : List Entry) (defs : List ImplDef) (d : Declarations) (k : ℕ) → map (added_in es) defs ≡ added_impls d k → length defs ≡ length (section_impls d k)
+as-many es defs d k e = as-long (added_in es) (λ (x : NamedImpl). unnumbered (plain_impl x.item)) defs (section_impls d k) e
+
+-- and its header is that of the text, up to lifetimes
+pub header-erased : (es : List Entry) (def : ImplDef) (x : ImplDecl) → added_in es def ≡ unnumbered (plain_impl x) → erased_reference (reference_in es def.header) ≡ (erased_impl x).header
+header-erased es def x e = ap (λ (i : ImplDecl). erased_reference i.header) e ∙ reference-erased all_kept x.header

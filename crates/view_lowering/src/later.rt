@@ -1,0 +1,44 @@
+//! The impls that a later version of a crate adds.
+ghost use Rattle.std.specs.Prelude.{◌≡◌, map, Err, IfOk};
+ghost use Rattle.type_terms.specs.Terms.{Keeps};
+ghost use Rattle.type_terms.specs.Failures.{SomeKindIsFull};
+ghost use Rattle.declarations.specs.Held.{ImplHeld};
+ghost use Rattle.declarations.specs.Merges.{Each};
+ghost use Rattle.view_lowering.specs.Later.{added_impls, added_in, added_sorts, sorts_of_added};
+ghost use Rattle.view_lowering.specs.Seen.{LaterBeginDeclared};
+
+use crate::items::lower_impl;
+use declarations::items::ImplDef;
+use std::alloc::Global;
+use type_terms::Fault;
+use type_terms::interner::Interner;
+use workspace::Workspace;
+
+/// The impls of a section, by its number from 0, in the order of the text. A section of a higher number than the text has holds none.
+///
+/// They stand in no view, so they have no numbers among the impls that a crate sees. The error is `Memory`, or `Full` where a table of
+/// the interner is full; the interner may then hold more terms than before.
+pub fn lower_later(
+    alloc: Global,
+    cx: &mut Interner,
+    workspace: &Workspace,
+    section: u32,
+) -> Result<Vec<ImplDef>, Fault>
+    requires { LaterBeginDeclared workspace.now }
+    ensures impls { IfOk result (λ defs. map (added_in cx.new.entries) defs.items ≡ added_impls workspace.now section) }
+    ensures sorts { IfOk result (λ defs. map sorts_of_added defs.items ≡ added_sorts workspace.now section) }
+    ensures held { IfOk result (λ defs. Each (ImplHeld cx.new.entries) defs.items) }
+    ensures keeps { Keeps cx.old.entries cx.new.entries }
+    ensures limit { cx.new.limit ≡ cx.old.limit }
+    ensures full { result ≡ Err Fault.Full → SomeKindIsFull cx.new.entries cx.new.limit }
+{
+    let mut defs = Vec::new(alloc);
+    let entries = workspace.later_impls();
+    for entry in entries {
+        if entry.section == section {
+            let def = lower_impl(alloc, cx, &entry.entry)?;
+            defs.push(def)?;
+        }
+    }
+    Ok(defs)
+}
