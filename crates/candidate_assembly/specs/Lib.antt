@@ -4,6 +4,7 @@ pub mod Merging
 pub mod Shown
 pub mod Sections
 pub mod Solving
+pub mod SolverMeaning
 pub mod SolverLaws
 pub mod Counted
 pub mod Fitting

@@ -1,18 +1,21 @@
 -- What the solver means for goals keeps the laws of handlers: it is lawful for each goal, terms get no wider and questions no more from
 -- goal to goal, and the solutions of nested goals are looked for where those of the goal are.
-use Rattle.std.proofs.Common.{◌≤◌, ℕ, ◌+◌, ◌*◌, max, arith, false, ◌&&◌, refl, sym, ◌∙◌, ap}
+use Rattle.std.proofs.Common.{◌≡◌, ◌≤◌, ℕ, ◌+◌, ◌*◌, max, arith, false, ◌&&◌, refl, sym, ◌∙◌, ap}
 use Rattle.std.proofs.lemmas.Nat.{mul-le}
 use Rattle.model.specs.Worlds.{World}
 use Rattle.infer_table.specs.Canonical.{CanonicalForm}
 use Rattle.infer_table.specs.declared.certainty.TypingMode.{TypingMode}
 use Rattle.infer_table.specs.declared.certainty.TypingMode.TheVariants.{Coherence, PostAnalysis}
 use Rattle.evaluation.specs.Handler.{IsHandler}
+use Rattle.evaluation.specs.History.{evaluate, asks, CameInOrder}
+use Rattle.evaluation.specs.Promises.{frame_of_goal, Anything, History}
+use Rattle.evaluation.specs.Content.{Fact, Question}
 use Rattle.evaluation.specs.Widths.{number_of}
 use Rattle.evaluation.specs.Tables.{frame_tables}
 use Rattle.goal_frames.specs.Handlers.{same_answer, applies_always}
-use Rattle.goal_frames.specs.HandlerPrograms.{KeepNumbers, KeepWorlds, LookInCoherenceOnly, InstancesAreGoals, KindsAreOf, RulesAreOf}
+use Rattle.goal_frames.specs.HandlerPrograms.{AreLawfulGoals, IsLawful}
 use Rattle.goal_frames.proofs.Same.{answers-are, applies-to-yeses}
-use Rattle.assembly_laws.specs.Facts.{FollowsByView, reference_in}
+use Rattle.assembly_laws.specs.Facts.{reference_in}
 use Rattle.assembly_laws.specs.Meaning.{proved_at}
 use Rattle.assembly_laws.specs.DeclaredWell.{is_declared_well}
 use Rattle.assembly_laws.specs.Lifetimes.{form_gives_lifetimes, given_by, GivesLifetimes}
@@ -22,7 +25,9 @@ use Rattle.assembly_laws.proofs.DeclaredWell.{tests-tell}
 use Rattle.assembly_laws.proofs.SolverLaw.{solver-is-lawful-and-covers}
 use Rattle.assembly_laws.proofs.Worlds.{same-place, keep-worlds}
 use Rattle.type_terms.proofs.Made.{left, right}
-use Rattle.candidate_assembly.specs.Solving.{Solving, meaning_for, solver_for, coinductive_for}
+use Rattle.candidate_assembly.specs.Kept.{ready-kept, solving-kept}
+use Rattle.candidate_assembly.specs.Solving.{Solving, meaning_for, solver_for}
+use Rattle.candidate_assembly.specs.SolverMeaning.{goals_by_view, solver_by_view}
 
 -- ---- each goal
 declared-well : (s : Solving) (f : CanonicalForm) → ViewIsDeclaredWell (meaning_for s f)
@@ -46,28 +51,35 @@ number-grows V m k h = sums (clauses_in V) ((m + (m + 1)) * m) ((k + (k + 1)) * 
     sums : (c x y : ℕ) → x ≤ y → c + (x + (4 * m + 4)) ≤ c + (y + (4 * k + 4))
     sums c x y e = omega (arith, h, e)
 
-pub numbers-are-kept : KeepNumbers solver_for
-numbers-are-kept s mode g q h =
-    let wide : widest_of s.view q.form ≤ widest_of s.view g = greater-first (number_of q) (number_of (record { form = g; coinductive = false })) (declared_width s.view) h in
-    (wide, number-grows s.view (widest_of s.view q.form) (widest_of s.view g) wide)
+pub goals-are-lawful : AreLawfulGoals goals_by_view
+goals-are-lawful = record {
+  begins = λ s mode g. refl;
+  handlers = solver-is-lawful;
+  instances = λ s mode q v. refl;
+  rules = λ s mode g f premises r. r;
+  kinds = λ s mode g v. refl;
+  numbers = λ s mode g q h.
+      let wide : widest_of s.view q.form ≤ widest_of s.view g = greater-first (number_of q) (number_of (record { form = g; coinductive = false })) (declared_width s.view) h in
+      (wide, number-grows s.view (widest_of s.view q.form) (widest_of s.view g) wide);
+  worlds = by;
+  outside = λ s g x. x;
+}
+  where
+    by : (s : Solving) (mode : TypingMode) (g : CanonicalForm) (heard : History frame_tables (solver_for s mode g)) (q : Question)
+        → CameInOrder (Anything frame_tables (solver_for s mode g)) (frame_of_goal frame_tables (solver_for s mode g)) heard
+        → asks (frame_of_goal frame_tables (solver_for s mode g)) heard ≡ evaluate q
+        → (x : (solver_for s mode g).World) → (y : (solver_for s mode q.form).World) × ((f : Fact) → (solver_for s mode g).Proves x f → (solver_for s mode q.form).Proves y f)
+    by s PostAnalysis g heard q came e x = absurd x
+    by s Coherence g heard q came e x =
+        let k = keep-worlds applies_always same_answer (meaning_for s g) Coherence g heard q came e x in
+        let p = same-place s.view s.crate (meaning_for s g).is_sound (meaning_for s q.form).is_sound k.0.place in (
+          record { place = p.0; no_clauses = k.0.no_clauses; no_placeholders = k.0.no_placeholders },
+          λ f y. let z : IsSolution (proved_at k.0.place) f = k.1 f y in record { asks = z.asks; proper = z.proper; closed = z.closed; proof = p.1 (reference_in f) z.proof },
+        )
 
-pub worlds-are-kept : KeepWorlds solver_for
-worlds-are-kept s PostAnalysis g heard q came e x = absurd x
-worlds-are-kept s Coherence g heard q came e x =
-    let k = keep-worlds applies_always same_answer (meaning_for s g) Coherence g heard q came e x in
-    let p = same-place s.view s.crate (meaning_for s g).is_sound (meaning_for s q.form).is_sound k.0.place in (
-      record { place = p.0; no_clauses = k.0.no_clauses; no_placeholders = k.0.no_placeholders },
-      λ f y. let z : IsSolution (proved_at k.0.place) f = k.1 f y in record { asks = z.asks; proper = z.proper; closed = z.closed; proof = p.1 (reference_in f) z.proof },
-    )
-
-pub instances-are-goals : InstancesAreGoals solver_for
-instances-are-goals s mode q v = refl
-
-pub rules-are-of : RulesAreOf solver_for (λ s. FollowsByView s.view)
-rules-are-of s mode g f premises r = r
-
-pub kinds-are-of : KindsAreOf solver_for coinductive_for
-kinds-are-of s mode g v = refl
-
-pub outside-is-nowhere : LookInCoherenceOnly solver_for
-outside-is-nowhere s g x = x
+pub solver-laws : IsLawful solver_by_view
+solver-laws = record {
+  ready_kept = λ h old new k r. ready-kept h.declarations old new k r;
+  world_kept = λ h old new k r. solving-kept h.declarations old new k r;
+  goals = goals-are-lawful;
+}

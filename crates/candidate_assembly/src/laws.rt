@@ -13,8 +13,7 @@ ghost use Rattle.assembly_laws.specs.Asking.{Asked};
 ghost use Rattle.assembly_laws.specs.Candidates.{Candidate, by_impls};
 ghost use Rattle.candidate_assembly.specs.Headers.{impls_above, WellDeclaredHaveCandidates};
 ghost use Rattle.candidate_assembly.specs.Sections.{HistoriesTell, WalksGoOn};
-ghost use Rattle.candidate_assembly.specs.Solving.{solver_for, coinductive_for};
-ghost use Rattle.assembly_laws.specs.Facts.{FollowsByView};
+ghost use Rattle.candidate_assembly.specs.SolverMeaning.{goals_by_view};
 ghost use Rattle.goal_frames.specs.HandlerPrograms.{HandlersArePrograms};
 
 /// A walk over the impls of a goal meets the definitions' candidates one after the other: without a last one considered it is at the
@@ -46,7 +45,7 @@ pub fn well_declared_have_candidates()
 /// decided: for each goal it is a lawful handler, in coherence its answers cover the solutions by the view and in every linked set, terms
 /// get no wider and questions no more from goal to goal, and the solutions of nested goals are looked for where those of the goal are.
 pub fn solver_keeps_the_laws_of_handlers()
-    ensures { HandlersArePrograms solver_for (λ s. FollowsByView s.view) coinductive_for }
+    ensures { HandlersArePrograms goals_by_view }
 {}
 
 /// Which references are knowable does not depend on lifetimes, neither on those of declarations nor on those of the reference.

@@ -3,12 +3,8 @@ ghost use Rattle.std.specs.Prelude.{◌≡◌, List};
 ghost use Rattle.model.specs.Rules.{is_coinductive};
 ghost use Rattle.type_terms.specs.Terms.{Entry};
 ghost use Rattle.declarations.specs.Items.{written};
-ghost use Rattle.assembly_laws.specs.Facts.{FollowsByView};
-ghost use Rattle.candidate_assembly.specs.Fitting.{solving_of};
-ghost use Rattle.candidate_assembly.specs.Kept.{ready-kept, solving-kept};
-ghost use Rattle.candidate_assembly.specs.Ready.{IsReady};
-ghost use Rattle.candidate_assembly.specs.Solving.{Solving, solver_for, coinductive_for};
-ghost use Rattle.candidate_assembly.specs.SolverLaws.{solver-is-lawful, numbers-are-kept, worlds-are-kept, instances-are-goals, rules-are-of, kinds-are-of, outside-is-nowhere};
+ghost use Rattle.candidate_assembly.specs.SolverMeaning.{solver_by_view};
+ghost use Rattle.candidate_assembly.specs.SolverLaws.{solver-laws};
 
 use crate::trait_goals::compute_trait_goal;
 use built_in_candidates::built_in::SIZED;
@@ -52,19 +48,7 @@ fn is_coinductive(declarations: &Declarations, def_id: TraitId) -> bool
 
 /// Candidates come one after the other as `compute_trait_goal` says, and the answer is the merge of their responses.
 impl GoalHandler for Solver {
-    ghost use Rattle.std.proofs.Common.{refl};
-
-    ghost Meaning = { Solving };
-
-    ghost handled = { solver_for };
-
-    ghost Rule = { λ s. FollowsByView s.view };
-
-    ghost coinductive = { coinductive_for };
-
-    ghost ready = { λ h es. IsReady es h.declarations };
-
-    ghost meaning = { λ h es. solving_of es h.declarations };
+    ghost meaning = { solver_by_view };
 
     fn step(
         &self,
@@ -80,23 +64,5 @@ impl GoalHandler for Solver {
         is_coinductive(&self.declarations, def_id)
     }
 
-    ghost ready_kept = { λ h old new k r. ready-kept h.declarations old new k r };
-
-    ghost meaning_kept = { λ h old new k r. solving-kept h.declarations old new k r };
-
-    ghost begins = { λ s mode form. refl };
-
-    ghost lawful = { solver-is-lawful };
-
-    ghost instances = { instances-are-goals };
-
-    ghost rules = { rules-are-of };
-
-    ghost kinds = { kinds-are-of };
-
-    ghost numbers = { numbers-are-kept };
-
-    ghost worlds = { worlds-are-kept };
-
-    ghost outside = { outside-is-nowhere };
+    ghost lawful = { solver-laws };
 }

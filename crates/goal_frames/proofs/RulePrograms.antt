@@ -6,9 +6,8 @@ use Rattle.infer_table.specs.declared.certainty.TypingMode.{TypingMode}
 use Rattle.infer_table.specs.declared.certainty.TypingMode.TheVariants.{Coherence, PostAnalysis}
 use Rattle.evaluation.specs.Content.{Question}
 use Rattle.evaluation.specs.FrameTables.{kinds_known}
-use Rattle.goal_frames.specs.Handlers.{has_placeholder, world_of, handled_by}
-use Rattle.goal_frames.specs.Rules.{is_coinductive, FollowsByRule}
-use Rattle.goal_frames.specs.RulePrograms.{book_of, RulesArePrograms}
+use Rattle.goal_frames.specs.Handlers.{has_placeholder, world_of}
+use Rattle.goal_frames.specs.RulePrograms.{book_of, rule_goals, RulesArePrograms}
 use Rattle.goal_frames.proofs.Handlers.{handlers-are-lawful}
 use Rattle.goal_frames.proofs.HandlerPrograms.{handlers-are-programs}
 use Rattle.goal_frames.proofs.Decided.{IsDecided, questions-decided}
@@ -20,11 +19,16 @@ decided-searched PostAnalysis f q d x = x
 
 pub rules-are-programs : RulesArePrograms
 rules-are-programs =
-    handlers-are-programs (λ w mode f. handled_by (book_of w) mode f) (λ w. FollowsByRule (book_of w)) (λ w. is_coinductive (book_of w))
-    (λ w mode f. refl) (λ w mode f. handlers-are-lawful (book_of w) w.made mode f) (λ w mode q v. refl) (λ w mode f g premises r. r) (λ w mode f v. refl)
-    (λ w mode f q h. (less _ _ _ h, less _ _ _ h))
-    (λ w mode f heard q came e x. (decided-searched mode f q (questions-decided (book_of w) w.made mode f heard q came e) x, λ g p. p))
-    (λ w f x. x)
+    handlers-are-programs rule_goals (record {
+      begins = λ w mode f. refl;
+      handlers = λ w mode f. handlers-are-lawful (book_of w) w.made mode f;
+      instances = λ w mode q v. refl;
+      rules = λ w mode f g premises r. r;
+      kinds = λ w mode f v. refl;
+      numbers = λ w mode f q h. (less _ _ _ h, less _ _ _ h);
+      worlds = λ w mode f heard q came e x. (decided-searched mode f q (questions-decided (book_of w) w.made mode f heard q came e) x, λ g p. p);
+      outside = λ w f x. x;
+    })
   where
     less : (q g r : ℕ) → q ≤ max g r → max q r ≤ max g r
     less q g r h = omega (arith, h)

@@ -1,5 +1,5 @@
 -- The goals of a handler as the programs that a search runs.
-use Rattle.std.specs.Prelude.{◌≡◌, ◌≤◌, Bool, false, List, Option, Some, None}
+use Rattle.std.specs.Prelude.{◌≡◌, ◌≤◌, false, List, Option, Some, None}
 use Rattle.search_graph.specs.declared.path_kind.PathKind.{PathKind}
 use Rattle.search_graph.specs.declared.path_kind.PathKind.TheVariants.{Inductive, Unknown, Coinductive, ForcedAmbiguity}
 use Rattle.infer_table.specs.Canonical.{CanonicalForm}
@@ -9,7 +9,8 @@ use Rattle.infer_table.specs.declared.certainty.MaybeCause.TheVariants.{Overflow
 use Rattle.infer_table.specs.declared.certainty.TypingMode.{TypingMode}
 use Rattle.infer_table.specs.declared.certainty.TypingMode.TheVariants.{Coherence, PostAnalysis}
 use Rattle.infer_table.specs.Responses.{AnswerTrees}
-use Rattle.evaluation.specs.Handler.{Handled}
+use Rattle.evaluation.specs.Handler.{IsHandler}
+use Rattle.type_terms.specs.Terms.{Entry, Keeps}
 use Rattle.evaluation.specs.History.{evaluate, asks, CameInOrder}
 use Rattle.evaluation.specs.Promises.{frame_of_goal, Anything, History}
 use Rattle.evaluation.specs.TableAnswers.{respond}
@@ -20,6 +21,7 @@ use Rattle.evaluation.specs.TableOperations.{begin}
 use Rattle.evaluation.specs.Tables.{frame_tables}
 use Rattle.goal_frames.specs.Programs.{Programs, ArePrograms}
 use Rattle.evaluation.specs.StepReadings.{kinds_known}
+use Rattle.goal_frames.specs.Meanings.{Goals, HandlerMeaning}
 
 -- ---- answers that are fixed for each goal
 -- it says nothing of the goal's variables
@@ -48,51 +50,51 @@ abbrev pub cycle_answer : TypingMode → CanonicalForm → PathKind → Option A
 cycle_answer mode f k = silent_if f (cycle_certainty mode k)
 
 -- ---- goals together
-module _ {Meaning : Type 0} (handled : Meaning → TypingMode → CanonicalForm → Handled frame_tables) where
+module _ (m : Goals) where
   -- what a search runs: a question asks the goal of its form, in the mode of the goal that asks it
-  abbrev pub programs_of : (Meaning → Fact → List Fact → Type 0) → (Meaning → Fact → Bool) → Programs frame_tables
-  programs_of Rule coinductive = record {
-    World = Meaning;
+  abbrev pub programs_of : Programs frame_tables
+  programs_of = record {
+    World = m.World;
     Mode = TypingMode;
     Goal = CanonicalForm;
     goal_of = λ q. q.form;
-    handled = handled;
-    Rule = Rule;
-    coinductive = coinductive;
+    handled = m.handled;
+    Rule = m.Rule;
+    coinductive = m.coinductive;
     made_of = λ f v. made_of (record { form = f; coinductive = false }) v;
-    initial = λ m mode f k. cycle_answer mode f k;
-    overflow = λ m mode f. overflow_answer f;
+    initial = λ w mode f k. cycle_answer mode f k;
+    overflow = λ w mode f. overflow_answer f;
   }
 
-  abbrev pub HandlersArePrograms : (Meaning → Fact → List Fact → Type 0) → (Meaning → Fact → Bool) → Type 0
-  HandlersArePrograms Rule coinductive = ArePrograms frame_tables (programs_of Rule coinductive)
+  abbrev pub HandlersArePrograms : Type 0
+  HandlersArePrograms = ArePrograms frame_tables programs_of
 
-  -- ---- the laws of a handler's goals together
-  -- a question has the instances of the goal of its form
-  abbrev pub InstancesAreGoals : Type 0
-  InstancesAreGoals = (m : Meaning) (mode : TypingMode) (q : Question) (v : Values) → fact_of q v ≡ (handled m mode q.form).goal v
+  -- the laws of goals
+  pub record AreLawfulGoals : Type 0 where
+    -- a frame begins with an unknown for each unknown of its goal
+    pub begins : (w : m.World) (mode : TypingMode) (g : CanonicalForm) → (m.handled w mode g).begin ≡ begin (kinds_known g.kinds)
+    -- the laws of candidates and of answers
+    pub handlers : (w : m.World) (mode : TypingMode) (g : CanonicalForm) → IsHandler frame_tables (m.handled w mode g)
+    -- a question has the instances of the goal of its form
+    pub instances : (w : m.World) (mode : TypingMode) (q : Question) (v : Values) → fact_of q v ≡ (m.handled w mode q.form).goal v
+    -- a rule of one goal is a rule
+    pub rules : (w : m.World) (mode : TypingMode) (g : CanonicalForm) (f : Fact) (premises : List Fact) → (m.handled w mode g).Rule f premises → m.Rule w f premises
+    -- the instances of a goal are coinductive exactly if its trait is
+    pub kinds : (w : m.World) (mode : TypingMode) (g : CanonicalForm) (v : Values) → m.coinductive w ((m.handled w mode g).goal v) ≡ (m.handled w mode g).coinductive
+    -- a question that is no wider than the terms of a goal's frame asks a goal whose frame makes no wider terms and asks no more questions
+    pub numbers : (w : m.World) (mode : TypingMode) (g : CanonicalForm) (q : Question) → number_of q ≤ (m.handled w mode g).widest
+        → ((m.handled w mode q.form).widest ≤ (m.handled w mode g).widest) × ((m.handled w mode q.form).number ≤ (m.handled w mode g).number)
+    -- the solutions of the goals that a goal's frame asks are looked for wherever those of the goal are
+    pub worlds : (w : m.World) (mode : TypingMode) (g : CanonicalForm) (heard : History frame_tables (m.handled w mode g)) (q : Question)
+        → CameInOrder (Anything frame_tables (m.handled w mode g)) (frame_of_goal frame_tables (m.handled w mode g)) heard
+        → asks (frame_of_goal frame_tables (m.handled w mode g)) heard ≡ evaluate q
+        → (x : (m.handled w mode g).World) → (y : (m.handled w mode q.form).World) × ((f : Fact) → (m.handled w mode g).Proves x f → (m.handled w mode q.form).Proves y f)
+    -- outside coherence no sets of crates are looked at
+    pub outside : (w : m.World) (g : CanonicalForm) → (m.handled w PostAnalysis g).World → ⊥
 
-  -- a rule of one goal is a rule
-  abbrev pub RulesAreOf : (Meaning → Fact → List Fact → Type 0) → Type 0
-  RulesAreOf Rule = (m : Meaning) (mode : TypingMode) (g : CanonicalForm) (f : Fact) (premises : List Fact) → (handled m mode g).Rule f premises → Rule m f premises
-
-  -- the instances of a goal are coinductive exactly if its trait is
-  abbrev pub KindsAreOf : (Meaning → Fact → Bool) → Type 0
-  KindsAreOf coinductive = (m : Meaning) (mode : TypingMode) (g : CanonicalForm) (v : Values) → coinductive m ((handled m mode g).goal v) ≡ (handled m mode g).coinductive
-
-  -- a question that is no wider than the terms of a goal's frame asks a goal whose frame makes no wider terms and asks no more questions
-  abbrev pub KeepNumbers : Type 0
-  KeepNumbers =
-      (m : Meaning) (mode : TypingMode) (g : CanonicalForm) (q : Question) → number_of q ≤ (handled m mode g).widest
-      → ((handled m mode q.form).widest ≤ (handled m mode g).widest) × ((handled m mode q.form).number ≤ (handled m mode g).number)
-
-  -- the solutions of the goals that a goal's frame asks are looked for wherever those of the goal are
-  abbrev pub KeepWorlds : Type 0
-  KeepWorlds =
-      (m : Meaning) (mode : TypingMode) (g : CanonicalForm) (heard : History frame_tables (handled m mode g)) (q : Question)
-      → CameInOrder (Anything frame_tables (handled m mode g)) (frame_of_goal frame_tables (handled m mode g)) heard → asks (frame_of_goal frame_tables (handled m mode g)) heard ≡ evaluate q
-      → (x : (handled m mode g).World) → (y : (handled m mode q.form).World) × ((f : Fact) → (handled m mode g).Proves x f → (handled m mode q.form).Proves y f)
-
-  -- outside coherence no sets of crates are looked at
-  abbrev pub LookInCoherenceOnly : Type 0
-  LookInCoherenceOnly = (m : Meaning) (g : CanonicalForm) → (handled m PostAnalysis g).World → ⊥
+-- the laws of a handler
+pub record IsLawful {Handler : Type 0} (m : HandlerMeaning Handler) : Type 0 where
+  -- handles stay ready while the interner grows, and the same is declared by them
+  pub ready_kept : (h : Handler) (old new : List Entry) → Keeps old new → m.IsReady h old → m.IsReady h new
+  pub world_kept : (h : Handler) (old new : List Entry) → Keeps old new → m.IsReady h old → m.world h new ≡ m.world h old
+  pub goals : AreLawfulGoals m.goals

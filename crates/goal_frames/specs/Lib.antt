@@ -16,4 +16,5 @@ pub mod Shortages
 pub mod HandlerPrograms
 pub mod Steps
 pub mod Stores
+pub mod Meanings
 pub mod Merges

@@ -3,6 +3,7 @@ use Rattle.std.specs.Prelude.{ℕ, Bool, List}
 use Rattle.evaluation.specs.Lists.{Every}
 use Rattle.goal_frames.specs.Rules.{Rule, RuleBook, IsRule, is_coinductive, FollowsByRule}
 use Rattle.goal_frames.specs.Handlers.{handled_by}
+use Rattle.goal_frames.specs.Meanings.{Goals}
 use Rattle.goal_frames.specs.HandlerPrograms.{HandlersArePrograms}
 
 -- rules as they are to be
@@ -15,5 +16,8 @@ pub record DeclaredRules : Type 0 where
 abbrev pub book_of : DeclaredRules → RuleBook
 book_of w = record { rules = w.rules; coinductive = w.coinductive }
 
+abbrev pub rule_goals : Goals
+rule_goals = record { World = DeclaredRules; handled = λ w mode f. handled_by (book_of w) mode f; Rule = λ w. FollowsByRule (book_of w); coinductive = λ w. is_coinductive (book_of w) }
+
 abbrev pub RulesArePrograms : Type 0
-RulesArePrograms = HandlersArePrograms (λ w mode f. handled_by (book_of w) mode f) (λ w. FollowsByRule (book_of w)) (λ w. is_coinductive (book_of w))
+RulesArePrograms = HandlersArePrograms rule_goals

@@ -8,7 +8,7 @@ ghost use Rattle.infer_table.specs.Canonical.{CanonicalForm};
 ghost use Rattle.infer_table.specs.declared.certainty.TypingMode.{TypingMode};
 ghost use Rattle.evaluation.specs.Readings.{ResultHeld, is_coinductive_step};
 ghost use Rattle.goal_frames.specs.Searches.{step_kind};
-ghost use Rattle.evaluation.specs.StepReadings.{handled_for};
+ghost use Rattle.goal_frames.specs.Meanings.{goal_meaning};
 ghost use Rattle.goal_frames.specs.Fitting.{ResultFits};
 ghost use Rattle.goal_frames.specs.Places.{Standing};
 ghost use Rattle.goal_frames.specs.Frames.{FrameHeld, HasHeard, IsDue, IsReply, RequestHeld, Steps, AsksHandler, AsksAt, GoesOnWith, IgnoresAt, IsAtStep, reply_read};
@@ -81,7 +81,7 @@ impl GoalFrame {
     /// The frame of a goal, which has had no reply.
     pub fn new<H: GoalHandler>(alloc: Global, goal: CanonicalInput) -> GoalFrame
         ensures goal { result.goal ≡ goal }
-        ensures heard { (es : List Entry) (m : H.Meaning) (mode : TypingMode) (form : CanonicalForm) → GoalHeld es goal.goal → HasHeard es (H.handled m mode form) result [] }
+        ensures heard { (es : List Entry) (m : H.meaning.goals.World) (mode : TypingMode) (form : CanonicalForm) → GoalHeld es goal.goal → HasHeard es (H.meaning.goals.handled m mode form) result [] }
     {
         GoalFrame {
             goal,
@@ -99,19 +99,19 @@ impl GoalFrame {
         handler: &H,
         reply: Reply<Option<CanonicalResponse>>,
     ) -> Result<Request<CanonicalInput, Option<CanonicalResponse>>, Fault>
-        requires ready { H.ready handler.now cx.old.entries }
+        requires ready { H.meaning.IsReady handler.now cx.old.entries }
         requires reply { IsReply cx.old.entries reply }
-        requires due { IsDue cx.old.entries (handled_for H.handled H.meaning handler.now cx.old.entries self.old.goal) self.old (reply_read cx.old.entries reply) }
+        requires due { IsDue cx.old.entries (goal_meaning H.meaning handler.now cx.old.entries self.old.goal) self.old (reply_read cx.old.entries reply) }
         ensures goal { self.new.goal ≡ self.old.goal }
         ensures keeps { Keeps cx.old.entries cx.new.entries }
         ensures limit { cx.new.limit ≡ cx.old.limit }
         ensures held { IfOk result (RequestHeld cx.new.entries) }
-        ensures steps { IfOk result (let h = handled_for H.handled H.meaning handler.now cx.old.entries self.old.goal in
+        ensures steps { IfOk result (let h = goal_meaning H.meaning handler.now cx.old.entries self.old.goal in
             Steps cx.old.entries h self.old (reply_read cx.old.entries reply) cx.new.entries self.new) }
 
         // `Full` comes only where some kind of term has reached the interner's limit, or numbers are used up.
         ensures full { result ≡ Err Fault.Full → SomeKindIsFull cx.new.entries cx.new.limit
-            ⊎ FrameRunsOut cx.old.entries (handled_for H.handled H.meaning handler.now cx.old.entries self.old.goal) self.old reply }
+            ⊎ FrameRunsOut cx.old.entries (goal_meaning H.meaning handler.now cx.old.entries self.old.goal) self.old reply }
 
         // The open candidate has fewer questions left.
         ensures fewer { IfOk result (λ _. AsksFewer self.old.place self.new.place) }
@@ -148,17 +148,17 @@ impl GoalFrame {
         cx: &mut Interner,
         handler: &H,
     ) -> Result<Request<CanonicalInput, Option<CanonicalResponse>>, Fault>
-        requires ready { H.ready handler.now cx.old.entries }
+        requires ready { H.meaning.IsReady handler.now cx.old.entries }
         requires held { FrameHeld cx.old.entries self.old }
-        requires between { (p : Standing) × AsksHandler cx.old.entries (handled_for H.handled H.meaning handler.now cx.old.entries self.old.goal) self.old p }
+        requires between { (p : Standing) × AsksHandler cx.old.entries (goal_meaning H.meaning handler.now cx.old.entries self.old.goal) self.old p }
         ensures goal { self.new.goal ≡ self.old.goal }
         ensures keeps { Keeps cx.old.entries cx.new.entries }
         ensures limit { cx.new.limit ≡ cx.old.limit }
         ensures held { IfOk result (λ q. FrameHeld cx.new.entries self.new × RequestHeld cx.new.entries q) }
-        ensures asks { IfOk result (λ q. let h = handled_for H.handled H.meaning handler.now cx.old.entries self.old.goal in
+        ensures asks { IfOk result (λ q. let h = goal_meaning H.meaning handler.now cx.old.entries self.old.goal in
             (p : Standing) → AsksHandler cx.old.entries h self.old p → AsksAt self.old.goal.mode cx.new.entries h self.new q p) }
         ensures full { result ≡ Err Fault.Full → SomeKindIsFull cx.new.entries cx.new.limit
-            ⊎ NextRunsOut cx.old.entries (handled_for H.handled H.meaning handler.now cx.old.entries self.old.goal) self.old.goal.variables.items self.old.considered.items }
+            ⊎ NextRunsOut cx.old.entries (goal_meaning H.meaning handler.now cx.old.entries self.old.goal) self.old.goal.variables.items self.old.considered.items }
     {
         match handler.step(alloc, cx, &self.goal, &self.considered)? {
             HandlerStep::Consider(spec) => {
@@ -182,7 +182,7 @@ impl GoalFrame {
         ensures goal { self.new.goal ≡ self.old.goal }
         ensures place { IfOk result (λ _. IsAtStep step self.new.place) }
         ensures goes_on { IfOk result (λ q. (old new : List Entry) →
-            GoesOnWith old new (handled_for H.handled H.meaning handler.now old self.old.goal) self.old source step self.new q) }
+            GoesOnWith old new (goal_meaning H.meaning handler.now old self.old.goal) self.old source step self.new q) }
         ensures fault { (f : Fault) → result ≡ Err f → step ≡ Err (EvalError.Fault f) }
     {
         match step {

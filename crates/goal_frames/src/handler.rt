@@ -1,21 +1,19 @@
 //! Handlers of goals: what the rules of goals are, for the frames that evaluate them.
 
-ghost use Rattle.std.specs.Prelude.{◌≡◌, ◌⊎◌, Bool, List, Err, IfOk};
+ghost use Rattle.std.specs.Prelude.{◌≡◌, ◌⊎◌, List, Err, IfOk};
 ghost use Rattle.type_terms.specs.Terms.{Entry, Keeps};
 ghost use Rattle.type_terms.specs.Failures.{SomeKindIsFull};
 ghost use Rattle.infer_table.specs.declared.certainty.TypingMode.{TypingMode};
 ghost use Rattle.infer_table.specs.Canonical.{CanonicalForm};
 ghost use Rattle.infer_table.specs.Goals.{GoalHeld};
-ghost use Rattle.evaluation.specs.Handler.{Handled, IsHandler};
 ghost use Rattle.evaluation.specs.Promises.{DefiniteYesFollows, AnswerCoversGoal, IsBounded, KeepsNumber, IgnoresFinishedOnce};
 ghost use Rattle.evaluation.specs.Readings.{IsOfTrait, ConsideredHeld, StepHeld};
-ghost use Rattle.evaluation.specs.Content.{Fact};
-ghost use Rattle.evaluation.specs.TableOperations.{begin};
 ghost use Rattle.evaluation.specs.Tables.{frame_tables};
-ghost use Rattle.evaluation.specs.StepReadings.{handled_for, kinds_known, HasHistory, IsNextAfter};
+ghost use Rattle.evaluation.specs.StepReadings.{HasHistory, IsNextAfter};
 ghost use Rattle.goal_frames.specs.Fitting.{ConsideredFits, StepFits};
 ghost use Rattle.goal_frames.specs.Shortages.{NextRunsOut};
-ghost use Rattle.goal_frames.specs.HandlerPrograms.{HandlersArePrograms, InstancesAreGoals, RulesAreOf, KindsAreOf, KeepNumbers, KeepWorlds, LookInCoherenceOnly};
+ghost use Rattle.goal_frames.specs.Meanings.{HandlerMeaning, goal_meaning};
+ghost use Rattle.goal_frames.specs.HandlerPrograms.{IsLawful, HandlersArePrograms};
 ghost use Rattle.goal_frames.specs.Steps.{StepsFall};
 
 use evaluation::{Considered, HandlerStep};
@@ -27,24 +25,12 @@ use type_terms::{Fault, TraitId};
 /// The rules of goals, as a frame asks for them: one candidate after the other, and then the answer. The original has methods of
 /// `EvalCtxt` and `SolverDelegate` in its place.
 ///
-/// A handler means for each goal what `handled` gives of what it declares, and all that is proved of frames rests on `lawful` of
-/// it: where a spec's equations hold it is a rule, the candidates that were considered cover each solution, and the answer is a
-/// merge of their responses.
+/// A handler means for each goal what its `meaning` gives of what it declares, and all that is proved of frames rests on its `lawful`:
+/// where a spec's equations hold it is a rule, the candidates that were considered cover each solution, and the answer is a merge of
+/// their responses.
 pub trait GoalHandler {
-    // What is declared, and what it means for a goal asked in a mode.
-    ghost Meaning: { Type 0 };
-
-    ghost handled: { Meaning → TypingMode → CanonicalForm → Handled frame_tables };
-
-    // The rules of all goals together, and which references are coinductive.
-    ghost Rule: { Meaning → Fact → List Fact → Type 0 };
-
-    ghost coinductive: { Meaning → Fact → Bool };
-
-    // The handles that the handler holds are an interner's, and what it declares by them.
-    ghost ready: { Self → List Entry → Type 0 };
-
-    ghost meaning: { Self → List Entry → Meaning };
+    /// What the handler's goals mean, and what it declares by its handles.
+    ghost meaning: { HandlerMeaning Self };
 
     /// What the goal's frame is to do next, after these candidates were considered, the oldest first; or a fault.
     ///
@@ -57,66 +43,42 @@ pub trait GoalHandler {
         goal: &CanonicalInput,
         done: &[Considered],
     ) -> Result<HandlerStep, Fault>
-        requires ready { ready self.now cx.old.entries }
+        requires ready { meaning.IsReady self.now cx.old.entries }
         requires goal { GoalHeld cx.old.entries goal.now.goal }
         requires done { ConsideredHeld cx.old.entries done.now }
         requires fits { ConsideredFits cx.old.entries done.now }
-        requires history { HasHistory cx.old.entries (handled_for handled meaning self.now cx.old.entries goal.now) done.now }
+        requires history { HasHistory cx.old.entries (goal_meaning meaning self.now cx.old.entries goal.now) done.now }
         ensures keeps { Keeps cx.old.entries cx.new.entries }
         ensures limit { cx.new.limit ≡ cx.old.limit }
         ensures held { IfOk result (StepHeld cx.new.entries) }
         ensures fits { IfOk result (StepFits goal.now.variables.items cx.new.entries) }
 
         // It is what comes next in each history that the candidates show.
-        ensures next { IfOk result (IsNextAfter cx.old.entries (handled_for handled meaning self.now cx.old.entries goal.now) done.now cx.new.entries) }
+        ensures next { IfOk result (IsNextAfter cx.old.entries (goal_meaning meaning self.now cx.old.entries goal.now) done.now cx.new.entries) }
 
         // `Full` comes only where some kind of term has reached the interner's limit, or there is no number for a variable.
         ensures full { result ≡ Err Fault.Full → SomeKindIsFull cx.new.entries cx.new.limit
-            ⊎ NextRunsOut cx.old.entries (handled_for handled meaning self.now cx.old.entries goal.now) goal.now.variables.items done.now };
+            ⊎ NextRunsOut cx.old.entries (goal_meaning meaning self.now cx.old.entries goal.now) goal.now.variables.items done.now };
 
     /// Whether the trait is coinductive: a goal of it holds if it needs nothing but itself.
     fn trait_is_coinductive(&self, def_id: TraitId) -> bool
-        ensures { (es : List Entry) (mode : TypingMode) (goal : CanonicalForm) → IsOfTrait def_id.index goal → result ≡ (handled (meaning self.now es) mode goal).coinductive };
+        ensures { (es : List Entry) (mode : TypingMode) (goal : CanonicalForm) → IsOfTrait def_id.index goal → result ≡ (meaning.goals.handled (meaning.world self.now es) mode goal).coinductive };
 
-    // Handles stay ready while the interner grows, and the same is declared by them.
-    ghost ready_kept: { (h : Self) (old new : List Entry) → Keeps old new → ready h old → ready h new };
-
-    ghost meaning_kept: { (h : Self) (old new : List Entry) → Keeps old new → ready h old → meaning h new ≡ meaning h old };
-
-    // A frame begins with an unknown for each unknown of its goal.
-    ghost begins: { (m : Meaning) (mode : TypingMode) (goal : CanonicalForm) → (handled m mode goal).begin ≡ begin (kinds_known goal.kinds) };
-
-    // The laws of candidates and of answers.
-    ghost lawful: { (m : Meaning) (mode : TypingMode) (goal : CanonicalForm) → IsHandler frame_tables (handled m mode goal) };
-
-    // A nested goal is asked as the goal of its form, whose rules and kind are those of all goals.
-    ghost instances: { InstancesAreGoals handled };
-
-    ghost rules: { RulesAreOf handled Rule };
-
-    ghost kinds: { KindsAreOf handled coinductive };
-
-    // Terms get no wider and questions no more from goal to goal.
-    ghost numbers: { KeepNumbers handled };
-
-    // The solutions of nested goals are looked for where those of the goal are: in sets of crates, and in coherence only.
-    ghost worlds: { KeepWorlds handled };
-
-    ghost outside: { LookInCoherenceOnly handled };
+    ghost lawful: { IsLawful meaning };
 }
 
 /// The frames of a handler's goals keep all that is promised of frames, and with each step they have fewer left.
 pub fn frames_keep_promises<H: GoalHandler>()
-    ensures yes { (m : H.Meaning) (mode : TypingMode) (goal : CanonicalForm) → DefiniteYesFollows frame_tables (H.handled m mode goal) }
-    ensures covers { (m : H.Meaning) (mode : TypingMode) (goal : CanonicalForm) → AnswerCoversGoal frame_tables (H.handled m mode goal) }
-    ensures bounded { (m : H.Meaning) (mode : TypingMode) (goal : CanonicalForm) → IsBounded frame_tables (H.handled m mode goal) }
-    ensures number { (m : H.Meaning) (mode : TypingMode) (goal : CanonicalForm) → KeepsNumber frame_tables (H.handled m mode goal) }
-    ensures ignores { (m : H.Meaning) (mode : TypingMode) (goal : CanonicalForm) → IgnoresFinishedOnce frame_tables (H.handled m mode goal) }
-    ensures steps { (m : H.Meaning) (mode : TypingMode) (goal : CanonicalForm) → StepsFall (H.handled m mode goal) }
+    ensures yes { (m : H.meaning.goals.World) (mode : TypingMode) (goal : CanonicalForm) → DefiniteYesFollows frame_tables (H.meaning.goals.handled m mode goal) }
+    ensures covers { (m : H.meaning.goals.World) (mode : TypingMode) (goal : CanonicalForm) → AnswerCoversGoal frame_tables (H.meaning.goals.handled m mode goal) }
+    ensures bounded { (m : H.meaning.goals.World) (mode : TypingMode) (goal : CanonicalForm) → IsBounded frame_tables (H.meaning.goals.handled m mode goal) }
+    ensures number { (m : H.meaning.goals.World) (mode : TypingMode) (goal : CanonicalForm) → KeepsNumber frame_tables (H.meaning.goals.handled m mode goal) }
+    ensures ignores { (m : H.meaning.goals.World) (mode : TypingMode) (goal : CanonicalForm) → IgnoresFinishedOnce frame_tables (H.meaning.goals.handled m mode goal) }
+    ensures steps { (m : H.meaning.goals.World) (mode : TypingMode) (goal : CanonicalForm) → StepsFall (H.meaning.goals.handled m mode goal) }
 {}
 
 /// A handler's goals are lawful programs for a search: so what a search finds out with their frames is right, where it answers a goal
 /// that is asked under itself, too deep, or too often as these programs say.
 pub fn handlers_are_programs<H: GoalHandler>()
-    ensures { HandlersArePrograms H.handled H.Rule H.coinductive }
+    ensures { HandlersArePrograms H.meaning.goals }
 {}

@@ -133,9 +133,9 @@ fn evaluate_posed<H: GoalHandler>(
     mode: TypingMode,
     posed: &mut Posed,
 ) -> Result<Found, Fault>
-    requires ready { IsReady H.ready solving.old.cx }
+    requires ready { IsReady H.meaning.IsReady solving.old.cx }
     requires empty { solving.old.graph.current_depth ≡ 0 }
-    requires cache { AreJustified (solver_meaning H.handled H.Rule H.coinductive H.ready H.meaning) solving.old.cx solving.old.cache }
+    requires cache { AreJustified (solver_meaning H.meaning) solving.old.cx solving.old.cache }
     requires table { Ready solving.old.cx.interner.entries posed.old.table }
     requires goal { GoalHeld solving.old.cx.interner.entries posed.old.goal }
 {
@@ -152,7 +152,7 @@ fn evaluate_first<H: GoalHandler + Drop>(
     posed: Posed,
     mode: TypingMode,
 ) -> Result<Found, Fault>
-    requires ready { H.ready handler interner.entries }
+    requires ready { H.meaning.IsReady handler interner.entries }
     requires table { Ready interner.entries posed.table }
     requires goal { GoalHeld interner.entries posed.goal }
 {

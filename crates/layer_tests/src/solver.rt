@@ -125,11 +125,11 @@ pub(crate) fn begin<H: GoalHandler + Drop>(
     handler: H,
     depth: usize,
 ) -> Result<Solving<H>, Fault>
-    requires ready { H.ready handler interner.entries }
+    requires ready { H.meaning.IsReady handler interner.entries }
     requires depth { 1 ≤ depth }
-    ensures ready { IfOk result (λ solving. IsReady H.ready solving.cx) }
+    ensures ready { IfOk result (λ solving. IsReady H.meaning.IsReady solving.cx) }
     ensures empty { IfOk result (λ solving. solving.graph.current_depth ≡ 0) }
-    ensures cache { IfOk result (λ solving. AreJustified (solver_meaning H.handled H.Rule H.coinductive H.ready H.meaning) solving.cx solving.cache) }
+    ensures cache { IfOk result (λ solving. AreJustified (solver_meaning H.meaning) solving.cx solving.cache) }
     ensures interner { IfOk result (λ solving. solving.cx.interner ≡ interner) }
 {
     Ok(Solving {
@@ -146,14 +146,14 @@ pub(crate) fn evaluate<H: GoalHandler>(
     table: &mut InferCtxt,
     goal: &Goal,
 ) -> Result<(Said, u64, bool), Fault>
-    requires ready { IsReady H.ready solving.old.cx }
+    requires ready { IsReady H.meaning.IsReady solving.old.cx }
     requires empty { solving.old.graph.current_depth ≡ 0 }
-    requires cache { AreJustified (solver_meaning H.handled H.Rule H.coinductive H.ready H.meaning) solving.old.cx solving.old.cache }
+    requires cache { AreJustified (solver_meaning H.meaning) solving.old.cx solving.old.cache }
     requires table { Ready solving.old.cx.interner.entries table.old }
     requires goal { GoalHeld solving.old.cx.interner.entries goal.now }
-    ensures ready { IsReady H.ready solving.new.cx }
+    ensures ready { IsReady H.meaning.IsReady solving.new.cx }
     ensures empty { solving.new.graph.current_depth ≡ 0 }
-    ensures cache { AreJustified (solver_meaning H.handled H.Rule H.coinductive H.ready H.meaning) solving.new.cx solving.new.cache }
+    ensures cache { AreJustified (solver_meaning H.meaning) solving.new.cx solving.new.cache }
     ensures table { Ready solving.new.cx.interner.entries table.new }
     ensures keeps { Keeps solving.old.cx.interner.entries solving.new.cx.interner.entries }
 {
@@ -175,15 +175,15 @@ fn evaluate_posed<H: GoalHandler>(
     mode: TypingMode,
     posed: &mut Posed,
 ) -> Result<Found, Fault>
-    requires ready { IsReady H.ready solving.old.cx }
+    requires ready { IsReady H.meaning.IsReady solving.old.cx }
     requires empty { solving.old.graph.current_depth ≡ 0 }
-    requires cache { AreJustified (solver_meaning H.handled H.Rule H.coinductive H.ready H.meaning) solving.old.cx solving.old.cache }
+    requires cache { AreJustified (solver_meaning H.meaning) solving.old.cx solving.old.cache }
     requires table { Ready solving.old.cx.interner.entries posed.old.table }
     requires unknown { Has solving.old.cx.interner.entries types posed.old.unknown.0 }
     requires goal { GoalHeld solving.old.cx.interner.entries posed.old.goal }
-    ensures ready { IsReady H.ready solving.new.cx }
+    ensures ready { IsReady H.meaning.IsReady solving.new.cx }
     ensures empty { solving.new.graph.current_depth ≡ 0 }
-    ensures cache { AreJustified (solver_meaning H.handled H.Rule H.coinductive H.ready H.meaning) solving.new.cx solving.new.cache }
+    ensures cache { AreJustified (solver_meaning H.meaning) solving.new.cx solving.new.cache }
     ensures table { Ready solving.new.cx.interner.entries posed.new.table }
     ensures unknown { Has solving.new.cx.interner.entries types posed.new.unknown.0 }
     ensures goal { GoalHeld solving.new.cx.interner.entries posed.new.goal }
@@ -198,9 +198,9 @@ fn evaluate_twice<H: GoalHandler>(
     mode: TypingMode,
     posed: &mut Posed,
 ) -> Result<[Found; 2], Fault>
-    requires ready { IsReady H.ready solving.old.cx }
+    requires ready { IsReady H.meaning.IsReady solving.old.cx }
     requires empty { solving.old.graph.current_depth ≡ 0 }
-    requires cache { AreJustified (solver_meaning H.handled H.Rule H.coinductive H.ready H.meaning) solving.old.cx solving.old.cache }
+    requires cache { AreJustified (solver_meaning H.meaning) solving.old.cx solving.old.cache }
     requires table { Ready solving.old.cx.interner.entries posed.old.table }
     requires unknown { Has solving.old.cx.interner.entries types posed.old.unknown.0 }
     requires goal { GoalHeld solving.old.cx.interner.entries posed.old.goal }
@@ -219,7 +219,7 @@ fn evaluate_first<H: GoalHandler + Drop>(
     posed: Posed,
     mode: TypingMode,
 ) -> Result<[Found; 2], Fault>
-    requires ready { H.ready handler interner.entries }
+    requires ready { H.meaning.IsReady handler interner.entries }
     requires depth { 1 ≤ depth }
     requires table { Ready interner.entries posed.table }
     requires unknown { Has interner.entries types posed.unknown.0 }

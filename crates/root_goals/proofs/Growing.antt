@@ -1,23 +1,18 @@
 -- A context that has grown keeps all that a search knows.
-use Rattle.std.proofs.Common.{◌≡◌, ◌∙◌, List, [], refl, sym, ap, subst, Bool, Option, Some, None, option_map}
+use Rattle.std.proofs.Common.{◌≡◌, ◌∙◌, List, [], refl, sym, ap, subst, Option, Some, None, option_map}
 use Rattle.std.proofs.lemmas.Option.{same_Some}
 use Rattle.type_terms.specs.Terms.{Entry, Keeps, Lawful}
 use Rattle.search_graph.specs.Meaning as Search
 use Rattle.search_graph.specs.declared.delegate.Reply.{Reply}
 use Rattle.search_graph.specs.declared.delegate.Reply.TheVariants.{Begin, Result, Entered, Finished, Ignored}
-use Rattle.infer_table.specs.Canonical.{CanonicalForm}
-use Rattle.infer_table.specs.declared.certainty.TypingMode.{TypingMode}
 use Rattle.infer_table.specs.declared.input.CanonicalInput.{CanonicalInput}
 use Rattle.infer_table.specs.Goals.{GoalHeld}
 use Rattle.infer_table.specs.declared.response.CanonicalResponse.{CanonicalResponse}
 use Rattle.infer_table.specs.Inputs.{form_of}
 use Rattle.infer_table.specs.Responses.{AnswerTrees, answer_trees}
-use Rattle.evaluation.specs.Handler.{Handled}
 use Rattle.evaluation.specs.Lists.{Every}
 use Rattle.evaluation.proofs.ListLaws.{Every-mono}
-use Rattle.evaluation.specs.Content.{Fact}
 use Rattle.evaluation.specs.TableAnswers.{IsWellFormed}
-use Rattle.evaluation.specs.Tables.{frame_tables}
 use Rattle.goal_frames.specs.Searches.{replies_of}
 use Rattle.goal_frames.specs.declared.store.InputId.{InputId}
 use Rattle.goal_frames.specs.declared.store.ResponseId.{ResponseId}
@@ -27,6 +22,7 @@ use Rattle.goal_frames.proofs.Numbers.{goal-later, same-goals}
 use Rattle.infer_table.proofs.Numbers.{goal-held-later}
 use Rattle.goal_frames.specs.declared.frame.GoalFrame.{GoalFrame}
 use Rattle.goal_frames.specs.Frames as Frames
+use Rattle.goal_frames.specs.Meanings.{HandlerMeaning}
 use Rattle.root_goals.specs.declared.context.SolverCx.{SolverCx}
 use Rattle.root_goals.specs.Contexts.{Asked, asked_of, asked_or_none, entries_of, goal_of, answer_of, IsReady, IsInput, IsResult, IsKept, Advances}
 use Rattle.root_goals.specs.Searching.{bare, Anything, IsReplyOf, world_of, HasHeard, solver_meaning}
@@ -118,23 +114,22 @@ module _ {Handler : Type 0} (ready : Handler → List Entry → Type 0) where
       let same : y.1.0 ≡ kept = same_Some _ _ (sym y.1.1 ∙ at) in
       (subst (λ z. IsWellFormed (answer_trees (entries_of c) z)) same y.1.2, ap (answer_of c) e ∙ ap (option_map (answer_trees (entries_of c))) at)
 
-module _ {World Handler : Type 0} (handled : World → TypingMode → CanonicalForm → Handled frame_tables) (Rule : World → Fact → List Fact → Type 0) (coinductive : World → Fact → Bool)
-    (ready : Handler → List Entry → Type 0) (meaning_of : Handler → List Entry → World)
-    (kept : (h : Handler) (old new : List Entry) → Keeps old new → ready h old → meaning_of h new ≡ meaning_of h old) where
-  abbrev world : SolverCx Handler → World
-  world c = world_of handled Rule coinductive ready meaning_of c
+module _ {Handler : Type 0} (m : HandlerMeaning Handler)
+    (kept : (h : Handler) (old new : List Entry) → Keeps old new → m.IsReady h old → m.world h new ≡ m.world h old) where
+  abbrev world : SolverCx Handler → m.goals.World
+  world c = world_of m c
 
   abbrev Heard : SolverCx Handler → Asked → List (Reply (Option AnswerTrees)) → GoalFrame → Type 0
-  Heard = HasHeard handled Rule coinductive ready meaning_of
+  Heard = HasHeard m
 
   -- a result that is replied is kept
   abbrev Told : SolverCx Handler → Reply (Option AnswerTrees) → Type 0
-  Told c = IsReplyOf handled Rule coinductive (IsKept ready c)
+  Told c = IsReplyOf (IsKept m.IsReady c)
 
-  module _ (c d : SolverCx Handler) (now : IsReady ready c) (a : Advances ready c d) where
+  module _ (c d : SolverCx Handler) (now : IsReady m.IsReady c) (a : Advances m.IsReady c d) where
     pub told-there : (r : Reply (Option AnswerTrees)) → Told c r → Told d r
     told-there Begin h = tt
-    told-there (Result o) h = kept-there ready c d a o h
+    told-there (Result o) h = kept-there m.IsReady c d a o h
     told-there Entered h = tt
     told-there (Finished n) h = tt
     told-there Ignored h = tt
@@ -144,34 +139,34 @@ module _ {World Handler : Type 0} (handled : World → TypingMode → CanonicalF
     all-told heard h = Every-mono (Told c) (Told d) told-there heard h
 
     pub same-world : world d ≡ world c
-    same-world = ap (λ h. meaning_of h (entries_of d)) a.handler ∙ kept c.handler (entries_of c) (entries_of d) a.entries now.handler
+    same-world = ap (λ h. m.world h (entries_of d)) a.handler ∙ kept c.handler (entries_of c) (entries_of d) a.entries now.handler
 
     frame-later : (g : Asked) (heard : List (Reply (Option AnswerTrees))) (f : GoalFrame) → Heard c g heard f → Heard d g heard f
     frame-later g heard f x = record {
       ready = a.ready;
       mode = x.mode;
       form = ap (λ q. q.1) (asked-later (entries_of c) (entries_of d) a.entries f.goal x.frame.held.goal) ∙ x.form;
-      kept = let i = x.kept.0 in let j = input-later ready c d a i x.kept.1 in (i, j.0, j.1 ∙ x.kept.2);
+      kept = let i = x.kept.0 in let j = input-later m.IsReady c d a i x.kept.1 in (i, j.0, j.1 ∙ x.kept.2);
       replies = all-told heard x.replies;
-      due = subst (λ w. Search.AreReplies (bare handled Rule coinductive) (Anything handled Rule coinductive) w g heard) (sym same-world) x.due;
-      frame = subst (λ w. Frames.HasHeard (entries_of d) (handled w g.0 g.1) f (replies_of heard)) (sym same-world)
-          (heard-later (entries_of c) (entries_of d) a.entries (handled (world c) g.0 g.1) f (replies_of heard) x.frame);
+      due = subst (λ w. Search.AreReplies (bare m.goals) Anything w g heard) (sym same-world) x.due;
+      frame = subst (λ w. Frames.HasHeard (entries_of d) (m.goals.handled w g.0 g.1) f (replies_of heard)) (sym same-world)
+          (heard-later (entries_of c) (entries_of d) a.entries (m.goals.handled (world c) g.0 g.1) f (replies_of heard) x.frame);
     }
 
-    pub keeps : Search.Keeps (solver_meaning handled Rule coinductive ready meaning_of) c d
+    pub keeps : Search.Keeps (solver_meaning m) c d
     keeps = record {
       world = same-world;
-      inputs = λ i x. input-later ready c d a i x;
-      results = λ r x. result-later ready c d a r x;
+      inputs = λ i x. input-later m.IsReady c d a i x;
+      results = λ r x. result-later m.IsReady c d a r x;
       frames = frame-later;
       held = λ x h. a.entries x.0 x.1 h;
     }
 
   -- the frame of a goal that is kept
-  pub started : (c : SolverCx Handler) (i : InputId) (a : CanonicalInput) (f : GoalFrame) → IsInput ready c i → StandsForInput c.store i a → f.goal ≡ a
-      → Frames.HasHeard (entries_of c) (handled (world c) (goal_of c i).0 (goal_of c i).1) f [] → Heard c (goal_of c i) [] f
+  pub started : (c : SolverCx Handler) (i : InputId) (a : CanonicalInput) (f : GoalFrame) → IsInput m.IsReady c i → StandsForInput c.store i a → f.goal ≡ a
+      → Frames.HasHeard (entries_of c) (m.goals.handled (world c) (goal_of c i).0 (goal_of c i).1) f [] → Heard c (goal_of c i) [] f
   started c i a f x s e heard =
-      let same = goal-is ready c i a s in
+      let same = goal-is m.IsReady c i a s in
       record {
         ready = x.0;
         mode = ap (λ z. z.mode) e ∙ sym (ap (λ z. z.0) same);

@@ -1,5 +1,5 @@
 -- What an answer of a search to a goal's canonical form says of the goal, over a table.
-use Rattle.std.proofs.Common.{◌≡◌, Bool, List, refl, sym, ◌∙◌, ap, subst, Option}
+use Rattle.std.proofs.Common.{◌≡◌, List, refl, sym, ◌∙◌, ap, subst, Option}
 use Rattle.model.specs.Label.{of_trait, predicate}
 use Rattle.model.specs.Trees.{none}
 use Rattle.type_terms.specs.Terms.{Entry, Lawful, trees_at}
@@ -15,14 +15,14 @@ use Rattle.infer_table.specs.Goals.{GoalHeld, goal_trees}
 use Rattle.infer_table.specs.Inputs.{IsWithoutCanonical}
 use Rattle.infer_table.specs.Responses.{AnswerTrees}
 use Rattle.search_graph.specs.Proof.{HasProof}
-use Rattle.evaluation.specs.Handler.{Handled}
 use Rattle.evaluation.specs.Law.{AgreesTo}
 use Rattle.evaluation.specs.Proof as Lists
 use Rattle.evaluation.specs.Content.{trait_of, Fact, fact_of}
 use Rattle.evaluation.specs.Tables.{frame_tables}
 use Rattle.goal_frames.specs.Searches.{Follows, AnswersGoal}
 use Rattle.goal_frames.proofs.Graphs as Unfolding
-use Rattle.goal_frames.specs.HandlerPrograms.{programs_of, HandlersArePrograms, InstancesAreGoals}
+use Rattle.goal_frames.specs.Meanings.{Goals}
+use Rattle.goal_frames.specs.HandlerPrograms.{programs_of, HandlersArePrograms, AreLawfulGoals}
 use Rattle.root_goals.specs.Roots.{goal_in, fact_under, values_under, question_of}
 use Rattle.root_goals.proofs.Leaves.{goal-leaves}
 use Rattle.root_goals.proofs.Forms.{form-instance, values-made, fact-resolved}
@@ -36,21 +36,20 @@ module _ (es : List Entry) (law : Lawful es) (t : Table) (ready : Ready es t) (g
       ∙ fact-resolved s (content es t.values) (ready-terms es law t ready).valued solves (goal_trees es g)
       (ap trait_of (resolved-rigid (content es t.values) (predicate (of_trait g.predicate.trait_ref.def_id.index)) (trees_at es g.predicate.trait_ref.args.0) none refl))
 
-  module _ {World : Type 0} (handled : World → TypingMode → CanonicalForm → Handled frame_tables) (Rule : World → Fact → List Fact → Type 0) (coinductive : World → Fact → Bool)
-      (instances : InstancesAreGoals handled) (w : World) (mode : TypingMode) where
-    goal-is : (handled w mode (canonical_form (goal_in es t g))).goal (values_under s (goal_in es t g)) ≡ fact_under s (goal_trees es g)
-    goal-is = sym (instances w mode (question_of (goal_in es t g)) (values_under s (goal_in es t g))) ∙ root-fact
+  module _ (m : Goals) (goals : AreLawfulGoals m) (w : m.World) (mode : TypingMode) where
+    goal-is : (m.handled w mode (canonical_form (goal_in es t g))).goal (values_under s (goal_in es t g)) ≡ fact_under s (goal_trees es g)
+    goal-is = sym (goals.instances w mode (question_of (goal_in es t g)) (values_under s (goal_in es t g))) ∙ root-fact
 
     -- a proof graph of the canonical form unfolds to a proof of the instance
-    pub root-proof : HandlersArePrograms handled Rule coinductive
-        → HasProof (TypingMode × CanonicalForm) (Follows frame_tables (programs_of handled Rule coinductive) w) (mode, canonical_form (goal_in es t g))
-        → Lists.HasProof Fact (Rule w) (coinductive w) (fact_under s (goal_trees es g))
+    pub root-proof : HandlersArePrograms m
+        → HasProof (TypingMode × CanonicalForm) (Follows frame_tables (programs_of m) w) (mode, canonical_form (goal_in es t g))
+        → Lists.HasProof Fact (m.Rule w) (m.coinductive w) (fact_under s (goal_trees es g))
     root-proof lawful graph =
-        subst (Lists.HasProof Fact (Rule w) (coinductive w)) goal-is
-        (Unfolding.graphs_prove frame_tables (programs_of handled Rule coinductive) lawful w (mode, canonical_form (goal_in es t g)) graph (values_under s (goal_in es t g)) (values-made s (goal_in es t g)))
+        subst (Lists.HasProof Fact (m.Rule w) (m.coinductive w)) goal-is
+        (Unfolding.graphs_prove frame_tables (programs_of m) lawful w (mode, canonical_form (goal_in es t g)) graph (values_under s (goal_in es t g)) (values-made s (goal_in es t g)))
 
     -- where the instance has a proof, an answer that covers the canonical form agrees with it
-    pub root-agrees : (a : Option AnswerTrees) → AnswersGoal frame_tables (programs_of handled Rule coinductive) w (mode, canonical_form (goal_in es t g)) a
-        → (x : (handled w mode (canonical_form (goal_in es t g))).World) → (handled w mode (canonical_form (goal_in es t g))).Proves x (fact_under s (goal_trees es g))
+    pub root-agrees : (a : Option AnswerTrees) → AnswersGoal frame_tables (programs_of m) w (mode, canonical_form (goal_in es t g)) a
+        → (x : (m.handled w mode (canonical_form (goal_in es t g))).World) → (m.handled w mode (canonical_form (goal_in es t g))).Proves x (fact_under s (goal_trees es g))
         → AgreesTo frame_tables a (values_under s (goal_in es t g))
-    root-agrees a answers x p = answers.covers x (values_under s (goal_in es t g)) (subst ((handled w mode (canonical_form (goal_in es t g))).Proves x) (sym goal-is) p)
+    root-agrees a answers x p = answers.covers x (values_under s (goal_in es t g)) (subst ((m.handled w mode (canonical_form (goal_in es t g))).Proves x) (sym goal-is) p)

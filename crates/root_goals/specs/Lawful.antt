@@ -1,5 +1,5 @@
 -- The laws of the solver's contexts and frames: what a search rests on.
-use Rattle.std.proofs.Common.{◌≡◌, ◌≤◌, ◌∙◌, Bool, true, List, refl, sym, ap, subst, Option, Some, None, option_map}
+use Rattle.std.proofs.Common.{◌≡◌, ◌≤◌, ◌∙◌, true, List, refl, sym, ap, subst, Option, Some, None, option_map}
 use Rattle.std.proofs.Math.Nat.{le_refl}
 use Rattle.std.specs.Option.{option_eq}
 use Rattle.type_terms.specs.Terms.{Entry}
@@ -9,8 +9,6 @@ use Rattle.infer_table.specs.Canonical.{CanonicalForm}
 use Rattle.infer_table.specs.declared.certainty.TypingMode.{TypingMode}
 use Rattle.infer_table.specs.Inputs.{form_of}
 use Rattle.infer_table.specs.Responses.{AnswerTrees, answer_trees}
-use Rattle.evaluation.specs.Handler.{Handled}
-use Rattle.evaluation.specs.Content.{Fact}
 use Rattle.evaluation.specs.Tables.{frame_tables}
 use Rattle.evaluation.proofs.FrameTableLaws.{tables_are_lawful}
 use Rattle.goal_frames.proofs.Lawful.{lawful}
@@ -21,6 +19,7 @@ use Rattle.goal_frames.proofs.Numbers.{one-answer, response-id-eq}
 use Rattle.goal_frames.specs.declared.frame.GoalFrame.{GoalFrame}
 use Rattle.goal_frames.specs.HandlerPrograms.{HandlersArePrograms}
 use Rattle.goal_frames.specs.Steps as Steps
+use Rattle.goal_frames.specs.Meanings.{HandlerMeaning}
 use Rattle.root_goals.specs.declared.context.SolverCx.{SolverCx}
 use Rattle.root_goals.specs.Contexts.{Asked, entries_of, answer_of, IsResult}
 use Rattle.root_goals.specs.Searching.{programs, handles, HasHeard, solver_meaning, world_of, steps_left}
@@ -39,20 +38,19 @@ module _ {Handler : Type 0} (ready : Handler → List Entry → Type 0) where
       let here : answer_at (entries_of c) c.store i ≡ Some a = ap (option_map (answer_trees (entries_of c))) x.1.1 in
       same-number i j (one-answer (entries_of c) c.store i j a x.0.lawful x.0.store here (sym e ∙ here))
 
-module _ {World Handler : Type 0} (handled : World → TypingMode → CanonicalForm → Handled frame_tables) (Rule : World → Fact → List Fact → Type 0) (coinductive : World → Fact → Bool)
-    (ready : Handler → List Entry → Type 0) (meaning_of : Handler → List Entry → World) where
-  pub solver-lawful : HandlersArePrograms handled Rule coinductive → IsLawful (solver_meaning handled Rule coinductive ready meaning_of)
-  solver-lawful laws = lawful frame_tables tables_are_lawful (programs handled Rule coinductive) laws (handles handled Rule coinductive ready meaning_of)
+module _ {Handler : Type 0} (m : HandlerMeaning Handler) where
+  pub solver-lawful : HandlersArePrograms m.goals → IsLawful (solver_meaning m)
+  solver-lawful laws = lawful frame_tables tables_are_lawful (programs m.goals) laws (handles m)
 
-  steps-same : (f : GoalFrame) (mode : TypingMode) (w v : World) (x y : CanonicalForm) → w ≡ v → x ≡ y → Steps.steps_left (handled w mode x) f ≤ Steps.steps_left (handled v mode y) f
+  steps-same : (f : GoalFrame) (mode : TypingMode) (w v : m.goals.World) (x y : CanonicalForm) → w ≡ v → x ≡ y → Steps.steps_left (m.goals.handled w mode x) f ≤ Steps.steps_left (m.goals.handled v mode y) f
   steps-same f mode w v x y e h =
-      subst (λ z. Steps.steps_left (handled w mode x) f ≤ Steps.steps_left (handled z mode y) f) e
-      (subst (λ z. Steps.steps_left (handled w mode x) f ≤ Steps.steps_left (handled w mode z) f) h (le_refl (Steps.steps_left (handled w mode x) f)))
+      subst (λ z. Steps.steps_left (m.goals.handled w mode x) f ≤ Steps.steps_left (m.goals.handled z mode y) f) e
+      (subst (λ z. Steps.steps_left (m.goals.handled w mode x) f ≤ Steps.steps_left (m.goals.handled w mode z) f) h (le_refl (Steps.steps_left (m.goals.handled w mode x) f)))
 
   -- a context that has grown leaves a frame as many steps
-  pub steps-kept : (c d : SolverCx Handler) (g : Asked) (heard : List (Reply (Option AnswerTrees))) (f : GoalFrame) → Keeps (solver_meaning handled Rule coinductive ready meaning_of) c d
-      → HasHeard handled Rule coinductive ready meaning_of c g heard f → steps_left handled Rule coinductive ready meaning_of d f ≤ steps_left handled Rule coinductive ready meaning_of c f
+  pub steps-kept : (c d : SolverCx Handler) (g : Asked) (heard : List (Reply (Option AnswerTrees))) (f : GoalFrame) → Keeps (solver_meaning m) c d
+      → HasHeard m c g heard f → steps_left m d f ≤ steps_left m c f
   steps-kept c d g heard f k h =
       let later = k.frames g heard f h in
-      steps-same f f.goal.mode (world_of handled Rule coinductive ready meaning_of d) (world_of handled Rule coinductive ready meaning_of c) (form_of (entries_of d) f.goal) (form_of (entries_of c) f.goal)
+      steps-same f f.goal.mode (world_of m d) (world_of m c) (form_of (entries_of d) f.goal) (form_of (entries_of c) f.goal)
       k.world (later.form ∙ sym h.form)

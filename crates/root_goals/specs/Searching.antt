@@ -1,17 +1,13 @@
 -- What the contexts, numbers and frames of the solver mean to a search.
-use Rattle.std.specs.Prelude.{◌≡◌, ◌⊎◌, ℕ, Bool, List, Option, Some, slice_get}
+use Rattle.std.specs.Prelude.{◌≡◌, ◌⊎◌, ℕ, List, Option, Some, slice_get}
 use Rattle.type_terms.specs.Terms.{Entry}
 use Rattle.search_graph.specs.declared.delegate.Reply.{Reply}
 use Rattle.search_graph.specs.declared.delegate.Reply.TheVariants as Replied
 use Rattle.search_graph.specs.Meaning.{Meaning, AreReplies, IsDueAfter}
-use Rattle.infer_table.specs.Canonical.{CanonicalForm}
-use Rattle.infer_table.specs.declared.certainty.TypingMode.{TypingMode}
 use Rattle.infer_table.specs.Inputs.{form_of}
 use Rattle.infer_table.specs.declared.response.CanonicalResponse.{CanonicalResponse}
 use Rattle.infer_table.specs.Responses.{AnswerTrees}
 use Rattle.evaluation.specs.Lists.{Every}
-use Rattle.evaluation.specs.Handler.{Handled}
-use Rattle.evaluation.specs.Content.{Fact}
 use Rattle.evaluation.specs.Tables.{frame_tables}
 use Rattle.goal_frames.specs.Programs.{Programs}
 use Rattle.goal_frames.specs.Searches.{Handles, replies_of, meaning}
@@ -19,6 +15,7 @@ use Rattle.goal_frames.specs.declared.store.InputId.{InputId}
 use Rattle.goal_frames.specs.declared.store.ResponseId.{ResponseId}
 use Rattle.goal_frames.specs.declared.frame.GoalFrame.{GoalFrame}
 use Rattle.goal_frames.specs.Frames as Frames
+use Rattle.goal_frames.specs.Meanings.{Goals, HandlerMeaning}
 use Rattle.goal_frames.specs.HandlerPrograms.{programs_of}
 use Rattle.goal_frames.specs.Shortages.{FrameRunsOut}
 use Rattle.goal_frames.specs.Steps as Steps
@@ -27,12 +24,21 @@ use Rattle.root_goals.specs.Answers.{reply_read}
 use Rattle.root_goals.specs.Contexts.{Asked, entries_of, goal_of, answer_of, IsReady, IsInput, IsResult, IsKept}
 use Rattle.root_goals.specs.Shortages.{TableIsFull}
 
-module _ {World : Type 0} (handled : World → TypingMode → CanonicalForm → Handled frame_tables) (Rule : World → Fact → List Fact → Type 0) (coinductive : World → Fact → Bool) where
+-- whatever is answered
+abbrev pub Anything : Asked → Option AnswerTrees → Type 0
+Anything g a = Unit {0}
+
+-- a result that is replied is as P says
+abbrev pub IsReplyOf : (Option AnswerTrees → Type 0) → Reply (Option AnswerTrees) → Type 0
+IsReplyOf P (Replied.Result a) = P a
+IsReplyOf P reply = Unit {0}
+
+module _ (goals : Goals) where
   abbrev pub programs : Programs frame_tables
-  programs = programs_of handled Rule coinductive
+  programs = programs_of goals
 
   -- a search that is lent what its handlers declare, and knows goals and answers by themselves
-  abbrev pub bare_handles : Handles World Asked (Option AnswerTrees) (Unit {0}) World Asked (Option AnswerTrees)
+  abbrev pub bare_handles : Handles goals.World Asked (Option AnswerTrees) (Unit {0}) goals.World Asked (Option AnswerTrees)
   bare_handles = record {
     world = λ w. w;
     IsFull = λ w. ⊥;
@@ -45,66 +51,57 @@ module _ {World : Type 0} (handled : World → TypingMode → CanonicalForm → 
     Holds = λ w x. Unit {0};
   }
 
-  abbrev pub bare : Meaning World Asked (Option AnswerTrees) (Unit {0})
+  abbrev pub bare : Meaning goals.World Asked (Option AnswerTrees) (Unit {0})
   bare = meaning frame_tables programs bare_handles
 
-  -- whatever is answered
-  abbrev pub Anything : Asked → Option AnswerTrees → Type 0
-  Anything g a = Unit {0}
+module _ {Handler : Type 0} (m : HandlerMeaning Handler) where
+  -- what the context's handler declares
+  abbrev pub world_of : SolverCx Handler → m.goals.World
+  world_of c = m.world c.handler (entries_of c)
 
-  -- a result that is replied is as P says
-  abbrev pub IsReplyOf : (Option AnswerTrees → Type 0) → Reply (Option AnswerTrees) → Type 0
-  IsReplyOf P (Replied.Result a) = P a
-  IsReplyOf P reply = Unit {0}
+  -- the frame is the goal's, in its mode, and has had these replies, each of which was due, the newest first
+  pub record HasHeard (c : SolverCx Handler) (g : Asked) (heard : List (Reply (Option AnswerTrees))) (f : GoalFrame) : Type 0 where
+    pub ready : IsReady m.IsReady c
+    pub mode : f.goal.mode ≡ g.0
+    pub form : form_of (entries_of c) f.goal ≡ g.1
+    -- the goal is kept, and so is each result that was replied
+    pub kept : (i : InputId) × IsInput m.IsReady c i × (goal_of c i ≡ g)
+    pub replies : Every (IsReplyOf (IsKept m.IsReady c)) heard
+    pub due : AreReplies (bare m.goals) Anything (world_of c) g heard
+    pub frame : Frames.HasHeard (entries_of c) (m.goals.handled (world_of c) g.0 g.1) f (replies_of heard)
 
-  module _ {Handler : Type 0} (is_ready : Handler → List Entry → Type 0) (meaning_of : Handler → List Entry → World) where
-    -- what the context's handler declares
-    abbrev pub world_of : SolverCx Handler → World
-    world_of c = meaning_of c.handler (entries_of c)
+  -- a frame of the context comes with its next reply, which is kept, to where numbers are used up
+  pub record SomeFrameRunsOut (c : SolverCx Handler) : Type 0 where
+    pub frame : GoalFrame
+    pub goal : Asked
+    pub heard : List (Reply (Option AnswerTrees))
+    pub is : HasHeard c goal heard frame
+    pub reply : Reply (Option CanonicalResponse)
+    pub due : IsDueAfter (bare m.goals) (world_of c) goal heard (reply_read (entries_of c) reply)
+    pub kept : IsReplyOf (IsKept m.IsReady c) (reply_read (entries_of c) reply)
+    pub runs_out : FrameRunsOut (entries_of c) (m.goals.handled (world_of c) goal.0 goal.1) frame reply
 
-    -- the frame is the goal's, in its mode, and has had these replies, each of which was due, the newest first
-    pub record HasHeard (c : SolverCx Handler) (g : Asked) (heard : List (Reply (Option AnswerTrees))) (f : GoalFrame) : Type 0 where
-      pub ready : IsReady is_ready c
-      pub mode : f.goal.mode ≡ g.0
-      pub form : form_of (entries_of c) f.goal ≡ g.1
-      -- the goal is kept, and so is each result that was replied
-      pub kept : (i : InputId) × IsInput is_ready c i × (goal_of c i ≡ g)
-      pub replies : Every (IsReplyOf (IsKept is_ready c)) heard
-      pub due : AreReplies bare Anything (world_of c) g heard
-      pub frame : Frames.HasHeard (entries_of c) (handled (world_of c) g.0 g.1) f (replies_of heard)
+  -- a table of the context is at its limit: the interner's, the store's, or that of a frame's unknowns and variables
+  abbrev pub IsFull : SolverCx Handler → Type 0
+  IsFull c = TableIsFull c ⊎ SomeFrameRunsOut c
 
-    -- a frame of the context comes with its next reply, which is kept, to where numbers are used up
-    pub record SomeFrameRunsOut (c : SolverCx Handler) : Type 0 where
-      pub frame : GoalFrame
-      pub goal : Asked
-      pub heard : List (Reply (Option AnswerTrees))
-      pub is : HasHeard c goal heard frame
-      pub reply : Reply (Option CanonicalResponse)
-      pub due : IsDueAfter bare (world_of c) goal heard (reply_read (entries_of c) reply)
-      pub kept : IsReplyOf (IsKept is_ready c) (reply_read (entries_of c) reply)
-      pub runs_out : FrameRunsOut (entries_of c) (handled (world_of c) goal.0 goal.1) frame reply
+  abbrev pub handles : Handles (SolverCx Handler) InputId (Option ResponseId) GoalFrame m.goals.World Asked (Option AnswerTrees)
+  handles = record {
+    world = world_of;
+    IsFull = IsFull;
+    IsInput = IsInput m.IsReady;
+    goal_of = goal_of;
+    IsResult = IsResult m.IsReady;
+    answer_of = answer_of;
+    HasHeard = HasHeard;
+    -- terms of the interner, each under its number
+    Held = ℕ × Entry;
+    Holds = λ c x. slice_get (entries_of c) x.0 ≡ Some x.1;
+  }
 
-    -- a table of the context is at its limit: the interner's, the store's, or that of a frame's unknowns and variables
-    abbrev pub IsFull : SolverCx Handler → Type 0
-    IsFull c = TableIsFull c ⊎ SomeFrameRunsOut c
+  abbrev pub solver_meaning : Meaning (SolverCx Handler) InputId (Option ResponseId) GoalFrame
+  solver_meaning = meaning frame_tables (programs m.goals) handles
 
-    abbrev pub handles : Handles (SolverCx Handler) InputId (Option ResponseId) GoalFrame World Asked (Option AnswerTrees)
-    handles = record {
-      world = world_of;
-      IsFull = IsFull;
-      IsInput = IsInput is_ready;
-      goal_of = goal_of;
-      IsResult = IsResult is_ready;
-      answer_of = answer_of;
-      HasHeard = HasHeard;
-      -- terms of the interner, each under its number
-      Held = ℕ × Entry;
-      Holds = λ c x. slice_get (entries_of c) x.0 ≡ Some x.1;
-    }
-
-    abbrev pub solver_meaning : Meaning (SolverCx Handler) InputId (Option ResponseId) GoalFrame
-    solver_meaning = meaning frame_tables programs handles
-
-    -- a frame takes no more steps
-    abbrev pub steps_left : SolverCx Handler → GoalFrame → ℕ
-    steps_left c f = Steps.steps_left (handled (world_of c) f.goal.mode (form_of (entries_of c) f.goal)) f
+  -- a frame takes no more steps
+  abbrev pub steps_left : SolverCx Handler → GoalFrame → ℕ
+  steps_left c f = Steps.steps_left (m.goals.handled (world_of c) f.goal.mode (form_of (entries_of c) f.goal)) f

@@ -62,7 +62,7 @@ impl<H: GoalHandler> SolverCx<H> {
         ensures inputs { kept_inputs result.store ≡ [] }
         ensures responses { kept_responses result.store ≡ [] }
         ensures limit { limit_of result.store ≡ limit }
-        ensures ready { H.ready handler interner.entries → IsReady H.ready result }
+        ensures ready { H.meaning.IsReady handler interner.entries → IsReady H.meaning.IsReady result }
     {
         interner.lawful();
         SolverCx {
@@ -78,11 +78,11 @@ impl<H: GoalHandler> SolverCx<H> {
     /// `Full` comes where as many goals are kept as the limit allows and this one is new, `Memory` where a new one needs
     /// memory that is refused.
     pub fn keep_goal(&mut self, goal: CanonicalInput) -> Result<InputId, Fault>
-        requires ready { IsReady H.ready self.old }
+        requires ready { IsReady H.meaning.IsReady self.old }
         requires held { GoalHeld self.old.interner.entries goal.goal }
-        ensures advances { Advances H.ready self.old self.new }
+        ensures advances { Advances H.meaning.IsReady self.old self.new }
         ensures interner { self.new.interner ≡ self.old.interner }
-        ensures is { IfOk result (λ id. IsInput H.ready self.new id × (goal_of self.new id ≡ asked_of self.old.interner.entries goal)) }
+        ensures is { IfOk result (λ id. IsInput H.meaning.IsReady self.new id × (goal_of self.new id ≡ asked_of self.old.interner.entries goal)) }
         ensures full { result ≡ Err Fault.Full → StoreIsFull self.new.store }
     {
         self.store.keep_input(goal)
@@ -96,12 +96,12 @@ impl<H: GoalHandler> SolverCx<H> {
         &mut self,
         answer: Option<CanonicalResponse>,
     ) -> Result<Option<ResponseId>, Fault>
-        requires ready { IsReady H.ready self.old }
+        requires ready { IsReady H.meaning.IsReady self.old }
         requires held { ResultHeld self.old.interner.entries answer }
         requires fits { ResultFits self.old.interner.entries answer }
-        ensures advances { Advances H.ready self.old self.new }
+        ensures advances { Advances H.meaning.IsReady self.old self.new }
         ensures interner { self.new.interner ≡ self.old.interner }
-        ensures is { IfOk result (λ r. IsResult H.ready self.new r × (answer_of self.new r ≡ result_read self.old.interner.entries answer)) }
+        ensures is { IfOk result (λ r. IsResult H.meaning.IsReady self.new r × (answer_of self.new r ≡ result_read self.old.interner.entries answer)) }
         ensures full { result ≡ Err Fault.Full → StoreIsFull self.new.store }
     {
         match answer {
@@ -117,7 +117,7 @@ impl<H: GoalHandler> SolverCx<H> {
     ///
     /// Its only fault is `Memory`.
     pub fn answer(&self, of: &Option<ResponseId>) -> Result<Option<CanonicalResponse>, Fault>
-        requires { IsResult H.ready self.now of.now }
+        requires { IsResult H.meaning.IsReady self.now of.now }
         ensures is { IfOk result (λ r. result_read self.now.interner.entries r ≡ answer_of self.now of.now) }
         ensures held { IfOk result (λ r. ResultHeld self.now.interner.entries r × ResultFits self.now.interner.entries r) }
         ensures memory { IfErr result (λ fault. fault ≡ Memory) }

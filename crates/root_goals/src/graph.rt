@@ -45,9 +45,9 @@ impl<H: GoalHandler> Delegate for SolverGraph<H> {
 
     ghost DIVIDE_AVAILABLE_DEPTH_ON_OVERFLOW = { 4 };
 
-    ghost meaning = { solver_meaning H.handled H.Rule H.coinductive H.ready H.meaning };
+    ghost meaning = { solver_meaning H.meaning };
 
-    ghost steps_left = { steps_left H.handled H.Rule H.coinductive H.ready H.meaning };
+    ghost steps_left = { steps_left H.meaning };
 
     /// A coinductive cycle holds, and one whose steps are not decided is an overflow. An inductive cycle is refused, but in
     /// coherence it is an overflow too. The answer says nothing of the goal's variables.
@@ -69,8 +69,8 @@ impl<H: GoalHandler> Delegate for SolverGraph<H> {
         input: &InputId,
         of: &Option<ResponseId>,
     ) -> bool
-        requires input { IsInput H.ready cx.now input.now }
-        requires known { IsResult H.ready cx.now of.now }
+        requires input { IsInput H.meaning.IsReady cx.now input.now }
+        requires known { IsResult H.meaning.IsReady cx.now of.now }
         ensures { IsTrue result ↔ (answer_of cx.now of.now ≡ cycle_answer (goal_of cx.now input.now).0 (goal_of cx.now input.now).1 kind) }
     {
         let goal = cx.store.input(*input);
@@ -104,7 +104,7 @@ impl<H: GoalHandler> Delegate for SolverGraph<H> {
 
     /// The cause of an answer that is not sure and says nothing: it gives no type or const a value, and constrains no lifetime.
     fn is_ambiguous_result(cx: &SolverCx<H>, of: &Option<ResponseId>) -> Option<MaybeCause>
-        requires { IsResult H.ready cx.now of.now }
+        requires { IsResult H.meaning.IsReady cx.now of.now }
         ensures is { IsSome result ↔ (is_ambiguous_answer frame_tables (answer_of cx.now of.now) ≡ true) }
 
         // It is the answer's own.
@@ -132,11 +132,11 @@ impl<H: GoalHandler> Delegate for SolverGraph<H> {
         for_input: &InputId,
         ambiguity_info: MaybeCause,
     ) -> Result<Option<ResponseId>, Fault>
-        requires { IsInput H.ready cx.old for_input.now }
-        ensures keeps { Keeps (solver_meaning H.handled H.Rule H.coinductive H.ready H.meaning) cx.old cx.new }
-        ensures full { result ≡ Err Fault.Full → IsFull H.handled H.Rule H.coinductive H.ready H.meaning cx.new }
-        ensures known { IfOk result (IsResult H.ready cx.new) }
-        ensures fair { IfOk result (λ r. let m = solver_meaning H.handled H.Rule H.coinductive H.ready H.meaning in
+        requires { IsInput H.meaning.IsReady cx.old for_input.now }
+        ensures keeps { Keeps (solver_meaning H.meaning) cx.old cx.new }
+        ensures full { result ≡ Err Fault.Full → IsFull H.meaning cx.new }
+        ensures known { IfOk result (IsResult H.meaning.IsReady cx.new) }
+        ensures fair { IfOk result (λ r. let m = solver_meaning H.meaning in
             IsFair m (m.world cx.old) (goal_of cx.old for_input.now) (answer_of cx.new r)) }
         ensures no_yes { IfOk result (λ r. is_yes_answer frame_tables (answer_of cx.new r) ≡ false) }
         ensures is { IfOk result (λ r. answer_of cx.new r ≡ silent (goal_of cx.old for_input.now).1 (Maybe ambiguity_info)) }
@@ -159,12 +159,12 @@ impl<H: GoalHandler> Delegate for SolverGraph<H> {
         cx: &mut SolverCx<H>,
         reply: Reply<Option<ResponseId>>,
     ) -> Result<Request<InputId, Option<ResponseId>>, Fault>
-        requires due { IsDue (solver_meaning H.handled H.Rule H.coinductive H.ready H.meaning) cx.old frame.old reply }
-        requires reply { IsReply (solver_meaning H.handled H.Rule H.coinductive H.ready H.meaning) cx.old reply }
-        ensures keeps { Keeps (solver_meaning H.handled H.Rule H.coinductive H.ready H.meaning) cx.old cx.new }
-        ensures full { result ≡ Err Fault.Full → IsFull H.handled H.Rule H.coinductive H.ready H.meaning cx.new }
-        ensures steps { IfOk result (λ q. Steps (solver_meaning H.handled H.Rule H.coinductive H.ready H.meaning) cx.old frame.old reply cx.new frame.new q) }
-        ensures falls { IfOk result (λ q. steps_left H.handled H.Rule H.coinductive H.ready H.meaning cx.new frame.new < steps_left H.handled H.Rule H.coinductive H.ready H.meaning cx.old frame.old) }
+        requires due { IsDue (solver_meaning H.meaning) cx.old frame.old reply }
+        requires reply { IsReply (solver_meaning H.meaning) cx.old reply }
+        ensures keeps { Keeps (solver_meaning H.meaning) cx.old cx.new }
+        ensures full { result ≡ Err Fault.Full → IsFull H.meaning cx.new }
+        ensures steps { IfOk result (λ q. Steps (solver_meaning H.meaning) cx.old frame.old reply cx.new frame.new q) }
+        ensures falls { IfOk result (λ q. steps_left H.meaning cx.new frame.new < steps_left H.meaning cx.old frame.old) }
     {
         let reply = read_reply(cx, reply)?;
         let asked = frame.step(cx.alloc, &mut cx.interner, &cx.handler, reply);
@@ -175,12 +175,12 @@ impl<H: GoalHandler> Delegate for SolverGraph<H> {
     ghost use Rattle.goal_frames.proofs.HandlerPrograms.{handlers-are-programs};
     ghost use Rattle.root_goals.specs.Lawful.{solver-lawful, steps-kept, same-answer};
 
-    ghost lawful = { solver-lawful H.handled H.Rule H.coinductive H.ready H.meaning
-        (handlers-are-programs H.handled H.Rule H.coinductive H.begins H.lawful H.instances H.rules H.kinds H.numbers H.worlds H.outside) };
+    ghost lawful = { solver-lawful H.meaning
+        (handlers-are-programs H.meaning.goals H.lawful.goals) };
 
-    ghost steps_kept = { steps-kept H.handled H.Rule H.coinductive H.ready H.meaning };
+    ghost steps_kept = { steps-kept H.meaning };
 
-    ghost same_answer = { same-answer H.ready };
+    ghost same_answer = { same-answer H.meaning.IsReady };
 
     ghost use Rattle.std.proofs.Common.{lit≤};
 

@@ -11,11 +11,11 @@ use goal_frames::GoalHandler;
 /// A context grows where its interner does, and it stays ready; where it has grown twice, it has grown. A search knows all that it
 /// knew, and what a cache holds stays justified.
 pub fn context_laws<H: GoalHandler>()
-    ensures interner { (c d : _) → IsReady H.ready c → InternerGrows c d → Advances H.ready c d }
-    ensures further { (c d e : _) → Advances H.ready c d → Advances H.ready d e → Advances H.ready c e }
-    ensures keeps { (c d : _) → IsReady H.ready c → Advances H.ready c d → Search.Keeps (solver_meaning H.handled H.Rule H.coinductive H.ready H.meaning) c d }
-    ensures justified { (c d : _) (ks : _) → Search.Keeps (solver_meaning H.handled H.Rule H.coinductive H.ready H.meaning) c d
-        → AreJustified (solver_meaning H.handled H.Rule H.coinductive H.ready H.meaning) c ks → AreJustified (solver_meaning H.handled H.Rule H.coinductive H.ready H.meaning) d ks }
+    ensures interner { (c d : _) → IsReady H.meaning.IsReady c → InternerGrows c d → Advances H.meaning.IsReady c d }
+    ensures further { (c d e : _) → Advances H.meaning.IsReady c d → Advances H.meaning.IsReady d e → Advances H.meaning.IsReady c e }
+    ensures keeps { (c d : _) → IsReady H.meaning.IsReady c → Advances H.meaning.IsReady c d → Search.Keeps (solver_meaning H.meaning) c d }
+    ensures justified { (c d : _) (ks : _) → Search.Keeps (solver_meaning H.meaning) c d
+        → AreJustified (solver_meaning H.meaning) c ks → AreJustified (solver_meaning H.meaning) d ks }
 {}
 
 /// A table without canonical variables stays so when goals are evaluated in it, whatever `evaluate_root_goal` puts into it. With

@@ -25,8 +25,8 @@ pub(crate) fn read_reply<H: GoalHandler>(
     cx: &SolverCx<H>,
     reply: Reply<Option<ResponseId>>,
 ) -> Result<Reply<Option<CanonicalResponse>>, Fault>
-    requires { Search.IsReply (solver_meaning H.handled H.Rule H.coinductive H.ready H.meaning) cx.now reply }
-    ensures is { IfOk result (λ r. reply_read cx.now.interner.entries r ≡ Search.reply_of (solver_meaning H.handled H.Rule H.coinductive H.ready H.meaning) cx.now reply) }
+    requires { Search.IsReply (solver_meaning H.meaning) cx.now reply }
+    ensures is { IfOk result (λ r. reply_read cx.now.interner.entries r ≡ Search.reply_of (solver_meaning H.meaning) cx.now reply) }
     ensures held { IfOk result (Frames.IsReply cx.now.interner.entries) }
     ensures memory { IfErr result (λ fault. fault ≡ Memory) }
 {
@@ -49,12 +49,12 @@ pub(crate) fn keep_request<H: GoalHandler>(
     cx: &mut SolverCx<H>,
     request: Request<CanonicalInput, Option<CanonicalResponse>>,
 ) -> Result<Request<InputId, Option<ResponseId>>, Fault>
-    requires ready { IsReady H.ready cx.old }
+    requires ready { IsReady H.meaning.IsReady cx.old }
     requires held { RequestHeld cx.old.interner.entries request }
-    ensures advances { Advances H.ready cx.old cx.new }
+    ensures advances { Advances H.meaning.IsReady cx.old cx.new }
     ensures interner { cx.new.interner ≡ cx.old.interner }
-    ensures known { IfOk result (Search.IsRequest (solver_meaning H.handled H.Rule H.coinductive H.ready H.meaning) cx.new) }
-    ensures is { IfOk result (λ q. Search.request_of (solver_meaning H.handled H.Rule H.coinductive H.ready H.meaning) cx.new q ≡ request_read cx.old.interner.entries request) }
+    ensures known { IfOk result (Search.IsRequest (solver_meaning H.meaning) cx.new) }
+    ensures is { IfOk result (λ q. Search.request_of (solver_meaning H.meaning) cx.new q ≡ request_read cx.old.interner.entries request) }
     ensures full { result ≡ Err Fault.Full → StoreIsFull cx.new.store }
 {
     match request {

@@ -50,46 +50,46 @@ pub fn evaluate_root_goal<H: GoalHandler>(
     goal: &Goal,
 ) -> Result<GoalEvaluation, RootError>
     requires empty { graph.old.current_depth ≡ 0 }
-    requires cache { AreJustified (solver_meaning H.handled H.Rule H.coinductive H.ready H.meaning) cx.old cache.old }
-    requires ready { IsReady H.ready cx.old }
+    requires cache { AreJustified (solver_meaning H.meaning) cx.old cache.old }
+    requires ready { IsReady H.meaning.IsReady cx.old }
     requires table { Ready cx.old.interner.entries table.old }
     requires goal { GoalHeld cx.old.interner.entries goal.now }
 
     // After a refusal too.
     ensures empty { graph.new.current_depth ≡ 0 }
     ensures depth { graph.new.root_depth ≡ graph.old.root_depth }
-    ensures cache { AreJustified (solver_meaning H.handled H.Rule H.coinductive H.ready H.meaning) cx.new cache.new }
+    ensures cache { AreJustified (solver_meaning H.meaning) cx.new cache.new }
     ensures consistent { AreConsistent cache.old → AreConsistent cache.new }
     ensures results { KeepsResults cache.old cache.new }
-    ensures ready { IsReady H.ready cx.new }
-    ensures keeps { Search.Keeps (solver_meaning H.handled H.Rule H.coinductive H.ready H.meaning) cx.old cx.new }
+    ensures ready { IsReady H.meaning.IsReady cx.new }
+    ensures keeps { Search.Keeps (solver_meaning H.meaning) cx.old cx.new }
     ensures entries { Keeps cx.old.interner.entries cx.new.interner.entries }
     ensures table { Ready cx.new.interner.entries table.new }
     ensures grows { Grows table.old table.new }
 
     // What the search costs, also after a refusal: a bounded number of frames, and none for a goal whose answer the cache holds. A
     // limit is met only for a goal that plain recursion does not answer within the depth, and is noted.
-    ensures frames { FramesAreBounded (solver_meaning H.handled H.Rule H.coinductive H.ready H.meaning) cx.old (asked_in mode cx.old.interner.entries table.old goal.now) graph.old graph.new }
-    ensures cached { KnownIsFree (solver_meaning H.handled H.Rule H.coinductive H.ready H.meaning) cx.old cache.old
+    ensures frames { FramesAreBounded (solver_meaning H.meaning) cx.old (asked_in mode cx.old.interner.entries table.old goal.now) graph.old graph.new }
+    ensures cached { KnownIsFree (solver_meaning H.meaning) cx.old cache.old
         (asked_in mode cx.old.interner.entries table.old goal.now) graph.old graph.new cache.new }
-    ensures limits { LimitsAreNoted (solver_meaning H.handled H.Rule H.coinductive H.ready H.meaning) cx.old (asked_in mode cx.old.interner.entries table.old goal.now) graph.old graph.new }
+    ensures limits { LimitsAreNoted (solver_meaning H.meaning) cx.old (asked_in mode cx.old.interner.entries table.old goal.now) graph.old graph.new }
 
     // The evaluation is that of the goal as the table resolves it, and says what the answer says that the search gives: one that the
     // cache held if it held any, and that it holds afterwards. The answer is put into the table.
     ensures held { IfOk result (λ e. GoalHeld cx.new.interner.entries e.goal) }
     ensures resolved { IfOk result (λ e. goal_trees cx.new.interner.entries e.goal ≡ goal_in cx.old.interner.entries table.old goal.now) }
     ensures answer { IfOk result (λ e. (a : AnswerTrees)
-        × IsResult (solver_meaning H.handled H.Rule H.coinductive H.ready H.meaning) cx.old cache.old graph.old cx.new cache.new graph.new
+        × IsResult (solver_meaning H.meaning) cx.old cache.old graph.old cx.new cache.new graph.new
         (asked_in mode cx.old.interner.entries table.old goal.now) (Some a)
         × Says e a
         × (put_into (table_trees cx.old.interner.entries table.old) (values_in (goal_in cx.old.interner.entries table.old goal.now)) a ≡ Some (table_trees cx.new.interner.entries table.new))) }
 
     // A definite yes: each instance of the goal by a solution of the table has a proof.
     ensures yes { IfOk result (λ e. e.certainty ≡ Certainty.Yes → e.has_changed ≡ HasChanged.No
-        → let w = H.meaning cx.old.handler cx.old.interner.entries in IsProved (H.Rule w) (H.coinductive w) cx.old.interner.entries table.old goal.now) }
+        → let w = H.meaning.world cx.old.handler cx.old.interner.entries in IsProved (H.meaning.goals.Rule w) (H.meaning.goals.coinductive w) cx.old.interner.entries table.old goal.now) }
 
     // No solution is lost at which the goal has a proof, and none is gained.
-    ensures covers { IfOk result (λ _. AtProvedSolutions (H.handled (H.meaning cx.old.handler cx.old.interner.entries)) mode cx.old.interner.entries table.old goal.now
+    ensures covers { IfOk result (λ _. AtProvedSolutions (H.meaning.goals.handled (H.meaning.world cx.old.handler cx.old.interner.entries)) mode cx.old.interner.entries table.old goal.now
         (λ s. GoesOn s table.old cx.new.interner.entries table.new)) }
     ensures narrows { OnOk result ((s : Assignment) → Solves s (content cx.new.interner.entries table.new.values) → Solves s (content cx.old.interner.entries table.old.values)) }
 
@@ -98,21 +98,21 @@ pub fn evaluate_root_goal<H: GoalHandler>(
 
     // The answer that the search gives refuses the goal, or is refused by the table; and at no solution the goal has a proof.
     ensures refusal { result ≡ Err RootError.NoSolution → (a : Option AnswerTrees)
-        × IsResult (solver_meaning H.handled H.Rule H.coinductive H.ready H.meaning) cx.old cache.old graph.old cx.new cache.new graph.new
+        × IsResult (solver_meaning H.meaning) cx.old cache.old graph.old cx.new cache.new graph.new
         (asked_in mode cx.old.interner.entries table.old goal.now) a
         × (left_by (table_trees cx.old.interner.entries table.old) (goal_in cx.old.interner.entries table.old goal.now) a ≡ None) }
     ensures no_solution { result ≡ Err RootError.NoSolution
-        → AtProvedSolutions (H.handled (H.meaning cx.old.handler cx.old.interner.entries)) mode cx.old.interner.entries table.old goal.now (λ s. ⊥) }
+        → AtProvedSolutions (H.meaning.goals.handled (H.meaning.world cx.old.handler cx.old.interner.entries)) mode cx.old.interner.entries table.old goal.now (λ s. ⊥) }
 
     // A goal that plain recursion answers within the depth meets no conflict.
     ensures no_conflict { result ≡ Err RootError.Conflict
-        → IsNotPlainWithin (solver_meaning H.handled H.Rule H.coinductive H.ready H.meaning) cx.old graph.old (asked_in mode cx.old.interner.entries table.old goal.now) }
-    ensures conflict { result ≡ Err RootError.Conflict → HasConflict (solver_meaning H.handled H.Rule H.coinductive H.ready H.meaning) cx.new cache.new }
+        → IsNotPlainWithin (solver_meaning H.meaning) cx.old graph.old (asked_in mode cx.old.interner.entries table.old goal.now) }
+    ensures conflict { result ≡ Err RootError.Conflict → HasConflict (solver_meaning H.meaning) cx.new cache.new }
 
     // `Full` comes only where a table is at its limit: one of the context, or this one, which has no numbers for the goal's form or for
     // the answer that the search gives.
-    ensures full { result ≡ Err (RootError.Fault Fault.Full) → IsFull H.handled H.Rule H.coinductive H.ready H.meaning cx.new
-        ⊎ RootRunsOut (λ a. IsResult (solver_meaning H.handled H.Rule H.coinductive H.ready H.meaning) cx.old cache.old graph.old cx.new cache.new graph.new
+    ensures full { result ≡ Err (RootError.Fault Fault.Full) → IsFull H.meaning cx.new
+        ⊎ RootRunsOut (λ a. IsResult (solver_meaning H.meaning) cx.old cache.old graph.old cx.new cache.new graph.new
         (asked_in mode cx.old.interner.entries table.old goal.now) (Some a))
         (table_trees cx.old.interner.entries table.old) (goal_in cx.old.interner.entries table.old goal.now) }
 {

@@ -29,27 +29,27 @@ pub(crate) fn search<H: GoalHandler>(
     input: InputId,
 ) -> Result<Option<CanonicalResponse>, RootError>
     requires empty { graph.old.current_depth ≡ 0 }
-    requires cache { AreJustified (solver_meaning H.handled H.Rule H.coinductive H.ready H.meaning) cx.old cache.old }
-    requires input { IsInput H.ready cx.old input }
-    ensures keeps { Keeps (solver_meaning H.handled H.Rule H.coinductive H.ready H.meaning) cx.old cx.new }
-    ensures ready { IsReady H.ready cx.new }
+    requires cache { AreJustified (solver_meaning H.meaning) cx.old cache.old }
+    requires input { IsInput H.meaning.IsReady cx.old input }
+    ensures keeps { Keeps (solver_meaning H.meaning) cx.old cx.new }
+    ensures ready { IsReady H.meaning.IsReady cx.new }
     ensures empty { graph.new.current_depth ≡ 0 }
     ensures depth { graph.new.root_depth ≡ graph.old.root_depth }
-    ensures cache { AreJustified (solver_meaning H.handled H.Rule H.coinductive H.ready H.meaning) cx.new cache.new }
+    ensures cache { AreJustified (solver_meaning H.meaning) cx.new cache.new }
     ensures consistent { AreConsistent cache.new }
     ensures results { KeepsResults cache.old cache.new }
-    ensures frames { FramesAreBounded (solver_meaning H.handled H.Rule H.coinductive H.ready H.meaning) cx.old (goal_of cx.old input) graph.old graph.new }
-    ensures cached { KnownIsFree (solver_meaning H.handled H.Rule H.coinductive H.ready H.meaning) cx.old cache.old (goal_of cx.old input) graph.old graph.new cache.new }
-    ensures limits { LimitsAreNoted (solver_meaning H.handled H.Rule H.coinductive H.ready H.meaning) cx.old (goal_of cx.old input) graph.old graph.new }
+    ensures frames { FramesAreBounded (solver_meaning H.meaning) cx.old (goal_of cx.old input) graph.old graph.new }
+    ensures cached { KnownIsFree (solver_meaning H.meaning) cx.old cache.old (goal_of cx.old input) graph.old graph.new cache.new }
+    ensures limits { LimitsAreNoted (solver_meaning H.meaning) cx.old (goal_of cx.old input) graph.old graph.new }
     ensures held { IfOk result (λ r. ResultHeld cx.new.interner.entries r × ResultFits cx.new.interner.entries r) }
-    ensures found { IfOk result (λ r. IsResult (solver_meaning H.handled H.Rule H.coinductive H.ready H.meaning) cx.old cache.old graph.old cx.new cache.new graph.new
+    ensures found { IfOk result (λ r. IsResult (solver_meaning H.meaning) cx.old cache.old graph.old cx.new cache.new graph.new
         (goal_of cx.old input) (result_read cx.new.interner.entries r)) }
-    ensures sound { IfOk result (λ r. let m = solver_meaning H.handled H.Rule H.coinductive H.ready H.meaning in
+    ensures sound { IfOk result (λ r. let m = solver_meaning H.meaning in
         IsRight m (m.world cx.old) (goal_of cx.old input) (result_read cx.new.interner.entries r)) }
     ensures not_refused { result ≡ Err RootError.NoSolution → ⊥ }
-    ensures no_conflict { result ≡ Err RootError.Conflict → IsNotPlainWithin (solver_meaning H.handled H.Rule H.coinductive H.ready H.meaning) cx.old graph.old (goal_of cx.old input) }
-    ensures conflict { result ≡ Err RootError.Conflict → HasConflict (solver_meaning H.handled H.Rule H.coinductive H.ready H.meaning) cx.new cache.new }
-    ensures full { result ≡ Err (RootError.Fault Fault.Full) → IsFull H.handled H.Rule H.coinductive H.ready H.meaning cx.new }
+    ensures no_conflict { result ≡ Err RootError.Conflict → IsNotPlainWithin (solver_meaning H.meaning) cx.old graph.old (goal_of cx.old input) }
+    ensures conflict { result ≡ Err RootError.Conflict → HasConflict (solver_meaning H.meaning) cx.new cache.new }
+    ensures full { result ≡ Err (RootError.Fault Fault.Full) → IsFull H.meaning cx.new }
 {
     handlers_are_programs::<H>();
     match graph.evaluate_goal(cache, cx, input, PathKind::Inductive) {

@@ -47,9 +47,9 @@ pub(crate) fn silent_answer<H: GoalHandler>(
     input: InputId,
     certainty: Certainty,
 ) -> Result<Option<ResponseId>, Fault>
-    requires { IsInput H.ready cx.old input }
-    ensures advances { Advances H.ready cx.old cx.new }
-    ensures is { IfOk result (λ r. IsResult H.ready cx.new r × (answer_of cx.new r ≡ silent (goal_of cx.old input).1 certainty)) }
+    requires { IsInput H.meaning.IsReady cx.old input }
+    ensures advances { Advances H.meaning.IsReady cx.old cx.new }
+    ensures is { IfOk result (λ r. IsResult H.meaning.IsReady cx.new r × (answer_of cx.new r ≡ silent (goal_of cx.old input).1 certainty)) }
     ensures full { result ≡ Err Fault.Full → TableIsFull cx.new }
 {
     let variables = Vec::from_slice(cx.alloc, &cx.store.input(input).variables)?;

@@ -13,14 +13,17 @@ use Rattle.evaluation.proofs.ListLaws.{Every-mono}
 use Rattle.evaluation.specs.FrameTables.{kind_at}
 use Rattle.type_terms.proofs.Made.{false-true, left, right}
 use Rattle.evaluation.specs.Tables.{frame_tables}
-use Rattle.goal_frames.specs.Rules.{Bound, Rule, RuleBook, IsUnknown, IsOver, IsDeterminedBy, IsRule}
+use Rattle.goal_frames.specs.Rules.{Bound, Rule, RuleBook, IsUnknown, IsOver, IsDeterminedBy, IsRule, FollowsByRule, is_coinductive}
 use Rattle.goal_frames.specs.Handlers.{is_variable_label, handled_by}
 use Rattle.goal_frames.specs.RulePrograms.{DeclaredRules}
 use Rattle.goal_frames.proofs.RulePrograms.{rules-are-programs}
 use Rattle.goal_frames.proofs.Closed.{some-stands}
 use Rattle.evaluation.proofs.Slots.{kind-of}
-use Rattle.goal_frames.specs.HandlerPrograms.{KeepNumbers, KeepWorlds}
-use Rattle.rule_books.specs.Books.{is_unknown, is_over, all_stand, are_terms_over, is_rule, sound_rules, sound_book}
+use Rattle.goal_frames.specs.Meanings.{Goals, HandlerMeaning}
+use Rattle.goal_frames.specs.HandlerPrograms.{IsLawful}
+use Rattle.rule_books.specs.declared.rule.RuleBook as InCode
+use Rattle.rule_books.specs.Books.{is_unknown, is_over, all_stand, are_terms_over, is_rule, sound_rules, sound_book, book_read, BookReady}
+use Rattle.rule_books.specs.Kept.{ready-kept, meaning-kept}
 
 -- ---- the rules that are as they are to be
 kinds-are : (ks : List CanonicalVarKind) → list_all is_unknown ks ≡ true → Every IsUnknown ks
@@ -88,8 +91,25 @@ handled_in_code book mode form = handled_by (sound_book book) mode form
 pub lawful-in-code : (book : RuleBook) (mode : TypingMode) (form : CanonicalForm) → IsHandler frame_tables (handled_in_code book mode form)
 lawful-in-code book mode form = rules-are-programs.handlers (declared book) mode form
 
-pub numbers-are-kept : KeepNumbers handled_in_code
-numbers-are-kept book mode form q h = rules-are-programs.numbers (declared book) mode form q h
+abbrev pub goals_in_code : Goals
+goals_in_code = record { World = RuleBook; handled = handled_in_code; Rule = λ book. FollowsByRule (sound_book book); coinductive = λ book. is_coinductive (sound_book book) }
 
-pub worlds-are-kept : KeepWorlds handled_in_code
-worlds-are-kept book mode form heard q came e x = rules-are-programs.worlds (declared book) mode form heard q came e x
+-- what a list of rules declares is what it says over an interner
+abbrev pub meaning_in_code : HandlerMeaning InCode.RuleBook
+meaning_in_code = record { goals = goals_in_code; IsReady = λ h es. BookReady es h; world = λ h es. book_read es h }
+
+pub laws-in-code : IsLawful meaning_in_code
+laws-in-code = record {
+  ready_kept = λ h old new k r. ready-kept h old new k r;
+  world_kept = λ h old new k r. meaning-kept h old new k r;
+  goals = record {
+    begins = λ book mode form. refl;
+    handlers = lawful-in-code;
+    instances = λ book mode q v. refl;
+    rules = λ book mode form fact premises r. r;
+    kinds = λ book mode form v. refl;
+    numbers = λ book mode form q h. rules-are-programs.numbers (declared book) mode form q h;
+    worlds = λ book mode form heard q came e x. rules-are-programs.worlds (declared book) mode form heard q came e x;
+    outside = λ book form x. x;
+  };
+}

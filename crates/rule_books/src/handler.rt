@@ -5,11 +5,9 @@ ghost use Rattle.type_terms.specs.Terms.{Keeps};
 ghost use Rattle.type_terms.specs.Failures.{SomeKindIsFull};
 ghost use Rattle.infer_table.specs.Goals.{PredicateHeld};
 ghost use Rattle.evaluation.specs.Readings.{SpecHeld};
-ghost use Rattle.goal_frames.specs.Rules.{RuleBook as Book, FollowsByRule, is_coinductive};
 ghost use Rattle.rule_books.specs.Behind.{HasTooManyVariablesAt, IsCandidateAt};
-ghost use Rattle.rule_books.specs.Books.{book_read, sound_book, BookReady};
-ghost use Rattle.rule_books.specs.Kept.{ready-kept, meaning-kept};
-ghost use Rattle.rule_books.specs.Lawful.{handled_in_code, lawful-in-code, numbers-are-kept, worlds-are-kept};
+ghost use Rattle.rule_books.specs.Books.{BookReady};
+ghost use Rattle.rule_books.specs.Lawful.{meaning_in_code, laws-in-code};
 
 use crate::answer::answer;
 use crate::forms::is_asked;
@@ -66,19 +64,7 @@ impl RuleBook {
 ///
 /// A book is ready where each rule is as rules are to be (`RuleBook::are_rules`), and its handles are the interner's.
 impl GoalHandler for RuleBook {
-    ghost use Rattle.std.proofs.Common.{refl};
-
-    ghost Meaning = { Book };
-
-    ghost handled = { handled_in_code };
-
-    ghost Rule = { λ book. FollowsByRule (sound_book book) };
-
-    ghost coinductive = { λ book. is_coinductive (sound_book book) };
-
-    ghost ready = { λ h es. BookReady es h };
-
-    ghost meaning = { λ h es. book_read es h };
+    ghost meaning = { meaning_in_code };
 
     fn step(
         &self,
@@ -97,23 +83,5 @@ impl GoalHandler for RuleBook {
         self.is_coinductive(def_id)
     }
 
-    ghost ready_kept = { λ h old new k r. ready-kept h old new k r };
-
-    ghost meaning_kept = { λ h old new k r. meaning-kept h old new k r };
-
-    ghost begins = { λ book mode form. refl };
-
-    ghost lawful = { lawful-in-code };
-
-    ghost instances = { λ book mode q v. refl };
-
-    ghost rules = { λ book mode goal fact premises r. r };
-
-    ghost kinds = { λ book mode goal v. refl };
-
-    ghost numbers = { numbers-are-kept };
-
-    ghost worlds = { worlds-are-kept };
-
-    ghost outside = { λ book goal x. x };
+    ghost lawful = { laws-in-code };
 }

@@ -6,23 +6,21 @@ use Rattle.type_terms.specs.Kinds.{ArgsHeld, arg_trees}
 use Rattle.type_terms.specs.Terms.{Entry, Keeps, Lawful, args_lists, trees_at}
 use Rattle.type_terms.specs.declared.kinds.GenericArgKind.{GenericArgKind}
 use Rattle.type_terms.specs.Kept.{arg-trees-later, trees-later}
-use Rattle.infer_table.specs.Canonical.{GoalTrees, CanonicalForm}
+use Rattle.infer_table.specs.Canonical.{GoalTrees}
 use Rattle.infer_table.specs.Content.{Table, Ready, content}
 use Rattle.infer_table.specs.Goals.{GoalHeld, goal_trees}
 use Rattle.infer_table.specs.Inputs.{IsWithoutCanonical}
 use Rattle.infer_table.specs.Solutions.{Binding, replace, resolved}
 use Rattle.infer_table.specs.WithoutCanonical.{HaveNoCanonical}
-use Rattle.infer_table.specs.declared.certainty.TypingMode.{TypingMode}
 use Rattle.infer_table.specs.declared.goal.Goal.{Goal}
 use Rattle.infer_table.proofs.Numbers.{goal-trees-later, goal-held-later}
 use Rattle.search_graph.specs.SearchState.{SearchState}
 use Rattle.evaluation.specs.Content.{Fact}
-use Rattle.evaluation.specs.Handler.{Handled}
 use Rattle.evaluation.specs.Proof as Lists
-use Rattle.evaluation.specs.Tables.{frame_tables}
 use Rattle.root_goals.specs.Contexts.{entries_of}
 use Rattle.root_goals.specs.Roots.{fact_under}
 use Rattle.root_goals.specs.declared.context.SolverCx.{SolverCx}
+use Rattle.goal_frames.specs.Meanings.{HandlerMeaning}
 use Rattle.sessions.specs.Proved.{fact_with_values}
 use Rattle.sessions.specs.Proving.{AreReadOff, IsAnswered, IsRefusedGoal, IsUnsettledGoal, is_bound_term}
 use Rattle.sessions.specs.Settling.{IsProvedBy, IsRefused, IsUnsettled}
@@ -46,31 +44,30 @@ resolved-below (b ∷ older) k c = ap (λ t. replace b.sort b.var (resolved olde
 bound-below : (bs : List Binding) (k : PredicateKind) (c : Trees) (b : Bool) → some_node is_bound_term (resolved bs c) ≡ b → some_node is_bound_term (resolved bs (tree (predicate k) c none)) ≡ b
 bound-below bs k c b e = ap (λ t. some_node is_bound_term t) (resolved-below bs k c) ∙ no-more (some_node is_bound_term (resolved bs c)) ∙ e
 
-module _ {World Handler : Type 0} (handled : World → TypingMode → CanonicalForm → Handled frame_tables) (Rule : World → Fact → List Fact → Type 0) (coinductive : World → Fact → Bool)
-    (is_ready : Handler → List Entry → Type 0) (meaning_of : Handler → List Entry → World) (ks : List Sort) (c : SolverCx Handler) (t : Table) (table_is : t ≡ table_of ks) (g : Goal) where
+module _ {Handler : Type 0} (handler : HandlerMeaning Handler) (ks : List Sort) (c : SolverCx Handler) (t : Table) (table_is : t ≡ table_of ks) (g : Goal) where
   abbrev es : List Entry
   es = entries_of c
 
-  abbrev w : World
-  w = meaning_of c.handler (entries_of c)
+  abbrev w : handler.goals.World
+  w = handler.world c.handler (entries_of c)
 
   abbrev goal : GoalTrees
   goal = goal_trees (entries_of c) g
 
   -- ---- what is refused, and what is not settled
-  pub refused-goal : (graph : SearchState) → IsRefused handled Rule coinductive is_ready meaning_of c graph t g → IsRefusedGoal handled Rule coinductive is_ready meaning_of w graph.root_depth ks goal
-  refused-goal graph h = subst (λ (u : Table). IsRefused handled Rule coinductive is_ready meaning_of c graph u g) table_is h
+  pub refused-goal : (graph : SearchState) → IsRefused handler c graph t g → IsRefusedGoal handler w graph.root_depth ks goal
+  refused-goal graph h = subst (λ (u : Table). IsRefused handler c graph u g) table_is h
 
-  unsettled-there : (graph : SearchState) → IsUnsettled handled Rule coinductive is_ready meaning_of c graph (table_of ks) g → IsUnsettledGoal handled Rule coinductive is_ready meaning_of w graph.root_depth goal
+  unsettled-there : (graph : SearchState) → IsUnsettled handler c graph (table_of ks) g → IsUnsettledGoal handler w graph.root_depth goal
   unsettled-there graph (inl h) = inl h
   unsettled-there graph (inr h) = inr (inl h)
 
-  pub unsettled-goal : (graph : SearchState) → IsUnsettled handled Rule coinductive is_ready meaning_of c graph t g → IsUnsettledGoal handled Rule coinductive is_ready meaning_of w graph.root_depth goal
-  unsettled-goal graph h = unsettled-there graph (subst (λ (u : Table). IsUnsettled handled Rule coinductive is_ready meaning_of c graph u g) table_is h)
+  pub unsettled-goal : (graph : SearchState) → IsUnsettled handler c graph t g → IsUnsettledGoal handler w graph.root_depth goal
+  unsettled-goal graph h = unsettled-there graph (subst (λ (u : Table). IsUnsettled handler c graph u g) table_is h)
 
   -- ---- what is proved
   module _ (held : GoalHeld (entries_of c) g) (d : SolverCx Handler) (u : Table) (ready : Ready (entries_of d) u) (law : Lawful (entries_of d)) (k : Keeps (entries_of c) (entries_of d))
-      (proved : IsProvedBy handled Rule coinductive is_ready meaning_of w c t d u g) (us : List GenericArgKind) (us_held : ArgsHeld (entries_of c) us) where
+      (proved : IsProvedBy handler w c t d u g) (us : List GenericArgKind) (us_held : ArgsHeld (entries_of c) us) where
     abbrev bs : List Binding
     bs = content (entries_of d) u.values
 
@@ -80,11 +77,11 @@ module _ {World Handler : Type 0} (handled : World → TypingMode → CanonicalF
     same-goal : goal_trees (entries_of d) g ≡ goal_trees (entries_of c) g
     same-goal = goal-trees-later (entries_of c) (entries_of d) k g held
 
-    has-proof : IsWithoutCanonical (goal_trees (entries_of c) g) → Lists.HasProof Fact (Rule w) (coinductive w) (fact_with_values bs (goal_trees (entries_of c) g))
+    has-proof : IsWithoutCanonical (goal_trees (entries_of c) g) → Lists.HasProof Fact (handler.goals.Rule w) (handler.goals.coinductive w) (fact_with_values bs (goal_trees (entries_of c) g))
     has-proof clean =
-        subst (λ z. Lists.HasProof Fact (Rule w) (coinductive w) (fact_with_values bs z)) same-goal
-        (values-are-proved (Rule w) (coinductive w) (entries_of d) u g law ready (goal-held-later (entries_of c) (entries_of d) k g held)
-        (λ s h. subst (λ z. Lists.HasProof Fact (Rule w) (coinductive w) (fact_under s z)) (sym same-goal) (proved clean-table clean s h)))
+        subst (λ z. Lists.HasProof Fact (handler.goals.Rule w) (handler.goals.coinductive w) (fact_with_values bs z)) same-goal
+        (values-are-proved (handler.goals.Rule w) (handler.goals.coinductive w) (entries_of d) u g law ready (goal-held-later (entries_of c) (entries_of d) k g held)
+        (λ s h. subst (λ z. Lists.HasProof Fact (handler.goals.Rule w) (handler.goals.coinductive w) (fact_under s z)) (sym same-goal) (proved clean-table clean s h)))
 
     given-first : (vs : List GenericArgKind) → ArgsHeld (entries_of c) vs → map (λ v. resolved bs (arg_trees (entries_of d) v)) vs ≡ map (λ x. resolved bs x) (map (arg_trees (entries_of c)) vs)
     given-first [] h = refl
@@ -97,7 +94,7 @@ module _ {World Handler : Type 0} (handled : World → TypingMode → CanonicalF
     bound-there b e = bound-below bs _ (trees_at (entries_of c) g.predicate.trait_ref.args.0) b (ap (λ x. some_node is_bound_term (resolved bs x)) (sym same-args) ∙ e)
 
     pub read-goal : (depth : ℕ) (fs : List Entry) (a : ProveAnswer) → AreReadOff (entries_of d) u (trees_at (entries_of d) g.predicate.trait_ref.args.0) us fs a
-        → IsAnswered handled Rule coinductive is_ready meaning_of w depth ks goal (map (arg_trees (entries_of c)) us) fs a
+        → IsAnswered handler w depth ks goal (map (arg_trees (entries_of c)) us) fs a
     read-goal depth fs (Yes values) h = record {
       entries = entries_of d;
       table = u;

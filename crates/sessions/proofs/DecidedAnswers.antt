@@ -20,13 +20,11 @@ use Rattle.root_goals.specs.Searching.{handles}
 use Rattle.text_definitions.specs.Declarations.{Declarations, Question}
 use Rattle.view_lowering.specs.Plain.{all_kept, plain_reference, unbound_reference, unbound_references}
 use Rattle.view_lowering.specs.Questions.{IsQuestion}
-use Rattle.assembly_laws.specs.Facts.{FollowsByView}
 use Rattle.assembly_laws.specs.Meaning.{SelfTypesBegin}
 use Rattle.assembly_laws.proofs.ErasedCandidates.{without_lifetimes}
 use Rattle.candidate_assembly.specs.declared.solver.Solver.{Solver}
-use Rattle.candidate_assembly.specs.Fitting.{solving_of}
-use Rattle.candidate_assembly.specs.Ready.{IsReady}
-use Rattle.candidate_assembly.specs.Solving.{Solving, solver_for, coinductive_for}
+use Rattle.candidate_assembly.specs.Solving.{Solving}
+use Rattle.candidate_assembly.specs.SolverMeaning.{solver_by_view}
 use Rattle.sessions.specs.Answers.{solver_goals, IsOnlyAnswer, IsRightOf}
 use Rattle.sessions.specs.Decided.{IsAnsweredRightly, DecidedAreAnswered, IsQuestionAnswered, DecidedQuestionsAreAnswered}
 use Rattle.sessions.specs.Fitting.{sorts_in}
@@ -42,7 +40,7 @@ use Rattle.sessions.proofs.WithoutLifetimes.{erased-is}
 
 -- the search of a session
 abbrev session_handles : Handles (SolverCx Solver) InputId (Option ResponseId) GoalFrame Solving (Asked frame_tables solver_goals) (Option AnswerTrees)
-session_handles = handles solver_for (λ s. FollowsByView s.view) coinductive_for (λ (h : Solver) es. IsReady es h.declarations) (λ (h : Solver) es. solving_of es h.declarations)
+session_handles = handles solver_by_view
 
 some-answer : AnswerTrees
 some-answer = record { kinds = []; certainty = Yes; values = []; constraints = none }

@@ -26,15 +26,13 @@ use Rattle.view_lowering.specs.Plain.{plain_label, plain, all_kept, unbound_refe
 use Rattle.view_lowering.specs.Questions.{IsQuestion}
 use Rattle.view_lowering.specs.QuestionVariables.{variable_kinds, is_stray, HasVariablesAlone}
 use Rattle.view_lowering.specs.Ready.{AreSeen}
-use Rattle.assembly_laws.specs.Facts.{FollowsByView}
 use Rattle.assembly_laws.specs.Meaning.{SelfTypesBegin}
 use Rattle.candidate_assembly.specs.declared.solver.Solver.{Solver}
-use Rattle.candidate_assembly.specs.Fitting.{solving_of}
-use Rattle.candidate_assembly.specs.Ready.{IsReady}
-use Rattle.candidate_assembly.specs.Solving.{Solving, solver_for, coinductive_for}
+use Rattle.candidate_assembly.specs.Solving.{Solving}
 use Rattle.solver_exactness.specs.FormedFacts.{Sorts, IsFormed, IsFormedView}
 use Rattle.solver_exactness.specs.SolverAnswers.{TellsPossible}
 use Rattle.assembly_laws.specs.DeclaredWell.{IsDeclaredWell}
+use Rattle.candidate_assembly.specs.SolverMeaning.{solver_by_view}
 use Rattle.sessions.specs.Answers.{solver_goals, IsOnlyAnswer}
 use Rattle.sessions.specs.Asking.{IsLeftOpen}
 use Rattle.sessions.specs.Fitting.{sorts_in}
@@ -88,7 +86,7 @@ closed-question V sorts r h e = record {
 
 -- ---- the search of a session
 abbrev session_handles : Handles (SolverCx Solver) InputId (Option ResponseId) GoalFrame Solving (Asked frame_tables solver_goals) (Option AnswerTrees)
-session_handles = handles solver_for (λ s. FollowsByView s.view) coinductive_for (λ (h : Solver) es. IsReady es h.declarations) (λ (h : Solver) es. solving_of es h.declarations)
+session_handles = handles solver_by_view
 
 some-answer : AnswerTrees
 some-answer = record { kinds = []; certainty = Yes; values = []; constraints = none }
@@ -160,7 +158,7 @@ module _ (d : Declarations) (text : IsOfText d) (c : ℕ) (s : Solving) (of : Is
   told : IsToldPossible s depth (view_in d c) c r
   told = record { left_open = by; refused = λ f. possible-there ∙ (tells None f.plain).refused refl }
     where
-      by : IsLeftOpen solver_for (λ s. FollowsByView s.view) coinductive_for (λ (h : Solver) es. IsReady es h.declarations) (λ (h : Solver) es. solving_of es h.declarations) s depth r
+      by : IsLeftOpen solver_by_view s depth r
           → is_possible depth (view_in d c) c q ≡ true
       by (inl x) = possible-there ∙ (tells (Some x.0) x.1.plain).answered x.0 refl
       by (inr none_plain) = possible-there ∙ (tells (Some some-answer) (λ b p. absurd (none_plain (depth + 1) b (itself (depth + 1)) p))).answered some-answer refl

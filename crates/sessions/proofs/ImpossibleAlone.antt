@@ -24,7 +24,6 @@ use Rattle.infer_table.proofs.SolutionLaws.{resolved-none, resolved-rigid}
 use Rattle.declarations.specs.Held.{ReferenceHeld}
 use Rattle.declarations.specs.Items.{reference_in}
 use Rattle.declarations.proofs.Growth.{reference-same}
-use Rattle.evaluation.specs.Content.{Fact}
 use Rattle.evaluation.specs.Handler.{Handled}
 use Rattle.evaluation.specs.Tables.{frame_tables}
 use Rattle.search_graph.specs.Meaning as Search
@@ -42,6 +41,7 @@ use Rattle.root_goals.specs.Evaluations.{IsFound, asked_in}
 use Rattle.root_goals.specs.Roots.{AtProvedSolutions, goal_in, fact_under, values_in}
 use Rattle.root_goals.specs.Searching.{solver_meaning}
 use Rattle.root_goals.specs.Shortages.{RootRunsOut, HasNoForm, form, answer}
+use Rattle.goal_frames.specs.Meanings.{HandlerMeaning}
 use Rattle.sessions.specs.Impossible.{alone, resolved_alone, asked_alone, HasNoProof, IsImpossible, IsAnswered, IsLeftOpen, IsNoRefusal, GoalRunsOut}
 
 -- ---- what became of a goal
@@ -116,32 +116,31 @@ pub runs-out-for : (P Q : AnswerTrees → Type 0) (t u : TableTrees) (g h : Goal
 runs-out-for P Q t u g h p q f (form x) = form (subst HasNoForm q x)
 runs-out-for P Q t u g h p q f (answer a x o) = answer a (f a x) (subst (λ z. IsOutOfNumbers z (values_in h) a) p (subst (λ z. IsOutOfNumbers t (values_in z) a) q o))
 
-module _ {World Handler : Type 0} (handled : World → TypingMode → CanonicalForm → Handled frame_tables) (Rule : World → Fact → List Fact → Type 0) (coinductive : World → Fact → Bool)
-    (ready : Handler → List Entry → Type 0) (meaning_of : Handler → List Entry → World) where
+module _ {Handler : Type 0} (handler : HandlerMeaning Handler) where
   abbrev m : Search.Meaning (SolverCx Handler) InputId (Option ResponseId) GoalFrame
-  m = solver_meaning handled Rule coinductive ready meaning_of
+  m = solver_meaning handler
 
   -- the table has no numbers for what was asked by a goal in code
   pub root-runs-out : (c : SolverCx Handler) (s : SearchState) (t : Table) (g : Goal) (r : TraitRef) → goal_trees (entries_of c) g ≡ alone (reference_in (entries_of c) r)
       → (P : AnswerTrees → Type 0) → ((a : AnswerTrees) → P a → IsFound m (m.world c) s.root_depth (asked_in Coherence (entries_of c) t g) (Some a))
-      → RootRunsOut P (table_trees (entries_of c) t) (goal_in (entries_of c) t g) → GoalRunsOut handled Rule coinductive ready meaning_of c s t r
+      → RootRunsOut P (table_trees (entries_of c) t) (goal_in (entries_of c) t g) → GoalRunsOut handler c s t r
   root-runs-out c s t g r e P f =
       let same : goal_in (entries_of c) t g ≡ resolved_alone (entries_of c) t r = ap (goal_resolved (content (entries_of c) t.values)) e in
-      runs-out-for P (IsAnswered handled Rule coinductive ready meaning_of c s t r) (table_trees (entries_of c) t) (table_trees (entries_of c) t) (goal_in (entries_of c) t g) (resolved_alone (entries_of c) t r) refl same
+      runs-out-for P (IsAnswered handler c s t r) (table_trees (entries_of c) t) (table_trees (entries_of c) t) (goal_in (entries_of c) t g) (resolved_alone (entries_of c) t r) refl same
       (λ a x. subst (λ z. IsFound m (m.world c) s.root_depth (Coherence, canonical_form z) (Some a)) same (f a x))
 
-  abbrev AnsweredAt : AnswerTrees → World → ℕ → Asked → Type 0
+  abbrev AnsweredAt : AnswerTrees → handler.goals.World → ℕ → Asked → Type 0
   AnsweredAt a w depth g = IsFound m w depth g (Some a)
 
-  abbrev OpenAt : World → ℕ → Asked → Type 0
+  abbrev OpenAt : handler.goals.World → ℕ → Asked → Type 0
   OpenAt w depth g = ((a : AnswerTrees) × AnsweredAt a w depth g) ⊎ IsNotPlain m w (depth + 1) g
 
   -- a goal in code is left open as its reference alone is
   pub still-open : (c : SolverCx Handler) (s : SearchState) (t : Table) (g : Goal) (r : TraitRef) → goal_trees (entries_of c) g ≡ alone (reference_in (entries_of c) r)
-      → OpenAt (m.world c) s.root_depth (asked_in Coherence (entries_of c) t g) → IsLeftOpen handled Rule coinductive ready meaning_of c s t r
+      → OpenAt (m.world c) s.root_depth (asked_in Coherence (entries_of c) t g) → IsLeftOpen handler c s t r
   still-open c s t g r e x = subst (λ z. OpenAt (m.world c) s.root_depth (Coherence, canonical_form z)) (ap (goal_resolved (content (entries_of c) t.values)) e) x
 
-  at-all : (P : World → ℕ → Asked → Type 0) (w v : World) (d e : ℕ) (g h : Asked) → w ≡ v → d ≡ e → g ≡ h → P w d g → P v e h
+  at-all : (P : handler.goals.World → ℕ → Asked → Type 0) (w v : handler.goals.World) (d e : ℕ) (g h : Asked) → w ≡ v → d ≡ e → g ≡ h → P w d g → P v e h
   at-all P w v d e g h p q r x = subst (λ z. P z e h) p (subst (λ z. P w z h) q (subst (P w d) r x))
 
   -- what is said in a context that has grown, by a graph of the same depth and over the same table, is so in the one before
@@ -153,22 +152,22 @@ module _ {World Handler : Type 0} (handled : World → TypingMode → CanonicalF
     asked : asked_alone (entries_of d) t r ≡ asked_alone (entries_of c) t r
     asked = asked-later (entries_of c) (entries_of d) entries t tr r held
 
-    answered-before : (a : AnswerTrees) → IsAnswered handled Rule coinductive ready meaning_of d u t r a → IsAnswered handled Rule coinductive ready meaning_of c s t r a
+    answered-before : (a : AnswerTrees) → IsAnswered handler d u t r a → IsAnswered handler c s t r a
     answered-before a = at-all (AnsweredAt a) _ _ _ _ _ _ k.world depth asked
 
-    pub open-before : IsLeftOpen handled Rule coinductive ready meaning_of d u v r → IsLeftOpen handled Rule coinductive ready meaning_of c s t r
-    open-before x = at-all OpenAt _ _ _ _ _ _ k.world depth asked (subst (λ z. IsLeftOpen handled Rule coinductive ready meaning_of d u z r) same x)
+    pub open-before : IsLeftOpen handler d u v r → IsLeftOpen handler c s t r
+    open-before x = at-all OpenAt _ _ _ _ _ _ k.world depth asked (subst (λ z. IsLeftOpen handler d u z r) same x)
 
-    pub runs-out-before : GoalRunsOut handled Rule coinductive ready meaning_of d u v r → GoalRunsOut handled Rule coinductive ready meaning_of c s t r
+    pub runs-out-before : GoalRunsOut handler d u v r → GoalRunsOut handler c s t r
     runs-out-before x =
-        runs-out-for (IsAnswered handled Rule coinductive ready meaning_of d u t r) (IsAnswered handled Rule coinductive ready meaning_of c s t r) (table_trees (entries_of d) t) (table_trees (entries_of c) t)
+        runs-out-for (IsAnswered handler d u t r) (IsAnswered handler c s t r) (table_trees (entries_of d) t) (table_trees (entries_of c) t)
         (resolved_alone (entries_of d) t r) (resolved_alone (entries_of c) t r) (table-kept (entries_of c) (entries_of d) entries t tr)
-        (resolved-later (entries_of c) (entries_of d) entries t tr r held) answered-before (subst (λ z. GoalRunsOut handled Rule coinductive ready meaning_of d u z r) same x)
+        (resolved-later (entries_of c) (entries_of d) entries t tr r held) answered-before (subst (λ z. GoalRunsOut handler d u z r) same x)
 
-    pub impossible-before : IsImpossible handled meaning_of d v r → IsImpossible handled meaning_of c t r
+    pub impossible-before : IsImpossible handler d v r → IsImpossible handler c t r
     impossible-before f = λ o x.
-        let there = subst (λ z. IsImpossible handled meaning_of d z r) same f in
-        let now : NoProofAt (handled (meaning_of d.handler (entries_of d))) (variables_of t) (content (entries_of d) t.values) (reference_in (entries_of d) r) = λ a b e. there a (record { known = b; clean = e }) in
-        let one = subst (λ w. NoProofAt (handled w) (variables_of t) (content (entries_of d) t.values) (reference_in (entries_of d) r)) k.world now in
-        let two = subst (λ bs. NoProofAt (handled (meaning_of c.handler (entries_of c))) (variables_of t) bs (reference_in (entries_of d) r)) (content-kept (entries_of c) (entries_of d) t.values entries tr.held) one in
-        subst (NoProofAt (handled (meaning_of c.handler (entries_of c))) (variables_of t) (content (entries_of c) t.values)) (reference-same (entries_of c) (entries_of d) entries r held) two o x.known x.clean
+        let there = subst (λ z. IsImpossible handler d z r) same f in
+        let now : NoProofAt (handler.goals.handled (handler.world d.handler (entries_of d))) (variables_of t) (content (entries_of d) t.values) (reference_in (entries_of d) r) = λ a b e. there a (record { known = b; clean = e }) in
+        let one = subst (λ w. NoProofAt (handler.goals.handled w) (variables_of t) (content (entries_of d) t.values) (reference_in (entries_of d) r)) k.world now in
+        let two = subst (λ bs. NoProofAt (handler.goals.handled (handler.world c.handler (entries_of c))) (variables_of t) bs (reference_in (entries_of d) r)) (content-kept (entries_of c) (entries_of d) t.values entries tr.held) one in
+        subst (NoProofAt (handler.goals.handled (handler.world c.handler (entries_of c))) (variables_of t) (content (entries_of c) t.values)) (reference-same (entries_of c) (entries_of d) entries r held) two o x.known x.clean

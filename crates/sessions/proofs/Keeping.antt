@@ -11,11 +11,7 @@ use Rattle.type_terms.specs.Terms.{Entry}
 use Rattle.search_graph.specs.Cache.{AreJustified}
 use Rattle.search_graph.specs.SearchState.{SearchState}
 use Rattle.declarations.specs.Items.{Items, written, declared}
-use Rattle.infer_table.specs.Canonical.{CanonicalForm, canonical_form}
-use Rattle.infer_table.specs.declared.certainty.TypingMode.{TypingMode}
-use Rattle.evaluation.specs.Handler.{Handled}
-use Rattle.evaluation.specs.Content.{Fact}
-use Rattle.evaluation.specs.Tables.{frame_tables}
+use Rattle.infer_table.specs.Canonical.{canonical_form}
 use Rattle.goal_frames.specs.Handlers.{same_answer, applies_always}
 use Rattle.root_goals.specs.declared.context.SolverCx.{SolverCx}
 use Rattle.root_goals.specs.Contexts.{entries_of, IsReady as IsReadyContext}
@@ -24,13 +20,14 @@ use Rattle.root_goals.specs.Searching.{solver_meaning}
 use Rattle.text_definitions.specs.Declarations.{Declarations, Question}
 use Rattle.view_lowering.specs.Plain.{plainly_seen_from, unbound_reference}
 use Rattle.view_lowering.specs.Seen.{rules_seen_from}
-use Rattle.assembly_laws.specs.Facts.{FollowsByView}
 use Rattle.candidate_assembly.specs.declared.solver.Solver.{Solver}
 use Rattle.candidate_assembly.specs.Fitting.{solving_of}
 use Rattle.candidate_assembly.specs.Ready.{IsReady}
-use Rattle.candidate_assembly.specs.Solving.{Solving, solver_for, coinductive_for, meaning_for}
+use Rattle.candidate_assembly.specs.Solving.{Solving, solver_for, meaning_for}
 use Rattle.view_lowering.specs.Ready.{AreSeen}
 use Rattle.view_lowering.specs.QuestionVariables.{HasVariablesAlone, RefutationsHaveVariablesAlone}
+use Rattle.goal_frames.specs.Meanings.{HandlerMeaning}
+use Rattle.candidate_assembly.specs.SolverMeaning.{solver_by_view}
 use Rattle.sessions.specs.declared.answers.RefuteAnswer.{RefuteAnswer}
 use Rattle.sessions.specs.declared.answers.RefuteAnswer.TheVariants.{No, Open}
 use Rattle.sessions.specs.Asking.{HasNoProof, IsLeftOpen, IsRefusedAlone, goal_alone, asked_alone}
@@ -46,17 +43,16 @@ use Rattle.sessions.proofs.Refusals.{refuted, plain-erased}
 use Rattle.sessions.proofs.SelfTypes.{self-types-begin}
 
 -- ---- any handler
-module _ {World Handler : Type 0} (handled : World → TypingMode → CanonicalForm → Handled frame_tables) (Rule : World → Fact → List Fact → Type 0) (coinductive : World → Fact → Bool)
-    (ready : Handler → List Entry → Type 0) (meaning_of : Handler → List Entry → World) where
-  pub resting-as-deep : (n : ℕ) (c : SolverCx Handler) (s : SearchState) (ks : Cached) → AreAtRest handled Rule coinductive ready meaning_of n c s ks → AreAtRest handled Rule coinductive ready meaning_of s.root_depth c s ks
+module _ {Handler : Type 0} (handler : HandlerMeaning Handler) where
+  pub resting-as-deep : (n : ℕ) (c : SolverCx Handler) (s : SearchState) (ks : Cached) → AreAtRest handler n c s ks → AreAtRest handler s.root_depth c s ks
   resting-as-deep n c s ks r = record { empty = r.empty; depth = refl; cached = r.cached; ready = r.ready }
 
-  pub resting-first : (n : ℕ) (c : SolverCx Handler) (s : SearchState) (ks : Cached) → s ≡ record { root_depth = n; current_depth = 0; frames = 0; limits_met = false } → ks ≡ [] → IsReadyContext ready c
-      → AreAtRest handled Rule coinductive ready meaning_of n c s ks
+  pub resting-first : (n : ℕ) (c : SolverCx Handler) (s : SearchState) (ks : Cached) → s ≡ record { root_depth = n; current_depth = 0; frames = 0; limits_met = false } → ks ≡ [] → IsReadyContext handler.IsReady c
+      → AreAtRest handler n c s ks
   resting-first n c s ks e f r = record {
     empty = ap (λ (z : SearchState). z.current_depth) e;
     depth = ap (λ (z : SearchState). z.root_depth) e;
-    cached = subst (AreJustified (solver_meaning handled Rule coinductive ready meaning_of) c) (sym f) tt;
+    cached = subst (AreJustified (solver_meaning handler) c) (sym f) tt;
     ready = r;
   }
 
@@ -80,7 +76,7 @@ solves-seen d c es decls cx terms by seen l = record { entries = es; declaration
 pub solver-rests-first : (n : ℕ) (cx : SolverCx Solver) (s : SearchState) (ks : Cached) → s ≡ record { root_depth = n; current_depth = 0; frames = 0; limits_met = false } → ks ≡ []
     → IsReadyContext (λ (h : Solver) es. IsReady es h.declarations) cx → SolverRests n cx s ks
 solver-rests-first n cx s ks e f r =
-    resting-first solver_for (λ s. FollowsByView s.view) coinductive_for (λ (h : Solver) es. IsReady es h.declarations) (λ (h : Solver) es. solving_of es h.declarations) n cx s ks e f r
+    resting-first solver_by_view n cx s ks e f r
 
 abbrev solved : SolverCx Solver → Solving
 solved cx = solving_of (entries_of cx) cx.handler.declarations
@@ -112,7 +108,7 @@ module _ (d : Declarations) (c depth : ℕ) (cx : SolverCx Solver) (graph : Sear
 
   abbrev LeftOpen : ℕ → Question → Type 0
   LeftOpen n q =
-      IsLeftOpen solver_for (λ s. FollowsByView s.view) coinductive_for (λ (h : Solver) es. IsReady es h.declarations) (λ (h : Solver) es. solving_of es h.declarations) (solved cx) n (unbound_reference q.asked)
+      IsLeftOpen solver_by_view (solved cx) n (unbound_reference q.asked)
 
   -- ---- what is answered
   abbrev asked_of : Question → Reference
@@ -126,7 +122,7 @@ module _ (d : Declarations) (c depth : ℕ) (cx : SolverCx Solver) (graph : Sear
     pub made : OnOk a (is_made is_in_range as_terms (asked_of q).args ≡ true)
     pub no : a ≡ Ok No → HasVariablesAlone q → HasNoProof (solver_for (solved cx)) (goal_alone (asked_of q))
     pub refused : a ≡ Ok No
-        → IsRefusedAlone solver_for (λ s. FollowsByView s.view) coinductive_for (λ (h : Solver) es. IsReady es h.declarations) (λ (h : Solver) es. solving_of es h.declarations) (solved cx) n (asked_of q)
+        → IsRefusedAlone solver_by_view (solved cx) n (asked_of q)
     pub left : a ≡ Ok Open → LeftOpen n q
 
   module _ (alone : RefutationsHaveVariablesAlone) (n : ℕ) (q : Question) (a : AsksRefutation d c n q) where

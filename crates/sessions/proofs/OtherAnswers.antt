@@ -28,11 +28,8 @@ use Rattle.text_definitions.specs.Declarations.{Declarations, Question}
 use Rattle.view_lowering.specs.Plain.{unbound_reference, unbound_references}
 use Rattle.view_lowering.specs.QuestionVariables.{variable_kinds}
 use Rattle.view_lowering.specs.Questions.{IsQuestion}
-use Rattle.assembly_laws.specs.Facts.{FollowsByView}
-use Rattle.candidate_assembly.specs.Fitting.{solving_of}
-use Rattle.candidate_assembly.specs.Ready.{IsReady}
-use Rattle.candidate_assembly.specs.Solving.{Solving, solver_for, coinductive_for}
-use Rattle.candidate_assembly.specs.declared.solver.Solver.{Solver}
+use Rattle.candidate_assembly.specs.Solving.{Solving}
+use Rattle.candidate_assembly.specs.SolverMeaning.{solver_by_view}
 use Rattle.sessions.specs.Answers.{IsRightOf}
 use Rattle.sessions.specs.Decided.{IsAnsweredRightly}
 use Rattle.sessions.specs.DecidedAnswers.{OtherAnswersAreRight}
@@ -111,7 +108,7 @@ module _ (d : Declarations) (text : IsOfText d) (c : ℕ) (s : Solving) (of : Is
   answered = decided-are-answered d text c s of E r formed depth single
 
   -- the table refuses no definite yes
-  pub refused-unproved : IsRefusedGoal solver_for (λ s. FollowsByView s.view) coinductive_for (λ (h : Solver) es. IsReady es h.declarations) (λ (h : Solver) es. solving_of es h.declarations) s depth ks goal
+  pub refused-unproved : IsRefusedGoal solver_by_view s depth ks goal
       → HasProof V own (erased_reference r) → ⊥
   refused-unproved h proof = by h.0 h.2 (answered.found h.0 h.1)
     where
@@ -127,7 +124,7 @@ module _ (d : Declarations) (text : IsOfText d) (c : ℕ) (s : Solving) (of : Is
   goal-fixed : EachLabel IsFixed goal.predicate
   goal-fixed = (λ o. absurd (false-true o), made-labels is_fixed terms r.args asked-fixed, tt)
 
-  pub never-unsettled : IsUnsettledGoal solver_for (λ s. FollowsByView s.view) coinductive_for (λ (h : Solver) es. IsReady es h.declarations) (λ (h : Solver) es. solving_of es h.declarations) s depth goal → ⊥
+  pub never-unsettled : IsUnsettledGoal solver_by_view s depth goal → ⊥
   never-unsettled (inl h) = answered.plainly h
   never-unsettled (inr (inl h)) = by (answered.found (Some h.0) h.1)
     where
@@ -156,11 +153,11 @@ module _ (d : Declarations) (text : IsOfText d) (n : ℕ) (q : Question) (is : I
       subst (λ F. HasProof (view_in d q.asker) F (erased_reference r)) (sym (clauses-are d text n q is s of depth decided))
       (subst (λ x. HasProof (view_in d q.asker) (map erased_reference q.clauses) x) (sym (asked-is d text n q is s of depth decided)) p)
 
-  unproved : IsRefusedGoal solver_for (λ s. FollowsByView s.view) coinductive_for (λ (h : Solver) es. IsReady es h.declarations) (λ (h : Solver) es. solving_of es h.declarations) s depth ks (goal_asking s.view q)
+  unproved : IsRefusedGoal solver_by_view s depth ks (goal_asking s.view q)
       → HasProof (view_in d q.asker) (map erased_reference q.clauses) (erased_reference q.asked) → ⊥
   unproved h p = refused-unproved d text q.asker s of E r (formed-so d text n q is s of depth decided) ks depth (single d text n q is s of depth decided) h (proof-there p)
 
-  never : IsUnsettledGoal solver_for (λ s. FollowsByView s.view) coinductive_for (λ (h : Solver) es. IsReady es h.declarations) (λ (h : Solver) es. solving_of es h.declarations) s depth (goal_asking s.view q) → ⊥
+  never : IsUnsettledGoal solver_by_view s depth (goal_asking s.view q) → ⊥
   never h = never-unsettled d text q.asker s of E r (formed-so d text n q is s of depth decided) ks depth (single d text n q is s of depth decided) h
 
 pub other-answers-are-right : OtherAnswersAreRight

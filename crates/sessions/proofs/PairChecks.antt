@@ -36,11 +36,9 @@ use Rattle.root_goals.specs.declared.context.SolverCx.{SolverCx}
 use Rattle.root_goals.specs.Contexts.{entries_of}
 use Rattle.root_goals.specs.Evaluations.{IsFound}
 use Rattle.root_goals.specs.Searching.{solver_meaning}
-use Rattle.assembly_laws.specs.Facts.{FollowsByView}
 use Rattle.candidate_assembly.specs.declared.solver.Solver.{Solver}
-use Rattle.candidate_assembly.specs.Fitting.{solving_of}
 use Rattle.candidate_assembly.specs.Ready.{IsReady}
-use Rattle.candidate_assembly.specs.Solving.{Solving, solver_for, coinductive_for, meaning_for}
+use Rattle.candidate_assembly.specs.Solving.{Solving, solver_for, meaning_for}
 use Rattle.overlap_check.specs.Goals.{HasGoals, unknown_kinds}
 use Rattle.overlap_check.specs.Headers.{AreApart, IsIntersection, IsSolved, IsPosed, IsOfTable, IsWithoutVariables, resolved_reference, goals_over}
 use Rattle.overlap_check.specs.Partners.{IsPairAt, NoPairAt}
@@ -55,6 +53,7 @@ use Rattle.overlap_check.proofs.Judged.{found-in, found-well}
 use Rattle.overlap_check.proofs.Verdicts.{passes, refuses}
 use Rattle.overlap_check.proofs.Written.{each-in}
 use Rattle.text_definitions.specs.Declarations.{Declarations}
+use Rattle.candidate_assembly.specs.SolverMeaning.{solver_by_view}
 use Rattle.sessions.specs.Asking.{IsLeftOpen}
 use Rattle.sessions.specs.Checking.{IsPairOf, HaveOwnNumbers, AreApartAt, IsFoundAt, ArePassedAt, IsJudgedAt, ReadyAreWritten, rules_in, solving_in}
 use Rattle.sessions.specs.Impossible as Impossible
@@ -282,7 +281,7 @@ module _ (dd : Declarations) (c depth : ℕ) (cx : SolverCx Solver) (graph : Sea
     -- the search of a context that solves by the same declarations, and whose terms these are
     module _ (open_law : OpenPairGoalsArePossible) (law_old : Lawful (entries_of cx)) (w : Solving) (same : w ≡ solving_in cx) where
       abbrev m : Search.Meaning (SolverCx Solver) InputId (Option ResponseId) GoalFrame
-      m = solver_meaning solver_for (λ z. FollowsByView z.view) coinductive_for (λ (h : Solver) es. IsReady es h.declarations) (λ (h : Solver) es. solving_of es h.declarations)
+      m = solver_meaning solver_by_view
 
       -- the goal is left open
       abbrev pub OpenGoal : ℕ → GoalTrees → Type 0
@@ -290,7 +289,7 @@ module _ (dd : Declarations) (c depth : ℕ) (cx : SolverCx Solver) (graph : Sea
 
       abbrev OpenReference : Solving → ℕ → Reference → Type 0
       OpenReference v n r =
-          IsLeftOpen solver_for (λ z. FollowsByView z.view) coinductive_for (λ (h : Solver) es. IsReady es h.declarations) (λ (h : Solver) es. solving_of es h.declarations) v n r
+          IsLeftOpen solver_by_view v n r
 
       abbrev ready : IsReady (entries_of cx) cx.handler.declarations
       ready = s.rest.ready.handler

@@ -4,7 +4,7 @@ use Rattle.type_terms.specs.Terms.{Entry, Keeps}
 use Rattle.search_graph.specs.Cache.{KnownResult}
 use Rattle.search_graph.specs.SearchState.{SearchState}
 use Rattle.search_graph.proofs.Graphs.{Keeps-refl, Keeps-trans}
-use Rattle.infer_table.specs.Canonical.{CanonicalForm, GoalTrees}
+use Rattle.infer_table.specs.Canonical.{GoalTrees}
 use Rattle.infer_table.specs.Certainties.{is_certain}
 use Rattle.infer_table.specs.Content.{Table, content, Ready}
 use Rattle.infer_table.specs.Goals.{GoalHeld, goal_trees}
@@ -17,12 +17,10 @@ use Rattle.infer_table.specs.Unification.{TableTrees}
 use Rattle.infer_table.specs.WithoutCanonical.{HaveNoCanonical}
 use Rattle.infer_table.specs.declared.certainty.Certainty.{Certainty}
 use Rattle.infer_table.specs.declared.certainty.Certainty.TheVariants.{Yes, Maybe}
-use Rattle.infer_table.specs.declared.certainty.TypingMode.{TypingMode}
 use Rattle.infer_table.specs.declared.goal.Goal.{Goal}
 use Rattle.infer_table.proofs.Numbers.{goal-trees-later}
 use Rattle.infer_table.proofs.WithoutCanonical.{resolving-keeps-out}
 use Rattle.evaluation.specs.Content.{Fact}
-use Rattle.evaluation.specs.Handler.{Handled}
 use Rattle.evaluation.specs.Proof as Lists
 use Rattle.evaluation.specs.TableAnswers.{has_values}
 use Rattle.evaluation.specs.Tables.{frame_tables}
@@ -35,6 +33,7 @@ use Rattle.root_goals.specs.Contexts.{entries_of}
 use Rattle.root_goals.specs.Roots.{fact_under, IsProved}
 use Rattle.root_goals.specs.Shortages.{RootRunsOut, form, answer}
 use Rattle.root_goals.specs.declared.context.SolverCx.{SolverCx}
+use Rattle.goal_frames.specs.Meanings.{HandlerMeaning}
 use Rattle.sessions.specs.Settling.{m, HasAsked, IsProvedBy, RunsOut, SomeAskingRunsOut}
 
 -- ---- answers that are no definite yes
@@ -79,10 +78,9 @@ narrows-refused old new t u k r e s h = subst (Solves s) (same-content old new t
 pub clean-refused : (old new : List Entry) (t u : Table) → Keeps old new → Ready old t → u ≡ t → HaveNoCanonical (content old t.values) → HaveNoCanonical (content new u.values)
 clean-refused old new t u k r e h = subst HaveNoCanonical (sym (same-content old new t u k r e)) h
 
-module _ {World : Type 0} (handled : World → TypingMode → CanonicalForm → Handled frame_tables) (Rule : World → Fact → List Fact → Type 0) (coinductive : World → Fact → Bool)
-    {Handler : Type 0} (ready : Handler → List Entry → Type 0) (meaning_of : Handler → List Entry → World) where
+module _ {Handler : Type 0} (handler : HandlerMeaning Handler) where
   abbrev Asked : SearchState → List (KnownResult InputId (Option ResponseId)) → SolverCx Handler → Table → SearchState → List (KnownResult InputId (Option ResponseId)) → SolverCx Handler → Table → Type 0
-  Asked = HasAsked handled Rule coinductive ready meaning_of
+  Asked = HasAsked handler
 
   -- ---- nothing asked, and one run after the other
   pub asked-nothing : (g : SearchState) (ks : List (KnownResult InputId (Option ResponseId))) (c : SolverCx Handler) (t : Table) → Asked g ks c t g ks c t
@@ -90,7 +88,7 @@ module _ {World : Type 0} (handled : World → TypingMode → CanonicalForm → 
     depth = refl;
     results = λ place x e. e;
     consistent = λ h. h;
-    keeps = Keeps-refl (m handled Rule coinductive ready meaning_of) c;
+    keeps = Keeps-refl (m handler) c;
     entries = λ i e h. h;
     grows = grows-refl t;
     narrows = λ s h. h;
@@ -103,7 +101,7 @@ module _ {World : Type 0} (handled : World → TypingMode → CanonicalForm → 
     depth = b.depth ∙ a.depth;
     results = λ place x i. b.results place x (a.results place x i);
     consistent = λ i. b.consistent (a.consistent i);
-    keeps = Keeps-trans (m handled Rule coinductive ready meaning_of) c d e a.keeps b.keeps;
+    keeps = Keeps-trans (m handler) c d e a.keeps b.keeps;
     entries = λ i x p. b.entries i x (a.entries i x p);
     grows = grows-trans t u v a.grows b.grows;
     narrows = λ s i. a.narrows s (b.narrows s i);
@@ -111,26 +109,26 @@ module _ {World : Type 0} (handled : World → TypingMode → CanonicalForm → 
   }
 
   -- ---- what is proved later is proved
-  pub proved-further : (w x : World) → x ≡ w → (f g : SearchState) (ks ls : List (KnownResult InputId (Option ResponseId))) (c d e : SolverCx Handler) (t u v : Table) (q : Goal) → GoalHeld (entries_of c) q
-      → Asked f ks c t g ls d u → IsProvedBy handled Rule coinductive ready meaning_of x d u e v q → IsProvedBy handled Rule coinductive ready meaning_of w c t e v q
+  pub proved-further : (w x : handler.goals.World) → x ≡ w → (f g : SearchState) (ks ls : List (KnownResult InputId (Option ResponseId))) (c d e : SolverCx Handler) (t u v : Table) (q : Goal) → GoalHeld (entries_of c) q
+      → Asked f ks c t g ls d u → IsProvedBy handler x d u e v q → IsProvedBy handler w c t e v q
   proved-further w x same f g ks ls c d e t u v q held a p = λ no clean s solves.
       let trees : goal_trees (entries_of d) q ≡ goal_trees (entries_of c) q = goal-trees-later (entries_of c) (entries_of d) a.entries q held in
-      subst (λ z. Lists.HasProof Fact (Rule z) (coinductive z) (fact_under s (goal_trees (entries_of c) q))) same
-      (subst (λ z. Lists.HasProof Fact (Rule x) (coinductive x) (fact_under s z)) trees
+      subst (λ z. Lists.HasProof Fact (handler.goals.Rule z) (handler.goals.coinductive z) (fact_under s (goal_trees (entries_of c) q))) same
+      (subst (λ z. Lists.HasProof Fact (handler.goals.Rule x) (handler.goals.coinductive x) (fact_under s z)) trees
       (p (a.clean no) (subst IsWithoutCanonical (sym trees) clean) s solves))
 
   -- ---- one asking
-  pub proved-once : (w : World) (c d : SolverCx Handler) (t u : Table) (q : Goal) → ((s : Assignment) → Solves s (content (entries_of d) u.values) → Solves s (content (entries_of c) t.values))
-      → IsProved (Rule w) (coinductive w) (entries_of c) t q → IsProvedBy handled Rule coinductive ready meaning_of w c t d u q
+  pub proved-once : (w : handler.goals.World) (c d : SolverCx Handler) (t u : Table) (q : Goal) → ((s : Assignment) → Solves s (content (entries_of d) u.values) → Solves s (content (entries_of c) t.values))
+      → IsProved (handler.goals.Rule w) (handler.goals.coinductive w) (entries_of c) t q → IsProvedBy handler w c t d u q
   proved-once w c d t u q narrows p = λ no clean s solves. p (resolving-keeps-out (content (entries_of c) t.values) (goal_trees (entries_of c) q) no clean) s (narrows s solves)
 
   -- ---- shortages
-  pub first-out : (g : SearchState) (ks : List (KnownResult InputId (Option ResponseId))) (c : SolverCx Handler) (t : Table) (q : Goal) → RunsOut handled Rule coinductive ready meaning_of c g t q
-      → SomeAskingRunsOut handled Rule coinductive ready meaning_of g ks c t q
+  pub first-out : (g : SearchState) (ks : List (KnownResult InputId (Option ResponseId))) (c : SolverCx Handler) (t : Table) (q : Goal) → RunsOut handler c g t q
+      → SomeAskingRunsOut handler g ks c t q
   first-out g ks c t q h = record { graph_then = g; known_then = ks; context_then = c; table_then = t; asked = asked-nothing g ks c t; runs_out = h }
 
   pub later-out : (f g : SearchState) (ks ls : List (KnownResult InputId (Option ResponseId))) (c d : SolverCx Handler) (t u : Table) (q : Goal) → Asked f ks c t g ls d u
-      → SomeAskingRunsOut handled Rule coinductive ready meaning_of g ls d u q → SomeAskingRunsOut handled Rule coinductive ready meaning_of f ks c t q
+      → SomeAskingRunsOut handler g ls d u q → SomeAskingRunsOut handler f ks c t q
   later-out f g ks ls c d t u q a h = record {
     graph_then = h.graph_then;
     known_then = h.known_then;

@@ -29,14 +29,15 @@ use Rattle.declarations.specs.Items.{Items, written}
 use Rattle.text_definitions.specs.Declarations as text
 use Rattle.text_definitions.specs.Text.{TextGives}
 use Rattle.assembly_laws.specs.DeclaredWell.{IsDeclaredWell, is_declared_well}
-use Rattle.assembly_laws.specs.Facts.{FollowsByView, clauses_of, reference_in}
+use Rattle.assembly_laws.specs.Facts.{clauses_of, reference_in}
 use Rattle.assembly_laws.specs.Meaning.{Meaning, SelfTypesBegin}
 use Rattle.assembly_laws.proofs.DeclaredWell.{tests-tell}
 use Rattle.assembly_laws.proofs.ErasedCandidates.{without_lifetimes}
 use Rattle.assembly_laws.proofs.Stack.{elaborated-all, elaborated-only}
 use Rattle.candidate_assembly.specs.Fitting.{solving_of}
-use Rattle.candidate_assembly.specs.Solving.{Solving, solver_for, coinductive_for}
-use Rattle.candidate_assembly.specs.SolverLaws.{solver-is-lawful, numbers-are-kept, worlds-are-kept, instances-are-goals, rules-are-of, kinds-are-of, outside-is-nowhere}
+use Rattle.candidate_assembly.specs.Solving.{Solving}
+use Rattle.candidate_assembly.specs.SolverMeaning.{goals_by_view}
+use Rattle.candidate_assembly.specs.SolverLaws.{goals-are-lawful}
 use Rattle.view_lowering.specs.Ready.{AreSeen, OfTexts}
 use Rattle.view_lowering.proofs.WellSeen.{texts-seen-well}
 use Rattle.root_goals.specs.Roots.{question_of, values_under}
@@ -73,7 +74,7 @@ meaning_in s = record { view = s.view; crate = s.crate; is_sound = is_declared_w
 
 programs : ArePrograms frame_tables (solver_programs applies_always same_answer meaning_in fits_in)
 programs =
-    handlers-are-programs solver_for (λ s. FollowsByView s.view) coinductive_for (λ s mode f. refl) solver-is-lawful instances-are-goals rules-are-of kinds-are-of numbers-are-kept worlds-are-kept outside-is-nowhere
+    handlers-are-programs goals_by_view goals-are-lawful
 
 -- some terms for unknowns; none stand in these questions
 some-terms : Assignment

@@ -17,17 +17,17 @@ use Rattle.goal_frames.specs.Programs.{Programs}
 use Rattle.goal_frames.specs.Searches.{Handles, Asked, meaning}
 use Rattle.declarations.specs.Elaboration.{elaborate}
 use Rattle.declarations.specs.Items.{Items, written}
-use Rattle.assembly_laws.specs.Facts.{FollowsByView}
 use Rattle.candidate_assembly.specs.Fitting.{solving_of}
-use Rattle.candidate_assembly.specs.Solving.{Solving, solver_for, coinductive_for}
+use Rattle.candidate_assembly.specs.Solving.{Solving}
 use Rattle.solver_exactness.specs.SolverAnswers.{TellsPossible}
+use Rattle.candidate_assembly.specs.SolverMeaning.{goals_by_view}
 use Rattle.sessions.specs.Fitting.{sorts_in}
 use Rattle.sessions.specs.Goals.{goal_of, IsFormedQuestion}
 use Rattle.sessions.specs.Questions.{IsFormedAsWritten}
 
 -- the solver's goals as programs
 abbrev pub solver_goals : Programs frame_tables
-solver_goals = programs_of solver_for (λ s. FollowsByView s.view) coinductive_for
+solver_goals = programs_of goals_by_view
 
 -- the reference has a proof, and the answer is a definite yes; or it has none, and the answer is a refusal
 abbrev pub IsRightOf : World → List Reference → Reference → Option AnswerTrees → Type 0

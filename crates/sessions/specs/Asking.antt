@@ -1,9 +1,8 @@
 -- Questions as they are asked in coherence: their references alone, with unknowns for their variables.
-use Rattle.std.specs.Prelude.{◌≡◌, ◌⊎◌, ◌+◌, ℕ, Bool, List, [], Option, Some, None}
+use Rattle.std.specs.Prelude.{◌≡◌, ◌⊎◌, ◌+◌, ℕ, [], Option, Some, None}
 use Rattle.model.specs.Label.{of_trait, predicate}
 use Rattle.model.specs.Trees.{none, tree}
 use Rattle.model.specs.Worlds.{Reference}
-use Rattle.type_terms.specs.Terms.{Entry}
 use Rattle.infer_table.specs.Canonical.{GoalTrees, CanonicalForm, canonical_form}
 use Rattle.infer_table.specs.Responses.{AnswerTrees}
 use Rattle.infer_table.specs.Solutions.{Assignment, IsSorted}
@@ -11,13 +10,13 @@ use Rattle.infer_table.specs.Unification.{TableTrees}
 use Rattle.infer_table.specs.declared.certainty.TypingMode.{TypingMode}
 use Rattle.infer_table.specs.declared.certainty.TypingMode.TheVariants.{Coherence}
 use Rattle.evaluation.specs.Handler.{Handled}
-use Rattle.evaluation.specs.Content.{Fact}
 use Rattle.evaluation.specs.Tables.{frame_tables}
 use Rattle.search_graph.specs.Plain.{IsNotPlain}
 use Rattle.root_goals.specs.Contexts.{Asked}
 use Rattle.root_goals.specs.Evaluations.{IsFound}
 use Rattle.root_goals.specs.Roots.{fact_under, left_by}
 use Rattle.root_goals.specs.Searching.{solver_meaning}
+use Rattle.goal_frames.specs.Meanings.{HandlerMeaning}
 
 -- ---- goals
 -- A reference as a goal without where-clauses.
@@ -34,18 +33,17 @@ HasNoProof handled g =
 abbrev pub asked_alone : Reference → Asked
 asked_alone r = (Coherence, canonical_form (goal_alone r))
 
-module _ {World Handler : Type 0} (handled : World → TypingMode → CanonicalForm → Handled frame_tables) (Rule : World → Fact → List Fact → Type 0) (coinductive : World → Fact → Bool)
-    (is_ready : Handler → List Entry → Type 0) (meaning_of : Handler → List Entry → World) where
+module _ {Handler : Type 0} (handler : HandlerMeaning Handler) where
   -- The search gives the reference an answer that is no refusal, or plain recursion has none within the depth.
-  abbrev pub IsLeftOpen : World → ℕ → Reference → Type 0
+  abbrev pub IsLeftOpen : handler.goals.World → ℕ → Reference → Type 0
   IsLeftOpen w depth r =
-      let m = solver_meaning handled Rule coinductive is_ready meaning_of in
+      let m = solver_meaning handler in
       ((a : AnswerTrees) × IsFound m w depth (asked_alone r) (Some a)) ⊎ IsNotPlain m w (depth + 1) (asked_alone r)
 
   -- The search refuses the reference, or gives it an answer that a table in which no unknown has a value refuses.
-  pub record IsRefusedAlone (w : World) (depth : ℕ) (r : Reference) : Type 0 where
+  pub record IsRefusedAlone (w : handler.goals.World) (depth : ℕ) (r : Reference) : Type 0 where
     pub table : TableTrees
     pub no_values : table.bindings ≡ []
     pub answer : Option AnswerTrees
-    pub found : IsFound (solver_meaning handled Rule coinductive is_ready meaning_of) w depth (asked_alone r) answer
+    pub found : IsFound (solver_meaning handler) w depth (asked_alone r) answer
     pub refused : left_by table (goal_alone r) answer ≡ None

@@ -1,5 +1,5 @@
 -- References that are asked alone, in coherence and without where-clauses.
-use Rattle.std.specs.Prelude.{◌≡◌, ◌⊎◌, Bool, List, Some, Result, Err, IsOk}
+use Rattle.std.specs.Prelude.{◌≡◌, ◌⊎◌, List, Some, Result, Err, IsOk}
 use Rattle.model.specs.Label.{of_trait, predicate}
 use Rattle.model.specs.Trees.{none, tree}
 use Rattle.model.specs.Worlds.{Reference}
@@ -16,7 +16,6 @@ use Rattle.infer_table.specs.declared.certainty.TypingMode.{TypingMode}
 use Rattle.infer_table.specs.declared.certainty.TypingMode.TheVariants.{Coherence}
 use Rattle.declarations.specs.Items.{reference_in}
 use Rattle.overlap_check.specs.Headers.{IsOfTable}
-use Rattle.evaluation.specs.Content.{Fact}
 use Rattle.evaluation.specs.Handler.{Handled}
 use Rattle.evaluation.specs.Tables.{frame_tables}
 use Rattle.search_graph.specs.SearchState.{SearchState}
@@ -30,6 +29,7 @@ use Rattle.root_goals.specs.Results.{IsNotPlainWithin}
 use Rattle.root_goals.specs.Roots.{fact_under}
 use Rattle.root_goals.specs.Searching.{solver_meaning, world_of}
 use Rattle.root_goals.specs.Shortages.{RootRunsOut}
+use Rattle.goal_frames.specs.Meanings.{HandlerMeaning}
 
 -- The reference as a goal without where-clauses.
 abbrev pub alone : Reference → GoalTrees
@@ -54,22 +54,21 @@ HasNoProof handled es t r =
     IsOfKnown (variables_of t) (content es t.values) → IsOfTable es t r → let h = handled Coherence (asked_alone es t r).1 in
     (x : h.World) (s : Assignment) → Solves s (content es t.values) → h.Proves x (fact_under s (alone (reference_in es r))) → ⊥
 
-module _ {World Handler : Type 0} (handled : World → TypingMode → CanonicalForm → Handled frame_tables) (meaning_of : Handler → List Entry → World) where
+module _ {Handler : Type 0} (handler : HandlerMeaning Handler) where
   -- So it is by the rules of a context's handler.
   abbrev pub IsImpossible : SolverCx Handler → Table → TraitRef → Type 0
-  IsImpossible c t r = HasNoProof (handled (meaning_of c.handler (entries_of c))) (entries_of c) t r
+  IsImpossible c t r = HasNoProof (handler.goals.handled (handler.world c.handler (entries_of c))) (entries_of c) t r
 
-module _ {World Handler : Type 0} (handled : World → TypingMode → CanonicalForm → Handled frame_tables) (Rule : World → Fact → List Fact → Type 0) (coinductive : World → Fact → Bool)
-    (ready : Handler → List Entry → Type 0) (meaning_of : Handler → List Entry → World) where
+module _ {Handler : Type 0} (handler : HandlerMeaning Handler) where
   -- The search gives the goal this answer.
   abbrev pub IsAnswered : SolverCx Handler → SearchState → Table → TraitRef → AnswerTrees → Type 0
   IsAnswered c s t r a =
-      IsFound (solver_meaning handled Rule coinductive ready meaning_of) (world_of handled Rule coinductive ready meaning_of c) s.root_depth (asked_alone (entries_of c) t r) (Some a)
+      IsFound (solver_meaning handler) (world_of handler c) s.root_depth (asked_alone (entries_of c) t r) (Some a)
 
   -- It gives it an answer that is no refusal, or plain recursion within the graph's depth has none.
   abbrev pub IsLeftOpen : SolverCx Handler → SearchState → Table → TraitRef → Type 0
   IsLeftOpen c s t r =
-      ((a : AnswerTrees) × IsAnswered c s t r a) ⊎ IsNotPlainWithin (solver_meaning handled Rule coinductive ready meaning_of) c s (asked_alone (entries_of c) t r)
+      ((a : AnswerTrees) × IsAnswered c s t r a) ⊎ IsNotPlainWithin (solver_meaning handler) c s (asked_alone (entries_of c) t r)
 
   -- The table has no numbers for the goal's form, or for the answer that the search gives.
   abbrev pub GoalRunsOut : SolverCx Handler → SearchState → Table → TraitRef → Type 0

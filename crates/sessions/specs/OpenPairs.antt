@@ -15,11 +15,9 @@ use Rattle.overlap_check.specs.Questions.{IsRefuteAnswer, unrefuted}
 use Rattle.overlap_check.specs.declared.intersection.ImplIntersection.{ImplIntersection}
 use Rattle.text_definitions.specs.Declarations.{Declarations}
 use Rattle.view_lowering.specs.Plain.{plainly_seen_from}
-use Rattle.assembly_laws.specs.Facts.{FollowsByView}
-use Rattle.candidate_assembly.specs.declared.solver.Solver.{Solver}
 use Rattle.candidate_assembly.specs.Fitting.{solving_of}
 use Rattle.candidate_assembly.specs.Ready.{IsReady}
-use Rattle.candidate_assembly.specs.Solving.{solver_for, coinductive_for}
+use Rattle.candidate_assembly.specs.SolverMeaning.{solver_by_view}
 use Rattle.sessions.specs.Asking.{IsLeftOpen}
 use Rattle.sessions.specs.PairGoals.{as_resolved}
 use Rattle.sessions.specs.Promises.{view_in}
@@ -34,6 +32,6 @@ OpenPairGoalsArePossible =
     → (k j : ImplId) (w x : ImplDef) → IsPairAt old decls k j w x
     → (es : List Entry) (found : ImplIntersection) → IsIntersection old w x es found → IsSolved old w x es found
     → (r : TraitRef) → In r found.left.items ⊎ In r found.right.items
-    → IsLeftOpen solver_for (λ s. FollowsByView s.view) coinductive_for (λ (h : Solver) es. IsReady es h.declarations) (λ (h : Solver) es. solving_of es h.declarations) (solving_of old decls) depth
+    → IsLeftOpen solver_by_view (solving_of old decls) depth
     (as_resolved es found.table r)
     → IsRefuteAnswer depth (view_in d c) c (unknown_kinds found.table) (resolved_reference (content es found.table.values) (reference_in es r)) unrefuted

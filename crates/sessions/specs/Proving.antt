@@ -9,17 +9,15 @@ use Rattle.type_terms.specs.declared.kinds.GenericArgKind.{GenericArgKind}
 use Rattle.declarations.specs.Applied.{AreApplied}
 use Rattle.declarations.specs.Elaboration.{elaborate}
 use Rattle.declarations.specs.Items.{Items}
-use Rattle.infer_table.specs.Canonical.{GoalTrees, CanonicalForm, canonical_form}
+use Rattle.infer_table.specs.Canonical.{GoalTrees, canonical_form}
 use Rattle.infer_table.specs.Content.{Table, Ready, content}
 use Rattle.infer_table.specs.Inputs.{IsWithoutCanonical}
 use Rattle.infer_table.specs.Responses.{AnswerTrees}
 use Rattle.infer_table.specs.Solutions.{resolved}
 use Rattle.infer_table.specs.Unification.{table_trees}
-use Rattle.infer_table.specs.declared.certainty.TypingMode.{TypingMode}
 use Rattle.infer_table.specs.declared.certainty.TypingMode.TheVariants.{PostAnalysis}
 use Rattle.search_graph.specs.Plain.{IsNotPlain}
 use Rattle.evaluation.specs.Content.{Fact}
-use Rattle.evaluation.specs.Handler.{Handled}
 use Rattle.evaluation.specs.Proof as Lists
 use Rattle.evaluation.specs.Tables.{frame_tables}
 use Rattle.goal_frames.specs.Searches.{is_yes_answer}
@@ -28,17 +26,18 @@ use Rattle.root_goals.specs.Evaluations.{IsFound}
 use Rattle.root_goals.specs.Roots.{left_by}
 use Rattle.root_goals.specs.Searching.{solver_meaning}
 use Rattle.root_goals.specs.declared.context.SolverCx.{SolverCx}
-use Rattle.assembly_laws.specs.Facts.{FollowsByView}
 use Rattle.candidate_assembly.specs.declared.solver.Solver.{Solver}
 use Rattle.candidate_assembly.specs.Fitting.{solving_of}
 use Rattle.candidate_assembly.specs.Ready.{IsReady}
-use Rattle.candidate_assembly.specs.Solving.{Solving, solver_for, coinductive_for}
+use Rattle.candidate_assembly.specs.Solving.{Solving}
 use Rattle.text_definitions.specs.Declarations.{Question}
 use Rattle.text_definitions.specs.Names.{own_unknowns}
 use Rattle.view_lowering.specs.Plain.{unbound_reference, unbound_references}
 use Rattle.view_lowering.specs.QuestionVariables.{variable_kinds}
 use Rattle.view_lowering.specs.Questions.{IsLowered}
 use Rattle.view_lowering.specs.declared.question.LoweredQuestion.{LoweredQuestion}
+use Rattle.goal_frames.specs.Meanings.{HandlerMeaning}
+use Rattle.candidate_assembly.specs.SolverMeaning.{solver_by_view}
 use Rattle.sessions.specs.Goals.{goal_of}
 use Rattle.sessions.specs.Proved.{fact_with_values}
 use Rattle.sessions.specs.Tables.{table_of}
@@ -71,34 +70,33 @@ abbrev pub goal_asking : World → Question → GoalTrees
 goal_asking V q = goal_of (elaborate V (unbound_references q.clauses)) (unbound_reference q.asked)
 
 -- ---- answers
-module _ {World Handler : Type 0} (handled : World → TypingMode → CanonicalForm → Handled frame_tables) (Rule : World → Fact → List Fact → Type 0) (coinductive : World → Fact → Bool)
-    (is_ready : Handler → List Entry → Type 0) (meaning_of : Handler → List Entry → World) where
+module _ {Handler : Type 0} (handler : HandlerMeaning Handler) where
   -- Some table gives the unknowns these values; with them nothing bound stands in the goal's predicate, and the goal has a proof.
-  pub record HasValues (w : World) (g : GoalTrees) (us values : List Trees) : Type 0 where
+  pub record HasValues (w : handler.goals.World) (g : GoalTrees) (us values : List Trees) : Type 0 where
     pub entries : List Entry
     pub table : Table
     pub ready : Ready entries table
     pub are : values ≡ map (λ u. resolved (content entries table.values) u) us
     pub unbound : some_node is_bound_term (resolved (content entries table.values) g.predicate) ≡ false
-    pub proved : IsWithoutCanonical g → Lists.HasProof Fact (Rule w) (coinductive w) (fact_with_values (content entries table.values) g)
+    pub proved : IsWithoutCanonical g → Lists.HasProof Fact (handler.goals.Rule w) (handler.goals.coinductive w) (fact_with_values (content entries table.values) g)
 
   -- The search refuses the goal, or gives an answer that the table of unknowns of these kinds refuses.
-  abbrev pub IsRefusedGoal : World → ℕ → List Sort → GoalTrees → Type 0
+  abbrev pub IsRefusedGoal : handler.goals.World → ℕ → List Sort → GoalTrees → Type 0
   IsRefusedGoal w depth ks g =
-      let m = solver_meaning handled Rule coinductive is_ready meaning_of in
+      let m = solver_meaning handler in
       (a : Option AnswerTrees) × IsFound m w depth (asked_outside g) a × (left_by (table_trees [] (table_of ks)) g a ≡ None)
 
   -- It gives an answer that is no definite yes, or plain recursion has none within the depth; or some table gives values with which
   -- something bound stands in the goal's predicate.
-  abbrev pub IsUnsettledGoal : World → ℕ → GoalTrees → Type 0
+  abbrev pub IsUnsettledGoal : handler.goals.World → ℕ → GoalTrees → Type 0
   IsUnsettledGoal w depth g =
-      let m = solver_meaning handled Rule coinductive is_ready meaning_of in
+      let m = solver_meaning handler in
       IsNotPlain m w (depth + 1) (asked_outside g)
       ⊎ ((a : AnswerTrees) × IsFound m w depth (asked_outside g) (Some a) × (is_yes_answer frame_tables (Some a) ≡ false))
       ⊎ ((es : List Entry) × (t : Table) × Ready es t × (some_node is_bound_term (resolved (content es t.values) g.predicate) ≡ true))
 
   -- What an answer says of a goal that was asked over the table of unknowns of these kinds.
-  abbrev pub IsAnswered : World → ℕ → List Sort → GoalTrees → List Trees → List Entry → ProveAnswer → Type 0
+  abbrev pub IsAnswered : handler.goals.World → ℕ → List Sort → GoalTrees → List Trees → List Entry → ProveAnswer → Type 0
   IsAnswered w depth ks g us es (Yes values) = HasValues w g us (map (arg_trees es) values.items)
   IsAnswered w depth ks g us es Unproved = IsRefusedGoal w depth ks g
   IsAnswered w depth ks g us es Maybe = IsUnsettledGoal w depth g
@@ -121,7 +119,7 @@ ClausesApply d q = (es : List Entry) (l : LoweredQuestion) → IsLowered es q l 
 -- What the solver's answer says of a goal that was asked over the table of unknowns of these kinds.
 abbrev pub IsGoalAnswered : Solving → ℕ → List Sort → GoalTrees → List Trees → List Entry → ProveAnswer → Type 0
 IsGoalAnswered s depth ks g us es a =
-    IsAnswered solver_for (λ s. FollowsByView s.view) coinductive_for (λ (h : Solver) es. IsReady es h.declarations) (λ (h : Solver) es. solving_of es h.declarations) s depth ks g us es a
+    IsAnswered solver_by_view s depth ks g us es a
 
 -- What it says of a question.
 abbrev pub IsAnsweredBySolver : Solving → ℕ → Question → List Entry → ProveAnswer → Type 0

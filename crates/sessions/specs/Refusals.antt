@@ -12,11 +12,9 @@ use Rattle.root_goals.specs.declared.context.SolverCx.{SolverCx}
 use Rattle.root_goals.specs.Evaluations.{IsFound}
 use Rattle.root_goals.specs.Searching.{solver_meaning}
 use Rattle.text_definitions.specs.Declarations.{Declarations}
-use Rattle.assembly_laws.specs.Facts.{FollowsByView}
 use Rattle.candidate_assembly.specs.declared.solver.Solver.{Solver}
-use Rattle.candidate_assembly.specs.Fitting.{solving_of}
-use Rattle.candidate_assembly.specs.Ready.{IsReady}
-use Rattle.candidate_assembly.specs.Solving.{Solving, solver_for, coinductive_for}
+use Rattle.candidate_assembly.specs.Solving.{Solving}
+use Rattle.candidate_assembly.specs.SolverMeaning.{solver_by_view}
 use Rattle.sessions.specs.Asking.{IsLeftOpen, asked_alone}
 use Rattle.sessions.specs.Fitting.{sorts_in}
 use Rattle.sessions.specs.Goals.{HasFormedTerms}
@@ -26,12 +24,12 @@ use Rattle.sessions.specs.Subjects.{IsOfText}
 
 -- What the solver's goals mean to the search of a session.
 abbrev pub session_meaning : Meaning (SolverCx Solver) InputId (Option ResponseId) GoalFrame
-session_meaning = solver_meaning solver_for (λ s. FollowsByView s.view) coinductive_for (λ (h : Solver) es. IsReady es h.declarations) (λ (h : Solver) es. solving_of es h.declarations)
+session_meaning = solver_meaning solver_by_view
 
 -- Of this reference, asked alone in coherence within this depth: if it is left open, it is possible in crate c with view V, and if it is
 -- refused, it is not.
 pub record IsToldPossible (s : Solving) (depth : ℕ) (V : World) (c : ℕ) (r : Reference) : Type 0 where
-  pub left_open : IsLeftOpen solver_for (λ s. FollowsByView s.view) coinductive_for (λ (h : Solver) es. IsReady es h.declarations) (λ (h : Solver) es. solving_of es h.declarations) s depth r
+  pub left_open : IsLeftOpen solver_by_view s depth r
       → is_possible depth V c (erased_reference r) ≡ true
   pub refused : IsFound session_meaning s depth (asked_alone r) None → is_possible depth V c (erased_reference r) ≡ false
 

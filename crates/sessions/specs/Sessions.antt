@@ -9,18 +9,17 @@ use Rattle.view_lowering.specs.Seen.{rules_seen_from}
 use Rattle.view_lowering.specs.Ready.{AreSeen}
 use Rattle.root_goals.specs.declared.context.SolverCx.{SolverCx}
 use Rattle.root_goals.specs.Contexts.{entries_of}
-use Rattle.assembly_laws.specs.Facts.{FollowsByView}
 use Rattle.candidate_assembly.specs.declared.solver.Solver.{Solver}
 use Rattle.candidate_assembly.specs.Fitting.{solving_of}
-use Rattle.candidate_assembly.specs.Ready.{IsReady}
-use Rattle.candidate_assembly.specs.Solving.{Solving, solver_for, coinductive_for}
+use Rattle.candidate_assembly.specs.Solving.{Solving}
+use Rattle.candidate_assembly.specs.SolverMeaning.{solver_by_view}
 use Rattle.sessions.specs.Resting.{Cached, AreAtRest}
 use Rattle.sessions.specs.Subjects.{IsOfText}
 
 -- The solver's context, graph and cache are at rest.
 abbrev pub SolverRests : ℕ → SolverCx Solver → SearchState → Cached → Type 0
 SolverRests depth cx graph cache =
-    AreAtRest solver_for (λ s. FollowsByView s.view) coinductive_for (λ (h : Solver) es. IsReady es h.declarations) (λ (h : Solver) es. solving_of es h.declarations) depth cx graph cache
+    AreAtRest solver_by_view depth cx graph cache
 
 -- The solver's declarations are what crate c sees of the text, as they are written and as rules are read from them.
 pub record SolvesView (d : Declarations) (c : ℕ) (cx : SolverCx Solver) : Type 0 where

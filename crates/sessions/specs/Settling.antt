@@ -1,7 +1,6 @@
 -- A question's goal is asked until its answer is settled: what each asking needs and keeps, and what the outcomes say.
-use Rattle.std.specs.Prelude.{◌≡◌, ◌⊎◌, Bool, false, List, Option, Some, None}
-use Rattle.type_terms.specs.Terms.{Entry, Keeps}
-use Rattle.infer_table.specs.Canonical.{CanonicalForm}
+use Rattle.std.specs.Prelude.{◌≡◌, ◌⊎◌, false, List, Option, Some, None}
+use Rattle.type_terms.specs.Terms.{Keeps}
 use Rattle.infer_table.specs.Content.{Table, content, Ready, Grows}
 use Rattle.infer_table.specs.Goals.{GoalHeld, goal_trees}
 use Rattle.infer_table.specs.Inputs.{IsWithoutCanonical}
@@ -9,14 +8,12 @@ use Rattle.infer_table.specs.Responses.{AnswerTrees}
 use Rattle.infer_table.specs.Solutions.{Assignment, Solves}
 use Rattle.infer_table.specs.Unification.{table_trees}
 use Rattle.infer_table.specs.WithoutCanonical.{HaveNoCanonical}
-use Rattle.infer_table.specs.declared.certainty.TypingMode.{TypingMode}
 use Rattle.infer_table.specs.declared.certainty.TypingMode.TheVariants.{PostAnalysis}
 use Rattle.infer_table.specs.declared.goal.Goal.{Goal}
 use Rattle.search_graph.specs.Cache.{KnownResult, AreJustified, AreConsistent, KeepsResults}
 use Rattle.search_graph.specs.Meaning as Search
 use Rattle.search_graph.specs.SearchState.{SearchState}
 use Rattle.evaluation.specs.Content.{Fact}
-use Rattle.evaluation.specs.Handler.{Handled}
 use Rattle.evaluation.specs.Proof as Lists
 use Rattle.evaluation.specs.Tables.{frame_tables}
 use Rattle.goal_frames.specs.Searches.{is_yes_answer}
@@ -30,17 +27,17 @@ use Rattle.root_goals.specs.Roots.{goal_in, fact_under, left_by}
 use Rattle.root_goals.specs.Searching.{solver_meaning}
 use Rattle.root_goals.specs.Shortages.{RootRunsOut}
 use Rattle.root_goals.specs.declared.context.SolverCx.{SolverCx}
+use Rattle.goal_frames.specs.Meanings.{HandlerMeaning}
 
-module _ {World : Type 0} (handled : World → TypingMode → CanonicalForm → Handled frame_tables) (Rule : World → Fact → List Fact → Type 0) (coinductive : World → Fact → Bool)
-    {Handler : Type 0} (is_ready : Handler → List Entry → Type 0) (meaning_of : Handler → List Entry → World) where
+module _ {Handler : Type 0} (handler : HandlerMeaning Handler) where
   abbrev pub m : Search.Meaning (SolverCx Handler) InputId (Option ResponseId) GoalFrame
-  m = solver_meaning handled Rule coinductive is_ready meaning_of
+  m = solver_meaning handler
 
   -- the goal can be asked in the table: no search runs, the cache is justified, and all handles are the context's
   pub record IsAskable (graph : SearchState) (ks : List (KnownResult InputId (Option ResponseId))) (c : SolverCx Handler) (t : Table) (g : Goal) : Type 0 where
     pub empty : graph.current_depth ≡ 0
     pub cache : AreJustified m c ks
-    pub ready : IsReady is_ready c
+    pub ready : IsReady handler.IsReady c
     pub table : Ready (entries_of c) t
     pub goal : GoalHeld (entries_of c) g
 
@@ -58,10 +55,10 @@ module _ {World : Type 0} (handled : World → TypingMode → CanonicalForm → 
     pub clean : HaveNoCanonical (content (entries_of c) t.values) → HaveNoCanonical (content (entries_of d) u.values)
 
   -- The goal of a table, both without canonical variables, has a proof at each solution of the table that is left.
-  abbrev pub IsProvedBy : World → SolverCx Handler → Table → SolverCx Handler → Table → Goal → Type 0
+  abbrev pub IsProvedBy : handler.goals.World → SolverCx Handler → Table → SolverCx Handler → Table → Goal → Type 0
   IsProvedBy w c t d u g =
       HaveNoCanonical (content (entries_of c) t.values) → IsWithoutCanonical (goal_trees (entries_of c) g)
-      → (s : Assignment) → Solves s (content (entries_of d) u.values) → Lists.HasProof Fact (Rule w) (coinductive w) (fact_under s (goal_trees (entries_of c) g))
+      → (s : Assignment) → Solves s (content (entries_of d) u.values) → Lists.HasProof Fact (handler.goals.Rule w) (handler.goals.coinductive w) (fact_under s (goal_trees (entries_of c) g))
 
   -- The search of a graph with this depth refuses the goal, or gives an answer that the table refuses.
   abbrev pub IsRefused : SolverCx Handler → SearchState → Table → Goal → Type 0

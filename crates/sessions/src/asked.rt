@@ -14,10 +14,10 @@ use workspace::Workspace;
 
 /// A context that has grown means what it meant, and all stays at rest in it. It grows where its interner does.
 pub(crate) fn rest_laws<H: GoalHandler>()
-    ensures rest { (depth : _) (c d : _) (s : _) (ks : _) → AreAtRest H.handled H.Rule H.coinductive H.ready H.meaning depth c s ks → Advances H.ready c d
-        → AreAtRest H.handled H.Rule H.coinductive H.ready H.meaning depth d s ks }
-    ensures meaning { (c d : _) → IsReady H.ready c → Advances H.ready c d → H.meaning d.handler d.interner.entries ≡ H.meaning c.handler c.interner.entries }
-    ensures interner { (c d : _) → IsReady H.ready c → InternerGrows c d → Advances H.ready c d }
+    ensures rest { (depth : _) (c d : _) (s : _) (ks : _) → AreAtRest H.meaning depth c s ks → Advances H.meaning.IsReady c d
+        → AreAtRest H.meaning depth d s ks }
+    ensures meaning { (c d : _) → IsReady H.meaning.IsReady c → Advances H.meaning.IsReady c d → H.meaning.world d.handler d.interner.entries ≡ H.meaning.world c.handler c.interner.entries }
+    ensures interner { (c d : _) → IsReady H.meaning.IsReady c → InternerGrows c d → Advances H.meaning.IsReady c d }
 {
     context_laws::<H>();
 }
@@ -28,9 +28,9 @@ pub(crate) fn lower_in<H: GoalHandler>(
     workspace: &Workspace,
     number: u32,
 ) -> Result<LoweredQuestion, Fault>
-    requires ready { IsReady H.ready cx.old }
+    requires ready { IsReady H.meaning.IsReady cx.old }
     requires question { (q : Question) × IsQuestion workspace.now number q }
-    ensures advances { Advances H.ready cx.old cx.new }
+    ensures advances { Advances H.meaning.IsReady cx.old cx.new }
     ensures lowered { (q : Question) → IsQuestion workspace.now number q → IfOk result (λ lowered. IsLowered cx.new.interner.entries q lowered) }
 {
     rest_laws::<H>();

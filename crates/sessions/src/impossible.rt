@@ -36,29 +36,29 @@ pub fn is_impossible<H: GoalHandler>(
     trait_ref: TraitRef,
 ) -> Result<bool, Fault>
     requires empty { graph.old.current_depth ≡ 0 }
-    requires cache { AreJustified (solver_meaning H.handled H.Rule H.coinductive H.ready H.meaning) cx.old cache.old }
-    requires ready { IsReady H.ready cx.old }
+    requires cache { AreJustified (solver_meaning H.meaning) cx.old cache.old }
+    requires ready { IsReady H.meaning.IsReady cx.old }
     requires table { Ready cx.old.interner.entries table.old }
     requires held { ReferenceHeld cx.old.interner.entries trait_ref }
 
     // After a fault too.
     ensures empty { graph.new.current_depth ≡ 0 }
     ensures depth { graph.new.root_depth ≡ graph.old.root_depth }
-    ensures cache { AreJustified (solver_meaning H.handled H.Rule H.coinductive H.ready H.meaning) cx.new cache.new }
+    ensures cache { AreJustified (solver_meaning H.meaning) cx.new cache.new }
     ensures consistent { AreConsistent cache.old → AreConsistent cache.new }
     ensures results { KeepsResults cache.old cache.new }
-    ensures ready { IsReady H.ready cx.new }
-    ensures keeps { Search.Keeps (solver_meaning H.handled H.Rule H.coinductive H.ready H.meaning) cx.old cx.new }
+    ensures ready { IsReady H.meaning.IsReady cx.new }
+    ensures keeps { Search.Keeps (solver_meaning H.meaning) cx.old cx.new }
     ensures entries { Keeps cx.old.interner.entries cx.new.interner.entries }
     ensures same { table.new ≡ table.old }
 
     // What is refused has no proof at any solution of the table.
-    ensures impossible { IfOk result (λ refused. IsTrue refused → IsImpossible H.handled H.meaning cx.old table.old trait_ref) }
+    ensures impossible { IfOk result (λ refused. IsTrue refused → IsImpossible H.meaning cx.old table.old trait_ref) }
 
     // What is not has an answer of the search, or plain recursion has none within the depth.
-    ensures left_open { IfOk result (λ refused. refused ≡ false → IsLeftOpen H.handled H.Rule H.coinductive H.ready H.meaning cx.old graph.old table.old trait_ref) }
-    ensures full { result ≡ Err Fault.Full → IsFull H.handled H.Rule H.coinductive H.ready H.meaning cx.new
-        ⊎ GoalRunsOut H.handled H.Rule H.coinductive H.ready H.meaning cx.old graph.old table.old trait_ref }
+    ensures left_open { IfOk result (λ refused. refused ≡ false → IsLeftOpen H.meaning cx.old graph.old table.old trait_ref) }
+    ensures full { result ≡ Err Fault.Full → IsFull H.meaning cx.new
+        ⊎ GoalRunsOut H.meaning cx.old graph.old table.old trait_ref }
 {
     let evaluated = evaluate_alone(graph, cache, cx, table, trait_ref);
     is_refused(evaluated)
@@ -74,23 +74,23 @@ fn evaluate_alone<H: GoalHandler>(
     trait_ref: TraitRef,
 ) -> Result<GoalEvaluation, RootError>
     requires empty { graph.old.current_depth ≡ 0 }
-    requires cache { AreJustified (solver_meaning H.handled H.Rule H.coinductive H.ready H.meaning) cx.old cache.old }
-    requires ready { IsReady H.ready cx.old }
+    requires cache { AreJustified (solver_meaning H.meaning) cx.old cache.old }
+    requires ready { IsReady H.meaning.IsReady cx.old }
     requires table { Ready cx.old.interner.entries table.old }
     requires held { ReferenceHeld cx.old.interner.entries trait_ref }
     ensures empty { graph.new.current_depth ≡ 0 }
     ensures depth { graph.new.root_depth ≡ graph.old.root_depth }
-    ensures cache { AreJustified (solver_meaning H.handled H.Rule H.coinductive H.ready H.meaning) cx.new cache.new }
+    ensures cache { AreJustified (solver_meaning H.meaning) cx.new cache.new }
     ensures consistent { AreConsistent cache.old → AreConsistent cache.new }
     ensures results { KeepsResults cache.old cache.new }
-    ensures ready { IsReady H.ready cx.new }
-    ensures keeps { Search.Keeps (solver_meaning H.handled H.Rule H.coinductive H.ready H.meaning) cx.old cx.new }
+    ensures ready { IsReady H.meaning.IsReady cx.new }
+    ensures keeps { Search.Keeps (solver_meaning H.meaning) cx.old cx.new }
     ensures entries { Keeps cx.old.interner.entries cx.new.interner.entries }
     ensures same { table.new ≡ table.old }
-    ensures impossible { result ≡ Err RootError.NoSolution → IsImpossible H.handled H.meaning cx.old table.old trait_ref }
-    ensures left_open { IsNoRefusal result → IsLeftOpen H.handled H.Rule H.coinductive H.ready H.meaning cx.old graph.old table.old trait_ref }
-    ensures full { result ≡ Err (RootError.Fault Fault.Full) → IsFull H.handled H.Rule H.coinductive H.ready H.meaning cx.new
-        ⊎ GoalRunsOut H.handled H.Rule H.coinductive H.ready H.meaning cx.old graph.old table.old trait_ref }
+    ensures impossible { result ≡ Err RootError.NoSolution → IsImpossible H.meaning cx.old table.old trait_ref }
+    ensures left_open { IsNoRefusal result → IsLeftOpen H.meaning cx.old graph.old table.old trait_ref }
+    ensures full { result ≡ Err (RootError.Fault Fault.Full) → IsFull H.meaning cx.new
+        ⊎ GoalRunsOut H.meaning cx.old graph.old table.old trait_ref }
 {
     let goal = Goal {
         param_env: Vec::new(cx.alloc),

@@ -28,5 +28,5 @@ pub fn supertraits_prove_no_more()
 /// What has a proof at each solution of a table, as `ask_until_settled` says of a goal that it proves, has one with the values that the
 /// table has, in which each unknown without a value stands for itself.
 pub fn values_are_proved<H: GoalHandler>()
-    ensures { (w : H.Meaning) → ValuesAreProved (H.Rule w) (H.coinductive w) }
+    ensures { (w : H.meaning.goals.World) → ValuesAreProved (H.meaning.goals.Rule w) (H.meaning.goals.coinductive w) }
 {}

@@ -37,8 +37,8 @@ pub fn has_impossible_obligation<H: GoalHandler>(
     found: &mut ImplIntersection,
 ) -> Result<bool, Fault>
     requires empty { graph.old.current_depth ≡ 0 }
-    requires cache { AreJustified (solver_meaning H.handled H.Rule H.coinductive H.ready H.meaning) cx.old cache.old }
-    requires ready { IsReady H.ready cx.old }
+    requires cache { AreJustified (solver_meaning H.meaning) cx.old cache.old }
+    requires ready { IsReady H.meaning.IsReady cx.old }
     requires table { Ready cx.old.interner.entries found.old.table }
     requires left { AllHeld cx.old.interner.entries found.old.left.items }
     requires right { AllHeld cx.old.interner.entries found.old.right.items }
@@ -46,24 +46,24 @@ pub fn has_impossible_obligation<H: GoalHandler>(
     // After a fault too.
     ensures empty { graph.new.current_depth ≡ 0 }
     ensures depth { graph.new.root_depth ≡ graph.old.root_depth }
-    ensures cache { AreJustified (solver_meaning H.handled H.Rule H.coinductive H.ready H.meaning) cx.new cache.new }
+    ensures cache { AreJustified (solver_meaning H.meaning) cx.new cache.new }
     ensures consistent { AreConsistent cache.old → AreConsistent cache.new }
     ensures results { KeepsResults cache.old cache.new }
-    ensures ready { IsReady H.ready cx.new }
-    ensures keeps { Search.Keeps (solver_meaning H.handled H.Rule H.coinductive H.ready H.meaning) cx.old cx.new }
+    ensures ready { IsReady H.meaning.IsReady cx.new }
+    ensures keeps { Search.Keeps (solver_meaning H.meaning) cx.old cx.new }
     ensures entries { Keeps cx.old.interner.entries cx.new.interner.entries }
     ensures same { found.new ≡ found.old }
 
     // If one is impossible, it has no proof at any solution of the table.
     ensures impossible { IfOk result (λ refused. IsTrue refused
-        → (r : TraitRef) × (In r found.old.left.items ⊎ In r found.old.right.items) × IsImpossible H.handled H.meaning cx.old found.old.table r) }
+        → (r : TraitRef) × (In r found.old.left.items ⊎ In r found.old.right.items) × IsImpossible H.meaning cx.old found.old.table r) }
 
     // If none is, each has an answer of the search, or plain recursion has none within the depth.
     ensures left_open { IfOk result (λ refused. refused ≡ false
-        → Each (IsLeftOpen H.handled H.Rule H.coinductive H.ready H.meaning cx.old graph.old found.old.table) found.old.left.items
-        × Each (IsLeftOpen H.handled H.Rule H.coinductive H.ready H.meaning cx.old graph.old found.old.table) found.old.right.items) }
-    ensures full { result ≡ Err Fault.Full → IsFull H.handled H.Rule H.coinductive H.ready H.meaning cx.new
-        ⊎ ((r : TraitRef) × (In r found.old.left.items ⊎ In r found.old.right.items) × GoalRunsOut H.handled H.Rule H.coinductive H.ready H.meaning cx.old graph.old found.old.table r) }
+        → Each (IsLeftOpen H.meaning cx.old graph.old found.old.table) found.old.left.items
+        × Each (IsLeftOpen H.meaning cx.old graph.old found.old.table) found.old.right.items) }
+    ensures full { result ≡ Err Fault.Full → IsFull H.meaning cx.new
+        ⊎ ((r : TraitRef) × (In r found.old.left.items ⊎ In r found.old.right.items) × GoalRunsOut H.meaning cx.old graph.old found.old.table r) }
 {
     if some_is_impossible(graph, cache, cx, &mut found.table, &found.left)? {
         return Ok(true);
@@ -80,24 +80,24 @@ fn some_is_impossible<H: GoalHandler>(
     references: &[TraitRef],
 ) -> Result<bool, Fault>
     requires empty { graph.old.current_depth ≡ 0 }
-    requires cache { AreJustified (solver_meaning H.handled H.Rule H.coinductive H.ready H.meaning) cx.old cache.old }
-    requires ready { IsReady H.ready cx.old }
+    requires cache { AreJustified (solver_meaning H.meaning) cx.old cache.old }
+    requires ready { IsReady H.meaning.IsReady cx.old }
     requires table { Ready cx.old.interner.entries table.old }
     requires held { AllHeld cx.old.interner.entries references.now }
     ensures empty { graph.new.current_depth ≡ 0 }
     ensures depth { graph.new.root_depth ≡ graph.old.root_depth }
-    ensures cache { AreJustified (solver_meaning H.handled H.Rule H.coinductive H.ready H.meaning) cx.new cache.new }
+    ensures cache { AreJustified (solver_meaning H.meaning) cx.new cache.new }
     ensures consistent { AreConsistent cache.old → AreConsistent cache.new }
     ensures results { KeepsResults cache.old cache.new }
-    ensures ready { IsReady H.ready cx.new }
-    ensures keeps { Search.Keeps (solver_meaning H.handled H.Rule H.coinductive H.ready H.meaning) cx.old cx.new }
+    ensures ready { IsReady H.meaning.IsReady cx.new }
+    ensures keeps { Search.Keeps (solver_meaning H.meaning) cx.old cx.new }
     ensures entries { Keeps cx.old.interner.entries cx.new.interner.entries }
     ensures same { table.new ≡ table.old }
-    ensures impossible { IfOk result (λ refused. IsTrue refused → (r : TraitRef) × In r references.now × IsImpossible H.handled H.meaning cx.old table.old r) }
+    ensures impossible { IfOk result (λ refused. IsTrue refused → (r : TraitRef) × In r references.now × IsImpossible H.meaning cx.old table.old r) }
     ensures left_open { IfOk result (λ refused. refused ≡ false
-        → Each (IsLeftOpen H.handled H.Rule H.coinductive H.ready H.meaning cx.old graph.old table.old) references.now) }
-    ensures full { result ≡ Err Fault.Full → IsFull H.handled H.Rule H.coinductive H.ready H.meaning cx.new
-        ⊎ ((r : TraitRef) × In r references.now × GoalRunsOut H.handled H.Rule H.coinductive H.ready H.meaning cx.old graph.old table.old r) }
+        → Each (IsLeftOpen H.meaning cx.old graph.old table.old) references.now) }
+    ensures full { result ≡ Err Fault.Full → IsFull H.meaning cx.new
+        ⊎ ((r : TraitRef) × In r references.now × GoalRunsOut H.meaning cx.old graph.old table.old r) }
 {
     'references: for trait_ref in references {
         if is_impossible(graph, cache, cx, table, *trait_ref)? {

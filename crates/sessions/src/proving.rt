@@ -100,11 +100,11 @@ fn read_values_in<H: GoalHandler>(
     asked: TraitRef,
     unknowns: &[GenericArgKind],
 ) -> Result<ProveAnswer, Fault>
-    requires ready { IsReady H.ready cx.old }
+    requires ready { IsReady H.meaning.IsReady cx.old }
     requires table { Ready cx.old.interner.entries table.now }
     requires asked { Has cx.old.interner.entries args_lists asked.args.0 }
     requires unknowns { ArgsHeld cx.old.interner.entries unknowns.now }
-    ensures advances { Advances H.ready cx.old cx.new }
+    ensures advances { Advances H.meaning.IsReady cx.old cx.new }
     ensures held { IfOk result (AnswerHeld cx.new.interner.entries) }
     ensures read { IfOk result (AreReadOff cx.old.interner.entries table.now (trees_at cx.old.interner.entries asked.args.0) unknowns.now cx.new.interner.entries) }
 {
@@ -119,8 +119,8 @@ pub(crate) fn question_table_in<H: GoalHandler>(
     cx: &mut SolverCx<H>,
     unknowns: &[GenericArgKind],
 ) -> Result<InferCtxt, Fault>
-    requires { IsReady H.ready cx.old }
-    ensures advances { Advances H.ready cx.old cx.new }
+    requires { IsReady H.meaning.IsReady cx.old }
+    ensures advances { Advances H.meaning.IsReady cx.old cx.new }
     ensures ready { IfOk result (λ table. Ready cx.new.interner.entries table) }
     ensures is { IfOk result (λ table. table ≡ table_of (map arg_sort unknowns.now)) }
 {
@@ -141,16 +141,16 @@ fn ask_for<H: GoalHandler>(
     goal: &Goal,
     unknowns: &[GenericArgKind],
 ) -> Result<ProveAnswer, Fault>
-    requires rest { AreAtRest H.handled H.Rule H.coinductive H.ready H.meaning graph.old.root_depth cx.old graph.old cache.old }
+    requires rest { AreAtRest H.meaning graph.old.root_depth cx.old graph.old cache.old }
     requires ready { Ready cx.old.interner.entries table.old }
     requires table { table.old ≡ table_of (map arg_sort unknowns.now) }
     requires goal { GoalHeld cx.old.interner.entries goal.now }
     requires unknowns { ArgsHeld cx.old.interner.entries unknowns.now }
-    ensures rest { AreAtRest H.handled H.Rule H.coinductive H.ready H.meaning graph.old.root_depth cx.new graph.new cache.new }
-    ensures meaning { H.meaning cx.new.handler cx.new.interner.entries ≡ H.meaning cx.old.handler cx.old.interner.entries }
+    ensures rest { AreAtRest H.meaning graph.old.root_depth cx.new graph.new cache.new }
+    ensures meaning { H.meaning.world cx.new.handler cx.new.interner.entries ≡ H.meaning.world cx.old.handler cx.old.interner.entries }
     ensures keeps { Keeps cx.old.interner.entries cx.new.interner.entries }
     ensures held { IfOk result (AnswerHeld cx.new.interner.entries) }
-    ensures answer { IfOk result (IsAnswered H.handled H.Rule H.coinductive H.ready H.meaning (H.meaning cx.old.handler cx.old.interner.entries) graph.old.root_depth
+    ensures answer { IfOk result (IsAnswered H.meaning (H.meaning.world cx.old.handler cx.old.interner.entries) graph.old.root_depth
         (map arg_sort unknowns.now) (goal_trees cx.old.interner.entries goal.now) (map (arg_trees cx.old.interner.entries) unknowns.now) cx.new.interner.entries) }
 {
     rest_laws::<H>();

@@ -39,21 +39,21 @@ fn ask_in_coherence<H: GoalHandler>(
     table: &mut InferCtxt,
     asked: TraitRef,
 ) -> Result<RefuteAnswer, Fault>
-    requires rest { AreAtRest H.handled H.Rule H.coinductive H.ready H.meaning graph.old.root_depth cx.old graph.old cache.old }
+    requires rest { AreAtRest H.meaning graph.old.root_depth cx.old graph.old cache.old }
     requires table { Ready cx.old.interner.entries table.old }
     requires no_values { table.old.values ≡ [] }
     requires held { Has cx.old.interner.entries args_lists asked.args.0 }
-    ensures rest { AreAtRest H.handled H.Rule H.coinductive H.ready H.meaning graph.old.root_depth cx.new graph.new cache.new }
-    ensures meaning { H.meaning cx.new.handler cx.new.interner.entries ≡ H.meaning cx.old.handler cx.old.interner.entries }
+    ensures rest { AreAtRest H.meaning graph.old.root_depth cx.new graph.new cache.new }
+    ensures meaning { H.meaning.world cx.new.handler cx.new.interner.entries ≡ H.meaning.world cx.old.handler cx.old.interner.entries }
     ensures keeps { Keeps cx.old.interner.entries cx.new.interner.entries }
 
     // A reference that is refused has no proof, if it speaks of the table's variables alone.
     ensures no { result ≡ Ok RefuteAnswer.No → let r = reference_in cx.old.interner.entries asked in HasNoCanonical r.args → AreKnown (variables_of table.old) r.args
-        → HasNoProof (H.handled (H.meaning cx.old.handler cx.old.interner.entries)) (goal_alone r) }
-    ensures refused { result ≡ Ok RefuteAnswer.No → (let w = H.meaning cx.old.handler cx.old.interner.entries in
-        IsRefusedAlone H.handled H.Rule H.coinductive H.ready H.meaning w graph.old.root_depth (reference_in cx.old.interner.entries asked)) }
-    ensures open { result ≡ Ok RefuteAnswer.Open → (let w = H.meaning cx.old.handler cx.old.interner.entries in
-        IsLeftOpen H.handled H.Rule H.coinductive H.ready H.meaning w graph.old.root_depth (reference_in cx.old.interner.entries asked)) }
+        → HasNoProof (H.meaning.goals.handled (H.meaning.world cx.old.handler cx.old.interner.entries)) (goal_alone r) }
+    ensures refused { result ≡ Ok RefuteAnswer.No → (let w = H.meaning.world cx.old.handler cx.old.interner.entries in
+        IsRefusedAlone H.meaning w graph.old.root_depth (reference_in cx.old.interner.entries asked)) }
+    ensures open { result ≡ Ok RefuteAnswer.Open → (let w = H.meaning.world cx.old.handler cx.old.interner.entries in
+        IsLeftOpen H.meaning w graph.old.root_depth (reference_in cx.old.interner.entries asked)) }
 {
     let goal = Goal {
         param_env: Vec::new(cx.alloc),
@@ -84,17 +84,17 @@ fn refute_lowered<H: GoalHandler>(
     cx: &mut SolverCx<H>,
     lowered: &LoweredQuestion,
 ) -> Result<RefuteAnswer, Fault>
-    requires rest { AreAtRest H.handled H.Rule H.coinductive H.ready H.meaning graph.old.root_depth cx.old graph.old cache.old }
+    requires rest { AreAtRest H.meaning graph.old.root_depth cx.old graph.old cache.old }
     requires lowered { (q : Question) × IsLowered cx.old.interner.entries q lowered.now }
-    ensures rest { AreAtRest H.handled H.Rule H.coinductive H.ready H.meaning graph.old.root_depth cx.new graph.new cache.new }
-    ensures meaning { H.meaning cx.new.handler cx.new.interner.entries ≡ H.meaning cx.old.handler cx.old.interner.entries }
+    ensures rest { AreAtRest H.meaning graph.old.root_depth cx.new graph.new cache.new }
+    ensures meaning { H.meaning.world cx.new.handler cx.new.interner.entries ≡ H.meaning.world cx.old.handler cx.old.interner.entries }
     ensures keeps { Keeps cx.old.interner.entries cx.new.interner.entries }
     ensures no { result ≡ Ok RefuteAnswer.No → (q : Question) → IsLowered cx.old.interner.entries q lowered.now → HasVariablesAlone q
-        → HasNoProof (H.handled (H.meaning cx.old.handler cx.old.interner.entries)) (goal_alone (unbound_reference q.asked)) }
+        → HasNoProof (H.meaning.goals.handled (H.meaning.world cx.old.handler cx.old.interner.entries)) (goal_alone (unbound_reference q.asked)) }
     ensures refused { result ≡ Ok RefuteAnswer.No → (q : Question) → IsLowered cx.old.interner.entries q lowered.now
-        → IsRefusedAlone H.handled H.Rule H.coinductive H.ready H.meaning (H.meaning cx.old.handler cx.old.interner.entries) graph.old.root_depth (unbound_reference q.asked) }
+        → IsRefusedAlone H.meaning (H.meaning.world cx.old.handler cx.old.interner.entries) graph.old.root_depth (unbound_reference q.asked) }
     ensures open { result ≡ Ok RefuteAnswer.Open → (q : Question) → IsLowered cx.old.interner.entries q lowered.now
-        → IsLeftOpen H.handled H.Rule H.coinductive H.ready H.meaning (H.meaning cx.old.handler cx.old.interner.entries) graph.old.root_depth (unbound_reference q.asked) }
+        → IsLeftOpen H.meaning (H.meaning.world cx.old.handler cx.old.interner.entries) graph.old.root_depth (unbound_reference q.asked) }
 {
     rest_laws::<H>();
     let mut table = question_table_in(cx, &lowered.unknowns)?;
@@ -111,20 +111,20 @@ pub(crate) fn refute_question<H: GoalHandler>(
     workspace: &Workspace,
     number: u32,
 ) -> Result<RefuteAnswer, Fault>
-    requires rest { AreAtRest H.handled H.Rule H.coinductive H.ready H.meaning graph.old.root_depth cx.old graph.old cache.old }
+    requires rest { AreAtRest H.meaning graph.old.root_depth cx.old graph.old cache.old }
     requires question { (q : Question) × IsQuestion workspace.now number q }
-    ensures rest { AreAtRest H.handled H.Rule H.coinductive H.ready H.meaning graph.old.root_depth cx.new graph.new cache.new }
-    ensures meaning { H.meaning cx.new.handler cx.new.interner.entries ≡ H.meaning cx.old.handler cx.old.interner.entries }
+    ensures rest { AreAtRest H.meaning graph.old.root_depth cx.new graph.new cache.new }
+    ensures meaning { H.meaning.world cx.new.handler cx.new.interner.entries ≡ H.meaning.world cx.old.handler cx.old.interner.entries }
     ensures keeps { Keeps cx.old.interner.entries cx.new.interner.entries }
 
     // The reference is made as an interner's terms are.
     ensures made { OnOk result ((q : Question) → IsQuestion workspace.now number q → is_made is_in_range terms (unbound_reference q.asked).args ≡ true) }
     ensures no { result ≡ Ok RefuteAnswer.No → (q : Question) → IsQuestion workspace.now number q → HasVariablesAlone q
-        → HasNoProof (H.handled (H.meaning cx.old.handler cx.old.interner.entries)) (goal_alone (unbound_reference q.asked)) }
+        → HasNoProof (H.meaning.goals.handled (H.meaning.world cx.old.handler cx.old.interner.entries)) (goal_alone (unbound_reference q.asked)) }
     ensures refused { result ≡ Ok RefuteAnswer.No → (q : Question) → IsQuestion workspace.now number q
-        → IsRefusedAlone H.handled H.Rule H.coinductive H.ready H.meaning (H.meaning cx.old.handler cx.old.interner.entries) graph.old.root_depth (unbound_reference q.asked) }
+        → IsRefusedAlone H.meaning (H.meaning.world cx.old.handler cx.old.interner.entries) graph.old.root_depth (unbound_reference q.asked) }
     ensures open { result ≡ Ok RefuteAnswer.Open → (q : Question) → IsQuestion workspace.now number q
-        → IsLeftOpen H.handled H.Rule H.coinductive H.ready H.meaning (H.meaning cx.old.handler cx.old.interner.entries) graph.old.root_depth (unbound_reference q.asked) }
+        → IsLeftOpen H.meaning (H.meaning.world cx.old.handler cx.old.interner.entries) graph.old.root_depth (unbound_reference q.asked) }
 {
     rest_laws::<H>();
     let lowered = lower_in(cx, workspace, number)?;

@@ -61,16 +61,16 @@ fn ask_once<H: GoalHandler>(
     table: &mut InferCtxt,
     goal: &Goal,
 ) -> Result<Asking, Fault>
-    requires { IsAskable H.handled H.Rule H.coinductive H.ready H.meaning graph.old cache.old cx.old table.old goal.now }
-    ensures again { IsAskable H.handled H.Rule H.coinductive H.ready H.meaning graph.new cache.new cx.new table.new goal.now }
-    ensures asked { HasAsked H.handled H.Rule H.coinductive H.ready H.meaning graph.old cache.old cx.old table.old graph.new cache.new cx.new table.new }
+    requires { IsAskable H.meaning graph.old cache.old cx.old table.old goal.now }
+    ensures again { IsAskable H.meaning graph.new cache.new cx.new table.new goal.now }
+    ensures asked { HasAsked H.meaning graph.old cache.old cx.old table.old graph.new cache.new cx.new table.new }
     ensures holds { result ≡ Ok Asking.Holds
-        → IsProvedBy H.handled H.Rule H.coinductive H.ready H.meaning (H.meaning cx.old.handler cx.old.interner.entries) cx.old table.old cx.new table.new goal.now }
-    ensures changes { result ≡ Ok Asking.Changes → IsUnsettled H.handled H.Rule H.coinductive H.ready H.meaning cx.old graph.old table.old goal.now }
-    ensures unsure { result ≡ Ok Asking.IsUnsure → IsUnsettled H.handled H.Rule H.coinductive H.ready H.meaning cx.old graph.old table.old goal.now }
-    ensures refused { result ≡ Ok Asking.IsRefused → IsRefused H.handled H.Rule H.coinductive H.ready H.meaning cx.old graph.old table.old goal.now }
-    ensures full { result ≡ Err Fault.Full → IsFull H.handled H.Rule H.coinductive H.ready H.meaning cx.new
-        ⊎ RunsOut H.handled H.Rule H.coinductive H.ready H.meaning cx.old graph.old table.old goal.now }
+        → IsProvedBy H.meaning (H.meaning.world cx.old.handler cx.old.interner.entries) cx.old table.old cx.new table.new goal.now }
+    ensures changes { result ≡ Ok Asking.Changes → IsUnsettled H.meaning cx.old graph.old table.old goal.now }
+    ensures unsure { result ≡ Ok Asking.IsUnsure → IsUnsettled H.meaning cx.old graph.old table.old goal.now }
+    ensures refused { result ≡ Ok Asking.IsRefused → IsRefused H.meaning cx.old graph.old table.old goal.now }
+    ensures full { result ≡ Err Fault.Full → IsFull H.meaning cx.new
+        ⊎ RunsOut H.meaning cx.old graph.old table.old goal.now }
 {
     match evaluate_root_goal(graph, cache, cx, table, TypingMode::PostAnalysis, goal) {
         Ok(evaluation) => Ok(read(evaluation.certainty, evaluation.has_changed)),
@@ -89,14 +89,14 @@ fn ask_again<H: GoalHandler>(
     table: &mut InferCtxt,
     goal: &Goal,
 ) -> Result<Outcome, Fault>
-    requires { IsAskable H.handled H.Rule H.coinductive H.ready H.meaning graph.old cache.old cx.old table.old goal.now }
-    ensures again { IsAskable H.handled H.Rule H.coinductive H.ready H.meaning graph.new cache.new cx.new table.new goal.now }
-    ensures asked { HasAsked H.handled H.Rule H.coinductive H.ready H.meaning graph.old cache.old cx.old table.old graph.new cache.new cx.new table.new }
+    requires { IsAskable H.meaning graph.old cache.old cx.old table.old goal.now }
+    ensures again { IsAskable H.meaning graph.new cache.new cx.new table.new goal.now }
+    ensures asked { HasAsked H.meaning graph.old cache.old cx.old table.old graph.new cache.new cx.new table.new }
     ensures proved { result ≡ Ok Outcome.Proved
-        → IsProvedBy H.handled H.Rule H.coinductive H.ready H.meaning (H.meaning cx.old.handler cx.old.interner.entries) cx.old table.old cx.new table.new goal.now }
+        → IsProvedBy H.meaning (H.meaning.world cx.old.handler cx.old.interner.entries) cx.old table.old cx.new table.new goal.now }
     ensures not_unproved { result ≡ Ok Outcome.Unproved → ⊥ }
-    ensures full { result ≡ Err Fault.Full → IsFull H.handled H.Rule H.coinductive H.ready H.meaning cx.new
-        ⊎ SomeAskingRunsOut H.handled H.Rule H.coinductive H.ready H.meaning graph.old cache.old cx.old table.old goal.now }
+    ensures full { result ≡ Err Fault.Full → IsFull H.meaning cx.new
+        ⊎ SomeAskingRunsOut H.meaning graph.old cache.old cx.old table.old goal.now }
 {
     for _ in 1..MAX_ASKINGS {
         match ask_once(graph, cache, cx, table, goal)? {
@@ -126,15 +126,15 @@ pub fn ask_until_settled<H: GoalHandler>(
     table: &mut InferCtxt,
     goal: &Goal,
 ) -> Result<Outcome, Fault>
-    requires { IsAskable H.handled H.Rule H.coinductive H.ready H.meaning graph.old cache.old cx.old table.old goal.now }
-    ensures again { IsAskable H.handled H.Rule H.coinductive H.ready H.meaning graph.new cache.new cx.new table.new goal.now }
-    ensures asked { HasAsked H.handled H.Rule H.coinductive H.ready H.meaning graph.old cache.old cx.old table.old graph.new cache.new cx.new table.new }
+    requires { IsAskable H.meaning graph.old cache.old cx.old table.old goal.now }
+    ensures again { IsAskable H.meaning graph.new cache.new cx.new table.new goal.now }
+    ensures asked { HasAsked H.meaning graph.old cache.old cx.old table.old graph.new cache.new cx.new table.new }
     ensures proved { result ≡ Ok Outcome.Proved
-        → IsProvedBy H.handled H.Rule H.coinductive H.ready H.meaning (H.meaning cx.old.handler cx.old.interner.entries) cx.old table.old cx.new table.new goal.now }
-    ensures unproved { result ≡ Ok Outcome.Unproved → IsRefused H.handled H.Rule H.coinductive H.ready H.meaning cx.old graph.old table.old goal.now }
-    ensures maybe { result ≡ Ok Outcome.Maybe → IsUnsettled H.handled H.Rule H.coinductive H.ready H.meaning cx.old graph.old table.old goal.now }
-    ensures full { result ≡ Err Fault.Full → IsFull H.handled H.Rule H.coinductive H.ready H.meaning cx.new
-        ⊎ SomeAskingRunsOut H.handled H.Rule H.coinductive H.ready H.meaning graph.old cache.old cx.old table.old goal.now }
+        → IsProvedBy H.meaning (H.meaning.world cx.old.handler cx.old.interner.entries) cx.old table.old cx.new table.new goal.now }
+    ensures unproved { result ≡ Ok Outcome.Unproved → IsRefused H.meaning cx.old graph.old table.old goal.now }
+    ensures maybe { result ≡ Ok Outcome.Maybe → IsUnsettled H.meaning cx.old graph.old table.old goal.now }
+    ensures full { result ≡ Err Fault.Full → IsFull H.meaning cx.new
+        ⊎ SomeAskingRunsOut H.meaning graph.old cache.old cx.old table.old goal.now }
 {
     match ask_once(graph, cache, cx, table, goal)? {
         Asking::Holds => Ok(Outcome::Proved),

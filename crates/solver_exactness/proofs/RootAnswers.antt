@@ -6,7 +6,6 @@ use Rattle.infer_table.specs.Responses.{AnswerTrees}
 use Rattle.evaluation.specs.Tables.{frame_tables}
 use Rattle.goal_frames.specs.Programs.{ArePrograms}
 use Rattle.root_goals.specs.Searching.{handles}
-use Rattle.assembly_laws.specs.Facts.{FollowsByView, is_coinductive_fact}
 use Rattle.assembly_laws.specs.Meaning.{Meaning}
 use Rattle.solver_exactness.specs.SolverAnswers.{solver_programs}
 use Rattle.solver_exactness.specs.RootAnswers.{solver_in, declared_in, RootsAreExact, RootsAreRight, RootsTellPossible}
@@ -17,17 +16,17 @@ module _ {W : Type 0} (applicable : AnswerTrees → Bool) (same : AnswerTrees �
   pub roots-are-exact : RootsAreExact applicable same meaning_of fits_in is_ready declares
   roots-are-exact c depth n mode sorts admits d q v a g l short found =
       formed-searches-are-exact applicable same meaning_of fits_in
-      (handles (solver_in applicable same meaning_of fits_in is_ready declares) (λ w. FollowsByView (meaning_of w).view) (λ w. is_coinductive_fact (meaning_of w).view) is_ready declares)
+      (handles (solver_in applicable same meaning_of fits_in is_ready declares))
       programs (declared_in applicable same meaning_of fits_in is_ready declares c) mode sorts admits d n (depth + 1) q v a l g short found.plain
 
   pub roots-are-right : RootsAreRight applicable same meaning_of fits_in is_ready declares
   roots-are-right c depth n sorts admits d q v a g l single found =
       formed-searches-are-right applicable same meaning_of fits_in
-      (handles (solver_in applicable same meaning_of fits_in is_ready declares) (λ w. FollowsByView (meaning_of w).view) (λ w. is_coinductive_fact (meaning_of w).view) is_ready declares)
+      (handles (solver_in applicable same meaning_of fits_in is_ready declares))
       programs (declared_in applicable same meaning_of fits_in is_ready declares c) sorts admits d n (depth + 1) q v a l g single found.plain
 
   pub roots-tell-possible : RootsTellPossible applicable same meaning_of fits_in is_ready declares
   roots-tell-possible c depth n sorts admits d q v a g l clauses bounded found =
       formed-tells-possible applicable same meaning_of fits_in
-      (handles (solver_in applicable same meaning_of fits_in is_ready declares) (λ w. FollowsByView (meaning_of w).view) (λ w. is_coinductive_fact (meaning_of w).view) is_ready declares)
+      (handles (solver_in applicable same meaning_of fits_in is_ready declares))
       programs (declared_in applicable same meaning_of fits_in is_ready declares c) sorts admits d n (depth + 1) q v a l g clauses bounded found.plain

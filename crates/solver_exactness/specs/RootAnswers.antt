@@ -7,9 +7,9 @@ use Rattle.infer_table.specs.declared.certainty.TypingMode.{TypingMode}
 use Rattle.infer_table.specs.declared.certainty.TypingMode.TheVariants.{Coherence, PostAnalysis}
 use Rattle.infer_table.specs.Responses.{AnswerTrees}
 use Rattle.search_graph.specs.Meaning as Search
-use Rattle.evaluation.specs.Handler.{Handled}
 use Rattle.evaluation.specs.Content.{Values, Question, fact_of}
 use Rattle.evaluation.specs.Tables.{frame_tables}
+use Rattle.goal_frames.specs.Meanings.{HandlerMeaning}
 use Rattle.goal_frames.specs.declared.store.InputId.{InputId}
 use Rattle.goal_frames.specs.declared.store.ResponseId.{ResponseId}
 use Rattle.goal_frames.specs.declared.frame.GoalFrame.{GoalFrame}
@@ -18,22 +18,21 @@ use Rattle.root_goals.specs.Contexts.{entries_of}
 use Rattle.root_goals.specs.Evaluations.{IsFound}
 use Rattle.root_goals.specs.Searching.{solver_meaning}
 use Rattle.solver_exactness.specs.Ways.{HasShortChains, IsExactFor, IsRightFor}
-use Rattle.assembly_laws.specs.Facts.{FollowsByView, is_coinductive_fact, clauses_of, reference_in}
+use Rattle.assembly_laws.specs.Facts.{clauses_of, reference_in}
 use Rattle.assembly_laws.specs.Meaning.{Meaning}
-use Rattle.assembly_laws.specs.Solver.{solver_handled}
 use Rattle.solver_exactness.specs.SolverGoals.{ways_by, IsProved}
-use Rattle.solver_exactness.specs.SolverAnswers.{meant_for, TellsPossible}
+use Rattle.solver_exactness.specs.SolverAnswers.{solver_goals, TellsPossible}
 use Rattle.solver_exactness.specs.FormedFacts.{Sorts}
 use Rattle.solver_exactness.specs.FormedAnswers.{IsFormedGoal, AreDeclared}
 
 module _ {W : Type 0} (applicable : AnswerTrees → Bool) (same : AnswerTrees → AnswerTrees → Bool) (meaning_of : W → Meaning) (fits_in : W → CanonicalForm → Bool)
     {Handler : Type 0} (is_ready : Handler → List Entry → Type 0) (declares : Handler → List Entry → W) where
-  -- the solver for each goal, and what it means to the search of a context with such a handler
-  abbrev pub solver_in : W → TypingMode → CanonicalForm → Handled frame_tables
-  solver_in w mode f = solver_handled applicable same (meant_for (meaning_of w) (fits_in w) f) mode f
+  -- the solver's goals for such a handler, and what they mean to the search of a context with it
+  abbrev pub solver_in : HandlerMeaning Handler
+  solver_in = record { goals = solver_goals applicable same meaning_of fits_in; IsReady = is_ready; world = declares }
 
   abbrev pub root_meaning : Search.Meaning (SolverCx Handler) InputId (Option ResponseId) GoalFrame
-  root_meaning = solver_meaning solver_in (λ w. FollowsByView (meaning_of w).view) (λ w. is_coinductive_fact (meaning_of w).view) is_ready declares
+  root_meaning = solver_meaning solver_in
 
   abbrev pub declared_in : SolverCx Handler → W
   declared_in c = declares c.handler (entries_of c)

@@ -7,17 +7,15 @@ use Rattle.evaluation.specs.Content.{Values, Question, Fact, fact_of}
 use Rattle.evaluation.specs.Tables.{frame_tables}
 use Rattle.goal_frames.specs.Searches.{Handles, Asked, meaning}
 use Rattle.goal_frames.specs.Programs.{Programs}
-use Rattle.goal_frames.specs.Rules.{is_coinductive, FollowsByRule}
-use Rattle.goal_frames.specs.Handlers.{handled_by}
 use Rattle.goal_frames.specs.HandlerPrograms.{programs_of}
-use Rattle.goal_frames.specs.RulePrograms.{DeclaredRules, book_of}
+use Rattle.goal_frames.specs.RulePrograms.{DeclaredRules, rule_goals}
 use Rattle.solver_exactness.specs.ClosedTables.{AreClosed, ArePlaces}
 use Rattle.solver_exactness.specs.Ways.{HasShortChains, IsDecided, HoldsByWays, IsExactFor, IsRightFor}
 use Rattle.solver_exactness.specs.RuleWays.{rule_ways, IsAskedForm}
 
 -- a context declares the list of rules
 abbrev pub rule_programs : Programs frame_tables
-rule_programs = programs_of (λ w mode f. handled_by (book_of w) mode f) (λ w. FollowsByRule (book_of w)) (λ w. is_coinductive (book_of w))
+rule_programs = programs_of rule_goals
 
 module _ {C I R F : Type 0} (handles : Handles C I R F DeclaredRules (Asked frame_tables rule_programs) (Option AnswerTrees)) where
   -- plain recursion answers the question so, in chains of fewer than n questions

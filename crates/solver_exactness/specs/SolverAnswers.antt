@@ -11,6 +11,7 @@ use Rattle.evaluation.specs.Content.{Values, Question, fact_of}
 use Rattle.evaluation.specs.Tables.{frame_tables}
 use Rattle.goal_frames.specs.Programs.{Programs}
 use Rattle.goal_frames.specs.Searches.{Handles, Asked, meaning}
+use Rattle.goal_frames.specs.Meanings.{Goals}
 use Rattle.goal_frames.specs.HandlerPrograms.{programs_of}
 use Rattle.solver_exactness.specs.ClosedTables.{AreClosed, ArePlaces}
 use Rattle.solver_exactness.specs.Ways.{HasShortChains, IsExactFor, IsRightFor}
@@ -24,10 +25,18 @@ use Rattle.solver_exactness.specs.SolverGoals.{ways_by, IsProved, AreGoals}
 abbrev pub meant_for : Meaning → (CanonicalForm → Bool) → CanonicalForm → Meaning
 meant_for m fits f = record { view = m.view; crate = m.crate; is_sound = m.is_sound && fits f }
 
--- the solver's goals as programs, where contexts mean declarations, and tell which goals fit them
-abbrev pub solver_programs : {W : Type 0} → (AnswerTrees → Bool) → (AnswerTrees → AnswerTrees → Bool) → (W → Meaning) → (W → CanonicalForm → Bool) → Programs frame_tables
-solver_programs applicable same meaning_of fits_in =
-    programs_of (λ w mode f. solver_handled applicable same (meant_for (meaning_of w) (fits_in w) f) mode f) (λ w. FollowsByView (meaning_of w).view) (λ w. is_coinductive_fact (meaning_of w).view)
+-- the solver's goals, where contexts mean declarations, and tell which goals fit them
+module _ {W : Type 0} (applicable : AnswerTrees → Bool) (same : AnswerTrees → AnswerTrees → Bool) (meaning_of : W → Meaning) (fits_in : W → CanonicalForm → Bool) where
+  abbrev pub solver_goals : Goals
+  solver_goals = record {
+    World = W;
+    handled = λ w mode f. solver_handled applicable same (meant_for (meaning_of w) (fits_in w) f) mode f;
+    Rule = λ w. FollowsByView (meaning_of w).view;
+    coinductive = λ w. is_coinductive_fact (meaning_of w).view;
+  }
+
+  abbrev pub solver_programs : Programs frame_tables
+  solver_programs = programs_of solver_goals
 
 -- to a reference in a crate with this view the answer is a refusal if the reference is not possible in chains of fewer than n steps, and
 -- is none if it is

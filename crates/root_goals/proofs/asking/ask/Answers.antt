@@ -15,7 +15,7 @@ pair m n f h p q = cc
 
 pub returns-in_err-resolved-clause-advances : goal.returns-in_err-resolved-clause-advances
 returns-in_err-resolved-clause-advances g c =
-    later g.H.GoalHandler.ready g.met.H.GoalHandler.ready_kept c.args.cx.now
+    later g.H.GoalHandler.meaning.IsReady g.met.H.GoalHandler.lawful.ready_kept c.args.cx.now
     (record { alloc = c.args.cx.now.alloc; interner = c.resolve_goal-resolved.new.cx; handler = c.args.cx.now.handler; store = c.args.cx.now.store }) c.requires.ready refl refl
     c.resolve_goal-resolved.ensures.keeps c.lawful.ensures
 
@@ -26,14 +26,14 @@ canonicalize_goal-canonicalized-requires-clause-held g c =
 
 pub returns-in_err-input-clause-advances : goal.returns-in_err-input-clause-advances
 returns-in_err-input-clause-advances g c =
-    later g.H.GoalHandler.ready g.met.H.GoalHandler.ready_kept c.args.cx.now
+    later g.H.GoalHandler.meaning.IsReady g.met.H.GoalHandler.lawful.ready_kept c.args.cx.now
     (record { alloc = c.args.cx.now.alloc; interner = c.canonicalize_goal-canonicalized.new.cx; handler = c.args.cx.now.handler; store = c.args.cx.now.store }) c.requires.ready refl refl
     (keeps-further c.args.cx.now.interner.entries c.resolve_goal-resolved.new.cx.entries c.canonicalize_goal-canonicalized.new.cx.entries c.resolve_goal-resolved.ensures.keeps
     c.canonicalize_goal-canonicalized.ensures.keeps) c.lawful-2.ensures
 
 pub keep_goal-requires-clause-ready : goal.keep_goal-requires-clause-ready
 keep_goal-requires-clause-ready g c =
-    (later g.H.GoalHandler.ready g.met.H.GoalHandler.ready_kept c.args.cx.now
+    (later g.H.GoalHandler.meaning.IsReady g.met.H.GoalHandler.lawful.ready_kept c.args.cx.now
     (record { alloc = c.args.cx.now.alloc; interner = c.canonicalize_goal-canonicalized.new.cx; handler = c.args.cx.now.handler; store = c.args.cx.now.store }) c.requires.ready refl refl
     (keeps-further c.args.cx.now.interner.entries c.resolve_goal-resolved.new.cx.entries c.canonicalize_goal-canonicalized.new.cx.entries c.resolve_goal-resolved.ensures.keeps
     c.canonicalize_goal-canonicalized.ensures.keeps) c.lawful-2.ensures).ready

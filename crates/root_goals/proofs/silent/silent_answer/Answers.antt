@@ -20,13 +20,13 @@ pub returns-in_err-response-clause-advances : goal.returns-in_err-response-claus
 returns-in_err-response-clause-advances g c =
     let cx = c.args.cx.now in
     let mid : SolverCx g.row.H.Denot = record cx { interner = c.response_no_constraints_raw-made.new.cx } in
-    later g.H.GoalHandler.ready g.met.H.GoalHandler.ready_kept cx mid c.requires.0 refl refl c.response_no_constraints_raw-made.ensures.keeps c.lawful.ensures
+    later g.H.GoalHandler.meaning.IsReady g.met.H.GoalHandler.lawful.ready_kept cx mid c.requires.0 refl refl c.response_no_constraints_raw-made.ensures.keeps c.lawful.ensures
 
 pub keep_answer-requires-clause-ready : goal.keep_answer-requires-clause-ready
 keep_answer-requires-clause-ready g c =
     let cx = c.args.cx.now in
     let mid : SolverCx g.row.H.Denot = record cx { interner = c.response_no_constraints_raw-made.new.cx } in
-    (later g.H.GoalHandler.ready g.met.H.GoalHandler.ready_kept cx mid c.requires.0 refl refl c.response_no_constraints_raw-made.ensures.keeps c.lawful.ensures).ready
+    (later g.H.GoalHandler.meaning.IsReady g.met.H.GoalHandler.lawful.ready_kept cx mid c.requires.0 refl refl c.response_no_constraints_raw-made.ensures.keeps c.lawful.ensures).ready
 
 pub keep_answer-requires-clause-fits : goal.keep_answer-requires-clause-fits
 keep_answer-requires-clause-fits g c =
@@ -42,7 +42,7 @@ returns-clause-is g c =
     let x = c.in_ok-response.ensures in
     let k = c.args.certainty in
     let new = c.keep_answer.new.self in
-    let ready = g.H.GoalHandler.ready in
+    let ready = g.H.GoalHandler.meaning.IsReady in
     let raw = raw-is es c.in_ok-response.response c.in_ok-variables.variables.items k (ap (λ v. v.items) x.variables) x.certainty x.values x.constraints in
     let kinds = c.in_ok-variables.ensures.items ∙ c.deref.ensures.value in
     one-ok (λ r. IsResult ready new r × (answer_of new r ≡ result_read es (Some c.in_ok-response.response))) (λ r. IsResult ready new r × (answer_of new r ≡ silent (goal_of cx c.args.input).1 k)) c.keep_answer.result

@@ -27,7 +27,7 @@ returns-in_err-is_impossible-clause-consistent g c = λ h. c.is_impossible.ensur
 
 pub returns-in_err-is_impossible-clause-keeps : goal.returns-in_err-is_impossible-clause-keeps
 returns-in_err-is_impossible-clause-keeps g c =
-    Keeps-trans (solver_meaning g.H.GoalHandler.handled g.H.GoalHandler.Rule g.H.GoalHandler.coinductive g.H.GoalHandler.ready g.H.GoalHandler.meaning) c.args.cx.now c.references.cx c.is_impossible.new.cx c.references.invariant.keeps c.is_impossible.ensures.keeps
+    Keeps-trans (solver_meaning g.H.GoalHandler.meaning) c.args.cx.now c.references.cx c.is_impossible.new.cx c.references.invariant.keeps c.is_impossible.ensures.keeps
 
 pub returns-in_err-is_impossible-clause-full : goal.returns-in_err-is_impossible-clause-full
 returns-in_err-is_impossible-clause-full g c = λ q.
@@ -36,7 +36,7 @@ returns-in_err-is_impossible-clause-full g c = λ q.
     or-then (λ h. (
       item,
       in-here c.args.references.now c.references.trait_ref-index item c.trait_ref-item.is c.references-test.true,
-      runs-out-before g.H.GoalHandler.handled g.H.GoalHandler.Rule g.H.GoalHandler.coinductive g.H.GoalHandler.ready g.H.GoalHandler.meaning c.args.cx.now c.references.cx c.references.invariant.keeps c.args.graph.now c.references.graph c.references.invariant.depth c.args.table.now c.references.table c.references.invariant.same c.requires.table item held h,
+      runs-out-before g.H.GoalHandler.meaning c.args.cx.now c.references.cx c.references.invariant.keeps c.args.graph.now c.references.graph c.references.invariant.depth c.args.table.now c.references.table c.references.invariant.same c.requires.table item held h,
     ))
     (handed-on c.from_residual.result c.from_residual.ensures.1 (λ p. c.in_err-is_impossible.ensures.full (ap Err p)) q)
 
@@ -45,7 +45,7 @@ returns-then-branch-clause-consistent g c = λ h. c.is_impossible.ensures.consis
 
 pub returns-then-branch-clause-keeps : goal.returns-then-branch-clause-keeps
 returns-then-branch-clause-keeps g c =
-    Keeps-trans (solver_meaning g.H.GoalHandler.handled g.H.GoalHandler.Rule g.H.GoalHandler.coinductive g.H.GoalHandler.ready g.H.GoalHandler.meaning) c.args.cx.now c.references.cx c.is_impossible.new.cx c.references.invariant.keeps c.is_impossible.ensures.keeps
+    Keeps-trans (solver_meaning g.H.GoalHandler.meaning) c.args.cx.now c.references.cx c.is_impossible.new.cx c.references.invariant.keeps c.is_impossible.ensures.keeps
 
 pub returns-then-branch-clause-impossible : goal.returns-then-branch-clause-impossible
 returns-then-branch-clause-impossible g c = λ _.
@@ -53,7 +53,7 @@ returns-then-branch-clause-impossible g c = λ _.
     let held = each-here c.args.references.now c.references.trait_ref-index item c.trait_ref-item.is c.references-test.true (ReferenceHeld c.args.cx.now.interner.entries) c.requires.held in (
       item,
       in-here c.args.references.now c.references.trait_ref-index item c.trait_ref-item.is c.references-test.true,
-      impossible-before g.H.GoalHandler.handled g.H.GoalHandler.Rule g.H.GoalHandler.coinductive g.H.GoalHandler.ready g.H.GoalHandler.meaning c.args.cx.now c.references.cx c.references.invariant.keeps c.args.graph.now c.references.graph c.references.invariant.depth c.args.table.now c.references.table c.references.invariant.same c.requires.table item held
+      impossible-before g.H.GoalHandler.meaning c.args.cx.now c.references.cx c.references.invariant.keeps c.args.graph.now c.references.graph c.references.invariant.depth c.args.table.now c.references.table c.references.invariant.same c.requires.table item held
           (c.in_ok-is_impossible.ensures.impossible (search rules)),
     )
 
@@ -68,11 +68,11 @@ references-preserved g c =
       consistent = λ h. c.is_impossible.ensures.consistent (c.references.invariant.consistent h);
       results = λ place x h. c.is_impossible.ensures.results place x (c.references.invariant.results place x h);
       ready = c.is_impossible.ensures.ready;
-      keeps = Keeps-trans (solver_meaning g.H.GoalHandler.handled g.H.GoalHandler.Rule g.H.GoalHandler.coinductive g.H.GoalHandler.ready g.H.GoalHandler.meaning) c.args.cx.now c.references.cx c.is_impossible.new.cx c.references.invariant.keeps c.is_impossible.ensures.keeps;
+      keeps = Keeps-trans (solver_meaning g.H.GoalHandler.meaning) c.args.cx.now c.references.cx c.is_impossible.new.cx c.references.invariant.keeps c.is_impossible.ensures.keeps;
       entries = λ i e h. c.is_impossible.ensures.entries i e (c.references.invariant.entries i e h);
       same = c.is_impossible.ensures.same ∙ c.references.invariant.same;
       left_open = each-more c.args.references.now c.references.trait_ref-index item c.trait_ref-item.is c.references-test.true
-          (IsLeftOpen g.H.GoalHandler.handled g.H.GoalHandler.Rule g.H.GoalHandler.coinductive g.H.GoalHandler.ready g.H.GoalHandler.meaning c.args.cx.now c.args.graph.now c.args.table.now) c.references.invariant.left_open
-          (open-before g.H.GoalHandler.handled g.H.GoalHandler.Rule g.H.GoalHandler.coinductive g.H.GoalHandler.ready g.H.GoalHandler.meaning c.args.cx.now c.references.cx c.references.invariant.keeps c.args.graph.now c.references.graph c.references.invariant.depth c.args.table.now c.references.table c.references.invariant.same c.requires.table item held
+          (IsLeftOpen g.H.GoalHandler.meaning c.args.cx.now c.args.graph.now c.args.table.now) c.references.invariant.left_open
+          (open-before g.H.GoalHandler.meaning c.args.cx.now c.references.cx c.references.invariant.keeps c.args.graph.now c.references.graph c.references.invariant.depth c.args.table.now c.references.table c.references.invariant.same c.requires.table item held
           (c.in_ok-is_impossible.ensures.left_open (search rules)));
     }

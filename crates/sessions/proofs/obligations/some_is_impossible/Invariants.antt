@@ -12,12 +12,12 @@ abbrev pub invariant-references : goal.invariant-references
 invariant-references g l = record {
   empty : l.graph.current_depth ≡ 0;
   depth : l.graph.root_depth ≡ l.fn.graph.root_depth;
-  cache : AreJustified (solver_meaning g.H.GoalHandler.handled g.H.GoalHandler.Rule g.H.GoalHandler.coinductive g.H.GoalHandler.ready g.H.GoalHandler.meaning) l.cx l.cache;
+  cache : AreJustified (solver_meaning g.H.GoalHandler.meaning) l.cx l.cache;
   consistent : AreConsistent l.fn.cache → AreConsistent l.cache;
   results : KeepsResults l.fn.cache l.cache;
-  ready : IsReady g.H.GoalHandler.ready l.cx;
-  keeps : Search.Keeps (solver_meaning g.H.GoalHandler.handled g.H.GoalHandler.Rule g.H.GoalHandler.coinductive g.H.GoalHandler.ready g.H.GoalHandler.meaning) l.fn.cx l.cx;
+  ready : IsReady g.H.GoalHandler.meaning.IsReady l.cx;
+  keeps : Search.Keeps (solver_meaning g.H.GoalHandler.meaning) l.fn.cx l.cx;
   entries : Keeps l.fn.cx.interner.entries l.cx.interner.entries;
   same : l.table ≡ l.fn.table;
-  left_open : Each (IsLeftOpen g.H.GoalHandler.handled g.H.GoalHandler.Rule g.H.GoalHandler.coinductive g.H.GoalHandler.ready g.H.GoalHandler.meaning l.fn.cx l.fn.graph l.fn.table) (take l.trait_ref-index l.references);
+  left_open : Each (IsLeftOpen g.H.GoalHandler.meaning l.fn.cx l.fn.graph l.fn.table) (take l.trait_ref-index l.references);
 }

@@ -54,7 +54,7 @@ returns-in-Proved-clause-answer g c =
     let done : c.ask_until_settled.result ≡ Ok outcome.Proved = search rules in
     let e = c.ask_until_settled.ensures in
     over-ok c.read_values_in.result
-    (read-goal g.H.GoalHandler.handled g.H.GoalHandler.Rule g.H.GoalHandler.coinductive g.H.GoalHandler.ready g.H.GoalHandler.meaning (map arg_sort c.args.unknowns.now) c.args.cx.now c.args.table.now c.requires.table c.args.goal.now
+    (read-goal g.H.GoalHandler.meaning (map arg_sort c.args.unknowns.now) c.args.cx.now c.args.table.now c.requires.table c.args.goal.now
     c.requires.goal c.ask_until_settled.new.cx c.ask_until_settled.new.table e.again.table e.again.ready.lawful e.asked.entries (e.proved done) c.args.unknowns.now c.requires.unknowns c.args.graph.now.root_depth c.read_values_in.new.cx.interner.entries)
     c.read_values_in.ensures.read
 
@@ -72,7 +72,7 @@ returns-in-Unproved-clause-keeps g c = c.ask_until_settled.ensures.asked.entries
 pub returns-in-Unproved-clause-answer : goal.returns-in-Unproved-clause-answer
 returns-in-Unproved-clause-answer g c =
     let done : c.ask_until_settled.result ≡ Ok outcome.Unproved = search rules in
-    refused-goal g.H.GoalHandler.handled g.H.GoalHandler.Rule g.H.GoalHandler.coinductive g.H.GoalHandler.ready g.H.GoalHandler.meaning (map arg_sort c.args.unknowns.now) c.args.cx.now c.args.table.now c.requires.table c.args.goal.now
+    refused-goal g.H.GoalHandler.meaning (map arg_sort c.args.unknowns.now) c.args.cx.now c.args.table.now c.requires.table c.args.goal.now
     c.args.graph.now (c.ask_until_settled.ensures.unproved done)
 
 pub returns-in-Maybe-clause-rest : goal.returns-in-Maybe-clause-rest
@@ -89,5 +89,5 @@ returns-in-Maybe-clause-keeps g c = c.ask_until_settled.ensures.asked.entries
 pub returns-in-Maybe-clause-answer : goal.returns-in-Maybe-clause-answer
 returns-in-Maybe-clause-answer g c =
     let done : c.ask_until_settled.result ≡ Ok outcome.Maybe = search rules in
-    unsettled-goal g.H.GoalHandler.handled g.H.GoalHandler.Rule g.H.GoalHandler.coinductive g.H.GoalHandler.ready g.H.GoalHandler.meaning (map arg_sort c.args.unknowns.now) c.args.cx.now c.args.table.now c.requires.table c.args.goal.now
+    unsettled-goal g.H.GoalHandler.meaning (map arg_sort c.args.unknowns.now) c.args.cx.now c.args.table.now c.requires.table c.args.goal.now
     c.args.graph.now (c.ask_until_settled.ensures.maybe done)

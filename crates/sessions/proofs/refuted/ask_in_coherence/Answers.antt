@@ -17,14 +17,14 @@ returns-clause-no g c =
     let es = c.args.cx.now.interner.entries in
     let asked : Goal = record { param_env = c.new.result; predicate = record { trait_ref = c.args.asked } } in
     no-proof es c.args.table.now asked (goal_alone (reference_in es c.args.asked)) c.requires.no_values (alone-is es asked c.args.asked c.new.ensures.items refl)
-    (g.H.GoalHandler.handled (g.H.GoalHandler.meaning c.args.cx.now.handler es)) (c.evaluate_root_goal-evaluated.ensures.no_solution (c.answer_of.ensures.no q)) tt (a, tt) tt (k, tt)
+    (g.H.GoalHandler.meaning.goals.handled (g.H.GoalHandler.meaning.world c.args.cx.now.handler es)) (c.evaluate_root_goal-evaluated.ensures.no_solution (c.answer_of.ensures.no q)) tt (a, tt) tt (k, tt)
 
 pub returns-clause-open : goal.returns-clause-open
 returns-clause-open g c = λ q.
     let es = c.args.cx.now.interner.entries in
     let asked : Goal = record { param_env = c.new.result; predicate = record { trait_ref = c.args.asked } } in
-    let m = solver_meaning g.H.GoalHandler.handled g.H.GoalHandler.Rule g.H.GoalHandler.coinductive g.H.GoalHandler.ready g.H.GoalHandler.meaning in
-    let w = g.H.GoalHandler.meaning c.args.cx.now.handler es in
+    let m = solver_meaning g.H.GoalHandler.meaning in
+    let w = g.H.GoalHandler.meaning.world c.args.cx.now.handler es in
     let depth = c.args.graph.now.root_depth in
     asked-is es c.args.table.now asked (goal_alone (reference_in es c.args.asked)) c.requires.no_values (alone-is es asked c.args.asked c.new.ensures.items refl)
     (λ (z : Asked). ((a : AnswerTrees) × IsFound m w depth z (Some a)) ⊎ IsNotPlain m w (depth + 1) z)

@@ -27,8 +27,8 @@ returns-clause-no g c =
     let law = c.requires.rest.ready.lawful in
     let k = c.question_table_in.ensures.advances.entries in
     let l = c.args.lowered.now in
-    refused-there q old new law k l low own (g.H.GoalHandler.handled (g.H.GoalHandler.meaning c.args.cx.now.handler old)) (g.H.GoalHandler.handled (g.H.GoalHandler.meaning c.question_table_in.new.cx.handler new))
-    (ap g.H.GoalHandler.handled (c.rest_laws.ensures.meaning c.args.cx.now c.question_table_in.new.cx c.requires.rest.ready c.question_table_in.ensures.advances))
+    refused-there q old new law k l low own (g.H.GoalHandler.meaning.goals.handled (g.H.GoalHandler.meaning.world c.args.cx.now.handler old)) (g.H.GoalHandler.meaning.goals.handled (g.H.GoalHandler.meaning.world c.question_table_in.new.cx.handler new))
+    (ap g.H.GoalHandler.meaning.goals.handled (c.rest_laws.ensures.meaning c.args.cx.now c.question_table_in.new.cx c.requires.rest.ready c.question_table_in.ensures.advances))
     (c.ask_in_coherence.ensures.no r (clean-there q old new law k l low own) (known-there q old new law k l low own c.in_ok-table.table made))
 
 pub returns-clause-open : goal.returns-clause-open
@@ -38,8 +38,8 @@ returns-clause-open g c =
     let new = c.question_table_in.new.cx.interner.entries in
     let l = c.args.lowered.now in
     moved
-    (λ w s. IsLeftOpen g.H.GoalHandler.handled g.H.GoalHandler.Rule g.H.GoalHandler.coinductive g.H.GoalHandler.ready g.H.GoalHandler.meaning w c.args.graph.now.root_depth s)
-    (g.H.GoalHandler.meaning c.question_table_in.new.cx.handler new) (g.H.GoalHandler.meaning c.args.cx.now.handler old) (reference_in new l.asked) (unbound_reference q.asked)
+    (λ w s. IsLeftOpen g.H.GoalHandler.meaning w c.args.graph.now.root_depth s)
+    (g.H.GoalHandler.meaning.world c.question_table_in.new.cx.handler new) (g.H.GoalHandler.meaning.world c.args.cx.now.handler old) (reference_in new l.asked) (unbound_reference q.asked)
     (c.rest_laws.ensures.meaning c.args.cx.now c.question_table_in.new.cx c.requires.rest.ready c.question_table_in.ensures.advances)
     (reference-is q old new c.requires.rest.ready.lawful c.question_table_in.ensures.advances.entries l low)
     (c.ask_in_coherence.ensures.open r)
@@ -51,8 +51,8 @@ returns-clause-refused g c =
     let new = c.question_table_in.new.cx.interner.entries in
     let l = c.args.lowered.now in
     moved
-    (λ w s. IsRefusedAlone g.H.GoalHandler.handled g.H.GoalHandler.Rule g.H.GoalHandler.coinductive g.H.GoalHandler.ready g.H.GoalHandler.meaning w c.args.graph.now.root_depth s)
-    (g.H.GoalHandler.meaning c.question_table_in.new.cx.handler new) (g.H.GoalHandler.meaning c.args.cx.now.handler old) (reference_in new l.asked) (unbound_reference q.asked)
+    (λ w s. IsRefusedAlone g.H.GoalHandler.meaning w c.args.graph.now.root_depth s)
+    (g.H.GoalHandler.meaning.world c.question_table_in.new.cx.handler new) (g.H.GoalHandler.meaning.world c.args.cx.now.handler old) (reference_in new l.asked) (unbound_reference q.asked)
     (c.rest_laws.ensures.meaning c.args.cx.now c.question_table_in.new.cx c.requires.rest.ready c.question_table_in.ensures.advances)
     (reference-is q old new c.requires.rest.ready.lawful c.question_table_in.ensures.advances.entries l low)
     (c.ask_in_coherence.ensures.refused r)

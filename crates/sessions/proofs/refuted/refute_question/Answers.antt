@@ -20,20 +20,20 @@ pub returns-clause-no : goal.returns-clause-no
 returns-clause-no g c =
     λ r q is own.
     subst (λ z. HasNoProof z (goal_alone (unbound_reference q.asked)))
-    (ap g.H.GoalHandler.handled (c.rest_laws.ensures.meaning c.args.cx.now c.lower_in.new.cx c.requires.rest.ready c.lower_in.ensures.advances))
+    (ap g.H.GoalHandler.meaning.goals.handled (c.rest_laws.ensures.meaning c.args.cx.now c.lower_in.new.cx c.requires.rest.ready c.lower_in.ensures.advances))
     (c.refute_lowered.ensures.no r q (c.in_ok-lowered.ensures.lowered q is) own)
 
 pub returns-clause-open : goal.returns-clause-open
 returns-clause-open g c =
     λ r q is.
-    subst (λ w. IsLeftOpen g.H.GoalHandler.handled g.H.GoalHandler.Rule g.H.GoalHandler.coinductive g.H.GoalHandler.ready g.H.GoalHandler.meaning w c.args.graph.now.root_depth (unbound_reference q.asked))
+    subst (λ w. IsLeftOpen g.H.GoalHandler.meaning w c.args.graph.now.root_depth (unbound_reference q.asked))
     (c.rest_laws.ensures.meaning c.args.cx.now c.lower_in.new.cx c.requires.rest.ready c.lower_in.ensures.advances)
     (c.refute_lowered.ensures.open r q (c.in_ok-lowered.ensures.lowered q is))
 
 pub returns-clause-refused : goal.returns-clause-refused
 returns-clause-refused g c =
     λ r q is.
-    subst (λ w. IsRefusedAlone g.H.GoalHandler.handled g.H.GoalHandler.Rule g.H.GoalHandler.coinductive g.H.GoalHandler.ready g.H.GoalHandler.meaning w c.args.graph.now.root_depth (unbound_reference q.asked))
+    subst (λ w. IsRefusedAlone g.H.GoalHandler.meaning w c.args.graph.now.root_depth (unbound_reference q.asked))
     (c.rest_laws.ensures.meaning c.args.cx.now c.lower_in.new.cx c.requires.rest.ready c.lower_in.ensures.advances)
     (c.refute_lowered.ensures.refused r q (c.in_ok-lowered.ensures.lowered q is))
 

@@ -112,7 +112,7 @@ returns-in-Err-Fault-clause-asked g c =
 pub returns-in-Ok-clause-holds : goal.returns-in-Ok-clause-holds
 returns-in-Ok-clause-holds g c = λ e.
     let h = c.read.ensures.holds (ok-same e) in
-    proved-once g.H.GoalHandler.handled g.H.GoalHandler.Rule g.H.GoalHandler.coinductive g.H.GoalHandler.ready g.H.GoalHandler.meaning (g.H.GoalHandler.meaning c.args.cx.now.handler c.args.cx.now.interner.entries) c.args.cx.now c.evaluate_root_goal.new.cx c.args.table.now c.evaluate_root_goal.new.table c.args.goal.now
+    proved-once g.H.GoalHandler.meaning (g.H.GoalHandler.meaning.world c.args.cx.now.handler c.args.cx.now.interner.entries) c.args.cx.now c.evaluate_root_goal.new.cx c.args.table.now c.evaluate_root_goal.new.table c.args.goal.now
     c.in-Ok.ensures.narrows (c.in-Ok.ensures.yes h.0 h.1)
 
 pub returns-in-Ok-clause-changes : goal.returns-in-Ok-clause-changes

@@ -24,7 +24,7 @@ returns-in-Consider-clause-asks g c =
     let f = c.args.self.now in
     let old = c.args.cx.now.entries in
     let new = c.step.new.cx.entries in
-    let h = g.H.GoalHandler.handled (g.H.GoalHandler.meaning c.args.handler.now old) f.goal.mode (form_of old f.goal) in
+    let h = g.H.GoalHandler.meaning.goals.handled (g.H.GoalHandler.meaning.world c.args.handler.now old) f.goal.mode (form_of old f.goal) in
     λ p b.
     considers-next h f.goal.mode old new c.step.ensures.keeps f.considered.items c.requires.held.considered c.in-Consider.spec p
     (subst (ComesNext h new (map (shown_by old) f.considered.items)) c.in-Consider.is (rw (← c.deref.ensures.value) c.in_ok-spec.ensures.next)) b
@@ -42,7 +42,7 @@ returns-in-Answer-clause-asks g c =
     let f = c.args.self.now in
     let old = c.args.cx.now.entries in
     let new = c.step.new.cx.entries in
-    let h = g.H.GoalHandler.handled (g.H.GoalHandler.meaning c.args.handler.now old) f.goal.mode (form_of old f.goal) in
+    let h = g.H.GoalHandler.meaning.goals.handled (g.H.GoalHandler.meaning.world c.args.handler.now old) f.goal.mode (form_of old f.goal) in
     λ p b.
     let i =
     answers-next h new (map (shown_by old) f.considered.items) c.in-Answer.response c.in-Answer.ignored p
@@ -62,7 +62,7 @@ returns-in-NoSolution-clause-asks g c =
     let f = c.args.self.now in
     let old = c.args.cx.now.entries in
     let new = c.step.new.cx.entries in
-    let h = g.H.GoalHandler.handled (g.H.GoalHandler.meaning c.args.handler.now old) f.goal.mode (form_of old f.goal) in
+    let h = g.H.GoalHandler.meaning.goals.handled (g.H.GoalHandler.meaning.world c.args.handler.now old) f.goal.mode (form_of old f.goal) in
     λ p b.
     let i =
     refuses-next h new (map (shown_by old) f.considered.items) p
@@ -74,6 +74,6 @@ pub returns-in_err-spec-clause-full : goal.returns-in_err-spec-clause-full
 returns-in_err-spec-clause-full g c = λ q.
     let f = c.args.self.now in
     let old = c.args.cx.now.entries in
-    let h = g.H.GoalHandler.handled (g.H.GoalHandler.meaning c.args.handler.now old) f.goal.mode (form_of old f.goal) in
+    let h = g.H.GoalHandler.meaning.goals.handled (g.H.GoalHandler.meaning.world c.args.handler.now old) f.goal.mode (form_of old f.goal) in
     subst (λ done. SomeKindIsFull c.step.new.cx.entries c.step.new.cx.limit ⊎ NextRunsOut old h f.goal.variables.items done) c.deref.ensures.value
     (handed-on c.from_residual.result c.from_residual.ensures.1 (λ p. c.in_err-spec.ensures.full (ap Err p)) q)

@@ -25,9 +25,9 @@ pub returns-in-Ok-Ask-clause-goes_on : goal.returns-in-Ok-Ask-clause-goes_on
 returns-in-Ok-Ask-clause-goes_on g c = λ old new p k held hs comes.
     let x = c.in-Ok-Ask in
     let f = c.args.self.now in
-    let m = g.H.GoalHandler.meaning c.args.handler.now old in
-    let h = g.H.GoalHandler.handled m f.goal.mode (form_of old f.goal) in
-    let begins = begins-known h f.goal.variables.items (g.met.H.GoalHandler.begins m f.goal.mode (form_of old f.goal)) in
+    let m = g.H.GoalHandler.meaning.world c.args.handler.now old in
+    let h = g.H.GoalHandler.meaning.goals.handled m f.goal.mode (form_of old f.goal) in
+    let begins = begins-known h f.goal.variables.items (g.met.H.GoalHandler.lawful.goals.begins m f.goal.mode (form_of old f.goal)) in
     let args = trees_at old f.goal.goal.predicate.trait_ref.args.0 in
     let is = x.is ∙ ap Ok x.field-0-is in
     let kind = c.kind_of_step-kind.ensures
@@ -43,9 +43,9 @@ pub returns-in-Ok-Ready-clause-goes_on : goal.returns-in-Ok-Ready-clause-goes_on
 returns-in-Ok-Ready-clause-goes_on g c = λ old new p k held hs comes.
     let x = c.in-Ok-Ready in
     let f = c.args.self.now in
-    let m = g.H.GoalHandler.meaning c.args.handler.now old in
-    let h = g.H.GoalHandler.handled m f.goal.mode (form_of old f.goal) in
-    let begins = begins-known h f.goal.variables.items (g.met.H.GoalHandler.begins m f.goal.mode (form_of old f.goal)) in
+    let m = g.H.GoalHandler.meaning.world c.args.handler.now old in
+    let h = g.H.GoalHandler.meaning.goals.handled m f.goal.mode (form_of old f.goal) in
+    let begins = begins-known h f.goal.variables.items (g.met.H.GoalHandler.lawful.goals.begins m f.goal.mode (form_of old f.goal)) in
     let is = x.is ∙ ap Ok x.field-0-is in
     let there =
     answers-on old new k h f held begins c.args.source p x.answer
@@ -59,9 +59,9 @@ returns-in-Err-NoSolution-clause-goes_on g c =
     let is : c.args.step ≡ Err NoSolution = search rules in
     λ old new p k held hs comes.
     let f = c.args.self.now in
-    let m = g.H.GoalHandler.meaning c.args.handler.now old in
-    let h = g.H.GoalHandler.handled m f.goal.mode (form_of old f.goal) in
-    let begins = begins-known h f.goal.variables.items (g.met.H.GoalHandler.begins m f.goal.mode (form_of old f.goal)) in
+    let m = g.H.GoalHandler.meaning.world c.args.handler.now old in
+    let h = g.H.GoalHandler.meaning.goals.handled m f.goal.mode (form_of old f.goal) in
+    let begins = begins-known h f.goal.variables.items (g.met.H.GoalHandler.lawful.goals.begins m f.goal.mode (form_of old f.goal)) in
     let there = refuses-on old new k h f held begins c.args.source p (subst (λ s. ComesTo h new f.goal (map (shown_by old) f.considered.items) c.args.source s p) is comes) in
     subst (λ (z : GoalFrame). FrameHeld new z × RequestHeld new c.finish-in-Err-NoSolution.result × AsksAt f.goal.mode new h z c.finish-in-Err-NoSolution.result p) (sym c.finish-in-Err-NoSolution.ensures.place)
     (subst (λ (q : Request CanonicalInput (Option CanonicalResponse)). FrameHeld new (record f { place = Finishing c.args.source None }) × RequestHeld new q × AsksAt f.goal.mode new h (record f { place = Finishing c.args.source None }) q p)

@@ -48,7 +48,7 @@ pub go_on-requires-clause-between : goal.go_on-requires-clause-between
 go_on-requires-clause-between g c =
     let es = c.args.cx.now.entries in
     let f = c.args.self.now in
-    let h = g.H.GoalHandler.handled (g.H.GoalHandler.meaning c.args.handler.now es) f.goal.mode (form_of es f.goal) in
+    let h = g.H.GoalHandler.meaning.goals.handled (g.H.GoalHandler.meaning.world c.args.handler.now es) f.goal.mode (form_of es f.goal) in
     let due = c.requires.due in
     (position (frame_of_goal frame_tables h) (begin ∷ due.0), begun-there h es f due.0 due.1 (sym c.replace.ensures.value ∙ c.in-Begun-Begin.is-0))
 
@@ -56,8 +56,8 @@ pub go_on-requires-in-Finishing-Finished-clause-between : goal.go_on-requires-in
 go_on-requires-in-Finishing-Finished-clause-between g c =
     let es = c.args.cx.now.entries in
     let f = c.args.self.now in
-    let m = g.H.GoalHandler.meaning c.args.handler.now es in
-    let h = g.H.GoalHandler.handled m f.goal.mode (form_of es f.goal) in
+    let m = g.H.GoalHandler.meaning.world c.args.handler.now es in
+    let h = g.H.GoalHandler.meaning.goals.handled m f.goal.mode (form_of es f.goal) in
     let due = c.requires.due in
     let x = c.in-Finishing-Finished in
     let o = subst (λ r. CameInOrder (Anything frame_tables h) (frame_of_goal frame_tables h) (reply_read es r ∷ due.0)) x.is-1 due.2 in
@@ -65,7 +65,7 @@ go_on-requires-in-Finishing-Finished-clause-between g c =
       position (frame_of_goal frame_tables h) (finished x.head_usages ∷ due.0),
       subst (λ xs. IsBetween h xs (position (frame_of_goal frame_tables h) (finished x.head_usages ∷ due.0)))
           (sym (shown-more es f.considered.items d) ∙ ap (map (shown_by es)) (sym c.in_ok-push-in-Finishing-Finished.ensures.items))
-          (finishes-there h es f due.0 due.1 (g.met.H.GoalHandler.lawful m f.goal.mode (form_of es f.goal)) x.source x.outcome x.head_usages (sym c.replace.ensures.value ∙ x.is-0) o),
+          (finishes-there h es f due.0 due.1 (g.met.H.GoalHandler.lawful.goals.handlers m f.goal.mode (form_of es f.goal)) x.source x.outcome x.head_usages (sym c.replace.ensures.value ∙ x.is-0) o),
     )
 
 pub returns-in-Begun-Begin-clause-steps : goal.returns-in-Begun-Begin-clause-steps
@@ -74,7 +74,7 @@ returns-in-Begun-Begin-clause-steps g c =
     let new = c.go_on.new.cx.entries in
     let f = c.args.self.now in
     let after = c.go_on.new.self in
-    let h = g.H.GoalHandler.handled (g.H.GoalHandler.meaning c.args.handler.now es) f.goal.mode (form_of es f.goal) in
+    let h = g.H.GoalHandler.meaning.goals.handled (g.H.GoalHandler.meaning.world c.args.handler.now es) f.goal.mode (form_of es f.goal) in
     both-ok (λ q. FrameHeld new after × RequestHeld new q) (λ q. (p : Standing) → IsBetween h (map (shown_by es) f.considered.items) p → IsRequest f.goal.mode new q (request p) × Stands h new after.goal (map (shown_by new) after.considered.items) after.place p)
     (Steps es h f (reply_read es c.args.reply) new after) c.go_on.result
     (λ q held asks.
@@ -105,8 +105,8 @@ returns-in-Entering-Entered-clause-held g c =
     let new = c.begin_candidate-step.new.cx.entries in
     let f = c.args.self.now in
     let after = c.go_on_with.new.self in
-    let m = g.H.GoalHandler.meaning c.args.handler.now es in
-    let h = g.H.GoalHandler.handled m f.goal.mode (form_of es f.goal) in
+    let m = g.H.GoalHandler.meaning.world c.args.handler.now es in
+    let h = g.H.GoalHandler.meaning.goals.handled m f.goal.mode (form_of es f.goal) in
     let x = c.in-Entering-Entered in
     let step = c.begin_candidate-step in
     let is = sym c.replace.ensures.value ∙ x.is-0 in
@@ -124,8 +124,8 @@ returns-in-Entering-Entered-clause-steps g c =
     let new = c.begin_candidate-step.new.cx.entries in
     let f = c.args.self.now in
     let after = c.go_on_with.new.self in
-    let m = g.H.GoalHandler.meaning c.args.handler.now es in
-    let h = g.H.GoalHandler.handled m f.goal.mode (form_of es f.goal) in
+    let m = g.H.GoalHandler.meaning.world c.args.handler.now es in
+    let h = g.H.GoalHandler.meaning.goals.handled m f.goal.mode (form_of es f.goal) in
     let x = c.in-Entering-Entered in
     let step = c.begin_candidate-step in
     let is = sym c.replace.ensures.value ∙ x.is-0 in
@@ -151,8 +151,8 @@ returns-in-Inside-Result-clause-held g c =
     let new = c.resume-step.new.cx.entries in
     let f = c.args.self.now in
     let after = c.go_on_with-in-Inside-Result.new.self in
-    let m = g.H.GoalHandler.meaning c.args.handler.now es in
-    let h = g.H.GoalHandler.handled m f.goal.mode (form_of es f.goal) in
+    let m = g.H.GoalHandler.meaning.world c.args.handler.now es in
+    let h = g.H.GoalHandler.meaning.goals.handled m f.goal.mode (form_of es f.goal) in
     let x = c.in-Inside-Result in
     let step = c.resume-step in
     let is = sym c.replace.ensures.value ∙ x.is-0 in
@@ -172,8 +172,8 @@ returns-in-Inside-Result-clause-steps g c =
     let new = c.resume-step.new.cx.entries in
     let f = c.args.self.now in
     let after = c.go_on_with-in-Inside-Result.new.self in
-    let m = g.H.GoalHandler.meaning c.args.handler.now es in
-    let h = g.H.GoalHandler.handled m f.goal.mode (form_of es f.goal) in
+    let m = g.H.GoalHandler.meaning.world c.args.handler.now es in
+    let h = g.H.GoalHandler.meaning.goals.handled m f.goal.mode (form_of es f.goal) in
     let x = c.in-Inside-Result in
     let step = c.resume-step in
     let is = sym c.replace.ensures.value ∙ x.is-0 in
@@ -201,8 +201,8 @@ returns-in_ok-push-in-Finishing-Finished-clause-steps g c =
     let new = c.go_on-in-Finishing-Finished.new.cx.entries in
     let f = c.args.self.now in
     let after = c.go_on-in-Finishing-Finished.new.self in
-    let m = g.H.GoalHandler.meaning c.args.handler.now es in
-    let h = g.H.GoalHandler.handled m f.goal.mode (form_of es f.goal) in
+    let m = g.H.GoalHandler.meaning.world c.args.handler.now es in
+    let h = g.H.GoalHandler.meaning.goals.handled m f.goal.mode (form_of es f.goal) in
     let x = c.in-Finishing-Finished in
     let d : Considered = record { source = x.source; result = x.outcome; head_usages = x.head_usages } in
     both-ok (λ q. FrameHeld new after × RequestHeld new q)
@@ -215,7 +215,7 @@ returns-in_ok-push-in-Finishing-Finished-clause-steps g c =
     let p = position (frame_of_goal frame_tables h) (finished x.head_usages ∷ heard) in
     asks p
     (subst (λ xs. IsBetween h xs p) (sym (shown-more es f.considered.items d) ∙ ap (map (shown_by es)) (sym c.in_ok-push-in-Finishing-Finished.ensures.items))
-    (finishes-there h es f heard b (g.met.H.GoalHandler.lawful m f.goal.mode (form_of es f.goal)) x.source x.outcome x.head_usages (sym c.replace.ensures.value ∙ x.is-0) o))) held.0))
+    (finishes-there h es f heard b (g.met.H.GoalHandler.lawful.goals.handlers m f.goal.mode (form_of es f.goal)) x.source x.outcome x.head_usages (sym c.replace.ensures.value ∙ x.is-0) o))) held.0))
     c.go_on-in-Finishing-Finished.ensures.held c.go_on-in-Finishing-Finished.ensures.asks
 
 pub returns-in-Ignoring-Ignored-clause-held : goal.returns-in-Ignoring-Ignored-clause-held
@@ -231,7 +231,7 @@ returns-in-Ignoring-Ignored-clause-steps g c =
     let es = c.args.cx.now.entries in
     let f = c.args.self.now in
     let after = c.ignore_from.new.self in
-    let h = g.H.GoalHandler.handled (g.H.GoalHandler.meaning c.args.handler.now es) f.goal.mode (form_of es f.goal) in
+    let h = g.H.GoalHandler.meaning.goals.handled (g.H.GoalHandler.meaning.world c.args.handler.now es) f.goal.mode (form_of es f.goal) in
     let x = c.in-Ignoring-Ignored in
     let held = c.requires.due.1.held in
     let place = subst (PlaceHeld f.goal es) (sym c.replace.ensures.value ∙ x.is-0) held.place in
@@ -249,14 +249,14 @@ pub returns-in-Begun-Begin-clause-full : goal.returns-in-Begun-Begin-clause-full
 returns-in-Begun-Begin-clause-full g c = λ q.
     let es = c.args.cx.now.entries in
     let f = c.args.self.now in
-    let h = g.H.GoalHandler.handled (g.H.GoalHandler.meaning c.args.handler.now es) f.goal.mode (form_of es f.goal) in
+    let h = g.H.GoalHandler.meaning.goals.handled (g.H.GoalHandler.meaning.world c.args.handler.now es) f.goal.mode (form_of es f.goal) in
     or-then (λ n. runs-out-there es h f InCode.Begun c.args.reply Replied.Begin (sym c.replace.ensures.value ∙ c.in-Begun-Begin.is-0) c.in-Begun-Begin.is-1 n) (c.go_on.ensures.full q)
 
 pub returns-in-Entering-Entered-clause-full : goal.returns-in-Entering-Entered-clause-full
 returns-in-Entering-Entered-clause-full g c = λ q.
     let es = c.args.cx.now.entries in
     let f = c.args.self.now in
-    let h = g.H.GoalHandler.handled (g.H.GoalHandler.meaning c.args.handler.now es) f.goal.mode (form_of es f.goal) in
+    let h = g.H.GoalHandler.meaning.goals.handled (g.H.GoalHandler.meaning.world c.args.handler.now es) f.goal.mode (form_of es f.goal) in
     let x = c.in-Entering-Entered in
     or-then (λ n. runs-out-there es h f (InCode.Entering x.spec) c.args.reply Replied.Entered (sym c.replace.ensures.value ∙ x.is-0) x.is-1 n)
     (c.begin_candidate-step.ensures.full (c.go_on_with.ensures.fault Full q))
@@ -265,7 +265,7 @@ pub returns-in-Inside-Result-clause-full : goal.returns-in-Inside-Result-clause-
 returns-in-Inside-Result-clause-full g c = λ q.
     let es = c.args.cx.now.entries in
     let f = c.args.self.now in
-    let h = g.H.GoalHandler.handled (g.H.GoalHandler.meaning c.args.handler.now es) f.goal.mode (form_of es f.goal) in
+    let h = g.H.GoalHandler.meaning.goals.handled (g.H.GoalHandler.meaning.world c.args.handler.now es) f.goal.mode (form_of es f.goal) in
     let x = c.in-Inside-Result in
     or-then (λ n. runs-out-there es h f (InCode.Inside x.source x.waiting) c.args.reply (Replied.Result x.answer) (sym c.replace.ensures.value ∙ x.is-0) x.is-1 n)
     (c.resume-step.ensures.full (c.go_on_with-in-Inside-Result.ensures.fault Full q))
@@ -274,7 +274,7 @@ pub returns-in_ok-push-in-Finishing-Finished-clause-full : goal.returns-in_ok-pu
 returns-in_ok-push-in-Finishing-Finished-clause-full g c = λ q.
     let es = c.args.cx.now.entries in
     let f = c.args.self.now in
-    let h = g.H.GoalHandler.handled (g.H.GoalHandler.meaning c.args.handler.now es) f.goal.mode (form_of es f.goal) in
+    let h = g.H.GoalHandler.meaning.goals.handled (g.H.GoalHandler.meaning.world c.args.handler.now es) f.goal.mode (form_of es f.goal) in
     let x = c.in-Finishing-Finished in
     or-then
     (λ n.

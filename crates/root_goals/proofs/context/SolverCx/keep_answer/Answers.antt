@@ -12,7 +12,7 @@ pub returns-in_ok-id-in-Some-clause-is : goal.returns-in_ok-id-in-Some-clause-is
 returns-in_ok-id-in-Some-clause-is g c =
     let cx = c.args.self.now in
     let es = cx.interner.entries in
-    let ready = g.H.GoalHandler.ready in
+    let ready = g.H.GoalHandler.meaning.IsReady in
     let new : SolverCx g.row.H.Denot = record cx { store = c.keep_response.new.self } in
     let held = subst (ResultHeld es) c.in-Some.is c.requires.held in
     let now : IsReady ready new = record { handler = c.requires.ready.handler; store = c.keep_response.ensures.held es held c.requires.ready.store; lawful = c.requires.ready.lawful } in

@@ -11,7 +11,7 @@ pub returns-clause-is : goal.returns-clause-is
 returns-clause-is g c =
     let cx = c.args.self.now in
     let es = cx.interner.entries in
-    let ready = g.H.GoalHandler.ready in
+    let ready = g.H.GoalHandler.meaning.IsReady in
     let new : SolverCx g.row.H.Denot = record cx { store = c.keep_input.new.self } in
     let now : IsReady ready new = record { handler = c.requires.ready.handler; store = c.keep_input.ensures.held es c.requires.held c.requires.ready.store; lawful = c.requires.ready.lawful } in
     one-ok (λ id. StandsForInput c.keep_input.new.self id c.args.goal) (λ id. IsInput ready new id × (goal_of new id ≡ asked_of es c.args.goal)) c.keep_input.result

@@ -13,20 +13,20 @@ use Rattle.root_goals.proofs.graph.SolverGraphDelegate.propagate_ambiguity.Goals
 pub returns-clause-keeps : goal.returns-clause-keeps
 returns-clause-keeps g c =
     let h = g.H.GoalHandler in
-    keeps h.handled h.Rule h.coinductive h.ready h.meaning g.met.H.GoalHandler.meaning_kept c.args.cx.now c.silent_answer.new.cx c.requires.0 c.silent_answer.ensures.advances
+    keeps h.meaning g.met.H.GoalHandler.lawful.world_kept c.args.cx.now c.silent_answer.new.cx c.requires.0 c.silent_answer.ensures.advances
 
 pub returns-clause-fair : goal.returns-clause-fair
 returns-clause-fair g c =
     let h = g.H.GoalHandler in
-    let m = g.met.H.GoalHandler in
+    let lawful = g.met.H.GoalHandler.lawful.goals in
     let cx = c.args.cx.now in
     let asked = goal_of cx c.args.for_input.now in
-    let w = h.meaning cx.handler cx.interner.entries in
-    let laws = handlers-are-programs h.handled h.Rule h.coinductive m.begins m.lawful m.instances m.rules m.kinds m.numbers m.worlds m.outside in
+    let w = h.meaning.world cx.handler cx.interner.entries in
+    let laws = handlers-are-programs h.meaning.goals lawful in
     let cause = c.args.ambiguity_info in
-    one-ok (λ r. IsResult h.ready c.silent_answer.new.cx r × (answer_of c.silent_answer.new.cx r ≡ silent asked.1 (Maybe cause)))
-    (λ r. IsFair (solver_meaning h.handled h.Rule h.coinductive h.ready h.meaning) w asked (answer_of c.silent_answer.new.cx r)) c.silent_answer.result
-    (λ r x. subst (IsFair (solver_meaning h.handled h.Rule h.coinductive h.ready h.meaning) w asked) (sym x.1) (silent-fair h.handled h.Rule h.coinductive h.ready h.meaning m.begins m.lawful laws w asked (Maybe cause)))
+    one-ok (λ r. IsResult h.meaning.IsReady c.silent_answer.new.cx r × (answer_of c.silent_answer.new.cx r ≡ silent asked.1 (Maybe cause)))
+    (λ r. IsFair (solver_meaning h.meaning) w asked (answer_of c.silent_answer.new.cx r)) c.silent_answer.result
+    (λ r x. subst (IsFair (solver_meaning h.meaning) w asked) (sym x.1) (silent-fair h.meaning lawful laws w asked (Maybe cause)))
     c.silent_answer.ensures.is
 
 pub returns-clause-full : goal.returns-clause-full

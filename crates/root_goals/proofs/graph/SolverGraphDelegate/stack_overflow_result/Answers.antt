@@ -5,7 +5,7 @@ use Rattle.root_goals.proofs.graph.SolverGraphDelegate.stack_overflow_result.Goa
 pub returns-clause-keeps : goal.returns-clause-keeps
 returns-clause-keeps g c =
     let h = g.H.GoalHandler in
-    keeps h.handled h.Rule h.coinductive h.ready h.meaning g.met.H.GoalHandler.meaning_kept c.args.cx.now c.silent_answer.new.cx c.requires.0 c.silent_answer.ensures.advances
+    keeps h.meaning g.met.H.GoalHandler.lawful.world_kept c.args.cx.now c.silent_answer.new.cx c.requires.0 c.silent_answer.ensures.advances
 
 pub returns-clause-full : goal.returns-clause-full
 returns-clause-full g c = λ q. inl (c.silent_answer.ensures.full q)

@@ -10,8 +10,8 @@ returns-clause-started g c =
     let asked = goal_of cx c.args.input.now in
     let es = cx.interner.entries in
     let x = c.in_ok-goal in
-    started h.handled h.Rule h.coinductive h.ready h.meaning g.met.H.GoalHandler.meaning_kept cx c.args.input.now x.goal c.new.result c.requires x.ensures.is c.new.ensures.goal
-    (c.new.ensures.heard es (h.meaning cx.handler es) asked.0 asked.1 (x.ensures.held es c.requires.0.store))
+    started h.meaning g.met.H.GoalHandler.lawful.world_kept cx c.args.input.now x.goal c.new.result c.requires x.ensures.is c.new.ensures.goal
+    (c.new.ensures.heard es (h.meaning.world cx.handler es) asked.0 asked.1 (x.ensures.held es c.requires.0.store))
 
 pub returns-in_err-goal-clause-full : goal.returns-in_err-goal-clause-full
 returns-in_err-goal-clause-full g c = λ q. handed-on c.from_residual.result c.from_residual.ensures.1 (λ p. let memory = c.in_err-goal.ensures.memory in cc) q
