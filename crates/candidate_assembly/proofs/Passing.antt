@@ -1,11 +1,10 @@
 -- A walk over the impls whose heads match passes over those that cannot match, and stops at the next that can.
-use Rattle.std.proofs.Common.{◌≡◌, ℕ, ◌<◌, ◌≤◌, ◌+◌, ◌-◌, Bool, true, false, cond, ◌&&◌, not, arith, List, [], ◌∷◌, Option, Some, None, refl, sym, ap, ◌∙◌}
+use Rattle.std.proofs.Common.{◌≡◌, ℕ, ◌<◌, Bool, true, false, cond, ◌&&◌, not, arith, List, [], ◌∷◌, Option, Some, None, refl, sym, ap, ◌∙◌}
 use Rattle.std.proofs.lemmas.Bool.Decides.{nat_tests}
 use Rattle.std.specs.Prelude.{◌==◌, filter, map, nat_lt, if◌then◌else◌}
 use Rattle.model.specs.Worlds.{ImplDecl}
 use Rattle.type_terms.specs.Terms.{Entry}
 use Rattle.type_terms.specs.declared.ImplId.{ImplId}
-use Rattle.type_terms.specs.declared.TheConstants.{MAX_INDEX}
 use Rattle.declarations.specs.Items.{HeldImpl, impl_in}
 use Rattle.declarations.specs.Merges.{Each, Rises}
 use Rattle.declarations.specs.Relevant.{is_above, next_above}
@@ -16,6 +15,12 @@ use Rattle.built_in_candidates.proofs.Relevant.{names}
 
 same-some : (m n : ℕ) → Some m ≡ Some n → m ≡ n
 same-some m n e = cc
+
+first-number : {m n : ℕ} {ms ns : List ℕ} → m ∷ ms ≡ n ∷ ns → m ≡ n
+first-number e = cc
+
+other-numbers : {m n : ℕ} {ms ns : List ℕ} → m ∷ ms ≡ n ∷ ns → ms ≡ ns
+other-numbers e = cc
 
 same-number : (m n : ℕ) → m ≡ n → (n == m) ≡ true
 same-number m n h = grind (arith, nat_tests)
@@ -42,21 +47,6 @@ next-is-above last (n ∷ ns) m e = by (is_above last n) refl e (next-is-above l
     by : (b : Bool) → is_above last n ≡ b → Some m ≡ (if b then Some n else next_above last ns) → (Some m ≡ next_above last ns → is_above last m ≡ true) → is_above last m ≡ true
     by true q f go = ap (is_above last) (same-some m n f) ∙ q
     by false q f go = go f
-
--- ---- fewer and fewer are left
-abbrev pub numbers_left : Option ImplId → ℕ
-numbers_left None = MAX_INDEX + 2
-numbers_left (Some i) = MAX_INDEX + 1 - i.index
-
-pub fewer-left : (ns : List ℕ) (last : Option ImplId) (id : ImplId) → Some id.index ≡ next_above last ns → numbers_left (Some id) < numbers_left last
-fewer-left ns None id e = omega arith
-fewer-left ns (Some j) id e = fewer (above j.index id.index (next-is-above (Some j) ns id.index e)) id.in_range
-  where
-    above : (x y : ℕ) → nat_lt x y ≡ true → x < y
-    above x y q = grind (arith, nat_tests)
-
-    fewer : j.index < id.index → id.index ≤ MAX_INDEX → MAX_INDEX + 1 - id.index < MAX_INDEX + 1 - j.index
-    fewer h g = omega (arith, h, g)
 
 -- ---- of two tests the second passes fewer
 module _ (es : List Entry) (p q : ImplDecl → Bool) (fewer : (i : ImplDecl) → p i ≡ false → q i ≡ false) where
@@ -129,6 +119,15 @@ module _ (es : List Entry) (p q : ImplDecl → Bool) (fewer : (i : ImplDecl) →
       by true go = ap (λ z. if z then Some i.id.index else next_above last (qs is)) h.0 ∙ sym (ap (λ z. if z then Some i.id.index else next_above other (qs is)) g.0)
       by false go = go
 
+  -- what is left behind the first of those that are above `last`
+  all-above : (last : Option ImplId) (is : List HeldImpl) → Each (λ (j : ImplId). is_above last j.index ≡ true) (ids is) → filter (is_above last) (ps is) ≡ ps is
+  all-above last [] h = refl
+  all-above last (i ∷ is) h = by (p (one i)) (all-above last is h.1)
+    where
+      by : (x : Bool) → filter (is_above last) (ps is) ≡ ps is → filter (is_above last) (more x i (filter p (decls is))) ≡ more x i (filter p (decls is))
+      by true go = ap (λ b. cond b (i.id.index ∷ filter (is_above last) (ps is)) (filter (is_above last) (ps is))) h.0 ∙ ap (λ r. i.id.index ∷ r) go
+      by false go = go
+
   each-map : (P R : ImplId → Type 0) (xs : List ImplId) → ((x : ImplId) → P x → R x) → Each P xs → Each R xs
   each-map P R [] f h = tt
   each-map P R (x ∷ xs) f h = (f x h.0, each-map P R xs f h.1)
@@ -163,6 +162,26 @@ module _ (es : List Entry) (p q : ImplDecl → Bool) (fewer : (i : ImplDecl) →
       by true false false a b c f go = go (f ∙ ap (λ z. if z then Some i.id.index else next_above last (ps is)) c)
       by false true u a b c f go = let bad : true ≡ false = sym b ∙ fewer (one i) a in absurd cc
       by false false u a b c f go = go f
+
+  pub left-behind : (last : Option ImplId) (id : ImplId) (rest : List ℕ) (is : List HeldImpl) → Rises (ids is) → is_above last id.index ≡ true → id.index ∷ rest ≡ filter (is_above last) (ps is)
+      → rest ≡ filter (is_above (Some id)) (ps is)
+  left-behind last id rest [] r a e = absurd cc
+  left-behind last id rest (i ∷ is) r a e = by (p (one i)) (is_above last i.id.index) refl e (left-behind last id rest is r.1 a)
+    where
+      by : (x u : Bool) → is_above last i.id.index ≡ u → id.index ∷ rest ≡ filter (is_above last) (more x i (filter p (decls is)))
+          → (id.index ∷ rest ≡ filter (is_above last) (ps is) → rest ≡ filter (is_above (Some id)) (ps is)) → rest ≡ filter (is_above (Some id)) (more x i (filter p (decls is)))
+      by true true c f go =
+          let whole : id.index ∷ rest ≡ i.id.index ∷ filter (is_above last) (ps is) = f ∙ ap (λ b. cond b (i.id.index ∷ filter (is_above last) (ps is)) (filter (is_above last) (ps is))) c in
+          let found : id.index ≡ i.id.index = first-number whole in
+          let others : rest ≡ filter (is_above last) (ps is) = other-numbers whole in
+          let after = each-map (λ (j : ImplId). i.id.index < j.index) (λ (j : ImplId). is_above last j.index ≡ true) (ids is) (λ j l. later-above last i.id.index j.index c l) r.0 in
+          let behind = each-map (λ (j : ImplId). i.id.index < j.index) (λ (j : ImplId). is_above (Some id) j.index ≡ true) (ids is) (λ j l. ap (λ z. nat_lt z j.index) found ∙ is-above-it i.id.index j.index l) r.0 in
+          others ∙ all-above last is after ∙ sym (all-above (Some id) is behind)
+          ∙ ap (λ b. cond b (i.id.index ∷ filter (is_above (Some id)) (ps is)) (filter (is_above (Some id)) (ps is))) (sym (itself-not-above id.index i.id.index found))
+      by true false c f go =
+          go (f ∙ ap (λ b. cond b (i.id.index ∷ filter (is_above last) (ps is)) (filter (is_above last) (ps is))) c)
+          ∙ ap (λ b. cond b (i.id.index ∷ filter (is_above (Some id)) (ps is)) (filter (is_above (Some id)) (ps is))) (sym (not-above last id.index i.id.index a c))
+      by false u c f go = go f
 
 -- ---- the two tests of a goal
 pub each-then : (P Q : ImplDecl → Type 0) (n : ℕ) (js : List ImplDecl) → ((j : ImplDecl) → P j → Q j) → Each (λ (j : ImplDecl). (j.name == n) ≡ true → P j) js → Each (λ (j : ImplDecl). (j.name == n) ≡ true → Q j) js

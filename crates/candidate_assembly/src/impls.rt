@@ -23,6 +23,7 @@ use built_in_candidates::parts::nested_goals;
 use built_in_candidates::relate::relate_args;
 use declarations::declarations::Declarations;
 use declarations::items::ImplDef;
+use declarations::merge::split_smaller;
 use evaluation::{CandidateSource, CandidateSpec, Certainty, GoalSource};
 use infer_table::canonical::CanonicalVarKind;
 use infer_table::input::CanonicalInput;
@@ -120,13 +121,9 @@ fn next_matching_impl(
 {
     let trait_ref = goal.goal.predicate.trait_ref;
     let self_ty = trait_ref.self_ty(cx);
-    let mut passed = last;
-    'impls: while let Some(id) = declarations.next_relevant_impl(
-        cx,
-        trait_ref.def_id,
-        self_ty,
-        passed,
-    ) {
+    let lists = declarations.relevant_impls_above(cx, trait_ref.def_id, self_ty, last);
+    let (mut blanket, mut same_head) = lists;
+    'impls: while let Some((id, blanket_left, same_head_left)) = split_smaller(blanket, same_head) {
         match declarations.impl_def(id) {
             Some(def) => {
                 if !are_apart(cx, trait_ref.args, def.header.args) {
@@ -135,7 +132,8 @@ fn next_matching_impl(
             }
             None => unreachable!(),
         }
-        passed = Some(id);
+        blanket = blanket_left;
+        same_head = same_head_left;
     }
     None
 }

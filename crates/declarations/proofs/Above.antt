@@ -112,20 +112,27 @@ module _ (last : Option ImplId) (t : ℕ) (h : Option Label) (is : List HeldImpl
   rises-above r = rises-kept above matching (rises-filtered (λ (i : HeldImpl). i.id) (rel t h) is r)
 
 -- ---- the first of them
-pub none-above : (last : Option ImplId) (ids : List ImplId) → filter (λ i. is_above last i.index) ids ≡ [] → None ≡ next_above last (names_of ids)
-none-above last [] h = refl
-none-above last (i ∷ ids) h = by (is_above last i.index) h (none-above last ids)
+pub names-kept : (last : Option ImplId) (ids : List ImplId) → names_of (filter (λ i. is_above last i.index) ids) ≡ filter (is_above last) (names_of ids)
+names-kept last [] = refl
+names-kept last (i ∷ ids) = by (is_above last i.index) (names-kept last ids)
   where
-    by : (b : Bool) → cond b (i ∷ filter (λ i. is_above last i.index) ids) (filter (λ i. is_above last i.index) ids) ≡ []
-        → (filter (λ i. is_above last i.index) ids ≡ [] → None ≡ next_above last (names_of ids)) → None ≡ cond b (Some i.index) (next_above last (names_of ids))
+    by : (b : Bool) → names_of (filter (λ i. is_above last i.index) ids) ≡ filter (is_above last) (names_of ids)
+        → names_of (cond b (i ∷ filter (λ i. is_above last i.index) ids) (filter (λ i. is_above last i.index) ids)) ≡ cond b (i.index ∷ filter (is_above last) (names_of ids)) (filter (is_above last) (names_of ids))
+    by true h = ap (λ r. i.index ∷ r) h
+    by false h = h
+
+pub none-above : (last : Option ImplId) (ns : List ℕ) → [] ≡ filter (is_above last) ns → None ≡ next_above last ns
+none-above last [] h = refl
+none-above last (n ∷ ns) h = by (is_above last n) h (none-above last ns)
+  where
+    by : (b : Bool) → [] ≡ cond b (n ∷ filter (is_above last) ns) (filter (is_above last) ns) → ([] ≡ filter (is_above last) ns → None ≡ next_above last ns) → None ≡ cond b (Some n) (next_above last ns)
     by true h rest = absurd cc
     by false h rest = rest h
 
-pub first-above : (last : Option ImplId) (ids : List ImplId) (x : ImplId) (others : List ImplId) → filter (λ i. is_above last i.index) ids ≡ x ∷ others → Some x.index ≡ next_above last (names_of ids)
+pub first-above : (last : Option ImplId) (ns : List ℕ) (x : ℕ) (others : List ℕ) → x ∷ others ≡ filter (is_above last) ns → Some x ≡ next_above last ns
 first-above last [] x others h = absurd cc
-first-above last (i ∷ ids) x others h = by (is_above last i.index) h (first-above last ids x others)
+first-above last (n ∷ ns) x others h = by (is_above last n) h (first-above last ns x others)
   where
-    by : (b : Bool) → cond b (i ∷ filter (λ i. is_above last i.index) ids) (filter (λ i. is_above last i.index) ids) ≡ x ∷ others
-        → (filter (λ i. is_above last i.index) ids ≡ x ∷ others → Some x.index ≡ next_above last (names_of ids)) → Some x.index ≡ cond b (Some i.index) (next_above last (names_of ids))
-    by true h rest = let same : i ≡ x = cc in ap (λ (y : ImplId). Some y.index) (sym same)
+    by : (b : Bool) → x ∷ others ≡ cond b (n ∷ filter (is_above last) ns) (filter (is_above last) ns) → (x ∷ others ≡ filter (is_above last) ns → Some x ≡ next_above last ns) → Some x ≡ cond b (Some n) (next_above last ns)
+    by true h rest = cc
     by false h rest = rest h

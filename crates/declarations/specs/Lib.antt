@@ -6,6 +6,7 @@ pub mod Unsizing
 pub mod Elaboration
 pub mod Held
 pub mod Relevant
+pub mod TwoLists
 pub mod Applied
 pub mod Stacked
 pub mod Inside

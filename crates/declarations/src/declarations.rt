@@ -1,5 +1,5 @@
 //! The table of declarations.
-ghost use Rattle.std.specs.Prelude.{◌≡◌, ◌==◌, ◌||◌, List, [], ◌∷◌, ◌++◌, map, IfSome, IfErr, OnOk, OnErr};
+ghost use Rattle.std.specs.Prelude.{◌≡◌, ◌==◌, ◌||◌, List, [], ◌∷◌, ◌++◌, map, filter, IfSome, IfErr, OnOk, OnErr};
 ghost use Rattle.std.specs.Option.{option_map};
 ghost use Rattle.type_terms.specs.Terms.{Entry, Has, types, trees_at};
 ghost use Rattle.type_terms.specs.declared.Fault.TheVariants.{Memory};
@@ -11,7 +11,8 @@ ghost use Rattle.declarations.specs.Items.{IsOnly, ids_with, ids_headed, with_st
 ghost use Rattle.declarations.specs.Merges.{Rises};
 ghost use Rattle.declarations.specs.Held.{AreHeld, StructHeld, TraitHeld, ImplHeld};
 ghost use Rattle.declarations.specs.Unsizing.{TellUnsizing};
-ghost use Rattle.declarations.specs.Relevant.{impls_named, relevant_in, next_above, CallsAtEach};
+ghost use Rattle.declarations.specs.Relevant.{impls_named, relevant_in, is_above, next_above, CallsAtEach};
+ghost use Rattle.declarations.specs.TwoLists.{AreTogether};
 
 use crate::heads::{ImplHead, add_head, impls_with_head};
 use crate::items::{AdtDef, ImplDef, TraitDef};
@@ -235,6 +236,26 @@ impl Declarations {
         for_each_merged(blanket, same_head, f);
     }
 
+    /// The impls above `last` at which `for_each_relevant_impl` calls, in two lists, both by rising number: those whose self type is
+    /// a parameter, and those whose self type has the same head.
+    pub fn relevant_impls_above(
+        &self,
+        cx: &Interner,
+        trait_id: TraitId,
+        self_ty: Ty,
+        last: Option<ImplId>,
+    ) -> (&[ImplId], &[ImplId])
+        requires held { AreHeld cx.now.entries self.now }
+        requires self_held { Has cx.now.entries types self_ty.0 }
+        ensures are { AreTogether result.0.now result.1.now (filter (is_above last) (relevant_in cx.now.entries self.now trait_id.index (trees_at cx.now.entries self_ty.0))) }
+        ensures rises { Rises (map (λ i. i.id) self.now.impls) }
+    {
+        cx.lawful();
+        let blanket = ids_above(self.impls_with(trait_id, None), last);
+        let same_head = ids_above(self.with_head(trait_id, simplify_type(cx, self_ty)), last);
+        (blanket, same_head)
+    }
+
     /// The first impl above `last` at which `for_each_relevant_impl` calls. So a walk over these impls may stop at each, and go on
     /// behind it without the others being looked at again.
     pub fn next_relevant_impl(
@@ -249,9 +270,7 @@ impl Declarations {
         ensures is { option_map (λ i. i.index) result ≡ next_above last (relevant_in cx.now.entries self.now trait_id.index (trees_at cx.now.entries self_ty.0)) }
         ensures rises { Rises (map (λ i. i.id) self.now.impls) }
     {
-        cx.lawful();
-        let blanket = ids_above(self.impls_with(trait_id, None), last);
-        let same_head = ids_above(self.with_head(trait_id, simplify_type(cx, self_ty)), last);
+        let (blanket, same_head) = self.relevant_impls_above(cx, trait_id, self_ty, last);
         match split_smaller(blanket, same_head) {
             Some((id, _, _)) => Some(id),
             None => None,

@@ -7,6 +7,6 @@ mod elaborate;
 mod heads;
 pub mod items;
 pub mod laws;
-mod merge;
+pub mod merge;
 pub mod simplify;
 mod unsizing;

@@ -22,7 +22,7 @@ pub(crate) fn ids_above(ids: &[ImplId], last: Option<ImplId>) -> &[ImplId]
 }
 
 /// The smaller of the first of two lists, with what is left of both.
-pub(crate) fn split_smaller<'a>(
+pub fn split_smaller<'a>(
     first: &'a [ImplId],
     second: &'a [ImplId],
 ) -> Option<(ImplId, &'a [ImplId], &'a [ImplId])>

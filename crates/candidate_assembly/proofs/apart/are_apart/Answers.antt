@@ -1,4 +1,4 @@
-use Rattle.std.proofs.Common.{true, sym, ap, ◌∙◌, ◌&&◌}
+use Rattle.std.proofs.Common.{sym, ap, ◌∙◌, ◌&&◌}
 use Rattle.type_terms.specs.Terms.{trees_at}
 use Rattle.assembly_laws.specs.Apart.{is_fixed}
 use Rattle.candidate_assembly.proofs.Handles.{one-apart, two-apart}

@@ -1,52 +1,16 @@
-use Rattle.std.proofs.Common.{refl, sym, ap, ◌∙◌, None, subst}
-use Rattle.std.specs.Prelude.{filter}
-use Rattle.model.specs.Label.{of_type}
-use Rattle.model.specs.Trees.{IsA}
-use Rattle.type_terms.specs.Terms.{trees_at, types}
-use Rattle.type_terms.specs.declared.ImplId.{ImplId}
-use Rattle.type_terms.specs.Kept.{trees-is}
-use Rattle.declarations.specs.Heads.{head_of}
-use Rattle.declarations.specs.Items.{ids_headed}
-use Rattle.declarations.specs.Merges.{Rises}
-use Rattle.declarations.specs.Relevant.{is_above, next_above}
-use Rattle.declarations.proofs.Relevance.{all-relevant}
-use Rattle.declarations.proofs.Above.{rises-with, rises-headed, matching, merged-above, rises-above, none-above, first-above}
+use Rattle.std.proofs.Common.{sym, ap, ◌∙◌}
+use Rattle.declarations.specs.Relevant.{names_of}
+use Rattle.declarations.proofs.Above.{none-above, first-above}
 use Rattle.declarations.proofs.declarations.Declarations.next_relevant_impl.Goals as goal
-
-pub ids_above-blanket-requires : goal.ids_above-blanket-requires
-ids_above-blanket-requires c = subst Rises (sym c.impls_with.ensures.is) (rises-with c.args.trait_id.index None c.args.self.now.impls c.impls_with.ensures.rises)
-
-pub ids_above-same_head-requires : goal.ids_above-same_head-requires
-ids_above-same_head-requires c = subst Rises (sym c.with_head.ensures) (rises-headed c.args.trait_id.index _ c.args.self.now.impls c.impls_with.ensures.rises)
 
 pub returns-in-Some-clause-is : goal.returns-in-Some-clause-is
 returns-in-Some-clause-is c =
-    let es = c.args.cx.now.entries in
-    let d = c.args.self.now in
-    let t = c.args.trait_id.index in
-    let S = trees_at es c.args.self_ty.0 in
-    let h = head_of S in
-    let typed = (c.lawful.ensures.sorted c.args.self_ty.0 _ c.requires.self_held.1).as_type refl in
-    let term = trees-is es types c.args.self_ty.0 c.requires.self_held.0 c.requires.self_held.1 in
-    let above = filter (λ (i : ImplId). is_above c.args.last i.index) in
-    let first = c.ids_above-blanket.ensures ∙ ap above c.impls_with.ensures.is in
-    let second = c.ids_above-same_head.ensures ∙ ap above (c.with_head.ensures ∙ ap (λ k. ids_headed t k d.impls) c.simplify_type.ensures) in
-    let next = c.in-Some.ensures.next _ (merged-above c.args.last t h d.impls _ _ first second) (rises-above c.args.last t h d.impls c.impls_with.ensures.rises) in
-    first-above c.args.last (matching c.args.last t h d.impls) c.in-Some.id next.0 next.1
-    ∙ ap (next_above c.args.last) (all-relevant es d t S (subst (IsA of_type) (sym term) typed) c.requires.held)
+    let all = c.relevant_impls_above.ensures.are in
+    let next = c.in-Some.ensures.next all.0 all.1 all.2 in
+    first-above c.args.last _ c.in-Some.id.index (names_of next.0) (sym (ap names_of next.1) ∙ all.3)
 
 pub returns-in-None-clause-is : goal.returns-in-None-clause-is
 returns-in-None-clause-is c =
-    let es = c.args.cx.now.entries in
-    let d = c.args.self.now in
-    let t = c.args.trait_id.index in
-    let S = trees_at es c.args.self_ty.0 in
-    let h = head_of S in
-    let typed = (c.lawful.ensures.sorted c.args.self_ty.0 _ c.requires.self_held.1).as_type refl in
-    let term = trees-is es types c.args.self_ty.0 c.requires.self_held.0 c.requires.self_held.1 in
-    let above = filter (λ (i : ImplId). is_above c.args.last i.index) in
-    let first = c.ids_above-blanket.ensures ∙ ap above c.impls_with.ensures.is in
-    let second = c.ids_above-same_head.ensures ∙ ap above (c.with_head.ensures ∙ ap (λ k. ids_headed t k d.impls) c.simplify_type.ensures) in
-    let none = c.in-None.ensures.next _ (merged-above c.args.last t h d.impls _ _ first second) (rises-above c.args.last t h d.impls c.impls_with.ensures.rises) in
-    none-above c.args.last (matching c.args.last t h d.impls) none
-    ∙ ap (next_above c.args.last) (all-relevant es d t S (subst (IsA of_type) (sym term) typed) c.requires.held)
+    let all = c.relevant_impls_above.ensures.are in
+    let none = c.in-None.ensures.next all.0 all.1 all.2 in
+    none-above c.args.last _ (sym (ap names_of none) ∙ all.3)
