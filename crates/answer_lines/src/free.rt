@@ -35,7 +35,6 @@ fn is_own(question: &QuestionEntry, kind: TermKind, index: u32) -> bool
     }
 }
 
-/// Whether an unknown is in a list.
 fn is_listed(free: &[Unknown], kind: TermKind, index: u32) -> bool
     ensures { result ≡ is_in (sort_of_kind kind) index (unknowns_of free.now) }
 {

@@ -6,7 +6,7 @@ use std::alloc::AllocError;
 use type_terms::{AdtId, TraitId};
 use workspace::Workspace;
 
-/// Appends the name of a struct.
+/// Appends the name of a struct as the text has it; of a number that no struct has, nothing. The error is a refused request for memory.
 pub(crate) fn push_struct_name(
     workspace: &Workspace,
     id: AdtId,
@@ -20,7 +20,7 @@ pub(crate) fn push_struct_name(
     }
 }
 
-/// Appends the name of a trait.
+/// Appends the name of a trait as the text has it; of a number that no trait has, nothing. The error is a refused request for memory.
 pub(crate) fn push_trait_name(
     workspace: &Workspace,
     id: TraitId,

@@ -68,7 +68,6 @@ fn is_unknown_const(cx: &Interner, ct: Const, kind: ParamKind, number: usize) ->
     }
 }
 
-/// Whether a value is the unknown of a kind with a number.
 fn is_unknown(cx: &Interner, value: GenericArgKind, kind: ParamKind, number: usize) -> bool
     requires { ArgHeld cx.now.entries value }
     ensures { result ≡ same (leaf (infer (sort_of_kind kind) number)) (arg_trees cx.now.entries value) }

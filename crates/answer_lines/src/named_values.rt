@@ -58,7 +58,6 @@ fn value_text(
     Ok(ValueText { variable, term })
 }
 
-/// Listed values as texts.
 fn value_texts(
     alloc: Global,
     cx: &Interner,

@@ -35,7 +35,7 @@ pub(crate) fn nth_of_kind(params: &[Param], kind: TermKind, index: u32) -> Optio
     None
 }
 
-/// Appends the name of a parameter.
+/// Appends the name of a parameter without what says of which kind it is: `a` of `'a`, `N` of `const N`.
 pub(crate) fn push_name(param: &Param, out: &mut Vec<u8>) -> Result<(), AllocError>
     ensures { OnOk result (out.new.items ≡ out.old.items ++ param.now.name.items) }
 {

@@ -202,7 +202,6 @@ fn push_types<'i>(
     }
 }
 
-/// How a tuple ends.
 fn tuple_end(items: &[Ty]) -> &'static [u8]
     ensures single { length items.now ≡ 1 → result.now ≡ codes ",)" }
     ensures others { length items.now ≢ 1 → result.now ≡ codes ")" }
@@ -467,7 +466,6 @@ fn arg_sign(is_open: bool) -> &'static [u8]
     if is_open { b", " } else { b"<" }
 }
 
-/// The next of arguments, a type.
 fn next_type_arg<'i, N: PrintNames>(
     interner: &'i Interner,
     names: &N,
@@ -491,7 +489,6 @@ fn next_type_arg<'i, N: PrintNames>(
     Ok(())
 }
 
-/// The next of arguments, a const.
 fn next_const_arg<'i, N: PrintNames>(
     interner: &'i Interner,
     names: &N,
@@ -515,7 +512,6 @@ fn next_const_arg<'i, N: PrintNames>(
     Ok(())
 }
 
-/// Where arguments end.
 fn end_args(is_open: bool, out: &mut Vec<u8>) -> Result<(), AllocError>
     ensures { OnOk result (out.new.items ≡ out.old.items ++ more_args is_open []) }
 {
@@ -525,7 +521,6 @@ fn end_args(is_open: bool, out: &mut Vec<u8>) -> Result<(), AllocError>
     Ok(())
 }
 
-/// The next of arguments.
 fn next_arg<'i, N: PrintNames>(
     interner: &'i Interner,
     names: &N,

@@ -64,7 +64,6 @@ fn push_variable(out: &mut Vec<u8>, variable: &Param) -> Result<(), AllocError>
     Ok(())
 }
 
-/// Appends the name of the parameter at a place, if there is one.
 fn push_name_at(out: &mut Vec<u8>, params: &[Param], place: u32) -> Result<(), AllocError>
     ensures { OnOk result (out.new.items ≡ out.old.items ++ text_at (param_names params.now) place) }
 {

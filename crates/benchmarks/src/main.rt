@@ -20,7 +20,6 @@ use std::rt::Env;
 use std::{env, io};
 use walks::{Shape, Walk};
 
-/// The programs.
 #[derive(Clone, Copy)]
 enum Program {
     /// Types, each nested in the next.
@@ -46,7 +45,6 @@ enum Program {
 /// The greatest count that a run takes.
 const MOST: u32 = 1_000_000;
 
-/// The program of that name.
 fn program_named(name: &str) -> Option<Program> {
     match name {
         "nested" => Some(Program::Nested),
@@ -64,7 +62,6 @@ fn program_named(name: &str) -> Option<Program> {
     }
 }
 
-/// The walk of that name.
 fn walk_named(name: &str) -> Option<Walk> {
     match name {
         "instantiated" => Some(Walk::Instantiated),
@@ -78,7 +75,6 @@ fn walk_named(name: &str) -> Option<Walk> {
     }
 }
 
-/// The shape of that name.
 fn shape_named(name: &str) -> Option<Shape> {
     match name {
         "pairs" => Some(Shape::Pairs),

@@ -26,7 +26,6 @@ use type_terms::region::{Region, RegionKind};
 pub enum Shape {
     /// Pairs of pairs: the tree doubles at each level.
     Pairs,
-    /// Slices of slices.
     Slices,
     /// Structs of one argument.
     Structs,

@@ -66,7 +66,6 @@ pub fn is_auto(declarations: &Declarations, def_id: TraitId) -> bool
     }
 }
 
-/// Whether the trait is one that the rule speaks of.
 fn speaks_of(declarations: &Declarations, rule: BuiltInRule, def_id: TraitId) -> bool
     ensures { (es : List Entry) → result ≡ speaks_of (written es declarations.now) def_id.index rule }
 {

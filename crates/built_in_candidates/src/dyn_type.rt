@@ -155,7 +155,7 @@ pub(crate) fn elaborated_principal(
     })
 }
 
-/// Whether the trait of the principal is declared, if there is one.
+/// Whether a `dyn` names no principal that is not declared: of such a one no rule concludes anything. A `dyn` without a principal passes.
 pub(crate) fn is_declared(declarations: &Declarations, principal: Option<TraitRef>) -> bool
     ensures { (es now : List Entry) → result ≡ are_declared (written es declarations.now) (references_in now (if_there principal)) }
 {
@@ -168,7 +168,7 @@ pub(crate) fn is_declared(declarations: &Declarations, principal: Option<TraitRe
     }
 }
 
-/// Whether one of the references is to the trait.
+/// Whether one of the references is to the trait, with whatever arguments: so auto traits are found among supertraits.
 pub(crate) fn has_trait(references: &[TraitRef], def_id: TraitId) -> bool
     ensures { result ≡ list_any (λ r. r.def_id.index == def_id.index) references.now }
 {

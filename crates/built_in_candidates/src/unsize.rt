@@ -37,7 +37,6 @@ use type_terms::Fault;
 use type_terms::interner::Interner;
 use type_terms::kinds::{GenericArgKind, Ty, TyKind};
 
-/// The element type, if the type is an array.
 fn array_element(cx: &Interner, ty: Ty) -> Option<Ty>
     requires { Has cx.now.entries types ty.0 }
     ensures is { option_map (λ e. trees_at cx.now.entries e.0) result ≡ array_element_of (trees_at cx.now.entries ty.0) }
@@ -66,7 +65,6 @@ fn array_element(cx: &Interner, ty: Ty) -> Option<Ty>
     }
 }
 
-/// The element type, if the type is a slice.
 fn slice_element(cx: &Interner, ty: Ty) -> Option<Ty>
     requires { Has cx.now.entries types ty.0 }
     ensures is { option_map (λ e. trees_at cx.now.entries e.0) result ≡ slice_element_of (trees_at cx.now.entries ty.0) }

@@ -254,7 +254,6 @@ fn unsize_adt(
     }
 }
 
-/// The struct and its arguments, if the type is one.
 fn struct_with(cx: &Interner, ty: Ty) -> Option<(AdtId, GenericArgs)>
     requires { Has cx.now.entries types ty.0 }
     ensures { IsStruct cx.now.entries (trees_at cx.now.entries ty.0) result }

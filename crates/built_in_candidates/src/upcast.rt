@@ -35,14 +35,12 @@ use type_terms::interner::Interner;
 use type_terms::kinds::{Bounds, GenericArgs, Ty};
 use type_terms::{Fault, TraitId};
 
-/// Whether one of the traits is this one.
 fn has_auto(autos: &[TraitId], auto: TraitId) -> bool
     ensures { result ≡ list_any (λ q. q.index == auto.index) autos.now }
 {
     autos.iter().any(|other| other.index == auto.index)
 }
 
-/// Whether the auto trait is written, or is one of the references.
 fn is_written_or_elaborated(autos: &[TraitId], elaborated: &[TraitRef], auto: TraitId) -> bool
     ensures { result ≡ list_any (λ q. q.index == auto.index) autos.now || list_any (λ r. r.def_id.index == auto.index) elaborated.now }
 {

@@ -9,14 +9,14 @@ use type_terms::interner::Interner;
 use type_terms::kinds::{Ty, TyKind};
 use type_terms::number::{BoundVar, BoundVarIndexKind};
 
-/// The kind of a canonical variable, if it is one of these.
+/// What the canonical variable of a goal stands for, by the goal's list of kinds; none for one that a candidate added behind these.
 pub fn kind_of(kinds: &[CanonicalVarKind], variable: BoundVar) -> Option<CanonicalVarKind>
     ensures { result ≡ kind_at kinds.now variable.index }
 {
     kinds.get(variable.index as usize).copied()
 }
 
-/// Whether the type is an unknown of these kinds.
+/// Whether the type is an unknown of the goal: a canonical variable that its list of kinds has as an unknown type. A placeholder is none.
 pub fn is_unknown(cx: &Interner, kinds: &[CanonicalVarKind], ty: Ty) -> bool
     requires { Has cx.now.entries types ty.0 }
     ensures { result ≡ begins_unknown kinds.now (trees_at cx.now.entries ty.0) }

@@ -42,7 +42,6 @@ use type_terms::kinds::{Bounds, GenericArgKind, GenericArgs, Principal, Ty, TyKi
 use type_terms::number::BoundVarIndexKind;
 use type_terms::{AdtId, TraitId};
 
-/// Whether the argument is of the parameter's kind.
 fn is_for(arg: GenericArgKind, param: GenericParamKind) -> bool
     ensures { result ≡ is_sort (sort_of_arg arg) (sort_of_param param) }
 {
@@ -192,7 +191,6 @@ fn type_fits(cx: &Interner, declarations: &Declarations, ty: Ty) -> bool
     }
 }
 
-/// Whether the argument, if there is one, fits.
 fn argument_fits(cx: &Interner, declarations: &Declarations, arg: Option<GenericArgKind>) -> bool
     requires { IfSome arg (ArgHeld cx.now.entries) }
     ensures { (t : Trees) → IsFirst cx.now.entries t arg → result ≡ type_fits declarations.now t }
@@ -273,7 +271,6 @@ fn argument_is_unknown(
     }
 }
 
-/// The first argument, if there is one.
 fn first_argument(cx: &Interner, args: GenericArgs) -> Option<GenericArgKind>
     requires { Has cx.now.entries args_lists args.0 }
     ensures { IsFirst cx.now.entries (trees_at cx.now.entries args.0) result }

@@ -36,7 +36,6 @@ fn clause_source(cx: &Interner, trait_ref: TraitRef) -> ParamEnvSource
     }
 }
 
-/// The reference of a where-clause, if it is one to this trait.
 fn reference_of(clause: &Clause, def_id: TraitId) -> Option<TraitRef>
     ensures { result ≡ reference_of def_id.index clause.now }
 {

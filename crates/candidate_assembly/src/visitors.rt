@@ -39,14 +39,12 @@ pub(crate) fn has_open_places<H: Handle>(cx: &Interner, handle: H) -> bool
     cx.flags(handle).0 & OPEN_PLACES != 0
 }
 
-/// A break, if this is so.
 fn break_if(found: bool) -> Seen<()>
     ensures { BreaksAt found result }
 {
     if found { Seen::Break(()) } else { Seen::Enter }
 }
 
-/// It is one of these variables, and a type.
 fn is_type(kinds: &[CanonicalVarKind], variable: BoundVar) -> bool
     ensures { result ≡ is_kind_of of_type (kind_at kinds.now variable.index) }
 {
@@ -60,7 +58,6 @@ fn is_type(kinds: &[CanonicalVarKind], variable: BoundVar) -> bool
     }
 }
 
-/// It is one of these variables, and a constant.
 fn is_const(kinds: &[CanonicalVarKind], variable: BoundVar) -> bool
     ensures { result ≡ is_kind_of of_const (kind_at kinds.now variable.index) }
 {
@@ -74,7 +71,6 @@ fn is_const(kinds: &[CanonicalVarKind], variable: BoundVar) -> bool
     }
 }
 
-/// It is one of these variables, and a lifetime.
 fn is_region(kinds: &[CanonicalVarKind], variable: BoundVar) -> bool
     ensures { result ≡ is_kind_of of_lifetime (kind_at kinds.now variable.index) }
 {
@@ -194,7 +190,6 @@ pub(crate) fn ty_is_over(cx: &Interner, kinds: &[CanonicalVarKind], ty: Ty) -> b
     }
 }
 
-/// Whether the struct is declared.
 fn struct_is_declared(declarations: &Declarations, id: AdtId) -> bool
     ensures { (es : List Entry) → result ≡ struct_is (λ _. true) (written es declarations.now) id.index }
 {
@@ -204,7 +199,7 @@ fn struct_is_declared(declarations: &Declarations, id: AdtId) -> bool
     }
 }
 
-/// Whether the trait is declared.
+/// Whether the crate sees a trait of this number: of another one no goal is decided.
 pub(crate) fn trait_is_declared(declarations: &Declarations, id: TraitId) -> bool
     ensures { (es : List Entry) → result ≡ trait_is (λ _. true) (written es declarations.now) id.index }
 {
@@ -214,7 +209,6 @@ pub(crate) fn trait_is_declared(declarations: &Declarations, id: TraitId) -> boo
     }
 }
 
-/// Whether all of these traits are declared.
 fn traits_are_declared(declarations: &Declarations, ids: &[TraitId]) -> bool
     ensures { (es : List Entry) → result ≡ not (some_root (is_undeclared (written es declarations.now)) (autos_trees ids.now)) }
 {

@@ -148,7 +148,8 @@ fn orphan_line(
     }
 }
 
-/// The line of a crate.
+/// The text of a crate's line, with its end: accepted, an orphan impl with the reason, or two impls that overlap, both by their numbers in
+/// their crates. The error is a refused request for memory.
 pub fn verdict_line(
     alloc: Global,
     cx: &Interner,

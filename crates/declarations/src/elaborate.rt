@@ -88,7 +88,6 @@ fn instantiate_bounds(
     Ok(found)
 }
 
-/// Whether the reference is one of these.
 fn is_among(references: &[TraitRef], trait_ref: TraitRef) -> bool
     ensures { result ≡ list_any (λ s. (trait_ref.def_id.index == s.def_id.index) && (trait_ref.args.0 == s.args.0)) references.now }
 {

@@ -81,7 +81,7 @@ pub struct TraitDef {
     pub home: CrateId,
     /// Whether it is `#[fundamental]` (RFC 1023).
     pub is_fundamental: bool,
-    /// Whether it is an auto trait.
+    /// Whether it is declared `auto`: a proof of it may rest on itself, and types have it by their parts (RFC 19).
     pub is_auto: bool,
     /// Self and its further parameters; a term speaks of them by their places from 0.
     pub params: Vec<GenericParamKind>,
@@ -111,7 +111,7 @@ pub struct ImplDef {
     pub params: Vec<GenericParamKind>,
     /// The reference that it proves.
     pub header: TraitRef,
-    /// Its where-clauses.
+    /// The where-clauses as they are written, over the same parameters as the header.
     pub clauses: Vec<TraitRef>,
 }
 

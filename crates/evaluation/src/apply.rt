@@ -95,7 +95,6 @@ fn known_values(
     Ok(known)
 }
 
-/// A new unknown of this kind.
 fn new_unknown(
     table: &mut InferCtxt,
     cx: &mut Interner,

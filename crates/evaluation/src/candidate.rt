@@ -92,7 +92,7 @@ impl Drop for Considered {
 /// What a handler wants next.
 #[derive(Drop)]
 pub enum HandlerStep {
-    /// To consider this candidate.
+    /// To evaluate this candidate next; the handler is asked again with what came of it.
     Consider(CandidateSpec),
     /// To answer so, and that the candidates with these numbers are ignored.
     Answer(CanonicalResponse, Vec<usize>),

@@ -27,7 +27,7 @@ use type_terms::interner::Interner;
 pub enum MergeCandidateInfo {
     /// The response at this place was taken: the first yes without values and constraints.
     AlwaysApplicable(usize),
-    /// All responses are equal.
+    /// None is always applicable, and all say the same: the first was taken.
     EqualResponse,
 }
 
@@ -49,7 +49,6 @@ fn first_always_applicable(cx: &Interner, responses: &[CanonicalResponse]) -> Op
         .position(|response| is_always_applicable(cx, response))
 }
 
-/// Whether all of these are equal to the first.
 fn are_equal_to(first: &CanonicalResponse, rest: &[CanonicalResponse]) -> bool
     ensures { result ≡ list_all (⟦<CanonicalResponse as PartialEq>⟧.eq first.now) rest.now }
 {

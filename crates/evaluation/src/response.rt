@@ -14,7 +14,6 @@ use type_terms::kinds::{ConstKind, GenericArgKind, TyKind};
 use type_terms::number::{BoundVar, BoundVarIndexKind};
 use type_terms::region::RegionKind;
 
-/// Whether a bound variable is the canonical variable with this number.
 fn is_canonical(index: BoundVarIndexKind, variable: BoundVar, number: usize) -> bool
     ensures { (s : Sort) → result ≡ is_variable number (bound_label s index variable) }
 {
@@ -24,7 +23,6 @@ fn is_canonical(index: BoundVarIndexKind, variable: BoundVar, number: usize) -> 
     }
 }
 
-/// Whether a value is the canonical variable with this number.
 fn is_canonical_variable(cx: &Interner, value: GenericArgKind, number: usize) -> bool
     requires { ArgHeld cx.now.entries value }
     ensures { result ≡ is_variable number (leaf_label cx.now.entries value) }

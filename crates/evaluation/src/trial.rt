@@ -385,7 +385,6 @@ fn add_replies(
     Ok(())
 }
 
-/// A copy of the reply.
 fn copy_of(
     alloc: Global,
     reply: &Option<CanonicalResponse>,

@@ -12,7 +12,7 @@ use infer_table::response::CanonicalResponse;
 use type_terms::Fault;
 
 impl GoalStore {
-    /// The goal with this number.
+    /// The canonical goal that was kept under this number. It takes no memory.
     pub fn input(&self, id: InputId) -> &CanonicalInput
         requires { HasInput self.now id }
         ensures is { input_at self.now id ≡ Some result.now }

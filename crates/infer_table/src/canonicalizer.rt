@@ -193,7 +193,6 @@ pub struct Canonicalizer<'a> {
 }
 
 impl Canonicalizer<'_> {
-    /// The canonical variable for a leaf.
     fn place(&self, cx: &Interner, leaf: GenericArgKind) -> Result<BoundVar, Fault>
         requires listed { AreLeaves cx.now.entries self.now.leaves.now.keys }
         requires leaf { IsLeaf cx.now.entries leaf }

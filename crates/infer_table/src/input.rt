@@ -240,7 +240,6 @@ pub fn variable_kinds(
     Ok(kinds)
 }
 
-/// What a leaf is.
 fn variable_kind(cx: &Interner, leaf: GenericArgKind) -> CanonicalVarKind
     requires leaf { IsLeaf cx.now.entries leaf }
     requires open { IsSome (kind_of_leaf (leaf_label cx.now.entries leaf)) }

@@ -43,14 +43,12 @@ pub struct CanonicalInstantiator<'a> {
 }
 
 impl CanonicalInstantiator<'_> {
-    /// The variable's value.
     fn value(&self, variable: BoundVar) -> Option<GenericArgKind>
         ensures { result ≡ slice_get self.now.values.now variable.index }
     {
         self.values.get(variable.index as usize).copied()
     }
 
-    /// The variable's value, if it is a type.
     fn ty_value(&self, variable: BoundVar) -> Option<Ty>
         ensures value { (es : List Entry) → value_for (values_of es self.now.values.now) (canonical of_type variable.index) ≡ option_map (λ x. trees_at es x.0) result }
         ensures held { (es : List Entry) → ArgsHeld es self.now.values.now → IfSome result (λ x. Has es types x.0) }
@@ -65,7 +63,6 @@ impl CanonicalInstantiator<'_> {
         }
     }
 
-    /// The variable's value, if it is a constant.
     fn const_value(&self, variable: BoundVar) -> Option<Const>
         ensures value { (es : List Entry) → value_for (values_of es self.now.values.now) (canonical of_const variable.index) ≡ option_map (λ x. trees_at es x.0) result }
         ensures held { (es : List Entry) → ArgsHeld es self.now.values.now → IfSome result (λ x. Has es consts x.0) }
@@ -80,7 +77,6 @@ impl CanonicalInstantiator<'_> {
         }
     }
 
-    /// The variable's value, if it is a lifetime.
     fn region_value(&self, variable: BoundVar) -> Option<Region>
         ensures value { (es : List Entry) → value_for (values_of es self.now.values.now) (canonical of_lifetime variable.index) ≡ option_map (λ x. region_trees x) result }
         ensures held { (es : List Entry) → ArgsHeld es self.now.values.now → IfSome result (λ x. RegionHeld x.kind) }

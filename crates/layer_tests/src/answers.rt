@@ -46,7 +46,6 @@ fn add_unknowns(cx: &mut Interner, table: &mut InferCtxt) -> Result<(), Fault>
     Ok(())
 }
 
-/// A table with these.
 fn table_of_unknowns(alloc: Global, cx: &mut Interner) -> Result<InferCtxt, Fault>
     ensures ready { IfOk result (λ table. Ready cx.new.entries table) }
     ensures keeps { Keeps cx.old.entries cx.new.entries }
@@ -127,7 +126,6 @@ fn is_as_wanted(cx: &mut Interner, posed: &Posed) -> Result<bool, Fault>
     Ok(resolved == posed.wanted)
 }
 
-/// Evaluates the goal.
 fn evaluate_posed<H: GoalHandler>(
     solving: &mut Solving<H>,
     mode: TypingMode,

@@ -169,7 +169,6 @@ fn asks(spec: &CandidateSpec, wanted: &[Clause]) -> bool {
         })
 }
 
-/// Whether the candidate is the one that is wanted.
 fn is_told(spec: &Option<CandidateSpec>, wanted: Wanted) -> bool {
     match (spec, wanted.told) {
         (Some(spec), Some(told)) => {

@@ -26,7 +26,6 @@ pub(crate) enum Sample {
     Bool,
 }
 
-/// Makes the type.
 pub(crate) fn make(cx: &mut Interner, sample: Sample) -> Result<Ty, Fault>
     ensures held { IfOk result (λ ty. Has cx.new.entries types ty.0) }
     ensures keeps { Keeps cx.old.entries cx.new.entries }
@@ -93,7 +92,6 @@ pub(crate) fn holds(alloc: Global) -> CanonicalResponse
     }
 }
 
-/// Whether the value is this type.
 pub(crate) fn is_type(value: Option<&GenericArgKind>, ty: Ty) -> bool {
     match value {
         Some(GenericArgKind::Ty(found)) => *found == ty,

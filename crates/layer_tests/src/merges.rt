@@ -22,7 +22,6 @@ enum Value {
     Byte,
 }
 
-/// The value as a type.
 fn make(cx: &mut Interner, value: Value) -> Result<Ty, Fault>
     ensures keeps { Keeps cx.old.entries cx.new.entries }
     ensures held { IfOk result (λ ty. Has cx.new.entries types ty.0) }

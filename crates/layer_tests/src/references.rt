@@ -50,7 +50,6 @@ pub(crate) fn byte_is(name: Name) -> Reference {
     }
 }
 
-/// The trait's number.
 pub(crate) fn trait_id(name: Name) -> TraitId {
     let index = match name {
         Name::Show => 0,
@@ -61,7 +60,6 @@ pub(crate) fn trait_id(name: Name) -> TraitId {
     TraitId { index }
 }
 
-/// Makes the leaf.
 pub(crate) fn make_leaf(cx: &mut Interner, leaf: Leaf) -> Result<Ty, Fault>
     ensures held { IfOk result (λ ty. Has cx.new.entries types ty.0) }
     ensures keeps { Keeps cx.old.entries cx.new.entries }
@@ -87,7 +85,6 @@ fn list_of(alloc: Global, cx: &mut Interner, ty: Ty) -> Result<Ty, Fault>
     cx.mk_ty(TyKind::Adt(AdtId { index: 0 }, args))
 }
 
-/// Makes the reference.
 pub(crate) fn make(
     alloc: Global,
     cx: &mut Interner,

@@ -23,7 +23,6 @@ fn variables(alloc: Global, head: Reference) -> Result<Vec<CanonicalVarKind>, Fa
     }
 }
 
-/// Makes the references.
 fn make_all(
     alloc: Global,
     cx: &mut Interner,
@@ -39,7 +38,6 @@ fn make_all(
     Ok(predicates)
 }
 
-/// Makes the rule.
 fn make_rule(
     alloc: Global,
     cx: &mut Interner,
@@ -58,7 +56,6 @@ fn make_rule(
     })
 }
 
-/// Makes the rules.
 fn make_rules(alloc: Global, cx: &mut Interner, rules: &[Written]) -> Result<Vec<Rule>, Fault>
     ensures held { IfOk result (λ made. Every (RuleHeld cx.new.entries) made.items) }
     ensures keeps { Keeps cx.old.entries cx.new.entries }
@@ -70,7 +67,6 @@ fn make_rules(alloc: Global, cx: &mut Interner, rules: &[Written]) -> Result<Vec
     Ok(made)
 }
 
-/// The numbers of the traits.
 fn numbers(alloc: Global, names: &[Name]) -> Result<Vec<TraitId>, Fault> {
     let mut numbers = Vec::new(alloc);
     for name in names {

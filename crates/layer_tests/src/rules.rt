@@ -75,7 +75,6 @@ const FIRST_SUPERTRAIT: Option<Told> = Some(Told {
     equal: true,
 });
 
-/// The second.
 const SECOND_SUPERTRAIT: Option<Told> = Some(Told {
     source: CandidateSource::BuiltinImpl(BuiltinImplSource::Object(2)),
     certainty: Certainty::Yes,
@@ -89,7 +88,6 @@ const UPCAST_TO_FIRST: Option<Told> = Some(Told {
     equal: true,
 });
 
-/// An upcast to the second.
 const UPCAST_TO_SECOND: Option<Told> = Some(Told {
     source: CandidateSource::BuiltinImpl(BuiltinImplSource::TraitUpcasting(2)),
     certainty: Certainty::Yes,

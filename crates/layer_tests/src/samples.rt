@@ -84,7 +84,6 @@ fn make_inmost(alloc: Global, cx: &mut Interner, inmost: Inmost) -> Result<Ty, F
     }
 }
 
-/// A struct of the type.
 fn applied(alloc: Global, cx: &mut Interner, id: AdtId, ty: Ty) -> Result<Ty, Fault>
     requires { Has cx.old.entries types ty.0 }
     ensures keeps { Keeps cx.old.entries cx.new.entries }

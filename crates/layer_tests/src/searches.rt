@@ -183,7 +183,6 @@ fn add_clique(alloc: Global, scripts: &mut Scripts) -> Result<(), AllocError> {
     Ok(())
 }
 
-/// All goals.
 fn all_goals(alloc: Global) -> Result<Scripts, AllocError> {
     let mut scripts = Scripts {
         goals: Vec::new(alloc),

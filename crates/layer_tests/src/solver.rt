@@ -169,7 +169,6 @@ pub(crate) fn evaluate<H: GoalHandler>(
     Ok((said, solving.graph.frames(), solving.graph.limits_met()))
 }
 
-/// Evaluates the goal.
 fn evaluate_posed<H: GoalHandler>(
     solving: &mut Solving<H>,
     mode: TypingMode,
@@ -192,7 +191,6 @@ fn evaluate_posed<H: GoalHandler>(
     Ok((said.0, said.1, said.2, value(&solving.cx.interner, posed)))
 }
 
-/// Evaluates the goal twice.
 fn evaluate_twice<H: GoalHandler>(
     solving: &mut Solving<H>,
     mode: TypingMode,

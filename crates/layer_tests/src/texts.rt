@@ -95,7 +95,6 @@ pub(crate) fn view(
     view_of(alloc, cx, workspace, asker)
 }
 
-/// The references as where-clauses.
 fn where_clauses(alloc: Global, references: &[TraitRef]) -> Result<Vec<Clause>, AllocError>
     ensures { IfOk result (λ v. v.items ≡ where_clauses references.now) }
 {

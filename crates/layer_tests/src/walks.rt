@@ -203,7 +203,6 @@ fn found(answer: Result<Result<(), OrphanCheckErr<Ty>>, WalkError<u32>>) -> Opti
     }
 }
 
-/// Makes the type, if there is one.
 fn make_some(
     alloc: Global,
     cx: &mut Interner,

@@ -227,7 +227,6 @@ trait Mine
 impl<T> Mine for T where T: Num
 impl Mine for u8";
 
-/// These, in coherence.
 const FOREIGN_TRAIT_IN_COHERENCE: Table = Table {
     declared: FOREIGN,
     mode: TypingMode::Coherence,
@@ -239,7 +238,6 @@ const FOREIGN_TRAIT_IN_COHERENCE: Table = Table {
     ],
 };
 
-/// These, outside.
 const FOREIGN_TRAIT_OUTSIDE: Table = Table {
     declared: FOREIGN,
     mode: TypingMode::PostAnalysis,
@@ -249,7 +247,6 @@ const FOREIGN_TRAIT_OUTSIDE: Table = Table {
     ],
 };
 
-/// All of them.
 const TABLES: [Table; 11] = [
     IMPLS,
     CLAUSES,

@@ -37,7 +37,7 @@ impl<'a> Binders<'a> {
     ghost use Rattle.line_faults.specs.Machine.{outer_scope};
     ghost use Rattle.line_faults.specs.LookUps.{scope_place};
 
-    /// There is no binder.
+    /// At the outside of a line: no `for<..>` is around.
     pub fn new(alloc: Global) -> Self
         ensures { result ≡ [] }
     {

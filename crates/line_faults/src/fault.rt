@@ -91,7 +91,7 @@ impl Tests {
     ghost use Rattle.text_definitions.specs.Faults.{first_of};
     ghost use Rattle.line_faults.specs.FaultNumbers.{fault_number, numbered};
 
-    /// The first of them.
+    /// The kind with the smallest number among the tests that the line fails; none where it fails none.
     pub fn first(&self) -> Option<FaultKind>
         ensures { option_map fault_number result ≡ first_of (numbered self.now) }
     {

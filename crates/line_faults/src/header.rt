@@ -27,7 +27,6 @@ use workspace::Known;
 /// Traits of `core` that have built-in rules alone: `Sized`, `Tuple`, `FnPtr`, `FnOnce`, `FnMut`, `Fn`, `Unsize`.
 const BUILT_IN_TRAITS: [u32; 7] = [0, 3, 4, 5, 6, 7, 8];
 
-/// The header of an impl.
 fn impl_header(statement: &Statement<'_>) -> Option<ClauseSpans>
     ensures { result ≡ header_said (statement_of statement.now) }
 {

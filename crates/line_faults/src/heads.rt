@@ -107,7 +107,7 @@ pub(crate) fn named_cell<'a, N: Names>(
     }
 }
 
-/// The kinds of a struct's parameters.
+/// The kinds of the parameters of the struct that a name stands for; none where it stands for something else.
 pub(crate) fn struct_kinds(meaning: Option<Known<'_>>) -> &[ParamKind]
     ensures { sorts_of result.now ≡ kinds_of_struct (option_map known_of meaning.entry) }
 {
@@ -117,7 +117,7 @@ pub(crate) fn struct_kinds(meaning: Option<Known<'_>>) -> &[ParamKind]
     }
 }
 
-/// The kinds of a trait's parameters.
+/// The kinds of the parameters, Self apart, of the trait that a name stands for; none where it stands for something else.
 pub(crate) fn trait_kinds(meaning: Option<Known<'_>>) -> &[ParamKind]
     ensures { sorts_of result.now ≡ kinds_of_trait (option_map known_of meaning.entry) }
 {
@@ -127,7 +127,7 @@ pub(crate) fn trait_kinds(meaning: Option<Known<'_>>) -> &[ParamKind]
     }
 }
 
-/// The number of a trait.
+/// The number of the trait that a name stands for; 0 where it stands for something else, which no faultless line shows.
 pub(crate) fn trait_number(meaning: Option<Known<'_>>) -> usize
     ensures { result ≡ trait_number (option_map known_of meaning.entry) }
 {

@@ -42,7 +42,6 @@ const MISFIT: Findings = Findings {
     passes_limit: false,
 };
 
-/// A limit that is passed, if it is.
 fn limit(is_passed: bool) -> Findings
     ensures { result ≡ record { takes_names = false; uses_unknown = false; uses_hidden = false; uses_other_sort = false; uses_own = false; has_bad_dyn = false; passes_limit = is_passed } }
 {
@@ -90,7 +89,7 @@ pub(crate) fn lifetime_misfits(sort: ParamKind) -> Findings
     }
 }
 
-/// A variable.
+/// What is wrong with a variable: its name may be too long.
 #[tactic(auto, using(crate::proofs::Judged::one_variable))]
 pub(crate) fn variable(name: &[u8]) -> Findings
     ensures { (v : Sight) (p : label.Sort) → result ≡ findings v (variable_use p name.now ∷ []) }
@@ -122,7 +121,7 @@ fn is_unknown_lifetime<N: Names>(names: &N, binders: &Binders<'_>, name: &[u8]) 
     true
 }
 
-/// A lifetime.
+/// What is wrong with a lifetime: it is not in scope.
 #[tactic(auto, using(crate::proofs::Judged::one_lifetime))]
 pub(crate) fn lifetime<N: Names>(names: &N, binders: &Binders<'_>, name: &[u8]) -> Findings
     ensures { result ≡ findings (N.sight names.now) (lifetime_use binders.now name.now ∷ []) }
@@ -361,7 +360,6 @@ pub(crate) fn bound<N: Names>(
     }
 }
 
-/// Whether this is a crate.
 fn is_crate(meaning: Option<Known<'_>>) -> bool
     ensures { result ≡ option_map_or is_crate (option_map known_of meaning.entry) false }
 {
@@ -409,7 +407,7 @@ fn is_large(digits: &[u8]) -> bool
     false
 }
 
-/// A number by its digits.
+/// What is wrong with a number: it may be 2 to the 64 or more.
 #[tactic(auto, using(crate::proofs::Judged::one_number))]
 pub(crate) fn number(digits: &[u8]) -> Findings
     ensures { (v : Sight) → result ≡ findings v (number_use (number_from 0 digits.now) ∷ []) }

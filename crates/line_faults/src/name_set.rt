@@ -8,7 +8,7 @@ use line_reader::{Cell, Length};
 use std::alloc::{AllocError, Global};
 use std::collections::HashSet;
 
-/// A set of names.
+/// The names that types use where a type or a const has to stand: by them a parameter of an impl is found in its header.
 pub struct NameSet<'a> {
     names: HashSet<&'a [u8]>,
 }
@@ -61,7 +61,7 @@ impl<'a> NameSet<'a> {
         Ok(())
     }
 
-    /// Whether this is one of them.
+    /// Whether the name was put in. It takes no memory and one hash.
     pub fn contains(&self, name: &[u8]) -> bool
         ensures { (ns : List (List ℕ)) → Holds self.now ns → result ≡ is_among name.now ns }
     {

@@ -33,7 +33,8 @@ impl<'a> ParamNames<'a> {
         Ok(())
     }
 
-    /// Those of these parameters.
+    /// The names of these parameters, in their order, lifetimes apart from types and constants. The error says that a request for memory
+    /// was refused.
     pub fn of(alloc: Global, params: &[Param<'a>]) -> Result<Self, AllocError>
         ensures lifetimes { IfOk result (λ names. map text_of names.lifetimes.items ≡ lifetimes_said (params_in params.now)) }
         ensures others { IfOk result (λ names. map text_of names.others.items ≡ others_said (params_in params.now)) }

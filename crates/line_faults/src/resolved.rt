@@ -3,7 +3,7 @@
 use line_reader::Primitive;
 use workspace::ParamKind;
 
-/// A lifetime.
+/// What the name of a lifetime stands for. An omitted one is `Static`.
 #[derive(Clone, Copy)]
 pub enum Region {
     Static,

@@ -38,7 +38,6 @@ fn type_place(room: Option<usize>, is_kept: bool) -> Place
     }
 }
 
-/// The kind of the parameter at this place.
 fn kind_at(kinds: &[ParamKind], place: usize) -> ParamKind
     ensures { sort_of_kind result ≡ next_kind (drop place (sorts_of kinds.now)) }
 {
@@ -70,7 +69,6 @@ impl<'n, 'c, 'a> Walk<'n, 'c, 'a> {
         Ok(Next::Visiting(arg_place(kind_at(kinds, left), frame.room, frame.is_kept)))
     }
 
-    /// A type of this frame.
     fn type_inside(&mut self, frame: Frame<'n>) -> Result<Next, AllocError>
         ensures { (v : Sight) → Steps result (λ fs s r a. inside_step v types_inside (frame_of frame.entry) fs s r a) self.old self.new }
     {

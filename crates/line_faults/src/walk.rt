@@ -166,7 +166,7 @@ impl<'n, 'c, 'a> Walk<'n, 'c, 'a> {
         Ok(Next::Going)
     }
 
-    /// A variable.
+    /// The step at a variable: one more use, one more of the variables, and a resolved cell with its name.
     pub fn variable(&mut self, place: Place, name: &'a [u8]) -> Result<Next, AllocError>
         ensures { (v : Sight) → Steps result (λ fs s r a. variable_step v (place_of place) fs s name.now r a) self.old self.new }
     {
@@ -284,7 +284,7 @@ impl<'n, 'c, 'a> Walk<'n, 'c, 'a> {
         Ok(Next::Visiting(inner_place(place)))
     }
 
-    /// A tuple.
+    /// The step at a tuple: how many items it has is read off the cells, and they come next.
     pub fn tuple(&mut self, place: Place, start: usize) -> Result<Next, AllocError>
         ensures { (v : Sight) → Steps result (λ fs s r a. tuple_step v (place_of place) fs s start r a) self.old self.new }
     {

@@ -26,6 +26,7 @@ use Rattle.model.proofs.ProofLists.{by-rule}
 use Rattle.model.proofs.Applies.{applies, fits-complete, same-reference-complete}
 use Rattle.model.proofs.SupersProved.{CoreLike, Supers, in-sized, clone-supers, copy-supers, copy-has, copy-inductive, supers-of-all}
 use Rattle.model.proofs.CoreThere.{whole-there, whole-later}
+use Rattle.model.proofs.ArrangedTwice.{rising-in-order}
 
 -- Tests
 -- no two have one key
@@ -146,7 +147,7 @@ tested-linked W t supers = record {
     plain_clauses = λ i k h g. not-true (some_node is_stray k.args) (each-each (λ (j : ImplDecl). j.clauses) (λ j q. not (some_node is_stray q.args)) W.impls t.clauses i k h g);
     plain_fields = λ x y h g. not-true (some_node is_stray y) (each-each (λ (z : StructDecl). z.fields) (λ z q. not (some_node is_stray q)) W.structs t.fields x y h g);
     plain_bounds = λ x b h g. not-true (some_node is_stray b.args) (right (ltb b.trait x.name) _ (right (in_scope W x.home b) _ (bound x b h g)));
-    dyns_in_order = t.dyns;
+    dyns_in_order = rising-in-order W t.dyns;
     core_first = refl;
     uses_before = λ x u h g. less u x.name (left (ltb u x.name) _ (used x u h g));
     uses_stand = λ x u h g. right (ltb u x.name) _ (used x u h g);

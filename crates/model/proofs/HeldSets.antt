@@ -127,7 +127,7 @@ module _ (W : World) (vs : List View) (rank : ℕ → ℕ) (l : JoinedSet W vs r
   }
 
   -- what a check says of the view of an answer, it says of the set
-  held-in-set : (v : View) → HoldsView W v → (x : ImplDecl) → In x v.world.impls → x.home ≡ v.asker → In (renumbered_impl v.numbers x) W.impls → SupersHold v.world x → SupersHold W (renumbered_impl v.numbers x)
+  pub held-in-set : (v : View) → HoldsView W v → (x : ImplDecl) → In x v.world.impls → x.home ≡ v.asker → In (renumbered_impl v.numbers x) W.impls → SupersHold v.world x → SupersHold W (renumbered_impl v.numbers x)
   held-in-set v s x m own stands held =
       subst (Every (HasProof W (map opaque_reference (map (renumbered_reference ρ) x.clauses)))) supers-are
       (each (strict_supertraits v.world (opaque_reference x.header)) held)
@@ -188,28 +188,8 @@ module _ (W : World) (vs : List View) (rank : ℕ → ℕ) (l : JoinedSet W vs r
       by (inl e) = subst (Every (HasProof W [])) (sym (k.autos_bare t a e)) tt
       by (inr e) = subst (λ n. Supers W (record { trait = n; args = a })) (sym (same-number t sized e)) (subst (Every (HasProof W [])) (sym (k.of_sized a)) tt)
 
-  module _ (answered : (i : ImplDecl) → In i W.impls → IsAnswered vs i) (held : (v : View) → In v vs → IsHeld v.world v.asker) where
-    -- an impl of core, or one that was checked
-    judged-impl : (i : ImplDecl) → In i W.impls → In i core_world.impls ⊎ SupersHold W i
-    judged-impl i h = by (answered i h)
-      where
-        by : IsAnswered vs i → In i core_world.impls ⊎ SupersHold W i
-        by (inl m) = inl m
-        by (inr a) = inr (subst (SupersHold W) x.2 (held-in-set a.0 s x.0 x.1 x-own (subst (λ z. In z W.impls) (sym x.2) h) (held a.0 a.1 x.0 x.1 x-own)))
-          where
-            v : View
-            v = a.0
-
-            s : HoldsView W v
-            s = every-member (HoldsView W) vs v l.as_answered a.1
-
-            x : (z : ImplDecl) × In z v.world.impls × (renumbered_impl v.numbers z ≡ i)
-            x = map-in (renumbered_impl v.numbers) v.world.impls i
-                (s.later.own i (filter-in (λ (z : ImplDecl). sees W (asker_in_set v) z.home) W.impls i h (subst (λ d. sees W (asker_in_set v) d ≡ true) a.2 (sees-itself (length W.crates) W (asker_in_set v)))) (sym a.2))
-
-            x-own : x.0.home ≡ v.asker
-            x-own = injective v.numbers.crates x.0.home v.asker (ap (λ (z : ImplDecl). z.home) x.2 ∙ sym a.2)
-
+  -- where each impl is one of core, or was checked
+  module _ (judged-impl : (i : ImplDecl) → In i W.impls → In i core_world.impls ⊎ SupersHold W i) where
     closed-clause : (i : ImplDecl) (A : Trees) → In i W.impls → is_closed A ≡ true → (p : Reference) → In p (all_with_args A i.clauses) → is_closed p.args ≡ true
     closed-clause i A h c p g = closed-by p.args (all-plain-shut A i.clauses (not-true (some_node is_open A) c) (λ q m. l.plain_clauses i q h m) p g)
 
@@ -232,8 +212,8 @@ module _ (W : World) (vs : List View) (rank : ℕ → ℕ) (l : JoinedSet W vs r
     all-supers : (r : Reference) → is_closed r.args ≡ true → HasProof W [] r → Supers W r
     all-supers r c p = supers-of-all W k (λ (q : Reference). is_closed q.args ≡ true) (λ t x o h. closed-items t x o h) step r c p
 
-    pub held-linked : LinkedSet W vs rank
-    held-linked = record { joined = l; supers_proved = λ i h A c f p. at i h A c f p (judged-impl i h) }
+    pub linked-where-judged : LinkedSet W vs rank
+    linked-where-judged = record { joined = l; supers_proved = λ i h A c f p. at i h A c f p (judged-impl i h) }
       where
         at : (i : ImplDecl) → In i W.impls → (A : Trees) → is_closed A ≡ true → Fits A i.header.args → Every (HasProof W []) (all_with_args A i.clauses)
             → In i core_world.impls ⊎ SupersHold W i → Supers W (with_args A i.header)
@@ -249,3 +229,28 @@ module _ (W : World) (vs : List View) (rank : ℕ → ℕ) (l : JoinedSet W vs r
                 head-of e = cc
             one q (suc n, e) = cc
         at i h A c f p (inr s) = checked-instance W judged i A h s c f p (λ q g. all-supers q (closed-clause i A h c q g) (every-member (HasProof W []) (all_with_args A i.clauses) q p g))
+
+  module _ (answered : (i : ImplDecl) → In i W.impls → IsAnswered vs i) (held : (v : View) → In v vs → IsHeld v.world v.asker) where
+    -- an impl of core, or one that was checked
+    judged-impl : (i : ImplDecl) → In i W.impls → In i core_world.impls ⊎ SupersHold W i
+    judged-impl i h = by (answered i h)
+      where
+        by : IsAnswered vs i → In i core_world.impls ⊎ SupersHold W i
+        by (inl m) = inl m
+        by (inr a) = inr (subst (SupersHold W) x.2 (held-in-set a.0 s x.0 x.1 x-own (subst (λ z. In z W.impls) (sym x.2) h) (held a.0 a.1 x.0 x.1 x-own)))
+          where
+            v : View
+            v = a.0
+
+            s : HoldsView W v
+            s = every-member (HoldsView W) vs v l.as_answered a.1
+
+            x : (z : ImplDecl) × In z v.world.impls × (renumbered_impl v.numbers z ≡ i)
+            x = map-in (renumbered_impl v.numbers) v.world.impls i
+                (s.later.own i (filter-in (λ (z : ImplDecl). sees W (asker_in_set v) z.home) W.impls i h (subst (λ d. sees W (asker_in_set v) d ≡ true) a.2 (sees-itself (length W.crates) W (asker_in_set v)))) (sym a.2))
+
+            x-own : x.0.home ≡ v.asker
+            x-own = injective v.numbers.crates x.0.home v.asker (ap (λ (z : ImplDecl). z.home) x.2 ∙ sym a.2)
+
+    pub held-linked : LinkedSet W vs rank
+    held-linked = linked-where-judged judged-impl

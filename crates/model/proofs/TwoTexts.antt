@@ -21,15 +21,15 @@ use Rattle.model.proofs.Inhabited.{beside-core-supers}
 use Rattle.model.proofs.ViewLaws.{as-it-was}
 
 -- Two numbers exchanged
-abbrev pick : Bool → Bool → ℕ → ℕ → ℕ → ℕ
+abbrev pub pick : Bool → Bool → ℕ → ℕ → ℕ → ℕ
 pick true y a b n = b
 pick false true a b n = a
 pick false false a b n = n
 
-abbrev swapped : ℕ → ℕ → ℕ → ℕ
+abbrev pub swapped : ℕ → ℕ → ℕ → ℕ
 swapped a b n = pick (n == a) (n == b) a b n
 
-swapped-twice : (a b n : ℕ) → swapped a b (swapped a b n) ≡ n
+pub swapped-twice : (a b n : ℕ) → swapped a b (swapped a b n) ≡ n
 swapped-twice a b n = by (n == a) refl (n == b) refl
   where
     at-b : (x : Bool) → (b == a) ≡ x → n ≡ a → pick x true a b b ≡ n
@@ -44,11 +44,11 @@ swapped-twice a b n = by (n == a) refl (n == b) refl
     by false e false f =
         ap (swapped a b) (ap (λ z. pick z (n == b) a b n) e ∙ ap (λ z. pick false z a b n) f) ∙ ap (λ z. pick z (n == b) a b n) e ∙ ap (λ z. pick false z a b n) f
 
-abbrev exchanged : ℕ → ℕ → Permutation
+abbrev pub exchanged : ℕ → ℕ → Permutation
 exchanged a b = record { to = swapped a b; back = swapped a b; back_to = swapped-twice a b; to_back = swapped-twice a b }
 
 -- Two neighbours of different keys, exchanged: what has a key stays
-swapped-named : {A : Type 0} (key : A → ℕ) (x y : A) (rest : List A) → (key x ≡ key y → ⊥) → (n : ℕ) (front : List A)
+pub swapped-named : {A : Type 0} (key : A → ℕ) (x y : A) (rest : List A) → (key x ≡ key y → ⊥) → (n : ℕ) (front : List A)
     → filter (λ z. key z == n) (front ++ x ∷ y ∷ rest) ≡ filter (λ z. key z == n) (front ++ y ∷ x ∷ rest)
 swapped-named {A = A} key x y rest d n [] = by (key x == n) refl (key y == n) refl
   where
@@ -205,7 +205,7 @@ two-texts = (
 )
 
 -- Opposite orders
-abbrev both : Permutation → Permutation → Permutation
+abbrev pub both : Permutation → Permutation → Permutation
 both p q = record {
   to = λ n. q.to (p.to n);
   back = λ n. p.back (q.back n);
@@ -213,7 +213,7 @@ both p q = record {
   to_back = λ n. ap q.to (p.to_back (q.back n)) ∙ q.to_back n;
 }
 
-abbrev turned : Renumbering
+abbrev pub turned : Renumbering
 turned = record { crates = both (exchanged 1 2) (exchanged 3 4); structs = exchanged 10 11; traits = exchanged 20 21; impls = same_numbers }
 
 left-view : View
@@ -228,17 +228,17 @@ left-stands =
     as-it-was set_of_both_orders left-view
     (by-lists as_they_are text_with_left_first (view_of set_of_both_orders 3) refl refl (λ t h. refl) (λ n. refl) (λ n. refl) (λ n. refl) refl refl)
 
-different : (m n : ℕ) → (m == n) ≡ false → m ≡ n → ⊥
+pub different : (m n : ℕ) → (m == n) ≡ false → m ≡ n → ⊥
 different m n h e = not-both (m == n) (subst (λ k. (m == k) ≡ true) e (self-number m)) h
 
 -- core's traits come before the two that are exchanged
-below-twenty : (t : ℕ) → is_declared core_world t ≡ true → t < 20
+pub below-twenty : (t : ℕ) → is_declared core_world t ≡ true → t < 20
 below-twenty t h =
     let x = some-member (λ (x : TraitDecl). true) (traits_named core_world t) h in
     let m = in-filter (λ (y : TraitDecl). y.name == t) core_world.traits x.0 x.1 in
     subst (λ n. n < 20) (same-number x.0.name t m.1) (less x.0.name 20 (member-each (λ (y : TraitDecl). ltb y.name 20) core_world.traits x.0 refl m.0))
 
-core-stays : (t : ℕ) → t < 20 → swapped 20 21 t ≡ t
+pub core-stays : (t : ℕ) → t < 20 → swapped 20 21 t ≡ t
 core-stays t h = ap (λ z. pick z (t == 21) 20 21 t) (no-test t 20 h) ∙ ap (λ z. pick false z 20 21 t) (no-test t 21 (omega arith))
   where
     no-test : (m k : ℕ) → m < k → (m == k) ≡ false

@@ -8,7 +8,8 @@ use Rattle.model.specs.Elaborated.{HasElaboratedProof}
 use Rattle.model.proofs.ElaboratedProofs.{bare-proof}
 use Rattle.model.specs.Answers.{CommonInstance, is_closed, is_bounded, is_possible, is_variable, IsFixedClause}
 use Rattle.model.specs.Renumbering.{Renumbering, View, HoldsView, renumbered, renumbered_reference, renumbered_impl}
-use Rattle.model.specs.LinkedSet.{LinkedSet, Cleared}
+use Rattle.model.specs.LinkedSet.{JoinedSet, LinkedSet, Cleared}
+use Rattle.model.proofs.HeldSets.{held-linked}
 use Rattle.model.proofs.Members.{in-map, in-left, in-right}
 use Rattle.model.proofs.NoHolds.{every-member}
 use Rattle.model.proofs.NoTwo.{no-common-instance}
@@ -17,7 +18,7 @@ use Rattle.model.proofs.ViewLaws.{no-two-of-accepted, proved-in-set, no-in-set}
 use Rattle.model.proofs.RenumberedTrees.{inverse, impl-back, back, over-with-args, over-common, over-closed}
 use Rattle.overlap_check.specs.Verdicts.{placed, IsPair, ClearedBy, IsCleared}
 use Rattle.overlap_check.specs.Questions.{FitKinds, filled_reference, SolutionBy, Solution, yes, unproved, maybe, IsRefuteAnswer, unrefuted}
-use Rattle.overlap_check.specs.SessionLaws.{HeadlineHolds, ApartIsCleared, CoversLeft, CoversRight, CoversClause, RefusedClauseClears, IsPassed, PassedIsAccepted, RefusedIsReal, DecidedIsAnswered, BoundedIsRefuted}
+use Rattle.overlap_check.specs.SessionLaws.{HeadlineHolds, HeadlineOfHeldSets, ApartIsCleared, CoversLeft, CoversRight, CoversClause, RefusedClauseClears, IsPassed, PassedIsAccepted, RefusedIsReal, DecidedIsAnswered, BoundedIsRefuted}
 use Rattle.model.proofs.Members.{not-both}
 use Rattle.overlap_check.specs.Verdicts.{InEverySetWith}
 use Rattle.overlap_check.proofs.Possible.{bounded-possible}
@@ -147,37 +148,37 @@ every-left P [] ys h = tt
 every-left P (x ∷ xs) ys h = (h.0, every-left P xs ys h.1)
 
 -- fewer answers
-fewer : (W : World) (vs ws : List View) (rank : ℕ → ℕ) → LinkedSet W vs rank → Every (HoldsView W) ws → LinkedSet W ws rank
-fewer W vs ws rank l e = record {
-  joined = record {
-    terms = l.joined.terms;
-    core_there = l.joined.core_there;
-    core_later = l.joined.core_later;
-    one_struct = l.joined.one_struct;
-    one_trait = l.joined.one_trait;
-    one_impl = l.joined.one_impl;
-    headers_in_scope = l.joined.headers_in_scope;
-    autos_bare = l.joined.autos_bare;
-    bounds_in_scope = l.joined.bounds_in_scope;
-    trait_rank = l.joined.trait_rank;
-    bounds_before = l.joined.bounds_before;
-    autos_at_home = l.joined.autos_at_home;
-    plain_headers = l.joined.plain_headers;
-    plain_clauses = l.joined.plain_clauses;
-    plain_fields = l.joined.plain_fields;
-    plain_bounds = l.joined.plain_bounds;
-    clauses_covered = l.joined.clauses_covered;
-    sized_alone = l.joined.sized_alone;
-    dyns_hold_bounds = l.joined.dyns_hold_bounds;
-    dyns_in_order = l.joined.dyns_in_order;
-    core_first = l.joined.core_first;
-    uses_before = l.joined.uses_before;
-    uses_stand = l.joined.uses_stand;
-    as_answered = e;
-    orphan_rule = l.joined.orphan_rule;
-  };
-  supers_proved = l.supers_proved;
+fewer-joined : (W : World) (vs ws : List View) (rank : ℕ → ℕ) → JoinedSet W vs rank → Every (HoldsView W) ws → JoinedSet W ws rank
+fewer-joined W vs ws rank l e = record {
+  terms = l.terms;
+  core_there = l.core_there;
+  core_later = l.core_later;
+  one_struct = l.one_struct;
+  one_trait = l.one_trait;
+  one_impl = l.one_impl;
+  headers_in_scope = l.headers_in_scope;
+  autos_bare = l.autos_bare;
+  bounds_in_scope = l.bounds_in_scope;
+  trait_rank = l.trait_rank;
+  bounds_before = l.bounds_before;
+  autos_at_home = l.autos_at_home;
+  plain_headers = l.plain_headers;
+  plain_clauses = l.plain_clauses;
+  plain_fields = l.plain_fields;
+  plain_bounds = l.plain_bounds;
+  clauses_covered = l.clauses_covered;
+  sized_alone = l.sized_alone;
+  dyns_hold_bounds = l.dyns_hold_bounds;
+  dyns_in_order = l.dyns_in_order;
+  core_first = l.core_first;
+  uses_before = l.uses_before;
+  uses_stand = l.uses_stand;
+  as_answered = e;
+  orphan_rule = l.orphan_rule;
 }
+
+fewer : (W : World) (vs ws : List View) (rank : ℕ → ℕ) → LinkedSet W vs rank → Every (HoldsView W) ws → LinkedSet W ws rank
+fewer W vs ws rank l e = record { joined = fewer-joined W vs ws rank l.joined e; supers_proved = l.supers_proved }
 
 pub headline : HeadlineHolds
 headline limit W vs qs rank l answered ok = record {
@@ -199,3 +200,10 @@ headline limit W vs qs rank l answered ok = record {
 
     clear : (v : View) → In v vs → (i j : ImplDecl) → IsPair v.world v.asker i j → Cleared W (renumbered_impl v.numbers i) (renumbered_impl v.numbers j)
     clear v h i j p = ((ok v h).cleared i j p).1 W (vs ++ qs) rank l v.numbers (stand v (in-left v vs qs h))
+
+-- the supertraits of headers stand in a set of crates that were held, whatever else was asked in it
+pub held-headline : HeadlineOfHeldSets
+held-headline limit W vs qs rank l answered ok = headline limit W vs qs rank (record { joined = l; supers_proved = of-held.supers_proved }) answered (λ v h. (ok v h).0)
+  where
+    of-held : LinkedSet W vs rank
+    of-held = held-linked W vs rank (fewer-joined W (vs ++ qs) vs rank l (every-left (HoldsView W) vs qs l.as_answered)) answered (λ v h. (ok v h).1)

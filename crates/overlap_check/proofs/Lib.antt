@@ -1,6 +1,7 @@
 pub mod Filling
 pub mod Possible
 pub mod Contracts
+pub mod AnyOrder
 pub mod Computing
 pub mod WorkedVerdicts
 pub mod WorkedAnswers

@@ -6,9 +6,12 @@ use Rattle.model.specs.Worlds.{World, Reference, ImplDecl, sees, with_args}
 use Rattle.model.specs.Proofs.{In, Every, HasProof, HasProofByImpl}
 use Rattle.model.specs.Answers.{is_closed, is_bounded, is_possible, CommonInstance, FixedLeft, FixedRight, IsDecided, is_variable}
 use Rattle.model.specs.Renumbering.{View, renumbered_reference, renumbered_impl}
-use Rattle.model.specs.LinkedSet.{LinkedSet, Cleared, IsAnswered}
+use Rattle.model.specs.LinkedSet.{JoinedSet, LinkedSet, Cleared, IsAnswered}
+use Rattle.model.specs.Supers.{IsHeld}
+use Rattle.model.specs.Arranging.{turned_back, arranged_reference}
+use Rattle.model.specs.ArrangingLaws.{Listed, HoldsInOrder, IsAnsweredInOrder, placed_reference, placed_impl}
 use Rattle.overlap_check.specs.Verdicts.{IsVerdict, accepted, IsPair, IsCleared, KeepsOrphanRule, IsAccepted, IsRealOverlap}
-use Rattle.overlap_check.specs.Questions.{FitKinds, filled_reference, Solution, ProveAnswer, yes, unproved, IsProveAnswer, no, unrefuted, IsRefuteAnswer, IsRefuted}
+use Rattle.overlap_check.specs.Questions.{FitKinds, filled_reference, Solution, SolutionBy, ProveAnswer, yes, unproved, IsProveAnswer, no, unrefuted, IsRefuteAnswer, IsRefuted}
 
 -- The headline
 -- What holds of a linked set whose crates were accepted, each in a text of its own or in one with others, and in which others were
@@ -32,6 +35,33 @@ HeadlineHolds =
     → ((i : ImplDecl) → In i W.impls → IsAnswered accepted_views i)
     → ((v : View) → In v accepted_views → IsVerdict limit v.world v.asker accepted)
     → Headline limit W accepted_views asked_views
+
+-- The same of a set whose crates were held too: then nothing is assumed of the supertraits of headers.
+abbrev pub HeadlineOfHeldSets : Type 0
+HeadlineOfHeldSets =
+    (limit : ℕ) (W : World) (accepted_views asked_views : List View) (rank : ℕ → ℕ) → JoinedSet W (accepted_views ++ asked_views) rank
+    → ((i : ImplDecl) → In i W.impls → IsAnswered accepted_views i)
+    → ((v : View) → In v accepted_views → IsVerdict limit v.world v.asker accepted × IsHeld v.world v.asker)
+    → Headline limit W accepted_views asked_views
+
+-- The same of texts that each list the auto traits of a `dyn` in an order of its own: what was answered is said of W in W's order.
+pub record HeadlineInOrder (limit : ℕ) (W : World) (accepted_texts asked_texts : List Listed) : Type 0 where
+  pub one_impl : (r : Reference) → IsTrue (is_closed r.args) → (n k : ℕ) → HasProofByImpl W [] r n → HasProofByImpl W [] r k → n ≡ k
+  pub unrelated : (i j : ImplDecl) → In i W.impls → In j W.impls → sees W i.home j.home ≡ false → sees W j.home i.home ≡ false → CommonInstance i j → ⊥
+  pub cleared : (o : Listed) → In o accepted_texts → (i j : ImplDecl) → IsPair o.view.world o.view.asker i j → Cleared W (placed_impl o.order o.view i) (placed_impl o.order o.view j)
+  -- no closed values, in the text's order, with which the question has a proof here
+  pub no_holds : (o : Listed) → In o asked_texts → (ks : List Sort) (r : Reference) → IsRefuteAnswer limit o.view.world o.view.asker ks r no
+      → SolutionBy (λ q. HasProof W [] (arranged_reference (turned_back o.order) q)) ks (renumbered_reference o.view.numbers r) → ⊥
+  pub yes_holds : (o : Listed) → In o asked_texts → (ks : List Sort) (ts : List Trees) (r : Reference) → IsProveAnswer limit o.view.world ks [] r (yes ts)
+      → HasProof W [] (placed_reference o.order o.view (filled_reference ks ts r))
+
+abbrev pub HeadlineInAnyOrder : Type 0
+HeadlineInAnyOrder =
+    (limit : ℕ) (W : World) (accepted_texts asked_texts : List Listed) (rank : ℕ → ℕ) → LinkedSet W [] rank
+    → ((o : Listed) → In o (accepted_texts ++ asked_texts) → HoldsInOrder W o.order o.view)
+    → ((i : ImplDecl) → In i W.impls → IsAnsweredInOrder accepted_texts i)
+    → ((o : Listed) → In o accepted_texts → IsVerdict limit o.view.world o.view.asker accepted)
+    → HeadlineInOrder limit W accepted_texts asked_texts
 
 -- What the check of a pair has to find
 -- Headers without a common instance are cleared: where unification over fresh variables is refused, there is none.

@@ -14,7 +14,8 @@ use Rattle.overlap_check.specs.OpenedHeaders.{opened}
 abbrev pub placed : World → ℕ → Renumbering → View
 placed V c ρ = record { numbers = ρ; asker = c; world = V }
 
--- P holds in each linked set in which c stands with this view, whatever numbers the set has for those of c's text.
+-- P holds in each linked set in which c stands with this view, whatever numbers the set has for those of c's text. A set that
+-- lists the auto traits of `dyn`s in another order than c's text is meant too: in the text's order it is a linked set as well.
 abbrev pub InEverySetWith : World → ℕ → (World → Renumbering → Type 0) → Type 0
 InEverySetWith V c P = (W : World) (vs : List View) (rank : ℕ → ℕ) → LinkedSet W vs rank → (ρ : Renumbering) → HoldsView W (placed V c ρ) → P W ρ
 

@@ -20,6 +20,9 @@ use search_graph::{Delegate, PathKind, Reply, Request};
 use std::marker::PhantomData;
 use type_terms::Fault;
 
+/// A goal whose types have fewer levels is a small one, and a larger one costs so much more for each so many of them.
+const LEVELS_OF_A_SMALL_GOAL: usize = 16;
+
 /// Evaluates goals by the rules of a handler.
 ///
 /// What it means to a search is what the handler means for goals: the questions of a frame are those of the goal's frame over
@@ -142,6 +145,13 @@ impl<H: GoalHandler> Delegate for SolverGraph<H> {
         ensures is { IfOk result (λ r. answer_of cx.new r ≡ silent (goal_of cx.old for_input.now).1 (Maybe ambiguity_info)) }
     {
         silent_answer(cx, *for_input, Certainty::Maybe(ambiguity_info))
+    }
+
+    /// A goal's terms are walked several times as it is evaluated: so it costs one more for each 16 levels of its predicate's types.
+    fn cost_of(cx: &SolverCx<H>, input: &InputId) -> usize {
+        let goal = cx.store.input(*input);
+        let levels = cx.interner.depth(goal.goal.predicate.trait_ref.args);
+        levels as usize / LEVELS_OF_A_SMALL_GOAL
     }
 
     /// The frame of the goal that is kept under this number, in its mode.

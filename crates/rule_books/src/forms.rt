@@ -47,7 +47,6 @@ fn places_stand(cx: &Interner, kinds: &[CanonicalVarKind], args: GenericArgs) ->
     true
 }
 
-/// Whether each variable stands in the arguments.
 fn all_stand(cx: &Interner, kinds: &[CanonicalVarKind], args: GenericArgs) -> bool
     requires { Has cx.now.entries args_lists args.0 }
     ensures { result ≡ all_stand 0 kinds.now (trees_at cx.now.entries args.0) }
@@ -68,7 +67,6 @@ fn is_made(cx: &Interner, kinds: &[CanonicalVarKind], args: GenericArgs) -> bool
     are_over(cx, kinds, args) && places_stand(cx, kinds, args)
 }
 
-/// The goal has no where-clauses.
 fn has_no_clauses(goal: &CanonicalInput) -> bool
     ensures { result ≡ (length goal.now.goal.param_env.items == 0) }
 {
@@ -132,7 +130,7 @@ impl Rule {
 }
 
 impl RuleBook {
-    /// Whether each rule is as rules are to be.
+    /// Whether each rule is as rules are to be (`Rule::is_rule`); only such a list is to be asked.
     pub fn are_rules(&self, cx: &Interner) -> bool
         requires { Every (RuleHeld cx.now.entries) self.now.rules.items }
         ensures { result ≡ list_all is_rule (map (rule_read cx.now.entries) self.now.rules.items) }

@@ -29,7 +29,6 @@ struct FindsForeign<'a> {
 }
 
 impl FindsForeign<'_> {
-    /// The kind of the canonical variable, if it is one of these kinds.
     fn kind(&self, variable: BoundVar) -> Option<CanonicalVarKind>
         ensures { result ≡ slice_get self.now.kinds.now variable.index }
     {
@@ -70,7 +69,6 @@ impl FindsForeign<'_> {
     }
 }
 
-/// A break, if this is so.
 fn break_if(found: bool) -> Seen<()>
     ensures { BreaksAt found result }
 {
@@ -133,7 +131,6 @@ struct FindsVariable {
 }
 
 impl FindsVariable {
-    /// It has the number.
     fn is_number(&self, variable: BoundVar) -> bool
         ensures { result ≡ (variable.index == self.now.number) }
     {
@@ -141,14 +138,12 @@ impl FindsVariable {
     }
 }
 
-/// The kind is of types.
 fn is_of_types(kind: CanonicalVarKind) -> bool
     ensures { result ≡ is_sort (sort_of_kind kind) of_type }
 {
     matches!(kind, CanonicalVarKind::Ty | CanonicalVarKind::PlaceholderTy)
 }
 
-/// The kind is of constants.
 fn is_of_consts(kind: CanonicalVarKind) -> bool
     ensures { result ≡ is_sort (sort_of_kind kind) of_const }
 {
@@ -158,7 +153,6 @@ fn is_of_consts(kind: CanonicalVarKind) -> bool
     )
 }
 
-/// The kind is of lifetimes.
 fn is_of_regions(kind: CanonicalVarKind) -> bool
     ensures { result ≡ is_sort (sort_of_kind kind) of_lifetime }
 {

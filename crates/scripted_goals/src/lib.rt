@@ -215,6 +215,10 @@ impl Delegate for Toy {
         Ok(AMBIGUOUS)
     }
 
+    fn cost_of(_cx: &Scripts, _input: &usize) -> usize {
+        0
+    }
+
     fn start(_cx: &mut Scripts, input: &usize) -> Result<ToyFrame, Fault>
         ensures keeps { Keeps toy_meaning _cx.old _cx.new }
         ensures full { result ≡ Err Fault.Full → ⊥ }
@@ -282,7 +286,6 @@ fn next_request(scripts: &Scripts, goal: usize, next: usize, reply: Reply<u8>) -
     step_request(script, next)
 }
 
-/// The request of a script's step.
 fn step_request(script: &Script, next: usize) -> Request<usize, u8>
     ensures { result ≡ step_at script.now next }
 {

@@ -25,7 +25,7 @@ use type_terms::Fault;
 pub struct CacheEntry<I, R> {
     /// The goal.
     pub input: I,
-    /// Its result.
+    /// What came of the goal: a success, or after an overflow by depth what stands for that.
     pub result: R,
     /// The depth that the goal needed, or after an overflow by depth the depth that it had.
     pub depth: usize,
@@ -255,7 +255,8 @@ impl<D: Delegate> CachedResults<D> {
         }
     }
 
-    /// The result at a place.
+    /// A copy of the result at a place of the cache, with the depth that it needed and whether an overflow is in it. The only fault is
+    /// `Memory`.
     pub(crate) fn get(
         &self,
         cx: &D::Cx,
@@ -388,7 +389,6 @@ impl<D: Delegate> CachedResults<D> {
     }
 }
 
-/// Whether one of the goals is on the stack.
 fn is_any_on_stack(positions: &IndexMap<usize, usize>, goals: &[usize]) -> bool
     ensures one { result ≡ true → (i : ℕ) × (asked : ℕ) × (slice_get goals.now i ≡ Some asked) × ContainsKey nat_eq positions.now asked }
     ensures none { result ≡ false → All (λ asked. ContainsKey nat_eq positions.now asked → ⊥) goals.now }

@@ -15,7 +15,7 @@ use std::alloc::Global;
 /// is ignored; so far ignoring it changes nothing else.
 #[derive(Drop)]
 pub struct Candidates {
-    /// Whether one is open.
+    /// Whether the frame has entered a candidate that it has not finished; there is one at most.
     pub open: bool,
     /// Those that were finished, by number: whether each was ignored since.
     pub finished: Vec<bool>,

@@ -159,6 +159,11 @@ pub trait Delegate {
         ensures fair { IfOk result (λ r. IsFair meaning (meaning.world cx.old) (meaning.goal_of cx.old for_input.now) (meaning.answer_of cx.new r)) }
         ensures no_yes { IfOk result (λ r. meaning.is_yes (meaning.answer_of cx.new r) ≡ false) };
 
+    /// By how much more than a small goal this one counts, where it ends with a result that isn't kept (`OPEN_ENDS_LIMIT`): about
+    /// how much longer it takes to evaluate. Any number may be answered, since nothing that is proved rests on it.
+    fn cost_of(cx: &Self::Cx, input: &InputOf<Self>) -> usize
+        requires { meaning.IsInput cx.now input.now };
+
     /// The frame of a goal.
     fn start(cx: &mut Self::Cx, input: &InputOf<Self>) -> Result<Self::Frame, Fault>
         requires { meaning.IsInput cx.old input.now }

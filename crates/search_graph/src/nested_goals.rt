@@ -84,7 +84,8 @@ impl NestedGoals {
         }
     }
 
-    /// Adds a goal.
+    /// Adds a goal whose result was not cached, by its number. The error is a refused request for memory, which changes neither goals nor
+    /// span.
     pub fn add_goal(&mut self, number: usize) -> Result<(), AllocError>
         ensures added { OnOk result (self.new.goals.items ≡ self.old.goals.items ++ number ∷ []) }
         ensures span { OnOk result (self.new.span ≡ covered self.old.span (one_goal number)) }

@@ -107,15 +107,16 @@ impl<D: Delegate> Search<D> {
         self.open_ends = 0;
     }
 
-    /// Counts a goal that ended with a result that isn't kept, or after an overflow. Whether the call may go on after it.
-    pub(crate) fn count_open_end(&mut self) -> bool
+    /// Counts a goal that ended with a result that isn't kept, or after an overflow: for 1, and for what it costs beyond that.
+    /// Whether the call may go on after it.
+    pub(crate) fn count_open_end(&mut self, cost: usize) -> bool
         ensures limit { result ≡ true → self.new.open_ends < open_ends_limit }
-        ensures count { result ≡ true → self.new.open_ends ≡ self.old.open_ends + 1 }
+        ensures count { result ≡ true → self.new.open_ends ≡ self.old.open_ends + 1 + cost }
         ensures stack { self.new.stack.items ≡ self.old.stack.items }
         ensures frames { self.new.frames ≡ self.old.frames }
         ensures limits { self.new.limits_met ≡ self.old.limits_met }
     {
-        self.open_ends = self.open_ends.saturating_add(1);
+        self.open_ends = self.open_ends.saturating_add(1).saturating_add(cost);
         self.open_ends < OPEN_ENDS_LIMIT
     }
 

@@ -65,7 +65,7 @@ impl<I: Drop, R: Drop> StackEntry<I, R> {
 pub struct Cycle {
     /// The place of the goal, counted from the oldest.
     pub index: usize,
-    /// The kind of the path.
+    /// The maximum of the kinds of the steps from the goal to the top of the stack, and of the step that closes the cycle.
     pub path_kind: PathKind,
 }
 

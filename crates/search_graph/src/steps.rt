@@ -216,7 +216,7 @@ pub(crate) fn conclude<D: Delegate>(
 {
     let found = &evaluation.dependencies;
     let is_open = found.encountered_overflow || found.lowest < index;
-    if is_open && !search.count_open_end() {
+    if is_open && !search.count_open_end(D::cost_of(cx, &input)) {
         return Err(Stop::Exhausted);
     }
     let alloc = search.alloc;

@@ -19,6 +19,7 @@ use Rattle.model.proofs.NoHolds.{member-each, each-member}
 use Rattle.model.proofs.TermRules.{erased-is-terms, sees-same}
 use Rattle.model.proofs.CoreApart.{core-coherent}
 use Rattle.model.proofs.CoreThere.{whole-there, whole-later}
+use Rattle.model.proofs.ArrangedTwice.{rising-in-order}
 use Rattle.model.proofs.AddedByView.{keeps-in-set}
 use Rattle.model.proofs.ViewLaws.{sees-itself}
 use Rattle.model.proofs.SameNumbers.{hold-views}
@@ -33,7 +34,7 @@ use Rattle.view_lowering.proofs.Tests.{is_good, is_good_struct, is_good_trait, i
 use Rattle.view_lowering.proofs.Applied.{each-map}
 use Rattle.view_lowering.proofs.Trees.{and, and-left, and-right}
 use Rattle.model.specs.Supers.{dyns_of_bounds, mentions_as}
-use Rattle.sessions.specs.JoinedTexts.{text_world, CratesKeepOrphanRule, TextsAreJoined}
+use Rattle.sessions.specs.JoinedTexts.{text_world, CratesKeepOrphanRule, TextsAreJoined, TextsListInOrder}
 use Rattle.sessions.proofs.Seeing.{AreOrdered, core-seen, from-core}
 use Rattle.sessions.proofs.TextTerms.{IsStructAt, IsTraitAt, TextNodes, IsPlaced}
 use Rattle.sessions.proofs.FormedViews.{each-in, map-in}
@@ -373,6 +374,13 @@ module _ (d : Declarations) (a : AllKept d) where
       by (inl e) = core-keeps i m e
       by (inr l) = h i.home l (home-below i m) i (filter-in (λ (x : ImplDecl). sees W i.home x.home) W.impls i m (sees-itself (length W.crates) W i.home)) refl
 
+  -- each `dyn` lists its auto traits by their numbers
+  pub dyns-rise : all_written dyns_rise W ≡ true
+  dyns-rise =
+      written-pass dyns_rise (λ k n e j t f. each-at Rises n.item.fields (each-at (λ (x : NamedStruct). Each Rises x.item.fields) d.structs a.kept.fields_rise k n e) j t f)
+      (λ k n e j b f. each-at (λ (r : Reference). Rises r.args) n.item.bounds (each-at (λ (x : NamedTrait). Each (λ (r : Reference). Rises r.args) x.item.bounds) d.traits a.kept.bounds_rise k n e) j b f)
+      (λ k n e. (each-at ImplRises d.impls a.kept.impls_rise k n e).0) (λ k n e j b f. each-at (λ (r : Reference). Rises r.args) n.item.clauses (each-at ImplRises d.impls a.kept.impls_rise k n e).1 j b f)
+
   -- ---- all of it
   pub joined : CratesKeepOrphanRule d → (cs : List ℕ) → JoinedSet W (map (view_at W) cs) (λ n. n)
   joined orphan cs = record {
@@ -416,9 +424,7 @@ module _ (d : Declarations) (a : AllKept d) where
     sized_alone = λ i m. let q = impl-at i m in ap (λ (y : ImplDecl). y.header.trait == sized) q.3 ∙ (header q.0 q.1 q.2).not_sized;
     dyns_hold_bounds = written-pass dyns_of_bounds (λ k n e j t f. good-dyns none_kept n.kinds t (good-field k n e j t f)) (λ k n e j b f. good-dyns none_kept (of_type ∷ n.kinds) b.args (good-bound k n e j b f))
         (λ k n e. good-dyns all_kept (param_sorts n) n.item.header.args (good-header k n e)) (λ k n e j b f. good-dyns (stands_in n.item.header.args) (param_sorts n) b.args (good-clause k n e b j f));
-    dyns_in_order = written-pass dyns_rise (λ k n e j t f. each-at Rises n.item.fields (each-at (λ (x : NamedStruct). Each Rises x.item.fields) d.structs a.kept.fields_rise k n e) j t f)
-        (λ k n e j b f. each-at (λ (r : Reference). Rises r.args) n.item.bounds (each-at (λ (x : NamedTrait). Each (λ (r : Reference). Rises r.args) x.item.bounds) d.traits a.kept.bounds_rise k n e) j b f)
-        (λ k n e. (each-at ImplRises d.impls a.kept.impls_rise k n e).0) (λ k n e j b f. each-at (λ (r : Reference). Rises r.args) n.item.clauses (each-at ImplRises d.impls a.kept.impls_rise k n e).1 j b f);
+    dyns_in_order = rising-in-order W dyns-rise;
     core_first = refl;
     uses_before = λ x u i j. uses-below x u i j;
     uses_stand = uses-there;
@@ -428,3 +434,6 @@ module _ (d : Declarations) (a : AllKept d) where
 
 pub texts-are-joined : TextsAreJoined
 texts-are-joined d (bytes, t) h cs = joined d (texts-are-kept bytes d t) h cs
+
+pub texts-list-in-order : TextsListInOrder
+texts-list-in-order d (bytes, t) = dyns-rise d (texts-are-kept bytes d t)

@@ -1,9 +1,9 @@
 -- The crates of a text without a fault, as a set.
-use Rattle.std.specs.Prelude.{ℕ, ◌<◌, List, map, length}
+use Rattle.std.specs.Prelude.{ℕ, ◌<◌, IsTrue, List, map, length}
 use Rattle.model.specs.Worlds.{World, core}
 use Rattle.model.specs.Terms.{erased_world}
 use Rattle.model.specs.Renumbering.{view_at}
-use Rattle.model.specs.LinkedSet.{JoinedSet}
+use Rattle.model.specs.LinkedSet.{JoinedSet, all_written, dyns_rise}
 use Rattle.text_definitions.specs.Declarations.{Declarations, world_of}
 use Rattle.overlap_check.specs.Verdicts.{KeepsOrphanRule}
 use Rattle.sessions.specs.Promises.{view_in}
@@ -21,3 +21,7 @@ CratesKeepOrphanRule d = (c : ℕ) → core < c → c < length d.crates → Keep
 abbrev pub TextsAreJoined : Type 0
 TextsAreJoined =
     (d : Declarations) → IsOfText d → CratesKeepOrphanRule d → (cs : List ℕ) → JoinedSet (text_world d) (map (view_at (text_world d)) cs) (λ n. n)
+
+-- Each `dyn` of a text without a fault lists its auto traits in the order in which the text declares them.
+abbrev pub TextsListInOrder : Type 0
+TextsListInOrder = (d : Declarations) → IsOfText d → IsTrue (all_written dyns_rise (text_world d))

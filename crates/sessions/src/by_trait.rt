@@ -36,7 +36,6 @@ fn is_closed(cx: &Interner, args: GenericArgs) -> bool
 /// Impls that are looked for together.
 #[derive(Clone, Copy, PartialEq, Eq, Hash)]
 enum ImplGroup {
-    /// All impls of a trait.
     OfTrait(TraitId),
     /// Those of a trait whose headers are not closed, by the head of their self type; without a head those whose self type is a
     /// parameter.
@@ -71,7 +70,6 @@ impl Drop for ImplsByTrait {
 }
 
 impl ImplsByTrait {
-    /// No impls.
     fn new(alloc: Global) -> ImplsByTrait
         ensures { (group : ImplGroup) → listed result group ≡ [] }
     {
@@ -80,7 +78,6 @@ impl ImplsByTrait {
         }
     }
 
-    /// The impls of a group.
     fn of_group(&self, group: ImplGroup) -> &[ImplId]
         ensures { result.now ≡ listed self.now group }
     {

@@ -53,6 +53,7 @@ pub use question_laws::{
 pub use session::Session;
 pub use text_laws::{
     accepted_texts_are_coherent, held_texts_are_coherent, impls_are_in_scope, texts_are_joined,
+    texts_list_in_order,
 };
 pub use view::{declarations_are_ready, impls_are_numbered};
 pub use written::ready_impls_are_written_well;

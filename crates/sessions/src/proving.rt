@@ -45,7 +45,6 @@ use type_terms::visitable_ext::TypeVisitableExt;
 use view_lowering::LoweredQuestion;
 use workspace::Workspace;
 
-/// The references as where-clauses.
 fn where_clauses(alloc: Global, references: &[TraitRef]) -> Result<Vec<Clause>, AllocError>
     ensures { IfOk result (λ v. v.items ≡ where_clauses references.now) }
 {

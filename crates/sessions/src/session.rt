@@ -4,7 +4,7 @@ ghost use Rattle.std.specs.Prelude.{◌≡◌, ◌<◌, ◌≤◌, ◌+◌, ℕ,
 ghost use Rattle.type_terms.specs.declared.TheConstants.{MAX_INDEX};
 ghost use Rattle.model.specs.Laws.{HeldSetsAreLinked, InEveryLinkedSet};
 ghost use Rattle.orphan_check.specs.Held.{ErrorHeld};
-ghost use Rattle.overlap_check.specs.SessionLaws.{HeadlineHolds};
+ghost use Rattle.overlap_check.specs.SessionLaws.{HeadlineHolds, HeadlineOfHeldSets};
 ghost use Rattle.workspace.specs.Numbered.{IsNumbered};
 ghost use Rattle.text_definitions.specs.Declarations.{Question};
 ghost use Rattle.sessions.specs.ByTrait.{ListsSeen, HavePartnersSeen};
@@ -34,7 +34,7 @@ use crate::view::lower_view;
 use candidate_assembly::solver::Solver;
 use model::held_sets_are_linked;
 use orphan_check::errors::OrphanCheckErr;
-use overlap_check::accepted_sets_have_one_impl;
+use overlap_check::{accepted_sets_have_one_impl, held_sets_have_one_impl};
 use root_goals::{SolverCx, SolverGraph};
 use search_graph::{GlobalCache, SearchGraph};
 use std::alloc::Global;
@@ -297,17 +297,20 @@ impl<'w> Session<'w> {
     /// of which none was found, or of which it is not known: all before have proofs, and that one is not determinate. The fault is `Memory`
     /// where memory is refused, or `Full` where a table of the session is full.
     ///
-    /// Crates that keep the rules of their texts and were held are a set of linked crates; and a text whose crates were all accepted and
-    /// held is coherent as a whole.
+    /// Crates that keep the rules of their texts and were held are a set of linked crates; so where they were accepted too, no closed
+    /// reference has proofs by two impls, with nothing assumed of supertraits. A text whose crates were all accepted and held is coherent
+    /// as a whole.
     ///
     /// `check_impl` of `rustc_hir_analysis`, as far as it asks for the supertraits of the header.
     pub fn check_supertraits(&mut self) -> Result<SupersAnswer, Fault>
         ensures linked { HeldSetsAreLinked }
+        ensures one_impl { HeadlineOfHeldSets }
         ensures coherent { HeldTextsAreCoherent }
         ensures answer { IfOk result (λ a. IsSupersAnswer self.old.depth self.old.declarations self.old.of_crate (supers_of a)) }
         ensures stays { StaysOn self.old self.new }
     {
         held_sets_are_linked();
+        held_sets_have_one_impl();
         held_texts_are_coherent();
         let end = self.impl_end();
         for number in 0..end {

@@ -1,13 +1,18 @@
 //! Mathematics without running code: the crates of a text without a fault, as a set of linked crates.
 
 ghost use Rattle.sessions.specs.CoherentTexts.{AcceptedTextsAreCoherent, HeldTextsAreCoherent};
-ghost use Rattle.sessions.specs.JoinedTexts.{TextsAreJoined};
+ghost use Rattle.sessions.specs.JoinedTexts.{TextsAreJoined, TextsListInOrder};
 ghost use Rattle.sessions.specs.ScopedTexts.{ImplsAreInScope};
 
 /// The crates of a text without a fault are a joined set, with the views that their answers are about, where all keep the orphan rule:
 /// of what makes them linked crates, the supertraits of headers alone are left.
 pub fn texts_are_joined()
     ensures { TextsAreJoined }
+{}
+
+/// A text lists the auto traits of each `dyn` in the order in which it declares them.
+pub fn texts_list_in_order()
+    ensures { TextsListInOrder }
 {}
 
 /// In a text whose crates are all accepted, and in which the supertraits of headers are proved, no closed reference has proofs by two

@@ -244,7 +244,7 @@ pub fn fold_args<F: FallibleTypeFolder>(
     walk_args(alloc, cx, folder, args, binders, &mut memo)
 }
 
-/// The fold of an argument.
+/// The fold of one argument under these binders: each node that the folder replaces is replaced. Errors are the folder's own and faults.
 pub(crate) fn fold_arg<F: FallibleTypeFolder>(
     alloc: Global,
     cx: &mut Interner,

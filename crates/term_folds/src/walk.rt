@@ -197,7 +197,7 @@ pub(crate) fn walk_args<F: FallibleTypeFolder>(
     Ok(cx.mk_args(new)?)
 }
 
-/// The fold of an argument.
+/// The fold of one argument in the midst of a walk, by the walk's table of what was folded before.
 #[cycle(walks)]
 pub(crate) fn walk_arg<F: FallibleTypeFolder>(
     alloc: Global,

@@ -33,7 +33,6 @@ fn shown(alloc: Global, cx: &mut Interner, ty: Ty) -> Result<TraitPredicate, Fau
     })
 }
 
-/// The goal without where-clauses.
 fn goal_without_clauses(alloc: Global, predicate: TraitPredicate) -> Goal
     ensures environment { result.param_env.items ≡ [] }
     ensures predicate { result.predicate ≡ predicate }

@@ -113,7 +113,6 @@ fn object_bounds(cx: &mut Interner, alloc: Global, auto_trait: u32) -> Result<Bo
 /// Constants, lists of lifetimes and lists of types.
 type Equal = ([bool; 3], [bool; 3], [bool; 4]);
 
-/// All of these.
 fn equal_terms(alloc: Global, cx: &mut Interner) -> Result<Equal, Fault> {
     let constants = constants(cx)?;
     let lifetimes = lists_of_lifetimes(alloc, cx)?;

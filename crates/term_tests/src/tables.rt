@@ -43,7 +43,6 @@ fn make_sample(cx: &mut Interner, sample: Sample) -> Result<Ty, Fault>
     }
 }
 
-/// Makes the type.
 pub(crate) fn make(alloc: Global, cx: &mut Interner, shape: Shape) -> Result<Ty, Fault>
     ensures held { IfOk result (λ ty. Has cx.new.entries types ty.0) }
     ensures keeps { Keeps cx.old.entries cx.new.entries }
@@ -148,7 +147,6 @@ const FIRST: Sample = Sample::Unknown(TyVid { index: 0 });
 
 const SECOND: Sample = Sample::Unknown(TyVid { index: 1 });
 
-/// The second unknown type of a table.
 fn second_unknown(cx: &mut Interner, table: &mut InferCtxt) -> Result<TyKind, Fault>
     requires { Ready cx.old.entries table.old }
 {

@@ -303,7 +303,6 @@ fn a_refusal_below_a_struct_is_the_answer(rt: HostRuntime) -> Result<(), Fault> 
 /// What shows whether a lifetime stands in a value: a visit that looks for one; the flags; and the outer binder.
 type Shown = (bool, u32, u32);
 
-/// What shows in the value.
 fn shown<T: TypeVisitableExt>(cx: &Interner, value: T) -> Shown
     requires { T.held value cx.now.entries }
 {

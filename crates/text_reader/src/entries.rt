@@ -20,7 +20,7 @@ use line_reader::{ClauseSpans, LineRead, Param, Span};
 use std::alloc::{AllocError, Global};
 use workspace::{Asked, ENTRY_LIMIT, QuestionEntry, ReferenceCells, Tables, TermCell};
 
-/// The references of an impl.
+/// The header and the where-clauses of an impl's line, as the tables keep them.
 #[derive(Drop)]
 pub(crate) struct ImplReferences {
     pub header: ReferenceCells,

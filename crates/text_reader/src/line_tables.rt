@@ -24,7 +24,6 @@ use workspace::{Known, ParamKind};
 pub(crate) struct LineTables<'w, 's, 'a> {
     before: SoFar<'w>,
     statement: &'s Statement<'a>,
-    /// The kinds of its parameters.
     kinds: Vec<ParamKind>,
     ghost kinds_said: { sorts_of kinds.items ≡ kinds_of (params_of (bare_line (statement_of statement.now))) },
 }
@@ -32,7 +31,7 @@ pub(crate) struct LineTables<'w, 's, 'a> {
 impl<'w, 's, 'a> LineTables<'w, 's, 'a> {
     ghost use Rattle.text_reader.specs.Sights.{sight_of};
 
-    /// Of this line.
+    /// What the names of this line stand for, after the lines before it. The error is a refused request for memory.
     pub fn new(
         alloc: Global,
         before: SoFar<'w>,

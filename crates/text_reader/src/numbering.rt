@@ -88,7 +88,6 @@ impl<'n, 'a> Numbering<'n, 'a> {
         }
     }
 
-    /// A type parameter.
     fn type_param(&self, number: u32) -> TermCell
         ensures { IsParamCell self.now of_type number type_part result }
     {
@@ -98,7 +97,6 @@ impl<'n, 'a> Numbering<'n, 'a> {
         }
     }
 
-    /// A const parameter.
     fn const_param(&self, number: u32) -> TermCell
         ensures { IsParamCell self.now of_const number const_part result }
     {
@@ -108,7 +106,6 @@ impl<'n, 'a> Numbering<'n, 'a> {
         }
     }
 
-    /// A lifetime parameter.
     fn lifetime_param(&self, number: u32) -> RegionKind
         ensures held { RegionHeld result }
         ensures label { region_label result ≡ parameter_of self.now of_lifetime number }

@@ -73,7 +73,6 @@ pub(crate) fn named_variables(
     Ok(named)
 }
 
-/// The parameter's name, if it is of this sort.
 fn name_of_sort<'a>(param: &Param<'a>, sort: ParamKind) -> Option<&'a [u8]>
     ensures { MatchOption result (name_of_sort (sort_of_kind sort) (param_of param.now) ≡ []) (λ n. name_of_sort (sort_of_kind sort) (param_of param.now) ≡ n.now ∷ []) }
 {

@@ -83,7 +83,7 @@ impl<'w> SoFar<'w> {
         }
     }
 
-    /// The number of the next struct.
+    /// The number that a struct of the next line gets: the count of structs so far, `core`'s among them.
     pub fn next_struct(&self) -> AdtId
         ensures { result.index ≡ length self.now.structs }
     {
@@ -92,7 +92,7 @@ impl<'w> SoFar<'w> {
         }
     }
 
-    /// The number of the next trait.
+    /// The number that a trait of the next line gets: the count of traits so far, `core`'s among them.
     pub fn next_trait(&self) -> TraitId
         ensures { result.index ≡ length self.now.traits }
     {

@@ -466,7 +466,7 @@ fn see_rest<V: TypeVisitor>(
     ControlFlow::Continue(())
 }
 
-/// The visit of a part of this depth.
+/// The visit of a part of a term by recursion or, where the part is deeper than 128 levels, by a list in memory.
 pub(crate) fn visit_part<V: TypeVisitor>(
     cx: &Interner,
     visitor: &mut V,

@@ -307,7 +307,7 @@ impl Interner {
         }
     }
 
-    /// The kind of a constant.
+    /// What a constant is made of: a number, a parameter, a placeholder or a variable. Its number is read off its handle.
     pub fn const_kind(&self, value: Const) -> ConstKind
         requires { Has self.now.entries consts value.0 }
         ensures is { Is self.now.entries consts value.0 (const_trees result) }

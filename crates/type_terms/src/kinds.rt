@@ -56,7 +56,7 @@ pub enum Mutability {
     Mut,
 }
 
-/// What a type is.
+/// What a type is made of, one level deep: its parts are handles of the same interner (`TyKind` of `rustc_type_ir`).
 #[derive(Clone, Copy, PartialEq, Eq, Hash)]
 pub enum TyKind {
     Bool,
@@ -65,7 +65,7 @@ pub enum TyKind {
     Uint(UintTy),
     Str,
     Never,
-    /// A struct with its arguments.
+    /// `V<'a, T, 3>`: a struct by its number, with an argument for each of its parameters.
     Adt(AdtId, GenericArgs),
     /// `&'a T` or `&'a mut T`.
     Ref(Region, Ty, Mutability),
@@ -90,7 +90,7 @@ pub enum TyKind {
     Infer(TyVid),
 }
 
-/// What a constant is.
+/// What a constant is: a number below 2 to the 64, or an open place (`ConstKind` of `rustc_type_ir`).
 #[derive(Clone, Copy, PartialEq, Eq, Hash)]
 pub enum ConstKind {
     Value(u64),
@@ -104,7 +104,7 @@ pub enum ConstKind {
     Infer(ConstVid),
 }
 
-/// One generic argument.
+/// One generic argument, whose sort is that of the parameter at its place (`GenericArgKind` of `rustc_type_ir`).
 #[derive(Clone, Copy, PartialEq, Eq, Hash)]
 pub enum GenericArgKind {
     Lifetime(Region),

@@ -20,7 +20,7 @@ pub(crate) enum Node {
     Bounds(BoundsData),
 }
 
-/// The kinds of handle.
+/// The kinds of handle that an interner numbers; each has a limit of its own.
 #[derive(Clone, Copy, PartialEq, Eq)]
 pub(crate) enum HandleKind {
     Types,
@@ -73,7 +73,7 @@ impl Counts {
         bounds_lists: 0,
     };
 
-    /// The count of one kind.
+    /// How many handles of this kind there are.
     pub(crate) fn of(&self, kind: HandleKind) -> u32
         ensures { result ≡ count_of (number_of kind) self.now }
     {
@@ -131,7 +131,7 @@ impl Info {
         depth: 1,
     };
 
-    /// The info of a bound variable, which has these flags.
+    /// What is kept of a bound variable: these flags, the outer binder that its number asks for (none for a canonical one), and depth 1.
     pub(crate) fn bound(flags: TypeFlags, binder: BoundVarIndexKind) -> Info
         requires { BinderHeld binder }
         ensures { result ≡ record { flags = flags.0; outer_binder = outer_of binder; depth = 1 } }

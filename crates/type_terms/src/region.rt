@@ -1,7 +1,7 @@
 //! Lifetimes.
 use crate::number::{BoundVar, BoundVarIndexKind, RegionVid};
 
-/// What a lifetime is.
+/// What a lifetime is (`RegionKind` of `rustc_type_ir`). No lifetime is erased, late bound or an error here.
 #[derive(Clone, Copy, PartialEq, Eq, Hash)]
 pub enum RegionKind {
     /// `'static`.

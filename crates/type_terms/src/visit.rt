@@ -74,7 +74,7 @@ pub trait TypeVisitor {
     ghost enters_bounds: { (v : Self) (es : List Entry) (bs : List ℕ) (t : Trees) → IsBound t → sees es bs t v v Enter };
 }
 
-/// The visit of a lifetime.
+/// The visit of a lifetime, one node: the visitor is asked once, and a break is handed on.
 pub fn visit_region<V: TypeVisitor>(
     cx: &Interner,
     visitor: &mut V,
@@ -93,7 +93,7 @@ pub fn visit_region<V: TypeVisitor>(
     }
 }
 
-/// The visit of a constant.
+/// The visit of a constant, one node: the visitor is asked once, and a break is handed on.
 pub(crate) fn visit_const<V: TypeVisitor>(
     cx: &Interner,
     visitor: &mut V,
@@ -114,7 +114,8 @@ pub(crate) fn visit_const<V: TypeVisitor>(
     }
 }
 
-/// The visit of a type.
+/// The visit of a type: its own node first, and then, where the visitor enters it, what stands in it, in order. Nothing is visited after a
+/// break. A type deeper than 128 levels is visited by a list in memory.
 pub fn visit_ty<V: TypeVisitor>(
     cx: &Interner,
     visitor: &mut V,
@@ -186,7 +187,7 @@ pub fn visit_args<V: TypeVisitor>(
     )
 }
 
-/// The visit of an argument.
+/// The visit of one argument, by its sort.
 pub(crate) fn visit_arg<V: TypeVisitor>(
     cx: &Interner,
     visitor: &mut V,

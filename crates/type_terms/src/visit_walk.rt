@@ -11,7 +11,7 @@ use crate::kinds::{Bounds, GenericArgKind, GenericArgs, Ty, TyKind, Tys};
 use crate::visit::{Seen, TypeVisitor, visit_const, visit_region};
 use std::ops::ControlFlow;
 
-/// The visit of a type.
+/// The visit of a type by recursion, for types of no more than 128 levels, or where memory is refused.
 #[cycle(visits)]
 pub(crate) fn see_ty<V: TypeVisitor>(
     cx: &Interner,
@@ -114,7 +114,7 @@ pub(crate) fn see_args<V: TypeVisitor>(
     ControlFlow::Continue(())
 }
 
-/// The visit of an argument.
+/// The visit of one argument by recursion.
 #[cycle(visits)]
 pub(crate) fn see_arg<V: TypeVisitor>(
     cx: &Interner,

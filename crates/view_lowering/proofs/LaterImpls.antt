@@ -1,5 +1,5 @@
 -- The impls of a section, lowered one after the other.
-use Rattle.std.proofs.Common.{◌≡◌, ℕ, zero, suc, ◌+◌, true, false, List, [], ◌∷◌, ◌++◌, length, map, take, Some, refl, sym, ap, ◌∙◌}
+use Rattle.std.proofs.Common.{◌≡◌, ℕ, zero, suc, ◌+◌, Bool, true, false, cond, List, [], ◌∷◌, ◌++◌, length, map, take, Some, refl, sym, ap, ◌∙◌, subst}
 use Rattle.std.specs.Prelude.{◌==◌, filter, slice_get}
 use Rattle.std.proofs.lemmas.List.{length-map, map_push}
 use Rattle.std.proofs.lemmas.Option.{same_Some}
@@ -15,11 +15,12 @@ use Rattle.declarations.specs.Items.{reference_in, impl_in}
 use Rattle.declarations.specs.Merges.{Each}
 use Rattle.declarations.proofs.Bounded.{all-same}
 use Rattle.declarations.proofs.Growth.{args-same, reference-kept, reference-same, references-kept}
+use Rattle.workspace.specs.Numbered as AtEach
 use Rattle.view_lowering.specs.Later.{unnumbered, added_impls, added_in, added_sorts, sorts_of_added}
 use Rattle.view_lowering.specs.Plain.{all_kept, plain_impl}
 use Rattle.view_lowering.specs.Seen.{param_sorts}
 use Rattle.view_lowering.proofs.Applied.{each-map, each-more}
-use Rattle.view_lowering.proofs.Going.{all-taken, passed, taken}
+use Rattle.view_lowering.proofs.Going.{all-taken, one-more-taken}
 use Rattle.view_lowering.proofs.Plainly.{reference-erased}
 
 -- ---- as the interner grows
@@ -45,10 +46,24 @@ module _ (old new : List Entry) (k : Keeps old new) where
   all-added-same [] h = refl
   all-added-same (def ∷ defs) h = ap (λ x. x ∷ map (added_in new) defs) (added-same def h.0) ∙ ap (λ l. added_in old def ∷ l) (all-added-same defs h.1)
 
+-- ---- lists
+-- what holds of each holds of those that are kept
+pub each-kept : {A : Type 0} (Q : A → Type 0) (p : A → Bool) (xs : List A) → AtEach.Each (λ k. Q) xs → AtEach.Each (λ k. Q) (filter p xs)
+each-kept Q p [] h = h
+each-kept {A = A} Q p (x ∷ xs) h = by (p x) (each-kept Q p xs (λ k y e. h (suc k) y e))
+  where
+    by : (b : Bool) → AtEach.Each (λ k. Q) (filter p xs) → AtEach.Each (λ k. Q) (cond b (x ∷ filter p xs) (filter p xs))
+    by true r zero y e = subst Q (same_Some x y e) (h 0 x refl)
+    by true r (suc k) y e = r k y e
+    by false r k y e = r k y e
+
 -- ---- the state of the loop
--- those of the first i impls of all sections that are of section k
+abbrev pub of_section : Declarations → ℕ → List LaterImpl
+of_section d k = filter (λ (j : LaterImpl). j.section == k) d.later_impls
+
+-- the first i impls of section k
 abbrev pub gone : Declarations → ℕ → ℕ → List NamedImpl
-gone d k i = map (λ (j : LaterImpl). j.added) (filter (λ (j : LaterImpl). j.section == k) (take i d.later_impls))
+gone d k i = map (λ (j : LaterImpl). j.added) (take i (of_section d k))
 
 pub record LaterAdded (d : Declarations) (k : ℕ) (old : List Entry) (limit : ℕ) (i : ℕ) (es : List Entry) (now_limit : ℕ) (defs : List ImplDef) : Type 0 where
   pub keeps : Keeps old es
@@ -61,25 +76,12 @@ module _ (d : Declarations) (k : ℕ) (old : List Entry) (limit : ℕ) where
   pub later-first : LaterAdded d k old limit 0 old limit []
   later-first = record { keeps = λ j e h. h; limited = refl; impls = refl; sorts = refl; held = tt }
 
-  pub later-passed : (i : ℕ) (es : List Entry) (now_limit : ℕ) (defs : List ImplDef) (s : LaterImpl) → slice_get d.later_impls i ≡ Some s → (s.section == k) ≡ false → LaterAdded d k old limit i es now_limit defs
-      → LaterAdded d k old limit (i + 1) es now_limit defs
-  later-passed i es now_limit defs s there other a =
-      let same : gone d k (i + 1) ≡ gone d k i = ap (map (λ (j : LaterImpl). j.added)) (passed (λ (j : LaterImpl). j.section == k) d.later_impls i s there other) in
-      record {
-        keeps = a.keeps;
-        limited = a.limited;
-        impls = a.impls ∙ ap (map (λ (n : NamedImpl). unnumbered (plain_impl n.item))) (sym same);
-        sorts = a.sorts ∙ ap (map param_sorts) (sym same);
-        held = a.held;
-      }
-
-  pub later-taken : (i : ℕ) (es : List Entry) (now_limit : ℕ) (defs : List ImplDef) (s : LaterImpl) (new : List Entry) (new_limit : ℕ) (id : ImplId) (def : ImplDef) → slice_get d.later_impls i ≡ Some s
-      → (s.section == k) ≡ true → Keeps es new → new_limit ≡ now_limit → impl_in new id def ≡ plain_impl s.added.item → sorts_of_added def ≡ param_sorts s.added → ImplHeld new def
+  pub later-taken : (i : ℕ) (es : List Entry) (now_limit : ℕ) (defs : List ImplDef) (s : LaterImpl) (new : List Entry) (new_limit : ℕ) (id : ImplId) (def : ImplDef) → slice_get (of_section d k) i ≡ Some s
+      → Keeps es new → new_limit ≡ now_limit → impl_in new id def ≡ plain_impl s.added.item → sorts_of_added def ≡ param_sorts s.added → ImplHeld new def
       → LaterAdded d k old limit i es now_limit defs → LaterAdded d k old limit (i + 1) new new_limit (defs ++ def ∷ [])
-  later-taken i es now_limit defs s new new_limit id def there own kept same_limit is sorted held a =
+  later-taken i es now_limit defs s new new_limit id def there kept same_limit is sorted held a =
       let more : gone d k (i + 1) ≡ gone d k i ++ s.added ∷ [] =
-      ap (map (λ (j : LaterImpl). j.added)) (taken (λ (j : LaterImpl). j.section == k) d.later_impls i s there own)
-      ∙ map_push (λ (j : LaterImpl). j.added) (filter (λ (j : LaterImpl). j.section == k) (take i d.later_impls)) s in
+      ap (map (λ (j : LaterImpl). j.added)) (one-more-taken (of_section d k) i s there) ∙ map_push (λ (j : LaterImpl). j.added) (take i (of_section d k)) s in
       record {
         keeps = λ j e h. kept j e (a.keeps j e h);
         limited = same_limit ∙ a.limited;
@@ -94,13 +96,13 @@ module _ (d : Declarations) (k : ℕ) (old : List Entry) (limit : ℕ) where
       }
 
   -- all are gone over
-  all-gone : (i : ℕ) → length d.later_impls ≡ i → gone d k i ≡ section_impls d k
-  all-gone i e = ap (λ l. map (λ (j : LaterImpl). j.added) (filter (λ (j : LaterImpl). j.section == k) l)) (all-taken d.later_impls i (sym e))
+  all-gone : (i : ℕ) → length (of_section d k) ≡ i → gone d k i ≡ section_impls d k
+  all-gone i e = ap (map (λ (j : LaterImpl). j.added)) (all-taken (of_section d k) i (sym e))
 
-  pub later-all : (i : ℕ) (es : List Entry) (now_limit : ℕ) (defs : List ImplDef) → length d.later_impls ≡ i → LaterAdded d k old limit i es now_limit defs → map (added_in es) defs ≡ added_impls d k
+  pub later-all : (i : ℕ) (es : List Entry) (now_limit : ℕ) (defs : List ImplDef) → length (of_section d k) ≡ i → LaterAdded d k old limit i es now_limit defs → map (added_in es) defs ≡ added_impls d k
   later-all i es now_limit defs e a = a.impls ∙ ap (map (λ (n : NamedImpl). unnumbered (plain_impl n.item))) (all-gone i e)
 
-  pub later-sorted : (i : ℕ) (es : List Entry) (now_limit : ℕ) (defs : List ImplDef) → length d.later_impls ≡ i → LaterAdded d k old limit i es now_limit defs → map sorts_of_added defs ≡ added_sorts d k
+  pub later-sorted : (i : ℕ) (es : List Entry) (now_limit : ℕ) (defs : List ImplDef) → length (of_section d k) ≡ i → LaterAdded d k old limit i es now_limit defs → map sorts_of_added defs ≡ added_sorts d k
   later-sorted i es now_limit defs e a = a.sorts ∙ ap (map param_sorts) (all-gone i e)
 
 -- ---- one of them

@@ -32,4 +32,3 @@ mod QuestionTypes
 mod QuestionTexts
 mod Refusals
 pub mod LaterImpls
-mod LaterWell

@@ -34,17 +34,6 @@ parts-matched Q g read (x ∷ xs) (y ∷ ys) h e = (
   parts-matched Q g read xs ys h.1 (tail-same (read y) (g x) (map read ys) (map g xs) e),
 )
 
--- ---- items of a list, with the sorts of their parameters
-pub all-matched : {N D X S : Type 0} (g : N → D) (kinds : N → S) (read : X → D) (sorts : X → S) (P : N → Type 0) (ns : List N) (xs : List X) → Each P ns → map read xs ≡ map g ns → map sorts xs ≡ map kinds ns
-    → Each (λ x. (n : N) × P n × (read x ≡ g n) × (sorts x ≡ kinds n)) xs
-all-matched g kinds read sorts P [] [] h e f = tt
-all-matched g kinds read sorts P [] (x ∷ xs) h e f = absurd cc
-all-matched g kinds read sorts P (n ∷ ns) [] h e f = tt
-all-matched g kinds read sorts P (n ∷ ns) (x ∷ xs) h e f = (
-  (n, h.0, head-same (read x) (g n) (map read xs) (map g ns) e, head-same (sorts x) (kinds n) (map sorts xs) (map kinds ns) f),
-  all-matched g kinds read sorts P ns xs h.1 (tail-same (read x) (g n) (map read xs) (map g ns) e) (tail-same (sorts x) (kinds n) (map sorts xs) (map kinds ns) f),
-)
-
 -- ---- items that are seen, with the sorts of their parameters
 module _ {N D X S : Type 0} (item : N → D) (plain : D → D) (sees : D → Bool) (kinds : N → S) (read : X → D) (sorts : X → S) (P : N → Type 0) where
   -- it is an item of the text

@@ -77,7 +77,6 @@ pub(crate) fn lower_trait(
     })
 }
 
-/// The parameters of an impl.
 fn impl_params(alloc: Global, list: &[Param]) -> Result<Vec<GenericParamKind>, AllocError>
     ensures { IfOk result (λ params. map sort_of_param params.items ≡ map (λ p. sort_of_kind p.kind) list.now) }
 {

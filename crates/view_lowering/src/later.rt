@@ -33,12 +33,10 @@ pub fn lower_later(
     ensures full { result ≡ Err Fault.Full → SomeKindIsFull cx.new.entries cx.new.limit }
 {
     let mut defs = Vec::new(alloc);
-    let entries = workspace.later_impls();
+    let entries = workspace.later_impls_of(section);
     for entry in entries {
-        if entry.section == section {
-            let def = lower_impl(alloc, cx, &entry.entry)?;
-            defs.push(def)?;
-        }
+        let def = lower_impl(alloc, cx, &entry.entry)?;
+        defs.push(def)?;
     }
     Ok(defs)
 }

@@ -2,7 +2,6 @@
 ghost use Rattle.std.specs.Prelude.{ℕ, List, Ok};
 ghost use Rattle.text_definitions.specs.Declarations.{Declarations};
 ghost use Rattle.text_definitions.specs.Text.{TextGives};
-ghost use Rattle.view_lowering.specs.Later.{LaterImplsAreDeclaredWell};
 ghost use Rattle.view_lowering.specs.Seen.{BeginDeclared, LaterBeginDeclared};
 
 /// In a text without a fault the self type of each impl is a parameter, or begins with no variable or placeholder: so each of its
@@ -14,10 +13,4 @@ pub fn impls_begin_declared()
 /// So it is of each impl that a later version adds.
 pub fn later_impls_begin_declared()
     ensures { (bytes : List ℕ) (d : Declarations) → TextGives bytes (Ok d) → LaterBeginDeclared d }
-{}
-
-/// Each impl that a later version adds in a text without a fault is declared well: its terms are made as they are to be, the header tells
-/// the kinds of its parameters, and the header and the where-clauses speak of these alone.
-pub fn later_impls_are_declared_well()
-    ensures { LaterImplsAreDeclaredWell }
 {}

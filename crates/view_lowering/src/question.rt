@@ -25,7 +25,7 @@ use workspace::{Param, ParamKind, QuestionEntry, Workspace};
 /// placeholders, its variables unknowns.
 #[derive(Drop)]
 pub struct LoweredQuestion {
-    /// What is asked.
+    /// The reference that the question asks about, its variables as unknowns.
     pub asked: TraitRef,
     /// The where-clauses as they are written.
     pub clauses: Vec<TraitRef>,

@@ -3,10 +3,12 @@ use Rattle.std.proofs.Common.{◌≡◌, ℕ, suc, ◌+◌, ◌<◌, Bool, true,
 use Rattle.std.proofs.lemmas.Bool.{ne_eqb}
 use Rattle.std.proofs.lemmas.List.{map_push, length-map}
 use Rattle.std.proofs.lemmas.List.Elements.{All-map, All-head, All-tail}
+use Rattle.std.proofs.lemmas.List.Sorted.{IsNonDecreasingBy-short}
 use Rattle.std.proofs.lemmas.Option.{slice_get_within, slice_get-map}
 use Rattle.std.specs.Prelude.{◌==◌, slice_get, map, All, unwrap_or, codes}
 use Rattle.std.specs.Option.{option_map}
 use Rattle.std.specs.List.{list_any}
+use Rattle.std.specs.List.Sorted.{IsNonDecreasingBy}
 use Rattle.std.specs.Str.{bytes_eq}
 use Rattle.std.specs.HashMap.{HashMap, get_by, UpdatesBy}
 use Rattle.std.specs.declared.hash.FoldHasher.{FoldHasher}
@@ -143,6 +145,7 @@ struct-consistent t structs names items s key n v i good behind text number home
       last_impls = i.last_impls;
       last_items = more ∙ ap (λ k. k + 1) i.last_items ∙ sym (items-struct d (struct_of s) home) ∙ ap last_items (sym e);
       last_later = i.last_later;
+      sections_rise = i.sections_rise;
       made = record { fields = subst (Each (λ k x. AreMade is_type x.fields.items)) (sym behind) (Each-push t.structs.items s i.made.fields good); bounds = i.made.bounds; headers = i.made.headers; clauses = i.made.clauses; asked = i.made.asked; given = i.made.given; later_headers = i.made.later_headers; later_clauses = i.made.later_clauses };
     }
 
@@ -176,6 +179,7 @@ trait-consistent t traits names items s key n v i good behind text number home m
       last_impls = i.last_impls;
       last_items = more ∙ ap (λ k. k + 1) i.last_items ∙ sym (items-trait d (trait_of s) home) ∙ ap last_items (sym e);
       last_later = i.last_later;
+      sections_rise = i.sections_rise;
       made = record { fields = i.made.fields; bounds = subst (Each (λ k x. ReferencesMade x.bounds.items)) (sym behind) (Each-push t.traits.items s i.made.bounds good); headers = i.made.headers; clauses = i.made.clauses; asked = i.made.asked; given = i.made.given; later_headers = i.made.later_headers; later_clauses = i.made.later_clauses };
     }
 
@@ -214,6 +218,7 @@ question-consistent t questions asked q i good goods behind also there =
       last_impls = i.last_impls;
       last_items = i.last_items;
       last_later = i.last_later;
+      sections_rise = i.sections_rise;
       made = record { fields = i.made.fields; bounds = i.made.bounds; headers = i.made.headers; clauses = i.made.clauses; asked = subst (Each (λ k x. ReferenceMade x.asked)) (sym behind) (Each-push t.questions.items q i.made.asked good); given = subst (Each (λ k x. ReferencesMade x.clauses.items)) (sym behind) (Each-push t.questions.items q i.made.given goods); later_headers = i.made.later_headers; later_clauses = i.made.later_clauses };
     }
 
@@ -241,6 +246,7 @@ impl-consistent t impls last items m i good goods behind number home place now m
       last_impls = now ∙ last-number ∙ ap (impls_of (last_crate d)) (sym behind);
       last_items = more ∙ ap (λ k. k + 1) i.last_items ∙ sym (items-impl d (impl_of m) home) ∙ ap last_items (sym e);
       last_later = i.last_later;
+      sections_rise = i.sections_rise;
       made = record { fields = i.made.fields; bounds = i.made.bounds; headers = subst (Each (λ k x. ReferenceMade x.header)) (sym behind) (Each-push t.impls.items m i.made.headers good); clauses = subst (Each (λ k x. ReferencesMade x.clauses.items)) (sym behind) (Each-push t.impls.items m i.made.clauses goods); asked = i.made.asked; given = i.made.given; later_headers = i.made.later_headers; later_clauses = i.made.later_clauses };
     }
 
@@ -297,6 +303,7 @@ crate-consistent t crates ids names x y key n v i behind also same-number text n
       last_impls = sym (count_by-none (λ m. m.owner.index == last_crate (declared u)) t.impls.items (Every-from_Each t.impls.items (λ k m p. ne_eqb m.owner.index (last_crate (declared u)) (λ q. absurd (omega (arith, p.1, q, last)))) homes));
       last_items = sym (ap last_items e ∙ items-crate d (crate_of x) i.numbered);
       last_later = i.last_later;
+      sections_rise = i.sections_rise;
       made = record { fields = i.made.fields; bounds = i.made.bounds; headers = i.made.headers; clauses = i.made.clauses; asked = i.made.asked; given = i.made.given; later_headers = i.made.later_headers; later_clauses = i.made.later_clauses };
     }
 
@@ -432,6 +439,7 @@ core-consistent t old zs x y key v behind ids updated none number name uses stru
       last_impls = no-impls ∙ sym (ap (impls_of (last_crate (declared t))) impls);
       last_items = no-items ∙ sym (ap last_items e);
       last_later = bare.none ∙ sym (ap last_later e);
+      sections_rise = subst (IsNonDecreasingBy (λ x. x.section)) (sym bare.later) (IsNonDecreasingBy-short (λ x. x.section) [] (omega arith));
       made = record {
         fields = subst (Each (λ k x. AreMade is_type x.fields.items)) (sym structs) (Each-nothing (λ k x. AreMade is_type x.fields.items));
         bounds = subst (Each (λ k x. ReferencesMade x.bounds.items)) (sym traits) (Each-nothing (λ k x. ReferencesMade x.bounds.items));

@@ -1,5 +1,5 @@
 -- Facts of each element of a list with its place, where an element is put behind the others.
-use Rattle.std.proofs.Common.{◌≡◌, ℕ, zero, suc, ◌+◌, ◌<◌, ◌≤◌, Bool, true, false, cond, ◌||◌, List, [], ◌∷◌, ◌++◌, length, take, Option, Some, None, refl, sym, ap, ◌∙◌, arith, ◌⊎◌, inl, inr}
+use Rattle.std.proofs.Common.{◌≡◌, ℕ, zero, suc, ◌+◌, ◌<◌, ◌≤◌, Bool, true, false, cond, ◌||◌, List, [], ◌∷◌, ◌++◌, length, take, get_or, Option, Some, None, refl, sym, ap, ◌∙◌, subst, arith, ◌⊎◌, inl, inr}
 use Rattle.std.proofs.lemmas.Option.{slice_get_within, same_Some, slice_get-map}
 use Rattle.std.proofs.lemmas.Bool.{cases_Bool, ne_eqb}
 use Rattle.std.proofs.lemmas.Bool.Decides.{nat_tests}
@@ -35,6 +35,21 @@ Each-of_map P f xs h = λ k y e. let m = mapped_some f (slice_get xs k) y (sym (
 
 pub Each-from_map : {A B : Type 0} (P : ℕ → B → Type 0) (f : A → B) (xs : List A) → Each P (map f xs) → Each (λ k x. P k (f x)) xs
 Each-from_map P f xs h = λ k x e. h k (f x) (slice_get-map f xs k ∙ ap (option_map f) e)
+
+pub below-at : {A : Type 0} (f : A → ℕ) (n : ℕ) (xs : List A) → Each (λ k x. f x < n) xs → (k : ℕ) (d : A) → k < length xs → f (get_or xs k d) < n
+below-at f n [] h k d l = absurd (omega (arith, l))
+below-at f n (x ∷ xs) h zero d l = h 0 x refl
+below-at f n (x ∷ xs) h (suc k) d l = below-at f n xs (λ j y e. h (suc j) y e) k d (omega (arith, l))
+
+-- what holds of each holds of those that are kept
+pub Each-filter : {A : Type 0} (Q : A → Type 0) (p : A → Bool) (xs : List A) → Each (λ k. Q) xs → Each (λ k. Q) (filter p xs)
+Each-filter Q p [] h = h
+Each-filter {A = A} Q p (x ∷ xs) h = by (p x) (Each-filter Q p xs (λ k y e. h (suc k) y e))
+  where
+    by : (b : Bool) → Each (λ k. Q) (filter p xs) → Each (λ k. Q) (cond b (x ∷ filter p xs) (filter p xs))
+    by true r zero y e = subst Q (same_Some x y e) (h 0 x refl)
+    by true r (suc k) y e = r k y e
+    by false r k y e = r k y e
 
 -- Q holds of each, wherever it stands
 abbrev pub Every : {A : Type 0} → (A → Type 0) → List A → Type 0

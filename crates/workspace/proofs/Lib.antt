@@ -3,6 +3,7 @@ mod Crates
 mod Names
 mod Consistent
 mod Sections
+mod InSection
 mod Lines
 mod CoreLemmas
 mod Stacks

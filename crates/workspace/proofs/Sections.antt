@@ -1,12 +1,13 @@
 -- The tables stay in agreement with what they declare where a section begins, an impl is added to one, and supertraits are asked for.
-use Rattle.std.proofs.Common.{◌≡◌, ℕ, zero, suc, ◌+◌, ◌-◌, ◌<◌, true, List, [], ◌∷◌, ◌++◌, length, Some, None, refl, sym, ap, ◌∙◌, subst, arith, length-append, Vec, Global}
+use Rattle.std.proofs.Common.{◌≡◌, ℕ, zero, suc, ◌+◌, ◌-◌, ◌<◌, true, List, [], ◌∷◌, ◌++◌, length, Some, refl, sym, ap, ◌∙◌, subst, arith, length-append, get_or, Vec, Global}
 use Rattle.std.proofs.lemmas.Bool.{ne_eqb}
 use Rattle.std.proofs.lemmas.List.{map_push, length-map}
+use Rattle.std.proofs.lemmas.List.Sorted.{IsNonDecreasingBy-push}
 use Rattle.std.proofs.lemmas.Option.{slice_get_within}
 use Rattle.std.specs.Prelude.{◌==◌, slice_get, map, unwrap_or}
-use Rattle.model.specs.Label.{Sort}
+use Rattle.std.specs.List.Sorted.{IsNonDecreasingBy}
 use Rattle.model.specs.Worlds.{core}
-use Rattle.text_definitions.specs.Declarations.{Declarations, LaterImpl, Check, of_later, of_supers, world_of, last_changed, last_later}
+use Rattle.text_definitions.specs.Declarations.{Declarations, LaterImpl, Check, of_later, of_supers, last_changed, last_later}
 use Rattle.text_definitions.specs.Adding.{with_section, with_supers}
 use Rattle.type_terms.specs.declared.CrateId.{CrateId}
 use Rattle.workspace.specs.Numbered.{Each, IsNumbered, IsCheckIn}
@@ -18,8 +19,8 @@ use Rattle.workspace.specs.declared.declared.Check.TheVariants as checked
 use Rattle.workspace.specs.Views.{crate_of, numbers_of, later_of, check_of, reference_of, sorted_params, sort_of_kind}
 use Rattle.workspace.specs.Tables.{IsConsistent, declared, with_later}
 use Rattle.workspace.specs.Parts.{new_later}
-use Rattle.workspace.proofs.Each.{Each-weaken, Each-push, Every-from_Each, count_by-push, count_by-none, slice_get-there, slice_get-push, place_of}
-use Rattle.workspace.proofs.Consistent.{rows-kept, counted, one-more}
+use Rattle.workspace.proofs.Each.{Each-weaken, Each-push, Each-from_map, below-at, Every-from_Each, count_by-push, count_by-none, slice_get-there}
+use Rattle.workspace.proofs.Consistent.{rows-kept, counted}
 
 -- ---- lists
 -- what stands in a list stands there where one more is put behind
@@ -113,6 +114,7 @@ section-consistent t sections checks section changed i there behind also number 
       last_impls = i.last_impls;
       last_items = i.last_items;
       last_later = sym (ap last_later e ∙ fresh);
+      sections_rise = i.sections_rise;
       made = record { fields = i.made.fields; bounds = i.made.bounds; headers = i.made.headers; clauses = i.made.clauses; asked = i.made.asked; given = i.made.given; later_headers = i.made.later_headers; later_clauses = i.made.later_clauses };
     }
   where
@@ -153,6 +155,7 @@ supers-consistent t checks asked i there also =
       last_impls = i.last_impls;
       last_items = i.last_items;
       last_later = i.last_later;
+      sections_rise = i.sections_rise;
       made = record { fields = i.made.fields; bounds = i.made.bounds; headers = i.made.headers; clauses = i.made.clauses; asked = i.made.asked; given = i.made.given; later_headers = i.made.later_headers; later_clauses = i.made.later_clauses };
     }
 
@@ -189,6 +192,7 @@ later-consistent t later last m i inside good goods behind section home more =
       last_items = i.last_items;
       last_later = more ∙ ap (λ k. k + 1) i.last_later
           ∙ sym (ap last_later e ∙ count_by-push (λ x. x.section == (length d.sections - 1)) d.later_impls (later_of m) ∙ ap (λ n. last_later d + n) (counted m.section (length d.sections - 1) place));
+      sections_rise = subst (IsNonDecreasingBy (λ x. x.section)) (sym behind) (IsNonDecreasingBy-push (λ x. x.section) t.later_impls.items m i.sections_rise (λ x some. omega (arith, place, last-below x some)));
       made = record {
         fields = i.made.fields;
         bounds = i.made.bounds;
@@ -200,3 +204,14 @@ later-consistent t later last m i inside good goods behind section home more =
         later_clauses = subst (Each (λ k x. ReferencesMade x.entry.clauses.items)) (sym behind) (Each-push t.later_impls.items m i.made.later_clauses goods);
       };
     }
+  where
+    old : Declarations
+    old = declared t
+
+    -- each added impl is of a section that is there
+    last-below : (x : LaterEntry) → 0 < length t.later_impls.items → (get_or t.later_impls.items (length t.later_impls.items - 1) x).section < length old.sections
+    last-below x some =
+        below-at (λ (y : LaterEntry). y.section) (length old.sections) t.later_impls.items
+        (Each-weaken t.later_impls.items (λ k y p. slice_get_within old.sections y.section y.entry.owner.index p)
+        (Each-from_map (λ k y. slice_get old.sections y.section ≡ Some y.added.item.home) later_of t.later_impls.items i.numbered.later_impls))
+        (length t.later_impls.items - 1) x (omega (arith, some))

@@ -1,6 +1,7 @@
 -- The tables of a text: what they declare, and when they agree with one another.
 use Rattle.std.specs.Prelude.{◌≡◌, ℕ, suc, Bool, false, ◌||◌, List, [], ◌∷◌, ◌++◌, map, take, count_by, Option, Some, None, slice_get, unwrap_or, find, codes, ◌==◌}
 use Rattle.std.specs.List.{list_any}
+use Rattle.std.specs.List.Sorted.{IsNonDecreasingBy}
 use Rattle.std.specs.Option.{option_map, option_or}
 use Rattle.std.specs.Str.{bytes_eq}
 use Rattle.std.specs.HashMap.{get_by}
@@ -117,4 +118,5 @@ pub record IsConsistent (t : Tables) : Type 0 where
   pub last_impls : t.last_impls ≡ impls_of (last_crate (declared t)) t.impls.items
   pub last_items : t.last_items ≡ last_items (declared t)
   pub last_later : t.last_later ≡ last_later (declared t)
+  pub sections_rise : IsNonDecreasingBy (λ i. i.section) t.later_impls.items
   pub made : AllMade t

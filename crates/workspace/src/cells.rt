@@ -15,7 +15,6 @@ use type_terms::kinds::{BoundsData, ConstKind, Mutability, Principal, TyKind};
 use type_terms::region::Region;
 use type_terms::{AdtId, Fault, TraitId};
 
-/// A type of one cell.
 fn lower_leaf(
     cx: &mut Interner,
     stack: &Vec<Lowered>,

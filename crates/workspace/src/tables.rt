@@ -564,7 +564,7 @@ impl Tables {
         Ok(())
     }
 
-    /// Adds a question.
+    /// Adds a question, as the next of both kinds together. The error is a refused request for memory, after which the tables are not used.
     pub fn add_question(&mut self, entry: QuestionEntry) -> Result<(), AllocError>
         requires consistent { IsConsistent self.old }
         requires asked { ReferenceMade entry.asked }

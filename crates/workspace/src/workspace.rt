@@ -1,5 +1,6 @@
 //! The declarations and questions of a text.
-ghost use Rattle.std.specs.Prelude.{◌≡◌, ◌<◌, Some, length, map, take, suc, count_by, slice_get, ◌==◌, IfOk};
+ghost use Rattle.std.specs.Prelude.{◌≡◌, ◌<◌, Some, length, map, filter, take, suc, count_by, slice_get, ◌==◌, IfOk};
+ghost use Rattle.std.specs.List.Sorted.{IsNonDecreasingBy};
 ghost use Rattle.std.specs.Option.{option_map};
 ghost use Rattle.model.specs.Worlds.{sees, view_of};
 ghost use Rattle.text_definitions.specs.Declarations.{known, world_of};
@@ -14,6 +15,17 @@ use crate::tables::{ENTRY_LIMIT, Tables};
 use std::alloc::AllocError;
 use std::marker::Model;
 use type_terms::{CrateId, ImplId};
+
+/// Those of a section, of added impls whose sections rise. They stand together.
+fn impls_of_section(entries: &[LaterEntry], section: u32) -> &[LaterEntry]
+    requires { IsNonDecreasingBy (λ i. i.section) entries.now }
+    ensures { result.now ≡ filter (λ i. i.section == section) entries.now }
+{
+    let first = entries.partition_point(|entry| entry.section < section);
+    let rest = &entries[first..];
+    let count = rest.partition_point(|entry| entry.section <= section);
+    &rest[..count]
+}
 
 /// What a text declares and asks, in its order. The crate `core` and its items stand first.
 ///
@@ -66,7 +78,7 @@ impl Workspace {
         &self.tables.asked
     }
 
-    /// The name of a crate.
+    /// The name of a crate as the text has it; `core` of number 0.
     pub fn crate_name(&self, id: CrateId) -> &[u8]
         requires { id.index < length self.now.crates }
         ensures { option_map (λ c. c.text) (slice_get self.now.crates id.index) ≡ Some result.now }
@@ -141,13 +153,13 @@ impl Workspace {
         &self.tables.checks
     }
 
-    /// The impls that later versions add, in the order of the text, each with the number of its section.
-    pub fn later_impls(&self) -> &[LaterEntry]
-        ensures items { map later_of result.now ≡ self.now.later_impls }
+    /// The impls of a section, by its number from 0, in the order of the text. A section of a higher number than the text has holds none.
+    pub fn later_impls_of(&self, section: u32) -> &[LaterEntry]
+        ensures items { map later_of result.now ≡ filter (λ i. i.section == section) self.now.later_impls }
         ensures headers { Each (λ k i. ReferenceMade i.entry.header) result.now }
         ensures clauses { Each (λ k i. ReferencesMade i.entry.clauses.items) result.now }
     {
-        &self.tables.later_impls
+        impls_of_section(&self.tables.later_impls, section)
     }
 
     /// The questions in the order of the text.

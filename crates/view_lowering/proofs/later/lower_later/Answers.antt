@@ -1,32 +1,32 @@
-use Rattle.std.proofs.Common.{◌≡◌, ◌≤◌, ℕ, length, arith, ◌+◌, ◌∙◌, ap, sym, subst, refl, Err, eq-eqb}
-use Rattle.std.proofs.lemmas.Bool.{ne_eqb}
+use Rattle.std.proofs.Common.{◌≡◌, ◌≤◌, ℕ, length, arith, ◌+◌, ◌∙◌, ap, sym, subst, refl, true, Err}
 use Rattle.std.proofs.lemmas.List.{length-map}
 use Rattle.std.proofs.lemmas.Option.{slice_get_read, slice_get-map}
-use Rattle.std.specs.Prelude.{slice_get}
+use Rattle.std.specs.Prelude.{◌==◌, slice_get}
 use Rattle.std.specs.Option.{option_map}
+use Rattle.text_definitions.specs.Declarations.{LaterImpl}
+use Rattle.declarations.specs.Heads.{begins_declared}
 use Rattle.infer_table.proofs.FullFacts.{handed-on}
 use Rattle.workspace.specs.Views.{later_of}
-use Rattle.view_lowering.proofs.LaterImpls.{LaterAdded, later-all, later-passed, later-sorted, later-taken}
-use Rattle.view_lowering.proofs.later.lower_later.Goals.{then-entry-section+in_ok-def+in_ok-push, else-entry-section}
+use Rattle.view_lowering.proofs.LaterImpls.{LaterAdded, each-kept, later-all, later-sorted, later-taken}
 use Rattle.view_lowering.proofs.later.lower_later.Goals as goal
 
 pub lower_impl-requires-clause-header : goal.lower_impl-requires-clause-header
 lower_impl-requires-clause-header c =
     let i = c.loop-entry.entry-index in
-    c.later_impls-entries.ensures.headers i c.entry-item.result (slice_get_read c.later_impls-entries.result.now _ i c.entry-item.result refl c.loop-entry-test.true c.entry-item.is)
+    c.later_impls_of-entries.ensures.headers i c.entry-item.result (slice_get_read c.later_impls_of-entries.result.now _ i c.entry-item.result refl c.loop-entry-test.true c.entry-item.is)
 
 pub lower_impl-requires-clause-clauses : goal.lower_impl-requires-clause-clauses
 lower_impl-requires-clause-clauses c =
     let i = c.loop-entry.entry-index in
-    c.later_impls-entries.ensures.clauses i c.entry-item.result (slice_get_read c.later_impls-entries.result.now _ i c.entry-item.result refl c.loop-entry-test.true c.entry-item.is)
+    c.later_impls_of-entries.ensures.clauses i c.entry-item.result (slice_get_read c.later_impls_of-entries.result.now _ i c.entry-item.result refl c.loop-entry-test.true c.entry-item.is)
 
 pub lower_impl-requires-clause-begins : goal.lower_impl-requires-clause-begins
 lower_impl-requires-clause-begins c =
     let i = c.loop-entry.entry-index in
     let x = c.entry-item.result in
-    let there = slice_get_read c.later_impls-entries.result.now _ i x refl c.loop-entry-test.true c.entry-item.is in
-    let at = sym (ap (λ l. slice_get l i) (c.later_impls-entries.ensures.items)) ∙ slice_get-map later_of c.later_impls-entries.result.now i ∙ ap (option_map later_of) there in
-    c.requires i (later_of x) at
+    let there = slice_get_read c.later_impls_of-entries.result.now _ i x refl c.loop-entry-test.true c.entry-item.is in
+    let at = sym (ap (λ l. slice_get l i) (c.later_impls_of-entries.ensures.items)) ∙ slice_get-map later_of c.later_impls_of-entries.result.now i ∙ ap (option_map later_of) there in
+    each-kept (λ (j : LaterImpl). begins_declared j.added.item.header.args ≡ true) (λ (j : LaterImpl). j.section == c.args.section) c.args.workspace.now.later_impls c.requires i (later_of x) at
 
 pub loop-entry-preserved : goal.loop-entry-preserved
 loop-entry-preserved c =
@@ -38,29 +38,19 @@ loop-entry-preserved c =
     let es = c.loop-entry.cx in
     let now = c.loop-entry.defs.items in
     let inv = c.loop-entry.invariant in
-    let there = slice_get_read c.later_impls-entries.result.now _ i x refl c.loop-entry-test.true c.entry-item.is in
-    let at = sym (ap (λ l. slice_get l i) (c.later_impls-entries.ensures.items)) ∙ slice_get-map later_of c.later_impls-entries.result.now i ∙ ap (option_map later_of) there in
-    elim c.if-entry-section.branch [
-      | then-entry-section+in_ok-def+in_ok-push w ↦
-          let new = w.lower_impl.new.cx in
-          let taken = w.in_ok-def.ensures in
-          subst (λ y. LaterAdded d k old.entries old.limit (i + 1) y.entries y.limit c.if-entry-section.defs.items) (sym w.cx-is)
-          (subst (λ ds. LaterAdded d k old.entries old.limit (i + 1) new.entries new.limit ds.items) (sym w.defs-is)
-          (subst (λ ds. LaterAdded d k old.entries old.limit (i + 1) new.entries new.limit ds) (sym w.in_ok-push.ensures.items)
-          (later-taken d k old.entries old.limit i es.entries es.limit now (later_of x) new.entries new.limit x.entry.id w.in_ok-def.def at (eq-eqb x.section k w.if-entry-section.true) w.lower_impl.ensures.keeps w.lower_impl.ensures.limit taken.is
-          taken.sorts taken.held inv)))
-      | else-entry-section w ↦
-          subst (λ y. LaterAdded d k old.entries old.limit (i + 1) y.entries y.limit c.if-entry-section.defs.items) (sym w.cx-is)
-          (subst (λ ds. LaterAdded d k old.entries old.limit (i + 1) es.entries es.limit ds.items) (sym w.defs-is)
-          (later-passed d k old.entries old.limit i es.entries es.limit now (later_of x) at (ne_eqb x.section k w.if-entry-section.false) inv))
-    ]
+    let there = slice_get_read c.later_impls_of-entries.result.now _ i x refl c.loop-entry-test.true c.entry-item.is in
+    let at = sym (ap (λ l. slice_get l i) (c.later_impls_of-entries.ensures.items)) ∙ slice_get-map later_of c.later_impls_of-entries.result.now i ∙ ap (option_map later_of) there in
+    let new = c.lower_impl.new.cx in
+    let lowered = c.in_ok-def.ensures in
+    subst (λ ds. LaterAdded d k old.entries old.limit (i + 1) new.entries new.limit ds) (sym c.in_ok-push.ensures.items)
+    (later-taken d k old.entries old.limit i es.entries es.limit now (later_of x) new.entries new.limit x.entry.id c.in_ok-def.def at c.lower_impl.ensures.keeps c.lower_impl.ensures.limit lowered.is lowered.sorts lowered.held inv)
 
 pub returns-clause-impls : goal.returns-clause-impls
 returns-clause-impls c =
     let l = c.loop-entry in
-    let rows = c.later_impls-entries.result.now in
+    let rows = c.later_impls_of-entries.result.now in
     later-all c.args.workspace.now c.args.section c.args.cx.now.entries c.args.cx.now.limit l.entry-index l.cx.entries l.cx.limit l.defs.items
-    (sym (ap length c.later_impls-entries.ensures.items) ∙ length-map rows later_of ∙ at-end (length rows) l.entry-index c.loop-entry-test.false l.auto.entry-index-end) l.invariant
+    (sym (ap length c.later_impls_of-entries.ensures.items) ∙ length-map rows later_of ∙ at-end (length rows) l.entry-index c.loop-entry-test.false l.auto.entry-index-end) l.invariant
   where
     at-end : (n i : ℕ) → n ≤ i → i ≤ n → n ≡ i
     at-end n i h g = omega (arith, h, g)
@@ -68,9 +58,9 @@ returns-clause-impls c =
 pub returns-clause-sorts : goal.returns-clause-sorts
 returns-clause-sorts c =
     let l = c.loop-entry in
-    let rows = c.later_impls-entries.result.now in
+    let rows = c.later_impls_of-entries.result.now in
     later-sorted c.args.workspace.now c.args.section c.args.cx.now.entries c.args.cx.now.limit l.entry-index l.cx.entries l.cx.limit l.defs.items
-    (sym (ap length c.later_impls-entries.ensures.items) ∙ length-map rows later_of ∙ at-end (length rows) l.entry-index c.loop-entry-test.false l.auto.entry-index-end) l.invariant
+    (sym (ap length c.later_impls_of-entries.ensures.items) ∙ length-map rows later_of ∙ at-end (length rows) l.entry-index c.loop-entry-test.false l.auto.entry-index-end) l.invariant
   where
     at-end : (n i : ℕ) → n ≤ i → i ≤ n → n ≡ i
     at-end n i h g = omega (arith, h, g)
