@@ -12,11 +12,13 @@ use type_terms::Fault;
 pub struct NoSolution;
 
 /// Why an equation was refused.
-#[derive(Clone, Copy, Debug, PartialEq, Eq)]
+#[derive(Clone, Copy, Debug, PartialEq, Eq, thiserror::Error)]
 pub enum EqError {
     /// Nothing that is put in for the variables makes the two sides equal.
+    #[error("there is no solution")]
     NoSolution,
     /// There is no answer.
+    #[error("{0}")]
     Fault(Fault),
 }
 
