@@ -68,13 +68,16 @@ pub enum OrphanCheckErr<T> {
 }
 
 /// Why a walk gave no answer.
-#[derive(PartialEq, Eq, Drop)]
+#[derive(Debug, PartialEq, Eq, Drop, thiserror::Error)]
 pub enum WalkError<E> {
     /// The normalizer refused a type.
+    #[error("the normalizer refused a type")]
     Normalize(E),
     /// More types lie in one another than the limit allows.
+    #[error("types are nested deeper than the limit")]
     Deep,
     /// A request for memory was refused.
+    #[error("out of memory")]
     Memory,
 }
 
