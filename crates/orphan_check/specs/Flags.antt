@@ -1,5 +1,5 @@
 -- Flags of leaves, as a contract sees them.
-use Rattle.std.specs.Prelude.{Bool, true, false, List, map}
+use Rattle.std.specs.Prelude.{ℕ, Bool, true, false, List, [], ◌∷◌, map}
 use Rattle.model.specs.Trees.{Trees}
 use Rattle.type_terms.specs.Terms.{Entry, trees_at}
 use Rattle.type_terms.specs.declared.kinds.Ty.{Ty}
@@ -9,6 +9,11 @@ use Rattle.orphan_check.specs.declared.errors.IsFirstInputType.TheVariants.{No, 
 abbrev pub is_first : IsFirstInputType → Bool
 is_first No = false
 is_first Yes = true
+
+-- It has no term, so a fold leaves it.
+abbrev pub first_outline : IsFirstInputType → List ℕ
+first_outline No = 0 ∷ []
+first_outline Yes = 1 ∷ []
 
 -- Leaves with their flags, over the terms of an interner.
 abbrev pub leaves_in : List Entry → List (Ty × IsFirstInputType) → List (Trees × Bool)

@@ -3,6 +3,7 @@
 
 mod decisive;
 pub mod errors;
+mod first_input_type;
 pub mod knowable;
 pub mod laws;
 mod look;
