@@ -9,11 +9,13 @@ use std::alloc::{AllocError, AllocFailed};
 use type_terms::Fault;
 
 /// Why an evaluation was refused.
-#[derive(Clone, Copy, Debug, PartialEq, Eq)]
+#[derive(Clone, Copy, Debug, PartialEq, Eq, thiserror::Error)]
 pub enum EvalError {
     /// What is evaluated does not hold.
+    #[error("there is no solution")]
     NoSolution,
     /// There is no answer.
+    #[error("{0}")]
     Fault(Fault),
 }
 
