@@ -30,13 +30,14 @@ pub type Evaluation<D> = Result<EvaluationResult<ResultOf<D>>, GraphFault>;
 /// The reply to a question, where the call from outside may be given up under it.
 pub(crate) type Outcome<D> = Result<EvaluationResult<ResultOf<D>>, Stop>;
 
-/// So many goals may end in one call from outside whose results rest on goals of the stack, or that met an overflow by depth.
-/// At the last of them the call is given up.
+/// So many goals may end in one call from outside whose results rest on goals of the stack, or that met an overflow by depth,
+/// where each counts for 1 and for what it costs beyond a small one (`Delegate::cost_of`). Where the count comes to this the call
+/// is given up.
 ///
 /// Such results aren't kept, so they are computed again wherever their goals are asked again, and in goals that ask each other
 /// by many paths that happens exponentially often in the number of goals. A goal of them has at most `FIXPOINT_STEP_LIMIT`
 /// runs, and all other goals are kept. So this bounds the time of a call, to a second or two. Goals that form no
-/// cycle and whose chains fit the depth are never counted.
+/// cycle and whose chains fit the depth are never counted, whatever they cost.
 pub(crate) const OPEN_ENDS_LIMIT: usize = 1024;
 
 /// The goals that are being evaluated, and what was counted.
@@ -53,7 +54,8 @@ pub struct Search<D: Delegate> {
     pub limits_met: bool,
     /// How many frames were started, or the greatest `u64` if there were more.
     pub frames: u64,
-    /// How many goals ended in this call from outside whose results rest on goals of the stack, or that met an overflow by depth.
+    /// The count of the goals that ended in this call from outside whose results rest on goals of the stack, or that met an
+    /// overflow by depth: 1 for each, and what it costs.
     pub(crate) open_ends: usize,
 }
 
