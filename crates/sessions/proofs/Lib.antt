@@ -1,4 +1,5 @@
 pub mod Settled
+mod FramesStarted
 pub mod Clauses
 pub mod Counts
 pub mod ErasedClauses

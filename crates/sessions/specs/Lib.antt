@@ -13,6 +13,7 @@ pub mod Answers
 pub mod Subjects
 pub mod Resting
 pub mod Sessions
+pub mod Frames
 pub mod Readying
 pub mod Numbers
 pub mod Decided

@@ -7,19 +7,22 @@ use Rattle.text_definitions.specs.Text.{TextGives}
 use Rattle.workspace.specs.Stored.{declarations_code}
 use Rattle.view_lowering.specs.Questions.{IsQuestion}
 
--- declarations, one of their crates by its number, and the limits; and the terms of the session's interner, in which its answers are read
+-- declarations, one of their crates by its number, and the limits; the terms of the session's interner, in which its answers are read, and
+-- how many of each kind that interner holds at most; and how many frames the session's graph has started
 pub record Subject : Type 0 where
   pub declarations : Declarations
   pub of_crate : ℕ
   pub depth : ℕ
   pub handles : ℕ
   pub terms : List Entry
+  pub term_limit : ℕ
+  pub frames : ℕ
 
 abbrev pub subject_code : Coded Subject
 subject_code =
-    code_by (Declarations × (ℕ × (ℕ × (ℕ × List Entry)))) (coded× declarations_code (coded× coded_ℕ (coded× coded_ℕ (coded× coded_ℕ (coded_list entry_code)))))
-    (λ s. (s.declarations, (s.of_crate, (s.depth, (s.handles, s.terms)))))
-    (λ (d, (c, (n, (h, es)))). record { declarations = d; of_crate = c; depth = n; handles = h; terms = es }) (λ _. refl)
+    code_by (Declarations × (ℕ × (ℕ × (ℕ × (List Entry × (ℕ × ℕ)))))) (coded× declarations_code (coded× coded_ℕ (coded× coded_ℕ (coded× coded_ℕ (coded× (coded_list entry_code) (coded× coded_ℕ coded_ℕ))))))
+    (λ s. (s.declarations, (s.of_crate, (s.depth, (s.handles, (s.terms, (s.term_limit, s.frames)))))))
+    (λ (d, (c, (n, (h, (es, (m, k)))))). record { declarations = d; of_crate = c; depth = n; handles = h; terms = es; term_limit = m; frames = k }) (λ _. refl)
 
 -- A call leaves what is asked about, and the limits, as they were; each handle keeps its term.
 pub record StaysOn (old new : Subject) : Type 0 where

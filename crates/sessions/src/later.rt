@@ -1,6 +1,7 @@
 //! The impls that a later version of the crate that asks adds.
 
-ghost use Rattle.std.specs.Prelude.{◌≡◌, ◌≤◌, ◌||◌, List, length, map, IfOk};
+ghost use Rattle.std.specs.Prelude.{◌≡◌, ◌≤◌, ◌||◌, List, length, map, IfOk, Err};
+ghost use Rattle.type_terms.specs.Failures.{SomeKindIsFull};
 ghost use Rattle.model.specs.Laws.{InEveryLinkedSet};
 ghost use Rattle.model.specs.Terms.{erased_reference};
 ghost use Rattle.model.specs.Versions.{is_addable};
@@ -93,6 +94,8 @@ fn added_impls(
     ensures headers { IfOk result (λ defs. map (header_in cx.new.interner.entries) defs.items ≡ section_headers workspace.now section) }
     ensures held { IfOk result (λ defs. Each (ImplHeld cx.new.interner.entries) defs.items) }
     ensures few { IfOk result (λ defs. length defs.items ≤ ENTRY_LIMIT) }
+    ensures limit { cx.new.interner.limit ≡ cx.old.interner.limit }
+    ensures full { result ≡ Err Fault.Full → SomeKindIsFull cx.new.interner.entries cx.new.interner.limit }
 {
     rest_laws::<Solver>();
     later_impls_begin_declared();
@@ -114,6 +117,8 @@ pub(crate) fn later_answer(
     requires text { IsOfText workspace.now }
     ensures advances { SolverAdvances cx.old cx.new }
     ensures answer { IfOk result (λ a. IsAnswerOn (rules_in cx.old) cx.old.handler.declarations.local (section_headers workspace.now section) (later_of a)) }
+    ensures limit { cx.new.interner.limit ≡ cx.old.interner.limit }
+    ensures full { result ≡ Err Fault.Full → SomeKindIsFull cx.new.interner.entries cx.new.interner.limit }
 {
     let impls = added_impls(cx, workspace, section)?;
     Ok(first_breaking(&cx.interner, &cx.handler.declarations, &impls))

@@ -16,6 +16,8 @@ ghost use Rattle.text_definitions.specs.Declarations.{Question};
 ghost use Rattle.view_lowering.specs.Questions.{IsQuestion, IsLowered};
 ghost use Rattle.root_goals.specs.Contexts.{Advances, IsReady};
 ghost use Rattle.candidate_assembly.specs.Fitting.{solving_of};
+ghost use Rattle.candidate_assembly.specs.SolverMeaning.{solver_by_view};
+ghost use Rattle.sessions.specs.Frames.{SettlesInFrames, QuestionInFrames};
 ghost use Rattle.sessions.specs.Given.{AnswerHeld};
 ghost use Rattle.sessions.specs.Proving.{AreReadOff, ClausesApply, IsAnswered, IsAnsweredBySolver, IsGoalAnswered, SolverAdvances, SolverIsReady, SolvesTheSame, is_bound_term};
 ghost use Rattle.sessions.specs.Questions.{where_clauses};
@@ -151,6 +153,8 @@ fn ask_for<H: GoalHandler>(
     ensures held { IfOk result (AnswerHeld cx.new.interner.entries) }
     ensures answer { IfOk result (IsAnswered H.meaning (H.meaning.world cx.old.handler cx.old.interner.entries) graph.old.root_depth
         (map arg_sort unknowns.now) (goal_trees cx.old.interner.entries goal.now) (map (arg_trees cx.old.interner.entries) unknowns.now) cx.new.interner.entries) }
+    ensures frames { SettlesInFrames H.meaning (H.meaning.world cx.old.handler cx.old.interner.entries) graph.old.root_depth
+        (map arg_sort unknowns.now) (goal_trees cx.old.interner.entries goal.now) graph.old graph.new }
 {
     rest_laws::<H>();
     match ask_until_settled(graph, cache, cx, table, goal)? {
@@ -209,6 +213,8 @@ pub(crate) fn prove_under(
     ensures held { IfOk result (AnswerHeld cx.new.interner.entries) }
     ensures answer { IfOk result (IsGoalAnswered (solving_of cx.old.interner.entries cx.old.handler.declarations) graph.old.root_depth (map arg_sort unknowns.now)
         (goal_of (references_in cx.old.interner.entries clauses.now) (reference_in cx.old.interner.entries asked)) (map (arg_trees cx.old.interner.entries) unknowns.now) cx.new.interner.entries) }
+    ensures frames { SettlesInFrames solver_by_view (solving_of cx.old.interner.entries cx.old.handler.declarations) graph.old.root_depth (map arg_sort unknowns.now)
+        (goal_of (references_in cx.old.interner.entries clauses.now) (reference_in cx.old.interner.entries asked)) graph.old graph.new }
 {
     rest_laws::<Solver>();
     references_are_goals();
@@ -233,6 +239,8 @@ fn prove_lowered(
     ensures held { IfOk result (AnswerHeld cx.new.interner.entries) }
     ensures answer { IfOk result (λ a. (q : Question) → IsLowered cx.old.interner.entries q lowered.now
         → IsAnsweredBySolver (solving_of cx.old.interner.entries cx.old.handler.declarations) graph.old.root_depth q cx.new.interner.entries a) }
+    ensures frames { (q : Question) → IsLowered cx.old.interner.entries q lowered.now
+        → QuestionInFrames (solving_of cx.old.interner.entries cx.old.handler.declarations) graph.old.root_depth q graph.old graph.new }
 {
     rest_laws::<Solver>();
     let clauses = elaborate_in(cx, &lowered.clauses)?;
@@ -259,6 +267,8 @@ pub(crate) fn prove_question(
     ensures held { IfOk result (AnswerHeld cx.new.interner.entries) }
     ensures answer { IfOk result (λ a. (q : Question) → IsQuestion workspace.now number q
         → IsAnsweredBySolver (solving_of cx.old.interner.entries cx.old.handler.declarations) graph.old.root_depth q cx.new.interner.entries a) }
+    ensures frames { (q : Question) → IsQuestion workspace.now number q
+        → QuestionInFrames (solving_of cx.old.interner.entries cx.old.handler.declarations) graph.old.root_depth q graph.old graph.new }
 {
     rest_laws::<Solver>();
     let lowered = lower_in(cx, workspace, number)?;

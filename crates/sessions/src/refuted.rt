@@ -12,6 +12,7 @@ ghost use Rattle.view_lowering.specs.Plain.{unbound_reference};
 ghost use Rattle.view_lowering.specs.Questions.{IsQuestion, IsLowered};
 ghost use Rattle.view_lowering.specs.QuestionVariables.{HasVariablesAlone};
 ghost use Rattle.sessions.specs.Asking.{HasNoProof, IsLeftOpen, IsRefusedAlone, goal_alone};
+ghost use Rattle.sessions.specs.Frames.{StartsFramesOfOne};
 ghost use Rattle.sessions.specs.Impossible.{IsNoRefusal};
 ghost use Rattle.sessions.specs.Resting.{AreAtRest};
 
@@ -54,6 +55,9 @@ fn ask_in_coherence<H: GoalHandler>(
         IsRefusedAlone H.meaning w graph.old.root_depth (reference_in cx.old.interner.entries asked)) }
     ensures open { result ≡ Ok RefuteAnswer.Open → (let w = H.meaning.world cx.old.handler cx.old.interner.entries in
         IsLeftOpen H.meaning w graph.old.root_depth (reference_in cx.old.interner.entries asked)) }
+
+    // After a fault too.
+    ensures frames { let es = cx.old.interner.entries in StartsFramesOfOne H.meaning (H.meaning.world cx.old.handler es) (reference_in es asked) graph.old graph.new }
 {
     let goal = Goal {
         param_env: Vec::new(cx.alloc),
@@ -95,6 +99,8 @@ fn refute_lowered<H: GoalHandler>(
         → IsRefusedAlone H.meaning (H.meaning.world cx.old.handler cx.old.interner.entries) graph.old.root_depth (unbound_reference q.asked) }
     ensures open { result ≡ Ok RefuteAnswer.Open → (q : Question) → IsLowered cx.old.interner.entries q lowered.now
         → IsLeftOpen H.meaning (H.meaning.world cx.old.handler cx.old.interner.entries) graph.old.root_depth (unbound_reference q.asked) }
+    ensures frames { (q : Question) → IsLowered cx.old.interner.entries q lowered.now
+        → StartsFramesOfOne H.meaning (H.meaning.world cx.old.handler cx.old.interner.entries) (unbound_reference q.asked) graph.old graph.new }
 {
     rest_laws::<H>();
     let mut table = question_table_in(cx, &lowered.unknowns)?;
@@ -125,6 +131,8 @@ pub(crate) fn refute_question<H: GoalHandler>(
         → IsRefusedAlone H.meaning (H.meaning.world cx.old.handler cx.old.interner.entries) graph.old.root_depth (unbound_reference q.asked) }
     ensures open { result ≡ Ok RefuteAnswer.Open → (q : Question) → IsQuestion workspace.now number q
         → IsLeftOpen H.meaning (H.meaning.world cx.old.handler cx.old.interner.entries) graph.old.root_depth (unbound_reference q.asked) }
+    ensures frames { (q : Question) → IsQuestion workspace.now number q
+        → StartsFramesOfOne H.meaning (H.meaning.world cx.old.handler cx.old.interner.entries) (unbound_reference q.asked) graph.old graph.new }
 {
     rest_laws::<H>();
     let lowered = lower_in(cx, workspace, number)?;

@@ -1,6 +1,7 @@
 //! Sessions.
 
-ghost use Rattle.std.specs.Prelude.{◌≡◌, ◌<◌, ◌≤◌, ◌+◌, ℕ, length, IfOk, IfSome, Ok};
+ghost use Rattle.std.specs.Prelude.{◌≡◌, ◌<◌, ◌≤◌, ◌+◌, ℕ, length, IfOk, IfSome, Ok, Err};
+ghost use Rattle.type_terms.specs.Failures.{SomeKindIsFull};
 ghost use Rattle.type_terms.specs.declared.TheConstants.{MAX_INDEX};
 ghost use Rattle.model.specs.Laws.{HeldSetsAreLinked, InEveryLinkedSet};
 ghost use Rattle.orphan_check.specs.Held.{ErrorHeld};
@@ -10,6 +11,7 @@ ghost use Rattle.text_definitions.specs.Declarations.{Question};
 ghost use Rattle.sessions.specs.ByTrait.{ListsSeen, HavePartnersSeen};
 ghost use Rattle.sessions.specs.CoherentTexts.{HeldTextsAreCoherent};
 ghost use Rattle.sessions.specs.Checking.{HasOrphan, HasJudged, HasPartner, HasOverlap};
+ghost use Rattle.sessions.specs.Frames.{ProvesInFrames, RefutesInFrames};
 ghost use Rattle.sessions.specs.Given.{AnswerHeld, VerdictHeld, answer_in, later_of, refutation_of, supers_of, verdict_in};
 ghost use Rattle.sessions.specs.Promises.{IsProved, IsRefutation, IsVerdictOf};
 ghost use Rattle.sessions.specs.Releases.{AddedImplsBreakNoUser, IsSectionOf, IsLaterAnswer, IsSupersAnswer};
@@ -88,6 +90,8 @@ impl<'w> Model for Session<'w> {
       depth = s.limits.depth;
       handles = s.limits.handles;
       terms = s.cx.interner.entries;
+      term_limit = s.cx.interner.limit;
+      frames = s.graph.frames;
     } };
 
     ghost invariant = { λ s. IsSession s.workspace.now s.crate_id.index s.limits.depth s.cx s.graph s.cache };
@@ -110,6 +114,8 @@ impl<'w> Session<'w> {
         ensures of_crate { IfOk result (λ session. session.of_crate ≡ crate_id.index) }
         ensures depth { IfOk result (λ session. session.depth ≡ limits.depth) }
         ensures handles { IfOk result (λ session. session.handles ≡ limits.handles) }
+        ensures term_limit { IfOk result (λ session. session.term_limit ≡ limits.handles) }
+        ensures frames { IfOk result (λ session. session.frames ≡ 0) }
     {
         let mut interner = Interner::new(alloc, limits.handles);
         let declarations = lower_view(alloc, &mut interner, workspace, crate_id)?;
@@ -263,8 +269,16 @@ impl<'w> Session<'w> {
     /// The terms of the session, in which its answers are read.
     pub fn interner(&self) -> &Interner
         ensures terms { result.now.entries ≡ self.now.terms }
+        ensures term_limit { result.now.limit ≡ self.now.term_limit }
     {
         &self.cx.interner
+    }
+
+    /// How many frames this session has started since it was made, each run of a goal by itself, or the greatest `u64` if there were more.
+    pub fn frames(&self) -> u64
+        ensures { result ≡ self.now.frames }
+    {
+        self.graph.frames()
     }
 
     /// Whether the impls of a section, by its number from 0, make a later version of this crate: each keeps the crate's orphan rule, its
@@ -283,6 +297,11 @@ impl<'w> Session<'w> {
         ensures users { InEveryLinkedSet AddedImplsBreakNoUser }
         ensures answer { IfOk result (λ a. IsLaterAnswer self.old.declarations self.old.of_crate section (later_of a)) }
         ensures stays { StaysOn self.old self.new }
+
+        // No goal is asked.
+        ensures frames { self.new.frames ≡ self.old.frames }
+        ensures term_limit { self.new.term_limit ≡ self.old.term_limit }
+        ensures full { result ≡ Err Fault.Full → SomeKindIsFull self.new.terms self.new.term_limit }
     {
         rest_laws::<Solver>();
         added_impls_break_no_user();
@@ -352,6 +371,9 @@ impl<'w> Session<'w> {
             → IfOk result (λ a. IsProved self.old.depth self.old.declarations q (answer_in self.new.terms a)) }
         ensures held { IfOk result (AnswerHeld self.new.terms) }
         ensures stays { StaysOn self.old self.new }
+
+        // The frames are those of eight askings at most, after a fault too.
+        ensures frames { (q : Question) → AsksProof self.old.declarations self.old.of_crate number q → ProvesInFrames self.old q self.new }
     {
         clauses_apply();
         yes_is_proved();
@@ -378,6 +400,9 @@ impl<'w> Session<'w> {
         ensures answer { (q : Question) → AsksRefutation self.old.declarations self.old.of_crate number q
             → IfOk result (λ a. IsRefutation self.old.depth self.old.declarations q (refutation_of a)) }
         ensures stays { StaysOn self.old self.new }
+
+        // The frames are those of one asking, after a fault too.
+        ensures frames { (q : Question) → AsksRefutation self.old.declarations self.old.of_crate number q → RefutesInFrames self.old q self.new }
     {
         refutations_have_variables_alone();
         refute_question(

@@ -1,7 +1,9 @@
 //! A goal, asked until its answer is settled.
 
-ghost use Rattle.std.specs.Prelude.{◌≡◌, ◌⊎◌, Ok, Err};
+ghost use Rattle.std.specs.Prelude.{◌≡◌, ◌-◌, ◌⊎◌, Ok, Err};
 ghost use Rattle.root_goals.specs.Searching.{IsFull};
+ghost use Rattle.sessions.specs.Frames.{AskingsOf, IsLeftByAnswer, StartsFramesOfAsking};
+ghost use Rattle.sessions.specs.declared.settling.TheConstants.{MAX_ASKINGS};
 ghost use Rattle.sessions.specs.Settling.{IsAskable, HasAsked, IsProvedBy, IsRefused, IsUnsettled, RunsOut, SomeAskingRunsOut};
 
 use evaluation::{Certainty, HasChanged, TypingMode};
@@ -71,6 +73,8 @@ fn ask_once<H: GoalHandler>(
     ensures refused { result ≡ Ok Asking.IsRefused → IsRefused H.meaning cx.old graph.old table.old goal.now }
     ensures full { result ≡ Err Fault.Full → IsFull H.meaning cx.new
         ⊎ RunsOut H.meaning cx.old graph.old table.old goal.now }
+    ensures frames { StartsFramesOfAsking H.meaning cx.old graph.old table.old goal.now graph.new }
+    ensures left { result ≡ Ok Asking.Changes → IsLeftByAnswer H.meaning cx.old graph.old table.old goal.now cx.new table.new }
 {
     match evaluate_root_goal(graph, cache, cx, table, TypingMode::PostAnalysis, goal) {
         Ok(evaluation) => Ok(read(evaluation.certainty, evaluation.has_changed)),
@@ -97,8 +101,9 @@ fn ask_again<H: GoalHandler>(
     ensures not_unproved { result ≡ Ok Outcome.Unproved → ⊥ }
     ensures full { result ≡ Err Fault.Full → IsFull H.meaning cx.new
         ⊎ SomeAskingRunsOut H.meaning graph.old cache.old cx.old table.old goal.now }
+    ensures frames { AskingsOf H.meaning (MAX_ASKINGS - 1) cx.old graph.old table.old goal.now graph.new }
 {
-    for _ in 1..MAX_ASKINGS {
+    for _asking in 1..MAX_ASKINGS {
         match ask_once(graph, cache, cx, table, goal)? {
             Asking::Holds => return Ok(Outcome::Proved),
             Asking::Changes => {}
@@ -135,6 +140,7 @@ pub fn ask_until_settled<H: GoalHandler>(
     ensures maybe { result ≡ Ok Outcome.Maybe → IsUnsettled H.meaning cx.old graph.old table.old goal.now }
     ensures full { result ≡ Err Fault.Full → IsFull H.meaning cx.new
         ⊎ SomeAskingRunsOut H.meaning graph.old cache.old cx.old table.old goal.now }
+    ensures frames { AskingsOf H.meaning MAX_ASKINGS cx.old graph.old table.old goal.now graph.new }
 {
     match ask_once(graph, cache, cx, table, goal)? {
         Asking::Holds => Ok(Outcome::Proved),

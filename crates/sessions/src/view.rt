@@ -53,6 +53,7 @@ pub(crate) fn lower_view(
     ensures impl_sorts { IfOk result (λ decls. map impl_sorts decls.impls ≡ impl_sorts_seen workspace.now crate_id.index) }
     ensures local { IfOk result (λ decls. decls.local ≡ crate_id.index) }
     ensures ready { IfOk result (λ decls. IsReady cx.new.entries decls) }
+    ensures limit { cx.new.limit ≡ cx.old.limit }
 {
     impls_begin_declared();
     declarations_are_ready();

@@ -1,9 +1,12 @@
-use Rattle.std.proofs.Common.{rules, ◌≡◌, ◌∙◌, map, Ok}
+use Rattle.std.proofs.Common.{rules, ◌≡◌, ◌∙◌, map, Ok, subst}
 use Rattle.term_folds.specs.Arguments.{arg_sort}
 use Rattle.type_terms.specs.Kept.{args-held-later}
 use Rattle.sessions.specs.declared.settling.Outcome.TheVariants as outcome
 use Rattle.sessions.proofs.Answered.{read-goal, refused-goal, unsettled-goal}
 use Rattle.sessions.proofs.Posing.{over-ok}
+use Rattle.infer_table.specs.Content.{Table}
+use Rattle.sessions.specs.Frames.{AskingsOf}
+use Rattle.sessions.specs.declared.settling.TheConstants.{MAX_ASKINGS}
 use Rattle.sessions.proofs.proving.ask_for.Goals as goal
 
 pub ask_until_settled-requires : goal.ask_until_settled-requires
@@ -91,3 +94,19 @@ returns-in-Maybe-clause-answer g c =
     let done : c.ask_until_settled.result ≡ Ok outcome.Maybe = search rules in
     unsettled-goal g.H.GoalHandler.meaning (map arg_sort c.args.unknowns.now) c.args.cx.now c.args.table.now c.requires.table c.args.goal.now
     c.args.graph.now (c.ask_until_settled.ensures.maybe done)
+
+pub returns-in_err-ask_until_settled-clause-frames : goal.returns-in_err-ask_until_settled-clause-frames
+returns-in_err-ask_until_settled-clause-frames g c =
+    subst (λ (t : Table). AskingsOf g.H.GoalHandler.meaning MAX_ASKINGS c.args.cx.now c.args.graph.now t c.args.goal.now c.ask_until_settled.new.graph) c.requires.table c.ask_until_settled.ensures.frames
+
+pub returns-in-Proved-clause-frames : goal.returns-in-Proved-clause-frames
+returns-in-Proved-clause-frames g c =
+    subst (λ (t : Table). AskingsOf g.H.GoalHandler.meaning MAX_ASKINGS c.args.cx.now c.args.graph.now t c.args.goal.now c.ask_until_settled.new.graph) c.requires.table c.ask_until_settled.ensures.frames
+
+pub returns-in-Unproved-clause-frames : goal.returns-in-Unproved-clause-frames
+returns-in-Unproved-clause-frames g c =
+    subst (λ (t : Table). AskingsOf g.H.GoalHandler.meaning MAX_ASKINGS c.args.cx.now c.args.graph.now t c.args.goal.now c.ask_until_settled.new.graph) c.requires.table c.ask_until_settled.ensures.frames
+
+pub returns-in-Maybe-clause-frames : goal.returns-in-Maybe-clause-frames
+returns-in-Maybe-clause-frames g c =
+    subst (λ (t : Table). AskingsOf g.H.GoalHandler.meaning MAX_ASKINGS c.args.cx.now c.args.graph.now t c.args.goal.now c.ask_until_settled.new.graph) c.requires.table c.ask_until_settled.ensures.frames

@@ -11,6 +11,8 @@ use Rattle.sessions.specs.Goals.{goal_of}
 use Rattle.sessions.proofs.Alone.{held-there, reference-is}
 use Rattle.sessions.proofs.Posing.{over-ok, args-later, answer-is, same-asked}
 use Rattle.sessions.proofs.VariableKinds.{kinds-are}
+use Rattle.candidate_assembly.specs.SolverMeaning.{solver_by_view}
+use Rattle.sessions.proofs.FramesStarted.{asked-none, settles-same}
 use Rattle.sessions.proofs.proving.prove_lowered.Goals as goal
 
 pub elaborate_in-requires-clause-ready : goal.elaborate_in-requires-clause-ready
@@ -87,3 +89,24 @@ returns-clause-answer c =
     (ap (map (arg_trees new)) vs ∙ args-later old new k us low.unknowns_held ∙ low.unknowns)
     h)
     c.prove_under.ensures.answer
+
+pub returns-in_err-clauses-clause-frames : goal.returns-in_err-clauses-clause-frames
+returns-in_err-clauses-clause-frames c = λ q low. asked-none solver_by_view _ _ _ _ _ _
+
+pub returns-clause-frames : goal.returns-clause-frames
+returns-clause-frames c = λ q low.
+    let old = c.args.cx.now.interner.entries in
+    let new = c.elaborate_in.new.cx.interner.entries in
+    let k = c.elaborate_in.ensures.advances.entries in
+    let l = c.args.lowered.now in
+    let us = l.unknowns.items in
+    let V = written old c.args.cx.now.handler.declarations in
+    let given : c.deref.result.now ≡ l.clauses.items = search rules in
+    let cs : c.deref-2.result.now ≡ c.in_ok-clauses.clauses.items = search rules in
+    let vs : c.deref-3.result.now ≡ us = search rules in
+    settles-same solver_by_view _ _ _ _ _ _ _ c.args.graph.now c.prove_under.new.graph
+    (c.rest_laws.ensures.meaning c.args.cx.now c.elaborate_in.new.cx c.requires.rest.ready c.elaborate_in.ensures.advances)
+    (ap (map arg_sort) vs ∙ kinds-are old c.requires.rest.ready.lawful us q.variables 0 0 low.unknowns_held low.unknowns)
+    (same-asked (references_in new c.deref-2.result.now) (elaborate V (unbound_references q.clauses)) (reference_in new l.asked) (unbound_reference q.asked)
+    (ap (references_in new) cs ∙ c.in_ok-clauses.ensures.are ∙ ap (λ (rs : _). elaborate V (references_in old rs)) given ∙ ap (elaborate V) low.clauses) (reference-is q old new c.requires.rest.ready.lawful k l low))
+    c.prove_under.ensures.frames

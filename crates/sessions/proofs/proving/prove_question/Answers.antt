@@ -4,6 +4,9 @@ use Rattle.candidate_assembly.specs.Solving.{Solving}
 use Rattle.candidate_assembly.specs.declared.solver.Solver.{Solver}
 use Rattle.sessions.specs.Proving.{IsAnsweredBySolver}
 use Rattle.sessions.proofs.Posing.{over-ok}
+use Rattle.candidate_assembly.specs.SolverMeaning.{solver_by_view}
+use Rattle.sessions.specs.Frames.{QuestionInFrames}
+use Rattle.sessions.proofs.FramesStarted.{asked-none}
 use Rattle.sessions.proofs.proving.prove_question.Goals as goal
 
 pub lower_in-requires-clause-ready : goal.lower_in-requires-clause-ready
@@ -53,3 +56,12 @@ returns-clause-answer c =
     subst (λ (s : Solving). IsAnsweredBySolver s c.args.graph.now.root_depth q c.prove_lowered.new.cx.interner.entries a)
     (c.rest_laws.ensures.meaning c.args.cx.now c.lower_in.new.cx c.requires.rest.ready c.lower_in.ensures.advances) (h q (c.in_ok-lowered.ensures.lowered q is)))
     c.prove_lowered.ensures.answer
+
+pub returns-in_err-lowered-clause-frames : goal.returns-in_err-lowered-clause-frames
+returns-in_err-lowered-clause-frames c = λ q is. asked-none solver_by_view _ _ _ _ _ _
+
+pub returns-clause-frames : goal.returns-clause-frames
+returns-clause-frames c = λ q is.
+    subst (λ (s : Solving). QuestionInFrames s c.args.graph.now.root_depth q c.args.graph.now c.prove_lowered.new.graph)
+    (c.rest_laws.ensures.meaning c.args.cx.now c.lower_in.new.cx c.requires.rest.ready c.lower_in.ensures.advances)
+    (c.prove_lowered.ensures.frames q (c.in_ok-lowered.ensures.lowered q is))

@@ -1,4 +1,4 @@
-use Rattle.std.proofs.Common.{◌∙◌, map, sym, subst}
+use Rattle.std.proofs.Common.{◌∙◌, map, refl, sym, subst}
 use Rattle.type_terms.specs.Kept.{args-held-later, has-later}
 use Rattle.type_terms.specs.Kinds.{arg_trees}
 use Rattle.type_terms.specs.Terms.{Has, args_lists}
@@ -12,6 +12,8 @@ use Rattle.infer_table.specs.Goals.{goal_trees}
 use Rattle.candidate_assembly.specs.Fitting.{solving_of}
 use Rattle.sessions.specs.Goals.{goal_of}
 use Rattle.sessions.proofs.Posing.{over-ok, args-later, goal-answered, goal-held, same-asked}
+use Rattle.candidate_assembly.specs.SolverMeaning.{solver_by_view}
+use Rattle.sessions.proofs.FramesStarted.{asked-none, settles-same}
 use Rattle.sessions.proofs.proving.prove_under.Goals as goal
 
 pub question_table_in-requires : goal.question_table_in-requires
@@ -78,3 +80,25 @@ returns-clause-answer c =
     ∙ same-asked (references_in new rs) (references_in old rs) (reference_in new r) (reference_in old r) (all-same old new k rs c.requires.clauses) (reference-same old new k r c.requires.asked))
     (args-later old new k us c.requires.unknowns) h)
     c.ask_for.ensures.answer
+
+pub returns-in_err-goal-clause-frames : goal.returns-in_err-goal-clause-frames
+returns-in_err-goal-clause-frames c = asked-none solver_by_view _ _ _ _ _ _
+
+pub returns-in_err-table-clause-frames : goal.returns-in_err-table-clause-frames
+returns-in_err-table-clause-frames c = asked-none solver_by_view _ _ _ _ _ _
+
+pub returns-clause-frames : goal.returns-clause-frames
+returns-clause-frames c =
+    let old = c.args.cx.now.interner.entries in
+    let new = c.question_table_in.new.cx.interner.entries in
+    let k = c.question_table_in.ensures.advances.entries in
+    let rs = c.args.clauses.now in
+    let r = c.args.asked in
+    let us = c.args.unknowns.now in
+    settles-same solver_by_view (solving_of new c.question_table_in.new.cx.handler.declarations) (solving_of old c.args.cx.now.handler.declarations) c.args.graph.now.root_depth (map arg_sort us) (map arg_sort us) (goal_trees new c.in_ok-goal.goal)
+    (goal_of (references_in old rs) (reference_in old r)) c.args.graph.now c.ask_for.new.graph
+    (c.rest_laws.ensures.meaning c.args.cx.now c.question_table_in.new.cx c.requires.rest.ready c.question_table_in.ensures.advances)
+    refl
+    (c.references_are_goals.ensures new c.in_ok-goal.goal rs r c.in_ok-goal.ensures.clauses c.in_ok-goal.ensures.asked
+    ∙ same-asked (references_in new rs) (references_in old rs) (reference_in new r) (reference_in old r) (all-same old new k rs c.requires.clauses) (reference-same old new k r c.requires.asked))
+    c.ask_for.ensures.frames

@@ -1,4 +1,4 @@
-use Rattle.std.proofs.Common.{◌⊎◌, ◌+◌, refl, Some}
+use Rattle.std.proofs.Common.{◌⊎◌, ◌+◌, ◌≤◌, refl, Some}
 use Rattle.declarations.specs.Items.{reference_in}
 use Rattle.infer_table.specs.Responses.{AnswerTrees}
 use Rattle.infer_table.specs.declared.goal.Goal.{Goal}
@@ -7,8 +7,10 @@ use Rattle.root_goals.specs.Contexts.{Asked}
 use Rattle.root_goals.specs.Evaluations.{IsFound}
 use Rattle.root_goals.specs.Searching.{solver_meaning}
 use Rattle.sessions.specs.Asking.{goal_alone}
+use Rattle.sessions.specs.Frames.{frames_for}
 use Rattle.sessions.proofs.Alone.{alone-is, asked-is, no-proof}
 use Rattle.sessions.proofs.ImpossibleAlone.{left-open}
+use Rattle.std.proofs.Math.Nat.{le_refl}
 use Rattle.sessions.proofs.refuted.ask_in_coherence.Goals as goal
 
 pub returns-clause-no : goal.returns-clause-no
@@ -29,3 +31,12 @@ returns-clause-open g c = λ q.
     asked-is es c.args.table.now asked (goal_alone (reference_in es c.args.asked)) c.requires.no_values (alone-is es asked c.args.asked c.new.ensures.items refl)
     (λ (z : Asked). ((a : AnswerTrees) × IsFound m w depth z (Some a)) ⊎ IsNotPlain m w (depth + 1) z)
     (left-open _ _ _ c.evaluate_root_goal-evaluated.result c.evaluate_root_goal-evaluated.ensures.answer (λ e x. (x.0, x.1.found)) c.evaluate_root_goal-evaluated.ensures.no_conflict (c.answer_of.ensures.open q))
+
+pub returns-clause-frames : goal.returns-clause-frames
+returns-clause-frames g c =
+    let es = c.args.cx.now.interner.entries in
+    let asked : Goal = record { param_env = c.new.result; predicate = record { trait_ref = c.args.asked } } in
+    let w = g.H.GoalHandler.meaning.world c.args.cx.now.handler es in
+    asked-is es c.args.table.now asked (goal_alone (reference_in es c.args.asked)) c.requires.no_values (alone-is es asked c.args.asked c.new.ensures.items refl)
+    (λ (z : Asked). c.evaluate_root_goal-evaluated.new.graph.frames ≤ c.args.graph.now.frames + frames_for g.H.GoalHandler.meaning w c.args.graph.now.root_depth z)
+    (c.evaluate_root_goal-evaluated.ensures.frames _ (le_refl _))

@@ -1,9 +1,11 @@
 use Rattle.std.proofs.Common.{rules, ◌≡◌, ◌∙◌, map, ap}
+use Rattle.std.proofs.Math.Nat.{le-add_right}
 use Rattle.term_folds.specs.Arguments.{arg_sort}
 use Rattle.declarations.specs.Items.{reference_in}
 use Rattle.infer_table.specs.Content.{Table}
 use Rattle.view_lowering.specs.Plain.{unbound_reference}
 use Rattle.sessions.specs.Asking.{IsLeftOpen, IsRefusedAlone}
+use Rattle.sessions.specs.Frames.{StartsFramesOfOne}
 use Rattle.sessions.specs.Tables.{table_of}
 use Rattle.sessions.proofs.Alone.{clean-there, known-there, refused-there, reference-is, moved}
 use Rattle.sessions.proofs.refuted.refute_lowered.Goals as goal
@@ -59,3 +61,19 @@ returns-clause-refused g c =
 
 pub returns-clause-keeps : goal.returns-clause-keeps
 returns-clause-keeps g c = λ i e h. c.ask_in_coherence.ensures.keeps i e (c.question_table_in.ensures.advances.entries i e h)
+
+pub returns-in_err-table-clause-frames : goal.returns-in_err-table-clause-frames
+returns-in_err-table-clause-frames g c = λ q low. le-add_right _ _
+
+pub returns-clause-frames : goal.returns-clause-frames
+returns-clause-frames g c =
+    λ q low.
+    let old = c.args.cx.now.interner.entries in
+    let new = c.question_table_in.new.cx.interner.entries in
+    let l = c.args.lowered.now in
+    moved
+    (λ w s. StartsFramesOfOne g.H.GoalHandler.meaning w s c.args.graph.now c.ask_in_coherence.new.graph)
+    (g.H.GoalHandler.meaning.world c.question_table_in.new.cx.handler new) (g.H.GoalHandler.meaning.world c.args.cx.now.handler old) (reference_in new l.asked) (unbound_reference q.asked)
+    (c.rest_laws.ensures.meaning c.args.cx.now c.question_table_in.new.cx c.requires.rest.ready c.question_table_in.ensures.advances)
+    (reference-is q old new c.requires.rest.ready.lawful c.question_table_in.ensures.advances.entries l low)
+    c.ask_in_coherence.ensures.frames

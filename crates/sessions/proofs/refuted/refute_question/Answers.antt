@@ -1,9 +1,11 @@
 use Rattle.std.proofs.Common.{true, ap, subst, ◌≡◌}
+use Rattle.std.proofs.Math.Nat.{le-add_right}
 use Rattle.type_terms.specs.Made.{terms, is_made, is_in_range}
 use Rattle.model.specs.Worlds.{Reference}
 use Rattle.candidate_assembly.proofs.Finding.{args-made}
 use Rattle.view_lowering.specs.Plain.{unbound_reference}
 use Rattle.sessions.specs.Asking.{HasNoProof, IsLeftOpen, IsRefusedAlone, goal_alone}
+use Rattle.sessions.specs.Frames.{StartsFramesOfOne}
 use Rattle.sessions.proofs.Alone.{on-ok}
 use Rattle.sessions.proofs.refuted.refute_question.Goals as goal
 
@@ -47,3 +49,13 @@ returns-clause-made g c =
     let low = c.in_ok-lowered.ensures.lowered q is in
     subst (λ (r : Reference). is_made is_in_range terms r.args ≡ true) low.asked
     (args-made c.lower_in.new.cx.interner.entries c.lower_in.ensures.advances.ready.lawful c.in_ok-lowered.lowered.asked.args.0 low.asked_held))
+
+pub returns-in_err-lowered-clause-frames : goal.returns-in_err-lowered-clause-frames
+returns-in_err-lowered-clause-frames g c = λ q is. le-add_right _ _
+
+pub returns-clause-frames : goal.returns-clause-frames
+returns-clause-frames g c =
+    λ q is.
+    subst (λ w. StartsFramesOfOne g.H.GoalHandler.meaning w (unbound_reference q.asked) c.args.graph.now c.refute_lowered.new.graph)
+    (c.rest_laws.ensures.meaning c.args.cx.now c.lower_in.new.cx c.requires.rest.ready c.lower_in.ensures.advances)
+    (c.refute_lowered.ensures.frames q (c.in_ok-lowered.ensures.lowered q is))

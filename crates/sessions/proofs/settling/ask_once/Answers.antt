@@ -1,6 +1,7 @@
 use Rattle.std.proofs.Common.{rules, ◌≡◌, ◌∙◌, sym, inr, Err}
 use Rattle.infer_table.specs.Unification.{table_trees}
 use Rattle.infer_table.proofs.Numbers.{goal-held-later}
+use Rattle.std.proofs.Math.Nat.{le_refl}
 use Rattle.root_goals.proofs.WithoutCanonical.{evaluations-keep-out}
 use Rattle.root_goals.specs.Roots.{goal_in}
 use Rattle.root_goals.specs.declared.outcome.RootError.TheVariants as Root
@@ -129,3 +130,20 @@ pub returns-in-Err-Fault-clause-full : goal.returns-in-Err-Fault-clause-full
 returns-in-Err-Fault-clause-full g c = λ e.
     let is : c.evaluate_root_goal.result ≡ Err (Root.Fault Full) = search rules in
     runs-out-more (c.evaluate_root_goal.ensures.full is) (λ a r. r.found)
+
+pub returns-in-Ok-clause-frames : goal.returns-in-Ok-clause-frames
+returns-in-Ok-clause-frames g c = c.evaluate_root_goal.ensures.frames _ (le_refl _)
+
+pub returns-in-Err-NoSolution-clause-frames : goal.returns-in-Err-NoSolution-clause-frames
+returns-in-Err-NoSolution-clause-frames g c = c.evaluate_root_goal.ensures.frames _ (le_refl _)
+
+pub returns-in-Err-Conflict-clause-frames : goal.returns-in-Err-Conflict-clause-frames
+returns-in-Err-Conflict-clause-frames g c = c.evaluate_root_goal.ensures.frames _ (le_refl _)
+
+pub returns-in-Err-Fault-clause-frames : goal.returns-in-Err-Fault-clause-frames
+returns-in-Err-Fault-clause-frames g c = c.evaluate_root_goal.ensures.frames _ (le_refl _)
+
+pub returns-in-Ok-clause-left : goal.returns-in-Ok-clause-left
+returns-in-Ok-clause-left g c = λ _.
+    let a = c.in-Ok.ensures.answer in
+    (a.0, a.1.found, a.3)

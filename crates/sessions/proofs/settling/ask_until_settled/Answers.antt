@@ -1,6 +1,9 @@
-use Rattle.std.proofs.Common.{ap, Err}
+use Rattle.std.proofs.Common.{rules, ◌≡◌, ◌-◌, suc, refl, ap, Ok, Err}
 use Rattle.infer_table.proofs.FullFacts.{handed-on}
 use Rattle.sessions.proofs.Settled.{or-else, asked-further, proved-further, first-out, later-out}
+use Rattle.sessions.specs.declared.settling.TheConstants.{MAX_ASKINGS}
+use Rattle.sessions.specs.declared.settling.Asking.TheVariants as asking
+use Rattle.sessions.proofs.FramesStarted.{once, again, as-many}
 use Rattle.sessions.proofs.settling.ask_until_settled.Goals as goal
 
 pub returns-in_err-ask_once-clause-full : goal.returns-in_err-ask_once-clause-full
@@ -23,3 +26,35 @@ pub returns-in-Changes-clause-full : goal.returns-in-Changes-clause-full
 returns-in-Changes-clause-full g c = λ e.
     or-else (c.ask_again.ensures.full e)
     (λ h. later-out g.H.GoalHandler.meaning c.args.graph.now c.ask_once.new.graph c.args.cache.now c.ask_once.new.cache c.args.cx.now c.ask_once.new.cx c.args.table.now c.ask_once.new.table c.args.goal.now c.ask_once.ensures.asked h)
+
+pub returns-in_err-ask_once-clause-frames : goal.returns-in_err-ask_once-clause-frames
+returns-in_err-ask_once-clause-frames g c =
+    let m = g.H.GoalHandler.meaning in
+    as-many m (suc (MAX_ASKINGS - 1)) MAX_ASKINGS c.args.cx.now c.args.graph.now c.ask_once.new.graph c.args.table.now c.args.goal.now refl
+    (once m (MAX_ASKINGS - 1) c.args.cx.now c.args.graph.now c.ask_once.new.graph c.args.table.now c.args.goal.now c.ask_once.ensures.frames)
+
+pub returns-in-Holds-clause-frames : goal.returns-in-Holds-clause-frames
+returns-in-Holds-clause-frames g c =
+    let m = g.H.GoalHandler.meaning in
+    as-many m (suc (MAX_ASKINGS - 1)) MAX_ASKINGS c.args.cx.now c.args.graph.now c.ask_once.new.graph c.args.table.now c.args.goal.now refl
+    (once m (MAX_ASKINGS - 1) c.args.cx.now c.args.graph.now c.ask_once.new.graph c.args.table.now c.args.goal.now c.ask_once.ensures.frames)
+
+pub returns-in-IsRefused-clause-frames : goal.returns-in-IsRefused-clause-frames
+returns-in-IsRefused-clause-frames g c =
+    let m = g.H.GoalHandler.meaning in
+    as-many m (suc (MAX_ASKINGS - 1)) MAX_ASKINGS c.args.cx.now c.args.graph.now c.ask_once.new.graph c.args.table.now c.args.goal.now refl
+    (once m (MAX_ASKINGS - 1) c.args.cx.now c.args.graph.now c.ask_once.new.graph c.args.table.now c.args.goal.now c.ask_once.ensures.frames)
+
+pub returns-in-IsUnsure-clause-frames : goal.returns-in-IsUnsure-clause-frames
+returns-in-IsUnsure-clause-frames g c =
+    let m = g.H.GoalHandler.meaning in
+    as-many m (suc (MAX_ASKINGS - 1)) MAX_ASKINGS c.args.cx.now c.args.graph.now c.ask_once.new.graph c.args.table.now c.args.goal.now refl
+    (once m (MAX_ASKINGS - 1) c.args.cx.now c.args.graph.now c.ask_once.new.graph c.args.table.now c.args.goal.now c.ask_once.ensures.frames)
+
+pub returns-in-Changes-clause-frames : goal.returns-in-Changes-clause-frames
+returns-in-Changes-clause-frames g c =
+    let m = g.H.GoalHandler.meaning in
+    let done : c.ask_once.result ≡ Ok asking.Changes = search rules in
+    as-many m (suc (MAX_ASKINGS - 1)) MAX_ASKINGS c.args.cx.now c.args.graph.now c.ask_again.new.graph c.args.table.now c.args.goal.now refl
+    (again m (MAX_ASKINGS - 1) c.args.cx.now c.ask_once.new.cx c.args.graph.now c.ask_once.new.graph c.ask_again.new.graph c.args.table.now c.ask_once.new.table c.args.goal.now c.requires.goal
+    c.ask_once.ensures.asked.entries c.ask_once.ensures.asked.keeps.world c.ask_once.ensures.asked.depth c.ask_once.ensures.frames (c.ask_once.ensures.left done) c.ask_again.ensures.frames)

@@ -39,5 +39,5 @@ returns-clause-held c = c.first_broken_header.ensures.held
 pub returns-clause-stays : goal.returns-clause-stays
 returns-clause-stays c =
     let i = c.self.inside in
-    subst (λ (s : Subject). StaysOn s (record { declarations = i.workspace.now; of_crate = i.crate_id.index; depth = i.limits.depth; handles = i.limits.handles; terms = c.first_broken_header.new.cx.interner.entries })) c.self.view_is
+    subst (λ (s : Subject). StaysOn s (record { declarations = i.workspace.now; of_crate = i.crate_id.index; depth = i.limits.depth; handles = i.limits.handles; terms = c.first_broken_header.new.cx.interner.entries; term_limit = c.first_broken_header.new.cx.interner.limit; frames = i.graph.frames })) c.self.view_is
     (record { declarations = refl; of_crate = refl; depth = refl; handles = refl; terms = c.first_broken_header.ensures.advances.entries })

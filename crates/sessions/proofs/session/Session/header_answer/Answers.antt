@@ -30,5 +30,5 @@ returns-clause-checked c =
 pub returns-clause-stays : goal.returns-clause-stays
 returns-clause-stays c =
     let i = c.self.inside in
-    subst (λ (s : Subject). StaysOn s (record { declarations = i.workspace.now; of_crate = i.crate_id.index; depth = i.limits.depth; handles = i.limits.handles; terms = c.header_answer_at.new.cx.interner.entries })) c.self.view_is
+    subst (λ (s : Subject). StaysOn s (record { declarations = i.workspace.now; of_crate = i.crate_id.index; depth = i.limits.depth; handles = i.limits.handles; terms = c.header_answer_at.new.cx.interner.entries; term_limit = c.header_answer_at.new.cx.interner.limit; frames = c.header_answer_at.new.graph.frames })) c.self.view_is
     (record { declarations = refl; of_crate = refl; depth = refl; handles = refl; terms = c.header_answer_at.ensures.keeps })

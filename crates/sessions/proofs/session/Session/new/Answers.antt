@@ -22,3 +22,6 @@ invariant_of-result c =
       rest = solver-rests-first c.args.limits.depth cx c.in_ok-graph.graph c.in_ok-cache.cache c.in_ok-graph.ensures c.in_ok-cache.ensures
           (c.new-cx.ensures.ready (subst (IsReady es) (sym c.new-solver.ensures) view.ready));
     }
+
+pub returns-clause-term_limit : goal.returns-clause-term_limit
+returns-clause-term_limit c = ap (λ (t : Terms). t.limit) c.new-cx.ensures.interner ∙ c.lower_view.ensures.limit ∙ c.new-interner.ensures.limit

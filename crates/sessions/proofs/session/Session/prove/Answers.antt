@@ -1,4 +1,4 @@
-use Rattle.std.proofs.Common.{refl, sym, subst}
+use Rattle.std.proofs.Common.{[], refl, sym, subst}
 use Rattle.std.specs.Prelude.{IfOk}
 use Rattle.sessions.specs.Given.{answer_in}
 use Rattle.sessions.specs.Promises.{IsProved}
@@ -6,6 +6,14 @@ use Rattle.sessions.specs.Subjects.{Subject, AsksProof, StaysOn}
 use Rattle.text_definitions.specs.Declarations.{Question}
 use Rattle.sessions.proofs.Keeping.{session-kept, session-rests}
 use Rattle.sessions.proofs.RightAnswers.{is-asked, clauses-apply, answered-rightly}
+use Rattle.candidate_assembly.specs.Fitting.{solving_of}
+use Rattle.candidate_assembly.specs.SolverMeaning.{solver_by_view}
+use Rattle.infer_table.specs.Unification.{table_trees}
+use Rattle.view_lowering.specs.QuestionVariables.{variable_kinds}
+use Rattle.sessions.specs.Frames.{AskingsStartFrames, ProvesInFrames}
+use Rattle.sessions.specs.Proving.{goal_asking}
+use Rattle.sessions.specs.Tables.{table_of}
+use Rattle.sessions.specs.declared.settling.TheConstants.{MAX_ASKINGS}
 use Rattle.sessions.proofs.session.Session.prove.Goals as goal
 
 pub prove_question-requires-clause-rest : goal.prove_question-requires-clause-rest
@@ -45,5 +53,19 @@ returns-clause-held c = c.prove_question.ensures.held
 pub returns-clause-stays : goal.returns-clause-stays
 returns-clause-stays c =
     let i = c.self.inside in
-    subst (λ (s : Subject). StaysOn s (record { declarations = i.workspace.now; of_crate = i.crate_id.index; depth = i.limits.depth; handles = i.limits.handles; terms = c.prove_question.new.cx.interner.entries })) c.self.view_is
+    subst (λ (s : Subject). StaysOn s (record { declarations = i.workspace.now; of_crate = i.crate_id.index; depth = i.limits.depth; handles = i.limits.handles; terms = c.prove_question.new.cx.interner.entries; term_limit = c.prove_question.new.cx.interner.limit; frames = c.prove_question.new.graph.frames })) c.self.view_is
     (record { declarations = refl; of_crate = refl; depth = refl; handles = refl; terms = c.prove_question.ensures.keeps })
+
+pub returns-clause-frames : goal.returns-clause-frames
+returns-clause-frames c =
+    let i = c.self.inside in
+    let x = c.prove_question.new in
+    let new : Subject = record { declarations = i.workspace.now; of_crate = i.crate_id.index; depth = i.limits.depth; handles = i.limits.handles; terms = x.cx.interner.entries; term_limit = x.cx.interner.limit; frames = x.graph.frames } in
+    let s = solving_of i.cx.interner.entries i.cx.handler.declarations in
+    subst (λ (old : Subject). (q : Question) → AsksProof old.declarations old.of_crate c.args.number q → ProvesInFrames old q new) c.self.view_is
+    (λ q asks. (
+      s,
+      c.self.invariant.solving,
+      subst (λ n. AskingsStartFrames solver_by_view s n (goal_asking s.view q) MAX_ASKINGS (table_trees [] (table_of (variable_kinds q))) i.graph.frames x.graph.frames) c.self.invariant.rest.depth
+          (c.prove_question.ensures.frames q asks.asks.question),
+    ))

@@ -1,5 +1,10 @@
-use Rattle.std.proofs.Common.{subst}
+use Rattle.std.proofs.Common.{◌+◌, ◌≤◌, subst}
 use Rattle.std.specs.Prelude.{IfOk}
+use Rattle.candidate_assembly.specs.SolverMeaning.{solver_by_view}
+use Rattle.candidate_assembly.specs.Fitting.{solving_of}
+use Rattle.view_lowering.specs.Plain.{unbound_reference}
+use Rattle.sessions.specs.Asking.{asked_alone}
+use Rattle.sessions.specs.Frames.{frames_for, RefutesInFrames}
 use Rattle.sessions.specs.Given.{refutation_of}
 use Rattle.sessions.specs.Promises.{IsRefutation}
 use Rattle.sessions.specs.Subjects.{Subject, AsksRefutation}
@@ -20,3 +25,16 @@ returns-clause-answer c =
       refused = λ r. c.refute_question.ensures.refused r q asks.asks.question;
       left = λ r. c.refute_question.ensures.open r q asks.asks.question;
     }))
+
+pub returns-clause-frames : goal.returns-clause-frames
+returns-clause-frames c =
+    let i = c.self.inside in
+    let new : Subject = record { declarations = i.workspace.now; of_crate = i.crate_id.index; depth = i.limits.depth; handles = i.limits.handles; terms = c.refute_question.new.cx.interner.entries; term_limit = c.refute_question.new.cx.interner.limit; frames = c.refute_question.new.graph.frames } in
+    let s = solving_of i.cx.interner.entries i.cx.handler.declarations in
+    subst (λ (old : Subject). (q : Question) → AsksRefutation old.declarations old.of_crate c.args.number q → RefutesInFrames old q new) c.self.view_is
+    (λ q asks. (
+      s,
+      c.self.invariant.solving,
+      subst (λ n. new.frames ≤ i.graph.frames + frames_for solver_by_view s n (asked_alone (unbound_reference q.asked))) c.self.invariant.rest.depth
+          (c.refute_question.ensures.frames q asks.asks.question),
+    ))
