@@ -122,3 +122,7 @@ WritesOutput limit bytes status old new = (ls : List Answer) × IsOutput limit b
 
 abbrev pub WritesPrefix : ℕ → List ℕ → Option (List ℕ) → Option (List ℕ) → Type 0
 WritesPrefix limit bytes old new = Keeps old new ⊎ ((ls : List Answer) × BeginsOutput limit bytes ls × AppendsPrefix old new (flat_map output_text ls))
+
+-- ---- the output for a text that is in memory
+abbrev pub IsOutputText : ℕ → List ℕ → Status → List ℕ → Type 0
+IsOutputText limit bytes status text = (ls : List Answer) × IsOutput limit bytes status ls × (text ≡ flat_map output_text ls)

@@ -6,12 +6,14 @@ mod depths;
 mod groups;
 mod kept;
 mod lines;
+mod outputs;
 mod status;
 mod streams;
 mod text_run;
 
 pub use coherent::{accepted_lines_tell, held_lines_tell};
 pub use depths::parse_depth;
+pub use outputs::{Output, answer};
 pub use sessions::Limits;
 pub use status::{RunFault, Status};
 pub use text_run::run;

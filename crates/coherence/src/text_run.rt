@@ -209,7 +209,7 @@ fn write_fault<W: Write>(alloc: Global, found: TextFault, writer: &mut W) -> Res
 }
 
 /// Writes the output for a text.
-fn answer_text<W: Write>(
+pub fn answer_text<W: Write>(
     alloc: Global,
     text: &[u8],
     limits: Limits,
