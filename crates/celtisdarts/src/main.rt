@@ -4,7 +4,10 @@
 //! fault, 2 where there is not one good word, and 3 where reading, writing or memory failed.
 #![tactic(auto)]
 
-use coherence::{Limits, Status, parse_depth, run};
+ghost use Rattle.std.specs.Prelude.{◌≡◌};
+ghost use Rattle.celtisdarts.specs.ExitStatus.{exit_status};
+
+use coherence::{Limits, RunFault, Status, parse_depth, run};
 use std::process::ExitCode;
 use std::rt::Env;
 use std::{env, io};
@@ -12,57 +15,67 @@ use std::{env, io};
 /// How many handles of each kind a session holds at most.
 const HANDLES: u32 = 16_777_216;
 
-/// What the arguments say.
-enum Words {
-    Depth(u32),
-    Wrong,
-    Memory,
+/// Why there is no output, or not all of it.
+#[derive(Clone, Copy)]
+enum Failure {
+    /// There is not one good word.
+    Words,
+    /// The run stopped, or a request for memory was refused before it.
+    Run(RunFault),
 }
 
 /// The program's one word, read before any input is.
-fn read_words<R: Env + Alloc>(rt: &R) -> Words {
+fn read_depth<R: Env + Alloc>(rt: &R) -> Result<u32, Failure> {
     match env::args(rt) {
         Err(e) => {
             if e.kind() == io::ErrorKind::OutOfMemory {
-                Words::Memory
+                Err(Failure::Run(RunFault::Memory))
             } else {
-                Words::Wrong
+                Err(Failure::Words)
             }
         }
         Ok(mut args) => {
             let _program = args.next();
             let Some(word) = args.next() else {
-                return Words::Wrong;
+                return Err(Failure::Words);
             };
             if args.next().is_some() {
-                return Words::Wrong;
+                return Err(Failure::Words);
             }
             match parse_depth(word.as_bytes()) {
-                None => Words::Wrong,
-                Some(depth) => Words::Depth(depth),
+                None => Err(Failure::Words),
+                Some(depth) => Ok(depth),
             }
         }
     }
 }
 
-fn exit_status(rt: &HostRuntime) -> u8 {
-    let depth = match read_words(rt) {
-        Words::Depth(depth) => depth,
-        Words::Wrong => return 2,
-        Words::Memory => return 3,
-    };
+/// Runs from standard input to standard output, by the depth limit that the program is given.
+fn answer(rt: &HostRuntime) -> Result<Status, Failure> {
+    let depth = read_depth(rt)?;
     let Some(limits) = Limits::new(depth, HANDLES) else {
-        return 2;
+        return Err(Failure::Words);
     };
     let mut reader = rt.stdin();
     let mut writer = rt.stdout();
     match run(rt.alloc(), &mut reader, &mut writer, limits) {
+        Ok(status) => Ok(status),
+        Err(fault) => Err(Failure::Run(fault)),
+    }
+}
+
+/// The exit status that tells how the program ended.
+fn exit_status(ending: Result<Status, Failure>) -> u8
+    ensures { result ≡ exit_status ending }
+{
+    match ending {
         Ok(Status::Done) => 0,
         Ok(Status::TextFault) => 1,
-        Err(_) => 3,
+        Err(Failure::Words) => 2,
+        Err(Failure::Run(_)) => 3,
     }
 }
 
 fn main(rt: HostRuntime) -> ExitCode {
-    ExitCode::from(exit_status(&rt))
+    ExitCode::from(exit_status(answer(&rt)))
 }
