@@ -3,8 +3,8 @@ use Rattle.std.proofs.Common.{◌≡◌, ℕ, suc, ◌+◌, arith, Bool, true, f
 use Rattle.std.proofs.lemmas.Option.{slice_get-map}
 use Rattle.std.specs.Prelude.{slice_get, filter, codes, length}
 use Rattle.std.specs.Option.{option_map, option_map_or}
-use Rattle.model.specs.Label.{Sort}
-use Rattle.model.specs.Trees.{is_sort}
+use Rattle.type_terms.specs.Label.{Sort}
+use Rattle.type_terms.specs.Trees.{is_sort}
 use Rattle.std.specs.Fmt.{decimal}
 use Rattle.text_definitions.specs.Output.{place_in, unknown_text}
 use Rattle.text_definitions.specs.Declarations.{Variable}

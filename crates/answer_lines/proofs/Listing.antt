@@ -1,8 +1,8 @@
 -- The variables with a value of their own.
 use Rattle.std.proofs.Common.{◌≡◌, ℕ, zero, suc, ◌+◌, ◌<◌, ◌≤◌, arith, Bool, true, false, List, [], ◌∷◌, ◌++◌, map, length, drop, get_or, refl, sym, ap, subst, ◌∙◌, if◌then◌else◌, append_assoc, append-nil}
-use Rattle.model.specs.Label.{infer}
-use Rattle.model.specs.Trees.{Trees, leaf}
-use Rattle.model.specs.Codes.{same}
+use Rattle.type_terms.specs.Label.{infer}
+use Rattle.type_terms.specs.Trees.{Trees, leaf}
+use Rattle.type_terms.specs.Codes.{same}
 use Rattle.text_definitions.specs.Declarations.{Variable}
 use Rattle.text_definitions.specs.Names.{valued, own_from}
 use Rattle.type_terms.specs.Kinds.{arg_trees, ArgHeld, ArgsHeld}

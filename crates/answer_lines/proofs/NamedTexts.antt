@@ -1,7 +1,7 @@
 -- The texts of all values.
 use Rattle.std.proofs.Common.{◌≡◌, ℕ, List, [], map, ap, ◌∙◌}
-use Rattle.model.specs.Label.{Sort}
-use Rattle.model.specs.Trees.{Trees}
+use Rattle.type_terms.specs.Label.{Sort}
+use Rattle.type_terms.specs.Trees.{Trees}
 use Rattle.text_definitions.specs.Declarations.{Declarations, Question, Variable}
 use Rattle.text_definitions.specs.Names.{question_names, free_unknowns, value_texts, valued, own_unknowns, answer_values}
 use Rattle.answer_lines.specs.Valued.{text_by}

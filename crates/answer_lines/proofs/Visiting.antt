@@ -3,8 +3,8 @@ use Rattle.std.proofs.Common.{◌≡◌, ℕ, ◌<◌, ◌≤◌, ◌⊎◌, inl
 use Rattle.std.specs.Prelude.{slice_get, nat_lt}
 use Rattle.std.proofs.lemmas.Option.{slice_get_cases}
 use Rattle.std.proofs.lemmas.Bool.Decides.{nat_tests}
-use Rattle.model.specs.Label.{Label, Sort, infer}
-use Rattle.model.specs.Trees.{Trees, none, tree}
+use Rattle.type_terms.specs.Label.{Label, Sort, infer}
+use Rattle.type_terms.specs.Trees.{Trees, none, tree}
 use Rattle.type_terms.specs.Visits.{Visits, ended, passed, broken, entered, broken_below}
 use Rattle.text_definitions.specs.Declarations.{Question}
 use Rattle.text_definitions.specs.Names.{of_kind, with_free}

@@ -1,8 +1,8 @@
 -- What listed values stand for among the definitions.
 use Rattle.std.specs.Prelude.{ℕ, suc, List, [], ◌∷◌, map, if◌then◌else◌}
-use Rattle.model.specs.Label.{infer}
-use Rattle.model.specs.Trees.{Trees, leaf}
-use Rattle.model.specs.Codes.{same}
+use Rattle.type_terms.specs.Label.{infer}
+use Rattle.type_terms.specs.Trees.{Trees, leaf}
+use Rattle.type_terms.specs.Codes.{same}
 use Rattle.text_definitions.specs.Declarations.{Variable}
 use Rattle.text_definitions.specs.Names.{valued, own_from}
 use Rattle.type_terms.specs.Kinds.{arg_trees, ArgHeld}

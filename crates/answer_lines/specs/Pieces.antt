@@ -1,7 +1,7 @@
 -- What pieces stand for.
 use Rattle.std.specs.Prelude.{◌≡◌, ℕ, ◌+◌, ◌<◌, Bool, true, false, List, [], ◌∷◌, ◌++◌, codes}
-use Rattle.model.specs.Trees.{Trees, none, tree, ◌+++◌}
-use Rattle.model.specs.Label.{adt, tuple, fn_ptr}
+use Rattle.type_terms.specs.Trees.{Trees, none, tree, ◌+++◌}
+use Rattle.type_terms.specs.Label.{adt, tuple, fn_ptr}
 use Rattle.text_definitions.specs.Output.{Names, angled, between, texts, type_text, output_part}
 use Rattle.type_terms.specs.Terms.{Entry, Has, trees_at, types, consts}
 use Rattle.type_terms.specs.Kinds.{kind_trees, args_trees, tys_trees, autos_trees, ArgsHeld, TysHeld}

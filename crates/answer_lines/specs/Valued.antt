@@ -1,5 +1,5 @@
 -- Values as texts.
-use Rattle.model.specs.Trees.{Trees}
+use Rattle.type_terms.specs.Trees.{Trees}
 use Rattle.text_definitions.specs.Declarations.{Variable}
 use Rattle.text_definitions.specs.Names.{question_names}
 use Rattle.text_definitions.specs.Output as output

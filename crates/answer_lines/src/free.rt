@@ -1,7 +1,7 @@
 //! The unknowns of a question's values that the question doesn't hold.
 ghost use Rattle.std.specs.Prelude.{◌≡◌, length, nat_lt, OnOk, IfOk, map, []};
-ghost use Rattle.model.specs.Label.{infer};
-ghost use Rattle.model.specs.Trees.{leaf};
+ghost use Rattle.type_terms.specs.Label.{infer};
+ghost use Rattle.type_terms.specs.Trees.{leaf};
 ghost use Rattle.text_definitions.specs.Names as names;
 ghost use Rattle.text_definitions.specs.Names.{of_kind, with_free};
 ghost use Rattle.text_definitions.specs.Output.{is_in};

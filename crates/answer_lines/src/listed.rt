@@ -1,8 +1,8 @@
 //! The values of a question's variables that a line lists.
 ghost use Rattle.std.specs.Prelude.{◌≡◌, ◌≤◌, ◌++◌, ◌∷◌, [], map, OnOk, IfOk, suc};
-ghost use Rattle.model.specs.Label.{infer};
-ghost use Rattle.model.specs.Trees.{leaf};
-ghost use Rattle.model.specs.Codes.{same};
+ghost use Rattle.type_terms.specs.Label.{infer};
+ghost use Rattle.type_terms.specs.Trees.{leaf};
+ghost use Rattle.type_terms.specs.Codes.{same};
 ghost use Rattle.type_terms.specs.Kinds.{region_trees, arg_trees, ArgHeld, ArgsHeld};
 ghost use Rattle.type_terms.specs.Terms.{Has, types, consts, trees_at};
 ghost use Rattle.workspace.specs.Views.{sort_of_kind};

@@ -1,8 +1,8 @@
 //! Types and constants as text.
 ghost use Rattle.std.specs.Prelude.{◌≡◌, ◌≢◌, ◌++◌, false, length, OnOk, codes, []};
 ghost use Rattle.std.specs.Fmt.{decimal};
-ghost use Rattle.model.specs.Trees.{is_no_tree};
-ghost use Rattle.model.specs.Label.{tuple, fn_ptr, adt};
+ghost use Rattle.type_terms.specs.Trees.{is_no_tree};
+ghost use Rattle.type_terms.specs.Label.{tuple, fn_ptr, adt};
 ghost use Rattle.type_terms.specs.Terms.{Has, Lawful, trees_at, types, consts, bounds_lists};
 ghost use Rattle.type_terms.specs.Kinds.{kind_trees, args_trees, tys_trees, autos_trees, int_number, uint_number, is_mut, KindHeld, ArgsHeld, TysHeld};
 ghost use Rattle.text_definitions.specs.Output.{type_text, int_name, ends_in_unit};

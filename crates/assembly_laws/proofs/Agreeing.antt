@@ -1,8 +1,8 @@
 -- Readings agree where what stands for the variables agrees.
 use Rattle.std.proofs.Common.{◌≡◌, ℕ, zero, suc, Bool, true, false, not, ◌&&◌, ◌||◌, List, [], ◌∷◌, ◌++◌, refl, sym, ◌∙◌, ap, Some}
-use Rattle.model.specs.Label.{Label, Sort, of_type, of_const, of_lifetime, dynamic, principal, auto_trait, param, placeholder, infer, canonical, bound, static, predicate}
-use Rattle.model.specs.Trees.{Trees, none, tree, ◌+++◌, erase_label, placed, is_no_tree, is_sort, sort_of}
-use Rattle.model.proofs.Walking.{left, right}
+use Rattle.type_terms.specs.Label.{Label, Sort, of_type, of_const, of_lifetime, dynamic, principal, auto_trait, param, placeholder, infer, canonical, bound, static, predicate}
+use Rattle.type_terms.specs.Trees.{Trees, none, tree, ◌+++◌, erase_label, placed, is_no_tree, is_sort, sort_of}
+use Rattle.type_terms.proofs.Walking.{left, right}
 use Rattle.type_terms.specs.Made.{terms}
 use Rattle.type_terms.specs.Made.{bounds}
 use Rattle.type_terms.specs.Made.{traits}

@@ -1,11 +1,11 @@
 -- Arguments that are apart have no common instance: what is fixed stays as it is, whatever is put in.
 use Rattle.std.proofs.Common.{◌≡◌, ℕ, zero, suc, Bool, true, false, not, ◌&&◌, List, refl, sym, ap, ◌∙◌}
 use Rattle.std.specs.Prelude.{bit_and, bit_or}
-use Rattle.model.specs.Label.{Label, of_type, of_const, of_lifetime, static, fn_ptr, principal, param, placeholder, infer, canonical, bound}
-use Rattle.model.specs.Trees.{Trees, none, tree, erase, erase_label, instantiate, flags, label_flags}
-use Rattle.model.specs.Codes.{same}
-use Rattle.model.proofs.Members.{same-number}
-use Rattle.model.proofs.Applies.{same-complete}
+use Rattle.type_terms.specs.Label.{Label, of_type, of_const, of_lifetime, static, fn_ptr, principal, param, placeholder, infer, canonical, bound}
+use Rattle.type_terms.specs.Trees.{Trees, none, tree, erase, erase_label, instantiate, flags, label_flags}
+use Rattle.type_terms.specs.Codes.{same}
+use Rattle.type_terms.proofs.Members.{same-number}
+use Rattle.type_terms.proofs.Applies.{same-complete}
 use Rattle.infer_table.proofs.ClosedFacts.{or-left, or-right}
 use Rattle.evaluation.specs.Instances.{read_with}
 use Rattle.evaluation.specs.Content.{given}

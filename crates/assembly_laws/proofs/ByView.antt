@@ -1,17 +1,17 @@
 -- A rule of the view that concludes a solution is a candidate: row by row.
 use Rattle.std.proofs.Common.{◌≡◌, ℕ, Bool, true, false, ◌||◌, ◌==◌, if◌then◌else◌, List, [], ◌∷◌, ◌++◌, map, ◌⊎◌, inl, inr, refl, sym, ◌∙◌, ap, subst}
 use Rattle.std.specs.List.{flat_map}
-use Rattle.model.specs.Label.{Label, of_type, param, placeholder, infer, canonical, bound, static}
-use Rattle.model.specs.Label.{value}
-use Rattle.model.specs.Trees.{Trees, tree, erase_label, is_sort, some_node}
-use Rattle.model.specs.Worlds.{World, Reference}
-use Rattle.model.specs.Rules.{Rule, rules, impl_rules, built_in_rules, plain_rules, sized, copy, clone, tuple_trait, fn_ptr_trait, is_fn_trait, unsize, is_auto, sized_rules, copy_rules, auto_rules, tuple_rules, fn_ptr_rules, call_rules, unsize_rules, object_rules}
-use Rattle.model.specs.Proofs.{In}
-use Rattle.model.specs.Proofs as Model
-use Rattle.model.specs.Answers.{is_closed, is_open}
-use Rattle.model.proofs.Members.{here, there, in-nothing, in-cases, in-append}
-use Rattle.model.proofs.Fitting.{child-shut}
-use Rattle.model.proofs.Walking.{right}
+use Rattle.type_terms.specs.Label.{Label, of_type, param, placeholder, infer, canonical, bound, static}
+use Rattle.type_terms.specs.Label.{value}
+use Rattle.type_terms.specs.Trees.{Trees, tree, erase_label, is_sort, some_node}
+use Rattle.type_terms.specs.Worlds.{World, Reference}
+use Rattle.type_terms.specs.Rules.{Rule, rules, impl_rules, built_in_rules, plain_rules, sized, copy, clone, tuple_trait, fn_ptr_trait, is_fn_trait, unsize, is_auto, sized_rules, copy_rules, auto_rules, tuple_rules, fn_ptr_rules, call_rules, unsize_rules, object_rules}
+use Rattle.type_terms.specs.Proofs.{In}
+use Rattle.type_terms.specs.Proofs as Model
+use Rattle.type_terms.specs.Answers.{is_closed, is_open}
+use Rattle.type_terms.proofs.Members.{here, there, in-nothing, in-cases, in-append}
+use Rattle.type_terms.proofs.Fitting.{child-shut}
+use Rattle.type_terms.proofs.Walking.{right}
 use Rattle.evaluation.specs.Lists.{Every, SomeOf}
 use Rattle.evaluation.specs.declared.candidate.CandidateSource.{CandidateSource}
 use Rattle.evaluation.specs.declared.candidate.CandidateSource.TheVariants.{BuiltinImpl}
@@ -72,7 +72,7 @@ module _ (H : Reference → Type 0) (V : World) (declared : is_declared_view V �
   gives-rule : (source : CandidateSource) (ps : List Reference) → Every (Proved H) (map (read_reference xs) ps) → Gives H a.kinds v (by_rule V a source [] ps)
   gives-rule source ps e = record { own = []; sorted = refl; equal = tt; solves = each ps e }
     where
-      each : (qs : List Reference) → Every (Proved H) (map (read_reference xs) qs) → Every (λ n. IsSolution H (nested_at xs n)) (map (premise a (Rattle.model.specs.Rules.is_coinductive V a.reference.trait)) qs)
+      each : (qs : List Reference) → Every (Proved H) (map (read_reference xs) qs) → Every (λ n. IsSolution H (nested_at xs n)) (map (premise a (Rattle.type_terms.specs.Rules.is_coinductive V a.reference.trait)) qs)
       each [] f = tt
       each (q ∷ qs) f = (record { asks = refl; proper = refl; closed = f.0.0; proof = f.0.1 }, each qs f.1)
 

@@ -1,11 +1,11 @@
 -- The bounds on candidates and nested goals, of which declarations whose names stand for one struct are within.
 use Rattle.std.proofs.Common.{◌≡◌, ℕ, zero, suc, ◌+◌, ◌*◌, ◌≤◌, max, Bool, true, false, List, [], ◌∷◌, ◌++◌, map, length, if◌then◌else◌, ◌==◌, ◌&&◌, ◌||◌, not, refl, sym, ap, subst, arith}
 use Rattle.std.specs.Prelude.{fold, Some}
-use Rattle.model.specs.Label.{Label, of_lifetime, array, slice, dynamic, adt, fn_ptr, principal, param, placeholder, infer, canonical, bound, of_trait, predicate}
-use Rattle.model.specs.Trees.{Trees, none, tree, erase_label}
-use Rattle.model.specs.Worlds.{World, Reference, StructDecl, TraitDecl, ImplDecl, structs_named}
-use Rattle.model.specs.Rules.{sized, clone, copy, tuple_trait, fn_ptr_trait, is_fn_trait, unsize, is_auto, is_coinductive, sized_rules, copy_rules, auto_rules, tuple_rules, fn_ptr_rules, unsize_to_dyn_rules, last_asked, principal_with, autos_with, are_dyn_compatible, together}
-use Rattle.model.specs.Proofs.{In}
+use Rattle.type_terms.specs.Label.{Label, of_lifetime, array, slice, dynamic, adt, fn_ptr, principal, param, placeholder, infer, canonical, bound, of_trait, predicate}
+use Rattle.type_terms.specs.Trees.{Trees, none, tree, erase_label}
+use Rattle.type_terms.specs.Worlds.{World, Reference, StructDecl, TraitDecl, ImplDecl, structs_named}
+use Rattle.type_terms.specs.Rules.{sized, clone, copy, tuple_trait, fn_ptr_trait, is_fn_trait, unsize, is_auto, is_coinductive, sized_rules, copy_rules, auto_rules, tuple_rules, fn_ptr_rules, unsize_to_dyn_rules, last_asked, principal_with, autos_with, are_dyn_compatible, together}
+use Rattle.type_terms.specs.Proofs.{In}
 use Rattle.infer_table.specs.Canonical.{CanonicalForm}
 use Rattle.evaluation.specs.Plans.{nested_in}
 use Rattle.evaluation.specs.declared.candidate.CandidateSource.TheVariants.{BuiltinImpl, ParamEnv}

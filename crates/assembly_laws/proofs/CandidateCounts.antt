@@ -1,7 +1,7 @@
 -- How many bounds and supertraits there are.
 use Rattle.std.proofs.Common.{◌≡◌, ℕ, zero, suc, ◌+◌, ◌≤◌, List, [], ◌∷◌, ◌++◌, length, arith}
-use Rattle.model.specs.Worlds.{World, Reference}
-use Rattle.model.specs.Rules.{strict_supertraits}
+use Rattle.type_terms.specs.Worlds.{World, Reference}
+use Rattle.type_terms.specs.Rules.{strict_supertraits}
 use Rattle.declarations.specs.Elaboration.{off_stack, all_levels, elaborate, new_of, pushed, rest_of, supertraits}
 
 length-append : {A : Type 0} (xs ys : List A) → length (xs ++ ys) ≡ length xs + length ys

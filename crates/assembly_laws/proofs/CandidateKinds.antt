@@ -1,12 +1,12 @@
 -- Each candidate is made as a rule, as an impl, or is unsure; so the steps are the trait's, and unknowns are determined.
 use Rattle.std.proofs.Common.{◌≡◌, ℕ, suc, ◌==◌, Bool, true, false, not, ◌&&◌, if◌then◌else◌, List, [], ◌∷◌, ◌++◌, ◌⊎◌, inl, inr, refl, ap}
 use Rattle.std.specs.List.{flat_map}
-use Rattle.model.specs.Label.{tuple, dynamic, array, slice, adt, fn_ptr}
-use Rattle.model.specs.Trees.{Trees, none, tree, ◌+++◌}
-use Rattle.model.specs.Worlds.{World, Reference, StructDecl, ImplDecl, structs_named}
-use Rattle.model.specs.Rules.{Rule, sized, is_fn_trait, unsize, sized_rules, copy_rules, auto_rules, tuple_rules, fn_ptr_rules, unsize_to_dyn_rules, are_dyn_compatible, principal_with, autos_with, but_last, last_asked, are_declared, upcasts_autos, some_unsizing, with_unsizing, last_unsizes}
-use Rattle.model.specs.Proofs.{In}
-use Rattle.model.proofs.Members.{here, there}
+use Rattle.type_terms.specs.Label.{tuple, dynamic, array, slice, adt, fn_ptr}
+use Rattle.type_terms.specs.Trees.{Trees, none, tree, ◌+++◌}
+use Rattle.type_terms.specs.Worlds.{World, Reference, StructDecl, ImplDecl, structs_named}
+use Rattle.type_terms.specs.Rules.{Rule, sized, is_fn_trait, unsize, sized_rules, copy_rules, auto_rules, tuple_rules, fn_ptr_rules, unsize_to_dyn_rules, are_dyn_compatible, principal_with, autos_with, but_last, last_asked, are_declared, upcasts_autos, some_unsizing, with_unsizing, last_unsizes}
+use Rattle.type_terms.specs.Proofs.{In}
+use Rattle.type_terms.proofs.Members.{here, there}
 use Rattle.evaluation.specs.Lists.{Every}
 use Rattle.evaluation.specs.declared.candidate.CandidateSource.{CandidateSource}
 use Rattle.evaluation.specs.declared.candidate.CandidateSource.TheVariants.{BuiltinImpl, ParamEnv}

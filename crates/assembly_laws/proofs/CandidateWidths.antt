@@ -1,9 +1,9 @@
 -- No term of a candidate is wider than the goal and what is declared.
 use Rattle.std.proofs.Common.{◌≡◌, ℕ, zero, suc, ◌+◌, ◌≤◌, max, Bool, List, [], ◌∷◌, map, refl, sym, ◌∙◌, ap, subst, arith}
-use Rattle.model.specs.Label.{Label, param, canonical, bound, inside, shift_label}
-use Rattle.model.specs.Label.{never}
-use Rattle.model.specs.Trees.{Trees, none, tree, nth, shift, instantiate}
-use Rattle.model.specs.Worlds.{Reference}
+use Rattle.type_terms.specs.Label.{Label, param, canonical, bound, inside, shift_label}
+use Rattle.type_terms.specs.Label.{never}
+use Rattle.type_terms.specs.Trees.{Trees, none, tree, nth, shift, instantiate}
+use Rattle.type_terms.specs.Worlds.{Reference}
 use Rattle.evaluation.specs.Lists.{Every}
 use Rattle.evaluation.specs.Widths.{count, with_self, width, width_of_predicates, NestedWithin, EquationWithin}
 use Rattle.evaluation.proofs.Widths.{IsWithin, IsOneIf, IsOne, leaf-one, count-put, within-put, within, width-within, count-append, within-append}

@@ -1,12 +1,12 @@
 -- In every linked set with the crate each solution of a goal is one by a candidate.
 use Rattle.std.proofs.Common.{◌≡◌, Bool, true, false, not, ◌&&◌, ◌||◌, ◌==◌, List, [], ◌∷◌, refl, sym, ◌∙◌, ap, subst, Option, Some, None}
-use Rattle.model.specs.Label.{of_trait, predicate}
-use Rattle.model.specs.Trees.{Trees, none, tree}
-use Rattle.model.specs.Worlds.{World, Reference}
-use Rattle.model.specs.Rules.{unsize}
-use Rattle.model.specs.Answers.{written_in}
-use Rattle.model.specs.Walks.{is_known_in}
-use Rattle.model.proofs.Walking.{left, right}
+use Rattle.type_terms.specs.Label.{of_trait, predicate}
+use Rattle.type_terms.specs.Trees.{Trees, none, tree}
+use Rattle.type_terms.specs.Worlds.{World, Reference}
+use Rattle.type_terms.specs.Rules.{unsize}
+use Rattle.type_terms.specs.Answers.{written_in}
+use Rattle.type_terms.specs.Walks.{is_known_in}
+use Rattle.type_terms.proofs.Walking.{left, right}
 use Rattle.type_terms.specs.Made.{terms}
 use Rattle.type_terms.specs.Made.{is_made}
 use Rattle.infer_table.specs.declared.canonical.CanonicalVarKind.{CanonicalVarKind}

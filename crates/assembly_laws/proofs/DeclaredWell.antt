@@ -3,12 +3,12 @@ use Rattle.std.proofs.Common.{◌≡◌, ℕ, ◌<◌, ◌≤◌, Bool, true, fa
 use Rattle.std.specs.Prelude.{nat_lt}
 use Rattle.std.specs.List.{list_all, list_any}
 use Rattle.std.proofs.lemmas.Bool.Decides.{nat_tests}
-use Rattle.model.specs.Trees.{Trees, none, tree, some_node, Single}
-use Rattle.model.specs.Worlds.{World, Reference, StructDecl, TraitDecl, ImplDecl}
-use Rattle.model.proofs.Members.{same-number}
-use Rattle.model.proofs.NoHolds.{member-each}
-use Rattle.model.proofs.Fitting.{not-true}
-use Rattle.model.proofs.Walking.{left, right}
+use Rattle.type_terms.specs.Trees.{Trees, none, tree, some_node, Single}
+use Rattle.type_terms.specs.Worlds.{World, Reference, StructDecl, TraitDecl, ImplDecl}
+use Rattle.type_terms.proofs.Members.{same-number}
+use Rattle.type_terms.proofs.NoHolds.{member-each}
+use Rattle.type_terms.proofs.Fitting.{not-true}
+use Rattle.type_terms.proofs.Walking.{left, right}
 use Rattle.assembly_laws.specs.Candidates.{is_param}
 use Rattle.assembly_laws.specs.Declared.{is_declared_view, BoundsAreErased, is_lifetime_parameter, parameters_are_sorted, LeadDown}
 use Rattle.assembly_laws.specs.Determined.{ImplsAreDetermined}

@@ -1,10 +1,10 @@
 -- What is declared is no wider than is said; impls are narrow.
 use Rattle.std.proofs.Common.{◌≡◌, ℕ, zero, ◌≤◌, max, List, [], ◌∷◌, map, length, ◌⊎◌, inl, inr, subst, arith}
 use Rattle.std.specs.Prelude.{fold}
-use Rattle.model.specs.Worlds.{World, Reference, ImplDecl}
-use Rattle.model.specs.Rules.{is_coinductive}
-use Rattle.model.specs.Proofs.{In}
-use Rattle.model.proofs.Members.{here, there, in-cases, in-nothing}
+use Rattle.type_terms.specs.Worlds.{World, Reference, ImplDecl}
+use Rattle.type_terms.specs.Rules.{is_coinductive}
+use Rattle.type_terms.specs.Proofs.{In}
+use Rattle.type_terms.proofs.Members.{here, there, in-cases, in-nothing}
 use Rattle.evaluation.specs.Lists.{Every}
 use Rattle.evaluation.specs.Widths.{width, width_of_predicates}
 use Rattle.assembly_laws.specs.Asking.{Asked}

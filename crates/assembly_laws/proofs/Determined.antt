@@ -1,9 +1,9 @@
 -- The own unknowns of each candidate are determined by the goal's, whatever its certainty; and the steps to its nested goals.
 use Rattle.std.proofs.Common.{◌≡◌, ℕ, zero, suc, ◌+◌, Bool, true, not, ◌&&◌, List, [], ◌∷◌, ◌++◌, map, length, inl, inr, refl, sym, ◌∙◌, ap, subst, Option, Some, None}
-use Rattle.model.specs.Label.{Label, Sort, canonical, infer, param, placeholder, of_trait, predicate}
-use Rattle.model.specs.Trees.{Trees, none, tree, some_node}
-use Rattle.model.specs.Worlds.{Reference}
-use Rattle.model.specs.Answers.{is_open}
+use Rattle.type_terms.specs.Label.{Label, Sort, canonical, infer, param, placeholder, of_trait, predicate}
+use Rattle.type_terms.specs.Trees.{Trees, none, tree, some_node}
+use Rattle.type_terms.specs.Worlds.{Reference}
+use Rattle.type_terms.specs.Answers.{is_open}
 use Rattle.type_terms.specs.Made.{terms}
 use Rattle.type_terms.specs.Made.{is_made}
 use Rattle.infer_table.specs.Canonical.{GoalTrees}
@@ -14,7 +14,7 @@ use Rattle.evaluation.specs.Instances.{read_with, goal_read, put_in, of_sort, te
 use Rattle.evaluation.specs.Content.{Values, fits, given, Fact, Terms, trait_of}
 use Rattle.evaluation.specs.FrameTables.{kind_at, FrameTable, Allows, Nested, fact, Meets, is_open_label}
 use Rattle.type_terms.proofs.Made.{false-true}
-use Rattle.model.proofs.Walking.{left, right}
+use Rattle.type_terms.proofs.Walking.{left, right}
 use Rattle.evaluation.proofs.Labels.{made-labels, IsGoodLabel, made-more}
 use Rattle.evaluation.specs.TableOperations.{begin}
 use Rattle.evaluation.specs.FrameTables.{labels_from}

@@ -1,12 +1,12 @@
 -- The sides of the equations of candidates are made terms.
 use Rattle.std.proofs.Common.{◌≡◌, ℕ, ◌+◌, Bool, true, false, not, ◌&&◌, ◌||◌, if◌then◌else◌, List, [], length, ◌⊎◌, inl, inr, refl, sym, ap, subst, None, suc, ◌∷◌}
 use Rattle.std.specs.List.{list_all}
-use Rattle.model.specs.Label.{Label, of_type, of_const, of_lifetime, tuple, dynamic, array, slice, adt, fn_ptr, principal, auto_trait, infer, param, placeholder, canonical, bound, static, predicate}
-use Rattle.model.specs.Trees.{Trees, none, tree, is_a, is_no_tree, sort_of, some_node}
-use Rattle.model.specs.Worlds.{World, Reference, StructDecl, TraitDecl, ImplDecl}
-use Rattle.model.specs.Rules.{but_last, is_unsizing, with_unsizing, principal_with, autos_with}
-use Rattle.model.specs.Proofs.{In}
-use Rattle.model.proofs.NoHolds.{member-each}
+use Rattle.type_terms.specs.Label.{Label, of_type, of_const, of_lifetime, tuple, dynamic, array, slice, adt, fn_ptr, principal, auto_trait, infer, param, placeholder, canonical, bound, static, predicate}
+use Rattle.type_terms.specs.Trees.{Trees, none, tree, is_a, is_no_tree, sort_of, some_node}
+use Rattle.type_terms.specs.Worlds.{World, Reference, StructDecl, TraitDecl, ImplDecl}
+use Rattle.type_terms.specs.Rules.{but_last, is_unsizing, with_unsizing, principal_with, autos_with}
+use Rattle.type_terms.specs.Proofs.{In}
+use Rattle.type_terms.proofs.NoHolds.{member-each}
 use Rattle.type_terms.specs.Made.{Standing, is_leaf_label, is_made}
 use Rattle.type_terms.specs.Made.{terms}
 use Rattle.type_terms.specs.Made.{bounds}
@@ -17,7 +17,7 @@ use Rattle.evaluation.proofs.ListLaws.{Every-mono, Every-both}
 use Rattle.evaluation.specs.Instances.{put_in, default_label}
 use Rattle.evaluation.specs.FrameTables.{is_open_label, term_of, Equation}
 use Rattle.type_terms.proofs.Made.{false-true}
-use Rattle.model.proofs.Walking.{left, right}
+use Rattle.type_terms.proofs.Walking.{left, right}
 use Rattle.type_terms.proofs.Made.{is_ordinary, made-append}
 use Rattle.evaluation.proofs.Labels.{IsLeafFor, PutsLeaves, made-put-in, made-more}
 use Rattle.declarations.specs.Elaboration.{elaborate, supertraits, rest_of}

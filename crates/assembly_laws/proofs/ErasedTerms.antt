@@ -1,9 +1,9 @@
 -- Made terms without their lifetimes are declared terms, where no place is open but those of parameters.
 use Rattle.std.proofs.Common.{◌≡◌, zero, Bool, true, false, not, ◌&&◌, ◌||◌, refl, ◌∙◌, ap}
-use Rattle.model.specs.Label.{Label, Sort, of_type, of_const, of_lifetime, dynamic, principal, auto_trait, predicate, param, placeholder, infer, canonical, bound}
-use Rattle.model.specs.Trees.{Trees, none, tree, erase, erase_label, sort_of, is_sort, is_no_tree, some_node, Single}
-use Rattle.model.specs.LinkedSet.{is_stray}
-use Rattle.model.proofs.Fitting.{child-shut, next-shut, no-left, or-no}
+use Rattle.type_terms.specs.Label.{Label, Sort, of_type, of_const, of_lifetime, dynamic, principal, auto_trait, predicate, param, placeholder, infer, canonical, bound}
+use Rattle.type_terms.specs.Trees.{Trees, none, tree, erase, erase_label, sort_of, is_sort, is_no_tree, some_node, Single}
+use Rattle.type_terms.specs.LinkedSet.{is_stray}
+use Rattle.type_terms.proofs.Fitting.{child-shut, next-shut, no-left, or-no}
 use Rattle.type_terms.specs.Made.{Standing, terms, bounds, traits, is_leaf_label, is_made}
 use Rattle.type_terms.proofs.Made.{left, right, both, false-true, is_ordinary, made-ordinary, makes-ordinary, last-bound, last-trait, never-dynamic, never-dynamic-bound, never-principal}
 use Rattle.assembly_laws.specs.Declared.{is_declared, is_counted, are_terms, is_lifetime_parameter}

@@ -1,25 +1,25 @@
 -- By the view alone, and in every linked set that holds it, up to lifetimes, each solution of a goal is one by a candidate.
 use Rattle.std.proofs.Common.{◌≡◌, ℕ, Bool, true, false, not, ◌&&◌, ◌||◌, ◌==◌, if◌then◌else◌, List, [], ◌∷◌, ◌++◌, map, refl, sym, ◌∙◌, ap, subst, Option, Some, None}
 use Rattle.std.specs.List.{list_all, list_any}
-use Rattle.model.specs.Label.{Label, Sort, of_type, of_const, of_lifetime, dynamic, adt, ref, of_trait, principal, param, placeholder, infer, canonical, bound, predicate}
-use Rattle.model.specs.Label.{value}
-use Rattle.model.specs.Label.{static}
-use Rattle.model.specs.Trees.{Trees, none, tree, some_node, erase, erase_label}
-use Rattle.model.specs.Worlds.{World, CrateDecl, Reference, StructDecl, TraitDecl, ImplDecl, structs_named}
-use Rattle.model.specs.Terms.{erased_reference, erased_struct, erased_trait, erased_impl, erased_world}
-use Rattle.model.specs.Rules.{unsize}
-use Rattle.model.specs.Proofs.{In}
-use Rattle.model.specs.Elaborated.{HasElaboratedProof}
-use Rattle.model.specs.Answers.{written_in, is_undeclared}
-use Rattle.model.specs.LinkedSet.{is_open_place}
-use Rattle.model.specs.Walks.{Met, local, entered, struct_leaf, open_place, other_leaf, struct_is, trait_is, is_home, dyn_met, visited, until_decisive, item_in, ends_local, is_known_in}
-use Rattle.model.proofs.Members.{here, there, in-map}
-use Rattle.model.proofs.Entries.{map-in}
-use Rattle.model.proofs.NoHolds.{each-member}
-use Rattle.model.proofs.Fitting.{no-left, child-shut, next-shut}
-use Rattle.model.proofs.Walking.{left, right, both}
-use Rattle.model.proofs.RenumberedRules.{any-over}
-use Rattle.model.proofs.TermRules.{filter-map}
+use Rattle.type_terms.specs.Label.{Label, Sort, of_type, of_const, of_lifetime, dynamic, adt, ref, of_trait, principal, param, placeholder, infer, canonical, bound, predicate}
+use Rattle.type_terms.specs.Label.{value}
+use Rattle.type_terms.specs.Label.{static}
+use Rattle.type_terms.specs.Trees.{Trees, none, tree, some_node, erase, erase_label}
+use Rattle.type_terms.specs.Worlds.{World, CrateDecl, Reference, StructDecl, TraitDecl, ImplDecl, structs_named}
+use Rattle.type_terms.specs.Erased.{erased_reference, erased_struct, erased_trait, erased_impl, erased_world}
+use Rattle.type_terms.specs.Rules.{unsize}
+use Rattle.type_terms.specs.Proofs.{In}
+use Rattle.type_terms.specs.Elaborated.{HasElaboratedProof}
+use Rattle.type_terms.specs.Answers.{written_in, is_undeclared}
+use Rattle.type_terms.specs.LinkedSet.{is_open_place}
+use Rattle.type_terms.specs.Walks.{Met, local, entered, struct_leaf, open_place, other_leaf, struct_is, trait_is, is_home, dyn_met, visited, until_decisive, item_in, ends_local, is_known_in}
+use Rattle.type_terms.proofs.Members.{here, there, in-map}
+use Rattle.type_terms.proofs.ProofEntries.{map-in}
+use Rattle.type_terms.proofs.NoHolds.{each-member}
+use Rattle.type_terms.proofs.Fitting.{no-left, child-shut, next-shut}
+use Rattle.type_terms.proofs.Walking.{left, right, both}
+use Rattle.type_terms.proofs.RenumberedRules.{any-over}
+use Rattle.type_terms.proofs.TermRules.{filter-map}
 use Rattle.infer_table.specs.Canonical.{CanonicalForm}
 use Rattle.infer_table.specs.declared.canonical.CanonicalVarKind.{CanonicalVarKind}
 use Rattle.type_terms.specs.Made.{terms, is_made}
@@ -46,7 +46,7 @@ use Rattle.assembly_laws.proofs.ErasedRows.{HeadsStay, struct-head, declared-hea
 use Rattle.assembly_laws.proofs.HavingViews.{ProvesBy, SearchedThere}
 use Rattle.assembly_laws.proofs.NumberedViews.{proves-by, auto-of-struct}
 use Rattle.assembly_laws.proofs.ViewProofs.{view-proves}
-use Rattle.model.specs.Renumbering.{HoldsView}
+use Rattle.type_terms.specs.Renumbering.{HoldsView}
 use Rattle.assembly_laws.proofs.Solver.{solutions-by-candidates}
 
 -- ---- the bounds of traits are up to lifetimes

@@ -1,15 +1,15 @@
 -- Proofs of facts are proofs of the model.
 use Rattle.std.proofs.Common.{◌≡◌, ℕ, Bool, true, false, ◌&&◌, if◌then◌else◌, List, [], ◌∷◌, filter, map, inl, inr, refl, sym, ◌∙◌, ap, subst}
-use Rattle.model.specs.Trees.{Trees, none, tree}
-use Rattle.model.specs.Codes.{same, same_label, same_numbers, numbers}
-use Rattle.model.specs.Worlds.{World, Reference}
-use Rattle.model.specs.Rules.{rules, is_coinductive}
-use Rattle.model.specs.Proofs.{In}
+use Rattle.type_terms.specs.Trees.{Trees, none, tree}
+use Rattle.type_terms.specs.Codes.{same, same_label, same_numbers, numbers}
+use Rattle.type_terms.specs.Worlds.{World, Reference}
+use Rattle.type_terms.specs.Rules.{rules, is_coinductive}
+use Rattle.type_terms.specs.Proofs.{In}
 use Rattle.evaluation.specs.Lists.{Every, IsAmong}
 use Rattle.evaluation.specs.Proof.{HasProof, facts, Continues}
 use Rattle.evaluation.proofs.ListLaws.{Every-mono, Every-at, both-left, both-right}
-use Rattle.model.proofs.Matching.{same-sound}
-use Rattle.model.proofs.Members.{self-number}
+use Rattle.type_terms.proofs.Matching.{same-sound}
+use Rattle.type_terms.proofs.Members.{self-number}
 use Rattle.evaluation.specs.ByRules.{HasRule, HasProofByRules}
 use Rattle.evaluation.proofs.ByRules.{proofs_are_proofs}
 use Rattle.evaluation.specs.Content.{Fact}

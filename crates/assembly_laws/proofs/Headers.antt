@@ -1,12 +1,12 @@
 -- A header or clause of an impl, over variables of a candidate, is read as the instance by the impl's arguments.
 use Rattle.std.proofs.Common.{◌≡◌, ℕ, zero, suc, ◌+◌, Bool, true, false, not, ◌&&◌, ◌||◌, ◌==◌, if◌then◌else◌, List, [], ◌∷◌, ◌++◌, length, refl, sym, ◌∙◌, ap, arith}
-use Rattle.model.specs.Label.{Label, Sort, of_type, of_const, of_lifetime, dynamic, static, fn_ptr, auto_trait, principal, param, placeholder, infer, canonical, bound, predicate}
-use Rattle.model.specs.Label.{never}
-use Rattle.model.specs.Label.{value}
-use Rattle.model.specs.Trees.{Trees, none, tree, leaf, ◌+++◌, IsA, is_no_tree, is_sort, sort_of, nth, instantiate, shift, some_node}
-use Rattle.model.proofs.Fitting.{child-shut, next-shut}
-use Rattle.model.proofs.Members.{self-number}
-use Rattle.model.proofs.Walking.{left, right}
+use Rattle.type_terms.specs.Label.{Label, Sort, of_type, of_const, of_lifetime, dynamic, static, fn_ptr, auto_trait, principal, param, placeholder, infer, canonical, bound, predicate}
+use Rattle.type_terms.specs.Label.{never}
+use Rattle.type_terms.specs.Label.{value}
+use Rattle.type_terms.specs.Trees.{Trees, none, tree, leaf, ◌+++◌, IsA, is_no_tree, is_sort, sort_of, nth, instantiate, shift, some_node}
+use Rattle.type_terms.proofs.Fitting.{child-shut, next-shut}
+use Rattle.type_terms.proofs.Members.{self-number}
+use Rattle.type_terms.proofs.Walking.{left, right}
 use Rattle.type_terms.specs.Made.{terms}
 use Rattle.type_terms.specs.Made.{bounds}
 use Rattle.type_terms.specs.Made.{traits}

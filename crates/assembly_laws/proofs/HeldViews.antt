@@ -1,17 +1,17 @@
 -- Declarations whose terms an interner holds are declared well, but for what is left to be told of them.
 use Rattle.std.proofs.Common.{◌≡◌, ℕ, Bool, true, false, not, ◌&&◌, List, [], ◌∷◌, map, ◌⊎◌, inl, inr, refl, sym, ◌∙◌, ap, subst, ◌≢◌}
 use Rattle.std.specs.List.{list_all}
-use Rattle.model.specs.Label.{of_type}
-use Rattle.model.specs.Trees.{Trees, none, tree, erase, some_node, IsA, Single}
-use Rattle.model.specs.Worlds.{World, Reference, StructDecl, TraitDecl, ImplDecl}
-use Rattle.model.specs.Terms.{erased_reference, erased_struct, erased_trait, erased_impl}
-use Rattle.model.specs.LinkedSet.{is_stray, all_args, all_written}
-use Rattle.model.specs.Proofs.{In}
-use Rattle.model.proofs.Members.{here, there, in-nothing, in-cases}
-use Rattle.model.proofs.Entries.{map-in}
-use Rattle.model.proofs.NoHolds.{member-each}
-use Rattle.model.proofs.Fitting.{not-true}
-use Rattle.model.proofs.Walking.{left, right, both}
+use Rattle.type_terms.specs.Label.{of_type}
+use Rattle.type_terms.specs.Trees.{Trees, none, tree, erase, some_node, IsA, Single}
+use Rattle.type_terms.specs.Worlds.{World, Reference, StructDecl, TraitDecl, ImplDecl}
+use Rattle.type_terms.specs.Erased.{erased_reference, erased_struct, erased_trait, erased_impl}
+use Rattle.type_terms.specs.LinkedSet.{is_stray, all_args, all_written}
+use Rattle.type_terms.specs.Proofs.{In}
+use Rattle.type_terms.proofs.Members.{here, there, in-nothing, in-cases}
+use Rattle.type_terms.proofs.ProofEntries.{map-in}
+use Rattle.type_terms.proofs.NoHolds.{member-each}
+use Rattle.type_terms.proofs.Fitting.{not-true}
+use Rattle.type_terms.proofs.Walking.{left, right, both}
 use Rattle.type_terms.specs.Made.{terms, is_made, is_in_range}
 use Rattle.type_terms.specs.Terms.{Entry, Has, Lawful, trees_at, types, args_lists, bounds_lists}
 use Rattle.term_folds.specs.declared.predicate.TraitRef.{TraitRef}

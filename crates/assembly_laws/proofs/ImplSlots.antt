@@ -1,9 +1,9 @@
 -- The terms for an impl's parameters as slots have them: the header and the clauses are read with them as with the terms.
 use Rattle.std.proofs.Common.{◌≡◌, ℕ, zero, suc, ◌+◌, Bool, true, false, if◌then◌else◌, List, [], ◌∷◌, ◌++◌, map, length, refl, sym, ◌∙◌, ap, Some, arith}
-use Rattle.model.specs.Label.{Label, Sort, of_type, of_const, of_lifetime, placeholder, infer, canonical, param, bound, static}
-use Rattle.model.specs.Label.{never}
-use Rattle.model.specs.Label.{value}
-use Rattle.model.specs.Trees.{Trees, none, tree, leaf, ◌+++◌, is_a, some_node, placed, erase_label}
+use Rattle.type_terms.specs.Label.{Label, Sort, of_type, of_const, of_lifetime, placeholder, infer, canonical, param, bound, static}
+use Rattle.type_terms.specs.Label.{never}
+use Rattle.type_terms.specs.Label.{value}
+use Rattle.type_terms.specs.Trees.{Trees, none, tree, leaf, ◌+++◌, is_a, some_node, placed, erase_label}
 use Rattle.type_terms.specs.Made.{terms}
 use Rattle.type_terms.specs.Made.{is_made}
 use Rattle.infer_table.specs.Solutions.{HasValues}
@@ -20,7 +20,7 @@ use Rattle.assembly_laws.specs.Candidates.{is_param, kind_of_param, kinds_of_par
 use Rattle.assembly_laws.specs.Cover.{padded}
 use Rattle.assembly_laws.proofs.Reading.{true-false}
 use Rattle.assembly_laws.proofs.Headers.{behind-at, child-some, next-some, here-some}
-use Rattle.model.proofs.Walking.{left, right}
+use Rattle.type_terms.proofs.Walking.{left, right}
 
 -- ---- slots have their sort
 pub sort-again : (k : Sort) (t : Trees) → is_a k (leaf (default_label k)) ≡ true → of_sort k (of_sort k t) ≡ of_sort k t

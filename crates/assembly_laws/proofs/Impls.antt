@@ -1,18 +1,18 @@
 -- The rule of an impl that concludes a solution is the impl's candidate.
 use Rattle.std.proofs.Common.{◌≡◌, ℕ, zero, suc, ◌+◌, Bool, true, false, not, ◌&&◌, ◌||◌, ◌==◌, if◌then◌else◌, List, [], ◌∷◌, map, length, ◌⊎◌, inl, inr, refl, sym, ◌∙◌, ap, subst, Some, arith}
 use Rattle.std.specs.List.{flat_map, list_all}
-use Rattle.model.specs.Label.{Label, Sort, of_type, of_const, of_lifetime, param}
-use Rattle.model.specs.Label.{never}
-use Rattle.model.specs.Trees.{Trees, none, tree, leaf, ◌+++◌, is_a, IsA, Fits, is_sort, nth, instantiate, some_node, first_of, standing_at, arguments_from, arguments, erase_label}
-use Rattle.model.specs.Worlds.{World, Reference, StructDecl, TraitDecl, ImplDecl, with_args, all_with_args}
-use Rattle.model.specs.Rules.{Rule, impl_rules, same_head, is_coinductive}
-use Rattle.model.specs.Codes.{same_label, numbers}
-use Rattle.model.specs.Proofs.{In}
-use Rattle.model.specs.Answers.{is_closed, is_open}
-use Rattle.model.proofs.Members.{here, there, in-nothing, in-cases, in-flat, self-number, same-number}
-use Rattle.model.proofs.Fitting.{ByImpl, impl-rule, closed-arguments}
-use Rattle.model.proofs.NoHolds.{member-each}
-use Rattle.model.proofs.Walking.{left, right, or-cases}
+use Rattle.type_terms.specs.Label.{Label, Sort, of_type, of_const, of_lifetime, param}
+use Rattle.type_terms.specs.Label.{never}
+use Rattle.type_terms.specs.Trees.{Trees, none, tree, leaf, ◌+++◌, is_a, IsA, Fits, is_sort, nth, instantiate, some_node, first_of, standing_at, arguments_from, arguments, erase_label}
+use Rattle.type_terms.specs.Worlds.{World, Reference, StructDecl, TraitDecl, ImplDecl, with_args, all_with_args}
+use Rattle.type_terms.specs.Rules.{Rule, impl_rules, same_head, is_coinductive}
+use Rattle.type_terms.specs.Codes.{same_label, numbers}
+use Rattle.type_terms.specs.Proofs.{In}
+use Rattle.type_terms.specs.Answers.{is_closed, is_open}
+use Rattle.type_terms.proofs.Members.{here, there, in-nothing, in-cases, in-flat, self-number, same-number}
+use Rattle.type_terms.proofs.Fitting.{ByImpl, impl-rule, closed-arguments}
+use Rattle.type_terms.proofs.NoHolds.{member-each}
+use Rattle.type_terms.proofs.Walking.{left, right, or-cases}
 use Rattle.type_terms.specs.Made.{terms}
 use Rattle.type_terms.specs.Made.{is_made}
 use Rattle.infer_table.specs.declared.canonical.CanonicalVarKind.TheVariants.{Ty, Const, Region}

@@ -1,10 +1,10 @@
 -- Instances of what is declared, over terms that are put in for variables.
 use Rattle.std.proofs.Common.{◌≡◌, ℕ, zero, suc, Bool, true, false, not, ◌&&◌, ◌||◌, List, refl, sym, ◌∙◌, ap, subst}
-use Rattle.model.specs.Label.{Label, Sort, of_type, of_const, of_lifetime, dynamic, static, fn_ptr, auto_trait, principal, param, placeholder, infer, canonical, bound, predicate}
-use Rattle.model.specs.Trees.{Trees, none, tree, leaf, ◌+++◌, is_no_tree, is_sort, sort_of, nth, instantiate, shift, some_node}
-use Rattle.model.specs.Answers.{is_open}
-use Rattle.model.proofs.Fitting.{head-shut, child-shut, next-shut, no-left}
-use Rattle.model.proofs.Walking.{left, right}
+use Rattle.type_terms.specs.Label.{Label, Sort, of_type, of_const, of_lifetime, dynamic, static, fn_ptr, auto_trait, principal, param, placeholder, infer, canonical, bound, predicate}
+use Rattle.type_terms.specs.Trees.{Trees, none, tree, leaf, ◌+++◌, is_no_tree, is_sort, sort_of, nth, instantiate, shift, some_node}
+use Rattle.type_terms.specs.Answers.{is_open}
+use Rattle.type_terms.proofs.Fitting.{head-shut, child-shut, next-shut, no-left}
+use Rattle.type_terms.proofs.Walking.{left, right}
 use Rattle.type_terms.specs.Made.{terms}
 use Rattle.type_terms.specs.Made.{bounds}
 use Rattle.type_terms.specs.Made.{traits}

@@ -1,15 +1,15 @@
 -- What is knowable with unknowns is known whatever they stand for.
 use Rattle.std.proofs.Common.{◌≡◌, ℕ, Bool, true, false, not, ◌&&◌, ◌||◌, ◌==◌, if◌then◌else◌, List, [], ◌∷◌, ◌++◌, refl, sym, ◌∙◌, ap, subst, Option, Some, None}
 use Rattle.std.specs.List.{list_all, list_any}
-use Rattle.model.specs.Label.{Label, of_type, of_const, of_lifetime, dynamic, static, adt, auto_trait, principal, param, placeholder, infer, canonical, bound, predicate}
-use Rattle.model.specs.Label.{value}
-use Rattle.model.specs.Label.{ref}
-use Rattle.model.specs.Trees.{Trees, none, tree, leaf, ◌+++◌, is_a, is_no_tree, is_sort, sort_of}
-use Rattle.model.specs.Worlds.{World, Reference, StructDecl, structs_named}
-use Rattle.model.specs.Walks.{local, struct_leaf, other_leaf, struct_is, trait_is, is_home, dyn_met, visited, is_known_in, item_in, until_decisive, ends_local}
-use Rattle.model.specs.Walks.{entered}
-use Rattle.model.specs.LinkedSet.{is_open_place}
-use Rattle.model.proofs.Walking.{left, right}
+use Rattle.type_terms.specs.Label.{Label, of_type, of_const, of_lifetime, dynamic, static, adt, auto_trait, principal, param, placeholder, infer, canonical, bound, predicate}
+use Rattle.type_terms.specs.Label.{value}
+use Rattle.type_terms.specs.Label.{ref}
+use Rattle.type_terms.specs.Trees.{Trees, none, tree, leaf, ◌+++◌, is_a, is_no_tree, is_sort, sort_of}
+use Rattle.type_terms.specs.Worlds.{World, Reference, StructDecl, structs_named}
+use Rattle.type_terms.specs.Walks.{local, struct_leaf, other_leaf, struct_is, trait_is, is_home, dyn_met, visited, is_known_in, item_in, until_decisive, ends_local}
+use Rattle.type_terms.specs.Walks.{entered}
+use Rattle.type_terms.specs.LinkedSet.{is_open_place}
+use Rattle.type_terms.proofs.Walking.{left, right}
 use Rattle.type_terms.specs.Made.{terms}
 use Rattle.type_terms.specs.Made.{bounds}
 use Rattle.type_terms.specs.Made.{is_leaf_label, is_made}

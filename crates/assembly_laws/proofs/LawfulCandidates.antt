@@ -1,15 +1,15 @@
 -- The candidates of a goal are lawful, where they are sound and narrow.
 use Rattle.std.proofs.Common.{◌≡◌, ℕ, ◌≤◌, ◌==◌, max, Bool, true, false, not, ◌&&◌, ◌||◌, if◌then◌else◌, List, [], ◌∷◌, map, length, ◌⊎◌, inl, inr, refl, sym, ap, subst, arith, Option, Some, None}
 use Rattle.std.specs.List.{list_all}
-use Rattle.model.specs.Label.{of_trait, predicate}
-use Rattle.model.specs.Trees.{Trees, none, tree, some_node}
-use Rattle.model.specs.Worlds.{World, Reference, StructDecl, TraitDecl, ImplDecl}
-use Rattle.model.specs.Rules.{unsize, is_coinductive}
-use Rattle.model.specs.Answers.{written_in}
-use Rattle.model.specs.Proofs.{In}
-use Rattle.model.proofs.Members.{here, there, in-cases, in-nothing}
-use Rattle.model.proofs.NoHolds.{member-each}
-use Rattle.model.proofs.Walking.{left, right}
+use Rattle.type_terms.specs.Label.{of_trait, predicate}
+use Rattle.type_terms.specs.Trees.{Trees, none, tree, some_node}
+use Rattle.type_terms.specs.Worlds.{World, Reference, StructDecl, TraitDecl, ImplDecl}
+use Rattle.type_terms.specs.Rules.{unsize, is_coinductive}
+use Rattle.type_terms.specs.Answers.{written_in}
+use Rattle.type_terms.specs.Proofs.{In}
+use Rattle.type_terms.proofs.Members.{here, there, in-cases, in-nothing}
+use Rattle.type_terms.proofs.NoHolds.{member-each}
+use Rattle.type_terms.proofs.Walking.{left, right}
 use Rattle.type_terms.specs.Made.{terms}
 use Rattle.type_terms.specs.Made.{is_made}
 use Rattle.infer_table.specs.Canonical.{CanonicalForm}

@@ -1,13 +1,13 @@
 -- The where-clauses of a goal are lawful candidates.
 use Rattle.std.proofs.Common.{◌≡◌, ℕ, suc, ◌==◌, Bool, true, not, ◌&&◌, if◌then◌else◌, List, [], ◌∷◌, ◌++◌, ◌⊎◌, inl, inr, refl, sym, ◌∙◌, ap, subst}
 use Rattle.std.specs.List.{flat_map}
-use Rattle.model.specs.Label.{Label, param, placeholder, infer, canonical, bound, of_trait, predicate}
-use Rattle.model.specs.Trees.{Trees, none, tree}
-use Rattle.model.specs.Worlds.{World, Reference}
-use Rattle.model.specs.Answers.{is_open}
-use Rattle.model.specs.Rules.{Rule, Way, by_clause, same_reference, clause_rules, super_rules, strict_supertraits, built_in_rules, impl_rules}
-use Rattle.model.specs.Proofs.{In}
-use Rattle.model.proofs.Members.{here, there, in-nothing, in-cases, in-left, in-right, same-number, self-number}
+use Rattle.type_terms.specs.Label.{Label, param, placeholder, infer, canonical, bound, of_trait, predicate}
+use Rattle.type_terms.specs.Trees.{Trees, none, tree}
+use Rattle.type_terms.specs.Worlds.{World, Reference}
+use Rattle.type_terms.specs.Answers.{is_open}
+use Rattle.type_terms.specs.Rules.{Rule, Way, by_clause, same_reference, clause_rules, super_rules, strict_supertraits, built_in_rules, impl_rules}
+use Rattle.type_terms.specs.Proofs.{In}
+use Rattle.type_terms.proofs.Members.{here, there, in-nothing, in-cases, in-left, in-right, same-number, self-number}
 use Rattle.type_terms.specs.Made.{terms}
 use Rattle.type_terms.specs.Made.{is_made}
 use Rattle.infer_table.specs.Canonical.{CanonicalForm}
@@ -17,7 +17,7 @@ use Rattle.evaluation.specs.Instances.{read_with}
 use Rattle.evaluation.specs.Content.{fits, given, Terms}
 use Rattle.evaluation.specs.FrameTables.{Allows, Meets, is_open_label}
 use Rattle.type_terms.proofs.Made.{false-true}
-use Rattle.model.proofs.Walking.{left, right}
+use Rattle.type_terms.proofs.Walking.{left, right}
 use Rattle.evaluation.proofs.Labels.{made-more}
 use Rattle.evaluation.specs.TableOperations.{begin}
 use Rattle.evaluation.specs.TableOperations.{fresh}

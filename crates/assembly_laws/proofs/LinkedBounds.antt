@@ -1,7 +1,7 @@
 -- The supertraits of a solution are solutions.
 use Rattle.std.proofs.Common.{◌≡◌, ℕ, true, List, map}
-use Rattle.model.specs.Trees.{Trees}
-use Rattle.model.specs.Worlds.{World, Reference}
+use Rattle.type_terms.specs.Trees.{Trees}
+use Rattle.type_terms.specs.Worlds.{World, Reference}
 use Rattle.evaluation.specs.Lists.{Every}
 use Rattle.evaluation.proofs.ListLaws.{Every-map}
 use Rattle.declarations.specs.Elaboration.{supertraits}

@@ -1,9 +1,9 @@
 -- A header or clause over variables of a candidate: how it is made, which variables stand there, and when two readings agree.
 use Rattle.std.proofs.Common.{◌≡◌, ℕ, ◌+◌, ◌==◌, Bool, true, false, not, ◌&&◌, ◌||◌, if◌then◌else◌, List, ◌⊎◌, inl, inr, refl, sym, ◌∙◌, ap, subst, arith, None}
 use Rattle.std.proofs.lemmas.Bool.Decides.{nat_tests}
-use Rattle.model.specs.Label.{Label, Sort, of_type, of_const, of_lifetime, static, param, placeholder, infer, canonical, bound, char, dynamic, principal, auto_trait, predicate}
-use Rattle.model.specs.Label.{bool}
-use Rattle.model.specs.Trees.{Trees, none, tree, leaf, ◌+++◌, is_sort, sort_of, is_no_tree, is_a, some_node}
+use Rattle.type_terms.specs.Label.{Label, Sort, of_type, of_const, of_lifetime, static, param, placeholder, infer, canonical, bound, char, dynamic, principal, auto_trait, predicate}
+use Rattle.type_terms.specs.Label.{bool}
+use Rattle.type_terms.specs.Trees.{Trees, none, tree, leaf, ◌+++◌, is_sort, sort_of, is_no_tree, is_a, some_node}
 use Rattle.type_terms.specs.Made.{terms}
 use Rattle.type_terms.specs.Made.{bounds}
 use Rattle.type_terms.specs.Made.{is_leaf_label, is_made}
@@ -13,7 +13,7 @@ use Rattle.evaluation.specs.Content.{given}
 use Rattle.evaluation.specs.FrameTables.{Equation, is_open_label, term_of}
 use Rattle.type_terms.proofs.Made.{false-true}
 use Rattle.type_terms.proofs.Made.{is_ordinary}
-use Rattle.model.proofs.Walking.{left, right}
+use Rattle.type_terms.proofs.Walking.{left, right}
 use Rattle.evaluation.proofs.Labels.{IsLeafFor, PutsLeaves, made-put-in}
 use Rattle.assembly_laws.proofs.Plain.{is-sort}
 use Rattle.assembly_laws.specs.Declared.{is_declared}

@@ -1,11 +1,11 @@
 -- The premises of built-in rules, and the arguments of bounds and supertraits, are no wider than the goal and what is declared.
 use Rattle.std.proofs.Common.{ℕ, zero, suc, ◌≤◌, Bool, true, false, not, ◌&&◌, if◌then◌else◌, ◌==◌, List, [], ◌∷◌, ◌++◌, map, arith}
-use Rattle.model.specs.Label.{Label, bool, char, never, str, int, uint, array, slice, tuple, dynamic, adt, fn_ptr, principal, auto_trait, ref, raw_pointer}
-use Rattle.model.specs.Trees.{Trees, none, tree, leaf, instantiate, ◌+++◌}
-use Rattle.model.specs.Worlds.{World, Reference, StructDecl, TraitDecl, structs_named}
-use Rattle.model.specs.Rules.{Rule, row, sized_struct, auto_struct, unsize_to_dyn, sized, unsize, is_dyn, is_written, asked, each_asked, last_asked, together, fields_of, sized_rules, copy_rules, auto_rules, auto_rules_plain, tuple_rules, fn_ptr_rules, unsize_to_dyn_rules, are_dyn_compatible, principal_with, autos_with, but_last, is_unsizing, with_unsizing, last_unsizes}
-use Rattle.model.specs.Proofs.{In}
-use Rattle.model.proofs.Members.{in-filter}
+use Rattle.type_terms.specs.Label.{Label, bool, char, never, str, int, uint, array, slice, tuple, dynamic, adt, fn_ptr, principal, auto_trait, ref, raw_pointer}
+use Rattle.type_terms.specs.Trees.{Trees, none, tree, leaf, instantiate, ◌+++◌}
+use Rattle.type_terms.specs.Worlds.{World, Reference, StructDecl, TraitDecl, structs_named}
+use Rattle.type_terms.specs.Rules.{Rule, row, sized_struct, auto_struct, unsize_to_dyn, sized, unsize, is_dyn, is_written, asked, each_asked, last_asked, together, fields_of, sized_rules, copy_rules, auto_rules, auto_rules_plain, tuple_rules, fn_ptr_rules, unsize_to_dyn_rules, are_dyn_compatible, principal_with, autos_with, but_last, is_unsizing, with_unsizing, last_unsizes}
+use Rattle.type_terms.specs.Proofs.{In}
+use Rattle.type_terms.proofs.Members.{in-filter}
 use Rattle.evaluation.specs.Lists.{Every}
 use Rattle.evaluation.specs.Widths.{count}
 use Rattle.evaluation.proofs.Widths.{IsWithin, within, width-within, count-append, within-append}

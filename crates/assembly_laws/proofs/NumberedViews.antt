@@ -1,23 +1,23 @@
 -- A linked set that holds a view by other numbers proves by it.
 use Rattle.std.proofs.Common.{◌≡◌, ℕ, ◌==◌, true, if◌then◌else◌, List, [], ◌∷◌, map, ◌⊎◌, inl, inr, refl, sym, ◌∙◌, subst}
 use Rattle.std.specs.List.{flat_map}
-use Rattle.model.specs.Label.{Label, adt, principal, auto_trait, predicate}
-use Rattle.model.specs.Trees.{Trees, none, tree}
-use Rattle.model.specs.Worlds.{World, Reference, TraitDecl, ImplDecl, view_of, sees, traits_named}
-use Rattle.model.specs.Rules.{Rule, rules, strict_supertraits, is_auto}
-use Rattle.model.specs.Proofs.{In, HasProof}
-use Rattle.model.specs.Proofs as Model
-use Rattle.model.specs.Answers.{is_closed}
-use Rattle.model.specs.Walks.{is_known, is_known_in}
-use Rattle.model.specs.LinkedSet.{is_stray, Unknown}
-use Rattle.model.specs.Renumbering.{View, Renumbering, HoldsView, view_before, renumbered, renumbered_label, renumbered_reference, renumbered_trait, renumbered_impl, renumbered_rule, asker_in_set}
-use Rattle.model.proofs.Members.{in-filter, filter-in, in-map, in-left, flat-in, some-member, member-some, self-number, not-both}
-use Rattle.model.proofs.NoHolds.{shut, every-member}
-use Rattle.model.proofs.WorkedProofs.{needs-rule}
-use Rattle.model.proofs.SupersProved.{supers-proved-for-all}
-use Rattle.model.proofs.ViewLaws.{view-gives-or-unknown, known-in-set, rule-in-view, super-in-set}
-use Rattle.model.proofs.RenumberedTrees.{over-some, over-closed}
-use Rattle.model.proofs.RenumberedRules.{auto-same}
+use Rattle.type_terms.specs.Label.{Label, adt, principal, auto_trait, predicate}
+use Rattle.type_terms.specs.Trees.{Trees, none, tree}
+use Rattle.type_terms.specs.Worlds.{World, Reference, TraitDecl, ImplDecl, view_of, sees, traits_named}
+use Rattle.type_terms.specs.Rules.{Rule, rules, strict_supertraits, is_auto}
+use Rattle.type_terms.specs.Proofs.{In, HasProof}
+use Rattle.type_terms.specs.Proofs as Model
+use Rattle.type_terms.specs.Answers.{is_closed}
+use Rattle.type_terms.specs.Walks.{is_known, is_known_in}
+use Rattle.type_terms.specs.LinkedSet.{is_stray, Unknown}
+use Rattle.type_terms.specs.Renumbering.{View, Renumbering, HoldsView, view_before, renumbered, renumbered_label, renumbered_reference, renumbered_trait, renumbered_impl, renumbered_rule, asker_in_set}
+use Rattle.type_terms.proofs.Members.{in-filter, filter-in, in-map, in-left, flat-in, some-member, member-some, self-number, not-both}
+use Rattle.type_terms.proofs.NoHolds.{shut, every-member}
+use Rattle.type_terms.proofs.WorkedProofs.{needs-rule}
+use Rattle.type_terms.proofs.SupersProved.{supers-proved-for-all}
+use Rattle.type_terms.proofs.ViewLaws.{view-gives-or-unknown, known-in-set, rule-in-view, super-in-set}
+use Rattle.type_terms.proofs.RenumberedTrees.{over-some, over-closed}
+use Rattle.type_terms.proofs.RenumberedRules.{auto-same}
 use Rattle.assembly_laws.specs.Meaning.{Meaning, LinkedWith, proved_in}
 use Rattle.assembly_laws.proofs.HavingViews.{ProvesBy}
 

@@ -1,20 +1,20 @@
 -- Object bounds: each reference that a `dyn` concludes is the instance of one that the candidates go over.
 use Rattle.std.proofs.Common.{◌≡◌, ℕ, zero, suc, Bool, true, false, not, ◌&&◌, ◌||◌, ◌==◌, if◌then◌else◌, List, [], ◌∷◌, ◌++◌, map, length, ◌⊎◌, inl, inr, refl, sym, ◌∙◌, ap, subst}
 use Rattle.std.specs.List.{flat_map, list_all, list_any}
-use Rattle.model.specs.Label.{Label, dynamic, principal}
-use Rattle.model.specs.Trees.{Trees, none, tree, some_node}
-use Rattle.model.specs.Worlds.{World, Reference, TraitDecl, traits_named, with_args, all_with_args}
-use Rattle.model.specs.Rules.{Rule, row, object_auto, object_principal, equal_rows, sized, same_reference, is_declared, are_dyn_compatible, principal_with, autos_with, elaborated, written_supertraits, strict_supertraits, strict_supertraits_within, object_rules, object_bound_rules}
-use Rattle.model.specs.Proofs.{In}
-use Rattle.model.specs.Answers.{is_open}
-use Rattle.model.specs.LinkedSet.{is_stray}
-use Rattle.model.proofs.Members.{here, there, in-nothing, in-cases, in-append, in-map, in-filter, in-flat, self-number}
-use Rattle.model.proofs.Entries.{map-in}
-use Rattle.model.proofs.Supertraits.{flat-same}
-use Rattle.model.proofs.Fitting.{same-reference-sound, child-shut, append-shut, or-no}
-use Rattle.model.proofs.NoHolds.{member-each}
-use Rattle.model.proofs.OpenWorld.{was-true}
-use Rattle.model.proofs.Walking.{left, right}
+use Rattle.type_terms.specs.Label.{Label, dynamic, principal}
+use Rattle.type_terms.specs.Trees.{Trees, none, tree, some_node}
+use Rattle.type_terms.specs.Worlds.{World, Reference, TraitDecl, traits_named, with_args, all_with_args}
+use Rattle.type_terms.specs.Rules.{Rule, row, object_auto, object_principal, equal_rows, sized, same_reference, is_declared, are_dyn_compatible, principal_with, autos_with, elaborated, written_supertraits, strict_supertraits, strict_supertraits_within, object_rules, object_bound_rules}
+use Rattle.type_terms.specs.Proofs.{In}
+use Rattle.type_terms.specs.Answers.{is_open}
+use Rattle.type_terms.specs.LinkedSet.{is_stray}
+use Rattle.type_terms.proofs.Members.{here, there, in-nothing, in-cases, in-append, in-map, in-filter, in-flat, self-number}
+use Rattle.type_terms.proofs.ProofEntries.{map-in}
+use Rattle.type_terms.proofs.Supertraits.{flat-same}
+use Rattle.type_terms.proofs.Fitting.{same-reference-sound, child-shut, append-shut, or-no}
+use Rattle.type_terms.proofs.NoHolds.{member-each}
+use Rattle.type_terms.proofs.OpenWorld.{was-true}
+use Rattle.type_terms.proofs.Walking.{left, right}
 use Rattle.type_terms.specs.Made.{bounds}
 use Rattle.type_terms.specs.Made.{is_made}
 use Rattle.evaluation.specs.Lists.{Every, SomeOf}

@@ -1,15 +1,15 @@
 -- The supertraits of an instance are the instances of the supertraits, through all levels, also where places are open; and plain if the instance is.
 use Rattle.std.proofs.Common.{◌≡◌, ℕ, zero, suc, ◌<◌, true, ◌==◌, List, [], ◌∷◌, map, length, ◌⊎◌, inl, inr, refl, sym, ◌∙◌, ap, subst, arith}
 use Rattle.std.specs.List.{flat_map}
-use Rattle.model.specs.Label.{principal, auto_trait}
-use Rattle.model.specs.Trees.{Trees, none, tree}
-use Rattle.model.specs.Worlds.{World, Reference, TraitDecl, traits_named, with_args, all_with_args}
-use Rattle.model.specs.Rules.{principal_with, autos_with, elaborated, written_supertraits, strict_supertraits, strict_supertraits_within}
-use Rattle.model.specs.Proofs.{In}
-use Rattle.model.proofs.Members.{here, there, in-nothing, in-cases, in-left, in-flat, in-filter, same-number}
-use Rattle.model.proofs.Entries.{map-in}
-use Rattle.model.proofs.Supertraits.{flat-same}
-use Rattle.model.proofs.Fitting.{child-shut, append-shut}
+use Rattle.type_terms.specs.Label.{principal, auto_trait}
+use Rattle.type_terms.specs.Trees.{Trees, none, tree}
+use Rattle.type_terms.specs.Worlds.{World, Reference, TraitDecl, traits_named, with_args, all_with_args}
+use Rattle.type_terms.specs.Rules.{principal_with, autos_with, elaborated, written_supertraits, strict_supertraits, strict_supertraits_within}
+use Rattle.type_terms.specs.Proofs.{In}
+use Rattle.type_terms.proofs.Members.{here, there, in-nothing, in-cases, in-left, in-flat, in-filter, same-number}
+use Rattle.type_terms.proofs.ProofEntries.{map-in}
+use Rattle.type_terms.proofs.Supertraits.{flat-same}
+use Rattle.type_terms.proofs.Fitting.{child-shut, append-shut}
 use Rattle.evaluation.specs.Lists.{Every}
 use Rattle.evaluation.specs.Instances.{read_with}
 use Rattle.evaluation.specs.Content.{given}

@@ -1,7 +1,7 @@
 -- Facts that every file needs.
 use Rattle.std.proofs.Common.{◌≡◌, true, refl}
-use Rattle.model.specs.Label.{Sort, of_type, of_const, of_lifetime}
-use Rattle.model.specs.Trees.{is_sort}
+use Rattle.type_terms.specs.Label.{Sort, of_type, of_const, of_lifetime}
+use Rattle.type_terms.specs.Trees.{is_sort}
 
 pub sort-self : (k : Sort) → is_sort k k ≡ true
 sort-self of_type = refl

@@ -1,6 +1,6 @@
 -- What the solver's laws rest on: that candidates are sound, narrow and few, and that their equations are of terms.
 use Rattle.std.specs.Prelude.{◌≡◌, ℕ, suc, ◌≤◌, ◌==◌, Bool, true, false, List, ◌∷◌, ◌++◌, length, Some}
-use Rattle.model.specs.Rules.{unsize, unsize_to_dyn_rules}
+use Rattle.type_terms.specs.Rules.{unsize, unsize_to_dyn_rules}
 use Rattle.infer_table.specs.Canonical.{CanonicalForm}
 use Rattle.infer_table.specs.declared.certainty.TypingMode.{TypingMode}
 use Rattle.infer_table.specs.Responses.{AnswerTrees}

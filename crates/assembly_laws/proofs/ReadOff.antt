@@ -2,12 +2,12 @@
 use Rattle.std.proofs.Common.{◌≡◌, ℕ, zero, suc, ◌+◌, ◌<◌, Bool, true, false, not, ◌&&◌, ◌||◌, ◌==◌, if◌then◌else◌, List, ◌⊎◌, inl, inr, refl, sym, ◌∙◌, ap, subst, arith, zero-add}
 use Rattle.std.specs.Prelude.{nat_lt}
 use Rattle.std.proofs.lemmas.Bool.Decides.{nat_tests}
-use Rattle.model.specs.Label.{Label, Sort, of_type, of_const, of_lifetime, static, fn_ptr, principal, param, placeholder, infer, canonical, bound, inside}
-use Rattle.model.specs.Label.{never}
-use Rattle.model.specs.Trees.{Trees, none, tree, leaf, ◌+++◌, is_a, is_sort, fits, nth, instantiate, some_node, first_of, standing_at, arguments_from, arguments}
-use Rattle.model.proofs.Fitting.{not-true, append-shut, child-shut, next-shut, first-shut, standing-shut, no-left, or-no}
-use Rattle.model.proofs.Matching.{first-left, nth-arguments}
-use Rattle.model.proofs.Members.{self-number, same-number}
+use Rattle.type_terms.specs.Label.{Label, Sort, of_type, of_const, of_lifetime, static, fn_ptr, principal, param, placeholder, infer, canonical, bound, inside}
+use Rattle.type_terms.specs.Label.{never}
+use Rattle.type_terms.specs.Trees.{Trees, none, tree, leaf, ◌+++◌, is_a, is_sort, fits, nth, instantiate, some_node, first_of, standing_at, arguments_from, arguments}
+use Rattle.type_terms.proofs.Fitting.{not-true, append-shut, child-shut, next-shut, first-shut, standing-shut, no-left, or-no}
+use Rattle.type_terms.proofs.Matching.{first-left, nth-arguments}
+use Rattle.type_terms.proofs.Members.{self-number, same-number}
 use Rattle.evaluation.specs.Instances.{read_with, put_in, default_label, of_sort, term_at}
 use Rattle.evaluation.specs.Content.{given}
 use Rattle.evaluation.proofs.Reading.{EachLabel}
@@ -22,7 +22,7 @@ use Rattle.assembly_laws.proofs.Instances.{Unbound, shift-unbound, nth-unbound}
 use Rattle.assembly_laws.proofs.Headers.{child-some, next-some, here-some}
 use Rattle.evaluation.proofs.Readings.{HasLeaves, made-leaves}
 use Rattle.assembly_laws.proofs.PlainRules.{Plain}
-use Rattle.model.proofs.Walking.{left, right, both, or-cases}
+use Rattle.type_terms.proofs.Walking.{left, right, both, or-cases}
 
 -- ---- what is declared, node by node
 -- a label that instances and readings leave as it is

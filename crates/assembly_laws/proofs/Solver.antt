@@ -1,13 +1,13 @@
 -- Each solution of a goal in a linked set is one by a candidate.
 use Rattle.std.proofs.Common.{◌≡◌, ℕ, zero, suc, Bool, true, false, not, ◌&&◌, ◌||◌, ◌==◌, if◌then◌else◌, List, [], ◌∷◌, ◌++◌, map, ◌⊎◌, inl, inr, refl, sym, ◌∙◌, ap, subst, Option, Some, None}
-use Rattle.model.specs.Label.{Label, of_type, of_const, of_lifetime, dynamic, slice, adt, principal, auto_trait, fn_ptr, param, placeholder, infer, canonical, bound, predicate}
-use Rattle.model.specs.Trees.{Trees, none, tree, is_no_tree, erase_label, some_node}
-use Rattle.model.specs.Worlds.{World, Reference}
-use Rattle.model.specs.Rules.{Rule, rules, is_fn_trait, call_rules, unsize, unsize_rules, unsize_array_rules, unsize_to_dyn_rules, unsize_upcast_rules, unsize_struct_rules, object_rules}
-use Rattle.model.specs.Proofs.{In}
-use Rattle.model.specs.Answers.{is_closed, is_open}
-use Rattle.model.proofs.Fitting.{child-shut, next-shut}
-use Rattle.model.proofs.Walking.{left, right}
+use Rattle.type_terms.specs.Label.{Label, of_type, of_const, of_lifetime, dynamic, slice, adt, principal, auto_trait, fn_ptr, param, placeholder, infer, canonical, bound, predicate}
+use Rattle.type_terms.specs.Trees.{Trees, none, tree, is_no_tree, erase_label, some_node}
+use Rattle.type_terms.specs.Worlds.{World, Reference}
+use Rattle.type_terms.specs.Rules.{Rule, rules, is_fn_trait, call_rules, unsize, unsize_rules, unsize_array_rules, unsize_to_dyn_rules, unsize_upcast_rules, unsize_struct_rules, object_rules}
+use Rattle.type_terms.specs.Proofs.{In}
+use Rattle.type_terms.specs.Answers.{is_closed, is_open}
+use Rattle.type_terms.proofs.Fitting.{child-shut, next-shut}
+use Rattle.type_terms.proofs.Walking.{left, right}
 use Rattle.type_terms.specs.Made.{terms}
 use Rattle.type_terms.specs.Made.{bounds}
 use Rattle.type_terms.specs.Made.{is_leaf_label, is_made}
@@ -42,7 +42,7 @@ use Rattle.assembly_laws.proofs.LinkedBounds.{goal-supers}
 use Rattle.assembly_laws.proofs.Objects.{objects-at}
 use Rattle.assembly_laws.proofs.Upcasts.{upcasts-at, upcasts-other}
 use Rattle.assembly_laws.proofs.StructUnsizing.{structs-at, structs-other}
-use Rattle.model.proofs.Members.{in-nothing, in-append}
+use Rattle.type_terms.proofs.Members.{in-nothing, in-append}
 use Rattle.assembly_laws.proofs.Impls.{impl-row}
 
 -- ---- the self type is known

@@ -1,11 +1,11 @@
 -- Where the equations of a candidate hold it is a rule of the view: what all kinds of candidates share, and where-clauses.
 use Rattle.std.proofs.Common.{◌≡◌, Bool, true, false, not, ◌&&◌, List, [], ◌∷◌, map, inl, inr, refl, sym, ◌∙◌, ap, subst, Option, Some, None}
-use Rattle.model.specs.Label.{of_trait, predicate}
-use Rattle.model.specs.Trees.{Trees, none, tree, some_node}
-use Rattle.model.specs.Worlds.{World, Reference}
-use Rattle.model.specs.Answers.{is_open}
-use Rattle.model.specs.Rules.{Way, rules}
-use Rattle.model.specs.Proofs.{In}
+use Rattle.type_terms.specs.Label.{of_trait, predicate}
+use Rattle.type_terms.specs.Trees.{Trees, none, tree, some_node}
+use Rattle.type_terms.specs.Worlds.{World, Reference}
+use Rattle.type_terms.specs.Answers.{is_open}
+use Rattle.type_terms.specs.Rules.{Way, rules}
+use Rattle.type_terms.specs.Proofs.{In}
 use Rattle.type_terms.specs.Made.{terms}
 use Rattle.type_terms.specs.Made.{is_made}
 use Rattle.infer_table.specs.Canonical.{CanonicalForm, GoalTrees}
@@ -16,7 +16,7 @@ use Rattle.evaluation.specs.Instances.{read_with}
 use Rattle.evaluation.specs.Content.{fits, given, Terms, trait_of}
 use Rattle.evaluation.specs.FrameTables.{FrameTable, Allows, Nested, fact}
 use Rattle.type_terms.proofs.Made.{false-true}
-use Rattle.model.proofs.Walking.{left, right}
+use Rattle.type_terms.proofs.Walking.{left, right}
 use Rattle.evaluation.specs.TableOperations.{begin}
 use Rattle.evaluation.specs.TableOperations.{fresh}
 use Rattle.assembly_laws.specs.Facts.{Follows, is_plain, is_unerased, clauses_of, beside}

@@ -1,15 +1,15 @@
 -- Impls are sound candidates: where the header is read as the goal, the impl's arguments can be read off the goal's instance.
 use Rattle.std.proofs.Common.{◌≡◌, ℕ, zero, ◌==◌, Bool, true, false, not, ◌&&◌, if◌then◌else◌, List, [], ◌∷◌, ◌++◌, map, length, refl, sym, ◌∙◌, ap, subst, Some}
 use Rattle.std.specs.List.{flat_map}
-use Rattle.model.specs.Label.{Sort, of_trait, predicate}
-use Rattle.model.specs.Trees.{Trees, none, tree, fits, some_node, instantiate, arguments}
-use Rattle.model.specs.Worlds.{World, Reference, ImplDecl, with_args, all_with_args}
-use Rattle.model.specs.Rules.{Rule, by_impl, impl_rules, same_reference, built_in_rules, clause_rules, is_coinductive}
-use Rattle.model.specs.Proofs.{In}
-use Rattle.model.proofs.Members.{here, there, in-left, flat-in, self-number, same-number}
-use Rattle.model.proofs.Fitting.{not-true, child-shut}
-use Rattle.model.proofs.NoHolds.{member-each}
-use Rattle.model.proofs.Walking.{left, both}
+use Rattle.type_terms.specs.Label.{Sort, of_trait, predicate}
+use Rattle.type_terms.specs.Trees.{Trees, none, tree, fits, some_node, instantiate, arguments}
+use Rattle.type_terms.specs.Worlds.{World, Reference, ImplDecl, with_args, all_with_args}
+use Rattle.type_terms.specs.Rules.{Rule, by_impl, impl_rules, same_reference, built_in_rules, clause_rules, is_coinductive}
+use Rattle.type_terms.specs.Proofs.{In}
+use Rattle.type_terms.proofs.Members.{here, there, in-left, flat-in, self-number, same-number}
+use Rattle.type_terms.proofs.Fitting.{not-true, child-shut}
+use Rattle.type_terms.proofs.NoHolds.{member-each}
+use Rattle.type_terms.proofs.Walking.{left, both}
 use Rattle.type_terms.specs.Made.{terms, is_made}
 use Rattle.infer_table.specs.Canonical.{CanonicalForm}
 use Rattle.evaluation.specs.Lists.{Every}

@@ -1,14 +1,14 @@
 -- Upcasts are sound candidates: the target's principal is equated with the source's, or with one of its supertraits.
 use Rattle.std.proofs.Common.{◌≡◌, ℕ, suc, ◌==◌, Bool, true, false, ◌&&◌, if◌then◌else◌, List, [], ◌∷◌, ◌++◌, map, ◌⊎◌, inl, inr, refl, sym, ◌∙◌, ap, subst, Some}
-use Rattle.model.specs.Label.{Label, of_type, dynamic, param, placeholder, infer, canonical, bound}
-use Rattle.model.specs.Trees.{Trees, none, tree, erase_label, is_sort}
-use Rattle.model.specs.Worlds.{World, Reference}
-use Rattle.model.specs.Rules.{Rule, Way, built_in, row, unsize, unsize_dyn, unsize_upcast, equal_rows, is_declared, same_reference, built_in_rules, unsize_rules, unsize_array_rules, unsize_to_dyn_rules, unsize_upcast_rules, unsize_struct_rules, upcasts_principal, upcasts_autos, are_declared, principal_with, autos_with, strict_supertraits}
+use Rattle.type_terms.specs.Label.{Label, of_type, dynamic, param, placeholder, infer, canonical, bound}
+use Rattle.type_terms.specs.Trees.{Trees, none, tree, erase_label, is_sort}
+use Rattle.type_terms.specs.Worlds.{World, Reference}
+use Rattle.type_terms.specs.Rules.{Rule, Way, built_in, row, unsize, unsize_dyn, unsize_upcast, equal_rows, is_declared, same_reference, built_in_rules, unsize_rules, unsize_array_rules, unsize_to_dyn_rules, unsize_upcast_rules, unsize_struct_rules, upcasts_principal, upcasts_autos, are_declared, principal_with, autos_with, strict_supertraits}
 use Rattle.std.specs.List.{list_all}
-use Rattle.model.specs.Proofs.{In}
-use Rattle.model.proofs.Members.{here, there, in-left, in-right, in-map, flat-in, same-number}
-use Rattle.model.proofs.Fitting.{head-shut, child-shut}
-use Rattle.model.proofs.Walking.{left, right, both}
+use Rattle.type_terms.specs.Proofs.{In}
+use Rattle.type_terms.proofs.Members.{here, there, in-left, in-right, in-map, flat-in, same-number}
+use Rattle.type_terms.proofs.Fitting.{head-shut, child-shut}
+use Rattle.type_terms.proofs.Walking.{left, right, both}
 use Rattle.type_terms.specs.Made.{terms, bounds, is_made}
 use Rattle.infer_table.specs.Canonical.{CanonicalForm}
 use Rattle.evaluation.specs.Lists.{Every}

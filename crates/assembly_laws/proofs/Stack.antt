@@ -1,13 +1,13 @@
 -- The stack of supertraits loses none: its fuel is enough, and what is written above what was taken is taken too.
 use Rattle.std.proofs.Common.{◌≡◌, ℕ, zero, suc, ◌+◌, ◌≤◌, Bool, true, false, ◌||◌, if◌then◌else◌, List, [], ◌∷◌, ◌++◌, length, ◌⊎◌, inl, inr, refl, sym, ◌∙◌, ap, subst, arith}
-use Rattle.model.specs.Worlds.{World, Reference}
-use Rattle.model.specs.Rules.{same_reference, written_supertraits, strict_supertraits, strict_supertraits_within}
-use Rattle.model.specs.Proofs.{In}
-use Rattle.model.proofs.Members.{here, there, in-nothing, in-cases, in-append, in-flat, flat-in, some-member, self-number}
-use Rattle.model.proofs.Fitting.{same-reference-sound}
+use Rattle.type_terms.specs.Worlds.{World, Reference}
+use Rattle.type_terms.specs.Rules.{same_reference, written_supertraits, strict_supertraits, strict_supertraits_within}
+use Rattle.type_terms.specs.Proofs.{In}
+use Rattle.type_terms.proofs.Members.{here, there, in-nothing, in-cases, in-append, in-flat, flat-in, some-member, self-number}
+use Rattle.type_terms.proofs.Fitting.{same-reference-sound}
 use Rattle.declarations.specs.Elaboration.{is_put, new_of, pushed, off_stack, all_levels, elaborate, supertraits}
-use Rattle.model.specs.Trees.{Trees, none, tree}
-use Rattle.model.specs.Codes.{same, same_label, numbers}
+use Rattle.type_terms.specs.Trees.{Trees, none, tree}
+use Rattle.type_terms.specs.Codes.{same, same_label, numbers}
 use Rattle.assembly_laws.proofs.Facts.{same-numbers-self}
 use Rattle.assembly_laws.proofs.Reading.{true-false}
 use Rattle.assembly_laws.proofs.Levels.{LeadDown, strict-closed, all-closed}

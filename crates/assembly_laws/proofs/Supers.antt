@@ -1,17 +1,17 @@
 -- The supertraits of a solution are solutions.
 use Rattle.std.proofs.Common.{◌≡◌, ℕ, zero, suc, Bool, true, false, not, ◌||◌, ◌==◌, if◌then◌else◌, List, [], ◌∷◌, ◌++◌, filter, length, ◌⊎◌, inl, inr, refl, sym, ◌∙◌, ap, subst}
 use Rattle.std.specs.List.{flat_map}
-use Rattle.model.specs.Label.{Label, param, placeholder, infer, canonical, bound, inside, shift_label}
-use Rattle.model.specs.Trees.{Trees, none, tree, nth, instantiate, shift, some_node}
-use Rattle.model.specs.Worlds.{World, Reference, TraitDecl, traits_named, with_args, all_with_args}
-use Rattle.model.specs.Rules.{written_supertraits, strict_supertraits, strict_supertraits_within}
-use Rattle.model.specs.Proofs.{In}
-use Rattle.model.specs.Proofs as Model
-use Rattle.model.specs.Answers.{is_closed, is_open}
-use Rattle.model.specs.LinkedSet.{is_stray}
-use Rattle.model.proofs.Members.{here, there, in-nothing, in-cases, in-flat, flat-in, in-map, in-filter}
-use Rattle.model.proofs.Entries.{map-in}
-use Rattle.model.proofs.Fitting.{head-shut, child-shut, next-shut, append-shut, or-no}
+use Rattle.type_terms.specs.Label.{Label, param, placeholder, infer, canonical, bound, inside, shift_label}
+use Rattle.type_terms.specs.Trees.{Trees, none, tree, nth, instantiate, shift, some_node}
+use Rattle.type_terms.specs.Worlds.{World, Reference, TraitDecl, traits_named, with_args, all_with_args}
+use Rattle.type_terms.specs.Rules.{written_supertraits, strict_supertraits, strict_supertraits_within}
+use Rattle.type_terms.specs.Proofs.{In}
+use Rattle.type_terms.specs.Proofs as Model
+use Rattle.type_terms.specs.Answers.{is_closed, is_open}
+use Rattle.type_terms.specs.LinkedSet.{is_stray}
+use Rattle.type_terms.proofs.Members.{here, there, in-nothing, in-cases, in-flat, flat-in, in-map, in-filter}
+use Rattle.type_terms.proofs.ProofEntries.{map-in}
+use Rattle.type_terms.proofs.Fitting.{head-shut, child-shut, next-shut, append-shut, or-no}
 use Rattle.evaluation.specs.Lists.{Every}
 use Rattle.evaluation.specs.Instances.{read_with}
 use Rattle.evaluation.specs.Content.{given}

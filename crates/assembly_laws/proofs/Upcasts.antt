@@ -1,17 +1,17 @@
 -- `dyn A: Unsize<dyn B>`: a rule of an instance is a candidate.
 use Rattle.std.proofs.Common.{◌≡◌, ℕ, suc, Bool, true, false, ◌&&◌, ◌||◌, ◌==◌, if◌then◌else◌, List, [], ◌∷◌, ◌++◌, map, length, ◌⊎◌, inl, inr, refl, sym, ◌∙◌, ap, subst}
 use Rattle.std.specs.List.{list_all, list_any}
-use Rattle.model.specs.Label.{Label, dynamic}
-use Rattle.model.specs.Trees.{Trees, none, tree}
-use Rattle.model.specs.Worlds.{World, Reference}
-use Rattle.model.specs.Rules.{Rule, same_reference, is_declared, are_declared, principal_with, autos_with, elaborated, strict_supertraits, upcasts_principal, upcasts_autos, unsize_upcast_rules}
-use Rattle.model.specs.Proofs.{In}
-use Rattle.model.specs.Answers.{is_open}
-use Rattle.model.proofs.Members.{here, there, in-nothing, in-cases, in-left, in-map, self-number}
-use Rattle.model.proofs.Entries.{map-in}
-use Rattle.model.proofs.Fitting.{same-reference-sound, child-shut}
-use Rattle.model.proofs.OpenWorld.{was-true}
-use Rattle.model.proofs.Walking.{left, right}
+use Rattle.type_terms.specs.Label.{Label, dynamic}
+use Rattle.type_terms.specs.Trees.{Trees, none, tree}
+use Rattle.type_terms.specs.Worlds.{World, Reference}
+use Rattle.type_terms.specs.Rules.{Rule, same_reference, is_declared, are_declared, principal_with, autos_with, elaborated, strict_supertraits, upcasts_principal, upcasts_autos, unsize_upcast_rules}
+use Rattle.type_terms.specs.Proofs.{In}
+use Rattle.type_terms.specs.Answers.{is_open}
+use Rattle.type_terms.proofs.Members.{here, there, in-nothing, in-cases, in-left, in-map, self-number}
+use Rattle.type_terms.proofs.ProofEntries.{map-in}
+use Rattle.type_terms.proofs.Fitting.{same-reference-sound, child-shut}
+use Rattle.type_terms.proofs.OpenWorld.{was-true}
+use Rattle.type_terms.proofs.Walking.{left, right}
 use Rattle.type_terms.specs.Made.{bounds}
 use Rattle.type_terms.specs.Made.{is_made}
 use Rattle.evaluation.specs.Lists.{SomeOf}

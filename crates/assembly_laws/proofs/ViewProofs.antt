@@ -1,15 +1,15 @@
 -- What has a proof by a view, together with its supertraits, follows by a rule of the view.
 use Rattle.std.proofs.Common.{◌≡◌, ℕ, true, if◌then◌else◌, []}
 use Rattle.std.specs.List.{flat_map}
-use Rattle.model.specs.Worlds.{World, Reference}
-use Rattle.model.specs.Rules.{Rule, rules, strict_supertraits}
-use Rattle.model.specs.Proofs.{In}
-use Rattle.model.specs.Elaborated.{HasElaboratedProof}
-use Rattle.model.specs.Answers.{is_closed}
-use Rattle.model.specs.Walks.{is_known_in}
-use Rattle.model.proofs.Members.{in-left, flat-in}
-use Rattle.model.proofs.NoHolds.{every-member}
-use Rattle.model.proofs.ElaboratedProofs.{elaborated-rule, elaborated-supers}
+use Rattle.type_terms.specs.Worlds.{World, Reference}
+use Rattle.type_terms.specs.Rules.{Rule, rules, strict_supertraits}
+use Rattle.type_terms.specs.Proofs.{In}
+use Rattle.type_terms.specs.Elaborated.{HasElaboratedProof}
+use Rattle.type_terms.specs.Answers.{is_closed}
+use Rattle.type_terms.specs.Walks.{is_known_in}
+use Rattle.type_terms.proofs.Members.{in-left, flat-in}
+use Rattle.type_terms.proofs.NoHolds.{every-member}
+use Rattle.type_terms.proofs.ElaboratedProofs.{elaborated-rule, elaborated-supers}
 use Rattle.assembly_laws.specs.Declared.{is_declared_view, LeadDown}
 use Rattle.assembly_laws.proofs.DeclaredParts.{bound-declared}
 use Rattle.assembly_laws.proofs.HavingViews.{ProvesBy}

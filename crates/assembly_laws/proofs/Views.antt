@@ -1,15 +1,15 @@
 -- What is proved in a linked set, by a crate's view.
 use Rattle.std.proofs.Common.{◌≡◌, false, List, [], ◌∷◌, ◌⊎◌, inl, inr, subst}
-use Rattle.model.specs.Worlds.{World, view_of}
-use Rattle.model.specs.Rules.{Rule, rules, strict_supertraits}
-use Rattle.model.specs.Proofs.{In, Every, HasProof}
-use Rattle.model.specs.Walks.{is_known_in}
-use Rattle.model.specs.LinkedSet.{Unknown}
-use Rattle.model.proofs.Members.{here, there, in-nothing, in-cases, not-both}
-use Rattle.model.proofs.WorkedProofs.{needs-rule}
-use Rattle.model.proofs.OpenWorld.{open-world}
-use Rattle.model.proofs.ViewKnown.{unknown-by-view}
-use Rattle.model.proofs.NoHolds.{supers-of-view}
+use Rattle.type_terms.specs.Worlds.{World, view_of}
+use Rattle.type_terms.specs.Rules.{Rule, rules, strict_supertraits}
+use Rattle.type_terms.specs.Proofs.{In, Every, HasProof}
+use Rattle.type_terms.specs.Walks.{is_known_in}
+use Rattle.type_terms.specs.LinkedSet.{Unknown}
+use Rattle.type_terms.proofs.Members.{here, there, in-nothing, in-cases, not-both}
+use Rattle.type_terms.proofs.WorkedProofs.{needs-rule}
+use Rattle.type_terms.proofs.OpenWorld.{open-world}
+use Rattle.type_terms.proofs.ViewKnown.{unknown-by-view}
+use Rattle.type_terms.proofs.NoHolds.{supers-of-view}
 use Rattle.assembly_laws.specs.Knowing.{WhatIsKnownFollowsByTheView, SupertraitsByTheViewStand}
 
 member : {A : Type 0} (P : A → Type 0) (xs : List A) (x : A) → Every P xs → In x xs → P x

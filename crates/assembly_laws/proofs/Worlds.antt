@@ -1,10 +1,10 @@
 -- In coherence the questions of a goal without where-clauses and placeholders have none.
 use Rattle.std.proofs.Common.{◌≡◌, ℕ, Bool, true, false, not, ◌||◌, if◌then◌else◌, List, [], ◌∷◌, map, length, refl, sym, ◌∙◌, ap, Option, Some, None}
 use Rattle.std.specs.Prelude.{option_map}
-use Rattle.model.specs.Label.{Label, of_type, of_const, of_lifetime, infer, param, placeholder, static}
-use Rattle.model.specs.Trees.{none}
-use Rattle.model.specs.Worlds.{World, Reference}
-use Rattle.model.specs.Rules.{is_coinductive}
+use Rattle.type_terms.specs.Label.{Label, of_type, of_const, of_lifetime, infer, param, placeholder, static}
+use Rattle.type_terms.specs.Trees.{none}
+use Rattle.type_terms.specs.Worlds.{World, Reference}
+use Rattle.type_terms.specs.Rules.{is_coinductive}
 use Rattle.infer_table.specs.Canonical.{CanonicalForm, kind_of_leaf, kind_in_clause, goal_leaves, canonical_label, relabeled}
 use Rattle.infer_table.specs.Solutions.{resolved}
 use Rattle.infer_table.specs.Unification.{TableTrees}
@@ -16,7 +16,7 @@ use Rattle.evaluation.specs.Instances.{put_in}
 use Rattle.evaluation.specs.Content.{Question}
 use Rattle.evaluation.specs.FrameTables.{kinds_known, good_in, FrameTable, IsMadeFrame, Nested, slot_at, goal_in}
 use Rattle.type_terms.proofs.Made.{false-true}
-use Rattle.model.proofs.Walking.{left}
+use Rattle.type_terms.proofs.Walking.{left}
 use Rattle.evaluation.specs.TableOperations.{begin, with_content}
 use Rattle.evaluation.proofs.TableBeginning.{begin-made}
 use Rattle.evaluation.proofs.Equating.{with-content-is}

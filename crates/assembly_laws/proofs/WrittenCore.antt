@@ -1,12 +1,12 @@
 -- The set of `core` alone holds `core` as it is written.
 use Rattle.std.proofs.Common.{◌==◌, [], refl}
-use Rattle.model.specs.Worlds.{World, CrateDecl, StructDecl, TraitDecl, view_of, core}
-use Rattle.model.specs.Terms.{erased_world}
-use Rattle.model.specs.Renumbering.{Permutation, Renumbering, IsRenumbering, renumbered_crate, renumbered_struct, renumbered_trait}
-use Rattle.model.specs.Core.{core_world}
-use Rattle.model.proofs.TermRules.{filter-map}
-use Rattle.model.proofs.CoreLinked.{core-linked}
-use Rattle.model.proofs.ViewLaws.{as-it-was}
+use Rattle.type_terms.specs.Worlds.{World, CrateDecl, StructDecl, TraitDecl, view_of, core}
+use Rattle.type_terms.specs.Erased.{erased_world}
+use Rattle.type_terms.specs.Renumbering.{Permutation, Renumbering, IsRenumbering, renumbered_crate, renumbered_struct, renumbered_trait}
+use Rattle.type_terms.specs.Core.{core_world}
+use Rattle.type_terms.proofs.TermRules.{filter-map}
+use Rattle.type_terms.proofs.CoreLinked.{core-linked}
+use Rattle.type_terms.proofs.ViewLaws.{as-it-was}
 use Rattle.assembly_laws.specs.WrittenCore.{written_core, WrittenCoreIsLinked}
 
 abbrev same : Permutation

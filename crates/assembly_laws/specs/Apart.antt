@@ -1,7 +1,7 @@
 -- Arguments that no impl can have in common with a goal.
 use Rattle.std.specs.Prelude.{Bool, ◌&&◌, ◌==◌, not}
-use Rattle.model.specs.Trees.{Trees, flags}
-use Rattle.model.specs.Codes.{same}
+use Rattle.type_terms.specs.Trees.{Trees, flags}
+use Rattle.type_terms.specs.Codes.{same}
 
 -- Nothing is open in them and no lifetime stands in them: whatever is put in, they stay as they are.
 abbrev pub is_fixed : Trees → Bool

@@ -1,12 +1,12 @@
 -- Each solution of a goal is one by a candidate.
 use Rattle.std.specs.Prelude.{◌≡◌, ℕ, ◌&&◌, true, false, List, [], ◌∷◌, ◌++◌, map, Some}
-use Rattle.model.specs.Label.{dynamic}
-use Rattle.model.specs.Trees.{Trees, none, tree}
+use Rattle.type_terms.specs.Label.{dynamic}
+use Rattle.type_terms.specs.Trees.{Trees, none, tree}
 use Rattle.type_terms.specs.Made.{terms}
 use Rattle.type_terms.specs.Made.{is_made}
-use Rattle.model.specs.Worlds.{World, Reference}
-use Rattle.model.specs.Rules.{principal_with}
-use Rattle.model.specs.Answers.{is_closed}
+use Rattle.type_terms.specs.Worlds.{World, Reference}
+use Rattle.type_terms.specs.Rules.{principal_with}
+use Rattle.type_terms.specs.Answers.{is_closed}
 use Rattle.infer_table.specs.Canonical.{CanonicalForm}
 use Rattle.infer_table.specs.declared.canonical.CanonicalVarKind.{CanonicalVarKind}
 use Rattle.evaluation.specs.Lists.{Every, SomeOf}

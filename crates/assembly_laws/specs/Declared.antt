@@ -1,10 +1,10 @@
 -- Declarations as they are to be, up to lifetimes.
 use Rattle.std.specs.Prelude.{◌≡◌, ◌≤◌, ◌<◌, ◌==◌, ℕ, suc, Bool, true, false, ◌&&◌, ◌||◌, not, nat_lt, List, length}
 use Rattle.std.specs.List.{list_all}
-use Rattle.model.specs.Label.{Label, Sort, of_lifetime, param, placeholder, infer, canonical, bound, fn_ptr, principal}
-use Rattle.model.specs.Trees.{Trees, is_sort, some_node, Single}
-use Rattle.model.specs.Worlds.{World, Reference, StructDecl, TraitDecl, ImplDecl, structs_named}
-use Rattle.model.specs.Proofs.{In}
+use Rattle.type_terms.specs.Label.{Label, Sort, of_lifetime, param, placeholder, infer, canonical, bound, fn_ptr, principal}
+use Rattle.type_terms.specs.Trees.{Trees, is_sort, some_node, Single}
+use Rattle.type_terms.specs.Worlds.{World, Reference, StructDecl, TraitDecl, ImplDecl, structs_named}
+use Rattle.type_terms.specs.Proofs.{In}
 use Rattle.type_terms.specs.Made.{terms}
 use Rattle.type_terms.specs.Made.{is_made}
 

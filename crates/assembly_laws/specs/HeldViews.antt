@@ -1,8 +1,8 @@
 -- Views of declarations whose terms an interner holds: what is left to be told of them.
 use Rattle.std.specs.Prelude.{◌≡◌, Bool, true, ◌&&◌, not, List, map}
-use Rattle.model.specs.Trees.{some_node}
-use Rattle.model.specs.Worlds.{World, StructDecl}
-use Rattle.model.specs.LinkedSet.{is_stray, all_written}
+use Rattle.type_terms.specs.Trees.{some_node}
+use Rattle.type_terms.specs.Worlds.{World, StructDecl}
+use Rattle.type_terms.specs.LinkedSet.{is_stray, all_written}
 use Rattle.type_terms.specs.Terms.{Entry, Lawful}
 use Rattle.declarations.specs.Items.{Items, declared}
 use Rattle.declarations.specs.Held.{AreHeld}

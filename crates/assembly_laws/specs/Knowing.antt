@@ -1,12 +1,12 @@
 -- What is known to a crate of references in a linked set.
 use Rattle.std.specs.Prelude.{◌≡◌, ℕ, true, IsTrue, List, []}
-use Rattle.model.specs.Worlds.{World, Reference, view_of}
-use Rattle.model.specs.Rules.{Rule, rules, strict_supertraits}
-use Rattle.model.specs.Proofs.{In, Every, HasProof}
-use Rattle.model.specs.Walks.{is_known_in}
-use Rattle.model.specs.Answers.{is_closed}
-use Rattle.model.specs.Renumbering.{View}
-use Rattle.model.specs.LinkedSet.{LinkedSet}
+use Rattle.type_terms.specs.Worlds.{World, Reference, view_of}
+use Rattle.type_terms.specs.Rules.{Rule, rules, strict_supertraits}
+use Rattle.type_terms.specs.Proofs.{In, Every, HasProof}
+use Rattle.type_terms.specs.Walks.{is_known_in}
+use Rattle.type_terms.specs.Answers.{is_closed}
+use Rattle.type_terms.specs.Renumbering.{View}
+use Rattle.type_terms.specs.LinkedSet.{LinkedSet}
 -- which references that may hold unknowns are known: those of which no other crate can have an impl for an instance
 pub use Rattle.orphan_check.specs.Knowing.{is_knowable}
 

@@ -2,10 +2,10 @@
 -- the fields up to lifetimes.
 use Rattle.std.specs.Prelude.{◌≡◌, ◌==◌, Bool, true, false, ◌&&◌, ◌||◌, not, Option, Some, None}
 use Rattle.std.specs.List.{list_all}
-use Rattle.model.specs.Label.{Label, of_lifetime, adt, param}
-use Rattle.model.specs.Trees.{Trees, tree, is_a, nth, some_node}
-use Rattle.model.specs.Worlds.{World, StructDecl, structs_named}
-use Rattle.model.specs.Rules.{unsize}
+use Rattle.type_terms.specs.Label.{Label, of_lifetime, adt, param}
+use Rattle.type_terms.specs.Trees.{Trees, tree, is_a, nth, some_node}
+use Rattle.type_terms.specs.Worlds.{World, StructDecl, structs_named}
+use Rattle.type_terms.specs.Rules.{unsize}
 use Rattle.infer_table.specs.Canonical.{CanonicalForm}
 use Rattle.assembly_laws.specs.Meaning.{Meaning}
 use Rattle.assembly_laws.specs.Asking.{Asked, asked, self_of, next_of}

@@ -1,11 +1,11 @@
 -- What declarations mean, and where solutions are looked for.
 use Rattle.std.specs.Prelude.{◌≡◌, ℕ, Bool, true, List, []}
-use Rattle.model.specs.Worlds.{World, CrateDecl, Reference, ImplDecl}
-use Rattle.model.specs.Terms.{erased_world}
-use Rattle.model.specs.Renumbering.{View, Renumbering, HoldsView, renumbered_reference}
-use Rattle.model.specs.Proofs.{In, HasProof}
-use Rattle.model.specs.Elaborated.{HasElaboratedProof}
-use Rattle.model.specs.LinkedSet.{LinkedSet}
+use Rattle.type_terms.specs.Worlds.{World, CrateDecl, Reference, ImplDecl}
+use Rattle.type_terms.specs.Erased.{erased_world}
+use Rattle.type_terms.specs.Renumbering.{View, Renumbering, HoldsView, renumbered_reference}
+use Rattle.type_terms.specs.Proofs.{In, HasProof}
+use Rattle.type_terms.specs.Elaborated.{HasElaboratedProof}
+use Rattle.type_terms.specs.LinkedSet.{LinkedSet}
 use Rattle.declarations.specs.Heads.{begins_declared}
 
 -- the declarations that a crate sees, as they are written, and the crate; and whether they are found to be declared well, and the goal to

@@ -1,10 +1,10 @@
 -- The solver: the plan of each goal, and what it means.
 use Rattle.std.specs.Prelude.{◌≡◌, ℕ, zero, ◌+◌, ◌*◌, max, Bool, true, false, ◌||◌, ◌&&◌, not, if◌then◌else◌, List, [], ◌∷◌, ◌++◌, map, length, Option, Some, None, is_some, fold}
 use Rattle.std.specs.List.{list_any}
-use Rattle.model.specs.Trees.{none, is_no_tree}
-use Rattle.model.specs.Worlds.{World, Reference, StructDecl, TraitDecl, ImplDecl}
-use Rattle.model.specs.Rules.{strict_supertraits, together}
-use Rattle.model.specs.Answers.{is_closed}
+use Rattle.type_terms.specs.Trees.{none, is_no_tree}
+use Rattle.type_terms.specs.Worlds.{World, Reference, StructDecl, TraitDecl, ImplDecl}
+use Rattle.type_terms.specs.Rules.{strict_supertraits, together}
+use Rattle.type_terms.specs.Answers.{is_closed}
 use Rattle.infer_table.specs.Canonical.{CanonicalForm}
 use Rattle.infer_table.specs.declared.canonical.CanonicalVarKind.{CanonicalVarKind}
 use Rattle.infer_table.specs.declared.canonical.CanonicalVarKind.TheVariants.{PlaceholderTy, PlaceholderConst}

@@ -1,9 +1,9 @@
 -- `core` as a text writes it stands in a linked set.
 use Rattle.std.specs.Prelude.{◌≡◌, true, [], map}
-use Rattle.model.specs.Label.{of_lifetime, ref, static, param}
-use Rattle.model.specs.Trees.{Trees, none, tree}
-use Rattle.model.specs.Worlds.{World, ImplDecl, core}
-use Rattle.model.specs.Core.{core_world}
+use Rattle.type_terms.specs.Label.{of_lifetime, ref, static, param}
+use Rattle.type_terms.specs.Trees.{Trees, none, tree}
+use Rattle.type_terms.specs.Worlds.{World, ImplDecl, core}
+use Rattle.type_terms.specs.Core.{core_world}
 use Rattle.assembly_laws.specs.Meaning.{Meaning, LinkedWith}
 use Rattle.assembly_laws.specs.DeclaredWell.{is_declared_well}
 

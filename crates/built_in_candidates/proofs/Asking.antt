@@ -1,8 +1,8 @@
 -- Goals and candidates while the interner grows.
 use Rattle.std.proofs.Common.{◌≡◌, List, [], ◌∷◌, refl, sym, ap}
-use Rattle.model.specs.Trees.{Trees}
-use Rattle.model.specs.Worlds.{World, Reference}
-use Rattle.model.specs.Rules.{Rule}
+use Rattle.type_terms.specs.Trees.{Trees}
+use Rattle.type_terms.specs.Worlds.{World, Reference}
+use Rattle.type_terms.specs.Rules.{Rule}
 use Rattle.type_terms.specs.Terms.{Entry, Keeps}
 use Rattle.infer_table.specs.declared.input.CanonicalInput.{CanonicalInput}
 use Rattle.infer_table.specs.Goals.{GoalHeld}

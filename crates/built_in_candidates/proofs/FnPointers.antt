@@ -2,10 +2,10 @@
 use Rattle.std.proofs.Common.{◌≡◌, false, List, [], ◌∷◌, ◌++◌, Some, None, refl, sym, ap, subst, ◌∙◌}
 use Rattle.std.specs.List.{slice_get}
 use Rattle.std.proofs.lemmas.Option.{same_Some}
-use Rattle.model.specs.Label.{Label, Sort, of_type, of_const, of_lifetime, tuple, fn_ptr, param, placeholder, infer, canonical, bound}
-use Rattle.model.specs.Trees.{Trees, none, tree, ◌+++◌, IsA, nth, is_no_tree}
-use Rattle.model.specs.Worlds.{World}
-use Rattle.model.specs.Rules.{but_last, last_asked, sized}
+use Rattle.type_terms.specs.Label.{Label, Sort, of_type, of_const, of_lifetime, tuple, fn_ptr, param, placeholder, infer, canonical, bound}
+use Rattle.type_terms.specs.Trees.{Trees, none, tree, ◌+++◌, IsA, nth, is_no_tree}
+use Rattle.type_terms.specs.Worlds.{World}
+use Rattle.type_terms.specs.Rules.{but_last, last_asked, sized}
 use Rattle.type_terms.specs.Terms.{Entry, Lawful, trees_at}
 use Rattle.type_terms.specs.Kinds.{ArgsHeld, TysHeld, args_trees, tys_trees}
 use Rattle.type_terms.specs.declared.kinds.GenericArgKind.{GenericArgKind}

@@ -1,8 +1,8 @@
 -- What is asked of declarations and goals stays true as the interner grows.
 use Rattle.std.proofs.Common.{◌≡◌, List, [], ◌∷◌, map, sym, subst, true}
 use Rattle.std.specs.Prelude.{◌==◌}
-use Rattle.model.specs.Trees.{Trees}
-use Rattle.model.specs.Rules.{unsize}
+use Rattle.type_terms.specs.Trees.{Trees}
+use Rattle.type_terms.specs.Rules.{unsize}
 use Rattle.type_terms.specs.Terms.{Entry, Keeps, Has, types, args_lists, trees_at}
 use Rattle.type_terms.specs.declared.AdtId.{AdtId}
 use Rattle.type_terms.specs.declared.kinds.Ty.{Ty}

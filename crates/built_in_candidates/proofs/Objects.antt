@@ -6,12 +6,12 @@ use Rattle.std.proofs.lemmas.List.{map-append}
 use Rattle.std.proofs.lemmas.List.Sums.{length-filter}
 use Rattle.std.proofs.lemmas.List.Folds.{list_any-append}
 use Rattle.std.proofs.lemmas.Option.{same_Some, slice_get-map}
-use Rattle.model.specs.Label.{Label, of_type, of_lifetime, of_const, dynamic, principal, auto_trait, param, placeholder, infer, canonical, bound}
-use Rattle.model.specs.Trees.{Trees, none, tree, leaf, nth, ◌+++◌, IsA, sort_of}
-use Rattle.model.specs.Worlds.{World, Reference, TraitDecl, traits_named}
-use Rattle.model.specs.Rules.{asked, sized, principal_with, autos_with, are_declared, are_dyn_compatible, upcasts_autos, elaborated}
-use Rattle.model.specs.Proofs.{In}
-use Rattle.model.proofs.Members.{some-member, member-some, same-number, true-or-false, so-false, not-both}
+use Rattle.type_terms.specs.Label.{Label, of_type, of_lifetime, of_const, dynamic, principal, auto_trait, param, placeholder, infer, canonical, bound}
+use Rattle.type_terms.specs.Trees.{Trees, none, tree, leaf, nth, ◌+++◌, IsA, sort_of}
+use Rattle.type_terms.specs.Worlds.{World, Reference, TraitDecl, traits_named}
+use Rattle.type_terms.specs.Rules.{asked, sized, principal_with, autos_with, are_declared, are_dyn_compatible, upcasts_autos, elaborated}
+use Rattle.type_terms.specs.Proofs.{In}
+use Rattle.type_terms.proofs.Members.{some-member, member-some, same-number, true-or-false, so-false, not-both}
 use Rattle.type_terms.specs.Terms.{Entry, Is, bounds_lists, trees_at}
 use Rattle.type_terms.specs.Kinds.{principal_trees, autos_trees, bounds_trees}
 use Rattle.type_terms.specs.declared.TraitId.{TraitId}

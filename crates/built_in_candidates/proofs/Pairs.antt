@@ -1,7 +1,7 @@
 -- Arguments as values, and equations between them.
 use Rattle.std.proofs.Common.{◌≡◌, true, false, List, [], ◌∷◌, ◌++◌, refl, sym, ap, subst, ◌∙◌, map}
-use Rattle.model.specs.Label.{Label, Sort, of_type, of_const, of_lifetime}
-use Rattle.model.specs.Trees.{Trees, none, tree, ◌+++◌, IsA, sort_of}
+use Rattle.type_terms.specs.Label.{Label, Sort, of_type, of_const, of_lifetime}
+use Rattle.type_terms.specs.Trees.{Trees, none, tree, ◌+++◌, IsA, sort_of}
 use Rattle.type_terms.specs.Terms.{Entry, Keeps, Lawful, consts, trees_at}
 use Rattle.type_terms.specs.Kinds.{ArgHeld, ArgsHeld, arg_trees, args_trees, region_label}
 use Rattle.type_terms.specs.declared.kinds.GenericArgKind.{GenericArgKind}

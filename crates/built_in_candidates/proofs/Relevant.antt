@@ -1,11 +1,11 @@
 -- The impls that can match a goal, by the heads of their self types, are those that do.
 use Rattle.std.proofs.Common.{◌≡◌, ℕ, Bool, true, false, cond, ◌&&◌, List, [], ◌∷◌, refl, ap, ◌∙◌}
 use Rattle.std.specs.Prelude.{◌==◌, map, filter}
-use Rattle.model.specs.Label.{Label, param}
-use Rattle.model.specs.Trees.{Trees, none, tree, nth, erase, erase_label}
-use Rattle.model.specs.Worlds.{ImplDecl}
-use Rattle.model.specs.Rules.{same_head}
-use Rattle.model.specs.Terms.{erased_impl}
+use Rattle.type_terms.specs.Label.{Label, param}
+use Rattle.type_terms.specs.Trees.{Trees, none, tree, nth, erase, erase_label}
+use Rattle.type_terms.specs.Worlds.{ImplDecl}
+use Rattle.type_terms.specs.Rules.{same_head}
+use Rattle.type_terms.specs.Erased.{erased_impl}
 use Rattle.type_terms.specs.Terms.{Entry, trees_at}
 use Rattle.term_folds.specs.Signatures.{StartsWithType}
 use Rattle.declarations.specs.Items.{Items, HeldImpl, impl_in, written}

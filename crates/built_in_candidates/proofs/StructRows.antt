@@ -2,11 +2,11 @@
 use Rattle.std.proofs.Common.{◌≡◌, ◌+◌, ℕ, zero, suc, Bool, true, false, ◌||◌, if◌then◌else◌, List, [], ◌∷◌, ◌++◌, map, length, refl, sym, ap, ◌∙◌, subst, arith, Some}
 use Rattle.std.specs.Prelude.{◌==◌, IfSome}
 use Rattle.std.specs.List.{flat_map, list_any}
-use Rattle.model.specs.Label.{Label, adt, of_type}
-use Rattle.model.specs.Trees.{Trees, none, tree, ◌+++◌, IsA}
-use Rattle.model.specs.Worlds.{World, Reference, StructDecl, structs_named}
-use Rattle.model.specs.Rules.{is_unsizing, some_unsizing, with_unsizing, last_unsizes}
-use Rattle.model.proofs.Members.{self-number, same-number}
+use Rattle.type_terms.specs.Label.{Label, adt, of_type}
+use Rattle.type_terms.specs.Trees.{Trees, none, tree, ◌+++◌, IsA}
+use Rattle.type_terms.specs.Worlds.{World, Reference, StructDecl, structs_named}
+use Rattle.type_terms.specs.Rules.{is_unsizing, some_unsizing, with_unsizing, last_unsizes}
+use Rattle.type_terms.proofs.Members.{self-number, same-number}
 use Rattle.type_terms.specs.Terms.{Entry, Lawful, trees_at}
 use Rattle.type_terms.specs.Kinds.{ArgHeld, ArgsHeld, arg_trees, args_trees}
 use Rattle.type_terms.specs.declared.kinds.GenericArgKind.{GenericArgKind}

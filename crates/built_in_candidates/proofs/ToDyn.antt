@@ -1,9 +1,9 @@
 -- Types that unsize to a `dyn`: what is read off the two types, and what is asked.
 use Rattle.std.proofs.Common.{◌≡◌, Bool, true, false, not, ◌&&◌, if◌then◌else◌, List, [], ◌∷◌, ◌++◌, refl, sym, ap, ◌∙◌, subst, Option, Some, None}
-use Rattle.model.specs.Label.{Label, of_type, of_lifetime, dynamic, param, placeholder, infer, canonical, bound, principal, auto_trait}
-use Rattle.model.specs.Trees.{Trees, none, tree, leaf, ◌+++◌, IsA, sort_of, erase_label}
-use Rattle.model.specs.Worlds.{World, Reference}
-use Rattle.model.specs.Rules.{asked, sized, is_dyn, row, unsize_to_dyn, unsize_to_dyn_rules, are_dyn_compatible, principal_with, autos_with}
+use Rattle.type_terms.specs.Label.{Label, of_type, of_lifetime, dynamic, param, placeholder, infer, canonical, bound, principal, auto_trait}
+use Rattle.type_terms.specs.Trees.{Trees, none, tree, leaf, ◌+++◌, IsA, sort_of, erase_label}
+use Rattle.type_terms.specs.Worlds.{World, Reference}
+use Rattle.type_terms.specs.Rules.{asked, sized, is_dyn, row, unsize_to_dyn, unsize_to_dyn_rules, are_dyn_compatible, principal_with, autos_with}
 use Rattle.type_terms.specs.Kinds.{bound_label, principal_trees, autos_trees, bounds_trees}
 use Rattle.type_terms.specs.Terms.{Entry}
 use Rattle.type_terms.specs.declared.TraitId.{TraitId}

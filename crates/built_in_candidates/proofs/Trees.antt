@@ -1,14 +1,14 @@
 -- Trees of types, one after the other, asked for a trait.
 use Rattle.std.proofs.Common.{◌≡◌, ℕ, List, [], ◌∷◌, ◌++◌, refl, sym, ap, subst, ◌∙◌, map}
-use Rattle.model.specs.Label.{of_type}
-use Rattle.model.specs.Trees.{Trees, none, tree, ◌+++◌, IsA, instantiate}
-use Rattle.model.specs.Worlds.{Reference}
-use Rattle.model.specs.Rules.{asked, each_asked, last_asked, together}
+use Rattle.type_terms.specs.Label.{of_type}
+use Rattle.type_terms.specs.Trees.{Trees, none, tree, ◌+++◌, IsA, instantiate}
+use Rattle.type_terms.specs.Worlds.{Reference}
+use Rattle.type_terms.specs.Rules.{asked, each_asked, last_asked, together}
 use Rattle.type_terms.specs.Terms.{Entry, Lawful, trees_at}
 use Rattle.type_terms.specs.Kinds.{TysHeld, tys_trees}
 use Rattle.type_terms.specs.declared.kinds.Ty.{Ty}
 use Rattle.infer_table.proofs.BindFacts.{type-is}
-use Rattle.model.proofs.TreeLaws.{append-none}
+use Rattle.type_terms.proofs.TreeLaws.{append-none}
 use Rattle.built_in_candidates.specs.Constituents.{types_asked, TypesHeld, last_of}
 
 pub one-asked : (t : ℕ) (x y : Trees) → IsA of_type x → each_asked t (x +++ y) ≡ asked t x ∷ each_asked t y

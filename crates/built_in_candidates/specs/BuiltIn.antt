@@ -1,7 +1,7 @@
 -- The candidates of built-in rules that read the self type alone, whatever trait the goal asks.
 use Rattle.std.specs.Prelude.{◌≡◌, List}
-use Rattle.model.specs.Worlds.{World}
-use Rattle.model.specs.Rules.{sized_rules, copy_rules, auto_rules, tuple_rules, fn_ptr_rules}
+use Rattle.type_terms.specs.Worlds.{World}
+use Rattle.type_terms.specs.Rules.{sized_rules, copy_rules, auto_rules, tuple_rules, fn_ptr_rules}
 use Rattle.type_terms.specs.Terms.{Entry, trees_at}
 use Rattle.evaluation.specs.declared.candidate.CandidateSource.TheVariants.{BuiltinImpl}
 use Rattle.evaluation.specs.declared.candidate.BuiltinImplSource.TheVariants.{Trivial}

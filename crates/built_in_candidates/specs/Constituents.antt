@@ -1,9 +1,9 @@
 -- The types that a rule asks for, read off the self type.
 use Rattle.std.specs.Prelude.{◌≡◌, ℕ, List, [], ◌∷◌, map, Option, Some, None, IfSome}
-use Rattle.model.specs.Label.{adt}
-use Rattle.model.specs.Trees.{Trees, tree, outer_binder}
-use Rattle.model.specs.Worlds.{World, Reference}
-use Rattle.model.specs.Rules.{Rule, asked}
+use Rattle.type_terms.specs.Label.{adt}
+use Rattle.type_terms.specs.Trees.{Trees, tree, outer_binder}
+use Rattle.type_terms.specs.Worlds.{World, Reference}
+use Rattle.type_terms.specs.Rules.{Rule, asked}
 use Rattle.type_terms.specs.Terms.{Entry, Has, types, trees_at}
 use Rattle.type_terms.specs.declared.AdtId.{AdtId}
 use Rattle.type_terms.specs.declared.kinds.Ty.{Ty}

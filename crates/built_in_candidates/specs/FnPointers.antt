@@ -1,8 +1,8 @@
 -- Calls of `fn` pointers: the candidates, and what is read off the goal's arguments.
 use Rattle.std.specs.Prelude.{◌≡◌, List, Option, Some, None}
-use Rattle.model.specs.Label.{fn_ptr}
-use Rattle.model.specs.Trees.{Trees, none, tree, ◌+++◌}
-use Rattle.model.specs.Worlds.{World}
+use Rattle.type_terms.specs.Label.{fn_ptr}
+use Rattle.type_terms.specs.Trees.{Trees, none, tree, ◌+++◌}
+use Rattle.type_terms.specs.Worlds.{World}
 use Rattle.type_terms.specs.Terms.{Entry}
 use Rattle.type_terms.specs.Kinds.{ArgHeld, arg_trees}
 use Rattle.type_terms.specs.declared.kinds.GenericArgKind.{GenericArgKind}

@@ -1,7 +1,7 @@
 -- What is asked of a goal in code.
 use Rattle.std.specs.Prelude.{ℕ, List, Bool, map}
-use Rattle.model.specs.Worlds.{World}
-use Rattle.model.specs.Rules.{is_coinductive}
+use Rattle.type_terms.specs.Worlds.{World}
+use Rattle.type_terms.specs.Rules.{is_coinductive}
 use Rattle.type_terms.specs.Terms.{Entry}
 use Rattle.infer_table.specs.declared.goal.Goal.{Goal}
 use Rattle.infer_table.specs.declared.input.CanonicalInput.{CanonicalInput}

@@ -1,9 +1,9 @@
 -- `dyn` types: their bounds with a self type put in, and the bounds of one trait among them.
 use Rattle.std.specs.Prelude.{◌≡◌, ℕ, suc, ◌==◌, ◌&&◌, not, if◌then◌else◌, List, [], ◌∷◌, ◌++◌, Option, Some, None, IfSome}
-use Rattle.model.specs.Label.{Label, of_lifetime, dynamic}
-use Rattle.model.specs.Trees.{Trees, none, tree, leaf, ◌+++◌, sort_of, outer_binder}
-use Rattle.model.specs.Worlds.{World, Reference}
-use Rattle.model.specs.Rules.{sized, principal_with, autos_with, are_declared, are_dyn_compatible, upcasts_autos}
+use Rattle.type_terms.specs.Label.{Label, of_lifetime, dynamic}
+use Rattle.type_terms.specs.Trees.{Trees, none, tree, leaf, ◌+++◌, sort_of, outer_binder}
+use Rattle.type_terms.specs.Worlds.{World, Reference}
+use Rattle.type_terms.specs.Rules.{sized, principal_with, autos_with, are_declared, are_dyn_compatible, upcasts_autos}
 use Rattle.type_terms.specs.Terms.{Entry, Has, bounds_lists, trees_at}
 use Rattle.type_terms.specs.declared.kinds.Bounds.{Bounds}
 use Rattle.term_folds.specs.declared.predicate.TraitRef.{TraitRef}

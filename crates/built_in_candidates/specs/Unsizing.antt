@@ -1,9 +1,9 @@
 -- `Unsize`: what is read off the self type and the target, and of which goals the candidates can be made.
 use Rattle.std.specs.Prelude.{◌≡◌, Bool, true, false, if◌then◌else◌, List, [], ◌∷◌, ◌++◌, map, Option, Some, None}
-use Rattle.model.specs.Label.{array, slice, adt, dynamic}
-use Rattle.model.specs.Trees.{Trees, none, tree, ◌+++◌, instantiate, outer_binder}
-use Rattle.model.specs.Worlds.{World, Reference}
-use Rattle.model.specs.Rules.{asked, sized, unsize, are_dyn_compatible, principal_with, autos_with}
+use Rattle.type_terms.specs.Label.{array, slice, adt, dynamic}
+use Rattle.type_terms.specs.Trees.{Trees, none, tree, ◌+++◌, instantiate, outer_binder}
+use Rattle.type_terms.specs.Worlds.{World, Reference}
+use Rattle.type_terms.specs.Rules.{asked, sized, unsize, are_dyn_compatible, principal_with, autos_with}
 use Rattle.type_terms.specs.Terms.{Entry, Has, args_lists, trees_at}
 use Rattle.type_terms.specs.declared.AdtId.{AdtId}
 use Rattle.type_terms.specs.declared.TraitId.{TraitId}

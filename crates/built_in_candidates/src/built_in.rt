@@ -1,7 +1,7 @@
 //! Candidates by the built-in rules of single traits, and of auto traits.
 ghost use Rattle.std.specs.Prelude.{◌≡◌, List, IfOk, IfSome, Err};
-ghost use Rattle.model.specs.Worlds.{World};
-ghost use Rattle.model.specs.Rules.{Rule, sized, asked};
+ghost use Rattle.type_terms.specs.Worlds.{World};
+ghost use Rattle.type_terms.specs.Rules.{Rule, sized, asked};
 ghost use Rattle.type_terms.specs.Terms.{Keeps, Has, types, trees_at};
 ghost use Rattle.type_terms.specs.Failures.{SomeKindIsFull};
 ghost use Rattle.term_folds.specs.Signatures.{StartsWithType};

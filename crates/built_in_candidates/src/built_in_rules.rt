@@ -1,7 +1,7 @@
 //! The candidates by built-in rules, one after the other.
 ghost use Rattle.std.specs.Prelude.{◌≡◌, ◌==◌, true, List, IfOk, IfSome, Err, option_map};
 ghost use Rattle.std.specs.List.{slice_get};
-ghost use Rattle.model.specs.Rules.{unsize, is_auto};
+ghost use Rattle.type_terms.specs.Rules.{unsize, is_auto};
 ghost use Rattle.type_terms.specs.Terms.{Keeps, Entry, trees_at};
 ghost use Rattle.type_terms.specs.Failures.{SomeKindIsFull};
 ghost use Rattle.evaluation.specs.Readings.{SpecHeld};

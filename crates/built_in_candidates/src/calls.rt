@@ -1,10 +1,10 @@
 //! Candidates by the built-in rule of calls.
 ghost use Rattle.std.specs.Prelude.{◌≡◌, List, Err, IfErr, IfOk, IfSome};
 ghost use Rattle.std.specs.Option.{option_map};
-ghost use Rattle.model.specs.Label.{tuple};
-ghost use Rattle.model.specs.Trees.{tree, none};
-ghost use Rattle.model.specs.Worlds.{World};
-ghost use Rattle.model.specs.Rules.{but_last, last_asked, sized};
+ghost use Rattle.type_terms.specs.Label.{tuple};
+ghost use Rattle.type_terms.specs.Trees.{tree, none};
+ghost use Rattle.type_terms.specs.Worlds.{World};
+ghost use Rattle.type_terms.specs.Rules.{but_last, last_asked, sized};
 ghost use Rattle.type_terms.specs.Terms.{Keeps, Has, Entry, Lawful, types, type_lists, args_lists, trees_at};
 ghost use Rattle.type_terms.specs.Kinds.{ArgHeld, TysHeld, arg_trees, tys_trees};
 ghost use Rattle.type_terms.specs.Failures.{SomeKindIsFull};

@@ -1,8 +1,8 @@
 //! `dyn` types: what they are written with, their principal with a self type put in, and its supertraits.
 ghost use Rattle.std.specs.Prelude.{◌≡◌, ◌==◌, List, length, filter, count_by, IfOk, Err};
 ghost use Rattle.std.specs.List.{list_any, slice_get};
-ghost use Rattle.model.specs.Trees.{Trees, ◌+++◌};
-ghost use Rattle.model.specs.Rules.{principal_with, autos_with, are_declared, are_dyn_compatible};
+ghost use Rattle.type_terms.specs.Trees.{Trees, ◌+++◌};
+ghost use Rattle.type_terms.specs.Rules.{principal_with, autos_with, are_declared, are_dyn_compatible};
 ghost use Rattle.type_terms.specs.Terms.{Keeps, Has, Entry, types, args_lists, bounds_lists, trees_at};
 ghost use Rattle.type_terms.specs.Failures.{SomeKindIsFull};
 ghost use Rattle.evaluation.specs.Merge.{if_there};

@@ -1,7 +1,7 @@
 //! Candidates by the bounds of the `dyn` that is the self type.
 ghost use Rattle.std.specs.Prelude.{◌≡◌, IfOk, IfSome, Err, option_map};
 ghost use Rattle.std.specs.List.{slice_get};
-ghost use Rattle.model.specs.Rules.{principal_with};
+ghost use Rattle.type_terms.specs.Rules.{principal_with};
 ghost use Rattle.type_terms.specs.Terms.{Keeps, Has, types, bounds_lists, trees_at};
 ghost use Rattle.type_terms.specs.Failures.{SomeKindIsFull};
 ghost use Rattle.term_folds.specs.Signatures.{StartsWithType};

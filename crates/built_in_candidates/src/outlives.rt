@@ -1,6 +1,6 @@
 //! What unsizing to a `dyn` records of lifetimes. Nothing judges it: outlives premises always hold.
 ghost use Rattle.std.specs.Prelude.{◌≡◌, ℕ, List, Some, IfOk, IfErr, IfSome, option_map};
-ghost use Rattle.model.specs.Worlds.{World};
+ghost use Rattle.type_terms.specs.Worlds.{World};
 ghost use Rattle.type_terms.specs.Terms.{Has, Entry, types, trees_at};
 ghost use Rattle.type_terms.specs.Kinds.{region_trees, RegionHeld};
 ghost use Rattle.type_terms.specs.declared.Fault.TheVariants.{Memory};

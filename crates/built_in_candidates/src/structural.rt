@@ -1,10 +1,10 @@
 //! The types that a type is made of, as far as built-in rules ask for them (`structural_traits`).
 ghost use Rattle.std.specs.Prelude.{◌≡◌, ℕ, IfOk, IfErr, IfSome, Err, None, map, if◌then◌else◌};
 ghost use Rattle.std.specs.List.{flat_map};
-ghost use Rattle.model.specs.Label.{slice, uint};
-ghost use Rattle.model.specs.Trees.{tree, leaf, none, instantiate, outer_binder};
-ghost use Rattle.model.specs.Worlds.{World, structs_named};
-ghost use Rattle.model.specs.Rules.{sized, sized_rules, sized_struct, copy_rules, auto_rules_plain, auto_struct, tuple_rules, fn_ptr_rules, row, last_asked, each_asked, fields_of};
+ghost use Rattle.type_terms.specs.Label.{slice, uint};
+ghost use Rattle.type_terms.specs.Trees.{tree, leaf, none, instantiate, outer_binder};
+ghost use Rattle.type_terms.specs.Worlds.{World, structs_named};
+ghost use Rattle.type_terms.specs.Rules.{sized, sized_rules, sized_struct, copy_rules, auto_rules_plain, auto_struct, tuple_rules, fn_ptr_rules, row, last_asked, each_asked, fields_of};
 ghost use Rattle.type_terms.specs.Terms.{Keeps, Has, types, args_lists, trees_at};
 ghost use Rattle.type_terms.specs.declared.Fault.TheVariants.{Memory};
 ghost use Rattle.term_folds.specs.Arguments.{first_misfit};

@@ -1,9 +1,9 @@
 //! Candidates by the built-in rules of `Unsize`: that of arrays, and all of them together.
 ghost use Rattle.std.specs.Prelude.{◌≡◌, ◌==◌, ℕ, true, List, [], IfOk, IfErr, IfSome, Err, option_map};
 ghost use Rattle.std.specs.List.{slice_get};
-ghost use Rattle.model.specs.Trees.{Trees, ◌+++◌};
-ghost use Rattle.model.specs.Worlds.{World};
-ghost use Rattle.model.specs.Rules.{unsize};
+ghost use Rattle.type_terms.specs.Trees.{Trees, ◌+++◌};
+ghost use Rattle.type_terms.specs.Worlds.{World};
+ghost use Rattle.type_terms.specs.Rules.{unsize};
 ghost use Rattle.type_terms.specs.Terms.{Keeps, Has, Entry, types, trees_at};
 ghost use Rattle.type_terms.specs.declared.Fault.TheVariants.{Memory};
 ghost use Rattle.type_terms.specs.Failures.{SomeKindIsFull};

@@ -1,9 +1,9 @@
 //! The candidate by which a struct unsizes to itself with other arguments.
 ghost use Rattle.std.specs.Prelude.{◌≡◌, [], ◌∷◌, map, IfOk, IfErr, IfSome, Err, None, if◌then◌else◌};
 ghost use Rattle.std.specs.List.{flat_map, list_any};
-ghost use Rattle.model.specs.Trees.{◌+++◌, outer_binder};
-ghost use Rattle.model.specs.Worlds.{World, StructDecl, structs_named};
-ghost use Rattle.model.specs.Rules.{unsize, with_unsizing};
+ghost use Rattle.type_terms.specs.Trees.{◌+++◌, outer_binder};
+ghost use Rattle.type_terms.specs.Worlds.{World, StructDecl, structs_named};
+ghost use Rattle.type_terms.specs.Rules.{unsize, with_unsizing};
 ghost use Rattle.type_terms.specs.Terms.{Keeps, Has, types, args_lists, trees_at};
 ghost use Rattle.type_terms.specs.declared.Fault.TheVariants.{Memory};
 ghost use Rattle.term_folds.specs.Arguments.{first_misfit};

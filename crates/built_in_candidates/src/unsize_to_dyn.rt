@@ -1,7 +1,7 @@
 //! The candidate by which a type unsizes to a `dyn`.
 ghost use Rattle.std.specs.Prelude.{◌≡◌, [], ◌∷◌, ◌++◌, IfOk, IfErr, IfSome, Err};
-ghost use Rattle.model.specs.Trees.{◌+++◌};
-ghost use Rattle.model.specs.Rules.{asked, sized, principal_with, autos_with, unsize_to_dyn_rules};
+ghost use Rattle.type_terms.specs.Trees.{◌+++◌};
+ghost use Rattle.type_terms.specs.Rules.{asked, sized, principal_with, autos_with, unsize_to_dyn_rules};
 ghost use Rattle.type_terms.specs.Terms.{Keeps, Has, types, bounds_lists, trees_at};
 ghost use Rattle.type_terms.specs.declared.Fault.TheVariants.{Memory};
 ghost use Rattle.type_terms.specs.Failures.{SomeKindIsFull};

@@ -1,9 +1,9 @@
 //! Candidates by upcasts of a `dyn` to a `dyn`.
 ghost use Rattle.std.specs.Prelude.{◌≡◌, ◌==◌, ◌||◌, ◌&&◌, ◌∷◌, [], List, IfOk, IfSome, IfErr, Err, option_map};
 ghost use Rattle.std.specs.List.{slice_get, list_all, list_any};
-ghost use Rattle.model.specs.Trees.{Trees, ◌+++◌};
-ghost use Rattle.model.specs.Worlds.{World};
-ghost use Rattle.model.specs.Rules.{principal_with, autos_with, are_declared, upcasts_autos};
+ghost use Rattle.type_terms.specs.Trees.{Trees, ◌+++◌};
+ghost use Rattle.type_terms.specs.Worlds.{World};
+ghost use Rattle.type_terms.specs.Rules.{principal_with, autos_with, are_declared, upcasts_autos};
 ghost use Rattle.type_terms.specs.Terms.{Keeps, Has, Entry, types, args_lists, bounds_lists, trees_at};
 ghost use Rattle.type_terms.specs.declared.Fault.TheVariants.{Memory};
 ghost use Rattle.type_terms.specs.Failures.{SomeKindIsFull};

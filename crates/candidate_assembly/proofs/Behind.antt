@@ -3,9 +3,9 @@ use Rattle.std.proofs.Math.Bridge.{le_prop}
 use Rattle.std.proofs.Common.{◌≡◌, ℕ, zero, suc, ◌+◌, ◌≤◌, subst, arith, Bool, true, false, List, [], ◌∷◌, length, map, refl, sym, ap, ◌∙◌, Option, Some, None}
 use Rattle.std.specs.Prelude.{cond}
 use Rattle.std.specs.Option.{option_or}
-use Rattle.model.specs.Label.{Sort, canonical, param, inside}
-use Rattle.model.specs.Trees.{Trees, none, tree, leaf, ◌+++◌, nth, shift, instantiate, is_sort, outer_binder}
-use Rattle.model.specs.Worlds.{Reference, with_args, all_with_args}
+use Rattle.type_terms.specs.Label.{Sort, canonical, param, inside}
+use Rattle.type_terms.specs.Trees.{Trees, none, tree, leaf, ◌+++◌, nth, shift, instantiate, is_sort, outer_binder}
+use Rattle.type_terms.specs.Worlds.{Reference, with_args, all_with_args}
 use Rattle.type_terms.specs.Terms.{Entry, Is, Keeps, args_lists, trees_at}
 use Rattle.type_terms.specs.declared.ImplId.{ImplId}
 use Rattle.type_terms.specs.declared.TheConstants.{MAX_INDEX}

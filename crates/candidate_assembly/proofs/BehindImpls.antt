@@ -2,7 +2,7 @@
 use Rattle.std.proofs.Common.{◌≡◌, Bool, true, false, cond, not, ◌&&◌, ◌||◌, if◌then◌else◌, List, [], ◌∷◌, length, map, refl, sym, ◌∙◌, ap, subst, Option, Some, None}
 use Rattle.std.specs.Prelude.{filter, IfSome, is_some}
 use Rattle.std.specs.List.{slice_get}
-use Rattle.model.specs.Worlds.{World}
+use Rattle.type_terms.specs.Worlds.{World}
 use Rattle.type_terms.specs.Terms.{Entry}
 use Rattle.type_terms.proofs.Made.{false-true, left, right}
 use Rattle.infer_table.specs.Canonical.{CanonicalForm}
@@ -26,7 +26,7 @@ use Rattle.assembly_laws.specs.Candidates.{Candidate, unsure, unknowable, by_cla
 use Rattle.assembly_laws.specs.DeclaredWell.{is_declared_well}
 use Rattle.assembly_laws.specs.Lifetimes.{form_gives_lifetimes}
 use Rattle.assembly_laws.specs.Solver.{Past, from, is_clause, is_impl, is_settled, says_nothing, holds_from, solver_handled}
-use Rattle.model.proofs.Members.{not-both}
+use Rattle.type_terms.proofs.Members.{not-both}
 use Rattle.built_in_candidates.specs.Goals.{asked_of}
 use Rattle.candidate_assembly.specs.Counted.{ends_by_impl}
 use Rattle.candidate_assembly.specs.Fitting.{fits_declared, solving_of}

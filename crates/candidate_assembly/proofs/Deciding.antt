@@ -1,10 +1,10 @@
 -- When a goal is decided.
 use Rattle.std.proofs.Common.{◌≡◌, refl, sym, ap, ◌∙◌, Bool, true, false, ◌&&◌, ◌||◌, not, List, [], ◌∷◌, map, Some, None, if◌then◌else◌}
 use Rattle.std.specs.Prelude.{◌==◌}
-use Rattle.model.specs.Trees.{Trees}
-use Rattle.model.specs.Worlds.{World, Reference}
-use Rattle.model.specs.Rules.{unsize}
-use Rattle.model.specs.Answers.{written_in}
+use Rattle.type_terms.specs.Trees.{Trees}
+use Rattle.type_terms.specs.Worlds.{World, Reference}
+use Rattle.type_terms.specs.Rules.{unsize}
+use Rattle.type_terms.specs.Answers.{written_in}
 use Rattle.type_terms.specs.Terms.{Entry, trees_at}
 use Rattle.type_terms.specs.Made.{terms, is_made}
 use Rattle.type_terms.proofs.Made.{left, right, both}

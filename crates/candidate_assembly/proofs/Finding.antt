@@ -1,10 +1,10 @@
 -- What visits find that look for what is not a goal's, and for names that are not declared.
 use Rattle.std.proofs.Common.{◌≡◌, ◌≢◌, arith, subst, ℕ, List, [], ◌∷◌, refl, sym, ◌∙◌, ap, Bool, true, false, not, ◌&&◌, ◌||◌, Option, Some, None, is_some}
-use Rattle.model.specs.Label.{Label, of_type, of_const, of_lifetime, static, param, placeholder, infer, canonical, bound, dynamic, principal, auto_trait, predicate, adt}
-use Rattle.model.specs.Trees.{Trees, none, tree, leaf, ◌+++◌, IsA, sort_of, is_sort, is_no_tree, some_node}
-use Rattle.model.specs.Worlds.{World}
-use Rattle.model.specs.Walks.{trait_is}
-use Rattle.model.specs.Answers.{is_undeclared}
+use Rattle.type_terms.specs.Label.{Label, of_type, of_const, of_lifetime, static, param, placeholder, infer, canonical, bound, dynamic, principal, auto_trait, predicate, adt}
+use Rattle.type_terms.specs.Trees.{Trees, none, tree, leaf, ◌+++◌, IsA, sort_of, is_sort, is_no_tree, some_node}
+use Rattle.type_terms.specs.Worlds.{World}
+use Rattle.type_terms.specs.Walks.{trait_is}
+use Rattle.type_terms.specs.Answers.{is_undeclared}
 use Rattle.type_terms.specs.Terms.{Entry, Lawful, Has, trees_at, term, types, consts, args_lists, bounds_lists}
 use Rattle.type_terms.specs.Kinds.{region_label, region_trees, autos_trees, principal_trees, bounds_trees}
 use Rattle.type_terms.specs.declared.TraitId.{TraitId}

@@ -1,6 +1,6 @@
 -- A visitor that looks for some trees may enter a type once: it finds them where it would without.
 use Rattle.std.proofs.Common.{◌≡◌, ℕ, List, refl, sym, ◌∙◌, ap, subst, Bool, Option, is_some}
-use Rattle.model.specs.Trees.{Trees}
+use Rattle.type_terms.specs.Trees.{Trees}
 use Rattle.type_terms.specs.Terms.{Entry}
 use Rattle.type_terms.specs.declared.once.Once.{Once}
 use Rattle.type_terms.specs.Visits.{Visits}

@@ -1,8 +1,8 @@
 -- What is read off the first of some arguments.
 use Rattle.std.proofs.Common.{◌≡◌, refl, sym, ap, ◌∙◌, subst, Bool, true, false, ◌&&◌, not, List, Option, Some}
-use Rattle.model.specs.Label.{Label, Sort, of_type, of_const, of_lifetime, adt, dynamic, param, placeholder, infer, canonical, bound}
-use Rattle.model.specs.Trees.{Trees, none, tree, ◌+++◌, sort_of, is_sort}
-use Rattle.model.specs.Answers.{is_open}
+use Rattle.type_terms.specs.Label.{Label, Sort, of_type, of_const, of_lifetime, adt, dynamic, param, placeholder, infer, canonical, bound}
+use Rattle.type_terms.specs.Trees.{Trees, none, tree, ◌+++◌, sort_of, is_sort}
+use Rattle.type_terms.specs.Answers.{is_open}
 use Rattle.type_terms.specs.Terms.{Entry, Lawful, trees_at}
 use Rattle.type_terms.specs.Kinds.{arg_trees}
 use Rattle.type_terms.specs.declared.kinds.GenericArgKind.{GenericArgKind}

@@ -4,11 +4,11 @@ use Rattle.std.specs.Prelude.{◌==◌, IfSome}
 use Rattle.std.specs.Option.{option_map_or}
 use Rattle.std.specs.List.{list_any}
 use Rattle.std.proofs.lemmas.Bool.{eqb-true}
-use Rattle.model.specs.Label.{Label, Sort, of_type, of_const, of_lifetime, adt, dynamic, principal, auto_trait, param, placeholder, infer, canonical, bound}
-use Rattle.model.specs.Trees.{Trees, none, tree, leaf, ◌+++◌, sort_of, is_sort, own_binder, outside, outer_binder, erase_label}
-use Rattle.model.specs.Worlds.{Reference}
-use Rattle.model.specs.Rules.{unsize, principal_with, autos_with}
-use Rattle.model.specs.Answers.{written_in}
+use Rattle.type_terms.specs.Label.{Label, Sort, of_type, of_const, of_lifetime, adt, dynamic, principal, auto_trait, param, placeholder, infer, canonical, bound}
+use Rattle.type_terms.specs.Trees.{Trees, none, tree, leaf, ◌+++◌, sort_of, is_sort, own_binder, outside, outer_binder, erase_label}
+use Rattle.type_terms.specs.Worlds.{Reference}
+use Rattle.type_terms.specs.Rules.{unsize, principal_with, autos_with}
+use Rattle.type_terms.specs.Answers.{written_in}
 use Rattle.type_terms.specs.Terms.{Entry, Lawful, trees_at}
 use Rattle.type_terms.specs.Kinds.{ArgsHeld, args_trees, autos_trees, principal_trees, bounds_trees, region_label, region_trees}
 use Rattle.type_terms.specs.declared.TraitId.{TraitId}

@@ -2,9 +2,9 @@
 use Rattle.std.proofs.Common.{◌≡◌, ◌≤◌, ℕ, zero, suc, ◌+◌, ◌==◌, arith, refl, ap, subst, Bool, true, false, ◌&&◌, ◌||◌, not, if◌then◌else◌, List, [], ◌∷◌, map, filter, length, Some, None}
 use Rattle.std.specs.Prelude.{IfSome}
 use Rattle.std.specs.List.{list_all}
-use Rattle.model.specs.Label.{Label, Sort, of_type, of_const, of_lifetime, static, dynamic, adt, principal, auto_trait, predicate, param, placeholder, infer, canonical, bound}
-use Rattle.model.specs.Trees.{Trees, none, tree, nth, sort_of, is_sort, is_no_tree, is_a, some_node, erase_label}
-use Rattle.model.specs.Worlds.{World, StructDecl, structs_named}
+use Rattle.type_terms.specs.Label.{Label, Sort, of_type, of_const, of_lifetime, static, dynamic, adt, principal, auto_trait, predicate, param, placeholder, infer, canonical, bound}
+use Rattle.type_terms.specs.Trees.{Trees, none, tree, nth, sort_of, is_sort, is_no_tree, is_a, some_node, erase_label}
+use Rattle.type_terms.specs.Worlds.{World, StructDecl, structs_named}
 use Rattle.type_terms.specs.Terms.{Entry, trees_at}
 use Rattle.type_terms.specs.declared.AdtId.{AdtId}
 use Rattle.type_terms.specs.declared.kinds.Ty.{Ty}

@@ -2,7 +2,7 @@
 use Rattle.std.proofs.Common.{◌≡◌, ℕ, zero, suc, Bool, true, false, cond, not, ◌&&◌, if◌then◌else◌, List, [], ◌∷◌, map, length, refl, sym, ◌∙◌, ap, subst, Option, Some, None}
 use Rattle.std.specs.Prelude.{filter, IfSome}
 use Rattle.std.specs.List.{slice_get}
-use Rattle.model.specs.Worlds.{World}
+use Rattle.type_terms.specs.Worlds.{World}
 use Rattle.type_terms.specs.Terms.{Entry}
 use Rattle.infer_table.specs.Canonical.{CanonicalForm}
 use Rattle.infer_table.specs.declared.certainty.TypingMode.{TypingMode}
@@ -24,7 +24,7 @@ use Rattle.assembly_laws.specs.Knowing.{is_knowable}
 use Rattle.assembly_laws.specs.Asking.{Asked, asked, clauses}
 use Rattle.assembly_laws.specs.Candidates.{Candidate, unknowable, by_clauses, built_in, by_impls, by_objects}
 use Rattle.assembly_laws.specs.Solver.{Past, from, is_clause, is_impl, is_settled, holds_from, solver_handled}
-use Rattle.model.proofs.Members.{not-both}
+use Rattle.type_terms.proofs.Members.{not-both}
 use Rattle.candidate_assembly.specs.Headers.{impls_above}
 use Rattle.candidate_assembly.specs.Sections.{misc_is_bound, is_unknowable, is_built_in, is_bound, sources_tell, considered_from, early, late, is_first, next_in, decided, next_candidate, end_of, or_end, impl_or, last_impl, WalksGoOn}
 use Rattle.candidate_assembly.proofs.Along.{Answers}

@@ -1,10 +1,10 @@
 -- Arguments are two exactly if their handles are.
 use Rattle.std.proofs.Common.{◌≡◌, ℕ, Bool, true, false, not, ◌&&◌, List, refl, sym, ap, ◌∙◌, Some}
 use Rattle.std.specs.Prelude.{◌==◌}
-use Rattle.model.specs.Codes.{same}
-use Rattle.model.proofs.Applies.{same-complete}
-use Rattle.model.proofs.Matching.{same-sound}
-use Rattle.model.proofs.Members.{same-number, self-number}
+use Rattle.type_terms.specs.Codes.{same}
+use Rattle.type_terms.proofs.Applies.{same-complete}
+use Rattle.type_terms.proofs.Matching.{same-sound}
+use Rattle.type_terms.proofs.Members.{same-number, self-number}
 use Rattle.type_terms.specs.Terms.{Entry, Lawful, Has, term, trees_at, args_lists}
 use Rattle.type_terms.specs.Kept.{trees-is}
 use Rattle.type_terms.specs.declared.kinds.GenericArgs.{GenericArgs}

@@ -1,8 +1,8 @@
 -- Flags tell whether an open place stands in a term.
 use Rattle.std.proofs.Common.{◌≡◌, zero, suc, refl, ap, sym, ◌∙◌, Bool, true, false, not, ◌||◌, ◌==◌, bit_and, List}
-use Rattle.model.specs.Label.{Label, of_type, of_const, of_lifetime, param, infer, placeholder, canonical, bound, fn_ptr, principal}
-use Rattle.model.specs.Trees.{Trees, none, tree, flags, some_node}
-use Rattle.model.specs.Answers.{is_open}
+use Rattle.type_terms.specs.Label.{Label, of_type, of_const, of_lifetime, param, infer, placeholder, canonical, bound, fn_ptr, principal}
+use Rattle.type_terms.specs.Trees.{Trees, none, tree, flags, some_node}
+use Rattle.type_terms.specs.Answers.{is_open}
 use Rattle.type_terms.specs.Made.{terms, is_made, is_in_range}
 use Rattle.type_terms.specs.Scans.{has_flag}
 use Rattle.type_terms.proofs.ScanFacts.{scan-tree}

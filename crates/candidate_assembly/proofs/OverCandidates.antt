@@ -2,14 +2,14 @@
 use Rattle.std.proofs.Common.{◌≡◌, ℕ, zero, suc, ◌+◌, ◌<◌, arith, Bool, true, false, not, ◌&&◌, ◌||◌, ◌==◌, if◌then◌else◌, List, [], ◌∷◌, map, length, refl, sym, ◌∙◌, ap, Some}
 use Rattle.std.specs.Prelude.{nat_lt}
 use Rattle.std.specs.List.{flat_map, list_all, slice_get}
-use Rattle.model.specs.Label.{Label, Sort, of_type, of_const, of_lifetime, tuple, dynamic, array, slice, adt, fn_ptr, predicate, of_trait}
-use Rattle.model.specs.Trees.{Trees, none, tree, leaf, is_a, some_node}
-use Rattle.model.specs.Worlds.{World, Reference, StructDecl, TraitDecl, ImplDecl, structs_named}
-use Rattle.model.specs.Rules.{Rule, sized, clone, copy, tuple_trait, fn_ptr_trait, is_fn_trait, unsize, is_auto, is_coinductive, sized_rules, copy_rules, auto_rules, tuple_rules, fn_ptr_rules, unsize_to_dyn_rules, but_last, last_asked, principal_with, autos_with, are_dyn_compatible, are_declared, upcasts_autos, some_unsizing, with_unsizing, last_unsizes}
-use Rattle.model.specs.Proofs.{In}
-use Rattle.model.specs.Answers.{is_open}
-use Rattle.model.proofs.Members.{here, there, in-filter}
-use Rattle.model.proofs.NoHolds.{member-each}
+use Rattle.type_terms.specs.Label.{Label, Sort, of_type, of_const, of_lifetime, tuple, dynamic, array, slice, adt, fn_ptr, predicate, of_trait}
+use Rattle.type_terms.specs.Trees.{Trees, none, tree, leaf, is_a, some_node}
+use Rattle.type_terms.specs.Worlds.{World, Reference, StructDecl, TraitDecl, ImplDecl, structs_named}
+use Rattle.type_terms.specs.Rules.{Rule, sized, clone, copy, tuple_trait, fn_ptr_trait, is_fn_trait, unsize, is_auto, is_coinductive, sized_rules, copy_rules, auto_rules, tuple_rules, fn_ptr_rules, unsize_to_dyn_rules, but_last, last_asked, principal_with, autos_with, are_dyn_compatible, are_declared, upcasts_autos, some_unsizing, with_unsizing, last_unsizes}
+use Rattle.type_terms.specs.Proofs.{In}
+use Rattle.type_terms.specs.Answers.{is_open}
+use Rattle.type_terms.proofs.Members.{here, there, in-filter}
+use Rattle.type_terms.proofs.NoHolds.{member-each}
 use Rattle.type_terms.specs.Made.{terms, is_made}
 use Rattle.type_terms.proofs.Made.{false-true, left, right}
 use Rattle.infer_table.specs.Canonical.{CanonicalForm}

@@ -2,7 +2,7 @@
 use Rattle.std.proofs.Common.{◌≡◌, ℕ, ◌<◌, Bool, true, false, cond, ◌&&◌, not, arith, List, [], ◌∷◌, Option, Some, None, refl, sym, ap, ◌∙◌}
 use Rattle.std.proofs.lemmas.Bool.Decides.{nat_tests}
 use Rattle.std.specs.Prelude.{◌==◌, filter, map, nat_lt, if◌then◌else◌}
-use Rattle.model.specs.Worlds.{ImplDecl}
+use Rattle.type_terms.specs.Worlds.{ImplDecl}
 use Rattle.type_terms.specs.Terms.{Entry}
 use Rattle.type_terms.specs.declared.ImplId.{ImplId}
 use Rattle.declarations.specs.Items.{HeldImpl, impl_in}

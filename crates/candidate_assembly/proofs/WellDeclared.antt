@@ -4,11 +4,11 @@ use Rattle.std.proofs.lemmas.Bool.Decides.{nat_tests}
 use Rattle.std.specs.Prelude.{nat_lt}
 use Rattle.std.specs.Option.{option_or}
 use Rattle.std.specs.List.{list_all, slice_get}
-use Rattle.model.specs.Label.{Label, Sort, of_type, of_const, of_lifetime, bool, char, str, never, array, slice, tuple, dynamic, int, uint, adt, fn_ptr, ref, raw_pointer, param}
-use Rattle.model.specs.Trees.{Trees, none, tree, is_sort, some_node}
-use Rattle.model.specs.Worlds.{World, Reference, StructDecl, TraitDecl, ImplDecl}
-use Rattle.model.specs.Proofs.{In}
-use Rattle.model.proofs.Members.{here, there, not-both, same-number}
+use Rattle.type_terms.specs.Label.{Label, Sort, of_type, of_const, of_lifetime, bool, char, str, never, array, slice, tuple, dynamic, int, uint, adt, fn_ptr, ref, raw_pointer, param}
+use Rattle.type_terms.specs.Trees.{Trees, none, tree, is_sort, some_node}
+use Rattle.type_terms.specs.Worlds.{World, Reference, StructDecl, TraitDecl, ImplDecl}
+use Rattle.type_terms.specs.Proofs.{In}
+use Rattle.type_terms.proofs.Members.{here, there, not-both, same-number}
 use Rattle.type_terms.specs.Made.{terms, is_made}
 use Rattle.type_terms.specs.Terms.{Entry, trees_at}
 use Rattle.term_folds.specs.Arguments.{sort_at, misfit, first_misfit}

@@ -1,9 +1,9 @@
 -- Visitors that look for names that are not declared, and for what is open and no variable of a goal.
 use Rattle.std.specs.Prelude.{Bool, true, false, ◌||◌, not, List}
-use Rattle.model.specs.Label.{Label, adt, dynamic, principal, auto_trait}
-use Rattle.model.specs.Trees.{Trees, none, tree}
-use Rattle.model.specs.Worlds.{World}
-use Rattle.model.specs.Answers.{is_undeclared}
+use Rattle.type_terms.specs.Label.{Label, adt, dynamic, principal, auto_trait}
+use Rattle.type_terms.specs.Trees.{Trees, none, tree}
+use Rattle.type_terms.specs.Worlds.{World}
+use Rattle.type_terms.specs.Answers.{is_undeclared}
 use Rattle.type_terms.specs.Visits.{IsBound}
 use Rattle.type_terms.specs.declared.visit.Seen.{Seen}
 use Rattle.type_terms.specs.declared.visit.Seen.TheVariants.{Break, Enter}

@@ -3,11 +3,11 @@
 use Rattle.std.specs.Prelude.{◌≡◌, ℕ, Bool, true, false, ◌&&◌, ◌||◌, ◌==◌, not, List, [], ◌∷◌, map}
 use Rattle.std.specs.Option.{option_map_or}
 use Rattle.std.specs.List.{list_any}
-use Rattle.model.specs.Label.{Sort, of_type, of_trait, predicate, dynamic, principal, adt}
-use Rattle.model.specs.Trees.{Trees, none, tree, is_sort, outer_binder}
-use Rattle.model.specs.Worlds.{Reference}
-use Rattle.model.specs.Rules.{unsize, autos_with}
-use Rattle.model.specs.Answers.{written_in}
+use Rattle.type_terms.specs.Label.{Sort, of_type, of_trait, predicate, dynamic, principal, adt}
+use Rattle.type_terms.specs.Trees.{Trees, none, tree, is_sort, outer_binder}
+use Rattle.type_terms.specs.Worlds.{Reference}
+use Rattle.type_terms.specs.Rules.{unsize, autos_with}
+use Rattle.type_terms.specs.Answers.{written_in}
 use Rattle.type_terms.specs.Terms.{Entry, trees_at}
 use Rattle.term_folds.specs.Signatures.{StartsWithType}
 use Rattle.infer_table.specs.Canonical.{CanonicalForm}

@@ -1,6 +1,6 @@
 -- Impls whose parameters can be made unknowns of a candidate.
 use Rattle.std.specs.Prelude.{◌≡◌, ◌+◌, ◌<◌, ◌==◌, ◌&&◌, ℕ, List, length, map, filter, Option, Some, None}
-use Rattle.model.specs.Worlds.{ImplDecl}
+use Rattle.type_terms.specs.Worlds.{ImplDecl}
 use Rattle.type_terms.specs.Terms.{Entry, trees_at}
 use Rattle.type_terms.specs.declared.ImplId.{ImplId}
 use Rattle.type_terms.specs.declared.TheConstants.{MAX_INDEX}

@@ -1,8 +1,8 @@
 -- Declarations that are ready stay so while the interner grows, and mean the same.
 use Rattle.std.proofs.Common.{◌≡◌, true, List, [], ◌∷◌, map, length, sym, ◌∙◌, ap, subst}
-use Rattle.model.specs.Label.{Sort}
-use Rattle.model.specs.Trees.{Trees}
-use Rattle.model.specs.Worlds.{World}
+use Rattle.type_terms.specs.Label.{Sort}
+use Rattle.type_terms.specs.Trees.{Trees}
+use Rattle.type_terms.specs.Worlds.{World}
 use Rattle.type_terms.specs.Terms.{Entry, Keeps, trees_at}
 use Rattle.term_folds.specs.declared.predicate.TraitRef.{TraitRef}
 use Rattle.declarations.specs.declared.items.ImplDef.{ImplDef}

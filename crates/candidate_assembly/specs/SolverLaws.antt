@@ -2,7 +2,7 @@
 -- goal to goal, and the solutions of nested goals are looked for where those of the goal are.
 use Rattle.std.proofs.Common.{◌≡◌, ◌≤◌, ℕ, ◌+◌, ◌*◌, max, arith, false, ◌&&◌, refl, sym, ◌∙◌, ap}
 use Rattle.std.proofs.lemmas.Nat.{mul-le}
-use Rattle.model.specs.Worlds.{World}
+use Rattle.type_terms.specs.Worlds.{World}
 use Rattle.infer_table.specs.Canonical.{CanonicalForm}
 use Rattle.infer_table.specs.declared.certainty.TypingMode.{TypingMode}
 use Rattle.infer_table.specs.declared.certainty.TypingMode.TheVariants.{Coherence, PostAnalysis}

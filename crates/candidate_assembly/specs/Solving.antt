@@ -1,6 +1,6 @@
 -- What the solver means: the declarations of a crate's view, for goals whose terms fit them.
 use Rattle.std.specs.Prelude.{ℕ, Bool, ◌&&◌}
-use Rattle.model.specs.Worlds.{World}
+use Rattle.type_terms.specs.Worlds.{World}
 use Rattle.infer_table.specs.Canonical.{CanonicalForm}
 use Rattle.infer_table.specs.declared.certainty.TypingMode.{TypingMode}
 use Rattle.evaluation.specs.Handler.{Handled}

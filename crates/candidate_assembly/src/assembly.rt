@@ -2,8 +2,8 @@
 
 ghost use Rattle.std.specs.Prelude.{◌≡◌, ◌==◌, ◌⊎◌, ℕ, None, true, false, length, map, IfOk, IfSome, Err, option_map};
 ghost use Rattle.std.specs.List.{slice_get};
-ghost use Rattle.model.specs.Worlds.{World};
-ghost use Rattle.model.specs.Rules.{unsize};
+ghost use Rattle.type_terms.specs.Worlds.{World};
+ghost use Rattle.type_terms.specs.Rules.{unsize};
 ghost use Rattle.type_terms.specs.Terms.{Keeps, trees_at};
 ghost use Rattle.type_terms.specs.Failures.{SomeKindIsFull};
 ghost use Rattle.term_folds.specs.Signatures.{StartsWithType};

@@ -1,10 +1,10 @@
 //! Which goals are decided: those that the declarations' names and parameters fit, and whose self type is known.
 ghost use Rattle.std.specs.Prelude.{◌≡◌, ◌&&◌, ◌||◌, ◌==◌, not, ◌∷◌, true, IsTrue, IfSome, map, Some, None, if◌then◌else◌};
 ghost use Rattle.std.specs.List.{list_any};
-ghost use Rattle.model.specs.Label.{of_type};
-ghost use Rattle.model.specs.Trees.{Trees, ◌+++◌, is_sort};
-ghost use Rattle.model.specs.Rules.{unsize};
-ghost use Rattle.model.specs.Answers.{written_in};
+ghost use Rattle.type_terms.specs.Label.{of_type};
+ghost use Rattle.type_terms.specs.Trees.{Trees, ◌+++◌, is_sort};
+ghost use Rattle.type_terms.specs.Rules.{unsize};
+ghost use Rattle.type_terms.specs.Answers.{written_in};
 ghost use Rattle.type_terms.specs.Terms.{Has, types, args_lists, bounds_lists, trees_at};
 ghost use Rattle.type_terms.specs.Kinds.{ArgHeld, region_trees};
 ghost use Rattle.type_terms.specs.Made.{terms, is_made};

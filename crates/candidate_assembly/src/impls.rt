@@ -1,7 +1,7 @@
 //! Candidates by impls.
 ghost use Rattle.std.specs.Prelude.{◌≡◌, ◌⊎◌, ◌+◌, ◌<◌, length, map, IfOk, IfSome, Err, option_map};
 ghost use Rattle.std.specs.List.{slice_get};
-ghost use Rattle.model.specs.Worlds.{World};
+ghost use Rattle.type_terms.specs.Worlds.{World};
 ghost use Rattle.type_terms.specs.Terms.{Keeps, trees_at};
 ghost use Rattle.type_terms.specs.declared.TheConstants.{MAX_INDEX};
 ghost use Rattle.type_terms.specs.Failures.{SomeKindIsFull};

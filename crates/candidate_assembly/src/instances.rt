@@ -1,7 +1,7 @@
 //! The variables that stand for an impl's parameters, and its references with these in their places.
 ghost use Rattle.std.specs.Prelude.{◌≡◌, ◌⊎◌, ◌+◌, ◌<◌, length, map, IfOk, IfErr, Err, None};
-ghost use Rattle.model.specs.Trees.{outer_binder};
-ghost use Rattle.model.specs.Worlds.{with_args, all_with_args};
+ghost use Rattle.type_terms.specs.Trees.{outer_binder};
+ghost use Rattle.type_terms.specs.Worlds.{with_args, all_with_args};
 ghost use Rattle.type_terms.specs.Terms.{Keeps, Has, args_lists, trees_at};
 ghost use Rattle.type_terms.specs.Kinds.{ArgsHeld};
 ghost use Rattle.type_terms.specs.declared.TheConstants.{MAX_INDEX};

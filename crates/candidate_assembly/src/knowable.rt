@@ -1,7 +1,7 @@
 //! Which goals are known to the crate that asks.
 ghost use Rattle.std.specs.Prelude.{◌≡◌, ◌==◌, ◌&&◌, ◌||◌, true, is_ok, IfOk, IfErr};
-ghost use Rattle.model.specs.Walks.{trait_is};
-ghost use Rattle.model.specs.Answers.{is_closed, written_in};
+ghost use Rattle.type_terms.specs.Walks.{trait_is};
+ghost use Rattle.type_terms.specs.Answers.{is_closed, written_in};
 ghost use Rattle.type_terms.specs.Terms.{trees_at};
 ghost use Rattle.type_terms.specs.declared.Fault.TheVariants.{Memory};
 ghost use Rattle.declarations.specs.Items.{reference_in, written};

@@ -1,8 +1,8 @@
 //! Laws of candidates, over what the contracts speak of.
 ghost use Rattle.std.specs.Prelude.{◌≡◌, ◌+◌, ℕ, List, Some, None, map};
 ghost use Rattle.std.specs.List.{slice_get};
-ghost use Rattle.model.specs.Worlds.{World, Reference};
-ghost use Rattle.model.specs.Terms.{erased_world, erased_reference};
+ghost use Rattle.type_terms.specs.Worlds.{World, Reference};
+ghost use Rattle.type_terms.specs.Erased.{erased_world, erased_reference};
 ghost use Rattle.type_terms.specs.Terms.{Entry};
 ghost use Rattle.type_terms.specs.declared.ImplId.{ImplId};
 ghost use Rattle.evaluation.specs.declared.candidate.CandidateSource.TheVariants.{Impl};

@@ -1,7 +1,7 @@
 //! Candidates by where-clauses.
 ghost use Rattle.std.specs.Prelude.{◌≡◌, IfOk, IfSome, Err, option_map};
 ghost use Rattle.std.specs.List.{slice_get};
-ghost use Rattle.model.specs.Worlds.{World};
+ghost use Rattle.type_terms.specs.Worlds.{World};
 ghost use Rattle.type_terms.specs.Terms.{Keeps};
 ghost use Rattle.type_terms.specs.Failures.{SomeKindIsFull};
 ghost use Rattle.infer_table.specs.Goals.{GoalHeld};

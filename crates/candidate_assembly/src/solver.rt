@@ -1,6 +1,6 @@
 //! The solver: what a crate declares, as a handler of goals.
 ghost use Rattle.std.specs.Prelude.{◌≡◌, List};
-ghost use Rattle.model.specs.Rules.{is_coinductive};
+ghost use Rattle.type_terms.specs.Rules.{is_coinductive};
 ghost use Rattle.type_terms.specs.Terms.{Entry};
 ghost use Rattle.declarations.specs.Items.{written};
 ghost use Rattle.candidate_assembly.specs.SolverMeaning.{solver_by_view};

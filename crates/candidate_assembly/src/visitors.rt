@@ -1,9 +1,9 @@
 //! What stands in the terms of a goal: variables that are not the goal's, and names that are not declared.
 ghost use Rattle.std.specs.Prelude.{◌≡◌, true, not, List};
-ghost use Rattle.model.specs.Label.{of_type, of_const, of_lifetime};
-ghost use Rattle.model.specs.Trees.{some_node};
-ghost use Rattle.model.specs.Walks.{struct_is, trait_is};
-ghost use Rattle.model.specs.Answers.{is_open, is_undeclared};
+ghost use Rattle.type_terms.specs.Label.{of_type, of_const, of_lifetime};
+ghost use Rattle.type_terms.specs.Trees.{some_node};
+ghost use Rattle.type_terms.specs.Walks.{struct_is, trait_is};
+ghost use Rattle.type_terms.specs.Answers.{is_open, is_undeclared};
 ghost use Rattle.type_terms.specs.Terms.{Entry, Has, types, args_lists, bounds_lists, trees_at};
 ghost use Rattle.type_terms.specs.Kinds.{autos_trees, region_label};
 ghost use Rattle.type_terms.specs.Made.{terms, is_made};

@@ -2,8 +2,8 @@
 use Rattle.std.proofs.Common.{◌≡◌, ◌<◌, ◌⊎◌, inl, inr, ◌+◌, ◌-◌, ℕ, zero, suc, true, List, [], ◌∷◌, length, refl, sym, ◌∙◌, subst, arith}
 use Rattle.std.proofs.lemmas.List.Folds.{list_all-append}
 use Rattle.std.specs.List.{list_all}
-use Rattle.model.specs.Worlds.{core}
-use Rattle.model.proofs.Walking.{left, right}
+use Rattle.type_terms.specs.Worlds.{core}
+use Rattle.type_terms.proofs.Walking.{left, right}
 use Rattle.text_definitions.specs.Declarations.{Declarations}
 use Rattle.text_definitions.specs.Output.{Answer}
 use Rattle.sessions.specs.CoherentTexts.{CratesAreAccepted, AcceptedTextsAreCoherent}

@@ -3,7 +3,7 @@ use Rattle.std.proofs.Common.{◌≡◌, ℕ, List, [], Option, Some, None, map,
 use Rattle.std.specs.List.{slice_get}
 use Rattle.std.specs.Option.{option_map, option_map_or}
 use Rattle.std.proofs.lemmas.Option.{same_Some}
-use Rattle.model.specs.Trees.{erase}
+use Rattle.type_terms.specs.Trees.{erase}
 use Rattle.text_definitions.specs.Declarations.{Declarations, NamedCrate, Question}
 use Rattle.text_definitions.specs.Names.{answer_values}
 use Rattle.text_definitions.specs.Output.{Answer, yes, output_text}

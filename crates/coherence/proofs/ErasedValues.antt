@@ -1,9 +1,9 @@
 -- The values of a question without their lifetimes print as they are.
 use Rattle.std.proofs.Common.{◌≡◌, ℕ, suc, Bool, true, false, ◌&&◌, List, [], ◌∷◌, map, refl, sym, ap, ◌∙◌}
 use Rattle.std.specs.Prelude.{if◌then◌else◌, nat_lt, length}
-use Rattle.model.specs.Codes.{same, same_label}
-use Rattle.model.specs.Label.{Label, Sort, of_type, of_const, of_lifetime, infer, param, placeholder, canonical, bound, principal, auto_trait, predicate, dynamic}
-use Rattle.model.specs.Trees.{Trees, none, tree, leaf, erase, erase_label, sort_of, is_sort, is_no_tree}
+use Rattle.type_terms.specs.Codes.{same, same_label}
+use Rattle.type_terms.specs.Label.{Label, Sort, of_type, of_const, of_lifetime, infer, param, placeholder, canonical, bound, principal, auto_trait, predicate, dynamic}
+use Rattle.type_terms.specs.Trees.{Trees, none, tree, leaf, erase, erase_label, sort_of, is_sort, is_no_tree}
 use Rattle.type_terms.specs.Kinds.{arg_trees, ArgsHeld}
 use Rattle.type_terms.specs.Made.{terms, bounds, traits, is_made, is_in_range}
 use Rattle.type_terms.specs.Terms.{Entry, Lawful}

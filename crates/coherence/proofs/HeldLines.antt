@@ -2,7 +2,7 @@
 use Rattle.std.proofs.Common.{◌≡◌, ℕ, List, [], Some, length, inl, inr, refl, sym, ap, ◌∙◌, subst}
 use Rattle.std.specs.List.{slice_get}
 use Rattle.std.specs.Option.{option_map_or}
-use Rattle.model.specs.Supers.{IsHeld}
+use Rattle.type_terms.specs.Supers.{IsHeld}
 use Rattle.text_definitions.specs.Declarations.{Declarations, Check, NamedCrate, of_supers}
 use Rattle.text_definitions.specs.Output.{Answer, held}
 use Rattle.sessions.specs.CoherentTexts.{CratesAreHeld, HeldTextsAreCoherent}

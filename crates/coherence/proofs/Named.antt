@@ -2,10 +2,10 @@
 use Rattle.std.proofs.Common.{◌≡◌, ℕ, zero, suc, ◌<◌, List, [], ◌∷◌, map, length, Some, refl, sym, ap, ◌∙◌, subst}
 use Rattle.std.specs.List.{slice_get}
 use Rattle.std.proofs.lemmas.Option.{slice_get_within, same_Some}
-use Rattle.model.specs.Worlds.{ImplDecl, sees, view_of}
-use Rattle.model.specs.Terms.{erased_world, erased_impl}
-use Rattle.model.specs.Proofs.{In}
-use Rattle.model.proofs.Members.{in-filter}
+use Rattle.type_terms.specs.Worlds.{ImplDecl, sees, view_of}
+use Rattle.type_terms.specs.Erased.{erased_world, erased_impl}
+use Rattle.type_terms.specs.Proofs.{In}
+use Rattle.type_terms.proofs.Members.{in-filter}
 use Rattle.text_definitions.specs.Declarations.{Declarations, NamedImpl, world_of}
 use Rattle.workspace.specs.Numbered.{IsNumbered}
 use Rattle.sessions.specs.Promises.{IsVerdictOf, view_in}

@@ -1,9 +1,9 @@
 -- What the lines of a text's crates say of the text as a whole.
 use Rattle.std.specs.Prelude.{◌≡◌, ℕ, ◌-◌, ◌<◌, Bool, true, false, List, length}
 use Rattle.std.specs.List.{list_all}
-use Rattle.model.specs.LinkedSet.{HeadersHaveSupertraits}
-use Rattle.model.specs.Proofs.{In}
-use Rattle.model.specs.Worlds.{core}
+use Rattle.type_terms.specs.LinkedSet.{HeadersHaveSupertraits}
+use Rattle.type_terms.specs.Proofs.{In}
+use Rattle.type_terms.specs.Worlds.{core}
 use Rattle.text_definitions.specs.Declarations.{Declarations}
 use Rattle.text_definitions.specs.Output.{Answer, accepted, held}
 use Rattle.sessions.specs.CoherentTexts.{TextIsCoherent}

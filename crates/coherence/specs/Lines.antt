@@ -3,8 +3,8 @@ use Rattle.std.specs.Prelude.{◌≡◌, ℕ, suc, ◌+◌, ◌-◌, ◌≤◌, 
 use Rattle.std.specs.List.{flat_map}
 use Rattle.std.specs.Option.{option_map, option_map_or}
 use Rattle.std.specs.Io.KnownBytes.{Appends, Keeps}
-use Rattle.model.specs.Trees.{Trees}
-use Rattle.model.specs.Worlds.{core}
+use Rattle.type_terms.specs.Trees.{Trees}
+use Rattle.type_terms.specs.Worlds.{core}
 use Rattle.text_definitions.specs.Declarations.{Declarations, Check, of_later, of_supers, Question}
 use Rattle.text_definitions.specs.Names.{header_names, answer_values}
 use Rattle.text_definitions.specs.Output.{Answer, fault, accepted, nonlocal, uncovered, overlap, compatible, breaking, held, missing, undecided, yes, maybe, unproved, no, unrefuted, type_text, output_text}

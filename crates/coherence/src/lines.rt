@@ -3,7 +3,7 @@
 ghost use Rattle.std.specs.Prelude.{◌≡◌, ◌≢◌, ◌<◌, length, map, IfOk, IfErr, IfSome};
 ghost use Rattle.std.specs.Option.{option_map};
 ghost use Rattle.answer_lines.specs.Answers.{text_of};
-ghost use Rattle.model.specs.Trees.{erase};
+ghost use Rattle.type_terms.specs.Trees.{erase};
 ghost use Rattle.text_definitions.specs.Declarations.{Question, of_later, of_supers};
 ghost use Rattle.text_definitions.specs.Names as names;
 ghost use Rattle.text_definitions.specs.Output.{uncovered, yes, output_text};

@@ -3,7 +3,7 @@ use Rattle.std.proofs.Common.{◌≡◌, ℕ, zero, suc, ◌<◌, ◌≤◌, leb
 use Rattle.std.proofs.lemmas.Bool.Decides.{nat_tests}
 use Rattle.std.specs.Prelude.{map, filter, not, nat_lt}
 use Rattle.std.specs.List.Sorted.{IsNonDecreasingBy}
-use Rattle.model.specs.Label.{Label}
+use Rattle.type_terms.specs.Label.{Label}
 use Rattle.type_terms.specs.declared.ImplId.{ImplId}
 use Rattle.declarations.specs.Items.{HeldImpl, ids_with, ids_headed}
 use Rattle.declarations.specs.Merges.{Each, Rises, IsMerge}

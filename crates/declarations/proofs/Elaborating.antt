@@ -3,12 +3,12 @@ use Rattle.std.proofs.Common.{◌≡◌, ℕ, ◌<◌, ◌+◌, Bool, true, fals
 use Rattle.std.specs.Prelude.{◌==◌, map, IfSome}
 use Rattle.std.specs.List.{flat_map}
 use Rattle.std.proofs.lemmas.Option.{same_Some}
-use Rattle.model.specs.Trees.{Trees, instantiate, outer_binder}
-use Rattle.model.specs.Proofs.{In}
-use Rattle.model.specs.Worlds.{World, Reference, TraitDecl, traits_named, with_args, all_with_args}
-use Rattle.model.specs.Rules.{written_supertraits, strict_supertraits}
-use Rattle.model.proofs.Members.{here, there, in-cases, in-nothing, flat-in}
-use Rattle.model.proofs.Entries.{map-in}
+use Rattle.type_terms.specs.Trees.{Trees, instantiate, outer_binder}
+use Rattle.type_terms.specs.Proofs.{In}
+use Rattle.type_terms.specs.Worlds.{World, Reference, TraitDecl, traits_named, with_args, all_with_args}
+use Rattle.type_terms.specs.Rules.{written_supertraits, strict_supertraits}
+use Rattle.type_terms.proofs.Members.{here, there, in-cases, in-nothing, flat-in}
+use Rattle.type_terms.proofs.ProofEntries.{map-in}
 use Rattle.type_terms.specs.Terms.{Entry, Keeps, trees_at}
 use Rattle.type_terms.specs.declared.TraitId.{TraitId}
 use Rattle.term_folds.specs.Arguments.{first_misfit}

@@ -1,11 +1,11 @@
 -- References that are put on a stack if they were not put there before.
 use Rattle.std.proofs.Common.{◌≡◌, ℕ, Bool, true, false, ◌==◌, ◌&&◌, ◌||◌, if◌then◌else◌, List, [], ◌∷◌, ◌++◌, refl, sym, ap, ◌∙◌, subst, append_assoc, ◌⊎◌, inl, inr}
 use Rattle.std.specs.List.{list_any}
-use Rattle.model.specs.Worlds.{Reference}
-use Rattle.model.specs.Codes.{same}
-use Rattle.model.specs.Proofs.{In}
-use Rattle.model.proofs.Matching.{same-sound}
-use Rattle.model.proofs.Members.{same-number, self-number, here, there, in-nothing, in-append, in-cases}
+use Rattle.type_terms.specs.Worlds.{Reference}
+use Rattle.type_terms.specs.Codes.{same}
+use Rattle.type_terms.specs.Proofs.{In}
+use Rattle.type_terms.proofs.Matching.{same-sound}
+use Rattle.type_terms.proofs.Members.{same-number, self-number, here, there, in-nothing, in-append, in-cases}
 use Rattle.type_terms.specs.Terms.{Entry, Has, Is, Lawful, args_lists, trees_at}
 use Rattle.type_terms.specs.Kept.{is-at}
 use Rattle.term_folds.specs.declared.predicate.TraitRef.{TraitRef}

@@ -1,8 +1,8 @@
 -- What stays of declarations as the interner grows.
 use Rattle.std.proofs.Common.{◌≡◌, List, [], ◌∷◌, length, refl, sym, ap, ◌∙◌}
 use Rattle.std.specs.Prelude.{map}
-use Rattle.model.specs.Worlds.{World, StructDecl, TraitDecl, ImplDecl, Reference}
-use Rattle.model.specs.Terms.{erased_world}
+use Rattle.type_terms.specs.Worlds.{World, StructDecl, TraitDecl, ImplDecl, Reference}
+use Rattle.type_terms.specs.Erased.{erased_world}
 use Rattle.type_terms.specs.Terms.{Entry, Keeps, Has, types, args_lists, trees_at}
 use Rattle.type_terms.specs.Kept.{has-later, trees-later}
 use Rattle.term_folds.specs.declared.predicate.TraitRef.{TraitRef}

@@ -5,8 +5,8 @@ use Rattle.std.proofs.lemmas.Option.{same_Some}
 use Rattle.std.specs.Option.{option_map}
 use Rattle.std.specs.List.{IsDistinct}
 use Rattle.std.specs.Map.{lookup, keys_of}
-use Rattle.model.specs.Worlds.{structs_named, traits_named}
-use Rattle.model.specs.Terms.{erased_struct, erased_trait, erased_impl}
+use Rattle.type_terms.specs.Worlds.{structs_named, traits_named}
+use Rattle.type_terms.specs.Erased.{erased_struct, erased_trait, erased_impl}
 use Rattle.type_terms.specs.Terms.{Entry}
 use Rattle.type_terms.specs.declared.AdtId.{AdtId}
 use Rattle.type_terms.specs.declared.TraitId.{TraitId}

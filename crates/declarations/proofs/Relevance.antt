@@ -2,13 +2,13 @@
 use Rattle.std.proofs.Common.{◌≡◌, ℕ, Bool, true, false, cond, ◌&&◌, ◌||◌, List, [], ◌∷◌, Option, Some, None, refl, sym, ap, ◌∙◌, inl, inr, if◌then◌else◌}
 use Rattle.std.proofs.lemmas.Bool.{cases_Bool}
 use Rattle.std.specs.Prelude.{◌==◌, map, filter}
-use Rattle.model.specs.Label.{Label, of_type, of_const, of_lifetime, static, auto_trait, value, principal, param, placeholder, infer, canonical, bound}
-use Rattle.model.specs.Trees.{Trees, none, tree, erase, erase_label, IsA}
-use Rattle.model.specs.Codes.{same_label}
-use Rattle.model.specs.Rules.{same_head}
-use Rattle.model.specs.Terms.{erased_impl}
-use Rattle.model.specs.Worlds.{ImplDecl}
-use Rattle.model.proofs.Matching.{same-label-sound}
+use Rattle.type_terms.specs.Label.{Label, of_type, of_const, of_lifetime, static, auto_trait, value, principal, param, placeholder, infer, canonical, bound}
+use Rattle.type_terms.specs.Trees.{Trees, none, tree, erase, erase_label, IsA}
+use Rattle.type_terms.specs.Codes.{same_label}
+use Rattle.type_terms.specs.Rules.{same_head}
+use Rattle.type_terms.specs.Erased.{erased_impl}
+use Rattle.type_terms.specs.Worlds.{ImplDecl}
+use Rattle.type_terms.proofs.Matching.{same-label-sound}
 use Rattle.type_terms.specs.Terms.{Entry, trees_at}
 use Rattle.declarations.specs.Heads.{is_rigid, head_of, begins_declared, same_self}
 use Rattle.declarations.specs.Merges.{Each, IsMerge}

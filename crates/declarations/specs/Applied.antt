@@ -1,8 +1,8 @@
 -- References that have an argument for each parameter, and traits whose supertraits can be read off them.
 use Rattle.std.specs.Prelude.{◌≡◌, ℕ, ◌<◌, List, [], ◌∷◌, map, IfSome, None}
-use Rattle.model.specs.Label.{Sort, of_type, of_const, of_lifetime}
-use Rattle.model.specs.Trees.{Trees, none, tree, sort_of, outer_binder}
-use Rattle.model.specs.Worlds.{Reference}
+use Rattle.type_terms.specs.Label.{Sort, of_type, of_const, of_lifetime}
+use Rattle.type_terms.specs.Trees.{Trees, none, tree, sort_of, outer_binder}
+use Rattle.type_terms.specs.Worlds.{Reference}
 use Rattle.type_terms.specs.Terms.{Entry, trees_at}
 use Rattle.type_terms.specs.declared.TraitId.{TraitId}
 use Rattle.term_folds.specs.Arguments.{first_misfit}

@@ -1,11 +1,11 @@
 -- Supertraits without repeats.
 use Rattle.std.specs.Prelude.{ℕ, zero, suc, Bool, false, if◌then◌else◌, List, [], ◌∷◌, ◌++◌, map, length}
 use Rattle.std.specs.List.{list_any, flat_map}
-use Rattle.model.specs.Label.{uint}
-use Rattle.model.specs.Trees.{leaf}
-use Rattle.model.specs.Worlds.{World, Reference, TraitDecl, core}
-use Rattle.model.specs.Rules.{asked, same_reference, written_supertraits, strict_supertraits}
-use Rattle.model.specs.Core.{type_param}
+use Rattle.type_terms.specs.Label.{uint}
+use Rattle.type_terms.specs.Trees.{leaf}
+use Rattle.type_terms.specs.Worlds.{World, Reference, TraitDecl, core}
+use Rattle.type_terms.specs.Rules.{asked, same_reference, written_supertraits, strict_supertraits}
+use Rattle.type_terms.specs.Core.{type_param}
 
 -- The reference is one of those that were put on the stack.
 abbrev pub is_put : Reference → List Reference → Bool

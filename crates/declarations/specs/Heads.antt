@@ -1,8 +1,8 @@
 -- What stands outermost in a type.
 use Rattle.std.specs.Prelude.{Bool, true, false, Option, Some, None, if◌then◌else◌}
-use Rattle.model.specs.Label.{Label, bool, char, str, never, array, slice, tuple, dynamic, int, uint, adt, fn_ptr, ref, raw_pointer, of_type, param}
-use Rattle.model.specs.Trees.{Trees, none, tree, erase_label}
-use Rattle.model.specs.Codes.{same_label}
+use Rattle.type_terms.specs.Label.{Label, bool, char, str, never, array, slice, tuple, dynamic, int, uint, adt, fn_ptr, ref, raw_pointer, of_type, param}
+use Rattle.type_terms.specs.Trees.{Trees, none, tree, erase_label}
+use Rattle.type_terms.specs.Codes.{same_label}
 use Rattle.type_terms.specs.Kinds.{int_number, uint_number, is_mut}
 use Rattle.declarations.specs.declared.simplify.SimplifiedType.{SimplifiedType}
 use Rattle.declarations.specs.declared.simplify.SimplifiedType.TheVariants.{Bool as SBool, Char as SChar, Int as SInt, Uint as SUint, Adt as SAdt, Str as SStr, Array as SArray, Slice as SSlice, Ref as SRef, Ptr as SPtr, Never as SNever, Tuple as STuple, Dynamic as SDynamic, Function as SFunction}

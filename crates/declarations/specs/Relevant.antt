@@ -1,8 +1,8 @@
 -- Impls by number, and those that can match a self type.
 use Rattle.std.specs.Prelude.{◌≡◌, ℕ, Bool, true, false, ◌==◌, ◌&&◌, nat_lt, if◌then◌else◌, List, [], ◌∷◌, map, filter, Option, Some, None}
-use Rattle.model.specs.Trees.{Trees, none, tree, erase}
-use Rattle.model.specs.Worlds.{World, ImplDecl}
-use Rattle.model.specs.Rules.{same_head}
+use Rattle.type_terms.specs.Trees.{Trees, none, tree, erase}
+use Rattle.type_terms.specs.Worlds.{World, ImplDecl}
+use Rattle.type_terms.specs.Rules.{same_head}
 use Rattle.std.specs.List.{FoldsTo}
 use Rattle.type_terms.specs.Terms.{Entry}
 use Rattle.type_terms.specs.declared.ImplId.{ImplId}

@@ -1,6 +1,6 @@
 -- Stacks of references.
 use Rattle.std.specs.Prelude.{◌≡◌, List, ◌++◌}
-use Rattle.model.specs.Proofs.{In}
+use Rattle.type_terms.specs.Proofs.{In}
 use Rattle.type_terms.specs.Terms.{Entry}
 use Rattle.term_folds.specs.declared.predicate.TraitRef.{TraitRef}
 use Rattle.declarations.specs.declared.elaborate.Elaborator.{Elaborator}

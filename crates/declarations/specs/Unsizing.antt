@@ -1,9 +1,9 @@
 -- Parameters that unsize a struct.
 use Rattle.std.specs.Prelude.{◌≡◌, refl, ℕ, zero, suc, Bool, List, [], ◌∷◌, ◌++◌, map, length, cond, Option, Some, None}
-use Rattle.model.specs.Trees.{Trees, none, tree}
-use Rattle.model.specs.Label.{principal, auto_trait}
-use Rattle.model.specs.Rules.{is_parameter, is_unsizing}
-use Rattle.model.specs.Worlds.{StructDecl}
+use Rattle.type_terms.specs.Trees.{Trees, none, tree}
+use Rattle.type_terms.specs.Label.{principal, auto_trait}
+use Rattle.type_terms.specs.Rules.{is_parameter, is_unsizing}
+use Rattle.type_terms.specs.Worlds.{StructDecl}
 use Rattle.type_terms.specs.Terms.{Entry, trees_at}
 use Rattle.type_terms.specs.declared.kinds.Ty.{Ty}
 use Rattle.type_terms.specs.Visits.{IsBound}

@@ -3,9 +3,9 @@ ghost use Rattle.std.specs.Prelude.{◌≡◌, ◌==◌, ◌||◌, List, [], ◌
 ghost use Rattle.std.specs.Option.{option_map};
 ghost use Rattle.type_terms.specs.Terms.{Entry, Has, types, trees_at};
 ghost use Rattle.type_terms.specs.declared.Fault.TheVariants.{Memory};
-ghost use Rattle.model.specs.Terms.{erased_struct, erased_trait, erased_impl};
-ghost use Rattle.model.specs.Worlds.{structs_named, traits_named};
-ghost use Rattle.model.specs.Walks.{trait_is};
+ghost use Rattle.type_terms.specs.Erased.{erased_struct, erased_trait, erased_impl};
+ghost use Rattle.type_terms.specs.Worlds.{structs_named, traits_named};
+ghost use Rattle.type_terms.specs.Walks.{trait_is};
 ghost use Rattle.declarations.specs.Heads.{label_of};
 ghost use Rattle.declarations.specs.Items.{IsOnly, ids_with, ids_headed, with_struct, with_trait, with_impl, struct_in, trait_in, impl_in, struct_at, trait_at, impl_at, written, declared, held_impl, IsAbove};
 ghost use Rattle.declarations.specs.Merges.{Rises};

@@ -1,9 +1,9 @@
 //! Supertraits of references.
 ghost use Rattle.std.specs.Prelude.{◌≡◌, ◌&&◌, ◌==◌, ◌++◌, ◌∷◌, [], Err, IfOk, IfErr, OnOk, None};
 ghost use Rattle.std.specs.List.{list_any};
-ghost use Rattle.model.specs.Trees.{outer_binder};
-ghost use Rattle.model.specs.Worlds.{with_args, all_with_args};
-ghost use Rattle.model.specs.Rules.{written_supertraits};
+ghost use Rattle.type_terms.specs.Trees.{outer_binder};
+ghost use Rattle.type_terms.specs.Worlds.{with_args, all_with_args};
+ghost use Rattle.type_terms.specs.Rules.{written_supertraits};
 ghost use Rattle.type_terms.specs.Terms.{Keeps, Has, args_lists, trees_at};
 ghost use Rattle.type_terms.specs.declared.Fault.TheVariants.{Memory};
 ghost use Rattle.term_folds.specs.Arguments.{first_misfit};

@@ -1,7 +1,7 @@
 //! Impls by their trait and the head of their self type.
 ghost use Rattle.std.specs.Prelude.{◌≡◌, ◌++◌, ◌∷◌, [], ℕ, Option, OnOk, OnErr, IfErr, if◌then◌else◌};
 ghost use Rattle.type_terms.specs.declared.Fault.TheVariants.{Memory};
-ghost use Rattle.model.specs.Label.{Label};
+ghost use Rattle.type_terms.specs.Label.{Label};
 ghost use Rattle.declarations.specs.Index.{listed, is_head};
 
 use crate::simplify::SimplifiedType;

@@ -1,6 +1,6 @@
 //! Laws of declarations, over what the contracts speak of.
 ghost use Rattle.std.specs.Prelude.{◌≡◌, ◌∷◌, [], List};
-ghost use Rattle.model.specs.Worlds.{World, Reference};
+ghost use Rattle.type_terms.specs.Worlds.{World, Reference};
 ghost use Rattle.type_terms.specs.Terms.{Entry, Keeps};
 ghost use Rattle.declarations.specs.Items.{Items, written, declared};
 ghost use Rattle.declarations.specs.Held.{AreHeld, ReferenceHeld};

@@ -1,7 +1,7 @@
 //! Parameters that unsize a struct.
 ghost use Rattle.std.specs.Prelude.{◌≡◌, ℕ, map, IfErr, IfOk};
-ghost use Rattle.model.specs.Trees.{some_node};
-ghost use Rattle.model.specs.Rules.{is_parameter, is_unsizing};
+ghost use Rattle.type_terms.specs.Trees.{some_node};
+ghost use Rattle.type_terms.specs.Rules.{is_parameter, is_unsizing};
 ghost use Rattle.type_terms.specs.Terms.{Has, types, trees_at};
 ghost use Rattle.type_terms.specs.declared.Fault.TheVariants.{Memory};
 ghost use Rattle.declarations.specs.Merges.{Each};

@@ -3,10 +3,10 @@ use Rattle.std.proofs.Common.{◌≡◌, ℕ, zero, suc, ◌+◌, ◌==◌, ◌�
 use Rattle.std.proofs.lemmas.Bool.Decides.{nat_tests}
 use Rattle.std.specs.Prelude.{IsSome}
 use Rattle.std.proofs.lemmas.Bool.{eqb-true}
-use Rattle.model.specs.Label.{Label, Sort, of_type, of_const, of_lifetime, infer, param, placeholder, canonical, bound, static}
-use Rattle.model.specs.Trees.{Trees, none, tree, leaf, ◌+++◌, sort_of, is_sort, is_a}
-use Rattle.model.specs.Codes.{same_label}
-use Rattle.model.proofs.Matching.{same-label-sound}
+use Rattle.type_terms.specs.Label.{Label, Sort, of_type, of_const, of_lifetime, infer, param, placeholder, canonical, bound, static}
+use Rattle.type_terms.specs.Trees.{Trees, none, tree, leaf, ◌+++◌, sort_of, is_sort, is_a}
+use Rattle.type_terms.specs.Codes.{same_label}
+use Rattle.type_terms.proofs.Matching.{same-label-sound}
 use Rattle.infer_table.specs.Canonical.{OpenKinds, kind_of_leaf, StandsIn, HasNoCanonical, is_among, place_of, canonical_label, relabeled}
 use Rattle.infer_table.specs.Solutions.{Assignment, tree_of, resolved, HasValues}
 use Rattle.infer_table.proofs.CanonicalLaws.{leaves-hold}

@@ -1,8 +1,8 @@
 -- A goal's question, and the values of its variables, are those of its canonical form.
 use Rattle.std.specs.Prelude.{◌≡◌, List, [], ◌∷◌, map, refl}
 use Rattle.std.proofs.Common.{ap, ◌∙◌, sym}
-use Rattle.model.specs.Label.{Sort}
-use Rattle.model.specs.Trees.{Trees}
+use Rattle.type_terms.specs.Label.{Sort}
+use Rattle.type_terms.specs.Trees.{Trees}
 use Rattle.type_terms.specs.Terms.{Entry, Lawful}
 use Rattle.type_terms.specs.declared.kinds.GenericArgKind.{GenericArgKind}
 use Rattle.infer_table.specs.Canonical.{GoalTrees, CanonicalForm, canonical_form, goal_leaves}

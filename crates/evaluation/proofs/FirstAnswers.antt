@@ -1,10 +1,10 @@
 -- The table with which a frame begins answers nothing but its own variables.
 use Rattle.std.proofs.Common.{◌≡◌, ℕ, zero, suc, ◌<◌, ◌==◌, arith, Bool, true, false, not, ◌&&◌, ◌||◌, List, [], ◌∷◌, ◌++◌, map, length, refl, sym, ◌∙◌, ap, subst, if◌then◌else◌, is_some}
 use Rattle.std.proofs.lemmas.Bool.Decides.{nat_tests}
-use Rattle.model.specs.Label.{Label, Sort, of_type, of_const, of_lifetime, infer, placeholder, canonical}
-use Rattle.model.specs.Trees.{leaf, sort_of, is_sort}
-use Rattle.model.specs.Codes.{same_label}
-use Rattle.model.proofs.Matching.{same-label-sound}
+use Rattle.type_terms.specs.Label.{Label, Sort, of_type, of_const, of_lifetime, infer, placeholder, canonical}
+use Rattle.type_terms.specs.Trees.{leaf, sort_of, is_sort}
+use Rattle.type_terms.specs.Codes.{same_label}
+use Rattle.type_terms.proofs.Matching.{same-label-sound}
 use Rattle.infer_table.specs.Canonical.{kind_of_leaf, is_among, with_label, leaves, place_of, canonical_label, relabeled}
 use Rattle.infer_table.specs.declared.canonical.CanonicalVarKind.{CanonicalVarKind}
 use Rattle.infer_table.specs.declared.canonical.CanonicalVarKind.TheVariants.{Ty, PlaceholderTy, Const, PlaceholderConst, Region}

@@ -1,10 +1,10 @@
 -- Where an answer holds no values, the variables with which the table began can have all values.
 use Rattle.std.proofs.Common.{◌≡◌, ℕ, zero, suc, ◌+◌, ◌<◌, ◌≤◌, arith, Bool, true, false, ◌&&◌, List, [], ◌∷◌, map, refl, sym, ◌∙◌, ap, subst, Some, if◌then◌else◌, is_some, ◌⊎◌, inl, inr}
 use Rattle.std.proofs.lemmas.Bool.{eqb-true}
-use Rattle.model.specs.Label.{Label, Sort, of_type, of_const, of_lifetime, infer, param, placeholder, canonical, static}
-use Rattle.model.specs.Trees.{Trees, none, tree, leaf, sort_of, is_sort}
-use Rattle.model.specs.Codes.{same}
-use Rattle.model.proofs.Matching.{same-sound}
+use Rattle.type_terms.specs.Label.{Label, Sort, of_type, of_const, of_lifetime, infer, param, placeholder, canonical, static}
+use Rattle.type_terms.specs.Trees.{Trees, none, tree, leaf, sort_of, is_sort}
+use Rattle.type_terms.specs.Codes.{same}
+use Rattle.type_terms.proofs.Matching.{same-sound}
 use Rattle.infer_table.specs.Canonical.{HasNoCanonical, kind_of_leaf, place_of, canonical_label, relabeled}
 use Rattle.infer_table.specs.Solutions.{Assignment, tree_of, resolved, HasValues}
 use Rattle.infer_table.specs.declared.canonical.CanonicalVarKind.{CanonicalVarKind}

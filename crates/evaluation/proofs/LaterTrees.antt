@@ -1,8 +1,8 @@
 -- Goals and replies as trees stay the same while the interner grows.
 use Rattle.std.specs.Prelude.{◌≡◌, List, [], ◌∷◌, Option, Some, None, option_map, refl}
 use Rattle.std.proofs.Common.{ap}
-use Rattle.model.specs.Label.{Label, of_trait, predicate}
-use Rattle.model.specs.Trees.{Trees, none, tree, ◌+++◌}
+use Rattle.type_terms.specs.Label.{Label, of_trait, predicate}
+use Rattle.type_terms.specs.Trees.{Trees, none, tree, ◌+++◌}
 use Rattle.type_terms.specs.Terms.{Entry, Keeps, types, args_lists}
 use Rattle.type_terms.specs.Kinds.{region_trees}
 use Rattle.type_terms.specs.Kept.{trees-later}

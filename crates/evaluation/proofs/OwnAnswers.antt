@@ -1,8 +1,8 @@
 -- An answer that says all that is to be said, and that is a function of trees.
 use Rattle.std.specs.Prelude.{◌≡◌, List, [], ◌∷◌, map, Some, Result, Ok, Err, IfOk, refl}
 use Rattle.std.proofs.Common.{ap, sym, ◌∙◌, subst}
-use Rattle.model.specs.Label.{Label, Sort, of_type, of_const, of_lifetime}
-use Rattle.model.specs.Trees.{Trees, none, tree, ◌+++◌, sort_of, IsA}
+use Rattle.type_terms.specs.Label.{Label, Sort, of_type, of_const, of_lifetime}
+use Rattle.type_terms.specs.Trees.{Trees, none, tree, ◌+++◌, sort_of, IsA}
 use Rattle.type_terms.specs.Terms.{Entry, Lawful, types, consts}
 use Rattle.type_terms.specs.Kinds.{ArgHeld, ArgsHeld, arg_trees, args_trees}
 use Rattle.type_terms.specs.declared.kinds.GenericArgKind.{GenericArgKind}

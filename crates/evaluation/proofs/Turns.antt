@@ -2,7 +2,7 @@
 use Rattle.std.proofs.Common.{◌≡◌, ℕ, zero, suc, ◌+◌, ◌<◌, List, [], ◌∷◌, ◌++◌, map, length, get_or, drop, refl, ap, sym, ◌∙◌, append_assoc, arith, subst, Option, Some, None}
 use Rattle.std.specs.Prelude.{option_and_then}
 use Rattle.std.proofs.lemmas.List.{append-nil}
-use Rattle.model.specs.Trees.{Trees, none, tree, ◌+++◌}
+use Rattle.type_terms.specs.Trees.{Trees, none, tree, ◌+++◌}
 use Rattle.type_terms.specs.Terms.{Entry, Keeps}
 use Rattle.type_terms.specs.Kinds.{ArgsHeld}
 use Rattle.type_terms.specs.declared.kinds.GenericArgKind.{GenericArgKind}

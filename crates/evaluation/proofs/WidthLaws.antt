@@ -1,7 +1,7 @@
 -- The questions and the answers of a frame's table are no wider than what was put in, nor is what equations and answers leave.
 use Rattle.std.proofs.Common.{◌≡◌, ℕ, ◌+◌, ◌≤◌, arith, Bool, true, false, ◌&&◌, if◌then◌else◌, List, [], ◌∷◌, map, Some, sym, subst, ◌⊎◌, inl, inr}
-use Rattle.model.specs.Label.{Label, of_type, of_const, of_lifetime, infer, param, placeholder, canonical, bound, static}
-use Rattle.model.specs.Trees.{Trees, leaf, sort_of, is_a}
+use Rattle.type_terms.specs.Label.{Label, of_type, of_const, of_lifetime, infer, param, placeholder, canonical, bound, static}
+use Rattle.type_terms.specs.Trees.{Trees, leaf, sort_of, is_a}
 use Rattle.infer_table.specs.Canonical.{OpenKinds, kind_of_leaf, kind_in_clause, relabeled, canonical_label, goal_leaves}
 use Rattle.infer_table.specs.Solutions.{Binding, resolved}
 use Rattle.infer_table.specs.Unification.{TableTrees}

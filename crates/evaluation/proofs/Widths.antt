@@ -2,8 +2,8 @@
 use Rattle.std.proofs.Common.{◌≡◌, ℕ, zero, suc, ◌+◌, ◌≤◌, arith, Bool, true, false, if◌then◌else◌, List, [], ◌∷◌, map, Option, Some, None, refl, sym, ◌∙◌, ap, subst}
 use Rattle.std.specs.Prelude.{is_some, option_map, unwrap_or}
 use Rattle.std.specs.List.{slice_get}
-use Rattle.model.specs.Label.{Label, Sort, of_type, of_const, of_lifetime, infer, bound, canonical, fn_ptr, dynamic, principal, auto_trait, inside}
-use Rattle.model.specs.Trees.{Trees, none, tree, leaf, ◌+++◌, is_sort, sort_of, placed, Single}
+use Rattle.type_terms.specs.Label.{Label, Sort, of_type, of_const, of_lifetime, infer, bound, canonical, fn_ptr, dynamic, principal, auto_trait, inside}
+use Rattle.type_terms.specs.Trees.{Trees, none, tree, leaf, ◌+++◌, is_sort, sort_of, placed, Single}
 use Rattle.infer_table.specs.Canonical.{OpenKinds, relabeled}
 use Rattle.infer_table.specs.Solutions.{Binding, is_variable, replace, resolved}
 use Rattle.infer_table.specs.Resolving.{is_root, followed}

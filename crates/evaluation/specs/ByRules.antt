@@ -1,9 +1,9 @@
 -- Proofs by the rules of a set of crates and of where-clauses.
 use Rattle.std.specs.Prelude.{List}
-use Rattle.model.specs.Worlds.{World, Reference}
-use Rattle.model.specs.Rules.{Way, rules, is_coinductive}
-use Rattle.model.specs.Proofs.{In}
-use Rattle.model.specs.Proofs as Model
+use Rattle.type_terms.specs.Worlds.{World, Reference}
+use Rattle.type_terms.specs.Rules.{Way, rules, is_coinductive}
+use Rattle.type_terms.specs.Proofs.{In}
+use Rattle.type_terms.specs.Proofs as Model
 use Rattle.evaluation.specs.Proof.{HasProof}
 
 -- one of the rules that conclude the reference has these premises

@@ -1,7 +1,7 @@
 -- What the calls of a context that evaluate do, over trees.
 use Rattle.std.specs.Prelude.{◌≡◌, not, List, [], ◌∷◌, map, Option, Some, option_map, if◌then◌else◌}
-use Rattle.model.specs.Label.{Label}
-use Rattle.model.specs.Trees.{leaf, sort_of}
+use Rattle.type_terms.specs.Label.{Label}
+use Rattle.type_terms.specs.Trees.{leaf, sort_of}
 use Rattle.type_terms.specs.Terms.{Entry}
 use Rattle.infer_table.specs.Canonical.{GoalTrees, CanonicalForm, canonical_form, goal_leaves}
 use Rattle.infer_table.specs.declared.certainty.Certainty.{Certainty}

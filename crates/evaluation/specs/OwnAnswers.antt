@@ -1,6 +1,6 @@
 -- The answer that a context gives of itself.
 use Rattle.std.specs.Prelude.{◌≡◌, List, [], ◌∷◌, Option, Some, None}
-use Rattle.model.specs.Trees.{Trees, none, tree, ◌+++◌, sort_of}
+use Rattle.type_terms.specs.Trees.{Trees, none, tree, ◌+++◌, sort_of}
 use Rattle.type_terms.specs.Terms.{Entry}
 use Rattle.type_terms.specs.Kinds.{ArgsHeld, args_trees}
 use Rattle.infer_table.specs.declared.certainty.Certainty.{Certainty}

@@ -1,7 +1,7 @@
 -- What responses say.
 use Rattle.std.specs.Prelude.{ℕ, Bool, true, false, ◌==◌, ◌&&◌, ◌+◌, if◌then◌else◌, length, List, [], ◌∷◌}
-use Rattle.model.specs.Label.{Label, canonical, of_lifetime}
-use Rattle.model.specs.Trees.{is_sort}
+use Rattle.type_terms.specs.Label.{Label, canonical, of_lifetime}
+use Rattle.type_terms.specs.Trees.{is_sort}
 use Rattle.type_terms.specs.Terms.{Entry}
 use Rattle.type_terms.specs.Kinds.{ArgsHeld}
 use Rattle.type_terms.specs.declared.kinds.GenericArgKind.{GenericArgKind}

@@ -1,6 +1,6 @@
 -- Where an evaluation ends for want of numbers, over trees: those of a table's unknowns, or of a canonical form's variables.
 use Rattle.std.specs.Prelude.{◌≡◌, ◌≤◌, ◌<◌, ◌⊎◌, ℕ, suc, length, true, List, [], ◌∷◌, map, Option, Some, None}
-use Rattle.model.specs.Trees.{Trees, ◌+++◌}
+use Rattle.type_terms.specs.Trees.{Trees, ◌+++◌}
 use Rattle.type_terms.specs.Terms.{Entry}
 use Rattle.type_terms.specs.declared.TheConstants.{MAX_INDEX}
 use Rattle.infer_table.specs.Applied.{trees_of}

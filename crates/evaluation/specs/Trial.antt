@@ -1,6 +1,6 @@
 -- How a candidate is evaluated, over trees.
 use Rattle.std.specs.Prelude.{List, map, Option, Some, None}
-use Rattle.model.specs.Trees.{Trees}
+use Rattle.type_terms.specs.Trees.{Trees}
 use Rattle.type_terms.specs.Terms.{Entry}
 use Rattle.infer_table.specs.Certainties.{joined}
 use Rattle.infer_table.specs.Constraints.{constraints_trees}

@@ -1,7 +1,7 @@
 -- How wide terms are: a number that nothing in a frame makes greater.
 use Rattle.std.specs.Prelude.{ℕ, zero, suc, max, ◌≤◌, List, [], ◌∷◌}
-use Rattle.model.specs.Label.{Label, principal}
-use Rattle.model.specs.Trees.{Trees, none, tree}
+use Rattle.type_terms.specs.Label.{Label, principal}
+use Rattle.type_terms.specs.Trees.{Trees, none, tree}
 use Rattle.infer_table.specs.Solutions.{Binding}
 use Rattle.infer_table.specs.Values.{Value}
 use Rattle.evaluation.specs.Lists.{Every}

@@ -2,7 +2,7 @@
 ghost use Rattle.std.specs.Prelude.{◌≡◌, ◌⊎◌, ℕ, ◌<◌, ◌≤◌, List, ◌++◌, length, get_or, IfOk, IfErr, IfSome, OnOk, OnErr, Err, Some, None, unwrap_or, ◌==◌, if◌then◌else◌};
 ghost use Rattle.std.specs.Option.{option_or};
 ghost use Rattle.indexmap.specs.IndexSet.{insert_all};
-ghost use Rattle.model.specs.Label.{Sort};
+ghost use Rattle.type_terms.specs.Label.{Sort};
 ghost use Rattle.type_terms.specs.Terms.{Entry, Keeps, Has, args_lists};
 ghost use Rattle.type_terms.specs.Kinds.{ArgHeld, ArgsHeld, args_trees, bound_label};
 ghost use Rattle.type_terms.specs.Failures.{SomeKindIsFull};

@@ -7,7 +7,7 @@ ghost use Rattle.type_terms.specs.Failures.{SomeKindIsFull};
 ghost use Rattle.infer_table.specs.Numbers.{RunsOut};
 ghost use Rattle.infer_table.specs.Solutions.{HasNoSolution};
 ghost use Rattle.infer_table.specs.Content.{content, Ready, Grows};
-ghost use Rattle.model.specs.Trees.{none};
+ghost use Rattle.type_terms.specs.Trees.{none};
 ghost use Rattle.infer_table.specs.Values.{values_of};
 ghost use Rattle.infer_table.specs.Raw.{IsFull, variables_from};
 ghost use Rattle.infer_table.specs.Responses.{ResponseHeld, answer_trees};

@@ -1,7 +1,7 @@
 //! What responses say.
 
 ghost use Rattle.std.specs.Prelude.{◌≡◌, ◌↔◌, ◌+◌, ◌<◌, ◌^◌, length, IsTrue, IfOk};
-ghost use Rattle.model.specs.Label.{Sort};
+ghost use Rattle.type_terms.specs.Label.{Sort};
 ghost use Rattle.type_terms.specs.Kinds.{ArgHeld, ArgsHeld, bound_label};
 ghost use Rattle.infer_table.specs.Leaves.{leaf_label};
 ghost use Rattle.infer_table.specs.Values.{values_of};

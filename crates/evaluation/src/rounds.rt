@@ -1,6 +1,6 @@
 //! The rounds in which the nested goals of a context are asked, over the replies that are there.
 ghost use Rattle.std.specs.Prelude.{◌≡◌, ◌⊎◌, not, List, map, OnOk, IfOk, Ok, Err, Some, None};
-ghost use Rattle.model.specs.Trees.{is_sort};
+ghost use Rattle.type_terms.specs.Trees.{is_sort};
 ghost use Rattle.type_terms.specs.Terms.{Entry, Keeps};
 ghost use Rattle.type_terms.specs.Kinds.{ArgsHeld};
 ghost use Rattle.type_terms.specs.Failures.{SomeKindIsFull};

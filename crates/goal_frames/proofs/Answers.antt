@@ -1,7 +1,7 @@
 -- Answers are equal exactly if they say the same, and over a lawful interner exactly if their trees are.
 use Rattle.std.proofs.Common.{◌≡◌, List, [], ◌∷◌, refl, ap, sym}
 use Rattle.std.specs.Bool.{Decides}
-use Rattle.model.specs.Trees.{Trees}
+use Rattle.type_terms.specs.Trees.{Trees}
 use Rattle.type_terms.specs.Terms.{Entry, Keeps, Lawful, types, consts, trees_at}
 use Rattle.type_terms.specs.Kinds.{ArgHeld, ArgsHeld, region_label, region_trees}
 use Rattle.type_terms.specs.declared.region.Region.{Region}

@@ -1,7 +1,7 @@
 -- The questions that a list of rules asks are decided.
 use Rattle.std.proofs.Common.{◌≡◌, ℕ, Bool, true, List, [], ◌∷◌, length, refl, ◌∙◌, ap, Option, Some, None}
-use Rattle.model.specs.Label.{Label, canonical, of_trait, predicate}
-use Rattle.model.specs.Trees.{Trees, none, tree}
+use Rattle.type_terms.specs.Label.{Label, canonical, of_trait, predicate}
+use Rattle.type_terms.specs.Trees.{Trees, none, tree}
 use Rattle.type_terms.specs.Made.{terms, is_made}
 use Rattle.infer_table.specs.Canonical.{GoalTrees, CanonicalForm, canonical_form}
 use Rattle.infer_table.specs.Solutions.{Binding, replace, resolved}

@@ -1,7 +1,7 @@
 -- What frames hold stays the same while the interner grows.
 use Rattle.std.proofs.Common.{◌≡◌, List, [], ◌∷◌, map, refl, sym, ap, subst, Bool, Option, Some, None}
-use Rattle.model.specs.Label.{Label}
-use Rattle.model.specs.Trees.{Trees}
+use Rattle.type_terms.specs.Label.{Label}
+use Rattle.type_terms.specs.Trees.{Trees}
 use Rattle.type_terms.specs.Terms.{Entry, Keeps}
 use Rattle.infer_table.specs.Canonical.{GoalTrees}
 use Rattle.infer_table.specs.Kept.{constraints-kept}

@@ -1,6 +1,6 @@
 -- What comes of an open candidate, as its evaluation over the replies to its questions does.
 use Rattle.std.proofs.Common.{◌≡◌, List, [], ◌∷◌, map, refl, sym, ◌∙◌, ap, subst, Bool, Option, Some, None}
-use Rattle.model.specs.Label.{Label}
+use Rattle.type_terms.specs.Label.{Label}
 use Rattle.type_terms.specs.Terms.{Entry}
 use Rattle.infer_table.specs.declared.canonical.CanonicalVarKind.{CanonicalVarKind}
 use Rattle.infer_table.specs.declared.certainty.TypingMode.{TypingMode}

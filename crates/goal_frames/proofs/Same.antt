@@ -1,9 +1,9 @@
 -- Answers that are found to be the same are equal; only definite yeses are always applicable.
 use Rattle.std.proofs.Common.{◌≡◌, ℕ, suc, true, ◌&&◌, not, if◌then◌else◌, List, [], ◌∷◌, refl, ◌∙◌, ap}
-use Rattle.model.specs.Label.{Sort, of_lifetime}
-use Rattle.model.specs.Trees.{Trees, is_sort, is_no_tree}
-use Rattle.model.specs.Codes.{same}
-use Rattle.model.proofs.Matching.{same-sound}
+use Rattle.type_terms.specs.Label.{Sort, of_lifetime}
+use Rattle.type_terms.specs.Trees.{Trees, is_sort, is_no_tree}
+use Rattle.type_terms.specs.Codes.{same}
+use Rattle.type_terms.proofs.Matching.{same-sound}
 use Rattle.infer_table.specs.declared.canonical.CanonicalVarKind.{CanonicalVarKind}
 use Rattle.infer_table.specs.declared.canonical.CanonicalVarKind.TheVariants.{Ty, PlaceholderTy, Const, PlaceholderConst, Region}
 use Rattle.infer_table.specs.Certainties.{is_certain}

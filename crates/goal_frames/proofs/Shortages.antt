@@ -1,7 +1,7 @@
 -- Where a frame ends for want of numbers, over an interner that has grown.
 use Rattle.std.proofs.Common.{◌≡◌, List, [], ◌∷◌, ◌++◌, sym, subst, ◌∙◌, Option}
 use Rattle.type_terms.specs.Terms.{Entry, Keeps}
-use Rattle.model.specs.Trees.{Trees}
+use Rattle.type_terms.specs.Trees.{Trees}
 use Rattle.infer_table.proofs.ConstraintLists.{constraints-later}
 use Rattle.infer_table.specs.declared.canonical.CanonicalVarKind.{CanonicalVarKind}
 use Rattle.infer_table.specs.declared.certainty.Certainty.{Certainty}

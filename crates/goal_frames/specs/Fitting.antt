@@ -1,6 +1,6 @@
 -- What a handler's candidates and answers are made of.
 use Rattle.std.specs.Prelude.{List, Option, Some, None}
-use Rattle.model.specs.Label.{Label}
+use Rattle.type_terms.specs.Label.{Label}
 use Rattle.type_terms.specs.Terms.{Entry}
 use Rattle.infer_table.specs.declared.canonical.CanonicalVarKind.{CanonicalVarKind}
 use Rattle.infer_table.specs.declared.terms.Equation.{Equation}

@@ -3,8 +3,8 @@ use Rattle.std.proofs.Common.{◌≡◌, ℕ, Bool, true, false, refl, ap, sym, 
 use Rattle.std.proofs.lemmas.Bool.Decides.{nat_tests}
 use Rattle.std.proofs.lemmas.Nat.{le_or_l, le_or_r}
 use Rattle.std.specs.Prelude.{bit_and, bit_or, Result, Ok, Err, IfOk}
-use Rattle.model.specs.Label.{Label, canonical}
-use Rattle.model.specs.Trees.{Trees, none, tree, ◌+++◌, flags, label_flags, placed}
+use Rattle.type_terms.specs.Label.{Label, canonical}
+use Rattle.type_terms.specs.Trees.{Trees, none, tree, ◌+++◌, flags, label_flags, placed}
 use Rattle.type_terms.specs.Terms.{Entry, trees_at}
 use Rattle.type_terms.specs.Kinds.{region_trees}
 use Rattle.type_terms.proofs.InfoFacts.{info-append}

@@ -1,8 +1,8 @@
 -- A visit by the collector lists the open leaves.
 use Rattle.std.proofs.Common.{◌≡◌, ℕ, Bool, true, false, refl, ap, sym, ◌∙◌, subst, List, [], ◌∷◌, ◌++◌, Option, None, is_some, IsSome, if◌then◌else◌, ◌+◌, ◌<◌, ◌≤◌, length, drop, get_or, arith}
 use Rattle.std.proofs.lemmas.Grind.{common_steps}
-use Rattle.model.specs.Label.{Label, static}
-use Rattle.model.specs.Trees.{Trees, none, tree, leaf, ◌+++◌}
+use Rattle.type_terms.specs.Label.{Label, static}
+use Rattle.type_terms.specs.Trees.{Trees, none, tree, leaf, ◌+++◌}
 use Rattle.type_terms.specs.Terms.{Entry}
 use Rattle.type_terms.specs.declared.Fault.{Fault}
 use Rattle.type_terms.specs.declared.visit.Seen.{Seen}

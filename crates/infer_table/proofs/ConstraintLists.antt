@@ -1,8 +1,8 @@
 -- Lists of constraints, mapped and collected one by one.
 use Rattle.std.proofs.Common.{◌≡◌, ℕ, false, zero, suc, ◌+◌, ◌<◌, ◌≤◌, List, [], ◌∷◌, ◌++◌, length, take, drop, get_or, refl, ap, sym, ◌∙◌, subst, arith, None, Option}
 use Rattle.std.proofs.lemmas.Grind.{common_steps}
-use Rattle.model.specs.Label.{Label}
-use Rattle.model.specs.Trees.{Trees, none, tree, ◌+++◌}
+use Rattle.type_terms.specs.Label.{Label}
+use Rattle.type_terms.specs.Trees.{Trees, none, tree, ◌+++◌}
 use Rattle.type_terms.specs.Terms.{Entry, Keeps, types}
 use Rattle.type_terms.specs.Kinds.{region_trees}
 use Rattle.term_folds.specs.Folds.{Does, Folds, FoldsEach}

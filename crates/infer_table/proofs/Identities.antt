@@ -2,8 +2,8 @@
 use Rattle.std.proofs.Common.{◌≡◌, ℕ, zero, suc, ◌+◌, Bool, true, false, refl, ap, sym, ◌∙◌, subst, arith, List, [], ◌∷◌, map, drop, Option, Some, None, if◌then◌else◌}
 use Rattle.std.specs.Prelude.{option_map}
 use Rattle.std.specs.List.{slice_get}
-use Rattle.model.specs.Label.{Label, Sort, of_type, of_const, of_lifetime, canonical, static}
-use Rattle.model.specs.Trees.{Trees, leaf, ◌+++◌, sort_of, is_sort}
+use Rattle.type_terms.specs.Label.{Label, Sort, of_type, of_const, of_lifetime, canonical, static}
+use Rattle.type_terms.specs.Trees.{Trees, leaf, ◌+++◌, sort_of, is_sort}
 use Rattle.type_terms.specs.Terms.{Entry, Lawful}
 use Rattle.type_terms.specs.Kinds.{ArgHeld, ArgsHeld, arg_trees, args_trees, region_label}
 use Rattle.type_terms.specs.declared.region.RegionKind.{RegionKind}

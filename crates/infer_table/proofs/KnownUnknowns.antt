@@ -2,8 +2,8 @@
 use Rattle.std.proofs.Common.{◌≡◌, ℕ, ◌+◌, ◌<◌, ◌≤◌, Bool, true, false, ap, sym, ◌∙◌, subst, arith, List, [], ◌∷◌, zero, suc, drop, length, get_or, Option, Some, None, if◌then◌else◌}
 use Rattle.std.specs.Prelude.{unwrap_or}
 use Rattle.std.specs.List.{slice_get}
-use Rattle.model.specs.Label.{Label, Sort, infer, canonical}
-use Rattle.model.specs.Trees.{Trees, none, tree, ◌+++◌, is_sort, placed}
+use Rattle.type_terms.specs.Label.{Label, Sort, infer, canonical}
+use Rattle.type_terms.specs.Trees.{Trees, none, tree, ◌+++◌, is_sort, placed}
 use Rattle.type_terms.specs.Terms.{Entry}
 use Rattle.type_terms.specs.Kinds.{arg_trees, args_trees}
 use Rattle.type_terms.specs.declared.kinds.GenericArgKind.{GenericArgKind}

@@ -5,10 +5,10 @@ use Rattle.std.specs.List.{list_any, position_or_len, position}
 use Rattle.std.proofs.lemmas.List.Sums.{prefix_len-le-length}
 use Rattle.std.proofs.lemmas.Bool.Decides.{nat_tests}
 use Rattle.indexmap.specs.IndexSet.{insert_key}
-use Rattle.model.specs.Label.{Label, Sort, of_type, of_const, of_lifetime}
-use Rattle.model.specs.Trees.{leaf, sort_of, IsA}
-use Rattle.model.specs.Codes.{same_label}
-use Rattle.model.proofs.Matching.{same-label-sound}
+use Rattle.type_terms.specs.Label.{Label, Sort, of_type, of_const, of_lifetime}
+use Rattle.type_terms.specs.Trees.{leaf, sort_of, IsA}
+use Rattle.type_terms.specs.Codes.{same_label}
+use Rattle.type_terms.proofs.Matching.{same-label-sound}
 use Rattle.type_terms.specs.Terms.{Entry, Has, Lawful, types, consts, trees_at}
 use Rattle.type_terms.specs.Kinds.{ArgHeld, ArgsHeld, arg_trees, region_label}
 use Rattle.type_terms.specs.declared.number.DebruijnIndex.{DebruijnIndex}

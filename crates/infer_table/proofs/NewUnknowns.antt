@@ -1,7 +1,7 @@
 -- New unknowns for canonical variables, one by one.
 use Rattle.std.proofs.Common.{◌≡◌, ℕ, suc, refl, ap, sym, ◌∙◌, List, [], ◌∷◌, ◌++◌, length, get_or, take, ◌+◌, ◌<◌, ◌≤◌, arith}
 use Rattle.std.proofs.lemmas.List.{length-take-le}
-use Rattle.model.specs.Label.{Label}
+use Rattle.type_terms.specs.Label.{Label}
 use Rattle.type_terms.specs.Terms.{Entry}
 use Rattle.type_terms.specs.declared.kinds.GenericArgKind.{GenericArgKind}
 use Rattle.type_terms.proofs.Items.{take-push}

@@ -1,7 +1,7 @@
 -- The numbering folder numbers the open leaves.
 use Rattle.std.proofs.Common.{◌≡◌, ℕ, Bool, true, false, refl, ap, sym, ◌∙◌, List, [], ◌∷◌, is_some, if◌then◌else◌, ◌&&◌, zero, suc, ◌+◌, ◌<◌, ◌++◌, length, take, get_or, arith, subst}
-use Rattle.model.specs.Label.{Label, of_trait, predicate}
-use Rattle.model.specs.Trees.{Trees, none, tree, ◌+++◌, Single}
+use Rattle.type_terms.specs.Label.{Label, of_trait, predicate}
+use Rattle.type_terms.specs.Trees.{Trees, none, tree, ◌+++◌, Single}
 use Rattle.type_terms.specs.Terms.{Entry, trees_at, Keeps, types, args_lists}
 use Rattle.type_terms.specs.Kinds.{region_trees}
 use Rattle.term_folds.specs.declared.predicate.Clause.{Clause}

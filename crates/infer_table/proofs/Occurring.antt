@@ -2,8 +2,8 @@
 use Rattle.std.proofs.Common.{◌≡◌, ℕ, ◌+◌, ◌<◌, ◌≤◌, Bool, true, false, refl, ap, sym, ◌∙◌, arith, List, [], ◌∷◌, ◌++◌, subst, nat_eq, inl, inr, ◌||◌, length, get_or, take}
 use Rattle.std.specs.Prelude.{◌⊎◌}
 use Rattle.std.specs.HashSet.{contains}
-use Rattle.model.specs.Label.{of_type, Sort}
-use Rattle.model.specs.Trees.{Trees, none, ◌+++◌}
+use Rattle.type_terms.specs.Label.{of_type, Sort}
+use Rattle.type_terms.specs.Trees.{Trees, none, ◌+++◌}
 use Rattle.type_terms.specs.Terms.{Entry, Has, types, trees_at, Is, Lawful}
 use Rattle.type_terms.specs.declared.kinds.Ty.{Ty}
 use Rattle.type_terms.specs.declared.entered.Entered.{Entered}

@@ -2,8 +2,8 @@
 use Rattle.std.proofs.Common.{rules, ◌≡◌, ◌↔◌, ℕ, refl, ap, sym, ◌∙◌, List, [], ◌∷◌, map, Option, Some}
 use Rattle.std.specs.Bool.{Decides}
 use Rattle.std.proofs.lemmas.Slice.Eq.{slice_eq-Decides}
-use Rattle.model.specs.Label.{Label, of_trait, predicate}
-use Rattle.model.specs.Trees.{Trees, none, tree, ◌+++◌, leaf, Single}
+use Rattle.type_terms.specs.Label.{Label, of_trait, predicate}
+use Rattle.type_terms.specs.Trees.{Trees, none, tree, ◌+++◌, leaf, Single}
 use Rattle.type_terms.specs.Terms.{Entry, Has, Lawful, types, args_lists, trees_at}
 use Rattle.type_terms.specs.Kinds.{region_label}
 use Rattle.type_terms.specs.declared.TraitId.{TraitId}

@@ -4,9 +4,9 @@ use Rattle.std.specs.Bool.{Decides}
 use Rattle.std.specs.Prelude.{◌||◌}
 use Rattle.std.specs.List.{list_any}
 use Rattle.indexmap.specs.IndexSet.{insert_key, insert_all}
-use Rattle.model.specs.Trees.{Trees, none, tree, ◌+++◌, Single}
-use Rattle.model.specs.Codes.{same}
-use Rattle.model.proofs.Matching.{same-sound}
+use Rattle.type_terms.specs.Trees.{Trees, none, tree, ◌+++◌, Single}
+use Rattle.type_terms.specs.Codes.{same}
+use Rattle.type_terms.proofs.Matching.{same-sound}
 use Rattle.type_terms.specs.Terms.{Entry, Lawful, types, trees_at}
 use Rattle.type_terms.specs.Kinds.{region_trees}
 use Rattle.type_terms.specs.declared.region.Region.{Region}

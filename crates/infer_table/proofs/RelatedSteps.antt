@@ -1,8 +1,8 @@
 -- Pairs that an equation has related, from step to step.
 use Rattle.std.proofs.Common.{◌≡◌, ℕ, zero, suc, ◌+◌, ◌<◌, ◌≤◌, Bool, true, false, refl, ap, sym, ◌∙◌, arith, List, [], ◌∷◌, ◌++◌, length, length-append, take, subst, ◌⊎◌, inl, inr, if◌then◌else◌, eqb-true}
 use Rattle.std.proofs.lemmas.List.{append_assoc}
-use Rattle.model.specs.Trees.{Trees, none, ◌+++◌}
-use Rattle.model.proofs.TreeLaws.{append-none}
+use Rattle.type_terms.specs.Trees.{Trees, none, ◌+++◌}
+use Rattle.type_terms.proofs.TreeLaws.{append-none}
 use Rattle.type_terms.specs.Terms.{Entry, Lawful, Keeps, types, trees_at}
 use Rattle.type_terms.specs.Kinds.{ArgHeld, arg_trees}
 use Rattle.type_terms.specs.Kept.{has-later, trees-later}

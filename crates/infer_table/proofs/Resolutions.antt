@@ -1,7 +1,7 @@
 -- Goals resolved by a table.
 use Rattle.std.proofs.Common.{◌≡◌, ℕ, true, refl, ap, sym, ◌∙◌, List, [], ◌∷◌, ◌++◌, length, get_or, take, ◌+◌, ◌<◌}
-use Rattle.model.specs.Label.{Label, of_trait, predicate}
-use Rattle.model.specs.Trees.{Trees, none, tree, ◌+++◌}
+use Rattle.type_terms.specs.Label.{Label, of_trait, predicate}
+use Rattle.type_terms.specs.Trees.{Trees, none, tree, ◌+++◌}
 use Rattle.type_terms.specs.Terms.{Entry, Keeps, trees_at}
 use Rattle.type_terms.specs.Kinds.{region_trees}
 use Rattle.term_folds.specs.declared.predicate.Clause.{Clause}

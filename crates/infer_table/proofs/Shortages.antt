@@ -1,7 +1,7 @@
 -- Where an answer is not applied for want of room or of numbers.
 use Rattle.std.proofs.Common.{◌≡◌, ℕ, ◌+◌, ◌<◌, ◌≤◌, List, [], ◌∷◌, length, drop, get_or, ap, sym, ◌∙◌, subst, inl, inr, Option, Some, None}
 use Rattle.std.specs.Prelude.{◌⊎◌}
-use Rattle.model.specs.Trees.{Trees, none, tree, ◌+++◌, Single}
+use Rattle.type_terms.specs.Trees.{Trees, none, tree, ◌+++◌, Single}
 use Rattle.type_terms.specs.Terms.{Entry, Keeps, Lawful}
 use Rattle.type_terms.specs.Kinds.{ArgHeld, arg_trees, args_trees}
 use Rattle.type_terms.specs.declared.kinds.GenericArgKind.{GenericArgKind}

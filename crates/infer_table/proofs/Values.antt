@@ -4,8 +4,8 @@ use Rattle.std.specs.Prelude.{unwrap_or, option_map, IfSome}
 use Rattle.std.specs.Option.{option_or}
 use Rattle.std.proofs.lemmas.Grind.{common_steps}
 use Rattle.std.proofs.lemmas.Bool.{cases_lt}
-use Rattle.model.specs.Label.{Label, of_type, of_const, infer, canonical}
-use Rattle.model.specs.Trees.{Trees, none, tree, ◌+++◌, Single}
+use Rattle.type_terms.specs.Label.{Label, of_type, of_const, infer, canonical}
+use Rattle.type_terms.specs.Trees.{Trees, none, tree, ◌+++◌, Single}
 use Rattle.type_terms.specs.Terms.{Entry, Keeps, Lawful}
 use Rattle.type_terms.specs.Kinds.{ArgHeld, ArgsHeld, arg_trees, args_trees}
 use Rattle.type_terms.specs.declared.kinds.GenericArgKind.{GenericArgKind}

@@ -1,6 +1,6 @@
 -- An answer applied to a table, in terms of an interner's handles: what is put in, what is left, and which solutions go on.
 use Rattle.std.specs.Prelude.{◌≡◌, List, map, Option, option_map}
-use Rattle.model.specs.Trees.{Trees}
+use Rattle.type_terms.specs.Trees.{Trees}
 use Rattle.type_terms.specs.Terms.{Entry, Keeps, Lawful}
 use Rattle.type_terms.specs.Kinds.{ArgsHeld, args_trees}
 use Rattle.type_terms.specs.declared.kinds.GenericArgKind.{GenericArgKind}

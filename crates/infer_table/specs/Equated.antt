@@ -1,6 +1,6 @@
 -- What equations leave of a table, in terms of an interner's handles.
 use Rattle.std.specs.Prelude.{◌≡◌, ℕ, ◌+◌, ◌<◌, Bool, List, [], ◌∷◌}
-use Rattle.model.specs.Trees.{Trees, erase}
+use Rattle.type_terms.specs.Trees.{Trees, erase}
 use Rattle.type_terms.specs.Terms.{Entry, trees_at}
 use Rattle.type_terms.specs.Kinds.{arg_trees}
 use Rattle.type_terms.specs.declared.TheConstants.{MAX_INDEX}

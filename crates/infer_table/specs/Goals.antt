@@ -1,7 +1,7 @@
 -- What a goal stands for: its where-clauses and its predicate, as trees.
 use Rattle.std.specs.Prelude.{◌≡◌, ℕ, List, [], ◌∷◌, ◌++◌}
-use Rattle.model.specs.Label.{Label, of_trait, region_outlives, type_outlives, predicate}
-use Rattle.model.specs.Trees.{Trees, none, tree, ◌+++◌}
+use Rattle.type_terms.specs.Label.{Label, of_trait, region_outlives, type_outlives, predicate}
+use Rattle.type_terms.specs.Trees.{Trees, none, tree, ◌+++◌}
 use Rattle.type_terms.specs.Terms.{Entry, Has, args_lists, trees_at}
 use Rattle.type_terms.specs.Kinds.{region_trees}
 use Rattle.term_folds.specs.declared.predicate.TraitPredicate.{TraitPredicate}

@@ -1,7 +1,7 @@
 -- Open leaves as handles, and how they are collected and numbered.
 use Rattle.std.specs.Prelude.{◌≡◌, ℕ, Bool, true, false, List, [], ◌∷◌, map, is_some, IsSome, if◌then◌else◌, ◌==◌, ◌&&◌, bit_and}
-use Rattle.model.specs.Label.{Label, of_type, never, principal, auto_trait, predicate}
-use Rattle.model.specs.Trees.{Trees, none, tree, leaf, flags, sort_of, is_sort}
+use Rattle.type_terms.specs.Label.{Label, of_type, never, principal, auto_trait, predicate}
+use Rattle.type_terms.specs.Trees.{Trees, none, tree, leaf, flags, sort_of, is_sort}
 use Rattle.type_terms.specs.Terms.{Entry}
 use Rattle.type_terms.specs.Kinds.{ArgHeld, arg_trees}
 use Rattle.type_terms.specs.declared.Fault.{Fault}

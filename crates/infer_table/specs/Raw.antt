@@ -1,7 +1,7 @@
 -- Variables that stand for themselves.
 use Rattle.std.specs.Prelude.{◌≡◌, ℕ, ◌+◌, List, [], ◌∷◌, ◌⊎◌}
-use Rattle.model.specs.Label.{Sort, of_type, of_const, of_lifetime, canonical}
-use Rattle.model.specs.Trees.{leaf}
+use Rattle.type_terms.specs.Label.{Sort, of_type, of_const, of_lifetime, canonical}
+use Rattle.type_terms.specs.Trees.{leaf}
 use Rattle.type_terms.specs.Terms.{Entry, types, consts, held}
 use Rattle.infer_table.specs.declared.canonical.CanonicalVarKind.{CanonicalVarKind}
 use Rattle.infer_table.specs.declared.canonical.CanonicalVarKind.TheVariants.{Ty, PlaceholderTy, Const, PlaceholderConst, Region}

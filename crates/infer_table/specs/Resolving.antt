@@ -1,8 +1,8 @@
 -- The fold that puts their values in the place of variables.
 use Rattle.std.specs.Prelude.{◌≡◌, ℕ, ◌+◌, suc, List, [], ◌∷◌, cond, ◌==◌, Bool, true, false, if◌then◌else◌, bit_and, refl}
 use Rattle.std.proofs.Common.{arith, sym, subst, ◌<◌, ◌≤◌}
-use Rattle.model.specs.Label.{Label, Sort, of_type, of_const, of_lifetime, infer, principal, auto_trait}
-use Rattle.model.specs.Trees.{Trees, none, tree, leaf, ◌+++◌, flags, sort_of, is_sort}
+use Rattle.type_terms.specs.Label.{Label, Sort, of_type, of_const, of_lifetime, infer, principal, auto_trait}
+use Rattle.type_terms.specs.Trees.{Trees, none, tree, leaf, ◌+++◌, flags, sort_of, is_sort}
 use Rattle.term_folds.specs.Folds.{Does, enters, puts, again}
 use Rattle.type_terms.specs.Visits.{IsBound}
 use Rattle.type_terms.specs.Terms.{Entry, Keeps}

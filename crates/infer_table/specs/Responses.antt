@@ -1,7 +1,7 @@
 -- Answers as trees, and their canonical form.
 use Rattle.std.specs.Prelude.{◌≡◌, ℕ, List, [], ◌∷◌, ◌++◌, map, Some}
-use Rattle.model.specs.Label.{Label}
-use Rattle.model.specs.Trees.{Trees, none, ◌+++◌}
+use Rattle.type_terms.specs.Label.{Label}
+use Rattle.type_terms.specs.Trees.{Trees, none, ◌+++◌}
 use Rattle.type_terms.specs.Terms.{Entry}
 use Rattle.type_terms.specs.Kinds.{ArgsHeld, args_trees}
 use Rattle.term_folds.specs.Folds.{Does, FoldsEach}

@@ -1,7 +1,7 @@
 -- Where an answer is not applied for want of numbers, over trees alone.
 use Rattle.std.specs.Prelude.{◌≡◌, ℕ, ◌+◌, ◌≤◌, ◌⊎◌, List, [], ◌∷◌, Option, Some, None}
-use Rattle.model.specs.Label.{Label}
-use Rattle.model.specs.Trees.{Trees, none, tree}
+use Rattle.type_terms.specs.Label.{Label}
+use Rattle.type_terms.specs.Trees.{Trees, none, tree}
 use Rattle.type_terms.specs.declared.TheConstants.{MAX_INDEX}
 use Rattle.infer_table.specs.Unification.{TableTrees, unified}
 use Rattle.infer_table.specs.Numbers.{RunsOut}

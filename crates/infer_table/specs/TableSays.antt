@@ -1,7 +1,7 @@
 -- What a table says of a goal or of values, from which canonical forms are made.
 use Rattle.std.specs.Prelude.{◌≡◌, ◌↔◌, Bool, IsTrue, List}
-use Rattle.model.specs.Label.{Label}
-use Rattle.model.specs.Trees.{Trees, ◌+++◌}
+use Rattle.type_terms.specs.Label.{Label}
+use Rattle.type_terms.specs.Trees.{Trees, ◌+++◌}
 use Rattle.type_terms.specs.Terms.{Entry}
 use Rattle.type_terms.specs.Kinds.{args_trees}
 use Rattle.type_terms.specs.declared.kinds.GenericArgKind.{GenericArgKind}

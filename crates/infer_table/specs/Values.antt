@@ -2,8 +2,8 @@
 use Rattle.std.specs.Prelude.{◌≡◌, ℕ, Bool, true, false, List, [], ◌∷◌, map, Option, Some, None, if◌then◌else◌, ◌==◌, ◌&&◌, bit_and, refl}
 use Rattle.std.specs.List.{slice_get}
 use Rattle.std.proofs.Common.{ap}
-use Rattle.model.specs.Label.{Label, Sort, of_type, of_const, of_lifetime, canonical, principal, auto_trait}
-use Rattle.model.specs.Trees.{Trees, none, tree, ◌+++◌, is_sort, placed, flags}
+use Rattle.type_terms.specs.Label.{Label, Sort, of_type, of_const, of_lifetime, canonical, principal, auto_trait}
+use Rattle.type_terms.specs.Trees.{Trees, none, tree, ◌+++◌, is_sort, placed, flags}
 use Rattle.type_terms.specs.Terms.{Entry, Keeps}
 use Rattle.type_terms.specs.Kinds.{ArgsHeld, arg_trees}
 use Rattle.type_terms.specs.declared.kinds.GenericArgKind.{GenericArgKind}

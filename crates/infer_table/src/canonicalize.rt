@@ -1,6 +1,6 @@
 //! Answers put into canonical form.
 ghost use Rattle.std.specs.Prelude.{◌≡◌, ◌≤◌, ◌⊎◌, ℕ, List, [], length, IfOk, IfErr, Err, map, Some};
-ghost use Rattle.model.specs.Trees.{◌+++◌};
+ghost use Rattle.type_terms.specs.Trees.{◌+++◌};
 ghost use Rattle.type_terms.specs.Terms.{Keeps, Has, args_lists, trees_at};
 ghost use Rattle.type_terms.specs.Kinds.{ArgsHeld, args_trees};
 ghost use Rattle.type_terms.specs.declared.TheConstants.{MAX_INDEX};

@@ -1,8 +1,8 @@
 //! Open leaves collected and numbered.
 ghost use Rattle.std.specs.Prelude.{◌≡◌, ◌≤◌, ℕ, Bool, true, List, length, IfOk, IfErr, OnErr, is_some};
 ghost use Rattle.infer_table.specs.LeafLaws.{CollectsEach};
-ghost use Rattle.model.specs.Label.{of_const};
-ghost use Rattle.model.specs.Trees.{sort_of};
+ghost use Rattle.type_terms.specs.Label.{of_const};
+ghost use Rattle.type_terms.specs.Trees.{sort_of};
 ghost use Rattle.type_terms.specs.Terms.{Has, types, consts, trees_at};
 ghost use Rattle.type_terms.specs.Kinds.{region_label};
 ghost use Rattle.infer_table.specs.Canonical.{place_of};

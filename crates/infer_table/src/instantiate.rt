@@ -1,7 +1,7 @@
 //! Canonical variables replaced by values.
 ghost use Rattle.std.specs.Prelude.{◌≡◌, ℕ, List, IfOk, IfSome, Err, option_map};
 ghost use Rattle.std.specs.List.{slice_get};
-ghost use Rattle.model.specs.Label.{of_type, of_const, of_lifetime, canonical};
+ghost use Rattle.type_terms.specs.Label.{of_type, of_const, of_lifetime, canonical};
 ghost use Rattle.type_terms.specs.Terms.{Entry, Keeps, Has, types, consts, trees_at};
 ghost use Rattle.type_terms.specs.Kinds.{ArgsHeld, RegionHeld, region_trees};
 ghost use Rattle.type_terms.specs.Failures.{SomeKindIsFull};

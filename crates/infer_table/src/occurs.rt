@@ -1,6 +1,6 @@
 //! The search for a variable in a type.
 ghost use Rattle.std.specs.Prelude.{◌≡◌, IfOk, OnOk, true, false};
-ghost use Rattle.model.specs.Label.{of_type};
+ghost use Rattle.type_terms.specs.Label.{of_type};
 ghost use Rattle.type_terms.specs.Terms.{Has, types, consts, trees_at};
 ghost use Rattle.type_terms.specs.Kinds.{ArgsHeld, args_trees};
 ghost use Rattle.infer_table.specs.Solutions.{resolved, occurs};

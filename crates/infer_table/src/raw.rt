@@ -1,7 +1,7 @@
 //! The answer that says nothing.
 ghost use Rattle.std.specs.Prelude.{◌≡◌, ℕ, ◌<◌, List, [], IfOk, OnErr, Err, length, ◌⊎◌};
-ghost use Rattle.model.specs.Label.{canonical};
-ghost use Rattle.model.specs.Trees.{leaf};
+ghost use Rattle.type_terms.specs.Label.{canonical};
+ghost use Rattle.type_terms.specs.Trees.{leaf};
 ghost use Rattle.type_terms.specs.Terms.{Keeps, types, consts, held};
 ghost use Rattle.type_terms.specs.Kinds.{ArgHeld, ArgsHeld, args_trees};
 ghost use Rattle.type_terms.specs.declared.TheConstants.{MAX_INDEX};

@@ -4,7 +4,7 @@ use Rattle.std.specs.Prelude.{if◌then◌else◌, not, ◌||◌, ◌&&◌, ◌<
 use Rattle.std.specs.Str.{bytes_eq}
 use Rattle.std.proofs.lemmas.List.{append-nil, map-append, drop_all}
 use Rattle.std.proofs.lemmas.Cmp.{nat_list_eq_equiv}
-use Rattle.model.specs.Label.{Sort}
+use Rattle.type_terms.specs.Label.{Sort}
 use Rattle.text_definitions.specs.Faults.{is_among, once}
 use Rattle.line_faults.specs.Views.{variable_in}
 use Rattle.line_faults.specs.UsedNames.{Holds}

@@ -3,8 +3,8 @@ use Rattle.std.proofs.Common.{◌≡◌, ℕ, suc, ◌+◌, Bool, true, false, L
 use Rattle.std.specs.Prelude.{◌==◌, ◌^◌, nat_le, ◌||◌, ◌&&◌, not, is_some, nat_lt, if◌then◌else◌}
 use Rattle.std.specs.List.{list_any, position_from}
 use Rattle.std.specs.Option.{option_map_or, option_and_then}
-use Rattle.model.specs.Label.{Sort}
-use Rattle.model.specs.Worlds.{sees}
+use Rattle.type_terms.specs.Label.{Sort}
+use Rattle.type_terms.specs.Worlds.{sees}
 use Rattle.std.specs.Str.{bytes_eq}
 use Rattle.text_definitions.specs.Syntax.{Params, Line}
 use Rattle.text_definitions.specs.Declarations.{Known, known, world_of}

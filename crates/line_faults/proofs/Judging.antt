@@ -3,7 +3,7 @@ use Rattle.std.proofs.Common.{◌≡◌, ℕ, Bool, true, false, List, length, m
 use Rattle.std.specs.Prelude.{◌||◌, ◌&&◌, not, if◌then◌else◌, is_some, nat_le}
 use Rattle.std.specs.List.{list_any}
 use Rattle.std.specs.Option.{option_map_or}
-use Rattle.model.specs.Label.{Sort}
+use Rattle.type_terms.specs.Label.{Sort}
 use Rattle.text_definitions.specs.Syntax.{Line}
 use Rattle.text_definitions.specs.Declarations.{Declarations, known}
 use Rattle.text_definitions.specs.Uses.{uses, params_of, declared_name, other_uses}

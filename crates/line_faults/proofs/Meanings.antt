@@ -2,7 +2,7 @@
 use Rattle.std.proofs.Common.{◌≡◌, ℕ, Bool, false, List, Option, Some, None, ap, ◌∙◌}
 use Rattle.std.specs.Prelude.{is_some, if◌then◌else◌}
 use Rattle.std.specs.Option.{option_map_or}
-use Rattle.model.specs.Label.{Label, of_type}
+use Rattle.type_terms.specs.Label.{Label, of_type}
 use Rattle.text_definitions.specs.Declarations.{Declarations, Known, a_crate, a_struct, a_trait, known}
 use Rattle.text_definitions.specs.Faults.{is_auto_name}
 use Rattle.text_definitions.specs.Lowering.{place_among, struct_label}

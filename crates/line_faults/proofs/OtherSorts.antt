@@ -4,8 +4,8 @@ use Rattle.std.specs.Prelude.{if◌then◌else◌, not, ◌||◌, ◌&&◌}
 use Rattle.std.specs.List.{list_any}
 use Rattle.std.specs.Str.{bytes_eq}
 use Rattle.std.proofs.lemmas.Cmp.{nat_list_eq_equiv}
-use Rattle.model.specs.Label.{Sort}
-use Rattle.model.specs.Trees.{is_sort}
+use Rattle.type_terms.specs.Label.{Sort}
+use Rattle.type_terms.specs.Trees.{is_sort}
 use Rattle.text_definitions.specs.Faults.{is_among, is_of_other_kind}
 use Rattle.line_faults.specs.Views.{variable_in}
 use Rattle.line_faults.specs.declared.resolved.Variable.{Variable}

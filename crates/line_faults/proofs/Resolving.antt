@@ -1,7 +1,7 @@
 -- What the machine ends with is what was looked for.
 use Rattle.std.proofs.Common.{◌≡◌, ℕ, true, List, [], ◌∷◌, length, reverse, Some, sym, ap, ◌∙◌, subst}
 use Rattle.std.proofs.lemmas.List.{append-nil}
-use Rattle.model.specs.Label.{of_type}
+use Rattle.type_terms.specs.Label.{of_type}
 use Rattle.text_definitions.specs.Syntax.{TypeTree, named, Bound, type_arg}
 use Rattle.text_definitions.specs.Declarations.{known}
 use Rattle.text_definitions.specs.Faults.{variables_in}

@@ -1,8 +1,8 @@
 -- The cells of a type stand for its tree.
 use Rattle.std.proofs.Common.{◌≡◌, ℕ, suc, ◌+◌, Bool, true, false, List, [], ◌∷◌, ◌++◌, length, Option, Some, None, refl, sym, ap, ◌∙◌, arith, length-append}
 use Rattle.std.specs.Prelude.{if◌then◌else◌}
-use Rattle.model.specs.Label.{Label, Sort, of_type, of_const, of_lifetime, array, slice, tuple, dynamic, fn_ptr, auto_trait, ref, raw_pointer, principal}
-use Rattle.model.specs.Trees.{Trees, none, tree, leaf, ◌+++◌}
+use Rattle.type_terms.specs.Label.{Label, Sort, of_type, of_const, of_lifetime, array, slice, tuple, dynamic, fn_ptr, auto_trait, ref, raw_pointer, principal}
+use Rattle.type_terms.specs.Trees.{Trees, none, tree, leaf, ◌+++◌}
 use Rattle.text_definitions.specs.Syntax.{TypeTree, of_primitive, never_type, variable_type, named, reference_to, pointer_to, slice_of, array_of, tuple_of, fn_of, fn_to, dyn_of, Types, no_types, and_type, Args, no_args, and_arg, Arg, lifetime_arg, number_arg, type_arg, Item, bound_item, lifetime_item, Items, no_items, and_item, Length, number_length, name_length, variable_length}
 use Rattle.text_definitions.specs.Declarations.{known}
 use Rattle.text_definitions.specs.Uses.{next_kind, other_kinds, kinds_of_struct, kinds_of_trait, types_count, args_count}

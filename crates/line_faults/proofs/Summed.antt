@@ -16,7 +16,7 @@ use Rattle.line_faults.specs.Shapes.{Summary, is_bad, no_items, with_shape, with
 use Rattle.line_faults.specs.Back.{parts, parts_above, count_above, shape_of}
 use Rattle.line_faults.specs.Steps.{TakesPart}
 use Rattle.line_faults.specs.Resolved.{ResolvedCell, node_cell, autos_before}
-use Rattle.model.specs.Label.{auto_trait}
+use Rattle.type_terms.specs.Label.{auto_trait}
 use Rattle.line_faults.proofs.Counting.{if-true, if-false, is-eq, not-eq, is-lt, not-lt, parts-none}
 use Rattle.line_faults.proofs.PartsOfCells.{later-more}
 use Rattle.line_faults.proofs.Walking.{count-within}

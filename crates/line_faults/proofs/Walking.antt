@@ -4,7 +4,7 @@ use Rattle.std.specs.Prelude.{◌==◌, nat_le, MatchOption, if◌then◌else◌
 use Rattle.std.specs.Option.{option_to_list}
 use Rattle.text_definitions.specs.Uses.{Use, binder_uses, items_use, trait_use, name_use, variable_use, lifetime_use, lifetime_uses, lifetime_arg_uses}
 use Rattle.text_definitions.specs.Faults.{variables_in}
-use Rattle.model.specs.Label.{Sort, of_type, of_const, of_lifetime}
+use Rattle.type_terms.specs.Label.{Sort, of_type, of_const, of_lifetime}
 use Rattle.line_reader.specs.Cells.{Cell}
 use Rattle.line_faults.specs.declared.findings.Findings.{Findings}
 use Rattle.line_faults.specs.Machine as machine

@@ -1,6 +1,6 @@
 -- What going over the cells of a type finds.
 use Rattle.std.specs.Prelude.{◌≡◌, ℕ, Bool, false, List, [], ◌∷◌, length, reverse, Option}
-use Rattle.model.specs.Label.{Sort}
+use Rattle.type_terms.specs.Label.{Sort}
 use Rattle.text_definitions.specs.Syntax.{TypeTree, Args, Arg}
 use Rattle.text_definitions.specs.Uses.{args_count, arg_uses, args_uses, arg_depth, args_depth}
 use Rattle.line_reader.specs.Cells.{Cell, type_onto, args_onto}

@@ -3,8 +3,8 @@ use Rattle.std.specs.Prelude.{ℕ, suc, Bool, false, not, List, [], ◌∷◌, O
 use Rattle.std.specs.List.{position_from}
 use Rattle.std.specs.Option.{option_map_or}
 use Rattle.std.specs.Str.{bytes_eq}
-use Rattle.model.specs.Label.{Sort, of_type, of_const, of_lifetime}
-use Rattle.model.specs.Worlds.{sees}
+use Rattle.type_terms.specs.Label.{Sort, of_type, of_const, of_lifetime}
+use Rattle.type_terms.specs.Worlds.{sees}
 use Rattle.text_definitions.specs.Syntax.{Params}
 use Rattle.text_definitions.specs.Declarations.{world_of}
 use Rattle.text_definitions.specs.Uses.{declared_name}

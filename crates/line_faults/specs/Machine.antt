@@ -2,7 +2,7 @@
 use Rattle.std.specs.Prelude.{◌≡◌, ℕ, zero, suc, ◌-◌, ◌==◌, Bool, true, false, not, ◌||◌, ◌&&◌, List, [], ◌∷◌, ◌++◌, length, map, drop, Option, None, if◌then◌else◌, nat_lt}
 use Rattle.std.specs.List.{list_any}
 use Rattle.std.specs.Option.{option_map, option_map_or}
-use Rattle.model.specs.Label.{Label, Sort, of_type, of_const, of_lifetime, never, array, slice, tuple, fn_ptr, value, raw_pointer, principal}
+use Rattle.type_terms.specs.Label.{Label, Sort, of_type, of_const, of_lifetime, never, array, slice, tuple, fn_ptr, value, raw_pointer, principal}
 use Rattle.text_definitions.specs.Syntax.{Params, Line, Length}
 use Rattle.text_definitions.specs.Declarations.{Declarations, known}
 use Rattle.text_definitions.specs.Uses.{ItemShape, bound_shape, lifetime_shape, Use, name_use, trait_use, lifetime_use, variable_use, misfit_use, dyn_use, items_use, next_kind, kinds_of_struct, kinds_of_trait, length_uses, lifetime_uses, lifetime_arg_uses, number_arg_uses, binder_uses, params_of}

@@ -1,6 +1,6 @@
 -- What is found of the types and bounds of a line.
 use Rattle.std.specs.Prelude.{◌≡◌, false, List, [], map, nat_lt}
-use Rattle.model.specs.Label.{of_type}
+use Rattle.type_terms.specs.Label.{of_type}
 use Rattle.text_definitions.specs.Syntax.{TypeTree, named, Bound}
 use Rattle.text_definitions.specs.Declarations.{known}
 use Rattle.text_definitions.specs.Faults.{variables_in, depth_limit}

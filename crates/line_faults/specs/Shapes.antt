@@ -5,7 +5,7 @@ use Rattle.text_definitions.specs.Faults.{is_auto_name}
 use Rattle.text_definitions.specs.Lowering.{trait_number, inserted}
 use Rattle.text_definitions.specs.Uses.{ItemShape, bound_shape, lifetime_shape}
 use Rattle.line_faults.specs.Resolved.{ResolvedCell, Region, node_cell, lifetime_cell, autos_before}
-use Rattle.model.specs.Label.{dynamic}
+use Rattle.type_terms.specs.Label.{dynamic}
 
 pub record Summary : Type 0 where
   pub is_empty : Bool

@@ -1,7 +1,7 @@
 -- The trees that resolved cells stand for: read from left to right with a stack of trees.
 use Rattle.std.specs.Prelude.{◌≡◌, ℕ, zero, suc, ◌+◌, List, [], ◌∷◌, length}
-use Rattle.model.specs.Label.{Label, Sort, of_type, of_const, of_lifetime, static, ref, bound}
-use Rattle.model.specs.Trees.{Trees, none, tree, leaf, ◌+++◌}
+use Rattle.type_terms.specs.Label.{Label, Sort, of_type, of_const, of_lifetime, static, ref, bound}
+use Rattle.type_terms.specs.Trees.{Trees, none, tree, leaf, ◌+++◌}
 use Rattle.text_definitions.specs.Syntax.{TypeTree}
 use Rattle.text_definitions.specs.Lowering.{Meanings, variable_label, type_tree}
 use Rattle.line_faults.specs.Resolved.{Region, static_region, param_region, bound_region, ResolvedCell, node_cell, param_cell, variable_cell, lifetime_cell, reference_cell, type_before}

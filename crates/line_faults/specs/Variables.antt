@@ -1,7 +1,7 @@
 -- Variables that stand where consts and where types have to.
 use Rattle.std.specs.Prelude.{ℕ, Bool, List, [], ◌∷◌, if◌then◌else◌}
-use Rattle.model.specs.Label.{Sort, of_type, of_const, of_lifetime}
-use Rattle.model.specs.Trees.{is_sort}
+use Rattle.type_terms.specs.Label.{Sort, of_type, of_const, of_lifetime}
+use Rattle.type_terms.specs.Trees.{is_sort}
 use Rattle.std.specs.List.{list_any}
 use Rattle.text_definitions.specs.Faults.{is_of_other_kind}
 use Rattle.line_faults.specs.UsedNames.{Holds}

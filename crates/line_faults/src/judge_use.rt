@@ -2,7 +2,7 @@
 ghost use Rattle.std.specs.Prelude.{◌≡◌, ℕ, ◌+◌, ◌-◌, ◌*◌, ◌^◌, ◌≤◌, [], ◌∷◌, false, map, not, nat_le, IfOk, MatchOption};
 ghost use Rattle.std.specs.List.{list_any};
 ghost use Rattle.std.specs.Option.{option_map, option_map_or, option_and_then};
-ghost use Rattle.model.specs.Label as label;
+ghost use Rattle.type_terms.specs.Label as label;
 ghost use Rattle.line_reader.specs.TokenViews.{text_of};
 ghost use Rattle.line_reader.specs.TypeViews.{length_of};
 ghost use Rattle.text_definitions.specs.Tokens.{number_from};

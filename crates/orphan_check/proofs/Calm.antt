@@ -1,7 +1,7 @@
 -- Where a normalizer answers its input, no step is refused, and none lies too deep but where the limit is below the depth.
 use Rattle.std.proofs.Common.{if◌then◌else◌, ◌≡◌, ℕ, ◌<◌, max, zero, suc, refl, sym, ap, subst, ◌∙◌, arith, Bool, true, false, List, [], ◌∷◌, ◌++◌, Some, Ok}
-use Rattle.model.specs.Label.{of_type, infer}
-use Rattle.model.specs.Trees.{Trees, none, tree, ◌+++◌, is_sort, sort_of, Single, depth}
+use Rattle.type_terms.specs.Label.{of_type, infer}
+use Rattle.type_terms.specs.Trees.{Trees, none, tree, ◌+++◌, is_sort, sort_of, Single, depth}
 use Rattle.infer_table.specs.Solutions.{resolved, Acyclic, AllValued}
 use Rattle.infer_table.specs.Resolving.{followed}
 use Rattle.infer_table.specs.WellFormed.{is_numbered}

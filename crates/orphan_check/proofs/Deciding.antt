@@ -5,8 +5,8 @@ use Rattle.std.proofs.lemmas.List.{append_cancel_right, append-nil}
 use Rattle.std.specs.Prelude.{OnOk, OnErr, nat_eq}
 use Rattle.std.specs.List.{list_any}
 use Rattle.std.specs.HashSet.{HashSet, contains, Updates, IsUnchanged}
-use Rattle.model.specs.Label.{of_type}
-use Rattle.model.specs.Trees.{Trees, none, tree, is_sort, sort_of}
+use Rattle.type_terms.specs.Label.{of_type}
+use Rattle.type_terms.specs.Trees.{Trees, none, tree, is_sort, sort_of}
 use Rattle.type_terms.specs.Terms.{Entry, Has, types, trees_at}
 use Rattle.type_terms.specs.declared.kinds.Ty.{Ty}
 use Rattle.declarations.specs.Merges.{Each}

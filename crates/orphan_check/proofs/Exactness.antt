@@ -2,9 +2,9 @@
 use Rattle.std.proofs.Common.{arith, ◌≡◌, ◌⊎◌, ℕ, ◌<◌, refl, sym, ap, ◌∙◌, inl, inr, Bool, true, false, not, ◌&&◌, ◌||◌, ◌==◌, List, [], ◌∷◌, map, Option, Some, None, Result, Ok, Err}
 use Rattle.std.specs.Option.{option_map}
 use Rattle.std.specs.List.{list_all}
-use Rattle.model.specs.Trees.{Trees, depth}
-use Rattle.model.specs.Worlds.{World, Reference}
-use Rattle.model.specs.Walks.{trait_is, item_in, walk, open_walk, ends_local}
+use Rattle.type_terms.specs.Trees.{Trees, depth}
+use Rattle.type_terms.specs.Worlds.{World, Reference}
+use Rattle.type_terms.specs.Walks.{trait_is, item_in, walk, open_walk, ends_local}
 use Rattle.type_terms.specs.Terms.{Entry, trees_at, Lawful, Has, args_lists}
 use Rattle.type_terms.specs.declared.kinds.Ty.{Ty}
 use Rattle.infer_table.specs.Solutions.{resolved}

@@ -1,7 +1,7 @@
 -- The bounds of a `dyn` without a principal are no local type.
 use Rattle.std.proofs.Common.{◌≡◌, ℕ, refl, ap, ◌∙◌, List, [], ◌∷◌, Option, None}
-use Rattle.model.specs.Trees.{◌+++◌, leaf}
-use Rattle.model.specs.Worlds.{World}
+use Rattle.type_terms.specs.Trees.{◌+++◌, leaf}
+use Rattle.type_terms.specs.Worlds.{World}
 use Rattle.type_terms.specs.Terms.{Entry}
 use Rattle.type_terms.specs.Kinds.{region_label, region_trees, autos_trees, bounds_trees, principal_trees}
 use Rattle.type_terms.specs.declared.TraitId.{TraitId}

@@ -1,12 +1,12 @@
 -- What decides the walk of a type as it is written, by how the type is taken and by its flags.
 use Rattle.std.proofs.Common.{if◌then◌else◌, arith, length, take, get_or, ◌≡◌, ◌+◌, ◌<◌, ◌≤◌, ◌⊎◌, inl, inr, ℕ, refl, sym, ap, subst, ◌∙◌, Bool, true, false, IsTrue, not, ◌||◌, List, [], ◌∷◌, ◌++◌, Option, Some, None}
 use Rattle.std.specs.List.{list_any}
-use Rattle.model.specs.Label.{Label, of_type, of_const, of_lifetime, adt, ref, dynamic, principal, param, placeholder, infer, canonical, bound}
-use Rattle.model.specs.Trees.{Trees, none, tree, ◌+++◌, is_sort, sort_of, IsA, depth, some_node}
-use Rattle.model.specs.Worlds.{World, StructDecl, TraitDecl, structs_named, traits_named}
-use Rattle.model.specs.Walks.{Met, local, struct_leaf, dyn_leaf, entered, other_leaf, open_place, struct_is, trait_is, is_home, visited, until_decisive, ends_local}
-use Rattle.model.specs.Versions.{is_open_place}
-use Rattle.model.proofs.Walking.{visited-append}
+use Rattle.type_terms.specs.Label.{Label, of_type, of_const, of_lifetime, adt, ref, dynamic, principal, param, placeholder, infer, canonical, bound}
+use Rattle.type_terms.specs.Trees.{Trees, none, tree, ◌+++◌, is_sort, sort_of, IsA, depth, some_node}
+use Rattle.type_terms.specs.Worlds.{World, StructDecl, TraitDecl, structs_named, traits_named}
+use Rattle.type_terms.specs.Walks.{Met, local, struct_leaf, dyn_leaf, entered, other_leaf, open_place, struct_is, trait_is, is_home, visited, until_decisive, ends_local}
+use Rattle.type_terms.specs.Versions.{is_open_place}
+use Rattle.type_terms.proofs.Walking.{visited-append}
 use Rattle.type_terms.specs.Pieces.{one_piece}
 use Rattle.type_terms.specs.Scans.{some_node_of, has_flag}
 use Rattle.type_terms.specs.Terms.{Entry, Lawful, trees_at}

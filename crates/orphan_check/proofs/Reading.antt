@@ -1,11 +1,11 @@
 -- Where a normalizer answers its input, the steps of a walk are the items of the reference with the values of its variables.
 use Rattle.std.proofs.Common.{if◌then◌else◌, ◌≡◌, ℕ, zero, suc, refl, sym, ap, subst, ◌∙◌, Bool, true, false, List, [], ◌∷◌, ◌++◌, append_assoc, Option, Some, None, Ok}
-use Rattle.model.specs.Label.{Label, Sort, of_type, of_const, of_lifetime, dynamic, principal, auto_trait, infer, predicate, ref, adt}
-use Rattle.model.specs.Trees.{Trees, none, tree, ◌+++◌, is_sort, sort_of, Single}
-use Rattle.model.specs.Worlds.{World}
+use Rattle.type_terms.specs.Label.{Label, Sort, of_type, of_const, of_lifetime, dynamic, principal, auto_trait, infer, predicate, ref, adt}
+use Rattle.type_terms.specs.Trees.{Trees, none, tree, ◌+++◌, is_sort, sort_of, Single}
+use Rattle.type_terms.specs.Worlds.{World}
 use Rattle.infer_table.specs.Solutions.{Binding, resolved, is_variable, value_in, Acyclic, HasValues, AllValued}
 use Rattle.infer_table.proofs.ContentFacts.{AllSorted}
-use Rattle.model.specs.Walks.{trait_is, is_home}
+use Rattle.type_terms.specs.Walks.{trait_is, is_home}
 use Rattle.infer_table.specs.Content.{IsUnbound}
 use Rattle.infer_table.specs.Resolving.{followed, is_open}
 use Rattle.infer_table.specs.Unification.{term_sort}

@@ -1,7 +1,7 @@
 -- Steps of a walk, and the types that wait on its stack.
 use Rattle.std.proofs.Common.{if◌then◌else◌, arith, length, ◌-◌, ◌≡◌, ℕ, suc, refl, sym, ap, subst, ◌∙◌, Bool, true, false, List, [], ◌∷◌, ◌++◌, append_assoc, Result, Ok, Err}
-use Rattle.model.specs.Label.{Label, of_type, of_const, of_lifetime}
-use Rattle.model.specs.Trees.{Trees, none, tree, ◌+++◌, is_sort, sort_of, IsA}
+use Rattle.type_terms.specs.Label.{Label, of_type, of_const, of_lifetime}
+use Rattle.type_terms.specs.Trees.{Trees, none, tree, ◌+++◌, is_sort, sort_of, IsA}
 use Rattle.type_terms.specs.Terms.{Entry, Has, Lawful, types, consts, args_lists, trees_at}
 use Rattle.type_terms.specs.Kinds.{region_label, region_trees, arg_trees, args_trees, ArgHeld, ArgsHeld}
 use Rattle.type_terms.specs.declared.kinds.GenericArgKind.{GenericArgKind}

@@ -1,7 +1,7 @@
 -- What decides a walk of a reference as it is written, with no value of a variable in its place.
 use Rattle.std.specs.Prelude.{Bool, true, false, List, [], ◌∷◌, Option, Some, None}
-use Rattle.model.specs.Trees.{Trees}
-use Rattle.model.specs.Walks.{Met, local, open_place, visited}
+use Rattle.type_terms.specs.Trees.{Trees}
+use Rattle.type_terms.specs.Walks.{Met, local, open_place, visited}
 use Rattle.type_terms.specs.Terms.{Entry}
 use Rattle.declarations.specs.Items.{Items, declared}
 use Rattle.orphan_check.specs.declared.decisive.Decisive.{Decisive}

@@ -2,9 +2,9 @@
 -- variables.
 use Rattle.std.specs.Prelude.{◌≡◌, ℕ, ◌<◌, Bool, true, false, List, map, Some, None, Result, Ok, Err}
 use Rattle.std.specs.Option.{option_map}
-use Rattle.model.specs.Trees.{Trees, depth}
-use Rattle.model.specs.Worlds.{World, Reference}
-use Rattle.model.specs.Walks.{walk, ends_local, is_known_in}
+use Rattle.type_terms.specs.Trees.{Trees, depth}
+use Rattle.type_terms.specs.Worlds.{World, Reference}
+use Rattle.type_terms.specs.Walks.{walk, ends_local, is_known_in}
 use Rattle.type_terms.specs.Terms.{Entry, trees_at}
 use Rattle.type_terms.specs.declared.kinds.Ty.{Ty}
 use Rattle.term_folds.specs.declared.predicate.TraitRef.{TraitRef}

@@ -1,8 +1,8 @@
 -- What a walk meets, with the types (`orphan_check_trait_ref`), and the error that this is.
 use Rattle.std.specs.Prelude.{ℕ, Bool, true, false, if◌then◌else◌, List, [], ◌∷◌, ◌++◌, Option, Some, None}
-use Rattle.model.specs.Label.{of_type}
-use Rattle.model.specs.Trees.{Trees, none, tree, is_sort, sort_of}
-use Rattle.model.specs.Worlds.{World}
+use Rattle.type_terms.specs.Label.{of_type}
+use Rattle.type_terms.specs.Trees.{Trees, none, tree, is_sort, sort_of}
+use Rattle.type_terms.specs.Worlds.{World}
 use Rattle.orphan_check.specs.Looks.{Look, local_type, open_type, leaf_type, passage, look}
 
 -- A local type; an open place; a leaf that is neither, and whether no visited type has been left before it (`IsFirstInputType`).

@@ -1,9 +1,9 @@
 -- How a walk takes a type, by what stands outermost in it.
 use Rattle.std.specs.Prelude.{ℕ, if◌then◌else◌, Option}
-use Rattle.model.specs.Label.{Label, adt, ref, dynamic, principal, param, placeholder, infer, canonical, bound}
-use Rattle.model.specs.Trees.{Trees, tree}
-use Rattle.model.specs.Worlds.{World}
-use Rattle.model.specs.Walks.{struct_is, trait_is, is_home}
+use Rattle.type_terms.specs.Label.{Label, adt, ref, dynamic, principal, param, placeholder, infer, canonical, bound}
+use Rattle.type_terms.specs.Trees.{Trees, tree}
+use Rattle.type_terms.specs.Worlds.{World}
+use Rattle.type_terms.specs.Walks.{struct_is, trait_is, is_home}
 
 -- A type is local; or open, as a parameter, a variable, a placeholder and a bound type are; or a leaf that is neither; or a
 -- passage, a reference or a fundamental struct (RFC 1023), whose arguments are walked.

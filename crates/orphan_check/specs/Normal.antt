@@ -1,6 +1,6 @@
 -- What a normalizer answers.
 use Rattle.std.specs.Prelude.{List, Result, Ok, Err}
-use Rattle.model.specs.Trees.{Trees}
+use Rattle.type_terms.specs.Trees.{Trees}
 use Rattle.type_terms.specs.Terms.{Entry, trees_at}
 use Rattle.type_terms.specs.declared.kinds.Ty.{Ty}
 

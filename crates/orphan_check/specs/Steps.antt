@@ -1,8 +1,8 @@
 -- The steps of a walk that reads types by the values of variables and by a normalizer, down to a limit.
 use Rattle.std.specs.Prelude.{ℕ, zero, suc, Bool, true, false, if◌then◌else◌, List, [], ◌∷◌, ◌++◌, Option, Some, None, Result, Ok, Err}
-use Rattle.model.specs.Label.{of_type}
-use Rattle.model.specs.Trees.{Trees, none, tree, is_sort, sort_of}
-use Rattle.model.specs.Worlds.{World}
+use Rattle.type_terms.specs.Label.{of_type}
+use Rattle.type_terms.specs.Trees.{Trees, none, tree, is_sort, sort_of}
+use Rattle.type_terms.specs.Worlds.{World}
 use Rattle.type_terms.specs.Terms.{Entry}
 use Rattle.declarations.specs.Items.{Items, declared}
 use Rattle.infer_table.specs.Solutions.{Binding}

@@ -1,7 +1,7 @@
 -- What the parts of a walk answer.
 use Rattle.std.specs.Prelude.{◌≡◌, ◌⊎◌, ℕ, Bool, true, false, List, [], ◌∷◌, ◌++◌, Option, Some, None, Result, Ok, Err}
-use Rattle.model.specs.Trees.{Trees, none, tree, ◌+++◌}
-use Rattle.model.specs.Worlds.{World}
+use Rattle.type_terms.specs.Trees.{Trees, none, tree, ◌+++◌}
+use Rattle.type_terms.specs.Worlds.{World}
 use Rattle.type_terms.specs.Terms.{Entry, Has, types, args_lists, trees_at}
 use Rattle.type_terms.specs.Kinds.{region_trees}
 use Rattle.type_terms.specs.declared.region.Region.{Region}

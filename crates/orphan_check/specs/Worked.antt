@@ -1,9 +1,9 @@
 -- Worked cases of the orphan check and of known references, computed from the definitions.
 use Rattle.std.specs.Prelude.{◌≡◌, ℕ, Bool, true, false, [], ◌∷◌, Some, None}
-use Rattle.model.specs.Label.{of_type, bool, tuple, dynamic, static, uint, adt, ref, principal, infer}
-use Rattle.model.specs.Trees.{Trees, none, tree, leaf, ◌+++◌}
-use Rattle.model.specs.Worlds.{World, Reference, StructDecl, TraitDecl}
-use Rattle.model.specs.Walks.{is_known_in}
+use Rattle.type_terms.specs.Label.{of_type, bool, tuple, dynamic, static, uint, adt, ref, principal, infer}
+use Rattle.type_terms.specs.Trees.{Trees, none, tree, leaf, ◌+++◌}
+use Rattle.type_terms.specs.Worlds.{World, Reference, StructDecl, TraitDecl}
+use Rattle.type_terms.specs.Walks.{is_known_in}
 use Rattle.orphan_check.specs.Items.{nonlocal, uncovered, orphan_error}
 use Rattle.orphan_check.specs.Knowing.{meets_open, is_knowable}
 

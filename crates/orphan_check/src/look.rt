@@ -1,8 +1,8 @@
 //! How a walk takes a type.
 ghost use Rattle.std.specs.Prelude.{◌≡◌, List};
-ghost use Rattle.model.specs.Label.{adt, dynamic};
-ghost use Rattle.model.specs.Trees.{none, tree, ◌+++◌};
-ghost use Rattle.model.specs.Walks.{trait_is, is_home};
+ghost use Rattle.type_terms.specs.Label.{adt, dynamic};
+ghost use Rattle.type_terms.specs.Trees.{none, tree, ◌+++◌};
+ghost use Rattle.type_terms.specs.Walks.{trait_is, is_home};
 ghost use Rattle.type_terms.specs.Terms.{Entry, Has, types, args_lists, bounds_lists, trees_at};
 ghost use Rattle.type_terms.specs.Kinds.{region_trees};
 ghost use Rattle.type_terms.specs.declared.region.Region.{Region};

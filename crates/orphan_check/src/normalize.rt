@@ -13,7 +13,7 @@ pub trait Normalize {
 
     // What it answers at a type.
     ghost use Rattle.std.specs.Prelude.{Result};
-    ghost use Rattle.model.specs.Trees.{Trees};
+    ghost use Rattle.type_terms.specs.Trees.{Trees};
 
     ghost answers: { Self → Trees → Result Trees Self.Error };
 

@@ -1,6 +1,6 @@
 //! The walk of a reference as it is written, parameters and all, which takes no memory.
 ghost use Rattle.std.specs.Prelude.{◌≡◌, IsTrue, None};
-ghost use Rattle.model.specs.Versions.{open_walk_meets_param};
+ghost use Rattle.type_terms.specs.Versions.{open_walk_meets_param};
 ghost use Rattle.type_terms.specs.Terms.{Has, types, args_lists, trees_at};
 ghost use Rattle.type_terms.specs.Kinds.{ArgHeld, arg_trees};
 ghost use Rattle.declarations.specs.Held.{ReferenceHeld};

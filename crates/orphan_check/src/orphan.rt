@@ -1,6 +1,6 @@
 //! The orphan check of a reference.
 ghost use Rattle.std.specs.Prelude.{◌≡◌, ◌==◌, List, IfErr, IfOk};
-ghost use Rattle.model.specs.Walks.{keeps_orphan_rule, trait_is};
+ghost use Rattle.type_terms.specs.Walks.{keeps_orphan_rule, trait_is};
 ghost use Rattle.type_terms.specs.Terms.{Entry, Has, args_lists};
 ghost use Rattle.infer_table.specs.Content.{Ready};
 ghost use Rattle.declarations.specs.Held.{ReferenceHeld};

@@ -1,16 +1,16 @@
 -- The headline over texts that each list auto traits in an order of its own.
 use Rattle.std.proofs.Common.{[]}
-use Rattle.model.specs.Worlds.{ImplDecl}
-use Rattle.model.specs.Proofs.{In}
-use Rattle.model.specs.LinkedSet.{Cleared}
-use Rattle.model.specs.Renumbering.{renumbered_reference, renumbered_impl}
-use Rattle.model.specs.Arranging.{arranged_world}
-use Rattle.model.specs.ArrangingLaws.{Listed, HoldsInOrder, placed_impl}
-use Rattle.model.proofs.Members.{in-left, in-right}
-use Rattle.model.proofs.NoTwo.{no-common-instance}
-use Rattle.model.proofs.ArrangedSets.{arranged-linked}
-use Rattle.model.proofs.ArrangedViews.{proof-of, cleared-back, stands-there, in-any-order}
-use Rattle.model.proofs.ArrangedNoTwo.{no-two-in-any-order}
+use Rattle.type_terms.specs.Worlds.{ImplDecl}
+use Rattle.type_terms.specs.Proofs.{In}
+use Rattle.type_terms.specs.LinkedSet.{Cleared}
+use Rattle.type_terms.specs.Renumbering.{renumbered_reference, renumbered_impl}
+use Rattle.type_terms.specs.Arranging.{arranged_world}
+use Rattle.type_terms.specs.ArrangingLaws.{Listed, HoldsInOrder, placed_impl}
+use Rattle.type_terms.proofs.Members.{in-left, in-right}
+use Rattle.type_terms.proofs.NoTwo.{no-common-instance}
+use Rattle.type_terms.proofs.ArrangedSets.{arranged-linked}
+use Rattle.type_terms.proofs.ArrangedViews.{proof-of, cleared-back, stands-there, in-any-order}
+use Rattle.type_terms.proofs.ArrangedNoTwo.{no-two-in-any-order}
 use Rattle.overlap_check.specs.Verdicts.{IsPair}
 use Rattle.overlap_check.specs.Questions.{filled_reference}
 use Rattle.overlap_check.specs.SessionLaws.{HeadlineInAnyOrder}

@@ -2,12 +2,12 @@
 use Rattle.std.proofs.Common.{◌≡◌, ℕ, ◌<◌, ◌≤◌, Bool, true, false, [], ◌∷◌, refl, ap, sym, subst, ◌⊎◌, inl, inr, not, ◌||◌, ◌&&◌, ◌==◌, filter, arith, ltb, Some}
 use Rattle.std.specs.List.{list_all}
 use Rattle.std.proofs.lemmas.Bool.Decides.{nat_tests}
-use Rattle.model.specs.Worlds.{World, ImplDecl, Reference}
-use Rattle.model.specs.Proofs.{In}
-use Rattle.model.specs.Walks.{keeps_orphan_rule}
-use Rattle.model.specs.Answers.{CommonInstance}
-use Rattle.model.proofs.Members.{filter-in, in-cases, in-nothing, same-number, self-number, not-both}
-use Rattle.model.proofs.NoHolds.{member-each}
+use Rattle.type_terms.specs.Worlds.{World, ImplDecl, Reference}
+use Rattle.type_terms.specs.Proofs.{In}
+use Rattle.type_terms.specs.Walks.{keeps_orphan_rule}
+use Rattle.type_terms.specs.Answers.{CommonInstance}
+use Rattle.type_terms.proofs.Members.{filter-in, in-cases, in-nothing, same-number, self-number, not-both}
+use Rattle.type_terms.proofs.NoHolds.{member-each}
 use Rattle.orphan_check.specs.Items.{OrphanError, orphan_error}
 use Rattle.overlap_check.specs.OpenedHeaders.{opened}
 use Rattle.overlap_check.specs.Verdicts.{KeepsOrphanRule, IsFirstOrphan, IsPair}

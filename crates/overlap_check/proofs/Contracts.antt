@@ -1,25 +1,25 @@
 -- The laws over the promises.
 use Rattle.std.proofs.Common.{◌≡◌, ℕ, Bool, true, false, List, [], ◌∷◌, ◌++◌, refl, ap, sym, ◌∙◌, subst, inl, inr, map, ◌&&◌, IsTrue}
-use Rattle.model.specs.Label.{Sort}
-use Rattle.model.specs.Trees.{Trees, some_node}
-use Rattle.model.specs.Worlds.{World, Reference, ImplDecl, with_args}
-use Rattle.model.specs.Proofs.{In, Every, HasProof}
-use Rattle.model.specs.Elaborated.{HasElaboratedProof}
-use Rattle.model.proofs.ElaboratedProofs.{bare-proof}
-use Rattle.model.specs.Answers.{CommonInstance, is_closed, is_bounded, is_possible, is_variable, IsFixedClause}
-use Rattle.model.specs.Renumbering.{Renumbering, View, HoldsView, renumbered, renumbered_reference, renumbered_impl}
-use Rattle.model.specs.LinkedSet.{JoinedSet, LinkedSet, Cleared}
-use Rattle.model.proofs.HeldSets.{held-linked}
-use Rattle.model.proofs.Members.{in-map, in-left, in-right}
-use Rattle.model.proofs.NoHolds.{every-member}
-use Rattle.model.proofs.NoTwo.{no-common-instance}
-use Rattle.model.proofs.Fitting.{not-true}
-use Rattle.model.proofs.ViewLaws.{no-two-of-accepted, proved-in-set, no-in-set}
-use Rattle.model.proofs.RenumberedTrees.{inverse, impl-back, back, over-with-args, over-common, over-closed}
+use Rattle.type_terms.specs.Label.{Sort}
+use Rattle.type_terms.specs.Trees.{Trees, some_node}
+use Rattle.type_terms.specs.Worlds.{World, Reference, ImplDecl, with_args}
+use Rattle.type_terms.specs.Proofs.{In, Every, HasProof}
+use Rattle.type_terms.specs.Elaborated.{HasElaboratedProof}
+use Rattle.type_terms.proofs.ElaboratedProofs.{bare-proof}
+use Rattle.type_terms.specs.Answers.{CommonInstance, is_closed, is_bounded, is_possible, is_variable, IsFixedClause}
+use Rattle.type_terms.specs.Renumbering.{Renumbering, View, HoldsView, renumbered, renumbered_reference, renumbered_impl}
+use Rattle.type_terms.specs.LinkedSet.{JoinedSet, LinkedSet, Cleared}
+use Rattle.type_terms.proofs.HeldSets.{held-linked}
+use Rattle.type_terms.proofs.Members.{in-map, in-left, in-right}
+use Rattle.type_terms.proofs.NoHolds.{every-member}
+use Rattle.type_terms.proofs.NoTwo.{no-common-instance}
+use Rattle.type_terms.proofs.Fitting.{not-true}
+use Rattle.type_terms.proofs.ViewLaws.{no-two-of-accepted, proved-in-set, no-in-set}
+use Rattle.type_terms.proofs.RenumberedTrees.{inverse, impl-back, back, over-with-args, over-common, over-closed}
 use Rattle.overlap_check.specs.Verdicts.{placed, IsPair, ClearedBy, IsCleared}
 use Rattle.overlap_check.specs.Questions.{FitKinds, filled_reference, SolutionBy, Solution, yes, unproved, maybe, IsRefuteAnswer, unrefuted}
 use Rattle.overlap_check.specs.SessionLaws.{HeadlineHolds, HeadlineOfHeldSets, ApartIsCleared, CoversLeft, CoversRight, CoversClause, RefusedClauseClears, IsPassed, PassedIsAccepted, RefusedIsReal, DecidedIsAnswered, BoundedIsRefuted}
-use Rattle.model.proofs.Members.{not-both}
+use Rattle.type_terms.proofs.Members.{not-both}
 use Rattle.overlap_check.specs.Verdicts.{InEverySetWith}
 use Rattle.overlap_check.proofs.Possible.{bounded-possible}
 use Rattle.overlap_check.proofs.Filling.{filled-shut, filled-closed, over-filled-reference, over-fit, over-each-closed}

@@ -1,8 +1,8 @@
 -- The derived equality of heads tells whether their labels are one.
 use Rattle.std.proofs.Common.{◌≡◌, Bool, true, false, not, ◌&&◌, refl, sym, ap, ◌∙◌}
 use Rattle.std.specs.Prelude.{◌==◌}
-use Rattle.model.specs.Codes.{same_label}
-use Rattle.model.proofs.Applies.{same-label-itself}
+use Rattle.type_terms.specs.Codes.{same_label}
+use Rattle.type_terms.proofs.Applies.{same-label-itself}
 use Rattle.type_terms.specs.Kinds.{int_number, uint_number}
 use Rattle.type_terms.specs.declared.kinds.IntTy.{IntTy}
 use Rattle.type_terms.specs.declared.kinds.IntTy.TheVariants.{I8, I16, I32, I64, I128, Isize}

@@ -1,10 +1,10 @@
 -- Pairs of impls over the terms of an interner that grows.
 use Rattle.std.proofs.Common.{◌≡◌, ℕ, zero, false, List, [], ◌∷◌, length, map, refl, sym, ap, ◌∙◌, subst, None, Some, ◌⊎◌, inl, inr}
 use Rattle.std.specs.Prelude.{◌≢◌}
-use Rattle.model.specs.Trees.{Trees, none, erase, instantiate, some_node}
-use Rattle.model.specs.Terms.{erased_impl, IsCovered}
-use Rattle.model.specs.LinkedSet.{is_stray}
-use Rattle.model.specs.Worlds.{Reference, ImplDecl, all_with_args}
+use Rattle.type_terms.specs.Trees.{Trees, none, erase, instantiate, some_node}
+use Rattle.type_terms.specs.Erased.{erased_impl, IsCovered}
+use Rattle.type_terms.specs.LinkedSet.{is_stray}
+use Rattle.type_terms.specs.Worlds.{Reference, ImplDecl, all_with_args}
 use Rattle.type_terms.specs.Terms.{Entry, Keeps, Lawful, args_lists, trees_at}
 use Rattle.type_terms.specs.declared.ImplId.{ImplId}
 use Rattle.term_folds.specs.Arguments.{first_misfit}

@@ -3,12 +3,12 @@ use Rattle.std.proofs.Common.{◌≡◌, ℕ, zero, ◌<◌, ◌≤◌, ◌+◌,
 use Rattle.std.proofs.lemmas.Bool.Decides.{nat_tests}
 use Rattle.std.proofs.Math.Nat.{min-le_right}
 use Rattle.std.specs.Prelude.{if◌then◌else◌, IfOk, IfErr}
-use Rattle.model.specs.Trees.{Trees, erase, instantiate}
-use Rattle.model.specs.Terms.{erased_reference, erased_impl}
-use Rattle.model.specs.Proofs.{In}
-use Rattle.model.specs.Walks.{trait_is, visited, until_decisive, ends_local, walk, keeps_orphan_rule}
-use Rattle.model.specs.Worlds.{World, Reference, ImplDecl}
-use Rattle.model.proofs.Members.{here, there, in-filter, filter-in, in-cases, in-nothing}
+use Rattle.type_terms.specs.Trees.{Trees, erase, instantiate}
+use Rattle.type_terms.specs.Erased.{erased_reference, erased_impl}
+use Rattle.type_terms.specs.Proofs.{In}
+use Rattle.type_terms.specs.Walks.{trait_is, visited, until_decisive, ends_local, walk, keeps_orphan_rule}
+use Rattle.type_terms.specs.Worlds.{World, Reference, ImplDecl}
+use Rattle.type_terms.proofs.Members.{here, there, in-filter, filter-in, in-cases, in-nothing}
 use Rattle.type_terms.specs.Terms.{Entry, Keeps, Lawful, trees_at}
 use Rattle.type_terms.specs.declared.Fault.{Fault}
 use Rattle.type_terms.specs.declared.Fault.TheVariants.{Full, Memory}

@@ -2,8 +2,8 @@
 use Rattle.std.proofs.Common.{◌≡◌, ℕ, ◌<◌, Bool, true, false, ◌&&◌, ◌||◌, ◌==◌, List, [], ◌∷◌, Some, refl, sym, ap, ◌∙◌, subst, arith}
 use Rattle.std.proofs.lemmas.Bool.Decides.{nat_tests}
 use Rattle.std.specs.Prelude.{not, nat_lt}
-use Rattle.model.specs.Terms.{erased_impl}
-use Rattle.model.specs.Worlds.{World, ImplDecl}
+use Rattle.type_terms.specs.Erased.{erased_impl}
+use Rattle.type_terms.specs.Worlds.{World, ImplDecl}
 use Rattle.type_terms.specs.Terms.{Entry}
 use Rattle.type_terms.specs.declared.ImplId.{ImplId}
 use Rattle.declarations.specs.Items.{Items, IsAbove, declared, impl_at, impl_in}

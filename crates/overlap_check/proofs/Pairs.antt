@@ -1,14 +1,14 @@
 -- A pair of impls with unknowns for their parameters: common instances from solutions, goals that cover where-clauses, and back.
 use Rattle.std.proofs.Common.{◌≡◌, ℕ, zero, ◌≤◌, arith, false, not, List, [], map, refl, sym, ap, ◌∙◌, subst, ◌||◌}
-use Rattle.model.specs.Label.{Label, Sort, of_type, of_const, of_lifetime, infer, canonical}
-use Rattle.model.specs.Trees.{Trees, none, tree, Fits, erase, some_node, instantiate}
-use Rattle.model.specs.Terms.{erased_impl, erased_reference}
-use Rattle.model.specs.Worlds.{Reference, ImplDecl}
-use Rattle.model.specs.Proofs.{In}
-use Rattle.model.specs.Answers.{is_open, is_variable, CommonInstance, FixedLeft, FixedRight}
-use Rattle.model.proofs.Fitting.{child-shut, next-shut, no-left, or-no, not-true}
-use Rattle.model.proofs.Members.{in-map}
-use Rattle.model.proofs.Entries.{map-in}
+use Rattle.type_terms.specs.Label.{Label, Sort, of_type, of_const, of_lifetime, infer, canonical}
+use Rattle.type_terms.specs.Trees.{Trees, none, tree, Fits, erase, some_node, instantiate}
+use Rattle.type_terms.specs.Erased.{erased_impl, erased_reference}
+use Rattle.type_terms.specs.Worlds.{Reference, ImplDecl}
+use Rattle.type_terms.specs.Proofs.{In}
+use Rattle.type_terms.specs.Answers.{is_open, is_variable, CommonInstance, FixedLeft, FixedRight}
+use Rattle.type_terms.proofs.Fitting.{child-shut, next-shut, no-left, or-no, not-true}
+use Rattle.type_terms.proofs.Members.{in-map}
+use Rattle.type_terms.proofs.ProofEntries.{map-in}
 use Rattle.infer_table.specs.Solutions.{Assignment, Binding, instance, IsSorted, HasValues, occurs, resolved, Equates, HasNoSolution}
 use Rattle.infer_table.specs.Content.{Table, variables_of, IsProper}
 use Rattle.overlap_check.specs.Questions.{filled}

@@ -1,10 +1,10 @@
 -- What is asked over the table of a pair speaks of the table's own unknowns.
 use Rattle.std.proofs.Common.{◌≡◌, ℕ, zero, suc, ◌<◌, ◌≤◌, arith, Bool, true, false, List, [], ◌∷◌, refl, sym, ap, subst, ◌||◌}
-use Rattle.model.specs.Label.{Label, Sort, of_lifetime, infer, canonical, param, inside}
-use Rattle.model.specs.Trees.{Trees, none, tree, nth, shift, instantiate, some_node}
-use Rattle.model.specs.Worlds.{Reference, with_args, all_with_args}
-use Rattle.model.specs.Answers.{is_variable}
-use Rattle.model.proofs.Fitting.{child-shut, next-shut, no-left, or-no}
+use Rattle.type_terms.specs.Label.{Label, Sort, of_lifetime, infer, canonical, param, inside}
+use Rattle.type_terms.specs.Trees.{Trees, none, tree, nth, shift, instantiate, some_node}
+use Rattle.type_terms.specs.Worlds.{Reference, with_args, all_with_args}
+use Rattle.type_terms.specs.Answers.{is_variable}
+use Rattle.type_terms.proofs.Fitting.{child-shut, next-shut, no-left, or-no}
 use Rattle.type_terms.specs.Terms.{Entry, Keeps, Has, Lawful, args_lists, trees_at}
 use Rattle.type_terms.specs.Made.{terms, is_made, is_in_range}
 use Rattle.type_terms.proofs.Made.{made-weaker}

@@ -1,10 +1,10 @@
 -- What the solutions of equated headers say of where-clauses.
 use Rattle.std.proofs.Common.{◌≡◌, ℕ, zero, suc, ◌≤◌, arith, Bool, true, false, if◌then◌else◌, List, [], ◌∷◌, refl, sym, ap, ◌∙◌, subst, Option, Some, None, ◌||◌, ◌⊎◌, inl, inr}
-use Rattle.model.specs.Label.{Label, Sort, of_type, of_const, of_lifetime, infer, bool, value, static, param, inside}
-use Rattle.model.specs.Trees.{Trees, none, tree, ◌+++◌, sort_of, erase, nth, shift, instantiate}
-use Rattle.model.proofs.Walking.{or-cases}
-use Rattle.model.proofs.Members.{so-false}
-use Rattle.model.proofs.Fitting.{no-left as or-left, no-right as or-right, or-no as or-both}
+use Rattle.type_terms.specs.Label.{Label, Sort, of_type, of_const, of_lifetime, infer, bool, value, static, param, inside}
+use Rattle.type_terms.specs.Trees.{Trees, none, tree, ◌+++◌, sort_of, erase, nth, shift, instantiate}
+use Rattle.type_terms.proofs.Walking.{or-cases}
+use Rattle.type_terms.proofs.Members.{so-false}
+use Rattle.type_terms.proofs.Fitting.{no-left as or-left, no-right as or-right, or-no as or-both}
 use Rattle.infer_table.specs.Solutions.{Assignment, Binding, instance, tree_of, IsSorted, HasValues, is_variable, occurs, resolved, value_in, Solves, Equates, IsCompletion}
 use Rattle.type_terms.specs.Terms.{Entry}
 use Rattle.infer_table.specs.Content.{Table, variables_of, content, Ready, IsProper}

@@ -1,10 +1,10 @@
 -- Trees that are told apart by their tops, whatever stands for their parameters.
 use Rattle.std.proofs.Common.{◌≡◌, ℕ, zero, suc, Bool, true, false, not, List, ◌∷◌, Option, Some, None, refl, sym, ap, ◌∙◌, subst}
 use Rattle.std.specs.Prelude.{◌==◌, bit_and, bit_or, if◌then◌else◌}
-use Rattle.model.specs.Label.{Label, of_type, of_const, of_lifetime, bool, char, str, never, array, slice, tuple, dynamic, int, uint, adt, fn_ptr, ref, raw_pointer, principal, param, placeholder, infer, canonical, bound}
-use Rattle.model.specs.Trees.{Trees, none, tree, ◌+++◌, erase, erase_label, instantiate, Fits, Single, flags, label_flags, shift, nth}
-use Rattle.model.proofs.Members.{self-number}
-use Rattle.model.proofs.TreeLaws.{instantiate-append, single-nth, single-shift}
+use Rattle.type_terms.specs.Label.{Label, of_type, of_const, of_lifetime, bool, char, str, never, array, slice, tuple, dynamic, int, uint, adt, fn_ptr, ref, raw_pointer, principal, param, placeholder, infer, canonical, bound}
+use Rattle.type_terms.specs.Trees.{Trees, none, tree, ◌+++◌, erase, erase_label, instantiate, Fits, Single, flags, label_flags, shift, nth}
+use Rattle.type_terms.proofs.Members.{self-number}
+use Rattle.type_terms.proofs.TreeLaws.{instantiate-append, single-nth, single-shift}
 use Rattle.type_terms.specs.Terms.{Entry, Lawful, Has, term, trees_at}
 use Rattle.type_terms.specs.Kinds.{ArgHeld, arg_trees, args_trees}
 use Rattle.type_terms.proofs.Made.{false-true}

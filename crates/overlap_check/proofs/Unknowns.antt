@@ -1,8 +1,8 @@
 -- Unknowns for parameters, one by one.
 use Rattle.std.proofs.Common.{◌≡◌, zero, max, List, [], ◌∷◌, ◌++◌, refl, sym, ap, ◌∙◌}
-use Rattle.model.specs.Label.{Sort, of_type, of_const, of_lifetime, infer}
-use Rattle.model.specs.Trees.{Trees, leaf, ◌+++◌, outer_binder}
-use Rattle.model.proofs.TreeLaws.{append-assoc, append-none}
+use Rattle.type_terms.specs.Label.{Sort, of_type, of_const, of_lifetime, infer}
+use Rattle.type_terms.specs.Trees.{Trees, leaf, ◌+++◌, outer_binder}
+use Rattle.type_terms.proofs.TreeLaws.{append-assoc, append-none}
 use Rattle.type_terms.specs.Terms.{Entry, Keeps}
 use Rattle.type_terms.specs.Kinds.{ArgsHeld, arg_trees, args_trees}
 use Rattle.type_terms.specs.declared.kinds.GenericArgKind.{GenericArgKind}

@@ -1,8 +1,8 @@
 -- Values for a table's unknowns are those of a solution, as far as terms are resolved.
 use Rattle.std.proofs.Common.{◌≡◌, ℕ, zero, suc, ◌+◌, arith, Bool, true, false, List, [], ◌∷◌, ◌++◌, refl, sym, ap, ◌∙◌, Option, Some, None, ◌||◌, unwrap_or}
 use Rattle.std.specs.List.{slice_get}
-use Rattle.model.specs.Label.{Label, Sort, of_type, of_const, of_lifetime, infer}
-use Rattle.model.specs.Trees.{Trees, none, tree, erase}
+use Rattle.type_terms.specs.Label.{Label, Sort, of_type, of_const, of_lifetime, infer}
+use Rattle.type_terms.specs.Trees.{Trees, none, tree, erase}
 use Rattle.infer_table.specs.Solutions.{Assignment, Binding, Solves, instance, tree_of, IsSorted, HasValues, is_variable, occurs, resolved, value_in}
 use Rattle.infer_table.specs.Content.{Table, IsProper}
 use Rattle.infer_table.proofs.SolutionLaws.{is_variable-self}

@@ -1,8 +1,8 @@
 -- From answers to the goals of a pair to what is said of it.
 use Rattle.std.proofs.Common.{ℕ, List, ◌⊎◌, inl, inr}
-use Rattle.model.specs.Label.{Sort}
-use Rattle.model.specs.Worlds.{World, Reference, ImplDecl}
-use Rattle.model.specs.Proofs.{In}
+use Rattle.type_terms.specs.Label.{Sort}
+use Rattle.type_terms.specs.Worlds.{World, Reference, ImplDecl}
+use Rattle.type_terms.specs.Proofs.{In}
 use Rattle.overlap_check.specs.SessionLaws.{IsPassed, IsRefused}
 use Rattle.overlap_check.specs.Questions.{IsRefuted, IsRefuteAnswer, unrefuted}
 use Rattle.overlap_check.specs.Goals.{HasGoals}

@@ -1,8 +1,8 @@
 -- What an orphan check says whose variables have no values.
 use Rattle.std.proofs.Common.{◌≡◌, ℕ, ◌<◌, true, false, [], Some, Result, Ok, Err, List, ap, ◌∙◌, subst, arith}
-use Rattle.model.specs.Trees.{Trees, erase, depth}
-use Rattle.model.specs.Walks.{visited, until_decisive, ends_local}
-use Rattle.model.specs.Worlds.{World, Reference}
+use Rattle.type_terms.specs.Trees.{Trees, erase, depth}
+use Rattle.type_terms.specs.Walks.{visited, until_decisive, ends_local}
+use Rattle.type_terms.specs.Worlds.{World, Reference}
 use Rattle.type_terms.specs.Terms.{Entry, trees_at}
 use Rattle.type_terms.specs.declared.kinds.Ty.{Ty}
 use Rattle.term_folds.specs.declared.predicate.TraitRef.{TraitRef}

@@ -1,19 +1,19 @@
 -- Two texts in one set, and answers to questions.
 use Rattle.std.proofs.Common.{◌≡◌, ℕ, zero, suc, true, List, [], ◌∷◌, refl, ap, sym, ◌∙◌, subst, ◌⊎◌, inl, inr, IsTrue, filter, ◌==◌}
-use Rattle.model.specs.Label.{of_type, adt, bool, value, placeholder}
-use Rattle.model.specs.Trees.{Trees, none, tree, leaf}
-use Rattle.model.specs.Worlds.{World, ImplDecl, StructDecl, Reference, core, sees, view_of}
-use Rattle.model.specs.Rules.{asked, by_impl, by_clause, rules, Rule}
-use Rattle.model.specs.Proofs.{In, Entry, HasProof, HasProofByImpl, Every}
-use Rattle.model.specs.Answers.{is_closed, AtMostOne, IsDecided}
-use Rattle.model.proofs.Entries.{map-in, entry-proved}
-use Rattle.model.specs.Core.{core_world}
-use Rattle.model.specs.Renumbering.{Renumbering, View, HoldsView, renumbered_struct}
-use Rattle.model.specs.LinkedSet.{IsAnswered, LinkedSet}
-use Rattle.model.specs.Worked.{first, second, u8, to, struct, impl_of, show_world, applied, text_of_a_user, set_of_two_users}
-use Rattle.model.proofs.Members.{in-nothing, in-append, in-cases, in-filter, filter-in, same-number, self-number}
-use Rattle.model.proofs.NoHolds.{member-each}
-use Rattle.model.proofs.TwoTexts.{two-texts}
+use Rattle.type_terms.specs.Label.{of_type, adt, bool, value, placeholder}
+use Rattle.type_terms.specs.Trees.{Trees, none, tree, leaf}
+use Rattle.type_terms.specs.Worlds.{World, ImplDecl, StructDecl, Reference, core, sees, view_of}
+use Rattle.type_terms.specs.Rules.{asked, by_impl, by_clause, rules, Rule}
+use Rattle.type_terms.specs.Proofs.{In, Entry, HasProof, HasProofByImpl, Every}
+use Rattle.type_terms.specs.Answers.{is_closed, AtMostOne, IsDecided}
+use Rattle.type_terms.proofs.ProofEntries.{map-in, entry-proved}
+use Rattle.type_terms.specs.Core.{core_world}
+use Rattle.type_terms.specs.Renumbering.{Renumbering, View, HoldsView, renumbered_struct}
+use Rattle.type_terms.specs.LinkedSet.{IsAnswered, LinkedSet}
+use Rattle.type_terms.specs.Worked.{first, second, u8, to, struct, impl_of, show_world, applied, text_of_a_user, set_of_two_users}
+use Rattle.type_terms.proofs.Members.{in-nothing, in-append, in-cases, in-filter, filter-in, same-number, self-number}
+use Rattle.type_terms.proofs.NoHolds.{member-each}
+use Rattle.type_terms.proofs.TwoTexts.{two-texts}
 use Rattle.overlap_check.specs.Verdicts.{IsAccepted, IsVerdict, accepted}
 use Rattle.overlap_check.specs.Worked.{TwoTextsAccepted, ValuesOfBothKinds, ParametersStandForThemselves}
 use Rattle.overlap_check.proofs.Contracts.{apart-cleared, headline}

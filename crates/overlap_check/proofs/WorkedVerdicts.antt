@@ -1,23 +1,23 @@
 -- The worked crates.
 use Rattle.std.proofs.Common.{◌≡◌, ◌<◌, ℕ, zero, suc, true, false, [], ◌∷◌, refl, ap, sym, ◌∙◌, subst, inl, inr, Some, arith}
 use Rattle.std.specs.List.{slice_get}
-use Rattle.model.specs.Label.{adt}
-use Rattle.model.specs.Trees.{none, leaf, erase}
-use Rattle.model.specs.Worlds.{World, ImplDecl, Reference, with_args}
-use Rattle.model.specs.Rules.{asked}
-use Rattle.model.specs.Proofs.{In}
-use Rattle.model.specs.Terms.{erased_impl}
-use Rattle.model.specs.Answers.{CommonInstance, IsFixedClause, is_possible, is_bounded}
-use Rattle.model.specs.Worked.{base, first, T, u8, impl_of, fn_of_any, fn_of_static}
-use Rattle.model.proofs.Members.{in-nothing}
-use Rattle.model.proofs.Fitting.{fits-sound}
-use Rattle.model.proofs.ViewLaws.{cleared-in-set}
+use Rattle.type_terms.specs.Label.{adt}
+use Rattle.type_terms.specs.Trees.{none, leaf, erase}
+use Rattle.type_terms.specs.Worlds.{World, ImplDecl, Reference, with_args}
+use Rattle.type_terms.specs.Rules.{asked}
+use Rattle.type_terms.specs.Proofs.{In}
+use Rattle.type_terms.specs.Erased.{erased_impl}
+use Rattle.type_terms.specs.Answers.{CommonInstance, IsFixedClause, is_possible, is_bounded}
+use Rattle.type_terms.specs.Worked.{base, first, T, u8, impl_of, fn_of_any, fn_of_static}
+use Rattle.type_terms.proofs.Members.{in-nothing}
+use Rattle.type_terms.proofs.Fitting.{fits-sound}
+use Rattle.type_terms.proofs.ViewLaws.{cleared-in-set}
 use Rattle.overlap_check.specs.Verdicts.{placed, IsCleared, IsRealOverlap}
 use Rattle.overlap_check.specs.Worked.{ForeignLeaf, UncoveredBeforeLocal, FlagsOfLeaves, show_blanket, show_for_a, cleared_view, ClearedByAClause, day_view, RefusedForSomeDay, lifetimes_view, LifetimesAlone, mine_blanket, mine_for_u8, later_view, ALaterPairIsRefused, NotAcceptedUnlinked}
-use Rattle.model.proofs.Members.{not-both}
-use Rattle.model.specs.Proofs.{HasProof, Every}
-use Rattle.model.specs.Elaborated.{HasElaboratedProof}
-use Rattle.model.proofs.ElaboratedProofs.{bare-proof}
+use Rattle.type_terms.proofs.Members.{not-both}
+use Rattle.type_terms.specs.Proofs.{HasProof, Every}
+use Rattle.type_terms.specs.Elaborated.{HasElaboratedProof}
+use Rattle.type_terms.proofs.ElaboratedProofs.{bare-proof}
 use Rattle.overlap_check.proofs.Possible.{bounded-possible}
 use Rattle.overlap_check.proofs.Contracts.{apart-cleared}
 use Rattle.overlap_check.proofs.Computing.{keeps-by, the-impl, first-by, one-pair}

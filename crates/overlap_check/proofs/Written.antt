@@ -1,15 +1,15 @@
 -- Terms as an interner makes them have their arguments.
 use Rattle.std.proofs.Common.{◌≡◌, ℕ, Bool, true, false, not, List, [], ◌∷◌, map, refl, sym, ap, subst, Option, Some, None, ◌&&◌, ◌||◌, cond, ◌⊎◌, inl, inr}
 use Rattle.std.specs.Option.{option_or}
-use Rattle.model.specs.Label.{Label, Sort, of_type, of_const, of_lifetime, param, infer, dynamic, principal, auto_trait, predicate}
-use Rattle.model.specs.Trees.{Trees, none, tree, erase, erase_label, sort_of, is_sort, is_no_tree, some_node}
-use Rattle.model.specs.LinkedSet.{is_stray}
-use Rattle.model.specs.Worlds.{Reference}
-use Rattle.model.specs.Proofs.{In}
-use Rattle.model.proofs.Fitting.{child-shut, next-shut, no-left}
-use Rattle.model.proofs.Walking.{left, right}
-use Rattle.model.proofs.Members.{in-cases, in-nothing}
-use Rattle.model.proofs.Entries.{map-in}
+use Rattle.type_terms.specs.Label.{Label, Sort, of_type, of_const, of_lifetime, param, infer, dynamic, principal, auto_trait, predicate}
+use Rattle.type_terms.specs.Trees.{Trees, none, tree, erase, erase_label, sort_of, is_sort, is_no_tree, some_node}
+use Rattle.type_terms.specs.LinkedSet.{is_stray}
+use Rattle.type_terms.specs.Worlds.{Reference}
+use Rattle.type_terms.specs.Proofs.{In}
+use Rattle.type_terms.proofs.Fitting.{child-shut, next-shut, no-left}
+use Rattle.type_terms.proofs.Walking.{left, right}
+use Rattle.type_terms.proofs.Members.{in-cases, in-nothing}
+use Rattle.type_terms.proofs.ProofEntries.{map-in}
 use Rattle.type_terms.specs.Terms.{Entry, Has, Lawful, args_lists, trees_at}
 use Rattle.type_terms.specs.Made.{terms, bounds, traits, is_made, is_leaf_label, is_in_range}
 use Rattle.type_terms.specs.declared.ImplId.{ImplId}

@@ -1,11 +1,11 @@
 -- What the check of a pair of impls finds: the goals that its where-clauses are, once the headers are equal.
 use Rattle.std.specs.Prelude.{◌≡◌, ℕ, suc, zero, false, List, [], ◌∷◌, ◌++◌}
-use Rattle.model.specs.Label.{Sort, of_type, of_const}
-use Rattle.model.specs.Trees.{Trees, some_node, instantiate, erase}
-use Rattle.model.specs.Terms.{erased_impl, IsCovered}
-use Rattle.model.specs.Worlds.{Reference, ImplDecl}
-use Rattle.model.specs.Proofs.{In}
-use Rattle.model.specs.Answers.{CommonInstance, FixedLeft, FixedRight, is_variable}
+use Rattle.type_terms.specs.Label.{Sort, of_type, of_const}
+use Rattle.type_terms.specs.Trees.{Trees, some_node, instantiate, erase}
+use Rattle.type_terms.specs.Erased.{erased_impl, IsCovered}
+use Rattle.type_terms.specs.Worlds.{Reference, ImplDecl}
+use Rattle.type_terms.specs.Proofs.{In}
+use Rattle.type_terms.specs.Answers.{CommonInstance, FixedLeft, FixedRight, is_variable}
 use Rattle.infer_table.specs.Solutions.{Binding, resolved}
 use Rattle.infer_table.specs.Content.{Table}
 use Rattle.overlap_check.specs.SessionLaws.{CoversLeft, CoversRight}

@@ -1,10 +1,10 @@
 -- Pairs of impls over the terms of an interner: with unknowns for their parameters, and with equal headers.
 use Rattle.std.specs.Prelude.{◌≡◌, zero, false, List, [], map, Some, ◌⊎◌}
-use Rattle.model.specs.Label.{Sort}
-use Rattle.model.specs.Trees.{Trees, erase, instantiate, some_node}
-use Rattle.model.specs.Terms.{erased_impl}
-use Rattle.model.specs.Worlds.{Reference, with_args, all_with_args}
-use Rattle.model.specs.Answers.{CommonInstance, is_variable}
+use Rattle.type_terms.specs.Label.{Sort}
+use Rattle.type_terms.specs.Trees.{Trees, erase, instantiate, some_node}
+use Rattle.type_terms.specs.Erased.{erased_impl}
+use Rattle.type_terms.specs.Worlds.{Reference, with_args, all_with_args}
+use Rattle.type_terms.specs.Answers.{CommonInstance, is_variable}
 use Rattle.type_terms.specs.Terms.{Entry, Has, args_lists, trees_at}
 use Rattle.type_terms.specs.declared.ImplId.{ImplId}
 use Rattle.term_folds.specs.declared.predicate.TraitRef.{TraitRef}

@@ -1,6 +1,6 @@
 -- Headers that a look at the tops of their arguments tells apart.
 use Rattle.std.specs.Prelude.{◌≡◌, ℕ, zero}
-use Rattle.model.specs.Trees.{Trees, erase, instantiate, Fits}
+use Rattle.type_terms.specs.Trees.{Trees, erase, instantiate, Fits}
 
 -- The flags of what is open, of lifetimes but `'static`, and of binders that count theirs.
 abbrev pub open_flags : ℕ

@@ -1,12 +1,12 @@
 -- What equating the headers of two impls says of their common instances, and what the answers to its goals say of the pair. The impls
 -- w and x are as they are written, with lifetimes.
 use Rattle.std.specs.Prelude.{◌≡◌, ℕ, ◌≤◌, List, [], map, ◌⊎◌}
-use Rattle.model.specs.Label.{Sort}
-use Rattle.model.specs.Trees.{Trees}
-use Rattle.model.specs.Terms.{erased_impl}
-use Rattle.model.specs.Worlds.{World, Reference, ImplDecl}
-use Rattle.model.specs.Proofs.{In}
-use Rattle.model.specs.Answers.{CommonInstance}
+use Rattle.type_terms.specs.Label.{Sort}
+use Rattle.type_terms.specs.Trees.{Trees}
+use Rattle.type_terms.specs.Erased.{erased_impl}
+use Rattle.type_terms.specs.Worlds.{World, Reference, ImplDecl}
+use Rattle.type_terms.specs.Proofs.{In}
+use Rattle.type_terms.specs.Answers.{CommonInstance}
 use Rattle.type_terms.specs.Terms.{Entry, Lawful}
 use Rattle.term_folds.specs.declared.predicate.TraitRef.{TraitRef}
 use Rattle.infer_table.specs.Solutions.{Assignment, Solves, Equates, HasNoSolution}

@@ -1,8 +1,8 @@
 -- Headers as the orphan check is asked of them: with variables in the places of their parameters.
 use Rattle.std.specs.Prelude.{ℕ, zero, suc, Bool, false, ◌&&◌, ◌==◌, if◌then◌else◌}
-use Rattle.model.specs.Label.{Label, Sort, param, infer}
-use Rattle.model.specs.Trees.{Trees, none, tree, is_sort, some_node}
-use Rattle.model.specs.Worlds.{Reference}
+use Rattle.type_terms.specs.Label.{Label, Sort, param, infer}
+use Rattle.type_terms.specs.Trees.{Trees, none, tree, is_sort, some_node}
+use Rattle.type_terms.specs.Worlds.{Reference}
 
 -- Parameter i, of the sort.
 abbrev pub is_param : Sort → ℕ → Label → Bool

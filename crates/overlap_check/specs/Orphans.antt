@@ -1,11 +1,11 @@
 -- The orphan check of the impls that a crate writes, over the terms of an interner.
 use Rattle.std.specs.Prelude.{◌≡◌, ℕ, true, false, List, map, Option, Some, None, slice_get}
 use Rattle.std.specs.Option.{option_map}
-use Rattle.model.specs.Label.{Sort, of_lifetime}
-use Rattle.model.specs.Trees.{Trees, erase, is_sort, some_node}
-use Rattle.model.specs.Proofs.{In}
-use Rattle.model.specs.Walks.{visited, until_decisive, ends_local, keeps_orphan_rule}
-use Rattle.model.specs.Worlds.{World, Reference, ImplDecl}
+use Rattle.type_terms.specs.Label.{Sort, of_lifetime}
+use Rattle.type_terms.specs.Trees.{Trees, erase, is_sort, some_node}
+use Rattle.type_terms.specs.Proofs.{In}
+use Rattle.type_terms.specs.Walks.{visited, until_decisive, ends_local, keeps_orphan_rule}
+use Rattle.type_terms.specs.Worlds.{World, Reference, ImplDecl}
 use Rattle.type_terms.specs.Terms.{Entry, trees_at}
 use Rattle.type_terms.specs.declared.ImplId.{ImplId}
 use Rattle.type_terms.specs.declared.kinds.Ty.{Ty}

@@ -1,7 +1,7 @@
 -- The pairs of impls of one trait that a crate brings together, by the numbers of the impls.
 use Rattle.std.specs.Prelude.{◌≡◌, ◌≢◌, ℕ, ◌<◌, Bool, ◌==◌, ◌&&◌, ◌||◌, not, nat_lt, List, Some}
-use Rattle.model.specs.Terms.{erased_impl}
-use Rattle.model.specs.Worlds.{World, ImplDecl}
+use Rattle.type_terms.specs.Erased.{erased_impl}
+use Rattle.type_terms.specs.Worlds.{World, ImplDecl}
 use Rattle.type_terms.specs.Terms.{Entry}
 use Rattle.type_terms.specs.declared.ImplId.{ImplId}
 use Rattle.declarations.specs.Items.{Items, IsAbove, declared, impl_at, impl_in}

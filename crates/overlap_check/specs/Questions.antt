@@ -1,13 +1,13 @@
 -- What an answer promises. V is the view of the asking crate c; unknowns of one kind count from 0; all is without lifetimes.
 use Rattle.std.specs.Prelude.{◌≡◌, ℕ, true, false, IsTrue, List, [], ◌∷◌, unwrap_or, if◌then◌else◌}
 use Rattle.std.specs.List.{slice_get}
-use Rattle.model.specs.Label.{Sort, infer}
-use Rattle.model.specs.Trees.{Trees, none, tree, leaf, ◌+++◌, IsA, is_sort}
-use Rattle.model.specs.Worlds.{World, Reference}
-use Rattle.model.specs.Proofs.{Every, HasProof}
-use Rattle.model.specs.Elaborated.{HasElaboratedProof}
-use Rattle.model.specs.Answers.{is_closed, is_bounded, is_possible, IsDecided}
-use Rattle.model.specs.Renumbering.{renumbered_reference}
+use Rattle.type_terms.specs.Label.{Sort, infer}
+use Rattle.type_terms.specs.Trees.{Trees, none, tree, leaf, ◌+++◌, IsA, is_sort}
+use Rattle.type_terms.specs.Worlds.{World, Reference}
+use Rattle.type_terms.specs.Proofs.{Every, HasProof}
+use Rattle.type_terms.specs.Elaborated.{HasElaboratedProof}
+use Rattle.type_terms.specs.Answers.{is_closed, is_bounded, is_possible, IsDecided}
+use Rattle.type_terms.specs.Renumbering.{renumbered_reference}
 use Rattle.overlap_check.specs.Verdicts.{InEverySetWith}
 
 -- Values for unknowns, one for each kind of the list

@@ -1,15 +1,15 @@
 -- What follows from the promises, and what the promises follow from. Each law stands on the contract of a function of its name.
 use Rattle.std.specs.Prelude.{◌≡◌, ℕ, true, false, IsTrue, List, [], ◌++◌, ◌⊎◌}
-use Rattle.model.specs.Label.{Sort}
-use Rattle.model.specs.Trees.{Trees, some_node}
-use Rattle.model.specs.Worlds.{World, Reference, ImplDecl, sees, with_args}
-use Rattle.model.specs.Proofs.{In, Every, HasProof, HasProofByImpl}
-use Rattle.model.specs.Answers.{is_closed, is_bounded, is_possible, CommonInstance, FixedLeft, FixedRight, IsDecided, is_variable}
-use Rattle.model.specs.Renumbering.{View, renumbered_reference, renumbered_impl}
-use Rattle.model.specs.LinkedSet.{JoinedSet, LinkedSet, Cleared, IsAnswered}
-use Rattle.model.specs.Supers.{IsHeld}
-use Rattle.model.specs.Arranging.{turned_back, arranged_reference}
-use Rattle.model.specs.ArrangingLaws.{Listed, HoldsInOrder, IsAnsweredInOrder, placed_reference, placed_impl}
+use Rattle.type_terms.specs.Label.{Sort}
+use Rattle.type_terms.specs.Trees.{Trees, some_node}
+use Rattle.type_terms.specs.Worlds.{World, Reference, ImplDecl, sees, with_args}
+use Rattle.type_terms.specs.Proofs.{In, Every, HasProof, HasProofByImpl}
+use Rattle.type_terms.specs.Answers.{is_closed, is_bounded, is_possible, CommonInstance, FixedLeft, FixedRight, IsDecided, is_variable}
+use Rattle.type_terms.specs.Renumbering.{View, renumbered_reference, renumbered_impl}
+use Rattle.type_terms.specs.LinkedSet.{JoinedSet, LinkedSet, Cleared, IsAnswered}
+use Rattle.type_terms.specs.Supers.{IsHeld}
+use Rattle.type_terms.specs.Arranging.{turned_back, arranged_reference}
+use Rattle.type_terms.specs.ArrangingLaws.{Listed, HoldsInOrder, IsAnsweredInOrder, placed_reference, placed_impl}
 use Rattle.overlap_check.specs.Verdicts.{IsVerdict, accepted, IsPair, IsCleared, KeepsOrphanRule, IsAccepted, IsRealOverlap}
 use Rattle.overlap_check.specs.Questions.{FitKinds, filled_reference, Solution, SolutionBy, ProveAnswer, yes, unproved, IsProveAnswer, no, unrefuted, IsRefuteAnswer, IsRefuted}
 

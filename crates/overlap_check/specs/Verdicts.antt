@@ -1,12 +1,12 @@
 -- What a verdict on a crate promises. V is the view of the crate c, without lifetimes.
 use Rattle.std.specs.Prelude.{◌≡◌, ℕ, ◌<◌, ◌≤◌, true, false, List, [], map, Some}
-use Rattle.model.specs.Worlds.{World, Reference, ImplDecl, with_args}
-use Rattle.model.specs.Proofs.{In, Every}
-use Rattle.model.specs.Elaborated.{HasElaboratedProof}
-use Rattle.model.specs.Walks.{keeps_orphan_rule}
-use Rattle.model.specs.Answers.{CommonInstance, IsFixedClause, is_bounded, is_possible}
-use Rattle.model.specs.Renumbering.{Renumbering, View, HoldsView, renumbered_impl}
-use Rattle.model.specs.LinkedSet.{LinkedSet, Cleared}
+use Rattle.type_terms.specs.Worlds.{World, Reference, ImplDecl, with_args}
+use Rattle.type_terms.specs.Proofs.{In, Every}
+use Rattle.type_terms.specs.Elaborated.{HasElaboratedProof}
+use Rattle.type_terms.specs.Walks.{keeps_orphan_rule}
+use Rattle.type_terms.specs.Answers.{CommonInstance, IsFixedClause, is_bounded, is_possible}
+use Rattle.type_terms.specs.Renumbering.{Renumbering, View, HoldsView, renumbered_impl}
+use Rattle.type_terms.specs.LinkedSet.{LinkedSet, Cleared}
 use Rattle.orphan_check.specs.Items.{OrphanError, orphan_error}
 use Rattle.overlap_check.specs.OpenedHeaders.{opened}
 

@@ -1,15 +1,15 @@
 -- Worked crates: their verdicts, and answers to their questions. Crate first uses base; structs count from 10, traits from 20 and
 -- impls from 100.
 use Rattle.std.specs.Prelude.{◌≡◌, ℕ, true, false, IsTrue, [], ◌∷◌, Some}
-use Rattle.model.specs.Label.{of_type, of_const, bool, char, str, tuple, uint, adt, fn_ptr, value, infer, param, placeholder}
-use Rattle.model.specs.Trees.{Trees, none, tree, leaf}
-use Rattle.model.specs.Worlds.{World, Reference, ImplDecl, view_of}
-use Rattle.model.specs.Rules.{asked, fn_once}
-use Rattle.model.specs.Proofs.{HasProofByImpl}
-use Rattle.model.specs.Terms.{erased_world}
-use Rattle.model.specs.Answers.{is_closed, CommonInstance}
-use Rattle.model.specs.Core.{box}
-use Rattle.model.specs.Worked.{base, first, beside_core, struct, fundamental_struct, trait_of, impl_of, to, u8, T, applied, fn_of_any, fn_of_static, show_world, text_of_a_user, set_of_two_users}
+use Rattle.type_terms.specs.Label.{of_type, of_const, bool, char, str, tuple, uint, adt, fn_ptr, value, infer, param, placeholder}
+use Rattle.type_terms.specs.Trees.{Trees, none, tree, leaf}
+use Rattle.type_terms.specs.Worlds.{World, Reference, ImplDecl, view_of}
+use Rattle.type_terms.specs.Rules.{asked, fn_once}
+use Rattle.type_terms.specs.Proofs.{HasProofByImpl}
+use Rattle.type_terms.specs.Erased.{erased_world}
+use Rattle.type_terms.specs.Answers.{is_closed, CommonInstance}
+use Rattle.type_terms.specs.Core.{box}
+use Rattle.type_terms.specs.Worked.{base, first, beside_core, struct, fundamental_struct, trait_of, impl_of, to, u8, T, applied, fn_of_any, fn_of_static, show_world, text_of_a_user, set_of_two_users}
 use Rattle.orphan_check.specs.Items.{nonlocal, uncovered, items, foreign_leaves}
 use Rattle.overlap_check.specs.Verdicts.{IsPair, IsCleared, IsVerdict, accepted, orphan, overlap}
 use Rattle.overlap_check.specs.Questions.{Solution, IsProveAnswer, yes, unproved, maybe, IsRefuteAnswer, no}

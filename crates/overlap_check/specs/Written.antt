@@ -1,8 +1,8 @@
 -- Impls as a text writes them, over the terms of an interner.
 use Rattle.std.specs.Prelude.{◌≡◌, false, List, map}
-use Rattle.model.specs.Trees.{some_node, erase}
-use Rattle.model.specs.Terms.{erased_impl, IsCovered}
-use Rattle.model.specs.LinkedSet.{is_stray}
+use Rattle.type_terms.specs.Trees.{some_node, erase}
+use Rattle.type_terms.specs.Erased.{erased_impl, IsCovered}
+use Rattle.type_terms.specs.LinkedSet.{is_stray}
 use Rattle.type_terms.specs.Terms.{Entry, Lawful, trees_at}
 use Rattle.type_terms.specs.declared.ImplId.{ImplId}
 use Rattle.term_folds.specs.declared.predicate.TraitRef.{TraitRef}

@@ -1,7 +1,7 @@
 //! Fresh unknowns for the parameters of impls.
 ghost use Rattle.std.specs.Prelude.{◌≡◌, ◌⊎◌, map, IfOk, OnOk, Err};
-ghost use Rattle.model.specs.Label.{infer};
-ghost use Rattle.model.specs.Trees.{leaf};
+ghost use Rattle.type_terms.specs.Label.{infer};
+ghost use Rattle.type_terms.specs.Trees.{leaf};
 ghost use Rattle.type_terms.specs.Terms.{Keeps, Has, args_lists, trees_at};
 ghost use Rattle.type_terms.specs.Kinds.{ArgHeld, arg_trees};
 ghost use Rattle.type_terms.specs.Failures.{SomeKindIsFull};

@@ -1,7 +1,7 @@
 //! Headers and where-clauses of impls over fresh unknowns.
 ghost use Rattle.std.specs.Prelude.{◌≡◌, ◌⊎◌, IfOk, OnOk, Err, None};
-ghost use Rattle.model.specs.Trees.{outer_binder};
-ghost use Rattle.model.specs.Worlds.{with_args, all_with_args};
+ghost use Rattle.type_terms.specs.Trees.{outer_binder};
+ghost use Rattle.type_terms.specs.Worlds.{with_args, all_with_args};
 ghost use Rattle.type_terms.specs.Terms.{Keeps, Has, args_lists, trees_at};
 ghost use Rattle.term_folds.specs.Arguments.{first_misfit};
 ghost use Rattle.type_terms.specs.Failures.{SomeKindIsFull};

@@ -1,6 +1,6 @@
 //! A look at two headers that tells most pairs apart, before anything is made of them.
 ghost use Rattle.std.specs.Prelude.{◌≡◌, ◌≢◌, true, false, bit_and};
-ghost use Rattle.model.specs.Trees.{flags};
+ghost use Rattle.type_terms.specs.Trees.{flags};
 ghost use Rattle.type_terms.specs.Terms.{Has, types, consts, trees_at};
 ghost use Rattle.type_terms.specs.Kinds.{ArgHeld, ArgsHeld, arg_trees, args_trees};
 ghost use Rattle.declarations.specs.Held.{ImplHeld};

@@ -1,6 +1,6 @@
 //! What two impls have in common: their headers made equal, and what is left to ask.
 ghost use Rattle.std.specs.Prelude.{◌≡◌, ◌⊎◌, IfOk, IfSome, Err, Ok, None};
-ghost use Rattle.model.specs.Worlds.{all_with_args};
+ghost use Rattle.type_terms.specs.Worlds.{all_with_args};
 ghost use Rattle.type_terms.specs.Terms.{Keeps, trees_at};
 ghost use Rattle.type_terms.specs.Failures.{SomeKindIsFull};
 ghost use Rattle.infer_table.specs.Content.{Table};

@@ -1,7 +1,7 @@
 //! The orphan check of the impls that a crate writes.
 ghost use Rattle.std.specs.Prelude.{◌≡◌, ◌==◌, ◌≤◌, ◌+◌, ◌⊎◌, false, [], IfOk, IfErr, IfSome, Err, List};
-ghost use Rattle.model.specs.Terms.{erased_reference};
-ghost use Rattle.model.specs.Walks.{trait_is};
+ghost use Rattle.type_terms.specs.Erased.{erased_reference};
+ghost use Rattle.type_terms.specs.Walks.{trait_is};
 ghost use Rattle.type_terms.specs.Terms.{Entry, Keeps, trees_at};
 ghost use Rattle.type_terms.specs.declared.Fault.TheVariants.{Memory};
 ghost use Rattle.type_terms.specs.declared.TheConstants.{MAX_INDEX};

@@ -1,6 +1,6 @@
 -- A goal and its table over an interner that has grown.
 use Rattle.std.proofs.Common.{◌≡◌, List, sym, ◌∙◌, ap, subst}
-use Rattle.model.specs.Label.{Label}
+use Rattle.type_terms.specs.Label.{Label}
 use Rattle.type_terms.specs.Terms.{Entry, Keeps}
 use Rattle.type_terms.specs.Kinds.{ArgsHeld}
 use Rattle.type_terms.specs.declared.kinds.GenericArgKind.{GenericArgKind}

@@ -1,7 +1,7 @@
 -- Nothing stands below the variables, lifetimes and numbers of a goal that a table resolves.
 use Rattle.std.proofs.Common.{arith, ◌≡◌, ℕ, Bool, true, false, List, [], ◌∷◌, refl, sym, ◌∙◌, ap, if◌then◌else◌}
-use Rattle.model.specs.Label.{Sort, infer}
-use Rattle.model.specs.Trees.{Trees, none, tree, ◌+++◌}
+use Rattle.type_terms.specs.Label.{Sort, infer}
+use Rattle.type_terms.specs.Trees.{Trees, none, tree, ◌+++◌}
 use Rattle.type_terms.specs.Terms.{Entry, Lawful, Has, args_lists, types, trees_at}
 use Rattle.type_terms.specs.Kinds.{ArgHeld, arg_trees, region_trees}
 use Rattle.type_terms.specs.declared.kinds.GenericArgKind.{GenericArgKind}

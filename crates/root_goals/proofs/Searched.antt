@@ -1,7 +1,7 @@
 -- What an answer of a search to a goal's canonical form says of the goal, over a table.
 use Rattle.std.proofs.Common.{◌≡◌, List, refl, sym, ◌∙◌, ap, subst, Option}
-use Rattle.model.specs.Label.{of_trait, predicate}
-use Rattle.model.specs.Trees.{none}
+use Rattle.type_terms.specs.Label.{of_trait, predicate}
+use Rattle.type_terms.specs.Trees.{none}
 use Rattle.type_terms.specs.Terms.{Entry, Lawful, trees_at}
 use Rattle.infer_table.specs.Canonical.{CanonicalForm, canonical_form}
 use Rattle.infer_table.specs.Content.{Table, content, Ready}

@@ -6,7 +6,7 @@ use Rattle.search_graph.specs.declared.delegate.Request.TheVariants.{Evaluate, E
 use Rattle.search_graph.specs.declared.delegate.Reply.{Reply}
 use Rattle.search_graph.specs.declared.delegate.Reply.TheVariants.{Begin, Result, Entered, Finished, Ignored}
 use Rattle.infer_table.specs.declared.certainty.Certainty.{Certainty}
-use Rattle.model.specs.Trees.{is_no_tree}
+use Rattle.type_terms.specs.Trees.{is_no_tree}
 use Rattle.infer_table.specs.declared.input.CanonicalInput.{CanonicalInput}
 use Rattle.infer_table.specs.declared.response.CanonicalResponse.{CanonicalResponse}
 use Rattle.infer_table.specs.Responses.{AnswerTrees}

@@ -1,6 +1,6 @@
 -- What a context of the solver holds, and what its numbers stand for.
 use Rattle.std.specs.Prelude.{◌≡◌, List, [], Option, Some, None}
-use Rattle.model.specs.Trees.{none}
+use Rattle.type_terms.specs.Trees.{none}
 use Rattle.type_terms.specs.Terms.{Entry, Keeps, Lawful}
 use Rattle.infer_table.specs.Canonical.{CanonicalForm}
 use Rattle.infer_table.specs.declared.certainty.TypingMode.{TypingMode}

@@ -1,8 +1,8 @@
 -- What visits find that look for labels.
 use Rattle.std.proofs.Common.{◌≡◌, ◌≢◌, arith, subst, ℕ, zero, suc, List, [], ◌∷◌, refl, sym, ◌∙◌, ap, Bool, true, false, not, ◌&&◌, ◌||◌, Option, Some, None, is_some}
 use Rattle.std.specs.List.{slice_get}
-use Rattle.model.specs.Label.{Label, of_lifetime, dynamic, principal, auto_trait, predicate}
-use Rattle.model.specs.Trees.{Trees, none, tree, sort_of, is_sort, is_no_tree, some_node}
+use Rattle.type_terms.specs.Label.{Label, of_lifetime, dynamic, principal, auto_trait, predicate}
+use Rattle.type_terms.specs.Trees.{Trees, none, tree, sort_of, is_sort, is_no_tree, some_node}
 use Rattle.type_terms.specs.Terms.{Entry, Lawful, Has, trees_at, term, args_lists, bounds_lists}
 use Rattle.type_terms.specs.Made.{Standing, terms, bounds, traits, is_leaf_label, is_made, is_in_range}
 use Rattle.type_terms.specs.Visits.{Visits, ended, passed, broken, entered, broken_below}

@@ -1,8 +1,8 @@
 -- The variables behind others, put in for a rule's own.
 use Rattle.std.proofs.Common.{◌≡◌, ℕ, zero, suc, ◌+◌, arith, true, List, [], ◌∷◌, refl, ◌∙◌, ap, Option, Some, None, if◌then◌else◌, Result, Ok, Err, IfOk}
 use Rattle.std.specs.List.{slice_get}
-use Rattle.model.specs.Label.{Label, Sort, canonical, of_trait, predicate}
-use Rattle.model.specs.Trees.{Trees, none, tree, leaf, ◌+++◌, placed}
+use Rattle.type_terms.specs.Label.{Label, Sort, canonical, of_trait, predicate}
+use Rattle.type_terms.specs.Trees.{Trees, none, tree, leaf, ◌+++◌, placed}
 use Rattle.type_terms.specs.Terms.{Entry}
 use Rattle.type_terms.specs.declared.kinds.GenericArgKind.{GenericArgKind}
 use Rattle.term_folds.specs.declared.predicate.Clause.{Clause}

@@ -1,7 +1,7 @@
 -- What lists of rules in code say, and when they are as they are to be.
 use Rattle.std.specs.Prelude.{◌≡◌, ℕ, suc, ◌==◌, Bool, true, false, ◌&&◌, if◌then◌else◌, List, [], ◌∷◌, map}
 use Rattle.std.specs.List.{list_all, list_any}
-use Rattle.model.specs.Trees.{Trees, some_node}
+use Rattle.type_terms.specs.Trees.{Trees, some_node}
 use Rattle.type_terms.specs.Terms.{Entry, trees_at}
 use Rattle.type_terms.specs.Made.{terms, is_made}
 use Rattle.type_terms.specs.declared.TraitId.{TraitId}

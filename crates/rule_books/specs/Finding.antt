@@ -1,7 +1,7 @@
 -- Visitors that look for labels.
 use Rattle.std.specs.Prelude.{ℕ, Bool, true, false, not, List}
-use Rattle.model.specs.Label.{Label, principal, auto_trait}
-use Rattle.model.specs.Trees.{Trees, none, tree}
+use Rattle.type_terms.specs.Label.{Label, principal, auto_trait}
+use Rattle.type_terms.specs.Trees.{Trees, none, tree}
 use Rattle.type_terms.specs.Visits.{IsBound}
 use Rattle.type_terms.specs.declared.visit.Seen.{Seen}
 use Rattle.type_terms.specs.declared.visit.Seen.TheVariants.{Break, Enter}

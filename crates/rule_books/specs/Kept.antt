@@ -1,6 +1,6 @@
 -- A list of rules in code means the same while its interner grows.
 use Rattle.std.proofs.Common.{◌≡◌, true, List, [], ◌∷◌, map, refl, ◌∙◌, ap}
-use Rattle.model.specs.Trees.{Trees}
+use Rattle.type_terms.specs.Trees.{Trees}
 use Rattle.type_terms.specs.Terms.{Entry, Keeps, args_lists}
 use Rattle.type_terms.specs.Kept.{has-later, trees-later}
 use Rattle.term_folds.specs.declared.predicate.TraitPredicate.{TraitPredicate}

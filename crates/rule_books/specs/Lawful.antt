@@ -1,7 +1,7 @@
 -- The goals of a list of rules in code are lawful programs.
 use Rattle.std.proofs.Common.{◌≡◌, ℕ, zero, suc, ◌+◌, arith, Bool, true, false, ◌&&◌, List, [], ◌∷◌, refl, sym, ◌∙◌, ap, if◌then◌else◌, Some}
 use Rattle.std.specs.List.{list_all}
-use Rattle.model.specs.Trees.{Trees, some_node}
+use Rattle.type_terms.specs.Trees.{Trees, some_node}
 use Rattle.infer_table.specs.Canonical.{CanonicalForm}
 use Rattle.infer_table.specs.declared.canonical.CanonicalVarKind.{CanonicalVarKind}
 use Rattle.infer_table.specs.declared.canonical.CanonicalVarKind.TheVariants.{Ty, PlaceholderTy, Const, PlaceholderConst, Region}

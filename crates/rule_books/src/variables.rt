@@ -2,8 +2,8 @@
 ghost use Rattle.std.specs.Prelude.{◌≡◌, ◌==◌};
 ghost use Rattle.std.specs.List.{slice_get};
 ghost use Rattle.std.specs.ControlFlow.{break_value};
-ghost use Rattle.model.specs.Label.{of_type, of_const, of_lifetime};
-ghost use Rattle.model.specs.Trees.{some_node, is_sort};
+ghost use Rattle.type_terms.specs.Label.{of_type, of_const, of_lifetime};
+ghost use Rattle.type_terms.specs.Trees.{some_node, is_sort};
 ghost use Rattle.type_terms.specs.Terms.{Has, args_lists, trees_at};
 ghost use Rattle.evaluation.specs.TableAnswers.{is_kind_of};
 ghost use Rattle.evaluation.specs.FrameTables.{kind_at};

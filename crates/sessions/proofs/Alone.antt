@@ -1,9 +1,9 @@
 -- References asked over a table without values.
 use Rattle.std.proofs.Common.{◌≡◌, ℕ, ◌≤◌, arith, List, [], map, Result, Ok, Err, sym, ap, ◌∙◌, subst}
 use Rattle.std.specs.Prelude.{OnOk}
-use Rattle.model.specs.Label.{of_type, of_const, of_trait, predicate}
-use Rattle.model.specs.Trees.{Trees, none, tree}
-use Rattle.model.specs.Worlds.{Reference}
+use Rattle.type_terms.specs.Label.{of_type, of_const, of_trait, predicate}
+use Rattle.type_terms.specs.Trees.{Trees, none, tree}
+use Rattle.type_terms.specs.Worlds.{Reference}
 use Rattle.type_terms.specs.Terms.{Entry, Keeps, Lawful, Has, args_lists, trees_at}
 use Rattle.term_folds.specs.Arguments.{arg_sort}
 use Rattle.type_terms.specs.Kept.{has-later, trees-later}

@@ -2,16 +2,16 @@
 use Rattle.std.proofs.Common.{◌≡◌, ◌==◌, ℕ, zero, suc, Bool, true, false, ◌&&◌, ◌||◌, not, List, [], ◌∷◌, map, Some, refl, sym, ◌∙◌, ap, subst, inl, inr}
 use Rattle.std.specs.Prelude.{IsSome}
 use Rattle.std.specs.List.{list_all}
-use Rattle.model.specs.Label.{Label, Sort, of_type, of_const, of_lifetime, adt, tuple, fn_ptr, raw_pointer, ref, array, slice, dynamic, static, value, principal, auto_trait, of_trait, predicate, param, placeholder, infer, canonical, bound}
-use Rattle.model.specs.Terms.{erased_reference}
-use Rattle.model.specs.Trees.{Trees, none, tree, leaf, sort_of, is_sort, is_no_tree, erase_label, erase, some_node}
-use Rattle.model.specs.Worlds.{World, Reference}
-use Rattle.model.specs.Rules.{unsize, autos_with}
-use Rattle.model.specs.Answers.{is_undeclared, written_in}
-use Rattle.model.specs.Walks.{trait_is}
-use Rattle.model.proofs.Fitting.{child-shut, next-shut}
-use Rattle.model.proofs.Members.{same-number}
-use Rattle.model.proofs.Walking.{left, right, both}
+use Rattle.type_terms.specs.Label.{Label, Sort, of_type, of_const, of_lifetime, adt, tuple, fn_ptr, raw_pointer, ref, array, slice, dynamic, static, value, principal, auto_trait, of_trait, predicate, param, placeholder, infer, canonical, bound}
+use Rattle.type_terms.specs.Erased.{erased_reference}
+use Rattle.type_terms.specs.Trees.{Trees, none, tree, leaf, sort_of, is_sort, is_no_tree, erase_label, erase, some_node}
+use Rattle.type_terms.specs.Worlds.{World, Reference}
+use Rattle.type_terms.specs.Rules.{unsize, autos_with}
+use Rattle.type_terms.specs.Answers.{is_undeclared, written_in}
+use Rattle.type_terms.specs.Walks.{trait_is}
+use Rattle.type_terms.proofs.Fitting.{child-shut, next-shut}
+use Rattle.type_terms.proofs.Members.{same-number}
+use Rattle.type_terms.proofs.Walking.{left, right, both}
 use Rattle.type_terms.specs.Made.{Standing, terms, bounds, traits, is_leaf_label, is_made}
 use Rattle.type_terms.proofs.Made.{is_ordinary, false-true, no-tree, IsLast, made-ordinary, makes-ordinary, made-weaker, last-bound, last-trait, never-dynamic, never-dynamic-bound, never-principal}
 use Rattle.infer_table.specs.Canonical.{OpenKinds, kind_of_leaf, kind_in_clause, StandsIn, relabeled, canonical_label, leaves, is_among, GoalTrees, goal_leaves, canonical_form, HasNoCanonical}

@@ -4,12 +4,12 @@ use Rattle.std.proofs.lemmas.List.Sorted.{Contains-permutation}
 use Rattle.std.proofs.lemmas.Option.{get_or_from_slice_get, slice_get-get_or, slice_get_within}
 use Rattle.std.specs.Prelude.{bit_and, IsPermutation}
 use Rattle.std.specs.Option.{option_map}
-use Rattle.model.specs.Proofs.{In}
-use Rattle.model.specs.Terms.{erased_impl}
-use Rattle.model.specs.Trees.{Trees, erase, flags}
-use Rattle.model.specs.Worlds.{World, Reference, ImplDecl}
-use Rattle.model.proofs.Entries.{map-in}
-use Rattle.model.proofs.Members.{here, in-left, in-right, in-map, self-number}
+use Rattle.type_terms.specs.Proofs.{In}
+use Rattle.type_terms.specs.Erased.{erased_impl}
+use Rattle.type_terms.specs.Trees.{Trees, erase, flags}
+use Rattle.type_terms.specs.Worlds.{World, Reference, ImplDecl}
+use Rattle.type_terms.proofs.ProofEntries.{map-in}
+use Rattle.type_terms.proofs.Members.{here, in-left, in-right, in-map, self-number}
 use Rattle.type_terms.specs.Terms.{Entry, Keeps, Has, args_lists, trees_at}
 use Rattle.type_terms.specs.declared.ImplId.{ImplId}
 use Rattle.type_terms.specs.Kept.{has-later, trees-later}

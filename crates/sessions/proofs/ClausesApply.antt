@@ -2,11 +2,11 @@
 use Rattle.std.proofs.Common.{◌≡◌, ℕ, ◌-◌, false, ◌||◌, List, [], ◌∷◌, Option, Some, None, max, pred, refl, ap, subst}
 use Rattle.std.specs.Option.{option_map_or}
 use Rattle.std.specs.Prelude.{IfSome}
-use Rattle.model.specs.Label.{Label, Sort, bound, fn_ptr, principal}
-use Rattle.model.specs.Trees.{Trees, none, tree, some_node, outer_binder, own_binder, outside}
-use Rattle.model.specs.Proofs.{In}
-use Rattle.model.proofs.Fitting.{child-shut, next-shut, no-left}
-use Rattle.model.proofs.Members.{here, there, in-map}
+use Rattle.type_terms.specs.Label.{Label, Sort, bound, fn_ptr, principal}
+use Rattle.type_terms.specs.Trees.{Trees, none, tree, some_node, outer_binder, own_binder, outside}
+use Rattle.type_terms.specs.Proofs.{In}
+use Rattle.type_terms.proofs.Fitting.{child-shut, next-shut, no-left}
+use Rattle.type_terms.proofs.Members.{here, there, in-map}
 use Rattle.type_terms.specs.Made.{terms}
 use Rattle.type_terms.specs.Terms.{trees_at}
 use Rattle.term_folds.specs.declared.predicate.TraitRef.{TraitRef}

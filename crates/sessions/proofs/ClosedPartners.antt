@@ -2,16 +2,16 @@
 -- whose self type has another head.
 use Rattle.std.proofs.Common.{◌≡◌, ◌==◌, ℕ, Bool, true, false, List, [], ◌∷◌, map, Some, None, Result, Ok, Err, refl, sym, ap, ◌∙◌, subst}
 use Rattle.std.specs.Prelude.{bit_and, IfOk}
-use Rattle.model.specs.Trees.{Trees, erase, flags, instantiate, Fits}
-use Rattle.model.specs.Answers.{CommonInstance}
-use Rattle.model.specs.Codes.{same_label}
-use Rattle.model.specs.Proofs.{In}
-use Rattle.model.specs.Terms.{erased_impl}
-use Rattle.model.specs.Worlds.{Reference, ImplDecl}
-use Rattle.model.proofs.Applies.{same-label-itself}
-use Rattle.model.proofs.Entries.{map-in}
-use Rattle.model.proofs.Matching.{same-label-sound}
-use Rattle.model.proofs.Members.{same-number, self-number}
+use Rattle.type_terms.specs.Trees.{Trees, erase, flags, instantiate, Fits}
+use Rattle.type_terms.specs.Answers.{CommonInstance}
+use Rattle.type_terms.specs.Codes.{same_label}
+use Rattle.type_terms.specs.Proofs.{In}
+use Rattle.type_terms.specs.Erased.{erased_impl}
+use Rattle.type_terms.specs.Worlds.{Reference, ImplDecl}
+use Rattle.type_terms.proofs.Applies.{same-label-itself}
+use Rattle.type_terms.proofs.ProofEntries.{map-in}
+use Rattle.type_terms.proofs.Matching.{same-label-sound}
+use Rattle.type_terms.proofs.Members.{same-number, self-number}
 use Rattle.type_terms.specs.Terms.{Entry, Lawful, Has, args_lists, trees_at}
 use Rattle.type_terms.specs.declared.Fault.{Fault}
 use Rattle.type_terms.specs.declared.ImplId.{ImplId}

@@ -2,14 +2,14 @@
 use Rattle.std.proofs.Common.{◌≡◌, ◌<◌, ◌⊎◌, inl, inr, ℕ, zero, suc, List, [], ◌∷◌, ◌++◌, map, length, pred, None, Some, refl, sym, ap, subst, arith}
 use Rattle.std.proofs.lemmas.List.{map-append}
 use Rattle.std.proofs.lemmas.Option.{same_Some}
-use Rattle.model.specs.Worlds.{World, ImplDecl, core}
-use Rattle.model.specs.Proofs.{In, HasProof}
-use Rattle.model.specs.Supers.{IsHeld}
-use Rattle.model.specs.Renumbering.{View, view_at}
-use Rattle.model.specs.LinkedSet.{JoinedSet, LinkedSet, HeadersHaveSupertraits, IsAnswered}
-use Rattle.model.proofs.Members.{in-map, here}
-use Rattle.model.proofs.SameNumbers.{reference-same}
-use Rattle.model.proofs.HeldSets.{held-linked}
+use Rattle.type_terms.specs.Worlds.{World, ImplDecl, core}
+use Rattle.type_terms.specs.Proofs.{In, HasProof}
+use Rattle.type_terms.specs.Supers.{IsHeld}
+use Rattle.type_terms.specs.Renumbering.{View, view_at}
+use Rattle.type_terms.specs.LinkedSet.{JoinedSet, LinkedSet, HeadersHaveSupertraits, IsAnswered}
+use Rattle.type_terms.proofs.Members.{in-map, here}
+use Rattle.type_terms.proofs.SameNumbers.{reference-same}
+use Rattle.type_terms.proofs.HeldSets.{held-linked}
 use Rattle.overlap_check.specs.Verdicts.{IsAccepted}
 use Rattle.overlap_check.specs.SessionLaws.{Headline, HeadlineHolds}
 use Rattle.overlap_check.specs.Questions.{filled_reference, Solution}

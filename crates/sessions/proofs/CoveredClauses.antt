@@ -1,10 +1,10 @@
 -- Parameters of where-clauses stand in the header, as the same sort.
 use Rattle.std.proofs.Common.{◌≡◌, ◌⊎◌, inl, inr, ℕ, ◌+◌, Bool, true, false, ◌&&◌, ◌||◌, ◌==◌, refl, sym, ap, ◌∙◌, subst, List, Some, arith}
 use Rattle.std.specs.Prelude.{slice_get}
-use Rattle.model.specs.Label.{Label, Sort, of_type, of_const, of_lifetime, dynamic, principal, auto_trait, predicate, fn_ptr, param, placeholder, infer, canonical, bound}
-use Rattle.model.specs.Trees.{Trees, none, tree, erase, erase_label, is_sort, is_no_tree, some_node}
-use Rattle.model.proofs.Members.{same-number}
-use Rattle.model.proofs.Walking.{or-left as or-here, or-right as or-there}
+use Rattle.type_terms.specs.Label.{Label, Sort, of_type, of_const, of_lifetime, dynamic, principal, auto_trait, predicate, fn_ptr, param, placeholder, infer, canonical, bound}
+use Rattle.type_terms.specs.Trees.{Trees, none, tree, erase, erase_label, is_sort, is_no_tree, some_node}
+use Rattle.type_terms.proofs.Members.{same-number}
+use Rattle.type_terms.proofs.Walking.{or-left as or-here, or-right as or-there}
 use Rattle.type_terms.specs.Made.{Standing, terms, bounds, traits, is_made}
 use Rattle.type_terms.proofs.Made.{left, right, false-true, no-tree, made-ordinary, last-bound, last-trait, never-dynamic, never-dynamic-bound, never-principal}
 use Rattle.assembly_laws.specs.Candidates.{is_param}
@@ -14,7 +14,7 @@ use Rattle.view_lowering.proofs.Sorts.{is_bad}
 use Rattle.view_lowering.proofs.Tests.{is_good, all_stand}
 use Rattle.view_lowering.proofs.Trees.{and-left, or-left, or-right}
 use Rattle.view_lowering.proofs.SeenViews.{good-fits, sort-same, sort-there, stands-by}
-use Rattle.model.specs.Supers.{mentions_as}
+use Rattle.type_terms.specs.Supers.{mentions_as}
 use Rattle.sessions.proofs.SeenPlainly.{plain-erased}
 use Rattle.sessions.proofs.Mentioned.{Place, at_label, at_child, at_next, place-of, either, in-label, in-child, in-next}
 

@@ -2,11 +2,11 @@
 use Rattle.std.proofs.Common.{◌≡◌, ℕ, Bool, true, false, ◌||◌, ◌&&◌, ◌==◌, List, [], ◌∷◌, ◌++◌, Option, Some, None, Result, Ok, Err, refl, sym, ap, ◌∙◌, subst}
 use Rattle.std.specs.Prelude.{if◌then◌else◌, not, IfOk}
 use Rattle.std.specs.List.{list_any}
-use Rattle.model.specs.Label.{Label, of_type, of_const, of_lifetime, ref, adt, dynamic, principal, param, placeholder, infer, canonical, bound, value, static}
-use Rattle.model.specs.Trees.{Trees, none, tree, is_sort, sort_of}
-use Rattle.model.specs.Versions.{is_open_place, is_addable}
-use Rattle.model.specs.Worlds.{World, CrateDecl, Reference}
-use Rattle.model.specs.Walks.{Met, local, entered, struct_leaf, open_place, other_leaf, visited, dyn_met, is_home, struct_is, until_decisive, ends_local, trait_is, keeps_orphan_rule}
+use Rattle.type_terms.specs.Label.{Label, of_type, of_const, of_lifetime, ref, adt, dynamic, principal, param, placeholder, infer, canonical, bound, value, static}
+use Rattle.type_terms.specs.Trees.{Trees, none, tree, is_sort, sort_of}
+use Rattle.type_terms.specs.Versions.{is_open_place, is_addable}
+use Rattle.type_terms.specs.Worlds.{World, CrateDecl, Reference}
+use Rattle.type_terms.specs.Walks.{Met, local, entered, struct_leaf, open_place, other_leaf, visited, dyn_met, is_home, struct_is, until_decisive, ends_local, trait_is, keeps_orphan_rule}
 use Rattle.type_terms.specs.Terms.{Entry}
 use Rattle.type_terms.specs.declared.Fault.{Fault}
 use Rattle.type_terms.specs.declared.ImplId.{ImplId}

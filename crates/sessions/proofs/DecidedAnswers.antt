@@ -1,9 +1,9 @@
 -- Decided references are answered rightly by the search of a session.
 use Rattle.std.proofs.Common.{◌≡◌, ◌+◌, ◌-◌, ◌≤◌, ℕ, Bool, true, false, not, List, [], map, Option, Some, None, inl, inr, refl, sym, ◌∙◌, ap, subst, arith}
-use Rattle.model.specs.Answers.{SingleWay, IsDecided, is_variable}
-use Rattle.model.specs.Terms.{erased_reference}
-use Rattle.model.specs.Trees.{none, erase, some_node}
-use Rattle.model.specs.Worlds.{World, CrateDecl, Reference}
+use Rattle.type_terms.specs.Answers.{SingleWay, IsDecided, is_variable}
+use Rattle.type_terms.specs.Erased.{erased_reference}
+use Rattle.type_terms.specs.Trees.{none, erase, some_node}
+use Rattle.type_terms.specs.Worlds.{World, CrateDecl, Reference}
 use Rattle.type_terms.specs.Terms.{Entry}
 use Rattle.infer_table.specs.Responses.{AnswerTrees}
 use Rattle.infer_table.specs.declared.certainty.Certainty.TheVariants.{Yes}

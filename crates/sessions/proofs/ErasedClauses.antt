@@ -1,13 +1,13 @@
 -- Supertraits without lifetimes.
 use Rattle.std.proofs.Common.{◌≡◌, ℕ, zero, suc, List, [], ◌∷◌, map, length, ◌⊎◌, inl, inr, refl, sym, ap, subst, ◌==◌}
-use Rattle.model.specs.Terms.{erased_reference, erased_trait, erased_world}
-use Rattle.model.specs.Trees.{Trees, Fits, erase}
-use Rattle.model.specs.Worlds.{World, Reference, TraitDecl, traits_named, with_args, all_with_args}
-use Rattle.model.specs.Rules.{written_supertraits, strict_supertraits, strict_supertraits_within, elaborated}
-use Rattle.model.specs.Proofs.{In}
-use Rattle.model.proofs.Entries.{map-in}
-use Rattle.model.proofs.Members.{here, there, in-cases, in-nothing, in-filter, filter-in, in-flat, flat-in, in-map}
-use Rattle.model.proofs.TreeLaws.{erase-instantiate}
+use Rattle.type_terms.specs.Erased.{erased_reference, erased_trait, erased_world}
+use Rattle.type_terms.specs.Trees.{Trees, Fits, erase}
+use Rattle.type_terms.specs.Worlds.{World, Reference, TraitDecl, traits_named, with_args, all_with_args}
+use Rattle.type_terms.specs.Rules.{written_supertraits, strict_supertraits, strict_supertraits_within, elaborated}
+use Rattle.type_terms.specs.Proofs.{In}
+use Rattle.type_terms.proofs.ProofEntries.{map-in}
+use Rattle.type_terms.proofs.Members.{here, there, in-cases, in-nothing, in-filter, filter-in, in-flat, flat-in, in-map}
+use Rattle.type_terms.proofs.TreeLaws.{erase-instantiate}
 use Rattle.declarations.proofs.Levels.{all-closed}
 use Rattle.sessions.specs.Clauses.{LeadDown, BoundsFit, SupertraitsAreErased}
 

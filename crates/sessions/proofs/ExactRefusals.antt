@@ -1,12 +1,12 @@
 -- What a search in coherence leaves open is possible, and what it refuses is not.
 use Rattle.std.proofs.Common.{◌≡◌, ◌+◌, ◌-◌, ◌≤◌, ℕ, Bool, true, false, not, ◌&&◌, ◌||◌, List, [], Option, Some, None, inl, inr, refl, sym, ◌∙◌, ap, subst, arith}
-use Rattle.model.specs.Label.{Label, Sort, of_type, of_const, of_lifetime, param, infer, canonical, bound}
-use Rattle.model.specs.Terms.{erased_reference, erased_world}
-use Rattle.model.specs.Trees.{Trees, none, tree, erase, erase_label, some_node}
-use Rattle.model.specs.Worlds.{World, CrateDecl, Reference}
-use Rattle.model.specs.Answers.{is_open, is_closed, is_bounded, is_possible, written_in, short_chains}
-use Rattle.model.proofs.Fitting.{or-no, no-left, child-shut, next-shut}
-use Rattle.model.proofs.Members.{in-nothing}
+use Rattle.type_terms.specs.Label.{Label, Sort, of_type, of_const, of_lifetime, param, infer, canonical, bound}
+use Rattle.type_terms.specs.Erased.{erased_reference, erased_world}
+use Rattle.type_terms.specs.Trees.{Trees, none, tree, erase, erase_label, some_node}
+use Rattle.type_terms.specs.Worlds.{World, CrateDecl, Reference}
+use Rattle.type_terms.specs.Answers.{is_open, is_closed, is_bounded, is_possible, written_in, short_chains}
+use Rattle.type_terms.proofs.Fitting.{or-no, no-left, child-shut, next-shut}
+use Rattle.type_terms.proofs.Members.{in-nothing}
 use Rattle.type_terms.specs.Made.{terms, is_made, is_in_range}
 use Rattle.type_terms.proofs.Made.{left, false-true}
 use Rattle.type_terms.specs.Terms.{Entry}

@@ -1,7 +1,7 @@
 -- What the unknowns of a question resolve to, in their place.
 use Rattle.std.proofs.Common.{◌≡◌, ℕ, List, refl, sym, ap, ◌∙◌}
-use Rattle.model.specs.Label.{Sort, of_type, of_const, of_lifetime, infer, static}
-use Rattle.model.specs.Trees.{Trees, leaf, erase}
+use Rattle.type_terms.specs.Label.{Sort, of_type, of_const, of_lifetime, infer, static}
+use Rattle.type_terms.specs.Trees.{Trees, leaf, erase}
 use Rattle.type_terms.specs.Terms.{Entry}
 use Rattle.infer_table.specs.Content.{Table, content, Ready}
 use Rattle.infer_table.specs.Solutions.{HasValues, IsSorted, tree_of, resolved}

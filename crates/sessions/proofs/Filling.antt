@@ -1,8 +1,8 @@
 -- Values in the place of a question's unknowns.
 use Rattle.std.proofs.Common.{◌≡◌, ℕ, zero, suc, ◌+◌, ◌<◌, List, [], ◌∷◌, map, Some, unwrap_or, refl, sym, ap, ◌∙◌, subst, arith}
 use Rattle.std.specs.List.{slice_get}
-use Rattle.model.specs.Label.{Label, Sort, of_type, of_const, of_lifetime, infer, static, param, placeholder, canonical, bound}
-use Rattle.model.specs.Trees.{Trees, none, tree, leaf, ◌+++◌, erase, IsA}
+use Rattle.type_terms.specs.Label.{Label, Sort, of_type, of_const, of_lifetime, infer, static, param, placeholder, canonical, bound}
+use Rattle.type_terms.specs.Trees.{Trees, none, tree, leaf, ◌+++◌, erase, IsA}
 use Rattle.infer_table.specs.Content.{IsProper}
 use Rattle.infer_table.specs.Covers.{AreKnown}
 use Rattle.infer_table.specs.Solutions.{Assignment, IsSorted, HasValues, tree_of, instance}

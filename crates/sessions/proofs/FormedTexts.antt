@@ -6,11 +6,11 @@ use Rattle.std.specs.Prelude.{slice_get, find, if◌then◌else◌, option_and_t
 use Rattle.std.specs.List.{list_all, list_any, flat_map}
 use Rattle.std.specs.Option.{option_map, option_map_or, option_or}
 use Rattle.std.specs.Str.{bytes_eq}
-use Rattle.model.specs.Label.{Label, Sort, of_type, param, adt, tuple, fn_ptr, raw_pointer, ref, array, slice, dynamic, principal, auto_trait, predicate, placeholder}
-use Rattle.model.specs.Trees.{Trees, none, tree, leaf, ◌+++◌, sort_of}
-use Rattle.model.specs.Worlds.{Reference, sees}
-use Rattle.model.specs.Proofs.{In}
-use Rattle.model.proofs.Members.{in-cases, in-nothing, in-left}
+use Rattle.type_terms.specs.Label.{Label, Sort, of_type, param, adt, tuple, fn_ptr, raw_pointer, ref, array, slice, dynamic, principal, auto_trait, predicate, placeholder}
+use Rattle.type_terms.specs.Trees.{Trees, none, tree, leaf, ◌+++◌, sort_of}
+use Rattle.type_terms.specs.Worlds.{Reference, sees}
+use Rattle.type_terms.specs.Proofs.{In}
+use Rattle.type_terms.proofs.Members.{in-cases, in-nothing, in-left}
 use Rattle.declarations.specs.Applied.{sorts_of}
 use Rattle.declarations.specs.Merges.{Each}
 use Rattle.text_definitions.specs.Syntax.{Types, no_types, and_type, Bound, Clause, Line, crate_line, struct_line, trait_line, impl_line, prove_line, refute_line, later_line, supers_line}

@@ -5,15 +5,15 @@ use Rattle.std.proofs.lemmas.Option.{same_Some, slice_get_within}
 use Rattle.std.specs.Prelude.{slice_get, filter, if◌then◌else◌, nat_lt}
 use Rattle.std.specs.List.{list_any}
 use Rattle.std.specs.Option.{option_map_or}
-use Rattle.model.specs.Label.{Label, Sort, of_type, of_const, of_lifetime, adt, tuple, fn_ptr, raw_pointer, ref, array, slice, dynamic, static, principal, auto_trait, param, bound, predicate}
-use Rattle.model.specs.Trees.{Trees, none, tree, sort_of, is_sort, some_node}
-use Rattle.model.specs.Worlds.{World, Reference, CrateDecl, StructDecl, TraitDecl, ImplDecl, core, crates_named, structs_named, traits_named, sees_within, sees}
-use Rattle.model.specs.Rules.{autos_with, sized, clone, copy, unsize}
-use Rattle.model.specs.Proofs.{In}
-use Rattle.model.specs.Walks.{struct_is}
-use Rattle.model.proofs.Fitting.{child-shut, next-shut}
-use Rattle.model.proofs.Members.{here, there, in-cases, in-nothing, in-filter, filter-in, in-map, some-member, member-some, same-number, self-number, not-both}
-use Rattle.model.proofs.NoHolds.{member-each}
+use Rattle.type_terms.specs.Label.{Label, Sort, of_type, of_const, of_lifetime, adt, tuple, fn_ptr, raw_pointer, ref, array, slice, dynamic, static, principal, auto_trait, param, bound, predicate}
+use Rattle.type_terms.specs.Trees.{Trees, none, tree, sort_of, is_sort, some_node}
+use Rattle.type_terms.specs.Worlds.{World, Reference, CrateDecl, StructDecl, TraitDecl, ImplDecl, core, crates_named, structs_named, traits_named, sees_within, sees}
+use Rattle.type_terms.specs.Rules.{autos_with, sized, clone, copy, unsize}
+use Rattle.type_terms.specs.Proofs.{In}
+use Rattle.type_terms.specs.Walks.{struct_is}
+use Rattle.type_terms.proofs.Fitting.{child-shut, next-shut}
+use Rattle.type_terms.proofs.Members.{here, there, in-cases, in-nothing, in-filter, filter-in, in-map, some-member, member-some, same-number, self-number, not-both}
+use Rattle.type_terms.proofs.NoHolds.{member-each}
 use Rattle.type_terms.specs.Terms.{Entry}
 use Rattle.type_terms.specs.declared.AdtId.{AdtId}
 use Rattle.type_terms.specs.declared.TraitId.{TraitId}

@@ -1,7 +1,7 @@
 -- The frames of a goal that is asked again and again.
 use Rattle.std.proofs.Common.{◌≡◌, ◌≤◌, ◌<◌, ◌+◌, ◌-◌, ◌⊎◌, inl, inr, ℕ, zero, suc, List, Some, arith, subst, refl, sym}
 use Rattle.std.proofs.Math.Nat.{le_refl, le_trans, le-add_right, add-le-add}
-use Rattle.model.specs.Label.{Sort}
+use Rattle.type_terms.specs.Label.{Sort}
 use Rattle.infer_table.specs.Canonical.{GoalTrees}
 use Rattle.infer_table.specs.Content.{Table}
 use Rattle.infer_table.specs.Goals.{GoalHeld, goal_trees}

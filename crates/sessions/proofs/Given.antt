@@ -2,11 +2,11 @@
 use Rattle.std.proofs.Common.{◌≡◌, ℕ, zero, suc, ◌<◌, arith, ltb, Bool, true, false, not, if◌then◌else◌, List, [], ◌∷◌, refl, sym, ap, ◌∙◌, subst, Option, Some, None, ◌||◌, IsTrue, unwrap_or}
 use Rattle.std.specs.List.{slice_get}
 use Rattle.std.proofs.lemmas.Bool.Decides.{nat_tests}
-use Rattle.model.specs.Label.{Label, Sort, of_type, of_const, of_lifetime, param, placeholder, infer, canonical, bound, fn_ptr, principal, uint, value, static}
-use Rattle.model.specs.Trees.{Trees, none, tree, leaf, ◌+++◌, IsA, erase, erase_label, some_node, sort_of, is_sort}
-use Rattle.model.specs.Proofs.{Every}
-use Rattle.model.specs.Answers.{is_open, is_closed}
-use Rattle.model.proofs.Fitting.{child-shut, next-shut, no-left, not-true, or-no}
+use Rattle.type_terms.specs.Label.{Label, Sort, of_type, of_const, of_lifetime, param, placeholder, infer, canonical, bound, fn_ptr, principal, uint, value, static}
+use Rattle.type_terms.specs.Trees.{Trees, none, tree, leaf, ◌+++◌, IsA, erase, erase_label, some_node, sort_of, is_sort}
+use Rattle.type_terms.specs.Proofs.{Every}
+use Rattle.type_terms.specs.Answers.{is_open, is_closed}
+use Rattle.type_terms.proofs.Fitting.{child-shut, next-shut, no-left, not-true, or-no}
 use Rattle.infer_table.specs.Solutions.{Assignment, instance, IsSorted}
 use Rattle.infer_table.proofs.SolutionLaws.{is_sort-equal, is_sort-self}
 use Rattle.overlap_check.specs.Questions.{FitKinds, of_kind, filled}

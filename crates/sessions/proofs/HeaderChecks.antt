@@ -2,9 +2,9 @@
 use Rattle.std.proofs.Common.{◌≡◌, ◌<◌, ◌≤◌, ◌+◌, ◌-◌, ◌++◌, ℕ, zero, suc, List, [], ◌∷◌, map, take, get_or, length, Some, None, refl, sym, ap, ◌∙◌, subst, arith}
 use Rattle.std.proofs.lemmas.List.{take_more}
 use Rattle.std.specs.Prelude.{slice_get}
-use Rattle.model.specs.Proofs.{Every}
-use Rattle.model.specs.Supers.{IsHeld}
-use Rattle.model.specs.Worlds.{World, Reference}
+use Rattle.type_terms.specs.Proofs.{Every}
+use Rattle.type_terms.specs.Supers.{IsHeld}
+use Rattle.type_terms.specs.Worlds.{World, Reference}
 use Rattle.type_terms.specs.Terms.{Entry}
 use Rattle.term_folds.specs.declared.predicate.TraitRef.{TraitRef}
 use Rattle.declarations.specs.Applied.{references_in}

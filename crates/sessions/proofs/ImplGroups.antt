@@ -4,10 +4,10 @@ use Rattle.std.specs.Prelude.{◌==◌}
 use Rattle.std.specs.Option.{option_map, option_map_or, option_eq}
 use Rattle.std.specs.HashMap.{HashMap, get_by}
 use Rattle.std.specs.declared.vec.Vec.{Vec}
-use Rattle.model.specs.Label.{Label}
-use Rattle.model.proofs.Applies.{same-label-itself}
-use Rattle.model.proofs.Matching.{same-label-sound}
-use Rattle.model.proofs.Members.{same-number, self-number}
+use Rattle.type_terms.specs.Label.{Label}
+use Rattle.type_terms.proofs.Applies.{same-label-itself}
+use Rattle.type_terms.proofs.Matching.{same-label-sound}
+use Rattle.type_terms.proofs.Members.{same-number, self-number}
 use Rattle.type_terms.specs.declared.ImplId.{ImplId}
 use Rattle.type_terms.specs.declared.TraitId.{TraitId}
 use Rattle.term_folds.specs.declared.predicate.TraitRef.{TraitRef}

@@ -2,11 +2,11 @@
 use Rattle.std.proofs.Common.{◌≡◌, ℕ, zero, suc, ◌<◌, arith, List, [], ◌∷◌, map, length, Some, sym, ap, ◌∙◌, subst}
 use Rattle.std.proofs.lemmas.Option.{same_Some}
 use Rattle.std.specs.List.{slice_get}
-use Rattle.model.specs.Terms.{erased_impl, erased_world}
-use Rattle.model.specs.Worlds.{World, ImplDecl, sees}
-use Rattle.model.specs.Proofs.{In}
-use Rattle.model.proofs.Entries.{map-in}
-use Rattle.model.proofs.Members.{here, there, in-filter, in-map}
+use Rattle.type_terms.specs.Erased.{erased_impl, erased_world}
+use Rattle.type_terms.specs.Worlds.{World, ImplDecl, sees}
+use Rattle.type_terms.specs.Proofs.{In}
+use Rattle.type_terms.proofs.ProofEntries.{map-in}
+use Rattle.type_terms.proofs.Members.{here, there, in-filter, in-map}
 use Rattle.type_terms.specs.Terms.{Entry}
 use Rattle.declarations.specs.Items.{Items, HeldImpl, IsAbove, declared, impl_in}
 use Rattle.declarations.specs.Merges.{Each}

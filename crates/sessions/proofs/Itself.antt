@@ -1,6 +1,6 @@
 -- Each unknown without value stands for itself.
 use Rattle.std.proofs.Common.{◌≡◌, List, refl, ◌∙◌}
-use Rattle.model.specs.Trees.{Trees, erase}
+use Rattle.type_terms.specs.Trees.{Trees, erase}
 use Rattle.type_terms.specs.Terms.{Entry}
 use Rattle.infer_table.specs.Content.{Table, content, variables_of, Ready, IsProper}
 use Rattle.infer_table.specs.Solutions.{Assignment, Solves, IsSorted, instance, resolved}

@@ -4,25 +4,25 @@ use Rattle.std.proofs.lemmas.Bool.Decides.{Decides-ltb}
 use Rattle.std.proofs.lemmas.Option.{same_Some, slice_get_within}
 use Rattle.std.specs.Prelude.{slice_get, nat_lt}
 use Rattle.std.specs.List.{list_all, list_any}
-use Rattle.model.specs.Label.{Sort, of_type, adt}
-use Rattle.model.specs.Trees.{Trees, tree, erase, some_node}
-use Rattle.model.specs.Worlds.{World, CrateDecl, StructDecl, TraitDecl, ImplDecl, Reference, core, structs_named, traits_named, sees, view_of}
-use Rattle.model.specs.Rules.{sized}
-use Rattle.model.specs.Terms.{erased_reference, erased_struct, erased_trait, erased_impl}
-use Rattle.model.specs.Core.{core_world}
-use Rattle.model.specs.Proofs.{In}
-use Rattle.model.specs.Walks.{struct_is, keeps_orphan_rule}
-use Rattle.model.specs.Renumbering.{view_at}
-use Rattle.model.specs.LinkedSet.{JoinedSet, sees_struct, sees_trait, well_written, in_scope, AutoAtHome, is_stray, dyns_rise, all_args, all_written}
-use Rattle.model.proofs.Members.{in-filter, filter-in, in-map, some-member, member-some, same-number, self-number, so-false}
-use Rattle.model.proofs.NoHolds.{member-each, each-member}
-use Rattle.model.proofs.TermRules.{erased-is-terms, sees-same}
-use Rattle.model.proofs.CoreApart.{core-coherent}
-use Rattle.model.proofs.CoreThere.{whole-there, whole-later}
-use Rattle.model.proofs.ArrangedTwice.{rising-in-order}
-use Rattle.model.proofs.AddedByView.{keeps-in-set}
-use Rattle.model.proofs.ViewLaws.{sees-itself}
-use Rattle.model.proofs.SameNumbers.{hold-views}
+use Rattle.type_terms.specs.Label.{Sort, of_type, adt}
+use Rattle.type_terms.specs.Trees.{Trees, tree, erase, some_node}
+use Rattle.type_terms.specs.Worlds.{World, CrateDecl, StructDecl, TraitDecl, ImplDecl, Reference, core, structs_named, traits_named, sees, view_of}
+use Rattle.type_terms.specs.Rules.{sized}
+use Rattle.type_terms.specs.Erased.{erased_reference, erased_struct, erased_trait, erased_impl}
+use Rattle.type_terms.specs.Core.{core_world}
+use Rattle.type_terms.specs.Proofs.{In}
+use Rattle.type_terms.specs.Walks.{struct_is, keeps_orphan_rule}
+use Rattle.type_terms.specs.Renumbering.{view_at}
+use Rattle.type_terms.specs.LinkedSet.{JoinedSet, sees_struct, sees_trait, well_written, in_scope, AutoAtHome, is_stray, dyns_rise, all_args, all_written}
+use Rattle.type_terms.proofs.Members.{in-filter, filter-in, in-map, some-member, member-some, same-number, self-number, so-false}
+use Rattle.type_terms.proofs.NoHolds.{member-each, each-member}
+use Rattle.type_terms.proofs.TermRules.{erased-is-terms, sees-same}
+use Rattle.type_terms.proofs.CoreApart.{core-coherent}
+use Rattle.type_terms.proofs.CoreThere.{whole-there, whole-later}
+use Rattle.type_terms.proofs.ArrangedTwice.{rising-in-order}
+use Rattle.type_terms.proofs.AddedByView.{keeps-in-set}
+use Rattle.type_terms.proofs.ViewLaws.{sees-itself}
+use Rattle.type_terms.proofs.SameNumbers.{hold-views}
 use Rattle.declarations.specs.Merges.{Each}
 use Rattle.assembly_laws.specs.Declared.{is_declared}
 use Rattle.assembly_laws.specs.DeclaredWell.{is_single}
@@ -33,7 +33,7 @@ use Rattle.view_lowering.specs.Seen.{param_sorts}
 use Rattle.view_lowering.proofs.Tests.{is_good, is_good_struct, is_good_trait, is_good_impl, all_stand}
 use Rattle.view_lowering.proofs.Applied.{each-map}
 use Rattle.view_lowering.proofs.Trees.{and, and-left, and-right}
-use Rattle.model.specs.Supers.{dyns_of_bounds, mentions_as}
+use Rattle.type_terms.specs.Supers.{dyns_of_bounds, mentions_as}
 use Rattle.sessions.specs.JoinedTexts.{text_world, CratesKeepOrphanRule, TextsAreJoined, TextsListInOrder}
 use Rattle.sessions.proofs.Seeing.{AreOrdered, core-seen, from-core}
 use Rattle.sessions.proofs.TextTerms.{IsStructAt, IsTraitAt, TextNodes, IsPlaced}

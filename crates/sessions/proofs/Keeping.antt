@@ -1,9 +1,9 @@
 -- What is true of a session when it begins, and stays true.
 use Rattle.std.proofs.Common.{◌≡◌, ◌-◌, ℕ, Bool, true, false, List, [], Option, None, Result, Ok, Err, refl, sym, ap, ◌∙◌, subst}
 use Rattle.std.specs.Prelude.{IfOk, OnOk}
-use Rattle.model.specs.Answers.{is_bounded, is_possible}
-use Rattle.model.specs.Terms.{erased_world, erased_reference}
-use Rattle.model.specs.Worlds.{Reference}
+use Rattle.type_terms.specs.Answers.{is_bounded, is_possible}
+use Rattle.type_terms.specs.Erased.{erased_world, erased_reference}
+use Rattle.type_terms.specs.Worlds.{Reference}
 use Rattle.type_terms.specs.Made.{terms as as_terms, is_made, is_in_range}
 use Rattle.type_terms.specs.declared.Fault.{Fault}
 use Rattle.infer_table.specs.Responses.{AnswerTrees}

@@ -6,12 +6,12 @@ use Rattle.std.specs.Prelude.{slice_get, find, if◌then◌else◌, not, unwrap_
 use Rattle.std.specs.List.{flat_map}
 use Rattle.std.specs.Option.{option_map, option_map_or, option_or}
 use Rattle.std.specs.Str.{bytes_eq}
-use Rattle.model.specs.Label.{of_type, param, adt}
-use Rattle.model.specs.Trees.{Trees, tree, leaf, ◌+++◌}
-use Rattle.model.specs.Worlds.{Reference, core, sees}
-use Rattle.model.specs.Rules.{sized}
-use Rattle.model.specs.Proofs.{In}
-use Rattle.model.proofs.Members.{in-left, self-number, not-both}
+use Rattle.type_terms.specs.Label.{of_type, param, adt}
+use Rattle.type_terms.specs.Trees.{Trees, tree, leaf, ◌+++◌}
+use Rattle.type_terms.specs.Worlds.{Reference, core, sees}
+use Rattle.type_terms.specs.Rules.{sized}
+use Rattle.type_terms.specs.Proofs.{In}
+use Rattle.type_terms.proofs.Members.{in-left, self-number, not-both}
 use Rattle.declarations.specs.Merges.{Each}
 use Rattle.text_definitions.specs.Syntax.{TypeTree, of_primitive, never_type, variable_type, named, reference_to, pointer_to, slice_of, array_of, tuple_of, fn_of, fn_to, dyn_of, Params, Bound, Clause, Line, crate_line, struct_line, trait_line, impl_line, prove_line, refute_line, later_line, supers_line}
 use Rattle.text_definitions.specs.Declarations.{Declarations, NamedCrate, NamedStruct, NamedTrait, NamedImpl, LaterImpl, Known, a_crate, a_struct, a_trait, world_of, known, last_crate, last_changed, last_later, impl_owner, nothing_declared, kinds_of}

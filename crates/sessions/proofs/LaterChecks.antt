@@ -5,12 +5,12 @@ use Rattle.std.proofs.lemmas.Option.{same_Some, slice_get-map}
 use Rattle.std.specs.Prelude.{slice_get, filter, if◌then◌else◌, IfOk}
 use Rattle.std.specs.Option.{option_map}
 use Rattle.std.specs.declared.vec.Vec.{Vec}
-use Rattle.model.specs.Worlds.{World, Reference, ImplDecl}
-use Rattle.model.specs.Proofs.{In, Every}
-use Rattle.model.specs.Terms.{erased_reference, erased_impl}
-use Rattle.model.specs.LinkedSet.{in_scope}
-use Rattle.model.specs.Versions.{is_addable}
-use Rattle.model.proofs.Members.{in-filter, same-number}
+use Rattle.type_terms.specs.Worlds.{World, Reference, ImplDecl}
+use Rattle.type_terms.specs.Proofs.{In, Every}
+use Rattle.type_terms.specs.Erased.{erased_reference, erased_impl}
+use Rattle.type_terms.specs.LinkedSet.{in_scope}
+use Rattle.type_terms.specs.Versions.{is_addable}
+use Rattle.type_terms.proofs.Members.{in-filter, same-number}
 use Rattle.type_terms.specs.Terms.{Entry}
 use Rattle.type_terms.specs.declared.Fault.{Fault}
 use Rattle.declarations.specs.Items.{declared}

@@ -2,12 +2,12 @@
 use Rattle.std.proofs.Common.{◌≡◌, ◌==◌, ℕ, true, false, List, [], ◌∷◌, map, None, refl, sym, ap, ◌∙◌, subst, arith}
 use Rattle.std.proofs.Math.Nat.{min-le_right}
 use Rattle.std.proofs.lemmas.Bool.Decides.{nat_tests}
-use Rattle.model.specs.Label.{Sort}
-use Rattle.model.specs.Proofs.{In}
-use Rattle.model.specs.Supers.{opaque_reference}
-use Rattle.model.specs.Trees.{Trees}
-use Rattle.model.specs.Worlds.{World, Reference, ImplDecl, with_args, all_with_args}
-use Rattle.model.proofs.Members.{here, there}
+use Rattle.type_terms.specs.Label.{Sort}
+use Rattle.type_terms.specs.Proofs.{In}
+use Rattle.type_terms.specs.Supers.{opaque_reference}
+use Rattle.type_terms.specs.Trees.{Trees}
+use Rattle.type_terms.specs.Worlds.{World, Reference, ImplDecl, with_args, all_with_args}
+use Rattle.type_terms.proofs.Members.{here, there}
 use Rattle.type_terms.specs.Terms.{Entry, Keeps, Lawful, trees_at}
 use Rattle.type_terms.specs.declared.ImplId.{ImplId}
 use Rattle.type_terms.specs.declared.TheConstants.{MAX_INDEX}

@@ -1,12 +1,12 @@
 -- The header and the where-clauses of an impl that a crate sees of a text without a fault, with placeholders for its parameters, and the
 -- supertraits of the header: they are formed, so that these may be asked for under the clauses.
 use Rattle.std.proofs.Common.{◌≡◌, ◌⊎◌, true, not, List, [], ◌∷◌, inl, inr, ◌∙◌, ap, subst}
-use Rattle.model.specs.Proofs.{In}
-use Rattle.model.specs.Supers.{opaque_reference}
-use Rattle.model.specs.Trees.{some_node}
-use Rattle.model.specs.Worlds.{World, Reference, ImplDecl}
-use Rattle.model.proofs.Entries.{map-in}
-use Rattle.model.proofs.Members.{there, in-cases, in-nothing}
+use Rattle.type_terms.specs.Proofs.{In}
+use Rattle.type_terms.specs.Supers.{opaque_reference}
+use Rattle.type_terms.specs.Trees.{some_node}
+use Rattle.type_terms.specs.Worlds.{World, Reference, ImplDecl}
+use Rattle.type_terms.proofs.ProofEntries.{map-in}
+use Rattle.type_terms.proofs.Members.{there, in-cases, in-nothing}
 use Rattle.type_terms.specs.Made.{terms, is_made}
 use Rattle.type_terms.specs.Terms.{Entry, trees_at}
 use Rattle.type_terms.proofs.Made.{left}

@@ -1,13 +1,13 @@
 -- Terms with placeholders in the place of parameters: what is put in makes each parameter opaque, and they stay formed.
 use Rattle.std.proofs.Common.{◌≡◌, ℕ, zero, suc, ◌+◌, max, Bool, true, false, not, ◌||◌, List, [], ◌∷◌, ◌++◌, map, Some, refl, sym, ap, ◌∙◌, subst, arith}
 use Rattle.std.proofs.lemmas.Option.{same_Some}
-use Rattle.model.specs.Label.{Label, Sort, of_type, of_const, of_lifetime, static, fn_ptr, dynamic, principal, auto_trait, predicate, param, placeholder, infer, canonical, bound, inside}
-use Rattle.model.specs.Rules.{autos_with, asked}
-use Rattle.model.specs.Supers.{opaque, opaque_reference}
-use Rattle.model.specs.Terms.{erased_reference}
-use Rattle.model.specs.Trees.{Trees, none, tree, leaf, ◌+++◌, is_no_tree, is_sort, sort_of, nth, shift, instantiate, outer_binder, erase}
-use Rattle.model.specs.Worlds.{World, Reference}
-use Rattle.model.proofs.TreeLaws.{append-assoc, append-none}
+use Rattle.type_terms.specs.Label.{Label, Sort, of_type, of_const, of_lifetime, static, fn_ptr, dynamic, principal, auto_trait, predicate, param, placeholder, infer, canonical, bound, inside}
+use Rattle.type_terms.specs.Rules.{autos_with, asked}
+use Rattle.type_terms.specs.Supers.{opaque, opaque_reference}
+use Rattle.type_terms.specs.Erased.{erased_reference}
+use Rattle.type_terms.specs.Trees.{Trees, none, tree, leaf, ◌+++◌, is_no_tree, is_sort, sort_of, nth, shift, instantiate, outer_binder, erase}
+use Rattle.type_terms.specs.Worlds.{World, Reference}
+use Rattle.type_terms.proofs.TreeLaws.{append-assoc, append-none}
 use Rattle.type_terms.specs.Kinds.{ArgsHeld, arg_trees, args_trees}
 use Rattle.type_terms.specs.Kept.{args-trees-later}
 use Rattle.type_terms.specs.Terms.{Entry, Keeps}

@@ -1,12 +1,12 @@
 -- Of a decided question the solver says neither `Unproved` nor `Maybe` wrongly.
 use Rattle.std.proofs.Common.{◌≡◌, ℕ, Bool, true, false, not, ◌||◌, List, [], ◌∷◌, map, Option, Some, None, inl, inr, refl, sym, ◌∙◌, ap, subst}
-use Rattle.model.specs.Answers.{SingleWay, IsDecided}
-use Rattle.model.specs.Label.{Label, Sort, of_type, of_const, of_lifetime, infer, canonical, bound}
-use Rattle.model.specs.Proofs.{HasProof}
-use Rattle.model.specs.Terms.{erased_reference}
-use Rattle.model.specs.Trees.{Trees, none, tree, some_node}
-use Rattle.model.specs.Worlds.{World, Reference}
-use Rattle.model.proofs.Members.{in-nothing}
+use Rattle.type_terms.specs.Answers.{SingleWay, IsDecided}
+use Rattle.type_terms.specs.Label.{Label, Sort, of_type, of_const, of_lifetime, infer, canonical, bound}
+use Rattle.type_terms.specs.Proofs.{HasProof}
+use Rattle.type_terms.specs.Erased.{erased_reference}
+use Rattle.type_terms.specs.Trees.{Trees, none, tree, some_node}
+use Rattle.type_terms.specs.Worlds.{World, Reference}
+use Rattle.type_terms.proofs.Members.{in-nothing}
 use Rattle.type_terms.specs.Made.{terms}
 use Rattle.type_terms.proofs.Made.{right, false-true}
 use Rattle.infer_table.specs.Canonical.{GoalTrees}

@@ -1,16 +1,16 @@
 -- What was found of two impls by their numbers, and what the answers to their goals say of the pair.
 use Rattle.std.proofs.Common.{◌≡◌, ℕ, zero, ◌+◌, Bool, true, false, IsTrue, List, map, refl, sym, ap, ◌∙◌, subst, Option, Some, None, Result, Ok, Err, ◌⊎◌, inl, inr, ◌||◌, not}
 use Rattle.std.specs.Prelude.{IfOk, IfSome}
-use Rattle.model.specs.Label.{Label, Sort, param, placeholder, infer, canonical, bound, inside}
-use Rattle.model.specs.Trees.{Trees, none, tree, erase, some_node, shift, nth, instantiate}
-use Rattle.model.specs.Terms.{erased_impl, erased_reference}
-use Rattle.model.specs.Worlds.{World, Reference, ImplDecl}
-use Rattle.model.specs.Proofs.{In}
-use Rattle.model.specs.Answers.{is_open, CommonInstance}
-use Rattle.model.specs.LinkedSet.{is_stray}
-use Rattle.model.proofs.Entries.{map-in}
-use Rattle.model.proofs.Fitting.{child-shut, next-shut, or-no, append-shut, not-true}
-use Rattle.model.proofs.Members.{in-map}
+use Rattle.type_terms.specs.Label.{Label, Sort, param, placeholder, infer, canonical, bound, inside}
+use Rattle.type_terms.specs.Trees.{Trees, none, tree, erase, some_node, shift, nth, instantiate}
+use Rattle.type_terms.specs.Erased.{erased_impl, erased_reference}
+use Rattle.type_terms.specs.Worlds.{World, Reference, ImplDecl}
+use Rattle.type_terms.specs.Proofs.{In}
+use Rattle.type_terms.specs.Answers.{is_open, CommonInstance}
+use Rattle.type_terms.specs.LinkedSet.{is_stray}
+use Rattle.type_terms.proofs.ProofEntries.{map-in}
+use Rattle.type_terms.proofs.Fitting.{child-shut, next-shut, or-no, append-shut, not-true}
+use Rattle.type_terms.proofs.Members.{in-map}
 use Rattle.type_terms.specs.Terms.{Entry, Lawful, trees_at}
 use Rattle.type_terms.specs.declared.Fault.{Fault}
 use Rattle.type_terms.specs.declared.ImplId.{ImplId}

@@ -1,12 +1,12 @@
 -- The goals of a pair of impls are formed, as the table of the pair resolves them.
 use Rattle.std.proofs.Common.{◌≡◌, zero, true, ◌&&◌, List, [], ◌∷◌, sym, ap, ◌∙◌, subst}
 use Rattle.std.specs.List.{list_all}
-use Rattle.model.specs.Trees.{Trees, instantiate}
-use Rattle.model.specs.Worlds.{World, Reference, StructDecl, TraitDecl, ImplDecl, with_args, all_with_args}
-use Rattle.model.specs.Proofs.{In}
-use Rattle.model.proofs.Members.{here, there}
-use Rattle.model.proofs.NoHolds.{member-each}
-use Rattle.model.proofs.Walking.{left, right}
+use Rattle.type_terms.specs.Trees.{Trees, instantiate}
+use Rattle.type_terms.specs.Worlds.{World, Reference, StructDecl, TraitDecl, ImplDecl, with_args, all_with_args}
+use Rattle.type_terms.specs.Proofs.{In}
+use Rattle.type_terms.proofs.Members.{here, there}
+use Rattle.type_terms.proofs.NoHolds.{member-each}
+use Rattle.type_terms.proofs.Walking.{left, right}
 use Rattle.type_terms.specs.Made.{terms, is_made}
 use Rattle.type_terms.specs.Terms.{Entry, Lawful, trees_at}
 use Rattle.type_terms.specs.declared.ImplId.{ImplId}

@@ -2,12 +2,12 @@
 -- is refused has no solution.
 use Rattle.std.proofs.Common.{◌≡◌, ℕ, zero, suc, ◌+◌, ◌<◌, arith, Bool, true, false, not, if◌then◌else◌, IsTrue, List, [], ◌∷◌, ◌++◌, map, refl, sym, ap, ◌∙◌, subst, is_some, ◌||◌, unwrap_or}
 use Rattle.std.specs.List.{slice_get}
-use Rattle.model.specs.Label.{Label, Sort, of_type, of_const, of_lifetime, of_trait, predicate, param, placeholder, infer, canonical, bound, static}
-use Rattle.model.specs.Trees.{Trees, none, tree, leaf, ◌+++◌, erase, erase_label, some_node}
-use Rattle.model.specs.Worlds.{Reference}
-use Rattle.model.specs.Proofs.{Every}
-use Rattle.model.specs.Answers.{is_open, is_closed}
-use Rattle.model.proofs.Fitting.{child-shut, next-shut, no-left, or-no}
+use Rattle.type_terms.specs.Label.{Label, Sort, of_type, of_const, of_lifetime, of_trait, predicate, param, placeholder, infer, canonical, bound, static}
+use Rattle.type_terms.specs.Trees.{Trees, none, tree, leaf, ◌+++◌, erase, erase_label, some_node}
+use Rattle.type_terms.specs.Worlds.{Reference}
+use Rattle.type_terms.specs.Proofs.{Every}
+use Rattle.type_terms.specs.Answers.{is_open, is_closed}
+use Rattle.type_terms.proofs.Fitting.{child-shut, next-shut, no-left, or-no}
 use Rattle.type_terms.specs.Made.{terms, is_made, is_in_range}
 use Rattle.type_terms.specs.Terms.{Entry, Has, Lawful, args_lists, trees_at}
 use Rattle.type_terms.proofs.Made.{made-weaker}

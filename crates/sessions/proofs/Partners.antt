@@ -1,8 +1,8 @@
 -- The pairs of an impl: where those with a common instance are passed, all are.
 use Rattle.std.proofs.Common.{◌≡◌, ◌==◌, ℕ, Bool, true, false, List, [], ◌∷◌, None, map, subst, sym, ◌∙◌, ◌⊎◌, inl, inr, refl}
-use Rattle.model.specs.Proofs.{In}
-use Rattle.model.proofs.Entries.{map-in}
-use Rattle.model.proofs.Members.{here, there, in-cases, in-nothing, same-number, self-number}
+use Rattle.type_terms.specs.Proofs.{In}
+use Rattle.type_terms.proofs.ProofEntries.{map-in}
+use Rattle.type_terms.proofs.Members.{here, there, in-cases, in-nothing, same-number, self-number}
 use Rattle.type_terms.specs.declared.ImplId.{ImplId}
 use Rattle.declarations.specs.Merges.{Each}
 use Rattle.overlap_check.specs.SessionLaws.{IsPassed}

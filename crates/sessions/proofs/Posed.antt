@@ -1,9 +1,9 @@
 -- What is asked of a question speaks of its own unknowns alone.
 use Rattle.std.proofs.Common.{◌≡◌, ℕ, ◌≤◌, ◌<◌, arith, Bool, true, false, if◌then◌else◌, List, [], ◌∷◌, ◌++◌, map, refl, is_some, ◌||◌}
-use Rattle.model.specs.Label.{Label, Sort, of_type, of_const, of_lifetime, param, placeholder, infer, canonical, static}
-use Rattle.model.specs.Trees.{Trees, none, tree, some_node}
-use Rattle.model.specs.Worlds.{Reference}
-use Rattle.model.proofs.Fitting.{child-shut, next-shut, no-left}
+use Rattle.type_terms.specs.Label.{Label, Sort, of_type, of_const, of_lifetime, param, placeholder, infer, canonical, static}
+use Rattle.type_terms.specs.Trees.{Trees, none, tree, some_node}
+use Rattle.type_terms.specs.Worlds.{Reference}
+use Rattle.type_terms.proofs.Fitting.{child-shut, next-shut, no-left}
 use Rattle.infer_table.specs.Canonical.{HasNoCanonical, kind_of_leaf, leaves, with_label, is_among, canonical_form}
 use Rattle.infer_table.specs.Covers.{AreKnown}
 use Rattle.evaluation.specs.FrameTables.{kinds_known}

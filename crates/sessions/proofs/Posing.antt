@@ -1,9 +1,9 @@
 -- The goal that asks a question, and what its answer says of the question.
 use Rattle.std.proofs.Common.{◌≡◌, ℕ, List, [], ◌∷◌, map, Result, Ok, Err, refl, sym, ap, ◌∙◌, subst}
 use Rattle.std.specs.Prelude.{IfOk}
-use Rattle.model.specs.Label.{Sort}
-use Rattle.model.specs.Trees.{Trees}
-use Rattle.model.specs.Worlds.{Reference}
+use Rattle.type_terms.specs.Label.{Sort}
+use Rattle.type_terms.specs.Trees.{Trees}
+use Rattle.type_terms.specs.Worlds.{Reference}
 use Rattle.type_terms.specs.Kinds.{ArgsHeld, arg_trees}
 use Rattle.type_terms.specs.Terms.{Entry, Keeps, Has, args_lists}
 use Rattle.type_terms.specs.declared.kinds.GenericArgKind.{GenericArgKind}

@@ -2,15 +2,15 @@
 -- without their lifetimes.
 use Rattle.std.proofs.Common.{◌≡◌, ◌-◌, ◌<◌, ℕ, suc, Bool, true, false, not, ◌||◌, if◌then◌else◌, List, [], ◌∷◌, map, refl, sym, ◌∙◌, ap, subst}
 use Rattle.std.specs.Global.{Vec}
-use Rattle.model.specs.Label.{Label, Sort, of_type, of_const, of_lifetime, dynamic, fn_ptr, principal, auto_trait, of_trait, predicate, param, placeholder, infer, canonical, bound}
-use Rattle.model.specs.Proofs.{In, HasProof}
-use Rattle.model.specs.Rules.{elaborated}
-use Rattle.model.specs.Terms.{erased_reference}
-use Rattle.model.specs.Trees.{Trees, none, tree, leaf, is_sort, is_no_tree, erase, erase_label, some_node}
-use Rattle.model.specs.Worlds.{World, CrateDecl, Reference}
-use Rattle.model.proofs.Entries.{map-in}
-use Rattle.model.proofs.Fitting.{or-no, no-left, child-shut, next-shut}
-use Rattle.model.proofs.Members.{in-map}
+use Rattle.type_terms.specs.Label.{Label, Sort, of_type, of_const, of_lifetime, dynamic, fn_ptr, principal, auto_trait, of_trait, predicate, param, placeholder, infer, canonical, bound}
+use Rattle.type_terms.specs.Proofs.{In, HasProof}
+use Rattle.type_terms.specs.Rules.{elaborated}
+use Rattle.type_terms.specs.Erased.{erased_reference}
+use Rattle.type_terms.specs.Trees.{Trees, none, tree, leaf, is_sort, is_no_tree, erase, erase_label, some_node}
+use Rattle.type_terms.specs.Worlds.{World, CrateDecl, Reference}
+use Rattle.type_terms.proofs.ProofEntries.{map-in}
+use Rattle.type_terms.proofs.Fitting.{or-no, no-left, child-shut, next-shut}
+use Rattle.type_terms.proofs.Members.{in-map}
 use Rattle.type_terms.specs.Kinds.{arg_trees}
 use Rattle.type_terms.specs.declared.kinds.GenericArgKind.{GenericArgKind}
 use Rattle.type_terms.specs.Made.{Standing, terms, bounds, traits, is_made}

@@ -6,9 +6,9 @@ use Rattle.std.specs.Prelude.{not, ltb, ◌<◌, if◌then◌else◌, ◌==◌, 
 use Rattle.std.specs.List.{list_any, list_all, flat_map}
 use Rattle.std.specs.Option.{option_map_or}
 use Rattle.std.specs.Str.{bytes_eq}
-use Rattle.model.specs.Label.{Label, Sort, of_lifetime, of_type, of_const, bool, char, str, never, array, slice, tuple, dynamic, static, int, uint, adt, fn_ptr, auto_trait, value, ref, raw_pointer, principal, param, placeholder, infer, canonical, bound, predicate}
-use Rattle.model.specs.Trees.{Trees, none, tree, leaf, ◌+++◌, is_no_tree}
-use Rattle.model.specs.Worlds.{Reference}
+use Rattle.type_terms.specs.Label.{Label, Sort, of_lifetime, of_type, of_const, bool, char, str, never, array, slice, tuple, dynamic, static, int, uint, adt, fn_ptr, auto_trait, value, ref, raw_pointer, principal, param, placeholder, infer, canonical, bound, predicate}
+use Rattle.type_terms.specs.Trees.{Trees, none, tree, leaf, ◌+++◌, is_no_tree}
+use Rattle.type_terms.specs.Worlds.{Reference}
 use Rattle.type_terms.specs.Made.{terms, bounds, traits, is_made}
 use Rattle.type_terms.proofs.Made.{false-true, made-weaker}
 use Rattle.declarations.specs.Merges.{Each}

@@ -1,15 +1,15 @@
 -- What is refused in coherence has no solution by the asking crate's view alone, nor in a linked set with the crate.
 use Rattle.std.proofs.Common.{◌≡◌, ℕ, Bool, IsTrue, not, List, [], map, refl, sym, ap, ◌∙◌, subst}
-use Rattle.model.specs.Label.{Label, Sort, of_lifetime, fn_ptr, principal, param, bound}
-use Rattle.model.specs.Trees.{Trees, none, tree, erase, erase_label}
-use Rattle.model.specs.Terms.{erased_world, erased_reference}
-use Rattle.model.specs.Worlds.{World, CrateDecl, Reference}
-use Rattle.model.specs.Proofs.{Every, HasProof}
-use Rattle.model.specs.Elaborated.{HasElaboratedProof}
-use Rattle.model.specs.Answers.{is_closed}
-use Rattle.model.specs.Renumbering.{View, Renumbering, HoldsView, renumbered, renumbered_reference}
-use Rattle.model.specs.LinkedSet.{LinkedSet}
-use Rattle.model.proofs.RenumberedTrees.{inverse, back, map-back}
+use Rattle.type_terms.specs.Label.{Label, Sort, of_lifetime, fn_ptr, principal, param, bound}
+use Rattle.type_terms.specs.Trees.{Trees, none, tree, erase, erase_label}
+use Rattle.type_terms.specs.Erased.{erased_world, erased_reference}
+use Rattle.type_terms.specs.Worlds.{World, CrateDecl, Reference}
+use Rattle.type_terms.specs.Proofs.{Every, HasProof}
+use Rattle.type_terms.specs.Elaborated.{HasElaboratedProof}
+use Rattle.type_terms.specs.Answers.{is_closed}
+use Rattle.type_terms.specs.Renumbering.{View, Renumbering, HoldsView, renumbered, renumbered_reference}
+use Rattle.type_terms.specs.LinkedSet.{LinkedSet}
+use Rattle.type_terms.proofs.RenumberedTrees.{inverse, back, map-back}
 use Rattle.infer_table.specs.Canonical.{GoalTrees, CanonicalForm, canonical_form}
 use Rattle.infer_table.specs.Responses.{AnswerTrees}
 use Rattle.infer_table.specs.Solutions.{Assignment, IsSorted, instance}

@@ -1,16 +1,16 @@
 -- A goal that has no proof where the solver looks for its solutions has none by the asking crate's view alone, nor in a linked set with
 -- the crate.
 use Rattle.std.proofs.Common.{◌≡◌, ℕ, IsTrue, List, [], map, sym, ap, ◌∙◌, subst}
-use Rattle.model.specs.Label.{Sort}
-use Rattle.model.specs.Trees.{Trees}
-use Rattle.model.specs.Terms.{erased_world}
-use Rattle.model.specs.Worlds.{World, CrateDecl, Reference}
-use Rattle.model.specs.Proofs.{Every, HasProof}
-use Rattle.model.specs.Elaborated.{HasElaboratedProof}
-use Rattle.model.specs.Answers.{is_closed}
-use Rattle.model.specs.Renumbering.{View, Renumbering, HoldsView, renumbered, renumbered_reference}
-use Rattle.model.specs.LinkedSet.{LinkedSet}
-use Rattle.model.proofs.RenumberedTrees.{inverse, back, map-back}
+use Rattle.type_terms.specs.Label.{Sort}
+use Rattle.type_terms.specs.Trees.{Trees}
+use Rattle.type_terms.specs.Erased.{erased_world}
+use Rattle.type_terms.specs.Worlds.{World, CrateDecl, Reference}
+use Rattle.type_terms.specs.Proofs.{Every, HasProof}
+use Rattle.type_terms.specs.Elaborated.{HasElaboratedProof}
+use Rattle.type_terms.specs.Answers.{is_closed}
+use Rattle.type_terms.specs.Renumbering.{View, Renumbering, HoldsView, renumbered, renumbered_reference}
+use Rattle.type_terms.specs.LinkedSet.{LinkedSet}
+use Rattle.type_terms.proofs.RenumberedTrees.{inverse, back, map-back}
 use Rattle.assembly_laws.specs.Meaning.{Meaning, LinkedWith, SelfTypesBegin, Place, by_view, in_set, proved_at}
 use Rattle.overlap_check.specs.Verdicts.{placed}
 use Rattle.overlap_check.specs.Questions.{FitKinds, filled_reference, SolutionBy, Solution, IsRefuted}

@@ -2,18 +2,18 @@
 use Rattle.std.proofs.Common.{◌≡◌, ◌==◌, ◌<◌, ◌≤◌, ◌+◌, ◌-◌, ℕ, Bool, true, false, ◌&&◌, List, [], ◌∷◌, ◌++◌, map, cond, Option, Some, None, refl, sym, ap, ◌∙◌, subst, arith, ◌⊎◌, inl, inr, if◌then◌else◌}
 use Rattle.std.proofs.lemmas.Bool.Decides.{nat_tests}
 use Rattle.std.specs.Prelude.{filter, nat_lt}
-use Rattle.model.specs.Codes.{same_label}
-use Rattle.model.specs.Label.{Label, of_type, of_const, of_lifetime, param, placeholder, infer, canonical, bound, principal}
-use Rattle.model.specs.Trees.{Trees, none, tree, nth, erase, erase_label}
-use Rattle.model.specs.Answers.{CommonInstance}
-use Rattle.model.specs.Proofs.{In}
-use Rattle.model.specs.Rules.{same_head}
-use Rattle.model.specs.Terms.{erased_impl}
-use Rattle.model.specs.Worlds.{Reference, ImplDecl}
-use Rattle.model.proofs.Applies.{same-label-itself}
-use Rattle.model.proofs.Entries.{map-in}
-use Rattle.model.proofs.Members.{in-cases, in-nothing, in-map, filter-in, self-number}
-use Rattle.model.proofs.Walking.{both}
+use Rattle.type_terms.specs.Codes.{same_label}
+use Rattle.type_terms.specs.Label.{Label, of_type, of_const, of_lifetime, param, placeholder, infer, canonical, bound, principal}
+use Rattle.type_terms.specs.Trees.{Trees, none, tree, nth, erase, erase_label}
+use Rattle.type_terms.specs.Answers.{CommonInstance}
+use Rattle.type_terms.specs.Proofs.{In}
+use Rattle.type_terms.specs.Rules.{same_head}
+use Rattle.type_terms.specs.Erased.{erased_impl}
+use Rattle.type_terms.specs.Worlds.{Reference, ImplDecl}
+use Rattle.type_terms.proofs.Applies.{same-label-itself}
+use Rattle.type_terms.proofs.ProofEntries.{map-in}
+use Rattle.type_terms.proofs.Members.{in-cases, in-nothing, in-map, filter-in, self-number}
+use Rattle.type_terms.proofs.Walking.{both}
 use Rattle.type_terms.specs.Terms.{Entry, trees_at}
 use Rattle.type_terms.specs.declared.ImplId.{ImplId}
 use Rattle.type_terms.specs.declared.TheConstants.{MAX_INDEX}

@@ -1,17 +1,17 @@
 -- The header and the where-clauses of each impl of a text without a fault, of those that later versions add too, name only what its
 -- crate sees, by the crate's own view.
 use Rattle.std.proofs.Common.{◌≡◌, ◌⊎◌, inl, inr, ℕ, Bool, true, ◌==◌, map, refl, sym, subst}
-use Rattle.model.specs.Label.{Label, adt, principal, auto_trait, of_trait, predicate}
-use Rattle.model.specs.Trees.{Trees, none, tree}
-use Rattle.model.specs.Worlds.{World, StructDecl, TraitDecl, Reference, sees, structs_named, traits_named, view_of}
-use Rattle.model.specs.Terms.{erased_reference}
-use Rattle.model.specs.Proofs.{In}
-use Rattle.model.specs.LinkedSet.{sees_struct, sees_trait, label_allowed, label_shaped, well_written, in_scope}
-use Rattle.model.proofs.Members.{in-append, in-filter, filter-in, in-map, some-member, member-some}
+use Rattle.type_terms.specs.Label.{Label, adt, principal, auto_trait, of_trait, predicate}
+use Rattle.type_terms.specs.Trees.{Trees, none, tree}
+use Rattle.type_terms.specs.Worlds.{World, StructDecl, TraitDecl, Reference, sees, structs_named, traits_named, view_of}
+use Rattle.type_terms.specs.Erased.{erased_reference}
+use Rattle.type_terms.specs.Proofs.{In}
+use Rattle.type_terms.specs.LinkedSet.{sees_struct, sees_trait, label_allowed, label_shaped, well_written, in_scope}
+use Rattle.type_terms.proofs.Members.{in-append, in-filter, filter-in, in-map, some-member, member-some}
 use Rattle.view_lowering.proofs.Trees.{and, and-left, and-right}
 use Rattle.text_definitions.specs.Declarations.{Declarations, NamedImpl, LaterImpl}
 use Rattle.view_lowering.proofs.Tests.{is_good_impl}
-use Rattle.model.proofs.NoHolds.{member-each}
+use Rattle.type_terms.proofs.NoHolds.{member-each}
 use Rattle.sessions.specs.JoinedTexts.{text_world}
 use Rattle.sessions.specs.ScopedTexts.{written_impls, IsInScope, ImplsAreInScope}
 use Rattle.sessions.proofs.FormedTexts.{ImplFormed}

@@ -2,13 +2,13 @@
 -- each impl begins with a parameter or a rigid type.
 use Rattle.std.proofs.Common.{◌≡◌, ◌⊎◌, ℕ, zero, suc, Bool, true, false, List, [], ◌∷◌, map, Some, Ok, inl, inr, refl, sym, ap, ◌∙◌, subst}
 use Rattle.std.specs.Prelude.{if◌then◌else◌, filter, slice_get}
-use Rattle.model.specs.Label.{Label, of_lifetime, of_type, of_const, static, fn_ptr, principal, param, placeholder, infer, canonical, bound}
-use Rattle.model.specs.Trees.{Trees, none, tree, erase, erase_label, some_node}
-use Rattle.model.specs.Terms.{erased_reference, erased_struct, erased_trait, erased_impl, erased_world}
-use Rattle.model.specs.Worlds.{World, Reference, StructDecl, TraitDecl, ImplDecl, sees}
-use Rattle.model.specs.Proofs.{In}
-use Rattle.model.proofs.Members.{in-cases, in-nothing, in-filter}
-use Rattle.model.proofs.TermRules.{erased-views}
+use Rattle.type_terms.specs.Label.{Label, of_lifetime, of_type, of_const, static, fn_ptr, principal, param, placeholder, infer, canonical, bound}
+use Rattle.type_terms.specs.Trees.{Trees, none, tree, erase, erase_label, some_node}
+use Rattle.type_terms.specs.Erased.{erased_reference, erased_struct, erased_trait, erased_impl, erased_world}
+use Rattle.type_terms.specs.Worlds.{World, Reference, StructDecl, TraitDecl, ImplDecl, sees}
+use Rattle.type_terms.specs.Proofs.{In}
+use Rattle.type_terms.proofs.Members.{in-cases, in-nothing, in-filter}
+use Rattle.type_terms.proofs.TermRules.{erased-views}
 use Rattle.type_terms.specs.Terms.{Entry}
 use Rattle.declarations.specs.Heads.{begins_declared}
 use Rattle.declarations.specs.Items.{Items, written}

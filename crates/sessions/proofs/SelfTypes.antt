@@ -1,9 +1,9 @@
 -- The self types of held impls.
 use Rattle.std.proofs.Common.{◌≡◌, true, List, [], ◌∷◌, ◌⊎◌, inl, inr, subst}
-use Rattle.model.specs.Worlds.{ImplDecl}
-use Rattle.model.specs.Proofs.{In}
-use Rattle.model.proofs.Entries.{map-in}
-use Rattle.model.proofs.Members.{in-cases, in-nothing}
+use Rattle.type_terms.specs.Worlds.{ImplDecl}
+use Rattle.type_terms.specs.Proofs.{In}
+use Rattle.type_terms.proofs.ProofEntries.{map-in}
+use Rattle.type_terms.proofs.Members.{in-cases, in-nothing}
 use Rattle.type_terms.specs.Terms.{Entry}
 use Rattle.declarations.specs.Heads.{begins_declared}
 use Rattle.declarations.specs.Held.{ImplHeld, AreHeld}

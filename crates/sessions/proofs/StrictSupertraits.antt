@@ -1,10 +1,10 @@
 -- The strict supertraits of a reference are those that `supertraits` lists, since no reference is its own supertrait.
 use Rattle.std.proofs.Common.{◌≡◌, ◌<◌, ◌==◌, ℕ, zero, suc, [], ◌∷◌, length, ◌⊎◌, inl, inr, ap, subst, arith}
-use Rattle.model.specs.Worlds.{World, Reference, TraitDecl, traits_named, with_args, all_with_args}
-use Rattle.model.specs.Rules.{written_supertraits, strict_supertraits, strict_supertraits_within}
-use Rattle.model.specs.Proofs.{In}
-use Rattle.model.proofs.Entries.{map-in}
-use Rattle.model.proofs.Members.{here, there, in-nothing, in-cases, in-filter, in-flat, flat-in, same-number}
+use Rattle.type_terms.specs.Worlds.{World, Reference, TraitDecl, traits_named, with_args, all_with_args}
+use Rattle.type_terms.specs.Rules.{written_supertraits, strict_supertraits, strict_supertraits_within}
+use Rattle.type_terms.specs.Proofs.{In}
+use Rattle.type_terms.proofs.ProofEntries.{map-in}
+use Rattle.type_terms.proofs.Members.{here, there, in-nothing, in-cases, in-filter, in-flat, flat-in, same-number}
 use Rattle.declarations.specs.Elaboration.{supertraits}
 use Rattle.assembly_laws.specs.Declared.{LeadDown}
 use Rattle.assembly_laws.proofs.Stack.{elaborated-all}

@@ -2,15 +2,15 @@
 -- where-clauses.
 use Rattle.std.proofs.Common.{◌≡◌, ◌⊎◌, ◌-◌, ℕ, zero, suc, true, List, [], ◌∷◌, map, take, length, Some, inl, inr, refl, sym, ◌∙◌, ap, subst}
 use Rattle.std.specs.Prelude.{slice_get}
-use Rattle.model.specs.Answers.{IsDeterminate}
-use Rattle.model.specs.Proofs.{In, Every, HasProof}
-use Rattle.model.specs.Rules.{strict_supertraits}
-use Rattle.model.specs.Supers.{opaque_reference, SupersHold}
-use Rattle.model.specs.Terms.{erased_reference, erased_impl}
-use Rattle.model.specs.Trees.{Trees, erase}
-use Rattle.model.specs.Worlds.{World, CrateDecl, Reference, ImplDecl, view_of}
-use Rattle.model.proofs.Entries.{map-in}
-use Rattle.model.proofs.Members.{here, there, in-cases, in-nothing, in-map}
+use Rattle.type_terms.specs.Answers.{IsDeterminate}
+use Rattle.type_terms.specs.Proofs.{In, Every, HasProof}
+use Rattle.type_terms.specs.Rules.{strict_supertraits}
+use Rattle.type_terms.specs.Supers.{opaque_reference, SupersHold}
+use Rattle.type_terms.specs.Erased.{erased_reference, erased_impl}
+use Rattle.type_terms.specs.Trees.{Trees, erase}
+use Rattle.type_terms.specs.Worlds.{World, CrateDecl, Reference, ImplDecl, view_of}
+use Rattle.type_terms.proofs.ProofEntries.{map-in}
+use Rattle.type_terms.proofs.Members.{here, there, in-cases, in-nothing, in-map}
 use Rattle.type_terms.specs.Kinds.{arg_trees}
 use Rattle.type_terms.specs.Made.{terms}
 use Rattle.type_terms.specs.Terms.{Entry}

@@ -1,17 +1,17 @@
 -- The solver answers questions without unknowns exactly, by what a crate sees of a text.
 use Rattle.std.proofs.Common.{◌≡◌, ◌≤◌, ℕ, zero, suc, true, if◌then◌else◌, List, [], ◌∷◌, ◌++◌, map, length, Option, Ok, inl, inr, refl, sym, ◌∙◌, ap, subst}
 use Rattle.std.specs.List.{list_any, flat_map}
-use Rattle.model.specs.Answers.{SingleWay, is_bounded}
-use Rattle.model.specs.Label.{of_type, of_const, of_lifetime}
-use Rattle.model.specs.Terms.{erased_reference}
-use Rattle.model.specs.Trees.{none}
-use Rattle.model.specs.Worlds.{World, CrateDecl, Reference}
-use Rattle.model.specs.Proofs.{In, HasProof}
-use Rattle.model.specs.Rules.{Rule, by_clause, rules, impl_rules, built_in_rules, clause_rules, super_rules, same_reference, written_supertraits, strict_supertraits, strict_supertraits_within, elaborated}
-use Rattle.model.proofs.Supertraits.{flat-same}
-use Rattle.model.proofs.Entries.{map-in}
-use Rattle.model.proofs.Members.{here, in-map, flat-in}
-use Rattle.model.proofs.NoHolds.{member-each}
+use Rattle.type_terms.specs.Answers.{SingleWay, is_bounded}
+use Rattle.type_terms.specs.Label.{of_type, of_const, of_lifetime}
+use Rattle.type_terms.specs.Erased.{erased_reference}
+use Rattle.type_terms.specs.Trees.{none}
+use Rattle.type_terms.specs.Worlds.{World, CrateDecl, Reference}
+use Rattle.type_terms.specs.Proofs.{In, HasProof}
+use Rattle.type_terms.specs.Rules.{Rule, by_clause, rules, impl_rules, built_in_rules, clause_rules, super_rules, same_reference, written_supertraits, strict_supertraits, strict_supertraits_within, elaborated}
+use Rattle.type_terms.proofs.Supertraits.{flat-same}
+use Rattle.type_terms.proofs.ProofEntries.{map-in}
+use Rattle.type_terms.proofs.Members.{here, in-map, flat-in}
+use Rattle.type_terms.proofs.NoHolds.{member-each}
 use Rattle.type_terms.specs.Terms.{Entry}
 use Rattle.infer_table.specs.Responses.{AnswerTrees}
 use Rattle.infer_table.specs.Solutions.{Assignment, IsSorted}

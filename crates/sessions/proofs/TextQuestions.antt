@@ -2,12 +2,12 @@
 use Rattle.std.proofs.Common.{◌≡◌, ◌-◌, ℕ, zero, suc, true, false, ◌||◌, refl, List, [], ◌∷◌, Some, Ok, sym, ◌∙◌, ap, subst}
 use Rattle.std.proofs.lemmas.Option.{same_Some}
 use Rattle.std.specs.Prelude.{slice_get}
-use Rattle.model.specs.Answers.{is_variable}
-use Rattle.model.specs.Label.{Label, Sort, of_type, of_const, of_lifetime, infer}
-use Rattle.model.specs.Proofs.{In}
-use Rattle.model.specs.Trees.{Trees, none, tree, erase, erase_label, some_node}
-use Rattle.model.specs.Worlds.{World, Reference}
-use Rattle.model.proofs.NoHolds.{member-each}
+use Rattle.type_terms.specs.Answers.{is_variable}
+use Rattle.type_terms.specs.Label.{Label, Sort, of_type, of_const, of_lifetime, infer}
+use Rattle.type_terms.specs.Proofs.{In}
+use Rattle.type_terms.specs.Trees.{Trees, none, tree, erase, erase_label, some_node}
+use Rattle.type_terms.specs.Worlds.{World, Reference}
+use Rattle.type_terms.proofs.NoHolds.{member-each}
 use Rattle.type_terms.specs.Made.{terms}
 use Rattle.type_terms.specs.Terms.{Entry}
 use Rattle.type_terms.proofs.Made.{false-true}

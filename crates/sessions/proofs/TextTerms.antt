@@ -6,11 +6,11 @@ use Rattle.std.specs.Prelude.{if◌then◌else◌, slice_get, find, nat_lt, opti
 use Rattle.std.specs.List.{list_any}
 use Rattle.std.specs.Option.{option_map, option_map_or, option_or}
 use Rattle.std.specs.Str.{bytes_eq}
-use Rattle.model.specs.Label.{Label, Sort, of_type, of_const, of_lifetime, adt, tuple, fn_ptr, raw_pointer, ref, array, slice, dynamic, static, principal, auto_trait, value, param, placeholder, infer, canonical, bound, predicate}
-use Rattle.model.specs.Trees.{Trees, none, tree, leaf, ◌+++◌, sort_of, is_sort}
-use Rattle.model.specs.Worlds.{Reference, sees}
-use Rattle.model.specs.Rules.{autos_with}
-use Rattle.model.proofs.Members.{self-number}
+use Rattle.type_terms.specs.Label.{Label, Sort, of_type, of_const, of_lifetime, adt, tuple, fn_ptr, raw_pointer, ref, array, slice, dynamic, static, principal, auto_trait, value, param, placeholder, infer, canonical, bound, predicate}
+use Rattle.type_terms.specs.Trees.{Trees, none, tree, leaf, ◌+++◌, sort_of, is_sort}
+use Rattle.type_terms.specs.Worlds.{Reference, sees}
+use Rattle.type_terms.specs.Rules.{autos_with}
+use Rattle.type_terms.proofs.Members.{self-number}
 use Rattle.declarations.specs.Applied.{sorts_of}
 use Rattle.text_definitions.specs.Syntax.{TypeTree, of_primitive, never_type, variable_type, named, reference_to, pointer_to, slice_of, array_of, tuple_of, fn_of, fn_to, dyn_of, Types, no_types, and_type, Args, no_args, and_arg, Arg, lifetime_arg, number_arg, type_arg, Item, bound_item, lifetime_item, Items, no_items, and_item, Length, number_length, name_length, variable_length, Line}
 use Rattle.text_definitions.specs.Declarations.{Declarations, NamedCrate, NamedStruct, NamedTrait, world_of, Known, a_crate, a_struct, a_trait, known}

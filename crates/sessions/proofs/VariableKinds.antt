@@ -1,7 +1,7 @@
 -- The unknowns that stand for the variables of a question have their kinds.
 use Rattle.std.proofs.Common.{◌≡◌, ℕ, suc, List, [], ◌∷◌, map, refl, sym, ap, ◌∙◌, subst}
-use Rattle.model.specs.Label.{Sort, of_type, of_const, of_lifetime, infer}
-use Rattle.model.specs.Trees.{Trees, none, tree, leaf, IsA, sort_of}
+use Rattle.type_terms.specs.Label.{Sort, of_type, of_const, of_lifetime, infer}
+use Rattle.type_terms.specs.Trees.{Trees, none, tree, leaf, IsA, sort_of}
 use Rattle.type_terms.specs.Terms.{Entry, Lawful, Has, types, consts, trees_at}
 use Rattle.type_terms.specs.Kinds.{arg_trees, ArgsHeld, region_label, region_trees}
 use Rattle.type_terms.specs.declared.number.BoundVarIndexKind.TheVariants.{Bound as KBinder, Canonical as KCanonical}

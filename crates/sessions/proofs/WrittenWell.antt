@@ -3,17 +3,17 @@ use Rattle.std.proofs.Common.{◌≡◌, ◌<◌, ℕ, zero, suc, ◌+◌, Bool,
 use Rattle.std.proofs.lemmas.Bool.{eqb-true}
 use Rattle.std.proofs.lemmas.Option.{same_Some}
 use Rattle.std.specs.Prelude.{if◌then◌else◌, nat_lt, slice_get, ◌==◌}
-use Rattle.model.specs.Answers.{is_variable}
-use Rattle.model.specs.Label.{Label, Sort, of_type, of_const, of_lifetime, param, infer, canonical}
-use Rattle.model.specs.LinkedSet.{is_stray}
-use Rattle.model.specs.Proofs.{In}
-use Rattle.model.specs.Terms.{mentions, erased_reference}
-use Rattle.model.specs.Trees.{Trees, none, tree, erase, is_sort, some_node}
-use Rattle.model.specs.Worlds.{World, Reference, ImplDecl}
-use Rattle.model.proofs.Entries.{map-in}
-use Rattle.model.proofs.Members.{here, there, in-map}
-use Rattle.model.proofs.NoHolds.{member-each}
-use Rattle.model.proofs.Walking.{left, right}
+use Rattle.type_terms.specs.Answers.{is_variable}
+use Rattle.type_terms.specs.Label.{Label, Sort, of_type, of_const, of_lifetime, param, infer, canonical}
+use Rattle.type_terms.specs.LinkedSet.{is_stray}
+use Rattle.type_terms.specs.Proofs.{In}
+use Rattle.type_terms.specs.Erased.{mentions, erased_reference}
+use Rattle.type_terms.specs.Trees.{Trees, none, tree, erase, is_sort, some_node}
+use Rattle.type_terms.specs.Worlds.{World, Reference, ImplDecl}
+use Rattle.type_terms.proofs.ProofEntries.{map-in}
+use Rattle.type_terms.proofs.Members.{here, there, in-map}
+use Rattle.type_terms.proofs.NoHolds.{member-each}
+use Rattle.type_terms.proofs.Walking.{left, right}
 use Rattle.type_terms.specs.Made.{terms, is_made}
 use Rattle.type_terms.specs.Terms.{Entry, trees_at}
 use Rattle.type_terms.proofs.Made.{false-true}

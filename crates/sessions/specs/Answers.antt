@@ -1,9 +1,9 @@
 -- What the solver answers to questions without unknowns by what a crate sees of a text.
 use Rattle.std.specs.Prelude.{◌≡◌, ◌≤◌, ◌⊎◌, ℕ, true, List, [], map, Option, None}
-use Rattle.model.specs.Answers.{SingleWay, is_bounded}
-use Rattle.model.specs.Proofs.{HasProof}
-use Rattle.model.specs.Terms.{erased_reference}
-use Rattle.model.specs.Worlds.{World, Reference}
+use Rattle.type_terms.specs.Answers.{SingleWay, is_bounded}
+use Rattle.type_terms.specs.Proofs.{HasProof}
+use Rattle.type_terms.specs.Erased.{erased_reference}
+use Rattle.type_terms.specs.Worlds.{World, Reference}
 use Rattle.type_terms.specs.Terms.{Entry}
 use Rattle.infer_table.specs.Canonical.{GoalTrees, canonical_form}
 use Rattle.infer_table.specs.Responses.{AnswerTrees}

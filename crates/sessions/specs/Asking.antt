@@ -1,8 +1,8 @@
 -- Questions as they are asked in coherence: their references alone, with unknowns for their variables.
 use Rattle.std.specs.Prelude.{◌≡◌, ◌⊎◌, ◌+◌, ℕ, [], Option, Some, None}
-use Rattle.model.specs.Label.{of_trait, predicate}
-use Rattle.model.specs.Trees.{none, tree}
-use Rattle.model.specs.Worlds.{Reference}
+use Rattle.type_terms.specs.Label.{of_trait, predicate}
+use Rattle.type_terms.specs.Trees.{none, tree}
+use Rattle.type_terms.specs.Worlds.{Reference}
 use Rattle.infer_table.specs.Canonical.{GoalTrees, CanonicalForm, canonical_form}
 use Rattle.infer_table.specs.Responses.{AnswerTrees}
 use Rattle.infer_table.specs.Solutions.{Assignment, IsSorted}

@@ -2,10 +2,10 @@
 use Rattle.std.specs.Prelude.{◌≡◌, ℕ, ◌<◌, ◌==◌, ◌&&◌, Bool, false, List, [], map, bit_and}
 use Rattle.std.specs.HashMap.{get_by}
 use Rattle.std.specs.Option.{option_map, option_map_or}
-use Rattle.model.specs.Answers.{CommonInstance}
-use Rattle.model.specs.Proofs.{In}
-use Rattle.model.specs.Trees.{Trees, erase, flags}
-use Rattle.model.specs.Worlds.{World, ImplDecl}
+use Rattle.type_terms.specs.Answers.{CommonInstance}
+use Rattle.type_terms.specs.Proofs.{In}
+use Rattle.type_terms.specs.Trees.{Trees, erase, flags}
+use Rattle.type_terms.specs.Worlds.{World, ImplDecl}
 use Rattle.type_terms.specs.Terms.{Entry, Has, args_lists, trees_at}
 use Rattle.type_terms.specs.declared.ImplId.{ImplId}
 use Rattle.type_terms.specs.declared.TraitId.{TraitId}

@@ -1,8 +1,8 @@
 -- The check of a crate, step by step: its headers first, then its pairs by the numbers of their impls. V is what the crate c sees.
 use Rattle.std.specs.Prelude.{◌≡◌, ℕ, ◌<◌, Bool, true, false, List, Option, Some, None}
-use Rattle.model.specs.Worlds.{World, ImplDecl}
-use Rattle.model.specs.Proofs.{In}
-use Rattle.model.specs.Answers.{CommonInstance}
+use Rattle.type_terms.specs.Worlds.{World, ImplDecl}
+use Rattle.type_terms.specs.Proofs.{In}
+use Rattle.type_terms.specs.Answers.{CommonInstance}
 use Rattle.type_terms.specs.Terms.{Entry}
 use Rattle.type_terms.specs.declared.ImplId.{ImplId}
 use Rattle.type_terms.specs.declared.kinds.Ty.{Ty}

@@ -1,10 +1,10 @@
 -- Where-clauses with their supertraits.
 use Rattle.std.specs.Prelude.{◌<◌, ℕ, List, map}
-use Rattle.model.specs.Terms.{erased_reference, erased_world}
-use Rattle.model.specs.Trees.{Fits}
-use Rattle.model.specs.Worlds.{World, Reference, TraitDecl, traits_named}
-use Rattle.model.specs.Rules.{elaborated}
-use Rattle.model.specs.Proofs.{In, HasProof}
+use Rattle.type_terms.specs.Erased.{erased_reference, erased_world}
+use Rattle.type_terms.specs.Trees.{Fits}
+use Rattle.type_terms.specs.Worlds.{World, Reference, TraitDecl, traits_named}
+use Rattle.type_terms.specs.Rules.{elaborated}
+use Rattle.type_terms.specs.Proofs.{In, HasProof}
 
 -- bounds lead to traits of lower rank: no trait is among its own supertraits
 abbrev pub LeadDown : World → (ℕ → ℕ) → Type 0

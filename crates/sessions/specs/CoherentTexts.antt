@@ -1,12 +1,12 @@
 -- What it says of a text as a whole that all its crates are accepted.
 use Rattle.std.specs.Prelude.{◌≡◌, ℕ, ◌<◌, IsTrue, List, [], length}
-use Rattle.model.specs.Label.{Sort}
-use Rattle.model.specs.Trees.{Trees}
-use Rattle.model.specs.Worlds.{Reference, core}
-use Rattle.model.specs.Proofs.{HasProof, HasProofByImpl}
-use Rattle.model.specs.Answers.{is_closed}
-use Rattle.model.specs.Supers.{IsHeld}
-use Rattle.model.specs.LinkedSet.{HeadersHaveSupertraits}
+use Rattle.type_terms.specs.Label.{Sort}
+use Rattle.type_terms.specs.Trees.{Trees}
+use Rattle.type_terms.specs.Worlds.{Reference, core}
+use Rattle.type_terms.specs.Proofs.{HasProof, HasProofByImpl}
+use Rattle.type_terms.specs.Answers.{is_closed}
+use Rattle.type_terms.specs.Supers.{IsHeld}
+use Rattle.type_terms.specs.LinkedSet.{HeadersHaveSupertraits}
 use Rattle.text_definitions.specs.Declarations.{Declarations}
 use Rattle.overlap_check.specs.Verdicts.{IsAccepted}
 use Rattle.overlap_check.specs.Questions.{filled_reference, Solution, yes, IsProveAnswer, no, IsRefuteAnswer}

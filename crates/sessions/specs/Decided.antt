@@ -1,8 +1,8 @@
 -- Decided references, as the search of a session answers them outside coherence.
 use Rattle.std.specs.Prelude.{ℕ, ◌+◌, List, map, Option}
-use Rattle.model.specs.Answers.{SingleWay, IsDecided}
-use Rattle.model.specs.Terms.{erased_reference}
-use Rattle.model.specs.Worlds.{World, Reference}
+use Rattle.type_terms.specs.Answers.{SingleWay, IsDecided}
+use Rattle.type_terms.specs.Erased.{erased_reference}
+use Rattle.type_terms.specs.Worlds.{World, Reference}
 use Rattle.infer_table.specs.Canonical.{canonical_form}
 use Rattle.infer_table.specs.Responses.{AnswerTrees}
 use Rattle.infer_table.specs.declared.certainty.TypingMode.TheVariants.{PostAnalysis}

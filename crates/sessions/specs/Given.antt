@@ -1,6 +1,6 @@
 -- What a session answers, over the terms of its interner.
 use Rattle.std.specs.Prelude.{List, map}
-use Rattle.model.specs.Trees.{erase}
+use Rattle.type_terms.specs.Trees.{erase}
 use Rattle.type_terms.specs.Kinds.{arg_trees, ArgsHeld}
 use Rattle.type_terms.specs.Terms.{Entry}
 use Rattle.orphan_check.specs.Held.{ErrorHeld}

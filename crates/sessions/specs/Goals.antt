@@ -1,10 +1,10 @@
 -- Goals without unknowns, as a search is asked them: a reference under where-clauses, in which placeholders stand for parameters.
 use Rattle.std.specs.Prelude.{◌≡◌, Bool, true, false, List, map}
 use Rattle.std.specs.List.{list_all}
-use Rattle.model.specs.Label.{Label, of_type, of_const, param, infer, canonical, bound}
-use Rattle.model.specs.Terms.{erased_reference}
-use Rattle.model.specs.Trees.{Trees, none}
-use Rattle.model.specs.Worlds.{World, Reference}
+use Rattle.type_terms.specs.Label.{Label, of_type, of_const, param, infer, canonical, bound}
+use Rattle.type_terms.specs.Erased.{erased_reference}
+use Rattle.type_terms.specs.Trees.{Trees, none}
+use Rattle.type_terms.specs.Worlds.{World, Reference}
 use Rattle.type_terms.specs.Made.{terms, is_made}
 use Rattle.declarations.specs.Applied.{sorts_of}
 use Rattle.infer_table.specs.Canonical.{GoalTrees}

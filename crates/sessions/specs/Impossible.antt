@@ -1,8 +1,8 @@
 -- References that are asked alone, in coherence and without where-clauses.
 use Rattle.std.specs.Prelude.{◌≡◌, ◌⊎◌, List, Some, Result, Err, IsOk}
-use Rattle.model.specs.Label.{of_trait, predicate}
-use Rattle.model.specs.Trees.{none, tree}
-use Rattle.model.specs.Worlds.{Reference}
+use Rattle.type_terms.specs.Label.{of_trait, predicate}
+use Rattle.type_terms.specs.Trees.{none, tree}
+use Rattle.type_terms.specs.Worlds.{Reference}
 use Rattle.type_terms.specs.Terms.{Entry}
 use Rattle.term_folds.specs.declared.predicate.TraitRef.{TraitRef}
 use Rattle.infer_table.specs.Canonical.{GoalTrees, CanonicalForm, canonical_form}

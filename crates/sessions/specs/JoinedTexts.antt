@@ -1,9 +1,9 @@
 -- The crates of a text without a fault, as a set.
 use Rattle.std.specs.Prelude.{ℕ, ◌<◌, IsTrue, List, map, length}
-use Rattle.model.specs.Worlds.{World, core}
-use Rattle.model.specs.Terms.{erased_world}
-use Rattle.model.specs.Renumbering.{view_at}
-use Rattle.model.specs.LinkedSet.{JoinedSet, all_written, dyns_rise}
+use Rattle.type_terms.specs.Worlds.{World, core}
+use Rattle.type_terms.specs.Erased.{erased_world}
+use Rattle.type_terms.specs.Renumbering.{view_at}
+use Rattle.type_terms.specs.LinkedSet.{JoinedSet, all_written, dyns_rise}
 use Rattle.text_definitions.specs.Declarations.{Declarations, world_of}
 use Rattle.overlap_check.specs.Verdicts.{KeepsOrphanRule}
 use Rattle.sessions.specs.Promises.{view_in}

@@ -1,9 +1,9 @@
 -- The check of a later version, impl by impl. V is what the crate c sees.
 use Rattle.std.specs.Prelude.{◌≡◌, ◌≤◌, ◌-◌, ℕ, true, false, List, map, take, Some, slice_get}
-use Rattle.model.specs.Proofs.{Every}
-use Rattle.model.specs.Terms.{erased_reference, erased_impl}
-use Rattle.model.specs.Versions.{is_addable}
-use Rattle.model.specs.Worlds.{World, Reference}
+use Rattle.type_terms.specs.Proofs.{Every}
+use Rattle.type_terms.specs.Erased.{erased_reference, erased_impl}
+use Rattle.type_terms.specs.Versions.{is_addable}
+use Rattle.type_terms.specs.Worlds.{World, Reference}
 use Rattle.type_terms.specs.Terms.{Entry}
 use Rattle.declarations.specs.Items.{reference_in}
 use Rattle.declarations.specs.declared.items.ImplDef.{ImplDef}

@@ -1,7 +1,7 @@
 -- Laws of the values of questions.
 use Rattle.std.specs.Prelude.{◌≡◌, List}
-use Rattle.model.specs.Label.{Sort}
-use Rattle.model.specs.Trees.{Trees, erase}
+use Rattle.type_terms.specs.Label.{Sort}
+use Rattle.type_terms.specs.Trees.{Trees, erase}
 use Rattle.type_terms.specs.Terms.{Entry}
 use Rattle.infer_table.specs.Content.{Table, content, Ready, IsProper}
 use Rattle.infer_table.specs.Covers.{AreKnown}

@@ -1,7 +1,7 @@
 -- The numbers of the impls that a crate sees of a text.
 use Rattle.std.specs.Prelude.{◌≡◌, ℕ, List, length}
-use Rattle.model.specs.Proofs.{In}
-use Rattle.model.specs.Worlds.{ImplDecl}
+use Rattle.type_terms.specs.Proofs.{In}
+use Rattle.type_terms.specs.Worlds.{ImplDecl}
 use Rattle.type_terms.specs.Terms.{Entry}
 use Rattle.declarations.specs.Items.{Items, IsAbove, written, declared}
 use Rattle.text_definitions.specs.Declarations.{Declarations}

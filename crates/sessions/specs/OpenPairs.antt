@@ -1,6 +1,6 @@
 -- Pairs of impls whose goals are left open.
 use Rattle.std.specs.Prelude.{◌≡◌, ◌⊎◌, ℕ, List}
-use Rattle.model.specs.Proofs.{In}
+use Rattle.type_terms.specs.Proofs.{In}
 use Rattle.type_terms.specs.Terms.{Entry, Lawful}
 use Rattle.type_terms.specs.declared.ImplId.{ImplId}
 use Rattle.term_folds.specs.declared.predicate.TraitRef.{TraitRef}

@@ -1,7 +1,7 @@
 -- The goals of a pair of impls, as the search is asked them: their terms are formed, by what a crate sees of a text.
 use Rattle.std.specs.Prelude.{ℕ, List}
-use Rattle.model.specs.Worlds.{World, Reference}
-use Rattle.model.specs.Proofs.{In}
+use Rattle.type_terms.specs.Worlds.{World, Reference}
+use Rattle.type_terms.specs.Proofs.{In}
 use Rattle.type_terms.specs.Terms.{Entry, Lawful, trees_at}
 use Rattle.type_terms.specs.declared.ImplId.{ImplId}
 use Rattle.term_folds.specs.declared.predicate.TraitRef.{TraitRef}

@@ -1,8 +1,8 @@
 -- Impls with placeholders in the place of their parameters, over the terms of an interner.
 use Rattle.std.specs.Prelude.{◌≡◌, ℕ, suc, List, [], ◌∷◌, map}
-use Rattle.model.specs.Label.{Sort, placeholder}
-use Rattle.model.specs.Supers.{opaque_reference}
-use Rattle.model.specs.Trees.{Trees, none, tree}
+use Rattle.type_terms.specs.Label.{Sort, placeholder}
+use Rattle.type_terms.specs.Supers.{opaque_reference}
+use Rattle.type_terms.specs.Trees.{Trees, none, tree}
 use Rattle.type_terms.specs.Terms.{Entry}
 use Rattle.declarations.specs.Applied.{AllHeld, references_in}
 use Rattle.declarations.specs.Held.{ReferenceHeld}

@@ -1,7 +1,7 @@
 -- What the answers of a session promise.
 use Rattle.std.specs.Prelude.{ℕ, map}
-use Rattle.model.specs.Terms.{erased_world, erased_reference}
-use Rattle.model.specs.Worlds.{World, view_of}
+use Rattle.type_terms.specs.Erased.{erased_world, erased_reference}
+use Rattle.type_terms.specs.Worlds.{World, view_of}
 use Rattle.text_definitions.specs.Declarations.{Declarations, Question, world_of}
 use Rattle.overlap_check.specs.Questions.{IsRefuted, ProveAnswer, IsProveAnswer, RefuteAnswer, IsRefuteAnswer}
 use Rattle.overlap_check.specs.Verdicts.{Verdict, IsVerdict}

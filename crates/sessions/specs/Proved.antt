@@ -1,6 +1,6 @@
 -- What is proved of a question's goal with the values that its table has.
 use Rattle.std.specs.Prelude.{true, Bool, List}
-use Rattle.model.specs.Trees.{erase}
+use Rattle.type_terms.specs.Trees.{erase}
 use Rattle.type_terms.specs.Terms.{Entry, Lawful}
 use Rattle.infer_table.specs.Canonical.{GoalTrees}
 use Rattle.infer_table.specs.Content.{Table, content, Ready}

@@ -1,8 +1,8 @@
 -- Questions whether a reference has a proof: how they are asked, outside coherence, and what is known of the answers.
 use Rattle.std.specs.Prelude.{◌≡◌, ◌+◌, ◌⊎◌, ℕ, Bool, true, false, List, [], map, Option, Some, None}
-use Rattle.model.specs.Label.{Label, Sort, of_type, of_const, canonical, bound}
-use Rattle.model.specs.Trees.{Trees, some_node}
-use Rattle.model.specs.Worlds.{World}
+use Rattle.type_terms.specs.Label.{Label, Sort, of_type, of_const, canonical, bound}
+use Rattle.type_terms.specs.Trees.{Trees, some_node}
+use Rattle.type_terms.specs.Worlds.{World}
 use Rattle.type_terms.specs.Kinds.{arg_trees}
 use Rattle.type_terms.specs.Terms.{Entry}
 use Rattle.type_terms.specs.declared.kinds.GenericArgKind.{GenericArgKind}

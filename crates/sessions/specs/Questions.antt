@@ -1,9 +1,9 @@
 -- Questions of a text without variables, as they are asked.
 use Rattle.std.specs.Prelude.{◌≡◌, ℕ, true, List, [], map, Ok}
 use Rattle.std.specs.List.{list_all}
-use Rattle.model.specs.Proofs.{In}
-use Rattle.model.specs.Terms.{erased_reference, erased_world}
-use Rattle.model.specs.Worlds.{World, Reference}
+use Rattle.type_terms.specs.Proofs.{In}
+use Rattle.type_terms.specs.Erased.{erased_reference, erased_world}
+use Rattle.type_terms.specs.Worlds.{World, Reference}
 use Rattle.type_terms.specs.Terms.{Entry}
 use Rattle.term_folds.specs.declared.predicate.TraitRef.{TraitRef}
 use Rattle.term_folds.specs.declared.predicate.Clause.{Clause}

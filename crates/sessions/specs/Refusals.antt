@@ -1,8 +1,8 @@
 -- What a search in coherence leaves open is possible, and what it refuses is not.
 use Rattle.std.specs.Prelude.{◌≡◌, ℕ, true, false, Option, None}
-use Rattle.model.specs.Answers.{is_bounded, is_possible}
-use Rattle.model.specs.Terms.{erased_reference}
-use Rattle.model.specs.Worlds.{World, Reference}
+use Rattle.type_terms.specs.Answers.{is_bounded, is_possible}
+use Rattle.type_terms.specs.Erased.{erased_reference}
+use Rattle.type_terms.specs.Worlds.{World, Reference}
 use Rattle.declarations.specs.Items.{written}
 use Rattle.search_graph.specs.Meaning.{Meaning}
 use Rattle.goal_frames.specs.declared.store.InputId.{InputId}

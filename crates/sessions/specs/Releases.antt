@@ -1,14 +1,14 @@
 -- What answers about later versions of a crate, and about the supertraits of its headers, promise.
 use Rattle.std.specs.Prelude.{◌≡◌, ◌≤◌, ◌<◌, ◌-◌, ℕ, true, false, IsTrue, List, map, take, Some, slice_get}
-use Rattle.model.specs.Terms.{erased_reference, erased_impl}
-use Rattle.model.specs.Trees.{Trees, Fits}
-use Rattle.model.specs.Worlds.{World, Reference, ImplDecl, sees, view_of, with_args}
-use Rattle.model.specs.Walks.{keeps_orphan_rule, is_known}
-use Rattle.model.specs.Answers.{IsDeterminate, Overlaps}
-use Rattle.model.specs.Proofs.{In, Every, HasProof}
-use Rattle.model.specs.Supers.{opaque_reference, SupersHold, IsHeld}
-use Rattle.model.specs.Renumbering.{View, HoldsView, asker_in_set, renumbered_impl}
-use Rattle.model.specs.Versions.{Added, is_addable, in_scope}
+use Rattle.type_terms.specs.Erased.{erased_reference, erased_impl}
+use Rattle.type_terms.specs.Trees.{Trees, Fits}
+use Rattle.type_terms.specs.Worlds.{World, Reference, ImplDecl, sees, view_of, with_args}
+use Rattle.type_terms.specs.Walks.{keeps_orphan_rule, is_known}
+use Rattle.type_terms.specs.Answers.{IsDeterminate, Overlaps}
+use Rattle.type_terms.specs.Proofs.{In, Every, HasProof}
+use Rattle.type_terms.specs.Supers.{opaque_reference, SupersHold, IsHeld}
+use Rattle.type_terms.specs.Renumbering.{View, HoldsView, asker_in_set, renumbered_impl}
+use Rattle.type_terms.specs.Versions.{Added, is_addable, in_scope}
 use Rattle.text_definitions.specs.Declarations.{Declarations, NamedImpl, section_impls, world_of}
 use Rattle.declarations.specs.Elaboration.{supertraits}
 use Rattle.view_lowering.specs.Plain.{plainly_seen_from, unbound_reference}

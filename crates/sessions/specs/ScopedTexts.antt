@@ -1,9 +1,9 @@
 -- What the impls of a text write is in scope of their crates.
 use Rattle.std.specs.Prelude.{IsTrue, List, ◌++◌, map}
-use Rattle.model.specs.Proofs.{In}
-use Rattle.model.specs.Terms.{erased_reference}
-use Rattle.model.specs.Versions.{in_scope}
-use Rattle.model.specs.Worlds.{Reference}
+use Rattle.type_terms.specs.Proofs.{In}
+use Rattle.type_terms.specs.Erased.{erased_reference}
+use Rattle.type_terms.specs.Versions.{in_scope}
+use Rattle.type_terms.specs.Worlds.{Reference}
 use Rattle.text_definitions.specs.Declarations.{Declarations, NamedImpl}
 use Rattle.sessions.specs.Promises.{view_in}
 use Rattle.sessions.specs.Subjects.{IsOfText}

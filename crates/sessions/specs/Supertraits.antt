@@ -1,8 +1,8 @@
 -- The supertraits of an impl's header, asked for one after the other. V is what the crate c sees, as it is written.
 use Rattle.std.specs.Prelude.{◌≡◌, ◌≤◌, ◌-◌, ℕ, List, [], ◌∷◌, map, take, Option, Some, None, slice_get}
-use Rattle.model.specs.Proofs.{In, Every}
-use Rattle.model.specs.Supers.{opaque_reference, SupersHold}
-use Rattle.model.specs.Worlds.{World, Reference, ImplDecl}
+use Rattle.type_terms.specs.Proofs.{In, Every}
+use Rattle.type_terms.specs.Supers.{opaque_reference, SupersHold}
+use Rattle.type_terms.specs.Worlds.{World, Reference, ImplDecl}
 use Rattle.type_terms.specs.Terms.{Entry}
 use Rattle.term_folds.specs.declared.predicate.TraitRef.{TraitRef}
 use Rattle.declarations.specs.Applied.{AllHeld, IsApplied, references_in}

@@ -1,7 +1,7 @@
 -- The unknowns of a question, and their values.
 use Rattle.std.specs.Prelude.{ℕ, suc, List, [], ◌∷◌, map}
-use Rattle.model.specs.Label.{Sort, of_type, of_const, of_lifetime, infer}
-use Rattle.model.specs.Trees.{Trees, leaf, erase}
+use Rattle.type_terms.specs.Label.{Sort, of_type, of_const, of_lifetime, infer}
+use Rattle.type_terms.specs.Trees.{Trees, leaf, erase}
 use Rattle.infer_table.specs.Solutions.{Binding, resolved}
 
 -- the unknowns of these kinds, by first place, behind so many of types and of constants

@@ -1,9 +1,9 @@
 //! The impls with which an impl may overlap: those of its trait, and of these those that can match its self type.
 
 ghost use Rattle.std.specs.Prelude.{◌≡◌, ◌≢◌, ◌≤◌, ◌+◌, ◌++◌, ◌∷◌, [], true, false, IfOk, OnOk, if◌then◌else◌, bit_and};
-ghost use Rattle.model.specs.Terms.{erased_impl};
-ghost use Rattle.model.specs.Trees.{flags};
-ghost use Rattle.model.specs.Worlds.{ImplDecl};
+ghost use Rattle.type_terms.specs.Erased.{erased_impl};
+ghost use Rattle.type_terms.specs.Trees.{flags};
+ghost use Rattle.type_terms.specs.Worlds.{ImplDecl};
 ghost use Rattle.type_terms.specs.Terms.{Has, types, args_lists, trees_at};
 ghost use Rattle.type_terms.specs.declared.TheConstants.{MAX_INDEX};
 ghost use Rattle.declarations.specs.Held.{AreHeld, ImplHeld};

@@ -2,10 +2,10 @@
 
 ghost use Rattle.std.specs.Prelude.{◌≡◌, ◌≤◌, ◌||◌, List, length, map, IfOk, Err};
 ghost use Rattle.type_terms.specs.Failures.{SomeKindIsFull};
-ghost use Rattle.model.specs.Laws.{InEveryLinkedSet};
-ghost use Rattle.model.specs.Terms.{erased_reference};
-ghost use Rattle.model.specs.Versions.{is_addable};
-ghost use Rattle.model.specs.Walks.{trait_is};
+ghost use Rattle.type_terms.specs.Laws.{InEveryLinkedSet};
+ghost use Rattle.type_terms.specs.Erased.{erased_reference};
+ghost use Rattle.type_terms.specs.Versions.{is_addable};
+ghost use Rattle.type_terms.specs.Walks.{trait_is};
 ghost use Rattle.type_terms.specs.Terms.{Entry};
 ghost use Rattle.declarations.specs.Held.{ImplHeld, ReferenceHeld};
 ghost use Rattle.declarations.specs.Items.{declared, reference_in};
@@ -22,16 +22,16 @@ use crate::asked::rest_laws;
 use candidate_assembly::solver::Solver;
 use declarations::declarations::Declarations;
 use declarations::items::ImplDef;
-use model::{
-    added_by_the_view_is_added, later_impls_conclude_nothing_known, later_versions_break_no_user,
-};
 use orphan_check::laws::walks_and_errors;
 use orphan_check::open_walk::open_walk_meets_param;
 use orphan_check::orphan::keeps_orphan_rule;
 use root_goals::SolverCx;
 use term_folds::predicate::TraitRef;
 use type_terms::interner::Interner;
-use type_terms::{Fault, TraitId};
+use type_terms::{
+    Fault, TraitId, added_by_the_view_is_added, later_impls_conclude_nothing_known,
+    later_versions_break_no_user,
+};
 use view_lowering::laws::later_impls_begin_declared;
 use view_lowering::lower_later;
 use workspace::Workspace;

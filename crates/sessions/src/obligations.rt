@@ -1,6 +1,6 @@
 //! All goals of a pair, asked one after the other.
 ghost use Rattle.std.specs.Prelude.{◌≡◌, ◌⊎◌, IsTrue, false, IfOk, Err};
-ghost use Rattle.model.specs.Proofs.{In};
+ghost use Rattle.type_terms.specs.Proofs.{In};
 ghost use Rattle.type_terms.specs.Terms.{Keeps};
 ghost use Rattle.term_folds.specs.declared.predicate.TraitRef.{TraitRef};
 ghost use Rattle.infer_table.specs.Content.{Ready};

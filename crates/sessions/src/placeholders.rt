@@ -1,9 +1,9 @@
 //! Impls with placeholders in the place of their parameters.
 
 ghost use Rattle.std.specs.Prelude.{◌≡◌, ◌+◌, map, IfOk, None};
-ghost use Rattle.model.specs.Label.{placeholder};
-ghost use Rattle.model.specs.Trees.{leaf, outer_binder};
-ghost use Rattle.model.specs.Worlds.{with_args, all_with_args};
+ghost use Rattle.type_terms.specs.Label.{placeholder};
+ghost use Rattle.type_terms.specs.Trees.{leaf, outer_binder};
+ghost use Rattle.type_terms.specs.Worlds.{with_args, all_with_args};
 ghost use Rattle.type_terms.specs.Kinds.{ArgHeld, arg_trees};
 ghost use Rattle.type_terms.specs.Terms.{Has, Keeps, args_lists, trees_at};
 ghost use Rattle.term_folds.specs.Arguments.{first_misfit};

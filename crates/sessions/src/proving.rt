@@ -1,7 +1,7 @@
 //! Questions whether a reference has a proof by what the asking crate sees.
 
 ghost use Rattle.std.specs.Prelude.{◌≡◌, map, IfOk};
-ghost use Rattle.model.specs.Trees.{some_node};
+ghost use Rattle.type_terms.specs.Trees.{some_node};
 ghost use Rattle.type_terms.specs.Kinds.{ArgsHeld, arg_trees};
 ghost use Rattle.type_terms.specs.Terms.{Has, Keeps, args_lists, trees_at};
 ghost use Rattle.term_folds.specs.Arguments.{arg_sort};

@@ -3,7 +3,7 @@
 ghost use Rattle.std.specs.Prelude.{◌≡◌, ◌<◌, ◌≤◌, ◌+◌, ℕ, length, IfOk, IfSome, Ok, Err};
 ghost use Rattle.type_terms.specs.Failures.{SomeKindIsFull};
 ghost use Rattle.type_terms.specs.declared.TheConstants.{MAX_INDEX};
-ghost use Rattle.model.specs.Laws.{HeldSetsAreLinked, InEveryLinkedSet};
+ghost use Rattle.type_terms.specs.Laws.{HeldSetsAreLinked, InEveryLinkedSet};
 ghost use Rattle.orphan_check.specs.Held.{ErrorHeld};
 ghost use Rattle.overlap_check.specs.SessionLaws.{HeadlineHolds, HeadlineOfHeldSets};
 ghost use Rattle.workspace.specs.Numbered.{IsNumbered};
@@ -34,7 +34,6 @@ use crate::supertraits::{HeaderAnswer, header_answer_at};
 use crate::text_laws::held_texts_are_coherent;
 use crate::view::lower_view;
 use candidate_assembly::solver::Solver;
-use model::held_sets_are_linked;
 use orphan_check::errors::OrphanCheckErr;
 use overlap_check::{accepted_sets_have_one_impl, held_sets_have_one_impl};
 use root_goals::{SolverCx, SolverGraph};
@@ -43,7 +42,7 @@ use std::alloc::Global;
 use std::marker::Model;
 use type_terms::interner::Interner;
 use type_terms::kinds::Ty;
-use type_terms::{CrateId, Fault, ImplId};
+use type_terms::{CrateId, Fault, ImplId, held_sets_are_linked};
 use view_lowering::refutations_have_variables_alone;
 use workspace::Workspace;
 

@@ -1,7 +1,7 @@
 //! The table of a question.
 
 ghost use Rattle.std.specs.Prelude.{◌≡◌, ◌≤◌, ◌⊎◌, ◌∷◌, ◌++◌, [], List, map, length, IfOk, OnOk, Err};
-ghost use Rattle.model.specs.Label.{Sort};
+ghost use Rattle.type_terms.specs.Label.{Sort};
 ghost use Rattle.type_terms.specs.Terms.{Keeps};
 ghost use Rattle.type_terms.specs.declared.TheConstants.{MAX_INDEX};
 ghost use Rattle.term_folds.specs.Arguments.{arg_sort};

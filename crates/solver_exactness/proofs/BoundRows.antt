@@ -1,16 +1,16 @@
 -- The candidates by object bounds and by a `dyn` that unsizes to another select the ways by these rules.
 use Rattle.std.proofs.Common.{◌≡◌, ◌⊎◌, inl, inr, ℕ, ◌==◌, Bool, true, false, not, ◌&&◌, if◌then◌else◌, List, [], ◌∷◌, ◌++◌, map, refl, sym, ◌∙◌, ap, subst, Some}
 use Rattle.std.specs.List.{list_all, list_any}
-use Rattle.model.specs.Label.{Label, of_type, dynamic, auto_trait, param, placeholder, infer, canonical, bound}
-use Rattle.model.specs.Trees.{Trees, none, tree, erase_label, is_sort, some_node}
-use Rattle.model.specs.Codes.{same}
-use Rattle.model.specs.Worlds.{World, Reference}
-use Rattle.model.specs.Rules.{Rule, row, sized, unsize, unsize_dyn, unsize_upcast, object_auto, object_principal, equal_rows, same_reference, is_declared, are_declared, are_dyn_compatible, principal_with, autos_with, elaborated, strict_supertraits, upcasts_principal, upcasts_autos, unsize_upcast_rules, object_bound_rules, object_rules}
-use Rattle.model.specs.Proofs.{In}
-use Rattle.model.specs.Answers.{is_undeclared}
-use Rattle.model.proofs.Members.{here, there, in-map, flat-in}
-use Rattle.model.proofs.Fitting.{head-shut, child-shut}
-use Rattle.model.proofs.Walking.{left, right, both}
+use Rattle.type_terms.specs.Label.{Label, of_type, dynamic, auto_trait, param, placeholder, infer, canonical, bound}
+use Rattle.type_terms.specs.Trees.{Trees, none, tree, erase_label, is_sort, some_node}
+use Rattle.type_terms.specs.Codes.{same}
+use Rattle.type_terms.specs.Worlds.{World, Reference}
+use Rattle.type_terms.specs.Rules.{Rule, row, sized, unsize, unsize_dyn, unsize_upcast, object_auto, object_principal, equal_rows, same_reference, is_declared, are_declared, are_dyn_compatible, principal_with, autos_with, elaborated, strict_supertraits, upcasts_principal, upcasts_autos, unsize_upcast_rules, object_bound_rules, object_rules}
+use Rattle.type_terms.specs.Proofs.{In}
+use Rattle.type_terms.specs.Answers.{is_undeclared}
+use Rattle.type_terms.proofs.Members.{here, there, in-map, flat-in}
+use Rattle.type_terms.proofs.Fitting.{head-shut, child-shut}
+use Rattle.type_terms.proofs.Walking.{left, right, both}
 use Rattle.type_terms.specs.Made.{terms, bounds, is_made}
 use Rattle.type_terms.proofs.Made.{false-true}
 use Rattle.infer_table.specs.Canonical.{CanonicalForm}

@@ -1,13 +1,13 @@
 -- What the solver's search answers in coherence to closed references without where-clauses, in the model's words.
 use Rattle.std.proofs.Common.{◌≡◌, ◌&&◌, ℕ, zero, suc, Bool, true, false, List, [], ◌∷◌, ◌++◌, inl, inr, map, refl, sym, ◌∙◌, ap, subst, Option, Some, None, if◌then◌else◌}
 use Rattle.std.specs.List.{flat_map}
-use Rattle.model.specs.Worlds.{World, Reference}
-use Rattle.model.specs.Rules.{Rule, rules, strict_supertraits}
-use Rattle.model.specs.Proofs.{In}
-use Rattle.model.specs.Walks.{is_known_in}
-use Rattle.model.specs.Answers.{is_closed, written_in, short_chains, is_possible}
-use Rattle.model.proofs.Members.{here, there, in-left, in-right, flat-in}
-use Rattle.model.proofs.Walking.{left, right}
+use Rattle.type_terms.specs.Worlds.{World, Reference}
+use Rattle.type_terms.specs.Rules.{Rule, rules, strict_supertraits}
+use Rattle.type_terms.specs.Proofs.{In}
+use Rattle.type_terms.specs.Walks.{is_known_in}
+use Rattle.type_terms.specs.Answers.{is_closed, written_in, short_chains, is_possible}
+use Rattle.type_terms.proofs.Members.{here, there, in-left, in-right, flat-in}
+use Rattle.type_terms.proofs.Walking.{left, right}
 use Rattle.infer_table.specs.Responses.{AnswerTrees}
 use Rattle.infer_table.specs.Canonical.{CanonicalForm}
 use Rattle.infer_table.specs.declared.certainty.TypingMode.TheVariants.{Coherence}

@@ -1,10 +1,10 @@
 -- The questions of nested goals that a goal without unknowns determines: they have no unknowns, and their placeholders stand for
 -- different places.
 use Rattle.std.proofs.Common.{◌≡◌, ℕ, zero, suc, Bool, true, false, ◌&&◌, ◌||◌, List, [], ◌∷◌, ◌++◌, map, refl, sym, ◌∙◌, ap, subst, Some, None, if◌then◌else◌, is_some, inl, inr}
-use Rattle.model.specs.Label.{Label, Sort, of_type, of_const, of_lifetime, infer, param, placeholder, static}
-use Rattle.model.specs.Trees.{Trees, none, tree, leaf, ◌+++◌, is_sort}
-use Rattle.model.specs.Codes.{same_label}
-use Rattle.model.proofs.Matching.{same-label-sound}
+use Rattle.type_terms.specs.Label.{Label, Sort, of_type, of_const, of_lifetime, infer, param, placeholder, static}
+use Rattle.type_terms.specs.Trees.{Trees, none, tree, leaf, ◌+++◌, is_sort}
+use Rattle.type_terms.specs.Codes.{same_label}
+use Rattle.type_terms.proofs.Matching.{same-label-sound}
 use Rattle.infer_table.specs.Canonical.{OpenKinds, StandsInGoal, kind_of_leaf, kind_in_clause, is_among, with_label, leaves, goal_leaves}
 use Rattle.infer_table.specs.Solutions.{resolved}
 use Rattle.infer_table.specs.declared.canonical.CanonicalVarKind.{CanonicalVarKind}
@@ -17,7 +17,7 @@ use Rattle.evaluation.specs.Content.{Terms, fits, reading_of}
 use Rattle.evaluation.specs.FrameTables.{FrameTable, IsMadeFrame, Allows, Nested, good_in, goal_in, question, values_at, slot_at, kind_at, is_placeholder_of}
 use Rattle.evaluation.specs.Finite.{IsDetermined}
 use Rattle.type_terms.proofs.Made.{false-true, left}
-use Rattle.model.proofs.TreeLaws.{append-none}
+use Rattle.type_terms.proofs.TreeLaws.{append-none}
 use Rattle.evaluation.proofs.Questions.{is-place}
 use Rattle.evaluation.proofs.Nodes.{AreNodes, nodes-put, nodes-resolved, IsOpenNode, open-node, every-leaf}
 use Rattle.evaluation.proofs.Applying.{goal-leaves}

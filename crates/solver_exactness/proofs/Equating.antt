@@ -1,12 +1,12 @@
 -- Candidates of a goal without unknowns that equate lists of terms: they apply where both lists are read as one, and else refuse.
 use Rattle.std.proofs.Common.{◌≡◌, ℕ, suc, ◌==◌, Bool, true, false, ◌&&◌, if◌then◌else◌, List, [], ◌∷◌, ◌++◌, map, ◌⊎◌, inl, inr, refl, sym, ◌∙◌, ap, subst, Some}
-use Rattle.model.specs.Label.{Label, of_type, of_const, canonical, param, placeholder}
-use Rattle.model.specs.Trees.{Trees, none, tree, ◌+++◌}
-use Rattle.model.specs.Codes.{same}
-use Rattle.model.specs.Worlds.{Reference}
-use Rattle.model.specs.Rules.{Rule}
-use Rattle.model.proofs.Matching.{same-sound}
-use Rattle.model.proofs.Members.{same-number, self-number}
+use Rattle.type_terms.specs.Label.{Label, of_type, of_const, canonical, param, placeholder}
+use Rattle.type_terms.specs.Trees.{Trees, none, tree, ◌+++◌}
+use Rattle.type_terms.specs.Codes.{same}
+use Rattle.type_terms.specs.Worlds.{Reference}
+use Rattle.type_terms.specs.Rules.{Rule}
+use Rattle.type_terms.proofs.Matching.{same-sound}
+use Rattle.type_terms.proofs.Members.{same-number, self-number}
 use Rattle.type_terms.specs.Made.{terms, is_made}
 use Rattle.type_terms.proofs.Made.{false-true}
 use Rattle.infer_table.specs.Canonical.{CanonicalForm}

@@ -1,12 +1,12 @@
 -- Instances of what is declared, by arguments of the parameters' sorts, are formed as declarations ask.
 use Rattle.std.proofs.Common.{◌≡◌, ℕ, zero, suc, ◌==◌, Bool, true, false, not, ◌&&◌, ◌||◌, List, [], ◌∷◌, ◌++◌, map, refl, sym, ◌∙◌, ap, subst}
-use Rattle.model.specs.Label.{Label, Sort, of_type, of_const, of_lifetime, param, placeholder, infer, canonical, bound, inside, static, array, slice, tuple, dynamic, adt, fn_ptr, ref, raw_pointer, principal, auto_trait, of_trait, predicate}
-use Rattle.model.specs.Trees.{Trees, none, tree, leaf, ◌+++◌, nth, shift, instantiate, is_a, is_no_tree, is_sort, sort_of, some_node, fits}
-use Rattle.model.specs.Worlds.{World, Reference}
-use Rattle.model.specs.Rules.{autos_with, asked, is_dyn}
-use Rattle.model.proofs.Fitting.{head-shut, next-shut, append-shut}
-use Rattle.model.proofs.Members.{same-number, self-number}
-use Rattle.model.proofs.TreeLaws.{append-none}
+use Rattle.type_terms.specs.Label.{Label, Sort, of_type, of_const, of_lifetime, param, placeholder, infer, canonical, bound, inside, static, array, slice, tuple, dynamic, adt, fn_ptr, ref, raw_pointer, principal, auto_trait, of_trait, predicate}
+use Rattle.type_terms.specs.Trees.{Trees, none, tree, leaf, ◌+++◌, nth, shift, instantiate, is_a, is_no_tree, is_sort, sort_of, some_node, fits}
+use Rattle.type_terms.specs.Worlds.{World, Reference}
+use Rattle.type_terms.specs.Rules.{autos_with, asked, is_dyn}
+use Rattle.type_terms.proofs.Fitting.{head-shut, next-shut, append-shut}
+use Rattle.type_terms.proofs.Members.{same-number, self-number}
+use Rattle.type_terms.proofs.TreeLaws.{append-none}
 use Rattle.type_terms.specs.Made.{Standing, terms, bounds, traits, is_leaf_label, is_made}
 use Rattle.type_terms.proofs.Made.{left, right, both, false-true, no-tree, made-ordinary, makes-ordinary, made-rest, made-alone, made-append, last-bound, last-trait, never-dynamic, never-dynamic-bound, never-principal}
 use Rattle.infer_table.proofs.SolutionLaws.{is_sort-equal as is-sort, is_sort-self as sort-self}

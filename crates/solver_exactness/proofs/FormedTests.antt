@@ -1,15 +1,15 @@
 -- Views that pass the test are formed.
 use Rattle.std.proofs.Common.{◌≡◌, ◌==◌, ℕ, zero, suc, Bool, true, false, ◌&&◌, ◌||◌, not, List, [], ◌∷◌, refl, ap, subst}
 use Rattle.std.specs.List.{list_all}
-use Rattle.model.specs.Label.{Label, Sort, of_type, adt, tuple, fn_ptr, raw_pointer, ref, array, slice, dynamic, principal, auto_trait, of_trait, predicate, param}
-use Rattle.model.specs.Trees.{Trees, none, tree, is_sort}
-use Rattle.model.specs.Worlds.{World, Reference, StructDecl, TraitDecl, ImplDecl, traits_named}
-use Rattle.model.specs.Rules.{sized, clone, copy, unsize, is_auto}
-use Rattle.model.specs.Proofs.{In}
-use Rattle.model.specs.Walks.{struct_is, trait_is}
-use Rattle.model.proofs.Members.{in-filter, same-number, some-member}
-use Rattle.model.proofs.NoHolds.{member-each}
-use Rattle.model.proofs.Walking.{left, right}
+use Rattle.type_terms.specs.Label.{Label, Sort, of_type, adt, tuple, fn_ptr, raw_pointer, ref, array, slice, dynamic, principal, auto_trait, of_trait, predicate, param}
+use Rattle.type_terms.specs.Trees.{Trees, none, tree, is_sort}
+use Rattle.type_terms.specs.Worlds.{World, Reference, StructDecl, TraitDecl, ImplDecl, traits_named}
+use Rattle.type_terms.specs.Rules.{sized, clone, copy, unsize, is_auto}
+use Rattle.type_terms.specs.Proofs.{In}
+use Rattle.type_terms.specs.Walks.{struct_is, trait_is}
+use Rattle.type_terms.proofs.Members.{in-filter, same-number, some-member}
+use Rattle.type_terms.proofs.NoHolds.{member-each}
+use Rattle.type_terms.proofs.Walking.{left, right}
 use Rattle.type_terms.proofs.Made.{false-true}
 use Rattle.infer_table.proofs.SolutionLaws.{is_sort-equal as is-sort}
 use Rattle.declarations.specs.Applied.{sorts_of}

@@ -1,13 +1,13 @@
 -- Formed facts can be asked, and are kept along ways.
 use Rattle.std.proofs.Common.{◌≡◌, ◌==◌, Bool, true, false, not, ◌||◌, List, [], ◌∷◌, ◌++◌, map, refl, ◌∙◌, ap, if◌then◌else◌}
-use Rattle.model.specs.Label.{Label, Sort, of_type, dynamic, adt, principal, auto_trait, of_trait, predicate}
-use Rattle.model.specs.Trees.{Trees, none, tree, is_sort, some_node}
-use Rattle.model.specs.Worlds.{World, Reference}
-use Rattle.model.specs.Rules.{Rule, rules, unsize, strict_supertraits}
-use Rattle.model.specs.Answers.{is_undeclared}
-use Rattle.model.specs.Walks.{trait_is}
-use Rattle.model.proofs.Members.{same-number}
-use Rattle.model.proofs.Walking.{both}
+use Rattle.type_terms.specs.Label.{Label, Sort, of_type, dynamic, adt, principal, auto_trait, of_trait, predicate}
+use Rattle.type_terms.specs.Trees.{Trees, none, tree, is_sort, some_node}
+use Rattle.type_terms.specs.Worlds.{World, Reference}
+use Rattle.type_terms.specs.Rules.{Rule, rules, unsize, strict_supertraits}
+use Rattle.type_terms.specs.Answers.{is_undeclared}
+use Rattle.type_terms.specs.Walks.{trait_is}
+use Rattle.type_terms.proofs.Members.{same-number}
+use Rattle.type_terms.proofs.Walking.{both}
 use Rattle.infer_table.specs.declared.certainty.TypingMode.{TypingMode}
 use Rattle.infer_table.specs.declared.certainty.TypingMode.TheVariants.{Coherence, PostAnalysis}
 use Rattle.evaluation.specs.Lists.{Every}

@@ -1,7 +1,7 @@
 -- A table of a goal without unknowns has solutions, whatever stands for the goal's placeholders and for an unknown.
 use Rattle.std.proofs.Common.{◌≡◌, ℕ, Bool, true, false, ◌&&◌, List, [], ◌∷◌, map, refl, sym, ◌∙◌, ap, Some, if◌then◌else◌, inl, inr}
-use Rattle.model.specs.Label.{Label, Sort, of_type, of_const, of_lifetime, infer, bool, value}
-use Rattle.model.specs.Trees.{Trees, none, leaf, sort_of}
+use Rattle.type_terms.specs.Label.{Label, Sort, of_type, of_const, of_lifetime, infer, bool, value}
+use Rattle.type_terms.specs.Trees.{Trees, none, leaf, sort_of}
 use Rattle.infer_table.specs.Canonical.{StandsInGoal, kind_of_leaf, kind_in_clause}
 use Rattle.infer_table.specs.Solutions.{Assignment, tree_of, is_variable, resolved, HasValues}
 use Rattle.infer_table.specs.declared.canonical.CanonicalVarKind.{CanonicalVarKind}
@@ -11,7 +11,7 @@ use Rattle.evaluation.specs.Instances.{read_with, put_in, default_label, other_t
 use Rattle.evaluation.specs.Content.{Values, Fact, Terms, given, fits, standing, reading_of}
 use Rattle.evaluation.specs.FrameTables.{good_in, FrameTable, IsMadeFrame, HaveValues, Allows, Nested, slot_at, goal_in, fact}
 use Rattle.evaluation.specs.Finite.{IsFree, IsDetermined}
-use Rattle.model.proofs.TreeLaws.{append-none}
+use Rattle.type_terms.proofs.TreeLaws.{append-none}
 use Rattle.evaluation.proofs.Reading.{read-put, reads-same, same-map, same-hold}
 use Rattle.evaluation.proofs.Questions.{put-in-slots}
 use Rattle.evaluation.proofs.Free.{based, completed, completed-reads, completed-holds, completed-sorted}

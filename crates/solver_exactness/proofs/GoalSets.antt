@@ -1,7 +1,7 @@
 -- The questions of facts that can be asked, where ways keep to such facts, lead to no others.
 use Rattle.std.proofs.Common.{◌≡◌, Bool, true, false, List, [], ◌∷◌, map, length, refl, sym, ◌∙◌, ap, subst, Some, if◌then◌else◌}
-use Rattle.model.specs.Worlds.{World, Reference}
-use Rattle.model.specs.Rules.{is_coinductive}
+use Rattle.type_terms.specs.Worlds.{World, Reference}
+use Rattle.type_terms.specs.Rules.{is_coinductive}
 use Rattle.infer_table.specs.Canonical.{CanonicalForm}
 use Rattle.infer_table.specs.declared.certainty.TypingMode.{TypingMode}
 use Rattle.infer_table.specs.declared.certainty.TypingMode.TheVariants.{Coherence, PostAnalysis}

@@ -1,15 +1,15 @@
 -- The candidates by impls are the ways by impls.
 use Rattle.std.proofs.Common.{◌≡◌, ◌⊎◌, inl, inr, ℕ, zero, suc, ◌+◌, ◌<◌, arith, zero-add, ◌==◌, Bool, true, false, not, ◌&&◌, ◌||◌, if◌then◌else◌, List, [], ◌∷◌, ◌++◌, map, length, refl, sym, ◌∙◌, ap, subst, Some}
 use Rattle.std.specs.List.{flat_map}
-use Rattle.model.specs.Label.{Label, Sort, of_type, of_const, of_lifetime, static, param, placeholder, infer, canonical, bound}
-use Rattle.model.specs.Trees.{Trees, none, tree, leaf, IsA, nth, instantiate, arguments, some_node, erase_label}
-use Rattle.model.specs.Codes.{same_label, numbers}
-use Rattle.model.specs.Worlds.{World, Reference, ImplDecl, all_with_args}
-use Rattle.model.specs.Rules.{Rule, impl_rules, is_coinductive}
-use Rattle.model.specs.Proofs.{In}
-use Rattle.model.proofs.Members.{here, there, in-nothing, self-number}
-use Rattle.model.proofs.Fitting.{ByImpl, impl-rule, next-shut}
-use Rattle.model.proofs.Walking.{left}
+use Rattle.type_terms.specs.Label.{Label, Sort, of_type, of_const, of_lifetime, static, param, placeholder, infer, canonical, bound}
+use Rattle.type_terms.specs.Trees.{Trees, none, tree, leaf, IsA, nth, instantiate, arguments, some_node, erase_label}
+use Rattle.type_terms.specs.Codes.{same_label, numbers}
+use Rattle.type_terms.specs.Worlds.{World, Reference, ImplDecl, all_with_args}
+use Rattle.type_terms.specs.Rules.{Rule, impl_rules, is_coinductive}
+use Rattle.type_terms.specs.Proofs.{In}
+use Rattle.type_terms.proofs.Members.{here, there, in-nothing, self-number}
+use Rattle.type_terms.proofs.Fitting.{ByImpl, impl-rule, next-shut}
+use Rattle.type_terms.proofs.Walking.{left}
 use Rattle.type_terms.specs.Made.{terms, is_made}
 use Rattle.type_terms.proofs.Made.{false-true}
 use Rattle.infer_table.specs.Canonical.{CanonicalForm}

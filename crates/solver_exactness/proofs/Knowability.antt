@@ -1,12 +1,12 @@
 -- What is knowable of a goal without unknowns is knowable of its instance, and the unknowable candidate is one way more.
 use Rattle.std.proofs.Common.{◌≡◌, ◌⊎◌, inl, inr, ℕ, ◌==◌, Bool, true, false, not, ◌&&◌, ◌||◌, if◌then◌else◌, List, [], ◌∷◌, ◌++◌, refl, ◌∙◌, ap, Option, Some, None}
 use Rattle.std.specs.List.{list_all, list_any}
-use Rattle.model.specs.Label.{Label, of_type, of_const, of_lifetime, ref, adt, dynamic, static, value, principal, auto_trait, predicate, param, placeholder, infer, canonical, bound}
-use Rattle.model.specs.Trees.{Trees, none, tree, leaf, ◌+++◌, is_a, is_sort, sort_of, is_no_tree}
-use Rattle.model.specs.Worlds.{World}
-use Rattle.model.specs.LinkedSet.{is_open_place}
-use Rattle.model.specs.Walks.{Met, local, entered, struct_leaf, open_place, other_leaf, visited, dyn_met, struct_is, trait_is, is_home, item_in, until_decisive, ends_local}
-use Rattle.model.proofs.Walking.{left, right}
+use Rattle.type_terms.specs.Label.{Label, of_type, of_const, of_lifetime, ref, adt, dynamic, static, value, principal, auto_trait, predicate, param, placeholder, infer, canonical, bound}
+use Rattle.type_terms.specs.Trees.{Trees, none, tree, leaf, ◌+++◌, is_a, is_sort, sort_of, is_no_tree}
+use Rattle.type_terms.specs.Worlds.{World}
+use Rattle.type_terms.specs.LinkedSet.{is_open_place}
+use Rattle.type_terms.specs.Walks.{Met, local, entered, struct_leaf, open_place, other_leaf, visited, dyn_met, struct_is, trait_is, is_home, item_in, until_decisive, ends_local}
+use Rattle.type_terms.proofs.Walking.{left, right}
 use Rattle.type_terms.specs.Made.{terms, bounds, is_leaf_label, is_made}
 use Rattle.type_terms.proofs.Made.{false-true}
 use Rattle.infer_table.specs.Canonical.{CanonicalForm}

@@ -1,19 +1,19 @@
 -- What is possible, decided, bounded and proved by rules is so by ways.
 use Rattle.std.proofs.Common.{◌≡◌, ℕ, zero, suc, Bool, true, false, not, ◌&&◌, ◌||◌, List, [], ◌∷◌, ◌++◌, map, refl, sym, ◌∙◌, ap, subst, ◌⊎◌, inl, inr, if◌then◌else◌, append_assoc}
 use Rattle.std.specs.List.{flat_map, list_all, list_any}
-use Rattle.model.specs.Worlds.{World, Reference}
-use Rattle.model.specs.Rules.{Rule, rules, strict_supertraits, is_coinductive}
-use Rattle.model.specs.Proofs.{Entry, In, Stands, Follows, IsProof, HasProof}
-use Rattle.model.specs.Walks.{is_known_in}
-use Rattle.model.specs.Answers.{children, short_chains, is_possible, SingleWay}
-use Rattle.model.proofs.Members.{here, there, in-cases, in-nothing, in-right, in-map}
-use Rattle.model.proofs.Entries.{map-in, stands-more}
-use Rattle.model.proofs.WorkedProofs.{needs-rule}
+use Rattle.type_terms.specs.Worlds.{World, Reference}
+use Rattle.type_terms.specs.Rules.{Rule, rules, strict_supertraits, is_coinductive}
+use Rattle.type_terms.specs.Proofs.{Entry, In, Stands, Follows, IsProof, HasProof}
+use Rattle.type_terms.specs.Walks.{is_known_in}
+use Rattle.type_terms.specs.Answers.{children, short_chains, is_possible, SingleWay}
+use Rattle.type_terms.proofs.Members.{here, there, in-cases, in-nothing, in-right, in-map}
+use Rattle.type_terms.proofs.ProofEntries.{map-in, stands-more}
+use Rattle.type_terms.proofs.WorkedProofs.{needs-rule}
 use Rattle.evaluation.specs.Lists.{Every, SomeOf}
 use Rattle.solver_exactness.specs.Ways.{AtMostOne, HasShortChains, IsPossible, IsDecided}
 use Rattle.solver_exactness.specs.ModelWays.{ways_under, ways_for, ProofsAreByWays, SingleWayIsDecided, PossibleIsByWays, ShortIsByWays}
-use Rattle.model.specs.Proofs as Model
-use Rattle.model.specs.Answers as Answers
+use Rattle.type_terms.specs.Proofs as Model
+use Rattle.type_terms.specs.Answers as Answers
 
 no-true : false ≡ true → ⊥
 no-true e = cc

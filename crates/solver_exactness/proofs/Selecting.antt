@@ -1,12 +1,12 @@
 -- Ways that are others but for order and repeats: lists one after the other, and one way for each of some references.
 use Rattle.std.proofs.Common.{◌≡◌, ◌⊎◌, inl, inr, ℕ, zero, suc, ◌≤◌, arith, Bool, true, false, not, ◌&&◌, ◌==◌, if◌then◌else◌, List, [], ◌∷◌, ◌++◌, map, refl, sym, ◌∙◌, ap, subst}
 use Rattle.std.specs.List.{list_any}
-use Rattle.model.specs.Codes.{same}
-use Rattle.model.specs.Worlds.{Reference}
-use Rattle.model.specs.Rules.{BuiltIn, row, same_reference, equal_rows}
-use Rattle.model.specs.Proofs.{In}
-use Rattle.model.proofs.Members.{here, there, in-cases, in-nothing, in-map, same-number, self-number, some-member, member-some}
-use Rattle.model.proofs.Walking.{left, right}
+use Rattle.type_terms.specs.Codes.{same}
+use Rattle.type_terms.specs.Worlds.{Reference}
+use Rattle.type_terms.specs.Rules.{BuiltIn, row, same_reference, equal_rows}
+use Rattle.type_terms.specs.Proofs.{In}
+use Rattle.type_terms.proofs.Members.{here, there, in-cases, in-nothing, in-map, same-number, self-number, some-member, member-some}
+use Rattle.type_terms.proofs.Walking.{left, right}
 use Rattle.type_terms.proofs.Made.{false-true}
 use Rattle.evaluation.specs.Lists.{Every, SomeOf}
 use Rattle.evaluation.specs.Content.{Fact}

@@ -4,7 +4,7 @@ use Rattle.infer_table.specs.Canonical.{CanonicalForm}
 use Rattle.infer_table.specs.Responses.{AnswerTrees}
 use Rattle.infer_table.specs.declared.certainty.TypingMode.{TypingMode}
 use Rattle.infer_table.specs.declared.certainty.TypingMode.TheVariants.{Coherence, PostAnalysis}
-use Rattle.model.proofs.Walking.{both}
+use Rattle.type_terms.proofs.Walking.{both}
 use Rattle.evaluation.specs.Lists.{Every}
 use Rattle.evaluation.specs.Content.{Values, Fact, Question}
 use Rattle.evaluation.specs.FrameTables.{kinds_known}

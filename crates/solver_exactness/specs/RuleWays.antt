@@ -1,8 +1,8 @@
 -- The ways of references by a list of rules over trees: the rules whose head matches, each with its premises.
 use Rattle.std.specs.Prelude.{◌≡◌, ℕ, suc, ◌==◌, Bool, ◌&&◌, if◌then◌else◌, List, [], ◌∷◌, map, Option, Some, None}
-use Rattle.model.specs.Label.{Sort, canonical}
-use Rattle.model.specs.Trees.{Trees, none, tree, is_sort}
-use Rattle.model.specs.Codes.{same}
+use Rattle.type_terms.specs.Label.{Sort, canonical}
+use Rattle.type_terms.specs.Trees.{Trees, none, tree, is_sort}
+use Rattle.type_terms.specs.Codes.{same}
 use Rattle.infer_table.specs.declared.canonical.CanonicalVarKind.{CanonicalVarKind}
 use Rattle.infer_table.specs.Raw.{sort_of_kind}
 use Rattle.evaluation.specs.Merge.{or_else}

@@ -1,6 +1,6 @@
 -- Folds of lists of types and of arguments, item by item.
 use Rattle.std.proofs.Common.{◌≡◌, ℕ, ◌+◌, ◌<◌, List, [], ◌∷◌, ◌++◌, length, take, get_or, ap, sym, ◌∙◌, subst}
-use Rattle.model.specs.Trees.{Trees, ◌+++◌}
+use Rattle.type_terms.specs.Trees.{Trees, ◌+++◌}
 use Rattle.type_terms.specs.Terms.{Entry, Keeps, trees_at}
 use Rattle.type_terms.specs.Kinds.{TysHeld, tys_trees, ArgsHeld, arg_trees, args_trees}
 use Rattle.type_terms.specs.declared.kinds.Ty as of_ty

@@ -1,6 +1,6 @@
 -- The kinds that have no part.
 use Rattle.std.proofs.Common.{◌≡◌, ℕ, List, refl}
-use Rattle.model.specs.Trees.{Trees}
+use Rattle.type_terms.specs.Trees.{Trees}
 use Rattle.type_terms.specs.Terms.{Entry}
 use Rattle.type_terms.specs.Kinds.{kind_trees}
 use Rattle.type_terms.specs.declared.AdtId.{AdtId}

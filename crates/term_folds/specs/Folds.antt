@@ -1,8 +1,8 @@
 -- What a folder does at a node, and what a fold is.
 use Rattle.std.specs.Prelude.{[], ◌≡◌, ℕ, ◌≤◌, List, ◌∷◌, ◌++◌}
 use Rattle.std.proofs.Common.{arith}
-use Rattle.model.specs.Label.{Label}
-use Rattle.model.specs.Trees.{Trees, none, tree, ◌+++◌}
+use Rattle.type_terms.specs.Label.{Label}
+use Rattle.type_terms.specs.Trees.{Trees, none, tree, ◌+++◌}
 use Rattle.type_terms.specs.Visits.{around}
 use Rattle.type_terms.specs.Pieces.{Piece}
 use Rattle.type_terms.specs.Terms.{Entry, Is, Has, trees_at, types, consts}

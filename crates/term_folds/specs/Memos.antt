@@ -1,7 +1,7 @@
 -- What a walk has found so far.
 use Rattle.std.specs.Prelude.{◌≡◌, ℕ, ◌&&◌, Bool, nat_eq, List, length, IfSome}
 use Rattle.std.specs.HashMap.{get}
-use Rattle.model.specs.Trees.{Trees}
+use Rattle.type_terms.specs.Trees.{Trees}
 use Rattle.type_terms.specs.Terms.{Entry, Has, types, trees_at}
 use Rattle.term_folds.specs.declared.memo.Place.{Place}
 use Rattle.term_folds.specs.declared.memo.Memo.{Memo}

@@ -1,7 +1,7 @@
 //! Folders, and the fold of a term by one.
 ghost use Rattle.std.specs.Prelude.{◌≡◌, ℕ, ◌+◌, ◌*◌, ◌<◌, ◌≤◌, List, length, IfOk, IfErr};
-ghost use Rattle.model.specs.Label.{Label};
-ghost use Rattle.model.specs.Trees.{Trees, none, tree, ◌+++◌, is_no_tree};
+ghost use Rattle.type_terms.specs.Label.{Label};
+ghost use Rattle.type_terms.specs.Trees.{Trees, none, tree, ◌+++◌, is_no_tree};
 ghost use Rattle.type_terms.specs.Terms.{Entry, Is, Has, Keeps, types, consts, args_lists, type_lists, bounds_lists, trees_at};
 ghost use Rattle.type_terms.specs.Kinds.{region_trees, kind_trees, KindHeld, KindOlder, RegionHeld, ArgHeld, arg_trees, PrincipalHeld, PrincipalOlder, principal_trees};
 ghost use Rattle.type_terms.specs.Binders.{counts_of};

@@ -1,7 +1,7 @@
 //! Folders that cannot fail but for want of room.
 ghost use Rattle.std.specs.Prelude.{◌≡◌, ℕ, ◌<◌, ◌≤◌, ◌⊎◌, List, length, IfOk, Err};
-ghost use Rattle.model.specs.Label.{Label};
-ghost use Rattle.model.specs.Trees.{Trees, none, tree, ◌+++◌};
+ghost use Rattle.type_terms.specs.Label.{Label};
+ghost use Rattle.type_terms.specs.Trees.{Trees, none, tree, ◌+++◌};
 ghost use Rattle.type_terms.specs.Terms.{Entry, Is, Has, Keeps, types, consts, trees_at};
 ghost use Rattle.type_terms.specs.Kinds.{region_trees, RegionHeld};
 ghost use Rattle.type_terms.specs.Binders.{counts_of};

@@ -1,6 +1,6 @@
 //! Parameters replaced by arguments.
 ghost use Rattle.std.specs.Prelude.{◌≡◌, ℕ, ◌<◌, length, min, not, IfOk, IfSome, option_map};
-ghost use Rattle.model.specs.Trees.{nth, some_node};
+ghost use Rattle.type_terms.specs.Trees.{nth, some_node};
 ghost use Rattle.type_terms.specs.Terms.{Keeps, Has, args_lists, trees_at};
 ghost use Rattle.type_terms.specs.Kinds.{ArgHeld, arg_trees};
 ghost use Rattle.term_folds.specs.Arguments.{is_param, sort_at, arg_sort};

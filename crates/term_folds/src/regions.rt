@@ -1,6 +1,6 @@
 //! Free lifetimes replaced.
 ghost use Rattle.std.specs.Prelude.{◌≡◌, ℕ, IfOk};
-ghost use Rattle.model.specs.Label.{Label};
+ghost use Rattle.type_terms.specs.Label.{Label};
 ghost use Rattle.type_terms.specs.Terms.{Keeps};
 ghost use Rattle.type_terms.specs.Kinds.{RegionHeld, region_label};
 ghost use Rattle.type_terms.specs.Failures.{SomeKindIsFull};

@@ -1,6 +1,6 @@
 //! Binder numbers shifted.
 ghost use Rattle.std.specs.Prelude.{◌≡◌, ℕ, ◌<◌, length, min, IfOk, Err};
-ghost use Rattle.model.specs.Trees.{shift};
+ghost use Rattle.type_terms.specs.Trees.{shift};
 ghost use Rattle.type_terms.specs.Terms.{Keeps};
 ghost use Rattle.type_terms.specs.Kinds.{RegionHeld, region_trees};
 ghost use Rattle.type_terms.specs.declared.TheConstants.{MAX_INDEX};

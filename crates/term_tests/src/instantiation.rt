@@ -1,6 +1,6 @@
 //! Instantiations, signatures and self types.
 ghost use Rattle.std.specs.Prelude.{IfOk};
-ghost use Rattle.model.specs.Trees.{none, ◌+++◌};
+ghost use Rattle.type_terms.specs.Trees.{none, ◌+++◌};
 ghost use Rattle.type_terms.specs.Terms.{Is, Has, Keeps, args_lists};
 ghost use Rattle.type_terms.specs.Kinds.{ArgHeld, arg_trees};
 

@@ -1,7 +1,7 @@
 -- What a line without a fault adds to the declarations.
 use Rattle.std.specs.Prelude.{ℕ, ◌-◌, if◌then◌else◌, false, true, Bool, List, [], ◌∷◌, ◌++◌, length, map}
-use Rattle.model.specs.Label.{of_type, param, placeholder}
-use Rattle.model.specs.Trees.{leaf}
+use Rattle.type_terms.specs.Label.{of_type, param, placeholder}
+use Rattle.type_terms.specs.Trees.{leaf}
 use Rattle.text_definitions.specs.Syntax.{Params, Bound, Clause, Types, Line, crate_line, struct_line, trait_line, impl_line, prove_line, refute_line, later_line, supers_line}
 use Rattle.text_definitions.specs.Declarations.{Declarations, NamedCrate, NamedStruct, NamedTrait, NamedImpl, LaterImpl, of_later, of_supers, Question, known, kinds_of, names_of, sorted_names, last_crate, last_later, impl_owner}
 use Rattle.text_definitions.specs.Uses.{asked_uses, params_of}

@@ -2,11 +2,11 @@
 use Rattle.std.specs.Prelude.{ℕ, ◌+◌, ◌-◌, ◌==◌, if◌then◌else◌, false, true, Bool, List, [], ◌∷◌, ◌++◌, map, filter, length, count_by, slice_get, unwrap_or, Option, find, codes}
 use Rattle.std.specs.Option.{option_map, option_or}
 use Rattle.std.specs.Str.{bytes_eq}
-use Rattle.model.specs.Label.{Sort, of_type, of_const, of_lifetime, array, ref, raw_pointer, param}
-use Rattle.model.specs.Trees.{none, tree, leaf}
-use Rattle.model.specs.Worlds.{World, Reference, CrateDecl, StructDecl, TraitDecl, ImplDecl, core}
-use Rattle.model.specs.Core.{core_world, core_traits, impls_for, scalars, type_param, box_impl}
-use Rattle.model.specs.Rules.{clone, copy, asked}
+use Rattle.type_terms.specs.Label.{Sort, of_type, of_const, of_lifetime, array, ref, raw_pointer, param}
+use Rattle.type_terms.specs.Trees.{none, tree, leaf}
+use Rattle.type_terms.specs.Worlds.{World, Reference, CrateDecl, StructDecl, TraitDecl, ImplDecl, core}
+use Rattle.type_terms.specs.Core.{core_world, core_traits, impls_for, scalars, type_param, box_impl}
+use Rattle.type_terms.specs.Rules.{clone, copy, asked}
 use Rattle.text_definitions.specs.Syntax.{Params}
 
 -- a crate, a struct or a trait, with its name in the text; kinds are those of the written parameters, without Self

@@ -3,10 +3,10 @@ use Rattle.std.specs.Prelude.{ℕ, ◌+◌, ◌^◌, Bool, true, false, ◌||◌
 use Rattle.std.specs.List.{list_any, flat_map}
 use Rattle.std.specs.Option.{option_map_or, option_and_then}
 use Rattle.std.specs.Str.{bytes_eq}
-use Rattle.model.specs.Label.{Sort, of_type, of_const, of_lifetime}
-use Rattle.model.specs.Trees.{is_sort}
-use Rattle.model.specs.Worlds.{sees}
-use Rattle.model.specs.Rules.{sized, tuple_trait, fn_ptr_trait, fn_once, fn_mut, fn_shared, unsize}
+use Rattle.type_terms.specs.Label.{Sort, of_type, of_const, of_lifetime}
+use Rattle.type_terms.specs.Trees.{is_sort}
+use Rattle.type_terms.specs.Worlds.{sees}
+use Rattle.type_terms.specs.Rules.{sized, tuple_trait, fn_ptr_trait, fn_once, fn_mut, fn_shared, unsize}
 use Rattle.text_definitions.specs.Syntax.{TypeTree, named, Params, Line, crate_line, struct_line, trait_line, impl_line, prove_line, refute_line, later_line, supers_line}
 use Rattle.text_definitions.specs.Declarations.{Declarations, NamedStruct, NamedTrait, world_of, Known, a_crate, a_struct, a_trait, known, kinds_of, names_of, last_crate, last_later, impl_owner}
 use Rattle.text_definitions.specs.Uses.{ItemShape, bound_shape, lifetime_shape, Use, crate_use, name_use, trait_use, lifetime_use, binder_use, variable_use, misfit_use, dyn_use, items_use, number_use, uses, asked_uses, other_uses, header_uses, bound_uses, params_of, declared_name, types_count, line_depth}

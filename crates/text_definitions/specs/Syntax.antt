@@ -1,6 +1,6 @@
 -- What a line says, and the one way to write it: the grammar.
 use Rattle.std.specs.Prelude.{ℕ, Bool, true, false, List, [], ◌∷◌, ◌++◌, map, Option, Some, None, if◌then◌else◌}
-use Rattle.model.specs.Label.{Label}
+use Rattle.type_terms.specs.Label.{Label}
 use Rattle.text_definitions.specs.Words.{Sign, comma, open_angle, close_angle, exclamation, ampersand, star, open_square, close_square, semicolon, open_round, close_round, plus, colon, Keyword, crate_word, uses_word, fundamental_word, struct_word, auto_word, trait_word, impl_word, for_word, where_word, prove_word, refute_word, in_word, mut_word, const_word, fn_word, dyn_word, later_word, supers_word}
 use Rattle.text_definitions.specs.Tokens.{Token, keyword, primitive, name, lifetime, variable, number, sign, arrow}
 

@@ -6,7 +6,7 @@ use Rattle.std.specs.Option.{option_map, option_map_or, option_or}
 use Rattle.std.specs.Str.{bytes_eq}
 use Rattle.std.proofs.lemmas.Bool.Decides.{nat_tests}
 use Rattle.std.proofs.lemmas.Option.{slice_get_within}
-use Rattle.model.specs.Label.{of_type, of_const, of_lifetime}
+use Rattle.type_terms.specs.Label.{of_type, of_const, of_lifetime}
 use Rattle.type_terms.specs.declared.TheConstants.{MAX_INDEX}
 use Rattle.text_definitions.specs.Syntax.{Clause, Line, crate_line, struct_line, trait_line, impl_line, prove_line, refute_line, later_line, supers_line}
 use Rattle.text_definitions.specs.Declarations.{Declarations, NamedCrate, NamedStruct, NamedTrait, Known, a_crate, a_struct, a_trait, known, crate_known, struct_known, trait_known}

@@ -3,9 +3,9 @@ use Rattle.std.proofs.Common.{◌≡◌, ℕ, zero, suc, ◌+◌, ◌<◌, ◌�
 use Rattle.std.proofs.lemmas.List.{length-take, length-map}
 use Rattle.std.proofs.lemmas.Option.{same_Some}
 use Rattle.std.specs.Prelude.{slice_get}
-use Rattle.model.specs.Label.{of_type, of_const, of_lifetime, param}
-use Rattle.model.specs.Trees.{Trees, leaf, ◌+++◌}
-use Rattle.model.specs.Worlds.{Reference}
+use Rattle.type_terms.specs.Label.{of_type, of_const, of_lifetime, param}
+use Rattle.type_terms.specs.Trees.{Trees, leaf, ◌+++◌}
+use Rattle.type_terms.specs.Worlds.{Reference}
 use Rattle.type_terms.specs.declared.TheConstants.{MAX_INDEX}
 use Rattle.line_reader.specs.TokenViews.{primitive_label}
 use Rattle.line_reader.specs.declared.token.Primitive.{Primitive}

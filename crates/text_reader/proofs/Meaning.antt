@@ -1,8 +1,8 @@
 -- The types and references of a line that was read stand for those of whichever line it was.
 use Rattle.std.proofs.Common.{◌≡◌, ℕ, ◌≤◌, Bool, true, false, List, [], length, map, None, sym, ap, ◌∙◌, subst, arith}
 use Rattle.std.proofs.lemmas.List.{length-map}
-use Rattle.model.specs.Label.{Label, Sort, of_type, param, placeholder}
-use Rattle.model.specs.Trees.{leaf}
+use Rattle.type_terms.specs.Label.{Label, Sort, of_type, param, placeholder}
+use Rattle.type_terms.specs.Trees.{leaf}
 use Rattle.text_definitions.specs.Syntax.{Params, Line, struct_line, trait_line, impl_line, prove_line, refute_line}
 use Rattle.text_definitions.specs.Declarations.{Declarations, kinds_of}
 use Rattle.text_definitions.specs.Uses.{clause_uses, asked_uses, params_of}

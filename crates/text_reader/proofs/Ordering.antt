@@ -1,6 +1,6 @@
 -- The parameters of a line from its list of parameters.
 use Rattle.std.proofs.Common.{◌≡◌, ℕ, List, [], ◌∷◌, ◌++◌, map, refl, ap, ◌∙◌, sym}
-use Rattle.model.specs.Label.{of_type, of_const, of_lifetime}
+use Rattle.type_terms.specs.Label.{of_type, of_const, of_lifetime}
 use Rattle.text_definitions.specs.Syntax.{Params, Line, crate_line, struct_line, trait_line, impl_line, prove_line, refute_line, later_line, supers_line}
 use Rattle.text_definitions.specs.Declarations.{kinds_of}
 use Rattle.text_definitions.specs.Uses.{params_of}

@@ -1,7 +1,7 @@
 -- An impl belongs to a crate that is there, in a section or not.
 use Rattle.std.proofs.Common.{◌≡◌, ℕ, zero, suc, ◌-◌, ◌<◌, Bool, true, false, if◌then◌else◌, List, [], ◌∷◌, length, refl, arith}
 use Rattle.std.specs.Prelude.{slice_get, unwrap_or}
-use Rattle.model.specs.Worlds.{core}
+use Rattle.type_terms.specs.Worlds.{core}
 use Rattle.text_definitions.specs.Declarations.{Declarations, last_crate, last_changed, impl_owner}
 use Rattle.workspace.specs.Numbered.{Each, IsNumbered}
 

@@ -2,7 +2,7 @@
 use Rattle.std.proofs.Common.{◌≡◌, ℕ, suc, ◌+◌, ◌≤◌, Bool, true, false, List, [], ◌∷◌, length, Option, Some, None, refl, ap, ◌∙◌, arith}
 use Rattle.std.specs.Prelude.{◌==◌, nat_lt, if◌then◌else◌}
 use Rattle.std.proofs.lemmas.Bool.Decides.{nat_tests}
-use Rattle.model.specs.Label.{Sort, of_type, of_const, of_lifetime}
+use Rattle.type_terms.specs.Label.{Sort, of_type, of_const, of_lifetime}
 use Rattle.text_definitions.specs.Syntax.{Types, no_types, and_type, Args, no_args, and_arg, Arg, lifetime_arg, number_arg, type_arg}
 use Rattle.text_definitions.specs.Uses.{types_count, args_count, next_kind, other_kinds}
 use Rattle.text_definitions.specs.Lowering.{inserted}

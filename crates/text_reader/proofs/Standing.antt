@@ -2,8 +2,8 @@
 use Rattle.std.proofs.Common.{◌≡◌, ℕ, zero, suc, ◌+◌, true, List, [], ◌∷◌, ◌++◌, map, refl, sym, ap, ◌∙◌, append_assoc, append-nil}
 use Rattle.std.proofs.lemmas.List.{reverse-append, reverse-reverse}
 use Rattle.std.specs.Prelude.{reverse}
-use Rattle.model.specs.Label.{Sort}
-use Rattle.model.specs.Trees.{Trees, none, tree, leaf, ◌+++◌}
+use Rattle.type_terms.specs.Label.{Sort}
+use Rattle.type_terms.specs.Trees.{Trees, none, tree, leaf, ◌+++◌}
 use Rattle.text_definitions.specs.Syntax.{Args, no_args, and_arg, Arg, lifetime_arg, number_arg, type_arg}
 use Rattle.text_definitions.specs.Uses.{next_kind, other_kinds}
 use Rattle.text_definitions.specs.Lowering.{Meanings, arg_tree, args_trees}

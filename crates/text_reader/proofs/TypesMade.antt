@@ -4,8 +4,8 @@ use Rattle.std.specs.Prelude.{not, ◌||◌, ◌==◌, nat_lt, if◌then◌else�
 use Rattle.std.specs.List.{list_any}
 use Rattle.std.specs.Option.{option_and_then}
 use Rattle.std.specs.Str.{bytes_eq}
-use Rattle.model.specs.Label.{Label, bool, char, str, int, uint, Sort, of_type, of_const, of_lifetime, array, slice, tuple, dynamic, fn_ptr, raw_pointer, principal}
-use Rattle.model.specs.Trees.{is_sort}
+use Rattle.type_terms.specs.Label.{Label, bool, char, str, int, uint, Sort, of_type, of_const, of_lifetime, array, slice, tuple, dynamic, fn_ptr, raw_pointer, principal}
+use Rattle.type_terms.specs.Trees.{is_sort}
 use Rattle.type_terms.specs.declared.TheConstants.{MAX_INDEX}
 use Rattle.text_definitions.specs.Syntax.{TypeTree, of_primitive, never_type, variable_type, named, reference_to, pointer_to, slice_of, array_of, tuple_of, fn_of, fn_to, dyn_of, Types, no_types, and_type, Args, no_args, and_arg, Arg, lifetime_arg, number_arg, type_arg, Item, bound_item, lifetime_item, Items, no_items, and_item, Length, number_length, name_length, variable_length}
 use Rattle.text_definitions.specs.Declarations.{Declarations, Known, a_crate, a_struct, a_trait, known}

@@ -1,8 +1,8 @@
 -- What the parts of a line stand for, as they are handed to the tables.
 use Rattle.std.specs.Prelude.{◌≡◌, ℕ, Bool, true, false, List, [], map}
-use Rattle.model.specs.Label.{Sort, of_type, param}
-use Rattle.model.specs.Trees.{Trees, leaf}
-use Rattle.model.specs.Worlds.{Reference}
+use Rattle.type_terms.specs.Label.{Sort, of_type, param}
+use Rattle.type_terms.specs.Trees.{Trees, leaf}
+use Rattle.type_terms.specs.Worlds.{Reference}
 use Rattle.text_definitions.specs.Syntax.{Line, struct_line, trait_line, impl_line, prove_line, refute_line}
 use Rattle.text_definitions.specs.Declarations.{Declarations, known}
 use Rattle.text_definitions.specs.Uses.{asked_uses}

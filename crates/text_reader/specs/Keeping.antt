@@ -1,6 +1,6 @@
 -- Which trees a list of kept cells stands for, and what it is to put cells behind others.
 use Rattle.std.specs.Prelude.{◌≡◌, List, [], ◌∷◌, ◌++◌, map, Some}
-use Rattle.model.specs.Trees.{Trees}
+use Rattle.type_terms.specs.Trees.{Trees}
 use Rattle.text_definitions.specs.Lowering.{Meanings}
 use Rattle.line_faults.specs.Resolved.{ResolvedCell}
 use Rattle.workspace.specs.TermCells.{behind_cells}

@@ -1,7 +1,7 @@
 -- What is kept of the types, bounds and clauses of a line.
 use Rattle.std.specs.Prelude.{◌≡◌, ◌<◌, ◌≤◌, List, [], ◌∷◌, ◌++◌, length, map}
-use Rattle.model.specs.Label.{of_type, param}
-use Rattle.model.specs.Trees.{Trees, leaf}
+use Rattle.type_terms.specs.Label.{of_type, param}
+use Rattle.type_terms.specs.Trees.{Trees, leaf}
 use Rattle.type_terms.specs.declared.TheConstants.{MAX_INDEX}
 use Rattle.text_definitions.specs.Syntax.{TypeTree, Types, Bound, Clause, Line}
 use Rattle.text_definitions.specs.Declarations.{kinds_of}

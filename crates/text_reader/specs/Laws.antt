@@ -1,6 +1,6 @@
 -- What is known of the types and bounds of a line without a fault.
 use Rattle.std.specs.Prelude.{◌≡◌, ℕ, List, [], ◌∷◌, None}
-use Rattle.model.specs.Label.{of_type}
+use Rattle.type_terms.specs.Label.{of_type}
 use Rattle.text_definitions.specs.Syntax.{Bound, Clause, Line, crate_line, struct_line, trait_line, impl_line, prove_line, refute_line, later_line, supers_line}
 use Rattle.text_definitions.specs.Declarations.{Declarations}
 use Rattle.text_definitions.specs.Uses.{type_uses, types_uses, bound_uses}

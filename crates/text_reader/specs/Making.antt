@@ -1,8 +1,8 @@
 -- Which resolved cells can be kept: each finds before it what has to stand inside it, and its numbers are small enough.
 use Rattle.std.specs.Prelude.{◌≡◌, ℕ, suc, ◌+◌, ◌<◌, ◌^◌, Bool, true, false, List, [], ◌∷◌, map, filter, Some, None}
 use Rattle.std.specs.Option.{option_and_then}
-use Rattle.model.specs.Label.{Label, Sort, of_type, of_const, of_lifetime, bool, char, str, never, array, slice, tuple, dynamic, int, uint, adt, fn_ptr, auto_trait, value, raw_pointer, principal}
-use Rattle.model.specs.Trees.{is_sort}
+use Rattle.type_terms.specs.Label.{Label, Sort, of_type, of_const, of_lifetime, bool, char, str, never, array, slice, tuple, dynamic, int, uint, adt, fn_ptr, auto_trait, value, raw_pointer, principal}
+use Rattle.type_terms.specs.Trees.{is_sort}
 use Rattle.type_terms.specs.declared.TheConstants.{MAX_INDEX}
 use Rattle.text_definitions.specs.Lowering.{Meanings, place_among, variable_label}
 use Rattle.line_faults.specs.Resolved.{Region, static_region, param_region, bound_region, ResolvedCell, node_cell, param_cell, variable_cell, lifetime_cell, reference_cell}

@@ -1,6 +1,6 @@
 -- What the names of a line stand for, and when they can be kept as numbers.
 use Rattle.std.specs.Prelude.{◌≡◌, ℕ, ◌+◌, ◌<◌, ◌^◌, Bool, true, false, List, [], ◌∷◌, length, Option, Some}
-use Rattle.model.specs.Label.{of_type}
+use Rattle.type_terms.specs.Label.{of_type}
 use Rattle.type_terms.specs.declared.TheConstants.{MAX_INDEX}
 use Rattle.text_definitions.specs.Declarations.{Declarations, Known, a_struct, a_trait, known}
 use Rattle.text_definitions.specs.Uses.{Use, name_use, misfit_use, dyn_use, number_use}

@@ -1,7 +1,7 @@
 -- What the parameters and variables of a line stand for, and when a cell is kept for another.
 use Rattle.std.specs.Prelude.{◌≡◌, ℕ, List, [], ◌∷◌, map, filter, Some}
-use Rattle.model.specs.Label.{Label, Sort, of_type, of_const, of_lifetime, param, placeholder}
-use Rattle.model.specs.Trees.{is_sort}
+use Rattle.type_terms.specs.Label.{Label, Sort, of_type, of_const, of_lifetime, param, placeholder}
+use Rattle.type_terms.specs.Trees.{is_sort}
 use Rattle.type_terms.specs.Kinds as kinds
 use Rattle.type_terms.specs.declared.region.RegionKind.{RegionKind}
 use Rattle.text_definitions.specs.Lowering.{Meanings}

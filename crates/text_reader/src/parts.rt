@@ -1,7 +1,7 @@
 //! The types, bounds and clauses of a line.
 ghost use Rattle.std.specs.Prelude.{◌≡◌, ◌∷◌, [], ◌++◌, map, take, IfOk, OnOk};
-ghost use Rattle.model.specs.Label.{of_type, param};
-ghost use Rattle.model.specs.Trees.{leaf};
+ghost use Rattle.type_terms.specs.Label.{of_type, param};
+ghost use Rattle.type_terms.specs.Trees.{leaf};
 ghost use Rattle.text_definitions.specs.Lowering.{Meanings};
 ghost use Rattle.line_reader.specs.TypeViews.{cells_in};
 ghost use Rattle.line_faults.specs.Views.{variable_in};

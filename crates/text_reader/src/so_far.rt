@@ -1,7 +1,7 @@
 //! What is declared before a line.
 ghost use Rattle.std.specs.Prelude.{◌≡◌, ◌<◌, length, IfSome};
 ghost use Rattle.std.specs.Option.{option_map, option_and_then};
-ghost use Rattle.model.specs.Worlds.{sees};
+ghost use Rattle.type_terms.specs.Worlds.{sees};
 ghost use Rattle.text_definitions.specs.Declarations.{known, last_crate, last_later, impl_owner, world_of};
 ghost use Rattle.text_definitions.specs.Faults.{last_items, number_of_crate};
 ghost use Rattle.text_definitions.specs.Lowering.{crate_number};

@@ -2,8 +2,8 @@
 use Rattle.std.proofs.Common.{◌≡◌, ℕ, zero, suc, ◌+◌, ◌≤◌, List, [], ◌∷◌, ◌++◌, length, arith, Option, Some, None, pred}
 use Rattle.std.specs.List.{slice_get}
 use Rattle.std.proofs.lemmas.Option.{slice_get_within}
-use Rattle.model.specs.Label.{Label, Sort, of_type, of_const, of_lifetime, fn_ptr, principal, array, dynamic, ref, raw_pointer, slice, tuple, adt, auto_trait}
-use Rattle.model.specs.Trees.{Trees, none, tree, leaf, ◌+++◌, outer_binder, depth, own_binder, outside}
+use Rattle.type_terms.specs.Label.{Label, Sort, of_type, of_const, of_lifetime, fn_ptr, principal, array, dynamic, ref, raw_pointer, slice, tuple, adt, auto_trait}
+use Rattle.type_terms.specs.Trees.{Trees, none, tree, leaf, ◌+++◌, outer_binder, depth, own_binder, outside}
 use Rattle.type_terms.specs.Terms.{Entry, Has, trees_at, types, consts, args_lists, type_lists, bounds_lists}
 use Rattle.type_terms.specs.Kinds.{is_mut, bound_label, region_label, const_label, kind_trees, arg_trees, args_trees, tys_trees, principal_trees, autos_trees, BinderHeld, RegionHeld, ConstHeld, KindHeld, ArgHeld, ArgsHeld, TysHeld, PrincipalHeld}
 use Rattle.type_terms.specs.Nodes.{grow, Older, node_entry, node_trees, Held}

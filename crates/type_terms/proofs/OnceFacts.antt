@@ -1,8 +1,8 @@
 -- A visit that enters a type once is a visit.
 use Rattle.std.proofs.Common.{◌≡◌, ℕ, suc, ◌+◌, ◌<◌, ◌≤◌, List, Option, Some, None, refl, inl, inr, sym, subst, arith}
 use Rattle.std.specs.Prelude.{◌⊎◌}
-use Rattle.model.specs.Label.{Label}
-use Rattle.model.specs.Trees.{Trees, none, tree}
+use Rattle.type_terms.specs.Label.{Label}
+use Rattle.type_terms.specs.Trees.{Trees, none, tree}
 use Rattle.type_terms.specs.Terms.{Entry}
 use Rattle.type_terms.specs.declared.entered.Entered.{Entered}
 use Rattle.type_terms.specs.declared.once.Once.{Once}

@@ -1,7 +1,7 @@
 -- A type's trees are one type, and a constant's one constant.
 use Rattle.std.proofs.Common.{◌≡◌, ℕ, List, [], ◌∷◌, ◌++◌, refl, arith}
-use Rattle.model.specs.Label.{Sort, of_type, of_const}
-use Rattle.model.specs.Trees.{Trees, none, tree, sort_of, IsA, Single}
+use Rattle.type_terms.specs.Label.{Sort, of_type, of_const}
+use Rattle.type_terms.specs.Trees.{Trees, none, tree, sort_of, IsA, Single}
 use Rattle.type_terms.specs.Terms.{Entry, Has, trees_at, types, consts, Sorted, AllSorted}
 use Rattle.type_terms.specs.Kinds.{kind_trees, const_label, arg_trees, ArgHeld, bound_label}
 use Rattle.type_terms.specs.Nodes.{grow, node_entry}

@@ -1,8 +1,8 @@
 -- What visits are made of.
 use Rattle.std.proofs.Common.{◌≡◌, ℕ, zero, suc, ◌<◌, List, [], ◌∷◌, ◌++◌, length, take, get_or, refl, ap, sym, ◌∙◌, arith, Option, Some, None, subst, append_assoc}
-use Rattle.model.specs.Label.{Label, principal}
-use Rattle.model.specs.Trees.{Trees, none, tree, ◌+++◌, Single, leaf}
-use Rattle.model.proofs.TreeLaws.{append-assoc}
+use Rattle.type_terms.specs.Label.{Label, principal}
+use Rattle.type_terms.specs.Trees.{Trees, none, tree, ◌+++◌, Single, leaf}
+use Rattle.type_terms.proofs.TreeLaws.{append-assoc}
 use Rattle.type_terms.specs.Terms.{Entry, trees_at}
 use Rattle.type_terms.specs.Kinds.{tys_trees, arg_trees, args_trees, autos_trees}
 use Rattle.type_terms.specs.declared.kinds.Ty as of_ty

@@ -1,7 +1,7 @@
 -- A visitor that enters a type once.
 use Rattle.std.specs.Prelude.{◌≡◌, ◌⊎◌, ℕ, List, true, nat_eq}
 use Rattle.std.specs.HashSet.{contains}
-use Rattle.model.specs.Trees.{Trees}
+use Rattle.type_terms.specs.Trees.{Trees}
 use Rattle.type_terms.specs.Terms.{Entry, trees_at}
 use Rattle.type_terms.specs.declared.entered.Entered.{Entered}
 use Rattle.type_terms.specs.declared.once.Once.{Once}

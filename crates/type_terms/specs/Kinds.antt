@@ -1,8 +1,8 @@
 -- The trees that a kind stands for, over the terms of an interner.
 use Rattle.std.specs.Prelude.{◌≡◌, ℕ, ◌<◌, List, [], ◌∷◌, Option, Some, None, Bool, true, false, map}
 use Rattle.std.specs.List.Sorted.{IsStrictlyIncreasing}
-use Rattle.model.specs.Label.{Label, Sort, of_type, of_const, of_lifetime, bool as l-bool, char as l-char, str as l-str, never as l-never, array, slice, tuple, dynamic, static, int, uint, adt, fn_ptr, auto_trait, value, ref, raw_pointer, principal, param, placeholder, infer, canonical, bound}
-use Rattle.model.specs.Trees.{Trees, none, tree, leaf, is_no_tree, ◌+++◌}
+use Rattle.type_terms.specs.Label.{Label, Sort, of_type, of_const, of_lifetime, bool as l-bool, char as l-char, str as l-str, never as l-never, array, slice, tuple, dynamic, static, int, uint, adt, fn_ptr, auto_trait, value, ref, raw_pointer, principal, param, placeholder, infer, canonical, bound}
+use Rattle.type_terms.specs.Trees.{Trees, none, tree, leaf, is_no_tree, ◌+++◌}
 use Rattle.type_terms.specs.Terms.{Entry, Has, trees_at, types, consts, args_lists, type_lists, bounds_lists}
 use Rattle.type_terms.specs.declared.TheConstants.{MAX_INDEX}
 use Rattle.type_terms.specs.declared.TraitId.{TraitId}

@@ -2,9 +2,9 @@
 use Rattle.std.specs.Prelude.{◌≡◌, ℕ, List, [], ◌∷◌, ◌++◌, Option, Some, None, refl, count_by, ◌==◌, ◌⊎◌, ◌≢◌, true}
 use Rattle.std.specs.List.{slice_get}
 use Rattle.std.specs.Coded.{Coded, code_by, coded×, coded_ℕ, coded_list}
-use Rattle.model.specs.Label.{Label, of_type, of_const, of_lifetime}
-use Rattle.model.specs.Trees.{Trees, none, leaf, ◌+++◌, sort_of, IsA}
-use Rattle.model.specs.Codes.{trees_code}
+use Rattle.type_terms.specs.Label.{Label, of_type, of_const, of_lifetime}
+use Rattle.type_terms.specs.Trees.{Trees, none, leaf, ◌+++◌, sort_of, IsA}
+use Rattle.type_terms.specs.Codes.{trees_code}
 use Rattle.type_terms.specs.Made.{terms, bounds, is_made, is_in_range}
 
 -- a term: which kind of handle it has, and its trees (one tree for a type or a constant)

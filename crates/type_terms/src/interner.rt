@@ -16,7 +16,7 @@
 //! `mk_args` and their like; there building a term cannot fail.
 ghost use Rattle.std.specs.Prelude.{◌≡◌, ℕ, ◌+◌, ◌*◌, ◌≤◌, ◌<◌, ◌^◌, length, OnOk, OnErr, IfOk, Some, [], Err};
 ghost use Rattle.std.specs.List.{slice_get};
-ghost use Rattle.model.specs.Trees.{flags, outer_binder, depth};
+ghost use Rattle.type_terms.specs.Trees.{flags, outer_binder, depth};
 ghost use Rattle.type_terms.specs.Terms.{term, Keeps, AddsAtMost, Absent, held, Is, Has, Lawful, trees_at, types, type_lists, consts, args_lists, bounds_lists};
 ghost use Rattle.type_terms.specs.Kinds.{region_trees, kind_trees, const_trees, arg_trees, args_trees, tys_trees, principal_trees, autos_trees, bounds_trees, RegionHeld, KindHeld, ConstHeld, ArgHeld, ArgsHeld, TysHeld, PrincipalHeld, BoundsHeld, KindOlder, ArgsOlder, TysOlder, PrincipalOlder};
 ghost use Rattle.type_terms.specs.Nodes.{Held, NodeOlder, kind_of, node_entry, node_trees};

@@ -1,8 +1,12 @@
-//! Types, constants and their parts, each stored once, and visits of them and of what is made of them.
+//! Types, constants and their parts, each stored once, and visits of them and of what is made of them. And what it means that a type
+//! has a trait: in `specs/` the definitions that every layer's contracts cite, in `laws` what holds of them.
 //!
 //! A visit asks a visitor at each node in order, and changes nothing (`Visits`). It goes through the tree, unless its visitor
 //! is one that enters a type once (`Once`).
 #![tactic(auto)]
+
+ghost use Rattle.std.specs.Prelude.{◌≡◌, ◌≤◌};
+ghost use Rattle.type_terms.specs.declared.TheConstants.{MAX_INDEX};
 
 pub mod binders;
 mod deep_visit;
@@ -10,6 +14,7 @@ pub mod entered;
 pub mod flags;
 pub mod interner;
 pub mod kinds;
+pub mod laws;
 mod node;
 pub mod number;
 pub mod once;
@@ -19,9 +24,6 @@ pub mod visit;
 mod visit_walk;
 pub mod visitable;
 pub mod visitable_ext;
-
-ghost use Rattle.std.specs.Prelude.{◌≡◌, ◌≤◌};
-ghost use Rattle.type_terms.specs.declared.TheConstants.{MAX_INDEX};
 
 use std::alloc::{AllocError, AllocFailed};
 

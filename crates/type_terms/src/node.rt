@@ -1,6 +1,6 @@
 //! What an interner keeps of a term.
 ghost use Rattle.std.specs.Prelude.{◌≡◌, ◌+◌, ◌≤◌, ◌<◌, ◌^◌};
-ghost use Rattle.model.specs.Label.{fn_ptr};
+ghost use Rattle.type_terms.specs.Label.{fn_ptr};
 ghost use Rattle.type_terms.specs.Counts.{count_of, number_of, raised};
 ghost use Rattle.type_terms.specs.Infos.{join, node_info, outer_of};
 ghost use Rattle.type_terms.specs.Kinds.{BinderHeld};

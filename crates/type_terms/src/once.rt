@@ -1,6 +1,6 @@
 //! Visits that enter a type once.
 ghost use Rattle.std.specs.Prelude.{◌≡◌, List};
-ghost use Rattle.model.specs.Trees.{Trees};
+ghost use Rattle.type_terms.specs.Trees.{Trees};
 ghost use Rattle.type_terms.specs.Terms.{Entry};
 ghost use Rattle.type_terms.specs.Entering.{HasEntered};
 

@@ -1,7 +1,7 @@
 //! Visitors, and the visit of a term by one.
 ghost use Rattle.std.specs.Prelude.{ℕ, List};
 ghost use Rattle.std.specs.ControlFlow.{break_value};
-ghost use Rattle.model.specs.Trees.{Trees};
+ghost use Rattle.type_terms.specs.Trees.{Trees};
 ghost use Rattle.type_terms.specs.Terms.{Entry, Has, types, consts, args_lists, type_lists, bounds_lists, trees_at};
 ghost use Rattle.type_terms.specs.Kinds.{region_trees, RegionHeld, ArgHeld, arg_trees};
 ghost use Rattle.type_terms.specs.Binders.{counts_of};

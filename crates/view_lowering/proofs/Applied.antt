@@ -5,9 +5,9 @@ use Rattle.std.specs.Prelude.{if◌then◌else◌, slice_get}
 use Rattle.std.specs.List.{list_any, flat_map}
 use Rattle.std.specs.Option.{option_map_or}
 use Rattle.std.specs.Str.{bytes_eq}
-use Rattle.model.specs.Label.{Label, Sort, of_lifetime, of_type, of_const, static, value, param, placeholder, infer, canonical, bound}
-use Rattle.model.specs.Trees.{leaf, sort_of}
-use Rattle.model.specs.Worlds.{Reference}
+use Rattle.type_terms.specs.Label.{Label, Sort, of_lifetime, of_type, of_const, static, value, param, placeholder, infer, canonical, bound}
+use Rattle.type_terms.specs.Trees.{leaf, sort_of}
+use Rattle.type_terms.specs.Worlds.{Reference}
 use Rattle.declarations.specs.Applied.{sorts_of}
 use Rattle.declarations.specs.Merges.{Each}
 use Rattle.text_definitions.specs.Syntax.{TypeTree, of_primitive, never_type, variable_type, named, reference_to, pointer_to, slice_of, array_of, tuple_of, fn_of, fn_to, dyn_of, Args, no_args, and_arg, Arg, lifetime_arg, number_arg, type_arg, Params, Bound, Line, trait_line}

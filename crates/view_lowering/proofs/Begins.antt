@@ -5,8 +5,8 @@ use Rattle.std.specs.Prelude.{slice_get, find, ◌==◌, length}
 use Rattle.std.specs.Option.{option_map, option_map_or}
 use Rattle.std.specs.List.{list_all, flat_map}
 use Rattle.std.specs.Str.{bytes_eq}
-use Rattle.model.specs.Label.{Label, Sort, of_type, param, bool, char, str, never, array, slice, tuple, dynamic, static, int, uint, adt, fn_ptr, ref, raw_pointer, auto_trait, value, principal, placeholder, infer, canonical, bound, predicate}
-use Rattle.model.specs.Trees.{Trees, none, tree, ◌+++◌}
+use Rattle.type_terms.specs.Label.{Label, Sort, of_type, param, bool, char, str, never, array, slice, tuple, dynamic, static, int, uint, adt, fn_ptr, ref, raw_pointer, auto_trait, value, principal, placeholder, infer, canonical, bound, predicate}
+use Rattle.type_terms.specs.Trees.{Trees, none, tree, ◌+++◌}
 use Rattle.text_definitions.specs.Words.{Keyword, for_word, primitives, primitive_named, keyword_named, Sign, sign_at, is_digit}
 use Rattle.text_definitions.specs.Tokens.{Token, keyword, primitive, name, lifetime, variable, number, sign, arrow, Piece, word, quoted, queried, pointing, byte, in_front, word_token, as_lifetime, as_variable, sign_token, name_token, number_from, tokens_from, tokens_of, pieces}
 use Rattle.text_definitions.specs.Syntax.{TypeTree, of_primitive, never_type, variable_type, named, reference_to, pointer_to, slice_of, array_of, tuple_of, fn_of, fn_to, dyn_of, Line, crate_line, struct_line, trait_line, impl_line, prove_line, refute_line, later_line, supers_line, Params, Clause, spelling, type_spelling, params_spelling, bound_spelling, where_spelling, clause_spelling}

@@ -8,9 +8,9 @@ use Rattle.std.specs.Prelude.{not, if◌then◌else◌, ◌==◌, slice_get, nat
 use Rattle.std.specs.List.{list_any, list_all, flat_map}
 use Rattle.std.specs.Option.{option_map, option_map_or, option_or}
 use Rattle.std.specs.Str.{bytes_eq}
-use Rattle.model.specs.Label.{Sort, of_lifetime, of_type, of_const, param}
-use Rattle.model.specs.Trees.{Trees, leaf, some_node}
-use Rattle.model.specs.Worlds.{Reference}
+use Rattle.type_terms.specs.Label.{Sort, of_lifetime, of_type, of_const, param}
+use Rattle.type_terms.specs.Trees.{Trees, leaf, some_node}
+use Rattle.type_terms.specs.Worlds.{Reference}
 use Rattle.text_definitions.specs.Syntax.{Types, Params, Bound, Clause, Line, struct_line, trait_line, impl_line}
 use Rattle.text_definitions.specs.Declarations.{Declarations, NamedCrate, NamedStruct, NamedTrait, Known, a_crate, a_struct, a_trait, known, kinds_of, sorted_names, with_sort}
 use Rattle.text_definitions.specs.Uses.{Use, variable_use, kinds_of_trait, args_count, type_uses, types_uses, bound_uses, clause_uses, header_uses}

@@ -7,9 +7,9 @@ use Rattle.std.proofs.Math.Nat.{le-max_left, le-max_right}
 use Rattle.std.specs.Prelude.{◌==◌, nat_lt, filter, fold, slice_get}
 use Rattle.std.specs.List.{list_all}
 use Rattle.std.specs.Option.{option_map}
-use Rattle.model.proofs.Members.{in-filter, filter-in}
-use Rattle.model.specs.Proofs.{In}
-use Rattle.model.specs.Worlds.{World, Reference, TraitDecl, traits_named}
+use Rattle.type_terms.proofs.Members.{in-filter, filter-in}
+use Rattle.type_terms.specs.Proofs.{In}
+use Rattle.type_terms.specs.Worlds.{World, Reference, TraitDecl, traits_named}
 use Rattle.assembly_laws.specs.DeclaredWell.{height_within, height_in, bounds_lead_down}
 use Rattle.assembly_laws.specs.Solver.{greatest}
 use Rattle.view_lowering.proofs.Trees.{and}

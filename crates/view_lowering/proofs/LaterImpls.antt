@@ -3,8 +3,8 @@ use Rattle.std.proofs.Common.{◌≡◌, ℕ, zero, suc, ◌+◌, Bool, true, fa
 use Rattle.std.specs.Prelude.{◌==◌, filter, slice_get}
 use Rattle.std.proofs.lemmas.List.{length-map, map_push}
 use Rattle.std.proofs.lemmas.Option.{same_Some}
-use Rattle.model.specs.Terms.{erased_impl, erased_reference}
-use Rattle.model.specs.Worlds.{ImplDecl, Reference}
+use Rattle.type_terms.specs.Erased.{erased_impl, erased_reference}
+use Rattle.type_terms.specs.Worlds.{ImplDecl, Reference}
 use Rattle.text_definitions.specs.Declarations.{Declarations, NamedImpl, LaterImpl, section_impls}
 use Rattle.type_terms.specs.Terms.{Entry, Keeps}
 use Rattle.type_terms.specs.declared.ImplId.{ImplId}

@@ -5,8 +5,8 @@ use Rattle.std.specs.List.{list_any}
 use Rattle.std.specs.Option.{option_map_or}
 use Rattle.std.specs.Str.{bytes_eq}
 use Rattle.std.proofs.lemmas.Slice.Eq.{bytes_eq-Decides}
-use Rattle.model.specs.Label.{Sort, of_lifetime, of_type, of_const}
-use Rattle.model.specs.Trees.{Trees, some_node}
+use Rattle.type_terms.specs.Label.{Sort, of_lifetime, of_type, of_const}
+use Rattle.type_terms.specs.Trees.{Trees, some_node}
 use Rattle.text_definitions.specs.Syntax.{Params, Line}
 use Rattle.text_definitions.specs.Declarations.{Declarations, known, kinds_of}
 use Rattle.text_definitions.specs.Uses.{Use, crate_use, name_use, trait_use, lifetime_use, binder_use, variable_use, misfit_use, dyn_use, items_use, number_use, params_of}

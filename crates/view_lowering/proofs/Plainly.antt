@@ -2,10 +2,10 @@
 use Rattle.std.proofs.Common.{◌≡◌, ℕ, zero, suc, Bool, true, false, List, [], ◌∷◌, ◌++◌, map, refl, sym, ap, ◌∙◌}
 use Rattle.std.proofs.lemmas.List.{map_push, reverse-append}
 use Rattle.std.specs.Prelude.{reverse, if◌then◌else◌}
-use Rattle.model.specs.Label.{Label, of_lifetime, of_type, of_const, static, fn_ptr, principal, param, placeholder, infer, canonical, bound}
-use Rattle.model.specs.Trees.{Trees, none, tree, erase, erase_label, ◌+++◌}
-use Rattle.model.specs.Terms.{erased_reference, erased_struct, erased_trait, erased_impl, erased_world}
-use Rattle.model.specs.Worlds.{World, Reference, StructDecl, TraitDecl, ImplDecl}
+use Rattle.type_terms.specs.Label.{Label, of_lifetime, of_type, of_const, static, fn_ptr, principal, param, placeholder, infer, canonical, bound}
+use Rattle.type_terms.specs.Trees.{Trees, none, tree, erase, erase_label, ◌+++◌}
+use Rattle.type_terms.specs.Erased.{erased_reference, erased_struct, erased_trait, erased_impl, erased_world}
+use Rattle.type_terms.specs.Worlds.{World, Reference, StructDecl, TraitDecl, ImplDecl}
 use Rattle.declarations.specs.Heads.{begins_declared}
 use Rattle.workspace.specs.TermCells.{TermCell, node_cell, reference_cell, gathered, below, behind_cell, behind_cells, trees_of, joined}
 use Rattle.view_lowering.specs.Plain.{plain_label, plain, plain_reference, plain_struct, plain_trait, plain_impl, plain_world, all_kept, none_kept, stands_in}

@@ -4,8 +4,8 @@ use Rattle.std.proofs.lemmas.Bool.{eqb-true}
 use Rattle.std.proofs.lemmas.Bool.Decides.{nat_tests}
 use Rattle.std.proofs.lemmas.Option.{same_Some}
 use Rattle.std.specs.Prelude.{◌==◌, slice_get}
-use Rattle.model.specs.Label.{Label, Sort, of_type, of_const, of_lifetime, fn_ptr, principal, param, bound}
-use Rattle.model.specs.Trees.{Trees, none, tree, some_node}
+use Rattle.type_terms.specs.Label.{Label, Sort, of_type, of_const, of_lifetime, fn_ptr, principal, param, bound}
+use Rattle.type_terms.specs.Trees.{Trees, none, tree, some_node}
 use Rattle.text_definitions.specs.Syntax.{Params, Clause, Line, crate_line, struct_line, trait_line, impl_line, prove_line, refute_line, later_line, supers_line}
 use Rattle.text_definitions.specs.Declarations.{Declarations, NamedImpl, Question, Variable, nothing_declared, kinds_of}
 use Rattle.text_definitions.specs.Uses.{Use, variable_use, clause_uses}

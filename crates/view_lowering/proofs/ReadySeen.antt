@@ -5,9 +5,9 @@ use Rattle.std.proofs.lemmas.Bool.Decides.{Decides-ltb}
 use Rattle.std.proofs.lemmas.Option.{same_Some}
 use Rattle.std.specs.Prelude.{if◌then◌else◌, ◌==◌, nat_lt, slice_get, IfSome}
 use Rattle.std.specs.List.{list_all}
-use Rattle.model.specs.Label.{Sort, of_type}
-use Rattle.model.specs.Trees.{Trees, outer_binder}
-use Rattle.model.specs.Worlds.{World, Reference, StructDecl, TraitDecl, ImplDecl, sees}
+use Rattle.type_terms.specs.Label.{Sort, of_type}
+use Rattle.type_terms.specs.Trees.{Trees, outer_binder}
+use Rattle.type_terms.specs.Worlds.{World, Reference, StructDecl, TraitDecl, ImplDecl, sees}
 use Rattle.type_terms.specs.Terms.{Entry, trees_at}
 use Rattle.type_terms.specs.declared.AdtId.{AdtId}
 use Rattle.type_terms.specs.declared.TraitId.{TraitId}

@@ -4,9 +4,9 @@ use Rattle.std.proofs.lemmas.Option.{same_Some}
 use Rattle.std.specs.Prelude.{not, ◌==◌, slice_get, nat_lt, filter}
 use Rattle.std.specs.List.{list_all}
 use Rattle.std.specs.Option.{option_map_or}
-use Rattle.model.specs.Label.{Label, Sort, of_lifetime, of_type, of_const, fn_ptr, principal, param, bound}
-use Rattle.model.specs.Trees.{Trees, none, tree, some_node, is_sort}
-use Rattle.model.specs.Worlds.{Reference}
+use Rattle.type_terms.specs.Label.{Label, Sort, of_lifetime, of_type, of_const, fn_ptr, principal, param, bound}
+use Rattle.type_terms.specs.Trees.{Trees, none, tree, some_node, is_sort}
+use Rattle.type_terms.specs.Worlds.{Reference}
 use Rattle.type_terms.specs.Made.{terms, is_made}
 use Rattle.text_definitions.specs.Declarations.{NamedStruct, NamedTrait, NamedImpl}
 use Rattle.assembly_laws.specs.Candidates.{is_param}

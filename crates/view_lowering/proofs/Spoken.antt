@@ -2,8 +2,8 @@
 use Rattle.std.proofs.Common.{◌≡◌, ℕ, zero, suc, Bool, true, false, cond, ◌||◌, List, ◌∷◌, ◌++◌, Some, None, refl, ap, ◌∙◌}
 use Rattle.std.specs.Prelude.{slice_get, max, if◌then◌else◌}
 use Rattle.std.specs.Option.{option_or}
-use Rattle.model.specs.Label.{Label, Sort, of_lifetime, of_type, of_const, static, fn_ptr, principal, param, bound}
-use Rattle.model.specs.Trees.{Trees, none, tree, some_node, sort_of, own_binder, outside, outer_binder, ◌+++◌}
+use Rattle.type_terms.specs.Label.{Label, Sort, of_lifetime, of_type, of_const, static, fn_ptr, principal, param, bound}
+use Rattle.type_terms.specs.Trees.{Trees, none, tree, some_node, sort_of, own_binder, outside, outer_binder, ◌+++◌}
 use Rattle.term_folds.specs.Arguments.{sort_at, misfit, first_misfit}
 use Rattle.term_folds.specs.declared.instantiate.InstantiateError.TheVariants.{ParamKind}
 use Rattle.declarations.specs.Applied.{sorts_of, SpeaksOf}

@@ -1,7 +1,7 @@
 -- A struct whose fields were lowered.
 use Rattle.std.proofs.Common.{◌≡◌, ℕ, Bool, List, map, Result, Ok, Err, IfOk, ap, ◌∙◌, Vec, Global}
-use Rattle.model.specs.Trees.{Trees}
-use Rattle.model.specs.Worlds.{StructDecl}
+use Rattle.type_terms.specs.Trees.{Trees}
+use Rattle.type_terms.specs.Worlds.{StructDecl}
 use Rattle.type_terms.specs.Terms.{Entry, trees_at}
 use Rattle.type_terms.specs.declared.AdtId.{AdtId}
 use Rattle.type_terms.specs.declared.CrateId.{CrateId}

@@ -1,9 +1,9 @@
 -- Items of a text that are declared well once they are plain.
 use Rattle.std.specs.Prelude.{ℕ, suc, Bool, true, ◌&&◌, ◌==◌, not, List, [], ◌∷◌, length, nat_lt}
 use Rattle.std.specs.List.{list_all}
-use Rattle.model.specs.Label.{Sort, of_type, of_const, of_lifetime}
-use Rattle.model.specs.Trees.{Trees, some_node}
-use Rattle.model.specs.Worlds.{Reference}
+use Rattle.type_terms.specs.Label.{Sort, of_type, of_const, of_lifetime}
+use Rattle.type_terms.specs.Trees.{Trees, some_node}
+use Rattle.type_terms.specs.Worlds.{Reference}
 use Rattle.type_terms.specs.Made.{terms, is_made}
 use Rattle.text_definitions.specs.Declarations.{Declarations, NamedStruct, NamedTrait, NamedImpl}
 use Rattle.assembly_laws.specs.Candidates.{is_param}

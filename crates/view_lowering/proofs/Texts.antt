@@ -8,7 +8,7 @@ use Rattle.std.specs.Prelude.{not, if◌then◌else◌, ◌==◌, slice_get, fin
 use Rattle.std.specs.List.{list_all}
 use Rattle.std.specs.Option.{option_map, option_map_or, option_or}
 use Rattle.std.specs.Str.{bytes_eq}
-use Rattle.model.specs.Label.{Sort}
+use Rattle.type_terms.specs.Label.{Sort}
 use Rattle.text_definitions.specs.Syntax.{Params, Bound, Line, crate_line, struct_line, trait_line, impl_line, prove_line, refute_line, later_line, supers_line}
 use Rattle.text_definitions.specs.Declarations.{Declarations, NamedCrate, NamedStruct, NamedTrait, NamedImpl, LaterImpl, Known, a_crate, a_struct, a_trait, nothing_declared, kinds_of}
 use Rattle.text_definitions.specs.Uses.{uses, params_of}

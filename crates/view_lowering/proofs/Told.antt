@@ -3,8 +3,8 @@ use Rattle.std.proofs.Common.{◌≡◌, ℕ, zero, suc, ◌+◌, Bool, true, fa
 use Rattle.std.proofs.lemmas.Bool.{eqb-true}
 use Rattle.std.proofs.lemmas.Option.{same_Some}
 use Rattle.std.specs.Prelude.{if◌then◌else◌, ◌==◌, slice_get}
-use Rattle.model.specs.Label.{Label, Sort, of_lifetime, of_type, of_const, param}
-use Rattle.model.specs.Trees.{Trees, some_node, is_sort}
+use Rattle.type_terms.specs.Label.{Label, Sort, of_lifetime, of_type, of_const, param}
+use Rattle.type_terms.specs.Trees.{Trees, some_node, is_sort}
 use Rattle.infer_table.specs.declared.canonical.CanonicalVarKind.TheVariants.{Ty, Const, Region}
 use Rattle.assembly_laws.specs.Candidates.{is_param, kind_of_param, kinds_of_params}
 use Rattle.view_lowering.specs.Plain.{plain, all_kept}

@@ -3,10 +3,10 @@ use Rattle.std.proofs.Common.{◌≡◌, ℕ, ◌+◌, ◌<◌, Bool, true, fals
 use Rattle.std.specs.Prelude.{◌==◌, filter, slice_get}
 use Rattle.std.proofs.lemmas.Bool.{ne_eqb}
 use Rattle.std.proofs.lemmas.List.{length-map}
-use Rattle.model.specs.Label.{of_type}
-use Rattle.model.proofs.TermRules.{erased-views, filter-map}
-use Rattle.model.specs.Terms.{erased_struct, erased_trait, erased_world}
-use Rattle.model.specs.Worlds.{World, StructDecl, TraitDecl, ImplDecl, sees, structs_named, traits_named}
+use Rattle.type_terms.specs.Label.{of_type}
+use Rattle.type_terms.proofs.TermRules.{erased-views, filter-map}
+use Rattle.type_terms.specs.Erased.{erased_struct, erased_trait, erased_world}
+use Rattle.type_terms.specs.Worlds.{World, StructDecl, TraitDecl, ImplDecl, sees, structs_named, traits_named}
 use Rattle.text_definitions.specs.Declarations as text
 use Rattle.text_definitions.specs.Declarations.{world_of}
 use Rattle.type_terms.specs.Terms.{Entry, Keeps}

@@ -5,9 +5,9 @@ use Rattle.std.proofs.lemmas.Bool.Decides.{Decides-ltb}
 use Rattle.std.proofs.lemmas.Option.{same_Some}
 use Rattle.std.specs.Prelude.{not, ◌==◌, nat_lt, filter, slice_get}
 use Rattle.std.specs.List.{list_any, list_all}
-use Rattle.model.specs.Label.{of_type}
-use Rattle.model.specs.Trees.{some_node}
-use Rattle.model.specs.Worlds.{Reference, StructDecl, TraitDecl, ImplDecl, sees}
+use Rattle.type_terms.specs.Label.{of_type}
+use Rattle.type_terms.specs.Trees.{some_node}
+use Rattle.type_terms.specs.Worlds.{Reference, StructDecl, TraitDecl, ImplDecl, sees}
 use Rattle.text_definitions.specs.Declarations.{Declarations, NamedStruct, NamedTrait, NamedImpl, world_of}
 use Rattle.text_definitions.specs.Text.{TextGives}
 use Rattle.assembly_laws.specs.Declared.{are_terms, are_references, is_lifetime_parameter, is_unsorted}

@@ -1,7 +1,7 @@
 -- The impls that later versions add, with their types as terms.
 use Rattle.std.specs.Prelude.{ℕ, zero, List, map, length}
-use Rattle.model.specs.Label.{Sort}
-use Rattle.model.specs.Worlds.{ImplDecl}
+use Rattle.type_terms.specs.Label.{Sort}
+use Rattle.type_terms.specs.Worlds.{ImplDecl}
 use Rattle.text_definitions.specs.Declarations.{Declarations, section_impls}
 use Rattle.type_terms.specs.Terms.{Entry}
 use Rattle.declarations.specs.declared.items.ImplDef.{ImplDef}

@@ -2,9 +2,9 @@
 -- a parameter of an impl that stands in its where-clauses alone and each parameter in the fields of a struct and the bounds of a trait.
 -- Up to lifetimes nothing changes.
 use Rattle.std.specs.Prelude.{ℕ, zero, Bool, true, false, ◌==◌, List, map, if◌then◌else◌}
-use Rattle.model.specs.Label.{Label, of_lifetime, static, fn_ptr, principal, param, bound}
-use Rattle.model.specs.Trees.{Trees, none, tree, some_node}
-use Rattle.model.specs.Worlds.{World, Reference, StructDecl, TraitDecl, ImplDecl}
+use Rattle.type_terms.specs.Label.{Label, of_lifetime, static, fn_ptr, principal, param, bound}
+use Rattle.type_terms.specs.Trees.{Trees, none, tree, some_node}
+use Rattle.type_terms.specs.Worlds.{World, Reference, StructDecl, TraitDecl, ImplDecl}
 use Rattle.text_definitions.specs.Declarations as text
 use Rattle.view_lowering.specs.Seen.{seen_from}
 

@@ -1,7 +1,7 @@
 -- What the questions of a text speak of.
 use Rattle.std.specs.Prelude.{◌≡◌, ℕ, zero, suc, Bool, true, false, not, ltb, if◌then◌else◌, List, [], ◌∷◌, map, Ok, Some, slice_get}
-use Rattle.model.specs.Label.{Label, Sort, of_type, of_const, of_lifetime, param, placeholder, infer, canonical, bound}
-use Rattle.model.specs.Trees.{is_sort, some_node}
+use Rattle.type_terms.specs.Label.{Label, Sort, of_type, of_const, of_lifetime, param, placeholder, infer, canonical, bound}
+use Rattle.type_terms.specs.Trees.{is_sort, some_node}
 use Rattle.text_definitions.specs.Declarations.{Declarations, Question}
 use Rattle.text_definitions.specs.Text.{TextGives}
 use Rattle.view_lowering.specs.Plain.{unbound_reference}

@@ -1,7 +1,7 @@
 -- Declarations that a crate sees of a text are ready to be asked: all their terms speak of the item's own parameters, and each bound has an
 -- argument for each parameter of its trait.
 use Rattle.std.specs.Prelude.{◌≡◌, ℕ, List, map, length, Ok}
-use Rattle.model.specs.Label.{Sort, of_type, of_const, of_lifetime}
+use Rattle.type_terms.specs.Label.{Sort, of_type, of_const, of_lifetime}
 use Rattle.type_terms.specs.Terms.{Entry, trees_at}
 use Rattle.type_terms.specs.declared.AdtId.{AdtId}
 use Rattle.type_terms.specs.declared.kinds.Ty.{Ty}

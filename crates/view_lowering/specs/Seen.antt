@@ -1,8 +1,8 @@
 -- What a crate sees of a text's declarations, and items of an interner's terms with the sorts of their parameters.
 use Rattle.std.specs.Prelude.{◌≡◌, ℕ, true, List, [], ◌∷◌, map, filter}
-use Rattle.model.specs.Label.{Sort, of_type}
-use Rattle.model.specs.Terms.{erased_world}
-use Rattle.model.specs.Worlds.{World, sees, view_of}
+use Rattle.type_terms.specs.Label.{Sort, of_type}
+use Rattle.type_terms.specs.Erased.{erased_world}
+use Rattle.type_terms.specs.Worlds.{World, sees, view_of}
 use Rattle.text_definitions.specs.Declarations as text
 use Rattle.text_definitions.specs.Declarations.{world_of}
 use Rattle.type_terms.specs.declared.AdtId.{AdtId}

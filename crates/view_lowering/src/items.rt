@@ -1,6 +1,6 @@
 //! A struct, a trait, an impl.
 ghost use Rattle.std.specs.Prelude.{◌≡◌, ◌∷◌, true, map, Err, IfOk};
-ghost use Rattle.model.specs.Label.{of_type};
+ghost use Rattle.type_terms.specs.Label.{of_type};
 ghost use Rattle.type_terms.specs.Terms.{Keeps};
 ghost use Rattle.type_terms.specs.Failures.{SomeKindIsFull};
 ghost use Rattle.declarations.specs.Applied.{sort_of_param};

@@ -3,8 +3,8 @@ use Rattle.std.proofs.Common.{◌≡◌, ℕ, zero, suc, ◌+◌, Bool, true, fa
 use Rattle.std.proofs.lemmas.Bool.{cases_Bool}
 use Rattle.std.proofs.lemmas.List.{length-map}
 use Rattle.std.specs.Option.{option_map, option_and_then}
-use Rattle.model.specs.Label.{Label, of_type, bool, char, str, never, array, tuple, dynamic, int, uint, adt, fn_ptr, ref, auto_trait, principal, param, placeholder, infer}
-use Rattle.model.specs.Trees.{Trees, none, tree, leaf, ◌+++◌, is_no_tree, IsA}
+use Rattle.type_terms.specs.Label.{Label, of_type, bool, char, str, never, array, tuple, dynamic, int, uint, adt, fn_ptr, ref, auto_trait, principal, param, placeholder, infer}
+use Rattle.type_terms.specs.Trees.{Trees, none, tree, leaf, ◌+++◌, is_no_tree, IsA}
 use Rattle.type_terms.specs.Terms.{Entry, Is, Has, Keeps, types, consts, args_lists, type_lists, bounds_lists, trees_at, Lawful}
 use Rattle.type_terms.specs.Kinds.{kind_trees, const_label, args_trees, tys_trees, principal_trees, autos_trees, region_label, region_trees, is_mut, int_number, uint_number, KindHeld, RegionHeld, ArgHeld, ArgsHeld, TysHeld, PrincipalHeld}
 use Rattle.type_terms.specs.declared.AdtId.{AdtId}

@@ -1,8 +1,8 @@
 -- The parts of a line that declares, as they are handed to the tables, and the line that they are of.
 use Rattle.std.specs.Prelude.{◌≡◌, ℕ, ◌-◌, Bool, true, false, List, [], map, length}
-use Rattle.model.specs.Label.{Sort, of_type, param}
-use Rattle.model.specs.Trees.{Trees, leaf}
-use Rattle.model.specs.Worlds.{Reference}
+use Rattle.type_terms.specs.Label.{Sort, of_type, param}
+use Rattle.type_terms.specs.Trees.{Trees, leaf}
+use Rattle.type_terms.specs.Worlds.{Reference}
 use Rattle.text_definitions.specs.Syntax.{Line, struct_line, trait_line, impl_line, prove_line, refute_line}
 use Rattle.text_definitions.specs.Declarations.{Declarations, NamedStruct, NamedTrait, NamedImpl, LaterImpl, Question, kinds_of, sorted_names, last_crate, last_changed, last_later}
 use Rattle.text_definitions.specs.Lowering.{field_trees, with_self, clause_reference}

@@ -1,7 +1,7 @@
 -- The stack of what has been made, of which the last item of the vector is on top, and what its items stand for.
 use Rattle.std.specs.Prelude.{◌≡◌, Bool, true, false, List, [], ◌∷◌, map, Option, Some, None}
-use Rattle.model.specs.Label.{principal, auto_trait}
-use Rattle.model.specs.Trees.{Trees, none, tree, leaf}
+use Rattle.type_terms.specs.Label.{principal, auto_trait}
+use Rattle.type_terms.specs.Trees.{Trees, none, tree, leaf}
 use Rattle.type_terms.specs.Terms.{Entry, Has, types, consts, args_lists, trees_at}
 use Rattle.type_terms.specs.Kinds.{region_trees, RegionHeld}
 use Rattle.type_terms.specs.declared.TraitId.{TraitId}

@@ -1,10 +1,10 @@
 -- Declarations as stored values, so that a struct may be seen as them (`impl Model`).
 use Rattle.std.specs.Prelude.{◌≡◌, ℕ, Bool, true, false, List, refl}
 use Rattle.std.specs.Coded.{Coded, code_by, coded_ℕ, coded_bool, coded_list, coded×}
-use Rattle.model.specs.Label.{Sort, of_type, of_const, of_lifetime}
-use Rattle.model.specs.Trees.{Trees}
-use Rattle.model.specs.Codes.{trees_code, sort_number, sort_at}
-use Rattle.model.specs.Worlds.{Reference}
+use Rattle.type_terms.specs.Label.{Sort, of_type, of_const, of_lifetime}
+use Rattle.type_terms.specs.Trees.{Trees}
+use Rattle.type_terms.specs.Codes.{trees_code, sort_number, sort_at}
+use Rattle.type_terms.specs.Worlds.{Reference}
 use Rattle.text_definitions.specs.Declarations.{Declarations, NamedCrate, NamedStruct, NamedTrait, NamedImpl, LaterImpl, Check, of_later, of_supers, Variable, Question}
 
 pub sort_again : (s : Sort) → sort_at (sort_number s) ≡ s

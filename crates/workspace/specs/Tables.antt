@@ -5,7 +5,7 @@ use Rattle.std.specs.List.Sorted.{IsNonDecreasingBy}
 use Rattle.std.specs.Option.{option_map, option_or}
 use Rattle.std.specs.Str.{bytes_eq}
 use Rattle.std.specs.HashMap.{get_by}
-use Rattle.model.specs.Worlds.{World, core, sees}
+use Rattle.type_terms.specs.Worlds.{World, core, sees}
 use Rattle.text_definitions.specs.Declarations.{Declarations, NamedCrate, NamedStruct, NamedTrait, NamedImpl, LaterImpl, Question, Known, a_crate, world_of, last_crate, last_later}
 use Rattle.text_definitions.specs.Faults.{last_items}
 use Rattle.type_terms.specs.declared.CrateId.{CrateId}

@@ -1,8 +1,8 @@
 -- Types as they are kept: lists of cells by numbers alone, and the trees that these stand for. What stands inside a cell comes
 -- before it, and the cell says how many trees that is.
 use Rattle.std.specs.Prelude.{ℕ, zero, suc, Bool, List, [], ◌∷◌, reverse}
-use Rattle.model.specs.Label.{Label, ref}
-use Rattle.model.specs.Trees.{Trees, none, tree, leaf, ◌+++◌}
+use Rattle.type_terms.specs.Label.{Label, ref}
+use Rattle.type_terms.specs.Trees.{Trees, none, tree, leaf, ◌+++◌}
 
 pub data TermCell : Type 0 where
   node_cell : Label → (inside : ℕ) → TermCell

@@ -1,8 +1,8 @@
 -- What the values of the code stand for among the definitions.
 use Rattle.std.specs.Prelude.{ℕ, suc, Bool, true, false, List, map, length}
 use Rattle.std.specs.Borrow.{Bor}
-use Rattle.model.specs.Label.{Sort, of_type, of_const, of_lifetime, bool, char, str, never, array, slice, tuple, dynamic, auto_trait, int, uint, adt, fn_ptr, raw_pointer, principal, param, placeholder, infer}
-use Rattle.model.specs.Worlds.{Reference}
+use Rattle.type_terms.specs.Label.{Sort, of_type, of_const, of_lifetime, bool, char, str, never, array, slice, tuple, dynamic, auto_trait, int, uint, adt, fn_ptr, raw_pointer, principal, param, placeholder, infer}
+use Rattle.type_terms.specs.Worlds.{Reference}
 use Rattle.type_terms.specs.Kinds.{int_number, uint_number, is_mut, region_label, const_label}
 use Rattle.type_terms.specs.declared.CrateId.{CrateId}
 use Rattle.text_definitions.specs.Declarations as text

@@ -1,8 +1,8 @@
 //! The items of `core`, as its lines declare them.
 ghost use Rattle.std.specs.Prelude.{◌≡◌, ◌∷◌, [], ◌++◌, None, false, map, length, OnOk, IfOk};
-ghost use Rattle.model.specs.Worlds.{core};
+ghost use Rattle.type_terms.specs.Worlds.{core};
 ghost use Rattle.text_definitions.specs.Declarations.{known, last_crate, nothing_declared, bare_impl, copied};
-ghost use Rattle.model.specs.Core.{impls_for, scalars};
+ghost use Rattle.type_terms.specs.Core.{impls_for, scalars};
 ghost use Rattle.workspace.specs.Numbered.{IsFew};
 ghost use Rattle.workspace.specs.Tables.{declared, core_alone, with_struct, with_trait, with_impl, IsConsistent};
 ghost use Rattle.workspace.specs.Made.{AreMade, ReferenceMade, ReferencesMade, is_arg};

@@ -2,7 +2,7 @@
 ghost use Rattle.std.specs.Prelude.{◌≡◌, ◌<◌, ◌++◌, ◌∷◌, [], ℕ, None, true, false, All, length, map, filter, nat_le, slice_get, unwrap_or, OnOk, IfOk, IfSome};
 ghost use Rattle.std.specs.List.{list_any};
 ghost use Rattle.std.specs.Option.{option_map, option_and_then};
-ghost use Rattle.model.specs.Worlds.{sees};
+ghost use Rattle.type_terms.specs.Worlds.{sees};
 ghost use Rattle.text_definitions.specs.Syntax.{Line, crate_line, later_line, supers_line};
 ghost use Rattle.text_definitions.specs.Declarations.{known, world_of, last_crate, last_changed, last_later, impl_owner};
 ghost use Rattle.text_definitions.specs.Faults.{last_items};

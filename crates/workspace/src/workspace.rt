@@ -2,7 +2,7 @@
 ghost use Rattle.std.specs.Prelude.{◌≡◌, ◌<◌, Some, length, map, filter, take, suc, count_by, slice_get, ◌==◌, IfOk};
 ghost use Rattle.std.specs.List.Sorted.{IsNonDecreasingBy};
 ghost use Rattle.std.specs.Option.{option_map};
-ghost use Rattle.model.specs.Worlds.{sees, view_of};
+ghost use Rattle.type_terms.specs.Worlds.{sees, view_of};
 ghost use Rattle.text_definitions.specs.Declarations.{known, world_of};
 ghost use Rattle.workspace.specs.Numbered.{Each, IsNumbered, IsFew};
 ghost use Rattle.workspace.specs.Made.{AreMade, ReferenceMade, ReferencesMade, is_type};

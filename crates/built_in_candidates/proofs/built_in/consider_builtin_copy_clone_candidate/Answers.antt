@@ -1,5 +1,5 @@
 use Rattle.std.proofs.Common.{subst}
-use Rattle.model.specs.Rules.{copy_rules}
+use Rattle.type_terms.specs.Rules.{copy_rules}
 use Rattle.type_terms.specs.Terms.{types, trees_at}
 use Rattle.type_terms.specs.Kept.{trees-is}
 use Rattle.assembly_laws.specs.Asking.{with_plain_head}

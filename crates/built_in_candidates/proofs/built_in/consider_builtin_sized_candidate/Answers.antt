@@ -1,5 +1,5 @@
 use Rattle.std.proofs.Common.{ap, ◌∙◌, subst, Err}
-use Rattle.model.specs.Rules.{sized, sized_rules}
+use Rattle.type_terms.specs.Rules.{sized, sized_rules}
 use Rattle.type_terms.specs.Terms.{types, trees_at}
 use Rattle.type_terms.specs.Kept.{trees-is}
 use Rattle.infer_table.proofs.Numbers.{goal-held-later}

@@ -1,7 +1,7 @@
 use Rattle.std.proofs.Common.{map, ap, sym, ◌∙◌, subst, Err}
-use Rattle.model.specs.Label.{tuple}
-use Rattle.model.specs.Trees.{tree, none}
-use Rattle.model.specs.Rules.{but_last, last_asked, sized}
+use Rattle.type_terms.specs.Label.{tuple}
+use Rattle.type_terms.specs.Trees.{tree, none}
+use Rattle.type_terms.specs.Rules.{but_last, last_asked, sized}
 use Rattle.type_terms.specs.Terms.{types, type_lists, trees_at, Keeps}
 use Rattle.type_terms.specs.Kinds.{arg_trees}
 use Rattle.type_terms.specs.Kept.{has-later, trees-later, arg-held-later, arg-trees-later}

@@ -1,7 +1,7 @@
 use Rattle.std.proofs.Common.{ap, arith, sym, ◌∙◌, subst, Err}
-use Rattle.model.specs.Label.{tuple}
-use Rattle.model.specs.Trees.{tree, none}
-use Rattle.model.specs.Rules.{but_last}
+use Rattle.type_terms.specs.Label.{tuple}
+use Rattle.type_terms.specs.Trees.{tree, none}
+use Rattle.type_terms.specs.Rules.{but_last}
 use Rattle.type_terms.specs.Terms.{types, type_lists}
 use Rattle.type_terms.specs.Kinds.{TysHeld, tys_trees}
 use Rattle.type_terms.specs.Kept.{trees-is}

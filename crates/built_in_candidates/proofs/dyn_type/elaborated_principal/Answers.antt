@@ -1,5 +1,5 @@
 use Rattle.std.proofs.Common.{refl, sym, ap, ◌∙◌, subst, Err}
-use Rattle.model.specs.Label.{static}
+use Rattle.type_terms.specs.Label.{static}
 use Rattle.infer_table.proofs.FullFacts.{handed-on}
 use Rattle.evaluation.specs.Merge.{if_there}
 use Rattle.declarations.specs.Items.{written}

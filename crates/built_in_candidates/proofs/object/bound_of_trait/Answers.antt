@@ -1,9 +1,9 @@
 use Rattle.std.proofs.Common.{◌<◌, ◌≤◌, ◌-◌, ap, ◌∙◌, subst, Some, Err}
 use Rattle.std.specs.Prelude.{◌==◌}
 use Rattle.std.specs.List.{slice_get}
-use Rattle.model.specs.Trees.{leaf, ◌+++◌}
-use Rattle.model.specs.Rules.{sized}
-use Rattle.model.specs.Worlds.{Reference}
+use Rattle.type_terms.specs.Trees.{leaf, ◌+++◌}
+use Rattle.type_terms.specs.Rules.{sized}
+use Rattle.type_terms.specs.Worlds.{Reference}
 use Rattle.type_terms.specs.Terms.{trees_at}
 use Rattle.infer_table.proofs.FullFacts.{handed-on}
 use Rattle.evaluation.specs.declared.candidate.BuiltinImplSource.TheVariants.{Misc, Object}

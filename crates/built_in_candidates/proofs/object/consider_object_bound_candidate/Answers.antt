@@ -1,7 +1,7 @@
 use Rattle.std.proofs.Common.{◌≡◌, sym, ap, ◌∙◌, subst, Some, Err}
 use Rattle.std.specs.Prelude.{option_map}
-use Rattle.model.specs.Trees.{leaf, ◌+++◌}
-use Rattle.model.specs.Worlds.{World}
+use Rattle.type_terms.specs.Trees.{leaf, ◌+++◌}
+use Rattle.type_terms.specs.Worlds.{World}
 use Rattle.type_terms.specs.Terms.{types, trees_at}
 use Rattle.type_terms.specs.Kept.{trees-is}
 use Rattle.infer_table.proofs.FullFacts.{handed-on}

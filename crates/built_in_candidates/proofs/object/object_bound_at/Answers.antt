@@ -1,7 +1,7 @@
 use Rattle.std.proofs.Common.{sym, ap, ◌∙◌, Err}
 use Rattle.std.specs.List.{slice_get}
-use Rattle.model.specs.Trees.{leaf, ◌+++◌}
-use Rattle.model.specs.Rules.{principal_with, are_dyn_compatible}
+use Rattle.type_terms.specs.Trees.{leaf, ◌+++◌}
+use Rattle.type_terms.specs.Rules.{principal_with, are_dyn_compatible}
 use Rattle.type_terms.specs.Terms.{types, bounds_lists, trees_at}
 use Rattle.type_terms.specs.Kept.{trees-later}
 use Rattle.infer_table.proofs.FullFacts.{handed-on}

@@ -1,6 +1,6 @@
 use Rattle.std.proofs.Common.{◌≡◌, ap, arith, Err}
-use Rattle.model.specs.Label.{bool, char, of_type}
-use Rattle.model.specs.Trees.{Trees, leaf}
+use Rattle.type_terms.specs.Label.{bool, char, of_type}
+use Rattle.type_terms.specs.Trees.{Trees, leaf}
 use Rattle.type_terms.specs.Terms.{types, trees_at}
 use Rattle.type_terms.specs.Kept.{trees-is, has-later}
 use Rattle.type_terms.proofs.FailFacts.{refused-term}

@@ -1,7 +1,7 @@
 use Rattle.std.proofs.Common.{◌≡◌, [], ◌∷◌, List, map, sym, ap, ◌∙◌, subst, None, Err}
 use Rattle.std.specs.List.{flat_map}
-use Rattle.model.specs.Trees.{instantiate}
-use Rattle.model.specs.Rules.{auto_struct, row, each_asked, fields_of, together}
+use Rattle.type_terms.specs.Trees.{instantiate}
+use Rattle.type_terms.specs.Rules.{auto_struct, row, each_asked, fields_of, together}
 use Rattle.type_terms.specs.Terms.{trees_at}
 use Rattle.type_terms.specs.declared.kinds.Ty.{Ty}
 use Rattle.term_folds.specs.Arguments.{first_misfit}

@@ -1,6 +1,6 @@
 use Rattle.std.proofs.Common.{◌≡◌, [], ◌∷◌, List, ap, ◌∙◌, Err}
 use Rattle.std.specs.Prelude.{Result}
-use Rattle.model.specs.Trees.{Trees, none, instantiate}
+use Rattle.type_terms.specs.Trees.{Trees, none, instantiate}
 use Rattle.type_terms.specs.Terms.{trees_at}
 use Rattle.type_terms.specs.declared.kinds.Ty.{Ty}
 use Rattle.type_terms.specs.declared.Fault.{Fault}

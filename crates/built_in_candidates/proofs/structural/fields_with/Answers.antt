@@ -1,5 +1,5 @@
 use Rattle.std.proofs.Common.{◌≡◌, ◌++◌, List, map, ap, sym, ◌∙◌, subst, None, Err}
-use Rattle.model.specs.Trees.{instantiate}
+use Rattle.type_terms.specs.Trees.{instantiate}
 use Rattle.type_terms.specs.Terms.{args_lists, types, trees_at}
 use Rattle.type_terms.specs.declared.kinds.Ty.{Ty}
 use Rattle.term_folds.specs.Arguments.{first_misfit}

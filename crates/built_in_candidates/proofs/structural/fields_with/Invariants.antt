@@ -1,5 +1,5 @@
 use Rattle.std.proofs.Common.{◌≡◌, ◌++◌, length, None, map}
-use Rattle.model.specs.Trees.{instantiate}
+use Rattle.type_terms.specs.Trees.{instantiate}
 use Rattle.type_terms.specs.Terms.{Keeps, trees_at}
 use Rattle.type_terms.specs.declared.kinds.Ty.{Ty}
 use Rattle.term_folds.specs.Arguments.{first_misfit}

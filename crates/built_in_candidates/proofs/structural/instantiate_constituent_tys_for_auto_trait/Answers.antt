@@ -1,5 +1,5 @@
 use Rattle.std.proofs.Common.{[], ◌∷◌, sym, ap, ◌∙◌, subst, Err}
-use Rattle.model.specs.Rules.{asked, each_asked, auto_rules_plain}
+use Rattle.type_terms.specs.Rules.{asked, each_asked, auto_rules_plain}
 use Rattle.type_terms.specs.Terms.{types, type_lists, trees_at}
 use Rattle.type_terms.specs.Kept.{trees-is}
 use Rattle.infer_table.proofs.FullFacts.{handed-on}

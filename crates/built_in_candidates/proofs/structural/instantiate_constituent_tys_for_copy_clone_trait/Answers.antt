@@ -1,5 +1,5 @@
 use Rattle.std.proofs.Common.{[], ◌∷◌, sym, ap, ◌∙◌, subst}
-use Rattle.model.specs.Rules.{copy_rules, each_asked}
+use Rattle.type_terms.specs.Rules.{copy_rules, each_asked}
 use Rattle.type_terms.specs.Terms.{types, type_lists}
 use Rattle.type_terms.specs.Kept.{trees-is}
 use Rattle.assembly_laws.specs.Asking.{with_plain_head}

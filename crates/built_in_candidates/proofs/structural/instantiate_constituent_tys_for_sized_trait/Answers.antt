@@ -1,5 +1,5 @@
 use Rattle.std.proofs.Common.{[], ◌∷◌, sym, ap, ◌∙◌, subst}
-use Rattle.model.specs.Rules.{sized, sized_rules, last_asked}
+use Rattle.type_terms.specs.Rules.{sized, sized_rules, last_asked}
 use Rattle.type_terms.specs.Terms.{types, type_lists}
 use Rattle.type_terms.specs.Kept.{trees-is}
 use Rattle.declarations.specs.Items.{written}

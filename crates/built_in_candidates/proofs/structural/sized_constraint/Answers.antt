@@ -1,7 +1,7 @@
 use Rattle.std.proofs.Common.{◌≡◌, [], ◌∷◌, map, sym, ap, ◌∙◌, subst, None, Err}
 use Rattle.std.specs.List.{flat_map}
-use Rattle.model.specs.Trees.{instantiate}
-use Rattle.model.specs.Rules.{row, sized, sized_struct, last_asked, fields_of, together}
+use Rattle.type_terms.specs.Trees.{instantiate}
+use Rattle.type_terms.specs.Rules.{row, sized, sized_struct, last_asked, fields_of, together}
 use Rattle.type_terms.specs.Terms.{Has, types, trees_at}
 use Rattle.type_terms.specs.declared.kinds.Ty.{Ty}
 use Rattle.term_folds.specs.Arguments.{first_misfit}

@@ -1,6 +1,6 @@
 use Rattle.std.proofs.Common.{ap, ◌∙◌, arith, Err}
-use Rattle.model.specs.Label.{slice}
-use Rattle.model.specs.Trees.{tree, none}
+use Rattle.type_terms.specs.Label.{slice}
+use Rattle.type_terms.specs.Trees.{tree, none}
 use Rattle.type_terms.specs.Terms.{types}
 use Rattle.type_terms.specs.Kept.{trees-is}
 use Rattle.type_terms.proofs.FailFacts.{refused-term}

@@ -1,7 +1,7 @@
 use Rattle.std.proofs.Common.{[], ◌∷◌, ap, sym, ◌∙◌, subst, option_map, Err}
 use Rattle.std.specs.Prelude.{◌==◌}
 use Rattle.std.specs.List.{slice_get}
-use Rattle.model.specs.Rules.{is_coinductive, unsize}
+use Rattle.type_terms.specs.Rules.{is_coinductive, unsize}
 use Rattle.type_terms.specs.Terms.{types, trees_at}
 use Rattle.type_terms.specs.Kept.{trees-is, trees-later}
 use Rattle.term_folds.specs.Signatures.{StartsWithType}

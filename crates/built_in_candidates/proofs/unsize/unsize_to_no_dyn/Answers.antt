@@ -1,6 +1,6 @@
 use Rattle.std.proofs.Common.{◌≡◌, ap, ◌∙◌, subst, Err}
 use Rattle.std.specs.List.{slice_get}
-use Rattle.model.specs.Trees.{◌+++◌}
+use Rattle.type_terms.specs.Trees.{◌+++◌}
 use Rattle.type_terms.specs.Terms.{trees_at}
 use Rattle.infer_table.proofs.FullFacts.{handed-on}
 use Rattle.declarations.specs.Items.{written}

@@ -1,6 +1,6 @@
 use Rattle.std.proofs.Common.{[], ◌∷◌, map, ap, ◌∙◌, Err}
-use Rattle.model.specs.Trees.{outer_binder}
-use Rattle.model.specs.Rules.{with_unsizing}
+use Rattle.type_terms.specs.Trees.{outer_binder}
+use Rattle.type_terms.specs.Rules.{with_unsizing}
 use Rattle.type_terms.specs.Terms.{types, args_lists, trees_at, Keeps}
 use Rattle.term_folds.specs.Arguments.{first_misfit}
 use Rattle.type_terms.specs.Kept.{has-later, trees-later}

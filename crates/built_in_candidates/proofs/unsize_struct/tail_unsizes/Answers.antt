@@ -1,7 +1,7 @@
 use Rattle.std.proofs.Common.{ap, ◌∙◌, Err}
-use Rattle.model.specs.Trees.{Trees, ◌+++◌, outer_binder, instantiate}
-use Rattle.model.specs.Worlds.{Reference}
-use Rattle.model.specs.Rules.{unsize}
+use Rattle.type_terms.specs.Trees.{Trees, ◌+++◌, outer_binder, instantiate}
+use Rattle.type_terms.specs.Worlds.{Reference}
+use Rattle.type_terms.specs.Rules.{unsize}
 use Rattle.type_terms.specs.Terms.{types, args_lists, trees_at}
 use Rattle.term_folds.specs.Arguments.{first_misfit}
 use Rattle.type_terms.specs.Kept.{has-later, trees-later}

@@ -1,6 +1,6 @@
 use Rattle.std.proofs.Common.{◌≡◌, [], ◌∷◌, length, ap, sym, ◌∙◌, subst, None, Err}
 use Rattle.std.proofs.lemmas.List.{length-map}
-use Rattle.model.specs.Rules.{some_unsizing, last_unsizes}
+use Rattle.type_terms.specs.Rules.{some_unsizing, last_unsizes}
 use Rattle.type_terms.specs.Terms.{Has, types, trees_at}
 use Rattle.type_terms.specs.declared.kinds.Ty.{Ty}
 use Rattle.term_folds.specs.Arguments.{first_misfit}

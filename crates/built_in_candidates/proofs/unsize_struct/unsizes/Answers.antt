@@ -1,13 +1,13 @@
 use Rattle.std.proofs.Common.{ap, arith, ◌∙◌, Err}
-use Rattle.model.specs.Trees.{Trees, ◌+++◌}
-use Rattle.model.specs.Worlds.{Reference}
-use Rattle.model.specs.Rules.{unsize}
+use Rattle.type_terms.specs.Trees.{Trees, ◌+++◌}
+use Rattle.type_terms.specs.Worlds.{Reference}
+use Rattle.type_terms.specs.Rules.{unsize}
 use Rattle.type_terms.specs.Terms.{args_lists, trees_at}
 use Rattle.type_terms.specs.Kinds.{args_trees}
 use Rattle.type_terms.specs.Kept.{trees-is}
 use Rattle.type_terms.proofs.FailFacts.{refused-term}
 use Rattle.infer_table.proofs.FullFacts.{handed-on}
-use Rattle.model.proofs.TreeLaws.{append-none}
+use Rattle.type_terms.proofs.TreeLaws.{append-none}
 use Rattle.built_in_candidates.proofs.unsize_struct.unsizes.Goals as goal
 
 pub returns-in_err-args-clause-full : goal.returns-in_err-args-clause-full

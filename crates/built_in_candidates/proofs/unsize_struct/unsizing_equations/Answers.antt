@@ -1,6 +1,6 @@
 use Rattle.std.proofs.Common.{ap, arith, sym, ◌∙◌, subst, length, Err}
 use Rattle.std.proofs.lemmas.List.{length-map}
-use Rattle.model.specs.Rules.{with_unsizing}
+use Rattle.type_terms.specs.Rules.{with_unsizing}
 use Rattle.type_terms.specs.Terms.{args_lists, trees_at}
 use Rattle.type_terms.specs.Kinds.{ArgsHeld, args_trees}
 use Rattle.type_terms.specs.Kept.{trees-is, has-later, trees-later}

@@ -1,6 +1,6 @@
 use Rattle.std.proofs.Common.{ap, sym, ◌∙◌, subst, Err}
-use Rattle.model.specs.Trees.{◌+++◌, leaf}
-use Rattle.model.specs.Rules.{principal_with}
+use Rattle.type_terms.specs.Trees.{◌+++◌, leaf}
+use Rattle.type_terms.specs.Rules.{principal_with}
 use Rattle.type_terms.specs.Terms.{bounds_lists, trees_at}
 use Rattle.type_terms.specs.Kept.{has-later, trees-later}
 use Rattle.infer_table.proofs.Numbers.{goal-held-later}

@@ -1,6 +1,6 @@
 use Rattle.std.proofs.Common.{[], ◌∷◌, ◌++◌, ap, sym, ◌∙◌, subst, Err}
-use Rattle.model.specs.Trees.{◌+++◌, leaf}
-use Rattle.model.specs.Rules.{asked, sized, autos_with}
+use Rattle.type_terms.specs.Trees.{◌+++◌, leaf}
+use Rattle.type_terms.specs.Rules.{asked, sized, autos_with}
 use Rattle.type_terms.specs.Terms.{types, bounds_lists, trees_at}
 use Rattle.type_terms.specs.Kept.{trees-is, has-later, trees-later}
 use Rattle.infer_table.proofs.FullFacts.{handed-on}

@@ -1,6 +1,6 @@
 use Rattle.std.proofs.Common.{◌&&◌, ap, sym, ◌∙◌}
-use Rattle.model.specs.Trees.{leaf, ◌+++◌}
-use Rattle.model.specs.Rules.{autos_with, upcasts_autos}
+use Rattle.type_terms.specs.Trees.{leaf, ◌+++◌}
+use Rattle.type_terms.specs.Rules.{autos_with, upcasts_autos}
 use Rattle.type_terms.specs.Terms.{trees_at}
 use Rattle.evaluation.specs.Merge.{if_there}
 use Rattle.declarations.specs.Items.{written}

@@ -1,6 +1,6 @@
 use Rattle.std.proofs.Common.{ap, ◌∙◌, subst}
 use Rattle.std.specs.List.{slice_get}
-use Rattle.model.specs.Trees.{leaf, ◌+++◌}
+use Rattle.type_terms.specs.Trees.{leaf, ◌+++◌}
 use Rattle.type_terms.specs.Terms.{trees_at}
 use Rattle.declarations.specs.Items.{written}
 use Rattle.declarations.specs.Merges.{Each}

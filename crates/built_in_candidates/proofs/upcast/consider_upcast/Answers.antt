@@ -1,8 +1,8 @@
 use Rattle.std.proofs.Common.{Bool, List, ◌&&◌, sym, ap, ◌∙◌, Err}
 use Rattle.std.specs.List.{slice_get}
-use Rattle.model.specs.Trees.{Trees, leaf, ◌+++◌}
-use Rattle.model.specs.Worlds.{Reference}
-use Rattle.model.specs.Rules.{principal_with, autos_with, are_declared, upcasts_autos}
+use Rattle.type_terms.specs.Trees.{Trees, leaf, ◌+++◌}
+use Rattle.type_terms.specs.Worlds.{Reference}
+use Rattle.type_terms.specs.Rules.{principal_with, autos_with, are_declared, upcasts_autos}
 use Rattle.type_terms.specs.Terms.{bounds_lists, trees_at}
 use Rattle.type_terms.specs.Kept.{trees-later}
 use Rattle.infer_table.proofs.FullFacts.{handed-on}

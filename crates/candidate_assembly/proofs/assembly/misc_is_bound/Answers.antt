@@ -1,6 +1,6 @@
 use Rattle.std.proofs.Common.{not, ◌&&◌, ap, sym}
 use Rattle.std.specs.Prelude.{◌==◌}
-use Rattle.model.specs.Rules.{unsize}
+use Rattle.type_terms.specs.Rules.{unsize}
 use Rattle.type_terms.specs.Terms.{types, trees_at}
 use Rattle.type_terms.specs.Kept.{trees-is}
 use Rattle.candidate_assembly.proofs.Dyns.{dyn-first, no-dyn-first}

@@ -1,8 +1,8 @@
 use Rattle.std.proofs.Common.{sym, ap, ◌∙◌, not}
 use Rattle.std.specs.Prelude.{◌==◌}
 use Rattle.std.specs.List.{list_any}
-use Rattle.model.specs.Trees.{◌+++◌}
-use Rattle.model.specs.Rules.{unsize}
+use Rattle.type_terms.specs.Trees.{◌+++◌}
+use Rattle.type_terms.specs.Rules.{unsize}
 use Rattle.type_terms.specs.Terms.{bounds_lists}
 use Rattle.type_terms.specs.Kinds.{bounds_trees, region_trees}
 use Rattle.type_terms.specs.declared.TraitId.{TraitId}

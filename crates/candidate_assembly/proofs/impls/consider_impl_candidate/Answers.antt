@@ -1,7 +1,7 @@
 use Rattle.std.proofs.Common.{◌≡◌, ℕ, ◌⊎◌, ◌+◌, ◌<◌, List, length, map, ap, subst, sym, ◌∙◌, inl, Err, arith}
-use Rattle.model.specs.Trees.{Trees, none}
-use Rattle.model.specs.Worlds.{Reference}
-use Rattle.model.specs.Rules.{is_coinductive}
+use Rattle.type_terms.specs.Trees.{Trees, none}
+use Rattle.type_terms.specs.Worlds.{Reference}
+use Rattle.type_terms.specs.Rules.{is_coinductive}
 use Rattle.type_terms.specs.Terms.{Keeps, args_lists, trees_at}
 use Rattle.type_terms.specs.declared.TheConstants.{MAX_INDEX}
 use Rattle.type_terms.specs.Kept.{trees-later}

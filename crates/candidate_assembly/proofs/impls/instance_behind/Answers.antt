@@ -1,6 +1,6 @@
 use Rattle.std.proofs.Common.{◌≡◌, ℕ, ◌⊎◌, ◌+◌, ◌<◌, List, length, map, ap, subst, sym, ◌∙◌, inl, Err, None, arith}
-use Rattle.model.specs.Trees.{Trees, outer_binder}
-use Rattle.model.specs.Worlds.{with_args, all_with_args}
+use Rattle.type_terms.specs.Trees.{Trees, outer_binder}
+use Rattle.type_terms.specs.Worlds.{with_args, all_with_args}
 use Rattle.type_terms.specs.Terms.{Keeps, args_lists, trees_at}
 use Rattle.term_folds.specs.Arguments.{first_misfit}
 use Rattle.type_terms.specs.Kept.{has-later, trees-later}

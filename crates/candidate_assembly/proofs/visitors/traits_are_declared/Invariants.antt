@@ -1,5 +1,5 @@
 use Rattle.std.proofs.Common.{◌≡◌, List, length}
-use Rattle.model.specs.Answers.{is_undeclared}
+use Rattle.type_terms.specs.Answers.{is_undeclared}
 use Rattle.type_terms.specs.Terms.{Entry}
 use Rattle.type_terms.specs.Kinds.{autos_trees}
 use Rattle.declarations.specs.Items.{written}

@@ -1,5 +1,5 @@
 use Rattle.std.proofs.Common.{◌≡◌, ◌++◌, length, None}
-use Rattle.model.specs.Worlds.{all_with_args}
+use Rattle.type_terms.specs.Worlds.{all_with_args}
 use Rattle.type_terms.specs.Terms.{Keeps, trees_at}
 use Rattle.term_folds.specs.Arguments.{first_misfit}
 use Rattle.declarations.specs.Merges.{Each}

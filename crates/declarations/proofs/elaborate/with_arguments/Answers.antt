@@ -7,7 +7,7 @@ use Rattle.term_folds.specs.declared.instantiate.InstantiateError.TheVariants as
 use Rattle.type_terms.specs.Terms.{trees_at}
 use Rattle.term_folds.specs.declared.predicate.TraitRef.{TraitRef}
 use Rattle.type_terms.specs.Pieces.{each_piece, one_piece}
-use Rattle.model.specs.Trees.{instantiate}
+use Rattle.type_terms.specs.Trees.{instantiate}
 use Rattle.declarations.proofs.Bounded.{one-instantiated}
 use Rattle.declarations.proofs.elaborate.with_arguments.Goals as goal
 

@@ -1,5 +1,5 @@
 use Rattle.std.proofs.Common.{◌≡◌, length}
-use Rattle.model.specs.Rules.{is_unsizing}
+use Rattle.type_terms.specs.Rules.{is_unsizing}
 use Rattle.type_terms.specs.Terms.{Has, types}
 use Rattle.declarations.specs.Merges.{Each}
 use Rattle.declarations.specs.Unsizing.{field_trees}

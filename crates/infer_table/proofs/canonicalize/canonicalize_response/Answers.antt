@@ -1,6 +1,6 @@
 use Rattle.std.proofs.Common.{◌≡◌, ap, sym, ◌∙◌, subst, false, [], length, Err, inl, arith}
 use Rattle.std.specs.Prelude.{map}
-use Rattle.model.specs.Trees.{none, ◌+++◌}
+use Rattle.type_terms.specs.Trees.{none, ◌+++◌}
 use Rattle.type_terms.specs.Terms.{Keeps, args_lists, trees_at}
 use Rattle.type_terms.specs.Kinds.{args_trees}
 use Rattle.type_terms.specs.Kept.{append-both, trees-is, trees-later}

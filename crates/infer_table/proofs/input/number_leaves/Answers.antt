@@ -1,6 +1,6 @@
 use Rattle.std.proofs.Common.{true, ap, ◌∙◌, Err}
-use Rattle.model.specs.Label.{of_trait, predicate}
-use Rattle.model.specs.Trees.{tree, none}
+use Rattle.type_terms.specs.Label.{of_trait, predicate}
+use Rattle.type_terms.specs.Trees.{tree, none}
 use Rattle.type_terms.specs.Terms.{args_lists}
 use Rattle.type_terms.specs.Kept.{trees-later}
 use Rattle.infer_table.specs.Canonical.{kind_in_clause, relabeled, canonical_label}

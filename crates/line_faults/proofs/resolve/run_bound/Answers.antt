@@ -1,5 +1,5 @@
 use Rattle.std.proofs.Common.{◌≡◌, ℕ, List, ◌∷◌, [], length, Some, true, false, ap, ◌∙◌}
-use Rattle.model.specs.Label.{Sort}
+use Rattle.type_terms.specs.Label.{Sort}
 use Rattle.text_definitions.specs.Declarations.{known}
 use Rattle.text_definitions.specs.Uses.{trait_use, args_count, kinds_of_trait}
 use Rattle.line_faults.specs.Back.{count_above}

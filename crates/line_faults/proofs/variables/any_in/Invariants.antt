@@ -1,6 +1,6 @@
 use Rattle.std.proofs.Common.{◌≡◌, ℕ, List, drop, map}
 use Rattle.std.specs.List.{list_any}
-use Rattle.model.specs.Label.{Sort}
+use Rattle.type_terms.specs.Label.{Sort}
 use Rattle.text_definitions.specs.Faults.{is_of_other_kind}
 use Rattle.line_faults.specs.Views.{variable_in}
 use Rattle.line_faults.specs.Variables.{HoldsKinds}

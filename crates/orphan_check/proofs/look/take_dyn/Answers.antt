@@ -1,5 +1,5 @@
 use Rattle.std.proofs.Common.{◌∙◌, ap}
-use Rattle.model.specs.Trees.{◌+++◌}
+use Rattle.type_terms.specs.Trees.{◌+++◌}
 use Rattle.type_terms.specs.Terms.{bounds_lists}
 use Rattle.type_terms.specs.Kinds.{region_trees, bounds_trees}
 use Rattle.type_terms.specs.Kept.{trees-is}

@@ -1,5 +1,5 @@
 use Rattle.std.proofs.Common.{◌≡◌, arith, sym, ap, ◌∙◌}
-use Rattle.model.specs.Trees.{depth}
+use Rattle.type_terms.specs.Trees.{depth}
 use Rattle.type_terms.specs.Terms.{args_lists, trees_at}
 use Rattle.type_terms.specs.Kinds.{ArgHeld, args_trees}
 use Rattle.type_terms.specs.Kept.{trees-is}

@@ -1,5 +1,5 @@
 use Rattle.std.proofs.Common.{◌≡◌, ◌+◌, ◌*◌, take, None}
-use Rattle.model.specs.Trees.{depth}
+use Rattle.type_terms.specs.Trees.{depth}
 use Rattle.type_terms.specs.Terms.{Is, args_lists, trees_at}
 use Rattle.type_terms.specs.Kinds.{ArgsHeld, arg_trees, args_trees}
 use Rattle.orphan_check.specs.Decisive.{decisive_in}

@@ -1,5 +1,5 @@
 use Rattle.std.proofs.Common.{sym, ap, ◌∙◌, None}
-use Rattle.model.specs.Walks.{visited}
+use Rattle.type_terms.specs.Walks.{visited}
 use Rattle.type_terms.specs.Terms.{trees_at}
 use Rattle.declarations.specs.Items.{declared}
 use Rattle.orphan_check.specs.Decisive.{is_uncovered}

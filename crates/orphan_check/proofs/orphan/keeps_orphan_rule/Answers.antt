@@ -1,5 +1,5 @@
 use Rattle.std.proofs.Common.{sym, ap, ◌∙◌, ◌||◌, Some}
-use Rattle.model.specs.Walks.{visited, until_decisive, ends_local}
+use Rattle.type_terms.specs.Walks.{visited, until_decisive, ends_local}
 use Rattle.type_terms.specs.Terms.{trees_at}
 use Rattle.declarations.specs.Items.{declared}
 use Rattle.orphan_check.specs.Walks.{is_local}

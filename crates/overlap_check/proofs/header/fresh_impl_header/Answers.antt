@@ -1,7 +1,7 @@
 use Rattle.std.proofs.Common.{◌≡◌, ap, ◌∙◌, subst, inl, map, Err}
 use Rattle.std.specs.Prelude.{◌⊎◌}
-use Rattle.model.specs.Trees.{outer_binder}
-use Rattle.model.specs.Worlds.{with_args}
+use Rattle.type_terms.specs.Trees.{outer_binder}
+use Rattle.type_terms.specs.Worlds.{with_args}
 use Rattle.type_terms.specs.Terms.{args_lists, trees_at}
 use Rattle.type_terms.specs.Failures.{SomeKindIsFull}
 use Rattle.type_terms.specs.Kept.{has-later, trees-later}

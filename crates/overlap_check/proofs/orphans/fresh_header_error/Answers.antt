@@ -1,6 +1,6 @@
 use Rattle.std.proofs.Common.{ap, ◌∙◌, subst, Err}
 use Rattle.std.specs.Prelude.{◌⊎◌}
-use Rattle.model.specs.Terms.{erased_reference}
+use Rattle.type_terms.specs.Erased.{erased_reference}
 use Rattle.type_terms.specs.Terms.{trees_at}
 use Rattle.type_terms.specs.Failures.{SomeKindIsFull}
 use Rattle.infer_table.specs.Content.{Table}

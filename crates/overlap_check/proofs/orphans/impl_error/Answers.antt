@@ -1,5 +1,5 @@
 use Rattle.std.proofs.Common.{sym, ◌∙◌}
-use Rattle.model.specs.Terms.{erased_impl}
+use Rattle.type_terms.specs.Erased.{erased_impl}
 use Rattle.infer_table.proofs.FullFacts.{or-then}
 use Rattle.declarations.specs.Items.{declared, impl_in}
 use Rattle.overlap_check.specs.Orphans.{IsErrorOf, IsHeaderError}

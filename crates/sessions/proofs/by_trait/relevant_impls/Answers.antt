@@ -1,7 +1,7 @@
 use Rattle.std.proofs.Common.{Some, sym, subst}
 use Rattle.type_terms.specs.Terms.{trees_at}
-use Rattle.model.specs.Trees.{erase}
-use Rattle.model.specs.Worlds.{ImplDecl}
+use Rattle.type_terms.specs.Trees.{erase}
+use Rattle.type_terms.specs.Worlds.{ImplDecl}
 use Rattle.std.specs.Prelude.{◌==◌, ◌&&◌}
 use Rattle.declarations.specs.Relevant.{relevant_in, is_relevant_to}
 use Rattle.sessions.proofs.Relevant.{AreFound, fewer-left, one-found, all-found, names-ascend}

@@ -1,5 +1,5 @@
 use Rattle.std.proofs.Common.{ap, ◌∙◌, [], ◌∷◌}
-use Rattle.model.specs.Trees.{instantiate}
+use Rattle.type_terms.specs.Trees.{instantiate}
 use Rattle.type_terms.specs.Pieces.{each_piece, one_piece}
 use Rattle.type_terms.specs.Terms.{trees_at}
 use Rattle.term_folds.specs.declared.predicate.TraitRef.{TraitRef}

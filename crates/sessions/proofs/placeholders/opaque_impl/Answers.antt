@@ -1,6 +1,6 @@
 use Rattle.std.proofs.Common.{◌≡◌, ◌∙◌, ap, map, sym, subst}
-use Rattle.model.specs.Trees.{outer_binder}
-use Rattle.model.specs.Worlds.{with_args, all_with_args}
+use Rattle.type_terms.specs.Trees.{outer_binder}
+use Rattle.type_terms.specs.Worlds.{with_args, all_with_args}
 use Rattle.type_terms.specs.Kept.{has-later, trees-later}
 use Rattle.type_terms.specs.Terms.{args_lists, trees_at}
 use Rattle.declarations.specs.Applied.{AllHeld, references_in, sort_of_param}

@@ -1,7 +1,7 @@
 use Rattle.std.proofs.Common.{◌≡◌, List, ◌∷◌, [], map, length, refl, sym, ◌∙◌, subst, arith, Ok, Err}
 use Rattle.std.specs.Prelude.{Result, IfOk}
-use Rattle.model.specs.Trees.{◌+++◌}
-use Rattle.model.proofs.TreeLaws.{append-none}
+use Rattle.type_terms.specs.Trees.{◌+++◌}
+use Rattle.type_terms.proofs.TreeLaws.{append-none}
 use Rattle.type_terms.specs.Terms.{Is, args_lists, trees_at}
 use Rattle.type_terms.specs.Kinds.{ArgsHeld, args_trees}
 use Rattle.type_terms.specs.declared.kinds.GenericArgs.{GenericArgs}

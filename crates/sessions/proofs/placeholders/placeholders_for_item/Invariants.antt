@@ -1,5 +1,5 @@
 use Rattle.std.proofs.Common.{◌≡◌, map, length}
-use Rattle.model.specs.Trees.{◌+++◌}
+use Rattle.type_terms.specs.Trees.{◌+++◌}
 use Rattle.type_terms.specs.Terms.{Keeps}
 use Rattle.type_terms.specs.Kinds.{ArgsHeld, args_trees}
 use Rattle.declarations.specs.Applied.{sort_of_param}

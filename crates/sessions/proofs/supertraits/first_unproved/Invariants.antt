@@ -1,5 +1,5 @@
 use Rattle.std.proofs.Common.{◌≡◌, take}
-use Rattle.model.specs.Proofs.{Every}
+use Rattle.type_terms.specs.Proofs.{Every}
 use Rattle.type_terms.specs.Terms.{Keeps}
 use Rattle.declarations.specs.Applied.{references_in}
 use Rattle.candidate_assembly.specs.Fitting.{solving_of}

@@ -1,5 +1,5 @@
 use Rattle.std.proofs.Common.{◌∙◌, ap, sym, subst}
-use Rattle.model.specs.Worlds.{World}
+use Rattle.type_terms.specs.Worlds.{World}
 use Rattle.declarations.specs.Applied.{AllHeld, AreApplied, references_in}
 use Rattle.declarations.specs.Elaboration.{elaborate, supertraits}
 use Rattle.declarations.specs.Items.{reference_in, written}

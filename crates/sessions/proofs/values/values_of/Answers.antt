@@ -1,5 +1,5 @@
 use Rattle.std.proofs.Common.{◌≡◌, ◌∙◌, refl, ap, List, [], ◌∷◌, Err}
-use Rattle.model.specs.Trees.{Trees, none}
+use Rattle.type_terms.specs.Trees.{Trees, none}
 use Rattle.type_terms.specs.Kinds.{ArgHeld, arg_trees}
 use Rattle.type_terms.specs.Kept.{arg-held-later, arg-trees-later, args-held-later}
 use Rattle.type_terms.specs.Pieces.{Piece}

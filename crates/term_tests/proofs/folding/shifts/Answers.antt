@@ -1,6 +1,6 @@
 use Rattle.std.proofs.Common.{◌≡◌, ℕ, ◌≤◌, List, false, sym, subst, arith}
-use Rattle.model.specs.Label.{ref, uint, bound, of_lifetime}
-use Rattle.model.specs.Trees.{tree, none, leaf}
+use Rattle.type_terms.specs.Label.{ref, uint, bound, of_lifetime}
+use Rattle.type_terms.specs.Trees.{tree, none, leaf}
 use Rattle.type_terms.specs.Terms.{Entry, Is, types, trees_at}
 use Rattle.type_terms.specs.Kinds.{region_label}
 use Rattle.type_terms.specs.declared.region.RegionKind.{RegionKind}

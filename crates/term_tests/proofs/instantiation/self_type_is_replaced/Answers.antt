@@ -1,5 +1,5 @@
 use Rattle.std.proofs.Common.{refl, ap, sym, ◌∙◌, subst}
-use Rattle.model.specs.Trees.{Trees, none, ◌+++◌}
+use Rattle.type_terms.specs.Trees.{Trees, none, ◌+++◌}
 use Rattle.type_terms.specs.Terms.{args_lists, types}
 use Rattle.type_terms.specs.Kept.{trees-is}
 use Rattle.term_folds.specs.Signatures.{StartsWithType}

@@ -1,6 +1,6 @@
 use Rattle.std.proofs.Common.{List, drop}
-use Rattle.model.specs.Label.{of_type, param}
-use Rattle.model.specs.Trees.{leaf}
+use Rattle.type_terms.specs.Label.{of_type, param}
+use Rattle.type_terms.specs.Trees.{leaf}
 use Rattle.text_definitions.specs.Lowering.{with_self}
 use Rattle.text_reader.specs.declared.numbering.Numbering.TheVariants.{Item}
 use Rattle.text_definitions.specs.Syntax.{Bound, Line}

@@ -1,5 +1,5 @@
 use Rattle.std.proofs.Common.{◌≡◌, ◌+◌, ◌∙◌, get_or, take, ap, refl, sym}
-use Rattle.model.specs.Trees.{◌+++◌}
+use Rattle.type_terms.specs.Trees.{◌+++◌}
 use Rattle.type_terms.specs.Kinds.{args_trees, arg_trees}
 use Rattle.type_terms.specs.Visits.{ended}
 use Rattle.type_terms.proofs.Items.{take-push, arg-held-at, args-push}

@@ -1,5 +1,5 @@
 use Rattle.std.proofs.Common.{◌≡◌, ◌+◌, ◌∙◌, get_or, take, ap, refl}
-use Rattle.model.specs.Trees.{◌+++◌}
+use Rattle.type_terms.specs.Trees.{◌+++◌}
 use Rattle.type_terms.specs.Terms.{trees_at}
 use Rattle.type_terms.specs.Kinds.{tys_trees}
 use Rattle.type_terms.specs.Visits.{ended}

@@ -1,6 +1,6 @@
 use Rattle.std.proofs.Common.{◌≡◌, ap, ◌++◌, ◌∙◌}
 use Rattle.std.specs.Prelude.{Some}
-use Rattle.model.specs.Trees.{◌+++◌}
+use Rattle.type_terms.specs.Trees.{◌+++◌}
 use Rattle.type_terms.specs.Terms.{trees_at, bounds_lists, args_lists}
 use Rattle.type_terms.specs.Kinds.{principal_trees, autos_trees, args_trees}
 use Rattle.type_terms.specs.Visits.{next_each}

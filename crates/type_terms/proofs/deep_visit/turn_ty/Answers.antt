@@ -1,5 +1,5 @@
 use Rattle.std.proofs.Common.{ap, reverse, subst, refl, ◌++◌}
-use Rattle.model.specs.Trees.{Single}
+use Rattle.type_terms.specs.Trees.{Single}
 use Rattle.type_terms.specs.Terms.{trees_at}
 use Rattle.type_terms.specs.declared.visit.Seen.TheVariants.{Enter}
 use Rattle.type_terms.specs.Binders.{counts_of}

@@ -1,7 +1,7 @@
 use Rattle.std.proofs.Common.{[], ◌∷◌, subst}
 use Rattle.std.specs.Prelude.{Some}
 use Rattle.std.specs.ControlFlow.{break_value}
-use Rattle.model.specs.Trees.{Single}
+use Rattle.type_terms.specs.Trees.{Single}
 use Rattle.type_terms.specs.Terms.{trees_at}
 use Rattle.type_terms.specs.Binders.{counts_of}
 use Rattle.type_terms.specs.Visits.{VisitsEach}

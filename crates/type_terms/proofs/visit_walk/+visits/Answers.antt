@@ -1,5 +1,5 @@
 use Rattle.std.proofs.Common.{◌≡◌, ℕ, ◌+◌, ◌≤◌, arith, sym, ◌∙◌, get_or, take, ap, refl, Some}
-use Rattle.model.specs.Trees.{◌+++◌, Single}
+use Rattle.type_terms.specs.Trees.{◌+++◌, Single}
 use Rattle.type_terms.specs.Terms.{types, type_lists, args_lists, bounds_lists, trees_at}
 use Rattle.type_terms.specs.Kinds.{tys_trees, args_trees, arg_trees, ArgOlder, ArgHeld, principal_trees, autos_trees, region_trees}
 use Rattle.type_terms.specs.declared.kinds.GenericArgKind.{GenericArgKind}

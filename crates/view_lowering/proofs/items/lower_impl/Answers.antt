@@ -1,6 +1,6 @@
 use Rattle.std.proofs.Common.{◌≡◌, ℕ, List, [], ◌∷◌, map, length, refl, subst, sym, ap, ◌∙◌, Err}
 use Rattle.std.proofs.lemmas.List.{length-map}
-use Rattle.model.specs.Worlds.{ImplDecl, Reference}
+use Rattle.type_terms.specs.Worlds.{ImplDecl, Reference}
 use Rattle.declarations.specs.Applied.{sort_of_param}
 use Rattle.declarations.specs.Heads.{begins_declared}
 use Rattle.declarations.proofs.Growth.{reference-kept, reference-same, args-same}

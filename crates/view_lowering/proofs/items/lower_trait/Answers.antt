@@ -1,5 +1,5 @@
 use Rattle.std.proofs.Common.{subst, sym, ap, ◌∙◌, map, Err}
-use Rattle.model.specs.Worlds.{TraitDecl}
+use Rattle.type_terms.specs.Worlds.{TraitDecl}
 use Rattle.infer_table.proofs.FullFacts.{handed-on}
 use Rattle.workspace.specs.Made.{ReferencesMade}
 use Rattle.workspace.specs.Views.{reference_of}

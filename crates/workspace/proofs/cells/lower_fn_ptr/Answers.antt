@@ -1,5 +1,5 @@
 use Rattle.std.proofs.Common.{subst, ap, ◌∙◌, arith, Err}
-use Rattle.model.specs.Trees.{is_no_tree}
+use Rattle.type_terms.specs.Trees.{is_no_tree}
 use Rattle.type_terms.specs.Terms.{type_lists, types}
 use Rattle.workspace.specs.Stack.{stack_of, parts_in, StackHeld}
 use Rattle.workspace.proofs.Lowering.{held-pushed, tys-held, fn-lowers, fn-output, fn-made, is-tree}

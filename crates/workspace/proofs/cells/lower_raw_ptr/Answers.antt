@@ -1,5 +1,5 @@
 use Rattle.std.proofs.Common.{refl, arith, ap, Err}
-use Rattle.model.specs.Label.{raw_pointer}
+use Rattle.type_terms.specs.Label.{raw_pointer}
 use Rattle.type_terms.specs.Kinds.{is_mut}
 use Rattle.type_terms.specs.Terms.{types}
 use Rattle.workspace.specs.declared.cell.TermCell.TheVariants as cells

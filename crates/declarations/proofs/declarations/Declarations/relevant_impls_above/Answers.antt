@@ -1,7 +1,7 @@
 use Rattle.std.proofs.Common.{refl, sym, ap, ◌∙◌, None, subst}
 use Rattle.std.specs.Prelude.{filter}
-use Rattle.model.specs.Label.{of_type}
-use Rattle.model.specs.Trees.{IsA}
+use Rattle.type_terms.specs.Label.{of_type}
+use Rattle.type_terms.specs.Trees.{IsA}
 use Rattle.type_terms.specs.Terms.{trees_at, types}
 use Rattle.type_terms.specs.declared.ImplId.{ImplId}
 use Rattle.type_terms.specs.Kept.{trees-is}

@@ -2,7 +2,7 @@ use Rattle.std.proofs.Common.{◌≡◌, sym, ap, ◌∙◌, subst, None, Ok, Er
 use Rattle.std.specs.Prelude.{Result, IfOk}
 use Rattle.type_terms.specs.Terms.{trees_at}
 use Rattle.term_folds.specs.Arguments.{first_misfit}
-use Rattle.model.specs.Worlds.{all_with_args}
+use Rattle.type_terms.specs.Worlds.{all_with_args}
 use Rattle.declarations.specs.Applied.{references_in, AllHeld}
 use Rattle.declarations.specs.Merges.{Each}
 use Rattle.declarations.proofs.Elaborating.{bounds-fit, bounds-applied}

@@ -1,5 +1,5 @@
 use Rattle.std.proofs.Common.{◌≤◌, length, ap, sym, subst, IfOk, Err}
-use Rattle.model.specs.Trees.{Trees, ◌+++◌}
+use Rattle.type_terms.specs.Trees.{Trees, ◌+++◌}
 use Rattle.type_terms.specs.declared.TheConstants.{MAX_INDEX}
 use Rattle.infer_table.specs.Applied.{trees_of}
 use Rattle.infer_table.specs.Responses.{answer_leaves}

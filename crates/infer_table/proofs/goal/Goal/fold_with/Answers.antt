@@ -1,5 +1,5 @@
 use Rattle.std.proofs.Common.{◌≡◌, ℕ, [], ◌∷◌, List, ap, subst, Err}
-use Rattle.model.specs.Trees.{Trees}
+use Rattle.type_terms.specs.Trees.{Trees}
 use Rattle.type_terms.specs.Terms.{trees_at, args_lists}
 use Rattle.term_folds.specs.Folds.{Does, FoldsEach}
 use Rattle.type_terms.specs.Kept.{has-later, trees-later}

@@ -1,5 +1,5 @@
 use Rattle.std.proofs.Common.{sym, subst, take, ◌++◌, ◌∷◌, []}
-use Rattle.model.specs.Trees.{◌+++◌}
+use Rattle.type_terms.specs.Trees.{◌+++◌}
 use Rattle.type_terms.specs.declared.kinds.GenericArgKind.TheVariants.{Lifetime as ALifetime, Const as AConst}
 use Rattle.type_terms.specs.Kinds.{arg_trees, args_trees, ArgHeld}
 use Rattle.type_terms.proofs.Items.{arg-held-at}

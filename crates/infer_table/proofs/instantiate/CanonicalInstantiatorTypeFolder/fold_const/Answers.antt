@@ -1,6 +1,6 @@
 use Rattle.std.proofs.Common.{◌≡◌, Some, ap, ◌∙◌}
-use Rattle.model.specs.Label.{of_const, canonical}
-use Rattle.model.specs.Trees.{leaf}
+use Rattle.type_terms.specs.Label.{of_const, canonical}
+use Rattle.type_terms.specs.Trees.{leaf}
 use Rattle.type_terms.specs.Terms.{trees_at, consts}
 use Rattle.type_terms.specs.Kinds.{bound_label}
 use Rattle.type_terms.specs.Kept.{is-at, trees-is}

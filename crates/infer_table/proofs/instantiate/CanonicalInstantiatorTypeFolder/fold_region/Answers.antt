@@ -1,6 +1,6 @@
 use Rattle.std.proofs.Common.{refl, ap, ◌∙◌, Some}
-use Rattle.model.specs.Label.{of_lifetime}
-use Rattle.model.specs.Trees.{leaf}
+use Rattle.type_terms.specs.Label.{of_lifetime}
+use Rattle.type_terms.specs.Trees.{leaf}
 use Rattle.type_terms.specs.Kinds.{region_label, region_trees}
 use Rattle.type_terms.specs.declared.region.RegionKind.TheVariants.{ReBound}
 use Rattle.term_folds.proofs.FoldFacts.{RegionIs}

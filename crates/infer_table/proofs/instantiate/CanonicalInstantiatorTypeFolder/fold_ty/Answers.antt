@@ -1,6 +1,6 @@
 use Rattle.std.proofs.Common.{◌≡◌, Some, ap, sym, ◌∙◌, true}
-use Rattle.model.specs.Label.{of_type, canonical}
-use Rattle.model.specs.Trees.{leaf}
+use Rattle.type_terms.specs.Label.{of_type, canonical}
+use Rattle.type_terms.specs.Trees.{leaf}
 use Rattle.type_terms.specs.Terms.{trees_at, types}
 use Rattle.type_terms.specs.Kinds.{bound_label}
 use Rattle.type_terms.proofs.Sorts.{type-single}

@@ -1,7 +1,7 @@
 use Rattle.std.proofs.Common.{◌≡◌, ℕ, Bool, List, ◌∷◌, [], ◌++◌, map, length, sym, ap, ◌∙◌, true}
 use Rattle.std.specs.Prelude.{not, ◌&&◌}
 use Rattle.std.proofs.lemmas.List.{length-map}
-use Rattle.model.specs.Label.{Sort, principal}
+use Rattle.type_terms.specs.Label.{Sort, principal}
 use Rattle.line_reader.specs.TokenViews.{text_of}
 use Rattle.text_definitions.specs.Declarations.{known}
 use Rattle.text_definitions.specs.Faults.{is_auto_name}

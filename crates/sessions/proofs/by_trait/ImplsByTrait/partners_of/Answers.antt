@@ -1,5 +1,5 @@
 use Rattle.std.proofs.Common.{Some, None, sym, ◌∙◌, ap, subst}
-use Rattle.model.specs.Trees.{nth}
+use Rattle.type_terms.specs.Trees.{nth}
 use Rattle.type_terms.specs.Terms.{trees_at, types}
 use Rattle.type_terms.specs.Kept.{trees-is}
 use Rattle.declarations.specs.Heads.{head_of, label_of}

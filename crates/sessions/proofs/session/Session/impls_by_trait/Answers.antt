@@ -1,6 +1,6 @@
 use Rattle.std.proofs.Common.{◌≡◌, sym, subst, length}
 use Rattle.std.specs.Prelude.{IfOk}
-use Rattle.model.specs.Worlds.{World}
+use Rattle.type_terms.specs.Worlds.{World}
 use Rattle.declarations.specs.Items.{IsAbove}
 use Rattle.workspace.specs.Numbered.{IsNumbered}
 use Rattle.sessions.specs.ByTrait.{ListsImpls, ListsSeen}

@@ -1,6 +1,6 @@
 use Rattle.std.proofs.Common.{refl, sym, subst}
 use Rattle.std.specs.Prelude.{IfOk}
-use Rattle.model.specs.Worlds.{World}
+use Rattle.type_terms.specs.Worlds.{World}
 use Rattle.sessions.specs.ByTrait.{ListsImpls, ListsSeen, HavePartnersSeen}
 use Rattle.sessions.specs.Subjects.{Subject}
 use Rattle.sessions.proofs.PairChecks.{pair-here}

@@ -1,6 +1,6 @@
 use Rattle.std.proofs.Common.{refl, ◌∙◌}
-use Rattle.model.specs.Label.{adt, ref, raw_pointer, array, slice, tuple, fn_ptr, dynamic}
-use Rattle.model.specs.Trees.{◌+++◌}
+use Rattle.type_terms.specs.Label.{adt, ref, raw_pointer, array, slice, tuple, fn_ptr, dynamic}
+use Rattle.type_terms.specs.Trees.{◌+++◌}
 use Rattle.type_terms.specs.Terms.{trees_at}
 use Rattle.type_terms.specs.Kinds.{is_mut, region_trees}
 use Rattle.type_terms.proofs.InfoFacts.{info-plain, info-binder, info-joined}

@@ -1,5 +1,5 @@
 use Rattle.std.proofs.Common.{sym, ◌∙◌}
-use Rattle.model.specs.Label.{principal}
+use Rattle.type_terms.specs.Label.{principal}
 use Rattle.type_terms.specs.Terms.{trees_at}
 use Rattle.type_terms.proofs.InfoFacts.{info-binder, principal-info}
 use Rattle.type_terms.proofs.interner.Interner.principal_info.Goals as goal

@@ -1,0 +1,172 @@
+-- What holds in every linked set. Each law stands on the contract of a function of its name.
+use Rattle.std.specs.Prelude.{◌≡◌, ℕ, true, false, IsTrue, List, [], ◌⊎◌, map}
+use Rattle.std.specs.List.{list_all}
+use Rattle.type_terms.specs.Codes.{same}
+use Rattle.type_terms.specs.Trees.{Trees, Fits, outer_binder, erase}
+use Rattle.type_terms.specs.Worlds.{World, Reference, ImplDecl, core, sees, view_of, with_args, all_with_args}
+use Rattle.type_terms.specs.Erased.{IsTerm, IsTerms, IsCovered, erased_reference, erased_impl, erased_world}
+use Rattle.type_terms.specs.Rules.{Rule, by_impl, rules, strict_supertraits}
+use Rattle.type_terms.specs.Proofs.{In, Every, HasProof, HasProofByImpl}
+use Rattle.type_terms.specs.Walks.{open_walk, keeps_orphan_rule, is_known, is_known_in}
+use Rattle.type_terms.specs.Answers.{is_closed, is_bounded, is_possible, CommonInstance, Overlaps, IsFixedClause}
+use Rattle.type_terms.specs.Core.{core_world}
+use Rattle.type_terms.specs.Supers.{IsHeld}
+use Rattle.type_terms.specs.Renumbering.{Renumbering, View, HoldsView, asker_in_set, IsRenumbering, renumbered_reference, renumbered_rule, renumbered_impl}
+use Rattle.type_terms.specs.Versions.{in_scope, Added}
+use Rattle.type_terms.specs.LinkedSet.{JoinedSet, LinkedSet, Unknown, Cleared, IsAnswered, IsCheckedPair}
+
+-- P holds of each linked set with its answers.
+abbrev pub InEveryLinkedSet : (World → List View → Type 0) → Type 0
+InEveryLinkedSet P = (W : World) (vs : List View) (rank : ℕ → ℕ) → LinkedSet W vs rank → P W vs
+
+-- An erased world is one of terms, and its views are the world's views, erased.
+abbrev pub ErasedWorldsAreTerms : Type 0
+ErasedWorldsAreTerms = (W : World) → IsTerms (erased_world W) × ((c : ℕ) → view_of (erased_world W) c ≡ erased_world (view_of W c))
+
+-- Rules of a world of terms ask terms where the reference is one: to erase at the start is enough.
+abbrev pub RulesOfTermsAskTerms : Type 0
+RulesOfTermsAskTerms =
+    (W : World) → IsTerms W → (E : List Reference) (r : Reference) → IsTerm r.args → (u : Rule) → In u (rules W E r)
+    → Every (λ p. IsTerm p.args) u.premises
+
+-- An impl with arguments that may hold lifetimes gives a rule of the erased world, for each reference that its header is up to
+-- lifetimes. So candidates that are matched up to lifetimes are rules.
+abbrev pub ImplsApplyUpToLifetimes : Type 0
+ImplsApplyUpToLifetimes =
+    (V : World) (E : List Reference) (i : ImplDecl) (A : Trees) (r : Reference) → In i V.impls → IsCovered (erased_impl i) → outer_binder (erase A) ≡ 0
+    → Fits A i.header.args → Every (λ k. Fits A k.args) i.clauses → erased_reference (with_args A i.header) ≡ erased_reference r
+    → (u : Rule) → u ≡ record { way = by_impl i.name; premises = map erased_reference (all_with_args A i.clauses) } → In u (rules (erased_world V) E (erased_reference r))
+
+-- Walks skip lifetimes, so the orphan rule and known references are those of the erased world.
+abbrev pub WalksSkipLifetimes : Type 0
+WalksSkipLifetimes =
+    (W : World) (c : ℕ) (r : Reference)
+    → (open_walk (erased_world W) (erased_reference r) ≡ open_walk W r)
+    × (keeps_orphan_rule (erased_world W) c (erased_reference r) ≡ keeps_orphan_rule W c r)
+    × (is_known_in (erased_world W) c (erased_reference r) ≡ is_known_in W c r)
+    × (is_known (erased_world W) c (erased_reference r) ≡ is_known W c r)
+
+-- Two trees pass the test exactly if they are one. So `same_reference` says that two references are one, and nothing less.
+abbrev pub SameIsEqual : Type 0
+SameIsEqual = (x y : Trees) → (same x y ≡ true → x ≡ y) × (x ≡ y → same x y ≡ true)
+
+-- `core` counts as accepted: its headers keep the orphan rule, and no two of its impls overlap.
+abbrev pub CoreIsCoherent : Type 0
+CoreIsCoherent =
+    (list_all (λ i. keeps_orphan_rule core_world core i.header) core_world.impls ≡ true)
+    × ((i j : ImplDecl) → In i core_world.impls → In j core_world.impls → Overlaps i j → i.name ≡ j.name)
+
+-- `core` alone is a linked set: its own `Copy` impls too have `Clone` and `Sized` proved.
+abbrev pub CoreIsLinked : Type 0
+CoreIsLinked = LinkedSet core_world [] (λ n. n)
+
+-- A joined set in which each impl's crate was asked about its supertraits, and all were held, is a linked set. With `trait Sub: Sup`,
+-- `impl Sub for u8` is held where `u8: Sup` has a proof, and `impl<T> Sub for T where T: Sup` whatever T is.
+abbrev pub HeldSetsAreLinked : Type 0
+HeldSetsAreLinked =
+    (W : World) (vs : List View) (rank : ℕ → ℕ) → JoinedSet W vs rank → ((i : ImplDecl) → In i W.impls → IsAnswered vs i)
+    → ((v : View) → In v vs → IsHeld v.world v.asker) → LinkedSet W vs rank
+
+-- What has a proof, by an impl or by a built-in rule, has its strict supertraits proved. With `trait Sub: Sup`, where `u8: Sub`
+-- has a proof, so has `u8: Sup`.
+abbrev pub SupertraitsAreProved : World → List View → Type 0
+SupertraitsAreProved W vs = (r : Reference) → IsTrue (is_closed r.args) → HasProof W [] r → Every (HasProof W []) (strict_supertraits W r)
+
+-- What crate c sees, its users see.
+abbrev pub UsersSeeWhatTheirUsesSee : World → List View → Type 0
+UsersSeeWhatTheirUsesSee W vs = (c d e : ℕ) → sees W c d ≡ true → sees W d e ≡ true → sees W c e ≡ true
+
+-- Two crates that see each other are one.
+abbrev pub NoTwoCratesSeeEachOther : World → List View → Type 0
+NoTwoCratesSeeEachOther W vs = (c d : ℕ) → sees W c d ≡ true → sees W d c ≡ true → c ≡ d
+
+-- The walk lemma: what an impl of a crate that c does not see concludes is unknown to c.
+abbrev pub UnseenImplsConcludeNothingKnown : World → List View → Type 0
+UnseenImplsConcludeNothingKnown W vs =
+    (c : ℕ) (i : ImplDecl) → In i W.impls → sees W c i.home ≡ false → (A : Trees) → Fits A i.header.args → is_known W c (with_args A i.header) ≡ false
+
+-- Impls of crates that do not see each other do not overlap.
+abbrev pub UnrelatedImplsDoNotOverlap : World → List View → Type 0
+UnrelatedImplsDoNotOverlap W vs = (i j : ImplDecl) → In i W.impls → In j W.impls → sees W i.home j.home ≡ false → sees W j.home i.home ≡ false → Overlaps i j → ⊥
+
+-- A rule of the set whose premises have proofs is a rule of an answer's view, or concludes what is unknown to its crate and
+-- has its supertraits proved. r is written with the numbers of the answer's text.
+abbrev pub WhatTheViewDoesNotGiveIsUnknown : World → List View → Type 0
+WhatTheViewDoesNotGiveIsUnknown W vs =
+    (v : View) → HoldsView W v → (r : Reference) → IsTrue (is_closed r.args)
+    → (u : Rule) → In u (rules W [] (renumbered_reference v.numbers r)) → Every (HasProof W []) u.premises
+    → ((w : Rule) × In w (rules v.world [] r) × (renumbered_rule v.numbers w ≡ u)) ⊎ Unknown W (asker_in_set v) (renumbered_reference v.numbers r)
+
+-- What is known to a crate by the view of its answer alone is known to it in the set.
+abbrev pub KnownByTheViewIsKnown : World → List View → Type 0
+KnownByTheViewIsKnown W vs =
+    (v : View) → HoldsView W v → (r : Reference) → is_known_in v.world v.asker r ≡ true
+    → is_known W (asker_in_set v) (renumbered_reference v.numbers r) ≡ true
+
+-- A proof by the rules of an answer's view is a proof in the set.
+abbrev pub ProofsByTheViewHold : World → List View → Type 0
+ProofsByTheViewHold W vs = (v : View) → HoldsView W v → (r : Reference) → HasProof v.world [] r → HasProof W [] (renumbered_reference v.numbers r)
+
+-- Where each impl's crate was accepted, so that each pair that its check looked at is cleared, no closed reference has proofs
+-- by two impls.
+abbrev pub NoTwoImpls : World → List View → Type 0
+NoTwoImpls W vs =
+    ((i : ImplDecl) → In i W.impls → IsAnswered vs i)
+    → ((v : View) → In v vs → (i j : ImplDecl) → IsCheckedPair v i j → Cleared W (renumbered_impl v.numbers i) (renumbered_impl v.numbers j))
+    → (r : Reference) → IsTrue (is_closed r.args) → (n k : ℕ) → HasProofByImpl W [] r n → HasProofByImpl W [] r k → n ≡ k
+
+-- `no` holds: what is bounded and not possible by the view of an answer has no proof in any linked set in which the answer stands.
+abbrev pub NoHolds : World → List View → Type 0
+NoHolds W vs =
+    (v : View) → HoldsView W v → (limit : ℕ) (r : Reference) → is_bounded limit v.world v.asker r ≡ true → is_possible limit v.world v.asker r ≡ false
+    → HasProof W [] (renumbered_reference v.numbers r) → ⊥
+
+-- A pair with a fixed where-clause that is bounded and not possible by the view of an answer is cleared in every linked set in
+-- which the answer stands.
+abbrev pub AnImpossibleClauseClearsThePair : World → List View → Type 0
+AnImpossibleClauseClearsThePair W vs =
+    (v : View) → HoldsView W v → (limit : ℕ) (i j : ImplDecl) (r : Reference) → IsFixedClause i j r
+    → is_bounded limit v.world v.asker r ≡ true → is_possible limit v.world v.asker r ≡ false
+    → Cleared W (renumbered_impl v.numbers i) (renumbered_impl v.numbers j)
+
+-- The second walk lemma: what an impl that a later version of d may add concludes is unknown to every crate that d does not see,
+-- so to each other crate that uses d, directly or through others.
+abbrev pub LaterImplsConcludeNothingKnown : World → List View → Type 0
+LaterImplsConcludeNothingKnown W vs =
+    (c d : ℕ) (i : ImplDecl) → sees W d c ≡ false → Added W d i → (A : Trees) → Fits A i.header.args → is_known W c (with_args A i.header) ≡ false
+
+-- An impl that a later version of d may add overlaps no impl that a crate that uses d has, or may write some day.
+abbrev pub LaterVersionsBreakNoUser : World → List View → Type 0
+LaterVersionsBreakNoUser W vs =
+    (c d : ℕ) → sees W c d ≡ true → (c ≡ d → ⊥) → (i j : ImplDecl) → Added W d i → IsTrue (in_scope W c j.header) → IsTrue (keeps_orphan_rule W c j.header) → Overlaps i j → ⊥
+
+-- A header that an accepted crate may write by its view, it may write in the set: it names what the crate sees there, and keeps
+-- its orphan rule.
+abbrev pub KeptByTheViewIsKept : World → List View → Type 0
+KeptByTheViewIsKept W vs =
+    (v : View) → HoldsView W v → (h : Reference) → in_scope v.world v.asker h ≡ true → keeps_orphan_rule v.world v.asker h ≡ true
+    → (in_scope W (asker_in_set v) (renumbered_reference v.numbers h) ≡ true) × (keeps_orphan_rule W (asker_in_set v) (renumbered_reference v.numbers h) ≡ true)
+
+-- An impl that a later version may add by its crate's view, it may add in the set.
+abbrev pub AddedByTheViewIsAdded : World → List View → Type 0
+AddedByTheViewIsAdded W vs = (v : View) → HoldsView W v → (i : ImplDecl) → Added v.world v.asker i → Added W (asker_in_set v) (renumbered_impl v.numbers i)
+
+-- All that is said of a view is said of it with other numbers: its rules, proofs, known, bounded and possible references, and
+-- the common instances of impls.
+pub record CarriesOver (ρ : Renumbering) (V U : World) : Type 0 where
+  pub rules_there : (E : List Reference) (r : Reference) (u : Rule) → In u (rules V E r)
+      → In (renumbered_rule ρ u) (rules U (map (renumbered_reference ρ) E) (renumbered_reference ρ r))
+  pub rules_back : (E : List Reference) (r : Reference) (u : Rule) → In u (rules U (map (renumbered_reference ρ) E) (renumbered_reference ρ r))
+      → (w : Rule) × In w (rules V E r) × (renumbered_rule ρ w ≡ u)
+  pub supertraits : (r : Reference) → map (renumbered_reference ρ) (strict_supertraits V r) ≡ strict_supertraits U (renumbered_reference ρ r)
+  pub proof_there : (E : List Reference) (r : Reference) → HasProof V E r → HasProof U (map (renumbered_reference ρ) E) (renumbered_reference ρ r)
+  pub proof_back : (E : List Reference) (r : Reference) → HasProof U (map (renumbered_reference ρ) E) (renumbered_reference ρ r) → HasProof V E r
+  pub known : (c : ℕ) (r : Reference) → is_known_in U (ρ.crates.to c) (renumbered_reference ρ r) ≡ is_known_in V c r
+  pub bounded : (limit c : ℕ) (r : Reference) → is_bounded limit U (ρ.crates.to c) (renumbered_reference ρ r) ≡ is_bounded limit V c r
+  pub possible : (limit c : ℕ) (r : Reference) → is_possible limit U (ρ.crates.to c) (renumbered_reference ρ r) ≡ is_possible limit V c r
+  pub common_there : (i j : ImplDecl) → CommonInstance i j → CommonInstance (renumbered_impl ρ i) (renumbered_impl ρ j)
+  pub common_back : (i j : ImplDecl) → CommonInstance (renumbered_impl ρ i) (renumbered_impl ρ j) → CommonInstance i j
+
+-- So it is with every renumbering.
+abbrev pub RenumberingCarriesOver : Type 0
+RenumberingCarriesOver = (ρ : Renumbering) (V U : World) → IsRenumbering ρ V U → CarriesOver ρ V U
