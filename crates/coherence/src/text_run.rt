@@ -2,7 +2,7 @@
 
 ghost use Rattle.std.specs.Prelude.{◌≡◌, ◌≢◌, ◌+◌, ◌-◌, ◌<◌, length, IfOk, IfErr, IfSome, OnOk, OnErr};
 ghost use Rattle.std.specs.Io.KnownBytes.{Appends, Keeps};
-ghost use Rattle.line_faults.specs.FaultNumbers.{fault_number};
+ghost use Rattle.name_resolution.specs.FaultNumbers.{fault_number};
 ghost use Rattle.text_definitions.specs.Output.{fault, output_text};
 ghost use Rattle.workspace.specs.Numbered.{IsNumbered, IsFew};
 ghost use Rattle.sessions.specs.Subjects.{IsOfText, StaysOn};

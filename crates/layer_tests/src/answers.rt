@@ -4,8 +4,8 @@ ghost use Rattle.type_terms.specs.Terms.{Keeps};
 ghost use Rattle.infer_table.specs.Content.{Ready};
 ghost use Rattle.infer_table.specs.Goals.{GoalHeld};
 ghost use Rattle.search_graph.specs.Cache.{AreJustified};
-ghost use Rattle.root_goals.specs.Contexts.{IsReady};
-ghost use Rattle.root_goals.specs.Searching.{solver_meaning};
+ghost use Rattle.solver_context.specs.Contexts.{IsReady};
+ghost use Rattle.solver_context.specs.Searching.{solver_meaning};
 ghost use Rattle.text_definitions.specs.Text.{TextGives};
 ghost use Rattle.candidate_assembly.specs.Ready as solver;
 

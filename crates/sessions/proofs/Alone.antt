@@ -20,8 +20,8 @@ use Rattle.infer_table.specs.declared.certainty.TypingMode.TheVariants.{Coherenc
 use Rattle.infer_table.specs.declared.goal.Goal.{Goal}
 use Rattle.evaluation.specs.Handler.{Handled}
 use Rattle.evaluation.specs.Tables.{frame_tables}
-use Rattle.root_goals.specs.Contexts.{Asked}
-use Rattle.root_goals.specs.Roots.{goal_in, fact_under, IsPosed, AtProvedSolutions}
+use Rattle.solver_context.specs.Contexts.{Asked}
+use Rattle.solver_context.specs.Roots.{goal_in, fact_under, IsPosed, AtProvedSolutions}
 use Rattle.text_definitions.specs.Declarations.{Question}
 use Rattle.view_lowering.specs.Plain.{unbound_reference}
 use Rattle.view_lowering.specs.Questions.{IsLowered}

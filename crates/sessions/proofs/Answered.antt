@@ -17,9 +17,9 @@ use Rattle.infer_table.proofs.Numbers.{goal-trees-later, goal-held-later}
 use Rattle.search_graph.specs.SearchState.{SearchState}
 use Rattle.evaluation.specs.Content.{Fact}
 use Rattle.evaluation.specs.Proof as Lists
-use Rattle.root_goals.specs.Contexts.{entries_of}
-use Rattle.root_goals.specs.Roots.{fact_under}
-use Rattle.root_goals.specs.declared.context.SolverCx.{SolverCx}
+use Rattle.solver_context.specs.Contexts.{entries_of}
+use Rattle.solver_context.specs.Roots.{fact_under}
+use Rattle.solver_context.specs.declared.context.SolverCx.{SolverCx}
 use Rattle.goal_frames.specs.Meanings.{HandlerMeaning}
 use Rattle.sessions.specs.Proved.{fact_with_values}
 use Rattle.sessions.specs.Proving.{AreReadOff, IsAnswered, IsRefusedGoal, IsUnsettledGoal, is_bound_term}

@@ -30,8 +30,8 @@ use Rattle.assembly_laws.specs.DeclaredWell.{are_distinct}
 use Rattle.assembly_laws.specs.Facts.{trees_of_clauses, clauses_of, reference_in, is_unerased}
 use Rattle.assembly_laws.proofs.Instances.{is_bound}
 use Rattle.goal_frames.specs.Forms.{is_unnumbered}
-use Rattle.root_goals.specs.Roots.{fact_under, values_under, question_of}
-use Rattle.root_goals.proofs.Forms.{form-instance}
+use Rattle.solver_context.specs.Roots.{fact_under, values_under, question_of}
+use Rattle.solver_context.proofs.Forms.{form-instance}
 use Rattle.solver_exactness.specs.ClosedTables.{IsClosedKind, AreClosed, FitPlaces, TellPlaces}
 use Rattle.solver_exactness.specs.FormedAnswers.{IsFormedGoal}
 use Rattle.solver_exactness.specs.FormedFacts.{Sorts, AreTypes, FitsNode, NodesFit, IsFormed, IsFormedFact, IsFormedView}

@@ -25,7 +25,7 @@ use Rattle.infer_table.proofs.UnifyFacts.{same-self}
 use Rattle.evaluation.specs.FrameTables.{kind_at}
 use Rattle.evaluation.specs.TableAnswers.{is_variable_itself, are_variables, has_values, is_kind_of, is_variable_of, is_fitting, are_fitting, is_fitting_answer, put_into, leaf_value}
 use Rattle.evaluation.proofs.Applying.{for-bindings, new-value}
-use Rattle.root_goals.specs.Roots.{left_by}
+use Rattle.solver_context.specs.Roots.{left_by}
 
 -- ---- leaves in pairs
 -- one leaf twice, or two lifetimes

@@ -19,8 +19,8 @@ use Rattle.goal_frames.specs.declared.store.ResponseId.{ResponseId}
 use Rattle.goal_frames.specs.declared.frame.GoalFrame.{GoalFrame}
 use Rattle.goal_frames.specs.Searches.{Handles, Asked}
 use Rattle.evaluation.specs.Tables.{frame_tables}
-use Rattle.root_goals.specs.declared.context.SolverCx.{SolverCx}
-use Rattle.root_goals.specs.Searching.{handles}
+use Rattle.solver_context.specs.declared.context.SolverCx.{SolverCx}
+use Rattle.solver_context.specs.Searching.{handles}
 use Rattle.text_definitions.specs.Declarations.{Declarations, Question}
 use Rattle.view_lowering.specs.Plain.{plain_label, plain, all_kept, unbound_reference}
 use Rattle.view_lowering.specs.Questions.{IsQuestion}

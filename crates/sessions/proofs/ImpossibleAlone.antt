@@ -32,15 +32,15 @@ use Rattle.search_graph.specs.SearchState.{SearchState}
 use Rattle.goal_frames.specs.declared.frame.GoalFrame.{GoalFrame}
 use Rattle.goal_frames.specs.declared.store.InputId.{InputId}
 use Rattle.goal_frames.specs.declared.store.ResponseId.{ResponseId}
-use Rattle.root_goals.specs.declared.context.SolverCx.{SolverCx}
-use Rattle.root_goals.specs.declared.outcome.GoalEvaluation.{GoalEvaluation}
-use Rattle.root_goals.specs.declared.outcome.RootError.{RootError}
-use Rattle.root_goals.specs.declared.outcome.RootError.TheVariants.{Conflict}
-use Rattle.root_goals.specs.Contexts.{Asked, entries_of}
-use Rattle.root_goals.specs.Evaluations.{IsFound, asked_in}
-use Rattle.root_goals.specs.Roots.{AtProvedSolutions, goal_in, fact_under, values_in}
-use Rattle.root_goals.specs.Searching.{solver_meaning}
-use Rattle.root_goals.specs.Shortages.{RootRunsOut, HasNoForm, form, answer}
+use Rattle.solver_context.specs.declared.context.SolverCx.{SolverCx}
+use Rattle.solver_context.specs.declared.outcome.GoalEvaluation.{GoalEvaluation}
+use Rattle.solver_context.specs.declared.outcome.RootError.{RootError}
+use Rattle.solver_context.specs.declared.outcome.RootError.TheVariants.{Conflict}
+use Rattle.solver_context.specs.Contexts.{Asked, entries_of}
+use Rattle.solver_context.specs.Evaluations.{IsFound, asked_in}
+use Rattle.solver_context.specs.Roots.{AtProvedSolutions, goal_in, fact_under, values_in}
+use Rattle.solver_context.specs.Searching.{solver_meaning}
+use Rattle.solver_context.specs.Shortages.{RootRunsOut, HasNoForm, form, answer}
 use Rattle.goal_frames.specs.Meanings.{HandlerMeaning}
 use Rattle.sessions.specs.Impossible.{alone, resolved_alone, asked_alone, HasNoProof, IsImpossible, IsAnswered, IsLeftOpen, IsNoRefusal, GoalRunsOut}
 

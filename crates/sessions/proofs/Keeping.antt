@@ -13,10 +13,10 @@ use Rattle.search_graph.specs.SearchState.{SearchState}
 use Rattle.declarations.specs.Items.{Items, written, declared}
 use Rattle.infer_table.specs.Canonical.{canonical_form}
 use Rattle.goal_frames.specs.Handlers.{same_answer, applies_always}
-use Rattle.root_goals.specs.declared.context.SolverCx.{SolverCx}
-use Rattle.root_goals.specs.Contexts.{entries_of, IsReady as IsReadyContext}
-use Rattle.root_goals.specs.Evaluations.{IsFound}
-use Rattle.root_goals.specs.Searching.{solver_meaning}
+use Rattle.solver_context.specs.declared.context.SolverCx.{SolverCx}
+use Rattle.solver_context.specs.Contexts.{entries_of, IsReady as IsReadyContext}
+use Rattle.solver_context.specs.Evaluations.{IsFound}
+use Rattle.solver_context.specs.Searching.{solver_meaning}
 use Rattle.text_definitions.specs.Declarations.{Declarations, Question}
 use Rattle.view_lowering.specs.Plain.{plainly_seen_from, unbound_reference}
 use Rattle.view_lowering.specs.Seen.{rules_seen_from}

@@ -18,8 +18,8 @@ use Rattle.declarations.proofs.Growth.{all-declared}
 use Rattle.declarations.specs.declared.items.ImplDef.{ImplDef}
 use Rattle.text_definitions.specs.Declarations.{Declarations, NamedImpl, LaterImpl, section_impls}
 use Rattle.view_lowering.specs.Later.{added_impls, added_in, unnumbered}
-use Rattle.root_goals.specs.declared.context.SolverCx.{SolverCx}
-use Rattle.root_goals.specs.Contexts.{entries_of}
+use Rattle.solver_context.specs.declared.context.SolverCx.{SolverCx}
+use Rattle.solver_context.specs.Contexts.{entries_of}
 use Rattle.candidate_assembly.specs.declared.solver.Solver.{Solver}
 use Rattle.view_lowering.specs.Plain.{plain_impl, all_kept}
 use Rattle.view_lowering.specs.Seen.{rules_seen_from}

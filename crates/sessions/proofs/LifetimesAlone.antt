@@ -27,7 +27,7 @@ use Rattle.evaluation.proofs.Equating.{in-turn-keeps, lifetimes-good, further-ap
 use Rattle.evaluation.proofs.Nodes.{every-leaf}
 use Rattle.evaluation.proofs.TableBeginning.{below-is}
 use Rattle.assembly_laws.proofs.Plain.{is-sort}
-use Rattle.root_goals.specs.Roots.{left_by, values_in}
+use Rattle.solver_context.specs.Roots.{left_by, values_in}
 use Rattle.sessions.specs.Asking.{goal_alone}
 
 -- ---- lifetimes as leaves

@@ -21,7 +21,7 @@ use Rattle.evaluation.specs.TableAnswers.{has_values}
 use Rattle.evaluation.specs.Tables.{frame_tables}
 use Rattle.evaluation.proofs.Labels.{IsGoodLabel, made-labels}
 use Rattle.evaluation.proofs.Reading.{EachLabel}
-use Rattle.root_goals.specs.Roots.{left_by}
+use Rattle.solver_context.specs.Roots.{left_by}
 use Rattle.declarations.specs.Elaboration.{elaborate}
 use Rattle.declarations.specs.Items.{written}
 use Rattle.text_definitions.specs.Declarations.{Declarations, Question}

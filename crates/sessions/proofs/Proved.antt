@@ -10,7 +10,7 @@ use Rattle.infer_table.specs.declared.goal.Goal.{Goal}
 use Rattle.evaluation.proofs.Readings.{HasLeaves}
 use Rattle.evaluation.specs.Content.{Fact, trait_of}
 use Rattle.evaluation.specs.Proof as Lists
-use Rattle.root_goals.proofs.Leaves.{goal-leaves}
+use Rattle.solver_context.proofs.Leaves.{goal-leaves}
 use Rattle.sessions.specs.Proved.{ValuesAreProved}
 use Rattle.sessions.proofs.Itself.{themselves, themselves-solve, themselves-read}
 

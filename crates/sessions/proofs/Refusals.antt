@@ -14,7 +14,7 @@ use Rattle.infer_table.specs.Canonical.{GoalTrees, CanonicalForm, canonical_form
 use Rattle.infer_table.specs.Responses.{AnswerTrees}
 use Rattle.infer_table.specs.Solutions.{Assignment, IsSorted, instance}
 use Rattle.infer_table.specs.declared.certainty.TypingMode.TheVariants.{Coherence}
-use Rattle.root_goals.specs.Roots.{fact_under}
+use Rattle.solver_context.specs.Roots.{fact_under}
 use Rattle.assembly_laws.specs.Meaning.{Meaning, LinkedWith, SelfTypesBegin, Place, by_view, in_set, proved_at}
 use Rattle.assembly_laws.specs.Solver.{solver_handled}
 use Rattle.overlap_check.specs.Verdicts.{placed}

@@ -4,8 +4,8 @@ use Rattle.std.specs.Prelude.{IfOk, slice_get}
 use Rattle.type_terms.specs.Terms.{Entry}
 use Rattle.type_terms.specs.declared.Fault.{Fault}
 use Rattle.search_graph.specs.SearchState.{SearchState}
-use Rattle.root_goals.specs.Contexts.{entries_of}
-use Rattle.root_goals.specs.declared.context.SolverCx.{SolverCx}
+use Rattle.solver_context.specs.Contexts.{entries_of}
+use Rattle.solver_context.specs.declared.context.SolverCx.{SolverCx}
 use Rattle.text_definitions.specs.Declarations.{Declarations, Question}
 use Rattle.view_lowering.specs.Questions.{IsQuestion}
 use Rattle.candidate_assembly.specs.Fitting.{solving_of}

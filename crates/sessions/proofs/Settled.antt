@@ -28,11 +28,11 @@ use Rattle.evaluation.specs.declared.goal.HasChanged.TheVariants as Changed
 use Rattle.goal_frames.specs.Searches.{is_yes_answer}
 use Rattle.goal_frames.specs.declared.store.InputId.{InputId}
 use Rattle.goal_frames.specs.declared.store.ResponseId.{ResponseId}
-use Rattle.root_goals.specs.Changes.{changed}
-use Rattle.root_goals.specs.Contexts.{entries_of}
-use Rattle.root_goals.specs.Roots.{fact_under, IsProved}
-use Rattle.root_goals.specs.Shortages.{RootRunsOut, form, answer}
-use Rattle.root_goals.specs.declared.context.SolverCx.{SolverCx}
+use Rattle.solver_context.specs.Changes.{changed}
+use Rattle.solver_context.specs.Contexts.{entries_of}
+use Rattle.solver_context.specs.Roots.{fact_under, IsProved}
+use Rattle.solver_context.specs.Shortages.{RootRunsOut, form, answer}
+use Rattle.solver_context.specs.declared.context.SolverCx.{SolverCx}
 use Rattle.goal_frames.specs.Meanings.{HandlerMeaning}
 use Rattle.sessions.specs.Settling.{m, HasAsked, IsProvedBy, RunsOut, SomeAskingRunsOut}
 

@@ -40,7 +40,7 @@ use Rattle.candidate_assembly.specs.SolverMeaning.{goals_by_view}
 use Rattle.candidate_assembly.specs.SolverLaws.{goals-are-lawful}
 use Rattle.view_lowering.specs.Ready.{AreSeen, OfTexts}
 use Rattle.view_lowering.proofs.WellSeen.{texts-seen-well}
-use Rattle.root_goals.specs.Roots.{question_of, values_under}
+use Rattle.solver_context.specs.Roots.{question_of, values_under}
 use Rattle.solver_exactness.specs.FormedAnswers.{IsFormedGoal, AreDeclared}
 use Rattle.solver_exactness.specs.FormedFacts.{Sorts, IsFormed, IsFormedFact, IsFormedView}
 use Rattle.solver_exactness.specs.SolverAnswers.{solver_programs, TellsPossible}

@@ -12,10 +12,10 @@ use Rattle.infer_table.specs.declared.certainty.TypingMode.TheVariants.{Coherenc
 use Rattle.evaluation.specs.Handler.{Handled}
 use Rattle.evaluation.specs.Tables.{frame_tables}
 use Rattle.search_graph.specs.Plain.{IsNotPlain}
-use Rattle.root_goals.specs.Contexts.{Asked}
-use Rattle.root_goals.specs.Evaluations.{IsFound}
-use Rattle.root_goals.specs.Roots.{fact_under, left_by}
-use Rattle.root_goals.specs.Searching.{solver_meaning}
+use Rattle.solver_context.specs.Contexts.{Asked}
+use Rattle.solver_context.specs.Evaluations.{IsFound}
+use Rattle.solver_context.specs.Roots.{fact_under, left_by}
+use Rattle.solver_context.specs.Searching.{solver_meaning}
 use Rattle.goal_frames.specs.Meanings.{HandlerMeaning}
 
 -- ---- goals

@@ -16,8 +16,8 @@ use Rattle.overlap_check.specs.Partners.{IsPairAt}
 use Rattle.overlap_check.specs.SessionLaws.{IsPassed}
 use Rattle.overlap_check.specs.Verdicts.{IsPair, IsOverlap}
 use Rattle.overlap_check.specs.declared.intersection.ImplIntersection.{ImplIntersection}
-use Rattle.root_goals.specs.declared.context.SolverCx.{SolverCx}
-use Rattle.root_goals.specs.Contexts.{entries_of, IsReady as IsReadyContext, Advances}
+use Rattle.solver_context.specs.declared.context.SolverCx.{SolverCx}
+use Rattle.solver_context.specs.Contexts.{entries_of, IsReady as IsReadyContext, Advances}
 use Rattle.candidate_assembly.specs.declared.solver.Solver.{Solver}
 use Rattle.candidate_assembly.specs.Fitting.{solving_of}
 use Rattle.candidate_assembly.specs.Ready.{IsReady}

@@ -7,8 +7,8 @@ use Rattle.infer_table.specs.Canonical.{canonical_form}
 use Rattle.infer_table.specs.Responses.{AnswerTrees}
 use Rattle.infer_table.specs.declared.certainty.TypingMode.TheVariants.{PostAnalysis}
 use Rattle.search_graph.specs.Plain.{IsNotPlain}
-use Rattle.root_goals.specs.Contexts.{Asked}
-use Rattle.root_goals.specs.Evaluations.{IsFound}
+use Rattle.solver_context.specs.Contexts.{Asked}
+use Rattle.solver_context.specs.Evaluations.{IsFound}
 use Rattle.declarations.specs.Elaboration.{elaborate}
 use Rattle.declarations.specs.Items.{written}
 use Rattle.text_definitions.specs.Declarations.{Declarations, Question}

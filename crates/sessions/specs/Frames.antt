@@ -11,11 +11,11 @@ use Rattle.infer_table.specs.Unification.{TableTrees, table_trees}
 use Rattle.infer_table.specs.declared.goal.Goal.{Goal}
 use Rattle.search_graph.specs.Bound.{frame_bound}
 use Rattle.search_graph.specs.SearchState.{SearchState}
-use Rattle.root_goals.specs.Contexts.{Asked, entries_of}
-use Rattle.root_goals.specs.Evaluations.{IsFound}
-use Rattle.root_goals.specs.Roots.{left_by}
-use Rattle.root_goals.specs.declared.context.SolverCx.{SolverCx}
-use Rattle.root_goals.specs.Searching.{solver_meaning}
+use Rattle.solver_context.specs.Contexts.{Asked, entries_of}
+use Rattle.solver_context.specs.Evaluations.{IsFound}
+use Rattle.solver_context.specs.Roots.{left_by}
+use Rattle.solver_context.specs.declared.context.SolverCx.{SolverCx}
+use Rattle.solver_context.specs.Searching.{solver_meaning}
 use Rattle.goal_frames.specs.Meanings.{HandlerMeaning}
 use Rattle.candidate_assembly.specs.Solving.{Solving}
 use Rattle.candidate_assembly.specs.SolverMeaning.{solver_by_view}

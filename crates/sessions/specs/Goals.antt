@@ -11,7 +11,7 @@ use Rattle.infer_table.specs.Canonical.{GoalTrees}
 use Rattle.infer_table.specs.Solutions.{Assignment, IsSorted}
 use Rattle.evaluation.specs.Content.{fact_of}
 use Rattle.assembly_laws.specs.Facts.{tree_of_reference, trees_of_clauses, clauses_of, reference_in}
-use Rattle.root_goals.specs.Roots.{question_of, values_under}
+use Rattle.solver_context.specs.Roots.{question_of, values_under}
 use Rattle.solver_exactness.specs.FormedAnswers.{IsFormedGoal}
 use Rattle.solver_exactness.specs.FormedFacts.{Sorts, NodesFit, IsTraitOf, IsFormedView}
 use Rattle.solver_exactness.specs.SolverChoices.{IsElaborated}

@@ -19,16 +19,16 @@ use Rattle.overlap_check.specs.Headers.{IsOfTable}
 use Rattle.evaluation.specs.Handler.{Handled}
 use Rattle.evaluation.specs.Tables.{frame_tables}
 use Rattle.search_graph.specs.SearchState.{SearchState}
-use Rattle.root_goals.specs.declared.context.SolverCx.{SolverCx}
-use Rattle.root_goals.specs.declared.outcome.GoalEvaluation.{GoalEvaluation}
-use Rattle.root_goals.specs.declared.outcome.RootError.{RootError}
-use Rattle.root_goals.specs.declared.outcome.RootError.TheVariants.{Conflict}
-use Rattle.root_goals.specs.Contexts.{Asked, entries_of}
-use Rattle.root_goals.specs.Evaluations.{IsFound}
-use Rattle.root_goals.specs.Results.{IsNotPlainWithin}
-use Rattle.root_goals.specs.Roots.{fact_under}
-use Rattle.root_goals.specs.Searching.{solver_meaning, world_of}
-use Rattle.root_goals.specs.Shortages.{RootRunsOut}
+use Rattle.solver_context.specs.declared.context.SolverCx.{SolverCx}
+use Rattle.solver_context.specs.declared.outcome.GoalEvaluation.{GoalEvaluation}
+use Rattle.solver_context.specs.declared.outcome.RootError.{RootError}
+use Rattle.solver_context.specs.declared.outcome.RootError.TheVariants.{Conflict}
+use Rattle.solver_context.specs.Contexts.{Asked, entries_of}
+use Rattle.solver_context.specs.Evaluations.{IsFound}
+use Rattle.solver_context.specs.Results.{IsNotPlainWithin}
+use Rattle.solver_context.specs.Roots.{fact_under}
+use Rattle.solver_context.specs.Searching.{solver_meaning, world_of}
+use Rattle.solver_context.specs.Shortages.{RootRunsOut}
 use Rattle.goal_frames.specs.Meanings.{HandlerMeaning}
 
 -- The reference as a goal without where-clauses.

@@ -9,7 +9,7 @@ use Rattle.infer_table.specs.Solutions.{Assignment, Binding, Solves, resolved}
 use Rattle.infer_table.specs.declared.goal.Goal.{Goal}
 use Rattle.evaluation.specs.Content.{Fact, trait_of}
 use Rattle.evaluation.specs.Proof as Lists
-use Rattle.root_goals.specs.Roots.{fact_under}
+use Rattle.solver_context.specs.Roots.{fact_under}
 
 -- the goal with the values of these bindings put in, without lifetimes: an unknown without a value stands for itself
 abbrev pub fact_with_values : List Binding → GoalTrees → Fact

@@ -21,11 +21,11 @@ use Rattle.evaluation.specs.Content.{Fact}
 use Rattle.evaluation.specs.Proof as Lists
 use Rattle.evaluation.specs.Tables.{frame_tables}
 use Rattle.goal_frames.specs.Searches.{is_yes_answer}
-use Rattle.root_goals.specs.Contexts.{Asked, Advances, IsReady as IsReadyContext, entries_of}
-use Rattle.root_goals.specs.Evaluations.{IsFound}
-use Rattle.root_goals.specs.Roots.{left_by}
-use Rattle.root_goals.specs.Searching.{solver_meaning}
-use Rattle.root_goals.specs.declared.context.SolverCx.{SolverCx}
+use Rattle.solver_context.specs.Contexts.{Asked, Advances, IsReady as IsReadyContext, entries_of}
+use Rattle.solver_context.specs.Evaluations.{IsFound}
+use Rattle.solver_context.specs.Roots.{left_by}
+use Rattle.solver_context.specs.Searching.{solver_meaning}
+use Rattle.solver_context.specs.declared.context.SolverCx.{SolverCx}
 use Rattle.candidate_assembly.specs.declared.solver.Solver.{Solver}
 use Rattle.candidate_assembly.specs.Fitting.{solving_of}
 use Rattle.candidate_assembly.specs.Ready.{IsReady}

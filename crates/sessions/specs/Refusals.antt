@@ -8,9 +8,9 @@ use Rattle.search_graph.specs.Meaning.{Meaning}
 use Rattle.goal_frames.specs.declared.store.InputId.{InputId}
 use Rattle.goal_frames.specs.declared.store.ResponseId.{ResponseId}
 use Rattle.goal_frames.specs.declared.frame.GoalFrame.{GoalFrame}
-use Rattle.root_goals.specs.declared.context.SolverCx.{SolverCx}
-use Rattle.root_goals.specs.Evaluations.{IsFound}
-use Rattle.root_goals.specs.Searching.{solver_meaning}
+use Rattle.solver_context.specs.declared.context.SolverCx.{SolverCx}
+use Rattle.solver_context.specs.Evaluations.{IsFound}
+use Rattle.solver_context.specs.Searching.{solver_meaning}
 use Rattle.text_definitions.specs.Declarations.{Declarations}
 use Rattle.candidate_assembly.specs.declared.solver.Solver.{Solver}
 use Rattle.candidate_assembly.specs.Solving.{Solving}

@@ -7,8 +7,8 @@ use Rattle.text_definitions.specs.Declarations.{Declarations}
 use Rattle.view_lowering.specs.Plain.{plainly_seen_from}
 use Rattle.view_lowering.specs.Seen.{rules_seen_from}
 use Rattle.view_lowering.specs.Ready.{AreSeen}
-use Rattle.root_goals.specs.declared.context.SolverCx.{SolverCx}
-use Rattle.root_goals.specs.Contexts.{entries_of}
+use Rattle.solver_context.specs.declared.context.SolverCx.{SolverCx}
+use Rattle.solver_context.specs.Contexts.{entries_of}
 use Rattle.candidate_assembly.specs.declared.solver.Solver.{Solver}
 use Rattle.candidate_assembly.specs.Fitting.{solving_of}
 use Rattle.candidate_assembly.specs.Solving.{Solving}

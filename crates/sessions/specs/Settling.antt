@@ -20,13 +20,13 @@ use Rattle.goal_frames.specs.Searches.{is_yes_answer}
 use Rattle.goal_frames.specs.declared.frame.GoalFrame.{GoalFrame}
 use Rattle.goal_frames.specs.declared.store.InputId.{InputId}
 use Rattle.goal_frames.specs.declared.store.ResponseId.{ResponseId}
-use Rattle.root_goals.specs.Contexts.{entries_of, IsReady}
-use Rattle.root_goals.specs.Evaluations.{asked_in, IsFound}
-use Rattle.root_goals.specs.Results.{IsNotPlainWithin}
-use Rattle.root_goals.specs.Roots.{goal_in, fact_under, left_by}
-use Rattle.root_goals.specs.Searching.{solver_meaning}
-use Rattle.root_goals.specs.Shortages.{RootRunsOut}
-use Rattle.root_goals.specs.declared.context.SolverCx.{SolverCx}
+use Rattle.solver_context.specs.Contexts.{entries_of, IsReady}
+use Rattle.solver_context.specs.Evaluations.{asked_in, IsFound}
+use Rattle.solver_context.specs.Results.{IsNotPlainWithin}
+use Rattle.solver_context.specs.Roots.{goal_in, fact_under, left_by}
+use Rattle.solver_context.specs.Searching.{solver_meaning}
+use Rattle.solver_context.specs.Shortages.{RootRunsOut}
+use Rattle.solver_context.specs.declared.context.SolverCx.{SolverCx}
 use Rattle.goal_frames.specs.Meanings.{HandlerMeaning}
 
 module _ {Handler : Type 0} (handler : HandlerMeaning Handler) where

@@ -3,11 +3,11 @@
 ghost use Rattle.std.specs.Prelude.{◌≡◌, IfOk};
 ghost use Rattle.text_definitions.specs.Declarations.{Question};
 ghost use Rattle.view_lowering.specs.Questions.{IsQuestion, IsLowered};
-ghost use Rattle.root_goals.specs.Contexts.{IsReady, InternerGrows, Advances};
+ghost use Rattle.solver_context.specs.Contexts.{IsReady, InternerGrows, Advances};
 ghost use Rattle.sessions.specs.Resting.{AreAtRest};
 
 use goal_frames::GoalHandler;
-use root_goals::{SolverCx, context_laws};
+use solver_context::{SolverCx, context_laws};
 use type_terms::Fault;
 use view_lowering::{LoweredQuestion, lower_question};
 use workspace::Workspace;

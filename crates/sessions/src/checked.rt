@@ -21,8 +21,8 @@ use overlap_check::heads::headers_differ;
 use overlap_check::intersection::{ImplIntersection, impl_intersection};
 use overlap_check::orphans::first_orphan;
 use overlap_check::partners::pair_at;
-use root_goals::{SolverCx, SolverGraph};
 use search_graph::{GlobalCache, SearchGraph};
+use solver_context::{SolverCx, SolverGraph};
 use type_terms::kinds::Ty;
 use type_terms::{Fault, ImplId};
 

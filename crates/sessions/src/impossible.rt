@@ -5,8 +5,8 @@ ghost use Rattle.infer_table.specs.Content.{Table, Ready, Grows, place_in};
 ghost use Rattle.declarations.specs.Held.{ReferenceHeld};
 ghost use Rattle.search_graph.specs.Cache.{AreJustified, AreConsistent, KeepsResults};
 ghost use Rattle.search_graph.specs.Meaning as Search;
-ghost use Rattle.root_goals.specs.Contexts.{IsReady};
-ghost use Rattle.root_goals.specs.Searching.{solver_meaning, IsFull};
+ghost use Rattle.solver_context.specs.Contexts.{IsReady};
+ghost use Rattle.solver_context.specs.Searching.{solver_meaning, IsFull};
 ghost use Rattle.sessions.specs.Impossible.{IsImpossible, IsLeftOpen, IsNoRefusal, GoalRunsOut};
 
 use evaluation::TypingMode;
@@ -14,8 +14,8 @@ use goal_frames::GoalHandler;
 use infer_table::goal::Goal;
 use infer_table::infer_ctxt::InferCtxt;
 use infer_table::terms::Snapshot;
-use root_goals::{GoalEvaluation, RootError, SolverCx, SolverGraph, evaluate_root_goal};
 use search_graph::{GlobalCache, SearchGraph};
+use solver_context::{GoalEvaluation, RootError, SolverCx, SolverGraph, evaluate_root_goal};
 use term_folds::predicate::{TraitPredicate, TraitRef};
 use type_terms::Fault;
 

@@ -25,7 +25,7 @@ use declarations::items::ImplDef;
 use orphan_check::laws::walks_and_errors;
 use orphan_check::open_walk::open_walk_meets_param;
 use orphan_check::orphan::keeps_orphan_rule;
-use root_goals::SolverCx;
+use solver_context::SolverCx;
 use term_folds::predicate::TraitRef;
 use type_terms::interner::Interner;
 use type_terms::{

@@ -8,16 +8,16 @@ ghost use Rattle.declarations.specs.Applied.{AllHeld};
 ghost use Rattle.declarations.specs.Merges.{Each};
 ghost use Rattle.search_graph.specs.Cache.{AreJustified, AreConsistent, KeepsResults};
 ghost use Rattle.search_graph.specs.Meaning as Search;
-ghost use Rattle.root_goals.specs.Contexts.{IsReady};
-ghost use Rattle.root_goals.specs.Searching.{solver_meaning, IsFull};
+ghost use Rattle.solver_context.specs.Contexts.{IsReady};
+ghost use Rattle.solver_context.specs.Searching.{solver_meaning, IsFull};
 ghost use Rattle.sessions.specs.Impossible.{IsImpossible, IsLeftOpen, GoalRunsOut};
 
 use crate::impossible::is_impossible;
 use goal_frames::GoalHandler;
 use infer_table::infer_ctxt::InferCtxt;
 use overlap_check::intersection::ImplIntersection;
-use root_goals::{SolverCx, SolverGraph};
 use search_graph::{GlobalCache, SearchGraph};
+use solver_context::{SolverCx, SolverGraph};
 use term_folds::predicate::TraitRef;
 use type_terms::Fault;
 

@@ -1,7 +1,7 @@
 //! A goal, asked until its answer is settled.
 
 ghost use Rattle.std.specs.Prelude.{◌≡◌, ◌-◌, ◌⊎◌, Ok, Err};
-ghost use Rattle.root_goals.specs.Searching.{IsFull};
+ghost use Rattle.solver_context.specs.Searching.{IsFull};
 ghost use Rattle.sessions.specs.Frames.{AskingsOf, IsLeftByAnswer, StartsFramesOfAsking};
 ghost use Rattle.sessions.specs.declared.settling.TheConstants.{MAX_ASKINGS};
 ghost use Rattle.sessions.specs.Settling.{IsAskable, HasAsked, IsProvedBy, IsRefused, IsUnsettled, RunsOut, SomeAskingRunsOut};
@@ -10,8 +10,8 @@ use evaluation::{Certainty, HasChanged, TypingMode};
 use goal_frames::GoalHandler;
 use infer_table::goal::Goal;
 use infer_table::infer_ctxt::InferCtxt;
-use root_goals::{RootError, SolverCx, SolverGraph, evaluate_root_goal};
 use search_graph::{GlobalCache, SearchGraph};
+use solver_context::{RootError, SolverCx, SolverGraph, evaluate_root_goal};
 use type_terms::Fault;
 
 /// How often a goal is asked at most: values of an answer may make the next one definite.

@@ -5,7 +5,7 @@ use Rattle.infer_table.specs.Canonical.{CanonicalForm}
 use Rattle.infer_table.specs.Responses.{AnswerTrees}
 use Rattle.evaluation.specs.Tables.{frame_tables}
 use Rattle.goal_frames.specs.Programs.{ArePrograms}
-use Rattle.root_goals.specs.Searching.{handles}
+use Rattle.solver_context.specs.Searching.{handles}
 use Rattle.assembly_laws.specs.Meaning.{Meaning}
 use Rattle.solver_exactness.specs.SolverAnswers.{solver_programs}
 use Rattle.solver_exactness.specs.RootAnswers.{solver_in, declared_in, RootsAreExact, RootsAreRight, RootsTellPossible}

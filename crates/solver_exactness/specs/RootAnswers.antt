@@ -13,10 +13,10 @@ use Rattle.goal_frames.specs.Meanings.{HandlerMeaning}
 use Rattle.goal_frames.specs.declared.store.InputId.{InputId}
 use Rattle.goal_frames.specs.declared.store.ResponseId.{ResponseId}
 use Rattle.goal_frames.specs.declared.frame.GoalFrame.{GoalFrame}
-use Rattle.root_goals.specs.declared.context.SolverCx.{SolverCx}
-use Rattle.root_goals.specs.Contexts.{entries_of}
-use Rattle.root_goals.specs.Evaluations.{IsFound}
-use Rattle.root_goals.specs.Searching.{solver_meaning}
+use Rattle.solver_context.specs.declared.context.SolverCx.{SolverCx}
+use Rattle.solver_context.specs.Contexts.{entries_of}
+use Rattle.solver_context.specs.Evaluations.{IsFound}
+use Rattle.solver_context.specs.Searching.{solver_meaning}
 use Rattle.solver_exactness.specs.Ways.{HasShortChains, IsExactFor, IsRightFor}
 use Rattle.assembly_laws.specs.Facts.{clauses_of, reference_in}
 use Rattle.assembly_laws.specs.Meaning.{Meaning}

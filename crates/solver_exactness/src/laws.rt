@@ -64,7 +64,7 @@ pub fn formed_goals_are_searched_right<S: SolverSearching>()
     ensures possible { FormedTellsPossible S.applicable S.same S.meaning_of S.fits_in S.handles }
 {}
 
-/// A handler in a context of `root_goals` that means what the solver means, for the declarations that it holds over an interner.
+/// A handler in a context of `solver_context` that means what the solver means, for the declarations that it holds over an interner.
 pub trait RootSearching {
     /// What a handler declares.
     ghost World: { Type 0 };

@@ -1,7 +1,7 @@
 -- Numbers that are too large.
 use Rattle.std.proofs.Common.{◌≡◌, ℕ, ◌+◌, ◌-◌, ◌*◌, ◌<◌, ◌≤◌, List, length, drop, get_or, sym, ◌∙◌, arith}
 use Rattle.text_definitions.specs.Tokens.{number_from}
-use Rattle.line_faults.proofs.Numbers.{number-grows, number-step}
+use Rattle.name_resolution.proofs.Numbers.{number-grows, number-step}
 
 pub too-large : (m v i : ℕ) (ds : List ℕ) → i < length ds → m ≤ 10 * v + (get_or ds i 0 - 48) → number_from v (drop i ds) ≡ number_from 0 ds → number_from 0 ds < m → ⊥
 too-large m v i ds h k e l =

@@ -6,10 +6,10 @@ use Rattle.std.specs.Option.{option_map, option_and_then}
 use Rattle.type_terms.specs.Trees.{Trees}
 use Rattle.text_definitions.specs.Lowering.{Meanings}
 use Rattle.type_terms.specs.Label.{Label, auto_trait}
-use Rattle.line_faults.specs.Resolved.{ResolvedCell, node_cell, param_cell, variable_cell, lifetime_cell, reference_cell}
-use Rattle.line_faults.specs.Views.{resolved_in}
-use Rattle.line_faults.specs.declared.resolved.ResolvedCell as code
-use Rattle.line_faults.specs.Standing.{standing}
+use Rattle.name_resolution.specs.Resolved.{ResolvedCell, node_cell, param_cell, variable_cell, lifetime_cell, reference_cell}
+use Rattle.name_resolution.specs.Views.{resolved_in}
+use Rattle.name_resolution.specs.declared.resolved.ResolvedCell as code
+use Rattle.name_resolution.specs.Standing.{standing}
 use Rattle.workspace.specs.TermCells.{behind_cells, behind_cell, trees_of}
 use Rattle.workspace.specs.Made.{Part, parts_of, parts_behind, CellHeld, CellsHeld, AreMade}
 use Rattle.workspace.specs.Views.{cell_of, cells_of}

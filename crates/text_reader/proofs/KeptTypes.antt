@@ -24,14 +24,14 @@ use Rattle.line_reader.specs.Statement.{type_list}
 use Rattle.line_reader.specs.Places.{TypeStands, ClauseStands, EachOf}
 use Rattle.line_reader.specs.declared.statement.Span.{Span}
 use Rattle.line_reader.specs.declared.statement.ClauseSpans.{ClauseSpans}
-use Rattle.line_faults.specs.Machine.{Sight, items, params}
-use Rattle.line_faults.specs.Resolved.{type_before, args_before}
-use Rattle.line_faults.specs.Resolving.{ResolvesType, ResolvesBound, found_in, type_found}
-use Rattle.line_faults.specs.Views.{resolved_in, variable_in}
-use Rattle.line_faults.specs.declared.resolve.Resolved.{Resolved}
-use Rattle.line_faults.specs.declared.resolve.ResolvedBound.{ResolvedBound}
-use Rattle.line_faults.proofs.StandingLaws.{at-type}
-use Rattle.line_faults.proofs.Uses.{variables-append}
+use Rattle.name_resolution.specs.Machine.{Sight, items, params}
+use Rattle.name_resolution.specs.Resolved.{type_before, args_before}
+use Rattle.name_resolution.specs.Resolving.{ResolvesType, ResolvesBound, found_in, type_found}
+use Rattle.name_resolution.specs.Views.{resolved_in, variable_in}
+use Rattle.name_resolution.specs.declared.resolve.Resolved.{Resolved}
+use Rattle.name_resolution.specs.declared.resolve.ResolvedBound.{ResolvedBound}
+use Rattle.name_resolution.proofs.StandingLaws.{at-type}
+use Rattle.name_resolution.proofs.Uses.{variables-append}
 use Rattle.workspace.specs.TermCells.{trees_of, joined}
 use Rattle.workspace.specs.Made.{Part, type_part, is_arg, is_type, AreMade, ReferenceMade, ReferencesMade}
 use Rattle.workspace.specs.Views.{cells_of, reference_of}

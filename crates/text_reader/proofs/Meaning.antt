@@ -23,9 +23,9 @@ use Rattle.line_reader.specs.declared.statement.Span.{Span}
 use Rattle.line_reader.specs.declared.statement.ClauseSpans.{ClauseSpans}
 use Rattle.line_reader.specs.declared.statement.LineRead.{LineRead}
 use Rattle.line_reader.proofs.Standing.{read-stands}
-use Rattle.line_faults.specs.Machine.{Sight, items, params}
-use Rattle.line_faults.specs.Views.{variable_in}
-use Rattle.line_faults.specs.declared.resolved.Variable.{Variable}
+use Rattle.name_resolution.specs.Machine.{Sight, items, params}
+use Rattle.name_resolution.specs.Views.{variable_in}
+use Rattle.name_resolution.specs.declared.resolved.Variable.{Variable}
 use Rattle.text_reader.specs.Declaring.{IsFaultless}
 use Rattle.text_reader.specs.Kept.{IsSightOf, IsReady, NumberingFits, MeansFields, MeansClause, MeansClauses, MeansBounds, AsksVariables}
 use Rattle.text_reader.specs.Meant.{NumbersFit}

@@ -6,7 +6,7 @@ use Rattle.text_definitions.specs.Declarations.{kinds_of}
 use Rattle.text_definitions.specs.Uses.{params_of}
 use Rattle.line_reader.specs.Statement.{Param, lifetime_param, type_param, const_param, param_list, Statement, crate_statement, struct_statement, trait_statement, impl_statement, prove_statement, refute_statement, later_statement, supers_statement, line_statement}
 use Rattle.line_reader.specs.Says.{params_said}
-use Rattle.line_faults.specs.Speaks.{Speaks}
+use Rattle.name_resolution.specs.Speaks.{Speaks}
 use Rattle.text_reader.specs.BareLines.{sort_of_param, names_of_sort, params_from, bare_line}
 
 const-lifetimes : (cs : List (List ℕ)) → names_of_sort of_lifetime (map const_param cs) ≡ []

@@ -3,7 +3,7 @@ use Rattle.std.proofs.Common.{◌≡◌, ℕ, List, Result, Ok, Err, refl, subst
 use Rattle.text_definitions.specs.Declarations.{Declarations}
 use Rattle.text_definitions.specs.Text.{TextGives}
 use Rattle.line_reader.proofs.Outcome.{one_outcome}
-use Rattle.line_faults.specs.FaultNumbers.{fault_number}
+use Rattle.name_resolution.specs.FaultNumbers.{fault_number}
 use Rattle.text_reader.specs.Outcomes.{IsTextError}
 use Rattle.text_reader.specs.declared.fault.TextError.{TextError}
 use Rattle.text_reader.specs.declared.fault.TextError.TheVariants as errors

@@ -7,9 +7,9 @@ use Rattle.line_reader.specs.Lines.{ReadsLine}
 use Rattle.line_reader.specs.Statement.{line_statement}
 use Rattle.line_reader.specs.Views.{statement_of}
 use Rattle.line_reader.specs.declared.statement.LineRead.{LineRead}
-use Rattle.line_faults.specs.Machine.{Sight}
-use Rattle.line_faults.specs.Speaks.{Speaks}
-use Rattle.line_faults.proofs.Bare.{same-items, same-params}
+use Rattle.name_resolution.specs.Machine.{Sight}
+use Rattle.name_resolution.specs.Speaks.{Speaks}
+use Rattle.name_resolution.proofs.Bare.{same-items, same-params}
 use Rattle.text_reader.specs.BareLines.{bare_line}
 use Rattle.text_reader.specs.Sights.{IsSightOfRead}
 use Rattle.text_reader.proofs.Ordering.{line-ordered, speaks-bare}

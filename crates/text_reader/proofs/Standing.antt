@@ -7,10 +7,10 @@ use Rattle.type_terms.specs.Trees.{Trees, none, tree, leaf, ◌+++◌}
 use Rattle.text_definitions.specs.Syntax.{Args, no_args, and_arg, Arg, lifetime_arg, number_arg, type_arg}
 use Rattle.text_definitions.specs.Uses.{next_kind, other_kinds}
 use Rattle.text_definitions.specs.Lowering.{Meanings, arg_tree, args_trees}
-use Rattle.line_faults.specs.Resolved.{ResolvedCell, node_cell, param_cell, variable_cell, lifetime_cell, reference_cell, args_before, arg_before}
-use Rattle.line_faults.specs.Standing as standing
-use Rattle.line_faults.specs.Standing.{behind, standing}
-use Rattle.line_faults.proofs.StandingLaws.{at-type, at-region}
+use Rattle.name_resolution.specs.Resolved.{ResolvedCell, node_cell, param_cell, variable_cell, lifetime_cell, reference_cell, args_before, arg_before}
+use Rattle.name_resolution.specs.Standing as standing
+use Rattle.name_resolution.specs.Standing.{behind, standing}
+use Rattle.name_resolution.proofs.StandingLaws.{at-type, at-region}
 use Rattle.workspace.specs.TermCells as term
 use Rattle.workspace.specs.TermCells.{behind_cell, behind_cells, joined}
 use Rattle.workspace.specs.Made.{Part, is_arg}

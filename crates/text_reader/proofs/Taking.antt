@@ -11,8 +11,8 @@ use Rattle.text_definitions.specs.Text.{LineGives, other_byte, blank, unwritten,
 use Rattle.line_reader.specs.TypeViews.{cell_of}
 use Rattle.workspace.specs.Numbered.{IsFew}
 use Rattle.line_reader.specs.declared.statement.LineRead.{LineRead}
-use Rattle.line_faults.specs.FaultNumbers.{fault_number}
-use Rattle.line_faults.specs.declared.fault.FaultKind.{FaultKind}
+use Rattle.name_resolution.specs.FaultNumbers.{fault_number}
+use Rattle.name_resolution.specs.declared.fault.FaultKind.{FaultKind}
 use Rattle.text_reader.specs.Lines.{line_too_far}
 use Rattle.text_reader.specs.Forms.{IsForm}
 use Rattle.text_reader.specs.Declaring.{FindsFault, AddsLine}

@@ -12,8 +12,8 @@ use Rattle.text_definitions.specs.Declarations.{Declarations, Known, a_crate, a_
 use Rattle.text_definitions.specs.Uses.{Use, items_use, trait_use, next_kind, other_kinds, kinds_of_struct, kinds_of_trait, types_count, args_count, lifetime_uses, length_uses, binder_uses, item_shape, item_shapes, type_uses, types_uses, args_uses, arg_uses, item_uses, items_uses}
 use Rattle.text_definitions.specs.Faults.{is_among, is_auto_name, is_bound, is_late, binds_auto, has_early_lifetime, static_name}
 use Rattle.text_definitions.specs.Lowering.{Meanings, place_among, trait_number, struct_label, inserted, with_auto, autos}
-use Rattle.line_faults.specs.Resolved.{Region, bound_region, ResolvedCell, node_cell, param_cell, lifetime_cell, reference_cell, region_under, region_of, optional_region, named_cell, length_cell, autos_before, principals_count, principals, item_region, last_region, dyn_before, type_before, types_before, args_before, arg_before, item_before, items_before}
-use Rattle.line_faults.specs.Standing.{first_of_sort}
+use Rattle.name_resolution.specs.Resolved.{Region, bound_region, ResolvedCell, node_cell, param_cell, lifetime_cell, reference_cell, region_under, region_of, optional_region, named_cell, length_cell, autos_before, principals_count, principals, item_region, last_region, dyn_before, type_before, types_before, args_before, arg_before, item_before, items_before}
+use Rattle.name_resolution.specs.Standing.{first_of_sort}
 use Rattle.workspace.specs.Made.{Part, type_part, const_part, lifetime_part, principal_part, auto_part, off_autos, off_principal, putting}
 use Rattle.text_reader.specs.Making.{IsSmall, RegionSmall, variable_number, how_many, Makes}
 use Rattle.text_reader.specs.Meant.{KnownFits, NumbersFit, FewNames, IsStruct, NameMeans, UsesMean}

@@ -8,8 +8,8 @@ use Rattle.text_definitions.specs.Faults.{fault_of}
 use Rattle.text_definitions.specs.Adding.{added}
 use Rattle.line_reader.specs.Lines.{ReadsLine}
 use Rattle.line_reader.specs.declared.statement.LineRead.{LineRead}
-use Rattle.line_faults.specs.FaultNumbers.{fault_number}
-use Rattle.line_faults.specs.declared.fault.FaultKind.{FaultKind}
+use Rattle.name_resolution.specs.FaultNumbers.{fault_number}
+use Rattle.name_resolution.specs.declared.fault.FaultKind.{FaultKind}
 
 -- some line was read
 abbrev pub IsRead : LineRead → Type 0

@@ -2,7 +2,7 @@
 use Rattle.std.specs.Prelude.{◌≡◌, List, [], ◌∷◌, ◌++◌, map, Some}
 use Rattle.type_terms.specs.Trees.{Trees}
 use Rattle.text_definitions.specs.Lowering.{Meanings}
-use Rattle.line_faults.specs.Resolved.{ResolvedCell}
+use Rattle.name_resolution.specs.Resolved.{ResolvedCell}
 use Rattle.workspace.specs.TermCells.{behind_cells}
 use Rattle.workspace.specs.Made.{Part, parts_of, CellsHeld}
 use Rattle.workspace.specs.Views.{cells_of}

@@ -14,9 +14,9 @@ use Rattle.line_reader.specs.Statement.{type_list}
 use Rattle.line_reader.specs.Places.{TypeStands, BoundStands, ClauseStands, EachOf}
 use Rattle.line_reader.specs.declared.statement.Span.{Span}
 use Rattle.line_reader.specs.declared.statement.ClauseSpans.{ClauseSpans}
-use Rattle.line_faults.specs.Machine.{Sight, items, params}
-use Rattle.line_faults.specs.Views.{variable_in}
-use Rattle.line_faults.specs.declared.resolved.Variable.{Variable}
+use Rattle.name_resolution.specs.Machine.{Sight, items, params}
+use Rattle.name_resolution.specs.Views.{variable_in}
+use Rattle.name_resolution.specs.declared.resolved.Variable.{Variable}
 use Rattle.workspace.specs.TermCells.{trees_of}
 use Rattle.workspace.specs.Made.{Part, AreMade, ReferenceMade, ReferencesMade, type_part, is_type}
 use Rattle.workspace.specs.Views.{cells_of, reference_of}

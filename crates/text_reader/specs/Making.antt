@@ -5,8 +5,8 @@ use Rattle.type_terms.specs.Label.{Label, Sort, of_type, of_const, of_lifetime, 
 use Rattle.type_terms.specs.Trees.{is_sort}
 use Rattle.type_terms.specs.declared.TheConstants.{MAX_INDEX}
 use Rattle.text_definitions.specs.Lowering.{Meanings, place_among, variable_label}
-use Rattle.line_faults.specs.Resolved.{Region, static_region, param_region, bound_region, ResolvedCell, node_cell, param_cell, variable_cell, lifetime_cell, reference_cell}
-use Rattle.line_faults.specs.Standing.{first_of_sort, region_label}
+use Rattle.name_resolution.specs.Resolved.{Region, static_region, param_region, bound_region, ResolvedCell, node_cell, param_cell, variable_cell, lifetime_cell, reference_cell}
+use Rattle.name_resolution.specs.Standing.{first_of_sort, region_label}
 use Rattle.workspace.specs.TermCells as term
 use Rattle.workspace.specs.Made.{Part, type_part, const_part, lifetime_part, principal_part, auto_part, is_type, is_const, is_lifetime, is_arg, off, off_autos, off_principal, putting}
 

@@ -5,10 +5,10 @@ use Rattle.type_terms.specs.Trees.{is_sort}
 use Rattle.type_terms.specs.Kinds as kinds
 use Rattle.type_terms.specs.declared.region.RegionKind.{RegionKind}
 use Rattle.text_definitions.specs.Lowering.{Meanings}
-use Rattle.line_faults.specs.Machine.{Sight, items, params}
-use Rattle.line_faults.specs.Resolved.{Region, ResolvedCell}
-use Rattle.line_faults.specs.Standing.{first_of_sort, region_label}
-use Rattle.line_faults.specs.Views.{variable_in}
+use Rattle.name_resolution.specs.Machine.{Sight, items, params}
+use Rattle.name_resolution.specs.Resolved.{Region, ResolvedCell}
+use Rattle.name_resolution.specs.Standing.{first_of_sort, region_label}
+use Rattle.name_resolution.specs.Views.{variable_in}
 use Rattle.workspace.specs.TermCells.{node_cell}
 use Rattle.workspace.specs.Made.{Part, type_part, parts_behind, CellHeld}
 use Rattle.workspace.specs.Views.{cell_of}

@@ -2,8 +2,8 @@
 use Rattle.std.specs.Prelude.{ℕ, List, Option, Ok, Err, MatchOption}
 use Rattle.text_definitions.specs.Declarations.{Declarations}
 use Rattle.text_definitions.specs.Text.{LineGives, LinesGive, TextGives}
-use Rattle.line_faults.specs.FaultNumbers.{fault_number}
-use Rattle.line_faults.specs.declared.fault.FaultKind.{FaultKind}
+use Rattle.name_resolution.specs.FaultNumbers.{fault_number}
+use Rattle.name_resolution.specs.declared.fault.FaultKind.{FaultKind}
 use Rattle.text_reader.specs.declared.fault.TextError.{TextError}
 use Rattle.text_reader.specs.declared.fault.TextError.TheVariants as errors
 

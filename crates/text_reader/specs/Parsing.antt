@@ -1,6 +1,6 @@
 -- What is wrong with a text.
 use Rattle.std.specs.Prelude.{◌≡◌, ℕ}
-use Rattle.line_faults.specs.FaultNumbers.{fault_number}
+use Rattle.name_resolution.specs.FaultNumbers.{fault_number}
 use Rattle.text_reader.specs.declared.fault.TextError.{TextError}
 use Rattle.text_reader.specs.declared.fault.TextError.TheVariants as errors
 

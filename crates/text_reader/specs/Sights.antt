@@ -7,7 +7,7 @@ use Rattle.text_definitions.specs.Uses.{params_of}
 use Rattle.line_reader.specs.Lines.{ReadsLine}
 use Rattle.line_reader.specs.Views.{statement_of}
 use Rattle.line_reader.specs.declared.statement.LineRead.{LineRead}
-use Rattle.line_faults.specs.Machine.{Sight, items, params}
+use Rattle.name_resolution.specs.Machine.{Sight, items, params}
 use Rattle.text_reader.specs.BareLines.{bare_line}
 use Rattle.text_reader.specs.declared.line_tables.LineTables.{LineTables}
 

@@ -2,14 +2,14 @@
 ghost use Rattle.std.specs.Prelude.{◌≡◌, ◌+◌, ◌<◌, ◌^◌};
 ghost use Rattle.type_terms.specs.Kinds.{is_mut};
 ghost use Rattle.line_reader.specs.TokenViews.{primitive_label};
-ghost use Rattle.line_faults.specs.Views.{label_in, resolved_in};
+ghost use Rattle.name_resolution.specs.Views.{label_in, resolved_in};
 ghost use Rattle.workspace.specs.Made.{CellHeld};
 ghost use Rattle.text_reader.specs.Making.{next_autos};
 ghost use Rattle.text_reader.specs.Numbering.{IsLeafCell, LabelStands};
 
 use crate::small::{number_of, small, trait_id};
-use line_faults::{NodeLabel, ResolvedCell};
 use line_reader::Primitive;
+use name_resolution::{NodeLabel, ResolvedCell};
 use type_terms::AdtId;
 use type_terms::kinds::{ConstKind, IntTy, Mutability, UintTy};
 use workspace::TermCell;

@@ -5,8 +5,8 @@ ghost use Rattle.text_reader.specs.Declaring.{IsRead, FindsFault, IsFaultless, A
 ghost use Rattle.workspace.specs.Numbered.{IsFew};
 
 use crate::lines::TEXT_LIMIT;
-use line_faults::FaultKind;
 use line_reader::LineRead;
+use name_resolution::FaultKind;
 use std::alloc::{AllocError, Global};
 use workspace::ENTRY_LIMIT;
 

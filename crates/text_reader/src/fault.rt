@@ -1,6 +1,6 @@
 //! Why a text gives no declarations.
 
-use line_faults::FaultKind;
+use name_resolution::FaultKind;
 use std::alloc::AllocError;
 
 /// The first faulty line, counted from 1, and of the faults in it the one with the smallest number.

@@ -4,15 +4,15 @@ ghost use Rattle.std.specs.Option.{option_map};
 ghost use Rattle.text_definitions.specs.Syntax.{Line};
 ghost use Rattle.text_definitions.specs.Faults.{fault_of};
 ghost use Rattle.line_reader.specs.Lines.{ReadsLine};
-ghost use Rattle.line_faults.specs.FaultNumbers.{fault_number};
+ghost use Rattle.name_resolution.specs.FaultNumbers.{fault_number};
 ghost use Rattle.workspace.specs.Numbered.{IsFew};
 ghost use Rattle.workspace.specs.Tables.{declared, IsConsistent};
 ghost use Rattle.text_reader.specs.Sights.{IsOfLine};
 
 use crate::line_tables::LineTables;
 use crate::so_far::SoFar;
-use line_faults::{FaultKind, fault_of};
 use line_reader::LineRead;
+use name_resolution::{FaultKind, fault_of};
 use std::alloc::{AllocError, Global};
 use workspace::{ENTRY_LIMIT, Tables};
 

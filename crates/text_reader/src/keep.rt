@@ -1,13 +1,13 @@
 //! Cells one after the other.
 ghost use Rattle.std.specs.Prelude.{◌≡◌, map, OnOk};
 ghost use Rattle.text_definitions.specs.Lowering.{Meanings};
-ghost use Rattle.line_faults.specs.Views.{resolved_in};
+ghost use Rattle.name_resolution.specs.Views.{resolved_in};
 ghost use Rattle.text_reader.specs.Keeping.{AddsCells};
 ghost use Rattle.text_reader.specs.Numbering.{IsNumbersOf};
 
 use crate::cell::next_autos;
 use crate::numbering::Numbers;
-use line_faults::ResolvedCell;
+use name_resolution::ResolvedCell;
 use std::alloc::AllocError;
 use workspace::TermCell;
 

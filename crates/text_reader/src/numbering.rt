@@ -6,15 +6,15 @@ ghost use Rattle.type_terms.specs.Kinds.{RegionHeld, region_label};
 ghost use Rattle.text_definitions.specs.Lowering.{Meanings, place_among};
 ghost use Rattle.workspace.specs.Made.{CellHeld, type_part, const_part};
 ghost use Rattle.workspace.specs.Views.{sort_of_kind};
-ghost use Rattle.line_faults.specs.Resolved.{param_cell, variable_cell, lifetime_cell, reference_cell};
-ghost use Rattle.line_faults.specs.Views.{resolved_in, region_in, variable_in};
-ghost use Rattle.line_faults.specs.Machine.{Sight};
+ghost use Rattle.name_resolution.specs.Resolved.{param_cell, variable_cell, lifetime_cell, reference_cell};
+ghost use Rattle.name_resolution.specs.Views.{resolved_in, region_in, variable_in};
+ghost use Rattle.name_resolution.specs.Machine.{Sight};
 ghost use Rattle.text_reader.specs.Meant.{FewNames};
 ghost use Rattle.text_reader.specs.Numbering.{meanings, names_of_sort, parameter_of, variables_of, IsParamCell, IsNumbersOf, RegionStands, CellStands};
 
 use crate::cell::{mutability, node_cell};
 use crate::small::{small, small_sum};
-use line_faults::{Names, ResolvedCell, Variable};
+use name_resolution::{Names, ResolvedCell, Variable};
 use type_terms::kinds::ConstKind;
 use type_terms::number::{BoundVar, BoundVarIndexKind, ConstVid, DebruijnIndex, TyVid};
 use type_terms::region::{Region, RegionKind};
@@ -134,17 +134,17 @@ impl<'n, 'a> Numbers<'n, 'a> {
         }
     }
 
-    fn region_kind(&self, region: line_faults::Region) -> RegionKind
+    fn region_kind(&self, region: name_resolution::Region) -> RegionKind
         ensures held { RegionHeld result }
         ensures stands { (e : Meanings) → IsNumbersOf self.now e → RegionStands e (region_in region) result }
     {
         match region {
-            line_faults::Region::Static => RegionKind::ReStatic,
-            line_faults::Region::Param(place) => {
+            name_resolution::Region::Static => RegionKind::ReStatic,
+            name_resolution::Region::Param(place) => {
                 self.numbering
                     .lifetime_param(small_sum(self.lifetimes, place))
             }
-            line_faults::Region::Bound { binder, place } => RegionKind::ReBound(
+            name_resolution::Region::Bound { binder, place } => RegionKind::ReBound(
                 BoundVarIndexKind::Bound(DebruijnIndex {
                     index: small(binder),
                 }),

@@ -1,13 +1,13 @@
 //! The parameters of a line by their sorts.
 ghost use Rattle.std.specs.Prelude.{◌≡◌, ◌∷◌, [], length, map, IfOk, MatchOption};
 ghost use Rattle.line_reader.specs.Views.{param_of, params_in};
-ghost use Rattle.line_faults.specs.LookUps.{place_in};
-ghost use Rattle.line_faults.specs.Views.{variable_in};
+ghost use Rattle.name_resolution.specs.LookUps.{place_in};
+ghost use Rattle.name_resolution.specs.Views.{variable_in};
 ghost use Rattle.workspace.specs.Views.{sort_of_kind, sorts_of, sorted_params};
 ghost use Rattle.text_reader.specs.BareLines.{sort_of_param, sorted_param, name_of_sort, names_of_sort};
 
-use line_faults::Variable;
 use line_reader::Param;
+use name_resolution::Variable;
 use std::alloc::{AllocError, Global};
 use workspace::ParamKind;
 

@@ -4,7 +4,7 @@ ghost use Rattle.type_terms.specs.Label.{of_type, param};
 ghost use Rattle.type_terms.specs.Trees.{leaf};
 ghost use Rattle.text_definitions.specs.Lowering.{Meanings};
 ghost use Rattle.line_reader.specs.TypeViews.{cells_in};
-ghost use Rattle.line_faults.specs.Views.{variable_in};
+ghost use Rattle.name_resolution.specs.Views.{variable_in};
 ghost use Rattle.workspace.specs.Made.{type_part};
 ghost use Rattle.text_reader.specs.Keeping.{Keeps};
 ghost use Rattle.text_reader.specs.Kept.{IsReady, MeansFields, MeansClause, MeansClauses, MeansBounds, AsksVariables, KeepsType, MeansBound, MeansReference};
@@ -13,8 +13,8 @@ ghost use Rattle.text_reader.specs.Numbering.{IsNumbersOf};
 use crate::keep::push_cells;
 use crate::numbering::{Numbering, Numbers};
 use crate::small::trait_id;
-use line_faults::{Names, Variable, each_once, resolve_bound, resolve_type};
 use line_reader::{Cell, ClauseSpans, Span};
+use name_resolution::{Names, Variable, each_once, resolve_bound, resolve_type};
 use std::alloc::{AllocError, Global};
 use workspace::{ReferenceCells, TermCell};
 

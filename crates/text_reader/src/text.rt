@@ -9,8 +9,8 @@ use crate::declares::Declares;
 use crate::fault::{TextError, TextFault};
 use crate::form::{LineForm, line_form};
 use crate::lines::{TEXT_LIMIT, long_line, split_line};
-use line_faults::FaultKind;
 use line_reader::LineRead;
+use name_resolution::FaultKind;
 use std::alloc::{AllocError, Global};
 use workspace::ENTRY_LIMIT;
 

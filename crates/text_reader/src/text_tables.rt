@@ -4,8 +4,8 @@ ghost use Rattle.workspace.specs.Tables.{declared, IsConsistent};
 use crate::declares::Declares;
 use crate::declaring::declare;
 use crate::faults::line_fault;
-use line_faults::FaultKind;
 use line_reader::LineRead;
+use name_resolution::FaultKind;
 use std::alloc::{AllocError, Global};
 use workspace::Tables;
 

@@ -1,6 +1,6 @@
 use Rattle.std.proofs.Common.{[], ◌∷◌, ◌++◌, inl, inr}
 use Rattle.std.proofs.lemmas.Result.{err_from_is_err_and}
-use Rattle.line_faults.specs.FaultNumbers.{fault_number}
+use Rattle.name_resolution.specs.FaultNumbers.{fault_number}
 use Rattle.text_definitions.specs.Output.{fault}
 use Rattle.coherence.specs.Lines.{of_fault, of_answers, begins_fault, begins_crates, begins_checks, begins_questions}
 use Rattle.coherence.proofs.LineLaws.{alone-line, alone-prefix}

@@ -2,9 +2,9 @@ use Rattle.std.proofs.Common.{refl, Some}
 use Rattle.infer_table.specs.declared.certainty.TypingMode.TheVariants.{Coherence}
 use Rattle.infer_table.specs.declared.goal.Goal.{Goal}
 use Rattle.infer_table.proofs.FullFacts.{or-then}
-use Rattle.root_goals.specs.Evaluations.{asked_in}
-use Rattle.root_goals.specs.Results.{IsResult}
-use Rattle.root_goals.specs.Searching.{solver_meaning}
+use Rattle.solver_context.specs.Evaluations.{asked_in}
+use Rattle.solver_context.specs.Results.{IsResult}
+use Rattle.solver_context.specs.Searching.{solver_meaning}
 use Rattle.sessions.proofs.ImpossibleAlone.{left-open, still-open, goal-is-alone, alone-has-none, root-runs-out}
 use Rattle.sessions.proofs.impossible.evaluate_alone.Goals as goal
 

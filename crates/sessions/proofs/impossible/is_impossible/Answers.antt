@@ -2,9 +2,9 @@ use Rattle.std.proofs.Common.{◌≡◌, Bool, subst, Result, Err}
 use Rattle.std.specs.Prelude.{IfErr}
 use Rattle.type_terms.specs.declared.Fault.{Fault}
 use Rattle.type_terms.specs.declared.Fault.TheVariants.{Full}
-use Rattle.root_goals.specs.declared.outcome.GoalEvaluation.{GoalEvaluation}
-use Rattle.root_goals.specs.declared.outcome.RootError.{RootError}
-use Rattle.root_goals.specs.declared.outcome.RootError.TheVariants as Root
+use Rattle.solver_context.specs.declared.outcome.GoalEvaluation.{GoalEvaluation}
+use Rattle.solver_context.specs.declared.outcome.RootError.{RootError}
+use Rattle.solver_context.specs.declared.outcome.RootError.TheVariants as Root
 use Rattle.sessions.proofs.ImpossibleAlone.{if-true, if-false}
 use Rattle.sessions.proofs.impossible.is_impossible.Goals as goal
 

@@ -7,7 +7,7 @@ use Rattle.declarations.specs.Held.{ReferenceHeld}
 use Rattle.declarations.specs.Merges.{Each}
 use Rattle.declarations.proofs.Growth.{references-kept}
 use Rattle.search_graph.proofs.Graphs.{Keeps-trans}
-use Rattle.root_goals.specs.Searching.{solver_meaning}
+use Rattle.solver_context.specs.Searching.{solver_meaning}
 use Rattle.sessions.specs.Impossible.{IsImpossible, IsLeftOpen, GoalRunsOut}
 use Rattle.sessions.proofs.ImpossibleAlone.{open-before, runs-out-before, impossible-before}
 use Rattle.sessions.proofs.Lists.{each-then, in-list, of-first, of-second}

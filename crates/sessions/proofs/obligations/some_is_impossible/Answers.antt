@@ -6,7 +6,7 @@ use Rattle.infer_table.specs.Kept.{ready-later}
 use Rattle.infer_table.proofs.FullFacts.{handed-on, or-then}
 use Rattle.declarations.specs.Held.{ReferenceHeld}
 use Rattle.search_graph.proofs.Graphs.{Keeps-trans}
-use Rattle.root_goals.specs.Searching.{solver_meaning}
+use Rattle.solver_context.specs.Searching.{solver_meaning}
 use Rattle.sessions.specs.Impossible.{IsLeftOpen}
 use Rattle.sessions.proofs.ImpossibleAlone.{open-before, runs-out-before, impossible-before}
 use Rattle.sessions.proofs.Lists.{each-here, in-here, each-more}

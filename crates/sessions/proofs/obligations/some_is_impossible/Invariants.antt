@@ -3,8 +3,8 @@ use Rattle.type_terms.specs.Terms.{Keeps}
 use Rattle.declarations.specs.Merges.{Each}
 use Rattle.search_graph.specs.Cache.{AreJustified, AreConsistent, KeepsResults}
 use Rattle.search_graph.specs.Meaning as Search
-use Rattle.root_goals.specs.Contexts.{IsReady}
-use Rattle.root_goals.specs.Searching.{solver_meaning}
+use Rattle.solver_context.specs.Contexts.{IsReady}
+use Rattle.solver_context.specs.Searching.{solver_meaning}
 use Rattle.sessions.specs.Impossible.{IsLeftOpen}
 use Rattle.sessions.proofs.obligations.some_is_impossible.Given as goal
 

@@ -4,8 +4,8 @@ use Rattle.text_definitions.specs.Syntax.{Line}
 use Rattle.text_definitions.specs.Faults.{fault_of}
 use Rattle.line_reader.specs.Lines.{ReadsLine}
 use Rattle.line_reader.specs.Views.{statement_of}
-use Rattle.line_faults.specs.FaultNumbers.{fault_number}
-use Rattle.line_faults.specs.Speaks.{Speaks}
+use Rattle.name_resolution.specs.FaultNumbers.{fault_number}
+use Rattle.name_resolution.specs.Speaks.{Speaks}
 use Rattle.text_reader.specs.BareLines.{bare_line}
 use Rattle.text_reader.proofs.Ordering.{Ordered, line-ordered, speaks-bare}
 use Rattle.text_reader.proofs.faults.line_fault.Goals as goal

@@ -1,6 +1,6 @@
 use Rattle.std.proofs.Common.{refl, arith, subst, map}
 use Rattle.std.proofs.lemmas.List.{drop_all}
-use Rattle.line_faults.specs.Views.{resolved_in}
+use Rattle.name_resolution.specs.Views.{resolved_in}
 use Rattle.text_reader.proofs.KeptCells.{Adding, adding-starts, adding-at, adding-ends, next-small}
 use Rattle.text_reader.proofs.keep.push_cells.Goals as goal
 

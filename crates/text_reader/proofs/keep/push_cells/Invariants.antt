@@ -1,6 +1,6 @@
 use Rattle.std.proofs.Common.{◌≤◌, drop, map}
 use Rattle.text_definitions.specs.Lowering.{Meanings}
-use Rattle.line_faults.specs.Views.{resolved_in}
+use Rattle.name_resolution.specs.Views.{resolved_in}
 use Rattle.text_reader.specs.Numbering.{IsNumbersOf}
 use Rattle.text_reader.proofs.KeptCells.{Adding}
 use Rattle.text_reader.proofs.keep.push_cells.Given as goal

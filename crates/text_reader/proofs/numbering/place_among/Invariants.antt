@@ -1,7 +1,7 @@
 use Rattle.std.proofs.Common.{◌≡◌, ◌+◌, ◌≤◌, length, map}
 use Rattle.text_definitions.specs.Lowering.{place_among}
 use Rattle.workspace.specs.Views.{sort_of_kind}
-use Rattle.line_faults.specs.Views.{variable_in}
+use Rattle.name_resolution.specs.Views.{variable_in}
 use Rattle.text_reader.specs.Numbering.{names_of_sort}
 use Rattle.text_reader.proofs.numbering.place_among.Given as goal
 

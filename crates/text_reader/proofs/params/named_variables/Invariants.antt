@@ -1,5 +1,5 @@
 use Rattle.std.proofs.Common.{◌≡◌, ◌++◌, map, length}
-use Rattle.line_faults.specs.Views.{variable_in}
+use Rattle.name_resolution.specs.Views.{variable_in}
 use Rattle.workspace.specs.Views.{sorted_params}
 use Rattle.text_reader.proofs.params.named_variables.Given as goal
 

@@ -2,7 +2,7 @@ use Rattle.std.proofs.Common.{◌≡◌, ◌+◌, ◌≤◌, length}
 use Rattle.std.specs.List.{position_from}
 use Rattle.std.specs.Str.{bytes_eq}
 use Rattle.line_reader.specs.Views.{params_in}
-use Rattle.line_faults.specs.LookUps.{place_in}
+use Rattle.name_resolution.specs.LookUps.{place_in}
 use Rattle.workspace.specs.Views.{sort_of_kind}
 use Rattle.text_reader.specs.BareLines.{names_of_sort}
 use Rattle.text_reader.proofs.params.place_of.Given as goal

@@ -2,7 +2,7 @@ use Rattle.std.proofs.Common.{ap, ◌∙◌, sym, map, ◌++◌}
 use Rattle.std.proofs.lemmas.List.{take-map}
 use Rattle.text_definitions.specs.Faults.{once}
 use Rattle.line_reader.specs.TypeViews.{cells_in, cell_of}
-use Rattle.line_faults.specs.Views.{variable_in}
+use Rattle.name_resolution.specs.Views.{variable_in}
 use Rattle.text_reader.proofs.KeptTypes.{variables-kept}
 use Rattle.text_reader.proofs.parts.asked_variables.Goals as goal
 

@@ -1,7 +1,7 @@
 use Rattle.std.proofs.Common.{ap, ◌∙◌, sym, subst, map}
 use Rattle.std.proofs.lemmas.List.{take-map}
 use Rattle.line_reader.specs.TypeViews.{cells_in, cell_of}
-use Rattle.line_faults.specs.Views.{resolved_in}
+use Rattle.name_resolution.specs.Views.{resolved_in}
 use Rattle.text_reader.specs.Keeping.{AddsCells}
 use Rattle.text_reader.proofs.KeptTypes.{cells-plain, bound-kept}
 use Rattle.text_reader.proofs.parts.with_self.Goals as goal

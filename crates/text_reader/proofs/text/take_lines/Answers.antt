@@ -1,6 +1,6 @@
 use Rattle.std.proofs.Common.{◌+◌, ◌∷◌, Ok, Err, sym, ap, ◌∙◌, subst, add-one, arith}
 use Rattle.text_definitions.specs.Text.{LinesGive, ends, fails, goes_on}
-use Rattle.line_faults.specs.FaultNumbers.{fault_number}
+use Rattle.name_resolution.specs.FaultNumbers.{fault_number}
 use Rattle.text_reader.specs.Lines.{lines_behind}
 use Rattle.text_reader.proofs.Taking.{given-few, few-weaken}
 use Rattle.text_reader.proofs.text.take_lines.Goals as goal

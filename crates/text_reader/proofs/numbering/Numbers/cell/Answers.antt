@@ -1,5 +1,5 @@
 use Rattle.std.proofs.Common.{subst, sym}
-use Rattle.line_faults.specs.Views.{resolved_in}
+use Rattle.name_resolution.specs.Views.{resolved_in}
 use Rattle.text_reader.specs.Numbering.{CellStands}
 use Rattle.text_reader.proofs.numbering.Numbers.cell.Goals as goal
 

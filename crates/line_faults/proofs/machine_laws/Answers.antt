@@ -1,6 +1,0 @@
-use Rattle.line_faults.proofs.Going.{machine_resolves, args_resolved}
-use Rattle.line_faults.proofs.Turned.{type-turned, args-turned}
-use Rattle.line_faults.proofs.machine_laws.Goals as goal
-
-pub returns : goal.returns
-returns c = record { types = machine_resolves; args = args_resolved; types_turned = type-turned; args_turned = args-turned }

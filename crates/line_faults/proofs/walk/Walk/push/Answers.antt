@@ -1,7 +1,0 @@
-use Rattle.std.proofs.Common.{ap, ◌∙◌, []}
-use Rattle.line_faults.specs.WalkViews.{frames_in}
-use Rattle.line_faults.proofs.Walking.{frames-push}
-use Rattle.line_faults.proofs.walk.Walk.push.Goals as goal
-
-pub returns-clause-frames : goal.returns-clause-frames
-returns-clause-frames c = ap frames_in c.in_ok-push.ensures.items ∙ frames-push c.args.self.now.frames.items c.args.frame []

@@ -1,0 +1,275 @@
+-- The items of a `dyn`, summed up from the last on.
+use Rattle.std.proofs.Common.{◌≡◌, ℕ, suc, ◌+◌, ◌-◌, ◌<◌, ◌≤◌, Bool, true, false, List, [], ◌∷◌, length, map, take, drop, get_or, insert, fold, refl, sym, ap, ◌∙◌, cond, arith, append_assoc, ◌++◌, take_all, drop-cons, take-suc, Some}
+use Rattle.std.specs.Prelude.{if◌then◌else◌, ◌==◌, not, ◌||◌, ◌&&◌, nat_lt, count_by}
+use Rattle.std.specs.List.{list_any}
+use Rattle.std.proofs.lemmas.Bool.Decides.{nat_tests}
+use Rattle.std.proofs.lemmas.List.{take-append-drop, drop_all, length-map}
+use Rattle.line_reader.specs.Cells.{Cell}
+use Rattle.line_reader.specs.TypeViews.{cell_of}
+use Rattle.line_reader.specs.declared.cell.Cell as code
+use Rattle.text_definitions.specs.Declarations.{Declarations, known}
+use Rattle.text_definitions.specs.Faults.{is_auto_name, is_bound, is_late, binds_auto, others, has_early_lifetime, is_bad_dyn, passes_in}
+use Rattle.text_definitions.specs.Lowering.{inserted, trait_number}
+use Rattle.text_definitions.specs.Uses.{ItemShape, bound_shape, lifetime_shape, dyn_use}
+use Rattle.name_resolution.specs.Machine.{Sight, items, findings, shape_autos, shape_principals}
+use Rattle.name_resolution.specs.Shapes.{Summary, is_bad, no_items, with_shape, with_auto_trait, with_principal, summary}
+use Rattle.name_resolution.specs.Back.{parts, parts_above, count_above, shape_of}
+use Rattle.name_resolution.specs.Steps.{TakesPart}
+use Rattle.name_resolution.specs.Resolved.{ResolvedCell, node_cell, autos_before}
+use Rattle.type_terms.specs.Label.{auto_trait}
+use Rattle.name_resolution.proofs.Counting.{if-true, if-false, is-eq, not-eq, is-lt, not-lt, parts-none}
+use Rattle.name_resolution.proofs.PartsOfCells.{later-more}
+use Rattle.name_resolution.proofs.Walking.{count-within}
+use Rattle.name_resolution.proofs.Judged.{made, one-use, no-look, no-own}
+
+abbrev bound-more : Declarations → Bool → Bool → List ℕ → Summary → Summary
+bound-more d a b n x = if a then with_auto_trait b (trait_number (known d n)) x else with_principal x
+
+count-from : (a : ℕ) (is : List ItemShape) → fold (λ s x. s + cond (is_bound x) 1 0) a is ≡ a + count_by is_bound is
+count-from a [] = omega arith
+count-from a (i ∷ is) =
+    let k = cond (is_bound i) 1 0 in
+    let h : fold (λ s x. s + cond (is_bound x) 1 0) (a + k) is ≡ a + k + count_by is_bound is = count-from (a + k) is in
+    let g : fold (λ s x. s + cond (is_bound x) 1 0) (0 + k) is ≡ 0 + k + count_by is_bound is = count-from (0 + k) is in
+    let z : a + k + count_by is_bound is ≡ a + (0 + k + count_by is_bound is) = omega arith in
+    h ∙ z ∙ ap (λ j. a + j) (sym g)
+
+bound-counted : (b : Bool) (n : List ℕ) (is : List ItemShape) → count_by is_bound (bound_shape b n ∷ is) ≡ suc (count_by is_bound is)
+bound-counted b n is = let h : fold (λ s x. s + cond (is_bound x) 1 0) 1 is ≡ 1 + count_by is_bound is = count-from 1 is in let z : 1 + count_by is_bound is ≡ suc (count_by is_bound is) = omega arith in h ∙ z
+
+pub bounds-counted : (d : Declarations) (is : List ItemShape) → (summary d is).bounds ≡ count_by is_bound is
+bounds-counted d [] = refl
+bounds-counted d (bound_shape b n ∷ is) = by (is_auto_name d n) (bounds-counted d is) ∙ sym (bound-counted b n is)
+  where
+    by : (a : Bool) → (summary d is).bounds ≡ count_by is_bound is → (bound-more d a b n (summary d is)).bounds ≡ suc (count_by is_bound is)
+    by true e = ap suc e
+    by false e = ap suc e
+bounds-counted d (lifetime_shape ∷ is) = bounds-counted d is
+
+pub principals-counted : (d : Declarations) (is : List ItemShape) → (summary d is).principals ≡ shape_principals d is
+principals-counted d [] = refl
+principals-counted d (bound_shape b n ∷ is) = by (is_auto_name d n) (principals-counted d is)
+  where
+    by : (a : Bool) → (summary d is).principals ≡ shape_principals d is → (bound-more d a b n (summary d is)).principals ≡ (if a then shape_principals d is else suc (shape_principals d is))
+    by true e = e
+    by false e = ap suc e
+principals-counted d (lifetime_shape ∷ is) = principals-counted d is
+
+pub autos-gathered : (d : Declarations) (is : List ItemShape) → (summary d is).autos ≡ shape_autos d is
+autos-gathered d [] = refl
+autos-gathered d (bound_shape b n ∷ is) = by (is_auto_name d n) (autos-gathered d is)
+  where
+    by : (a : Bool) → (summary d is).autos ≡ shape_autos d is
+        → (bound-more d a b n (summary d is)).autos ≡ (if a then inserted (trait_number (known d n)) (shape_autos d is) else shape_autos d is)
+    by true e = ap (inserted (trait_number (known d n))) e
+    by false e = e
+autos-gathered d (lifetime_shape ∷ is) = autos-gathered d is
+
+has-principal : (d : Declarations) (is : List ItemShape) → (summary d is).has_principal ≡ list_any (is_late d) is
+has-principal d [] = refl
+has-principal d (bound_shape b n ∷ is) = by (is_auto_name d n) (has-principal d is)
+  where
+    by : (a : Bool) → (summary d is).has_principal ≡ list_any (is_late d) is → (bound-more d a b n (summary d is)).has_principal ≡ not a || list_any (is_late d) is
+    by true e = e
+    by false e = refl
+has-principal d (lifetime_shape ∷ is) = has-principal d is
+
+has-late : (d : Declarations) (is : List ItemShape) → (summary d is).has_late ≡ list_any (is_late d) (others is)
+has-late d [] = refl
+has-late d (bound_shape b n ∷ is) = by (is_auto_name d n) (has-principal d is)
+  where
+    by : (a : Bool) → (summary d is).has_principal ≡ list_any (is_late d) is → (bound-more d a b n (summary d is)).has_late ≡ list_any (is_late d) is
+    by true e = e
+    by false e = e
+has-late d (lifetime_shape ∷ is) = has-principal d is
+
+binds : (d : Declarations) (is : List ItemShape) → (summary d is).binds_auto ≡ list_any (binds_auto d) is
+binds d [] = refl
+binds d (bound_shape b n ∷ is) = by b (is_auto_name d n) (binds d is)
+  where
+    by : (b a : Bool) → (summary d is).binds_auto ≡ list_any (binds_auto d) is → (bound-more d a b n (summary d is)).binds_auto ≡ (b && a) || list_any (binds_auto d) is
+    by true true e = refl
+    by true false e = e
+    by false true e = e
+    by false false e = e
+binds d (lifetime_shape ∷ is) = binds d is
+
+empty : (d : Declarations) (i : ItemShape) (is : List ItemShape) → (summary d (i ∷ is)).is_empty ≡ false
+empty d (bound_shape b n) is = by (is_auto_name d n)
+  where
+    by : (a : Bool) → (bound-more d a b n (summary d is)).is_empty ≡ false
+    by true = refl
+    by false = refl
+empty d lifetime_shape is = refl
+
+early : (d : Declarations) (is : List ItemShape) → (summary d is).has_early_lifetime ≡ has_early_lifetime is
+early d [] = refl
+early d (lifetime_shape ∷ []) = refl
+early d (lifetime_shape ∷ j ∷ is) = ap not (empty d j is)
+early d (bound_shape b n ∷ []) = by (is_auto_name d n)
+  where
+    by : (a : Bool) → (bound-more d a b n no_items).has_early_lifetime ≡ false
+    by true = refl
+    by false = refl
+early d (bound_shape b n ∷ j ∷ is) = by (is_auto_name d n) (early d (j ∷ is))
+  where
+    by : (a : Bool) → (summary d (j ∷ is)).has_early_lifetime ≡ has_early_lifetime (j ∷ is) → (bound-more d a b n (summary d (j ∷ is))).has_early_lifetime ≡ has_early_lifetime (j ∷ is)
+    by true e = e
+    by false e = e
+
+-- ---- how many there are
+inserted-length : (n : ℕ) (ms : List ℕ) → length (inserted n ms) ≤ suc (length ms)
+inserted-length n [] = omega arith
+inserted-length n (m ∷ ms) = by (n == m) (nat_lt n m) (inserted-length n ms)
+  where
+    by : (a b : Bool) → length (inserted n ms) ≤ suc (length ms) → length (if a then m ∷ ms else (if b then n ∷ m ∷ ms else m ∷ inserted n ms)) ≤ suc (suc (length ms))
+    by true b h = omega arith
+    by false true h = omega arith
+    by false false h = omega arith
+
+pub record Within (x : Summary) (k : ℕ) : Type 0 where
+  pub bounds : x.bounds ≤ k
+  pub cells : x.principals + length x.autos ≤ k
+
+pub all-within : (d : Declarations) (is : List ItemShape) → Within (summary d is) (length is)
+all-within d [] = record { bounds = omega arith; cells = omega arith }
+all-within d (bound_shape b n ∷ is) = by (is_auto_name d n) (all-within d is)
+  where
+    by : (a : Bool) → Within (summary d is) (length is) → Within (bound-more d a b n (summary d is)) (suc (length is))
+    by true w =
+        let x = summary d is in
+        let p : x.bounds ≤ length is = w.bounds in
+        let q : x.principals + length x.autos ≤ length is = w.cells in
+        let l : length (inserted (trait_number (known d n)) x.autos) ≤ suc (length x.autos) = inserted-length (trait_number (known d n)) x.autos in
+        record { bounds = omega (arith, p); cells = omega (arith, q, l) }
+    by false w =
+        let x = summary d is in
+        let p : x.bounds ≤ length is = w.bounds in
+        let q : x.principals + length x.autos ≤ length is = w.cells in
+        record { bounds = omega (arith, p); cells = omega (arith, q) }
+all-within d (lifetime_shape ∷ is) =
+    let w = all-within d is in
+    let x = summary d is in
+    let p : x.bounds ≤ length is = w.bounds in
+    let q : x.principals + length x.autos ≤ length is = w.cells in
+    record { bounds = omega (arith, p); cells = omega (arith, q) }
+
+-- ---- what is wrong with them
+bound-none : (is : List ItemShape) → (count_by is_bound is == 0) ≡ not (list_any is_bound is)
+bound-none [] = refl
+bound-none (bound_shape b n ∷ is) = let h : 0 < suc (count_by is_bound is) = omega arith in ap (λ k. k == 0) (bound-counted b n is) ∙ not-eq (suc (count_by is_bound is)) 0 h
+bound-none (lifetime_shape ∷ is) = bound-none is
+
+pub one_dyn : (v : Sight) (is : List ItemShape) (x : Summary) (b : Bool) (k : ℕ) → x ≡ summary (items v) is → b ≡ is_bad x → k ≡ x.bounds → made false false false false false b (nat_lt 64 k) ≡ findings v (dyn_use is ∷ [])
+one_dyn v is x b k e f g =
+    let d = items v in
+    let y = summary d is in
+    let bad : b ≡ is_bad_dyn d (dyn_use is) =
+    f ∙ ap is_bad e ∙ ap (λ k. (k == 0) || (y.has_late || (y.binds_auto || y.has_early_lifetime))) (bounds-counted d is)
+    ∙ ap (λ b. b || (y.has_late || (y.binds_auto || y.has_early_lifetime))) (bound-none is)
+    ∙ ap (λ b. not (list_any is_bound is) || (b || (y.binds_auto || y.has_early_lifetime))) (has-late d is)
+    ∙ ap (λ b. not (list_any is_bound is) || (list_any (is_late d) (others is) || (b || y.has_early_lifetime))) (binds d is)
+    ∙ ap (λ b. not (list_any is_bound is) || (list_any (is_late d) (others is) || (list_any (binds_auto d) is || b))) (early d is) in
+    let many : nat_lt 64 k ≡ passes_in (dyn_use is) = ap (nat_lt 64) g ∙ ap (λ z. nat_lt 64 z.bounds) e ∙ ap (nat_lt 64) (bounds-counted d is) in
+    one-use v (dyn_use is) false false false false false b (nat_lt 64 k) refl refl (no-look v) refl (no-own v) bad many
+
+-- ---- the parts of a `dyn`, from the last on
+pub record Gathered (d : Declarations) (start : ℕ) (self rest : List Cell) (end : ℕ) (x : Summary) : Type 0 where
+  pub later : List Cell
+  pub so_far : parts start (length rest) rest later ≡ parts_above start self
+  pub summed : x ≡ summary d (map shape_of later)
+  pub room : length later + length rest ≤ end
+
+pub gathered-none : (d : Declarations) (start : ℕ) (self : List Cell) (end : ℕ) (x : Summary) → x ≡ no_items → length self ≤ end → Gathered d start self self end x
+gathered-none d start self end x e h = let z : 0 + length self ≤ end = omega (arith, h) in record { later = []; so_far = refl; summed = e; room = z }
+
+pub gathered-more : (d : Declarations) (start : ℕ) (self old new : List Cell) (end : ℕ) (x y : Summary) (c : code.Cell) → TakesPart (Some c) old new → start < length old → length new < length old
+    → y ≡ with_shape d (shape_of (cell_of c)) x → Gathered d start self old end x → Gathered d start self new end y
+gathered-more d start self old new end x y c t h l e g =
+    let r : length g.later + length old ≤ end = g.room in
+    record {
+      later = cell_of c ∷ g.later;
+      so_far = later-more start c old new g.later (parts_above start self) t h g.so_far;
+      summed = e ∙ ap (with_shape d (shape_of (cell_of c))) g.summed;
+      room = omega (arith, r, l);
+    }
+
+pub gathered-all : (d : Declarations) (start : ℕ) (self rest : List Cell) (end : ℕ) (x : Summary) → length rest ≤ start → Gathered d start self rest end x → x ≡ summary d (map shape_of (parts_above start self))
+gathered-all d start self rest end x h g = g.summed ∙ ap (λ cs. summary d (map shape_of cs)) (sym (parts-none start (length rest) rest g.later h) ∙ g.so_far)
+
+-- so there is room for one more
+pub bounds-room : (d : Declarations) (start : ℕ) (self rest : List Cell) (end m : ℕ) (x : Summary) → Gathered d start self rest end x → 0 < length rest → end < m → x.bounds + 1 < m
+bounds-room d start self rest end m x g h k =
+    let is = map shape_of g.later in
+    let w : (summary d is).bounds ≤ length is = (all-within d is).bounds in
+    let e : x.bounds ≡ (summary d is).bounds = ap (λ z. z.bounds) g.summed in
+    let l : length is ≡ length g.later = length-map g.later shape_of in
+    let r : length g.later + length rest ≤ end = g.room in
+    omega (arith, w, e, l, r, h, k)
+
+pub principals-room : (d : Declarations) (start : ℕ) (self rest : List Cell) (end m : ℕ) (x : Summary) → Gathered d start self rest end x → 0 < length rest → end < m → x.principals + 1 < m
+principals-room d start self rest end m x g h k =
+    let is = map shape_of g.later in
+    let w : (summary d is).principals + length (summary d is).autos ≤ length is = (all-within d is).cells in
+    let e : x.principals ≡ (summary d is).principals = ap (λ z. z.principals) g.summed in
+    let l : length is ≡ length g.later = length-map g.later shape_of in
+    let r : length g.later + length rest ≤ end = g.room in
+    omega (arith, w, e, l, r, h, k)
+
+-- so many cells stand inside a `dyn`
+pub cells-room : (d : Declarations) (start : ℕ) (r : List Cell) (m : ℕ) (x : Summary) → x ≡ summary d (map shape_of (parts_above start r)) → length r + 1 < m → x.principals + (length x.autos + 1) < m
+cells-room d start r m x e h =
+    let is = map shape_of (parts_above start r) in
+    let w : (summary d is).principals + length (summary d is).autos ≤ length is = (all-within d is).cells in
+    let f : x.principals ≡ (summary d is).principals = ap (λ z. z.principals) e in
+    let g : length x.autos ≡ length (summary d is).autos = ap (λ z. length z.autos) e in
+    let l : length is ≡ count_above start r = length-map (parts_above start r) shape_of in
+    let c : count_above start r ≤ length r = count-within start r in
+    omega (arith, w, f, g, l, c, h)
+
+-- ---- one number among rising ones
+less-not-eq : (n m : ℕ) → n < m → (n == m) ≡ false
+less-not-eq n m h = grind (arith, nat_tests)
+
+put-in : ℕ → ℕ → List ℕ → Bool → Bool → List ℕ
+put-in n m ms a b = if a then m ∷ ms else (if b then n ∷ m ∷ ms else m ∷ inserted n ms)
+
+inserted-same : (n m : ℕ) (ms : List ℕ) → n ≡ m → inserted n (m ∷ ms) ≡ m ∷ ms
+inserted-same n m ms e = if-true (n == m) (m ∷ ms) (if nat_lt n m then n ∷ m ∷ ms else m ∷ inserted n ms) (is-eq n m e)
+
+inserted-first : (n m : ℕ) (ms : List ℕ) → n < m → inserted n (m ∷ ms) ≡ n ∷ m ∷ ms
+inserted-first n m ms h = if-false (n == m) (m ∷ ms) (if nat_lt n m then n ∷ m ∷ ms else m ∷ inserted n ms) (less-not-eq n m h) ∙ if-true (nat_lt n m) (n ∷ m ∷ ms) (m ∷ inserted n ms) (is-lt n m h)
+
+inserted-later : (n m : ℕ) (ms : List ℕ) → m < n → inserted n (m ∷ ms) ≡ m ∷ inserted n ms
+inserted-later n m ms h =
+    let k : m ≤ n = omega arith in
+    if-false (n == m) (m ∷ ms) (if nat_lt n m then n ∷ m ∷ ms else m ∷ inserted n ms) (not-eq n m h) ∙ if-false (nat_lt n m) (n ∷ m ∷ ms) (m ∷ inserted n ms) (not-lt n m k)
+
+abbrev pub Skips : ℕ → ℕ → List ℕ → Type 0
+Skips n at xs = inserted n xs ≡ take at xs ++ inserted n (drop at xs)
+
+pub insert-there : (n at d : ℕ) (xs : List ℕ) → at < length xs → n ≡ get_or xs at d → Skips n at xs → xs ≡ inserted n xs
+insert-there n at d xs h e s =
+    let ms = drop (suc at) xs in
+    sym (s ∙ ap (λ z. take at xs ++ inserted n z) (drop-cons xs at d h) ∙ ap (λ z. take at xs ++ z) (inserted-same n (get_or xs at d) ms e) ∙ ap (λ z. take at xs ++ z) (sym (drop-cons xs at d h)) ∙ take-append-drop at xs)
+
+pub insert-before : (n at d : ℕ) (xs : List ℕ) → at < length xs → n < get_or xs at d → Skips n at xs → insert xs at n ≡ inserted n xs
+insert-before n at d xs h e s =
+    let ms = drop (suc at) xs in
+    sym (s ∙ ap (λ z. take at xs ++ inserted n z) (drop-cons xs at d h) ∙ ap (λ z. take at xs ++ z) (inserted-first n (get_or xs at d) ms e) ∙ ap (λ z. take at xs ++ n ∷ z) (sym (drop-cons xs at d h)))
+
+pub insert-further : (n at d : ℕ) (xs : List ℕ) → at < length xs → get_or xs at d < n → Skips n at xs → Skips n (suc at) xs
+insert-further n at d xs h e s =
+    let ms = drop (suc at) xs in
+    s ∙ ap (λ z. take at xs ++ inserted n z) (drop-cons xs at d h) ∙ ap (λ z. take at xs ++ z) (inserted-later n (get_or xs at d) ms e)
+    ∙ sym (append_assoc (take at xs) (get_or xs at d ∷ []) (inserted n ms)) ∙ ap (λ z. z ++ inserted n ms) (sym (take-suc xs at d h))
+
+pub insert-last : (n at : ℕ) (xs : List ℕ) → length xs ≤ at → Skips n at xs → xs ++ n ∷ [] ≡ inserted n xs
+insert-last n at xs h s = sym (s ∙ ap (λ z. z ++ inserted n (drop at xs)) (take_all at xs h) ∙ ap (λ z. xs ++ inserted n z) (drop_all at xs h))
+
+-- ---- the cells of the auto traits, from the last on
+pub autos-more : (ns : List ℕ) (at d : ℕ) (cs : List ResolvedCell) → 0 < at → at ≤ length ns → autos_before (drop (at - 1) ns) cs ≡ node_cell (auto_trait (get_or ns (at - 1) d)) 0 ∷ autos_before (drop at ns) cs
+autos-more ns at d cs h k =
+    let l : at - 1 < length ns = omega arith in
+    let e : suc (at - 1) ≡ at = omega arith in
+    ap (λ z. autos_before z cs) (drop-cons ns (at - 1) d l) ∙ ap (λ j. node_cell (auto_trait (get_or ns (at - 1) d)) 0 ∷ autos_before (drop j ns) cs) e

@@ -1,0 +1,11 @@
+use Rattle.std.proofs.Common.{◌≡◌, ℕ, List, drop, map}
+use Rattle.std.specs.Prelude.{not}
+use Rattle.std.specs.List.{list_any}
+use Rattle.line_reader.specs.TokenViews.{text_of}
+use Rattle.text_definitions.specs.Faults.{is_among}
+use Rattle.name_resolution.specs.UsedNames.{Holds}
+use Rattle.name_resolution.proofs.header.any_unused.Given as goal
+
+abbrev pub invariant-loop-name : goal.invariant-loop-name
+invariant-loop-name l =
+    (ns : List (List ℕ)) → Holds l.used ns → list_any (λ n. not (is_among n ns)) (map text_of (drop l.name-index l.params)) ≡ list_any (λ n. not (is_among n ns)) (map text_of l.params)

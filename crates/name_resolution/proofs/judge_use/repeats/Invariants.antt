@@ -1,0 +1,15 @@
+use Rattle.std.proofs.Common.{◌≡◌, ◌≤◌, length, drop, map, false}
+use Rattle.line_reader.specs.TokenViews.{text_of}
+use Rattle.text_definitions.specs.Faults.{repeats}
+use Rattle.name_resolution.specs.UsedNames.{Holds}
+use Rattle.name_resolution.proofs.judge_use.repeats.Given as goal
+
+abbrev pub invariant-loop-at : goal.invariant-loop-at
+invariant-loop-at l = record {
+  within : l.at ≤ length l.names;
+  held : Holds l.behind (map text_of (drop l.at l.names));
+  none : repeats (map text_of (drop l.at l.names)) ≡ false;
+}
+
+abbrev pub decreases-loop-at : goal.decreases-loop-at
+decreases-loop-at l = l.at

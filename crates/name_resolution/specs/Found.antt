@@ -1,0 +1,33 @@
+-- What is found of the types and bounds of a line.
+use Rattle.std.specs.Prelude.{◌≡◌, ℕ, List, [], ◌∷◌, ◌++◌, map, nat_lt}
+use Rattle.std.specs.List.{flat_map}
+use Rattle.text_definitions.specs.Faults.{variables_in, depth_limit}
+use Rattle.text_definitions.specs.Uses.{Use, greatest}
+use Rattle.line_reader.specs.Cells.{Cell}
+use Rattle.line_reader.specs.LineParts.{LinePart, PartStands, part_uses, part_depth}
+use Rattle.line_reader.specs.Places.{EachOf}
+use Rattle.line_reader.specs.declared.parts.LinePart as places
+use Rattle.name_resolution.specs.Machine.{Sight, items, findings}
+use Rattle.name_resolution.specs.Views.{variable_in}
+use Rattle.name_resolution.specs.declared.parts.PartsFound.{PartsFound}
+
+-- what these use
+abbrev pub uses_of : Sight → List LinePart → List Use
+uses_of v ps = flat_map (part_uses (items v)) ps
+
+abbrev pub depth_of : Sight → List LinePart → ℕ
+depth_of v ps = greatest (map (part_depth (items v)) ps)
+
+-- This was found of these types and bounds.
+pub record IsFound (v : Sight) (ps : List LinePart) (found : PartsFound) : Type 0 where
+  pub faults : found.faults ≡ findings v (uses_of v ps)
+  pub variables : map variable_in found.variables.items ≡ variables_in (uses_of v ps)
+  pub is_deep : found.is_deep ≡ nat_lt depth_limit (depth_of v ps)
+
+-- Whichever types and bounds stand there, this was found of them.
+abbrev pub FindsParts : Sight → List Cell → List places.LinePart → PartsFound → Type 0
+FindsParts v cells at found = (ps : List LinePart) → EachOf (PartStands cells) ps at → IsFound v ps found
+
+-- Where this was found of some, what is found with one more behind them.
+abbrev pub AddsPart : Sight → List Cell → places.LinePart → PartsFound → PartsFound → Type 0
+AddsPart v cells at old new = (ps : List LinePart) (p : LinePart) → PartStands cells p at → IsFound v ps old → IsFound v (ps ++ p ∷ []) new

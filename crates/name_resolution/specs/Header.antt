@@ -1,0 +1,34 @@
+-- The header of an impl, as it stands among the cells of its line.
+use Rattle.std.specs.Prelude.{ℕ, ◌-◌, Bool, false, not, ◌&&◌, List, [], length, take, drop, Option, Some, None, slice_get}
+use Rattle.std.specs.Option.{option_map_or}
+use Rattle.text_definitions.specs.Declarations.{known, impl_owner}
+use Rattle.text_definitions.specs.Faults.{is_auto_name, is_param, is_struct_in}
+use Rattle.line_reader.specs.Cells.{Cell, named_cell}
+use Rattle.line_reader.specs.Statement.{Statement, impl_statement}
+use Rattle.line_reader.specs.declared.statement.ClauseSpans.{ClauseSpans}
+use Rattle.name_resolution.specs.Machine.{Sight, items}
+use Rattle.name_resolution.specs.UsedNames.{names_with}
+
+abbrev pub header_said : Statement → Option ClauseSpans
+header_said (impl_statement ps h ks) = Some h
+header_said s = None
+
+abbrev pub name_of : Option Cell → Option (List ℕ)
+name_of (Some (named_cell n start)) = Some n
+name_of _ = None
+
+-- the name of the type or bound that stands last, if it is a name with or without arguments
+abbrev pub last_name : List Cell → Option (List ℕ)
+last_name cells = name_of (slice_get cells (length cells - 1))
+
+-- the name stands for a struct of the crate to which the impl belongs
+abbrev pub names_own_struct : Sight → List ℕ → Bool
+names_own_struct v n = not (is_param v.line n) && option_map_or (is_struct_in (impl_owner v.before)) (known (items v) n) false
+
+-- an auto trait's name, and that of no struct of the impl's crate
+abbrev pub names_foreign_auto : Sight → Option (List ℕ) → Option (List ℕ) → Bool
+names_foreign_auto v n m = option_map_or (is_auto_name (items v)) n false && not (option_map_or (names_own_struct v) m false)
+
+-- the names in a header where a type or a const has to stand; the trait's own is none of them
+abbrev pub names_in_header : List Cell → ClauseSpans → List (List ℕ)
+names_in_header cells h = names_with (drop h.bound.start (take (h.bound.end - 1) cells)) (names_with (drop h.subject.start (take h.subject.end cells)) [])

@@ -1,0 +1,33 @@
+-- What is found of a line.
+use Rattle.std.specs.Prelude.{◌≡◌, ℕ, List, [], map}
+use Rattle.std.specs.List.{flat_map}
+use Rattle.text_definitions.specs.Syntax.{Line, prove_line, refute_line}
+use Rattle.text_definitions.specs.Uses.{crate_use}
+use Rattle.line_reader.specs.LineParts.{LinePart, clause_parts, line_parts, named_crates, asked_parts}
+use Rattle.line_reader.specs.Lines.{ReadsLine}
+use Rattle.line_reader.specs.Statement.{Statement, prove_statement, refute_statement}
+use Rattle.line_reader.specs.declared.statement.LineRead.{LineRead}
+use Rattle.name_resolution.specs.Machine.{Sight, findings}
+use Rattle.name_resolution.specs.Found.{IsFound}
+use Rattle.name_resolution.specs.declared.line.LineFound.{LineFound}
+
+-- the types and bounds but those of what a question asks
+abbrev pub other_parts : Line → List LinePart
+other_parts (prove_line c ps k ks) = flat_map clause_parts ks
+other_parts (refute_line c ps k) = []
+other_parts l = line_parts l
+
+-- how many of its types and bounds, which stand first, are of what a question asks
+abbrev pub asked_count : Statement → ℕ
+asked_count (prove_statement c ps k ks) = 2
+asked_count (refute_statement c ps k) = 2
+asked_count s = 0
+
+pub record IsLineFound (v : Sight) (l : Line) (found : LineFound) : Type 0 where
+  pub crates : found.crates ≡ findings v (map crate_use (named_crates l))
+  pub asked : IsFound v (asked_parts l) found.asked
+  pub others : IsFound v (other_parts l) found.others
+
+-- Whichever line was read, this was found of it.
+abbrev pub FindsLine : Sight → LineRead → LineFound → Type 0
+FindsLine v read found = (l : Line) → ReadsLine l read → IsLineFound v l found

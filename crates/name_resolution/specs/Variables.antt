@@ -1,0 +1,20 @@
+-- Variables that stand where consts and where types have to.
+use Rattle.std.specs.Prelude.{ℕ, Bool, List, [], ◌∷◌, if◌then◌else◌}
+use Rattle.type_terms.specs.Label.{Sort, of_type, of_const, of_lifetime}
+use Rattle.type_terms.specs.Trees.{is_sort}
+use Rattle.std.specs.List.{list_any}
+use Rattle.text_definitions.specs.Faults.{is_of_other_kind}
+use Rattle.name_resolution.specs.UsedNames.{Holds}
+use Rattle.name_resolution.specs.declared.variables.OtherKinds.{OtherKinds}
+
+-- the names of those that are of another sort
+abbrev pub other_kind_names : Sort → List (List ℕ × Sort) → List (List ℕ)
+other_kind_names p [] = []
+other_kind_names p ((n, q) ∷ vs) = if is_sort p q then other_kind_names p vs else n ∷ other_kind_names p vs
+
+abbrev pub HoldsKinds : OtherKinds → List (List ℕ × Sort) → Type 0
+HoldsKinds o vs = Holds o.than_type (other_kind_names of_type vs) × Holds o.than_const (other_kind_names of_const vs) × Holds o.than_lifetime (other_kind_names of_lifetime vs)
+
+-- one of them stands where things of two sorts have to
+abbrev pub have_two_kinds : List (List ℕ × Sort) → Bool
+have_two_kinds vs = list_any (λ v. list_any (is_of_other_kind v) vs) vs

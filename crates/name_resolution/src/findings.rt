@@ -1,0 +1,52 @@
+//! What is wrong with what a line uses.
+ghost use Rattle.std.specs.Prelude.{◌≡◌};
+
+/// What is wrong with what a line uses, one flag for each test over the uses.
+#[derive(Clone, Copy)]
+pub struct Findings {
+    /// A binder's name is taken.
+    pub takes_names: bool,
+    /// A name or a lifetime isn't known.
+    pub uses_unknown: bool,
+    /// A known struct or trait isn't seen by the crate.
+    pub uses_hidden: bool,
+    /// A known name is of another sort than is needed, or arguments are of wrong number or kind.
+    pub uses_other_sort: bool,
+    /// The name that the line declares is used.
+    pub uses_own: bool,
+    /// The items of a `dyn` don't fit one another.
+    pub has_bad_dyn: bool,
+    /// A limit on what is used is passed.
+    pub passes_limit: bool,
+}
+
+impl Findings {
+    ghost use Rattle.name_resolution.specs.Machine.{Sight, findings, either};
+    ghost use Rattle.std.specs.Prelude.{[]};
+
+    /// Nothing is wrong.
+    pub const NONE: Findings = Findings {
+        takes_names: false,
+        uses_unknown: false,
+        uses_hidden: false,
+        uses_other_sort: false,
+        uses_own: false,
+        has_bad_dyn: false,
+        passes_limit: false,
+    };
+
+    /// What is wrong with either.
+    pub fn either(self, other: Findings) -> Findings
+        ensures { result ≡ either self other }
+    {
+        Findings {
+            takes_names: self.takes_names || other.takes_names,
+            uses_unknown: self.uses_unknown || other.uses_unknown,
+            uses_hidden: self.uses_hidden || other.uses_hidden,
+            uses_other_sort: self.uses_other_sort || other.uses_other_sort,
+            uses_own: self.uses_own || other.uses_own,
+            has_bad_dyn: self.has_bad_dyn || other.has_bad_dyn,
+            passes_limit: self.passes_limit || other.passes_limit,
+        }
+    }
+}

@@ -1,0 +1,28 @@
+//! The variables of a question.
+ghost use Rattle.std.specs.Prelude.{◌≡◌, map, IfOk};
+ghost use Rattle.text_definitions.specs.Faults.{once};
+ghost use Rattle.name_resolution.specs.Views.{variable_in};
+
+use crate::name_set::NameSet;
+use crate::resolved::Variable;
+use std::alloc::{AllocError, Global};
+
+/// Each variable once, by its first place.
+///
+/// The error says that a request for memory was refused.
+pub fn each_once<'a>(
+    alloc: Global,
+    variables: &[Variable<'a>],
+) -> Result<Vec<Variable<'a>>, AllocError>
+    ensures { IfOk result (λ v. map variable_in v.items ≡ once (map variable_in variables.now)) }
+{
+    let mut met = NameSet::new(alloc);
+    let mut firsts = Vec::new(alloc);
+    for variable in variables {
+        if !met.contains(variable.name) {
+            met.insert(variable.name)?;
+            firsts.push(*variable)?;
+        }
+    }
+    Ok(firsts)
+}

@@ -1,0 +1,95 @@
+//! Limits that a line passes.
+ghost use Rattle.std.specs.Prelude.{◌≡◌, length, nat_lt, IfOk};
+ghost use Rattle.text_definitions.specs.Syntax.{Line};
+ghost use Rattle.text_definitions.specs.Faults.{param_limit, passes_limit};
+ghost use Rattle.line_reader.specs.Lines.{ReadsLine};
+ghost use Rattle.line_reader.specs.Says.{params_said};
+ghost use Rattle.line_reader.specs.Views.{statement_of};
+ghost use Rattle.name_resolution.specs.Limits.{is_full_for, is_large_for};
+ghost use Rattle.name_resolution.specs.LineFound.{IsLineFound};
+ghost use Rattle.name_resolution.specs.Speaks.{Speaks};
+
+use crate::found_variables::each_once;
+use crate::line::LineFound;
+use crate::names::LineNames;
+use line_reader::{LineRead, Statement};
+use std::alloc::{AllocError, Global};
+
+/// Crates of a text, `core` among them.
+const CRATE_LIMIT: usize = 256;
+
+const QUESTION_LIMIT: usize = 65_536;
+
+/// Structs, traits and impls of a crate, or impls of a section.
+const ITEM_LIMIT: usize = 4_096;
+
+const PARAM_LIMIT: usize = 16;
+
+/// Fields, bounds or clauses.
+const PART_LIMIT: usize = 64;
+
+/// Variables of a question.
+const VARIABLE_LIMIT: usize = 16;
+
+/// Whether there are as many already as there may be.
+fn is_full<N: LineNames>(names: &N, statement: &Statement<'_>) -> bool
+    ensures { result ≡ is_full_for (N.sight names.now).before (statement_of statement.now) }
+{
+    match statement {
+        Statement::Crate { .. } => names.crate_count() >= CRATE_LIMIT,
+        Statement::Prove { .. } => names.question_count() >= QUESTION_LIMIT,
+        Statement::Refute { .. } => names.question_count() >= QUESTION_LIMIT,
+        Statement::Later { .. } | Statement::Supers { .. } => false,
+        Statement::Impl { .. } if names.is_in_section() => names.last_later() >= ITEM_LIMIT,
+        _ => names.last_items() >= ITEM_LIMIT,
+    }
+}
+
+#[tactic(auto, using(crate::proofs::Passing::params_counted))]
+fn has_many_params(statement: &Statement<'_>) -> bool
+    ensures { result ≡ nat_lt param_limit (length (params_said (statement_of statement.now))) }
+{
+    statement.params().len() > PARAM_LIMIT
+}
+
+/// Whether the statement without its types passes a limit.
+fn is_large<N: LineNames>(names: &N, statement: &Statement<'_>) -> bool
+    ensures { result ≡ is_large_for (N.sight names.now).before (statement_of statement.now) }
+{
+    if is_full(names, statement) {
+        return true;
+    }
+    if statement.has_long_name() {
+        return true;
+    }
+    if has_many_params(statement) {
+        return true;
+    }
+    statement.part_count() > PART_LIMIT
+}
+
+/// Whether a line passes a limit, of which this was found. The error says that a request for memory was refused.
+pub(crate) fn passes_limit<N: LineNames>(
+    names: &N,
+    alloc: Global,
+    read: &LineRead<'_>,
+    found: &LineFound<'_>,
+) -> Result<bool, AllocError>
+    requires { Speaks (N.sight names.now).line (statement_of read.now.statement) }
+    ensures { IfOk result (λ b. (l : Line) → ReadsLine l read.now → IsLineFound (N.sight names.now) l found.now → b ≡ passes_limit (N.sight names.now).before l) }
+{
+    if is_large(names, &read.statement) {
+        return Ok(true);
+    }
+    if found.asked.is_deep {
+        return Ok(true);
+    }
+    if found.others.is_deep {
+        return Ok(true);
+    }
+    let variables = each_once(alloc, &found.asked.variables)?;
+    if variables.len() > VARIABLE_LIMIT {
+        return Ok(true);
+    }
+    Ok(found.faults().passes_limit)
+}

@@ -1,0 +1,103 @@
+//! What is found of the types and bounds of a line.
+ghost use Rattle.std.specs.Prelude.{◌≡◌, ◌||◌, ◌++◌, [], ◌∷◌, ℕ, List, false, map, take, nat_lt, IfOk, OnOk};
+ghost use Rattle.line_reader.specs.Cells as cell;
+ghost use Rattle.line_reader.specs.TypeViews.{cells_in};
+ghost use Rattle.line_reader.specs.LineParts.{LinePart};
+ghost use Rattle.name_resolution.specs.Machine.{Sight, either};
+ghost use Rattle.name_resolution.specs.Views.{variable_in};
+ghost use Rattle.name_resolution.specs.Found.{IsFound, FindsParts, AddsPart};
+
+use crate::findings::Findings;
+use crate::looked_up::Names;
+use crate::resolve::{Resolved, resolve_bound, resolve_type};
+use crate::resolved::Variable;
+use line_reader::{Cell, LinePart};
+use std::alloc::{AllocError, Global};
+
+/// What was found of types and bounds that stand one behind the other.
+#[derive(Drop)]
+pub struct PartsFound<'a> {
+    /// What is wrong with what they use.
+    pub faults: Findings,
+    /// Their variables, in the order in which they are written.
+    pub variables: Vec<Variable<'a>>,
+    /// Whether more types than may be are around each other.
+    pub is_deep: bool,
+}
+
+/// The cells before this place.
+pub(crate) fn cells_to<'c, 'a>(cells: &'c [Cell<'a>], end: usize) -> &'c [Cell<'a>]
+    ensures { result.now ≡ take end cells.now }
+{
+    &cells[..end.min(cells.len())]
+}
+
+impl<'a> PartsFound<'a> {
+    /// Of none.
+    fn nothing(alloc: Global) -> Self
+        ensures { (v : Sight) → IsFound v [] result }
+    {
+        PartsFound {
+            faults: Findings::NONE,
+            variables: Vec::new(alloc),
+            is_deep: false,
+        }
+    }
+
+    /// What was found of one more, behind the others.
+    fn join(&mut self, found: Resolved<'a>) -> Result<(), AllocError>
+        ensures faults { OnOk result (self.new.faults ≡ either self.old.faults found.entry.faults) }
+        ensures variables { OnOk result (map variable_in self.new.variables.items ≡ map variable_in self.old.variables.items ++ map variable_in found.entry.variables.items) }
+        ensures deep { OnOk result (self.new.is_deep ≡ (self.old.is_deep || found.entry.is_deep)) }
+    {
+        let Resolved {
+            faults,
+            variables,
+            is_deep,
+            cells: _,
+        } = found;
+        self.faults = self.faults.either(faults);
+        self.is_deep = self.is_deep || is_deep;
+        self.variables.extend_from_slice(&variables)?;
+        Ok(())
+    }
+
+    /// What is found of one more, behind the others.
+    fn add<N: Names>(
+        &mut self,
+        names: &N,
+        alloc: Global,
+        cells: &[Cell<'a>],
+        part: LinePart,
+    ) -> Result<(), AllocError>
+        ensures { OnOk result (AddsPart (N.sight names.now) (cells_in cells.now) part self.old self.new) }
+    {
+        match part {
+            LinePart::Type(span) => {
+                let found = resolve_type(names, alloc, cells_to(cells, span.end))?;
+                self.join(found)?;
+            }
+            LinePart::Bound(span) => {
+                let found = resolve_bound(names, alloc, cells_to(cells, span.end))?;
+                self.join(found.resolved)?;
+            }
+        }
+        Ok(())
+    }
+}
+
+/// What is found of types and bounds of a line, which stand there among its cells. The error says that a request for memory was refused.
+pub fn find_parts<'a, N: Names>(
+    names: &N,
+    alloc: Global,
+    cells: &[Cell<'a>],
+    parts: &[LinePart],
+) -> Result<PartsFound<'a>, AllocError>
+    ensures { IfOk result (λ found. FindsParts (N.sight names.now) (cells_in cells.now) parts.now found) }
+{
+    let mut found = PartsFound::nothing(alloc);
+    for part in parts {
+        found.add(names, alloc, cells, *part)?;
+    }
+    Ok(found)
+}

@@ -1,0 +1,124 @@
+//! Types and bounds of a line, looked up.
+ghost use Rattle.std.specs.Prelude.{◌≡◌, List, [], length, IfOk, OnOk};
+ghost use Rattle.text_definitions.specs.Syntax.{Bound};
+ghost use Rattle.text_definitions.specs.Declarations.{known};
+ghost use Rattle.text_definitions.specs.Lowering.{trait_number};
+ghost use Rattle.line_reader.specs.Cells as cell;
+ghost use Rattle.line_reader.specs.TypeViews.{cells_in};
+ghost use Rattle.name_resolution.specs.Back.{args_back};
+ghost use Rattle.name_resolution.specs.Machine.{items};
+ghost use Rattle.name_resolution.specs.WalkViews.{frames_in};
+ghost use Rattle.name_resolution.specs.Resolving.{ResolvesType, ResolvesBound, nothing_found, bound_found};
+
+use crate::findings::Findings;
+use crate::looked_up::Names;
+use crate::resolved::{ResolvedCell, Variable};
+use crate::walk::{Frame, Inside, Next, Place, Walk};
+use crate::{heads, judge_use};
+use line_reader::Cell;
+use std::alloc::{AllocError, Global};
+use workspace::ParamKind;
+
+/// How many types may be around each other.
+const DEPTH_LIMIT: usize = 64;
+
+/// What was found of a type, or of a bound.
+#[derive(Drop)]
+pub struct Resolved<'a> {
+    /// What is wrong with what it uses.
+    pub faults: Findings,
+    /// Its variables, in the order in which they are written.
+    pub variables: Vec<Variable<'a>>,
+    /// Whether more types than may be are around each other.
+    pub is_deep: bool,
+    /// Its cells with numbers in the place of names; of a bound, those of its arguments.
+    pub cells: Vec<ResolvedCell<'a>>,
+}
+
+/// What was found of a bound.
+#[derive(Drop)]
+pub struct ResolvedBound<'a> {
+    /// The number of its trait; where the name isn't a trait's, 0.
+    pub trait_number: usize,
+    pub resolved: Resolved<'a>,
+}
+
+/// Looks up the names of the type that stands last among the cells of a line. The cells may go on before it, and end with it. However
+/// deep the type is nested, nothing recurses.
+///
+/// The error says that a request for memory was refused.
+pub fn resolve_type<'a, N: Names>(
+    names: &N,
+    alloc: Global,
+    cells: &[Cell<'a>],
+) -> Result<Resolved<'a>, AllocError>
+    ensures { IfOk result (λ r. ResolvesType (N.sight names.now) (cells_in cells.now) r) }
+{
+    let mut walk = Walk::new(alloc, cells);
+    let place = Place {
+        sort: ParamKind::Type,
+        room: Some(DEPTH_LIMIT),
+        is_kept: true,
+    };
+    walk.run(names, alloc, Next::Visiting(place))?;
+    Ok(walk.into_found().finish())
+}
+
+/// Goes over the arguments of the bound of this name, which begin at this place, and returns the number of its trait.
+fn run_bound<'n, 'c, 'a, N: Names>(
+    walk: &mut Walk<'n, 'c, 'a>,
+    names: &'n N,
+    alloc: Global,
+    name: &'a [u8],
+    start: usize,
+) -> Result<usize, AllocError>
+    requires frames { frames_in walk.old.frames.items ≡ [] }
+    requires binders { walk.old.binders ≡ [] }
+    requires found { walk.old.found ≡ nothing_found }
+    ensures number { IfOk result (λ n. n ≡ trait_number (known (items (N.sight names.now)) name.now)) }
+    // Whichever bound it is, before whichever cells.
+    ensures found { OnOk result ((b : Bound) (r : List cell.Cell) → name.now ≡ b.trait → start ≡ length r → walk.old.rest ≡ args_back b.args r → walk.new.found ≡ bound_found (N.sight names.now) b) }
+{
+    let count = walk.rest.count_above(start);
+    let meaning = names.known(name);
+    let kinds = heads::trait_kinds(meaning);
+    let frame = Frame {
+        start,
+        inner: start,
+        binds: false,
+        holds: Inside::Args { kinds, left: count },
+        room: Some(DEPTH_LIMIT),
+        is_kept: true,
+    };
+    walk.run_frame(names, alloc, frame)?;
+    walk.found
+        .note(judge_use::bound(names, name, count, meaning));
+    Ok(heads::trait_number(meaning))
+}
+
+/// Looks up the names of the bound that stands last among the cells of a line, as the type of its name and arguments. Self isn't among
+/// the arguments.
+///
+/// The error says that a request for memory was refused.
+pub fn resolve_bound<'a, N: Names>(
+    names: &N,
+    alloc: Global,
+    cells: &[Cell<'a>],
+) -> Result<ResolvedBound<'a>, AllocError>
+    ensures { IfOk result (λ r. ResolvesBound (N.sight names.now) (cells_in cells.now) r) }
+{
+    let mut walk = Walk::new(alloc, cells);
+    match walk.rest.next_named() {
+        None => Ok(ResolvedBound {
+            trait_number: 0,
+            resolved: walk.into_found().finish(),
+        }),
+        Some((name, start)) => {
+            let trait_number = run_bound(&mut walk, names, alloc, name, start)?;
+            Ok(ResolvedBound {
+                trait_number,
+                resolved: walk.into_found().finish(),
+            })
+        }
+    }
+}
