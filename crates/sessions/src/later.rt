@@ -28,10 +28,10 @@ use orphan_check::orphan::keeps_orphan_rule;
 use solver_context::SolverCx;
 use term_folds::predicate::TraitRef;
 use type_terms::interner::Interner;
-use type_terms::{
-    Fault, TraitId, added_by_the_view_is_added, later_impls_conclude_nothing_known,
-    later_versions_break_no_user,
+use type_terms::laws::{
+    added_by_the_view_is_added, later_impls_conclude_nothing_known, later_versions_break_no_user,
 };
+use type_terms::{Fault, TraitId};
 use view_lowering::laws::later_impls_begin_declared;
 use view_lowering::lower_later;
 use workspace::Workspace;

@@ -42,7 +42,8 @@ use std::alloc::Global;
 use std::marker::Model;
 use type_terms::interner::Interner;
 use type_terms::kinds::Ty;
-use type_terms::{CrateId, Fault, ImplId, held_sets_are_linked};
+use type_terms::laws::held_sets_are_linked;
+use type_terms::{CrateId, Fault, ImplId};
 use view_lowering::refutations_have_variables_alone;
 use workspace::Workspace;
 
