@@ -5,3 +5,4 @@ pub mod Called
 pub mod Listed
 pub mod Listing
 pub mod Valued
+pub mod Told

@@ -5,6 +5,7 @@ mod answer;
 mod free;
 mod header;
 mod items;
+mod laws;
 mod listed;
 mod named_values;
 mod names;
@@ -15,6 +16,7 @@ mod question;
 
 pub use answer::{Answer, ValueText, print_line};
 pub use header::HeaderNames;
+pub use laws::lines_tell_answers;
 pub use named_values::answer_values;
 pub use names::{PrintNames, TermKind};
 pub use printer::{print_const, print_type};
