@@ -1,0 +1,80 @@
+-- Steps that follow each are a proof.
+use Rattle.std.proofs.Common.{◌≡◌, ◌<◌, ℕ, zero, suc, ◌+◌, List, [], ◌∷◌, ◌++◌, length, map, refl, ap, sym, ◌∙◌, subst, Some, arith, ◌⊎◌, inl, inr}
+use Rattle.std.specs.List.{slice_get}
+use Rattle.type_terms.specs.Worlds.{World, Reference}
+use Rattle.type_terms.specs.Proofs as proofs
+use Rattle.type_terms.specs.Terms.{Entry}
+use Rattle.proof_checker.specs.declared.steps.Step.{Step}
+use Rattle.proof_checker.specs.Checked.{HasRule, IsRule, PremisesStand}
+use Rattle.proof_checker.specs.Steps.{term_of, steps_say, at_places, assumed_in, AreEntriesOf, AreProof}
+use Rattle.proof_checker.proofs.Following.{FollowsAt, is-proof}
+
+-- the step follows by its place
+pub record StepFollows (W : World) (E : List Reference) (es : List Entry) (rs : List Reference) (i : ℕ) (s : Step) : Type 0 where
+  pub rule : HasRule W E es rs s
+  pub stand : PremisesStand W rs i s.reference.def_id.index (at_places rs s.premises.items)
+
+pub get-below : (ss : List Step) (i : ℕ) (s : Step) → slice_get ss i ≡ Some s → i < length ss
+get-below [] i s e = absurd cc
+get-below (x ∷ ss) zero s e = omega arith
+get-below (x ∷ ss) (suc i) s e = let r = get-below ss i s e in omega (arith, r)
+
+-- the entries of steps, from place j on
+record Entries (W : World) (E : List Reference) (es : List Entry) (rs : List Reference) (j : ℕ) (ss : List Step) : Type 0 where
+  entries : List proofs.Entry
+  are : AreEntriesOf es rs ss entries
+  follow : FollowsAt W E rs j entries
+  say : map (λ (e : proofs.Entry). e.of) entries ≡ steps_say es ss
+
+entry-of : (W : World) (E : List Reference) (es : List Entry) (rs : List Reference) (s : Step) → HasRule W E es rs s → proofs.Entry
+entry-of W E es rs s h = record { of = term_of es s.reference; rule = record { way = h.way; premises = at_places rs s.premises.items } }
+
+from : (W : World) (E : List Reference) (es : List Entry) (rs : List Reference) (j : ℕ) (ss : List Step)
+    → ((i : ℕ) (s : Step) (n : ℕ) → n ≡ j + i → slice_get ss i ≡ Some s → StepFollows W E es rs n s) → Entries W E es rs j ss
+unfolding entry-of
+from W E es rs j [] f = record { entries = []; are = tt; follow = tt; say = refl }
+from W E es rs j (s ∷ ss) f =
+    let h = f 0 s j (omega arith) refl in
+    let r = from W E es rs (suc j) ss (λ i x n e g. f (suc i) x n (omega (arith, e)) g) in
+    record {
+      entries = entry-of W E es rs s h.rule ∷ r.entries;
+      are = (record { of = refl; way = h.rule.of_step; premises = refl }, r.are);
+      follow = (h.rule.rule, h.stand, r.follow);
+      say = ap (λ l. term_of es s.reference ∷ l) r.say;
+    }
+
+pub are-proof : (es : List Entry) (W : World) (E : List Reference) (ss : List Step)
+    → ((i : ℕ) (s : Step) → slice_get ss i ≡ Some s → StepFollows W (E ++ assumed_in es ss) es (steps_say es ss) i s) → AreProof es W E ss
+are-proof es W E ss f =
+    let r = from W (E ++ assumed_in es ss) es (steps_say es ss) 0 ss (λ i s n e g. let q : i ≡ n = omega (arith, e) in subst (λ m. StepFollows W (E ++ assumed_in es ss) es (steps_say es ss) m s) q (f i s g)) in
+    record {
+      entries = r.entries;
+      are = r.are;
+      proof = is-proof W (E ++ assumed_in es ss) r.entries (subst (λ l. FollowsAt W (E ++ assumed_in es ss) l 0 r.entries) (sym r.say) r.follow);
+    }
+
+-- what follows does so by the same terms of another interner
+pub moved : (W V : World) (E D : List Reference) (es fs : List Entry) (rs ss : List Reference) (i : ℕ) (s : Step) → W ≡ V → E ≡ D → term_of es s.reference ≡ term_of fs s.reference → rs ≡ ss
+    → StepFollows W E es rs i s → StepFollows V D fs ss i s
+moved W V E D es fs rs ss i s p q t r h = record {
+  rule = record {
+    way = h.rule.way;
+    of_step = h.rule.of_step;
+    rule = subst (λ x. IsRule x D (term_of fs s.reference) h.rule.way (at_places ss s.premises.items)) p
+        (subst (λ x. IsRule W x (term_of fs s.reference) h.rule.way (at_places ss s.premises.items)) q
+        (subst (λ x. IsRule W E x h.rule.way (at_places ss s.premises.items)) t
+        (subst (λ x. IsRule W E (term_of es s.reference) h.rule.way (at_places x s.premises.items)) r h.rule.rule)));
+  };
+  stand = subst (λ x. PremisesStand x ss i s.reference.def_id.index (at_places ss s.premises.items)) p
+      (subst (λ x. PremisesStand W x i s.reference.def_id.index (at_places x s.premises.items)) r h.stand);
+}
+
+pub one-more-place : (i n : ℕ) → i < n + 1 → (i < n) ⊎ (i ≡ n)
+one-more-place zero zero h = inr refl
+one-more-place zero (suc n) h = inl (omega arith)
+one-more-place (suc i) zero h = absurd (omega (arith, h))
+one-more-place (suc i) (suc n) h = by (one-more-place i n (omega (arith, h)))
+  where
+    by : (i < n) ⊎ (i ≡ n) → (suc i < suc n) ⊎ (suc i ≡ suc n)
+    by (inl g) = inl (omega (arith, g))
+    by (inr g) = inr (ap suc g)

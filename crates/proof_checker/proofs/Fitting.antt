@@ -1,0 +1,188 @@
+-- Arguments that are no misfits fit, where terms are made as an interner makes them.
+use Rattle.std.proofs.Common.{◌≡◌, ◌≤◌, ℕ, zero, suc, max, pred, Bool, true, false, not, refl, sym, ap, subst, Option, Some, None, ◌&&◌, ◌||◌, cond, arith}
+use Rattle.std.specs.Option.{option_or}
+use Rattle.type_terms.specs.Label.{Label, Sort, of_type, of_const, of_lifetime, param, placeholder, infer, canonical, bound, static, dynamic, principal, auto_trait, predicate, fn_ptr}
+use Rattle.type_terms.specs.Trees.{Trees, none, tree, nth, sort_of, is_sort, is_no_tree, IsA, Fits, erase, erase_label, outer_binder, own_binder, outside}
+use Rattle.type_terms.proofs.Walking.{left, right}
+use Rattle.type_terms.specs.Made.{terms, bounds, traits, is_made, is_leaf_label, is_in_range}
+use Rattle.term_folds.specs.Arguments.{sort_at, misfit, first_misfit}
+use Rattle.term_folds.specs.declared.instantiate.InstantiateError.{InstantiateError}
+use Rattle.term_folds.specs.declared.instantiate.InstantiateError.TheVariants.{ParamKind}
+
+none-sound : (t : Trees) → is_no_tree t ≡ true → t ≡ none
+none-sound none h = refl
+none-sound (tree l c o) h = cc
+
+first-none : (a b : Option InstantiateError) → option_or a b ≡ None → a ≡ None
+first-none None b h = refl
+first-none (Some e) b h = cc
+
+rest-none : (a b : Option InstantiateError) → option_or a b ≡ None → b ≡ None
+rest-none None b h = h
+rest-none (Some e) b h = absurd cc
+
+same-sort : (s r : Sort) → is_sort s r ≡ true → r ≡ s
+same-sort of_type of_type h = refl
+same-sort of_const of_const h = refl
+same-sort of_lifetime of_lifetime h = refl
+same-sort of_type of_const h = cc
+same-sort of_type of_lifetime h = cc
+same-sort of_const of_type h = cc
+same-sort of_const of_lifetime h = cc
+same-sort of_lifetime of_type h = cc
+same-sort of_lifetime of_const h = cc
+
+fit-sort : (s : Sort) (o : Option Sort) → misfit s o ≡ None → o ≡ Some s
+fit-sort s None h = absurd cc
+fit-sort s (Some r) h = by (is_sort s r) refl h
+  where
+    by : (b : Bool) → is_sort s r ≡ b → cond b None (Some ParamKind) ≡ None → Some r ≡ Some s
+    by true e h = ap Some (same-sort s r e)
+    by false e h = absurd cc
+
+made-parts : (g n x y : Bool) → g && (n && (x && y)) ≡ true → (n ≡ true) × (x ≡ true) × (y ≡ true)
+made-parts g n x y m =
+    let r = right g (n && (x && y)) m in
+    let q = right n (x && y) r in (left n (x && y) r, left x y q, right x y q)
+
+abbrev IsMade : Trees → Type 0
+IsMade t = is_made is_in_range terms t ≡ true
+
+parts : (l : Label) (c o : Trees) → is_in_range l && ((not (is_leaf_label l) || is_no_tree c) && (is_made is_in_range terms c && is_made is_in_range terms o)) ≡ true
+    → (not (is_leaf_label l) || is_no_tree c ≡ true) × IsMade c × IsMade o
+parts l c o m = made-parts (is_in_range l) (not (is_leaf_label l) || is_no_tree c) (is_made is_in_range terms c) (is_made is_in_range terms o) m
+
+made-rest : (l : Label) (c o : Trees) → IsMade (tree l c o) → IsMade o
+made-rest dynamic c o m = right (is_made is_in_range bounds c) (is_made is_in_range terms o) m
+made-rest (principal n t) c o m = absurd cc
+made-rest (auto_trait t) c o m = absurd cc
+made-rest (predicate k) c o m = absurd cc
+made-rest l c o m = (parts l c o m).2
+
+lifetime-bare : (l : Label) (c o : Trees) → IsMade (tree l c o) → sort_of l ≡ of_lifetime → c ≡ none
+lifetime-bare static c o m e = none-sound c (parts static c o m).0
+lifetime-bare (param s i) c o m e = none-sound c (parts (param s i) c o m).0
+lifetime-bare (placeholder s i) c o m e = none-sound c (parts (placeholder s i) c o m).0
+lifetime-bare (infer s i) c o m e = none-sound c (parts (infer s i) c o m).0
+lifetime-bare (canonical s i) c o m e = none-sound c (parts (canonical s i) c o m).0
+lifetime-bare (bound s k i) c o m e = none-sound c (parts (bound s k i) c o m).0
+lifetime-bare l c o m e = absurd cc
+
+arg-is : (A : Trees) (i : ℕ) (s : Sort) → IsMade A → sort_at A i ≡ Some s → IsA s (nth A i)
+arg-is none i s m e = absurd cc
+arg-is (tree l c o) zero of_lifetime m e = let q : sort_of l ≡ of_lifetime = cc in (q, lifetime-bare l c o m q, refl)
+arg-is (tree l c o) zero of_type m e = let q : sort_of l ≡ of_type = cc in (q, refl)
+arg-is (tree l c o) zero of_const m e = let q : sort_of l ≡ of_const = cc in (q, refl)
+arg-is (tree l c o) (suc i) s m e = arg-is o i s (made-rest l c o m) e
+
+module _ (A : Trees) (made : IsMade A) where
+  abbrev Fit : Trees → Type 0
+  Fit t = first_misfit A t ≡ None
+
+  at-none : (t : Trees) → is_no_tree t ≡ true → Fits A t
+  at-none t h = subst (Fits A) (sym (none-sound t h)) tt
+
+  put : (s : Sort) (i : ℕ) (o : Trees) → option_or (misfit s (sort_at A i)) (first_misfit A o) ≡ None → IsA s (nth A i)
+  put s i o f = arg-is A i s made (fit-sort s (sort_at A i) (first-none (misfit s (sort_at A i)) (first_misfit A o) f))
+
+  mutual
+    pub fits-of : (t : Trees) → IsMade t → Fit t → Fits A t
+    fits-of none m f = tt
+    fits-of (tree dynamic c o) m f = (
+      at-bounds c (left (is_made is_in_range bounds c) (is_made is_in_range terms o) m) (first-none (first_misfit A c) (first_misfit A o) f),
+      fits-of o (right (is_made is_in_range bounds c) (is_made is_in_range terms o) m) (rest-none (first_misfit A c) (first_misfit A o) f),
+    )
+    fits-of (tree (principal n t) c o) m f = absurd cc
+    fits-of (tree (auto_trait t) c o) m f = absurd cc
+    fits-of (tree (predicate k) c o) m f = absurd cc
+    fits-of (tree (param s i) c o) m f =
+        let p = parts (param s i) c o m in (put s i o f, none-sound c p.0, fits-of o p.2 (rest-none (misfit s (sort_at A i)) (first_misfit A o) f))
+    fits-of (tree l c o) m f =
+        let p = parts l c o m in (fits-of c p.1 (first-none (first_misfit A c) (first_misfit A o) f), fits-of o p.2 (rest-none (first_misfit A c) (first_misfit A o) f))
+
+    at-bounds : (t : Trees) → is_made is_in_range bounds t ≡ true → Fit t → Fits A t
+    at-bounds none m f = tt
+    at-bounds (tree (principal n t) c o) m f = (
+      fits-of c (left (is_made is_in_range terms c) (is_made is_in_range traits o) m) (first-none (first_misfit A c) (first_misfit A o) f),
+      at-traits o (right (is_made is_in_range terms c) (is_made is_in_range traits o) m) (rest-none (first_misfit A c) (first_misfit A o) f),
+    )
+    at-bounds (tree (auto_trait t) c o) m f = (
+      at-none c (left (is_no_tree c) (is_made is_in_range traits o) m),
+      at-traits o (right (is_no_tree c) (is_made is_in_range traits o) m) (rest-none (first_misfit A c) (first_misfit A o) f),
+    )
+    at-bounds (tree (predicate k) c o) m f = absurd cc
+    at-bounds (tree (param s i) c o) m f =
+        let p = made-parts (is_in_range (param s i)) (is_sort s of_lifetime) (is_no_tree c) (is_no_tree o) m in (put s i o f, none-sound c p.1, at-none o p.2)
+    at-bounds (tree l c o) m f =
+        let p = made-parts (is_in_range l) (is_sort (sort_of l) of_lifetime) (is_no_tree c) (is_no_tree o) m in (at-none c p.1, at-none o p.2)
+
+    at-traits : (t : Trees) → is_made is_in_range traits t ≡ true → Fit t → Fits A t
+    at-traits none m f = tt
+    at-traits (tree (auto_trait t) c o) m f = (
+      at-none c (left (is_no_tree c) (is_made is_in_range traits o) m),
+      at-traits o (right (is_no_tree c) (is_made is_in_range traits o) m) (rest-none (first_misfit A c) (first_misfit A o) f),
+    )
+    at-traits (tree (predicate k) c o) m f = absurd cc
+    at-traits (tree (param s i) c o) m f =
+        let p = made-parts (is_in_range (param s i)) (is_sort s of_lifetime) (is_no_tree c) (is_no_tree o) m in (put s i o f, none-sound c p.1, at-none o p.2)
+    at-traits (tree l c o) m f =
+        let p = made-parts (is_in_range l) (is_sort (sort_of l) of_lifetime) (is_no_tree c) (is_no_tree o) m in (at-none c p.1, at-none o p.2)
+
+-- erasing leads out of no more binders
+own-less : (l : Label) → own_binder (erase_label l) ≤ own_binder l
+own-less (bound of_type k i) = omega arith
+own-less (bound of_const k i) = omega arith
+own-less (bound of_lifetime k i) = omega arith
+own-less (param of_lifetime i) = omega arith
+own-less (placeholder of_lifetime i) = omega arith
+own-less (infer of_lifetime i) = omega arith
+own-less (canonical of_lifetime i) = omega arith
+own-less (param of_type i) = omega arith
+own-less (placeholder of_type i) = omega arith
+own-less (infer of_type i) = omega arith
+own-less (canonical of_type i) = omega arith
+own-less (param of_const i) = omega arith
+own-less (placeholder of_const i) = omega arith
+own-less (infer of_const i) = omega arith
+own-less (canonical of_const i) = omega arith
+own-less l = omega arith
+
+pred-less : (n m : ℕ) → n ≤ m → pred n ≤ pred m
+pred-less zero m h = omega arith
+pred-less (suc n) zero h = absurd (omega (arith, h))
+pred-less (suc n) (suc m) h = omega (arith, h)
+
+outside-less : (l : Label) (n m : ℕ) → n ≤ m → outside (erase_label l) n ≤ outside l m
+outside-less (fn_ptr k) n m h = pred-less n m h
+outside-less (principal k t) n m h = pred-less n m h
+outside-less (bound of_type k i) n m h = h
+outside-less (bound of_const k i) n m h = h
+outside-less (bound of_lifetime k i) n m h = h
+outside-less (param of_lifetime i) n m h = h
+outside-less (placeholder of_lifetime i) n m h = h
+outside-less (infer of_lifetime i) n m h = h
+outside-less (canonical of_lifetime i) n m h = h
+outside-less (param of_type i) n m h = h
+outside-less (placeholder of_type i) n m h = h
+outside-less (infer of_type i) n m h = h
+outside-less (canonical of_type i) n m h = h
+outside-less (param of_const i) n m h = h
+outside-less (placeholder of_const i) n m h = h
+outside-less (infer of_const i) n m h = h
+outside-less (canonical of_const i) n m h = h
+outside-less l n m h = h
+
+maxes : (a b c x y z : ℕ) → a ≤ x → b ≤ y → c ≤ z → max (max a b) c ≤ max (max x y) z
+maxes a b c x y z p q r = omega (arith, p, q, r)
+
+erased-less : (t : Trees) → outer_binder (erase t) ≤ outer_binder t
+erased-less none = omega arith
+erased-less (tree l c o) =
+    maxes (own_binder (erase_label l)) (outside (erase_label l) (outer_binder (erase c))) (outer_binder (erase o)) (own_binder l) (outside l (outer_binder c)) (outer_binder o)
+    (own-less l) (outside-less l (outer_binder (erase c)) (outer_binder c) (erased-less c)) (erased-less o)
+
+no-more : (n m : ℕ) → n ≤ m → m ≡ 0 → n ≡ 0
+no-more n m h e = omega (arith, h, e)
+
+pub erased-closed : (t : Trees) → outer_binder t ≡ 0 → outer_binder (erase t) ≡ 0
+erased-closed t h = no-more (outer_binder (erase t)) (outer_binder t) (erased-less t) h

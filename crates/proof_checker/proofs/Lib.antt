@@ -1,0 +1,12 @@
+pub mod Results
+pub mod Statics
+pub mod Misfits
+pub mod Ways
+pub mod Fitting
+pub mod Impls
+pub mod Following
+pub mod Places
+pub mod Later
+pub mod Ends
+pub mod Above
+pub mod Moved

@@ -1,0 +1,23 @@
+-- References at places.
+use Rattle.std.proofs.Common.{◌≡◌, ◌<◌, ℕ, zero, suc, List, [], ◌∷◌, ◌++◌, take, refl, ap, sym, ◌∙◌, subst, Some, None, arith}
+use Rattle.std.specs.List.{slice_get}
+use Rattle.type_terms.specs.Worlds.{Reference}
+use Rattle.declarations.specs.Merges.{Each}
+use Rattle.proof_checker.specs.Steps.{as_list, at_places}
+
+pub each-at : {A : Type 0} (P : A → Type 0) (xs : List A) (k : ℕ) (x : A) → Each P xs → slice_get xs k ≡ Some x → P x
+each-at P [] k x h e = absurd cc
+each-at {A = A} P (y ∷ xs) zero x h e = let q : y ≡ x = cc in subst P q h.0
+each-at P (y ∷ xs) (suc k) x h e = each-at P xs k x h.1 e
+
+pub places-more : (rs : List Reference) (k : ℕ) (ks : List ℕ) (t u : Reference) (us : List Reference) → slice_get rs k ≡ Some t → t ≡ u → at_places rs ks ≡ us → at_places rs (k ∷ ks) ≡ u ∷ us
+places-more rs k ks t u us e q p = ap (λ o. as_list o ++ at_places rs ks) e ∙ joined t u (at_places rs ks) us q p
+  where
+    joined : (t u : Reference) (ts us : List Reference) → t ≡ u → ts ≡ us → t ∷ ts ≡ u ∷ us
+    joined t u ts us q p = cc
+
+pub take-get : (n : ℕ) (rs : List Reference) (k : ℕ) (t : Reference) → slice_get rs k ≡ Some t → k < n → slice_get (take n rs) k ≡ Some t
+take-get zero rs k t e h = absurd (omega (arith, h))
+take-get (suc n) [] k t e h = cc
+take-get (suc n) (r ∷ rs) zero t e h = e
+take-get (suc n) (r ∷ rs) (suc k) t e h = take-get n rs k t e (omega (arith, h))

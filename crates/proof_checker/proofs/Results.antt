@@ -1,0 +1,15 @@
+-- What is known of a result, made of what is known of it.
+use Rattle.std.specs.Prelude.{Option, Some, None, Result, Ok, Err, IfOk, IfSome}
+
+pub mapped : {A F : Type 0} (P Q : A → Type 0) (r : Result A F) → ((v : A) → P v → Q v) → IfOk r P → IfOk r Q
+mapped P Q (Ok v) f p = f v p
+mapped P Q (Err e) f p = tt
+
+pub both : {A F : Type 0} (P Q R : A → Type 0) (r : Result A F) → ((v : A) → P v → Q v → R v) → IfOk r P → IfOk r Q → IfOk r R
+both P Q R (Ok v) f p q = f v p q
+both P Q R (Err e) f p q = tt
+
+pub both-some : {A F : Type 0} (P Q R : A → Type 0) (r : Result (Option A) F) → ((v : A) → P v → Q v → R v) → IfOk r (λ o. IfSome o P) → IfOk r (λ o. IfSome o Q) → IfOk r (λ o. IfSome o R)
+both-some P Q R (Ok (Some v)) f p q = f v p q
+both-some P Q R (Ok None) f p q = tt
+both-some P Q R (Err e) f p q = tt

@@ -1,0 +1,131 @@
+use Rattle.std.proofs.Common.{◌≡◌, ◌++◌, true, [], refl, ap, sym, ◌∙◌, subst, take, Err}
+use Rattle.std.specs.Prelude.{IfSome}
+use Rattle.type_terms.specs.Worlds.{Reference}
+use Rattle.type_terms.specs.Rules as rule
+use Rattle.type_terms.specs.Rules.{is_coinductive}
+use Rattle.type_terms.specs.Proofs.{In, Every}
+use Rattle.declarations.specs.Items.{declared}
+use Rattle.declarations.proofs.Bounded.{handed-on}
+use Rattle.proof_checker.specs.Checked.{IsRule}
+use Rattle.proof_checker.specs.Steps.{term_of, terms_of, steps_say, at_places, assumed_in, IsWayOf, StepHeld}
+use Rattle.proof_checker.proofs.Results.{mapped, both}
+use Rattle.proof_checker.proofs.Places.{each-at}
+use Rattle.proof_checker.proofs.Ways.{rule-more, assumed-rule}
+use Rattle.proof_checker.proofs.Later.{steps-kept, say-same, say-length, stand-all, stand-before, assumed-in}
+use Rattle.proof_checker.proofs.checker.is_step.Goals as goal
+use Rattle.proof_checker.proofs.checker.is_step.Goals.{then-is_coinductive, else-is_coinductive}
+
+pub returns-in_err-premises-in-Impl-clause-full : goal.returns-in_err-premises-in-Impl-clause-full
+returns-in_err-premises-in-Impl-clause-full c = λ q. handed-on c.from_residual.result c.from_residual.ensures.1 (λ p. c.in_err-premises-in-Impl.ensures.full (ap Err p)) q
+
+pub returns-in_err-found-in-Clause-clause-full : goal.returns-in_err-found-in-Clause-clause-full
+returns-in_err-found-in-Clause-clause-full c = λ q.
+    let handed = c.from_residual-in_err-found-in-Clause in
+    handed-on handed.result handed.ensures.1 (λ p. c.in_err-found-in-Clause.ensures.full (ap Err p)) q
+
+pub returns-in_err-found-in-Supertrait-clause-full : goal.returns-in_err-found-in-Supertrait-clause-full
+returns-in_err-found-in-Supertrait-clause-full c = λ q.
+    let handed = c.from_residual-in_err-found-in-Supertrait in
+    handed-on handed.result handed.ensures.1 (λ p. c.in_err-found-in-Supertrait.ensures.full (ap Err p)) q
+
+pub premises_stand-requires-clause-steps : goal.premises_stand-requires-clause-steps
+premises_stand-requires-clause-steps c = steps-kept c.args.cx.now.entries c.by_impl.new.cx.entries c.by_impl.ensures.keeps c.args.steps.now c.requires.steps
+
+pub by_clause-requires-clause-reference : goal.by_clause-requires-clause-reference
+by_clause-requires-clause-reference c = (each-at (StepHeld c.args.cx.now.entries) c.args.steps.now c.args.place c.args.step.now c.requires.steps c.requires.step).0
+
+pub by_supertrait-requires-clause-reference : goal.by_supertrait-requires-clause-reference
+by_supertrait-requires-clause-reference c = (each-at (StepHeld c.args.cx.now.entries) c.args.steps.now c.args.place c.args.step.now c.requires.steps c.requires.step).0
+
+-- ---- impls
+pub returns-in-Some-clause-rule : goal.returns-in-Some-clause-rule
+returns-in-Some-clause-rule c =
+    let es = c.args.cx.now.entries in
+    let fs = c.by_impl.new.cx.entries in
+    let ss = c.args.steps.now in
+    let W = declared es c.args.declarations.now in
+    let E = terms_of es c.args.clauses.now ++ assumed_in es ss in
+    let r = term_of es c.args.step.now.reference in
+    let rs = steps_say es ss in
+    let ps = c.args.step.now.premises.items in
+    let way = rule.by_impl c.in-Impl.id.index in
+    let same = say-same es fs c.by_impl.ensures.keeps ss c.requires.steps in
+    let by = subst (λ o. IfSome o (λ v. (F : _) → IsRule W F r way (terms_of fs v.items))) c.in-Some.is c.in_ok-premises-in-Impl.ensures.rule in
+    mapped _ _ c.premises_stand.result
+    (λ b are q.
+    let places : at_places rs ps ≡ terms_of fs c.in-Some.premises.items =
+    ap (λ l. at_places l ps) (sym same) ∙ ap (at_places (steps_say fs ss)) (sym c.deref.ensures.value) ∙ are q ∙ ap (terms_of fs) c.deref-in-Some.ensures.value in
+    record { way = way; of_step = subst (λ w. IsWayOf w way) (sym c.in-Impl.is) refl; rule = subst (IsRule W E r way) (sym places) (by E) })
+    c.premises_stand.ensures.are
+
+pub returns-in-Some-clause-stand : goal.returns-in-Some-clause-stand
+returns-in-Some-clause-stand c =
+    let es = c.args.cx.now.entries in
+    let fs = c.by_impl.new.cx.entries in
+    let ss = c.args.steps.now in
+    let W = declared es c.args.declarations.now in
+    let t = c.args.step.now.reference.def_id.index in
+    let rs = steps_say es ss in
+    let ps = at_places rs c.args.step.now.premises.items in
+    let same = say-same es fs c.by_impl.ensures.keeps ss c.requires.steps in
+    let n = c.if-is_coinductive.allowed in
+    let co = c.is_coinductive.ensures es in
+    both _ _ _ c.premises_stand.result
+    (λ b are stands q.
+    let places : ps ≡ terms_of fs c.deref-in-Some.result.now =
+    ap (λ l. at_places l c.args.step.now.premises.items) (sym same) ∙ ap (at_places (steps_say fs ss)) (sym c.deref.ensures.value) ∙ are q in
+    let stand : Every (λ (p : Reference). In p (take n rs)) ps =
+    subst (λ l. Every (λ (p : Reference). In p (take n l)) ps) same (subst (λ l. Every (λ (p : Reference). In p (take n (steps_say fs ss))) l) (sym places) (stands q)) in
+    elim c.if-is_coinductive.branch [
+      | then-is_coinductive w ↦ stand-all (is_coinductive W t) (sym co ∙ w.if-is_coinductive.true) n c.args.place rs ps (w.allowed-is ∙ sym (say-length es ss)) stand
+      | else-is_coinductive w ↦ stand-before (is_coinductive W t) (sym co ∙ w.if-is_coinductive.false) n c.args.place rs ps w.allowed-is stand
+    ])
+    c.premises_stand.ensures.are c.premises_stand.ensures.stand
+
+-- ---- where-clauses
+pub returns-then-found-clause-rule : goal.returns-then-found-clause-rule
+returns-then-found-clause-rule c = λ q.
+    let es = c.args.cx.now.entries in
+    let ss = c.args.steps.now in
+    let W = declared es c.args.declarations.now in
+    let r = term_of es c.args.step.now.reference in
+    let way = rule.by_clause c.in-Clause.place in
+    let none = ap (at_places (steps_say es ss)) (c.is_leaf-leaf.ensures q) in
+    record {
+      way = way;
+      of_step = subst (λ w. IsWayOf w way) (sym c.in-Clause.is) refl;
+      rule = subst (IsRule W (terms_of es c.args.clauses.now ++ assumed_in es ss) r way) (sym none)
+          (rule-more W (terms_of es c.args.clauses.now) (assumed_in es ss) r way [] (c.in_ok-found-in-Clause.ensures.rule c.if-found.true W));
+    }
+
+pub returns-then-found-2-clause-rule : goal.returns-then-found-2-clause-rule
+returns-then-found-2-clause-rule c = λ q.
+    let es = c.args.cx.now.entries in
+    let ss = c.args.steps.now in
+    let W = declared es c.args.declarations.now in
+    let r = term_of es c.args.step.now.reference in
+    let found = c.in_ok-found-in-Supertrait.ensures.rule c.if-found-2.true in
+    let way = rule.by_super c.in-Supertrait.place found.0 in
+    let none = ap (at_places (steps_say es ss)) (c.is_leaf-leaf.ensures q) in
+    record {
+      way = way;
+      of_step = subst (λ w. IsWayOf w way) (sym c.in-Supertrait.is) (found.0, refl);
+      rule = subst (IsRule W (terms_of es c.args.clauses.now ++ assumed_in es ss) r way) (sym none)
+          (rule-more W (terms_of es c.args.clauses.now) (assumed_in es ss) r way [] found.1);
+    }
+
+-- ---- what is assumed
+pub returns-in-Assumed-clause-rule : goal.returns-in-Assumed-clause-rule
+returns-in-Assumed-clause-rule c = λ q.
+    let es = c.args.cx.now.entries in
+    let ss = c.args.steps.now in
+    let W = declared es c.args.declarations.now in
+    let r = term_of es c.args.step.now.reference in
+    let found = assumed-rule W (terms_of es c.args.clauses.now) (assumed_in es ss) r (assumed-in es ss c.args.place c.args.step.now c.requires.step c.in-Assumed.is) in
+    let way = rule.by_clause found.0 in
+    let none = ap (at_places (steps_say es ss)) (c.is_leaf-leaf.ensures q) in
+    record {
+      way = way;
+      of_step = subst (λ w. IsWayOf w way) (sym c.in-Assumed.is) (found.0, refl);
+      rule = subst (IsRule W (terms_of es c.args.clauses.now ++ assumed_in es ss) r way) (sym none) found.1;
+    }

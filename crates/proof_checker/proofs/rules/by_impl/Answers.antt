@@ -1,0 +1,74 @@
+use Rattle.std.proofs.Common.{◌≡◌, ◌==◌, true, [], ap, sym, ◌∙◌, subst, map, None, Err}
+use Rattle.std.specs.Prelude.{IfSome}
+use Rattle.type_terms.specs.Worlds.{ImplDecl, with_args, all_with_args}
+use Rattle.type_terms.specs.Erased.{erased_reference}
+use Rattle.type_terms.specs.Proofs.{In}
+use Rattle.type_terms.proofs.Members.{here, in-filter}
+use Rattle.type_terms.specs.Terms.{args_lists, trees_at}
+use Rattle.type_terms.specs.Kept.{trees-later}
+use Rattle.term_folds.specs.Arguments.{first_misfit}
+use Rattle.term_folds.specs.declared.predicate.TraitRef.{TraitRef}
+use Rattle.declarations.specs.Items.{reference_in, impl_in, written}
+use Rattle.declarations.specs.Held.{ReferenceHeld}
+use Rattle.declarations.specs.Merges.{Each}
+use Rattle.declarations.specs.Applied.{references_in, AllHeld}
+use Rattle.declarations.proofs.Growth.{reference-same, reference-kept, each-kept}
+use Rattle.declarations.proofs.Bounded.{all-same, handed-on}
+use Rattle.proof_checker.proofs.Results.{both-some}
+use Rattle.proof_checker.proofs.Fitting.{fits-of}
+use Rattle.proof_checker.proofs.Impls.{args-made, clauses-fit, fits-back, terms-map, by-the-impl}
+use Rattle.proof_checker.proofs.rules.by_impl.Goals as goal
+
+pub all_with_arguments-requires-clause-held : goal.all_with_arguments-requires-clause-held
+all_with_arguments-requires-clause-held c =
+    let es = c.args.cx.now.entries in
+    let es2 = c.are_one.new.cx.entries in
+    let k1 = c.with_arguments.ensures.keeps in
+    let k2 = c.are_one.ensures.keeps in
+    let ih = c.in-Some.ensures.held es c.requires.declared in
+    subst (AllHeld es2) (sym c.deref.ensures.value)
+    (each-kept (ReferenceHeld es) (ReferenceHeld es2) (λ r h. reference-kept es es2 (λ j e g. k2 j e (k1 j e g)) r h) c.in-Some.def.now.clauses.items ih.clauses)
+
+pub returns-in_err-made-clause-full : goal.returns-in_err-made-clause-full
+returns-in_err-made-clause-full c = λ q. handed-on c.from_residual.result c.from_residual.ensures.1 (λ p. c.in_err-made.ensures.full (ap Err p)) q
+
+pub returns-in_err-are_one-clause-full : goal.returns-in_err-are_one-clause-full
+returns-in_err-are_one-clause-full c = λ q.
+    let handed = c.from_residual-in_err-are_one in
+    handed-on handed.result handed.ensures.1 (λ p. c.in_err-are_one.ensures.full (ap Err p)) q
+
+pub returns-clause-rule : goal.returns-clause-rule
+returns-clause-rule c =
+    let es = c.args.cx.now.entries in
+    let es1 = c.with_arguments.new.cx.entries in
+    let es2 = c.are_one.new.cx.entries in
+    let es3 = c.all_with_arguments.new.cx.entries in
+    let k1 = c.with_arguments.ensures.keeps in
+    let k2 = c.are_one.ensures.keeps in
+    let law = c.lawful.ensures in
+    let A = trees_at es c.args.args.0 in
+    let B = trees_at es2 c.args.args.0 in
+    let d = c.args.declarations.now in
+    let def = c.in-Some.def.now in
+    let V = written es d in
+    let i = impl_in es c.args.id def in
+    let ih = c.in-Some.ensures.held es c.requires.declared in
+    let named = c.in-Some.ensures.written es in
+    let mem = (in-filter (λ (x : ImplDecl). x.name == c.args.id.index) V.impls i (subst (In i) (sym named) (here i []))).0 in
+    let made = args-made es law c.args.args.0 c.requires.args in
+    let cl = c.deref.result.now in
+    let dv = c.deref.ensures.value in
+    let held_cl = subst (AllHeld es) (sym dv) ih.clauses in
+    let now_then = trees-later es es2 (λ j e g. k2 j e (k1 j e g)) args_lists c.args.args.0 c.requires.args in
+    let hd = subst (λ o. IfSome o (λ (x : TraitRef). reference_in es1 x ≡ with_args A (reference_in es def.header))) c.in-Some-made.is c.in_ok-made.ensures.is in
+    let hf = subst (λ o. IfSome o (λ (x : TraitRef). first_misfit A (trees_at es def.header.args.0) ≡ None)) c.in-Some-made.is c.in_ok-made.ensures.fits in
+    let q = c.in_ok-are_one.ensures.one c.if-not-branch.false in
+    both-some _ _ _ c.all_with_arguments.result
+    (λ v pr cf E.
+    let fs = subst (λ l. Each (λ (b : TraitRef). first_misfit A (trees_at es b.args.0) ≡ None) l) dv (fits-back es es2 (λ j e g. k2 j e (k1 j e g)) A B now_then cl held_cl cf) in
+    by-the-impl V E i A (reference_in es c.args.reference) _ mem (c.requires.covered i mem) (sym c.outer_exclusive_binder.ensures ∙ c.if-outer_exclusive_binder-ne0.false)
+    (fits-of A made (trees_at es def.header.args.0) (args-made es law def.header.args.0 ih.header) hf)
+    (clauses-fit es law A made def.clauses.items ih.clauses fs)
+    (ap erased_reference (sym hd) ∙ q ∙ ap erased_reference (reference-same es es1 k1 c.args.reference c.requires.reference))
+    (terms-map es3 v.items ∙ ap (map erased_reference) (pr ∙ ap (λ a. all_with_args a (references_in es2 cl)) now_then ∙ ap (all_with_args A) (all-same es es2 (λ j e g. k2 j e (k1 j e g)) cl held_cl ∙ ap (references_in es) dv))))
+    c.all_with_arguments.ensures.are c.all_with_arguments.ensures.fits

@@ -1,0 +1,30 @@
+use Rattle.std.proofs.Common.{◌≡◌, ap, ◌∙◌, sym, subst, None, Err}
+use Rattle.std.specs.Prelude.{IfSome}
+use Rattle.type_terms.specs.Worlds.{all_with_args}
+use Rattle.type_terms.specs.Terms.{trees_at}
+use Rattle.term_folds.specs.Arguments.{first_misfit}
+use Rattle.term_folds.specs.declared.predicate.TraitRef.{TraitRef}
+use Rattle.declarations.specs.Applied.{references_in, AllHeld}
+use Rattle.declarations.specs.Merges.{Each}
+use Rattle.declarations.proofs.Bounded.{handed-on}
+use Rattle.proof_checker.proofs.Above.{supertraits-are}
+use Rattle.proof_checker.proofs.supertraits.written_supertraits.Goals as goal
+
+pub all_with_arguments-requires-clause-held : goal.all_with_arguments-requires-clause-held
+all_with_arguments-requires-clause-held c = subst (AllHeld c.args.cx.now.entries) (sym c.deref.ensures.value) (c.in-Some.ensures.held c.args.cx.now.entries c.requires.declared)
+
+pub returns-in_err-supertraits-clause-full : goal.returns-in_err-supertraits-clause-full
+returns-in_err-supertraits-clause-full c = λ q. handed-on c.from_residual.result c.from_residual.ensures.1 (λ p. c.in_err-supertraits.ensures.full (ap Err p)) q
+
+pub returns-in-Some-2-clause-are : goal.returns-in-Some-2-clause-are
+returns-in-Some-2-clause-are c =
+    let es = c.args.cx.now.entries in
+    let fs = c.all_with_arguments.new.cx.entries in
+    let A = trees_at es c.args.reference.args.0 in
+    let def = c.in-Some.def.now in
+    let cl = c.deref.result.now in
+    let dv = c.deref.ensures.value in
+    let are = subst (λ o. IfSome o (λ v. references_in fs v.items ≡ all_with_args A (references_in es cl))) c.in-Some-2.is c.in_ok-supertraits.ensures.are in
+    let fits = subst (λ o. IfSome o (λ v. Each (λ (b : TraitRef). first_misfit A (trees_at es b.args.0) ≡ None) cl)) c.in-Some-2.is c.in_ok-supertraits.ensures.fits in
+    supertraits-are es fs c.lawful.ensures c.args.declarations.now c.args.reference def (c.in-Some.ensures.written es) c.requires.reference (c.in-Some.ensures.held es c.requires.declared)
+    (subst (λ l. Each (λ (b : TraitRef). first_misfit A (trees_at es b.args.0) ≡ None) l) dv fits) c.in-Some-2.supertraits.items (are ∙ ap (λ l. all_with_args A (references_in es l)) dv)

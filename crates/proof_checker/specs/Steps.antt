@@ -1,0 +1,89 @@
+-- What steps say, over the terms of an interner: entries of a proof, without lifetimes.
+use Rattle.std.specs.Prelude.{◌≡◌, ℕ, List, [], ◌∷◌, ◌++◌, map, Option, None, Some}
+use Rattle.std.specs.List.{slice_get, flat_map}
+use Rattle.type_terms.specs.Erased.{erased_reference, erased_impl, IsCovered}
+use Rattle.type_terms.specs.Worlds.{World, Reference, ImplDecl}
+use Rattle.type_terms.specs.Rules.{by_impl, by_clause, by_super}
+use Rattle.type_terms.specs.Rules as rule
+use Rattle.type_terms.specs.Proofs.{Entry, In, Stands, IsProof}
+use Rattle.type_terms.specs.Terms as terms
+use Rattle.type_terms.specs.Terms.{Has, args_lists}
+use Rattle.term_folds.specs.declared.predicate.TraitRef.{TraitRef}
+use Rattle.declarations.specs.Held.{ReferenceHeld}
+use Rattle.declarations.specs.Items.{Items, reference_in, written}
+use Rattle.proof_checker.specs.declared.steps.Way.{Way}
+use Rattle.proof_checker.specs.declared.steps.Way.TheVariants.{Impl, Clause, Supertrait, Assumed}
+use Rattle.proof_checker.specs.declared.steps.Step.{Step}
+
+-- A reference without lifetimes.
+abbrev pub term_of : List terms.Entry → TraitRef → Reference
+term_of es r = erased_reference (reference_in es r)
+
+abbrev pub terms_of : List terms.Entry → List TraitRef → List Reference
+terms_of es rs = map (term_of es) rs
+
+-- The references of steps.
+abbrev pub steps_say : List terms.Entry → List Step → List Reference
+steps_say es ss = map (λ (s : Step). term_of es s.reference) ss
+
+-- What stands at a place, if there is a place of the number.
+abbrev pub as_list : Option Reference → List Reference
+as_list None = []
+as_list (Some r) = r ∷ []
+
+-- The references at these places.
+abbrev pub at_places : List Reference → List ℕ → List Reference
+at_places rs [] = []
+at_places rs (k ∷ ks) = as_list (slice_get rs k) ++ at_places rs ks
+
+-- The step's way is this one of a rule. A step does not say which of a clause's supertraits its reference is; what is assumed is a
+-- where-clause further on.
+abbrev pub IsWayOf : Way → rule.Way → Type 0
+IsWayOf (Impl i args) w = w ≡ by_impl i.index
+IsWayOf (Clause k) w = w ≡ by_clause k
+IsWayOf (Supertrait k) w = (n : ℕ) × (w ≡ by_super k n)
+IsWayOf Assumed w = (k : ℕ) × (w ≡ by_clause k)
+
+-- The entry is what the step says, where rs are the references of all steps.
+pub record IsEntryOf (es : List terms.Entry) (rs : List Reference) (s : Step) (e : Entry) : Type 0 where
+  pub of : e.of ≡ term_of es s.reference
+  pub way : IsWayOf s.way e.rule.way
+  pub premises : e.rule.premises ≡ at_places rs s.premises.items
+
+-- The entries are what the steps say, one for one.
+abbrev pub AreEntriesOf : List terms.Entry → List Reference → List Step → List Entry → Type 0
+AreEntriesOf es rs [] [] = Unit {0}
+AreEntriesOf es rs (s ∷ ss) (e ∷ ps) = IsEntryOf es rs s e × AreEntriesOf es rs ss ps
+AreEntriesOf es rs ss ps = ⊥
+
+-- The references that the steps assume.
+abbrev pub assumed_by : List terms.Entry → TraitRef → Way → List Reference
+assumed_by es r Assumed = term_of es r ∷ []
+assumed_by es r w = []
+
+abbrev pub assumed_in : List terms.Entry → List Step → List Reference
+assumed_in es ss = flat_map (λ (s : Step). assumed_by es s.reference s.way) ss
+
+-- The steps are a proof by the rules of W, the where-clauses E, and what the steps assume. If they assume nothing it is one by E.
+pub record AreProof (es : List terms.Entry) (W : World) (E : List Reference) (ss : List Step) : Type 0 where
+  pub entries : List Entry
+  pub are : AreEntriesOf es (steps_say es ss) ss entries
+  pub proof : IsProof W (E ++ assumed_in es ss) entries
+
+-- They are one that concludes r.
+pub record AreProofOf (es : List terms.Entry) (W : World) (E : List Reference) (r : Reference) (ss : List Step) : Type 0 where
+  pub proof : AreProof es W E ss
+  pub stands : Stands r proof.entries
+
+-- ---- what is asked of them
+-- Each argument list and reference of a step is the interner's.
+abbrev pub WayHeld : List terms.Entry → Way → Type 0
+WayHeld es (Impl i args) = Has es args_lists args.0
+WayHeld es w = Unit {0}
+
+abbrev pub StepHeld : List terms.Entry → Step → Type 0
+StepHeld es s = ReferenceHeld es s.reference × WayHeld es s.way
+
+-- The parameters of each impl stand in its header.
+abbrev pub AreCovered : List terms.Entry → Items → Type 0
+AreCovered es d = (i : ImplDecl) → In i (written es d).impls → IsCovered (erased_impl i)

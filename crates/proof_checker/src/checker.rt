@@ -1,0 +1,194 @@
+//! Whether steps are a proof.
+ghost use Rattle.std.specs.Prelude.{◌≡◌, true, take, ◌++◌, [], List, Err, IfOk, Some};
+ghost use Rattle.std.specs.List.{slice_get};
+ghost use Rattle.type_terms.specs.Failures.{SomeKindIsFull};
+ghost use Rattle.type_terms.specs.Proofs.{In, Every};
+ghost use Rattle.type_terms.specs.Rules.{is_coinductive};
+ghost use Rattle.type_terms.specs.Terms.{Entry, Keeps};
+ghost use Rattle.declarations.specs.Applied.{AllHeld, HaveBounds};
+ghost use Rattle.declarations.specs.Held.{AreHeld, ReferenceHeld};
+ghost use Rattle.declarations.specs.Items.{declared};
+ghost use Rattle.declarations.specs.Merges.{Each};
+ghost use Rattle.proof_checker.specs.Checked.{HasRule, PremisesStand};
+ghost use Rattle.proof_checker.specs.Steps.{term_of, terms_of, steps_say, at_places, assumed_in, AreProof, AreProofOf, StepHeld, AreCovered};
+
+use crate::lifetimes::are_one;
+use crate::rules::{by_clause, by_impl};
+use crate::steps::{Step, Way};
+use crate::supertraits::by_supertrait;
+use declarations::declarations::Declarations;
+use declarations::laws::declarations_are_kept;
+use std::alloc::Global;
+use term_folds::predicate::TraitRef;
+use type_terms::interner::Interner;
+use type_terms::{Fault, TraitId};
+
+/// The number of `Sized`.
+const SIZED: u32 = 0;
+
+/// Whether a proof of the trait may rest on itself (`trait_is_coinductive`).
+fn is_coinductive(declarations: &Declarations, id: TraitId) -> bool
+    ensures { (es : List Entry) → result ≡ is_coinductive (declared es declarations.now) id.index }
+{
+    match declarations.trait_def(id) {
+        Some(def) => def.is_auto || id.index == SIZED,
+        None => id.index == SIZED,
+    }
+}
+
+/// Whether the references are those of the steps at these places, one for one, each below `allowed`.
+fn premises_stand(
+    alloc: Global,
+    cx: &mut Interner,
+    steps: &[Step],
+    allowed: usize,
+    places: &[usize],
+    premises: &[TraitRef],
+) -> Result<bool, Fault>
+    requires steps { Each (StepHeld cx.old.entries) steps.now }
+    requires premises { AllHeld cx.old.entries premises.now }
+    ensures keeps { Keeps cx.old.entries cx.new.entries }
+    ensures limit { cx.new.limit ≡ cx.old.limit }
+    ensures are { IfOk result (λ b. b ≡ true → at_places (steps_say cx.old.entries steps.now) places.now ≡ terms_of cx.old.entries premises.now) }
+    ensures stand { IfOk result (λ b. b ≡ true → Every (λ p. In p (take allowed (steps_say cx.old.entries steps.now))) (terms_of cx.old.entries premises.now)) }
+    ensures full { result ≡ Err Fault.Full → SomeKindIsFull cx.new.entries cx.new.limit }
+{
+    let mut left = premises;
+    let mut left_places = places;
+    'premises: while let Some((premise, others)) = left.split_first() {
+        match left_places.split_first() {
+            Some((place, other_places)) => {
+                if *place >= allowed || *place >= steps.len() {
+                    return Ok(false);
+                }
+                if !are_one(alloc, cx, *premise, steps[*place].reference)? {
+                    return Ok(false);
+                }
+                left = others;
+                left_places = other_places;
+            }
+            None => return Ok(false),
+        }
+    }
+    Ok(left_places.is_empty())
+}
+
+/// Whether a step has no premises.
+fn is_leaf(step: &Step) -> bool
+    ensures { result ≡ true → step.now.premises.items ≡ [] }
+{
+    step.premises.is_empty()
+}
+
+/// Whether a step follows by its way from steps that stand before its place, or from any steps if its trait is coinductive.
+fn is_step(
+    alloc: Global,
+    cx: &mut Interner,
+    declarations: &Declarations,
+    clauses: &[TraitRef],
+    steps: &[Step],
+    place: usize,
+    step: &Step,
+) -> Result<bool, Fault>
+    requires declared { AreHeld cx.old.entries declarations.now }
+    requires covered { AreCovered cx.old.entries declarations.now }
+    requires bounds { HaveBounds cx.old.entries declarations.now }
+    requires clauses { AllHeld cx.old.entries clauses.now }
+    requires steps { Each (StepHeld cx.old.entries) steps.now }
+    requires step { slice_get steps.now place ≡ Some step.now }
+    ensures keeps { Keeps cx.old.entries cx.new.entries }
+    ensures limit { cx.new.limit ≡ cx.old.limit }
+    ensures rule { IfOk result (λ b. b ≡ true → HasRule (declared cx.old.entries declarations.now)
+        (terms_of cx.old.entries clauses.now ++ assumed_in cx.old.entries steps.now) cx.old.entries (steps_say cx.old.entries steps.now) step.now) }
+    ensures stand { IfOk result (λ b. b ≡ true → PremisesStand (declared cx.old.entries declarations.now)
+        (steps_say cx.old.entries steps.now) place step.now.reference.def_id.index (at_places (steps_say cx.old.entries steps.now) step.now.premises.items)) }
+    ensures full { result ≡ Err Fault.Full → SomeKindIsFull cx.new.entries cx.new.limit }
+{
+    let allowed = if is_coinductive(declarations, step.reference.def_id) {
+        steps.len()
+    } else {
+        place
+    };
+    let leaf = is_leaf(step);
+    match step.way {
+        Way::Impl(id, args) => match by_impl(alloc, cx, declarations, step.reference, id, args)? {
+            Some(premises) => {
+                premises_stand(alloc, cx, steps, allowed, &step.premises, &premises)
+            }
+            None => Ok(false),
+        },
+        Way::Clause(place) => {
+            let found = by_clause(alloc, cx, clauses, step.reference, place)?;
+            Ok(found && leaf)
+        }
+        Way::Supertrait(place) => {
+            let found = by_supertrait(alloc, cx, declarations, clauses, step.reference, place)?;
+            Ok(found && leaf)
+        }
+        Way::Assumed => Ok(leaf),
+    }
+}
+
+/// Whether each of the steps follows: they are a proof.
+fn is_proof(
+    alloc: Global,
+    cx: &mut Interner,
+    declarations: &Declarations,
+    clauses: &[TraitRef],
+    steps: &[Step],
+) -> Result<bool, Fault>
+    requires declared { AreHeld cx.old.entries declarations.now }
+    requires covered { AreCovered cx.old.entries declarations.now }
+    requires bounds { HaveBounds cx.old.entries declarations.now }
+    requires clauses { AllHeld cx.old.entries clauses.now }
+    requires steps { Each (StepHeld cx.old.entries) steps.now }
+    ensures keeps { Keeps cx.old.entries cx.new.entries }
+    ensures limit { cx.new.limit ≡ cx.old.limit }
+    ensures proof { IfOk result (λ b. b ≡ true
+        → AreProof cx.old.entries (declared cx.old.entries declarations.now) (terms_of cx.old.entries clauses.now) steps.now) }
+    ensures full { result ≡ Err Fault.Full → SomeKindIsFull cx.new.entries cx.new.limit }
+{
+    declarations_are_kept();
+    'steps: for (place, step) in steps.iter().enumerate() {
+        if !is_step(alloc, cx, declarations, clauses, steps, place, step)? {
+            return Ok(false);
+        }
+    }
+    Ok(true)
+}
+
+/// Whether steps are a proof by the declarations and the where-clauses, and by what the steps assume, the last of which concludes
+/// the reference.
+///
+/// `true` says that they are one, in the order in which they stand: each has a rule with these premises, each premise stands before
+/// it, or anywhere if the trait of the step is coinductive. `false` says nothing: a proof in which references differ in the lifetimes
+/// of a `for` may be refused. References are compared up to lifetimes, and so are headers of impls. The steps may come from anyone.
+/// The fault is `Memory` where memory is refused, or `Full` where a kind of term is full.
+pub fn is_proof_of(
+    alloc: Global,
+    cx: &mut Interner,
+    declarations: &Declarations,
+    clauses: &[TraitRef],
+    asked: TraitRef,
+    steps: &[Step],
+) -> Result<bool, Fault>
+    requires declared { AreHeld cx.old.entries declarations.now }
+    requires covered { AreCovered cx.old.entries declarations.now }
+    requires bounds { HaveBounds cx.old.entries declarations.now }
+    requires clauses { AllHeld cx.old.entries clauses.now }
+    requires asked { ReferenceHeld cx.old.entries asked }
+    requires steps { Each (StepHeld cx.old.entries) steps.now }
+    ensures keeps { Keeps cx.old.entries cx.new.entries }
+    ensures limit { cx.new.limit ≡ cx.old.limit }
+    ensures proof { IfOk result (λ b. b ≡ true → AreProofOf cx.old.entries (declared cx.old.entries declarations.now)
+        (terms_of cx.old.entries clauses.now) (term_of cx.old.entries asked) steps.now) }
+    ensures full { result ≡ Err Fault.Full → SomeKindIsFull cx.new.entries cx.new.limit }
+{
+    if !is_proof(alloc, cx, declarations, clauses, steps)? {
+        return Ok(false);
+    }
+    match steps.split_last() {
+        Some((last, _)) => are_one(alloc, cx, last.reference, asked),
+        None => Ok(false),
+    }
+}

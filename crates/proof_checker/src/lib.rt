@@ -1,0 +1,8 @@
+//! Proofs as data, and a checker of them: what it lets through is a proof in the words of the definitions, however it was found.
+#![tactic(auto)]
+
+pub mod checker;
+mod lifetimes;
+mod rules;
+pub mod steps;
+mod supertraits;

@@ -1,0 +1,146 @@
+//! The premises by which one way concludes a reference.
+ghost use Rattle.std.specs.Prelude.{◌≡◌, true, [], List, Err, IfOk, IfSome, None};
+ghost use Rattle.type_terms.specs.Failures.{SomeKindIsFull};
+ghost use Rattle.type_terms.specs.Rules.{by_impl, by_clause};
+ghost use Rattle.type_terms.specs.Terms.{Keeps, Has, args_lists, trees_at};
+ghost use Rattle.type_terms.specs.Trees.{outer_binder};
+ghost use Rattle.type_terms.specs.Worlds.{World, Reference, with_args, all_with_args};
+ghost use Rattle.term_folds.specs.Arguments.{first_misfit};
+ghost use Rattle.declarations.specs.Applied.{references_in, AllHeld};
+ghost use Rattle.declarations.specs.Held.{ReferenceHeld, AreHeld};
+ghost use Rattle.declarations.specs.Items.{reference_in, declared};
+ghost use Rattle.declarations.specs.Merges.{Each};
+ghost use Rattle.proof_checker.specs.Checked.{IsRule};
+ghost use Rattle.proof_checker.specs.Steps.{term_of, terms_of, AreCovered};
+
+use crate::lifetimes::are_one;
+use declarations::declarations::Declarations;
+use std::alloc::Global;
+use term_folds::binder::EarlyBinder;
+use term_folds::instantiate::InstantiateError;
+use term_folds::laws::closed_arguments_are_in_range;
+use term_folds::predicate::TraitRef;
+use type_terms::interner::Interner;
+use type_terms::kinds::GenericArgs;
+use type_terms::{Fault, ImplId};
+
+/// A reference with arguments in the place of its parameters, if they fit.
+fn with_arguments(
+    alloc: Global,
+    cx: &mut Interner,
+    reference: TraitRef,
+    args: GenericArgs,
+) -> Result<Option<TraitRef>, Fault>
+    requires held { ReferenceHeld cx.old.entries reference }
+    requires args { Has cx.old.entries args_lists args.0 }
+    requires closed { outer_binder (trees_at cx.old.entries args.0) ≡ 0 }
+    ensures keeps { Keeps cx.old.entries cx.new.entries }
+    ensures limit { cx.new.limit ≡ cx.old.limit }
+    ensures held { IfOk result (λ o. IfSome o (ReferenceHeld cx.new.entries)) }
+    ensures is { IfOk result (λ o. IfSome o (λ r. reference_in cx.new.entries r ≡ with_args (trees_at cx.old.entries args.0) (reference_in cx.old.entries reference))) }
+    ensures fits { IfOk result (λ o. IfSome o (λ _. first_misfit (trees_at cx.old.entries args.0) (trees_at cx.old.entries reference.args.0) ≡ None)) }
+    ensures full { result ≡ Err Fault.Full → SomeKindIsFull cx.new.entries cx.new.limit }
+{
+    closed_arguments_are_in_range();
+    match EarlyBinder::bind(reference).instantiate(alloc, cx, args) {
+        Ok(instance) => Ok(Some(instance)),
+        Err(InstantiateError::Fault(fault)) => Err(fault),
+        Err(InstantiateError::ParamOutOfRange) => Ok(None),
+        Err(InstantiateError::ParamKind) => Ok(None),
+    }
+}
+
+/// References with arguments in the place of their parameters, if they fit all of them.
+pub(crate) fn all_with_arguments(
+    alloc: Global,
+    cx: &mut Interner,
+    references: &[TraitRef],
+    args: GenericArgs,
+) -> Result<Option<Vec<TraitRef>>, Fault>
+    requires held { AllHeld cx.old.entries references.now }
+    requires args { Has cx.old.entries args_lists args.0 }
+    requires closed { outer_binder (trees_at cx.old.entries args.0) ≡ 0 }
+    ensures keeps { Keeps cx.old.entries cx.new.entries }
+    ensures limit { cx.new.limit ≡ cx.old.limit }
+    ensures held { IfOk result (λ o. IfSome o (λ v. AllHeld cx.new.entries v.items)) }
+    ensures are { IfOk result (λ o. IfSome o (λ v. references_in cx.new.entries v.items
+        ≡ all_with_args (trees_at cx.old.entries args.0) (references_in cx.old.entries references.now))) }
+    ensures fits { IfOk result (λ o. IfSome o (λ _. Each (λ b. first_misfit (trees_at cx.old.entries args.0) (trees_at cx.old.entries b.args.0) ≡ None) references.now)) }
+    ensures full { result ≡ Err Fault.Full → SomeKindIsFull cx.new.entries cx.new.limit }
+{
+    let mut found = Vec::new(alloc);
+    let mut left = references;
+    'references: while let Some((next, others)) = left.split_first() {
+        match with_arguments(alloc, cx, *next, args)? {
+            Some(instance) => {
+                found.push(instance)?;
+                left = others;
+            }
+            None => return Ok(None),
+        }
+    }
+    Ok(Some(found))
+}
+
+/// The premises by which an impl with these arguments concludes the reference, if its header with them is the reference up to
+/// lifetimes.
+pub(crate) fn by_impl(
+    alloc: Global,
+    cx: &mut Interner,
+    declarations: &Declarations,
+    reference: TraitRef,
+    id: ImplId,
+    args: GenericArgs,
+) -> Result<Option<Vec<TraitRef>>, Fault>
+    requires declared { AreHeld cx.old.entries declarations.now }
+    requires covered { AreCovered cx.old.entries declarations.now }
+    requires reference { ReferenceHeld cx.old.entries reference }
+    requires args { Has cx.old.entries args_lists args.0 }
+    ensures keeps { Keeps cx.old.entries cx.new.entries }
+    ensures limit { cx.new.limit ≡ cx.old.limit }
+    ensures held { IfOk result (λ o. IfSome o (λ v. AllHeld cx.new.entries v.items)) }
+    ensures rule { IfOk result (λ o. IfSome o (λ v. (E : List Reference)
+        → IsRule (declared cx.old.entries declarations.now) E (term_of cx.old.entries reference) (by_impl id.index) (terms_of cx.new.entries v.items))) }
+    ensures full { result ≡ Err Fault.Full → SomeKindIsFull cx.new.entries cx.new.limit }
+{
+    cx.lawful();
+    let def = match declarations.impl_def(id) {
+        Some(def) => def,
+        None => return Ok(None),
+    };
+    if cx.outer_exclusive_binder(args).index != 0 {
+        return Ok(None);
+    }
+    let made = with_arguments(alloc, cx, def.header, args)?;
+    let header = match made {
+        Some(header) => header,
+        None => return Ok(None),
+    };
+    if !are_one(alloc, cx, header, reference)? {
+        return Ok(None);
+    }
+    all_with_arguments(alloc, cx, &def.clauses, args)
+}
+
+/// Whether the where-clause at this place concludes the reference.
+pub(crate) fn by_clause(
+    alloc: Global,
+    cx: &mut Interner,
+    clauses: &[TraitRef],
+    reference: TraitRef,
+    place: usize,
+) -> Result<bool, Fault>
+    requires clauses { AllHeld cx.old.entries clauses.now }
+    requires reference { ReferenceHeld cx.old.entries reference }
+    ensures keeps { Keeps cx.old.entries cx.new.entries }
+    ensures limit { cx.new.limit ≡ cx.old.limit }
+    ensures rule { IfOk result (λ b. b ≡ true
+        → (W : World) → IsRule W (terms_of cx.old.entries clauses.now) (term_of cx.old.entries reference) (by_clause place) []) }
+    ensures full { result ≡ Err Fault.Full → SomeKindIsFull cx.new.entries cx.new.limit }
+{
+    if place < clauses.len() {
+        are_one(alloc, cx, clauses[place], reference)
+    } else {
+        Ok(false)
+    }
+}
