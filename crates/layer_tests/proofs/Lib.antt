@@ -1,4 +1,3 @@
-mod Books
 mod Evaluations
 mod Responses
 mod Readying

@@ -1,4 +1,4 @@
-//! What the solver answers to the first question of a text, and the frames that it takes.
+//! What the solver answers to the first question of a text, asked twice, and the frames that it takes.
 ghost use Rattle.std.specs.Prelude.{◌≡◌, ℕ, List, Ok, IfOk};
 ghost use Rattle.type_terms.specs.Terms.{Keeps};
 ghost use Rattle.infer_table.specs.Content.{Ready};
@@ -9,7 +9,7 @@ ghost use Rattle.solver_context.specs.Searching.{solver_meaning};
 ghost use Rattle.text_definitions.specs.Text.{TextGives};
 ghost use Rattle.candidate_assembly.specs.Ready as solver;
 
-use crate::solver::{Said, Solving, begin, evaluate};
+use crate::solver::{Evaluated, Solving, begin, evaluate};
 use crate::texts::{add_question, goal_at, read, view};
 use candidate_assembly::solver::Solver;
 use evaluation::TypingMode;
@@ -22,9 +22,9 @@ use type_terms::interner::Interner;
 use type_terms::kinds::GenericArgs;
 use workspace::Workspace;
 
-/// What is found of a goal: what is said of it, how many frames were started, and whether the goal is as it is wanted, with
+/// What is found of a goal that is asked twice: what is there after each time, and whether the goal is as it is wanted, with
 /// the values that its unknowns have got.
-pub(crate) type Found = (Said, u64, bool);
+pub(crate) type Found = (Evaluated, Evaluated, bool);
 
 /// A goal of a table, and the arguments that its reference is to have once it is evaluated.
 #[derive(Drop)]
@@ -126,7 +126,7 @@ fn is_as_wanted(cx: &mut Interner, posed: &Posed) -> Result<bool, Fault>
     Ok(resolved == posed.wanted)
 }
 
-fn evaluate_posed<H: GoalHandler>(
+fn evaluate_twice<H: GoalHandler>(
     solving: &mut Solving<H>,
     mode: TypingMode,
     posed: &mut Posed,
@@ -137,12 +137,13 @@ fn evaluate_posed<H: GoalHandler>(
     requires table { Ready solving.old.cx.interner.entries posed.old.table }
     requires goal { GoalHeld solving.old.cx.interner.entries posed.old.goal }
 {
-    let said = evaluate(solving, mode, &mut posed.table, &posed.goal)?;
+    let first = evaluate(solving, mode, &mut posed.table, &posed.goal)?;
+    let second = evaluate(solving, mode, &mut posed.table, &posed.goal)?;
     let is_wanted = is_as_wanted(&mut solving.cx.interner, posed)?;
-    Ok((said.0, said.1, is_wanted))
+    Ok((first, second, is_wanted))
 }
 
-/// Evaluates the goal by a handler that has met none yet.
+/// Evaluates the goal twice by a handler that has met none yet.
 fn evaluate_first<H: GoalHandler + Drop>(
     alloc: Global,
     interner: Interner,
@@ -156,7 +157,7 @@ fn evaluate_first<H: GoalHandler + Drop>(
 {
     let mut solving = begin(alloc, interner, handler, 8)?;
     let mut posed = posed;
-    evaluate_posed(&mut solving, mode, &mut posed)
+    evaluate_twice(&mut solving, mode, &mut posed)
 }
 
 /// What is found of the first question of a text, which is to become the second one, in this mode.

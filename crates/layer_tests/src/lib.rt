@@ -11,19 +11,11 @@ mod candidates;
 #[cfg(test)]
 mod contexts;
 #[cfg(test)]
-mod frames;
-#[cfg(test)]
 mod goals;
 #[cfg(test)]
 mod merges;
 #[cfg(test)]
-mod references;
-#[cfg(test)]
 mod rounds;
-#[cfg(test)]
-mod rule_lists;
-#[cfg(test)]
-mod rule_rows;
 #[cfg(test)]
 mod rules;
 #[cfg(test)]
@@ -34,6 +26,8 @@ mod searches;
 mod slice_candidates;
 #[cfg(test)]
 mod solver;
+#[cfg(test)]
+mod stores;
 #[cfg(test)]
 mod texts;
 #[cfg(test)]

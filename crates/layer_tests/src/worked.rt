@@ -3,43 +3,58 @@
 //! The depth is 8. The answers and the frames follow from the rules of candidates and of searches: a goal takes a frame each time that it is
 //! run, and none where it is answered by the cache, by a goal above it or for want of depth.
 
-use crate::answers::{Found, found};
-use crate::solver::{AMBIGUOUS, OVERFLOW, Said, YES, YES_WITH_VALUES};
+use crate::answers::found;
+use crate::solver::{AMBIGUOUS, Evaluated, OVERFLOW, Said, YES, YES_WITH_VALUES};
 use evaluation::TypingMode;
 use std::alloc::Global;
 use type_terms::Fault;
 
-/// A goal, what it becomes where it gets values, what is said of it, and the frames that it takes.
-type Row = (&'static [u8], Option<&'static [u8]>, Said, u64);
+/// A goal, what is said of it, and the frames that it takes. Where it gets values also what it becomes by them, and the frames that it
+/// takes until it is asked again as that, which is a yes. Another goal takes no frame where it is asked again: its answer is known.
+type Row = (&'static [u8], Option<(&'static [u8], u64)>, Said, u64);
 
-/// Goals of one mode, over what is declared.
+/// Goals of one mode, over what is declared; and whether a limit has a part in each answer.
 #[derive(Clone, Copy)]
 struct Table {
     declared: &'static [u8],
     mode: TypingMode,
+    meets_limit: bool,
     rows: &'static [Row],
 }
 
 /// That it has no solution.
 const REFUSED: Said = Said::Refused;
 
-/// Impls whose premises are asked.
-const IMPLS: Table = Table {
-    declared: b"crate here
+/// A trait with impls that ask for it.
+const SHOWN: &[u8] = b"crate here
 trait Show
 struct V<T>
 impl<T> Show for V<T> where T: Show
 impl Show for u8
 struct P<A, B>
-impl<A, B> Show for P<A, B> where A: Show, B: Show",
+impl<A, B> Show for P<A, B> where A: Show, B: Show";
+
+/// Impls whose premises are asked.
+const IMPLS: Table = Table {
+    declared: SHOWN,
     mode: TypingMode::PostAnalysis,
+    meets_limit: false,
     rows: &[
         (b"bool: Show", None, REFUSED, 1),
         (b"V<u8>: Show", None, YES, 2),
         (b"V<V<u8>>: Show", None, YES, 3),
         (b"P<V<u8>, V<V<V<V<bool>>>>>: Show", None, REFUSED, 8),
-        // As deep as the depth allows, and deeper.
-        (b"V<V<V<V<V<V<V<u8>>>>>>>: Show", None, YES, 8),
+        // As deep as the depth allows.
+        (b"V<V<V<V<V<V<V<V<u8>>>>>>>>: Show", None, YES, 9),
+    ],
+};
+
+/// Goals that ask deeper.
+const TOO_DEEP: Table = Table {
+    declared: SHOWN,
+    mode: TypingMode::PostAnalysis,
+    meets_limit: true,
+    rows: &[
         (b"V<V<V<V<V<V<V<V<V<u8>>>>>>>>>: Show", None, OVERFLOW, 9),
         // What has met an overflow has a quarter of its depth left for what it asks then.
         (
@@ -66,6 +81,7 @@ impl<T> Show for V<T> where T: Show
 trait Any
 impl<T> Any for T",
     mode: TypingMode::PostAnalysis,
+    meets_limit: false,
     rows: &[
         (b"<T> T: Show where T: Show", None, YES, 1),
         (b"<T> V<T>: Show where T: Show", None, YES, 2),
@@ -86,16 +102,29 @@ trait Ping
 trait Pong
 impl Ping for u8 where u8: Pong
 impl Pong for u8 where u8: Ping
+trait Size<U>
+struct V<T>
+impl<T> Size<V<T>> for u8 where u8: Size<T>
+impl Size<u8> for u8",
+    mode: TypingMode::PostAnalysis,
+    meets_limit: false,
+    rows: &[
+        (b"u8: Loop", None, OVERFLOW, 1),
+        (b"u8: Ping", None, OVERFLOW, 2),
+        // `u8: Size<?y>` is asked under itself: of its two candidates one is an overflow, and so is what stands for both.
+        (b"u8: Size<V<?x>>", None, OVERFLOW, 2),
+    ],
+};
+
+/// A goal that asks for a larger one, which does so too.
+const GROWING: Table = Table {
+    declared: b"crate here
 trait Grow
 struct V<T>
 impl<T> Grow for V<T> where V<V<T>>: Grow",
     mode: TypingMode::PostAnalysis,
-    rows: &[
-        (b"u8: Loop", None, OVERFLOW, 1),
-        (b"u8: Ping", None, OVERFLOW, 2),
-        // Each goal asks for a larger one.
-        (b"V<u8>: Grow", None, OVERFLOW, 9),
-    ],
+    meets_limit: true,
+    rows: &[(b"V<u8>: Grow", None, OVERFLOW, 9)],
 };
 
 /// Goals of an auto trait, which may hold by a cycle.
@@ -112,6 +141,7 @@ struct Both(W<Both>, Bad)
 struct Also<T>(W<T>, T)
 struct Twice(W<Twice>, Also<Twice>)",
     mode: TypingMode::PostAnalysis,
+    meets_limit: false,
     rows: &[
         (b"Own: Safe", None, YES, 2),
         (b"W<Own>: Safe", None, YES, 2),
@@ -138,27 +168,33 @@ struct V<T>
 impl Show for V<u8>
 impl Show for V<bool>",
     mode: TypingMode::PostAnalysis,
+    meets_limit: false,
     rows: &[
         (
             b"u8: Conv<?x, ?n>",
-            Some(b"u8: Conv<bool, 4>"),
+            Some((b"u8: Conv<bool, 4>", 2)),
             YES_WITH_VALUES,
             1,
         ),
         (
             b"[u8; 3]: Unsize<[?x]>",
-            Some(b"[u8; 3]: Unsize<[u8]>"),
+            Some((b"[u8; 3]: Unsize<[u8]>", 2)),
             YES_WITH_VALUES,
             1,
         ),
         (
             b"fn(u8) -> bool: FnOnce<?x>",
-            Some(b"fn(u8) -> bool: FnOnce<(u8,)>"),
+            Some((b"fn(u8) -> bool: FnOnce<(u8,)>", 3)),
             YES_WITH_VALUES,
             2,
         ),
         // The premise is asked again with the value that it gave.
-        (b"u8: Via<?x>", Some(b"u8: Via<bool>"), YES_WITH_VALUES, 3),
+        (
+            b"u8: Via<?x>",
+            Some((b"u8: Via<bool>", 4)),
+            YES_WITH_VALUES,
+            3,
+        ),
         // Two impls hold.
         (b"V<?x>: Show", None, AMBIGUOUS, 1),
         (b"?x: Show", None, AMBIGUOUS, 1),
@@ -171,6 +207,7 @@ const BUILT_IN: Table = Table {
 trait Sup
 trait Sub: Sup",
     mode: TypingMode::PostAnalysis,
+    meets_limit: false,
     rows: &[
         (b"u8: Sized", None, YES, 1),
         (b"(u8, str): Sized", None, REFUSED, 2),
@@ -192,6 +229,7 @@ const OWN_TRAIT: Table = Table {
 trait Num
 struct V<T>",
     mode: TypingMode::Coherence,
+    meets_limit: false,
     rows: &[
         (b"V<?x>: Num", None, REFUSED, 1),
         (b"&u8: Num", None, REFUSED, 1),
@@ -206,6 +244,7 @@ fundamental trait Sup
 trait Sub: Sup
 crate here uses far",
     mode: TypingMode::Coherence,
+    meets_limit: false,
     rows: &[(b"u8: Sub", None, REFUSED, 2)],
 };
 
@@ -216,6 +255,7 @@ trait Sup
 trait Sub: Sup
 crate here uses far",
     mode: TypingMode::Coherence,
+    meets_limit: false,
     rows: &[(b"u8: Sub", None, AMBIGUOUS, 2)],
 };
 
@@ -230,6 +270,7 @@ impl Mine for u8";
 const FOREIGN_TRAIT_IN_COHERENCE: Table = Table {
     declared: FOREIGN,
     mode: TypingMode::Coherence,
+    meets_limit: false,
     rows: &[
         (b"u8: Num", None, AMBIGUOUS, 1),
         (b"char: Mine", None, AMBIGUOUS, 2),
@@ -241,16 +282,19 @@ const FOREIGN_TRAIT_IN_COHERENCE: Table = Table {
 const FOREIGN_TRAIT_OUTSIDE: Table = Table {
     declared: FOREIGN,
     mode: TypingMode::PostAnalysis,
+    meets_limit: false,
     rows: &[
         (b"u8: Num", None, REFUSED, 1),
         (b"char: Mine", None, REFUSED, 2),
     ],
 };
 
-const TABLES: [Table; 11] = [
+const TABLES: [Table; 13] = [
     IMPLS,
+    TOO_DEEP,
     CLAUSES,
     INDUCTIVE_CYCLES,
+    GROWING,
     AUTO_TRAIT_CYCLES,
     UNKNOWNS,
     BUILT_IN,
@@ -261,22 +305,25 @@ const TABLES: [Table; 11] = [
     FOREIGN_TRAIT_OUTSIDE,
 ];
 
-/// What is found of a row's goal.
-fn found_of(alloc: Global, table: Table, row: Row) -> Result<Found, Fault> {
-    let (asked, becomes, _, _) = row;
-    found(
-        alloc,
-        table.declared,
-        table.mode,
-        asked,
-        becomes.unwrap_or(asked),
-    )
+/// What a goal becomes, and what is there after it is asked again.
+fn again(table: Table, row: Row) -> (&'static [u8], Evaluated) {
+    match row.1 {
+        Some((becomes, frames)) => (becomes, (YES, frames, table.meets_limit)),
+        None => (row.0, (row.2, row.3, table.meets_limit)),
+    }
+}
+
+/// Whether of a row's goal something else is found.
+fn differs(alloc: Global, table: Table, row: Row) -> Result<bool, Fault> {
+    let (becomes, second) = again(table, row);
+    let found = found(alloc, table.declared, table.mode, row.0, becomes)?;
+    Ok(found != ((row.2, row.3, table.meets_limit), second, true))
 }
 
 /// The place of the first row of the table of which something else is found.
 fn first_row_that_differs(alloc: Global, table: Table) -> Result<Option<usize>, Fault> {
     for (place, row) in table.rows.iter().enumerate() {
-        if found_of(alloc, table, *row)? != (row.2, row.3, true) {
+        if differs(alloc, table, *row)? {
             return Ok(Some(place));
         }
     }

@@ -1,39 +1,31 @@
-//! A frame from its first reply to its answer, and a store of goals and answers.
+//! A store of goals and answers.
+ghost use Rattle.std.specs.Prelude.{IfOk};
+ghost use Rattle.infer_table.specs.Goals.{GoalHeld};
 
-use crate::references::{Name, byte_is, question};
+use crate::goals::{Sample, shown};
 use goal_frames::store::GoalStore;
-use goal_frames::{GoalFrame, GoalHandler};
-use infer_table::certainty::{Certainty, MaybeCause};
+use infer_table::certainty::{Certainty, MaybeCause, TypingMode};
+use infer_table::input::CanonicalInput;
 use infer_table::response::CanonicalResponse;
-use rule_books::RuleBook;
-use search_graph::{Reply, Request};
 use std::alloc::Global;
+use type_terms::Fault;
 use type_terms::interner::Interner;
-use type_terms::{Fault, TraitId};
 
-/// Whether a goal is refused at once by an empty list of rules, in which no trait is coinductive.
-fn is_refused_without_rules(alloc: Global, cx: &mut Interner) -> Result<bool, Fault> {
-    let input = question(alloc, cx, byte_is(Name::Show))?;
-    let book = RuleBook {
-        rules: Vec::new(alloc),
-        coinductive: Vec::new(alloc),
-    };
-    let mut frame = GoalFrame::new::<RuleBook>(alloc, input);
-    let request = frame.step(alloc, cx, &book, Reply::Begin)?;
-    let is_coinductive = book.trait_is_coinductive(TraitId { index: 2 });
-    Ok(matches!(request, Request::Done(None)) && !is_coinductive)
-}
-
-#[test]
-fn a_goal_without_rules_is_refused(rt: HostRuntime) -> Result<(), Fault> {
-    let mut cx = Interner::new(rt.alloc(), 100);
-    assert!(rt; is_refused_without_rules(rt.alloc(), &mut cx)?);
-    Ok(())
+/// That the type, which is not unknown, is `Show`, as a question of a search.
+fn question(alloc: Global, cx: &mut Interner, sample: Sample) -> Result<CanonicalInput, Fault>
+    ensures { IfOk result (λ input. GoalHeld cx.new.entries input.goal) }
+{
+    let goal = shown(alloc, cx, sample)?;
+    Ok(CanonicalInput {
+        mode: TypingMode::PostAnalysis,
+        goal,
+        variables: Vec::new(alloc),
+    })
 }
 
 /// Whether a goal that is kept is found again.
 fn goal_is_found(alloc: Global, cx: &mut Interner, store: &mut GoalStore) -> Result<bool, Fault> {
-    let first = store.keep_input(question(alloc, cx, byte_is(Name::Show))?)?;
+    let first = store.keep_input(question(alloc, cx, Sample::Byte)?)?;
     let copy = store.copy_input(first)?;
     Ok(store.keep_input(copy)? == first)
 }
@@ -44,7 +36,7 @@ fn is_full_of_goals(
     cx: &mut Interner,
     store: &mut GoalStore,
 ) -> Result<bool, Fault> {
-    let other = question(alloc, cx, byte_is(Name::Clone))?;
+    let other = question(alloc, cx, Sample::Bool)?;
     Ok(matches!(store.keep_input(other), Err(Fault::Full)))
 }
 

@@ -1,5 +1,0 @@
-use Rattle.infer_table.proofs.Numbers.{goal-held-later}
-use Rattle.layer_tests.proofs.answers.evaluate_posed.Goals as goal
-
-pub is_as_wanted-requires-clause-goal : goal.is_as_wanted-requires-clause-goal
-is_as_wanted-requires-clause-goal _ c = goal-held-later c.args.solving.now.cx.interner.entries c.evaluate.new.solving.cx.interner.entries c.evaluate.ensures.keeps c.args.posed.now.goal c.requires.goal

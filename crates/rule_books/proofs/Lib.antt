@@ -1,6 +1,0 @@
-mod Candidates
-mod Finding
-mod Fits
-mod Nexts
-mod Renumbering
-mod Standing

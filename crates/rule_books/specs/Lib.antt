@@ -1,5 +1,0 @@
-pub mod Behind
-pub mod Books
-pub mod Finding
-pub mod Kept
-pub mod Lawful
