@@ -17,7 +17,7 @@ use Rattle.solver_context.specs.Roots.{left_by}
 use Rattle.solver_context.specs.Searching.{solver_meaning}
 use Rattle.solver_context.specs.declared.context.SolverCx.{SolverCx}
 use Rattle.goal_frames.specs.Meanings.{HandlerMeaning}
-use Rattle.sessions.specs.Frames.{frames_for, resolved_over, AskingsStartFrames, AskingsOf, StartsFramesOfAsking, IsLeftByAnswer, SettlesInFrames}
+use Rattle.sessions.specs.Frames.{AreTerms, frames_for, resolved_over, AskingsStartFrames, AskingsOf, StartsFramesOfAsking, IsLeftByAnswer, SettlesInFrames}
 use Rattle.sessions.specs.Proving.{asked_outside}
 use Rattle.sessions.specs.Settling.{HasAsked}
 use Rattle.sessions.specs.declared.settling.TheConstants.{MAX_ASKINGS}
@@ -50,12 +50,12 @@ module _ {Handler : Type 0} (handler : HandlerMeaning Handler) where
     unfolding AskingsStartFrames
     from-more zero t b c a h s = le_trans s h
     from-more (suc k) t b c a h (inl s) = inl (wider a b c (bound t) s h)
-    from-more (suc k) t b c a h (inr s) = inr (s.0, s.1, (s.2.0, s.2.1, from-more k s.2.0 (b + bound t) (c + bound t) a (add-le-add h (le_refl (bound t))) s.2.2))
+    from-more (suc k) t b c a h (inr s) = inr (s.0, s.1, (s.2.0, s.2.1, s.2.2, from-more k s.2.0 (b + bound t) (c + bound t) a (add-le-add h (le_refl (bound t))) s.2.3))
 
     pub asked-more : (k : ℕ) (t u : TableTrees) (b mid a : ℕ) (x : AnswerTrees) → IsFound (solver_meaning handler) w depth (asked_outside (resolved_over handler t g)) (Some x)
-        → left_by t (resolved_over handler t g) (Some x) ≡ Some u → mid ≤ b + bound t → Started k u mid a → Started (suc k) t b a
+        → left_by t (resolved_over handler t g) (Some x) ≡ Some u → AreTerms u.bindings → mid ≤ b + bound t → Started k u mid a → Started (suc k) t b a
     unfolding AskingsStartFrames
-    asked-more k t u b mid a x found left h s = inr (x, found, (u, left, from-more k u mid (b + bound t) a h s))
+    asked-more k t u b mid a x found left terms h s = inr (x, found, (u, left, terms, from-more k u mid (b + bound t) a h s))
 
   -- ---- in contexts
   pub once : (k : ℕ) (c : SolverCx Handler) (f g : SearchState) (t : Table) (q : Goal) → StartsFramesOfAsking handler c f t q g → AskingsOf handler (suc k) c f t q g
@@ -71,7 +71,7 @@ module _ {Handler : Type 0} (handler : HandlerMeaning Handler) where
       → StartsFramesOfAsking handler c f t q g → IsLeftByAnswer handler c f t q d u → AskingsOf handler k d g u q h → AskingsOf handler (suc k) c f t q h
   again k c d f g h t u q held keeps world depth first left s =
       asked-more (handler.world c.handler (entries_of c)) f.root_depth (goal_trees (entries_of c) q) k (table_trees (entries_of c) t) (table_trees (entries_of d) u) f.frames g.frames h.frames
-      left.0 left.1 left.2 first
+      left.0 left.1 left.2 left.3 first
       (same _ _ _ _ _ _ k (table_trees (entries_of d) u) g.frames h.frames world depth (goal-trees-later (entries_of c) (entries_of d) keeps q held) s)
 
   -- as many are left

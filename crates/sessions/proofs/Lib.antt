@@ -1,5 +1,7 @@
 pub mod Settled
 mod FramesStarted
+mod ErasedWidths
+mod FrameBounds
 pub mod Clauses
 pub mod Counts
 pub mod ErasedClauses

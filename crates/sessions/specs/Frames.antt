@@ -1,12 +1,16 @@
--- How many frames a session's askings start.
+-- How many frames askings start, each with the answers of the search to those before it. What that comes to at most is a number of
+-- `FrameBounds`.
 use Rattle.std.specs.Prelude.{◌≡◌, ◌≤◌, ◌+◌, ◌⊎◌, ℕ, zero, suc, List, [], Some}
 use Rattle.type_terms.specs.Label.{Sort}
+use Rattle.type_terms.specs.Trees.{IsA}
 use Rattle.type_terms.specs.Worlds.{Reference}
 use Rattle.evaluation.specs.declared.TheConstants.{FIXPOINT_STEP_LIMIT}
 use Rattle.infer_table.specs.Canonical.{GoalTrees}
-use Rattle.infer_table.specs.Content.{Table}
+use Rattle.infer_table.specs.Content.{Table, content}
 use Rattle.infer_table.specs.Goals.{goal_trees, goal_resolved}
 use Rattle.infer_table.specs.Responses.{AnswerTrees}
+use Rattle.infer_table.specs.Solutions.{Binding}
+use Rattle.evaluation.specs.Lists.{Every}
 use Rattle.infer_table.specs.Unification.{TableTrees, table_trees}
 use Rattle.infer_table.specs.declared.goal.Goal.{Goal}
 use Rattle.search_graph.specs.Bound.{frame_bound}
@@ -20,14 +24,15 @@ use Rattle.goal_frames.specs.Meanings.{HandlerMeaning}
 use Rattle.candidate_assembly.specs.Solving.{Solving}
 use Rattle.candidate_assembly.specs.SolverMeaning.{solver_by_view}
 use Rattle.text_definitions.specs.Declarations.{Question}
-use Rattle.view_lowering.specs.Plain.{unbound_reference}
 use Rattle.view_lowering.specs.QuestionVariables.{variable_kinds}
 use Rattle.sessions.specs.Asking.{asked_alone}
 use Rattle.sessions.specs.Proving.{asked_outside, goal_asking}
-use Rattle.sessions.specs.Sessions.{IsSolvingOf}
-use Rattle.sessions.specs.Subjects.{Subject}
 use Rattle.sessions.specs.Tables.{table_of}
 use Rattle.sessions.specs.declared.settling.TheConstants.{MAX_ASKINGS}
+
+-- The values are terms of their variables' sorts.
+abbrev pub AreTerms : List Binding → Type 0
+AreTerms bs = Every (λ (b : Binding). IsA b.sort b.value) bs
 
 module _ {Handler : Type 0} (handler : HandlerMeaning Handler) where
   -- So many at most for a goal that is asked once at this depth: `frame_bound` of how many questions a run of the goal asks at most.
@@ -51,7 +56,8 @@ module _ {Handler : Type 0} (handler : HandlerMeaning Handler) where
       let asked = asked_outside (resolved_over t g) in
       let most = before + frames_for w depth asked in
       (after ≤ most)
-      ⊎ ((a : AnswerTrees) × IsFound (solver_meaning handler) w depth asked (Some a) × ((u : TableTrees) × (left_by t (resolved_over t g) (Some a) ≡ Some u) × AskingsStartFrames w depth g k u most after))
+      ⊎ ((a : AnswerTrees) × IsFound (solver_meaning handler) w depth asked (Some a)
+      × ((u : TableTrees) × (left_by t (resolved_over t g) (Some a) ≡ Some u) × AreTerms u.bindings × AskingsStartFrames w depth g k u most after))
 
   -- So it is of a goal in a context, of which the graph has started so many frames.
   abbrev pub AskingsOf : ℕ → SolverCx Handler → SearchState → Table → Goal → SearchState → Type 0
@@ -70,24 +76,12 @@ module _ {Handler : Type 0} (handler : HandlerMeaning Handler) where
       let from = table_trees (entries_of c) t in
       let resolved = resolved_over from (goal_trees (entries_of c) g) in
       (a : AnswerTrees) × IsFound (solver_meaning handler) (handler.world c.handler (entries_of c)) graph.root_depth (asked_outside resolved) (Some a)
-      × (left_by from resolved (Some a) ≡ Some (table_trees (entries_of d) u))
+      × (left_by from resolved (Some a) ≡ Some (table_trees (entries_of d) u)) × AreTerms (content (entries_of d) u.values)
 
   -- A goal over the table of unknowns of these kinds is asked until its answer is settled.
   abbrev pub SettlesInFrames : handler.goals.World → ℕ → List Sort → GoalTrees → SearchState → SearchState → Type 0
   SettlesInFrames w depth ks g old new = AskingsStartFrames w depth g MAX_ASKINGS (table_trees [] (table_of ks)) old.frames new.frames
 
--- The session has started no more frames than one asking for the question's reference in coherence takes, by what its crate sees.
-abbrev pub RefutesInFrames : Subject → Question → Subject → Type 0
-RefutesInFrames old q new =
-    (s : Solving) × IsSolvingOf old.declarations old.of_crate s × (new.frames ≤ old.frames + frames_for solver_by_view s old.depth (asked_alone (unbound_reference q.asked)))
-
 -- So it is of a question, asked until its answer is settled.
 abbrev pub QuestionInFrames : Solving → ℕ → Question → SearchState → SearchState → Type 0
 QuestionInFrames s depth q old new = SettlesInFrames solver_by_view s depth (variable_kinds q) (goal_asking s.view q) old new
-
--- It has started no more than the askings of a question take, at most `MAX_ASKINGS`, over a table with its variables and under its
--- where-clauses with all their supertraits, by what its crate sees.
-abbrev pub ProvesInFrames : Subject → Question → Subject → Type 0
-ProvesInFrames old q new =
-    (s : Solving) × IsSolvingOf old.declarations old.of_crate s
-    × AskingsStartFrames solver_by_view s old.depth (goal_asking s.view q) MAX_ASKINGS (table_trees [] (table_of (variable_kinds q))) old.frames new.frames

@@ -14,6 +14,7 @@ pub mod Subjects
 pub mod Resting
 pub mod Sessions
 pub mod Frames
+pub mod FrameBounds
 pub mod Readying
 pub mod Numbers
 pub mod Decided

@@ -7,6 +7,7 @@ use Rattle.solver_context.specs.Roots.{goal_in}
 use Rattle.solver_context.specs.declared.outcome.RootError.TheVariants as Root
 use Rattle.type_terms.specs.declared.Fault.TheVariants.{Full}
 use Rattle.sessions.proofs.Settled.{not-definite-changed, not-definite-unsure, runs-out-more, ok-same, narrows-refused, clean-refused, proved-once}
+use Rattle.sessions.proofs.FrameBounds.{older-are-terms}
 use Rattle.sessions.proofs.settling.ask_once.Goals as goal
 
 pub returns-in-Ok-clause-again : goal.returns-in-Ok-clause-again
@@ -146,4 +147,4 @@ returns-in-Err-Fault-clause-frames g c = c.evaluate_root_goal.ensures.frames _ (
 pub returns-in-Ok-clause-left : goal.returns-in-Ok-clause-left
 returns-in-Ok-clause-left g c = λ _.
     let a = c.in-Ok.ensures.answer in
-    (a.0, a.1.found, a.3)
+    (a.0, a.1.found, a.3, older-are-terms _ _ c.evaluate_root_goal.ensures.table.older)

@@ -1,7 +1,7 @@
 use Rattle.std.proofs.Common.{[], refl, sym, subst}
 use Rattle.std.specs.Prelude.{IfOk}
 use Rattle.sessions.specs.Given.{answer_in}
-use Rattle.sessions.specs.Promises.{IsProved}
+use Rattle.sessions.specs.Promises.{IsProved, view_in}
 use Rattle.sessions.specs.Subjects.{Subject, AsksProof, StaysOn}
 use Rattle.text_definitions.specs.Declarations.{Question}
 use Rattle.sessions.proofs.Keeping.{session-kept, session-rests}
@@ -10,7 +10,9 @@ use Rattle.candidate_assembly.specs.Fitting.{solving_of}
 use Rattle.candidate_assembly.specs.SolverMeaning.{solver_by_view}
 use Rattle.infer_table.specs.Unification.{table_trees}
 use Rattle.view_lowering.specs.QuestionVariables.{variable_kinds}
-use Rattle.sessions.specs.Frames.{AskingsStartFrames, ProvesInFrames}
+use Rattle.sessions.specs.Frames.{AskingsStartFrames}
+use Rattle.sessions.specs.FrameBounds.{ProvesInFrames}
+use Rattle.sessions.proofs.FrameBounds.{seen-erased-world, question-within}
 use Rattle.sessions.specs.Proving.{goal_asking}
 use Rattle.sessions.specs.Tables.{table_of}
 use Rattle.sessions.specs.declared.settling.TheConstants.{MAX_ASKINGS}
@@ -63,9 +65,7 @@ returns-clause-frames c =
     let new : Subject = record { declarations = i.workspace.now; of_crate = i.crate_id.index; depth = i.limits.depth; handles = i.limits.handles; terms = x.cx.interner.entries; term_limit = x.cx.interner.limit; frames = x.graph.frames } in
     let s = solving_of i.cx.interner.entries i.cx.handler.declarations in
     subst (λ (old : Subject). (q : Question) → AsksProof old.declarations old.of_crate c.args.number q → ProvesInFrames old q new) c.self.view_is
-    (λ q asks. (
-      s,
-      c.self.invariant.solving,
-      subst (λ n. AskingsStartFrames solver_by_view s n (goal_asking s.view q) MAX_ASKINGS (table_trees [] (table_of (variable_kinds q))) i.graph.frames x.graph.frames) c.self.invariant.rest.depth
-          (c.prove_question.ensures.frames q asks.asks.question),
-    ))
+    (λ q asks.
+    question-within s (view_in i.workspace.now i.crate_id.index) (seen-erased-world i.cx.interner.entries i.cx.handler.declarations i.workspace.now i.crate_id.index c.self.invariant.view.written) i.limits.depth q i.graph.frames x.graph.frames
+    (subst (λ n. AskingsStartFrames solver_by_view s n (goal_asking s.view q) MAX_ASKINGS (table_trees [] (table_of (variable_kinds q))) i.graph.frames x.graph.frames) c.self.invariant.rest.depth
+    (c.prove_question.ensures.frames q asks.asks.question)))

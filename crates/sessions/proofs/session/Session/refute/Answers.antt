@@ -4,9 +4,11 @@ use Rattle.candidate_assembly.specs.SolverMeaning.{solver_by_view}
 use Rattle.candidate_assembly.specs.Fitting.{solving_of}
 use Rattle.view_lowering.specs.Plain.{unbound_reference}
 use Rattle.sessions.specs.Asking.{asked_alone}
-use Rattle.sessions.specs.Frames.{frames_for, RefutesInFrames}
+use Rattle.sessions.specs.Frames.{frames_for}
+use Rattle.sessions.specs.FrameBounds.{RefutesInFrames}
+use Rattle.sessions.proofs.FrameBounds.{seen-erased-world, refutation-within}
 use Rattle.sessions.specs.Given.{refutation_of}
-use Rattle.sessions.specs.Promises.{IsRefutation}
+use Rattle.sessions.specs.Promises.{IsRefutation, view_in}
 use Rattle.sessions.specs.Subjects.{Subject, AsksRefutation}
 use Rattle.text_definitions.specs.Declarations.{Question}
 use Rattle.sessions.proofs.Alone.{on-map}
@@ -32,9 +34,7 @@ returns-clause-frames c =
     let new : Subject = record { declarations = i.workspace.now; of_crate = i.crate_id.index; depth = i.limits.depth; handles = i.limits.handles; terms = c.refute_question.new.cx.interner.entries; term_limit = c.refute_question.new.cx.interner.limit; frames = c.refute_question.new.graph.frames } in
     let s = solving_of i.cx.interner.entries i.cx.handler.declarations in
     subst (λ (old : Subject). (q : Question) → AsksRefutation old.declarations old.of_crate c.args.number q → RefutesInFrames old q new) c.self.view_is
-    (λ q asks. (
-      s,
-      c.self.invariant.solving,
-      subst (λ n. new.frames ≤ i.graph.frames + frames_for solver_by_view s n (asked_alone (unbound_reference q.asked))) c.self.invariant.rest.depth
-          (c.refute_question.ensures.frames q asks.asks.question),
-    ))
+    (λ q asks.
+    refutation-within s (view_in i.workspace.now i.crate_id.index) (seen-erased-world i.cx.interner.entries i.cx.handler.declarations i.workspace.now i.crate_id.index c.self.invariant.view.written) i.limits.depth q i.graph.frames new.frames
+    (subst (λ n. new.frames ≤ i.graph.frames + frames_for solver_by_view s n (asked_alone (unbound_reference q.asked))) c.self.invariant.rest.depth
+    (c.refute_question.ensures.frames q asks.asks.question)))
