@@ -6,3 +6,4 @@ pub mod Listed
 pub mod Listing
 pub mod Valued
 pub mod Told
+pub mod Shown

@@ -13,11 +13,13 @@ mod params;
 mod piece;
 mod printer;
 mod question;
+mod shown;
 
 pub use answer::{Answer, ValueText, print_line};
 pub use header::HeaderNames;
 pub use laws::lines_tell_answers;
 pub use named_values::answer_values;
 pub use names::{PrintNames, TermKind};
-pub use printer::{print_const, print_type};
+pub use printer::{print_const, print_type, print_type_within};
 pub use question::{QuestionNames, Unknown};
+pub use shown::ShownNames;

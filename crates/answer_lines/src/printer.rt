@@ -6,6 +6,7 @@ ghost use Rattle.type_terms.specs.Label.{tuple, fn_ptr, adt};
 ghost use Rattle.type_terms.specs.Terms.{Has, Lawful, trees_at, types, consts, bounds_lists};
 ghost use Rattle.type_terms.specs.Kinds.{kind_trees, args_trees, tys_trees, autos_trees, int_number, uint_number, is_mut, KindHeld, ArgsHeld, TysHeld};
 ghost use Rattle.text_definitions.specs.Output.{type_text, int_name, ends_in_unit};
+ghost use Rattle.answer_lines.specs.Shown.{IsBeginning};
 ghost use Rattle.answer_lines.specs.Pieces.{ref_sign, raw_ptr_sign, arg_sign, more_args, PieceHeld, PrintsTrees, PrintsPiece, PushesTypes, PushesOutput, PrintsPrincipalOf, PrintsAutos, PrintsKind, PrintsAdt, PrintsTuple, PrintsFn, PrintsArg, PrintsTypes, PrintsArgs, PrintsMoreAutos};
 
 use crate::names::{PrintNames, TermKind};
@@ -614,6 +615,32 @@ pub fn print_type<N: PrintNames>(
     let mut stack = Vec::new(*out.allocator());
     stack.push(Piece::Ty(ty))?;
     while let Some(piece) = stack.pop() {
+        step(interner, names, piece, &mut stack, out)?;
+    }
+    Ok(())
+}
+
+/// Appends a beginning of the text of a type: all of it, if it is short. No piece of the text is begun where the output has so many
+/// bytes, and a piece is a name or shorter. So the time that it takes is bounded, whatever the type.
+///
+/// A call fails where a request for memory is refused, and may have appended a part of the text then.
+pub fn print_type_within<N: PrintNames>(
+    interner: &Interner,
+    names: &N,
+    ty: Ty,
+    limit: usize,
+    out: &mut Vec<u8>,
+) -> Result<(), AllocError>
+    requires { Has interner.now.entries types ty.0 }
+    ensures { OnOk result (IsBeginning (out.old.items ++ type_text (N.names names.now) (trees_at interner.now.entries ty.0)) out.new.items) }
+{
+    interner.lawful();
+    let mut stack = Vec::new(*out.allocator());
+    stack.push(Piece::Ty(ty))?;
+    'pieces: while out.len() < limit {
+        let Some(piece) = stack.pop() else {
+            return Ok(());
+        };
         step(interner, names, piece, &mut stack, out)?;
     }
     Ok(())

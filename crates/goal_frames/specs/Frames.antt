@@ -1,6 +1,7 @@
 -- What frames in code have heard, and what they ask.
-use Rattle.std.specs.Prelude.{◌≡◌, ℕ, List, [], ◌∷◌, map, Option, Result, Ok, IfOk}
+use Rattle.std.specs.Prelude.{◌≡◌, ℕ, List, [], ◌∷◌, map, Option, option_map, Result, Ok, IfOk}
 use Rattle.type_terms.specs.Terms.{Entry, Keeps}
+use Rattle.infer_table.specs.declared.certainty.Certainty.{Certainty}
 use Rattle.infer_table.specs.declared.certainty.TypingMode.{TypingMode}
 use Rattle.infer_table.specs.declared.input.CanonicalInput.{CanonicalInput}
 use Rattle.infer_table.specs.declared.response.CanonicalResponse.{CanonicalResponse}
@@ -124,3 +125,7 @@ IsAtStep step place = (source : CandidateSource) × (r : Option CanonicalRespons
 abbrev pub IgnoresAt : Option CanonicalResponse → List ℕ → Requests.Request CanonicalInput (Option CanonicalResponse) → Place → Type 0
 IgnoresAt answer numbers q place =
     (es : List Entry) (mode : TypingMode) (p : Standing) → IsIgnoring (result_read es answer) numbers p → IsRequest mode es q (request p) × Answers es place p
+
+-- the frame's candidate, from this source, ended with a response of this certainty, or was refused
+abbrev pub IsFinishingWith : CandidateSource → Option Certainty → Place → Type 0
+IsFinishingWith source certainty place = (r : Option CanonicalResponse) × (place ≡ InCode.Finishing source r) × (option_map (λ (a : CanonicalResponse). a.certainty) r ≡ certainty)

@@ -1,24 +1,24 @@
 //! The frame of a goal.
 
-ghost use Rattle.std.specs.Prelude.{◌≡◌, ◌⊎◌, [], Err, IfOk, drop, List};
+ghost use Rattle.std.specs.Prelude.{◌≡◌, ◌⊎◌, [], Err, IfOk, IfSome, drop, option_map, List};
 ghost use Rattle.type_terms.specs.Terms.{Entry, Keeps};
 ghost use Rattle.type_terms.specs.Failures.{SomeKindIsFull};
 ghost use Rattle.infer_table.specs.Goals.{GoalHeld};
 ghost use Rattle.infer_table.specs.Canonical.{CanonicalForm};
 ghost use Rattle.infer_table.specs.declared.certainty.TypingMode.{TypingMode};
-ghost use Rattle.evaluation.specs.Readings.{ResultHeld, is_coinductive_step};
+ghost use Rattle.evaluation.specs.Readings.{ResultHeld, SpecHeld, is_coinductive_step};
 ghost use Rattle.goal_frames.specs.Searches.{step_kind};
 ghost use Rattle.goal_frames.specs.Meanings.{goal_meaning};
 ghost use Rattle.goal_frames.specs.Fitting.{ResultFits};
 ghost use Rattle.goal_frames.specs.Places.{Standing};
-ghost use Rattle.goal_frames.specs.Frames.{FrameHeld, HasHeard, IsDue, IsReply, RequestHeld, Steps, AsksHandler, AsksAt, GoesOnWith, IgnoresAt, IsAtStep, reply_read};
+ghost use Rattle.goal_frames.specs.Frames.{FrameHeld, HasHeard, IsDue, IsReply, RequestHeld, Steps, AsksHandler, AsksAt, GoesOnWith, IgnoresAt, IsAtStep, IsFinishingWith, reply_read};
 ghost use Rattle.goal_frames.specs.Shortages.{NextRunsOut, FrameRunsOut};
 ghost use Rattle.goal_frames.specs.Steps.{AsksFewer};
 
 use crate::handler::GoalHandler;
 use evaluation::{
-    CandidateSource, CandidateSpec, CandidateStep, Considered, EvalError, GoalSource, HandlerStep,
-    OpenCandidate, begin_candidate,
+    CandidateSource, CandidateSpec, CandidateStep, Certainty, Considered, EvalError, GoalSource,
+    HandlerStep, OpenCandidate, begin_candidate,
 };
 use infer_table::input::CanonicalInput;
 use infer_table::response::CanonicalResponse;
@@ -77,6 +77,16 @@ fn kind_of_step(coinductive: bool, source: GoalSource) -> PathKind
     }
 }
 
+/// How sure a response is; none where there is none.
+fn certainty_of(response: &Option<CanonicalResponse>) -> Option<Certainty>
+    ensures { result ≡ option_map (λ r. r.certainty) response.now }
+{
+    match response {
+        Some(response) => Some(response.certainty),
+        None => None,
+    }
+}
+
 impl GoalFrame {
     /// The frame of a goal, which has had no reply.
     pub fn new<H: GoalHandler>(alloc: Global, goal: CanonicalInput) -> GoalFrame
@@ -87,6 +97,26 @@ impl GoalFrame {
             goal,
             considered: Vec::new(alloc),
             place: Place::Begun,
+        }
+    }
+
+    /// The candidate that the frame has asked to enter; none where it has asked for something else.
+    pub fn candidate(&self) -> Option<&CandidateSpec>
+        ensures { (es : List Entry) → FrameHeld es self.now → IfSome result (λ s. SpecHeld es s.now) }
+    {
+        match &self.place {
+            Place::Entering(spec) => Some(spec),
+            _ => None,
+        }
+    }
+
+    /// What the candidate that the frame has asked to finish came to: where it is from, and how sure its response is, none if it was refused.
+    pub fn outcome(&self) -> Option<(CandidateSource, Option<Certainty>)>
+        ensures { IfSome result (λ found. IsFinishingWith found.0 found.1 self.now.place) }
+    {
+        match &self.place {
+            Place::Finishing(source, result) => Some((*source, certainty_of(result))),
+            _ => None,
         }
     }
 

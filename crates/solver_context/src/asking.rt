@@ -23,14 +23,17 @@ use type_terms::Fault;
 use type_terms::kinds::GenericArgKind;
 
 /// A goal of a table, resolved, with its canonical form and what the form's variables stand for.
-pub(crate) struct Asked {
-    pub(crate) goal: Goal,
-    pub(crate) input: InputId,
-    pub(crate) values: Vec<GenericArgKind>,
+pub struct Asked {
+    /// The goal, resolved.
+    pub goal: Goal,
+    /// The number of its canonical form.
+    pub input: InputId,
+    /// What stands for the variables of the form.
+    pub values: Vec<GenericArgKind>,
 }
 
 /// The goal as the table resolves it, and its canonical form.
-pub(crate) fn ask<H: GoalHandler>(
+pub fn ask<H: GoalHandler>(
     cx: &mut SolverCx<H>,
     table: &InferCtxt,
     mode: TypingMode,

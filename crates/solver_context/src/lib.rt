@@ -21,6 +21,7 @@ mod root;
 mod searching;
 mod silent;
 
+pub use asking::{Asked, ask};
 pub use context::SolverCx;
 pub use graph::SolverGraph;
 pub use laws::{canonical_variable_laws, context_laws};
