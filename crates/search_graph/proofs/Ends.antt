@@ -1,5 +1,5 @@
 -- The reply to a question whose goal is run no more.
-use Rattle.std.proofs.Common.{◌≡◌, ◌∙◌, ◌≤◌, ℕ, Bool, false, List, length, sym, Result, Ok, Err}
+use Rattle.std.proofs.Common.{◌≡◌, ◌∙◌, ◌≤◌, ℕ, Bool, false, List, [], length, sym, Result, Ok, Err}
 use Rattle.std.specs.Result.{IfOk, OnOk}
 use Rattle.search_graph.specs.declared.path_kind.PathKind.{PathKind}
 use Rattle.search_graph.specs.declared.stack.StackEntry.{StackEntry}
@@ -17,22 +17,22 @@ pub depth_after : {R E : Type 0} (r : Result (EvaluationResult R) E) (o : Evalua
 depth_after (Ok p) o depth within says = rw (says.overflow, says.depth) within
 depth_after (Err e) o depth within says = tt
 
-pub held_after : {I R E : Type 0} (r : Result (EvaluationResult R) E) (o : EvaluationResult R) (old new : List (CacheEntry I R)) (asked : List Asked) (input into : I) (index number depth : ℕ) → into ≡ input → index ≤ o.dependencies.lowest
-    → (o.dependencies.encountered_overflow ≡ false → o.dependencies.required_depth ≤ depth) → OnOk r (index ≤ o.dependencies.lowest → AddsEvaluation old new asked into number depth o) → IfOk r (SaysSame o)
+pub held_after : {I R E : Type 0} (r : Result (EvaluationResult R) E) (o : EvaluationResult R) (old new : List (CacheEntry I R)) (asked : List Asked) (input into : I) (number depth : ℕ) → into ≡ input → o.dependencies.heads.items ≡ []
+    → (o.dependencies.encountered_overflow ≡ false → o.dependencies.required_depth ≤ depth) → OnOk r (o.dependencies.heads.items ≡ [] → AddsEvaluation old new asked into number depth o) → IfOk r (SaysSame o)
     → IfOk r (λ p. HoldsResult new input depth p.result)
-held_after (Ok p) o old new asked input into index number depth same alone within keeps says =
+held_after (Ok p) o old new asked input into number depth same alone within keeps says =
     let kept = keeps alone in
     (length old, kept.0, rw kept.1 (at_end old kept.0), kept.2 ∙ same, kept.3 ∙ sym says.result, kept_within o.dependencies.encountered_overflow kept.0.encountered_overflow depth o.dependencies.required_depth kept.0.depth kept.5 kept.4 within)
-held_after (Err e) o old new asked input into index number depth same alone within keeps says = tt
+held_after (Err e) o old new asked input into number depth same alone within keeps says = tt
 
 module _ {C I R F E : Type 0} (m : Meaning C I R F) (c d : C) (es : List (StackEntry I R)) (input : I) where
-  pub answer_after : (r : Result (EvaluationResult R) E) (o : EvaluationResult R) (k : PathKind) → IsReplyOver m c es input k o.dependencies.lowest d o.result → IfOk r (SaysSame o)
-      → IfOk r (λ p. IsReplyOver m c es input k p.dependencies.lowest d p.result)
-  answer_after (Ok p) o k answer says = rw (says.lowest, says.result) answer
+  pub answer_after : (r : Result (EvaluationResult R) E) (o : EvaluationResult R) (k : PathKind) → IsReplyOver m c es input k o.dependencies.heads.items d o.result → IfOk r (SaysSame o)
+      → IfOk r (λ p. IsReplyOver m c es input k p.dependencies.heads.items d p.result)
+  answer_after (Ok p) o k answer says = rw (says.heads, says.result) answer
   answer_after (Err e) o k answer says = tt
 
   pub faithful_after : (r : Result (EvaluationResult R) E) (o : EvaluationResult R) (reach : ℕ) → IsFaithfulOver m c es input reach d o → IfOk r (SaysSame o) → IfOk r (IsFaithfulOver m c es input reach d)
-  faithful_after (Ok p) o reach faithful says = rw (says.lowest, says.result, says.heads, says.overflow) faithful
+  faithful_after (Ok p) o reach faithful says = rw (says.result, says.heads, says.overflow) faithful
   faithful_after (Err e) o reach faithful says = tt
 
   pub within_after : (r : Result (EvaluationResult R) E) (o : EvaluationResult R) (old mid new : List (CacheEntry I R)) (into : I) (met : Bool) → Keeps m c d → into ≡ input → m.IsInput c input

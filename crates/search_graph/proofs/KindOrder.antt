@@ -1,9 +1,9 @@
 -- The order of kinds, and the flags of paths.
-use Rattle.std.proofs.Common.{◌≡◌, ℕ, zero, suc, ◌<◌, max, Option, None, Some, refl, sym, ap, ◌∙◌, arith}
+use Rattle.std.proofs.Common.{◌≡◌, ℕ, zero, suc, ◌<◌, max, Bool, true, false, ◌||◌, Option, None, Some, refl, sym, ap, ◌∙◌, arith}
 use Rattle.search_graph.specs.declared.path_kind.PathKind.{PathKind}
 use Rattle.search_graph.specs.declared.path_kind.PathKind.TheVariants.{Inductive, Unknown, Coinductive, ForcedAmbiguity}
 use Rattle.search_graph.specs.Laws.{IsAssociative}
-use Rattle.search_graph.specs.Path.{rank, greater, after, flag_of}
+use Rattle.search_graph.specs.Path.{rank, is_coinductive, greater, after, flag_of}
 
 -- the kind at a place of the order
 abbrev kind_at : ℕ → PathKind
@@ -84,3 +84,43 @@ flag_of-after (Some j) k = omega (arith, rank-greater j k)
 pub after-twice : (path : Option PathKind) (j k : PathKind) → greater (after path j) k ≡ after path (greater j k)
 after-twice None j k = refl
 after-twice (Some i) j k = greater-associative i j k
+
+-- a coinductive step is one of two
+pub greater_passes : (j k : PathKind) (b : Bool) → b || is_coinductive (greater j k) ≡ true → (b || is_coinductive k) || is_coinductive j ≡ true
+greater_passes j k true h = refl
+greater_passes Inductive Coinductive false h = refl
+greater_passes Inductive Inductive false h = h
+greater_passes Inductive Unknown false h = h
+greater_passes Inductive ForcedAmbiguity false h = h
+greater_passes Unknown Inductive false h = h
+greater_passes Unknown Unknown false h = h
+greater_passes Unknown Coinductive false h = refl
+greater_passes Unknown ForcedAmbiguity false h = h
+greater_passes Coinductive Inductive false h = refl
+greater_passes Coinductive Unknown false h = refl
+greater_passes Coinductive Coinductive false h = refl
+greater_passes Coinductive ForcedAmbiguity false h = refl
+greater_passes ForcedAmbiguity k false h = elim k as (λ k. (false || is_coinductive k) || is_coinductive ForcedAmbiguity ≡ true) [ Inductive ↦ h | Unknown ↦ h | Coinductive ↦ refl | ForcedAmbiguity ↦ h ]
+
+-- where neither hides a coinductive step, a coinductive one of two makes the greater coinductive
+pub greater_keeps : (j k : PathKind) (b : Bool) → (greater j k ≡ ForcedAmbiguity → ⊥) → (b || is_coinductive k) || is_coinductive j ≡ true → b || is_coinductive (greater j k) ≡ true
+greater_keeps j k true free h = refl
+greater_keeps Inductive Inductive false free h = h
+greater_keeps Inductive Unknown false free h = h
+greater_keeps Inductive Coinductive false free h = refl
+greater_keeps Inductive ForcedAmbiguity false free h = h
+greater_keeps Unknown Inductive false free h = h
+greater_keeps Unknown Unknown false free h = h
+greater_keeps Unknown Coinductive false free h = refl
+greater_keeps Unknown ForcedAmbiguity false free h = h
+greater_keeps Coinductive Inductive false free h = refl
+greater_keeps Coinductive Unknown false free h = refl
+greater_keeps Coinductive Coinductive false free h = refl
+greater_keeps Coinductive ForcedAmbiguity false free h = absurd (free refl)
+greater_keeps ForcedAmbiguity k false free h = absurd (free refl)
+
+pub greater_forced : (j k : PathKind) → k ≡ ForcedAmbiguity → greater j k ≡ ForcedAmbiguity
+greater_forced Inductive k h = h
+greater_forced Unknown k h = rw h refl
+greater_forced Coinductive k h = rw h refl
+greater_forced ForcedAmbiguity k h = refl

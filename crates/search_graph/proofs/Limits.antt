@@ -27,15 +27,15 @@ MatchOption-both None P Q S f p q = tt
 MatchOption-both (Some x) P Q S f p q = f x p q
 
 module _ {C I R F : Type 0} (m : Meaning C I R F) (w : m.World) (before : List (m.Goal × m.Answer)) where
-  pub IsLastWithin-keeps : (v : m.World) (path : List (m.Goal × PathKind)) (c d : C) (e : StackEntry I R) → Keeps m c d → IsEntry m v path c e → IsLastWithin m w before c e → IsLastWithin m w before d e
-  IsLastWithin-keeps v path c d e keeps entry h =
-      MatchOption-both e.provisional_result (IsProvisional m v path (question_of m c e) e.lowest c) (λ r. IsWithin m w before (m.goal_of c e.input) (m.answer_of c r)) (λ r. IsWithin m w before (m.goal_of d e.input) (m.answer_of d r))
+  pub IsLastWithin-keeps : (v : m.World) (steps : List (m.Goal × PathKind)) (c d : C) (e : StackEntry I R) → Keeps m c d → IsEntry m v steps c e → IsLastWithin m w before c e → IsLastWithin m w before d e
+  IsLastWithin-keeps v steps c d e keeps entry h =
+      MatchOption-both e.provisional_result (IsProvisional m v steps (question_of m c e) e.heads.items c) (λ r. IsWithin m w before (m.goal_of c e.input) (m.answer_of c r)) (λ r. IsWithin m w before (m.goal_of d e.input) (m.answer_of d r))
       (λ r p q. rw ((keeps.inputs e.input entry.known).1, (keeps.results r p.known).1) q) entry.last h
 
   -- in a later context
-  pub AreLastWithin-keeps : (v : m.World) (path : List (m.Goal × PathKind)) (c d : C) (es : List (StackEntry I R)) → Keeps m c d → IsStack m v path c es → AreLastWithin m w before c es → AreLastWithin m w before d es
-  AreLastWithin-keeps v path c d [] keeps stack h = h
-  AreLastWithin-keeps v path c d (e ∷ es) keeps stack h = (IsLastWithin-keeps v path c d e keeps stack.0 h.0, AreLastWithin-keeps v (question_of m c e ∷ path) c d es keeps stack.1 h.1)
+  pub AreLastWithin-keeps : (v : m.World) (steps : List (m.Goal × PathKind)) (c d : C) (es : List (StackEntry I R)) → Keeps m c d → IsStack m v steps c es → AreLastWithin m w before c es → AreLastWithin m w before d es
+  AreLastWithin-keeps v steps c d [] keeps stack h = h
+  AreLastWithin-keeps v steps c d (e ∷ es) keeps stack h = (IsLastWithin-keeps v steps c d e keeps stack.0 h.0, AreLastWithin-keeps v (steps ++ question_of m c e ∷ []) c d es keeps stack.1 h.1)
 
   pub AreLastWithin-push : (c : C) (es : List (StackEntry I R)) (e : StackEntry I R) → AreLastWithin m w before c es → IsLastWithin m w before c e → AreLastWithin m w before c (es ++ e ∷ [])
   AreLastWithin-push c [] e h last = (last, tt)

@@ -7,7 +7,6 @@ use Rattle.search_graph.specs.declared.delegate.Reply.TheVariants.{Entered, Fini
 use Rattle.search_graph.specs.declared.candidates.Turn.{Turn}
 use Rattle.search_graph.specs.declared.candidates.Turn.TheVariants.{Ask, Tell, End}
 use Rattle.search_graph.specs.declared.path_kind.PathKind.{PathKind}
-use Rattle.search_graph.specs.declared.dependencies.CycleHead.{CycleHead}
 use Rattle.search_graph.specs.Meaning.{Meaning, IsFair, IsReply, IsReplyBy, IsDueAt, IsInOrder, is_open, finished, ignoring, answer_count, request_of, reply_of}
 use Rattle.search_graph.specs.Computed.{HoldsNoResult}
 use Rattle.search_graph.specs.Stack.{yes_questions}
@@ -75,17 +74,17 @@ module _ {C I R F : Type 0} (m : Meaning C I R F) (w : m.World) (g : m.Goal) (he
       })
   told_in_turn (Done s) turn reply is h asks = absurd (let e : ◌≡◌ {A = Turn I R} (End s) (Tell reply) = sym h.0 ∙ is in cc)
 
-  pub plain_in_turn : (reach : ℕ) (path : List (m.Goal × PathKind)) (overflowed : Bool) (low : ℕ) (reads : List CycleHead) → IsOnPlainTrack m w reach path g overflowed low reads heard
+  pub plain_in_turn : (reach : ℕ) (steps : List (m.Goal × PathKind)) (overflowed : Bool) (heads : List ℕ) → IsOnPlainTrack m w reach steps g overflowed heads heard
       → (q : Request I R) (turn : Turn I R) (reply : Reply R) → turn ≡ Tell reply → IsTurn one_open done q turn now later → request_of m c q ≡ m.asks w g heard
-      → IsOnPlainTrack m w reach path g overflowed low reads (reply_of m c reply ∷ heard)
-  plain_in_turn reach path overflowed low reads track (Evaluate j l) turn reply is h asks = absurd (let e : ◌≡◌ {A = Turn I R} (Ask j l) (Tell reply) = sym h.0 ∙ is in cc)
-  plain_in_turn reach path overflowed low reads track EnterCandidate turn reply is h asks =
+      → IsOnPlainTrack m w reach steps g overflowed heads (reply_of m c reply ∷ heard)
+  plain_in_turn reach steps overflowed heads track (Evaluate j l) turn reply is h asks = absurd (let e : ◌≡◌ {A = Turn I R} (Ask j l) (Tell reply) = sym h.0 ∙ is in cc)
+  plain_in_turn reach steps overflowed heads track EnterCandidate turn reply is h asks =
       let e : Entered ≡ reply = (let s : ◌≡◌ {A = Turn I R} (Tell Entered) (Tell reply) = sym h.0 ∙ is in cc) in
-      subst (λ r. IsOnPlainTrack m w reach path g overflowed low reads (reply_of m c r ∷ heard)) e (plain_entered m w reach path g overflowed low reads heard track (sym asks))
-  plain_in_turn reach path overflowed low reads track FinishCandidate turn reply is h asks =
+      subst (λ r. IsOnPlainTrack m w reach steps g overflowed heads (reply_of m c r ∷ heard)) e (plain_entered m w reach steps g overflowed heads heard track (sym asks))
+  plain_in_turn reach steps overflowed heads track FinishCandidate turn reply is h asks =
       let e : Finished (length done) ≡ reply = (let s : ◌≡◌ {A = Turn I R} (Tell (Finished (length done))) (Tell reply) = sym h.0 ∙ is in cc) in
-      subst (λ r. IsOnPlainTrack m w reach path g overflowed low reads (reply_of m c r ∷ heard)) e (plain_finished m w reach path g overflowed low reads heard track (length done) (ap length listed) (sym asks))
-  plain_in_turn reach path overflowed low reads track (IgnoreCandidate n) turn reply is h asks =
+      subst (λ r. IsOnPlainTrack m w reach steps g overflowed heads (reply_of m c r ∷ heard)) e (plain_finished m w reach steps g overflowed heads heard track (length done) (ap length listed) (sym asks))
+  plain_in_turn reach steps overflowed heads track (IgnoreCandidate n) turn reply is h asks =
       let e : Ignored ≡ reply = (let s : ◌≡◌ {A = Turn I R} (Tell Ignored) (Tell reply) = sym h.0 ∙ is in cc) in
-      subst (λ r. IsOnPlainTrack m w reach path g overflowed low reads (reply_of m c r ∷ heard)) e (plain_ignored m w reach path g overflowed low reads heard track n (sym asks))
-  plain_in_turn reach path overflowed low reads track (Done s) turn reply is h asks = absurd (let e : ◌≡◌ {A = Turn I R} (End s) (Tell reply) = sym h.0 ∙ is in cc)
+      subst (λ r. IsOnPlainTrack m w reach steps g overflowed heads (reply_of m c r ∷ heard)) e (plain_ignored m w reach steps g overflowed heads heard track n (sym asks))
+  plain_in_turn reach steps overflowed heads track (Done s) turn reply is h asks = absurd (let e : ◌≡◌ {A = Turn I R} (End s) (Tell reply) = sym h.0 ∙ is in cc)

@@ -43,7 +43,6 @@ IfKnown {I} {R} ks input depth P = (place : ℕ) (k : KnownResult I R) → slice
 -- both have one result and rest on the same goals of the stack, and neither needs more depth
 pub record SaysSame {R : Type 0} (o p : EvaluationResult R) : Type 0 where
   pub result : p.result ≡ o.result
-  pub lowest : p.dependencies.lowest ≡ o.dependencies.lowest
   pub heads : p.dependencies.heads ≡ o.dependencies.heads
   pub overflow : p.dependencies.encountered_overflow ≡ o.dependencies.encountered_overflow
   pub depth : p.dependencies.required_depth ≡ o.dependencies.required_depth
@@ -99,7 +98,7 @@ module _ {C I R F : Type 0} (m : Meaning C I R F) where
   -- a result that rests on no stack: it covers its goal, a yes has a proof, and it is that of plain recursion
   pub record IsJustified (c : C) (k : KnownResult I R) : Type 0 where
     pub known : m.IsInput c k.input
-    pub result : IsProvisional m (m.world c) [] (m.goal_of c k.input, Inductive) 0 c k.result
+    pub result : IsProvisional m (m.world c) [] (m.goal_of c k.input, Inductive) [] c k.result
     pub kept : IsKept m (m.world c) (m.goal_of c k.input) (m.answer_of c k.result) k.depth k.overflowed
 
   abbrev pub AreJustified : C → List (KnownResult I R) → Type 0

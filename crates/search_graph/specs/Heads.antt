@@ -1,9 +1,27 @@
--- The goals of the stack whose results were read.
-use Rattle.std.specs.Prelude.{◌==◌, ℕ, List, [], ◌∷◌, if◌then◌else◌}
+-- The goals of the stack on which results rest.
+use Rattle.std.specs.Prelude.{◌≡◌, ◌==◌, ◌↔◌, ◌⊎◌, ℕ, List, [], ◌∷◌, Some, slice_get, position, if◌then◌else◌}
 use Rattle.std.specs.Int.RustNames.{bit_or}
 use Rattle.search_graph.specs.declared.dependencies.CycleHead.{CycleHead}
+use Rattle.search_graph.specs.KeptPaths.{indices}
+use Rattle.search_graph.specs.Faithful.{IsHead}
 
 -- the paths by which the result of the goal at this place was read, as a set
 abbrev pub paths_to : List CycleHead → ℕ → ℕ
 paths_to [] place = 0
 paths_to (head ∷ heads) place = if head.index == place then bit_or head.paths.0 (paths_to heads place) else paths_to heads place
+
+-- the goal at this place is one of the heads
+abbrev pub RestsOn : List CycleHead → ℕ → Type 0
+RestsOn heads place = IsHead place (indices heads)
+
+-- the head is in the list, and the first there of its goal
+abbrev pub IsFirstOf : List CycleHead → CycleHead → Type 0
+IsFirstOf heads head = (place : ℕ) × (position (λ other. other.index == head.index) heads ≡ Some place) × (slice_get heads place ≡ Some head)
+
+-- the last heads are those of both
+abbrev pub AreHeadsOfBoth : List CycleHead → List CycleHead → List CycleHead → Type 0
+AreHeadsOfBoth one other both = (place : ℕ) → RestsOn both place ↔ (RestsOn one place ⊎ RestsOn other place)
+
+-- the first heads are the others, and maybe the goal at the place
+abbrev pub AreHeadsBut : ℕ → List ℕ → List ℕ → Type 0
+AreHeadsBut place less heads = (other : ℕ) → IsHead other heads → (other ≡ place) ⊎ IsHead other less

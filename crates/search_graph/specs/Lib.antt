@@ -6,6 +6,8 @@ pub mod Heads
 pub mod Meaning
 pub mod Computed
 pub mod Shown
+pub mod KeptPaths
+pub mod Rests
 pub mod Stack
 pub mod Question
 pub mod Turn

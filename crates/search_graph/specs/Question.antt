@@ -1,25 +1,34 @@
 -- What is promised of a question on a goal over a stack: its input was asked in the context c, and its result came in d.
-use Rattle.std.specs.Prelude.{◌≡◌, ◌≤◌, ◌+◌, ◌⊎◌, ℕ, Bool, false, List, []}
+use Rattle.std.specs.Prelude.{◌≡◌, ◌≤◌, ◌+◌, ◌⊎◌, ℕ, Bool, false, List, [], ◌∷◌, length}
 use Rattle.search_graph.specs.declared.path_kind.PathKind.{PathKind}
 use Rattle.search_graph.specs.declared.stack.StackEntry.{StackEntry}
 use Rattle.search_graph.specs.declared.stack.Cycle.{Cycle}
 use Rattle.search_graph.specs.declared.cache.CacheEntry.{CacheEntry}
+use Rattle.search_graph.specs.declared.dependencies.CycleHead.{CycleHead}
 use Rattle.search_graph.specs.declared.dependencies.Dependencies.{Dependencies}
 use Rattle.search_graph.specs.declared.dependencies.EvaluationResult.{EvaluationResult}
 use Rattle.search_graph.specs.Meaning.{Meaning}
 use Rattle.search_graph.specs.Cache.{KnownResult, answers_in}
 use Rattle.search_graph.specs.Plain.{IsNotPlain}
-use Rattle.search_graph.specs.Faithful.{AllDescend, IsFaithful, IsUntouched, IsKept}
-use Rattle.search_graph.specs.Stack.{question_of, path_onto, IsAnswer, IsProvisional, IsWithin, IsLastWithin, AreLastWithin, AreCachedWithin}
+use Rattle.search_graph.specs.Faithful.{AllDescend, HeadsDescend, IsFaithful, IsUntouched, IsKept}
+use Rattle.search_graph.specs.KeptPaths.{AreBelow, indices}
+use Rattle.search_graph.specs.Heads.{AreHeadsBut}
+use Rattle.search_graph.specs.Stack.{question_of, steps_of, IsAnswer, IsProvisional, IsWithin, IsLastWithin, AreLastWithin, AreCachedWithin}
 
 module _ {C I R F : Type 0} (m : Meaning C I R F) where
-  -- a reply to the question, which rests on no goal of the stack below the place low
-  abbrev pub IsReplyOver : C → List (StackEntry I R) → I → PathKind → ℕ → C → R → Type 0
-  IsReplyOver c es input k low d r = IsAnswer m (m.world c) (path_onto m c es []) (m.goal_of c input, k) low d r
+  -- a reply to the question, which rests on these goals of the stack
+  abbrev pub IsReplyOver : C → List (StackEntry I R) → I → PathKind → List CycleHead → C → R → Type 0
+  IsReplyOver c es input k heads d r = IsAnswer m (m.world c) (steps_of m c es) (m.goal_of c input, k) (indices heads) d r
 
-  -- a result of a run of the entry's goal, which rests on no goal of the stack below the place low
-  abbrev pub IsRunOver : C → List (StackEntry I R) → StackEntry I R → ℕ → C → R → Type 0
-  IsRunOver c es entry low d r = IsProvisional m (m.world c) (path_onto m c es []) (question_of m c entry) low d r
+  -- a reply that is read of the entry at the place, which rests on it and on what its last result rests on
+  abbrev pub IsReadOver : C → List (StackEntry I R) → I → PathKind → ℕ → StackEntry I R → C → R → Type 0
+  IsReadOver c es input k place e d r = IsAnswer m (m.world c) (steps_of m c es) (m.goal_of c input, k) (place ∷ e.heads.items) d r
+
+  -- a result of a run of the entry's goal, which rests on these goals, of which the goal itself may be one
+  abbrev pub IsRunOver : C → List (StackEntry I R) → StackEntry I R → List CycleHead → C → R → Type 0
+  IsRunOver c es entry heads d r =
+      AreBelow (length es + 1) (indices heads)
+      × ((less : List ℕ) → AreHeadsBut (length es) less (indices heads) → IsProvisional m (m.world c) (steps_of m c es) (question_of m c entry) less d r)
 
   -- the goal's initial result for the cycle
   abbrev pub IsInitial : C → I → Cycle → C → R → Type 0
@@ -28,11 +37,11 @@ module _ {C I R F : Type 0} (m : Meaning C I R F) where
   -- up to reach, and past it if there was no overflow, the result is plain recursion's
   abbrev pub IsFaithfulOver : C → List (StackEntry I R) → I → ℕ → C → EvaluationResult R → Type 0
   IsFaithfulOver c es input reach d o =
-      IsFaithful m (m.world c) reach (path_onto m c es []) (m.goal_of c input) (m.answer_of d o.result) o.dependencies.encountered_overflow o.dependencies.lowest o.dependencies.heads.items
+      IsFaithful m (m.world c) reach (steps_of m c es) (m.goal_of c input) (m.answer_of d o.result) o.dependencies.encountered_overflow (indices o.dependencies.heads.items)
 
   -- the same of a goal that is still evaluated
   abbrev pub IsUntouchedOver : C → List (StackEntry I R) → I → ℕ → Dependencies → Type 0
-  IsUntouchedOver c es input reach found = IsUntouched m (m.world c) reach (path_onto m c es []) (m.goal_of c input) found.encountered_overflow found.lowest found.heads.items
+  IsUntouchedOver c es input reach found = IsUntouched m (m.world c) reach (steps_of m c es) (m.goal_of c input) found.encountered_overflow (indices found.heads.items)
 
   -- and of a cached result of this depth, which rests on no stack
   abbrev pub IsKeptResult : C → I → R → ℕ → Bool → Type 0
@@ -41,16 +50,16 @@ module _ {C I R F : Type 0} (m : Meaning C I R F) where
   -- up to reach, plain recursion has no answer to the goal where that on each goal of the stack descends to it
   abbrev pub IsNotPlainOver : C → List (StackEntry I R) → I → ℕ → Type 0
   IsNotPlainOver c es input reach =
-      (limit : ℕ) → limit ≤ reach → AllDescend m (m.world c) limit 0 (path_onto m c es []) (m.goal_of c input) → IsNotPlain m (m.world c) limit (m.goal_of c input)
+      (limit : ℕ) → limit ≤ reach → AllDescend m (m.world c) limit (steps_of m c es) (m.goal_of c input) → IsNotPlain m (m.world c) limit (m.goal_of c input)
 
   -- it has none up to reach, whatever the stack
   abbrev pub IsNotPlainUpTo : C → I → ℕ → Type 0
   IsNotPlainUpTo c input reach = (limit : ℕ) → limit ≤ reach → IsNotPlain m (m.world c) limit (m.goal_of c input)
 
-  -- it has none where that on each goal of the stack from the place low on descends to it
-  abbrev pub IsNotPlainAbove : C → List (StackEntry I R) → I → ℕ → Type 0
-  IsNotPlainAbove c es input low =
-      (limit : ℕ) → AllDescend m (m.world c) limit low (path_onto m c es []) (m.goal_of c input) → IsNotPlain m (m.world c) limit (m.goal_of c input)
+  -- it has none where that on the goal at the place descends to it
+  abbrev pub IsNotPlainUnder : C → List (StackEntry I R) → I → ℕ → Type 0
+  IsNotPlainUnder c es input place =
+      (limit : ℕ) → HeadsDescend m (m.world c) limit (place ∷ []) (steps_of m c es) (m.goal_of c input) → IsNotPlain m (m.world c) limit (m.goal_of c input)
 
   -- it has none up to the depth, nor past it if there was no overflow
   abbrev pub IsNotPlainAt : C → I → ℕ → Bool → Type 0

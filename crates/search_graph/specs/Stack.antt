@@ -1,5 +1,5 @@
 -- What the stack of the search means.
-use Rattle.std.specs.Prelude.{◌≡◌, ◌≤◌, ◌+◌, ℕ, length, true, cond, nat_eq, find, drop, slice_get, List, [], ◌∷◌, ◌⊎◌, MatchOption, Option, Some, None, IsSome}
+use Rattle.std.specs.Prelude.{◌≡◌, ◌≤◌, ◌+◌, ℕ, true, cond, nat_eq, length, find, drop, slice_get, List, [], ◌∷◌, ◌++◌, ◌⊎◌, MatchOption, Option, Some, None, IsSome}
 use Rattle.search_graph.specs.declared.path_kind.PathKind.{PathKind}
 use Rattle.search_graph.specs.declared.path_kind.PathKind.TheVariants.{Inductive}
 use Rattle.search_graph.specs.declared.delegate.Request.{Request}
@@ -7,6 +7,7 @@ use Rattle.search_graph.specs.declared.delegate.Reply.{Reply}
 use Rattle.search_graph.specs.declared.delegate.Reply.TheVariants.{Begin, Result, Entered, Finished, Ignored}
 use Rattle.search_graph.specs.declared.stack.StackEntry.{StackEntry}
 use Rattle.search_graph.specs.declared.stack.Cycle.{Cycle}
+use Rattle.search_graph.specs.declared.path_kind.PathsToNested.{PathsToNested}
 use Rattle.search_graph.specs.declared.cache.CacheEntry.{CacheEntry}
 use Rattle.search_graph.specs.declared.cache.Asked.{Asked}
 use Rattle.search_graph.specs.declared.nested_goals.Span.{Span}
@@ -15,7 +16,8 @@ use Rattle.search_graph.specs.Path.{greater}
 use Rattle.search_graph.specs.Chain.{IsWithinDepth, IsAskedUnder}
 use Rattle.search_graph.specs.Meaning.{Meaning, premise_of, answer_count, request_of, IsRequest, IsFair, AreReplies}
 use Rattle.search_graph.specs.Computed.{Hears, IsComputed, IsGiven, IsGivenWithin}
-use Rattle.search_graph.specs.Shown.{Shown}
+use Rattle.search_graph.specs.KeptPaths.{AreBelow}
+use Rattle.search_graph.specs.Rests.{ShownFor, DerivedFor, RunShownFor}
 use Rattle.search_graph.specs.Faithful.{IsKept}
 
 -- the greatest kind of a step after which come these entries' steps
@@ -46,6 +48,10 @@ IfUsable {I} {R} es asked stack input depth P =
     (place : ℕ) (e : CacheEntry I R) → slice_get es place ≡ Some e → e.input ≡ input → IsWithinDepth e.encountered_overflow e.depth depth
     → ((n : ℕ) → IsAskedUnder asked e.asked n → IsOnStack stack n → ⊥) → P
 
+-- the goal's own result was not read in its run
+abbrev pub IsUnread : Option PathsToNested → Type 0
+IsUnread read = MatchOption read (Unit {0}) (λ paths. paths.0 ≡ 0)
+
 -- the oldest goal of a stack with the number
 abbrev pub oldest_of : {I R : Type 0} → List (StackEntry I R) → ℕ → Option (StackEntry I R)
 oldest_of es number = find (λ e. nat_eq number e.number) es
@@ -56,34 +62,39 @@ span_of_newest [] = no_goal
 span_of_newest (e ∷ []) = e.span
 span_of_newest (e ∷ d ∷ es) = span_of_newest (d ∷ es)
 
-module _ {C I R F : Type 0} (m : Meaning C I R F) where
-  -- the goal of the question follows by a rule whose premises are shown below it
-  abbrev pub Derived : m.World → ℕ → List (m.Goal × PathKind) → m.Goal × PathKind → Type 0
-  Derived w low path q = (premises : List (m.Goal × PathKind)) × m.Follows w q.0 premises × Shown m.Goal (m.Follows w) low (q ∷ path) premises
+-- the entry for the next run of the goal, after one with this result, which rests on these goals
+pub record IsNextRun {I R : Type 0} (e : StackEntry I R) (last : R) (heads : List ℕ) (next : StackEntry I R) : Type 0 where
+  pub input : next.input ≡ e.input
+  pub kind : next.step_kind ≡ e.step_kind
+  pub result : next.provisional_result ≡ Some last
+  pub rests : next.heads.items ≡ heads
+  pub number : next.number ≡ e.number
+  pub span : next.span ≡ e.span
 
+module _ {C I R F : Type 0} (m : Meaning C I R F) where
   abbrev pub question_of : C → StackEntry I R → m.Goal × PathKind
   question_of c e = (m.goal_of c e.input, e.step_kind)
 
-  -- the path that the entries, the oldest first, put onto a path
-  abbrev pub path_onto : C → List (StackEntry I R) → List (m.Goal × PathKind) → List (m.Goal × PathKind)
-  path_onto c [] path = path
-  path_onto c (e ∷ es) path = path_onto c es (question_of c e ∷ path)
+  -- the goals of a stack with the steps to them, the oldest first
+  abbrev pub steps_of : C → List (StackEntry I R) → List (m.Goal × PathKind)
+  steps_of c [] = []
+  steps_of c (e ∷ es) = question_of c e ∷ steps_of c es
 
-  -- a result of a run of the goal of q, which rests on no goal of the path below the place low: a yes is derived
-  pub record IsProvisional (w : m.World) (path : List (m.Goal × PathKind)) (q : m.Goal × PathKind) (low : ℕ) (c : C) (r : R) : Type 0 where
+  -- a result of a run of the goal of q over these steps, which rests on these heads: a yes is derived
+  pub record IsProvisional (w : m.World) (steps : List (m.Goal × PathKind)) (q : m.Goal × PathKind) (heads : List ℕ) (c : C) (r : R) : Type 0 where
     pub known : m.IsResult c r
     pub fair : IsFair m w q.0 (m.answer_of c r)
     pub source : IsComputed m w (IsGiven m w) q.0 (m.answer_of c r)
-    pub yes : m.is_yes (m.answer_of c r) ≡ true → Derived w low path q
+    pub yes : m.is_yes (m.answer_of c r) ≡ true → DerivedFor m.Goal (m.Follows w) heads steps q.0 q.1
 
-  pub record IsEntry (w : m.World) (path : List (m.Goal × PathKind)) (c : C) (e : StackEntry I R) : Type 0 where
+  pub record IsEntry (w : m.World) (steps : List (m.Goal × PathKind)) (c : C) (e : StackEntry I R) : Type 0 where
     pub known : m.IsInput c e.input
-    pub room : e.lowest ≤ length path
-    pub last : MatchOption e.provisional_result (Unit {0}) (IsProvisional w path (question_of c e) e.lowest c)
+    pub below : AreBelow (length steps) e.heads.items
+    pub last : MatchOption e.provisional_result (Unit {0}) (IsProvisional w steps (question_of c e) e.heads.items c)
 
   abbrev pub IsStack : m.World → List (m.Goal × PathKind) → C → List (StackEntry I R) → Type 0
-  IsStack w path c [] = Unit {0}
-  IsStack w path c (e ∷ es) = IsEntry w path c e × IsStack w (question_of c e ∷ path) c es
+  IsStack w steps c [] = Unit {0}
+  IsStack w steps c (e ∷ es) = IsEntry w steps c e × IsStack w (steps ++ question_of c e ∷ []) c es
 
   -- After such a result a goal whose own result was read isn't run again: it is ambiguous, or it is the result of the run
   -- before, or in the first run the initial result for a kind of path
@@ -91,13 +102,13 @@ module _ {C I R F : Type 0} (m : Meaning C I R F) where
   IsSettled c e r = (m.is_ambiguous (m.answer_of c r) ≡ true)
       ⊎ MatchOption e.provisional_result ((k : PathKind) × (m.answer_of c r ≡ m.initial (m.world c) (m.goal_of c e.input) k)) (λ last. last ≡ r)
 
-  -- a reply to the question q, which rests on no goal of the path below the place low: a yes is shown
-  pub record IsAnswer (w : m.World) (path : List (m.Goal × PathKind)) (q : m.Goal × PathKind) (low : ℕ) (c : C) (r : R) : Type 0 where
+  -- a reply to the question q over these steps, which rests on these heads: a yes is shown
+  pub record IsAnswer (w : m.World) (steps : List (m.Goal × PathKind)) (q : m.Goal × PathKind) (heads : List ℕ) (c : C) (r : R) : Type 0 where
     pub known : m.IsResult c r
     pub fair : IsFair m w q.0 (m.answer_of c r)
     pub source : IsComputed m w (IsGiven m w) q.0 (m.answer_of c r)
-    pub room : low ≤ length path
-    pub yes : m.is_yes (m.answer_of c r) ≡ true → Shown m.Goal (m.Follows w) low path (q ∷ [])
+    pub below : AreBelow (length steps) heads
+    pub yes : m.is_yes (m.answer_of c r) ≡ true → ShownFor m.Goal (m.Follows w) heads steps q.0 q.1
 
   -- the questions that were answered by a yes, in ignored candidates too
   abbrev pub yes_questions : m.World → m.Goal → List (Reply m.Answer) → List (m.Goal × PathKind)
@@ -108,18 +119,18 @@ module _ {C I R F : Type 0} (m : Meaning C I R F) where
   yes_questions w g (Finished n ∷ heard) = yes_questions w g heard
   yes_questions w g (Ignored ∷ heard) = yes_questions w g heard
 
-  -- a frame of the goal made this request, and the questions that got a yes are shown
-  pub record IsRunning (w : m.World) (path : List (m.Goal × PathKind)) (g : m.Goal) (low : ℕ) (c : C) (f : F) (q : Request I R) : Type 0 where
+  -- a frame of the goal g, which was asked by a step of the kind j, made this request, and the questions that got a yes are shown
+  pub record IsRunning (w : m.World) (steps : List (m.Goal × PathKind)) (g : m.Goal) (j : PathKind) (heads : List ℕ) (c : C) (f : F) (q : Request I R) : Type 0 where
     pub heard : List (Reply m.Answer)
     pub begun : heard ≡ [] → ⊥
     pub frame : m.HasHeard c g heard f
     pub request : request_of m c q ≡ m.asks w g heard
     pub known : IsRequest m c q
-    pub room : low ≤ length path
+    pub below : AreBelow (length steps + 1) heads
     pub fair : AreReplies m (IsFair m w) w g heard
     pub hears : Hears m w (IsGiven m w) g heard
     pub count : answer_count m heard ≤ m.number_of w g
-    pub shown : Shown m.Goal (m.Follows w) low path (yes_questions w g heard)
+    pub shown : RunShownFor m.Goal (m.Follows w) heads steps g j (yes_questions w g heard)
 
   -- a frame of the goal was started, and this is its first request
   abbrev pub HasBegun : C → I → C → F → Request I R → Type 0
@@ -128,7 +139,7 @@ module _ {C I R F : Type 0} (m : Meaning C I R F) where
   -- a result that rests on no stack
   pub record IsCached (w : m.World) (c : C) (e : CacheEntry I R) : Type 0 where
     pub known : m.IsInput c e.input
-    pub result : IsProvisional w [] (m.goal_of c e.input, Inductive) 0 c e.result
+    pub result : IsProvisional w [] (m.goal_of c e.input, Inductive) [] c e.result
     pub kept : IsKept m w (m.goal_of c e.input) (m.answer_of c e.result) e.depth e.encountered_overflow
 
   abbrev pub AreCached : m.World → C → List (CacheEntry I R) → Type 0

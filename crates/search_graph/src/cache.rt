@@ -265,7 +265,7 @@ impl<D: Delegate> CachedResults<D> {
     ) -> Result<Cached<ResultOf<D>>, Fault>
         requires cache { AreCached D.meaning (D.meaning.world cx.now) cx.now self.now.entries.items }
         requires place { (e : _) × (slice_get self.now.entries.items place ≡ Some e) × (e.input ≡ input.now) }
-        ensures result { IfOk result (λ r. IsProvisional D.meaning (D.meaning.world cx.now) [] (D.meaning.goal_of cx.now input.now, PathKind.Inductive) 0 cx.now r.result) }
+        ensures result { IfOk result (λ r. IsProvisional D.meaning (D.meaning.world cx.now) [] (D.meaning.goal_of cx.now input.now, PathKind.Inductive) [] cx.now r.result) }
         ensures kept { IfOk result (λ r. IsKeptResult D.meaning cx.now input.now r.result r.depth r.encountered_overflow) }
         ensures within { IfOk result (λ r. IsWithinAsCached D.meaning cx.now self.now.entries.items input.now r.result) }
         ensures entry { IfOk result (IsUseOf self.now.entries.items place) }
@@ -347,7 +347,7 @@ impl<D: Delegate> CachedResults<D> {
         requires input { D.meaning.IsInput cx.now input }
         requires nested { AreInRange self.old.asked.items nested_goals }
         requires number { IsNumberOf D.Cx.Input.eq self.old.goals.keys input number }
-        requires result { IsProvisional D.meaning (D.meaning.world cx.now) [] (D.meaning.goal_of cx.now input, PathKind.Inductive) 0 cx.now found.now }
+        requires result { IsProvisional D.meaning (D.meaning.world cx.now) [] (D.meaning.goal_of cx.now input, PathKind.Inductive) [] cx.now found.now }
         requires kept { IsKeptResult D.meaning cx.now input found.now depth encountered_overflow }
         ensures place { IfOk result (λ place. place ≡ length self.old.asked.items) }
         ensures kept { OnOk result (AddsResult self.old.entries.items self.new.entries.items input found.now depth encountered_overflow number (length self.old.asked.items)) }

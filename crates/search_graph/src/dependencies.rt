@@ -1,8 +1,9 @@
 //! What the evaluation of a goal depends on.
 
-ghost use Rattle.std.specs.Prelude.{◌≡◌, ◌≢◌, ◌==◌, ◌+◌, ◌-◌, ◌^◌, ◌++◌, ◌∷◌, [], ℕ, min, max, position, ◌||◌, All, IfSome, IfNone, IsPermutation, OnOk, None, false};
+ghost use Rattle.std.specs.Prelude.{◌≡◌, ◌≢◌, ◌==◌, ◌+◌, ◌-◌, ◌^◌, ◌++◌, ◌∷◌, ◌↔◌, [], ℕ, min, max, position, ◌||◌, All, IfOk, IfSome, IfNone, IsPermutation, OnOk, None, false};
 ghost use Rattle.std.specs.Int.RustNames.{bit_or};
-ghost use Rattle.search_graph.specs.Heads.{paths_to};
+ghost use Rattle.search_graph.specs.Heads.{paths_to, RestsOn, IsFirstOf, AreHeadsOfBoth};
+ghost use Rattle.search_graph.specs.KeptPaths.{indices};
 ghost use Rattle.search_graph.specs.Nested.{no_goal, covered};
 
 use crate::nested_goals::NestedGoals;
@@ -10,8 +11,9 @@ use crate::path_kind::PathsToNested;
 use bitflags::Flags;
 use std::alloc::{AllocError, Global};
 
-/// A goal of the stack whose result was read, and the kinds of the paths by which it was.
+/// A goal of the stack on which a result rests, and the kinds of the paths by which its own result was read.
 ///
+/// There are none where it was not read, and the result of a goal was that rests on it.
 /// An entry of `CycleHeads` of `rustc_type_ir::search_graph`.
 #[derive(Clone, Copy, PartialEq, Eq)]
 pub struct CycleHead {
@@ -22,10 +24,8 @@ pub struct CycleHead {
 /// What the evaluation of a goal depends on, gathered over all its runs.
 #[derive(Drop)]
 pub struct Dependencies {
-    /// The result rests on no goal of the stack below this place. Where an earlier result of a goal of the stack was read,
-    /// it rests on what that result rests on.
-    pub lowest: usize,
-    /// The goals of the stack whose results were read, each once.
+    /// The goals of the stack on which the result rests: those whose results were read, and those on which a result rests that
+    /// was read.
     pub heads: Vec<CycleHead>,
     /// Whether a goal at depth 0 asked a question anywhere under the goal, through a cached result too.
     pub encountered_overflow: bool,
@@ -35,16 +35,14 @@ pub struct Dependencies {
 }
 
 impl Dependencies {
-    /// Those of a result that rests on no goal of a stack of this length.
-    pub fn new(alloc: Global, len: usize) -> Dependencies
-        ensures lowest { result.lowest ≡ len }
+    /// Those of a result that rests on no goal of the stack.
+    pub fn new(alloc: Global) -> Dependencies
         ensures unread { result.heads.items ≡ [] }
         ensures within { result.encountered_overflow ≡ false }
         ensures depth { result.required_depth ≡ 0 }
         ensures unasked { (result.nested_goals.goals.items ≡ []) × (result.nested_goals.cached.items ≡ []) × (result.nested_goals.span ≡ no_goal) }
     {
         Dependencies {
-            lowest: len,
             heads: Vec::new(alloc),
             encountered_overflow: false,
             required_depth: 0,
@@ -52,9 +50,26 @@ impl Dependencies {
         }
     }
 
+    /// The result of the goal at this place of the stack was read, by paths of these kinds, which rests on the goals at those
+    /// places. After a refusal some of these may be missing.
+    pub fn read_head(
+        &mut self,
+        index: usize,
+        paths: PathsToNested,
+        below: &[usize],
+    ) -> Result<(), AllocError>
+        requires { self.old.heads.items ≡ [] }
+        ensures heads { OnOk result (indices self.new.heads.items ≡ index ∷ below.now) }
+        ensures overflow { self.new.encountered_overflow ≡ self.old.encountered_overflow }
+        ensures depth { self.new.required_depth ≡ self.old.required_depth }
+        ensures goals { self.new.nested_goals ≡ self.old.nested_goals }
+    {
+        self.heads.push(CycleHead { index, paths })?;
+        rest_on(&mut self.heads, below)
+    }
+
     /// Adds those of a goal that was asked. After a refusal some of them may be missing.
     pub fn gather(&mut self, nested: Dependencies) -> Result<(), AllocError>
-        ensures lowest { OnOk result (self.new.lowest ≡ min self.old.lowest nested.lowest) }
         ensures overflow { OnOk result (self.new.encountered_overflow ≡ (self.old.encountered_overflow || nested.encountered_overflow)) }
 
         // The asking goal needs one more than the asked one, as far as the numbers go.
@@ -62,13 +77,13 @@ impl Dependencies {
 
         ensures unread { OnOk result (self.old.heads.items ≡ [] → nested.heads.items ≡ [] → self.new.heads.items ≡ []) }
         ensures heads { OnOk result ((place : ℕ) → paths_to self.new.heads.items place ≡ bit_or (paths_to self.old.heads.items place) (paths_to nested.heads.items place)) }
+        ensures rests { OnOk result (AreHeadsOfBoth self.old.heads.items nested.heads.items self.new.heads.items) }
 
         ensures goals { OnOk result (IsPermutation (self.old.nested_goals.goals.items ++ nested.nested_goals.goals.items) self.new.nested_goals.goals.items) }
         ensures cached { OnOk result (IsPermutation (self.old.nested_goals.cached.items ++ nested.nested_goals.cached.items) self.new.nested_goals.cached.items) }
         ensures span { OnOk result (self.new.nested_goals.span ≡ covered self.old.nested_goals.span nested.nested_goals.span) }
     {
         let Dependencies {
-            lowest,
             heads,
             encountered_overflow,
             required_depth,
@@ -76,17 +91,41 @@ impl Dependencies {
         } = nested;
         merge_heads(&mut self.heads, &heads)?;
         self.nested_goals.extend(nested_goals)?;
-        self.lowest = self.lowest.min(lowest);
         self.encountered_overflow = self.encountered_overflow || encountered_overflow;
         self.required_depth = self.required_depth.max(required_depth.saturating_add(1));
         Ok(())
     }
 }
 
+/// Adds the goals at these places, whose own results were not read.
+fn rest_on(heads: &mut Vec<CycleHead>, places: &[usize]) -> Result<(), AllocError>
+    ensures { OnOk result (indices heads.new.items ≡ indices heads.old.items ++ places.now) }
+{
+    for place in places {
+        heads.push(CycleHead {
+            index: *place,
+            paths: PathsToNested::empty(),
+        })?;
+    }
+    Ok(())
+}
+
+/// The places of the heads.
+pub(crate) fn places_of(alloc: Global, heads: &[CycleHead]) -> Result<Vec<usize>, AllocError>
+    ensures { IfOk result (λ places. places.items ≡ indices heads.now) }
+{
+    let mut places = Vec::new(alloc);
+    for head in heads {
+        places.push(head.index)?;
+    }
+    Ok(places)
+}
+
 /// Adds the heads of a goal that was asked.
 fn merge_heads(heads: &mut Vec<CycleHead>, more: &[CycleHead]) -> Result<(), AllocError>
     ensures unread { more.now ≡ [] → heads.new.items ≡ heads.old.items }
     ensures united { OnOk result ((place : ℕ) → paths_to heads.new.items place ≡ bit_or (paths_to heads.old.items place) (paths_to more.now place)) }
+    ensures rests { OnOk result (AreHeadsOfBoth heads.old.items more.now heads.new.items) }
 {
     for head in more {
         add_head(heads, *head)?;
@@ -96,7 +135,8 @@ fn merge_heads(heads: &mut Vec<CycleHead>, more: &[CycleHead]) -> Result<(), All
 
 /// Adds a head, or its paths where it is there.
 fn add_head(heads: &mut Vec<CycleHead>, head: CycleHead) -> Result<(), AllocError>
-    ensures { OnOk result ((place : ℕ) → paths_to heads.new.items place ≡ bit_or (paths_to heads.old.items place) (paths_to (head ∷ []) place)) }
+    ensures united { OnOk result ((place : ℕ) → paths_to heads.new.items place ≡ bit_or (paths_to heads.old.items place) (paths_to (head ∷ []) place)) }
+    ensures rests { OnOk result (AreHeadsOfBoth heads.old.items (head ∷ []) heads.new.items) }
 {
     match place_of(heads, head.index) {
         Some(place) => heads[place].paths.insert(head.paths),
@@ -113,15 +153,18 @@ fn place_of(heads: &[CycleHead], index: usize) -> Option<usize>
     heads.iter().position(|head| head.index == index)
 }
 
-/// Takes out the kinds of the paths by which the result of a goal of the stack was read, if it was.
+/// Takes out a goal of the stack, if the result rests on it, with the kinds of the paths by which its own result was read: none,
+/// where it was not read.
 pub fn take_head(heads: &mut Vec<CycleHead>, index: usize) -> Option<PathsToNested>
     ensures unread { heads.old.items ≡ [] → (result ≡ None) × (heads.new.items ≡ []) }
-    ensures taken { IfSome result (λ paths. IsPermutation heads.old.items (record { index = index; paths = paths } ∷ heads.new.items)) }
+    ensures taken { IfSome result (λ paths. IsFirstOf heads.old.items (record { index = index; paths = paths })) }
     ensures absent { IfNone result (All (λ head. head.index ≢ index) heads.old.items) }
     ensures unchanged { IfNone result (heads.new.items ≡ heads.old.items) }
+    ensures rests { (other : ℕ) → RestsOn heads.new.items other ↔ (RestsOn heads.old.items other × (other ≢ index)) }
 {
     let place = place_of(heads, index)?;
-    let CycleHead { index: _, paths } = heads.swap_remove(place);
+    let paths = heads[place].paths;
+    heads.retain(|head| head.index != index);
     Some(paths)
 }
 

@@ -7,7 +7,8 @@ ghost use Rattle.search_graph.specs.Nested.{covered, one_goal};
 ghost use Rattle.search_graph.specs.Computed.{MakesMisstep};
 ghost use Rattle.search_graph.specs.Cache.{known_results, HasConflict, IsNumberOf, KeepsNumbers, KeepsResults, HoldsResult};
 ghost use Rattle.search_graph.specs.Bound.{frame_bound, question_bound};
-ghost use Rattle.search_graph.specs.Stack.{path_onto, span_of_newest, IsStack, IsEntry, AreCached, IfUsable};
+ghost use Rattle.search_graph.specs.KeptPaths.{AreBelow, indices};
+ghost use Rattle.search_graph.specs.Stack.{steps_of, span_of_newest, IsStack, IsEntry, AreCached, IfUsable};
 ghost use Rattle.search_graph.specs.Question.{IsReplyOver, IsRunOver, IsFaithfulOver, IsUntouchedOver, IsNotPlainOver, AreFramesWithin, StaysWithin, RunStaysWithin};
 
 use crate::cache::CachedResults;
@@ -40,7 +41,7 @@ pub(crate) fn evaluate_root<D: Delegate>(
     ensures cache { AreCached D.meaning (D.meaning.world cx.new) cx.new cache.new.entries.items }
     ensures results { KeepsResults cache.old.entries.items cache.new.entries.items }
     ensures kept { IfOk result (λ o. HoldsResult cache.new.entries.items input depth o.result) }
-    ensures answer { IfOk result (λ o. IsReplyOver D.meaning cx.old [] input step_kind o.dependencies.lowest cx.new o.result) }
+    ensures answer { IfOk result (λ o. IsReplyOver D.meaning cx.old [] input step_kind o.dependencies.heads.items cx.new o.result) }
     ensures faithful { IfOk result (IsFaithfulOver D.meaning cx.old [] input (depth + 1) cx.new) }
     ensures no_conflict { result ≡ Err GraphFault.Conflict → IsNotPlainOver D.meaning cx.old [] input (depth + 1) }
     ensures protocol { result ≡ Err GraphFault.Protocol → MakesMisstep D.meaning (D.meaning.world cx.old) (D.meaning.goal_of cx.old input) }
@@ -83,7 +84,7 @@ pub(crate) fn evaluate<D: Delegate>(
     ensures range { IfOk result (λ o. AreInRange cache.new.asked.items o.dependencies.nested_goals) }
     ensures depth { IfOk result (λ o. o.dependencies.encountered_overflow ≡ false → o.dependencies.required_depth ≤ depth) }
     ensures kept { search.old.stack.items ≡ [] → IfOk result (λ o. HoldsResult cache.new.entries.items input depth o.result) }
-    ensures answer { IfOk result (λ o. IsReplyOver D.meaning cx.old search.old.stack.items input step_kind o.dependencies.lowest cx.new o.result) }
+    ensures answer { IfOk result (λ o. IsReplyOver D.meaning cx.old search.old.stack.items input step_kind o.dependencies.heads.items cx.new o.result) }
     ensures faithful { IfOk result (IsFaithfulOver D.meaning cx.old search.old.stack.items input (depth + 1) cx.new) }
     ensures no_conflict { result ≡ Err (Stop.Fault GraphFault.Conflict) → IsNotPlainOver D.meaning cx.old search.old.stack.items input (depth + 1) }
     ensures exhausted { result ≡ Err Stop.Exhausted → IsNotPlainOver D.meaning cx.old search.old.stack.items input (depth + 1) }
@@ -132,7 +133,7 @@ fn evaluate_new<D: Delegate>(
     ensures range { IfOk result (λ o. AreInRange cache.new.asked.items o.dependencies.nested_goals) }
     ensures depth { IfOk result (λ o. o.dependencies.encountered_overflow ≡ false → o.dependencies.required_depth ≤ depth) }
     ensures kept { search.old.stack.items ≡ [] → IfOk result (λ o. HoldsResult cache.new.entries.items input depth o.result) }
-    ensures answer { IfOk result (λ o. IsReplyOver D.meaning cx.old search.old.stack.items input step_kind o.dependencies.lowest cx.new o.result) }
+    ensures answer { IfOk result (λ o. IsReplyOver D.meaning cx.old search.old.stack.items input step_kind o.dependencies.heads.items cx.new o.result) }
     ensures faithful { IfOk result (IsFaithfulOver D.meaning cx.old search.old.stack.items input (depth + 1) cx.new) }
     ensures no_conflict { result ≡ Err (Stop.Fault GraphFault.Conflict) → IsNotPlainOver D.meaning cx.old search.old.stack.items input (depth + 1) }
     ensures exhausted { result ≡ Err Stop.Exhausted → IsNotPlainOver D.meaning cx.old search.old.stack.items input (depth + 1) }
@@ -146,7 +147,7 @@ fn evaluate_new<D: Delegate>(
 {
     let index = search.stack.len();
     let mut entry = search.new_entry(number, input, step_kind);
-    let mut dependencies = Dependencies::new(search.alloc, index);
+    let mut dependencies = Dependencies::new(search.alloc);
     let limit = run_limit::<D>();
     for _run in 0..limit {
         // A run that ends while the goal runs again takes its provisional entries with it.
@@ -165,14 +166,13 @@ fn evaluate_new<D: Delegate>(
                 search,
                 cache,
                 cx,
-                index,
                 number,
                 back.into_input(),
                 evaluation,
                 depth,
             );
         }
-        entry = back.next_run(answer, &found);
+        entry = back.next_run(search.alloc, answer, &found)?;
         dependencies = found;
     }
     search.limits_met = true;
@@ -185,7 +185,6 @@ fn evaluate_new<D: Delegate>(
         search,
         cache,
         cx,
-        index,
         number,
         entry.into_input(),
         evaluation,
@@ -213,8 +212,8 @@ fn run_once<D: Delegate>(
 >
     requires stack { IsStack D.meaning (D.meaning.world cx.old) [] cx.old search.old.stack.items }
     requires cache { AreCached D.meaning (D.meaning.world cx.old) cx.old cache.old.entries.items }
-    requires entry { IsEntry D.meaning (D.meaning.world cx.old) (path_onto D.meaning cx.old search.old.stack.items []) cx.old entry }
-    requires room { earlier.lowest ≤ length search.old.stack.items }
+    requires entry { IsEntry D.meaning (D.meaning.world cx.old) (steps_of D.meaning cx.old search.old.stack.items) cx.old entry }
+    requires below { AreBelow (length search.old.stack.items) (indices earlier.heads.items) }
     requires span { entry.span ≡ covered (span_of_newest search.old.stack.items) (one_goal entry.number) }
     requires nested { AreInRange cache.old.asked.items earlier.nested_goals }
     requires depth { earlier.encountered_overflow ≡ false → earlier.required_depth ≤ depth }
@@ -228,8 +227,7 @@ fn run_once<D: Delegate>(
     ensures range { IfOk result (λ p. AreInRange cache.new.asked.items p.1.dependencies.nested_goals) }
     ensures depth { IfOk result (λ p. p.1.dependencies.encountered_overflow ≡ false → p.1.dependencies.required_depth ≤ depth) }
     ensures entry { IfOk result (λ p. p.0 ≡ entry) }
-    ensures low { IfOk result (λ p. p.1.dependencies.lowest ≤ length search.old.stack.items) }
-    ensures provisional { IfOk result (λ p. IsRunOver D.meaning cx.old search.old.stack.items entry p.1.dependencies.lowest cx.new p.1.result) }
+    ensures provisional { IfOk result (λ p. IsRunOver D.meaning cx.old search.old.stack.items entry p.1.dependencies.heads.items cx.new p.1.result) }
     ensures faithful { IfOk result (λ p. IsFaithfulOver D.meaning cx.old search.old.stack.items entry.input (depth + 1) cx.new p.1) }
     ensures no_conflict { result ≡ Err (Stop.Fault GraphFault.Conflict) → IsNotPlainOver D.meaning cx.old search.old.stack.items entry.input (depth + 1) }
     ensures exhausted { result ≡ Err Stop.Exhausted → IsNotPlainOver D.meaning cx.old search.old.stack.items entry.input (depth + 1) }
@@ -291,7 +289,7 @@ fn ask<D: Delegate>(
     ensures asked_before { KeepsResults cache.old.asked.items cache.new.asked.items }
     ensures range { IfOk result (λ o. AreInRange cache.new.asked.items o.dependencies.nested_goals) }
     ensures depth { IfOk result (λ o. o.dependencies.encountered_overflow ≡ false → o.dependencies.required_depth < depth) }
-    ensures answer { IfOk result (λ o. IsReplyOver D.meaning cx.old search.old.stack.items input step_kind o.dependencies.lowest cx.new o.result) }
+    ensures answer { IfOk result (λ o. IsReplyOver D.meaning cx.old search.old.stack.items input step_kind o.dependencies.heads.items cx.new o.result) }
     ensures faithful { IfOk result (IsFaithfulOver D.meaning cx.old search.old.stack.items input (cond overflowed 0 depth) cx.new) }
     ensures no_conflict { result ≡ Err (Stop.Fault GraphFault.Conflict) → IsNotPlainOver D.meaning cx.old search.old.stack.items input (cond overflowed 0 depth) }
     ensures exhausted { result ≡ Err Stop.Exhausted → IsNotPlainOver D.meaning cx.old search.old.stack.items input (cond overflowed 0 depth) }

@@ -10,8 +10,8 @@ ghost use Rattle.search_graph.specs.Meaning.{Keeps};
 ghost use Rattle.search_graph.specs.Bound.{open_ends_limit};
 ghost use Rattle.search_graph.specs.Cache.{known_results, HasConflict, IsNumberOf, KeepsResults, IsReplyOf, AddsEvaluation, SaysSame};
 ghost use Rattle.search_graph.specs.Plain.{IsNotPlain};
-ghost use Rattle.search_graph.specs.Stack.{place_of, oldest_of, span_of_newest, IsStack, IsProvisional, IsSettled, AreCached, IsOnStack, IsClosedBy};
-ghost use Rattle.search_graph.specs.Question.{IsReplyOver, IsInitial, IsFaithfulOver, IsKeptResult, IsNotPlainAbove, IsWithinAsCached, IsWithinAsStack, KeepsWithin};
+ghost use Rattle.search_graph.specs.Stack.{place_of, oldest_of, span_of_newest, IsStack, IsProvisional, IsUnread, IsSettled, AreCached, IsOnStack, IsClosedBy};
+ghost use Rattle.search_graph.specs.Question.{IsReplyOver, IsReadOver, IsInitial, IsFaithfulOver, IsKeptResult, IsNotPlainUnder, IsWithinAsCached, IsWithinAsStack, KeepsWithin};
 
 use crate::cache::{Cached, CachedResults};
 use crate::delegate::{Cx, Delegate, InputOf, ResultOf};
@@ -20,6 +20,7 @@ use crate::fault::{GraphFault, Stop};
 use crate::nested_goals::{NestedGoals, Span};
 use crate::path_kind::{PathKind, PathsToNested};
 use crate::stack::{Cycle, StackEntry, add_place, find_cycle, remove_place};
+use bitflags::Flags;
 use indexmap::IndexMap;
 use std::alloc::{AllocError, Global};
 use type_terms::Fault;
@@ -142,7 +143,7 @@ impl<D: Delegate> Search<D> {
         ensures input { result.input ≡ input }
         ensures kind { result.step_kind ≡ step_kind }
         ensures first { result.provisional_result ≡ None }
-        ensures lowest { result.lowest ≡ length self.now.stack.items }
+        ensures heads { result.heads.items ≡ [] }
         ensures number { result.number ≡ number }
         ensures span { result.span ≡ covered (span_of_newest self.now.stack.items) (one_goal number) }
     {
@@ -150,7 +151,7 @@ impl<D: Delegate> Search<D> {
             input,
             step_kind,
             provisional_result: None,
-            lowest: self.stack.len(),
+            heads: Vec::new(self.alloc),
             number,
             span: self.span().cover(Span::of(number)),
         }
@@ -212,36 +213,36 @@ impl<D: Delegate> Search<D> {
         find_cycle::<D>(&self.stack, &self.positions, number, input, step_kind)
     }
 
-    /// The reply to a question on a goal of the stack, and the lowest goal on which it rests: the result of the run before, or
-    /// the initial one for the kind of the cycle. `check_cycle_on_stack` of `rustc_type_ir::search_graph`.
+    /// The reply to a question on a goal of the stack: the result of the run before, or the initial one for the kind of the cycle.
+    /// It rests on the goal, and on what the result of the run before rests on. `check_cycle_on_stack` of
+    /// `rustc_type_ir::search_graph`.
     pub fn close_cycle(
         &self,
         cx: &mut D::Cx,
         input: &InputOf<D>,
         step_kind: PathKind,
         cycle: Cycle,
-    ) -> Result<(ResultOf<D>, usize), Fault>
+    ) -> Result<ResultOf<D>, Fault>
         requires stack { IsStack D.meaning (D.meaning.world cx.old) [] cx.old self.now.stack.items }
         requires input { D.meaning.IsInput cx.old input.now }
         requires cycle { IsClosedBy self.now.stack.items input.now step_kind cycle }
         ensures keeps { Keeps D.meaning cx.old cx.new }
         ensures full { result ≡ Err Fault.Full → D.meaning.IsFull cx.new }
-        ensures lowest { IfOk result (λ r. (e : _) → slice_get self.now.stack.items cycle.index ≡ Some e → r.1 ≡ e.lowest) }
-        ensures last { IfOk result (λ r. (e : _) (last : _) → slice_get self.now.stack.items cycle.index ≡ Some e → e.provisional_result ≡ Some last → r.0 ≡ last) }
-        ensures first { IfOk result (λ r. (e : _) → slice_get self.now.stack.items cycle.index ≡ Some e → e.provisional_result ≡ None → IsInitial D.meaning cx.old input.now cycle cx.new r.0) }
-        ensures answer { IfOk result (λ r. IsReplyOver D.meaning cx.old self.now.stack.items input.now step_kind r.1 cx.new r.0) }
-        ensures not_plain { IfOk result (λ r. IsNotPlainAbove D.meaning cx.old self.now.stack.items input.now r.1) }
-        ensures within { IfOk result (λ r. IsWithinAsStack D.meaning cx.old self.now.stack.items input.now cx.new r.0) }
+        ensures last { IfOk result (λ r. (e : _) (last : _) → slice_get self.now.stack.items cycle.index ≡ Some e → e.provisional_result ≡ Some last → r ≡ last) }
+        ensures first { IfOk result (λ r. (e : _) → slice_get self.now.stack.items cycle.index ≡ Some e → e.provisional_result ≡ None → IsInitial D.meaning cx.old input.now cycle cx.new r) }
+        ensures answer { IfOk result (λ r. (e : _) → slice_get self.now.stack.items cycle.index ≡ Some e → IsReadOver D.meaning cx.old self.now.stack.items input.now step_kind cycle.index e cx.new r) }
+        ensures not_plain { IfOk result (λ r. IsNotPlainUnder D.meaning cx.old self.now.stack.items input.now cycle.index) }
+        ensures within { IfOk result (λ r. IsWithinAsStack D.meaning cx.old self.now.stack.items input.now cx.new r) }
     {
         let entry = &self.stack[cycle.index];
         match &entry.provisional_result {
             Some(last) => {
                 let answer = cx.copy_result(last)?;
-                Ok((answer, entry.lowest))
+                Ok(answer)
             }
             None => {
                 let answer = D::initial_provisional_result(cx, cycle.path_kind, input)?;
-                Ok((answer, entry.lowest))
+                Ok(answer)
             }
         }
     }
@@ -260,10 +261,10 @@ impl<D: Delegate> Search<D> {
         requires cache { AreCached D.meaning (D.meaning.world cx.now) cx.now cache.now.entries.items }
         requires place { (e : _) × (slice_get cache.now.entries.items place ≡ Some e) × (e.input ≡ input.now) × (e.encountered_overflow ≡ true → e.depth ≡ depth) }
         ensures same { IfOk result (λ o. (e : _) → slice_get cache.now.entries.items place ≡ Some e → IsReplyOf e o) }
-        ensures unread { IfOk result (λ o. (o.dependencies.lowest ≡ length self.now.stack.items) × (o.dependencies.heads.items ≡ [])) }
+        ensures unread { IfOk result (λ o. o.dependencies.heads.items ≡ []) }
         ensures asked { IfOk result (λ o. (e : _) → slice_get cache.now.entries.items place ≡ Some e → UsesAlone e.asked o.dependencies.nested_goals) }
         ensures range { IfOk result (λ o. AreInRange cache.now.asked.items o.dependencies.nested_goals) }
-        ensures answer { IfOk result (λ o. IsReplyOver D.meaning cx.now self.now.stack.items input.now step_kind o.dependencies.lowest cx.now o.result) }
+        ensures answer { IfOk result (λ o. IsReplyOver D.meaning cx.now self.now.stack.items input.now step_kind o.dependencies.heads.items cx.now o.result) }
         ensures faithful { IfOk result (IsFaithfulOver D.meaning cx.now self.now.stack.items input.now (depth + 1) cx.now) }
         ensures within { IfOk result (λ o. IsWithinAsCached D.meaning cx.now cache.now.entries.items input.now o.result) }
         ensures no_conflict { result ≡ Err GraphFault.Conflict → ⊥ }
@@ -277,7 +278,7 @@ impl<D: Delegate> Search<D> {
             encountered_overflow,
             asked,
         } = cached;
-        let mut dependencies = Dependencies::new(self.alloc, self.stack.len());
+        let mut dependencies = Dependencies::new(self.alloc);
         dependencies.encountered_overflow = encountered_overflow;
         dependencies.required_depth = required_depth;
         dependencies
@@ -302,10 +303,10 @@ impl<D: Delegate> Search<D> {
         ensures stack { self.new.stack.items ≡ self.old.stack.items }
         ensures frames { self.new.frames ≡ self.old.frames }
         ensures noted { self.new.limits_met ≡ true }
-        ensures answer { IfOk result (λ o. IsReplyOver D.meaning cx.old self.old.stack.items input.now step_kind o.dependencies.lowest cx.new o.result) }
+        ensures answer { IfOk result (λ o. IsReplyOver D.meaning cx.old self.old.stack.items input.now step_kind o.dependencies.heads.items cx.new o.result) }
         ensures overflow { IfOk result (λ o. D.meaning.answer_of cx.new o.result ≡ D.meaning.stack_overflow (D.meaning.world cx.old) (D.meaning.goal_of cx.old input.now)) }
         ensures told { IfOk result (λ o. o.dependencies.encountered_overflow ≡ true) }
-        ensures unread { IfOk result (λ o. (o.dependencies.lowest ≡ length self.old.stack.items) × (o.dependencies.heads.items ≡ [])) }
+        ensures unread { IfOk result (λ o. o.dependencies.heads.items ≡ []) }
         ensures asked { IfOk result (λ o. AsksAlone number o.dependencies.nested_goals) }
         ensures depth { IfOk result (λ o. o.dependencies.required_depth ≡ 0) }
         ensures no_conflict { result ≡ Err GraphFault.Conflict → ⊥ }
@@ -314,7 +315,7 @@ impl<D: Delegate> Search<D> {
     {
         self.limits_met = true;
         let answer = D::stack_overflow_result(cx, input)?;
-        let mut dependencies = Dependencies::new(self.alloc, self.stack.len());
+        let mut dependencies = Dependencies::new(self.alloc);
         dependencies.encountered_overflow = true;
         dependencies.nested_goals.add_goal(number)?;
         Ok(EvaluationResult {
@@ -357,14 +358,17 @@ pub fn is_last_run<D: Delegate>(
 ) -> bool
     requires input { D.meaning.IsInput cx.now entry.now.input }
     requires found { D.meaning.IsResult cx.now found.now }
-    ensures unread { read ≡ None → result ≡ true }
-    ensures settled { result ≡ true → (read ≡ None) ⊎ IsSettled D.meaning cx.now entry.now found.now }
+    ensures unread { IsUnread read → result ≡ true }
+    ensures settled { result ≡ true → IsUnread read ⊎ IsSettled D.meaning cx.now entry.now found.now }
     ensures ambiguous { D.meaning.is_ambiguous (D.meaning.answer_of cx.now found.now) ≡ true → result ≡ true }
     ensures again { entry.now.provisional_result ≡ Some found.now → result ≡ true }
 {
     let Some(paths) = read else {
         return true;
     };
+    if paths.is_empty() {
+        return true;
+    }
     match &entry.provisional_result {
         Some(last) => {
             if *last == *found {
@@ -382,15 +386,13 @@ pub fn is_last_run<D: Delegate>(
     D::is_ambiguous_result(cx, found).is_some()
 }
 
-/// Keeps the result of a goal at this place of the stack if it rests on no goal below, and answers the same result with what
-/// was asked for it.
+/// Keeps the result of a goal if it rests on no goal of the stack, and answers the same result with what was asked for it.
 /// It is refused where memory is, as `copy_result` is, and where the result differs from one that was kept for the goal
 /// (`Conflict`). `insert_global_cache` of `rustc_type_ir::search_graph`.
 pub fn finish<D: Delegate>(
     alloc: Global,
     cache: &mut CachedResults<D>,
     cx: &D::Cx,
-    index: usize,
     number: usize,
     input: InputOf<D>,
     evaluation: EvaluationResult<ResultOf<D>>,
@@ -400,18 +402,18 @@ pub fn finish<D: Delegate>(
     requires input { D.meaning.IsInput cx.now input }
     requires nested { AreInRange cache.old.asked.items evaluation.dependencies.nested_goals }
     requires number { IsNumberOf D.Cx.Input.eq cache.old.goals.keys input number }
-    requires alone { index ≤ evaluation.dependencies.lowest → IsProvisional D.meaning (D.meaning.world cx.now) [] (D.meaning.goal_of cx.now input, PathKind.Inductive) 0 cx.now evaluation.result }
-    requires kept { index ≤ evaluation.dependencies.lowest → IsKeptResult D.meaning cx.now input evaluation.result depth evaluation.dependencies.encountered_overflow }
-    ensures kept { OnOk result (index ≤ evaluation.dependencies.lowest → AddsEvaluation cache.old.entries.items cache.new.entries.items cache.old.asked.items input number depth evaluation) }
-    ensures unkept { OnOk result (evaluation.dependencies.lowest < index → cache.new.entries.items ≡ cache.old.entries.items) }
+    requires alone { evaluation.dependencies.heads.items ≡ [] → IsProvisional D.meaning (D.meaning.world cx.now) [] (D.meaning.goal_of cx.now input, PathKind.Inductive) [] cx.now evaluation.result }
+    requires kept { evaluation.dependencies.heads.items ≡ [] → IsKeptResult D.meaning cx.now input evaluation.result depth evaluation.dependencies.encountered_overflow }
+    ensures kept { OnOk result (evaluation.dependencies.heads.items ≡ [] → AddsEvaluation cache.old.entries.items cache.new.entries.items cache.old.asked.items input number depth evaluation) }
+    ensures unkept { OnOk result ((evaluation.dependencies.heads.items ≡ [] → ⊥) → cache.new.entries.items ≡ cache.old.entries.items) }
     ensures err { OnErr result ((cache.new.entries.items ≡ cache.old.entries.items) ⊎ ((e : _) × (cache.new.entries.items ≡ cache.old.entries.items ++ e ∷ []))) }
     ensures results { KeepsResults cache.old.entries.items cache.new.entries.items }
     ensures asked_before { KeepsResults cache.old.asked.items cache.new.asked.items }
     ensures goals { cache.new.goals ≡ cache.old.goals }
     ensures cache { AreCached D.meaning (D.meaning.world cx.now) cx.now cache.new.entries.items }
     ensures reply { IfOk result (SaysSame evaluation) }
-    ensures found { IfOk result (λ o. index ≤ evaluation.dependencies.lowest → UsesAlone (length cache.old.asked.items) o.dependencies.nested_goals) }
-    ensures asked { IfOk result (λ o. evaluation.dependencies.lowest < index → AlsoAsks evaluation.dependencies.nested_goals number o.dependencies.nested_goals) }
+    ensures found { IfOk result (λ o. evaluation.dependencies.heads.items ≡ [] → UsesAlone (length cache.old.asked.items) o.dependencies.nested_goals) }
+    ensures asked { IfOk result (λ o. (evaluation.dependencies.heads.items ≡ [] → ⊥) → AlsoAsks evaluation.dependencies.nested_goals number o.dependencies.nested_goals) }
     ensures range { IfOk result (λ o. AreInRange cache.new.asked.items o.dependencies.nested_goals) }
     ensures within { OnOk result (KeepsWithin D.meaning cx.now cache.old.entries.items input evaluation.result cache.new.entries.items) }
     ensures no_conflict { result ≡ Err GraphFault.Conflict → (limit : ℕ) → limit ≤ depth + 1 → IsNotPlain D.meaning (D.meaning.world cx.now) limit (D.meaning.goal_of cx.now input) }
@@ -424,13 +426,12 @@ pub fn finish<D: Delegate>(
         dependencies,
     } = evaluation;
     let Dependencies {
-        lowest,
         heads,
         encountered_overflow,
         required_depth,
         nested_goals,
     } = dependencies;
-    if lowest >= index {
+    if heads.is_empty() {
         let kept_depth = if encountered_overflow {
             depth
         } else {
@@ -449,7 +450,6 @@ pub fn finish<D: Delegate>(
         let mut nested_goals = NestedGoals::new(alloc);
         nested_goals.add_cached(asked, span)?;
         let dependencies = Dependencies {
-            lowest,
             heads,
             encountered_overflow,
             required_depth,
@@ -464,7 +464,6 @@ pub fn finish<D: Delegate>(
     let mut nested_goals = nested_goals;
     nested_goals.add_goal(number)?;
     let dependencies = Dependencies {
-        lowest,
         heads,
         encountered_overflow,
         required_depth,

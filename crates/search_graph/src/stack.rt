@@ -1,15 +1,16 @@
 //! The goals that are being evaluated, each asked by the one before.
 
-ghost use Rattle.std.specs.Prelude.{◌≡◌, ◌+◌, ◌<◌, ℕ, IfSome, IfNone, OnOk, OnErr, Some, None, cond, nat_eq, length, slice_get, drop};
+ghost use Rattle.std.specs.Prelude.{◌≡◌, ◌+◌, ◌<◌, ℕ, IfOk, IfSome, IfNone, OnOk, OnErr, Some, None, cond, nat_eq, length, slice_get, drop};
 ghost use Rattle.indexmap.specs.IndexMap.{get};
-ghost use Rattle.search_graph.specs.Stack.{kind_after, IsClosedBy};
+ghost use Rattle.search_graph.specs.KeptPaths.{indices};
+ghost use Rattle.search_graph.specs.Stack.{kind_after, IsClosedBy, IsNextRun};
 
 use crate::delegate::{Delegate, InputOf, ResultOf};
-use crate::dependencies::Dependencies;
+use crate::dependencies::{Dependencies, places_of};
 use crate::nested_goals::Span;
 use crate::path_kind::PathKind;
 use indexmap::IndexMap;
-use std::alloc::AllocError;
+use std::alloc::{AllocError, Global};
 
 /// A goal that is being evaluated. `StackEntry` of `rustc_type_ir::search_graph`.
 #[derive(Drop)]
@@ -20,8 +21,8 @@ pub struct StackEntry<I, R> {
     pub step_kind: PathKind,
     /// The result of the run before, if there was one.
     pub provisional_result: Option<R>,
-    /// That result rests on no goal of the stack below this place.
-    pub lowest: usize,
+    /// The places of the goals of the stack on which that result rests.
+    pub heads: Vec<usize>,
     /// Its number in the cache.
     pub number: usize,
     /// The goals of the stack up to this one lie in it.
@@ -38,25 +39,31 @@ impl<I: Drop, R: Drop> StackEntry<I, R> {
     }
 
     /// The entry for the next run, after one with this result, which rests on these dependencies.
-    pub fn next_run(self, answer: R, dependencies: &Dependencies) -> StackEntry<I, R>
-        ensures { result ≡ record { input = self.input; step_kind = self.step_kind; provisional_result = Some answer; lowest = dependencies.now.lowest; number = self.number; span = self.span } }
+    pub fn next_run(
+        self,
+        alloc: Global,
+        answer: R,
+        dependencies: &Dependencies,
+    ) -> Result<StackEntry<I, R>, AllocError>
+        ensures { IfOk result (IsNextRun self answer (indices dependencies.now.heads.items)) }
     {
+        let heads = places_of(alloc, &dependencies.heads)?;
         let StackEntry {
             input,
             step_kind,
             provisional_result: _,
-            lowest: _,
+            heads: _,
             number,
             span,
         } = self;
-        StackEntry {
+        Ok(StackEntry {
             input,
             step_kind,
             provisional_result: Some(answer),
-            lowest: dependencies.lowest,
+            heads,
             number,
             span,
-        }
+        })
     }
 }
 

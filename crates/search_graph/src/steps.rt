@@ -2,7 +2,7 @@
 
 ghost use Rattle.std.specs.Prelude.{◌≡◌, [], ◌∷◌, ◌++◌, ◌+◌, ◌-◌, ◌^◌, ◌<◌, ◌≤◌, ◌||◌, ◌⊎◌, ℕ, min, max, IfOk, OnOk, IfSome, IsSome, IsPermutation, true, false};
 ghost use Rattle.std.specs.Int.RustNames.{bit_or};
-ghost use Rattle.search_graph.specs.Heads.{paths_to};
+ghost use Rattle.search_graph.specs.Heads.{paths_to, AreHeadsOfBoth};
 ghost use Rattle.search_graph.specs.Meaning.{Keeps, IsDue, IsReply, Steps};
 ghost use Rattle.search_graph.specs.Chain.{AreInRange};
 ghost use Rattle.search_graph.specs.Nested.{covered, one_goal, AsksAlone};
@@ -12,7 +12,7 @@ ghost use Rattle.search_graph.specs.Question.{IsReplyOver, IsFaithfulOver, IsKep
 
 use crate::cache::CachedResults;
 use crate::delegate::{Delegate, InputOf, Reply, Request, ResultOf};
-use crate::dependencies::{CycleHead, Dependencies, EvaluationResult};
+use crate::dependencies::{Dependencies, EvaluationResult};
 use crate::fault::{GraphFault, Stop};
 use crate::path_kind::{PathKind, PathsToNested};
 use crate::search::{Evaluation, Outcome, Search, finish};
@@ -35,7 +35,7 @@ pub(crate) fn look_up<D: Delegate>(
     ensures range { IfOk result (λ r. IfSome r.1 (λ o. AreInRange cache.old.asked.items o.dependencies.nested_goals)) }
     ensures depth { IfOk result (λ r. IfSome r.1 (λ o. o.dependencies.encountered_overflow ≡ false → o.dependencies.required_depth ≤ depth)) }
     ensures kept { IfOk result (λ r. IfSome r.1 (λ o. HoldsResult cache.old.entries.items input.now depth o.result)) }
-    ensures answer { IfOk result (λ r. IfSome r.1 (λ o. IsReplyOver D.meaning cx.now search.now.stack.items input.now step_kind o.dependencies.lowest cx.now o.result)) }
+    ensures answer { IfOk result (λ r. IfSome r.1 (λ o. IsReplyOver D.meaning cx.now search.now.stack.items input.now step_kind o.dependencies.heads.items cx.now o.result)) }
     ensures faithful { IfOk result (λ r. IfSome r.1 (IsFaithfulOver D.meaning cx.now search.now.stack.items input.now (depth + 1) cx.now)) }
     ensures within { IfOk result (λ r. IfSome r.1 (λ o. IsWithinAsCached D.meaning cx.now cache.old.entries.items input.now o.result)) }
     ensures found { IfUsable cache.old.entries.items cache.old.asked.items search.now.stack.items input.now depth (IfOk result (λ r. IsSome r.1)) }
@@ -69,7 +69,7 @@ pub(crate) fn reply_in_cycle<D: Delegate>(
     ensures keeps { Keeps D.meaning cx.old cx.new }
     ensures asked { IfOk result (λ o. AsksAlone number o.dependencies.nested_goals) }
     ensures depth { IfOk result (λ o. o.dependencies.required_depth ≡ 0) }
-    ensures answer { IfOk result (λ o. IsReplyOver D.meaning cx.old search.now.stack.items input.now step_kind o.dependencies.lowest cx.new o.result) }
+    ensures answer { IfOk result (λ o. IsReplyOver D.meaning cx.old search.now.stack.items input.now step_kind o.dependencies.heads.items cx.new o.result) }
     ensures faithful { IfOk result (λ o. (reach : ℕ) → IsFaithfulOver D.meaning cx.old search.now.stack.items input.now reach cx.new o) }
     ensures within { IfOk result (λ o. IsWithinAsStack D.meaning cx.old search.now.stack.items input.now cx.new o.result) }
     ensures goes_on { result ≡ Err Stop.Exhausted → ⊥ }
@@ -77,13 +77,10 @@ pub(crate) fn reply_in_cycle<D: Delegate>(
     ensures in_order { result ≡ Err (Stop.Fault GraphFault.Protocol) → ⊥ }
     ensures full { result ≡ Err (Stop.Fault GraphFault.Full) → D.meaning.IsFull cx.new }
 {
-    let (answer, lowest) = search.close_cycle(cx, input, step_kind, cycle)?;
-    let mut dependencies = Dependencies::new(search.alloc, lowest);
+    let answer = search.close_cycle(cx, input, step_kind, cycle)?;
+    let mut dependencies = Dependencies::new(search.alloc);
     let paths = PathsToNested::from(cycle.path_kind);
-    dependencies.heads.push(CycleHead {
-        index: cycle.index,
-        paths,
-    })?;
+    dependencies.read_head(cycle.index, paths, &search.stack[cycle.index].heads)?;
     dependencies.nested_goals.add_goal(number)?;
     Ok(EvaluationResult {
         result: answer,
@@ -108,7 +105,7 @@ pub(crate) fn reply_with_overflow<D: Delegate>(
     ensures entries { cache.new.entries ≡ cache.old.entries }
     ensures asked_before { cache.new.asked ≡ cache.old.asked }
     ensures range { IfOk result (λ o. AreInRange cache.new.asked.items o.dependencies.nested_goals) }
-    ensures answer { IfOk result (λ o. IsReplyOver D.meaning cx.old search.old.stack.items input step_kind o.dependencies.lowest cx.new o.result) }
+    ensures answer { IfOk result (λ o. IsReplyOver D.meaning cx.old search.old.stack.items input step_kind o.dependencies.heads.items cx.new o.result) }
     ensures told { IfOk result (λ o. o.dependencies.encountered_overflow ≡ true) }
     ensures frames { search.new.frames ≡ search.old.frames }
     ensures limits { search.old.limits_met ≡ true → search.new.limits_met ≡ true }
@@ -157,11 +154,11 @@ pub(crate) fn hear<D: Delegate>(
     ensures keeps { Keeps D.meaning cx.old cx.new }
     ensures steps { IfOk result (λ q. Steps D.meaning cx.old frame.old (Reply.Result nested.result) cx.new frame.new q) }
     ensures falls { IfOk result (λ q. D.steps_left cx.new frame.new < D.steps_left cx.old frame.old) }
-    ensures lowest { OnOk result (dependencies.new.lowest ≡ min dependencies.old.lowest nested.dependencies.lowest) }
     ensures overflow { OnOk result (dependencies.new.encountered_overflow ≡ (dependencies.old.encountered_overflow || nested.dependencies.encountered_overflow)) }
     ensures depth { OnOk result (dependencies.new.required_depth ≡ max dependencies.old.required_depth (min (nested.dependencies.required_depth + 1) (2 ^ 64 - 1))) }
     ensures unread { OnOk result (dependencies.old.heads.items ≡ [] → nested.dependencies.heads.items ≡ [] → dependencies.new.heads.items ≡ []) }
     ensures heads { OnOk result ((place : ℕ) → paths_to dependencies.new.heads.items place ≡ bit_or (paths_to dependencies.old.heads.items place) (paths_to nested.dependencies.heads.items place)) }
+    ensures rests { OnOk result (AreHeadsOfBoth dependencies.old.heads.items nested.dependencies.heads.items dependencies.new.heads.items) }
     ensures goals { OnOk result (IsPermutation (dependencies.old.nested_goals.goals.items ++ nested.dependencies.nested_goals.goals.items) dependencies.new.nested_goals.goals.items) }
     ensures cached { OnOk result (IsPermutation (dependencies.old.nested_goals.cached.items ++ nested.dependencies.nested_goals.cached.items) dependencies.new.nested_goals.cached.items) }
     ensures span { OnOk result (dependencies.new.nested_goals.span ≡ covered dependencies.old.nested_goals.span nested.dependencies.nested_goals.span) }
@@ -178,12 +175,11 @@ pub(crate) fn hear<D: Delegate>(
     Ok(request)
 }
 
-/// Counts the end of a goal at this place of the stack, and keeps its result as `finish` does.
+/// Counts the end of a goal, and keeps its result as `finish` does.
 pub(crate) fn conclude<D: Delegate>(
     search: &mut Search<D>,
     cache: &mut CachedResults<D>,
     cx: &D::Cx,
-    index: usize,
     number: usize,
     input: InputOf<D>,
     evaluation: EvaluationResult<ResultOf<D>>,
@@ -193,9 +189,9 @@ pub(crate) fn conclude<D: Delegate>(
     requires input { D.meaning.IsInput cx.now input }
     requires nested { AreInRange cache.old.asked.items evaluation.dependencies.nested_goals }
     requires number { IsNumberOf D.Cx.Input.eq cache.old.goals.keys input number }
-    requires alone { index ≤ evaluation.dependencies.lowest → IsProvisional D.meaning (D.meaning.world cx.now) [] (D.meaning.goal_of cx.now input, PathKind.Inductive) 0 cx.now evaluation.result }
-    requires kept { index ≤ evaluation.dependencies.lowest → IsKeptResult D.meaning cx.now input evaluation.result depth evaluation.dependencies.encountered_overflow }
-    ensures kept { OnOk result (index ≤ evaluation.dependencies.lowest → AddsEvaluation cache.old.entries.items cache.new.entries.items cache.old.asked.items input number depth evaluation) }
+    requires alone { evaluation.dependencies.heads.items ≡ [] → IsProvisional D.meaning (D.meaning.world cx.now) [] (D.meaning.goal_of cx.now input, PathKind.Inductive) [] cx.now evaluation.result }
+    requires kept { evaluation.dependencies.heads.items ≡ [] → IsKeptResult D.meaning cx.now input evaluation.result depth evaluation.dependencies.encountered_overflow }
+    ensures kept { OnOk result (evaluation.dependencies.heads.items ≡ [] → AddsEvaluation cache.old.entries.items cache.new.entries.items cache.old.asked.items input number depth evaluation) }
     ensures results { KeepsResults cache.old.entries.items cache.new.entries.items }
     ensures asked_before { KeepsResults cache.old.asked.items cache.new.asked.items }
     ensures goals { cache.new.goals ≡ cache.old.goals }
@@ -205,7 +201,7 @@ pub(crate) fn conclude<D: Delegate>(
     ensures within { OnOk result (KeepsWithin D.meaning cx.now cache.old.entries.items input evaluation.result cache.new.entries.items) }
 
     // A goal whose result rests on no other and that met no overflow is never counted.
-    ensures exhausted { result ≡ Err Stop.Exhausted → (evaluation.dependencies.encountered_overflow ≡ true) ⊎ (evaluation.dependencies.lowest < index) }
+    ensures exhausted { result ≡ Err Stop.Exhausted → (evaluation.dependencies.encountered_overflow ≡ true) ⊎ (evaluation.dependencies.heads.items ≡ [] → ⊥) }
     ensures no_conflict { result ≡ Err (Stop.Fault GraphFault.Conflict) → IsNotPlainUpTo D.meaning cx.now input (depth + 1) }
     ensures conflict { result ≡ Err (Stop.Fault GraphFault.Conflict) → HasConflict D.meaning cx.now (known_results cache.new.entries.items) }
     ensures in_order { result ≡ Err (Stop.Fault GraphFault.Protocol) → ⊥ }
@@ -215,12 +211,12 @@ pub(crate) fn conclude<D: Delegate>(
     ensures limits { search.new.limits_met ≡ search.old.limits_met }
 {
     let found = &evaluation.dependencies;
-    let is_open = found.encountered_overflow || found.lowest < index;
+    let is_open = found.encountered_overflow || !found.heads.is_empty();
     if is_open && !search.count_open_end(D::cost_of(cx, &input)) {
         return Err(Stop::Exhausted);
     }
     let alloc = search.alloc;
-    Ok(finish(alloc, cache, cx, index, number, input, evaluation, depth)?)
+    Ok(finish(alloc, cache, cx, number, input, evaluation, depth)?)
 }
 
 /// The reply to a question from outside that is given up: an overflow by depth, which is kept for goals of this depth.
@@ -240,7 +236,7 @@ pub(crate) fn give_up<D: Delegate>(
     ensures cache { AreCached D.meaning (D.meaning.world cx.new) cx.new cache.new.entries.items }
     ensures results { KeepsResults cache.old.entries.items cache.new.entries.items }
     ensures kept { IfOk result (λ o. HoldsResult cache.new.entries.items input depth o.result) }
-    ensures answer { IfOk result (λ o. IsReplyOver D.meaning cx.old [] input step_kind o.dependencies.lowest cx.new o.result) }
+    ensures answer { IfOk result (λ o. IsReplyOver D.meaning cx.old [] input step_kind o.dependencies.heads.items cx.new o.result) }
     ensures faithful { IfOk result (IsFaithfulOver D.meaning cx.old [] input (depth + 1) cx.new) }
     ensures frames { search.new.frames ≡ search.old.frames }
     ensures noted { search.new.limits_met ≡ true }
@@ -253,5 +249,5 @@ pub(crate) fn give_up<D: Delegate>(
     let number = cache.number_of(cx, &input)?;
     let overflow = search.overflow(cx, number, &input, step_kind)?;
     let alloc = search.alloc;
-    finish(alloc, cache, cx, 0, number, input, overflow, depth)
+    finish(alloc, cache, cx, number, input, overflow, depth)
 }

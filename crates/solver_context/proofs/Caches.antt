@@ -10,7 +10,7 @@ module _ {C I R F : Type 0} (m : Search.Meaning C I R F) where
   one-later : (c d : C) (k : KnownResult I R) → Search.Keeps m c d → IsJustified m c k → IsJustified m d k
   one-later c d k keeps h = record {
     known = (keeps.inputs k.input h.known).0;
-    result = rw (keeps.world, (keeps.inputs k.input h.known).1) (IsProvisional-keeps m (m.world c) [] (m.goal_of c k.input, Inductive) 0 c d k.result keeps h.result);
+    result = rw (keeps.world, (keeps.inputs k.input h.known).1) (IsProvisional-keeps m (m.world c) [] (m.goal_of c k.input, Inductive) [] c d k.result keeps h.result);
     kept = rw (keeps.world, (keeps.inputs k.input h.known).1, (keeps.results k.result h.result.known).1) h.kept;
   }
 

@@ -1,4 +1,4 @@
-use Rattle.std.proofs.Common.{◌⊎◌, inl, inr, cond, false, true, rules, ◌≡◌, ℕ, ◌+◌, ◌*◌, ◌<◌, ◌≤◌, [], ◌∷◌, ◌++◌, length, max, sym, ◌∙◌, ap, refl, arith}
+use Rattle.std.proofs.Common.{◌⊎◌, inl, inr, cond, false, true, rules, ◌≡◌, ℕ, ◌+◌, ◌*◌, ◌<◌, ◌≤◌, [], ◌∷◌, ◌++◌, length, max, sym, subst, ◌∙◌, ap, refl, arith}
 use Rattle.std.proofs.lemmas.Result.{IfOk-weaker, err_from_is_err_and}
 use Rattle.search_graph.specs.declared.path_kind.PathKind.TheVariants.{Inductive}
 use Rattle.search_graph.specs.declared.delegate.Request.TheVariants.{Evaluate, Done}
@@ -7,18 +7,21 @@ use Rattle.search_graph.specs.Nested.{covered, one_goal}
 use Rattle.search_graph.proofs.Ranges.{in_range_none, in_range_one, in_range_gather, in_range_later}
 use Rattle.std.proofs.lemmas.Option.{none-some}
 use Rattle.search_graph.proofs.Depths.{depth_below, depth_gathered}
-use Rattle.search_graph.specs.Stack.{question_of, path_onto, span_of_newest}
+use Rattle.search_graph.specs.KeptPaths.{AreBelow, indices}
+use Rattle.search_graph.specs.Heads.{AreHeadsBut}
+use Rattle.search_graph.specs.Stack.{question_of, steps_of, span_of_newest, IsUnread}
 use Rattle.search_graph.specs.Computed.{IsGivenWithin, nothing, also, below}
 use Rattle.search_graph.specs.Bound.{question_bound}
 use Rattle.search_graph.specs.Plain.{IsNotPlain}
 use Rattle.search_graph.specs.Cache.{HasConflict, known_results}
 use Rattle.search_graph.specs.Question.{IsFaithfulOver, IsNotPlainOver, IsWithinAsStack, StaysWithin}
-use Rattle.search_graph.specs.Faithful.{AllDescend}
-use Rattle.search_graph.proofs.Errors.{err_passed, fault_passed, fault_goes_on, ok_not_err, OnOk-always}
+use Rattle.search_graph.specs.Faithful.{HeadsDescend}
+use Rattle.search_graph.proofs.Errors.{err_passed, fault_passed, fault_goes_on, stop_refused, ok_not_err, OnOk-always}
 use Rattle.search_graph.proofs.Refusals.{IfOk-err, OnOk-err}
-use Rattle.search_graph.proofs.Orders.{in_path, past_path, from_zero, within_equal, within_more, less_within, least_within, none_started, one_started, not_less}
-use Rattle.search_graph.proofs.Graphs.{IsStack-now, path-now, IsEntry-now, IsProvisional-then, IsAnswer-then, answer_of_run, running_next_counted, running_begun, running_other, running_done, asked_now, hears_other, hears_next, misstep_now, due_next, due_other, Keeps-refl, Keeps-trans, IsStack-push, path_onto-append, length-path_onto, path_length, AreCached-later, provisional_alone, overflow_answers, overflow_stands}
-use Rattle.search_graph.proofs.Faithfuls.{true_not_false, not_plain_at_zero, AllDescend-higher, ends_not_plain, conflict_up, plain_first, plain_next_at, plain_done, untouched_first, untouched_not_plain, faithful_not_plain, faithful_taken, faithful_at_zero, kept_of_faithful, IsFaithful-less, reach_within}
+use Rattle.search_graph.proofs.Orders.{from_zero, within_more, less_within, none_started, one_started, not_less}
+use Rattle.search_graph.proofs.HeadFacts.{indices-none, both_kept, both_below, below_more, below_last, root_alone}
+use Rattle.search_graph.proofs.Graphs.{IsStack-now, steps-now, IsEntry-now, run_ended, next_entry, IsAnswer-then, answer_of_run, running_next_counted, running_begun, running_other, running_done, asked_now, hears_other, hears_next, misstep_now, due_next, due_other, Keeps-refl, Keeps-trans, IsStack-push, steps_pushed, length-steps_of, AreCached-later, provisional_alone, overflow_answers, overflow_stands}
+use Rattle.search_graph.proofs.Faithfuls.{true_not_false, not_plain_at_zero, all_heads_descend, run_heads_descend, ends_not_plain, conflict_up, plain_first, plain_next_at, plain_done, untouched_first, untouched_not_plain, faithful_not_plain, faithful_taken, faithful_at_zero, kept_of_faithful, IsFaithful-less, reach_within}
 use Rattle.search_graph.proofs.Limits.{unnoted, either_noted, not_both, told_within, AreLastWithin-now, AreLastWithin-push, AreCachedWithin-keeps}
 use Rattle.search_graph.proofs.Bounds.{frame_bound_runs, nested_within, one_more_run, runs_within, done_within, asked_within, asked_more}
 use Rattle.search_graph.proofs.Ends.{depth_after, held_after, answer_after, faithful_after, within_after}
@@ -42,7 +45,7 @@ ask-returns-then-depth-eq0 g t c =
       range = c.reply_with_overflow.ensures.range;
       depth = IfOk-weaker c.reply_with_overflow.result _ _ (λ o told off. absurd (true_not_false (sym told ∙ off))) c.reply_with_overflow.ensures.told;
       answer = c.reply_with_overflow.ensures.answer;
-      faithful = rw c.if-depth-eq0.true (IfOk-weaker c.reply_with_overflow.result (λ o. o.dependencies.encountered_overflow ≡ true) (IsFaithfulOver m first es c.args.input (cond c.args.overflowed 0 0) c.reply_with_overflow.new.cx) (λ o told. rw told (faithful_at_zero m w c.args.overflowed (path_onto m first es []) x (m.answer_of c.reply_with_overflow.new.cx o.result) o.dependencies.lowest o.dependencies.heads.items)) c.reply_with_overflow.ensures.told);
+      faithful = rw c.if-depth-eq0.true (IfOk-weaker c.reply_with_overflow.result (λ o. o.dependencies.encountered_overflow ≡ true) (IsFaithfulOver m first es c.args.input (cond c.args.overflowed 0 0) c.reply_with_overflow.new.cx) (λ o told. rw told (faithful_at_zero m w c.args.overflowed (steps_of m first es) x (m.answer_of c.reply_with_overflow.new.cx o.result) (indices o.dependencies.heads.items))) c.reply_with_overflow.ensures.told);
       no_conflict = λ h. absurd (c.reply_with_overflow.ensures.no_conflict h);
       exhausted = λ h. absurd (c.reply_with_overflow.ensures.goes_on h);
       protocol = λ h. absurd (c.reply_with_overflow.ensures.in_order h);
@@ -71,7 +74,7 @@ ask-returns g t c =
       range = c.evaluate.ensures.range;
       depth = IfOk-weaker c.evaluate.result _ _ (λ o within off. depth_below o.dependencies.required_depth c.nested_depth-nested.result c.args.depth (within off) c.nested_depth-nested.ensures.falls) c.evaluate.ensures.depth;
       answer = c.evaluate.ensures.answer;
-      faithful = IfOk-weaker c.evaluate.result (IsFaithfulOver m first es c.args.input (c.nested_depth-nested.result + 1) c.evaluate.new.cx) (IsFaithfulOver m first es c.args.input (cond c.args.overflowed 0 c.args.depth) c.evaluate.new.cx) (λ o f. IsFaithful-less m (m.world first) (c.nested_depth-nested.result + 1) (cond c.args.overflowed 0 c.args.depth) (path_onto m first es []) (m.goal_of first c.args.input) (m.answer_of c.evaluate.new.cx o.result) o.dependencies.encountered_overflow o.dependencies.lowest o.dependencies.heads.items reach f)
+      faithful = IfOk-weaker c.evaluate.result (IsFaithfulOver m first es c.args.input (c.nested_depth-nested.result + 1) c.evaluate.new.cx) (IsFaithfulOver m first es c.args.input (cond c.args.overflowed 0 c.args.depth) c.evaluate.new.cx) (λ o f. IsFaithful-less m (m.world first) (c.nested_depth-nested.result + 1) (cond c.args.overflowed 0 c.args.depth) (steps_of m first es) (m.goal_of first c.args.input) (m.answer_of c.evaluate.new.cx o.result) o.dependencies.encountered_overflow (indices o.dependencies.heads.items) reach f)
           c.evaluate.ensures.faithful;
       no_conflict = λ h limit l d. c.evaluate.ensures.no_conflict h limit (omega (arith, reach, l)) d;
       exhausted = λ h limit l d. c.evaluate.ensures.exhausted h limit (omega (arith, reach, l)) d;
@@ -216,8 +219,7 @@ evaluate_new-loop-run-init g t c =
     let es = c.args.search.now.stack.items in
     let w = m.world first in
     let x = m.goal_of first c.args.input in
-    let path = path_onto m first es [] in
-    let long = path_length m first es c.len-index.result (c.len-index.ensures ∙ c.args.search.now.stack.ok.0) in
+    let steps = steps_of m first es in
     record {
       keeps = Keeps-refl m first;
       cache = c.requires.cache;
@@ -231,10 +233,10 @@ evaluate_new-loop-run-init g t c =
       place = c.len-index.ensures ∙ c.args.search.now.stack.ok.0;
       input = c.new_entry-entry.ensures.input;
       kind = c.new_entry-entry.ensures.kind;
-      entry = record { known = rw c.new_entry-entry.ensures.input c.requires.input; room = omega (arith, c.new_entry-entry.ensures.lowest, c.args.search.now.stack.ok.0); last = rw c.new_entry-entry.ensures.first tt };
-      room = within_equal _ _ (c.new-dependencies.ensures.lowest ∙ c.len-index.ensures ∙ c.args.search.now.stack.ok.0);
-      untouched = untouched_first m w (c.args.depth + 1) path x c.new-dependencies.result.encountered_overflow c.new-dependencies.result.lowest c.new-dependencies.result.heads.items
-          c.new-dependencies.ensures.within (c.new-dependencies.ensures.lowest ∙ sym long) c.new-dependencies.ensures.unread;
+      entry = record { known = rw c.new_entry-entry.ensures.input c.requires.input; below = rw c.new_entry-entry.ensures.heads tt; last = rw c.new_entry-entry.ensures.first tt };
+      below = rw c.new-dependencies.ensures.unread tt;
+      untouched = untouched_first m w (c.args.depth + 1) steps x c.new-dependencies.result.encountered_overflow (indices c.new-dependencies.result.heads.items)
+          c.new-dependencies.ensures.within (ap indices c.new-dependencies.ensures.unread);
       frames = λ width h. omega arith;
       limits = λ h. h;
       noted = λ off on. not_both {P = IsNotPlainOver m first es c.args.input (c.args.depth + 1)} c.args.search.now.limits_met off on;
@@ -250,22 +252,22 @@ evaluate_new-loop-run-preserved g t c =
     let es = c.args.search.now.stack.items in
     let w = m.world first in
     let x = m.goal_of first c.args.input in
-    let path = path_onto m first es [] in
+    let steps = steps_of m first es in
     let limit : ℕ = max g.D.Delegate.FIXPOINT_STEP_LIMIT 1 in
     let goal_is = (inv.keeps.inputs c.args.input c.requires.input).1 in
-    let now = IsProvisional-then m first c.loop-run.cx es c.loop-run.search.stack.items inv.keeps inv.stack c.requires.stack
-    c.loop-run.entry c.args.input c.args.step_kind c.in_ok-back.outcome.dependencies.lowest c.run_once.new.cx c.in_ok-back.outcome.result inv.input inv.kind c.requires.input c.in_ok-back.ensures.provisional in
+    let heads = c.in_ok-back.outcome.dependencies.heads.items in
+    let less = c.take_head-read.new.heads.items in
+    let ended = run_ended m first c.loop-run.cx es c.loop-run.search.stack.items inv.keeps inv.stack c.requires.stack c.loop-run.entry c.args.input c.args.step_kind c.len-index.result heads less c.run_once.new.cx c.in_ok-back.outcome.result
+    inv.place c.take_head-read.ensures.rests inv.input inv.kind c.requires.input c.in_ok-back.ensures.provisional in
+    let now = ended.result in
     let keeps = Keeps-trans m first c.loop-run.cx c.run_once.new.cx inv.keeps c.run_once.ensures.keeps in
     let input : c.in_ok-back.back.input ≡ c.args.input = ap (λ e. e.input) c.in_ok-back.ensures.entry ∙ inv.input in
     let kind : c.in_ok-back.back.step_kind ≡ c.args.step_kind = ap (λ e. e.step_kind) c.in_ok-back.ensures.entry ∙ inv.kind in
-    let long = path_length m first es c.len-index.result inv.place in
-    let low : c.in_ok-back.outcome.dependencies.lowest ≤ c.len-index.result = let h = c.in_ok-back.ensures.low in rw (inv.place, ← inv.stack) h in
-    let room : c.in_ok-back.outcome.dependencies.lowest ≤ length (path_onto m first es []) = in_path _ _ _ low long in
-    let faithful = rw (inv.keeps.world, path-now m first c.loop-run.cx es c.loop-run.search.stack.items inv.keeps inv.stack c.requires.stack, inv.input, goal_is) at c.in_ok-back.ensures.faithful in
-    let never : (limit : ℕ) → (limit ≤ c.args.depth + 1) ⊎ (c.in_ok-back.outcome.dependencies.encountered_overflow ≡ false) → AllDescend m w limit c.in_ok-back.outcome.dependencies.lowest path x → IsNotPlain m w limit x
+    let faithful = rw (inv.keeps.world, steps-now m first c.loop-run.cx es c.loop-run.search.stack.items inv.keeps inv.stack c.requires.stack, inv.input, goal_is) at c.in_ok-back.ensures.faithful in
+    let never : (limit : ℕ) → (limit ≤ c.args.depth + 1) ⊎ (c.in_ok-back.outcome.dependencies.encountered_overflow ≡ false) → HeadsDescend m w limit (indices less) steps x → IsNotPlain m w limit x
     = (λ limit h d n b within p.
-    let told = faithful limit h d n b within p in
-    let last = c.is_last_run.ensures.unread (c.take_head-read.ensures.unread told.unread).0 in
+    let told = faithful limit h (run_heads_descend m w limit (indices heads) (indices less) steps x ended.but d) n b within p in
+    let last = c.is_last_run.ensures.unread (subst (λ r. IsUnread r) (sym (c.take_head-read.ensures.unread (indices-none heads told.unread)).0) tt) in
     true_not_false (sym last ∙ c.if-is_last_run.false)) in
     record {
       keeps = keeps;
@@ -276,23 +278,24 @@ evaluate_new-loop-run-preserved g t c =
       range = c.in_ok-back.ensures.range;
       depth = c.in_ok-back.ensures.depth;
       stack = c.in_ok-back.ensures.stack ∙ inv.stack;
-      span = rw (c.next_run-entry.ensures, c.in_ok-back.ensures.entry) inv.span;
+      span = rw (c.in_ok-entry.ensures.span, c.in_ok-entry.ensures.number, c.in_ok-back.ensures.entry) inv.span;
       place = inv.place;
-      input = ap (λ e. e.input) c.next_run-entry.ensures ∙ input;
-      kind = ap (λ e. e.step_kind) c.next_run-entry.ensures ∙ kind;
-      entry = rw (c.next_run-entry.ensures, input, kind) (record { known = (keeps.inputs c.args.input c.requires.input).0; room = room; last = rw (keeps.inputs c.args.input c.requires.input).1 now });
-      room = in_path _ _ _ low (sym inv.place);
-      untouched = untouched_not_plain m w (c.args.depth + 1) path x c.in_ok-back.outcome.dependencies.encountered_overflow c.in_ok-back.outcome.dependencies.lowest c.take_head-read.new.heads.items never;
+      input = c.in_ok-entry.ensures.input ∙ input;
+      kind = c.in_ok-entry.ensures.kind ∙ kind;
+      entry = next_entry m w steps c.run_once.new.cx c.in_ok-back.back c.in_ok-entry.entry c.args.input c.args.step_kind c.in_ok-back.outcome.result (indices less) c.in_ok-entry.ensures input kind (keeps.inputs c.args.input c.requires.input).0
+          ended.within (rw (keeps.inputs c.args.input c.requires.input).1 now);
+      below = ended.below;
+      untouched = untouched_not_plain m w (c.args.depth + 1) steps x c.in_ok-back.outcome.dependencies.encountered_overflow (indices less) never;
       frames = λ width h. one_more_run c.args.search.now.frames c.loop-run.search.frames c.run_once.new.search.frames c.loop-run._run (1 + width * question_bound limit width c.args.depth)
           (inv.frames width h) (c.run_once.ensures.frames width (rw (inv.keeps.world, inv.input, goal_is) h));
       limits = λ h. c.run_once.ensures.limits (inv.limits h);
       noted = λ off. either_noted c.loop-run.search.limits_met c.run_once.new.search.limits_met (inv.noted off)
-          (rw (inv.keeps.world, path-now m first c.loop-run.cx es c.loop-run.search.stack.items inv.keeps inv.stack c.requires.stack, inv.input, goal_is) at c.run_once.ensures.no_limit);
+          (rw (inv.keeps.world, steps-now m first c.loop-run.cx es c.loop-run.search.stack.items inv.keeps inv.stack c.requires.stack, inv.input, goal_is) at c.run_once.ensures.no_limit);
       within = λ before no last cached.
           let told = told_within m first c.loop-run.cx c.run_once.new.cx es c.loop-run.search.stack.items inv.keeps inv.stack c.requires.stack before c.args.input c.loop-run.entry c.in_ok-back.outcome.result inv.input c.requires.input
           c.loop-run.cache.entries.items c.run_once.new.cache.entries.items (c.in_ok-back.ensures.within before no) last
           (inv.within before (unnoted c.loop-run.search.limits_met c.run_once.new.search.limits_met c.run_once.ensures.limits no) last cached) in
-          (told.0, rw (c.next_run-entry.ensures, input, (keeps.inputs c.args.input c.requires.input).1) told.1);
+          (told.0, rw (c.in_ok-entry.ensures.result, c.in_ok-entry.ensures.input, input, (keeps.inputs c.args.input c.requires.input).1) told.1);
       again = λ r. never;
     }
 
@@ -318,7 +321,7 @@ evaluate_new-run_once-requires g t c κs within =
                 within.1.1.1.1.0,
                 (
                   within.1.1.1.1.1,
-                  (stack, (inv.cache, (entry, (rw inv.stack inv.room, (rw inv.stack inv.span, (inv.range, (inv.depth, rw (inv.keeps.world, path-now m first c.loop-run.cx es c.loop-run.search.stack.items inv.keeps inv.stack c.requires.stack, inv.input, goal_is) inv.untouched))))))),
+                  (stack, (inv.cache, (entry, (rw inv.stack inv.below, (rw inv.stack inv.span, (inv.range, (inv.depth, rw (inv.keeps.world, steps-now m first c.loop-run.cx es c.loop-run.search.stack.items inv.keeps inv.stack c.requires.stack, inv.input, goal_is) inv.untouched))))))),
                 ),
               ),
             ),
@@ -335,16 +338,16 @@ evaluate_new-conclude-requires-clause-alone g t c =
     let es = c.args.search.now.stack.items in
     let w = m.world first in
     let x = m.goal_of first c.args.input in
-    let path = path_onto m first es [] in
-    let now = IsProvisional-then m first c.loop-run.cx es c.loop-run.search.stack.items inv.keeps inv.stack c.requires.stack
-    c.loop-run.entry c.args.input c.args.step_kind c.in_ok-back.outcome.dependencies.lowest c.run_once.new.cx c.in_ok-back.outcome.result inv.input inv.kind c.requires.input c.in_ok-back.ensures.provisional in
+    let steps = steps_of m first es in
+    let heads = c.in_ok-back.outcome.dependencies.heads.items in
+    let less = c.take_head-read.new.heads.items in
+    let ended = run_ended m first c.loop-run.cx es c.loop-run.search.stack.items inv.keeps inv.stack c.requires.stack c.loop-run.entry c.args.input c.args.step_kind c.len-index.result heads less c.run_once.new.cx c.in_ok-back.outcome.result
+    inv.place c.take_head-read.ensures.rests inv.input inv.kind c.requires.input c.in_ok-back.ensures.provisional in
+    let now = ended.result in
     let keeps = Keeps-trans m first c.loop-run.cx c.run_once.new.cx inv.keeps c.run_once.ensures.keeps in
     let input : c.into_input.result ≡ c.args.input = c.into_input.ensures ∙ ap (λ e. e.input) c.in_ok-back.ensures.entry ∙ inv.input in
-    let long = path_length m first es c.len-index.result inv.place in
-    let low : c.in_ok-back.outcome.dependencies.lowest ≤ c.len-index.result = let h = c.in_ok-back.ensures.low in rw (inv.place, ← inv.stack) h in
-    let room : c.in_ok-back.outcome.dependencies.lowest ≤ length (path_onto m first es []) = in_path _ _ _ low long in
     λ h. rw (keeps.world, input, (keeps.inputs c.args.input c.requires.input).1)
-    (provisional_alone m w c.in_ok-back.outcome.dependencies.lowest path x c.args.step_kind Inductive c.run_once.new.cx c.in_ok-back.outcome.result (past_path _ _ _ h long) now)
+    (provisional_alone m w steps x c.args.step_kind Inductive (indices less) c.run_once.new.cx c.in_ok-back.outcome.result (ap indices h) now)
 
 pub evaluate_new-conclude-requires-clause-kept : goal.evaluate_new-conclude-requires-clause-kept
 evaluate_new-conclude-requires-clause-kept g t c =
@@ -354,16 +357,19 @@ evaluate_new-conclude-requires-clause-kept g t c =
     let es = c.args.search.now.stack.items in
     let w = m.world first in
     let x = m.goal_of first c.args.input in
-    let path = path_onto m first es [] in
+    let steps = steps_of m first es in
     let goal_is = (inv.keeps.inputs c.args.input c.requires.input).1 in
     let keeps = Keeps-trans m first c.loop-run.cx c.run_once.new.cx inv.keeps c.run_once.ensures.keeps in
     let input : c.into_input.result ≡ c.args.input = c.into_input.ensures ∙ ap (λ e. e.input) c.in_ok-back.ensures.entry ∙ inv.input in
-    let long = path_length m first es c.len-index.result inv.place in
-    let low : c.in_ok-back.outcome.dependencies.lowest ≤ c.len-index.result = let h = c.in_ok-back.ensures.low in rw (inv.place, ← inv.stack) h in
-    let room : c.in_ok-back.outcome.dependencies.lowest ≤ length (path_onto m first es []) = in_path _ _ _ low long in
-    let faithful = rw (inv.keeps.world, path-now m first c.loop-run.cx es c.loop-run.search.stack.items inv.keeps inv.stack c.requires.stack, inv.input, goal_is) at c.in_ok-back.ensures.faithful in
+    let heads = c.in_ok-back.outcome.dependencies.heads.items in
+    let less = c.take_head-read.new.heads.items in
+    let ended = run_ended m first c.loop-run.cx es c.loop-run.search.stack.items inv.keeps inv.stack c.requires.stack c.loop-run.entry c.args.input c.args.step_kind c.len-index.result heads less c.run_once.new.cx c.in_ok-back.outcome.result
+    inv.place c.take_head-read.ensures.rests inv.input inv.kind c.requires.input c.in_ok-back.ensures.provisional in
+    let now = ended.result in
+    let faithful = rw (inv.keeps.world, steps-now m first c.loop-run.cx es c.loop-run.search.stack.items inv.keeps inv.stack c.requires.stack, inv.input, goal_is) at c.in_ok-back.ensures.faithful in
     λ h. rw (keeps.world, input, (keeps.inputs c.args.input c.requires.input).1)
-    (kept_of_faithful m w c.args.depth path x (m.answer_of c.run_once.new.cx c.in_ok-back.outcome.result) c.in_ok-back.outcome.dependencies.encountered_overflow c.in_ok-back.outcome.dependencies.lowest c.in_ok-back.outcome.dependencies.heads.items (past_path _ _ _ h long) faithful)
+    (kept_of_faithful m w c.args.depth steps x (m.answer_of c.run_once.new.cx c.in_ok-back.outcome.result) c.in_ok-back.outcome.dependencies.encountered_overflow (indices less) (ap indices h)
+    (faithful_taken m w (c.args.depth + 1) steps x (m.answer_of c.run_once.new.cx c.in_ok-back.outcome.result) c.in_ok-back.outcome.dependencies.encountered_overflow (indices heads) (indices less) (λ e. ap indices (c.take_head-read.ensures.unread (indices-none heads e)).1) ended.but faithful))
 
 pub evaluate_new-conclude-requires-clause-number : goal.evaluate_new-conclude-requires-clause-number
 evaluate_new-conclude-requires-clause-number g t c =
@@ -393,15 +399,17 @@ evaluate_new-returns-then-is_last_run g t c =
     let es = c.args.search.now.stack.items in
     let w = m.world first in
     let x = m.goal_of first c.args.input in
-    let path = path_onto m first es [] in
-    let now = IsProvisional-then m first c.loop-run.cx es c.loop-run.search.stack.items inv.keeps inv.stack c.requires.stack c.loop-run.entry c.args.input c.args.step_kind c.in_ok-back.outcome.dependencies.lowest c.run_once.new.cx c.in_ok-back.outcome.result inv.input inv.kind c.requires.input c.in_ok-back.ensures.provisional in
-    let long = path_length m first es c.len-index.result inv.place in
-    let low : c.in_ok-back.outcome.dependencies.lowest ≤ c.len-index.result = let h = c.in_ok-back.ensures.low in rw (inv.place, ← inv.stack) h in
-    let room : c.in_ok-back.outcome.dependencies.lowest ≤ length (path_onto m first es []) = in_path _ _ _ low long in
+    let steps = steps_of m first es in
+    let heads = c.in_ok-back.outcome.dependencies.heads.items in
+    let less = c.take_head-read.new.heads.items in
+    let ended = run_ended m first c.loop-run.cx es c.loop-run.search.stack.items inv.keeps inv.stack c.requires.stack c.loop-run.entry c.args.input c.args.step_kind c.len-index.result heads less c.run_once.new.cx c.in_ok-back.outcome.result
+    inv.place c.take_head-read.ensures.rests inv.input inv.kind c.requires.input c.in_ok-back.ensures.provisional in
+    let now = ended.result in
     let goal_is = (inv.keeps.inputs c.args.input c.requires.input).1 in
-    let faithful = rw (inv.keeps.world, path-now m first c.loop-run.cx es c.loop-run.search.stack.items inv.keeps inv.stack c.requires.stack, inv.input, goal_is) at c.in_ok-back.ensures.faithful in
+    let faithful = rw (inv.keeps.world, steps-now m first c.loop-run.cx es c.loop-run.search.stack.items inv.keeps inv.stack c.requires.stack, inv.input, goal_is) at c.in_ok-back.ensures.faithful in
     let keeps = Keeps-trans m first c.loop-run.cx c.run_once.new.cx inv.keeps c.run_once.ensures.keeps in
     let input : c.into_input.result ≡ c.args.input = c.into_input.ensures ∙ ap (λ e. e.input) c.in_ok-back.ensures.entry ∙ inv.input in
+    let faithful_less = faithful_taken m w (c.args.depth + 1) steps x (m.answer_of c.run_once.new.cx c.in_ok-back.outcome.result) c.in_ok-back.outcome.dependencies.encountered_overflow (indices heads) (indices less) (λ e. ap indices (c.take_head-read.ensures.unread (indices-none heads e)).1) ended.but faithful in
     let claim = rw (keeps.world, input, (keeps.inputs c.args.input c.requires.input).1) at c.conclude.ensures.no_conflict in
     let limit : ℕ = max g.D.Delegate.FIXPOINT_STEP_LIMIT 1 in
     record {
@@ -414,19 +422,16 @@ evaluate_new-returns-then-is_last_run g t c =
       range = c.conclude.ensures.range;
       depth = depth_after c.conclude.result _ c.args.depth c.in_ok-back.ensures.depth c.conclude.ensures.reply;
       kept = λ empty.
-          let inv = c.loop-run.invariant in
-          let input : c.into_input.result ≡ c.args.input = c.into_input.ensures ∙ ap (λ e. e.input) c.in_ok-back.ensures.entry ∙ inv.input in
-          let root : c.len-index.result ≡ 0 = inv.place ∙ ap length empty in
-          held_after c.conclude.result _ c.run_once.new.cache.entries.items c.conclude.new.cache.entries.items c.run_once.new.cache.asked.items c.args.input c.into_input.result c.len-index.result c.args.number c.args.depth input (from_zero _ _ root)
+          held_after c.conclude.result _ c.run_once.new.cache.entries.items c.conclude.new.cache.entries.items c.run_once.new.cache.asked.items c.args.input c.into_input.result c.args.number c.args.depth
+          (c.into_input.ensures ∙ ap (λ e. e.input) c.in_ok-back.ensures.entry ∙ inv.input) (root_alone (length es) less (ap length empty) ended.below)
           c.in_ok-back.ensures.depth c.conclude.ensures.kept c.conclude.ensures.reply;
       answer = answer_after m first c.run_once.new.cx es c.args.input c.conclude.result _ c.args.step_kind
-          (answer_of_run m w path (x, c.args.step_kind) c.in_ok-back.outcome.dependencies.lowest c.run_once.new.cx c.in_ok-back.outcome.result room now) c.conclude.ensures.reply;
+          (answer_of_run m w steps (x, c.args.step_kind) (indices less) c.run_once.new.cx c.in_ok-back.outcome.result ended.within now) c.conclude.ensures.reply;
       faithful = faithful_after m first c.run_once.new.cx es c.args.input c.conclude.result _ (c.args.depth + 1)
-          (faithful_taken m w (c.args.depth + 1) path x (m.answer_of c.run_once.new.cx c.in_ok-back.outcome.result) c.in_ok-back.outcome.dependencies.encountered_overflow c.in_ok-back.outcome.dependencies.lowest c.in_ok-back.outcome.dependencies.heads.items c.take_head-read.new.heads.items
-          (λ e. (c.take_head-read.ensures.unread e).1) faithful) c.conclude.ensures.reply;
+          faithful_less c.conclude.ensures.reply;
       no_conflict = λ h limit l d. claim h limit l;
-      exhausted = λ h. ends_not_plain m w (c.args.depth + 1) c.len-index.result path x (m.answer_of c.run_once.new.cx c.in_ok-back.outcome.result) c.in_ok-back.outcome.dependencies.encountered_overflow c.in_ok-back.outcome.dependencies.lowest c.in_ok-back.outcome.dependencies.heads.items
-          long (c.conclude.ensures.exhausted h) faithful;
+      exhausted = λ h. ends_not_plain m w (c.args.depth + 1) steps x (m.answer_of c.run_once.new.cx c.in_ok-back.outcome.result) c.in_ok-back.outcome.dependencies.encountered_overflow (indices less)
+          (elim (c.conclude.ensures.exhausted h) [ inl over ↦ inl over | inr some ↦ inr (λ e. some (indices-none less e)) ]) faithful_less;
       protocol = λ h. absurd (c.conclude.ensures.in_order h);
       conflict = c.conclude.ensures.conflict;
       frames = λ width h.
@@ -436,7 +441,7 @@ evaluate_new-returns-then-is_last_run g t c =
       full = λ h. absurd (c.conclude.ensures.room h);
       limits = λ h. c.conclude.ensures.limits ∙ c.run_once.ensures.limits (inv.limits h);
       no_limit = λ off on. either_noted c.loop-run.search.limits_met c.run_once.new.search.limits_met (inv.noted off)
-          (rw (inv.keeps.world, path-now m first c.loop-run.cx es c.loop-run.search.stack.items inv.keeps inv.stack c.requires.stack, inv.input, goal_is) at c.run_once.ensures.no_limit) (sym c.conclude.ensures.limits ∙ on);
+          (rw (inv.keeps.world, steps-now m first c.loop-run.cx es c.loop-run.search.stack.items inv.keeps inv.stack c.requires.stack, inv.input, goal_is) at c.run_once.ensures.no_limit) (sym c.conclude.ensures.limits ∙ on);
       within = rw c.conclude.ensures.limits (within_after m first c.run_once.new.cx es c.args.input c.conclude.result _ c.args.cache.now.entries.items c.run_once.new.cache.entries.items c.conclude.new.cache.entries.items c.into_input.result c.run_once.new.search.limits_met keeps input c.requires.input
           (λ before no last cached.
           told_within m first c.loop-run.cx c.run_once.new.cx es c.loop-run.search.stack.items inv.keeps inv.stack c.requires.stack before c.args.input c.loop-run.entry c.in_ok-back.outcome.result inv.input c.requires.input
@@ -454,7 +459,7 @@ evaluate_new-returns-in_err-back g t c =
     let first = c.args.cx.now in
     let es = c.args.search.now.stack.items in
     let goal_is = (inv.keeps.inputs c.args.input c.requires.input).1 in
-    let claim = rw (inv.keeps.world, path-now m first c.loop-run.cx es c.loop-run.search.stack.items inv.keeps inv.stack c.requires.stack, inv.input, goal_is) at c.in_err-back.ensures.no_conflict in
+    let claim = rw (inv.keeps.world, steps-now m first c.loop-run.cx es c.loop-run.search.stack.items inv.keeps inv.stack c.requires.stack, inv.input, goal_is) at c.in_err-back.ensures.no_conflict in
     let limit : ℕ = max g.D.Delegate.FIXPOINT_STEP_LIMIT 1 in
     record {
       keeps = Keeps-trans g.D.Delegate.meaning c.args.cx.now c.loop-run.cx c.run_once.new.cx inv.keeps c.run_once.ensures.keeps;
@@ -469,7 +474,7 @@ evaluate_new-returns-in_err-back g t c =
       answer = IfOk-err _ _ _ p.1;
       faithful = IfOk-err _ _ _ p.1;
       no_conflict = λ h. claim (err_passed _ _ _ _ p.1 p.2 h);
-      exhausted = let claim = rw (inv.keeps.world, path-now m first c.loop-run.cx es c.loop-run.search.stack.items inv.keeps inv.stack c.requires.stack, inv.input, goal_is) at c.in_err-back.ensures.exhausted in λ h. claim (err_passed _ _ _ _ p.1 p.2 h);
+      exhausted = let claim = rw (inv.keeps.world, steps-now m first c.loop-run.cx es c.loop-run.search.stack.items inv.keeps inv.stack c.requires.stack, inv.input, goal_is) at c.in_err-back.ensures.exhausted in λ h. claim (err_passed _ _ _ _ p.1 p.2 h);
       protocol = let claim = rw (inv.keeps.world, inv.input, goal_is) at c.in_err-back.ensures.protocol in λ h. claim (err_passed _ _ _ _ p.1 p.2 h);
       conflict = λ h. c.in_err-back.ensures.conflict (err_passed _ _ _ _ p.1 p.2 h);
       frames = λ width h.
@@ -479,7 +484,44 @@ evaluate_new-returns-in_err-back g t c =
       full = λ h. c.in_err-back.ensures.full (err_passed _ _ _ _ p.1 p.2 h);
       limits = λ h. c.run_once.ensures.limits (inv.limits h);
       no_limit = λ off. either_noted c.loop-run.search.limits_met c.run_once.new.search.limits_met (inv.noted off)
-          (rw (inv.keeps.world, path-now m first c.loop-run.cx es c.loop-run.search.stack.items inv.keeps inv.stack c.requires.stack, inv.input, goal_is) at c.run_once.ensures.no_limit);
+          (rw (inv.keeps.world, steps-now m first c.loop-run.cx es c.loop-run.search.stack.items inv.keeps inv.stack c.requires.stack, inv.input, goal_is) at c.run_once.ensures.no_limit);
+      within = IfOk-err _ _ _ p.1;
+    }
+
+pub evaluate_new-returns-in_err-entry : goal.evaluate_new-returns-in_err-entry
+evaluate_new-returns-in_err-entry g t c =
+    let counted : c.loop-run._run + 1 ≤ max g.D.Delegate.FIXPOINT_STEP_LIMIT 1 = omega arith in
+    let inv = c.loop-run.invariant in
+    let p = err_from_is_err_and c.from_residual-in_err-entry.result c.from_residual-in_err-entry.ensures.1 in
+    let m = g.D.Delegate.meaning in
+    let first = c.args.cx.now in
+    let es = c.args.search.now.stack.items in
+    let goal_is = (inv.keeps.inputs c.args.input c.requires.input).1 in
+    let limit : ℕ = max g.D.Delegate.FIXPOINT_STEP_LIMIT 1 in
+    record {
+      keeps = Keeps-trans g.D.Delegate.meaning c.args.cx.now c.loop-run.cx c.run_once.new.cx inv.keeps c.run_once.ensures.keeps;
+      stack = OnOk-err _ _ _ p.1;
+      cache = c.run_once.ensures.cache;
+      goals = λ x n h. c.run_once.ensures.goals x n (inv.goals x n h);
+      results = λ p x h. c.run_once.ensures.results p x (inv.results p x h);
+      asked_before = λ p x h. c.run_once.ensures.asked_before p x (inv.asked_before p x h);
+      range = IfOk-err _ _ _ p.1;
+      depth = IfOk-err _ _ _ p.1;
+      kept = λ empty. IfOk-err _ _ _ p.1;
+      answer = IfOk-err _ _ _ p.1;
+      faithful = IfOk-err _ _ _ p.1;
+      no_conflict = λ h. absurd {A = IsNotPlainOver g.D.Delegate.meaning c.args.cx.now c.args.search.now.stack.items c.args.input (c.args.depth + 1)} (stop_refused _ _ _ p.1 p.2.1 h);
+      exhausted = λ h. absurd {A = IsNotPlainOver g.D.Delegate.meaning c.args.cx.now c.args.search.now.stack.items c.args.input (c.args.depth + 1)} (stop_refused _ _ _ p.1 p.2.0 h);
+      protocol = λ h. absurd (stop_refused _ _ _ p.1 p.2.2 h);
+      conflict = λ h. absurd (stop_refused _ _ _ p.1 p.2.1 h);
+      frames = λ width h.
+          let more = one_more_run c.args.search.now.frames c.loop-run.search.frames c.run_once.new.search.frames c.loop-run._run (1 + width * question_bound limit width c.args.depth)
+          (inv.frames width h) (c.run_once.ensures.frames width (rw (inv.keeps.world, inv.input, goal_is) h)) in
+          rw (frame_bound_runs limit width c.args.depth) (runs_within c.args.search.now.frames c.run_once.new.search.frames (c.loop-run._run + 1) limit (1 + width * question_bound limit width c.args.depth) counted more);
+      full = λ h. absurd (stop_refused _ _ _ p.1 p.2.3 h);
+      limits = λ h. c.run_once.ensures.limits (inv.limits h);
+      no_limit = λ off. either_noted c.loop-run.search.limits_met c.run_once.new.search.limits_met (inv.noted off)
+          (rw (inv.keeps.world, steps-now m first c.loop-run.cx es c.loop-run.search.stack.items inv.keeps inv.stack c.requires.stack, inv.input, goal_is) at c.run_once.ensures.no_limit);
       within = IfOk-err _ _ _ p.1;
     }
 
@@ -501,11 +543,10 @@ evaluate_new-returns g t c =
     let es = c.args.search.now.stack.items in
     let w = m.world first in
     let x = m.goal_of first c.args.input in
-    let path = path_onto m first es [] in
+    let steps = steps_of m first es in
     let goal_is = (inv.keeps.inputs c.args.input c.requires.input).1 in
     let is : m.answer_of c.fixpoint_overflow_result.new.cx c.in_ok-answer.answer ≡ m.fixpoint_overflow w x = rw (inv.keeps.world, inv.input, goal_is) at c.in_ok-answer.ensures.is.1 in
-    let long = path_length m first es c.len-index.result inv.place in
-    let faithful = faithful_not_plain m w (c.args.depth + 1) path x (m.answer_of c.fixpoint_overflow_result.new.cx c.in_ok-answer.answer) c.loop-run.dependencies.encountered_overflow c.loop-run.dependencies.lowest c.loop-run.dependencies.heads.items (inv.again ran) in
+    let faithful = faithful_not_plain m w (c.args.depth + 1) steps x (m.answer_of c.fixpoint_overflow_result.new.cx c.in_ok-answer.answer) c.loop-run.dependencies.encountered_overflow (indices c.loop-run.dependencies.heads.items) (inv.again ran) in
     let keeps = Keeps-trans m first c.loop-run.cx c.fixpoint_overflow_result.new.cx inv.keeps c.fixpoint_overflow_result.ensures.keeps in
     let claim = rw (keeps.world, c.into_input-2.ensures ∙ inv.input, (keeps.inputs c.args.input c.requires.input).1) at c.conclude-2.ensures.no_conflict in
     let limit : ℕ = max g.D.Delegate.FIXPOINT_STEP_LIMIT 1 in
@@ -519,24 +560,22 @@ evaluate_new-returns g t c =
       range = c.conclude-2.ensures.range;
       depth = depth_after c.conclude-2.result _ c.args.depth c.loop-run.invariant.depth c.conclude-2.ensures.reply;
       kept = λ empty.
-          let inv = c.loop-run.invariant in
-          let input : c.into_input-2.result ≡ c.args.input = c.into_input-2.ensures ∙ inv.input in
-          let root : c.len-index.result ≡ 0 = inv.place ∙ ap length empty in
-          held_after c.conclude-2.result _ c.loop-run.cache.entries.items c.conclude-2.new.cache.entries.items c.loop-run.cache.asked.items c.args.input c.into_input-2.result c.len-index.result c.args.number c.args.depth input (from_zero _ _ root)
+          held_after c.conclude-2.result _ c.loop-run.cache.entries.items c.conclude-2.new.cache.entries.items c.loop-run.cache.asked.items c.args.input c.into_input-2.result c.args.number c.args.depth
+          (c.into_input-2.ensures ∙ inv.input) (root_alone (length es) c.loop-run.dependencies.heads.items (ap length empty) inv.below)
           inv.depth c.conclude-2.ensures.kept c.conclude-2.ensures.reply;
       answer = answer_after m first c.fixpoint_overflow_result.new.cx es c.args.input c.conclude-2.result _ c.args.step_kind
-          (overflow_answers m w path (x, c.args.step_kind) c.loop-run.dependencies.lowest c.fixpoint_overflow_result.new.cx c.in_ok-answer.answer (m.fixpoint_overflow w x)
-          (in_path _ _ _ inv.room (long ∙ inv.place)) c.in_ok-answer.ensures.is.0 is (law.fixpoint_overflow w x) (law.fixpoint_overflow_fair w x) (inr (inl refl))) c.conclude-2.ensures.reply;
+          (overflow_answers m w steps (x, c.args.step_kind) (indices c.loop-run.dependencies.heads.items) c.fixpoint_overflow_result.new.cx c.in_ok-answer.answer (m.fixpoint_overflow w x)
+          (subst (λ n. AreBelow n (indices c.loop-run.dependencies.heads.items)) (sym (length-steps_of m first es)) inv.below) c.in_ok-answer.ensures.is.0 is (law.fixpoint_overflow w x) (law.fixpoint_overflow_fair w x) (inr (inl refl))) c.conclude-2.ensures.reply;
       faithful = faithful_after m first c.fixpoint_overflow_result.new.cx es c.args.input c.conclude-2.result _ (c.args.depth + 1)
           faithful c.conclude-2.ensures.reply;
       no_conflict = λ h limit l d. claim h limit l;
-      exhausted = λ h limit l d. inv.again ran limit (inl l) (AllDescend-higher m w limit 0 c.loop-run.dependencies.lowest path x (from_zero 0 _ refl) d);
+      exhausted = λ h limit l d. inv.again ran limit (inl l) (all_heads_descend m w limit (indices c.loop-run.dependencies.heads.items) steps x d);
       protocol = λ h. absurd (c.conclude-2.ensures.in_order h);
       conflict = c.conclude-2.ensures.conflict;
       frames = λ width h. rw (c.conclude-2.ensures.frames, frame_bound_runs limit width c.args.depth) (runs_within c.args.search.now.frames c.loop-run.search.frames c.loop-run._run limit (1 + width * question_bound limit width c.args.depth) counted (inv.frames width h));
       full = λ h. absurd (c.conclude-2.ensures.room h);
       limits = λ h. c.conclude-2.ensures.limits;
-      no_limit = let path = path_onto m first c.args.search.now.stack.items [] in λ off on limit l d. inv.again ran limit (inl l) (AllDescend-higher m w limit 0 c.loop-run.dependencies.lowest path x (from_zero 0 _ refl) d);
+      no_limit = λ off on limit l d. inv.again ran limit (inl l) (all_heads_descend m w limit (indices c.loop-run.dependencies.heads.items) steps x d);
       within = IfOk-weaker c.conclude-2.result _ _ (λ o s before no. absurd (true_not_false (sym c.conclude-2.ensures.limits ∙ no))) c.conclude-2.ensures.reply;
     }
 
@@ -563,7 +602,7 @@ evaluate_new-conclude-requires-2-clause-alone g t c =
     let is : m.answer_of c.fixpoint_overflow_result.new.cx c.in_ok-answer.answer ≡ m.fixpoint_overflow w x =
     rw (inv.keeps.world, inv.input, goal_is) at c.in_ok-answer.ensures.is.1 in
     λ h. rw (keeps.world, c.into_input-2.ensures ∙ inv.input, (keeps.inputs c.args.input c.requires.input).1)
-    (overflow_stands m w [] (x, Inductive) 0 c.fixpoint_overflow_result.new.cx c.in_ok-answer.answer (m.fixpoint_overflow w x) c.in_ok-answer.ensures.is.0 is (law.fixpoint_overflow w x) (law.fixpoint_overflow_fair w x) (inr (inl refl)))
+    (overflow_stands m w [] (x, Inductive) [] c.fixpoint_overflow_result.new.cx c.in_ok-answer.answer (m.fixpoint_overflow w x) c.in_ok-answer.ensures.is.0 is (law.fixpoint_overflow w x) (law.fixpoint_overflow_fair w x) (inr (inl refl)))
 
 pub evaluate_new-conclude-requires-2-clause-kept : goal.evaluate_new-conclude-requires-2-clause-kept
 evaluate_new-conclude-requires-2-clause-kept g t c =
@@ -574,12 +613,11 @@ evaluate_new-conclude-requires-2-clause-kept g t c =
     let es = c.args.search.now.stack.items in
     let w = m.world first in
     let x = m.goal_of first c.args.input in
-    let path = path_onto m first es [] in
+    let steps = steps_of m first es in
     let keeps = Keeps-trans m first c.loop-run.cx c.fixpoint_overflow_result.new.cx inv.keeps c.fixpoint_overflow_result.ensures.keeps in
-    let faithful = faithful_not_plain m w (c.args.depth + 1) path x (m.answer_of c.fixpoint_overflow_result.new.cx c.in_ok-answer.answer) c.loop-run.dependencies.encountered_overflow c.loop-run.dependencies.lowest c.loop-run.dependencies.heads.items (inv.again ran) in
-    let long = path_length m first es c.len-index.result inv.place in
+    let faithful = faithful_not_plain m w (c.args.depth + 1) steps x (m.answer_of c.fixpoint_overflow_result.new.cx c.in_ok-answer.answer) c.loop-run.dependencies.encountered_overflow (indices c.loop-run.dependencies.heads.items) (inv.again ran) in
     λ h. rw (keeps.world, c.into_input-2.ensures ∙ inv.input, (keeps.inputs c.args.input c.requires.input).1)
-    (kept_of_faithful m w c.args.depth path x (m.answer_of c.fixpoint_overflow_result.new.cx c.in_ok-answer.answer) c.loop-run.dependencies.encountered_overflow c.loop-run.dependencies.lowest c.loop-run.dependencies.heads.items (past_path _ _ _ h long) faithful)
+    (kept_of_faithful m w c.args.depth steps x (m.answer_of c.fixpoint_overflow_result.new.cx c.in_ok-answer.answer) c.loop-run.dependencies.encountered_overflow (indices c.loop-run.dependencies.heads.items) (ap indices h) faithful)
 
 pub evaluate_new-conclude-requires-2-clause-number : goal.evaluate_new-conclude-requires-2-clause-number
 evaluate_new-conclude-requires-2-clause-number g t c =
@@ -608,7 +646,7 @@ evaluate_new-is_last_run-requires-clause-input g t c =
 
 pub evaluate_new-is_last_run-requires-clause-found : goal.evaluate_new-is_last_run-requires-clause-found
 evaluate_new-is_last_run-requires-clause-found g t c =
-    c.in_ok-back.ensures.provisional.known
+    (c.in_ok-back.ensures.provisional.1 (indices c.in_ok-back.outcome.dependencies.heads.items) (λ other h. inr h)).known
 
 pub evaluate_new-returns-in_err-answer-clause-no_limit : goal.evaluate_new-returns-in_err-answer-clause-no_limit
 evaluate_new-returns-in_err-answer-clause-no_limit g t c =
@@ -618,8 +656,8 @@ evaluate_new-returns-in_err-answer-clause-no_limit g t c =
     let first = c.args.cx.now in
     let w = m.world first in
     let x = m.goal_of first c.args.input in
-    let path = path_onto m first c.args.search.now.stack.items [] in
-    λ off on limit l d. inv.again ran limit (inl l) (AllDescend-higher m w limit 0 c.loop-run.dependencies.lowest path x (from_zero 0 _ refl) d)
+    let steps = steps_of m first c.args.search.now.stack.items in
+    λ off on limit l d. inv.again ran limit (inl l) (all_heads_descend m w limit (indices c.loop-run.dependencies.heads.items) steps x d)
 
 pub run_once-returns-in-End-clause-exhausted : goal.run_once-returns-in-End-clause-exhausted
 run_once-returns-in-End-clause-exhausted g t c =
@@ -638,7 +676,6 @@ run_once-returns-in_err-frame g t c =
       range = IfOk-err _ _ _ p.1;
       depth = IfOk-err _ _ _ p.1;
       entry = IfOk-err _ _ _ p.1;
-      low = IfOk-err _ _ _ p.1;
       provisional = IfOk-err _ _ _ p.1;
       faithful = IfOk-err _ _ _ p.1;
       no_conflict = λ h. absurd {A = IsNotPlainOver g.D.Delegate.meaning c.args.cx.now c.args.search.now.stack.items c.args.entry.input (c.args.depth + 1)} (c.in_err-frame.ensures.no_conflict (fault_passed _ _ _ _ p.1 p.2 h));
@@ -663,13 +700,13 @@ run_once-returns-in_err-request-in-Ask g t c =
     let es = c.args.search.now.stack.items in
     let w = m.world first in
     let x = m.goal_of first c.args.entry.input in
-    let path = path_onto m first es [] in
+    let steps = steps_of m first es in
     let limit : ℕ = max g.D.Delegate.FIXPOINT_STEP_LIMIT 1 in
-    let request = asked_now m w (question_of m first c.args.entry ∷ path) x c.loop-candidates.dependencies.lowest c.loop-candidates.cx c.loop-candidates.frame c.loop-candidates.request (Evaluate c.in-Ask.input c.in-Ask.step_kind) asks.0 inv.keeps.world inv.running in
+    let request = asked_now m w steps x c.args.entry.step_kind (indices c.loop-candidates.dependencies.heads.items) c.loop-candidates.cx c.loop-candidates.frame c.loop-candidates.request (Evaluate c.in-Ask.input c.in-Ask.step_kind) asks.0 inv.keeps.world inv.running in
     let fair = law.asks_fair w x (m.goal_of c.loop-candidates.cx c.in-Ask.input) c.in-Ask.step_kind inv.running.heard inv.running.fair (sym request) in
     let asked = fair.0 in
-    let pushed = IsStack-push m w [] first es c.args.entry c.requires.stack c.requires.entry in
-    let no_limit = rw (inv.keeps.world, path-now m first c.loop-candidates.cx (es ++ c.args.entry ∷ []) c.loop-candidates.search.stack.items inv.keeps inv.stack pushed, path_onto-append m first es (c.args.entry ∷ []) []) at c.ask.ensures.no_limit in
+    let pushed = IsStack-push m w first es c.args.entry c.requires.stack c.requires.entry in
+    let no_limit = rw (inv.keeps.world, steps-now m first c.loop-candidates.cx (es ++ c.args.entry ∷ []) c.loop-candidates.search.stack.items inv.keeps inv.stack pushed, steps_pushed m first es c.args.entry) at c.ask.ensures.no_limit in
     record {
       keeps = Keeps-trans m first c.ask.new.cx c.hear.new.cx (Keeps-trans m first c.loop-candidates.cx c.ask.new.cx c.loop-candidates.invariant.keeps c.ask.ensures.keeps) c.hear.ensures.keeps;
       stack = OnOk-err _ _ _ p.1;
@@ -680,7 +717,6 @@ run_once-returns-in_err-request-in-Ask g t c =
       range = IfOk-err _ _ _ p.1;
       depth = IfOk-err _ _ _ p.1;
       entry = IfOk-err _ _ _ p.1;
-      low = IfOk-err _ _ _ p.1;
       provisional = IfOk-err _ _ _ p.1;
       faithful = IfOk-err _ _ _ p.1;
       no_conflict = λ h. absurd {A = IsNotPlainOver g.D.Delegate.meaning c.args.cx.now c.args.search.now.stack.items c.args.entry.input (c.args.depth + 1)} (c.in_err-request-in-Ask.ensures.no_conflict (fault_passed _ _ _ _ p.1 p.2 h));
@@ -692,7 +728,7 @@ run_once-returns-in_err-request-in-Ask g t c =
       full = λ h. c.in_err-request-in-Ask.ensures.full (fault_passed _ _ _ _ p.1 p.2 h);
       limits = λ h. c.ask.ensures.limits (inv.limits h);
       no_limit = λ off. either_noted c.loop-candidates.search.limits_met c.ask.new.search.limits_met (inv.noted off)
-          (λ before now. conflict_up m w c.args.depth path x (m.goal_of c.loop-candidates.cx c.in-Ask.input) c.args.entry.step_kind c.in-Ask.step_kind c.loop-candidates.dependencies.encountered_overflow c.loop-candidates.dependencies.lowest c.loop-candidates.dependencies.heads.items inv.running.heard
+          (λ before now. conflict_up m w c.args.depth steps x (m.goal_of c.loop-candidates.cx c.in-Ask.input) c.args.entry.step_kind c.in-Ask.step_kind c.loop-candidates.dependencies.encountered_overflow (indices c.loop-candidates.dependencies.heads.items) inv.running.heard
           (sym request) inv.plain (no_limit before now));
       within = IfOk-err _ _ _ p.1;
     }
@@ -705,7 +741,7 @@ run_once-ask-requires g t c κs within =
     let first = c.args.cx.now in
     let es = c.args.search.now.stack.items in
     let w = m.world first in
-    let pushed = IsStack-push m w [] first es c.args.entry c.requires.stack c.requires.entry in
+    let pushed = IsStack-push m w first es c.args.entry c.requires.stack c.requires.entry in
     let known = rw asks.0 at inv.running.known in (
       search rules,
       (
@@ -739,21 +775,25 @@ run_once-loop-candidates-preserved-in-Ask g t c =
     let es = c.args.search.now.stack.items in
     let w = m.world first in
     let x = m.goal_of first c.args.entry.input in
-    let path = path_onto m first es [] in
+    let steps = steps_of m first es in
     let limit : ℕ = max g.D.Delegate.FIXPOINT_STEP_LIMIT 1 in
-    let request = asked_now m w (question_of m first c.args.entry ∷ path) x c.loop-candidates.dependencies.lowest c.loop-candidates.cx c.loop-candidates.frame c.loop-candidates.request (Evaluate c.in-Ask.input c.in-Ask.step_kind) asks.0 inv.keeps.world inv.running in
+    let request = asked_now m w steps x c.args.entry.step_kind (indices c.loop-candidates.dependencies.heads.items) c.loop-candidates.cx c.loop-candidates.frame c.loop-candidates.request (Evaluate c.in-Ask.input c.in-Ask.step_kind) asks.0 inv.keeps.world inv.running in
     let fair = law.asks_fair w x (m.goal_of c.loop-candidates.cx c.in-Ask.input) c.in-Ask.step_kind inv.running.heard inv.running.fair (sym request) in
     let asked = fair.0 in
-    let pushed = IsStack-push m w [] first es c.args.entry c.requires.stack c.requires.entry in
+    let pushed = IsStack-push m w first es c.args.entry c.requires.stack c.requires.entry in
     let keeps = Keeps-trans m first c.loop-candidates.cx c.ask.new.cx inv.keeps c.ask.ensures.keeps in
     let nested = c.in_ok-nested-in-Ask.nested in
     let answer = IsAnswer-then m first c.loop-candidates.cx (es ++ c.args.entry ∷ []) c.loop-candidates.search.stack.items inv.keeps inv.stack pushed
-    (m.goal_of c.loop-candidates.cx c.in-Ask.input, c.in-Ask.step_kind) nested.dependencies.lowest c.ask.new.cx nested.result c.in_ok-nested-in-Ask.ensures.answer in
-    let next = running_next_counted m law w (question_of m first c.args.entry ∷ path) x c.loop-candidates.dependencies.lowest nested.dependencies.lowest
+    (m.goal_of c.loop-candidates.cx c.in-Ask.input, c.in-Ask.step_kind) (indices nested.dependencies.heads.items) c.ask.new.cx nested.result c.in_ok-nested-in-Ask.ensures.answer in
+    let asked_over = rw (steps_pushed m first es c.args.entry) at answer in
+    let rests = c.in_ok-request-in-Ask.ensures.rests in
+    let next = running_next_counted m law w steps x c.args.entry.step_kind (indices c.loop-candidates.dependencies.heads.items) (indices nested.dependencies.heads.items) (indices c.hear.new.dependencies.heads.items)
     c.loop-candidates.cx c.ask.new.cx c.hear.new.cx c.loop-candidates.frame c.hear.new.frame c.loop-candidates.request c.in-Ask.input c.in-Ask.step_kind nested.result c.in_ok-request-in-Ask.request
-    c.hear.new.dependencies.lowest asks.0 c.in_ok-request-in-Ask.ensures.lowest keeps.world c.ask.ensures.keeps inv.running (rw path_onto-append at answer) c.in_ok-request-in-Ask.ensures.steps in
-    let faithful = rw (inv.keeps.world, path-now m first c.loop-candidates.cx (es ++ c.args.entry ∷ []) c.loop-candidates.search.stack.items inv.keeps inv.stack pushed, path_onto-append m first es (c.args.entry ∷ []) []) at c.in_ok-nested-in-Ask.ensures.faithful in
-    let no_limit = rw (inv.keeps.world, path-now m first c.loop-candidates.cx (es ++ c.args.entry ∷ []) c.loop-candidates.search.stack.items inv.keeps inv.stack pushed, path_onto-append m first es (c.args.entry ∷ []) []) at c.ask.ensures.no_limit in
+    (both_kept c.loop-candidates.dependencies.heads.items nested.dependencies.heads.items c.hear.new.dependencies.heads.items rests)
+    (both_below (length steps + 1) c.loop-candidates.dependencies.heads.items nested.dependencies.heads.items c.hear.new.dependencies.heads.items rests inv.running.below (below_last steps (question_of m first c.args.entry) (indices nested.dependencies.heads.items) asked_over.below))
+    asks.0 keeps.world c.ask.ensures.keeps inv.running asked_over c.in_ok-request-in-Ask.ensures.steps in
+    let faithful = rw (inv.keeps.world, steps-now m first c.loop-candidates.cx (es ++ c.args.entry ∷ []) c.loop-candidates.search.stack.items inv.keeps inv.stack pushed, steps_pushed m first es c.args.entry) at c.in_ok-nested-in-Ask.ensures.faithful in
+    let no_limit = rw (inv.keeps.world, steps-now m first c.loop-candidates.cx (es ++ c.args.entry ∷ []) c.loop-candidates.search.stack.items inv.keeps inv.stack pushed, steps_pushed m first es c.args.entry) at c.ask.ensures.no_limit in
     record {
       keeps = Keeps-trans m first c.ask.new.cx c.hear.new.cx keeps c.hear.ensures.keeps;
       cache = AreCached-later m c.ask.new.cx c.hear.new.cx c.ask.new.cache.entries.items c.hear.ensures.keeps c.ask.ensures.cache;
@@ -765,7 +805,6 @@ run_once-loop-candidates-preserved-in-Ask g t c =
       depth = depth_gathered c.loop-candidates.dependencies.encountered_overflow nested.dependencies.encountered_overflow c.hear.new.dependencies.encountered_overflow c.loop-candidates.dependencies.required_depth nested.dependencies.required_depth c.hear.new.dependencies.required_depth c.args.depth
           c.in_ok-request-in-Ask.ensures.overflow c.in_ok-request-in-Ask.ensures.depth inv.depth c.in_ok-nested-in-Ask.ensures.depth;
       stack = c.in_ok-nested-in-Ask.ensures.stack ∙ inv.stack;
-      room = least_within _ _ _ _ c.in_ok-request-in-Ask.ensures.lowest inv.room;
       running = next.0;
       opened = rw next.1 (asks.1 ∙ inv.opened);
       listed = rw next.1 (asks.2 ∙ inv.listed);
@@ -773,7 +812,7 @@ run_once-loop-candidates-preserved-in-Ask g t c =
           (inv.frames width h) (c.ask.ensures.frames width (rw inv.keeps.world (within_more _ _ _ fair.1 h))));
       limits = λ h. c.ask.ensures.limits (inv.limits h);
       noted = λ off. either_noted c.loop-candidates.search.limits_met c.ask.new.search.limits_met (inv.noted off)
-          (λ before now. conflict_up m w c.args.depth path x (m.goal_of c.loop-candidates.cx c.in-Ask.input) c.args.entry.step_kind c.in-Ask.step_kind c.loop-candidates.dependencies.encountered_overflow c.loop-candidates.dependencies.lowest c.loop-candidates.dependencies.heads.items inv.running.heard
+          (λ before now. conflict_up m w c.args.depth steps x (m.goal_of c.loop-candidates.cx c.in-Ask.input) c.args.entry.step_kind c.in-Ask.step_kind c.loop-candidates.dependencies.encountered_overflow (indices c.loop-candidates.dependencies.heads.items) inv.running.heard
           (sym request) inv.plain (no_limit before now));
       within = rw next.1 (λ before no last own cached.
           let had = inv.within before (unnoted c.loop-candidates.search.limits_met c.ask.new.search.limits_met c.ask.ensures.limits no) last own cached in
@@ -781,13 +820,15 @@ run_once-loop-candidates-preserved-in-Ask g t c =
           let told = c.in_ok-nested-in-Ask.ensures.within before no (rw inv.keeps.world stack) (rw inv.keeps.world had.0) in
           let here = rw inv.keeps.world at told in (
             AreCachedWithin-keeps m w before (m.world c.ask.new.cx) c.ask.new.cx c.hear.new.cx c.ask.new.cache.entries.items c.hear.ensures.keeps c.ask.ensures.cache here.0,
-            hears_next m w (question_of m first c.args.entry ∷ path) x c.loop-candidates.dependencies.lowest c.loop-candidates.cx c.loop-candidates.frame c.loop-candidates.request (Evaluate c.in-Ask.input c.in-Ask.step_kind) asks.0 inv.keeps.world inv.running (IsGivenWithin m w before)
+            hears_next m w steps x c.args.entry.step_kind (indices c.loop-candidates.dependencies.heads.items) c.loop-candidates.cx c.loop-candidates.frame c.loop-candidates.request (Evaluate c.in-Ask.input c.in-Ask.step_kind) asks.0 inv.keeps.world inv.running (IsGivenWithin m w before)
                 c.in-Ask.input c.in-Ask.step_kind (m.answer_of c.ask.new.cx nested.result) refl had.1 here.1,
           ));
-      plain = rw next.1 (plain_next_at m w c.args.depth path x (m.goal_of c.loop-candidates.cx c.in-Ask.input) c.args.entry.step_kind c.in-Ask.step_kind
-          c.loop-candidates.dependencies.encountered_overflow nested.dependencies.encountered_overflow c.hear.new.dependencies.encountered_overflow c.loop-candidates.dependencies.lowest nested.dependencies.lowest c.hear.new.dependencies.lowest
-          c.loop-candidates.dependencies.heads.items nested.dependencies.heads.items c.hear.new.dependencies.heads.items inv.running.heard (m.answer_of c.ask.new.cx nested.result)
-          c.in_ok-request-in-Ask.ensures.overflow c.in_ok-request-in-Ask.ensures.lowest c.in_ok-request-in-Ask.ensures.unread (sym request) inv.plain faithful);
+      plain = rw next.1 (plain_next_at m w c.args.depth steps x (m.goal_of c.loop-candidates.cx c.in-Ask.input) c.args.entry.step_kind c.in-Ask.step_kind
+          c.loop-candidates.dependencies.encountered_overflow nested.dependencies.encountered_overflow c.hear.new.dependencies.encountered_overflow
+          (indices c.loop-candidates.dependencies.heads.items) (indices nested.dependencies.heads.items) (indices c.hear.new.dependencies.heads.items) inv.running.heard (m.answer_of c.ask.new.cx nested.result)
+          c.in_ok-request-in-Ask.ensures.overflow (λ place h. (rests place).1 (inl h)) (λ place h. (rests place).1 (inr h))
+          (λ a b. ap indices (c.in_ok-request-in-Ask.ensures.unread (indices-none c.loop-candidates.dependencies.heads.items a) (indices-none nested.dependencies.heads.items b)))
+          (sym request) inv.plain faithful);
     }
 
 pub run_once-loop-candidates-smaller-in-Ask : goal.run_once-loop-candidates-smaller-in-Ask
@@ -806,9 +847,9 @@ run_once-hear-requires-clause-due g t c =
     let es = c.args.search.now.stack.items in
     let w = m.world first in
     let x = m.goal_of first c.args.entry.input in
-    let path = path_onto m first es [] in
+    let steps = steps_of m first es in
     let keeps = Keeps-trans m first c.loop-candidates.cx c.ask.new.cx inv.keeps c.ask.ensures.keeps in
-    due_next m w (question_of m first c.args.entry ∷ path) x c.loop-candidates.dependencies.lowest c.loop-candidates.cx c.ask.new.cx c.loop-candidates.frame c.loop-candidates.request
+    due_next m w steps x c.args.entry.step_kind (indices c.loop-candidates.dependencies.heads.items) c.loop-candidates.cx c.ask.new.cx c.loop-candidates.frame c.loop-candidates.request
     c.in-Ask.input c.in-Ask.step_kind c.in_ok-nested-in-Ask.nested.result asks.0 keeps.world c.ask.ensures.keeps inv.running
 
 pub run_once-returns-in_err-nested-in-Ask : goal.run_once-returns-in_err-nested-in-Ask
@@ -821,16 +862,16 @@ run_once-returns-in_err-nested-in-Ask g t c =
     let es = c.args.search.now.stack.items in
     let w = m.world first in
     let x = m.goal_of first c.args.entry.input in
-    let path = path_onto m first es [] in
-    let request = asked_now m w (question_of m first c.args.entry ∷ path) x c.loop-candidates.dependencies.lowest c.loop-candidates.cx c.loop-candidates.frame c.loop-candidates.request (Evaluate c.in-Ask.input c.in-Ask.step_kind) asks.0 inv.keeps.world inv.running in
-    let pushed = IsStack-push m w [] first es c.args.entry c.requires.stack c.requires.entry in
-    let claim = rw (inv.keeps.world, path-now m first c.loop-candidates.cx (es ++ c.args.entry ∷ []) c.loop-candidates.search.stack.items inv.keeps inv.stack pushed, path_onto-append m first es (c.args.entry ∷ []) []) at c.in_err-nested-in-Ask.ensures.no_conflict in
-    let given_up = rw (inv.keeps.world, path-now m first c.loop-candidates.cx (es ++ c.args.entry ∷ []) c.loop-candidates.search.stack.items inv.keeps inv.stack pushed, path_onto-append m first es (c.args.entry ∷ []) []) at c.in_err-nested-in-Ask.ensures.exhausted in
+    let steps = steps_of m first es in
+    let request = asked_now m w steps x c.args.entry.step_kind (indices c.loop-candidates.dependencies.heads.items) c.loop-candidates.cx c.loop-candidates.frame c.loop-candidates.request (Evaluate c.in-Ask.input c.in-Ask.step_kind) asks.0 inv.keeps.world inv.running in
+    let pushed = IsStack-push m w first es c.args.entry c.requires.stack c.requires.entry in
+    let claim = rw (inv.keeps.world, steps-now m first c.loop-candidates.cx (es ++ c.args.entry ∷ []) c.loop-candidates.search.stack.items inv.keeps inv.stack pushed, steps_pushed m first es c.args.entry) at c.in_err-nested-in-Ask.ensures.no_conflict in
+    let given_up = rw (inv.keeps.world, steps-now m first c.loop-candidates.cx (es ++ c.args.entry ∷ []) c.loop-candidates.search.stack.items inv.keeps inv.stack pushed, steps_pushed m first es c.args.entry) at c.in_err-nested-in-Ask.ensures.exhausted in
     let law = g.met.D.Delegate.lawful in
     let limit : ℕ = max g.D.Delegate.FIXPOINT_STEP_LIMIT 1 in
     let fair = law.asks_fair w x (m.goal_of c.loop-candidates.cx c.in-Ask.input) c.in-Ask.step_kind inv.running.heard inv.running.fair (sym request) in
     let asked = fair.0 in
-    let no_limit = rw (inv.keeps.world, path-now m first c.loop-candidates.cx (es ++ c.args.entry ∷ []) c.loop-candidates.search.stack.items inv.keeps inv.stack pushed, path_onto-append m first es (c.args.entry ∷ []) []) at c.ask.ensures.no_limit in
+    let no_limit = rw (inv.keeps.world, steps-now m first c.loop-candidates.cx (es ++ c.args.entry ∷ []) c.loop-candidates.search.stack.items inv.keeps inv.stack pushed, steps_pushed m first es c.args.entry) at c.ask.ensures.no_limit in
     record {
       keeps = Keeps-trans g.D.Delegate.meaning c.args.cx.now c.loop-candidates.cx c.ask.new.cx inv.keeps c.ask.ensures.keeps;
       stack = OnOk-err _ _ _ p.1;
@@ -841,12 +882,11 @@ run_once-returns-in_err-nested-in-Ask g t c =
       range = IfOk-err _ _ _ p.1;
       depth = IfOk-err _ _ _ p.1;
       entry = IfOk-err _ _ _ p.1;
-      low = IfOk-err _ _ _ p.1;
       provisional = IfOk-err _ _ _ p.1;
       faithful = IfOk-err _ _ _ p.1;
-      no_conflict = λ h. conflict_up m w c.args.depth path x (m.goal_of c.loop-candidates.cx c.in-Ask.input) c.args.entry.step_kind c.in-Ask.step_kind c.loop-candidates.dependencies.encountered_overflow c.loop-candidates.dependencies.lowest c.loop-candidates.dependencies.heads.items inv.running.heard
+      no_conflict = λ h. conflict_up m w c.args.depth steps x (m.goal_of c.loop-candidates.cx c.in-Ask.input) c.args.entry.step_kind c.in-Ask.step_kind c.loop-candidates.dependencies.encountered_overflow (indices c.loop-candidates.dependencies.heads.items) inv.running.heard
           (sym request) inv.plain (claim (err_passed _ _ _ _ p.1 p.2 h));
-      exhausted = λ h. conflict_up m w c.args.depth path x (m.goal_of c.loop-candidates.cx c.in-Ask.input) c.args.entry.step_kind c.in-Ask.step_kind c.loop-candidates.dependencies.encountered_overflow c.loop-candidates.dependencies.lowest c.loop-candidates.dependencies.heads.items inv.running.heard
+      exhausted = λ h. conflict_up m w c.args.depth steps x (m.goal_of c.loop-candidates.cx c.in-Ask.input) c.args.entry.step_kind c.in-Ask.step_kind c.loop-candidates.dependencies.encountered_overflow (indices c.loop-candidates.dependencies.heads.items) inv.running.heard
           (sym request) inv.plain (given_up (err_passed _ _ _ _ p.1 p.2 h));
       protocol = let claim = rw inv.keeps.world at c.in_err-nested-in-Ask.ensures.protocol in λ h. below inv.running.hears (sym request) (claim (err_passed _ _ _ _ p.1 p.2 h));
       conflict = λ h. c.in_err-nested-in-Ask.ensures.conflict (err_passed _ _ _ _ p.1 p.2 h);
@@ -855,7 +895,7 @@ run_once-returns-in_err-nested-in-Ask g t c =
       full = λ h. c.in_err-nested-in-Ask.ensures.full (err_passed _ _ _ _ p.1 p.2 h);
       limits = λ h. c.ask.ensures.limits (inv.limits h);
       no_limit = λ off. either_noted c.loop-candidates.search.limits_met c.ask.new.search.limits_met (inv.noted off)
-          (λ before now. conflict_up m w c.args.depth path x (m.goal_of c.loop-candidates.cx c.in-Ask.input) c.args.entry.step_kind c.in-Ask.step_kind c.loop-candidates.dependencies.encountered_overflow c.loop-candidates.dependencies.lowest c.loop-candidates.dependencies.heads.items inv.running.heard
+          (λ before now. conflict_up m w c.args.depth steps x (m.goal_of c.loop-candidates.cx c.in-Ask.input) c.args.entry.step_kind c.in-Ask.step_kind c.loop-candidates.dependencies.encountered_overflow (indices c.loop-candidates.dependencies.heads.items) inv.running.heard
           (sym request) inv.plain (no_limit before now));
       within = IfOk-err _ _ _ p.1;
     }
@@ -867,11 +907,10 @@ run_once-loop-candidates-init g t c =
     let es = c.args.search.now.stack.items in
     let w = m.world first in
     let x = m.goal_of first c.args.entry.input in
-    let path = path_onto m first es [] in
+    let steps = steps_of m first es in
     let keeps = c.start_run.ensures.keeps in
-    let long = length-path_onto m first es [] in
-    let low = c.requires.room in
-    let start = running_begun m (question_of m first c.args.entry ∷ path) c.args.entry.input c.args.earlier.lowest first c.start_run.new.cx c.in_ok-frame.frame c.in_ok-frame.request (omega arith) c.in_ok-frame.ensures.begun in
+    let low = below_more (length es) (length steps + 1) (indices c.args.earlier.heads.items) (let long = length-steps_of m first es in omega (arith, long)) c.requires.below in
+    let start = running_begun m steps c.args.entry.input c.args.entry.step_kind (indices c.args.earlier.heads.items) first c.start_run.new.cx c.in_ok-frame.frame c.in_ok-frame.request low c.in_ok-frame.ensures.begun in
     record {
       keeps = keeps;
       cache = AreCached-later m first c.start_run.new.cx c.args.cache.now.entries.items keeps c.requires.cache;
@@ -881,7 +920,6 @@ run_once-loop-candidates-init g t c =
       range = c.requires.nested;
       depth = c.requires.depth;
       stack = c.in_ok-frame.ensures.stack;
-      room = c.requires.room;
       running = start.0;
       opened = rw start.1 c.new-candidates.ensures.open;
       listed = rw start.1 c.new-candidates.ensures.finished;
@@ -890,7 +928,7 @@ run_once-loop-candidates-init g t c =
       noted = λ off on. not_both {P = IsNotPlainOver m first es c.args.entry.input (c.args.depth + 1)} c.args.search.now.limits_met off (sym c.start_run.ensures.limits ∙ on);
       within = rw start.1 (λ before no last own cached.
           (AreCachedWithin-keeps m w before w first c.start_run.new.cx c.args.cache.now.entries.items keeps c.requires.cache cached, also nothing refl tt));
-      plain = rw start.1 (plain_first m w (c.args.depth + 1) path x c.args.earlier.encountered_overflow c.args.earlier.lowest c.args.earlier.heads.items c.requires.earlier);
+      plain = rw start.1 (plain_first m w (c.args.depth + 1) steps x c.args.earlier.encountered_overflow (indices c.args.earlier.heads.items) c.requires.earlier);
     }
 
 pub run_once-returns-in_err-turn : goal.run_once-returns-in_err-turn
@@ -902,7 +940,7 @@ run_once-returns-in_err-turn g t c =
     let es = c.args.search.now.stack.items in
     let w = m.world first in
     let x = m.goal_of first c.args.entry.input in
-    let path = path_onto m first es [] in
+    let steps = steps_of m first es in
     let limit : ℕ = max g.D.Delegate.FIXPOINT_STEP_LIMIT 1 in
     record {
       keeps = inv.keeps;
@@ -914,14 +952,13 @@ run_once-returns-in_err-turn g t c =
       range = IfOk-err _ _ _ p.1;
       depth = IfOk-err _ _ _ p.1;
       entry = IfOk-err _ _ _ p.1;
-      low = IfOk-err _ _ _ p.1;
       provisional = IfOk-err _ _ _ p.1;
       faithful = IfOk-err _ _ _ p.1;
       no_conflict = λ h. absurd {A = IsNotPlainOver g.D.Delegate.meaning c.args.cx.now c.args.search.now.stack.items c.args.entry.input (c.args.depth + 1)} (c.in_err-turn.ensures.no_conflict (fault_passed _ _ _ _ p.1 p.2 h));
       exhausted = λ h. absurd {A = IsNotPlainOver g.D.Delegate.meaning c.args.cx.now c.args.search.now.stack.items c.args.entry.input (c.args.depth + 1)} (fault_goes_on _ _ _ p.1 p.2 h);
       protocol = λ h.
           let told = c.in_err-turn.ensures.protocol (fault_passed _ _ _ _ p.1 p.2 h) in
-          misstep_now m w (question_of m first c.args.entry ∷ path) x c.loop-candidates.dependencies.lowest c.loop-candidates.cx c.loop-candidates.frame c.loop-candidates.request c.loop-candidates.request refl inv.keeps.world inv.running
+          misstep_now m w steps x c.args.entry.step_kind (indices c.loop-candidates.dependencies.heads.items) c.loop-candidates.cx c.loop-candidates.frame c.loop-candidates.request c.loop-candidates.request refl inv.keeps.world inv.running
           (λ o. told (in_order_in_turn m w x inv.running.heard c.loop-candidates.cx c.loop-candidates.candidates.open c.loop-candidates.candidates.open c.loop-candidates.candidates.finished.items c.loop-candidates.candidates.finished.items inv.opened inv.listed c.loop-candidates.request o));
       conflict = λ h. absurd {A = HasConflict g.D.Delegate.meaning c.loop-candidates.cx (known_results c.loop-candidates.cache.entries.items)} (c.in_err-turn.ensures.no_conflict (fault_passed _ _ _ _ p.1 p.2 h));
       frames = λ width h. done_within c.args.search.now.frames c.loop-candidates.search.frames (question_bound limit width c.args.depth) (answer_count m inv.running.heard) (m.number_of w x) width (inv.frames width h) inv.running.count h;
@@ -957,11 +994,11 @@ run_once-step-requires-clause-due g t c =
     let es = c.args.search.now.stack.items in
     let w = m.world first in
     let x = m.goal_of first c.args.entry.input in
-    let path = path_onto m first es [] in
+    let steps = steps_of m first es in
     let turn = c.in_ok-turn.ensures.turn in
     let request : request_of m c.loop-candidates.cx c.loop-candidates.request ≡ m.asks w x inv.running.heard = inv.running.request in
     let told = told_in_turn m w x inv.running.heard c.loop-candidates.cx c.loop-candidates.candidates.open c.take.new.self.open c.loop-candidates.candidates.finished.items c.take.new.self.finished.items inv.opened inv.listed c.loop-candidates.request c.in_ok-turn.turn c.in-Tell.reply c.in-Tell.is turn request in
-    due_other m w (question_of m first c.args.entry ∷ path) x c.loop-candidates.dependencies.lowest c.loop-candidates.cx c.loop-candidates.frame c.loop-candidates.request c.loop-candidates.request refl inv.keeps.world inv.running c.in-Tell.reply told.due
+    due_other m w steps x c.args.entry.step_kind (indices c.loop-candidates.dependencies.heads.items) c.loop-candidates.cx c.loop-candidates.frame c.loop-candidates.request c.loop-candidates.request refl inv.keeps.world inv.running c.in-Tell.reply told.due
 
 pub run_once-step-requires-clause-reply : goal.run_once-step-requires-clause-reply
 run_once-step-requires-clause-reply g t c =
@@ -971,7 +1008,7 @@ run_once-step-requires-clause-reply g t c =
     let es = c.args.search.now.stack.items in
     let w = m.world first in
     let x = m.goal_of first c.args.entry.input in
-    let path = path_onto m first es [] in
+    let steps = steps_of m first es in
     let turn = c.in_ok-turn.ensures.turn in
     let request : request_of m c.loop-candidates.cx c.loop-candidates.request ≡ m.asks w x inv.running.heard = inv.running.request in
     let told = told_in_turn m w x inv.running.heard c.loop-candidates.cx c.loop-candidates.candidates.open c.take.new.self.open c.loop-candidates.candidates.finished.items c.take.new.self.finished.items inv.opened inv.listed c.loop-candidates.request c.in_ok-turn.turn c.in-Tell.reply c.in-Tell.is turn request in
@@ -985,11 +1022,11 @@ run_once-loop-candidates-preserved g t c =
     let es = c.args.search.now.stack.items in
     let w = m.world first in
     let x = m.goal_of first c.args.entry.input in
-    let path = path_onto m first es [] in
+    let steps = steps_of m first es in
     let turn = c.in_ok-turn.ensures.turn in
     let request : request_of m c.loop-candidates.cx c.loop-candidates.request ≡ m.asks w x inv.running.heard = inv.running.request in
     let told = told_in_turn m w x inv.running.heard c.loop-candidates.cx c.loop-candidates.candidates.open c.take.new.self.open c.loop-candidates.candidates.finished.items c.take.new.self.finished.items inv.opened inv.listed c.loop-candidates.request c.in_ok-turn.turn c.in-Tell.reply c.in-Tell.is turn request in
-    let next = running_other m w (question_of m first c.args.entry ∷ path) x c.loop-candidates.dependencies.lowest c.loop-candidates.cx c.loop-candidates.frame c.loop-candidates.request c.loop-candidates.request refl inv.keeps.world inv.running c.step.new.cx c.step.new.frame c.in-Tell.reply c.in_ok-request-in-Tell.request told.due told.by told.quiet told.counts told.shows c.in_ok-request-in-Tell.ensures.steps in
+    let next = running_other m w steps x c.args.entry.step_kind (indices c.loop-candidates.dependencies.heads.items) c.loop-candidates.cx c.loop-candidates.frame c.loop-candidates.request c.loop-candidates.request refl inv.keeps.world inv.running c.step.new.cx c.step.new.frame c.in-Tell.reply c.in_ok-request-in-Tell.request told.due told.by told.quiet told.counts told.shows c.in_ok-request-in-Tell.ensures.steps in
     record {
       keeps = Keeps-trans m first c.loop-candidates.cx c.step.new.cx inv.keeps c.step.ensures.keeps;
       cache = AreCached-later m c.loop-candidates.cx c.step.new.cx c.loop-candidates.cache.entries.items c.step.ensures.keeps inv.cache;
@@ -999,7 +1036,6 @@ run_once-loop-candidates-preserved g t c =
       range = inv.range;
       depth = inv.depth;
       stack = inv.stack;
-      room = inv.room;
       running = next.0;
       opened = rw next.1 told.open_after;
       listed = rw next.1 told.done_after;
@@ -1009,10 +1045,10 @@ run_once-loop-candidates-preserved g t c =
       within = rw next.1 (λ before no last own cached.
           let had = inv.within before no last own cached in (
             AreCachedWithin-keeps m w before (m.world c.loop-candidates.cx) c.loop-candidates.cx c.step.new.cx c.loop-candidates.cache.entries.items c.step.ensures.keeps inv.cache had.0,
-            hears_other m w (question_of m first c.args.entry ∷ path) x c.loop-candidates.dependencies.lowest c.loop-candidates.cx c.loop-candidates.frame c.loop-candidates.request c.loop-candidates.request refl inv.keeps.world inv.running (IsGivenWithin m w before) c.in-Tell.reply had.1 told.due told.quiet,
+            hears_other m w steps x c.args.entry.step_kind (indices c.loop-candidates.dependencies.heads.items) c.loop-candidates.cx c.loop-candidates.frame c.loop-candidates.request c.loop-candidates.request refl inv.keeps.world inv.running (IsGivenWithin m w before) c.in-Tell.reply had.1 told.due told.quiet,
           ));
       plain = rw next.1 (plain_in_turn m w x inv.running.heard c.loop-candidates.cx c.loop-candidates.candidates.open c.take.new.self.open c.loop-candidates.candidates.finished.items c.take.new.self.finished.items inv.opened inv.listed
-          (c.args.depth + 1) path c.loop-candidates.dependencies.encountered_overflow c.loop-candidates.dependencies.lowest c.loop-candidates.dependencies.heads.items inv.plain c.loop-candidates.request c.in_ok-turn.turn c.in-Tell.reply c.in-Tell.is turn request);
+          (c.args.depth + 1) steps c.loop-candidates.dependencies.encountered_overflow (indices c.loop-candidates.dependencies.heads.items) inv.plain c.loop-candidates.request c.in_ok-turn.turn c.in-Tell.reply c.in-Tell.is turn request);
     }
 
 pub run_once-returns-in-End-clause-frames : goal.run_once-returns-in-End-clause-frames
@@ -1034,10 +1070,12 @@ run_once-returns-in-End-clause-provisional g t c =
     let first = c.args.cx.now in
     let es = c.args.search.now.stack.items in
     let w = m.world first in
-    let path = path_onto m first es [] in
-    let long = length-path_onto m first es [] in
-    let low = inv.room in
-    running_done m law w path (question_of m first c.args.entry) c.loop-candidates.dependencies.lowest c.loop-candidates.cx c.loop-candidates.frame c.loop-candidates.request c.in-End.answer ends.0 (in_path _ _ _ inv.room (path_length m first es (length es) refl)) inv.running (sym inv.opened ∙ ends.1)
+    let steps = steps_of m first es in
+    let heads = indices c.loop-candidates.dependencies.heads.items in (
+      subst (λ n. AreBelow (n + 1) heads) (length-steps_of m first es) inv.running.below,
+      λ less but. running_done m law w steps (m.goal_of first c.args.entry.input) c.args.entry.step_kind heads less c.loop-candidates.cx c.loop-candidates.frame c.loop-candidates.request c.in-End.answer ends.0
+          (subst (λ n. AreHeadsBut n less heads) (sym (length-steps_of m first es)) but) inv.running (sym inv.opened ∙ ends.1),
+    )
 
 pub run_once-returns-in-End-clause-faithful : goal.run_once-returns-in-End-clause-faithful
 run_once-returns-in-End-clause-faithful g t c =
@@ -1048,9 +1086,9 @@ run_once-returns-in-End-clause-faithful g t c =
     let es = c.args.search.now.stack.items in
     let w = m.world first in
     let x = m.goal_of first c.args.entry.input in
-    let path = path_onto m first es [] in
-    let request = asked_now m w (question_of m first c.args.entry ∷ path) x c.loop-candidates.dependencies.lowest c.loop-candidates.cx c.loop-candidates.frame c.loop-candidates.request (Done c.in-End.answer) ends.0 inv.keeps.world inv.running in
-    plain_done m w (c.args.depth + 1) path x c.loop-candidates.dependencies.encountered_overflow c.loop-candidates.dependencies.lowest c.loop-candidates.dependencies.heads.items inv.running.heard (m.answer_of c.loop-candidates.cx c.in-End.answer)
+    let steps = steps_of m first es in
+    let request = asked_now m w steps x c.args.entry.step_kind (indices c.loop-candidates.dependencies.heads.items) c.loop-candidates.cx c.loop-candidates.frame c.loop-candidates.request (Done c.in-End.answer) ends.0 inv.keeps.world inv.running in
+    plain_done m w (c.args.depth + 1) steps x c.loop-candidates.dependencies.encountered_overflow (indices c.loop-candidates.dependencies.heads.items) inv.running.heard (m.answer_of c.loop-candidates.cx c.in-End.answer)
     (sym request) inv.plain
 
 pub run_once-returns-in-End-clause-within : goal.run_once-returns-in-End-clause-within
@@ -1061,8 +1099,8 @@ run_once-returns-in-End-clause-within g t c =
     let first = c.args.cx.now in
     let w = m.world first in
     let x = m.goal_of first c.args.entry.input in
-    let path = path_onto m first c.args.search.now.stack.items [] in
-    let request = asked_now m w (question_of m first c.args.entry ∷ path) x c.loop-candidates.dependencies.lowest c.loop-candidates.cx c.loop-candidates.frame c.loop-candidates.request (Done c.in-End.answer) ends.0 inv.keeps.world inv.running in
+    let steps = steps_of m first c.args.search.now.stack.items in
+    let request = asked_now m w steps x c.args.entry.step_kind (indices c.loop-candidates.dependencies.heads.items) c.loop-candidates.cx c.loop-candidates.frame c.loop-candidates.request (Done c.in-End.answer) ends.0 inv.keeps.world inv.running in
     λ before no last own cached.
     let had = inv.within before (sym c.pop.ensures.limits ∙ no) last own cached in
     (had.0, record { how = inr (inv.running.heard, had.1, sym request, sym inv.opened ∙ ends.1) })
@@ -1186,11 +1224,6 @@ run_once-returns-in_err-request-in-Tell-clause-depth g t c =
 
 pub run_once-returns-in_err-request-in-Tell-clause-entry : goal.run_once-returns-in_err-request-in-Tell-clause-entry
 run_once-returns-in_err-request-in-Tell-clause-entry g t c =
-    let p = err_from_is_err_and c.from_residual-in_err-request-in-Tell.result c.from_residual-in_err-request-in-Tell.ensures.1 in
-    IfOk-err _ _ _ p.1
-
-pub run_once-returns-in_err-request-in-Tell-clause-low : goal.run_once-returns-in_err-request-in-Tell-clause-low
-run_once-returns-in_err-request-in-Tell-clause-low g t c =
     let p = err_from_is_err_and c.from_residual-in_err-request-in-Tell.result c.from_residual-in_err-request-in-Tell.ensures.1 in
     IfOk-err _ _ _ p.1
 

@@ -1,12 +1,13 @@
 use Rattle.std.proofs.Common.{◌<◌, ◌⊎◌, true, false, List, ◌≡◌, ◌≤◌, length, max, ℕ, ◌+◌, ◌*◌, [], ◌∷◌, ◌++◌}
 use Rattle.search_graph.specs.Meaning.{Keeps, is_open, finished, answer_count}
+use Rattle.search_graph.specs.KeptPaths.{AreBelow, indices}
 use Rattle.search_graph.specs.Nested.{covered, one_goal}
 use Rattle.search_graph.specs.Chain.{AreInRange}
 use Rattle.search_graph.specs.Cache.{KeepsNumbers, KeepsResults}
 use Rattle.search_graph.specs.Computed.{Hears, IsGivenWithin}
-use Rattle.search_graph.specs.Stack.{question_of, path_onto, span_of_newest, IsEntry, IsRunning, AreCached, IsLastWithin, AreLastWithin, AreCachedWithin}
+use Rattle.search_graph.specs.Stack.{steps_of, span_of_newest, IsEntry, IsRunning, AreCached, IsLastWithin, AreLastWithin, AreCachedWithin}
 use Rattle.search_graph.specs.Plain.{IsNotPlain}
-use Rattle.search_graph.specs.Faithful.{AllDescend, IsOnPlainTrack, IsUntouched}
+use Rattle.search_graph.specs.Faithful.{AllDescend, HeadsDescend, IsOnPlainTrack, IsUntouched}
 use Rattle.search_graph.specs.Bound.{question_bound}
 use Rattle.search_graph.proofs.evaluation.+search.Given as goal
 
@@ -38,18 +39,18 @@ invariant-evaluate_new-loop-run g l =
       place : l.index ≡ length l.fn.search.stack.items;
       input : l.entry.input ≡ l.fn.input;
       kind : l.entry.step_kind ≡ l.fn.step_kind;
-      entry : IsEntry m (m.world l.fn.cx) (path_onto m l.fn.cx l.fn.search.stack.items []) l.cx l.entry;
-      room : l.dependencies.lowest ≤ length l.fn.search.stack.items;
-      untouched : IsUntouched m (m.world l.fn.cx) (l.depth + 1) (path_onto m l.fn.cx l.fn.search.stack.items []) (m.goal_of l.fn.cx l.fn.input) l.dependencies.encountered_overflow l.dependencies.lowest l.dependencies.heads.items;
+      entry : IsEntry m (m.world l.fn.cx) (steps_of m l.fn.cx l.fn.search.stack.items) l.cx l.entry;
+      below : AreBelow (length l.fn.search.stack.items) (indices l.dependencies.heads.items);
+      untouched : IsUntouched m (m.world l.fn.cx) (l.depth + 1) (steps_of m l.fn.cx l.fn.search.stack.items) (m.goal_of l.fn.cx l.fn.input) l.dependencies.encountered_overflow (indices l.dependencies.heads.items);
       frames : (width : ℕ) → m.number_of (m.world l.fn.cx) (m.goal_of l.fn.cx l.fn.input) ≤ width
           → l.search.frames ≤ l.fn.search.frames + l._run * (1 + width * question_bound (max g.D.Delegate.FIXPOINT_STEP_LIMIT 1) width l.depth);
       limits : l.fn.search.limits_met ≡ true → l.search.limits_met ≡ true;
       noted : l.fn.search.limits_met ≡ false → l.search.limits_met ≡ true → (limit : ℕ) → limit ≤ l.depth + 1
-          → AllDescend m (m.world l.fn.cx) limit 0 (path_onto m l.fn.cx l.fn.search.stack.items []) (m.goal_of l.fn.cx l.fn.input) → IsNotPlain m (m.world l.fn.cx) limit (m.goal_of l.fn.cx l.fn.input);
+          → AllDescend m (m.world l.fn.cx) limit (steps_of m l.fn.cx l.fn.search.stack.items) (m.goal_of l.fn.cx l.fn.input) → IsNotPlain m (m.world l.fn.cx) limit (m.goal_of l.fn.cx l.fn.input);
       within : (before : List (m.Goal × m.Answer)) → l.search.limits_met ≡ false → AreLastWithin m (m.world l.fn.cx) before l.fn.cx l.fn.search.stack.items → AreCachedWithin m (m.world l.fn.cx) before l.fn.cx l.fn.cache.entries.items
           → AreCachedWithin m (m.world l.fn.cx) before l.cx l.cache.entries.items × IsLastWithin m (m.world l.fn.cx) before l.cx l.entry;
       again : 0 < l._run → (limit : ℕ) → (limit ≤ l.depth + 1) ⊎ (l.dependencies.encountered_overflow ≡ false)
-          → AllDescend m (m.world l.fn.cx) limit l.dependencies.lowest (path_onto m l.fn.cx l.fn.search.stack.items []) (m.goal_of l.fn.cx l.fn.input) → IsNotPlain m (m.world l.fn.cx) limit (m.goal_of l.fn.cx l.fn.input);
+          → HeadsDescend m (m.world l.fn.cx) limit (indices l.dependencies.heads.items) (steps_of m l.fn.cx l.fn.search.stack.items) (m.goal_of l.fn.cx l.fn.input) → IsNotPlain m (m.world l.fn.cx) limit (m.goal_of l.fn.cx l.fn.input);
     }
 
 abbrev pub invariant-run_once-loop-candidates : goal.invariant-run_once-loop-candidates
@@ -64,19 +65,18 @@ invariant-run_once-loop-candidates g l =
       range : AreInRange l.cache.asked.items l.dependencies.nested_goals;
       depth : l.dependencies.encountered_overflow ≡ false → l.dependencies.required_depth ≤ l.depth;
       stack : l.search.stack.items ≡ l.fn.search.stack.items ++ l.fn.entry ∷ [];
-      room : l.dependencies.lowest ≤ length l.fn.search.stack.items;
-      running : IsRunning m (m.world l.fn.cx) (question_of m l.fn.cx l.fn.entry ∷ path_onto m l.fn.cx l.fn.search.stack.items []) (m.goal_of l.fn.cx l.fn.entry.input) l.dependencies.lowest l.cx l.frame l.request;
+      running : IsRunning m (m.world l.fn.cx) (steps_of m l.fn.cx l.fn.search.stack.items) (m.goal_of l.fn.cx l.fn.entry.input) l.fn.entry.step_kind (indices l.dependencies.heads.items) l.cx l.frame l.request;
       opened : l.candidates.open ≡ is_open m running.heard;
       listed : l.candidates.finished.items ≡ finished m (m.world l.fn.cx) (m.goal_of l.fn.cx l.fn.entry.input) running.heard;
       frames : (width : ℕ) → m.number_of (m.world l.fn.cx) (m.goal_of l.fn.cx l.fn.entry.input) ≤ width
           → l.search.frames ≤ l.fn.search.frames + 1 + answer_count m running.heard * question_bound (max g.D.Delegate.FIXPOINT_STEP_LIMIT 1) width l.depth;
       limits : l.fn.search.limits_met ≡ true → l.search.limits_met ≡ true;
       noted : l.fn.search.limits_met ≡ false → l.search.limits_met ≡ true → (limit : ℕ) → limit ≤ l.depth + 1
-          → AllDescend m (m.world l.fn.cx) limit 0 (path_onto m l.fn.cx l.fn.search.stack.items []) (m.goal_of l.fn.cx l.fn.entry.input) → IsNotPlain m (m.world l.fn.cx) limit (m.goal_of l.fn.cx l.fn.entry.input);
+          → AllDescend m (m.world l.fn.cx) limit (steps_of m l.fn.cx l.fn.search.stack.items) (m.goal_of l.fn.cx l.fn.entry.input) → IsNotPlain m (m.world l.fn.cx) limit (m.goal_of l.fn.cx l.fn.entry.input);
       within : (before : List (m.Goal × m.Answer)) → l.search.limits_met ≡ false → AreLastWithin m (m.world l.fn.cx) before l.fn.cx l.fn.search.stack.items → IsLastWithin m (m.world l.fn.cx) before l.fn.cx l.fn.entry
           → AreCachedWithin m (m.world l.fn.cx) before l.fn.cx l.fn.cache.entries.items
           → AreCachedWithin m (m.world l.fn.cx) before l.cx l.cache.entries.items × Hears m (m.world l.fn.cx) (IsGivenWithin m (m.world l.fn.cx) before) (m.goal_of l.fn.cx l.fn.entry.input) running.heard;
-      plain : IsOnPlainTrack m (m.world l.fn.cx) (l.depth + 1) (path_onto m l.fn.cx l.fn.search.stack.items []) (m.goal_of l.fn.cx l.fn.entry.input) l.dependencies.encountered_overflow l.dependencies.lowest l.dependencies.heads.items running.heard;
+      plain : IsOnPlainTrack m (m.world l.fn.cx) (l.depth + 1) (steps_of m l.fn.cx l.fn.search.stack.items) (m.goal_of l.fn.cx l.fn.entry.input) l.dependencies.encountered_overflow (indices l.dependencies.heads.items) running.heard;
     }
 
 abbrev pub decreases-run_once-loop-candidates : goal.decreases-run_once-loop-candidates

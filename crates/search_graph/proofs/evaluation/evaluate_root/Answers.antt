@@ -1,12 +1,45 @@
-use Rattle.std.proofs.Common.{◌≡◌, ◌+◌, [], ap, Result, Err}
+use Rattle.std.proofs.Common.{◌≡◌, ◌∙◌, ◌+◌, [], ap, Result, Err}
+use Rattle.std.proofs.lemmas.Option.{none-some}
 use Rattle.std.proofs.lemmas.Result.{IfOk-weaker}
 use Rattle.search_graph.specs.Question.{IsFaithfulOver}
 use Rattle.search_graph.specs.declared.fault.Stop.{Stop}
-use Rattle.search_graph.specs.declared.fault.Stop.TheVariants.{Exhausted}
+use Rattle.search_graph.specs.declared.fault.GraphFault.{GraphFault}
+use Rattle.search_graph.specs.declared.fault.Stop.TheVariants.{Fault, Exhausted}
 use Rattle.search_graph.proofs.evaluation.evaluate_root.Goals as goal
 
 given_up : {T : Type 0} (x : Stop) → x ≡ Exhausted → ◌≡◌ {A = Result T Stop} (Err x) (Err Exhausted)
 given_up x is = ap (λ z. Err z) is
+
+refused : {T U : Type 0} (x : Stop) (f k : GraphFault) → x ≡ Fault f → ◌≡◌ {A = Result U GraphFault} (Err f) (Err k) → ◌≡◌ {A = Result T Stop} (Err x) (Err (Fault k))
+refused x f k is h = let e : f ≡ k = cc in ap (λ z. Err z) (is ∙ ap (λ z. Fault z) e)
+
+pub returns-in-Ok-clause-no_limit : goal.returns-in-Ok-clause-no_limit
+returns-in-Ok-clause-no_limit g c = rw c.requires.empty at c.evaluate.ensures.no_limit
+
+pub returns-in-Err-Fault-clause-no_limit : goal.returns-in-Err-Fault-clause-no_limit
+returns-in-Err-Fault-clause-no_limit g c = rw c.requires.empty at c.evaluate.ensures.no_limit
+
+pub returns-in-Err-Fault-clause-no_conflict : goal.returns-in-Err-Fault-clause-no_conflict
+returns-in-Err-Fault-clause-no_conflict g c =
+    let claim = rw c.requires.empty at c.in-Err-Fault.ensures.no_conflict in
+    λ h. claim (refused c.in-Err-Fault.field-0 c.in-Err-Fault.fault _ c.in-Err-Fault.field-0-is h)
+
+pub returns-in-Err-Exhausted-clause-no_conflict : goal.returns-in-Err-Exhausted-clause-no_conflict
+returns-in-Err-Exhausted-clause-no_conflict g c =
+    let claim = rw c.requires.empty at c.in-Err-Exhausted.ensures.exhausted in
+    λ h. claim (given_up c.in-Err-Exhausted.field-0 c.in-Err-Exhausted.field-0-is)
+
+pub returns-in-Err-Exhausted-clause-no_limit : goal.returns-in-Err-Exhausted-clause-no_limit
+returns-in-Err-Exhausted-clause-no_limit g c =
+    let claim = rw c.requires.empty at c.in-Err-Exhausted.ensures.exhausted in
+    λ off on. claim (given_up c.in-Err-Exhausted.field-0 c.in-Err-Exhausted.field-0-is)
+
+pub give_up-requires-clause-not_plain : goal.give_up-requires-clause-not_plain
+give_up-requires-clause-not_plain g c =
+    let keeps = c.evaluate.ensures.keeps in
+    let claim = rw c.requires.empty at c.in-Err-Exhausted.ensures.exhausted in
+    rw (keeps.world, c.in_ok-again.ensures.copy, (keeps.inputs c.args.input c.requires.input).1)
+    (λ limit l. claim (given_up c.in-Err-Exhausted.field-0 c.in-Err-Exhausted.field-0-is) limit l (λ place s at. absurd (none-some s at)))
 
 pub returns-in-Ok-clause-faithful : goal.returns-in-Ok-clause-faithful
 returns-in-Ok-clause-faithful g c = rw c.requires.empty at c.in-Ok.ensures.faithful

@@ -1,6 +1,6 @@
-use Rattle.std.proofs.Common.{◌≡◌, ◌∙◌, ◌∷◌, ◌++◌, [], ap, inl, inr, slice_get, Some, arith}
+use Rattle.std.proofs.Common.{◌≡◌, ◌∙◌, ◌∷◌, ◌++◌, [], ap, inl, inr, slice_get, Some}
 use Rattle.std.proofs.lemmas.Result.{err_from_is_err_and}
-use Rattle.search_graph.proofs.Errors.{err_passed}
+use Rattle.search_graph.proofs.Errors.{err_passed, list_empty, list_not_empty}
 use Rattle.search_graph.specs.declared.cache.Asked.{Asked}
 use Rattle.search_graph.specs.Nested.{covered, no_goal, one_goal}
 use Rattle.search_graph.proofs.Ranges.{at_end, in_range_cached, in_range_goal}
@@ -10,8 +10,8 @@ use Rattle.search_graph.proofs.search.finish.Goals.{then-encountered_overflow, e
 pub insert-requires-clause-kept : goal.insert-requires-clause-kept
 insert-requires-clause-kept g c = λ limit h n b within p.
     elim c.if-encountered_overflow.branch [
-      | then-encountered_overflow w ↦ c.requires.kept c.if-lowest-index.true limit (elim h [ inl l ↦ inl (rw w.kept_depth-is at l) | inr y ↦ inr y ]) n b within p
-      | else-encountered_overflow w ↦ c.requires.kept c.if-lowest-index.true limit (inr w.if-encountered_overflow.false) n b within p
+      | then-encountered_overflow w ↦ c.requires.kept (list_empty c.args.evaluation.dependencies.heads.items _ c.is_empty.result c.is_empty.ensures c.args.evaluation.dependencies.heads.ok.0 c.if-is_empty.true) limit (elim h [ inl l ↦ inl (rw w.kept_depth-is at l) | inr y ↦ inr y ]) n b within p
+      | else-encountered_overflow w ↦ c.requires.kept (list_empty c.args.evaluation.dependencies.heads.items _ c.is_empty.result c.is_empty.ensures c.args.evaluation.dependencies.heads.ok.0 c.if-is_empty.true) limit (inr w.if-encountered_overflow.false) n b within p
     ]
 
 pub returns-in_err-asked-clause-no_conflict : goal.returns-in_err-asked-clause-no_conflict
@@ -28,8 +28,8 @@ returns-in_err-asked-clause-conflict g c =
     let p = err_from_is_err_and c.from_residual.result c.from_residual.ensures.1 in
     λ h. c.in_err-asked.ensures.conflict (err_passed _ _ _ _ p.1 p.2 h)
 
-pub returns-then-lowest-index-clause-kept : goal.returns-then-lowest-index-clause-kept
-returns-then-lowest-index-clause-kept g c = λ h.
+pub returns-then-is_empty-clause-kept : goal.returns-then-is_empty-clause-kept
+returns-then-is_empty-clause-kept g c = λ h.
     let kept = c.in_ok-asked.ensures.kept in (
       kept.0,
       kept.1,
@@ -55,8 +55,8 @@ returns-in_err-add_cached-clause-err g c =
     let kept = c.in_ok-asked.ensures.kept in
     rw p.1 (inr (kept.0, kept.1))
 
-pub returns-then-lowest-index-clause-range : goal.returns-then-lowest-index-clause-range
-returns-then-lowest-index-clause-range g c =
+pub returns-then-is_empty-clause-range : goal.returns-then-is_empty-clause-range
+returns-then-is_empty-clause-range g c =
     let nested = c.args.evaluation.dependencies.nested_goals in
     let here : Asked = record { number = c.args.number; nested_goals = nested } in
     let at : slice_get c.insert.new.self.asked.items c.in_ok-asked.asked ≡ Some here = rw (c.in_ok-asked.ensures.recorded, c.in_ok-asked.ensures.place) (at_end c.args.cache.now.asked.items here) in
@@ -70,32 +70,32 @@ pub returns-clause-range : goal.returns-clause-range
 returns-clause-range g c = in_range_goal c.args.cache.now.asked.items c.args.evaluation.dependencies.nested_goals c.add_goal.new.self c.args.number
     c.in_ok-add_goal.ensures.added (ap (λ v. v.items) c.add_goal.ensures.cached) c.in_ok-add_goal.ensures.span c.requires.nested
 
-pub returns-then-lowest-index-clause-found : goal.returns-then-lowest-index-clause-found
-returns-then-lowest-index-clause-found g c = λ h. (
+pub returns-then-is_empty-clause-found : goal.returns-then-is_empty-clause-found
+returns-then-is_empty-clause-found g c = λ h. (
   ap (λ v. v.items) c.add_cached.ensures.goals ∙ c.new-nested_goals.ensures.goals,
   c.in_ok-add_cached.ensures.added ∙ ap (λ xs. xs ++ c.in_ok-asked.asked ∷ []) c.new-nested_goals.ensures.cached ∙ ap (λ p. p ∷ []) c.in_ok-asked.ensures.place,
 )
 
-pub returns-then-lowest-index-clause-unkept : goal.returns-then-lowest-index-clause-unkept
-returns-then-lowest-index-clause-unkept g c = λ less. absurd (omega (arith, less, c.if-lowest-index.true))
+pub returns-then-is_empty-clause-unkept : goal.returns-then-is_empty-clause-unkept
+returns-then-is_empty-clause-unkept g c = λ some. absurd (some (list_empty c.args.evaluation.dependencies.heads.items _ c.is_empty.result c.is_empty.ensures c.args.evaluation.dependencies.heads.ok.0 c.if-is_empty.true))
 
-pub returns-then-lowest-index-clause-asked : goal.returns-then-lowest-index-clause-asked
-returns-then-lowest-index-clause-asked g c = λ less. absurd (omega (arith, less, c.if-lowest-index.true))
+pub returns-then-is_empty-clause-asked : goal.returns-then-is_empty-clause-asked
+returns-then-is_empty-clause-asked g c = λ some. absurd (some (list_empty c.args.evaluation.dependencies.heads.items _ c.is_empty.result c.is_empty.ensures c.args.evaluation.dependencies.heads.ok.0 c.if-is_empty.true))
 
-pub returns-then-lowest-index-clause-results : goal.returns-then-lowest-index-clause-results
-returns-then-lowest-index-clause-results g c = c.insert.ensures.results
+pub returns-then-is_empty-clause-results : goal.returns-then-is_empty-clause-results
+returns-then-is_empty-clause-results g c = c.insert.ensures.results
 
-pub returns-then-lowest-index-clause-goals : goal.returns-then-lowest-index-clause-goals
-returns-then-lowest-index-clause-goals g c = c.insert.ensures.goals
+pub returns-then-is_empty-clause-goals : goal.returns-then-is_empty-clause-goals
+returns-then-is_empty-clause-goals g c = c.insert.ensures.goals
 
-pub returns-then-lowest-index-clause-cache : goal.returns-then-lowest-index-clause-cache
-returns-then-lowest-index-clause-cache g c = c.insert.ensures.cache
+pub returns-then-is_empty-clause-cache : goal.returns-then-is_empty-clause-cache
+returns-then-is_empty-clause-cache g c = c.insert.ensures.cache
 
 pub returns-in_err-add_cached-clause-results : goal.returns-in_err-add_cached-clause-results
 returns-in_err-add_cached-clause-results g c = c.insert.ensures.results
 
-pub returns-then-lowest-index-clause-asked_before : goal.returns-then-lowest-index-clause-asked_before
-returns-then-lowest-index-clause-asked_before g c = c.insert.ensures.asked
+pub returns-then-is_empty-clause-asked_before : goal.returns-then-is_empty-clause-asked_before
+returns-then-is_empty-clause-asked_before g c = c.insert.ensures.asked
 
 pub returns-in_err-add_cached-clause-asked_before : goal.returns-in_err-add_cached-clause-asked_before
 returns-in_err-add_cached-clause-asked_before g c = c.insert.ensures.asked
@@ -118,14 +118,14 @@ returns-in_err-asked-clause-goals g c = c.insert.ensures.goals
 pub returns-in_err-asked-clause-cache : goal.returns-in_err-asked-clause-cache
 returns-in_err-asked-clause-cache g c = c.insert.ensures.cache
 
-pub returns-then-lowest-index-clause-within : goal.returns-then-lowest-index-clause-within
-returns-then-lowest-index-clause-within g c = c.in_ok-asked.ensures.within
+pub returns-then-is_empty-clause-within : goal.returns-then-is_empty-clause-within
+returns-then-is_empty-clause-within g c = c.in_ok-asked.ensures.within
 
 pub returns-clause-asked : goal.returns-clause-asked
 returns-clause-asked g c = λ less. (c.in_ok-add_goal.ensures.added, c.add_goal.ensures.cached)
 
 pub returns-clause-kept : goal.returns-clause-kept
-returns-clause-kept g c = λ le. absurd (omega (arith, le, c.if-lowest-index.false))
+returns-clause-kept g c = λ none. absurd (list_not_empty c.args.evaluation.dependencies.heads.items _ c.is_empty.result c.is_empty.ensures c.args.evaluation.dependencies.heads.ok.0 c.if-is_empty.false none)
 
 pub returns-clause-found : goal.returns-clause-found
-returns-clause-found g c = λ le. absurd (omega (arith, le, c.if-lowest-index.false))
+returns-clause-found g c = λ none. absurd (list_not_empty c.args.evaluation.dependencies.heads.items _ c.is_empty.result c.is_empty.ensures c.args.evaluation.dependencies.heads.ok.0 c.if-is_empty.false none)

@@ -1,4 +1,5 @@
 use Rattle.std.proofs.Common.{◌+◌, [], sym, ◌∙◌, refl, inl, inr}
+use Rattle.search_graph.specs.KeptPaths.{indices}
 use Rattle.search_graph.proofs.Ends.{held_after, faithful_after}
 use Rattle.search_graph.proofs.Faithfuls.{true_not_false, faithful_not_plain}
 use Rattle.search_graph.proofs.Graphs.{AreCached-later}
@@ -22,7 +23,7 @@ finish-requires-clause-kept g c =
 
 pub returns-clause-kept : goal.returns-clause-kept
 returns-clause-kept g c =
-    held_after c.finish.result c.in_ok-overflow.overflow c.number_of.new.self.entries.items c.finish.new.cache.entries.items c.number_of.new.self.asked.items c.args.input c.args.input 0 c.in_ok-number.number c.args.depth refl (from_zero 0 _ refl)
+    held_after c.finish.result c.in_ok-overflow.overflow c.number_of.new.self.entries.items c.finish.new.cache.entries.items c.number_of.new.self.asked.items c.args.input c.args.input c.in_ok-number.number c.args.depth refl c.in_ok-overflow.ensures.unread
     (λ off. from_zero _ _ c.in_ok-overflow.ensures.depth) c.finish.ensures.kept c.finish.ensures.reply
 
 pub returns-clause-faithful : goal.returns-clause-faithful
@@ -32,6 +33,6 @@ returns-clause-faithful g c =
     let found = c.in_ok-overflow.overflow in
     let told = c.in_ok-overflow.ensures.told in
     faithful_after m first c.overflow.new.cx [] c.args.input c.finish.result found (c.args.depth + 1)
-    (faithful_not_plain m (m.world first) (c.args.depth + 1) [] (m.goal_of first c.args.input) (m.answer_of c.overflow.new.cx found.result) found.dependencies.encountered_overflow found.dependencies.lowest found.dependencies.heads.items
+    (faithful_not_plain m (m.world first) (c.args.depth + 1) [] (m.goal_of first c.args.input) (m.answer_of c.overflow.new.cx found.result) found.dependencies.encountered_overflow (indices found.dependencies.heads.items)
     (λ limit h d. c.requires.not_plain limit (elim h [ inl x ↦ x | inr y ↦ absurd (true_not_false (sym told ∙ y)) ])))
     c.finish.ensures.reply

@@ -1,4 +1,6 @@
 use Rattle.std.proofs.Common.{Some, slice_get, ◌≡◌, ◌+◌, ◌∙◌, sym, ap, subst, refl, inl, arith}
+use Rattle.std.proofs.lemmas.Option.{none-some}
+use Rattle.search_graph.specs.KeptPaths.{indices}
 use Rattle.search_graph.specs.Cache.{AreJustified, answers_in, known_result, known_results}
 use Rattle.search_graph.specs.Chain.{IsWithinDepth}
 use Rattle.search_graph.specs.Proof.{IsAmong}
@@ -28,7 +30,7 @@ returns-clause-answer g c =
     let m = g.D.Delegate.meaning in
     let first = c.args.cx.now in
     elim c.match-evaluate_root.branch [
-      | in-Ok w ↦ rw w.result-is (sound_answer m (m.world first) (m.goal_of first c.args.input) c.args.step_kind w.in-Ok.evaluation.dependencies.lowest c.evaluate_root.new.cx w.in-Ok.evaluation.result
+      | in-Ok w ↦ rw w.result-is (sound_answer m (m.world first) (m.goal_of first c.args.input) c.args.step_kind (indices w.in-Ok.evaluation.dependencies.heads.items) c.evaluate_root.new.cx w.in-Ok.evaluation.result
           w.in-Ok.ensures.answer)
       | in-Err w ↦ rw w.result-is tt
     ]
@@ -38,7 +40,7 @@ returns-clause-plain g c =
     let m = g.D.Delegate.meaning in
     let depth : c.self.inside.root_depth ≡ c.args.self.now.root_depth = ap (λ s. s.root_depth) c.self.view_is in
     elim c.match-evaluate_root.branch [
-      | in-Ok w ↦ rw w.result-is (λ a plain. (w.in-Ok.ensures.faithful (c.args.self.now.root_depth + 1) (inl (omega arith)) tt (c.args.self.now.root_depth + 1) a (omega arith) plain).same)
+      | in-Ok w ↦ rw w.result-is (λ a plain. (w.in-Ok.ensures.faithful (c.args.self.now.root_depth + 1) (inl (omega arith)) (λ place s head at. absurd (none-some s at)) (c.args.self.now.root_depth + 1) a (omega arith) plain).same)
       | in-Err w ↦ rw w.result-is tt
     ]
 
@@ -48,7 +50,7 @@ returns-clause-no_conflict g c =
     let depth : c.self.inside.root_depth ≡ c.args.self.now.root_depth = ap (λ s. s.root_depth) c.self.view_is in
     elim c.match-evaluate_root.branch [
       | in-Ok w ↦ λ h n b within p. absurd (ok_not_err _ _ (sym w.result-is ∙ h))
-      | in-Err w ↦ λ h n b within p. w.in-Err.ensures.no_conflict (err_passed _ _ _ _ w.result-is refl h) (c.args.self.now.root_depth + 1) (omega arith) tt n b within p
+      | in-Err w ↦ λ h n b within p. w.in-Err.ensures.no_conflict (err_passed _ _ _ _ w.result-is refl h) (c.args.self.now.root_depth + 1) (omega arith) (λ place s at. absurd (none-some s at)) n b within p
     ]
 
 pub returns-clause-computed : goal.returns-clause-computed
@@ -75,8 +77,8 @@ returns-clause-no_limit g c =
     let before : c.self.inside.search.limits_met ≡ c.args.self.now.limits_met = ap (λ s. s.limits_met) c.self.view_is in
     let claim = c.evaluate_root.ensures.no_limit in
     elim c.match-evaluate_root.branch [
-      | in-Ok w ↦ λ off on n b within p. claim (c.count_anew.ensures.limits ∙ before ∙ off) (rw w.self-is at on) (c.args.self.now.root_depth + 1) (omega arith) tt n b within p
-      | in-Err w ↦ λ off on n b within p. claim (c.count_anew.ensures.limits ∙ before ∙ off) (sym w.clear.ensures.limits ∙ (rw w.self-is at on)) (c.args.self.now.root_depth + 1) (omega arith) tt n b within p
+      | in-Ok w ↦ λ off on n b within p. claim (c.count_anew.ensures.limits ∙ before ∙ off) (rw w.self-is at on) (c.args.self.now.root_depth + 1) (omega arith) (λ place s at. absurd (none-some s at)) n b within p
+      | in-Err w ↦ λ off on n b within p. claim (c.count_anew.ensures.limits ∙ before ∙ off) (sym w.clear.ensures.limits ∙ (rw w.self-is at on)) (c.args.self.now.root_depth + 1) (omega arith) (λ place s at. absurd (none-some s at)) n b within p
     ]
 
 pub returns-clause-cached : goal.returns-clause-cached

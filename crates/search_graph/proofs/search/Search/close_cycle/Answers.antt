@@ -2,7 +2,6 @@ use Rattle.std.proofs.Common.{◌≡◌, ◌∙◌, sym, ap, inl, Some, slice_ge
 use Rattle.std.proofs.lemmas.Option.{get_or_from_slice_get, MatchOption-at_some, none-some, same_Some, slice_get_within}
 use Rattle.search_graph.specs.Stack.{IsWithin}
 use Rattle.search_graph.proofs.Graphs.{Keeps-refl, last_answers, initial_answers}
-use Rattle.search_graph.proofs.Graphs.{IsEntry-at}
 use Rattle.search_graph.proofs.Limits.{AreLastWithin-at}
 use Rattle.search_graph.proofs.Faithfuls.{cycle_not_plain}
 use Rattle.search_graph.proofs.search.Search.close_cycle.Goals as goal
@@ -13,12 +12,11 @@ returns-in_ok-answer-in-Some-clause-answer g c =
     let cycle = c.requires.cycle in
     let first = c.args.cx.now in
     let es = c.args.self.now.stack.items in
-    let entry = c.index-entry.result.now in
-    let same : c.index-entry.result.now ≡ c.requires.cycle.0 = c.index-entry.ensures ∙ get_or_from_slice_get es c.args.cycle.index cycle.0 c.index-entry.result.now cycle.1 in
-    let at : slice_get es c.args.cycle.index ≡ Some entry = rw same cycle.1 in
-    let input : entry.input ≡ c.args.input.now = rw same cycle.2 in
+    λ e at. let same : cycle.0 ≡ e = same_Some _ _ (sym cycle.1 ∙ at) in
+    let input : e.input ≡ c.args.input.now = rw same at cycle.2 in
+    let last : e.provisional_result ≡ Some c.in-Some.last = ap (λ z. z.provisional_result) (sym (c.index-entry.ensures ∙ get_or_from_slice_get es c.args.cycle.index e c.index-entry.result.now at)) ∙ c.in-Some.is in
     rw c.in_ok-answer-in-Some.ensures.copy
-    (last_answers m (m.world first) first c.args.cx.now es c.args.cycle.index entry c.args.input.now c.args.step_kind c.in-Some.last at input c.in-Some.is c.requires.stack (Keeps-refl m first))
+    (last_answers m (m.world first) first c.args.cx.now es c.args.cycle.index e c.args.input.now c.args.step_kind c.in-Some.last at input last c.requires.stack (Keeps-refl m first))
 
 pub returns-in_ok-answer-in-None-clause-answer : goal.returns-in_ok-answer-in-None-clause-answer
 returns-in_ok-answer-in-None-clause-answer g c =
@@ -26,11 +24,9 @@ returns-in_ok-answer-in-None-clause-answer g c =
     let cycle = c.requires.cycle in
     let first = c.args.cx.now in
     let es = c.args.self.now.stack.items in
-    let entry = c.index-entry.result.now in
-    let same : c.index-entry.result.now ≡ c.requires.cycle.0 = c.index-entry.ensures ∙ get_or_from_slice_get es c.args.cycle.index cycle.0 c.index-entry.result.now cycle.1 in
-    let at : slice_get es c.args.cycle.index ≡ Some entry = rw same cycle.1 in
-    let input : entry.input ≡ c.args.input.now = rw same cycle.2 in
-    initial_answers m g.met.D.Delegate.lawful (m.world first) first c.initial_provisional_result.new.cx es c.args.cycle.index entry c.args.input.now c.args.cycle.path_kind c.args.step_kind c.in_ok-answer-in-None.answer
+    λ e at. let same : cycle.0 ≡ e = same_Some _ _ (sym cycle.1 ∙ at) in
+    let input : e.input ≡ c.args.input.now = rw same at cycle.2 in
+    initial_answers m g.met.D.Delegate.lawful (m.world first) first c.initial_provisional_result.new.cx es c.args.cycle.index e c.args.input.now c.args.cycle.path_kind c.args.step_kind c.in_ok-answer-in-None.answer
     at input cycle.3 c.requires.stack c.in_ok-answer-in-None.ensures.is.0 c.in_ok-answer-in-None.ensures.is.1
 
 pub returns-in_ok-answer-in-Some-clause-not_plain : goal.returns-in_ok-answer-in-Some-clause-not_plain
@@ -38,24 +34,14 @@ returns-in_ok-answer-in-Some-clause-not_plain g c =
     let m = g.D.Delegate.meaning in
     let cycle = c.requires.cycle in
     let first = c.args.cx.now in
-    let es = c.args.self.now.stack.items in
-    let entry = c.index-entry.result.now in
-    let same : c.index-entry.result.now ≡ c.requires.cycle.0 = c.index-entry.ensures ∙ get_or_from_slice_get es c.args.cycle.index cycle.0 c.index-entry.result.now cycle.1 in
-    let at : slice_get es c.args.cycle.index ≡ Some entry = rw same cycle.1 in
-    let input : entry.input ≡ c.args.input.now = rw same cycle.2 in
-    λ limit d. cycle_not_plain m (m.world first) first limit entry.lowest es c.args.cycle.index entry c.args.input.now at input (IsEntry-at m (m.world first) first es c.args.cycle.index entry at c.requires.stack).room d
+    λ limit d. cycle_not_plain m (m.world first) first limit c.args.self.now.stack.items c.args.cycle.index cycle.0 c.args.input.now cycle.1 cycle.2 d
 
 pub returns-in_ok-answer-in-None-clause-not_plain : goal.returns-in_ok-answer-in-None-clause-not_plain
 returns-in_ok-answer-in-None-clause-not_plain g c =
     let m = g.D.Delegate.meaning in
     let cycle = c.requires.cycle in
     let first = c.args.cx.now in
-    let es = c.args.self.now.stack.items in
-    let entry = c.index-entry.result.now in
-    let same : c.index-entry.result.now ≡ c.requires.cycle.0 = c.index-entry.ensures ∙ get_or_from_slice_get es c.args.cycle.index cycle.0 c.index-entry.result.now cycle.1 in
-    let at : slice_get es c.args.cycle.index ≡ Some entry = rw same cycle.1 in
-    let input : entry.input ≡ c.args.input.now = rw same cycle.2 in
-    λ limit d. cycle_not_plain m (m.world first) first limit entry.lowest es c.args.cycle.index entry c.args.input.now at input (IsEntry-at m (m.world first) first es c.args.cycle.index entry at c.requires.stack).room d
+    λ limit d. cycle_not_plain m (m.world first) first limit c.args.self.now.stack.items c.args.cycle.index cycle.0 c.args.input.now cycle.1 cycle.2 d
 
 pub returns-in_ok-answer-in-Some-clause-within : goal.returns-in_ok-answer-in-Some-clause-within
 returns-in_ok-answer-in-Some-clause-within g c =
@@ -73,12 +59,6 @@ returns-in_ok-answer-in-Some-clause-within g c =
 pub returns-in_ok-answer-in-None-clause-within : goal.returns-in_ok-answer-in-None-clause-within
 returns-in_ok-answer-in-None-clause-within g c = λ before last. record { how = inl (inl (c.args.cycle.path_kind, c.in_ok-answer-in-None.ensures.is.1)) }
 
-pub returns-in_ok-answer-in-Some-clause-lowest : goal.returns-in_ok-answer-in-Some-clause-lowest
-returns-in_ok-answer-in-Some-clause-lowest g c =
-    let es = c.args.self.now.stack.items in
-    let same : (e : _) → slice_get es c.args.cycle.index ≡ Some e → c.index-entry.result.now ≡ e = λ e h. c.index-entry.ensures ∙ get_or_from_slice_get es c.args.cycle.index e c.index-entry.result.now h in
-    λ e h. ap (λ entry. entry.lowest) (same e h)
-
 pub returns-in_ok-answer-in-Some-clause-last : goal.returns-in_ok-answer-in-Some-clause-last
 returns-in_ok-answer-in-Some-clause-last g c =
     let es = c.args.self.now.stack.items in
@@ -94,12 +74,6 @@ returns-in_ok-answer-in-Some-clause-first g c =
 pub returns-in_ok-answer-in-Some-clause-keeps : goal.returns-in_ok-answer-in-Some-clause-keeps
 returns-in_ok-answer-in-Some-clause-keeps g c =
     Keeps-refl g.D.Delegate.meaning c.args.cx.now
-
-pub returns-in_ok-answer-in-None-clause-lowest : goal.returns-in_ok-answer-in-None-clause-lowest
-returns-in_ok-answer-in-None-clause-lowest g c =
-    let es = c.args.self.now.stack.items in
-    let same : (e : _) → slice_get es c.args.cycle.index ≡ Some e → c.index-entry.result.now ≡ e = λ e h. c.index-entry.ensures ∙ get_or_from_slice_get es c.args.cycle.index e c.index-entry.result.now h in
-    λ e h. ap (λ entry. entry.lowest) (same e h)
 
 pub returns-in_ok-answer-in-None-clause-last : goal.returns-in_ok-answer-in-None-clause-last
 returns-in_ok-answer-in-None-clause-last g c =

@@ -1,9 +1,10 @@
-use Rattle.std.proofs.Common.{◌≡◌, ◌∙◌, ◌++◌, ◌∷◌, sym, ap, [], true, arith, slice_get, Some}
+use Rattle.std.proofs.Common.{◌≡◌, ◌∙◌, ◌++◌, ◌∷◌, sym, ap, [], true, slice_get, Some}
 use Rattle.std.proofs.lemmas.Option.{same_Some}
 use Rattle.search_graph.specs.Nested.{covered, no_goal}
 use Rattle.search_graph.specs.declared.path_kind.PathKind.TheVariants.{Inductive}
-use Rattle.search_graph.specs.Stack.{path_onto}
-use Rattle.search_graph.proofs.Graphs.{path_length, cached_answers}
+use Rattle.search_graph.specs.KeptPaths.{indices}
+use Rattle.search_graph.specs.Stack.{steps_of}
+use Rattle.search_graph.proofs.Graphs.{cached_answers}
 use Rattle.search_graph.proofs.Ranges.{in_range_cached, listed_at}
 use Rattle.search_graph.proofs.Faithfuls.{faithful_kept}
 use Rattle.search_graph.proofs.search.Search.use_cached.Goals as goal
@@ -13,8 +14,7 @@ returns-clause-answer g c =
     let m = g.D.Delegate.meaning in
     let first = c.args.cx.now in
     let es = c.args.self.now.stack.items in
-    let long = path_length m first es c.len.result (c.len.ensures ∙ c.args.self.now.stack.ok.0) in
-    rw (c.new-dependencies.ensures.lowest, ← long) (cached_answers m (m.world first) (path_onto m first es []) (m.goal_of first c.args.input.now) Inductive c.args.step_kind first c.in_ok-cached.cached.result c.in_ok-cached.ensures.result)
+    rw c.new-dependencies.ensures.unread (cached_answers m (m.world first) (steps_of m first es) (m.goal_of first c.args.input.now) Inductive c.args.step_kind first c.in_ok-cached.cached.result c.in_ok-cached.ensures.result)
 
 pub returns-clause-faithful : goal.returns-clause-faithful
 returns-clause-faithful g c =
@@ -27,9 +27,8 @@ returns-clause-faithful g c =
     let is : found.0 ≡ entry.0 = cc in
     let depth : c.in_ok-cached.cached.encountered_overflow ≡ true → c.in_ok-cached.cached.depth ≡ c.args.depth =
     λ o. entry.3 ∙ sym (ap (λ z. z.depth) is) ∙ found.3 (ap (λ z. z.encountered_overflow) is ∙ sym entry.4 ∙ o) in
-    let long = path_length m first es c.len.result (c.len.ensures ∙ c.args.self.now.stack.ok.0) in
-    rw c.new-dependencies.ensures.lowest (faithful_kept m (m.world first) c.args.depth c.in_ok-cached.cached.depth (path_onto m first es []) (m.goal_of first c.args.input.now) (m.answer_of first c.in_ok-cached.cached.result) c.in_ok-cached.cached.encountered_overflow c.len.result c.new-dependencies.result.heads.items
-    depth (omega arith) c.new-dependencies.ensures.unread c.in_ok-cached.ensures.kept)
+    faithful_kept m (m.world first) c.args.depth c.in_ok-cached.cached.depth (steps_of m first es) (m.goal_of first c.args.input.now) (m.answer_of first c.in_ok-cached.cached.result) c.in_ok-cached.cached.encountered_overflow (indices c.new-dependencies.result.heads.items)
+    depth (ap indices c.new-dependencies.ensures.unread) c.in_ok-cached.ensures.kept
 
 pub returns-clause-same : goal.returns-clause-same
 returns-clause-same g c = λ e at.
@@ -38,7 +37,7 @@ returns-clause-same g c = λ e at.
     (entry.2 ∙ ap (λ z. z.result) is, entry.3 ∙ ap (λ z. z.depth) is, entry.4 ∙ ap (λ z. z.encountered_overflow) is)
 
 pub returns-clause-unread : goal.returns-clause-unread
-returns-clause-unread g c = (c.new-dependencies.ensures.lowest ∙ c.len.ensures ∙ c.args.self.now.stack.ok.0, c.new-dependencies.ensures.unread)
+returns-clause-unread g c = c.new-dependencies.ensures.unread
 
 pub returns-clause-asked : goal.returns-clause-asked
 returns-clause-asked g c = λ e at.
