@@ -12,9 +12,7 @@ pub mod Kept
 pub mod Ends
 pub mod Correspondences
 pub mod Unfold
-pub mod AtomTables
-pub mod Counted
-pub mod RuleBooks
+pub mod LastRules
 pub mod ByRules
 pub mod Systems
 pub mod Replays

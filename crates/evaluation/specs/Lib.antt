@@ -16,9 +16,6 @@ pub mod Correspondences
 pub mod Promises
 pub mod Proof
 pub mod System
-pub mod Atoms
-pub mod Toys
-pub mod Counted
 pub mod ByRules
 pub mod Responses
 pub mod Readings

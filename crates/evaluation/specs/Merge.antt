@@ -5,6 +5,9 @@ use Rattle.evaluation.specs.declared.merge.MergeCandidateInfo.{MergeCandidateInf
 use Rattle.evaluation.specs.declared.merge.MergeCandidateInfo.TheVariants.{AlwaysApplicable, EqualResponse}
 use Rattle.evaluation.specs.Lists.{Every, SomeOf}
 use Rattle.infer_table.specs.Certainties.{all_joined, unsettled}
+use Rattle.infer_table.specs.declared.certainty.Certainty.{Certainty}
+use Rattle.infer_table.specs.declared.certainty.Certainty.TheVariants.{Yes, Maybe}
+use Rattle.infer_table.specs.declared.certainty.MaybeCause.TheVariants.{Ambiguity, Overflow}
 use Rattle.evaluation.specs.Operations.{is_yes}
 use Rattle.evaluation.specs.Table.{Tables, operations, workings}
 use Rattle.evaluation.specs.Candidate.{Considered}
@@ -44,6 +47,13 @@ info_of None false = None
 
 abbrev pub merge_info : {A : Type 0} → (A → Bool) → (A → A → Bool) → List A → Option MergeCandidateInfo
 merge_info applicable same xs = info_of (position applicable xs) (are_equal same xs)
+
+-- two certainties are one
+abbrev pub same_certainty : Certainty → Certainty → Bool
+same_certainty Yes Yes = true
+same_certainty (Maybe Ambiguity) (Maybe Ambiguity) = true
+same_certainty (Maybe Overflow) (Maybe Overflow) = true
+same_certainty c d = false
 
 -- responses are equal where they are found to be the same
 abbrev pub TellsApart : {Response : Type 0} → (Response → Response → Bool) → Type 0

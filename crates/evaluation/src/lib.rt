@@ -17,7 +17,6 @@ mod response;
 mod resuming;
 mod rounds;
 mod table_laws;
-pub mod toy;
 mod trial;
 
 pub use candidate::{

@@ -17,7 +17,7 @@ use Rattle.evaluation.specs.Candidate.{Spec}
 use Rattle.evaluation.specs.Law.{Solves, Realizes}
 use Rattle.evaluation.specs.Handler.{IsLawful, IsHandler}
 use Rattle.evaluation.proofs.ListLaws.{Every-both, Every-map, SomeOf-both, among-all, not-true}
-use Rattle.evaluation.proofs.RuleBooks.{last_rule}
+use Rattle.evaluation.proofs.LastRules.{last_rule}
 use Rattle.evaluation.specs.Instances.{read_with, goal_read}
 use Rattle.evaluation.specs.Content.{Values, fits, given, trait_of, Fact, fact_of, Terms}
 use Rattle.evaluation.specs.FrameTables.{kinds_known, Nested, fact, Meets}

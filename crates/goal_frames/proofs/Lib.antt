@@ -3,7 +3,6 @@ pub mod Histories
 pub mod Lawful
 pub mod Orders
 pub mod Graphs
-pub mod Books
 pub mod Listings
 pub mod Behind
 pub mod Asked

@@ -16,7 +16,7 @@ use Rattle.infer_table.specs.Values.{Value, values_of}
 use Rattle.infer_table.specs.Responses.{AnswerTrees, ResponseHeld, answer_trees}
 use Rattle.infer_table.proofs.SolutionLaws.{is_sort-self as sort-self}
 use Rattle.infer_table.proofs.UnifyFacts.{same-self}
-use Rattle.evaluation.specs.Atoms.{same_certainty}
+use Rattle.evaluation.specs.Merge.{same_certainty}
 use Rattle.evaluation.specs.Responses.{Content, content}
 use Rattle.evaluation.proofs.SameResponses.{content-cong, response-eq}
 use Rattle.type_terms.proofs.Made.{both}

@@ -13,7 +13,7 @@ use Rattle.infer_table.specs.declared.certainty.MaybeCause.TheVariants.{Ambiguit
 use Rattle.infer_table.specs.Values.{Value}
 use Rattle.infer_table.specs.Responses.{AnswerTrees}
 use Rattle.infer_table.proofs.SolutionLaws.{is_sort-equal as is-sort}
-use Rattle.evaluation.specs.Atoms.{same_certainty}
+use Rattle.evaluation.specs.Merge.{same_certainty}
 use Rattle.evaluation.specs.TableAnswers.{is_variable_itself, are_variables}
 use Rattle.type_terms.proofs.Made.{left, right}
 use Rattle.evaluation.specs.Merge.{TellsApart, IsTest}

@@ -19,7 +19,7 @@ use Rattle.evaluation.specs.declared.candidate.BuiltinImplSource.TheVariants.{Mi
 use Rattle.evaluation.specs.Table.{workings}
 use Rattle.evaluation.specs.Candidate.{Spec}
 use Rattle.evaluation.specs.Handler.{Handled, IsHandler}
-use Rattle.evaluation.specs.Atoms.{same_certainty}
+use Rattle.evaluation.specs.Merge.{same_certainty}
 use Rattle.evaluation.specs.TableAnswers.{is_variable_itself}
 use Rattle.evaluation.specs.Instances.{put_in}
 use Rattle.evaluation.specs.Content.{trait_of, fact_of}

@@ -2,7 +2,6 @@ pub mod Programs
 pub mod Searches
 pub mod Graphs
 pub mod Orders
-pub mod Books
 pub mod Listings
 pub mod Rules
 pub mod Handlers

@@ -21,5 +21,5 @@ pub use rules::{
 };
 pub use searches::{
     Searching, frames_are_lawful, frames_end, frames_keep_order, graphs_prove,
-    rule_books_are_programs, silent_answers_are_fair,
+    silent_answers_are_fair,
 };

@@ -4,11 +4,9 @@ ghost use Rattle.std.specs.Prelude.{Option};
 ghost use Rattle.evaluation.specs.Table.{Tables, IsTable};
 ghost use Rattle.search_graph.specs.Meaning.{IsLawful};
 ghost use Rattle.goal_frames.specs.Programs.{Programs, ArePrograms};
-ghost use Rattle.evaluation.specs.Atoms.{atoms};
 ghost use Rattle.goal_frames.specs.Searches.{Handles, Asked, meaning};
 ghost use Rattle.goal_frames.specs.Graphs.{GraphsProve};
 ghost use Rattle.goal_frames.specs.Orders.{KeepOrder, End, SilentIsFair};
-ghost use Rattle.goal_frames.specs.Books.{rule_books};
 
 /// Handlers of goals, the tables that their candidates are evaluated in, and the handles by which a search knows goals and answers.
 pub trait Searching {
@@ -66,9 +64,4 @@ pub fn frames_end<S: Searching>()
 pub fn graphs_prove<S: Searching>()
     requires { ArePrograms S.tables S.programs }
     ensures { GraphsProve S.tables S.programs }
-{}
-
-/// The laws of programs can be met: lists of rules, over tables with one unknown, are programs.
-pub fn rule_books_are_programs()
-    ensures { ArePrograms atoms rule_books }
 {}

@@ -1,4 +1,4 @@
-//! Tests of terms, folds, tables, canonical forms and answers, by public calls.
+//! Tests of terms, folds, tables, canonical forms and answers, by public calls; and worked frames of small handlers.
 //!
 //! They stand above the crates that they test, so that each of those is proved once and not a second time with its tests.
 #![tactic(auto)]
@@ -17,5 +17,7 @@ mod interned;
 mod kinds;
 #[cfg(test)]
 mod tables;
+#[cfg(test)]
+mod toy;
 #[cfg(test)]
 mod traversal;

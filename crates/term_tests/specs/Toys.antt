@@ -4,7 +4,7 @@ use Rattle.infer_table.specs.declared.certainty.Certainty.TheVariants.{Yes, Mayb
 use Rattle.infer_table.specs.declared.certainty.MaybeCause.TheVariants.{Ambiguity, Overflow}
 use Rattle.evaluation.specs.History.{Request, Reply, evaluated, asks}
 use Rattle.evaluation.specs.Promises.{frame_of_goal}
-use Rattle.evaluation.specs.Atoms.{Argument, atom, unknown, Goal, Response, atoms, RuleBook, Rule, handled_by}
+use Rattle.term_tests.specs.Atoms.{Argument, atom, unknown, Goal, Response, atoms, RuleBook, Rule, handled_by}
 
 -- the atoms u8 and bool, and the predicates of the rules; the steps to `send` are those of its own rule, which are coinductive
 abbrev pub u8 : ℕ

@@ -1,5 +1,5 @@
-use Rattle.evaluation.proofs.RuleBooks.{handler_is_lawful}
-use Rattle.evaluation.proofs.toy.rule_books_keep_promises.Goals as goal
+use Rattle.term_tests.proofs.RuleBooks.{handler_is_lawful}
+use Rattle.term_tests.proofs.toy.rule_books_keep_promises.Goals as goal
 
 pub definite_yes_follows-requires-clause-handler : goal.definite_yes_follows-requires-clause-handler
 definite_yes_follows-requires-clause-handler c = λ goal. handler_is_lawful goal.0 goal.1

@@ -6,7 +6,7 @@ use Rattle.infer_table.specs.declared.certainty.Certainty.TheVariants.{Yes, Mayb
 use Rattle.infer_table.specs.declared.certainty.MaybeCause.TheVariants.{Ambiguity, Overflow}
 use Rattle.evaluation.specs.Lists.{Every}
 use Rattle.evaluation.specs.Table.{IsTable, Extends}
-use Rattle.evaluation.specs.Atoms.{Argument, atom, unknown, value_at, AllowsValue, resolved, unify, then_unify, unify_all, put, answer_with, atoms}
+use Rattle.term_tests.specs.Atoms.{Argument, atom, unknown, value_at, AllowsValue, resolved, unify, then_unify, unify_all, put, answer_with, atoms}
 
 value-resolved : (table : Option ℕ) (a : Argument) (x : ℕ) → AllowsValue table x → value_at (resolved table a) x ≡ value_at a x
 value-resolved table (atom a) x h = refl

@@ -4,8 +4,8 @@ use Rattle.evaluation.specs.Lists.{Pairwise, OnBoth}
 use Rattle.evaluation.specs.Operations.{Workings}
 use Rattle.evaluation.specs.Correspondences.{IsCandidateCorrespondence}
 use Rattle.evaluation.specs.Table.{workings}
-use Rattle.evaluation.specs.Atoms.{atoms}
-use Rattle.evaluation.specs.Counted.{Counted, with_count, counting, but_for_tables, but_for_counts}
+use Rattle.term_tests.specs.Atoms.{atoms}
+use Rattle.term_tests.specs.Counted.{Counted, with_count, counting, but_for_tables, but_for_counts}
 
 abbrev some_or : {A : Type 0} → A → Option A → A
 some_or x None = x

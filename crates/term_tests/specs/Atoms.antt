@@ -9,7 +9,7 @@ use Rattle.evaluation.specs.Lists.{SomeOf}
 use Rattle.evaluation.specs.Table.{Tables, workings}
 use Rattle.evaluation.specs.Candidate.{Spec, Considered, Next, consider, answer}
 use Rattle.evaluation.specs.Handler.{Handled}
-use Rattle.evaluation.specs.Merge.{responses, is_always_applicable, merge_or_flounder}
+use Rattle.evaluation.specs.Merge.{responses, is_always_applicable, merge_or_flounder, same_certainty}
 use Rattle.evaluation.specs.Proof.{HasProof}
 use Rattle.evaluation.specs.System.{System}
 
@@ -169,12 +169,6 @@ same_value None None = true
 same_value (Some a) (Some b) = a == b
 same_value None (Some b) = false
 same_value (Some a) None = false
-
-abbrev pub same_certainty : Certainty → Certainty → Bool
-same_certainty Yes Yes = true
-same_certainty (Maybe Ambiguity) (Maybe Ambiguity) = true
-same_certainty (Maybe Overflow) (Maybe Overflow) = true
-same_certainty c d = false
 
 abbrev pub same_response : Response → Response → Bool
 same_response r s = same_certainty r.certainty s.certainty && same_value r.value s.value

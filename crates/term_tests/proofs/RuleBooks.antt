@@ -9,11 +9,11 @@ use Rattle.evaluation.specs.Table.{workings}
 use Rattle.evaluation.specs.Candidate.{Spec, Considered, Next, consider, answer, used_numbers, IsHistory}
 use Rattle.evaluation.specs.Law.{IsYes, AgreesTo, Realizes}
 use Rattle.evaluation.specs.Handler.{nested_of, AnswerWithin, IsHandler}
-use Rattle.evaluation.specs.Merge.{if_there, responses, is_always_applicable, merge_or_flounder, IsMerge}
-use Rattle.evaluation.specs.Proof.{Continues, facts, HasProof}
-use Rattle.evaluation.specs.Atoms.{Argument, atom, unknown, value_at, Goal, Response, atoms, Rule, RuleBook, IsBy, put_in, goal_put_in, spec_of, specs_for, candidates_for, nested_in, rest_of, remaining, same_value, same_certainty, same_response, if_refused, refused_numbers, next_of, FollowsByRule, HasProofByBook, handled_by}
+use Rattle.evaluation.specs.Merge.{if_there, responses, is_always_applicable, merge_or_flounder, same_certainty, IsMerge}
+use Rattle.term_tests.specs.Atoms.{Argument, atom, unknown, value_at, Goal, Response, atoms, Rule, RuleBook, IsBy, put_in, goal_put_in, spec_of, specs_for, candidates_for, nested_in, rest_of, remaining, same_value, same_response, if_refused, refused_numbers, next_of, FollowsByRule, HasProofByBook, handled_by}
 use Rattle.evaluation.proofs.ListLaws.{Every-mono, SomeOf-mono, SomeOf-found, SomeOf-at, Every-at, among-all, both-left, both-right}
-use Rattle.evaluation.proofs.AtomTables.{atoms_are_lawful}
+use Rattle.term_tests.proofs.AtomTables.{atoms_are_lawful}
+use Rattle.evaluation.proofs.LastRules.{last_rule}
 use Rattle.evaluation.proofs.Merges.{always_is_test, merge_is}
 
 value-put_in : (argument a : Argument) (x : ℕ) → value_at (put_in argument a) x ≡ value_at a (value_at argument x)
@@ -53,31 +53,6 @@ from_spec k g P [] s = absurd s
 from_spec k g P (r ∷ rules) (inl x) =
     subst (λ b. SomeOf P (if b then spec_of k g.argument r ∷ specs_for k g rules else specs_for k g rules)) (sym (eq-eqb r.predicate g.predicate x.0)) (inl x.1)
 from_spec k g P (r ∷ rules) (inr s) = spec_if k g P r rules (r.predicate == g.predicate) (from_spec k g P rules s)
-
--- ---- a proof ends with a rule whose premises have proofs
-module _ (Fact : Type 0) (FollowsBy : Fact → List Fact → Type 0) (coinductive : Fact → Bool) where
-  abbrev Concludes : List Fact → Fact → Type 0
-  Concludes all f = (premises : List Fact) × FollowsBy f premises × Every (λ p. IsAmong p all) premises
-
-  premises_among : (all earlier : List Fact) (kind : Bool) (ps : List Fact) → ((p : Fact) → IsAmong p earlier → IsAmong p all)
-      → Every (λ p. IsAmong p (if kind then all else earlier)) ps → Every (λ p. IsAmong p all) ps
-  premises_among all earlier true ps sub e = e
-  premises_among all earlier false ps sub e = Every-mono (λ p. IsAmong p earlier) (λ p. IsAmong p all) sub ps e
-
-  concludes : (all earlier : List Fact) (entries : List (Fact × List Fact)) → Continues Fact FollowsBy coinductive all earlier entries
-      → ((p : Fact) → IsAmong p earlier ⊎ IsAmong p (facts Fact FollowsBy coinductive entries) → IsAmong p all)
-      → (f : Fact) → IsAmong f (facts Fact FollowsBy coinductive entries) → Concludes all f
-  concludes all earlier [] c sub f i = absurd i
-  concludes all earlier (e ∷ entries) c sub f (inl x) =
-      subst (Concludes all) (sym x) (e.1, c.0, premises_among all earlier (coinductive e.0) e.1 (λ p i. sub p (inl i)) c.1)
-  concludes all earlier (e ∷ entries) c sub f (inr i) =
-      concludes all (e.0 ∷ earlier) entries c.2 (λ p j. elim j [ inl k ↦ elim k [ inl x ↦ sub p (inr (inl x)) | inr y ↦ sub p (inl y) ] | inr k ↦ sub p (inr (inr k)) ]) f i
-
-  pub last_rule : (f : Fact) → HasProof Fact FollowsBy coinductive f → (premises : List Fact) × FollowsBy f premises × Every (HasProof Fact FollowsBy coinductive) premises
-  last_rule f h =
-      let all = facts Fact FollowsBy coinductive h.0 in
-      let x = concludes all [] h.0 h.1 (λ p i. elim i [ inl a ↦ absurd a | inr b ↦ b ]) f h.2 in
-      (x.0, x.1, Every-mono (λ p. IsAmong p all) (HasProof Fact FollowsBy coinductive) (λ p i. (h.0, h.1, i)) x.0 x.2)
 
 -- ---- equality of responses
 same_value_is : (a b : Option ℕ) → same_value a b ≡ true → a ≡ b

@@ -1,5 +1,5 @@
 use Rattle.std.proofs.Common.{refl, inl, inr, ◌∙◌}
-use Rattle.evaluation.proofs.toy.rule_books_are_systems.Goals as goal
+use Rattle.term_tests.proofs.toy.rule_books_are_systems.Goals as goal
 
 pub returns : goal.returns
 returns c = λ book. record {

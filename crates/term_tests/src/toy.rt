@@ -6,12 +6,12 @@ ghost use Rattle.evaluation.specs.Handler.{IsHandler};
 ghost use Rattle.evaluation.specs.System.{IsSystem, GraphsProve};
 ghost use Rattle.evaluation.specs.Promises.{DefiniteYesFollows, AnswerCoversGoal};
 ghost use Rattle.evaluation.specs.History.{evaluate, enter_candidate, finish_candidate, returns, begin, entered, evaluated, finished, ignored, ignore_candidate};
-ghost use Rattle.evaluation.specs.Atoms.{Goal, Response, RuleBook, atoms, atom, unknown, handled_by, system_of, HasProofByBook};
+ghost use Rattle.term_tests.specs.Atoms.{Goal, Response, RuleBook, atoms, atom, unknown, handled_by, system_of, HasProofByBook};
 ghost use Rattle.evaluation.specs.Correspondences.{RoundsCorrespond, CandidatesCorrespond, FramesCorrespond};
-ghost use Rattle.evaluation.specs.Counted.{counting, but_for_tables, but_for_counts};
-ghost use Rattle.evaluation.specs.Toys.{no_rule, one_rule, two_rules, three_premises, premise_binds, coinductive_rule, u8, bool, show, clone, copy, sized, send, yes, yes_with, maybe, overflow, rounds_with_values, Asks};
+ghost use Rattle.term_tests.specs.Counted.{counting, but_for_tables, but_for_counts};
+ghost use Rattle.term_tests.specs.Toys.{no_rule, one_rule, two_rules, three_premises, premise_binds, coinductive_rule, u8, bool, show, clone, copy, sized, send, yes, yes_with, maybe, overflow, rounds_with_values, Asks};
 
-use crate::promises::{
+use evaluation::promises::{
     CorrespondingOperations, CorrespondingWorkings, Evaluation, GoalSystem, answer_covers_goal,
     candidates_correspond, definite_yes_follows, frames_correspond, graph_has_proof,
     rounds_correspond,

@@ -1,0 +1,3 @@
+pub mod Toys
+pub mod Counted
+pub mod Atoms
